@@ -1,0 +1,9 @@
+pub mod ByteLaws
+pub mod Bytes
+pub mod Lending
+pub mod Listed
+pub mod Memory
+pub mod SignedBits
+pub mod SpaceLaws
+pub mod Spaces
+pub mod formers

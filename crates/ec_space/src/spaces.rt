@@ -1,0 +1,302 @@
+//! The bytes of pointers in each named address space.
+ghost use Rattle.std.specs.Prelude.{◌≡◌, ℕ, ◌+◌, ◌-◌, ◌*◌, ◌↔◌, List, length, drop, replicate, refl, Some, MatchOption};
+ghost use Rattle.ec_space.specs.Bytes.{AreBytes};
+ghost use Rattle.ec_space.specs.Spaces.{Encloses, IsPointerOf, Denotes, width, encoded, pointer_in, pointer_of, denoted, converted, embedded};
+ghost use Rattle.ec_space.specs.SpaceLaws.{denoted-encoded, converted-embedded};
+ghost use Rattle.ec_space.specs.declared.space.Pointer.{Pointer};
+ghost use Rattle.ec_space.specs.declared.space.SpaceId.{SpaceId};
+
+use crate::space::{Bank, Place, Pointer, SpaceId};
+
+/// Bytes that denote nothing in any space.
+const NOTHING: [u8; 3] = [0, 0, 0xFF];
+
+/// A named address space, with the bytes of its pointers.
+///
+/// Three bytes denote null, a place, or nothing. All zero bytes denote null. In `__flash` and `__data` the first two
+/// bytes are the offset, the lowest first. A generic pointer has a third byte, 0x00 for flash and 0x80 for data.
+pub trait Space {
+    /// How many of the three bytes a pointer takes. Those past it are 0.
+    const WIDTH: u8;
+
+    ghost WIDTH: { ℕ };
+
+    ghost space: { SpaceId };
+
+    /// The space's name.
+    fn id() -> SpaceId
+        ensures { result ≡ space };
+
+    /// The bytes that denote null or a place of the space, at an offset from 1 to 65,535. `Pointer::is_in` is the test.
+    fn encode(p: Pointer) -> [u8; 3]
+        requires { IsPointerOf space p }
+        ensures value { result ≡ encoded space p }
+        ensures denotes { Denotes space result p }
+        ensures past_width { drop WIDTH result ≡ replicate (3 - WIDTH) 0 };
+
+    /// The pointer that the bytes denote, or None where they denote nothing.
+    fn denote(b: [u8; 3]) -> Option<Pointer>
+        ensures value { result ≡ denoted space b }
+        ensures exact { MatchOption result ((p : Pointer) → ¬ Denotes space b p) (Denotes space b) };
+
+    ghost width_of_space: { WIDTH ≡ width space };
+
+    // What `denote` makes of what `encode` gives.
+    ghost reads_back: { (p : Pointer) → IsPointerOf space p → denoted space (encoded space p) ≡ Some p };
+}
+
+/// A space that an outer one encloses: its pointers have bytes in both.
+pub trait Within<Outer: Space>: Space {
+    /// The bytes in the outer space of what the bytes denote in this one, null included. They denote nothing there
+    /// where the bytes denote nothing here.
+    fn embed(b: [u8; 3]) -> [u8; 3]
+        ensures value { result ≡ embedded Self.space Outer.space b }
+        ensures keeps { (p : Pointer) → (Denotes Self.space b p) ↔ (Denotes Outer.space result p) }
+    {
+        match Self::denote(b) {
+            Some(p) => Outer::encode(p),
+            None => NOTHING,
+        }
+    }
+
+    /// The bytes in this space of what the bytes denote in the outer one. None where they denote nothing there, or a
+    /// place that is not in this space.
+    fn project(b: [u8; 3]) -> Option<[u8; 3]>
+        ensures value { result ≡ converted Outer.space Self.space b }
+        ensures exact { MatchOption result
+            ((p : Pointer) → Denotes Outer.space b p → ¬ IsPointerOf Self.space p)
+            (λ new. (p : Pointer) × Denotes Outer.space b p × Denotes Self.space new p) }
+    {
+        let p = Outer::denote(b)?;
+        if p.is_in(Self::id()) {
+            Some(Self::encode(p))
+        } else {
+            None
+        }
+    }
+
+    ghost enclosed: { Encloses Outer.space Self.space };
+
+    // What `project` makes of what `embed` gives.
+    ghost projects_back: { (b : List ℕ) (p : Pointer) → length b ≡ 3 → AreBytes b → Denotes Self.space b p
+        → converted Outer.space Self.space (embedded Self.space Outer.space b) ≡ Some b };
+}
+
+/// The space `__flash`.
+pub struct Flash;
+
+/// The space `__data`.
+pub struct Data;
+
+/// The unnamed space.
+pub struct Generic;
+
+/// The bytes of a pointer's offset, all zero for null.
+fn offset_bytes(p: Pointer) -> [u8; 3]
+    requires { IsPointerOf SpaceId.Generic p }
+    ensures { result ≡ encoded SpaceId.Flash p }
+{
+    match p {
+        Pointer::Null => [0; 3],
+        Pointer::At(place) => {
+            let [low, high] = (place.offset as u16).to_le_bytes();
+            [low, high, 0]
+        }
+    }
+}
+
+/// The pointer into a bank at an offset of two bytes, null at 0.
+fn pointer_in(bank: Bank, low: u8, high: u8) -> Pointer
+    ensures { Some result ≡ pointer_in bank (low + 256 * high) }
+{
+    match u16::from_le_bytes([low, high]) {
+        0 => Pointer::Null,
+        offset => Pointer::At(Place {
+            bank,
+            offset: u32::from(offset),
+        }),
+    }
+}
+
+impl Space for Flash {
+    const WIDTH: u8 = 2;
+
+    ghost WIDTH = { 2 };
+
+    ghost space = { SpaceId.Flash };
+
+    ghost width_of_space = { refl };
+
+    ghost reads_back = { denoted-encoded SpaceId.Flash };
+
+    fn id() -> SpaceId {
+        SpaceId::Flash
+    }
+
+    fn encode(p: Pointer) -> [u8; 3] {
+        offset_bytes(p)
+    }
+
+    fn denote(b: [u8; 3]) -> Option<Pointer> {
+        match b {
+            [low, high, 0] => Some(pointer_in(Bank::Flash, low, high)),
+            _ => None,
+        }
+    }
+}
+
+impl Space for Data {
+    const WIDTH: u8 = 2;
+
+    ghost WIDTH = { 2 };
+
+    ghost space = { SpaceId.Data };
+
+    ghost width_of_space = { refl };
+
+    ghost reads_back = { denoted-encoded SpaceId.Data };
+
+    fn id() -> SpaceId {
+        SpaceId::Data
+    }
+
+    fn encode(p: Pointer) -> [u8; 3] {
+        offset_bytes(p)
+    }
+
+    fn denote(b: [u8; 3]) -> Option<Pointer> {
+        match b {
+            [low, high, 0] => Some(pointer_in(Bank::Data, low, high)),
+            _ => None,
+        }
+    }
+}
+
+impl Space for Generic {
+    const WIDTH: u8 = 3;
+
+    ghost WIDTH = { 3 };
+
+    ghost space = { SpaceId.Generic };
+
+    ghost width_of_space = { refl };
+
+    ghost reads_back = { denoted-encoded SpaceId.Generic };
+
+    fn id() -> SpaceId {
+        SpaceId::Generic
+    }
+
+    fn encode(p: Pointer) -> [u8; 3] {
+        let [low, high, _] = offset_bytes(p);
+        match p {
+            Pointer::At(place) if place.bank == Bank::Data => [low, high, 0x80],
+            _ => [low, high, 0x00],
+        }
+    }
+
+    fn denote(b: [u8; 3]) -> Option<Pointer> {
+        match b {
+            [0, 0, 0x80] => None,
+            [low, high, 0x00] => Some(pointer_in(Bank::Flash, low, high)),
+            [low, high, 0x80] => Some(pointer_in(Bank::Data, low, high)),
+            _ => None,
+        }
+    }
+}
+
+impl Within<Generic> for Flash {
+    ghost enclosed = { λ bank h. refl };
+
+    ghost projects_back = { converted-embedded SpaceId.Flash SpaceId.Generic (λ bank h. refl) };
+}
+
+impl Within<Generic> for Data {
+    ghost enclosed = { λ bank h. refl };
+
+    ghost projects_back = { converted-embedded SpaceId.Data SpaceId.Generic (λ bank h. refl) };
+}
+
+impl<S: Space> Within<S> for S {
+    ghost enclosed = { λ bank h. h };
+
+    ghost projects_back = { converted-embedded S.space S.space (λ bank h. h) };
+}
+
+#[cfg(test)]
+mod tests {
+    use super::*;
+    use std::test::Fail;
+
+    const IN_FLASH: Pointer = Pointer::At(Place {
+        bank: Bank::Flash,
+        offset: 0x1234,
+    });
+
+    const IN_DATA: Pointer = Pointer::At(Place {
+        bank: Bank::Data,
+        offset: 0x08FF,
+    });
+
+    fn are_pointers<S: Space>(table: &[([u8; 3], Pointer)]) -> bool {
+        table.iter().all(|&(b, p)| {
+            S::denote(b) == Some(p) && p.is_in(S::id()) && S::encode(p) == b
+        })
+    }
+
+    fn are_nothing<S: Space>(table: &[[u8; 3]]) -> bool {
+        table.iter().all(|b| S::denote(*b).is_none())
+    }
+
+    fn are_converted<I: Within<O>, O: Space>(table: &[([u8; 3], [u8; 3])]) -> bool {
+        table.iter().all(|&(inner, outer)| I::embed(inner) == outer
+            && I::project(outer) == Some(inner))
+    }
+
+    fn are_outside<I: Within<O>, O: Space>(table: &[[u8; 3]]) -> bool {
+        table.iter().all(|b| I::project(*b).is_none())
+    }
+
+    #[test]
+    fn keeps_pointers_as_bytes(rt: HostRuntime) -> Result<(), Fail> {
+        assert!(rt;
+            are_pointers::<Flash>(&[([0; 3], Pointer::Null), ([0x34, 0x12, 0x00], IN_FLASH)])
+        );
+        assert!(rt;
+            are_pointers::<Data>(&[([0; 3], Pointer::Null), ([0xFF, 0x08, 0x00], IN_DATA)])
+        );
+        assert!(rt;
+            are_pointers::<Generic>(&[
+                ([0; 3], Pointer::Null),
+                ([0x34, 0x12, 0x00], IN_FLASH),
+                ([0xFF, 0x08, 0x80], IN_DATA),
+            ])
+        );
+        assert!(rt; are_nothing::<Flash>(&[[0x34, 0x12, 0x80]]));
+        assert!(rt; are_nothing::<Data>(&[[0xFF, 0x08, 0x80], [0x00, 0x00, 0x01]]));
+        assert!(rt;
+            are_nothing::<Generic>(&[[0x00, 0x00, 0x80], [0x34, 0x12, 0x01], [0x34, 0x12, 0xFF]])
+        );
+        Ok(())
+    }
+
+    #[test]
+    fn converts_between_spaces(rt: HostRuntime) -> Result<(), Fail> {
+        assert!(rt;
+            are_converted::<Data, Generic>(&[
+                ([0; 3], [0; 3]),
+                ([0xFF, 0x08, 0x00], [0xFF, 0x08, 0x80])
+            ])
+        );
+        assert!(rt;
+            are_converted::<Flash, Generic>(&[
+                ([0; 3], [0; 3]),
+                ([0x34, 0x12, 0x00], [0x34, 0x12, 0x00])
+            ])
+        );
+        assert!(rt; are_converted::<Data, Data>(&[([0xFF, 0x08, 0x00], [0xFF, 0x08, 0x00])]));
+        assert!(rt; are_outside::<Data, Generic>(&[[0x34, 0x12, 0x00], [0x00, 0x00, 0x80]]));
+        assert!(rt; are_outside::<Flash, Generic>(&[[0xFF, 0x08, 0x80]]));
+        Ok(())
+    }
+}
