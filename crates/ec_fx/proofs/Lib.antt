@@ -1,0 +1,5 @@
+pub mod Accuracy
+pub mod Bounds
+pub mod FormatLemmas
+pub mod Powers
+pub mod Scaling
