@@ -1,0 +1,10 @@
+pub mod Causes
+pub mod Disk
+pub mod Calls
+pub mod Rest
+pub mod Written
+pub mod Read
+pub mod Untold
+pub mod Memory
+pub mod MemFiles
+pub mod InMemory

@@ -1,0 +1,241 @@
+//! A store in memory.
+ghost use Rattle.std.specs.Prelude.{◌≡◌, ◌<◌, ◌≤◌, ◌-◌, ◌==◌, ◌&&◌, ◌||◌, ℕ, List, Some, None, IfOk, IfSome, OnOk, is_err, is_none, is_some, not, true, min, length, nat_lt, bytes_eq, option_map, Contains, MatchResult};
+ghost use Rattle.std.specs.Io.{ReadsAtMost};
+ghost use Rattle.std.specs.FinMap.{get};
+ghost use Rattle.ec_io.specs.Causes.{HasCause, Went};
+ghost use Rattle.ec_io.specs.Disk.{content};
+ghost use Rattle.ec_io.specs.Calls.{Opens, Creates, Reads, Writes, Counts, IsTaken};
+ghost use Rattle.ec_io.specs.Memory.{IsCalmStore, IsCounted, fresh_store, is_due};
+ghost use Rattle.ec_io.specs.MemFiles.{files_of};
+
+use crate::mem_file::{MemFile, Source, copied, is_given, put_next, source_bytes, source_of};
+use crate::schedule::Schedule;
+use crate::{Failed, Store};
+use ec_space::{Name, NoMemory, Seq};
+use std::alloc::Global;
+use std::marker::Model;
+
+/// Where the next read begins.
+#[derive(Clone, Copy)]
+pub struct Place {
+    pub source: Source,
+    pub at: usize,
+}
+
+/// Files in memory. It creates one name alone, takes so many written bytes in all, and fails at the calls of a list.
+#[derive(Drop)]
+pub struct MemStore {
+    files: Seq<MemFile>,
+    made: MemFile,
+    stands: bool,
+    writing: bool,
+    input: Option<Place>,
+    room: u32,
+    received: u64,
+    schedule: Schedule,
+}
+
+impl Model for MemStore {
+    ghost use Rattle.ec_io.specs.Memory.{Stored, stored_code};
+
+    ghost Value = { Stored };
+
+    ghost coded = { stored_code };
+
+    ghost use Rattle.ec_io.specs.InMemory.{stored_of, IsKept};
+
+    ghost view = { stored_of };
+
+    ghost invariant = { IsKept };
+}
+
+impl MemStore {
+    /// A store with these files, of which the first counts where two have one name. `made` is the one name that
+    /// `create` accepts, and `room` the number of bytes that all writes take together, over every `create`. Calls are
+    /// numbered from 1, and those of the list `fail` fail. It takes all its memory here.
+    pub fn new(
+        alloc: Global,
+        files: Seq<MemFile>,
+        made: Name,
+        room: u32,
+        fail: Seq<u64>,
+    ) -> Result<MemStore, NoMemory>
+        ensures { IfOk result (λ s. s ≡ fresh_store (files_of files.items) made.items room fail.items) }
+    {
+        let stands = is_given(files.as_slice(), made.as_slice());
+        let bytes = copied(alloc, files.as_slice(), made.as_slice(), room as usize)?;
+        Ok(MemStore {
+            files,
+            made: MemFile { name: made, bytes },
+            stands,
+            writing: false,
+            input: None,
+            room,
+            received: 0,
+            schedule: Schedule::new(fail),
+        })
+    }
+
+    /// The bytes of a file, or None where there is no such file.
+    pub fn file(&self, name: &str) -> Option<&Seq<u8>>
+        ensures { option_map (λ s. s.now.items) result ≡ get self.now.disk.files name.now }
+    {
+        match source_of(
+            self.files.as_slice(),
+            &self.made,
+            self.stands,
+            name.as_bytes(),
+        ) {
+            Some(source) => source_bytes(self.files.as_slice(), &self.made, source),
+            None => None,
+        }
+    }
+}
+
+impl Store for MemStore {
+    ghost disk = { λ s. Some s.disk };
+
+    ghost reading = { λ s. is_some s.disk.input };
+
+    ghost writing = { λ s. is_some s.disk.output };
+
+    ghost faults = { λ s. s.faults };
+
+    ghost received = { λ s. s.received };
+
+    ghost calm = { IsCalmStore };
+
+    ghost below = { λ s names made room calm. calm.count };
+
+    ghost use Rattle.ec_io.specs.Untold.{flags_told};
+
+    ghost flagged = { λ s told h. flags_told h };
+
+    /// Fails exactly where its number stands in the list or the file is absent.
+    fn open_file(&mut self, name: &str) -> Result<(), Failed>
+        ensures fails { is_err result ≡ (is_due self.old.fail self.old.calls || is_none (get self.old.disk.files name.now)) }
+        ensures counted { IsCounted self.old self.new }
+        ensures room { self.new.room ≡ self.old.room }
+        ensures disk { Opens name.now (Some self.old.disk) (Some self.new.disk) result }
+        ensures reading { MatchResult result (λ _. is_some self.new.disk.input ≡ true) (λ _. is_some self.new.disk.input ≡ is_some self.old.disk.input) }
+        ensures writing { is_some self.new.disk.output ≡ is_some self.old.disk.output }
+        ensures cause { HasCause self.old.faults self.new.faults result }
+        ensures received { self.new.received ≡ self.old.received }
+        ensures calm { (names : List (List ℕ)) (made : List ℕ) (room : ℕ) → IsCalmStore self.old names made room → Contains names name.now
+            → Went self.old.faults self.new.faults result × IsCalmStore self.new names made room }
+    {
+        if self.schedule.next() {
+            return Err(self.schedule.fault());
+        }
+        match source_of(
+            self.files.as_slice(),
+            &self.made,
+            self.stands,
+            name.as_bytes(),
+        ) {
+            Some(source) => {
+                self.input = Some(Place { source, at: 0 });
+                Ok(())
+            }
+            None => Err(self.schedule.fault()),
+        }
+    }
+
+    /// Fails exactly where its number stands in the list or no file is opened for reading. Else it gives as many of the
+    /// next bytes as fit the buffer.
+    fn read(&mut self, buf: &mut [u8]) -> Result<usize, Failed>
+        ensures fails { is_err result ≡ (is_due self.old.fail self.old.calls || is_none self.old.disk.input) }
+        ensures most { IfOk result (λ n. IfSome self.old.disk.input (λ place. n ≡ min (length buf.new) (length (content self.old.disk.files place.0) - place.1))) }
+        ensures counted { IsCounted self.old self.new }
+        ensures room { self.new.room ≡ self.old.room }
+        ensures bound { ReadsAtMost result buf.new }
+        ensures disk { Reads (Some self.old.disk) (Some self.new.disk) result buf.new }
+        ensures opened { OnOk result (is_some self.old.disk.input ≡ true) }
+        ensures reading { is_some self.new.disk.input ≡ is_some self.old.disk.input }
+        ensures writing { is_some self.new.disk.output ≡ is_some self.old.disk.output }
+        ensures cause { HasCause self.old.faults self.new.faults result }
+        ensures received { Counts self.old.received self.new.received result }
+        ensures calm { (names : List (List ℕ)) (made : List ℕ) (room : ℕ) → IsCalmStore self.old names made room → is_some self.old.disk.input ≡ true
+            → Went self.old.faults self.new.faults result × IsCalmStore self.new names made room }
+    {
+        if self.schedule.next() {
+            return Err(self.schedule.fault());
+        }
+        let Some(place) = self.input else {
+            return Err(self.schedule.fault());
+        };
+        let n = match source_bytes(self.files.as_slice(), &self.made, place.source) {
+            Some(bytes) => put_next(buf, bytes.as_slice(), place.at),
+            None => unreachable!(),
+        };
+        self.input = Some(Place {
+            source: place.source,
+            at: place.at + n,
+        });
+        self.received = self.received.saturating_add(n as u64);
+        Ok(n)
+    }
+
+    /// Fails exactly where its number stands in the list or the name is another than the one that the store creates.
+    fn create(&mut self, name: &str) -> Result<(), Failed>
+        ensures fails { is_err result ≡ (is_due self.old.fail self.old.calls || not (bytes_eq name.now self.old.made)) }
+        ensures counted { IsCounted self.old self.new }
+        ensures room { self.new.room ≡ self.old.room }
+        ensures disk { Creates name.now (Some self.old.disk) (Some self.new.disk) result }
+        ensures writing { MatchResult result (λ _. is_some self.new.disk.output ≡ true) (λ _. is_some self.new.disk.output ≡ is_some self.old.disk.output) }
+        ensures reading { is_some self.new.disk.input ≡ is_some self.old.disk.input }
+        ensures cause { HasCause self.old.faults self.new.faults result }
+        ensures received { self.new.received ≡ self.old.received }
+        ensures calm { (names : List (List ℕ)) (room : ℕ) → IsCalmStore self.old names name.now room
+            → Went self.old.faults self.new.faults result × IsCalmStore self.new names name.now room }
+    {
+        if self.schedule.next() {
+            return Err(self.schedule.fault());
+        }
+        if name.as_bytes() != self.made.name.as_slice() {
+            return Err(self.schedule.fault());
+        }
+        self.made.bytes.clear();
+        self.stands = true;
+        self.writing = true;
+        Ok(())
+    }
+
+    /// Fails exactly where its number stands in the list, no file is created, or the bytes are some and no room is left.
+    /// Else it takes as many of the bytes as there is room for.
+    fn write(&mut self, bytes: &[u8]) -> Result<usize, Failed>
+        ensures fails { is_err result ≡ (is_due self.old.fail self.old.calls || (is_none self.old.disk.output || (self.old.room == 0 && nat_lt 0 (length bytes.now)))) }
+        ensures most { IfOk result (λ n. n ≡ min (length bytes.now) self.old.room) }
+        ensures counted { IsCounted self.old self.new }
+        ensures room { MatchResult result (λ n. self.new.room ≡ self.old.room - n) (λ _. self.new.room ≡ self.old.room) }
+        ensures taken { IfOk result (λ n. IsTaken n bytes.now) }
+        ensures disk { Writes (Some self.old.disk) (Some self.new.disk) result bytes.now }
+        ensures opened { OnOk result (is_some self.old.disk.output ≡ true) }
+        ensures reading { is_some self.new.disk.input ≡ is_some self.old.disk.input }
+        ensures writing { is_some self.new.disk.output ≡ is_some self.old.disk.output }
+        ensures cause { HasCause self.old.faults self.new.faults result }
+        ensures received { self.new.received ≡ self.old.received }
+        ensures calm { (names : List (List ℕ)) (made : List ℕ) (room : ℕ) → IsCalmStore self.old names made room → is_some self.old.disk.output ≡ true
+            → length bytes.now ≤ room
+            → Went self.old.faults self.new.faults result
+            × IfOk result (λ n. IsCalmStore self.new names made (room - n)) }
+    {
+        if self.schedule.next() {
+            return Err(self.schedule.fault());
+        }
+        if !self.writing {
+            return Err(self.schedule.fault());
+        }
+        if self.room == 0 && !bytes.is_empty() {
+            return Err(self.schedule.fault());
+        }
+        let n = bytes.len().min(self.room as usize);
+        match self.made.bytes.extend_from_slice(&bytes[..n]) {
+            Ok(()) => {
+                self.room -= n as u32;
+                Ok(n)
+            }
+            Err(NoMemory) => unreachable!(),
+        }
+    }
+}
