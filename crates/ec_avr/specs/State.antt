@@ -1,0 +1,106 @@
+-- The state of the machine and the places in it (Microchip AVR Instruction Set Manual and the data memory map of the
+-- ATmega328P).
+use Rattle.std.specs.Prelude.{◌≡◌, ℕ, ◌+◌, ◌*◌, ◌/◌, ◌%◌, ◌≤◌, ◌==◌, nat_lt, nat_le, Bool, not, ◌&&◌, ◌||◌, IsTrue, length, slice_index, slice_set}
+use Rattle.std.specs.Int.{bit_at}
+use Rattle.ec_space.specs.Memory.{Memory, flash_size, data_size}
+use Rattle.ec_space.specs.declared.Core.{Core}
+
+-- both banks, and the program counter, which counts words. The registers are the first 32 data bytes
+pub record State : Type 0 where
+  pub mem : Memory
+  pub pc : ℕ
+
+-- the banks have the sizes of a core, which has all addresses of registers and ports
+pub record IsSized (core : Core) (m : Memory) : Type 0 where
+  pub flash : length m.flash ≡ flash_size core
+  pub sram : length m.data ≡ data_size core
+  pub ports : 256 ≤ length m.data
+
+-- the word of flash at a word address, and 0 past the flash
+abbrev pub word_at : State → ℕ → ℕ
+word_at s at = slice_index s.mem.flash (2 * at) + 256 * slice_index s.mem.flash (2 * at + 1)
+
+-- both bytes of the word at a word address lie in flash
+abbrev pub is_in_flash : State → ℕ → Bool
+is_in_flash s at = nat_lt (2 * at + 1) (length s.mem.flash)
+
+-- the byte at a data address
+abbrev pub byte_at : State → ℕ → ℕ
+byte_at s at = slice_index s.mem.data at
+
+abbrev pub with_byte : State → ℕ → ℕ → State
+with_byte s at byte = record s { mem = record s.mem { «data» = slice_set s.mem.data at byte } }
+
+-- register Rd
+abbrev pub register : State → ℕ → ℕ
+register s d = byte_at s d
+
+abbrev pub with_register : State → ℕ → ℕ → State
+with_register s d byte = with_byte s d byte
+
+-- the number in two neighbouring bytes, the low one first, as a pair of registers and SP have it
+abbrev pub pair : State → ℕ → ℕ
+pair s at = byte_at s at + 256 * byte_at s (at + 1)
+
+abbrev pub with_pair : State → ℕ → ℕ → State
+with_pair s at n = with_byte (with_byte s at (n % 256)) (at + 1) (n / 256)
+
+-- the pointers X = R27:R26, Y = R29:R28 and Z = R31:R30
+abbrev pub pointer_x : ℕ
+pointer_x = 26
+
+abbrev pub pointer_y : ℕ
+pointer_y = 28
+
+abbrev pub pointer_z : ℕ
+pointer_z = 30
+
+-- the stack pointer, in SPH:SPL
+abbrev pub stack_pointer : State → ℕ
+stack_pointer s = pair s 0x5D
+
+abbrev pub with_stack_pointer : State → ℕ → State
+with_stack_pointer s n = with_pair s 0x5D n
+
+-- the status register
+abbrev pub sreg : State → ℕ
+sreg s = byte_at s 0x5F
+
+abbrev pub with_sreg : State → ℕ → State
+with_sreg s byte = with_byte s 0x5F byte
+
+-- a flag of SREG, by its bit: 0 or 1
+abbrev pub flag : State → ℕ → ℕ
+flag s number = bit_at (sreg s) number
+
+-- R0 to R31, SPL, SPH or SREG: what the core keeps itself
+abbrev pub is_core_register : ℕ → Bool
+is_core_register at = nat_lt at 32 || at == 0x5D || at == 0x5E || at == 0x5F
+
+-- every other address below 0x0100 is a port
+abbrev pub is_port : ℕ → Bool
+is_port at = nat_lt at 256 && not (is_core_register at)
+
+-- the SRAM goes from 0x0100 to the end of the data addresses
+abbrev pub is_sram : State → ℕ → Bool
+is_sram s at = nat_le 256 at && nat_lt at (length s.mem.data)
+
+-- an address, and a pointer, is a number of 16 bits
+abbrev pub raised : ℕ → ℕ
+raised at = (at + 1) % 65536
+
+abbrev pub lowered : ℕ → ℕ
+lowered at = (at + 65535) % 65536
+
+abbrev pub with_pc : State → ℕ → State
+with_pc s to = record s { pc = to % 65536 }
+
+-- the program counter goes on by so many words
+abbrev pub passed : State → ℕ → State
+passed s words = with_pc s (s.pc + words)
+
+-- What no step changes: the flash, the size of the data memory, and the bytes at the addresses of ports
+pub record Keeps (old new : Memory) : Type 0 where
+  pub flash : new.flash ≡ old.flash
+  pub size : length new.data ≡ length old.data
+  pub ports : (at : ℕ) → IsTrue (is_port at) → slice_index new.data at ≡ slice_index old.data at
