@@ -1,0 +1,6 @@
+pub mod Bytes
+pub mod Runs
+pub mod Sending
+pub mod Lines
+pub mod Reading
+mod Rows

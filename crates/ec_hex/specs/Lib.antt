@@ -1,0 +1,5 @@
+pub mod Bytes
+pub mod Record
+pub mod Denotes
+pub mod Text
+pub mod Steps

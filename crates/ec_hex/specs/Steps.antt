@@ -1,0 +1,17 @@
+-- A text that goes out line by line.
+use Rattle.std.specs.Prelude.{ℕ, ◌+◌, ◌<◌, ◌≡◌, List, [], ◌∷◌, Option, Result, MatchResult, length, take}
+use Rattle.std.specs.Io.KnownBytes.{Appends}
+use Rattle.ec_io.specs.declared.write.Written.{Written}
+use Rattle.ec_hex.specs.Text.{record_line}
+use Rattle.ec_hex.specs.declared.line.RecordType.TheVariants.{Data}
+
+-- the line of a run of bytes, if there are any
+abbrev pub run_line : ℕ → List ℕ → List ℕ
+run_line at [] = []
+run_line at (byte ∷ bytes) = record_line Data at (byte ∷ bytes)
+
+-- after so many bytes these went out too, or a front of them, and the result counts all
+abbrev pub WritesOn : ℕ → Option (List ℕ) → Option (List ℕ) → Result ℕ Written → List ℕ → Type 0
+WritesOn done old new r bytes =
+    MatchResult r (λ after. (after ≡ done + length bytes) × Appends old new bytes)
+    (λ e. (n : ℕ) × (e.0 ≡ done + n) × (n < length bytes) × Appends old new (take n bytes))

@@ -1,0 +1,50 @@
+-- The Intel HEX text of an image.
+use Rattle.std.specs.Prelude.{ℕ, zero, suc, ◌+◌, ◌-◌, ◌/◌, ◌%◌, if◌then◌else◌, Bool, Option, Some, None, List, [], ◌∷◌, ◌++◌, length}
+use Rattle.ec_avr.specs.declared.image.Image.{Image}
+use Rattle.ec_hex.specs.Bytes.{digits_of, total}
+use Rattle.ec_hex.specs.declared.line.RecordType.{RecordType}
+use Rattle.ec_hex.specs.declared.line.RecordType.TheVariants.{Data, EndOfFile}
+
+abbrev pub code_of : RecordType → ℕ
+code_of Data = 0
+code_of EndOfFile = 1
+
+-- a record's bytes but the checksum: the number of data bytes, the offset, the type and the data
+abbrev pub fields : RecordType → ℕ → List ℕ → List ℕ
+fields kind offset bytes = length bytes ∷ offset / 256 ∷ offset % 256 ∷ code_of kind ∷ bytes
+
+-- the byte that makes a sum 0 modulo 256
+abbrev pub checksum : List ℕ → ℕ
+checksum bytes = (256 - total bytes % 256) % 256
+
+-- a record's line with its LF
+abbrev pub record_line : RecordType → ℕ → List ℕ → List ℕ
+record_line kind offset bytes =
+    58 ∷ digits_of (fields kind offset bytes ++ checksum (fields kind offset bytes) ∷ []) ++ 10 ∷ []
+
+-- each byte of a flash where it is written
+abbrev pub contents : List ℕ → List Bool → List (Option ℕ)
+contents [] written = []
+contents (byte ∷ bytes) [] = []
+contents (byte ∷ bytes) (flag ∷ written) = (if flag then Some byte else None) ∷ contents bytes written
+
+-- the written bytes at the front, at most so many
+abbrev pub run : ℕ → List (Option ℕ) → List ℕ
+run most [] = []
+run most (None ∷ cells) = []
+run zero (Some byte ∷ cells) = []
+run (suc most) (Some byte ∷ cells) = byte ∷ run most cells
+
+-- the text of what stands from an address on, where up to so many written bytes at the front are put out already: a
+-- record begins at the lowest written byte that is not, and takes up to 16; the end record comes last
+abbrev pub text_from : ℕ → ℕ → List (Option ℕ) → List ℕ
+text_from at out [] = record_line EndOfFile 0 []
+text_from at out (None ∷ cells) = text_from (at + 1) 0 cells
+text_from at zero (Some byte ∷ cells) = record_line Data at (byte ∷ run 15 cells) ++ text_from (at + 1) 15 cells
+text_from at (suc out) (Some byte ∷ cells) = text_from (at + 1) out cells
+
+abbrev pub hex_text : List ℕ → List Bool → List ℕ
+hex_text bytes written = text_from 0 0 (contents bytes written)
+
+abbrev pub image_text : Image → List ℕ
+image_text image = hex_text image.bytes.items image.written.items

@@ -1,0 +1,11 @@
+//! Intel HEX: the text of a flash image, and what a text denotes.
+//!
+//! The format is that of Intel's Hexadecimal Object File Format Specification, Revision A, 1988. `specs/Record.antt` says
+//! what a line of a text is, `specs/Denotes.antt` which image a text denotes, and `specs/Text.antt` which text is written
+//! for an image.
+#![tactic(auto)]
+
+mod line;
+mod write;
+
+pub use write::write_hex;
