@@ -1,0 +1,9 @@
+mod Cuts
+mod Numbers
+mod Sources
+mod Run
+mod Lines
+mod Outs
+mod Inputs
+mod Built
+mod Complete

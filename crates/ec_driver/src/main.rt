@@ -1,0 +1,46 @@
+//! A compiler, locating linker and emulator for Embedded C on AVR.
+#![tactic(auto)]
+
+mod build;
+mod code;
+mod input;
+mod line;
+mod output;
+mod source;
+mod stop;
+#[cfg(test)]
+mod tests;
+mod top;
+mod words;
+
+use crate::line::tell;
+use crate::stop::{Stop, status};
+use crate::top::tool;
+use ec_io::{RealSink, RealStore};
+use std::process::ExitCode;
+use std::{env, io};
+
+/// The words of the command line, without the program's name.
+fn given_words(rt: &HostRuntime) -> io::Result<Vec<String>> {
+    let mut words = Vec::new(rt.alloc());
+    for word in env::args(rt)?.skip(1) {
+        words.push(word)?;
+    }
+    Ok(words)
+}
+
+fn main(rt: HostRuntime) -> ExitCode {
+    let mut store = RealStore::new(&rt);
+    let mut out = RealSink::new(rt.stdout());
+    let mut err = RealSink::new(rt.stderr());
+    let stop = match given_words(&rt) {
+        Ok(words) => {
+            return ExitCode::from(tool(rt.alloc(), &words, &mut store, &mut out, &mut err));
+        }
+        Err(e) if e.kind() == io::ErrorKind::OutOfMemory => Stop::NoMemory,
+        // A word is not UTF-8, so the words are no command.
+        Err(_) => Stop::Usage,
+    };
+    tell(&mut err, &Vec::new(rt.alloc()), stop);
+    ExitCode::from(status(stop))
+}
