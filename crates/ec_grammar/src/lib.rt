@@ -1,0 +1,6 @@
+//! The tokens of C for embedded systems, and the grammar over them.
+#![tactic(auto)]
+
+mod token;
+
+pub use token::{GroupOp, IoOp, PragmaKind, PragmaState, PunctKind, Token, TokenKind, WordKind};

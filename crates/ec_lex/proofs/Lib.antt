@@ -1,0 +1,9 @@
+pub mod Tables
+pub mod Values
+pub mod Gaps
+pub mod Runs
+pub mod Front
+pub mod LongestLaws
+pub mod ConstantLaws
+pub mod DirectiveLaws
+pub mod TextLaws
