@@ -1,0 +1,36 @@
+//! The typed program, the layout of its types, and what its operators do to values.
+//!
+//! A program is what a compiler's front end leaves of its source: objects, functions, and trees of
+//! statements and expressions in which each node has its type and each conversion is a node of its
+//! own (ISO/IEC 9899:1999, ISO/IEC TR 18037:2008). Contracts see these trees without their pointers,
+//! by the definitions of `specs/Plain.antt`.
+#![tactic(auto)]
+
+mod arithmetic_operations;
+mod arithmetic_types;
+mod expressions;
+mod integers;
+mod layout;
+mod pointers;
+mod programs;
+mod statements;
+mod types;
+mod values;
+
+pub use arithmetic_operations::{
+    arithmetic_conversion, arithmetic_operation, fixed_operation, is_comparison, unary_operation,
+};
+pub use arithmetic_types::{Arithmetic, FixedType, IntegerType, result_type, signed_kind};
+pub use expressions::{BinOp, Expr, Node, PlaceExpr, UnOp};
+pub use integers::integer_operation;
+pub use layout::{Leaf, leaves, size_of};
+pub use pointers::{
+    pointer_comparison, pointer_conversion, pointer_difference, pointer_sum, pointer_truth,
+};
+pub use programs::{Func, LeafInit, Obj, Program, Storage};
+pub use statements::{Stmt, StmtKind};
+pub use types::{CType, Member, StructDef};
+pub use values::{ObjectPointer, Referent, Undefined, Value};
+
+#[cfg(test)]
+mod tests;
