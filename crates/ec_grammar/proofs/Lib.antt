@@ -1,0 +1,2 @@
+pub mod Backwards
+mod Examples

@@ -1,1 +1,6 @@
 pub mod Tokens
+pub mod Trees
+pub mod Spelling
+pub mod Grammar
+pub mod Nesting
+pub mod Views

@@ -1,0 +1,10 @@
+use Rattle.std.proofs.Common.{◌≡◌, List, [], ◌∷◌, ◌++◌, map, length, ℕ, ◌+◌, ◌*◌, ◌≤◌}
+use Rattle.ec_grammar.specs.Spelling.{of_list, of_next_param}
+use Rattle.ec_grammar.specs.Views.{spelled, view_next_param}
+use Rattle.ec_grammar.proofs.spelling.more_params.Given as goal
+
+abbrev pub invariant-loop-last : goal.invariant-loop-last
+invariant-loop-last l = of_list of_next_param (map view_next_param l.left) (spelled l.out.leaves.items) ≡ of_list of_next_param (map view_next_param l.fn.all) (spelled l.fn.out.leaves.items)
+
+abbrev pub decreases-loop-last : goal.decreases-loop-last
+decreases-loop-last l = length l.left

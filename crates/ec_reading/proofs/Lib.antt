@@ -1,0 +1,12 @@
+pub mod Basics
+pub mod Follow
+pub mod Steps
+pub mod Past
+pub mod Lists
+pub mod Expressions
+pub mod Declarations
+pub mod Statements
+pub mod Units
+pub mod Sound
+pub mod SoundUnits
+pub mod Whole
