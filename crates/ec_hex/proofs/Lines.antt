@@ -98,7 +98,7 @@ strip-plain : (c : ℕ) (text : List ℕ) → ArePlain (c ∷ text) → strip_ca
 strip-plain c text plain =
     rw (no_return (slice_index (c ∷ text) (length (c ∷ text) - 1)) (All-get_or (λ d. 32 ≤ d) (c ∷ text) (length (c ∷ text) - 1) 0 (omega arith) (All-from_recursion _ (c ∷ text) plain))) refl
 
-parts-more : (text : List ℕ) (parts : List (List ℕ)) → 0 < length parts → lines_of_parts (text ∷ parts) ≡ strip_carriage_return text ∷ lines_of_parts parts
+pub parts-more : (text : List ℕ) (parts : List (List ℕ)) → 0 < length parts → lines_of_parts (text ∷ parts) ≡ strip_carriage_return text ∷ lines_of_parts parts
 parts-more text [] some = absurd (omega (arith, some))
 parts-more text (part ∷ parts) some = refl
 

@@ -1,8 +1,9 @@
 //! The line of a record.
 ghost use Rattle.std.specs.Prelude.{◌≡◌, ◌<◌, ◌≤◌, ◌+◌, ◌*◌, ◌%◌, ◌++◌, ◌∷◌, [], length};
-ghost use Rattle.ec_hex.specs.Bytes.{digit, digits_of, total};
+ghost use Rattle.ec_hex.specs.Bytes.{digits_of, total};
 ghost use Rattle.ec_hex.specs.Text.{checksum, code_of, record_line};
 
+use crate::text::digit_of;
 use std::marker::Model;
 
 /// The record types that are written, of those of the Intel HEX format.
@@ -32,14 +33,6 @@ impl Model for Line {
     ghost view = { λ s. take s.len s.buf };
 
     ghost invariant = { λ s. s.len ≤ 44 };
-}
-
-// A hexadecimal digit in upper case.
-fn digit_of(n: u8) -> u8
-    requires { n < 16 }
-    ensures { result ≡ digit n }
-{
-    if n < 10 { b'0' + n } else { b'A' + (n - 10) }
 }
 
 impl Line {
@@ -88,8 +81,8 @@ fn code(kind: RecordType) -> u8
     }
 }
 
-// The sum of bytes modulo 256.
-fn sum(bytes: &[u8]) -> u8
+/// The sum of bytes modulo 256.
+pub fn sum(bytes: &[u8]) -> u8
     ensures { result ≡ total bytes.now % 256 }
 {
     let mut sum = 0u8;
