@@ -80,7 +80,7 @@ unfolding void_at leaf_if
 param_no_void (t.param (t.type_name (t.specs (t.word_spec s w) more) stars) n) rest is = word_no_void s w more stars n rest is.1
 param_no_void (t.param (t.type_name (t.specs (t.struct_spec s tag) more) stars) n) rest is = refl
 
-params_read : {P : Type 0} (p : t.Params) (r : Spot) (rest : List Leaf) → Are_params p → Reads P (params_by (of_params p (mark r RightParenthesis ∷ rest))) p (mark r RightParenthesis ∷ rest)
+pub params_read : {P : Type 0} (p : t.Params) (r : Spot) (rest : List Leaf) → Are_params p → Reads P (params_by (of_params p (mark r RightParenthesis ∷ rest))) p (mark r RightParenthesis ∷ rest)
 unfolding params_by void_at leaf_if
 params_read (t.void_params s) r rest is = inl refl
 params_read (t.params p more) r rest is =
@@ -128,7 +128,7 @@ abbrev pub initial_pairs : t.Initialisers → List (Spot × t.Initialiser)
 initial_pairs t.no_initialisers = []
 initial_pairs (t.initialisers s i more) = (s, i) ∷ initial_pairs more
 
-initialisers_pairs : (more : t.Initialisers) → initialisers_of (initial_pairs more) ≡ more
+pub initialisers_pairs : (more : t.Initialisers) → initialisers_of (initial_pairs more) ≡ more
 initialisers_pairs t.no_initialisers = refl
 initialisers_pairs (t.initialisers s i more) = ap (t.initialisers s i) (initialisers_pairs more)
 
@@ -142,20 +142,20 @@ FitInitialisers limit m more = Fit limit m limit (nest.opens_initialisers more) 
 abbrev GoodInitialisers : t.Initialisers → Type 0
 GoodInitialisers more = (limit m : ℕ) (c : Option Spot) (r : Spot) (rest : List Leaf) → Are_initialisers more → ReadsItems (FitInitialisers limit m more) (initialiser_at (inner_at limit m)) of_initial_pair (initial_pairs more) (of_option of_comma c (mark r RightBrace ∷ rest))
 
-initial_long : (x : Spot × t.Initialiser) (rest : List Leaf) → length rest < length (of_initial_pair x rest)
+pub initial_long : (x : Spot × t.Initialiser) (rest : List Leaf) → length rest < length (of_initial_pair x rest)
 initial_long x rest = omega (arith, past_length rest (of_initialiser x.1 rest) (initialiser_past x.1 rest))
 
-no_initialiser : (limit m : ℕ) (c : Option Spot) (r : Spot) (rest : List Leaf) → initialiser_at (inner_at limit m) (of_option of_comma c (mark r RightBrace ∷ rest)) ≡ None
+pub no_initialiser : (limit m : ℕ) (c : Option Spot) (r : Spot) (rest : List Leaf) → initialiser_at (inner_at limit m) (of_option of_comma c (mark r RightBrace ∷ rest)) ≡ None
 unfolding initialiser_at leaf_if
 no_initialiser limit m None r rest = refl
 no_initialiser limit m (Some s) r rest = refl
 
-initialiser_no_close : (i : t.Initialiser) (rest : List Leaf) → Is_initialiser i → taken RightBrace (of_initialiser i rest) ≡ None
+pub initialiser_no_close : (i : t.Initialiser) (rest : List Leaf) → Is_initialiser i → taken RightBrace (of_initialiser i rest) ≡ None
 unfolding leaf_if
 initialiser_no_close (t.initial_value a) rest is = not_taken RightBrace (of_assignment a rest) refl (assignment_starts a rest is)
 initialiser_no_close (t.braces l i more c r) rest is = refl
 
-initialisers_closed : (more : t.Initialisers) (c : Option Spot) (r : Spot) (rest : List Leaf) → Closed 13 (of_initialisers more (of_option of_comma c (mark r RightBrace ∷ rest)))
+pub initialisers_closed : (more : t.Initialisers) (c : Option Spot) (r : Spot) (rest : List Leaf) → Closed 13 (of_initialisers more (of_option of_comma c (mark r RightBrace ∷ rest)))
 initialisers_closed t.no_initialisers None r rest = omega arith
 initialisers_closed t.no_initialisers (Some s) r rest = omega arith
 initialisers_closed (t.initialisers s i more) c r rest = omega arith
@@ -173,7 +173,7 @@ initialisers_more s i more good others limit m c r rest is =
       part_items (FitInitialisers limit m (t.initialisers s i more)) (FitInitialisers limit m more) (initialiser_at (inner_at limit m)) of_initial_pair (initial_pairs more) (of_option of_comma c (mark r RightBrace ∷ rest)) (λ f. (omega (arith, f.0), omega (arith, f.1), f.2)) (others limit m c r rest is.1),
     )
 
-comma_read : (c : Option Spot) (r : Spot) (rest : List Leaf) → comma_at (of_option of_comma c (mark r RightBrace ∷ rest)) ≡ Ok (c, mark r RightBrace ∷ rest)
+pub comma_read : (c : Option Spot) (r : Spot) (rest : List Leaf) → comma_at (of_option of_comma c (mark r RightBrace ∷ rest)) ≡ Ok (c, mark r RightBrace ∷ rest)
 unfolding leaf_if
 comma_read None r rest = refl
 comma_read (Some s) r rest = refl
@@ -222,7 +222,7 @@ unfolding start_by leaf_if
 start_read limit n None rest is c = inl (rw (no_punct 13 Assign rest (omega arith) c) refl)
 start_read limit n (Some (t.start s i)) rest is c = reads_bind _ _ i rest (Some (t.start s i)) rest (part _ _ _ (λ f. (f.0, f.1, omega arith)) (good_initialiser i limit n limit rest is c)) (inl refl)
 
-start_closed : (i : Option t.Start) (rest : List Leaf) → Closed 13 rest → Closed 1 (of_option of_start i rest)
+pub start_closed : (i : Option t.Start) (rest : List Leaf) → Closed 13 rest → Closed 1 (of_option of_start i rest)
 start_closed None rest c = closed_down 1 13 rest (omega arith) c
 start_closed (Some (t.start s i)) rest c = omega arith
 
@@ -232,7 +232,7 @@ init_declarator_read limit n (t.init_declarator d i) rest is c =
     reads_bind _ _ d (of_option of_start i rest) (t.init_declarator d i) rest (part _ _ _ (λ f. (omega (arith, f.0), omega (arith, f.1))) (declarator_read limit n d (of_option of_start i rest) is.0 (start_closed i rest c)))
     (reads_bind _ _ i rest (t.init_declarator d i) rest (part _ _ _ (λ f. (omega (arith, f.0), omega (arith, f.1))) (start_read limit n i rest is.1 c)) (inl refl))
 
-init_closed : (more : List t.NextInitDeclarator) (e : Spot) (rest : List Leaf) → Closed 13 (of_list of_next_init_declarator more (mark e Semicolon ∷ rest))
+pub init_closed : (more : List t.NextInitDeclarator) (e : Spot) (rest : List Leaf) → Closed 13 (of_list of_next_init_declarator more (mark e Semicolon ∷ rest))
 init_closed [] e rest = omega arith
 init_closed (t.next_init_declarator s d ∷ more) e rest = omega arith
 
@@ -243,7 +243,7 @@ init_items limit n (t.next_init_declarator s d ∷ more) e rest is = (
   part_items (FitTop limit n (nest.height_list nest.opens_next_init_declarator (t.next_init_declarator s d ∷ more)) (nest.height_list nest.height_next_init_declarator (t.next_init_declarator s d ∷ more))) (FitTop limit n (nest.height_list nest.opens_next_init_declarator more) (nest.height_list nest.height_next_init_declarator more)) (behind_comma t.next_init_declarator (init_declarator_by (within limit n))) of_next_init_declarator more (mark e Semicolon ∷ rest) (λ f. (omega (arith, f.0), omega (arith, f.1))) (init_items limit n more e rest is.1),
 )
 
-no_init : (limit n : ℕ) (e : Spot) (rest : List Leaf) → behind_comma t.next_init_declarator (init_declarator_by (within limit n)) (mark e Semicolon ∷ rest) ≡ None
+pub no_init : (limit n : ℕ) (e : Spot) (rest : List Leaf) → behind_comma t.next_init_declarator (init_declarator_by (within limit n)) (mark e Semicolon ∷ rest) ≡ None
 unfolding leaf_if
 no_init limit n e rest = refl
 
@@ -268,7 +268,7 @@ declaration_read limit n (t.declaration s (t.init_declarator d i) more e) rest i
 
 -- ---- members
 
-declarators_closed : (more : List t.NextDeclarator) (e : Spot) (rest : List Leaf) → Closed 1 (of_list of_next_declarator more (mark e Semicolon ∷ rest))
+pub declarators_closed : (more : List t.NextDeclarator) (e : Spot) (rest : List Leaf) → Closed 1 (of_list of_next_declarator more (mark e Semicolon ∷ rest))
 declarators_closed [] e rest = omega arith
 declarators_closed (t.next_declarator s d ∷ more) e rest = omega arith
 
@@ -279,7 +279,7 @@ declarator_items limit n (t.next_declarator s d ∷ more) e rest is = (
   part_items (FitTop limit n (nest.height_list nest.opens_next_declarator (t.next_declarator s d ∷ more)) (nest.height_list nest.height_next_declarator (t.next_declarator s d ∷ more))) (FitTop limit n (nest.height_list nest.opens_next_declarator more) (nest.height_list nest.height_next_declarator more)) (behind_comma t.next_declarator (declarator_by (within limit n))) of_next_declarator more (mark e Semicolon ∷ rest) (λ f. (omega (arith, f.0), omega (arith, f.1))) (declarator_items limit n more e rest is.1),
 )
 
-no_declarator : (limit n : ℕ) (e : Spot) (rest : List Leaf) → behind_comma t.next_declarator (declarator_by (within limit n)) (mark e Semicolon ∷ rest) ≡ None
+pub no_declarator : (limit n : ℕ) (e : Spot) (rest : List Leaf) → behind_comma t.next_declarator (declarator_by (within limit n)) (mark e Semicolon ∷ rest) ≡ None
 unfolding leaf_if
 no_declarator limit n e rest = refl
 

@@ -66,7 +66,7 @@ abbrev pub pairs_of : t.Further → List (Spot × t.Assignment)
 pairs_of t.no_further = []
 pairs_of (t.further s a more) = (s, a) ∷ pairs_of more
 
-further_pairs : (more : t.Further) → further_of (pairs_of more) ≡ more
+pub further_pairs : (more : t.Further) → further_of (pairs_of more) ≡ more
 further_pairs t.no_further = refl
 further_pairs (t.further s a more) = ap (t.further s a) (further_pairs more)
 
@@ -82,10 +82,10 @@ GoodPrimary p = (limit n room : ℕ) (rest : List Leaf) → Is_primary p → Rea
 
 -- ---- arguments
 
-pair_long : (x : Spot × t.Assignment) (rest : List Leaf) → length rest < length (of_pair x rest)
+pub pair_long : (x : Spot × t.Assignment) (rest : List Leaf) → length rest < length (of_pair x rest)
 pair_long x rest = omega (arith, past_length rest (of_assignment x.1 rest) (assignment_past x.1 rest))
 
-no_argument : (limit m : ℕ) (r : Spot) (rest : List Leaf) → argument_at (inner_at limit m) (mark r RightParenthesis ∷ rest) ≡ None
+pub no_argument : (limit m : ℕ) (r : Spot) (rest : List Leaf) → argument_at (inner_at limit m) (mark r RightParenthesis ∷ rest) ≡ None
 unfolding leaf_if
 no_argument limit m r rest = refl
 
@@ -97,7 +97,7 @@ further_read more good limit m r rest is =
     let here : Reads (FitFurther limit m more) (many (argument_at (inner_at limit m)) (of_further more after)) (pairs_of more) after = subst (λ ts. Reads (FitFurther limit m more) (many (argument_at (inner_at limit m)) ts) (pairs_of more) after) (of_pairs more after) all in
     reads_bind (many (argument_at (inner_at limit m)) (of_further more after)) (λ x. Ok (further_of x.0, x.1)) (pairs_of more) after more after here (inl (rw (further_pairs more) refl))
 
-further_closed : (more : t.Further) (r : Spot) (rest : List Leaf) → Closed 13 (of_further more (mark r RightParenthesis ∷ rest))
+pub further_closed : (more : t.Further) (r : Spot) (rest : List Leaf) → Closed 13 (of_further more (mark r RightParenthesis ∷ rest))
 further_closed t.no_further r rest = omega arith
 further_closed (t.further s a more) r rest = omega arith
 
@@ -204,7 +204,7 @@ postfix_member p s op x good limit n room rest is = suffixed p (t.member p s op 
 postfix_stepped : (p : t.Postfix) (s : Spot) (op : PunctKind) → GoodPostfix p → GoodPostfix (t.stepped p s op)
 postfix_stepped p s op good limit n room rest is = suffixed p (t.stepped p s op) good limit n room (mark s op ∷ rest) rest is.0 refl (omega arith) (omega arith) (step_at limit n room p s op rest is.1)
 
-no_suffix : (limit n room : ℕ) (p : t.Postfix) (ts : List Leaf) → Closed 1 ts → suffix_by (within limit n) room p ts ≡ None
+pub no_suffix : (limit n room : ℕ) (p : t.Postfix) (ts : List Leaf) → Closed 1 ts → suffix_by (within limit n) room p ts ≡ None
 unfolding suffix_by
 no_suffix limit n room p ts c = rw (no_punct 1 LeftBracket ts (omega arith) c, no_punct 1 LeftParenthesis ts (omega arith) c, no_access ts c, no_step ts c) refl
 
@@ -225,7 +225,7 @@ unary_postfix p good limit n room rest is c =
     rw (postfix_no_operator is_prefix p rest refl, postfix_no_operator is_step p rest refl, postfix_no_size p rest)
     (reads_bind _ _ p rest (t.postfix p) rest (postfix_whole limit n room p rest (good limit n room rest is) c) (inl refl))
 
-not_prefix : (op : PunctKind) (s : Spot) (rest : List Leaf) → is_step op ≡ true → leaf_if (punct_if is_prefix) (mark s op ∷ rest) ≡ None
+pub not_prefix : (op : PunctKind) (s : Spot) (rest : List Leaf) → is_step op ≡ true → leaf_if (punct_if is_prefix) (mark s op ∷ rest) ≡ None
 unfolding leaf_if
 not_prefix Increment s rest e = refl
 not_prefix Decrement s rest e = refl
@@ -252,7 +252,7 @@ cast_unary : (u : t.Unary) → GoodUnary u → GoodCast (t.uncast u)
 unfolding cast_by
 cast_unary u good limit n room rest is c = rw (unary_no_cast u rest is) (reads_bind _ _ u rest (t.uncast u) rest (good limit n room rest is c) (inl refl))
 
-cast_opens : (l : Spot) (ty : t.TypeName) (rest : List Leaf) → Is_type_name ty → cast_at (mark l LeftParenthesis ∷ of_type_name ty rest) ≡ Some (l, LeftParenthesis, of_type_name ty rest)
+pub cast_opens : (l : Spot) (ty : t.TypeName) (rest : List Leaf) → Is_type_name ty → cast_at (mark l LeftParenthesis ∷ of_type_name ty rest) ≡ Some (l, LeftParenthesis, of_type_name ty rest)
 unfolding cast_at
 cast_opens l ty rest is = rw (taken_self LeftParenthesis l (of_type_name ty rest), (type_name_starts ty rest is).1) refl
 
@@ -273,7 +273,7 @@ level_top : (op : PunctKind) → level_of op ≤ 10
 level_top Dot = omega arith
 level_top _ = omega arith
 
-rank_top : (b : t.Binary) → rank b ≤ 10
+pub rank_top : (b : t.Binary) → rank b ≤ 10
 rank_top (t.operand c) = omega arith
 rank_top (t.join a s op b) = level_top op
 

@@ -2,7 +2,7 @@
 use Rattle.std.proofs.Common.{◌≡◌, ℕ, zero, suc, ◌+◌, ◌<◌, ◌≤◌, List, [], ◌∷◌, length, Option, Some, None, refl, arith}
 use Rattle.ec_grammar.specs.declared.tree.Pragma.{Pragma}
 use Rattle.ec_grammar.specs.declared.tree.Qualifier.{Qualifier}
-use Rattle.ec_grammar.specs.declared.token.PunctKind.TheVariants.{LeftBrace, RightBrace, Semicolon, Comma, RightParenthesis}
+use Rattle.ec_grammar.specs.declared.token.PunctKind.TheVariants.{LeftBrace, RightBrace, LeftParenthesis, RightParenthesis, LeftBracket, RightBracket, Semicolon, Comma, Question, Colon}
 use Rattle.ec_grammar.specs.declared.token.WordKind.TheVariants as words
 use Rattle.ec_grammar.specs.Trees as t
 use Rattle.ec_grammar.specs.Trees.{Leaf}
@@ -41,17 +41,17 @@ identifier_past (t.identifier s n) rest = later all
 qualifier_past : (q : Qualifier) (rest : List Leaf) → Past rest (of_qualifier q rest)
 qualifier_past q rest = later all
 
-star_past : (s : t.Star) (rest : List Leaf) → Past rest (of_star s rest)
+pub star_past : (s : t.Star) (rest : List Leaf) → Past rest (of_star s rest)
 star_past (t.star s q) rest = later (list_past of_qualifier qualifier_past q rest)
 
-spec_past : (s : t.Spec) (rest : List Leaf) → Past rest (of_spec s rest)
+pub spec_past : (s : t.Spec) (rest : List Leaf) → Past rest (of_spec s rest)
 spec_past (t.word_spec s w) rest = later all
 spec_past (t.struct_spec s n) rest = later (identifier_past n rest)
 
-specs_past : (s : t.Specs) (rest : List Leaf) → Past rest (of_specs s rest)
+pub specs_past : (s : t.Specs) (rest : List Leaf) → Past rest (of_specs s rest)
 specs_past (t.specs s more) rest = over (list_past of_spec spec_past more rest) (spec_past s _)
 
-type_name_past : (ty : t.TypeName) (rest : List Leaf) → Past rest (of_type_name ty rest)
+pub type_name_past : (ty : t.TypeName) (rest : List Leaf) → Past rest (of_type_name ty rest)
 type_name_past (t.type_name s stars) rest = over (list_past of_star star_past stars rest) (specs_past s _)
 
 mutual
@@ -67,32 +67,32 @@ mutual
   conditional_past (t.plain b) rest = binary_past b rest
   conditional_past (t.choose b q e k c) rest = over (later (over (later (conditional_past c rest)) (expression_past e _))) (binary_past b _)
 
-  binary_past : (b : t.Binary) (rest : List Leaf) → Past rest (of_binary b rest)
+  pub binary_past : (b : t.Binary) (rest : List Leaf) → Past rest (of_binary b rest)
   binary_past (t.operand c) rest = cast_past c rest
   binary_past (t.join a s op b) rest = over (later (binary_past b rest)) (binary_past a _)
 
-  cast_past : (c : t.Cast) (rest : List Leaf) → Past rest (of_cast c rest)
+  pub cast_past : (c : t.Cast) (rest : List Leaf) → Past rest (of_cast c rest)
   cast_past (t.uncast u) rest = unary_past u rest
   cast_past (t.convert l ty r c) rest = later (over (later (cast_past c rest)) (type_name_past ty _))
 
-  unary_past : (u : t.Unary) (rest : List Leaf) → Past rest (of_unary u rest)
+  pub unary_past : (u : t.Unary) (rest : List Leaf) → Past rest (of_unary u rest)
   unary_past (t.postfix p) rest = postfix_past p rest
   unary_past (t.step s op u) rest = later (unary_past u rest)
   unary_past (t.prefix s op c) rest = later (cast_past c rest)
   unary_past (t.size s l ty r) rest = later (later (over (later all) (type_name_past ty _)))
 
-  postfix_past : (p : t.Postfix) (rest : List Leaf) → Past rest (of_postfix p rest)
+  pub postfix_past : (p : t.Postfix) (rest : List Leaf) → Past rest (of_postfix p rest)
   postfix_past (t.primary p) rest = primary_past p rest
   postfix_past (t.index p l e r) rest = over (later (over (later all) (expression_past e _))) (postfix_past p _)
   postfix_past (t.call p l a r) rest = over (later (over (later all) (arguments_past a _))) (postfix_past p _)
   postfix_past (t.member p s op n) rest = over (later (identifier_past n rest)) (postfix_past p _)
   postfix_past (t.stepped p s op) rest = over (later all) (postfix_past p _)
 
-  arguments_past : (a : t.Arguments) (rest : List Leaf) → Past rest (of_arguments a rest)
+  pub arguments_past : (a : t.Arguments) (rest : List Leaf) → Past rest (of_arguments a rest)
   arguments_past t.no_arguments rest = all
   arguments_past (t.arguments a more) rest = over (further_past more rest) (assignment_past a _)
 
-  further_past : (a : t.Further) (rest : List Leaf) → Past rest (of_further a rest)
+  pub further_past : (a : t.Further) (rest : List Leaf) → Past rest (of_further a rest)
   further_past t.no_further rest = all
   further_past (t.further s a more) rest = later (over (further_past more rest) (assignment_past a _))
 
@@ -108,11 +108,11 @@ param_past (t.param ty n) rest = over (option_past of_identifier identifier_past
 next_param_past : (p : t.NextParam) (rest : List Leaf) → Past rest (of_next_param p rest)
 next_param_past (t.next_param s p) rest = later (param_past p rest)
 
-params_past : (p : t.Params) (rest : List Leaf) → Past rest (of_params p rest)
+pub params_past : (p : t.Params) (rest : List Leaf) → Past rest (of_params p rest)
 params_past (t.void_params s) rest = later all
 params_past (t.params p more) rest = over (list_past of_next_param next_param_past more rest) (param_past p _)
 
-shape_past : (s : t.Shape) (rest : List Leaf) → Past rest (of_shape s rest)
+pub shape_past : (s : t.Shape) (rest : List Leaf) → Past rest (of_shape s rest)
 shape_past t.object rest = all
 shape_past (t.array l c r) rest = later (over (later all) (option_past of_conditional conditional_past c _))
 shape_past (t.function_shape l p r) rest = later (over (later all) (params_past p _))
@@ -120,7 +120,7 @@ shape_past (t.function_shape l p r) rest = later (over (later all) (params_past 
 pub declarator_past : (d : t.Declarator) (rest : List Leaf) → Past rest (of_declarator d rest)
 declarator_past (t.declarator stars n s) rest = over (over (shape_past s rest) (identifier_past n _)) (list_past of_star star_past stars _)
 
-comma_past : (s : _) (rest : List Leaf) → Past rest (of_comma s rest)
+pub comma_past : (s : _) (rest : List Leaf) → Past rest (of_comma s rest)
 comma_past s rest = later all
 
 mutual
@@ -128,23 +128,23 @@ mutual
   initialiser_past (t.initial_value a) rest = assignment_past a rest
   initialiser_past (t.braces l i more c r) rest = later (over (over (over (later all) (option_past of_comma comma_past c _)) (initialisers_past more _)) (initialiser_past i _))
 
-  initialisers_past : (i : t.Initialisers) (rest : List Leaf) → Past rest (of_initialisers i rest)
+  pub initialisers_past : (i : t.Initialisers) (rest : List Leaf) → Past rest (of_initialisers i rest)
   initialisers_past t.no_initialisers rest = all
   initialisers_past (t.initialisers s i more) rest = later (over (initialisers_past more rest) (initialiser_past i _))
 
-start_past : (s : t.Start) (rest : List Leaf) → Past rest (of_start s rest)
+pub start_past : (s : t.Start) (rest : List Leaf) → Past rest (of_start s rest)
 start_past (t.start s i) rest = later (initialiser_past i rest)
 
 pub init_declarator_past : (d : t.InitDeclarator) (rest : List Leaf) → Past rest (of_init_declarator d rest)
 init_declarator_past (t.init_declarator d i) rest = over (option_past of_start start_past i rest) (declarator_past d _)
 
-next_init_declarator_past : (d : t.NextInitDeclarator) (rest : List Leaf) → Past rest (of_next_init_declarator d rest)
+pub next_init_declarator_past : (d : t.NextInitDeclarator) (rest : List Leaf) → Past rest (of_next_init_declarator d rest)
 next_init_declarator_past (t.next_init_declarator s d) rest = later (init_declarator_past d rest)
 
-next_declarator_past : (d : t.NextDeclarator) (rest : List Leaf) → Past rest (of_next_declarator d rest)
+pub next_declarator_past : (d : t.NextDeclarator) (rest : List Leaf) → Past rest (of_next_declarator d rest)
 next_declarator_past (t.next_declarator s d) rest = later (declarator_past d rest)
 
-condition_past : (c : t.Condition) (rest : List Leaf) → Past rest (of_condition c rest)
+pub condition_past : (c : t.Condition) (rest : List Leaf) → Past rest (of_condition c rest)
 condition_past (t.condition l e r) rest = later (over (later all) (expression_past e _))
 
 -- ---- each item of a list has a token
@@ -168,6 +168,42 @@ spec_long (t.struct_spec s n) rest = longer rest _ (identifier_past n rest)
 specs_long : (s : t.Specs) (us rest : List Leaf) → Past rest us → length rest < length (of_specs s us)
 specs_long (t.specs s more) us rest p = omega (arith, past_length _ _ (over p (list_past of_spec spec_past more us)), spec_long s (of_list of_spec more us))
 
+mutual
+  pub assignment_long : (a : t.Assignment) (rest : List Leaf) → length rest < length (of_assignment a rest)
+  assignment_long (t.value c) rest = conditional_long c rest
+  assignment_long (t.assign u s op a) rest = omega (arith, past_length _ _ (unary_past u (mark s op ∷ of_assignment a rest)), past_length _ _ (assignment_past a rest))
+
+  conditional_long : (c : t.Conditional) (rest : List Leaf) → length rest < length (of_conditional c rest)
+  conditional_long (t.plain b) rest = binary_long b rest
+  conditional_long (t.choose b q e k c) rest = omega (arith, past_length _ _ (expression_past e (mark k Colon ∷ of_conditional c rest)), past_length _ _ (binary_past b (mark q Question ∷ of_expression e (mark k Colon ∷ of_conditional c rest))), past_length _ _ (conditional_past c rest))
+
+  binary_long : (b : t.Binary) (rest : List Leaf) → length rest < length (of_binary b rest)
+  binary_long (t.operand c) rest = cast_long c rest
+  binary_long (t.join a s op b) rest = omega (arith, past_length _ _ (binary_past a (mark s op ∷ of_binary b rest)), past_length _ _ (binary_past b rest))
+
+  cast_long : (c : t.Cast) (rest : List Leaf) → length rest < length (of_cast c rest)
+  cast_long (t.uncast u) rest = unary_long u rest
+  cast_long (t.convert l ty r c) rest = longer rest _ (over (later {x = mark r RightParenthesis} (cast_past c rest)) (type_name_past ty _))
+
+  unary_long : (u : t.Unary) (rest : List Leaf) → length rest < length (of_unary u rest)
+  unary_long (t.postfix p) rest = postfix_long p rest
+  unary_long (t.step s op u) rest = longer rest _ (unary_past u rest)
+  unary_long (t.prefix s op c) rest = longer rest _ (cast_past c rest)
+  unary_long (t.size s l ty r) rest = longer rest _ (later {x = mark l LeftParenthesis} (over (later {x = mark r RightParenthesis} all) (type_name_past ty _)))
+
+  postfix_long : (p : t.Postfix) (rest : List Leaf) → length rest < length (of_postfix p rest)
+  postfix_long (t.primary p) rest = primary_long p rest
+  postfix_long (t.index p l e r) rest = omega (arith, past_length _ _ (postfix_past p (mark l LeftBracket ∷ of_expression e (mark r RightBracket ∷ rest))), past_length _ _ (expression_past e (mark r RightBracket ∷ rest)))
+  postfix_long (t.call p l a r) rest = omega (arith, past_length _ _ (postfix_past p (mark l LeftParenthesis ∷ of_arguments a (mark r RightParenthesis ∷ rest))), past_length _ _ (arguments_past a (mark r RightParenthesis ∷ rest)))
+  postfix_long (t.member p s op n) rest = omega (arith, past_length _ _ (postfix_past p (mark s op ∷ of_identifier n rest)), past_length _ _ (identifier_past n rest))
+  postfix_long (t.stepped p s op) rest = omega (arith, past_length _ _ (postfix_past p (mark s op ∷ rest)))
+
+  primary_long : (p : t.Primary) (rest : List Leaf) → length rest < length (of_primary p rest)
+  primary_long (t.name (t.identifier s n)) rest = omega arith
+  primary_long (t.constant s k) rest = omega arith
+  primary_long (t.parenthesised l e r) rest = longer rest _ (over (later {x = mark r RightParenthesis} all) (expression_past e _))
+  primary_long (t.operation s op l n more r) rest = longer rest _ (later {x = mark l LeftParenthesis} (over (over (later {x = mark r RightParenthesis} all) (further_past more _)) (identifier_past n _)))
+
 pub next_param_long : (p : t.NextParam) (rest : List Leaf) → length rest < length (of_next_param p rest)
 next_param_long (t.next_param s p) rest = longer rest _ (param_past p rest)
 
@@ -183,30 +219,30 @@ declaration_long (t.declaration s d more e) rest = specs_long s _ rest (over (ov
 pub member_long : (m : t.Member) (rest : List Leaf) → length rest < length (of_member m rest)
 member_long (t.members s d more e) rest = specs_long s _ rest (over (over (later all) (list_past of_next_declarator next_declarator_past more _)) (declarator_past d _))
 
-declaration_past : (d : t.Declaration) (rest : List Leaf) → Past rest (of_declaration d rest)
+pub declaration_past : (d : t.Declaration) (rest : List Leaf) → Past rest (of_declaration d rest)
 declaration_past (t.declaration s d more e) rest = over (over (over (later all) (list_past of_next_init_declarator next_init_declarator_past more _)) (init_declarator_past d _)) (specs_past s _)
 
-member_past : (m : t.Member) (rest : List Leaf) → Past rest (of_member m rest)
+pub member_past : (m : t.Member) (rest : List Leaf) → Past rest (of_member m rest)
 member_past (t.members s d more e) rest = over (over (over (later all) (list_past of_next_declarator next_declarator_past more _)) (declarator_past d _)) (specs_past s _)
 
-first_past : (f : t.First) (rest : List Leaf) → Past rest (of_first f rest)
+pub first_past : (f : t.First) (rest : List Leaf) → Past rest (of_first f rest)
 first_past (t.first_declared d) rest = declaration_past d rest
 first_past (t.first_evaluated e s) rest = over (later all) (option_past of_expression expression_past e _)
 
-heading_past : (h : t.Heading) (rest : List Leaf) → Past rest (of_heading h rest)
+pub heading_past : (h : t.Heading) (rest : List Leaf) → Past rest (of_heading h rest)
 heading_past (t.heading l f c s e r) rest = later (over (over (over (later all) (option_past of_expression expression_past e _)) (over (later all) (option_past of_expression expression_past c _))) (first_past f _))
 
 pub pragma_long : (p : Pragma) (rest : List Leaf) → length rest < length (of_pragma p rest)
 pragma_long p rest = omega arith
 
-pragma_past : (p : Pragma) (rest : List Leaf) → Past rest (of_pragma p rest)
+pub pragma_past : (p : Pragma) (rest : List Leaf) → Past rest (of_pragma p rest)
 pragma_past p rest = later all
 
 mutual
-  compound_past : (c : t.Compound) (rest : List Leaf) → Past rest (of_compound c rest)
+  pub compound_past : (c : t.Compound) (rest : List Leaf) → Past rest (of_compound c rest)
   compound_past (t.compound l pragmas b r) rest = later (over (over (later all) (items_past b _)) (list_past of_pragma pragma_past pragmas _))
 
-  items_past : (b : t.Items) (rest : List Leaf) → Past rest (of_items b rest)
+  pub items_past : (b : t.Items) (rest : List Leaf) → Past rest (of_items b rest)
   items_past t.no_items rest = all
   items_past (t.items i more) rest = over (items_past more rest) (item_past i _)
 
@@ -214,7 +250,7 @@ mutual
   item_past (t.declared d) rest = declaration_past d rest
   item_past (t.stated s) rest = statement_past s rest
 
-  statement_past : (s : t.Statement) (rest : List Leaf) → Past rest (of_statement s rest)
+  pub statement_past : (s : t.Statement) (rest : List Leaf) → Past rest (of_statement s rest)
   statement_past (t.block c) rest = compound_past c rest
   statement_past (t.simple e s) rest = over (later all) (option_past of_expression expression_past e _)
   statement_past (t.if_then s c b) rest = later (over (statement_past b rest) (condition_past c _))
@@ -226,7 +262,7 @@ mutual
   statement_past (t.continue_loop s e) rest = later (later all)
   statement_past (t.return_value s v e) rest = later (over (later all) (option_past of_expression expression_past v _))
 
-statement_long : (s : t.Statement) (rest : List Leaf) → length rest < length (of_statement s rest)
+pub statement_long : (s : t.Statement) (rest : List Leaf) → length rest < length (of_statement s rest)
 statement_long (t.block (t.compound l pragmas b r)) rest = longer rest _ (over (over (later all) (items_past b _)) (list_past of_pragma pragma_past pragmas _))
 statement_long (t.simple e s) rest = shorter rest _ (option_past of_expression expression_past e _)
 statement_long (t.if_then s c b) rest = longer rest _ (over (statement_past b rest) (condition_past c _))

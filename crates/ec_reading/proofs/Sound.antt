@@ -59,7 +59,7 @@ star_is ts r y e ok =
     let made = many_is of_qualifier Is_qualifier qualifier_at qualifier_is s.0.2 q.0 q.1 in
     subst (Spelled of_star Is_star ts) (ok_is _ _ q.2) (taken_is Star ts s.0 s.1 ∙ ap (λ z. mark s.0.0 Star ∷ z) made.0, made.1)
 
-spec_is : SoundAt of_spec Is_spec spec_at
+pub spec_is : SoundAt of_spec Is_spec spec_at
 unfolding spec_at
 spec_is ts r y e ok =
     elim (when_is (leaf_if (word_if is_spec_word) ts) _ _ _ e) [
@@ -94,7 +94,7 @@ type_name_is ts y e =
 
 -- ---- arguments
 
-abbrev Is_pair : Spot × t.Assignment → Type 0
+abbrev pub Is_pair : Spot × t.Assignment → Type 0
 Is_pair x = Is_assignment x.1
 
 of_further_of : (xs : List (Spot × t.Assignment)) (rest : List Leaf) → of_list of_pair xs rest ≡ of_further (further_of xs) rest
@@ -105,14 +105,14 @@ are_further_of : (xs : List (Spot × t.Assignment)) → Every Is_pair xs → Are
 are_further_of [] is = tt
 are_further_of (x ∷ xs) is = (is.0, are_further_of xs is.1)
 
-further_is : (i : Inner) → SoundInner i → Sound of_further Are_further (further_by i)
+pub further_is : (i : Inner) → SoundInner i → Sound of_further Are_further (further_by i)
 unfolding further_by
 further_is i sound ts y e =
     let more = bind_ok (many (argument_at i) ts) _ _ e in
     let all = many_is of_pair Is_pair (argument_at i) (comma_item_is pair (i.assignment i.limit) of_assignment Is_assignment of_pair Is_pair (sound.assignment i.limit) (λ s x rest. refl) (λ s x is. is)) ts more.0 more.1 in
     subst (Spelled of_further Are_further ts) (ok_is _ _ more.2) (all.0 ∙ of_further_of more.0.0 more.0.1, are_further_of more.0.0 all.1)
 
-arguments_are : (i : Inner) → SoundInner i → Sound of_arguments Are_arguments (arguments_by i)
+pub arguments_are : (i : Inner) → SoundInner i → Sound of_arguments Are_arguments (arguments_by i)
 unfolding arguments_by
 arguments_are i sound ts y e =
     elim (when_is (taken RightParenthesis ts) _ _ _ e) [
@@ -142,7 +142,7 @@ operation_reads inner sound room s op ts y e =
       made.1,
     )
 
-primary_is : (inner : Depth) → SoundIn inner → (room : ℕ) → Sound of_primary Is_primary (primary_by inner room)
+pub primary_is : (inner : Depth) → SoundIn inner → (room : ℕ) → Sound of_primary Is_primary (primary_by inner room)
 unfolding primary_by
 primary_is inner sound room ts y e =
     elim (when_is (taken LeftParenthesis ts) _ _ _ e) [
@@ -185,7 +185,7 @@ call_is inner sound room p l ts y is e =
     subst (Spelled of_postfix Is_postfix (of_postfix p (mark l LeftParenthesis ∷ ts))) (ends_ok _ _ _ _ _ r.2) (cc (made.0, expected_is RightParenthesis a.0.1 r.0 r.1), (is, made.1))
 
 -- one suffix that is read
-suffix_is : (inner : Depth) → SoundIn inner → (room : ℕ) (p : t.Postfix) (ts : List Leaf) (r : Read t.Postfix) (y : t.Postfix × List Leaf) → Is_postfix p → suffix_by inner room p ts ≡ Some r → r ≡ Ok y → Spelled of_postfix Is_postfix (of_postfix p ts) y
+pub suffix_is : (inner : Depth) → SoundIn inner → (room : ℕ) (p : t.Postfix) (ts : List Leaf) (r : Read t.Postfix) (y : t.Postfix × List Leaf) → Is_postfix p → suffix_by inner room p ts ≡ Some r → r ≡ Ok y → Spelled of_postfix Is_postfix (of_postfix p ts) y
 unfolding suffix_by member_by
 suffix_is inner sound room p ts r y is e ok =
     elim (when_is (taken LeftBracket ts) _ _ _ e) [
@@ -265,7 +265,7 @@ unary_is inner sound room ts y e =
       ]
     ]
 
-cast_open_is : (ts : List Leaf) (y : Spot × PunctKind × List Leaf) → cast_at ts ≡ Some y → ts ≡ mark y.0 LeftParenthesis ∷ y.2
+pub cast_open_is : (ts : List Leaf) (y : Spot × PunctKind × List Leaf) → cast_at ts ≡ Some y → ts ≡ mark y.0 LeftParenthesis ∷ y.2
 unfolding cast_at
 cast_open_is ts y e =
     let l = when_some (taken LeftParenthesis ts) _ _ e in
@@ -312,7 +312,7 @@ joins_are operand level sound room (suc k) a ts y is le e =
       | inr n ↦ subst (BinaryAt (suc level) (of_binary a ts)) (ok_is _ _ n.1) (refl, is, le)
     ]
 
-binary_is : (inner : Depth) → SoundIn inner → (level room : ℕ) (ts : List Leaf) (y : t.Binary × List Leaf) → binary_by inner level room ts ≡ Ok y → BinaryAt level ts y
+pub binary_is : (inner : Depth) → SoundIn inner → (level room : ℕ) (ts : List Leaf) (y : t.Binary × List Leaf) → binary_by inner level room ts ≡ Ok y → BinaryAt level ts y
 unfolding binary_by
 binary_is inner sound zero room ts y e =
     let c = bind_ok (cast_by inner room ts) _ _ e in
@@ -349,7 +349,7 @@ conditional_is inner sound room ts y e =
       | inr n ↦ subst (Spelled of_conditional Is_conditional ts) (ok_is _ _ n.1) (test.0, test.1)
     ]
 
-unary_of_is : (c : t.Conditional) (u : t.Unary) → unary_of c ≡ Some u → c ≡ t.plain (t.operand (t.uncast u))
+pub unary_of_is : (c : t.Conditional) (u : t.Unary) → unary_of c ≡ Some u → c ≡ t.plain (t.operand (t.uncast u))
 unary_of_is (t.plain (t.operand (t.uncast u))) v e = ap (λ (w : t.Unary). t.plain (t.operand (t.uncast w))) (some_is _ _ e)
 unary_of_is (t.plain (t.operand (t.convert l ty r c))) v e = absurd (no_some _ e)
 unary_of_is (t.plain (t.join a s op b)) v e = absurd (no_some _ e)

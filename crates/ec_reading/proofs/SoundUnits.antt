@@ -26,7 +26,7 @@ name_reads ts y e =
       | inr k ↦ subst (Spelled (of_option of_identifier) (Given (λ (n : t.Identifier). Unit {0})) ts) (ok_is _ _ k.1) (refl, tt)
     ]
 
-param_is : Sound of_param Is_param param_by
+pub param_is : Sound of_param Is_param param_by
 unfolding param_by
 param_is ts y e =
     let ty = bind_ok (type_name_by ts) _ _ e in
@@ -43,7 +43,7 @@ void_is ts y e =
     let r = when_some (taken RightParenthesis v.0.2) _ _ v.2 in
     taken_word_is words.Void ts y (v.1 ∙ r.2)
 
-params_are : Sound of_params Are_params params_by
+pub params_are : Sound of_params Are_params params_by
 unfolding params_by
 params_are ts y e =
     elim (when_is (void_at ts) _ _ _ e) [
@@ -87,7 +87,7 @@ shape_is inner sound ts y e =
       ]
     ]
 
-declarator_is : (inner : Depth) → SoundIn inner → Sound of_declarator Is_declarator (declarator_by inner)
+pub declarator_is : (inner : Depth) → SoundIn inner → Sound of_declarator Is_declarator (declarator_by inner)
 unfolding declarator_by
 declarator_is inner sound ts y e =
     let stars = bind_ok (many star_at ts) _ _ e in
@@ -99,18 +99,18 @@ declarator_is inner sound ts y e =
 
 -- ---- initialisers
 
-abbrev Is_initial_pair : Spot × t.Initialiser → Type 0
+abbrev pub Is_initial_pair : Spot × t.Initialiser → Type 0
 Is_initial_pair x = Is_initialiser x.1
 
-of_initialisers_of : (xs : List (Spot × t.Initialiser)) (rest : List Leaf) → of_list of_initial_pair xs rest ≡ of_initialisers (initialisers_of xs) rest
+pub of_initialisers_of : (xs : List (Spot × t.Initialiser)) (rest : List Leaf) → of_list of_initial_pair xs rest ≡ of_initialisers (initialisers_of xs) rest
 of_initialisers_of [] rest = refl
 of_initialisers_of (x ∷ xs) rest = ap (λ z. mark x.0 Comma ∷ of_initialiser x.1 z) (of_initialisers_of xs rest)
 
-are_initialisers_of : (xs : List (Spot × t.Initialiser)) → Every Is_initial_pair xs → Are_initialisers (initialisers_of xs)
+pub are_initialisers_of : (xs : List (Spot × t.Initialiser)) → Every Is_initial_pair xs → Are_initialisers (initialisers_of xs)
 are_initialisers_of [] is = tt
 are_initialisers_of (x ∷ xs) is = (is.0, are_initialisers_of xs is.1)
 
-initialiser_item_is : (i : Inner) → SoundInner i → SoundAt of_initial_pair Is_initial_pair (initialiser_at i)
+pub initialiser_item_is : (i : Inner) → SoundInner i → SoundAt of_initial_pair Is_initial_pair (initialiser_at i)
 unfolding initialiser_at
 initialiser_item_is i sound ts r y e ok =
     let c = when_some (taken Comma ts) _ _ e in
@@ -122,7 +122,7 @@ initialiser_item_is i sound ts r y e ok =
           subst (Spelled of_initial_pair Is_initial_pair ts) (ok_is _ _ x.2) (taken_is Comma ts c.0 c.1 ∙ ap (λ z. mark c.0.0 Comma ∷ z) made.0, made.1)
     ]
 
-comma_is : (ts : List Leaf) (y : Option Spot × List Leaf) → comma_at ts ≡ Ok y → ts ≡ of_option of_comma y.0 y.1
+pub comma_is : (ts : List Leaf) (y : Option Spot × List Leaf) → comma_at ts ≡ Ok y → ts ≡ of_option of_comma y.0 y.1
 comma_is ts y e =
     elim (when_is (taken Comma ts) _ _ _ e) [
       | inl c ↦ taken_is Comma ts c.0 c.1 ∙ ap (λ (z : Option Spot × List Leaf). of_option of_comma z.0 z.1) (ok_is _ _ c.2)
@@ -144,7 +144,7 @@ braces_are i sound room l ts y e =
       (one.1, are_initialisers_of more.0.0 others.1),
     )
 
-initialiser_is : (inner : Depth) → SoundIn inner → (room : ℕ) → Sound of_initialiser Is_initialiser (initialiser_by inner room)
+pub initialiser_is : (inner : Depth) → SoundIn inner → (room : ℕ) → Sound of_initialiser Is_initialiser (initialiser_by inner room)
 unfolding initialiser_by
 initialiser_is inner sound room ts y e =
     elim (when_is (taken LeftBrace ts) _ _ _ e) [
@@ -160,7 +160,7 @@ initialiser_is inner sound room ts y e =
 
 -- ---- declarations
 
-start_is : (inner : Depth) → SoundIn inner → Sound (of_option of_start) (Given Is_start) (start_by inner)
+pub start_is : (inner : Depth) → SoundIn inner → Sound (of_option of_start) (Given Is_start) (start_by inner)
 unfolding start_by
 start_is inner sound ts y e =
     elim (when_is (taken Assign ts) _ _ _ e) [
@@ -171,7 +171,7 @@ start_is inner sound ts y e =
       | inr k ↦ subst (Spelled (of_option of_start) (Given Is_start) ts) (ok_is _ _ k.1) (refl, tt)
     ]
 
-init_declarator_is : (inner : Depth) → SoundIn inner → Sound of_init_declarator Is_init_declarator (init_declarator_by inner)
+pub init_declarator_is : (inner : Depth) → SoundIn inner → Sound of_init_declarator Is_init_declarator (init_declarator_by inner)
 unfolding init_declarator_by
 init_declarator_is inner sound ts y e =
     let d = bind_ok (declarator_by inner ts) _ _ e in
@@ -203,7 +203,7 @@ declaration_is inner sound ts y e =
     let made = declared_is inner sound s.0.0 d.0.0 d.0.1 y one.1 two.1 d.2 in
     (one.0 ∙ ap (of_specs s.0.0) two.0 ∙ made.0, made.1)
 
-member_is : (inner : Depth) → SoundIn inner → Sound of_member Is_member (members_by inner)
+pub member_is : (inner : Depth) → SoundIn inner → Sound of_member Is_member (members_by inner)
 unfolding members_by
 member_is inner sound ts y e =
     let s = bind_ok (specs_by ts) _ _ e in
@@ -217,13 +217,13 @@ member_is inner sound ts y e =
     subst (Spelled of_member Is_member ts) (ok_is _ _ c.2)
     (one.0 ∙ ap (of_specs s.0.0) (two.0 ∙ ap (of_declarator d.0.0) (others.0 ∙ ap (of_list of_next_declarator more.0.0) (expected_is Semicolon more.0.1 c.0 c.1))), (one.1, two.1, others.1))
 
-member_item_is : (inner : Depth) → SoundIn inner → SoundAt of_member Is_member (members_at inner)
+pub member_item_is : (inner : Depth) → SoundIn inner → SoundAt of_member Is_member (members_at inner)
 unfolding members_at
 member_item_is inner sound ts r y e ok = let w = when_some (leaf_if (word_if starts_specs) ts) _ _ e in member_is inner sound ts y (some_is _ _ w.2 ∙ ok)
 
 -- ---- statements
 
-condition_is : (inner : Depth) → SoundIn inner → Sound of_condition Is_condition (condition_by inner)
+pub condition_is : (inner : Depth) → SoundIn inner → Sound of_condition Is_condition (condition_by inner)
 unfolding condition_by
 condition_is inner sound ts y e =
     let l = bind_ok (expected LeftParenthesis ts) _ _ e in
@@ -234,7 +234,7 @@ condition_is inner sound ts y e =
     subst (Spelled of_condition Is_condition ts) (ok_is _ _ r.2) (expected_is LeftParenthesis ts l.0 l.1 ∙ ap (λ z. mark l.0.0 LeftParenthesis ∷ z) (made.0 ∙ ap (of_expression x.0.0) (expected_is RightParenthesis x.0.1 r.0 r.1)), made.1)
 
 -- an expression or none, and the punctuator that ends it
-optional_is : (expression : List Leaf → Read t.Expression) → Sound of_expression Is_expression expression → (p : PunctKind) (ts : List Leaf) (y : (Option t.Expression × Spot) × List Leaf) → optional_by expression p ts ≡ Ok y
+pub optional_is : (expression : List Leaf → Read t.Expression) → Sound of_expression Is_expression expression → (p : PunctKind) (ts : List Leaf) (y : (Option t.Expression × Spot) × List Leaf) → optional_by expression p ts ≡ Ok y
     → (ts ≡ of_option of_expression y.0.0 (mark y.0.1 p ∷ y.1)) × Given Is_expression y.0.0
 unfolding optional_by
 optional_is expression sound p ts y e =
@@ -247,7 +247,7 @@ optional_is expression sound p ts y e =
           subst (λ (y : (Option t.Expression × Spot) × List Leaf). (ts ≡ of_option of_expression y.0.0 (mark y.0.1 p ∷ y.1)) × Given Is_expression y.0.0) (ok_is _ _ s.2) (made.0 ∙ ap (of_expression x.0.0) (expected_is p x.0.1 s.0 s.1), made.1)
     ]
 
-first_part_is : (i : Inner) → SoundInner i → Sound of_first Is_first (first_by i)
+pub first_part_is : (i : Inner) → SoundInner i → Sound of_first Is_first (first_by i)
 unfolding first_by
 first_part_is i sound ts y e =
     elim (when_is (leaf_if (word_if starts_specs) ts) _ _ _ e) [
@@ -261,7 +261,7 @@ first_part_is i sound ts y e =
           subst (Spelled of_first Is_first ts) (ok_is _ _ o.2) made
     ]
 
-heading_is : (inner : Depth) → SoundIn inner → Sound of_heading Is_heading (heading_by inner)
+pub heading_is : (inner : Depth) → SoundIn inner → Sound of_heading Is_heading (heading_by inner)
 unfolding heading_by
 heading_is inner sound ts y e =
     let l = bind_ok (expected LeftParenthesis ts) _ _ e in
@@ -275,10 +275,10 @@ heading_is inner sound ts y e =
     subst (Spelled of_heading Is_heading ts) (ok_is _ _ x.2)
     (expected_is LeftParenthesis ts l.0 l.1 ∙ ap (λ z. mark l.0.0 LeftParenthesis ∷ z) (one.0 ∙ ap (of_first f.0.0) (two.0 ∙ ap (λ z. of_option of_expression c.0.0.0 (mark c.0.0.1 Semicolon ∷ z)) three.0)), (one.1, two.1, three.1))
 
-substatement_is : (inner : Depth) → SoundIn inner → (room : ℕ) (ts : List Leaf) (y : t.Statement × List Leaf) → substatement inner room ts ≡ Ok y → StatementAt ts y
+pub substatement_is : (inner : Depth) → SoundIn inner → (room : ℕ) (ts : List Leaf) (y : t.Statement × List Leaf) → substatement inner room ts ≡ Ok y → StatementAt ts y
 substatement_is inner sound room ts y e = let i = begun_ok starts_statement inner ts _ _ e in (sound i.0 i.1).statement room ts y i.2
 
-else_closed : (b : t.Statement) (ts : List Leaf) (o : Bool) → is_open b ≡ o → (is_open b ≡ true → taken_word words.Else ts ≡ None) → (w : Spot × WordKind × List Leaf) → taken_word words.Else ts ≡ Some w → is_open b ≡ false
+pub else_closed : (b : t.Statement) (ts : List Leaf) (o : Bool) → is_open b ≡ o → (is_open b ≡ true → taken_word words.Else ts ≡ None) → (w : Spot × WordKind × List Leaf) → taken_word words.Else ts ≡ Some w → is_open b ≡ false
 else_closed b ts true is none w there = absurd (no_some w (sym (none is) ∙ there))
 else_closed b ts false is none w there = is
 
@@ -360,15 +360,15 @@ worded_is inner sound room s return_word ts y e = return_is inner sound room s t
 
 -- ---- compound statements
 
-of_items_of : (xs : List t.Item) (rest : List Leaf) → of_list of_item xs rest ≡ of_items (items_of xs) rest
+pub of_items_of : (xs : List t.Item) (rest : List Leaf) → of_list of_item xs rest ≡ of_items (items_of xs) rest
 of_items_of [] rest = refl
 of_items_of (x ∷ xs) rest = ap (of_item x) (of_items_of xs rest)
 
-are_items_of : (xs : List t.Item) → Every Is_item xs → Are_items (items_of xs)
+pub are_items_of : (xs : List t.Item) → Every Is_item xs → Are_items (items_of xs)
 are_items_of [] is = tt
 are_items_of (x ∷ xs) is = (is.0, are_items_of xs is.1)
 
-item_is : (inner : Depth) → SoundIn inner → SoundAt of_item Is_item (item_at inner)
+pub item_is : (inner : Depth) → SoundIn inner → SoundAt of_item Is_item (item_at inner)
 unfolding item_at
 item_is inner sound ts r y e ok =
     elim (when_is (leaf_if (word_if starts_specs) ts) _ _ _ e) [
@@ -385,7 +385,7 @@ item_is inner sound ts r y e ok =
       ]
     ]
 
-pragma_item_is : SoundAt of_pragma (λ (p : Pragma). Unit {0}) pragma_at
+pub pragma_item_is : SoundAt of_pragma (λ (p : Pragma). Unit {0}) pragma_at
 pragma_item_is ts r y e ok =
     let p = when_some (leaf_if pragma_of ts) _ _ e in
     subst (Spelled of_pragma (λ (p : Pragma). Unit {0}) ts) (ok_is _ _ (some_is _ _ p.2 ∙ ok)) (pragma_is ts p.0 p.1, tt)
@@ -427,7 +427,7 @@ statement_is inner sound room ts y e =
 
 -- ---- all that stands inside a construct
 
-sound_within : (limit n : ℕ) → SoundIn (within limit n)
+pub sound_within : (limit n : ℕ) → SoundIn (within limit n)
 unfolding opened_at
 sound_within limit zero i e = absurd (no_some i e)
 sound_within limit (suc n) i e = subst SoundInner (some_is (inner_at limit n) i e) (record {
@@ -457,7 +457,7 @@ structure_is inner sound s tag l ts y e =
     subst (Spelled of_structure Is_structure (word s words.Struct ∷ of_identifier tag (mark l LeftBrace ∷ ts))) (ok_is _ _ c.2)
     (ap (λ z. word s words.Struct ∷ of_identifier tag (mark l LeftBrace ∷ z)) (one.0 ∙ ap (of_member m.0.0) (others.0 ∙ ap (of_list of_member more.0.0) (expected_is RightBrace more.0.1 r.0 r.1 ∙ ap (λ z. mark r.0.0 RightBrace ∷ z) (expected_is Semicolon r.0.1 c.0 c.1)))), (one.1, others.1))
 
-structure_open_is : (ts : List Leaf) (y : Spot × t.Identifier × Spot × List Leaf) → structure_at ts ≡ Some y → ts ≡ word y.0 words.Struct ∷ of_identifier y.1 (mark y.2 LeftBrace ∷ y.3)
+pub structure_open_is : (ts : List Leaf) (y : Spot × t.Identifier × Spot × List Leaf) → structure_at ts ≡ Some y → ts ≡ word y.0 words.Struct ∷ of_identifier y.1 (mark y.2 LeftBrace ∷ y.3)
 unfolding structure_at
 structure_open_is ts y e =
     let s = when_some (taken_word words.Struct ts) _ _ e in
@@ -488,7 +488,7 @@ heading_of_is s (t.declarator stars n (t.function_shape l p r)) f e = subst (Hea
 heading_of_is s (t.declarator stars n t.object) f e = absurd (no_some _ e)
 heading_of_is s (t.declarator stars n (t.array l c r)) f e = absurd (no_some _ e)
 
-function_heading_is : (s : t.Specs) (d : t.Declarator) (ts : List Leaf) (f : t.TypeName × t.Identifier × Spot × t.Params × Spot) → function_at s d ts ≡ Some f → Heading s d f
+pub function_heading_is : (s : t.Specs) (d : t.Declarator) (ts : List Leaf) (f : t.TypeName × t.Identifier × Spot × t.Params × Spot) → function_at s d ts ≡ Some f → Heading s d f
 unfolding function_at
 function_heading_is s d ts f e = let l = when_some (taken LeftBrace ts) _ _ e in heading_of_is s d f l.2
 
@@ -513,7 +513,7 @@ defined_is inner sound ts y e =
           subst (Spelled of_external Is_external ts) (ok_is _ _ x.2) (one.0 ∙ ap (of_specs s.0.0) two.0 ∙ made.0, made.1)
     ]
 
-external_is : (inner : Depth) → SoundIn inner → SoundAt of_external Is_external (external_at inner)
+pub external_is : (inner : Depth) → SoundIn inner → SoundAt of_external Is_external (external_at inner)
 unfolding external_at
 external_is inner sound ts r y e ok =
     elim (when_is (leaf_if pragma_of ts) _ _ _ e) [
@@ -533,7 +533,7 @@ external_is inner sound ts r y e ok =
       ]
     ]
 
-unit_is : (inner : Depth) → SoundIn inner → Sound of_tree Is_tree (unit_by inner)
+pub unit_is : (inner : Depth) → SoundIn inner → Sound of_tree Is_tree (unit_by inner)
 unfolding unit_by
 unit_is inner sound ts y e =
     let u = bind_ok (many (external_at inner) ts) _ _ e in
@@ -543,7 +543,7 @@ unit_is inner sound ts y e =
     let ended : u.0.1 ≡ leaf w.0.0 tokens.end ∷ w.0.1 = end_is u.0.1 x.0 x.1 ∙ ap (λ (z : Spot × List Leaf). leaf z.0 tokens.end ∷ z.1) x.2 in
     subst (Spelled of_tree Is_tree ts) (ok_is _ _ w.2) (all.0 ∙ ap (of_list of_external u.0.0) ended, all.1)
 
-whole_is : (y : t.Tree × List Leaf) (u : t.Tree) → whole y ≡ Ok u → y ≡ (u, [])
+pub whole_is : (y : t.Tree × List Leaf) (u : t.Tree) → whole y ≡ Ok u → y ≡ (u, [])
 whole_is (v, []) u e = ap (λ (z : t.Tree). (z, [])) (ok_is _ _ e)
 whole_is (v, x ∷ xs) u e = absurd (no_ok _ _ e)
 

@@ -45,10 +45,10 @@ optional_close limit n (Some e) s rest is =
     rw (not_taken RightParenthesis (of_expression e (mark s RightParenthesis ∷ rest)) refl (expression_starts e (mark s RightParenthesis ∷ rest) is))
     (reads_bind _ _ e (mark s RightParenthesis ∷ rest) (Some e, s) rest (part _ _ _ (λ f. (f.0, f.1, omega arith)) (good_expression e limit n limit (mark s RightParenthesis ∷ rest) is (omega arith))) (inl refl))
 
-declaration_starts : (d : t.Declaration) (rest : List Leaf) → Is_declaration d → (w : Spot × WordKind × List Leaf) × (leaf_if (word_if starts_specs) (of_declaration d rest) ≡ Some w)
+pub declaration_starts : (d : t.Declaration) (rest : List Leaf) → Is_declaration d → (w : Spot × WordKind × List Leaf) × (leaf_if (word_if starts_specs) (of_declaration d rest) ≡ Some w)
 declaration_starts (t.declaration s d more e) rest is = specs_start s _ is.0
 
-evaluated_no_specs : (e : Option t.Expression) (s : Spot) (rest : List Leaf) → Given Is_expression e → leaf_if (word_if starts_specs) (of_option of_expression e (mark s Semicolon ∷ rest)) ≡ None
+pub evaluated_no_specs : (e : Option t.Expression) (s : Spot) (rest : List Leaf) → Given Is_expression e → leaf_if (word_if starts_specs) (of_option of_expression e (mark s Semicolon ∷ rest)) ≡ None
 unfolding leaf_if
 evaluated_no_specs None s rest is = refl
 evaluated_no_specs (Some e) s rest is = no_word starts_specs _ refl (expression_starts e _ is)
@@ -90,7 +90,7 @@ first_begins : (ts : List Leaf) → first_is starts_lexeme ts ≡ true → first
 first_begins [] e = e
 first_begins (x ∷ xs) e = lexeme_begins x.lexeme e
 
-statement_starts : (s : t.Statement) (rest : List Leaf) → Is_statement s → first_is starts_statement (of_statement s rest) ≡ true
+pub statement_starts : (s : t.Statement) (rest : List Leaf) → Is_statement s → first_is starts_statement (of_statement s rest) ≡ true
 statement_starts (t.block (t.compound l pragmas b r)) rest is = refl
 statement_starts (t.simple None s) rest is = refl
 statement_starts (t.simple (Some e) s) rest is = first_begins (of_expression e (mark s Semicolon ∷ rest)) (expression_starts e _ is)
@@ -103,7 +103,7 @@ statement_starts (t.break_loop s e) rest is = refl
 statement_starts (t.continue_loop s e) rest is = refl
 statement_starts (t.return_value s v e) rest is = refl
 
-begins_no_specs : (l : Lexeme) → starts_statement l ≡ true → word_if starts_specs l ≡ None
+pub begins_no_specs : (l : Lexeme) → starts_statement l ≡ true → word_if starts_specs l ≡ None
 begins_no_specs (tokens.word words.If) e = refl
 begins_no_specs (tokens.word words.While) e = refl
 begins_no_specs (tokens.word words.Do) e = refl
@@ -127,7 +127,7 @@ begins_no_else (tokens.word words.Sizeof) e = refl
 begins_no_else (tokens.word _) e = absurd (true≢false (sym e))
 begins_no_else _ e = refl
 
-begins_no_close : (l : Lexeme) → starts_statement l ≡ true → punct_if (λ q. same_punct q RightBrace) l ≡ None
+pub begins_no_close : (l : Lexeme) → starts_statement l ≡ true → punct_if (λ q. same_punct q RightBrace) l ≡ None
 begins_no_close (tokens.punct p) e = go (same_punct p RightBrace) refl
   where
     go : (b : Bool) → same_punct p RightBrace ≡ b → punct_if (λ q. same_punct q RightBrace) (tokens.punct p) ≡ None
@@ -162,13 +162,13 @@ unfolding leaf_if
 specs_no_else (t.specs (t.word_spec s w) more) rest is = rw (spec_word_no_else w (spec_word_starts w is.0)) refl
 specs_no_else (t.specs (t.struct_spec s tag) more) rest is = refl
 
-items_no_else : (b : t.Items) (r : Spot) (rest : List Leaf) → Are_items b → taken_word words.Else (of_items b (mark r RightBrace ∷ rest)) ≡ None
+pub items_no_else : (b : t.Items) (r : Spot) (rest : List Leaf) → Are_items b → taken_word words.Else (of_items b (mark r RightBrace ∷ rest)) ≡ None
 unfolding leaf_if
 items_no_else t.no_items r rest is = refl
 items_no_else (t.items (t.declared (t.declaration s d more e)) others) r rest is = specs_no_else s _ is.0.0
 items_no_else (t.items (t.stated s) others) r rest is = no_leaf starts_statement (word_if (λ v. same_word v words.Else)) begins_no_else (of_statement s (of_items others (mark r RightBrace ∷ rest))) (statement_starts s _ is.0)
 
-items_no_pragma : (b : t.Items) (r : Spot) (rest : List Leaf) → Are_items b → pragma_at (of_items b (mark r RightBrace ∷ rest)) ≡ None
+pub items_no_pragma : (b : t.Items) (r : Spot) (rest : List Leaf) → Are_items b → pragma_at (of_items b (mark r RightBrace ∷ rest)) ≡ None
 unfolding leaf_if
 items_no_pragma t.no_items r rest is = refl
 items_no_pragma (t.items (t.declared (t.declaration s d more e)) others) r rest is = specs_no_pragma_at s _
@@ -271,11 +271,11 @@ abbrev pub items_list : t.Items → List t.Item
 items_list t.no_items = []
 items_list (t.items i more) = i ∷ items_list more
 
-items_same : (b : t.Items) → items_of (items_list b) ≡ b
+pub items_same : (b : t.Items) → items_of (items_list b) ≡ b
 items_same t.no_items = refl
 items_same (t.items i more) = ap (t.items i) (items_same more)
 
-of_items_list : (b : t.Items) (rest : List Leaf) → of_list of_item (items_list b) rest ≡ of_items b rest
+pub of_items_list : (b : t.Items) (rest : List Leaf) → of_list of_item (items_list b) rest ≡ of_items b rest
 of_items_list t.no_items rest = refl
 of_items_list (t.items i more) rest = ap (of_item i) (of_items_list more rest)
 
@@ -310,11 +310,11 @@ items_more i more good others limit n r rest is = (
   part_items (FitItems limit n (t.items i more)) (FitItems limit n more) (item_at (within limit n)) of_item (items_list more) (mark r RightBrace ∷ rest) (λ f. (omega (arith, f.0), omega (arith, f.1))) (others limit n r rest is.1),
 )
 
-no_item : (limit n : ℕ) (r : Spot) (rest : List Leaf) → item_at (within limit n) (mark r RightBrace ∷ rest) ≡ None
+pub no_item : (limit n : ℕ) (r : Spot) (rest : List Leaf) → item_at (within limit n) (mark r RightBrace ∷ rest) ≡ None
 unfolding item_at leaf_if
 no_item limit n r rest = refl
 
-pragma_items : (P : Type 0) (ps : List Pragma) (rest : List Leaf) → ReadsItems P pragma_at of_pragma ps rest
+pub pragma_items : (P : Type 0) (ps : List Pragma) (rest : List Leaf) → ReadsItems P pragma_at of_pragma ps rest
 unfolding leaf_if
 pragma_items P [] rest = tt
 pragma_items P (p ∷ ps) rest = ((_, refl, inl refl), pragma_items P ps rest)

@@ -28,7 +28,7 @@ member_items : (limit n : ℕ) (ms : List t.Member) (rest : List Leaf) → Every
 member_items limit n [] rest is = tt
 member_items limit n (m ∷ ms) rest is = (part_at _ _ _ (λ f. (omega (arith, f.0), omega (arith, f.1))) (member_item limit n m (of_list of_member ms rest) is.0), part_items (FitTop limit n (nest.height_list nest.opens_member (m ∷ ms)) (nest.height_list nest.height_member (m ∷ ms))) (FitTop limit n (nest.height_list nest.opens_member ms) (nest.height_list nest.height_member ms)) (members_at (within limit n)) of_member ms rest (λ f. (omega (arith, f.0), omega (arith, f.1))) (member_items limit n ms rest is.1))
 
-no_member : (limit n : ℕ) (r : Spot) (rest : List Leaf) → members_at (within limit n) (mark r RightBrace ∷ rest) ≡ None
+pub no_member : (limit n : ℕ) (r : Spot) (rest : List Leaf) → members_at (within limit n) (mark r RightBrace ∷ rest) ≡ None
 unfolding members_at leaf_if
 no_member limit n r rest = refl
 
@@ -42,7 +42,7 @@ structure_read limit n s tag l m more r e rest is_m is_more =
 
 -- ---- objects in named registers
 
-register_read : {P : Type 0} (s : Spot) (k : t.Identifier) (sp : t.Specs) (x : t.Identifier) (e : Spot) (rest : List Leaf) → Is_specs sp
+pub register_read : {P : Type 0} (s : Spot) (k : t.Identifier) (sp : t.Specs) (x : t.Identifier) (e : Spot) (rest : List Leaf) → Is_specs sp
     → Reads P (register_by s (of_identifier k (of_specs sp (of_identifier x (mark e Semicolon ∷ rest))))) (t.register_object s k sp x e) rest
 unfolding register_by leaf_if
 register_read s (t.identifier k a) sp (t.identifier j b) e rest is =
@@ -59,7 +59,7 @@ spec_no_word w v s rest no_v is = go (same_word w v) refl
     go true same = absurd (true≢false (sym is ∙ ap is_spec_word (same_words w v same) ∙ no_v))
     go false other = rw other refl
 
-specs_no_register : (s : t.Specs) (rest : List Leaf) → Is_specs s → taken_word words.Register (of_specs s rest) ≡ None
+pub specs_no_register : (s : t.Specs) (rest : List Leaf) → Is_specs s → taken_word words.Register (of_specs s rest) ≡ None
 unfolding leaf_if
 specs_no_register (t.specs (t.word_spec s w) more) rest is = spec_no_word w words.Register s _ refl is.0
 specs_no_register (t.specs (t.struct_spec s tag) more) rest is = refl
@@ -70,17 +70,17 @@ specs_no_brace [] rest e = e
 specs_no_brace (t.word_spec s w ∷ more) rest e = refl
 specs_no_brace (t.struct_spec s tag ∷ more) rest e = refl
 
-specs_no_structure : (s : t.Specs) (rest : List Leaf) → Is_specs s → taken LeftBrace rest ≡ None → structure_at (of_specs s rest) ≡ None
+pub specs_no_structure : (s : t.Specs) (rest : List Leaf) → Is_specs s → taken LeftBrace rest ≡ None → structure_at (of_specs s rest) ≡ None
 unfolding structure_at leaf_if
 specs_no_structure (t.specs (t.word_spec s w) more) rest is e = rw (spec_no_word w words.Struct s (of_list of_spec more rest) refl is.0) refl
 specs_no_structure (t.specs (t.struct_spec s (t.identifier k x)) more) rest is e = rw (specs_no_brace more rest e) refl
 
-declarator_no_brace : (d : t.Declarator) (rest : List Leaf) → taken LeftBrace (of_declarator d rest) ≡ None
+pub declarator_no_brace : (d : t.Declarator) (rest : List Leaf) → taken LeftBrace (of_declarator d rest) ≡ None
 unfolding leaf_if
 declarator_no_brace (t.declarator [] (t.identifier s x) shape) rest = refl
 declarator_no_brace (t.declarator (t.star s q ∷ stars) n shape) rest = refl
 
-started_no_brace : (i : Option t.Start) (more : List t.NextInitDeclarator) (e : Spot) (rest : List Leaf) → taken LeftBrace (of_option of_start i (of_list of_next_init_declarator more (mark e Semicolon ∷ rest))) ≡ None
+pub started_no_brace : (i : Option t.Start) (more : List t.NextInitDeclarator) (e : Spot) (rest : List Leaf) → taken LeftBrace (of_option of_start i (of_list of_next_init_declarator more (mark e Semicolon ∷ rest))) ≡ None
 unfolding leaf_if
 started_no_brace (Some (t.start s i)) more e rest = refl
 started_no_brace None [] e rest = refl
@@ -131,7 +131,7 @@ external_items : (limit n : ℕ) (xs : List t.External) (rest : List Leaf) → E
 external_items limit n [] rest is = tt
 external_items limit n (x ∷ xs) rest is = (part_at _ _ _ (λ f. (omega (arith, f.0), omega (arith, f.1))) (external_item limit n x (of_list of_external xs rest) is.0), part_items (FitTop limit n (nest.height_list nest.opens_external (x ∷ xs)) (nest.height_list nest.height_external (x ∷ xs))) (FitTop limit n (nest.height_list nest.opens_external xs) (nest.height_list nest.height_external xs)) (external_at (within limit n)) of_external xs rest (λ f. (omega (arith, f.0), omega (arith, f.1))) (external_items limit n xs rest is.1))
 
-no_external : (limit n : ℕ) (s : Spot) (rest : List Leaf) → external_at (within limit n) (leaf s tokens.end ∷ rest) ≡ None
+pub no_external : (limit n : ℕ) (s : Spot) (rest : List Leaf) → external_at (within limit n) (leaf s tokens.end ∷ rest) ≡ None
 unfolding external_at structure_at leaf_if
 no_external limit n s rest = refl
 
