@@ -1,2 +1,11 @@
+pub mod Growth
+pub mod HeldNumbers
 pub mod Layouts
 pub mod Rows
+pub mod Runs
+pub mod Sameness
+pub mod Samples
+pub mod TwoRuns
+pub mod TypedRuns
+pub mod TypedStates
+pub mod TypedValues

@@ -1,12 +1,23 @@
 -- The definitions that the contracts of the typed program cite.
+pub mod Accesses
 pub mod ArithmeticTypes
 pub mod ArithmeticValues
+pub mod Expressions
 pub mod Generated
 pub mod Integers
+pub mod Laws
 pub mod Layout
+pub mod Meaning
 pub mod Needs
+pub mod Operators
 pub mod Plain
 pub mod Pointers
+pub mod PortAccesses
 pub mod PortOperations
+pub mod PortTable
+pub mod State
+pub mod Statements
 pub mod Typing
 pub mod Valid
+pub mod ValueTypes
+pub mod Words

@@ -1,4 +1,4 @@
-//! The typed program, the layout of its types, and what its operators do to values.
+//! The typed program, the layout of its types, what its operators do to values, and what a run of it does.
 //!
 //! A program is what a compiler's front end leaves of its source: objects, functions, and trees of
 //! statements and expressions in which each node has its type and each conversion is a node of its
@@ -10,6 +10,7 @@ mod arithmetic_operations;
 mod arithmetic_types;
 mod expressions;
 mod integers;
+mod laws;
 mod layout;
 mod pointers;
 mod programs;
@@ -23,6 +24,10 @@ pub use arithmetic_operations::{
 pub use arithmetic_types::{Arithmetic, FixedType, IntegerType, result_type, signed_kind};
 pub use expressions::{BinOp, Expr, Node, PlaceExpr, UnOp};
 pub use integers::integer_operation;
+pub use laws::{
+    depends_on_bytes_read, events_are_at_home, more_turns_only_add, registers_are_silent,
+    runs_by_steps, types_are_kept, types_are_told, work_never_falls,
+};
 pub use layout::{Leaf, leaves, size_of};
 pub use pointers::{
     pointer_comparison, pointer_conversion, pointer_difference, pointer_sum, pointer_truth,

@@ -1,0 +1,81 @@
+-- Values of types, and states whose leaves hold values of their types.
+use Rattle.std.specs.Prelude.{⊤, ℕ, ◌<◌, ◌≤◌, IsTrue, IsSomeAnd, List, [], ◌∷◌, Option, Some, None, slice_get, slice_index}
+use Rattle.ec_iohw.specs.declared.table.IoTable.{IoTable}
+use Rattle.ec_space.specs.declared.space.SpaceId.{SpaceId}
+use Rattle.ec_space.specs.Spaces.{holds}
+use Rattle.ec_core.specs.declared.arithmetic_types.Arithmetic.TheVariants.{Integer, Fixed}
+use Rattle.ec_core.specs.declared.values.Value.{Value}
+use Rattle.ec_core.specs.declared.values.Value.TheVariants.{Number, Pointer}
+use Rattle.ec_core.specs.ArithmeticValues.{HoldsNumber}
+use Rattle.ec_core.specs.Expressions.{value_of}
+use Rattle.ec_core.specs.Layout.{PlainLeaf, size_of_type, leaves_of_type}
+use Rattle.ec_core.specs.Meaning.{setting, run}
+use Rattle.ec_core.specs.Plain.{PlainType, void, integer, fixed, pointer, array, struct, PlainExpr, PlainObject, PlainProgram}
+use Rattle.ec_core.specs.Pointers.{Pointer as PointerValue}
+use Rattle.ec_core.specs.PortTable.{plain_table}
+use Rattle.ec_core.specs.State.{Inputs, ObjectState, State, Outcome, got, more, undefined}
+use Rattle.ec_core.specs.Statements.{calls_within}
+use Rattle.ec_core.specs.Typing.{int, type_of_expr}
+use Rattle.ec_core.specs.Valid.{Valid, ValidExpr}
+
+-- ---- values
+
+-- a pointer into a space: null, or to an object whose home is there, with an offset from 0 to its size
+abbrev pub IsPointerInto : PlainProgram → SpaceId → PointerValue → Type 0
+IsPointerInto program space None = ⊤
+IsPointerInto program space (Some p) = IsSomeAnd (slice_get program.objects p.object) (λ o. IsTrue (holds space o.home) × (p.offset ≤ size_of_type program.structs o.ty))
+
+-- a number that an arithmetic type holds, or a pointer into the space of a pointer type; no value is of type void, so anything stands for it
+abbrev pub HasType : PlainProgram → PlainType → Value → Type 0
+HasType program void v = ⊤
+HasType program (integer signed bytes) (Number n) = HoldsNumber (Integer (record { signed = signed; bytes = bytes })) n
+HasType program (integer signed bytes) (Pointer p) = ⊥
+HasType program (fixed kind saturates) (Number n) = HoldsNumber (Fixed (record { kind = kind; sat = saturates })) n
+HasType program (fixed kind saturates) (Pointer p) = ⊥
+HasType program (pointer space const to) (Number n) = ⊥
+HasType program (pointer space const to) (Pointer p) = IsPointerInto program space p
+HasType program (array of len) v = ⊥
+HasType program (struct index) v = ⊥
+
+-- ---- states
+
+abbrev pub IsLeafValue : PlainProgram → PlainType → Option Value → Type 0
+IsLeafValue program ty None = ⊤
+IsLeafValue program ty (Some v) = HasType program ty v
+
+-- one value or none for each leaf
+abbrev pub AreLeafStates : PlainProgram → List PlainLeaf → List (Option Value) → Type 0
+AreLeafStates program [] [] = ⊤
+AreLeafStates program [] (v ∷ vs) = ⊥
+AreLeafStates program (leaf ∷ leaves) [] = ⊥
+AreLeafStates program (leaf ∷ leaves) (v ∷ vs) = IsLeafValue program leaf.ty v × AreLeafStates program leaves vs
+
+-- one state for each object
+abbrev pub AreObjectStates : PlainProgram → List PlainObject → List ObjectState → Type 0
+AreObjectStates program [] [] = ⊤
+AreObjectStates program [] (x ∷ xs) = ⊥
+AreObjectStates program (o ∷ os) [] = ⊥
+AreObjectStates program (o ∷ os) (x ∷ xs) = AreLeafStates program (leaves_of_type program.structs o.ty) x.leaves × AreObjectStates program os xs
+
+abbrev pub IsTypedState : PlainProgram → State → Type 0
+IsTypedState program s = AreObjectStates program program.objects s.objects
+
+-- ---- outcomes
+
+-- a value with a property, in a typed state; or no value
+abbrev pub IsSoundOutcome : {A : Type 0} → PlainProgram → (A → Type 0) → Outcome A → Type 0
+IsSoundOutcome program P (got x s) = P x × IsTypedState program s
+IsSoundOutcome program P (more s) = ⊤
+IsSoundOutcome program P (undefined point s) = ⊤
+
+abbrev pub GiveBytes : Inputs → Type 0
+GiveBytes inputs = (port k : ℕ) → slice_index (inputs port) k < 256
+
+-- In a valid program whose ports give bytes, the value of each expression has its type, and so do the values of all leaves and
+-- the result of main
+pub record ValuesHaveTheirTypes (program : PlainProgram) (io : IoTable) (inputs : Inputs) : Type 0 where
+  pub expressions : (n depth f : ℕ) (e : PlainExpr) (s : State) → ValidExpr program io f e → IsTypedState program s → IsSoundOutcome program (HasType program (type_of_expr e)) (value_of (setting program (plain_table io) inputs) (calls_within (setting program (plain_table io) inputs) n depth) e s)
+  pub result : (n : ℕ) → IsSoundOutcome program (HasType program int) (run program (plain_table io) inputs n)
+
+abbrev pub TypesAreKept : Type 0
+TypesAreKept = (program : PlainProgram) (io : IoTable) (inputs : Inputs) → Valid program io → GiveBytes inputs → ValuesHaveTheirTypes program io inputs

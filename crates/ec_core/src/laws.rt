@@ -1,0 +1,47 @@
+//! The laws of the meaning of programs: each function proves one, and does nothing.
+//!
+//! The meaning stands in `specs/Meaning.antt` and the files that it names. A run depends on a number of turns, which no
+//! execution of a loop passes. These laws say that it is one run all the same, of which more turns only show more.
+ghost use Rattle.ec_core.specs.ValueTypes.{TypesAreKept};
+ghost use Rattle.ec_core.specs.Laws.{RunsBySteps, EventsAreAtHome, RegistersAreSilent, MoreTurnsOnlyAdd, WorkNeverFalls, DependsOnBytesRead, TypesAreTold};
+
+/// A run goes from state to state by steps. Where a step reads or writes a leaf, the object is live in the state before it and
+/// its home is in the space of the access. Where it reads a byte of a port, it is the next one that the port gives.
+pub fn runs_by_steps()
+    ensures { RunsBySteps }
+{}
+
+/// The home of each object that a run reads or writes is in the space of the access.
+pub fn events_are_at_home()
+    ensures { EventsAreAtHome }
+{}
+
+/// Reads and writes of named registers are no events.
+pub fn registers_are_silent()
+    ensures { RegistersAreSilent }
+{}
+
+/// More turns only add events to a run, and leave one as it is that ended or met an undefined point.
+pub fn more_turns_only_add()
+    ensures { MoreTurnsOnlyAdd }
+{}
+
+/// More turns are no less work.
+pub fn work_never_falls()
+    ensures { WorkNeverFalls }
+{}
+
+/// A run is the same for inputs that agree on the bytes that it reads.
+pub fn depends_on_bytes_read()
+    ensures { DependsOnBytesRead }
+{}
+
+/// Types are told to be the same exactly where they are equal.
+pub fn types_are_told()
+    ensures { TypesAreTold }
+{}
+
+/// In a valid program the value of each expression has its type.
+pub fn types_are_kept()
+    ensures { TypesAreKept }
+{}
