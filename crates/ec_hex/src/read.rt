@@ -1,5 +1,5 @@
 //! Reading Intel HEX.
-ghost use Rattle.std.specs.Prelude.{◌≡◌, ◌≢◌, ◌<◌, ◌+◌, ◌++◌, ◌^◌, ◌⊎◌, ℕ, Bool, List, Some, length, take, slice_get, MatchResult, IfOk, IfErr, IsErrOf, IsOkUnless};
+ghost use Rattle.std.specs.Prelude.{◌≡◌, ◌≢◌, ◌<◌, ◌+◌, ◌++◌, ◌^◌, ◌⊎◌, ℕ, Bool, List, Some, length, take, MatchResult, IfOk, IfErr, IsErrOf, IsOkUnless};
 ghost use Rattle.ec_hex.specs.declared.read.HexStop.{HexStop};
 ghost use Rattle.ec_hex.specs.declared.read.HexStop.TheVariants.{NoMemory as OutOfMemory};
 ghost use Rattle.ec_hex.specs.Denotes.{Denotes, addressed};

@@ -1,7 +1,7 @@
 //! The records of a text's lines.
-ghost use Rattle.std.specs.Prelude.{◌≡◌, ◌+◌, ◌*◌, ◌<◌, IfOk, option_map, slice_index};
+ghost use Rattle.std.specs.Prelude.{◌≡◌, ◌+◌, ◌*◌, ◌<◌, IfOk, option_map};
 ghost use Rattle.ec_hex.specs.Bytes.{bytes_of};
-ghost use Rattle.ec_hex.specs.Record.{reading_of_bytes, record_of, word_of};
+ghost use Rattle.ec_hex.specs.Record.{reading_of_bytes, record_of};
 ghost use Rattle.ec_hex.specs.Views.{record_view, reading_view};
 
 use crate::line::sum;

@@ -1,0 +1,146 @@
+-- A step that reads a port reads the byte that the port answers.
+use Rattle.std.proofs.Common.{◌≡◌, ℕ, ◌+◌, ◌%◌, Bool, true, false, not, ◌&&◌, Option, Some, None, refl, length, nat_lt}
+use Rattle.std.specs.Prelude.{if◌then◌else◌, option_map, option_and_then}
+use Rattle.ec_space.specs.declared.space.Bank.TheVariants.{Data as DataBank}
+use Rattle.ec_isa.specs.declared.instructions.Instr.{Instr}
+use Rattle.ec_isa.specs.declared.instructions.Instr.TheVariants.{LddZ, LddY, StdZ, StdY, Lds, Sts, LdZPlus, LdMinusZ, LdYPlus, LdMinusY, LdX, LdXPlus, LdMinusX, StZPlus, StMinusZ, StYPlus, StMinusY, StX, StXPlus, StMinusX, LpmZ, LpmZPlus, Pop, Push, Icall, Ret, Call, In as InInstr, Out as OutInstr, Rcall}
+use Rattle.ec_avr.specs.declared.machine.Access.TheVariants.{Silent, In, Out, Read, Write}
+use Rattle.ec_avr.specs.declared.machine.FaultKind.{FaultKind}
+use Rattle.ec_avr.specs.declared.machine.FaultKind.TheVariants.{DataOut, PcOut, StackOut}
+use Rattle.ec_avr.specs.declared.machine.Stepped.{Stepped}
+use Rattle.ec_avr.specs.declared.machine.Stepped.TheVariants.{Ran}
+use Rattle.ec_avr.specs.State.{State, byte_at, is_core_register, is_sram, pair, with_pair, pointer_x, pointer_y, pointer_z, stack_pointer, raised, lowered, register, with_register, passed}
+use Rattle.ec_avr.specs.Effects.{After, faulted, loaded, stored, load, load_and_raise, lower_and_load, store, store_and_raise, lower_and_store, load_flash, load_flash_and_raise, push, pop, call, return_from_call, relative}
+use Rattle.ec_avr.specs.Machine.{step, effect, instruction_at, load_address, port_at, needs_port, is_whole}
+
+-- the byte that a step read from a port
+abbrev pub byte_read : Stepped → Option ℕ
+byte_read (Ran (In port byte)) = Some byte
+byte_read _ = None
+
+-- a load reads the answer where its address is a port
+of_load : (core port has : Bool) (at answer old : ℕ) (moved s : State)
+    → let byte : ℕ = if port && not core then answer else old in
+    let after : After = if has then record { stepped = Ran (if core then Silent else (if port then In at byte else Read DataBank at byte)); state = moved } else faulted DataOut s in
+    byte_read after.stepped ≡ option_map (λ (_ : ℕ). answer) (if (port && not core) && has then Some at else None)
+of_load true true true at answer old moved s = refl
+of_load true true false at answer old moved s = refl
+of_load true false true at answer old moved s = refl
+of_load true false false at answer old moved s = refl
+of_load false true true at answer old moved s = refl
+of_load false true false at answer old moved s = refl
+of_load false false true at answer old moved s = refl
+of_load false false false at answer old moved s = refl
+
+of_store : (core port has : Bool) (at byte : ℕ) (moved s : State)
+    → let after : After = if has then record { stepped = Ran (if core then Silent else (if port then Out at byte else Write at byte)); state = moved } else faulted DataOut s in
+    byte_read after.stepped ≡ None
+of_store true port true at byte moved s = refl
+of_store false true true at byte moved s = refl
+of_store false false true at byte moved s = refl
+of_store core port false at byte moved s = refl
+
+of_test : (can : Bool) (after : After) (kind : FaultKind) (s : State) → byte_read after.stepped ≡ None
+    → byte_read (if can then after else faulted kind s).stepped ≡ None
+of_test true after kind s h = h
+of_test false after kind s h = refl
+
+module _ (s : State) where
+  of_load_at : (d at answer words : ℕ) → byte_read (load d at answer words s).stepped ≡ option_map (λ (_ : ℕ). answer) (port_at s at)
+  of_load_at d at answer words =
+      of_load (is_core_register at) (nat_lt at 256) (nat_lt at (length s.mem.data)) at answer (byte_at s at)
+      (passed (with_register s d (loaded s at answer)) words) s
+
+  of_load_and_raise : (d pointer answer : ℕ)
+      → byte_read (load_and_raise d pointer answer s).stepped ≡ option_map (λ (_ : ℕ). answer) (port_at s (pair s pointer))
+  of_load_and_raise d pointer answer =
+      let at = pair s pointer in
+      of_load (is_core_register at) (nat_lt at 256) (nat_lt at (length s.mem.data)) at answer (byte_at s at)
+      (passed (with_pair (with_register s d (loaded s at answer)) pointer (raised at)) 1) s
+
+  of_lower_and_load : (d pointer answer : ℕ)
+      → byte_read (lower_and_load d pointer answer s).stepped ≡ option_map (λ (_ : ℕ). answer) (port_at s (lowered (pair s pointer)))
+  of_lower_and_load d pointer answer =
+      let at = lowered (pair s pointer) in
+      let moved = with_pair s pointer at in
+      of_load (is_core_register at) (nat_lt at 256) (nat_lt at (length s.mem.data)) at answer (byte_at moved at)
+      (passed (with_register moved d (loaded moved at answer)) 1) s
+
+  of_store_at : (at byte words : ℕ) → byte_read (store at byte words s).stepped ≡ None
+  of_store_at at byte words =
+      of_store (is_core_register at) (nat_lt at 256) (nat_lt at (length s.mem.data)) at byte (passed (stored s at byte) words) s
+
+  of_store_and_raise : (pointer byte : ℕ) → byte_read (store_and_raise pointer byte s).stepped ≡ None
+  of_store_and_raise pointer byte =
+      let at = pair s pointer in
+      of_store (is_core_register at) (nat_lt at 256) (nat_lt at (length s.mem.data)) at byte
+      (passed (with_pair (stored s at byte) pointer (raised at)) 1) s
+
+  of_lower_and_store : (pointer byte : ℕ) → byte_read (lower_and_store pointer byte s).stepped ≡ None
+  of_lower_and_store pointer byte =
+      let at = lowered (pair s pointer) in
+      of_store (is_core_register at) (nat_lt at 256) (nat_lt at (length s.mem.data)) at byte
+      (passed (stored (with_pair s pointer at) at byte) 1) s
+
+  of_load_flash : (d : ℕ) → byte_read (load_flash d s).stepped ≡ None
+  of_load_flash d = of_test (nat_lt (pair s pointer_z) (length s.mem.flash)) _ DataOut s refl
+
+  of_load_flash_and_raise : (d : ℕ) → byte_read (load_flash_and_raise d s).stepped ≡ None
+  of_load_flash_and_raise d = of_test (nat_lt (pair s pointer_z) (length s.mem.flash)) _ DataOut s refl
+
+  of_push : (byte : ℕ) → byte_read (push byte s).stepped ≡ None
+  of_push byte = of_test (is_sram s (stack_pointer s)) _ StackOut s refl
+
+  of_pop : (d : ℕ) → byte_read (pop d s).stepped ≡ None
+  of_pop d = of_test (is_sram s (raised (stack_pointer s))) _ StackOut s refl
+
+  of_call : (to back : ℕ) → byte_read (call to back s).stepped ≡ None
+  of_call to back =
+      of_test (is_sram s (stack_pointer s) && is_sram s (lowered (stack_pointer s))) _ StackOut s refl
+
+  of_return : byte_read (return_from_call s).stepped ≡ None
+  of_return =
+      of_test (is_sram s (raised (stack_pointer s)) && is_sram s (raised (raised (stack_pointer s)))) _ StackOut s refl
+
+read_by : (i : Option Instr) (answer : ℕ) (s : State)
+    → byte_read (effect i answer s).stepped ≡ option_map (λ (_ : ℕ). answer) (option_and_then (port_at s) (load_address i s))
+read_by (Some (LddZ d q)) answer s = of_load_at s d ((pair s pointer_z + q) % 65536) answer 1
+read_by (Some (LddY d q)) answer s = of_load_at s d ((pair s pointer_y + q) % 65536) answer 1
+read_by (Some (LdX d)) answer s = of_load_at s d (pair s pointer_x) answer 1
+read_by (Some (Lds d k)) answer s = of_load_at s d k answer 2
+read_by (Some (InInstr d a)) answer s = of_load_at s d (a + 0x20) answer 1
+read_by (Some (LdZPlus d)) answer s = of_load_and_raise s d pointer_z answer
+read_by (Some (LdYPlus d)) answer s = of_load_and_raise s d pointer_y answer
+read_by (Some (LdXPlus d)) answer s = of_load_and_raise s d pointer_x answer
+read_by (Some (LdMinusZ d)) answer s = of_lower_and_load s d pointer_z answer
+read_by (Some (LdMinusY d)) answer s = of_lower_and_load s d pointer_y answer
+read_by (Some (LdMinusX d)) answer s = of_lower_and_load s d pointer_x answer
+read_by (Some (StdZ q r)) answer s = of_store_at s ((pair s pointer_z + q) % 65536) (register s r) 1
+read_by (Some (StdY q r)) answer s = of_store_at s ((pair s pointer_y + q) % 65536) (register s r) 1
+read_by (Some (StX r)) answer s = of_store_at s (pair s pointer_x) (register s r) 1
+read_by (Some (Sts k r)) answer s = of_store_at s k (register s r) 2
+read_by (Some (OutInstr a r)) answer s = of_store_at s (a + 0x20) (register s r) 1
+read_by (Some (StZPlus r)) answer s = of_store_and_raise s pointer_z (register s r)
+read_by (Some (StYPlus r)) answer s = of_store_and_raise s pointer_y (register s r)
+read_by (Some (StXPlus r)) answer s = of_store_and_raise s pointer_x (register s r)
+read_by (Some (StMinusZ r)) answer s = of_lower_and_store s pointer_z (register s r)
+read_by (Some (StMinusY r)) answer s = of_lower_and_store s pointer_y (register s r)
+read_by (Some (StMinusX r)) answer s = of_lower_and_store s pointer_x (register s r)
+read_by (Some (LpmZ d)) answer s = of_load_flash s d
+read_by (Some (LpmZPlus d)) answer s = of_load_flash_and_raise s d
+read_by (Some (Push r)) answer s = of_push s (register s r)
+read_by (Some (Pop d)) answer s = of_pop s d
+read_by (Some (Call k)) answer s = of_call s k (s.pc + 2)
+read_by (Some (Rcall k)) answer s = of_call s (relative s.pc k) (s.pc + 1)
+read_by (Some Icall) answer s = of_call s (pair s pointer_z) (s.pc + 1)
+read_by (Some Ret) answer s = of_return s
+read_by _ answer s = refl
+
+when_whole : (whole : Bool) (i : Option Instr) (answer : ℕ) (s : State)
+    → byte_read (if whole then effect i answer s else faulted PcOut s).stepped
+    ≡ option_map (λ (_ : ℕ). answer) (if whole then option_and_then (port_at s) (load_address i s) else None)
+when_whole true i answer s = read_by i answer s
+when_whole false i answer s = refl
+
+pub byte_read-step : (answer : ℕ) (s : State) → byte_read (step answer s).stepped ≡ option_map (λ (_ : ℕ). answer) (needs_port s)
+byte_read-step answer s = when_whole (is_whole s) (instruction_at s s.pc) answer s

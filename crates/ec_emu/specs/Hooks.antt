@@ -1,0 +1,13 @@
+-- What a hook keeps.
+use Rattle.std.specs.Prelude.{ℕ, Bool, IsTrue}
+use Rattle.ec_emu.specs.declared.ask.Ask.{Ask}
+use Rattle.ec_emu.specs.declared.hook.Hook.{Hook}
+use Rattle.ec_emu.specs.Answers.{IsAsk}
+
+abbrev pub rule_of : {F R : Type 0} → Hook F R → R
+rule_of hook = hook.rule
+
+-- its function may be called at each ask, and its rule allows what it answers
+abbrev pub IsSound : {F R : Type 0} → (F → Ask → Type 0) → (F → Ask → ℕ → Type 0) → (R → Ask → ℕ → Bool) → Hook F R → Type 0
+IsSound pre post allows hook =
+    (ask : Ask) → IsAsk ask → pre hook.f ask × ((byte : ℕ) → post hook.f ask byte → IsTrue (allows hook.rule ask byte))

@@ -1,0 +1,9 @@
+pub mod Lines
+pub mod Answers
+pub mod Hooks
+pub mod Seen
+pub mod Scripted
+pub mod Emulation
+pub mod Forms
+pub mod Script
+pub mod Views

@@ -1,0 +1,108 @@
+//! Running the machine.
+ghost use Rattle.std.specs.Prelude.{◌≡◌, ◌≤◌, ◌↔◌, ◌<◌, ℕ, List, MatchOption, length};
+ghost use Rattle.ec_avr.specs.declared.machine.Access.{Access};
+ghost use Rattle.ec_avr.specs.Machine.{step, needs_port, port_read, StaysUnlessRan};
+ghost use Rattle.ec_emu.specs.declared.ask.Ask.{Ask};
+ghost use Rattle.ec_emu.specs.Emulation.{IsRun, IsPrinted, StaysCalm, HasCause};
+ghost use Rattle.ec_emu.specs.Lines.{port_lines};
+ghost use Rattle.ec_emu.specs.Seen.{ask_of};
+
+use crate::Ports;
+use crate::print::print;
+use crate::seen::Seen;
+use ec_avr::{FaultKind, Machine, PortAnswer, Stepped};
+use ec_io::Sink;
+
+/// How a run ended.
+#[derive(Clone, Copy, Debug, PartialEq, Eq)]
+pub enum EmuEnd {
+    /// At BREAK, with R25:R24 as the result.
+    Ended(i16),
+    /// All steps were made and their lines written, and the machine still runs. A next step was not looked at.
+    StepsOut,
+    /// At a step that cannot be made, with the program counter.
+    Fault(FaultKind, u16),
+    /// The line of the last step was not written whole.
+    WriteFault,
+}
+
+/// What a run did.
+#[derive(Clone, Copy, Debug, PartialEq, Eq)]
+pub struct EmuReport {
+    pub end: EmuEnd,
+    /// How often ports were read, also by a step whose line was not written whole.
+    pub reads: u32,
+    /// How often ports were written, also by such a step.
+    pub writes: u32,
+}
+
+/// Makes a step. The ports are asked where it reads one.
+fn make_step<P: Ports>(machine: &mut Machine, ports: &mut P, seen: &Seen) -> Stepped
+    requires { P.can_ask ports.old }
+    ensures can { P.can_ask ports.new }
+    ensures steps { (byte : ℕ) × ((result ≡ (step byte machine.old).stepped) × ((machine.new ≡ (step byte machine.old).state)
+        × MatchOption (needs_port machine.old) (byte ≡ 0) (λ port. P.gives ports.old (ask_of seen.now port) byte))) }
+    ensures unless_ran { StaysUnlessRan result machine.old machine.new }
+    ensures reads { (byte : ℕ) → port_read (step byte machine.old).stepped ≡ needs_port machine.old }
+    ensures stays { (ask : Ask) (byte : ℕ) → P.gives ports.new ask byte ↔ P.gives ports.old ask byte }
+    ensures beside { (ask : Ask) (byte : ℕ) → P.beside ports.new ask byte ↔ P.beside ports.old ask byte }
+    ensures held { P.held ports.new ≡ P.held ports.old }
+{
+    let answer = match machine.needs_port() {
+        Some(port) => PortAnswer::Byte(ports.ask(seen.ask(port))),
+        None => PortAnswer::Nothing,
+    };
+    machine.step(answer)
+}
+
+fn report(seen: &Seen, end: EmuEnd) -> EmuReport
+    ensures end { result.end ≡ end }
+    ensures reads { result.reads ≡ seen.now.all_reads }
+    ensures writes { result.writes ≡ seen.now.all_writes }
+{
+    EmuReport {
+        end,
+        reads: seen.all_reads,
+        writes: seen.all_writes,
+    }
+}
+
+/// Runs the machine for at most so many steps, and writes a line for each read and each write of a port, after its step.
+/// The ports are asked at each read. It takes no memory.
+pub fn emulate<P: Ports, O: Sink>(
+    machine: &mut Machine,
+    ports: &mut P,
+    steps: u32,
+    sink: &mut O,
+) -> EmuReport
+    requires { P.can_ask ports.old }
+    ensures can { P.can_ask ports.new }
+    ensures run { (trace : List Access) × (IsRun (P.gives ports.old) steps machine.old machine.new result trace
+        × (IsPrinted (O.written sink.old) (O.written sink.new) result.end trace
+        × ((room : ℕ) → O.calm sink.old room → length (port_lines trace) ≤ room
+        → StaysCalm (O.faults sink.old) (O.faults sink.new) (O.calm sink.new) room result.end trace))) }
+    ensures cause { HasCause (O.faults sink.old) (O.faults sink.new) result.end }
+    ensures rest { O.rest sink.new ≡ O.rest sink.old }
+    ensures stays { (ask : Ask) (byte : ℕ) → P.gives ports.new ask byte ↔ P.gives ports.old ask byte }
+    ensures beside { (ask : Ask) (byte : ℕ) → P.beside ports.new ask byte ↔ P.beside ports.old ask byte }
+    ensures held { P.held ports.new ≡ P.held ports.old }
+{
+    let mut seen = Seen::new();
+    'steps: for _made in 0..steps {
+        match make_step(machine, ports, &seen) {
+            Stepped::Ran(access) => {
+                seen.note(access);
+                match print(sink, access) {
+                    Ok(()) => {}
+                    Err(_) => return report(&seen, EmuEnd::WriteFault),
+                }
+            }
+            Stepped::Ended => return report(&seen, EmuEnd::Ended(machine.result())),
+            Stepped::Fault(kind, pc) => return report(&seen, EmuEnd::Fault(kind, pc)),
+        }
+    }
+    report(&seen, EmuEnd::StepsOut)
+}
+
+#[cfg(test)]
+mod tests;
