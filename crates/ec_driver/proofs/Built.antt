@@ -8,7 +8,8 @@ use Rattle.ec_io.specs.declared.store.Failed.{Failed}
 use Rattle.ec_hex.specs.Denotes.{Denotes}
 use Rattle.ec_driver.specs.Code.{code_text}
 use Rattle.ec_driver.specs.Headline.{ReturnsFrom, Builds}
-use Rattle.ec_driver.specs.Outcome.{KeepsAll, Told, Returning, Holds, LeavesFront, WritesFile}
+use Rattle.ec_driver.specs.Builds.{Returning, LeavesFront}
+use Rattle.ec_driver.specs.Shown.{KeepsAll, Told, Holds, WritesFile}
 use Rattle.ec_driver.specs.Source.{IsSource}
 use Rattle.ec_driver.specs.Words.{Words, out_name, source_name}
 

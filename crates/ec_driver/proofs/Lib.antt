@@ -1,9 +1,12 @@
 mod Cuts
 mod Numbers
 mod Sources
-mod Run
+mod CodeRun
 mod Lines
 mod Outs
 mod Inputs
 mod Built
 mod Complete
+mod Refused
+mod RunParts
+mod RunComplete

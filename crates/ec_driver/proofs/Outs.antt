@@ -9,7 +9,7 @@ use Rattle.ec_io.specs.Disk.{Disk, content, created}
 use Rattle.ec_io.specs.Rest.{Rest, written_of, rest_of}
 use Rattle.ec_io.specs.declared.store.Failed.{Failed}
 use Rattle.ec_io.proofs.Sinks.{content-insert, remove-insert}
-use Rattle.ec_driver.specs.Outcome.{Holds, WritesFile}
+use Rattle.ec_driver.specs.Shown.{Holds, WritesFile}
 
 same_some : {X : Type 0} (x y : X) → Some x ≡ Some y → x ≡ y
 same_some x y e = cc

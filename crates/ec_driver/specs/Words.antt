@@ -1,5 +1,6 @@
 -- The words of a command line, without the program's name.
-use Rattle.std.specs.Prelude.{ℕ, ◌-◌, ◌≡◌, ◌&&◌, nat_le, Bool, true, List, [], length, codes, option_map, unwrap_or, slice_get, String, string_bytes, bytes_eq}
+use Rattle.std.specs.Prelude.{ℕ, ◌-◌, ◌≡◌, ◌≤◌, ◌&&◌, nat_le, Bool, true, List, [], length, codes, option_map, unwrap_or, slice_get, String, string_bytes, bytes_eq}
+use Rattle.std.specs.Str.Parse.{IsNumeral, digits_value}
 use Rattle.std.specs.declared.alloc.Global.{Global}
 
 abbrev pub Words : Type 0
@@ -8,6 +9,13 @@ Words = List (String Global)
 -- the bytes of a word, none past the last
 abbrev pub word : Words → ℕ → List ℕ
 word words i = unwrap_or (option_map string_bytes (slice_get words i)) []
+
+-- 1 to 10 decimal digits, leading zeros allowed, which stand for n, at most so great a number
+pub record IsNumber (digits : List ℕ) (most n : ℕ) : Type 0 where
+  pub numeral : IsNumeral 10 digits
+  pub short : length digits ≤ 10
+  pub value : digits_value 10 digits ≡ n
+  pub small : n ≤ most
 
 -- build MAP OUT SRC...
 abbrev pub is_build : Words → Bool
@@ -31,3 +39,16 @@ sources words = length words - 3
 pub record IsOneBuild (words : Words) : Type 0 where
   pub row : is_build words ≡ true
   pub one : sources words ≡ 1
+
+-- run HEX SCRIPT STEPS FILL
+pub record IsRun (words : Words) (steps fill : ℕ) : Type 0 where
+  pub five : length words ≡ 5
+  pub row : bytes_eq (word words 0) (codes "run") ≡ true
+  pub steps_word : IsNumber (word words 3) 4294967295 steps
+  pub fill_word : IsNumber (word words 4) 255 fill
+
+abbrev pub hex_name : Words → List ℕ
+hex_name words = word words 1
+
+abbrev pub script_name : Words → List ℕ
+script_name words = word words 2

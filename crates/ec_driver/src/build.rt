@@ -2,15 +2,16 @@
 ghost use Rattle.std.specs.Prelude.{◌≡◌, ◌≤◌, ◌<◌, ◌∷◌, [], ℕ, List, IfOk, IfErr, OnOk, IsErrOf, true, false, length};
 ghost use Rattle.ec_driver.specs.Code.{code_text};
 ghost use Rattle.ec_driver.specs.Headline.{Builds};
-ghost use Rattle.ec_driver.specs.Outcome.{KeepsAll, Returning, Stops, Told, seen};
+ghost use Rattle.ec_driver.specs.Builds.{Returning, Stops};
+ghost use Rattle.ec_driver.specs.Shown.{KeepsAll, Told, seen};
 ghost use Rattle.ec_driver.specs.Words.{is_build as is_build_row, IsOneBuild, map_name, out_name, source_name, sources};
 ghost use Rattle.ec_driver.specs.declared.stop.Limit.TheVariants.{Sources};
 ghost use Rattle.ec_driver.specs.declared.stop.Stop.{Stop as Stopping};
 
 use crate::code::image_of;
+use crate::compile::compile;
 use crate::input::read;
 use crate::output::write_file;
-use crate::source::number;
 use crate::stop::{Limit, Stop};
 use crate::words::{is_build, word_at};
 use ec_io::Store;
@@ -18,7 +19,11 @@ use ec_space::NoMemory;
 use std::alloc::Global;
 
 /// The number that the one source returns. The map is read, and counts for nothing yet.
-fn compile<S: Store>(alloc: Global, words: &Vec<String>, store: &mut S) -> Result<u16, Stop>
+fn read_and_compile<S: Store>(
+    alloc: Global,
+    words: &Vec<String>,
+    store: &mut S,
+) -> Result<u16, Stop>
     requires { IsOneBuild words.now.items }
     ensures files { KeepsAll (S.disk store.old) (S.disk store.new) }
     ensures small { IfOk result (λ k. k ≤ 32767) }
@@ -36,10 +41,7 @@ fn compile<S: Store>(alloc: Global, words: &Vec<String>, store: &mut S) -> Resul
         Err(stop) => return Err(stop),
     }
     match read(alloc, store, words, 3, Limit::SourceBytes) {
-        Ok(source) => match number(source.as_slice()) {
-            Some(k) => Ok(k),
-            None => Err(Stop::Syntax),
-        },
+        Ok(source) => compile(&source),
         Err(stop) => Err(stop),
     }
 }
@@ -55,7 +57,7 @@ fn build_one<S: Store>(alloc: Global, words: &Vec<String>, store: &mut S) -> Res
     ensures calm { (room : ℕ) → S.calm store.old (map_name words.now.items ∷ source_name words.now.items ∷ []) (out_name words.now.items) room
         → ((k : ℕ) → Told (Returning words.now.items k) (S.disk store.old) → length (code_text k) ≤ room) → S.faults store.new ≡ S.faults store.old }
 {
-    let k = match compile(alloc, words, store) {
+    let k = match read_and_compile(alloc, words, store) {
         Ok(k) => k,
         Err(stop) => return Err(stop),
     };

@@ -1,6 +1,6 @@
 //! Reading the files that the words name.
 ghost use Rattle.std.specs.Prelude.{◌≡◌, ◌≤◌, ◌<◌, ℕ, List, IfOk, IfErr, Contains, length};
-ghost use Rattle.ec_driver.specs.Outcome.{KeepsAll, Reads, StopsReading, seen};
+ghost use Rattle.ec_driver.specs.Shown.{KeepsAll, Reads, StopsReading, seen};
 ghost use Rattle.ec_driver.specs.Words.{word};
 
 use crate::stop::{Limit, Stop};

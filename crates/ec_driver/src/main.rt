@@ -3,9 +3,13 @@
 
 mod build;
 mod code;
+mod compile;
 mod input;
+mod last;
 mod line;
+mod load;
 mod output;
+mod run;
 mod source;
 mod stop;
 #[cfg(test)]
@@ -13,9 +17,11 @@ mod tests;
 mod top;
 mod words;
 
+use crate::last::LastWritten;
 use crate::line::tell;
 use crate::stop::{Stop, status};
 use crate::top::tool;
+use ec_emu::{Ask, Hook, Hooked};
 use ec_io::{RealSink, RealStore};
 use std::process::ExitCode;
 use std::{env, io};
@@ -33,9 +39,19 @@ fn main(rt: HostRuntime) -> ExitCode {
     let mut store = RealStore::new(&rt);
     let mut out = RealSink::new(rt.stdout());
     let mut err = RealSink::new(rt.stderr());
+    let mut hooks = Hooked {
+        hook: Hook::new(|ask: Ask| ask.last, LastWritten),
+    };
     let stop = match given_words(&rt) {
         Ok(words) => {
-            return ExitCode::from(tool(rt.alloc(), &words, &mut store, &mut out, &mut err));
+            return ExitCode::from(tool(
+                rt.alloc(),
+                &words,
+                &mut store,
+                &mut out,
+                &mut err,
+                &mut hooks,
+            ));
         }
         Err(e) if e.kind() == io::ErrorKind::OutOfMemory => Stop::NoMemory,
         // A word is not UTF-8, so the words are no command.

@@ -6,7 +6,7 @@ ghost use Rattle.ec_io.specs.Rest.{written_of, rest_of};
 ghost use Rattle.ec_io.specs.Written.{WritesAll};
 ghost use Rattle.ec_hex.specs.Denotes.{Denotes};
 ghost use Rattle.ec_hex.specs.Text.{image_text};
-ghost use Rattle.ec_driver.specs.Outcome.{WritesFile};
+ghost use Rattle.ec_driver.specs.Shown.{WritesFile};
 
 use ec_avr::Image;
 use ec_hex::write_hex;

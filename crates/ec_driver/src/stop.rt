@@ -2,6 +2,8 @@
 ghost use Rattle.std.specs.Prelude.{◌≡◌};
 ghost use Rattle.ec_driver.specs.Stops.{number_of, most_of, status_of};
 
+use ec_avr::FaultKind;
+
 /// A greatest number of something that is taken.
 #[derive(Clone, Copy, Debug, PartialEq, Eq)]
 pub enum Limit {
@@ -11,17 +13,29 @@ pub enum Limit {
     SourceBytes,
     /// The bytes of a map.
     MapBytes,
+    /// The bytes of a HEX file.
+    HexBytes,
+    /// The bytes of a script.
+    ScriptBytes,
+    /// The tokens of a unit before its end.
+    Tokens,
+    /// The constructs that are open at once in a unit, and the height of its nodes.
+    Nesting,
 }
 
 impl Limit {
     /// The number by which the limit is told.
-    pub fn number(self) -> u8
+    pub fn number(self) -> u32
         ensures { result ≡ number_of self }
     {
         match self {
             Limit::Sources => 1,
             Limit::SourceBytes => 2,
             Limit::MapBytes => 3,
+            Limit::HexBytes => 4,
+            Limit::ScriptBytes => 5,
+            Limit::Tokens => 6,
+            Limit::Nesting => 7,
         }
     }
 
@@ -33,11 +47,15 @@ impl Limit {
             Limit::Sources => 1,
             Limit::SourceBytes => 65_536,
             Limit::MapBytes => 16_384,
+            Limit::HexBytes => 1_048_576,
+            Limit::ScriptBytes => 65_536,
+            Limit::Tokens => 65_535,
+            Limit::Nesting => 64,
         }
     }
 }
 
-/// Why a command stops.
+/// Why a command stops. A token is told by its index in its unit, a byte by its offset, a line counted from 1.
 #[derive(Clone, Copy, Debug, PartialEq, Eq)]
 pub enum Stop {
     /// The words are no command.
@@ -46,12 +64,38 @@ pub enum Stop {
     CannotRead(usize),
     /// The output was not created or not wholly written.
     CannotWrite,
-    /// The source has not the form of a program.
-    Syntax,
+    /// A byte of the source begins nothing.
+    BadByte(u32),
+    /// A number of the source is no constant.
+    BadNumber(u32),
+    /// A comment or a character constant of the source has no end.
+    Unclosed(u32),
+    /// A line of the source begins with `#` and is no directive.
+    BadDirective(u32),
+    /// The source's tokens are no program.
+    Syntax(u32),
+    /// The source is a program in a form that is not compiled yet.
+    NotCompiled,
     /// A limit is passed.
     TooMany(Limit),
     /// Memory ran out.
     NoMemory,
+    /// A line of the HEX file is no record.
+    BadRecord(u32),
+    /// A record of the HEX file has a wrong sum.
+    BadSum(u32),
+    /// A record of the HEX file has a byte past the flash.
+    OutOfFlash(u32),
+    /// A record of the HEX file has a byte at an address that has one already.
+    Twice(u32),
+    /// The HEX file has no end record.
+    NoEnd,
+    /// A line of the script breaks a rule, by its number.
+    ScriptLine(u32, u8),
+    /// The machine stopped at this program counter, in words.
+    Fault(FaultKind, u16),
+    /// The machine made all its steps and did not end.
+    StepsOut,
 }
 
 /// The status with which the program ends.
@@ -62,8 +106,14 @@ pub fn status(stop: Stop) -> u8
         Stop::Usage => 2,
         Stop::CannotRead(_) => 3,
         Stop::CannotWrite => 4,
-        Stop::Syntax => 6,
+        Stop::BadByte(_) | Stop::BadNumber(_) | Stop::Unclosed(_) | Stop::BadDirective(_) => 5,
+        Stop::Syntax(_) => 6,
+        Stop::NotCompiled => 7,
         Stop::TooMany(_) => 10,
         Stop::NoMemory => 11,
+        Stop::BadRecord(_) | Stop::BadSum(_) | Stop::OutOfFlash(_) | Stop::Twice(_) => 12,
+        Stop::NoEnd | Stop::ScriptLine(_, _) => 12,
+        Stop::Fault(_, _) => 13,
+        Stop::StepsOut => 14,
     }
 }

@@ -1,6 +1,8 @@
 //! What the contracts leave open: that memory suffices, the real files, and the texts byte by byte.
 
+use crate::last::LastWritten;
 use crate::top::tool;
+use ec_emu::{Ask, Hook, Hooked};
 use ec_io::{MemFile, MemSink, MemStore, RealSink, RealStore};
 use ec_space::Seq;
 use std::alloc::{AllocError, Global};
@@ -21,13 +23,15 @@ fn words(alloc: Global, texts: &[&str]) -> Result<Vec<String>, AllocError> {
     Ok(words)
 }
 
-// A store with the map and this source, which creates `out`.
-fn store(alloc: Global, source: &[u8], room: u32, fail: Seq<u64>) -> Result<MemStore, Fail> {
+// A store with these files, which creates `out`.
+fn store_of(
+    alloc: Global,
+    given: &[(&[u8], &[u8])],
+    room: u32,
+    fail: Seq<u64>,
+) -> Result<MemStore, Fail> {
     let mut files = Seq::new(alloc);
-    for (name, bytes) in [
-        (b"m".as_slice(), b"core = \"small\"\n".as_slice()),
-        (b"a.c", source),
-    ] {
+    for (name, bytes) in given {
         files.push(MemFile {
             name: seq(alloc, name)?,
             bytes: seq(alloc, bytes)?,
@@ -36,17 +40,41 @@ fn store(alloc: Global, source: &[u8], room: u32, fail: Seq<u64>) -> Result<MemS
     Ok(MemStore::new(alloc, files, seq(alloc, b"out")?, room, fail)?)
 }
 
+// A store with the map and this source.
+fn store(alloc: Global, source: &[u8], room: u32, fail: Seq<u64>) -> Result<MemStore, Fail> {
+    store_of(
+        alloc,
+        &[(b"m", b"core = \"small\"\n"), (b"a.c", source)],
+        room,
+        fail,
+    )
+}
+
 const ROOM: u32 = 4_194_304;
 
 fn sink(alloc: Global) -> Result<MemSink, Fail> {
     Ok(MemSink::new(alloc, ROOM, Seq::new(alloc))?)
 }
 
-// The words, over memory: the status and what `err` received.
+// The words, over memory: the status. Hooked ports answer the byte that was written last.
+fn ask(
+    alloc: Global,
+    store: &mut MemStore,
+    out: &mut MemSink,
+    err: &mut MemSink,
+    texts: &[&str],
+) -> Result<u8, Fail> {
+    let mut hooks = Hooked {
+        hook: Hook::new(|ask: Ask| ask.last, LastWritten),
+    };
+    Ok(tool(alloc, &words(alloc, texts)?, store, out, err, &mut hooks))
+}
+
+// The same: the status and what `err` received.
 fn run(alloc: Global, store: &mut MemStore, texts: &[&str]) -> Result<(u8, MemSink), Fail> {
     let mut out = sink(alloc)?;
     let mut err = sink(alloc)?;
-    let status = tool(alloc, &words(alloc, texts)?, store, &mut out, &mut err);
+    let status = ask(alloc, store, &mut out, &mut err, texts)?;
     Ok((status, err))
 }
 
@@ -79,9 +107,20 @@ fn writes_the_text(rt: HostRuntime) -> Result<(), Fail> {
 fn tells_what_stops_it(rt: HostRuntime) -> Result<(), Fail> {
     let alloc = rt.alloc();
     let good = "int main(void){return 7;}\n";
-    let cases: [(&[&str], &str, u8, &str); 9] = [
+    let cases: [(&[&str], &str, u8, &str); 15] = [
         (&[], good, 2, "usage\n"),
-        (&["run", "m", "a.c", "1", "1"], good, 2, "usage\n"),
+        (&["run", "m", "a.c", "1"], good, 2, "usage\n"),
+        (&["run", "m", "a.c", "1", "256"], good, 2, "usage\n"),
+        (&["run", "m", "a.c", "+1", "1"], good, 2, "usage\n"),
+        (&["run", "m", "a.c", "4294967296", "1"], good, 2, "usage\n"),
+        (&["run", "m", "a.c", "00000000001", "1"], good, 2, "usage\n"),
+        (
+            &["run", "n", "a.c", "4294967295", "0000000255"],
+            good,
+            3,
+            "cannot read n\n",
+        ),
+        (&["run", "m", "n", "1", "1"], good, 3, "cannot read n\n"),
         (&["build", "m", "out"], good, 2, "usage\n"),
         (&["build", "n", "out", "a.c"], good, 3, "cannot read n\n"),
         (&["build", "m", "out", "b.c"], good, 3, "cannot read b.c\n"),
@@ -162,11 +201,182 @@ fn reads_and_writes_files(rt: HostRuntime) -> Result<(), Fail> {
     let mut store = RealStore::new(&rt);
     let mut out = RealSink::new(rt.stdout());
     let mut err = RealSink::new(rt.stderr());
+    let mut hooks = Hooked {
+        hook: Hook::new(|ask: Ask| ask.last, LastWritten),
+    };
     let built = words(alloc, &["build", "m", "out", "a.c"])?;
-    assert_eq!(rt; tool(alloc, &built, &mut store, &mut out, &mut err), 0);
+    assert_eq!(rt;
+        tool(alloc, &built, &mut store, &mut out, &mut err, &mut hooks),
+        0
+    );
     let text = fs::read_to_string(&rt, "out")?;
     assert_eq!(rt; text.as_str(), ":0600000080E090E09895FD\n:00000001FF\n");
     let absent = words(alloc, &["build", "m", "out", "b.c"])?;
-    assert_eq!(rt; tool(alloc, &absent, &mut store, &mut out, &mut err), 3);
+    assert_eq!(rt;
+        tool(alloc, &absent, &mut store, &mut out, &mut err, &mut hooks),
+        3
+    );
+    Ok(())
+}
+
+// The status of a run, and what `out` and `err` received.
+fn run_of(
+    alloc: Global,
+    hex: &str,
+    script: &str,
+    steps: &str,
+    room: u32,
+) -> Result<(u8, MemSink, MemSink), Fail> {
+    let files: [(&[u8], &[u8]); 2] = [(b"h", hex.as_bytes()), (b"s", script.as_bytes())];
+    let mut store = store_of(alloc, &files, 0, Seq::new(alloc))?;
+    let mut out = MemSink::new(alloc, room, Seq::new(alloc))?;
+    let mut err = sink(alloc)?;
+    let status = ask(
+        alloc,
+        &mut store,
+        &mut out,
+        &mut err,
+        &["run", "h", "s", steps, "165"],
+    )?;
+    Ok((status, out, err))
+}
+
+// IN R24 from the port 0x25, LDI R25 with 0, BREAK; and BREAK alone.
+const IN: &str = ":080000008091250090E0989525\n:00000001FF\n";
+
+const BREAK: &str = ":020000009895D1\n:00000001FF\n";
+
+#[test]
+fn runs_images(rt: HostRuntime) -> Result<(), Fail> {
+    let alloc = rt.alloc();
+    let cases = [
+        (IN, "25: 2A", "10", 0, "in 25 2A\nresult 42\n", ""),
+        (IN, "25: 2A", "2", 14, "in 25 2A\n", "steps out\n"),
+        (IN, "25: 2A\r\n", "3", 0, "in 25 2A\nresult 42\n", ""),
+        (IN, "25: hook", "10", 0, "in 25 00\nresult 0\n", ""),
+        (BREAK, "", "1", 0, "result -23131\n", ""),
+        (BREAK, "# none", "0", 14, "", "steps out\n"),
+        (BREAK, "5F: 00", "1", 12, "", "script line 1: rule 2\n"),
+        (BREAK, "\n25: 0", "1", 12, "", "script line 2: rule 1\n"),
+        (
+            BREAK,
+            "25: 00\n25: 00",
+            "1",
+            12,
+            "",
+            "script line 2: rule 3\n",
+        ),
+        (
+            ":020000009895d1\r\n:00000001ff",
+            "",
+            "1",
+            0,
+            "result -23131\n",
+            "",
+        ),
+        (
+            ":020000009895D2\n:00000001FF\n",
+            "5F: 00",
+            "1",
+            12,
+            "",
+            "hex line 1: bad sum\n",
+        ),
+        (":020000009895D1\n", "", "1", 12, "", "hex: no end\n"),
+        (
+            ":01800000007F\n:00000001FF\n",
+            "",
+            "1",
+            12,
+            "",
+            "hex line 1: out of flash\n",
+        ),
+        (
+            ":0100000000FF\n:0100000000FF\n:00000001FF\n",
+            "",
+            "1",
+            12,
+            "",
+            "hex line 2: twice\n",
+        ),
+        ("\n:0\n", "", "1", 12, "", "hex line 2: bad record\n"),
+        (
+            ":00000001FF\n",
+            "",
+            "1",
+            13,
+            "",
+            "fault unsupported at 0000\n",
+        ),
+    ];
+    for (hex, script, steps, want, printed, line) in cases {
+        let (status, out, err) = run_of(alloc, hex, script, steps, ROOM)?;
+        assert_eq!(rt; status, want, "at {hex} {script}");
+        assert_eq!(rt; out.text().as_slice(), printed.as_bytes());
+        assert_eq!(rt; err.text().as_slice(), line.as_bytes());
+    }
+    Ok(())
+}
+
+// What `out` has no room for is status 4, and what it received is a front of what is printed.
+#[test]
+fn prints_a_front(rt: HostRuntime) -> Result<(), Fail> {
+    let alloc = rt.alloc();
+    for (room, front) in [
+        (0, ""),
+        (5, "in 25"),
+        (9, "in 25 2A\n"),
+        (18, "in 25 2A\nresult 42"),
+    ] {
+        let (status, out, err) = run_of(alloc, IN, "25: 2A", "10", room)?;
+        assert_eq!(rt; status, 4);
+        assert_eq!(rt; out.text().as_slice(), front.as_bytes());
+        assert_eq!(rt; err.text().as_slice(), b"cannot write\n".as_slice());
+    }
+    Ok(())
+}
+
+// `examples/average.c` as avr-gcc compiles it.
+const AVERAGE: &str = "\
+:100000000C9434000C9446000C9446000C9446006A\r\n\
+:100010000C9446000C9446000C9446000C94460048\r\n\
+:100020000C9446000C9446000C9446000C94460038\r\n\
+:100030000C9446000C9446000C9446000C94460028\r\n\
+:100040000C9446000C9446000C9446000C94460018\r\n\
+:100050000C9446000C9446000C9446000C94460008\r\n\
+:100060000C9446000C94460011241FBECFEFD8E03C\r\n\
+:10007000DEBFCDBF21E0A0E0B1E001C01D92A43001\r\n\
+:10008000B207E1F70E944A000C9479000C9400003A\r\n\
+:100090009895089580E880937A0020E030E0809180\r\n\
+:1000A0007900F901E370FF27E050FF4F8083409112\r\n\
+:1000B00001018091020190E0840F911D40910301A4\r\n\
+:1000C000840F911D40910001840F911D9695879595\r\n\
+:1000D0009695879585B92F5F3F4F28303105F9F602\r\n\
+:1000E00010927A0088E090E00E94480080E090E062\r\n\
+:0600F0000895F894FFCF13\r\n\
+:00000001FF\r\n\
+";
+
+// Worked out by hand from the source: each line is the average of the last four samples.
+const AVERAGES: &str = "\
+out 7A 80\n\
+in 79 10\nout 25 04\n\
+in 79 20\nout 25 0C\n\
+in 79 30\nout 25 18\n\
+in 79 40\nout 25 28\n\
+in 79 FF\nout 25 63\n\
+in 79 00\nout 25 5B\n\
+in 79 00\nout 25 4F\n\
+in 79 00\nout 25 3F\n\
+out 7A 00\nresult 8\n";
+
+#[test]
+fn runs_an_image_of_another_compiler(rt: HostRuntime) -> Result<(), Fail> {
+    let alloc = rt.alloc();
+    let script = "79: 10 20 30 40 FF 00 00 00\n";
+    let (status, out, err) = run_of(alloc, AVERAGE, script, "1000", ROOM)?;
+    assert_eq!(rt; status, 0);
+    assert_eq!(rt; out.text().as_slice(), AVERAGES.as_bytes());
+    assert!(rt; err.text().is_empty());
     Ok(())
 }

@@ -16,7 +16,7 @@ returns-in-Ok-write_file-clause-built g c =
 pub returns-in-Ok-write_file-clause-calm : goal.returns-in-Ok-write_file-clause-calm
 returns-in-Ok-write_file-clause-calm g c = λ room calm fits.
     let read = c.in-Ok.ensures.calm room calm in
-    c.write_file.ensures.calm _ room (subst (λ made. g.S.Store.calm c.compile.new.store (map_name c.args.words.now.items ∷ source_name c.args.words.now.items ∷ []) made room) (sym c.word_at.ensures) read.1)
+    c.write_file.ensures.calm _ room (subst (λ made. g.S.Store.calm c.read_and_compile.new.store (map_name c.args.words.now.items ∷ source_name c.args.words.now.items ∷ []) made room) (sym c.word_at.ensures) read.1)
     (rw c.in-Ok-image_of.ensures.text (fits c.in-Ok.k c.in-Ok.ensures.found)) ∙ read.0
 
 pub returns-clause-stopped : goal.returns-clause-stopped
@@ -29,5 +29,5 @@ returns-clause-stopped g c = record {
 pub returns-clause-calm : goal.returns-clause-calm
 returns-clause-calm g c = λ room calm fits.
     let read = c.in-Ok.ensures.calm room calm in
-    c.write_file.ensures.calm _ room (subst (λ made. g.S.Store.calm c.compile.new.store (map_name c.args.words.now.items ∷ source_name c.args.words.now.items ∷ []) made room) (sym c.word_at.ensures) read.1)
+    c.write_file.ensures.calm _ room (subst (λ made. g.S.Store.calm c.read_and_compile.new.store (map_name c.args.words.now.items ∷ source_name c.args.words.now.items ∷ []) made room) (sym c.word_at.ensures) read.1)
     (rw c.in-Ok-image_of.ensures.text (fits c.in-Ok.k c.in-Ok.ensures.found)) ∙ read.0

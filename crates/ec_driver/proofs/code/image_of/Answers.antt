@@ -2,7 +2,7 @@ use Rattle.std.proofs.Common.{◌≡◌, ◌∙◌, ℕ, Bool, List, ap, refl}
 use Rattle.ec_avr.specs.Flash.{flash_size}
 use Rattle.ec_hex.specs.Text.{hex_text}
 use Rattle.ec_driver.specs.Code.{code_bytes, code_flags}
-use Rattle.ec_driver.proofs.Run.{code_returns}
+use Rattle.ec_driver.proofs.CodeRun.{code_returns}
 use Rattle.ec_driver.proofs.code.image_of.Goals as goal
 
 same_text : (bytes other : List ℕ) (written flags : List Bool) → bytes ≡ other → written ≡ flags → hex_text bytes written ≡ hex_text other flags

@@ -6,5 +6,17 @@ returns-in-CannotRead-clause-told g c = rw c.in-CannotRead.is (rw (c.as_bytes.en
 pub returns-in-CannotWrite-clause-told : goal.returns-in-CannotWrite-clause-told
 returns-in-CannotWrite-clause-told g c = rw c.in-CannotWrite.is c.write_line-in-CannotWrite.ensures.told
 
-pub returns-in-Syntax-clause-told : goal.returns-in-Syntax-clause-told
-returns-in-Syntax-clause-told g c = rw c.in-Syntax.is (rw (c.as_bytes-in-Syntax.ensures.value, c.word_at-in-Syntax.ensures) at c.write_line-in-Syntax.ensures.told)
+pub returns-in-BadByte-clause-told : goal.returns-in-BadByte-clause-told
+returns-in-BadByte-clause-told g c = rw c.in-BadByte.is (rw c.word_at-in-BadByte.ensures at c.write_place.ensures.told)
+
+pub returns-in-Unclosed-clause-told : goal.returns-in-Unclosed-clause-told
+returns-in-Unclosed-clause-told g c = rw c.in-Unclosed.is (rw c.word_at-in-Unclosed.ensures at c.write_place-in-Unclosed.ensures.told)
+
+pub returns-in-BadDirective-clause-told : goal.returns-in-BadDirective-clause-told
+returns-in-BadDirective-clause-told g c = rw c.in-BadDirective.is (rw c.word_at-in-BadDirective.ensures at c.write_place-in-BadDirective.ensures.told)
+
+pub returns-in-NoEnd-clause-told : goal.returns-in-NoEnd-clause-told
+returns-in-NoEnd-clause-told g c = rw c.in-NoEnd.is c.write_line-in-NoEnd.ensures.told
+
+pub returns-in-ScriptLine-clause-told : goal.returns-in-ScriptLine-clause-told
+returns-in-ScriptLine-clause-told g c = rw c.in-ScriptLine.is c.write_numbers-in-ScriptLine.ensures.told
