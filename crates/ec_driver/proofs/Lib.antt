@@ -1,6 +1,5 @@
-mod Cuts
-mod Numbers
-mod Sources
+mod Returning
+mod Refusing
 mod CodeRun
 mod Lines
 mod Outs

@@ -1,24 +1,30 @@
--- The sources that return one number.
-use Rattle.std.specs.Prelude.{ℕ, ◌<◌, ◌≤◌, ◌≡◌, ◌⊎◌, List, [], ◌∷◌, ◌++◌, codes, length, slice_index}
-use Rattle.std.specs.Fmt.{decimal}
+-- The programs that return one number.
+use Rattle.std.specs.Prelude.{ℕ, ◌≤◌, ◌≡◌, true, List, [], ◌∷◌, ◌++◌, map, codes}
+use Rattle.ec_grammar.specs.declared.token.WordKind.TheVariants.{Int, Void, Return}
+use Rattle.ec_grammar.specs.declared.token.PunctKind.TheVariants.{LeftParenthesis, RightParenthesis, LeftBrace, RightBrace, Semicolon}
+use Rattle.ec_grammar.specs.Tokens.{Lexeme, Placed, word, name, punct, whole, end}
+use Rattle.ec_lex.specs.Text.{Tokens}
 
-abbrev pub before_number : List ℕ
-before_number = codes "int main(void){return "
+-- the tokens `int main(void){return`
+abbrev pub before_number : List Lexeme
+before_number = word Int ∷ name (codes "main") ∷ punct LeftParenthesis ∷ word Void ∷ punct RightParenthesis ∷ punct LeftBrace ∷ word Return ∷ []
 
-abbrev pub after_number : List ℕ
-after_number = codes ";}"
+-- the tokens `;}` and the end
+abbrev pub after_number : List Lexeme
+after_number = punct Semicolon ∷ punct RightBrace ∷ end ∷ []
 
--- the text of a program that returns k, its number in decimal without a leading zero
-abbrev pub text_of : ℕ → List ℕ
-text_of k = before_number ++ (decimal k ++ after_number)
+-- the tokens of a program that returns k, which has type int
+abbrev pub returning : ℕ → List Lexeme
+returning k = before_number ++ whole k true 2 ∷ after_number
 
--- the first character is a digit, and 0 stands alone
-pub record BeginsNumber (digits : List ℕ) : Type 0 where
-  pub some : 0 < length digits
-  pub digit : (48 ≤ slice_index digits 0) × (slice_index digits 0 ≤ 57)
-  pub zero_alone : slice_index digits 0 ≡ 48 → length digits ≡ 1
+abbrev pub lexemes : List Placed → List Lexeme
+lexemes list = map (λ token. token.lexeme) list
 
--- the text of a number from 0 to 32,767, which may end with one LF
-pub record IsSource (bytes : List ℕ) (k : ℕ) : Type 0 where
+-- these are the tokens of a program that returns k
+pub record ReturnsNumber (list : List Placed) (k : ℕ) : Type 0 where
   pub small : k ≤ 32767
-  pub text : (bytes ≡ text_of k) ⊎ (bytes ≡ text_of k ++ 10 ∷ [])
+  pub tokens : lexemes list ≡ returning k
+
+-- so are those of a text
+abbrev pub IsSource : List ℕ → ℕ → Type 0
+IsSource bytes k = (list : List Placed) × (Tokens bytes list × ReturnsNumber list k)

@@ -41,7 +41,7 @@ fn read_and_compile<S: Store>(
         Err(stop) => return Err(stop),
     }
     match read(alloc, store, words, 3, Limit::SourceBytes) {
-        Ok(source) => compile(&source),
+        Ok(source) => compile(alloc, &source),
         Err(stop) => Err(stop),
     }
 }

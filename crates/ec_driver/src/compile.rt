@@ -1,20 +1,48 @@
 //! From the text of a source to the number that it returns.
-ghost use Rattle.std.specs.Prelude.{◌≤◌, IfOk, IfErr};
-ghost use Rattle.ec_driver.specs.Refusals.{StopsCompiling};
+ghost use Rattle.std.specs.Prelude.{◌≡◌, ◌<◌, ◌≤◌, ◌^◌, length, IfOk, IfErr};
+ghost use Rattle.ec_driver.specs.Refusals.{lexing_stop, StopsCompiling};
 ghost use Rattle.ec_driver.specs.Source.{IsSource};
 
 use crate::source::number;
-use crate::stop::Stop;
+use crate::stop::{Limit, Stop};
+use ec_lex::{LexStop, lex};
+use ec_parse::{ParseStop, parse};
 use ec_space::Seq;
+use std::alloc::Global;
+
+/// The stop of a text without tokens.
+fn stop_of_text(stop: LexStop) -> Stop
+    ensures { result ≡ lexing_stop stop }
+{
+    match stop {
+        LexStop::BadByte(at) => Stop::BadByte(at),
+        LexStop::BadNumber(at) => Stop::BadNumber(at),
+        LexStop::Unclosed(at) => Stop::Unclosed(at),
+        LexStop::BadDirective(at) => Stop::BadDirective(at),
+        LexStop::TooManyTokens => Stop::TooMany(Limit::Tokens),
+        LexStop::NoMemory => Stop::NoMemory,
+    }
+}
 
 /// The number that the program of a source returns.
-pub fn compile(bytes: &Seq<u8>) -> Result<u16, Stop>
+pub fn compile(alloc: Global, bytes: &Seq<u8>) -> Result<u16, Stop>
+    requires { length bytes.now.items < 2 ^ 32 }
     ensures found { IfOk result (IsSource bytes.now.items) }
     ensures small { IfOk result (λ k. k ≤ 32767) }
     ensures stopped { IfErr result (StopsCompiling bytes.now.items) }
 {
-    match number(bytes.as_slice()) {
+    let tokens = match lex(alloc, bytes) {
+        Ok(tokens) => tokens,
+        Err(stop) => return Err(stop_of_text(stop)),
+    };
+    match parse(alloc, &tokens) {
+        Ok(_) => {}
+        Err(ParseStop::Syntax(k)) => return Err(Stop::Syntax(k)),
+        Err(ParseStop::TooDeep(_)) => return Err(Stop::TooMany(Limit::Nesting)),
+        Err(ParseStop::NoMemory) => return Err(Stop::NoMemory),
+    }
+    match number(tokens.as_slice()) {
         Some(k) => Ok(k),
-        None => Err(Stop::Syntax(0)),
+        None => Err(Stop::NotCompiled),
     }
 }

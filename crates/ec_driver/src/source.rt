@@ -1,77 +1,112 @@
-//! The number that a source returns.
-ghost use Rattle.std.specs.Prelude.{◌≡◌, ◌≤◌, ◌++◌, ℕ, List, IfSome, IfNone, IsTrue, IsFalse};
-ghost use Rattle.std.specs.Fmt.{decimal};
-ghost use Rattle.ec_driver.specs.Source.{IsSource, BeginsNumber, text_of};
+//! The number that a program returns.
+ghost use Rattle.std.specs.Prelude.{◌≡◌, ◌≤◌, ◌++◌, ◌∷◌, [], ℕ, List, IfSome, IfNone, IsTrue, IsFalse, codes, true, false};
+ghost use Rattle.ec_grammar.specs.Tokens.{Lexeme, view_token, view_tokens, word, punct, whole, name, end};
+ghost use Rattle.ec_driver.specs.Source.{ReturnsNumber, lexemes, before_number, after_number};
 
-use std::str;
+use ec_lex::{PunctKind, Token, TokenKind, WordKind};
+use ec_space::Name;
 
-/// What follows a front of a text.
-fn without_front<'a>(text: &'a [u8], front: &[u8]) -> Option<&'a [u8]>
-    ensures found { IfSome result (λ rest. text.now ≡ front.now ++ rest.now) }
-    ensures none { IfNone result ((rest : List ℕ) → ¬ (text.now ≡ front.now ++ rest)) }
+/// What follows a word.
+fn after_word(tokens: &[Token], which: WordKind) -> Option<&[Token]>
+    ensures found { IfSome result (λ rest. lexemes (view_tokens tokens.now) ≡ word which ∷ lexemes (view_tokens rest.now)) }
+    ensures none { IfNone result ((rest : List Lexeme) → ¬ (lexemes (view_tokens tokens.now) ≡ word which ∷ rest)) }
 {
-    text.strip_prefix(front)
-}
-
-/// What stands before an end of a text.
-fn without_end<'a>(text: &'a [u8], end: &[u8]) -> Option<&'a [u8]>
-    ensures found { IfSome result (λ rest. text.now ≡ rest.now ++ end.now) }
-    ensures none { IfNone result ((rest : List ℕ) → ¬ (text.now ≡ rest ++ end.now)) }
-{
-    text.strip_suffix(end)
-}
-
-/// Whether digits begin as a number without leading zeros does.
-fn begins_number(digits: &[u8]) -> bool
-    ensures yes { IsTrue result → BeginsNumber digits.now }
-    ensures no { IsFalse result → ¬ BeginsNumber digits.now }
-{
-    match digits.first() {
-        Some(b'0') => digits.len() == 1,
-        Some(first) => first.is_ascii_digit(),
-        None => false,
-    }
-}
-
-/// The number from 0 to 32,767 that decimal digits without a leading zero stand for.
-fn value(digits: &[u8]) -> Option<u16>
-    ensures found { IfSome result (λ k. (k ≤ 32767) × (digits.now ≡ decimal k)) }
-    ensures none { IfNone result ((k : ℕ) → k ≤ 32767 → ¬ (digits.now ≡ decimal k)) }
-{
-    if !begins_number(digits) {
-        return None;
-    }
-    let text = match str::from_utf8(digits) {
-        Ok(text) => text,
-        Err(_) => return None,
-    };
-    match text.parse::<u16>() {
-        Ok(k) => { if k <= 32_767 { Some(k) } else { None } }
-        Err(_) => None,
-    }
-}
-
-/// The number that a text without a line's end returns.
-fn returned(text: &[u8]) -> Option<u16>
-    ensures found { IfSome result (λ k. (k ≤ 32767) × (text.now ≡ text_of k)) }
-    ensures none { IfNone result ((k : ℕ) → k ≤ 32767 → ¬ (text.now ≡ text_of k)) }
-{
-    match without_front(text, b"int main(void){return ") {
-        Some(rest) => match without_end(rest, b";}") {
-            Some(digits) => value(digits),
-            None => None,
+    match tokens {
+        [first, rest @ ..] => match &first.kind {
+            TokenKind::Word(found) if *found == which => Some(rest),
+            _ => None,
         },
-        None => None,
+        [] => None,
     }
 }
 
-/// The number that a source returns, where it has the form.
-pub fn number(source: &[u8]) -> Option<u16>
-    ensures found { IfSome result (IsSource source.now) }
-    ensures none { IfNone result ((k : ℕ) → ¬ (IsSource source.now k)) }
+/// What follows a punctuator.
+fn after_punct(tokens: &[Token], which: PunctKind) -> Option<&[Token]>
+    ensures found { IfSome result (λ rest. lexemes (view_tokens tokens.now) ≡ punct which ∷ lexemes (view_tokens rest.now)) }
+    ensures none { IfNone result ((rest : List Lexeme) → ¬ (lexemes (view_tokens tokens.now) ≡ punct which ∷ rest)) }
 {
-    match without_end(source, b"\n") {
-        Some(text) => returned(text),
-        None => returned(source),
+    match tokens {
+        [first, rest @ ..] => match &first.kind {
+            TokenKind::Punct(found) if *found == which => Some(rest),
+            _ => None,
+        },
+        [] => None,
+    }
+}
+
+/// Whether a name is `main`.
+fn is_main(name: &Name) -> bool
+    ensures yes { IsTrue result → name.now.items ≡ codes "main" }
+    ensures no { IsFalse result → ¬ (name.now.items ≡ codes "main") }
+{
+    name.as_slice() == b"main".as_slice()
+}
+
+/// What follows the name `main`.
+fn after_main(tokens: &[Token]) -> Option<&[Token]>
+    ensures found { IfSome result (λ rest. lexemes (view_tokens tokens.now) ≡ name (codes "main") ∷ lexemes (view_tokens rest.now)) }
+    ensures none { IfNone result ((rest : List Lexeme) → ¬ (lexemes (view_tokens tokens.now) ≡ name (codes "main") ∷ rest)) }
+{
+    match tokens {
+        [first, rest @ ..] => match &first.kind {
+            TokenKind::Name(found) if is_main(found) => Some(rest),
+            _ => None,
+        },
+        [] => None,
+    }
+}
+
+/// What follows `int main(void){return`.
+fn after_front(tokens: &[Token]) -> Option<&[Token]>
+    ensures found { IfSome result (λ rest. lexemes (view_tokens tokens.now) ≡ before_number ++ lexemes (view_tokens rest.now)) }
+    ensures none { IfNone result ((rest : List Lexeme) → ¬ (lexemes (view_tokens tokens.now) ≡ before_number ++ rest)) }
+{
+    let name = after_word(tokens, WordKind::Int)?;
+    let left = after_main(name)?;
+    let void = after_punct(left, PunctKind::LeftParenthesis)?;
+    let right = after_word(void, WordKind::Void)?;
+    let brace = after_punct(right, PunctKind::RightParenthesis)?;
+    let word = after_punct(brace, PunctKind::LeftBrace)?;
+    after_word(word, WordKind::Return)
+}
+
+/// Whether these are `;}` and the end.
+fn is_back(tokens: &[Token]) -> bool
+    ensures yes { IsTrue result → lexemes (view_tokens tokens.now) ≡ after_number }
+    ensures no { IsFalse result → ¬ (lexemes (view_tokens tokens.now) ≡ after_number) }
+{
+    let brace = match after_punct(tokens, PunctKind::Semicolon) {
+        Some(brace) => brace,
+        None => return false,
+    };
+    match after_punct(brace, PunctKind::RightBrace) {
+        Some([end]) => end.kind == TokenKind::End,
+        _ => false,
+    }
+}
+
+/// A constant of type int from 0 to 32,767.
+fn constant(token: &Token) -> Option<u16>
+    ensures found { IfSome result (λ k. (k ≤ 32767) × ((view_token token.now).lexeme ≡ whole k true 2)) }
+    ensures none { IfNone result ((k : ℕ) → k ≤ 32767 → ¬ ((view_token token.now).lexeme ≡ whole k true 2)) }
+{
+    match token.kind {
+        TokenKind::Whole {
+            value,
+            signed: true,
+            bytes: 2,
+        } if value <= 32_767 => Some(value as u16),
+        _ => None,
+    }
+}
+
+/// The number that the program of these tokens returns.
+pub fn number(tokens: &[Token]) -> Option<u16>
+    ensures found { IfSome result (ReturnsNumber (view_tokens tokens.now)) }
+    ensures none { IfNone result ((k : ℕ) → ¬ (ReturnsNumber (view_tokens tokens.now) k)) }
+{
+    match after_front(tokens)? {
+        [value, back @ ..] if is_back(back) => constant(value),
+        _ => None,
     }
 }

@@ -90,9 +90,11 @@ fn writes_the_text(rt: HostRuntime) -> Result<(), Fail> {
         ("256", ":0600000080E091E09895FC\n:00000001FF\n"),
         ("32766", ":060000008EEF9FE79895CA\n:00000001FF\n"),
         ("32767", ":060000008FEF9FE79895C9\n:00000001FF\n"),
+        ("0x10", ":0600000080E190E09895FC\n:00000001FF\n"),
+        ("'A'", ":0600000081E490E09895F8\n:00000001FF\n"),
     ];
     for (number, text) in cases {
-        let source = format!(in alloc; "int main(void){{return {number};}}")?;
+        let source = format!(in alloc; "int  main ( void )\n{{ return /* x */ {number} ; }}")?;
         let mut store = store(alloc, source.as_bytes(), ROOM, Seq::new(alloc))?;
         let (status, err) = run(alloc, &mut store, &["build", "m", "out", "a.c"])?;
         assert_eq!(rt; status, 0, "at {number}");
@@ -107,7 +109,8 @@ fn writes_the_text(rt: HostRuntime) -> Result<(), Fail> {
 fn tells_what_stops_it(rt: HostRuntime) -> Result<(), Fail> {
     let alloc = rt.alloc();
     let good = "int main(void){return 7;}\n";
-    let cases: [(&[&str], &str, u8, &str); 15] = [
+    let build: &[&str] = &["build", "m", "out", "a.c"];
+    let cases: [(&[&str], &str, u8, &str); 22] = [
         (&[], good, 2, "usage\n"),
         (&["run", "m", "a.c", "1"], good, 2, "usage\n"),
         (&["run", "m", "a.c", "1", "256"], good, 2, "usage\n"),
@@ -132,16 +135,53 @@ fn tells_what_stops_it(rt: HostRuntime) -> Result<(), Fail> {
             "limit 1 1\n",
         ),
         (
-            &["build", "m", "out", "a.c"],
-            "int main(void){return 07;}",
-            6,
-            "a.c token 0: syntax\n",
+            build,
+            "int main(void){return @;}",
+            5,
+            "a.c byte 22: bad byte\n",
+        ),
+        (build, "_Fract x = 1.5r;", 5, "a.c byte 11: bad number\n"),
+        (
+            build,
+            "int main(void){ /* return 7;}",
+            5,
+            "a.c byte 16: unclosed\n",
         ),
         (
-            &["build", "m", "out", "a.c"],
-            "int main(void){return 32768;}",
+            build,
+            "\n#include <stdio.h>\n",
+            5,
+            "a.c byte 1: bad directive\n",
+        ),
+        (
+            build,
+            "int main(void){return 0}",
             6,
-            "a.c token 0: syntax\n",
+            "a.c token 8: syntax\n",
+        ),
+        (
+            build,
+            "int main(void){1 + 2 = 3;}",
+            6,
+            "a.c token 9: syntax\n",
+        ),
+        (
+            build,
+            "int main(void){return 0;",
+            6,
+            "a.c token 9: syntax\n",
+        ),
+        (
+            build,
+            "int main(void){return 1 + 1;}",
+            7,
+            "a.c token 0: constraint 0\n",
+        ),
+        (
+            build,
+            "int main(void){return 32768;}",
+            7,
+            "a.c token 0: constraint 0\n",
         ),
     ];
     for (texts, source, want, line) in cases {
@@ -158,14 +198,60 @@ fn tells_what_stops_it(rt: HostRuntime) -> Result<(), Fail> {
 fn keeps_its_limits(rt: HostRuntime) -> Result<(), Fail> {
     let alloc = rt.alloc();
     let cases = [
-        (65_536, 6, "a.c token 0: syntax\n"),
-        (65_537, 10, "limit 2 65536\n"),
+        (b' ', 65_536, 6, "a.c token 0: syntax\n"),
+        (b' ', 65_537, 10, "limit 2 65536\n"),
+        (b'(', 65_535, 6, "a.c token 0: syntax\n"),
+        (b'(', 65_536, 10, "limit 6 65535\n"),
     ];
-    for (length, want, line) in cases {
-        let source = vec![in alloc; b' '; length]?;
+    for (byte, length, want, line) in cases {
+        let source = vec![in alloc; byte; length]?;
         let mut store = store(alloc, source.as_slice(), ROOM, Seq::new(alloc))?;
         let (status, err) = run(alloc, &mut store, &["build", "m", "out", "a.c"])?;
         assert_eq!(rt; status, want);
+        assert_eq!(rt; err.text().as_slice(), line.as_bytes());
+    }
+    Ok(())
+}
+
+// A body with a text inside so many of these.
+fn nested(
+    alloc: Global,
+    before: &str,
+    opening: &str,
+    text: &str,
+    closing: &str,
+    count: usize,
+) -> Result<String, Fail> {
+    let mut source = String::from_str(alloc, "int main(void){")?;
+    source.push_str(before)?;
+    for _ in 0..count {
+        source.push_str(opening)?;
+    }
+    source.push_str(text)?;
+    for _ in 0..count {
+        source.push_str(closing)?;
+    }
+    source.push_str(";}")?;
+    Ok(source)
+}
+
+// A return in a body holds at most 61 parentheses inside each other, and a body at most 63 blocks.
+#[test]
+fn keeps_its_nesting(rt: HostRuntime) -> Result<(), Fail> {
+    let alloc = rt.alloc();
+    let compiled_later = "a.c token 0: constraint 0\n";
+    let cases = [
+        ("return ", "(", "7", ")", 61, 7, compiled_later),
+        ("return ", "(", "7", ")", 62, 10, "limit 7 64\n"),
+        ("return ", "(", "", "", 70, 10, "limit 7 64\n"),
+        ("", "{", "", "}", 63, 7, compiled_later),
+        ("", "{", "", "}", 64, 10, "limit 7 64\n"),
+    ];
+    for (before, opening, text, closing, count, want, line) in cases {
+        let source = nested(alloc, before, opening, text, closing, count)?;
+        let mut store = store(alloc, source.as_bytes(), ROOM, Seq::new(alloc))?;
+        let (status, err) = run(alloc, &mut store, &["build", "m", "out", "a.c"])?;
+        assert_eq!(rt; status, want, "at {count} {opening}");
         assert_eq!(rt; err.text().as_slice(), line.as_bytes());
     }
     Ok(())

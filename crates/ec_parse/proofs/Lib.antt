@@ -1,0 +1,9 @@
+pub mod Leaves
+pub mod Depths
+pub mod Many
+pub mod Rows
+pub mod Steps
+pub mod Lists
+pub mod Voids
+pub mod Parses
+pub mod Ends

@@ -1,0 +1,4 @@
+pub mod Reads
+pub mod Parts
+pub mod Units
+pub mod Parse

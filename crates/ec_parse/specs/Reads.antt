@@ -1,0 +1,134 @@
+-- What the functions of the parser answer, beside what reading answers.
+use Rattle.std.specs.Prelude.{ℕ, suc, ◌-◌, ◌≡◌, ◌≤◌, List, [], ◌∷◌, length, nat_lt, Bool, true, false, cond, Option, Some, None, Result, Ok, Err}
+use Rattle.ec_space.specs.declared.seq.NoMemory.{NoMemory}
+use Rattle.ec_grammar.specs.declared.token.PragmaKind.{PragmaKind}
+use Rattle.ec_grammar.specs.declared.token.PragmaState.{PragmaState}
+use Rattle.ec_grammar.specs.declared.token.Token.{Token}
+use Rattle.ec_grammar.specs.declared.tree.Pragma.{Pragma}
+use Rattle.ec_grammar.specs.declared.tree.Spot.{Spot}
+use Rattle.ec_grammar.specs.Tokens.{view_kind, Lexeme}
+use Rattle.ec_grammar.specs.declared.tree.Unary.{Unary}
+use Rattle.ec_grammar.specs.declared.tree.Conditional.{Conditional}
+use Rattle.ec_grammar.specs.Trees as t
+use Rattle.ec_grammar.specs.Trees.{Leaf}
+use Rattle.ec_grammar.specs.Views.{view_unary, view_conditional}
+use Rattle.ec_reading.specs.Reading.{Fault, syntax, too_deep, first_is, unary_of, Inner, within, opened_at, expression_by, assignment_by, conditional_by, cast_by, unary_by, initialiser_by, declaration_by, statement_by, compound_by}
+use Rattle.ec_reading.specs.Reading as reading
+use Rattle.ec_parse.specs.declared.stop.Stop.{Stop}
+use Rattle.ec_parse.specs.declared.stop.Stop.TheVariants as stops
+use Rattle.ec_parse.specs.declared.tokens.Keyword.{Keyword}
+use Rattle.ec_parse.specs.declared.tokens.Keyword.TheVariants as keywords
+
+-- the leaves that the last tokens of a list of so many are
+abbrev pub leaves_of : ℕ → List Token → List Leaf
+leaves_of count [] = []
+leaves_of count (x ∷ xs) = record { spot = record { index = count - suc (length xs); at = x.at }; lexeme = view_kind x.kind } ∷ leaves_of count xs
+
+-- ---- answers
+
+-- A stop is the fault that reading answers, unless memory ran out.
+abbrev pub Fails : {Y : Type 0} → Stop → Result Y Fault → Type 0
+Fails stops.NoMemory read = Unit {0}
+Fails (stops.Syntax n) read = read ≡ Err (syntax n)
+Fails (stops.TooDeep n) read = read ≡ Err (too_deep n)
+
+-- What a function returned, seen by view, is what reading answers, unless memory ran out.
+abbrev pub Gives : {X Y : Type 0} → (X → Y) → Result X Stop → Result Y Fault → Type 0
+Gives view (Ok x) read = read ≡ Ok (view x)
+Gives view (Err e) read = Fails e read
+
+abbrev pub FailsAt : {Y : Type 0} → Stop → Option (Result Y Fault) → Type 0
+FailsAt stops.NoMemory read = Unit {0}
+FailsAt (stops.Syntax n) read = read ≡ Some (Err (syntax n))
+FailsAt (stops.TooDeep n) read = read ≡ Some (Err (too_deep n))
+
+-- The same of an item, which need not be there.
+abbrev pub GivesAt : {X Y : Type 0} → (X → Y) → Result (Option X) Stop → Option (Result Y Fault) → Type 0
+GivesAt view (Ok None) read = read ≡ None
+GivesAt view (Ok (Some x)) read = read ≡ Some (Ok (view x))
+GivesAt view (Err e) read = FailsAt e read
+
+-- What a test of the first tokens returned, seen by view, unless memory ran out.
+abbrev pub GivesFirst : {X Y : Type 0} → (X → Y) → Result (Option X) NoMemory → Option Y → Type 0
+GivesFirst view (Ok None) read = read ≡ None
+GivesFirst view (Ok (Some x)) read = read ≡ Some (view x)
+GivesFirst view (Err e) read = Unit {0}
+
+-- Whether there is one.
+abbrev pub IsThere : {Y : Type 0} → Bool → Option Y → Type 0
+IsThere {Y = Y} true read = (y : Y) × (read ≡ Some y)
+IsThere {Y = Y} false read = read ≡ None
+
+-- It tells the first of the tokens.
+abbrev pub IsUnexpected : Stop → List Leaf → Type 0
+IsUnexpected stop ts = stop ≡ stops.Syntax (length ts)
+
+abbrev pub IsTooLong : Stop → List Leaf → Type 0
+IsTooLong stop ts = stop ≡ stops.TooDeep (length ts)
+
+-- a fact of what was read, where an item is there
+abbrev pub IfThere : {X : Type 0} → Result (Option X) Stop → (X → Type 0) → Type 0
+IfThere (Ok None) P = Unit {0}
+IfThere (Ok (Some x)) P = P x
+IfThere (Err e) P = Unit {0}
+
+-- ---- tokens
+
+abbrev pub view_keyword : Keyword → reading.Keyword
+view_keyword keywords.If = reading.if_word
+view_keyword keywords.While = reading.while_word
+view_keyword keywords.Do = reading.do_word
+view_keyword keywords.For = reading.for_word
+view_keyword keywords.Break = reading.break_word
+view_keyword keywords.Continue = reading.continue_word
+view_keyword keywords.Return = reading.return_word
+
+abbrev pub pragma_at_spot : PragmaKind → PragmaState → Spot → Pragma
+pragma_at_spot which state = λ s. record { spot = s; which = which; state = state }
+
+-- ---- depth
+
+-- the readers inside a construct, where so many more may be opened
+abbrev pub inner_at : ℕ → Inner
+inner_at n = record {
+  limit = 64;
+  expression = expression_by (within 64 n);
+  assignment = assignment_by (within 64 n);
+  conditional = conditional_by (within 64 n);
+  cast = cast_by (within 64 n);
+  unary = unary_by (within 64 n);
+  initialiser = initialiser_by (within 64 n);
+  declaration = declaration_by (within 64 n);
+  statement = statement_by (within 64 n);
+  compound = compound_by (within 64 n);
+}
+
+-- How many may be opened inside a construct that the token before opens, where so many are left.
+abbrev pub Opens : ℕ → Result ℕ Stop → List Leaf → Type 0
+Opens left (Ok n) ts = (opened_at 64 left ≡ Some (inner_at n)) × (suc n ≡ left)
+Opens left (Err e) ts = (opened_at 64 left ≡ None) × (e ≡ stops.TooDeep (suc (length ts)))
+
+abbrev pub IsFault : Stop → Fault → Type 0
+IsFault stops.NoMemory f = Unit {0}
+IsFault (stops.Syntax n) f = f ≡ syntax n
+IsFault (stops.TooDeep n) f = f ≡ too_deep n
+
+-- The same inside one that the first token opens, where it can begin one.
+abbrev pub BeginsIf : Bool → ℕ → Result ℕ Stop → List Leaf → Type 0
+BeginsIf starts left (Ok n) ts = (opened_at 64 left ≡ Some (inner_at n)) × (suc n ≡ left)
+BeginsIf starts left (Err e) ts = (opened_at 64 left ≡ None) × IsFault e (cond starts (too_deep (length ts)) (syntax (length ts)))
+
+abbrev pub Begins : (Lexeme → Bool) → ℕ → Result ℕ Stop → List Leaf → Type 0
+Begins starts left result ts = BeginsIf (first_is starts ts) left result ts
+
+-- The height of a node whose parts have such a height, where it may end before these tokens.
+abbrev pub Ends : ℕ → ℕ → Result ℕ Stop → List Leaf → Type 0
+Ends room below (Ok h) ts = (nat_lt room (suc below) ≡ false) × (h ≡ suc below) × (h ≤ room)
+Ends room below (Err e) ts = (nat_lt room (suc below) ≡ true) × (e ≡ stops.TooDeep (suc (length ts)))
+
+-- ---- trees taken apart
+
+-- a unary expression that stands alone, or the whole again
+abbrev pub Parts : t.Conditional → Result Unary Conditional → Type 0
+Parts c (Ok u) = unary_of c ≡ Some (view_unary u)
+Parts c (Err d) = (unary_of c ≡ None) × (c ≡ view_conditional d)

@@ -1,0 +1,480 @@
+//! Declarators, initialisers and declarations (ISO/IEC 9899:1999, 6.7).
+//!
+//! Where a part has a height, it is answered behind the tree: the greatest of its sizes and initialisers.
+
+ghost use Rattle.std.specs.Prelude.{◌≡◌, ◌<◌, ◌≤◌, map, Ok, IfOk};
+ghost use Rattle.ec_grammar.specs.Grammar.{is_void, lone_void};
+ghost use Rattle.ec_grammar.specs.Nesting.{height_list, height_option, height_shape, height_declarator, height_initialiser, height_initialisers, height_start, height_init_declarator, height_next_init_declarator, height_declaration};
+ghost use Rattle.ec_grammar.specs.Trees.{next_param, next_init_declarator, next_declarator};
+ghost use Rattle.ec_grammar.specs.Views.{view_option, view_identifier, view_specs, view_type_name, view_param, view_next_param, view_params, view_shape, view_declarator, view_initialiser, views_initialisers, view_start, view_init_declarator, view_next_init_declarator, view_declaration, view_next_declarator, view_member};
+ghost use Rattle.ec_reading.specs.Reading.{within, many, behind_comma, name_at, param_by, params_by, array_by, shape_by, declarator_by, initialisers_of, initialiser_at, comma_at, braces_by, initialiser_by, start_by, init_declarator_by, declared_by, declaration_by, members_by, members_at};
+ghost use Rattle.ec_parse.specs.Parts.{is_void_spec, view_next_initialiser};
+ghost use Rattle.ec_parse.specs.Reads.{leaves_of, inner_at, Gives, GivesAt, IfThere};
+
+use crate::depth::{LIMIT, ended, higher, opened};
+use crate::expressions::{assignment, conditional};
+use crate::stop::Stop;
+use crate::tokens::{
+    Source, begins_specs, expect, expect_name, take, take_name, take_void, unexpected,
+};
+use crate::types::{specs, stars, type_name};
+use ec_grammar::tree::{
+    Declaration, Declarator, Identifier, InitDeclarator, Initialiser, Member, NextDeclarator,
+    NextInitDeclarator, NextInitialiser, NextParam, Param, Params, Shape, Spec, Specs, Spot, Start,
+    TypeName,
+};
+use ec_grammar::{PunctKind, Token, WordKind};
+
+// Parameters.
+
+fn name(source: Source, tokens: &[Token]) -> Result<(Option<Identifier>, &[Token]), Stop>
+    ensures { Gives (λ x. (view_option view_identifier x.0, leaves_of source.count x.1.now)) result (name_at (leaves_of source.count tokens.now)) }
+{
+    match take_name(source, tokens)? {
+        Some((name, rest)) => Ok((Some(name), rest)),
+        None => Ok((None, tokens)),
+    }
+}
+
+fn is_void(spec: &Spec) -> bool
+    ensures { result ≡ is_void_spec spec.now }
+{
+    matches!(spec, Spec::Word(_, WordKind::Void))
+}
+
+/// Whether it is `void` alone, which is no parameter (6.7.5.3, 10).
+#[tactic(auto, using(crate::proofs::Voids::voids))]
+fn is_lone_void(ty: &TypeName, name: &Option<Identifier>) -> bool
+    ensures { result ≡ lone_void (view_type_name ty.now) (view_option view_identifier name.now) }
+{
+    if let Some(_) = name {
+        return false;
+    }
+    if !ty.stars.is_empty() {
+        return false;
+    }
+    if !ty.specs.more.is_empty() {
+        return false;
+    }
+    is_void(&ty.specs.first)
+}
+
+#[tactic(auto, unfolding(ec_reading::specs::Reading::param_by))]
+fn param(source: Source, tokens: &[Token]) -> Result<(Param, &[Token]), Stop>
+    ensures { Gives (λ x. (view_param x.0, leaves_of source.count x.1.now)) result (param_by (leaves_of source.count tokens.now)) }
+{
+    let (ty, rest) = type_name(source, tokens)?;
+    let (name, rest) = name(source, rest)?;
+    if is_lone_void(&ty, &name) {
+        return Err(unexpected(source, rest));
+    }
+    Ok((Param { ty, name }, rest))
+}
+
+fn another_param(source: Source, tokens: &[Token]) -> Result<Option<(NextParam, &[Token])>, Stop>
+    ensures { GivesAt (λ x. (view_next_param x.0, leaves_of source.count x.1.now)) result (behind_comma next_param param_by (leaves_of source.count tokens.now)) }
+{
+    let Some((comma, rest)) = take(source, tokens, PunctKind::Comma) else {
+        return Ok(None);
+    };
+    let (param, rest) = param(source, rest)?;
+    Ok(Some((NextParam { comma, param }, rest)))
+}
+
+#[tactic(auto, using(crate::proofs::Many::loops))]
+fn more_params(source: Source, tokens: &[Token]) -> Result<(Vec<NextParam>, &[Token]), Stop>
+    ensures { Gives (λ x. (map view_next_param x.0.items, leaves_of source.count x.1.now)) result (many (behind_comma next_param param_by) (leaves_of source.count tokens.now)) }
+{
+    let mut all = Vec::new(source.alloc);
+    let mut rest = tokens;
+    for _ in 0..tokens.len() {
+        let Some((item, after)) = another_param(source, rest)? else {
+            return Ok((all, rest));
+        };
+        all.push(item)?;
+        rest = after;
+    }
+    Ok((all, rest))
+}
+
+/// The parameters of a function (6.7.5.3).
+#[tactic(auto, unfolding(ec_reading::specs::Reading::params_by))]
+fn params(source: Source, tokens: &[Token]) -> Result<(Params, &[Token]), Stop>
+    ensures { Gives (λ x. (view_params x.0, leaves_of source.count x.1.now)) result (params_by (leaves_of source.count tokens.now)) }
+{
+    if let Some((word, rest)) = take_void(source, tokens) {
+        return Ok((Params::Void(word), rest));
+    }
+    let (first, rest) = param(source, tokens)?;
+    let (more, rest) = more_params(source, rest)?;
+    Ok((Params::Some(first, more), rest))
+}
+
+// Declarators.
+
+#[tactic(auto, unfolding(ec_reading::specs::Reading::array_by))]
+fn array(
+    source: Source,
+    left: u8,
+    opening: Spot,
+    tokens: &[Token],
+) -> Result<(Shape, u8, &[Token]), Stop>
+    ensures read { Gives (λ x. (view_shape x.0, leaves_of source.count x.2.now)) result (array_by (inner_at left) opening (leaves_of source.count tokens.now)) }
+    ensures height { IfOk result (λ x. x.1 ≡ height_shape (view_shape x.0)) }
+    ensures within { IfOk result (λ x. x.1 ≤ 64) }
+{
+    if let Some((closing, rest)) = take(source, tokens, PunctKind::RightBracket) {
+        return Ok((Shape::Array(opening, None, closing), 0, rest));
+    }
+    let (size, height, rest) = conditional(source, left, LIMIT, tokens)?;
+    let (closing, rest) = expect(source, rest, PunctKind::RightBracket)?;
+    Ok((Shape::Array(opening, Some(size), closing), height, rest))
+}
+
+#[tactic(auto, unfolding(ec_reading::specs::Reading::shape_by))]
+fn shape(source: Source, left: u8, tokens: &[Token]) -> Result<(Shape, u8, &[Token]), Stop>
+    ensures read { Gives (λ x. (view_shape x.0, leaves_of source.count x.2.now)) result (shape_by (within 64 left) (leaves_of source.count tokens.now)) }
+    ensures height { IfOk result (λ x. x.1 ≡ height_shape (view_shape x.0)) }
+    ensures within { IfOk result (λ x. x.1 ≤ 64) }
+{
+    if let Some((opening, rest)) = take(source, tokens, PunctKind::LeftBracket) {
+        let left = opened(source, left, rest)?;
+        return array(source, left, opening, rest);
+    }
+    if let Some((opening, rest)) = take(source, tokens, PunctKind::LeftParenthesis) {
+        let _ = opened(source, left, rest)?;
+        let (params, rest) = params(source, rest)?;
+        let (closing, rest) = expect(source, rest, PunctKind::RightParenthesis)?;
+        return Ok((Shape::Function(opening, params, closing), 0, rest));
+    }
+    Ok((Shape::Object, 0, tokens))
+}
+
+/// A declarator (6.7.5).
+#[tactic(auto, unfolding(ec_reading::specs::Reading::declarator_by))]
+pub fn declarator(
+    source: Source,
+    left: u8,
+    tokens: &[Token],
+) -> Result<(Declarator, u8, &[Token]), Stop>
+    ensures read { Gives (λ x. (view_declarator x.0, leaves_of source.count x.2.now)) result (declarator_by (within 64 left) (leaves_of source.count tokens.now)) }
+    ensures height { IfOk result (λ x. x.1 ≡ height_declarator (view_declarator x.0)) }
+    ensures within { IfOk result (λ x. x.1 ≤ 64) }
+{
+    let (stars, rest) = stars(source, tokens)?;
+    let (name, rest) = expect_name(source, rest)?;
+    let (shape, height, rest) = shape(source, left, rest)?;
+    Ok((Declarator { stars, name, shape }, height, rest))
+}
+
+// Initialisers.
+
+#[cycle(initialisers)]
+#[tactic(auto, unfolding(ec_reading::specs::Reading::initialiser_at))]
+fn another_initialiser(
+    source: Source,
+    left: u8,
+    tokens: &[Token],
+) -> Result<Option<(NextInitialiser, u8, &[Token])>, Stop>
+    ensures read { GivesAt (λ x. ((x.0.comma, view_initialiser x.0.value), leaves_of source.count x.2.now)) result (initialiser_at (inner_at left) (leaves_of source.count tokens.now)) }
+    ensures height { IfThere result (λ x. x.1 ≡ height_initialiser (view_initialiser x.0.value)) }
+    ensures within { IfThere result (λ x. x.1 ≤ 64) }
+{
+    let Some((comma, rest)) = take(source, tokens, PunctKind::Comma) else {
+        return Ok(None);
+    };
+    if let Some(_) = take(source, rest, PunctKind::RightBrace) {
+        return Ok(None);
+    }
+    let (value, height, rest) = initialiser(source, left, LIMIT, rest)?;
+    Ok(Some((NextInitialiser { comma, value }, height, rest)))
+}
+
+/// Initialisers that follow another one, and their height.
+#[cycle(initialisers)]
+#[tactic(auto, using(crate::proofs::Lists::initialisers_map))]
+fn more_initialisers(
+    source: Source,
+    left: u8,
+    tokens: &[Token],
+) -> Result<(Vec<NextInitialiser>, u8, &[Token]), Stop>
+    ensures read { Gives (λ x. (map view_next_initialiser x.0.items, leaves_of source.count x.2.now)) result (many (initialiser_at (inner_at left)) (leaves_of source.count tokens.now)) }
+    ensures rows { IfOk result (λ x. initialisers_of (map view_next_initialiser x.0.items) ≡ views_initialisers x.0.items) }
+    ensures height { IfOk result (λ x. x.1 ≡ height_initialisers (views_initialisers x.0.items)) }
+    ensures within { IfOk result (λ x. x.1 ≤ 64) }
+{
+    let mut all = Vec::new(source.alloc);
+    let mut height = 0;
+    let mut rest = tokens;
+    for _ in 0..tokens.len() {
+        let Some((item, tall, after)) = another_initialiser(source, left, rest)? else {
+            return Ok((all, height, rest));
+        };
+        all.push(item)?;
+        height = higher(height, tall);
+        rest = after;
+    }
+    Ok((all, height, rest))
+}
+
+/// A comma, where one stands.
+fn comma(source: Source, tokens: &[Token]) -> (Option<Spot>, &[Token])
+    ensures { comma_at (leaves_of source.count tokens.now) ≡ Ok (result.0, leaves_of source.count result.1.now) }
+{
+    match take(source, tokens, PunctKind::Comma) {
+        Some((comma, rest)) => (Some(comma), rest),
+        None => (None, tokens),
+    }
+}
+
+#[cycle(initialisers)]
+#[tactic(auto, unfolding(ec_reading::specs::Reading::braces_by))]
+fn braces(
+    source: Source,
+    left: u8,
+    room: u8,
+    opening: Spot,
+    tokens: &[Token],
+) -> Result<(Initialiser, u8, &[Token]), Stop>
+    requires { room ≤ 64 }
+    ensures read { Gives (λ x. (view_initialiser x.0, leaves_of source.count x.2.now)) result (braces_by (inner_at left) room opening (leaves_of source.count tokens.now)) }
+    ensures height { IfOk result (λ x. x.1 ≡ height_initialiser (view_initialiser x.0)) }
+    ensures within { IfOk result (λ x. (0 < x.1) × (x.1 ≤ room)) }
+{
+    let (first, first_height, rest) = initialiser(source, left, LIMIT, tokens)?;
+    let (more, more_height, rest) = more_initialisers(source, left, rest)?;
+    let (comma, rest) = comma(source, rest);
+    let (closing, rest) = expect(source, rest, PunctKind::RightBrace)?;
+    let height = ended(source, room, higher(first_height, more_height), rest)?;
+    let first = Box::new(source.alloc, first)?;
+    let tree = Initialiser::Braces(opening, first, more, comma, closing);
+    Ok((tree, height, rest))
+}
+
+/// An initialiser (6.7.8).
+#[cycle(initialisers)]
+#[tactic(auto, unfolding(ec_reading::specs::Reading::initialiser_by))]
+fn initialiser(
+    source: Source,
+    left: u8,
+    room: u8,
+    tokens: &[Token],
+) -> Result<(Initialiser, u8, &[Token]), Stop>
+    requires { room ≤ 64 }
+    ensures read { Gives (λ x. (view_initialiser x.0, leaves_of source.count x.2.now)) result (initialiser_by (within 64 left) room (leaves_of source.count tokens.now)) }
+    ensures height { IfOk result (λ x. x.1 ≡ height_initialiser (view_initialiser x.0)) }
+    ensures within { IfOk result (λ x. (0 < x.1) × (x.1 ≤ room)) }
+{
+    if let Some((opening, rest)) = take(source, tokens, PunctKind::LeftBrace) {
+        let left = opened(source, left, rest)?;
+        return braces(source, left, room, opening, rest);
+    }
+    let (value, height, rest) = assignment(source, left, room, tokens)?;
+    Ok((Initialiser::Value(value), height, rest))
+}
+
+#[tactic(auto, unfolding(ec_reading::specs::Reading::start_by))]
+fn start(source: Source, left: u8, tokens: &[Token]) -> Result<(Option<Start>, u8, &[Token]), Stop>
+    ensures read { Gives (λ x. (view_option view_start x.0, leaves_of source.count x.2.now)) result (start_by (within 64 left) (leaves_of source.count tokens.now)) }
+    ensures height { IfOk result (λ x. x.1 ≡ height_option height_start (view_option view_start x.0)) }
+    ensures within { IfOk result (λ x. x.1 ≤ 64) }
+{
+    let Some((equals, rest)) = take(source, tokens, PunctKind::Assign) else {
+        return Ok((None, 0, tokens));
+    };
+    let (value, height, rest) = initialiser(source, left, LIMIT, rest)?;
+    Ok((Some(Start { equals, value }), height, rest))
+}
+
+// Declarations.
+
+#[tactic(auto, unfolding(ec_reading::specs::Reading::init_declarator_by))]
+fn init_declarator(
+    source: Source,
+    left: u8,
+    tokens: &[Token],
+) -> Result<(InitDeclarator, u8, &[Token]), Stop>
+    ensures read { Gives (λ x. (view_init_declarator x.0, leaves_of source.count x.2.now)) result (init_declarator_by (within 64 left) (leaves_of source.count tokens.now)) }
+    ensures height { IfOk result (λ x. x.1 ≡ height_init_declarator (view_init_declarator x.0)) }
+    ensures within { IfOk result (λ x. x.1 ≤ 64) }
+{
+    let (declarator, height, rest) = declarator(source, left, tokens)?;
+    let (start, start_height, rest) = start(source, left, rest)?;
+    let tree = InitDeclarator { declarator, start };
+    Ok((tree, higher(height, start_height), rest))
+}
+
+fn another_init_declarator(
+    source: Source,
+    left: u8,
+    tokens: &[Token],
+) -> Result<Option<(NextInitDeclarator, u8, &[Token])>, Stop>
+    ensures read { GivesAt (λ x. (view_next_init_declarator x.0, leaves_of source.count x.2.now)) result (behind_comma next_init_declarator (init_declarator_by (within 64 left)) (leaves_of source.count tokens.now)) }
+    ensures height { IfThere result (λ x. x.1 ≡ height_next_init_declarator (view_next_init_declarator x.0)) }
+    ensures within { IfThere result (λ x. x.1 ≤ 64) }
+{
+    let Some((comma, rest)) = take(source, tokens, PunctKind::Comma) else {
+        return Ok(None);
+    };
+    let (declarator, height, rest) = init_declarator(source, left, rest)?;
+    Ok(Some((NextInitDeclarator { comma, declarator }, height, rest)))
+}
+
+fn more_init_declarators(
+    source: Source,
+    left: u8,
+    tokens: &[Token],
+) -> Result<(Vec<NextInitDeclarator>, u8, &[Token]), Stop>
+    ensures read { Gives (λ x. (map view_next_init_declarator x.0.items, leaves_of source.count x.2.now)) result (many (behind_comma next_init_declarator (init_declarator_by (within 64 left))) (leaves_of source.count tokens.now)) }
+    ensures height { IfOk result (λ x. x.1 ≡ height_list height_next_init_declarator (map view_next_init_declarator x.0.items)) }
+    ensures within { IfOk result (λ x. x.1 ≤ 64) }
+{
+    let mut all = Vec::new(source.alloc);
+    let mut height = 0;
+    let mut rest = tokens;
+    for _ in 0..tokens.len() {
+        let Some((item, tall, after)) = another_init_declarator(source, left, rest)? else {
+            return Ok((all, height, rest));
+        };
+        all.push(item)?;
+        height = higher(height, tall);
+        rest = after;
+    }
+    Ok((all, height, rest))
+}
+
+/// The declaration whose specifiers and first declarator stand before the tokens.
+#[tactic(auto, unfolding(ec_reading::specs::Reading::declared_by))]
+pub fn declared(
+    source: Source,
+    left: u8,
+    specs: Specs,
+    declarator: Declarator,
+    declarator_height: u8,
+    tokens: &[Token],
+) -> Result<(Declaration, u8, &[Token]), Stop>
+    requires height { declarator_height ≡ height_declarator (view_declarator declarator) }
+    requires within { declarator_height ≤ 64 }
+    ensures read { Gives (λ x. (view_declaration x.0, leaves_of source.count x.2.now)) result (declared_by (within 64 left) (view_specs specs) (view_declarator declarator) (leaves_of source.count tokens.now)) }
+    ensures height { IfOk result (λ x. x.1 ≡ height_declaration (view_declaration x.0)) }
+    ensures within { IfOk result (λ x. x.1 ≤ 64) }
+{
+    let (start, start_height, rest) = start(source, left, tokens)?;
+    let (more, more_height, rest) = more_init_declarators(source, left, rest)?;
+    let (semicolon, rest) = expect(source, rest, PunctKind::Semicolon)?;
+    let height = higher(higher(declarator_height, start_height), more_height);
+    let first = InitDeclarator { declarator, start };
+    let tree = Declaration {
+        specs,
+        first,
+        more,
+        semicolon,
+    };
+    Ok((tree, height, rest))
+}
+
+/// A declaration (6.7).
+#[tactic(auto, unfolding(ec_reading::specs::Reading::declaration_by))]
+pub fn declaration(
+    source: Source,
+    left: u8,
+    tokens: &[Token],
+) -> Result<(Declaration, u8, &[Token]), Stop>
+    ensures read { Gives (λ x. (view_declaration x.0, leaves_of source.count x.2.now)) result (declaration_by (within 64 left) (leaves_of source.count tokens.now)) }
+    ensures height { IfOk result (λ x. x.1 ≡ height_declaration (view_declaration x.0)) }
+    ensures within { IfOk result (λ x. x.1 ≤ 64) }
+{
+    let (specs, rest) = specs(source, tokens)?;
+    let (declarator, height, rest) = declarator(source, left, rest)?;
+    declared(source, left, specs, declarator, height, rest)
+}
+
+// Members of a struct.
+
+fn another_declarator(
+    source: Source,
+    left: u8,
+    tokens: &[Token],
+) -> Result<Option<(NextDeclarator, &[Token])>, Stop>
+    ensures { GivesAt (λ x. (view_next_declarator x.0, leaves_of source.count x.1.now)) result (behind_comma next_declarator (declarator_by (within 64 left)) (leaves_of source.count tokens.now)) }
+{
+    let Some((comma, rest)) = take(source, tokens, PunctKind::Comma) else {
+        return Ok(None);
+    };
+    let (declarator, _, rest) = declarator(source, left, rest)?;
+    Ok(Some((NextDeclarator { comma, declarator }, rest)))
+}
+
+#[tactic(auto, using(crate::proofs::Many::loops))]
+fn more_declarators(
+    source: Source,
+    left: u8,
+    tokens: &[Token],
+) -> Result<(Vec<NextDeclarator>, &[Token]), Stop>
+    ensures { Gives (λ x. (map view_next_declarator x.0.items, leaves_of source.count x.1.now)) result (many (behind_comma next_declarator (declarator_by (within 64 left))) (leaves_of source.count tokens.now)) }
+{
+    let mut all = Vec::new(source.alloc);
+    let mut rest = tokens;
+    for _ in 0..tokens.len() {
+        let Some((item, after)) = another_declarator(source, left, rest)? else {
+            return Ok((all, rest));
+        };
+        all.push(item)?;
+        rest = after;
+    }
+    Ok((all, rest))
+}
+
+/// A declaration of members of a struct (6.7.2.1).
+#[tactic(auto, unfolding(ec_reading::specs::Reading::members_by))]
+pub fn member(source: Source, left: u8, tokens: &[Token]) -> Result<(Member, &[Token]), Stop>
+    ensures { Gives (λ x. (view_member x.0, leaves_of source.count x.1.now)) result (members_by (within 64 left) (leaves_of source.count tokens.now)) }
+{
+    let (specs, rest) = specs(source, tokens)?;
+    let (first, _, rest) = declarator(source, left, rest)?;
+    let (more, rest) = more_declarators(source, left, rest)?;
+    let (semicolon, rest) = expect(source, rest, PunctKind::Semicolon)?;
+    let tree = Member {
+        specs,
+        first,
+        more,
+        semicolon,
+    };
+    Ok((tree, rest))
+}
+
+#[tactic(auto, unfolding(ec_reading::specs::Reading::members_at))]
+fn another_member(
+    source: Source,
+    left: u8,
+    tokens: &[Token],
+) -> Result<Option<(Member, &[Token])>, Stop>
+    ensures { GivesAt (λ x. (view_member x.0, leaves_of source.count x.1.now)) result (members_at (within 64 left) (leaves_of source.count tokens.now)) }
+{
+    if !begins_specs(source, tokens) {
+        return Ok(None);
+    }
+    let (member, rest) = member(source, left, tokens)?;
+    Ok(Some((member, rest)))
+}
+
+/// Declarations of members that follow another one.
+#[tactic(auto, using(crate::proofs::Many::loops))]
+pub fn more_members(
+    source: Source,
+    left: u8,
+    tokens: &[Token],
+) -> Result<(Vec<Member>, &[Token]), Stop>
+    ensures { Gives (λ x. (map view_member x.0.items, leaves_of source.count x.1.now)) result (many (members_at (within 64 left)) (leaves_of source.count tokens.now)) }
+{
+    let mut all = Vec::new(source.alloc);
+    let mut rest = tokens;
+    for _ in 0..tokens.len() {
+        let Some((item, after)) = another_member(source, left, rest)? else {
+            return Ok((all, rest));
+        };
+        all.push(item)?;
+        rest = after;
+    }
+    Ok((all, rest))
+}

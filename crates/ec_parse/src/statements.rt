@@ -1,0 +1,443 @@
+//! Statements (ISO/IEC 9899:1999, 6.8).
+//!
+//! A function answers the tree, its height and the tokens after it, as those of expressions do.
+
+ghost use Rattle.std.specs.Prelude.{◌≡◌, ◌+◌, ◌<◌, ◌≤◌, suc, max, map, IfOk};
+ghost use Rattle.ec_grammar.specs.Nesting.{height_option, height_expression, height_condition, height_first, height_heading, height_compound, height_items, height_item, height_statement};
+ghost use Rattle.ec_grammar.specs.Views.{view_option, view_expression, view_condition, view_first, view_heading, view_compound, views_items, view_item, view_statement};
+ghost use Rattle.ec_reading.specs.Reading.{within, many, expression_by, condition_by, optional_by, first_by, heading_by, substatement, items_of, item_at, pragma_at, compound_by, else_by, if_by, while_by, do_by, for_by, return_by, worded_by, simple_by, statement_by};
+ghost use Rattle.ec_parse.specs.Reads.{leaves_of, inner_at, Gives, GivesAt, IfThere, view_keyword};
+
+use crate::declarations::declaration;
+use crate::depth::{LIMIT, begun_statement, ended, higher, opened, room_behind};
+use crate::expressions::expression;
+use crate::stop::Stop;
+use crate::tokens::{
+    Keyword, Source, begins_specs, expect, expect_word, take, take_keyword, take_pragma, take_word,
+};
+use ec_grammar::tree::{
+    Compound, Condition, Expression, First, Heading, Item, Pragma, Spot, Statement,
+};
+use ec_grammar::{PunctKind, Token, WordKind};
+
+// Parts of statements.
+
+/// An expression in parentheses.
+#[tactic(auto, unfolding(ec_reading::specs::Reading::condition_by))]
+fn condition(source: Source, left: u8, tokens: &[Token]) -> Result<(Condition, u8, &[Token]), Stop>
+    ensures read { Gives (λ x. (view_condition x.0, leaves_of source.count x.2.now)) result (condition_by (within 64 left) (leaves_of source.count tokens.now)) }
+    ensures height { IfOk result (λ x. x.1 ≡ height_condition (view_condition x.0)) }
+    ensures within { IfOk result (λ x. x.1 ≤ 64) }
+{
+    let (opening, rest) = expect(source, tokens, PunctKind::LeftParenthesis)?;
+    let left = opened(source, left, rest)?;
+    let (value, height, rest) = expression(source, left, LIMIT, rest)?;
+    let (closing, rest) = expect(source, rest, PunctKind::RightParenthesis)?;
+    let tree = Condition {
+        opening,
+        value,
+        closing,
+    };
+    Ok((tree, height, rest))
+}
+
+/// An expression or none, and the punctuator that ends it.
+#[tactic(auto, unfolding(ec_reading::specs::Reading::optional_by))]
+fn optional(
+    source: Source,
+    left: u8,
+    end: PunctKind,
+    tokens: &[Token],
+) -> Result<(Option<Expression>, Spot, u8, &[Token]), Stop>
+    ensures read { Gives (λ x. ((view_option view_expression x.0, x.1), leaves_of source.count x.3.now)) result (optional_by (expression_by (within 64 left) 64) end (leaves_of source.count tokens.now)) }
+    ensures height { IfOk result (λ x. x.2 ≡ height_option height_expression (view_option view_expression x.0)) }
+    ensures within { IfOk result (λ x. x.2 ≤ 64) }
+{
+    if let Some((end, rest)) = take(source, tokens, end) {
+        return Ok((None, end, 0, rest));
+    }
+    let (value, height, rest) = expression(source, left, LIMIT, tokens)?;
+    let (end, rest) = expect(source, rest, end)?;
+    Ok((Some(value), end, height, rest))
+}
+
+/// The first part of a `for` (6.8.5).
+#[tactic(auto, unfolding(ec_reading::specs::Reading::first_by))]
+fn first(source: Source, left: u8, tokens: &[Token]) -> Result<(First, u8, &[Token]), Stop>
+    ensures read { Gives (λ x. (view_first x.0, leaves_of source.count x.2.now)) result (first_by (inner_at left) (leaves_of source.count tokens.now)) }
+    ensures height { IfOk result (λ x. x.1 ≡ height_first (view_first x.0)) }
+    ensures within { IfOk result (λ x. x.1 ≤ 64) }
+{
+    if begins_specs(source, tokens) {
+        let (declaration, height, rest) = declaration(source, left, tokens)?;
+        return Ok((First::Declared(declaration), height, rest));
+    }
+    let (value, end, height, rest) = optional(source, left, PunctKind::Semicolon, tokens)?;
+    Ok((First::Evaluated(value, end), height, rest))
+}
+
+/// The parts of a `for` in its parentheses (6.8.5).
+#[tactic(auto, unfolding(ec_reading::specs::Reading::heading_by))]
+fn heading(source: Source, left: u8, tokens: &[Token]) -> Result<(Heading, u8, &[Token]), Stop>
+    ensures read { Gives (λ x. (view_heading x.0, leaves_of source.count x.2.now)) result (heading_by (within 64 left) (leaves_of source.count tokens.now)) }
+    ensures height { IfOk result (λ x. x.1 ≡ height_heading (view_heading x.0)) }
+    ensures within { IfOk result (λ x. x.1 ≤ 64) }
+{
+    let (opening, rest) = expect(source, tokens, PunctKind::LeftParenthesis)?;
+    let left = opened(source, left, rest)?;
+    let (first, first_height, rest) = first(source, left, rest)?;
+    let (condition, semicolon, condition_height, rest) = optional(
+        source,
+        left,
+        PunctKind::Semicolon,
+        rest,
+    )?;
+    let (last, closing, last_height, rest) = optional(
+        source,
+        left,
+        PunctKind::RightParenthesis,
+        rest,
+    )?;
+    let height = higher(first_height, higher(condition_height, last_height));
+    let tree = Heading {
+        opening,
+        first,
+        condition,
+        semicolon,
+        last,
+        closing,
+    };
+    Ok((tree, height, rest))
+}
+
+fn pragma(source: Source, tokens: &[Token]) -> Result<Option<(Pragma, &[Token])>, Stop>
+    ensures { GivesAt (λ x. (x.0, leaves_of source.count x.1.now)) result (pragma_at (leaves_of source.count tokens.now)) }
+{
+    Ok(take_pragma(source, tokens))
+}
+
+#[tactic(auto, using(crate::proofs::Many::loops))]
+fn pragmas(source: Source, tokens: &[Token]) -> Result<(Vec<Pragma>, &[Token]), Stop>
+    ensures { Gives (λ x. (x.0.items, leaves_of source.count x.1.now)) result (many pragma_at (leaves_of source.count tokens.now)) }
+{
+    let mut all = Vec::new(source.alloc);
+    let mut rest = tokens;
+    for _ in 0..tokens.len() {
+        let Some((item, after)) = pragma(source, rest)? else {
+            return Ok((all, rest));
+        };
+        all.push(item)?;
+        rest = after;
+    }
+    Ok((all, rest))
+}
+
+// Compound statements.
+
+#[cycle(statements)]
+#[tactic(auto, unfolding(ec_reading::specs::Reading::item_at))]
+fn item(source: Source, left: u8, tokens: &[Token]) -> Result<Option<(Item, u8, &[Token])>, Stop>
+    ensures read { GivesAt (λ x. (view_item x.0, leaves_of source.count x.2.now)) result (item_at (within 64 left) (leaves_of source.count tokens.now)) }
+    ensures height { IfThere result (λ x. x.1 ≡ height_item (view_item x.0)) }
+    ensures within { IfThere result (λ x. x.1 ≤ 64) }
+{
+    if begins_specs(source, tokens) {
+        let (declaration, height, rest) = declaration(source, left, tokens)?;
+        return Ok(Some((Item::Declaration(declaration), height, rest)));
+    }
+    if let Some(_) = take(source, tokens, PunctKind::RightBrace) {
+        return Ok(None);
+    }
+    let (statement, height, rest) = substatement(source, left, LIMIT, tokens)?;
+    Ok(Some((Item::Statement(statement), height, rest)))
+}
+
+/// Declarations and statements, and their height.
+#[cycle(statements)]
+#[tactic(auto, using(crate::proofs::Lists::items_map))]
+fn items(source: Source, left: u8, tokens: &[Token]) -> Result<(Vec<Item>, u8, &[Token]), Stop>
+    ensures read { Gives (λ x. (map view_item x.0.items, leaves_of source.count x.2.now)) result (many (item_at (within 64 left)) (leaves_of source.count tokens.now)) }
+    ensures rows { IfOk result (λ x. items_of (map view_item x.0.items) ≡ views_items x.0.items) }
+    ensures height { IfOk result (λ x. x.1 ≡ height_items (views_items x.0.items)) }
+    ensures within { IfOk result (λ x. x.1 ≤ 64) }
+{
+    let mut all = Vec::new(source.alloc);
+    let mut height = 0;
+    let mut rest = tokens;
+    for _ in 0..tokens.len() {
+        let Some((item, tall, after)) = item(source, left, rest)? else {
+            return Ok((all, height, rest));
+        };
+        all.push(item)?;
+        height = higher(height, tall);
+        rest = after;
+    }
+    Ok((all, height, rest))
+}
+
+/// A compound statement (6.8.2).
+#[cycle(statements)]
+#[tactic(auto, unfolding(ec_reading::specs::Reading::compound_by))]
+pub fn compound(
+    source: Source,
+    left: u8,
+    room: u8,
+    tokens: &[Token],
+) -> Result<(Compound, u8, &[Token]), Stop>
+    requires { room ≤ 64 }
+    ensures read { Gives (λ x. (view_compound x.0, leaves_of source.count x.2.now)) result (compound_by (within 64 left) room (leaves_of source.count tokens.now)) }
+    ensures height { IfOk result (λ x. x.1 ≡ height_compound (view_compound x.0)) }
+    ensures within { IfOk result (λ x. (0 < x.1) × (x.1 ≤ room)) }
+{
+    let (opening, rest) = expect(source, tokens, PunctKind::LeftBrace)?;
+    let (pragmas, rest) = pragmas(source, rest)?;
+    let (items, below, rest) = items(source, left, rest)?;
+    let (closing, rest) = expect(source, rest, PunctKind::RightBrace)?;
+    let height = ended(source, room, below, rest)?;
+    let tree = Compound {
+        opening,
+        pragmas,
+        items,
+        closing,
+    };
+    Ok((tree, height, rest))
+}
+
+// Statements.
+
+/// A statement inside another one.
+#[cycle(statements)]
+fn substatement(
+    source: Source,
+    left: u8,
+    room: u8,
+    tokens: &[Token],
+) -> Result<(Statement, u8, &[Token]), Stop>
+    requires { room ≤ 64 }
+    ensures read { Gives (λ x. (view_statement x.0, leaves_of source.count x.2.now)) result (substatement (within 64 left) room (leaves_of source.count tokens.now)) }
+    ensures height { IfOk result (λ x. x.1 ≡ height_statement (view_statement x.0)) }
+    ensures within { IfOk result (λ x. (0 < x.1) × (x.1 ≤ room)) }
+{
+    let left = begun_statement(source, left, tokens)?;
+    statement(source, left, room, tokens)
+}
+
+/// What follows the first statement of an `if`: an `else` that follows belongs to it.
+#[cycle(statements)]
+#[tactic(auto, unfolding(ec_reading::specs::Reading::else_by))]
+fn otherwise(
+    source: Source,
+    left: u8,
+    room: u8,
+    word: Spot,
+    test: Condition,
+    first: Statement,
+    below: u8,
+    tokens: &[Token],
+) -> Result<(Statement, u8, &[Token]), Stop>
+    requires room { room ≤ 64 }
+    requires height { below ≡ max (height_condition (view_condition test)) (height_statement (view_statement first)) }
+    requires within { suc below ≤ room }
+    ensures read { Gives (λ x. (view_statement x.0, leaves_of source.count x.2.now)) result (else_by (within 64 left) room word (view_condition test) (view_statement first) (leaves_of source.count tokens.now)) }
+    ensures height { IfOk result (λ x. x.1 ≡ height_statement (view_statement x.0)) }
+    ensures within { IfOk result (λ x. (0 < x.1) × (x.1 ≤ room)) }
+{
+    let Some((other, rest)) = take_word(source, tokens, WordKind::Else) else {
+        let first = Box::new(source.alloc, first)?;
+        return Ok((Statement::If(word, test, first), below + 1, tokens));
+    };
+    let last = room_behind(room, below);
+    let (second, height, rest) = substatement(source, left, last, rest)?;
+    let first = Box::new(source.alloc, first)?;
+    let second = Box::new(source.alloc, second)?;
+    let tree = Statement::IfElse(word, test, first, other, second);
+    Ok((tree, higher(below, height) + 1, rest))
+}
+
+/// A selection statement (6.8.4.1).
+#[cycle(statements)]
+#[tactic(auto, unfolding(ec_reading::specs::Reading::if_by))]
+fn selection(
+    source: Source,
+    left: u8,
+    room: u8,
+    word: Spot,
+    tokens: &[Token],
+) -> Result<(Statement, u8, &[Token]), Stop>
+    requires { room ≤ 64 }
+    ensures read { Gives (λ x. (view_statement x.0, leaves_of source.count x.2.now)) result (if_by (within 64 left) room word (leaves_of source.count tokens.now)) }
+    ensures height { IfOk result (λ x. x.1 ≡ height_statement (view_statement x.0)) }
+    ensures within { IfOk result (λ x. (0 < x.1) × (x.1 ≤ room)) }
+{
+    let (test, test_height, rest) = condition(source, left, tokens)?;
+    let last = room_behind(room, test_height);
+    let (first, height, rest) = substatement(source, left, last, rest)?;
+    let below = higher(test_height, height);
+    otherwise(source, left, room, word, test, first, below, rest)
+}
+
+/// A `while` (6.8.5.1).
+#[cycle(statements)]
+#[tactic(auto, unfolding(ec_reading::specs::Reading::while_by))]
+fn loop_while(
+    source: Source,
+    left: u8,
+    room: u8,
+    word: Spot,
+    tokens: &[Token],
+) -> Result<(Statement, u8, &[Token]), Stop>
+    requires { room ≤ 64 }
+    ensures read { Gives (λ x. (view_statement x.0, leaves_of source.count x.2.now)) result (while_by (within 64 left) room word (leaves_of source.count tokens.now)) }
+    ensures height { IfOk result (λ x. x.1 ≡ height_statement (view_statement x.0)) }
+    ensures within { IfOk result (λ x. (0 < x.1) × (x.1 ≤ room)) }
+{
+    let (test, test_height, rest) = condition(source, left, tokens)?;
+    let last = room_behind(room, test_height);
+    let (body, height, rest) = substatement(source, left, last, rest)?;
+    let body = Box::new(source.alloc, body)?;
+    let tree = Statement::While(word, test, body);
+    Ok((tree, higher(test_height, height) + 1, rest))
+}
+
+/// A `do` (6.8.5.2).
+#[cycle(statements)]
+#[tactic(auto, unfolding(ec_reading::specs::Reading::do_by))]
+fn loop_do(
+    source: Source,
+    left: u8,
+    room: u8,
+    word: Spot,
+    tokens: &[Token],
+) -> Result<(Statement, u8, &[Token]), Stop>
+    requires { room ≤ 64 }
+    ensures read { Gives (λ x. (view_statement x.0, leaves_of source.count x.2.now)) result (do_by (within 64 left) room word (leaves_of source.count tokens.now)) }
+    ensures height { IfOk result (λ x. x.1 ≡ height_statement (view_statement x.0)) }
+    ensures within { IfOk result (λ x. (0 < x.1) × (x.1 ≤ room)) }
+{
+    let (body, body_height, rest) = substatement(source, left, LIMIT, tokens)?;
+    let (again, rest) = expect_word(source, rest, WordKind::While)?;
+    let (test, test_height, rest) = condition(source, left, rest)?;
+    let (semicolon, rest) = expect(source, rest, PunctKind::Semicolon)?;
+    let height = ended(source, room, higher(body_height, test_height), rest)?;
+    let body = Box::new(source.alloc, body)?;
+    let tree = Statement::Do(word, body, again, test, semicolon);
+    Ok((tree, height, rest))
+}
+
+/// A `for` (6.8.5.3).
+#[cycle(statements)]
+#[tactic(auto, unfolding(ec_reading::specs::Reading::for_by))]
+fn loop_for(
+    source: Source,
+    left: u8,
+    room: u8,
+    word: Spot,
+    tokens: &[Token],
+) -> Result<(Statement, u8, &[Token]), Stop>
+    requires { room ≤ 64 }
+    ensures read { Gives (λ x. (view_statement x.0, leaves_of source.count x.2.now)) result (for_by (within 64 left) room word (leaves_of source.count tokens.now)) }
+    ensures height { IfOk result (λ x. x.1 ≡ height_statement (view_statement x.0)) }
+    ensures within { IfOk result (λ x. (0 < x.1) × (x.1 ≤ room)) }
+{
+    let (heading, heading_height, rest) = heading(source, left, tokens)?;
+    let last = room_behind(room, heading_height);
+    let (body, height, rest) = substatement(source, left, last, rest)?;
+    let body = Box::new(source.alloc, body)?;
+    let tree = Statement::For(word, heading, body);
+    Ok((tree, higher(heading_height, height) + 1, rest))
+}
+
+/// A `return` (6.8.6.4).
+#[tactic(auto, unfolding(ec_reading::specs::Reading::return_by))]
+fn returned(
+    source: Source,
+    left: u8,
+    room: u8,
+    word: Spot,
+    tokens: &[Token],
+) -> Result<(Statement, u8, &[Token]), Stop>
+    requires { room ≤ 64 }
+    ensures read { Gives (λ x. (view_statement x.0, leaves_of source.count x.2.now)) result (return_by (within 64 left) room word (leaves_of source.count tokens.now)) }
+    ensures height { IfOk result (λ x. x.1 ≡ height_statement (view_statement x.0)) }
+    ensures within { IfOk result (λ x. (0 < x.1) × (x.1 ≤ room)) }
+{
+    let (value, semicolon, below, rest) = optional(source, left, PunctKind::Semicolon, tokens)?;
+    let height = ended(source, room, below, rest)?;
+    Ok((Statement::Return(word, value, semicolon), height, rest))
+}
+
+/// What follows the word that begins a statement.
+#[cycle(statements)]
+fn worded(
+    source: Source,
+    left: u8,
+    room: u8,
+    word: Spot,
+    keyword: Keyword,
+    tokens: &[Token],
+) -> Result<(Statement, u8, &[Token]), Stop>
+    requires { room ≤ 64 }
+    ensures read { Gives (λ x. (view_statement x.0, leaves_of source.count x.2.now)) result (worded_by (within 64 left) room word (view_keyword keyword) (leaves_of source.count tokens.now)) }
+    ensures height { IfOk result (λ x. x.1 ≡ height_statement (view_statement x.0)) }
+    ensures within { IfOk result (λ x. (0 < x.1) × (x.1 ≤ room)) }
+{
+    match keyword {
+        Keyword::If => selection(source, left, room, word, tokens),
+        Keyword::While => loop_while(source, left, room, word, tokens),
+        Keyword::Do => loop_do(source, left, room, word, tokens),
+        Keyword::For => loop_for(source, left, room, word, tokens),
+        Keyword::Break => {
+            let (semicolon, rest) = expect(source, tokens, PunctKind::Semicolon)?;
+            let height = ended(source, room, 0, rest)?;
+            Ok((Statement::Break(word, semicolon), height, rest))
+        }
+        Keyword::Continue => {
+            let (semicolon, rest) = expect(source, tokens, PunctKind::Semicolon)?;
+            let height = ended(source, room, 0, rest)?;
+            Ok((Statement::Continue(word, semicolon), height, rest))
+        }
+        Keyword::Return => returned(source, left, room, word, tokens),
+    }
+}
+
+/// An expression statement, or none (6.8.3).
+#[tactic(auto, unfolding(ec_reading::specs::Reading::simple_by))]
+fn simple(
+    source: Source,
+    left: u8,
+    room: u8,
+    tokens: &[Token],
+) -> Result<(Statement, u8, &[Token]), Stop>
+    requires { room ≤ 64 }
+    ensures read { Gives (λ x. (view_statement x.0, leaves_of source.count x.2.now)) result (simple_by (within 64 left) room (leaves_of source.count tokens.now)) }
+    ensures height { IfOk result (λ x. x.1 ≡ height_statement (view_statement x.0)) }
+    ensures within { IfOk result (λ x. (0 < x.1) × (x.1 ≤ room)) }
+{
+    let (value, semicolon, below, rest) = optional(source, left, PunctKind::Semicolon, tokens)?;
+    let height = ended(source, room, below, rest)?;
+    Ok((Statement::Simple(value, semicolon), height, rest))
+}
+
+/// A statement that has begun (6.8).
+#[cycle(statements)]
+#[tactic(auto, unfolding(ec_reading::specs::Reading::statement_by))]
+fn statement(
+    source: Source,
+    left: u8,
+    room: u8,
+    tokens: &[Token],
+) -> Result<(Statement, u8, &[Token]), Stop>
+    requires { room ≤ 64 }
+    ensures read { Gives (λ x. (view_statement x.0, leaves_of source.count x.2.now)) result (statement_by (within 64 left) room (leaves_of source.count tokens.now)) }
+    ensures height { IfOk result (λ x. x.1 ≡ height_statement (view_statement x.0)) }
+    ensures within { IfOk result (λ x. (0 < x.1) × (x.1 ≤ room)) }
+{
+    if let Some((word, keyword, rest)) = take_keyword(source, tokens) {
+        return worded(source, left, room, word, keyword, rest);
+    }
+    if let Some(_) = take(source, tokens, PunctKind::LeftBrace) {
+        let (block, height, rest) = compound(source, left, room, tokens)?;
+        return Ok((Statement::Compound(block), height, rest));
+    }
+    simple(source, left, room, tokens)
+}

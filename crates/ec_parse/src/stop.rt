@@ -1,0 +1,53 @@
+//! Why a list of tokens has no tree.
+
+ghost use Rattle.std.specs.Prelude.{◌≡◌};
+ghost use Rattle.ec_parse.specs.declared.stop.Stop.TheVariants.{NoMemory as OutOfMemory};
+
+use ec_space::NoMemory;
+use std::alloc::{AllocError, AllocFailed};
+use thiserror::Error;
+
+/// Why a list of tokens has no tree, with the index of the first token that cannot be gone on with.
+#[derive(Clone, Copy, Debug, PartialEq, Eq, Error)]
+pub enum ParseStop {
+    /// No tree begins with the tokens before this one and this one.
+    #[error("token {0}: unexpected")]
+    Syntax(u32),
+    /// At this token a limit of nesting is passed.
+    #[error("token {0}: nested too deep")]
+    TooDeep(u32),
+    #[error("no memory")]
+    NoMemory,
+}
+
+/// Why reading stops, with the number of tokens from that place on.
+#[derive(Clone, Copy)]
+pub enum Stop {
+    NoMemory,
+    Syntax(usize),
+    TooDeep(usize),
+}
+
+impl From<NoMemory> for Stop {
+    ghost from_gives = { λ _ e. e ≡ OutOfMemory };
+
+    fn from(_e: NoMemory) -> Stop {
+        Stop::NoMemory
+    }
+}
+
+impl From<AllocError> for Stop {
+    ghost from_gives = { λ _ e. e ≡ OutOfMemory };
+
+    fn from(_e: AllocError) -> Stop {
+        Stop::NoMemory
+    }
+}
+
+impl<T: Drop> From<AllocFailed<T>> for Stop {
+    ghost from_gives = { λ _ e. e ≡ OutOfMemory };
+
+    fn from(_e: AllocFailed<T>) -> Stop {
+        Stop::NoMemory
+    }
+}

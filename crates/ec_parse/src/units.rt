@@ -1,0 +1,249 @@
+//! Units (ISO/IEC 9899:1999, 6.9; named registers: ISO/IEC TR 18037:2008, 5.2.2).
+
+ghost use Rattle.std.specs.Prelude.{map};
+ghost use Rattle.ec_grammar.specs.Trees.{function_item};
+ghost use Rattle.ec_grammar.specs.Views.{view_identifier, view_specs, view_declarator, view_structure, view_register_object, view_function, view_external, view_tree};
+ghost use Rattle.ec_reading.specs.Reading.{within, many, structure_at, structure_by, register_by, function_at, defined_by, external_at, unit_by, read};
+ghost use Rattle.ec_parse.specs.Reads.{leaves_of, Gives, GivesAt, GivesFirst};
+ghost use Rattle.ec_parse.specs.Units.{IsHead, view_head, function_by};
+
+use crate::declarations::{declarator, declared, member, more_members};
+use crate::depth::{LIMIT, begun_body};
+use crate::statements::compound;
+use crate::stop::Stop;
+use crate::tokens::{
+    Source, begins_specs, expect, expect_end, expect_name, take, take_name, take_pragma, take_word,
+    unexpected,
+};
+use crate::types::specs;
+use ec_grammar::tree::{
+    Declarator, External, Function, Identifier, Params, RegisterObject, Shape, Specs, Spot,
+    Structure, Tree, TypeName,
+};
+use ec_grammar::{PunctKind, Token, WordKind};
+use ec_space::NoMemory;
+
+// Structs.
+
+/// What the definition of a struct begins with: `struct`, the tag and `{`.
+#[tactic(auto, unfolding(ec_reading::specs::Reading::structure_at))]
+fn structure_head(
+    source: Source,
+    tokens: &[Token],
+) -> Result<Option<(Spot, Identifier, Spot, &[Token])>, NoMemory>
+    ensures { GivesFirst (λ x. (x.0, view_identifier x.1, x.2, leaves_of source.count x.3.now)) result (structure_at (leaves_of source.count tokens.now)) }
+{
+    let Some((word, rest)) = take_word(source, tokens, WordKind::Struct) else {
+        return Ok(None);
+    };
+    let Some((tag, rest)) = take_name(source, rest)? else {
+        return Ok(None);
+    };
+    let Some((opening, rest)) = take(source, rest, PunctKind::LeftBrace) else {
+        return Ok(None);
+    };
+    Ok(Some((word, tag, opening, rest)))
+}
+
+/// The definition of a struct (6.7.2.1) that has begun.
+#[tactic(auto, unfolding(ec_reading::specs::Reading::structure_by))]
+fn structure(
+    source: Source,
+    left: u8,
+    word: Spot,
+    tag: Identifier,
+    opening: Spot,
+    tokens: &[Token],
+) -> Result<(Structure, &[Token]), Stop>
+    ensures { Gives (λ x. (view_structure x.0, leaves_of source.count x.1.now)) result (structure_by (within 64 left) word (view_identifier tag) opening (leaves_of source.count tokens.now)) }
+{
+    let (first, rest) = member(source, left, tokens)?;
+    let (more, rest) = more_members(source, left, rest)?;
+    let (closing, rest) = expect(source, rest, PunctKind::RightBrace)?;
+    let (semicolon, rest) = expect(source, rest, PunctKind::Semicolon)?;
+    let tree = Structure {
+        word,
+        tag,
+        opening,
+        first,
+        more,
+        closing,
+        semicolon,
+    };
+    Ok((tree, rest))
+}
+
+/// What follows the word `register`.
+#[tactic(auto, unfolding(ec_reading::specs::Reading::register_by))]
+fn register(
+    source: Source,
+    word: Spot,
+    tokens: &[Token],
+) -> Result<(RegisterObject, &[Token]), Stop>
+    ensures { Gives (λ x. (view_register_object x.0, leaves_of source.count x.1.now)) result (register_by word (leaves_of source.count tokens.now)) }
+{
+    let (register, rest) = expect_name(source, tokens)?;
+    let (specs, rest) = specs(source, rest)?;
+    let (name, rest) = expect_name(source, rest)?;
+    let (semicolon, rest) = expect(source, rest, PunctKind::Semicolon)?;
+    let tree = RegisterObject {
+        word,
+        register,
+        specs,
+        name,
+        semicolon,
+    };
+    Ok((tree, rest))
+}
+
+// Functions and declarations.
+
+/// The parts of a function before its body.
+#[derive(Drop)]
+pub struct Head {
+    pub result: TypeName,
+    pub name: Identifier,
+    pub opening: Spot,
+    pub params: Params,
+    pub closing: Spot,
+}
+
+/// The specifiers and the declarator, taken apart where they are those of a function and its body begins; else the
+/// two again.
+#[tactic(auto, unfolding(ec_reading::specs::Reading::function_at))]
+fn head_of(
+    source: Source,
+    specs: Specs,
+    declarator: Declarator,
+    tokens: &[Token],
+) -> Result<Head, (Specs, Declarator)>
+    ensures { IsHead (view_specs specs) (view_declarator declarator) result (function_at (view_specs specs) (view_declarator declarator) (leaves_of source.count tokens.now)) }
+{
+    let Some(_) = take(source, tokens, PunctKind::LeftBrace) else {
+        return Err((specs, declarator));
+    };
+    match declarator {
+        Declarator {
+            stars,
+            name,
+            shape: Shape::Function(opening, params, closing),
+        } => {
+            let result = TypeName { specs, stars };
+            Ok(Head {
+                result,
+                name,
+                opening,
+                params,
+                closing,
+            })
+        }
+        other => Err((specs, other)),
+    }
+}
+
+/// The function whose body begins here.
+fn function(
+    source: Source,
+    left: u8,
+    head: Head,
+    tokens: &[Token],
+) -> Result<(Function, &[Token]), Stop>
+    ensures { Gives (λ x. (function_item (view_function x.0), leaves_of source.count x.1.now)) result (function_by (within 64 left) (view_head head) (leaves_of source.count tokens.now)) }
+{
+    let left = begun_body(source, left, tokens)?;
+    let (body, _, rest) = compound(source, left, LIMIT, tokens)?;
+    let tree = Function {
+        result: head.result,
+        name: head.name,
+        opening: head.opening,
+        params: head.params,
+        closing: head.closing,
+        body,
+    };
+    Ok((tree, rest))
+}
+
+/// A function, where the brace of a body follows a declarator of one; else a declaration.
+#[tactic(auto, unfolding(ec_reading::specs::Reading::defined_by))]
+fn defined(source: Source, left: u8, tokens: &[Token]) -> Result<(External, &[Token]), Stop>
+    ensures { Gives (λ x. (view_external x.0, leaves_of source.count x.1.now)) result (defined_by (within 64 left) (leaves_of source.count tokens.now)) }
+{
+    let (specs, rest) = specs(source, tokens)?;
+    let (declarator, height, rest) = declarator(source, left, rest)?;
+    match head_of(source, specs, declarator, rest) {
+        Ok(head) => {
+            let (function, rest) = function(source, left, head, rest)?;
+            Ok((External::Function(function), rest))
+        }
+        Err((specs, declarator)) => {
+            let (tree, _, rest) = declared(source, left, specs, declarator, height, rest)?;
+            Ok((External::Declaration(tree), rest))
+        }
+    }
+}
+
+// Units.
+
+#[tactic(auto, unfolding(ec_reading::specs::Reading::external_at))]
+fn external(
+    source: Source,
+    left: u8,
+    tokens: &[Token],
+) -> Result<Option<(External, &[Token])>, Stop>
+    ensures { GivesAt (λ x. (view_external x.0, leaves_of source.count x.1.now)) result (external_at (within 64 left) (leaves_of source.count tokens.now)) }
+{
+    if let Some((pragma, rest)) = take_pragma(source, tokens) {
+        return Ok(Some((External::Pragma(pragma), rest)));
+    }
+    if let Some((word, tag, opening, rest)) = structure_head(source, tokens)? {
+        let (tree, rest) = structure(source, left, word, tag, opening, rest)?;
+        return Ok(Some((External::Structure(tree), rest)));
+    }
+    if let Some((word, rest)) = take_word(source, tokens, WordKind::Register) {
+        let (tree, rest) = register(source, word, rest)?;
+        return Ok(Some((External::Register(tree), rest)));
+    }
+    if begins_specs(source, tokens) {
+        let (tree, rest) = defined(source, left, tokens)?;
+        return Ok(Some((tree, rest)));
+    }
+    Ok(None)
+}
+
+#[tactic(auto, using(crate::proofs::Many::loops))]
+fn externals(source: Source, left: u8, tokens: &[Token]) -> Result<(Vec<External>, &[Token]), Stop>
+    ensures { Gives (λ x. (map view_external x.0.items, leaves_of source.count x.1.now)) result (many (external_at (within 64 left)) (leaves_of source.count tokens.now)) }
+{
+    let mut all = Vec::new(source.alloc);
+    let mut rest = tokens;
+    for _ in 0..tokens.len() {
+        let Some((item, after)) = external(source, left, rest)? else {
+            return Ok((all, rest));
+        };
+        all.push(item)?;
+        rest = after;
+    }
+    Ok((all, rest))
+}
+
+#[tactic(auto, unfolding(ec_reading::specs::Reading::unit_by))]
+fn unit(source: Source, left: u8, tokens: &[Token]) -> Result<(Tree, &[Token]), Stop>
+    ensures { Gives (λ x. (view_tree x.0, leaves_of source.count x.1.now)) result (unit_by (within 64 left) (leaves_of source.count tokens.now)) }
+{
+    let (items, rest) = externals(source, left, tokens)?;
+    let (end, rest) = expect_end(source, rest)?;
+    Ok((Tree { items, end }, rest))
+}
+
+/// The tree of all the tokens.
+#[tactic(auto, unfolding(ec_reading::specs::Reading::read))]
+pub fn read(source: Source, tokens: &[Token]) -> Result<Tree, Stop>
+    ensures { Gives view_tree result (read 64 (leaves_of source.count tokens.now)) }
+{
+    let (tree, rest) = unit(source, LIMIT, tokens)?;
+    if rest.is_empty() {
+        Ok(tree)
+    } else {
+        Err(unexpected(source, rest))
+    }
+}
