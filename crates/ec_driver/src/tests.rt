@@ -198,7 +198,7 @@ fn tells_what_stops_it(rt: HostRuntime) -> Result<(), Fail> {
 fn keeps_its_limits(rt: HostRuntime) -> Result<(), Fail> {
     let alloc = rt.alloc();
     let cases = [
-        (b' ', 65_536, 6, "a.c token 0: syntax\n"),
+        (b' ', 65_536, 7, "a.c token 0: constraint 0\n"),
         (b' ', 65_537, 10, "limit 2 65536\n"),
         (b'(', 65_535, 6, "a.c token 0: syntax\n"),
         (b'(', 65_536, 10, "limit 6 65535\n"),

@@ -137,7 +137,6 @@ fn add(rt: &HostRuntime, tokens: &mut Seq<Token>, text: &str, times: u32) -> Res
 }
 
 /// The answer for the tokens and the end. A list of 100,000 tokens or more is no test.
-#[tactic(auto, using(crate::proofs::Ends::ends_with_end))]
 fn parsed(rt: &HostRuntime, tokens: &mut Seq<Token>) -> Result<Result<Tree, ParseStop>, Fail> {
     let kind = TokenKind::End;
     tokens.push(Token { at: 7, kind })?;
