@@ -1,0 +1,151 @@
+-- Calls and blocks as plain trees, and the weights of items.
+use Rattle.std.proofs.Common.{◌≡◌, ◌<◌, ◌+◌, ◌-◌, ◌*◌, ℕ, zero, suc, Bool, List, [], ◌∷◌, length, get_or, take, drop, Some, None, refl, ap, sym, ◌∙◌, ◌≤◌, map, arith, rules}
+use Rattle.std.proofs.Math.Seq.{drop-cons}
+use Rattle.std.specs.Prelude.{if◌then◌else◌, slice_get}
+use Rattle.ec_fx.specs.declared.numbers.Mode.{Mode}
+use Rattle.ec_space.specs.Listed.{Listed}
+use Rattle.ec_core.specs.declared.expressions.Expr.{Expr}
+use Rattle.ec_core.specs.declared.expressions.Node.{Call, the_lemmas as node_lemmas}
+use Rattle.ec_core.specs.declared.statements.Stmt.{Stmt}
+use Rattle.ec_core.specs.declared.statements.StmtKind.{Block, the_lemmas as kind_lemmas}
+use Rattle.ec_core.specs.Plain.{a_stmt, statement, PlainType, PlainMember, PlainPlace, object, deref, member, PlainFunction, call, block, plain_node, plain_kind, plain_expr, plain_exprs, plain_stmt, plain_stmts, plain_type, plain_member}
+use Rattle.ec_core.specs.declared.types.Member.{Member}
+use Rattle.ec_core.specs.Accesses.{begun, initialised}
+use Rattle.ec_core.specs.Layout.{Layout, members_layout, type_layout, scalar_size}
+use Rattle.ec_core.specs.Expressions.{Calls, node_value, values_of}
+use Rattle.ec_core.specs.PortAccesses.{next_byte, byte_read, number_read}
+use Rattle.ec_core.specs.PortTable.{PlainTable}
+use Rattle.ec_core.specs.State.{Inputs, Setting, State, worked, Outcome, next, undefined}
+use Rattle.ec_core.specs.Statements.{Exit, kind_effect, effects_of, ending, declared, declared_first, again, tested, turns, bound, calls_within, call_of}
+use Rattle.ec_core.specs.Words.{widest, pointer_types, loop_words, node_words, total_size}
+use Rattle.ec_core.specs.declared.values.Undefined.TheVariants.{Access as NoAccess}
+use Rattle.ec_core.specs.declared.values.Value.{Value}
+use Rattle.ec_core.proofs.Rows.{plain_expr_row-row, plain_stmt_row-row}
+use Rattle.ec_interp.specs.Lookups.{widest_from}
+use Rattle.ec_interp.specs.Weights.{expr_weight, node_weight, exprs_weight, stmt_weight, kind_weight, stmts_weight, bodies}
+
+pub plain_call : (f : ℕ) (args : Listed Expr) → plain_node (Call f args) ≡ call f (plain_exprs args.items)
+plain_call f args = search (rules, plain_expr_row-row, node_lemmas)
+
+pub plain_block : (ss : Listed Stmt) → plain_kind (Block ss) ≡ block (plain_stmts ss.items)
+plain_block ss = search (rules, plain_stmt_row-row, kind_lemmas)
+
+pub words_call : (table : PlainTable) (ty : PlainType) (f : ℕ) (args : Listed Expr) → node_words table ty (plain_node (Call f args)) ≡ 60 + 10 * (total_size (plain_exprs args.items) + scalar_size ty)
+words_call table ty f args = ap (node_words table ty) (plain_call f args)
+
+pub value_call : (w : Setting) (calls : Calls) (ty : PlainType) (mode : Mode) (f : ℕ) (args : Listed Expr) (s : State) → node_value w calls ty mode (plain_node (Call f args)) s ≡ next (values_of w calls (plain_exprs args.items) s) (λ xs s1. calls f xs s1)
+value_call w calls ty mode f args s = ap (λ node. node_value w calls ty mode node s) (plain_call f args)
+
+pub effect_block : (w : Setting) (calls : Calls) (n : ℕ) (outlived : Bool) (ss : Listed Stmt) (s : State) → kind_effect w calls n outlived (plain_kind (Block ss)) s ≡ ending (if outlived then [] else declared (plain_stmts ss.items)) (effects_of w calls n (plain_stmts ss.items) s)
+effect_block w calls n outlived ss s = ap (λ kind. kind_effect w calls n outlived kind s) (plain_block ss)
+
+pub first_block : (unit at : ℕ) (ss : Listed Stmt) → declared_first (a_stmt (statement unit at (plain_kind (Block ss)))) ≡ declared (plain_stmts ss.items)
+first_block unit at ss = ap (λ kind. declared_first (a_stmt (statement unit at kind))) (plain_block ss)
+
+pub weight_call : (f : ℕ) (args : Listed Expr) → node_weight (plain_node (Call f args)) ≡ exprs_weight (plain_exprs args.items) + 1
+weight_call f args = ap node_weight (plain_call f args)
+
+pub weight_block : (ss : Listed Stmt) → kind_weight (plain_kind (Block ss)) ≡ stmts_weight (plain_stmts ss.items) + 1
+weight_block ss = ap kind_weight (plain_block ss)
+
+pub widest_pointers : (p : PlainPlace) (tys : List PlainType) → widest (pointer_types p tys) ≡ widest_from p (widest tys)
+widest_pointers (object o) tys = refl
+widest_pointers (deref e) tys = refl
+widest_pointers (member p i) tys = widest_pointers p tys
+
+-- ---- weights
+
+exprs_some : (es : List Expr) → 0 < exprs_weight (plain_exprs es)
+exprs_some [] = omega arith
+exprs_some (e ∷ es) = let p = exprs_some es in omega arith
+
+pub lighter_expr : (es : List Expr) (i : ℕ) (d : Expr) → i < length es → expr_weight (plain_expr (get_or es i d)) < exprs_weight (plain_exprs es)
+lighter_expr [] i d h = absurd (omega arith)
+lighter_expr (e ∷ es) zero d h = let p = exprs_some es in omega arith
+lighter_expr (e ∷ es) (suc i) d h = let p = lighter_expr es i d (omega arith) in omega arith
+
+stmts_some : (ss : List Stmt) → 0 < stmts_weight (plain_stmts ss)
+stmts_some [] = omega arith
+stmts_some (s ∷ ss) = let p = stmts_some ss in omega arith
+
+pub lighter_stmt : (ss : List Stmt) (i : ℕ) (d : Stmt) → i < length ss → stmt_weight (plain_stmt (get_or ss i d)) < stmts_weight (plain_stmts ss)
+lighter_stmt [] i d h = absurd (omega arith)
+lighter_stmt (s ∷ ss) zero d h = let p = stmts_some ss in omega arith
+lighter_stmt (s ∷ ss) (suc i) d h = let p = lighter_stmt ss i d (omega arith) in omega arith
+
+bodies_some : (fs : List PlainFunction) → 2 < bodies fs
+bodies_some [] = omega arith
+bodies_some (f ∷ fs) = let p = bodies_some fs in omega arith
+
+pub lighter_body : (fs : List PlainFunction) (i : ℕ) (f : PlainFunction) → slice_get fs i ≡ Some f → stmt_weight f.body + 2 < bodies fs
+lighter_body [] i f h = cc
+lighter_body (g ∷ fs) zero f h = let e : g ≡ f = cc in let p = bodies_some fs in omega (arith, ap (λ (k : PlainFunction). stmt_weight k.body) e)
+lighter_body (g ∷ fs) (suc i) f h = let p = lighter_body fs i f h in omega arith
+
+-- ---- one turn, and one call less
+
+pub turns_one : (n : ℕ) (body : State → Outcome Exit) (test : State → Outcome Bool) (s : State) → 0 < n → turns n body test s ≡ next (body (worked loop_words s)) (λ x s1. again x s1 (λ s2. tested (test s2) (λ s3. turns (n - 1) body test s3)))
+turns_one zero body test s h = absurd (omega arith)
+turns_one (suc n) body test s h =
+    let e : n ≡ suc n - 1 = omega arith in
+    ap (λ k. next (body (worked loop_words s)) (λ x s1. again x s1 (λ s2. tested (test s2) (λ s3. turns k body test s3)))) e
+
+pub calls_one : (w : Setting) (n d f : ℕ) (xs : List Value) (s : State) → 0 < d → calls_within w n d f xs s ≡ call_of w (calls_within w n (d - 1)) n f (slice_get w.program.functions f) xs s
+calls_one w n zero f xs s h = absurd (omega arith)
+calls_one w n (suc d) f xs s h =
+    let e : d ≡ suc d - 1 = omega arith in
+    ap (λ k. call_of w (calls_within w n k) n f (slice_get w.program.functions f) xs s) e
+
+pub one_less : (d b : ℕ) → 0 < d → (d - 1) * b + b ≡ d * b
+one_less zero b h = absurd (omega arith)
+one_less (suc d) b h = let e : suc d - 1 ≡ d = omega arith in rw e (grind arith)
+
+-- ---- ports and members
+
+pub number_read_one : (inputs : Inputs) (n port : ℕ) (s : State) → 0 < n → number_read inputs n port s ≡ next_byte inputs port s + 256 * number_read inputs (n - 1) (port + 1) (byte_read inputs port s)
+number_read_one inputs zero port s h = absurd (omega arith)
+number_read_one inputs (suc n) port s h =
+    let e : n ≡ suc n - 1 = omega arith in
+    ap (λ k. next_byte inputs port s + 256 * number_read inputs k (port + 1) (byte_read inputs port s)) e
+
+pub members_one : (layouts : ℕ → Layout) (n : ℕ) (m : PlainMember) (ms : List PlainMember) → 0 < n → (members_layout layouts (take n (m ∷ ms))).size ≡ (type_layout layouts m.ty).size + (members_layout layouts (take (n - 1) ms)).size
+members_one layouts zero m ms h = absurd (omega arith)
+members_one layouts (suc n) m ms h =
+    let e : n ≡ suc n - 1 = omega arith in
+    ap (λ k. (type_layout layouts m.ty).size + (members_layout layouts (take k ms)).size) e
+
+take_all : {A : Type 0} (xs : List A) → take (length xs) xs ≡ xs
+take_all [] = refl
+take_all (x ∷ xs) = ap (λ ys. x ∷ ys) (take_all xs)
+
+pub members_step : (layouts : ℕ → Layout) (members : List Member) (n : ℕ) (first : Member) → 0 < n → 1 ≤ length members → first ≡ get_or members 0 first → (members_layout layouts (take n (map plain_member members))).size ≡ (type_layout layouts (plain_type first.ty)).size + (members_layout layouts (take (n - 1) (map plain_member (take (length members - 1) (drop 1 members))))).size
+members_step layouts [] n first h some e = absurd (omega arith)
+members_step layouts (m ∷ ms) n first h some e =
+    let less : suc (length ms) - 1 ≡ length ms = omega arith in
+    let rest : take (suc (length ms) - 1) ms ≡ ms = ap (λ k. take k ms) less ∙ take_all ms in
+    members_one layouts n (plain_member m) (map plain_member ms) h
+    ∙ (ap (λ (x : Member). (type_layout layouts (plain_type x.ty)).size + (members_layout layouts (take (n - 1) (map plain_member ms))).size) (sym e)
+    ∙ ap (λ xs. (type_layout layouts (plain_type first.ty)).size + (members_layout layouts (take (n - 1) (map plain_member xs))).size) (sym rest))
+
+-- ---- parameters
+
+past_none : (xs : List Value) (k : ℕ) → slice_get xs k ≡ None → drop k xs ≡ []
+past_none [] zero e = refl
+past_none [] (suc k) e = refl
+past_none (x ∷ xs) zero e = cc
+past_none (x ∷ xs) (suc k) e = past_none xs k e
+
+some_first : (xs : List Value) (k : ℕ) (v : Value) → slice_get xs k ≡ Some v → drop k xs ≡ v ∷ drop (suc k) xs
+some_first [] zero v e = cc
+some_first [] (suc k) v e = cc
+some_first (x ∷ xs) zero v e = let f : x ≡ v = cc in ap (λ y. y ∷ xs) f
+some_first (x ∷ xs) (suc k) v e = some_first xs k v e
+
+pub bound_none : (w : Setting) (os : List ℕ) (xs : List Value) (i : ℕ) (s : State) → i < length os → slice_get xs i ≡ None → bound w (drop i os) (drop i xs) s ≡ undefined NoAccess s
+bound_none w os xs i s h e =
+    let past : drop i xs ≡ [] = past_none xs i e in
+    let more = drop-cons os i 0 h in
+    rw (past, more) refl
+
+pub bound_some : (w : Setting) (os : List ℕ) (xs : List Value) (i : ℕ) (x : Value) (s : State) → i < length os → slice_get xs i ≡ Some x → bound w (drop i os) (drop i xs) s ≡ next (initialised w.program (get_or os i 0) 0 x (begun w.program (get_or os i 0) s)) (λ y s1. bound w (drop (suc i) os) (drop (suc i) xs) s1)
+bound_some w os xs i x s h e = rw (some_first xs i x e, drop-cons os i 0 h) refl

@@ -1,0 +1,102 @@
+use Rattle.std.proofs.Common.{◌≡◌, ◌+◌, ◌*◌, ◌++◌, Bool, drop, map}
+use Rattle.std.specs.Prelude.{option_map, false}
+use Rattle.std.specs.Option.{option_copied}
+use Rattle.ec_core.specs.Expressions.{values_of}
+use Rattle.ec_core.specs.Plain.{plain_expr, plain_exprs, plain_node, plain_place, plain_stmt, plain_stmts, plain_function}
+use Rattle.ec_core.specs.State.{State, Outcome, next, got}
+use Rattle.ec_core.specs.Statements.{Exit, initialising, effect_of, effects_of, going_on, turns, calls_within}
+use Rattle.ec_interp.specs.Views.{plain_optional, seen, setting_of}
+use Rattle.ec_interp.specs.Weights.{expr_weight, node_weight, place_weight, option_weight, exprs_weight, optional_weight, stmt_weight, stmts_weight, bodies}
+use Rattle.ec_interp.proofs.run.+run.Given as goal
+
+abbrev pub decreases-value_of : goal.decreases-value_of
+decreases-value_of l = l.depth * bodies (map plain_function l.f.now.program.now.funcs.items) + expr_weight (plain_expr l.e.now)
+
+abbrev pub decreases-node_value : goal.decreases-node_value
+decreases-node_value l = l.depth * bodies (map plain_function l.f.now.program.now.funcs.items) + node_weight (plain_node l.node.now)
+
+abbrev pub decreases-binary : goal.decreases-binary
+decreases-binary l = l.depth * bodies (map plain_function l.f.now.program.now.funcs.items) + expr_weight (plain_expr l.a.now) + expr_weight (plain_expr l.b.now) + 1
+
+abbrev pub decreases-compound : goal.decreases-compound
+decreases-compound l = l.depth * bodies (map plain_function l.f.now.program.now.funcs.items) + place_weight (plain_place l.p.now) + expr_weight (plain_expr l.a.now) + 1
+
+abbrev pub decreases-step : goal.decreases-step
+decreases-step l = l.depth * bodies (map plain_function l.f.now.program.now.funcs.items) + place_weight (plain_place l.p.now) + 1
+
+abbrev pub decreases-condition : goal.decreases-condition
+decreases-condition l = l.depth * bodies (map plain_function l.f.now.program.now.funcs.items) + expr_weight (plain_expr l.e.now) + 1
+
+abbrev pub decreases-place_of : goal.decreases-place_of
+decreases-place_of l = l.depth * bodies (map plain_function l.f.now.program.now.funcs.items) + place_weight (plain_place l.p.now)
+
+abbrev pub decreases-port_operation : goal.decreases-port_operation
+decreases-port_operation l = l.depth * bodies (map plain_function l.f.now.program.now.funcs.items) + option_weight (plain_optional (option_copied l.index)) + option_weight (plain_optional (option_copied l.value)) + 1
+
+abbrev pub decreases-option_value : goal.decreases-option_value
+decreases-option_value l = l.depth * bodies (map plain_function l.f.now.program.now.funcs.items) + option_weight (plain_optional (option_copied l.e))
+
+abbrev pub decreases-values_of : goal.decreases-values_of
+decreases-values_of l = l.depth * bodies (map plain_function l.f.now.program.now.funcs.items) + exprs_weight (plain_exprs l.es.now)
+
+abbrev pub decreases-holds : goal.decreases-holds
+decreases-holds l = l.depth * bodies (map plain_function l.f.now.program.now.funcs.items) + optional_weight (option_map plain_expr (option_copied l.c))
+
+abbrev pub decreases-done : goal.decreases-done
+decreases-done l = l.depth * bodies (map plain_function l.f.now.program.now.funcs.items) + optional_weight (option_map plain_expr (option_copied l.e))
+
+abbrev pub decreases-returned : goal.decreases-returned
+decreases-returned l = l.depth * bodies (map plain_function l.f.now.program.now.funcs.items) + optional_weight (option_map plain_expr l.e.now)
+
+abbrev pub decreases-initialising : goal.decreases-initialising
+decreases-initialising l = l.depth * bodies (map plain_function l.f.now.program.now.funcs.items) + exprs_weight (plain_exprs l.values.now)
+
+abbrev pub decreases-effect_of : goal.decreases-effect_of
+decreases-effect_of l = l.depth * bodies (map plain_function l.f.now.program.now.funcs.items) + stmt_weight (plain_stmt l.a.now)
+
+abbrev pub decreases-effects_of : goal.decreases-effects_of
+decreases-effects_of l = l.depth * bodies (map plain_function l.f.now.program.now.funcs.items) + stmts_weight (plain_stmts l.all.now)
+
+abbrev pub decreases-tested_loop : goal.decreases-tested_loop
+decreases-tested_loop l = l.depth * bodies (map plain_function l.f.now.program.now.funcs.items) + optional_weight (option_map plain_expr (option_copied l.c)) + optional_weight (option_map plain_expr (option_copied l.last)) + stmt_weight (plain_stmt l.body.now) + 4
+
+abbrev pub decreases-turning_loop : goal.decreases-turning_loop
+decreases-turning_loop l = l.depth * bodies (map plain_function l.f.now.program.now.funcs.items) + optional_weight (option_map plain_expr (option_copied l.c)) + optional_weight (option_map plain_expr (option_copied l.last)) + stmt_weight (plain_stmt l.body.now) + 3
+
+abbrev pub decreases-goes_on : goal.decreases-goes_on
+decreases-goes_on l = l.depth * bodies (map plain_function l.f.now.program.now.funcs.items) + optional_weight (option_map plain_expr (option_copied l.c)) + optional_weight (option_map plain_expr (option_copied l.last)) + 1
+
+abbrev pub decreases-call : goal.decreases-call
+decreases-call l = l.depth * bodies (map plain_function l.f.now.program.now.funcs.items)
+
+abbrev pub decreases-enter : goal.decreases-enter
+decreases-enter l = l.depth * bodies (map plain_function l.f.now.program.now.funcs.items) + stmt_weight (plain_stmt l.called.now.body) + 1
+
+abbrev pub invariant-values_of-loop-e : goal.invariant-values_of-loop-e
+invariant-values_of-loop-e l =
+    let w = setting_of l.f.program.now l.f.io.now l.f.inputs.now in
+    let calls = calls_within w l.f.turns l.depth in
+    next (values_of w calls (plain_exprs (drop l.e-index l.es)) (seen l.s)) (λ xs s. got (l.xs.items ++ xs) s) ≡ values_of w calls (plain_exprs l.es) (seen l.fn.s)
+
+abbrev pub invariant-initialising-loop-k : goal.invariant-initialising-loop-k
+invariant-initialising-loop-k l =
+    let w = setting_of l.f.program.now l.f.io.now l.f.inputs.now in
+    let calls = calls_within w l.f.turns l.depth in
+    initialising w calls l.o l.k (plain_exprs (drop l.k l.values)) (seen l.s) ≡ initialising w calls l.o 0 (plain_exprs l.values) (seen l.fn.s)
+
+abbrev pub invariant-effects_of-loop-a : goal.invariant-effects_of-loop-a
+invariant-effects_of-loop-a l =
+    let w = setting_of l.f.program.now l.f.io.now l.f.inputs.now in
+    let calls = calls_within w l.f.turns l.depth in
+    effects_of w calls l.f.turns (plain_stmts (drop l.a-index l.all)) (seen l.s) ≡ effects_of w calls l.f.turns (plain_stmts l.all) (seen l.fn.s)
+
+abbrev pub invariant-turning_loop-loop-left : goal.invariant-turning_loop-loop-left
+invariant-turning_loop-loop-left l =
+    let w = setting_of l.f.program.now l.f.io.now l.f.inputs.now in
+    let calls = calls_within w l.f.turns l.depth in
+    let body : State → Outcome Exit = λ s. effect_of w calls l.f.turns false (plain_stmt l.body) s in
+    let test : State → Outcome Bool = λ s. going_on w calls (option_map plain_expr (option_copied l.last)) (option_map plain_expr (option_copied l.c)) s in
+    turns l.left body test (seen l.s) ≡ turns l.f.turns body test (seen l.fn.s)
+
+abbrev pub decreases-turning_loop-loop-left : goal.decreases-turning_loop-loop-left
+decreases-turning_loop-loop-left l = l.left

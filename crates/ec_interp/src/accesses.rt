@@ -1,0 +1,251 @@
+//! Accesses of the leaves of objects.
+ghost use Rattle.std.specs.Prelude.{◌≡◌, ◌==◌, ◌&&◌, Some, None, map, option_map, option_and_then, slice_get, IfOk, OnOk};
+ghost use Rattle.std.specs.List.{position_from};
+ghost use Rattle.ec_core.specs.Accesses.{access, leaf_at, leaf_of, is_readable, read, write, is_fixed, recorded, stored, own_access, initialised, with_leaf};
+ghost use Rattle.ec_core.specs.Expressions.{accessed};
+ghost use Rattle.ec_core.specs.Layout.{plain_leaf};
+ghost use Rattle.ec_core.specs.Operators.{same_type};
+ghost use Rattle.ec_core.specs.Plain.{plain_type, plain_object, plain_storage, plain_place, plain_program};
+ghost use Rattle.ec_core.specs.State.{with_object, Write as WriteOf, told, got};
+ghost use Rattle.ec_interp.specs.Lookups.{access_at};
+ghost use Rattle.ec_interp.specs.Shows.{Shows};
+ghost use Rattle.ec_interp.specs.Views.{seen, seen_object, seen_event, HasLayouts, setting_of};
+
+use crate::behaviour::{Event, Unanswered};
+use crate::layouts::{leaves_in, place_space, same_type};
+use crate::objects::set_leaf;
+use crate::operators::{is_live_in, referent};
+use crate::state::{Context, ObjectState, State, Stop, at, object, object_state, told};
+use ec_core::{CType, Leaf, Obj, ObjectPointer, PlaceExpr, Storage, Undefined, Value};
+use ec_space::SpaceId;
+
+/// A leaf that can be accessed.
+#[derive(Clone, Copy)]
+pub struct Found {
+    pub object: u16,
+    pub leaf: usize,
+    pub space: SpaceId,
+}
+
+/// The number of the leaf of a type that begins at an offset in an object.
+fn leaf_at(f: &Context, o: &Obj, ty: &CType, offset: u32) -> Result<Option<usize>, Unanswered>
+    requires { HasLayouts f.now.program.now }
+    ensures { IfOk result (λ k. k ≡ leaf_at (plain_program f.now.program.now) (plain_object o.now) (plain_type ty.now) offset) }
+{
+    let leaves = leaves_in(f, &o.ty)?;
+    Ok(leaf_among(leaves.as_slice(), ty, offset))
+}
+
+fn leaf_among(leaves: &[Leaf], ty: &CType, offset: u32) -> Option<usize>
+    ensures { result ≡ position_from (λ leaf. leaf.at == offset && same_type leaf.ty (plain_type ty.now)) 0 (map plain_leaf leaves.now) }
+{
+    for (k, leaf) in leaves.iter().enumerate() {
+        if leaf.at == offset && same_type(&leaf.ty, ty) {
+            return Some(k);
+        }
+    }
+    None
+}
+
+/// An access of a scalar type at a place that lies at a pointer's target.
+fn access(
+    f: &Context,
+    s: &State,
+    ty: &CType,
+    space: Option<SpaceId>,
+    to: Option<ObjectPointer>,
+) -> Result<Option<Found>, Unanswered>
+    requires { HasLayouts f.now.program.now }
+    ensures { IfOk result (λ a. option_and_then (access_at (plain_program f.now.program.now) (seen s.now)) a ≡ access (plain_program f.now.program.now) (plain_type ty.now) space to (seen s.now)) }
+{
+    let Some(space) = space else {
+        return Ok(None);
+    };
+    let Some(p) = to else {
+        return Ok(None);
+    };
+    let Some(o) = object(f.program, p.object) else {
+        return Ok(None);
+    };
+    let Some(x) = object_state(s, p.object) else {
+        return Ok(None);
+    };
+    if !is_live_in(p, x) || !space.holds(o.home) {
+        return Ok(None);
+    }
+    match leaf_at(f, o, ty, p.offset)? {
+        Some(leaf) => Ok(Some(Found {
+            object: p.object,
+            leaf,
+            space,
+        })),
+        None => Ok(None),
+    }
+}
+
+/// Accesses of named registers are no events.
+fn record_access(s: &mut State, storage: &Storage, event: Event) -> Result<(), Unanswered>
+    ensures { OnOk result (seen s.new ≡ recorded (plain_storage storage.now) (seen_event event) (seen s.old)) }
+{
+    match storage {
+        Storage::Register(_) => Ok(()),
+        Storage::Static(_) | Storage::Local(_) | Storage::Param(_) => {
+            s.record(event)?;
+            Ok(())
+        }
+    }
+}
+
+/// The value of a leaf, where it is set.
+fn leaf_value(x: &ObjectState, k: usize) -> Option<Value>
+    ensures { result ≡ leaf_of (seen_object x.now) k }
+{
+    match at(x.leaves.as_slice(), k) {
+        Some(v) => *v,
+        None => None,
+    }
+}
+
+/// Whether a value can be read: it is no pointer to an object that is not live.
+fn is_readable(f: &Context, s: &State, v: Value) -> Result<bool, Unanswered>
+    requires { HasLayouts f.now.program.now }
+    ensures { IfOk result (λ b. b ≡ is_readable (plain_program f.now.program.now) v (seen s.now)) }
+{
+    match v {
+        Value::Number(_) => Ok(true),
+        Value::Pointer(None) => Ok(true),
+        Value::Pointer(Some(p)) => {
+            let of = referent(f, s, Some(p))?;
+            Ok(of.live)
+        }
+    }
+}
+
+fn read_at(f: &Context, s: &mut State, a: Found) -> Result<Value, Stop>
+    requires { HasLayouts f.now.program.now }
+    ensures { Shows result (seen s.new) (read (plain_program f.now.program.now) (access_at (plain_program f.now.program.now) (seen s.old) a) (seen s.old)) }
+{
+    let Some(o) = object(f.program, a.object) else {
+        return Err(Stop::Undefined(Undefined::Access));
+    };
+    let Some(x) = object_state(s, a.object) else {
+        return Err(Stop::Undefined(Undefined::Access));
+    };
+    let Some(v) = leaf_value(x, a.leaf) else {
+        return Err(Stop::Undefined(Undefined::Unset));
+    };
+    if !is_readable(f, s, v)? {
+        return Err(Stop::Undefined(Undefined::Unset));
+    }
+    let event = Event::Read {
+        object: a.object,
+        leaf: a.leaf,
+        space: a.space,
+        value: told(v),
+    };
+    record_access(s, &o.storage, event)?;
+    Ok(v)
+}
+
+/// One read of a place of a scalar type that lies at a pointer's target.
+pub fn read(
+    f: &Context,
+    s: &mut State,
+    ty: &CType,
+    p: &PlaceExpr,
+    to: Option<ObjectPointer>,
+) -> Result<Value, Stop>
+    requires { HasLayouts f.now.program.now }
+    ensures { Shows result (seen s.new) (read (plain_program f.now.program.now) (accessed (setting_of f.now.program.now f.now.io.now f.now.inputs.now) (plain_type ty.now) (plain_place p.now) to (seen s.old)) (seen s.old)) }
+{
+    let space = place_space(f.program, p);
+    match access(f, s, ty, space, to)? {
+        Some(a) => {
+            let v = read_at(f, s, a)?;
+            Ok(v)
+        }
+        None => Err(Stop::Undefined(Undefined::Access)),
+    }
+}
+
+/// A leaf gets a value.
+fn store(s: &mut State, o: &Obj, a: Found, v: Value) -> Result<(), Unanswered>
+    ensures { OnOk result (seen s.new ≡ recorded (plain_storage o.now.storage) (WriteOf a.object a.leaf a.space (told v)) (with_object a.object (with_leaf a.leaf v) (seen s.old))) }
+{
+    set_leaf(s, a.object, a.leaf, v);
+    let event = Event::Write {
+        object: a.object,
+        leaf: a.leaf,
+        space: a.space,
+        value: told(v),
+    };
+    record_access(s, &o.storage, event)?;
+    Ok(())
+}
+
+/// Const objects and those kept in flash are not written.
+fn is_fixed(o: &Obj) -> bool
+    ensures { result ≡ is_fixed (plain_object o.now) }
+{
+    o.konst || SpaceId::Flash.holds(o.home)
+}
+
+fn write_at(f: &Context, s: &mut State, a: Found, v: Value) -> Result<Value, Stop>
+    ensures { Shows result (seen s.new) (write (access_at (plain_program f.now.program.now) (seen s.old) a) v (seen s.old)) }
+{
+    let Some(o) = object(f.program, a.object) else {
+        return Err(Stop::Undefined(Undefined::Access));
+    };
+    if object_state(s, a.object).is_none() {
+        return Err(Stop::Undefined(Undefined::Access));
+    }
+    if is_fixed(o) {
+        return Err(Stop::Undefined(Undefined::ConstWrite));
+    }
+    store(s, o, a, v)?;
+    Ok(v)
+}
+
+/// One write of a place of a scalar type that lies at a pointer's target.
+pub fn write(
+    f: &Context,
+    s: &mut State,
+    ty: &CType,
+    p: &PlaceExpr,
+    to: Option<ObjectPointer>,
+    v: Value,
+) -> Result<Value, Stop>
+    requires { HasLayouts f.now.program.now }
+    ensures { Shows result (seen s.new) (write (accessed (setting_of f.now.program.now f.now.io.now f.now.inputs.now) (plain_type ty.now) (plain_place p.now) to (seen s.old)) v (seen s.old)) }
+{
+    let space = place_space(f.program, p);
+    match access(f, s, ty, space, to)? {
+        Some(a) => {
+            let v = write_at(f, s, a, v)?;
+            Ok(v)
+        }
+        None => Err(Stop::Undefined(Undefined::Access)),
+    }
+}
+
+/// The initialisation of a leaf of the newest instance of an object: const objects are written too.
+pub fn initialise(f: &Context, s: &mut State, o: u16, k: usize, v: Value) -> Result<Value, Stop>
+    ensures { Shows result (seen s.new) (initialised (plain_program f.now.program.now) o k v (seen s.old)) }
+{
+    let Some(d) = object(f.program, o) else {
+        return Err(Stop::Undefined(Undefined::Access));
+    };
+    let Some(x) = object_state(s, o) else {
+        return Err(Stop::Undefined(Undefined::Access));
+    };
+    if !x.live || !d.space.holds(d.home) {
+        return Err(Stop::Undefined(Undefined::Access));
+    }
+    let a = Found {
+        object: o,
+        leaf: k,
+        space: d.space,
+    };
+    store(s, d, a, v)?;
+    Ok(v)
+}

@@ -1,0 +1,308 @@
+//! Operations on ports and groups of ports.
+ghost use Rattle.std.specs.Prelude.{◌≡◌, ◌+◌, ◌*◌, nat_lt, map, option_map, slice_get, slice_index, IfOk, OnOk};
+ghost use Rattle.std.specs.Option.{option_copied};
+ghost use Rattle.ec_core.specs.PortAccesses.{next_byte, byte_read, bytes_read, number_read, bytes_written, updated, no_value, unsigned, port_accessed, is_open, within, opened, port_effect, pairs_written, pairs_of, group_effect};
+ghost use Rattle.ec_core.specs.PortOperations.{port_operation};
+ghost use Rattle.ec_core.specs.PortTable.{plain_port, plain_group};
+ghost use Rattle.ec_core.specs.State.{Out as OutOf, reads_of, with_event, with_group};
+ghost use Rattle.ec_interp.specs.Shows.{Shows};
+ghost use Rattle.ec_interp.specs.Views.{seen, seen_action, seen_event, inputs_of};
+
+use crate::behaviour::{Event, PortInput, Unanswered};
+use crate::state::{Context, State, Stop, at};
+use ec_core::{Undefined, Value};
+use ec_iohw::{IoOp, IoTable, Pair, Port, PortGroup};
+
+// ---- the table
+
+/// The port with a number.
+pub fn port_at(io: &IoTable, port: u16) -> Option<&Port>
+    ensures { option_map plain_port (option_copied result) ≡ slice_get (map plain_port io.now.ports.items) port }
+{
+    at(io.ports.as_slice(), port as usize)
+}
+
+/// The group with a number.
+pub fn group_at(io: &IoTable, group: u16) -> Option<&PortGroup>
+    ensures { option_map plain_group (option_copied result) ≡ slice_get (map plain_group io.now.groups.items) group }
+{
+    at(io.groups.as_slice(), group as usize)
+}
+
+/// What is written to acquire or to release a group.
+pub fn pairs(acquire: bool, group: &PortGroup) -> &[Pair]
+    ensures { result.now ≡ pairs_of acquire (plain_group group.now) }
+{
+    if acquire {
+        group.acquire.as_slice()
+    } else {
+        group.release.as_slice()
+    }
+}
+
+/// What an operation does with the bytes of its port.
+#[derive(Clone, Copy)]
+pub enum Action {
+    Reads,
+    Writes,
+    Updates,
+}
+
+pub fn action_of(op: IoOp) -> Action
+    ensures { seen_action result ≡ (port_operation op).action }
+{
+    match op {
+        IoOp::Read | IoOp::ReadLong | IoOp::ReadBuffer | IoOp::ReadBufferLong => Action::Reads,
+        IoOp::Write | IoOp::WriteLong | IoOp::WriteBuffer | IoOp::WriteBufferLong => Action::Writes,
+        _ => Action::Updates,
+    }
+}
+
+// ---- bytes of ports
+
+/// The bytes that a port address gives.
+fn inputs_of(inputs: &[PortInput], port: u32) -> &[u8]
+    ensures { result.now ≡ inputs_of inputs.now port }
+{
+    for input in inputs {
+        if input.port as u32 == port {
+            return input.bytes.as_slice();
+        }
+    }
+    &[]
+}
+
+/// How many bytes of a port some events read.
+fn reads_of(port: u32, events: &[Event]) -> usize
+    ensures { result ≡ reads_of port (map seen_event events.now) }
+{
+    let mut reads = 0;
+    for event in events {
+        if let Event::In { port: read, .. } = event
+            && *read == port
+        {
+            reads += 1;
+        }
+    }
+    reads
+}
+
+/// The next byte of a port address is read.
+fn read_byte(f: &Context, s: &mut State, port: u32) -> Result<u8, Unanswered>
+    ensures byte { IfOk result (λ byte. byte ≡ next_byte (inputs_of f.now.inputs.now) port (seen s.old)) }
+    ensures state { OnOk result (seen s.new ≡ byte_read (inputs_of f.now.inputs.now) port (seen s.old)) }
+{
+    let byte = next_byte(f, s, port);
+    s.record(Event::In { port, byte })?;
+    Ok(byte)
+}
+
+fn next_byte(f: &Context, s: &State, port: u32) -> u8
+    ensures { result ≡ next_byte (inputs_of f.now.inputs.now) port (seen s.now) }
+{
+    let bytes = inputs_of(f.inputs, port);
+    let place = reads_of(port, s.events.as_slice());
+    if place < bytes.len() { bytes[place] } else { 0 }
+}
+
+/// The address behind another.
+fn behind(port: u32) -> Result<u32, Unanswered>
+    ensures { IfOk result (λ next. next ≡ port + 1) }
+{
+    match port.checked_add(1) {
+        Some(next) => Ok(next),
+        None => Err(Unanswered::TooLarge),
+    }
+}
+
+/// The number whose lowest byte is this one, with the other bytes above it.
+fn number_of(byte: u8, above: u64) -> Result<u64, Unanswered>
+    ensures { IfOk result (λ n. n ≡ byte + 256 * above) }
+{
+    if above > u64::MAX / 256 - 1 {
+        return Err(Unanswered::TooLarge);
+    }
+    Ok(byte as u64 + 256 * above)
+}
+
+/// The number that so many bytes from an address on make, the lowest first.
+fn read_number(f: &Context, s: &mut State, width: u8, port: u32) -> Result<u64, Unanswered>
+    ensures number { IfOk result (λ n. n ≡ number_read (inputs_of f.now.inputs.now) width port (seen s.old)) }
+    ensures state { OnOk result (seen s.new ≡ bytes_read (inputs_of f.now.inputs.now) width port (seen s.old)) }
+{
+    if width == 0 {
+        return Ok(0);
+    }
+    let byte = read_byte(f, s, port)?;
+    let next = behind(port)?;
+    let above = read_number(f, s, width - 1, next)?;
+    number_of(byte, above)
+}
+
+fn write_byte(s: &mut State, port: u32, byte: u8) -> Result<(), Unanswered>
+    ensures { OnOk result (seen s.new ≡ with_event (OutOf port byte) (seen s.old)) }
+{
+    s.record(Event::Out { port, byte })?;
+    Ok(())
+}
+
+/// The lowest bytes of a number are written from an address on, the highest address first.
+fn write_number(s: &mut State, width: u8, port: u32, v: u64) -> Result<(), Unanswered>
+    ensures { OnOk result (seen s.new ≡ bytes_written width port v (seen s.old)) }
+{
+    if width == 0 {
+        return Ok(());
+    }
+    let next = behind(port)?;
+    write_number(s, width - 1, next, v / 256)?;
+    write_byte(s, port, (v % 256) as u8)?;
+    Ok(())
+}
+
+// ---- operations
+
+/// What an update makes of the number that it reads and its operand.
+fn updated(op: IoOp, old: u64, v: u64) -> u64
+    ensures { result ≡ updated op old v }
+{
+    match op {
+        IoOp::Or | IoOp::OrLong | IoOp::OrBuffer | IoOp::OrBufferLong => old | v,
+        IoOp::And | IoOp::AndLong | IoOp::AndBuffer | IoOp::AndBufferLong => old & v,
+        _ => old ^ v,
+    }
+}
+
+/// What stands for the value of a void expression.
+pub fn no_value() -> Value
+    ensures { result ≡ no_value }
+{
+    Value::Number(0)
+}
+
+fn unsigned(v: Value) -> Result<u64, Unanswered>
+    ensures { IfOk result (λ n. n ≡ unsigned v) }
+{
+    match v {
+        Value::Number(n) => match u64::try_from(n.unsigned_abs()) {
+            Ok(n) => Ok(n),
+            Err(_) => Err(Unanswered::TooLarge),
+        },
+        Value::Pointer(_) => Ok(0),
+    }
+}
+
+fn access_port(
+    f: &Context,
+    s: &mut State,
+    op: IoOp,
+    width: u8,
+    port: u32,
+    v: u64,
+) -> Result<Value, Stop>
+    ensures { Shows result (seen s.new) (port_accessed (inputs_of f.now.inputs.now) (port_operation op).action op width port v (seen s.old)) }
+{
+    match action_of(op) {
+        Action::Reads => {
+            let n = read_number(f, s, width, port)?;
+            Ok(Value::Number(n as i128))
+        }
+        Action::Writes => {
+            write_number(s, width, port, v)?;
+            Ok(no_value())
+        }
+        Action::Updates => {
+            let old = read_number(f, s, width, port)?;
+            write_number(s, width, port, updated(op, old, v))?;
+            Ok(no_value())
+        }
+    }
+}
+
+/// Whether a port of this group can be accessed.
+fn is_open(group: Option<u16>, s: &State) -> bool
+    ensures { result ≡ is_open group (seen s.now) }
+{
+    match group {
+        None => true,
+        Some(g) => match at(s.acquired.as_slice(), g as usize) {
+            Some(open) => *open,
+            None => false,
+        },
+    }
+}
+
+fn open_port(
+    f: &Context,
+    s: &mut State,
+    op: IoOp,
+    port: &Port,
+    i: u64,
+    v: u64,
+) -> Result<Value, Stop>
+    ensures { Shows result (seen s.new) (opened (inputs_of f.now.inputs.now) (is_open port.now.group (seen s.old)) op (plain_port port.now) i v (seen s.old)) }
+{
+    if !is_open(port.group, s) {
+        return Err(Stop::Undefined(Undefined::ClosedPort));
+    }
+    if i >= port.count as u64 {
+        return Err(Stop::Undefined(Undefined::BufferIndex));
+    }
+    let address = port.address as u32 + i as u32 * port.width as u32;
+    let x = access_port(f, s, op, port.width, address, v)?;
+    Ok(x)
+}
+
+/// An operation on a port, with its index and its operand.
+pub fn operate(
+    f: &Context,
+    s: &mut State,
+    op: IoOp,
+    port: u16,
+    i: Value,
+    v: Value,
+) -> Result<Value, Stop>
+    ensures { Shows result (seen s.new) (port_effect (inputs_of f.now.inputs.now) op (slice_get (map plain_port f.now.io.now.ports.items) port) i v (seen s.old)) }
+{
+    match port_at(f.io, port) {
+        None => Err(Stop::Undefined(Undefined::Access)),
+        Some(p) => {
+            let i = unsigned(i)?;
+            let v = unsigned(v)?;
+            let x = open_port(f, s, op, p, i, v)?;
+            Ok(x)
+        }
+    }
+}
+
+// ---- groups
+
+fn write_pairs(s: &mut State, pairs: &[Pair]) -> Result<(), Unanswered>
+    ensures { OnOk result (seen s.new ≡ pairs_written pairs.now (seen s.old)) }
+{
+    for pair in pairs {
+        write_byte(s, pair.port as u32, pair.byte)?;
+    }
+    Ok(())
+}
+
+fn set_group(s: &mut State, g: u16, acquired: bool)
+    ensures { seen s.new ≡ with_group g acquired (seen s.old) }
+{
+    if (g as usize) < s.acquired.len() {
+        s.acquired[g as usize] = acquired;
+    }
+}
+
+/// A group is acquired or released.
+pub fn operate_group(f: &Context, s: &mut State, acquire: bool, g: u16) -> Result<Value, Stop>
+    ensures { Shows result (seen s.new) (group_effect acquire g (slice_get (map plain_group f.now.io.now.groups.items) g) (seen s.old)) }
+{
+    match group_at(f.io, g) {
+        None => Err(Stop::Undefined(Undefined::Access)),
+        Some(group) => {
+            write_pairs(s, pairs(acquire, group))?;
+            set_group(s, g, acquire);
+            Ok(no_value())
+        }
+    }
+}

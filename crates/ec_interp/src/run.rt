@@ -1,0 +1,783 @@
+//! What expressions, statements and functions do.
+ghost use Rattle.std.specs.Prelude.{◌≡◌, ◌+◌, ◌<◌, false, pos, [], ◌∷◌, ◌++◌, Some, map, option_map, unwrap_or, IfOk, MatchOption, OnOk};
+ghost use Rattle.std.specs.Option.{option_copied};
+ghost use Rattle.ec_core.specs.declared.values.Value.TheVariants.{Number as TheNumber};
+ghost use Rattle.ec_core.specs.Accesses.{referent_of, member_offset, begun, initialised};
+ghost use Rattle.ec_core.specs.Expressions.{pointed_to, condition, updated_place, value_of, node_value, place_of, option_value, values_of};
+ghost use Rattle.ec_core.specs.Integers.{truth};
+ghost use Rattle.ec_core.specs.Operators.{step_operator};
+ghost use Rattle.ec_core.specs.Plain.{void, binary, compound, step, io, plain_type, plain_node, plain_place, plain_expr, plain_exprs, plain_stmt, plain_stmts, plain_function, plain_program};
+ghost use Rattle.ec_core.specs.Pointers.{moved};
+ghost use Rattle.ec_core.specs.PortAccesses.{no_value};
+ghost use Rattle.ec_core.specs.State.{State as StateOf, Outcome, got, given, worked};
+ghost use Rattle.ec_core.specs.Statements.{Exit as ExitOf, again, holds, done, going_on, returned, initialising, effect_of, effects_of, turns, tested, bound, result_of, call_of, calls_within};
+ghost use Rattle.ec_core.specs.Typing.{place_type};
+ghost use Rattle.ec_core.specs.Words.{loop_words};
+ghost use Rattle.ec_interp.specs.declared.state.Exit.TheVariants.{AtEnd};
+ghost use Rattle.ec_interp.specs.Shows.{Shows, ShowsAs};
+ghost use Rattle.ec_interp.specs.Views.{seen, seen_exit, plain_optional, setting_of, HasLayouts};
+ghost use Rattle.ec_interp.specs.Weights.{stmt_weight, bodies};
+
+use crate::accesses::{initialise, read, write};
+use crate::behaviour::Unanswered;
+use crate::layouts::{member_offset, place_type};
+use crate::objects::{begin, end_block, end_first, end_frame, pointer_to};
+use crate::operators::{
+    Operand, binary_value, compound_value, conversion, moved, referent, truth, unary_value,
+};
+use crate::ports::{no_value, operate, operate_group};
+use crate::state::{Context, Exit, State, Stop, at, function};
+use crate::words::{leaf_words, node_words, return_of};
+use ec_core::{
+    BinOp, CType, Expr, Func, Node, ObjectPointer, PlaceExpr, Stmt, StmtKind, Undefined, Value,
+};
+use ec_fx::Mode;
+use ec_iohw::IoOp;
+use ec_space::Seq;
+
+// ---- values
+
+fn truth_number(holds: bool) -> Value
+    ensures { result ≡ TheNumber (truth holds) }
+{
+    Value::Number(if holds { 1 } else { 0 })
+}
+
+/// Where a dereferenced pointer points to.
+fn pointed_to(x: Value, s: &State) -> Result<Option<ObjectPointer>, Stop>
+    ensures { Shows result (seen s.now) (pointed_to x (seen s.now)) }
+{
+    match x {
+        Value::Number(_) => Err(Stop::Undefined(Undefined::Access)),
+        Value::Pointer(p) => Ok(p),
+    }
+}
+
+/// The place of a member of what lies at a pointer's target.
+fn member_place(
+    f: &Context,
+    s: &State,
+    p: &PlaceExpr,
+    i: u16,
+    to: Option<ObjectPointer>,
+) -> Result<Option<ObjectPointer>, Stop>
+    requires { HasLayouts f.now.program.now }
+    ensures { Shows result (seen s.now) (given (moved to (referent_of (plain_program f.now.program.now) to (seen s.now)) (pos (member_offset (plain_program f.now.program.now) (unwrap_or (place_type (plain_program f.now.program.now) (plain_place p.now)) void) i))) (seen s.now)) }
+{
+    let of = referent(f, s, to)?;
+    let offset = member_offset(f, place_type(f.program, p), i)?;
+    moved(to, of, offset as i128)
+}
+
+/// A compound assignment or a step.
+#[derive(Clone, Copy)]
+struct Update<'a> {
+    op: BinOp,
+    own: Mode,
+    mode: Mode,
+    ty: &'a CType,
+    place: &'a PlaceExpr,
+    /// Whether its own value is the new one.
+    new: bool,
+}
+
+/// An update, at its place, from its old value and the right side.
+fn update_place(
+    f: &Context,
+    s: &mut State,
+    u: &Update,
+    to: Option<ObjectPointer>,
+    old: Value,
+    right: &Operand,
+) -> Result<Value, Stop>
+    requires { HasLayouts f.now.program.now }
+    ensures { let w = setting_of f.now.program.now f.now.io.now f.now.inputs.now in Shows result (seen s.new) (updated_place w u.now.op u.now.own u.now.mode (plain_type u.now.ty.now) (plain_place u.now.place.now) u.now.new to old (plain_type right.now.ty.now) right.now.value (seen s.old)) }
+{
+    let left = Operand {
+        ty: u.ty,
+        value: old,
+    };
+    let v = compound_value(f, s, u.op, u.own, u.mode, &left, right)?;
+    write(f, s, u.ty, u.place, to, v)?;
+    Ok(if u.new { v } else { old })
+}
+
+fn step_operator(up: bool) -> BinOp
+    ensures { result ≡ step_operator up }
+{
+    if up { BinOp::Add } else { BinOp::Sub }
+}
+
+// ---- expressions
+
+#[cycle(run)]
+fn value_of(f: &Context, depth: u32, s: &mut State, e: &Expr) -> Result<Value, Stop>
+    requires { HasLayouts f.now.program.now }
+    ensures { let w = setting_of f.now.program.now f.now.io.now f.now.inputs.now in Shows result (seen s.new) (value_of w (calls_within w f.now.turns depth) (plain_expr e.now) (seen s.old)) }
+{
+    let words = node_words(f.io, &e.ty, &e.node)?;
+    s.work_more(words)?;
+    node_value(f, depth, s, &e.ty, e.mode, &e.node)
+}
+
+#[cycle(run)]
+fn node_value(
+    f: &Context,
+    depth: u32,
+    s: &mut State,
+    ty: &CType,
+    mode: Mode,
+    node: &Node,
+) -> Result<Value, Stop>
+    requires { HasLayouts f.now.program.now }
+    ensures { let w = setting_of f.now.program.now f.now.io.now f.now.inputs.now in Shows result (seen s.new) (node_value w (calls_within w f.now.turns depth) (plain_type ty.now) mode (plain_node node.now) (seen s.old)) }
+{
+    match node {
+        Node::Number(n) => Ok(Value::Number(*n)),
+        Node::Null => Ok(Value::Pointer(None)),
+        Node::Load(p) => {
+            let to = place_of(f, depth, s, p)?;
+            let x = read(f, s, ty, p, to)?;
+            Ok(x)
+        }
+        Node::AddressOf(p) => {
+            let to = place_of(f, depth, s, p)?;
+            Ok(Value::Pointer(to))
+        }
+        Node::Unary(op, a) => {
+            let x = value_of(f, depth, s, a)?;
+            let r = unary_value(*op, ty, mode, x)?;
+            Ok(r)
+        }
+        Node::Binary(op, a, b) => {
+            let r = binary(f, depth, s, *op, ty, mode, a, b)?;
+            Ok(r)
+        }
+        Node::Convert(a) => {
+            let x = value_of(f, depth, s, a)?;
+            let r = conversion(
+                f,
+                s,
+                ty,
+                mode,
+                &Operand {
+                    ty: &a.ty,
+                    value: x,
+                },
+            )?;
+            Ok(r)
+        }
+        Node::Assign(p, a) => {
+            let to = place_of(f, depth, s, p)?;
+            let x = value_of(f, depth, s, a)?;
+            let v = write(f, s, ty, p, to, x)?;
+            Ok(v)
+        }
+        Node::Compound(op, own, p, a) => {
+            let r = compound(f, depth, s, *op, *own, ty, mode, p, a)?;
+            Ok(r)
+        }
+        Node::Step { up, prefix, place } => {
+            let r = step(f, depth, s, ty, mode, *up, *prefix, place)?;
+            Ok(r)
+        }
+        Node::Not(a) => {
+            let h = condition(f, depth, s, a)?;
+            Ok(truth_number(!h))
+        }
+        Node::And(a, b) => {
+            if !condition(f, depth, s, a)? {
+                return Ok(truth_number(false));
+            }
+            let h = condition(f, depth, s, b)?;
+            Ok(truth_number(h))
+        }
+        Node::Or(a, b) => {
+            if condition(f, depth, s, a)? {
+                return Ok(truth_number(true));
+            }
+            let h = condition(f, depth, s, b)?;
+            Ok(truth_number(h))
+        }
+        Node::Cond(c, a, b) => {
+            if condition(f, depth, s, c)? {
+                let x = value_of(f, depth, s, a)?;
+                Ok(x)
+            } else {
+                let x = value_of(f, depth, s, b)?;
+                Ok(x)
+            }
+        }
+        Node::Comma(a, b) => {
+            value_of(f, depth, s, a)?;
+            let x = value_of(f, depth, s, b)?;
+            Ok(x)
+        }
+        Node::Call(g, args) => {
+            let xs = values_of(f, depth, s, args.as_slice())?;
+            let x = call(f, depth, s, *g, xs.as_slice())?;
+            Ok(x)
+        }
+        Node::Io {
+            op,
+            port,
+            index: None,
+            value: None,
+        } => {
+            let x = port_operation(f, depth, s, *op, *port, None, None)?;
+            Ok(x)
+        }
+        Node::Io {
+            op,
+            port,
+            index: None,
+            value: Some(v),
+        } => {
+            let x = port_operation(f, depth, s, *op, *port, None, Some(v))?;
+            Ok(x)
+        }
+        Node::Io {
+            op,
+            port,
+            index: Some(i),
+            value: None,
+        } => {
+            let x = port_operation(f, depth, s, *op, *port, Some(i), None)?;
+            Ok(x)
+        }
+        Node::Io {
+            op,
+            port,
+            index: Some(i),
+            value: Some(v),
+        } => {
+            let x = port_operation(f, depth, s, *op, *port, Some(i), Some(v))?;
+            Ok(x)
+        }
+        Node::Group { acquire, group } => {
+            let x = operate_group(f, s, *acquire, *group)?;
+            Ok(x)
+        }
+    }
+}
+
+/// Both operands, the left one first, then the operation.
+#[cycle(run)]
+fn binary(
+    f: &Context,
+    depth: u32,
+    s: &mut State,
+    op: BinOp,
+    ty: &CType,
+    mode: Mode,
+    a: &Expr,
+    b: &Expr,
+) -> Result<Value, Stop>
+    requires { HasLayouts f.now.program.now }
+    ensures { let w = setting_of f.now.program.now f.now.io.now f.now.inputs.now in Shows result (seen s.new) (node_value w (calls_within w f.now.turns depth) (plain_type ty.now) mode (binary op (plain_expr a.now) (plain_expr b.now)) (seen s.old)) }
+{
+    let m = value_of(f, depth, s, a)?;
+    let n = value_of(f, depth, s, b)?;
+    let left = Operand {
+        ty: &a.ty,
+        value: m,
+    };
+    let right = Operand {
+        ty: &b.ty,
+        value: n,
+    };
+    let r = binary_value(f, s, op, ty, mode, &left, &right)?;
+    Ok(r)
+}
+
+/// The place, then its old value, then the right side, then the write.
+#[cycle(run)]
+fn compound(
+    f: &Context,
+    depth: u32,
+    s: &mut State,
+    op: BinOp,
+    own: Mode,
+    ty: &CType,
+    mode: Mode,
+    p: &PlaceExpr,
+    a: &Expr,
+) -> Result<Value, Stop>
+    requires { HasLayouts f.now.program.now }
+    ensures { let w = setting_of f.now.program.now f.now.io.now f.now.inputs.now in Shows result (seen s.new) (node_value w (calls_within w f.now.turns depth) (plain_type ty.now) mode (compound op own (plain_place p.now) (plain_expr a.now)) (seen s.old)) }
+{
+    let to = place_of(f, depth, s, p)?;
+    let was = read(f, s, ty, p, to)?;
+    let operand = value_of(f, depth, s, a)?;
+    let update = Update {
+        op,
+        own,
+        mode,
+        ty,
+        place: p,
+        new: true,
+    };
+    let right = Operand {
+        ty: &a.ty,
+        value: operand,
+    };
+    let r = update_place(f, s, &update, to, was, &right)?;
+    Ok(r)
+}
+
+/// The place, then its old value, then the write of the next one.
+#[cycle(run)]
+fn step(
+    f: &Context,
+    depth: u32,
+    s: &mut State,
+    ty: &CType,
+    mode: Mode,
+    up: bool,
+    prefix: bool,
+    p: &PlaceExpr,
+) -> Result<Value, Stop>
+    requires { HasLayouts f.now.program.now }
+    ensures { let w = setting_of f.now.program.now f.now.io.now f.now.inputs.now in Shows result (seen s.new) (node_value w (calls_within w f.now.turns depth) (plain_type ty.now) mode (step up prefix (plain_place p.now)) (seen s.old)) }
+{
+    let to = place_of(f, depth, s, p)?;
+    let old = read(f, s, ty, p, to)?;
+    let update = Update {
+        op: step_operator(up),
+        own: mode,
+        mode,
+        ty,
+        place: p,
+        new: prefix,
+    };
+    let int = CType::Int {
+        signed: true,
+        bytes: 2,
+    };
+    let one = Operand {
+        ty: &int,
+        value: Value::Number(1),
+    };
+    let r = update_place(f, s, &update, to, old, &one)?;
+    Ok(r)
+}
+
+/// What an expression tells as a condition.
+#[cycle(run)]
+fn condition(f: &Context, depth: u32, s: &mut State, e: &Expr) -> Result<bool, Stop>
+    requires { HasLayouts f.now.program.now }
+    ensures { let w = setting_of f.now.program.now f.now.io.now f.now.inputs.now in Shows result (seen s.new) (condition w (plain_expr e.now) (value_of w (calls_within w f.now.turns depth) (plain_expr e.now) (seen s.old))) }
+{
+    let x = value_of(f, depth, s, e)?;
+    let h = truth(f, s, x)?;
+    Ok(h)
+}
+
+#[cycle(run)]
+fn place_of(
+    f: &Context,
+    depth: u32,
+    s: &mut State,
+    p: &PlaceExpr,
+) -> Result<Option<ObjectPointer>, Stop>
+    requires { HasLayouts f.now.program.now }
+    ensures { let w = setting_of f.now.program.now f.now.io.now f.now.inputs.now in Shows result (seen s.new) (place_of w (calls_within w f.now.turns depth) (plain_place p.now) (seen s.old)) }
+{
+    match p {
+        PlaceExpr::Object(o) => Ok(pointer_to(s, *o)),
+        PlaceExpr::Deref(e) => {
+            let x = value_of(f, depth, s, e)?;
+            let to = pointed_to(x, s)?;
+            Ok(to)
+        }
+        PlaceExpr::Member(q, i) => {
+            s.work_more(30)?;
+            let to = place_of(f, depth, s, q)?;
+            let to = member_place(f, s, q, *i, to)?;
+            Ok(to)
+        }
+    }
+}
+
+/// The index and the operand, then the operation.
+#[cycle(run)]
+fn port_operation(
+    f: &Context,
+    depth: u32,
+    s: &mut State,
+    op: IoOp,
+    port: u16,
+    index: Option<&Expr>,
+    value: Option<&Expr>,
+) -> Result<Value, Stop>
+    requires { HasLayouts f.now.program.now }
+    ensures { let w = setting_of f.now.program.now f.now.io.now f.now.inputs.now in Shows result (seen s.new) (node_value w (calls_within w f.now.turns depth) void (record { saturate = false }) (io op port (plain_optional (option_copied index.entry)) (plain_optional (option_copied value.entry))) (seen s.old)) }
+{
+    let i = option_value(f, depth, s, index)?;
+    let v = option_value(f, depth, s, value)?;
+    let x = operate(f, s, op, port, i, v)?;
+    Ok(x)
+}
+
+#[cycle(run)]
+fn option_value(f: &Context, depth: u32, s: &mut State, e: Option<&Expr>) -> Result<Value, Stop>
+    requires { HasLayouts f.now.program.now }
+    ensures { let w = setting_of f.now.program.now f.now.io.now f.now.inputs.now in Shows result (seen s.new) (option_value w (calls_within w f.now.turns depth) (plain_optional (option_copied e.entry)) (seen s.old)) }
+{
+    match e {
+        None => Ok(no_value()),
+        Some(e) => {
+            let x = value_of(f, depth, s, e)?;
+            Ok(x)
+        }
+    }
+}
+
+/// The values of arguments, in order.
+#[cycle(run)]
+fn values_of(f: &Context, depth: u32, s: &mut State, es: &[Expr]) -> Result<Seq<Value>, Stop>
+    requires { HasLayouts f.now.program.now }
+    ensures { let w = setting_of f.now.program.now f.now.io.now f.now.inputs.now in ShowsAs (λ xs. xs.items) result (seen s.new) (values_of w (calls_within w f.now.turns depth) (plain_exprs es.now) (seen s.old)) }
+{
+    let mut xs = Seq::new(f.alloc);
+    for e in es {
+        let x = value_of(f, depth, s, e)?;
+        push_value(&mut xs, x)?;
+    }
+    Ok(xs)
+}
+
+fn push_value(xs: &mut Seq<Value>, x: Value) -> Result<(), Unanswered>
+    ensures { OnOk result (xs.new.items ≡ xs.old.items ++ x ∷ []) }
+{
+    match xs.push(x) {
+        Ok(()) => Ok(()),
+        Err(_) => Err(Unanswered::NoMemory),
+    }
+}
+
+// ---- statements
+
+/// Whether a condition holds, as where there is none.
+#[cycle(run)]
+fn holds(f: &Context, depth: u32, s: &mut State, c: Option<&Expr>) -> Result<bool, Stop>
+    requires { HasLayouts f.now.program.now }
+    ensures { let w = setting_of f.now.program.now f.now.io.now f.now.inputs.now in Shows result (seen s.new) (holds w (calls_within w f.now.turns depth) (option_map plain_expr (option_copied c.entry)) (seen s.old)) }
+{
+    match c {
+        None => Ok(true),
+        Some(e) => {
+            let h = condition(f, depth, s, e)?;
+            Ok(h)
+        }
+    }
+}
+
+/// An expression for its effects.
+#[cycle(run)]
+fn done(f: &Context, depth: u32, s: &mut State, e: Option<&Expr>) -> Result<Exit, Stop>
+    requires { HasLayouts f.now.program.now }
+    ensures { let w = setting_of f.now.program.now f.now.io.now f.now.inputs.now in ShowsAs seen_exit result (seen s.new) (done w (calls_within w f.now.turns depth) (option_map plain_expr (option_copied e.entry)) (seen s.old)) }
+{
+    match e {
+        None => Ok(Exit::AtEnd),
+        Some(e) => {
+            value_of(f, depth, s, e)?;
+            Ok(Exit::AtEnd)
+        }
+    }
+}
+
+#[cycle(run)]
+fn returned(f: &Context, depth: u32, s: &mut State, e: &Option<Expr>) -> Result<Exit, Stop>
+    requires { HasLayouts f.now.program.now }
+    ensures { let w = setting_of f.now.program.now f.now.io.now f.now.inputs.now in ShowsAs seen_exit result (seen s.new) (returned w (calls_within w f.now.turns depth) (option_map plain_expr e.now) (seen s.old)) }
+{
+    match e {
+        None => Ok(Exit::ByReturn(None)),
+        Some(e) => {
+            let x = value_of(f, depth, s, e)?;
+            Ok(Exit::ByReturn(Some(x)))
+        }
+    }
+}
+
+/// The leaves of an object get the values of these expressions, one after the other.
+#[cycle(run)]
+fn initialising(
+    f: &Context,
+    depth: u32,
+    s: &mut State,
+    o: u16,
+    values: &[Expr],
+) -> Result<Exit, Stop>
+    requires { HasLayouts f.now.program.now }
+    ensures { let w = setting_of f.now.program.now f.now.io.now f.now.inputs.now in ShowsAs seen_exit result (seen s.new) (initialising w (calls_within w f.now.turns depth) o 0 (plain_exprs values.now) (seen s.old)) }
+{
+    for (k, e) in values.iter().enumerate() {
+        s.work_more(leaf_words(e))?;
+        let x = value_of(f, depth, s, e)?;
+        initialise(f, s, o, k, x)?;
+    }
+    Ok(Exit::AtEnd)
+}
+
+/// A statement; `outlived` where the objects of a block outlive it.
+#[cycle(run)]
+fn effect_of(f: &Context, depth: u32, s: &mut State, outlived: bool, a: &Stmt) -> Result<Exit, Stop>
+    requires { HasLayouts f.now.program.now }
+    ensures { let w = setting_of f.now.program.now f.now.io.now f.now.inputs.now in ShowsAs seen_exit result (seen s.new) (effect_of w (calls_within w f.now.turns depth) f.now.turns outlived (plain_stmt a.now) (seen s.old)) }
+{
+    match &a.kind {
+        StmtKind::Empty => Ok(Exit::AtEnd),
+        StmtKind::Do1(e) => {
+            value_of(f, depth, s, e)?;
+            Ok(Exit::AtEnd)
+        }
+        StmtKind::Block(all) => {
+            let all = all.as_slice();
+            let x = effects_of(f, depth, s, all)?;
+            end_block(s, outlived, all);
+            Ok(x)
+        }
+        StmtKind::Local(o, values) => {
+            begin(f, s, *o)?;
+            let x = initialising(f, depth, s, *o, values.as_slice())?;
+            Ok(x)
+        }
+        StmtKind::If(c, a, b) => {
+            s.work_more(40)?;
+            if condition(f, depth, s, c)? {
+                let x = effect_of(f, depth, s, false, a)?;
+                return Ok(x);
+            }
+            match b {
+                None => Ok(Exit::AtEnd),
+                Some(b) => {
+                    let x = effect_of(f, depth, s, false, b)?;
+                    Ok(x)
+                }
+            }
+        }
+        StmtKind::While(c, body) => {
+            let x = tested_loop(f, depth, s, Some(c), None, body)?;
+            Ok(x)
+        }
+        StmtKind::DoWhile(body, c) => {
+            let x = turning_loop(f, depth, s, Some(c), None, body)?;
+            Ok(x)
+        }
+        StmtKind::For(first, c, last, body) => match first {
+            None => {
+                let x = tested_loop(f, depth, s, c.as_ref(), last.as_ref(), body)?;
+                Ok(x)
+            }
+            Some(first) => {
+                effect_of(f, depth, s, true, first)?;
+                let x = tested_loop(f, depth, s, c.as_ref(), last.as_ref(), body)?;
+                end_first(s, first);
+                Ok(x)
+            }
+        },
+        StmtKind::Break => {
+            s.work_more(10)?;
+            Ok(Exit::ByBreak)
+        }
+        StmtKind::Continue => {
+            s.work_more(10)?;
+            Ok(Exit::ByContinue)
+        }
+        StmtKind::Return(e) => {
+            s.work_more(return_of(e))?;
+            let x = returned(f, depth, s, e)?;
+            Ok(x)
+        }
+    }
+}
+
+/// Statements in order, up to one that is not left at its end.
+#[cycle(run)]
+fn effects_of(f: &Context, depth: u32, s: &mut State, all: &[Stmt]) -> Result<Exit, Stop>
+    requires { HasLayouts f.now.program.now }
+    ensures { let w = setting_of f.now.program.now f.now.io.now f.now.inputs.now in ShowsAs seen_exit result (seen s.new) (effects_of w (calls_within w f.now.turns depth) f.now.turns (plain_stmts all.now) (seen s.old)) }
+{
+    for a in all {
+        match effect_of(f, depth, s, false, a)? {
+            Exit::AtEnd => {}
+            x => return Ok(x),
+        }
+    }
+    Ok(Exit::AtEnd)
+}
+
+/// A test that does not hold ends a loop, and is work.
+fn end_loop(s: &mut State) -> Result<Exit, Unanswered>
+    ensures exit { IfOk result (λ x. x ≡ AtEnd) }
+    ensures state { OnOk result (seen s.new ≡ worked loop_words (seen s.old)) }
+{
+    s.work_more(60)?;
+    Ok(Exit::AtEnd)
+}
+
+/// A loop that begins with its test.
+#[cycle(run)]
+fn tested_loop(
+    f: &Context,
+    depth: u32,
+    s: &mut State,
+    c: Option<&Expr>,
+    last: Option<&Expr>,
+    body: &Stmt,
+) -> Result<Exit, Stop>
+    requires { HasLayouts f.now.program.now }
+    ensures { let w = setting_of f.now.program.now f.now.io.now f.now.inputs.now in let calls = calls_within w f.now.turns depth in let c = option_map plain_expr (option_copied c.entry) in let last = option_map plain_expr (option_copied last.entry) in ShowsAs seen_exit result (seen s.new) (tested (holds w calls c (seen s.old)) (λ s2. turns f.now.turns (λ s3. effect_of w calls f.now.turns false (plain_stmt body.now) s3) (λ s3. going_on w calls last c s3) s2)) }
+{
+    if !holds(f, depth, s, c)? {
+        let x = end_loop(s)?;
+        return Ok(x);
+    }
+    let x = turning_loop(f, depth, s, c, last, body)?;
+    Ok(x)
+}
+
+/// A loop that begins with its body, for at most so many turns: the body, the last part, and the test
+/// whether there is another turn.
+#[cycle(run)]
+fn turning_loop(
+    f: &Context,
+    depth: u32,
+    s: &mut State,
+    c: Option<&Expr>,
+    last: Option<&Expr>,
+    body: &Stmt,
+) -> Result<Exit, Stop>
+    requires { HasLayouts f.now.program.now }
+    ensures { let w = setting_of f.now.program.now f.now.io.now f.now.inputs.now in let calls = calls_within w f.now.turns depth in let c = option_map plain_expr (option_copied c.entry) in let last = option_map plain_expr (option_copied last.entry) in ShowsAs seen_exit result (seen s.new) (turns f.now.turns (λ s3. effect_of w calls f.now.turns false (plain_stmt body.now) s3) (λ s3. going_on w calls last c s3) (seen s.old)) }
+{
+    let mut left = f.turns;
+    while left > 0 {
+        s.work_more(60)?;
+        let x = effect_of(f, depth, s, false, body)?;
+        if let Some(exit) = loop_exit(x) {
+            return Ok(exit);
+        }
+        if !goes_on(f, depth, s, c, last)? {
+            let exit = end_loop(s)?;
+            return Ok(exit);
+        }
+        left -= 1;
+    }
+    Err(Stop::OutOfTurns)
+}
+
+/// How a loop is left whose body was left so, or None where it goes on.
+fn loop_exit(x: Exit) -> Option<Exit>
+    ensures { MatchOption result ((s : StateOf) (go : StateOf → Outcome ExitOf) → again (seen_exit x) s go ≡ go s) (λ y. (s : StateOf) (go : StateOf → Outcome ExitOf) → again (seen_exit x) s go ≡ got (seen_exit y) s) }
+{
+    match x {
+        Exit::AtEnd | Exit::ByContinue => None,
+        Exit::ByBreak => Some(Exit::AtEnd),
+        Exit::ByReturn(v) => Some(Exit::ByReturn(v)),
+    }
+}
+
+/// The last part of a loop, and then whether there is another turn.
+#[cycle(run)]
+fn goes_on(
+    f: &Context,
+    depth: u32,
+    s: &mut State,
+    c: Option<&Expr>,
+    last: Option<&Expr>,
+) -> Result<bool, Stop>
+    requires { HasLayouts f.now.program.now }
+    ensures { let w = setting_of f.now.program.now f.now.io.now f.now.inputs.now in Shows result (seen s.new) (going_on w (calls_within w f.now.turns depth) (option_map plain_expr (option_copied last.entry)) (option_map plain_expr (option_copied c.entry)) (seen s.old)) }
+{
+    done(f, depth, s, last)?;
+    let h = holds(f, depth, s, c)?;
+    Ok(h)
+}
+
+// ---- functions
+
+fn bind_one(f: &Context, s: &mut State, o: u16, x: Value) -> Result<Value, Stop>
+    requires { HasLayouts f.now.program.now }
+    ensures { Shows result (seen s.new) (initialised (plain_program f.now.program.now) o 0 x (begun (plain_program f.now.program.now) o (seen s.old))) }
+{
+    begin(f, s, o)?;
+    let v = initialise(f, s, o, 0, x)?;
+    Ok(v)
+}
+
+/// The parameters are new objects with the arguments as their values.
+fn bind(f: &Context, s: &mut State, params: &[u16], xs: &[Value]) -> Result<(), Stop>
+    requires { HasLayouts f.now.program.now }
+    ensures { let w = setting_of f.now.program.now f.now.io.now f.now.inputs.now in ShowsAs (λ _. no_value) result (seen s.new) (bound w params.now xs.now (seen s.old)) }
+{
+    for (i, o) in params.iter().enumerate() {
+        let Some(x) = at(xs, i) else {
+            return Err(Stop::Undefined(Undefined::Access));
+        };
+        bind_one(f, s, *o, *x)?;
+    }
+    Ok(())
+}
+
+/// What a function gives that was left so.
+fn result_of(ty: &CType, main: bool, exit: Exit, s: &State) -> Result<Value, Stop>
+    ensures { Shows result (seen s.now) (result_of (plain_type ty.now) main (seen_exit exit) (seen s.now)) }
+{
+    match exit {
+        Exit::ByReturn(Some(x)) => Ok(x),
+        _ => match ty {
+            CType::Void => Ok(no_value()),
+            _ => {
+                if main {
+                    Ok(Value::Number(0))
+                } else {
+                    Err(Stop::Undefined(Undefined::NoResult))
+                }
+            }
+        },
+    }
+}
+
+/// A call of the function with a number, where calls nest at most `depth` deep.
+#[cycle(run)]
+pub fn call(f: &Context, depth: u32, s: &mut State, g: u16, xs: &[Value]) -> Result<Value, Stop>
+    requires { HasLayouts f.now.program.now }
+    ensures { let w = setting_of f.now.program.now f.now.io.now f.now.inputs.now in Shows result (seen s.new) (calls_within w f.now.turns depth g xs.now (seen s.old)) }
+{
+    if depth == 0 {
+        return Err(Stop::Undefined(Undefined::Access));
+    }
+    match function(f.program, g) {
+        None => Err(Stop::Undefined(Undefined::Access)),
+        Some(called) => {
+            let x = enter(f, depth - 1, s, g, called, xs)?;
+            Ok(x)
+        }
+    }
+}
+
+/// The parameters of a function, its body, the end of its objects, its result.
+#[cycle(run)]
+fn enter(
+    f: &Context,
+    depth: u32,
+    s: &mut State,
+    g: u16,
+    called: &Func,
+    xs: &[Value],
+) -> Result<Value, Stop>
+    requires layouts { HasLayouts f.now.program.now }
+    requires small { stmt_weight (plain_stmt called.now.body) + 2 < bodies (map plain_function f.now.program.now.funcs.items) }
+    ensures { let w = setting_of f.now.program.now f.now.io.now f.now.inputs.now in Shows result (seen s.new) (call_of w (calls_within w f.now.turns depth) f.now.turns g (Some (plain_function called.now)) xs.now (seen s.old)) }
+{
+    s.work_more(40)?;
+    bind(f, s, called.params.as_slice(), xs)?;
+    let exit = effect_of(f, depth, s, false, &called.body)?;
+    end_frame(f.program, s, g);
+    let x = result_of(&called.result, g == f.program.main, exit, s)?;
+    Ok(x)
+}
