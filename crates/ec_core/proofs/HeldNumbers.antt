@@ -242,7 +242,7 @@ integer_of_size s n = record { signed = s; bytes = n }
 same_integer : (s : Bool) (n : ℕ) → s ≡ true → n ≡ 2 → integer_of_size s n ≡ int_type
 same_integer s n e f = ap (λ x. integer_of_size x n) e ∙ ap (λ x. integer_of_size true x) f
 
-int_only : (t : Arithmetic) → type_of t ≡ int → t ≡ Integer int_type
+pub int_only : (t : Arithmetic) → type_of t ≡ int → t ≡ Integer int_type
 int_only (Integer t) e = let s : t.signed ≡ true = cc in let b : t.bytes ≡ 2 = cc in ap Integer (same_integer t.signed t.bytes s b)
 int_only (Fixed t) e = cc
 

@@ -5,6 +5,7 @@ pub mod Rows
 pub mod Runs
 pub mod Sameness
 pub mod Samples
+pub mod Suiting
 pub mod TwoRuns
 pub mod TypedRuns
 pub mod TypedStates

@@ -1,9 +1,13 @@
 -- Small programs and what they do, by computation alone.
-use Rattle.std.proofs.Common.{◌≡◌, ◌*◌, ℕ, Bool, true, false, pos, negsuc, List, [], ◌∷◌, Some, None, refl}
-use Rattle.std.specs.Prelude.{◌==◌, if◌then◌else◌}
+use Rattle.std.proofs.Common.{◌≡◌, ◌*◌, ℕ, zero, suc, ◌<◌, ◌≤◌, Bool, true, false, pos, negsuc, List, [], ◌∷◌, Some, None, refl, sym, subst, inl, inr, arith}
+use Rattle.std.specs.Prelude.{◌==◌, if◌then◌else◌, Contains, slice_get, slice_index_or}
+use Rattle.std.proofs.lemmas.Int.{ints as integers}
 use Rattle.ec_fx.specs.declared.formats.FxKind.TheVariants.{ShortFract, ShortAccum}
 use Rattle.ec_fx.specs.declared.numbers.Mode.{Mode}
 use Rattle.ec_iohw.specs.declared.operations.IoOp.TheVariants.{Read as PortRead, ReadBuffer as PortReadBuffer, Write as PortWrite}
+use Rattle.ec_iohw.specs.declared.table.IoTable.{IoTable}
+use Rattle.ec_iohw.specs.Valid.{ValidIo}
+use Rattle.ec_core.specs.Layout.{IsIntegerSize}
 use Rattle.ec_space.specs.declared.space.Bank.TheVariants.{Data as DataBank}
 use Rattle.ec_space.specs.declared.space.SpaceId.TheVariants.{Flash, Generic}
 use Rattle.ec_runs.specs.Behaviours.{Running, Ended, Failed}
@@ -15,6 +19,8 @@ use Rattle.ec_core.specs.PortTable.{PlainTable}
 use Rattle.ec_core.specs.State.{Event, In, Out, Read, Write}
 use Rattle.ec_core.specs.Typing.{int, unsigned_int}
 use Rattle.ec_core.specs.Meaning.{source, work}
+use Rattle.ec_core.specs.Needs.{stmt_calls}
+use Rattle.ec_core.specs.Valid.{ShareNoRegister, IsExprType, ValidExpr, ValidStmt, Reaches, calls, calls_through, Valid}
 
 abbrev plain_mode : Mode
 plain_mode = record { saturate = false }
@@ -327,3 +333,82 @@ endless = program [] (function int [] (does (for_loop no_stmt None None (does em
 
 endless_runs : source endless no_ports silent 3 ≡ Running []
 endless_runs = refl
+
+-- ---- valid programs
+
+of_int : IsIntegerSize 2
+of_int = inr (inl refl)
+
+num_valid : (p : PlainProgram) (io_table : IoTable) (f n : ℕ) → n ≤ 32_767 → ValidExpr p io_table f (num n)
+num_valid p io_table f n h = (of_int, (of_int, record { low = omega (arith, integers); high = omega (arith, integers, h) }), tt)
+
+-- a function that calls none is reached by none
+alone : (p : PlainProgram) → ((f : ℕ) (function : PlainFunction) (g : ℕ) → slice_get p.functions f ≡ Some function → Contains (stmt_calls function.body []) g → ⊥) → (g f : ℕ) → Reaches p g f → ⊥
+alone p h g reached (calls f function e c) = h f function g e c
+alone p h g reached (calls_through f k function e c r) = h f function k e c
+
+no_item : (g : ℕ) → Contains [] g → ⊥
+no_item g c = absurd (omega (arith, c.1))
+
+pointing_calls : (f : ℕ) (function : PlainFunction) (g : ℕ) → slice_get (pointing 1).functions f ≡ Some function → Contains (stmt_calls function.body []) g → ⊥
+pointing_calls zero function g e c =
+    let main : PlainFunction = slice_index_or (pointing 1).functions 0 function in
+    let k : main ≡ function = cc in
+    no_item g (subst (λ (z : PlainFunction). Contains (stmt_calls z.body []) g) (sym k) c)
+pointing_calls (suc f) function g e c = cc
+
+locals_apart : (i j : ℕ) (d : PlainObject) → i < j → j < 2 → ShareNoRegister (pointing 1) (slice_index_or (pointing 1).objects i d) (slice_index_or (pointing 1).objects j d)
+locals_apart zero zero d l m = absurd (omega (arith, l))
+locals_apart zero (suc zero) d l m = tt
+locals_apart zero (suc (suc j)) d l m = absurd (omega (arith, m))
+locals_apart (suc i) zero d l m = absurd (omega (arith, l))
+locals_apart (suc i) (suc zero) d l m = absurd (omega (arith, l))
+locals_apart (suc i) (suc (suc j)) d l m = absurd (omega (arith, m))
+
+-- the type of a pointer to an int
+data_int_known : IsExprType (pointing 1) data_int
+data_int_known = (record { names = tt; form = of_int }, omega arith)
+
+pointing_valid : (io_table : IoTable) → ValidIo io_table → Valid (pointing 1) io_table
+pointing_valid io_table v = record {
+  ports = v;
+  structs = record { earlier = tt; small = λ i. omega arith };
+  objects = (
+    record { ty = record { names = tt; form = (of_int, omega arith) }; some = omega arith; small = omega arith; home = refl; storage = (omega arith, refl) },
+    (record { ty = record { names = tt; form = tt }; some = omega arith; small = omega arith; home = refl; storage = (omega arith, refl) }, tt),
+  );
+  registers = locals_apart;
+  functions = (
+    record {
+      params = tt;
+      distinct = λ i j d l m. absurd (omega (arith, m));
+      returns = inl of_int;
+      names = tt;
+      body = (declared_ints, (declared_pointer, (returned, tt)));
+      need = omega arith;
+    },
+    tt,
+  );
+  main = (refl, refl);
+  no_recursion = λ f. alone (pointing 1) pointing_calls f f;
+  object_count = omega arith;
+  function_count = omega arith;
+}
+  where
+    number : (n : ℕ) → n ≤ 32_767 → ValidExpr (pointing 1) io_table 0 (num n)
+    number n h = num_valid (pointing 1) io_table 0 n h
+
+    declared_ints : ValidStmt (pointing 1) io_table 0 int false (does (declare 0 (exprs (num 1 ∷ num 2 ∷ []))))
+    declared_ints = ((refl, inr (refl, (refl, tt))), (number 1 (omega arith), (number 2 (omega arith), tt)))
+
+    first : ValidExpr (pointing 1) io_table 0 (typed data_int (address_of (object 0)))
+    first = (data_int_known, (refl, refl, inr refl), (refl, tt))
+
+    declared_pointer : ValidStmt (pointing 1) io_table 0 int false (does (declare 1 (exprs (typed data_int (binary Add (typed data_int (address_of (object 0))) (num 1)) ∷ []))))
+    declared_pointer = ((refl, inr (refl, tt)), ((data_int_known, (tt, refl), (first, number 1 (omega arith))), tt))
+
+    pointer_read : ValidExpr (pointing 1) io_table 0 (typed data_int (load (object 1)))
+    pointer_read = (data_int_known, (tt, refl), refl)
+
+    returned : ValidStmt (pointing 1) io_table 0 int false (does (return_value (Some (typed int (load (deref (typed data_int (load (object 1)))))))))
+    returned = (((λ e. cc), refl), (of_int, (of_int, refl), pointer_read))

@@ -38,8 +38,8 @@ use Rattle.ec_core.specs.Statements.{Exit, at_end, by_break, by_continue, by_ret
 use Rattle.ec_core.specs.Typing.{HaveCompoundArithmetic, pointer_space, int, unsigned_int, unsigned_long, type_of_expr, place_type, place_space, pointee, IsAddressType, HaveCompoundTypes, port_value, port_result, AreArguments, IsTyped}
 use Rattle.ec_core.specs.Valid.{EachFrom, IsInitialValue, AreInitialValues, IsStored, IsObject, ValidExpr, ValidParts, ValidPlace, ValidOption, ValidExprs, ValidOptional, ValidCondition, AreLeafValues, IsDeclared, IsReturned, ValidStmt, ValidKind, ValidOptionStmt, ValidStmts, IsFunction, Valid}
 use Rattle.ec_core.specs.Words.{function_words, branch_words, loop_words, member_words, leaf_words}
-use Rattle.ec_core.specs.ValueTypes.{IsPointerInto, HasType, AreLeafStates, AreObjectStates, IsTypedState, GiveBytes, TypesAreKept}
-use Rattle.ec_core.proofs.TypedStates.{leaves_unset, all_ended_typed, frame_ended_typed, begun_typed, IsSound, sound, no_value, sound_next, sound_as, sound_choose, read_sound, write_sound, initialised_sound}
+use Rattle.ec_core.specs.ValueTypes.{IsPointerInto, HasType, AreLeafStates, AreObjectStates, IsTypedState, GiveBytes, AreArgumentValues, IsAny, StatesStayTyped, TypesAreKept}
+use Rattle.ec_core.proofs.TypedStates.{leaves_unset, all_ended_typed, frame_ended_typed, begun_typed, begun_kept, IsSound, sound, no_value, sound_next, sound_as, sound_choose, read_sound, write_sound, initialised_sound}
 use Rattle.ec_core.proofs.TypedValues.{OnValue, some_and, number_of_type, type_of_number, int_value, moved_value, offset_integer, integer_number, binary_value, unary_value_typed, conversion_value_typed, compound_value_typed}
 
 -- ---- lists
@@ -249,13 +249,6 @@ module _ (program : PlainProgram) (io_table : IoTable) (valid : Valid program io
 
   -- ---- expressions
 
-  -- one argument of the parameter's type for each parameter
-  abbrev AreTyped : List ℕ → List Value → Type 0
-  AreTyped [] [] = ⊤
-  AreTyped [] (x ∷ xs) = ⊥
-  AreTyped (o ∷ os) [] = ⊥
-  AreTyped (o ∷ os) (x ∷ xs) = IsSomeAnd (slice_get program.objects o) (λ d. HasType program d.ty x) × AreTyped os xs
-
   -- how a statement of a function with this result is left
   abbrev ExitTyped : PlainType → Exit → Type 0
   ExitTyped ty at_end = ⊤
@@ -266,7 +259,7 @@ module _ (program : PlainProgram) (io_table : IoTable) (valid : Valid program io
 
   -- calls give values of the results' types
   abbrev KeepTypes : Calls → Type 0
-  KeepTypes calls = (g : ℕ) (f : PlainFunction) (xs : List Value) (s : State) → slice_get program.functions g ≡ Some f → AreTyped f.params xs → IsTypedState program s → IsSound program (HasType program f.returns) (calls g xs s)
+  KeepTypes calls = (g : ℕ) (f : PlainFunction) (xs : List Value) (s : State) → slice_get program.functions g ≡ Some f → AreArgumentValues program f.params xs → IsTypedState program s → IsSound program (HasType program f.returns) (calls g xs s)
 
   argument_typed : (o : ℕ) (ty : PlainType) (x : Value) → option_map (λ d. d.ty) (slice_get program.objects o) ≡ Some ty → HasType program ty x → IsSomeAnd (slice_get program.objects o) (λ d. HasType program d.ty x)
   argument_typed o ty x e h = by_object (slice_get program.objects o) e
@@ -328,7 +321,7 @@ module _ (program : PlainProgram) (io_table : IoTable) (valid : Valid program io
       options_sound no_expr s v h = sound program void_value s tt h
       options_sound (an_expr e) s v h = sound_as program (λ x q. tt) (values_sound e s v h)
 
-      rows_sound : (os : List ℕ) (es : PlainExprs) (s : State) → AreArguments program os es → ValidExprs program io_table f es → IsTypedState program s → IsSound program (AreTyped os) (values_of w calls es s)
+      rows_sound : (os : List ℕ) (es : PlainExprs) (s : State) → AreArguments program os es → ValidExprs program io_table f es → IsTypedState program s → IsSound program (AreArgumentValues program os) (values_of w calls es s)
       rows_sound [] last_expr s a v h = sound program [] s tt h
       rows_sound [] (next_expr e es) s a v h = absurd a
       rows_sound (o ∷ os) last_expr s a v h = absurd a
@@ -435,7 +428,7 @@ module _ (program : PlainProgram) (io_table : IoTable) (valid : Valid program io
 
   -- ---- functions
 
-  bound_sound : (g : ℕ) (os : List ℕ) (xs : List Value) (s : State) → AllByRecursion (λ o. IsSomeAnd (slice_get program.objects o) (λ x. x.storage ≡ param g)) os → AreTyped os xs → IsTypedState program s → IsSound program (λ x. ⊤) (bound w os xs s)
+  bound_sound : (g : ℕ) (os : List ℕ) (xs : List Value) (s : State) → AllByRecursion (λ o. IsSomeAnd (slice_get program.objects o) (λ x. x.storage ≡ param g)) os → AreArgumentValues program os xs → IsTypedState program s → IsSound program (λ x. ⊤) (bound w os xs s)
   bound_sound g [] xs s p a h = sound program void_value s tt h
   bound_sound g (o ∷ os) [] s p a h = absurd a
   bound_sound g (o ∷ os) (x ∷ xs) s p a h =
@@ -481,7 +474,7 @@ module _ (program : PlainProgram) (io_table : IoTable) (valid : Valid program io
       same : (z : Option PlainFunction) (a b : PlainFunction) → z ≡ Some a → z ≡ Some b → a ≡ b
       same z a b p q = cc
 
-  body_sound : (calls : Calls) → KeepTypes calls → (n g : ℕ) (f : PlainFunction) (xs : List Value) (s : State) → slice_get program.functions g ≡ Some f → AreTyped f.params xs → IsTypedState program s → IsSound program (HasType program f.returns) (call_of w calls n g (Some f) xs s)
+  body_sound : (calls : Calls) → KeepTypes calls → (n g : ℕ) (f : PlainFunction) (xs : List Value) (s : State) → slice_get program.functions g ≡ Some f → AreArgumentValues program f.params xs → IsTypedState program s → IsSound program (HasType program f.returns) (call_of w calls n g (Some f) xs s)
   body_sound calls keep n g f xs s e a h =
       let v : IsFunction program io_table g f = function_of g f e in
       sound_next program (bound_sound g f.params xs (worked function_words s) v.params a h) (λ y t q k. sound_next program (effects_sound calls keep g n f.returns false false f.body t v.body k) (λ x u r l.
@@ -535,11 +528,31 @@ module _ (program : PlainProgram) (io_table : IoTable) (valid : Valid program io
   pub run_sound : (n : ℕ) → IsSound program (HasType program int) (run program (plain_table io_table) inputs n)
   run_sound n =
       let c = some_and (slice_get program.functions program.main) (λ z. (z.params ≡ []) × (z.returns ≡ int)) valid.main in
-      let a : AreTyped c.0.params [] = subst (λ (z : List ℕ). AreTyped z []) (sym c.2.0) tt in
+      let a : AreArgumentValues program c.0.params [] = subst (λ (z : List ℕ). AreArgumentValues program z []) (sym c.2.0) tt in
       as_type program c.0.returns int c.2.1 (calls_sound n (length program.functions) program.main c.0 [] (initial_state program (plain_table io_table)) c.1 a (objects_typed program.objects valid.objects))
 
-pub types_are_kept : TypesAreKept
-types_are_kept program io_table inputs valid bytes = record {
-  expressions = λ n depth f e s v h. (values_sound program io_table valid inputs bytes (calls_within (setting program (plain_table io_table) inputs) n depth) (calls_sound program io_table valid inputs bytes n depth) f e s v h).is;
-  result = λ n. (run_sound program io_table valid inputs bytes n).is;
+any : {A : Type 0} (program : PlainProgram) {P : A → Type 0} {o : Outcome A} → IsSound program P o → IsSound program IsAny o
+any program h = sound_as program (λ x p. tt) h
+
+states_stay : (program : PlainProgram) → StatesStayTyped program
+states_stay program = record {
+  read = λ ty space to s h. (read_sound program ty space to s h).is;
+  initialised = λ o k d leaf v s e l t h. (initialised_sound program o k d leaf v s e l t h).is;
+  begun = λ o s h. begun_kept program o s h;
 }
+
+pub types_are_kept : TypesAreKept
+types_are_kept program io_table inputs valid bytes =
+    let calls : (n depth : ℕ) → Calls = calls_within (setting program (plain_table io_table) inputs) in
+    let keep = calls_sound program io_table valid inputs bytes in
+    record {
+      states = states_stay program;
+      initial = objects_typed program io_table valid inputs bytes program.objects valid.objects;
+      expressions = λ n depth f e s v h. (values_sound program io_table valid inputs bytes (calls n depth) (keep n depth) f e s v h).is;
+      places = λ n depth f p s v h. (any program (places_sound program io_table valid inputs bytes (calls n depth) (keep n depth) f p s v h)).is;
+      arguments = λ n depth f params es s a v h. (rows_sound program io_table valid inputs bytes (calls n depth) (keep n depth) f params es s a v h).is;
+      statements = λ n depth f returns in_loop outlived a s v h. (any program (effects_sound program io_table valid inputs bytes (calls n depth) (keep n depth) f n returns outlived in_loop a s v h)).is;
+      functions = function_of program io_table valid inputs bytes;
+      parameters = λ g f xs s e a h. (any program (bound_sound program io_table valid inputs bytes g f.params xs s (function_of program io_table valid inputs bytes g f e).params a h)).is;
+      result = λ n. (run_sound program io_table valid inputs bytes n).is;
+    }

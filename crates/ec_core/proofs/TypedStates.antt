@@ -92,6 +92,21 @@ module _ (program : PlainProgram) where
       object_changed program.objects s.objects o d (renewed (unwrap_or (option_map (λ x. leaf_count program x.ty) (slice_get program.objects o)) 0)) h e
       (λ x k. subst (λ (n : ℕ). AreLeafStates program (leaves d.ty) (replicate n None)) (sym (ap (λ z. unwrap_or (option_map (λ x. leaf_count program x.ty) z) 0) e)) (leaves_unset (leaves d.ty)))
 
+  -- there is no state of an object that there is not
+  object_none : (os : List PlainObject) (xs : List ObjectState) (o : ℕ) (f : ObjectState → ObjectState) → AreObjectStates program os xs → slice_get os o ≡ None → AreObjectStates program os (changed_at o f xs)
+  object_none [] [] o f h e = tt
+  object_none [] (y ∷ xs) o f h e = absurd h
+  object_none (c ∷ os) [] o f h e = absurd h
+  object_none (c ∷ os) (y ∷ xs) zero f h e = cc
+  object_none (c ∷ os) (y ∷ xs) (suc o) f h e = (h.0, object_none os xs o f h.1 e)
+
+  pub begun_kept : (o : ℕ) (s : State) → IsTypedState program s → IsTypedState program (begun program o s)
+  begun_kept o s h = by_object (slice_get program.objects o) refl
+    where
+      by_object : (d : Option PlainObject) → slice_get program.objects o ≡ d → IsTypedState program (begun program o s)
+      by_object None e = object_none program.objects s.objects o _ h e
+      by_object (Some d) e = begun_typed o d s e h
+
   -- ---- accesses
 
   -- an access of a leaf of some type

@@ -17,6 +17,7 @@ pub mod PortOperations
 pub mod PortTable
 pub mod State
 pub mod Statements
+pub mod Suited
 pub mod Typing
 pub mod Valid
 pub mod ValueTypes

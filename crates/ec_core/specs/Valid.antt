@@ -9,9 +9,9 @@ use Rattle.ec_core.specs.declared.programs.LeafInit.{LeafInit}
 use Rattle.ec_core.specs.declared.programs.LeafInit.TheVariants.{Number, Null, Address}
 use Rattle.ec_core.specs.ArithmeticTypes.{arithmetic_of}
 use Rattle.ec_core.specs.ArithmeticValues.{HoldsNumber}
-use Rattle.ec_core.specs.Layout.{NamesBelow, IsScalar, IsObjectType, AreStructs, PlainLeaf, size_of_type, leaves_of_type}
+use Rattle.ec_core.specs.Layout.{NamesBelow, IsIntegerSize, IsScalar, IsObjectType, AreStructs, PlainLeaf, size_of_type, leaves_of_type}
 use Rattle.ec_core.specs.Needs.{stmt_need, stmt_calls}
-use Rattle.ec_core.specs.Plain.{PlainType, void, pointer, PlainExpr, expression, PlainNode, number, null, load, address_of, unary, binary, convert, assign, compound, step, logical_not, logical_and, logical_or, conditional, comma, call, io, group, PlainPlace, object, deref, member, OptionPlainExpr, no_expr, an_expr, PlainExprs, last_expr, next_expr, PlainStmt, statement, PlainKind, empty, evaluate, block, declare, branch, while_loop, do_loop, for_loop, break_loop, continue_loop, return_value, OptionPlainStmt, no_stmt, a_stmt, PlainStmts, last_stmt, next_stmt, PlainStorage, static, local, param, register, PlainObject, PlainFunction, PlainProgram}
+use Rattle.ec_core.specs.Plain.{PlainType, void, integer, fixed, pointer, array, struct, PlainExpr, expression, PlainNode, number, null, load, address_of, unary, binary, convert, assign, compound, step, logical_not, logical_and, logical_or, conditional, comma, call, io, group, PlainPlace, object, deref, member, OptionPlainExpr, no_expr, an_expr, PlainExprs, last_expr, next_expr, PlainStmt, statement, PlainKind, empty, evaluate, block, declare, branch, while_loop, do_loop, for_loop, break_loop, continue_loop, return_value, OptionPlainStmt, no_stmt, a_stmt, PlainStmts, last_stmt, next_stmt, PlainStorage, static, local, param, register, PlainObject, PlainFunction, PlainProgram}
 use Rattle.ec_core.specs.Typing.{int, type_of_expr, IsTyped}
 
 -- a fact holds of each item and its number, which are counted from n
@@ -92,11 +92,21 @@ HasAddress p (object o) = IsSomeAnd (slice_get p.objects o) (λ x. IsAddressable
 HasAddress p (deref e) = ⊤
 HasAddress p (member q i) = HasAddress p q
 
+-- The type of an expression: void or scalar. A pointer is to what an object can be, of at least one byte (6.5.6 asks it of
+-- arithmetic; there are no void pointers)
+abbrev pub IsExprType : PlainProgram → PlainType → Type 0
+IsExprType p void = ⊤
+IsExprType p (integer signed bytes) = IsIntegerSize bytes
+IsExprType p (fixed kind saturates) = ⊤
+IsExprType p (pointer space const to) = IsObjectType (length p.structs) to × (1 ≤ size_of_type p.structs to)
+IsExprType p (array of len) = ⊥
+IsExprType p (struct index) = ⊥
+
 -- the expressions and places of a body of the function with number f
 module _ (p : PlainProgram) (table : IoTable) (f : ℕ) where
   abbrev mutual
     pub ValidExpr : PlainExpr → Type 0
-    ValidExpr (expression ty mode node) = NamesBelow (length p.structs) ty × IsTyped p table ty node × ValidParts node
+    ValidExpr (expression ty mode node) = IsExprType p ty × IsTyped p table ty node × ValidParts node
 
     -- the expressions and places in a node
     pub ValidParts : PlainNode → Type 0

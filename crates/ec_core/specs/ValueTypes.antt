@@ -1,22 +1,23 @@
 -- Values of types, and states whose leaves hold values of their types.
-use Rattle.std.specs.Prelude.{⊤, ℕ, ◌<◌, ◌≤◌, IsTrue, IsSomeAnd, List, [], ◌∷◌, Option, Some, None, slice_get, slice_index}
+use Rattle.std.specs.Prelude.{⊤, ◌≡◌, ℕ, ◌<◌, ◌≤◌, Bool, IsTrue, IsSomeAnd, List, [], ◌∷◌, Option, Some, None, slice_get, slice_index}
 use Rattle.ec_iohw.specs.declared.table.IoTable.{IoTable}
 use Rattle.ec_space.specs.declared.space.SpaceId.{SpaceId}
 use Rattle.ec_space.specs.Spaces.{holds}
 use Rattle.ec_core.specs.declared.arithmetic_types.Arithmetic.TheVariants.{Integer, Fixed}
 use Rattle.ec_core.specs.declared.values.Value.{Value}
 use Rattle.ec_core.specs.declared.values.Value.TheVariants.{Number, Pointer}
+use Rattle.ec_core.specs.Accesses.{access, begun, initialised, read}
 use Rattle.ec_core.specs.ArithmeticValues.{HoldsNumber}
-use Rattle.ec_core.specs.Expressions.{value_of}
+use Rattle.ec_core.specs.Expressions.{value_of, place_of, values_of}
 use Rattle.ec_core.specs.Layout.{PlainLeaf, size_of_type, leaves_of_type}
-use Rattle.ec_core.specs.Meaning.{setting, run}
-use Rattle.ec_core.specs.Plain.{PlainType, void, integer, fixed, pointer, array, struct, PlainExpr, PlainObject, PlainProgram}
+use Rattle.ec_core.specs.Meaning.{setting, initial_state, run}
+use Rattle.ec_core.specs.Plain.{PlainType, void, integer, fixed, pointer, array, struct, PlainExpr, PlainExprs, PlainPlace, PlainStmt, PlainObject, PlainFunction, PlainProgram}
 use Rattle.ec_core.specs.Pointers.{Pointer as PointerValue}
 use Rattle.ec_core.specs.PortTable.{plain_table}
 use Rattle.ec_core.specs.State.{Inputs, ObjectState, State, Outcome, got, more, undefined}
-use Rattle.ec_core.specs.Statements.{calls_within}
-use Rattle.ec_core.specs.Typing.{int, type_of_expr}
-use Rattle.ec_core.specs.Valid.{Valid, ValidExpr}
+use Rattle.ec_core.specs.Statements.{effect_of, bound, calls_within}
+use Rattle.ec_core.specs.Typing.{int, type_of_expr, AreArguments}
+use Rattle.ec_core.specs.Valid.{Valid, ValidExpr, ValidExprs, ValidPlace, ValidStmt, IsFunction}
 
 -- ---- values
 
@@ -71,10 +72,35 @@ IsSoundOutcome program P (undefined point s) = ⊤
 abbrev pub GiveBytes : Inputs → Type 0
 GiveBytes inputs = (port k : ℕ) → slice_index (inputs port) k < 256
 
--- In a valid program whose ports give bytes, the value of each expression has its type, and so do the values of all leaves and
--- the result of main
+-- one value of the parameter's type for each parameter
+abbrev pub AreArgumentValues : PlainProgram → List ℕ → List Value → Type 0
+AreArgumentValues program [] [] = ⊤
+AreArgumentValues program [] (x ∷ xs) = ⊥
+AreArgumentValues program (o ∷ os) [] = ⊥
+AreArgumentValues program (o ∷ os) (x ∷ xs) = IsSomeAnd (slice_get program.objects o) (λ d. HasType program d.ty x) × AreArgumentValues program os xs
+
+-- a fact that holds of anything
+abbrev pub IsAny : {A : Type 0} → A → Type 0
+IsAny x = ⊤
+
+-- Parts of runs leave a typed state where they began in one: a read of a leaf of a type, which gives a value of it, the first
+-- write of a leaf with a value of its type, and the begin of an object
+pub record StatesStayTyped (program : PlainProgram) : Type 0 where
+  pub read : (ty : PlainType) (space : Option SpaceId) (to : PointerValue) (s : State) → IsTypedState program s → IsSoundOutcome program (HasType program ty) (read program (access program ty space to s) s)
+  pub initialised : (o k : ℕ) (d : PlainObject) (leaf : PlainLeaf) (v : Value) (s : State) → slice_get program.objects o ≡ Some d → slice_get (leaves_of_type program.structs d.ty) k ≡ Some leaf → HasType program leaf.ty v → IsTypedState program s → IsSoundOutcome program (HasType program leaf.ty) (initialised program o k v s)
+  pub begun : (o : ℕ) (s : State) → IsTypedState program s → IsTypedState program (begun program o s)
+
+-- In a valid program whose ports give bytes, the value of each expression has its type, and so do those of arguments, of all
+-- leaves, and the result of main. For the expressions, places and statements of function f, and the parameters of function g
 pub record ValuesHaveTheirTypes (program : PlainProgram) (io : IoTable) (inputs : Inputs) : Type 0 where
+  pub states : StatesStayTyped program
+  pub initial : IsTypedState program (initial_state program (plain_table io))
   pub expressions : (n depth f : ℕ) (e : PlainExpr) (s : State) → ValidExpr program io f e → IsTypedState program s → IsSoundOutcome program (HasType program (type_of_expr e)) (value_of (setting program (plain_table io) inputs) (calls_within (setting program (plain_table io) inputs) n depth) e s)
+  pub places : (n depth f : ℕ) (p : PlainPlace) (s : State) → ValidPlace program io f p → IsTypedState program s → IsSoundOutcome program IsAny (place_of (setting program (plain_table io) inputs) (calls_within (setting program (plain_table io) inputs) n depth) p s)
+  pub arguments : (n depth f : ℕ) (params : List ℕ) (es : PlainExprs) (s : State) → AreArguments program params es → ValidExprs program io f es → IsTypedState program s → IsSoundOutcome program (AreArgumentValues program params) (values_of (setting program (plain_table io) inputs) (calls_within (setting program (plain_table io) inputs) n depth) es s)
+  pub statements : (n depth f : ℕ) (returns : PlainType) (in_loop outlived : Bool) (a : PlainStmt) (s : State) → ValidStmt program io f returns in_loop a → IsTypedState program s → IsSoundOutcome program IsAny (effect_of (setting program (plain_table io) inputs) (calls_within (setting program (plain_table io) inputs) n depth) n outlived a s)
+  pub functions : (g : ℕ) (f : PlainFunction) → slice_get program.functions g ≡ Some f → IsFunction program io g f
+  pub parameters : (g : ℕ) (f : PlainFunction) (xs : List Value) (s : State) → slice_get program.functions g ≡ Some f → AreArgumentValues program f.params xs → IsTypedState program s → IsSoundOutcome program IsAny (bound (setting program (plain_table io) inputs) f.params xs s)
   pub result : (n : ℕ) → IsSoundOutcome program (HasType program int) (run program (plain_table io) inputs n)
 
 abbrev pub TypesAreKept : Type 0

@@ -2,6 +2,7 @@
 //!
 //! The meaning stands in `specs/Meaning.antt` and the files that it names. A run depends on a number of turns, which no
 //! execution of a loop passes. These laws say that it is one run all the same, of which more turns only show more.
+ghost use Rattle.ec_core.specs.Suited.{OperandsSuit};
 ghost use Rattle.ec_core.specs.ValueTypes.{TypesAreKept};
 ghost use Rattle.ec_core.specs.Laws.{RunsBySteps, EventsAreAtHome, RegistersAreSilent, MoreTurnsOnlyAdd, WorkNeverFalls, DependsOnBytesRead, TypesAreTold};
 
@@ -41,7 +42,12 @@ pub fn types_are_told()
     ensures { TypesAreTold }
 {}
 
-/// In a valid program the value of each expression has its type.
+/// In a valid program the value of each expression and of each leaf has its type, at every moment of a run.
 pub fn types_are_kept()
     ensures { TypesAreKept }
+{}
+
+/// Operands that have their types suit their operators.
+pub fn operands_suit()
+    ensures { OperandsSuit }
 {}

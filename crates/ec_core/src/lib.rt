@@ -25,8 +25,8 @@ pub use arithmetic_types::{Arithmetic, FixedType, IntegerType, result_type, sign
 pub use expressions::{BinOp, Expr, Node, PlaceExpr, UnOp};
 pub use integers::integer_operation;
 pub use laws::{
-    depends_on_bytes_read, events_are_at_home, more_turns_only_add, registers_are_silent,
-    runs_by_steps, types_are_kept, types_are_told, work_never_falls,
+    depends_on_bytes_read, events_are_at_home, more_turns_only_add, operands_suit,
+    registers_are_silent, runs_by_steps, types_are_kept, types_are_told, work_never_falls,
 };
 pub use layout::{Leaf, leaves, size_of};
 pub use pointers::{
