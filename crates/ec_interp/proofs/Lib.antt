@@ -1,2 +1,4 @@
 pub mod Changes
 pub mod Parts
+pub mod Operands
+pub mod Steps

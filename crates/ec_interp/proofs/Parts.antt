@@ -1,14 +1,15 @@
 -- Calls and blocks as plain trees, and the weights of items.
-use Rattle.std.proofs.Common.{◌≡◌, ◌<◌, ◌+◌, ◌-◌, ◌*◌, ℕ, zero, suc, Bool, List, [], ◌∷◌, length, get_or, take, drop, Some, None, refl, ap, sym, ◌∙◌, ◌≤◌, map, arith, rules}
+use Rattle.std.proofs.Common.{◌≡◌, ◌<◌, ◌+◌, ◌-◌, ◌*◌, ℕ, zero, suc, Bool, List, [], ◌∷◌, length, get_or, take, drop, Some, None, refl, ap, sym, subst, ◌∙◌, ◌≤◌, map, arith, rules}
 use Rattle.std.proofs.Math.Seq.{drop-cons}
 use Rattle.std.specs.Prelude.{if◌then◌else◌, slice_get}
+use Rattle.std.specs.List.{AllByRecursion}
 use Rattle.ec_fx.specs.declared.numbers.Mode.{Mode}
 use Rattle.ec_space.specs.Listed.{Listed}
 use Rattle.ec_core.specs.declared.expressions.Expr.{Expr}
 use Rattle.ec_core.specs.declared.expressions.Node.{Call, the_lemmas as node_lemmas}
 use Rattle.ec_core.specs.declared.statements.Stmt.{Stmt}
-use Rattle.ec_core.specs.declared.statements.StmtKind.{Block, the_lemmas as kind_lemmas}
-use Rattle.ec_core.specs.Plain.{a_stmt, statement, PlainType, PlainMember, PlainPlace, object, deref, member, PlainFunction, call, block, plain_node, plain_kind, plain_expr, plain_exprs, plain_stmt, plain_stmts, plain_type, plain_member}
+use Rattle.ec_core.specs.declared.statements.StmtKind.{Block, Local, the_lemmas as kind_lemmas}
+use Rattle.ec_core.specs.Plain.{a_stmt, statement, PlainType, PlainMember, PlainPlace, object, deref, member, PlainFunction, call, block, declare, plain_node, plain_kind, plain_expr, plain_exprs, plain_stmt, plain_stmts, plain_type, plain_member}
 use Rattle.ec_core.specs.declared.types.Member.{Member}
 use Rattle.ec_core.specs.Accesses.{begun, initialised}
 use Rattle.ec_core.specs.Layout.{Layout, members_layout, type_layout, scalar_size}
@@ -29,6 +30,9 @@ plain_call f args = search (rules, plain_expr_row-row, node_lemmas)
 
 pub plain_block : (ss : Listed Stmt) → plain_kind (Block ss) ≡ block (plain_stmts ss.items)
 plain_block ss = search (rules, plain_stmt_row-row, kind_lemmas)
+
+pub plain_local : (o : ℕ) (values : Listed Expr) → plain_kind (Local o values) ≡ declare o (plain_exprs values.items)
+plain_local o values = search (rules, plain_expr_row-row, kind_lemmas)
 
 pub words_call : (table : PlainTable) (ty : PlainType) (f : ℕ) (args : Listed Expr) → node_words table ty (plain_node (Call f args)) ≡ 60 + 10 * (total_size (plain_exprs args.items) + scalar_size ty)
 words_call table ty f args = ap (node_words table ty) (plain_call f args)
@@ -126,6 +130,23 @@ members_step layouts (m ∷ ms) n first h some e =
     members_one layouts n (plain_member m) (map plain_member ms) h
     ∙ (ap (λ (x : Member). (type_layout layouts (plain_type x.ty)).size + (members_layout layouts (take (n - 1) (map plain_member ms))).size) (sym e)
     ∙ ap (λ xs. (type_layout layouts (plain_type first.ty)).size + (members_layout layouts (take (n - 1) (map plain_member xs))).size) (sym rest))
+
+-- all members are the first and the rest
+pub members_whole : (layouts : ℕ → Layout) (members : List Member) (first : Member) → 1 ≤ length members → first ≡ get_or members 0 first → (members_layout layouts (map plain_member members)).size ≡ (type_layout layouts (plain_type first.ty)).size + (members_layout layouts (map plain_member (take (length members - 1) (drop 1 members)))).size
+members_whole layouts [] first some e = absurd (omega arith)
+members_whole layouts (m ∷ ms) first some e =
+    let less : suc (length ms) - 1 ≡ length ms = omega arith in
+    let rest : take (suc (length ms) - 1) ms ≡ ms = ap (λ k. take k ms) less ∙ take_all ms in
+    ap (λ (x : Member). (type_layout layouts (plain_type x.ty)).size + (members_layout layouts (map plain_member ms)).size) (sym e)
+    ∙ ap (λ xs. (type_layout layouts (plain_type first.ty)).size + (members_layout layouts (map plain_member xs)).size) (sym rest)
+
+-- and a fact holds of both where it holds of all
+pub members_kept : (P : PlainMember → Type 0) (members : List Member) (first : Member) → 1 ≤ length members → first ≡ get_or members 0 first → AllByRecursion P (map plain_member members) → P (plain_member first) × AllByRecursion P (map plain_member (take (length members - 1) (drop 1 members)))
+members_kept P [] first some e h = absurd (omega arith)
+members_kept P (m ∷ ms) first some e h =
+    let less : suc (length ms) - 1 ≡ length ms = omega arith in
+    let rest : take (suc (length ms) - 1) ms ≡ ms = ap (λ k. take k ms) less ∙ take_all ms in
+    (subst (λ (x : Member). P (plain_member x)) (sym e) h.0, subst (λ (xs : List Member). AllByRecursion P (map plain_member xs)) (sym rest) h.1)
 
 -- ---- parameters
 

@@ -3,3 +3,4 @@ pub mod Views
 pub mod Shows
 pub mod Lookups
 pub mod Weights
+pub mod Suits

@@ -5,6 +5,7 @@ use Rattle.ec_core.specs.declared.values.Undefined.{Undefined as Point}
 use Rattle.ec_core.specs.declared.values.Value.{Value}
 use Rattle.ec_core.specs.Meaning.{behaviour_of}
 use Rattle.ec_core.specs.State.{Event, State, Outcome, got, more, undefined}
+use Rattle.ec_space.specs.declared.seq.NoMemory.{NoMemory}
 use Rattle.ec_interp.specs.declared.state.Stop.{Stop}
 use Rattle.ec_interp.specs.declared.state.Stop.TheVariants.{Unanswered, OutOfTurns, Undefined}
 
@@ -18,6 +19,11 @@ ShowsAs view (Err (Undefined point)) s o = o ≡ undefined point s
 
 abbrev pub Shows : {A : Type 0} → Result A Stop → State → Outcome A → Type 0
 Shows result s o = ShowsAs (λ x. x) result s o
+
+-- the same, of a part that want of memory alone stops
+abbrev pub ShowsMemory : {A : Type 0} → Result A NoMemory → State → Outcome A → Type 0
+ShowsMemory (Ok x) s o = o ≡ got x s
+ShowsMemory (Err full) s o = ⊤
 
 -- the answer is that of an operation, unless there is none
 abbrev pub Tells : {A : Type 0} → Result A Stop → Result A Point → Type 0

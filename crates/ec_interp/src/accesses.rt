@@ -1,14 +1,15 @@
 //! Accesses of the leaves of objects.
-ghost use Rattle.std.specs.Prelude.{◌≡◌, ◌==◌, ◌&&◌, Some, None, map, option_map, option_and_then, slice_get, IfOk, OnOk};
+ghost use Rattle.std.specs.Prelude.{◌≡◌, ◌==◌, ◌&&◌, Some, None, map, option_map, option_and_then, length, slice_get, IfErr, IfOk, OnOk};
 ghost use Rattle.std.specs.List.{position_from};
 ghost use Rattle.ec_core.specs.Accesses.{access, leaf_at, leaf_of, is_readable, read, write, is_fixed, recorded, stored, own_access, initialised, with_leaf};
 ghost use Rattle.ec_core.specs.Expressions.{accessed};
-ghost use Rattle.ec_core.specs.Layout.{plain_leaf};
+ghost use Rattle.ec_core.specs.Layout.{plain_leaf, IsObjectType};
 ghost use Rattle.ec_core.specs.Operators.{same_type};
 ghost use Rattle.ec_core.specs.Plain.{plain_type, plain_object, plain_storage, plain_place, plain_program};
 ghost use Rattle.ec_core.specs.State.{with_object, Write as WriteOf, told, got};
 ghost use Rattle.ec_interp.specs.Lookups.{access_at};
 ghost use Rattle.ec_interp.specs.Shows.{Shows};
+ghost use Rattle.ec_interp.specs.Suits.{IsGiven, IsMemory, IsAnswered};
 ghost use Rattle.ec_interp.specs.Views.{seen, seen_object, seen_event, HasLayouts, setting_of};
 
 use crate::behaviour::{Event, Unanswered};
@@ -17,7 +18,7 @@ use crate::objects::set_leaf;
 use crate::operators::{is_live_in, referent};
 use crate::state::{Context, ObjectState, State, Stop, at, object, object_state, told};
 use ec_core::{CType, Leaf, Obj, ObjectPointer, PlaceExpr, Storage, Undefined, Value};
-use ec_space::SpaceId;
+use ec_space::{NoMemory, SpaceId};
 
 /// A leaf that can be accessed.
 #[derive(Clone, Copy)]
@@ -30,7 +31,8 @@ pub struct Found {
 /// The number of the leaf of a type that begins at an offset in an object.
 fn leaf_at(f: &Context, o: &Obj, ty: &CType, offset: u32) -> Result<Option<usize>, Unanswered>
     requires { HasLayouts f.now.program.now }
-    ensures { IfOk result (λ k. k ≡ leaf_at (plain_program f.now.program.now) (plain_object o.now) (plain_type ty.now) offset) }
+    ensures answered { IsObjectType (length f.now.program.now.structs.items) (plain_object o.now).ty → IfErr result IsMemory }
+    ensures leaf { IfOk result (λ k. k ≡ leaf_at (plain_program f.now.program.now) (plain_object o.now) (plain_type ty.now) offset) }
 {
     let leaves = leaves_in(f, &o.ty)?;
     Ok(leaf_among(leaves.as_slice(), ty, offset))
@@ -56,7 +58,8 @@ fn access(
     to: Option<ObjectPointer>,
 ) -> Result<Option<Found>, Unanswered>
     requires { HasLayouts f.now.program.now }
-    ensures { IfOk result (λ a. option_and_then (access_at (plain_program f.now.program.now) (seen s.now)) a ≡ access (plain_program f.now.program.now) (plain_type ty.now) space to (seen s.now)) }
+    ensures answered { IsGiven f.now → IfErr result IsMemory }
+    ensures access { IfOk result (λ a. option_and_then (access_at (plain_program f.now.program.now) (seen s.now)) a ≡ access (plain_program f.now.program.now) (plain_type ty.now) space to (seen s.now)) }
 {
     let Some(space) = space else {
         return Ok(None);
@@ -84,7 +87,7 @@ fn access(
 }
 
 /// Accesses of named registers are no events.
-fn record_access(s: &mut State, storage: &Storage, event: Event) -> Result<(), Unanswered>
+fn record_access(s: &mut State, storage: &Storage, event: Event) -> Result<(), NoMemory>
     ensures { OnOk result (seen s.new ≡ recorded (plain_storage storage.now) (seen_event event) (seen s.old)) }
 {
     match storage {
@@ -109,7 +112,8 @@ fn leaf_value(x: &ObjectState, k: usize) -> Option<Value>
 /// Whether a value can be read: it is no pointer to an object that is not live.
 fn is_readable(f: &Context, s: &State, v: Value) -> Result<bool, Unanswered>
     requires { HasLayouts f.now.program.now }
-    ensures { IfOk result (λ b. b ≡ is_readable (plain_program f.now.program.now) v (seen s.now)) }
+    ensures answered { IsGiven f.now → IfErr result IsMemory }
+    ensures readable { IfOk result (λ b. b ≡ is_readable (plain_program f.now.program.now) v (seen s.now)) }
 {
     match v {
         Value::Number(_) => Ok(true),
@@ -123,7 +127,8 @@ fn is_readable(f: &Context, s: &State, v: Value) -> Result<bool, Unanswered>
 
 fn read_at(f: &Context, s: &mut State, a: Found) -> Result<Value, Stop>
     requires { HasLayouts f.now.program.now }
-    ensures { Shows result (seen s.new) (read (plain_program f.now.program.now) (access_at (plain_program f.now.program.now) (seen s.old) a) (seen s.old)) }
+    ensures answered { IsGiven f.now → IsAnswered result }
+    ensures shows { Shows result (seen s.new) (read (plain_program f.now.program.now) (access_at (plain_program f.now.program.now) (seen s.old) a) (seen s.old)) }
 {
     let Some(o) = object(f.program, a.object) else {
         return Err(Stop::Undefined(Undefined::Access));
@@ -156,7 +161,8 @@ pub fn read(
     to: Option<ObjectPointer>,
 ) -> Result<Value, Stop>
     requires { HasLayouts f.now.program.now }
-    ensures { Shows result (seen s.new) (read (plain_program f.now.program.now) (accessed (setting_of f.now.program.now f.now.io.now f.now.inputs.now) (plain_type ty.now) (plain_place p.now) to (seen s.old)) (seen s.old)) }
+    ensures answered { IsGiven f.now → IsAnswered result }
+    ensures shows { Shows result (seen s.new) (read (plain_program f.now.program.now) (accessed (setting_of f.now.program.now f.now.io.now f.now.inputs.now) (plain_type ty.now) (plain_place p.now) to (seen s.old)) (seen s.old)) }
 {
     let space = place_space(f.program, p);
     match access(f, s, ty, space, to)? {
@@ -169,7 +175,7 @@ pub fn read(
 }
 
 /// A leaf gets a value.
-fn store(s: &mut State, o: &Obj, a: Found, v: Value) -> Result<(), Unanswered>
+fn store(s: &mut State, o: &Obj, a: Found, v: Value) -> Result<(), NoMemory>
     ensures { OnOk result (seen s.new ≡ recorded (plain_storage o.now.storage) (WriteOf a.object a.leaf a.space (told v)) (with_object a.object (with_leaf a.leaf v) (seen s.old))) }
 {
     set_leaf(s, a.object, a.leaf, v);
@@ -191,7 +197,8 @@ fn is_fixed(o: &Obj) -> bool
 }
 
 fn write_at(f: &Context, s: &mut State, a: Found, v: Value) -> Result<Value, Stop>
-    ensures { Shows result (seen s.new) (write (access_at (plain_program f.now.program.now) (seen s.old) a) v (seen s.old)) }
+    ensures answered { IsAnswered result }
+    ensures shows { Shows result (seen s.new) (write (access_at (plain_program f.now.program.now) (seen s.old) a) v (seen s.old)) }
 {
     let Some(o) = object(f.program, a.object) else {
         return Err(Stop::Undefined(Undefined::Access));
@@ -216,7 +223,8 @@ pub fn write(
     v: Value,
 ) -> Result<Value, Stop>
     requires { HasLayouts f.now.program.now }
-    ensures { Shows result (seen s.new) (write (accessed (setting_of f.now.program.now f.now.io.now f.now.inputs.now) (plain_type ty.now) (plain_place p.now) to (seen s.old)) v (seen s.old)) }
+    ensures answered { IsGiven f.now → IsAnswered result }
+    ensures shows { Shows result (seen s.new) (write (accessed (setting_of f.now.program.now f.now.io.now f.now.inputs.now) (plain_type ty.now) (plain_place p.now) to (seen s.old)) v (seen s.old)) }
 {
     let space = place_space(f.program, p);
     match access(f, s, ty, space, to)? {
@@ -230,7 +238,8 @@ pub fn write(
 
 /// The initialisation of a leaf of the newest instance of an object: const objects are written too.
 pub fn initialise(f: &Context, s: &mut State, o: u16, k: usize, v: Value) -> Result<Value, Stop>
-    ensures { Shows result (seen s.new) (initialised (plain_program f.now.program.now) o k v (seen s.old)) }
+    ensures answered { IsAnswered result }
+    ensures shows { Shows result (seen s.new) (initialised (plain_program f.now.program.now) o k v (seen s.old)) }
 {
     let Some(d) = object(f.program, o) else {
         return Err(Stop::Undefined(Undefined::Access));

@@ -6,12 +6,10 @@ use ec_space::{NoMemory, Seq, SpaceId};
 /// Why there is no answer.
 #[derive(Clone, Copy, Debug, PartialEq, Eq)]
 pub enum Unanswered {
-    /// Memory ran out.
+    /// Memory ran out, or a count passed 2^64 - 1, for which no more of it is set aside.
     NoMemory,
-    /// A count or a size passed the greatest number of its type.
-    TooLarge,
-    /// An operation met a type or a value that it does not suit. That programs which keep the rules of
-    /// types give none such is not said here.
+    /// The program does not keep the rules of types: a type has no layout, an operand does not suit its
+    /// operator, or a port has more than 8 bytes.
     Unsuited,
 }
 

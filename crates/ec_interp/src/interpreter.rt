@@ -1,10 +1,16 @@
 //! The run of a program.
-ghost use Rattle.std.specs.Prelude.{◌≡◌, ◌*◌, false, Some, None, map, replicate, IfOk};
+ghost use Rattle.std.specs.Prelude.{◌≡◌, ◌*◌, false, Some, None, length, map, replicate, IfErr, IfOk};
+ghost use Rattle.std.specs.List.{AllByRecursion};
 ghost use Rattle.ec_core.specs.Accesses.{leaf_count};
+ghost use Rattle.ec_core.specs.Layout.{IsObjectType};
 ghost use Rattle.ec_core.specs.Meaning.{initial_value, initial_object, initial_state, number_of, source, work};
 ghost use Rattle.ec_core.specs.Plain.{plain_object, plain_program};
 ghost use Rattle.ec_core.specs.PortTable.{plain_table};
+ghost use Rattle.ec_core.specs.Valid.{IsObject, Valid};
+ghost use Rattle.ec_core.specs.ValueTypes.{GiveBytes};
+ghost use Rattle.ec_interp.specs.declared.behaviour.Unanswered.TheVariants.{NoMemory as OutOfMemory};
 ghost use Rattle.ec_interp.specs.Shows.{ShowsBehaviour};
+ghost use Rattle.ec_interp.specs.Suits.{IsGiven, IsMemory, IsAnswered};
 ghost use Rattle.ec_interp.specs.Views.{seen, seen_object, seen_behaviour, inputs_of, HasLayouts};
 
 use crate::behaviour::{Behaviour, Event, PortInput, Run, Unanswered};
@@ -14,7 +20,7 @@ use crate::run::call;
 use crate::state::{Context, ObjectState, State, Stop, push};
 use ec_core::{LeafInit, Obj, ObjectPointer, Program, Storage, Value};
 use ec_iohw::IoTable;
-use ec_space::Seq;
+use ec_space::{NoMemory, Seq};
 use std::alloc::Global;
 
 // ---- the beginning
@@ -33,7 +39,7 @@ fn initial_value(init: &LeafInit) -> Value
     }
 }
 
-fn initial_leaves(alloc: Global, inits: &[LeafInit]) -> Result<Vec<Option<Value>>, Unanswered>
+fn initial_leaves(alloc: Global, inits: &[LeafInit]) -> Result<Vec<Option<Value>>, NoMemory>
     ensures { IfOk result (λ leaves. leaves.items ≡ map (λ init. Some (initial_value init)) inits.now) }
 {
     let mut leaves = Vec::new(alloc);
@@ -45,7 +51,8 @@ fn initial_leaves(alloc: Global, inits: &[LeafInit]) -> Result<Vec<Option<Value>
 
 fn unset_object(f: &Context, o: &Obj, live: bool) -> Result<ObjectState, Unanswered>
     requires { HasLayouts f.now.program.now }
-    ensures { IfOk result (λ x. seen_object x ≡ record { serial = 0; live = live; leaves = replicate (leaf_count (plain_program f.now.program.now) (plain_object o.now).ty) None }) }
+    ensures answered { IsObjectType (length f.now.program.now.structs.items) (plain_object o.now).ty → IfErr result IsMemory }
+    ensures object { IfOk result (λ x. seen_object x ≡ record { serial = 0; live = live; leaves = replicate (leaf_count (plain_program f.now.program.now) (plain_object o.now).ty) None }) }
 {
     let count = leaf_count(f, &o.ty)?;
     let leaves = unset_leaves(f.alloc, count)?;
@@ -58,7 +65,8 @@ fn unset_object(f: &Context, o: &Obj, live: bool) -> Result<ObjectState, Unanswe
 
 fn initial_object(f: &Context, o: &Obj) -> Result<ObjectState, Unanswered>
     requires { HasLayouts f.now.program.now }
-    ensures { IfOk result (λ x. seen_object x ≡ initial_object (leaf_count (plain_program f.now.program.now) (plain_object o.now).ty) (plain_object o.now).storage) }
+    ensures answered { IsObjectType (length f.now.program.now.structs.items) (plain_object o.now).ty → IfErr result IsMemory }
+    ensures object { IfOk result (λ x. seen_object x ≡ initial_object (leaf_count (plain_program f.now.program.now) (plain_object o.now).ty) (plain_object o.now).storage) }
 {
     match &o.storage {
         Storage::Static(inits) => {
@@ -86,7 +94,8 @@ fn initial_object(f: &Context, o: &Obj) -> Result<ObjectState, Unanswered>
 
 fn initial_objects(f: &Context, objs: &[Obj]) -> Result<Vec<ObjectState>, Unanswered>
     requires { HasLayouts f.now.program.now }
-    ensures { IfOk result (λ xs. map seen_object xs.items ≡ map (λ o. initial_object (leaf_count (plain_program f.now.program.now) o.ty) o.storage) (map plain_object objs.now)) }
+    ensures answered { AllByRecursion (IsObject (plain_program f.now.program.now)) (map plain_object objs.now) → IfErr result IsMemory }
+    ensures objects { IfOk result (λ xs. map seen_object xs.items ≡ map (λ o. initial_object (leaf_count (plain_program f.now.program.now) o.ty) o.storage) (map plain_object objs.now)) }
 {
     let mut objects = Vec::new(f.alloc);
     for o in objs {
@@ -96,16 +105,16 @@ fn initial_objects(f: &Context, objs: &[Obj]) -> Result<Vec<ObjectState>, Unansw
     Ok(objects)
 }
 
-fn closed(alloc: Global, count: usize) -> Result<Vec<bool>, Unanswered>
+fn closed(alloc: Global, count: usize) -> Result<Vec<bool>, NoMemory>
     ensures { IfOk result (λ acquired. acquired.items ≡ replicate count false) }
 {
     match vec![in alloc; false; count] {
         Ok(acquired) => Ok(acquired),
-        Err(_) => Err(Unanswered::NoMemory),
+        Err(_) => Err(NoMemory),
     }
 }
 
-fn none_acquired(f: &Context) -> Result<Vec<bool>, Unanswered>
+fn none_acquired(f: &Context) -> Result<Vec<bool>, NoMemory>
     ensures { IfOk result (λ acquired. acquired.items ≡ map (λ g. false) (plain_table f.now.io.now).groups) }
 {
     let acquired = closed(f.alloc, f.io.groups.len())?;
@@ -114,7 +123,8 @@ fn none_acquired(f: &Context) -> Result<Vec<bool>, Unanswered>
 
 fn initial_state(f: &Context) -> Result<State, Unanswered>
     requires { HasLayouts f.now.program.now }
-    ensures { IfOk result (λ s. seen s ≡ initial_state (plain_program f.now.program.now) (plain_table f.now.io.now)) }
+    ensures answered { IsGiven f.now → IfErr result IsMemory }
+    ensures state { IfOk result (λ s. seen s ≡ initial_state (plain_program f.now.program.now) (plain_table f.now.io.now)) }
 {
     let objects = initial_objects(f, f.program.objs.as_slice())?;
     let acquired = none_acquired(f)?;
@@ -138,7 +148,7 @@ fn number_of(x: Value) -> i128
 }
 
 /// All events, in order.
-fn events_of(alloc: Global, s: &State) -> Result<Seq<Event>, Unanswered>
+fn events_of(alloc: Global, s: &State) -> Result<Seq<Event>, NoMemory>
     ensures { IfOk result (λ events. events.items ≡ s.now.events.items) }
 {
     let mut events = Seq::new(alloc);
@@ -151,7 +161,8 @@ fn behaviour_of(
     outcome: Result<Value, Stop>,
     s: &State,
 ) -> Result<Behaviour, Unanswered>
-    ensures { IfOk result (λ b. ShowsBehaviour outcome (seen s.now) (seen_behaviour b)) }
+    ensures answered { IsAnswered outcome → IfErr result IsMemory }
+    ensures behaviour { IfOk result (λ b. ShowsBehaviour outcome (seen s.now) (seen_behaviour b)) }
 {
     match outcome {
         Ok(x) => Ok(Behaviour::Ended {
@@ -166,18 +177,18 @@ fn behaviour_of(
     }
 }
 
-fn steps(words: u64) -> Result<u64, Unanswered>
+fn steps(words: u64) -> Result<u64, NoMemory>
     ensures { IfOk result (λ n. n ≡ 64 * words) }
 {
     match words.checked_mul(64) {
         Some(n) => Ok(n),
-        None => Err(Unanswered::TooLarge),
+        None => Err(NoMemory),
     }
 }
 
 /// What a program does with these inputs, where each execution of a loop has at most `turns` turns, and
 /// the bound on the machine's steps that comes with it. For ports without an entry of their own there
-/// is no input.
+/// is no input. Of a valid program nothing but want of memory keeps it from an answer.
 pub fn interpret(
     alloc: Global,
     program: &Program,
@@ -188,6 +199,7 @@ pub fn interpret(
     requires { HasLayouts program.now }
     ensures behaviour { IfOk result (λ run. seen_behaviour run.behaviour ≡ source (plain_program program.now) (plain_table io.now) (inputs_of inputs.now.items) turns) }
     ensures work { IfOk result (λ run. run.work ≡ work (plain_program program.now) (plain_table io.now) (inputs_of inputs.now.items) turns) }
+    ensures answered { Valid (plain_program program.now) io.now → GiveBytes (inputs_of inputs.now.items) → IfErr result (λ why. why ≡ OutOfMemory) }
 {
     let f = Context {
         alloc,
@@ -197,11 +209,7 @@ pub fn interpret(
         turns,
     };
     let mut s = initial_state(&f)?;
-    let depth = match u32::try_from(program.funcs.len()) {
-        Ok(depth) => depth,
-        Err(_) => return Err(Unanswered::TooLarge),
-    };
-    let outcome = call(&f, depth, &mut s, program.main, &[]);
+    let outcome = call(&f, program.funcs.len(), &mut s, program.main, &[]);
     let behaviour = behaviour_of(alloc, outcome, &s)?;
     let work = steps(s.work)?;
     Ok(Run { behaviour, work })

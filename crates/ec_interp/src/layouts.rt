@@ -1,11 +1,14 @@
 //! Types of places, and layouts of types.
-ghost use Rattle.std.specs.Prelude.{◌≡◌, ◌+◌, IsTrue, map, length, take, option_map, unwrap_or, slice_get, IfOk};
+ghost use Rattle.std.specs.Prelude.{◌≡◌, ◌≤◌, IsTrue, map, length, take, option_map, unwrap_or, slice_get, IfErr, IfOk};
+ghost use Rattle.std.specs.List.{AllByRecursion};
 ghost use Rattle.std.specs.Option.{option_copied};
 ghost use Rattle.ec_core.specs.Accesses.{element_size, leaf_count, member_offset};
 ghost use Rattle.ec_core.specs.Layout.{plain_leaf, size_of_type, leaves_of_type, members_layout, struct_layouts, NamesBelow, IsElement, IsObjectType};
 ghost use Rattle.ec_core.specs.Operators.{same_type};
 ghost use Rattle.ec_core.specs.Plain.{void, plain_type, plain_member, plain_struct, plain_place, plain_program};
 ghost use Rattle.ec_core.specs.Typing.{pointee, pointer_space, member_type, place_type, place_space};
+ghost use Rattle.ec_core.specs.Valid.{IsExprType};
+ghost use Rattle.ec_interp.specs.Suits.{IsMemory};
 ghost use Rattle.ec_interp.specs.Views.{HasLayouts};
 
 use crate::behaviour::Unanswered;
@@ -16,7 +19,8 @@ use ec_space::{Seq, SpaceId};
 // ---- types that have a layout
 
 fn names_below(count: usize, ty: &CType) -> bool
-    ensures { IsTrue result → NamesBelow count (plain_type ty.now) }
+    ensures only { IsTrue result → NamesBelow count (plain_type ty.now) }
+    ensures all { NamesBelow count (plain_type ty.now) → IsTrue result }
 {
     match ty {
         CType::Void | CType::Int { .. } | CType::Fx { .. } => true,
@@ -27,7 +31,8 @@ fn names_below(count: usize, ty: &CType) -> bool
 }
 
 fn is_element(ty: &CType) -> bool
-    ensures { IsTrue result → IsElement (plain_type ty.now) }
+    ensures only { IsTrue result → IsElement (plain_type ty.now) }
+    ensures all { IsElement (plain_type ty.now) → IsTrue result }
 {
     match ty {
         CType::Int { bytes, .. } => *bytes == 1 || *bytes == 2 || *bytes == 4,
@@ -38,7 +43,8 @@ fn is_element(ty: &CType) -> bool
 
 /// A scalar, a struct, or an array of at most 32,767 scalars or structs, beside so many structs.
 fn has_layout(count: usize, ty: &CType) -> bool
-    ensures { IsTrue result → IsObjectType count (plain_type ty.now) }
+    ensures only { IsTrue result → IsObjectType count (plain_type ty.now) }
+    ensures all { IsObjectType count (plain_type ty.now) → IsTrue result }
 {
     match ty {
         CType::Array { of, len } => *len <= 32_767 && is_element(of) && names_below(count, of),
@@ -49,7 +55,8 @@ fn has_layout(count: usize, ty: &CType) -> bool
 /// The size of a type in bytes.
 pub fn size(f: &Context, ty: &CType) -> Result<u32, Unanswered>
     requires { HasLayouts f.now.program.now }
-    ensures { IfOk result (λ bytes. bytes ≡ size_of_type (map plain_struct f.now.program.now.structs.items) (plain_type ty.now)) }
+    ensures size { IfOk result (λ bytes. bytes ≡ size_of_type (map plain_struct f.now.program.now.structs.items) (plain_type ty.now)) }
+    ensures answered { IsObjectType (length f.now.program.now.structs.items) (plain_type ty.now) → IfErr result IsMemory }
 {
     if !has_layout(f.program.structs.len(), ty) {
         return Err(Unanswered::Unsuited);
@@ -60,7 +67,8 @@ pub fn size(f: &Context, ty: &CType) -> Result<u32, Unanswered>
 /// The scalar leaves of a type.
 pub fn leaves_in(f: &Context, ty: &CType) -> Result<Seq<Leaf>, Unanswered>
     requires { HasLayouts f.now.program.now }
-    ensures { IfOk result (λ leaves. map plain_leaf leaves.items ≡ leaves_of_type (map plain_struct f.now.program.now.structs.items) (plain_type ty.now)) }
+    ensures leaves { IfOk result (λ leaves. map plain_leaf leaves.items ≡ leaves_of_type (map plain_struct f.now.program.now.structs.items) (plain_type ty.now)) }
+    ensures answered { IsObjectType (length f.now.program.now.structs.items) (plain_type ty.now) → IfErr result IsMemory }
 {
     if !has_layout(f.program.structs.len(), ty) {
         return Err(Unanswered::Unsuited);
@@ -74,7 +82,8 @@ pub fn leaves_in(f: &Context, ty: &CType) -> Result<Seq<Leaf>, Unanswered>
 /// How many leaves a type has.
 pub fn leaf_count(f: &Context, ty: &CType) -> Result<usize, Unanswered>
     requires { HasLayouts f.now.program.now }
-    ensures { IfOk result (λ n. n ≡ leaf_count (plain_program f.now.program.now) (plain_type ty.now)) }
+    ensures count { IfOk result (λ n. n ≡ leaf_count (plain_program f.now.program.now) (plain_type ty.now)) }
+    ensures answered { IsObjectType (length f.now.program.now.structs.items) (plain_type ty.now) → IfErr result IsMemory }
 {
     let leaves = leaves_in(f, ty)?;
     Ok(leaves.len())
@@ -95,7 +104,8 @@ pub fn pointee(ty: &CType) -> Option<&CType>
 /// The size of what a type points to, 0 where it is no pointer.
 pub fn element_size(f: &Context, ty: &CType) -> Result<u32, Unanswered>
     requires { HasLayouts f.now.program.now }
-    ensures { IfOk result (λ bytes. bytes ≡ element_size (plain_program f.now.program.now) (plain_type ty.now)) }
+    ensures size { IfOk result (λ bytes. bytes ≡ element_size (plain_program f.now.program.now) (plain_type ty.now)) }
+    ensures answered { IsExprType (plain_program f.now.program.now) (plain_type ty.now) → IfErr result IsMemory }
 {
     match pointee(ty) {
         Some(to) => {
@@ -134,19 +144,13 @@ fn member_type<'a>(program: &'a Program, ty: &CType, i: u16) -> Option<&'a CType
     }
 }
 
-fn sum(a: u32, b: u32) -> Result<u32, Unanswered>
-    ensures { IfOk result (λ c. c ≡ a + b) }
-{
-    match a.checked_add(b) {
-        Some(c) => Ok(c),
-        None => Err(Unanswered::TooLarge),
-    }
-}
-
-/// The size of the first members.
+/// The size of the first members. They and those behind them are small together.
 fn members_size(f: &Context, members: &[Member], count: usize) -> Result<u32, Unanswered>
-    requires { HasLayouts f.now.program.now }
-    ensures { IfOk result (λ bytes. bytes ≡ (members_layout (struct_layouts (map plain_struct f.now.program.now.structs.items)) (take count (map plain_member members.now))).size) }
+    requires layouts { HasLayouts f.now.program.now }
+    requires small { (members_layout (struct_layouts (map plain_struct f.now.program.now.structs.items)) (map plain_member members.now)).size ≤ 32_767 }
+    ensures size { IfOk result (λ bytes. bytes ≡ (members_layout (struct_layouts (map plain_struct f.now.program.now.structs.items)) (take count (map plain_member members.now))).size) }
+    ensures bound { IfOk result (λ bytes. bytes ≤ (members_layout (struct_layouts (map plain_struct f.now.program.now.structs.items)) (map plain_member members.now)).size) }
+    ensures answered { AllByRecursion (λ m. IsObjectType (length f.now.program.now.structs.items) m.ty) (map plain_member members.now) → IfErr result IsMemory }
 {
     if count == 0 {
         return Ok(0);
@@ -156,7 +160,7 @@ fn members_size(f: &Context, members: &[Member], count: usize) -> Result<u32, Un
         [first, rest @ ..] => {
             let bytes = size(f, &first.ty)?;
             let more = members_size(f, rest, count - 1)?;
-            sum(bytes, more)
+            Ok(bytes + more)
         }
     }
 }
@@ -164,7 +168,8 @@ fn members_size(f: &Context, members: &[Member], count: usize) -> Result<u32, Un
 /// Where the member with a number begins in a type, which is that of a struct.
 pub fn member_offset(f: &Context, ty: Option<&CType>, i: u16) -> Result<u32, Unanswered>
     requires { HasLayouts f.now.program.now }
-    ensures { IfOk result (λ bytes. bytes ≡ member_offset (plain_program f.now.program.now) (unwrap_or (option_map plain_type (option_copied ty.entry)) void) i) }
+    ensures size { IfOk result (λ bytes. bytes ≡ member_offset (plain_program f.now.program.now) (unwrap_or (option_map plain_type (option_copied ty.entry)) void) i) }
+    ensures answered { IfErr result IsMemory }
 {
     match ty {
         Some(CType::Struct { index }) => match struct_at(f.program, *index) {

@@ -1,5 +1,5 @@
 //! Operators and conversions on numbers of arithmetic types, where the numbers and the types suit them.
-ghost use Rattle.std.specs.Prelude.{◌≡◌, IsTrue, IfOk};
+ghost use Rattle.std.specs.Prelude.{◌≡◌, IsTrue, IfErr, IfOk};
 ghost use Rattle.ec_fx.specs.Arithmetic.{IsOneByte, IsResultFormat};
 ghost use Rattle.ec_fx.specs.Formats.{IsFormat};
 ghost use Rattle.ec_fx.specs.Numbers.{IsNumber};
@@ -7,7 +7,9 @@ ghost use Rattle.ec_core.specs.ArithmeticValues.{HoldsNumber, operand, arithmeti
 ghost use Rattle.ec_core.specs.Integers.{IsInteger};
 ghost use Rattle.ec_core.specs.Operators.{number_type, beside, promoted_type, operation_types, operation_value, compound_value, brought};
 ghost use Rattle.ec_core.specs.Plain.{plain_type};
+ghost use Rattle.ec_core.specs.Typing.{HaveCompoundArithmetic};
 ghost use Rattle.ec_interp.specs.Shows.{Tells};
+ghost use Rattle.ec_interp.specs.Suits.{IsMemory, IsAnswered};
 
 use crate::behaviour::Unanswered;
 use crate::state::Stop;
@@ -20,14 +22,16 @@ use ec_fx::{Format, Mode, Num, greatest_number, least_number};
 // ---- what operands suit
 
 fn is_integer(t: IntegerType) -> bool
-    ensures { IsTrue result → IsInteger t }
+    ensures only { IsTrue result → IsInteger t }
+    ensures all { IsInteger t → IsTrue result }
 {
     t.bytes == 1 || t.bytes == 2 || t.bytes == 4
 }
 
 /// Whether a number is a value of a type.
 fn holds(t: Arithmetic, n: i128) -> bool
-    ensures { IsTrue result → HoldsNumber t n }
+    ensures only { IsTrue result → HoldsNumber t n }
+    ensures all { HoldsNumber t n → IsTrue result }
 {
     match t {
         Arithmetic::Integer(t) => is_integer(t) && is_of_integer(t, n),
@@ -40,14 +44,16 @@ fn holds(t: Arithmetic, n: i128) -> bool
 
 fn is_of_integer(t: IntegerType, n: i128) -> bool
     requires { IsInteger t }
-    ensures { IsTrue result → HoldsNumber (Arithmetic.Integer t) n }
+    ensures only { IsTrue result → HoldsNumber (Arithmetic.Integer t) n }
+    ensures all { HoldsNumber (Arithmetic.Integer t) n → IsTrue result }
 {
     let bits = t.width();
     least_number(t.signed, bits) <= n && n <= greatest_number(t.signed, bits)
 }
 
 fn is_known(t: Arithmetic) -> bool
-    ensures { IsTrue result → IsKnownType t }
+    ensures only { IsTrue result → IsKnownType t }
+    ensures all { IsKnownType t → IsTrue result }
 {
     match t {
         Arithmetic::Integer(t) => is_integer(t),
@@ -56,7 +62,8 @@ fn is_known(t: Arithmetic) -> bool
 }
 
 fn is_whole(a: Num) -> bool
-    ensures { IsTrue result → IsWholeOperand a }
+    ensures only { IsTrue result → IsWholeOperand a }
+    ensures all { IsWholeOperand a → IsTrue result }
 {
     match a {
         Num::Whole(_) => true,
@@ -65,7 +72,8 @@ fn is_whole(a: Num) -> bool
 }
 
 fn is_one_byte(a: Num) -> bool
-    ensures { IsTrue result → IsOneByte a }
+    ensures only { IsTrue result → IsOneByte a }
+    ensures all { IsOneByte a → IsTrue result }
 {
     match a {
         Num::Whole(n) => -128 <= n && n <= 255,
@@ -76,7 +84,8 @@ fn is_one_byte(a: Num) -> bool
 fn has_result_format(a: Num, b: Num, to: Format) -> bool
     requires a_in { IsNumber a }
     requires b_in { IsNumber b }
-    ensures { IsTrue result → IsResultFormat a b to }
+    ensures only { IsTrue result → IsResultFormat a b to }
+    ensures all { IsResultFormat a b to → IsTrue result }
 {
     match a {
         Num::Whole(_) => match b {
@@ -93,7 +102,8 @@ fn has_result_format(a: Num, b: Num, to: Format) -> bool
 }
 
 fn is_shift(a: Num, b: Num, to: Format) -> bool
-    ensures { IsTrue result → IsShift a b to }
+    ensures only { IsTrue result → IsShift a b to }
+    ensures all { IsShift a b to → IsTrue result }
 {
     match a {
         Num::Whole(_) => false,
@@ -107,7 +117,8 @@ fn is_shift(a: Num, b: Num, to: Format) -> bool
 fn suits_fixed(op: BinOp, a: Num, b: Num, to: Format) -> bool
     requires a_in { IsNumber a }
     requires b_in { IsNumber b }
-    ensures { IsTrue result → SuitsFixed op a b to }
+    ensures only { IsTrue result → SuitsFixed op a b to }
+    ensures all { SuitsFixed op a b to → IsTrue result }
 {
     match op {
         BinOp::Add | BinOp::Sub | BinOp::Div => has_result_format(a, b, to),
@@ -120,7 +131,8 @@ fn suits_fixed(op: BinOp, a: Num, b: Num, to: Format) -> bool
 fn suits_typed(op: BinOp, ty: Arithmetic, a: Num, b: Num) -> bool
     requires a_in { IsNumber a }
     requires b_in { IsNumber b }
-    ensures { IsTrue result → SuitsTyped op ty a b }
+    ensures only { IsTrue result → SuitsTyped op ty a b }
+    ensures all { SuitsTyped op ty a b → IsTrue result }
 {
     match ty {
         Arithmetic::Integer(t) => is_integer(t) && is_whole(a) && is_whole(b),
@@ -129,7 +141,8 @@ fn suits_typed(op: BinOp, ty: Arithmetic, a: Num, b: Num) -> bool
 }
 
 fn is_integer_result(ty: Arithmetic) -> bool
-    ensures { IsTrue result → IsIntegerResult ty }
+    ensures only { IsTrue result → IsIntegerResult ty }
+    ensures all { IsIntegerResult ty → IsTrue result }
 {
     match ty {
         Arithmetic::Integer(t) => is_integer(t),
@@ -140,7 +153,8 @@ fn is_integer_result(ty: Arithmetic) -> bool
 fn suits(op: BinOp, ty: Arithmetic, a: Num, b: Num) -> bool
     requires a_in { IsNumber a }
     requires b_in { IsNumber b }
-    ensures { IsTrue result → Suits op ty a b }
+    ensures only { IsTrue result → Suits op ty a b }
+    ensures all { Suits op ty a b → IsTrue result }
 {
     if is_comparison(op) {
         is_integer_result(ty)
@@ -167,6 +181,7 @@ pub fn number_type(ty: &CType) -> Arithmetic
 fn operand(t: Arithmetic, n: i128) -> Result<Num, Unanswered>
     ensures value { IfOk result (λ x. x ≡ operand t n) }
     ensures number { IfOk result IsNumber }
+    ensures answered { HoldsNumber t n → IfErr result IsMemory }
 {
     if !holds(t, n) {
         return Err(Unanswered::Unsuited);
@@ -177,7 +192,9 @@ fn operand(t: Arithmetic, n: i128) -> Result<Num, Unanswered>
 fn operation_on(op: BinOp, ty: Arithmetic, mode: Mode, a: Num, b: Num) -> Result<i128, Stop>
     requires a_in { IsNumber a }
     requires b_in { IsNumber b }
-    ensures { Tells result (arithmetic_value op ty mode a b) }
+    ensures tells { Tells result (arithmetic_value op ty mode a b) }
+    ensures held { IfOk result (HoldsNumber ty) }
+    ensures answered { Suits op ty a b → IsAnswered result }
 {
     if !suits(op, ty, a, b) {
         return Err(Stop::Unanswered(Unanswered::Unsuited));
@@ -197,7 +214,9 @@ pub struct Typed {
 
 /// The value of `a op b` with the result type `ty`.
 pub fn operation(op: BinOp, ty: Arithmetic, mode: Mode, a: Typed, b: Typed) -> Result<i128, Stop>
-    ensures { Tells result (arithmetic_value op ty mode (operand a.ty a.n) (operand b.ty b.n)) }
+    ensures tells { Tells result (arithmetic_value op ty mode (operand a.ty a.n) (operand b.ty b.n)) }
+    ensures held { IfOk result (HoldsNumber ty) }
+    ensures answered { HoldsNumber a.ty a.n → HoldsNumber b.ty b.n → Suits op ty (operand a.ty a.n) (operand b.ty b.n) → IsAnswered result }
 {
     let x = operand(a.ty, a.n)?;
     let y = operand(b.ty, b.n)?;
@@ -206,7 +225,8 @@ pub fn operation(op: BinOp, ty: Arithmetic, mode: Mode, a: Typed, b: Typed) -> R
 
 /// The value of `op n` where both have the type `ty`.
 pub fn unary(op: UnOp, ty: Arithmetic, mode: Mode, n: i128) -> Result<i128, Stop>
-    ensures { Tells result (unary_value op ty mode n) }
+    ensures tells { Tells result (unary_value op ty mode n) }
+    ensures answered { HoldsNumber ty n → IsAnswered result }
 {
     if !holds(ty, n) {
         return Err(Stop::Unanswered(Unanswered::Unsuited));
@@ -222,7 +242,9 @@ pub fn unary(op: UnOp, ty: Arithmetic, mode: Mode, n: i128) -> Result<i128, Stop
 
 /// A number of one type in another.
 pub fn brought(to: Arithmetic, mode: Mode, a: Typed) -> Result<i128, Stop>
-    ensures { Tells result (brought to mode a.ty a.n) }
+    ensures tells { Tells result (brought to mode a.ty a.n) }
+    ensures held { IfOk result (HoldsNumber to) }
+    ensures answered { IsKnownType to → HoldsNumber a.ty a.n → IsAnswered result }
 {
     let x = operand(a.ty, a.n)?;
     if !is_known(to) {
@@ -297,7 +319,8 @@ fn operation_types(op: BinOp, x: Arithmetic, y: Arithmetic) -> OperationTypes
 /// The number that a compound assignment writes: the operation's result in the type of the place. The
 /// first mode is that of the operation, and the second that of the conversion.
 pub fn compound(op: BinOp, own: Mode, mode: Mode, a: Typed, b: Typed) -> Result<i128, Stop>
-    ensures { Tells result (compound_value op own mode a.ty a.n b.ty b.n) }
+    ensures tells { Tells result (compound_value op own mode a.ty a.n b.ty b.n) }
+    ensures answered { HaveCompoundArithmetic op a.ty b.ty → HoldsNumber a.ty a.n → HoldsNumber b.ty b.n → IsAnswered result }
 {
     let types = operation_types(op, a.ty, b.ty);
     let x = brought(types.left, own, a)?;

@@ -1,16 +1,18 @@
 //! The life of objects.
-ghost use Rattle.std.specs.Prelude.{◌≡◌, if◌then◌else◌, [], None, replicate, map, option_map, unwrap_or, slice_get, IfOk, OnOk};
+ghost use Rattle.std.specs.Prelude.{◌≡◌, if◌then◌else◌, [], None, replicate, map, option_map, unwrap_or, slice_get, IfErr, IfOk, OnOk};
 ghost use Rattle.ec_core.specs.Accesses.{pointer_to, leaf_count, renewed, ended, begun, all_ended, belongs_to, frame_ended, with_leaf};
 ghost use Rattle.ec_core.specs.Plain.{a_stmt, plain_object, plain_storage, plain_stmt, plain_stmts, plain_program};
 ghost use Rattle.ec_core.specs.State.{with_object};
 ghost use Rattle.ec_core.specs.Statements.{declared, declared_first};
 ghost use Rattle.ec_interp.specs.Lookups.{ended_from};
+ghost use Rattle.ec_interp.specs.Suits.{IsGiven, IsMemory};
 ghost use Rattle.ec_interp.specs.Views.{seen, seen_object, HasLayouts};
 
 use crate::behaviour::Unanswered;
 use crate::layouts::leaf_count;
 use crate::state::{Context, ObjectState, State, object, object_state};
 use ec_core::{Obj, ObjectPointer, Program, Stmt, StmtKind, Storage, Value};
+use ec_space::NoMemory;
 use std::alloc::Global;
 
 /// A pointer to the newest instance of an object, at its beginning.
@@ -28,16 +30,16 @@ pub fn pointer_to(s: &State, o: u16) -> Option<ObjectPointer>
 }
 
 /// So many leaves that are unset.
-pub fn unset_leaves(alloc: Global, count: usize) -> Result<Vec<Option<Value>>, Unanswered>
+pub fn unset_leaves(alloc: Global, count: usize) -> Result<Vec<Option<Value>>, NoMemory>
     ensures { IfOk result (λ leaves. leaves.items ≡ replicate count None) }
 {
     match vec![in alloc; None; count] {
         Ok(leaves) => Ok(leaves),
-        Err(_) => Err(Unanswered::NoMemory),
+        Err(_) => Err(NoMemory),
     }
 }
 
-fn renew(alloc: Global, x: &mut ObjectState, count: usize) -> Result<(), Unanswered>
+fn renew(alloc: Global, x: &mut ObjectState, count: usize) -> Result<(), NoMemory>
     ensures { OnOk result (seen_object x.new ≡ renewed count (seen_object x.old)) }
 {
     let leaves = unset_leaves(alloc, count)?;
@@ -48,13 +50,14 @@ fn renew(alloc: Global, x: &mut ObjectState, count: usize) -> Result<(), Unanswe
             x.leaves = leaves;
             Ok(())
         }
-        None => Err(Unanswered::TooLarge),
+        None => Err(NoMemory),
     }
 }
 
 fn own_leaf_count(f: &Context, o: u16) -> Result<usize, Unanswered>
     requires { HasLayouts f.now.program.now }
-    ensures { IfOk result (λ n. n ≡ unwrap_or (option_map (λ x. leaf_count (plain_program f.now.program.now) x.ty) (slice_get (plain_program f.now.program.now).objects o)) 0) }
+    ensures count { IfOk result (λ n. n ≡ unwrap_or (option_map (λ x. leaf_count (plain_program f.now.program.now) x.ty) (slice_get (plain_program f.now.program.now).objects o)) 0) }
+    ensures answered { IsGiven f.now → IfErr result IsMemory }
 {
     match object(f.program, o) {
         Some(x) => {
@@ -68,7 +71,8 @@ fn own_leaf_count(f: &Context, o: u16) -> Result<usize, Unanswered>
 /// The declaration of an object is reached.
 pub fn begin(f: &Context, s: &mut State, o: u16) -> Result<(), Unanswered>
     requires { HasLayouts f.now.program.now }
-    ensures { OnOk result (seen s.new ≡ begun (plain_program f.now.program.now) o (seen s.old)) }
+    ensures begun { OnOk result (seen s.new ≡ begun (plain_program f.now.program.now) o (seen s.old)) }
+    ensures answered { IsGiven f.now → IfErr result IsMemory }
 {
     let count = own_leaf_count(f, o)?;
     if (o as usize) < s.objects.len() {

@@ -1,11 +1,15 @@
 //! Operators and conversions on values of any type.
-ghost use Rattle.std.specs.Prelude.{◌≡◌, ◌^◌, ◌≤ℤ◌, ◌*ℤ◌, ◌-ℤ◌, pos, neg_ℤ, IfOk};
+ghost use Rattle.std.specs.Prelude.{◌≡◌, ◌^◌, ◌≤◌, ◌≤ℤ◌, ◌*ℤ◌, ◌-ℤ◌, pos, neg_ℤ, IsTrue, IfErr, IfOk};
 ghost use Rattle.ec_core.specs.declared.values.Value.TheVariants.{Pointer as ThePointer};
-ghost use Rattle.ec_core.specs.Accesses.{is_live_in, referent_of, operand_of};
+ghost use Rattle.ec_core.specs.Accesses.{is_live_in, referent_of, element_size, operand_of};
+ghost use Rattle.ec_core.specs.Layout.{IsScalar};
 ghost use Rattle.ec_core.specs.Operators.{number_type, unary_result, pointers_result, offset_result, binary_result, conversion_result, truth_result, compound_result};
 ghost use Rattle.ec_core.specs.Plain.{void, plain_type, plain_program};
 ghost use Rattle.ec_core.specs.Pointers.{displaced, moved, sum_of_pointer, comparison_of_pointers, difference_of_pointers};
+ghost use Rattle.ec_core.specs.Typing.{HaveBinaryTypes, HaveCompoundTypes, AreConvertible};
+ghost use Rattle.ec_core.specs.Valid.{IsExprType};
 ghost use Rattle.ec_interp.specs.Shows.{Tells};
+ghost use Rattle.ec_interp.specs.Suits.{IsGiven, IsMemory, IsAnswered, IsOperand, IsNear, IsNumberOf};
 ghost use Rattle.ec_interp.specs.Views.{seen, seen_object, HasLayouts};
 
 use crate::behaviour::Unanswered;
@@ -44,7 +48,8 @@ const NOTHING_KNOWN: Referent = Referent {
 /// What is known of the instance that a pointer points into.
 pub fn referent(f: &Context, s: &State, p: Option<ObjectPointer>) -> Result<Referent, Unanswered>
     requires { HasLayouts f.now.program.now }
-    ensures { IfOk result (λ of. of ≡ referent_of (plain_program f.now.program.now) p (seen s.now)) }
+    ensures referent { IfOk result (λ of. of ≡ referent_of (plain_program f.now.program.now) p (seen s.now)) }
+    ensures answered { IsGiven f.now → IfErr result IsMemory }
 {
     let Some(p) = p else {
         return Ok(NOTHING_KNOWN);
@@ -66,7 +71,8 @@ pub fn referent(f: &Context, s: &State, p: Option<ObjectPointer>) -> Result<Refe
 // ---- pointers
 
 fn displaced(p: ObjectPointer, size: u32, at: i128) -> Result<Option<ObjectPointer>, Stop>
-    ensures { Tells result (displaced p size at) }
+    ensures tells { Tells result (displaced p size at) }
+    ensures answered { IsAnswered result }
 {
     if 0 <= at && at <= size as i128 {
         Ok(Some(ObjectPointer {
@@ -87,7 +93,8 @@ pub fn moved(
 ) -> Result<Option<ObjectPointer>, Stop>
     requires low { neg_ℤ (pos (2 ^ 100)) ≤ℤ bytes }
     requires high { bytes ≤ℤ pos (2 ^ 100) }
-    ensures { Tells result (moved p of bytes) }
+    ensures tells { Tells result (moved p of bytes) }
+    ensures answered { IsAnswered result }
 {
     match p {
         None => Err(Stop::Undefined(Undefined::PointerRange)),
@@ -103,8 +110,7 @@ pub fn moved(
 
 /// So many elements in bytes.
 fn in_bytes(n: i128, element: u32) -> i128
-    requires low { neg_ℤ (pos (2 ^ 40)) ≤ℤ n }
-    requires high { n ≤ℤ pos (2 ^ 40) }
+    requires { IsNear n }
     ensures value { result ≡ n *ℤ pos element }
     ensures low { neg_ℤ (pos (2 ^ 100)) ≤ℤ result }
     ensures high { result ≤ℤ pos (2 ^ 100) }
@@ -119,12 +125,18 @@ fn moved_elements(
     n: i128,
     element: u32,
 ) -> Result<Option<ObjectPointer>, Stop>
-    ensures { Tells result (sum_of_pointer p of n element) }
+    requires { IsNear n }
+    ensures tells { Tells result (sum_of_pointer p of n element) }
+    ensures answered { IsAnswered result }
 {
-    if n < -(1i128 << 40) || n > 1i128 << 40 {
-        return Err(Stop::Unanswered(Unanswered::TooLarge));
-    }
     moved(p, of, in_bytes(n, element))
+}
+
+fn is_near(n: i128) -> bool
+    ensures only { IsTrue result → IsNear n }
+    ensures all { IsNear n → IsTrue result }
+{
+    -(1i128 << 40) <= n && n <= 1i128 << 40
 }
 
 /// A pointer operand and a number of elements.
@@ -138,11 +150,15 @@ fn offset_pointer(
 ) -> Result<Value, Stop>
     requires layouts { HasLayouts f.now.program.now }
     requires pointer { a.now.value ≡ ThePointer p }
-    ensures { Tells result (offset_result op (operand_of (plain_program f.now.program.now) (plain_type a.now.ty.now) a.now.value (seen s.now)) p n) }
+    ensures tells { Tells result (offset_result op (operand_of (plain_program f.now.program.now) (plain_type a.now.ty.now) a.now.value (seen s.now)) p n) }
+    ensures answered { IsGiven f.now → IsExprType (plain_program f.now.program.now) (plain_type a.now.ty.now) → IsNear n → IsAnswered result }
 {
+    if !is_near(n) {
+        return Err(Stop::Unanswered(Unanswered::Unsuited));
+    }
     let count = match op {
         BinOp::Add => n,
-        BinOp::Sub => negated(n)?,
+        BinOp::Sub => negated(n),
         _ => return Err(Stop::Undefined(Undefined::Access)),
     };
     let of = referent(f, s, p)?;
@@ -151,13 +167,12 @@ fn offset_pointer(
     Ok(Value::Pointer(q))
 }
 
-fn negated(n: i128) -> Result<i128, Unanswered>
-    ensures { IfOk result (λ m. m ≡ pos 0 -ℤ n) }
+fn negated(n: i128) -> i128
+    requires { IsNear n }
+    ensures value { result ≡ pos 0 -ℤ n }
+    ensures near { IsNear result }
 {
-    if n < -(1i128 << 100) || n > 1i128 << 100 {
-        return Err(Unanswered::TooLarge);
-    }
-    Ok(0 - n)
+    0 - n
 }
 
 fn compared(
@@ -168,7 +183,8 @@ fn compared(
     q: Option<ObjectPointer>,
 ) -> Result<i128, Stop>
     requires { HasLayouts f.now.program.now }
-    ensures { Tells result (comparison_of_pointers op p (referent_of (plain_program f.now.program.now) p (seen s.now)) q (referent_of (plain_program f.now.program.now) q (seen s.now))) }
+    ensures answered { IsGiven f.now → IsAnswered result }
+    ensures tells { Tells result (comparison_of_pointers op p (referent_of (plain_program f.now.program.now) p (seen s.now)) q (referent_of (plain_program f.now.program.now) q (seen s.now))) }
 {
     let of = referent(f, s, p)?;
     let into = referent(f, s, q)?;
@@ -186,7 +202,8 @@ fn difference(
     q: Option<ObjectPointer>,
 ) -> Result<i128, Stop>
     requires { HasLayouts f.now.program.now }
-    ensures { Tells result (difference_of_pointers element p (referent_of (plain_program f.now.program.now) p (seen s.now)) q (referent_of (plain_program f.now.program.now) q (seen s.now))) }
+    ensures answered { IsGiven f.now → 1 ≤ element → IsAnswered result }
+    ensures tells { Tells result (difference_of_pointers element p (referent_of (plain_program f.now.program.now) p (seen s.now)) q (referent_of (plain_program f.now.program.now) q (seen s.now))) }
 {
     if element == 0 {
         return Err(Stop::Unanswered(Unanswered::Unsuited));
@@ -212,7 +229,8 @@ fn pointers(
     requires layouts { HasLayouts f.now.program.now }
     requires left { a.now.value ≡ ThePointer p }
     requires right { b.now.value ≡ ThePointer q }
-    ensures { Tells result (pointers_result op (operand_of (plain_program f.now.program.now) (plain_type a.now.ty.now) a.now.value (seen s.now)) p (operand_of (plain_program f.now.program.now) (plain_type b.now.ty.now) b.now.value (seen s.now)) q) }
+    ensures answered { IsGiven f.now → IsExprType (plain_program f.now.program.now) (plain_type a.now.ty.now) → 1 ≤ element_size (plain_program f.now.program.now) (plain_type a.now.ty.now) → IsAnswered result }
+    ensures tells { Tells result (pointers_result op (operand_of (plain_program f.now.program.now) (plain_type a.now.ty.now) a.now.value (seen s.now)) p (operand_of (plain_program f.now.program.now) (plain_type b.now.ty.now) b.now.value (seen s.now)) q) }
 {
     if is_comparison(op) {
         let n = compared(f, s, op, p, q)?;
@@ -227,7 +245,8 @@ fn pointers(
 
 /// The value of a unary operator.
 pub fn unary_value(op: UnOp, ty: &CType, mode: Mode, x: Value) -> Result<Value, Stop>
-    ensures { Tells result (unary_result op (plain_type ty.now) mode x) }
+    ensures tells { Tells result (unary_result op (plain_type ty.now) mode x) }
+    ensures answered { IsNumberOf (plain_type ty.now) x → IsAnswered result }
 {
     match x {
         Value::Number(n) => {
@@ -249,7 +268,8 @@ pub fn binary_value(
     b: &Operand,
 ) -> Result<Value, Stop>
     requires { HasLayouts f.now.program.now }
-    ensures { Tells result (binary_result op (plain_type ty.now) mode (operand_of (plain_program f.now.program.now) (plain_type a.now.ty.now) a.now.value (seen s.now)) (operand_of (plain_program f.now.program.now) (plain_type b.now.ty.now) b.now.value (seen s.now))) }
+    ensures answered { IsGiven f.now → IsOperand f.now (plain_type a.now.ty.now) a.now.value → IsOperand f.now (plain_type b.now.ty.now) b.now.value → HaveBinaryTypes op (plain_type ty.now) (plain_type a.now.ty.now) (plain_type b.now.ty.now) → IsAnswered result }
+    ensures tells { Tells result (binary_result op (plain_type ty.now) mode (operand_of (plain_program f.now.program.now) (plain_type a.now.ty.now) a.now.value (seen s.now)) (operand_of (plain_program f.now.program.now) (plain_type b.now.ty.now) b.now.value (seen s.now))) }
 {
     match a.value {
         Value::Number(m) => match b.value {
@@ -296,7 +316,8 @@ pub fn conversion(
     a: &Operand,
 ) -> Result<Value, Stop>
     requires { HasLayouts f.now.program.now }
-    ensures { Tells result (conversion_result (plain_type ty.now) mode (operand_of (plain_program f.now.program.now) (plain_type a.now.ty.now) a.now.value (seen s.now))) }
+    ensures answered { IsGiven f.now → IsOperand f.now (plain_type a.now.ty.now) a.now.value → IsScalar (plain_type ty.now) → AreConvertible (plain_type ty.now) (plain_type a.now.ty.now) → IsAnswered result }
+    ensures tells { Tells result (conversion_result (plain_type ty.now) mode (operand_of (plain_program f.now.program.now) (plain_type a.now.ty.now) a.now.value (seen s.now))) }
 {
     match a.value {
         Value::Number(n) => {
@@ -319,7 +340,8 @@ pub fn conversion(
 /// Whether a value is unequal to 0, or not null.
 pub fn truth(f: &Context, s: &State, x: Value) -> Result<bool, Stop>
     requires { HasLayouts f.now.program.now }
-    ensures { Tells result (truth_result (operand_of (plain_program f.now.program.now) void x (seen s.now))) }
+    ensures answered { IsGiven f.now → IsAnswered result }
+    ensures tells { Tells result (truth_result (operand_of (plain_program f.now.program.now) void x (seen s.now))) }
 {
     match x {
         Value::Number(n) => Ok(n != 0),
@@ -345,7 +367,8 @@ pub fn compound_value(
     b: &Operand,
 ) -> Result<Value, Stop>
     requires { HasLayouts f.now.program.now }
-    ensures { Tells result (compound_result op own mode (operand_of (plain_program f.now.program.now) (plain_type a.now.ty.now) a.now.value (seen s.now)) (operand_of (plain_program f.now.program.now) (plain_type b.now.ty.now) b.now.value (seen s.now))) }
+    ensures answered { IsGiven f.now → IsOperand f.now (plain_type a.now.ty.now) a.now.value → IsOperand f.now (plain_type b.now.ty.now) b.now.value → HaveCompoundTypes op (plain_type a.now.ty.now) (plain_type b.now.ty.now) → IsAnswered result }
+    ensures tells { Tells result (compound_result op own mode (operand_of (plain_program f.now.program.now) (plain_type a.now.ty.now) a.now.value (seen s.now)) (operand_of (plain_program f.now.program.now) (plain_type b.now.ty.now) b.now.value (seen s.now))) }
 {
     match b.value {
         Value::Number(n) => match a.value {

@@ -1,17 +1,19 @@
 //! Operations on ports and groups of ports.
-ghost use Rattle.std.specs.Prelude.{◌≡◌, ◌+◌, ◌*◌, nat_lt, map, option_map, slice_get, slice_index, IfOk, OnOk};
+ghost use Rattle.std.specs.Prelude.{◌≡◌, ◌+◌, ◌*◌, ◌^◌, ◌<◌, ◌≤◌, nat_lt, map, option_map, slice_get, slice_index, IfOk, OnOk};
 ghost use Rattle.std.specs.Option.{option_copied};
 ghost use Rattle.ec_core.specs.PortAccesses.{next_byte, byte_read, bytes_read, number_read, bytes_written, updated, no_value, unsigned, port_accessed, is_open, within, opened, port_effect, pairs_written, pairs_of, group_effect};
 ghost use Rattle.ec_core.specs.PortOperations.{port_operation};
 ghost use Rattle.ec_core.specs.PortTable.{plain_port, plain_group};
 ghost use Rattle.ec_core.specs.State.{Out as OutOf, reads_of, with_event, with_group};
-ghost use Rattle.ec_interp.specs.Shows.{Shows};
+ghost use Rattle.ec_interp.specs.Shows.{Shows, ShowsMemory};
+ghost use Rattle.ec_interp.specs.Suits.{IsGiven, IsAnswered};
 ghost use Rattle.ec_interp.specs.Views.{seen, seen_action, seen_event, inputs_of};
 
 use crate::behaviour::{Event, PortInput, Unanswered};
 use crate::state::{Context, State, Stop, at};
 use ec_core::{Undefined, Value};
 use ec_iohw::{IoOp, IoTable, Pair, Port, PortGroup};
+use ec_space::NoMemory;
 
 // ---- the table
 
@@ -88,7 +90,7 @@ fn reads_of(port: u32, events: &[Event]) -> usize
 }
 
 /// The next byte of a port address is read.
-fn read_byte(f: &Context, s: &mut State, port: u32) -> Result<u8, Unanswered>
+fn read_byte(f: &Context, s: &mut State, port: u32) -> Result<u8, NoMemory>
     ensures byte { IfOk result (λ byte. byte ≡ next_byte (inputs_of f.now.inputs.now) port (seen s.old)) }
     ensures state { OnOk result (seen s.new ≡ byte_read (inputs_of f.now.inputs.now) port (seen s.old)) }
 {
@@ -105,41 +107,33 @@ fn next_byte(f: &Context, s: &State, port: u32) -> u8
     if place < bytes.len() { bytes[place] } else { 0 }
 }
 
-/// The address behind another.
-fn behind(port: u32) -> Result<u32, Unanswered>
-    ensures { IfOk result (λ next. next ≡ port + 1) }
+/// The number whose lowest byte is this one, with so many bytes above it, which make this number.
+fn number_of(byte: u8, bytes: u8, above: u64) -> u64
+    requires few { bytes < 8 }
+    requires above { above < 256 ^ bytes }
+    ensures number { result ≡ byte + 256 * above }
+    ensures bound { result < 256 ^ (bytes + 1) }
 {
-    match port.checked_add(1) {
-        Some(next) => Ok(next),
-        None => Err(Unanswered::TooLarge),
-    }
+    byte as u64 + 256 * above
 }
 
-/// The number whose lowest byte is this one, with the other bytes above it.
-fn number_of(byte: u8, above: u64) -> Result<u64, Unanswered>
-    ensures { IfOk result (λ n. n ≡ byte + 256 * above) }
-{
-    if above > u64::MAX / 256 - 1 {
-        return Err(Unanswered::TooLarge);
-    }
-    Ok(byte as u64 + 256 * above)
-}
-
-/// The number that so many bytes from an address on make, the lowest first.
-fn read_number(f: &Context, s: &mut State, width: u8, port: u32) -> Result<u64, Unanswered>
+/// The number that at most 8 bytes from an address on make, the lowest first.
+fn read_number(f: &Context, s: &mut State, width: u8, port: u32) -> Result<u64, NoMemory>
+    requires few { width ≤ 8 }
+    requires port { port + width < 2 ^ 32 }
     ensures number { IfOk result (λ n. n ≡ number_read (inputs_of f.now.inputs.now) width port (seen s.old)) }
+    ensures bound { IfOk result (λ n. n < 256 ^ width) }
     ensures state { OnOk result (seen s.new ≡ bytes_read (inputs_of f.now.inputs.now) width port (seen s.old)) }
 {
     if width == 0 {
         return Ok(0);
     }
     let byte = read_byte(f, s, port)?;
-    let next = behind(port)?;
-    let above = read_number(f, s, width - 1, next)?;
-    number_of(byte, above)
+    let above = read_number(f, s, width - 1, port + 1)?;
+    Ok(number_of(byte, width - 1, above))
 }
 
-fn write_byte(s: &mut State, port: u32, byte: u8) -> Result<(), Unanswered>
+fn write_byte(s: &mut State, port: u32, byte: u8) -> Result<(), NoMemory>
     ensures { OnOk result (seen s.new ≡ with_event (OutOf port byte) (seen s.old)) }
 {
     s.record(Event::Out { port, byte })?;
@@ -147,14 +141,14 @@ fn write_byte(s: &mut State, port: u32, byte: u8) -> Result<(), Unanswered>
 }
 
 /// The lowest bytes of a number are written from an address on, the highest address first.
-fn write_number(s: &mut State, width: u8, port: u32, v: u64) -> Result<(), Unanswered>
+fn write_number(s: &mut State, width: u8, port: u32, v: u128) -> Result<(), NoMemory>
+    requires { port + width < 2 ^ 32 }
     ensures { OnOk result (seen s.new ≡ bytes_written width port v (seen s.old)) }
 {
     if width == 0 {
         return Ok(());
     }
-    let next = behind(port)?;
-    write_number(s, width - 1, next, v / 256)?;
+    write_number(s, width - 1, port + 1, v / 256)?;
     write_byte(s, port, (v % 256) as u8)?;
     Ok(())
 }
@@ -162,9 +156,10 @@ fn write_number(s: &mut State, width: u8, port: u32, v: u64) -> Result<(), Unans
 // ---- operations
 
 /// What an update makes of the number that it reads and its operand.
-fn updated(op: IoOp, old: u64, v: u64) -> u64
+fn updated(op: IoOp, old: u64, v: u128) -> u128
     ensures { result ≡ updated op old v }
 {
+    let old = old as u128;
     match op {
         IoOp::Or | IoOp::OrLong | IoOp::OrBuffer | IoOp::OrBufferLong => old | v,
         IoOp::And | IoOp::AndLong | IoOp::AndBuffer | IoOp::AndBufferLong => old & v,
@@ -179,15 +174,12 @@ pub fn no_value() -> Value
     Value::Number(0)
 }
 
-fn unsigned(v: Value) -> Result<u64, Unanswered>
-    ensures { IfOk result (λ n. n ≡ unsigned v) }
+fn unsigned(v: Value) -> u128
+    ensures { result ≡ unsigned v }
 {
     match v {
-        Value::Number(n) => match u64::try_from(n.unsigned_abs()) {
-            Ok(n) => Ok(n),
-            Err(_) => Err(Unanswered::TooLarge),
-        },
-        Value::Pointer(_) => Ok(0),
+        Value::Number(n) => n.unsigned_abs(),
+        Value::Pointer(_) => 0,
     }
 }
 
@@ -197,9 +189,11 @@ fn access_port(
     op: IoOp,
     width: u8,
     port: u32,
-    v: u64,
-) -> Result<Value, Stop>
-    ensures { Shows result (seen s.new) (port_accessed (inputs_of f.now.inputs.now) (port_operation op).action op width port v (seen s.old)) }
+    v: u128,
+) -> Result<Value, NoMemory>
+    requires few { width ≤ 8 }
+    requires port { port + width < 2 ^ 32 }
+    ensures { ShowsMemory result (seen s.new) (port_accessed (inputs_of f.now.inputs.now) (port_operation op).action op width port v (seen s.old)) }
 {
     match action_of(op) {
         Action::Reads => {
@@ -236,16 +230,20 @@ fn open_port(
     s: &mut State,
     op: IoOp,
     port: &Port,
-    i: u64,
-    v: u64,
+    i: u128,
+    v: u128,
 ) -> Result<Value, Stop>
-    ensures { Shows result (seen s.new) (opened (inputs_of f.now.inputs.now) (is_open port.now.group (seen s.old)) op (plain_port port.now) i v (seen s.old)) }
+    ensures shows { Shows result (seen s.new) (opened (inputs_of f.now.inputs.now) (is_open port.now.group (seen s.old)) op (plain_port port.now) i v (seen s.old)) }
+    ensures answered { port.now.width ≤ 8 → IsAnswered result }
 {
     if !is_open(port.group, s) {
         return Err(Stop::Undefined(Undefined::ClosedPort));
     }
-    if i >= port.count as u64 {
+    if i >= port.count as u128 {
         return Err(Stop::Undefined(Undefined::BufferIndex));
+    }
+    if port.width > 8 {
+        return Err(Stop::Unanswered(Unanswered::Unsuited));
     }
     let address = port.address as u32 + i as u32 * port.width as u32;
     let x = access_port(f, s, op, port.width, address, v)?;
@@ -261,14 +259,13 @@ pub fn operate(
     i: Value,
     v: Value,
 ) -> Result<Value, Stop>
-    ensures { Shows result (seen s.new) (port_effect (inputs_of f.now.inputs.now) op (slice_get (map plain_port f.now.io.now.ports.items) port) i v (seen s.old)) }
+    ensures shows { Shows result (seen s.new) (port_effect (inputs_of f.now.inputs.now) op (slice_get (map plain_port f.now.io.now.ports.items) port) i v (seen s.old)) }
+    ensures answered { IsGiven f.now → IsAnswered result }
 {
     match port_at(f.io, port) {
         None => Err(Stop::Undefined(Undefined::Access)),
         Some(p) => {
-            let i = unsigned(i)?;
-            let v = unsigned(v)?;
-            let x = open_port(f, s, op, p, i, v)?;
+            let x = open_port(f, s, op, p, unsigned(i), unsigned(v))?;
             Ok(x)
         }
     }
@@ -276,7 +273,7 @@ pub fn operate(
 
 // ---- groups
 
-fn write_pairs(s: &mut State, pairs: &[Pair]) -> Result<(), Unanswered>
+fn write_pairs(s: &mut State, pairs: &[Pair]) -> Result<(), NoMemory>
     ensures { OnOk result (seen s.new ≡ pairs_written pairs.now (seen s.old)) }
 {
     for pair in pairs {
@@ -295,7 +292,8 @@ fn set_group(s: &mut State, g: u16, acquired: bool)
 
 /// A group is acquired or released.
 pub fn operate_group(f: &Context, s: &mut State, acquire: bool, g: u16) -> Result<Value, Stop>
-    ensures { Shows result (seen s.new) (group_effect acquire g (slice_get (map plain_group f.now.io.now.groups.items) g) (seen s.old)) }
+    ensures shows { Shows result (seen s.new) (group_effect acquire g (slice_get (map plain_group f.now.io.now.groups.items) g) (seen s.old)) }
+    ensures answered { IsAnswered result }
 {
     match group_at(f.io, g) {
         None => Err(Stop::Undefined(Undefined::Access)),

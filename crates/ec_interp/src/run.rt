@@ -11,15 +11,17 @@ ghost use Rattle.ec_core.specs.Pointers.{moved};
 ghost use Rattle.ec_core.specs.PortAccesses.{no_value};
 ghost use Rattle.ec_core.specs.State.{State as StateOf, Outcome, got, given, worked};
 ghost use Rattle.ec_core.specs.Statements.{Exit as ExitOf, again, holds, done, going_on, returned, initialising, effect_of, effects_of, turns, tested, bound, result_of, call_of, calls_within};
-ghost use Rattle.ec_core.specs.Typing.{place_type};
+ghost use Rattle.ec_core.specs.Typing.{place_type, HaveCompoundTypes};
+ghost use Rattle.ec_core.specs.Valid.{ValidOption};
+ghost use Rattle.ec_core.specs.ValueTypes.{IsTypedState};
 ghost use Rattle.ec_core.specs.Words.{loop_words};
 ghost use Rattle.ec_interp.specs.declared.state.Exit.TheVariants.{AtEnd};
 ghost use Rattle.ec_interp.specs.Shows.{Shows, ShowsAs};
+ghost use Rattle.ec_interp.specs.Suits.{IsGiven, IsAnswered, IsOperand, Runs, RunsExpr, RunsNode, RunsPlace, RunsOption, RunsExprs, RunsOptional, RunsCondition, RunsLeaves, RunsStmt, RunsStmts, RunsTest, RunsLoop, AreArgumentsOf, IsCalled};
 ghost use Rattle.ec_interp.specs.Views.{seen, seen_exit, plain_optional, setting_of, HasLayouts};
 ghost use Rattle.ec_interp.specs.Weights.{stmt_weight, bodies};
 
 use crate::accesses::{initialise, read, write};
-use crate::behaviour::Unanswered;
 use crate::layouts::{member_offset, place_type};
 use crate::objects::{begin, end_block, end_first, end_frame, pointer_to};
 use crate::operators::{
@@ -33,7 +35,7 @@ use ec_core::{
 };
 use ec_fx::Mode;
 use ec_iohw::IoOp;
-use ec_space::Seq;
+use ec_space::{NoMemory, Seq};
 
 // ---- values
 
@@ -45,7 +47,8 @@ fn truth_number(holds: bool) -> Value
 
 /// Where a dereferenced pointer points to.
 fn pointed_to(x: Value, s: &State) -> Result<Option<ObjectPointer>, Stop>
-    ensures { Shows result (seen s.now) (pointed_to x (seen s.now)) }
+    ensures shows { Shows result (seen s.now) (pointed_to x (seen s.now)) }
+    ensures answered { IsAnswered result }
 {
     match x {
         Value::Number(_) => Err(Stop::Undefined(Undefined::Access)),
@@ -62,7 +65,8 @@ fn member_place(
     to: Option<ObjectPointer>,
 ) -> Result<Option<ObjectPointer>, Stop>
     requires { HasLayouts f.now.program.now }
-    ensures { Shows result (seen s.now) (given (moved to (referent_of (plain_program f.now.program.now) to (seen s.now)) (pos (member_offset (plain_program f.now.program.now) (unwrap_or (place_type (plain_program f.now.program.now) (plain_place p.now)) void) i))) (seen s.now)) }
+    ensures shows { Shows result (seen s.now) (given (moved to (referent_of (plain_program f.now.program.now) to (seen s.now)) (pos (member_offset (plain_program f.now.program.now) (unwrap_or (place_type (plain_program f.now.program.now) (plain_place p.now)) void) i))) (seen s.now)) }
+    ensures answered { IsGiven f.now → IsAnswered result }
 {
     let of = referent(f, s, to)?;
     let offset = member_offset(f, place_type(f.program, p), i)?;
@@ -91,7 +95,8 @@ fn update_place(
     right: &Operand,
 ) -> Result<Value, Stop>
     requires { HasLayouts f.now.program.now }
-    ensures { let w = setting_of f.now.program.now f.now.io.now f.now.inputs.now in Shows result (seen s.new) (updated_place w u.now.op u.now.own u.now.mode (plain_type u.now.ty.now) (plain_place u.now.place.now) u.now.new to old (plain_type right.now.ty.now) right.now.value (seen s.old)) }
+    ensures shows { let w = setting_of f.now.program.now f.now.io.now f.now.inputs.now in Shows result (seen s.new) (updated_place w u.now.op u.now.own u.now.mode (plain_type u.now.ty.now) (plain_place u.now.place.now) u.now.new to old (plain_type right.now.ty.now) right.now.value (seen s.old)) }
+    ensures answered { IsGiven f.now → IsOperand f.now (plain_type u.now.ty.now) old → IsOperand f.now (plain_type right.now.ty.now) right.now.value → HaveCompoundTypes u.now.op (plain_type u.now.ty.now) (plain_type right.now.ty.now) → IsAnswered result }
 {
     let left = Operand {
         ty: u.ty,
@@ -111,9 +116,10 @@ fn step_operator(up: bool) -> BinOp
 // ---- expressions
 
 #[cycle(run)]
-fn value_of(f: &Context, depth: u32, s: &mut State, e: &Expr) -> Result<Value, Stop>
+fn value_of(f: &Context, depth: usize, s: &mut State, e: &Expr) -> Result<Value, Stop>
     requires { HasLayouts f.now.program.now }
-    ensures { let w = setting_of f.now.program.now f.now.io.now f.now.inputs.now in Shows result (seen s.new) (value_of w (calls_within w f.now.turns depth) (plain_expr e.now) (seen s.old)) }
+    ensures shows { let w = setting_of f.now.program.now f.now.io.now f.now.inputs.now in Shows result (seen s.new) (value_of w (calls_within w f.now.turns depth) (plain_expr e.now) (seen s.old)) }
+    ensures answered { RunsExpr f.now (seen s.old) (plain_expr e.now) → IsAnswered result }
 {
     let words = node_words(f.io, &e.ty, &e.node)?;
     s.work_more(words)?;
@@ -123,14 +129,15 @@ fn value_of(f: &Context, depth: u32, s: &mut State, e: &Expr) -> Result<Value, S
 #[cycle(run)]
 fn node_value(
     f: &Context,
-    depth: u32,
+    depth: usize,
     s: &mut State,
     ty: &CType,
     mode: Mode,
     node: &Node,
 ) -> Result<Value, Stop>
     requires { HasLayouts f.now.program.now }
-    ensures { let w = setting_of f.now.program.now f.now.io.now f.now.inputs.now in Shows result (seen s.new) (node_value w (calls_within w f.now.turns depth) (plain_type ty.now) mode (plain_node node.now) (seen s.old)) }
+    ensures shows { let w = setting_of f.now.program.now f.now.io.now f.now.inputs.now in Shows result (seen s.new) (node_value w (calls_within w f.now.turns depth) (plain_type ty.now) mode (plain_node node.now) (seen s.old)) }
+    ensures answered { RunsNode f.now (seen s.old) (plain_type ty.now) (plain_node node.now) → IsAnswered result }
 {
     match node {
         Node::Number(n) => Ok(Value::Number(*n)),
@@ -265,7 +272,7 @@ fn node_value(
 #[cycle(run)]
 fn binary(
     f: &Context,
-    depth: u32,
+    depth: usize,
     s: &mut State,
     op: BinOp,
     ty: &CType,
@@ -274,7 +281,8 @@ fn binary(
     b: &Expr,
 ) -> Result<Value, Stop>
     requires { HasLayouts f.now.program.now }
-    ensures { let w = setting_of f.now.program.now f.now.io.now f.now.inputs.now in Shows result (seen s.new) (node_value w (calls_within w f.now.turns depth) (plain_type ty.now) mode (binary op (plain_expr a.now) (plain_expr b.now)) (seen s.old)) }
+    ensures shows { let w = setting_of f.now.program.now f.now.io.now f.now.inputs.now in Shows result (seen s.new) (node_value w (calls_within w f.now.turns depth) (plain_type ty.now) mode (binary op (plain_expr a.now) (plain_expr b.now)) (seen s.old)) }
+    ensures answered { RunsNode f.now (seen s.old) (plain_type ty.now) (binary op (plain_expr a.now) (plain_expr b.now)) → IsAnswered result }
 {
     let m = value_of(f, depth, s, a)?;
     let n = value_of(f, depth, s, b)?;
@@ -294,7 +302,7 @@ fn binary(
 #[cycle(run)]
 fn compound(
     f: &Context,
-    depth: u32,
+    depth: usize,
     s: &mut State,
     op: BinOp,
     own: Mode,
@@ -304,10 +312,11 @@ fn compound(
     a: &Expr,
 ) -> Result<Value, Stop>
     requires { HasLayouts f.now.program.now }
-    ensures { let w = setting_of f.now.program.now f.now.io.now f.now.inputs.now in Shows result (seen s.new) (node_value w (calls_within w f.now.turns depth) (plain_type ty.now) mode (compound op own (plain_place p.now) (plain_expr a.now)) (seen s.old)) }
+    ensures shows { let w = setting_of f.now.program.now f.now.io.now f.now.inputs.now in Shows result (seen s.new) (node_value w (calls_within w f.now.turns depth) (plain_type ty.now) mode (compound op own (plain_place p.now) (plain_expr a.now)) (seen s.old)) }
+    ensures answered { RunsNode f.now (seen s.old) (plain_type ty.now) (compound op own (plain_place p.now) (plain_expr a.now)) → IsAnswered result }
 {
     let to = place_of(f, depth, s, p)?;
-    let was = read(f, s, ty, p, to)?;
+    let earlier = read(f, s, ty, p, to)?;
     let operand = value_of(f, depth, s, a)?;
     let update = Update {
         op,
@@ -321,7 +330,7 @@ fn compound(
         ty: &a.ty,
         value: operand,
     };
-    let r = update_place(f, s, &update, to, was, &right)?;
+    let r = update_place(f, s, &update, to, earlier, &right)?;
     Ok(r)
 }
 
@@ -329,7 +338,7 @@ fn compound(
 #[cycle(run)]
 fn step(
     f: &Context,
-    depth: u32,
+    depth: usize,
     s: &mut State,
     ty: &CType,
     mode: Mode,
@@ -338,7 +347,8 @@ fn step(
     p: &PlaceExpr,
 ) -> Result<Value, Stop>
     requires { HasLayouts f.now.program.now }
-    ensures { let w = setting_of f.now.program.now f.now.io.now f.now.inputs.now in Shows result (seen s.new) (node_value w (calls_within w f.now.turns depth) (plain_type ty.now) mode (step up prefix (plain_place p.now)) (seen s.old)) }
+    ensures shows { let w = setting_of f.now.program.now f.now.io.now f.now.inputs.now in Shows result (seen s.new) (node_value w (calls_within w f.now.turns depth) (plain_type ty.now) mode (step up prefix (plain_place p.now)) (seen s.old)) }
+    ensures answered { RunsNode f.now (seen s.old) (plain_type ty.now) (step up prefix (plain_place p.now)) → IsAnswered result }
 {
     let to = place_of(f, depth, s, p)?;
     let old = read(f, s, ty, p, to)?;
@@ -364,9 +374,10 @@ fn step(
 
 /// What an expression tells as a condition.
 #[cycle(run)]
-fn condition(f: &Context, depth: u32, s: &mut State, e: &Expr) -> Result<bool, Stop>
+fn condition(f: &Context, depth: usize, s: &mut State, e: &Expr) -> Result<bool, Stop>
     requires { HasLayouts f.now.program.now }
-    ensures { let w = setting_of f.now.program.now f.now.io.now f.now.inputs.now in Shows result (seen s.new) (condition w (plain_expr e.now) (value_of w (calls_within w f.now.turns depth) (plain_expr e.now) (seen s.old))) }
+    ensures shows { let w = setting_of f.now.program.now f.now.io.now f.now.inputs.now in Shows result (seen s.new) (condition w (plain_expr e.now) (value_of w (calls_within w f.now.turns depth) (plain_expr e.now) (seen s.old))) }
+    ensures answered { RunsExpr f.now (seen s.old) (plain_expr e.now) → IsAnswered result }
 {
     let x = value_of(f, depth, s, e)?;
     let h = truth(f, s, x)?;
@@ -376,12 +387,13 @@ fn condition(f: &Context, depth: u32, s: &mut State, e: &Expr) -> Result<bool, S
 #[cycle(run)]
 fn place_of(
     f: &Context,
-    depth: u32,
+    depth: usize,
     s: &mut State,
     p: &PlaceExpr,
 ) -> Result<Option<ObjectPointer>, Stop>
     requires { HasLayouts f.now.program.now }
-    ensures { let w = setting_of f.now.program.now f.now.io.now f.now.inputs.now in Shows result (seen s.new) (place_of w (calls_within w f.now.turns depth) (plain_place p.now) (seen s.old)) }
+    ensures shows { let w = setting_of f.now.program.now f.now.io.now f.now.inputs.now in Shows result (seen s.new) (place_of w (calls_within w f.now.turns depth) (plain_place p.now) (seen s.old)) }
+    ensures answered { RunsPlace f.now (seen s.old) (plain_place p.now) → IsAnswered result }
 {
     match p {
         PlaceExpr::Object(o) => Ok(pointer_to(s, *o)),
@@ -403,7 +415,7 @@ fn place_of(
 #[cycle(run)]
 fn port_operation(
     f: &Context,
-    depth: u32,
+    depth: usize,
     s: &mut State,
     op: IoOp,
     port: u16,
@@ -411,7 +423,8 @@ fn port_operation(
     value: Option<&Expr>,
 ) -> Result<Value, Stop>
     requires { HasLayouts f.now.program.now }
-    ensures { let w = setting_of f.now.program.now f.now.io.now f.now.inputs.now in Shows result (seen s.new) (node_value w (calls_within w f.now.turns depth) void (record { saturate = false }) (io op port (plain_optional (option_copied index.entry)) (plain_optional (option_copied value.entry))) (seen s.old)) }
+    ensures shows { let w = setting_of f.now.program.now f.now.io.now f.now.inputs.now in Shows result (seen s.new) (node_value w (calls_within w f.now.turns depth) void (record { saturate = false }) (io op port (plain_optional (option_copied index.entry)) (plain_optional (option_copied value.entry))) (seen s.old)) }
+    ensures answered { Runs f.now (seen s.old) (λ g. ValidOption (plain_program f.now.program.now) f.now.io.now g (plain_optional (option_copied index.entry)) × ValidOption (plain_program f.now.program.now) f.now.io.now g (plain_optional (option_copied value.entry))) → IsAnswered result }
 {
     let i = option_value(f, depth, s, index)?;
     let v = option_value(f, depth, s, value)?;
@@ -420,9 +433,10 @@ fn port_operation(
 }
 
 #[cycle(run)]
-fn option_value(f: &Context, depth: u32, s: &mut State, e: Option<&Expr>) -> Result<Value, Stop>
+fn option_value(f: &Context, depth: usize, s: &mut State, e: Option<&Expr>) -> Result<Value, Stop>
     requires { HasLayouts f.now.program.now }
-    ensures { let w = setting_of f.now.program.now f.now.io.now f.now.inputs.now in Shows result (seen s.new) (option_value w (calls_within w f.now.turns depth) (plain_optional (option_copied e.entry)) (seen s.old)) }
+    ensures shows { let w = setting_of f.now.program.now f.now.io.now f.now.inputs.now in Shows result (seen s.new) (option_value w (calls_within w f.now.turns depth) (plain_optional (option_copied e.entry)) (seen s.old)) }
+    ensures answered { RunsOption f.now (seen s.old) (plain_optional (option_copied e.entry)) → IsAnswered result }
 {
     match e {
         None => Ok(no_value()),
@@ -435,9 +449,10 @@ fn option_value(f: &Context, depth: u32, s: &mut State, e: Option<&Expr>) -> Res
 
 /// The values of arguments, in order.
 #[cycle(run)]
-fn values_of(f: &Context, depth: u32, s: &mut State, es: &[Expr]) -> Result<Seq<Value>, Stop>
+fn values_of(f: &Context, depth: usize, s: &mut State, es: &[Expr]) -> Result<Seq<Value>, Stop>
     requires { HasLayouts f.now.program.now }
-    ensures { let w = setting_of f.now.program.now f.now.io.now f.now.inputs.now in ShowsAs (λ xs. xs.items) result (seen s.new) (values_of w (calls_within w f.now.turns depth) (plain_exprs es.now) (seen s.old)) }
+    ensures shows { let w = setting_of f.now.program.now f.now.io.now f.now.inputs.now in ShowsAs (λ xs. xs.items) result (seen s.new) (values_of w (calls_within w f.now.turns depth) (plain_exprs es.now) (seen s.old)) }
+    ensures answered { RunsExprs f.now (seen s.old) (plain_exprs es.now) → IsAnswered result }
 {
     let mut xs = Seq::new(f.alloc);
     for e in es {
@@ -447,22 +462,20 @@ fn values_of(f: &Context, depth: u32, s: &mut State, es: &[Expr]) -> Result<Seq<
     Ok(xs)
 }
 
-fn push_value(xs: &mut Seq<Value>, x: Value) -> Result<(), Unanswered>
+fn push_value(xs: &mut Seq<Value>, x: Value) -> Result<(), NoMemory>
     ensures { OnOk result (xs.new.items ≡ xs.old.items ++ x ∷ []) }
 {
-    match xs.push(x) {
-        Ok(()) => Ok(()),
-        Err(_) => Err(Unanswered::NoMemory),
-    }
+    xs.push(x)
 }
 
 // ---- statements
 
 /// Whether a condition holds, as where there is none.
 #[cycle(run)]
-fn holds(f: &Context, depth: u32, s: &mut State, c: Option<&Expr>) -> Result<bool, Stop>
+fn holds(f: &Context, depth: usize, s: &mut State, c: Option<&Expr>) -> Result<bool, Stop>
     requires { HasLayouts f.now.program.now }
-    ensures { let w = setting_of f.now.program.now f.now.io.now f.now.inputs.now in Shows result (seen s.new) (holds w (calls_within w f.now.turns depth) (option_map plain_expr (option_copied c.entry)) (seen s.old)) }
+    ensures shows { let w = setting_of f.now.program.now f.now.io.now f.now.inputs.now in Shows result (seen s.new) (holds w (calls_within w f.now.turns depth) (option_map plain_expr (option_copied c.entry)) (seen s.old)) }
+    ensures answered { RunsCondition f.now (seen s.old) (option_map plain_expr (option_copied c.entry)) → IsAnswered result }
 {
     match c {
         None => Ok(true),
@@ -475,9 +488,10 @@ fn holds(f: &Context, depth: u32, s: &mut State, c: Option<&Expr>) -> Result<boo
 
 /// An expression for its effects.
 #[cycle(run)]
-fn done(f: &Context, depth: u32, s: &mut State, e: Option<&Expr>) -> Result<Exit, Stop>
+fn done(f: &Context, depth: usize, s: &mut State, e: Option<&Expr>) -> Result<Exit, Stop>
     requires { HasLayouts f.now.program.now }
-    ensures { let w = setting_of f.now.program.now f.now.io.now f.now.inputs.now in ShowsAs seen_exit result (seen s.new) (done w (calls_within w f.now.turns depth) (option_map plain_expr (option_copied e.entry)) (seen s.old)) }
+    ensures shows { let w = setting_of f.now.program.now f.now.io.now f.now.inputs.now in ShowsAs seen_exit result (seen s.new) (done w (calls_within w f.now.turns depth) (option_map plain_expr (option_copied e.entry)) (seen s.old)) }
+    ensures answered { RunsOptional f.now (seen s.old) (option_map plain_expr (option_copied e.entry)) → IsAnswered result }
 {
     match e {
         None => Ok(Exit::AtEnd),
@@ -489,9 +503,10 @@ fn done(f: &Context, depth: u32, s: &mut State, e: Option<&Expr>) -> Result<Exit
 }
 
 #[cycle(run)]
-fn returned(f: &Context, depth: u32, s: &mut State, e: &Option<Expr>) -> Result<Exit, Stop>
+fn returned(f: &Context, depth: usize, s: &mut State, e: &Option<Expr>) -> Result<Exit, Stop>
     requires { HasLayouts f.now.program.now }
-    ensures { let w = setting_of f.now.program.now f.now.io.now f.now.inputs.now in ShowsAs seen_exit result (seen s.new) (returned w (calls_within w f.now.turns depth) (option_map plain_expr e.now) (seen s.old)) }
+    ensures shows { let w = setting_of f.now.program.now f.now.io.now f.now.inputs.now in ShowsAs seen_exit result (seen s.new) (returned w (calls_within w f.now.turns depth) (option_map plain_expr e.now) (seen s.old)) }
+    ensures answered { RunsOptional f.now (seen s.old) (option_map plain_expr e.now) → IsAnswered result }
 {
     match e {
         None => Ok(Exit::ByReturn(None)),
@@ -506,13 +521,14 @@ fn returned(f: &Context, depth: u32, s: &mut State, e: &Option<Expr>) -> Result<
 #[cycle(run)]
 fn initialising(
     f: &Context,
-    depth: u32,
+    depth: usize,
     s: &mut State,
     o: u16,
     values: &[Expr],
 ) -> Result<Exit, Stop>
     requires { HasLayouts f.now.program.now }
-    ensures { let w = setting_of f.now.program.now f.now.io.now f.now.inputs.now in ShowsAs seen_exit result (seen s.new) (initialising w (calls_within w f.now.turns depth) o 0 (plain_exprs values.now) (seen s.old)) }
+    ensures shows { let w = setting_of f.now.program.now f.now.io.now f.now.inputs.now in ShowsAs seen_exit result (seen s.new) (initialising w (calls_within w f.now.turns depth) o 0 (plain_exprs values.now) (seen s.old)) }
+    ensures answered { RunsLeaves f.now (seen s.old) o 0 (plain_exprs values.now) → IsAnswered result }
 {
     for (k, e) in values.iter().enumerate() {
         s.work_more(leaf_words(e))?;
@@ -524,9 +540,16 @@ fn initialising(
 
 /// A statement; `outlived` where the objects of a block outlive it.
 #[cycle(run)]
-fn effect_of(f: &Context, depth: u32, s: &mut State, outlived: bool, a: &Stmt) -> Result<Exit, Stop>
+fn effect_of(
+    f: &Context,
+    depth: usize,
+    s: &mut State,
+    outlived: bool,
+    a: &Stmt,
+) -> Result<Exit, Stop>
     requires { HasLayouts f.now.program.now }
-    ensures { let w = setting_of f.now.program.now f.now.io.now f.now.inputs.now in ShowsAs seen_exit result (seen s.new) (effect_of w (calls_within w f.now.turns depth) f.now.turns outlived (plain_stmt a.now) (seen s.old)) }
+    ensures shows { let w = setting_of f.now.program.now f.now.io.now f.now.inputs.now in ShowsAs seen_exit result (seen s.new) (effect_of w (calls_within w f.now.turns depth) f.now.turns outlived (plain_stmt a.now) (seen s.old)) }
+    ensures answered { RunsStmt f.now (seen s.old) (plain_stmt a.now) → IsAnswered result }
 {
     match &a.kind {
         StmtKind::Empty => Ok(Exit::AtEnd),
@@ -597,9 +620,10 @@ fn effect_of(f: &Context, depth: u32, s: &mut State, outlived: bool, a: &Stmt) -
 
 /// Statements in order, up to one that is not left at its end.
 #[cycle(run)]
-fn effects_of(f: &Context, depth: u32, s: &mut State, all: &[Stmt]) -> Result<Exit, Stop>
+fn effects_of(f: &Context, depth: usize, s: &mut State, all: &[Stmt]) -> Result<Exit, Stop>
     requires { HasLayouts f.now.program.now }
-    ensures { let w = setting_of f.now.program.now f.now.io.now f.now.inputs.now in ShowsAs seen_exit result (seen s.new) (effects_of w (calls_within w f.now.turns depth) f.now.turns (plain_stmts all.now) (seen s.old)) }
+    ensures shows { let w = setting_of f.now.program.now f.now.io.now f.now.inputs.now in ShowsAs seen_exit result (seen s.new) (effects_of w (calls_within w f.now.turns depth) f.now.turns (plain_stmts all.now) (seen s.old)) }
+    ensures answered { RunsStmts f.now (seen s.old) (plain_stmts all.now) → IsAnswered result }
 {
     for a in all {
         match effect_of(f, depth, s, false, a)? {
@@ -611,7 +635,7 @@ fn effects_of(f: &Context, depth: u32, s: &mut State, all: &[Stmt]) -> Result<Ex
 }
 
 /// A test that does not hold ends a loop, and is work.
-fn end_loop(s: &mut State) -> Result<Exit, Unanswered>
+fn end_loop(s: &mut State) -> Result<Exit, NoMemory>
     ensures exit { IfOk result (λ x. x ≡ AtEnd) }
     ensures state { OnOk result (seen s.new ≡ worked loop_words (seen s.old)) }
 {
@@ -623,14 +647,15 @@ fn end_loop(s: &mut State) -> Result<Exit, Unanswered>
 #[cycle(run)]
 fn tested_loop(
     f: &Context,
-    depth: u32,
+    depth: usize,
     s: &mut State,
     c: Option<&Expr>,
     last: Option<&Expr>,
     body: &Stmt,
 ) -> Result<Exit, Stop>
     requires { HasLayouts f.now.program.now }
-    ensures { let w = setting_of f.now.program.now f.now.io.now f.now.inputs.now in let calls = calls_within w f.now.turns depth in let c = option_map plain_expr (option_copied c.entry) in let last = option_map plain_expr (option_copied last.entry) in ShowsAs seen_exit result (seen s.new) (tested (holds w calls c (seen s.old)) (λ s2. turns f.now.turns (λ s3. effect_of w calls f.now.turns false (plain_stmt body.now) s3) (λ s3. going_on w calls last c s3) s2)) }
+    ensures shows { let w = setting_of f.now.program.now f.now.io.now f.now.inputs.now in let calls = calls_within w f.now.turns depth in let c = option_map plain_expr (option_copied c.entry) in let last = option_map plain_expr (option_copied last.entry) in ShowsAs seen_exit result (seen s.new) (tested (holds w calls c (seen s.old)) (λ s2. turns f.now.turns (λ s3. effect_of w calls f.now.turns false (plain_stmt body.now) s3) (λ s3. going_on w calls last c s3) s2)) }
+    ensures answered { RunsLoop f.now (seen s.old) (option_map plain_expr (option_copied c.entry)) (option_map plain_expr (option_copied last.entry)) (plain_stmt body.now) → IsAnswered result }
 {
     if !holds(f, depth, s, c)? {
         let x = end_loop(s)?;
@@ -645,14 +670,15 @@ fn tested_loop(
 #[cycle(run)]
 fn turning_loop(
     f: &Context,
-    depth: u32,
+    depth: usize,
     s: &mut State,
     c: Option<&Expr>,
     last: Option<&Expr>,
     body: &Stmt,
 ) -> Result<Exit, Stop>
     requires { HasLayouts f.now.program.now }
-    ensures { let w = setting_of f.now.program.now f.now.io.now f.now.inputs.now in let calls = calls_within w f.now.turns depth in let c = option_map plain_expr (option_copied c.entry) in let last = option_map plain_expr (option_copied last.entry) in ShowsAs seen_exit result (seen s.new) (turns f.now.turns (λ s3. effect_of w calls f.now.turns false (plain_stmt body.now) s3) (λ s3. going_on w calls last c s3) (seen s.old)) }
+    ensures shows { let w = setting_of f.now.program.now f.now.io.now f.now.inputs.now in let calls = calls_within w f.now.turns depth in let c = option_map plain_expr (option_copied c.entry) in let last = option_map plain_expr (option_copied last.entry) in ShowsAs seen_exit result (seen s.new) (turns f.now.turns (λ s3. effect_of w calls f.now.turns false (plain_stmt body.now) s3) (λ s3. going_on w calls last c s3) (seen s.old)) }
+    ensures answered { RunsLoop f.now (seen s.old) (option_map plain_expr (option_copied c.entry)) (option_map plain_expr (option_copied last.entry)) (plain_stmt body.now) → IsAnswered result }
 {
     let mut left = f.turns;
     while left > 0 {
@@ -685,13 +711,14 @@ fn loop_exit(x: Exit) -> Option<Exit>
 #[cycle(run)]
 fn goes_on(
     f: &Context,
-    depth: u32,
+    depth: usize,
     s: &mut State,
     c: Option<&Expr>,
     last: Option<&Expr>,
 ) -> Result<bool, Stop>
     requires { HasLayouts f.now.program.now }
-    ensures { let w = setting_of f.now.program.now f.now.io.now f.now.inputs.now in Shows result (seen s.new) (going_on w (calls_within w f.now.turns depth) (option_map plain_expr (option_copied last.entry)) (option_map plain_expr (option_copied c.entry)) (seen s.old)) }
+    ensures shows { let w = setting_of f.now.program.now f.now.io.now f.now.inputs.now in Shows result (seen s.new) (going_on w (calls_within w f.now.turns depth) (option_map plain_expr (option_copied last.entry)) (option_map plain_expr (option_copied c.entry)) (seen s.old)) }
+    ensures answered { RunsTest f.now (seen s.old) (option_map plain_expr (option_copied c.entry)) (option_map plain_expr (option_copied last.entry)) → IsAnswered result }
 {
     done(f, depth, s, last)?;
     let h = holds(f, depth, s, c)?;
@@ -702,7 +729,8 @@ fn goes_on(
 
 fn bind_one(f: &Context, s: &mut State, o: u16, x: Value) -> Result<Value, Stop>
     requires { HasLayouts f.now.program.now }
-    ensures { Shows result (seen s.new) (initialised (plain_program f.now.program.now) o 0 x (begun (plain_program f.now.program.now) o (seen s.old))) }
+    ensures shows { Shows result (seen s.new) (initialised (plain_program f.now.program.now) o 0 x (begun (plain_program f.now.program.now) o (seen s.old))) }
+    ensures answered { IsGiven f.now → IsAnswered result }
 {
     begin(f, s, o)?;
     let v = initialise(f, s, o, 0, x)?;
@@ -712,7 +740,8 @@ fn bind_one(f: &Context, s: &mut State, o: u16, x: Value) -> Result<Value, Stop>
 /// The parameters are new objects with the arguments as their values.
 fn bind(f: &Context, s: &mut State, params: &[u16], xs: &[Value]) -> Result<(), Stop>
     requires { HasLayouts f.now.program.now }
-    ensures { let w = setting_of f.now.program.now f.now.io.now f.now.inputs.now in ShowsAs (λ _. no_value) result (seen s.new) (bound w params.now xs.now (seen s.old)) }
+    ensures shows { let w = setting_of f.now.program.now f.now.io.now f.now.inputs.now in ShowsAs (λ _. no_value) result (seen s.new) (bound w params.now xs.now (seen s.old)) }
+    ensures answered { IsGiven f.now → IsAnswered result }
 {
     for (i, o) in params.iter().enumerate() {
         let Some(x) = at(xs, i) else {
@@ -725,7 +754,8 @@ fn bind(f: &Context, s: &mut State, params: &[u16], xs: &[Value]) -> Result<(), 
 
 /// What a function gives that was left so.
 fn result_of(ty: &CType, main: bool, exit: Exit, s: &State) -> Result<Value, Stop>
-    ensures { Shows result (seen s.now) (result_of (plain_type ty.now) main (seen_exit exit) (seen s.now)) }
+    ensures shows { Shows result (seen s.now) (result_of (plain_type ty.now) main (seen_exit exit) (seen s.now)) }
+    ensures answered { IsAnswered result }
 {
     match exit {
         Exit::ByReturn(Some(x)) => Ok(x),
@@ -744,9 +774,10 @@ fn result_of(ty: &CType, main: bool, exit: Exit, s: &State) -> Result<Value, Sto
 
 /// A call of the function with a number, where calls nest at most `depth` deep.
 #[cycle(run)]
-pub fn call(f: &Context, depth: u32, s: &mut State, g: u16, xs: &[Value]) -> Result<Value, Stop>
+pub fn call(f: &Context, depth: usize, s: &mut State, g: u16, xs: &[Value]) -> Result<Value, Stop>
     requires { HasLayouts f.now.program.now }
-    ensures { let w = setting_of f.now.program.now f.now.io.now f.now.inputs.now in Shows result (seen s.new) (calls_within w f.now.turns depth g xs.now (seen s.old)) }
+    ensures shows { let w = setting_of f.now.program.now f.now.io.now f.now.inputs.now in Shows result (seen s.new) (calls_within w f.now.turns depth g xs.now (seen s.old)) }
+    ensures answered { IsGiven f.now → IsTypedState (plain_program f.now.program.now) (seen s.old) → AreArgumentsOf f.now g xs.now → IsAnswered result }
 {
     if depth == 0 {
         return Err(Stop::Undefined(Undefined::Access));
@@ -764,7 +795,7 @@ pub fn call(f: &Context, depth: u32, s: &mut State, g: u16, xs: &[Value]) -> Res
 #[cycle(run)]
 fn enter(
     f: &Context,
-    depth: u32,
+    depth: usize,
     s: &mut State,
     g: u16,
     called: &Func,
@@ -772,7 +803,8 @@ fn enter(
 ) -> Result<Value, Stop>
     requires layouts { HasLayouts f.now.program.now }
     requires small { stmt_weight (plain_stmt called.now.body) + 2 < bodies (map plain_function f.now.program.now.funcs.items) }
-    ensures { let w = setting_of f.now.program.now f.now.io.now f.now.inputs.now in Shows result (seen s.new) (call_of w (calls_within w f.now.turns depth) f.now.turns g (Some (plain_function called.now)) xs.now (seen s.old)) }
+    ensures shows { let w = setting_of f.now.program.now f.now.io.now f.now.inputs.now in Shows result (seen s.new) (call_of w (calls_within w f.now.turns depth) f.now.turns g (Some (plain_function called.now)) xs.now (seen s.old)) }
+    ensures answered { IsGiven f.now → IsTypedState (plain_program f.now.program.now) (seen s.old) → IsCalled f.now g (plain_function called.now) xs.now → IsAnswered result }
 {
     s.work_more(40)?;
     bind(f, s, called.params.as_slice(), xs)?;

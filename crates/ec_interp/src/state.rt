@@ -69,6 +69,18 @@ impl From<Unanswered> for Stop {
     }
 }
 
+impl From<NoMemory> for Stop {
+    ghost use Rattle.std.specs.Prelude.{◌≡◌};
+    ghost use Rattle.ec_interp.specs.declared.behaviour.Unanswered.TheVariants.{NoMemory as Full};
+    ghost use Rattle.ec_interp.specs.declared.state.Stop.TheVariants.{Unanswered as WithoutAnswer};
+
+    ghost from_gives = { λ _ r. r ≡ WithoutAnswer Full };
+
+    fn from(_: NoMemory) -> Stop {
+        Stop::Unanswered(Unanswered::NoMemory)
+    }
+}
+
 impl From<Undefined> for Stop {
     ghost use Rattle.std.specs.Prelude.{◌≡◌};
     ghost use Rattle.ec_interp.specs.declared.state.Stop.TheVariants.{Undefined as AtPoint};
@@ -88,12 +100,12 @@ pub fn at<T>(items: &[T], i: usize) -> Option<&T>
 }
 
 /// A list with an item more.
-pub fn push<T: Drop>(items: &mut Vec<T>, x: T) -> Result<(), Unanswered>
+pub fn push<T: Drop>(items: &mut Vec<T>, x: T) -> Result<(), NoMemory>
     ensures { OnOk result (items.new.items ≡ items.old.items ++ x ∷ []) }
 {
     match items.push(x) {
         Ok(()) => Ok(()),
-        Err(_) => Err(Unanswered::NoMemory),
+        Err(_) => Err(NoMemory),
     }
 }
 
@@ -134,14 +146,14 @@ pub fn told(v: Value) -> Told
 
 impl State {
     /// An event more.
-    pub fn record(&mut self, event: Event) -> Result<(), Unanswered>
+    pub fn record(&mut self, event: Event) -> Result<(), NoMemory>
         ensures { OnOk result (seen self.new ≡ with_event (seen_event event) (seen self.old)) }
     {
         push(&mut self.events, event)
     }
 
-    /// So many words more of work.
-    pub fn work_more(&mut self, words: u64) -> Result<(), Unanswered>
+    /// So many words more of work, of which 2^64 - 1 can be counted.
+    pub fn work_more(&mut self, words: u64) -> Result<(), NoMemory>
         ensures { OnOk result (seen self.new ≡ worked words (seen self.old)) }
     {
         match self.work.checked_add(words) {
@@ -149,7 +161,7 @@ impl State {
                 self.work = work;
                 Ok(())
             }
-            None => Err(Unanswered::TooLarge),
+            None => Err(NoMemory),
         }
     }
 }

@@ -101,7 +101,7 @@ const NUMBERS: &[Case] = &[
     },
     // int a = -7; return a / 2 + a % 2;
     Case {
-        name: "divides_toward_zero",
+        name: "divides toward zero",
         variables: &[Auto(Int)],
         main: &[
             Number(Int, 7),
@@ -127,7 +127,7 @@ const NUMBERS: &[Case] = &[
     },
     // short _Fract x = 0.25hr * (char)3; return (int)((short _Accum)x << 7);
     Case {
-        name: "multiplies_a_fraction_by_a_char",
+        name: "multiplies a fraction by a char",
         variables: &[Auto(HR)],
         main: &[
             Number(HR, 32),
@@ -153,7 +153,7 @@ const NUMBERS: &[Case] = &[
     // _Sat short _Fract a = -0.5hr - 0.5hr; _Sat short _Fract b = a * a;
     // return (int)((short _Accum)b << 7);
     Case {
-        name: "saturates_a_product",
+        name: "saturates a product",
         variables: &[Auto(SAT_HR), Auto(SAT_HR)],
         main: &[
             Number(HR, 64),
@@ -194,7 +194,7 @@ const NUMBERS: &[Case] = &[
     },
     // short _Accum q = -1.0hk / 3.0hk; return (int)(q << 7);
     Case {
-        name: "rounds_a_quotient_toward_zero",
+        name: "rounds a quotient toward zero",
         variables: &[Auto(HK)],
         main: &[
             Number(HK, 128),
@@ -218,7 +218,7 @@ const NUMBERS: &[Case] = &[
     },
     // _Sat _Fract a = 0.5r; _Sat _Fract q = a / 0.25r; return (int)((_Accum)q << 15);
     Case {
-        name: "saturates_a_quotient",
+        name: "saturates a quotient",
         variables: &[Auto(SAT_R), Auto(SAT_R)],
         main: &[
             Number(R, 16384),
@@ -440,7 +440,7 @@ const NUMBERS: &[Case] = &[
 const OBJECTS: &[Case] = &[
     // __data int *p = 0; int *g = p; return g == 0;
     Case {
-        name: "embeds_null",
+        name: "embeds null",
         variables: &[Auto(TO_DATA), Auto(TO_INT)],
         main: &[
             Null(TO_DATA),
@@ -473,7 +473,7 @@ const OBJECTS: &[Case] = &[
     // const __flash int t[2] = {11, 22}; int get(const int *p){return *p;}
     // int main(void){int v = 5; return get(&t[1]) - get(&v);}
     Case {
-        name: "reads_both_banks",
+        name: "reads both banks",
         variables: &[
             InSpace(Ints(2), SpaceId::Flash, Bank::Flash, &[11, 22]),
             Param(TO_CONST, 1),
@@ -560,7 +560,7 @@ const OBJECTS: &[Case] = &[
     },
     // __data int q = 7; int main(void){return q;}
     Case {
-        name: "tells_the_declared_space",
+        name: "tells the declared space",
         variables: &[InSpace(Int, SpaceId::Data, Bank::Data, &[7])],
         main: &[Object(0), Load(Int), ReturnValue, Block(1)],
         others: &[],
@@ -571,7 +571,7 @@ const OBJECTS: &[Case] = &[
     },
     // struct s x; struct s *p = &x; x.a = 3; p->b = 500; return x.a + p->b;
     Case {
-        name: "reaches_members",
+        name: "reaches members",
         variables: &[Auto(TheStruct), Auto(ToStruct)],
         main: &[
             Local(0, 0),
@@ -624,7 +624,7 @@ const OBJECTS: &[Case] = &[
     // register _R4 long acc;
     // int i; acc = 100000; for (i = 0; i < 3; i = i + 1) acc = acc / 10; return (int)acc;
     Case {
-        name: "keeps_registers_silent",
+        name: "keeps registers silent",
         variables: &[Register(Long, 4), Auto(Int)],
         main: &[
             Local(1, 0),
@@ -765,7 +765,7 @@ const FLOW: &[Case] = &[
     // static int n; int up(int a, int b){n = n + a; return n + b;}
     // int main(void){return up(2, 3) + up(4, 5);}
     Case {
-        name: "keeps_statics_over_calls",
+        name: "keeps statics over calls",
         variables: &[Static(Int, &[0]), Param(Int, 1), Param(Int, 1)],
         main: &[
             Number(Int, 2),
@@ -859,7 +859,7 @@ const FLOW: &[Case] = &[
     },
     // int i = 0; do { if (i++ == 1) continue; if (i > 2) break; } while (i < 9); return i;
     Case {
-        name: "leaves_loops",
+        name: "leaves loops",
         variables: &[Auto(Int)],
         main: &[
             Number(Int, 0),
@@ -1049,7 +1049,7 @@ const PORTS: &[Case] = &[
     // The work is that of the program and its function; of the write with its sum, read, conversion and
     // number; of the return with its conversion and read.
     Case {
-        name: "orders_port_bytes",
+        name: "orders port bytes",
         variables: &[],
         main: &[
             Read(2),
@@ -1081,7 +1081,7 @@ const PORTS: &[Case] = &[
     },
     // ioor(LED, 1); return 0;
     Case {
-        name: "updates_a_port",
+        name: "updates a port",
         variables: &[],
         main: &[
             Number(Int, 1),
@@ -1100,7 +1100,7 @@ const PORTS: &[Case] = &[
     },
     // iowrbuf(B, 2, 0x1234);
     Case {
-        name: "writes_a_buffer",
+        name: "writes a buffer",
         variables: &[],
         main: &[
             Number(Unsigned, 2),

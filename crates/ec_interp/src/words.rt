@@ -9,11 +9,10 @@ ghost use Rattle.ec_core.specs.Words.{simple_words, operation_words, update_word
 ghost use Rattle.ec_interp.specs.Lookups.{widest_from};
 ghost use Rattle.ec_interp.specs.Views.{seen_action};
 
-use crate::behaviour::Unanswered;
 use crate::ports::{Action, action_of, group_at, pairs, port_at};
 use ec_core::{CType, Expr, Node, PlaceExpr};
 use ec_iohw::IoTable;
-use ec_space::SpaceId;
+use ec_space::{NoMemory, SpaceId};
 
 // ---- bytes of types
 
@@ -49,26 +48,26 @@ fn widest_from(p: &PlaceExpr, rest: u8) -> u8
     }
 }
 
-fn sum(a: u64, b: u64) -> Result<u64, Unanswered>
+fn sum(a: u64, b: u64) -> Result<u64, NoMemory>
     ensures { IfOk result (λ c. c ≡ a + b) }
 {
     match a.checked_add(b) {
         Some(c) => Ok(c),
-        None => Err(Unanswered::TooLarge),
+        None => Err(NoMemory),
     }
 }
 
-fn product(a: u64, b: u64) -> Result<u64, Unanswered>
+fn product(a: u64, b: u64) -> Result<u64, NoMemory>
     ensures { IfOk result (λ c. c ≡ a * b) }
 {
     match a.checked_mul(b) {
         Some(c) => Ok(c),
-        None => Err(Unanswered::TooLarge),
+        None => Err(NoMemory),
     }
 }
 
 /// The bytes of some values together.
-fn total_size(es: &[Expr]) -> Result<u64, Unanswered>
+fn total_size(es: &[Expr]) -> Result<u64, NoMemory>
     ensures { IfOk result (λ bytes. bytes ≡ total_size (plain_exprs es.now)) }
 {
     let mut bytes = 0;
@@ -119,7 +118,7 @@ fn port_words(action: Action, width: u8) -> u64
     }
 }
 
-fn group_words(pairs: u64) -> Result<u64, Unanswered>
+fn group_words(pairs: u64) -> Result<u64, NoMemory>
     ensures { IfOk result (λ words. words ≡ group_words pairs) }
 {
     let bytes = product(10, pairs)?;
@@ -128,7 +127,7 @@ fn group_words(pairs: u64) -> Result<u64, Unanswered>
 
 // ---- parts of expressions and statements
 
-fn call_words(args: &[Expr], ty: &CType) -> Result<u64, Unanswered>
+fn call_words(args: &[Expr], ty: &CType) -> Result<u64, NoMemory>
     ensures { IfOk result (λ words. words ≡ 60 + 10 * (total_size (plain_exprs args.now) + scalar_size (plain_type ty.now))) }
 {
     let given = total_size(args)?;
@@ -156,7 +155,7 @@ fn pair_count(io: &IoTable, acquire: bool, group: u16) -> usize
 }
 
 /// The work of a node of this type.
-pub fn node_words(io: &IoTable, ty: &CType, node: &Node) -> Result<u64, Unanswered>
+pub fn node_words(io: &IoTable, ty: &CType, node: &Node) -> Result<u64, NoMemory>
     ensures { IfOk result (λ words. words ≡ node_words (plain_table io.now) (plain_type ty.now) (plain_node node.now)) }
 {
     match node {

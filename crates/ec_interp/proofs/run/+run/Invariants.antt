@@ -5,6 +5,7 @@ use Rattle.ec_core.specs.Expressions.{values_of}
 use Rattle.ec_core.specs.Plain.{plain_expr, plain_exprs, plain_node, plain_place, plain_stmt, plain_stmts, plain_function}
 use Rattle.ec_core.specs.State.{State, Outcome, next, got}
 use Rattle.ec_core.specs.Statements.{Exit, initialising, effect_of, effects_of, going_on, turns, calls_within}
+use Rattle.ec_interp.specs.Suits.{RunsExprs, RunsLeaves, RunsStmts, RunsLoop}
 use Rattle.ec_interp.specs.Views.{plain_optional, seen, setting_of}
 use Rattle.ec_interp.specs.Weights.{expr_weight, node_weight, place_weight, option_weight, exprs_weight, optional_weight, stmt_weight, stmts_weight, bodies}
 use Rattle.ec_interp.proofs.run.+run.Given as goal
@@ -76,19 +77,22 @@ abbrev pub invariant-values_of-loop-e : goal.invariant-values_of-loop-e
 invariant-values_of-loop-e l =
     let w = setting_of l.f.program.now l.f.io.now l.f.inputs.now in
     let calls = calls_within w l.f.turns l.depth in
-    next (values_of w calls (plain_exprs (drop l.e-index l.es)) (seen l.s)) (λ xs s. got (l.xs.items ++ xs) s) ≡ values_of w calls (plain_exprs l.es) (seen l.fn.s)
+    (next (values_of w calls (plain_exprs (drop l.e-index l.es)) (seen l.s)) (λ xs s. got (l.xs.items ++ xs) s) ≡ values_of w calls (plain_exprs l.es) (seen l.fn.s))
+    × (RunsExprs l.f (seen l.fn.s) (plain_exprs l.es) → RunsExprs l.f (seen l.s) (plain_exprs (drop l.e-index l.es)))
 
 abbrev pub invariant-initialising-loop-k : goal.invariant-initialising-loop-k
 invariant-initialising-loop-k l =
     let w = setting_of l.f.program.now l.f.io.now l.f.inputs.now in
     let calls = calls_within w l.f.turns l.depth in
-    initialising w calls l.o l.k (plain_exprs (drop l.k l.values)) (seen l.s) ≡ initialising w calls l.o 0 (plain_exprs l.values) (seen l.fn.s)
+    (initialising w calls l.o l.k (plain_exprs (drop l.k l.values)) (seen l.s) ≡ initialising w calls l.o 0 (plain_exprs l.values) (seen l.fn.s))
+    × (RunsLeaves l.f (seen l.fn.s) l.o 0 (plain_exprs l.values) → RunsLeaves l.f (seen l.s) l.o l.k (plain_exprs (drop l.k l.values)))
 
 abbrev pub invariant-effects_of-loop-a : goal.invariant-effects_of-loop-a
 invariant-effects_of-loop-a l =
     let w = setting_of l.f.program.now l.f.io.now l.f.inputs.now in
     let calls = calls_within w l.f.turns l.depth in
-    effects_of w calls l.f.turns (plain_stmts (drop l.a-index l.all)) (seen l.s) ≡ effects_of w calls l.f.turns (plain_stmts l.all) (seen l.fn.s)
+    (effects_of w calls l.f.turns (plain_stmts (drop l.a-index l.all)) (seen l.s) ≡ effects_of w calls l.f.turns (plain_stmts l.all) (seen l.fn.s))
+    × (RunsStmts l.f (seen l.fn.s) (plain_stmts l.all) → RunsStmts l.f (seen l.s) (plain_stmts (drop l.a-index l.all)))
 
 abbrev pub invariant-turning_loop-loop-left : goal.invariant-turning_loop-loop-left
 invariant-turning_loop-loop-left l =
@@ -96,7 +100,8 @@ invariant-turning_loop-loop-left l =
     let calls = calls_within w l.f.turns l.depth in
     let body : State → Outcome Exit = λ s. effect_of w calls l.f.turns false (plain_stmt l.body) s in
     let test : State → Outcome Bool = λ s. going_on w calls (option_map plain_expr (option_copied l.last)) (option_map plain_expr (option_copied l.c)) s in
-    turns l.left body test (seen l.s) ≡ turns l.f.turns body test (seen l.fn.s)
+    (turns l.left body test (seen l.s) ≡ turns l.f.turns body test (seen l.fn.s))
+    × (RunsLoop l.f (seen l.fn.s) (option_map plain_expr (option_copied l.c)) (option_map plain_expr (option_copied l.last)) (plain_stmt l.body) → RunsLoop l.f (seen l.s) (option_map plain_expr (option_copied l.c)) (option_map plain_expr (option_copied l.last)) (plain_stmt l.body))
 
 abbrev pub decreases-turning_loop-loop-left : goal.decreases-turning_loop-loop-left
 decreases-turning_loop-loop-left l = l.left
