@@ -19,6 +19,3 @@ pub use conversions::{compare, convert, to_int};
 pub use formats::{Format, FxKind, greatest_number, least_number};
 pub use numbers::{Fixed, Fx, Mode, Num};
 pub use rounding::round;
-
-#[cfg(test)]
-mod tests;

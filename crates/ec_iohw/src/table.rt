@@ -1,4 +1,8 @@
 //! The ports of a map, by name.
+ghost use Rattle.std.specs.Prelude.{◌≡◌, position};
+ghost use Rattle.std.specs.Str.{bytes_eq};
+ghost use Rattle.ec_iohw.specs.Names.{designated};
+ghost use Rattle.ec_iohw.specs.Valid.{ValidIo};
 
 use ec_space::{Name, Seq};
 
@@ -44,4 +48,38 @@ pub struct IoTable {
 pub enum Designator {
     Port(u16),
     Group(u16),
+}
+
+fn port_named(ports: &[Port], name: &[u8]) -> Option<usize>
+    ensures { result ≡ position (λ port. bytes_eq port.name.items name.now) ports.now }
+{
+    ports.iter().position(|port| port.name.as_slice() == name)
+}
+
+fn group_named(groups: &[PortGroup], name: &[u8]) -> Option<usize>
+    ensures { result ≡ position (λ group. bytes_eq group.name.items name.now) groups.now }
+{
+    groups
+        .iter()
+        .position(|group| group.name.as_slice() == name)
+}
+
+impl IoTable {
+    /// What a name designates: a group where `group` holds, and else a port. None where no group, or no port, has the name.
+    pub fn designator(&self, name: &Name, group: bool) -> Option<Designator>
+        requires { ValidIo self.now }
+        ensures { result ≡ designated self.now name.now.items group }
+    {
+        if group {
+            match group_named(self.groups.as_slice(), name.as_slice()) {
+                Some(at) => Some(Designator::Group(at as u16)),
+                None => None,
+            }
+        } else {
+            match port_named(self.ports.as_slice(), name.as_slice()) {
+                Some(at) => Some(Designator::Port(at as u16)),
+                None => None,
+            }
+        }
+    }
 }

@@ -8,8 +8,6 @@ pub mod decoding;
 pub mod encoding;
 mod formats;
 pub mod instructions;
-#[cfg(test)]
-mod tests;
 
 pub use decoding::decode;
 pub use encoding::{encode, is_in_table};

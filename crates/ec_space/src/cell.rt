@@ -321,31 +321,3 @@ impl Cell for i64 {
         i64::from_le_bytes(b)
     }
 }
-
-#[cfg(test)]
-mod tests {
-    use super::*;
-    use std::test::Fail;
-
-    fn is_kept_as<T: Cell + Copy + PartialEq + Drop>(v: T, b: [u8; 8]) -> bool {
-        v.to_bytes() == b && T::from_bytes(b) == v
-    }
-
-    #[test]
-    fn lays_out_each_type(rt: HostRuntime) -> Result<(), Fail> {
-        assert!(rt; is_kept_as(129u8, [0x81, 0, 0, 0, 0, 0, 0, 0]));
-        assert!(rt; is_kept_as(-127i8, [0x81, 0, 0, 0, 0, 0, 0, 0]));
-        assert!(rt; is_kept_as(32_767u16, [0xFF, 0x7F, 0, 0, 0, 0, 0, 0]));
-        assert!(rt; is_kept_as(-23_131i16, [0xA5, 0xA5, 0, 0, 0, 0, 0, 0]));
-        assert!(rt; is_kept_as(100_000u32, [0xA0, 0x86, 0x01, 0, 0, 0, 0, 0]));
-        assert!(rt; is_kept_as(-2i32, [0xFE, 0xFF, 0xFF, 0xFF, 0, 0, 0, 0]));
-        assert!(rt;
-            is_kept_as(
-                0x0123_4567_89AB_CDEFu64,
-                [0xEF, 0xCD, 0xAB, 0x89, 0x67, 0x45, 0x23, 0x01]
-            )
-        );
-        assert!(rt; is_kept_as(i64::MIN, [0, 0, 0, 0, 0, 0, 0, 0x80]));
-        Ok(())
-    }
-}

@@ -89,22 +89,3 @@ impl Pointer {
         }
     }
 }
-
-#[cfg(test)]
-mod tests {
-    use super::*;
-    use std::test::Fail;
-
-    #[test]
-    fn joins_nested_spaces(rt: HostRuntime) -> Result<(), Fail> {
-        assert!(rt; SpaceId::Generic.encloses(SpaceId::Data));
-        assert!(rt; !SpaceId::Data.encloses(SpaceId::Generic));
-        assert!(rt; SpaceId::Flash.encloses(SpaceId::Flash));
-        assert_eq!(rt;
-            SpaceId::Data.join(SpaceId::Generic),
-            Some(SpaceId::Generic)
-        );
-        assert_eq!(rt; SpaceId::Data.join(SpaceId::Flash), None);
-        Ok(())
-    }
-}

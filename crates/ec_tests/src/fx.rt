@@ -5,8 +5,8 @@ ghost use Rattle.ec_fx.specs.Arithmetic.{IsOneByte, IsResultFormat};
 ghost use Rattle.ec_fx.specs.Formats.{IsFormat};
 ghost use Rattle.ec_fx.specs.Numbers.{IsFixed, IsNumber};
 
-use super::*;
 use Want::{Clamps, Fits};
+use ec_fx::*;
 use std::cmp::Ordering;
 use std::process::Abort;
 

@@ -1,0 +1,62 @@
+//! What names designate in a table of ports.
+ghost use Rattle.std.specs.Prelude.{◌≡◌, [], ◌∷◌, IfOk};
+ghost use Rattle.ec_iohw.specs.Valid.{ValidIo};
+
+use ec_iohw::{Designator, IoTable, Port, PortGroup};
+use ec_space::{Name, NoMemory, Seq};
+use std::alloc::Global;
+use std::test::Fail;
+
+fn name(alloc: Global, text: &str) -> Result<Name, NoMemory> {
+    let mut name = Seq::new(alloc);
+    name.extend_from_slice(text.as_bytes())?;
+    Ok(name)
+}
+
+fn one<T: Drop>(alloc: Global, item: T) -> Result<Seq<T>, NoMemory>
+    ensures { IfOk result (λ items. items.items ≡ item ∷ []) }
+{
+    let mut items = Seq::new(alloc);
+    items.push(item)?;
+    Ok(items)
+}
+
+/// The port `PORTB` and the group `timer`.
+fn table(alloc: Global) -> Result<IoTable, NoMemory>
+    ensures { IfOk result ValidIo }
+{
+    let port = Port {
+        name: name(alloc, "PORTB")?,
+        address: 0x25,
+        width: 1,
+        count: 1,
+        group: Some(0),
+    };
+    let group = PortGroup {
+        name: name(alloc, "timer")?,
+        acquire: Seq::new(alloc),
+        release: Seq::new(alloc),
+    };
+    Ok(IoTable {
+        ports: one(alloc, port)?,
+        groups: one(alloc, group)?,
+    })
+}
+
+#[test]
+fn designators(rt: HostRuntime) -> Result<(), Fail> {
+    let io = table(rt.alloc())?;
+    for (text, group, want) in [
+        ("PORTB", false, Some(Designator::Port(0))),
+        ("PORTB", true, None),
+        ("timer", true, Some(Designator::Group(0))),
+        ("timer", false, None),
+        ("PORT", false, None),
+        ("PORTC", false, None),
+        ("", true, None),
+    ] {
+        let name = name(rt.alloc(), text)?;
+        assert_eq!(rt; io.designator(&name, group), want);
+    }
+    Ok(())
+}

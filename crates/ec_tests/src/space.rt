@@ -1,0 +1,203 @@
+//! Lists as keys, pointers as bytes, cells and memory, on values worked out by hand.
+
+use ec_space::{
+    Bank, Cell, Core, Data, Flash, Generic, Mem, Name, Place, Pointer, Seq, Space, SpaceId, Within,
+};
+use std::collections::HashMap;
+use std::test::Fail;
+
+#[test]
+fn keeps_its_items(rt: HostRuntime) -> Result<(), Fail> {
+    let mut name: Name = Seq::new(rt.alloc());
+    name.reserve(3)?;
+    name.push(b'a')?;
+    name.extend_from_slice(b"bc")?;
+    assert_eq!(rt; name.as_slice(), b"abc".as_slice());
+    assert_eq!(rt; name.len(), 3);
+    assert_eq!(rt; name.get(2).copied(), Some(b'c'));
+    assert_eq!(rt; name.get(3).copied(), None);
+    name.put(1, b'x');
+    let copy = name.clone()?;
+    assert!(rt; copy == name);
+    name.clear();
+    assert!(rt; name.is_empty());
+    assert!(rt; name < copy);
+    assert_eq!(rt; copy.as_slice(), b"axc".as_slice());
+    Ok(())
+}
+
+#[test]
+fn is_a_key(rt: HostRuntime) -> Result<(), Fail> {
+    let mut places = HashMap::new(rt.alloc());
+    for (name, place) in [(b"left", 4u32), (b"down", 5)] {
+        let mut key: Name = Seq::new(rt.alloc());
+        key.extend_from_slice(name)?;
+        places.insert(key, place)?;
+    }
+    let mut key: Name = Seq::new(rt.alloc());
+    key.extend_from_slice(b"down")?;
+    assert_eq!(rt; places.get(&key).copied(), Some(5));
+    key.put(0, b'D');
+    assert_eq!(rt; places.get(&key).copied(), None);
+    Ok(())
+}
+
+#[test]
+fn fills(rt: HostRuntime) -> Result<(), Fail> {
+    let flags = Seq::filled(rt.alloc(), 3, false)?;
+    assert_eq!(rt; flags.as_slice(), [false, false, false].as_slice());
+    Ok(())
+}
+
+fn is_kept_as<T: Cell + Copy + PartialEq + Drop>(v: T, b: [u8; 8]) -> bool {
+    v.to_bytes() == b && T::from_bytes(b) == v
+}
+
+#[test]
+fn lays_out_each_type(rt: HostRuntime) -> Result<(), Fail> {
+    assert!(rt; is_kept_as(129u8, [0x81, 0, 0, 0, 0, 0, 0, 0]));
+    assert!(rt; is_kept_as(-127i8, [0x81, 0, 0, 0, 0, 0, 0, 0]));
+    assert!(rt; is_kept_as(32_767u16, [0xFF, 0x7F, 0, 0, 0, 0, 0, 0]));
+    assert!(rt; is_kept_as(-23_131i16, [0xA5, 0xA5, 0, 0, 0, 0, 0, 0]));
+    assert!(rt; is_kept_as(100_000u32, [0xA0, 0x86, 0x01, 0, 0, 0, 0, 0]));
+    assert!(rt; is_kept_as(-2i32, [0xFE, 0xFF, 0xFF, 0xFF, 0, 0, 0, 0]));
+    assert!(rt;
+        is_kept_as(
+            0x0123_4567_89AB_CDEFu64,
+            [0xEF, 0xCD, 0xAB, 0x89, 0x67, 0x45, 0x23, 0x01]
+        )
+    );
+    assert!(rt; is_kept_as(i64::MIN, [0, 0, 0, 0, 0, 0, 0, 0x80]));
+    Ok(())
+}
+
+#[test]
+fn joins_nested_spaces(rt: HostRuntime) -> Result<(), Fail> {
+    assert!(rt; SpaceId::Generic.encloses(SpaceId::Data));
+    assert!(rt; !SpaceId::Data.encloses(SpaceId::Generic));
+    assert!(rt; SpaceId::Flash.encloses(SpaceId::Flash));
+    assert_eq!(rt;
+        SpaceId::Data.join(SpaceId::Generic),
+        Some(SpaceId::Generic)
+    );
+    assert_eq!(rt; SpaceId::Data.join(SpaceId::Flash), None);
+    Ok(())
+}
+
+const IN_FLASH: Pointer = Pointer::At(Place {
+    bank: Bank::Flash,
+    offset: 0x1234,
+});
+
+const IN_DATA: Pointer = Pointer::At(Place {
+    bank: Bank::Data,
+    offset: 0x08FF,
+});
+
+fn are_pointers<S: Space>(table: &[([u8; 3], Pointer)]) -> bool {
+    table.iter().all(|&(b, p)| { S::denote(b) == Some(p) && p.is_in(S::id()) && S::encode(p) == b })
+}
+
+fn are_nothing<S: Space>(table: &[[u8; 3]]) -> bool {
+    table.iter().all(|b| S::denote(*b).is_none())
+}
+
+fn are_converted<I: Within<O>, O: Space>(table: &[([u8; 3], [u8; 3])]) -> bool {
+    table.iter().all(|&(inner, outer)| I::embed(inner) == outer && I::project(outer) == Some(inner))
+}
+
+fn are_outside<I: Within<O>, O: Space>(table: &[[u8; 3]]) -> bool {
+    table.iter().all(|b| I::project(*b).is_none())
+}
+
+#[test]
+fn keeps_pointers_as_bytes(rt: HostRuntime) -> Result<(), Fail> {
+    assert!(rt; are_pointers::<Flash>(&[([0; 3], Pointer::Null), ([0x34, 0x12, 0x00], IN_FLASH)]));
+    assert!(rt; are_pointers::<Data>(&[([0; 3], Pointer::Null), ([0xFF, 0x08, 0x00], IN_DATA)]));
+    assert!(rt;
+        are_pointers::<Generic>(&[
+            ([0; 3], Pointer::Null),
+            ([0x34, 0x12, 0x00], IN_FLASH),
+            ([0xFF, 0x08, 0x80], IN_DATA),
+        ])
+    );
+    assert!(rt; are_nothing::<Flash>(&[[0x34, 0x12, 0x80]]));
+    assert!(rt; are_nothing::<Data>(&[[0xFF, 0x08, 0x80], [0x00, 0x00, 0x01]]));
+    assert!(rt;
+        are_nothing::<Generic>(&[[0x00, 0x00, 0x80], [0x34, 0x12, 0x01], [0x34, 0x12, 0xFF]])
+    );
+    Ok(())
+}
+
+#[test]
+fn converts_between_spaces(rt: HostRuntime) -> Result<(), Fail> {
+    assert!(rt;
+        are_converted::<Data, Generic>(&[
+            ([0; 3], [0; 3]),
+            ([0xFF, 0x08, 0x00], [0xFF, 0x08, 0x80])
+        ])
+    );
+    assert!(rt;
+        are_converted::<Flash, Generic>(&[
+            ([0; 3], [0; 3]),
+            ([0x34, 0x12, 0x00], [0x34, 0x12, 0x00])
+        ])
+    );
+    assert!(rt; are_converted::<Data, Data>(&[([0xFF, 0x08, 0x00], [0xFF, 0x08, 0x00])]));
+    assert!(rt; are_outside::<Data, Generic>(&[[0x34, 0x12, 0x00], [0x00, 0x00, 0x80]]));
+    assert!(rt; are_outside::<Flash, Generic>(&[[0xFF, 0x08, 0x80]]));
+    Ok(())
+}
+
+const fn in_data(offset: u32) -> Place {
+    Place {
+        bank: Bank::Data,
+        offset,
+    }
+}
+
+const fn in_flash(offset: u32) -> Place {
+    Place {
+        bank: Bank::Flash,
+        offset,
+    }
+}
+
+#[test]
+fn begins_empty(rt: HostRuntime) -> Result<(), Fail> {
+    let mem = Mem::new(rt.alloc(), Core::Small)?;
+    assert_eq!(rt; mem.load::<Flash, u8>(in_flash(32_767)), Some(0xFF));
+    assert_eq!(rt; mem.load::<Flash, u8>(in_flash(32_768)), None);
+    assert_eq!(rt; mem.load::<Data, u16>(in_data(0x08FE)), Some(0));
+    assert_eq!(rt; mem.load::<Data, u16>(in_data(0x08FF)), None);
+    Ok(())
+}
+
+#[test]
+fn stores_and_loads(rt: HostRuntime) -> Result<(), Fail> {
+    let mut mem = Mem::new(rt.alloc(), Core::Small)?;
+    assert!(rt; mem.store::<Data, i32>(in_data(0x0100), -2));
+    assert!(rt; mem.store::<Generic, u16>(in_data(0x0102), 0x1234));
+    assert_eq!(rt; mem.load::<Generic, i16>(in_data(0x0100)), Some(-2));
+    assert_eq!(rt; mem.load::<Data, u32>(in_data(0x0100)), Some(0x1234_FFFE));
+    assert_eq!(rt; mem.load::<Flash, i16>(in_data(0x0100)), None);
+    assert!(rt; !mem.store::<Generic, u8>(in_flash(0x0100), 1));
+    assert!(rt; !mem.store::<Flash, u8>(in_data(0x0100), 1));
+    assert!(rt; !mem.store::<Data, u64>(in_data(0x08F9), 1));
+    Ok(())
+}
+
+#[test]
+fn lends_its_bytes(rt: HostRuntime) -> Result<(), Fail> {
+    let mut mem = Mem::new(rt.alloc(), Core::Small)?;
+    mem.window_mut(Bank::Flash, 2, 2)
+        .copy_from_slice(&[0x95, 0x98]);
+    assert_eq!(rt;
+        mem.window(Bank::Flash, 1, 4),
+        [0xFF, 0x95, 0x98, 0xFF].as_slice()
+    );
+    mem.window_mut(Bank::Data, 0x005D, 2)
+        .copy_from_slice(&[0xFF, 0x08]);
+    assert_eq!(rt; mem.load::<Data, u16>(in_data(0x005D)), Some(0x08FF));
+    Ok(())
+}
