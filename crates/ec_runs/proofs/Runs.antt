@@ -1,9 +1,9 @@
 -- The laws of runs.
-use Rattle.std.proofs.Common.{◌≡◌, ℕ, zero, suc, ◌≤◌, List, [], ◌++◌, refl, sym, ap, ◌∙◌, subst, ⊎_elim, arith, append_assoc, append-nil}
+use Rattle.std.proofs.Common.{◌≡◌, ℕ, zero, suc, ◌+◌, ◌≤◌, List, [], ◌++◌, refl, sym, ap, ◌∙◌, subst, ⊎_elim, arith, append_assoc, append-nil, zero-add}
 use Rattle.std.specs.Prelude.{Bool, IsTrue}
 use Rattle.std.proofs.lemmas.Bool.{cases_lt}
-use Rattle.ec_runs.specs.Behaviours.{Behaviour, Running, Ended, Failed, BeginWith, GoesOn, Continues, IsRun, Stepped, On, End, Fail, preceded, continued, steps, Reached, Reaches, IsWithin, seen_as, KeepsOrder}
-use Rattle.ec_runs.specs.Laws.{StepsAreRuns, RunsHaveOneEnd, WhatReachesStaysWithin, ReachesThrough, SeenRunsAreRuns, ReachesAsSeen}
+use Rattle.ec_runs.specs.Behaviours.{Behaviour, Running, Ended, Failed, BeginWith, GoesOn, Continues, IsRun, Stepped, On, End, Fail, preceded, continued, steps, stepped_after, and_next, many, Reached, Reaches, IsWithin, seen_as, KeepsOrder}
+use Rattle.ec_runs.specs.Laws.{StepsAreRuns, StepsJoin, ManyJoin, RunsHaveOneEnd, WhatReachesStaysWithin, ReachesThrough, SeenRunsAreRuns, ReachesAsSeen}
 
 -- ---- events
 
@@ -47,6 +47,70 @@ module _ {S E R F : Type 0} (step : S → Stepped S E R F) where
 
 pub steps_are_runs : (S E R F : Type 0) → StepsAreRuns S E R F
 steps_are_runs S E R F step s n k le = steps_run step n k le s
+
+-- ---- several steps as one
+
+module _ {E R F : Type 0} where
+  preceded_twice : (es fs : List E) (b : Behaviour E R F) → preceded es (preceded fs b) ≡ preceded (es ++ fs) b
+  preceded_twice es fs (Running gs) = ap Running (sym (append_assoc es fs gs))
+  preceded_twice es fs (Ended gs result) = ap (λ l. Ended l result) (sym (append_assoc es fs gs))
+  preceded_twice es fs (Failed reason) = refl
+
+  preceded_none : (b : Behaviour E R F) → preceded [] b ≡ b
+  preceded_none (Running gs) = refl
+  preceded_none (Ended gs result) = refl
+  preceded_none (Failed reason) = refl
+
+module _ {S E R F : Type 0} where
+  stepped_twice : (es fs : List E) (p : Stepped S E R F) → stepped_after es (stepped_after fs p) ≡ stepped_after (es ++ fs) p
+  stepped_twice es fs (On gs s) = ap (λ l. On l s) (sym (append_assoc es fs gs))
+  stepped_twice es fs (End gs result) = ap (λ l. End l result) (sym (append_assoc es fs gs))
+  stepped_twice es fs (Fail reason) = refl
+
+  stepped_none : (p : Stepped S E R F) → stepped_after [] p ≡ p
+  stepped_none (On gs s) = refl
+  stepped_none (End gs result) = refl
+  stepped_none (Fail reason) = refl
+
+  continued_after : (rest : S → Behaviour E R F) (es : List E) (p : Stepped S E R F) → preceded es (continued rest p) ≡ continued rest (stepped_after es p)
+  continued_after rest es (On fs s) = preceded_twice es fs (rest s)
+  continued_after rest es (End fs result) = refl
+  continued_after rest es (Fail reason) = refl
+
+  next_after : (rest : S → Stepped S E R F) (es : List E) (p : Stepped S E R F) → stepped_after es (and_next rest p) ≡ and_next rest (stepped_after es p)
+  next_after rest es (On fs s) = stepped_twice es fs (rest s)
+  next_after rest es (End fs result) = refl
+  next_after rest es (Fail reason) = refl
+
+module _ {S E R F : Type 0} (step : S → Stepped S E R F) where
+  -- the first step, and then the others
+  first_continued : (f : S → Behaviour E R F) (g : S → Behaviour E R F) (rest : S → Stepped S E R F) (p : Stepped S E R F) → ((s : S) → f s ≡ continued g (rest s)) → continued f p ≡ continued g (and_next rest p)
+  first_continued f g rest (On es s) h = ap (preceded es) (h s) ∙ continued_after g es (rest s)
+  first_continued f g rest (End es result) h = refl
+  first_continued f g rest (Fail reason) h = refl
+
+  first_next : (f : S → Stepped S E R F) (g : S → Stepped S E R F) (rest : S → Stepped S E R F) (p : Stepped S E R F) → ((s : S) → f s ≡ and_next g (rest s)) → and_next f p ≡ and_next g (and_next rest p)
+  first_next f g rest (On es s) h = ap (stepped_after es) (h s) ∙ next_after g es (rest s)
+  first_next f g rest (End es result) h = refl
+  first_next f g rest (Fail reason) h = refl
+
+  steps_joined : (n k : ℕ) (s : S) → steps step s (n + k) ≡ continued (λ t. steps step t k) (many step n s)
+  steps_joined zero k s = ap (steps step s) (zero-add k) ∙ sym (preceded_none (steps step s k))
+  steps_joined (suc n) k s =
+      let e : suc n + k ≡ suc (n + k) = omega arith in
+      ap (steps step s) e ∙ first_continued (λ t. steps step t (n + k)) (λ t. steps step t k) (many step n) (step s) (steps_joined n k)
+
+  many_joined : (n k : ℕ) (s : S) → many step (n + k) s ≡ and_next (many step k) (many step n s)
+  many_joined zero k s = ap (λ (m : ℕ). many step m s) (zero-add k) ∙ sym (stepped_none (many step k s))
+  many_joined (suc n) k s =
+      let e : suc n + k ≡ suc (n + k) = omega arith in
+      ap (λ (m : ℕ). many step m s) e ∙ first_next (many step (n + k)) (many step k) (many step n) (step s) (many_joined n k)
+
+pub steps_join : (S E R F : Type 0) → StepsJoin S E R F
+steps_join S E R F step n k s = steps_joined step n k s
+
+pub many_join : (S E R F : Type 0) → ManyJoin S E R F
+many_join S E R F step n k s = many_joined step n k s
 
 -- ---- ends
 

@@ -57,6 +57,25 @@ abbrev pub steps : {S E R F : Type 0} → (S → Stepped S E R F) → S → ℕ 
 steps step s zero = Running []
 steps step s (suc n) = continued (λ t. steps step t n) (step s)
 
+-- ---- several steps as one
+
+-- a step that comes after some events
+abbrev pub stepped_after : {S E R F : Type 0} → List E → Stepped S E R F → Stepped S E R F
+stepped_after es (On fs s) = On (es ++ fs) s
+stepped_after es (End fs result) = End (es ++ fs) result
+stepped_after es (Fail reason) = Fail reason
+
+-- a step, and where it goes on what comes next
+abbrev pub and_next : {S E R F : Type 0} → (S → Stepped S E R F) → Stepped S E R F → Stepped S E R F
+and_next rest (On es s) = stepped_after es (rest s)
+and_next rest (End es result) = End es result
+and_next rest (Fail reason) = Fail reason
+
+-- So many steps as one: all their events, and the state after them where none of them ended or failed
+abbrev pub many : {S E R F : Type 0} → (S → Stepped S E R F) → ℕ → S → Stepped S E R F
+many step zero s = On [] s
+many step (suc n) s = and_next (λ t. many step n t) (step s)
+
 -- ---- one run beside another
 
 -- A run comes to what another one shows after n of its own steps: to its end, or, where that goes on, to a point where it has

@@ -1,10 +1,20 @@
 -- Laws of runs.
-use Rattle.std.specs.Prelude.{◌≡◌, ℕ, Bool, IsTrue, List}
-use Rattle.ec_runs.specs.Behaviours.{Behaviour, Ended, IsRun, Stepped, steps, Reaches, IsWithin, seen_as, KeepsOrder}
+use Rattle.std.specs.Prelude.{◌≡◌, ℕ, ◌+◌, Bool, IsTrue, List}
+use Rattle.ec_runs.specs.Behaviours.{Behaviour, Ended, IsRun, Stepped, continued, steps, and_next, many, Reaches, IsWithin, seen_as, KeepsOrder}
 
 -- more steps of a step function only add
 abbrev pub StepsAreRuns : (S E R F : Type 0) → Type 0
 StepsAreRuns S E R F = (step : S → Stepped S E R F) (s : S) → IsRun (steps step s)
+
+-- n + k steps are n steps, and then k more from the state after them, the events of both joined
+abbrev pub StepsJoin : (S E R F : Type 0) → Type 0
+StepsJoin S E R F =
+    (step : S → Stepped S E R F) (n k : ℕ) (s : S) → steps step s (n + k) ≡ continued (λ t. steps step t k) (many step n s)
+
+-- and so are n + k steps as one
+abbrev pub ManyJoin : (S E R F : Type 0) → Type 0
+ManyJoin S E R F =
+    (step : S → Stepped S E R F) (n k : ℕ) (s : S) → many step (n + k) s ≡ and_next (many step k) (many step n s)
 
 -- two ends of a run are one
 abbrev pub HasOneEnd : {E R F : Type 0} → (ℕ → Behaviour E R F) → Type 0

@@ -4,11 +4,17 @@
 //! every run, each one law, and do nothing.
 #![tactic(auto)]
 
-ghost use Rattle.ec_runs.specs.Laws.{StepsAreRuns, RunsHaveOneEnd, WhatReachesStaysWithin, ReachesThrough, SeenRunsAreRuns, ReachesAsSeen};
+ghost use Rattle.ec_runs.specs.Laws.{StepsAreRuns, StepsJoin, ManyJoin, RunsHaveOneEnd, WhatReachesStaysWithin, ReachesThrough, SeenRunsAreRuns, ReachesAsSeen};
 
 /// More steps of a step function only add events, and an end or a failure stays.
 pub fn steps_are_runs<S, E, R, F>()
     ensures { StepsAreRuns S E R F }
+{}
+
+/// More steps of a step function are the first of them, and then the others from the state after those.
+pub fn steps_join<S, E, R, F>()
+    ensures steps { StepsJoin S E R F }
+    ensures many { ManyJoin S E R F }
 {}
 
 /// Two ends of a run are one.
