@@ -27,10 +27,10 @@ size-repeated (suc n) a = let h : (repeated n a).size ≡ n * a.size = size-repe
 
 -- ---- a struct has the layout of its members
 
-other : (i n : ℕ) (a b : Layout) → i < n → (if i == n then a else b) ≡ b
+pub other : (i n : ℕ) (a b : Layout) → i < n → (if i == n then a else b) ≡ b
 other i n a b h = grind (arith, nat_tests)
 
-same : (n : ℕ) (a b : Layout) → (if n == n then a else b) ≡ a
+pub same : (n : ℕ) (a b : Layout) → (if n == n then a else b) ≡ a
 same n a b = grind (arith, nat_tests)
 
 -- the layouts below n stay as they are given

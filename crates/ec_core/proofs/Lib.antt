@@ -1,10 +1,17 @@
+pub mod Conversions
+pub mod Filled
+pub mod Calling
+pub mod Depths
 pub mod Growth
 pub mod HeldNumbers
 pub mod Layouts
+pub mod Points
 pub mod Rows
 pub mod Runs
 pub mod Sameness
 pub mod Samples
+pub mod StructLists
+pub mod Steps
 pub mod Suiting
 pub mod TwoRuns
 pub mod TypedRuns

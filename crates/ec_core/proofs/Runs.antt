@@ -1,8 +1,8 @@
 -- The laws of runs, from the one induction over two runs.
-use Rattle.std.proofs.Common.{append-nil, append_assoc, ◌≡◌, ℕ, zero, suc, ◌+◌, ◌*◌, ◌≤◌, Bool, true, false, List, [], ◌∷◌, ◌++◌, Option, Some, None, refl, sym, ap, ◌∙◌, subst, arith, zero-add, eq-eqb}
+use Rattle.std.proofs.Common.{append-nil, append_assoc, ◌≡◌, ℕ, zero, suc, ◌+◌, ◌*◌, ◌≤◌, Bool, true, false, List, [], ◌∷◌, ◌++◌, Option, Some, None, refl, sym, ap, ◌∙◌, subst, arith, zero-add, eq-eqb, eqb-true, drop, ◌≢◌}
 use Rattle.ec_space.specs.Spaces.{holds}
 use Rattle.ec_core.specs.Valid.{IsAddressable}
-use Rattle.std.specs.Prelude.{⊤, IsTrue, IsSomeAnd, ◌==◌, if◌then◌else◌, length, slice_get, nat_lt, pos}
+use Rattle.std.specs.Prelude.{⊤, IsTrue, IsSomeAnd, ◌==◌, if◌then◌else◌, length, slice_get, nat_lt, pos, slice_index}
 use Rattle.std.specs.List.{AllByRecursion}
 use Rattle.ec_iohw.specs.declared.operations.IoOp.{IoOp}
 use Rattle.ec_runs.specs.Behaviours.{BeginWith, GoesOn, Continues}
@@ -10,7 +10,7 @@ use Rattle.ec_core.specs.declared.values.Undefined.TheVariants.{Unset, ConstWrit
 use Rattle.ec_core.specs.declared.values.Value.{Value}
 use Rattle.ec_core.specs.declared.values.Value.TheVariants.{Number}
 use Rattle.ec_core.specs.Accesses.{Access, begun, ended, frame_ended, is_readable, leaf_of, is_fixed, recorded, with_leaf, stored, read_value, write}
-use Rattle.ec_core.specs.Laws.{IsMade, Step, takes_work, reads_port, writes_port, changes_group, reads_leaf, writes_leaf, begins_object, ends_object, ends_frame, Leads, here, onward, IsAtHome, RegistersAreSilent, RunsBySteps, EventsAreAtHome, MoreTurnsOnlyAdd, WorkNeverFalls, AgreeOn, DependsOnBytesRead}
+use Rattle.ec_core.specs.Laws.{IsMade, Step, takes_work, reads_port, writes_port, changes_group, reads_leaf, writes_leaf, begins_object, ends_object, ends_frame, Leads, here, onward, IsAtHome, RegistersAreSilent, RunsBySteps, EventsAreAtHome, MoreTurnsOnlyAdd, WorkNeverFalls, AgreeOn, DependsOnBytesRead, IsLater, HasLaterParts, PartsOnlyAdd, TurnsAreWork, left_of, IsTaken, BytesAreTakenInOrder}
 use Rattle.ec_core.specs.Meaning.{setting, initial_state, run, behaviour_of, state_of}
 use Rattle.ec_core.specs.Plain.{PlainStorage, static, local, param, register, PlainObject, PlainProgram}
 use Rattle.ec_core.specs.PortAccesses.{next_byte, byte_read, bytes_read, number_read, bytes_written, updated, no_value, port_accessed, is_open, within, opened, port_effect}
@@ -18,63 +18,10 @@ use Rattle.ec_core.specs.PortOperations.{PortAction, reads, writes, updates, por
 use Rattle.ec_core.specs.PortTable.{PlainPort, PlainTable}
 use Rattle.ec_core.specs.State.{Inputs, Setting, Event, In, Out, Read, Write, reads_of, told, State, with_event, worked, with_object, with_group, Outcome, got, more, undefined, next}
 use Rattle.ec_core.specs.Statements.{Exit, turns, calls_within}
-use Rattle.ec_core.proofs.Growth.{leads_on, itself, Grows, still, turns_grow, bytes_read_leads, bytes_written_leads}
-use Rattle.ec_core.proofs.TwoRuns.{Both, IsKept, rests, after_work, onwards, again_both, tested_both, call_both}
-
--- ---- what steps do
-
--- a step adds at most one event, which is at home
-record Added (w : Setting) (s t : State) : Type 0 where
-  added : List Event
-  is : t.events ≡ s.events ++ added
-  home : AllByRecursion (IsAtHome w.program) added
-  work : s.work ≤ t.work
-
-none_added : (w : Setting) (s t : State) → t.events ≡ s.events → s.work ≤ t.work → Added w s t
-none_added w s t e le = record { added = []; is = e ∙ sym (append-nil s.events); home = tt; work = le }
-
-one_added : (w : Setting) (s t : State) (e : Event) → t.events ≡ s.events ++ e ∷ [] → IsAtHome w.program e → s.work ≤ t.work → Added w s t
-one_added w s t e is h le = record { added = e ∷ []; is = is; home = (h, tt); work = le }
-
--- a named register adds none
-record_added : (w : Setting) (s : State) (storage : PlainStorage) (e : Event) (t : State) → t.events ≡ s.events → s.work ≤ t.work → (IsAddressable storage → IsAtHome w.program e) → Added w s (recorded storage e t)
-record_added w s (static inits) e t same le h = one_added w s _ e (ap (λ es. es ++ e ∷ []) same) (h tt) le
-record_added w s (local f) e t same le h = one_added w s _ e (ap (λ es. es ++ e ∷ []) same) (h tt) le
-record_added w s (param f) e t same le h = one_added w s _ e (ap (λ es. es ++ e ∷ []) same) (h tt) le
-record_added w s (register r) e t same le h = none_added w s t same le
-
-made_home : (program : PlainProgram) (s : State) (a : Access) → IsMade program s a → IsAddressable a.declared.storage → IsSomeAnd (slice_get program.objects a.object) (λ x. IsTrue (holds a.space x.home) × IsAddressable x.storage)
-made_home program s a m l = subst (λ (o : Option PlainObject). IsSomeAnd o (λ x. IsTrue (holds a.space x.home) × IsAddressable x.storage)) (sym m.declared) (m.home, l)
-
-step_adds : (w : Setting) (s t : State) → Step w s t → Added w s t
-step_adds w s t (takes_work words e) = subst (Added w s) (sym e) (none_added w s (worked words s) refl (omega arith))
-step_adds w s t (reads_port port e) = subst (Added w s) (sym e) (one_added w s (byte_read w.inputs port s) _ refl tt (omega arith))
-step_adds w s t (writes_port port byte e) = subst (Added w s) (sym e) (one_added w s (with_event (Out port byte) s) _ refl tt (omega arith))
-step_adds w s t (changes_group g acquired e) = subst (Added w s) (sym e) (none_added w s (with_group g acquired s) refl (omega arith))
-step_adds w s t (reads_leaf a v m l e) = subst (Added w s) (sym e) (record_added w s a.declared.storage _ s refl (omega arith) (made_home w.program s a m))
-step_adds w s t (writes_leaf a v m e) = subst (Added w s) (sym e) (record_added w s a.declared.storage _ (with_object a.object (with_leaf a.leaf v) s) refl (omega arith) (made_home w.program s a m))
-step_adds w s t (begins_object o e) = subst (Added w s) (sym e) (none_added w s (begun w.program o s) refl (omega arith))
-step_adds w s t (ends_object o e) = subst (Added w s) (sym e) (none_added w s (with_object o ended s) refl (omega arith))
-step_adds w s t (ends_frame f e) = subst (Added w s) (sym e) (none_added w s (frame_ended w.program f s) refl (omega arith))
-
-all_append : {X : Type 0} (P : X → Type 0) (xs ys : List X) → AllByRecursion P xs → AllByRecursion P ys → AllByRecursion P (xs ++ ys)
-all_append P [] ys a b = b
-all_append P (x ∷ xs) ys a b = (a.0, all_append P xs ys a.1 b)
-
-leads_add : (w : Setting) (s t : State) → Leads w s t → Added w s t
-leads_add w s t (here _ e) = subst (Added w s) e (none_added w s s refl (omega arith))
-leads_add w s t (onward r _ a b) =
-    let f = leads_add w s r a in
-    let g = step_adds w r t b in
-    record {
-      added = f.added ++ g.added;
-      is = g.is ∙ ap (λ l. l ++ g.added) f.is ∙ append_assoc s.events f.added g.added;
-      home = all_append (IsAtHome w.program) f.added g.added f.home g.home;
-      work = omega (arith, f.work, g.work);
-    }
-
-pub leads_begin : (w : Setting) (s t : State) → Leads w s t → BeginWith s.events t.events
-leads_begin w s t l = let a = leads_add w s t l in record { added = a.added; is = a.is }
+use Rattle.ec_core.specs.Words.{loop_words}
+use Rattle.ec_core.proofs.Growth.{IsSpent, Grows, still, turns_grow, bytes_read_leads, bytes_written_leads}
+use Rattle.ec_core.proofs.Steps.{leads_on, itself, leads_add, leads_begin}
+use Rattle.ec_core.proofs.TwoRuns.{Both, IsKept, rests, after_work, onwards, again_both, tested_both, values_both, places_both, rows_both, effects_both, firsts_both, call_both}
 
 -- ---- one run
 
@@ -82,21 +29,51 @@ module _ (program : PlainProgram) (table : PlainTable) (inputs : Inputs) where
   abbrev Always : (A : Type 0) → Outcome A → Outcome A → Type 0
   Always A o q = ⊤
 
-  always_kept : IsKept program table inputs inputs Always
-  always_kept = record { same = λ A o. tt; onward = λ A B o q f g e h. tt }
+  abbrev own : Setting
+  own = setting program table inputs
 
-  lead_calls : (n depth f : ℕ) (xs : List Value) (s : State) → Both program table inputs inputs Always s (calls_within (setting program table inputs) n depth f xs s) (calls_within (setting program table inputs) n depth f xs s)
-  lead_calls n zero f xs s = rests program table inputs inputs Always always_kept s refl
-  lead_calls n (suc depth) f xs s =
-      call_both program table inputs inputs Always always_kept (λ op port i x t. tt) (calls_within (setting program table inputs) n depth) (calls_within (setting program table inputs) n depth) (lead_calls n depth) n n
-      (λ body other test probe b t u. record {
-        related = tt;
-        first = turns_grow (setting program table inputs) n body test (λ z. (b z).first) (λ z. (t z).first) u;
-        second = turns_grow (setting program table inputs) n other probe (λ z. (b z).second) (λ z. (t z).second) u;
-      }) f (slice_get program.functions f) xs s
+  -- what is out of turns has done the least work of n turns
+  module _ (least n : ℕ) (le : least ≤ loop_words * n) where
+    always_kept : IsKept program table inputs inputs least Always
+    always_kept = record { same = λ A o. tt; onward = λ A B o q f g e h. tt }
+
+    lead_turns : (body other : State → Outcome Exit) (test probe : State → Outcome Bool) → ((s : State) → Both program table inputs inputs least Always s (body s) (other s)) → ((s : State) → Both program table inputs inputs least Always s (test s) (probe s)) → (s : State) → Both program table inputs inputs least Always s (turns n body test s) (turns n other probe s)
+    lead_turns body other test probe b t u = record {
+      related = tt;
+      first = turns_grow own least n body test (λ z. (b z).first) (λ z. (t z).first) u (omega (arith, le));
+      second = turns_grow own least n other probe (λ z. (b z).second) (λ z. (t z).second) u (omega (arith, le));
+    }
+
+    lead_calls : (depth f : ℕ) (xs : List Value) (s : State) → Both program table inputs inputs least Always s (calls_within own n depth f xs s) (calls_within own n depth f xs s)
+    lead_calls zero f xs s = rests program table inputs inputs least Always always_kept s refl tt
+    lead_calls (suc depth) f xs s =
+        call_both program table inputs inputs least Always always_kept (λ op port i x t. tt) (calls_within own n depth) (calls_within own n depth) (lead_calls depth) n n lead_turns f (slice_get program.functions f) xs s
+
+  pub calls_grow : (n depth f : ℕ) (xs : List Value) (s : State) → Grows own 0 s (calls_within own n depth f xs s)
+  calls_grow n depth f xs s = (lead_calls 0 n (omega arith) depth f xs s).first
+
+  later : {A : Type 0} {s : State} {o : Outcome A} → Grows own 0 s o → IsLater own s o
+  later {A} {s} {o} g = let a = leads_add own s _ g.leads in record { steps = g.leads; events = leads_begin own s _ g.leads; work = a.work }
+
+  pub parts_later : HasLaterParts own
+  parts_later = record {
+    values = λ n depth e s. later (values_both program table inputs inputs 0 Always (always_kept 0 n (omega arith)) (λ op port i x t. tt) (calls_within own n depth) (calls_within own n depth) (lead_calls 0 n (omega arith) depth) e s).first;
+    places = λ n depth p s. later (places_both program table inputs inputs 0 Always (always_kept 0 n (omega arith)) (λ op port i x t. tt) (calls_within own n depth) (calls_within own n depth) (lead_calls 0 n (omega arith) depth) p s).first;
+    arguments = λ n depth es s. later (rows_both program table inputs inputs 0 Always (always_kept 0 n (omega arith)) (λ op port i x t. tt) (calls_within own n depth) (calls_within own n depth) (lead_calls 0 n (omega arith) depth) es s).first;
+    statements = λ n depth a s. later (effects_both program table inputs inputs 0 Always (always_kept 0 n (omega arith)) (λ op port i x t. tt) (calls_within own n depth) (calls_within own n depth) (lead_calls 0 n (omega arith) depth) n n (lead_turns 0 n (omega arith)) a s).first;
+    first_parts = λ n depth a s. later (firsts_both program table inputs inputs 0 Always (always_kept 0 n (omega arith)) (λ op port i x t. tt) (calls_within own n depth) (calls_within own n depth) (lead_calls 0 n (omega arith) depth) n n (lead_turns 0 n (omega arith)) a s).first;
+    calls = λ n depth f xs s. later (lead_calls 0 n (omega arith) depth f xs s).first;
+  }
+
+pub parts_only_add : PartsOnlyAdd
+parts_only_add program table inputs = parts_later program table inputs
 
 pub runs_lead : RunsBySteps
-runs_lead program table inputs n = (lead_calls program table inputs n (length program.functions) program.main [] (initial_state program table)).first.leads
+runs_lead program table inputs n = ((parts_later program table inputs).calls n (length program.functions) program.main [] (initial_state program table)).steps
+
+pub turns_are_work : TurnsAreWork
+turns_are_work program table inputs n s e =
+    subst (IsSpent (loop_words * n)) e (lead_calls program table inputs (loop_words * n) n (omega arith) (length program.functions) program.main [] (initial_state program table)).first.spent
 
 -- ---- more turns
 
@@ -112,35 +89,35 @@ module _ (program : PlainProgram) (table : PlainTable) (inputs : Inputs) where
   extends_same A (more s) = itself s
   extends_same A (undefined point s) = refl
 
-  leads_next : (A B : Type 0) (s : State) (q : Outcome A) (g : A → State → Outcome B) → Leads (setting program table inputs) s (state_of q) → ((x : A) (t : State) → Grows (setting program table inputs) t (g x t)) → Leads (setting program table inputs) s (state_of (next q g))
+  leads_next : (A B : Type 0) (s : State) (q : Outcome A) (g : A → State → Outcome B) → Leads (setting program table inputs) s (state_of q) → ((x : A) (t : State) → Grows (setting program table inputs) 0 t (g x t)) → Leads (setting program table inputs) s (state_of (next q g))
   leads_next A B s (got x t) g l h = leads_on l (h x t).leads
   leads_next A B s (more t) g l h = l
   leads_next A B s (undefined point t) g l h = l
 
-  extends_onward : (A B : Type 0) (o q : Outcome A) (f g : A → State → Outcome B) → Extends A o q → ((x : A) (s : State) → Both program table inputs inputs Extends s (f x s) (g x s)) → Extends B (next o f) (next q g)
+  extends_onward : (A B : Type 0) (o q : Outcome A) (f g : A → State → Outcome B) → Extends A o q → ((x : A) (s : State) → Both program table inputs inputs 0 Extends s (f x s) (g x s)) → Extends B (next o f) (next q g)
   extends_onward A B (got x s) q f g e h = subst (λ (p : Outcome A). Extends B (f x s) (next p g)) (sym e) (h x s).related
   extends_onward A B (more s) q f g e h = leads_next A B s q g e (λ x t. (h x t).second)
   extends_onward A B (undefined point s) q f g e h = ap (λ (p : Outcome A). next p g) e
 
-  extends_kept : IsKept program table inputs inputs Extends
+  extends_kept : IsKept program table inputs inputs 0 Extends
   extends_kept = record { same = extends_same; onward = extends_onward }
 
   abbrev Longer : {A : Type 0} → State → Outcome A → Outcome A → Type 0
-  Longer s o q = Both program table inputs inputs Extends s o q
+  Longer s o q = Both program table inputs inputs 0 Extends s o q
 
-  turns_extend : (n k : ℕ) → n ≤ k → (body other : State → Outcome Exit) (test probe : State → Outcome Bool) → ((s : State) → Both program table inputs inputs Extends s (body s) (other s)) → ((s : State) → Both program table inputs inputs Extends s (test s) (probe s)) → (s : State) → Both program table inputs inputs Extends s (turns n body test s) (turns k other probe s)
+  turns_extend : (n k : ℕ) → n ≤ k → (body other : State → Outcome Exit) (test probe : State → Outcome Bool) → ((s : State) → Both program table inputs inputs 0 Extends s (body s) (other s)) → ((s : State) → Both program table inputs inputs 0 Extends s (test s) (probe s)) → (s : State) → Both program table inputs inputs 0 Extends s (turns n body test s) (turns k other probe s)
   turns_extend zero k le body other test probe b t s =
-      let g : Grows (setting program table inputs) s (turns k other probe s) = turns_grow (setting program table inputs) k other probe (λ z. (b z).second) (λ z. (t z).second) s in
-      record { related = g.leads; first = still (setting program table inputs) s refl; second = g }
+      let g : Grows (setting program table inputs) 0 s (turns k other probe s) = turns_grow (setting program table inputs) 0 k other probe (λ z. (b z).second) (λ z. (t z).second) s (omega arith) in
+      record { related = g.leads; first = still (setting program table inputs) 0 s refl (omega arith); second = g }
   turns_extend (suc n) zero le body other test probe b t s = absurd (omega arith)
   turns_extend (suc n) (suc k) le body other test probe b t s =
-      after_work program table inputs inputs Extends extends_kept _ s (onwards program table inputs inputs Extends extends_kept (b _) (λ x u.
-      again_both program table inputs inputs Extends extends_kept x u _ _ (tested_both program table inputs inputs Extends extends_kept (t u) (λ z. turns_extend n k (omega arith) body other test probe b t z))))
+      after_work program table inputs inputs 0 Extends extends_kept _ s (onwards program table inputs inputs 0 Extends extends_kept (b _) (λ x u.
+      again_both program table inputs inputs 0 Extends extends_kept x u _ _ (tested_both program table inputs inputs 0 Extends extends_kept (t u) (λ z. turns_extend n k (omega arith) body other test probe b t z))))
 
-  calls_extend : (n k : ℕ) → n ≤ k → (depth f : ℕ) (xs : List Value) (s : State) → Both program table inputs inputs Extends s (calls_within (setting program table inputs) n depth f xs s) (calls_within (setting program table inputs) k depth f xs s)
-  calls_extend n k le zero f xs s = rests program table inputs inputs Extends extends_kept s refl
+  calls_extend : (n k : ℕ) → n ≤ k → (depth f : ℕ) (xs : List Value) (s : State) → Both program table inputs inputs 0 Extends s (calls_within (setting program table inputs) n depth f xs s) (calls_within (setting program table inputs) k depth f xs s)
+  calls_extend n k le zero f xs s = rests program table inputs inputs 0 Extends extends_kept s refl tt
   calls_extend n k le (suc depth) f xs s =
-      call_both program table inputs inputs Extends extends_kept (λ op port i x t. extends_same Value _) (calls_within (setting program table inputs) n depth) (calls_within (setting program table inputs) k depth) (calls_extend n k le depth) n k
+      call_both program table inputs inputs 0 Extends extends_kept (λ op port i x t. extends_same Value _) (calls_within (setting program table inputs) n depth) (calls_within (setting program table inputs) k depth) (calls_extend n k le depth) n k
       (turns_extend n k le) f (slice_get program.functions f) xs s
 
   run_extends : (n k : ℕ) → n ≤ k → Extends Value (run program table inputs n) (run program table inputs k)
@@ -229,13 +206,13 @@ module _ (program : PlainProgram) (table : PlainTable) (a b : Inputs) where
   abbrev Agrees : (A : Type 0) → Outcome A → Outcome A → Type 0
   Agrees A o q = AgreeOn (state_of o).events a b → o ≡ q
 
-  agrees_onward : (A B : Type 0) (o q : Outcome A) (f g : A → State → Outcome B) → Agrees A o q → ((x : A) (s : State) → Both program table a b Agrees s (f x s) (g x s)) → Agrees B (next o f) (next q g)
+  agrees_onward : (A B : Type 0) (o q : Outcome A) (f g : A → State → Outcome B) → Agrees A o q → ((x : A) (s : State) → Both program table a b 0 Agrees s (f x s) (g x s)) → Agrees B (next o f) (next q g)
   agrees_onward A B (got x s) q f g e h agree =
       subst (λ (p : Outcome A). f x s ≡ next p g) (e (agree_in s _ (h x s).first.leads agree)) ((h x s).related agree)
   agrees_onward A B (more s) q f g e h agree = ap (λ (p : Outcome A). next p g) (e agree)
   agrees_onward A B (undefined point s) q f g e h agree = ap (λ (p : Outcome A). next p g) (e agree)
 
-  agrees_kept : IsKept program table a b Agrees
+  agrees_kept : IsKept program table a b 0 Agrees
   agrees_kept = record { same = λ A o agree. refl; onward = agrees_onward }
 
   -- ports
@@ -247,7 +224,7 @@ module _ (program : PlainProgram) (table : PlainTable) (a b : Inputs) where
   reads_alike : (n port : ℕ) (s : State) → AgreeOn (bytes_read a n port s).events a b → IsReadAlike n port s
   reads_alike zero port s agree = record { state = refl; number = refl }
   reads_alike (suc n) port s agree =
-      let before : AgreeOn (byte_read a port s).events a b = agree_in _ _ (bytes_read_leads (setting program table a) n (port + 1) (byte_read a port s)) agree in
+      let before : AgreeOn (byte_read a port s).events a b = agree_in _ _ (bytes_read_leads (setting program table a) 0 n (port + 1) (byte_read a port s)) agree in
       let count : reads_of port (byte_read a port s).events ≡ reads_of port s.events + 1 = reads_of-read port (next_byte a port s) s.events in
       let byte : next_byte a port s ≡ next_byte b port s = before port (reads_of port s.events) (omega arith) in
       let after_one : byte_read a port s ≡ byte_read b port s = ap (λ x. with_event (In port x) s) byte in
@@ -263,7 +240,7 @@ module _ (program : PlainProgram) (table : PlainTable) (a b : Inputs) where
       ap (λ m. got (Number (pos m)) (bytes_read a width port s)) r.number ∙ ap (got (Number (pos (number_read b width port s)))) r.state
   accessed_alike writes op width port x s agree = refl
   accessed_alike updates op width port x s agree =
-      let r = reads_alike width port s (agree_in _ _ (bytes_written_leads (setting program table a) width port _ (bytes_read a width port s)) agree) in
+      let r = reads_alike width port s (agree_in _ _ (bytes_written_leads (setting program table a) 0 width port _ (bytes_read a width port s)) agree) in
       ap (λ m. got no_value (bytes_written width port (updated op m x) (bytes_read a width port s))) r.number ∙ ap (λ t. got no_value (bytes_written width port (updated op (number_read b width port s) x) t)) r.state
 
   within_alike : (c : Bool) (op : IoOp) (port : PlainPort) (i x : ℕ) (s : State) → Agrees Value (within a c op port i x s) (within b c op port i x s)
@@ -278,17 +255,48 @@ module _ (program : PlainProgram) (table : PlainTable) (a b : Inputs) where
   effect_alike op None i x s agree = refl
   effect_alike op (Some port) i x s agree = opened_alike (is_open port.group s) op port _ _ s agree
 
-  turns_agree : (n : ℕ) (body other : State → Outcome Exit) (test probe : State → Outcome Bool) → ((s : State) → Both program table a b Agrees s (body s) (other s)) → ((s : State) → Both program table a b Agrees s (test s) (probe s)) → (s : State) → Both program table a b Agrees s (turns n body test s) (turns n other probe s)
-  turns_agree zero body other test probe c t s = rests program table a b Agrees agrees_kept s refl
+  turns_agree : (n : ℕ) (body other : State → Outcome Exit) (test probe : State → Outcome Bool) → ((s : State) → Both program table a b 0 Agrees s (body s) (other s)) → ((s : State) → Both program table a b 0 Agrees s (test s) (probe s)) → (s : State) → Both program table a b 0 Agrees s (turns n body test s) (turns n other probe s)
+  turns_agree zero body other test probe c t s = rests program table a b 0 Agrees agrees_kept s refl (omega arith)
   turns_agree (suc n) body other test probe c t s =
-      after_work program table a b Agrees agrees_kept _ s (onwards program table a b Agrees agrees_kept (c _) (λ x u.
-      again_both program table a b Agrees agrees_kept x u _ _ (tested_both program table a b Agrees agrees_kept (t u) (λ z. turns_agree n body other test probe c t z))))
+      after_work program table a b 0 Agrees agrees_kept _ s (onwards program table a b 0 Agrees agrees_kept (c _) (λ x u.
+      again_both program table a b 0 Agrees agrees_kept x u _ _ (tested_both program table a b 0 Agrees agrees_kept (t u) (λ z. turns_agree n body other test probe c t z))))
 
-  calls_agree : (n depth f : ℕ) (xs : List Value) (s : State) → Both program table a b Agrees s (calls_within (setting program table a) n depth f xs s) (calls_within (setting program table b) n depth f xs s)
-  calls_agree n zero f xs s = rests program table a b Agrees agrees_kept s refl
+  calls_agree : (n depth f : ℕ) (xs : List Value) (s : State) → Both program table a b 0 Agrees s (calls_within (setting program table a) n depth f xs s) (calls_within (setting program table b) n depth f xs s)
+  calls_agree n zero f xs s = rests program table a b 0 Agrees agrees_kept s refl tt
   calls_agree n (suc depth) f xs s =
-      call_both program table a b Agrees agrees_kept effect_alike (calls_within (setting program table a) n depth) (calls_within (setting program table b) n depth) (calls_agree n depth) n n
+      call_both program table a b 0 Agrees agrees_kept effect_alike (calls_within (setting program table a) n depth) (calls_within (setting program table b) n depth) (calls_agree n depth) n n
       (turns_agree n) f (slice_get program.functions f) xs s
 
 pub depends_on_bytes_read : DependsOnBytesRead
 depends_on_bytes_read program table a b n = (calls_agree program table a b n (length program.functions) program.main [] (initial_state program table)).related
+
+-- ---- the bytes that are left
+
+reads_of-other : (port other byte : ℕ) (es : List Event) → other ≢ port → reads_of other (es ++ In port byte ∷ []) ≡ reads_of other es
+reads_of-other port other byte es h = reads_of-append other es (In port byte ∷ []) ∙ by_test (port == other) refl
+  where
+    by_test : (c : Bool) → (port == other) ≡ c → reads_of other es + (if c then 1 + 0 else 0) ≡ reads_of other es
+    by_test true e = absurd (h (sym (eqb-true port other e)))
+    by_test false e = omega arith
+
+first_left : (xs : List ℕ) (k : ℕ) → slice_index xs k ≡ slice_index (drop k xs) 0
+first_left [] zero = refl
+first_left [] (suc k) = refl
+first_left (x ∷ xs) zero = refl
+first_left (x ∷ xs) (suc k) = first_left xs k
+
+rest_after : (xs : List ℕ) (k : ℕ) → drop (suc k) xs ≡ drop 1 (drop k xs)
+rest_after [] zero = refl
+rest_after [] (suc k) = refl
+rest_after (x ∷ xs) zero = refl
+rest_after (x ∷ xs) (suc k) = rest_after xs k
+
+rest_left : (xs : List ℕ) (k : ℕ) → drop (k + 1) xs ≡ drop 1 (drop k xs)
+rest_left xs k = let n : k + 1 ≡ suc k = omega arith in ap (λ j. drop j xs) n ∙ rest_after xs k
+
+pub bytes_are_taken_in_order : BytesAreTakenInOrder
+bytes_are_taken_in_order inputs port s = record {
+  first = first_left (inputs port) (reads_of port s.events);
+  rest = ap (λ k. drop k (inputs port)) (reads_of-read port (next_byte inputs port s) s.events) ∙ rest_left (inputs port) (reads_of port s.events);
+  others = λ other h. ap (λ k. drop k (inputs other)) (reads_of-other port other (next_byte inputs port s) s.events h);
+}

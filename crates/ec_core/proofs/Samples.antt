@@ -13,14 +13,15 @@ use Rattle.ec_space.specs.declared.space.SpaceId.TheVariants.{Flash, Generic}
 use Rattle.ec_runs.specs.Behaviours.{Running, Ended, Failed}
 use Rattle.ec_core.specs.declared.expressions.BinOp.TheVariants.{Add, Sub, Div, Shl, Lt, Eq}
 use Rattle.ec_core.specs.declared.programs.LeafInit.TheVariants.{Number as TheNumber, Address}
-use Rattle.ec_core.specs.declared.values.Undefined.TheVariants.{ZeroDivisor, ShiftCount, FixedOverflow, WholePart, Access, Unset, ConstWrite, Narrowing, Unrelated, StalePointer, PointerRange, ClosedPort, BufferIndex, NoResult}
-use Rattle.ec_core.specs.Plain.{PlainType, void, integer, fixed, pointer, array, struct, PlainStruct, PlainExpr, expression, PlainNode, number, load, address_of, binary, convert, assign, compound, step, call, io, group, object, deref, member, no_expr, an_expr, PlainExprs, last_expr, next_expr, PlainStmt, statement, PlainKind, empty, evaluate, block, declare, for_loop, return_value, no_stmt, a_stmt, PlainStmts, last_stmt, next_stmt, PlainStorage, static, local, param, register, PlainObject, PlainFunction, PlainProgram}
+use Rattle.ec_core.specs.declared.values.Undefined.TheVariants.{ZeroDivisor, ShiftCount, FixedOverflow, WholePart, Access, Unset, ConstWrite, Narrowing, Unrelated, PointerUse, PointerRange, ClosedPort, BufferIndex, NoResult}
+use Rattle.ec_core.specs.Plain.{PlainType, void, integer, fixed, pointer, array, struct, PlainStruct, PlainExpr, expression, PlainNode, number, load, address_of, binary, convert, assign, compound, step, call, io, group, object, deref, member, no_expr, an_expr, PlainExprs, last_expr, next_expr, PlainStmt, statement, PlainKind, empty, evaluate, block, declare, while_loop, for_loop, break_loop, return_value, no_stmt, a_stmt, PlainStmts, last_stmt, next_stmt, PlainStorage, static, local, param, register, PlainObject, PlainFunction, PlainProgram}
 use Rattle.ec_core.specs.PortTable.{PlainTable}
 use Rattle.ec_core.specs.State.{Event, In, Out, Read, Write}
 use Rattle.ec_core.specs.Typing.{int, unsigned_int}
 use Rattle.ec_core.specs.Meaning.{source, work}
 use Rattle.ec_core.specs.Needs.{stmt_calls}
-use Rattle.ec_core.specs.Valid.{ShareNoRegister, IsExprType, ValidExpr, ValidStmt, Reaches, calls, calls_through, Valid}
+use Rattle.ec_core.specs.Weight.{weight}
+use Rattle.ec_core.specs.Valid.{ShareNoRegister, HaveOwnNames, IsExprType, ValidExpr, ValidStmt, Reaches, calls, calls_through, Valid}
 
 abbrev plain_mode : Mode
 plain_mode = record { saturate = false }
@@ -93,6 +94,28 @@ counting_goes_on = refl
 
 counting_work : work counting no_ports silent 1 ≡ 64 * 2560
 counting_work = refl
+
+counting_weight : weight counting no_ports ≡ 2180
+counting_weight = refl
+
+-- int main(void) { while (1) for (break; ; ) ; return 0; }, as a tree: how the first part was left is passed on
+abbrev leaving : PlainProgram
+leaving = program [] (function int [] (does (while_loop (num 1) (does (for_loop (a_stmt (does break_loop)) None None (does empty)))) ∷ does (return_value (Some (num 0))) ∷ []) ∷ [])
+
+leaving_ends : source leaving no_ports silent 1 ≡ Ended [] (pos 0)
+leaving_ends = refl
+
+-- int main(void) { int s = 1; s += (s = 3); return s; }: the old value is read before the right side
+abbrev updating : PlainProgram
+updating = program (variable int (local 0) ∷ [])
+    (function int [] (
+    does (declare 0 (exprs (num 1 ∷ [])))
+    ∷ does (evaluate (typed int (compound Add plain_mode (object 0) (set 0 (num 3)))))
+    ∷ does (return_value (Some (of 0)))
+    ∷ []) ∷ [])
+
+updating_reads_first : source updating no_ports silent 0 ≡ Ended (wr 0 1 ∷ rd 0 1 ∷ wr 0 3 ∷ wr 0 4 ∷ rd 0 4 ∷ []) (pos 4)
+updating_reads_first = refl
 
 -- ---- pointers
 
@@ -297,7 +320,7 @@ comparing n = program two (function int [] (does (return_value (Some (typed int 
 comparing_apart : source (comparing 0) no_ports silent 0 ≡ Ended [] (pos 0)
 comparing_apart = refl
 
-comparing_past : source (comparing 1) no_ports silent 0 ≡ Failed StalePointer
+comparing_past : source (comparing 1) no_ports silent 0 ≡ Failed PointerUse
 comparing_past = refl
 
 -- ---- members, and named registers
@@ -365,6 +388,14 @@ locals_apart (suc i) zero d l m = absurd (omega (arith, l))
 locals_apart (suc i) (suc zero) d l m = absurd (omega (arith, l))
 locals_apart (suc i) (suc (suc j)) d l m = absurd (omega (arith, m))
 
+locals_named : (i j : ℕ) (d : PlainObject) → i < j → j < 2 → HaveOwnNames (slice_index_or (pointing 1).objects i d) (slice_index_or (pointing 1).objects j d)
+locals_named zero zero d l m = absurd (omega (arith, l))
+locals_named zero (suc zero) d l m = λ e f. cc
+locals_named zero (suc (suc j)) d l m = absurd (omega (arith, m))
+locals_named (suc i) zero d l m = absurd (omega (arith, l))
+locals_named (suc i) (suc zero) d l m = absurd (omega (arith, l))
+locals_named (suc i) (suc (suc j)) d l m = absurd (omega (arith, m))
+
 -- the type of a pointer to an int
 data_int_known : IsExprType (pointing 1) data_int
 data_int_known = (record { names = tt; form = of_int }, omega arith)
@@ -378,6 +409,7 @@ pointing_valid io_table v = record {
     (record { ty = record { names = tt; form = tt }; some = omega arith; small = omega arith; home = refl; storage = (omega arith, refl) }, tt),
   );
   registers = locals_apart;
+  externals = locals_named;
   functions = (
     record {
       params = tt;

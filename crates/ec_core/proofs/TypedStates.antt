@@ -1,12 +1,12 @@
 -- Reads and writes of typed states.
-use Rattle.std.proofs.Common.{◌≡◌, ℕ, zero, suc, ◌+◌, Bool, true, false, ◌&&◌, List, [], ◌∷◌, length, Option, Some, None, refl, sym, ap, ◌∙◌, subst, arith, cond}
-use Rattle.std.specs.Prelude.{◌==◌, if◌then◌else◌, option_and_then, option_map, unwrap_or, slice_get, replicate}
+use Rattle.std.proofs.Common.{◌≡◌, ℕ, zero, suc, ◌+◌, Bool, true, false, ◌&&◌, List, [], ◌∷◌, length, Option, Some, None, refl, sym, ap, ◌∙◌, subst, arith, cond, inl, inr}
+use Rattle.std.specs.Prelude.{⊤, ◌⊎◌, ◌==◌, if◌then◌else◌, option_and_then, option_map, unwrap_or, slice_get, replicate}
 use Rattle.std.specs.List.{position_from}
 use Rattle.ec_space.specs.declared.space.SpaceId.{SpaceId}
 use Rattle.ec_space.specs.Spaces.{holds}
 use Rattle.ec_core.specs.declared.values.ObjectPointer.{ObjectPointer}
 use Rattle.ec_core.specs.declared.values.Undefined.{Undefined}
-use Rattle.ec_core.specs.declared.values.Undefined.TheVariants.{Unset, ConstWrite}
+use Rattle.ec_core.specs.declared.values.Undefined.TheVariants.{Access as NoAccess, Unset, ConstWrite, Invalid}
 use Rattle.ec_core.specs.declared.values.Value.{Value}
 use Rattle.ec_core.specs.Accesses.{is_live_in, is_readable, renewed, ended, leaf_count, begun, all_ended, belongs_to, frame_ended_in, frame_ended, Access, leaf_at, access_of, access, recorded, leaf_of, read_value, read, with_leaf, stored, is_fixed, write, own_access, first_write, initialised}
 use Rattle.ec_core.specs.Laws.{IsMade}
@@ -17,6 +17,7 @@ use Rattle.ec_core.specs.Pointers.{Pointer as PointerValue}
 use Rattle.ec_core.specs.State.{Event, Read, told, ObjectState, State, changed_at, with_object, Outcome, got, more, undefined, next, choose}
 use Rattle.ec_core.specs.ValueTypes.{HasType, IsLeafValue, AreLeafStates, AreObjectStates, IsTypedState, IsSoundOutcome}
 use Rattle.ec_core.proofs.Growth.{and_true, some_if, some_then, some_map, found_access, found_own}
+use Rattle.ec_core.proofs.Points.{IsPoint}
 use Rattle.ec_core.proofs.Sameness.{type_true}
 
 module _ (program : PlainProgram) where
@@ -92,6 +93,13 @@ module _ (program : PlainProgram) where
       object_changed program.objects s.objects o d (renewed (unwrap_or (option_map (λ x. leaf_count program x.ty) (slice_get program.objects o)) 0)) h e
       (λ x k. subst (λ (n : ℕ). AreLeafStates program (leaves d.ty) (replicate n None)) (sym (ap (λ z. unwrap_or (option_map (λ x. leaf_count program x.ty) z) 0) e)) (leaves_unset (leaves d.ty)))
 
+  -- each object has a state
+  pub state_of_object : (os : List PlainObject) (xs : List ObjectState) (o : ℕ) (d : PlainObject) → AreObjectStates program os xs → slice_get os o ≡ Some d → (x : ObjectState) × (slice_get xs o ≡ Some x)
+  state_of_object [] xs o d h e = cc
+  state_of_object (c ∷ os) [] o d h e = absurd h
+  state_of_object (c ∷ os) (y ∷ xs) zero d h e = (y, refl)
+  state_of_object (c ∷ os) (y ∷ xs) (suc o) d h e = state_of_object os xs o d h.1 e
+
   -- there is no state of an object that there is not
   object_none : (os : List PlainObject) (xs : List ObjectState) (o : ℕ) (f : ObjectState → ObjectState) → AreObjectStates program os xs → slice_get os o ≡ None → AreObjectStates program os (changed_at o f xs)
   object_none [] [] o f h e = tt
@@ -115,14 +123,14 @@ module _ (program : PlainProgram) where
     pub is : slice_get (leaves a.declared.ty) a.leaf ≡ Some leaf
     pub typed : leaf.ty ≡ ty
 
-  record IsPlaced {X : Type 0} (q : X → Bool) (i : ℕ) (xs : List X) (k : ℕ) : Type 0 where
-    item : X
-    at : ℕ
-    is : slice_get xs at ≡ Some item
-    counted : k ≡ i + at
-    passes : q item ≡ true
+  pub record IsPlaced {X : Type 0} (q : X → Bool) (i : ℕ) (xs : List X) (k : ℕ) : Type 0 where
+    pub item : X
+    pub at : ℕ
+    pub is : slice_get xs at ≡ Some item
+    pub counted : k ≡ i + at
+    pub passes : q item ≡ true
 
-  placed : {X : Type 0} (q : X → Bool) (i : ℕ) (xs : List X) (k : ℕ) → position_from q i xs ≡ Some k → IsPlaced q i xs k
+  pub placed : {X : Type 0} (q : X → Bool) (i : ℕ) (xs : List X) (k : ℕ) → position_from q i xs ≡ Some k → IsPlaced q i xs k
   placed q i [] k e = cc
   placed {X} q i (x ∷ xs) k e = by_test (q x) refl e (λ f. placed q (i + 1) xs k f)
     where
@@ -136,7 +144,7 @@ module _ (program : PlainProgram) where
       by_test true t f go = first t f
       by_test false t f go = later (go f)
 
-  leaf_found : (d : PlainObject) (ty : PlainType) (offset k : ℕ) → leaf_at program d ty offset ≡ Some k → (leaf : PlainLeaf) × (slice_get (leaves d.ty) k ≡ Some leaf) × (leaf.ty ≡ ty)
+  pub leaf_found : (d : PlainObject) (ty : PlainType) (offset k : ℕ) → leaf_at program d ty offset ≡ Some k → (leaf : PlainLeaf) × (slice_get (leaves d.ty) k ≡ Some leaf) × (leaf.ty ≡ ty)
   leaf_found d ty offset k e =
       let r = placed (λ leaf. leaf.at == offset && same_type leaf.ty ty) 0 (leaves d.ty) k e in
       let n : r.at ≡ k = omega (arith, r.counted) in
@@ -149,7 +157,7 @@ module _ (program : PlainProgram) where
       let l = leaf_found d ty p.offset m.0 m.1 in
       subst (IsOf ty) m.2 (record { leaf = l.0; is = l.1; typed = l.2 })
 
-  of_access : (ty : PlainType) (space : Option SpaceId) (to : PointerValue) (s : State) (a : Access) → access program ty space to s ≡ Some a → IsOf ty a
+  pub of_access : (ty : PlainType) (space : Option SpaceId) (to : PointerValue) (s : State) (a : Access) → access program ty space to s ≡ Some a → IsOf ty a
   of_access ty space to s a h =
       let c = some_then space _ a h in
       let p = some_then to _ a c.2 in
@@ -157,38 +165,7 @@ module _ (program : PlainProgram) where
       let x = some_then (slice_get s.objects p.0.object) _ a d.2 in
       of_access_of ty c.0 p.0 d.0 x.0 a x.2
 
-  -- ---- outcomes
-
-  pub record IsSound {A : Type 0} (P : A → Type 0) (o : Outcome A) : Type 0 where
-    pub is : IsSoundOutcome program P o
-
-  pub sound : {A : Type 0} {P : A → Type 0} (x : A) (s : State) → P x → IsTypedState program s → IsSound P (got x s)
-  sound x s h t = record { is = (h, t) }
-
-  pub no_value : {A : Type 0} {P : A → Type 0} (point : Undefined) (s : State) → IsSound P (undefined point s)
-  no_value point s = record { is = tt }
-
-  pub sound_next : {A B : Type 0} {P : A → Type 0} {Q : B → Type 0} {o : Outcome A} {go : A → State → Outcome B} → IsSound P o → ((x : A) (t : State) → P x → IsTypedState program t → IsSound Q (go x t)) → IsSound Q (next o go)
-  sound_next {A} {B} {P} {Q} {o} {go} r h = by_outcome o r
-    where
-      by_outcome : (o : Outcome A) → IsSound P o → IsSound Q (next o go)
-      by_outcome (got x t) r = h x t r.is.0 r.is.1
-      by_outcome (more t) r = record { is = tt }
-      by_outcome (undefined point t) r = record { is = tt }
-
-  pub sound_as : {A : Type 0} {P Q : A → Type 0} {o : Outcome A} → ((x : A) → P x → Q x) → IsSound P o → IsSound Q o
-  sound_as {A} {P} {Q} {o} h r = by_outcome o r
-    where
-      by_outcome : (o : Outcome A) → IsSound P o → IsSound Q o
-      by_outcome (got x t) r = record { is = (h x r.is.0, r.is.1) }
-      by_outcome (more t) r = record { is = tt }
-      by_outcome (undefined point t) r = record { is = tt }
-
-  pub sound_choose : {A : Type 0} {P : A → Type 0} (h : Bool) (a b : State → Outcome A) (s : State) → IsSound P (a s) → IsSound P (b s) → IsSound P (choose h a b s)
-  sound_choose true a b s p q = p
-  sound_choose false a b s p q = q
-
-  -- ---- reads and writes
+  -- ---- writes
 
   recorded_typed : (storage : PlainStorage) (e : Event) (s : State) → IsTypedState program s → IsTypedState program (recorded storage e s)
   recorded_typed (static inits) e s h = h
@@ -196,44 +173,13 @@ module _ (program : PlainProgram) where
   recorded_typed (param f) e s h = h
   recorded_typed (register r) e s h = h
 
-  read_value_sound : (ty : PlainType) (a : Access) (v : Option Value) (s : State) → leaf_of a.state a.leaf ≡ v → IsMade program s a → IsOf ty a → IsTypedState program s → IsSound (HasType program ty) (read_value program a v s)
-  read_value_sound ty a None s e m o h = no_value Unset s
-  read_value_sound ty a (Some v) s e m o h =
-      let l : AreLeafStates program (leaves a.declared.ty) a.state.leaves = object_typed program.objects s.objects a.object a.declared a.state h m.declared m.state in
-      let t : HasType program o.leaf.ty v = leaf_typed (leaves a.declared.ty) a.state.leaves a.leaf o.leaf v l o.is e in
-      readable (is_readable program v s) (subst (λ (z : PlainType). HasType program z v) o.typed t)
-    where
-      readable : (b : Bool) → HasType program ty v → IsSound (HasType program ty) (if b then got v (recorded a.declared.storage (Read a.object a.leaf a.space (told v)) s) else undefined Unset s)
-      readable true t = sound v _ t (recorded_typed a.declared.storage _ s h)
-      readable false t = no_value Unset s
-
-  read_of_sound : (ty : PlainType) (o : Option Access) (s : State) → ((a : Access) → o ≡ Some a → IsMade program s a) → ((a : Access) → o ≡ Some a → IsOf ty a) → IsTypedState program s → IsSound (HasType program ty) (read program o s)
-  read_of_sound ty None s m i h = no_value _ s
-  read_of_sound ty (Some a) s m i h = read_value_sound ty a (leaf_of a.state a.leaf) s refl (m a refl) (i a refl) h
-
-  pub read_sound : (ty : PlainType) (space : Option SpaceId) (to : PointerValue) (s : State) → IsTypedState program s → IsSound (HasType program ty) (read program (access program ty space to s) s)
-  read_sound ty space to s h = read_of_sound ty _ s (λ a e. found_access program ty space to s a e) (λ a e. of_access ty space to s a e) h
-
   stored_typed : (ty : PlainType) (a : Access) (v : Value) (s : State) → IsMade program s a → IsOf ty a → HasType program ty v → IsTypedState program s → IsTypedState program (stored a v s)
   stored_typed ty a v s m o t h =
       let u : HasType program o.leaf.ty v = subst (λ (z : PlainType). HasType program z v) (sym o.typed) t in
       recorded_typed a.declared.storage _ (with_object a.object (with_leaf a.leaf v) s)
       (object_changed program.objects s.objects a.object a.declared (with_leaf a.leaf v) h m.declared (λ x l. leaf_set (leaves a.declared.ty) x.leaves a.leaf o.leaf v l o.is u))
 
-  write_of_sound : (ty : PlainType) (o : Option Access) (v : Value) (s : State) → ((a : Access) → o ≡ Some a → IsMade program s a) → ((a : Access) → o ≡ Some a → IsOf ty a) → HasType program ty v → IsTypedState program s → IsSound (HasType program ty) (write o v s)
-  write_of_sound ty None v s m i t h = no_value _ s
-  write_of_sound ty (Some a) v s m i t h = fixed_or (is_fixed a.declared)
-    where
-      fixed_or : (b : Bool) → IsSound (HasType program ty) (if b then undefined ConstWrite s else got v (stored a v s))
-      fixed_or true = no_value ConstWrite s
-      fixed_or false = sound v _ t (stored_typed ty a v s (m a refl) (i a refl) t h)
-
-  pub write_sound : (ty : PlainType) (space : Option SpaceId) (to : PointerValue) (v : Value) (s : State) → HasType program ty v → IsTypedState program s → IsSound (HasType program ty) (write (access program ty space to s) v s)
-  write_sound ty space to v s t h = write_of_sound ty _ v s (λ a e. found_access program ty space to s a e) (λ a e. of_access ty space to s a e) t h
-
-  -- ---- first writes
-
-  of_own : (o k : ℕ) (d : PlainObject) (leaf : PlainLeaf) (s : State) (a : Access) → slice_get program.objects o ≡ Some d → slice_get (leaves d.ty) k ≡ Some leaf → own_access program o k s ≡ Some a → IsOf leaf.ty a
+  pub of_own : (o k : ℕ) (d : PlainObject) (leaf : PlainLeaf) (s : State) (a : Access) → slice_get program.objects o ≡ Some d → slice_get (leaves d.ty) k ≡ Some leaf → own_access program o k s ≡ Some a → IsOf leaf.ty a
   of_own o k d leaf s a e l h =
       let c = some_then (slice_get program.objects o) _ a h in
       let x = some_then (slice_get s.objects o) _ a c.2 in
@@ -245,9 +191,84 @@ module _ (program : PlainProgram) where
       same_item : (z : Option PlainObject) (p q : PlainObject) → z ≡ Some p → z ≡ Some q → p ≡ q
       same_item z p q e f = cc
 
-  first_write_sound : (ty : PlainType) (o : Option Access) (v : Value) (s : State) → ((a : Access) → o ≡ Some a → IsMade program s a) → ((a : Access) → o ≡ Some a → IsOf ty a) → HasType program ty v → IsTypedState program s → IsSound (HasType program ty) (first_write o v s)
-  first_write_sound ty None v s m i t h = no_value _ s
-  first_write_sound ty (Some a) v s m i t h = sound v _ t (stored_typed ty a v s (m a refl) (i a refl) t h)
+module _ (program : PlainProgram) (invalid : Type 0) where
+  -- ---- outcomes
 
-  pub initialised_sound : (o k : ℕ) (d : PlainObject) (leaf : PlainLeaf) (v : Value) (s : State) → slice_get program.objects o ≡ Some d → slice_get (leaves d.ty) k ≡ Some leaf → HasType program leaf.ty v → IsTypedState program s → IsSound (HasType program leaf.ty) (initialised program o k v s)
-  initialised_sound o k d leaf v s e l t h = first_write_sound leaf.ty (own_access program o k s) v s (λ a f. found_own program o k s a f) (λ a f. of_own o k d leaf s a e l f) t h
+  -- an undefined point is one of the fourteen, unless what no valid program has may be met
+  abbrev pub IsMet : {A : Type 0} → Outcome A → Type 0
+  IsMet (got x s) = ⊤
+  IsMet (more s) = ⊤
+  IsMet (undefined point s) = IsPoint point ⊎ invalid
+
+  pub record IsSound {A : Type 0} (P : A → Type 0) (o : Outcome A) : Type 0 where
+    pub is : IsSoundOutcome program P o
+    pub met : IsMet o
+
+  pub sound : {A : Type 0} {P : A → Type 0} (x : A) (s : State) → P x → IsTypedState program s → IsSound P (got x s)
+  sound x s h t = record { is = (h, t); met = tt }
+
+  pub no_value : {A : Type 0} {P : A → Type 0} (point : Undefined) (s : State) → IsPoint point → IsSound P (undefined point s)
+  no_value point s h = record { is = tt; met = inl h }
+
+  pub met_invalid : {A : Type 0} {P : A → Type 0} (s : State) → invalid → IsSound P (undefined Invalid s)
+  met_invalid s h = record { is = tt; met = inr h }
+
+  pub sound_next : {A B : Type 0} {P : A → Type 0} {Q : B → Type 0} {o : Outcome A} {go : A → State → Outcome B} → IsSound P o → ((x : A) (t : State) → P x → IsTypedState program t → IsSound Q (go x t)) → IsSound Q (next o go)
+  sound_next {A} {B} {P} {Q} {o} {go} r h = by_outcome o r
+    where
+      by_outcome : (o : Outcome A) → IsSound P o → IsSound Q (next o go)
+      by_outcome (got x t) r = h x t r.is.0 r.is.1
+      by_outcome (more t) r = record { is = tt; met = tt }
+      by_outcome (undefined point t) r = record { is = tt; met = r.met }
+
+  pub sound_as : {A : Type 0} {P Q : A → Type 0} {o : Outcome A} → ((x : A) → P x → Q x) → IsSound P o → IsSound Q o
+  sound_as {A} {P} {Q} {o} h r = by_outcome o r
+    where
+      by_outcome : (o : Outcome A) → IsSound P o → IsSound Q o
+      by_outcome (got x t) r = record { is = (h x r.is.0, r.is.1); met = tt }
+      by_outcome (more t) r = record { is = tt; met = tt }
+      by_outcome (undefined point t) r = record { is = tt; met = r.met }
+
+  pub sound_choose : {A : Type 0} {P : A → Type 0} (h : Bool) (a b : State → Outcome A) (s : State) → IsSound P (a s) → IsSound P (b s) → IsSound P (choose h a b s)
+  sound_choose true a b s p q = p
+  sound_choose false a b s p q = q
+
+  -- ---- reads and writes
+
+  read_value_sound : (ty : PlainType) (a : Access) (v : Option Value) (s : State) → leaf_of a.state a.leaf ≡ v → IsMade program s a → IsOf program ty a → IsTypedState program s → IsSound (HasType program ty) (read_value program a v s)
+  read_value_sound ty a None s e m o h = no_value Unset s tt
+  read_value_sound ty a (Some v) s e m o h =
+      let l : AreLeafStates program (leaves program a.declared.ty) a.state.leaves = object_typed program program.objects s.objects a.object a.declared a.state h m.declared m.state in
+      let t : HasType program o.leaf.ty v = leaf_typed program (leaves program a.declared.ty) a.state.leaves a.leaf o.leaf v l o.is e in
+      readable (is_readable program v s) (subst (λ (z : PlainType). HasType program z v) o.typed t)
+    where
+      readable : (b : Bool) → HasType program ty v → IsSound (HasType program ty) (if b then got v (recorded a.declared.storage (Read a.object a.leaf a.space (told v)) s) else undefined Unset s)
+      readable true t = sound v _ t (recorded_typed program a.declared.storage _ s h)
+      readable false t = no_value Unset s tt
+
+  read_of_sound : (ty : PlainType) (o : Option Access) (s : State) → ((a : Access) → o ≡ Some a → IsMade program s a) → ((a : Access) → o ≡ Some a → IsOf program ty a) → IsTypedState program s → IsSound (HasType program ty) (read program o s)
+  read_of_sound ty None s m i h = no_value NoAccess s tt
+  read_of_sound ty (Some a) s m i h = read_value_sound ty a (leaf_of a.state a.leaf) s refl (m a refl) (i a refl) h
+
+  pub read_sound : (ty : PlainType) (space : Option SpaceId) (to : PointerValue) (s : State) → IsTypedState program s → IsSound (HasType program ty) (read program (access program ty space to s) s)
+  read_sound ty space to s h = read_of_sound ty _ s (λ a e. found_access program ty space to s a e) (λ a e. of_access program ty space to s a e) h
+
+  write_of_sound : (ty : PlainType) (o : Option Access) (v : Value) (s : State) → ((a : Access) → o ≡ Some a → IsMade program s a) → ((a : Access) → o ≡ Some a → IsOf program ty a) → HasType program ty v → IsTypedState program s → IsSound (HasType program ty) (write o v s)
+  write_of_sound ty None v s m i t h = no_value NoAccess s tt
+  write_of_sound ty (Some a) v s m i t h = fixed_or (is_fixed a.declared)
+    where
+      fixed_or : (b : Bool) → IsSound (HasType program ty) (if b then undefined ConstWrite s else got v (stored a v s))
+      fixed_or true = no_value ConstWrite s tt
+      fixed_or false = sound v _ t (stored_typed program ty a v s (m a refl) (i a refl) t h)
+
+  pub write_sound : (ty : PlainType) (space : Option SpaceId) (to : PointerValue) (v : Value) (s : State) → HasType program ty v → IsTypedState program s → IsSound (HasType program ty) (write (access program ty space to s) v s)
+  write_sound ty space to v s t h = write_of_sound ty _ v s (λ a e. found_access program ty space to s a e) (λ a e. of_access program ty space to s a e) t h
+
+  -- ---- first writes
+
+  first_write_sound : (ty : PlainType) (o : Option Access) (v : Value) (s : State) → ((a : Access) → o ≡ Some a → IsMade program s a) → ((a : Access) → o ≡ Some a → IsOf program ty a) → HasType program ty v → IsTypedState program s → IsSound (HasType program ty) (first_write o v s)
+  first_write_sound ty None v s m i t h = no_value NoAccess s tt
+  first_write_sound ty (Some a) v s m i t h = sound v _ t (stored_typed program ty a v s (m a refl) (i a refl) t h)
+
+  pub initialised_sound : (o k : ℕ) (d : PlainObject) (leaf : PlainLeaf) (v : Value) (s : State) → slice_get program.objects o ≡ Some d → slice_get (leaves program d.ty) k ≡ Some leaf → HasType program leaf.ty v → IsTypedState program s → IsSound (HasType program leaf.ty) (initialised program o k v s)
+  initialised_sound o k d leaf v s e l t h = first_write_sound leaf.ty (own_access program o k s) v s (λ a f. found_own program o k s a f) (λ a f. of_own program o k d leaf s a e l f) t h

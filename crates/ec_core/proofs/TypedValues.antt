@@ -27,16 +27,17 @@ use Rattle.ec_core.specs.Operators.{number_type, Operand, as_number, as_pointer,
 use Rattle.ec_core.specs.Plain.{PlainType, void, integer, fixed, pointer, array, struct, PlainObject, PlainProgram}
 use Rattle.ec_core.specs.Pointers.{Pointer as PointerValue, is_usable, used, displaced, moved, same_instance, in_elements, elements_between, difference_of_pointers, ordered, equality, truth_of, compared_pointers, comparison_of_pointers, pointer_in_space}
 use Rattle.ec_core.specs.State.{ObjectState, State}
-use Rattle.ec_core.specs.Typing.{int, IsIntegerType, HaveArithmeticTypes, HavePointerTypes, HaveOffsetTypes, HaveBinaryTypes, HaveUnaryTypes, AreConvertible}
+use Rattle.ec_core.specs.Typing.{int, IsIntegerType, HaveArithmeticTypes, HavePointerTypes, HaveOffsetTypes, IsAdd, HaveBinaryTypes, HaveUnaryTypes, AreConvertible}
 use Rattle.ec_core.specs.ValueTypes.{IsPointerInto, HasType}
+use Rattle.ec_core.proofs.Points.{IsPoint, HasPoint, arithmetic_point, unary_point, conversion_point, compound_point, equality_point}
 use Rattle.ec_core.proofs.HeldNumbers.{Held, int_type, truth_number, arithmetic_held, unary_held, conversion_held, compound_held}
 
 -- ---- facts with a value
 
--- a fact about a result, if it is one
+-- a fact about a result, or one of the fourteen points
 abbrev pub OnValue : {A : Type 0} → (A → Type 0) → Result A Undefined → Type 0
 OnValue P (Ok x) = P x
-OnValue P (Err point) = ⊤
+OnValue P (Err point) = IsPoint point
 
 pub some_and : {A : Type 0} (o : Option A) (P : A → Type 0) → IsSomeAnd o P → (x : A) × (o ≡ Some x) × P x
 some_and None P h = absurd h
@@ -86,9 +87,9 @@ module _ (program : PlainProgram) where
   number_type_is ty t e = ap (λ o. unwrap_or o (Integer (record { signed = true; bytes = 2 }))) e
 
   -- a result of an arithmetic type
-  pub typed_result : (ty : PlainType) (t : Arithmetic) (r : Result ℤ Undefined) → arithmetic_of ty ≡ Some t → Held t r → OnValue (HasType program ty) (as_number r)
-  typed_result ty t (Ok n) e h = type_of_number ty t n e h
-  typed_result ty t (Err point) e h = tt
+  pub typed_result : (ty : PlainType) (t : Arithmetic) (r : Result ℤ Undefined) → arithmetic_of ty ≡ Some t → Held t r → HasPoint r → OnValue (HasType program ty) (as_number r)
+  typed_result ty t (Ok n) e h p = type_of_number ty t n e h
+  typed_result ty t (Err point) e h p = p
 
   pub int_value : (b : Bool) → HasType program int (Number (truth b))
   int_value b = truth_number b
@@ -150,26 +151,32 @@ module _ (program : PlainProgram) where
 
   as_pointer_value : (space : SpaceId) (const : Bool) (to : PlainType) (r : Result PointerValue Undefined) → OnValue (IsPointerInto program space) r → OnValue (HasType program (pointer space const to)) (as_pointer r)
   as_pointer_value space const to (Ok p) h = h
-  as_pointer_value space const to (Err point) h = tt
+  as_pointer_value space const to (Err point) h = h
 
   -- a pointer and a number of elements
-  pub offset_value : (op : BinOp) (space : SpaceId) (const : Bool) (to own : PlainType) (p : PointerValue) (n : ℤ) (s : State) → IsPointerInto program space p → OnValue (HasType program (pointer space const to)) (offset_result op (operand_of program own (Pointer p) s) p n)
-  offset_value Add space const to own p n s h = as_pointer_value space const to _ (moved_value space p s _ h)
-  offset_value Sub space const to own p n s h = as_pointer_value space const to _ (moved_value space p s _ h)
-  offset_value Mul space const to own p n s h = tt
-  offset_value Div space const to own p n s h = tt
-  offset_value Rem space const to own p n s h = tt
-  offset_value Shl space const to own p n s h = tt
-  offset_value Shr space const to own p n s h = tt
-  offset_value And space const to own p n s h = tt
-  offset_value Or space const to own p n s h = tt
-  offset_value Xor space const to own p n s h = tt
-  offset_value Lt space const to own p n s h = tt
-  offset_value Gt space const to own p n s h = tt
-  offset_value Le space const to own p n s h = tt
-  offset_value Ge space const to own p n s h = tt
-  offset_value Eq space const to own p n s h = tt
-  offset_value Ne space const to own p n s h = tt
+  -- a pointer takes a number of elements more or less
+  abbrev pub IsOffset : BinOp → Type 0
+  IsOffset Add = ⊤
+  IsOffset Sub = ⊤
+  IsOffset op = ⊥
+
+  pub offset_value : (op : BinOp) (space : SpaceId) (const : Bool) (to own : PlainType) (p : PointerValue) (n : ℤ) (s : State) → IsOffset op → IsPointerInto program space p → OnValue (HasType program (pointer space const to)) (offset_result op (operand_of program own (Pointer p) s) p n)
+  offset_value Add space const to own p n s o h = as_pointer_value space const to _ (moved_value space p s _ h)
+  offset_value Sub space const to own p n s o h = as_pointer_value space const to _ (moved_value space p s _ h)
+  offset_value Mul space const to own p n s o h = absurd o
+  offset_value Div space const to own p n s o h = absurd o
+  offset_value Rem space const to own p n s o h = absurd o
+  offset_value Shl space const to own p n s o h = absurd o
+  offset_value Shr space const to own p n s o h = absurd o
+  offset_value And space const to own p n s o h = absurd o
+  offset_value Or space const to own p n s o h = absurd o
+  offset_value Xor space const to own p n s o h = absurd o
+  offset_value Lt space const to own p n s o h = absurd o
+  offset_value Gt space const to own p n s o h = absurd o
+  offset_value Le space const to own p n s o h = absurd o
+  offset_value Ge space const to own p n s o h = absurd o
+  offset_value Eq space const to own p n s o h = absurd o
+  offset_value Ne space const to own p n s o h = absurd o
 
   -- two pointers
 
@@ -185,9 +192,9 @@ module _ (program : PlainProgram) where
   ordered_value op (Some p) None = tt
   ordered_value op (Some p) (Some q) = if_value IsInt (same_instance p q) _ _ (compared_value op (nat_cmp p.offset q.offset)) tt
 
-  truth_of_value : (f : Bool → Bool) (r : Result Bool Undefined) → OnValue IsInt (truth_of f r)
-  truth_of_value f (Ok b) = truth_number (f b)
-  truth_of_value f (Err point) = tt
+  truth_of_value : (f : Bool → Bool) (r : Result Bool Undefined) → HasPoint r → OnValue IsInt (truth_of f r)
+  truth_of_value f (Ok b) h = truth_number (f b)
+  truth_of_value f (Err point) h = h
 
   pub comparison_value : (op : BinOp) (p : PointerValue) (of : Referent) (q : PointerValue) (into : Referent) → OnValue IsInt (comparison_of_pointers op p of q into)
   comparison_value op p of q into = used_value IsInt (is_usable p of && is_usable q into) _ (by_operator op)
@@ -207,8 +214,8 @@ module _ (program : PlainProgram) where
       by_operator Gt = ordered_value Gt p q
       by_operator Le = ordered_value Le p q
       by_operator Ge = ordered_value Ge p q
-      by_operator Eq = truth_of_value (λ b. b) (equality p of q into)
-      by_operator Ne = truth_of_value not (equality p of q into)
+      by_operator Eq = truth_of_value (λ b. b) (equality p of q into) (equality_point p of q into)
+      by_operator Ne = truth_of_value not (equality p of q into) (equality_point p of q into)
 
   quotient_size : (z : ℤ) (e : ℕ) → unsigned_abs (int_div z (pos e)) ≤ unsigned_abs z
   quotient_size (pos a) e = div-le_self a e
@@ -244,7 +251,7 @@ module _ (program : PlainProgram) where
       where
         as_int : (r : Result ℤ Undefined) → OnValue IsInt r → OnValue (HasType program int) (as_number r)
         as_int (Ok n) h = h
-        as_int (Err point) h = tt
+        as_int (Err point) h = h
 
     pointer_pair : (op : BinOp) (ty : PlainType) (same : Type 0) → HavePointerTypes op same → same
     pointer_pair Sub ty same h = h
@@ -282,6 +289,42 @@ module _ (program : PlainProgram) where
     offset_integer Eq ty h = absurd h
     offset_integer Ne ty h = absurd h
 
+    pub offset_operator : (op : BinOp) (ty : PlainType) → HaveOffsetTypes op ty → IsOffset op
+    offset_operator Add ty h = tt
+    offset_operator Sub ty h = tt
+    offset_operator Mul ty h = h
+    offset_operator Div ty h = h
+    offset_operator Rem ty h = h
+    offset_operator Shl ty h = h
+    offset_operator Shr ty h = h
+    offset_operator And ty h = h
+    offset_operator Or ty h = h
+    offset_operator Xor ty h = h
+    offset_operator Lt ty h = h
+    offset_operator Gt ty h = h
+    offset_operator Le ty h = h
+    offset_operator Ge ty h = h
+    offset_operator Eq ty h = h
+    offset_operator Ne ty h = h
+
+    sum_operator : (op : BinOp) → IsAdd op → IsOffset op
+    sum_operator Add h = tt
+    sum_operator Sub h = absurd h
+    sum_operator Mul h = h
+    sum_operator Div h = h
+    sum_operator Rem h = h
+    sum_operator Shl h = h
+    sum_operator Shr h = h
+    sum_operator And h = h
+    sum_operator Or h = h
+    sum_operator Xor h = h
+    sum_operator Lt h = h
+    sum_operator Gt h = h
+    sum_operator Le h = h
+    sum_operator Ge h = h
+    sum_operator Eq h = h
+    sum_operator Ne h = h
+
     -- a value of an integer type is a number
     pub integer_number : (ty : PlainType) (v : Value) → IsIntegerType ty → HasType program ty v → (n : ℤ) × (v ≡ Number n)
     integer_number ty v i h =
@@ -294,14 +337,14 @@ module _ (program : PlainProgram) where
     pointer_number op ty mode space const to other (Pointer p) y s o e h k =
         let n = integer_number other y (offset_integer op other o) k in
         subst (λ (z : Value). OnValue (HasType program ty) (binary_result op ty mode (operand_of program (pointer space const to) (Pointer p) s) (operand_of program other z s))) (sym n.1)
-        (subst (λ (u : PlainType). OnValue (HasType program u) (offset_result op (operand_of program (pointer space const to) (Pointer p) s) p n.0)) (sym e) (offset_value op space const to (pointer space const to) p n.0 s h))
+        (subst (λ (u : PlainType). OnValue (HasType program u) (offset_result op (operand_of program (pointer space const to) (Pointer p) s) p n.0)) (sym e) (offset_value op space const to (pointer space const to) p n.0 s (offset_operator op other o) h))
 
-    number_pointer : (op : BinOp) (ty : PlainType) (mode : Mode) (space : SpaceId) (const : Bool) (to other : PlainType) (x y : Value) (s : State) → IsIntegerType other → ty ≡ pointer space const to → HasType program other x → HasType program (pointer space const to) y → OnValue (HasType program ty) (binary_result op ty mode (operand_of program other x s) (operand_of program (pointer space const to) y s))
-    number_pointer op ty mode space const to other x (Number m) s o e h k = absurd k
-    number_pointer op ty mode space const to other x (Pointer q) s o e h k =
+    number_pointer : (op : BinOp) (ty : PlainType) (mode : Mode) (space : SpaceId) (const : Bool) (to other : PlainType) (x y : Value) (s : State) → IsOffset op → IsIntegerType other → ty ≡ pointer space const to → HasType program other x → HasType program (pointer space const to) y → OnValue (HasType program ty) (binary_result op ty mode (operand_of program other x s) (operand_of program (pointer space const to) y s))
+    number_pointer op ty mode space const to other x (Number m) s a o e h k = absurd k
+    number_pointer op ty mode space const to other x (Pointer q) s a o e h k =
         let n = integer_number other x o h in
         subst (λ (z : Value). OnValue (HasType program ty) (binary_result op ty mode (operand_of program other z s) (operand_of program (pointer space const to) (Pointer q) s))) (sym n.1)
-        (subst (λ (u : PlainType). OnValue (HasType program u) (offset_result op (operand_of program (pointer space const to) (Pointer q) s) q n.0)) (sym e) (offset_value op space const to (pointer space const to) q n.0 s k))
+        (subst (λ (u : PlainType). OnValue (HasType program u) (offset_result op (operand_of program (pointer space const to) (Pointer q) s) q n.0)) (sym e) (offset_value op space const to (pointer space const to) q n.0 s a k))
 
     two_pointers : (op : BinOp) (ty : PlainType) (mode : Mode) (a b : SpaceId) (c d : Bool) (t u : PlainType) (x y : Value) (s : State) → ty ≡ int → HasType program (pointer a c t) x → HasType program (pointer b d u) y → OnValue (HasType program ty) (binary_result op ty mode (operand_of program (pointer a c t) x s) (operand_of program (pointer b d u) y s))
     two_pointers op ty mode a b c d t u (Number m) y s e h k = absurd h
@@ -324,25 +367,25 @@ module _ (program : PlainProgram) where
         ∙ ap (λ z. arithmetic_value op t.0 mode (operand a.0 m.n) (operand z n.n)) (number_type_is bty b.0 b.1) in
         subst (λ (z : Value). OnValue (HasType program ty) (binary_result op ty mode (operand_of program aty z s) (operand_of program bty y s))) (sym m.is)
         (subst (λ (z : Value). OnValue (HasType program ty) (binary_result op ty mode (operand_of program aty (Number m.n) s) (operand_of program bty z s))) (sym n.is)
-        (typed_result ty t.0 _ t.1 (subst (λ (z : Result ℤ Undefined). Held t.0 z) (sym f) r)))
+        (typed_result ty t.0 _ t.1 (subst (λ (z : Result ℤ Undefined). Held t.0 z) (sym f) r) (arithmetic_point op (number_type ty) mode (operand (number_type aty) m.n) (operand (number_type bty) n.n))))
 
     pub binary_value : (op : BinOp) (ty aty bty : PlainType) (mode : Mode) (x y : Value) (s : State) → HaveBinaryTypes op ty aty bty → HasType program aty x → HasType program bty y → OnValue (HasType program ty) (binary_result op ty mode (operand_of program aty x s) (operand_of program bty y s))
     binary_value op ty void void mode x y s h j k = two_numbers op ty mode void void x y s h j k
     binary_value op ty void (integer g2 b2) mode x y s h j k = two_numbers op ty mode void (integer g2 b2) x y s h j k
     binary_value op ty void (fixed c2 z2) mode x y s h j k = two_numbers op ty mode void (fixed c2 z2) x y s h j k
-    binary_value op ty void (pointer l2 c2 t2) mode x y s h j k = number_pointer op ty mode l2 c2 t2 void x y s h.1 h.2 j k
+    binary_value op ty void (pointer l2 c2 t2) mode x y s h j k = number_pointer op ty mode l2 c2 t2 void x y s (sum_operator op h.0) h.1 h.2 j k
     binary_value op ty void (array t2 m2) mode x y s h j k = two_numbers op ty mode void (array t2 m2) x y s h j k
     binary_value op ty void (struct i2) mode x y s h j k = two_numbers op ty mode void (struct i2) x y s h j k
     binary_value op ty (integer g1 b1) void mode x y s h j k = two_numbers op ty mode (integer g1 b1) void x y s h j k
     binary_value op ty (integer g1 b1) (integer g2 b2) mode x y s h j k = two_numbers op ty mode (integer g1 b1) (integer g2 b2) x y s h j k
     binary_value op ty (integer g1 b1) (fixed c2 z2) mode x y s h j k = two_numbers op ty mode (integer g1 b1) (fixed c2 z2) x y s h j k
-    binary_value op ty (integer g1 b1) (pointer l2 c2 t2) mode x y s h j k = number_pointer op ty mode l2 c2 t2 (integer g1 b1) x y s h.1 h.2 j k
+    binary_value op ty (integer g1 b1) (pointer l2 c2 t2) mode x y s h j k = number_pointer op ty mode l2 c2 t2 (integer g1 b1) x y s (sum_operator op h.0) h.1 h.2 j k
     binary_value op ty (integer g1 b1) (array t2 m2) mode x y s h j k = two_numbers op ty mode (integer g1 b1) (array t2 m2) x y s h j k
     binary_value op ty (integer g1 b1) (struct i2) mode x y s h j k = two_numbers op ty mode (integer g1 b1) (struct i2) x y s h j k
     binary_value op ty (fixed c1 z1) void mode x y s h j k = two_numbers op ty mode (fixed c1 z1) void x y s h j k
     binary_value op ty (fixed c1 z1) (integer g2 b2) mode x y s h j k = two_numbers op ty mode (fixed c1 z1) (integer g2 b2) x y s h j k
     binary_value op ty (fixed c1 z1) (fixed c2 z2) mode x y s h j k = two_numbers op ty mode (fixed c1 z1) (fixed c2 z2) x y s h j k
-    binary_value op ty (fixed c1 z1) (pointer l2 c2 t2) mode x y s h j k = number_pointer op ty mode l2 c2 t2 (fixed c1 z1) x y s h.1 h.2 j k
+    binary_value op ty (fixed c1 z1) (pointer l2 c2 t2) mode x y s h j k = number_pointer op ty mode l2 c2 t2 (fixed c1 z1) x y s (sum_operator op h.0) h.1 h.2 j k
     binary_value op ty (fixed c1 z1) (array t2 m2) mode x y s h j k = two_numbers op ty mode (fixed c1 z1) (array t2 m2) x y s h j k
     binary_value op ty (fixed c1 z1) (struct i2) mode x y s h j k = two_numbers op ty mode (fixed c1 z1) (struct i2) x y s h j k
     binary_value op ty (pointer l1 c1 t1) void mode x y s h j k = pointer_number op ty mode l1 c1 t1 void x y s h.0 h.1 j k
@@ -354,13 +397,13 @@ module _ (program : PlainProgram) where
     binary_value op ty (array t1 m1) void mode x y s h j k = two_numbers op ty mode (array t1 m1) void x y s h j k
     binary_value op ty (array t1 m1) (integer g2 b2) mode x y s h j k = two_numbers op ty mode (array t1 m1) (integer g2 b2) x y s h j k
     binary_value op ty (array t1 m1) (fixed c2 z2) mode x y s h j k = two_numbers op ty mode (array t1 m1) (fixed c2 z2) x y s h j k
-    binary_value op ty (array t1 m1) (pointer l2 c2 t2) mode x y s h j k = number_pointer op ty mode l2 c2 t2 (array t1 m1) x y s h.1 h.2 j k
+    binary_value op ty (array t1 m1) (pointer l2 c2 t2) mode x y s h j k = number_pointer op ty mode l2 c2 t2 (array t1 m1) x y s (sum_operator op h.0) h.1 h.2 j k
     binary_value op ty (array t1 m1) (array t2 m2) mode x y s h j k = two_numbers op ty mode (array t1 m1) (array t2 m2) x y s h j k
     binary_value op ty (array t1 m1) (struct i2) mode x y s h j k = two_numbers op ty mode (array t1 m1) (struct i2) x y s h j k
     binary_value op ty (struct i1) void mode x y s h j k = two_numbers op ty mode (struct i1) void x y s h j k
     binary_value op ty (struct i1) (integer g2 b2) mode x y s h j k = two_numbers op ty mode (struct i1) (integer g2 b2) x y s h j k
     binary_value op ty (struct i1) (fixed c2 z2) mode x y s h j k = two_numbers op ty mode (struct i1) (fixed c2 z2) x y s h j k
-    binary_value op ty (struct i1) (pointer l2 c2 t2) mode x y s h j k = number_pointer op ty mode l2 c2 t2 (struct i1) x y s h.1 h.2 j k
+    binary_value op ty (struct i1) (pointer l2 c2 t2) mode x y s h j k = number_pointer op ty mode l2 c2 t2 (struct i1) x y s (sum_operator op h.0) h.1 h.2 j k
     binary_value op ty (struct i1) (array t2 m2) mode x y s h j k = two_numbers op ty mode (struct i1) (array t2 m2) x y s h j k
     binary_value op ty (struct i1) (struct i2) mode x y s h j k = two_numbers op ty mode (struct i1) (struct i2) x y s h j k
 
@@ -369,7 +412,7 @@ module _ (program : PlainProgram) where
       let t = some_and (arithmetic_of ty) _ types in
       let m = number_of_type ty t.0 v t.1 h in
       subst (λ (z : Value). OnValue (HasType program ty) (unary_result op ty mode z)) (sym m.is)
-      (typed_result ty t.0 _ t.1 (subst (λ (z : Arithmetic). Held t.0 (unary_value op z mode m.n)) (sym (number_type_is ty t.0 t.1)) (unary_held op t.0 mode m.n t.2 m.held)))
+      (typed_result ty t.0 _ t.1 (subst (λ (z : Arithmetic). Held t.0 (unary_value op z mode m.n)) (sym (number_type_is ty t.0 t.1)) (unary_held op t.0 mode m.n t.2 m.held)) (unary_point op (number_type ty) mode m.n))
 
   pub conversion_value_typed : (ty from : PlainType) (mode : Mode) (v : Value) (s : State) → IsScalar ty → AreConvertible ty from → HasType program from v → OnValue (HasType program ty) (conversion_result ty mode (operand_of program from v s))
   conversion_value_typed void void mode (Number n) s k c h = absurd k
@@ -386,9 +429,9 @@ module _ (program : PlainProgram) where
   conversion_value_typed void (struct i2) mode (Pointer p) s k c h = absurd k
   conversion_value_typed (integer g1 b1) void mode (Number n) s k c h = absurd c
   conversion_value_typed (integer g1 b1) void mode (Pointer p) s k c h = absurd c
-  conversion_value_typed (integer g1 b1) (integer g2 b2) mode (Number n) s k c h = typed_result (integer g1 b1) (Integer (record { signed = g1; bytes = b1 })) (conversion_value (Integer (record { signed = g1; bytes = b1 })) mode (operand (Integer (record { signed = g2; bytes = b2 })) n)) refl (conversion_held (Integer (record { signed = g1; bytes = b1 })) mode (operand (Integer (record { signed = g2; bytes = b2 })) n) k)
+  conversion_value_typed (integer g1 b1) (integer g2 b2) mode (Number n) s k c h = typed_result (integer g1 b1) (Integer (record { signed = g1; bytes = b1 })) (conversion_value (Integer (record { signed = g1; bytes = b1 })) mode (operand (Integer (record { signed = g2; bytes = b2 })) n)) refl (conversion_held (Integer (record { signed = g1; bytes = b1 })) mode (operand (Integer (record { signed = g2; bytes = b2 })) n) k) (conversion_point (Integer (record { signed = g1; bytes = b1 })) mode (operand (Integer (record { signed = g2; bytes = b2 })) n))
   conversion_value_typed (integer g1 b1) (integer g2 b2) mode (Pointer p) s k c h = absurd h
-  conversion_value_typed (integer g1 b1) (fixed c2 z2) mode (Number n) s k c h = typed_result (integer g1 b1) (Integer (record { signed = g1; bytes = b1 })) (conversion_value (Integer (record { signed = g1; bytes = b1 })) mode (operand (Fixed (record { kind = c2; sat = z2 })) n)) refl (conversion_held (Integer (record { signed = g1; bytes = b1 })) mode (operand (Fixed (record { kind = c2; sat = z2 })) n) k)
+  conversion_value_typed (integer g1 b1) (fixed c2 z2) mode (Number n) s k c h = typed_result (integer g1 b1) (Integer (record { signed = g1; bytes = b1 })) (conversion_value (Integer (record { signed = g1; bytes = b1 })) mode (operand (Fixed (record { kind = c2; sat = z2 })) n)) refl (conversion_held (Integer (record { signed = g1; bytes = b1 })) mode (operand (Fixed (record { kind = c2; sat = z2 })) n) k) (conversion_point (Integer (record { signed = g1; bytes = b1 })) mode (operand (Fixed (record { kind = c2; sat = z2 })) n))
   conversion_value_typed (integer g1 b1) (fixed c2 z2) mode (Pointer p) s k c h = absurd h
   conversion_value_typed (integer g1 b1) (pointer l2 c2 t2) mode (Number n) s k c h = absurd c
   conversion_value_typed (integer g1 b1) (pointer l2 c2 t2) mode (Pointer p) s k c h = absurd c
@@ -398,9 +441,9 @@ module _ (program : PlainProgram) where
   conversion_value_typed (integer g1 b1) (struct i2) mode (Pointer p) s k c h = absurd c
   conversion_value_typed (fixed c1 z1) void mode (Number n) s k c h = absurd c
   conversion_value_typed (fixed c1 z1) void mode (Pointer p) s k c h = absurd c
-  conversion_value_typed (fixed c1 z1) (integer g2 b2) mode (Number n) s k c h = typed_result (fixed c1 z1) (Fixed (record { kind = c1; sat = z1 })) (conversion_value (Fixed (record { kind = c1; sat = z1 })) mode (operand (Integer (record { signed = g2; bytes = b2 })) n)) refl (conversion_held (Fixed (record { kind = c1; sat = z1 })) mode (operand (Integer (record { signed = g2; bytes = b2 })) n) tt)
+  conversion_value_typed (fixed c1 z1) (integer g2 b2) mode (Number n) s k c h = typed_result (fixed c1 z1) (Fixed (record { kind = c1; sat = z1 })) (conversion_value (Fixed (record { kind = c1; sat = z1 })) mode (operand (Integer (record { signed = g2; bytes = b2 })) n)) refl (conversion_held (Fixed (record { kind = c1; sat = z1 })) mode (operand (Integer (record { signed = g2; bytes = b2 })) n) tt) (conversion_point (Fixed (record { kind = c1; sat = z1 })) mode (operand (Integer (record { signed = g2; bytes = b2 })) n))
   conversion_value_typed (fixed c1 z1) (integer g2 b2) mode (Pointer p) s k c h = absurd h
-  conversion_value_typed (fixed c1 z1) (fixed c2 z2) mode (Number n) s k c h = typed_result (fixed c1 z1) (Fixed (record { kind = c1; sat = z1 })) (conversion_value (Fixed (record { kind = c1; sat = z1 })) mode (operand (Fixed (record { kind = c2; sat = z2 })) n)) refl (conversion_held (Fixed (record { kind = c1; sat = z1 })) mode (operand (Fixed (record { kind = c2; sat = z2 })) n) tt)
+  conversion_value_typed (fixed c1 z1) (fixed c2 z2) mode (Number n) s k c h = typed_result (fixed c1 z1) (Fixed (record { kind = c1; sat = z1 })) (conversion_value (Fixed (record { kind = c1; sat = z1 })) mode (operand (Fixed (record { kind = c2; sat = z2 })) n)) refl (conversion_held (Fixed (record { kind = c1; sat = z1 })) mode (operand (Fixed (record { kind = c2; sat = z2 })) n) tt) (conversion_point (Fixed (record { kind = c1; sat = z1 })) mode (operand (Fixed (record { kind = c2; sat = z2 })) n))
   conversion_value_typed (fixed c1 z1) (fixed c2 z2) mode (Pointer p) s k c h = absurd h
   conversion_value_typed (fixed c1 z1) (pointer l2 c2 t2) mode (Number n) s k c h = absurd c
   conversion_value_typed (fixed c1 z1) (pointer l2 c2 t2) mode (Pointer p) s k c h = absurd c
@@ -445,16 +488,25 @@ module _ (program : PlainProgram) where
   conversion_value_typed (struct i1) (struct i2) mode (Number n) s k c h = absurd k
   conversion_value_typed (struct i1) (struct i2) mode (Pointer p) s k c h = absurd k
 
-  pub compound_value_typed : (op : BinOp) (own mode : Mode) (ty right : PlainType) (old : Value) (n : ℤ) (s : State) → IsScalar ty → HasType program ty old → OnValue (HasType program ty) (compound_result op own mode (operand_of program ty old s) (operand_of program right (Number n) s))
-  compound_value_typed op own mode void right (Number m) n s k h = absurd k
-  compound_value_typed op own mode void right (Pointer p) n s k h = absurd k
-  compound_value_typed op own mode (integer g1 b1) right (Number m) n s k h = typed_result (integer g1 b1) (Integer (record { signed = g1; bytes = b1 })) (compound_value op own mode (Integer (record { signed = g1; bytes = b1 })) m (number_type right) n) refl (compound_held op own mode (Integer (record { signed = g1; bytes = b1 })) (number_type right) m n k)
-  compound_value_typed op own mode (integer g1 b1) right (Pointer p) n s k h = absurd h
-  compound_value_typed op own mode (fixed c1 z1) right (Number m) n s k h = typed_result (fixed c1 z1) (Fixed (record { kind = c1; sat = z1 })) (compound_value op own mode (Fixed (record { kind = c1; sat = z1 })) m (number_type right) n) refl (compound_held op own mode (Fixed (record { kind = c1; sat = z1 })) (number_type right) m n tt)
-  compound_value_typed op own mode (fixed c1 z1) right (Pointer p) n s k h = absurd h
-  compound_value_typed op own mode (pointer l1 c1 t1) right (Number m) n s k h = absurd h
-  compound_value_typed op own mode (pointer l1 c1 t1) right (Pointer p) n s k h = offset_value op l1 c1 t1 (pointer l1 c1 t1) p n s h
-  compound_value_typed op own mode (array t1 m1) right (Number m) n s k h = absurd k
-  compound_value_typed op own mode (array t1 m1) right (Pointer p) n s k h = absurd k
-  compound_value_typed op own mode (struct i1) right (Number m) n s k h = absurd k
-  compound_value_typed op own mode (struct i1) right (Pointer p) n s k h = absurd k
+  -- an operator that takes a left operand of this type
+  abbrev pub IsOperator : BinOp → PlainType → Type 0
+  IsOperator op void = ⊤
+  IsOperator op (integer signed bytes) = ⊤
+  IsOperator op (fixed kind saturates) = ⊤
+  IsOperator op (pointer space const to) = IsOffset op
+  IsOperator op (array of len) = ⊤
+  IsOperator op (struct index) = ⊤
+
+  pub compound_value_typed : (op : BinOp) (own mode : Mode) (ty right : PlainType) (old : Value) (n : ℤ) (s : State) → IsOperator op ty → IsScalar ty → HasType program ty old → OnValue (HasType program ty) (compound_result op own mode (operand_of program ty old s) (operand_of program right (Number n) s))
+  compound_value_typed op own mode void right (Number m) n s o k h = absurd k
+  compound_value_typed op own mode void right (Pointer p) n s o k h = absurd k
+  compound_value_typed op own mode (integer g1 b1) right (Number m) n s o k h = typed_result (integer g1 b1) (Integer (record { signed = g1; bytes = b1 })) (compound_value op own mode (Integer (record { signed = g1; bytes = b1 })) m (number_type right) n) refl (compound_held op own mode (Integer (record { signed = g1; bytes = b1 })) (number_type right) m n k) (compound_point op own mode (Integer (record { signed = g1; bytes = b1 })) m (number_type right) n)
+  compound_value_typed op own mode (integer g1 b1) right (Pointer p) n s o k h = absurd h
+  compound_value_typed op own mode (fixed c1 z1) right (Number m) n s o k h = typed_result (fixed c1 z1) (Fixed (record { kind = c1; sat = z1 })) (compound_value op own mode (Fixed (record { kind = c1; sat = z1 })) m (number_type right) n) refl (compound_held op own mode (Fixed (record { kind = c1; sat = z1 })) (number_type right) m n tt) (compound_point op own mode (Fixed (record { kind = c1; sat = z1 })) m (number_type right) n)
+  compound_value_typed op own mode (fixed c1 z1) right (Pointer p) n s o k h = absurd h
+  compound_value_typed op own mode (pointer l1 c1 t1) right (Number m) n s o k h = absurd h
+  compound_value_typed op own mode (pointer l1 c1 t1) right (Pointer p) n s o k h = offset_value op l1 c1 t1 (pointer l1 c1 t1) p n s o h
+  compound_value_typed op own mode (array t1 m1) right (Number m) n s o k h = absurd k
+  compound_value_typed op own mode (array t1 m1) right (Pointer p) n s o k h = absurd k
+  compound_value_typed op own mode (struct i1) right (Number m) n s o k h = absurd k
+  compound_value_typed op own mode (struct i1) right (Pointer p) n s o k h = absurd k

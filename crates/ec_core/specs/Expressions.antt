@@ -1,9 +1,9 @@
 -- What an expression does: its value and the state after it, with the effects of its operands from left to right and each done
 -- at once (ISO/IEC 9899:1999, 6.5, leaves most of this order open; it is our own profile).
-use Rattle.std.specs.Prelude.{ℕ, Bool, true, false, not, pos, List, [], ◌∷◌, Option, None, slice_get, unwrap_or}
+use Rattle.std.specs.Prelude.{ℕ, Bool, true, false, not, pos, List, [], ◌∷◌, Option, Some, None, slice_get, unwrap_or}
 use Rattle.ec_fx.specs.declared.numbers.Mode.{Mode}
 use Rattle.ec_core.specs.declared.expressions.BinOp.{BinOp}
-use Rattle.ec_core.specs.declared.values.Undefined.TheVariants.{Access as NoAccess}
+use Rattle.ec_core.specs.declared.values.Undefined.TheVariants.{Invalid}
 use Rattle.ec_core.specs.declared.values.Value.{Value}
 use Rattle.ec_core.specs.declared.values.Value.TheVariants.{Number, Pointer}
 use Rattle.ec_core.specs.Accesses.{pointer_to, referent_of, operand_of, member_offset, Access, access, read, write}
@@ -22,8 +22,13 @@ Calls = ℕ → List Value → State → Outcome Value
 
 -- where a dereferenced pointer points to (6.5.3.2): null too is a place, of which no leaf can be accessed
 abbrev pub pointed_to : Value → State → Outcome PointerValue
-pointed_to (Number n) s = undefined NoAccess s
+pointed_to (Number n) s = undefined Invalid s
 pointed_to (Pointer p) s = got p s
+
+-- where an object's place points to
+abbrev pub object_place : PointerValue → State → Outcome PointerValue
+object_place None s = undefined Invalid s
+object_place (Some p) s = got (Some p) s
 
 -- one of two
 abbrev pub either : {A : Type 0} → Bool → A → A → A
@@ -34,6 +39,23 @@ either false a b = b
 abbrev pub truth_value : Outcome Bool → Outcome Value
 truth_value o = next o (λ h s. got (Number (truth h)) s)
 
+-- A compound assignment or a step: the mode of its operation and that of the write, the type of its place, and whether its own
+-- value is the new one of the place or the old one
+pub record Update : Type 0 where
+  pub op : BinOp
+  pub operation_mode : Mode
+  pub write_mode : Mode
+  pub ty : PlainType
+  pub place : PlainPlace
+  pub new : Bool
+
+-- a compound assignment has a mode for each (6.5.16.2), and a step one for both (6.5.2.4, 6.5.3.1)
+abbrev pub compound_update : BinOp → Mode → PlainType → Mode → PlainPlace → Update
+compound_update op operation_mode ty mode p = record { op = op; operation_mode = operation_mode; write_mode = mode; ty = ty; place = p; new = true }
+
+abbrev pub step_update : Bool → PlainType → Mode → Bool → PlainPlace → Update
+step_update up ty mode prefix p = record { op = step_operator up; operation_mode = mode; write_mode = mode; ty = ty; place = p; new = prefix }
+
 module _ (w : Setting) where
   -- an access of a type at a place that lies at a pointer's target
   abbrev pub accessed : PlainType → PlainPlace → PointerValue → State → Option Access
@@ -43,12 +65,11 @@ module _ (w : Setting) where
   abbrev pub condition : PlainExpr → Outcome Value → Outcome Bool
   condition e o = next o (λ x s. given (truth_result (operand_of w.program (type_of_expr e) x s)) s)
 
-  -- A compound assignment or a step, at the place, from its old value and the right side: the operation, the write, and the new
-  -- value or the old one as its own
-  abbrev pub updated_place : BinOp → Mode → Mode → PlainType → PlainPlace → Bool → PointerValue → Value → PlainType → Value → State → Outcome Value
-  updated_place op own mode ty p new at old right x s =
-      next (given (compound_result op own mode (operand_of w.program ty old s) (operand_of w.program right x s)) s)
-      (λ v s1. next (write (accessed ty p at s1) v s1) (λ _ s2. got (either new v old) s2))
+  -- an update at the place, from its old value and the right side: the operation, the write, and its own value
+  abbrev pub updated_place : Update → PointerValue → Value → PlainType → Value → State → Outcome Value
+  updated_place u at old right x s =
+      next (given (compound_result u.op u.operation_mode u.write_mode (operand_of w.program u.ty old s) (operand_of w.program right x s)) s)
+      (λ v s1. next (write (accessed u.ty u.place at s1) v s1) (λ _ s2. got (either u.new v old) s2))
 
 module _ (w : Setting) (calls : Calls) where
   abbrev mutual
@@ -69,10 +90,10 @@ module _ (w : Setting) (calls : Calls) where
     -- the place, then the right side, then the write (6.5.16.1)
     node_value ty mode (assign p a) s = next (place_of p s) (λ at s1. next (value_of a s1) (λ x s2. write (accessed w ty p at s2) x s2))
     -- the place, then its old value, then the right side, then the write (6.5.16.2); a step has 1 as its right side (6.5.2.4, 6.5.3.1)
-    node_value ty mode (compound op own p a) s =
-        next (place_of p s) (λ at s1. next (read w.program (accessed w ty p at s1) s1) (λ old s2. next (value_of a s2) (λ x s3. updated_place w op own mode ty p true at old (type_of_expr a) x s3)))
+    node_value ty mode (compound op operation_mode p a) s =
+        next (place_of p s) (λ at s1. next (read w.program (accessed w ty p at s1) s1) (λ old s2. next (value_of a s2) (λ x s3. updated_place w (compound_update op operation_mode ty mode p) at old (type_of_expr a) x s3)))
     node_value ty mode (step up prefix p) s =
-        next (place_of p s) (λ at s1. next (read w.program (accessed w ty p at s1) s1) (λ old s2. updated_place w (step_operator up) mode mode ty p prefix at old int (Number (pos 1)) s2))
+        next (place_of p s) (λ at s1. next (read w.program (accessed w ty p at s1) s1) (λ old s2. updated_place w (step_update up ty mode prefix p) at old int (Number (pos 1)) s2))
     -- the second operand is evaluated only where it decides (6.5.13, 6.5.14), and one of the last two of `?:` (6.5.15)
     node_value ty mode (logical_not a) s = next (condition w a (value_of a s)) (λ h s1. got (Number (truth (not h))) s1)
     node_value ty mode (logical_and a b) s = next (condition w a (value_of a s)) (λ h s1. choose h (λ s2. truth_value (condition w b (value_of b s2))) (λ s2. got (Number (truth false)) s2) s1)
@@ -88,7 +109,7 @@ module _ (w : Setting) (calls : Calls) where
 
     -- the place of an object is that of its newest instance; a member is reached by pointer arithmetic (6.5.2.3)
     pub place_of : PlainPlace → State → Outcome PointerValue
-    place_of (object o) s = got (pointer_to o s) s
+    place_of (object o) s = object_place (pointer_to o s) s
     place_of (deref e) s = next (value_of e s) pointed_to
     place_of (member p i) s =
         next (place_of p (worked member_words s)) (λ at s1. given (moved at (referent_of w.program at s1) (pos (member_offset w.program (unwrap_or (place_type w.program p) void) i))) s1)

@@ -2,6 +2,7 @@
 pub mod Accesses
 pub mod ArithmeticTypes
 pub mod ArithmeticValues
+pub mod Depth
 pub mod Expressions
 pub mod Generated
 pub mod Integers
@@ -18,7 +19,9 @@ pub mod PortTable
 pub mod State
 pub mod Statements
 pub mod Suited
+pub mod TypeLaws
 pub mod Typing
 pub mod Valid
 pub mod ValueTypes
+pub mod Weight
 pub mod Words

@@ -4,7 +4,7 @@ use Rattle.ec_runs.specs.Behaviours.{Behaviour, Running, Ended, Failed}
 use Rattle.ec_core.specs.declared.programs.LeafInit.{LeafInit}
 use Rattle.ec_core.specs.declared.programs.LeafInit.TheVariants.{Number as TheNumber, Null as TheNull, Address}
 use Rattle.ec_core.specs.declared.values.Undefined.{Undefined}
-use Rattle.ec_core.specs.declared.values.Undefined.TheVariants.{ZeroDivisor, ShiftCount, FixedOverflow, WholePart, Access, Unset, ConstWrite, Narrowing, Unrelated, StalePointer, PointerRange, ClosedPort, BufferIndex, NoResult}
+use Rattle.ec_core.specs.declared.values.Undefined.TheVariants.{ZeroDivisor, ShiftCount, FixedOverflow, WholePart, Access, Unset, ConstWrite, Narrowing, Unrelated, PointerUse, PointerRange, ClosedPort, BufferIndex, NoResult, Invalid}
 use Rattle.ec_core.specs.declared.values.Value.{Value}
 use Rattle.ec_core.specs.declared.values.Value.TheVariants.{Number, Pointer}
 use Rattle.ec_core.specs.Accesses.{leaf_count}
@@ -46,7 +46,7 @@ setting program table inputs = record { program = program; table = table; inputs
 abbrev pub run : PlainProgram → PlainTable → Inputs → ℕ → Outcome Value
 run program table inputs n = calls_within (setting program table inputs) n (length program.functions) program.main [] (initial_state program table)
 
--- the undefined points by number
+-- the undefined points by number; the last is what no valid program meets
 abbrev pub number_of_point : Undefined → ℕ
 number_of_point ZeroDivisor = 1
 number_of_point ShiftCount = 2
@@ -57,11 +57,12 @@ number_of_point Unset = 6
 number_of_point ConstWrite = 7
 number_of_point Narrowing = 8
 number_of_point Unrelated = 9
-number_of_point StalePointer = 10
+number_of_point PointerUse = 10
 number_of_point PointerRange = 11
 number_of_point ClosedPort = 12
 number_of_point BufferIndex = 13
 number_of_point NoResult = 14
+number_of_point Invalid = 15
 
 -- main gives an int
 abbrev pub number_of : Value → ℤ

@@ -13,7 +13,7 @@ use Rattle.ec_core.specs.declared.expressions.BinOp.TheVariants.{Add, Sub, Shl, 
 use Rattle.ec_core.specs.declared.expressions.UnOp.{UnOp}
 use Rattle.ec_core.specs.declared.values.Referent.{Referent}
 use Rattle.ec_core.specs.declared.values.Undefined.{Undefined}
-use Rattle.ec_core.specs.declared.values.Undefined.TheVariants.{Access}
+use Rattle.ec_core.specs.declared.values.Undefined.TheVariants.{Invalid}
 use Rattle.ec_core.specs.declared.values.Value.{Value}
 use Rattle.ec_core.specs.declared.values.Value.TheVariants.{Number, Pointer}
 use Rattle.ec_core.specs.ArithmeticTypes.{arithmetic_of, promoted, common_integer, signed_kind, common}
@@ -49,7 +49,7 @@ number_type ty = unwrap_or (arithmetic_of ty) (Integer (record { signed = true; 
 
 -- what stands for an operation on values that do not suit it, which no valid program has
 abbrev pub unsuited : {A : Type 0} → Result A Undefined
-unsuited = Err Access
+unsuited = Err Invalid
 
 -- ---- operands
 

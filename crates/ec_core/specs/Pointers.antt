@@ -9,7 +9,7 @@ use Rattle.ec_core.specs.declared.expressions.BinOp.TheVariants.{Eq, Ne}
 use Rattle.ec_core.specs.declared.values.ObjectPointer.{ObjectPointer}
 use Rattle.ec_core.specs.declared.values.Referent.{Referent}
 use Rattle.ec_core.specs.declared.values.Undefined.{Undefined}
-use Rattle.ec_core.specs.declared.values.Undefined.TheVariants.{Narrowing, Unrelated, StalePointer, PointerRange}
+use Rattle.ec_core.specs.declared.values.Undefined.TheVariants.{Narrowing, Unrelated, PointerUse, PointerRange}
 use Rattle.ec_core.specs.Integers.{truth, compared}
 
 abbrev pub Pointer : Type 0
@@ -21,7 +21,7 @@ is_usable None of = true
 is_usable (Some p) of = of.live
 
 abbrev pub used : {A : Type 0} → Bool → Result A Undefined → Result A Undefined
-used usable r = if usable then r else Err StalePointer
+used usable r = if usable then r else Err PointerUse
 
 -- ---- arithmetic
 
@@ -69,8 +69,8 @@ is_at_end p of = p.offset == of.size
 -- pointers into different objects are unequal, and their comparison is undefined where exactly one of them stands at its object's end
 abbrev pub apart : Bool → Bool → Result Bool Undefined
 apart true true = Ok false
-apart true false = Err StalePointer
-apart false true = Err StalePointer
+apart true false = Err PointerUse
+apart false true = Err PointerUse
 apart false false = Ok false
 
 abbrev pub equality : Pointer → Referent → Pointer → Referent → Result Bool Undefined

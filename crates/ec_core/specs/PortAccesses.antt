@@ -3,7 +3,7 @@ use Rattle.std.specs.Prelude.{ℕ, zero, suc, ◌+◌, ◌*◌, ◌/◌, ◌%◌
 use Rattle.ec_iohw.specs.declared.operations.IoOp.{IoOp}
 use Rattle.ec_iohw.specs.declared.operations.IoOp.TheVariants.{Or, OrLong, OrBuffer, OrBufferLong, And, AndLong, AndBuffer, AndBufferLong}
 use Rattle.ec_iohw.specs.declared.table.Pair.{Pair}
-use Rattle.ec_core.specs.declared.values.Undefined.TheVariants.{Access as NoAccess, ClosedPort, BufferIndex}
+use Rattle.ec_core.specs.declared.values.Undefined.TheVariants.{Invalid, ClosedPort, BufferIndex}
 use Rattle.ec_core.specs.declared.values.Value.{Value}
 use Rattle.ec_core.specs.declared.values.Value.TheVariants.{Number, Pointer}
 use Rattle.ec_core.specs.PortOperations.{PortAction, reads, writes, updates, port_operation}
@@ -77,7 +77,7 @@ opened inputs false op port i v s = undefined ClosedPort s
 
 -- an operation on a port, with its index and its operand, each 0 where the operation takes none
 abbrev pub port_effect : Inputs → IoOp → Option PlainPort → Value → Value → State → Outcome Value
-port_effect inputs op None i v s = undefined NoAccess s
+port_effect inputs op None i v s = undefined Invalid s
 port_effect inputs op (Some port) i v s = opened inputs (is_open port.group s) op port (unsigned i) (unsigned v) s
 
 -- ---- groups
@@ -92,5 +92,5 @@ pairs_of false group = group.release
 
 -- the bytes of the group's list are written, in the list's order, and it is acquired or released
 abbrev pub group_effect : Bool → ℕ → Option PlainGroup → State → Outcome Value
-group_effect acquire g None s = undefined NoAccess s
+group_effect acquire g None s = undefined Invalid s
 group_effect acquire g (Some group) s = got no_value (with_group g acquire (pairs_written (pairs_of acquire group) s))

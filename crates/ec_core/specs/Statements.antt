@@ -1,6 +1,6 @@
 -- What a statement does (ISO/IEC 9899:1999, 6.8). Each execution of a loop has at most n turns.
-use Rattle.std.specs.Prelude.{ℕ, zero, suc, ◌+◌, ◌==◌, Bool, true, false, if◌then◌else◌, pos, List, [], ◌∷◌, Option, Some, None, slice_get}
-use Rattle.ec_core.specs.declared.values.Undefined.TheVariants.{Access as NoAccess, NoResult}
+use Rattle.std.specs.Prelude.{ℕ, zero, suc, ◌+◌, ◌==◌, Bool, true, false, pos, List, [], ◌∷◌, Option, Some, None, slice_get}
+use Rattle.ec_core.specs.declared.values.Undefined.TheVariants.{Invalid, NoResult}
 use Rattle.ec_core.specs.declared.values.Value.{Value}
 use Rattle.ec_core.specs.declared.values.Value.TheVariants.{Number}
 use Rattle.ec_core.specs.Accesses.{begun, all_ended, frame_ended, initialised}
@@ -59,18 +59,18 @@ ending os o = next o (λ x s. got x (all_ended os s))
 
 module _ (w : Setting) (calls : Calls) where
   -- a condition of a loop, which holds where there is none (6.8.5.3)
-  abbrev pub holds : Option PlainExpr → State → Outcome Bool
-  holds None s = got true s
-  holds (Some e) s = condition w e (value_of w calls e s)
+  abbrev pub test_of : Option PlainExpr → State → Outcome Bool
+  test_of None s = got true s
+  test_of (Some e) s = condition w e (value_of w calls e s)
 
   -- an expression for its effects (6.8.3)
-  abbrev pub done : Option PlainExpr → State → Outcome Exit
-  done None s = got at_end s
-  done (Some e) s = next (value_of w calls e s) (λ x s1. got at_end s1)
+  abbrev pub evaluated : Option PlainExpr → State → Outcome Exit
+  evaluated None s = got at_end s
+  evaluated (Some e) s = next (value_of w calls e s) (λ x s1. got at_end s1)
 
   -- the last part of a `for`, then its condition (6.8.5.3)
   abbrev pub going_on : Option PlainExpr → Option PlainExpr → State → Outcome Bool
-  going_on last c s = next (done last s) (λ x s1. holds c s1)
+  going_on last c s = next (evaluated last s) (λ x s1. test_of c s1)
 
   -- the value of a return (6.8.6.4)
   abbrev pub returned : Option PlainExpr → State → Outcome Exit
@@ -84,40 +84,46 @@ module _ (w : Setting) (calls : Calls) where
 
 module _ (w : Setting) (calls : Calls) (n : ℕ) where
   abbrev mutual
-    -- a statement; `outlived` where the objects of a block outlive it, as those of the first part of a `for` do
-    pub effect_of : Bool → PlainStmt → State → Outcome Exit
-    effect_of outlived (statement unit at kind) s = kind_effect outlived kind s
+    pub effect_of : PlainStmt → State → Outcome Exit
+    effect_of (statement unit at kind) s = kind_effect kind s
 
-    pub kind_effect : Bool → PlainKind → State → Outcome Exit
-    kind_effect outlived empty s = got at_end s
-    kind_effect outlived (evaluate e) s = done w calls (Some e) s
-    kind_effect outlived (block ss) s = ending (if outlived then [] else declared ss) (effects_of ss s)
+    pub kind_effect : PlainKind → State → Outcome Exit
+    kind_effect empty s = got at_end s
+    kind_effect (evaluate e) s = evaluated w calls (Some e) s
+    kind_effect (block ss) s = ending (declared ss) (effects_of ss s)
     -- each time that the declaration is reached there is a new instance (6.2.4)
-    kind_effect outlived (declare o values) s = initialising w calls o 0 values (begun w.program o s)
-    kind_effect outlived (branch c a b) s = next (holds w calls (Some c) (worked branch_words s)) (λ h s1. choose h (λ s2. effect_of false a s2) (λ s2. option_effect false b s2) s1)
-    kind_effect outlived (while_loop c body) s = tested (holds w calls (Some c) s) (λ s1. turns n (λ s2. effect_of false body s2) (λ s2. holds w calls (Some c) s2) s1)
-    kind_effect outlived (do_loop body c) s = turns n (λ s1. effect_of false body s1) (λ s1. holds w calls (Some c) s1) s
-    kind_effect outlived (for_loop first c last body) s =
-        ending (declared_first first) (next (option_effect true first s) (λ x s1. tested (holds w calls c s1) (λ s2. turns n (λ s3. effect_of false body s3) (λ s3. going_on w calls last c s3) s2)))
-    kind_effect outlived break_loop s = got by_break (worked jump_words s)
-    kind_effect outlived continue_loop s = got by_continue (worked jump_words s)
-    kind_effect outlived (return_value e) s = returned w calls e (worked (return_of e) s)
+    kind_effect (declare o values) s = initialising w calls o 0 values (begun w.program o s)
+    kind_effect (branch c a b) s = next (test_of w calls (Some c) (worked branch_words s)) (λ h s1. choose h (λ s2. effect_of a s2) (λ s2. option_effect b s2) s1)
+    kind_effect (while_loop c body) s = tested (test_of w calls (Some c) s) (λ s1. turns n (λ s2. effect_of body s2) (λ s2. test_of w calls (Some c) s2) s1)
+    kind_effect (do_loop body c) s = turns n (λ s1. effect_of body s1) (λ s1. test_of w calls (Some c) s1) s
+    kind_effect (for_loop first c last body) s =
+        ending (declared_first first) (next (first_effect first s) (λ x s1. in_order x s1 (λ s2.
+        tested (test_of w calls c s2) (λ s3. turns n (λ s4. effect_of body s4) (λ s4. going_on w calls last c s4) s3))))
+    kind_effect break_loop s = got by_break (worked jump_words s)
+    kind_effect continue_loop s = got by_continue (worked jump_words s)
+    kind_effect (return_value e) s = returned w calls e (worked (return_of e) s)
 
-    pub option_effect : Bool → OptionPlainStmt → State → Outcome Exit
-    option_effect outlived no_stmt s = got at_end s
-    option_effect outlived (a_stmt a) s = effect_of outlived a s
+    pub option_effect : OptionPlainStmt → State → Outcome Exit
+    option_effect no_stmt s = got at_end s
+    option_effect (a_stmt a) s = effect_of a s
+
+    -- the first part of a `for`, which the objects of a block outlive (6.8.5.3)
+    pub first_effect : OptionPlainStmt → State → Outcome Exit
+    first_effect no_stmt s = got at_end s
+    first_effect (a_stmt (statement unit at (block ss))) s = effects_of ss s
+    first_effect (a_stmt a) s = effect_of a s
 
     pub effects_of : PlainStmts → State → Outcome Exit
     effects_of last_stmt s = got at_end s
-    effects_of (next_stmt a ss) s = next (effect_of false a s) (λ x s1. in_order x s1 (λ s2. effects_of ss s2))
+    effects_of (next_stmt a ss) s = next (effect_of a s) (λ x s1. in_order x s1 (λ s2. effects_of ss s2))
 
 -- ---- functions (6.9.1)
 
 -- the parameters are new objects with the arguments as their values
-abbrev pub bound : Setting → List ℕ → List Value → State → Outcome Value
-bound w [] xs s = got no_value s
-bound w (o ∷ os) [] s = undefined NoAccess s
-bound w (o ∷ os) (x ∷ xs) s = next (initialised w.program o 0 x (begun w.program o s)) (λ y s1. bound w os xs s1)
+abbrev pub parameters_written : Setting → List ℕ → List Value → State → Outcome Value
+parameters_written w [] xs s = got no_value s
+parameters_written w (o ∷ os) [] s = undefined Invalid s
+parameters_written w (o ∷ os) (x ∷ xs) s = next (initialised w.program o 0 x (begun w.program o s)) (λ y s1. parameters_written w os xs s1)
 
 -- what a function without a return statement at its end gives: nothing where it has no result, 0 where it is main (5.1.2.2.3)
 abbrev pub unreturned : PlainType → Bool → State → Outcome Value
@@ -125,17 +131,17 @@ unreturned void main s = got no_value s
 unreturned ty true s = got (Number (pos 0)) s
 unreturned ty false s = undefined NoResult s
 
-abbrev pub result_of : PlainType → Bool → Exit → State → Outcome Value
-result_of ty main (by_return (Some x)) s = got x s
-result_of ty main exit s = unreturned ty main s
+abbrev pub call_result : PlainType → Bool → Exit → State → Outcome Value
+call_result ty main (by_return (Some x)) s = got x s
+call_result ty main exit s = unreturned ty main s
 
 -- a call of the function with a number: its parameters, its body, the end of its objects, its result
 abbrev pub call_of : Setting → Calls → ℕ → ℕ → Option PlainFunction → List Value → State → Outcome Value
-call_of w calls n f None xs s = undefined NoAccess s
+call_of w calls n f None xs s = undefined Invalid s
 call_of w calls n f (Some g) xs s =
-    next (bound w g.params xs (worked function_words s)) (λ y s1. next (effect_of w calls n false g.body s1) (λ x s2. result_of g.returns (f == w.program.main) x (frame_ended w.program f s2)))
+    next (parameters_written w g.params xs (worked function_words s)) (λ y s1. next (effect_of w calls n g.body s1) (λ x s2. call_result g.returns (f == w.program.main) x (frame_ended w.program f s2)))
 
 -- calls that nest at most so deep; a program without recursion nests no deeper than it has functions
 abbrev pub calls_within : Setting → ℕ → ℕ → Calls
-calls_within w n zero f xs s = undefined NoAccess s
+calls_within w n zero f xs s = undefined Invalid s
 calls_within w n (suc depth) f xs s = call_of w (calls_within w n depth) n f (slice_get w.program.functions f) xs s

@@ -14,7 +14,7 @@ use Rattle.ec_core.specs.declared.expressions.UnOp.TheVariants.{Minus, Invert}
 use Rattle.ec_core.specs.ArithmeticTypes.{arithmetic_of, type_of, promoted, common}
 use Rattle.ec_core.specs.ArithmeticValues.{HoldsNumber}
 use Rattle.ec_core.specs.Layout.{IsScalar}
-use Rattle.ec_core.specs.Plain.{PlainType, void, integer, fixed, pointer, array, struct, PlainExpr, expression, PlainNode, number, null, load, address_of, unary, binary, convert, assign, compound, step, logical_not, logical_and, logical_or, conditional, comma, call, io, group, PlainPlace, object, deref, member, OptionPlainExpr, no_expr, an_expr, PlainExprs, last_expr, next_expr, PlainProgram}
+use Rattle.ec_core.specs.Plain.{PlainType, void, integer, fixed, pointer, array, struct, PlainStruct, PlainObject, PlainExpr, expression, PlainNode, number, null, load, address_of, unary, binary, convert, assign, compound, step, logical_not, logical_and, logical_or, conditional, comma, call, io, group, PlainPlace, object, deref, member, OptionPlainExpr, no_expr, an_expr, PlainExprs, last_expr, next_expr, PlainProgram}
 use Rattle.ec_core.specs.PortOperations.{PortAction, reads, writes, updates, PortOperation, port_operation, takes_value}
 
 -- ---- types by name
@@ -185,25 +185,39 @@ abbrev pub points_to_const : PlainType → Bool
 points_to_const (pointer s k t) = k
 points_to_const ty = false
 
-abbrev pub member_type : PlainProgram → PlainType → ℕ → Option PlainType
-member_type p (struct index) i = option_and_then (λ s. option_map (λ m. m.ty) (slice_get s.members i)) (slice_get p.structs index)
-member_type p ty i = None
+-- the type of the member with a number of a type, which is that of a struct
+abbrev pub type_of_member : List PlainStruct → PlainType → ℕ → Option PlainType
+type_of_member structs (struct index) i = option_and_then (λ s. option_map (λ m. m.ty) (slice_get s.members i)) (slice_get structs index)
+type_of_member structs ty i = None
 
--- the type of a place, the space that it is in by its type, and whether it is const
+-- the type of a place, the space that it is in by its type, and whether it is const, beside the structs and objects that are declared
+abbrev pub type_of_place : List PlainStruct → List PlainObject → PlainPlace → Option PlainType
+type_of_place structs objects (object o) = option_map (λ x. x.ty) (slice_get objects o)
+type_of_place structs objects (deref e) = pointee (type_of_expr e)
+type_of_place structs objects (member q i) = option_and_then (λ ty. type_of_member structs ty i) (type_of_place structs objects q)
+
+abbrev pub space_of_place : List PlainObject → PlainPlace → Option SpaceId
+space_of_place objects (object o) = option_map (λ x. x.space) (slice_get objects o)
+space_of_place objects (deref e) = pointer_space (type_of_expr e)
+space_of_place objects (member q i) = space_of_place objects q
+
+abbrev pub is_const_place : List PlainObject → PlainPlace → Bool
+is_const_place objects (object o) = unwrap_or (option_map (λ x. x.const) (slice_get objects o)) false
+is_const_place objects (deref e) = points_to_const (type_of_expr e)
+is_const_place objects (member q i) = is_const_place objects q
+
+-- the same in a program
+abbrev pub member_type : PlainProgram → PlainType → ℕ → Option PlainType
+member_type p ty i = type_of_member p.structs ty i
+
 abbrev pub place_type : PlainProgram → PlainPlace → Option PlainType
-place_type p (object o) = option_map (λ x. x.ty) (slice_get p.objects o)
-place_type p (deref e) = pointee (type_of_expr e)
-place_type p (member q i) = option_and_then (λ ty. member_type p ty i) (place_type p q)
+place_type p place = type_of_place p.structs p.objects place
 
 abbrev pub place_space : PlainProgram → PlainPlace → Option SpaceId
-place_space p (object o) = option_map (λ x. x.space) (slice_get p.objects o)
-place_space p (deref e) = pointer_space (type_of_expr e)
-place_space p (member q i) = place_space p q
+place_space p place = space_of_place p.objects place
 
 abbrev pub place_is_const : PlainProgram → PlainPlace → Bool
-place_is_const p (object o) = unwrap_or (option_map (λ x. x.const) (slice_get p.objects o)) false
-place_is_const p (deref e) = points_to_const (type_of_expr e)
-place_is_const p (member q i) = place_is_const p q
+place_is_const p place = is_const_place p.objects place
 
 abbrev pub IsScalarPlace : PlainProgram → PlainType → PlainPlace → Type 0
 IsScalarPlace p ty place = IsScalar ty × (place_type p place ≡ Some ty)
@@ -277,7 +291,7 @@ IsTyped p table ty (logical_not e) = IsScalar (type_of_expr e) × (ty ≡ int)
 IsTyped p table ty (logical_and a b) = IsScalar (type_of_expr a) × IsScalar (type_of_expr b) × (ty ≡ int)
 IsTyped p table ty (logical_or a b) = IsScalar (type_of_expr a) × IsScalar (type_of_expr b) × (ty ≡ int)
 IsTyped p table ty (conditional c a b) = IsScalar (type_of_expr c) × IsBranchType ty × (type_of_expr a ≡ ty) × (type_of_expr b ≡ ty)
-IsTyped p table ty (comma a b) = type_of_expr b ≡ ty
+IsTyped p table ty (comma a b) = IsScalar (type_of_expr a) × IsScalar (type_of_expr b) × (type_of_expr b ≡ ty)
 IsTyped p table ty (call f args) = IsSomeAnd (slice_get p.functions f) (λ g. (ty ≡ g.returns) × AreArguments p g.params args)
 IsTyped p table ty (io op port index value) = IsPortOperation table ty (port_operation op) port index value
 IsTyped p table ty (group acquire g) = (g < length table.groups.items) × (ty ≡ void)

@@ -71,6 +71,10 @@ AreApart s t m n = ⊤
 abbrev pub ShareNoRegister : PlainProgram → PlainObject → PlainObject → Type 0
 ShareNoRegister p x y = AreApart x.storage y.storage (size_of_type p.structs x.ty) (size_of_type p.structs y.ty)
 
+-- two external objects have different names
+abbrev pub HaveOwnNames : PlainObject → PlainObject → Type 0
+HaveOwnNames x y = IsTrue x.external → IsTrue y.external → x.name ≢ y.name
+
 -- ---- expressions
 
 -- a body names no parameter or local of another function
@@ -220,6 +224,7 @@ pub record Valid (p : PlainProgram) (table : IoTable) : Type 0 where
   pub structs : AreStructs p.structs
   pub objects : AllByRecursion (IsObject p) p.objects
   pub registers : AllPairs (ShareNoRegister p) p.objects
+  pub externals : AllPairs HaveOwnNames p.objects
   pub functions : EachFrom 0 (IsFunction p table) p.functions
   pub main : IsSomeAnd (slice_get p.functions p.main) (λ g. (g.params ≡ []) × (g.returns ≡ int))
   pub no_recursion : (f : ℕ) → ¬ Reaches p f f

@@ -15,6 +15,7 @@ mod layout;
 mod pointers;
 mod programs;
 mod statements;
+mod type_laws;
 mod types;
 mod values;
 
@@ -25,8 +26,9 @@ pub use arithmetic_types::{Arithmetic, FixedType, IntegerType, result_type, sign
 pub use expressions::{BinOp, Expr, Node, PlaceExpr, UnOp};
 pub use integers::integer_operation;
 pub use laws::{
-    depends_on_bytes_read, events_are_at_home, more_turns_only_add, operands_suit,
-    registers_are_silent, runs_by_steps, types_are_kept, types_are_told, work_never_falls,
+    bytes_are_taken_in_order, calls_nest_no_deeper, depends_on_bytes_read, events_are_at_home,
+    invalid_is_never_met, more_turns_only_add, operands_suit, parts_only_add, registers_are_silent,
+    runs_by_steps, turns_are_work, types_are_kept, types_are_told, work_never_falls,
 };
 pub use layout::{Leaf, leaves, size_of};
 pub use pointers::{
@@ -34,8 +36,6 @@ pub use pointers::{
 };
 pub use programs::{Func, LeafInit, Obj, Program, Storage};
 pub use statements::{Stmt, StmtKind};
+pub use type_laws::{leaves_fill_their_types, structs_are_laid_out, usual_conversions};
 pub use types::{CType, Member, StructDef};
 pub use values::{ObjectPointer, Referent, Undefined, Value};
-
-#[cfg(test)]
-mod tests;

@@ -60,7 +60,7 @@ pub fn pointer_sum(
             if of.live {
                 displaced(p, of.size, offset_past(p.offset, n, element))
             } else {
-                Err(Undefined::StalePointer)
+                Err(Undefined::PointerUse)
             }
         }
     }
@@ -122,7 +122,7 @@ pub fn pointer_difference(
     if is_usable(p, of) && is_usable(q, into) {
         elements_between(element, p, q)
     } else {
-        Err(Undefined::StalePointer)
+        Err(Undefined::PointerUse)
     }
 }
 
@@ -156,7 +156,7 @@ fn apart(p_at_end: bool, q_at_end: bool) -> Result<bool, Undefined>
     if p_at_end == q_at_end {
         Ok(false)
     } else {
-        Err(Undefined::StalePointer)
+        Err(Undefined::PointerUse)
     }
 }
 
@@ -220,7 +220,7 @@ pub fn pointer_comparison(
     if is_usable(p, of) && is_usable(q, into) {
         compared_pointers(op, p, of, q, into)
     } else {
-        Err(Undefined::StalePointer)
+        Err(Undefined::PointerUse)
     }
 }
 
@@ -234,7 +234,7 @@ pub fn pointer_truth(p: Option<ObjectPointer>, of: Referent) -> Result<bool, Und
             if of.live {
                 Ok(true)
             } else {
-                Err(Undefined::StalePointer)
+                Err(Undefined::PointerUse)
             }
         }
     }
@@ -253,7 +253,7 @@ pub fn pointer_conversion(
         None => Ok(None),
         Some(p) => {
             if !of.live {
-                Err(Undefined::StalePointer)
+                Err(Undefined::PointerUse)
             } else if space.holds(of.home) {
                 Ok(Some(p))
             } else {

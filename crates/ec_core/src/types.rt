@@ -1,5 +1,6 @@
 //! Types (ISO/IEC 9899:1999, 6.2.5; ISO/IEC TR 18037:2008, 4.1.1 and 5.1).
-ghost use Rattle.std.specs.Prelude.{◌≡◌, IfOk};
+ghost use Rattle.std.specs.Prelude.{◌≡◌, option_map, IfOk};
+ghost use Rattle.std.specs.Option.{option_copied};
 
 use ec_fx::FxKind;
 use ec_space::{Name, NoMemory, Seq, SpaceId};
@@ -48,7 +49,9 @@ pub(crate) fn boxed<T: Drop>(alloc: Global, x: T) -> Result<Box<T>, NoMemory>
 }
 
 impl CType {
+    ghost use Rattle.ec_core.specs.Operators.{same_type};
     ghost use Rattle.ec_core.specs.Plain.{plain_type};
+    ghost use Rattle.ec_core.specs.Typing.{pointee};
 
     /// Another value that is the same type.
     pub fn copied(&self, alloc: Global) -> Result<CType, NoMemory>
@@ -79,6 +82,56 @@ impl CType {
                 Ok(CType::Array { of, len: *len })
             }
             CType::Struct { index } => Ok(CType::Struct { index: *index }),
+        }
+    }
+
+    /// What it points to, or None where it is no pointer.
+    pub fn pointee(&self) -> Option<&CType>
+        ensures { option_map plain_type (option_copied result) ≡ pointee (plain_type self.now) }
+    {
+        match self {
+            CType::Ptr { to, .. } => Some(to),
+            _ => None,
+        }
+    }
+
+    /// Whether two types are the same, const of what they point to included.
+    pub fn is_same(&self, other: &CType) -> bool
+        ensures { result ≡ same_type (plain_type self.now) (plain_type other.now) }
+    {
+        match (self, other) {
+            (CType::Void, CType::Void) => true,
+            (
+                CType::Int { signed, bytes },
+                CType::Int {
+                    signed: other,
+                    bytes: count,
+                },
+            ) => *signed == *other && *bytes == *count,
+            (
+                CType::Fx { kind, sat },
+                CType::Fx {
+                    kind: other,
+                    sat: saturates,
+                },
+            ) => *kind == *other && *sat == *saturates,
+            (
+                CType::Ptr { space, konst, to },
+                CType::Ptr {
+                    space: other,
+                    konst: fixed,
+                    to: target,
+                },
+            ) => *space == *other && *konst == *fixed && to.is_same(target),
+            (
+                CType::Array { of, len },
+                CType::Array {
+                    of: other,
+                    len: count,
+                },
+            ) => of.is_same(other) && *len == *count,
+            (CType::Struct { index }, CType::Struct { index: other }) => *index == *other,
+            _ => false,
         }
     }
 }

@@ -2,7 +2,8 @@
 
 use ec_space::Bank;
 
-/// Why a program is undefined, in the order of the language's list of such points.
+/// Why a program is undefined, in the order of the language's list of such points. The last one stands
+/// outside that list: no valid program meets it.
 #[derive(Clone, Copy, Debug, PartialEq, Eq)]
 pub enum Undefined {
     /// A zero divisor.
@@ -26,9 +27,9 @@ pub enum Undefined {
     /// Pointers that are ordered or subtracted and are not into one object, or whose difference is no
     /// multiple of the element's size.
     Unrelated,
-    /// A pointer past its object's end that is compared with a pointer into another object, or a use of
-    /// a pointer to an object that is not live.
-    StalePointer,
+    /// A use of a pointer to an object that is not live, or the comparison of a pointer past its object's
+    /// end with a pointer into another object.
+    PointerUse,
     /// Pointer arithmetic that leaves the object, or starts from null.
     PointerRange,
     /// An access of a port whose group is not acquired.
@@ -37,6 +38,9 @@ pub enum Undefined {
     BufferIndex,
     /// The end of a function with a result, other than `main`.
     NoResult,
+    /// What no valid program has: operands that do not suit their operator, a number without an object,
+    /// port or function, an argument too few, calls nested deeper than there are functions.
+    Invalid,
 }
 
 /// A pointer that is not null: an instance of an object, and an offset in bytes from 0 to its size.

@@ -9,7 +9,7 @@ use Rattle.ec_core.specs.declared.expressions.Expr.{Expr}
 use Rattle.ec_core.specs.declared.expressions.Node.{Call, the_lemmas as node_lemmas}
 use Rattle.ec_core.specs.declared.statements.Stmt.{Stmt}
 use Rattle.ec_core.specs.declared.statements.StmtKind.{Block, Local, the_lemmas as kind_lemmas}
-use Rattle.ec_core.specs.Plain.{a_stmt, statement, PlainType, PlainMember, PlainPlace, object, deref, member, PlainFunction, call, block, declare, plain_node, plain_kind, plain_expr, plain_exprs, plain_stmt, plain_stmts, plain_type, plain_member}
+use Rattle.ec_core.specs.Plain.{a_stmt, statement, PlainType, PlainMember, PlainPlace, object, deref, member, PlainFunction, PlainProgram, PlainStmt, PlainStmts, call, empty, evaluate, block, declare, branch, while_loop, do_loop, for_loop, break_loop, continue_loop, return_value, plain_node, plain_kind, plain_expr, plain_exprs, plain_stmt, plain_stmts, plain_type, plain_member}
 use Rattle.ec_core.specs.declared.types.Member.{Member}
 use Rattle.ec_core.specs.Accesses.{begun, initialised}
 use Rattle.ec_core.specs.Layout.{Layout, members_layout, type_layout, scalar_size}
@@ -17,11 +17,14 @@ use Rattle.ec_core.specs.Expressions.{Calls, node_value, values_of}
 use Rattle.ec_core.specs.PortAccesses.{next_byte, byte_read, number_read}
 use Rattle.ec_core.specs.PortTable.{PlainTable}
 use Rattle.ec_core.specs.State.{Inputs, Setting, State, worked, Outcome, next, undefined}
-use Rattle.ec_core.specs.Statements.{Exit, kind_effect, effects_of, ending, declared, declared_first, again, tested, turns, bound, calls_within, call_of}
+use Rattle.ec_core.specs.Statements.{Exit, effect_of, kind_effect, first_effect, effects_of, ending, declared, declared_first, again, tested, turns, parameters_written, calls_within, call_of}
 use Rattle.ec_core.specs.Words.{widest, pointer_types, loop_words, node_words, total_size}
-use Rattle.ec_core.specs.declared.values.Undefined.TheVariants.{Access as NoAccess}
+use Rattle.ec_core.specs.declared.values.Undefined.TheVariants.{Invalid}
 use Rattle.ec_core.specs.declared.values.Value.{Value}
+use Rattle.ec_iohw.specs.declared.table.IoTable.{IoTable}
+use Rattle.ec_core.specs.Valid.{ValidStmt, ValidStmts}
 use Rattle.ec_core.proofs.Rows.{plain_expr_row-row, plain_stmt_row-row}
+use Rattle.ec_interp.specs.Loops.{block_items}
 use Rattle.ec_interp.specs.Lookups.{widest_from}
 use Rattle.ec_interp.specs.Weights.{expr_weight, node_weight, exprs_weight, stmt_weight, kind_weight, stmts_weight, bodies}
 
@@ -40,8 +43,60 @@ words_call table ty f args = ap (node_words table ty) (plain_call f args)
 pub value_call : (w : Setting) (calls : Calls) (ty : PlainType) (mode : Mode) (f : ℕ) (args : Listed Expr) (s : State) → node_value w calls ty mode (plain_node (Call f args)) s ≡ next (values_of w calls (plain_exprs args.items) s) (λ xs s1. calls f xs s1)
 value_call w calls ty mode f args s = ap (λ node. node_value w calls ty mode node s) (plain_call f args)
 
-pub effect_block : (w : Setting) (calls : Calls) (n : ℕ) (outlived : Bool) (ss : Listed Stmt) (s : State) → kind_effect w calls n outlived (plain_kind (Block ss)) s ≡ ending (if outlived then [] else declared (plain_stmts ss.items)) (effects_of w calls n (plain_stmts ss.items) s)
-effect_block w calls n outlived ss s = ap (λ kind. kind_effect w calls n outlived kind s) (plain_block ss)
+pub effect_block : (w : Setting) (calls : Calls) (n : ℕ) (ss : Listed Stmt) (s : State) → kind_effect w calls n (plain_kind (Block ss)) s ≡ ending (declared (plain_stmts ss.items)) (effects_of w calls n (plain_stmts ss.items) s)
+effect_block w calls n ss s = ap (λ kind. kind_effect w calls n kind s) (plain_block ss)
+
+pub first_is_block : (w : Setting) (calls : Calls) (n : ℕ) (a : PlainStmt) (ss : PlainStmts) (s : State) → Some ss ≡ block_items a → first_effect w calls n (a_stmt a) s ≡ effects_of w calls n ss s
+first_is_block w calls n (statement unit at (block all)) ss s e = let f : all ≡ ss = cc in ap (λ z. effects_of w calls n z s) f
+first_is_block w calls n (statement unit at empty) ss s e = cc
+first_is_block w calls n (statement unit at (evaluate x)) ss s e = cc
+first_is_block w calls n (statement unit at (declare o es)) ss s e = cc
+first_is_block w calls n (statement unit at (branch c a b)) ss s e = cc
+first_is_block w calls n (statement unit at (while_loop c a)) ss s e = cc
+first_is_block w calls n (statement unit at (do_loop a c)) ss s e = cc
+first_is_block w calls n (statement unit at (for_loop i c l a)) ss s e = cc
+first_is_block w calls n (statement unit at break_loop) ss s e = cc
+first_is_block w calls n (statement unit at continue_loop) ss s e = cc
+first_is_block w calls n (statement unit at (return_value x)) ss s e = cc
+
+pub first_is_other : (w : Setting) (calls : Calls) (n : ℕ) (a : PlainStmt) (s : State) → None ≡ block_items a → first_effect w calls n (a_stmt a) s ≡ effect_of w calls n a s
+first_is_other w calls n (statement unit at (block all)) s e = cc
+first_is_other w calls n (statement unit at empty) s e = refl
+first_is_other w calls n (statement unit at (evaluate x)) s e = refl
+first_is_other w calls n (statement unit at (declare o es)) s e = refl
+first_is_other w calls n (statement unit at (branch c a b)) s e = refl
+first_is_other w calls n (statement unit at (while_loop c a)) s e = refl
+first_is_other w calls n (statement unit at (do_loop a c)) s e = refl
+first_is_other w calls n (statement unit at (for_loop i c l a)) s e = refl
+first_is_other w calls n (statement unit at break_loop) s e = refl
+first_is_other w calls n (statement unit at continue_loop) s e = refl
+first_is_other w calls n (statement unit at (return_value x)) s e = refl
+
+pub block_lighter : (a : PlainStmt) (ss : PlainStmts) → Some ss ≡ block_items a → stmts_weight ss + 1 ≡ stmt_weight a
+block_lighter (statement unit at (block all)) ss e = let f : ss ≡ all = cc in ap (λ z. stmts_weight z + 1) f
+block_lighter (statement unit at empty) ss e = cc
+block_lighter (statement unit at (evaluate x)) ss e = cc
+block_lighter (statement unit at (declare o es)) ss e = cc
+block_lighter (statement unit at (branch c a b)) ss e = cc
+block_lighter (statement unit at (while_loop c a)) ss e = cc
+block_lighter (statement unit at (do_loop a c)) ss e = cc
+block_lighter (statement unit at (for_loop i c l a)) ss e = cc
+block_lighter (statement unit at break_loop) ss e = cc
+block_lighter (statement unit at continue_loop) ss e = cc
+block_lighter (statement unit at (return_value x)) ss e = cc
+
+pub block_valid : (program : PlainProgram) (io : IoTable) (f : ℕ) (returns : PlainType) (in_loop : Bool) (a : PlainStmt) (ss : PlainStmts) → Some ss ≡ block_items a → ValidStmt program io f returns in_loop a → ValidStmts program io f returns in_loop ss
+block_valid program io f returns in_loop (statement unit at (block all)) ss e v = let g : all ≡ ss = cc in subst (λ (z : PlainStmts). ValidStmts program io f returns in_loop z) g v
+block_valid program io f returns in_loop (statement unit at empty) ss e v = cc
+block_valid program io f returns in_loop (statement unit at (evaluate x)) ss e v = cc
+block_valid program io f returns in_loop (statement unit at (declare o es)) ss e v = cc
+block_valid program io f returns in_loop (statement unit at (branch c a b)) ss e v = cc
+block_valid program io f returns in_loop (statement unit at (while_loop c a)) ss e v = cc
+block_valid program io f returns in_loop (statement unit at (do_loop a c)) ss e v = cc
+block_valid program io f returns in_loop (statement unit at (for_loop i c l a)) ss e v = cc
+block_valid program io f returns in_loop (statement unit at break_loop) ss e v = cc
+block_valid program io f returns in_loop (statement unit at continue_loop) ss e v = cc
+block_valid program io f returns in_loop (statement unit at (return_value x)) ss e v = cc
 
 pub first_block : (unit at : ℕ) (ss : Listed Stmt) → declared_first (a_stmt (statement unit at (plain_kind (Block ss)))) ≡ declared (plain_stmts ss.items)
 first_block unit at ss = ap (λ kind. declared_first (a_stmt (statement unit at kind))) (plain_block ss)
@@ -162,11 +217,11 @@ some_first [] (suc k) v e = cc
 some_first (x ∷ xs) zero v e = let f : x ≡ v = cc in ap (λ y. y ∷ xs) f
 some_first (x ∷ xs) (suc k) v e = some_first xs k v e
 
-pub bound_none : (w : Setting) (os : List ℕ) (xs : List Value) (i : ℕ) (s : State) → i < length os → slice_get xs i ≡ None → bound w (drop i os) (drop i xs) s ≡ undefined NoAccess s
-bound_none w os xs i s h e =
+pub parameters_none : (w : Setting) (os : List ℕ) (xs : List Value) (i : ℕ) (s : State) → i < length os → slice_get xs i ≡ None → parameters_written w (drop i os) (drop i xs) s ≡ undefined Invalid s
+parameters_none w os xs i s h e =
     let past : drop i xs ≡ [] = past_none xs i e in
     let more = drop-cons os i 0 h in
     rw (past, more) refl
 
-pub bound_some : (w : Setting) (os : List ℕ) (xs : List Value) (i : ℕ) (x : Value) (s : State) → i < length os → slice_get xs i ≡ Some x → bound w (drop i os) (drop i xs) s ≡ next (initialised w.program (get_or os i 0) 0 x (begun w.program (get_or os i 0) s)) (λ y s1. bound w (drop (suc i) os) (drop (suc i) xs) s1)
-bound_some w os xs i x s h e = rw (some_first xs i x e, drop-cons os i 0 h) refl
+pub parameters_some : (w : Setting) (os : List ℕ) (xs : List Value) (i : ℕ) (x : Value) (s : State) → i < length os → slice_get xs i ≡ Some x → parameters_written w (drop i os) (drop i xs) s ≡ next (initialised w.program (get_or os i 0) 0 x (begun w.program (get_or os i 0) s)) (λ y s1. parameters_written w (drop (suc i) os) (drop (suc i) xs) s1)
+parameters_some w os xs i x s h e = rw (some_first xs i x e, drop-cons os i 0 h) refl

@@ -13,11 +13,11 @@ use Rattle.ec_core.specs.Expressions.{accessed, condition, value_of, place_of, o
 use Rattle.ec_core.specs.Layout.{IsScalar, PlainLeaf, leaves_of_type}
 use Rattle.ec_core.specs.Meaning.{initial_state}
 use Rattle.ec_core.specs.Operators.{truth_result, step_operator}
-use Rattle.ec_core.specs.Plain.{PlainType, void, integer, fixed, pointer, array, struct, PlainExpr, expression, PlainNode, PlainPlace, OptionPlainExpr, no_expr, an_expr, PlainExprs, last_expr, next_expr, call, PlainStmt, next_stmt, plain_expr, plain_exprs, plain_stmt, plain_stmts, PlainObject, PlainFunction, PlainProgram, plain_program}
+use Rattle.ec_core.specs.Plain.{PlainType, void, integer, fixed, pointer, array, struct, PlainExpr, expression, PlainNode, PlainPlace, OptionPlainExpr, no_expr, an_expr, PlainExprs, last_expr, next_expr, call, PlainStmt, a_stmt, next_stmt, plain_expr, plain_exprs, plain_stmt, plain_stmts, PlainObject, PlainFunction, PlainProgram, plain_program}
 use Rattle.ec_core.specs.Pointers.{Pointer as PointerValue}
 use Rattle.ec_core.specs.PortTable.{plain_table}
 use Rattle.ec_core.specs.State.{Setting, State, worked, Outcome, got, more, undefined, next, given}
-use Rattle.ec_core.specs.Statements.{Exit, at_end, holds, done, going_on, effect_of, bound, calls_within}
+use Rattle.ec_core.specs.Statements.{Exit, at_end, test_of, evaluated, going_on, effect_of, first_effect, parameters_written, calls_within}
 use Rattle.ec_core.specs.Typing.{int, type_of_expr, HaveCompoundTypes, AreArguments}
 use Rattle.ec_core.specs.Valid.{ValidExpr, ValidExprs, ValidPlace, ValidOptional, ValidCondition, AreLeafValues, IsDeclared, ValidStmt}
 use Rattle.ec_core.specs.ValueTypes.{HasType, IsTypedState, IsSoundOutcome, AreArgumentValues, ValuesHaveTheirTypes}
@@ -93,9 +93,13 @@ module _ (f : Context) where
   pub after_arguments : (turns depth : ℕ) (params : List ℕ) (es : PlainExprs) (xs : List Value) (s t : State) → RunsExprs f s es → AreArguments program params es → values_of w (calls_within w turns depth) es s ≡ got xs t → IsReached (AreArgumentValues program params) xs t
   after_arguments turns depth params es xs s t h a q = reached (values_of w (calls_within w turns depth) es s) xs t ((law h.given).arguments turns depth h.function params es s a h.keeps h.typed) q
 
-  pub after_statement : (turns depth : ℕ) (outlived : Bool) (a : PlainStmt) (x : Exit) (s t : State) → RunsStmt f s a → effect_of w (calls_within w turns depth) turns outlived a s ≡ got x t → IsTypedState program t
-  after_statement turns depth outlived a x s t h q =
-      (reached (effect_of w (calls_within w turns depth) turns outlived a s) x t ((law h.given).statements turns depth h.function h.returns h.in_loop outlived a s h.valid h.typed) q).typed
+  pub after_statement : (turns depth : ℕ) (a : PlainStmt) (x : Exit) (s t : State) → RunsStmt f s a → effect_of w (calls_within w turns depth) turns a s ≡ got x t → IsTypedState program t
+  after_statement turns depth a x s t h q =
+      (reached (effect_of w (calls_within w turns depth) turns a s) x t ((law h.given).statements turns depth h.function h.returns h.in_loop a s h.valid h.typed) q).typed
+
+  pub after_first : (turns depth : ℕ) (a : PlainStmt) (x : Exit) (s t : State) → RunsStmt f s a → first_effect w (calls_within w turns depth) turns (a_stmt a) s ≡ got x t → IsTypedState program t
+  after_first turns depth a x s t h q =
+      (reached (first_effect w (calls_within w turns depth) turns (a_stmt a) s) x t ((law h.given).first_parts turns depth h.function h.returns h.in_loop (a_stmt a) s h.valid h.typed) q).typed
 
   pub after_read : (ty : PlainType) (p : PlainPlace) (at : PointerValue) (x : Value) (s t : State) → IsGiven f → IsTypedState program s → read program (accessed w ty p at s) s ≡ got x t → IsReached (HasType program ty) x t
   after_read ty p at x s t g h q = reached (read program (accessed w ty p at s) s) x t ((law g).states.read ty _ at s h) q
@@ -106,8 +110,8 @@ module _ (f : Context) where
   pub after_initialise : (o k : ℕ) (d : PlainObject) (ty : PlainType) (at : ℕ) (v x : Value) (s t : State) → IsGiven f → slice_get program.objects o ≡ Some d → slice_get (leaves_of_type program.structs d.ty) k ≡ Some (record { ty = ty; at = at }) → HasType program ty v → IsTypedState program s → initialised program o k v s ≡ got x t → IsTypedState program t
   after_initialise o k d ty at v x s t g e l h i q = (reached (initialised program o k v s) x t ((law g).states.initialised o k d (record { ty = ty; at = at }) v s e l h i) q).typed
 
-  pub after_parameters : (g : ℕ) (called : PlainFunction) (xs : List Value) (x : Value) (s t : State) → IsGiven f → slice_get program.functions g ≡ Some called → AreArgumentValues program called.params xs → IsTypedState program s → bound w called.params xs s ≡ got x t → IsTypedState program t
-  after_parameters g called xs x s t given e a h q = (reached (bound w called.params xs s) x t ((law given).parameters g called xs s e a h) q).typed
+  pub after_parameters : (g : ℕ) (called : PlainFunction) (xs : List Value) (x : Value) (s t : State) → IsGiven f → slice_get program.functions g ≡ Some called → AreArgumentValues program called.params xs → IsTypedState program s → parameters_written w called.params xs s ≡ got x t → IsTypedState program t
+  after_parameters g called xs x s t given e a h q = (reached (parameters_written w called.params xs s) x t ((law given).parameters g called xs s e a h) q).typed
 
   -- the condition of an expression is that of its value, in the state after it
   value_before : (e : PlainExpr) (o : Outcome Value) (b : Bool) (t : State) → condition w e o ≡ got b t → (x : Value) × (o ≡ got x t)
@@ -126,13 +130,13 @@ module _ (f : Context) where
   after_option turns depth no_expr x s t h q = let k : s ≡ t = cc in subst (IsTypedState program) k h.typed
   after_option turns depth (an_expr e) x s t h q = (after_value turns depth e x s t h q).typed
 
-  pub after_holds : (turns depth : ℕ) (c : Option PlainExpr) (b : Bool) (s t : State) → RunsCondition f s c → holds w (calls_within w turns depth) c s ≡ got b t → IsTypedState program t
-  after_holds turns depth None b s t h q = let k : s ≡ t = cc in subst (IsTypedState program) k h.typed
-  after_holds turns depth (Some e) b s t h q = after_condition turns depth e b s t (part (λ g. ValidExpr program f.io.now g e) (λ g v. v.0) h) q
+  pub after_test : (turns depth : ℕ) (c : Option PlainExpr) (b : Bool) (s t : State) → RunsCondition f s c → test_of w (calls_within w turns depth) c s ≡ got b t → IsTypedState program t
+  after_test turns depth None b s t h q = let k : s ≡ t = cc in subst (IsTypedState program) k h.typed
+  after_test turns depth (Some e) b s t h q = after_condition turns depth e b s t (part (λ g. ValidExpr program f.io.now g e) (λ g v. v.0) h) q
 
-  pub after_done : (turns depth : ℕ) (e : Option PlainExpr) (x : Exit) (s t : State) → RunsOptional f s e → done w (calls_within w turns depth) e s ≡ got x t → IsTypedState program t
-  after_done turns depth None x s t h q = let k : s ≡ t = cc in subst (IsTypedState program) k h.typed
-  after_done turns depth (Some e) x s t h q = by_value (value_of w (calls_within w turns depth) e s) refl q
+  pub after_evaluated : (turns depth : ℕ) (e : Option PlainExpr) (x : Exit) (s t : State) → RunsOptional f s e → evaluated w (calls_within w turns depth) e s ≡ got x t → IsTypedState program t
+  after_evaluated turns depth None x s t h q = let k : s ≡ t = cc in subst (IsTypedState program) k h.typed
+  after_evaluated turns depth (Some e) x s t h q = by_value (value_of w (calls_within w turns depth) e s) refl q
     where
       by_value : (o : Outcome Value) → value_of w (calls_within w turns depth) e s ≡ o → next o (λ y u. got at_end u) ≡ got x t → IsTypedState program t
       by_value (got y u) k q = let l : u ≡ t = cc in subst (IsTypedState program) l (after_value turns depth e y s u h k).typed
@@ -214,14 +218,14 @@ module _ (f : Context) where
       record { value = subst (λ (z : Option PlainFunction). IsSomeAnd z (λ x. AreArgumentValues program x.params xs)) (sym c.1) r.value; typed = r.typed }
 
   pub after_going : (turns depth : ℕ) (last c : Option PlainExpr) (b : Bool) (s t : State) → RunsTest f s c last → going_on w (calls_within w turns depth) last c s ≡ got b t → IsTypedState program t
-  after_going turns depth last c b s t h q = by_done (done w (calls_within w turns depth) last s) refl q
+  after_going turns depth last c b s t h q = by_evaluated (evaluated w (calls_within w turns depth) last s) refl q
     where
-      by_done : (o : Outcome Exit) → done w (calls_within w turns depth) last s ≡ o → next o (λ x u. holds w (calls_within w turns depth) c u) ≡ got b t → IsTypedState program t
-      by_done (got x u) e k =
-          let m = after_done turns depth last x s u (record { given = h.given; typed = h.typed; function = h.function; keeps = h.done }) e in
-          after_holds turns depth c b u t (record { given = h.given; typed = m; function = h.function; keeps = h.tested }) k
-      by_done (more u) e k = cc
-      by_done (undefined point u) e k = cc
+      by_evaluated : (o : Outcome Exit) → evaluated w (calls_within w turns depth) last s ≡ o → next o (λ x u. test_of w (calls_within w turns depth) c u) ≡ got b t → IsTypedState program t
+      by_evaluated (got x u) e k =
+          let m = after_evaluated turns depth last x s u (record { given = h.given; typed = h.typed; function = h.function; keeps = h.done }) e in
+          after_test turns depth c b u t (record { given = h.given; typed = m; function = h.function; keeps = h.tested }) k
+      by_evaluated (more u) e k = cc
+      by_evaluated (undefined point u) e k = cc
 
   -- the body of a called function
   pub body_runs : (g : ℕ) (called : PlainFunction) (t : State) → IsGiven f → slice_get program.functions g ≡ Some called → IsTypedState program t → RunsStmt f t called.body

@@ -1,6 +1,8 @@
 -- The definitions that the contracts of the interpreter cite.
-pub mod Views
-pub mod Shows
 pub mod Lookups
-pub mod Weights
+pub mod Loops
+pub mod Shows
 pub mod Suits
+pub mod Updates
+pub mod Views
+pub mod Weights

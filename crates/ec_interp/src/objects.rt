@@ -1,5 +1,5 @@
 //! The life of objects.
-ghost use Rattle.std.specs.Prelude.{◌≡◌, if◌then◌else◌, [], None, replicate, map, option_map, unwrap_or, slice_get, IfErr, IfOk, OnOk};
+ghost use Rattle.std.specs.Prelude.{◌≡◌, None, replicate, map, option_map, unwrap_or, slice_get, IfErr, IfOk, OnOk};
 ghost use Rattle.ec_core.specs.Accesses.{pointer_to, leaf_count, renewed, ended, begun, all_ended, belongs_to, frame_ended, with_leaf};
 ghost use Rattle.ec_core.specs.Plain.{a_stmt, plain_object, plain_storage, plain_stmt, plain_stmts, plain_program};
 ghost use Rattle.ec_core.specs.State.{with_object};
@@ -108,22 +108,13 @@ pub fn set_leaf(s: &mut State, o: u16, k: usize, v: Value)
 }
 
 /// The objects that are declared directly in a block are no longer live.
-fn end_declared(s: &mut State, all: &[Stmt])
+pub fn end_declared(s: &mut State, all: &[Stmt])
     ensures { seen s.new ≡ all_ended (declared (plain_stmts all.now)) (seen s.old) }
 {
     for a in all {
         if let StmtKind::Local(o, _) = &a.kind {
             end(s, *o as usize);
         }
-    }
-}
-
-/// The end of a block, which its objects may outlive.
-pub fn end_block(s: &mut State, outlived: bool, all: &[Stmt])
-    ensures { seen s.new ≡ all_ended (if outlived then [] else declared (plain_stmts all.now)) (seen s.old) }
-{
-    if !outlived {
-        end_declared(s, all);
     }
 }
 

@@ -102,7 +102,7 @@ pub fn moved(
             if of.live {
                 displaced(p, of.size, p.offset as i128 + bytes)
             } else {
-                Err(Stop::Undefined(Undefined::StalePointer))
+                Err(Stop::Undefined(Undefined::PointerUse))
             }
         }
     }
@@ -159,7 +159,7 @@ fn offset_pointer(
     let count = match op {
         BinOp::Add => n,
         BinOp::Sub => negated(n),
-        _ => return Err(Stop::Undefined(Undefined::Access)),
+        _ => return Err(Stop::Undefined(Undefined::Invalid)),
     };
     let of = referent(f, s, p)?;
     let element = element_size(f, a.ty)?;
@@ -253,7 +253,7 @@ pub fn unary_value(op: UnOp, ty: &CType, mode: Mode, x: Value) -> Result<Value, 
             let r = unary(op, number_type(ty), mode, n)?;
             Ok(Value::Number(r))
         }
-        Value::Pointer(_) => Err(Stop::Undefined(Undefined::Access)),
+        Value::Pointer(_) => Err(Stop::Undefined(Undefined::Invalid)),
     }
 }
 
@@ -332,7 +332,7 @@ pub fn conversion(
                     Err(point) => Err(Stop::Undefined(point)),
                 }
             }
-            _ => Err(Stop::Undefined(Undefined::Access)),
+            _ => Err(Stop::Undefined(Undefined::Invalid)),
         },
     }
 }
@@ -381,6 +381,6 @@ pub fn compound_value(
                 Ok(r)
             }
         },
-        Value::Pointer(_) => Err(Stop::Undefined(Undefined::Access)),
+        Value::Pointer(_) => Err(Stop::Undefined(Undefined::Invalid)),
     }
 }

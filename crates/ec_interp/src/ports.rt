@@ -263,7 +263,7 @@ pub fn operate(
     ensures answered { IsGiven f.now → IsAnswered result }
 {
     match port_at(f.io, port) {
-        None => Err(Stop::Undefined(Undefined::Access)),
+        None => Err(Stop::Undefined(Undefined::Invalid)),
         Some(p) => {
             let x = open_port(f, s, op, p, unsigned(i), unsigned(v))?;
             Ok(x)
@@ -296,7 +296,7 @@ pub fn operate_group(f: &Context, s: &mut State, acquire: bool, g: u16) -> Resul
     ensures answered { IsAnswered result }
 {
     match group_at(f.io, g) {
-        None => Err(Stop::Undefined(Undefined::Access)),
+        None => Err(Stop::Undefined(Undefined::Invalid)),
         Some(group) => {
             write_pairs(s, pairs(acquire, group))?;
             set_group(s, g, acquire);

@@ -2,15 +2,15 @@
 ghost use Rattle.std.specs.Prelude.{◌≡◌, ◌+◌, ◌<◌, false, pos, [], ◌∷◌, ◌++◌, Some, map, option_map, unwrap_or, IfOk, MatchOption, OnOk};
 ghost use Rattle.std.specs.Option.{option_copied};
 ghost use Rattle.ec_core.specs.declared.values.Value.TheVariants.{Number as TheNumber};
-ghost use Rattle.ec_core.specs.Accesses.{referent_of, member_offset, begun, initialised};
-ghost use Rattle.ec_core.specs.Expressions.{pointed_to, condition, updated_place, value_of, node_value, place_of, option_value, values_of};
+ghost use Rattle.ec_core.specs.Accesses.{pointer_to, referent_of, member_offset, begun, initialised};
+ghost use Rattle.ec_core.specs.Expressions.{pointed_to, object_place, condition, updated_place, value_of, node_value, place_of, option_value, values_of};
 ghost use Rattle.ec_core.specs.Integers.{truth};
 ghost use Rattle.ec_core.specs.Operators.{step_operator};
-ghost use Rattle.ec_core.specs.Plain.{void, binary, compound, step, io, plain_type, plain_node, plain_place, plain_expr, plain_exprs, plain_stmt, plain_stmts, plain_function, plain_program};
+ghost use Rattle.ec_core.specs.Plain.{void, a_stmt, binary, compound, step, io, plain_type, plain_node, plain_place, plain_expr, plain_exprs, plain_stmt, plain_stmts, plain_function, plain_program};
 ghost use Rattle.ec_core.specs.Pointers.{moved};
 ghost use Rattle.ec_core.specs.PortAccesses.{no_value};
 ghost use Rattle.ec_core.specs.State.{State as StateOf, Outcome, got, given, worked};
-ghost use Rattle.ec_core.specs.Statements.{Exit as ExitOf, again, holds, done, going_on, returned, initialising, effect_of, effects_of, turns, tested, bound, result_of, call_of, calls_within};
+ghost use Rattle.ec_core.specs.Statements.{Exit as ExitOf, in_order, again, test_of, evaluated, going_on, returned, initialising, effect_of, first_effect, effects_of, turns, tested, parameters_written, call_result, call_of, calls_within};
 ghost use Rattle.ec_core.specs.Typing.{place_type, HaveCompoundTypes};
 ghost use Rattle.ec_core.specs.Valid.{ValidOption};
 ghost use Rattle.ec_core.specs.ValueTypes.{IsTypedState};
@@ -18,12 +18,14 @@ ghost use Rattle.ec_core.specs.Words.{loop_words};
 ghost use Rattle.ec_interp.specs.declared.state.Exit.TheVariants.{AtEnd};
 ghost use Rattle.ec_interp.specs.Shows.{Shows, ShowsAs};
 ghost use Rattle.ec_interp.specs.Suits.{IsGiven, IsAnswered, IsOperand, Runs, RunsExpr, RunsNode, RunsPlace, RunsOption, RunsExprs, RunsOptional, RunsCondition, RunsLeaves, RunsStmt, RunsStmts, RunsTest, RunsLoop, AreArgumentsOf, IsCalled};
+ghost use Rattle.ec_interp.specs.Updates.{seen_update};
+ghost use Rattle.ec_interp.specs.Loops.{block_items, loop_after_first};
 ghost use Rattle.ec_interp.specs.Views.{seen, seen_exit, plain_optional, setting_of, HasLayouts};
 ghost use Rattle.ec_interp.specs.Weights.{stmt_weight, bodies};
 
 use crate::accesses::{initialise, read, write};
 use crate::layouts::{member_offset, place_type};
-use crate::objects::{begin, end_block, end_first, end_frame, pointer_to};
+use crate::objects::{begin, end_declared, end_first, end_frame, pointer_to};
 use crate::operators::{
     Operand, binary_value, compound_value, conversion, moved, referent, truth, unary_value,
 };
@@ -51,7 +53,7 @@ fn pointed_to(x: Value, s: &State) -> Result<Option<ObjectPointer>, Stop>
     ensures answered { IsAnswered result }
 {
     match x {
-        Value::Number(_) => Err(Stop::Undefined(Undefined::Access)),
+        Value::Number(_) => Err(Stop::Undefined(Undefined::Invalid)),
         Value::Pointer(p) => Ok(p),
     }
 }
@@ -73,12 +75,23 @@ fn member_place(
     moved(to, of, offset as i128)
 }
 
+/// The place of an object, which is that of its newest instance.
+fn object_place(s: &State, o: u16) -> Result<Option<ObjectPointer>, Stop>
+    ensures shows { Shows result (seen s.now) (object_place (pointer_to o (seen s.now)) (seen s.now)) }
+    ensures answered { IsAnswered result }
+{
+    match pointer_to(s, o) {
+        None => Err(Stop::Undefined(Undefined::Invalid)),
+        Some(p) => Ok(Some(p)),
+    }
+}
+
 /// A compound assignment or a step.
 #[derive(Clone, Copy)]
 struct Update<'a> {
     op: BinOp,
-    own: Mode,
-    mode: Mode,
+    operation_mode: Mode,
+    write_mode: Mode,
     ty: &'a CType,
     place: &'a PlaceExpr,
     /// Whether its own value is the new one.
@@ -95,14 +108,14 @@ fn update_place(
     right: &Operand,
 ) -> Result<Value, Stop>
     requires { HasLayouts f.now.program.now }
-    ensures shows { let w = setting_of f.now.program.now f.now.io.now f.now.inputs.now in Shows result (seen s.new) (updated_place w u.now.op u.now.own u.now.mode (plain_type u.now.ty.now) (plain_place u.now.place.now) u.now.new to old (plain_type right.now.ty.now) right.now.value (seen s.old)) }
+    ensures shows { let w = setting_of f.now.program.now f.now.io.now f.now.inputs.now in Shows result (seen s.new) (updated_place w (seen_update u.now) to old (plain_type right.now.ty.now) right.now.value (seen s.old)) }
     ensures answered { IsGiven f.now → IsOperand f.now (plain_type u.now.ty.now) old → IsOperand f.now (plain_type right.now.ty.now) right.now.value → HaveCompoundTypes u.now.op (plain_type u.now.ty.now) (plain_type right.now.ty.now) → IsAnswered result }
 {
     let left = Operand {
         ty: u.ty,
         value: old,
     };
-    let v = compound_value(f, s, u.op, u.own, u.mode, &left, right)?;
+    let v = compound_value(f, s, u.op, u.operation_mode, u.write_mode, &left, right)?;
     write(f, s, u.ty, u.place, to, v)?;
     Ok(if u.new { v } else { old })
 }
@@ -180,8 +193,8 @@ fn node_value(
             let v = write(f, s, ty, p, to, x)?;
             Ok(v)
         }
-        Node::Compound(op, own, p, a) => {
-            let r = compound(f, depth, s, *op, *own, ty, mode, p, a)?;
+        Node::Compound(op, operation_mode, p, a) => {
+            let r = compound(f, depth, s, *op, *operation_mode, ty, mode, p, a)?;
             Ok(r)
         }
         Node::Step { up, prefix, place } => {
@@ -305,23 +318,23 @@ fn compound(
     depth: usize,
     s: &mut State,
     op: BinOp,
-    own: Mode,
+    operation_mode: Mode,
     ty: &CType,
     mode: Mode,
     p: &PlaceExpr,
     a: &Expr,
 ) -> Result<Value, Stop>
     requires { HasLayouts f.now.program.now }
-    ensures shows { let w = setting_of f.now.program.now f.now.io.now f.now.inputs.now in Shows result (seen s.new) (node_value w (calls_within w f.now.turns depth) (plain_type ty.now) mode (compound op own (plain_place p.now) (plain_expr a.now)) (seen s.old)) }
-    ensures answered { RunsNode f.now (seen s.old) (plain_type ty.now) (compound op own (plain_place p.now) (plain_expr a.now)) → IsAnswered result }
+    ensures shows { let w = setting_of f.now.program.now f.now.io.now f.now.inputs.now in Shows result (seen s.new) (node_value w (calls_within w f.now.turns depth) (plain_type ty.now) mode (compound op operation_mode (plain_place p.now) (plain_expr a.now)) (seen s.old)) }
+    ensures answered { RunsNode f.now (seen s.old) (plain_type ty.now) (compound op operation_mode (plain_place p.now) (plain_expr a.now)) → IsAnswered result }
 {
     let to = place_of(f, depth, s, p)?;
     let earlier = read(f, s, ty, p, to)?;
     let operand = value_of(f, depth, s, a)?;
     let update = Update {
         op,
-        own,
-        mode,
+        operation_mode,
+        write_mode: mode,
         ty,
         place: p,
         new: true,
@@ -354,8 +367,8 @@ fn step(
     let old = read(f, s, ty, p, to)?;
     let update = Update {
         op: step_operator(up),
-        own: mode,
-        mode,
+        operation_mode: mode,
+        write_mode: mode,
         ty,
         place: p,
         new: prefix,
@@ -396,7 +409,7 @@ fn place_of(
     ensures answered { RunsPlace f.now (seen s.old) (plain_place p.now) → IsAnswered result }
 {
     match p {
-        PlaceExpr::Object(o) => Ok(pointer_to(s, *o)),
+        PlaceExpr::Object(o) => object_place(s, *o),
         PlaceExpr::Deref(e) => {
             let x = value_of(f, depth, s, e)?;
             let to = pointed_to(x, s)?;
@@ -472,9 +485,9 @@ fn push_value(xs: &mut Seq<Value>, x: Value) -> Result<(), NoMemory>
 
 /// Whether a condition holds, as where there is none.
 #[cycle(run)]
-fn holds(f: &Context, depth: usize, s: &mut State, c: Option<&Expr>) -> Result<bool, Stop>
+fn test_of(f: &Context, depth: usize, s: &mut State, c: Option<&Expr>) -> Result<bool, Stop>
     requires { HasLayouts f.now.program.now }
-    ensures shows { let w = setting_of f.now.program.now f.now.io.now f.now.inputs.now in Shows result (seen s.new) (holds w (calls_within w f.now.turns depth) (option_map plain_expr (option_copied c.entry)) (seen s.old)) }
+    ensures shows { let w = setting_of f.now.program.now f.now.io.now f.now.inputs.now in Shows result (seen s.new) (test_of w (calls_within w f.now.turns depth) (option_map plain_expr (option_copied c.entry)) (seen s.old)) }
     ensures answered { RunsCondition f.now (seen s.old) (option_map plain_expr (option_copied c.entry)) → IsAnswered result }
 {
     match c {
@@ -488,9 +501,9 @@ fn holds(f: &Context, depth: usize, s: &mut State, c: Option<&Expr>) -> Result<b
 
 /// An expression for its effects.
 #[cycle(run)]
-fn done(f: &Context, depth: usize, s: &mut State, e: Option<&Expr>) -> Result<Exit, Stop>
+fn evaluated(f: &Context, depth: usize, s: &mut State, e: Option<&Expr>) -> Result<Exit, Stop>
     requires { HasLayouts f.now.program.now }
-    ensures shows { let w = setting_of f.now.program.now f.now.io.now f.now.inputs.now in ShowsAs seen_exit result (seen s.new) (done w (calls_within w f.now.turns depth) (option_map plain_expr (option_copied e.entry)) (seen s.old)) }
+    ensures shows { let w = setting_of f.now.program.now f.now.io.now f.now.inputs.now in ShowsAs seen_exit result (seen s.new) (evaluated w (calls_within w f.now.turns depth) (option_map plain_expr (option_copied e.entry)) (seen s.old)) }
     ensures answered { RunsOptional f.now (seen s.old) (option_map plain_expr (option_copied e.entry)) → IsAnswered result }
 {
     match e {
@@ -538,17 +551,10 @@ fn initialising(
     Ok(Exit::AtEnd)
 }
 
-/// A statement; `outlived` where the objects of a block outlive it.
 #[cycle(run)]
-fn effect_of(
-    f: &Context,
-    depth: usize,
-    s: &mut State,
-    outlived: bool,
-    a: &Stmt,
-) -> Result<Exit, Stop>
+fn effect_of(f: &Context, depth: usize, s: &mut State, a: &Stmt) -> Result<Exit, Stop>
     requires { HasLayouts f.now.program.now }
-    ensures shows { let w = setting_of f.now.program.now f.now.io.now f.now.inputs.now in ShowsAs seen_exit result (seen s.new) (effect_of w (calls_within w f.now.turns depth) f.now.turns outlived (plain_stmt a.now) (seen s.old)) }
+    ensures shows { let w = setting_of f.now.program.now f.now.io.now f.now.inputs.now in ShowsAs seen_exit result (seen s.new) (effect_of w (calls_within w f.now.turns depth) f.now.turns (plain_stmt a.now) (seen s.old)) }
     ensures answered { RunsStmt f.now (seen s.old) (plain_stmt a.now) → IsAnswered result }
 {
     match &a.kind {
@@ -560,7 +566,7 @@ fn effect_of(
         StmtKind::Block(all) => {
             let all = all.as_slice();
             let x = effects_of(f, depth, s, all)?;
-            end_block(s, outlived, all);
+            end_declared(s, all);
             Ok(x)
         }
         StmtKind::Local(o, values) => {
@@ -571,13 +577,13 @@ fn effect_of(
         StmtKind::If(c, a, b) => {
             s.work_more(40)?;
             if condition(f, depth, s, c)? {
-                let x = effect_of(f, depth, s, false, a)?;
+                let x = effect_of(f, depth, s, a)?;
                 return Ok(x);
             }
             match b {
                 None => Ok(Exit::AtEnd),
                 Some(b) => {
-                    let x = effect_of(f, depth, s, false, b)?;
+                    let x = effect_of(f, depth, s, b)?;
                     Ok(x)
                 }
             }
@@ -596,8 +602,7 @@ fn effect_of(
                 Ok(x)
             }
             Some(first) => {
-                effect_of(f, depth, s, true, first)?;
-                let x = tested_loop(f, depth, s, c.as_ref(), last.as_ref(), body)?;
+                let x = first_and_loop(f, depth, s, first, c.as_ref(), last.as_ref(), body)?;
                 end_first(s, first);
                 Ok(x)
             }
@@ -618,6 +623,70 @@ fn effect_of(
     }
 }
 
+/// The statements of a block.
+fn block_of(a: &Stmt) -> Option<&[Stmt]>
+    ensures { option_map plain_stmts (option_copied result) ≡ block_items (plain_stmt a.now) }
+{
+    match &a.kind {
+        StmtKind::Block(all) => Some(all.as_slice()),
+        _ => None,
+    }
+}
+
+/// How a row of statements is left one of which was left so, or None where it goes on.
+fn early_exit(x: Exit) -> Option<Exit>
+    ensures { MatchOption result ((s : StateOf) (go : StateOf → Outcome ExitOf) → in_order (seen_exit x) s go ≡ go s) (λ y. (s : StateOf) (go : StateOf → Outcome ExitOf) → in_order (seen_exit x) s go ≡ got (seen_exit y) s) }
+{
+    match x {
+        Exit::AtEnd => None,
+        Exit::ByBreak => Some(Exit::ByBreak),
+        Exit::ByContinue => Some(Exit::ByContinue),
+        Exit::ByReturn(v) => Some(Exit::ByReturn(v)),
+    }
+}
+
+/// The first part of a `for`, which the objects of a block outlive.
+#[cycle(run)]
+fn first_effect(f: &Context, depth: usize, s: &mut State, first: &Stmt) -> Result<Exit, Stop>
+    requires { HasLayouts f.now.program.now }
+    ensures shows { let w = setting_of f.now.program.now f.now.io.now f.now.inputs.now in ShowsAs seen_exit result (seen s.new) (first_effect w (calls_within w f.now.turns depth) f.now.turns (a_stmt (plain_stmt first.now)) (seen s.old)) }
+    ensures answered { RunsStmt f.now (seen s.old) (plain_stmt first.now) → IsAnswered result }
+{
+    match block_of(first) {
+        Some(all) => {
+            let x = effects_of(f, depth, s, all)?;
+            Ok(x)
+        }
+        None => {
+            let x = effect_of(f, depth, s, first)?;
+            Ok(x)
+        }
+    }
+}
+
+/// The first part of a `for`, and where it is left at its end, the loop.
+#[cycle(run)]
+fn first_and_loop(
+    f: &Context,
+    depth: usize,
+    s: &mut State,
+    first: &Stmt,
+    c: Option<&Expr>,
+    last: Option<&Expr>,
+    body: &Stmt,
+) -> Result<Exit, Stop>
+    requires { HasLayouts f.now.program.now }
+    ensures shows { let w = setting_of f.now.program.now f.now.io.now f.now.inputs.now in ShowsAs seen_exit result (seen s.new) (loop_after_first w (calls_within w f.now.turns depth) f.now.turns (plain_stmt first.now) (option_map plain_expr (option_copied c.entry)) (option_map plain_expr (option_copied last.entry)) (plain_stmt body.now) (seen s.old)) }
+    ensures answered { RunsStmt f.now (seen s.old) (plain_stmt first.now) → RunsLoop f.now (seen s.old) (option_map plain_expr (option_copied c.entry)) (option_map plain_expr (option_copied last.entry)) (plain_stmt body.now) → IsAnswered result }
+{
+    let left = first_effect(f, depth, s, first)?;
+    if let Some(exit) = early_exit(left) {
+        return Ok(exit);
+    }
+    let x = tested_loop(f, depth, s, c, last, body)?;
+    Ok(x)
+}
+
 /// Statements in order, up to one that is not left at its end.
 #[cycle(run)]
 fn effects_of(f: &Context, depth: usize, s: &mut State, all: &[Stmt]) -> Result<Exit, Stop>
@@ -626,7 +695,7 @@ fn effects_of(f: &Context, depth: usize, s: &mut State, all: &[Stmt]) -> Result<
     ensures answered { RunsStmts f.now (seen s.old) (plain_stmts all.now) → IsAnswered result }
 {
     for a in all {
-        match effect_of(f, depth, s, false, a)? {
+        match effect_of(f, depth, s, a)? {
             Exit::AtEnd => {}
             x => return Ok(x),
         }
@@ -654,10 +723,10 @@ fn tested_loop(
     body: &Stmt,
 ) -> Result<Exit, Stop>
     requires { HasLayouts f.now.program.now }
-    ensures shows { let w = setting_of f.now.program.now f.now.io.now f.now.inputs.now in let calls = calls_within w f.now.turns depth in let c = option_map plain_expr (option_copied c.entry) in let last = option_map plain_expr (option_copied last.entry) in ShowsAs seen_exit result (seen s.new) (tested (holds w calls c (seen s.old)) (λ s2. turns f.now.turns (λ s3. effect_of w calls f.now.turns false (plain_stmt body.now) s3) (λ s3. going_on w calls last c s3) s2)) }
+    ensures shows { let w = setting_of f.now.program.now f.now.io.now f.now.inputs.now in let calls = calls_within w f.now.turns depth in let c = option_map plain_expr (option_copied c.entry) in let last = option_map plain_expr (option_copied last.entry) in ShowsAs seen_exit result (seen s.new) (tested (test_of w calls c (seen s.old)) (λ s2. turns f.now.turns (λ s3. effect_of w calls f.now.turns (plain_stmt body.now) s3) (λ s3. going_on w calls last c s3) s2)) }
     ensures answered { RunsLoop f.now (seen s.old) (option_map plain_expr (option_copied c.entry)) (option_map plain_expr (option_copied last.entry)) (plain_stmt body.now) → IsAnswered result }
 {
-    if !holds(f, depth, s, c)? {
+    if !test_of(f, depth, s, c)? {
         let x = end_loop(s)?;
         return Ok(x);
     }
@@ -677,13 +746,13 @@ fn turning_loop(
     body: &Stmt,
 ) -> Result<Exit, Stop>
     requires { HasLayouts f.now.program.now }
-    ensures shows { let w = setting_of f.now.program.now f.now.io.now f.now.inputs.now in let calls = calls_within w f.now.turns depth in let c = option_map plain_expr (option_copied c.entry) in let last = option_map plain_expr (option_copied last.entry) in ShowsAs seen_exit result (seen s.new) (turns f.now.turns (λ s3. effect_of w calls f.now.turns false (plain_stmt body.now) s3) (λ s3. going_on w calls last c s3) (seen s.old)) }
+    ensures shows { let w = setting_of f.now.program.now f.now.io.now f.now.inputs.now in let calls = calls_within w f.now.turns depth in let c = option_map plain_expr (option_copied c.entry) in let last = option_map plain_expr (option_copied last.entry) in ShowsAs seen_exit result (seen s.new) (turns f.now.turns (λ s3. effect_of w calls f.now.turns (plain_stmt body.now) s3) (λ s3. going_on w calls last c s3) (seen s.old)) }
     ensures answered { RunsLoop f.now (seen s.old) (option_map plain_expr (option_copied c.entry)) (option_map plain_expr (option_copied last.entry)) (plain_stmt body.now) → IsAnswered result }
 {
     let mut left = f.turns;
     while left > 0 {
         s.work_more(60)?;
-        let x = effect_of(f, depth, s, false, body)?;
+        let x = effect_of(f, depth, s, body)?;
         if let Some(exit) = loop_exit(x) {
             return Ok(exit);
         }
@@ -720,8 +789,8 @@ fn goes_on(
     ensures shows { let w = setting_of f.now.program.now f.now.io.now f.now.inputs.now in Shows result (seen s.new) (going_on w (calls_within w f.now.turns depth) (option_map plain_expr (option_copied last.entry)) (option_map plain_expr (option_copied c.entry)) (seen s.old)) }
     ensures answered { RunsTest f.now (seen s.old) (option_map plain_expr (option_copied c.entry)) (option_map plain_expr (option_copied last.entry)) → IsAnswered result }
 {
-    done(f, depth, s, last)?;
-    let h = holds(f, depth, s, c)?;
+    evaluated(f, depth, s, last)?;
+    let h = test_of(f, depth, s, c)?;
     Ok(h)
 }
 
@@ -740,12 +809,12 @@ fn bind_one(f: &Context, s: &mut State, o: u16, x: Value) -> Result<Value, Stop>
 /// The parameters are new objects with the arguments as their values.
 fn bind(f: &Context, s: &mut State, params: &[u16], xs: &[Value]) -> Result<(), Stop>
     requires { HasLayouts f.now.program.now }
-    ensures shows { let w = setting_of f.now.program.now f.now.io.now f.now.inputs.now in ShowsAs (λ _. no_value) result (seen s.new) (bound w params.now xs.now (seen s.old)) }
+    ensures shows { let w = setting_of f.now.program.now f.now.io.now f.now.inputs.now in ShowsAs (λ _. no_value) result (seen s.new) (parameters_written w params.now xs.now (seen s.old)) }
     ensures answered { IsGiven f.now → IsAnswered result }
 {
     for (i, o) in params.iter().enumerate() {
         let Some(x) = at(xs, i) else {
-            return Err(Stop::Undefined(Undefined::Access));
+            return Err(Stop::Undefined(Undefined::Invalid));
         };
         bind_one(f, s, *o, *x)?;
     }
@@ -753,8 +822,8 @@ fn bind(f: &Context, s: &mut State, params: &[u16], xs: &[Value]) -> Result<(), 
 }
 
 /// What a function gives that was left so.
-fn result_of(ty: &CType, main: bool, exit: Exit, s: &State) -> Result<Value, Stop>
-    ensures shows { Shows result (seen s.now) (result_of (plain_type ty.now) main (seen_exit exit) (seen s.now)) }
+fn call_result(ty: &CType, main: bool, exit: Exit, s: &State) -> Result<Value, Stop>
+    ensures shows { Shows result (seen s.now) (call_result (plain_type ty.now) main (seen_exit exit) (seen s.now)) }
     ensures answered { IsAnswered result }
 {
     match exit {
@@ -780,10 +849,10 @@ pub fn call(f: &Context, depth: usize, s: &mut State, g: u16, xs: &[Value]) -> R
     ensures answered { IsGiven f.now → IsTypedState (plain_program f.now.program.now) (seen s.old) → AreArgumentsOf f.now g xs.now → IsAnswered result }
 {
     if depth == 0 {
-        return Err(Stop::Undefined(Undefined::Access));
+        return Err(Stop::Undefined(Undefined::Invalid));
     }
     match function(f.program, g) {
-        None => Err(Stop::Undefined(Undefined::Access)),
+        None => Err(Stop::Undefined(Undefined::Invalid)),
         Some(called) => {
             let x = enter(f, depth - 1, s, g, called, xs)?;
             Ok(x)
@@ -808,8 +877,8 @@ fn enter(
 {
     s.work_more(40)?;
     bind(f, s, called.params.as_slice(), xs)?;
-    let exit = effect_of(f, depth, s, false, &called.body)?;
+    let exit = effect_of(f, depth, s, &called.body)?;
     end_frame(f.program, s, g);
-    let x = result_of(&called.result, g == f.program.main, exit, s)?;
+    let x = call_result(&called.result, g == f.program.main, exit, s)?;
     Ok(x)
 }

@@ -1482,7 +1482,7 @@ const UNDEFINED: &[Case] = &[
         others: &[],
         inputs: &[],
         turns: 20,
-        want: Meets(Undefined::StalePointer),
+        want: Meets(Undefined::PointerUse),
         work: None,
     },
     // int a; &a + 2;
@@ -1646,7 +1646,7 @@ const UNDEFINED: &[Case] = &[
         }],
         inputs: &[],
         turns: 20,
-        want: Meets(Undefined::StalePointer),
+        want: Meets(Undefined::PointerUse),
         work: None,
     },
     // int a; return *(long *)&a; as no leaf of that type begins there

@@ -13,9 +13,9 @@ use Rattle.ec_core.specs.ValueTypes.{HasType, IsTypedState}
 use Rattle.ec_interp.specs.Suits.{RunsNode}
 use Rattle.ec_interp.specs.Views.{plain_optional, seen, seen_exit, setting_of}
 use Rattle.ec_interp.specs.Weights.{node_weight, exprs_weight, kind_weight, stmts_weight, bodies}
-use Rattle.ec_interp.proofs.Parts.{plain_call, plain_block, plain_local, lighter_expr, lighter_stmt, lighter_body, turns_one, one_less, value_call, effect_block, weight_call, weight_block}
+use Rattle.ec_interp.proofs.Parts.{plain_call, plain_block, plain_local, lighter_expr, lighter_stmt, lighter_body, turns_one, one_less, value_call, effect_block, first_is_block, first_is_other, block_lighter, block_valid, weight_call, weight_block}
 use Rattle.ec_interp.proofs.Operands.{number_of}
-use Rattle.ec_interp.proofs.Steps.{part, later, worked_typed, node_expr, node_place, statement_expr, statement_in, loop_turn, loop_later, test_later, test_condition, test_last, declared_leaves, left_next, exprs_next, stmts_next, leaves_next, body_runs, after_value, after_place, after_read, after_condition, after_option, after_holds, after_done, after_going, after_statement, after_begin, after_parameters, old_operand, one_operand, step_types, call_arguments}
+use Rattle.ec_interp.proofs.Steps.{part, later, worked_typed, node_expr, node_place, statement_expr, statement_in, loop_turn, loop_later, test_later, test_condition, test_last, declared_leaves, left_next, exprs_next, stmts_next, leaves_next, body_runs, after_value, after_place, after_read, after_condition, after_option, after_test, after_evaluated, after_going, after_statement, after_first, after_begin, after_parameters, old_operand, one_operand, step_types, call_arguments}
 use Rattle.ec_interp.proofs.run.+run.Goals as goal
 
 pub node_value-values_of-requires : goal.node_value-values_of-requires
@@ -65,13 +65,13 @@ pub effect_of-returns-in_err-x-in-Block-clause-shows : goal.effect_of-returns-in
 effect_of-returns-in_err-x-in-Block-clause-shows t c =
     let f = c.args.f.now in
     let w = setting_of f.program.now f.io.now f.inputs.now in
-    rw (c.in-Block.is, effect_block w (calls_within w f.turns c.args.depth) f.turns c.args.outlived c.in-Block.all (seen c.args.s.now), ← c.as_slice-all.ensures) (first_of (search rules, grind (arith, common_steps)))
+    rw (c.in-Block.is, effect_block w (calls_within w f.turns c.args.depth) f.turns c.in-Block.all (seen c.args.s.now), ← c.as_slice-all.ensures) (first_of (search rules, grind (arith, common_steps)))
 
 pub effect_of-returns-in_ok-x-in-Block-clause-shows : goal.effect_of-returns-in_ok-x-in-Block-clause-shows
 effect_of-returns-in_ok-x-in-Block-clause-shows t c =
     let f = c.args.f.now in
     let w = setting_of f.program.now f.io.now f.inputs.now in
-    rw (c.in-Block.is, effect_block w (calls_within w f.turns c.args.depth) f.turns c.args.outlived c.in-Block.all (seen c.args.s.now), ← c.as_slice-all.ensures) (first_of (search rules, grind (arith, common_steps)))
+    rw (c.in-Block.is, effect_block w (calls_within w f.turns c.args.depth) f.turns c.in-Block.all (seen c.args.s.now), ← c.as_slice-all.ensures) (first_of (search rules, grind (arith, common_steps)))
 
 pub effect_of-returns-in_ok-x-in-While-clause-shows : goal.effect_of-returns-in_ok-x-in-While-clause-shows
 effect_of-returns-in_ok-x-in-While-clause-shows t c = rw (c.in-While.is, ← c.deref-in-While.ensures) c.in_ok-x-in-While.ensures.shows
@@ -92,21 +92,56 @@ effect_of-returns-in_err-x-in-None-first-clause-shows t c =
 
 pub effect_of-returns-in_ok-x-in-Some-first-clause-shows : goal.effect_of-returns-in_ok-x-in-Some-first-clause-shows
 effect_of-returns-in_ok-x-in-Some-first-clause-shows t c =
-    let first = rw c.deref-in-Some-first.ensures at c.in_ok-effect_of-in-Some-first.ensures.shows in
+    let shown = rw c.deref-in-Some-first.ensures at c.in_ok-x-in-Some-first.ensures.shows in
     let last = rw c.deref-in-Some-first-3.ensures at c.end_first.ensures in
-    rw (c.in-For.is, c.in-Some-first.is, ← c.as_ref-in-Some-first.ensures.value, ← c.as_ref-in-Some-first-2.ensures.value, ← c.deref-in-Some-first-2.ensures, first, c.in_ok-x-in-Some-first.ensures.shows, last) refl
+    rw (c.in-For.is, c.in-Some-first.is, ← c.as_ref-in-Some-first.ensures.value, ← c.as_ref-in-Some-first-2.ensures.value, ← c.deref-in-Some-first-2.ensures, shown, last) refl
 
 pub effect_of-returns-in_err-x-in-Some-first-clause-shows : goal.effect_of-returns-in_err-x-in-Some-first-clause-shows
 effect_of-returns-in_err-x-in-Some-first-clause-shows t c =
-    let first = rw c.deref-in-Some-first.ensures at c.in_ok-effect_of-in-Some-first.ensures.shows in
-    rw (c.in-For.is, c.in-Some-first.is, ← c.as_ref-in-Some-first.ensures.value, ← c.as_ref-in-Some-first-2.ensures.value, ← c.deref-in-Some-first-2.ensures, first) (first_of (search rules, grind (arith, common_steps)))
+    rw (c.in-For.is, c.in-Some-first.is, ← c.as_ref-in-Some-first.ensures.value, ← c.as_ref-in-Some-first-2.ensures.value, ← c.deref-in-Some-first-2.ensures, ← c.deref-in-Some-first.ensures) (first_of (search rules, grind (arith, common_steps)))
+
+pub first_effect-effects_of-requires : goal.first_effect-effects_of-requires
+first_effect-effects_of-requires t c =
+    let e = block_lighter (plain_stmt c.args.first.now) (plain_stmts c.in-Some.all.now) c.in-Some.ensures in
+    let d = c.decreases in
+    (omega (arith, e, d), c.requires)
+
+pub first_effect-returns-in_ok-x-in-Some-clause-shows : goal.first_effect-returns-in_ok-x-in-Some-clause-shows
+first_effect-returns-in_ok-x-in-Some-clause-shows t c =
+    let f = c.args.f.now in
+    let w = setting_of f.program.now f.io.now f.inputs.now in
+    first_is_block w (calls_within w f.turns c.args.depth) f.turns (plain_stmt c.args.first.now) (plain_stmts c.in-Some.all.now) (seen c.args.s.now) c.in-Some.ensures ∙ c.in_ok-x-in-Some.ensures.shows
+
+pub first_effect-returns-in_err-x-in-Some-clause-shows : goal.first_effect-returns-in_err-x-in-Some-clause-shows
+first_effect-returns-in_err-x-in-Some-clause-shows t c =
+    let f = c.args.f.now in
+    let w = setting_of f.program.now f.io.now f.inputs.now in
+    rw (first_is_block w (calls_within w f.turns c.args.depth) f.turns (plain_stmt c.args.first.now) (plain_stmts c.in-Some.all.now) (seen c.args.s.now) c.in-Some.ensures) (first_of (search rules, grind (arith, common_steps)))
+
+pub first_effect-returns-in_ok-x-in-None-clause-shows : goal.first_effect-returns-in_ok-x-in-None-clause-shows
+first_effect-returns-in_ok-x-in-None-clause-shows t c =
+    let f = c.args.f.now in
+    let w = setting_of f.program.now f.io.now f.inputs.now in
+    first_is_other w (calls_within w f.turns c.args.depth) f.turns (plain_stmt c.args.first.now) (seen c.args.s.now) c.in-None.ensures ∙ c.in_ok-x-in-None.ensures.shows
+
+pub first_effect-returns-in_err-x-in-None-clause-shows : goal.first_effect-returns-in_err-x-in-None-clause-shows
+first_effect-returns-in_err-x-in-None-clause-shows t c =
+    let f = c.args.f.now in
+    let w = setting_of f.program.now f.io.now f.inputs.now in
+    rw (first_is_other w (calls_within w f.turns c.args.depth) f.turns (plain_stmt c.args.first.now) (seen c.args.s.now) c.in-None.ensures) (first_of (search rules, grind (arith, common_steps)))
+
+pub first_and_loop-returns-in-Some-clause-shows : goal.first_and_loop-returns-in-Some-clause-shows
+first_and_loop-returns-in-Some-clause-shows t c = rw (c.in_ok-left.ensures.shows) (c.in-Some.ensures (seen c.first_effect.new.s) _)
+
+pub first_and_loop-returns-in_err-x-clause-shows : goal.first_and_loop-returns-in_err-x-clause-shows
+first_and_loop-returns-in_err-x-clause-shows t c = rw (c.in_ok-left.ensures.shows, c.in_default.ensures) (first_of (search rules, grind (arith, common_steps)))
 
 pub turning_loop-returns-in-Some-clause-shows : goal.turning_loop-returns-in-Some-clause-shows
 turning_loop-returns-in-Some-clause-shows t c =
     let f = c.args.f.now in
     let w = setting_of f.program.now f.io.now f.inputs.now in
     let calls = calls_within w f.turns c.args.depth in
-    let body : State → Outcome Exit = λ s. effect_of w calls f.turns false (plain_stmt c.args.body.now) s in
+    let body : State → Outcome Exit = λ s. effect_of w calls f.turns (plain_stmt c.args.body.now) s in
     let test : State → Outcome Bool = λ s. going_on w calls (option_map plain_expr (option_copied c.args.last)) (option_map plain_expr (option_copied c.args.c)) s in
     let one = turns_one c.loop-left.left body test (seen c.loop-left.s) (omega (arith, c.loop-left-test.true)) in
     sym c.loop-left.invariant.0 ∙ (one ∙ rw (← c.in_ok-work_more.ensures, c.in_ok-x.ensures.shows) (c.in-Some.ensures (seen c.effect_of.new.s) _))
@@ -116,7 +151,7 @@ turning_loop-returns-in_err-goes_on-clause-shows t c =
     let f = c.args.f.now in
     let w = setting_of f.program.now f.io.now f.inputs.now in
     let calls = calls_within w f.turns c.args.depth in
-    let body : State → Outcome Exit = λ s. effect_of w calls f.turns false (plain_stmt c.args.body.now) s in
+    let body : State → Outcome Exit = λ s. effect_of w calls f.turns (plain_stmt c.args.body.now) s in
     let test : State → Outcome Bool = λ s. going_on w calls (option_map plain_expr (option_copied c.args.last)) (option_map plain_expr (option_copied c.args.c)) s in
     let one = turns_one c.loop-left.left body test (seen c.loop-left.s) (omega (arith, c.loop-left-test.true)) in
     rw (← c.loop-left.invariant.0, one, ← c.in_ok-work_more.ensures, c.in_ok-x.ensures.shows, c.in_default.ensures) (first_of (search rules, grind (arith, common_steps)))
@@ -126,7 +161,7 @@ turning_loop-returns-then-not-branch-clause-shows t c =
     let f = c.args.f.now in
     let w = setting_of f.program.now f.io.now f.inputs.now in
     let calls = calls_within w f.turns c.args.depth in
-    let body : State → Outcome Exit = λ s. effect_of w calls f.turns false (plain_stmt c.args.body.now) s in
+    let body : State → Outcome Exit = λ s. effect_of w calls f.turns (plain_stmt c.args.body.now) s in
     let test : State → Outcome Bool = λ s. going_on w calls (option_map plain_expr (option_copied c.args.last)) (option_map plain_expr (option_copied c.args.c)) s in
     let one = turns_one c.loop-left.left body test (seen c.loop-left.s) (omega (arith, c.loop-left-test.true)) in
     sym c.loop-left.invariant.0 ∙ (one ∙ rw (← c.in_ok-work_more.ensures, c.in_ok-x.ensures.shows, c.in_default.ensures, c.in_ok-goes_on.ensures.shows, c.if-not-branch.true, c.in_ok-exit.ensures.exit, c.in_ok-exit.ensures.state) refl)
@@ -136,13 +171,13 @@ turning_loop-loop-left-preserved t c =
     let f = c.args.f.now in
     let w = setting_of f.program.now f.io.now f.inputs.now in
     let calls = calls_within w f.turns c.args.depth in
-    let body : State → Outcome Exit = λ s. effect_of w calls f.turns false (plain_stmt c.args.body.now) s in
+    let body : State → Outcome Exit = λ s. effect_of w calls f.turns (plain_stmt c.args.body.now) s in
     let test : State → Outcome Bool = λ s. going_on w calls (option_map plain_expr (option_copied c.args.last)) (option_map plain_expr (option_copied c.args.c)) s in
     let one = turns_one c.loop-left.left body test (seen c.loop-left.s) (omega (arith, c.loop-left-test.true)) in (
       sym (one ∙ rw (← c.in_ok-work_more.ensures, c.in_ok-x.ensures.shows, c.in_default.ensures, c.in_ok-goes_on.ensures.shows, c.if-not-branch.false) refl) ∙ c.loop-left.invariant.0,
       λ h. (let l = c.loop-left.invariant.1 h in
           let k = worked_typed c.args.f.now _ _ _ c.in_ok-work_more.ensures l.test.typed in
-          let m = after_statement c.args.f.now f.turns c.args.depth false (plain_stmt c.args.body.now) (seen_exit c.in_ok-x.x) _ _ (loop_turn c.args.f.now _ l k) c.in_ok-x.ensures.shows in
+          let m = after_statement c.args.f.now f.turns c.args.depth (plain_stmt c.args.body.now) (seen_exit c.in_ok-x.x) _ _ (loop_turn c.args.f.now _ l k) c.in_ok-x.ensures.shows in
           let n = after_going c.args.f.now f.turns c.args.depth (option_map plain_expr (option_copied c.args.last)) (option_map plain_expr (option_copied c.args.c)) _ _ _ (test_later c.args.f.now _ l.test m) c.in_ok-goes_on.ensures.shows in
           loop_later c.args.f.now _ l n),
     )
@@ -348,12 +383,12 @@ pub option_value-returns-in_err-x-in-Some-clause-answered : goal.option_value-re
 option_value-returns-in_err-x-in-Some-clause-answered t c = rw (c.in-Some.is) (λ h.
     (let a = c.in_err-x-in-Some.ensures.answered h in search rules))
 
-pub holds-returns-in_err-h-in-Some-clause-answered : goal.holds-returns-in_err-h-in-Some-clause-answered
-holds-returns-in_err-h-in-Some-clause-answered t c = rw (c.in-Some.is) (λ h.
+pub test_of-returns-in_err-h-in-Some-clause-answered : goal.test_of-returns-in_err-h-in-Some-clause-answered
+test_of-returns-in_err-h-in-Some-clause-answered t c = rw (c.in-Some.is) (λ h.
     (let a = c.in_err-h-in-Some.ensures.answered (record { given = h.given; typed = h.typed; function = h.function; keeps = h.keeps.0 }) in search rules))
 
-pub done-returns-in_err-value_of-in-Some-clause-answered : goal.done-returns-in_err-value_of-in-Some-clause-answered
-done-returns-in_err-value_of-in-Some-clause-answered t c = rw (c.in-Some.is) (λ h.
+pub evaluated-returns-in_err-value_of-in-Some-clause-answered : goal.evaluated-returns-in_err-value_of-in-Some-clause-answered
+evaluated-returns-in_err-value_of-in-Some-clause-answered t c = rw (c.in-Some.is) (λ h.
     (let a = c.in_err-value_of-in-Some.ensures.answered h in search rules))
 
 pub returned-returns-in_err-x-in-Some-clause-answered : goal.returned-returns-in_err-x-in-Some-clause-answered
@@ -365,7 +400,7 @@ turning_loop-returns-in_err-x-clause-shows t c =
     let f = c.args.f.now in
     let w = setting_of f.program.now f.io.now f.inputs.now in
     let calls = calls_within w f.turns c.args.depth in
-    let body : State → Outcome Exit = λ s. effect_of w calls f.turns false (plain_stmt c.args.body.now) s in
+    let body : State → Outcome Exit = λ s. effect_of w calls f.turns (plain_stmt c.args.body.now) s in
     let test : State → Outcome Bool = λ s. going_on w calls (option_map plain_expr (option_copied c.args.last)) (option_map plain_expr (option_copied c.args.c)) s in
     let one = turns_one c.loop-left.left body test (seen c.loop-left.s) (omega (arith, c.loop-left-test.true)) in
     rw (← c.loop-left.invariant.0, one, ← c.in_ok-work_more.ensures) (first_of (search rules, grind (arith, common_steps)))
@@ -374,25 +409,25 @@ pub turning_loop-returns-in_err-goes_on-clause-answered : goal.turning_loop-retu
 turning_loop-returns-in_err-goes_on-clause-answered t c = λ h.
     (let l = c.loop-left.invariant.1 h in
     let k = worked_typed c.args.f.now _ _ _ c.in_ok-work_more.ensures l.test.typed in
-    let m = after_statement c.args.f.now c.args.f.now.turns c.args.depth false (plain_stmt c.args.body.now) (seen_exit c.in_ok-x.x) _ _ (loop_turn c.args.f.now _ l k) c.in_ok-x.ensures.shows in
+    let m = after_statement c.args.f.now c.args.f.now.turns c.args.depth (plain_stmt c.args.body.now) (seen_exit c.in_ok-x.x) _ _ (loop_turn c.args.f.now _ l k) c.in_ok-x.ensures.shows in
     let a = c.in_err-goes_on.ensures.answered (test_later c.args.f.now _ l.test m) in search rules)
 
-pub tested_loop-returns-in_err-holds-clause-answered : goal.tested_loop-returns-in_err-holds-clause-answered
-tested_loop-returns-in_err-holds-clause-answered t c = λ h.
-    (let a = c.in_err-holds.ensures.answered (test_condition c.args.f.now h.test) in search rules)
+pub tested_loop-returns-in_err-test_of-clause-answered : goal.tested_loop-returns-in_err-test_of-clause-answered
+tested_loop-returns-in_err-test_of-clause-answered t c = λ h.
+    (let a = c.in_err-test_of.ensures.answered (test_condition c.args.f.now h.test) in search rules)
 
 pub tested_loop-returns-in_err-x-2-clause-answered : goal.tested_loop-returns-in_err-x-2-clause-answered
 tested_loop-returns-in_err-x-2-clause-answered t c = λ h.
-    (let k = after_holds c.args.f.now c.args.f.now.turns c.args.depth (option_map plain_expr (option_copied c.args.c)) _ _ _ (test_condition c.args.f.now h.test) c.in_ok-holds.ensures.shows in
+    (let k = after_test c.args.f.now c.args.f.now.turns c.args.depth (option_map plain_expr (option_copied c.args.c)) _ _ _ (test_condition c.args.f.now h.test) c.in_ok-test_of.ensures.shows in
     let a = c.in_err-x-2.ensures.answered (loop_later c.args.f.now _ h k) in search rules)
 
-pub goes_on-returns-in_err-done-clause-answered : goal.goes_on-returns-in_err-done-clause-answered
-goes_on-returns-in_err-done-clause-answered t c = λ h.
-    (let a = c.in_err-done.ensures.answered (test_last c.args.f.now h) in search rules)
+pub goes_on-returns-in_err-evaluated-clause-answered : goal.goes_on-returns-in_err-evaluated-clause-answered
+goes_on-returns-in_err-evaluated-clause-answered t c = λ h.
+    (let a = c.in_err-evaluated.ensures.answered (test_last c.args.f.now h) in search rules)
 
 pub goes_on-returns-in_err-h-clause-answered : goal.goes_on-returns-in_err-h-clause-answered
 goes_on-returns-in_err-h-clause-answered t c = λ h.
-    (let k = after_done c.args.f.now c.args.f.now.turns c.args.depth (option_map plain_expr (option_copied c.args.last)) _ _ _ (test_last c.args.f.now h) c.in_ok-done.ensures.shows in
+    (let k = after_evaluated c.args.f.now c.args.f.now.turns c.args.depth (option_map plain_expr (option_copied c.args.last)) _ _ _ (test_last c.args.f.now h) c.in_ok-evaluated.ensures.shows in
     let a = c.in_err-h.ensures.answered (test_condition c.args.f.now (test_later c.args.f.now _ h k)) in search rules)
 
 pub values_of-returns-in_err-x-clause-answered : goal.values_of-returns-in_err-x-clause-answered
@@ -412,7 +447,7 @@ pub effects_of-loop-a-preserved : goal.effects_of-loop-a-preserved
 effects_of-loop-a-preserved t c = (
   first_of (search rules, grind (arith, common_steps)),
   λ h. (let v = stmts_next c.args.f.now _ c.args.all.now c.loop-a.a-index c.a-item.result (omega (arith, c.loop-a-test.true)) c.a-item.is (c.loop-a.invariant.1 h) in
-      let k = after_statement c.args.f.now c.args.f.now.turns c.args.depth false (plain_stmt c.a-item.result) (seen_exit c.in_ok-x.x) _ _ (record { given = v.given; typed = v.typed; function = v.function; returns = v.returns; in_loop = v.in_loop; valid = v.valid.0 }) c.in_ok-x.ensures.shows in
+      let k = after_statement c.args.f.now c.args.f.now.turns c.args.depth (plain_stmt c.a-item.result) (seen_exit c.in_ok-x.x) _ _ (record { given = v.given; typed = v.typed; function = v.function; returns = v.returns; in_loop = v.in_loop; valid = v.valid.0 }) c.in_ok-x.ensures.shows in
       record { given = v.given; typed = k; function = v.function; returns = v.returns; in_loop = v.in_loop; valid = v.valid.1 }),
 )
 
@@ -482,8 +517,23 @@ effect_of-returns-in_err-x-in-None-first-clause-answered t c = rw (c.in-For.is, 
 
 pub effect_of-returns-in_err-x-in-Some-first-clause-answered : goal.effect_of-returns-in_err-x-in-Some-first-clause-answered
 effect_of-returns-in_err-x-in-Some-first-clause-answered t c = rw (c.in-For.is, c.in-Some-first.is, ← c.as_ref-in-Some-first.ensures.value, ← c.as_ref-in-Some-first-2.ensures.value, ← c.deref-in-Some-first-2.ensures, ← c.deref-in-Some-first.ensures) (λ h.
-    (let k = after_statement c.args.f.now c.args.f.now.turns c.args.depth true (plain_stmt c.deref-in-Some-first.result.now) _ _ _ (statement_in c.args.f.now (plain_stmt c.deref-in-Some-first.result.now) _ h h.typed h.valid.0) c.in_ok-effect_of-in-Some-first.ensures.shows in
-    let a = c.in_err-x-in-Some-first.ensures.answered (record { test = record { given = h.given; typed = k; function = h.function; tested = h.valid.1; done = h.valid.2 }; returns = h.returns; turn = h.valid.3 }) in search rules))
+    (let a = c.in_err-x-in-Some-first.ensures.answered (statement_in c.args.f.now (plain_stmt c.deref-in-Some-first.result.now) _ h h.typed h.valid.0) (record { test = record { given = h.given; typed = h.typed; function = h.function; tested = h.valid.1; done = h.valid.2 }; returns = h.returns; turn = h.valid.3 }) in search rules))
+
+pub first_effect-returns-in_err-x-in-Some-clause-answered : goal.first_effect-returns-in_err-x-in-Some-clause-answered
+first_effect-returns-in_err-x-in-Some-clause-answered t c = λ h.
+    (let v = block_valid (plain_program c.args.f.now.program.now) c.args.f.now.io.now h.function h.returns h.in_loop (plain_stmt c.args.first.now) (plain_stmts c.in-Some.all.now) c.in-Some.ensures h.valid in
+    let a = c.in_err-x-in-Some.ensures.answered (record { given = h.given; typed = h.typed; function = h.function; returns = h.returns; in_loop = h.in_loop; valid = v }) in search rules)
+
+pub first_effect-returns-in_err-x-in-None-clause-answered : goal.first_effect-returns-in_err-x-in-None-clause-answered
+first_effect-returns-in_err-x-in-None-clause-answered t c = λ h. (let a = c.in_err-x-in-None.ensures.answered h in search rules)
+
+pub first_and_loop-returns-in_err-left-clause-answered : goal.first_and_loop-returns-in_err-left-clause-answered
+first_and_loop-returns-in_err-left-clause-answered t c = λ h l. (let a = c.in_err-left.ensures.answered h in search rules)
+
+pub first_and_loop-returns-in_err-x-clause-answered : goal.first_and_loop-returns-in_err-x-clause-answered
+first_and_loop-returns-in_err-x-clause-answered t c = λ h l.
+    (let k = after_first c.args.f.now c.args.f.now.turns c.args.depth (plain_stmt c.args.first.now) (seen_exit c.in_ok-left.left) _ _ h c.in_ok-left.ensures.shows in
+    let a = c.in_err-x.ensures.answered (loop_later c.args.f.now _ l k) in search rules)
 
 pub effect_of-returns-in_err-x-in-Return-clause-answered : goal.effect_of-returns-in_err-x-in-Return-clause-answered
 effect_of-returns-in_err-x-in-Return-clause-answered t c = rw (c.in-Return.is) (λ h.

@@ -40,11 +40,11 @@ decreases-option_value l = l.depth * bodies (map plain_function l.f.now.program.
 abbrev pub decreases-values_of : goal.decreases-values_of
 decreases-values_of l = l.depth * bodies (map plain_function l.f.now.program.now.funcs.items) + exprs_weight (plain_exprs l.es.now)
 
-abbrev pub decreases-holds : goal.decreases-holds
-decreases-holds l = l.depth * bodies (map plain_function l.f.now.program.now.funcs.items) + optional_weight (option_map plain_expr (option_copied l.c))
+abbrev pub decreases-test_of : goal.decreases-test_of
+decreases-test_of l = l.depth * bodies (map plain_function l.f.now.program.now.funcs.items) + optional_weight (option_map plain_expr (option_copied l.c))
 
-abbrev pub decreases-done : goal.decreases-done
-decreases-done l = l.depth * bodies (map plain_function l.f.now.program.now.funcs.items) + optional_weight (option_map plain_expr (option_copied l.e))
+abbrev pub decreases-evaluated : goal.decreases-evaluated
+decreases-evaluated l = l.depth * bodies (map plain_function l.f.now.program.now.funcs.items) + optional_weight (option_map plain_expr (option_copied l.e))
 
 abbrev pub decreases-returned : goal.decreases-returned
 decreases-returned l = l.depth * bodies (map plain_function l.f.now.program.now.funcs.items) + optional_weight (option_map plain_expr l.e.now)
@@ -54,6 +54,12 @@ decreases-initialising l = l.depth * bodies (map plain_function l.f.now.program.
 
 abbrev pub decreases-effect_of : goal.decreases-effect_of
 decreases-effect_of l = l.depth * bodies (map plain_function l.f.now.program.now.funcs.items) + stmt_weight (plain_stmt l.a.now)
+
+abbrev pub decreases-first_effect : goal.decreases-first_effect
+decreases-first_effect l = l.depth * bodies (map plain_function l.f.now.program.now.funcs.items) + stmt_weight (plain_stmt l.first.now) + 1
+
+abbrev pub decreases-first_and_loop : goal.decreases-first_and_loop
+decreases-first_and_loop l = l.depth * bodies (map plain_function l.f.now.program.now.funcs.items) + stmt_weight (plain_stmt l.first.now) + optional_weight (option_map plain_expr (option_copied l.c)) + optional_weight (option_map plain_expr (option_copied l.last)) + stmt_weight (plain_stmt l.body.now) + 5
 
 abbrev pub decreases-effects_of : goal.decreases-effects_of
 decreases-effects_of l = l.depth * bodies (map plain_function l.f.now.program.now.funcs.items) + stmts_weight (plain_stmts l.all.now)
@@ -98,7 +104,7 @@ abbrev pub invariant-turning_loop-loop-left : goal.invariant-turning_loop-loop-l
 invariant-turning_loop-loop-left l =
     let w = setting_of l.f.program.now l.f.io.now l.f.inputs.now in
     let calls = calls_within w l.f.turns l.depth in
-    let body : State → Outcome Exit = λ s. effect_of w calls l.f.turns false (plain_stmt l.body) s in
+    let body : State → Outcome Exit = λ s. effect_of w calls l.f.turns (plain_stmt l.body) s in
     let test : State → Outcome Bool = λ s. going_on w calls (option_map plain_expr (option_copied l.last)) (option_map plain_expr (option_copied l.c)) s in
     (turns l.left body test (seen l.s) ≡ turns l.f.turns body test (seen l.fn.s))
     × (RunsLoop l.f (seen l.fn.s) (option_map plain_expr (option_copied l.c)) (option_map plain_expr (option_copied l.last)) (plain_stmt l.body) → RunsLoop l.f (seen l.s) (option_map plain_expr (option_copied l.c)) (option_map plain_expr (option_copied l.last)) (plain_stmt l.body))
