@@ -1,6 +1,6 @@
 -- How many constructs may be opened.
-use Rattle.std.proofs.Common.{◌≡◌, ℕ, zero, suc, ◌-◌, ◌+◌, ◌<◌, ◌≤◌, List, length, Option, Some, None, refl, sym, ap, ◌∙◌, arith, add-one}
-use Rattle.ec_reading.specs.Reading.{Inner, opened_at, within}
+use Rattle.std.proofs.Common.{◌≡◌, ℕ, zero, suc, ◌-◌, ◌<◌, Some, None, refl, ap, arith}
+use Rattle.ec_reading.specs.Reading.{opened_at}
 use Rattle.ec_parse.specs.Reads.{inner_at}
 use Rattle.ec_parse.proofs.Leaves.{length_leaves}
 

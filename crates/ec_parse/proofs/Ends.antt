@@ -1,5 +1,5 @@
 -- Tokens that are left behind a unit, and lists that end with their end.
-use Rattle.std.proofs.Common.{◌≡◌, ◌==◌, ℕ, List, [], ◌∷◌, ◌++◌, length, map, false, Err, refl, ap, ◌∙◌}
+use Rattle.std.proofs.Common.{◌≡◌, ◌==◌, ℕ, List, [], ◌∷◌, ◌++◌, length, false, Err, refl, ap, ◌∙◌}
 use Rattle.ec_grammar.specs.declared.token.Token.{Token}
 use Rattle.ec_grammar.specs.Tokens as tokens
 use Rattle.ec_grammar.specs.Tokens.{view_token, view_tokens}

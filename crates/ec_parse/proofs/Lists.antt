@@ -1,5 +1,5 @@
 -- Lists of initialisers, declarators and items, as loops build them.
-use Rattle.std.proofs.Common.{◌≡◌, ℕ, ◌+◌, List, [], ◌∷◌, ◌++◌, map, refl, ap, ◌∙◌, arith}
+use Rattle.std.proofs.Common.{◌≡◌, ℕ, List, [], ◌∷◌, ◌++◌, map, refl, ap, arith}
 use Rattle.std.specs.Prelude.{max}
 use Rattle.ec_grammar.specs.declared.tree.NextInitialiser.{NextInitialiser}
 use Rattle.ec_grammar.specs.declared.tree.Item.{Item}
@@ -23,10 +23,10 @@ pub list_height : {A B : Type 0} (height : B → ℕ) (view : A → B) (xs : Lis
 list_height height view [] x = omega arith
 list_height height view (y ∷ ys) x = let e = list_height height view ys x in omega (arith, e)
 
-pub initialisers_height : (xs : List NextInitialiser) (x : NextInitialiser) → height_initialisers (views_initialisers (xs ++ x ∷ [])) ≡ max (height_initialisers (views_initialisers xs)) (height_initialiser (view_initialiser x.value))
+pub initialisers_height : (xs : List NextInitialiser) (x : NextInitialiser) → height_initialisers (initialisers_of (map view_next_initialiser (xs ++ x ∷ []))) ≡ max (height_initialisers (initialisers_of (map view_next_initialiser xs))) (height_initialiser (view_initialiser x.value))
 initialisers_height [] x = omega arith
 initialisers_height (y ∷ ys) x = let e = initialisers_height ys x in omega (arith, e)
 
-pub items_height : (xs : List Item) (x : Item) → height_items (views_items (xs ++ x ∷ [])) ≡ max (height_items (views_items xs)) (height_item (view_item x))
+pub items_height : (xs : List Item) (x : Item) → height_items (items_of (map view_item (xs ++ x ∷ []))) ≡ max (height_items (items_of (map view_item xs))) (height_item (view_item x))
 items_height [] x = omega arith
 items_height (y ∷ ys) x = let e = items_height ys x in omega (arith, e)

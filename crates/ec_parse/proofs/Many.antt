@@ -1,8 +1,8 @@
 -- The items of a list, as a loop reads them.
-use Rattle.std.proofs.Common.{◌≡◌, ℕ, zero, suc, ◌-◌, ◌+◌, ◌<◌, ◌≤◌, List, [], ◌∷◌, ◌++◌, length, map, Result, Ok, Err, Option, Some, None, refl, sym, ap, ◌∙◌, arith, append_assoc}
+use Rattle.std.proofs.Common.{◌≡◌, ℕ, suc, ◌-◌, ◌+◌, ◌<◌, ◌≤◌, List, [], ◌∷◌, ◌++◌, length, map, Ok, Err, Option, Some, None, refl, sym, ap, ◌∙◌, arith, append_assoc}
 use Rattle.ec_grammar.specs.declared.token.Token.{Token}
 use Rattle.ec_grammar.specs.Trees.{Leaf}
-use Rattle.ec_reading.specs.Reading.{Fault, Read, ◌>>=◌, many_up_to, many}
+use Rattle.ec_reading.specs.Reading.{Read, ◌>>=◌, many_up_to, many}
 use Rattle.ec_parse.specs.declared.stop.Stop.{Stop}
 use Rattle.ec_parse.specs.declared.stop.Stop.TheVariants as stops
 use Rattle.ec_parse.specs.Reads.{leaves_of, Fails, FailsAt}

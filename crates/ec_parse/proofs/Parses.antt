@@ -1,9 +1,9 @@
 -- The laws of parsing, from those of reading.
-use Rattle.std.proofs.Common.{◌≡◌, ℕ, zero, suc, ◌-◌, ◌+◌, ◌≤◌, List, [], ◌∷◌, length, map, Result, Ok, Err, refl, sym, ap, ◌∙◌, arith, inl, inr, ◌⊎◌, subst}
-use Rattle.std.specs.Prelude.{◌<◌, ◌↔◌, IfOk, IfErr}
+use Rattle.std.proofs.Common.{◌≡◌, ℕ, suc, ◌-◌, ◌+◌, List, [], ◌∷◌, length, Result, Ok, Err, refl, sym, ap, ◌∙◌, arith, inl, inr, ◌⊎◌, subst}
+use Rattle.std.specs.Prelude.{IfOk, IfErr}
 use Rattle.ec_grammar.specs.declared.token.Token.{Token}
 use Rattle.ec_grammar.specs.declared.tree.Tree.{Tree}
-use Rattle.ec_grammar.specs.Tokens.{Placed, view_token, view_tokens}
+use Rattle.ec_grammar.specs.Tokens.{Placed, view_tokens}
 use Rattle.ec_grammar.specs.Trees as t
 use Rattle.ec_grammar.specs.Trees.{Leaf}
 use Rattle.ec_grammar.specs.Grammar.{leaves_from, Derives}
@@ -18,7 +18,7 @@ use Rattle.ec_parse.specs.declared.stop.Stop.{Stop}
 use Rattle.ec_parse.specs.declared.stop.Stop.TheVariants as stops
 use Rattle.ec_parse.specs.declared.stop.ParseStop.{ParseStop}
 use Rattle.ec_parse.specs.declared.stop.ParseStop.TheVariants.{NoMemory, Syntax, TooDeep}
-use Rattle.ec_parse.specs.Reads.{leaves_of, Fails, Gives}
+use Rattle.ec_parse.specs.Reads.{leaves_of, Fails}
 use Rattle.ec_parse.specs.Parse.{IsTold, IsRead, IsOnly, IsRefused, IsBadAt}
 
 -- the leaves with their indices from the front

@@ -1,18 +1,17 @@
 -- Steps of reading expressions that the search does not find.
-use Rattle.std.proofs.Common.{◌≡◌, ℕ, zero, suc, ◌-◌, ◌+◌, ◌<◌, List, [], ◌∷◌, map, Result, Ok, Err, Option, Some, None, refl, sym, ap, ◌∙◌, arith}
+use Rattle.std.proofs.Common.{◌≡◌, ℕ, zero, suc, ◌-◌, ◌<◌, List, map, Ok, refl, sym, ap, ◌∙◌, arith}
 use Rattle.ec_grammar.specs.declared.tree.Argument.{Argument}
 use Rattle.ec_grammar.specs.Trees as t
 use Rattle.ec_grammar.specs.Trees.{Leaf}
-use Rattle.ec_grammar.specs.Views.{views_further}
-use Rattle.ec_reading.specs.Reading.{Inner, Depth, ◌>>=◌, many, argument_at, further_by, binary_by, joins_by, chain}
+use Rattle.ec_reading.specs.Reading.{Inner, Depth, many, argument_at, further_of, further_by, binary_by, joins_by, chain}
 use Rattle.ec_parse.specs.declared.stop.Stop.{Stop}
 use Rattle.ec_parse.specs.declared.stop.Stop.TheVariants as stops
 use Rattle.ec_parse.specs.Reads.{Fails}
-use Rattle.ec_parse.proofs.Rows.{view_argument, further_map}
+use Rattle.ec_parse.specs.Parts.{view_argument}
 
-pub further_is : (i : Inner) (ts : List Leaf) (xs : List Argument) (rest : List Leaf) → many (argument_at i) ts ≡ Ok (map view_argument xs, rest) → further_by i ts ≡ Ok (views_further xs, rest)
+pub further_is : (i : Inner) (ts : List Leaf) (xs : List Argument) (rest : List Leaf) → many (argument_at i) ts ≡ Ok (map view_argument xs, rest) → further_by i ts ≡ Ok (further_of (map view_argument xs), rest)
 unfolding further_by
-further_is i ts xs rest e = rw e (ap (λ (z : t.Further). Ok (z, rest)) (further_map xs))
+further_is i ts xs rest e = rw e refl
 
 pub further_fails : (i : Inner) (ts : List Leaf) (e : Stop) → Fails e (many (argument_at i) ts) → Fails e (further_by i ts)
 unfolding further_by

@@ -1,5 +1,5 @@
 -- `void` alone.
-use Rattle.std.proofs.Common.{◌≡◌, ◌==◌, ℕ, List, [], ◌∷◌, length, map, Bool, true, false, Option, Some, None, refl, arith}
+use Rattle.std.proofs.Common.{◌≡◌, ◌==◌, List, [], ◌∷◌, length, map, true, false, Option, Some, None, refl, arith}
 use Rattle.std.proofs.lemmas.Bool.{eqb-true}
 use Rattle.ec_grammar.specs.declared.tree.Spec.{Spec}
 use Rattle.ec_grammar.specs.declared.tree.Spec.TheVariants as spec_kinds

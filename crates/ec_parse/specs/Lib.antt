@@ -1,4 +1,5 @@
 pub mod Reads
 pub mod Parts
+pub mod Statements
 pub mod Units
 pub mod Parse

@@ -1,5 +1,5 @@
 -- What a list of tokens is answered.
-use Rattle.std.specs.Prelude.{ℕ, ◌+◌, ◌-◌, ◌≡◌, List, length, Result, Ok, Err, ◌⊎◌}
+use Rattle.std.specs.Prelude.{ℕ, ◌+◌, ◌-◌, ◌≡◌, List, length, Result, Ok, Err}
 use Rattle.ec_grammar.specs.declared.tree.Tree.{Tree}
 use Rattle.ec_grammar.specs.Tokens.{Placed}
 use Rattle.ec_grammar.specs.Trees as t

@@ -1,5 +1,5 @@
 -- What the functions of the parser answer, beside what reading answers.
-use Rattle.std.specs.Prelude.{ℕ, suc, ◌-◌, ◌≡◌, ◌≤◌, List, [], ◌∷◌, length, nat_lt, Bool, true, false, cond, Option, Some, None, Result, Ok, Err}
+use Rattle.std.specs.Prelude.{ℕ, suc, ◌-◌, ◌≡◌, ◌<◌, ◌≤◌, max, List, [], ◌∷◌, length, nat_lt, Bool, true, false, cond, Option, Some, None, Result, Ok, Err}
 use Rattle.ec_space.specs.declared.seq.NoMemory.{NoMemory}
 use Rattle.ec_grammar.specs.declared.token.PragmaKind.{PragmaKind}
 use Rattle.ec_grammar.specs.declared.token.PragmaState.{PragmaState}
@@ -47,6 +47,46 @@ abbrev pub GivesAt : {X Y : Type 0} → (X → Y) → Result (Option X) Stop →
 GivesAt view (Ok None) read = read ≡ None
 GivesAt view (Ok (Some x)) read = read ≡ Some (Ok (view x))
 GivesAt view (Err e) read = FailsAt e read
+
+-- What a function returned, seen by view, is what reading answers, and it is so; unless memory ran out.
+abbrev pub Reads : {X Y : Type 0} → (X → Y) → (X → Type 0) → Result X Stop → Result Y Fault → Type 0
+Reads view IsSo (Ok x) read = (read ≡ Ok (view x)) × IsSo x
+Reads view IsSo (Err e) read = Fails e read
+
+-- The same of an item, which need not be there.
+abbrev pub ReadsAt : {X Y : Type 0} → (X → Y) → (X → Type 0) → Result (Option X) Stop → Option (Result Y Fault) → Type 0
+ReadsAt view IsSo (Ok None) read = read ≡ None
+ReadsAt view IsSo (Ok (Some x)) read = (read ≡ Some (Ok (view x))) × IsSo x
+ReadsAt view IsSo (Err e) read = FailsAt e read
+
+-- What a function made, seen by view, is this, and it is so; unless memory ran out.
+abbrev pub Builds : {X Y : Type 0} → (X → Y) → (X → Type 0) → Result X Stop → Y → Type 0
+Builds view IsSo (Ok x) tree = (view x ≡ tree) × IsSo x
+Builds view IsSo (Err e) tree = e ≡ stops.NoMemory
+
+-- This was made of what was read, and these leaves are left.
+abbrev pub made : {Y : Type 0} → Y → List Leaf → Result (Y × List Leaf) Fault
+made y ts = Ok (y, ts)
+
+-- A node of two parts of these heights is within the room.
+abbrev pub HasRoom : ℕ → ℕ → ℕ → ℕ → ℕ → Type 0
+HasRoom room first h second k = (h ≡ first) × (k ≡ second) × (suc (max h k) ≤ room) × (room ≤ 64)
+
+-- A node whose part is of this height is within the room.
+abbrev pub HasRoomAbove : ℕ → ℕ → ℕ → Type 0
+HasRoomAbove room height h = (h ≡ height) × (suc h ≤ room) × (room ≤ 64)
+
+-- It is the height of what was read, which need not be a node, and within the room.
+abbrev pub IsHeight : ℕ → ℕ → ℕ → Type 0
+IsHeight room height h = (h ≡ height) × (h ≤ room)
+
+-- It is the height of a node, and within the room.
+abbrev pub IsNodeHeight : ℕ → ℕ → ℕ → Type 0
+IsNodeHeight room height h = (h ≡ height) × (0 < h) × (h ≤ room)
+
+-- The same where the room is within the limit.
+abbrev pub IsBehind : ℕ → ℕ → ℕ → Type 0
+IsBehind room height h = (room ≤ 64) × (h ≡ height) × (0 < h) × (h ≤ room)
 
 -- What a test of the first tokens returned, seen by view, unless memory ran out.
 abbrev pub GivesFirst : {X Y : Type 0} → (X → Y) → Result (Option X) NoMemory → Option Y → Type 0

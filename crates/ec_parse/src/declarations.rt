@@ -2,14 +2,14 @@
 //!
 //! Where a part has a height, it is answered behind the tree: the greatest of its sizes and initialisers.
 
-ghost use Rattle.std.specs.Prelude.{◌≡◌, ◌<◌, ◌≤◌, map, Ok, IfOk};
+ghost use Rattle.std.specs.Prelude.{◌≡◌, ◌<◌, ◌≤◌, map, max, Ok, IfOk};
 ghost use Rattle.ec_grammar.specs.Grammar.{is_void, lone_void};
 ghost use Rattle.ec_grammar.specs.Nesting.{height_list, height_option, height_shape, height_declarator, height_initialiser, height_initialisers, height_start, height_init_declarator, height_next_init_declarator, height_declaration};
 ghost use Rattle.ec_grammar.specs.Trees.{next_param, next_init_declarator, next_declarator};
 ghost use Rattle.ec_grammar.specs.Views.{view_option, view_identifier, view_specs, view_type_name, view_param, view_next_param, view_params, view_shape, view_declarator, view_initialiser, views_initialisers, view_start, view_init_declarator, view_next_init_declarator, view_declaration, view_next_declarator, view_member};
 ghost use Rattle.ec_reading.specs.Reading.{within, many, behind_comma, name_at, param_by, params_by, array_by, shape_by, declarator_by, initialisers_of, initialiser_at, comma_at, braces_by, initialiser_by, start_by, init_declarator_by, declared_by, declaration_by, members_by, members_at};
-ghost use Rattle.ec_parse.specs.Parts.{is_void_spec, view_next_initialiser};
-ghost use Rattle.ec_parse.specs.Reads.{leaves_of, inner_at, Gives, GivesAt, IfThere};
+ghost use Rattle.ec_parse.specs.Parts.{is_void_spec, view_next_initialiser, braces_after};
+ghost use Rattle.ec_parse.specs.Reads.{leaves_of, inner_at, Gives, GivesAt, IfThere, Reads, ReadsAt, IsHeight, IsNodeHeight};
 
 use crate::depth::{LIMIT, ended, higher, opened};
 use crate::expressions::{assignment, conditional};
@@ -176,9 +176,7 @@ fn another_initialiser(
     left: u8,
     tokens: &[Token],
 ) -> Result<Option<(NextInitialiser, u8, &[Token])>, Stop>
-    ensures read { GivesAt (λ x. ((x.0.comma, view_initialiser x.0.value), leaves_of source.count x.2.now)) result (initialiser_at (inner_at left) (leaves_of source.count tokens.now)) }
-    ensures height { IfThere result (λ x. x.1 ≡ height_initialiser (view_initialiser x.0.value)) }
-    ensures within { IfThere result (λ x. x.1 ≤ 64) }
+    ensures { ReadsAt (λ x. (view_next_initialiser x.0, leaves_of source.count x.2.now)) (λ x. IsHeight 64 (height_initialiser (view_initialiser x.0.value)) x.1) result (initialiser_at (inner_at left) (leaves_of source.count tokens.now)) }
 {
     let Some((comma, rest)) = take(source, tokens, PunctKind::Comma) else {
         return Ok(None);
@@ -192,16 +190,12 @@ fn another_initialiser(
 
 /// Initialisers that follow another one, and their height.
 #[cycle(initialisers)]
-#[tactic(auto, using(crate::proofs::Lists::initialisers_map))]
 fn more_initialisers(
     source: Source,
     left: u8,
     tokens: &[Token],
 ) -> Result<(Vec<NextInitialiser>, u8, &[Token]), Stop>
-    ensures read { Gives (λ x. (map view_next_initialiser x.0.items, leaves_of source.count x.2.now)) result (many (initialiser_at (inner_at left)) (leaves_of source.count tokens.now)) }
-    ensures rows { IfOk result (λ x. initialisers_of (map view_next_initialiser x.0.items) ≡ views_initialisers x.0.items) }
-    ensures height { IfOk result (λ x. x.1 ≡ height_initialisers (views_initialisers x.0.items)) }
-    ensures within { IfOk result (λ x. x.1 ≤ 64) }
+    ensures { Reads (λ x. (map view_next_initialiser x.0.items, leaves_of source.count x.2.now)) (λ x. IsHeight 64 (height_initialisers (initialisers_of (map view_next_initialiser x.0.items))) x.1) result (many (initialiser_at (inner_at left)) (leaves_of source.count tokens.now)) }
 {
     let mut all = Vec::new(source.alloc);
     let mut height = 0;
@@ -227,6 +221,28 @@ fn comma(source: Source, tokens: &[Token]) -> (Option<Spot>, &[Token])
     }
 }
 
+/// Initialisers whose brace ends here, with the greatest of their heights.
+#[tactic(auto, using(crate::proofs::Lists::initialisers_map))]
+fn braces_end(
+    source: Source,
+    room: u8,
+    opening: Spot,
+    first: Initialiser,
+    more: Vec<NextInitialiser>,
+    below: u8,
+    tokens: &[Token],
+) -> Result<(Initialiser, u8, &[Token]), Stop>
+    requires { IsHeight 64 (max (height_initialiser (view_initialiser first)) (height_initialisers (initialisers_of (map view_next_initialiser more.items)))) below }
+    ensures { Reads (λ x. (view_initialiser x.0, leaves_of source.count x.2.now)) (λ x. IsNodeHeight room (height_initialiser (view_initialiser x.0)) x.1) result (braces_after room opening (view_initialiser first) (initialisers_of (map view_next_initialiser more.items)) (leaves_of source.count tokens.now)) }
+{
+    let (comma, rest) = comma(source, tokens);
+    let (closing, rest) = expect(source, rest, PunctKind::RightBrace)?;
+    let height = ended(source, room, below, rest)?;
+    let first = Box::new(source.alloc, first)?;
+    let tree = Initialiser::Braces(opening, first, more, comma, closing);
+    Ok((tree, height, rest))
+}
+
 #[cycle(initialisers)]
 #[tactic(auto, unfolding(ec_reading::specs::Reading::braces_by))]
 fn braces(
@@ -237,18 +253,12 @@ fn braces(
     tokens: &[Token],
 ) -> Result<(Initialiser, u8, &[Token]), Stop>
     requires { room ≤ 64 }
-    ensures read { Gives (λ x. (view_initialiser x.0, leaves_of source.count x.2.now)) result (braces_by (inner_at left) room opening (leaves_of source.count tokens.now)) }
-    ensures height { IfOk result (λ x. x.1 ≡ height_initialiser (view_initialiser x.0)) }
-    ensures within { IfOk result (λ x. (0 < x.1) × (x.1 ≤ room)) }
+    ensures { Reads (λ x. (view_initialiser x.0, leaves_of source.count x.2.now)) (λ x. IsNodeHeight room (height_initialiser (view_initialiser x.0)) x.1) result (braces_by (inner_at left) room opening (leaves_of source.count tokens.now)) }
 {
-    let (first, first_height, rest) = initialiser(source, left, LIMIT, tokens)?;
+    let (first, height, rest) = initialiser(source, left, LIMIT, tokens)?;
     let (more, more_height, rest) = more_initialisers(source, left, rest)?;
-    let (comma, rest) = comma(source, rest);
-    let (closing, rest) = expect(source, rest, PunctKind::RightBrace)?;
-    let height = ended(source, room, higher(first_height, more_height), rest)?;
-    let first = Box::new(source.alloc, first)?;
-    let tree = Initialiser::Braces(opening, first, more, comma, closing);
-    Ok((tree, height, rest))
+    let below = higher(height, more_height);
+    braces_end(source, room, opening, first, more, below, rest)
 }
 
 /// An initialiser (6.7.8).
@@ -261,9 +271,7 @@ fn initialiser(
     tokens: &[Token],
 ) -> Result<(Initialiser, u8, &[Token]), Stop>
     requires { room ≤ 64 }
-    ensures read { Gives (λ x. (view_initialiser x.0, leaves_of source.count x.2.now)) result (initialiser_by (within 64 left) room (leaves_of source.count tokens.now)) }
-    ensures height { IfOk result (λ x. x.1 ≡ height_initialiser (view_initialiser x.0)) }
-    ensures within { IfOk result (λ x. (0 < x.1) × (x.1 ≤ room)) }
+    ensures { Reads (λ x. (view_initialiser x.0, leaves_of source.count x.2.now)) (λ x. IsNodeHeight room (height_initialiser (view_initialiser x.0)) x.1) result (initialiser_by (within 64 left) room (leaves_of source.count tokens.now)) }
 {
     if let Some((opening, rest)) = take(source, tokens, PunctKind::LeftBrace) {
         let left = opened(source, left, rest)?;

@@ -3,12 +3,13 @@
 //! A function answers the tree, its height and the tokens after it. Its `left` says how many constructs may still be
 //! opened, and its `room` what height the nodes around, as far as they may end with this one, leave to it.
 
-ghost use Rattle.std.specs.Prelude.{◌≡◌, ◌+◌, ◌-◌, ◌<◌, ◌≤◌, suc, IfOk};
+ghost use Rattle.std.specs.Prelude.{◌≡◌, ◌-◌, ◌<◌, ◌≤◌, suc, max, map, Ok};
 ghost use Rattle.ec_grammar.specs.Nesting.{height_expression, height_assignment, height_conditional, height_binary, height_cast, height_unary, height_postfix, height_arguments, height_further, height_primary};
-ghost use Rattle.ec_grammar.specs.Views.{view_expression, view_assignment, view_conditional, view_binary, view_cast, view_unary, view_postfix, view_arguments, views_further, view_primary};
-ghost use Rattle.ec_grammar.specs.Trees.{stepped};
-ghost use Rattle.ec_reading.specs.Reading.{within, ends, argument_at, further_by, arguments_by, operation_by, primary_by, index_by, call_by, member_by, suffix_by, suffixes_by, postfix_by, size_by, unary_by, cast_by, joins_by, binary_by, choice_by, conditional_by, assigned_by, assignment_by, commas_by, expression_by};
-ghost use Rattle.ec_parse.specs.Reads.{leaves_of, inner_at, Gives, GivesAt, IfThere, Parts};
+ghost use Rattle.ec_grammar.specs.Trees as t;
+ghost use Rattle.ec_grammar.specs.Views.{view_expression, view_assignment, view_conditional, view_binary, view_cast, view_unary, view_postfix, view_arguments, view_primary, view_identifier, view_type_name};
+ghost use Rattle.ec_reading.specs.Reading.{within, ends, argument_at, further_by, further_of, arguments_by, operation_by, primary_by, index_by, call_by, member_by, suffix_by, suffixes_by, postfix_by, size_by, unary_by, cast_by, joins_by, binary_by, choice_by, conditional_by, assigned_by, assignment_by, commas_by, expression_by};
+ghost use Rattle.ec_parse.specs.Reads.{leaves_of, inner_at, made, Reads, ReadsAt, Builds, IsHeight, IsNodeHeight, IsBehind, HasRoom, HasRoomAbove, Parts};
+ghost use Rattle.ec_parse.specs.Parts.{view_argument, operation_after, parenthesised_after, atom_by, index_after, call_after};
 
 use crate::depth::{CHAIN, LIMIT, begun_expression, ended, higher, opened, room_behind, too_long};
 use crate::stop::Stop;
@@ -18,8 +19,8 @@ use crate::tokens::{
 };
 use crate::types::type_name;
 use ec_grammar::tree::{
-    Argument, Arguments, Assignment, Binary, Cast, Conditional, Expression, Operation, Postfix,
-    Primary, Spot, Unary,
+    Argument, Arguments, Assignment, Binary, Cast, Conditional, Expression, Identifier, Operation,
+    Postfix, Primary, Spot, TypeName, Unary,
 };
 use ec_grammar::{PunctKind, Token, WordKind};
 
@@ -31,9 +32,7 @@ fn argument(
     left: u8,
     tokens: &[Token],
 ) -> Result<Option<(Argument, u8, &[Token])>, Stop>
-    ensures read { GivesAt (λ x. ((x.0.comma, view_assignment x.0.value), leaves_of source.count x.2.now)) result (argument_at (inner_at left) (leaves_of source.count tokens.now)) }
-    ensures height { IfThere result (λ x. x.1 ≡ height_assignment (view_assignment x.0.value)) }
-    ensures within { IfThere result (λ x. x.1 ≤ 64) }
+    ensures { ReadsAt (λ x. (view_argument x.0, leaves_of source.count x.2.now)) (λ x. IsHeight 64 (height_assignment (view_assignment x.0.value)) x.1) result (argument_at (inner_at left) (leaves_of source.count tokens.now)) }
 {
     let Some((comma, rest)) = take(source, tokens, PunctKind::Comma) else {
         return Ok(None);
@@ -50,9 +49,7 @@ fn further(
     left: u8,
     tokens: &[Token],
 ) -> Result<(Vec<Argument>, u8, &[Token]), Stop>
-    ensures read { Gives (λ x. (views_further x.0.items, leaves_of source.count x.2.now)) result (further_by (inner_at left) (leaves_of source.count tokens.now)) }
-    ensures height { IfOk result (λ x. x.1 ≡ height_further (views_further x.0.items)) }
-    ensures within { IfOk result (λ x. x.1 ≤ 64) }
+    ensures { Reads (λ x. (further_of (map view_argument x.0.items), leaves_of source.count x.2.now)) (λ x. IsHeight 64 (height_further (further_of (map view_argument x.0.items))) x.1) result (further_by (inner_at left) (leaves_of source.count tokens.now)) }
 {
     let mut all = Vec::new(source.alloc);
     let mut height = 0;
@@ -68,22 +65,47 @@ fn further(
     Ok((all, height, rest))
 }
 
+fn some_arguments(first: Assignment, more: Vec<Argument>) -> Arguments
+    ensures { view_arguments result ≡ t.arguments (view_assignment first) (further_of (map view_argument more.items)) }
+{
+    Arguments::Some(first, more)
+}
+
 #[cycle(expressions)]
 #[tactic(auto, unfolding(ec_reading::specs::Reading::arguments_by))]
 fn arguments(source: Source, left: u8, tokens: &[Token]) -> Result<(Arguments, u8, &[Token]), Stop>
-    ensures read { Gives (λ x. (view_arguments x.0, leaves_of source.count x.2.now)) result (arguments_by (inner_at left) (leaves_of source.count tokens.now)) }
-    ensures height { IfOk result (λ x. x.1 ≡ height_arguments (view_arguments x.0)) }
-    ensures within { IfOk result (λ x. x.1 ≤ 64) }
+    ensures { Reads (λ x. (view_arguments x.0, leaves_of source.count x.2.now)) (λ x. IsHeight 64 (height_arguments (view_arguments x.0)) x.1) result (arguments_by (inner_at left) (leaves_of source.count tokens.now)) }
 {
     if take(source, tokens, PunctKind::RightParenthesis).is_some() {
         return Ok((Arguments::None, 0, tokens));
     }
     let (first, height, rest) = assignment(source, left, LIMIT, tokens)?;
     let (more, tall, rest) = further(source, left, rest)?;
-    Ok((Arguments::Some(first, more), higher(height, tall), rest))
+    Ok((some_arguments(first, more), higher(height, tall), rest))
 }
 
 // Primary expressions.
+
+/// An operation whose parenthesis ends here.
+fn operation_end(
+    source: Source,
+    room: u8,
+    spot: Spot,
+    op: Operation,
+    opening: Spot,
+    port: Identifier,
+    more: Vec<Argument>,
+    below: u8,
+    tokens: &[Token],
+) -> Result<(Primary, u8, &[Token]), Stop>
+    requires { IsHeight 64 (height_further (further_of (map view_argument more.items))) below }
+    ensures { Reads (λ x. (view_primary x.0, leaves_of source.count x.2.now)) (λ x. IsNodeHeight room (height_primary (view_primary x.0)) x.1) result (operation_after room spot op opening (view_identifier port) (further_of (map view_argument more.items)) (leaves_of source.count tokens.now)) }
+{
+    let (closing, rest) = expect(source, tokens, PunctKind::RightParenthesis)?;
+    let height = ended(source, room, below, rest)?;
+    let tree = Primary::Operation(spot, op, opening, port, more, closing);
+    Ok((tree, height, rest))
+}
 
 #[cycle(expressions)]
 #[tactic(auto, unfolding(ec_reading::specs::Reading::operation_by))]
@@ -96,48 +118,38 @@ fn operation(
     tokens: &[Token],
 ) -> Result<(Primary, u8, &[Token]), Stop>
     requires { room ≤ 64 }
-    ensures read { Gives (λ x. (view_primary x.0, leaves_of source.count x.2.now)) result (operation_by (within 64 left) room spot op (leaves_of source.count tokens.now)) }
-    ensures height { IfOk result (λ x. x.1 ≡ height_primary (view_primary x.0)) }
-    ensures within { IfOk result (λ x. (0 < x.1) × (x.1 ≤ room)) }
+    ensures { Reads (λ x. (view_primary x.0, leaves_of source.count x.2.now)) (λ x. IsNodeHeight room (height_primary (view_primary x.0)) x.1) result (operation_by (within 64 left) room spot op (leaves_of source.count tokens.now)) }
 {
     let (opening, rest) = expect(source, tokens, PunctKind::LeftParenthesis)?;
     let left = opened(source, left, rest)?;
     let (port, rest) = expect_name(source, rest)?;
     let (more, below, rest) = further(source, left, rest)?;
-    let (closing, rest) = expect(source, rest, PunctKind::RightParenthesis)?;
+    operation_end(source, room, spot, op, opening, port, more, below, rest)
+}
+
+/// An expression whose parenthesis ends here.
+fn parenthesised(
+    source: Source,
+    room: u8,
+    opening: Spot,
+    inner: Expression,
+    below: u8,
+    tokens: &[Token],
+) -> Result<(Primary, u8, &[Token]), Stop>
+    requires { IsHeight 64 (height_expression (view_expression inner)) below }
+    ensures { Reads (λ x. (view_primary x.0, leaves_of source.count x.2.now)) (λ x. IsNodeHeight room (height_primary (view_primary x.0)) x.1) result (parenthesised_after room opening (view_expression inner) (leaves_of source.count tokens.now)) }
+{
+    let (closing, rest) = expect(source, tokens, PunctKind::RightParenthesis)?;
     let height = ended(source, room, below, rest)?;
-    let tree = Primary::Operation(spot, op, opening, port, more, closing);
+    let inner = Box::new(source.alloc, inner)?;
+    let tree = Primary::Parenthesised(opening, inner, closing);
     Ok((tree, height, rest))
 }
 
-#[cycle(expressions)]
-#[tactic(auto, unfolding(ec_reading::specs::Reading::primary_by))]
-fn primary(
-    source: Source,
-    left: u8,
-    room: u8,
-    tokens: &[Token],
-) -> Result<(Primary, u8, &[Token]), Stop>
-    requires { room ≤ 64 }
-    ensures read { Gives (λ x. (view_primary x.0, leaves_of source.count x.2.now)) result (primary_by (within 64 left) room (leaves_of source.count tokens.now)) }
-    ensures height { IfOk result (λ x. x.1 ≡ height_primary (view_primary x.0)) }
-    ensures within { IfOk result (λ x. (0 < x.1) × (x.1 ≤ room)) }
+/// A constant or a name.
+fn atom(source: Source, room: u8, tokens: &[Token]) -> Result<(Primary, u8, &[Token]), Stop>
+    ensures { Reads (λ x. (view_primary x.0, leaves_of source.count x.2.now)) (λ x. IsNodeHeight room (height_primary (view_primary x.0)) x.1) result (atom_by room (leaves_of source.count tokens.now)) }
 {
-    if let Some((opening, rest)) = take(source, tokens, PunctKind::LeftParenthesis) {
-        let left = opened(source, left, rest)?;
-        let (inner, below, rest) = expression(source, left, LIMIT, rest)?;
-        let (closing, rest) = expect(source, rest, PunctKind::RightParenthesis)?;
-        let height = ended(source, room, below, rest)?;
-        let inner = Box::new(source.alloc, inner)?;
-        return Ok((
-            Primary::Parenthesised(opening, inner, closing),
-            height,
-            rest,
-        ));
-    }
-    if let Some((spot, op, rest)) = take_operation(source, tokens) {
-        return operation(source, left, room, spot, op, rest);
-    }
     if let Some((spot, constant, rest)) = take_constant(source, tokens) {
         let height = ended(source, room, 0, rest)?;
         return Ok((Primary::Constant(spot, constant), height, rest));
@@ -149,7 +161,50 @@ fn primary(
     Err(unexpected(source, tokens))
 }
 
+#[cycle(expressions)]
+#[tactic(auto, unfolding(ec_reading::specs::Reading::primary_by))]
+fn primary(
+    source: Source,
+    left: u8,
+    room: u8,
+    tokens: &[Token],
+) -> Result<(Primary, u8, &[Token]), Stop>
+    requires { room ≤ 64 }
+    ensures { Reads (λ x. (view_primary x.0, leaves_of source.count x.2.now)) (λ x. IsNodeHeight room (height_primary (view_primary x.0)) x.1) result (primary_by (within 64 left) room (leaves_of source.count tokens.now)) }
+{
+    if let Some((opening, rest)) = take(source, tokens, PunctKind::LeftParenthesis) {
+        let left = opened(source, left, rest)?;
+        let (inner, below, rest) = expression(source, left, LIMIT, rest)?;
+        return parenthesised(source, room, opening, inner, below, rest);
+    }
+    if let Some((spot, op, rest)) = take_operation(source, tokens) {
+        return operation(source, left, room, spot, op, rest);
+    }
+    atom(source, room, tokens)
+}
+
 // Postfix expressions.
+
+/// A subscript whose bracket ends here.
+fn index_end(
+    source: Source,
+    room: u8,
+    array: Postfix,
+    array_height: u8,
+    opening: Spot,
+    index: Expression,
+    index_height: u8,
+    tokens: &[Token],
+) -> Result<(Postfix, u8, &[Token]), Stop>
+    requires { IsBehind room (height_postfix (view_postfix array)) array_height × IsHeight 64 (height_expression (view_expression index)) index_height }
+    ensures { Reads (λ x. (view_postfix x.0, leaves_of source.count x.2.now)) (λ x. IsNodeHeight room (height_postfix (view_postfix x.0)) x.1) result (index_after room (view_postfix array) opening (view_expression index) (leaves_of source.count tokens.now)) }
+{
+    let (closing, rest) = expect(source, tokens, PunctKind::RightBracket)?;
+    let height = ended(source, room, higher(array_height, index_height), rest)?;
+    let array = Box::new(source.alloc, array)?;
+    let index = Box::new(source.alloc, index)?;
+    Ok((Postfix::Index(array, opening, index, closing), height, rest))
+}
 
 #[cycle(expressions)]
 #[tactic(auto, unfolding(ec_reading::specs::Reading::index_by))]
@@ -162,20 +217,43 @@ fn index(
     opening: Spot,
     tokens: &[Token],
 ) -> Result<(Postfix, u8, &[Token]), Stop>
-    requires room { room ≤ 64 }
-    requires height { array_height ≡ height_postfix (view_postfix array) }
-    requires within { array_height ≤ room }
-    ensures read { Gives (λ x. (view_postfix x.0, leaves_of source.count x.2.now)) result (index_by (within 64 left) room (view_postfix array) opening (leaves_of source.count tokens.now)) }
-    ensures height { IfOk result (λ x. x.1 ≡ height_postfix (view_postfix x.0)) }
-    ensures within { IfOk result (λ x. (0 < x.1) × (x.1 ≤ room)) }
+    requires { IsBehind room (height_postfix (view_postfix array)) array_height }
+    ensures { Reads (λ x. (view_postfix x.0, leaves_of source.count x.2.now)) (λ x. IsNodeHeight room (height_postfix (view_postfix x.0)) x.1) result (index_by (within 64 left) room (view_postfix array) opening (leaves_of source.count tokens.now)) }
 {
     let left = opened(source, left, tokens)?;
-    let (index, below, rest) = expression(source, left, LIMIT, tokens)?;
-    let (closing, rest) = expect(source, rest, PunctKind::RightBracket)?;
-    let height = ended(source, room, higher(array_height, below), rest)?;
-    let array = Box::new(source.alloc, array)?;
-    let index = Box::new(source.alloc, index)?;
-    Ok((Postfix::Index(array, opening, index, closing), height, rest))
+    let (index, height, rest) = expression(source, left, LIMIT, tokens)?;
+    index_end(
+        source,
+        room,
+        array,
+        array_height,
+        opening,
+        index,
+        height,
+        rest,
+    )
+}
+
+/// A call whose parenthesis ends here.
+fn call_end(
+    source: Source,
+    room: u8,
+    function: Postfix,
+    function_height: u8,
+    opening: Spot,
+    given: Arguments,
+    given_height: u8,
+    tokens: &[Token],
+) -> Result<(Postfix, u8, &[Token]), Stop>
+    requires { IsBehind room (height_postfix (view_postfix function)) function_height × IsHeight 64 (height_arguments (view_arguments given)) given_height }
+    ensures { Reads (λ x. (view_postfix x.0, leaves_of source.count x.2.now)) (λ x. IsNodeHeight room (height_postfix (view_postfix x.0)) x.1) result (call_after room (view_postfix function) opening (view_arguments given) (leaves_of source.count tokens.now)) }
+{
+    let (closing, rest) = expect(source, tokens, PunctKind::RightParenthesis)?;
+    let height = ended(source, room, higher(function_height, given_height), rest)?;
+    let function = Box::new(source.alloc, function)?;
+    let given = Box::new(source.alloc, given)?;
+    let tree = Postfix::Call(function, opening, given, closing);
+    Ok((tree, height, rest))
 }
 
 #[cycle(expressions)]
@@ -189,24 +267,21 @@ fn call(
     opening: Spot,
     tokens: &[Token],
 ) -> Result<(Postfix, u8, &[Token]), Stop>
-    requires room { room ≤ 64 }
-    requires height { function_height ≡ height_postfix (view_postfix function) }
-    requires within { function_height ≤ room }
-    ensures read { Gives (λ x. (view_postfix x.0, leaves_of source.count x.2.now)) result (call_by (within 64 left) room (view_postfix function) opening (leaves_of source.count tokens.now)) }
-    ensures height { IfOk result (λ x. x.1 ≡ height_postfix (view_postfix x.0)) }
-    ensures within { IfOk result (λ x. (0 < x.1) × (x.1 ≤ room)) }
+    requires { IsBehind room (height_postfix (view_postfix function)) function_height }
+    ensures { Reads (λ x. (view_postfix x.0, leaves_of source.count x.2.now)) (λ x. IsNodeHeight room (height_postfix (view_postfix x.0)) x.1) result (call_by (within 64 left) room (view_postfix function) opening (leaves_of source.count tokens.now)) }
 {
     let left = opened(source, left, tokens)?;
-    let (given, below, rest) = arguments(source, left, tokens)?;
-    let (closing, rest) = expect(source, rest, PunctKind::RightParenthesis)?;
-    let height = ended(source, room, higher(function_height, below), rest)?;
-    let function = Box::new(source.alloc, function)?;
-    let given = Box::new(source.alloc, given)?;
-    Ok((
-        Postfix::Call(function, opening, given, closing),
+    let (given, height, rest) = arguments(source, left, tokens)?;
+    call_end(
+        source,
+        room,
+        function,
+        function_height,
+        opening,
+        given,
         height,
         rest,
-    ))
+    )
 }
 
 #[tactic(auto, unfolding(ec_reading::specs::Reading::member_by))]
@@ -219,12 +294,8 @@ fn member(
     op: PunctKind,
     tokens: &[Token],
 ) -> Result<(Postfix, u8, &[Token]), Stop>
-    requires room { room ≤ 64 }
-    requires height { object_height ≡ height_postfix (view_postfix object) }
-    requires within { object_height ≤ room }
-    ensures read { Gives (λ x. (view_postfix x.0, leaves_of source.count x.2.now)) result (member_by room (view_postfix object) spot op (leaves_of source.count tokens.now)) }
-    ensures height { IfOk result (λ x. x.1 ≡ height_postfix (view_postfix x.0)) }
-    ensures within { IfOk result (λ x. (0 < x.1) × (x.1 ≤ room)) }
+    requires { IsBehind room (height_postfix (view_postfix object)) object_height }
+    ensures { Reads (λ x. (view_postfix x.0, leaves_of source.count x.2.now)) (λ x. IsNodeHeight room (height_postfix (view_postfix x.0)) x.1) result (member_by room (view_postfix object) spot op (leaves_of source.count tokens.now)) }
 {
     let (name, rest) = expect_name(source, tokens)?;
     let height = ended(source, room, object_height, rest)?;
@@ -241,12 +312,8 @@ fn stepped(
     op: PunctKind,
     tokens: &[Token],
 ) -> Result<(Postfix, u8, &[Token]), Stop>
-    requires room { room ≤ 64 }
-    requires height { place_height ≡ height_postfix (view_postfix place) }
-    requires within { place_height ≤ room }
-    ensures read { Gives (λ x. (view_postfix x.0, leaves_of source.count x.2.now)) result (ends room (suc (height_postfix (view_postfix place))) (stepped (view_postfix place) spot op) (leaves_of source.count tokens.now)) }
-    ensures height { IfOk result (λ x. x.1 ≡ height_postfix (view_postfix x.0)) }
-    ensures within { IfOk result (λ x. (0 < x.1) × (x.1 ≤ room)) }
+    requires { IsBehind room (height_postfix (view_postfix place)) place_height }
+    ensures { Reads (λ x. (view_postfix x.0, leaves_of source.count x.2.now)) (λ x. IsNodeHeight room (height_postfix (view_postfix x.0)) x.1) result (ends room (suc (height_postfix (view_postfix place))) (t.stepped (view_postfix place) spot op) (leaves_of source.count tokens.now)) }
 {
     let height = ended(source, room, place_height, tokens)?;
     let place = Box::new(source.alloc, place)?;
@@ -265,12 +332,8 @@ fn suffixes(
     first_height: u8,
     tokens: &[Token],
 ) -> Result<(Postfix, u8, &[Token]), Stop>
-    requires room { room ≤ 64 }
-    requires height { first_height ≡ height_postfix (view_postfix first) }
-    requires within { (0 < first_height) × (first_height ≤ room) }
-    ensures read { Gives (λ x. (view_postfix x.0, leaves_of source.count x.2.now)) result (suffixes_by (within 64 left) room count (view_postfix first) (leaves_of source.count tokens.now)) }
-    ensures height { IfOk result (λ x. x.1 ≡ height_postfix (view_postfix x.0)) }
-    ensures within { IfOk result (λ x. (0 < x.1) × (x.1 ≤ room)) }
+    requires { IsBehind room (height_postfix (view_postfix first)) first_height }
+    ensures { Reads (λ x. (view_postfix x.0, leaves_of source.count x.2.now)) (λ x. IsNodeHeight room (height_postfix (view_postfix x.0)) x.1) result (suffixes_by (within 64 left) room count (view_postfix first) (leaves_of source.count tokens.now)) }
 {
     if count == 0 {
         return Err(too_long(source, tokens));
@@ -303,20 +366,11 @@ fn postfix(
     tokens: &[Token],
 ) -> Result<(Postfix, u8, &[Token]), Stop>
     requires { room ≤ 64 }
-    ensures read { Gives (λ x. (view_postfix x.0, leaves_of source.count x.2.now)) result (postfix_by (within 64 left) room (leaves_of source.count tokens.now)) }
-    ensures height { IfOk result (λ x. x.1 ≡ height_postfix (view_postfix x.0)) }
-    ensures within { IfOk result (λ x. (0 < x.1) × (x.1 ≤ room)) }
+    ensures { Reads (λ x. (view_postfix x.0, leaves_of source.count x.2.now)) (λ x. IsNodeHeight room (height_postfix (view_postfix x.0)) x.1) result (postfix_by (within 64 left) room (leaves_of source.count tokens.now)) }
 {
     let (first, height, rest) = primary(source, left, room, tokens)?;
-    suffixes(
-        source,
-        left,
-        room,
-        CHAIN,
-        Postfix::Primary(first),
-        height,
-        rest,
-    )
+    let first = Postfix::Primary(first);
+    suffixes(source, left, room, CHAIN, first, height, rest)
 }
 
 // Unary expressions and casts.
@@ -330,9 +384,7 @@ fn size(
     tokens: &[Token],
 ) -> Result<(Unary, u8, &[Token]), Stop>
     requires { room ≤ 64 }
-    ensures read { Gives (λ x. (view_unary x.0, leaves_of source.count x.2.now)) result (size_by (within 64 left) room spot (leaves_of source.count tokens.now)) }
-    ensures height { IfOk result (λ x. x.1 ≡ height_unary (view_unary x.0)) }
-    ensures within { IfOk result (λ x. (0 < x.1) × (x.1 ≤ room)) }
+    ensures { Reads (λ x. (view_unary x.0, leaves_of source.count x.2.now)) (λ x. IsNodeHeight room (height_unary (view_unary x.0)) x.1) result (size_by (within 64 left) room spot (leaves_of source.count tokens.now)) }
 {
     let (opening, rest) = expect(source, tokens, PunctKind::LeftParenthesis)?;
     let _ = opened(source, left, rest)?;
@@ -340,6 +392,38 @@ fn size(
     let (closing, rest) = expect(source, rest, PunctKind::RightParenthesis)?;
     let height = ended(source, room, 0, rest)?;
     Ok((Unary::Size(spot, opening, ty, closing), height, rest))
+}
+
+fn prefixed(
+    source: Source,
+    room: u8,
+    spot: Spot,
+    op: PunctKind,
+    operand: Cast,
+    height: u8,
+    tokens: &[Token],
+) -> Result<(Unary, u8, &[Token]), Stop>
+    requires { HasRoomAbove room (height_cast (view_cast operand)) height }
+    ensures { Reads (λ x. (view_unary x.0, leaves_of source.count x.2.now)) (λ x. IsNodeHeight room (height_unary (view_unary x.0)) x.1) result (made (t.prefix spot op (view_cast operand)) (leaves_of source.count tokens.now)) }
+{
+    let operand = Box::new(source.alloc, operand)?;
+    Ok((Unary::Prefix(spot, op, operand), height + 1, tokens))
+}
+
+fn stepped_first(
+    source: Source,
+    room: u8,
+    spot: Spot,
+    op: PunctKind,
+    operand: Unary,
+    height: u8,
+    tokens: &[Token],
+) -> Result<(Unary, u8, &[Token]), Stop>
+    requires { HasRoomAbove room (height_unary (view_unary operand)) height }
+    ensures { Reads (λ x. (view_unary x.0, leaves_of source.count x.2.now)) (λ x. IsNodeHeight room (height_unary (view_unary x.0)) x.1) result (made (t.step spot op (view_unary operand)) (leaves_of source.count tokens.now)) }
+{
+    let operand = Box::new(source.alloc, operand)?;
+    Ok((Unary::Step(spot, op, operand), height + 1, tokens))
 }
 
 #[cycle(expressions)]
@@ -351,21 +435,17 @@ fn unary(
     tokens: &[Token],
 ) -> Result<(Unary, u8, &[Token]), Stop>
     requires { room ≤ 64 }
-    ensures read { Gives (λ x. (view_unary x.0, leaves_of source.count x.2.now)) result (unary_by (within 64 left) room (leaves_of source.count tokens.now)) }
-    ensures height { IfOk result (λ x. x.1 ≡ height_unary (view_unary x.0)) }
-    ensures within { IfOk result (λ x. (0 < x.1) × (x.1 ≤ room)) }
+    ensures { Reads (λ x. (view_unary x.0, leaves_of source.count x.2.now)) (λ x. IsNodeHeight room (height_unary (view_unary x.0)) x.1) result (unary_by (within 64 left) room (leaves_of source.count tokens.now)) }
 {
     if let Some((spot, op, rest)) = take_prefix(source, tokens) {
         let left = opened(source, left, rest)?;
         let (operand, height, rest) = cast(source, left, room.saturating_sub(1), rest)?;
-        let operand = Box::new(source.alloc, operand)?;
-        return Ok((Unary::Prefix(spot, op, operand), height + 1, rest));
+        return prefixed(source, room, spot, op, operand, height, rest);
     }
     if let Some((spot, op, rest)) = take_step(source, tokens) {
         let left = opened(source, left, rest)?;
         let (operand, height, rest) = unary(source, left, room.saturating_sub(1), rest)?;
-        let operand = Box::new(source.alloc, operand)?;
-        return Ok((Unary::Step(spot, op, operand), height + 1, rest));
+        return stepped_first(source, room, spot, op, operand, height, rest);
     }
     if let Some((spot, rest)) = take_word(source, tokens, WordKind::Sizeof) {
         return size(source, left, room, spot, rest);
@@ -374,13 +454,29 @@ fn unary(
     Ok((Unary::Postfix(operand), height, rest))
 }
 
+fn converted(
+    source: Source,
+    room: u8,
+    opening: Spot,
+    ty: TypeName,
+    closing: Spot,
+    operand: Cast,
+    height: u8,
+    tokens: &[Token],
+) -> Result<(Cast, u8, &[Token]), Stop>
+    requires { HasRoomAbove room (height_cast (view_cast operand)) height }
+    ensures { Reads (λ x. (view_cast x.0, leaves_of source.count x.2.now)) (λ x. IsNodeHeight room (height_cast (view_cast x.0)) x.1) result (made (t.convert opening (view_type_name ty) closing (view_cast operand)) (leaves_of source.count tokens.now)) }
+{
+    let operand = Box::new(source.alloc, operand)?;
+    let tree = Cast::Convert(opening, ty, closing, operand);
+    Ok((tree, height + 1, tokens))
+}
+
 #[cycle(expressions)]
 #[tactic(auto, unfolding(ec_reading::specs::Reading::cast_by))]
 fn cast(source: Source, left: u8, room: u8, tokens: &[Token]) -> Result<(Cast, u8, &[Token]), Stop>
     requires { room ≤ 64 }
-    ensures read { Gives (λ x. (view_cast x.0, leaves_of source.count x.2.now)) result (cast_by (within 64 left) room (leaves_of source.count tokens.now)) }
-    ensures height { IfOk result (λ x. x.1 ≡ height_cast (view_cast x.0)) }
-    ensures within { IfOk result (λ x. (0 < x.1) × (x.1 ≤ room)) }
+    ensures { Reads (λ x. (view_cast x.0, leaves_of source.count x.2.now)) (λ x. IsNodeHeight room (height_cast (view_cast x.0)) x.1) result (cast_by (within 64 left) room (leaves_of source.count tokens.now)) }
 {
     let Some((opening, rest)) = take_cast(source, tokens) else {
         let (operand, height, rest) = unary(source, left, room, tokens)?;
@@ -390,15 +486,29 @@ fn cast(source: Source, left: u8, room: u8, tokens: &[Token]) -> Result<(Cast, u
     let (ty, rest) = type_name(source, rest)?;
     let (closing, rest) = expect(source, rest, PunctKind::RightParenthesis)?;
     let (operand, height, rest) = cast(source, left, room.saturating_sub(1), rest)?;
-    let operand = Box::new(source.alloc, operand)?;
-    Ok((
-        Cast::Convert(opening, ty, closing, operand),
-        height + 1,
-        rest,
-    ))
+    converted(source, room, opening, ty, closing, operand, height, rest)
 }
 
 // Binary operators.
+
+fn joined(
+    source: Source,
+    room: u8,
+    first: Binary,
+    first_height: u8,
+    spot: Spot,
+    op: PunctKind,
+    second: Binary,
+    second_height: u8,
+) -> Result<(Binary, u8), Stop>
+    requires { HasRoom room (height_binary (view_binary first)) first_height (height_binary (view_binary second)) second_height }
+    ensures { Builds (λ x. view_binary x.0) (λ x. IsNodeHeight room (height_binary (view_binary x.0)) x.1) result (t.join (view_binary first) spot op (view_binary second)) }
+{
+    let first = Box::new(source.alloc, first)?;
+    let second = Box::new(source.alloc, second)?;
+    let height = higher(first_height, second_height) + 1;
+    Ok((Binary::Join(first, spot, op, second), height))
+}
 
 /// What the operators of a level that follow make of an expression: there are at most so many.
 #[cycle(expressions)]
@@ -413,13 +523,8 @@ fn joins(
     first_height: u8,
     tokens: &[Token],
 ) -> Result<(Binary, u8, &[Token]), Stop>
-    requires level { 0 < level }
-    requires room { room ≤ 64 }
-    requires height { first_height ≡ height_binary (view_binary first) }
-    requires within { (0 < first_height) × (first_height ≤ room) }
-    ensures read { Gives (λ x. (view_binary x.0, leaves_of source.count x.2.now)) result (joins_by (binary_by (within 64 left) (level - 1)) level room count (view_binary first) (leaves_of source.count tokens.now)) }
-    ensures height { IfOk result (λ x. x.1 ≡ height_binary (view_binary x.0)) }
-    ensures within { IfOk result (λ x. (0 < x.1) × (x.1 ≤ room)) }
+    requires { (0 < level) × IsBehind room (height_binary (view_binary first)) first_height }
+    ensures { Reads (λ x. (view_binary x.0, leaves_of source.count x.2.now)) (λ x. IsNodeHeight room (height_binary (view_binary x.0)) x.1) result (joins_by (binary_by (within 64 left) (level - 1)) level room count (view_binary first) (leaves_of source.count tokens.now)) }
 {
     if count == 0 {
         return Err(too_long(source, tokens));
@@ -429,10 +534,16 @@ fn joins(
     };
     let last = room_behind(room, first_height);
     let (second, second_height, rest) = binary(source, left, level - 1, last, rest)?;
-    let first = Box::new(source.alloc, first)?;
-    let second = Box::new(source.alloc, second)?;
-    let both = Binary::Join(first, spot, op, second);
-    let height = higher(first_height, second_height) + 1;
+    let (both, height) = joined(
+        source,
+        room,
+        first,
+        first_height,
+        spot,
+        op,
+        second,
+        second_height,
+    )?;
     joins(source, left, level, room, count - 1, both, height, rest)
 }
 
@@ -447,9 +558,7 @@ fn binary(
     tokens: &[Token],
 ) -> Result<(Binary, u8, &[Token]), Stop>
     requires { room ≤ 64 }
-    ensures read { Gives (λ x. (view_binary x.0, leaves_of source.count x.2.now)) result (binary_by (within 64 left) level room (leaves_of source.count tokens.now)) }
-    ensures height { IfOk result (λ x. x.1 ≡ height_binary (view_binary x.0)) }
-    ensures within { IfOk result (λ x. (0 < x.1) × (x.1 ≤ room)) }
+    ensures { Reads (λ x. (view_binary x.0, leaves_of source.count x.2.now)) (λ x. IsNodeHeight room (height_binary (view_binary x.0)) x.1) result (binary_by (within 64 left) level room (leaves_of source.count tokens.now)) }
 {
     if level == 0 {
         let (operand, height, rest) = cast(source, left, room, tokens)?;
@@ -460,6 +569,27 @@ fn binary(
 }
 
 // Conditionals and assignments.
+
+fn chosen(
+    source: Source,
+    room: u8,
+    test: Binary,
+    question: Spot,
+    second: Expression,
+    colon: Spot,
+    below: u8,
+    third: Conditional,
+    third_height: u8,
+    tokens: &[Token],
+) -> Result<(Conditional, u8, &[Token]), Stop>
+    requires { HasRoom room (max (height_binary (view_binary test)) (height_expression (view_expression second))) below (height_conditional (view_conditional third)) third_height }
+    ensures { Reads (λ x. (view_conditional x.0, leaves_of source.count x.2.now)) (λ x. IsNodeHeight room (height_conditional (view_conditional x.0)) x.1) result (made (t.choose (view_binary test) question (view_expression second) colon (view_conditional third)) (leaves_of source.count tokens.now)) }
+{
+    let second = Box::new(source.alloc, second)?;
+    let third = Box::new(source.alloc, third)?;
+    let tree = Conditional::Choose(test, question, second, colon, third);
+    Ok((tree, higher(below, third_height) + 1, tokens))
+}
 
 #[cycle(expressions)]
 #[tactic(auto, unfolding(ec_reading::specs::Reading::choice_by))]
@@ -472,22 +602,17 @@ fn choice(
     question: Spot,
     tokens: &[Token],
 ) -> Result<(Conditional, u8, &[Token]), Stop>
-    requires room { room ≤ 64 }
-    requires height { test_height ≡ height_binary (view_binary test) }
-    requires within { test_height ≤ room }
-    ensures read { Gives (λ x. (view_conditional x.0, leaves_of source.count x.2.now)) result (choice_by (within 64 left) room (view_binary test) question (leaves_of source.count tokens.now)) }
-    ensures height { IfOk result (λ x. x.1 ≡ height_conditional (view_conditional x.0)) }
-    ensures within { IfOk result (λ x. (0 < x.1) × (x.1 ≤ room)) }
+    requires { IsBehind room (height_binary (view_binary test)) test_height }
+    ensures { Reads (λ x. (view_conditional x.0, leaves_of source.count x.2.now)) (λ x. IsNodeHeight room (height_conditional (view_conditional x.0)) x.1) result (choice_by (within 64 left) room (view_binary test) question (leaves_of source.count tokens.now)) }
 {
     let left = begun_expression(source, left, tokens)?;
     let (second, second_height, rest) = expression(source, left, LIMIT, tokens)?;
     let (colon, rest) = expect(source, rest, PunctKind::Colon)?;
     let below = higher(test_height, second_height);
-    let (third, third_height, rest) = conditional(source, left, room_behind(room, below), rest)?;
-    let second = Box::new(source.alloc, second)?;
-    let third = Box::new(source.alloc, third)?;
-    let tree = Conditional::Choose(test, question, second, colon, third);
-    Ok((tree, higher(below, third_height) + 1, rest))
+    let (third, height, rest) = conditional(source, left, room_behind(room, below), rest)?;
+    chosen(
+        source, room, test, question, second, colon, below, third, height, rest,
+    )
 }
 
 /// A conditional expression (6.5.15).
@@ -500,9 +625,7 @@ pub fn conditional(
     tokens: &[Token],
 ) -> Result<(Conditional, u8, &[Token]), Stop>
     requires { room ≤ 64 }
-    ensures read { Gives (λ x. (view_conditional x.0, leaves_of source.count x.2.now)) result (conditional_by (within 64 left) room (leaves_of source.count tokens.now)) }
-    ensures height { IfOk result (λ x. x.1 ≡ height_conditional (view_conditional x.0)) }
-    ensures within { IfOk result (λ x. (0 < x.1) × (x.1 ≤ room)) }
+    ensures { Reads (λ x. (view_conditional x.0, leaves_of source.count x.2.now)) (λ x. IsNodeHeight room (height_conditional (view_conditional x.0)) x.1) result (conditional_by (within 64 left) room (leaves_of source.count tokens.now)) }
 {
     let (test, height, rest) = binary(source, left, 10, room, tokens)?;
     if let Some((question, rest)) = take(source, rest, PunctKind::Question) {
@@ -521,6 +644,25 @@ fn unary_alone(tree: Conditional) -> Result<Unary, Conditional>
     }
 }
 
+fn assigns(
+    source: Source,
+    room: u8,
+    place: Unary,
+    place_height: u8,
+    spot: Spot,
+    op: PunctKind,
+    value: Assignment,
+    value_height: u8,
+    tokens: &[Token],
+) -> Result<(Assignment, u8, &[Token]), Stop>
+    requires { HasRoom room (height_unary (view_unary place)) place_height (height_assignment (view_assignment value)) value_height }
+    ensures { Reads (λ x. (view_assignment x.0, leaves_of source.count x.2.now)) (λ x. IsNodeHeight room (height_assignment (view_assignment x.0)) x.1) result (made (t.assign (view_unary place) spot op (view_assignment value)) (leaves_of source.count tokens.now)) }
+{
+    let value = Box::new(source.alloc, value)?;
+    let tree = Assignment::Assign(place, spot, op, value);
+    Ok((tree, higher(place_height, value_height) + 1, tokens))
+}
+
 #[cycle(expressions)]
 #[tactic(auto, unfolding(ec_reading::specs::Reading::assigned_by))]
 fn assigned(
@@ -533,19 +675,23 @@ fn assigned(
     op: PunctKind,
     tokens: &[Token],
 ) -> Result<(Assignment, u8, &[Token]), Stop>
-    requires room { room ≤ 64 }
-    requires height { place_height ≡ height_unary (view_unary place) }
-    requires within { place_height ≤ room }
-    ensures read { Gives (λ x. (view_assignment x.0, leaves_of source.count x.2.now)) result (assigned_by (within 64 left) room (view_unary place) spot op (leaves_of source.count tokens.now)) }
-    ensures height { IfOk result (λ x. x.1 ≡ height_assignment (view_assignment x.0)) }
-    ensures within { IfOk result (λ x. (0 < x.1) × (x.1 ≤ room)) }
+    requires { IsBehind room (height_unary (view_unary place)) place_height }
+    ensures { Reads (λ x. (view_assignment x.0, leaves_of source.count x.2.now)) (λ x. IsNodeHeight room (height_assignment (view_assignment x.0)) x.1) result (assigned_by (within 64 left) room (view_unary place) spot op (leaves_of source.count tokens.now)) }
 {
     let left = begun_expression(source, left, tokens)?;
     let last = room_behind(room, place_height);
-    let (value, value_height, rest) = assignment(source, left, last, tokens)?;
-    let value = Box::new(source.alloc, value)?;
-    let tree = Assignment::Assign(place, spot, op, value);
-    Ok((tree, higher(place_height, value_height) + 1, rest))
+    let (value, height, rest) = assignment(source, left, last, tokens)?;
+    assigns(
+        source,
+        room,
+        place,
+        place_height,
+        spot,
+        op,
+        value,
+        height,
+        rest,
+    )
 }
 
 /// An assignment expression (6.5.16). An operator that follows no unary expression is left.
@@ -558,9 +704,7 @@ pub fn assignment(
     tokens: &[Token],
 ) -> Result<(Assignment, u8, &[Token]), Stop>
     requires { room ≤ 64 }
-    ensures read { Gives (λ x. (view_assignment x.0, leaves_of source.count x.2.now)) result (assignment_by (within 64 left) room (leaves_of source.count tokens.now)) }
-    ensures height { IfOk result (λ x. x.1 ≡ height_assignment (view_assignment x.0)) }
-    ensures within { IfOk result (λ x. (0 < x.1) × (x.1 ≤ room)) }
+    ensures { Reads (λ x. (view_assignment x.0, leaves_of source.count x.2.now)) (λ x. IsNodeHeight room (height_assignment (view_assignment x.0)) x.1) result (assignment_by (within 64 left) room (leaves_of source.count tokens.now)) }
 {
     let (tree, height, rest) = conditional(source, left, room, tokens)?;
     let Some((spot, op, after)) = take_assign(source, rest) else {
@@ -570,6 +714,24 @@ pub fn assignment(
         Ok(place) => assigned(source, left, room, place, height, spot, op, after),
         Err(tree) => Ok((Assignment::Value(tree), height, rest)),
     }
+}
+
+fn with_comma(
+    source: Source,
+    room: u8,
+    first: Expression,
+    first_height: u8,
+    comma: Spot,
+    second: Assignment,
+    second_height: u8,
+) -> Result<(Expression, u8), Stop>
+    requires { HasRoom room (height_expression (view_expression first)) first_height (height_assignment (view_assignment second)) second_height }
+    ensures { Builds (λ x. view_expression x.0) (λ x. IsNodeHeight room (height_expression (view_expression x.0)) x.1) result (t.comma (view_expression first) comma (view_assignment second)) }
+{
+    let first = Box::new(source.alloc, first)?;
+    let second = Box::new(source.alloc, second)?;
+    let height = higher(first_height, second_height) + 1;
+    Ok((Expression::Comma(first, comma, second), height))
 }
 
 /// What the commas that follow make of an expression: there are at most so many.
@@ -584,25 +746,26 @@ fn commas(
     first_height: u8,
     tokens: &[Token],
 ) -> Result<(Expression, u8, &[Token]), Stop>
-    requires room { room ≤ 64 }
-    requires height { first_height ≡ height_expression (view_expression first) }
-    requires within { (0 < first_height) × (first_height ≤ room) }
-    ensures read { Gives (λ x. (view_expression x.0, leaves_of source.count x.2.now)) result (commas_by (within 64 left) room count (view_expression first) (leaves_of source.count tokens.now)) }
-    ensures height { IfOk result (λ x. x.1 ≡ height_expression (view_expression x.0)) }
-    ensures within { IfOk result (λ x. (0 < x.1) × (x.1 ≤ room)) }
+    requires { IsBehind room (height_expression (view_expression first)) first_height }
+    ensures { Reads (λ x. (view_expression x.0, leaves_of source.count x.2.now)) (λ x. IsNodeHeight room (height_expression (view_expression x.0)) x.1) result (commas_by (within 64 left) room count (view_expression first) (leaves_of source.count tokens.now)) }
 {
     if count == 0 {
         return Err(too_long(source, tokens));
     }
-    let Some((comma, rest)) = take(source, tokens, PunctKind::Comma) else {
+    let Some((spot, rest)) = take(source, tokens, PunctKind::Comma) else {
         return Ok((first, first_height, tokens));
     };
     let last = room_behind(room, first_height);
     let (second, second_height, rest) = assignment(source, left, last, rest)?;
-    let first = Box::new(source.alloc, first)?;
-    let second = Box::new(source.alloc, second)?;
-    let both = Expression::Comma(first, comma, second);
-    let height = higher(first_height, second_height) + 1;
+    let (both, height) = with_comma(
+        source,
+        room,
+        first,
+        first_height,
+        spot,
+        second,
+        second_height,
+    )?;
     commas(source, left, room, count - 1, both, height, rest)
 }
 
@@ -616,18 +779,9 @@ pub fn expression(
     tokens: &[Token],
 ) -> Result<(Expression, u8, &[Token]), Stop>
     requires { room ≤ 64 }
-    ensures read { Gives (λ x. (view_expression x.0, leaves_of source.count x.2.now)) result (expression_by (within 64 left) room (leaves_of source.count tokens.now)) }
-    ensures height { IfOk result (λ x. x.1 ≡ height_expression (view_expression x.0)) }
-    ensures within { IfOk result (λ x. (0 < x.1) × (x.1 ≤ room)) }
+    ensures { Reads (λ x. (view_expression x.0, leaves_of source.count x.2.now)) (λ x. IsNodeHeight room (height_expression (view_expression x.0)) x.1) result (expression_by (within 64 left) room (leaves_of source.count tokens.now)) }
 {
     let (first, height, rest) = assignment(source, left, room, tokens)?;
-    commas(
-        source,
-        left,
-        room,
-        CHAIN,
-        Expression::Single(first),
-        height,
-        rest,
-    )
+    let first = Expression::Single(first);
+    commas(source, left, room, CHAIN, first, height, rest)
 }

@@ -2,11 +2,13 @@
 //!
 //! A function answers the tree, its height and the tokens after it, as those of expressions do.
 
-ghost use Rattle.std.specs.Prelude.{◌≡◌, ◌+◌, ◌<◌, ◌≤◌, suc, max, map, IfOk};
+ghost use Rattle.std.specs.Prelude.{◌≡◌, ◌<◌, ◌≤◌, suc, max, map, Ok, IfOk, option_map};
 ghost use Rattle.ec_grammar.specs.Nesting.{height_option, height_expression, height_condition, height_first, height_heading, height_compound, height_items, height_item, height_statement};
-ghost use Rattle.ec_grammar.specs.Views.{view_option, view_expression, view_condition, view_first, view_heading, view_compound, views_items, view_item, view_statement};
-ghost use Rattle.ec_reading.specs.Reading.{within, many, expression_by, condition_by, optional_by, first_by, heading_by, substatement, items_of, item_at, pragma_at, compound_by, else_by, if_by, while_by, do_by, for_by, return_by, worded_by, simple_by, statement_by};
-ghost use Rattle.ec_parse.specs.Reads.{leaves_of, inner_at, Gives, GivesAt, IfThere, view_keyword};
+ghost use Rattle.ec_grammar.specs.Trees as t;
+ghost use Rattle.ec_grammar.specs.Views.{view_option, view_expression, view_condition, view_first, view_heading, view_compound, view_item, view_statement};
+ghost use Rattle.ec_reading.specs.Reading.{within, many, ends, expected, taken_word, expression_by, condition_by, optional_by, first_by, heading_by, substatement, items_of, item_at, pragma_at, compound_by, else_by, if_by, while_by, do_by, for_by, return_by, worded_by, simple_by, statement_by};
+ghost use Rattle.ec_parse.specs.Reads.{leaves_of, inner_at, made, Gives, GivesAt, Reads, ReadsAt, IsHeight, IsNodeHeight, HasRoomAbove, view_keyword};
+ghost use Rattle.ec_parse.specs.Statements.{HasLast, compound_after, else_after, while_after, do_after, for_after, break_by, continue_by};
 
 use crate::declarations::declaration;
 use crate::depth::{LIMIT, begun_statement, ended, higher, opened, room_behind};
@@ -137,9 +139,7 @@ fn pragmas(source: Source, tokens: &[Token]) -> Result<(Vec<Pragma>, &[Token]), 
 #[cycle(statements)]
 #[tactic(auto, unfolding(ec_reading::specs::Reading::item_at))]
 fn item(source: Source, left: u8, tokens: &[Token]) -> Result<Option<(Item, u8, &[Token])>, Stop>
-    ensures read { GivesAt (λ x. (view_item x.0, leaves_of source.count x.2.now)) result (item_at (within 64 left) (leaves_of source.count tokens.now)) }
-    ensures height { IfThere result (λ x. x.1 ≡ height_item (view_item x.0)) }
-    ensures within { IfThere result (λ x. x.1 ≤ 64) }
+    ensures { ReadsAt (λ x. (view_item x.0, leaves_of source.count x.2.now)) (λ x. IsHeight 64 (height_item (view_item x.0)) x.1) result (item_at (within 64 left) (leaves_of source.count tokens.now)) }
 {
     if begins_specs(source, tokens) {
         let (declaration, height, rest) = declaration(source, left, tokens)?;
@@ -154,12 +154,8 @@ fn item(source: Source, left: u8, tokens: &[Token]) -> Result<Option<(Item, u8, 
 
 /// Declarations and statements, and their height.
 #[cycle(statements)]
-#[tactic(auto, using(crate::proofs::Lists::items_map))]
 fn items(source: Source, left: u8, tokens: &[Token]) -> Result<(Vec<Item>, u8, &[Token]), Stop>
-    ensures read { Gives (λ x. (map view_item x.0.items, leaves_of source.count x.2.now)) result (many (item_at (within 64 left)) (leaves_of source.count tokens.now)) }
-    ensures rows { IfOk result (λ x. items_of (map view_item x.0.items) ≡ views_items x.0.items) }
-    ensures height { IfOk result (λ x. x.1 ≡ height_items (views_items x.0.items)) }
-    ensures within { IfOk result (λ x. x.1 ≤ 64) }
+    ensures { Reads (λ x. (map view_item x.0.items, leaves_of source.count x.2.now)) (λ x. IsHeight 64 (height_items (items_of (map view_item x.0.items))) x.1) result (many (item_at (within 64 left)) (leaves_of source.count tokens.now)) }
 {
     let mut all = Vec::new(source.alloc);
     let mut height = 0;
@@ -175,6 +171,31 @@ fn items(source: Source, left: u8, tokens: &[Token]) -> Result<(Vec<Item>, u8, &
     Ok((all, height, rest))
 }
 
+/// A compound statement whose brace ends here.
+#[tactic(auto, using(crate::proofs::Lists::items_map))]
+fn compound_end(
+    source: Source,
+    room: u8,
+    opening: Spot,
+    pragmas: Vec<Pragma>,
+    items: Vec<Item>,
+    below: u8,
+    tokens: &[Token],
+) -> Result<(Compound, u8, &[Token]), Stop>
+    requires { IsHeight 64 (height_items (items_of (map view_item items.items))) below }
+    ensures { Reads (λ x. (view_compound x.0, leaves_of source.count x.2.now)) (λ x. IsNodeHeight room (height_compound (view_compound x.0)) x.1) result (compound_after room opening pragmas.items (items_of (map view_item items.items)) (leaves_of source.count tokens.now)) }
+{
+    let (closing, rest) = expect(source, tokens, PunctKind::RightBrace)?;
+    let height = ended(source, room, below, rest)?;
+    let tree = Compound {
+        opening,
+        pragmas,
+        items,
+        closing,
+    };
+    Ok((tree, height, rest))
+}
+
 /// A compound statement (6.8.2).
 #[cycle(statements)]
 #[tactic(auto, unfolding(ec_reading::specs::Reading::compound_by))]
@@ -185,22 +206,12 @@ pub fn compound(
     tokens: &[Token],
 ) -> Result<(Compound, u8, &[Token]), Stop>
     requires { room ≤ 64 }
-    ensures read { Gives (λ x. (view_compound x.0, leaves_of source.count x.2.now)) result (compound_by (within 64 left) room (leaves_of source.count tokens.now)) }
-    ensures height { IfOk result (λ x. x.1 ≡ height_compound (view_compound x.0)) }
-    ensures within { IfOk result (λ x. (0 < x.1) × (x.1 ≤ room)) }
+    ensures { Reads (λ x. (view_compound x.0, leaves_of source.count x.2.now)) (λ x. IsNodeHeight room (height_compound (view_compound x.0)) x.1) result (compound_by (within 64 left) room (leaves_of source.count tokens.now)) }
 {
     let (opening, rest) = expect(source, tokens, PunctKind::LeftBrace)?;
     let (pragmas, rest) = pragmas(source, rest)?;
     let (items, below, rest) = items(source, left, rest)?;
-    let (closing, rest) = expect(source, rest, PunctKind::RightBrace)?;
-    let height = ended(source, room, below, rest)?;
-    let tree = Compound {
-        opening,
-        pragmas,
-        items,
-        closing,
-    };
-    Ok((tree, height, rest))
+    compound_end(source, room, opening, pragmas, items, below, rest)
 }
 
 // Statements.
@@ -214,12 +225,58 @@ fn substatement(
     tokens: &[Token],
 ) -> Result<(Statement, u8, &[Token]), Stop>
     requires { room ≤ 64 }
-    ensures read { Gives (λ x. (view_statement x.0, leaves_of source.count x.2.now)) result (substatement (within 64 left) room (leaves_of source.count tokens.now)) }
-    ensures height { IfOk result (λ x. x.1 ≡ height_statement (view_statement x.0)) }
-    ensures within { IfOk result (λ x. (0 < x.1) × (x.1 ≤ room)) }
+    ensures { Reads (λ x. (view_statement x.0, leaves_of source.count x.2.now)) (λ x. IsNodeHeight room (height_statement (view_statement x.0)) x.1) result (substatement (within 64 left) room (leaves_of source.count tokens.now)) }
 {
     let left = begun_statement(source, left, tokens)?;
     statement(source, left, room, tokens)
+}
+
+/// The word `else`.
+fn take_else(source: Source, tokens: &[Token]) -> Option<(Spot, &[Token])>
+    ensures { option_map (λ x. (x.0, WordKind.Else, leaves_of source.count x.1.now)) result ≡ taken_word WordKind.Else (leaves_of source.count tokens.now) }
+{
+    take_word(source, tokens, WordKind::Else)
+}
+
+fn if_alone(
+    source: Source,
+    room: u8,
+    word: Spot,
+    test: Condition,
+    first: Statement,
+    below: u8,
+    tokens: &[Token],
+) -> Result<(Statement, u8, &[Token]), Stop>
+    requires { HasRoomAbove room (max (height_condition (view_condition test)) (height_statement (view_statement first))) below }
+    ensures { Reads (λ x. (view_statement x.0, leaves_of source.count x.2.now)) (λ x. IsNodeHeight room (height_statement (view_statement x.0)) x.1) result (made (t.if_then word (view_condition test) (view_statement first)) (leaves_of source.count tokens.now)) }
+{
+    let first = Box::new(source.alloc, first)?;
+    Ok((Statement::If(word, test, first), below + 1, tokens))
+}
+
+/// An `if` with an `else` whose statement was read, with that much room, from these tokens.
+fn if_else<'a>(
+    source: Source,
+    left: u8,
+    room: u8,
+    word: Spot,
+    test: Condition,
+    first: Statement,
+    below: u8,
+    other: Spot,
+    last: u8,
+    tokens: &[Token],
+    second: Result<(Statement, u8, &'a [Token]), Stop>,
+) -> Result<(Statement, u8, &'a [Token]), Stop>
+    requires room { HasLast room (max (height_condition (view_condition test)) (height_statement (view_statement first))) below last }
+    requires second { Reads (λ x. (view_statement x.0, leaves_of source.count x.2.now)) (λ x. IsNodeHeight last (height_statement (view_statement x.0)) x.1) second (substatement (within 64 left) last (leaves_of source.count tokens.now)) }
+    ensures { Reads (λ x. (view_statement x.0, leaves_of source.count x.2.now)) (λ x. IsNodeHeight room (height_statement (view_statement x.0)) x.1) result (else_after (within 64 left) room word (view_condition test) (view_statement first) other (leaves_of source.count tokens.now)) }
+{
+    let (second, height, rest) = second?;
+    let first = Box::new(source.alloc, first)?;
+    let second = Box::new(source.alloc, second)?;
+    let tree = Statement::IfElse(word, test, first, other, second);
+    Ok((tree, higher(below, height) + 1, rest))
 }
 
 /// What follows the first statement of an `if`: an `else` that follows belongs to it.
@@ -235,23 +292,17 @@ fn otherwise(
     below: u8,
     tokens: &[Token],
 ) -> Result<(Statement, u8, &[Token]), Stop>
-    requires room { room ≤ 64 }
-    requires height { below ≡ max (height_condition (view_condition test)) (height_statement (view_statement first)) }
-    requires within { suc below ≤ room }
-    ensures read { Gives (λ x. (view_statement x.0, leaves_of source.count x.2.now)) result (else_by (within 64 left) room word (view_condition test) (view_statement first) (leaves_of source.count tokens.now)) }
-    ensures height { IfOk result (λ x. x.1 ≡ height_statement (view_statement x.0)) }
-    ensures within { IfOk result (λ x. (0 < x.1) × (x.1 ≤ room)) }
+    requires { HasRoomAbove room (max (height_condition (view_condition test)) (height_statement (view_statement first))) below }
+    ensures { Reads (λ x. (view_statement x.0, leaves_of source.count x.2.now)) (λ x. IsNodeHeight room (height_statement (view_statement x.0)) x.1) result (else_by (within 64 left) room word (view_condition test) (view_statement first) (leaves_of source.count tokens.now)) }
 {
-    let Some((other, rest)) = take_word(source, tokens, WordKind::Else) else {
-        let first = Box::new(source.alloc, first)?;
-        return Ok((Statement::If(word, test, first), below + 1, tokens));
+    let Some((other, rest)) = take_else(source, tokens) else {
+        return if_alone(source, room, word, test, first, below, tokens);
     };
     let last = room_behind(room, below);
-    let (second, height, rest) = substatement(source, left, last, rest)?;
-    let first = Box::new(source.alloc, first)?;
-    let second = Box::new(source.alloc, second)?;
-    let tree = Statement::IfElse(word, test, first, other, second);
-    Ok((tree, higher(below, height) + 1, rest))
+    let second = substatement(source, left, last, rest);
+    if_else(
+        source, left, room, word, test, first, below, other, last, rest, second,
+    )
 }
 
 /// A selection statement (6.8.4.1).
@@ -265,15 +316,35 @@ fn selection(
     tokens: &[Token],
 ) -> Result<(Statement, u8, &[Token]), Stop>
     requires { room ≤ 64 }
-    ensures read { Gives (λ x. (view_statement x.0, leaves_of source.count x.2.now)) result (if_by (within 64 left) room word (leaves_of source.count tokens.now)) }
-    ensures height { IfOk result (λ x. x.1 ≡ height_statement (view_statement x.0)) }
-    ensures within { IfOk result (λ x. (0 < x.1) × (x.1 ≤ room)) }
+    ensures { Reads (λ x. (view_statement x.0, leaves_of source.count x.2.now)) (λ x. IsNodeHeight room (height_statement (view_statement x.0)) x.1) result (if_by (within 64 left) room word (leaves_of source.count tokens.now)) }
 {
     let (test, test_height, rest) = condition(source, left, tokens)?;
     let last = room_behind(room, test_height);
     let (first, height, rest) = substatement(source, left, last, rest)?;
     let below = higher(test_height, height);
     otherwise(source, left, room, word, test, first, below, rest)
+}
+
+/// A `while` whose body was read, with that much room, from these tokens.
+fn while_end<'a>(
+    source: Source,
+    left: u8,
+    room: u8,
+    word: Spot,
+    test: Condition,
+    below: u8,
+    last: u8,
+    tokens: &[Token],
+    body: Result<(Statement, u8, &'a [Token]), Stop>,
+) -> Result<(Statement, u8, &'a [Token]), Stop>
+    requires room { HasLast room (height_condition (view_condition test)) below last }
+    requires body { Reads (λ x. (view_statement x.0, leaves_of source.count x.2.now)) (λ x. IsNodeHeight last (height_statement (view_statement x.0)) x.1) body (substatement (within 64 left) last (leaves_of source.count tokens.now)) }
+    ensures { Reads (λ x. (view_statement x.0, leaves_of source.count x.2.now)) (λ x. IsNodeHeight room (height_statement (view_statement x.0)) x.1) result (while_after (within 64 left) room word (view_condition test) (leaves_of source.count tokens.now)) }
+{
+    let (body, height, rest) = body?;
+    let body = Box::new(source.alloc, body)?;
+    let tree = Statement::While(word, test, body);
+    Ok((tree, higher(below, height) + 1, rest))
 }
 
 /// A `while` (6.8.5.1).
@@ -287,41 +358,34 @@ fn loop_while(
     tokens: &[Token],
 ) -> Result<(Statement, u8, &[Token]), Stop>
     requires { room ≤ 64 }
-    ensures read { Gives (λ x. (view_statement x.0, leaves_of source.count x.2.now)) result (while_by (within 64 left) room word (leaves_of source.count tokens.now)) }
-    ensures height { IfOk result (λ x. x.1 ≡ height_statement (view_statement x.0)) }
-    ensures within { IfOk result (λ x. (0 < x.1) × (x.1 ≤ room)) }
+    ensures { Reads (λ x. (view_statement x.0, leaves_of source.count x.2.now)) (λ x. IsNodeHeight room (height_statement (view_statement x.0)) x.1) result (while_by (within 64 left) room word (leaves_of source.count tokens.now)) }
 {
-    let (test, test_height, rest) = condition(source, left, tokens)?;
-    let last = room_behind(room, test_height);
-    let (body, height, rest) = substatement(source, left, last, rest)?;
-    let body = Box::new(source.alloc, body)?;
-    let tree = Statement::While(word, test, body);
-    Ok((tree, higher(test_height, height) + 1, rest))
+    let (test, below, rest) = condition(source, left, tokens)?;
+    let last = room_behind(room, below);
+    let body = substatement(source, left, last, rest);
+    while_end(source, left, room, word, test, below, last, rest, body)
 }
 
-/// A `do` (6.8.5.2).
-#[cycle(statements)]
-#[tactic(auto, unfolding(ec_reading::specs::Reading::do_by))]
-fn loop_do(
+/// A `for` whose body was read, with that much room, from these tokens.
+fn for_end<'a>(
     source: Source,
     left: u8,
     room: u8,
     word: Spot,
+    heading: Heading,
+    below: u8,
+    last: u8,
     tokens: &[Token],
-) -> Result<(Statement, u8, &[Token]), Stop>
-    requires { room ≤ 64 }
-    ensures read { Gives (λ x. (view_statement x.0, leaves_of source.count x.2.now)) result (do_by (within 64 left) room word (leaves_of source.count tokens.now)) }
-    ensures height { IfOk result (λ x. x.1 ≡ height_statement (view_statement x.0)) }
-    ensures within { IfOk result (λ x. (0 < x.1) × (x.1 ≤ room)) }
+    body: Result<(Statement, u8, &'a [Token]), Stop>,
+) -> Result<(Statement, u8, &'a [Token]), Stop>
+    requires room { HasLast room (height_heading (view_heading heading)) below last }
+    requires body { Reads (λ x. (view_statement x.0, leaves_of source.count x.2.now)) (λ x. IsNodeHeight last (height_statement (view_statement x.0)) x.1) body (substatement (within 64 left) last (leaves_of source.count tokens.now)) }
+    ensures { Reads (λ x. (view_statement x.0, leaves_of source.count x.2.now)) (λ x. IsNodeHeight room (height_statement (view_statement x.0)) x.1) result (for_after (within 64 left) room word (view_heading heading) (leaves_of source.count tokens.now)) }
 {
-    let (body, body_height, rest) = substatement(source, left, LIMIT, tokens)?;
-    let (again, rest) = expect_word(source, rest, WordKind::While)?;
-    let (test, test_height, rest) = condition(source, left, rest)?;
-    let (semicolon, rest) = expect(source, rest, PunctKind::Semicolon)?;
-    let height = ended(source, room, higher(body_height, test_height), rest)?;
+    let (body, height, rest) = body?;
     let body = Box::new(source.alloc, body)?;
-    let tree = Statement::Do(word, body, again, test, semicolon);
-    Ok((tree, height, rest))
+    let tree = Statement::For(word, heading, body);
+    Ok((tree, higher(below, height) + 1, rest))
 }
 
 /// A `for` (6.8.5.3).
@@ -335,16 +399,79 @@ fn loop_for(
     tokens: &[Token],
 ) -> Result<(Statement, u8, &[Token]), Stop>
     requires { room ≤ 64 }
-    ensures read { Gives (λ x. (view_statement x.0, leaves_of source.count x.2.now)) result (for_by (within 64 left) room word (leaves_of source.count tokens.now)) }
-    ensures height { IfOk result (λ x. x.1 ≡ height_statement (view_statement x.0)) }
-    ensures within { IfOk result (λ x. (0 < x.1) × (x.1 ≤ room)) }
+    ensures { Reads (λ x. (view_statement x.0, leaves_of source.count x.2.now)) (λ x. IsNodeHeight room (height_statement (view_statement x.0)) x.1) result (for_by (within 64 left) room word (leaves_of source.count tokens.now)) }
 {
-    let (heading, heading_height, rest) = heading(source, left, tokens)?;
-    let last = room_behind(room, heading_height);
-    let (body, height, rest) = substatement(source, left, last, rest)?;
+    let (heading, below, rest) = heading(source, left, tokens)?;
+    let last = room_behind(room, below);
+    let body = substatement(source, left, last, rest);
+    for_end(source, left, room, word, heading, below, last, rest, body)
+}
+
+/// What follows the body of a `do`.
+fn do_end(
+    source: Source,
+    left: u8,
+    room: u8,
+    word: Spot,
+    body: Statement,
+    body_height: u8,
+    tokens: &[Token],
+) -> Result<(Statement, u8, &[Token]), Stop>
+    requires { IsHeight 64 (height_statement (view_statement body)) body_height }
+    ensures { Reads (λ x. (view_statement x.0, leaves_of source.count x.2.now)) (λ x. IsNodeHeight room (height_statement (view_statement x.0)) x.1) result (do_after (within 64 left) room word (view_statement body) (leaves_of source.count tokens.now)) }
+{
+    let (again, rest) = expect_word(source, tokens, WordKind::While)?;
+    let (test, test_height, rest) = condition(source, left, rest)?;
+    let (semicolon, rest) = expect(source, rest, PunctKind::Semicolon)?;
+    let height = ended(source, room, higher(body_height, test_height), rest)?;
     let body = Box::new(source.alloc, body)?;
-    let tree = Statement::For(word, heading, body);
-    Ok((tree, higher(heading_height, height) + 1, rest))
+    let tree = Statement::Do(word, body, again, test, semicolon);
+    Ok((tree, height, rest))
+}
+
+/// A `do` (6.8.5.2).
+#[cycle(statements)]
+#[tactic(auto, unfolding(ec_reading::specs::Reading::do_by))]
+fn loop_do(
+    source: Source,
+    left: u8,
+    room: u8,
+    word: Spot,
+    tokens: &[Token],
+) -> Result<(Statement, u8, &[Token]), Stop>
+    requires { room ≤ 64 }
+    ensures { Reads (λ x. (view_statement x.0, leaves_of source.count x.2.now)) (λ x. IsNodeHeight room (height_statement (view_statement x.0)) x.1) result (do_by (within 64 left) room word (leaves_of source.count tokens.now)) }
+{
+    let (body, height, rest) = substatement(source, left, LIMIT, tokens)?;
+    do_end(source, left, room, word, body, height, rest)
+}
+
+/// A `break` (6.8.6.3).
+fn break_loop(
+    source: Source,
+    room: u8,
+    word: Spot,
+    tokens: &[Token],
+) -> Result<(Statement, u8, &[Token]), Stop>
+    ensures { Reads (λ x. (view_statement x.0, leaves_of source.count x.2.now)) (λ x. IsNodeHeight room (height_statement (view_statement x.0)) x.1) result (break_by room word (leaves_of source.count tokens.now)) }
+{
+    let (semicolon, rest) = expect(source, tokens, PunctKind::Semicolon)?;
+    let height = ended(source, room, 0, rest)?;
+    Ok((Statement::Break(word, semicolon), height, rest))
+}
+
+/// A `continue` (6.8.6.2).
+fn continue_loop(
+    source: Source,
+    room: u8,
+    word: Spot,
+    tokens: &[Token],
+) -> Result<(Statement, u8, &[Token]), Stop>
+    ensures { Reads (λ x. (view_statement x.0, leaves_of source.count x.2.now)) (λ x. IsNodeHeight room (height_statement (view_statement x.0)) x.1) result (continue_by room word (leaves_of source.count tokens.now)) }
+{
+    let (semicolon, rest) = expect(source, tokens, PunctKind::Semicolon)?;
+    let height = ended(source, room, 0, rest)?;
+    Ok((Statement::Continue(word, semicolon), height, rest))
 }
 
 /// A `return` (6.8.6.4).
@@ -357,9 +484,7 @@ fn returned(
     tokens: &[Token],
 ) -> Result<(Statement, u8, &[Token]), Stop>
     requires { room ≤ 64 }
-    ensures read { Gives (λ x. (view_statement x.0, leaves_of source.count x.2.now)) result (return_by (within 64 left) room word (leaves_of source.count tokens.now)) }
-    ensures height { IfOk result (λ x. x.1 ≡ height_statement (view_statement x.0)) }
-    ensures within { IfOk result (λ x. (0 < x.1) × (x.1 ≤ room)) }
+    ensures { Reads (λ x. (view_statement x.0, leaves_of source.count x.2.now)) (λ x. IsNodeHeight room (height_statement (view_statement x.0)) x.1) result (return_by (within 64 left) room word (leaves_of source.count tokens.now)) }
 {
     let (value, semicolon, below, rest) = optional(source, left, PunctKind::Semicolon, tokens)?;
     let height = ended(source, room, below, rest)?;
@@ -377,25 +502,15 @@ fn worded(
     tokens: &[Token],
 ) -> Result<(Statement, u8, &[Token]), Stop>
     requires { room ≤ 64 }
-    ensures read { Gives (λ x. (view_statement x.0, leaves_of source.count x.2.now)) result (worded_by (within 64 left) room word (view_keyword keyword) (leaves_of source.count tokens.now)) }
-    ensures height { IfOk result (λ x. x.1 ≡ height_statement (view_statement x.0)) }
-    ensures within { IfOk result (λ x. (0 < x.1) × (x.1 ≤ room)) }
+    ensures { Reads (λ x. (view_statement x.0, leaves_of source.count x.2.now)) (λ x. IsNodeHeight room (height_statement (view_statement x.0)) x.1) result (worded_by (within 64 left) room word (view_keyword keyword) (leaves_of source.count tokens.now)) }
 {
     match keyword {
         Keyword::If => selection(source, left, room, word, tokens),
         Keyword::While => loop_while(source, left, room, word, tokens),
         Keyword::Do => loop_do(source, left, room, word, tokens),
         Keyword::For => loop_for(source, left, room, word, tokens),
-        Keyword::Break => {
-            let (semicolon, rest) = expect(source, tokens, PunctKind::Semicolon)?;
-            let height = ended(source, room, 0, rest)?;
-            Ok((Statement::Break(word, semicolon), height, rest))
-        }
-        Keyword::Continue => {
-            let (semicolon, rest) = expect(source, tokens, PunctKind::Semicolon)?;
-            let height = ended(source, room, 0, rest)?;
-            Ok((Statement::Continue(word, semicolon), height, rest))
-        }
+        Keyword::Break => break_loop(source, room, word, tokens),
+        Keyword::Continue => continue_loop(source, room, word, tokens),
         Keyword::Return => returned(source, left, room, word, tokens),
     }
 }
@@ -409,13 +524,17 @@ fn simple(
     tokens: &[Token],
 ) -> Result<(Statement, u8, &[Token]), Stop>
     requires { room ≤ 64 }
-    ensures read { Gives (λ x. (view_statement x.0, leaves_of source.count x.2.now)) result (simple_by (within 64 left) room (leaves_of source.count tokens.now)) }
-    ensures height { IfOk result (λ x. x.1 ≡ height_statement (view_statement x.0)) }
-    ensures within { IfOk result (λ x. (0 < x.1) × (x.1 ≤ room)) }
+    ensures { Reads (λ x. (view_statement x.0, leaves_of source.count x.2.now)) (λ x. IsNodeHeight room (height_statement (view_statement x.0)) x.1) result (simple_by (within 64 left) room (leaves_of source.count tokens.now)) }
 {
     let (value, semicolon, below, rest) = optional(source, left, PunctKind::Semicolon, tokens)?;
     let height = ended(source, room, below, rest)?;
     Ok((Statement::Simple(value, semicolon), height, rest))
+}
+
+fn block(compound: Compound) -> Statement
+    ensures { view_statement result ≡ t.block (view_compound compound) }
+{
+    Statement::Compound(compound)
 }
 
 /// A statement that has begun (6.8).
@@ -428,16 +547,14 @@ fn statement(
     tokens: &[Token],
 ) -> Result<(Statement, u8, &[Token]), Stop>
     requires { room ≤ 64 }
-    ensures read { Gives (λ x. (view_statement x.0, leaves_of source.count x.2.now)) result (statement_by (within 64 left) room (leaves_of source.count tokens.now)) }
-    ensures height { IfOk result (λ x. x.1 ≡ height_statement (view_statement x.0)) }
-    ensures within { IfOk result (λ x. (0 < x.1) × (x.1 ≤ room)) }
+    ensures { Reads (λ x. (view_statement x.0, leaves_of source.count x.2.now)) (λ x. IsNodeHeight room (height_statement (view_statement x.0)) x.1) result (statement_by (within 64 left) room (leaves_of source.count tokens.now)) }
 {
     if let Some((word, keyword, rest)) = take_keyword(source, tokens) {
         return worded(source, left, room, word, keyword, rest);
     }
     if let Some(_) = take(source, tokens, PunctKind::LeftBrace) {
-        let (block, height, rest) = compound(source, left, room, tokens)?;
-        return Ok((Statement::Compound(block), height, rest));
+        let (compound, height, rest) = compound(source, left, room, tokens)?;
+        return Ok((block(compound), height, rest));
     }
     simple(source, left, room, tokens)
 }

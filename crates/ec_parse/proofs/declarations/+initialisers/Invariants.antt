@@ -1,9 +1,8 @@
-use Rattle.std.proofs.Common.{◌≡◌, ◌-◌, ◌+◌, ◌*◌, ◌≤◌, map}
+use Rattle.std.proofs.Common.{◌-◌, ◌+◌, ◌*◌, map}
 use Rattle.ec_grammar.specs.Nesting.{height_initialisers}
-use Rattle.ec_grammar.specs.Views.{views_initialisers}
-use Rattle.ec_reading.specs.Reading.{many, initialiser_at}
+use Rattle.ec_reading.specs.Reading.{many, initialiser_at, initialisers_of}
 use Rattle.ec_parse.specs.Parts.{view_next_initialiser}
-use Rattle.ec_parse.specs.Reads.{leaves_of, inner_at}
+use Rattle.ec_parse.specs.Reads.{leaves_of, inner_at, IsHeight}
 use Rattle.ec_parse.proofs.Many.{IsPart}
 use Rattle.ec_parse.proofs.declarations.+initialisers.Given as goal
 
@@ -21,4 +20,4 @@ decreases-more_initialisers l = 1000 * l.left + 3
 
 abbrev pub invariant-more_initialisers-loop : goal.invariant-more_initialisers-loop
 invariant-more_initialisers-loop l = IsPart (initialiser_at (inner_at l.left)) (map view_next_initialiser l.all.items) (l.end - l.counter) (leaves_of l.source.count l.rest) (many (initialiser_at (inner_at l.left)) (leaves_of l.source.count l.tokens))
-    × (l.height ≡ height_initialisers (views_initialisers l.all.items)) × (l.height ≤ 64)
+    × IsHeight 64 (height_initialisers (initialisers_of (map view_next_initialiser l.all.items))) l.height

@@ -1,4 +1,4 @@
-use Rattle.std.proofs.Common.{◌≡◌, ◌≤◌, map, ap, ◌∙◌, refl, arith}
+use Rattle.std.proofs.Common.{map, ap, ◌∙◌, refl, arith}
 use Rattle.std.proofs.lemmas.Result.{err_from_is_err_and}
 use Rattle.ec_grammar.specs.Nesting.{height_list, height_next_init_declarator}
 use Rattle.ec_grammar.specs.Trees.{next_init_declarator}

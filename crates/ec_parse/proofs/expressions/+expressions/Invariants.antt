@@ -1,10 +1,9 @@
-use Rattle.std.proofs.Common.{◌≡◌, ◌-◌, ◌+◌, ◌*◌, ◌≤◌, map}
+use Rattle.std.proofs.Common.{◌-◌, ◌+◌, ◌*◌, map}
 use Rattle.ec_grammar.specs.Nesting.{height_further}
-use Rattle.ec_grammar.specs.Views.{views_further}
-use Rattle.ec_reading.specs.Reading.{many, argument_at}
-use Rattle.ec_parse.specs.Reads.{leaves_of, inner_at}
+use Rattle.ec_reading.specs.Reading.{many, argument_at, further_of}
+use Rattle.ec_parse.specs.Reads.{leaves_of, inner_at, IsHeight}
 use Rattle.ec_parse.proofs.Many.{IsPart}
-use Rattle.ec_parse.proofs.Rows.{view_argument}
+use Rattle.ec_parse.specs.Parts.{view_argument}
 use Rattle.ec_parse.proofs.expressions.+expressions.Given as goal
 
 abbrev pub decreases-argument : goal.decreases-argument
@@ -66,4 +65,4 @@ decreases-unary l = 1000000 * l.left + (600)
 
 abbrev pub invariant-further-loop : goal.invariant-further-loop
 invariant-further-loop l = IsPart (argument_at (inner_at l.left)) (map view_argument l.all.items) (l.end - l.counter) (leaves_of l.source.count l.rest) (many (argument_at (inner_at l.left)) (leaves_of l.source.count l.tokens))
-    × (l.height ≡ height_further (views_further l.all.items)) × (l.height ≤ 64)
+    × IsHeight 64 (height_further (further_of (map view_argument l.all.items))) l.height

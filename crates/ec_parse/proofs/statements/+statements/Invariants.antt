@@ -1,8 +1,8 @@
-use Rattle.std.proofs.Common.{◌≡◌, ◌-◌, ◌+◌, ◌*◌, ◌≤◌, map}
+use Rattle.std.proofs.Common.{◌-◌, ◌+◌, ◌*◌, map}
 use Rattle.ec_grammar.specs.Nesting.{height_items}
-use Rattle.ec_grammar.specs.Views.{views_items, view_item}
-use Rattle.ec_reading.specs.Reading.{many, item_at, within}
-use Rattle.ec_parse.specs.Reads.{leaves_of}
+use Rattle.ec_grammar.specs.Views.{view_item}
+use Rattle.ec_reading.specs.Reading.{many, item_at, items_of, within}
+use Rattle.ec_parse.specs.Reads.{leaves_of, IsHeight}
 use Rattle.ec_parse.proofs.Many.{IsPart}
 use Rattle.ec_parse.proofs.statements.+statements.Given as goal
 
@@ -41,4 +41,4 @@ decreases-worded l = 1000 * l.left + 5
 
 abbrev pub invariant-items-loop : goal.invariant-items-loop
 invariant-items-loop l = IsPart (item_at (within 64 l.left)) (map view_item l.all.items) (l.end - l.counter) (leaves_of l.source.count l.rest) (many (item_at (within 64 l.left)) (leaves_of l.source.count l.tokens))
-    × (l.height ≡ height_items (views_items l.all.items)) × (l.height ≤ 64)
+    × IsHeight 64 (height_items (items_of (map view_item l.all.items))) l.height

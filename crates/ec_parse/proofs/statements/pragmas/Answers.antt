@@ -1,4 +1,3 @@
-use Rattle.std.proofs.Common.{◌≡◌}
 use Rattle.ec_reading.specs.Reading.{pragma_at}
 use Rattle.ec_parse.proofs.Many.{more, stops_at, is_done}
 use Rattle.ec_parse.proofs.statements.pragmas.Goals as goal

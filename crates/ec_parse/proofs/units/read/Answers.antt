@@ -1,4 +1,4 @@
-use Rattle.std.proofs.Common.{◌≡◌, sym, ◌∙◌}
+use Rattle.std.proofs.Common.{sym, ◌∙◌}
 use Rattle.ec_reading.specs.Reading.{read}
 use Rattle.ec_parse.proofs.Ends.{rest_left}
 use Rattle.ec_parse.proofs.units.read.Goals as goal
