@@ -11,7 +11,7 @@ use Rattle.ec_core.specs.ArithmeticTypes.{type_of, promoted, common_integer, sig
 use Rattle.ec_core.specs.ArithmeticValues.{IsKnownType}
 use Rattle.ec_core.specs.Integers.{IsInteger}
 use Rattle.ec_core.specs.Layout.{IsIntegerSize}
-use Rattle.ec_core.specs.Operators.{beside, promoted_type}
+use Rattle.ec_core.specs.Operators.{converted_beside, promoted_type}
 use Rattle.ec_core.specs.TypeLaws.{factor_beside, compared_beside, UsualConversions}
 use Rattle.ec_core.specs.Typing.{int, IsIntegerKind, IsOneByteType, HaveUsualTypes, HaveProductTypes, HaveIntegerTypes, HaveShiftTypes, HaveComparedTypes, AreConvertible, IsBranchType}
 
@@ -190,7 +190,7 @@ result (Integer a) (Fixed b) i j = tt
 result (Fixed a) (Integer b) i j = tt
 result (Fixed a) (Fixed b) i j = tt
 
-operand : (x y : Arithmetic) → IsKnownType x → IsKnownType y → IsKnownType (beside x y)
+operand : (x y : Arithmetic) → IsKnownType x → IsKnownType y → IsKnownType (converted_beside x y)
 operand (Integer a) (Integer b) i j = (alike a b i j).size
 operand (Integer a) (Fixed b) i j = i
 operand (Fixed a) (Integer b) i j = tt
@@ -202,13 +202,13 @@ convertible (Integer a) (Fixed b) = tt
 convertible (Fixed a) (Integer b) = tt
 convertible (Fixed a) (Fixed b) = tt
 
-usual : (x y : Arithmetic) → IsKnownType x → IsKnownType y → HaveUsualTypes (common x y) (beside x y) (beside y x)
+usual : (x y : Arithmetic) → IsKnownType x → IsKnownType y → HaveUsualTypes (common x y) (converted_beside x y) (converted_beside y x)
 usual (Integer a) (Integer b) i j = let k = alike a b i j in record { integers = (k.same, k.kept); signedness = tt; value = ap Integer k.again }
 usual (Integer a) (Fixed b) i j = record { integers = tt; signedness = tt; value = refl }
 usual (Fixed a) (Integer b) i j = record { integers = tt; signedness = tt; value = refl }
 usual (Fixed a) (Fixed b) i j = let k = kinds_alike a.kind b.kind in record { integers = tt; signedness = k.signs; value = ap (λ (z : FxKind). Fixed (record { kind = z; sat = a.sat || b.sat })) k.again }
 
-integers : (x y : Arithmetic) → IsKnownType x → IsKnownType y → IsIntegerKind x → IsIntegerKind y → HaveIntegerTypes (common x y) (beside x y) (beside y x)
+integers : (x y : Arithmetic) → IsKnownType x → IsKnownType y → IsIntegerKind x → IsIntegerKind y → HaveIntegerTypes (common x y) (converted_beside x y) (converted_beside y x)
 integers (Integer a) (Integer b) i j e f = record { left = tt; right = tt; usual = usual (Integer a) (Integer b) i j }
 integers (Integer a) (Fixed b) i j e f = absurd f
 integers (Fixed a) y i j e f = absurd e

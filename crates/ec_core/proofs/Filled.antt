@@ -9,7 +9,7 @@ use Rattle.ec_fx.specs.Formats.{format_of}
 use Rattle.ec_space.specs.declared.space.SpaceId.{SpaceId}
 use Rattle.ec_space.specs.declared.space.SpaceId.TheVariants.{Flash, Data, Generic}
 use Rattle.ec_space.specs.Spaces.{width}
-use Rattle.ec_core.specs.Layout.{PlainLeaf, Layout, nothing, beside, repeated, scalar_size, scalar_layout, type_layout, members_layout, layouts_from, struct_layouts, size_of_type, leaves_of_type, IsIntegerSize, IsElement, IsObjectForm, IsObjectType, NameEarlier, AreStructs}
+use Rattle.ec_core.specs.Layout.{PlainLeaf, Layout, empty_layout, followed_by, repeated, scalar_size, scalar_layout, type_layout, members_layout, layouts_from, struct_layouts, size_of_type, leaves_of_type, IsIntegerSize, IsElement, IsObjectForm, IsObjectType, NameEarlier, AreStructs}
 use Rattle.ec_core.specs.Plain.{PlainType, void, integer, fixed, pointer, array, struct, PlainMember, PlainStruct}
 use Rattle.ec_core.specs.TypeLaws.{IsSmallScalar, FillFrom, IsLeafAt, HasLeaves, LeavesFillTheirTypes}
 use Rattle.ec_core.specs.Valid.{IsObject}
@@ -25,13 +25,13 @@ filled_both at mid end (x ∷ xs) ys h k = (h.0, h.1, filled_both (at + scalar_s
 abbrev IsFilled : Layout → Type 0
 IsFilled a = (at : ℕ) → FillFrom at (at + a.size) (a.leaves_at at)
 
-filled_nothing : IsFilled nothing
+filled_nothing : IsFilled empty_layout
 filled_nothing at = omega arith
 
 filled_scalar : (ty : PlainType) → IsSmallScalar ty → IsFilled (scalar_layout ty)
 filled_scalar ty h at = (refl, h, refl)
 
-filled_beside : (a b : Layout) → IsFilled a → IsFilled b → IsFilled (beside a b)
+filled_beside : (a b : Layout) → IsFilled a → IsFilled b → IsFilled (followed_by a b)
 filled_beside a b f g at =
     let e : at + a.size + b.size ≡ at + (a.size + b.size) = omega arith in
     let P : ℕ → Type 0 = λ n. FillFrom at n (a.leaves_at at ++ b.leaves_at (at + a.size)) in
@@ -166,7 +166,7 @@ apart_there at end (x ∷ xs) (suc k) (suc j) leaf after h l e f = let b : k < j
 
 has_leaves : (structs : List PlainStruct) (ty : PlainType) → AreStructs structs → IsObjectForm ty → HasLeaves structs ty
 has_leaves structs ty h form =
-    let whole : FillFrom 0 (0 + size_of_type structs ty) (leaves_of_type structs ty) = type_filled (struct_layouts structs) (layouts_filled (λ i. nothing) (λ i. filled_nothing) 0 structs h.earlier) ty form 0 in
+    let whole : FillFrom 0 (0 + size_of_type structs ty) (leaves_of_type structs ty) = type_filled (struct_layouts structs) (layouts_filled (λ i. empty_layout) (λ i. filled_nothing) 0 structs h.earlier) ty form 0 in
     let P : ℕ → Type 0 = λ n. FillFrom 0 n (leaves_of_type structs ty) in
     let all : FillFrom 0 (size_of_type structs ty) (leaves_of_type structs ty) = subst P (omega arith) whole in
     record { filled = all; each = λ k leaf e. leaf_there structs ty k leaf all e }

@@ -17,7 +17,7 @@ use Rattle.ec_core.specs.Plain.{plain_struct, plain_member, plain_type}
 use Rattle.std.specs.Prelude.{slice_get}
 use Rattle.std.specs.List.{AllByRecursion}
 use Rattle.ec_core.specs.Plain.{PlainType, void, integer, fixed, pointer, array, struct, PlainMember, PlainStruct}
-use Rattle.ec_core.specs.Layout.{PlainLeaf, Layout, nothing, beside, repeated, type_layout, members_layout, layouts_from, struct_layouts, NamesBelow, IsElement, IsObjectType, NameEarlier, AreStructs, size_of_type}
+use Rattle.ec_core.specs.Layout.{PlainLeaf, Layout, empty_layout, followed_by, repeated, type_layout, members_layout, layouts_from, struct_layouts, NamesBelow, IsElement, IsObjectType, NameEarlier, AreStructs, size_of_type}
 
 -- ---- sizes
 
@@ -51,7 +51,7 @@ type_agrees n f g same (struct index) h = same index h
 
 pub members_agree : (n : ℕ) (f g : ℕ → Layout) → ((i : ℕ) → i < n → f i ≡ g i) → (ms : List PlainMember) → AllByRecursion (λ m. IsObjectType n m.ty) ms → members_layout f ms ≡ members_layout g ms
 members_agree n f g same [] h = refl
-members_agree n f g same (m ∷ ms) h = let first = type_agrees n f g same m.ty h.0.names in let rest = members_agree n f g same ms h.1 in λ i. beside (first i) (rest i)
+members_agree n f g same (m ∷ ms) h = let first = type_agrees n f g same m.ty h.0.names in let rest = members_agree n f g same ms h.1 in λ i. followed_by (first i) (rest i)
 
 pub struct_at : (earlier : ℕ → Layout) (n : ℕ) (ss : List PlainStruct) (k : ℕ) (s : PlainStruct) → NameEarlier n ss → slice_get ss k ≡ Some s → layouts_from earlier n ss (n + k) ≡ members_layout (layouts_from earlier n ss) s.members
 struct_at earlier n [] k s h e = cc
@@ -125,7 +125,7 @@ pub struct_read : (structs : List StructDef) (i : ℕ) (d : StructDef) → AreSt
 struct_read structs i d h below read =
     let all : List PlainStruct = map plain_struct structs in
     let found : slice_get all i ≡ Some (plain_struct d) = slice_get-map plain_struct structs i ∙ ap (option_map plain_struct) (slice_get_read structs (length structs) i d refl below read) in
-    let layout : struct_layouts all i ≡ members_layout (struct_layouts all) (plain_struct d).members = ap (struct_layouts all) (sym (zero-add i)) ∙ struct_at (λ j. nothing) 0 all i (plain_struct d) h.earlier found in
+    let layout : struct_layouts all i ≡ members_layout (struct_layouts all) (plain_struct d).members = ap (struct_layouts all) (sym (zero-add i)) ∙ struct_at (λ j. empty_layout) 0 all i (plain_struct d) h.earlier found in
     let P : ℕ → Type 0 = λ j. AllByRecursion (λ m. IsObjectType j m.ty) (plain_struct d).members in
     let size : (struct_layouts all i).size ≡ (members_layout (struct_layouts all) (plain_struct d).members).size = ap (λ (x : Layout). x.size) layout in
     let small : (struct_layouts all i).size ≤ 32_767 = h.small i in
@@ -145,7 +145,7 @@ member_read P members k m below read h =
     subst Q (member_drop members k m below read) h
 
 -- the members from place k on are that member and the rest behind it
-pub member_layout : (all : ℕ → Layout) (members : List Member) (k : ℕ) (m : Member) → k < length members → m ≡ get_or members k m → members_layout all (map plain_member (drop k members)) ≡ beside (type_layout all (plain_type m.ty)) (members_layout all (map plain_member (drop (k + 1) members)))
+pub member_layout : (all : ℕ → Layout) (members : List Member) (k : ℕ) (m : Member) → k < length members → m ≡ get_or members k m → members_layout all (map plain_member (drop k members)) ≡ followed_by (type_layout all (plain_type m.ty)) (members_layout all (map plain_member (drop (k + 1) members)))
 member_layout all members k m below read = ap (λ (ms : List Member). members_layout all (map plain_member ms)) (member_drop members k m below read)
 
 -- ---- leaves that were appended
@@ -155,7 +155,7 @@ repeated_step n at offset a before done after o d e =
     let place : offset ≡ at + (repeated n a).size = o ∙ ap (λ (k : ℕ). at + k) (sym (size-repeated n a)) in
     rw (add-one n) (e ∙ ap (λ (xs : List PlainLeaf). xs ++ a.leaves_at offset) d ∙ append_assoc before ((repeated n a).leaves_at at) (a.leaves_at offset) ∙ ap (λ (k : ℕ). before ++ ((repeated n a).leaves_at at ++ a.leaves_at k)) place)
 
-pub beside_step : (offset next : ℕ) (a b : Layout) (done after whole : List PlainLeaf) → next ≡ offset + a.size → done ++ (beside a b).leaves_at offset ≡ whole → after ≡ done ++ a.leaves_at offset → after ++ b.leaves_at next ≡ whole
+pub beside_step : (offset next : ℕ) (a b : Layout) (done after whole : List PlainLeaf) → next ≡ offset + a.size → done ++ (followed_by a b).leaves_at offset ≡ whole → after ≡ done ++ a.leaves_at offset → after ++ b.leaves_at next ≡ whole
 beside_step offset next a b done after whole n d e =
     ap (λ (xs : List PlainLeaf). xs ++ b.leaves_at next) e ∙ append_assoc done (a.leaves_at offset) (b.leaves_at next) ∙ ap (λ (k : ℕ). done ++ (a.leaves_at offset ++ b.leaves_at k)) n ∙ d
 

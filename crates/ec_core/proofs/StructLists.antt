@@ -2,7 +2,7 @@
 use Rattle.std.proofs.Common.{◌≡◌, ℕ, zero, suc, ◌+◌, ◌<◌, ◌≤◌, Bool, true, false, List, [], ◌∷◌, ◌++◌, length, Some, sym, ap, ◌∙◌, subst, arith, ◌==◌, if◌then◌else◌, zero-add}
 use Rattle.std.specs.Prelude.{slice_get}
 use Rattle.std.specs.List.{AllByRecursion}
-use Rattle.ec_core.specs.Layout.{Layout, nothing, members_layout, layouts_from, struct_layouts, IsObjectType, NameEarlier, AreStructs}
+use Rattle.ec_core.specs.Layout.{Layout, empty_layout, members_layout, layouts_from, struct_layouts, IsObjectType, NameEarlier, AreStructs}
 use Rattle.ec_core.specs.Plain.{PlainMember, PlainStruct}
 use Rattle.ec_core.specs.TypeLaws.{IsLaidOut, IsAppended, StructsAreLaidOut}
 use Rattle.ec_core.proofs.Layouts.{other, same, struct_at, named_earlier, object_more, type_agrees}
@@ -20,7 +20,7 @@ members_more m n (x ∷ ms) le h = (object_more m n x.ty le h.0, members_more m 
 
 laid_out : (structs : List PlainStruct) (i : ℕ) (s : PlainStruct) → AreStructs structs → slice_get structs i ≡ Some s → IsLaidOut structs i s
 laid_out structs i s h e =
-    let layout : struct_layouts structs i ≡ members_layout (struct_layouts structs) s.members = ap (struct_layouts structs) (sym (zero-add i)) ∙ struct_at (λ j. nothing) 0 structs i s h.earlier e in
+    let layout : struct_layouts structs i ≡ members_layout (struct_layouts structs) s.members = ap (struct_layouts structs) (sym (zero-add i)) ∙ struct_at (λ j. empty_layout) 0 structs i s h.earlier e in
     let P : ℕ → Type 0 = λ j. AllByRecursion (λ m. IsObjectType j m.ty) s.members in
     let earlier : P i = subst P (zero-add i) (named_earlier 0 structs i s h.earlier e) in
     let below : i < length structs = within structs i s e in
@@ -80,7 +80,7 @@ one_more structs s h k small = record {
     P j = AllByRecursion (λ m. IsObjectType j m.ty) s.members
 
     at : (i : ℕ) → struct_layouts (structs ++ s ∷ []) i ≡ (if i == n then new else old i)
-    at i = appended (λ j. nothing) 0 structs s i ∙ ap (λ (m : ℕ). with_one old m new i) (zero-add n)
+    at i = appended (λ j. empty_layout) 0 structs s i ∙ ap (λ (m : ℕ). with_one old m new i) (zero-add n)
 
     kept : (i : ℕ) → i < n → struct_layouts (structs ++ s ∷ []) i ≡ old i
     kept i below = at i ∙ other i n new (old i) below

@@ -18,7 +18,7 @@ use Rattle.ec_core.specs.declared.expressions.UnOp.TheVariants.{Minus, Invert}
 use Rattle.ec_core.specs.ArithmeticTypes.{type_of, common_integer, signed_kind, higher_kind, common_fixed, common}
 use Rattle.ec_core.specs.ArithmeticValues.{HoldsNumber, operand, SuitsFixed, SuitsTyped, IsIntegerResult, Suits, SuitsUnary, IsKnownType}
 use Rattle.ec_core.specs.Integers.{IsInteger}
-use Rattle.ec_core.specs.Operators.{beside, promoted_type, operation_types}
+use Rattle.ec_core.specs.Operators.{converted_beside, promoted_type, operation_types}
 use Rattle.ec_core.specs.Suited.{AreOperationTypes, OperandsSuit}
 use Rattle.ec_core.specs.Typing.{int, IsIntegerKind, IsOneByteType, HaveOneSignedness, IsShiftCount, HaveArithmeticTypes, HaveCompoundArithmetic, HaveUnaryTypes}
 use Rattle.ec_core.proofs.HeldNumbers.{common_known, int_only}
@@ -223,7 +223,7 @@ unary_suits Invert (Fixed t) h = absurd h.0
 -- ---- compound assignments
 
 -- operands of the types beside each other
-beside_format : (x y : Arithmetic) (z : FixedType) (m n : ℤ) → Fixed z ≡ common x y → IsResultFormat (operand (beside x y) m) (operand (beside y x) n) (format_of z.kind)
+beside_format : (x y : Arithmetic) (z : FixedType) (m n : ℤ) → Fixed z ≡ common x y → IsResultFormat (operand (converted_beside x y) m) (operand (converted_beside y x) n) (format_of z.kind)
 beside_format (Integer a) (Integer b) z m n e = cc
 beside_format (Integer a) (Fixed b) z m n e = let f : z ≡ b = cc in ap (λ (t : FixedType). format_of t.kind) f
 beside_format (Fixed a) (Integer b) z m n e = let f : z ≡ a = cc in ap (λ (t : FixedType). format_of t.kind) f
@@ -232,17 +232,17 @@ beside_format (Fixed a) (Fixed b) z m n e =
     let k = kinds_beside a b in
     (k.signed, ap (λ (t : FixedType). format_of t.kind) f ∙ k.format)
 
-beside_whole : (x y : Arithmetic) (t : IntegerType) (op : BinOp) (m n : ℤ) → Integer t ≡ common x y → IsInteger t → SuitsTyped op (Integer t) (operand (beside x y) m) (operand (beside y x) n)
+beside_whole : (x y : Arithmetic) (t : IntegerType) (op : BinOp) (m n : ℤ) → Integer t ≡ common x y → IsInteger t → SuitsTyped op (Integer t) (operand (converted_beside x y) m) (operand (converted_beside y x) n)
 beside_whole (Integer a) (Integer b) t op m n e k = (k, tt, tt)
 beside_whole (Integer a) (Fixed b) t op m n e k = cc
 beside_whole (Fixed a) (Integer b) t op m n e k = cc
 beside_whole (Fixed a) (Fixed b) t op m n e k = cc
 
-beside_result : (op : BinOp) (t x y : Arithmetic) (m n : ℤ) → t ≡ common x y → IsKnownType t → ((z : FixedType) → Fixed z ≡ common x y → SuitsFixed op (operand (beside x y) m) (operand (beside y x) n) (format_of z.kind)) → SuitsTyped op t (operand (beside x y) m) (operand (beside y x) n)
+beside_result : (op : BinOp) (t x y : Arithmetic) (m n : ℤ) → t ≡ common x y → IsKnownType t → ((z : FixedType) → Fixed z ≡ common x y → SuitsFixed op (operand (converted_beside x y) m) (operand (converted_beside y x) n) (format_of z.kind)) → SuitsTyped op t (operand (converted_beside x y) m) (operand (converted_beside y x) n)
 beside_result op (Integer t) x y m n e k h = beside_whole x y t op m n e k
 beside_result op (Fixed z) x y m n e k h = h z e
 
-beside_known : (x y : Arithmetic) → IsKnownType x → IsKnownType y → IsKnownType (beside x y)
+beside_known : (x y : Arithmetic) → IsKnownType x → IsKnownType y → IsKnownType (converted_beside x y)
 beside_known (Integer a) (Integer b) i j = common_known (Integer a) (Integer b) i j
 beside_known (Integer a) (Fixed b) i j = i
 beside_known (Fixed a) (Integer b) i j = tt
@@ -253,7 +253,7 @@ chosen_bits true k = signed_bits k
 chosen_bits false k = refl
 
 -- an operand of one byte has one byte beside a fixed-point one
-beside_byte : (x y : Arithmetic) (z : FixedType) (m : ℤ) → Fixed z ≡ common x y → IsOneByteType x → HoldsNumber (beside x y) m → IsOneByte (operand (beside x y) m)
+beside_byte : (x y : Arithmetic) (z : FixedType) (m : ℤ) → Fixed z ≡ common x y → IsOneByteType x → HoldsNumber (converted_beside x y) m → IsOneByte (operand (converted_beside x y) m)
 beside_byte (Integer a) (Integer b) z m e h k = cc
 beside_byte (Integer a) (Fixed b) z m e h k = one_byte (Integer a) m h k
 beside_byte (Fixed a) (Integer b) z m e h k = h
@@ -265,15 +265,15 @@ fixed_either (Integer a) (Fixed b) z e = (b, refl)
 fixed_either (Fixed a) (Integer b) z e = (a, refl)
 fixed_either (Fixed a) (Fixed b) z e = (common_fixed b a, refl)
 
-beside_types : (op : BinOp) (x y : Arithmetic) → IsKnownType x → IsKnownType y → ((m n : ℤ) → HoldsNumber (beside x y) m → HoldsNumber (beside y x) n → Suits op (common x y) (operand (beside x y) m) (operand (beside y x) n)) → AreOperationTypes op (record { left = beside x y; right = beside y x; result = common x y })
+beside_types : (op : BinOp) (x y : Arithmetic) → IsKnownType x → IsKnownType y → ((m n : ℤ) → HoldsNumber (converted_beside x y) m → HoldsNumber (converted_beside y x) n → Suits op (common x y) (operand (converted_beside x y) m) (operand (converted_beside y x) n)) → AreOperationTypes op (record { left = converted_beside x y; right = converted_beside y x; result = common x y })
 beside_types op x y i j h = record { left = beside_known x y i j; right = beside_known y x j i; result = common_known x y i j; suited = h }
 
-usual_types : (op : BinOp) (x y : Arithmetic) → IsKnownType x → IsKnownType y → ((t : Arithmetic) (m n : ℤ) → SuitsTyped op t (operand (beside x y) m) (operand (beside y x) n) → Suits op t (operand (beside x y) m) (operand (beside y x) n)) → ((z : FixedType) (m n : ℤ) → IsResultFormat (operand (beside x y) m) (operand (beside y x) n) (format_of z.kind) → SuitsFixed op (operand (beside x y) m) (operand (beside y x) n) (format_of z.kind)) → AreOperationTypes op (record { left = beside x y; right = beside y x; result = common x y })
+usual_types : (op : BinOp) (x y : Arithmetic) → IsKnownType x → IsKnownType y → ((t : Arithmetic) (m n : ℤ) → SuitsTyped op t (operand (converted_beside x y) m) (operand (converted_beside y x) n) → Suits op t (operand (converted_beside x y) m) (operand (converted_beside y x) n)) → ((z : FixedType) (m n : ℤ) → IsResultFormat (operand (converted_beside x y) m) (operand (converted_beside y x) n) (format_of z.kind) → SuitsFixed op (operand (converted_beside x y) m) (operand (converted_beside y x) n) (format_of z.kind)) → AreOperationTypes op (record { left = converted_beside x y; right = converted_beside y x; result = common x y })
 usual_types op x y i j go fixed = beside_types op x y i j (λ m n p q. go _ m n (beside_result op (common x y) x y m n refl (common_known x y i j) (λ z e. fixed z m n (beside_format x y z m n e))))
 
-whole_types : (op : BinOp) (x y : Arithmetic) → IsIntegerKind x → IsIntegerKind y → IsKnownType x → IsKnownType y → ((t : Arithmetic) (m n : ℤ) → SuitsTyped op t (operand (beside x y) m) (operand (beside y x) n) → Suits op t (operand (beside x y) m) (operand (beside y x) n)) → AreOperationTypes op (record { left = beside x y; right = beside y x; result = common x y })
+whole_types : (op : BinOp) (x y : Arithmetic) → IsIntegerKind x → IsIntegerKind y → IsKnownType x → IsKnownType y → ((t : Arithmetic) (m n : ℤ) → SuitsTyped op t (operand (converted_beside x y) m) (operand (converted_beside y x) n) → Suits op t (operand (converted_beside x y) m) (operand (converted_beside y x) n)) → AreOperationTypes op (record { left = converted_beside x y; right = converted_beside y x; result = common x y })
 whole_types op (Integer a) (Integer b) p q i j go =
-    beside_types op (Integer a) (Integer b) i j (λ m n r s. (let t : SuitsTyped op (Integer (common_integer a b)) (operand (beside (Integer a) (Integer b)) m) (operand (beside (Integer b) (Integer a)) n) = (common_known (Integer a) (Integer b) i j, tt, tt) in go (Integer (common_integer a b)) m n t))
+    beside_types op (Integer a) (Integer b) i j (λ m n r s. (let t : SuitsTyped op (Integer (common_integer a b)) (operand (converted_beside (Integer a) (Integer b)) m) (operand (converted_beside (Integer b) (Integer a)) n) = (common_known (Integer a) (Integer b) i j, tt, tt) in go (Integer (common_integer a b)) m n t))
 whole_types op (Integer a) (Fixed b) p q i j go = absurd q
 whole_types op (Fixed a) y p q i j go = absurd p
 

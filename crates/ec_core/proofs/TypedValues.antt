@@ -25,7 +25,7 @@ use Rattle.ec_core.specs.Integers.{truth, accepts, compared}
 use Rattle.ec_core.specs.Layout.{IsScalar, size_of_type}
 use Rattle.ec_core.specs.Operators.{number_type, Operand, as_number, as_pointer, unary_result, pointers_result, offset_result, binary_result, conversion_result, compound_value, compound_result}
 use Rattle.ec_core.specs.Plain.{PlainType, void, integer, fixed, pointer, array, struct, PlainObject, PlainProgram}
-use Rattle.ec_core.specs.Pointers.{Pointer as PointerValue, is_usable, used, displaced, moved, same_instance, in_elements, elements_between, difference_of_pointers, ordered, equality, truth_of, compared_pointers, comparison_of_pointers, pointer_in_space}
+use Rattle.ec_core.specs.Pointers.{Pointer as PointerValue, is_usable, used, displaced, moved, same_instance, in_elements, elements_between, difference_of_pointers, ordered, equality, as_truth, compared_pointers, comparison_of_pointers, pointer_in_space}
 use Rattle.ec_core.specs.State.{ObjectState, State}
 use Rattle.ec_core.specs.Typing.{int, IsIntegerType, HaveArithmeticTypes, HavePointerTypes, HaveOffsetTypes, IsAdd, HaveBinaryTypes, HaveUnaryTypes, AreConvertible}
 use Rattle.ec_core.specs.ValueTypes.{IsPointerInto, HasType}
@@ -192,7 +192,7 @@ module _ (program : PlainProgram) where
   ordered_value op (Some p) None = tt
   ordered_value op (Some p) (Some q) = if_value IsInt (same_instance p q) _ _ (compared_value op (nat_cmp p.offset q.offset)) tt
 
-  truth_of_value : (f : Bool → Bool) (r : Result Bool Undefined) → HasPoint r → OnValue IsInt (truth_of f r)
+  truth_of_value : (f : Bool → Bool) (r : Result Bool Undefined) → HasPoint r → OnValue IsInt (as_truth f r)
   truth_of_value f (Ok b) h = truth_number (f b)
   truth_of_value f (Err point) h = h
 

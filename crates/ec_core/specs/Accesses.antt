@@ -1,5 +1,7 @@
--- Objects, pointers to them, and accesses of their leaves (ISO/IEC 9899:1999, 6.2.4, 6.3.2.1 and 6.5; ISO/IEC TR 18037:2008, 5.1).
-use Rattle.std.specs.Prelude.{ℕ, ◌+◌, ◌==◌, Bool, true, false, ◌&&◌, ◌||◌, if◌then◌else◌, List, [], ◌∷◌, length, take, replicate, Option, Some, None, option_map, option_and_then, unwrap_or, slice_get}
+-- Objects, pointers to them, and accesses of their leaves (ISO/IEC 9899:1999, 6.2.4, 6.3.2.1 and 6.5; ISO/IEC TR
+-- 18037:2008, 5.1).
+use Rattle.std.specs.Prelude.{ℕ, ◌+◌, ◌==◌, Bool, true, false, ◌&&◌, ◌||◌, if◌then◌else◌, List, [], ◌∷◌, length, take}
+use Rattle.std.specs.Prelude.{replicate, Option, Some, None, option_map, option_and_then, unwrap_or, slice_get}
 use Rattle.std.specs.List.{position_from}
 use Rattle.ec_space.specs.declared.space.Bank.TheVariants.{Data as DataBank}
 use Rattle.ec_space.specs.declared.space.SpaceId.{SpaceId}
@@ -12,9 +14,11 @@ use Rattle.ec_core.specs.declared.values.Value.{Value}
 use Rattle.ec_core.specs.declared.values.Value.TheVariants.{Number, Pointer}
 use Rattle.ec_core.specs.Layout.{members_layout, struct_layouts, size_of_type, leaves_of_type}
 use Rattle.ec_core.specs.Operators.{Operand, same_type}
-use Rattle.ec_core.specs.Plain.{PlainType, struct, PlainStorage, static, local, param, register, PlainObject, PlainProgram}
+use Rattle.ec_core.specs.Plain.{PlainType, struct, PlainStorage, static, local, param, register, PlainObject}
+use Rattle.ec_core.specs.Plain.{PlainProgram}
 use Rattle.ec_core.specs.Pointers.{Pointer as PointerValue, is_usable}
-use Rattle.ec_core.specs.State.{Event, Read, Write, told, ObjectState, State, with_event, changed_at, with_object, Outcome, got, undefined}
+use Rattle.ec_core.specs.State.{Event, Read, Write, told, ObjectState, State, with_event, changed_at, with_object}
+use Rattle.ec_core.specs.State.{Outcome, got, undefined}
 use Rattle.ec_core.specs.Typing.{pointee}
 
 -- ---- pointers and what they point into
@@ -35,7 +39,9 @@ nothing_known = record { live = false; size = 0; home = DataBank }
 abbrev pub referent_of : PlainProgram → PointerValue → State → Referent
 referent_of program None s = nothing_known
 referent_of program (Some p) s =
-    unwrap_or (option_and_then (λ o. option_map (λ x. record { live = is_live_in p x; size = size_of_type program.structs o.ty; home = o.home }) (slice_get s.objects p.object)) (slice_get program.objects p.object)) nothing_known
+    unwrap_or (option_and_then (λ o.
+    option_map (λ x. record { live = is_live_in p x; size = size_of_type program.structs o.ty; home = o.home })
+    (slice_get s.objects p.object)) (slice_get program.objects p.object)) nothing_known
 
 abbrev pub referent : PlainProgram → Value → State → Referent
 referent program (Number n) s = nothing_known
@@ -50,7 +56,9 @@ operand_of program ty v s = record { ty = ty; value = v; element = element_size 
 
 -- where the member with a number begins in a type, which is that of a struct (6.5.2.3, 6.7.2.1)
 abbrev pub member_offset : PlainProgram → PlainType → ℕ → ℕ
-member_offset program (struct index) i = unwrap_or (option_map (λ s. (members_layout (struct_layouts program.structs) (take i s.members)).size) (slice_get program.structs index)) 0
+member_offset program (struct index) i =
+    unwrap_or (option_map (λ s. (members_layout (struct_layouts program.structs) (take i s.members)).size)
+    (slice_get program.structs index)) 0
 member_offset program ty i = 0
 
 -- ---- the life of objects
@@ -66,7 +74,8 @@ abbrev pub leaf_count : PlainProgram → PlainType → ℕ
 leaf_count program ty = length (leaves_of_type program.structs ty)
 
 abbrev pub begun : PlainProgram → ℕ → State → State
-begun program o s = with_object o (renewed (unwrap_or (option_map (λ x. leaf_count program x.ty) (slice_get program.objects o)) 0)) s
+begun program o s =
+    with_object o (renewed (unwrap_or (option_map (λ x. leaf_count program x.ty) (slice_get program.objects o)) 0)) s
 
 -- the objects are no longer live
 abbrev pub all_ended : List ℕ → State → State
@@ -87,7 +96,13 @@ frame_ended_in f (o ∷ os) (x ∷ xs) = (if belongs_to f o.storage then ended x
 
 -- the body of a function ends
 abbrev pub frame_ended : PlainProgram → ℕ → State → State
-frame_ended program f s = record { objects = frame_ended_in f program.objects s.objects; acquired = s.acquired; events = s.events; work = s.work }
+frame_ended program f s =
+    record {
+      objects = frame_ended_in f program.objects s.objects;
+      acquired = s.acquired;
+      events = s.events;
+      work = s.work;
+    }
 
 -- ---- accesses
 
@@ -101,19 +116,23 @@ pub record Access : Type 0 where
 
 -- the number of the leaf of this type that begins at an offset in an object
 abbrev pub leaf_at : PlainProgram → PlainObject → PlainType → ℕ → Option ℕ
-leaf_at program o ty offset = position_from (λ leaf. leaf.at == offset && same_type leaf.ty ty) 0 (leaves_of_type program.structs o.ty)
+leaf_at program o ty offset =
+    position_from (λ leaf. leaf.at == offset && same_type leaf.ty ty) 0 (leaves_of_type program.structs o.ty)
 
--- an access of a scalar type through a pointer into a space: the pointer's object is live, its home is in the space, and a
--- leaf of that type begins there
+-- an access of a scalar type through a pointer into a space: the pointer's object is live, its home is in the space,
+-- and a leaf of that type begins there
 abbrev pub access_of : PlainProgram → PlainType → SpaceId → ObjectPointer → PlainObject → ObjectState → Option Access
 access_of program ty space p o x =
     if is_live_in p x && holds space o.home
-    then option_map (λ k. record { object = p.object; leaf = k; space = space; declared = o; state = x }) (leaf_at program o ty p.offset)
+    then option_map (λ k. record { object = p.object; leaf = k; space = space; declared = o; state = x })
+    (leaf_at program o ty p.offset)
     else None
 
 abbrev pub access : PlainProgram → PlainType → Option SpaceId → PointerValue → State → Option Access
 access program ty space to s =
-    option_and_then (λ sp. option_and_then (λ p. option_and_then (λ o. option_and_then (λ x. access_of program ty sp p o x) (slice_get s.objects p.object)) (slice_get program.objects p.object)) to) space
+    option_and_then (λ sp. option_and_then
+    (λ p. option_and_then (λ o. option_and_then (λ x. access_of program ty sp p o x) (slice_get s.objects p.object))
+    (slice_get program.objects p.object)) to) space
 
 -- accesses of named registers are no events (TR 18037, 5.2: such an object has no address)
 abbrev pub recorded : PlainStorage → Event → State → State
@@ -134,7 +153,8 @@ is_readable program (Pointer p) s = is_usable p (referent_of program p s)
 abbrev pub read_value : PlainProgram → Access → Option Value → State → Outcome Value
 read_value program a None s = undefined Unset s
 read_value program a (Some v) s =
-    if is_readable program v s then got v (recorded a.declared.storage (Read a.object a.leaf a.space (told v)) s) else undefined Unset s
+    if is_readable program v s then got v (recorded a.declared.storage (Read a.object a.leaf a.space (told v)) s)
+    else undefined Unset s
 
 -- one read of a leaf (6.3.2.1)
 abbrev pub read : PlainProgram → Option Access → State → Outcome Value
@@ -146,7 +166,8 @@ with_leaf k v x = record { serial = x.serial; live = x.live; leaves = changed_at
 
 -- a leaf gets a value
 abbrev pub stored : Access → Value → State → State
-stored a v s = recorded a.declared.storage (Write a.object a.leaf a.space (told v)) (with_object a.object (with_leaf a.leaf v) s)
+stored a v s =
+    recorded a.declared.storage (Write a.object a.leaf a.space (told v)) (with_object a.object (with_leaf a.leaf v) s)
 
 -- const objects and those kept in flash are not written (6.7.3)
 abbrev pub is_fixed : PlainObject → Bool
@@ -160,7 +181,10 @@ write (Some a) v s = if is_fixed a.declared then undefined ConstWrite s else got
 -- a leaf, by its number, of the newest instance of an object, in the space of its declaration
 abbrev pub own_access : PlainProgram → ℕ → ℕ → State → Option Access
 own_access program o k s =
-    option_and_then (λ d. option_and_then (λ x. if x.live && holds d.space d.home then Some (record { object = o; leaf = k; space = d.space; declared = d; state = x }) else None) (slice_get s.objects o)) (slice_get program.objects o)
+    option_and_then (λ d. option_and_then
+    (λ x. if x.live && holds d.space d.home
+    then Some (record { object = o; leaf = k; space = d.space; declared = d; state = x }) else None)
+    (slice_get s.objects o)) (slice_get program.objects o)
 
 abbrev pub first_write : Option Access → Value → State → Outcome Value
 first_write None v s = undefined NoAccess s

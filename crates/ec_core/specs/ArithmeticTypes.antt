@@ -2,7 +2,9 @@
 -- The widths are this project's profile: int has 2 bytes and long has 4.
 use Rattle.std.specs.Prelude.{nat_lt, true, ◌&&◌, ◌||◌, if◌then◌else◌, Option, Some, None, option_map, option_and_then}
 use Rattle.ec_fx.specs.declared.formats.FxKind.{FxKind}
-use Rattle.ec_fx.specs.declared.formats.FxKind.TheVariants.{ShortFract, Fract, LongFract, ShortAccum, Accum, LongAccum, UnsignedShortFract, UnsignedFract, UnsignedLongFract, UnsignedShortAccum, UnsignedAccum, UnsignedLongAccum}
+use Rattle.ec_fx.specs.declared.formats.FxKind.TheVariants.{ShortFract, Fract, LongFract, ShortAccum, Accum, LongAccum}
+use Rattle.ec_fx.specs.declared.formats.FxKind.TheVariants.{UnsignedShortFract, UnsignedFract, UnsignedLongFract}
+use Rattle.ec_fx.specs.declared.formats.FxKind.TheVariants.{UnsignedShortAccum, UnsignedAccum, UnsignedLongAccum}
 use Rattle.ec_fx.specs.Formats.{format_of, rank_of}
 use Rattle.ec_core.specs.declared.arithmetic_types.IntegerType.{IntegerType}
 use Rattle.ec_core.specs.declared.arithmetic_types.FixedType.{FixedType}
@@ -50,14 +52,18 @@ signed_kind UnsignedShortAccum = ShortAccum
 signed_kind UnsignedAccum = Accum
 signed_kind UnsignedLongAccum = LongAccum
 
--- the later of two kinds in the order of their formats: short _Fract, _Fract, long _Fract, short _Accum, _Accum, long _Accum
+-- the later of two kinds in the order of their formats: short _Fract, _Fract, long _Fract, short _Accum, _Accum, long
+-- _Accum
 abbrev pub higher_kind : FxKind → FxKind → FxKind
 higher_kind a b = if nat_lt (rank_of (format_of a)) (rank_of (format_of b)) then b else a
 
--- an unsigned operand beside a signed one is first converted to its signed counterpart; the result saturates where an operand does
+-- an unsigned operand beside a signed one is first converted to its signed counterpart; the result saturates where an
+-- operand does
 abbrev pub common_fixed : FixedType → FixedType → FixedType
 common_fixed a b = record {
-  kind = if (format_of a.kind).signed || (format_of b.kind).signed then higher_kind (signed_kind a.kind) (signed_kind b.kind) else higher_kind a.kind b.kind;
+  kind =
+      if (format_of a.kind).signed || (format_of b.kind).signed
+      then higher_kind (signed_kind a.kind) (signed_kind b.kind) else higher_kind a.kind b.kind;
   sat = a.sat || b.sat;
 }
 

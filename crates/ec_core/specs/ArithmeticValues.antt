@@ -1,4 +1,5 @@
--- What operators and conversions do to numbers of arithmetic types (ISO/IEC 9899:1999, 6.3 and 6.5; ISO/IEC TR 18037:2008, 4.1.3 to 4.1.7).
+-- What operators and conversions do to numbers of arithmetic types (ISO/IEC 9899:1999, 6.3 and 6.5; ISO/IEC TR
+-- 18037:2008, 4.1.3 to 4.1.7).
 use Rattle.std.specs.Prelude.{◌≡◌, Bool, true, false, if◌then◌else◌, ℤ, unsigned_abs, ⊤, MatchBool, Result, Ok, Err}
 use Rattle.std.specs.Option.{ok_or}
 use Rattle.ec_fx.specs.declared.formats.Format.{Format}
@@ -8,7 +9,8 @@ use Rattle.ec_fx.specs.declared.numbers.Fx.TheVariants.{Got, Overflow, ZeroDivis
 use Rattle.ec_fx.specs.declared.numbers.Mode.{Mode}
 use Rattle.ec_fx.specs.declared.numbers.Num.{Num}
 use Rattle.ec_fx.specs.declared.numbers.Num.TheVariants.{Whole, Fixed as FixedNum}
-use Rattle.ec_fx.specs.Arithmetic.{sum_of, difference_of, product_of, quotient_of, shift_of, negation_of, IsResultFormat, IsOneByte}
+use Rattle.ec_fx.specs.Arithmetic.{sum_of, difference_of, product_of, quotient_of, shift_of, negation_of}
+use Rattle.ec_fx.specs.Arithmetic.{IsResultFormat, IsOneByte}
 use Rattle.ec_fx.specs.Conversions.{conversion_of, integer_of, order_of}
 use Rattle.ec_fx.specs.Formats.{format_of}
 use Rattle.ec_fx.specs.Numbers.{scaled}
@@ -22,7 +24,8 @@ use Rattle.ec_core.specs.declared.expressions.UnOp.{UnOp}
 use Rattle.ec_core.specs.declared.expressions.UnOp.TheVariants.{Minus, Invert}
 use Rattle.ec_core.specs.declared.values.Undefined.{Undefined}
 use Rattle.ec_core.specs.declared.values.Undefined.TheVariants.{ZeroDivisor, ShiftCount, FixedOverflow, WholePart}
-use Rattle.ec_core.specs.Integers.{IsInteger, HoldsInteger, width_of, wrapped, is_count, integer_value, compared, negation, complement}
+use Rattle.ec_core.specs.Integers.{IsInteger, HoldsInteger, width_of, wrapped, is_count, integer_value, compared}
+use Rattle.ec_core.specs.Integers.{negation, complement}
 
 -- ---- numbers of a type
 
@@ -51,7 +54,8 @@ outcome Overflow = Err FixedOverflow
 outcome ByZero = Err ZeroDivisor
 
 abbrev pub fixed_shift : Bool → FixedNumber → ℤ → Mode → Result ℤ Undefined
-fixed_shift left x count mode = if is_count x.format.bits count then outcome (shift_of x (unsigned_abs count) left mode) else Err ShiftCount
+fixed_shift left x count mode =
+    if is_count x.format.bits count then outcome (shift_of x (unsigned_abs count) left mode) else Err ShiftCount
 
 -- a fixed-point value is shifted by a whole number; other operands no program has
 abbrev pub shift_value : Bool → Num → Num → Mode → Result ℤ Undefined
@@ -135,8 +139,8 @@ SuitsUnary Invert (Fixed t) = ⊥
 
 -- ---- conversions
 
--- integers wrap; a fixed-point value becomes an integer without what stands behind the point, if the type holds it; what becomes
--- a fixed-point value is rounded, and out of range is clamped or undefined by the mode
+-- integers wrap; a fixed-point value becomes an integer without what stands behind the point, if the type holds it;
+-- what becomes a fixed-point value is rounded, and out of range is clamped or undefined by the mode
 abbrev pub conversion_value : Arithmetic → Mode → Num → Result ℤ Undefined
 conversion_value (Integer t) mode (Whole n) = Ok (wrapped t n)
 conversion_value (Integer t) mode (FixedNum x) = ok_or (integer_of x t.signed (width_of t)) WholePart

@@ -13,8 +13,14 @@ use Rattle.ec_core.specs.ValueTypes.{GiveBytes}
 
 -- a run of a valid program whose ports give bytes never meets what no valid program has
 abbrev pub InvalidIsNeverMet : Type 0
-InvalidIsNeverMet = (program : PlainProgram) (io : IoTable) (inputs : Inputs) → Valid program io → GiveBytes inputs → (n : ℕ) → source program (plain_table io) inputs n ≢ Failed Invalid
+InvalidIsNeverMet =
+    (program : PlainProgram) (io : IoTable) (inputs : Inputs) → Valid program io → GiveBytes inputs → (n : ℕ)
+    → source program (plain_table io) inputs n ≢ Failed Invalid
 
 -- and its calls never nest deeper than it has functions: with more depth the run is the same
 abbrev pub CallsNestNoDeeper : Type 0
-CallsNestNoDeeper = (program : PlainProgram) (io : IoTable) (inputs : Inputs) → Valid program io → GiveBytes inputs → (n depth : ℕ) → length program.functions ≤ depth → calls_within (setting program (plain_table io) inputs) n depth program.main [] (initial_state program (plain_table io)) ≡ run program (plain_table io) inputs n
+CallsNestNoDeeper =
+    (program : PlainProgram) (io : IoTable) (inputs : Inputs) → Valid program io → GiveBytes inputs → (n depth : ℕ)
+    → length program.functions ≤ depth
+    → calls_within (setting program (plain_table io) inputs) n depth program.main []
+    (initial_state program (plain_table io)) ≡ run program (plain_table io) inputs n

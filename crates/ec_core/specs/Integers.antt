@@ -1,5 +1,8 @@
--- Integer operators: the exact result, wrapped to the type (ISO/IEC 9899:1999, 6.5 and 6.2.6.2; that signed results wrap is this project's profile).
-use Rattle.std.specs.Prelude.{ℕ, ◌*◌, ◌^◌, nat_le, Bool, true, false, ◌&&◌, if◌then◌else◌, ℤ, pos, negsuc, ◌+ℤ◌, ◌-ℤ◌, ◌*ℤ◌, int_lt, int_le, int_div, int_rem, unsigned_abs, bit_and, bit_or, bit_xor, Result, Ok, Err}
+-- Integer operators: the exact result, wrapped to the type (ISO/IEC 9899:1999, 6.5 and 6.2.6.2; that signed results
+-- wrap is this project's profile).
+use Rattle.std.specs.Prelude.{ℕ, ◌*◌, ◌^◌, nat_le, Bool, true, false, ◌&&◌, if◌then◌else◌, ℤ, pos, negsuc, ◌+ℤ◌, ◌-ℤ◌}
+use Rattle.std.specs.Prelude.{◌*ℤ◌, int_lt, int_le, int_div, int_rem, unsigned_abs, bit_and, bit_or, bit_xor, Result}
+use Rattle.std.specs.Prelude.{Ok, Err}
 use Rattle.std.specs.declared.cmp.Ordering.{Ordering}
 use Rattle.std.specs.declared.cmp.Ordering.TheVariants.{Less, Equal, Greater}
 use Rattle.std.specs.Ordering.{int_eq, int_cmp}
@@ -7,7 +10,8 @@ use Rattle.std.specs.Int.{int_div_euclid, int_rem_euclid}
 use Rattle.ec_fx.specs.Ranges.{IsWithin}
 use Rattle.ec_core.specs.declared.arithmetic_types.IntegerType.{IntegerType}
 use Rattle.ec_core.specs.declared.expressions.BinOp.{BinOp}
-use Rattle.ec_core.specs.declared.expressions.BinOp.TheVariants.{Add, Sub, Mul, Div, Rem, Shl, Shr, And, Or, Xor, Lt, Gt, Le, Ge, Eq, Ne}
+use Rattle.ec_core.specs.declared.expressions.BinOp.TheVariants.{Add, Sub, Mul, Div, Rem, Shl, Shr, And, Or, Xor, Lt}
+use Rattle.ec_core.specs.declared.expressions.BinOp.TheVariants.{Gt, Le, Ge, Eq, Ne}
 use Rattle.ec_core.specs.declared.values.Undefined.{Undefined}
 use Rattle.ec_core.specs.declared.values.Undefined.TheVariants.{ZeroDivisor, ShiftCount}
 use Rattle.ec_core.specs.Layout.{IsIntegerSize}
@@ -49,11 +53,14 @@ abbrev pub is_count : ℕ → ℤ → Bool
 is_count bits count = int_le (pos 0) count && int_lt count (pos bits)
 
 abbrev pub left_shift : IntegerType → ℤ → ℤ → Result ℤ Undefined
-left_shift t a count = if is_count (width_of t) count then Ok (wrapped t (a *ℤ pos (2 ^ unsigned_abs count))) else Err ShiftCount
+left_shift t a count =
+    if is_count (width_of t) count then Ok (wrapped t (a *ℤ pos (2 ^ unsigned_abs count))) else Err ShiftCount
 
 -- the quotient by 2^count, rounded down
 abbrev pub right_shift : IntegerType → ℤ → ℤ → Result ℤ Undefined
-right_shift t a count = if is_count (width_of t) count then Ok (wrapped t (int_div_euclid a (pos (2 ^ unsigned_abs count)))) else Err ShiftCount
+right_shift t a count =
+    if is_count (width_of t) count then Ok (wrapped t (int_div_euclid a (pos (2 ^ unsigned_abs count))))
+    else Err ShiftCount
 
 -- a bitwise operator on the two's complement bits
 abbrev pub bitwise : (ℕ → ℕ → ℕ) → IntegerType → ℤ → ℤ → ℤ

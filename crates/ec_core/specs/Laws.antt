@@ -1,5 +1,6 @@
 -- Laws of the meaning: what a run does to its events and its work, and on what it depends.
-use Rattle.std.specs.Prelude.{Bool, Some, ◌<◌, ◌*◌, drop, slice_index, ◌≡◌, ◌≢◌, ⊤, true, ℕ, ◌≤◌, List, IsTrue, IsSomeAnd, slice_get}
+use Rattle.std.specs.Prelude.{Bool, Some, ◌<◌, ◌*◌, drop, slice_index, ◌≡◌, ◌≢◌, ⊤, true, ℕ, ◌≤◌, List, IsTrue}
+use Rattle.std.specs.Prelude.{IsSomeAnd, slice_get}
 use Rattle.std.specs.List.{AllByRecursion}
 use Rattle.ec_space.specs.Spaces.{holds}
 use Rattle.ec_runs.specs.Behaviours.{BeginWith, IsRun}
@@ -8,10 +9,12 @@ use Rattle.ec_core.specs.Accesses.{Access, recorded, leaf_of, read, stored, writ
 use Rattle.ec_core.specs.Expressions.{value_of, place_of, values_of}
 use Rattle.ec_core.specs.Meaning.{setting, initial_state, run, source, state_of, work}
 use Rattle.ec_core.specs.Operators.{same_type}
-use Rattle.ec_core.specs.Plain.{PlainType, PlainExpr, PlainPlace, PlainExprs, PlainStmt, OptionPlainStmt, register, PlainProgram}
+use Rattle.ec_core.specs.Plain.{PlainType, PlainExpr, PlainPlace, PlainExprs, PlainStmt, OptionPlainStmt, register}
+use Rattle.ec_core.specs.Plain.{PlainProgram}
 use Rattle.ec_core.specs.PortAccesses.{next_byte, byte_read}
 use Rattle.ec_core.specs.PortTable.{PlainTable}
-use Rattle.ec_core.specs.State.{Inputs, Setting, Event, In, Out, Read, Write, told, reads_of, State, with_event, worked, with_object, with_group, Outcome, more}
+use Rattle.ec_core.specs.State.{Inputs, Setting, Event, In, Out, Read, Write, told, reads_of, State, with_event, worked}
+use Rattle.ec_core.specs.State.{with_object, with_group, Outcome, more}
 use Rattle.ec_core.specs.Statements.{effect_of, first_effect, calls_within}
 use Rattle.ec_core.specs.Valid.{IsAddressable}
 use Rattle.ec_core.specs.Words.{loop_words}
@@ -25,14 +28,16 @@ pub record IsMade (program : PlainProgram) (s : State) (a : Access) : Type 0 whe
   pub live : IsTrue a.state.live
   pub home : IsTrue (holds a.space a.declared.home)
 
--- From one state to the next a run takes up work, reads the next byte of a port or writes one, acquires or releases a group,
--- reads or writes a leaf by an access that can be made, begins a new instance of an object, or ends one, or those of a function
+-- From one state to the next a run takes up work, reads the next byte of a port or writes one, acquires or releases a
+-- group, reads or writes a leaf by an access that can be made, begins a new instance of an object, or ends one, or
+-- those of a function
 pub data Step (w : Setting) (s t : State) : Type 0 where
   takes_work : (words : ℕ) → t ≡ worked words s → Step w s t
   reads_port : (port : ℕ) → t ≡ byte_read w.inputs port s → Step w s t
   writes_port : (port byte : ℕ) → t ≡ with_event (Out port byte) s → Step w s t
   changes_group : (g : ℕ) (acquired : Bool) → t ≡ with_group g acquired s → Step w s t
-  reads_leaf : (a : Access) (v : Value) → IsMade w.program s a → leaf_of a.state a.leaf ≡ Some v → t ≡ recorded a.declared.storage (Read a.object a.leaf a.space (told v)) s → Step w s t
+  reads_leaf : (a : Access) (v : Value) → IsMade w.program s a → leaf_of a.state a.leaf ≡ Some v
+      → t ≡ recorded a.declared.storage (Read a.object a.leaf a.space (told v)) s → Step w s t
   writes_leaf : (a : Access) (v : Value) → IsMade w.program s a → t ≡ stored a v s → Step w s t
   begins_object : (o : ℕ) → t ≡ begun w.program o s → Step w s t
   ends_object : (o : ℕ) → t ≡ with_object o ended s → Step w s t
@@ -45,17 +50,23 @@ pub data Leads (w : Setting) (s : State) : State → Type 0 where
 
 -- a run leads from the initial state to that of its outcome
 abbrev pub RunsBySteps : Type 0
-RunsBySteps = (program : PlainProgram) (table : PlainTable) (inputs : Inputs) (n : ℕ) → Leads (setting program table inputs) (initial_state program table) (state_of (run program table inputs n))
+RunsBySteps =
+    (program : PlainProgram) (table : PlainTable) (inputs : Inputs) (n : ℕ)
+    → Leads (setting program table inputs) (initial_state program table) (state_of (run program table inputs n))
 
 -- the home of each accessed object is in the space of the access, and the object is no named register
 abbrev pub IsAtHome : PlainProgram → Event → Type 0
 IsAtHome program (In port byte) = ⊤
 IsAtHome program (Out port byte) = ⊤
-IsAtHome program (Read o k space v) = IsSomeAnd (slice_get program.objects o) (λ x. IsTrue (holds space x.home) × IsAddressable x.storage)
-IsAtHome program (Write o k space v) = IsSomeAnd (slice_get program.objects o) (λ x. IsTrue (holds space x.home) × IsAddressable x.storage)
+IsAtHome program (Read o k space v) =
+    IsSomeAnd (slice_get program.objects o) (λ x. IsTrue (holds space x.home) × IsAddressable x.storage)
+IsAtHome program (Write o k space v) =
+    IsSomeAnd (slice_get program.objects o) (λ x. IsTrue (holds space x.home) × IsAddressable x.storage)
 
 abbrev pub EventsAreAtHome : Type 0
-EventsAreAtHome = (program : PlainProgram) (table : PlainTable) (inputs : Inputs) (n : ℕ) → AllByRecursion (IsAtHome program) (state_of (run program table inputs n)).events
+EventsAreAtHome =
+    (program : PlainProgram) (table : PlainTable) (inputs : Inputs) (n : ℕ)
+    → AllByRecursion (IsAtHome program) (state_of (run program table inputs n)).events
 
 -- a read and a write of a named register are no events
 pub record IsSilent (program : PlainProgram) (a : Access) (s : State) : Type 0 where
@@ -63,12 +74,14 @@ pub record IsSilent (program : PlainProgram) (a : Access) (s : State) : Type 0 w
   pub write : (v : Value) → (state_of (write (Some a) v s)).events ≡ s.events
 
 abbrev pub RegistersAreSilent : Type 0
-RegistersAreSilent = (program : PlainProgram) (a : Access) (s : State) (first : ℕ) → a.declared.storage ≡ register first → IsSilent program a s
+RegistersAreSilent =
+    (program : PlainProgram) (a : Access) (s : State) (first : ℕ) → a.declared.storage ≡ register first
+    → IsSilent program a s
 
 -- ---- parts of a run
 
--- A part of a run: steps lead from the state before it to that of its outcome, whose events begin with those before, and whose
--- work is no less
+-- A part of a run: steps lead from the state before it to that of its outcome, whose events begin with those before,
+-- and whose work is no less
 pub record IsLater {A : Type 0} (w : Setting) (s : State) (o : Outcome A) : Type 0 where
   pub steps : Leads w s (state_of o)
   pub events : BeginWith s.events (state_of o).events
@@ -80,12 +93,14 @@ pub record HasLaterParts (w : Setting) : Type 0 where
   pub places : (n depth : ℕ) (p : PlainPlace) (s : State) → IsLater w s (place_of w (calls_within w n depth) p s)
   pub arguments : (n depth : ℕ) (es : PlainExprs) (s : State) → IsLater w s (values_of w (calls_within w n depth) es s)
   pub statements : (n depth : ℕ) (a : PlainStmt) (s : State) → IsLater w s (effect_of w (calls_within w n depth) n a s)
-  pub first_parts : (n depth : ℕ) (a : OptionPlainStmt) (s : State) → IsLater w s (first_effect w (calls_within w n depth) n a s)
+  pub first_parts : (n depth : ℕ) (a : OptionPlainStmt) (s : State)
+      → IsLater w s (first_effect w (calls_within w n depth) n a s)
   pub calls : (n depth f : ℕ) (xs : List Value) (s : State) → IsLater w s (calls_within w n depth f xs s)
 
 -- what a part of a run does is added to the events and the work before it
 abbrev pub PartsOnlyAdd : Type 0
-PartsOnlyAdd = (program : PlainProgram) (table : PlainTable) (inputs : Inputs) → HasLaterParts (setting program table inputs)
+PartsOnlyAdd =
+    (program : PlainProgram) (table : PlainTable) (inputs : Inputs) → HasLaterParts (setting program table inputs)
 
 -- ---- more turns
 
@@ -94,11 +109,15 @@ abbrev pub MoreTurnsOnlyAdd : Type 0
 MoreTurnsOnlyAdd = (program : PlainProgram) (table : PlainTable) (inputs : Inputs) → IsRun (source program table inputs)
 
 abbrev pub WorkNeverFalls : Type 0
-WorkNeverFalls = (program : PlainProgram) (table : PlainTable) (inputs : Inputs) (n k : ℕ) → n ≤ k → work program table inputs n ≤ work program table inputs k
+WorkNeverFalls =
+    (program : PlainProgram) (table : PlainTable) (inputs : Inputs) (n k : ℕ) → n ≤ k
+    → work program table inputs n ≤ work program table inputs k
 
 -- a run in which a loop is out of n turns has done the work of n turns
 abbrev pub TurnsAreWork : Type 0
-TurnsAreWork = (program : PlainProgram) (table : PlainTable) (inputs : Inputs) (n : ℕ) (s : State) → run program table inputs n ≡ more s → loop_words * n ≤ s.work
+TurnsAreWork =
+    (program : PlainProgram) (table : PlainTable) (inputs : Inputs) (n : ℕ) (s : State)
+    → run program table inputs n ≡ more s → loop_words * n ≤ s.work
 
 -- ---- inputs
 
@@ -108,13 +127,16 @@ AgreeOn events a b = (port k : ℕ) → k < reads_of port events → slice_index
 
 -- a run depends on the bytes that it reads alone
 abbrev pub DependsOnBytesRead : Type 0
-DependsOnBytesRead = (program : PlainProgram) (table : PlainTable) (a b : Inputs) (n : ℕ) → AgreeOn (state_of (run program table a n)).events a b → run program table a n ≡ run program table b n
+DependsOnBytesRead =
+    (program : PlainProgram) (table : PlainTable) (a b : Inputs) (n : ℕ)
+    → AgreeOn (state_of (run program table a n)).events a b → run program table a n ≡ run program table b n
 
 -- what a port address still gives after the events of a state
 abbrev pub left_of : Inputs → ℕ → State → List ℕ
 left_of inputs port s = drop (reads_of port s.events) (inputs port)
 
--- the next byte of a port is the first of those left, and 0 where none is left; its read takes it from them, and leaves those of other ports
+-- the next byte of a port is the first of those left, and 0 where none is left; its read takes it from them, and leaves
+-- those of other ports
 pub record IsTaken (inputs : Inputs) (port : ℕ) (s : State) : Type 0 where
   pub first : next_byte inputs port s ≡ slice_index (left_of inputs port s) 0
   pub rest : left_of inputs port (byte_read inputs port s) ≡ drop 1 (left_of inputs port s)

@@ -5,7 +5,8 @@ use Rattle.std.specs.List.{AllByRecursion}
 use Rattle.ec_fx.specs.Formats.{format_of}
 use Rattle.ec_space.specs.Spaces.{width}
 use Rattle.ec_core.specs.declared.layout.Leaf.{Leaf}
-use Rattle.ec_core.specs.Plain.{PlainType, void, integer, fixed, pointer, array, struct, plain_type, PlainMember, PlainStruct}
+use Rattle.ec_core.specs.Plain.{PlainType, void, integer, fixed, pointer, array, struct, plain_type, PlainMember}
+use Rattle.ec_core.specs.Plain.{PlainStruct}
 
 -- ---- layouts
 
@@ -22,17 +23,17 @@ pub record Layout : Type 0 where
   pub size : ℕ
   pub leaves_at : ℕ → List PlainLeaf
 
-abbrev pub nothing : Layout
-nothing = record { size = 0; leaves_at = λ at. [] }
+abbrev pub empty_layout : Layout
+empty_layout = record { size = 0; leaves_at = λ at. [] }
 
 -- two things, the second right behind the first
-abbrev pub beside : Layout → Layout → Layout
-beside a b = record { size = a.size + b.size; leaves_at = λ at. a.leaves_at at ++ b.leaves_at (at + a.size) }
+abbrev pub followed_by : Layout → Layout → Layout
+followed_by a b = record { size = a.size + b.size; leaves_at = λ at. a.leaves_at at ++ b.leaves_at (at + a.size) }
 
 -- so many of them in a row
 abbrev pub repeated : ℕ → Layout → Layout
-repeated zero a = nothing
-repeated (suc n) a = beside (repeated n a) a
+repeated zero a = empty_layout
+repeated (suc n) a = followed_by (repeated n a) a
 
 -- ---- of types
 
@@ -50,7 +51,7 @@ scalar_layout ty = record { size = scalar_size ty; leaves_at = λ at. record { t
 
 -- the layout of a type, given that of each struct
 abbrev pub type_layout : (ℕ → Layout) → PlainType → Layout
-type_layout structs void = nothing
+type_layout structs void = empty_layout
 type_layout structs (integer signed bytes) = scalar_layout (integer signed bytes)
 type_layout structs (fixed kind saturates) = scalar_layout (fixed kind saturates)
 type_layout structs (pointer space const to) = scalar_layout (pointer space const to)
@@ -58,16 +59,17 @@ type_layout structs (array of len) = repeated len (type_layout structs of)
 type_layout structs (struct index) = structs index
 
 abbrev pub members_layout : (ℕ → Layout) → List PlainMember → Layout
-members_layout structs [] = nothing
-members_layout structs (m ∷ ms) = beside (type_layout structs m.ty) (members_layout structs ms)
+members_layout structs [] = empty_layout
+members_layout structs (m ∷ ms) = followed_by (type_layout structs m.ty) (members_layout structs ms)
 
 -- the layouts of all structs, where those below n are given, and the definitions from number n on follow
 abbrev pub layouts_from : (ℕ → Layout) → ℕ → List PlainStruct → ℕ → Layout
 layouts_from earlier n [] = earlier
-layouts_from earlier n (s ∷ ss) = layouts_from (λ i. if i == n then members_layout earlier s.members else earlier i) (n + 1) ss
+layouts_from earlier n (s ∷ ss) =
+    layouts_from (λ i. if i == n then members_layout earlier s.members else earlier i) (n + 1) ss
 
 abbrev pub struct_layouts : List PlainStruct → ℕ → Layout
-struct_layouts structs = layouts_from (λ i. nothing) 0 structs
+struct_layouts structs = layouts_from (λ i. empty_layout) 0 structs
 
 -- the size of a type and its leaves, given the struct definitions
 abbrev pub size_of_type : List PlainStruct → PlainType → ℕ

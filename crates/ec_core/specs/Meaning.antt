@@ -4,7 +4,10 @@ use Rattle.ec_runs.specs.Behaviours.{Behaviour, Running, Ended, Failed}
 use Rattle.ec_core.specs.declared.programs.LeafInit.{LeafInit}
 use Rattle.ec_core.specs.declared.programs.LeafInit.TheVariants.{Number as TheNumber, Null as TheNull, Address}
 use Rattle.ec_core.specs.declared.values.Undefined.{Undefined}
-use Rattle.ec_core.specs.declared.values.Undefined.TheVariants.{ZeroDivisor, ShiftCount, FixedOverflow, WholePart, Access, Unset, ConstWrite, Narrowing, Unrelated, PointerUse, PointerRange, ClosedPort, BufferIndex, NoResult, Invalid}
+use Rattle.ec_core.specs.declared.values.Undefined.TheVariants.{ZeroDivisor, ShiftCount, FixedOverflow, WholePart}
+use Rattle.ec_core.specs.declared.values.Undefined.TheVariants.{Access, Unset, ConstWrite, Narrowing, Unrelated}
+use Rattle.ec_core.specs.declared.values.Undefined.TheVariants.{PointerUse, PointerRange, ClosedPort, BufferIndex}
+use Rattle.ec_core.specs.declared.values.Undefined.TheVariants.{NoResult, Invalid}
 use Rattle.ec_core.specs.declared.values.Value.{Value}
 use Rattle.ec_core.specs.declared.values.Value.TheVariants.{Number, Pointer}
 use Rattle.ec_core.specs.Accesses.{leaf_count}
@@ -22,9 +25,11 @@ initial_value (TheNumber n) = Number n
 initial_value TheNull = Pointer None
 initial_value (Address o offset) = Pointer (Some (record { object = o; instance = 0; offset = offset }))
 
--- static objects have their initial values, named registers are unset, and other objects do not live yet (6.2.4; TR 18037, 5.2)
+-- static objects have their initial values, named registers are unset, and other objects do not live yet (6.2.4; TR
+-- 18037, 5.2)
 abbrev pub initial_object : ℕ → PlainStorage → ObjectState
-initial_object leaves (static inits) = record { serial = 0; live = true; leaves = map (λ init. Some (initial_value init)) inits }
+initial_object leaves (static inits) =
+    record { serial = 0; live = true; leaves = map (λ init. Some (initial_value init)) inits }
 initial_object leaves (local f) = record { serial = 0; live = false; leaves = replicate leaves None }
 initial_object leaves (param f) = record { serial = 0; live = false; leaves = replicate leaves None }
 initial_object leaves (register r) = record { serial = 0; live = true; leaves = replicate leaves None }
@@ -44,7 +49,9 @@ setting program table inputs = record { program = program; table = table; inputs
 
 -- main is called, and each execution of a loop has at most n turns
 abbrev pub run : PlainProgram → PlainTable → Inputs → ℕ → Outcome Value
-run program table inputs n = calls_within (setting program table inputs) n (length program.functions) program.main [] (initial_state program table)
+run program table inputs n =
+    calls_within (setting program table inputs) n (length program.functions) program.main []
+    (initial_state program table)
 
 -- the undefined points by number; the last is what no valid program meets
 abbrev pub number_of_point : Undefined → ℕ
@@ -69,7 +76,8 @@ abbrev pub number_of : Value → ℤ
 number_of (Number n) = n
 number_of (Pointer p) = pos 0
 
--- the events and the result of a program that ended, the events of one that is out of turns, or the undefined point that was met
+-- the events and the result of a program that ended, the events of one that is out of turns, or the undefined point
+-- that was met
 abbrev pub behaviour_of : Outcome Value → Behaviour Event ℤ Undefined
 behaviour_of (got x s) = Ended s.events (number_of x)
 behaviour_of (more s) = Running s.events

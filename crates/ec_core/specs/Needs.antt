@@ -1,6 +1,12 @@
 -- How many temporaries the expressions of a function need at once, and which functions it calls.
 use Rattle.std.specs.Prelude.{ℕ, ◌+◌, max, if◌then◌else◌, List, [], ◌∷◌, Option, Some, None}
-use Rattle.ec_core.specs.Plain.{PlainExpr, expression, PlainNode, number, null, load, address_of, unary, binary, convert, assign, compound, step, logical_not, logical_and, logical_or, conditional, comma, call, io, group, PlainPlace, object, deref, member, OptionPlainExpr, no_expr, an_expr, PlainExprs, last_expr, next_expr, PlainStmt, statement, PlainKind, empty, evaluate, block, declare, branch, while_loop, do_loop, for_loop, break_loop, continue_loop, return_value, OptionPlainStmt, no_stmt, a_stmt, PlainStmts, last_stmt, next_stmt}
+use Rattle.ec_core.specs.Plain.{PlainExpr, expression, PlainNode, number, null, load, address_of, unary, binary}
+use Rattle.ec_core.specs.Plain.{convert, assign, compound, step, logical_not, logical_and, logical_or, conditional}
+use Rattle.ec_core.specs.Plain.{comma, call, io, group, PlainPlace, object, deref, member, OptionPlainExpr, no_expr}
+use Rattle.ec_core.specs.Plain.{an_expr, PlainExprs, last_expr, next_expr, PlainStmt, statement, PlainKind, empty}
+use Rattle.ec_core.specs.Plain.{evaluate, block, declare, branch, while_loop, do_loop, for_loop, break_loop}
+use Rattle.ec_core.specs.Plain.{continue_loop, return_value, OptionPlainStmt, no_stmt, a_stmt, PlainStmts, last_stmt}
+use Rattle.ec_core.specs.Plain.{next_stmt}
 use Rattle.ec_core.specs.PortOperations.{port_operation, is_update}
 
 -- ---- temporaries
@@ -10,13 +16,13 @@ abbrev pub greatest_from : ℕ → List ℕ → ℕ
 greatest_from n [] = 0
 greatest_from n (x ∷ xs) = max (x + n) (greatest_from (n + 1) xs)
 
--- what a node needs whose operands, in order of evaluation, need this: each operand is worked out while the values before it
--- are kept. A node without operands needs 1
+-- what a node needs whose operands, in order of evaluation, need this: each operand is worked out while the values
+-- before it are kept. A node without operands needs 1
 abbrev pub node_need : List ℕ → ℕ
 node_need xs = max 1 (greatest_from 0 xs)
 
--- An expression inside a place comes first. The old value of a compound assignment or step counts as an operand, the 1 of a
--- step as another, and the value that an update of a port reads as a last one.
+-- An expression inside a place comes first. The old value of a compound assignment or step counts as an operand, the 1
+-- of a step as another, and the value that an update of a port reads as a last one.
 abbrev mutual
   pub expr_need : PlainExpr → ℕ
   expr_need (expression ty mode node) = node_need (operand_needs node)
@@ -38,7 +44,8 @@ abbrev mutual
   operand_needs (conditional c a b) = expr_need c ∷ expr_need a ∷ expr_need b ∷ []
   operand_needs (comma a b) = expr_need a ∷ expr_need b ∷ []
   operand_needs (call f args) = exprs_needs args
-  operand_needs (io op port index value) = option_needs index (option_needs value (if is_update (port_operation op).action then 1 ∷ [] else []))
+  operand_needs (io op port index value) =
+      option_needs index (option_needs value (if is_update (port_operation op).action then 1 ∷ [] else []))
   operand_needs (group acquire g) = []
 
   -- the needs of a place, before those of what follows

@@ -1,5 +1,6 @@
 -- Operators and conversions on values of any type (ISO/IEC 9899:1999, 6.3 and 6.5; ISO/IEC TR 18037:2008, 4.1).
-use Rattle.std.specs.Prelude.{ℕ, ◌==◌, Bool, true, false, not, ◌&&◌, if◌then◌else◌, ℤ, pos, ◌-ℤ◌, unwrap_or, Result, Ok, Err}
+use Rattle.std.specs.Prelude.{ℕ, ◌==◌, Bool, true, false, not, ◌&&◌, if◌then◌else◌, ℤ, pos, ◌-ℤ◌, unwrap_or, Result, Ok}
+use Rattle.std.specs.Prelude.{Err}
 use Rattle.std.specs.Ordering.{int_eq}
 use Rattle.ec_fx.specs.declared.formats.FxKind.{FxKind}
 use Rattle.ec_fx.specs.declared.numbers.Mode.{Mode}
@@ -19,7 +20,8 @@ use Rattle.ec_core.specs.declared.values.Value.TheVariants.{Number, Pointer}
 use Rattle.ec_core.specs.ArithmeticTypes.{arithmetic_of, promoted, common_integer, signed_kind, common}
 use Rattle.ec_core.specs.ArithmeticValues.{operand, arithmetic_value, unary_value, conversion_value, is_comparison}
 use Rattle.ec_core.specs.Plain.{PlainType, void, integer, fixed, pointer, array, struct}
-use Rattle.ec_core.specs.Pointers.{Pointer as PointerValue, sum_of_pointer, difference_of_pointers, comparison_of_pointers, truth_of_pointer, pointer_in_space}
+use Rattle.ec_core.specs.Pointers.{Pointer as PointerValue, sum_of_pointer, difference_of_pointers}
+use Rattle.ec_core.specs.Pointers.{comparison_of_pointers, truth_of_pointer, pointer_in_space}
 
 -- ---- types
 
@@ -32,7 +34,9 @@ same_space s t = encloses s t && encloses t s
 
 -- kinds differ in their formats
 abbrev pub same_kind : FxKind → FxKind → Bool
-same_kind a b = same_bool (format_of a).signed (format_of b).signed && (format_of a).bits == (format_of b).bits && (format_of a).frac == (format_of b).frac
+same_kind a b =
+    same_bool (format_of a).signed (format_of b).signed && (format_of a).bits == (format_of b).bits
+    && (format_of a).frac == (format_of b).frac
 
 abbrev pub same_type : PlainType → PlainType → Bool
 same_type void void = true
@@ -53,8 +57,8 @@ unsuited = Err Invalid
 
 -- ---- operands
 
--- an operand: its type, its value, and where it is a pointer, the size of what its type points to and what is known of the
--- instance that it points into
+-- an operand: its type, its value, and where it is a pointer, the size of what its type points to and what is known of
+-- the instance that it points into
 pub record Operand : Type 0 where
   pub ty : PlainType
   pub value : Value
@@ -79,7 +83,8 @@ unary_result op ty mode (Pointer p) = unsuited
 -- two pointers: their difference, or a comparison (6.5.6, 6.5.8, 6.5.9)
 abbrev pub pointers_result : BinOp → Operand → PointerValue → Operand → PointerValue → Result Value Undefined
 pointers_result op a p b q =
-    as_number (if is_comparison op then comparison_of_pointers op p a.of q b.of else difference_of_pointers a.element p a.of q b.of)
+    as_number (if is_comparison op then comparison_of_pointers op p a.of q b.of
+    else difference_of_pointers a.element p a.of q b.of)
 
 -- a pointer and a number of elements (6.5.6)
 abbrev pub offset_result : BinOp → Operand → PointerValue → ℤ → Result Value Undefined
@@ -89,7 +94,8 @@ offset_result op a p n = unsuited
 
 -- the value of a binary operator with this result type, on two operands with their values
 abbrev pub binary_of : BinOp → PlainType → Mode → Operand → Value → Operand → Value → Result Value Undefined
-binary_of op ty mode a (Number m) b (Number n) = as_number (arithmetic_value op (number_type ty) mode (operand (number_type a.ty) m) (operand (number_type b.ty) n))
+binary_of op ty mode a (Number m) b (Number n) =
+    as_number (arithmetic_value op (number_type ty) mode (operand (number_type a.ty) m) (operand (number_type b.ty) n))
 binary_of op ty mode a (Pointer p) b (Pointer q) = pointers_result op a p b q
 binary_of op ty mode a (Pointer p) b (Number n) = offset_result op a p n
 binary_of op ty mode a (Number m) b (Pointer q) = offset_result op b q m
@@ -118,13 +124,15 @@ truth_result a = truth_of a a.value
 
 -- ---- compound assignments, whose operands are not converted (6.5.16.2)
 
--- the type that an operand of one type is brought to beside one of another type: an integer beside an integer becomes the
--- common type, and an unsigned fixed-point type beside a signed one its signed counterpart (6.3.1.8; TR 18037, 4.1.4)
-abbrev pub beside : Arithmetic → Arithmetic → Arithmetic
-beside (Integer x) (Integer y) = Integer (common_integer x y)
-beside (Integer x) (Fixed y) = Integer x
-beside (Fixed x) (Integer y) = Fixed x
-beside (Fixed x) (Fixed y) = Fixed (record { kind = if (format_of y.kind).signed then signed_kind x.kind else x.kind; sat = x.sat })
+-- the type that an operand of one type is brought to beside one of another type: an integer beside an integer becomes
+-- the common type, and an unsigned fixed-point type beside a signed one its signed counterpart (6.3.1.8; TR 18037,
+-- 4.1.4)
+abbrev pub converted_beside : Arithmetic → Arithmetic → Arithmetic
+converted_beside (Integer x) (Integer y) = Integer (common_integer x y)
+converted_beside (Integer x) (Fixed y) = Integer x
+converted_beside (Fixed x) (Integer y) = Fixed x
+converted_beside (Fixed x) (Fixed y) =
+    Fixed (record { kind = if (format_of y.kind).signed then signed_kind x.kind else x.kind; sat = x.sat })
 
 -- the operands of a shift are promoted, each by itself (6.5.7)
 abbrev pub promoted_type : Arithmetic → Arithmetic
@@ -140,7 +148,7 @@ pub record OperationTypes : Type 0 where
 abbrev pub operation_types : BinOp → Arithmetic → Arithmetic → OperationTypes
 operation_types Shl x y = record { left = promoted_type x; right = y; result = promoted_type x }
 operation_types Shr x y = record { left = promoted_type x; right = y; result = promoted_type x }
-operation_types op x y = record { left = beside x y; right = beside y x; result = common x y }
+operation_types op x y = record { left = converted_beside x y; right = converted_beside y x; result = common x y }
 
 -- goes on where there is a value
 abbrev pub then_with : {A B : Type 0} → Result A Undefined → (A → Result B Undefined) → Result B Undefined
@@ -154,22 +162,26 @@ brought to mode from n = conversion_value to mode (operand from n)
 -- an operation on numbers of two types: both operands brought to their types, then the operation
 abbrev pub operation_value : BinOp → OperationTypes → Mode → Arithmetic → ℤ → Arithmetic → ℤ → Result ℤ Undefined
 operation_value op types mode x m y n =
-    then_with (brought types.left mode x m) (λ a. then_with (brought types.right mode y n) (λ b. arithmetic_value op types.result mode (operand types.left a) (operand types.right b)))
+    then_with (brought types.left mode x m)
+    (λ a. then_with (brought types.right mode y n)
+    (λ b. arithmetic_value op types.result mode (operand types.left a) (operand types.right b)))
 
 -- the number that a compound assignment writes: the operation's result, converted to the type of the place
 abbrev pub compound_value : BinOp → Mode → Mode → Arithmetic → ℤ → Arithmetic → ℤ → Result ℤ Undefined
-compound_value op own mode x m y n =
-    then_with (operation_value op (operation_types op x y) own x m y n) (λ r. brought x mode (operation_types op x y).result r)
+compound_value op operation_mode mode x m y n =
+    then_with (operation_value op (operation_types op x y) operation_mode x m y n)
+    (λ r. brought x mode (operation_types op x y).result r)
 
--- the value that a compound assignment writes, from the old value of its place and its right side. The first mode is that of
--- the operation, and the second that of the conversion to the type of the place
+-- the value that a compound assignment writes, from the old value of its place and its right side. The first mode is
+-- that of the operation, and the second that of the conversion to the type of the place
 abbrev pub compound_of : BinOp → Mode → Mode → Operand → Value → Operand → Value → Result Value Undefined
-compound_of op own mode a (Number m) b (Number n) = as_number (compound_value op own mode (number_type a.ty) m (number_type b.ty) n)
-compound_of op own mode a (Pointer p) b (Number n) = offset_result op a p n
-compound_of op own mode a old b (Pointer q) = unsuited
+compound_of op operation_mode mode a (Number m) b (Number n) =
+    as_number (compound_value op operation_mode mode (number_type a.ty) m (number_type b.ty) n)
+compound_of op operation_mode mode a (Pointer p) b (Number n) = offset_result op a p n
+compound_of op operation_mode mode a old b (Pointer q) = unsuited
 
 abbrev pub compound_result : BinOp → Mode → Mode → Operand → Operand → Result Value Undefined
-compound_result op own mode a b = compound_of op own mode a a.value b b.value
+compound_result op operation_mode mode a b = compound_of op operation_mode mode a a.value b b.value
 
 -- `++` and `--` add and subtract the int 1 (6.5.2.4, 6.5.3.1)
 abbrev pub step_operator : Bool → BinOp

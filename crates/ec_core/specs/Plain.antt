@@ -1,5 +1,5 @@
--- Programs as plain trees, without the pointers and the spare room of the types that hold them. Two programs are the same
--- where their plain trees are equal.
+-- Programs as plain trees, without the pointers and the spare room of the types that hold them. Two programs are the
+-- same where their plain trees are equal.
 use Rattle.std.specs.Prelude.{ℕ, Bool, ℤ, List, [], ◌∷◌, map, Option, option_map}
 use Rattle.ec_fx.specs.declared.formats.FxKind.{FxKind}
 use Rattle.ec_fx.specs.declared.numbers.Mode.{Mode}
@@ -16,7 +16,12 @@ use Rattle.ec_core.specs.declared.programs.Storage.{Storage}
 use Rattle.ec_core.specs.declared.programs.Storage.TheVariants.{Static, Local as LocalOf, Param, Register}
 use Rattle.ec_core.specs.declared.types.Member.{Member}
 use Rattle.ec_core.specs.declared.types.StructDef.{StructDef}
-use Rattle.ec_core.specs.Generated.{CType, Void, Int, Fx, Ptr, Array, Struct, Expr, PlaceExpr, Object, Deref, MemberOf, Node, Number, Null, Load, AddressOf, Unary, Binary, Convert, Assign, Compound, Step, Not, And, Or, Cond, Comma, Call, Io, Group, OptionExpr, NoExpr, AnExpr, ExprRow, LastExpr, NextExpr, Stmt, StmtKind, Empty, Do1, Block, Local, If, While, DoWhile, For, Break, Continue, Return, OptionStmt, NoStmt, AStmt, StmtRow, LastStmt, NextStmt}
+use Rattle.ec_core.specs.Generated.{CType, Void, Int, Fx, Ptr, Array, Struct, Expr, PlaceExpr, Object, Deref, MemberOf}
+use Rattle.ec_core.specs.Generated.{Node, Number, Null, Load, AddressOf, Unary, Binary, Convert, Assign, Compound, Step}
+use Rattle.ec_core.specs.Generated.{Not, And, Or, Cond, Comma, Call, Io, Group, OptionExpr, NoExpr, AnExpr, ExprRow}
+use Rattle.ec_core.specs.Generated.{LastExpr, NextExpr, Stmt, StmtKind, Empty, Do1, Block, Local, If, While, DoWhile}
+use Rattle.ec_core.specs.Generated.{For, Break, Continue, Return, OptionStmt, NoStmt, AStmt, StmtRow, LastStmt}
+use Rattle.ec_core.specs.Generated.{NextStmt}
 
 -- ---- types
 
@@ -96,16 +101,23 @@ abbrev mutual
   plain_node (Load p) = load (plain_place p)
   plain_node (AddressOf p) = address_of (plain_place p)
   plain_node (Unary op _ ty mode node) = unary op (expression (plain_type ty) mode (plain_node node))
-  plain_node (Binary op _ aty amode a _ bty bmode b) = binary op (expression (plain_type aty) amode (plain_node a)) (expression (plain_type bty) bmode (plain_node b))
+  plain_node (Binary op _ aty amode a _ bty bmode b) =
+      binary op (expression (plain_type aty) amode (plain_node a)) (expression (plain_type bty) bmode (plain_node b))
   plain_node (Convert _ ty mode node) = convert (expression (plain_type ty) mode (plain_node node))
   plain_node (Assign p _ ty mode node) = assign (plain_place p) (expression (plain_type ty) mode (plain_node node))
-  plain_node (Compound op own p _ ty mode node) = compound op own (plain_place p) (expression (plain_type ty) mode (plain_node node))
+  plain_node (Compound op operation_mode p _ ty mode node) =
+      compound op operation_mode (plain_place p) (expression (plain_type ty) mode (plain_node node))
   plain_node (Step up prefix p) = step up prefix (plain_place p)
   plain_node (Not _ ty mode node) = logical_not (expression (plain_type ty) mode (plain_node node))
-  plain_node (And _ aty amode a _ bty bmode b) = logical_and (expression (plain_type aty) amode (plain_node a)) (expression (plain_type bty) bmode (plain_node b))
-  plain_node (Or _ aty amode a _ bty bmode b) = logical_or (expression (plain_type aty) amode (plain_node a)) (expression (plain_type bty) bmode (plain_node b))
-  plain_node (Cond _ cty cmode c _ aty amode a _ bty bmode b) = conditional (expression (plain_type cty) cmode (plain_node c)) (expression (plain_type aty) amode (plain_node a)) (expression (plain_type bty) bmode (plain_node b))
-  plain_node (Comma _ aty amode a _ bty bmode b) = comma (expression (plain_type aty) amode (plain_node a)) (expression (plain_type bty) bmode (plain_node b))
+  plain_node (And _ aty amode a _ bty bmode b) =
+      logical_and (expression (plain_type aty) amode (plain_node a)) (expression (plain_type bty) bmode (plain_node b))
+  plain_node (Or _ aty amode a _ bty bmode b) =
+      logical_or (expression (plain_type aty) amode (plain_node a)) (expression (plain_type bty) bmode (plain_node b))
+  plain_node (Cond _ cty cmode c _ aty amode a _ bty bmode b) =
+      conditional (expression (plain_type cty) cmode (plain_node c)) (expression (plain_type aty) amode (plain_node a))
+      (expression (plain_type bty) bmode (plain_node b))
+  plain_node (Comma _ aty amode a _ bty bmode b) =
+      comma (expression (plain_type aty) amode (plain_node a)) (expression (plain_type bty) bmode (plain_node b))
   plain_node (Call f shape args) = call f (plain_expr_row args)
   plain_node (Io op port index value) = io op port (plain_option_expr index) (plain_option_expr value)
   plain_node (Group acquire g) = group acquire g
@@ -121,7 +133,8 @@ abbrev mutual
 
   pub plain_expr_row : {m : _} → ExprRow m → PlainExprs
   plain_expr_row LastExpr = last_expr
-  plain_expr_row (NextExpr ty mode node rest) = next_expr (expression (plain_type ty) mode (plain_node node)) (plain_expr_row rest)
+  plain_expr_row (NextExpr ty mode node rest) =
+      next_expr (expression (plain_type ty) mode (plain_node node)) (plain_expr_row rest)
 
 abbrev pub plain_expr : Expr → PlainExpr
 plain_expr e = expression (plain_type e.ty) e.mode (plain_node e.node)
@@ -166,7 +179,8 @@ abbrev mutual
   plain_kind (If c _ u at a b) = branch (plain_expr c) (statement u at (plain_kind a)) (plain_option_stmt b)
   plain_kind (While c _ u at s) = while_loop (plain_expr c) (statement u at (plain_kind s))
   plain_kind (DoWhile _ u at s c) = do_loop (statement u at (plain_kind s)) (plain_expr c)
-  plain_kind (For i c n _ u at s) = for_loop (plain_option_stmt i) (option_map plain_expr c) (option_map plain_expr n) (statement u at (plain_kind s))
+  plain_kind (For i c n _ u at s) =
+      for_loop (plain_option_stmt i) (option_map plain_expr c) (option_map plain_expr n) (statement u at (plain_kind s))
   plain_kind Break = break_loop
   plain_kind Continue = continue_loop
   plain_kind (Return e) = return_value (option_map plain_expr e)
@@ -230,7 +244,14 @@ pub record PlainFunction : Type 0 where
   pub body : PlainStmt
 
 abbrev pub plain_function : Func → PlainFunction
-plain_function f = record { name = f.name.items; unit = f.unit; returns = plain_type f.result; params = f.params.items; body = plain_stmt f.body }
+plain_function f =
+    record {
+      name = f.name.items;
+      unit = f.unit;
+      returns = plain_type f.result;
+      params = f.params.items;
+      body = plain_stmt f.body;
+    }
 
 pub record PlainProgram : Type 0 where
   pub structs : List PlainStruct
@@ -239,4 +260,10 @@ pub record PlainProgram : Type 0 where
   pub main : ℕ
 
 abbrev pub plain_program : Program → PlainProgram
-plain_program p = record { structs = map plain_struct p.structs.items; objects = map plain_object p.objs.items; functions = map plain_function p.funcs.items; main = p.main }
+plain_program p =
+    record {
+      structs = map plain_struct p.structs.items;
+      objects = map plain_object p.objs.items;
+      functions = map plain_function p.funcs.items;
+      main = p.main;
+    }

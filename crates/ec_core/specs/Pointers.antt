@@ -1,6 +1,8 @@
--- What operators and conversions do to pointers (ISO/IEC 9899:1999, 6.3.2.3, 6.5.6, 6.5.8 and 6.5.9; ISO/IEC TR 18037:2008, 5.1).
--- A pointer is null or an instance of an object with an offset. Beside it stands what is known of that instance.
-use Rattle.std.specs.Prelude.{ℕ, ◌==◌, Bool, true, false, not, ◌&&◌, if◌then◌else◌, ℤ, pos, ◌+ℤ◌, ◌-ℤ◌, ◌*ℤ◌, int_le, int_div, int_rem, unsigned_abs, Option, Some, None, Result, Ok, Err}
+-- What operators and conversions do to pointers (ISO/IEC 9899:1999, 6.3.2.3, 6.5.6, 6.5.8 and 6.5.9; ISO/IEC TR
+-- 18037:2008, 5.1). A pointer is null or an instance of an object with an offset. Beside it stands what is known of
+-- that instance.
+use Rattle.std.specs.Prelude.{ℕ, ◌==◌, Bool, true, false, not, ◌&&◌, if◌then◌else◌, ℤ, pos, ◌+ℤ◌, ◌-ℤ◌, ◌*ℤ◌, int_le}
+use Rattle.std.specs.Prelude.{int_div, int_rem, unsigned_abs, Option, Some, None, Result, Ok, Err}
 use Rattle.std.specs.Ordering.{int_eq, nat_cmp}
 use Rattle.ec_space.specs.declared.space.SpaceId.{SpaceId}
 use Rattle.ec_space.specs.Spaces.{holds}
@@ -28,7 +30,9 @@ used usable r = if usable then r else Err PointerUse
 -- the pointer at another offset, which is from 0 to the object's size
 abbrev pub displaced : ObjectPointer → ℕ → ℤ → Result Pointer Undefined
 displaced p size at =
-    if int_le (pos 0) at && int_le at (pos size) then Ok (Some (record { object = p.object; instance = p.instance; offset = unsigned_abs at })) else Err PointerRange
+    if int_le (pos 0) at && int_le at (pos size)
+    then Ok (Some (record { object = p.object; instance = p.instance; offset = unsigned_abs at }))
+    else Err PointerRange
 
 -- so many bytes further
 abbrev pub moved : Pointer → Referent → ℤ → Result Pointer Undefined
@@ -47,7 +51,8 @@ abbrev pub in_elements : ℕ → ℤ → Result ℤ Undefined
 in_elements element n = if int_eq (int_rem n (pos element)) (pos 0) then Ok (int_div n (pos element)) else Err Unrelated
 
 abbrev pub elements_between : ℕ → Pointer → Pointer → Result ℤ Undefined
-elements_between element (Some p) (Some q) = if same_instance p q then in_elements element (pos p.offset -ℤ pos q.offset) else Err Unrelated
+elements_between element (Some p) (Some q) =
+    if same_instance p q then in_elements element (pos p.offset -ℤ pos q.offset) else Err Unrelated
 elements_between element (Some p) None = Err Unrelated
 elements_between element None q = Err Unrelated
 
@@ -66,7 +71,8 @@ ordered op None q = Err Unrelated
 abbrev pub is_at_end : ObjectPointer → Referent → Bool
 is_at_end p of = p.offset == of.size
 
--- pointers into different objects are unequal, and their comparison is undefined where exactly one of them stands at its object's end
+-- pointers into different objects are unequal, and their comparison is undefined where exactly one of them stands at
+-- its object's end
 abbrev pub apart : Bool → Bool → Result Bool Undefined
 apart true true = Ok false
 apart true false = Err PointerUse
@@ -77,15 +83,16 @@ abbrev pub equality : Pointer → Referent → Pointer → Referent → Result B
 equality None of None into = Ok true
 equality None of (Some q) into = Ok false
 equality (Some p) of None into = Ok false
-equality (Some p) of (Some q) into = if same_instance p q then Ok (p.offset == q.offset) else apart (is_at_end p of) (is_at_end q into)
+equality (Some p) of (Some q) into =
+    if same_instance p q then Ok (p.offset == q.offset) else apart (is_at_end p of) (is_at_end q into)
 
-abbrev pub truth_of : (Bool → Bool) → Result Bool Undefined → Result ℤ Undefined
-truth_of f (Ok b) = Ok (truth (f b))
-truth_of f (Err e) = Err e
+abbrev pub as_truth : (Bool → Bool) → Result Bool Undefined → Result ℤ Undefined
+as_truth f (Ok b) = Ok (truth (f b))
+as_truth f (Err e) = Err e
 
 abbrev pub compared_pointers : BinOp → Pointer → Referent → Pointer → Referent → Result ℤ Undefined
-compared_pointers Eq p of q into = truth_of (λ b. b) (equality p of q into)
-compared_pointers Ne p of q into = truth_of not (equality p of q into)
+compared_pointers Eq p of q into = as_truth (λ b. b) (equality p of q into)
+compared_pointers Ne p of q into = as_truth not (equality p of q into)
 compared_pointers op p of q into = ordered op p q
 
 -- the value of a comparison
@@ -99,7 +106,8 @@ truth_of_pointer (Some p) of = used of.live (Ok true)
 
 -- ---- conversions
 
--- a pointer into a space: it keeps its object and offset, and the space has the bank that the object is kept in. Null stays null
+-- a pointer into a space: it keeps its object and offset, and the space has the bank that the object is kept in. Null
+-- stays null
 abbrev pub pointer_in_space : SpaceId → Pointer → Referent → Result Pointer Undefined
 pointer_in_space space None of = Ok None
 pointer_in_space space (Some p) of = used of.live (if holds space of.home then Ok (Some p) else Err Narrowing)

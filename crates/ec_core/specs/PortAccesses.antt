@@ -1,7 +1,9 @@
 -- Operations on ports and groups of ports (ISO/IEC TR 18037:2008, 6; the orders of their effects are our own profile).
-use Rattle.std.specs.Prelude.{ℕ, zero, suc, ◌+◌, ◌*◌, ◌/◌, ◌%◌, nat_lt, Bool, true, false, pos, unsigned_abs, List, [], ◌∷◌, Option, Some, None, slice_get, slice_index, bit_and, bit_or, bit_xor, unwrap_or}
+use Rattle.std.specs.Prelude.{ℕ, zero, suc, ◌+◌, ◌*◌, ◌/◌, ◌%◌, nat_lt, Bool, true, false, pos, unsigned_abs, List, []}
+use Rattle.std.specs.Prelude.{◌∷◌, Option, Some, None, slice_get, slice_index, bit_and, bit_or, bit_xor, unwrap_or}
 use Rattle.ec_iohw.specs.declared.operations.IoOp.{IoOp}
-use Rattle.ec_iohw.specs.declared.operations.IoOp.TheVariants.{Or, OrLong, OrBuffer, OrBufferLong, And, AndLong, AndBuffer, AndBufferLong}
+use Rattle.ec_iohw.specs.declared.operations.IoOp.TheVariants.{Or, OrLong, OrBuffer, OrBufferLong, And, AndLong}
+use Rattle.ec_iohw.specs.declared.operations.IoOp.TheVariants.{AndBuffer, AndBufferLong}
 use Rattle.ec_iohw.specs.declared.table.Pair.{Pair}
 use Rattle.ec_core.specs.declared.values.Undefined.TheVariants.{Invalid, ClosedPort, BufferIndex}
 use Rattle.ec_core.specs.declared.values.Value.{Value}
@@ -19,14 +21,16 @@ next_byte inputs port s = slice_index (inputs port) (reads_of port s.events)
 abbrev pub byte_read : Inputs → ℕ → State → State
 byte_read inputs port s = with_event (In port (next_byte inputs port s)) s
 
--- so many bytes are read from an address on, the lowest address first, and the number that they make, its lowest byte first
+-- so many bytes are read from an address on, the lowest address first, and the number that they make, its lowest byte
+-- first
 abbrev pub bytes_read : Inputs → ℕ → ℕ → State → State
 bytes_read inputs zero port s = s
 bytes_read inputs (suc n) port s = bytes_read inputs n (port + 1) (byte_read inputs port s)
 
 abbrev pub number_read : Inputs → ℕ → ℕ → State → ℕ
 number_read inputs zero port s = 0
-number_read inputs (suc n) port s = next_byte inputs port s + 256 * number_read inputs n (port + 1) (byte_read inputs port s)
+number_read inputs (suc n) port s =
+    next_byte inputs port s + 256 * number_read inputs n (port + 1) (byte_read inputs port s)
 
 -- the lowest bytes of a number are written from an address on, the highest address first
 abbrev pub bytes_written : ℕ → ℕ → ℕ → State → State
@@ -58,9 +62,12 @@ unsigned (Pointer p) = 0
 
 -- an operation on the bytes of a port of some width from an address on
 abbrev pub port_accessed : Inputs → PortAction → IoOp → ℕ → ℕ → ℕ → State → Outcome Value
-port_accessed inputs reads op width port v s = got (Number (pos (number_read inputs width port s))) (bytes_read inputs width port s)
+port_accessed inputs reads op width port v s =
+    got (Number (pos (number_read inputs width port s))) (bytes_read inputs width port s)
 port_accessed inputs writes op width port v s = got no_value (bytes_written width port v s)
-port_accessed inputs updates op width port v s = got no_value (bytes_written width port (updated op (number_read inputs width port s) v) (bytes_read inputs width port s))
+port_accessed inputs updates op width port v s =
+    got no_value (bytes_written width port (updated op (number_read inputs width port s) v)
+    (bytes_read inputs width port s))
 
 -- a port without a group is open, and one of a group from its acquire to its release
 abbrev pub is_open : Option ℕ → State → Bool
@@ -68,7 +75,8 @@ is_open None s = true
 is_open (Some g) s = unwrap_or (slice_get s.acquired g) false
 
 abbrev pub within : Inputs → Bool → IoOp → PlainPort → ℕ → ℕ → State → Outcome Value
-within inputs true op port i v s = port_accessed inputs (port_operation op).action op port.width (port.address + i * port.width) v s
+within inputs true op port i v s =
+    port_accessed inputs (port_operation op).action op port.width (port.address + i * port.width) v s
 within inputs false op port i v s = undefined BufferIndex s
 
 abbrev pub opened : Inputs → Bool → IoOp → PlainPort → ℕ → ℕ → State → Outcome Value

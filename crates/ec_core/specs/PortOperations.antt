@@ -1,7 +1,10 @@
 -- The operands of the operations on ports (ISO/IEC TR 18037:2008, 6.2).
 use Rattle.std.specs.Prelude.{Bool, true, false, not}
 use Rattle.ec_iohw.specs.declared.operations.IoOp.{IoOp}
-use Rattle.ec_iohw.specs.declared.operations.IoOp.TheVariants.{Read, ReadLong, ReadBuffer, ReadBufferLong, Write, WriteLong, WriteBuffer, WriteBufferLong, Or, OrLong, OrBuffer, OrBufferLong, And, AndLong, AndBuffer, AndBufferLong, Xor, XorLong, XorBuffer, XorBufferLong}
+use Rattle.ec_iohw.specs.declared.operations.IoOp.TheVariants.{Read, ReadLong, ReadBuffer, ReadBufferLong, Write}
+use Rattle.ec_iohw.specs.declared.operations.IoOp.TheVariants.{WriteLong, WriteBuffer, WriteBufferLong, Or, OrLong}
+use Rattle.ec_iohw.specs.declared.operations.IoOp.TheVariants.{OrBuffer, OrBufferLong, And, AndLong, AndBuffer}
+use Rattle.ec_iohw.specs.declared.operations.IoOp.TheVariants.{AndBufferLong, Xor, XorLong, XorBuffer, XorBufferLong}
 
 -- what an operation does with the bytes of its port
 pub data PortAction : Type 0 where

@@ -1,4 +1,5 @@
--- The table of ports as plain records: without names, which say nothing about a run, and without the spare room of lists.
+-- The table of ports as plain records: without names, which say nothing about a run, and without the spare room of
+-- lists.
 use Rattle.std.specs.Prelude.{ℕ, List, map, Option}
 use Rattle.ec_iohw.specs.declared.table.IoTable.{IoTable}
 use Rattle.ec_iohw.specs.declared.table.Pair.{Pair}

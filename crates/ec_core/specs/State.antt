@@ -1,5 +1,6 @@
 -- What a run has at each moment, and what comes of a part of it.
-use Rattle.std.specs.Prelude.{ℕ, zero, suc, ◌+◌, ◌==◌, if◌then◌else◌, Bool, true, false, List, [], ◌∷◌, ◌++◌, Option, Some, None, Result, Ok, Err}
+use Rattle.std.specs.Prelude.{ℕ, zero, suc, ◌+◌, ◌==◌, if◌then◌else◌, Bool, true, false, List, [], ◌∷◌, ◌++◌, Option}
+use Rattle.std.specs.Prelude.{Some, None, Result, Ok, Err}
 use Rattle.ec_space.specs.declared.space.SpaceId.{SpaceId}
 use Rattle.ec_core.specs.declared.programs.LeafInit.{LeafInit}
 use Rattle.ec_core.specs.declared.programs.LeafInit.TheVariants.{Number as TheNumber, Null as TheNull, Address}
@@ -19,10 +20,11 @@ pub record Setting : Type 0 where
   pub table : PlainTable
   pub inputs : Inputs
 
--- ---- events (ISO/IEC 9899:1999, 5.1.2.3: what a run does that can be observed; that each access of an object is one is our own profile)
+-- ---- events (ISO/IEC 9899:1999, 5.1.2.3: what a run does that can be observed; that each access of an object is one
+-- is our own profile)
 
--- A byte read from or written to a port, and a leaf of an object that is read or written. An access tells the object and
--- its leaf by their numbers, the space of the place, and the value
+-- A byte read from or written to a port, and a leaf of an object that is read or written. An access tells the object
+-- and its leaf by their numbers, the space of the place, and the value
 pub data Event : Type 0 where
   In : (port byte : ℕ) → Event
   Out : (port byte : ℕ) → Event
@@ -45,14 +47,15 @@ reads_of port (Write object leaf space value ∷ events) = reads_of port events
 
 -- ---- states
 
--- An object (ISO/IEC 9899:1999, 6.2.4): the serial number of its newest instance, whether that one lives, and its leaves,
--- each unset or a value. A pointer is into one instance
+-- An object (ISO/IEC 9899:1999, 6.2.4): the serial number of its newest instance, whether that one lives, and its
+-- leaves, each unset or a value. A pointer is into one instance
 pub record ObjectState : Type 0 where
   pub serial : ℕ
   pub live : Bool
   pub leaves : List (Option Value)
 
--- the objects in the program's order, which groups of ports are acquired, the events so far, and the work so far in words
+-- the objects in the program's order, which groups of ports are acquired, the events so far, and the work so far in
+-- words
 pub record State : Type 0 where
   pub objects : List ObjectState
   pub acquired : List Bool
@@ -73,15 +76,22 @@ changed_at zero f (x ∷ xs) = f x ∷ xs
 changed_at (suc n) f (x ∷ xs) = x ∷ changed_at n f xs
 
 abbrev pub with_object : ℕ → (ObjectState → ObjectState) → State → State
-with_object o f s = record { objects = changed_at o f s.objects; acquired = s.acquired; events = s.events; work = s.work }
+with_object o f s =
+    record { objects = changed_at o f s.objects; acquired = s.acquired; events = s.events; work = s.work }
 
 abbrev pub with_group : ℕ → Bool → State → State
-with_group g acquired s = record { objects = s.objects; acquired = changed_at g (λ was. acquired) s.acquired; events = s.events; work = s.work }
+with_group g acquired s =
+    record {
+      objects = s.objects;
+      acquired = changed_at g (λ was. acquired) s.acquired;
+      events = s.events;
+      work = s.work;
+    }
 
 -- ---- outcomes
 
--- A value and the state then, or that a loop is out of turns and the state there, or the undefined point that was met first
--- and the state there (ISO/IEC 9899:1999, 3.4.3)
+-- A value and the state then, or that a loop is out of turns and the state there, or the undefined point that was met
+-- first and the state there (ISO/IEC 9899:1999, 3.4.3)
 pub data Outcome (A : Type 0) : Type 0 where
   got : A → State → Outcome A
   more : State → Outcome A

@@ -1,11 +1,15 @@
 -- What a statement does (ISO/IEC 9899:1999, 6.8). Each execution of a loop has at most n turns.
-use Rattle.std.specs.Prelude.{ℕ, zero, suc, ◌+◌, ◌==◌, Bool, true, false, pos, List, [], ◌∷◌, Option, Some, None, slice_get}
+use Rattle.std.specs.Prelude.{ℕ, zero, suc, ◌+◌, ◌==◌, Bool, true, false, pos, List, [], ◌∷◌, Option, Some, None}
+use Rattle.std.specs.Prelude.{slice_get}
 use Rattle.ec_core.specs.declared.values.Undefined.TheVariants.{Invalid, NoResult}
 use Rattle.ec_core.specs.declared.values.Value.{Value}
 use Rattle.ec_core.specs.declared.values.Value.TheVariants.{Number}
 use Rattle.ec_core.specs.Accesses.{begun, all_ended, frame_ended, initialised}
 use Rattle.ec_core.specs.Expressions.{Calls, condition, value_of}
-use Rattle.ec_core.specs.Plain.{PlainType, void, PlainExpr, PlainExprs, last_expr, next_expr, PlainStmt, statement, PlainKind, empty, evaluate, block, declare, branch, while_loop, do_loop, for_loop, break_loop, continue_loop, return_value, OptionPlainStmt, no_stmt, a_stmt, PlainStmts, last_stmt, next_stmt, PlainFunction}
+use Rattle.ec_core.specs.Plain.{PlainType, void, PlainExpr, PlainExprs, last_expr, next_expr, PlainStmt, statement}
+use Rattle.ec_core.specs.Plain.{PlainKind, empty, evaluate, block, declare, branch, while_loop, do_loop, for_loop}
+use Rattle.ec_core.specs.Plain.{break_loop, continue_loop, return_value, OptionPlainStmt, no_stmt, a_stmt, PlainStmts}
+use Rattle.ec_core.specs.Plain.{last_stmt, next_stmt, PlainFunction}
 use Rattle.ec_core.specs.PortAccesses.{no_value}
 use Rattle.ec_core.specs.State.{Setting, State, worked, Outcome, got, more, undefined, next, choose}
 use Rattle.ec_core.specs.Words.{function_words, branch_words, loop_words, jump_words, return_of, leaf_words}
@@ -35,11 +39,12 @@ again (by_return v) s go = got (by_return v) s
 abbrev pub tested : Outcome Bool → (State → Outcome Exit) → Outcome Exit
 tested o go = next o (λ h s. choose h go (λ s1. got at_end (worked loop_words s1)) s)
 
--- At most n turns of a loop: the body, then the test whether there is another turn. Where one more would begin, the loop is
--- out of turns
+-- At most n turns of a loop: the body, then the test whether there is another turn. Where one more would begin, the
+-- loop is out of turns
 abbrev pub turns : ℕ → (State → Outcome Exit) → (State → Outcome Bool) → State → Outcome Exit
 turns zero body test s = more s
-turns (suc n) body test s = next (body (worked loop_words s)) (λ x s1. again x s1 (λ s2. tested (test s2) (λ s3. turns n body test s3)))
+turns (suc n) body test s =
+    next (body (worked loop_words s)) (λ x s1. again x s1 (λ s2. tested (test s2) (λ s3. turns n body test s3)))
 
 -- the objects that are declared directly in a block, which live to its end (6.2.4)
 abbrev pub declared : PlainStmts → List ℕ
@@ -80,7 +85,9 @@ module _ (w : Setting) (calls : Calls) where
   -- the leaves of an object from number k on get the values of these expressions, one after the other (6.7.8)
   abbrev pub initialising : ℕ → ℕ → PlainExprs → State → Outcome Exit
   initialising o k last_expr s = got at_end s
-  initialising o k (next_expr e es) s = next (value_of w calls e (worked (leaf_words e) s)) (λ x s1. next (initialised w.program o k x s1) (λ y s2. initialising o (k + 1) es s2))
+  initialising o k (next_expr e es) s =
+      next (value_of w calls e (worked (leaf_words e) s))
+      (λ x s1. next (initialised w.program o k x s1) (λ y s2. initialising o (k + 1) es s2))
 
 module _ (w : Setting) (calls : Calls) (n : ℕ) where
   abbrev mutual
@@ -93,8 +100,12 @@ module _ (w : Setting) (calls : Calls) (n : ℕ) where
     kind_effect (block ss) s = ending (declared ss) (effects_of ss s)
     -- each time that the declaration is reached there is a new instance (6.2.4)
     kind_effect (declare o values) s = initialising w calls o 0 values (begun w.program o s)
-    kind_effect (branch c a b) s = next (test_of w calls (Some c) (worked branch_words s)) (λ h s1. choose h (λ s2. effect_of a s2) (λ s2. option_effect b s2) s1)
-    kind_effect (while_loop c body) s = tested (test_of w calls (Some c) s) (λ s1. turns n (λ s2. effect_of body s2) (λ s2. test_of w calls (Some c) s2) s1)
+    kind_effect (branch c a b) s =
+        next (test_of w calls (Some c) (worked branch_words s))
+        (λ h s1. choose h (λ s2. effect_of a s2) (λ s2. option_effect b s2) s1)
+    kind_effect (while_loop c body) s =
+        tested (test_of w calls (Some c) s)
+        (λ s1. turns n (λ s2. effect_of body s2) (λ s2. test_of w calls (Some c) s2) s1)
     kind_effect (do_loop body c) s = turns n (λ s1. effect_of body s1) (λ s1. test_of w calls (Some c) s1) s
     kind_effect (for_loop first c last body) s =
         ending (declared_first first) (next (first_effect first s) (λ x s1. in_order x s1 (λ s2.
@@ -123,9 +134,11 @@ module _ (w : Setting) (calls : Calls) (n : ℕ) where
 abbrev pub parameters_written : Setting → List ℕ → List Value → State → Outcome Value
 parameters_written w [] xs s = got no_value s
 parameters_written w (o ∷ os) [] s = undefined Invalid s
-parameters_written w (o ∷ os) (x ∷ xs) s = next (initialised w.program o 0 x (begun w.program o s)) (λ y s1. parameters_written w os xs s1)
+parameters_written w (o ∷ os) (x ∷ xs) s =
+    next (initialised w.program o 0 x (begun w.program o s)) (λ y s1. parameters_written w os xs s1)
 
--- what a function without a return statement at its end gives: nothing where it has no result, 0 where it is main (5.1.2.2.3)
+-- what a function without a return statement at its end gives: nothing where it has no result, 0 where it is main
+-- (5.1.2.2.3)
 abbrev pub unreturned : PlainType → Bool → State → Outcome Value
 unreturned void main s = got no_value s
 unreturned ty true s = got (Number (pos 0)) s
@@ -139,7 +152,9 @@ call_result ty main exit s = unreturned ty main s
 abbrev pub call_of : Setting → Calls → ℕ → ℕ → Option PlainFunction → List Value → State → Outcome Value
 call_of w calls n f None xs s = undefined Invalid s
 call_of w calls n f (Some g) xs s =
-    next (parameters_written w g.params xs (worked function_words s)) (λ y s1. next (effect_of w calls n g.body s1) (λ x s2. call_result g.returns (f == w.program.main) x (frame_ended w.program f s2)))
+    next (parameters_written w g.params xs (worked function_words s))
+    (λ y s1. next (effect_of w calls n g.body s1)
+    (λ x s2. call_result g.returns (f == w.program.main) x (frame_ended w.program f s2)))
 
 -- calls that nest at most so deep; a program without recursion nests no deeper than it has functions
 abbrev pub calls_within : Setting → ℕ → ℕ → Calls

@@ -12,9 +12,12 @@ pub record AreOperationTypes (op : BinOp) (types : OperationTypes) : Type 0 wher
   pub left : IsKnownType types.left
   pub right : IsKnownType types.right
   pub result : IsKnownType types.result
-  pub suited : (m n : ℤ) → HoldsNumber types.left m → HoldsNumber types.right n → Suits op types.result (operand types.left m) (operand types.right n)
+  pub suited : (m n : ℤ) → HoldsNumber types.left m → HoldsNumber types.right n
+      → Suits op types.result (operand types.left m) (operand types.right n)
 
 pub record OperandsSuit : Type 0 where
   pub unary : (op : UnOp) (ty : Arithmetic) → HaveUnaryTypes op ty → SuitsUnary op ty
-  pub binary : (op : BinOp) (ty x y : Arithmetic) (m n : ℤ) → HaveArithmeticTypes op ty x y → HoldsNumber x m → HoldsNumber y n → Suits op ty (operand x m) (operand y n)
-  pub compound : (op : BinOp) (x y : Arithmetic) → HaveCompoundArithmetic op x y → IsKnownType x → IsKnownType y → AreOperationTypes op (operation_types op x y)
+  pub binary : (op : BinOp) (ty x y : Arithmetic) (m n : ℤ) → HaveArithmeticTypes op ty x y → HoldsNumber x m
+      → HoldsNumber y n → Suits op ty (operand x m) (operand y n)
+  pub compound : (op : BinOp) (x y : Arithmetic) → HaveCompoundArithmetic op x y → IsKnownType x → IsKnownType y
+      → AreOperationTypes op (operation_types op x y)

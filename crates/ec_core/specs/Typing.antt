@@ -1,6 +1,7 @@
--- The types of the nodes of an expression (ISO/IEC 9899:1999, 6.5; ISO/IEC TR 18037:2008, 4.1.4 and 5.1.3). Conversions are
--- nodes of their own, so each rule says which types the operands have by then.
-use Rattle.std.specs.Prelude.{◌≡◌, ◌⊎◌, ℕ, ◌<◌, Bool, true, false, if◌then◌else◌, ⊤, IsTrue, IsSomeAnd, List, [], ◌∷◌, length, Option, Some, None, option_map, option_and_then, unwrap_or, slice_get, ◌≤◌}
+-- The types of the nodes of an expression (ISO/IEC 9899:1999, 6.5; ISO/IEC TR 18037:2008, 4.1.4 and 5.1.3). Conversions
+-- are nodes of their own, so each rule says which types the operands have by then.
+use Rattle.std.specs.Prelude.{◌≡◌, ◌⊎◌, ℕ, ◌<◌, Bool, true, false, if◌then◌else◌, ⊤, IsTrue, IsSomeAnd, List, [], ◌∷◌}
+use Rattle.std.specs.Prelude.{length, Option, Some, None, option_map, option_and_then, unwrap_or, slice_get, ◌≤◌}
 use Rattle.ec_fx.specs.Formats.{format_of}
 use Rattle.ec_iohw.specs.declared.table.IoTable.{IoTable}
 use Rattle.ec_space.specs.declared.space.SpaceId.{SpaceId}
@@ -8,13 +9,18 @@ use Rattle.ec_space.specs.Spaces.{encloses}
 use Rattle.ec_core.specs.declared.arithmetic_types.Arithmetic.{Arithmetic}
 use Rattle.ec_core.specs.declared.arithmetic_types.Arithmetic.TheVariants.{Integer, Fixed}
 use Rattle.ec_core.specs.declared.expressions.BinOp.{BinOp}
-use Rattle.ec_core.specs.declared.expressions.BinOp.TheVariants.{Add, Sub, Mul, Div, Rem, Shl, Shr, And, Or, Xor, Lt, Gt, Le, Ge, Eq, Ne}
+use Rattle.ec_core.specs.declared.expressions.BinOp.TheVariants.{Add, Sub, Mul, Div, Rem, Shl, Shr, And, Or, Xor, Lt}
+use Rattle.ec_core.specs.declared.expressions.BinOp.TheVariants.{Gt, Le, Ge, Eq, Ne}
 use Rattle.ec_core.specs.declared.expressions.UnOp.{UnOp}
 use Rattle.ec_core.specs.declared.expressions.UnOp.TheVariants.{Minus, Invert}
 use Rattle.ec_core.specs.ArithmeticTypes.{arithmetic_of, type_of, promoted, common}
 use Rattle.ec_core.specs.ArithmeticValues.{HoldsNumber}
 use Rattle.ec_core.specs.Layout.{IsScalar}
-use Rattle.ec_core.specs.Plain.{PlainType, void, integer, fixed, pointer, array, struct, PlainStruct, PlainObject, PlainExpr, expression, PlainNode, number, null, load, address_of, unary, binary, convert, assign, compound, step, logical_not, logical_and, logical_or, conditional, comma, call, io, group, PlainPlace, object, deref, member, OptionPlainExpr, no_expr, an_expr, PlainExprs, last_expr, next_expr, PlainProgram}
+use Rattle.ec_core.specs.Plain.{PlainType, void, integer, fixed, pointer, array, struct, PlainStruct, PlainObject}
+use Rattle.ec_core.specs.Plain.{PlainExpr, expression, PlainNode, number, null, load, address_of, unary, binary}
+use Rattle.ec_core.specs.Plain.{convert, assign, compound, step, logical_not, logical_and, logical_or, conditional}
+use Rattle.ec_core.specs.Plain.{comma, call, io, group, PlainPlace, object, deref, member, OptionPlainExpr, no_expr}
+use Rattle.ec_core.specs.Plain.{an_expr, PlainExprs, last_expr, next_expr, PlainProgram}
 use Rattle.ec_core.specs.PortOperations.{PortAction, reads, writes, updates, PortOperation, port_operation, takes_value}
 
 -- ---- types by name
@@ -113,7 +119,8 @@ HaveArithmeticTypes Ge = HaveComparedTypes
 HaveArithmeticTypes Eq = HaveComparedTypes
 HaveArithmeticTypes Ne = HaveComparedTypes
 
--- two pointers that are subtracted or compared are into one space and to one type; const does not count. The result is an int
+-- two pointers that are subtracted or compared are into one space and to one type; const does not count. The result is
+-- an int
 abbrev pub HavePointerTypes : BinOp → Type 0 → Type 0
 HavePointerTypes Sub same = same
 HavePointerTypes Lt same = same
@@ -139,7 +146,9 @@ abbrev pub HaveBinaryTypes : BinOp → PlainType → PlainType → PlainType →
 HaveBinaryTypes op ty (pointer s k t) (pointer r c u) = HavePointerTypes op ((s ≡ r) × (t ≡ u) × (ty ≡ int))
 HaveBinaryTypes op ty (pointer s k t) b = HaveOffsetTypes op b × (ty ≡ pointer s k t)
 HaveBinaryTypes op ty a (pointer s k t) = IsAdd op × IsIntegerType a × (ty ≡ pointer s k t)
-HaveBinaryTypes op ty a b = IsSomeAnd (arithmetic_of ty) (λ t. IsSomeAnd (arithmetic_of a) (λ x. IsSomeAnd (arithmetic_of b) (λ y. HaveArithmeticTypes op t x y)))
+HaveBinaryTypes op ty a b =
+    IsSomeAnd (arithmetic_of ty) (λ t.
+    IsSomeAnd (arithmetic_of a) (λ x. IsSomeAnd (arithmetic_of b) (λ y. HaveArithmeticTypes op t x y)))
 
 -- ---- compound assignments, whose operands are not converted
 
@@ -158,7 +167,8 @@ HaveCompoundArithmetic op x y = ⊥
 
 abbrev pub HaveCompoundTypes : BinOp → PlainType → PlainType → Type 0
 HaveCompoundTypes op (pointer s k t) b = HaveOffsetTypes op b
-HaveCompoundTypes op a b = IsSomeAnd (arithmetic_of a) (λ x. IsSomeAnd (arithmetic_of b) (λ y. HaveCompoundArithmetic op x y))
+HaveCompoundTypes op a b =
+    IsSomeAnd (arithmetic_of a) (λ x. IsSomeAnd (arithmetic_of b) (λ y. HaveCompoundArithmetic op x y))
 
 -- ---- unary operators and conversions
 
@@ -187,14 +197,17 @@ points_to_const ty = false
 
 -- the type of the member with a number of a type, which is that of a struct
 abbrev pub type_of_member : List PlainStruct → PlainType → ℕ → Option PlainType
-type_of_member structs (struct index) i = option_and_then (λ s. option_map (λ m. m.ty) (slice_get s.members i)) (slice_get structs index)
+type_of_member structs (struct index) i =
+    option_and_then (λ s. option_map (λ m. m.ty) (slice_get s.members i)) (slice_get structs index)
 type_of_member structs ty i = None
 
--- the type of a place, the space that it is in by its type, and whether it is const, beside the structs and objects that are declared
+-- the type of a place, the space that it is in by its type, and whether it is const, beside the structs and objects
+-- that are declared
 abbrev pub type_of_place : List PlainStruct → List PlainObject → PlainPlace → Option PlainType
 type_of_place structs objects (object o) = option_map (λ x. x.ty) (slice_get objects o)
 type_of_place structs objects (deref e) = pointee (type_of_expr e)
-type_of_place structs objects (member q i) = option_and_then (λ ty. type_of_member structs ty i) (type_of_place structs objects q)
+type_of_place structs objects (member q i) =
+    option_and_then (λ ty. type_of_member structs ty i) (type_of_place structs objects q)
 
 abbrev pub space_of_place : List PlainObject → PlainPlace → Option SpaceId
 space_of_place objects (object o) = option_map (λ x. x.space) (slice_get objects o)
@@ -228,7 +241,9 @@ IsElementOf element ty = ⊥
 
 -- the type of a pointer to a place, and of a pointer to the first element of an array
 abbrev pub IsAddressType : PlainProgram → PlainType → PlainPlace → Type 0
-IsAddressType p (pointer s k t) place = (place_space p place ≡ Some s) × (place_is_const p place ≡ k) × IsSomeAnd (place_type p place) (λ ty. (ty ≡ t) ⊎ IsElementOf t ty)
+IsAddressType p (pointer s k t) place =
+    (place_space p place ≡ Some s) × (place_is_const p place ≡ k)
+    × IsSomeAnd (place_type p place) (λ ty. (ty ≡ t) ⊎ IsElementOf t ty)
 IsAddressType p ty place = ⊥
 
 -- the type of `?:`: the usual conversions of its second and third operands leave no type of one byte
@@ -258,7 +273,8 @@ port_result writes ty = void
 port_result updates ty = void
 
 -- a port of width 4 is named by the long operations only
-pub record IsPortOperation (table : IoTable) (ty : PlainType) (op : PortOperation) (n : ℕ) (i v : OptionPlainExpr) : Type 0 where
+pub record IsPortOperation (table : IoTable) (ty : PlainType) (op : PortOperation) (n : ℕ)
+    (i v : OptionPlainExpr) : Type 0 where
   pub port : IsSomeAnd (slice_get table.ports.items n) (λ p. (p.width ≡ 4) → IsTrue op.long)
   pub index : IsOperandIf op.indexed unsigned_int i
   pub value : IsOperandIf (takes_value op) (port_value op) v
@@ -271,7 +287,8 @@ abbrev pub AreArguments : PlainProgram → List ℕ → PlainExprs → Type 0
 AreArguments p [] last_expr = ⊤
 AreArguments p [] (next_expr e es) = ⊥
 AreArguments p (o ∷ os) last_expr = ⊥
-AreArguments p (o ∷ os) (next_expr e es) = (option_map (λ x. x.ty) (slice_get p.objects o) ≡ Some (type_of_expr e)) × AreArguments p os es
+AreArguments p (o ∷ os) (next_expr e es) =
+    (option_map (λ x. x.ty) (slice_get p.objects o) ≡ Some (type_of_expr e)) × AreArguments p os es
 
 -- ---- nodes
 
@@ -290,8 +307,10 @@ IsTyped p table ty (step up prefix place) = IsScalarPlace p ty place
 IsTyped p table ty (logical_not e) = IsScalar (type_of_expr e) × (ty ≡ int)
 IsTyped p table ty (logical_and a b) = IsScalar (type_of_expr a) × IsScalar (type_of_expr b) × (ty ≡ int)
 IsTyped p table ty (logical_or a b) = IsScalar (type_of_expr a) × IsScalar (type_of_expr b) × (ty ≡ int)
-IsTyped p table ty (conditional c a b) = IsScalar (type_of_expr c) × IsBranchType ty × (type_of_expr a ≡ ty) × (type_of_expr b ≡ ty)
+IsTyped p table ty (conditional c a b) =
+    IsScalar (type_of_expr c) × IsBranchType ty × (type_of_expr a ≡ ty) × (type_of_expr b ≡ ty)
 IsTyped p table ty (comma a b) = IsScalar (type_of_expr a) × IsScalar (type_of_expr b) × (type_of_expr b ≡ ty)
-IsTyped p table ty (call f args) = IsSomeAnd (slice_get p.functions f) (λ g. (ty ≡ g.returns) × AreArguments p g.params args)
+IsTyped p table ty (call f args) =
+    IsSomeAnd (slice_get p.functions f) (λ g. (ty ≡ g.returns) × AreArguments p g.params args)
 IsTyped p table ty (io op port index value) = IsPortOperation table ty (port_operation op) port index value
 IsTyped p table ty (group acquire g) = (g < length table.groups.items) × (ty ≡ void)

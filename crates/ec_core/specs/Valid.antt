@@ -1,5 +1,7 @@
--- Programs that keep the rules of the language, as a front end leaves them (ISO/IEC 9899:1999, 6.5 to 6.9; the limits are this project's profile).
-use Rattle.std.specs.Prelude.{◌≡◌, ◌≢◌, ◌⊎◌, ℕ, ◌+◌, ◌<◌, ◌≤◌, Bool, true, false, ⊤, IsTrue, IsSomeAnd, List, [], ◌∷◌, length, AllPairs, Contains, Option, Some, None, slice_get}
+-- Programs that keep the rules of the language, as a front end leaves them (ISO/IEC 9899:1999, 6.5 to 6.9; the limits
+-- are this project's profile).
+use Rattle.std.specs.Prelude.{◌≡◌, ◌≢◌, ◌⊎◌, ℕ, ◌+◌, ◌<◌, ◌≤◌, Bool, true, false, ⊤, IsTrue, IsSomeAnd, List, [], ◌∷◌}
+use Rattle.std.specs.Prelude.{length, AllPairs, Contains, Option, Some, None, slice_get}
 use Rattle.std.specs.List.{AllByRecursion}
 use Rattle.ec_iohw.specs.declared.table.IoTable.{IoTable}
 use Rattle.ec_iohw.specs.Valid.{ValidIo}
@@ -9,9 +11,17 @@ use Rattle.ec_core.specs.declared.programs.LeafInit.{LeafInit}
 use Rattle.ec_core.specs.declared.programs.LeafInit.TheVariants.{Number, Null, Address}
 use Rattle.ec_core.specs.ArithmeticTypes.{arithmetic_of}
 use Rattle.ec_core.specs.ArithmeticValues.{HoldsNumber}
-use Rattle.ec_core.specs.Layout.{NamesBelow, IsIntegerSize, IsScalar, IsObjectType, AreStructs, PlainLeaf, size_of_type, leaves_of_type}
+use Rattle.ec_core.specs.Layout.{NamesBelow, IsIntegerSize, IsScalar, IsObjectType, AreStructs, PlainLeaf, size_of_type}
+use Rattle.ec_core.specs.Layout.{leaves_of_type}
 use Rattle.ec_core.specs.Needs.{stmt_need, stmt_calls}
-use Rattle.ec_core.specs.Plain.{PlainType, void, integer, fixed, pointer, array, struct, PlainExpr, expression, PlainNode, number, null, load, address_of, unary, binary, convert, assign, compound, step, logical_not, logical_and, logical_or, conditional, comma, call, io, group, PlainPlace, object, deref, member, OptionPlainExpr, no_expr, an_expr, PlainExprs, last_expr, next_expr, PlainStmt, statement, PlainKind, empty, evaluate, block, declare, branch, while_loop, do_loop, for_loop, break_loop, continue_loop, return_value, OptionPlainStmt, no_stmt, a_stmt, PlainStmts, last_stmt, next_stmt, PlainStorage, static, local, param, register, PlainObject, PlainFunction, PlainProgram}
+use Rattle.ec_core.specs.Plain.{PlainType, void, integer, fixed, pointer, array, struct, PlainExpr, expression}
+use Rattle.ec_core.specs.Plain.{PlainNode, number, null, load, address_of, unary, binary, convert, assign, compound}
+use Rattle.ec_core.specs.Plain.{step, logical_not, logical_and, logical_or, conditional, comma, call, io, group}
+use Rattle.ec_core.specs.Plain.{PlainPlace, object, deref, member, OptionPlainExpr, no_expr, an_expr, PlainExprs}
+use Rattle.ec_core.specs.Plain.{last_expr, next_expr, PlainStmt, statement, PlainKind, empty, evaluate, block, declare}
+use Rattle.ec_core.specs.Plain.{branch, while_loop, do_loop, for_loop, break_loop, continue_loop, return_value}
+use Rattle.ec_core.specs.Plain.{OptionPlainStmt, no_stmt, a_stmt, PlainStmts, last_stmt, next_stmt, PlainStorage}
+use Rattle.ec_core.specs.Plain.{static, local, param, register, PlainObject, PlainFunction, PlainProgram}
 use Rattle.ec_core.specs.Typing.{int, type_of_expr, IsTyped}
 
 -- a fact holds of each item and its number, which are counted from n
@@ -27,11 +37,14 @@ IsStatic (local f) = ⊥
 IsStatic (param f) = ⊥
 IsStatic (register r) = ⊥
 
--- the initial value of a leaf: a number that its type holds, null, or a static object whose home is in the pointer's space, with an offset from 0 to its size
+-- the initial value of a leaf: a number that its type holds, null, or a static object whose home is in the pointer's
+-- space, with an offset from 0 to its size
 abbrev pub IsInitialValue : PlainProgram → PlainType → LeafInit → Type 0
 IsInitialValue p ty (Number n) = IsSomeAnd (arithmetic_of ty) (λ t. HoldsNumber t n)
 IsInitialValue p (pointer s k t) Null = ⊤
-IsInitialValue p (pointer s k t) (Address o offset) = IsSomeAnd (slice_get p.objects o) (λ x. IsStatic x.storage × IsTrue (holds s x.home) × (offset ≤ size_of_type p.structs x.ty))
+IsInitialValue p (pointer s k t) (Address o offset) =
+    IsSomeAnd (slice_get p.objects o)
+    (λ x. IsStatic x.storage × IsTrue (holds s x.home) × (offset ≤ size_of_type p.structs x.ty))
 IsInitialValue p ty init = ⊥
 
 -- one initial value for each leaf
@@ -96,8 +109,8 @@ HasAddress p (object o) = IsSomeAnd (slice_get p.objects o) (λ x. IsAddressable
 HasAddress p (deref e) = ⊤
 HasAddress p (member q i) = HasAddress p q
 
--- The type of an expression: void or scalar. A pointer is to what an object can be, of at least one byte (6.5.6 asks it of
--- arithmetic; there are no void pointers)
+-- The type of an expression: void or scalar. A pointer is to what an object can be, of at least one byte (6.5.6 asks it
+-- of arithmetic; there are no void pointers)
 abbrev pub IsExprType : PlainProgram → PlainType → Type 0
 IsExprType p void = ⊤
 IsExprType p (integer signed bytes) = IsIntegerSize bytes
@@ -165,7 +178,8 @@ module _ (p : PlainProgram) (table : IoTable) (f : ℕ) where
 
   -- a local object of this function, with a value for each leaf, or none
   abbrev pub IsDeclared : PlainExprs → PlainObject → Type 0
-  IsDeclared values x = (x.storage ≡ local f) × ((values ≡ last_expr) ⊎ AreLeafValues (leaves_of_type p.structs x.ty) values)
+  IsDeclared values x =
+      (x.storage ≡ local f) × ((values ≡ last_expr) ⊎ AreLeafValues (leaves_of_type p.structs x.ty) values)
 
   -- a value of the result's type, exactly in a function with a result
   abbrev pub IsReturned : PlainType → Option PlainExpr → Type 0
@@ -181,11 +195,14 @@ module _ (p : PlainProgram) (table : IoTable) (f : ℕ) where
     ValidKind returns in_loop empty = ⊤
     ValidKind returns in_loop (evaluate e) = ValidExpr e
     ValidKind returns in_loop (block ss) = ValidStmts returns in_loop ss
-    ValidKind returns in_loop (declare o values) = IsSomeAnd (slice_get p.objects o) (IsDeclared values) × ValidExprs values
-    ValidKind returns in_loop (branch c a b) = ValidCondition (Some c) × ValidStmt returns in_loop a × ValidOptionStmt returns in_loop b
+    ValidKind returns in_loop (declare o values) =
+        IsSomeAnd (slice_get p.objects o) (IsDeclared values) × ValidExprs values
+    ValidKind returns in_loop (branch c a b) =
+        ValidCondition (Some c) × ValidStmt returns in_loop a × ValidOptionStmt returns in_loop b
     ValidKind returns in_loop (while_loop c s) = ValidCondition (Some c) × ValidStmt returns true s
     ValidKind returns in_loop (do_loop s c) = ValidStmt returns true s × ValidCondition (Some c)
-    ValidKind returns in_loop (for_loop i c n s) = ValidOptionStmt returns in_loop i × ValidCondition c × ValidOptional n × ValidStmt returns true s
+    ValidKind returns in_loop (for_loop i c n s) =
+        ValidOptionStmt returns in_loop i × ValidCondition c × ValidOptional n × ValidStmt returns true s
     ValidKind returns in_loop break_loop = IsTrue in_loop
     ValidKind returns in_loop continue_loop = IsTrue in_loop
     ValidKind returns in_loop (return_value e) = IsReturned returns e × ValidOptional e
@@ -214,8 +231,10 @@ pub record IsFunction (p : PlainProgram) (table : IoTable) (f : ℕ) (g : PlainF
 
 -- the function f calls g, itself or through others
 pub data Reaches (p : PlainProgram) (g : ℕ) : ℕ → Type 0 where
-  calls : (f : ℕ) (function : PlainFunction) → slice_get p.functions f ≡ Some function → Contains (stmt_calls function.body []) g → Reaches p g f
-  calls_through : (f h : ℕ) (function : PlainFunction) → slice_get p.functions f ≡ Some function → Contains (stmt_calls function.body []) h → Reaches p g h → Reaches p g f
+  calls : (f : ℕ) (function : PlainFunction) → slice_get p.functions f ≡ Some function
+      → Contains (stmt_calls function.body []) g → Reaches p g f
+  calls_through : (f h : ℕ) (function : PlainFunction) → slice_get p.functions f ≡ Some function
+      → Contains (stmt_calls function.body []) h → Reaches p g h → Reaches p g f
 
 -- ---- programs
 

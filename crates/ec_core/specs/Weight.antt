@@ -1,11 +1,19 @@
--- The weight of a program in words (our own profile): the sum of the words of its parts, each as often as it stands there. Twice
--- the weight bounds the bytes of its code.
+-- The weight of a program in words (our own profile): the sum of the words of its parts, each as often as it stands
+-- there. Twice the weight bounds the bytes of its code.
 use Rattle.std.specs.Prelude.{ℕ, ◌+◌, ◌*◌, List, [], ◌∷◌, Option, Some, None}
 use Rattle.ec_space.specs.declared.space.Bank.{Bank}
 use Rattle.ec_space.specs.declared.space.Bank.TheVariants.{Data, Flash}
-use Rattle.ec_core.specs.Plain.{PlainExpr, expression, PlainNode, number, null, load, address_of, unary, binary, convert, assign, compound, step, logical_not, logical_and, logical_or, conditional, comma, call, io, group, PlainPlace, object, deref, member, OptionPlainExpr, no_expr, an_expr, PlainExprs, last_expr, next_expr, PlainStmt, statement, PlainKind, empty, evaluate, block, declare, branch, while_loop, do_loop, for_loop, break_loop, continue_loop, return_value, OptionPlainStmt, no_stmt, a_stmt, PlainStmts, last_stmt, next_stmt, PlainStorage, static, local, param, register, PlainObject, PlainFunction, PlainProgram}
+use Rattle.ec_core.specs.Plain.{PlainExpr, expression, PlainNode, number, null, load, address_of, unary, binary}
+use Rattle.ec_core.specs.Plain.{convert, assign, compound, step, logical_not, logical_and, logical_or, conditional}
+use Rattle.ec_core.specs.Plain.{comma, call, io, group, PlainPlace, object, deref, member, OptionPlainExpr, no_expr}
+use Rattle.ec_core.specs.Plain.{an_expr, PlainExprs, last_expr, next_expr, PlainStmt, statement, PlainKind, empty}
+use Rattle.ec_core.specs.Plain.{evaluate, block, declare, branch, while_loop, do_loop, for_loop, break_loop}
+use Rattle.ec_core.specs.Plain.{continue_loop, return_value, OptionPlainStmt, no_stmt, a_stmt, PlainStmts, last_stmt}
+use Rattle.ec_core.specs.Plain.{next_stmt, PlainStorage, static, local, param, register, PlainObject, PlainFunction}
+use Rattle.ec_core.specs.Plain.{PlainProgram}
 use Rattle.ec_core.specs.PortTable.{PlainTable}
-use Rattle.ec_core.specs.Words.{program_words, function_words, member_words, branch_words, loop_words, jump_words, node_words, return_of, leaf_words}
+use Rattle.ec_core.specs.Words.{program_words, function_words, member_words, branch_words, loop_words, jump_words}
+use Rattle.ec_core.specs.Words.{node_words, return_of, leaf_words}
 
 module _ (table : PlainTable) where
   -- ---- expressions and places
@@ -71,7 +79,8 @@ module _ (table : PlainTable) where
     kind_weight (branch c a b) = branch_words + expr_weight c + stmt_weight a + option_stmt_weight b
     kind_weight (while_loop c body) = loop_words + expr_weight c + stmt_weight body
     kind_weight (do_loop body c) = loop_words + stmt_weight body + expr_weight c
-    kind_weight (for_loop first c last body) = loop_words + option_stmt_weight first + optional_weight c + optional_weight last + stmt_weight body
+    kind_weight (for_loop first c last body) =
+        loop_words + option_stmt_weight first + optional_weight c + optional_weight last + stmt_weight body
     kind_weight break_loop = jump_words
     kind_weight continue_loop = jump_words
     kind_weight (return_value e) = return_of e + optional_weight e

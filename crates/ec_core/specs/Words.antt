@@ -1,8 +1,11 @@
--- The work of a program's parts in words (our own profile): a bound on the code of each part, and with the number of times that
--- a run comes to it, on the steps of the run.
-use Rattle.std.specs.Prelude.{ℕ, ◌+◌, ◌*◌, max, List, [], ◌∷◌, length, Option, Some, None, option_map, unwrap_or, slice_get}
+-- The work of a program's parts in words (our own profile): a bound on the code of each part, and with the number of
+-- times that a run comes to it, on the steps of the run.
+use Rattle.std.specs.Prelude.{ℕ, ◌+◌, ◌*◌, max, List, [], ◌∷◌, length, Option, Some, None, option_map, unwrap_or}
+use Rattle.std.specs.Prelude.{slice_get}
 use Rattle.ec_core.specs.Layout.{scalar_size}
-use Rattle.ec_core.specs.Plain.{PlainType, PlainExpr, PlainNode, number, null, load, address_of, unary, binary, convert, assign, compound, step, logical_not, logical_and, logical_or, conditional, comma, call, io, group, PlainPlace, object, deref, member, PlainExprs, last_expr, next_expr}
+use Rattle.ec_core.specs.Plain.{PlainType, PlainExpr, PlainNode, number, null, load, address_of, unary, binary, convert}
+use Rattle.ec_core.specs.Plain.{assign, compound, step, logical_not, logical_and, logical_or, conditional, comma, call}
+use Rattle.ec_core.specs.Plain.{io, group, PlainPlace, object, deref, member, PlainExprs, last_expr, next_expr}
 use Rattle.ec_core.specs.PortAccesses.{pairs_of}
 use Rattle.ec_core.specs.PortOperations.{PortAction, reads, writes, updates, port_operation}
 use Rattle.ec_core.specs.PortTable.{PlainTable}
@@ -71,7 +74,8 @@ port_words updates width = 160 + 80 * width
 abbrev pub group_words : ℕ → ℕ
 group_words pairs = 20 + 10 * pairs
 
--- ---- nodes: b is the greatest number of bytes of the types of a node, of its operands and of the pointers in its place
+-- ---- nodes: b is the greatest number of bytes of the types of a node, of its operands and of the pointers in its
+-- place
 
 abbrev pub node_words : PlainTable → PlainType → PlainNode → ℕ
 node_words table ty (number n) = simple_words (widest (ty ∷ []))
@@ -82,16 +86,20 @@ node_words table ty (unary op e) = operation_words (widest (ty ∷ type_of_expr 
 node_words table ty (binary op a b) = operation_words (widest (ty ∷ type_of_expr a ∷ type_of_expr b ∷ []))
 node_words table ty (convert e) = operation_words (widest (ty ∷ type_of_expr e ∷ []))
 node_words table ty (assign p e) = simple_words (widest (ty ∷ pointer_types p (type_of_expr e ∷ [])))
-node_words table ty (compound op own p e) = update_words (widest (ty ∷ pointer_types p (type_of_expr e ∷ [])))
+node_words table ty (compound op operation_mode p e) =
+    update_words (widest (ty ∷ pointer_types p (type_of_expr e ∷ [])))
 node_words table ty (step up prefix p) = update_words (widest (ty ∷ pointer_types p []))
 node_words table ty (logical_not e) = choice_words (widest (ty ∷ type_of_expr e ∷ []))
 node_words table ty (logical_and a b) = choice_words (widest (ty ∷ type_of_expr a ∷ type_of_expr b ∷ []))
 node_words table ty (logical_or a b) = choice_words (widest (ty ∷ type_of_expr a ∷ type_of_expr b ∷ []))
-node_words table ty (conditional c a b) = choice_words (widest (ty ∷ type_of_expr c ∷ type_of_expr a ∷ type_of_expr b ∷ []))
+node_words table ty (conditional c a b) =
+    choice_words (widest (ty ∷ type_of_expr c ∷ type_of_expr a ∷ type_of_expr b ∷ []))
 node_words table ty (comma a b) = 0
 node_words table ty (call f args) = 60 + 10 * (total_size args + scalar_size ty)
-node_words table ty (io op port index value) = port_words (port_operation op).action (unwrap_or (option_map (λ p. p.width) (slice_get table.ports port)) 0)
-node_words table ty (group acquire g) = group_words (unwrap_or (option_map (λ x. length (pairs_of acquire x)) (slice_get table.groups g)) 0)
+node_words table ty (io op port index value) =
+    port_words (port_operation op).action (unwrap_or (option_map (λ p. p.width) (slice_get table.ports port)) 0)
+node_words table ty (group acquire g) =
+    group_words (unwrap_or (option_map (λ x. length (pairs_of acquire x)) (slice_get table.groups g)) 0)
 
 -- a return with a value or without one
 abbrev pub return_of : Option PlainExpr → ℕ

@@ -1,4 +1,5 @@
-//! Operators and conversions on numbers of arithmetic types (ISO/IEC 9899:1999, 6.3 and 6.5; ISO/IEC TR 18037:2008, 4.1).
+//! Operators and conversions on numbers of arithmetic types (ISO/IEC 9899:1999, 6.3 and 6.5; ISO/IEC TR 18037:2008,
+//! 4.1).
 ghost use Rattle.std.specs.Prelude.{◌≡◌, IfOk};
 ghost use Rattle.std.specs.Option.{ok_or};
 ghost use Rattle.ec_fx.specs.Conversions.{integer_of};
@@ -7,7 +8,10 @@ ghost use Rattle.ec_fx.specs.Ranges.{IsWithin};
 ghost use Rattle.ec_fx.specs.Results.{HasFormat};
 ghost use Rattle.ec_core.specs.declared.values.Undefined.TheVariants.{WholePart};
 ghost use Rattle.ec_core.specs.Integers.{IsInteger, HoldsInteger, width_of, truth, accepts};
-ghost use Rattle.ec_core.specs.ArithmeticValues.{HoldsNumber, HoldsFixed, fixed_number, operand, outcome, fixed_shift, shift_value, fixed_value, IsShift, SuitsFixed, is_comparison, typed_value, arithmetic_value, SuitsTyped, IsIntegerResult, Suits, unary_value, SuitsUnary, conversion_value, IsKnownType};
+ghost use Rattle.ec_core.specs.ArithmeticValues.{HoldsNumber, HoldsFixed, fixed_number, operand, outcome, fixed_shift};
+ghost use Rattle.ec_core.specs.ArithmeticValues.{shift_value, fixed_value, IsShift, SuitsFixed, is_comparison};
+ghost use Rattle.ec_core.specs.ArithmeticValues.{typed_value, arithmetic_value, SuitsTyped, IsIntegerResult, Suits};
+ghost use Rattle.ec_core.specs.ArithmeticValues.{unary_value, SuitsUnary, conversion_value, IsKnownType};
 
 use crate::arithmetic_types::{Arithmetic, FixedType, IntegerType};
 use crate::expressions::{BinOp, UnOp};

@@ -2,7 +2,8 @@
 ghost use Rattle.std.specs.Prelude.{◌≡◌, option_map};
 ghost use Rattle.ec_fx.specs.Formats.{format_of, rank_of};
 ghost use Rattle.ec_core.specs.Plain.{plain_type};
-ghost use Rattle.ec_core.specs.ArithmeticTypes.{arithmetic_of, type_of, promoted, common_integer, signed_kind, higher_kind, common_fixed, common, result_type_of};
+ghost use Rattle.ec_core.specs.ArithmeticTypes.{arithmetic_of, type_of, promoted, common_integer, signed_kind};
+ghost use Rattle.ec_core.specs.ArithmeticTypes.{higher_kind, common_fixed, common, result_type_of};
 
 use crate::types::CType;
 use ec_fx::FxKind;

@@ -1,7 +1,10 @@
 //! Integer operators (ISO/IEC 9899:1999, 6.5). Results wrap to their type.
-ghost use Rattle.std.specs.Prelude.{◌≡◌, ◌*◌, ◌^◌, ◌<◌, ◌≤◌, ℕ, pos, neg_ℤ, ◌+ℤ◌, ◌-ℤ◌, ◌*ℤ◌, ◌≤ℤ◌, ◌≢◌, int_div, int_rem, unsigned_abs, bit_and, bit_or, bit_xor, IfOk};
+ghost use Rattle.std.specs.Prelude.{◌≡◌, ◌*◌, ◌^◌, ◌<◌, ◌≤◌, ℕ, pos, neg_ℤ, ◌+ℤ◌, ◌-ℤ◌, ◌*ℤ◌, ◌≤ℤ◌, ◌≢◌, int_div};
+ghost use Rattle.std.specs.Prelude.{int_rem, unsigned_abs, bit_and, bit_or, bit_xor, IfOk};
 ghost use Rattle.ec_fx.specs.Numbers.{IsWhole};
-ghost use Rattle.ec_core.specs.Integers.{IsInteger, HoldsInteger, width_of, modulus, low_bits, from_bits, wrapped, quotient, remainder, is_count, left_shift, right_shift, bitwise, bits_operator, truth, accepts, integer_value, negation, complement};
+ghost use Rattle.ec_core.specs.Integers.{IsInteger, HoldsInteger, width_of, modulus, low_bits, from_bits, wrapped};
+ghost use Rattle.ec_core.specs.Integers.{quotient, remainder, is_count, left_shift, right_shift, bitwise};
+ghost use Rattle.ec_core.specs.Integers.{bits_operator, truth, accepts, integer_value, negation, complement};
 
 use crate::arithmetic_types::IntegerType;
 use crate::expressions::BinOp;

@@ -5,10 +5,13 @@
 ghost use Rattle.ec_core.specs.Depth.{InvalidIsNeverMet, CallsNestNoDeeper};
 ghost use Rattle.ec_core.specs.Suited.{OperandsSuit};
 ghost use Rattle.ec_core.specs.ValueTypes.{TypesAreKept};
-ghost use Rattle.ec_core.specs.Laws.{RunsBySteps, EventsAreAtHome, RegistersAreSilent, MoreTurnsOnlyAdd, WorkNeverFalls, DependsOnBytesRead, PartsOnlyAdd, TurnsAreWork, BytesAreTakenInOrder, TypesAreTold};
+ghost use Rattle.ec_core.specs.Laws.{RunsBySteps, EventsAreAtHome, RegistersAreSilent, MoreTurnsOnlyAdd};
+ghost use Rattle.ec_core.specs.Laws.{WorkNeverFalls, DependsOnBytesRead, PartsOnlyAdd, TurnsAreWork};
+ghost use Rattle.ec_core.specs.Laws.{BytesAreTakenInOrder, TypesAreTold};
 
-/// A run goes from state to state by steps. Where a step reads or writes a leaf, the object is live in the state before it and
-/// its home is in the space of the access. Where it reads a byte of a port, it is the next one that the port gives.
+/// A run goes from state to state by steps. Where a step reads or writes a leaf, the object is live in the state before
+/// it and its home is in the space of the access. Where it reads a byte of a port, it is the next one that the port
+/// gives.
 pub fn runs_by_steps()
     ensures { RunsBySteps }
 {}
@@ -33,8 +36,8 @@ pub fn work_never_falls()
     ensures { WorkNeverFalls }
 {}
 
-/// Each part of a run, be it an expression, a place, a statement or a call, leads on by steps: it only adds to the events, and
-/// its work is no less than that before it.
+/// Each part of a run, be it an expression, a place, a statement or a call, leads on by steps: it only adds to the
+/// events, and its work is no less than that before it.
 pub fn parts_only_add()
     ensures { PartsOnlyAdd }
 {}
@@ -59,8 +62,8 @@ pub fn types_are_told()
     ensures { TypesAreTold }
 {}
 
-/// In a valid program the value of each expression, of each leaf and of each return statement has its type, and the pointer of each
-/// place is in its object and in the space of the place, at every moment of a run.
+/// In a valid program the value of each expression, of each leaf and of each return statement has its type, and the
+/// pointer of each place is in its object and in the space of the place, at every moment of a run.
 pub fn types_are_kept()
     ensures { TypesAreKept }
 {}

@@ -3,7 +3,8 @@ ghost use Rattle.std.specs.Prelude.{◌≡◌, ◌+◌, ◌*◌, ◌^◌, ◌<�
 ghost use Rattle.std.specs.List.{AllByRecursion};
 ghost use Rattle.ec_space.specs.Spaces.{width};
 ghost use Rattle.ec_core.specs.Plain.{plain_type, plain_member, plain_struct};
-ghost use Rattle.ec_core.specs.Layout.{plain_leaf, scalar_size, repeated, size_of_type, leaves_of_type, type_layout, members_layout, struct_layouts, NamesBelow, IsElement, IsObjectType, AreStructs};
+ghost use Rattle.ec_core.specs.Layout.{plain_leaf, scalar_size, repeated, size_of_type, leaves_of_type, type_layout};
+ghost use Rattle.ec_core.specs.Layout.{members_layout, struct_layouts, NamesBelow, IsElement, IsObjectType, AreStructs};
 
 use crate::types::{CType, Member, StructDef};
 use ec_space::{NoMemory, Seq, SpaceId};
@@ -88,8 +89,10 @@ fn members_size(structs: &[StructDef], index: u32, members: &[Member]) -> u32
     requires structs { AreStructs (map plain_struct structs.now) }
     requires index { index ≤ length structs.now }
     requires earlier { AllByRecursion (λ m. IsObjectType index m.ty) (map plain_member members.now) }
-    requires small { (members_layout (struct_layouts (map plain_struct structs.now)) (map plain_member members.now)).size ≤ 32_767 }
-    ensures { result ≡ (members_layout (struct_layouts (map plain_struct structs.now)) (map plain_member members.now)).size }
+    requires small { (members_layout (struct_layouts (map plain_struct structs.now))
+        (map plain_member members.now)).size ≤ 32_767 }
+    ensures { result ≡ (members_layout (struct_layouts (map plain_struct structs.now))
+        (map plain_member members.now)).size }
 {
     let mut size = 0;
     for member in members {
@@ -102,7 +105,8 @@ fn members_size(structs: &[StructDef], index: u32, members: &[Member]) -> u32
 pub fn leaves(alloc: Global, structs: &Seq<StructDef>, ty: &CType) -> Result<Seq<Leaf>, NoMemory>
     requires structs { AreStructs (map plain_struct structs.now.items) }
     requires object { IsObjectType (length structs.now.items) (plain_type ty.now) }
-    ensures { IfOk result (λ leaves. map plain_leaf leaves.items ≡ leaves_of_type (map plain_struct structs.now.items) (plain_type ty.now)) }
+    ensures { IfOk result (λ leaves. map plain_leaf leaves.items
+        ≡ leaves_of_type (map plain_struct structs.now.items) (plain_type ty.now)) }
 {
     let mut out = Seq::new(alloc);
     push_leaves(alloc, structs.as_slice(), ty, 0, &mut out)?;
@@ -122,7 +126,9 @@ fn push_leaves(
     requires structs { AreStructs (map plain_struct structs.now) }
     requires object { IsObjectType (length structs.now) (plain_type ty.now) }
     requires fits { at + size_of_type (map plain_struct structs.now) (plain_type ty.now) < 2 ^ 32 }
-    ensures { OnOk result (map plain_leaf out.new.items ≡ map plain_leaf out.old.items ++ (type_layout (struct_layouts (map plain_struct structs.now)) (plain_type ty.now)).leaves_at at) }
+    ensures { OnOk result (map plain_leaf out.new.items
+        ≡ map plain_leaf out.old.items
+        ++ (type_layout (struct_layouts (map plain_struct structs.now)) (plain_type ty.now)).leaves_at at) }
 {
     match ty {
         CType::Array { of, len } => {
@@ -150,7 +156,10 @@ fn push_elements(
     requires names { NamesBelow (length structs.now) (plain_type of.now) }
     requires element { IsElement (plain_type of.now) }
     requires fits { at + len * size_of_type (map plain_struct structs.now) (plain_type of.now) < 2 ^ 32 }
-    ensures { OnOk result (map plain_leaf out.new.items ≡ map plain_leaf out.old.items ++ (repeated len (type_layout (struct_layouts (map plain_struct structs.now)) (plain_type of.now))).leaves_at at) }
+    ensures { OnOk result (map plain_leaf out.new.items
+        ≡ map plain_leaf out.old.items
+        ++ (repeated len (type_layout (struct_layouts (map plain_struct structs.now))
+        (plain_type of.now))).leaves_at at) }
 {
     let size = element_size(structs, of);
     let mut offset = at;
@@ -173,7 +182,9 @@ fn push_element(
     requires names { NamesBelow (length structs.now) (plain_type ty.now) }
     requires element { IsElement (plain_type ty.now) }
     requires fits { at + size_of_type (map plain_struct structs.now) (plain_type ty.now) < 2 ^ 32 }
-    ensures { OnOk result (map plain_leaf out.new.items ≡ map plain_leaf out.old.items ++ (type_layout (struct_layouts (map plain_struct structs.now)) (plain_type ty.now)).leaves_at at) }
+    ensures { OnOk result (map plain_leaf out.new.items
+        ≡ map plain_leaf out.old.items
+        ++ (type_layout (struct_layouts (map plain_struct structs.now)) (plain_type ty.now)).leaves_at at) }
 {
     match ty {
         CType::Int { .. } | CType::Fx { .. } | CType::Ptr { .. } => {
@@ -190,7 +201,8 @@ fn push_element(
 }
 
 fn push_scalar(alloc: Global, ty: &CType, at: u32, out: &mut Seq<Leaf>) -> Result<(), NoMemory>
-    ensures { OnOk result (map plain_leaf out.new.items ≡ map plain_leaf out.old.items ++ record { ty = plain_type ty.now; at = at } ∷ []) }
+    ensures { OnOk result (map plain_leaf out.new.items
+        ≡ map plain_leaf out.old.items ++ record { ty = plain_type ty.now; at = at } ∷ []) }
 {
     let ty = ty.copied(alloc)?;
     out.push(Leaf { ty, at })
@@ -209,8 +221,12 @@ fn push_members(
     requires structs { AreStructs (map plain_struct structs.now) }
     requires index { index ≤ length structs.now }
     requires earlier { AllByRecursion (λ m. IsObjectType index m.ty) (map plain_member members.now) }
-    requires fits { at + (members_layout (struct_layouts (map plain_struct structs.now)) (map plain_member members.now)).size < 2 ^ 32 }
-    ensures { OnOk result (map plain_leaf out.new.items ≡ map plain_leaf out.old.items ++ (members_layout (struct_layouts (map plain_struct structs.now)) (map plain_member members.now)).leaves_at at) }
+    requires fits { at + (members_layout (struct_layouts (map plain_struct structs.now))
+        (map plain_member members.now)).size < 2 ^ 32 }
+    ensures { OnOk result (map plain_leaf out.new.items
+        ≡ map plain_leaf out.old.items
+        ++ (members_layout (struct_layouts (map plain_struct structs.now))
+        (map plain_member members.now)).leaves_at at) }
 {
     let mut offset = at;
     for member in members {

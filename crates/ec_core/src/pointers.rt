@@ -5,7 +5,9 @@
 ghost use Rattle.std.specs.Prelude.{◌≡◌, ◌<◌, ◌≤◌, ◌+ℤ◌, ◌*ℤ◌, ◌-ℤ◌, pos, IfOk};
 ghost use Rattle.ec_fx.specs.Numbers.{IsWhole};
 ghost use Rattle.ec_core.specs.Integers.{truth, accepts};
-ghost use Rattle.ec_core.specs.Pointers.{is_usable, displaced, moved, sum_of_pointer, same_instance, in_elements, elements_between, difference_of_pointers, ordered, is_at_end, apart, equality, compared_pointers, comparison_of_pointers, truth_of_pointer, pointer_in_space};
+ghost use Rattle.ec_core.specs.Pointers.{is_usable, displaced, moved, sum_of_pointer, same_instance, in_elements};
+ghost use Rattle.ec_core.specs.Pointers.{elements_between, difference_of_pointers, ordered, is_at_end, apart, equality};
+ghost use Rattle.ec_core.specs.Pointers.{compared_pointers, comparison_of_pointers, truth_of_pointer, pointer_in_space};
 
 use crate::expressions::BinOp;
 use crate::integers::accepts;

@@ -1,6 +1,7 @@
 -- Sums, differences, products, quotients, shifts and negations (ISO/IEC TR 18037:2008, 4.1.6).
 -- The operands are the numbers x with f and y with g fraction bits, and the result has r.
-use Rattle.std.specs.Prelude.{◌≡◌, ℕ, ◌+◌, ◌-◌, ◌*◌, ◌^◌, Bool, true, false, if◌then◌else◌, ℤ, pos, neg_ℤ, ◌+ℤ◌, ◌-ℤ◌, ◌*ℤ◌, ◌≤ℤ◌, int_lt, unsigned_abs}
+use Rattle.std.specs.Prelude.{◌≡◌, ℕ, ◌+◌, ◌-◌, ◌*◌, ◌^◌, Bool, true, false, if◌then◌else◌, ℤ, pos, neg_ℤ, ◌+ℤ◌, ◌-ℤ◌}
+use Rattle.std.specs.Prelude.{◌*ℤ◌, ◌≤ℤ◌, int_lt, unsigned_abs}
 use Rattle.std.specs.Ordering.{int_eq}
 use Rattle.ec_fx.specs.declared.formats.Format.{Format}
 use Rattle.ec_fx.specs.declared.numbers.Fixed.{Fixed}
@@ -17,7 +18,8 @@ use Rattle.ec_fx.specs.Rounding.{Fraction, in_units}
 
 -- ---- the operands that an operation takes
 
--- one operand at least is fixed, and the result has its format; of two fixed operands, which are both signed or both unsigned, the higher format
+-- one operand at least is fixed, and the result has its format; of two fixed operands, which are both signed or both
+-- unsigned, the higher format
 abbrev pub IsResultFormat : Num → Num → Format → Type 0
 IsResultFormat (Whole _) (Whole _) to = ⊥
 IsResultFormat (Whole _) (FixedNum y) to = to ≡ y.format
@@ -53,7 +55,8 @@ turned y z = if int_lt y (pos 0) then neg_ℤ z else z
 
 -- (x / 2^f) / (y / 2^g) = x * 2^g / (y * 2^f), with both signs turned where y is negative
 abbrev pub exact_quotient : ℤ → ℕ → ℤ → ℕ → ℕ → Fraction
-exact_quotient x f y g r = record { numerator = turned y (x *ℤ pos (2 ^ (g + r))); denominator = unsigned_abs y * 2 ^ f }
+exact_quotient x f y g r =
+    record { numerator = turned y (x *ℤ pos (2 ^ (g + r))); denominator = unsigned_abs y * 2 ^ f }
 
 -- x * 2^count to the left, x / 2^count to the right
 abbrev pub exact_shift : ℤ → ℕ → Bool → Fraction

@@ -12,7 +12,8 @@ use Rattle.ec_fx.specs.Rounding.{Fraction}
 abbrev pub exact_constant : ℕ → ℕ → Format → Fraction
 exact_constant digits places to = record { numerator = pos (digits * 2 ^ to.frac); denominator = 10 ^ places }
 
--- the constant's value is rounded toward zero and must then be in range; a `_Fract` constant of value exactly 1 is the type's greatest value
+-- the constant's value is rounded toward zero and must then be in range; a `_Fract` constant of value exactly 1 is the
+-- type's greatest value
 abbrev pub value_of_constant : ℕ → ℕ → Format → Fx
 value_of_constant digits places to =
     if is_fract to && digits == 10 ^ places then Got (record { format = to; n = greatest to.signed to.bits })

@@ -1,4 +1,5 @@
--- The operands of fixed-point arithmetic: an operand with the number n and f fraction bits stands for n / 2^f (ISO/IEC TR 18037:2008, 4.1.1).
+-- The operands of fixed-point arithmetic: an operand with the number n and f fraction bits stands for n / 2^f (ISO/IEC
+-- TR 18037:2008, 4.1.1).
 use Rattle.std.specs.Prelude.{true, false, ℕ, ℤ, ◌≤ℤ◌}
 use Rattle.ec_fx.specs.declared.numbers.Fixed.{Fixed}
 use Rattle.ec_fx.specs.declared.numbers.Num.{Num}

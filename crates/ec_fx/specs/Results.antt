@@ -1,4 +1,5 @@
--- Results: a value, or what stands for one that is out of range. The range is tested after rounding (ISO/IEC TR 18037:2008, 4.1.3).
+-- Results: a value, or what stands for one that is out of range. The range is tested after rounding (ISO/IEC TR
+-- 18037:2008, 4.1.3).
 use Rattle.std.specs.Prelude.{◌≡◌, ⊤, if◌then◌else◌, ℤ, int_lt}
 use Rattle.ec_fx.specs.declared.formats.Format.{Format}
 use Rattle.ec_fx.specs.declared.numbers.Fixed.{Fixed}
@@ -30,6 +31,8 @@ HasFormat to (Got x) = (x.format ≡ to) × IsFixed x
 HasFormat to Overflow = ⊤
 HasFormat to ZeroDivisor = ⊤
 
--- a result whose rounded number is in range is not clamped: it is a value of the format within one unit of the exact result
+-- a result whose rounded number is in range is not clamped: it is a value of the format within one unit of the exact
+-- result
 pub record IsAccurate (exact : Fraction) (to : Format) (answer : Fx) : Type 0 where
-  pub unit : IsWithin to.signed to.bits (rounded exact) → (x : Fixed) × (answer ≡ Got x) × (x.format ≡ to) × IsWithinUnit exact x.n
+  pub unit : IsWithin to.signed to.bits (rounded exact)
+      → (x : Fixed) × (answer ≡ Got x) × (x.format ≡ to) × IsWithinUnit exact x.n

@@ -1,6 +1,8 @@
 //! Sums, differences, products, quotients and shifts.
 ghost use Rattle.std.specs.Prelude.{◌≡◌, ◌≢◌, ◌-◌, ◌^◌, ◌<◌, ◌≤◌, ℤ, pos, ◌*ℤ◌, unsigned_abs};
-ghost use Rattle.ec_fx.specs.Arithmetic.{sum_of, difference_of, product_of, quotient_of, shift_of, negation_of, sum_in, difference_in, product_in, quotient_in, exact_shift, exact_negation, turned, IsResultFormat, IsOneByte};
+ghost use Rattle.ec_fx.specs.Arithmetic.{sum_of, difference_of, product_of, quotient_of, shift_of, negation_of, sum_in};
+ghost use Rattle.ec_fx.specs.Arithmetic.{difference_in, product_in, quotient_in, exact_shift, exact_negation, turned};
+ghost use Rattle.ec_fx.specs.Arithmetic.{IsResultFormat, IsOneByte};
 ghost use Rattle.ec_fx.specs.Formats.{IsFormat};
 ghost use Rattle.ec_fx.specs.Numbers.{scaled, IsFixed, IsNumber};
 ghost use Rattle.ec_fx.specs.Results.{HasFormat, IsAccurate};

@@ -1,6 +1,7 @@
 //! Conversions and comparisons.
 ghost use Rattle.std.specs.Prelude.{◌≡◌, IfSome};
-ghost use Rattle.ec_fx.specs.Conversions.{conversion_in, conversion_of, exact_whole, integer_of, held, order_of, IsIntegerWidth};
+ghost use Rattle.ec_fx.specs.Conversions.{conversion_in, conversion_of, exact_whole, integer_of, held, order_of};
+ghost use Rattle.ec_fx.specs.Conversions.{IsIntegerWidth};
 ghost use Rattle.ec_fx.specs.Formats.{IsFormat};
 ghost use Rattle.ec_fx.specs.Numbers.{IsFixed, IsNumber};
 ghost use Rattle.ec_fx.specs.Results.{HasFormat, IsAccurate};

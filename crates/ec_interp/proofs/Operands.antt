@@ -1,9 +1,8 @@
 -- Operands of a valid program suit their operators.
-use Rattle.std.proofs.Common.{◌≡◌, ◌+◌, ◌*◌, List, [], ◌∷◌, ◌≤◌, ◌<◌, ℕ, Bool, true, false, ℤ, length, Option, Some, None, refl, sym, ap, subst, inl, inr, arith}
+use Rattle.std.proofs.Common.{◌≡◌, ◌+◌, ◌*◌, List, ◌∷◌, ◌≤◌, ◌<◌, ℕ, Bool, true, false, ℤ, length, Option, Some, None, refl, sym, subst, inl, inr, arith}
 use Rattle.std.specs.Prelude.{IsSomeAnd, slice_get}
 use Rattle.std.specs.List.{AllByRecursion}
 use Rattle.std.proofs.lemmas.Int.{ints}
-use Rattle.std.proofs.lemmas.Option.{slice_get_within}
 use Rattle.ec_fx.specs.Ranges.{IsWithin}
 use Rattle.ec_fx.specs.declared.formats.FxKind.{FxKind}
 use Rattle.ec_core.specs.declared.arithmetic_types.Arithmetic.{Arithmetic}
@@ -15,15 +14,15 @@ use Rattle.ec_core.specs.declared.values.Value.TheVariants.{Number, Pointer}
 use Rattle.ec_core.specs.Accesses.{element_size}
 use Rattle.ec_core.specs.ArithmeticTypes.{arithmetic_of}
 use Rattle.ec_core.specs.ArithmeticValues.{HoldsNumber, operand, Suits, IsKnownType}
-use Rattle.ec_core.specs.Layout.{Layout, nothing, members_layout, struct_layouts, AreStructs, IsObjectType, IsIntegerSize, IsScalar}
+use Rattle.ec_core.specs.Layout.{members_layout, struct_layouts, AreStructs, IsObjectType, IsIntegerSize, IsScalar}
 use Rattle.ec_core.specs.Operators.{number_type, operation_types}
-use Rattle.ec_core.specs.Plain.{PlainType, void, integer, fixed, pointer, array, struct, PlainMember, PlainStruct, PlainProgram, plain_program}
+use Rattle.ec_core.specs.Plain.{PlainType, void, integer, fixed, pointer, array, struct, PlainStruct, PlainProgram, plain_program}
 use Rattle.ec_core.specs.Pointers.{Pointer as PointerValue}
 use Rattle.ec_core.specs.Suited.{AreOperationTypes}
 use Rattle.ec_core.specs.Typing.{IsIntegerType, HaveOffsetTypes, HaveArithmeticTypes, HaveCompoundArithmetic, HaveBinaryTypes, HaveCompoundTypes, AreConvertible}
 use Rattle.ec_core.specs.Valid.{IsExprType}
 use Rattle.ec_core.specs.ValueTypes.{HasType}
-use Rattle.ec_core.proofs.Layouts.{struct_at, named_earlier, object_more}
+use Rattle.ec_core.proofs.StructLists.{structs_are_laid_out}
 use Rattle.ec_core.proofs.Suiting.{operands_suit}
 use Rattle.ec_interp.specs.declared.state.Context.{Context}
 use Rattle.ec_interp.specs.Suits.{IsOperand, IsNear, IsNumberOf}
@@ -46,17 +45,10 @@ pub record IsSmallStruct (structs : List PlainStruct) (s : PlainStruct) : Type 0
   pub small : (members_layout (struct_layouts structs) s.members).size ≤ 32_767
   pub members : AllByRecursion (λ m. IsObjectType (length structs) m.ty) s.members
 
-all_more : (m n : ℕ) (ms : List PlainMember) → m ≤ n → AllByRecursion (λ x. IsObjectType m x.ty) ms → AllByRecursion (λ x. IsObjectType n x.ty) ms
-all_more m n [] l h = tt
-all_more m n (x ∷ xs) l h = (object_more m n x.ty l h.0, all_more m n xs l h.1)
-
 pub small_struct : (structs : List PlainStruct) (i : ℕ) (s : PlainStruct) → AreStructs structs → slice_get structs i ≡ Some s → IsSmallStruct structs s
 small_struct structs i s h e =
-    let layout : struct_layouts structs (0 + i) ≡ members_layout (struct_layouts structs) s.members = struct_at (λ j. nothing) 0 structs i s h.earlier e in
-    let size : (struct_layouts structs (0 + i)).size ≡ (members_layout (struct_layouts structs) s.members).size = ap (λ (x : Layout). x.size) layout in
-    let small : (struct_layouts structs (0 + i)).size ≤ 32_767 = h.small (0 + i) in
-    let below : i < length structs = slice_get_within structs i s e in
-    record { small = omega (arith, size, small); members = all_more (0 + i) (length structs) s.members (omega (arith, below)) (named_earlier 0 structs i s h.earlier e) }
+    let laid = structs_are_laid_out.each structs i s h e in
+    record { small = laid.small; members = laid.known }
 
 -- ---- numbers
 

@@ -10,7 +10,9 @@ use Rattle.ec_interp.specs.declared.accesses.Found.{Found}
 -- an access by its numbers
 abbrev pub access_at : PlainProgram → State → Found → Option Access
 access_at program s a =
-    option_and_then (λ o. option_map (λ x. record { object = a.object; leaf = a.leaf; space = a.space; declared = o; state = x }) (slice_get s.objects a.object)) (slice_get program.objects a.object)
+    option_and_then (λ o. option_map
+    (λ x. record { object = a.object; leaf = a.leaf; space = a.space; declared = o; state = x })
+    (slice_get s.objects a.object)) (slice_get program.objects a.object)
 
 -- the greatest number of bytes of the pointers in a place, and at least n
 abbrev pub widest_from : PlainPlace → ℕ → ℕ

@@ -9,8 +9,8 @@ use Rattle.ec_space.specs.declared.seq.NoMemory.{NoMemory}
 use Rattle.ec_interp.specs.declared.state.Stop.{Stop}
 use Rattle.ec_interp.specs.declared.state.Stop.TheVariants.{Unanswered, OutOfTurns, Undefined}
 
--- The answer and the state then are those of an outcome, unless there is no answer. The first argument says which value an
--- answer stands for
+-- The answer and the state then are those of an outcome, unless there is no answer. The first argument says which value
+-- an answer stands for
 abbrev pub ShowsAs : {A B : Type 0} → (A → B) → Result A Stop → State → Outcome B → Type 0
 ShowsAs view (Ok x) s o = o ≡ got (view x) s
 ShowsAs view (Err (Unanswered why)) s o = ⊤
@@ -20,7 +20,7 @@ ShowsAs view (Err (Undefined point)) s o = o ≡ undefined point s
 abbrev pub Shows : {A : Type 0} → Result A Stop → State → Outcome A → Type 0
 Shows result s o = ShowsAs (λ x. x) result s o
 
--- the same, of a part that want of memory alone stops
+-- the same, of a part that only running out of memory stops
 abbrev pub ShowsMemory : {A : Type 0} → Result A NoMemory → State → Outcome A → Type 0
 ShowsMemory (Ok x) s o = o ≡ got x s
 ShowsMemory (Err full) s o = ⊤

@@ -1,14 +1,18 @@
--- When the interpreter has an answer: where a program keeps the rules of types, nothing but want of memory keeps it from one.
-use Rattle.std.specs.Prelude.{⊤, ◌≡◌, ◌⊎◌, drop, IsSomeAnd, true, Some, slice_get, ℕ, ◌^◌, ℤ, pos, neg_ℤ, ◌≤ℤ◌, Bool, List, Option, Result, Ok, Err}
+-- When the interpreter has an answer: where a program keeps the rules of types, only running out of memory keeps it
+-- from one.
+use Rattle.std.specs.Prelude.{⊤, ◌≡◌, ◌⊎◌, drop, IsSomeAnd, true, Some, slice_get, ℕ, ◌^◌, ℤ, pos, neg_ℤ, ◌≤ℤ◌, Bool}
+use Rattle.std.specs.Prelude.{List, Option, Result, Ok, Err}
 use Rattle.ec_core.specs.declared.values.Value.{Value}
 use Rattle.ec_core.specs.declared.values.Value.TheVariants.{Number, Pointer}
 use Rattle.ec_core.specs.ArithmeticValues.{HoldsNumber}
 use Rattle.ec_core.specs.Layout.{leaves_of_type}
 use Rattle.ec_core.specs.Operators.{number_type}
-use Rattle.ec_core.specs.Plain.{PlainType, PlainExpr, PlainNode, PlainPlace, OptionPlainExpr, PlainExprs, last_expr, PlainStmt, PlainStmts, PlainObject, PlainFunction, PlainProgram, plain_program}
+use Rattle.ec_core.specs.Plain.{PlainType, PlainExpr, PlainNode, PlainPlace, OptionPlainExpr, PlainExprs, last_expr}
+use Rattle.ec_core.specs.Plain.{PlainStmt, PlainStmts, PlainObject, PlainFunction, PlainProgram, plain_program}
 use Rattle.ec_core.specs.State.{State}
 use Rattle.ec_core.specs.Typing.{IsTyped}
-use Rattle.ec_core.specs.Valid.{Valid, IsExprType, ValidExpr, ValidParts, ValidPlace, ValidOption, ValidExprs, ValidOptional, ValidCondition, AreLeafValues, ValidStmt, ValidStmts}
+use Rattle.ec_core.specs.Valid.{Valid, IsExprType, ValidExpr, ValidParts, ValidPlace, ValidOption, ValidExprs}
+use Rattle.ec_core.specs.Valid.{ValidOptional, ValidCondition, AreLeafValues, ValidStmt, ValidStmts}
 use Rattle.ec_core.specs.ValueTypes.{HasType, IsTypedState, GiveBytes, AreArgumentValues}
 use Rattle.ec_interp.specs.declared.behaviour.Unanswered.{Unanswered as Reason}
 use Rattle.ec_interp.specs.declared.behaviour.Unanswered.TheVariants.{NoMemory, Unsuited}
@@ -19,12 +23,12 @@ use Rattle.ec_interp.specs.Views.{inputs_of}
 
 -- ---- answers
 
--- the reason is want of memory
+-- the reason is that it ran out of memory
 abbrev pub IsMemory : Reason → Type 0
 IsMemory NoMemory = ⊤
 IsMemory Unsuited = ⊥
 
--- an answer, but for want of memory
+-- an answer, but for running out of memory
 abbrev pub IsAnswered : {A : Type 0} → Result A Stop → Type 0
 IsAnswered (Ok x) = ⊤
 IsAnswered (Err (Unanswered why)) = IsMemory why
@@ -94,7 +98,10 @@ module _ (f : Context) where
 
   -- the values of a declared object's leaves from number k on, one for each, or none at all
   abbrev pub AreLeft : ℕ → ℕ → PlainExprs → ℕ → Type 0
-  AreLeft o k es g = (d : PlainObject) × (slice_get program.objects o ≡ Some d) × ((es ≡ last_expr) ⊎ AreLeafValues program f.io.now g (drop k (leaves_of_type program.structs d.ty)) es) × ValidExprs program f.io.now g es
+  AreLeft o k es g =
+      (d : PlainObject) × (slice_get program.objects o ≡ Some d)
+      × ((es ≡ last_expr) ⊎ AreLeafValues program f.io.now g (drop k (leaves_of_type program.structs d.ty)) es)
+      × ValidExprs program f.io.now g es
 
   abbrev pub RunsLeaves : State → ℕ → ℕ → PlainExprs → Type 0
   RunsLeaves s o k es = Runs f s (AreLeft o k es)
@@ -114,10 +121,12 @@ module _ (f : Context) where
 
   -- a function with these arguments, which have the types of its parameters
   abbrev pub IsCalled : ℕ → PlainFunction → List Value → Type 0
-  IsCalled g function xs = (slice_get program.functions g ≡ Some function) × AreArgumentValues program function.params xs
+  IsCalled g function xs =
+      (slice_get program.functions g ≡ Some function) × AreArgumentValues program function.params xs
 
   abbrev pub AreArgumentsOf : ℕ → List Value → Type 0
-  AreArgumentsOf g xs = IsSomeAnd (slice_get program.functions g) (λ function. AreArgumentValues program function.params xs)
+  AreArgumentsOf g xs =
+      IsSomeAnd (slice_get program.functions g) (λ function. AreArgumentValues program function.params xs)
 
   -- an operand of an expression's type
   pub record IsOperand (ty : PlainType) (x : Value) : Type 0 where

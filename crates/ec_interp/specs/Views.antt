@@ -4,7 +4,8 @@ use Rattle.ec_runs.specs.Behaviours.{Behaviour as BehaviourOf, Ended as EndedWit
 use Rattle.ec_iohw.specs.declared.table.IoTable.{IoTable}
 use Rattle.ec_core.specs.declared.expressions.Expr.{Expr}
 use Rattle.ec_core.specs.declared.programs.LeafInit.{LeafInit}
-use Rattle.ec_core.specs.declared.programs.LeafInit.TheVariants.{Number as TheNumber, Null as TheNull, Address as TheAddress}
+use Rattle.ec_core.specs.declared.programs.LeafInit.TheVariants.{Number as TheNumber, Null as TheNull}
+use Rattle.ec_core.specs.declared.programs.LeafInit.TheVariants.{Address as TheAddress}
 use Rattle.ec_core.specs.declared.programs.Program.{Program}
 use Rattle.ec_core.specs.declared.values.Undefined.{Undefined}
 use Rattle.ec_core.specs.Layout.{AreStructs}
@@ -12,7 +13,8 @@ use Rattle.ec_core.specs.Meaning.{setting}
 use Rattle.ec_core.specs.Plain.{plain_program, plain_struct, plain_expr, OptionPlainExpr, no_expr, an_expr}
 use Rattle.ec_core.specs.PortOperations.{PortAction, reads, writes, updates}
 use Rattle.ec_core.specs.PortTable.{plain_table}
-use Rattle.ec_core.specs.State.{Inputs, Setting, Event as EventOf, In as InOf, Out as OutOf, Read as ReadOf, Write as WriteOf, ObjectState as ObjectStateOf, State as StateOf}
+use Rattle.ec_core.specs.State.{Inputs, Setting, Event as EventOf, In as InOf, Out as OutOf, Read as ReadOf}
+use Rattle.ec_core.specs.State.{Write as WriteOf, ObjectState as ObjectStateOf, State as StateOf}
 use Rattle.ec_core.specs.Statements.{Exit as ExitOf, at_end, by_break, by_continue, by_return}
 use Rattle.ec_interp.specs.declared.behaviour.Behaviour.{Behaviour}
 use Rattle.ec_interp.specs.declared.behaviour.Behaviour.TheVariants.{Ended, Running, MeetsUndefined}
@@ -64,7 +66,13 @@ abbrev pub seen_object : ObjectState → ObjectStateOf
 seen_object x = record { serial = x.serial; live = x.live; leaves = x.leaves.items }
 
 abbrev pub seen : State → StateOf
-seen s = record { objects = map seen_object s.objects.items; acquired = s.acquired.items; events = map seen_event s.events.items; work = s.work }
+seen s =
+    record {
+      objects = map seen_object s.objects.items;
+      acquired = s.acquired.items;
+      events = map seen_event s.events.items;
+      work = s.work;
+    }
 
 abbrev pub seen_exit : Exit → ExitOf
 seen_exit AtEnd = at_end

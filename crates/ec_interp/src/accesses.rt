@@ -1,7 +1,9 @@
 //! Accesses of the leaves of objects.
-ghost use Rattle.std.specs.Prelude.{◌≡◌, ◌==◌, ◌&&◌, Some, None, map, option_map, option_and_then, length, slice_get, IfErr, IfOk, OnOk};
+ghost use Rattle.std.specs.Prelude.{◌≡◌, ◌==◌, ◌&&◌, Some, None, map, option_map, option_and_then, length, slice_get};
+ghost use Rattle.std.specs.Prelude.{IfErr, IfOk, OnOk};
 ghost use Rattle.std.specs.List.{position_from};
-ghost use Rattle.ec_core.specs.Accesses.{access, leaf_at, leaf_of, is_readable, read, write, is_fixed, recorded, stored, own_access, initialised, with_leaf};
+ghost use Rattle.ec_core.specs.Accesses.{access, leaf_at, leaf_of, is_readable, read, write, is_fixed, recorded};
+ghost use Rattle.ec_core.specs.Accesses.{stored, own_access, initialised, with_leaf};
 ghost use Rattle.ec_core.specs.Expressions.{accessed};
 ghost use Rattle.ec_core.specs.Layout.{plain_leaf, IsObjectType};
 ghost use Rattle.ec_core.specs.Operators.{same_type};
@@ -13,7 +15,7 @@ ghost use Rattle.ec_interp.specs.Suits.{IsGiven, IsMemory, IsAnswered};
 ghost use Rattle.ec_interp.specs.Views.{seen, seen_object, seen_event, HasLayouts, setting_of};
 
 use crate::behaviour::{Event, Unanswered};
-use crate::layouts::{leaves_in, place_space, same_type};
+use crate::layouts::{leaves_in, place_space};
 use crate::objects::set_leaf;
 use crate::operators::{is_live_in, referent};
 use crate::state::{Context, ObjectState, State, Stop, at, object, object_state, told};
@@ -31,18 +33,21 @@ pub struct Found {
 /// The number of the leaf of a type that begins at an offset in an object.
 fn leaf_at(f: &Context, o: &Obj, ty: &CType, offset: u32) -> Result<Option<usize>, Unanswered>
     requires { HasLayouts f.now.program.now }
-    ensures answered { IsObjectType (length f.now.program.now.structs.items) (plain_object o.now).ty → IfErr result IsMemory }
-    ensures leaf { IfOk result (λ k. k ≡ leaf_at (plain_program f.now.program.now) (plain_object o.now) (plain_type ty.now) offset) }
+    ensures answered { IsObjectType (length f.now.program.now.structs.items) (plain_object o.now).ty
+        → IfErr result IsMemory }
+    ensures leaf { IfOk result (λ k. k
+        ≡ leaf_at (plain_program f.now.program.now) (plain_object o.now) (plain_type ty.now) offset) }
 {
     let leaves = leaves_in(f, &o.ty)?;
     Ok(leaf_among(leaves.as_slice(), ty, offset))
 }
 
 fn leaf_among(leaves: &[Leaf], ty: &CType, offset: u32) -> Option<usize>
-    ensures { result ≡ position_from (λ leaf. leaf.at == offset && same_type leaf.ty (plain_type ty.now)) 0 (map plain_leaf leaves.now) }
+    ensures { result ≡ position_from (λ leaf. leaf.at == offset && same_type leaf.ty (plain_type ty.now)) 0
+        (map plain_leaf leaves.now) }
 {
     for (k, leaf) in leaves.iter().enumerate() {
-        if leaf.at == offset && same_type(&leaf.ty, ty) {
+        if leaf.at == offset && leaf.ty.is_same(ty) {
             return Some(k);
         }
     }
@@ -59,7 +64,8 @@ fn access(
 ) -> Result<Option<Found>, Unanswered>
     requires { HasLayouts f.now.program.now }
     ensures answered { IsGiven f.now → IfErr result IsMemory }
-    ensures access { IfOk result (λ a. option_and_then (access_at (plain_program f.now.program.now) (seen s.now)) a ≡ access (plain_program f.now.program.now) (plain_type ty.now) space to (seen s.now)) }
+    ensures access { IfOk result (λ a. option_and_then (access_at (plain_program f.now.program.now) (seen s.now)) a
+        ≡ access (plain_program f.now.program.now) (plain_type ty.now) space to (seen s.now)) }
 {
     let Some(space) = space else {
         return Ok(None);
@@ -128,7 +134,9 @@ fn is_readable(f: &Context, s: &State, v: Value) -> Result<bool, Unanswered>
 fn read_at(f: &Context, s: &mut State, a: Found) -> Result<Value, Stop>
     requires { HasLayouts f.now.program.now }
     ensures answered { IsGiven f.now → IsAnswered result }
-    ensures shows { Shows result (seen s.new) (read (plain_program f.now.program.now) (access_at (plain_program f.now.program.now) (seen s.old) a) (seen s.old)) }
+    ensures shows { Shows result (seen s.new)
+        (read (plain_program f.now.program.now) (access_at (plain_program f.now.program.now) (seen s.old) a)
+        (seen s.old)) }
 {
     let Some(o) = object(f.program, a.object) else {
         return Err(Stop::Undefined(Undefined::Access));
@@ -162,7 +170,10 @@ pub fn read(
 ) -> Result<Value, Stop>
     requires { HasLayouts f.now.program.now }
     ensures answered { IsGiven f.now → IsAnswered result }
-    ensures shows { Shows result (seen s.new) (read (plain_program f.now.program.now) (accessed (setting_of f.now.program.now f.now.io.now f.now.inputs.now) (plain_type ty.now) (plain_place p.now) to (seen s.old)) (seen s.old)) }
+    ensures shows { Shows result (seen s.new)
+        (read (plain_program f.now.program.now)
+        (accessed (setting_of f.now.program.now f.now.io.now f.now.inputs.now) (plain_type ty.now)
+        (plain_place p.now) to (seen s.old)) (seen s.old)) }
 {
     let space = place_space(f.program, p);
     match access(f, s, ty, space, to)? {
@@ -176,7 +187,9 @@ pub fn read(
 
 /// A leaf gets a value.
 fn store(s: &mut State, o: &Obj, a: Found, v: Value) -> Result<(), NoMemory>
-    ensures { OnOk result (seen s.new ≡ recorded (plain_storage o.now.storage) (WriteOf a.object a.leaf a.space (told v)) (with_object a.object (with_leaf a.leaf v) (seen s.old))) }
+    ensures { OnOk result (seen s.new
+        ≡ recorded (plain_storage o.now.storage) (WriteOf a.object a.leaf a.space (told v))
+        (with_object a.object (with_leaf a.leaf v) (seen s.old))) }
 {
     set_leaf(s, a.object, a.leaf, v);
     let event = Event::Write {
@@ -198,7 +211,8 @@ fn is_fixed(o: &Obj) -> bool
 
 fn write_at(f: &Context, s: &mut State, a: Found, v: Value) -> Result<Value, Stop>
     ensures answered { IsAnswered result }
-    ensures shows { Shows result (seen s.new) (write (access_at (plain_program f.now.program.now) (seen s.old) a) v (seen s.old)) }
+    ensures shows { Shows result (seen s.new)
+        (write (access_at (plain_program f.now.program.now) (seen s.old) a) v (seen s.old)) }
 {
     let Some(o) = object(f.program, a.object) else {
         return Err(Stop::Undefined(Undefined::Access));
@@ -224,7 +238,9 @@ pub fn write(
 ) -> Result<Value, Stop>
     requires { HasLayouts f.now.program.now }
     ensures answered { IsGiven f.now → IsAnswered result }
-    ensures shows { Shows result (seen s.new) (write (accessed (setting_of f.now.program.now f.now.io.now f.now.inputs.now) (plain_type ty.now) (plain_place p.now) to (seen s.old)) v (seen s.old)) }
+    ensures shows { Shows result (seen s.new)
+        (write (accessed (setting_of f.now.program.now f.now.io.now f.now.inputs.now) (plain_type ty.now)
+        (plain_place p.now) to (seen s.old)) v (seen s.old)) }
 {
     let space = place_space(f.program, p);
     match access(f, s, ty, space, to)? {

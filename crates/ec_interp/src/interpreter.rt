@@ -51,8 +51,14 @@ fn initial_leaves(alloc: Global, inits: &[LeafInit]) -> Result<Vec<Option<Value>
 
 fn unset_object(f: &Context, o: &Obj, live: bool) -> Result<ObjectState, Unanswered>
     requires { HasLayouts f.now.program.now }
-    ensures answered { IsObjectType (length f.now.program.now.structs.items) (plain_object o.now).ty → IfErr result IsMemory }
-    ensures object { IfOk result (λ x. seen_object x ≡ record { serial = 0; live = live; leaves = replicate (leaf_count (plain_program f.now.program.now) (plain_object o.now).ty) None }) }
+    ensures answered { IsObjectType (length f.now.program.now.structs.items) (plain_object o.now).ty
+        → IfErr result IsMemory }
+    ensures object { IfOk result (λ x. seen_object x
+        ≡ record {
+          serial = 0;
+          live = live;
+          leaves = replicate (leaf_count (plain_program f.now.program.now) (plain_object o.now).ty) None;
+        }) }
 {
     let count = leaf_count(f, &o.ty)?;
     let leaves = unset_leaves(f.alloc, count)?;
@@ -65,8 +71,11 @@ fn unset_object(f: &Context, o: &Obj, live: bool) -> Result<ObjectState, Unanswe
 
 fn initial_object(f: &Context, o: &Obj) -> Result<ObjectState, Unanswered>
     requires { HasLayouts f.now.program.now }
-    ensures answered { IsObjectType (length f.now.program.now.structs.items) (plain_object o.now).ty → IfErr result IsMemory }
-    ensures object { IfOk result (λ x. seen_object x ≡ initial_object (leaf_count (plain_program f.now.program.now) (plain_object o.now).ty) (plain_object o.now).storage) }
+    ensures answered { IsObjectType (length f.now.program.now.structs.items) (plain_object o.now).ty
+        → IfErr result IsMemory }
+    ensures object { IfOk result (λ x. seen_object x
+        ≡ initial_object (leaf_count (plain_program f.now.program.now) (plain_object o.now).ty)
+        (plain_object o.now).storage) }
 {
     match &o.storage {
         Storage::Static(inits) => {
@@ -94,8 +103,11 @@ fn initial_object(f: &Context, o: &Obj) -> Result<ObjectState, Unanswered>
 
 fn initial_objects(f: &Context, objs: &[Obj]) -> Result<Vec<ObjectState>, Unanswered>
     requires { HasLayouts f.now.program.now }
-    ensures answered { AllByRecursion (IsObject (plain_program f.now.program.now)) (map plain_object objs.now) → IfErr result IsMemory }
-    ensures objects { IfOk result (λ xs. map seen_object xs.items ≡ map (λ o. initial_object (leaf_count (plain_program f.now.program.now) o.ty) o.storage) (map plain_object objs.now)) }
+    ensures answered { AllByRecursion (IsObject (plain_program f.now.program.now)) (map plain_object objs.now)
+        → IfErr result IsMemory }
+    ensures objects { IfOk result (λ xs. map seen_object xs.items
+        ≡ map (λ o. initial_object (leaf_count (plain_program f.now.program.now) o.ty) o.storage)
+        (map plain_object objs.now)) }
 {
     let mut objects = Vec::new(f.alloc);
     for o in objs {
@@ -124,7 +136,8 @@ fn none_acquired(f: &Context) -> Result<Vec<bool>, NoMemory>
 fn initial_state(f: &Context) -> Result<State, Unanswered>
     requires { HasLayouts f.now.program.now }
     ensures answered { IsGiven f.now → IfErr result IsMemory }
-    ensures state { IfOk result (λ s. seen s ≡ initial_state (plain_program f.now.program.now) (plain_table f.now.io.now)) }
+    ensures state { IfOk result (λ s. seen s
+        ≡ initial_state (plain_program f.now.program.now) (plain_table f.now.io.now)) }
 {
     let objects = initial_objects(f, f.program.objs.as_slice())?;
     let acquired = none_acquired(f)?;
@@ -188,7 +201,7 @@ fn steps(words: u64) -> Result<u64, NoMemory>
 
 /// What a program does with these inputs, where each execution of a loop has at most `turns` turns, and
 /// the bound on the machine's steps that comes with it. For ports without an entry of their own there
-/// is no input. Of a valid program nothing but want of memory keeps it from an answer.
+/// is no input. Of a valid program only running out of memory keeps it from an answer.
 pub fn interpret(
     alloc: Global,
     program: &Program,
@@ -197,9 +210,13 @@ pub fn interpret(
     turns: u32,
 ) -> Result<Run, Unanswered>
     requires { HasLayouts program.now }
-    ensures behaviour { IfOk result (λ run. seen_behaviour run.behaviour ≡ source (plain_program program.now) (plain_table io.now) (inputs_of inputs.now.items) turns) }
-    ensures work { IfOk result (λ run. run.work ≡ work (plain_program program.now) (plain_table io.now) (inputs_of inputs.now.items) turns) }
-    ensures answered { Valid (plain_program program.now) io.now → GiveBytes (inputs_of inputs.now.items) → IfErr result (λ why. why ≡ OutOfMemory) }
+    ensures behaviour { IfOk result
+        (λ run. seen_behaviour run.behaviour
+        ≡ source (plain_program program.now) (plain_table io.now) (inputs_of inputs.now.items) turns) }
+    ensures work { IfOk result (λ run. run.work
+        ≡ work (plain_program program.now) (plain_table io.now) (inputs_of inputs.now.items) turns) }
+    ensures answered { Valid (plain_program program.now) io.now → GiveBytes (inputs_of inputs.now.items)
+        → IfErr result (λ why. why ≡ OutOfMemory) }
 {
     let f = Context {
         alloc,

@@ -3,8 +3,8 @@ ghost use Rattle.std.specs.Prelude.{◌≡◌, ◌≤◌, IsTrue, map, length, t
 ghost use Rattle.std.specs.List.{AllByRecursion};
 ghost use Rattle.std.specs.Option.{option_copied};
 ghost use Rattle.ec_core.specs.Accesses.{element_size, leaf_count, member_offset};
-ghost use Rattle.ec_core.specs.Layout.{plain_leaf, size_of_type, leaves_of_type, members_layout, struct_layouts, NamesBelow, IsElement, IsObjectType};
-ghost use Rattle.ec_core.specs.Operators.{same_type};
+ghost use Rattle.ec_core.specs.Layout.{plain_leaf, size_of_type, leaves_of_type, members_layout, struct_layouts};
+ghost use Rattle.ec_core.specs.Layout.{NamesBelow, IsElement, IsObjectType};
 ghost use Rattle.ec_core.specs.Plain.{void, plain_type, plain_member, plain_struct, plain_place, plain_program};
 ghost use Rattle.ec_core.specs.Typing.{pointee, pointer_space, member_type, place_type, place_space};
 ghost use Rattle.ec_core.specs.Valid.{IsExprType};
@@ -55,8 +55,10 @@ fn has_layout(count: usize, ty: &CType) -> bool
 /// The size of a type in bytes.
 pub fn size(f: &Context, ty: &CType) -> Result<u32, Unanswered>
     requires { HasLayouts f.now.program.now }
-    ensures size { IfOk result (λ bytes. bytes ≡ size_of_type (map plain_struct f.now.program.now.structs.items) (plain_type ty.now)) }
-    ensures answered { IsObjectType (length f.now.program.now.structs.items) (plain_type ty.now) → IfErr result IsMemory }
+    ensures size { IfOk result (λ bytes. bytes
+        ≡ size_of_type (map plain_struct f.now.program.now.structs.items) (plain_type ty.now)) }
+    ensures answered { IsObjectType (length f.now.program.now.structs.items) (plain_type ty.now)
+        → IfErr result IsMemory }
 {
     if !has_layout(f.program.structs.len(), ty) {
         return Err(Unanswered::Unsuited);
@@ -67,8 +69,10 @@ pub fn size(f: &Context, ty: &CType) -> Result<u32, Unanswered>
 /// The scalar leaves of a type.
 pub fn leaves_in(f: &Context, ty: &CType) -> Result<Seq<Leaf>, Unanswered>
     requires { HasLayouts f.now.program.now }
-    ensures leaves { IfOk result (λ leaves. map plain_leaf leaves.items ≡ leaves_of_type (map plain_struct f.now.program.now.structs.items) (plain_type ty.now)) }
-    ensures answered { IsObjectType (length f.now.program.now.structs.items) (plain_type ty.now) → IfErr result IsMemory }
+    ensures leaves { IfOk result (λ leaves. map plain_leaf leaves.items
+        ≡ leaves_of_type (map plain_struct f.now.program.now.structs.items) (plain_type ty.now)) }
+    ensures answered { IsObjectType (length f.now.program.now.structs.items) (plain_type ty.now)
+        → IfErr result IsMemory }
 {
     if !has_layout(f.program.structs.len(), ty) {
         return Err(Unanswered::Unsuited);
@@ -83,7 +87,8 @@ pub fn leaves_in(f: &Context, ty: &CType) -> Result<Seq<Leaf>, Unanswered>
 pub fn leaf_count(f: &Context, ty: &CType) -> Result<usize, Unanswered>
     requires { HasLayouts f.now.program.now }
     ensures count { IfOk result (λ n. n ≡ leaf_count (plain_program f.now.program.now) (plain_type ty.now)) }
-    ensures answered { IsObjectType (length f.now.program.now.structs.items) (plain_type ty.now) → IfErr result IsMemory }
+    ensures answered { IsObjectType (length f.now.program.now.structs.items) (plain_type ty.now)
+        → IfErr result IsMemory }
 {
     let leaves = leaves_in(f, ty)?;
     Ok(leaves.len())
@@ -91,23 +96,13 @@ pub fn leaf_count(f: &Context, ty: &CType) -> Result<usize, Unanswered>
 
 // ---- parts of types
 
-/// What a type points to.
-pub fn pointee(ty: &CType) -> Option<&CType>
-    ensures { option_map plain_type (option_copied result) ≡ pointee (plain_type ty.now) }
-{
-    match ty {
-        CType::Ptr { to, .. } => Some(to),
-        _ => None,
-    }
-}
-
 /// The size of what a type points to, 0 where it is no pointer.
 pub fn element_size(f: &Context, ty: &CType) -> Result<u32, Unanswered>
     requires { HasLayouts f.now.program.now }
     ensures size { IfOk result (λ bytes. bytes ≡ element_size (plain_program f.now.program.now) (plain_type ty.now)) }
     ensures answered { IsExprType (plain_program f.now.program.now) (plain_type ty.now) → IfErr result IsMemory }
 {
-    match pointee(ty) {
+    match ty.pointee() {
         Some(to) => {
             let bytes = size(f, to)?;
             Ok(bytes)
@@ -117,7 +112,8 @@ pub fn element_size(f: &Context, ty: &CType) -> Result<u32, Unanswered>
 }
 
 fn struct_at(program: &Program, index: u32) -> Option<&StructDef>
-    ensures { option_map plain_struct (option_copied result) ≡ slice_get (map plain_struct program.now.structs.items) index }
+    ensures { option_map plain_struct (option_copied result)
+        ≡ slice_get (map plain_struct program.now.structs.items) index }
 {
     at(program.structs.as_slice(), index as usize)
 }
@@ -130,7 +126,8 @@ fn member_at(def: &StructDef, i: u16) -> Option<&Member>
 
 /// The type of the member with a number of a type, which is that of a struct.
 fn member_type<'a>(program: &'a Program, ty: &CType, i: u16) -> Option<&'a CType>
-    ensures { option_map plain_type (option_copied result) ≡ member_type (plain_program program.now) (plain_type ty.now) i }
+    ensures { option_map plain_type (option_copied result)
+        ≡ member_type (plain_program program.now) (plain_type ty.now) i }
 {
     match ty {
         CType::Struct { index } => match struct_at(program, *index) {
@@ -147,10 +144,16 @@ fn member_type<'a>(program: &'a Program, ty: &CType, i: u16) -> Option<&'a CType
 /// The size of the first members. They and those behind them are small together.
 fn members_size(f: &Context, members: &[Member], count: usize) -> Result<u32, Unanswered>
     requires layouts { HasLayouts f.now.program.now }
-    requires small { (members_layout (struct_layouts (map plain_struct f.now.program.now.structs.items)) (map plain_member members.now)).size ≤ 32_767 }
-    ensures size { IfOk result (λ bytes. bytes ≡ (members_layout (struct_layouts (map plain_struct f.now.program.now.structs.items)) (take count (map plain_member members.now))).size) }
-    ensures bound { IfOk result (λ bytes. bytes ≤ (members_layout (struct_layouts (map plain_struct f.now.program.now.structs.items)) (map plain_member members.now)).size) }
-    ensures answered { AllByRecursion (λ m. IsObjectType (length f.now.program.now.structs.items) m.ty) (map plain_member members.now) → IfErr result IsMemory }
+    requires small { (members_layout (struct_layouts (map plain_struct f.now.program.now.structs.items))
+        (map plain_member members.now)).size ≤ 32_767 }
+    ensures size { IfOk result (λ bytes. bytes
+        ≡ (members_layout (struct_layouts (map plain_struct f.now.program.now.structs.items))
+        (take count (map plain_member members.now))).size) }
+    ensures bound { IfOk result (λ bytes.
+        bytes ≤ (members_layout (struct_layouts (map plain_struct f.now.program.now.structs.items))
+        (map plain_member members.now)).size) }
+    ensures answered { AllByRecursion (λ m. IsObjectType (length f.now.program.now.structs.items) m.ty)
+        (map plain_member members.now) → IfErr result IsMemory }
 {
     if count == 0 {
         return Ok(0);
@@ -168,7 +171,9 @@ fn members_size(f: &Context, members: &[Member], count: usize) -> Result<u32, Un
 /// Where the member with a number begins in a type, which is that of a struct.
 pub fn member_offset(f: &Context, ty: Option<&CType>, i: u16) -> Result<u32, Unanswered>
     requires { HasLayouts f.now.program.now }
-    ensures size { IfOk result (λ bytes. bytes ≡ member_offset (plain_program f.now.program.now) (unwrap_or (option_map plain_type (option_copied ty.entry)) void) i) }
+    ensures size { IfOk result (λ bytes. bytes
+        ≡ member_offset (plain_program f.now.program.now)
+        (unwrap_or (option_map plain_type (option_copied ty.entry)) void) i) }
     ensures answered { IfErr result IsMemory }
 {
     match ty {
@@ -187,14 +192,15 @@ pub fn member_offset(f: &Context, ty: Option<&CType>, i: u16) -> Result<u32, Una
 
 /// The type of a place.
 pub fn place_type<'a>(program: &'a Program, p: &'a PlaceExpr) -> Option<&'a CType>
-    ensures { option_map plain_type (option_copied result) ≡ place_type (plain_program program.now) (plain_place p.now) }
+    ensures { option_map plain_type (option_copied result)
+        ≡ place_type (plain_program program.now) (plain_place p.now) }
 {
     match p {
         PlaceExpr::Object(o) => match object(program, *o) {
             Some(x) => Some(&x.ty),
             None => None,
         },
-        PlaceExpr::Deref(e) => pointee(&e.ty),
+        PlaceExpr::Deref(e) => e.ty.pointee(),
         PlaceExpr::Member(q, i) => match place_type(program, q) {
             Some(ty) => member_type(program, ty, *i),
             None => None,
@@ -216,47 +222,5 @@ pub fn place_space(program: &Program, p: &PlaceExpr) -> Option<SpaceId>
             _ => None,
         },
         PlaceExpr::Member(q, _) => place_space(program, q),
-    }
-}
-
-// ---- equality
-
-/// Whether two types are the same.
-pub fn same_type(a: &CType, b: &CType) -> bool
-    ensures { result ≡ same_type (plain_type a.now) (plain_type b.now) }
-{
-    match (a, b) {
-        (CType::Void, CType::Void) => true,
-        (
-            CType::Int { signed, bytes },
-            CType::Int {
-                signed: other,
-                bytes: count,
-            },
-        ) => *signed == *other && *bytes == *count,
-        (
-            CType::Fx { kind, sat },
-            CType::Fx {
-                kind: other,
-                sat: saturates,
-            },
-        ) => *kind == *other && *sat == *saturates,
-        (
-            CType::Ptr { space, konst, to },
-            CType::Ptr {
-                space: other,
-                konst: fixed,
-                to: target,
-            },
-        ) => *space == *other && *konst == *fixed && same_type(to, target),
-        (
-            CType::Array { of, len },
-            CType::Array {
-                of: other,
-                len: count,
-            },
-        ) => same_type(of, other) && *len == *count,
-        (CType::Struct { index }, CType::Struct { index: other }) => *index == *other,
-        _ => false,
     }
 }

@@ -17,8 +17,3 @@ mod words;
 
 pub use behaviour::{Behaviour, Event, PortInput, Run, Told, Unanswered};
 pub use interpreter::interpret;
-
-#[cfg(test)]
-mod tests;
-#[cfg(test)]
-mod trees;

@@ -3,9 +3,12 @@ ghost use Rattle.std.specs.Prelude.{◌≡◌, IsTrue, IfErr, IfOk};
 ghost use Rattle.ec_fx.specs.Arithmetic.{IsOneByte, IsResultFormat};
 ghost use Rattle.ec_fx.specs.Formats.{IsFormat};
 ghost use Rattle.ec_fx.specs.Numbers.{IsNumber};
-ghost use Rattle.ec_core.specs.ArithmeticValues.{HoldsNumber, operand, arithmetic_value, IsShift, SuitsFixed, SuitsTyped, IsIntegerResult, IsWholeOperand, Suits, unary_value, IsKnownType, conversion_value};
+ghost use Rattle.ec_core.specs.ArithmeticValues.{HoldsNumber, operand, arithmetic_value, IsShift, SuitsFixed};
+ghost use Rattle.ec_core.specs.ArithmeticValues.{SuitsTyped, IsIntegerResult, IsWholeOperand, Suits, unary_value};
+ghost use Rattle.ec_core.specs.ArithmeticValues.{IsKnownType, conversion_value};
 ghost use Rattle.ec_core.specs.Integers.{IsInteger};
-ghost use Rattle.ec_core.specs.Operators.{number_type, beside, promoted_type, operation_types, operation_value, compound_value, brought};
+ghost use Rattle.ec_core.specs.Operators.{number_type, converted_beside, promoted_type, operation_types};
+ghost use Rattle.ec_core.specs.Operators.{operation_value, compound_value, brought};
 ghost use Rattle.ec_core.specs.Plain.{plain_type};
 ghost use Rattle.ec_core.specs.Typing.{HaveCompoundArithmetic};
 ghost use Rattle.ec_interp.specs.Shows.{Tells};
@@ -29,7 +32,7 @@ fn is_integer(t: IntegerType) -> bool
 }
 
 /// Whether a number is a value of a type.
-fn holds(t: Arithmetic, n: i128) -> bool
+fn is_in_range(t: Arithmetic, n: i128) -> bool
     ensures only { IsTrue result → HoldsNumber t n }
     ensures all { HoldsNumber t n → IsTrue result }
 {
@@ -183,7 +186,7 @@ fn operand(t: Arithmetic, n: i128) -> Result<Num, Unanswered>
     ensures number { IfOk result IsNumber }
     ensures answered { HoldsNumber t n → IfErr result IsMemory }
 {
-    if !holds(t, n) {
+    if !is_in_range(t, n) {
         return Err(Unanswered::Unsuited);
     }
     Ok(t.operand(n))
@@ -216,7 +219,8 @@ pub struct Typed {
 pub fn operation(op: BinOp, ty: Arithmetic, mode: Mode, a: Typed, b: Typed) -> Result<i128, Stop>
     ensures tells { Tells result (arithmetic_value op ty mode (operand a.ty a.n) (operand b.ty b.n)) }
     ensures held { IfOk result (HoldsNumber ty) }
-    ensures answered { HoldsNumber a.ty a.n → HoldsNumber b.ty b.n → Suits op ty (operand a.ty a.n) (operand b.ty b.n) → IsAnswered result }
+    ensures answered { HoldsNumber a.ty a.n → HoldsNumber b.ty b.n → Suits op ty (operand a.ty a.n) (operand b.ty b.n)
+        → IsAnswered result }
 {
     let x = operand(a.ty, a.n)?;
     let y = operand(b.ty, b.n)?;
@@ -228,7 +232,7 @@ pub fn unary(op: UnOp, ty: Arithmetic, mode: Mode, n: i128) -> Result<i128, Stop
     ensures tells { Tells result (unary_value op ty mode n) }
     ensures answered { HoldsNumber ty n → IsAnswered result }
 {
-    if !holds(ty, n) {
+    if !is_in_range(ty, n) {
         return Err(Stop::Unanswered(Unanswered::Unsuited));
     }
     match (op, ty) {
@@ -258,8 +262,8 @@ pub fn brought(to: Arithmetic, mode: Mode, a: Typed) -> Result<i128, Stop>
 
 // ---- compound assignments
 
-fn beside(x: Arithmetic, y: Arithmetic) -> Arithmetic
-    ensures { result ≡ beside x y }
+fn converted_beside(x: Arithmetic, y: Arithmetic) -> Arithmetic
+    ensures { result ≡ converted_beside x y }
 {
     match x {
         Arithmetic::Integer(s) => match y {
@@ -309,8 +313,8 @@ fn operation_types(op: BinOp, x: Arithmetic, y: Arithmetic) -> OperationTypes
             outcome: promoted_type(x),
         },
         _ => OperationTypes {
-            left: beside(x, y),
-            right: beside(y, x),
+            left: converted_beside(x, y),
+            right: converted_beside(y, x),
             outcome: x.common(y),
         },
     }
@@ -318,13 +322,20 @@ fn operation_types(op: BinOp, x: Arithmetic, y: Arithmetic) -> OperationTypes
 
 /// The number that a compound assignment writes: the operation's result in the type of the place. The
 /// first mode is that of the operation, and the second that of the conversion.
-pub fn compound(op: BinOp, own: Mode, mode: Mode, a: Typed, b: Typed) -> Result<i128, Stop>
-    ensures tells { Tells result (compound_value op own mode a.ty a.n b.ty b.n) }
-    ensures answered { HaveCompoundArithmetic op a.ty b.ty → HoldsNumber a.ty a.n → HoldsNumber b.ty b.n → IsAnswered result }
+pub fn compound(
+    op: BinOp,
+    operation_mode: Mode,
+    mode: Mode,
+    a: Typed,
+    b: Typed,
+) -> Result<i128, Stop>
+    ensures tells { Tells result (compound_value op operation_mode mode a.ty a.n b.ty b.n) }
+    ensures answered { HaveCompoundArithmetic op a.ty b.ty → HoldsNumber a.ty a.n → HoldsNumber b.ty b.n
+        → IsAnswered result }
 {
     let types = operation_types(op, a.ty, b.ty);
-    let x = brought(types.left, own, a)?;
-    let y = brought(types.right, own, b)?;
+    let x = brought(types.left, operation_mode, a)?;
+    let y = brought(types.right, operation_mode, b)?;
     let left = Typed {
         ty: types.left,
         n: x,
@@ -333,7 +344,7 @@ pub fn compound(op: BinOp, own: Mode, mode: Mode, a: Typed, b: Typed) -> Result<
         ty: types.right,
         n: y,
     };
-    let n = operation(op, types.outcome, own, left, right)?;
+    let n = operation(op, types.outcome, operation_mode, left, right)?;
     brought(
         a.ty,
         mode,

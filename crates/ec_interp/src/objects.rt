@@ -1,6 +1,7 @@
 //! The life of objects.
 ghost use Rattle.std.specs.Prelude.{◌≡◌, None, replicate, map, option_map, unwrap_or, slice_get, IfErr, IfOk, OnOk};
-ghost use Rattle.ec_core.specs.Accesses.{pointer_to, leaf_count, renewed, ended, begun, all_ended, belongs_to, frame_ended, with_leaf};
+ghost use Rattle.ec_core.specs.Accesses.{pointer_to, leaf_count, renewed, ended, begun, all_ended, belongs_to};
+ghost use Rattle.ec_core.specs.Accesses.{frame_ended, with_leaf};
 ghost use Rattle.ec_core.specs.Plain.{a_stmt, plain_object, plain_storage, plain_stmt, plain_stmts, plain_program};
 ghost use Rattle.ec_core.specs.State.{with_object};
 ghost use Rattle.ec_core.specs.Statements.{declared, declared_first};
@@ -56,7 +57,9 @@ fn renew(alloc: Global, x: &mut ObjectState, count: usize) -> Result<(), NoMemor
 
 fn own_leaf_count(f: &Context, o: u16) -> Result<usize, Unanswered>
     requires { HasLayouts f.now.program.now }
-    ensures count { IfOk result (λ n. n ≡ unwrap_or (option_map (λ x. leaf_count (plain_program f.now.program.now) x.ty) (slice_get (plain_program f.now.program.now).objects o)) 0) }
+    ensures count { IfOk result (λ n. n
+        ≡ unwrap_or (option_map (λ x. leaf_count (plain_program f.now.program.now) x.ty)
+        (slice_get (plain_program f.now.program.now).objects o)) 0) }
     ensures answered { IsGiven f.now → IfErr result IsMemory }
 {
     match object(f.program, o) {

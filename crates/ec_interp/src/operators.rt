@@ -3,9 +3,11 @@ ghost use Rattle.std.specs.Prelude.{◌≡◌, ◌^◌, ◌≤◌, ◌≤ℤ◌,
 ghost use Rattle.ec_core.specs.declared.values.Value.TheVariants.{Pointer as ThePointer};
 ghost use Rattle.ec_core.specs.Accesses.{is_live_in, referent_of, element_size, operand_of};
 ghost use Rattle.ec_core.specs.Layout.{IsScalar};
-ghost use Rattle.ec_core.specs.Operators.{number_type, unary_result, pointers_result, offset_result, binary_result, conversion_result, truth_result, compound_result};
+ghost use Rattle.ec_core.specs.Operators.{number_type, unary_result, pointers_result, offset_result, binary_result};
+ghost use Rattle.ec_core.specs.Operators.{conversion_result, truth_result, compound_result};
 ghost use Rattle.ec_core.specs.Plain.{void, plain_type, plain_program};
-ghost use Rattle.ec_core.specs.Pointers.{displaced, moved, sum_of_pointer, comparison_of_pointers, difference_of_pointers};
+ghost use Rattle.ec_core.specs.Pointers.{displaced, moved, sum_of_pointer, comparison_of_pointers};
+ghost use Rattle.ec_core.specs.Pointers.{difference_of_pointers};
 ghost use Rattle.ec_core.specs.Typing.{HaveBinaryTypes, HaveCompoundTypes, AreConvertible};
 ghost use Rattle.ec_core.specs.Valid.{IsExprType};
 ghost use Rattle.ec_interp.specs.Shows.{Tells};
@@ -150,8 +152,10 @@ fn offset_pointer(
 ) -> Result<Value, Stop>
     requires layouts { HasLayouts f.now.program.now }
     requires pointer { a.now.value ≡ ThePointer p }
-    ensures tells { Tells result (offset_result op (operand_of (plain_program f.now.program.now) (plain_type a.now.ty.now) a.now.value (seen s.now)) p n) }
-    ensures answered { IsGiven f.now → IsExprType (plain_program f.now.program.now) (plain_type a.now.ty.now) → IsNear n → IsAnswered result }
+    ensures tells { Tells result (offset_result op
+        (operand_of (plain_program f.now.program.now) (plain_type a.now.ty.now) a.now.value (seen s.now)) p n) }
+    ensures answered { IsGiven f.now → IsExprType (plain_program f.now.program.now) (plain_type a.now.ty.now) → IsNear n
+        → IsAnswered result }
 {
     if !is_near(n) {
         return Err(Stop::Unanswered(Unanswered::Unsuited));
@@ -184,7 +188,9 @@ fn compared(
 ) -> Result<i128, Stop>
     requires { HasLayouts f.now.program.now }
     ensures answered { IsGiven f.now → IsAnswered result }
-    ensures tells { Tells result (comparison_of_pointers op p (referent_of (plain_program f.now.program.now) p (seen s.now)) q (referent_of (plain_program f.now.program.now) q (seen s.now))) }
+    ensures tells { Tells result (comparison_of_pointers op p
+        (referent_of (plain_program f.now.program.now) p (seen s.now)) q
+        (referent_of (plain_program f.now.program.now) q (seen s.now))) }
 {
     let of = referent(f, s, p)?;
     let into = referent(f, s, q)?;
@@ -203,7 +209,9 @@ fn difference(
 ) -> Result<i128, Stop>
     requires { HasLayouts f.now.program.now }
     ensures answered { IsGiven f.now → 1 ≤ element → IsAnswered result }
-    ensures tells { Tells result (difference_of_pointers element p (referent_of (plain_program f.now.program.now) p (seen s.now)) q (referent_of (plain_program f.now.program.now) q (seen s.now))) }
+    ensures tells { Tells result (difference_of_pointers element p
+        (referent_of (plain_program f.now.program.now) p (seen s.now)) q
+        (referent_of (plain_program f.now.program.now) q (seen s.now))) }
 {
     if element == 0 {
         return Err(Stop::Unanswered(Unanswered::Unsuited));
@@ -229,8 +237,11 @@ fn pointers(
     requires layouts { HasLayouts f.now.program.now }
     requires left { a.now.value ≡ ThePointer p }
     requires right { b.now.value ≡ ThePointer q }
-    ensures answered { IsGiven f.now → IsExprType (plain_program f.now.program.now) (plain_type a.now.ty.now) → 1 ≤ element_size (plain_program f.now.program.now) (plain_type a.now.ty.now) → IsAnswered result }
-    ensures tells { Tells result (pointers_result op (operand_of (plain_program f.now.program.now) (plain_type a.now.ty.now) a.now.value (seen s.now)) p (operand_of (plain_program f.now.program.now) (plain_type b.now.ty.now) b.now.value (seen s.now)) q) }
+    ensures answered { IsGiven f.now → IsExprType (plain_program f.now.program.now) (plain_type a.now.ty.now)
+        → 1 ≤ element_size (plain_program f.now.program.now) (plain_type a.now.ty.now) → IsAnswered result }
+    ensures tells { Tells result (pointers_result op
+        (operand_of (plain_program f.now.program.now) (plain_type a.now.ty.now) a.now.value (seen s.now)) p
+        (operand_of (plain_program f.now.program.now) (plain_type b.now.ty.now) b.now.value (seen s.now)) q) }
 {
     if is_comparison(op) {
         let n = compared(f, s, op, p, q)?;
@@ -268,8 +279,13 @@ pub fn binary_value(
     b: &Operand,
 ) -> Result<Value, Stop>
     requires { HasLayouts f.now.program.now }
-    ensures answered { IsGiven f.now → IsOperand f.now (plain_type a.now.ty.now) a.now.value → IsOperand f.now (plain_type b.now.ty.now) b.now.value → HaveBinaryTypes op (plain_type ty.now) (plain_type a.now.ty.now) (plain_type b.now.ty.now) → IsAnswered result }
-    ensures tells { Tells result (binary_result op (plain_type ty.now) mode (operand_of (plain_program f.now.program.now) (plain_type a.now.ty.now) a.now.value (seen s.now)) (operand_of (plain_program f.now.program.now) (plain_type b.now.ty.now) b.now.value (seen s.now))) }
+    ensures answered { IsGiven f.now → IsOperand f.now (plain_type a.now.ty.now) a.now.value
+        → IsOperand f.now (plain_type b.now.ty.now) b.now.value
+        → HaveBinaryTypes op (plain_type ty.now) (plain_type a.now.ty.now) (plain_type b.now.ty.now)
+        → IsAnswered result }
+    ensures tells { Tells result (binary_result op (plain_type ty.now) mode
+        (operand_of (plain_program f.now.program.now) (plain_type a.now.ty.now) a.now.value (seen s.now))
+        (operand_of (plain_program f.now.program.now) (plain_type b.now.ty.now) b.now.value (seen s.now))) }
 {
     match a.value {
         Value::Number(m) => match b.value {
@@ -316,8 +332,11 @@ pub fn conversion(
     a: &Operand,
 ) -> Result<Value, Stop>
     requires { HasLayouts f.now.program.now }
-    ensures answered { IsGiven f.now → IsOperand f.now (plain_type a.now.ty.now) a.now.value → IsScalar (plain_type ty.now) → AreConvertible (plain_type ty.now) (plain_type a.now.ty.now) → IsAnswered result }
-    ensures tells { Tells result (conversion_result (plain_type ty.now) mode (operand_of (plain_program f.now.program.now) (plain_type a.now.ty.now) a.now.value (seen s.now))) }
+    ensures answered { IsGiven f.now → IsOperand f.now (plain_type a.now.ty.now) a.now.value
+        → IsScalar (plain_type ty.now) → AreConvertible (plain_type ty.now) (plain_type a.now.ty.now)
+        → IsAnswered result }
+    ensures tells { Tells result (conversion_result (plain_type ty.now) mode
+        (operand_of (plain_program f.now.program.now) (plain_type a.now.ty.now) a.now.value (seen s.now))) }
 {
     match a.value {
         Value::Number(n) => {
@@ -361,19 +380,23 @@ pub fn compound_value(
     f: &Context,
     s: &State,
     op: BinOp,
-    own: Mode,
+    operation_mode: Mode,
     mode: Mode,
     a: &Operand,
     b: &Operand,
 ) -> Result<Value, Stop>
     requires { HasLayouts f.now.program.now }
-    ensures answered { IsGiven f.now → IsOperand f.now (plain_type a.now.ty.now) a.now.value → IsOperand f.now (plain_type b.now.ty.now) b.now.value → HaveCompoundTypes op (plain_type a.now.ty.now) (plain_type b.now.ty.now) → IsAnswered result }
-    ensures tells { Tells result (compound_result op own mode (operand_of (plain_program f.now.program.now) (plain_type a.now.ty.now) a.now.value (seen s.now)) (operand_of (plain_program f.now.program.now) (plain_type b.now.ty.now) b.now.value (seen s.now))) }
+    ensures answered { IsGiven f.now → IsOperand f.now (plain_type a.now.ty.now) a.now.value
+        → IsOperand f.now (plain_type b.now.ty.now) b.now.value
+        → HaveCompoundTypes op (plain_type a.now.ty.now) (plain_type b.now.ty.now) → IsAnswered result }
+    ensures tells { Tells result (compound_result op operation_mode mode
+        (operand_of (plain_program f.now.program.now) (plain_type a.now.ty.now) a.now.value (seen s.now))
+        (operand_of (plain_program f.now.program.now) (plain_type b.now.ty.now) b.now.value (seen s.now))) }
 {
     match b.value {
         Value::Number(n) => match a.value {
             Value::Number(m) => {
-                let r = compound(op, own, mode, typed(a.ty, m), typed(b.ty, n))?;
+                let r = compound(op, operation_mode, mode, typed(a.ty, m), typed(b.ty, n))?;
                 Ok(Value::Number(r))
             }
             Value::Pointer(p) => {

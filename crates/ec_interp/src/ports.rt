@@ -1,7 +1,10 @@
 //! Operations on ports and groups of ports.
-ghost use Rattle.std.specs.Prelude.{◌≡◌, ◌+◌, ◌*◌, ◌^◌, ◌<◌, ◌≤◌, nat_lt, map, option_map, slice_get, slice_index, IfOk, OnOk};
+ghost use Rattle.std.specs.Prelude.{◌≡◌, ◌+◌, ◌*◌, ◌^◌, ◌<◌, ◌≤◌, nat_lt, map, option_map, slice_get, slice_index};
+ghost use Rattle.std.specs.Prelude.{IfOk, OnOk};
 ghost use Rattle.std.specs.Option.{option_copied};
-ghost use Rattle.ec_core.specs.PortAccesses.{next_byte, byte_read, bytes_read, number_read, bytes_written, updated, no_value, unsigned, port_accessed, is_open, within, opened, port_effect, pairs_written, pairs_of, group_effect};
+ghost use Rattle.ec_core.specs.PortAccesses.{next_byte, byte_read, bytes_read, number_read, bytes_written, updated};
+ghost use Rattle.ec_core.specs.PortAccesses.{no_value, unsigned, port_accessed, is_open, within, opened, port_effect};
+ghost use Rattle.ec_core.specs.PortAccesses.{pairs_written, pairs_of, group_effect};
 ghost use Rattle.ec_core.specs.PortOperations.{port_operation};
 ghost use Rattle.ec_core.specs.PortTable.{plain_port, plain_group};
 ghost use Rattle.ec_core.specs.State.{Out as OutOf, reads_of, with_event, with_group};
@@ -193,7 +196,8 @@ fn access_port(
 ) -> Result<Value, NoMemory>
     requires few { width ≤ 8 }
     requires port { port + width < 2 ^ 32 }
-    ensures { ShowsMemory result (seen s.new) (port_accessed (inputs_of f.now.inputs.now) (port_operation op).action op width port v (seen s.old)) }
+    ensures { ShowsMemory result (seen s.new)
+        (port_accessed (inputs_of f.now.inputs.now) (port_operation op).action op width port v (seen s.old)) }
 {
     match action_of(op) {
         Action::Reads => {
@@ -233,7 +237,9 @@ fn open_port(
     i: u128,
     v: u128,
 ) -> Result<Value, Stop>
-    ensures shows { Shows result (seen s.new) (opened (inputs_of f.now.inputs.now) (is_open port.now.group (seen s.old)) op (plain_port port.now) i v (seen s.old)) }
+    ensures shows { Shows result (seen s.new)
+        (opened (inputs_of f.now.inputs.now) (is_open port.now.group (seen s.old)) op (plain_port port.now) i v
+        (seen s.old)) }
     ensures answered { port.now.width ≤ 8 → IsAnswered result }
 {
     if !is_open(port.group, s) {
@@ -259,7 +265,9 @@ pub fn operate(
     i: Value,
     v: Value,
 ) -> Result<Value, Stop>
-    ensures shows { Shows result (seen s.new) (port_effect (inputs_of f.now.inputs.now) op (slice_get (map plain_port f.now.io.now.ports.items) port) i v (seen s.old)) }
+    ensures shows { Shows result (seen s.new)
+        (port_effect (inputs_of f.now.inputs.now) op (slice_get (map plain_port f.now.io.now.ports.items) port) i v
+        (seen s.old)) }
     ensures answered { IsGiven f.now → IsAnswered result }
 {
     match port_at(f.io, port) {
@@ -292,7 +300,8 @@ fn set_group(s: &mut State, g: u16, acquired: bool)
 
 /// A group is acquired or released.
 pub fn operate_group(f: &Context, s: &mut State, acquire: bool, g: u16) -> Result<Value, Stop>
-    ensures shows { Shows result (seen s.new) (group_effect acquire g (slice_get (map plain_group f.now.io.now.groups.items) g) (seen s.old)) }
+    ensures shows { Shows result (seen s.new)
+        (group_effect acquire g (slice_get (map plain_group f.now.io.now.groups.items) g) (seen s.old)) }
     ensures answered { IsAnswered result }
 {
     match group_at(f.io, g) {

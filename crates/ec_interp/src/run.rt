@@ -1,23 +1,30 @@
 //! What expressions, statements and functions do.
-ghost use Rattle.std.specs.Prelude.{◌≡◌, ◌+◌, ◌<◌, false, pos, [], ◌∷◌, ◌++◌, Some, map, option_map, unwrap_or, IfOk, MatchOption, OnOk};
+ghost use Rattle.std.specs.Prelude.{◌≡◌, ◌+◌, ◌<◌, false, pos, [], ◌∷◌, ◌++◌, Some, map, option_map, unwrap_or, IfOk};
+ghost use Rattle.std.specs.Prelude.{MatchOption, OnOk};
 ghost use Rattle.std.specs.Option.{option_copied};
 ghost use Rattle.ec_core.specs.declared.values.Value.TheVariants.{Number as TheNumber};
 ghost use Rattle.ec_core.specs.Accesses.{pointer_to, referent_of, member_offset, begun, initialised};
-ghost use Rattle.ec_core.specs.Expressions.{pointed_to, object_place, condition, updated_place, value_of, node_value, place_of, option_value, values_of};
+ghost use Rattle.ec_core.specs.Expressions.{pointed_to, object_place, condition, updated_place, value_of, node_value};
+ghost use Rattle.ec_core.specs.Expressions.{place_of, option_value, values_of};
 ghost use Rattle.ec_core.specs.Integers.{truth};
 ghost use Rattle.ec_core.specs.Operators.{step_operator};
-ghost use Rattle.ec_core.specs.Plain.{void, a_stmt, binary, compound, step, io, plain_type, plain_node, plain_place, plain_expr, plain_exprs, plain_stmt, plain_stmts, plain_function, plain_program};
+ghost use Rattle.ec_core.specs.Plain.{void, a_stmt, binary, compound, step, io, plain_type, plain_node, plain_place};
+ghost use Rattle.ec_core.specs.Plain.{plain_expr, plain_exprs, plain_stmt, plain_stmts, plain_function, plain_program};
 ghost use Rattle.ec_core.specs.Pointers.{moved};
 ghost use Rattle.ec_core.specs.PortAccesses.{no_value};
 ghost use Rattle.ec_core.specs.State.{State as StateOf, Outcome, got, given, worked};
-ghost use Rattle.ec_core.specs.Statements.{Exit as ExitOf, in_order, again, test_of, evaluated, going_on, returned, initialising, effect_of, first_effect, effects_of, turns, tested, parameters_written, call_result, call_of, calls_within};
+ghost use Rattle.ec_core.specs.Statements.{Exit as ExitOf, in_order, again, test_of, evaluated, going_on, returned};
+ghost use Rattle.ec_core.specs.Statements.{initialising, effect_of, first_effect, effects_of, turns, tested};
+ghost use Rattle.ec_core.specs.Statements.{parameters_written, call_result, call_of, calls_within};
 ghost use Rattle.ec_core.specs.Typing.{place_type, HaveCompoundTypes};
 ghost use Rattle.ec_core.specs.Valid.{ValidOption};
 ghost use Rattle.ec_core.specs.ValueTypes.{IsTypedState};
 ghost use Rattle.ec_core.specs.Words.{loop_words};
 ghost use Rattle.ec_interp.specs.declared.state.Exit.TheVariants.{AtEnd};
 ghost use Rattle.ec_interp.specs.Shows.{Shows, ShowsAs};
-ghost use Rattle.ec_interp.specs.Suits.{IsGiven, IsAnswered, IsOperand, Runs, RunsExpr, RunsNode, RunsPlace, RunsOption, RunsExprs, RunsOptional, RunsCondition, RunsLeaves, RunsStmt, RunsStmts, RunsTest, RunsLoop, AreArgumentsOf, IsCalled};
+ghost use Rattle.ec_interp.specs.Suits.{IsGiven, IsAnswered, IsOperand, Runs, RunsExpr, RunsNode, RunsPlace};
+ghost use Rattle.ec_interp.specs.Suits.{RunsOption, RunsExprs, RunsOptional, RunsCondition, RunsLeaves, RunsStmt};
+ghost use Rattle.ec_interp.specs.Suits.{RunsStmts, RunsTest, RunsLoop, AreArgumentsOf, IsCalled};
 ghost use Rattle.ec_interp.specs.Updates.{seen_update};
 ghost use Rattle.ec_interp.specs.Loops.{block_items, loop_after_first};
 ghost use Rattle.ec_interp.specs.Views.{seen, seen_exit, plain_optional, setting_of, HasLayouts};
@@ -67,7 +74,10 @@ fn member_place(
     to: Option<ObjectPointer>,
 ) -> Result<Option<ObjectPointer>, Stop>
     requires { HasLayouts f.now.program.now }
-    ensures shows { Shows result (seen s.now) (given (moved to (referent_of (plain_program f.now.program.now) to (seen s.now)) (pos (member_offset (plain_program f.now.program.now) (unwrap_or (place_type (plain_program f.now.program.now) (plain_place p.now)) void) i))) (seen s.now)) }
+    ensures shows { Shows result (seen s.now)
+        (given (moved to (referent_of (plain_program f.now.program.now) to (seen s.now))
+        (pos (member_offset (plain_program f.now.program.now)
+        (unwrap_or (place_type (plain_program f.now.program.now) (plain_place p.now)) void) i))) (seen s.now)) }
     ensures answered { IsGiven f.now → IsAnswered result }
 {
     let of = referent(f, s, to)?;
@@ -108,8 +118,11 @@ fn update_place(
     right: &Operand,
 ) -> Result<Value, Stop>
     requires { HasLayouts f.now.program.now }
-    ensures shows { let w = setting_of f.now.program.now f.now.io.now f.now.inputs.now in Shows result (seen s.new) (updated_place w (seen_update u.now) to old (plain_type right.now.ty.now) right.now.value (seen s.old)) }
-    ensures answered { IsGiven f.now → IsOperand f.now (plain_type u.now.ty.now) old → IsOperand f.now (plain_type right.now.ty.now) right.now.value → HaveCompoundTypes u.now.op (plain_type u.now.ty.now) (plain_type right.now.ty.now) → IsAnswered result }
+    ensures shows { let w = setting_of f.now.program.now f.now.io.now f.now.inputs.now in Shows result (seen s.new)
+        (updated_place w (seen_update u.now) to old (plain_type right.now.ty.now) right.now.value (seen s.old)) }
+    ensures answered { IsGiven f.now → IsOperand f.now (plain_type u.now.ty.now) old
+        → IsOperand f.now (plain_type right.now.ty.now) right.now.value
+        → HaveCompoundTypes u.now.op (plain_type u.now.ty.now) (plain_type right.now.ty.now) → IsAnswered result }
 {
     let left = Operand {
         ty: u.ty,
@@ -131,7 +144,8 @@ fn step_operator(up: bool) -> BinOp
 #[cycle(run)]
 fn value_of(f: &Context, depth: usize, s: &mut State, e: &Expr) -> Result<Value, Stop>
     requires { HasLayouts f.now.program.now }
-    ensures shows { let w = setting_of f.now.program.now f.now.io.now f.now.inputs.now in Shows result (seen s.new) (value_of w (calls_within w f.now.turns depth) (plain_expr e.now) (seen s.old)) }
+    ensures shows { let w = setting_of f.now.program.now f.now.io.now f.now.inputs.now in Shows result (seen s.new)
+        (value_of w (calls_within w f.now.turns depth) (plain_expr e.now) (seen s.old)) }
     ensures answered { RunsExpr f.now (seen s.old) (plain_expr e.now) → IsAnswered result }
 {
     let words = node_words(f.io, &e.ty, &e.node)?;
@@ -149,7 +163,8 @@ fn node_value(
     node: &Node,
 ) -> Result<Value, Stop>
     requires { HasLayouts f.now.program.now }
-    ensures shows { let w = setting_of f.now.program.now f.now.io.now f.now.inputs.now in Shows result (seen s.new) (node_value w (calls_within w f.now.turns depth) (plain_type ty.now) mode (plain_node node.now) (seen s.old)) }
+    ensures shows { let w = setting_of f.now.program.now f.now.io.now f.now.inputs.now in Shows result (seen s.new)
+        (node_value w (calls_within w f.now.turns depth) (plain_type ty.now) mode (plain_node node.now) (seen s.old)) }
     ensures answered { RunsNode f.now (seen s.old) (plain_type ty.now) (plain_node node.now) → IsAnswered result }
 {
     match node {
@@ -294,8 +309,11 @@ fn binary(
     b: &Expr,
 ) -> Result<Value, Stop>
     requires { HasLayouts f.now.program.now }
-    ensures shows { let w = setting_of f.now.program.now f.now.io.now f.now.inputs.now in Shows result (seen s.new) (node_value w (calls_within w f.now.turns depth) (plain_type ty.now) mode (binary op (plain_expr a.now) (plain_expr b.now)) (seen s.old)) }
-    ensures answered { RunsNode f.now (seen s.old) (plain_type ty.now) (binary op (plain_expr a.now) (plain_expr b.now)) → IsAnswered result }
+    ensures shows { let w = setting_of f.now.program.now f.now.io.now f.now.inputs.now in Shows result (seen s.new)
+        (node_value w (calls_within w f.now.turns depth) (plain_type ty.now) mode
+        (binary op (plain_expr a.now) (plain_expr b.now)) (seen s.old)) }
+    ensures answered { RunsNode f.now (seen s.old) (plain_type ty.now) (binary op (plain_expr a.now) (plain_expr b.now))
+        → IsAnswered result }
 {
     let m = value_of(f, depth, s, a)?;
     let n = value_of(f, depth, s, b)?;
@@ -325,8 +343,11 @@ fn compound(
     a: &Expr,
 ) -> Result<Value, Stop>
     requires { HasLayouts f.now.program.now }
-    ensures shows { let w = setting_of f.now.program.now f.now.io.now f.now.inputs.now in Shows result (seen s.new) (node_value w (calls_within w f.now.turns depth) (plain_type ty.now) mode (compound op operation_mode (plain_place p.now) (plain_expr a.now)) (seen s.old)) }
-    ensures answered { RunsNode f.now (seen s.old) (plain_type ty.now) (compound op operation_mode (plain_place p.now) (plain_expr a.now)) → IsAnswered result }
+    ensures shows { let w = setting_of f.now.program.now f.now.io.now f.now.inputs.now in Shows result (seen s.new)
+        (node_value w (calls_within w f.now.turns depth) (plain_type ty.now) mode
+        (compound op operation_mode (plain_place p.now) (plain_expr a.now)) (seen s.old)) }
+    ensures answered { RunsNode f.now (seen s.old) (plain_type ty.now)
+        (compound op operation_mode (plain_place p.now) (plain_expr a.now)) → IsAnswered result }
 {
     let to = place_of(f, depth, s, p)?;
     let earlier = read(f, s, ty, p, to)?;
@@ -360,8 +381,11 @@ fn step(
     p: &PlaceExpr,
 ) -> Result<Value, Stop>
     requires { HasLayouts f.now.program.now }
-    ensures shows { let w = setting_of f.now.program.now f.now.io.now f.now.inputs.now in Shows result (seen s.new) (node_value w (calls_within w f.now.turns depth) (plain_type ty.now) mode (step up prefix (plain_place p.now)) (seen s.old)) }
-    ensures answered { RunsNode f.now (seen s.old) (plain_type ty.now) (step up prefix (plain_place p.now)) → IsAnswered result }
+    ensures shows { let w = setting_of f.now.program.now f.now.io.now f.now.inputs.now in Shows result (seen s.new)
+        (node_value w (calls_within w f.now.turns depth) (plain_type ty.now) mode (step up prefix (plain_place p.now))
+        (seen s.old)) }
+    ensures answered { RunsNode f.now (seen s.old) (plain_type ty.now) (step up prefix (plain_place p.now))
+        → IsAnswered result }
 {
     let to = place_of(f, depth, s, p)?;
     let old = read(f, s, ty, p, to)?;
@@ -389,7 +413,9 @@ fn step(
 #[cycle(run)]
 fn condition(f: &Context, depth: usize, s: &mut State, e: &Expr) -> Result<bool, Stop>
     requires { HasLayouts f.now.program.now }
-    ensures shows { let w = setting_of f.now.program.now f.now.io.now f.now.inputs.now in Shows result (seen s.new) (condition w (plain_expr e.now) (value_of w (calls_within w f.now.turns depth) (plain_expr e.now) (seen s.old))) }
+    ensures shows { let w = setting_of f.now.program.now f.now.io.now f.now.inputs.now in Shows result (seen s.new)
+        (condition w (plain_expr e.now)
+        (value_of w (calls_within w f.now.turns depth) (plain_expr e.now) (seen s.old))) }
     ensures answered { RunsExpr f.now (seen s.old) (plain_expr e.now) → IsAnswered result }
 {
     let x = value_of(f, depth, s, e)?;
@@ -405,7 +431,8 @@ fn place_of(
     p: &PlaceExpr,
 ) -> Result<Option<ObjectPointer>, Stop>
     requires { HasLayouts f.now.program.now }
-    ensures shows { let w = setting_of f.now.program.now f.now.io.now f.now.inputs.now in Shows result (seen s.new) (place_of w (calls_within w f.now.turns depth) (plain_place p.now) (seen s.old)) }
+    ensures shows { let w = setting_of f.now.program.now f.now.io.now f.now.inputs.now in Shows result (seen s.new)
+        (place_of w (calls_within w f.now.turns depth) (plain_place p.now) (seen s.old)) }
     ensures answered { RunsPlace f.now (seen s.old) (plain_place p.now) → IsAnswered result }
 {
     match p {
@@ -436,8 +463,14 @@ fn port_operation(
     value: Option<&Expr>,
 ) -> Result<Value, Stop>
     requires { HasLayouts f.now.program.now }
-    ensures shows { let w = setting_of f.now.program.now f.now.io.now f.now.inputs.now in Shows result (seen s.new) (node_value w (calls_within w f.now.turns depth) void (record { saturate = false }) (io op port (plain_optional (option_copied index.entry)) (plain_optional (option_copied value.entry))) (seen s.old)) }
-    ensures answered { Runs f.now (seen s.old) (λ g. ValidOption (plain_program f.now.program.now) f.now.io.now g (plain_optional (option_copied index.entry)) × ValidOption (plain_program f.now.program.now) f.now.io.now g (plain_optional (option_copied value.entry))) → IsAnswered result }
+    ensures shows { let w = setting_of f.now.program.now f.now.io.now f.now.inputs.now in Shows result (seen s.new)
+        (node_value w (calls_within w f.now.turns depth) void (record { saturate = false })
+        (io op port (plain_optional (option_copied index.entry)) (plain_optional (option_copied value.entry)))
+        (seen s.old)) }
+    ensures answered { Runs f.now (seen s.old)
+        (λ g. ValidOption (plain_program f.now.program.now) f.now.io.now g (plain_optional (option_copied index.entry))
+        × ValidOption (plain_program f.now.program.now) f.now.io.now g (plain_optional (option_copied value.entry)))
+        → IsAnswered result }
 {
     let i = option_value(f, depth, s, index)?;
     let v = option_value(f, depth, s, value)?;
@@ -448,7 +481,8 @@ fn port_operation(
 #[cycle(run)]
 fn option_value(f: &Context, depth: usize, s: &mut State, e: Option<&Expr>) -> Result<Value, Stop>
     requires { HasLayouts f.now.program.now }
-    ensures shows { let w = setting_of f.now.program.now f.now.io.now f.now.inputs.now in Shows result (seen s.new) (option_value w (calls_within w f.now.turns depth) (plain_optional (option_copied e.entry)) (seen s.old)) }
+    ensures shows { let w = setting_of f.now.program.now f.now.io.now f.now.inputs.now in Shows result (seen s.new)
+        (option_value w (calls_within w f.now.turns depth) (plain_optional (option_copied e.entry)) (seen s.old)) }
     ensures answered { RunsOption f.now (seen s.old) (plain_optional (option_copied e.entry)) → IsAnswered result }
 {
     match e {
@@ -464,7 +498,9 @@ fn option_value(f: &Context, depth: usize, s: &mut State, e: Option<&Expr>) -> R
 #[cycle(run)]
 fn values_of(f: &Context, depth: usize, s: &mut State, es: &[Expr]) -> Result<Seq<Value>, Stop>
     requires { HasLayouts f.now.program.now }
-    ensures shows { let w = setting_of f.now.program.now f.now.io.now f.now.inputs.now in ShowsAs (λ xs. xs.items) result (seen s.new) (values_of w (calls_within w f.now.turns depth) (plain_exprs es.now) (seen s.old)) }
+    ensures shows { let w = setting_of f.now.program.now f.now.io.now f.now.inputs.now in ShowsAs
+        (λ xs. xs.items) result (seen s.new)
+        (values_of w (calls_within w f.now.turns depth) (plain_exprs es.now) (seen s.old)) }
     ensures answered { RunsExprs f.now (seen s.old) (plain_exprs es.now) → IsAnswered result }
 {
     let mut xs = Seq::new(f.alloc);
@@ -487,8 +523,10 @@ fn push_value(xs: &mut Seq<Value>, x: Value) -> Result<(), NoMemory>
 #[cycle(run)]
 fn test_of(f: &Context, depth: usize, s: &mut State, c: Option<&Expr>) -> Result<bool, Stop>
     requires { HasLayouts f.now.program.now }
-    ensures shows { let w = setting_of f.now.program.now f.now.io.now f.now.inputs.now in Shows result (seen s.new) (test_of w (calls_within w f.now.turns depth) (option_map plain_expr (option_copied c.entry)) (seen s.old)) }
-    ensures answered { RunsCondition f.now (seen s.old) (option_map plain_expr (option_copied c.entry)) → IsAnswered result }
+    ensures shows { let w = setting_of f.now.program.now f.now.io.now f.now.inputs.now in Shows result (seen s.new)
+        (test_of w (calls_within w f.now.turns depth) (option_map plain_expr (option_copied c.entry)) (seen s.old)) }
+    ensures answered { RunsCondition f.now (seen s.old) (option_map plain_expr (option_copied c.entry))
+        → IsAnswered result }
 {
     match c {
         None => Ok(true),
@@ -503,8 +541,11 @@ fn test_of(f: &Context, depth: usize, s: &mut State, c: Option<&Expr>) -> Result
 #[cycle(run)]
 fn evaluated(f: &Context, depth: usize, s: &mut State, e: Option<&Expr>) -> Result<Exit, Stop>
     requires { HasLayouts f.now.program.now }
-    ensures shows { let w = setting_of f.now.program.now f.now.io.now f.now.inputs.now in ShowsAs seen_exit result (seen s.new) (evaluated w (calls_within w f.now.turns depth) (option_map plain_expr (option_copied e.entry)) (seen s.old)) }
-    ensures answered { RunsOptional f.now (seen s.old) (option_map plain_expr (option_copied e.entry)) → IsAnswered result }
+    ensures shows { let w = setting_of f.now.program.now f.now.io.now f.now.inputs.now in ShowsAs seen_exit result
+        (seen s.new) (evaluated w (calls_within w f.now.turns depth) (option_map plain_expr (option_copied e.entry))
+        (seen s.old)) }
+    ensures answered { RunsOptional f.now (seen s.old) (option_map plain_expr (option_copied e.entry))
+        → IsAnswered result }
 {
     match e {
         None => Ok(Exit::AtEnd),
@@ -518,7 +559,8 @@ fn evaluated(f: &Context, depth: usize, s: &mut State, e: Option<&Expr>) -> Resu
 #[cycle(run)]
 fn returned(f: &Context, depth: usize, s: &mut State, e: &Option<Expr>) -> Result<Exit, Stop>
     requires { HasLayouts f.now.program.now }
-    ensures shows { let w = setting_of f.now.program.now f.now.io.now f.now.inputs.now in ShowsAs seen_exit result (seen s.new) (returned w (calls_within w f.now.turns depth) (option_map plain_expr e.now) (seen s.old)) }
+    ensures shows { let w = setting_of f.now.program.now f.now.io.now f.now.inputs.now in ShowsAs seen_exit result
+        (seen s.new) (returned w (calls_within w f.now.turns depth) (option_map plain_expr e.now) (seen s.old)) }
     ensures answered { RunsOptional f.now (seen s.old) (option_map plain_expr e.now) → IsAnswered result }
 {
     match e {
@@ -540,7 +582,8 @@ fn initialising(
     values: &[Expr],
 ) -> Result<Exit, Stop>
     requires { HasLayouts f.now.program.now }
-    ensures shows { let w = setting_of f.now.program.now f.now.io.now f.now.inputs.now in ShowsAs seen_exit result (seen s.new) (initialising w (calls_within w f.now.turns depth) o 0 (plain_exprs values.now) (seen s.old)) }
+    ensures shows { let w = setting_of f.now.program.now f.now.io.now f.now.inputs.now in ShowsAs seen_exit result
+        (seen s.new) (initialising w (calls_within w f.now.turns depth) o 0 (plain_exprs values.now) (seen s.old)) }
     ensures answered { RunsLeaves f.now (seen s.old) o 0 (plain_exprs values.now) → IsAnswered result }
 {
     for (k, e) in values.iter().enumerate() {
@@ -554,7 +597,8 @@ fn initialising(
 #[cycle(run)]
 fn effect_of(f: &Context, depth: usize, s: &mut State, a: &Stmt) -> Result<Exit, Stop>
     requires { HasLayouts f.now.program.now }
-    ensures shows { let w = setting_of f.now.program.now f.now.io.now f.now.inputs.now in ShowsAs seen_exit result (seen s.new) (effect_of w (calls_within w f.now.turns depth) f.now.turns (plain_stmt a.now) (seen s.old)) }
+    ensures shows { let w = setting_of f.now.program.now f.now.io.now f.now.inputs.now in ShowsAs seen_exit result
+        (seen s.new) (effect_of w (calls_within w f.now.turns depth) f.now.turns (plain_stmt a.now) (seen s.old)) }
     ensures answered { RunsStmt f.now (seen s.old) (plain_stmt a.now) → IsAnswered result }
 {
     match &a.kind {
@@ -635,7 +679,8 @@ fn block_of(a: &Stmt) -> Option<&[Stmt]>
 
 /// How a row of statements is left one of which was left so, or None where it goes on.
 fn early_exit(x: Exit) -> Option<Exit>
-    ensures { MatchOption result ((s : StateOf) (go : StateOf → Outcome ExitOf) → in_order (seen_exit x) s go ≡ go s) (λ y. (s : StateOf) (go : StateOf → Outcome ExitOf) → in_order (seen_exit x) s go ≡ got (seen_exit y) s) }
+    ensures { MatchOption result ((s : StateOf) (go : StateOf → Outcome ExitOf) → in_order (seen_exit x) s go ≡ go s)
+        (λ y. (s : StateOf) (go : StateOf → Outcome ExitOf) → in_order (seen_exit x) s go ≡ got (seen_exit y) s) }
 {
     match x {
         Exit::AtEnd => None,
@@ -649,7 +694,9 @@ fn early_exit(x: Exit) -> Option<Exit>
 #[cycle(run)]
 fn first_effect(f: &Context, depth: usize, s: &mut State, first: &Stmt) -> Result<Exit, Stop>
     requires { HasLayouts f.now.program.now }
-    ensures shows { let w = setting_of f.now.program.now f.now.io.now f.now.inputs.now in ShowsAs seen_exit result (seen s.new) (first_effect w (calls_within w f.now.turns depth) f.now.turns (a_stmt (plain_stmt first.now)) (seen s.old)) }
+    ensures shows { let w = setting_of f.now.program.now f.now.io.now f.now.inputs.now in ShowsAs seen_exit result
+        (seen s.new) (first_effect w (calls_within w f.now.turns depth) f.now.turns (a_stmt (plain_stmt first.now))
+        (seen s.old)) }
     ensures answered { RunsStmt f.now (seen s.old) (plain_stmt first.now) → IsAnswered result }
 {
     match block_of(first) {
@@ -676,8 +723,13 @@ fn first_and_loop(
     body: &Stmt,
 ) -> Result<Exit, Stop>
     requires { HasLayouts f.now.program.now }
-    ensures shows { let w = setting_of f.now.program.now f.now.io.now f.now.inputs.now in ShowsAs seen_exit result (seen s.new) (loop_after_first w (calls_within w f.now.turns depth) f.now.turns (plain_stmt first.now) (option_map plain_expr (option_copied c.entry)) (option_map plain_expr (option_copied last.entry)) (plain_stmt body.now) (seen s.old)) }
-    ensures answered { RunsStmt f.now (seen s.old) (plain_stmt first.now) → RunsLoop f.now (seen s.old) (option_map plain_expr (option_copied c.entry)) (option_map plain_expr (option_copied last.entry)) (plain_stmt body.now) → IsAnswered result }
+    ensures shows { let w = setting_of f.now.program.now f.now.io.now f.now.inputs.now in ShowsAs seen_exit result
+        (seen s.new) (loop_after_first w (calls_within w f.now.turns depth) f.now.turns (plain_stmt first.now)
+        (option_map plain_expr (option_copied c.entry)) (option_map plain_expr (option_copied last.entry))
+        (plain_stmt body.now) (seen s.old)) }
+    ensures answered { RunsStmt f.now (seen s.old) (plain_stmt first.now)
+        → RunsLoop f.now (seen s.old) (option_map plain_expr (option_copied c.entry))
+        (option_map plain_expr (option_copied last.entry)) (plain_stmt body.now) → IsAnswered result }
 {
     let left = first_effect(f, depth, s, first)?;
     if let Some(exit) = early_exit(left) {
@@ -691,7 +743,8 @@ fn first_and_loop(
 #[cycle(run)]
 fn effects_of(f: &Context, depth: usize, s: &mut State, all: &[Stmt]) -> Result<Exit, Stop>
     requires { HasLayouts f.now.program.now }
-    ensures shows { let w = setting_of f.now.program.now f.now.io.now f.now.inputs.now in ShowsAs seen_exit result (seen s.new) (effects_of w (calls_within w f.now.turns depth) f.now.turns (plain_stmts all.now) (seen s.old)) }
+    ensures shows { let w = setting_of f.now.program.now f.now.io.now f.now.inputs.now in ShowsAs seen_exit result
+        (seen s.new) (effects_of w (calls_within w f.now.turns depth) f.now.turns (plain_stmts all.now) (seen s.old)) }
     ensures answered { RunsStmts f.now (seen s.old) (plain_stmts all.now) → IsAnswered result }
 {
     for a in all {
@@ -723,8 +776,14 @@ fn tested_loop(
     body: &Stmt,
 ) -> Result<Exit, Stop>
     requires { HasLayouts f.now.program.now }
-    ensures shows { let w = setting_of f.now.program.now f.now.io.now f.now.inputs.now in let calls = calls_within w f.now.turns depth in let c = option_map plain_expr (option_copied c.entry) in let last = option_map plain_expr (option_copied last.entry) in ShowsAs seen_exit result (seen s.new) (tested (test_of w calls c (seen s.old)) (λ s2. turns f.now.turns (λ s3. effect_of w calls f.now.turns (plain_stmt body.now) s3) (λ s3. going_on w calls last c s3) s2)) }
-    ensures answered { RunsLoop f.now (seen s.old) (option_map plain_expr (option_copied c.entry)) (option_map plain_expr (option_copied last.entry)) (plain_stmt body.now) → IsAnswered result }
+    ensures shows { let w = setting_of f.now.program.now f.now.io.now f.now.inputs.now in
+        let calls = calls_within w f.now.turns depth in
+        let c = option_map plain_expr (option_copied c.entry) in
+        let last = option_map plain_expr (option_copied last.entry) in
+        ShowsAs seen_exit result (seen s.new) (tested (test_of w calls c (seen s.old)) (λ s2. turns f.now.turns
+        (λ s3. effect_of w calls f.now.turns (plain_stmt body.now) s3) (λ s3. going_on w calls last c s3) s2)) }
+    ensures answered { RunsLoop f.now (seen s.old) (option_map plain_expr (option_copied c.entry))
+        (option_map plain_expr (option_copied last.entry)) (plain_stmt body.now) → IsAnswered result }
 {
     if !test_of(f, depth, s, c)? {
         let x = end_loop(s)?;
@@ -746,8 +805,14 @@ fn turning_loop(
     body: &Stmt,
 ) -> Result<Exit, Stop>
     requires { HasLayouts f.now.program.now }
-    ensures shows { let w = setting_of f.now.program.now f.now.io.now f.now.inputs.now in let calls = calls_within w f.now.turns depth in let c = option_map plain_expr (option_copied c.entry) in let last = option_map plain_expr (option_copied last.entry) in ShowsAs seen_exit result (seen s.new) (turns f.now.turns (λ s3. effect_of w calls f.now.turns (plain_stmt body.now) s3) (λ s3. going_on w calls last c s3) (seen s.old)) }
-    ensures answered { RunsLoop f.now (seen s.old) (option_map plain_expr (option_copied c.entry)) (option_map plain_expr (option_copied last.entry)) (plain_stmt body.now) → IsAnswered result }
+    ensures shows { let w = setting_of f.now.program.now f.now.io.now f.now.inputs.now in
+        let calls = calls_within w f.now.turns depth in
+        let c = option_map plain_expr (option_copied c.entry) in
+        let last = option_map plain_expr (option_copied last.entry) in
+        ShowsAs seen_exit result (seen s.new) (turns f.now.turns (λ s3. effect_of w calls f.now.turns
+        (plain_stmt body.now) s3) (λ s3. going_on w calls last c s3) (seen s.old)) }
+    ensures answered { RunsLoop f.now (seen s.old) (option_map plain_expr (option_copied c.entry))
+        (option_map plain_expr (option_copied last.entry)) (plain_stmt body.now) → IsAnswered result }
 {
     let mut left = f.turns;
     while left > 0 {
@@ -767,7 +832,8 @@ fn turning_loop(
 
 /// How a loop is left whose body was left so, or None where it goes on.
 fn loop_exit(x: Exit) -> Option<Exit>
-    ensures { MatchOption result ((s : StateOf) (go : StateOf → Outcome ExitOf) → again (seen_exit x) s go ≡ go s) (λ y. (s : StateOf) (go : StateOf → Outcome ExitOf) → again (seen_exit x) s go ≡ got (seen_exit y) s) }
+    ensures { MatchOption result ((s : StateOf) (go : StateOf → Outcome ExitOf) → again (seen_exit x) s go ≡ go s)
+        (λ y. (s : StateOf) (go : StateOf → Outcome ExitOf) → again (seen_exit x) s go ≡ got (seen_exit y) s) }
 {
     match x {
         Exit::AtEnd | Exit::ByContinue => None,
@@ -786,8 +852,11 @@ fn goes_on(
     last: Option<&Expr>,
 ) -> Result<bool, Stop>
     requires { HasLayouts f.now.program.now }
-    ensures shows { let w = setting_of f.now.program.now f.now.io.now f.now.inputs.now in Shows result (seen s.new) (going_on w (calls_within w f.now.turns depth) (option_map plain_expr (option_copied last.entry)) (option_map plain_expr (option_copied c.entry)) (seen s.old)) }
-    ensures answered { RunsTest f.now (seen s.old) (option_map plain_expr (option_copied c.entry)) (option_map plain_expr (option_copied last.entry)) → IsAnswered result }
+    ensures shows { let w = setting_of f.now.program.now f.now.io.now f.now.inputs.now in Shows result (seen s.new)
+        (going_on w (calls_within w f.now.turns depth) (option_map plain_expr (option_copied last.entry))
+        (option_map plain_expr (option_copied c.entry)) (seen s.old)) }
+    ensures answered { RunsTest f.now (seen s.old) (option_map plain_expr (option_copied c.entry))
+        (option_map plain_expr (option_copied last.entry)) → IsAnswered result }
 {
     evaluated(f, depth, s, last)?;
     let h = test_of(f, depth, s, c)?;
@@ -798,7 +867,8 @@ fn goes_on(
 
 fn bind_one(f: &Context, s: &mut State, o: u16, x: Value) -> Result<Value, Stop>
     requires { HasLayouts f.now.program.now }
-    ensures shows { Shows result (seen s.new) (initialised (plain_program f.now.program.now) o 0 x (begun (plain_program f.now.program.now) o (seen s.old))) }
+    ensures shows { Shows result (seen s.new)
+        (initialised (plain_program f.now.program.now) o 0 x (begun (plain_program f.now.program.now) o (seen s.old))) }
     ensures answered { IsGiven f.now → IsAnswered result }
 {
     begin(f, s, o)?;
@@ -809,7 +879,8 @@ fn bind_one(f: &Context, s: &mut State, o: u16, x: Value) -> Result<Value, Stop>
 /// The parameters are new objects with the arguments as their values.
 fn bind(f: &Context, s: &mut State, params: &[u16], xs: &[Value]) -> Result<(), Stop>
     requires { HasLayouts f.now.program.now }
-    ensures shows { let w = setting_of f.now.program.now f.now.io.now f.now.inputs.now in ShowsAs (λ _. no_value) result (seen s.new) (parameters_written w params.now xs.now (seen s.old)) }
+    ensures shows { let w = setting_of f.now.program.now f.now.io.now f.now.inputs.now in ShowsAs (λ _. no_value) result
+        (seen s.new) (parameters_written w params.now xs.now (seen s.old)) }
     ensures answered { IsGiven f.now → IsAnswered result }
 {
     for (i, o) in params.iter().enumerate() {
@@ -845,8 +916,10 @@ fn call_result(ty: &CType, main: bool, exit: Exit, s: &State) -> Result<Value, S
 #[cycle(run)]
 pub fn call(f: &Context, depth: usize, s: &mut State, g: u16, xs: &[Value]) -> Result<Value, Stop>
     requires { HasLayouts f.now.program.now }
-    ensures shows { let w = setting_of f.now.program.now f.now.io.now f.now.inputs.now in Shows result (seen s.new) (calls_within w f.now.turns depth g xs.now (seen s.old)) }
-    ensures answered { IsGiven f.now → IsTypedState (plain_program f.now.program.now) (seen s.old) → AreArgumentsOf f.now g xs.now → IsAnswered result }
+    ensures shows { let w = setting_of f.now.program.now f.now.io.now f.now.inputs.now in Shows result (seen s.new)
+        (calls_within w f.now.turns depth g xs.now (seen s.old)) }
+    ensures answered { IsGiven f.now → IsTypedState (plain_program f.now.program.now) (seen s.old)
+        → AreArgumentsOf f.now g xs.now → IsAnswered result }
 {
     if depth == 0 {
         return Err(Stop::Undefined(Undefined::Invalid));
@@ -871,9 +944,13 @@ fn enter(
     xs: &[Value],
 ) -> Result<Value, Stop>
     requires layouts { HasLayouts f.now.program.now }
-    requires small { stmt_weight (plain_stmt called.now.body) + 2 < bodies (map plain_function f.now.program.now.funcs.items) }
-    ensures shows { let w = setting_of f.now.program.now f.now.io.now f.now.inputs.now in Shows result (seen s.new) (call_of w (calls_within w f.now.turns depth) f.now.turns g (Some (plain_function called.now)) xs.now (seen s.old)) }
-    ensures answered { IsGiven f.now → IsTypedState (plain_program f.now.program.now) (seen s.old) → IsCalled f.now g (plain_function called.now) xs.now → IsAnswered result }
+    requires small { stmt_weight (plain_stmt called.now.body)
+        + 2 < bodies (map plain_function f.now.program.now.funcs.items) }
+    ensures shows { let w = setting_of f.now.program.now f.now.io.now f.now.inputs.now in Shows result (seen s.new)
+        (call_of w (calls_within w f.now.turns depth) f.now.turns g (Some (plain_function called.now)) xs.now
+        (seen s.old)) }
+    ensures answered { IsGiven f.now → IsTypedState (plain_program f.now.program.now) (seen s.old)
+        → IsCalled f.now g (plain_function called.now) xs.now → IsAnswered result }
 {
     s.work_more(40)?;
     bind(f, s, called.params.as_slice(), xs)?;

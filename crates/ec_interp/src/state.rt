@@ -125,7 +125,8 @@ pub fn object_state(s: &State, o: u16) -> Option<&ObjectState>
 
 /// The function with a number.
 pub fn function<'a>(program: &'a Program, f: u16) -> Option<&'a Func>
-    ensures { option_map plain_function (option_copied result) ≡ slice_get (map plain_function program.now.funcs.items) f }
+    ensures { option_map plain_function (option_copied result)
+        ≡ slice_get (map plain_function program.now.funcs.items) f }
 {
     at(program.funcs.as_slice(), f as usize)
 }

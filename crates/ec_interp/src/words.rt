@@ -5,7 +5,8 @@ ghost use Rattle.ec_core.specs.Plain.{plain_type, plain_node, plain_place, plain
 ghost use Rattle.ec_core.specs.PortAccesses.{pairs_of};
 ghost use Rattle.ec_core.specs.PortOperations.{port_operation};
 ghost use Rattle.ec_core.specs.PortTable.{plain_table, plain_port, plain_group};
-ghost use Rattle.ec_core.specs.Words.{simple_words, operation_words, update_words, choice_words, return_words, port_words, group_words, node_words, total_size, return_of, leaf_words};
+ghost use Rattle.ec_core.specs.Words.{simple_words, operation_words, update_words, choice_words, return_words};
+ghost use Rattle.ec_core.specs.Words.{port_words, group_words, node_words, total_size, return_of, leaf_words};
 ghost use Rattle.ec_interp.specs.Lookups.{widest_from};
 ghost use Rattle.ec_interp.specs.Views.{seen_action};
 
@@ -128,7 +129,8 @@ fn group_words(pairs: u64) -> Result<u64, NoMemory>
 // ---- parts of expressions and statements
 
 fn call_words(args: &[Expr], ty: &CType) -> Result<u64, NoMemory>
-    ensures { IfOk result (λ words. words ≡ 60 + 10 * (total_size (plain_exprs args.now) + scalar_size (plain_type ty.now))) }
+    ensures { IfOk result (λ words. words
+        ≡ 60 + 10 * (total_size (plain_exprs args.now) + scalar_size (plain_type ty.now))) }
 {
     let given = total_size(args)?;
     let bytes = sum(given, scalar_size(ty) as u64)?;
@@ -146,7 +148,8 @@ fn port_width(io: &IoTable, port: u16) -> u8
 }
 
 fn pair_count(io: &IoTable, acquire: bool, group: u16) -> usize
-    ensures { result ≡ unwrap_or (option_map (λ x. length (pairs_of acquire x)) (slice_get (map plain_group io.now.groups.items) group)) 0 }
+    ensures { result ≡ unwrap_or (option_map (λ x. length (pairs_of acquire x))
+        (slice_get (map plain_group io.now.groups.items) group)) 0 }
 {
     match group_at(io, group) {
         Some(g) => pairs(acquire, g).len(),

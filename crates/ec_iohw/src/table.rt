@@ -65,7 +65,8 @@ fn group_named(groups: &[PortGroup], name: &[u8]) -> Option<usize>
 }
 
 impl IoTable {
-    /// What a name designates: a group where `group` holds, and else a port. None where no group, or no port, has the name.
+    /// What a name designates: a group where `group` holds, and else a port. None where no group, or no port, has the
+    /// name.
     pub fn designator(&self, name: &Name, group: bool) -> Option<Designator>
         requires { ValidIo self.now }
         ensures { result ≡ designated self.now name.now.items group }

@@ -1,7 +1,8 @@
 -- The formats of instructions: where the bits of the fields stand in the first word, the values that the fields may
 -- have, and whether a second word follows (Microchip AVR Instruction Set Manual, the "16-bit Opcode" of each
 -- instruction). The bits stand from 15 to 0. A dot is a bit of the opcode, which is 0 in the part that is added here.
-use Rattle.std.specs.Prelude.{ℕ, suc, ◌+◌, ◌-◌, ◌*◌, ◌/◌, ◌%◌, Bool, true, not, ◌&&◌, ◌==◌, nat_lt, nat_le, ℤ, pos, negsuc, Option, Some, None, if◌then◌else◌}
+use Rattle.std.specs.Prelude.{ℕ, suc, ◌+◌, ◌-◌, ◌*◌, ◌/◌, ◌%◌, Bool, true, not, ◌&&◌, ◌==◌, nat_lt, nat_le, ℤ, pos}
+use Rattle.std.specs.Prelude.{negsuc, Option, Some, None, if◌then◌else◌}
 use Rattle.ec_isa.specs.declared.instructions.Words.{Words}
 
 -- a row of the table, at some values of its fields

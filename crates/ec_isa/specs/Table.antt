@@ -2,8 +2,18 @@
 -- instruction, the format of its fields, its opcode and, behind the dashes, the bits as the manual prints them.
 use Rattle.std.specs.Prelude.{◌≡◌, ℕ, Bool, Option, Some, None, IsTrue}
 use Rattle.ec_isa.specs.declared.instructions.Instr.{Instr}
-use Rattle.ec_isa.specs.declared.instructions.Instr.TheVariants.{Nop, Movw, Cpc, Sbc, Add, Cpse, Cp, Sub, Adc, And, Eor, Or, Mov, Mul, Cpi, Sbci, Subi, Ori, Andi, Ldi, LddZ, LddY, StdZ, StdY, Lds, Sts, LdZPlus, LdMinusZ, LdYPlus, LdMinusY, LdX, LdXPlus, LdMinusX, StZPlus, StMinusZ, StYPlus, StMinusY, StX, StXPlus, StMinusX, LpmZ, LpmZPlus, Pop, Push, Com, Neg, Swap, Inc, Asr, Lsr, Ror, Dec, Bset, Bclr, Ijmp, Icall, Ret, Break, Jmp, Call, Adiw, Sbiw, In, Out, Rjmp, Rcall, Brbs, Brbc, Bld, Bst, Sbrc, Sbrs}
-use Rattle.ec_isa.specs.Formats.{Row, bare, register_pairs, two_registers, immediate, displacement, register, register_beside, register_and_address, flag, address, pair_immediate, port, relative, branch, register_bit}
+use Rattle.ec_isa.specs.declared.instructions.Instr.TheVariants.{Nop, Movw, Cpc, Sbc, Add, Cpse, Cp, Sub, Adc, And, Eor}
+use Rattle.ec_isa.specs.declared.instructions.Instr.TheVariants.{Or, Mov, Mul, Cpi, Sbci, Subi, Ori, Andi, Ldi, LddZ}
+use Rattle.ec_isa.specs.declared.instructions.Instr.TheVariants.{LddY, StdZ, StdY, Lds, Sts, LdZPlus, LdMinusZ, LdYPlus}
+use Rattle.ec_isa.specs.declared.instructions.Instr.TheVariants.{LdMinusY, LdX, LdXPlus, LdMinusX, StZPlus, StMinusZ}
+use Rattle.ec_isa.specs.declared.instructions.Instr.TheVariants.{StYPlus, StMinusY, StX, StXPlus, StMinusX, LpmZ}
+use Rattle.ec_isa.specs.declared.instructions.Instr.TheVariants.{LpmZPlus, Pop, Push, Com, Neg, Swap, Inc, Asr, Lsr}
+use Rattle.ec_isa.specs.declared.instructions.Instr.TheVariants.{Ror, Dec, Bset, Bclr, Ijmp, Icall, Ret, Break, Jmp}
+use Rattle.ec_isa.specs.declared.instructions.Instr.TheVariants.{Call, Adiw, Sbiw, In, Out, Rjmp, Rcall, Brbs, Brbc}
+use Rattle.ec_isa.specs.declared.instructions.Instr.TheVariants.{Bld, Bst, Sbrc, Sbrs}
+use Rattle.ec_isa.specs.Formats.{Row, bare, register_pairs, two_registers, immediate, displacement, register}
+use Rattle.ec_isa.specs.Formats.{register_beside, register_and_address, flag, address, pair_immediate, port, relative}
+use Rattle.ec_isa.specs.Formats.{branch, register_bit}
 
 -- the row of an instruction. Left out are the loads and stores that change X beside R26 and R27, Y beside R28 and R29,
 -- Z beside R30 and R31, and LPM Z+ into R30 and R31: the manual leaves undefined what they do

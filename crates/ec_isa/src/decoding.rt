@@ -5,14 +5,18 @@ ghost use Rattle.std.specs.Prelude.{◌≡◌, ◌↔◌, ◌<◌, ◌≤◌, �
 ghost use Rattle.ec_isa.specs.declared.instructions.Instr.{Instr as Instruction};
 ghost use Rattle.ec_isa.specs.Formats.{words_of};
 ghost use Rattle.ec_isa.specs.Table.{row, Decodes};
-ghost use Rattle.ec_isa.specs.Reading.{register as register_of, source as source_of, upper_register as upper_register_of};
+ghost use Rattle.ec_isa.specs.Reading.{register as register_of, source as source_of};
+ghost use Rattle.ec_isa.specs.Reading.{upper_register as upper_register_of};
 ghost use Rattle.ec_isa.specs.Reading.{constant as constant_of, offset as offset_of, pair as pair_of};
-ghost use Rattle.ec_isa.specs.Reading.{pair_constant as pair_constant_of, io_address as io_address_of, signed as signed_of};
-ghost use Rattle.ec_isa.specs.Reading.{no_source as no_source_of, two_registers as two_registers_of, immediate as immediate_of};
+ghost use Rattle.ec_isa.specs.Reading.{pair_constant as pair_constant_of, io_address as io_address_of};
+ghost use Rattle.ec_isa.specs.Reading.{signed as signed_of};
+ghost use Rattle.ec_isa.specs.Reading.{no_source as no_source_of, two_registers as two_registers_of};
+ghost use Rattle.ec_isa.specs.Reading.{immediate as immediate_of};
 ghost use Rattle.ec_isa.specs.Reading.{displacement as displacement_of, load as load_of, store as store_of};
 ghost use Rattle.ec_isa.specs.Reading.{flag_or_return as flag_or_return_of, one_register as one_register_of};
 ghost use Rattle.ec_isa.specs.Reading.{pair_immediate as pair_immediate_of, page_nine as page_nine_of, port as port_of};
-ghost use Rattle.ec_isa.specs.Reading.{bit_or_branch as bit_or_branch_of, page_fifteen as page_fifteen_of, candidate as candidate_of};
+ghost use Rattle.ec_isa.specs.Reading.{bit_or_branch as bit_or_branch_of, page_fifteen as page_fifteen_of};
+ghost use Rattle.ec_isa.specs.Reading.{candidate as candidate_of};
 ghost use Rattle.ec_isa.specs.Reading.{is_second as is_second_of, are_words as are_words_of, instruction_at};
 
 use crate::encoding::words;

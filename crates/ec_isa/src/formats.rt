@@ -4,11 +4,15 @@
 
 ghost use Rattle.std.specs.Prelude.{◌≡◌, ◌<◌, ◌≤◌, ◌*◌, IsTrue};
 ghost use Rattle.ec_isa.specs.Formats.{words_of, is_signed as is_signed_by, twos_complement as twos_complement_of};
-ghost use Rattle.ec_isa.specs.Formats.{bare as bare_row, register_pairs as register_pairs_row, two_registers as two_registers_row};
-ghost use Rattle.ec_isa.specs.Formats.{immediate as immediate_row, displacement as displacement_row, register as register_row};
-ghost use Rattle.ec_isa.specs.Formats.{register_beside as register_beside_row, register_and_address as register_and_address_row};
+ghost use Rattle.ec_isa.specs.Formats.{bare as bare_row, register_pairs as register_pairs_row};
+ghost use Rattle.ec_isa.specs.Formats.{two_registers as two_registers_row};
+ghost use Rattle.ec_isa.specs.Formats.{immediate as immediate_row, displacement as displacement_row};
+ghost use Rattle.ec_isa.specs.Formats.{register as register_row};
+ghost use Rattle.ec_isa.specs.Formats.{register_beside as register_beside_row};
+ghost use Rattle.ec_isa.specs.Formats.{register_and_address as register_and_address_row};
 ghost use Rattle.ec_isa.specs.Formats.{flag as flag_row, address as address_row, pair_immediate as pair_immediate_row};
-ghost use Rattle.ec_isa.specs.Formats.{port as port_row, relative as relative_row, branch as branch_row, register_bit as register_bit_row};
+ghost use Rattle.ec_isa.specs.Formats.{port as port_row, relative as relative_row, branch as branch_row};
+ghost use Rattle.ec_isa.specs.Formats.{register_bit as register_bit_row};
 
 use crate::instructions::Words;
 

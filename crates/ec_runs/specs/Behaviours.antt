@@ -78,8 +78,8 @@ many step (suc n) s = and_next (λ t. many step n t) (step s)
 
 -- ---- one run beside another
 
--- A run comes to what another one shows after n of its own steps: to its end, or, where that goes on, to a point where it has
--- the same events and made at least n steps. The number of steps is one of those that are allowed
+-- A run comes to what another one shows after n of its own steps: to its end, or, where that goes on, to a point where
+-- it has the same events and made at least n steps. The number of steps is one of those that are allowed
 abbrev pub Reached : {E R F G : Type 0} → (ℕ → Bool) → (ℕ → Behaviour E R G) → ℕ → Behaviour E R F → Type 0
 Reached allowed run n (Running es) = (m : ℕ) × IsTrue (allowed m) × (n ≤ m) × (run m ≡ Running es)
 Reached allowed run n (Ended es result) = (m : ℕ) × IsTrue (allowed m) × (run m ≡ Ended es result)
@@ -88,8 +88,8 @@ Reached allowed run n (Failed reason) = ⊤
 abbrev pub Reaches : {E R F G : Type 0} → (ℕ → ℕ → Bool) → (ℕ → Behaviour E R F) → (ℕ → Behaviour E R G) → Type 0
 Reaches allowed source run = (n : ℕ) → Reached (allowed n) run n (source n)
 
--- What a run shows, where another one shows this after as many steps: it never runs ahead, ends only where that one ends, and
--- never fails
+-- What a run shows, where another one shows this after as many steps: it never runs ahead, ends only where that one
+-- ends, and never fails
 abbrev pub IsWithin : {E R F G : Type 0} → Behaviour E R F → Behaviour E R G → Type 0
 IsWithin (Running es) (Running fs) = BeginWith fs es
 IsWithin (Running es) (Ended fs result) = ⊥

@@ -1,10 +1,12 @@
-//! Runs, whatever makes them: a program by its turns of loops, intermediate code by its operations, a machine by its steps.
+//! Runs, whatever makes them: a program by its turns of loops, intermediate code by its operations, a machine by its
+//! steps.
 //!
-//! A run is seen as a behaviour after each number of steps (`specs/Behaviours.antt`). The functions here prove what holds of
-//! every run, each one law, and do nothing.
+//! A run is seen as a behaviour after each number of steps (`specs/Behaviours.antt`). The functions here prove what
+//! holds of every run, each one law, and do nothing.
 #![tactic(auto)]
 
-ghost use Rattle.ec_runs.specs.Laws.{StepsAreRuns, StepsJoin, ManyJoin, RunsHaveOneEnd, WhatReachesStaysWithin, ReachesThrough, SeenRunsAreRuns, ReachesAsSeen};
+ghost use Rattle.ec_runs.specs.Laws.{StepsAreRuns, StepsJoin, ManyJoin, RunsHaveOneEnd, WhatReachesStaysWithin};
+ghost use Rattle.ec_runs.specs.Laws.{ReachesThrough, SeenRunsAreRuns, ReachesAsSeen};
 
 /// More steps of a step function only add events, and an end or a failure stays.
 pub fn steps_are_runs<S, E, R, F>()

@@ -1,5 +1,6 @@
 -- The laws of numbers and their bytes, over every width.
-use Rattle.std.proofs.Common.{◌≡◌, ℕ, zero, suc, ◌+◌, ◌*◌, ◌/◌, ◌%◌, ◌^◌, ◌<◌, List, [], ◌∷◌, length, take, replicate, ◌-◌, refl, ap, ◌∙◌, arith}
+use Rattle.std.proofs.Common.{◌≡◌, ℕ, zero, suc, ◌+◌, ◌*◌, ◌/◌, ◌%◌, ◌^◌, ◌<◌, List, [], ◌∷◌, length, take, replicate}
+use Rattle.std.proofs.Common.{◌-◌, refl, ap, ◌∙◌, arith}
 use Rattle.std.proofs.Math.Nat.{pow-succ'}
 use Rattle.std.proofs.lemmas.List.{take_at}
 use Rattle.ec_space.specs.Bytes.{little_endian, number_of, cell_bytes, cell_number, AreBytes}
@@ -35,7 +36,8 @@ little_endian-number_of (byte ∷ bytes) h =
     rw (low, high, little_endian-number_of bytes (λ i. h (suc i))) refl
 
 -- a value that its number gives back is also given back by its bytes
-pub cell_number-cell_bytes : {V : Type 0} (size x : ℕ) (of_bits : ℕ → V) (v : V) → x < 256 ^ size → of_bits x ≡ v → of_bits (cell_number size (cell_bytes size x)) ≡ v
+pub cell_number-cell_bytes : {V : Type 0} (size x : ℕ) (of_bits : ℕ → V) (v : V) → x < 256 ^ size → of_bits x ≡ v
+    → of_bits (cell_number size (cell_bytes size x)) ≡ v
 cell_number-cell_bytes size x of_bits v h same =
     let own : take size (cell_bytes size x) ≡ little_endian size x =
     take_at (little_endian size x) (replicate (8 - size) 0) size (length-little_endian size x) in

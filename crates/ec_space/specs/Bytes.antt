@@ -1,5 +1,7 @@
--- Whole numbers as bytes, the lowest first. ISO/IEC 9899:1999, 6.2.6.1, leaves the order of a value's bytes to the implementation.
-use Rattle.std.specs.Prelude.{ℕ, zero, suc, ◌+◌, ◌*◌, ◌/◌, ◌%◌, ◌<◌, List, [], ◌∷◌, ◌++◌, ◌-◌, take, replicate, slice_index}
+-- Whole numbers as bytes, the lowest first. ISO/IEC 9899:1999, 6.2.6.1, leaves the order of a value's bytes to the
+-- implementation.
+use Rattle.std.specs.Prelude.{ℕ, zero, suc, ◌+◌, ◌*◌, ◌/◌, ◌%◌, ◌<◌, List, [], ◌∷◌, ◌++◌, ◌-◌, take, replicate}
+use Rattle.std.specs.Prelude.{slice_index}
 
 -- the n lowest bytes of a number, the lowest first
 abbrev pub little_endian : ℕ → ℕ → List ℕ

@@ -1,5 +1,6 @@
 -- A memory as two lists of bytes, one for each bank.
-use Rattle.std.specs.Prelude.{◌≡◌, ◌≢◌, ℕ, ◌+◌, ◌<◌, ◌≤◌, ◌⊎◌, IsTrue, List, ◌++◌, length, take, drop, slice_index, slice_range, All}
+use Rattle.std.specs.Prelude.{◌≡◌, ◌≢◌, ℕ, ◌+◌, ◌<◌, ◌≤◌, ◌⊎◌, IsTrue, List, ◌++◌, length, take, drop, slice_index}
+use Rattle.std.specs.Prelude.{slice_range, All}
 use Rattle.ec_space.specs.Bytes.{little_endian, number_of}
 use Rattle.ec_space.specs.Spaces.{holds}
 use Rattle.ec_space.specs.declared.Core.{Core}
@@ -18,7 +19,8 @@ abbrev pub bank_bytes : Memory → Bank → List ℕ
 bank_bytes m Flash = m.flash
 bank_bytes m Data = m.data
 
--- how many bytes a core's banks have: flash, and the data addresses of registers, ports and SRAM (as the data sheet of the ATmega328P has them)
+-- how many bytes a core's banks have: flash, and the data addresses of registers, ports and SRAM (as the data sheet of
+-- the ATmega328P has them)
 abbrev pub flash_size : Core → ℕ
 flash_size Small = 32_768
 

@@ -1,12 +1,15 @@
 -- The laws of spaces: inclusion, and what pointers denote.
-use Rattle.std.proofs.Common.{◌≡◌, ℕ, zero, suc, ◌+◌, ◌-◌, ◌^◌, ◌<◌, ◌≤◌, Bool, true, false, not, ◌&&◌, ◌||◌, List, length, zero-add, refl, sym, ap, ◌∙◌, subst, arith, inl, inr}
-use Rattle.std.specs.Prelude.{◌==◌, nat_lt, IsTrue, Option, Some, None, MatchOption, unwrap_or, option_and_then, if◌then◌else◌, ⊤}
+use Rattle.std.proofs.Common.{◌≡◌, ℕ, zero, suc, ◌+◌, ◌-◌, ◌^◌, ◌<◌, ◌≤◌, Bool, true, false, not, ◌&&◌, ◌||◌, List}
+use Rattle.std.proofs.Common.{length, zero-add, refl, sym, ap, ◌∙◌, subst, arith, inl, inr}
+use Rattle.std.specs.Prelude.{◌==◌, nat_lt, IsTrue, Option, Some, None, MatchOption, unwrap_or, option_and_then}
+use Rattle.std.specs.Prelude.{if◌then◌else◌, ⊤}
 use Rattle.std.specs.Cmp.Derive.{both_true}
 use Rattle.std.proofs.lemmas.Bool.{cases_lt, ne_eqb, lt-ltb, le-ltb}
 use Rattle.std.proofs.lemmas.Bool.Decides.{nat_tests}
 use Rattle.ec_space.specs.ByteLaws.{number_of-little_endian, little_endian-number_of}
 use Rattle.ec_space.specs.Bytes.{little_endian, number_of, AreBytes}
-use Rattle.ec_space.specs.Spaces.{holds, Encloses, encloses, bank_number, pointer_number, IsPointerOf, Denotes, encoded, pointer_in, pointer_of, denoted, is_pointer_of, converted, embedded, nothing}
+use Rattle.ec_space.specs.Spaces.{holds, Encloses, encloses, bank_number, pointer_number, IsPointerOf, Denotes, encoded}
+use Rattle.ec_space.specs.Spaces.{pointer_in, pointer_of, denoted, is_pointer_of, converted, embedded, nothing}
 use Rattle.ec_space.specs.declared.space.Bank.{Bank}
 use Rattle.ec_space.specs.declared.space.Bank.TheVariants.{Flash as FlashBank, Data as DataBank}
 use Rattle.ec_space.specs.declared.space.Pointer.{Pointer}
@@ -33,17 +36,21 @@ right_true true b h = h
 right_true false b h = cc
 
 pub Encloses-from_test : (outer inner : SpaceId) → IsTrue (encloses outer inner) → Encloses outer inner
-Encloses-from_test outer inner test FlashBank = implied (holds inner FlashBank) (holds outer FlashBank) (left_true _ _ test)
-Encloses-from_test outer inner test DataBank = implied (holds inner DataBank) (holds outer DataBank) (right_true _ _ test)
+Encloses-from_test outer inner test FlashBank =
+    implied (holds inner FlashBank) (holds outer FlashBank) (left_true _ _ test)
+Encloses-from_test outer inner test DataBank =
+    implied (holds inner DataBank) (holds outer DataBank) (right_true _ _ test)
 
 pub test_from_Encloses : (outer inner : SpaceId) → Encloses outer inner → IsTrue (encloses outer inner)
 test_from_Encloses outer inner h =
-    both_true (implies (holds inner FlashBank) (holds outer FlashBank) (h FlashBank)) (implies (holds inner DataBank) (holds outer DataBank) (h DataBank))
+    both_true (implies (holds inner FlashBank) (holds outer FlashBank) (h FlashBank))
+    (implies (holds inner DataBank) (holds outer DataBank) (h DataBank))
 
 -- ---- pointers and their numbers
 
 -- an offset of a bank that a pointer can have
-pointer_in-offset : (bank : Bank) (offset : ℕ) → 0 < offset → offset < 65_536 → pointer_in bank offset ≡ Some (At (record { bank = bank; offset = offset }))
+pointer_in-offset : (bank : Bank) (offset : ℕ) → 0 < offset → offset < 65_536
+    → pointer_in bank offset ≡ Some (At (record { bank = bank; offset = offset }))
 pointer_in-offset bank offset low high =
     let nonzero : (offset == 0) ≡ false = ne_eqb offset 0 (λ e. omega arith) in
     let small : nat_lt offset 65_536 ≡ true = lt-ltb offset 65_536 high in
@@ -64,7 +71,8 @@ pointer_of-at Generic DataBank offset h low high =
     rw (in_data, own) (pointer_in-offset DataBank offset low high)
 
 -- a pointer of the space is the one whose bytes make its number
-pub pointer_of-pointer_number : (space : SpaceId) (p : Pointer) → IsPointerOf space p → pointer_of space (pointer_number space p) ≡ Some p
+pub pointer_of-pointer_number : (space : SpaceId) (p : Pointer) → IsPointerOf space p
+    → pointer_of space (pointer_number space p) ≡ Some p
 pointer_of-pointer_number Flash Null h = refl
 pointer_of-pointer_number Data Null h = refl
 pointer_of-pointer_number Generic Null h = refl
@@ -82,16 +90,19 @@ pointer_number_fits space Null h = omega arith
 pointer_number_fits space (At place) h = omega (arith, h.2, bank_number_fits space place.bank)
 
 -- what `pointer_in` gives is a pointer of the space with the number n
-pointer_in_tells : (space : SpaceId) (bank : Bank) (offset n : ℕ) → IsTrue (holds space bank) → 0 < offset → n ≡ bank_number space bank + offset
+pointer_in_tells : (space : SpaceId) (bank : Bank) (offset n : ℕ) → IsTrue (holds space bank) → 0 < offset
+    → n ≡ bank_number space bank + offset
     → MatchOption (pointer_in bank offset) ⊤ (λ p. IsPointerOf space p × (n ≡ pointer_number space p))
 pointer_in_tells space bank offset n h low same =
     let nonzero : (offset == 0) ≡ false = ne_eqb offset 0 (λ e. omega arith) in
     elim (cases_lt offset 65_536) [
-      | inl small ↦ let in_range : nat_lt offset 65_536 ≡ true = lt-ltb offset 65_536 small in rw (nonzero, in_range) ((h, low, small), same)
+      | inl small ↦ let in_range : nat_lt offset 65_536
+          ≡ true = lt-ltb offset 65_536 small in rw (nonzero, in_range) ((h, low, small), same)
       | inr large ↦ let out : nat_lt offset 65_536 ≡ false = le-ltb offset 65_536 large in rw (nonzero, out) tt
     ]
 
-pointer_of_tells : (space : SpaceId) (n : ℕ) → MatchOption (pointer_of space n) ⊤ (λ p. IsPointerOf space p × (n ≡ pointer_number space p))
+pointer_of_tells : (space : SpaceId) (n : ℕ)
+    → MatchOption (pointer_of space n) ⊤ (λ p. IsPointerOf space p × (n ≡ pointer_number space p))
 pointer_of_tells Flash zero = (tt, refl)
 pointer_of_tells Flash (suc n) = pointer_in_tells Flash FlashBank (suc n) (suc n) refl (omega arith) (omega arith)
 pointer_of_tells Data zero = (tt, refl)
@@ -109,27 +120,37 @@ pointer_of_tells Generic (suc n) = elim (cases_lt 0x80_0000 (suc n)) [
 -- ---- what bytes denote
 
 -- bytes denote at most one pointer, the one that `denoted` gives
-pub denoted_from_Denotes : (space : SpaceId) (bytes : List ℕ) (p : Pointer) → Denotes space bytes p → denoted space bytes ≡ Some p
+pub denoted_from_Denotes : (space : SpaceId) (bytes : List ℕ) (p : Pointer) → Denotes space bytes p
+    → denoted space bytes ≡ Some p
 denoted_from_Denotes space bytes p d = rw d.number (pointer_of-pointer_number space p d.is_pointer)
 
 -- and they denote what it gives
 denoted_tells_at : (space : SpaceId) (bytes : List ℕ) (o : Option Pointer) → denoted space bytes ≡ o
-    → MatchOption o ⊤ (λ p. IsPointerOf space p × (number_of bytes ≡ pointer_number space p)) → MatchOption o ((p : Pointer) → ¬ Denotes space bytes p) (Denotes space bytes)
+    → MatchOption o ⊤ (λ p. IsPointerOf space p × (number_of bytes ≡ pointer_number space p))
+    → MatchOption o ((p : Pointer) → ¬ Denotes space bytes p) (Denotes space bytes)
 denoted_tells_at space bytes None same h = λ p d. let other = denoted_from_Denotes space bytes p d in cc
 denoted_tells_at space bytes (Some p) same h = record { is_pointer = h.0; number = h.1 }
 
-pub denoted_tells : (space : SpaceId) (bytes : List ℕ) → MatchOption (denoted space bytes) ((p : Pointer) → ¬ Denotes space bytes p) (Denotes space bytes)
-denoted_tells space bytes = denoted_tells_at space bytes (denoted space bytes) refl (pointer_of_tells space (number_of bytes))
+pub denoted_tells : (space : SpaceId) (bytes : List ℕ)
+    → MatchOption (denoted space bytes) ((p : Pointer) → ¬ Denotes space bytes p) (Denotes space bytes)
+denoted_tells space bytes =
+    denoted_tells_at space bytes (denoted space bytes) refl (pointer_of_tells space (number_of bytes))
 
 pub Denotes-encoded : (space : SpaceId) (p : Pointer) → IsPointerOf space p → Denotes space (encoded space p) p
-Denotes-encoded space p h = record { is_pointer = h; number = number_of-little_endian 3 (pointer_number space p) (pointer_number_fits space p h) }
+Denotes-encoded space p h =
+    record {
+      is_pointer = h;
+      number = number_of-little_endian 3 (pointer_number space p)
+          (pointer_number_fits space p h);
+    }
 
 pub denoted-encoded : (space : SpaceId) (p : Pointer) → IsPointerOf space p → denoted space (encoded space p) ≡ Some p
 denoted-encoded space p h = denoted_from_Denotes space (encoded space p) p (Denotes-encoded space p h)
 
 -- ---- the same pointer in another space
 
-pub IsPointerOf-Encloses : (outer inner : SpaceId) (p : Pointer) → Encloses outer inner → IsPointerOf inner p → IsPointerOf outer p
+pub IsPointerOf-Encloses : (outer inner : SpaceId) (p : Pointer) → Encloses outer inner → IsPointerOf inner p
+    → IsPointerOf outer p
 IsPointerOf-Encloses outer inner Null h is = tt
 IsPointerOf-Encloses outer inner (At place) h is = (h place.bank is.0, is.1, is.2)
 
@@ -143,12 +164,16 @@ IsPointerOf-from_test space Null h = tt
 IsPointerOf-from_test space (At place) h = grind (arith, nat_tests)
 
 -- bytes of one space that denote a pointer of the other become its bytes there
-pub converted-Denotes : (from to : SpaceId) (bytes : List ℕ) (p : Pointer) → Denotes from bytes p → IsPointerOf to p → converted from to bytes ≡ Some (encoded to p)
+pub converted-Denotes : (from to : SpaceId) (bytes : List ℕ) (p : Pointer) → Denotes from bytes p → IsPointerOf to p
+    → converted from to bytes ≡ Some (encoded to p)
 converted-Denotes from to bytes p d h = rw (denoted_from_Denotes from bytes p d, is_pointer_of-true to p h) refl
 
 -- what becomes of bytes that denote p in the one space, by the test whether p is a pointer of the other
-converted_by_test : (from to : SpaceId) (bytes : List ℕ) (p : Pointer) → Denotes from bytes p → (test : Bool) → is_pointer_of to p ≡ test
-    → MatchOption (if test then Some (encoded to p) else None) ((q : Pointer) → Denotes from bytes q → ¬ IsPointerOf to q) (λ new. (q : Pointer) × Denotes from bytes q × Denotes to new q)
+converted_by_test : (from to : SpaceId) (bytes : List ℕ) (p : Pointer) → Denotes from bytes p → (test : Bool)
+    → is_pointer_of to p ≡ test
+    → MatchOption (if test then Some (encoded to p) else None)
+    ((q : Pointer) → Denotes from bytes q → ¬ IsPointerOf to q)
+    (λ new. (q : Pointer) × Denotes from bytes q × Denotes to new q)
 converted_by_test from to bytes p d true same = (p, d, Denotes-encoded to p (IsPointerOf-from_test to p same))
 converted_by_test from to bytes p d false same = λ q e h.
     let one = denoted_from_Denotes from bytes p d in
@@ -158,13 +183,16 @@ converted_by_test from to bytes p d false same = λ q e h.
 
 converted_tells_at : (from to : SpaceId) (bytes : List ℕ) (o : Option Pointer)
     → MatchOption o ((p : Pointer) → ¬ Denotes from bytes p) (Denotes from bytes)
-    → MatchOption (option_and_then (λ p. if is_pointer_of to p then Some (encoded to p) else None) o) ((p : Pointer) → Denotes from bytes p → ¬ IsPointerOf to p) (λ new. (p : Pointer) × Denotes from bytes p × Denotes to new p)
+    → MatchOption (option_and_then (λ p. if is_pointer_of to p then Some (encoded to p) else None) o)
+    ((p : Pointer) → Denotes from bytes p → ¬ IsPointerOf to p)
+    (λ new. (p : Pointer) × Denotes from bytes p × Denotes to new p)
 converted_tells_at from to bytes None h = λ p d _. h p d
 converted_tells_at from to bytes (Some p) h = converted_by_test from to bytes p h (is_pointer_of to p) refl
 
 -- bytes become nothing exactly where they denote nothing, or no pointer of the other space
 pub converted_tells : (from to : SpaceId) (bytes : List ℕ)
-    → MatchOption (converted from to bytes) ((p : Pointer) → Denotes from bytes p → ¬ IsPointerOf to p) (λ new. (p : Pointer) × Denotes from bytes p × Denotes to new p)
+    → MatchOption (converted from to bytes) ((p : Pointer) → Denotes from bytes p → ¬ IsPointerOf to p)
+    (λ new. (p : Pointer) × Denotes from bytes p × Denotes to new p)
 converted_tells from to bytes = converted_tells_at from to bytes (denoted from bytes) (denoted_tells from bytes)
 
 -- ---- a pointer of an inner space in an outer one
@@ -175,16 +203,21 @@ denoted-nothing Data = refl
 denoted-nothing Generic = refl
 
 module _ (inner outer : SpaceId) (enclosed : Encloses outer inner) where
-  embedded-Denotes : (bytes : List ℕ) (p : Pointer) → Denotes inner bytes p → embedded inner outer bytes ≡ encoded outer p
+  embedded-Denotes : (bytes : List ℕ) (p : Pointer) → Denotes inner bytes p
+      → embedded inner outer bytes ≡ encoded outer p
   embedded-Denotes bytes p d =
-      ap (λ o. unwrap_or o nothing) (converted-Denotes inner outer bytes p d (IsPointerOf-Encloses outer inner p enclosed d.is_pointer))
+      ap (λ o. unwrap_or o nothing) (converted-Denotes inner outer bytes p d
+      (IsPointerOf-Encloses outer inner p enclosed d.is_pointer))
 
   -- what the bytes denote is kept
-  pub embedded_keeps : (bytes : List ℕ) (p : Pointer) → Denotes inner bytes p → Denotes outer (embedded inner outer bytes) p
+  pub embedded_keeps : (bytes : List ℕ) (p : Pointer) → Denotes inner bytes p
+      → Denotes outer (embedded inner outer bytes) p
   embedded_keeps bytes p d =
-      rw (embedded-Denotes bytes p d) (Denotes-encoded outer p (IsPointerOf-Encloses outer inner p enclosed d.is_pointer))
+      rw (embedded-Denotes bytes p d)
+      (Denotes-encoded outer p (IsPointerOf-Encloses outer inner p enclosed d.is_pointer))
 
-  embedded_adds_nothing_at : (bytes : List ℕ) (o : Option Pointer) → denoted inner bytes ≡ o → MatchOption o ((p : Pointer) → ¬ Denotes inner bytes p) (Denotes inner bytes)
+  embedded_adds_nothing_at : (bytes : List ℕ) (o : Option Pointer) → denoted inner bytes ≡ o
+      → MatchOption o ((p : Pointer) → ¬ Denotes inner bytes p) (Denotes inner bytes)
       → (p : Pointer) → Denotes outer (embedded inner outer bytes) p → Denotes inner bytes p
   embedded_adds_nothing_at bytes None same h p d =
       let none : embedded inner outer bytes ≡ nothing = rw same refl in
@@ -198,7 +231,8 @@ module _ (inner outer : SpaceId) (enclosed : Encloses outer inner) where
       subst (λ x. Denotes inner bytes x) equal h
 
   -- and nothing else
-  pub embedded_adds_nothing : (bytes : List ℕ) (p : Pointer) → Denotes outer (embedded inner outer bytes) p → Denotes inner bytes p
+  pub embedded_adds_nothing : (bytes : List ℕ) (p : Pointer) → Denotes outer (embedded inner outer bytes) p
+      → Denotes inner bytes p
   embedded_adds_nothing bytes = embedded_adds_nothing_at bytes (denoted inner bytes) refl (denoted_tells inner bytes)
 
   -- the way back gives the bytes that were embedded
@@ -208,5 +242,6 @@ module _ (inner outer : SpaceId) (enclosed : Encloses outer inner) where
       let in_outer = Denotes-encoded outer p (IsPointerOf-Encloses outer inner p enclosed d.is_pointer) in
       let back = converted-Denotes outer inner (encoded outer p) p in_outer d.is_pointer in
       let number : encoded inner p ≡ little_endian 3 (number_of bytes) = ap (little_endian 3) (sym d.number) in
-      let own : little_endian 3 (number_of bytes) ≡ bytes = subst (λ k. little_endian k (number_of bytes) ≡ bytes) len (little_endian-number_of bytes are) in
+      let own : little_endian 3 (number_of bytes)
+      ≡ bytes = subst (λ k. little_endian k (number_of bytes) ≡ bytes) len (little_endian-number_of bytes are) in
       rw (embedded-Denotes bytes p d) (back ∙ ap (λ new. Some new) (number ∙ own))

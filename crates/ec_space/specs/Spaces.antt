@@ -1,6 +1,7 @@
--- Named address spaces (ISO/IEC TR 18037:2008, chapter 5): the banks of a space, and what the bytes of a pointer denote in it.
--- The report leaves the spaces and the bytes of their pointers to the implementation; these are the project's.
-use Rattle.std.specs.Prelude.{◌≡◌, ℕ, ◌+◌, ◌-◌, ◌<◌, ◌==◌, nat_lt, Bool, true, false, not, ◌&&◌, ◌||◌, if◌then◌else◌, IsTrue, Option, Some, None, option_and_then, unwrap_or, List, [], ◌∷◌, ◌⊎◌}
+-- Named address spaces (ISO/IEC TR 18037:2008, chapter 5): the banks of a space, and what the bytes of a pointer denote
+-- in it. The report leaves the spaces and the bytes of their pointers to the implementation; these are the project's.
+use Rattle.std.specs.Prelude.{◌≡◌, ℕ, ◌+◌, ◌-◌, ◌<◌, ◌==◌, nat_lt, Bool, true, false, not, ◌&&◌, ◌||◌, if◌then◌else◌}
+use Rattle.std.specs.Prelude.{IsTrue, Option, Some, None, option_and_then, unwrap_or, List, [], ◌∷◌, ◌⊎◌}
 use Rattle.ec_space.specs.Bytes.{little_endian, number_of}
 use Rattle.ec_space.specs.declared.space.Bank.{Bank}
 use Rattle.ec_space.specs.declared.space.Bank.TheVariants.{Flash as FlashBank, Data as DataBank}
@@ -44,7 +45,8 @@ width Flash = 2
 width Data = 2
 width Generic = 3
 
--- what a pointer's bank adds to its offset: the third byte of a generic pointer selects the bank, 0x00 for flash and 0x80 for data
+-- what a pointer's bank adds to its offset: the third byte of a generic pointer selects the bank, 0x00 for flash and
+-- 0x80 for data
 abbrev pub bank_number : SpaceId → Bank → ℕ
 bank_number Flash bank = 0
 bank_number Data bank = 0
@@ -75,7 +77,8 @@ encoded space p = little_endian 3 (pointer_number space p)
 -- the pointer at an offset of two bytes in a bank, null at 0
 abbrev pub pointer_in : Bank → ℕ → Option Pointer
 pointer_in bank offset =
-    if offset == 0 then Some Null else (if nat_lt offset 65_536 then Some (At (record { bank = bank; offset = offset })) else None)
+    if offset == 0 then Some Null else
+    (if nat_lt offset 65_536 then Some (At (record { bank = bank; offset = offset })) else None)
 
 -- the pointer whose bytes make a number
 abbrev pub pointer_of : SpaceId → ℕ → Option Pointer

@@ -107,7 +107,8 @@ impl Cell for i8 {
 
     ghost bits_undoes = { of_z-to_z w8 };
 
-    ghost reads_back = { λ v h. cell_number-cell_bytes 1 (cast_unsigned w8 v) (cast_signed w8) v (cast_unsigned_fits w8 v h) (to_z-of_z w8 v h) };
+    ghost reads_back = { λ v h. cell_number-cell_bytes 1 (cast_unsigned w8 v) (cast_signed w8) v
+        (cast_unsigned_fits w8 v h) (to_z-of_z w8 v h) };
 
     fn to_bytes(self) -> [u8; 8] {
         u64::from(self.cast_unsigned()).to_le_bytes()
@@ -175,7 +176,8 @@ impl Cell for i16 {
 
     ghost bits_undoes = { of_z-to_z w16 };
 
-    ghost reads_back = { λ v h. cell_number-cell_bytes 2 (cast_unsigned w16 v) (cast_signed w16) v (cast_unsigned_fits w16 v h) (to_z-of_z w16 v h) };
+    ghost reads_back = { λ v h. cell_number-cell_bytes 2 (cast_unsigned w16 v) (cast_signed w16) v
+        (cast_unsigned_fits w16 v h) (to_z-of_z w16 v h) };
 
     fn to_bytes(self) -> [u8; 8] {
         u64::from(self.cast_unsigned()).to_le_bytes()
@@ -243,7 +245,8 @@ impl Cell for i32 {
 
     ghost bits_undoes = { of_z-to_z w32 };
 
-    ghost reads_back = { λ v h. cell_number-cell_bytes 4 (cast_unsigned w32 v) (cast_signed w32) v (cast_unsigned_fits w32 v h) (to_z-of_z w32 v h) };
+    ghost reads_back = { λ v h. cell_number-cell_bytes 4 (cast_unsigned w32 v) (cast_signed w32) v
+        (cast_unsigned_fits w32 v h) (to_z-of_z w32 v h) };
 
     fn to_bytes(self) -> [u8; 8] {
         u64::from(self.cast_unsigned()).to_le_bytes()
@@ -311,7 +314,8 @@ impl Cell for i64 {
 
     ghost bits_undoes = { of_z-to_z w64 };
 
-    ghost reads_back = { λ v h. cell_number-cell_bytes 8 (cast_unsigned w64 v) (cast_signed w64) v (cast_unsigned_fits w64 v h) (to_z-of_z w64 v h) };
+    ghost reads_back = { λ v h. cell_number-cell_bytes 8 (cast_unsigned w64 v) (cast_signed w64) v
+        (cast_unsigned_fits w64 v h) (to_z-of_z w64 v h) };
 
     fn to_bytes(self) -> [u8; 8] {
         self.cast_unsigned().to_le_bytes()

@@ -1,6 +1,7 @@
 //! The standard traits of `Seq`. Comparisons and hashes are those of the slice of its items.
 ghost use Rattle.std.specs.Cmp.{on_equiv, on_total, on_po, on_per};
-ghost use Rattle.std.specs.Cmp.Lexicographic.{pointwise, slice_cmp, slice_partial_cmp, lists_per, lists_equiv, lists_po, lists_total, lists_agrees, lists_ties};
+ghost use Rattle.std.specs.Cmp.Lexicographic.{pointwise, slice_cmp, slice_partial_cmp, lists_per, lists_equiv};
+ghost use Rattle.std.specs.Cmp.Lexicographic.{lists_po, lists_total, lists_agrees, lists_ties};
 ghost use Rattle.std.specs.Hash as fed;
 ghost use Rattle.std.specs.Hash.{on_Alike, items_Alike};
 

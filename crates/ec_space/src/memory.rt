@@ -60,7 +60,8 @@ fn filled(alloc: Global, n: u32, x: u8) -> Result<Vec<u8>, NoMemory>
 
 impl Mem {
     ghost use Rattle.ec_space.specs.Lending.{LendsWindow};
-    ghost use Rattle.ec_space.specs.Memory.{Memory, flash_size, data_size, IsFilled, bank_bytes, HasCell, number_at, with_number_at, SameSizes, SameOutside};
+    ghost use Rattle.ec_space.specs.Memory.{Memory, flash_size, data_size, IsFilled, bank_bytes, HasCell, number_at};
+    ghost use Rattle.ec_space.specs.Memory.{with_number_at, SameSizes, SameOutside};
 
     /// The memory of a core, with flash all 0xFF and data bytes all 0.
     pub fn new(alloc: Global, core: Core) -> Result<Mem, NoMemory>
@@ -73,8 +74,8 @@ impl Mem {
         })
     }
 
-    /// The value at a place, read through a space. None where the bank is not in the space, or a byte of the value falls
-    /// outside the bank.
+    /// The value at a place, read through a space. None where the bank is not in the space, or a byte of the value
+    /// falls outside the bank.
     pub fn load<S: Space, T: Cell>(&self, at: Place) -> Option<T>
         ensures value { SomeIff result (HasCell S.space self.now at T.SIZE)
             (T.of_bits (number_at self.now at T.SIZE)) }
@@ -91,8 +92,8 @@ impl Mem {
         Some(T::from_bytes(bytes))
     }
 
-    /// Writes a value at a place, through a space. False, with nothing changed, where the bank is flash or is not in the
-    /// space, or a byte of the value falls outside the bank.
+    /// Writes a value at a place, through a space. False, with nothing changed, where the bank is flash or is not in
+    /// the space, or a byte of the value falls outside the bank.
     pub fn store<S: Space, T: Cell>(&mut self, at: Place, v: T) -> bool
         ensures stored { IsTrue result ↔ (HasCell S.space self.old at T.SIZE × (at.bank ≡ Bank.Data)) }
         ensures written { OnTrue result (self.new ≡ with_number_at self.old at T.SIZE (T.bits v)) }

@@ -76,7 +76,8 @@ impl SpaceId {
 impl Pointer {
     ghost use Rattle.ec_space.specs.Spaces.{IsPointerOf, is_pointer_of};
 
-    /// Whether a space has bytes for the pointer: it is null, or its place is in the space at an offset from 1 to 65,535.
+    /// Whether a space has bytes for the pointer: it is null, or its place is in the space at an offset from 1 to
+    /// 65,535.
     pub fn is_in(self, space: SpaceId) -> bool
         ensures value { result ≡ is_pointer_of space self }
         ensures fact { IsTrue result ↔ IsPointerOf space self }

@@ -1,7 +1,8 @@
 //! The bytes of pointers in each named address space.
 ghost use Rattle.std.specs.Prelude.{◌≡◌, ℕ, ◌+◌, ◌-◌, ◌*◌, ◌↔◌, List, length, drop, replicate, refl, Some, MatchOption};
 ghost use Rattle.ec_space.specs.Bytes.{AreBytes};
-ghost use Rattle.ec_space.specs.Spaces.{Encloses, IsPointerOf, Denotes, width, encoded, pointer_in, pointer_of, denoted, converted, embedded};
+ghost use Rattle.ec_space.specs.Spaces.{Encloses, IsPointerOf, Denotes, width, encoded, pointer_in, pointer_of};
+ghost use Rattle.ec_space.specs.Spaces.{denoted, converted, embedded};
 ghost use Rattle.ec_space.specs.SpaceLaws.{denoted-encoded, converted-embedded};
 ghost use Rattle.ec_space.specs.declared.space.Pointer.{Pointer};
 ghost use Rattle.ec_space.specs.declared.space.SpaceId.{SpaceId};

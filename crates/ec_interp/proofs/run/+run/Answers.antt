@@ -192,7 +192,7 @@ call-enter-requires t c =
     let d = c.decreases in
     (omega (arith, h, e, d), (c.requires, h))
 
--- ---- that only want of memory keeps a valid program from an answer
+-- ---- that only running out of memory keeps a valid program from an answer
 
 pub value_of-returns-clause-answered : goal.value_of-returns-clause-answered
 value_of-returns-clause-answered t c = λ h.

@@ -22,10 +22,14 @@ use Rattle.ec_space.specs.contracts.seq.Seq as C
 use Rattle.ec_space.specs.contracts.seq.Seq.TheInside as I
 
 abbrev pub the_former : Former {0} → Former {0}
-the_former g = via (pair (list g) (const ℕ)) (λ X. Listed (g.Of X)) (λ X a. (a.items, a.spare)) (λ X v. record { items = v.0; spare = v.1 }) (λ X a. refl) (λ X v. refl)
+the_former g =
+    via (pair (list g) (const ℕ)) (λ X. Listed (g.Of X)) (λ X a. (a.items, a.spare))
+    (λ X v. record { items = v.0; spare = v.1 }) (λ X a. refl) (λ X v. refl)
 
 abbrev pub the_weighed : {g : Former {0}} → Weighed g → Weighed (the_former g)
-the_weighed {g} w = w_via (w_pair (w_list w) (w_const ℕ)) (λ X. Listed (g.Of X)) (λ X a. (a.items, a.spare)) (λ X v. record { items = v.0; spare = v.1 }) (λ X a. refl) (λ X v. refl)
+the_weighed {g} w =
+    w_via (w_pair (w_list w) (w_const ℕ)) (λ X. Listed (g.Of X)) (λ X a. (a.items, a.spare))
+    (λ X v. record { items = v.0; spare = v.1 }) (λ X a. refl) (λ X v. refl)
 
 pub the_empty : Listed ⊥
 the_empty = record { items = []; spare = 0 }
@@ -44,10 +48,13 @@ first {c = c} e = λ i. gcons (e i) c
 
 module _ (R S : RattleType) (h : R.Denot → S.Denot) where
   pub the_places : Alike R S h → Alike (C.the_row R) (C.the_row S) ((the_former this).map R.Denot S.Denot h)
-  the_places a = view_places fields (the_former this) view (λ X Y k u. refl) (λ X u. refl) R.Denot S.Denot h (C.the_row R).coded (C.the_row S).coded
+  the_places a =
+      view_places fields (the_former this) view (λ X Y k u. refl) (λ X u. refl) R.Denot S.Denot h (C.the_row R).coded
+      (C.the_row S).coded
       (invariant R.Denot) (invariant S.Denot) (λ u p q. refl) (λ u p q. refl) (λ u e. tt) (λ u e. tt)
       (over (I.the_row R)) (over (I.the_row S))
-      (struct_places (I.the_type R) (I.the_type S) (vec.mapped h, tt) _ (λ d. refl) refl (laid _ _ _ (vec.the_places heap.the_row ghosts R S h a), tt))
+      (struct_places (I.the_type R) (I.the_type S) (vec.mapped h, tt) _ (λ d. refl) refl
+      (laid _ _ _ (vec.the_places heap.the_row ghosts R S h a), tt))
 
   pub the_codes_placed : Recodes R S h → Recodes (C.the_row R) (C.the_row S) ((the_former this).map R.Denot S.Denot h)
   the_codes_placed e d = first (sym (code_map R.coded.code S.coded.code h (λ x. sym (e x)) d.items))

@@ -2,7 +2,7 @@ use Rattle.std.proofs.Common.{◌≡◌, ◌≤◌, ℕ, zero, suc, true, List, 
 use Rattle.ec_core.specs.Layout.{struct_layouts, AreStructs, NameEarlier}
 use Rattle.ec_core.specs.Plain.{integer, PlainStruct, plain_struct}
 use Rattle.ec_core.specs.Typing.{int}
-use Rattle.ec_interp.proofs.trees.structs.Goals as goal
+use Rattle.ec_tests.proofs.interp_programs.structs.Goals as goal
 
 abbrev sample : List PlainStruct
 sample = record { tag = []; members = record { name = []; ty = integer true 1 } ∷ record { name = []; ty = int } ∷ [] } ∷ []
