@@ -1,27 +1,27 @@
--- One tree for each production and alternative, with the list of its tokens written by hand; and lists that two trees would spell but for
--- the side conditions.
-use Rattle.std.proofs.Common.{◌≡◌, ℕ, ℤ, suc, List, [], ◌∷◌, Bool, true, false, Option, Some, None, refl, sym, arith}
+-- One tree for each production and alternative, with the list of its tokens written by hand; lists that two trees would spell but for
+-- the side conditions; and how deep some trees nest.
+use Rattle.std.proofs.Common.{◌≡◌, ℕ, ℤ, zero, suc, List, [], ◌∷◌, true, Some, None, refl, arith}
 use Rattle.std.proofs.lemmas.Bool.{true≢false}
+use Rattle.std.specs.Prelude.{map}
 use Rattle.ec_fx.specs.declared.formats.FxKind.TheVariants as fixed_kinds
 use Rattle.ec_iohw.specs.declared.operations.IoOp.TheVariants as ports
 use Rattle.ec_grammar.specs.declared.token.WordKind.{WordKind}
-use Rattle.ec_grammar.specs.declared.token.WordKind.TheVariants.{Break, Const, Continue, Do, Else, Extern, For, If, Int, Register, Return, Sizeof, Static, Struct, Unsigned, Void, While}
+use Rattle.ec_grammar.specs.declared.token.WordKind.TheVariants.{Break, Const, Continue, Do, Else, For, If, Int, Register, Return, Sizeof, Static, Struct, Unsigned, Void, While}
 use Rattle.ec_grammar.specs.declared.token.PunctKind.{PunctKind}
 use Rattle.ec_grammar.specs.declared.token.PunctKind.TheVariants as p
 use Rattle.ec_grammar.specs.declared.token.GroupOp.TheVariants as groups
 use Rattle.ec_grammar.specs.declared.token.PragmaKind.TheVariants as pragma_kinds
 use Rattle.ec_grammar.specs.declared.token.PragmaState.TheVariants as states
 use Rattle.ec_grammar.specs.declared.tree.Spot.{Spot}
-use Rattle.ec_grammar.specs.declared.tree.Pragma.{Pragma}
-use Rattle.ec_grammar.specs.declared.tree.Qualifier.{Qualifier}
 use Rattle.ec_grammar.specs.declared.tree.Constant.TheVariants as constants
 use Rattle.ec_grammar.specs.declared.tree.Operation.TheVariants as operations
 use Rattle.ec_grammar.specs.Tokens as k
 use Rattle.ec_grammar.specs.Tokens.{Lexeme}
 use Rattle.ec_grammar.specs.Trees as t
 use Rattle.ec_grammar.specs.Trees.{Leaf}
-use Rattle.ec_grammar.specs.Spelling.{of_expression, of_assignment, of_conditional, of_binary, of_cast, of_unary, of_postfix, of_primary, of_type_name, of_param, of_params, of_declarator, of_initialiser, of_declaration, of_structure, of_register_object, of_first, of_heading, of_compound, of_statement, of_external, of_tree}
-use Rattle.ec_grammar.specs.Grammar.{Is_binary, Is_statement, Are_params}
+use Rattle.ec_grammar.specs.Spelling.{of_expression, of_assignment, of_conditional, of_binary, of_cast, of_unary, of_postfix, of_primary, of_type_name, of_param, of_params, of_declarator, of_initialiser, of_declaration, of_structure, of_register_object, of_statement, of_tree}
+use Rattle.ec_grammar.specs.Grammar.{level_of, Is_binary, Is_statement, Are_params}
+use Rattle.ec_grammar.specs.Nesting.{height_binary, opens_assignment, opens_conditional, opens_cast, opens_postfix, opens_statement, opens_external, Nests}
 
 -- the spot of the token with this index
 abbrev s : ℕ → Spot
@@ -286,6 +286,10 @@ levels_spelled : of_binary product_in_sum [] ≡ of_binary sum_in_product []
 unfolding product_in_sum sum_in_product
 levels_spelled = refl
 
+levels_product_first : Is_binary product_in_sum
+unfolding product_in_sum
+levels_product_first = (tt, (tt, tt, omega arith, omega arith), omega arith, omega arith)
+
 levels_not_sum_first : Is_binary sum_in_product → ⊥
 unfolding sum_in_product
 levels_not_sum_first is = omega (arith, is.2)
@@ -301,6 +305,67 @@ order_spelled : of_binary from_the_left [] ≡ of_binary from_the_right []
 unfolding from_the_left from_the_right
 order_spelled = refl
 
+order_from_the_left : Is_binary from_the_left
+unfolding from_the_left
+order_from_the_left = ((tt, tt, omega arith, omega arith), tt, omega arith, omega arith)
+
 order_not_from_the_right : Is_binary from_the_right → ⊥
 unfolding from_the_right
 order_not_from_the_right is = omega (arith, is.3)
+
+-- `a || a && a | a ^ a & a == a < a << a + a * a`: each operator is tighter than the one before it
+chain : ℕ → List PunctKind → t.Binary
+chain n [] = binary n
+chain n (op ∷ more) = t.join (binary n) (s (suc n)) op (chain (suc (suc n)) more)
+
+all_levels : Is_binary (chain 0 (p.OrOr ∷ p.AndAnd ∷ p.Bar ∷ p.Caret ∷ p.Ampersand ∷ p.Equal ∷ p.Less ∷ p.ShiftLeft ∷ p.Plus ∷ p.Star ∷ []))
+unfolding chain
+all_levels = (tt, (tt, (tt, (tt, (tt, (tt, (tt, (tt, (tt, (tt, tt, omega arith, omega arith), omega arith, omega arith), omega arith, omega arith), omega arith, omega arith), omega arith, omega arith), omega arith, omega arith), omega arith, omega arith), omega arith, omega arith), omega arith, omega arith), omega arith, omega arith)
+
+equal_levels : map level_of (p.Slash ∷ p.Percent ∷ p.Minus ∷ p.ShiftRight ∷ p.Greater ∷ p.LessEqual ∷ p.GreaterEqual ∷ p.NotEqual ∷ [])
+    ≡ map level_of (p.Star ∷ p.Star ∷ p.Plus ∷ p.ShiftLeft ∷ p.Less ∷ p.Less ∷ p.Less ∷ p.Equal ∷ [])
+equal_levels = refl
+
+-- ---- how deep trees nest
+
+-- in `a + a * a` the sum is the third from below
+height_of_sum : height_binary product_in_sum ≡ 3
+unfolding product_in_sum
+height_of_sum = refl
+
+-- the right sides of `a += a` and `a ? a : a`
+assign_opens : opens_assignment (t.assign (name 0) (s 1) p.PlusAssign (assignment 2)) ≡ 1
+assign_opens = refl
+
+choose_opens : opens_conditional (t.choose (binary 0) (s 1) (expression 2) (s 3) (conditional 4)) ≡ 1
+choose_opens = refl
+
+-- a cast opens one construct, and its parentheses no other
+convert_opens : opens_cast (t.convert (s 0) (int_name 1) (s 2) (cast 3)) ≡ 1
+convert_opens = refl
+
+index_opens : opens_postfix (t.index (postfix 0) (s 1) (expression 2) (s 3)) ≡ 1
+index_opens = refl
+
+-- the `if`, and in it its condition or the statement that it guards
+if_opens : opens_statement (t.if_then (s 0) (condition 1 2 3) (empty 4)) ≡ 2
+if_opens = refl
+
+function_opens : opens_external (t.function_item (t.function (int_name 0) (id 1) (s 2) (t.void_params (s 3)) (s 4) (t.compound (s 5) [] t.no_items (s 6)))) ≡ 1
+function_opens = refl
+
+-- `int a = ((a));` with this many pairs of parentheses
+parentheses : ℕ → t.Primary
+parentheses zero = t.name (id 0)
+parentheses (suc n) = t.parenthesised (s 0) (t.single (t.value (t.plain (t.operand (t.uncast (t.postfix (t.primary (parentheses n)))))))) (s 0)
+
+initialised : t.Primary → t.Tree
+initialised x = t.tree (t.declaration_item (t.declaration (int 0) (t.init_declarator (t.declarator [] (id 1) t.object) (Some (t.start (s 2) (t.initial_value (t.value (t.plain (t.operand (t.uncast (t.postfix (t.primary x)))))))))) [] (s 0)) ∷ []) (s 0)
+
+most_that_nest : Nests (initialised (parentheses 63))
+unfolding parentheses initialised
+most_that_nest = (omega arith, omega arith)
+
+one_too_many : Nests (initialised (parentheses 64)) → ⊥
+unfolding parentheses initialised
+one_too_many nests = omega (arith, nests.0)

@@ -1,10 +1,16 @@
--- Which trees are derivations: the operators of each production, the levels of binary operators and the two conditions that
--- the productions alone do not say (ISO/IEC 9899:1999, 6.5 to 6.9).
+-- Which trees are derivations: the operators of each production, the levels of binary operators and the two conditions
+-- that the productions alone do not say (ISO/IEC 9899:1999, 6.5 to 6.9).
 use Rattle.std.specs.Prelude.{ℕ, suc, ◌≤◌, ◌<◌, ◌≡◌, List, [], ◌∷◌, Bool, true, false, cond, Option, Some, None, ⊤}
 use Rattle.ec_grammar.specs.declared.token.WordKind.{WordKind}
 use Rattle.ec_grammar.specs.declared.token.WordKind.TheVariants as words
 use Rattle.ec_grammar.specs.declared.token.PunctKind.{PunctKind}
-use Rattle.ec_grammar.specs.declared.token.PunctKind.TheVariants.{Dot, Arrow, Increment, Decrement, Ampersand, Star, Plus, Minus, Tilde, Not, Slash, Percent, ShiftLeft, ShiftRight, Less, Greater, LessEqual, GreaterEqual, Equal, NotEqual, Caret, Bar, AndAnd, OrOr, Assign, StarAssign, SlashAssign, PercentAssign, PlusAssign, MinusAssign, ShiftLeftAssign, ShiftRightAssign, AmpersandAssign, CaretAssign, BarAssign}
+use Rattle.ec_grammar.specs.declared.token.PunctKind.TheVariants.{Dot, Arrow, Increment, Decrement, Ampersand, Star}
+use Rattle.ec_grammar.specs.declared.token.PunctKind.TheVariants.{Plus, Minus, Tilde, Not, Slash, Percent, ShiftLeft}
+use Rattle.ec_grammar.specs.declared.token.PunctKind.TheVariants.{ShiftRight, Less, Greater, LessEqual, GreaterEqual}
+use Rattle.ec_grammar.specs.declared.token.PunctKind.TheVariants.{Equal, NotEqual, Caret, Bar, AndAnd, OrOr, Assign}
+use Rattle.ec_grammar.specs.declared.token.PunctKind.TheVariants.{StarAssign, SlashAssign, PercentAssign, PlusAssign}
+use Rattle.ec_grammar.specs.declared.token.PunctKind.TheVariants.{MinusAssign, ShiftLeftAssign, ShiftRightAssign}
+use Rattle.ec_grammar.specs.declared.token.PunctKind.TheVariants.{AmpersandAssign, CaretAssign, BarAssign}
 use Rattle.ec_grammar.specs.declared.tree.Qualifier.{Qualifier}
 use Rattle.ec_grammar.specs.Tokens.{Placed}
 use Rattle.ec_grammar.specs.Trees as t
@@ -115,7 +121,8 @@ is_access Dot = true
 is_access Arrow = true
 is_access _ = false
 
--- ---- each operator and word stands in a production that has it, and binary operators by their levels, joined from the left
+-- ---- each operator and word stands in a production that has it, and binary operators by their levels, joined from the
+-- left
 
 abbrev pub Every : {A : Type 0} → (A → Type 0) → List A → Type 0
 Every P [] = ⊤

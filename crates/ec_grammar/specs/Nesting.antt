@@ -1,8 +1,9 @@
--- How deep a tree nests: heights, and how many constructs are open at once. The limit on both is a limit of this project's
--- translator (ISO/IEC 9899:1999, 5.2.4.1, leaves such limits to the translator above its own minimum).
+-- How deep a tree nests: heights, and how many constructs are open at once. The limit on both is a limit of this
+-- project's translator (ISO/IEC 9899:1999, 5.2.4.1, leaves such limits to the translator above its own minimum).
 --
--- The height of an expression, an initialiser or a statement is 1 more than the greatest height of those directly in it. A production
--- with one part and no token of its own adds none. What stands inside a declaration counts in the statement that holds it.
+-- The height of an expression, an initialiser or a statement is 1 more than the greatest height of those directly in
+-- it. A production with one part and no token of its own adds none. What stands inside a declaration counts in the
+-- statement that holds it.
 use Rattle.std.specs.Prelude.{ℕ, suc, max, ◌≤◌, List, [], ◌∷◌, Option, Some, None}
 use Rattle.ec_grammar.specs.Trees as t
 
@@ -26,7 +27,8 @@ abbrev mutual
 
   pub height_conditional : t.Conditional → ℕ
   height_conditional (t.plain b) = height_binary b
-  height_conditional (t.choose b q e k c) = suc (max (max (height_binary b) (height_expression e)) (height_conditional c))
+  height_conditional (t.choose b q e k c) =
+      suc (max (max (height_binary b) (height_expression e)) (height_conditional c))
 
   pub height_binary : t.Binary → ℕ
   height_binary (t.operand c) = height_cast c
@@ -90,7 +92,8 @@ abbrev pub height_next_init_declarator : t.NextInitDeclarator → ℕ
 height_next_init_declarator (t.next_init_declarator s d) = height_init_declarator d
 
 abbrev pub height_declaration : t.Declaration → ℕ
-height_declaration (t.declaration sp d more e) = max (height_init_declarator d) (height_list height_next_init_declarator more)
+height_declaration (t.declaration sp d more e) =
+    max (height_init_declarator d) (height_list height_next_init_declarator more)
 
 abbrev pub height_next_declarator : t.NextDeclarator → ℕ
 height_next_declarator (t.next_declarator s d) = height_declarator d
@@ -106,7 +109,8 @@ height_first (t.first_declared d) = height_declaration d
 height_first (t.first_evaluated e s) = height_option height_expression e
 
 abbrev pub height_heading : t.Heading → ℕ
-height_heading (t.heading l f c s e r) = max (height_first f) (max (height_option height_expression c) (height_option height_expression e))
+height_heading (t.heading l f c s e r) =
+    max (height_first f) (max (height_option height_expression c) (height_option height_expression e))
 
 abbrev mutual
   pub height_compound : t.Compound → ℕ
@@ -124,7 +128,8 @@ abbrev mutual
   height_statement (t.block c) = height_compound c
   height_statement (t.simple e s) = suc (height_option height_expression e)
   height_statement (t.if_then s c b) = suc (max (height_condition c) (height_statement b))
-  height_statement (t.if_else s c b e o) = suc (max (max (height_condition c) (height_statement b)) (height_statement o))
+  height_statement (t.if_else s c b e o) =
+      suc (max (max (height_condition c) (height_statement b)) (height_statement o))
   height_statement (t.while_loop s c b) = suc (max (height_condition c) (height_statement b))
   height_statement (t.do_loop s b w c e) = suc (max (height_statement b) (height_condition c))
   height_statement (t.for_loop s h b) = suc (max (height_heading h) (height_statement b))
@@ -132,8 +137,8 @@ abbrev mutual
   height_statement (t.continue_loop s e) = 1
   height_statement (t.return_value s v e) = suc (height_option height_expression v)
 
--- ---- the most constructs that are open at once: statements, parentheses, square brackets, braces of initialisers, prefix operators,
--- casts (whose parentheses count as no others), and the right sides of assignments and conditionals
+-- ---- the most constructs that are open at once: statements, parentheses, square brackets, braces of initialisers,
+-- prefix operators, casts (whose parentheses count as no others), and the right sides of assignments and conditionals
 
 abbrev mutual
   pub opens_expression : t.Expression → ℕ
@@ -210,7 +215,8 @@ abbrev pub opens_next_init_declarator : t.NextInitDeclarator → ℕ
 opens_next_init_declarator (t.next_init_declarator s d) = opens_init_declarator d
 
 abbrev pub opens_declaration : t.Declaration → ℕ
-opens_declaration (t.declaration sp d more e) = max (opens_init_declarator d) (height_list opens_next_init_declarator more)
+opens_declaration (t.declaration sp d more e) =
+    max (opens_init_declarator d) (height_list opens_next_init_declarator more)
 
 abbrev pub opens_next_declarator : t.NextDeclarator → ℕ
 opens_next_declarator (t.next_declarator s d) = opens_declarator d
@@ -226,7 +232,8 @@ opens_first (t.first_declared d) = opens_declaration d
 opens_first (t.first_evaluated e s) = height_option opens_expression e
 
 abbrev pub opens_heading : t.Heading → ℕ
-opens_heading (t.heading l f c s e r) = suc (max (opens_first f) (max (height_option opens_expression c) (height_option opens_expression e)))
+opens_heading (t.heading l f c s e r) =
+    suc (max (opens_first f) (max (height_option opens_expression c) (height_option opens_expression e)))
 
 abbrev mutual
   pub opens_compound : t.Compound → ℕ
@@ -254,14 +261,16 @@ abbrev mutual
 
 abbrev pub height_external : t.External → ℕ
 height_external (t.pragma_item p) = 0
-height_external (t.structure_item (t.structure s tag l m more r e)) = max (height_member m) (height_list height_member more)
+height_external (t.structure_item (t.structure s tag l m more r e)) =
+    max (height_member m) (height_list height_member more)
 height_external (t.register_item r) = 0
 height_external (t.declaration_item d) = height_declaration d
 height_external (t.function_item (t.function ty n l p r b)) = height_compound b
 
 abbrev pub opens_external : t.External → ℕ
 opens_external (t.pragma_item p) = 0
-opens_external (t.structure_item (t.structure s tag l m more r e)) = max (opens_member m) (height_list opens_member more)
+opens_external (t.structure_item (t.structure s tag l m more r e)) =
+    max (opens_member m) (height_list opens_member more)
 opens_external (t.register_item r) = 0
 opens_external (t.declaration_item d) = opens_declaration d
 opens_external (t.function_item (t.function ty n l p r b)) = max 1 (opens_compound b)

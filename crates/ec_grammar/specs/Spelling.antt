@@ -1,9 +1,11 @@
 -- The tokens of each tree, put before the tokens that follow it.
-use Rattle.std.specs.Prelude.{ℕ, List, [], ◌∷◌, Option, Some, None}
+use Rattle.std.specs.Prelude.{List, [], ◌∷◌, Option, Some, None}
 use Rattle.ec_grammar.specs.declared.token.WordKind.{WordKind}
 use Rattle.ec_grammar.specs.declared.token.WordKind.TheVariants as words
 use Rattle.ec_grammar.specs.declared.token.PunctKind.{PunctKind}
-use Rattle.ec_grammar.specs.declared.token.PunctKind.TheVariants.{LeftBrace, RightBrace, LeftParenthesis, RightParenthesis, LeftBracket, RightBracket, Semicolon, Comma, Star, Question, Colon, Assign}
+use Rattle.ec_grammar.specs.declared.token.PunctKind.TheVariants.{LeftBrace, RightBrace, LeftParenthesis}
+use Rattle.ec_grammar.specs.declared.token.PunctKind.TheVariants.{RightParenthesis, LeftBracket, RightBracket}
+use Rattle.ec_grammar.specs.declared.token.PunctKind.TheVariants.{Semicolon, Comma, Star, Question, Colon, Assign}
 use Rattle.ec_grammar.specs.declared.tree.Spot.{Spot}
 use Rattle.ec_grammar.specs.declared.tree.Constant.{Constant}
 use Rattle.ec_grammar.specs.declared.tree.Constant.TheVariants as constants
@@ -78,7 +80,8 @@ abbrev mutual
 
   pub of_conditional : t.Conditional → List Leaf → List Leaf
   of_conditional (t.plain b) rest = of_binary b rest
-  of_conditional (t.choose b q e k c) rest = of_binary b (mark q Question ∷ of_expression e (mark k Colon ∷ of_conditional c rest))
+  of_conditional (t.choose b q e k c) rest =
+      of_binary b (mark q Question ∷ of_expression e (mark k Colon ∷ of_conditional c rest))
 
   pub of_binary : t.Binary → List Leaf → List Leaf
   of_binary (t.operand c) rest = of_cast c rest
@@ -86,18 +89,21 @@ abbrev mutual
 
   pub of_cast : t.Cast → List Leaf → List Leaf
   of_cast (t.uncast u) rest = of_unary u rest
-  of_cast (t.convert l ty r c) rest = mark l LeftParenthesis ∷ of_type_name ty (mark r RightParenthesis ∷ of_cast c rest)
+  of_cast (t.convert l ty r c) rest =
+      mark l LeftParenthesis ∷ of_type_name ty (mark r RightParenthesis ∷ of_cast c rest)
 
   pub of_unary : t.Unary → List Leaf → List Leaf
   of_unary (t.postfix p) rest = of_postfix p rest
   of_unary (t.step s op u) rest = mark s op ∷ of_unary u rest
   of_unary (t.prefix s op c) rest = mark s op ∷ of_cast c rest
-  of_unary (t.size s l ty r) rest = word s words.Sizeof ∷ mark l LeftParenthesis ∷ of_type_name ty (mark r RightParenthesis ∷ rest)
+  of_unary (t.size s l ty r) rest =
+      word s words.Sizeof ∷ mark l LeftParenthesis ∷ of_type_name ty (mark r RightParenthesis ∷ rest)
 
   pub of_postfix : t.Postfix → List Leaf → List Leaf
   of_postfix (t.primary p) rest = of_primary p rest
   of_postfix (t.index p l e r) rest = of_postfix p (mark l LeftBracket ∷ of_expression e (mark r RightBracket ∷ rest))
-  of_postfix (t.call p l a r) rest = of_postfix p (mark l LeftParenthesis ∷ of_arguments a (mark r RightParenthesis ∷ rest))
+  of_postfix (t.call p l a r) rest =
+      of_postfix p (mark l LeftParenthesis ∷ of_arguments a (mark r RightParenthesis ∷ rest))
   of_postfix (t.member p s op n) rest = of_postfix p (mark s op ∷ of_identifier n rest)
   of_postfix (t.stepped p s op) rest = of_postfix p (mark s op ∷ rest)
 
@@ -113,7 +119,9 @@ abbrev mutual
   of_primary (t.name n) rest = of_identifier n rest
   of_primary (t.constant s k) rest = leaf s (lexeme_of_constant k) ∷ rest
   of_primary (t.parenthesised l e r) rest = mark l LeftParenthesis ∷ of_expression e (mark r RightParenthesis ∷ rest)
-  of_primary (t.operation s op l n more r) rest = leaf s (lexeme_of_operation op) ∷ mark l LeftParenthesis ∷ of_identifier n (of_further more (mark r RightParenthesis ∷ rest))
+  of_primary (t.operation s op l n more r) rest =
+      leaf s (lexeme_of_operation op) ∷ mark l LeftParenthesis
+      ∷ of_identifier n (of_further more (mark r RightParenthesis ∷ rest))
 
 -- declarators (6.7.5)
 abbrev pub of_param : t.Param → List Leaf → List Leaf
@@ -141,7 +149,8 @@ of_comma s rest = mark s Comma ∷ rest
 abbrev mutual
   pub of_initialiser : t.Initialiser → List Leaf → List Leaf
   of_initialiser (t.initial_value a) rest = of_assignment a rest
-  of_initialiser (t.braces l i more c r) rest = mark l LeftBrace ∷ of_initialiser i (of_initialisers more (of_option of_comma c (mark r RightBrace ∷ rest)))
+  of_initialiser (t.braces l i more c r) rest =
+      mark l LeftBrace ∷ of_initialiser i (of_initialisers more (of_option of_comma c (mark r RightBrace ∷ rest)))
 
   pub of_initialisers : t.Initialisers → List Leaf → List Leaf
   of_initialisers t.no_initialisers rest = rest
@@ -158,22 +167,26 @@ abbrev pub of_next_init_declarator : t.NextInitDeclarator → List Leaf → List
 of_next_init_declarator (t.next_init_declarator s d) rest = mark s Comma ∷ of_init_declarator d rest
 
 abbrev pub of_declaration : t.Declaration → List Leaf → List Leaf
-of_declaration (t.declaration sp d more e) rest = of_specs sp (of_init_declarator d (of_list of_next_init_declarator more (mark e Semicolon ∷ rest)))
+of_declaration (t.declaration sp d more e) rest =
+    of_specs sp (of_init_declarator d (of_list of_next_init_declarator more (mark e Semicolon ∷ rest)))
 
 -- struct definitions (6.7.2.1)
 abbrev pub of_next_declarator : t.NextDeclarator → List Leaf → List Leaf
 of_next_declarator (t.next_declarator s d) rest = mark s Comma ∷ of_declarator d rest
 
 abbrev pub of_member : t.Member → List Leaf → List Leaf
-of_member (t.members sp d more e) rest = of_specs sp (of_declarator d (of_list of_next_declarator more (mark e Semicolon ∷ rest)))
+of_member (t.members sp d more e) rest =
+    of_specs sp (of_declarator d (of_list of_next_declarator more (mark e Semicolon ∷ rest)))
 
 abbrev pub of_structure : t.Structure → List Leaf → List Leaf
 of_structure (t.structure s tag l m more r e) rest =
-    word s words.Struct ∷ of_identifier tag (mark l LeftBrace ∷ of_member m (of_list of_member more (mark r RightBrace ∷ mark e Semicolon ∷ rest)))
+    word s words.Struct ∷ of_identifier tag
+    (mark l LeftBrace ∷ of_member m (of_list of_member more (mark r RightBrace ∷ mark e Semicolon ∷ rest)))
 
 -- objects in named registers (TR 18037, 5.2.2, in this project's form)
 abbrev pub of_register_object : t.RegisterObject → List Leaf → List Leaf
-of_register_object (t.register_object s register sp n e) rest = word s words.Register ∷ of_identifier register (of_specs sp (of_identifier n (mark e Semicolon ∷ rest)))
+of_register_object (t.register_object s register sp n e) rest =
+    word s words.Register ∷ of_identifier register (of_specs sp (of_identifier n (mark e Semicolon ∷ rest)))
 
 -- statements (6.8)
 abbrev pub of_condition : t.Condition → List Leaf → List Leaf
@@ -184,11 +197,14 @@ of_first (t.first_declared d) rest = of_declaration d rest
 of_first (t.first_evaluated e s) rest = of_option of_expression e (mark s Semicolon ∷ rest)
 
 abbrev pub of_heading : t.Heading → List Leaf → List Leaf
-of_heading (t.heading l f c s e r) rest = mark l LeftParenthesis ∷ of_first f (of_option of_expression c (mark s Semicolon ∷ of_option of_expression e (mark r RightParenthesis ∷ rest)))
+of_heading (t.heading l f c s e r) rest =
+    mark l LeftParenthesis ∷ of_first f
+    (of_option of_expression c (mark s Semicolon ∷ of_option of_expression e (mark r RightParenthesis ∷ rest)))
 
 abbrev mutual
   pub of_compound : t.Compound → List Leaf → List Leaf
-  of_compound (t.compound l pragmas b r) rest = mark l LeftBrace ∷ of_list of_pragma pragmas (of_items b (mark r RightBrace ∷ rest))
+  of_compound (t.compound l pragmas b r) rest =
+      mark l LeftBrace ∷ of_list of_pragma pragmas (of_items b (mark r RightBrace ∷ rest))
 
   pub of_items : t.Items → List Leaf → List Leaf
   of_items t.no_items rest = rest
@@ -202,9 +218,11 @@ abbrev mutual
   of_statement (t.block c) rest = of_compound c rest
   of_statement (t.simple e s) rest = of_option of_expression e (mark s Semicolon ∷ rest)
   of_statement (t.if_then s c b) rest = word s words.If ∷ of_condition c (of_statement b rest)
-  of_statement (t.if_else s c b e o) rest = word s words.If ∷ of_condition c (of_statement b (word e words.Else ∷ of_statement o rest))
+  of_statement (t.if_else s c b e o) rest =
+      word s words.If ∷ of_condition c (of_statement b (word e words.Else ∷ of_statement o rest))
   of_statement (t.while_loop s c b) rest = word s words.While ∷ of_condition c (of_statement b rest)
-  of_statement (t.do_loop s b w c e) rest = word s words.Do ∷ of_statement b (word w words.While ∷ of_condition c (mark e Semicolon ∷ rest))
+  of_statement (t.do_loop s b w c e) rest =
+      word s words.Do ∷ of_statement b (word w words.While ∷ of_condition c (mark e Semicolon ∷ rest))
   of_statement (t.for_loop s h b) rest = word s words.For ∷ of_heading h (of_statement b rest)
   of_statement (t.break_loop s e) rest = word s words.Break ∷ mark e Semicolon ∷ rest
   of_statement (t.continue_loop s e) rest = word s words.Continue ∷ mark e Semicolon ∷ rest
@@ -212,7 +230,9 @@ abbrev mutual
 
 -- units (6.9)
 abbrev pub of_function : t.Function → List Leaf → List Leaf
-of_function (t.function ty n l p r b) rest = of_type_name ty (of_identifier n (mark l LeftParenthesis ∷ of_params p (mark r RightParenthesis ∷ of_compound b rest)))
+of_function (t.function ty n l p r b) rest =
+    of_type_name ty (of_identifier n
+    (mark l LeftParenthesis ∷ of_params p (mark r RightParenthesis ∷ of_compound b rest)))
 
 abbrev pub of_external : t.External → List Leaf → List Leaf
 of_external (t.pragma_item p) rest = of_pragma p rest

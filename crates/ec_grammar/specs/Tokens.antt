@@ -1,4 +1,5 @@
--- Tokens as contracts see them, without pointers: a name is its bytes, whatever room its list has (ISO/IEC 9899:1999, 6.4).
+-- Tokens as contracts see them, without pointers: a name is its bytes, whatever room its list has (ISO/IEC 9899:1999,
+-- 6.4).
 use Rattle.std.specs.Prelude.{ℕ, ℤ, Bool, List, map}
 use Rattle.ec_fx.specs.declared.formats.FxKind.{FxKind}
 use Rattle.ec_iohw.specs.declared.operations.IoOp.{IoOp}

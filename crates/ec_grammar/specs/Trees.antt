@@ -1,10 +1,9 @@
 -- The trees of the grammar without pointers: one type for each nonterminal, one constructor for each production
--- (ISO/IEC 9899:1999, 6.5 to 6.9). A leaf is a token with its index; where a production fixes the token, only its spot is kept.
-use Rattle.std.specs.Prelude.{ℕ, List, [], ◌∷◌, Option, Some, None}
+-- (ISO/IEC 9899:1999, 6.5 to 6.9). A leaf is a token with its index; where a production fixes the token, only its spot
+-- is kept.
+use Rattle.std.specs.Prelude.{ℕ, List, Option}
 use Rattle.ec_grammar.specs.declared.token.WordKind.{WordKind}
 use Rattle.ec_grammar.specs.declared.token.PunctKind.{PunctKind}
-use Rattle.ec_grammar.specs.declared.token.PragmaKind.{PragmaKind}
-use Rattle.ec_grammar.specs.declared.token.PragmaState.{PragmaState}
 use Rattle.ec_grammar.specs.declared.tree.Spot.{Spot}
 use Rattle.ec_grammar.specs.declared.tree.Constant.{Constant}
 use Rattle.ec_grammar.specs.declared.tree.Operation.{Operation}

@@ -1,5 +1,5 @@
--- The pointer-free tree that a program's tree stands for, and the leaves that a list holds, from the last to the first.
-use Rattle.std.specs.Prelude.{ℕ, List, [], ◌∷◌, Option, Some, None, map}
+-- The pointer-free tree that a program's tree stands for.
+use Rattle.std.specs.Prelude.{List, [], ◌∷◌, Option, Some, None, map}
 use Rattle.ec_grammar.specs.declared.tree.Identifier as identifier
 use Rattle.ec_grammar.specs.declared.tree.Star as star
 use Rattle.ec_grammar.specs.declared.tree.Spec as spec
@@ -56,24 +56,11 @@ use Rattle.ec_grammar.specs.declared.tree.Function as function
 use Rattle.ec_grammar.specs.declared.tree.External as external
 use Rattle.ec_grammar.specs.declared.tree.External.TheVariants as externals
 use Rattle.ec_grammar.specs.declared.tree.Tree as whole
-use Rattle.ec_grammar.specs.declared.tree.Leaf as leaf
-use Rattle.ec_grammar.specs.Tokens.{view_kind}
 use Rattle.ec_grammar.specs.Trees as t
 
 abbrev pub view_option : {A B : Type 0} → (A → B) → Option A → Option B
 view_option view None = None
 view_option view (Some x) = Some (view x)
-
-abbrev pub view_leaf : leaf.Leaf → t.Leaf
-view_leaf x = record { spot = x.spot; lexeme = view_kind x.kind }
-
--- the leaves of a list, from the last to the first, before those that follow
-abbrev pub backwards : List leaf.Leaf → List t.Leaf → List t.Leaf
-backwards [] rest = rest
-backwards (x ∷ xs) rest = backwards xs (view_leaf x ∷ rest)
-
-abbrev pub spelled : List leaf.Leaf → List t.Leaf
-spelled xs = backwards xs []
 
 abbrev pub view_identifier : identifier.Identifier → t.Identifier
 view_identifier n = t.identifier n.spot n.name.items
@@ -102,7 +89,8 @@ abbrev mutual
 
   pub view_conditional : conditional.Conditional → t.Conditional
   view_conditional (conditionals.Plain b) = t.plain (view_binary b)
-  view_conditional (conditionals.Choose' b q e_at e k c_at c) = t.choose (view_binary b) q (view_expression e) k (view_conditional c)
+  view_conditional (conditionals.Choose' b q e_at e k c_at c) =
+      t.choose (view_binary b) q (view_expression e) k (view_conditional c)
 
   pub view_binary : binary.Binary → t.Binary
   view_binary (binaries.Operand c) = t.operand (view_cast c)
@@ -137,7 +125,8 @@ abbrev mutual
   view_primary (primaries.Name n) = t.name (view_identifier n)
   view_primary (primaries.Constant s k) = t.constant s k
   view_primary (primaries.Parenthesised' l e_at e r) = t.parenthesised l (view_expression e) r
-  view_primary (primaries.Operation' s op l n shape more r) = t.operation s op l (view_identifier n) (view_further more) r
+  view_primary (primaries.Operation' s op l n shape more r) =
+      t.operation s op l (view_identifier n) (view_further more) r
 
 abbrev pub views_further : List argument.Argument → t.Further
 views_further [] = t.no_further
@@ -164,11 +153,13 @@ view_declarator d = t.declarator (map view_star d.stars.items) (view_identifier 
 abbrev mutual
   pub view_initialiser : initialiser.Initialiser → t.Initialiser
   view_initialiser (initialiser_kinds.Value a) = t.initial_value (view_assignment a)
-  view_initialiser (initialiser_kinds.Braces' l i_at i shape more c r) = t.braces l (view_initialiser i) (view_initialisers more) c r
+  view_initialiser (initialiser_kinds.Braces' l i_at i shape more c r) =
+      t.braces l (view_initialiser i) (view_initialisers more) c r
 
   pub view_initialisers : {m : _} → initialiser.Row_of-NextInitialiser m → t.Initialisers
   view_initialisers initialiser.end_of-NextInitialiser = t.no_initialisers
-  view_initialisers (initialiser.more_of-NextInitialiser s i rest) = t.initialisers s (view_initialiser i) (view_initialisers rest)
+  view_initialisers (initialiser.more_of-NextInitialiser s i rest) =
+      t.initialisers s (view_initialiser i) (view_initialisers rest)
 
 abbrev pub views_initialisers : List next_initialiser.NextInitialiser → t.Initialisers
 views_initialisers [] = t.no_initialisers
@@ -184,19 +175,25 @@ abbrev pub view_next_init_declarator : next_init_declarator.NextInitDeclarator �
 view_next_init_declarator d = t.next_init_declarator d.comma (view_init_declarator d.declarator)
 
 abbrev pub view_declaration : declaration.Declaration → t.Declaration
-view_declaration d = t.declaration (view_specs d.specs) (view_init_declarator d.first) (map view_next_init_declarator d.more.items) d.semicolon
+view_declaration d =
+    t.declaration (view_specs d.specs) (view_init_declarator d.first)
+    (map view_next_init_declarator d.more.items) d.semicolon
 
 abbrev pub view_next_declarator : next_declarator.NextDeclarator → t.NextDeclarator
 view_next_declarator d = t.next_declarator d.comma (view_declarator d.declarator)
 
 abbrev pub view_member : member.Member → t.Member
-view_member m = t.members (view_specs m.specs) (view_declarator m.first) (map view_next_declarator m.more.items) m.semicolon
+view_member m =
+    t.members (view_specs m.specs) (view_declarator m.first) (map view_next_declarator m.more.items) m.semicolon
 
 abbrev pub view_structure : structure.Structure → t.Structure
-view_structure s = t.structure s.word (view_identifier s.tag) s.opening (view_member s.first) (map view_member s.more.items) s.closing s.semicolon
+view_structure s =
+    t.structure s.word (view_identifier s.tag) s.opening (view_member s.first)
+    (map view_member s.more.items) s.closing s.semicolon
 
 abbrev pub view_register_object : register_object.RegisterObject → t.RegisterObject
-view_register_object r = t.register_object r.word (view_identifier r.register) (view_specs r.specs) (view_identifier r.name) r.semicolon
+view_register_object r =
+    t.register_object r.word (view_identifier r.register) (view_specs r.specs) (view_identifier r.name) r.semicolon
 
 abbrev pub view_condition : condition.Condition → t.Condition
 view_condition c = t.condition c.opening (view_expression c.value) c.closing
@@ -206,7 +203,9 @@ view_first (firsts.Declared d) = t.first_declared (view_declaration d)
 view_first (firsts.Evaluated e s) = t.first_evaluated (view_option view_expression e) s
 
 abbrev pub view_heading : heading.Heading → t.Heading
-view_heading h = t.heading h.opening (view_first h.first) (view_option view_expression h.condition) h.semicolon (view_option view_expression h.last) h.closing
+view_heading h =
+    t.heading h.opening (view_first h.first) (view_option view_expression h.condition) h.semicolon
+    (view_option view_expression h.last) h.closing
 
 abbrev mutual
   pub view_items : {m : _} → compound.Row_of-Item m → t.Items
@@ -218,10 +217,12 @@ abbrev mutual
   view_item (item_kinds.Statement s) = t.stated (view_statement s)
 
   pub view_statement : statement.Statement → t.Statement
-  view_statement (statements.Compound' opening pragmas shape items closing) = t.block (t.compound opening pragmas.items (view_items items) closing)
+  view_statement (statements.Compound' opening pragmas shape items closing) =
+      t.block (t.compound opening pragmas.items (view_items items) closing)
   view_statement (statements.Simple e s) = t.simple (view_option view_expression e) s
   view_statement (statements.If' s c b_at b) = t.if_then s (view_condition c) (view_statement b)
-  view_statement (statements.IfElse' s c b_at b e o_at o) = t.if_else s (view_condition c) (view_statement b) e (view_statement o)
+  view_statement (statements.IfElse' s c b_at b e o_at o) =
+      t.if_else s (view_condition c) (view_statement b) e (view_statement o)
   view_statement (statements.While' s c b_at b) = t.while_loop s (view_condition c) (view_statement b)
   view_statement (statements.Do' s b_at b w c e) = t.do_loop s (view_statement b) w (view_condition c) e
   view_statement (statements.For' s h b_at b) = t.for_loop s (view_heading h) (view_statement b)
@@ -237,7 +238,9 @@ abbrev pub view_compound : compound.Compound → t.Compound
 view_compound c = t.compound c.opening c.pragmas.items (views_items c.items.items) c.closing
 
 abbrev pub view_function : function.Function → t.Function
-view_function f = t.function (view_type_name f.result) (view_identifier f.name) f.opening (view_params f.params) f.closing (view_compound f.body)
+view_function f =
+    t.function (view_type_name f.result) (view_identifier f.name) f.opening (view_params f.params) f.closing
+    (view_compound f.body)
 
 abbrev pub view_external : external.External → t.External
 view_external (externals.Pragma p) = t.pragma_item p

@@ -4,7 +4,7 @@
 //! Where a production fixes what its token is, the leaf is a `Spot`; where it leaves a choice, the choice stands after
 //! the spot. Lists of more than one item keep each comma with the item that follows it.
 
-use crate::token::{GroupOp, IoOp, PragmaKind, PragmaState, PunctKind, TokenKind, WordKind};
+use crate::token::{GroupOp, IoOp, PragmaKind, PragmaState, PunctKind, WordKind};
 use ec_fx::FxKind;
 use ec_space::Name;
 
@@ -15,13 +15,6 @@ pub struct Spot {
     pub index: u32,
     /// The byte of the text at which it begins.
     pub at: u32,
-}
-
-/// A token, where it stands in the list and where it begins in the text.
-#[derive(Drop)]
-pub struct Leaf {
-    pub spot: Spot,
-    pub kind: TokenKind,
 }
 
 /// An identifier.
@@ -294,7 +287,8 @@ pub struct Member {
     pub semicolon: Spot,
 }
 
-/// The definition of a struct (6.7.2.1): `struct`, the tag, `{`, the members, of which there is one at least, `}` and `;`.
+/// The definition of a struct (6.7.2.1): `struct`, the tag, `{`, the members, of which there is one at least, `}` and
+/// `;`.
 #[derive(Drop)]
 pub struct Structure {
     pub word: Spot,

@@ -142,8 +142,8 @@ word_read (b ∷ bs) x h = go (is_letter b) refl h
         subst (λ (t : List ℕ). Word t (b ∷ bs) x.1) w (subst (Word (b ∷ take n bs) (b ∷ bs)) r here)
     go false letter e = cc
 
-word_front : (b : ℕ) (u rest : List ℕ) → is_letter b ≡ true → Pass is_word u → begins is_word rest ≡ false → identifier_at (b ∷ u ++ rest) ≡ Some (b ∷ u, rest)
-word_front b u rest letter pass ends =
+word_prefix : (b : ℕ) (u rest : List ℕ) → is_letter b ≡ true → Pass is_word u → begins is_word rest ≡ false → identifier_at (b ∷ u ++ rest) ≡ Some (b ∷ u, rest)
+word_prefix b u rest letter pass ends =
     let n : prefix_len is_word (u ++ rest) ≡ length u = prefix_exact is_word u rest pass ends in
     cond-true (is_letter b) _ _ letter ∙ rw (n, add-one, take_at u rest (length u) refl, drop_at u rest (length u) refl) refl
 
@@ -159,7 +159,7 @@ word_stays [] bs rest w = absurd w.is
 word_stays (b ∷ u) bs rest w =
     let k = letter_solid b w.is.0 in (
       subst (λ (t : List ℕ). skip t ≡ t) (sym w.front) (solid b (u ++ rest) k.0 k.1),
-      subst (λ (t : List ℕ). identifier_at t ≡ Some (b ∷ u, rest)) (sym w.front) (word_front b u rest w.is.0 w.is.1 w.whole_word),
+      subst (λ (t : List ℕ). identifier_at t ≡ Some (b ∷ u, rest)) (sym w.front) (word_prefix b u rest w.is.0 w.is.1 w.whole_word),
     )
 
 word_after : (line a w b : List ℕ) → Gap line a → Word w a b → identifier_at (skip line) ≡ Some (w, b)

@@ -1,9 +1,13 @@
--- Integer constants (ISO/IEC 9899:1999, 6.4.4.1) and fixed-point constants (ISO/IEC TR 18037:2008, 6.4.4.2a; the bounds on digits are this project's profile).
-use Rattle.std.specs.Prelude.{ℕ, ◌+◌, ◌-◌, ◌*◌, ◌^◌, ◌<◌, ◌≤◌, ◌≡◌, ◌==◌, ◌||◌, nat_le, List, [], ◌∷◌, ◌++◌, length, Bool, true, false, Option, Some, None, if◌then◌else◌, codes}
+-- Integer constants (ISO/IEC 9899:1999, 6.4.4.1) and fixed-point constants (ISO/IEC TR 18037:2008, 6.4.4.2a; the bounds
+-- on digits are this project's profile).
+use Rattle.std.specs.Prelude.{ℕ, ◌+◌, ◌-◌, ◌*◌, ◌^◌, ◌<◌, ◌≤◌, ◌≡◌, ◌==◌, ◌||◌, nat_le, List, [], ◌∷◌, ◌++◌, length}
+use Rattle.std.specs.Prelude.{Bool, true, false, Option, Some, None, if◌then◌else◌, codes}
 use Rattle.std.specs.Cmp.Lexicographic.{pointwise}
 use Rattle.std.specs.Char.{to_ascii_lowercase}
 use Rattle.ec_fx.specs.declared.formats.FxKind.{FxKind}
-use Rattle.ec_fx.specs.declared.formats.FxKind.TheVariants.{ShortFract, Fract, LongFract, ShortAccum, Accum, LongAccum, UnsignedShortFract, UnsignedFract, UnsignedLongFract, UnsignedShortAccum, UnsignedAccum, UnsignedLongAccum}
+use Rattle.ec_fx.specs.declared.formats.FxKind.TheVariants.{ShortFract, Fract, LongFract, ShortAccum, Accum, LongAccum}
+use Rattle.ec_fx.specs.declared.formats.FxKind.TheVariants.{UnsignedShortFract, UnsignedFract, UnsignedLongFract}
+use Rattle.ec_fx.specs.declared.formats.FxKind.TheVariants.{UnsignedShortAccum, UnsignedAccum, UnsignedLongAccum}
 use Rattle.ec_fx.specs.declared.numbers.Fixed.{Fixed}
 use Rattle.ec_fx.specs.declared.numbers.Fx.TheVariants.{Got}
 use Rattle.ec_fx.specs.Formats.{format_of}
@@ -21,7 +25,8 @@ value_from base n (d ∷ ds) = value_from base (n * base + digit_value d) ds
 -- what the first entry has whose bytes these are, each letter in either case
 abbrev pub suffix_value : {K : Type 0} → List ℕ → List (List ℕ × K) → Option K
 suffix_value w [] = None
-suffix_value w (entry ∷ entries) = if pointwise (λ a b. to_ascii_lowercase a == b) w entry.0 then Some entry.1 else suffix_value w entries
+suffix_value w (entry ∷ entries) =
+    if pointwise (λ a b. to_ascii_lowercase a == b) w entry.0 then Some entry.1 else suffix_value w entries
 
 abbrev pub integer_suffixes : List (List ℕ × Suffix)
 integer_suffixes =
@@ -74,16 +79,19 @@ first_holding n (t ∷ ts) = if nat_le n (greatest_of t) then Some t else first_
 
 -- what stands before the suffix of an integer constant, its base and its digits
 pub data Integer : List ℕ → ℕ → List ℕ → Type 0 where
-  decimal : {d : ℕ} {ds : List ℕ} → is_digit d ≡ true → (d == 48) ≡ false → Pass is_digit ds → Integer (d ∷ ds) 10 (d ∷ ds)
+  decimal : {d : ℕ} {ds : List ℕ} → is_digit d ≡ true → (d == 48) ≡ false → Pass is_digit ds
+      → Integer (d ∷ ds) 10 (d ∷ ds)
   octal : {ds : List ℕ} → Pass is_octal ds → Integer (48 ∷ ds) 8 ds
-  hexadecimal : {x d : ℕ} {ds : List ℕ} → ((x == 120) || (x == 88)) ≡ true → is_hexadecimal d ≡ true → Pass is_hexadecimal ds → Integer (48 ∷ x ∷ d ∷ ds) 16 (d ∷ ds)
+  hexadecimal : {x d : ℕ} {ds : List ℕ} → ((x == 120) || (x == 88)) ≡ true → is_hexadecimal d ≡ true
+      → Pass is_hexadecimal ds → Integer (48 ∷ x ∷ d ∷ ds) 16 (d ∷ ds)
 
--- A run of bytes that is a constant, and its token. The point of a fixed constant has a digit on at least one side, and it has at most 24 digits in all.
+-- A run of bytes that is a constant, and its token. The point of a fixed constant has a digit on at least one side, and
+-- it has at most 24 digits in all.
 pub data IsConstant : List ℕ → Lexeme → Type 0 where
-  integer : (front digits suffix : List ℕ) (base : ℕ) (s : Suffix) (t : IntegerType) → Integer front base digits
+  integer : (prefix digits suffix : List ℕ) (base : ℕ) (s : Suffix) (t : IntegerType) → Integer prefix base digits
       → suffix_value suffix integer_suffixes ≡ Some s
       → first_holding (value_from base 0 digits) (types_tried (base == 10) s.unsigned s.long) ≡ Some t
-      → IsConstant (front ++ suffix) (whole (value_from base 0 digits) t.signed t.bytes)
+      → IsConstant (prefix ++ suffix) (whole (value_from base 0 digits) t.signed t.bytes)
   fixed_point : (before after suffix : List ℕ) (kind : FxKind) (x : Fixed) → Pass is_digit before → Pass is_digit after
       → 0 < length before + length after → length before + length after ≤ 24
       → suffix_value suffix fixed_suffixes ≡ Some kind

@@ -1,4 +1,5 @@
--- Directives: three includes, definitions of a name as a constant, and pragmas (ISO/IEC 9899:1999, 6.10; ISO/IEC TR 18037:2008, 4.1.3 and 4.1.7).
+-- Directives: three includes, definitions of a name as a constant, and pragmas (ISO/IEC 9899:1999, 6.10; ISO/IEC TR
+-- 18037:2008, 4.1.3 and 4.1.7).
 use Rattle.std.specs.Prelude.{ℕ, ◌≡◌, ◌==◌, ◌&&◌, ◌||◌, List, [], ◌∷◌, ◌++◌, drop, true, false, Some, None, ◌⊎◌, codes}
 use Rattle.ec_grammar.specs.declared.token.PragmaKind.{PragmaKind}
 use Rattle.ec_grammar.specs.declared.token.PragmaKind.TheVariants as kinds
@@ -24,7 +25,9 @@ abbrev pub headers : List (List ℕ × Header)
 headers = (codes "<stdint.h>", Stdint) ∷ (codes "<stdfix.h>", Stdfix) ∷ (codes "<iohw.h>", Iohw) ∷ []
 
 abbrev pub pragmas : List (List ℕ × PragmaKind)
-pragmas = (codes "FX_FULL_PRECISION", kinds.Precision) ∷ (codes "FX_FRACT_OVERFLOW", kinds.Fract) ∷ (codes "FX_ACCUM_OVERFLOW", kinds.Accum) ∷ []
+pragmas =
+    (codes "FX_FULL_PRECISION", kinds.Precision) ∷ (codes "FX_FRACT_OVERFLOW", kinds.Fract)
+    ∷ (codes "FX_ACCUM_OVERFLOW", kinds.Accum) ∷ []
 
 abbrev pub overflow_states : List (List ℕ × PragmaState)
 overflow_states = (codes "SAT", states.Sat) ∷ (codes "DEFAULT", states.Default) ∷ []
@@ -66,9 +69,11 @@ pub data Quiet : List ℕ → Type 0 where
   done : Quiet []
   line_comment : {bs : List ℕ} → Quiet (47 ∷ 47 ∷ bs)
   comment : {n : ℕ} {bs : List ℕ} → comment_end bs ≡ Some n → Quiet (drop n bs) → Quiet (47 ∷ 42 ∷ bs)
-  other : {b : ℕ} {bs : List ℕ} → ((b == 47) && begins (λ c. (c == 47) || (c == 42)) bs) ≡ false → Quiet bs → Quiet (b ∷ bs)
+  other : {b : ℕ} {bs : List ℕ} → ((b == 47) && begins (λ c. (c == 47) || (c == 42)) bs) ≡ false → Quiet bs
+      → Quiet (b ∷ bs)
 
--- What the rest of a line after `#` says. A name is defined once, and is no word; a pragma that does not begin with STDC says nothing.
+-- What the rest of a line after `#` says. A name is defined once, and is no word; a pragma that does not begin with
+-- STDC says nothing.
 pub data IsDirective (s : Known) : List ℕ → Directed → Type 0 where
   includes : {line a b c d spelling : List ℕ} {h : Header} → Gap line a → Word (codes "include") a b → Gap b c
       → Lists headers spelling h → c ≡ spelling ++ d → Ends d
@@ -76,8 +81,11 @@ pub data IsDirective (s : Known) : List ℕ → Directed → Type 0 where
   defines : {line a b c d e f name : List ℕ} {k : Lexeme} → Gap line a → Word (codes "define") a b → Gap b c
       → Word name c d → known_word s name ≡ None → look_up name s.defines ≡ None → Gap d e → Value k e f → Ends f
       → IsDirective s line (define name k)
-  sets : {line a b c d e f g i u v : List ℕ} {which : PragmaKind} {state : PragmaState} → Gap line a → Word (codes "pragma") a b → Gap b c
-      → Word (codes "STDC") c d → Gap d e → Word u e f → look_up u pragmas ≡ Some which → Gap f g → Word v g i → look_up v (states_of which) ≡ Some state → Ends i
+  sets : {line a b c d e f g i u v : List ℕ} {which : PragmaKind} {state : PragmaState} → Gap line a
+      → Word (codes "pragma") a b → Gap b c
+      → Word (codes "STDC") c d → Gap d e → Word u e f → look_up u pragmas ≡ Some which → Gap f g → Word v g i
+      → look_up v (states_of which) ≡ Some state → Ends i
       → IsDirective s line (set which state)
-  passes : {line a b : List ℕ} → Gap line a → Word (codes "pragma") a b → ((c d : List ℕ) → Gap b c → Word (codes "STDC") c d → ⊥) → Quiet b
+  passes : {line a b : List ℕ} → Gap line a → Word (codes "pragma") a b
+      → ((c d : List ℕ) → Gap b c → Word (codes "STDC") c d → ⊥) → Quiet b
       → IsDirective s line ignored

@@ -1,9 +1,20 @@
 -- What the bytes of a text may form (ISO/IEC 9899:1999, 6.4).
-use Rattle.std.specs.Prelude.{ℕ, ◌+◌, ◌≤◌, ◌≡◌, ◌==◌, ◌&&◌, ◌⊎◌, nat_le, not, List, [], ◌∷◌, ◌++◌, length, Bool, true, Option, Some, None, option_map, if◌then◌else◌, ⊤, codes}
+use Rattle.std.specs.Prelude.{ℕ, ◌+◌, ◌≤◌, ◌≡◌, ◌==◌, ◌&&◌, ◌⊎◌, nat_le, not, List, [], ◌∷◌, ◌++◌, length, Bool, true}
+use Rattle.std.specs.Prelude.{Option, Some, None, option_map, if◌then◌else◌, ⊤, codes}
 use Rattle.ec_grammar.specs.declared.token.PunctKind.{PunctKind}
-use Rattle.ec_grammar.specs.declared.token.PunctKind.TheVariants.{LeftBrace, RightBrace, LeftParenthesis, RightParenthesis, LeftBracket, RightBracket, Semicolon, Comma, Dot, Arrow, Increment, Decrement, Ampersand, Star, Plus, Minus, Tilde, Not, Slash, Percent, ShiftLeft, ShiftRight, Less, Greater, LessEqual, GreaterEqual, Equal, NotEqual, Caret, Bar, AndAnd, OrOr, Question, Colon, Assign, StarAssign, SlashAssign, PercentAssign, PlusAssign, MinusAssign, ShiftLeftAssign, ShiftRightAssign, AmpersandAssign, CaretAssign, BarAssign}
+use Rattle.ec_grammar.specs.declared.token.PunctKind.TheVariants.{LeftBrace, RightBrace, LeftParenthesis}
+use Rattle.ec_grammar.specs.declared.token.PunctKind.TheVariants.{RightParenthesis, LeftBracket, RightBracket}
+use Rattle.ec_grammar.specs.declared.token.PunctKind.TheVariants.{Semicolon, Comma, Dot, Arrow, Increment, Decrement}
+use Rattle.ec_grammar.specs.declared.token.PunctKind.TheVariants.{Ampersand, Star, Plus, Minus, Tilde, Not, Slash}
+use Rattle.ec_grammar.specs.declared.token.PunctKind.TheVariants.{Percent, ShiftLeft, ShiftRight, Less, Greater}
+use Rattle.ec_grammar.specs.declared.token.PunctKind.TheVariants.{LessEqual, GreaterEqual, Equal, NotEqual, Caret, Bar}
+use Rattle.ec_grammar.specs.declared.token.PunctKind.TheVariants.{AndAnd, OrOr, Question, Colon, Assign, StarAssign}
+use Rattle.ec_grammar.specs.declared.token.PunctKind.TheVariants.{SlashAssign, PercentAssign, PlusAssign, MinusAssign}
+use Rattle.ec_grammar.specs.declared.token.PunctKind.TheVariants.{ShiftLeftAssign, ShiftRightAssign, AmpersandAssign}
+use Rattle.ec_grammar.specs.declared.token.PunctKind.TheVariants.{CaretAssign, BarAssign}
 use Rattle.ec_lex.specs.declared.pieces.Form.{Form}
-use Rattle.ec_lex.specs.declared.pieces.Form.TheVariants.{Space, LineComment, Comment, OpenComment, Identifier, Number, Character, Quote, Punctuator, Directive}
+use Rattle.ec_lex.specs.declared.pieces.Form.TheVariants.{Space, LineComment, Comment, OpenComment, Identifier, Number}
+use Rattle.ec_lex.specs.declared.pieces.Form.TheVariants.{Character, Quote, Punctuator, Directive}
 use Rattle.ec_lex.specs.Bytes.{is_space, is_in_line, is_letter, is_digit, is_word, is_run, begins}
 
 -- the punctuators, longer ones first (6.4.6)
@@ -29,7 +40,8 @@ punctuators =
 -- how many bytes there are up to the end of the first `*/`
 abbrev pub comment_end : List ℕ → Option ℕ
 comment_end [] = None
-comment_end (b ∷ bs) = if (b == 42) && begins (λ c. c == 47) bs then Some 2 else option_map (λ n. n + 1) (comment_end bs)
+comment_end (b ∷ bs) =
+    if (b == 42) && begins (λ c. c == 47) bs then Some 2 else option_map (λ n. n + 1) (comment_end bs)
 
 -- a byte that stands for itself in a character constant (6.4.4.4)
 abbrev pub is_plain : ℕ → Bool
@@ -64,14 +76,15 @@ Is line_start Space t = (b : ℕ) × (t ≡ b ∷ []) × (is_space b ≡ true)
 Is line_start LineComment t = (body : List ℕ) × (t ≡ 47 ∷ 47 ∷ body) × Pass is_in_line body
 -- `/*`, and the first `*/` after it at the end (6.4.9)
 Is line_start Comment t = (body : List ℕ) × (t ≡ 47 ∷ 42 ∷ body) × (comment_end body ≡ Some (length body))
--- `/*`, and no `*/` after it: the longest front of this form is all that is left of a text in which no `*/` follows
+-- `/*`, and no `*/` after it: the longest prefix of this form is all that is left of a text in which no `*/` follows
 Is line_start OpenComment t = (body : List ℕ) × (t ≡ 47 ∷ 42 ∷ body) × (comment_end body ≡ None)
 -- a letter or `_`, then letters, digits and `_` (6.4.2.1)
 Is line_start Identifier t = Begins is_letter is_word t
 -- a digit, or `.` and a digit, then letters, digits, `_` and `.` (6.4.8, without signs)
 Is line_start Number t = Begins is_digit is_run t ⊎ ((run : List ℕ) × (t ≡ 46 ∷ run) × Begins is_digit is_run run)
 -- a quote, one byte or an escape, and a quote (6.4.4.4)
-Is line_start (Character v) t = ((t ≡ 39 ∷ v ∷ 39 ∷ []) × (is_plain v ≡ true)) ⊎ ((b : ℕ) × (t ≡ 39 ∷ 92 ∷ b ∷ 39 ∷ []) × (escaped b ≡ Some v))
+Is line_start (Character v) t =
+    ((t ≡ 39 ∷ v ∷ 39 ∷ []) × (is_plain v ≡ true)) ⊎ ((b : ℕ) × (t ≡ 39 ∷ 92 ∷ b ∷ 39 ∷ []) × (escaped b ≡ Some v))
 -- a quote alone
 Is line_start Quote t = t ≡ 39 ∷ []
 -- a punctuator (6.4.6)

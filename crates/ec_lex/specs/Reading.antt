@@ -1,9 +1,13 @@
--- Reading, as the code does it: each function gives what it read and what follows. The laws of proofs/ join it to the forms, constants and directives of the other files.
-use Rattle.std.specs.Prelude.{ℕ, ◌-◌, ◌==◌, ◌&&◌, ◌||◌, List, [], ◌∷◌, length, take, drop, Bool, true, false, Option, Some, None, option_map, option_and_then, if◌then◌else◌, nat_eq, nat_lt, ◌+◌, ◌^◌, ◌≡◌, unwrap_or, is_some, codes, Result, Ok, Err}
+-- Reading, as the code does it: each function gives what it read and what follows. The laws of proofs/ join it to the
+-- forms, constants and directives of the other files.
+use Rattle.std.specs.Prelude.{ℕ, ◌-◌, ◌==◌, ◌&&◌, ◌||◌, List, [], ◌∷◌, length, take, drop, Bool, true, false, Option}
+use Rattle.std.specs.Prelude.{Some, None, option_map, option_and_then, if◌then◌else◌, nat_eq, nat_lt, ◌+◌, ◌^◌, ◌≡◌}
+use Rattle.std.specs.Prelude.{unwrap_or, is_some, codes, Result, Ok, Err}
 use Rattle.std.specs.List.{prefix_len, starts_with, list_any}
 use Rattle.ec_grammar.specs.declared.token.PunctKind.{PunctKind}
 use Rattle.ec_lex.specs.declared.pieces.Form.{Form}
-use Rattle.ec_lex.specs.declared.pieces.Form.TheVariants.{Space, LineComment, Comment, OpenComment, Identifier, Number, Character, Quote, Punctuator, Directive}
+use Rattle.ec_lex.specs.declared.pieces.Form.TheVariants.{Space, LineComment, Comment, OpenComment, Identifier, Number}
+use Rattle.ec_lex.specs.declared.pieces.Form.TheVariants.{Character, Quote, Punctuator, Directive}
 use Rattle.ec_fx.specs.declared.formats.FxKind.{FxKind}
 use Rattle.ec_fx.specs.declared.numbers.Fx.{Fx}
 use Rattle.ec_fx.specs.declared.numbers.Fx.TheVariants as fx
@@ -23,14 +27,17 @@ use Rattle.ec_lex.specs.declared.constants.Suffix.{Suffix}
 use Rattle.ec_lex.specs.Words.{Known, same, look_up, known_word, meaning}
 use Rattle.ec_lex.specs.Directives.{Directed, include, define, set, ignored, headers, pragmas, states_of}
 use Rattle.ec_lex.specs.Text.{Effect, passed, taken, fault, after_blank, after_token, effect_of, line_of}
-use Rattle.ec_lex.specs.Constants.{value_from, suffix_value, integer_suffixes, fixed_suffixes, types_tried, first_holding}
-use Rattle.ec_lex.specs.Bytes.{is_octal, is_hexadecimal, is_space, is_in_line, is_letter, is_digit, is_word, is_run, begins}
+use Rattle.ec_lex.specs.Constants.{value_from, suffix_value, integer_suffixes, fixed_suffixes, types_tried}
+use Rattle.ec_lex.specs.Constants.{first_holding}
+use Rattle.ec_lex.specs.Bytes.{is_octal, is_hexadecimal, is_space, is_in_line, is_letter, is_digit, is_word, is_run}
+use Rattle.ec_lex.specs.Bytes.{begins}
 use Rattle.ec_lex.specs.Pieces.{punctuators, comment_end, is_plain, escaped}
 
 -- the first entry of the table that the bytes begin with
 abbrev pub first_prefix : {K : Type 0} → List ℕ → List (List ℕ × K) → Option (K × List ℕ)
 first_prefix bs [] = None
-first_prefix bs (entry ∷ entries) = if starts_with nat_eq bs entry.0 then Some (entry.1, drop (length entry.0) bs) else first_prefix bs entries
+first_prefix bs (entry ∷ entries) =
+    if starts_with nat_eq bs entry.0 then Some (entry.1, drop (length entry.0) bs) else first_prefix bs entries
 
 unfoldable pub punctuator_at : List ℕ → Option (PunctKind × List ℕ)
 punctuator_at bs = first_prefix bs punctuators
@@ -79,7 +86,8 @@ fixed_suffix bs = suffix_value bs fixed_suffixes
 -- the constant whose first bytes are so many digits of the base
 unfoldable pub whole_of : ℕ → ℕ → List ℕ → Option Lexeme
 whole_of base len bs =
-    option_and_then (λ s. option_and_then (λ n. option_map (λ t. whole n t.signed t.bytes) (first_holding n (types_tried (base == 10) s.unsigned s.long)))
+    option_and_then (λ s. option_and_then
+    (λ n. option_map (λ t. whole n t.signed t.bytes) (first_holding n (types_tried (base == 10) s.unsigned s.long)))
     (below (2 ^ 32) (value_from base 0 (take len bs))))
     (integer_suffix (drop len bs))
 
@@ -89,7 +97,8 @@ hexadecimal_of ds = if prefix_len is_hexadecimal ds == 0 then None else whole_of
 unfoldable pub integer_of : List ℕ → Option Lexeme
 integer_of [] = None
 integer_of (b ∷ bs) =
-    if b == 48 then (if begins (λ x. (x == 120) || (x == 88)) bs then hexadecimal_of (drop 1 bs) else whole_of 8 (prefix_len is_octal bs) bs)
+    if b == 48 then (if begins (λ x. (x == 120) || (x == 88)) bs then hexadecimal_of (drop 1 bs)
+    else whole_of 8 (prefix_len is_octal bs) bs)
     else if is_digit b then whole_of 10 (prefix_len is_digit (b ∷ bs)) (b ∷ bs) else None
 
 abbrev pub fixed_value : FxKind → Fx → Option Lexeme
@@ -102,14 +111,17 @@ unfoldable pub fixed_of : List ℕ → List ℕ → Option Lexeme
 fixed_of before more =
     if (length before == 0) && (prefix_len is_digit more == 0) then None
     else if nat_lt 24 (length before + prefix_len is_digit more) then None
-    else option_and_then (λ kind. option_and_then (λ n. option_and_then (λ digits. fixed_value kind (value_of_constant digits (prefix_len is_digit more) (format_of kind)))
+    else option_and_then (λ kind. option_and_then
+    (λ n. option_and_then (λ digits.
+    fixed_value kind (value_of_constant digits (prefix_len is_digit more) (format_of kind)))
     (below (10 ^ 24) (value_from 10 n (take (prefix_len is_digit more) more))))
     (below (10 ^ 24) (value_from 10 0 before)))
     (fixed_suffix (drop (prefix_len is_digit more) more))
 
 unfoldable pub constant_of : List ℕ → Option Lexeme
 constant_of run =
-    if begins (λ b. b == 46) (drop (prefix_len is_digit run) run) then fixed_of (take (prefix_len is_digit run) run) (drop 1 (drop (prefix_len is_digit run) run))
+    if begins (λ b. b == 46) (drop (prefix_len is_digit run) run)
+    then fixed_of (take (prefix_len is_digit run) run) (drop 1 (drop (prefix_len is_digit run) run))
     else integer_of run
 
 -- what follows a comment, by the bytes after its `/*`
@@ -119,7 +131,8 @@ after_comment bs = option_map (λ n. drop n bs) (comment_end bs)
 -- what follows the white space or the comment at the front
 abbrev pub after_blank_at : List ℕ → Option (List ℕ)
 after_blank_at [] = None
-after_blank_at (b ∷ bs) = if is_space b then Some bs else if (b == 47) && begins (λ c. c == 42) bs then after_comment (drop 1 bs) else None
+after_blank_at (b ∷ bs) =
+    if is_space b then Some bs else if (b == 47) && begins (λ c. c == 42) bs then after_comment (drop 1 bs) else None
 
 -- what follows the byte or the comment at the front, where that comment ends
 abbrev pub after_byte_at : List ℕ → Option (List ℕ)
@@ -131,7 +144,9 @@ unfoldable mutual
   pub skip : List ℕ → List ℕ
   skip [] = []
   skip (b ∷ []) = if is_space b then [] else b ∷ []
-  skip (b ∷ c ∷ bs) = if is_space b then skip (c ∷ bs) else if (b == 47) && (c == 42) then unwrap_or (skip_comment bs) (b ∷ c ∷ bs) else b ∷ c ∷ bs
+  skip (b ∷ c ∷ bs) =
+      if is_space b then skip (c ∷ bs) else if (b == 47) && (c == 42) then unwrap_or (skip_comment bs) (b ∷ c ∷ bs)
+      else b ∷ c ∷ bs
 
   pub skip_comment : List ℕ → Option (List ℕ)
   skip_comment [] = None
@@ -143,7 +158,8 @@ unfoldable mutual
   pub is_quiet : List ℕ → Bool
   is_quiet [] = true
   is_quiet (b ∷ []) = true
-  is_quiet (b ∷ c ∷ bs) = if (b == 47) && (c == 47) then true else if (b == 47) && (c == 42) then is_quiet_after bs else is_quiet (c ∷ bs)
+  is_quiet (b ∷ c ∷ bs) =
+      if (b == 47) && (c == 47) then true else if (b == 47) && (c == 42) then is_quiet_after bs else is_quiet (c ∷ bs)
 
   pub is_quiet_after : List ℕ → Bool
   is_quiet_after [] = false
@@ -157,7 +173,8 @@ is_end (b ∷ bs) = (b == 47) && begins (λ c. c == 47) bs
 
 abbrev pub identifier_at : List ℕ → Option (List ℕ × List ℕ)
 identifier_at [] = None
-identifier_at (b ∷ bs) = if is_letter b then Some (take (prefix_len is_word bs + 1) (b ∷ bs), drop (prefix_len is_word bs) bs) else None
+identifier_at (b ∷ bs) =
+    if is_letter b then Some (take (prefix_len is_word bs + 1) (b ∷ bs), drop (prefix_len is_word bs) bs) else None
 
 unfoldable pub header_at : List ℕ → Option (Header × List ℕ)
 header_at bs = first_prefix bs headers
@@ -188,12 +205,15 @@ is_taken s w = is_some (known_word s w) || is_some (look_up w s.defines)
 
 unfoldable pub define_of : Known → List ℕ → Option Directed
 define_of s bs =
-    option_and_then (λ x. if is_taken s x.0 then None else option_and_then (λ y. if is_end (skip y.1) then Some (define x.0 y.0) else None) (value_at (skip x.1)))
+    option_and_then (λ x. if is_taken s x.0 then None
+    else option_and_then (λ y. if is_end (skip y.1) then Some (define x.0 y.0) else None) (value_at (skip x.1)))
     (identifier_at (skip bs))
 
 unfoldable pub set_of : List ℕ → Option Directed
 set_of bs =
-    option_and_then (λ x. option_and_then (λ which. option_and_then (λ y. option_and_then (λ state. if is_end (skip y.1) then Some (set which state) else None)
+    option_and_then (λ x. option_and_then
+    (λ which. option_and_then (λ y.
+    option_and_then (λ state. if is_end (skip y.1) then Some (set which state) else None)
     (state_named which y.0)) (identifier_at (skip x.1))) (pragma_named x.0))
     (identifier_at (skip bs))
 
@@ -207,7 +227,8 @@ pragma_of bs = pragma_by bs (identifier_at (skip bs))
 -- what the rest of a line after `#` says
 unfoldable pub directive_of : Known → List ℕ → Option Directed
 directive_of s line =
-    option_and_then (λ x. if same x.0 (codes "include") then include_of x.1 else if same x.0 (codes "define") then define_of s x.1 else if same x.0 (codes "pragma") then pragma_of x.1 else None)
+    option_and_then (λ x. if same x.0 (codes "include") then include_of x.1 else if same x.0 (codes "define")
+    then define_of s x.1 else if same x.0 (codes "pragma") then pragma_of x.1 else None)
     (identifier_at (skip line))
 
 abbrev pub numbered : Known → Option Lexeme → Effect

@@ -1,5 +1,7 @@
--- A text as tokens (ISO/IEC 9899:1999, 5.1.1.2 and 6.4): white space, directives and tokens, from the front on, by the longest match.
-use Rattle.std.specs.Prelude.{ℕ, ◌-◌, ◌≤◌, ◌≡◌, ◌==◌, List, [], ◌∷◌, ◌++◌, length, take, true, false, Result, Ok, Err, ◌⊎◌, if◌then◌else◌}
+-- A text as tokens (ISO/IEC 9899:1999, 5.1.1.2 and 6.4): white space, directives and tokens, from the front on, by the
+-- longest match.
+use Rattle.std.specs.Prelude.{ℕ, ◌-◌, ◌≤◌, ◌≡◌, ◌==◌, List, [], ◌∷◌, ◌++◌, length, take, true, false, Result, Ok, Err}
+use Rattle.std.specs.Prelude.{◌⊎◌, if◌then◌else◌}
 use Rattle.std.specs.List.{prefix_len, list_any}
 use Rattle.ec_grammar.specs.declared.token.PunctKind.{PunctKind}
 use Rattle.ec_grammar.specs.Tokens.{Lexeme, punct, whole, pragma, end, Placed, view_tokens}
@@ -12,7 +14,8 @@ use Rattle.ec_lex.specs.declared.stop.LexStop.TheVariants as stops
 use Rattle.ec_lex.specs.declared.stop.Header.{Header}
 use Rattle.ec_lex.specs.declared.stop.Header.TheVariants.{Stdint, Stdfix, Iohw}
 use Rattle.ec_lex.specs.declared.pieces.Form.{Form}
-use Rattle.ec_lex.specs.declared.pieces.Form.TheVariants.{Space, LineComment, Comment, OpenComment, Identifier, Number, Character, Quote, Punctuator, Directive}
+use Rattle.ec_lex.specs.declared.pieces.Form.TheVariants.{Space, LineComment, Comment, OpenComment, Identifier, Number}
+use Rattle.ec_lex.specs.declared.pieces.Form.TheVariants.{Character, Quote, Punctuator, Directive}
 use Rattle.ec_lex.specs.Bytes.{is_newline, is_in_line}
 use Rattle.ec_lex.specs.Pieces.{Is, Longest}
 use Rattle.ec_lex.specs.Words.{Known, meaning}
@@ -65,12 +68,15 @@ pub data Does (s : Known) (rest : List ℕ) : Form → List ℕ → Effect → T
   open_character : {t : List ℕ} → list_any (λ b. b == 39) (line_of rest) ≡ false → Does s rest Quote t (fault Unclosed)
   punctuator : {t : List ℕ} {p : PunctKind} → Does s rest (Punctuator p) t (taken (punct p) (after_token s))
   directive : {line : List ℕ} {d : Directed} → IsDirective s line d → Does s rest Directive (35 ∷ line) (effect_of d s)
-  bad_directive : {line : List ℕ} → ((d : Directed) → IsDirective s line d → ⊥) → Does s rest Directive (35 ∷ line) (fault BadDirective)
+  bad_directive : {line : List ℕ} → ((d : Directed) → IsDirective s line d → ⊥)
+      → Does s rest Directive (35 ∷ line) (fault BadDirective)
 
 -- what stands at the front of the bytes does this, and the rest follows it
 pub data Steps (s : Known) : List ℕ → Effect → List ℕ → Type 0 where
-  piece : {bs t rest : List ℕ} {f : Form} {e : Effect} → Longest s.line_start bs f t rest → Does s rest f t e → Steps s bs e rest
-  stray : {b : ℕ} {bs : List ℕ} → ((f : Form) (t rest : List ℕ) → Is s.line_start f t → b ∷ bs ≡ t ++ rest → ⊥) → Steps s (b ∷ bs) (fault BadByte) (b ∷ bs)
+  piece : {bs t rest : List ℕ} {f : Form} {e : Effect} → Longest s.line_start bs f t rest → Does s rest f t e
+      → Steps s bs e rest
+  stray : {b : ℕ} {bs : List ℕ} → ((f : Form) (t rest : List ℕ) → Is s.line_start f t → b ∷ bs ≡ t ++ rest → ⊥)
+      → Steps s (b ∷ bs) (fault BadByte) (b ∷ bs)
 
 -- the place of the bytes that are left of a text of so many
 abbrev pub place : ℕ → List ℕ → ℕ
@@ -82,8 +88,10 @@ placed size bs k = record { at = place size bs; lexeme = k }
 -- Read from here on, the bytes before the rest are these tokens, and then this much is known.
 pub data Reads (size : ℕ) : Known → List ℕ → List Placed → Known → List ℕ → Type 0 where
   here : {s : Known} {bs : List ℕ} → Reads size s bs [] s bs
-  pass : {s s' after : Known} {bs next rest : List ℕ} {ts : List Placed} → Steps s bs (passed s') next → Reads size s' next ts after rest → Reads size s bs ts after rest
-  token : {s s' after : Known} {bs next rest : List ℕ} {ts : List Placed} {k : Lexeme} → Steps s bs (taken k s') next → Reads size s' next ts after rest → Reads size s bs (placed size bs k ∷ ts) after rest
+  pass : {s s' after : Known} {bs next rest : List ℕ} {ts : List Placed} → Steps s bs (passed s') next
+      → Reads size s' next ts after rest → Reads size s bs ts after rest
+  token : {s s' after : Known} {bs next rest : List ℕ} {ts : List Placed} {k : Lexeme} → Steps s bs (taken k s') next
+      → Reads size s' next ts after rest → Reads size s bs (placed size bs k ∷ ts) after rest
 
 -- The text is these tokens, and the end.
 pub record Tokens (bytes : List ℕ) (list : List Placed) : Type 0 where
@@ -92,7 +100,8 @@ pub record Tokens (bytes : List ℕ) (list : List Placed) : Type 0 where
   pub reads : Reads (length bytes) nothing_known bytes tokens known []
   pub ended : list ≡ tokens ++ placed (length bytes) [] end ∷ []
 
--- The text reads as at most 65,535 tokens up to the place, and there this fault stands. It is the fault with the least place.
+-- The text reads as at most 65,535 tokens up to the place, and there this fault stands. It is the fault with the least
+-- place.
 pub record IsFault (bytes : List ℕ) (cause : Cause) (at : ℕ) : Type 0 where
   pub tokens : List Placed
   pub known : Known
@@ -125,7 +134,7 @@ abbrev pub Shows : List Placed → Result (Listed Token) LexStop → Type 0
 Shows list (Ok answer) = view_tokens answer.items ≡ list
 Shows list (Err stop) = stop ≡ stops.NoMemory
 
--- the tokens of the text, at most 65,535 before the end, or want of memory, or why the text is refused
+-- the tokens of the text, at most 65,535 before the end, or out of memory, or why the text is refused
 abbrev pub IsFound : List ℕ → Result (Listed Token) LexStop → Type 0
 IsFound bytes (Ok answer) = Tokens bytes (view_tokens answer.items) × (length answer.items ≤ 65_536)
 IsFound bytes (Err stop) = (stop ≡ stops.NoMemory) ⊎ IsRefused bytes stop

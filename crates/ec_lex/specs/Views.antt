@@ -23,7 +23,14 @@ abbrev pub view_define : Define → List ℕ × Lexeme
 view_define d = (d.name.items, view_constant d.constant)
 
 abbrev pub view_scope : Scope → Known
-view_scope s = record { line_start = s.line_start; stdint = s.stdint; stdfix = s.stdfix; iohw = s.iohw; defines = map view_define s.defines.items }
+view_scope s =
+    record {
+      line_start = s.line_start;
+      stdint = s.stdint;
+      stdfix = s.stdfix;
+      iohw = s.iohw;
+      defines = map view_define s.defines.items;
+    }
 
 abbrev pub view_directed : Told → Directed
 view_directed (told.Include h) = include h

@@ -1,9 +1,14 @@
 -- Identifiers and words (ISO/IEC 9899:1999, 6.4.1 and 6.4.2), and what a text has made known up to a place.
-use Rattle.std.specs.Prelude.{ℕ, List, [], ◌∷◌, Bool, true, false, Option, Some, None, option_map, unwrap_or, if◌then◌else◌, nat_eq, codes}
+use Rattle.std.specs.Prelude.{ℕ, List, [], ◌∷◌, Bool, true, false, Option, Some, None, option_map, unwrap_or}
+use Rattle.std.specs.Prelude.{if◌then◌else◌, nat_eq, codes}
 use Rattle.std.specs.List.{list_any}
 use Rattle.std.specs.Cmp.Lexicographic.{pointwise}
 use Rattle.ec_grammar.specs.declared.token.WordKind.{WordKind}
-use Rattle.ec_grammar.specs.declared.token.WordKind.TheVariants.{Break, Char, Const, Continue, Do, Else, Extern, For, If, Int, Long, Register, Return, Short, Signed, Sizeof, Static, Struct, Unsigned, Void, While, Fract, Accum, Sat, Flash, Data, Int8, Uint8, Int16, Uint16, Int32, Uint32}
+use Rattle.ec_grammar.specs.declared.token.WordKind.TheVariants.{Break, Char, Const, Continue, Do, Else, Extern, For}
+use Rattle.ec_grammar.specs.declared.token.WordKind.TheVariants.{If, Int, Long, Register, Return, Short, Signed, Sizeof}
+use Rattle.ec_grammar.specs.declared.token.WordKind.TheVariants.{Static, Struct, Unsigned, Void, While, Fract, Accum}
+use Rattle.ec_grammar.specs.declared.token.WordKind.TheVariants.{Sat, Flash, Data, Int8, Uint8, Int16, Uint16, Int32}
+use Rattle.ec_grammar.specs.declared.token.WordKind.TheVariants.{Uint32}
 use Rattle.ec_iohw.specs.declared.operations.IoOp.{IoOp}
 use Rattle.ec_iohw.specs.declared.operations.IoOp.TheVariants as ops
 use Rattle.ec_grammar.specs.declared.token.GroupOp.{GroupOp}
@@ -55,7 +60,8 @@ io_names =
 
 abbrev pub group_names : List (List ℕ × GroupOp)
 group_names =
-    (codes "iogroup_acquire", groups.Acquire) ∷ (codes "iogroup_release", groups.Release) ∷ (codes "iogroup_map", groups.Map) ∷ []
+    (codes "iogroup_acquire", groups.Acquire) ∷ (codes "iogroup_release", groups.Release)
+    ∷ (codes "iogroup_map", groups.Map) ∷ []
 
 -- words of C, of TR 18037 and of this compiler without a place in the grammar
 abbrev pub reserved_words : List (List ℕ)
@@ -64,7 +70,8 @@ reserved_words =
     ∷ codes "inline" ∷ codes "restrict" ∷ codes "switch" ∷ codes "typedef" ∷ codes "union" ∷ codes "volatile"
     ∷ codes "_Bool" ∷ codes "_Complex" ∷ codes "_Imaginary" ∷ codes "__farflash" ∷ []
 
--- What a text has made known up to a place: whether only white space stands before it on its line, the headers that were included, and the names that were defined as a constant.
+-- What a text has made known up to a place: whether only white space stands before it on its line, the headers that
+-- were included, and the names that were defined as a constant.
 pub record Known : Type 0 where
   pub line_start : Bool
   pub stdint : Bool
@@ -105,4 +112,6 @@ is_reserved w = list_any (λ other. same w other) reserved_words
 
 -- The token of an identifier. A defined name is replaced by its constant, even where a later include makes it a word.
 abbrev pub meaning : Known → List ℕ → Lexeme
-meaning s w = unwrap_or (or_else (look_up w s.defines) (or_else (known_word s w) (if is_reserved w then Some reserved else None))) (name w)
+meaning s w =
+    unwrap_or (or_else (look_up w s.defines) (or_else (known_word s w) (if is_reserved w then Some reserved else None)))
+    (name w)

@@ -1,7 +1,8 @@
 //! The classes of bytes (ISO/IEC 9899:1999, 5.2.1 and 6.4).
 ghost use Rattle.std.specs.Prelude.{◌≡◌, ◌≤◌, length};
 ghost use Rattle.std.specs.List.{prefix_len};
-ghost use Rattle.ec_lex.specs.Bytes.{is_space, is_in_line, is_letter, is_digit, is_word, is_run, is_octal, is_hexadecimal};
+ghost use Rattle.ec_lex.specs.Bytes.{is_space, is_in_line, is_letter, is_digit, is_word, is_run, is_octal};
+ghost use Rattle.ec_lex.specs.Bytes.{is_hexadecimal};
 
 /// Space, tab, LF, VT, FF and CR.
 pub fn is_space(b: u8) -> bool

@@ -4,8 +4,10 @@ ghost use Rattle.std.specs.Cmp.Lexicographic.{pointwise};
 ghost use Rattle.std.specs.Char.{to_ascii_lowercase};
 ghost use Rattle.ec_grammar.specs.Tokens.{view_kind, whole};
 ghost use Rattle.ec_lex.specs.Bytes.{digit_value};
-ghost use Rattle.ec_lex.specs.Constants.{value_from, suffix_value, integer_suffixes, fixed_suffixes, types_tried, first_holding};
-ghost use Rattle.ec_lex.specs.Reading.{below, whole_of, fixed_of, integer_of, constant_of, integer_suffix, fixed_suffix};
+ghost use Rattle.ec_lex.specs.Constants.{value_from, suffix_value, integer_suffixes, fixed_suffixes, types_tried};
+ghost use Rattle.ec_lex.specs.Constants.{first_holding};
+ghost use Rattle.ec_lex.specs.Reading.{below, whole_of, fixed_of, integer_of, constant_of, integer_suffix};
+ghost use Rattle.ec_lex.specs.Reading.{fixed_suffix};
 ghost use Rattle.ec_lex.specs.Views.{view_constant, view_type};
 
 use crate::bytes::{digits_len, hexadecimal_len, is_digit, octal_len};

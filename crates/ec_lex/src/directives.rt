@@ -1,6 +1,8 @@
 //! Directives (ISO/IEC 9899:1999, 6.10).
 ghost use Rattle.std.specs.Prelude.{◌≡◌, ◌<◌, ◌≤◌, length, map, option_map, IfSome};
-ghost use Rattle.ec_lex.specs.Reading.{after_blank_at, after_byte_at, skip, is_quiet, is_end, identifier_at, header_at, pragma_named, state_named, value_at, include_of, define_of, set_of, pragma_of, directive_of};
+ghost use Rattle.ec_lex.specs.Reading.{after_blank_at, after_byte_at, skip, is_quiet, is_end, identifier_at, header_at};
+ghost use Rattle.ec_lex.specs.Reading.{pragma_named, state_named, value_at, include_of, define_of, set_of, pragma_of};
+ghost use Rattle.ec_lex.specs.Reading.{directive_of};
 ghost use Rattle.ec_lex.specs.Views.{view_constant, view_directed, view_scope};
 
 use crate::bytes::{is_letter, is_space, word_len};

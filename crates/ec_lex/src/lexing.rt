@@ -1,10 +1,12 @@
 //! The text, piece by piece.
-ghost use Rattle.std.specs.Prelude.{◌≡◌, ◌==◌, ◌+◌, ◌<◌, ◌≤◌, ◌^◌, ◌++◌, ◌⊎◌, List, length, IfOk, IfErr, OnOk, Ok, Err, IsSome, if◌then◌else◌};
+ghost use Rattle.std.specs.Prelude.{◌≡◌, ◌==◌, ◌+◌, ◌<◌, ◌≤◌, ◌^◌, ◌++◌, ◌⊎◌, List, length, IfOk, IfErr, OnOk, Ok, Err};
+ghost use Rattle.std.specs.Prelude.{IsSome, if◌then◌else◌};
 ghost use Rattle.std.specs.List.{list_any};
 ghost use Rattle.ec_grammar.specs.Tokens.{view_kind, view_tokens, Placed};
 ghost use Rattle.ec_lex.specs.Bytes.{is_newline};
 ghost use Rattle.ec_lex.specs.Reading.{does, step, Gives, told, IsAt};
-ghost use Rattle.ec_lex.specs.Text.{after_blank, after_token, taken, effect_of, line_of, Tokens, IsRefused, Shows, IsFound};
+ghost use Rattle.ec_lex.specs.Text.{after_blank, after_token, taken, effect_of, line_of, Tokens, IsRefused, Shows};
+ghost use Rattle.ec_lex.specs.Text.{IsFound};
 ghost use Rattle.ec_lex.specs.Views.{view_directed, view_scope};
 
 use crate::bytes::line_len;
@@ -119,10 +121,12 @@ fn step<'a>(
     alloc: Global,
     bytes: &'a [u8],
 ) -> Result<(Option<TokenKind>, &'a [u8]), Stop>
-    ensures effect { IfOk result (λ x. Gives (Ok x.0) (view_scope scope.new) (step (view_scope scope.old) bytes.now).0) }
+    ensures effect { IfOk result (λ x.
+        Gives (Ok x.0) (view_scope scope.new) (step (view_scope scope.old) bytes.now).0) }
     ensures rest { IfOk result (λ x. (step (view_scope scope.old) bytes.now).1 ≡ x.1.now) }
     ensures shorter { IfOk result (λ x. length x.1.now < length bytes.now) }
-    ensures fault { IfErr result (λ stop. Gives (Err stop) (view_scope scope.new) (step (view_scope scope.old) bytes.now).0) }
+    ensures fault { IfErr result (λ stop.
+        Gives (Err stop) (view_scope scope.new) (step (view_scope scope.old) bytes.now).0) }
 {
     let Some((form, rest)) = piece(scope.line_start, bytes) else {
         return Err(Stop::Fault(Cause::BadByte));
@@ -136,7 +140,8 @@ fn note_token(tokens: &mut Seq<Token>, at: u32, kind: Option<TokenKind>) -> Resu
     requires { length tokens.old.items ≤ MOST_TOKENS }
     ensures ok { OnOk result (view_tokens tokens.new.items ≡ view_tokens tokens.old.items ++ told at kind) }
     ensures few { OnOk result (length tokens.new.items ≤ MOST_TOKENS) }
-    ensures err { IfErr result (λ stop. (stop ≡ LexStop.NoMemory) ⊎ ((stop ≡ LexStop.TooManyTokens) × IsSome kind × (length tokens.old.items ≡ MOST_TOKENS))) }
+    ensures err { IfErr result (λ stop. (stop ≡ LexStop.NoMemory)
+        ⊎ ((stop ≡ LexStop.TooManyTokens) × IsSome kind × (length tokens.old.items ≡ MOST_TOKENS))) }
 {
     if let Some(kind) = kind {
         if tokens.len() == MOST_TOKENS {
@@ -191,12 +196,16 @@ fn tokens_of(alloc: Global, text: &[u8]) -> Result<Seq<Token>, LexStop>
 /// The tokens of the text, the last of which is `TokenKind::End`, or the fault with the least place.
 pub fn lex(alloc: Global, bytes: &Seq<u8>) -> Result<Seq<Token>, LexStop>
     requires { length bytes.now.items < 2 ^ 32 }
-    ensures tokens { IfOk result (λ list. Tokens bytes.now.items (view_tokens list.items) × (length list.items ≤ 65_536)) }
+    ensures tokens { IfOk result (λ list. Tokens bytes.now.items (view_tokens list.items)
+        × (length list.items ≤ 65_536)) }
     ensures refused { IfErr result (λ stop. (stop ≡ LexStop.NoMemory) ⊎ IsRefused bytes.now.items stop) }
 
-    // A text that is these tokens gives them, and one that is refused for a cause is refused for it, where memory suffices.
-    ensures only_tokens { (list : List Placed) → Tokens bytes.now.items list → length list ≤ 65_536 → Shows list result }
-    ensures only_refused { (stop : LexStop) → IsRefused bytes.now.items stop → (result ≡ Err stop) ⊎ (result ≡ Err LexStop.NoMemory) }
+    // A text that is these tokens gives them, and one that is refused for a cause is refused for it, where memory
+    // suffices.
+    ensures only_tokens { (list : List Placed) → Tokens bytes.now.items list → length list ≤ 65_536
+        → Shows list result }
+    ensures only_refused { (stop : LexStop) → IsRefused bytes.now.items stop
+        → (result ≡ Err stop) ⊎ (result ≡ Err LexStop.NoMemory) }
 {
     tokens_of(alloc, bytes.as_slice())
 }

@@ -15,6 +15,3 @@ pub use ec_grammar::{
 };
 pub use lexing::lex;
 pub use stop::LexStop;
-
-#[cfg(test)]
-mod tests;

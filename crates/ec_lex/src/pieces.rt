@@ -79,7 +79,8 @@ static PUNCTUATORS: [(&[u8], PunctKind); 45] = [
 
 /// The first entry of the table that the bytes begin with, and what follows it.
 pub fn first_prefix<'a, K: Copy>(bytes: &'a [u8], table: &[(&[u8], K)]) -> Option<(K, &'a [u8])>
-    ensures value { option_map (λ x. (x.0, x.1.now)) result ≡ first_prefix bytes.now (map (λ x. (x.0.now, x.1)) table.now) }
+    ensures value { option_map (λ x. (x.0, x.1.now)) result
+        ≡ first_prefix bytes.now (map (λ x. (x.0.now, x.1)) table.now) }
     ensures bound { IfSome result (λ x. length x.1.now ≤ length bytes.now) }
 {
     for (spelling, kind) in table {

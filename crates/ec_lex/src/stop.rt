@@ -6,7 +6,8 @@ ghost use Rattle.ec_lex.specs.declared.stop.Stop.TheVariants.{NoMemory as OutOfM
 use ec_space::NoMemory;
 use thiserror::Error;
 
-/// Why a text has no tokens, with the offset of the byte where the fault begins. The fault with the least offset is told.
+/// Why a text has no tokens, with the offset of the byte where the fault begins. The fault with the least offset is
+/// told.
 #[derive(Clone, Copy, Debug, PartialEq, Eq, Error)]
 pub enum LexStop {
     /// A byte that begins nothing, or a character constant of no known form.

@@ -20,8 +20,8 @@ IsTold count stops.NoMemory told = told ≡ NoMemory
 IsTold count (stops.Syntax n) told = told ≡ Syntax (count - n)
 IsTold count (stops.TooDeep n) told = told ≡ TooDeep (count - n)
 
--- The answer is what reading answers, unless memory ran out. Reading tells a token by how many there are from it on, parsing by
--- its index.
+-- The answer is what reading answers, unless memory ran out. Reading tells a token by how many there are from it on,
+-- parsing by its index.
 abbrev pub IsRead : List Placed → Result Tree ParseStop → Type 0
 IsRead tokens (Ok u) = tree_of 64 tokens ≡ Ok (view_tree u)
 IsRead tokens (Err (Syntax k)) = (n : ℕ) × (tree_of 64 tokens ≡ Err (syntax n)) × (k + n ≡ length tokens)
@@ -35,8 +35,8 @@ IsOnly u (Err (Syntax k)) = ⊥
 IsOnly u (Err (TooDeep k)) = ⊥
 IsOnly u (Err NoMemory) = Unit {0}
 
--- The list is in no derivation, and this is its first bad token; or it is in none that nests within the limit, and at this token
--- nesting first passes it.
+-- The list is in no derivation, and this is its first bad token; or it is in none that nests within the limit, and at
+-- this token nesting first passes it.
 abbrev pub IsRefused : List Placed → ParseStop → Type 0
 IsRefused tokens (Syntax k) = StopsBehind 64 k tokens × ((u : t.Tree) → Derives tokens u → ⊥)
 IsRefused tokens (TooDeep k) = PassesFirstBehind 64 k tokens × ((u : t.Tree) → Derives tokens u → Nests u → ⊥)

@@ -8,7 +8,8 @@ use Rattle.ec_grammar.specs.declared.tree.Operation.{Operation}
 use Rattle.ec_grammar.specs.declared.tree.Argument.{Argument}
 use Rattle.ec_grammar.specs.declared.tree.NextInitialiser.{NextInitialiser}
 use Rattle.ec_grammar.specs.Grammar.{is_void}
-use Rattle.ec_grammar.specs.Nesting.{height_initialiser, height_initialisers, height_further, height_expression, height_postfix, height_arguments}
+use Rattle.ec_grammar.specs.Nesting.{height_initialiser, height_initialisers, height_further, height_expression}
+use Rattle.ec_grammar.specs.Nesting.{height_postfix, height_arguments}
 use Rattle.ec_grammar.specs.Trees as t
 use Rattle.ec_grammar.specs.Trees.{Leaf}
 use Rattle.ec_grammar.specs.Views.{view_initialiser, view_assignment}
@@ -34,11 +35,13 @@ view_argument a = (a.comma, view_assignment a.value)
 
 -- what ends an operation, behind its arguments
 abbrev pub operation_after : ℕ → Spot → Operation → Spot → t.Identifier → t.Further → List Leaf → Read t.Primary
-operation_after room s op l n more ts = expected RightParenthesis ts >>= λ r. ends room (suc (height_further more)) (t.operation s op l n more r.0) r.1
+operation_after room s op l n more ts =
+    expected RightParenthesis ts >>= λ r. ends room (suc (height_further more)) (t.operation s op l n more r.0) r.1
 
 -- what ends an expression in parentheses
 abbrev pub parenthesised_after : ℕ → Spot → t.Expression → List Leaf → Read t.Primary
-parenthesised_after room l e ts = expected RightParenthesis ts >>= λ r. ends room (suc (height_expression e)) (t.parenthesised l e r.0) r.1
+parenthesised_after room l e ts =
+    expected RightParenthesis ts >>= λ r. ends room (suc (height_expression e)) (t.parenthesised l e r.0) r.1
 
 -- a constant or a name
 abbrev pub atom_by : ℕ → List Leaf → Read t.Primary
@@ -47,8 +50,12 @@ atom_by room ts = when (leaf_if constant_of ts) (λ k. ends room 1 (t.constant k
 
 -- what ends a subscript, behind its expression
 abbrev pub index_after : ℕ → t.Postfix → Spot → t.Expression → List Leaf → Read t.Postfix
-index_after room p l e ts = expected RightBracket ts >>= λ r. ends room (suc (max (height_postfix p) (height_expression e))) (t.index p l e r.0) r.1
+index_after room p l e ts =
+    expected RightBracket ts >>= λ r.
+    ends room (suc (max (height_postfix p) (height_expression e))) (t.index p l e r.0) r.1
 
 -- what ends a call, behind its arguments
 abbrev pub call_after : ℕ → t.Postfix → Spot → t.Arguments → List Leaf → Read t.Postfix
-call_after room p l a ts = expected RightParenthesis ts >>= λ r. ends room (suc (max (height_postfix p) (height_arguments a))) (t.call p l a r.0) r.1
+call_after room p l a ts =
+    expected RightParenthesis ts >>= λ r.
+    ends room (suc (max (height_postfix p) (height_arguments a))) (t.call p l a r.0) r.1

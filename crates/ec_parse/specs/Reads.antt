@@ -1,5 +1,6 @@
 -- What the functions of the parser answer, beside what reading answers.
-use Rattle.std.specs.Prelude.{ℕ, suc, ◌-◌, ◌≡◌, ◌<◌, ◌≤◌, max, List, [], ◌∷◌, length, nat_lt, Bool, true, false, cond, Option, Some, None, Result, Ok, Err}
+use Rattle.std.specs.Prelude.{ℕ, suc, ◌-◌, ◌≡◌, ◌<◌, ◌≤◌, max, List, [], ◌∷◌, length, nat_lt, Bool, true, false, cond}
+use Rattle.std.specs.Prelude.{Option, Some, None, Result, Ok, Err}
 use Rattle.ec_space.specs.declared.seq.NoMemory.{NoMemory}
 use Rattle.ec_grammar.specs.declared.token.PragmaKind.{PragmaKind}
 use Rattle.ec_grammar.specs.declared.token.PragmaState.{PragmaState}
@@ -12,7 +13,9 @@ use Rattle.ec_grammar.specs.declared.tree.Conditional.{Conditional}
 use Rattle.ec_grammar.specs.Trees as t
 use Rattle.ec_grammar.specs.Trees.{Leaf}
 use Rattle.ec_grammar.specs.Views.{view_unary, view_conditional}
-use Rattle.ec_reading.specs.Reading.{Fault, syntax, too_deep, first_is, unary_of, Inner, within, opened_at, expression_by, assignment_by, conditional_by, cast_by, unary_by, initialiser_by, declaration_by, statement_by, compound_by}
+use Rattle.ec_reading.specs.Reading.{Fault, syntax, too_deep, first_is, unary_of, Inner, within, opened_at}
+use Rattle.ec_reading.specs.Reading.{expression_by, assignment_by, conditional_by, cast_by, unary_by, initialiser_by}
+use Rattle.ec_reading.specs.Reading.{declaration_by, statement_by, compound_by}
 use Rattle.ec_reading.specs.Reading as reading
 use Rattle.ec_parse.specs.declared.stop.Stop.{Stop}
 use Rattle.ec_parse.specs.declared.stop.Stop.TheVariants as stops
@@ -22,7 +25,9 @@ use Rattle.ec_parse.specs.declared.tokens.Keyword.TheVariants as keywords
 -- the leaves that the last tokens of a list of so many are
 abbrev pub leaves_of : ℕ → List Token → List Leaf
 leaves_of count [] = []
-leaves_of count (x ∷ xs) = record { spot = record { index = count - suc (length xs); at = x.at }; lexeme = view_kind x.kind } ∷ leaves_of count xs
+leaves_of count (x ∷ xs) =
+    record { spot = record { index = count - suc (length xs); at = x.at }; lexeme = view_kind x.kind }
+    ∷ leaves_of count xs
 
 -- ---- answers
 
@@ -156,7 +161,8 @@ IsFault (stops.TooDeep n) f = f ≡ too_deep n
 -- The same inside one that the first token opens, where it can begin one.
 abbrev pub BeginsIf : Bool → ℕ → Result ℕ Stop → List Leaf → Type 0
 BeginsIf starts left (Ok n) ts = (opened_at 64 left ≡ Some (inner_at n)) × (suc n ≡ left)
-BeginsIf starts left (Err e) ts = (opened_at 64 left ≡ None) × IsFault e (cond starts (too_deep (length ts)) (syntax (length ts)))
+BeginsIf starts left (Err e) ts =
+    (opened_at 64 left ≡ None) × IsFault e (cond starts (too_deep (length ts)) (syntax (length ts)))
 
 abbrev pub Begins : (Lexeme → Bool) → ℕ → Result ℕ Stop → List Leaf → Type 0
 Begins starts left result ts = BeginsIf (first_is starts ts) left result ts

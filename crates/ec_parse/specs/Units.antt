@@ -22,4 +22,6 @@ IsHead s d (Err again) parts = (parts ≡ None) × (view_specs again.0 ≡ s) ×
 
 -- the function of these parts whose body begins here
 abbrev pub function_by : Depth → HeadParts → List Leaf → Read t.External
-function_by inner f ts = begun is_brace inner ts (λ i. i.compound i.limit ts >>= λ b. Ok (t.function_item (t.function f.0 f.1 f.2 f.3 f.4 b.0), b.1))
+function_by inner f ts =
+    begun is_brace inner ts (λ i. i.compound i.limit ts >>= λ b.
+    Ok (t.function_item (t.function f.0 f.1 f.2 f.3 f.4 b.0), b.1))

@@ -4,12 +4,22 @@
 
 ghost use Rattle.std.specs.Prelude.{◌≡◌, ◌<◌, ◌≤◌, map, max, Ok, IfOk};
 ghost use Rattle.ec_grammar.specs.Grammar.{is_void, lone_void};
-ghost use Rattle.ec_grammar.specs.Nesting.{height_list, height_option, height_shape, height_declarator, height_initialiser, height_initialisers, height_start, height_init_declarator, height_next_init_declarator, height_declaration};
+ghost use Rattle.ec_grammar.specs.Nesting.{height_list, height_option, height_shape, height_declarator};
+ghost use Rattle.ec_grammar.specs.Nesting.{height_initialiser, height_initialisers, height_start};
+ghost use Rattle.ec_grammar.specs.Nesting.{height_init_declarator, height_next_init_declarator, height_declaration};
 ghost use Rattle.ec_grammar.specs.Trees.{next_param, next_init_declarator, next_declarator};
-ghost use Rattle.ec_grammar.specs.Views.{view_option, view_identifier, view_specs, view_type_name, view_param, view_next_param, view_params, view_shape, view_declarator, view_initialiser, views_initialisers, view_start, view_init_declarator, view_next_init_declarator, view_declaration, view_next_declarator, view_member};
-ghost use Rattle.ec_reading.specs.Reading.{within, many, behind_comma, name_at, param_by, params_by, array_by, shape_by, declarator_by, initialisers_of, initialiser_at, comma_at, braces_by, initialiser_by, start_by, init_declarator_by, declared_by, declaration_by, members_by, members_at};
+ghost use Rattle.ec_grammar.specs.Views.{view_option, view_identifier, view_specs, view_type_name, view_param};
+ghost use Rattle.ec_grammar.specs.Views.{view_next_param, view_params, view_shape, view_declarator, view_initialiser};
+ghost use Rattle.ec_grammar.specs.Views.{views_initialisers, view_start, view_init_declarator};
+ghost use Rattle.ec_grammar.specs.Views.{view_next_init_declarator, view_declaration, view_next_declarator};
+ghost use Rattle.ec_grammar.specs.Views.{view_member};
+ghost use Rattle.ec_reading.specs.Reading.{within, many, behind_comma, name_at, param_by, params_by, array_by};
+ghost use Rattle.ec_reading.specs.Reading.{shape_by, declarator_by, initialisers_of, initialiser_at, comma_at};
+ghost use Rattle.ec_reading.specs.Reading.{braces_by, initialiser_by, start_by, init_declarator_by, declared_by};
+ghost use Rattle.ec_reading.specs.Reading.{declaration_by, members_by, members_at};
 ghost use Rattle.ec_parse.specs.Parts.{is_void_spec, view_next_initialiser, braces_after};
-ghost use Rattle.ec_parse.specs.Reads.{leaves_of, inner_at, Gives, GivesAt, IfThere, Reads, ReadsAt, IsHeight, IsNodeHeight};
+ghost use Rattle.ec_parse.specs.Reads.{leaves_of, inner_at, Gives, GivesAt, IfThere, Reads, ReadsAt, IsHeight};
+ghost use Rattle.ec_parse.specs.Reads.{IsNodeHeight};
 
 use crate::depth::{LIMIT, ended, higher, opened};
 use crate::expressions::{assignment, conditional};
@@ -28,7 +38,8 @@ use ec_grammar::{PunctKind, Token, WordKind};
 // Parameters.
 
 fn name(source: Source, tokens: &[Token]) -> Result<(Option<Identifier>, &[Token]), Stop>
-    ensures { Gives (λ x. (view_option view_identifier x.0, leaves_of source.count x.1.now)) result (name_at (leaves_of source.count tokens.now)) }
+    ensures { Gives (λ x. (view_option view_identifier x.0, leaves_of source.count x.1.now)) result
+        (name_at (leaves_of source.count tokens.now)) }
 {
     match take_name(source, tokens)? {
         Some((name, rest)) => Ok((Some(name), rest)),
@@ -61,7 +72,8 @@ fn is_lone_void(ty: &TypeName, name: &Option<Identifier>) -> bool
 
 #[tactic(auto, unfolding(ec_reading::specs::Reading::param_by))]
 fn param(source: Source, tokens: &[Token]) -> Result<(Param, &[Token]), Stop>
-    ensures { Gives (λ x. (view_param x.0, leaves_of source.count x.1.now)) result (param_by (leaves_of source.count tokens.now)) }
+    ensures { Gives (λ x. (view_param x.0, leaves_of source.count x.1.now)) result
+        (param_by (leaves_of source.count tokens.now)) }
 {
     let (ty, rest) = type_name(source, tokens)?;
     let (name, rest) = name(source, rest)?;
@@ -72,7 +84,8 @@ fn param(source: Source, tokens: &[Token]) -> Result<(Param, &[Token]), Stop>
 }
 
 fn another_param(source: Source, tokens: &[Token]) -> Result<Option<(NextParam, &[Token])>, Stop>
-    ensures { GivesAt (λ x. (view_next_param x.0, leaves_of source.count x.1.now)) result (behind_comma next_param param_by (leaves_of source.count tokens.now)) }
+    ensures { GivesAt (λ x. (view_next_param x.0, leaves_of source.count x.1.now)) result
+        (behind_comma next_param param_by (leaves_of source.count tokens.now)) }
 {
     let Some((comma, rest)) = take(source, tokens, PunctKind::Comma) else {
         return Ok(None);
@@ -83,7 +96,8 @@ fn another_param(source: Source, tokens: &[Token]) -> Result<Option<(NextParam, 
 
 #[tactic(auto, using(crate::proofs::Many::loops))]
 fn more_params(source: Source, tokens: &[Token]) -> Result<(Vec<NextParam>, &[Token]), Stop>
-    ensures { Gives (λ x. (map view_next_param x.0.items, leaves_of source.count x.1.now)) result (many (behind_comma next_param param_by) (leaves_of source.count tokens.now)) }
+    ensures { Gives (λ x. (map view_next_param x.0.items, leaves_of source.count x.1.now)) result
+        (many (behind_comma next_param param_by) (leaves_of source.count tokens.now)) }
 {
     let mut all = Vec::new(source.alloc);
     let mut rest = tokens;
@@ -100,7 +114,8 @@ fn more_params(source: Source, tokens: &[Token]) -> Result<(Vec<NextParam>, &[To
 /// The parameters of a function (6.7.5.3).
 #[tactic(auto, unfolding(ec_reading::specs::Reading::params_by))]
 fn params(source: Source, tokens: &[Token]) -> Result<(Params, &[Token]), Stop>
-    ensures { Gives (λ x. (view_params x.0, leaves_of source.count x.1.now)) result (params_by (leaves_of source.count tokens.now)) }
+    ensures { Gives (λ x. (view_params x.0, leaves_of source.count x.1.now)) result
+        (params_by (leaves_of source.count tokens.now)) }
 {
     if let Some((word, rest)) = take_void(source, tokens) {
         return Ok((Params::Void(word), rest));
@@ -119,7 +134,8 @@ fn array(
     opening: Spot,
     tokens: &[Token],
 ) -> Result<(Shape, u8, &[Token]), Stop>
-    ensures read { Gives (λ x. (view_shape x.0, leaves_of source.count x.2.now)) result (array_by (inner_at left) opening (leaves_of source.count tokens.now)) }
+    ensures read { Gives (λ x. (view_shape x.0, leaves_of source.count x.2.now)) result
+        (array_by (inner_at left) opening (leaves_of source.count tokens.now)) }
     ensures height { IfOk result (λ x. x.1 ≡ height_shape (view_shape x.0)) }
     ensures within { IfOk result (λ x. x.1 ≤ 64) }
 {
@@ -133,7 +149,8 @@ fn array(
 
 #[tactic(auto, unfolding(ec_reading::specs::Reading::shape_by))]
 fn shape(source: Source, left: u8, tokens: &[Token]) -> Result<(Shape, u8, &[Token]), Stop>
-    ensures read { Gives (λ x. (view_shape x.0, leaves_of source.count x.2.now)) result (shape_by (within 64 left) (leaves_of source.count tokens.now)) }
+    ensures read { Gives (λ x. (view_shape x.0, leaves_of source.count x.2.now)) result
+        (shape_by (within 64 left) (leaves_of source.count tokens.now)) }
     ensures height { IfOk result (λ x. x.1 ≡ height_shape (view_shape x.0)) }
     ensures within { IfOk result (λ x. x.1 ≤ 64) }
 {
@@ -157,7 +174,8 @@ pub fn declarator(
     left: u8,
     tokens: &[Token],
 ) -> Result<(Declarator, u8, &[Token]), Stop>
-    ensures read { Gives (λ x. (view_declarator x.0, leaves_of source.count x.2.now)) result (declarator_by (within 64 left) (leaves_of source.count tokens.now)) }
+    ensures read { Gives (λ x. (view_declarator x.0, leaves_of source.count x.2.now)) result
+        (declarator_by (within 64 left) (leaves_of source.count tokens.now)) }
     ensures height { IfOk result (λ x. x.1 ≡ height_declarator (view_declarator x.0)) }
     ensures within { IfOk result (λ x. x.1 ≤ 64) }
 {
@@ -176,7 +194,9 @@ fn another_initialiser(
     left: u8,
     tokens: &[Token],
 ) -> Result<Option<(NextInitialiser, u8, &[Token])>, Stop>
-    ensures { ReadsAt (λ x. (view_next_initialiser x.0, leaves_of source.count x.2.now)) (λ x. IsHeight 64 (height_initialiser (view_initialiser x.0.value)) x.1) result (initialiser_at (inner_at left) (leaves_of source.count tokens.now)) }
+    ensures { ReadsAt (λ x. (view_next_initialiser x.0, leaves_of source.count x.2.now))
+        (λ x. IsHeight 64 (height_initialiser (view_initialiser x.0.value)) x.1) result
+        (initialiser_at (inner_at left) (leaves_of source.count tokens.now)) }
 {
     let Some((comma, rest)) = take(source, tokens, PunctKind::Comma) else {
         return Ok(None);
@@ -195,7 +215,9 @@ fn more_initialisers(
     left: u8,
     tokens: &[Token],
 ) -> Result<(Vec<NextInitialiser>, u8, &[Token]), Stop>
-    ensures { Reads (λ x. (map view_next_initialiser x.0.items, leaves_of source.count x.2.now)) (λ x. IsHeight 64 (height_initialisers (initialisers_of (map view_next_initialiser x.0.items))) x.1) result (many (initialiser_at (inner_at left)) (leaves_of source.count tokens.now)) }
+    ensures { Reads (λ x. (map view_next_initialiser x.0.items, leaves_of source.count x.2.now))
+        (λ x. IsHeight 64 (height_initialisers (initialisers_of (map view_next_initialiser x.0.items))) x.1) result
+        (many (initialiser_at (inner_at left)) (leaves_of source.count tokens.now)) }
 {
     let mut all = Vec::new(source.alloc);
     let mut height = 0;
@@ -232,8 +254,12 @@ fn braces_end(
     below: u8,
     tokens: &[Token],
 ) -> Result<(Initialiser, u8, &[Token]), Stop>
-    requires { IsHeight 64 (max (height_initialiser (view_initialiser first)) (height_initialisers (initialisers_of (map view_next_initialiser more.items)))) below }
-    ensures { Reads (λ x. (view_initialiser x.0, leaves_of source.count x.2.now)) (λ x. IsNodeHeight room (height_initialiser (view_initialiser x.0)) x.1) result (braces_after room opening (view_initialiser first) (initialisers_of (map view_next_initialiser more.items)) (leaves_of source.count tokens.now)) }
+    requires { IsHeight 64 (max (height_initialiser (view_initialiser first))
+        (height_initialisers (initialisers_of (map view_next_initialiser more.items)))) below }
+    ensures { Reads (λ x. (view_initialiser x.0, leaves_of source.count x.2.now))
+        (λ x. IsNodeHeight room (height_initialiser (view_initialiser x.0)) x.1) result
+        (braces_after room opening (view_initialiser first) (initialisers_of (map view_next_initialiser more.items))
+        (leaves_of source.count tokens.now)) }
 {
     let (comma, rest) = comma(source, tokens);
     let (closing, rest) = expect(source, rest, PunctKind::RightBrace)?;
@@ -253,7 +279,9 @@ fn braces(
     tokens: &[Token],
 ) -> Result<(Initialiser, u8, &[Token]), Stop>
     requires { room ≤ 64 }
-    ensures { Reads (λ x. (view_initialiser x.0, leaves_of source.count x.2.now)) (λ x. IsNodeHeight room (height_initialiser (view_initialiser x.0)) x.1) result (braces_by (inner_at left) room opening (leaves_of source.count tokens.now)) }
+    ensures { Reads (λ x. (view_initialiser x.0, leaves_of source.count x.2.now))
+        (λ x. IsNodeHeight room (height_initialiser (view_initialiser x.0)) x.1) result
+        (braces_by (inner_at left) room opening (leaves_of source.count tokens.now)) }
 {
     let (first, height, rest) = initialiser(source, left, LIMIT, tokens)?;
     let (more, more_height, rest) = more_initialisers(source, left, rest)?;
@@ -271,7 +299,9 @@ fn initialiser(
     tokens: &[Token],
 ) -> Result<(Initialiser, u8, &[Token]), Stop>
     requires { room ≤ 64 }
-    ensures { Reads (λ x. (view_initialiser x.0, leaves_of source.count x.2.now)) (λ x. IsNodeHeight room (height_initialiser (view_initialiser x.0)) x.1) result (initialiser_by (within 64 left) room (leaves_of source.count tokens.now)) }
+    ensures { Reads (λ x. (view_initialiser x.0, leaves_of source.count x.2.now))
+        (λ x. IsNodeHeight room (height_initialiser (view_initialiser x.0)) x.1) result
+        (initialiser_by (within 64 left) room (leaves_of source.count tokens.now)) }
 {
     if let Some((opening, rest)) = take(source, tokens, PunctKind::LeftBrace) {
         let left = opened(source, left, rest)?;
@@ -283,7 +313,8 @@ fn initialiser(
 
 #[tactic(auto, unfolding(ec_reading::specs::Reading::start_by))]
 fn start(source: Source, left: u8, tokens: &[Token]) -> Result<(Option<Start>, u8, &[Token]), Stop>
-    ensures read { Gives (λ x. (view_option view_start x.0, leaves_of source.count x.2.now)) result (start_by (within 64 left) (leaves_of source.count tokens.now)) }
+    ensures read { Gives (λ x. (view_option view_start x.0, leaves_of source.count x.2.now)) result
+        (start_by (within 64 left) (leaves_of source.count tokens.now)) }
     ensures height { IfOk result (λ x. x.1 ≡ height_option height_start (view_option view_start x.0)) }
     ensures within { IfOk result (λ x. x.1 ≤ 64) }
 {
@@ -302,7 +333,8 @@ fn init_declarator(
     left: u8,
     tokens: &[Token],
 ) -> Result<(InitDeclarator, u8, &[Token]), Stop>
-    ensures read { Gives (λ x. (view_init_declarator x.0, leaves_of source.count x.2.now)) result (init_declarator_by (within 64 left) (leaves_of source.count tokens.now)) }
+    ensures read { Gives (λ x. (view_init_declarator x.0, leaves_of source.count x.2.now)) result
+        (init_declarator_by (within 64 left) (leaves_of source.count tokens.now)) }
     ensures height { IfOk result (λ x. x.1 ≡ height_init_declarator (view_init_declarator x.0)) }
     ensures within { IfOk result (λ x. x.1 ≤ 64) }
 {
@@ -317,7 +349,8 @@ fn another_init_declarator(
     left: u8,
     tokens: &[Token],
 ) -> Result<Option<(NextInitDeclarator, u8, &[Token])>, Stop>
-    ensures read { GivesAt (λ x. (view_next_init_declarator x.0, leaves_of source.count x.2.now)) result (behind_comma next_init_declarator (init_declarator_by (within 64 left)) (leaves_of source.count tokens.now)) }
+    ensures read { GivesAt (λ x. (view_next_init_declarator x.0, leaves_of source.count x.2.now)) result
+        (behind_comma next_init_declarator (init_declarator_by (within 64 left)) (leaves_of source.count tokens.now)) }
     ensures height { IfThere result (λ x. x.1 ≡ height_next_init_declarator (view_next_init_declarator x.0)) }
     ensures within { IfThere result (λ x. x.1 ≤ 64) }
 {
@@ -333,8 +366,11 @@ fn more_init_declarators(
     left: u8,
     tokens: &[Token],
 ) -> Result<(Vec<NextInitDeclarator>, u8, &[Token]), Stop>
-    ensures read { Gives (λ x. (map view_next_init_declarator x.0.items, leaves_of source.count x.2.now)) result (many (behind_comma next_init_declarator (init_declarator_by (within 64 left))) (leaves_of source.count tokens.now)) }
-    ensures height { IfOk result (λ x. x.1 ≡ height_list height_next_init_declarator (map view_next_init_declarator x.0.items)) }
+    ensures read { Gives (λ x. (map view_next_init_declarator x.0.items, leaves_of source.count x.2.now)) result
+        (many (behind_comma next_init_declarator (init_declarator_by (within 64 left)))
+        (leaves_of source.count tokens.now)) }
+    ensures height { IfOk result (λ x. x.1
+        ≡ height_list height_next_init_declarator (map view_next_init_declarator x.0.items)) }
     ensures within { IfOk result (λ x. x.1 ≤ 64) }
 {
     let mut all = Vec::new(source.alloc);
@@ -363,7 +399,9 @@ pub fn declared(
 ) -> Result<(Declaration, u8, &[Token]), Stop>
     requires height { declarator_height ≡ height_declarator (view_declarator declarator) }
     requires within { declarator_height ≤ 64 }
-    ensures read { Gives (λ x. (view_declaration x.0, leaves_of source.count x.2.now)) result (declared_by (within 64 left) (view_specs specs) (view_declarator declarator) (leaves_of source.count tokens.now)) }
+    ensures read { Gives (λ x. (view_declaration x.0, leaves_of source.count x.2.now)) result
+        (declared_by (within 64 left) (view_specs specs) (view_declarator declarator)
+        (leaves_of source.count tokens.now)) }
     ensures height { IfOk result (λ x. x.1 ≡ height_declaration (view_declaration x.0)) }
     ensures within { IfOk result (λ x. x.1 ≤ 64) }
 {
@@ -388,7 +426,8 @@ pub fn declaration(
     left: u8,
     tokens: &[Token],
 ) -> Result<(Declaration, u8, &[Token]), Stop>
-    ensures read { Gives (λ x. (view_declaration x.0, leaves_of source.count x.2.now)) result (declaration_by (within 64 left) (leaves_of source.count tokens.now)) }
+    ensures read { Gives (λ x. (view_declaration x.0, leaves_of source.count x.2.now)) result
+        (declaration_by (within 64 left) (leaves_of source.count tokens.now)) }
     ensures height { IfOk result (λ x. x.1 ≡ height_declaration (view_declaration x.0)) }
     ensures within { IfOk result (λ x. x.1 ≤ 64) }
 {
@@ -404,7 +443,8 @@ fn another_declarator(
     left: u8,
     tokens: &[Token],
 ) -> Result<Option<(NextDeclarator, &[Token])>, Stop>
-    ensures { GivesAt (λ x. (view_next_declarator x.0, leaves_of source.count x.1.now)) result (behind_comma next_declarator (declarator_by (within 64 left)) (leaves_of source.count tokens.now)) }
+    ensures { GivesAt (λ x. (view_next_declarator x.0, leaves_of source.count x.1.now)) result
+        (behind_comma next_declarator (declarator_by (within 64 left)) (leaves_of source.count tokens.now)) }
 {
     let Some((comma, rest)) = take(source, tokens, PunctKind::Comma) else {
         return Ok(None);
@@ -419,7 +459,8 @@ fn more_declarators(
     left: u8,
     tokens: &[Token],
 ) -> Result<(Vec<NextDeclarator>, &[Token]), Stop>
-    ensures { Gives (λ x. (map view_next_declarator x.0.items, leaves_of source.count x.1.now)) result (many (behind_comma next_declarator (declarator_by (within 64 left))) (leaves_of source.count tokens.now)) }
+    ensures { Gives (λ x. (map view_next_declarator x.0.items, leaves_of source.count x.1.now)) result
+        (many (behind_comma next_declarator (declarator_by (within 64 left))) (leaves_of source.count tokens.now)) }
 {
     let mut all = Vec::new(source.alloc);
     let mut rest = tokens;
@@ -436,7 +477,8 @@ fn more_declarators(
 /// A declaration of members of a struct (6.7.2.1).
 #[tactic(auto, unfolding(ec_reading::specs::Reading::members_by))]
 pub fn member(source: Source, left: u8, tokens: &[Token]) -> Result<(Member, &[Token]), Stop>
-    ensures { Gives (λ x. (view_member x.0, leaves_of source.count x.1.now)) result (members_by (within 64 left) (leaves_of source.count tokens.now)) }
+    ensures { Gives (λ x. (view_member x.0, leaves_of source.count x.1.now)) result
+        (members_by (within 64 left) (leaves_of source.count tokens.now)) }
 {
     let (specs, rest) = specs(source, tokens)?;
     let (first, _, rest) = declarator(source, left, rest)?;
@@ -457,7 +499,8 @@ fn another_member(
     left: u8,
     tokens: &[Token],
 ) -> Result<Option<(Member, &[Token])>, Stop>
-    ensures { GivesAt (λ x. (view_member x.0, leaves_of source.count x.1.now)) result (members_at (within 64 left) (leaves_of source.count tokens.now)) }
+    ensures { GivesAt (λ x. (view_member x.0, leaves_of source.count x.1.now)) result
+        (members_at (within 64 left) (leaves_of source.count tokens.now)) }
 {
     if !begins_specs(source, tokens) {
         return Ok(None);
@@ -473,7 +516,8 @@ pub fn more_members(
     left: u8,
     tokens: &[Token],
 ) -> Result<(Vec<Member>, &[Token]), Stop>
-    ensures { Gives (λ x. (map view_member x.0.items, leaves_of source.count x.1.now)) result (many (members_at (within 64 left)) (leaves_of source.count tokens.now)) }
+    ensures { Gives (λ x. (map view_member x.0.items, leaves_of source.count x.1.now)) result
+        (many (members_at (within 64 left)) (leaves_of source.count tokens.now)) }
 {
     let mut all = Vec::new(source.alloc);
     let mut rest = tokens;

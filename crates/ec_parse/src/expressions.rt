@@ -4,12 +4,22 @@
 //! opened, and its `room` what height the nodes around, as far as they may end with this one, leave to it.
 
 ghost use Rattle.std.specs.Prelude.{◌≡◌, ◌-◌, ◌<◌, ◌≤◌, suc, max, map, Ok};
-ghost use Rattle.ec_grammar.specs.Nesting.{height_expression, height_assignment, height_conditional, height_binary, height_cast, height_unary, height_postfix, height_arguments, height_further, height_primary};
+ghost use Rattle.ec_grammar.specs.Nesting.{height_expression, height_assignment, height_conditional, height_binary};
+ghost use Rattle.ec_grammar.specs.Nesting.{height_cast, height_unary, height_postfix, height_arguments, height_further};
+ghost use Rattle.ec_grammar.specs.Nesting.{height_primary};
 ghost use Rattle.ec_grammar.specs.Trees as t;
-ghost use Rattle.ec_grammar.specs.Views.{view_expression, view_assignment, view_conditional, view_binary, view_cast, view_unary, view_postfix, view_arguments, view_primary, view_identifier, view_type_name};
-ghost use Rattle.ec_reading.specs.Reading.{within, ends, argument_at, further_by, further_of, arguments_by, operation_by, primary_by, index_by, call_by, member_by, suffix_by, suffixes_by, postfix_by, size_by, unary_by, cast_by, joins_by, binary_by, choice_by, conditional_by, assigned_by, assignment_by, commas_by, expression_by};
-ghost use Rattle.ec_parse.specs.Reads.{leaves_of, inner_at, made, Reads, ReadsAt, Builds, IsHeight, IsNodeHeight, IsBehind, HasRoom, HasRoomAbove, Parts};
-ghost use Rattle.ec_parse.specs.Parts.{view_argument, operation_after, parenthesised_after, atom_by, index_after, call_after};
+ghost use Rattle.ec_grammar.specs.Views.{view_expression, view_assignment, view_conditional, view_binary, view_cast};
+ghost use Rattle.ec_grammar.specs.Views.{view_unary, view_postfix, view_arguments, view_primary, view_identifier};
+ghost use Rattle.ec_grammar.specs.Views.{view_type_name};
+ghost use Rattle.ec_reading.specs.Reading.{within, ends, argument_at, further_by, further_of, arguments_by};
+ghost use Rattle.ec_reading.specs.Reading.{operation_by, primary_by, index_by, call_by, member_by, suffix_by};
+ghost use Rattle.ec_reading.specs.Reading.{suffixes_by, postfix_by, size_by, unary_by, cast_by, joins_by, binary_by};
+ghost use Rattle.ec_reading.specs.Reading.{choice_by, conditional_by, assigned_by, assignment_by, commas_by};
+ghost use Rattle.ec_reading.specs.Reading.{expression_by};
+ghost use Rattle.ec_parse.specs.Reads.{leaves_of, inner_at, made, Reads, ReadsAt, Builds, IsHeight, IsNodeHeight};
+ghost use Rattle.ec_parse.specs.Reads.{IsBehind, HasRoom, HasRoomAbove, Parts};
+ghost use Rattle.ec_parse.specs.Parts.{view_argument, operation_after, parenthesised_after, atom_by, index_after};
+ghost use Rattle.ec_parse.specs.Parts.{call_after};
 
 use crate::depth::{CHAIN, LIMIT, begun_expression, ended, higher, opened, room_behind, too_long};
 use crate::stop::Stop;
@@ -32,7 +42,9 @@ fn argument(
     left: u8,
     tokens: &[Token],
 ) -> Result<Option<(Argument, u8, &[Token])>, Stop>
-    ensures { ReadsAt (λ x. (view_argument x.0, leaves_of source.count x.2.now)) (λ x. IsHeight 64 (height_assignment (view_assignment x.0.value)) x.1) result (argument_at (inner_at left) (leaves_of source.count tokens.now)) }
+    ensures { ReadsAt (λ x. (view_argument x.0, leaves_of source.count x.2.now))
+        (λ x. IsHeight 64 (height_assignment (view_assignment x.0.value)) x.1) result
+        (argument_at (inner_at left) (leaves_of source.count tokens.now)) }
 {
     let Some((comma, rest)) = take(source, tokens, PunctKind::Comma) else {
         return Ok(None);
@@ -49,7 +61,9 @@ fn further(
     left: u8,
     tokens: &[Token],
 ) -> Result<(Vec<Argument>, u8, &[Token]), Stop>
-    ensures { Reads (λ x. (further_of (map view_argument x.0.items), leaves_of source.count x.2.now)) (λ x. IsHeight 64 (height_further (further_of (map view_argument x.0.items))) x.1) result (further_by (inner_at left) (leaves_of source.count tokens.now)) }
+    ensures { Reads (λ x. (further_of (map view_argument x.0.items), leaves_of source.count x.2.now))
+        (λ x. IsHeight 64 (height_further (further_of (map view_argument x.0.items))) x.1) result
+        (further_by (inner_at left) (leaves_of source.count tokens.now)) }
 {
     let mut all = Vec::new(source.alloc);
     let mut height = 0;
@@ -74,7 +88,9 @@ fn some_arguments(first: Assignment, more: Vec<Argument>) -> Arguments
 #[cycle(expressions)]
 #[tactic(auto, unfolding(ec_reading::specs::Reading::arguments_by))]
 fn arguments(source: Source, left: u8, tokens: &[Token]) -> Result<(Arguments, u8, &[Token]), Stop>
-    ensures { Reads (λ x. (view_arguments x.0, leaves_of source.count x.2.now)) (λ x. IsHeight 64 (height_arguments (view_arguments x.0)) x.1) result (arguments_by (inner_at left) (leaves_of source.count tokens.now)) }
+    ensures { Reads (λ x. (view_arguments x.0, leaves_of source.count x.2.now))
+        (λ x. IsHeight 64 (height_arguments (view_arguments x.0)) x.1) result
+        (arguments_by (inner_at left) (leaves_of source.count tokens.now)) }
 {
     if take(source, tokens, PunctKind::RightParenthesis).is_some() {
         return Ok((Arguments::None, 0, tokens));
@@ -99,7 +115,10 @@ fn operation_end(
     tokens: &[Token],
 ) -> Result<(Primary, u8, &[Token]), Stop>
     requires { IsHeight 64 (height_further (further_of (map view_argument more.items))) below }
-    ensures { Reads (λ x. (view_primary x.0, leaves_of source.count x.2.now)) (λ x. IsNodeHeight room (height_primary (view_primary x.0)) x.1) result (operation_after room spot op opening (view_identifier port) (further_of (map view_argument more.items)) (leaves_of source.count tokens.now)) }
+    ensures { Reads (λ x. (view_primary x.0, leaves_of source.count x.2.now))
+        (λ x. IsNodeHeight room (height_primary (view_primary x.0)) x.1) result
+        (operation_after room spot op opening (view_identifier port) (further_of (map view_argument more.items))
+        (leaves_of source.count tokens.now)) }
 {
     let (closing, rest) = expect(source, tokens, PunctKind::RightParenthesis)?;
     let height = ended(source, room, below, rest)?;
@@ -118,7 +137,9 @@ fn operation(
     tokens: &[Token],
 ) -> Result<(Primary, u8, &[Token]), Stop>
     requires { room ≤ 64 }
-    ensures { Reads (λ x. (view_primary x.0, leaves_of source.count x.2.now)) (λ x. IsNodeHeight room (height_primary (view_primary x.0)) x.1) result (operation_by (within 64 left) room spot op (leaves_of source.count tokens.now)) }
+    ensures { Reads (λ x. (view_primary x.0, leaves_of source.count x.2.now))
+        (λ x. IsNodeHeight room (height_primary (view_primary x.0)) x.1) result
+        (operation_by (within 64 left) room spot op (leaves_of source.count tokens.now)) }
 {
     let (opening, rest) = expect(source, tokens, PunctKind::LeftParenthesis)?;
     let left = opened(source, left, rest)?;
@@ -137,7 +158,9 @@ fn parenthesised(
     tokens: &[Token],
 ) -> Result<(Primary, u8, &[Token]), Stop>
     requires { IsHeight 64 (height_expression (view_expression inner)) below }
-    ensures { Reads (λ x. (view_primary x.0, leaves_of source.count x.2.now)) (λ x. IsNodeHeight room (height_primary (view_primary x.0)) x.1) result (parenthesised_after room opening (view_expression inner) (leaves_of source.count tokens.now)) }
+    ensures { Reads (λ x. (view_primary x.0, leaves_of source.count x.2.now))
+        (λ x. IsNodeHeight room (height_primary (view_primary x.0)) x.1) result
+        (parenthesised_after room opening (view_expression inner) (leaves_of source.count tokens.now)) }
 {
     let (closing, rest) = expect(source, tokens, PunctKind::RightParenthesis)?;
     let height = ended(source, room, below, rest)?;
@@ -148,7 +171,9 @@ fn parenthesised(
 
 /// A constant or a name.
 fn atom(source: Source, room: u8, tokens: &[Token]) -> Result<(Primary, u8, &[Token]), Stop>
-    ensures { Reads (λ x. (view_primary x.0, leaves_of source.count x.2.now)) (λ x. IsNodeHeight room (height_primary (view_primary x.0)) x.1) result (atom_by room (leaves_of source.count tokens.now)) }
+    ensures { Reads (λ x. (view_primary x.0, leaves_of source.count x.2.now))
+        (λ x. IsNodeHeight room (height_primary (view_primary x.0)) x.1) result
+        (atom_by room (leaves_of source.count tokens.now)) }
 {
     if let Some((spot, constant, rest)) = take_constant(source, tokens) {
         let height = ended(source, room, 0, rest)?;
@@ -170,7 +195,9 @@ fn primary(
     tokens: &[Token],
 ) -> Result<(Primary, u8, &[Token]), Stop>
     requires { room ≤ 64 }
-    ensures { Reads (λ x. (view_primary x.0, leaves_of source.count x.2.now)) (λ x. IsNodeHeight room (height_primary (view_primary x.0)) x.1) result (primary_by (within 64 left) room (leaves_of source.count tokens.now)) }
+    ensures { Reads (λ x. (view_primary x.0, leaves_of source.count x.2.now))
+        (λ x. IsNodeHeight room (height_primary (view_primary x.0)) x.1) result
+        (primary_by (within 64 left) room (leaves_of source.count tokens.now)) }
 {
     if let Some((opening, rest)) = take(source, tokens, PunctKind::LeftParenthesis) {
         let left = opened(source, left, rest)?;
@@ -196,8 +223,11 @@ fn index_end(
     index_height: u8,
     tokens: &[Token],
 ) -> Result<(Postfix, u8, &[Token]), Stop>
-    requires { IsBehind room (height_postfix (view_postfix array)) array_height × IsHeight 64 (height_expression (view_expression index)) index_height }
-    ensures { Reads (λ x. (view_postfix x.0, leaves_of source.count x.2.now)) (λ x. IsNodeHeight room (height_postfix (view_postfix x.0)) x.1) result (index_after room (view_postfix array) opening (view_expression index) (leaves_of source.count tokens.now)) }
+    requires { IsBehind room (height_postfix (view_postfix array)) array_height
+        × IsHeight 64 (height_expression (view_expression index)) index_height }
+    ensures { Reads (λ x. (view_postfix x.0, leaves_of source.count x.2.now))
+        (λ x. IsNodeHeight room (height_postfix (view_postfix x.0)) x.1) result
+        (index_after room (view_postfix array) opening (view_expression index) (leaves_of source.count tokens.now)) }
 {
     let (closing, rest) = expect(source, tokens, PunctKind::RightBracket)?;
     let height = ended(source, room, higher(array_height, index_height), rest)?;
@@ -218,7 +248,9 @@ fn index(
     tokens: &[Token],
 ) -> Result<(Postfix, u8, &[Token]), Stop>
     requires { IsBehind room (height_postfix (view_postfix array)) array_height }
-    ensures { Reads (λ x. (view_postfix x.0, leaves_of source.count x.2.now)) (λ x. IsNodeHeight room (height_postfix (view_postfix x.0)) x.1) result (index_by (within 64 left) room (view_postfix array) opening (leaves_of source.count tokens.now)) }
+    ensures { Reads (λ x. (view_postfix x.0, leaves_of source.count x.2.now))
+        (λ x. IsNodeHeight room (height_postfix (view_postfix x.0)) x.1) result
+        (index_by (within 64 left) room (view_postfix array) opening (leaves_of source.count tokens.now)) }
 {
     let left = opened(source, left, tokens)?;
     let (index, height, rest) = expression(source, left, LIMIT, tokens)?;
@@ -245,8 +277,11 @@ fn call_end(
     given_height: u8,
     tokens: &[Token],
 ) -> Result<(Postfix, u8, &[Token]), Stop>
-    requires { IsBehind room (height_postfix (view_postfix function)) function_height × IsHeight 64 (height_arguments (view_arguments given)) given_height }
-    ensures { Reads (λ x. (view_postfix x.0, leaves_of source.count x.2.now)) (λ x. IsNodeHeight room (height_postfix (view_postfix x.0)) x.1) result (call_after room (view_postfix function) opening (view_arguments given) (leaves_of source.count tokens.now)) }
+    requires { IsBehind room (height_postfix (view_postfix function)) function_height
+        × IsHeight 64 (height_arguments (view_arguments given)) given_height }
+    ensures { Reads (λ x. (view_postfix x.0, leaves_of source.count x.2.now))
+        (λ x. IsNodeHeight room (height_postfix (view_postfix x.0)) x.1) result
+        (call_after room (view_postfix function) opening (view_arguments given) (leaves_of source.count tokens.now)) }
 {
     let (closing, rest) = expect(source, tokens, PunctKind::RightParenthesis)?;
     let height = ended(source, room, higher(function_height, given_height), rest)?;
@@ -268,7 +303,9 @@ fn call(
     tokens: &[Token],
 ) -> Result<(Postfix, u8, &[Token]), Stop>
     requires { IsBehind room (height_postfix (view_postfix function)) function_height }
-    ensures { Reads (λ x. (view_postfix x.0, leaves_of source.count x.2.now)) (λ x. IsNodeHeight room (height_postfix (view_postfix x.0)) x.1) result (call_by (within 64 left) room (view_postfix function) opening (leaves_of source.count tokens.now)) }
+    ensures { Reads (λ x. (view_postfix x.0, leaves_of source.count x.2.now))
+        (λ x. IsNodeHeight room (height_postfix (view_postfix x.0)) x.1) result
+        (call_by (within 64 left) room (view_postfix function) opening (leaves_of source.count tokens.now)) }
 {
     let left = opened(source, left, tokens)?;
     let (given, height, rest) = arguments(source, left, tokens)?;
@@ -295,7 +332,9 @@ fn member(
     tokens: &[Token],
 ) -> Result<(Postfix, u8, &[Token]), Stop>
     requires { IsBehind room (height_postfix (view_postfix object)) object_height }
-    ensures { Reads (λ x. (view_postfix x.0, leaves_of source.count x.2.now)) (λ x. IsNodeHeight room (height_postfix (view_postfix x.0)) x.1) result (member_by room (view_postfix object) spot op (leaves_of source.count tokens.now)) }
+    ensures { Reads (λ x. (view_postfix x.0, leaves_of source.count x.2.now))
+        (λ x. IsNodeHeight room (height_postfix (view_postfix x.0)) x.1) result
+        (member_by room (view_postfix object) spot op (leaves_of source.count tokens.now)) }
 {
     let (name, rest) = expect_name(source, tokens)?;
     let height = ended(source, room, object_height, rest)?;
@@ -313,7 +352,10 @@ fn stepped(
     tokens: &[Token],
 ) -> Result<(Postfix, u8, &[Token]), Stop>
     requires { IsBehind room (height_postfix (view_postfix place)) place_height }
-    ensures { Reads (λ x. (view_postfix x.0, leaves_of source.count x.2.now)) (λ x. IsNodeHeight room (height_postfix (view_postfix x.0)) x.1) result (ends room (suc (height_postfix (view_postfix place))) (t.stepped (view_postfix place) spot op) (leaves_of source.count tokens.now)) }
+    ensures { Reads (λ x. (view_postfix x.0, leaves_of source.count x.2.now))
+        (λ x. IsNodeHeight room (height_postfix (view_postfix x.0)) x.1) result
+        (ends room (suc (height_postfix (view_postfix place))) (t.stepped (view_postfix place) spot op)
+        (leaves_of source.count tokens.now)) }
 {
     let height = ended(source, room, place_height, tokens)?;
     let place = Box::new(source.alloc, place)?;
@@ -333,7 +375,9 @@ fn suffixes(
     tokens: &[Token],
 ) -> Result<(Postfix, u8, &[Token]), Stop>
     requires { IsBehind room (height_postfix (view_postfix first)) first_height }
-    ensures { Reads (λ x. (view_postfix x.0, leaves_of source.count x.2.now)) (λ x. IsNodeHeight room (height_postfix (view_postfix x.0)) x.1) result (suffixes_by (within 64 left) room count (view_postfix first) (leaves_of source.count tokens.now)) }
+    ensures { Reads (λ x. (view_postfix x.0, leaves_of source.count x.2.now))
+        (λ x. IsNodeHeight room (height_postfix (view_postfix x.0)) x.1) result
+        (suffixes_by (within 64 left) room count (view_postfix first) (leaves_of source.count tokens.now)) }
 {
     if count == 0 {
         return Err(too_long(source, tokens));
@@ -366,7 +410,9 @@ fn postfix(
     tokens: &[Token],
 ) -> Result<(Postfix, u8, &[Token]), Stop>
     requires { room ≤ 64 }
-    ensures { Reads (λ x. (view_postfix x.0, leaves_of source.count x.2.now)) (λ x. IsNodeHeight room (height_postfix (view_postfix x.0)) x.1) result (postfix_by (within 64 left) room (leaves_of source.count tokens.now)) }
+    ensures { Reads (λ x. (view_postfix x.0, leaves_of source.count x.2.now))
+        (λ x. IsNodeHeight room (height_postfix (view_postfix x.0)) x.1) result
+        (postfix_by (within 64 left) room (leaves_of source.count tokens.now)) }
 {
     let (first, height, rest) = primary(source, left, room, tokens)?;
     let first = Postfix::Primary(first);
@@ -384,7 +430,9 @@ fn size(
     tokens: &[Token],
 ) -> Result<(Unary, u8, &[Token]), Stop>
     requires { room ≤ 64 }
-    ensures { Reads (λ x. (view_unary x.0, leaves_of source.count x.2.now)) (λ x. IsNodeHeight room (height_unary (view_unary x.0)) x.1) result (size_by (within 64 left) room spot (leaves_of source.count tokens.now)) }
+    ensures { Reads (λ x. (view_unary x.0, leaves_of source.count x.2.now))
+        (λ x. IsNodeHeight room (height_unary (view_unary x.0)) x.1) result
+        (size_by (within 64 left) room spot (leaves_of source.count tokens.now)) }
 {
     let (opening, rest) = expect(source, tokens, PunctKind::LeftParenthesis)?;
     let _ = opened(source, left, rest)?;
@@ -404,7 +452,9 @@ fn prefixed(
     tokens: &[Token],
 ) -> Result<(Unary, u8, &[Token]), Stop>
     requires { HasRoomAbove room (height_cast (view_cast operand)) height }
-    ensures { Reads (λ x. (view_unary x.0, leaves_of source.count x.2.now)) (λ x. IsNodeHeight room (height_unary (view_unary x.0)) x.1) result (made (t.prefix spot op (view_cast operand)) (leaves_of source.count tokens.now)) }
+    ensures { Reads (λ x. (view_unary x.0, leaves_of source.count x.2.now))
+        (λ x. IsNodeHeight room (height_unary (view_unary x.0)) x.1) result
+        (made (t.prefix spot op (view_cast operand)) (leaves_of source.count tokens.now)) }
 {
     let operand = Box::new(source.alloc, operand)?;
     Ok((Unary::Prefix(spot, op, operand), height + 1, tokens))
@@ -420,7 +470,9 @@ fn stepped_first(
     tokens: &[Token],
 ) -> Result<(Unary, u8, &[Token]), Stop>
     requires { HasRoomAbove room (height_unary (view_unary operand)) height }
-    ensures { Reads (λ x. (view_unary x.0, leaves_of source.count x.2.now)) (λ x. IsNodeHeight room (height_unary (view_unary x.0)) x.1) result (made (t.step spot op (view_unary operand)) (leaves_of source.count tokens.now)) }
+    ensures { Reads (λ x. (view_unary x.0, leaves_of source.count x.2.now))
+        (λ x. IsNodeHeight room (height_unary (view_unary x.0)) x.1) result
+        (made (t.step spot op (view_unary operand)) (leaves_of source.count tokens.now)) }
 {
     let operand = Box::new(source.alloc, operand)?;
     Ok((Unary::Step(spot, op, operand), height + 1, tokens))
@@ -435,7 +487,9 @@ fn unary(
     tokens: &[Token],
 ) -> Result<(Unary, u8, &[Token]), Stop>
     requires { room ≤ 64 }
-    ensures { Reads (λ x. (view_unary x.0, leaves_of source.count x.2.now)) (λ x. IsNodeHeight room (height_unary (view_unary x.0)) x.1) result (unary_by (within 64 left) room (leaves_of source.count tokens.now)) }
+    ensures { Reads (λ x. (view_unary x.0, leaves_of source.count x.2.now))
+        (λ x. IsNodeHeight room (height_unary (view_unary x.0)) x.1) result
+        (unary_by (within 64 left) room (leaves_of source.count tokens.now)) }
 {
     if let Some((spot, op, rest)) = take_prefix(source, tokens) {
         let left = opened(source, left, rest)?;
@@ -465,7 +519,9 @@ fn converted(
     tokens: &[Token],
 ) -> Result<(Cast, u8, &[Token]), Stop>
     requires { HasRoomAbove room (height_cast (view_cast operand)) height }
-    ensures { Reads (λ x. (view_cast x.0, leaves_of source.count x.2.now)) (λ x. IsNodeHeight room (height_cast (view_cast x.0)) x.1) result (made (t.convert opening (view_type_name ty) closing (view_cast operand)) (leaves_of source.count tokens.now)) }
+    ensures { Reads (λ x. (view_cast x.0, leaves_of source.count x.2.now))
+        (λ x. IsNodeHeight room (height_cast (view_cast x.0)) x.1) result
+        (made (t.convert opening (view_type_name ty) closing (view_cast operand)) (leaves_of source.count tokens.now)) }
 {
     let operand = Box::new(source.alloc, operand)?;
     let tree = Cast::Convert(opening, ty, closing, operand);
@@ -476,7 +532,9 @@ fn converted(
 #[tactic(auto, unfolding(ec_reading::specs::Reading::cast_by))]
 fn cast(source: Source, left: u8, room: u8, tokens: &[Token]) -> Result<(Cast, u8, &[Token]), Stop>
     requires { room ≤ 64 }
-    ensures { Reads (λ x. (view_cast x.0, leaves_of source.count x.2.now)) (λ x. IsNodeHeight room (height_cast (view_cast x.0)) x.1) result (cast_by (within 64 left) room (leaves_of source.count tokens.now)) }
+    ensures { Reads (λ x. (view_cast x.0, leaves_of source.count x.2.now))
+        (λ x. IsNodeHeight room (height_cast (view_cast x.0)) x.1) result
+        (cast_by (within 64 left) room (leaves_of source.count tokens.now)) }
 {
     let Some((opening, rest)) = take_cast(source, tokens) else {
         let (operand, height, rest) = unary(source, left, room, tokens)?;
@@ -501,8 +559,10 @@ fn joined(
     second: Binary,
     second_height: u8,
 ) -> Result<(Binary, u8), Stop>
-    requires { HasRoom room (height_binary (view_binary first)) first_height (height_binary (view_binary second)) second_height }
-    ensures { Builds (λ x. view_binary x.0) (λ x. IsNodeHeight room (height_binary (view_binary x.0)) x.1) result (t.join (view_binary first) spot op (view_binary second)) }
+    requires { HasRoom room (height_binary (view_binary first)) first_height
+        (height_binary (view_binary second)) second_height }
+    ensures { Builds (λ x. view_binary x.0) (λ x. IsNodeHeight room (height_binary (view_binary x.0)) x.1) result
+        (t.join (view_binary first) spot op (view_binary second)) }
 {
     let first = Box::new(source.alloc, first)?;
     let second = Box::new(source.alloc, second)?;
@@ -524,7 +584,10 @@ fn joins(
     tokens: &[Token],
 ) -> Result<(Binary, u8, &[Token]), Stop>
     requires { (0 < level) × IsBehind room (height_binary (view_binary first)) first_height }
-    ensures { Reads (λ x. (view_binary x.0, leaves_of source.count x.2.now)) (λ x. IsNodeHeight room (height_binary (view_binary x.0)) x.1) result (joins_by (binary_by (within 64 left) (level - 1)) level room count (view_binary first) (leaves_of source.count tokens.now)) }
+    ensures { Reads (λ x. (view_binary x.0, leaves_of source.count x.2.now))
+        (λ x. IsNodeHeight room (height_binary (view_binary x.0)) x.1) result
+        (joins_by (binary_by (within 64 left) (level - 1)) level room count (view_binary first)
+        (leaves_of source.count tokens.now)) }
 {
     if count == 0 {
         return Err(too_long(source, tokens));
@@ -558,7 +621,9 @@ fn binary(
     tokens: &[Token],
 ) -> Result<(Binary, u8, &[Token]), Stop>
     requires { room ≤ 64 }
-    ensures { Reads (λ x. (view_binary x.0, leaves_of source.count x.2.now)) (λ x. IsNodeHeight room (height_binary (view_binary x.0)) x.1) result (binary_by (within 64 left) level room (leaves_of source.count tokens.now)) }
+    ensures { Reads (λ x. (view_binary x.0, leaves_of source.count x.2.now))
+        (λ x. IsNodeHeight room (height_binary (view_binary x.0)) x.1) result
+        (binary_by (within 64 left) level room (leaves_of source.count tokens.now)) }
 {
     if level == 0 {
         let (operand, height, rest) = cast(source, left, room, tokens)?;
@@ -582,8 +647,12 @@ fn chosen(
     third_height: u8,
     tokens: &[Token],
 ) -> Result<(Conditional, u8, &[Token]), Stop>
-    requires { HasRoom room (max (height_binary (view_binary test)) (height_expression (view_expression second))) below (height_conditional (view_conditional third)) third_height }
-    ensures { Reads (λ x. (view_conditional x.0, leaves_of source.count x.2.now)) (λ x. IsNodeHeight room (height_conditional (view_conditional x.0)) x.1) result (made (t.choose (view_binary test) question (view_expression second) colon (view_conditional third)) (leaves_of source.count tokens.now)) }
+    requires { HasRoom room (max (height_binary (view_binary test)) (height_expression (view_expression second))) below
+        (height_conditional (view_conditional third)) third_height }
+    ensures { Reads (λ x. (view_conditional x.0, leaves_of source.count x.2.now))
+        (λ x. IsNodeHeight room (height_conditional (view_conditional x.0)) x.1) result
+        (made (t.choose (view_binary test) question (view_expression second) colon (view_conditional third))
+        (leaves_of source.count tokens.now)) }
 {
     let second = Box::new(source.alloc, second)?;
     let third = Box::new(source.alloc, third)?;
@@ -603,7 +672,9 @@ fn choice(
     tokens: &[Token],
 ) -> Result<(Conditional, u8, &[Token]), Stop>
     requires { IsBehind room (height_binary (view_binary test)) test_height }
-    ensures { Reads (λ x. (view_conditional x.0, leaves_of source.count x.2.now)) (λ x. IsNodeHeight room (height_conditional (view_conditional x.0)) x.1) result (choice_by (within 64 left) room (view_binary test) question (leaves_of source.count tokens.now)) }
+    ensures { Reads (λ x. (view_conditional x.0, leaves_of source.count x.2.now))
+        (λ x. IsNodeHeight room (height_conditional (view_conditional x.0)) x.1) result
+        (choice_by (within 64 left) room (view_binary test) question (leaves_of source.count tokens.now)) }
 {
     let left = begun_expression(source, left, tokens)?;
     let (second, second_height, rest) = expression(source, left, LIMIT, tokens)?;
@@ -625,7 +696,9 @@ pub fn conditional(
     tokens: &[Token],
 ) -> Result<(Conditional, u8, &[Token]), Stop>
     requires { room ≤ 64 }
-    ensures { Reads (λ x. (view_conditional x.0, leaves_of source.count x.2.now)) (λ x. IsNodeHeight room (height_conditional (view_conditional x.0)) x.1) result (conditional_by (within 64 left) room (leaves_of source.count tokens.now)) }
+    ensures { Reads (λ x. (view_conditional x.0, leaves_of source.count x.2.now))
+        (λ x. IsNodeHeight room (height_conditional (view_conditional x.0)) x.1) result
+        (conditional_by (within 64 left) room (leaves_of source.count tokens.now)) }
 {
     let (test, height, rest) = binary(source, left, 10, room, tokens)?;
     if let Some((question, rest)) = take(source, rest, PunctKind::Question) {
@@ -655,8 +728,11 @@ fn assigns(
     value_height: u8,
     tokens: &[Token],
 ) -> Result<(Assignment, u8, &[Token]), Stop>
-    requires { HasRoom room (height_unary (view_unary place)) place_height (height_assignment (view_assignment value)) value_height }
-    ensures { Reads (λ x. (view_assignment x.0, leaves_of source.count x.2.now)) (λ x. IsNodeHeight room (height_assignment (view_assignment x.0)) x.1) result (made (t.assign (view_unary place) spot op (view_assignment value)) (leaves_of source.count tokens.now)) }
+    requires { HasRoom room (height_unary (view_unary place)) place_height
+        (height_assignment (view_assignment value)) value_height }
+    ensures { Reads (λ x. (view_assignment x.0, leaves_of source.count x.2.now))
+        (λ x. IsNodeHeight room (height_assignment (view_assignment x.0)) x.1) result
+        (made (t.assign (view_unary place) spot op (view_assignment value)) (leaves_of source.count tokens.now)) }
 {
     let value = Box::new(source.alloc, value)?;
     let tree = Assignment::Assign(place, spot, op, value);
@@ -676,7 +752,9 @@ fn assigned(
     tokens: &[Token],
 ) -> Result<(Assignment, u8, &[Token]), Stop>
     requires { IsBehind room (height_unary (view_unary place)) place_height }
-    ensures { Reads (λ x. (view_assignment x.0, leaves_of source.count x.2.now)) (λ x. IsNodeHeight room (height_assignment (view_assignment x.0)) x.1) result (assigned_by (within 64 left) room (view_unary place) spot op (leaves_of source.count tokens.now)) }
+    ensures { Reads (λ x. (view_assignment x.0, leaves_of source.count x.2.now))
+        (λ x. IsNodeHeight room (height_assignment (view_assignment x.0)) x.1) result
+        (assigned_by (within 64 left) room (view_unary place) spot op (leaves_of source.count tokens.now)) }
 {
     let left = begun_expression(source, left, tokens)?;
     let last = room_behind(room, place_height);
@@ -704,7 +782,9 @@ pub fn assignment(
     tokens: &[Token],
 ) -> Result<(Assignment, u8, &[Token]), Stop>
     requires { room ≤ 64 }
-    ensures { Reads (λ x. (view_assignment x.0, leaves_of source.count x.2.now)) (λ x. IsNodeHeight room (height_assignment (view_assignment x.0)) x.1) result (assignment_by (within 64 left) room (leaves_of source.count tokens.now)) }
+    ensures { Reads (λ x. (view_assignment x.0, leaves_of source.count x.2.now))
+        (λ x. IsNodeHeight room (height_assignment (view_assignment x.0)) x.1) result
+        (assignment_by (within 64 left) room (leaves_of source.count tokens.now)) }
 {
     let (tree, height, rest) = conditional(source, left, room, tokens)?;
     let Some((spot, op, after)) = take_assign(source, rest) else {
@@ -725,8 +805,11 @@ fn with_comma(
     second: Assignment,
     second_height: u8,
 ) -> Result<(Expression, u8), Stop>
-    requires { HasRoom room (height_expression (view_expression first)) first_height (height_assignment (view_assignment second)) second_height }
-    ensures { Builds (λ x. view_expression x.0) (λ x. IsNodeHeight room (height_expression (view_expression x.0)) x.1) result (t.comma (view_expression first) comma (view_assignment second)) }
+    requires { HasRoom room (height_expression (view_expression first)) first_height
+        (height_assignment (view_assignment second)) second_height }
+    ensures { Builds (λ x. view_expression x.0)
+        (λ x. IsNodeHeight room (height_expression (view_expression x.0)) x.1) result
+        (t.comma (view_expression first) comma (view_assignment second)) }
 {
     let first = Box::new(source.alloc, first)?;
     let second = Box::new(source.alloc, second)?;
@@ -747,7 +830,9 @@ fn commas(
     tokens: &[Token],
 ) -> Result<(Expression, u8, &[Token]), Stop>
     requires { IsBehind room (height_expression (view_expression first)) first_height }
-    ensures { Reads (λ x. (view_expression x.0, leaves_of source.count x.2.now)) (λ x. IsNodeHeight room (height_expression (view_expression x.0)) x.1) result (commas_by (within 64 left) room count (view_expression first) (leaves_of source.count tokens.now)) }
+    ensures { Reads (λ x. (view_expression x.0, leaves_of source.count x.2.now))
+        (λ x. IsNodeHeight room (height_expression (view_expression x.0)) x.1) result
+        (commas_by (within 64 left) room count (view_expression first) (leaves_of source.count tokens.now)) }
 {
     if count == 0 {
         return Err(too_long(source, tokens));
@@ -779,7 +864,9 @@ pub fn expression(
     tokens: &[Token],
 ) -> Result<(Expression, u8, &[Token]), Stop>
     requires { room ≤ 64 }
-    ensures { Reads (λ x. (view_expression x.0, leaves_of source.count x.2.now)) (λ x. IsNodeHeight room (height_expression (view_expression x.0)) x.1) result (expression_by (within 64 left) room (leaves_of source.count tokens.now)) }
+    ensures { Reads (λ x. (view_expression x.0, leaves_of source.count x.2.now))
+        (λ x. IsNodeHeight room (height_expression (view_expression x.0)) x.1) result
+        (expression_by (within 64 left) room (leaves_of source.count tokens.now)) }
 {
     let (first, height, rest) = assignment(source, left, room, tokens)?;
     let first = Expression::Single(first);

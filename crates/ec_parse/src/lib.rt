@@ -14,6 +14,3 @@ mod units;
 pub use ec_grammar::Tree;
 pub use parsing::parse;
 pub use stop::ParseStop;
-
-#[cfg(test)]
-mod tests;

@@ -51,14 +51,16 @@ pub fn parse(alloc: Global, tokens: &Seq<Token>) -> Result<Tree, ParseStop>
     // A tree is answered only where the list derives it and the limit of nesting is kept.
     ensures found { IfOk result (λ u. Derives (view_tokens tokens.now.items) (view_tree u) × Nests (view_tree u)) }
 
-    // A derivation that keeps the limit is the answer, unless memory runs out; and there is no other than the one answered.
+    // A derivation that keeps the limit is the answer, unless memory runs out; and there is no other than the one
+    // answered.
     ensures only { (u : t.Tree) → Derives (view_tokens tokens.now.items) u → Nests u → IsOnly u result }
     ensures alone { (u : t.Tree) → Derives (view_tokens tokens.now.items) u → IfOk result (λ v. view_tree v ≡ u) }
 
-    // A token is told only where it is the first bad one, or the first at which nesting passes the limit; and there it is
-    // told, unless memory runs out.
+    // A token is told only where it is the first bad one, or the first at which nesting passes the limit; and there it
+    // is told, unless memory runs out.
     ensures refused { IfErr result (IsRefused (view_tokens tokens.now.items)) }
-    ensures told { (stop : ParseStop) → IsBadAt (view_tokens tokens.now.items) stop → (result ≡ Err stop) ⊎ (result ≡ Err ParseStop.NoMemory) }
+    ensures told { (stop : ParseStop) → IsBadAt (view_tokens tokens.now.items) stop
+        → (result ≡ Err stop) ⊎ (result ≡ Err ParseStop.NoMemory) }
 {
     answer(alloc, tokens.as_slice())
 }

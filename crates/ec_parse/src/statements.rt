@@ -3,12 +3,20 @@
 //! A function answers the tree, its height and the tokens after it, as those of expressions do.
 
 ghost use Rattle.std.specs.Prelude.{◌≡◌, ◌<◌, ◌≤◌, suc, max, map, Ok, IfOk, option_map};
-ghost use Rattle.ec_grammar.specs.Nesting.{height_option, height_expression, height_condition, height_first, height_heading, height_compound, height_items, height_item, height_statement};
+ghost use Rattle.ec_grammar.specs.Nesting.{height_option, height_expression, height_condition, height_first};
+ghost use Rattle.ec_grammar.specs.Nesting.{height_heading, height_compound, height_items, height_item};
+ghost use Rattle.ec_grammar.specs.Nesting.{height_statement};
 ghost use Rattle.ec_grammar.specs.Trees as t;
-ghost use Rattle.ec_grammar.specs.Views.{view_option, view_expression, view_condition, view_first, view_heading, view_compound, view_item, view_statement};
-ghost use Rattle.ec_reading.specs.Reading.{within, many, ends, expected, taken_word, expression_by, condition_by, optional_by, first_by, heading_by, substatement, items_of, item_at, pragma_at, compound_by, else_by, if_by, while_by, do_by, for_by, return_by, worded_by, simple_by, statement_by};
-ghost use Rattle.ec_parse.specs.Reads.{leaves_of, inner_at, made, Gives, GivesAt, Reads, ReadsAt, IsHeight, IsNodeHeight, HasRoomAbove, view_keyword};
-ghost use Rattle.ec_parse.specs.Statements.{HasLast, compound_after, else_after, while_after, do_after, for_after, break_by, continue_by};
+ghost use Rattle.ec_grammar.specs.Views.{view_option, view_expression, view_condition, view_first, view_heading};
+ghost use Rattle.ec_grammar.specs.Views.{view_compound, view_item, view_statement};
+ghost use Rattle.ec_reading.specs.Reading.{within, many, ends, expected, taken_word, expression_by, condition_by};
+ghost use Rattle.ec_reading.specs.Reading.{optional_by, first_by, heading_by, substatement, items_of, item_at};
+ghost use Rattle.ec_reading.specs.Reading.{pragma_at, compound_by, else_by, if_by, while_by, do_by, for_by, return_by};
+ghost use Rattle.ec_reading.specs.Reading.{worded_by, simple_by, statement_by};
+ghost use Rattle.ec_parse.specs.Reads.{leaves_of, inner_at, made, Gives, GivesAt, Reads, ReadsAt, IsHeight};
+ghost use Rattle.ec_parse.specs.Reads.{IsNodeHeight, HasRoomAbove, view_keyword};
+ghost use Rattle.ec_parse.specs.Statements.{HasLast, compound_after, else_after, while_after, do_after, for_after};
+ghost use Rattle.ec_parse.specs.Statements.{break_by, continue_by};
 
 use crate::declarations::declaration;
 use crate::depth::{LIMIT, begun_statement, ended, higher, opened, room_behind};
@@ -27,7 +35,8 @@ use ec_grammar::{PunctKind, Token, WordKind};
 /// An expression in parentheses.
 #[tactic(auto, unfolding(ec_reading::specs::Reading::condition_by))]
 fn condition(source: Source, left: u8, tokens: &[Token]) -> Result<(Condition, u8, &[Token]), Stop>
-    ensures read { Gives (λ x. (view_condition x.0, leaves_of source.count x.2.now)) result (condition_by (within 64 left) (leaves_of source.count tokens.now)) }
+    ensures read { Gives (λ x. (view_condition x.0, leaves_of source.count x.2.now)) result
+        (condition_by (within 64 left) (leaves_of source.count tokens.now)) }
     ensures height { IfOk result (λ x. x.1 ≡ height_condition (view_condition x.0)) }
     ensures within { IfOk result (λ x. x.1 ≤ 64) }
 {
@@ -51,7 +60,8 @@ fn optional(
     end: PunctKind,
     tokens: &[Token],
 ) -> Result<(Option<Expression>, Spot, u8, &[Token]), Stop>
-    ensures read { Gives (λ x. ((view_option view_expression x.0, x.1), leaves_of source.count x.3.now)) result (optional_by (expression_by (within 64 left) 64) end (leaves_of source.count tokens.now)) }
+    ensures read { Gives (λ x. ((view_option view_expression x.0, x.1), leaves_of source.count x.3.now)) result
+        (optional_by (expression_by (within 64 left) 64) end (leaves_of source.count tokens.now)) }
     ensures height { IfOk result (λ x. x.2 ≡ height_option height_expression (view_option view_expression x.0)) }
     ensures within { IfOk result (λ x. x.2 ≤ 64) }
 {
@@ -66,7 +76,8 @@ fn optional(
 /// The first part of a `for` (6.8.5).
 #[tactic(auto, unfolding(ec_reading::specs::Reading::first_by))]
 fn first(source: Source, left: u8, tokens: &[Token]) -> Result<(First, u8, &[Token]), Stop>
-    ensures read { Gives (λ x. (view_first x.0, leaves_of source.count x.2.now)) result (first_by (inner_at left) (leaves_of source.count tokens.now)) }
+    ensures read { Gives (λ x. (view_first x.0, leaves_of source.count x.2.now)) result
+        (first_by (inner_at left) (leaves_of source.count tokens.now)) }
     ensures height { IfOk result (λ x. x.1 ≡ height_first (view_first x.0)) }
     ensures within { IfOk result (λ x. x.1 ≤ 64) }
 {
@@ -81,7 +92,8 @@ fn first(source: Source, left: u8, tokens: &[Token]) -> Result<(First, u8, &[Tok
 /// The parts of a `for` in its parentheses (6.8.5).
 #[tactic(auto, unfolding(ec_reading::specs::Reading::heading_by))]
 fn heading(source: Source, left: u8, tokens: &[Token]) -> Result<(Heading, u8, &[Token]), Stop>
-    ensures read { Gives (λ x. (view_heading x.0, leaves_of source.count x.2.now)) result (heading_by (within 64 left) (leaves_of source.count tokens.now)) }
+    ensures read { Gives (λ x. (view_heading x.0, leaves_of source.count x.2.now)) result
+        (heading_by (within 64 left) (leaves_of source.count tokens.now)) }
     ensures height { IfOk result (λ x. x.1 ≡ height_heading (view_heading x.0)) }
     ensures within { IfOk result (λ x. x.1 ≤ 64) }
 {
@@ -113,14 +125,16 @@ fn heading(source: Source, left: u8, tokens: &[Token]) -> Result<(Heading, u8, &
 }
 
 fn pragma(source: Source, tokens: &[Token]) -> Result<Option<(Pragma, &[Token])>, Stop>
-    ensures { GivesAt (λ x. (x.0, leaves_of source.count x.1.now)) result (pragma_at (leaves_of source.count tokens.now)) }
+    ensures { GivesAt (λ x. (x.0, leaves_of source.count x.1.now)) result
+        (pragma_at (leaves_of source.count tokens.now)) }
 {
     Ok(take_pragma(source, tokens))
 }
 
 #[tactic(auto, using(crate::proofs::Many::loops))]
 fn pragmas(source: Source, tokens: &[Token]) -> Result<(Vec<Pragma>, &[Token]), Stop>
-    ensures { Gives (λ x. (x.0.items, leaves_of source.count x.1.now)) result (many pragma_at (leaves_of source.count tokens.now)) }
+    ensures { Gives (λ x. (x.0.items, leaves_of source.count x.1.now)) result
+        (many pragma_at (leaves_of source.count tokens.now)) }
 {
     let mut all = Vec::new(source.alloc);
     let mut rest = tokens;
@@ -139,7 +153,9 @@ fn pragmas(source: Source, tokens: &[Token]) -> Result<(Vec<Pragma>, &[Token]), 
 #[cycle(statements)]
 #[tactic(auto, unfolding(ec_reading::specs::Reading::item_at))]
 fn item(source: Source, left: u8, tokens: &[Token]) -> Result<Option<(Item, u8, &[Token])>, Stop>
-    ensures { ReadsAt (λ x. (view_item x.0, leaves_of source.count x.2.now)) (λ x. IsHeight 64 (height_item (view_item x.0)) x.1) result (item_at (within 64 left) (leaves_of source.count tokens.now)) }
+    ensures { ReadsAt (λ x. (view_item x.0, leaves_of source.count x.2.now))
+        (λ x. IsHeight 64 (height_item (view_item x.0)) x.1) result
+        (item_at (within 64 left) (leaves_of source.count tokens.now)) }
 {
     if begins_specs(source, tokens) {
         let (declaration, height, rest) = declaration(source, left, tokens)?;
@@ -155,7 +171,9 @@ fn item(source: Source, left: u8, tokens: &[Token]) -> Result<Option<(Item, u8, 
 /// Declarations and statements, and their height.
 #[cycle(statements)]
 fn items(source: Source, left: u8, tokens: &[Token]) -> Result<(Vec<Item>, u8, &[Token]), Stop>
-    ensures { Reads (λ x. (map view_item x.0.items, leaves_of source.count x.2.now)) (λ x. IsHeight 64 (height_items (items_of (map view_item x.0.items))) x.1) result (many (item_at (within 64 left)) (leaves_of source.count tokens.now)) }
+    ensures { Reads (λ x. (map view_item x.0.items, leaves_of source.count x.2.now))
+        (λ x. IsHeight 64 (height_items (items_of (map view_item x.0.items))) x.1) result
+        (many (item_at (within 64 left)) (leaves_of source.count tokens.now)) }
 {
     let mut all = Vec::new(source.alloc);
     let mut height = 0;
@@ -183,7 +201,10 @@ fn compound_end(
     tokens: &[Token],
 ) -> Result<(Compound, u8, &[Token]), Stop>
     requires { IsHeight 64 (height_items (items_of (map view_item items.items))) below }
-    ensures { Reads (λ x. (view_compound x.0, leaves_of source.count x.2.now)) (λ x. IsNodeHeight room (height_compound (view_compound x.0)) x.1) result (compound_after room opening pragmas.items (items_of (map view_item items.items)) (leaves_of source.count tokens.now)) }
+    ensures { Reads (λ x. (view_compound x.0, leaves_of source.count x.2.now))
+        (λ x. IsNodeHeight room (height_compound (view_compound x.0)) x.1) result
+        (compound_after room opening pragmas.items (items_of (map view_item items.items))
+        (leaves_of source.count tokens.now)) }
 {
     let (closing, rest) = expect(source, tokens, PunctKind::RightBrace)?;
     let height = ended(source, room, below, rest)?;
@@ -206,7 +227,9 @@ pub fn compound(
     tokens: &[Token],
 ) -> Result<(Compound, u8, &[Token]), Stop>
     requires { room ≤ 64 }
-    ensures { Reads (λ x. (view_compound x.0, leaves_of source.count x.2.now)) (λ x. IsNodeHeight room (height_compound (view_compound x.0)) x.1) result (compound_by (within 64 left) room (leaves_of source.count tokens.now)) }
+    ensures { Reads (λ x. (view_compound x.0, leaves_of source.count x.2.now))
+        (λ x. IsNodeHeight room (height_compound (view_compound x.0)) x.1) result
+        (compound_by (within 64 left) room (leaves_of source.count tokens.now)) }
 {
     let (opening, rest) = expect(source, tokens, PunctKind::LeftBrace)?;
     let (pragmas, rest) = pragmas(source, rest)?;
@@ -225,7 +248,9 @@ fn substatement(
     tokens: &[Token],
 ) -> Result<(Statement, u8, &[Token]), Stop>
     requires { room ≤ 64 }
-    ensures { Reads (λ x. (view_statement x.0, leaves_of source.count x.2.now)) (λ x. IsNodeHeight room (height_statement (view_statement x.0)) x.1) result (substatement (within 64 left) room (leaves_of source.count tokens.now)) }
+    ensures { Reads (λ x. (view_statement x.0, leaves_of source.count x.2.now))
+        (λ x. IsNodeHeight room (height_statement (view_statement x.0)) x.1) result
+        (substatement (within 64 left) room (leaves_of source.count tokens.now)) }
 {
     let left = begun_statement(source, left, tokens)?;
     statement(source, left, room, tokens)
@@ -233,7 +258,8 @@ fn substatement(
 
 /// The word `else`.
 fn take_else(source: Source, tokens: &[Token]) -> Option<(Spot, &[Token])>
-    ensures { option_map (λ x. (x.0, WordKind.Else, leaves_of source.count x.1.now)) result ≡ taken_word WordKind.Else (leaves_of source.count tokens.now) }
+    ensures { option_map (λ x. (x.0, WordKind.Else, leaves_of source.count x.1.now)) result
+        ≡ taken_word WordKind.Else (leaves_of source.count tokens.now) }
 {
     take_word(source, tokens, WordKind::Else)
 }
@@ -247,8 +273,11 @@ fn if_alone(
     below: u8,
     tokens: &[Token],
 ) -> Result<(Statement, u8, &[Token]), Stop>
-    requires { HasRoomAbove room (max (height_condition (view_condition test)) (height_statement (view_statement first))) below }
-    ensures { Reads (λ x. (view_statement x.0, leaves_of source.count x.2.now)) (λ x. IsNodeHeight room (height_statement (view_statement x.0)) x.1) result (made (t.if_then word (view_condition test) (view_statement first)) (leaves_of source.count tokens.now)) }
+    requires { HasRoomAbove room (max (height_condition (view_condition test))
+        (height_statement (view_statement first))) below }
+    ensures { Reads (λ x. (view_statement x.0, leaves_of source.count x.2.now))
+        (λ x. IsNodeHeight room (height_statement (view_statement x.0)) x.1) result
+        (made (t.if_then word (view_condition test) (view_statement first)) (leaves_of source.count tokens.now)) }
 {
     let first = Box::new(source.alloc, first)?;
     Ok((Statement::If(word, test, first), below + 1, tokens))
@@ -268,9 +297,15 @@ fn if_else<'a>(
     tokens: &[Token],
     second: Result<(Statement, u8, &'a [Token]), Stop>,
 ) -> Result<(Statement, u8, &'a [Token]), Stop>
-    requires room { HasLast room (max (height_condition (view_condition test)) (height_statement (view_statement first))) below last }
-    requires second { Reads (λ x. (view_statement x.0, leaves_of source.count x.2.now)) (λ x. IsNodeHeight last (height_statement (view_statement x.0)) x.1) second (substatement (within 64 left) last (leaves_of source.count tokens.now)) }
-    ensures { Reads (λ x. (view_statement x.0, leaves_of source.count x.2.now)) (λ x. IsNodeHeight room (height_statement (view_statement x.0)) x.1) result (else_after (within 64 left) room word (view_condition test) (view_statement first) other (leaves_of source.count tokens.now)) }
+    requires room { HasLast room (max (height_condition (view_condition test))
+        (height_statement (view_statement first))) below last }
+    requires second { Reads (λ x. (view_statement x.0, leaves_of source.count x.2.now))
+        (λ x. IsNodeHeight last (height_statement (view_statement x.0)) x.1) second
+        (substatement (within 64 left) last (leaves_of source.count tokens.now)) }
+    ensures { Reads (λ x. (view_statement x.0, leaves_of source.count x.2.now))
+        (λ x. IsNodeHeight room (height_statement (view_statement x.0)) x.1) result
+        (else_after (within 64 left) room word (view_condition test) (view_statement first) other
+        (leaves_of source.count tokens.now)) }
 {
     let (second, height, rest) = second?;
     let first = Box::new(source.alloc, first)?;
@@ -292,8 +327,12 @@ fn otherwise(
     below: u8,
     tokens: &[Token],
 ) -> Result<(Statement, u8, &[Token]), Stop>
-    requires { HasRoomAbove room (max (height_condition (view_condition test)) (height_statement (view_statement first))) below }
-    ensures { Reads (λ x. (view_statement x.0, leaves_of source.count x.2.now)) (λ x. IsNodeHeight room (height_statement (view_statement x.0)) x.1) result (else_by (within 64 left) room word (view_condition test) (view_statement first) (leaves_of source.count tokens.now)) }
+    requires { HasRoomAbove room (max (height_condition (view_condition test))
+        (height_statement (view_statement first))) below }
+    ensures { Reads (λ x. (view_statement x.0, leaves_of source.count x.2.now))
+        (λ x. IsNodeHeight room (height_statement (view_statement x.0)) x.1) result
+        (else_by (within 64 left) room word (view_condition test) (view_statement first)
+        (leaves_of source.count tokens.now)) }
 {
     let Some((other, rest)) = take_else(source, tokens) else {
         return if_alone(source, room, word, test, first, below, tokens);
@@ -316,7 +355,9 @@ fn selection(
     tokens: &[Token],
 ) -> Result<(Statement, u8, &[Token]), Stop>
     requires { room ≤ 64 }
-    ensures { Reads (λ x. (view_statement x.0, leaves_of source.count x.2.now)) (λ x. IsNodeHeight room (height_statement (view_statement x.0)) x.1) result (if_by (within 64 left) room word (leaves_of source.count tokens.now)) }
+    ensures { Reads (λ x. (view_statement x.0, leaves_of source.count x.2.now))
+        (λ x. IsNodeHeight room (height_statement (view_statement x.0)) x.1) result
+        (if_by (within 64 left) room word (leaves_of source.count tokens.now)) }
 {
     let (test, test_height, rest) = condition(source, left, tokens)?;
     let last = room_behind(room, test_height);
@@ -338,8 +379,12 @@ fn while_end<'a>(
     body: Result<(Statement, u8, &'a [Token]), Stop>,
 ) -> Result<(Statement, u8, &'a [Token]), Stop>
     requires room { HasLast room (height_condition (view_condition test)) below last }
-    requires body { Reads (λ x. (view_statement x.0, leaves_of source.count x.2.now)) (λ x. IsNodeHeight last (height_statement (view_statement x.0)) x.1) body (substatement (within 64 left) last (leaves_of source.count tokens.now)) }
-    ensures { Reads (λ x. (view_statement x.0, leaves_of source.count x.2.now)) (λ x. IsNodeHeight room (height_statement (view_statement x.0)) x.1) result (while_after (within 64 left) room word (view_condition test) (leaves_of source.count tokens.now)) }
+    requires body { Reads (λ x. (view_statement x.0, leaves_of source.count x.2.now))
+        (λ x. IsNodeHeight last (height_statement (view_statement x.0)) x.1) body
+        (substatement (within 64 left) last (leaves_of source.count tokens.now)) }
+    ensures { Reads (λ x. (view_statement x.0, leaves_of source.count x.2.now))
+        (λ x. IsNodeHeight room (height_statement (view_statement x.0)) x.1) result
+        (while_after (within 64 left) room word (view_condition test) (leaves_of source.count tokens.now)) }
 {
     let (body, height, rest) = body?;
     let body = Box::new(source.alloc, body)?;
@@ -358,7 +403,9 @@ fn loop_while(
     tokens: &[Token],
 ) -> Result<(Statement, u8, &[Token]), Stop>
     requires { room ≤ 64 }
-    ensures { Reads (λ x. (view_statement x.0, leaves_of source.count x.2.now)) (λ x. IsNodeHeight room (height_statement (view_statement x.0)) x.1) result (while_by (within 64 left) room word (leaves_of source.count tokens.now)) }
+    ensures { Reads (λ x. (view_statement x.0, leaves_of source.count x.2.now))
+        (λ x. IsNodeHeight room (height_statement (view_statement x.0)) x.1) result
+        (while_by (within 64 left) room word (leaves_of source.count tokens.now)) }
 {
     let (test, below, rest) = condition(source, left, tokens)?;
     let last = room_behind(room, below);
@@ -379,8 +426,12 @@ fn for_end<'a>(
     body: Result<(Statement, u8, &'a [Token]), Stop>,
 ) -> Result<(Statement, u8, &'a [Token]), Stop>
     requires room { HasLast room (height_heading (view_heading heading)) below last }
-    requires body { Reads (λ x. (view_statement x.0, leaves_of source.count x.2.now)) (λ x. IsNodeHeight last (height_statement (view_statement x.0)) x.1) body (substatement (within 64 left) last (leaves_of source.count tokens.now)) }
-    ensures { Reads (λ x. (view_statement x.0, leaves_of source.count x.2.now)) (λ x. IsNodeHeight room (height_statement (view_statement x.0)) x.1) result (for_after (within 64 left) room word (view_heading heading) (leaves_of source.count tokens.now)) }
+    requires body { Reads (λ x. (view_statement x.0, leaves_of source.count x.2.now))
+        (λ x. IsNodeHeight last (height_statement (view_statement x.0)) x.1) body
+        (substatement (within 64 left) last (leaves_of source.count tokens.now)) }
+    ensures { Reads (λ x. (view_statement x.0, leaves_of source.count x.2.now))
+        (λ x. IsNodeHeight room (height_statement (view_statement x.0)) x.1) result
+        (for_after (within 64 left) room word (view_heading heading) (leaves_of source.count tokens.now)) }
 {
     let (body, height, rest) = body?;
     let body = Box::new(source.alloc, body)?;
@@ -399,7 +450,9 @@ fn loop_for(
     tokens: &[Token],
 ) -> Result<(Statement, u8, &[Token]), Stop>
     requires { room ≤ 64 }
-    ensures { Reads (λ x. (view_statement x.0, leaves_of source.count x.2.now)) (λ x. IsNodeHeight room (height_statement (view_statement x.0)) x.1) result (for_by (within 64 left) room word (leaves_of source.count tokens.now)) }
+    ensures { Reads (λ x. (view_statement x.0, leaves_of source.count x.2.now))
+        (λ x. IsNodeHeight room (height_statement (view_statement x.0)) x.1) result
+        (for_by (within 64 left) room word (leaves_of source.count tokens.now)) }
 {
     let (heading, below, rest) = heading(source, left, tokens)?;
     let last = room_behind(room, below);
@@ -418,7 +471,9 @@ fn do_end(
     tokens: &[Token],
 ) -> Result<(Statement, u8, &[Token]), Stop>
     requires { IsHeight 64 (height_statement (view_statement body)) body_height }
-    ensures { Reads (λ x. (view_statement x.0, leaves_of source.count x.2.now)) (λ x. IsNodeHeight room (height_statement (view_statement x.0)) x.1) result (do_after (within 64 left) room word (view_statement body) (leaves_of source.count tokens.now)) }
+    ensures { Reads (λ x. (view_statement x.0, leaves_of source.count x.2.now))
+        (λ x. IsNodeHeight room (height_statement (view_statement x.0)) x.1) result
+        (do_after (within 64 left) room word (view_statement body) (leaves_of source.count tokens.now)) }
 {
     let (again, rest) = expect_word(source, tokens, WordKind::While)?;
     let (test, test_height, rest) = condition(source, left, rest)?;
@@ -440,7 +495,9 @@ fn loop_do(
     tokens: &[Token],
 ) -> Result<(Statement, u8, &[Token]), Stop>
     requires { room ≤ 64 }
-    ensures { Reads (λ x. (view_statement x.0, leaves_of source.count x.2.now)) (λ x. IsNodeHeight room (height_statement (view_statement x.0)) x.1) result (do_by (within 64 left) room word (leaves_of source.count tokens.now)) }
+    ensures { Reads (λ x. (view_statement x.0, leaves_of source.count x.2.now))
+        (λ x. IsNodeHeight room (height_statement (view_statement x.0)) x.1) result
+        (do_by (within 64 left) room word (leaves_of source.count tokens.now)) }
 {
     let (body, height, rest) = substatement(source, left, LIMIT, tokens)?;
     do_end(source, left, room, word, body, height, rest)
@@ -453,7 +510,9 @@ fn break_loop(
     word: Spot,
     tokens: &[Token],
 ) -> Result<(Statement, u8, &[Token]), Stop>
-    ensures { Reads (λ x. (view_statement x.0, leaves_of source.count x.2.now)) (λ x. IsNodeHeight room (height_statement (view_statement x.0)) x.1) result (break_by room word (leaves_of source.count tokens.now)) }
+    ensures { Reads (λ x. (view_statement x.0, leaves_of source.count x.2.now))
+        (λ x. IsNodeHeight room (height_statement (view_statement x.0)) x.1) result
+        (break_by room word (leaves_of source.count tokens.now)) }
 {
     let (semicolon, rest) = expect(source, tokens, PunctKind::Semicolon)?;
     let height = ended(source, room, 0, rest)?;
@@ -467,7 +526,9 @@ fn continue_loop(
     word: Spot,
     tokens: &[Token],
 ) -> Result<(Statement, u8, &[Token]), Stop>
-    ensures { Reads (λ x. (view_statement x.0, leaves_of source.count x.2.now)) (λ x. IsNodeHeight room (height_statement (view_statement x.0)) x.1) result (continue_by room word (leaves_of source.count tokens.now)) }
+    ensures { Reads (λ x. (view_statement x.0, leaves_of source.count x.2.now))
+        (λ x. IsNodeHeight room (height_statement (view_statement x.0)) x.1) result
+        (continue_by room word (leaves_of source.count tokens.now)) }
 {
     let (semicolon, rest) = expect(source, tokens, PunctKind::Semicolon)?;
     let height = ended(source, room, 0, rest)?;
@@ -484,7 +545,9 @@ fn returned(
     tokens: &[Token],
 ) -> Result<(Statement, u8, &[Token]), Stop>
     requires { room ≤ 64 }
-    ensures { Reads (λ x. (view_statement x.0, leaves_of source.count x.2.now)) (λ x. IsNodeHeight room (height_statement (view_statement x.0)) x.1) result (return_by (within 64 left) room word (leaves_of source.count tokens.now)) }
+    ensures { Reads (λ x. (view_statement x.0, leaves_of source.count x.2.now))
+        (λ x. IsNodeHeight room (height_statement (view_statement x.0)) x.1) result
+        (return_by (within 64 left) room word (leaves_of source.count tokens.now)) }
 {
     let (value, semicolon, below, rest) = optional(source, left, PunctKind::Semicolon, tokens)?;
     let height = ended(source, room, below, rest)?;
@@ -502,7 +565,9 @@ fn worded(
     tokens: &[Token],
 ) -> Result<(Statement, u8, &[Token]), Stop>
     requires { room ≤ 64 }
-    ensures { Reads (λ x. (view_statement x.0, leaves_of source.count x.2.now)) (λ x. IsNodeHeight room (height_statement (view_statement x.0)) x.1) result (worded_by (within 64 left) room word (view_keyword keyword) (leaves_of source.count tokens.now)) }
+    ensures { Reads (λ x. (view_statement x.0, leaves_of source.count x.2.now))
+        (λ x. IsNodeHeight room (height_statement (view_statement x.0)) x.1) result
+        (worded_by (within 64 left) room word (view_keyword keyword) (leaves_of source.count tokens.now)) }
 {
     match keyword {
         Keyword::If => selection(source, left, room, word, tokens),
@@ -524,7 +589,9 @@ fn simple(
     tokens: &[Token],
 ) -> Result<(Statement, u8, &[Token]), Stop>
     requires { room ≤ 64 }
-    ensures { Reads (λ x. (view_statement x.0, leaves_of source.count x.2.now)) (λ x. IsNodeHeight room (height_statement (view_statement x.0)) x.1) result (simple_by (within 64 left) room (leaves_of source.count tokens.now)) }
+    ensures { Reads (λ x. (view_statement x.0, leaves_of source.count x.2.now))
+        (λ x. IsNodeHeight room (height_statement (view_statement x.0)) x.1) result
+        (simple_by (within 64 left) room (leaves_of source.count tokens.now)) }
 {
     let (value, semicolon, below, rest) = optional(source, left, PunctKind::Semicolon, tokens)?;
     let height = ended(source, room, below, rest)?;
@@ -547,7 +614,9 @@ fn statement(
     tokens: &[Token],
 ) -> Result<(Statement, u8, &[Token]), Stop>
     requires { room ≤ 64 }
-    ensures { Reads (λ x. (view_statement x.0, leaves_of source.count x.2.now)) (λ x. IsNodeHeight room (height_statement (view_statement x.0)) x.1) result (statement_by (within 64 left) room (leaves_of source.count tokens.now)) }
+    ensures { Reads (λ x. (view_statement x.0, leaves_of source.count x.2.now))
+        (λ x. IsNodeHeight room (height_statement (view_statement x.0)) x.1) result
+        (statement_by (within 64 left) room (leaves_of source.count tokens.now)) }
 {
     if let Some((word, keyword, rest)) = take_keyword(source, tokens) {
         return worded(source, left, room, word, keyword, rest);

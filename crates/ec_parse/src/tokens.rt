@@ -1,12 +1,18 @@
 //! The tokens that are still to be read, and tests of the first of them.
 
 ghost use Rattle.std.specs.Prelude.{◌≡◌, ◌==◌, ◌-◌, suc, length, option_map, IsTrue, IfOk};
-ghost use Rattle.ec_grammar.specs.Grammar.{is_qualifier, is_spec_word, level_of, is_assign, is_step, is_prefix, is_access};
+ghost use Rattle.ec_grammar.specs.Grammar.{is_qualifier, is_spec_word, level_of, is_assign, is_step, is_prefix};
+ghost use Rattle.ec_grammar.specs.Grammar.{is_access};
 ghost use Rattle.ec_grammar.specs.Tokens.{view_kind};
 ghost use Rattle.ec_grammar.specs.Views.{view_identifier};
 ghost use Rattle.ec_reading.specs.Codes.{same_punct, same_word};
-ghost use Rattle.ec_reading.specs.Reading.{leaf_if, punct_if, word_if, name_of, constant_of, operation_of, end_of, keyword_of, taken, taken_word, needed, expected, expected_word, identifier, at_level, starts_specs, first_is, starts_punct, starts_lexeme, starts_statement_punct, starts_statement, is_brace, cast_at, void_at, pragma_of, keyword_of_word, is_some};
-ghost use Rattle.ec_parse.specs.Reads.{leaves_of, Gives, GivesFirst, view_keyword, pragma_at_spot, IsThere, IsUnexpected};
+ghost use Rattle.ec_reading.specs.Reading.{leaf_if, punct_if, word_if, name_of, constant_of, operation_of, end_of};
+ghost use Rattle.ec_reading.specs.Reading.{keyword_of, taken, taken_word, needed, expected, expected_word, identifier};
+ghost use Rattle.ec_reading.specs.Reading.{at_level, starts_specs, first_is, starts_punct, starts_lexeme};
+ghost use Rattle.ec_reading.specs.Reading.{starts_statement_punct, starts_statement, is_brace, cast_at, void_at};
+ghost use Rattle.ec_reading.specs.Reading.{pragma_of, keyword_of_word, is_some};
+ghost use Rattle.ec_parse.specs.Reads.{leaves_of, Gives, GivesFirst, view_keyword, pragma_at_spot, IsThere};
+ghost use Rattle.ec_parse.specs.Reads.{IsUnexpected};
 
 use crate::stop::Stop;
 use ec_grammar::tree::{Constant, Identifier, Operation, Pragma, Spot};
@@ -55,7 +61,8 @@ fn is_punct(found: PunctKind, wanted: PunctKind) -> bool
 /// This punctuator, where it stands first, and the tokens after it.
 #[tactic(auto, unfolding(ec_reading::specs::Reading::leaf_if))]
 pub fn take(source: Source, tokens: &[Token], wanted: PunctKind) -> Option<(Spot, &[Token])>
-    ensures { option_map (λ x. (x.0, wanted, leaves_of source.count x.1.now)) result ≡ taken wanted (leaves_of source.count tokens.now) }
+    ensures { option_map (λ x. (x.0, wanted, leaves_of source.count x.1.now)) result
+        ≡ taken wanted (leaves_of source.count tokens.now) }
 {
     match tokens {
         [
@@ -71,7 +78,8 @@ pub fn take(source: Source, tokens: &[Token], wanted: PunctKind) -> Option<(Spot
 
 /// This punctuator and the tokens after it; another token cannot stand here.
 pub fn expect(source: Source, tokens: &[Token], wanted: PunctKind) -> Result<(Spot, &[Token]), Stop>
-    ensures { Gives (λ x. (x.0, leaves_of source.count x.1.now)) result (expected wanted (leaves_of source.count tokens.now)) }
+    ensures { Gives (λ x. (x.0, leaves_of source.count x.1.now)) result
+        (expected wanted (leaves_of source.count tokens.now)) }
 {
     match take(source, tokens, wanted) {
         Some(taken) => Ok(taken),
@@ -97,7 +105,8 @@ fn is_prefix(punct: PunctKind) -> bool
 /// An operator before a cast expression.
 #[tactic(auto, unfolding(ec_reading::specs::Reading::leaf_if))]
 pub fn take_prefix(source: Source, tokens: &[Token]) -> Option<(Spot, PunctKind, &[Token])>
-    ensures { option_map (λ x. (x.0, x.1, leaves_of source.count x.2.now)) result ≡ leaf_if (punct_if is_prefix) (leaves_of source.count tokens.now) }
+    ensures { option_map (λ x. (x.0, x.1, leaves_of source.count x.2.now)) result
+        ≡ leaf_if (punct_if is_prefix) (leaves_of source.count tokens.now) }
 {
     match tokens {
         [
@@ -121,7 +130,8 @@ fn is_step(punct: PunctKind) -> bool
 /// `++` or `--`.
 #[tactic(auto, unfolding(ec_reading::specs::Reading::leaf_if))]
 pub fn take_step(source: Source, tokens: &[Token]) -> Option<(Spot, PunctKind, &[Token])>
-    ensures { option_map (λ x. (x.0, x.1, leaves_of source.count x.2.now)) result ≡ leaf_if (punct_if is_step) (leaves_of source.count tokens.now) }
+    ensures { option_map (λ x. (x.0, x.1, leaves_of source.count x.2.now)) result
+        ≡ leaf_if (punct_if is_step) (leaves_of source.count tokens.now) }
 {
     match tokens {
         [
@@ -145,7 +155,8 @@ fn is_access(punct: PunctKind) -> bool
 /// `.` or `->`.
 #[tactic(auto, unfolding(ec_reading::specs::Reading::leaf_if))]
 pub fn take_access(source: Source, tokens: &[Token]) -> Option<(Spot, PunctKind, &[Token])>
-    ensures { option_map (λ x. (x.0, x.1, leaves_of source.count x.2.now)) result ≡ leaf_if (punct_if is_access) (leaves_of source.count tokens.now) }
+    ensures { option_map (λ x. (x.0, x.1, leaves_of source.count x.2.now)) result
+        ≡ leaf_if (punct_if is_access) (leaves_of source.count tokens.now) }
 {
     match tokens {
         [
@@ -182,7 +193,8 @@ fn is_assign(punct: PunctKind) -> bool
 /// An assignment operator.
 #[tactic(auto, unfolding(ec_reading::specs::Reading::leaf_if))]
 pub fn take_assign(source: Source, tokens: &[Token]) -> Option<(Spot, PunctKind, &[Token])>
-    ensures { option_map (λ x. (x.0, x.1, leaves_of source.count x.2.now)) result ≡ leaf_if (punct_if is_assign) (leaves_of source.count tokens.now) }
+    ensures { option_map (λ x. (x.0, x.1, leaves_of source.count x.2.now)) result
+        ≡ leaf_if (punct_if is_assign) (leaves_of source.count tokens.now) }
 {
     match tokens {
         [
@@ -222,7 +234,8 @@ pub fn take_level(
     tokens: &[Token],
     wanted: u8,
 ) -> Option<(Spot, PunctKind, &[Token])>
-    ensures { option_map (λ x. (x.0, x.1, leaves_of source.count x.2.now)) result ≡ leaf_if (punct_if (at_level wanted)) (leaves_of source.count tokens.now) }
+    ensures { option_map (λ x. (x.0, x.1, leaves_of source.count x.2.now)) result
+        ≡ leaf_if (punct_if (at_level wanted)) (leaves_of source.count tokens.now) }
 {
     match tokens {
         [
@@ -248,7 +261,8 @@ fn is_word(found: WordKind, wanted: WordKind) -> bool
 /// This word, where it stands first, and the tokens after it.
 #[tactic(auto, unfolding(ec_reading::specs::Reading::leaf_if))]
 pub fn take_word(source: Source, tokens: &[Token], wanted: WordKind) -> Option<(Spot, &[Token])>
-    ensures { option_map (λ x. (x.0, wanted, leaves_of source.count x.1.now)) result ≡ taken_word wanted (leaves_of source.count tokens.now) }
+    ensures { option_map (λ x. (x.0, wanted, leaves_of source.count x.1.now)) result
+        ≡ taken_word wanted (leaves_of source.count tokens.now) }
 {
     match tokens {
         [
@@ -268,7 +282,8 @@ pub fn expect_word(
     tokens: &[Token],
     wanted: WordKind,
 ) -> Result<(Spot, &[Token]), Stop>
-    ensures { Gives (λ x. (x.0, leaves_of source.count x.1.now)) result (expected_word wanted (leaves_of source.count tokens.now)) }
+    ensures { Gives (λ x. (x.0, leaves_of source.count x.1.now)) result
+        (expected_word wanted (leaves_of source.count tokens.now)) }
 {
     match take_word(source, tokens, wanted) {
         Some(taken) => Ok(taken),
@@ -286,7 +301,8 @@ fn is_qualifier(word: WordKind) -> bool
 /// A qualifier.
 #[tactic(auto, unfolding(ec_reading::specs::Reading::leaf_if))]
 pub fn take_qualifier(source: Source, tokens: &[Token]) -> Option<(Spot, WordKind, &[Token])>
-    ensures { option_map (λ x. (x.0, x.1, leaves_of source.count x.2.now)) result ≡ leaf_if (word_if is_qualifier) (leaves_of source.count tokens.now) }
+    ensures { option_map (λ x. (x.0, x.1, leaves_of source.count x.2.now)) result
+        ≡ leaf_if (word_if is_qualifier) (leaves_of source.count tokens.now) }
 {
     match tokens {
         [
@@ -333,7 +349,8 @@ fn is_spec_word(word: WordKind) -> bool
 /// A specifier but for `struct`.
 #[tactic(auto, unfolding(ec_reading::specs::Reading::leaf_if))]
 pub fn take_spec_word(source: Source, tokens: &[Token]) -> Option<(Spot, WordKind, &[Token])>
-    ensures { option_map (λ x. (x.0, x.1, leaves_of source.count x.2.now)) result ≡ leaf_if (word_if is_spec_word) (leaves_of source.count tokens.now) }
+    ensures { option_map (λ x. (x.0, x.1, leaves_of source.count x.2.now)) result
+        ≡ leaf_if (word_if is_spec_word) (leaves_of source.count tokens.now) }
 {
     match tokens {
         [
@@ -400,7 +417,8 @@ fn keyword_of(word: WordKind) -> Option<Keyword>
 /// A word that begins a statement.
 #[tactic(auto, unfolding(ec_reading::specs::Reading::leaf_if))]
 pub fn take_keyword(source: Source, tokens: &[Token]) -> Option<(Spot, Keyword, &[Token])>
-    ensures { option_map (λ x. (x.0, view_keyword x.1, leaves_of source.count x.2.now)) result ≡ leaf_if keyword_of (leaves_of source.count tokens.now) }
+    ensures { option_map (λ x. (x.0, view_keyword x.1, leaves_of source.count x.2.now)) result
+        ≡ leaf_if keyword_of (leaves_of source.count tokens.now) }
 {
     let [
         Token {
@@ -432,7 +450,8 @@ pub fn take_name(
     source: Source,
     tokens: &[Token],
 ) -> Result<Option<(Identifier, &[Token])>, NoMemory>
-    ensures { GivesFirst (λ x. (x.0.spot, x.0.name.items, leaves_of source.count x.1.now)) result (leaf_if name_of (leaves_of source.count tokens.now)) }
+    ensures { GivesFirst (λ x. (x.0.spot, x.0.name.items, leaves_of source.count x.1.now)) result
+        (leaf_if name_of (leaves_of source.count tokens.now)) }
 {
     match tokens {
         [
@@ -452,7 +471,8 @@ pub fn take_name(
 
 /// An identifier and the tokens after it; another token cannot stand here.
 pub fn expect_name(source: Source, tokens: &[Token]) -> Result<(Identifier, &[Token]), Stop>
-    ensures { Gives (λ x. (view_identifier x.0, leaves_of source.count x.1.now)) result (identifier (leaves_of source.count tokens.now)) }
+    ensures { Gives (λ x. (view_identifier x.0, leaves_of source.count x.1.now)) result
+        (identifier (leaves_of source.count tokens.now)) }
 {
     match take_name(source, tokens)? {
         Some(taken) => Ok(taken),
@@ -463,7 +483,8 @@ pub fn expect_name(source: Source, tokens: &[Token]) -> Result<(Identifier, &[To
 /// A constant (6.4.4; TR 18037, 4.1.5).
 #[tactic(auto, unfolding(ec_reading::specs::Reading::leaf_if))]
 pub fn take_constant(source: Source, tokens: &[Token]) -> Option<(Spot, Constant, &[Token])>
-    ensures { option_map (λ x. (x.0, x.1, leaves_of source.count x.2.now)) result ≡ leaf_if constant_of (leaves_of source.count tokens.now) }
+    ensures { option_map (λ x. (x.0, x.1, leaves_of source.count x.2.now)) result
+        ≡ leaf_if constant_of (leaves_of source.count tokens.now) }
 {
     match tokens {
         [
@@ -501,7 +522,8 @@ pub fn take_constant(source: Source, tokens: &[Token]) -> Option<(Spot, Constant
 /// The name of an operation of `<iohw.h>` (TR 18037, 6).
 #[tactic(auto, unfolding(ec_reading::specs::Reading::leaf_if))]
 pub fn take_operation(source: Source, tokens: &[Token]) -> Option<(Spot, Operation, &[Token])>
-    ensures { option_map (λ x. (x.0, x.1, leaves_of source.count x.2.now)) result ≡ leaf_if operation_of (leaves_of source.count tokens.now) }
+    ensures { option_map (λ x. (x.0, x.1, leaves_of source.count x.2.now)) result
+        ≡ leaf_if operation_of (leaves_of source.count tokens.now) }
 {
     match tokens {
         [
@@ -525,7 +547,8 @@ pub fn take_operation(source: Source, tokens: &[Token]) -> Option<(Spot, Operati
 /// A pragma (TR 18037, 4.1.3 and 4.1.7).
 #[tactic(auto, unfolding(ec_reading::specs::Reading::leaf_if))]
 pub fn take_pragma(source: Source, tokens: &[Token]) -> Option<(Pragma, &[Token])>
-    ensures { option_map (λ x. (x.0.spot, pragma_at_spot x.0.which x.0.state, leaves_of source.count x.1.now)) result ≡ leaf_if pragma_of (leaves_of source.count tokens.now) }
+    ensures { option_map (λ x. (x.0.spot, pragma_at_spot x.0.which x.0.state, leaves_of source.count x.1.now)) result
+        ≡ leaf_if pragma_of (leaves_of source.count tokens.now) }
 {
     match tokens {
         [
@@ -549,7 +572,8 @@ pub fn take_pragma(source: Source, tokens: &[Token]) -> Option<(Pragma, &[Token]
 /// The end of the text; another token cannot stand here.
 #[tactic(auto, unfolding(ec_reading::specs::Reading::leaf_if))]
 pub fn expect_end(source: Source, tokens: &[Token]) -> Result<(Spot, &[Token]), Stop>
-    ensures { Gives (λ x. (x.0, leaves_of source.count x.1.now)) result (needed (leaf_if end_of (leaves_of source.count tokens.now)) (leaves_of source.count tokens.now)) }
+    ensures { Gives (λ x. (x.0, leaves_of source.count x.1.now)) result
+        (needed (leaf_if end_of (leaves_of source.count tokens.now)) (leaves_of source.count tokens.now)) }
 {
     match tokens {
         [
@@ -568,7 +592,8 @@ pub fn expect_end(source: Source, tokens: &[Token]) -> Result<(Spot, &[Token]), 
 /// The parenthesis of a cast, which specifiers follow.
 #[tactic(auto, unfolding(ec_reading::specs::Reading::cast_at))]
 pub fn take_cast(source: Source, tokens: &[Token]) -> Option<(Spot, &[Token])>
-    ensures { option_map (λ x. (x.0, PunctKind.LeftParenthesis, leaves_of source.count x.1.now)) result ≡ cast_at (leaves_of source.count tokens.now) }
+    ensures { option_map (λ x. (x.0, PunctKind.LeftParenthesis, leaves_of source.count x.1.now)) result
+        ≡ cast_at (leaves_of source.count tokens.now) }
 {
     let (opening, rest) = take(source, tokens, PunctKind::LeftParenthesis)?;
     if begins_specs(source, rest) {
@@ -581,7 +606,8 @@ pub fn take_cast(source: Source, tokens: &[Token]) -> Option<(Spot, &[Token])>
 /// `void` before a parenthesis that closes.
 #[tactic(auto, unfolding(ec_reading::specs::Reading::void_at))]
 pub fn take_void(source: Source, tokens: &[Token]) -> Option<(Spot, &[Token])>
-    ensures { option_map (λ x. (x.0, WordKind.Void, leaves_of source.count x.1.now)) result ≡ void_at (leaves_of source.count tokens.now) }
+    ensures { option_map (λ x. (x.0, WordKind.Void, leaves_of source.count x.1.now)) result
+        ≡ void_at (leaves_of source.count tokens.now) }
 {
     let (word, rest) = take_word(source, tokens, WordKind::Void)?;
     take(source, rest, PunctKind::RightParenthesis)?;

@@ -13,7 +13,8 @@ use ec_grammar::tree::{Qualifier, Spec, Specs, Star, TypeName};
 use ec_grammar::{PunctKind, Token, WordKind};
 
 fn qualifier(source: Source, tokens: &[Token]) -> Result<Option<(Qualifier, &[Token])>, Stop>
-    ensures { GivesAt (λ x. (x.0, leaves_of source.count x.1.now)) result (qualifier_at (leaves_of source.count tokens.now)) }
+    ensures { GivesAt (λ x. (x.0, leaves_of source.count x.1.now)) result
+        (qualifier_at (leaves_of source.count tokens.now)) }
 {
     let Some((spot, word, rest)) = take_qualifier(source, tokens) else {
         return Ok(None);
@@ -23,7 +24,8 @@ fn qualifier(source: Source, tokens: &[Token]) -> Result<Option<(Qualifier, &[To
 
 #[tactic(auto, using(crate::proofs::Many::loops))]
 fn qualifiers(source: Source, tokens: &[Token]) -> Result<(Vec<Qualifier>, &[Token]), Stop>
-    ensures { Gives (λ x. (x.0.items, leaves_of source.count x.1.now)) result (many qualifier_at (leaves_of source.count tokens.now)) }
+    ensures { Gives (λ x. (x.0.items, leaves_of source.count x.1.now)) result
+        (many qualifier_at (leaves_of source.count tokens.now)) }
 {
     let mut all = Vec::new(source.alloc);
     let mut rest = tokens;
@@ -39,7 +41,8 @@ fn qualifiers(source: Source, tokens: &[Token]) -> Result<(Vec<Qualifier>, &[Tok
 
 #[tactic(auto, unfolding(ec_reading::specs::Reading::star_at))]
 fn star(source: Source, tokens: &[Token]) -> Result<Option<(Star, &[Token])>, Stop>
-    ensures { GivesAt (λ x. (view_star x.0, leaves_of source.count x.1.now)) result (star_at (leaves_of source.count tokens.now)) }
+    ensures { GivesAt (λ x. (view_star x.0, leaves_of source.count x.1.now)) result
+        (star_at (leaves_of source.count tokens.now)) }
 {
     let Some((spot, rest)) = take(source, tokens, PunctKind::Star) else {
         return Ok(None);
@@ -51,7 +54,8 @@ fn star(source: Source, tokens: &[Token]) -> Result<Option<(Star, &[Token])>, St
 /// Stars and their qualifiers, as many as there are.
 #[tactic(auto, using(crate::proofs::Many::loops))]
 pub fn stars(source: Source, tokens: &[Token]) -> Result<(Vec<Star>, &[Token]), Stop>
-    ensures { Gives (λ x. (map view_star x.0.items, leaves_of source.count x.1.now)) result (many star_at (leaves_of source.count tokens.now)) }
+    ensures { Gives (λ x. (map view_star x.0.items, leaves_of source.count x.1.now)) result
+        (many star_at (leaves_of source.count tokens.now)) }
 {
     let mut all = Vec::new(source.alloc);
     let mut rest = tokens;
@@ -67,7 +71,8 @@ pub fn stars(source: Source, tokens: &[Token]) -> Result<(Vec<Star>, &[Token]), 
 
 #[tactic(auto, unfolding(ec_reading::specs::Reading::spec_at))]
 fn spec(source: Source, tokens: &[Token]) -> Result<Option<(Spec, &[Token])>, Stop>
-    ensures { GivesAt (λ x. (view_spec x.0, leaves_of source.count x.1.now)) result (spec_at (leaves_of source.count tokens.now)) }
+    ensures { GivesAt (λ x. (view_spec x.0, leaves_of source.count x.1.now)) result
+        (spec_at (leaves_of source.count tokens.now)) }
 {
     if let Some((spot, word, rest)) = take_spec_word(source, tokens) {
         return Ok(Some((Spec::Word(spot, word), rest)));
@@ -81,7 +86,8 @@ fn spec(source: Source, tokens: &[Token]) -> Result<Option<(Spec, &[Token])>, St
 
 #[tactic(auto, using(crate::proofs::Many::loops))]
 fn more_specs(source: Source, tokens: &[Token]) -> Result<(Vec<Spec>, &[Token]), Stop>
-    ensures { Gives (λ x. (map view_spec x.0.items, leaves_of source.count x.1.now)) result (many spec_at (leaves_of source.count tokens.now)) }
+    ensures { Gives (λ x. (map view_spec x.0.items, leaves_of source.count x.1.now)) result
+        (many spec_at (leaves_of source.count tokens.now)) }
 {
     let mut all = Vec::new(source.alloc);
     let mut rest = tokens;
@@ -98,7 +104,8 @@ fn more_specs(source: Source, tokens: &[Token]) -> Result<(Vec<Spec>, &[Token]),
 /// The specifiers of a declaration, of which there is one at least (6.7).
 #[tactic(auto, unfolding(ec_reading::specs::Reading::specs_by))]
 pub fn specs(source: Source, tokens: &[Token]) -> Result<(Specs, &[Token]), Stop>
-    ensures { Gives (λ x. (view_specs x.0, leaves_of source.count x.1.now)) result (specs_by (leaves_of source.count tokens.now)) }
+    ensures { Gives (λ x. (view_specs x.0, leaves_of source.count x.1.now)) result
+        (specs_by (leaves_of source.count tokens.now)) }
 {
     let Some((first, rest)) = spec(source, tokens)? else {
         return Err(unexpected(source, tokens));
@@ -110,7 +117,8 @@ pub fn specs(source: Source, tokens: &[Token]) -> Result<(Specs, &[Token]), Stop
 /// A type name (6.7.6).
 #[tactic(auto, unfolding(ec_reading::specs::Reading::type_name_by))]
 pub fn type_name(source: Source, tokens: &[Token]) -> Result<(TypeName, &[Token]), Stop>
-    ensures { Gives (λ x. (view_type_name x.0, leaves_of source.count x.1.now)) result (type_name_by (leaves_of source.count tokens.now)) }
+    ensures { Gives (λ x. (view_type_name x.0, leaves_of source.count x.1.now)) result
+        (type_name_by (leaves_of source.count tokens.now)) }
 {
     let (specs, rest) = specs(source, tokens)?;
     let (stars, rest) = stars(source, rest)?;

@@ -2,8 +2,10 @@
 
 ghost use Rattle.std.specs.Prelude.{map};
 ghost use Rattle.ec_grammar.specs.Trees.{function_item};
-ghost use Rattle.ec_grammar.specs.Views.{view_identifier, view_specs, view_declarator, view_structure, view_register_object, view_function, view_external, view_tree};
-ghost use Rattle.ec_reading.specs.Reading.{within, many, structure_at, structure_by, register_by, function_at, defined_by, external_at, unit_by, read};
+ghost use Rattle.ec_grammar.specs.Views.{view_identifier, view_specs, view_declarator, view_structure};
+ghost use Rattle.ec_grammar.specs.Views.{view_register_object, view_function, view_external, view_tree};
+ghost use Rattle.ec_reading.specs.Reading.{within, many, structure_at, structure_by, register_by, function_at};
+ghost use Rattle.ec_reading.specs.Reading.{defined_by, external_at, unit_by, read};
 ghost use Rattle.ec_parse.specs.Reads.{leaves_of, Gives, GivesAt, GivesFirst};
 ghost use Rattle.ec_parse.specs.Units.{IsHead, view_head, function_by};
 
@@ -31,7 +33,8 @@ fn structure_head(
     source: Source,
     tokens: &[Token],
 ) -> Result<Option<(Spot, Identifier, Spot, &[Token])>, NoMemory>
-    ensures { GivesFirst (λ x. (x.0, view_identifier x.1, x.2, leaves_of source.count x.3.now)) result (structure_at (leaves_of source.count tokens.now)) }
+    ensures { GivesFirst (λ x. (x.0, view_identifier x.1, x.2, leaves_of source.count x.3.now)) result
+        (structure_at (leaves_of source.count tokens.now)) }
 {
     let Some((word, rest)) = take_word(source, tokens, WordKind::Struct) else {
         return Ok(None);
@@ -55,7 +58,8 @@ fn structure(
     opening: Spot,
     tokens: &[Token],
 ) -> Result<(Structure, &[Token]), Stop>
-    ensures { Gives (λ x. (view_structure x.0, leaves_of source.count x.1.now)) result (structure_by (within 64 left) word (view_identifier tag) opening (leaves_of source.count tokens.now)) }
+    ensures { Gives (λ x. (view_structure x.0, leaves_of source.count x.1.now)) result
+        (structure_by (within 64 left) word (view_identifier tag) opening (leaves_of source.count tokens.now)) }
 {
     let (first, rest) = member(source, left, tokens)?;
     let (more, rest) = more_members(source, left, rest)?;
@@ -80,7 +84,8 @@ fn register(
     word: Spot,
     tokens: &[Token],
 ) -> Result<(RegisterObject, &[Token]), Stop>
-    ensures { Gives (λ x. (view_register_object x.0, leaves_of source.count x.1.now)) result (register_by word (leaves_of source.count tokens.now)) }
+    ensures { Gives (λ x. (view_register_object x.0, leaves_of source.count x.1.now)) result
+        (register_by word (leaves_of source.count tokens.now)) }
 {
     let (register, rest) = expect_name(source, tokens)?;
     let (specs, rest) = specs(source, rest)?;
@@ -117,7 +122,8 @@ fn head_of(
     declarator: Declarator,
     tokens: &[Token],
 ) -> Result<Head, (Specs, Declarator)>
-    ensures { IsHead (view_specs specs) (view_declarator declarator) result (function_at (view_specs specs) (view_declarator declarator) (leaves_of source.count tokens.now)) }
+    ensures { IsHead (view_specs specs) (view_declarator declarator) result
+        (function_at (view_specs specs) (view_declarator declarator) (leaves_of source.count tokens.now)) }
 {
     let Some(_) = take(source, tokens, PunctKind::LeftBrace) else {
         return Err((specs, declarator));
@@ -148,7 +154,8 @@ fn function(
     head: Head,
     tokens: &[Token],
 ) -> Result<(Function, &[Token]), Stop>
-    ensures { Gives (λ x. (function_item (view_function x.0), leaves_of source.count x.1.now)) result (function_by (within 64 left) (view_head head) (leaves_of source.count tokens.now)) }
+    ensures { Gives (λ x. (function_item (view_function x.0), leaves_of source.count x.1.now)) result
+        (function_by (within 64 left) (view_head head) (leaves_of source.count tokens.now)) }
 {
     let left = begun_body(source, left, tokens)?;
     let (body, _, rest) = compound(source, left, LIMIT, tokens)?;
@@ -166,7 +173,8 @@ fn function(
 /// A function, where the brace of a body follows a declarator of one; else a declaration.
 #[tactic(auto, unfolding(ec_reading::specs::Reading::defined_by))]
 fn defined(source: Source, left: u8, tokens: &[Token]) -> Result<(External, &[Token]), Stop>
-    ensures { Gives (λ x. (view_external x.0, leaves_of source.count x.1.now)) result (defined_by (within 64 left) (leaves_of source.count tokens.now)) }
+    ensures { Gives (λ x. (view_external x.0, leaves_of source.count x.1.now)) result
+        (defined_by (within 64 left) (leaves_of source.count tokens.now)) }
 {
     let (specs, rest) = specs(source, tokens)?;
     let (declarator, height, rest) = declarator(source, left, rest)?;
@@ -190,7 +198,8 @@ fn external(
     left: u8,
     tokens: &[Token],
 ) -> Result<Option<(External, &[Token])>, Stop>
-    ensures { GivesAt (λ x. (view_external x.0, leaves_of source.count x.1.now)) result (external_at (within 64 left) (leaves_of source.count tokens.now)) }
+    ensures { GivesAt (λ x. (view_external x.0, leaves_of source.count x.1.now)) result
+        (external_at (within 64 left) (leaves_of source.count tokens.now)) }
 {
     if let Some((pragma, rest)) = take_pragma(source, tokens) {
         return Ok(Some((External::Pragma(pragma), rest)));
@@ -212,7 +221,8 @@ fn external(
 
 #[tactic(auto, using(crate::proofs::Many::loops))]
 fn externals(source: Source, left: u8, tokens: &[Token]) -> Result<(Vec<External>, &[Token]), Stop>
-    ensures { Gives (λ x. (map view_external x.0.items, leaves_of source.count x.1.now)) result (many (external_at (within 64 left)) (leaves_of source.count tokens.now)) }
+    ensures { Gives (λ x. (map view_external x.0.items, leaves_of source.count x.1.now)) result
+        (many (external_at (within 64 left)) (leaves_of source.count tokens.now)) }
 {
     let mut all = Vec::new(source.alloc);
     let mut rest = tokens;
@@ -228,7 +238,8 @@ fn externals(source: Source, left: u8, tokens: &[Token]) -> Result<(Vec<External
 
 #[tactic(auto, unfolding(ec_reading::specs::Reading::unit_by))]
 fn unit(source: Source, left: u8, tokens: &[Token]) -> Result<(Tree, &[Token]), Stop>
-    ensures { Gives (λ x. (view_tree x.0, leaves_of source.count x.1.now)) result (unit_by (within 64 left) (leaves_of source.count tokens.now)) }
+    ensures { Gives (λ x. (view_tree x.0, leaves_of source.count x.1.now)) result
+        (unit_by (within 64 left) (leaves_of source.count tokens.now)) }
 {
     let (items, rest) = externals(source, left, tokens)?;
     let (end, rest) = expect_end(source, rest)?;

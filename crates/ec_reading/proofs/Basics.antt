@@ -1,7 +1,7 @@
 -- Facts on readers in general: what an answer tells, and how answers follow one another.
-use Rattle.std.proofs.Common.{◌≡◌, ◌==◌, ℕ, zero, suc, ◌-◌, ◌+◌, ◌<◌, ◌≤◌, List, [], ◌∷◌, length, Bool, true, false, cond, Result, Ok, Err, Option, Some, None, refl, sym, ap, ◌∙◌, arith, inl, inr, ◌⊎◌, subst}
-use Rattle.std.specs.Prelude.{nat_lt, max, ⊤}
-use Rattle.std.proofs.lemmas.Bool.{ltb-true, lt-ltb, eqb-true, eq-eqb, ne_eqb, true≢false}
+use Rattle.std.proofs.Common.{◌≡◌, ℕ, zero, suc, ◌-◌, ◌<◌, ◌≤◌, List, [], ◌∷◌, length, Bool, true, false, cond, Result, Ok, Err, Option, Some, None, refl, sym, ap, ◌∙◌, arith, inl, inr, ◌⊎◌, subst}
+use Rattle.std.specs.Prelude.{nat_lt, max}
+use Rattle.std.proofs.lemmas.Bool.{lt-ltb, eqb-true, eq-eqb, true≢false}
 use Rattle.ec_grammar.specs.declared.token.WordKind.{WordKind}
 use Rattle.ec_grammar.specs.declared.token.WordKind.TheVariants as words
 use Rattle.ec_grammar.specs.declared.token.PunctKind.{PunctKind}
@@ -17,7 +17,7 @@ use Rattle.ec_grammar.specs.Trees.{Leaf}
 use Rattle.ec_grammar.specs.Spelling.{leaf, mark, word, of_list, of_identifier, lexeme_of_constant, lexeme_of_operation, of_pragma}
 use Rattle.ec_grammar.specs.Grammar.{Every}
 use Rattle.ec_reading.specs.Codes.{code_of_punct, code_of_word, same_punct, same_word}
-use Rattle.ec_reading.specs.Reading.{Fault, syntax, too_deep, Read, ◌>>=◌, when, leaf_if, punct_if, word_if, name_of, constant_of, operation_of, pragma_of, end_of, taken, taken_word, needed, expected, expected_word, identifier, Keyword, if_word, while_word, do_word, for_word, break_word, continue_word, return_word, keyword_of_word, keyword_of, first_is, many_up_to, many, behind_comma, ends, Inner, Depth, inside_of, inside, begun_of, begun, room_after, opened_at, within, expression_by, assignment_by, conditional_by, cast_by, unary_by, initialiser_by, declaration_by, statement_by, compound_by}
+use Rattle.ec_reading.specs.Reading.{Fault, Read, ◌>>=◌, when, leaf_if, punct_if, word_if, name_of, constant_of, operation_of, pragma_of, end_of, taken, taken_word, needed, expected, expected_word, identifier, Keyword, if_word, while_word, do_word, for_word, break_word, continue_word, return_word, keyword_of_word, keyword_of, many_up_to, many, ends, Inner, Depth, inside_of, inside, begun_of, begun, room_after, within, expression_by, assignment_by, conditional_by, cast_by, unary_by, initialiser_by, declaration_by, statement_by, compound_by}
 
 abbrev pub done : {A : Type 0} → A → Result A Fault
 done x = Ok x
@@ -74,9 +74,6 @@ begun_of_ok starts None ts f y e = absurd (no_ok _ _ e)
 
 pub begun_ok : {A : Type 0} (starts : Lexeme → Bool) (inner : Depth) (ts : List Leaf) (f : Inner → Read A) (y : A × List Leaf) → begun starts inner ts f ≡ Ok y → (i : Inner) × (inner.opened ≡ Some i) × (f i ≡ Ok y)
 begun_ok starts inner ts f y e = begun_of_ok starts inner.opened ts f y e
-
-higher : (room height : ℕ) → nat_lt room height ≡ true → height ≤ room → ⊥
-higher room height e le = omega (arith, ltb-true room height e, le)
 
 not_lower : (a b : ℕ) → nat_lt a b ≡ false → a < b → ⊥
 not_lower a b e lt = true≢false (sym (lt-ltb a b lt) ∙ e)
@@ -262,30 +259,10 @@ many_up_to_is of_one Is item sound (suc n) ts y e =
 pub many_is : {A : Type 0} (of_one : A → List Leaf → List Leaf) (Is : A → Type 0) (item : List Leaf → Option (Read A)) → SoundAt of_one Is item → Sound (of_list of_one) (Every Is) (many item)
 many_is of_one Is item sound ts y e = many_up_to_is of_one Is item sound (length ts) ts y e
 
--- ---- what is spelled is read; or it is told too deep, and then does not fit
+-- ---- what follows what is read, what stands inside a construct, and what stands last in one
 
-abbrev pub Reads : {A : Type 0} → Type 0 → Read A → A → List Leaf → Type 0
-Reads Fits r x rest = (r ≡ Ok (x, rest)) ⊎ ((place : ℕ) × (r ≡ Err (too_deep place)) × (Fits → ⊥))
-
--- a tree with so many constructs open at once and of such a height, where n may be opened and there is such room
-abbrev pub Fit : ℕ → ℕ → ℕ → ℕ → ℕ → Type 0
-Fit limit n room opens height = (opens ≤ n) × (height ≤ room) × (room ≤ limit)
-
--- a part of what fits
-pub part : {A P Q : Type 0} (r : Read A) (x : A) (rest : List Leaf) → (P → Q) → Reads Q r x rest → Reads P r x rest
-part r x rest f (inl e) = inl e
-part r x rest f (inr e) = inr (e.0, e.1, λ p. e.2 (f p))
-
-pub reads_bind : {A B P : Type 0} (r : Read A) (f : A × List Leaf → Read B) (x : A) (rest : List Leaf) (y : B) (after : List Leaf) → Reads P r x rest → Reads P (f (x, rest)) y after → Reads P (r >>= f) y after
-reads_bind r f x rest y after (inl e) h = elim h [ inl k ↦ inl (rw e k) | inr k ↦ inr (k.0, rw e k.1, k.2) ]
-reads_bind r f x rest y after (inr e) h = inr (e.0, rw e.1 refl, e.2)
-
-pub reads_ends : {A P : Type 0} (room height : ℕ) (x : A) (rest : List Leaf) → (P → height ≤ room) → Reads P (ends room height x rest) x rest
-reads_ends {P = P} room height x rest fits = go (nat_lt room height) refl
-  where
-    go : (b : Bool) → nat_lt room height ≡ b → Reads P (cond b (Err (too_deep (suc (length rest)))) (Ok (x, rest))) x rest
-    go true e = inr (_, refl, λ p. higher room height e (fits p))
-    go false e = inl refl
+pub reads_bind : {A B : Type 0} (r : Read A) (f : A × List Leaf → Read B) (x : A) (rest : List Leaf) (y : B) (after : List Leaf) → r ≡ Ok (x, rest) → f (x, rest) ≡ Ok (y, after) → (r >>= f) ≡ Ok (y, after)
+reads_bind r f x rest y after e h = rw e h
 
 -- the readers inside a construct, where n more may be opened
 abbrev pub inner_at : ℕ → ℕ → Inner
@@ -301,17 +278,6 @@ inner_at limit n = record {
   statement = statement_by (within limit n);
   compound = compound_by (within limit n);
 }
-
-pub reads_inside : {A P : Type 0} (limit n : ℕ) (ts : List Leaf) (f : Inner → Read A) (y : A) (after : List Leaf) → (P → 0 < n) → ((m : ℕ) → n ≡ suc m → Reads P (f (inner_at limit m)) y after) → Reads P (inside (within limit n) ts f) y after
-unfolding opened_at
-reads_inside limit zero ts f y after fits h = inr (_, refl, λ p. omega (arith, fits p))
-reads_inside limit (suc m) ts f y after fits h = h m refl
-
-pub reads_begun : {A P : Type 0} (starts : Lexeme → Bool) (limit n : ℕ) (ts : List Leaf) (f : Inner → Read A) (y : A) (after : List Leaf) → first_is starts ts ≡ true → (P → 0 < n) → ((m : ℕ) → n ≡ suc m → Reads P (f (inner_at limit m)) y after)
-    → Reads P (begun starts (within limit n) ts f) y after
-unfolding opened_at
-reads_begun starts limit zero ts f y after e fits h = inr (length ts, rw e refl, λ p. omega (arith, fits p))
-reads_begun starts limit (suc m) ts f y after e fits h = h m refl
 
 -- what stands last behind parts of such a height
 pub after_fits : (room first last : ℕ) → suc (max first last) ≤ room → last ≤ room_after room first

@@ -1,10 +1,10 @@
 -- What may follow a tree, and how trees begin.
-use Rattle.std.proofs.Common.{◌≡◌, ◌==◌, ℕ, zero, suc, ◌-◌, ◌+◌, ◌<◌, ◌≤◌, List, [], ◌∷◌, length, Bool, true, false, cond, Result, Ok, Err, Option, Some, None, refl, sym, ap, ◌∙◌, arith, inl, inr, ◌⊎◌, subst}
-use Rattle.std.proofs.lemmas.Bool.{eqb-true, eq-eqb, ne_eqb, true≢false}
+use Rattle.std.proofs.Common.{◌≡◌, ℕ, suc, ◌<◌, ◌≤◌, List, [], ◌∷◌, Bool, true, false, Option, Some, None, refl, sym, ap, ◌∙◌, arith, inl, inr, ◌⊎◌, subst}
+use Rattle.std.proofs.lemmas.Bool.{ne_eqb, true≢false}
 use Rattle.ec_grammar.specs.declared.token.WordKind.{WordKind}
 use Rattle.ec_grammar.specs.declared.token.WordKind.TheVariants as words
 use Rattle.ec_grammar.specs.declared.token.PunctKind.{PunctKind}
-use Rattle.ec_grammar.specs.declared.token.PunctKind.TheVariants.{LeftBrace, RightBrace, LeftParenthesis, RightParenthesis, LeftBracket, RightBracket, Semicolon, Comma, Dot, Arrow, Increment, Decrement, Ampersand, Star, Plus, Minus, Tilde, Not, Slash, Percent, ShiftLeft, ShiftRight, Less, Greater, LessEqual, GreaterEqual, Equal, NotEqual, Caret, Bar, AndAnd, OrOr, Question, Colon, Assign, StarAssign, SlashAssign, PercentAssign, PlusAssign, MinusAssign, ShiftLeftAssign, ShiftRightAssign, AmpersandAssign, CaretAssign, BarAssign}
+use Rattle.ec_grammar.specs.declared.token.PunctKind.TheVariants.{LeftParenthesis, RightParenthesis, LeftBracket, Comma, Dot, Arrow, Increment, Decrement, Ampersand, Star, Plus, Minus, Tilde, Not, Slash, Percent, ShiftLeft, ShiftRight, Less, Greater, LessEqual, GreaterEqual, Equal, NotEqual, Caret, Bar, AndAnd, OrOr, Question, Assign, StarAssign, SlashAssign, PercentAssign, PlusAssign, MinusAssign, ShiftLeftAssign, ShiftRightAssign, AmpersandAssign, CaretAssign, BarAssign}
 use Rattle.ec_grammar.specs.declared.tree.Spot.{Spot}
 use Rattle.ec_grammar.specs.declared.tree.Constant.TheVariants as constants
 use Rattle.ec_grammar.specs.declared.tree.Operation.TheVariants as operations
@@ -13,10 +13,10 @@ use Rattle.ec_grammar.specs.Tokens.{Lexeme}
 use Rattle.ec_grammar.specs.Trees as t
 use Rattle.ec_grammar.specs.Trees.{Leaf}
 use Rattle.ec_grammar.specs.Spelling.{leaf, mark, word, of_expression, of_assignment, of_conditional, of_binary, of_cast, of_unary, of_postfix, of_primary}
-use Rattle.ec_grammar.specs.Grammar.{level_of, is_assign, is_step, is_prefix, is_access, is_spec_word, Is_expression, Is_assignment, Is_conditional, Is_binary, Is_cast, Is_unary, Is_postfix, Is_primary}
-use Rattle.ec_reading.specs.Codes.{same_punct, same_word}
-use Rattle.ec_reading.specs.Reading.{when, leaf_if, punct_if, word_if, operation_of, constant_of, name_of, pragma_of, keyword_of, keyword_of_word, taken, taken_word, at_level, starts_punct, starts_lexeme, starts_statement, starts_specs, first_is, cast_at}
-use Rattle.ec_reading.proofs.Basics.{same_puncts, same_words, self_punct, self_word}
+use Rattle.ec_grammar.specs.Grammar.{level_of, is_assign, is_step, is_prefix, is_access, Is_expression, Is_assignment, Is_conditional, Is_binary, Is_cast, Is_unary, Is_postfix, Is_primary}
+use Rattle.ec_reading.specs.Codes.{same_punct}
+use Rattle.ec_reading.specs.Reading.{leaf_if, punct_if, word_if, keyword_of, keyword_of_word, taken, taken_word, at_level, starts_punct, starts_lexeme, starts_specs, first_is, cast_at}
+use Rattle.ec_reading.proofs.Basics.{same_puncts, same_words, self_punct}
 
 -- how loosely a punctuator goes on with the expression before it: by a suffix (1), an operator of level n (n + 1), a conditional (12), an
 -- assignment (13), a comma (14), or not at all

@@ -1,6 +1,5 @@
 pub mod Basics
 pub mod Follow
-pub mod Steps
 pub mod Past
 pub mod Lists
 pub mod Expressions

@@ -1,12 +1,11 @@
 -- What follows a tree is a part of the whole list.
-use Rattle.std.proofs.Common.{◌≡◌, ℕ, zero, suc, ◌+◌, ◌<◌, ◌≤◌, List, [], ◌∷◌, length, Option, Some, None, refl, arith}
+use Rattle.std.proofs.Common.{suc, ◌<◌, ◌≤◌, List, [], ◌∷◌, length, Option, Some, None, arith}
 use Rattle.ec_grammar.specs.declared.tree.Pragma.{Pragma}
 use Rattle.ec_grammar.specs.declared.tree.Qualifier.{Qualifier}
-use Rattle.ec_grammar.specs.declared.token.PunctKind.TheVariants.{LeftBrace, RightBrace, LeftParenthesis, RightParenthesis, LeftBracket, RightBracket, Semicolon, Comma, Question, Colon}
-use Rattle.ec_grammar.specs.declared.token.WordKind.TheVariants as words
+use Rattle.ec_grammar.specs.declared.token.PunctKind.TheVariants.{LeftBrace, RightBrace, LeftParenthesis, RightParenthesis, LeftBracket, RightBracket, Semicolon, Question, Colon}
 use Rattle.ec_grammar.specs.Trees as t
 use Rattle.ec_grammar.specs.Trees.{Leaf}
-use Rattle.ec_grammar.specs.Spelling.{leaf, mark, word, of_list, of_option, of_identifier, of_pragma, of_qualifier, of_star, of_spec, of_specs, of_type_name, of_expression, of_assignment, of_conditional, of_binary, of_cast, of_unary, of_postfix, of_arguments, of_further, of_primary, of_param, of_next_param, of_params, of_shape, of_declarator, of_comma, of_initialiser, of_initialisers, of_start, of_init_declarator, of_next_init_declarator, of_declaration, of_next_declarator, of_member, of_structure, of_register_object, of_condition, of_first, of_heading, of_compound, of_items, of_item, of_statement, of_function, of_external}
+use Rattle.ec_grammar.specs.Spelling.{mark, of_list, of_option, of_identifier, of_pragma, of_qualifier, of_star, of_spec, of_specs, of_type_name, of_expression, of_assignment, of_conditional, of_binary, of_cast, of_unary, of_postfix, of_arguments, of_further, of_primary, of_param, of_next_param, of_params, of_shape, of_declarator, of_comma, of_initialiser, of_initialisers, of_start, of_init_declarator, of_next_init_declarator, of_declaration, of_next_declarator, of_member, of_condition, of_first, of_heading, of_compound, of_items, of_item, of_statement, of_external}
 
 -- the first list is the rest of the second
 pub data Past : List Leaf → List Leaf → Type 0 where

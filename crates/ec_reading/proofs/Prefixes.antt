@@ -48,7 +48,7 @@ placed_back k (x ∷ xs) s =
     let one : leaf (record { index = k; at = x.spot.at }) x.lexeme ≡ x = ap (λ (z : Spot). leaf (record { index = k; at = z.at }) x.lexeme) s.0 ∙ ap (λ z. leaf z x.lexeme) (sym s.0) in
     ap (λ z. leaf (record { index = k; at = x.spot.at }) x.lexeme ∷ z) (placed_back (suc k) xs s.1) ∙ ap (λ z. z ∷ xs) one
 
--- a front of the tokens, and others with their indices after it
+-- a prefix of the tokens, and others with their indices after it
 derived : (tokens : List Placed) (n : ℕ) (front more others : List Leaf) (u : t.Tree) → n ≡ length front → leaves_from 0 tokens ≡ front ++ more → of_tree u [] ≡ front ++ others → Spotted n others → Is_tree u → Derives (take n tokens ++ placed others) u
 derived tokens n front more others u same left right spots is =
     let all : length tokens ≡ length front + length more = sym (leaves_length 0 tokens) ∙ ap length left ∙ length-append front more in

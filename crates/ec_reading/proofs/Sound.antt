@@ -1,17 +1,16 @@
 -- What is read is a derivation of what was read.
-use Rattle.std.proofs.Common.{◌≡◌, ◌==◌, ℕ, zero, suc, ◌-◌, ◌+◌, ◌<◌, ◌≤◌, List, [], ◌∷◌, length, Bool, true, false, cond, Result, Ok, Err, Option, Some, None, refl, sym, ap, ◌∙◌, arith, inl, inr, ◌⊎◌, subst}
-use Rattle.std.proofs.lemmas.Bool.{eqb-true, true≢false}
-use Rattle.ec_grammar.specs.declared.token.WordKind.{WordKind}
+use Rattle.std.proofs.Common.{◌≡◌, ℕ, zero, suc, ◌-◌, ◌≤◌, List, [], ◌∷◌, true, Ok, Some, None, refl, ap, ◌∙◌, arith, inl, inr, subst}
+use Rattle.std.proofs.lemmas.Bool.{eqb-true}
 use Rattle.ec_grammar.specs.declared.token.WordKind.TheVariants as words
 use Rattle.ec_grammar.specs.declared.token.PunctKind.{PunctKind}
-use Rattle.ec_grammar.specs.declared.token.PunctKind.TheVariants.{LeftBrace, RightBrace, LeftParenthesis, RightParenthesis, LeftBracket, RightBracket, Semicolon, Comma, Star, Question, Colon, Assign}
+use Rattle.ec_grammar.specs.declared.token.PunctKind.TheVariants.{LeftParenthesis, RightParenthesis, LeftBracket, RightBracket, Comma, Star, Question, Colon}
 use Rattle.ec_grammar.specs.declared.tree.Spot.{Spot}
 use Rattle.ec_grammar.specs.declared.tree.Operation.{Operation}
 use Rattle.ec_grammar.specs.Trees as t
 use Rattle.ec_grammar.specs.Trees.{Leaf}
-use Rattle.ec_grammar.specs.Spelling.{leaf, mark, word, of_list, of_option, of_identifier, lexeme_of_operation, of_qualifier, of_star, of_spec, of_specs, of_type_name, of_expression, of_assignment, of_conditional, of_binary, of_cast, of_unary, of_postfix, of_arguments, of_further, of_primary, of_initialiser, of_declaration, of_statement, of_compound}
+use Rattle.ec_grammar.specs.Spelling.{leaf, mark, word, of_list, of_identifier, lexeme_of_operation, of_qualifier, of_star, of_spec, of_specs, of_type_name, of_expression, of_assignment, of_conditional, of_binary, of_cast, of_unary, of_postfix, of_arguments, of_further, of_primary, of_initialiser, of_declaration, of_statement, of_compound}
 use Rattle.ec_grammar.specs.Grammar.{Every, is_open, is_qualifier, is_spec_word, level_of, rank, is_assign, is_step, is_prefix, is_access, Is_qualifier, Is_star, Is_spec, Is_specs, Is_type_name, Is_expression, Is_assignment, Is_conditional, Is_binary, Is_cast, Is_unary, Is_postfix, Are_arguments, Are_further, Is_primary, Is_initialiser, Is_declaration, Is_statement, Is_compound}
-use Rattle.ec_reading.specs.Reading.{Fault, Read, ◌>>=◌, when, leaf_if, punct_if, word_if, name_of, constant_of, operation_of, taken, taken_word, expected, identifier, starts_specs, starts_lexeme, many, behind_comma, ends, Inner, Depth, inside, begun, chain, at_level, qualifier_at, star_at, spec_at, specs_by, type_name_by, further_of, pair, argument_at, further_by, arguments_by, operation_by, primary_by, index_by, call_by, member_by, suffix_by, suffixes_by, postfix_by, size_by, unary_by, cast_at, cast_by, joins_by, binary_by, choice_by, conditional_by, unary_of, assigned_by, assignment_by, commas_by, expression_by}
+use Rattle.ec_reading.specs.Reading.{Read, leaf_if, punct_if, word_if, name_of, constant_of, operation_of, taken, taken_word, expected, identifier, starts_specs, starts_lexeme, many, behind_comma, Inner, Depth, chain, at_level, qualifier_at, star_at, spec_at, specs_by, type_name_by, further_of, pair, argument_at, further_by, arguments_by, operation_by, primary_by, index_by, call_by, member_by, suffix_by, suffixes_by, postfix_by, size_by, unary_by, cast_at, cast_by, joins_by, binary_by, choice_by, conditional_by, unary_of, assigned_by, assignment_by, commas_by, expression_by}
 use Rattle.ec_reading.proofs.Basics.{ok_is, some_is, no_some, no_ok, bind_ok, when_is, when_some, ends_ok, inside_ok, begun_ok, punct_is, word_is, taken_is, taken_word_is, expected_is, name_is, identifier_is, constant_is, operation_is, Spelled, Sound, SoundAt, many_is}
 use Rattle.ec_reading.proofs.Expressions.{of_pair}
 

@@ -1,5 +1,5 @@
 -- What is read is a derivation: declarations, statements and units.
-use Rattle.std.proofs.Common.{◌≡◌, ◌==◌, ℕ, zero, suc, ◌-◌, ◌+◌, ◌<◌, ◌≤◌, List, [], ◌∷◌, length, Bool, true, false, cond, Result, Ok, Err, Option, Some, None, refl, sym, ap, ◌∙◌, arith, inl, inr, ◌⊎◌, subst}
+use Rattle.std.proofs.Common.{◌≡◌, ℕ, zero, suc, List, [], ◌∷◌, Bool, true, false, Ok, Option, Some, None, refl, sym, ap, ◌∙◌, inl, inr, subst}
 use Rattle.std.proofs.lemmas.Bool.{true≢false}
 use Rattle.ec_grammar.specs.declared.token.WordKind.{WordKind}
 use Rattle.ec_grammar.specs.declared.token.WordKind.TheVariants as words
@@ -10,9 +10,9 @@ use Rattle.ec_grammar.specs.declared.tree.Pragma.{Pragma}
 use Rattle.ec_grammar.specs.Tokens as tokens
 use Rattle.ec_grammar.specs.Trees as t
 use Rattle.ec_grammar.specs.Trees.{Leaf}
-use Rattle.ec_grammar.specs.Spelling.{leaf, mark, word, of_list, of_option, of_identifier, of_pragma, of_star, of_specs, of_type_name, of_expression, of_conditional, of_param, of_next_param, of_params, of_shape, of_declarator, of_comma, of_initialiser, of_initialisers, of_start, of_init_declarator, of_next_init_declarator, of_declaration, of_next_declarator, of_member, of_structure, of_register_object, of_condition, of_first, of_heading, of_compound, of_items, of_item, of_statement, of_function, of_external, of_tree}
-use Rattle.ec_grammar.specs.Grammar.{Every, Given, lone_void, is_open, Is_star, Is_specs, Is_type_name, Is_expression, Is_conditional, Is_param, Is_next_param, Are_params, Is_shape, Is_declarator, Is_initialiser, Are_initialisers, Is_start, Is_init_declarator, Is_next_init_declarator, Is_declaration, Is_next_declarator, Is_member, Is_structure, Is_register_object, Is_condition, Is_first, Is_heading, Is_compound, Are_items, Is_item, Is_statement, Is_function, Is_external, Is_tree}
-use Rattle.ec_reading.specs.Reading.{Fault, syntax, Read, ◌>>=◌, when, leaf_if, word_if, name_of, pragma_of, end_of, taken, taken_word, needed, expected, expected_word, identifier, identifier_at, starts_specs, starts_lexeme, starts_statement, Keyword, if_word, while_word, do_word, for_word, break_word, continue_word, return_word, keyword_of, many, behind_comma, ends, Inner, Depth, inside, begun, opened_at, within, star_at, specs_by, type_name_by, name_at, param_by, void_at, params_by, array_by, shape_by, declarator_by, initialisers_of, initialiser_at, comma_at, braces_by, initialiser_by, start_by, init_declarator_by, declared_by, declaration_by, members_by, members_at, expression_by, assignment_by, condition_by, optional_by, first_by, heading_by, substatement, items_of, item_at, pragma_at, compound_by, else_by, if_by, while_by, do_by, for_by, return_by, worded_by, simple_by, statement_by, structure_at, structure_by, register_by, is_brace, heading_of, function_at, defined_by, external_at, unit_by, whole, read}
+use Rattle.ec_grammar.specs.Spelling.{leaf, mark, word, of_list, of_option, of_identifier, of_pragma, of_star, of_specs, of_type_name, of_expression, of_conditional, of_param, of_next_param, of_params, of_shape, of_declarator, of_comma, of_initialiser, of_initialisers, of_start, of_init_declarator, of_next_init_declarator, of_declaration, of_next_declarator, of_member, of_structure, of_register_object, of_condition, of_first, of_heading, of_compound, of_items, of_item, of_statement, of_external, of_tree}
+use Rattle.ec_grammar.specs.Grammar.{Every, Given, lone_void, is_open, Is_star, Is_specs, Is_type_name, Is_expression, Is_param, Is_next_param, Are_params, Is_shape, Is_declarator, Is_initialiser, Are_initialisers, Is_start, Is_init_declarator, Is_next_init_declarator, Is_declaration, Is_next_declarator, Is_member, Is_structure, Is_register_object, Is_condition, Is_first, Is_heading, Is_compound, Are_items, Is_item, Is_statement, Is_external, Is_tree}
+use Rattle.ec_reading.specs.Reading.{Read, leaf_if, word_if, name_of, pragma_of, end_of, taken, taken_word, needed, expected, expected_word, identifier, identifier_at, starts_specs, starts_statement, Keyword, if_word, while_word, do_word, for_word, break_word, continue_word, return_word, keyword_of, many, behind_comma, Inner, Depth, opened_at, within, star_at, specs_by, type_name_by, name_at, param_by, void_at, params_by, array_by, shape_by, declarator_by, initialisers_of, initialiser_at, comma_at, braces_by, initialiser_by, start_by, init_declarator_by, declared_by, declaration_by, members_by, members_at, expression_by, assignment_by, condition_by, optional_by, first_by, heading_by, substatement, items_of, item_at, pragma_at, compound_by, else_by, if_by, while_by, do_by, for_by, return_by, worded_by, simple_by, statement_by, structure_at, structure_by, register_by, is_brace, heading_of, function_at, defined_by, external_at, unit_by, whole, read}
 use Rattle.ec_reading.proofs.Basics.{ok_is, some_is, no_some, no_ok, bind_ok, when_is, when_some, cond_ok, ends_ok, inside_ok, begun_ok, taken_is, taken_word_is, needed_is, expected_is, expected_word_is, name_is, identifier_is, pragma_is, end_is, keyword_is, word_of_keyword, Spelled, Sound, SoundAt, many_is, inner_at}
 use Rattle.ec_reading.proofs.Sound.{StatementAt, SoundInner, SoundIn, comma_item_is, star_is, specs_are, type_name_is, expression_is, assignment_is, conditional_is, cast_is, unary_is}
 use Rattle.ec_reading.proofs.Declarations.{of_initial_pair}

@@ -1,49 +1,26 @@
--- Each statement is read again from its tokens, or told too deep.
-use Rattle.std.proofs.Common.{◌≡◌, ◌==◌, ℕ, zero, suc, ◌-◌, ◌+◌, ◌<◌, ◌≤◌, List, [], ◌∷◌, length, Bool, true, false, cond, Result, Ok, Err, Option, Some, None, refl, sym, ap, ◌∙◌, arith, inl, inr, ◌⊎◌, subst}
-use Rattle.std.specs.Prelude.{max, ⊤}
+-- How statements begin, and their items as lists.
+use Rattle.std.proofs.Common.{◌≡◌, ℕ, ◌<◌, ◌≤◌, List, [], ◌∷◌, Bool, true, false, cond, Option, Some, None, refl, sym, ap, ◌∙◌, arith}
 use Rattle.std.proofs.lemmas.Bool.{true≢false}
 use Rattle.ec_grammar.specs.declared.token.WordKind.{WordKind}
 use Rattle.ec_grammar.specs.declared.token.WordKind.TheVariants as words
 use Rattle.ec_grammar.specs.declared.token.PunctKind.{PunctKind}
-use Rattle.ec_grammar.specs.declared.token.PunctKind.TheVariants.{LeftBrace, RightBrace, LeftParenthesis, RightParenthesis, Comma, Semicolon}
+use Rattle.ec_grammar.specs.declared.token.PunctKind.TheVariants.{LeftBrace, RightBrace, Semicolon}
 use Rattle.ec_grammar.specs.declared.tree.Spot.{Spot}
 use Rattle.ec_grammar.specs.declared.tree.Pragma.{Pragma}
 use Rattle.ec_grammar.specs.Tokens as tokens
 use Rattle.ec_grammar.specs.Tokens.{Lexeme}
 use Rattle.ec_grammar.specs.Trees as t
 use Rattle.ec_grammar.specs.Trees.{Leaf}
-use Rattle.ec_grammar.specs.Spelling.{leaf, mark, word, of_list, of_option, of_pragma, of_spec, of_specs, of_expression, of_declaration, of_condition, of_first, of_heading, of_compound, of_items, of_item, of_statement}
-use Rattle.ec_grammar.specs.Grammar.{Every, Given, is_open, Is_spec, Is_specs, Is_expression, Is_declaration, Is_condition, Is_first, Is_heading, Is_compound, Are_items, Is_item, Is_statement}
+use Rattle.ec_grammar.specs.Spelling.{mark, of_list, of_option, of_pragma, of_specs, of_expression, of_declaration, of_items, of_item, of_statement}
+use Rattle.ec_grammar.specs.Grammar.{Given, Is_spec, Is_specs, Is_expression, Is_declaration, Are_items, Is_statement}
 use Rattle.ec_grammar.specs.Nesting as nest
 use Rattle.ec_reading.specs.Codes.{same_punct, same_word}
-use Rattle.ec_reading.specs.Reading.{Read, ◌>>=◌, when, leaf_if, punct_if, word_if, pragma_of, keyword_of, keyword_of_word, is_some, taken, taken_word, expected, starts_specs, starts_punct, starts_lexeme, starts_statement, starts_statement_punct, first_is, many, ends, Inner, inside, begun, room_after, within, expression_by, declaration_by, condition_by, optional_by, first_by, heading_by, substatement, items_of, item_at, pragma_at, compound_by, else_by, if_by, while_by, do_by, for_by, return_by, worded_by, simple_by, statement_by}
-use Rattle.ec_reading.proofs.Basics.{Reads, Fit, part, reads_bind, reads_ends, reads_inside, reads_begun, inner_at, after_fits, after_le, same_puncts, same_words}
-use Rattle.ec_reading.proofs.Follow.{Closed, taken_self, expression_starts, not_taken, no_word, no_leaf, no_keyword}
-use Rattle.ec_reading.proofs.Past.{pragma_long, item_long}
-use Rattle.ec_reading.proofs.Lists.{ReadsAt, ReadsItems, part_at, part_items, reads_many, specs_start}
-use Rattle.ec_reading.proofs.Expressions.{good_expression}
-use Rattle.ec_reading.proofs.Declarations.{FitTop, declaration_read}
+use Rattle.ec_reading.specs.Reading.{leaf_if, punct_if, word_if, pragma_of, keyword_of_word, is_some, taken_word, starts_specs, starts_punct, starts_lexeme, starts_statement, starts_statement_punct, first_is, within, items_of, item_at, pragma_at}
+use Rattle.ec_reading.proofs.Basics.{same_puncts}
+use Rattle.ec_reading.proofs.Follow.{expression_starts, no_word, no_leaf}
+use Rattle.ec_reading.proofs.Lists.{ReadsItems, specs_start}
 
 -- ---- parts in parentheses, and expressions that may be left out
-
-condition_read : (limit n : ℕ) (c : t.Condition) (rest : List Leaf) → Is_condition c → Reads (FitTop limit n (nest.opens_condition c) (nest.height_condition c)) (condition_by (within limit n) (of_condition c rest)) c rest
-unfolding condition_by leaf_if
-condition_read limit n (t.condition l e r) rest is =
-    reads_inside limit n _ _ (t.condition l e r) rest (λ f. omega (arith, f.0)) (λ m deep. reads_bind _ _ e (mark r RightParenthesis ∷ rest) (t.condition l e r) rest (part _ _ _ (λ f. (omega (arith, f.0, deep), f.1, omega arith)) (good_expression e limit m limit (mark r RightParenthesis ∷ rest) is (omega arith))) (inl refl))
-
-optional_semicolon : (limit n : ℕ) (e : Option t.Expression) (s : Spot) (rest : List Leaf) → Given Is_expression e → Reads (FitTop limit n (nest.height_option nest.opens_expression e) (nest.height_option nest.height_expression e)) (optional_by (expression_by (within limit n) limit) Semicolon (of_option of_expression e (mark s Semicolon ∷ rest))) (e, s) rest
-unfolding optional_by leaf_if
-optional_semicolon limit n None s rest is = inl refl
-optional_semicolon limit n (Some e) s rest is =
-    rw (not_taken Semicolon (of_expression e (mark s Semicolon ∷ rest)) refl (expression_starts e (mark s Semicolon ∷ rest) is))
-    (reads_bind _ _ e (mark s Semicolon ∷ rest) (Some e, s) rest (part _ _ _ (λ f. (f.0, f.1, omega arith)) (good_expression e limit n limit (mark s Semicolon ∷ rest) is (omega arith))) (inl refl))
-
-optional_close : (limit n : ℕ) (e : Option t.Expression) (s : Spot) (rest : List Leaf) → Given Is_expression e → Reads (FitTop limit n (nest.height_option nest.opens_expression e) (nest.height_option nest.height_expression e)) (optional_by (expression_by (within limit n) limit) RightParenthesis (of_option of_expression e (mark s RightParenthesis ∷ rest))) (e, s) rest
-unfolding optional_by leaf_if
-optional_close limit n None s rest is = inl refl
-optional_close limit n (Some e) s rest is =
-    rw (not_taken RightParenthesis (of_expression e (mark s RightParenthesis ∷ rest)) refl (expression_starts e (mark s RightParenthesis ∷ rest) is))
-    (reads_bind _ _ e (mark s RightParenthesis ∷ rest) (Some e, s) rest (part _ _ _ (λ f. (f.0, f.1, omega arith)) (good_expression e limit n limit (mark s RightParenthesis ∷ rest) is (omega arith))) (inl refl))
 
 pub declaration_starts : (d : t.Declaration) (rest : List Leaf) → Is_declaration d → (w : Spot × WordKind × List Leaf) × (leaf_if (word_if starts_specs) (of_declaration d rest) ≡ Some w)
 declaration_starts (t.declaration s d more e) rest is = specs_start s _ is.0
@@ -52,22 +29,6 @@ pub evaluated_no_specs : (e : Option t.Expression) (s : Spot) (rest : List Leaf)
 unfolding leaf_if
 evaluated_no_specs None s rest is = refl
 evaluated_no_specs (Some e) s rest is = no_word starts_specs _ refl (expression_starts e _ is)
-
-first_read : (limit m : ℕ) (f : t.First) (rest : List Leaf) → Is_first f → Reads (FitTop limit m (nest.opens_first f) (nest.height_first f)) (first_by (inner_at limit m) (of_first f rest)) f rest
-unfolding first_by
-first_read limit m (t.first_declared d) rest is =
-    rw (declaration_starts d rest is).1 (reads_bind _ _ d rest (t.first_declared d) rest (declaration_read limit m d rest is) (inl refl))
-first_read limit m (t.first_evaluated e s) rest is =
-    rw (evaluated_no_specs e s rest is) (reads_bind _ _ (e, s) rest (t.first_evaluated e s) rest (optional_semicolon limit m e s rest is) (inl refl))
-
-heading_read : (limit n : ℕ) (h : t.Heading) (rest : List Leaf) → Is_heading h → Reads (FitTop limit n (nest.opens_heading h) (nest.height_heading h)) (heading_by (within limit n) (of_heading h rest)) h rest
-unfolding heading_by leaf_if
-heading_read limit n (t.heading l f c s e r) rest is =
-    let last : List Leaf = of_option of_expression e (mark r RightParenthesis ∷ rest) in
-    let middle : List Leaf = of_option of_expression c (mark s Semicolon ∷ last) in
-    reads_inside limit n _ _ (t.heading l f c s e r) rest (λ p. omega (arith, p.0)) (λ m deep. reads_bind _ _ f middle (t.heading l f c s e r) rest (part _ _ _ (λ p. (omega (arith, p.0, deep), omega (arith, p.1))) (first_read limit m f middle is.0))
-    (reads_bind _ _ (c, s) last (t.heading l f c s e r) rest (part _ _ _ (λ p. (omega (arith, p.0, deep), omega (arith, p.1))) (optional_semicolon limit m c s last is.1))
-    (reads_bind _ _ (e, r) rest (t.heading l f c s e r) rest (part _ _ _ (λ p. (omega (arith, p.0, deep), omega (arith, p.1))) (optional_close limit m e r rest is.2)) (inl refl))))
 
 -- ---- how statements begin
 
@@ -176,18 +137,7 @@ items_no_pragma (t.items (t.stated s) others) r rest is = rw (no_leaf starts_sta
 
 -- ---- statements
 
--- a construct that has begun
-abbrev pub FitOpened : ℕ → ℕ → ℕ → ℕ → ℕ → Type 0
-FitOpened limit n room opens height = Fit limit (suc n) room opens height
-
--- a statement, whatever follows but an `else` that it would take
-abbrev pub GoodStatement : t.Statement → Type 0
-GoodStatement s = (limit n room : ℕ) (rest : List Leaf) → Is_statement s → (is_open s ≡ true → taken_word words.Else rest ≡ None) → Reads (FitOpened limit n room (nest.opens_statement s) (nest.height_statement s)) (statement_by (within limit n) room (of_statement s rest)) s rest
-
-abbrev pub GoodCompound : t.Compound → Type 0
-GoodCompound c = (limit n room : ℕ) (rest : List Leaf) → Is_compound c → Reads (FitOpened limit n room (nest.opens_compound c) (nest.height_compound c)) (compound_by (within limit n) room (of_compound c rest)) c rest
-
-statement_opens : (s : t.Statement) → 0 < nest.opens_statement s
+pub statement_opens : (s : t.Statement) → 0 < nest.opens_statement s
 statement_opens (t.block (t.compound l pragmas b r)) = omega arith
 statement_opens (t.simple e s) = omega arith
 statement_opens (t.if_then s c b) = omega arith
@@ -199,71 +149,8 @@ statement_opens (t.break_loop s e) = omega arith
 statement_opens (t.continue_loop s e) = omega arith
 statement_opens (t.return_value s v e) = omega arith
 
-lt_of : (opens n : ℕ) → 0 < opens → opens ≤ n → 0 < n
+pub lt_of : (opens n : ℕ) → 0 < opens → opens ≤ n → 0 < n
 lt_of opens n lt le = omega (arith, lt, le)
-
-substatement_read : (s : t.Statement) → GoodStatement s → (limit n room : ℕ) (rest : List Leaf) → Is_statement s → (is_open s ≡ true → taken_word words.Else rest ≡ None) → Reads (Fit limit n room (nest.opens_statement s) (nest.height_statement s)) (substatement (within limit n) room (of_statement s rest)) s rest
-substatement_read s good limit n room rest is no_else = reads_begun starts_statement limit n (of_statement s rest) _ s rest (statement_starts s rest is) (λ f. lt_of (nest.opens_statement s) n (statement_opens s) f.0) (λ m deep. part _ _ _ (λ f. (omega (arith, f.0, deep), f.1, f.2)) (good limit m room rest is no_else))
-
-statement_block : (c : t.Compound) → GoodCompound c → GoodStatement (t.block c)
-unfolding statement_by leaf_if
-statement_block (t.compound l pragmas b r) good limit n room rest is no_else =
-    reads_bind _ _ (t.compound l pragmas b r) rest (t.block (t.compound l pragmas b r)) rest (good limit n room rest is) (inl refl)
-
-simple_read : (e : Option t.Expression) (s : Spot) (limit n room : ℕ) (rest : List Leaf) → Given Is_expression e → Reads (FitOpened limit n room (nest.opens_statement (t.simple e s)) (nest.height_statement (t.simple e s))) (simple_by (within limit n) room (of_option of_expression e (mark s Semicolon ∷ rest))) (t.simple e s) rest
-unfolding simple_by
-simple_read e s limit n room rest is = reads_bind _ _ (e, s) rest (t.simple e s) rest (part _ _ _ (λ f. (omega (arith, f.0), omega (arith, f.1, f.2))) (optional_semicolon limit n e s rest is)) (reads_ends room _ (t.simple e s) rest (λ f. f.1))
-
-statement_simple : (e : Option t.Expression) (s : Spot) → GoodStatement (t.simple e s)
-unfolding statement_by leaf_if
-statement_simple None s limit n room rest is no_else = simple_read None s limit n room rest is
-statement_simple (Some e) s limit n room rest is no_else =
-    rw (no_keyword (of_expression e (mark s Semicolon ∷ rest)) (expression_starts e _ is), not_taken LeftBrace (of_expression e (mark s Semicolon ∷ rest)) refl (expression_starts e _ is)) (simple_read (Some e) s limit n room rest is)
-
-statement_if : (s : Spot) (c : t.Condition) (b : t.Statement) → GoodStatement b → GoodStatement (t.if_then s c b)
-unfolding statement_by if_by else_by leaf_if
-statement_if s c b good limit n room rest is no_else =
-    reads_bind _ _ c (of_statement b rest) (t.if_then s c b) rest (part _ _ _ (λ f. (omega (arith, f.0), omega (arith, f.1, f.2))) (condition_read limit n c (of_statement b rest) is.0))
-    (reads_bind _ _ b rest (t.if_then s c b) rest (part _ _ _ (λ f. (omega (arith, f.0), after_fits room (nest.height_condition c) (nest.height_statement b) f.1, after_le room (nest.height_condition c) limit f.2)) (substatement_read b good limit n (room_after room (nest.height_condition c)) rest is.1 (λ e. no_else refl))) (inl (rw (no_else refl) refl)))
-
-statement_else : (s : Spot) (c : t.Condition) (b : t.Statement) (e : Spot) (o : t.Statement) → GoodStatement b → GoodStatement o → GoodStatement (t.if_else s c b e o)
-unfolding statement_by if_by else_by leaf_if
-statement_else s c b e o good_b good_o limit n room rest is no_else =
-    let after : List Leaf = word e words.Else ∷ of_statement o rest in
-    reads_bind _ _ c (of_statement b after) (t.if_else s c b e o) rest (part _ _ _ (λ f. (omega (arith, f.0), omega (arith, f.1, f.2))) (condition_read limit n c (of_statement b after) is.0))
-    (reads_bind _ _ b after (t.if_else s c b e o) rest (part _ _ _ (λ f. (omega (arith, f.0), after_fits room (nest.height_condition c) (nest.height_statement b) (omega (arith, f.1)), after_le room (nest.height_condition c) limit f.2)) (substatement_read b good_b limit n (room_after room (nest.height_condition c)) after is.1 (λ yes. absurd (true≢false (sym yes ∙ is.2)))))
-    (reads_bind _ _ o rest (t.if_else s c b e o) rest (part _ _ _ (λ f. (omega (arith, f.0), after_fits room (max (nest.height_condition c) (nest.height_statement b)) (nest.height_statement o) f.1, after_le room (max (nest.height_condition c) (nest.height_statement b)) limit f.2)) (substatement_read o good_o limit n (room_after room (max (nest.height_condition c) (nest.height_statement b))) rest is.3 no_else)) (inl refl)))
-
-statement_while : (s : Spot) (c : t.Condition) (b : t.Statement) → GoodStatement b → GoodStatement (t.while_loop s c b)
-unfolding statement_by while_by leaf_if
-statement_while s c b good limit n room rest is no_else =
-    reads_bind _ _ c (of_statement b rest) (t.while_loop s c b) rest (part _ _ _ (λ f. (omega (arith, f.0), omega (arith, f.1, f.2))) (condition_read limit n c (of_statement b rest) is.0))
-    (reads_bind _ _ b rest (t.while_loop s c b) rest (part _ _ _ (λ f. (omega (arith, f.0), after_fits room (nest.height_condition c) (nest.height_statement b) f.1, after_le room (nest.height_condition c) limit f.2)) (substatement_read b good limit n (room_after room (nest.height_condition c)) rest is.1 no_else)) (inl refl))
-
-statement_do : (s : Spot) (b : t.Statement) (w : Spot) (c : t.Condition) (e : Spot) → GoodStatement b → GoodStatement (t.do_loop s b w c e)
-unfolding statement_by do_by leaf_if
-statement_do s b w c e good limit n room rest is no_else =
-    let after : List Leaf = word w words.While ∷ of_condition c (mark e Semicolon ∷ rest) in
-    reads_bind _ _ b after (t.do_loop s b w c e) rest (part _ _ _ (λ f. (omega (arith, f.0), omega (arith, f.1, f.2), omega arith)) (substatement_read b good limit n limit after is.0 (λ yes. refl)))
-    (reads_bind _ _ c (mark e Semicolon ∷ rest) (t.do_loop s b w c e) rest (part _ _ _ (λ f. (omega (arith, f.0), omega (arith, f.1, f.2))) (condition_read limit n c (mark e Semicolon ∷ rest) is.1)) (reads_ends room _ (t.do_loop s b w c e) rest (λ f. f.1)))
-
-statement_for : (s : Spot) (h : t.Heading) (b : t.Statement) → GoodStatement b → GoodStatement (t.for_loop s h b)
-unfolding statement_by for_by leaf_if
-statement_for s h b good limit n room rest is no_else =
-    reads_bind _ _ h (of_statement b rest) (t.for_loop s h b) rest (part _ _ _ (λ f. (omega (arith, f.0), omega (arith, f.1, f.2))) (heading_read limit n h (of_statement b rest) is.0))
-    (reads_bind _ _ b rest (t.for_loop s h b) rest (part _ _ _ (λ f. (omega (arith, f.0), after_fits room (nest.height_heading h) (nest.height_statement b) f.1, after_le room (nest.height_heading h) limit f.2)) (substatement_read b good limit n (room_after room (nest.height_heading h)) rest is.1 no_else)) (inl refl))
-
-statement_break : (s e : Spot) → GoodStatement (t.break_loop s e)
-unfolding statement_by leaf_if
-statement_break s e limit n room rest is no_else = reads_ends room 1 (t.break_loop s e) rest (λ f. f.1)
-
-statement_continue : (s e : Spot) → GoodStatement (t.continue_loop s e)
-unfolding statement_by leaf_if
-statement_continue s e limit n room rest is no_else = reads_ends room 1 (t.continue_loop s e) rest (λ f. f.1)
-
-statement_return : (s : Spot) (v : Option t.Expression) (e : Spot) → GoodStatement (t.return_value s v e)
-unfolding statement_by return_by leaf_if
-statement_return s v e limit n room rest is no_else = reads_bind _ _ (v, e) rest (t.return_value s v e) rest (part _ _ _ (λ f. (omega (arith, f.0), omega (arith, f.1, f.2))) (optional_semicolon limit n v e rest is)) (reads_ends room _ (t.return_value s v e) rest (λ f. f.1))
 
 -- ---- compound statements
 
@@ -279,75 +166,11 @@ pub of_items_list : (b : t.Items) (rest : List Leaf) → of_list of_item (items_
 of_items_list t.no_items rest = refl
 of_items_list (t.items i more) rest = ap (of_item i) (of_items_list more rest)
 
-abbrev FitItems : ℕ → ℕ → t.Items → Type 0
-FitItems limit n b = FitTop limit n (nest.opens_items b) (nest.height_items b)
-
-abbrev GoodItem : t.Item → Type 0
-GoodItem i = (limit n : ℕ) (rest : List Leaf) → Is_item i → taken_word words.Else rest ≡ None → ReadsAt (FitTop limit n (nest.opens_item i) (nest.height_item i)) (item_at (within limit n) (of_item i rest)) i rest
-
-abbrev GoodItems : t.Items → Type 0
-GoodItems b = (limit n : ℕ) (r : Spot) (rest : List Leaf) → Are_items b → ReadsItems (FitItems limit n b) (item_at (within limit n)) of_item (items_list b) (mark r RightBrace ∷ rest)
-
-item_declared : (d : t.Declaration) → GoodItem (t.declared d)
-unfolding item_at
-item_declared d limit n rest is no_else =
-    (_, rw (declaration_starts d rest is).1 refl, reads_bind (declaration_by (within limit n) (of_declaration d rest)) (λ x. Ok (t.declared x.0, x.1)) d rest (t.declared d) rest (declaration_read limit n d rest is) (inl refl))
-
-item_stated : (s : t.Statement) → GoodStatement s → GoodItem (t.stated s)
-unfolding item_at
-item_stated s good limit n rest is no_else = (
-  _,
-  rw (no_leaf starts_statement (word_if starts_specs) begins_no_specs (of_statement s rest) (statement_starts s rest is), no_leaf starts_statement (punct_if (λ q. same_punct q RightBrace)) begins_no_close (of_statement s rest) (statement_starts s rest is)) refl,
-  reads_bind (substatement (within limit n) limit (of_statement s rest)) (λ x. Ok (t.stated x.0, x.1)) s rest (t.stated s) rest (part _ _ _ (λ f. (f.0, f.1, omega arith)) (substatement_read s good limit n limit rest is (λ yes. no_else))) (inl refl),
-)
-
-items_none : GoodItems t.no_items
-items_none limit n r rest is = tt
-
-items_more : (i : t.Item) (more : t.Items) → GoodItem i → GoodItems more → GoodItems (t.items i more)
-items_more i more good others limit n r rest is = (
-  subst (λ z. ReadsAt (FitItems limit n (t.items i more)) (item_at (within limit n) (of_item i z)) i z) (sym (of_items_list more (mark r RightBrace ∷ rest))) (part_at _ _ _ (λ f. (omega (arith, f.0), omega (arith, f.1))) (good limit n (of_items more (mark r RightBrace ∷ rest)) is.0 (items_no_else more r rest is.1))),
-  part_items (FitItems limit n (t.items i more)) (FitItems limit n more) (item_at (within limit n)) of_item (items_list more) (mark r RightBrace ∷ rest) (λ f. (omega (arith, f.0), omega (arith, f.1))) (others limit n r rest is.1),
-)
-
 pub no_item : (limit n : ℕ) (r : Spot) (rest : List Leaf) → item_at (within limit n) (mark r RightBrace ∷ rest) ≡ None
 unfolding item_at leaf_if
 no_item limit n r rest = refl
 
-pub pragma_items : (P : Type 0) (ps : List Pragma) (rest : List Leaf) → ReadsItems P pragma_at of_pragma ps rest
+pub pragma_items : (ps : List Pragma) (rest : List Leaf) → ReadsItems pragma_at of_pragma ps rest
 unfolding leaf_if
-pragma_items P [] rest = tt
-pragma_items P (p ∷ ps) rest = ((_, refl, inl refl), pragma_items P ps rest)
-
-compound_read : (l : Spot) (pragmas : List Pragma) (b : t.Items) (r : Spot) → GoodItems b → GoodCompound (t.compound l pragmas b r)
-unfolding compound_by leaf_if
-compound_read l pragmas b r good limit n room rest is =
-    let end : List Leaf = mark r RightBrace ∷ rest in
-    let all = reads_many (item_at (within limit n)) of_item item_long (items_list b) end (good limit n r rest is) (no_item limit n r rest) in
-    let here : Reads (FitItems limit n b) (many (item_at (within limit n)) (of_items b end)) (items_list b) end = subst (λ ts. Reads (FitItems limit n b) (many (item_at (within limit n)) ts) (items_list b) end) (of_items_list b end) all in
-    reads_bind _ _ pragmas (of_items b end) (t.compound l pragmas b r) rest (reads_many pragma_at of_pragma pragma_long pragmas (of_items b end) (pragma_items _ pragmas (of_items b end)) (items_no_pragma b r rest is))
-    (reads_bind _ _ (items_list b) end (t.compound l pragmas b r) rest (part _ _ _ (λ f. (omega (arith, f.0), omega (arith, f.1, f.2))) here) (rw (items_same b) (reads_ends room _ (t.compound l pragmas b r) rest (λ f. f.1))))
-
-mutual
-  pub good_compound : (c : t.Compound) → GoodCompound c
-  good_compound (t.compound l pragmas b r) = compound_read l pragmas b r (good_items b)
-
-  good_items : (b : t.Items) → GoodItems b
-  good_items t.no_items = items_none
-  good_items (t.items i more) = items_more i more (good_item i) (good_items more)
-
-  good_item : (i : t.Item) → GoodItem i
-  good_item (t.declared d) = item_declared d
-  good_item (t.stated s) = item_stated s (good_statement s)
-
-  good_statement : (s : t.Statement) → GoodStatement s
-  good_statement (t.block c) = statement_block c (good_compound c)
-  good_statement (t.simple e s) = statement_simple e s
-  good_statement (t.if_then s c b) = statement_if s c b (good_statement b)
-  good_statement (t.if_else s c b e o) = statement_else s c b e o (good_statement b) (good_statement o)
-  good_statement (t.while_loop s c b) = statement_while s c b (good_statement b)
-  good_statement (t.do_loop s b w c e) = statement_do s b w c e (good_statement b)
-  good_statement (t.for_loop s h b) = statement_for s h b (good_statement b)
-  good_statement (t.break_loop s e) = statement_break s e
-  good_statement (t.continue_loop s e) = statement_continue s e
-  good_statement (t.return_value s v e) = statement_return s v e
+pragma_items [] rest = tt
+pragma_items (p ∷ ps) rest = ((_, refl, refl), pragma_items ps rest)

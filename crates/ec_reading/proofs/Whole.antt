@@ -1,14 +1,14 @@
 -- The laws of reading.
-use Rattle.std.proofs.Common.{◌≡◌, ℕ, suc, ◌+◌, ◌≤◌, List, Result, Ok, Err, refl, sym, ap, ◌∙◌, arith, inl, inr, ◌⊎◌, subst}
+use Rattle.std.proofs.Common.{◌≡◌, ℕ, ◌+◌, ◌≤◌, List, Ok, sym, ap, ◌∙◌, arith, inl, inr}
 use Rattle.ec_grammar.specs.Tokens.{Placed}
 use Rattle.ec_grammar.specs.Trees as t
 use Rattle.ec_grammar.specs.Grammar.{leaves_from, Derives}
 use Rattle.ec_grammar.specs.Nesting as nest
 use Rattle.ec_grammar.specs.Nesting.{NestsIn}
-use Rattle.ec_reading.specs.Reading.{Fault, too_deep, read}
+use Rattle.ec_reading.specs.Reading.{read}
 use Rattle.ec_reading.specs.Laws.{tree_of, ReadsDerivationsAlone, ReadsEveryDerivation, DerivesOneTree}
 use Rattle.ec_reading.proofs.Basics.{ok_is}
-use Rattle.ec_reading.proofs.Units.{read_again}
+use Rattle.ec_reading.proofs.ToldUnits.{read_again}
 use Rattle.ec_reading.proofs.SoundUnits.{read_is}
 
 pub reads_derivations_alone : ReadsDerivationsAlone

@@ -17,7 +17,8 @@ ReadsDerivationsAlone = (limit : ℕ) (tokens : List Placed) (u : t.Tree) → tr
 -- every derivation of any depth is read whole; or it is told too deep, and then nests deeper than the limit
 abbrev pub ReadsEveryDerivation : Type 0
 ReadsEveryDerivation = (limit : ℕ) (tokens : List Placed) (u : t.Tree) → Derives tokens u
-    → (tree_of limit tokens ≡ Ok u) ⊎ ((place : ℕ) × (tree_of limit tokens ≡ Err (too_deep place)) × (NestsIn limit u → ⊥))
+    → (tree_of limit tokens ≡ Ok u)
+    ⊎ ((place : ℕ) × (tree_of limit tokens ≡ Err (too_deep place)) × (NestsIn limit u → ⊥))
 
 -- no list of tokens has two derivations
 abbrev pub DerivesOneTree : Type 0

@@ -12,7 +12,9 @@ use Rattle.ec_reading.specs.Passing.{PassesTree}
 abbrev pub ReadsWithinTheLimit : Type 0
 ReadsWithinTheLimit = (limit : ℕ) (tokens : List Placed) (u : t.Tree) → tree_of limit tokens ≡ Ok u → NestsIn limit u
 
--- where nesting passes the limit at a token of a program, a token is told too deep, and none after that one. A place is told by the
--- number of tokens from it on, so an earlier place is a greater number
+-- where nesting passes the limit at a token of a program, a token is told too deep, and none after that one. A place is
+-- told by the number of tokens from it on, so an earlier place is a greater number
 abbrev pub TellsNoLater : Type 0
-TellsNoLater = (limit : ℕ) (tokens : List Placed) (u : t.Tree) (place : ℕ) → Derives tokens u → PassesTree limit u place → (told : ℕ) × (tree_of limit tokens ≡ Err (too_deep told)) × (place ≤ told)
+TellsNoLater =
+    (limit : ℕ) (tokens : List Placed) (u : t.Tree) (place : ℕ) → Derives tokens u → PassesTree limit u place
+    → (told : ℕ) × (tree_of limit tokens ≡ Err (too_deep told)) × (place ≤ told)

@@ -7,8 +7,12 @@ use Rattle.ec_reading.specs.Passing.{BeginsProgram, PassesAtLast}
 
 -- where a token cannot be gone on with, the tokens before it begin a program
 abbrev pub BeginsBeforeSyntax : Type 0
-BeginsBeforeSyntax = (limit : ℕ) (tokens : List Placed) (n : ℕ) → tree_of limit tokens ≡ Err (syntax n) → BeginsProgram (take (length tokens - n) tokens)
+BeginsBeforeSyntax =
+    (limit : ℕ) (tokens : List Placed) (n : ℕ) → tree_of limit tokens ≡ Err (syntax n)
+    → BeginsProgram (take (length tokens - n) tokens)
 
 -- a token that is told too deep passes the limit in the tree of some program that begins with the tokens up to it
 abbrev pub PassesWhereTold : Type 0
-PassesWhereTold = (limit : ℕ) (tokens : List Placed) (n : ℕ) → tree_of limit tokens ≡ Err (too_deep n) → (1 ≤ n) × (n ≤ length tokens) × PassesAtLast limit (take (suc (length tokens - n)) tokens)
+PassesWhereTold =
+    (limit : ℕ) (tokens : List Placed) (n : ℕ) → tree_of limit tokens ≡ Err (too_deep n)
+    → (1 ≤ n) × (n ≤ length tokens) × PassesAtLast limit (take (suc (length tokens - n)) tokens)
