@@ -50,7 +50,7 @@ keeps_byte s at byte none = record {
       get_or-set_other s.mem.data at p byte 0 apart;
 }
 
-unchanged : (m : Memory) → Keeps m m
+pub unchanged : (m : Memory) → Keeps m m
 unchanged m = record { flash = refl; size = refl; ports = λ p port. refl }
 
 followed : {a b c : Memory} → Keeps a b → Keeps b c → Keeps a c
@@ -177,6 +177,7 @@ calls to back s =
     (keeps_pair two 0x5D (lowered second) refl refl))
 
 pub keeps : (i : Instr) → IsTrue (in_table i) → (answer : ℕ) (s : State) → Keeps s.mem (effect (Some i) answer s).state.mem
+unfolding effect
 keeps (Movw d r) h answer s = pair_of_two s d _ (even_below d r h)
 keeps (Mov d r) h answer s = keeps_register s d _ (two d r h)
 keeps (Ldi d k) h answer s = keeps_register s d _ (upper d k h)

@@ -1,7 +1,13 @@
+pub mod Bits
+pub mod Bytes
 pub mod Keeps
+pub mod Placed
 pub mod PortRead
 pub mod Reset
+pub mod Runs
 pub mod SameRun
+pub mod Stack
 pub mod Stays
 pub mod TwoWords
 pub mod Window
+pub mod Decoded

@@ -1,109 +1,106 @@
--- A step reads the port that the machine needs before it, whatever the port answers.
-use Rattle.std.proofs.Common.{◌≡◌, ℕ, ◌+◌, ◌%◌, Bool, true, false, not, ◌&&◌, Option, Some, None, refl, length, nat_lt}
-use Rattle.std.specs.Prelude.{if◌then◌else◌, option_and_then}
+-- A step reads the port that the machine needs before it, and from it the byte that is answered.
+use Rattle.std.proofs.Common.{◌≡◌, ℕ, ◌+◌, ◌%◌, Bool, true, false, not, ◌&&◌, Option, Some, None, refl, ap, ◌∙◌, length, nat_lt}
+use Rattle.std.specs.Prelude.{if◌then◌else◌, option_map, option_and_then}
 use Rattle.ec_space.specs.declared.space.Bank.TheVariants.{Data as DataBank}
 use Rattle.ec_isa.specs.declared.instructions.Instr.{Instr}
 use Rattle.ec_isa.specs.declared.instructions.Instr.TheVariants.{LddZ, LddY, StdZ, StdY, Lds, Sts, LdZPlus, LdMinusZ, LdYPlus, LdMinusY, LdX, LdXPlus, LdMinusX, StZPlus, StMinusZ, StYPlus, StMinusY, StX, StXPlus, StMinusX, LpmZ, LpmZPlus, Pop, Push, Icall, Ret, Call, In as InInstr, Out as OutInstr, Rcall}
-use Rattle.ec_avr.specs.declared.machine.Access.TheVariants.{Silent, In, Out, Read, Write}
+use Rattle.ec_avr.specs.declared.machine.Access.{Access}
+use Rattle.ec_avr.specs.declared.machine.Access.TheVariants.{Silent, In, Out, Read, Write, Stack}
 use Rattle.ec_avr.specs.declared.machine.FaultKind.{FaultKind}
 use Rattle.ec_avr.specs.declared.machine.FaultKind.TheVariants.{DataOut, PcOut, StackOut}
-use Rattle.ec_avr.specs.declared.machine.Stepped.TheVariants.{Ran}
-use Rattle.ec_avr.specs.State.{State, is_core_register, is_sram, pair, with_pair, pointer_x, pointer_y, pointer_z, stack_pointer, raised, lowered, register, with_register, passed}
+use Rattle.ec_avr.specs.declared.machine.Stepped.{Stepped}
+use Rattle.ec_avr.specs.declared.machine.Stepped.TheVariants.{Ran, Ended, Fault}
+use Rattle.ec_avr.specs.State.{State, byte_at, is_core_register, is_sram, pair, with_pair, pointer_x, pointer_y, pointer_z, stack_pointer, raised, lowered, register, with_register, passed}
 use Rattle.ec_avr.specs.Effects.{After, faulted, loaded, stored, load, load_and_raise, lower_and_load, store, store_and_raise, lower_and_store, load_flash, load_flash_and_raise, push, pop, call, return_from_call, relative}
-use Rattle.ec_avr.specs.Machine.{step, effect, instruction_at, load_address, port_at, port_read, needs_port, is_whole}
+use Rattle.ec_avr.specs.Machine.{step, effect, instruction_at, load_address, port_at, port_read, read_access, needs_port, is_whole}
 
--- a load reads a port where its address is one
-of_load : (core port has : Bool) (at byte : ℕ) (moved s : State)
-    → let after : After = if has then record { stepped = Ran (if core then Silent else (if port then In at byte else Read DataBank at byte)); state = moved } else faulted DataOut s in
-    port_read after.stepped ≡ (if (port && not core) && has then Some at else None)
-of_load true true true at byte moved s = refl
-of_load true true false at byte moved s = refl
-of_load true false true at byte moved s = refl
-of_load true false false at byte moved s = refl
-of_load false true true at byte moved s = refl
-of_load false true false at byte moved s = refl
-of_load false false true at byte moved s = refl
-of_load false false false at byte moved s = refl
+-- a load reads the answer where its address is a port
+of_load : (core port has : Bool) (at answer old : ℕ) (moved s : State)
+    → let byte : ℕ = if port && not core then answer else old in
+    let after : After = if has then record { stepped = Ran (if core then Silent else (if port then In at byte else Read DataBank at byte)); state = moved } else faulted DataOut s in
+    read_access after.stepped ≡ option_map (λ (p : ℕ). In p answer) (if (port && not core) && has then Some at else None)
+of_load true true true at answer old moved s = refl
+of_load true true false at answer old moved s = refl
+of_load true false true at answer old moved s = refl
+of_load true false false at answer old moved s = refl
+of_load false true true at answer old moved s = refl
+of_load false true false at answer old moved s = refl
+of_load false false true at answer old moved s = refl
+of_load false false false at answer old moved s = refl
 
--- a store reads none
 of_store : (core port has : Bool) (at byte : ℕ) (moved s : State)
     → let after : After = if has then record { stepped = Ran (if core then Silent else (if port then Out at byte else Write at byte)); state = moved } else faulted DataOut s in
-    port_read after.stepped ≡ None
+    read_access after.stepped ≡ None
 of_store true port true at byte moved s = refl
 of_store false true true at byte moved s = refl
 of_store false false true at byte moved s = refl
 of_store core port false at byte moved s = refl
 
--- nor does a step that reads none where it can be made
-of_test : (can : Bool) (after : After) (kind : FaultKind) (s : State) → port_read after.stepped ≡ None
-    → port_read (if can then after else faulted kind s).stepped ≡ None
+of_test : (can : Bool) (after : After) (kind : FaultKind) (s : State) → read_access after.stepped ≡ None
+    → read_access (if can then after else faulted kind s).stepped ≡ None
 of_test true after kind s h = h
 of_test false after kind s h = refl
 
--- ---- the families
-
 module _ (s : State) where
-  of_load_at : (d at answer words : ℕ) → port_read (load d at answer words s).stepped ≡ port_at s at
+  of_load_at : (d at answer words : ℕ) → read_access (load d at answer words s).stepped ≡ option_map (λ (p : ℕ). In p answer) (port_at s at)
   of_load_at d at answer words =
-      of_load (is_core_register at) (nat_lt at 256) (nat_lt at (length s.mem.data)) at (loaded s at answer)
+      of_load (is_core_register at) (nat_lt at 256) (nat_lt at (length s.mem.data)) at answer (byte_at s at)
       (passed (with_register s d (loaded s at answer)) words) s
 
-  of_load_and_raise : (d pointer answer : ℕ) → port_read (load_and_raise d pointer answer s).stepped ≡ port_at s (pair s pointer)
+  of_load_and_raise : (d pointer answer : ℕ)
+      → read_access (load_and_raise d pointer answer s).stepped ≡ option_map (λ (p : ℕ). In p answer) (port_at s (pair s pointer))
   of_load_and_raise d pointer answer =
       let at = pair s pointer in
-      let byte = loaded s at answer in
-      of_load (is_core_register at) (nat_lt at 256) (nat_lt at (length s.mem.data)) at byte
-      (passed (with_pair (with_register s d byte) pointer (raised at)) 1) s
+      of_load (is_core_register at) (nat_lt at 256) (nat_lt at (length s.mem.data)) at answer (byte_at s at)
+      (passed (with_pair (with_register s d (loaded s at answer)) pointer (raised at)) 1) s
 
-  of_lower_and_load : (d pointer answer : ℕ) → port_read (lower_and_load d pointer answer s).stepped ≡ port_at s (lowered (pair s pointer))
+  of_lower_and_load : (d pointer answer : ℕ)
+      → read_access (lower_and_load d pointer answer s).stepped ≡ option_map (λ (p : ℕ). In p answer) (port_at s (lowered (pair s pointer)))
   of_lower_and_load d pointer answer =
       let at = lowered (pair s pointer) in
       let moved = with_pair s pointer at in
-      let byte = loaded moved at answer in
-      of_load (is_core_register at) (nat_lt at 256) (nat_lt at (length s.mem.data)) at byte
-      (passed (with_register moved d byte) 1) s
+      of_load (is_core_register at) (nat_lt at 256) (nat_lt at (length s.mem.data)) at answer (byte_at moved at)
+      (passed (with_register moved d (loaded moved at answer)) 1) s
 
-  of_store_at : (at byte words : ℕ) → port_read (store at byte words s).stepped ≡ None
+  of_store_at : (at byte words : ℕ) → read_access (store at byte words s).stepped ≡ None
   of_store_at at byte words =
-      of_store (is_core_register at) (nat_lt at 256) (nat_lt at (length s.mem.data)) at byte
-      (passed (stored s at byte) words) s
+      of_store (is_core_register at) (nat_lt at 256) (nat_lt at (length s.mem.data)) at byte (passed (stored s at byte) words) s
 
-  of_store_and_raise : (pointer byte : ℕ) → port_read (store_and_raise pointer byte s).stepped ≡ None
+  of_store_and_raise : (pointer byte : ℕ) → read_access (store_and_raise pointer byte s).stepped ≡ None
   of_store_and_raise pointer byte =
       let at = pair s pointer in
       of_store (is_core_register at) (nat_lt at 256) (nat_lt at (length s.mem.data)) at byte
       (passed (with_pair (stored s at byte) pointer (raised at)) 1) s
 
-  of_lower_and_store : (pointer byte : ℕ) → port_read (lower_and_store pointer byte s).stepped ≡ None
+  of_lower_and_store : (pointer byte : ℕ) → read_access (lower_and_store pointer byte s).stepped ≡ None
   of_lower_and_store pointer byte =
       let at = lowered (pair s pointer) in
       of_store (is_core_register at) (nat_lt at 256) (nat_lt at (length s.mem.data)) at byte
       (passed (stored (with_pair s pointer at) at byte) 1) s
 
-  of_load_flash : (d : ℕ) → port_read (load_flash d s).stepped ≡ None
+  of_load_flash : (d : ℕ) → read_access (load_flash d s).stepped ≡ None
   of_load_flash d = of_test (nat_lt (pair s pointer_z) (length s.mem.flash)) _ DataOut s refl
 
-  of_load_flash_and_raise : (d : ℕ) → port_read (load_flash_and_raise d s).stepped ≡ None
+  of_load_flash_and_raise : (d : ℕ) → read_access (load_flash_and_raise d s).stepped ≡ None
   of_load_flash_and_raise d = of_test (nat_lt (pair s pointer_z) (length s.mem.flash)) _ DataOut s refl
 
-  of_push : (byte : ℕ) → port_read (push byte s).stepped ≡ None
+  of_push : (byte : ℕ) → read_access (push byte s).stepped ≡ None
   of_push byte = of_test (is_sram s (stack_pointer s)) _ StackOut s refl
 
-  of_pop : (d : ℕ) → port_read (pop d s).stepped ≡ None
+  of_pop : (d : ℕ) → read_access (pop d s).stepped ≡ None
   of_pop d = of_test (is_sram s (raised (stack_pointer s))) _ StackOut s refl
 
-  of_call : (to back : ℕ) → port_read (call to back s).stepped ≡ None
+  of_call : (to back : ℕ) → read_access (call to back s).stepped ≡ None
   of_call to back =
       of_test (is_sram s (stack_pointer s) && is_sram s (lowered (stack_pointer s))) _ StackOut s refl
 
-  of_return : port_read (return_from_call s).stepped ≡ None
+  of_return : read_access (return_from_call s).stepped ≡ None
   of_return =
       of_test (is_sram s (raised (stack_pointer s)) && is_sram s (raised (raised (stack_pointer s)))) _ StackOut s refl
 
--- ---- the table
-
 read_by : (i : Option Instr) (answer : ℕ) (s : State)
-    → port_read (effect i answer s).stepped ≡ option_and_then (port_at s) (load_address i s)
+    → read_access (effect i answer s).stepped ≡ option_map (λ (p : ℕ). In p answer) (option_and_then (port_at s) (load_address i s))
+unfolding effect
 read_by (Some (LddZ d q)) answer s = of_load_at s d ((pair s pointer_z + q) % 65536) answer 1
 read_by (Some (LddY d q)) answer s = of_load_at s d ((pair s pointer_y + q) % 65536) answer 1
 read_by (Some (LdX d)) answer s = of_load_at s d (pair s pointer_x) answer 1
@@ -137,11 +134,34 @@ read_by (Some Ret) answer s = of_return s
 read_by _ answer s = refl
 
 when_whole : (whole : Bool) (i : Option Instr) (answer : ℕ) (s : State)
-    → port_read (if whole then effect i answer s else faulted PcOut s).stepped
-    ≡ (if whole then option_and_then (port_at s) (load_address i s) else None)
+    → read_access (if whole then effect i answer s else faulted PcOut s).stepped
+    ≡ option_map (λ (p : ℕ). In p answer) (if whole then option_and_then (port_at s) (load_address i s) else None)
 when_whole true i answer s = read_by i answer s
 when_whole false i answer s = refl
 
--- the port that a step reads is the one that the machine needs before it
+-- the read of a port that a step makes is one of the port that the machine needs before it, and gives the answer
+pub read_access-step : (answer : ℕ) (s : State) → read_access (step answer s).stepped ≡ option_map (λ (p : ℕ). In p answer) (needs_port s)
+unfolding step
+read_access-step answer s = when_whole (is_whole s) (instruction_at s s.pc) answer s
+
+-- the port of an access
+abbrev port_of : Option Access → Option ℕ
+port_of (Some (In port byte)) = Some port
+port_of _ = None
+
+port_of-access : (x : Stepped) → port_read x ≡ port_of (read_access x)
+port_of-access (Ran Silent) = refl
+port_of-access (Ran (In port byte)) = refl
+port_of-access (Ran (Out port byte)) = refl
+port_of-access (Ran (Read bank at byte)) = refl
+port_of-access (Ran (Write at byte)) = refl
+port_of-access (Ran Stack) = refl
+port_of-access Ended = refl
+port_of-access (Fault kind pc) = refl
+
+port_of-needed : (answer : ℕ) (port : Option ℕ) → port_of (option_map (λ (p : ℕ). In p answer) port) ≡ port
+port_of-needed answer None = refl
+port_of-needed answer (Some port) = refl
+
 pub port_read-step : (answer : ℕ) (s : State) → port_read (step answer s).stepped ≡ needs_port s
-port_read-step answer s = when_whole (is_whole s) (instruction_at s s.pc) answer s
+port_read-step answer s = port_of-access (step answer s).stepped ∙ ap port_of (read_access-step answer s) ∙ port_of-needed answer (needs_port s)

@@ -103,5 +103,6 @@ one_more m s a b (Some port) shorter e h =
     (λ acc ran. shorter next.state left (inputs_after b (Some port)) (agree_after port read.0 rest a b agree))
 
 pub same_run : (m : ℕ) (s : State) (a b : Inputs) → AgreeOn (trace_of (machine m a s)) a b → machine m b s ≡ machine m a s
+unfolding machine
 same_run zero s a b h = refl
 same_run (suc m) s a b h = one_more m s a b (needs_port s) (same_run m) refl h

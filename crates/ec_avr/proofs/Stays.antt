@@ -23,6 +23,7 @@ at_data : (at : ℕ) (after : After) (s : State) → Stays after s
 at_data at after s h = of_test (nat_lt at (length s.mem.data)) after DataOut s h
 
 pub stays : (i : Option Instr) (answer : ℕ) (s : State) → Stays (effect i answer s) s
+unfolding effect
 stays (Some (LddZ d q)) answer s = at_data ((pair s pointer_z + q) % 65536) _ s tt
 stays (Some (LddY d q)) answer s = at_data ((pair s pointer_y + q) % 65536) _ s tt
 stays (Some (LdX d)) answer s = at_data (pair s pointer_x) _ s tt

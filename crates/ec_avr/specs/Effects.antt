@@ -1,9 +1,18 @@
 -- What each instruction does (Microchip AVR Instruction Set Manual): first the families, and then the table.
-use Rattle.std.specs.Prelude.{ℕ, ◌+◌, ◌-◌, ◌*◌, ◌/◌, ◌%◌, ◌==◌, nat_lt, Bool, true, false, ◌&&◌, length, slice_index, if◌then◌else◌, ℤ, pos, negsuc, Option, Some, None, bit_and, bit_or, bit_xor}
+use Rattle.std.specs.Prelude.{ℕ, ◌+◌, ◌-◌, ◌*◌, ◌/◌, ◌%◌, ◌==◌, nat_lt, Bool, true, false, ◌&&◌, length, slice_index}
+use Rattle.std.specs.Prelude.{if◌then◌else◌, ℤ, pos, negsuc, Option, Some, None, bit_and, bit_or, bit_xor}
 use Rattle.std.specs.Int.{bit_at}
 use Rattle.ec_space.specs.declared.space.Bank.TheVariants.{Flash as FlashBank, Data as DataBank}
 use Rattle.ec_isa.specs.declared.instructions.Instr.{Instr}
-use Rattle.ec_isa.specs.declared.instructions.Instr.TheVariants.{Nop, Movw, Cpc, Sbc, Add, Cpse, Cp, Sub, Adc, And, Eor, Or, Mov, Mul, Cpi, Sbci, Subi, Ori, Andi, Ldi, LddZ, LddY, StdZ, StdY, Lds, Sts, LdZPlus, LdMinusZ, LdYPlus, LdMinusY, LdX, LdXPlus, LdMinusX, StZPlus, StMinusZ, StYPlus, StMinusY, StX, StXPlus, StMinusX, LpmZ, LpmZPlus, Pop, Push, Com, Neg, Swap, Inc, Asr, Lsr, Ror, Dec, Bset, Bclr, Ijmp, Icall, Ret, Break, Jmp, Call, Adiw, Sbiw, In as InInstr, Out as OutInstr, Rjmp, Rcall, Brbs, Brbc, Bld, Bst, Sbrc, Sbrs}
+use Rattle.ec_isa.specs.declared.instructions.Instr.TheVariants.{Nop, Movw, Cpc, Sbc, Add, Cpse, Cp, Sub, Adc, And, Eor}
+use Rattle.ec_isa.specs.declared.instructions.Instr.TheVariants.{Or, Mov, Mul, Cpi, Sbci, Subi, Ori, Andi, Ldi, LddZ}
+use Rattle.ec_isa.specs.declared.instructions.Instr.TheVariants.{LddY, StdZ, StdY, Lds, Sts, LdZPlus, LdMinusZ, LdYPlus}
+use Rattle.ec_isa.specs.declared.instructions.Instr.TheVariants.{LdMinusY, LdX, LdXPlus, LdMinusX, StZPlus, StMinusZ}
+use Rattle.ec_isa.specs.declared.instructions.Instr.TheVariants.{StYPlus, StMinusY, StX, StXPlus, StMinusX, LpmZ}
+use Rattle.ec_isa.specs.declared.instructions.Instr.TheVariants.{LpmZPlus, Pop, Push, Com, Neg, Swap, Inc, Asr, Lsr}
+use Rattle.ec_isa.specs.declared.instructions.Instr.TheVariants.{Ror, Dec, Bset, Bclr, Ijmp, Icall, Ret, Break, Jmp}
+use Rattle.ec_isa.specs.declared.instructions.Instr.TheVariants.{Call, Adiw, Sbiw, In as InInstr, Out as OutInstr, Rjmp}
+use Rattle.ec_isa.specs.declared.instructions.Instr.TheVariants.{Rcall, Brbs, Brbc, Bld, Bst, Sbrc, Sbrs}
 use Rattle.ec_isa.specs.Reading.{instruction_at as decoded}
 use Rattle.ec_avr.specs.declared.machine.Access.{Access}
 use Rattle.ec_avr.specs.declared.machine.Access.TheVariants.{Silent, In, Out, Read, Write, Stack}
@@ -11,8 +20,12 @@ use Rattle.ec_avr.specs.declared.machine.FaultKind.{FaultKind}
 use Rattle.ec_avr.specs.declared.machine.FaultKind.TheVariants.{Unsupported, DataOut, StackOut}
 use Rattle.ec_avr.specs.declared.machine.Stepped.{Stepped}
 use Rattle.ec_avr.specs.declared.machine.Stepped.TheVariants.{Ran, Ended, Fault}
-use Rattle.ec_avr.specs.State.{State, word_at, byte_at, with_byte, register, with_register, pair, with_pair, pointer_x, pointer_y, pointer_z, stack_pointer, with_stack_pointer, sreg, with_sreg, flag, is_core_register, is_port, is_sram, raised, lowered, with_pc, passed}
-use Rattle.ec_avr.specs.Flags.{with_bit, byte_sum, sum_flags, byte_difference, difference_flags, logic_flags, complement_flags, count_flags, shifted, shift_flags, pair_sum, pair_sum_flags, pair_difference, pair_difference_flags, product_flags}
+use Rattle.ec_avr.specs.State.{State, word_at, byte_at, with_byte, register, with_register, pair, with_pair, pointer_x}
+use Rattle.ec_avr.specs.State.{pointer_y, pointer_z, stack_pointer, with_stack_pointer, sreg, with_sreg, flag}
+use Rattle.ec_avr.specs.State.{is_core_register, is_port, is_sram, raised, lowered, with_pc, passed}
+use Rattle.ec_avr.specs.Flags.{with_bit, byte_sum, sum_flags, byte_difference, difference_flags, logic_flags}
+use Rattle.ec_avr.specs.Flags.{complement_flags, count_flags, shifted, shift_flags, pair_sum, pair_sum_flags}
+use Rattle.ec_avr.specs.Flags.{pair_difference, pair_difference_flags, product_flags}
 
 -- what a step did, and the state after it
 pub record After : Type 0 where
@@ -37,7 +50,8 @@ sum_into d y carry s =
 -- x less y and the borrow, into register Rd
 abbrev pub difference_into : (d x y borrow zero_before : ℕ) → State → After
 difference_into d x y borrow zero_before s =
-    silent (with_sreg (with_register s d (byte_difference x y borrow)) (difference_flags (sreg s) x y borrow zero_before))
+    silent (with_sreg (with_register s d (byte_difference x y borrow))
+    (difference_flags (sreg s) x y borrow zero_before))
 
 -- the flags of x less y and the borrow
 abbrev pub compare : (x y borrow zero_before : ℕ) → State → After
@@ -98,7 +112,8 @@ abbrev pub stored : State → (at byte : ℕ) → State
 stored s at byte = if is_port at then s else with_byte s at byte
 
 abbrev pub load_access : (at byte : ℕ) → Access
-load_access at byte = if is_core_register at then Silent else (if nat_lt at 256 then In at byte else Read DataBank at byte)
+load_access at byte =
+    if is_core_register at then Silent else (if nat_lt at 256 then In at byte else Read DataBank at byte)
 
 abbrev pub store_access : (at byte : ℕ) → Access
 store_access at byte = if is_core_register at then Silent else (if nat_lt at 256 then Out at byte else Write at byte)
@@ -207,7 +222,8 @@ call to back s =
     record {
       stepped = Ran Stack;
       state = with_pc
-          (with_stack_pointer (with_byte (with_byte s first (back % 256)) second (back / 256 % 256)) (lowered second)) to;
+          (with_stack_pointer (with_byte (with_byte s first (back % 256)) second (back / 256 % 256))
+          (lowered second)) to;
     }
     else faulted StackOut s
 
@@ -257,7 +273,7 @@ skip taken s =
 -- ---- the table
 
 -- the effect of an instruction, where the port that it reads answers a byte
-abbrev pub effect : Option Instr → ℕ → State → After
+unfoldable pub effect : Option Instr → ℕ → State → After
 effect None answer s = faulted Unsupported s
 effect (Some Nop) answer s = silent s
 effect (Some (Movw d r)) answer s = silent (with_pair s d (pair s r))

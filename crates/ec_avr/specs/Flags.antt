@@ -1,6 +1,7 @@
 -- The status register SREG after an operation (Microchip AVR Instruction Set Manual, "Status Register and Boolean
--- Formula" of each instruction). Its bits 0 to 7 are C (carry), Z (zero), N (negative), V (overflow of two's complement),
--- S (sign), H (half carry), T (transfer) and I (interrupts). Each flag is 0 or 1, and a flag that is not named stays.
+-- Formula" of each instruction). Its bits 0 to 7 are C (carry), Z (zero), N (negative), V (overflow of two's
+-- complement), S (sign), H (half carry), T (transfer) and I (interrupts). Each flag is 0 or 1, and a flag that is not
+-- named stays.
 use Rattle.std.specs.Prelude.{ℕ, ◌+◌, ◌-◌, ◌*◌, ◌/◌, ◌%◌, ◌^◌, ◌==◌, nat_lt, not, ◌&&◌}
 use Rattle.std.specs.Int.{bit_at, from_bool}
 
@@ -49,7 +50,8 @@ byte_difference x y borrow = (x + 256 - (y + borrow)) % 256
 abbrev pub difference_flags : (sreg x y borrow zero_before : ℕ) → ℕ
 difference_flags sreg x y borrow zero_before =
     let r = byte_difference x y borrow in
-    with_flags sreg (from_bool (nat_lt x (y + borrow))) (from_bool (r == 0) * zero_before) (r / 128) (difference_overflow 128 x y r)
+    with_flags sreg (from_bool (nat_lt x (y + borrow))) (from_bool (r == 0) * zero_before) (r / 128)
+    (difference_overflow 128 x y r)
     (from_bool (nat_lt (x % 16) (y % 16 + borrow)))
 
 -- AND, OR and EOR with the result r

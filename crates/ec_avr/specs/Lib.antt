@@ -1,6 +1,11 @@
+pub mod Decoded
+pub mod Bytes
 pub mod Effects
 pub mod Flags
 pub mod Flash
 pub mod Inputs
 pub mod Machine
+pub mod Placed
 pub mod State
+pub mod Laws
+pub mod Runs

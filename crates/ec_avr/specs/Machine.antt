@@ -1,5 +1,7 @@
 -- The machine: its steps and its runs (Microchip AVR Instruction Set Manual).
-use Rattle.std.specs.Prelude.{ℕ, zero, suc, ◌+◌, ◌*◌, ◌≡◌, ◌==◌, nat_lt, Bool, true, false, not, ◌&&◌, ◌||◌, if◌then◌else◌, ℤ, Option, Some, None, option_and_then, List, [], ◌∷◌, length, drop, slice_index, map}
+use Rattle.std.specs.Prelude.{ℕ, zero, suc, ◌+◌, ◌*◌, ◌≡◌, ◌==◌, nat_lt, Bool, true, false, not, ◌&&◌, ◌||◌}
+use Rattle.std.specs.Prelude.{if◌then◌else◌, ℤ, Option, Some, None, option_and_then, List, [], ◌∷◌, length, drop}
+use Rattle.std.specs.Prelude.{slice_index, map}
 use Rattle.std.specs.Int.{cast_signed, w16}
 use Rattle.std.specs.List.{range_with_len}
 use Rattle.ec_space.specs.Bytes.{AreBytes}
@@ -14,16 +16,17 @@ use Rattle.ec_avr.specs.declared.machine.PortAnswer.TheVariants.{Nothing, Byte}
 use Rattle.ec_avr.specs.declared.machine.Stepped.{Stepped}
 use Rattle.ec_avr.specs.declared.machine.Stepped.TheVariants.{Ran, Ended, Fault}
 pub use Rattle.ec_avr.specs.State.{State, word_at, is_in_flash, register, with_register, is_port, Keeps}
-pub use Rattle.ec_avr.specs.Effects.{After, faulted, silent, effect, instruction_at, has_two_words, load_address}
+pub use Rattle.ec_avr.specs.Effects.{After, faulted, silent, instruction_at, has_two_words, load_address}
+unfoldable pub use Rattle.ec_avr.specs.Effects.{effect}
 
 -- every word of the instruction at the program counter lies in flash
 abbrev pub is_whole : State → Bool
 is_whole s = is_in_flash s s.pc && (not (has_two_words (instruction_at s s.pc)) || is_in_flash s (s.pc + 1))
 
 -- A step, where the port that it reads answers a byte. The fault is the first that holds of these: a word of the
--- instruction lies past the flash, the table has no such instruction, a load or store lies past the memory, a push or pop
--- lies outside the SRAM
-abbrev pub step : ℕ → State → After
+-- instruction lies past the flash, the table has no such instruction, a load or store lies past the memory, a push or
+-- pop lies outside the SRAM
+unfoldable pub step : ℕ → State → After
 step answer s = if is_whole s then effect (instruction_at s s.pc) answer s else faulted PcOut s
 
 -- the address, if it is that of a port
@@ -38,6 +41,11 @@ needs_port s = if is_whole s then option_and_then (port_at s) (load_address (ins
 abbrev pub port_read : Stepped → Option ℕ
 port_read (Ran (In port byte)) = Some port
 port_read _ = None
+
+-- the read of a port that a step made
+abbrev pub read_access : Stepped → Option Access
+read_access (Ran (In port byte)) = Some (In port byte)
+read_access _ = None
 
 -- only a step that ran changes something, and a fault tells the program counter
 abbrev pub StaysUnlessRan : Stepped → State → State → Type 0
@@ -55,8 +63,8 @@ is_byte Nothing = false
 is_byte (Byte byte) = true
 
 -- R25:R24 as a signed number
-abbrev pub result_of : State → ℤ
-result_of s = cast_signed w16 (register s 24 + 256 * register s 25)
+abbrev pub machine_result : State → ℤ
+machine_result s = cast_signed w16 (register s 24 + 256 * register s 25)
 
 -- the bytes that each port is going to give
 abbrev pub Inputs : Type 0
@@ -87,11 +95,11 @@ preceded a (FaultedAt trace kind pc) = FaultedAt (a ∷ trace) kind pc
 -- a step and, where it ran, the run from its state on
 abbrev pub continued : (State → Run) → Stepped → State → Run
 continued rest (Ran a) s = preceded a (rest s)
-continued rest Ended s = EndedWith [] (result_of s)
+continued rest Ended s = EndedWith [] (machine_result s)
 continued rest (Fault kind pc) s = FaultedAt [] kind pc
 
 -- at most so many steps
-abbrev pub machine : ℕ → Inputs → State → Run
+unfoldable pub machine : ℕ → Inputs → State → Run
 machine zero inputs s = Running [] s
 machine (suc m) inputs s =
     let next = step (answer_of inputs (needs_port s)) s in

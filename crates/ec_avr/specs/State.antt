@@ -1,20 +1,14 @@
 -- The state of the machine and the places in it (Microchip AVR Instruction Set Manual and the data memory map of the
 -- ATmega328P).
-use Rattle.std.specs.Prelude.{◌≡◌, ℕ, ◌+◌, ◌*◌, ◌/◌, ◌%◌, ◌≤◌, ◌==◌, nat_lt, nat_le, Bool, not, ◌&&◌, ◌||◌, IsTrue, length, slice_index, slice_set}
+use Rattle.std.specs.Prelude.{◌≡◌, ℕ, ◌+◌, ◌*◌, ◌/◌, ◌%◌, ◌==◌, nat_lt, nat_le, Bool, not, ◌&&◌, ◌||◌, IsTrue, length}
+use Rattle.std.specs.Prelude.{slice_index, slice_set}
 use Rattle.std.specs.Int.{bit_at}
-use Rattle.ec_space.specs.Memory.{Memory, flash_size, data_size}
-use Rattle.ec_space.specs.declared.Core.{Core}
+use Rattle.ec_space.specs.Memory.{Memory}
 
 -- both banks, and the program counter, which counts words. The registers are the first 32 data bytes
 pub record State : Type 0 where
   pub mem : Memory
   pub pc : ℕ
-
--- the banks have the sizes of a core, which has all addresses of registers and ports
-pub record IsSized (core : Core) (m : Memory) : Type 0 where
-  pub flash : length m.flash ≡ flash_size core
-  pub sram : length m.data ≡ data_size core
-  pub ports : 256 ≤ length m.data
 
 -- the word of flash at a word address, and 0 past the flash
 abbrev pub word_at : State → ℕ → ℕ

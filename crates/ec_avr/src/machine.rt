@@ -11,7 +11,8 @@ mod table;
 mod transfers;
 
 use crate::Image;
-use ec_space::{Bank, Core, Mem, NoMemory};
+use ec_isa::Instr;
+use ec_space::{Bank, Core, Mem, NoMemory, Seq};
 pub(crate) use jumps::is_of_two_words;
 use places::is_port;
 use std::alloc::Global;
@@ -89,25 +90,40 @@ pub struct Machine {
     core: Core,
     memory: Mem,
     pc: u16,
+
+    /// What stands in flash at each word address, decoded once; past its end the flash is decoded as it is reached.
+    decoded: Seq<Option<Instr>>,
 }
 
 impl Model for Machine {
-    ghost use Rattle.ec_avr.specs.State.{State, IsSized};
+    ghost use Rattle.ec_avr.specs.State.{State};
+    ghost use Rattle.ec_avr.specs.Decoded.{IsMade};
 
     ghost Value = { State };
 
     ghost view = { λ m. record { mem = m.memory; pc = m.pc } };
 
-    ghost invariant = { λ m. IsSized m.core m.memory };
+    ghost invariant = { λ m. IsMade m.core m.memory m.decoded.items };
 }
 
 impl Machine {
     ghost use Rattle.std.specs.Prelude.{◌≡◌, ◌↔◌, ℕ, IsTrue, IsSome, IfOk};
-    ghost use Rattle.ec_avr.specs.Machine.{State, step, needs_port, port_at, port_read, StaysUnlessRan, Keeps, byte_of, is_byte, result_of, is_whole, IsReset, reset_with};
+    ghost use Rattle.ec_avr.specs.Machine.{State, step, needs_port, port_at, port_read, StaysUnlessRan, Keeps, byte_of};
+    ghost use Rattle.ec_avr.specs.Machine.{is_byte, machine_result, is_whole, instruction_at, IsReset, reset_with};
 
-    /// The machine after a reset: the program counter is 0, the flash is the image's, and the registers, SP, SREG and the
-    /// SRAM hold `fill`. No other call takes memory.
+    /// The machine after a reset: the program counter is 0, the flash is the image's, and the registers, SP, SREG and
+    /// the SRAM hold `fill`. No other call takes memory.
     pub fn boot(alloc: Global, image: &Image, fill: u8) -> Result<Machine, NoMemory>
+        ensures reset { IfOk result (λ s. IsReset image.now.core image.now.bytes.items s) }
+        ensures value { IfOk result (λ s. s ≡ reset_with image.now.core image.now.bytes.items fill) }
+    {
+        let mut machine = Machine::with_image(alloc, image, fill)?;
+        machine.decode_ahead()?;
+        Ok(machine)
+    }
+
+    /// The same, with nothing decoded ahead.
+    fn with_image(alloc: Global, image: &Image, fill: u8) -> Result<Machine, NoMemory>
         ensures reset { IfOk result (λ s. IsReset image.now.core image.now.bytes.items s) }
         ensures value { IfOk result (λ s. s ≡ reset_with image.now.core image.now.bytes.items fill) }
     {
@@ -121,7 +137,30 @@ impl Machine {
             core,
             memory,
             pc: 0,
+            decoded: Seq::new(alloc),
         })
+    }
+
+    /// Decodes the flash.
+    fn decode_ahead(&mut self) -> Result<(), NoMemory>
+        ensures { self.new ≡ self.old }
+    {
+        for _word in 0..self.core.flash_size() / 2 {
+            self.decode_next()?;
+        }
+        Ok(())
+    }
+
+    /// Decodes the word after those that are decoded.
+    fn decode_next(&mut self) -> Result<(), NoMemory>
+        ensures { self.new ≡ self.old }
+    {
+        let at = self.decoded.len();
+        if at < 0x1_0000 {
+            let found = self.decode_at(at as u32);
+            self.decoded.push(found)?;
+        }
+        Ok(())
     }
 
     /// The data address of the port that the next step reads, or None where it reads none.
@@ -133,6 +172,7 @@ impl Machine {
     }
 
     /// Makes one step. `answer` is the byte of the port that the step reads, if it reads one.
+    #[tactic(auto, unfolding(crate::specs::Machine::step, crate::specs::Effects::effect))]
     pub fn step(&mut self, answer: PortAnswer) -> Stepped
         requires { IsTrue (is_byte answer) ↔ IsSome (needs_port self.old) }
         ensures stepped { result ≡ (step (byte_of answer) self.old).stepped }
@@ -140,10 +180,11 @@ impl Machine {
         ensures stays { StaysUnlessRan result self.old self.new }
         ensures keeps { Keeps self.old.mem self.new.mem }
     {
-        if !self.is_whole() {
+        let found = self.instruction_at(self.pc as u32);
+        if !self.is_whole(found) {
             return Stepped::Fault(FaultKind::PcOut, self.pc);
         }
-        match self.instruction_at(self.pc as u32) {
+        match found {
             Some(instruction) => self.perform(instruction, answer.byte()),
             None => Stepped::Fault(FaultKind::Unsupported, self.pc),
         }
@@ -151,7 +192,7 @@ impl Machine {
 
     /// R25:R24 as a signed number, which is the result of a program that has ended.
     pub fn result(&self) -> i16
-        ensures { result ≡ result_of self.now }
+        ensures { result ≡ machine_result self.now }
     {
         self.pair(24).cast_signed()
     }
@@ -167,10 +208,11 @@ impl Machine {
     fn next_port(&self) -> Option<u8>
         ensures { result ≡ needs_port self.now }
     {
-        if !self.is_whole() {
+        let found = self.instruction_at(self.pc as u32);
+        if !self.is_whole(found) {
             return None;
         }
-        let at = self.load_address(self.instruction_at(self.pc as u32)?)?;
+        let at = self.load_address(found?)?;
         self.port_at(at)
     }
 
@@ -185,19 +227,20 @@ impl Machine {
         }
     }
 
-    /// Whether every word of the instruction at the program counter lies in flash.
-    fn is_whole(&self) -> bool
+    /// Whether every word of the instruction that was found at the program counter lies in flash.
+    fn is_whole(&self, found: Option<Instr>) -> bool
+        requires { found ≡ instruction_at self.now self.now.pc }
         ensures { result ≡ is_whole self.now }
     {
         let pc = self.pc as u32;
-        self.is_in_flash(pc)
-            && (!is_of_two_words(self.instruction_at(pc)) || self.is_in_flash(pc + 1))
+        self.is_in_flash(pc) && (!is_of_two_words(found) || self.is_in_flash(pc + 1))
     }
 }
 
 /// Fills all data bytes but those of ports.
 fn fill_memory(bytes: &mut [u8], fill: u8)
-    ensures { EachIndex bytes.new (λ at. slice_index bytes.new at ≡ (if is_port at then slice_index bytes.old at else fill)) }
+    ensures { EachIndex bytes.new (λ at. slice_index bytes.new at
+        ≡ (if is_port at then slice_index bytes.old at else fill)) }
 {
     for (at, byte) in bytes.iter_mut().enumerate() {
         if 255 < at || !is_port(at as u16) {

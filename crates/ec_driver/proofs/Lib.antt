@@ -1,11 +1,1 @@
-mod Returning
-mod Refusing
-mod CodeRun
-mod Lines
-mod Outs
-mod Inputs
-mod Built
-mod Complete
-mod Refused
-mod RunParts
-mod RunComplete
+mod Commands

@@ -1,10 +1,1 @@
-pub mod Words
-pub mod Source
-pub mod Code
-pub mod Stops
-pub mod Tells
-pub mod Shown
-pub mod Refusals
-pub mod Headline
-pub mod Builds
-pub mod Runs
+pub mod Commands

@@ -1,26 +1,12 @@
 //! A compiler, locating linker and emulator for Embedded C on AVR.
 #![tactic(auto)]
 
-mod build;
-mod code;
-mod compile;
-mod input;
 mod last;
-mod line;
-mod load;
-mod output;
-mod run;
-mod source;
-mod stop;
-#[cfg(test)]
-mod tests;
 mod top;
-mod words;
 
 use crate::last::LastWritten;
-use crate::line::tell;
-use crate::stop::{Stop, status};
 use crate::top::tool;
+use ec_commands::{CommandError, status, tell};
 use ec_emu::{Ask, Hook, Hooked};
 use ec_io::{RealSink, RealStore};
 use std::process::ExitCode;
@@ -53,9 +39,9 @@ fn main(rt: HostRuntime) -> ExitCode {
                 &mut hooks,
             ));
         }
-        Err(e) if e.kind() == io::ErrorKind::OutOfMemory => Stop::NoMemory,
+        Err(e) if e.kind() == io::ErrorKind::OutOfMemory => CommandError::NoMemory,
         // A word is not UTF-8, so the words are no command.
-        Err(_) => Stop::Usage,
+        Err(_) => CommandError::Usage,
     };
     tell(&mut err, &Vec::new(rt.alloc()), stop);
     ExitCode::from(status(stop))

@@ -1,9 +1,9 @@
-pub mod ByteRead
+pub mod Asks
 pub mod Traces
-pub mod Goes
-pub mod SeenMore
+pub mod HistoryMore
 pub mod Stepping
 pub mod Reports
 pub mod Words
 pub mod HookText
 pub mod Rules
+pub mod Places

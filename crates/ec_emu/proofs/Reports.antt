@@ -6,7 +6,7 @@ use Rattle.ec_io.proofs.Sinks.{appends_more}
 use Rattle.ec_avr.specs.declared.machine.Access.{Access}
 use Rattle.ec_emu.specs.declared.run.EmuEnd.{EmuEnd}
 use Rattle.ec_emu.specs.declared.run.EmuEnd.TheVariants.{Ended, StepsOut, Fault, WriteFault}
-use Rattle.ec_emu.specs.Emulation.{CutsLast, IsPrinted, StaysCalm}
+use Rattle.ec_emu.specs.Emulation.{CutsLast, IsPrinted, SinkCalm}
 use Rattle.ec_emu.specs.Lines.{port_line, port_lines}
 use Rattle.ec_emu.proofs.Traces.{port_lines-append}
 
@@ -41,7 +41,7 @@ no_fault (Fault kind pc) whole e = cc
 no_fault WriteFault whole e = whole
 
 pub calm_end : (before now : ℕ) (calm : ℕ → Type 0) (room : ℕ) (end : EmuEnd) (trace : List Access) → IsWhole end
-    → (now ≡ before) × calm (room - length (port_lines trace)) → StaysCalm before now calm room end trace
+    → (now ≡ before) × calm (room - length (port_lines trace)) → SinkCalm before now calm room end trace
 calm_end before now calm room end trace whole h = record { written = no_fault end whole; same = h.0; left = h.1 }
 
 pub room_on : (trace : List Access) (a : Access) (room : ℕ) → room - length (port_lines trace) - length (port_line a) ≡ room - length (port_lines (trace ++ a ∷ []))

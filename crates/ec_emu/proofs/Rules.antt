@@ -10,7 +10,7 @@ use Rattle.ec_emu.specs.declared.read.ScriptStop.{ScriptStop}
 use Rattle.ec_emu.specs.declared.read.ScriptStop.TheVariants.{Line, NoMemory}
 use Rattle.ec_emu.specs.declared.script.ScriptLine.{ScriptLine}
 use Rattle.ec_emu.specs.Forms.{Form, Passed, CoreName, Listed, NoForm}
-use Rattle.ec_emu.specs.Script.{Entry, entries, entry_of, is_passed, broken, AreKept, BreaksAt, Stops, forms_of}
+use Rattle.ec_emu.specs.Script.{Entry, entries, entry_of, is_passed, broken, AreKept, BreaksAt, IsNoScript, forms_of}
 use Rattle.ec_emu.proofs.Traces.{slice_get-front, slice_get-seam}
 
 pub entries-append : (xs ys : List Form) → entries (xs ++ ys) ≡ entries xs ++ entries ys
@@ -95,14 +95,14 @@ one_break forms line rule other next a b = either (cases_order a.n b.n)
     either (inr (inl below)) = absurd (not_kept forms line rule b.n a below b.before)
     either (inr (inr below)) = absurd (not_kept forms other next a.n b below a.before)
 
-pub only_stop : (core : Core) (text : List ℕ) (line rule : ℕ) → BreaksAt (forms_of core text) line rule → (stop : ScriptStop) → Stops core text stop → stop ≢ NoMemory
+pub only_stop : (core : Core) (text : List ℕ) (line rule : ℕ) → BreaksAt (forms_of core text) line rule → (stop : ScriptStop) → IsNoScript core text stop → stop ≢ NoMemory
     → Line line rule ≡ stop
 only_stop core text line rule b (Line other next) stops some =
     let same = one_break (forms_of core text) line rule other next b stops in
     ap (λ (l : ℕ). Line l rule) same.0 ∙ ap (λ (r : ℕ). Line other r) same.1
 only_stop core text line rule b NoMemory stops some = absurd (some refl)
 
-pub no_stop : (core : Core) (text : List ℕ) → AreKept (forms_of core text) → (stop : ScriptStop) → Stops core text stop → stop ≢ NoMemory → ⊥
+pub no_stop : (core : Core) (text : List ℕ) → AreKept (forms_of core text) → (stop : ScriptStop) → IsNoScript core text stop → stop ≢ NoMemory → ⊥
 no_stop core text kept (Line line rule) stops some = no_break (forms_of core text) line rule stops kept
 no_stop core text kept NoMemory stops some = some refl
 

@@ -8,7 +8,7 @@ use Rattle.ec_avr.specs.declared.machine.Access.{Access}
 use Rattle.ec_avr.specs.declared.machine.Access.TheVariants.{Silent, In, Out, Read, Write, Stack}
 use Rattle.ec_avr.specs.Inputs.{reads_of}
 use Rattle.ec_emu.specs.declared.ask.Ask.{Ask}
-use Rattle.ec_emu.specs.Answers.{last_written, ask_after, AreGiven, answers, reads_in, writes_in}
+use Rattle.ec_emu.specs.Answers.{last_written, ask_after, AreGiven, reads_in, writes_in}
 use Rattle.ec_emu.specs.Lines.{port_line, port_lines}
 
 pub reads_of-append : (port : ℕ) (xs ys : List Access) → reads_of port (xs ++ ys) ≡ reads_of port xs + reads_of port ys
@@ -81,19 +81,6 @@ writes_in_within (Out p byte ∷ xs) = omega (arith, writes_in_within xs)
 writes_in_within (Read bank at byte ∷ xs) = omega (arith, writes_in_within xs)
 writes_in_within (Write at byte ∷ xs) = omega (arith, writes_in_within xs)
 writes_in_within (Stack ∷ xs) = omega (arith, writes_in_within xs)
-
-pub answers-append : (xs ys : List Access) (port : ℕ) → answers (xs ++ ys) port ≡ answers xs port ++ answers ys port
-answers-append [] ys port = refl
-answers-append (Silent ∷ xs) ys port = answers-append xs ys port
-answers-append (In p byte ∷ xs) ys port = more (p == port) (answers (xs ++ ys) port) (answers xs port) (answers ys port) (answers-append xs ys port)
-  where
-    more : (same : Bool) (n a b : List ℕ) → n ≡ a ++ b → (if same then byte ∷ n else n) ≡ (if same then byte ∷ a else a) ++ b
-    more true n a b e = ap (λ (l : List ℕ). byte ∷ l) e
-    more false n a b e = e
-answers-append (Out p byte ∷ xs) ys port = answers-append xs ys port
-answers-append (Read bank at byte ∷ xs) ys port = answers-append xs ys port
-answers-append (Write at byte ∷ xs) ys port = answers-append xs ys port
-answers-append (Stack ∷ xs) ys port = answers-append xs ys port
 
 pub port_lines-append : (xs ys : List Access) → port_lines (xs ++ ys) ≡ port_lines xs ++ port_lines ys
 port_lines-append [] ys = refl

@@ -1,5 +1,7 @@
 -- The lines of a script, by their form. The format is this project's own.
-use Rattle.std.specs.Prelude.{ℕ, ◌≡◌, ◌+◌, ◌*◌, ◌==◌, MatchBool, Bool, true, false, not, ◌&&◌, if◌then◌else◌, Option, Some, None, option_map, option_and_then, List, [], ◌∷◌, ◌++◌, length, filter, bytes_eq, codes}
+use Rattle.std.specs.Prelude.{ℕ, ◌≡◌, ◌+◌, ◌*◌, ◌==◌, MatchBool, Bool, true, false, not, ◌&&◌, if◌then◌else◌, Option}
+use Rattle.std.specs.Prelude.{Some, None, option_map, option_and_then, List, [], ◌∷◌, ◌++◌, length, filter, bytes_eq}
+use Rattle.std.specs.Prelude.{codes}
 use Rattle.std.specs.Char.{digit_value, is_digit}
 use Rattle.std.specs.List.{slice_split, list_all}
 use Rattle.std.specs.Option.{option_map_or}
@@ -36,7 +38,8 @@ bytes_of (word ∷ more) = option_and_then (λ byte. option_map (λ bytes. byte 
 -- the byte of a word, or nothing of an empty one, stands behind others; or the word is neither
 abbrev pub PutsWord : List ℕ → List ℕ → List ℕ → Bool → Type 0
 PutsWord word old new fits =
-    MatchBool fits ((more : List ℕ) × ((bytes_of (filled (word ∷ [])) ≡ Some more) × (new ≡ old ++ more))) (bytes_of (filled (word ∷ [])) ≡ None)
+    MatchBool fits ((more : List ℕ) × ((bytes_of (filled (word ∷ [])) ≡ Some more) × (new ≡ old ++ more)))
+    (bytes_of (filled (word ∷ [])) ≡ None)
 
 -- the bytes behind a colon, each after one space or more. Spaces may come last
 abbrev pub bytes_behind : List ℕ → Option (List ℕ)
@@ -45,17 +48,20 @@ bytes_behind (c ∷ text) = if c == 32 then bytes_of (words text) else None
 
 -- ` hook` with exactly one space before it. Spaces may come last
 abbrev pub is_hook : List ℕ → Bool
-is_hook (a ∷ b ∷ c ∷ d ∷ e ∷ spaces) = bytes_eq (a ∷ b ∷ c ∷ d ∷ e ∷ []) (codes " hook") && list_all (λ c. c == 32) spaces
+is_hook (a ∷ b ∷ c ∷ d ∷ e ∷ spaces) =
+    bytes_eq (a ∷ b ∷ c ∷ d ∷ e ∷ []) (codes " hook") && list_all (λ c. c == 32) spaces
 is_hook _ = false
 
 abbrev pub listed : ℕ → List ℕ → Form
 listed port text =
-    if is_hook text then Listed port true [] else option_map_or (λ bytes. Listed port false bytes) (bytes_behind text) NoForm
+    if is_hook text then Listed port true []
+    else option_map_or (λ bytes. Listed port false bytes) (bytes_behind text) NoForm
 
 -- two digits and a colon, and what stands behind it
 abbrev pub port_form : List ℕ → Form
 port_form (c ∷ d ∷ colon ∷ text) =
-    if (is_digit c 16 && is_digit d 16) && (colon == 58) then listed (16 * digit_value c + digit_value d) text else NoForm
+    if (is_digit c 16 && is_digit d 16) && (colon == 58) then listed (16 * digit_value c + digit_value d) text
+    else NoForm
 port_form _ = NoForm
 
 abbrev pub core_line : Core → List ℕ

@@ -1,7 +1,7 @@
 pub mod Lines
 pub mod Answers
 pub mod Hooks
-pub mod Seen
+pub mod History
 pub mod Scripted
 pub mod Emulation
 pub mod Forms

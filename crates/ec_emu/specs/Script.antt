@@ -2,7 +2,8 @@
 --   1  the line has no form, or names the core where it is not the first line that is neither empty nor a comment
 --   2  its address is that of no port
 --   3  a line before it has the same address
-use Rattle.std.specs.Prelude.{ℕ, ◌+◌, ◌≡◌, ◌==◌, Bool, true, false, not, if◌then◌else◌, Option, Some, None, List, [], ◌∷◌, map, take, slice_get}
+use Rattle.std.specs.Prelude.{ℕ, ◌+◌, ◌≡◌, ◌==◌, Bool, true, false, not, if◌then◌else◌, Option, Some, None, List, []}
+use Rattle.std.specs.Prelude.{◌∷◌, map, take, slice_get}
 use Rattle.std.specs.List.{list_all, list_any}
 use Rattle.std.specs.Str.Lines.{lines}
 use Rattle.ec_space.specs.declared.Core.{Core}
@@ -40,7 +41,8 @@ abbrev pub broken : List Form → Form → Option ℕ
 broken before Passed = None
 broken before CoreName = if list_all is_passed before then None else Some 1
 broken before (Listed port hook bytes) =
-    if not (is_port port) then Some 2 else (if list_any (λ entry. entry.port == port) (entries before) then Some 3 else None)
+    if not (is_port port) then Some 2
+    else (if list_any (λ entry. entry.port == port) (entries before) then Some 3 else None)
 broken before NoForm = Some 1
 
 -- each line keeps the rules
@@ -57,6 +59,6 @@ pub record BreaksAt (forms : List Form) (line rule : ℕ) : Type 0 where
   pub breaks : broken (take n forms) form ≡ Some rule
 
 -- a text is no script for this reason
-abbrev pub Stops : Core → List ℕ → ScriptStop → Type 0
-Stops core text (stops.Line line rule) = BreaksAt (forms_of core text) line rule
-Stops core text stops.NoMemory = Unit {0}
+abbrev pub IsNoScript : Core → List ℕ → ScriptStop → Type 0
+IsNoScript core text (stops.Line line rule) = BreaksAt (forms_of core text) line rule
+IsNoScript core text stops.NoMemory = Unit {0}

@@ -2,7 +2,7 @@
 ghost use Rattle.std.specs.Prelude.{◌≡◌, ℕ, IsTrue};
 ghost use Rattle.ec_emu.specs.declared.ask.Ask.{Ask};
 ghost use Rattle.ec_emu.specs.Answers.{IsAsk};
-ghost use Rattle.ec_emu.specs.Hooks.{IsSound, rule_of};
+ghost use Rattle.ec_emu.specs.Hooks.{IsSound, IsHooked, function_of, rule_of};
 
 use crate::{Ask, Ports, Rule};
 
@@ -21,13 +21,14 @@ impl<F: Fn(Ask) -> u8, R: Rule> Hook<F, R> {
         requires callable { (ask : Ask) → IsAsk ask → F.pre f ask }
         requires allowed { (ask : Ask) (byte : ℕ) → IsAsk ask → F.post f ask byte → IsTrue (R.allows rule ask byte) }
         ensures sound { IsSound F.pre F.post R.allows result }
+        ensures function { function_of result ≡ f }
         ensures rule { rule_of result ≡ rule }
     {
         Hook { f, rule }
     }
 }
 
-/// Ports that answer each ask by a hook.
+/// Ports that answer each ask by a hook: what its function answers, which its rule allows.
 #[derive(Drop)]
 pub struct Hooked<F: Fn(Ask) -> u8, R: Rule> {
     pub hook: Hook<F, R>,
@@ -36,45 +37,9 @@ pub struct Hooked<F: Fn(Ask) -> u8, R: Rule> {
 impl<F: Fn(Ask) -> u8, R: Rule> Ports for Hooked<F, R> {
     ghost can_ask = { λ s. IsSound F.pre F.post R.allows s.hook };
 
-    ghost gives = { λ s ask byte. IsTrue (R.allows (rule_of s.hook) ask byte) };
+    ghost gives = { λ s. IsHooked F.post R.allows s.hook };
 
     fn ask(&mut self, ask: Ask) -> u8 {
         (self.hook.f)(ask)
-    }
-}
-
-#[cfg(test)]
-mod tests {
-    use super::*;
-    use std::test::Fail;
-
-    // The byte that was written last.
-    #[derive(Drop)]
-    struct Last;
-
-    impl Rule for Last {
-        ghost use Rattle.std.specs.Prelude.{◌==◌};
-
-        ghost allows = { λ _ ask byte. byte == ask.last };
-
-        fn allows(&self, ask: Ask, byte: u8) -> bool {
-            byte == ask.last
-        }
-    }
-
-    #[test]
-    fn answers(rt: HostRuntime) -> Result<(), Fail> {
-        let mut ports = Hooked {
-            hook: Hook::new(|ask: Ask| ask.last, Last),
-        };
-        let ask = Ask {
-            port: 0x25,
-            index: 1,
-            last: 9,
-        };
-        let byte = ports.ask(ask);
-        assert_eq!(rt; byte, 9);
-        assert!(rt; Last.allows(ask, byte));
-        Ok(())
     }
 }

@@ -1,16 +1,16 @@
 //! The emulator: runs of the AVR core with ports that answer from a script or from hooks.
 //!
-//! `specs/Lines.antt` says which lines a run prints, `specs/Answers.antt` what the answers of ports are, `specs/Emulation.antt`
-//! what a run is, and `specs/Script.antt` what a script is.
+//! `specs/Lines.antt` says which lines a run prints, `specs/Answers.antt` what the answers of ports are,
+//! `specs/Emulation.antt` what a run is, and `specs/Script.antt` what a script is.
 #![tactic(auto)]
 
 mod ask;
+mod history;
 mod hook;
 mod print;
 mod read;
 mod run;
 mod script;
-mod seen;
 
 pub use ask::{Ask, Ports, Rule};
 pub use hook::{Hook, Hooked};

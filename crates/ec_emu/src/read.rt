@@ -1,11 +1,13 @@
 //! Reading scripts.
-ghost use Rattle.std.specs.Prelude.{◌≡◌, ◌≢◌, ◌<◌, ◌+◌, ◌^◌, ◌⊎◌, ◌==◌, ◌++◌, ◌∷◌, [], not, ◌||◌, List, position, length, map, IfOk, IfErr, OnOk, IsErrOf, IsOkUnless, option_map};
+ghost use Rattle.std.specs.Prelude.{◌≡◌, ◌≢◌, ◌<◌, ◌+◌, ◌^◌, ◌⊎◌, ◌==◌, ◌++◌, ◌∷◌, [], not, ◌||◌, List, position};
+ghost use Rattle.std.specs.Prelude.{length, map, IfOk, IfErr, OnOk, IsErrOf, IsOkUnless, option_map};
 ghost use Rattle.std.specs.List.{list_all, list_any};
 ghost use Rattle.ec_avr.specs.State.{is_port};
 ghost use Rattle.ec_emu.specs.declared.read.ScriptStop.{ScriptStop};
 ghost use Rattle.ec_emu.specs.declared.read.ScriptStop.TheVariants.{NoMemory as OutOfMemory};
-ghost use Rattle.ec_emu.specs.Forms.{Form as LineForm, byte_of, bytes_of, bytes_behind, is_hook, listed, port_form, core_line, form_of, words, PutsWord};
-ghost use Rattle.ec_emu.specs.Script.{AreKept, Stops, entries, entry_of, forms_of, broken, is_passed};
+ghost use Rattle.ec_emu.specs.Forms.{Form as LineForm, byte_of, bytes_of, bytes_behind, is_hook, listed, port_form};
+ghost use Rattle.ec_emu.specs.Forms.{core_line, form_of, words, PutsWord};
+ghost use Rattle.ec_emu.specs.Script.{AreKept, IsNoScript, entries, entry_of, forms_of, broken, is_passed};
 ghost use Rattle.ec_emu.specs.Views.{form_view};
 
 use crate::script::{Script, ScriptLine};
@@ -201,7 +203,8 @@ fn begins(begun: bool, form: &Form) -> bool
 
 /// Puts the line of a port behind others.
 fn put(lines: &mut Seq<ScriptLine>, form: Form) -> Result<(), NoMemory>
-    ensures { OnOk result (map entry_of lines.new.items ≡ map entry_of lines.old.items ++ entries (form_view form ∷ [])) }
+    ensures { OnOk result (map entry_of lines.new.items
+        ≡ map entry_of lines.old.items ++ entries (form_view form ∷ [])) }
 {
     match form {
         Form::Listed(line) => lines.push(line),
@@ -209,10 +212,11 @@ fn put(lines: &mut Seq<ScriptLine>, form: Form) -> Result<(), NoMemory>
     }
 }
 
-/// The least rule that a line breaks after lines that were kept, of which these are the ports' lines. `begun` tells that one
-/// of them was neither empty nor a comment.
+/// The least rule that a line breaks after lines that were kept, of which these are the ports' lines. `begun` tells
+/// that one of them was neither empty nor a comment.
 fn broken(lines: &[ScriptLine], begun: bool, form: &Form) -> Option<u8>
-    ensures { (before : List LineForm) → map entry_of lines.now ≡ entries before → begun ≡ not (list_all is_passed before)
+    ensures { (before : List LineForm) → map entry_of lines.now ≡ entries before
+        → begun ≡ not (list_all is_passed before)
         → result ≡ broken before (form_view form.now) }
 {
     match form {
@@ -238,11 +242,11 @@ pub fn read_script(alloc: Global, core: Core, bytes: &Seq<u8>) -> Result<Script,
     requires few { length bytes.now.items < 2 ^ 32 }
     ensures kept { IfOk result (λ _. AreKept (forms_of core bytes.now.items)) }
     ensures lines { IfOk result (λ script. map entry_of script.lines.items ≡ entries (forms_of core bytes.now.items)) }
-    ensures stopped { IfErr result (Stops core bytes.now.items) }
+    ensures stopped { IfErr result (IsNoScript core bytes.now.items) }
 
-    // Where the text is a script, or breaks a rule first, no other answer comes but want of memory.
+    // Where the text is a script, or breaks a rule first, no other answer comes but out of memory.
     ensures script { AreKept (forms_of core bytes.now.items) → IsOkUnless result ScriptStop.NoMemory }
-    ensures stop { (stop : ScriptStop) → Stops core bytes.now.items stop → stop ≢ ScriptStop.NoMemory
+    ensures stop { (stop : ScriptStop) → IsNoScript core bytes.now.items stop → stop ≢ ScriptStop.NoMemory
         → IsErrOf result stop ⊎ IsErrOf result ScriptStop.NoMemory }
 {
     let mut lines = Seq::new(alloc);
@@ -261,8 +265,5 @@ pub fn read_script(alloc: Global, core: Core, bytes: &Seq<u8>) -> Result<Script,
         put(&mut lines, form)?;
         rest = more;
     }
-    Ok(Script { lines })
+    Ok(Script::new(lines))
 }
-
-#[cfg(test)]
-mod tests;

@@ -1,15 +1,16 @@
 //! Running the machine.
-ghost use Rattle.std.specs.Prelude.{◌≡◌, ◌≤◌, ◌↔◌, ◌<◌, ℕ, List, MatchOption, length};
+ghost use Rattle.std.specs.Prelude.{◌≡◌, ◌≤◌, ◌↔◌, ◌<◌, ℕ, List, length};
 ghost use Rattle.ec_avr.specs.declared.machine.Access.{Access};
-ghost use Rattle.ec_avr.specs.Machine.{step, needs_port, port_read, StaysUnlessRan};
+ghost use Rattle.ec_avr.specs.Machine.{step, needs_port, StaysUnlessRan};
 ghost use Rattle.ec_emu.specs.declared.ask.Ask.{Ask};
-ghost use Rattle.ec_emu.specs.Emulation.{IsRun, IsPrinted, StaysCalm, HasCause};
+ghost use Rattle.ec_emu.specs.Answers.{WereAsked, asks_of};
+ghost use Rattle.ec_emu.specs.Emulation.{IsRun, IsPrinted, SinkCalm, RunCause};
 ghost use Rattle.ec_emu.specs.Lines.{port_lines};
-ghost use Rattle.ec_emu.specs.Seen.{ask_of};
+ghost use Rattle.ec_emu.specs.History.{IsAnsweredBy};
 
 use crate::Ports;
+use crate::history::PortHistory;
 use crate::print::print;
-use crate::seen::Seen;
 use ec_avr::{FaultKind, Machine, PortAnswer, Stepped};
 use ec_io::Sink;
 
@@ -36,39 +37,40 @@ pub struct EmuReport {
     pub writes: u32,
 }
 
-/// Makes a step. The ports are asked where it reads one.
-fn make_step<P: Ports>(machine: &mut Machine, ports: &mut P, seen: &Seen) -> Stepped
+/// Makes a step. The ports are asked once where it reads one.
+fn make_step<P: Ports>(machine: &mut Machine, ports: &mut P, history: &PortHistory) -> Stepped
     requires { P.can_ask ports.old }
     ensures can { P.can_ask ports.new }
-    ensures steps { (byte : ℕ) × ((result ≡ (step byte machine.old).stepped) × ((machine.new ≡ (step byte machine.old).state)
-        × MatchOption (needs_port machine.old) (byte ≡ 0) (λ port. P.gives ports.old (ask_of seen.now port) byte))) }
+    ensures steps { (byte : ℕ) × ((result ≡ (step byte machine.old).stepped)
+        × ((machine.new ≡ (step byte machine.old).state)
+        × IsAnsweredBy (P.gives ports.old) (P.asked ports.old) (P.asked ports.new) history.now (needs_port machine.old)
+        byte)) }
     ensures unless_ran { StaysUnlessRan result machine.old machine.new }
-    ensures reads { (byte : ℕ) → port_read (step byte machine.old).stepped ≡ needs_port machine.old }
     ensures stays { (ask : Ask) (byte : ℕ) → P.gives ports.new ask byte ↔ P.gives ports.old ask byte }
-    ensures beside { (ask : Ask) (byte : ℕ) → P.beside ports.new ask byte ↔ P.beside ports.old ask byte }
+    ensures passed_on { (ask : Ask) (byte : ℕ) → P.passed_on ports.new ask byte ↔ P.passed_on ports.old ask byte }
     ensures held { P.held ports.new ≡ P.held ports.old }
 {
     let answer = match machine.needs_port() {
-        Some(port) => PortAnswer::Byte(ports.ask(seen.ask(port))),
+        Some(port) => PortAnswer::Byte(ports.ask(history.ask(port))),
         None => PortAnswer::Nothing,
     };
     machine.step(answer)
 }
 
-fn report(seen: &Seen, end: EmuEnd) -> EmuReport
+fn report(history: &PortHistory, end: EmuEnd) -> EmuReport
     ensures end { result.end ≡ end }
-    ensures reads { result.reads ≡ seen.now.all_reads }
-    ensures writes { result.writes ≡ seen.now.all_writes }
+    ensures reads { result.reads ≡ history.now.all_reads }
+    ensures writes { result.writes ≡ history.now.all_writes }
 {
     EmuReport {
         end,
-        reads: seen.all_reads,
-        writes: seen.all_writes,
+        reads: history.all_reads,
+        writes: history.all_writes,
     }
 }
 
-/// Runs the machine for at most so many steps, and writes a line for each read and each write of a port, after its step.
-/// The ports are asked at each read. It takes no memory.
+/// Runs the machine for at most so many steps, and writes a line for each read and each write of a port, after its
+/// step. The ports are asked at each read, once, and at no other step. It takes no memory.
 pub fn emulate<P: Ports, O: Sink>(
     machine: &mut Machine,
     ports: &mut P,
@@ -79,30 +81,28 @@ pub fn emulate<P: Ports, O: Sink>(
     ensures can { P.can_ask ports.new }
     ensures run { (trace : List Access) × (IsRun (P.gives ports.old) steps machine.old machine.new result trace
         × (IsPrinted (O.written sink.old) (O.written sink.new) result.end trace
-        × ((room : ℕ) → O.calm sink.old room → length (port_lines trace) ≤ room
-        → StaysCalm (O.faults sink.old) (O.faults sink.new) (O.calm sink.new) room result.end trace))) }
-    ensures cause { HasCause (O.faults sink.old) (O.faults sink.new) result.end }
+        × (((room : ℕ) → O.calm sink.old room → length (port_lines trace) ≤ room
+        → SinkCalm (O.faults sink.old) (O.faults sink.new) (O.calm sink.new) room result.end trace)
+        × WereAsked (P.asked ports.old) (P.asked ports.new) (asks_of trace)))) }
+    ensures cause { RunCause (O.faults sink.old) (O.faults sink.new) result.end }
     ensures rest { O.rest sink.new ≡ O.rest sink.old }
     ensures stays { (ask : Ask) (byte : ℕ) → P.gives ports.new ask byte ↔ P.gives ports.old ask byte }
-    ensures beside { (ask : Ask) (byte : ℕ) → P.beside ports.new ask byte ↔ P.beside ports.old ask byte }
+    ensures passed_on { (ask : Ask) (byte : ℕ) → P.passed_on ports.new ask byte ↔ P.passed_on ports.old ask byte }
     ensures held { P.held ports.new ≡ P.held ports.old }
 {
-    let mut seen = Seen::new();
+    let mut history = PortHistory::new();
     'steps: for _made in 0..steps {
-        match make_step(machine, ports, &seen) {
+        match make_step(machine, ports, &history) {
             Stepped::Ran(access) => {
-                seen.note(access);
+                history.note(access);
                 match print(sink, access) {
                     Ok(()) => {}
-                    Err(_) => return report(&seen, EmuEnd::WriteFault),
+                    Err(_) => return report(&history, EmuEnd::WriteFault),
                 }
             }
-            Stepped::Ended => return report(&seen, EmuEnd::Ended(machine.result())),
-            Stepped::Fault(kind, pc) => return report(&seen, EmuEnd::Fault(kind, pc)),
+            Stepped::Ended => return report(&history, EmuEnd::Ended(machine.result())),
+            Stepped::Fault(kind, pc) => return report(&history, EmuEnd::Fault(kind, pc)),
         }
     }
-    report(&seen, EmuEnd::StepsOut)
+    report(&history, EmuEnd::StepsOut)
 }
-
-#[cfg(test)]
-mod tests;

@@ -11,7 +11,7 @@ use Rattle.ec_avr.specs.Flash.{flash_size}
 use Rattle.ec_hex.specs.Record.{Record, Data, EndOfFile, Base, Start, Reading, Empty, NoRecord, WrongSum, Sound}
 use Rattle.ec_hex.specs.Denotes.{addressed, data_of, records_of, records_in, HoldsJust, Denotes}
 use Rattle.ec_hex.specs.Reading.{base_after}
-use Rattle.ec_hex.specs.Stops.{readings_of, told, data_in, is_passed, AreInFlash, AreOnce, IsClear, StopsIn, Stops}
+use Rattle.ec_hex.specs.Stops.{readings_of, told, data_in, is_passed, AreInFlash, AreOnce, IsClear, StopsIn, HasStop}
 use Rattle.ec_hex.specs.declared.read.HexStop.{HexStop}
 use Rattle.ec_hex.specs.declared.read.HexStop.TheVariants.{BadRecord, BadSum, OutOfFlash, Twice, NoEnd, NoMemory}
 
@@ -44,7 +44,7 @@ data_of-append base (Sound EndOfFile ∷ xs) ys all = cc all.0
 data_of-append base (Sound (Base next) ∷ xs) ys all = data_of-append next xs ys all.1
 data_of-append base (Sound Start ∷ xs) ys all = data_of-append base xs ys all.1
 
--- the data of a front is a front of the data
+-- the data of a front is a prefix of the data
 data_of-front : (base : ℕ) (xs ys : List Reading) → (more : List (ℕ × ℕ)) × (data_of base (told (xs ++ ys)) ≡ data_of base (told xs) ++ more)
 data_of-front base [] ys = (data_of base (told ys), refl)
 data_of-front base (Empty ∷ xs) ys = data_of-front base xs ys
@@ -354,7 +354,7 @@ memory_or_not (Twice line) = inr (λ e. cc)
 memory_or_not NoEnd = inr (λ e. cc)
 memory_or_not NoMemory = inl refl
 
-pub no_image : (core : Core) (text : List ℕ) (stop : HexStop) → Stops core text stop → (bytes : List ℕ) (written : List Bool)
+pub no_image : (core : Core) (text : List ℕ) (stop : HexStop) → HasStop core text stop → (bytes : List ℕ) (written : List Bool)
     → Denotes core text bytes written → stop ≡ NoMemory
 no_image core text stop h bytes written image = either (memory_or_not stop)
   where
@@ -362,7 +362,7 @@ no_image core text stop h bytes written image = either (memory_or_not stop)
     either (inl same) = same
     either (inr some) = same_stop core (readings_of text) stop NoMemory (halted core (readings_of text) stop h some) (denoted core text bytes written image)
 
-pub only_stop : (core : Core) (text : List ℕ) (stop : HexStop) → Stops core text stop → (other : HexStop) → Stops core text other → other ≢ NoMemory
+pub only_stop : (core : Core) (text : List ℕ) (stop : HexStop) → HasStop core text stop → (other : HexStop) → HasStop core text other → other ≢ NoMemory
     → (stop ≡ other) ⊎ (stop ≡ NoMemory)
 only_stop core text stop h other k some = either (memory_or_not stop)
   where

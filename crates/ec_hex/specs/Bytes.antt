@@ -1,5 +1,6 @@
 -- Bytes as pairs of hexadecimal digits, and their sum.
-use Rattle.std.specs.Prelude.{ℕ, ◌+◌, ◌*◌, ◌/◌, ◌%◌, nat_lt, if◌then◌else◌, ◌&&◌, Option, Some, None, option_map, List, [], ◌∷◌}
+use Rattle.std.specs.Prelude.{ℕ, ◌+◌, ◌*◌, ◌/◌, ◌%◌, nat_lt, if◌then◌else◌, ◌&&◌, Option, Some, None, option_map, List}
+use Rattle.std.specs.Prelude.{[], ◌∷◌}
 use Rattle.std.specs.Char.{digit_value, is_digit}
 
 -- a digit in upper case
@@ -15,7 +16,8 @@ abbrev pub bytes_of : List ℕ → Option (List ℕ)
 bytes_of [] = Some []
 bytes_of (c ∷ []) = None
 bytes_of (c ∷ d ∷ more) =
-    if is_digit c 16 && is_digit d 16 then option_map (λ bytes. (16 * digit_value c + digit_value d) ∷ bytes) (bytes_of more) else None
+    if is_digit c 16 && is_digit d 16
+    then option_map (λ bytes. (16 * digit_value c + digit_value d) ∷ bytes) (bytes_of more) else None
 
 abbrev pub total : List ℕ → ℕ
 total [] = 0

@@ -1,9 +1,11 @@
 -- What an Intel HEX text denotes.
-use Rattle.std.specs.Prelude.{ℕ, ◌+◌, ◌≡◌, ◌≢◌, ◌==◌, ◌<◌, if◌then◌else◌, Bool, Option, Some, None, option_map, is_some, unwrap_or, IsSomeAnd, List, [], ◌∷◌, ◌++◌, length, map, slice_get, All, AllPairs}
+use Rattle.std.specs.Prelude.{ℕ, ◌+◌, ◌≡◌, ◌≢◌, ◌==◌, ◌<◌, if◌then◌else◌, Bool, Option, Some, None, option_map, is_some}
+use Rattle.std.specs.Prelude.{unwrap_or, IsSomeAnd, List, [], ◌∷◌, ◌++◌, length, map, slice_get, All, AllPairs}
 use Rattle.std.specs.Str.Lines.{lines}
 use Rattle.ec_space.specs.declared.Core.{Core}
 use Rattle.ec_avr.specs.Flash.{flash_size}
-use Rattle.ec_hex.specs.Record.{Record, Data, EndOfFile, Base, Start, Reading, Empty, NoRecord, WrongSum, Sound, reading_of}
+use Rattle.ec_hex.specs.Record.{Record, Data, EndOfFile, Base, Start, Reading, Empty, NoRecord, WrongSum, Sound}
+use Rattle.ec_hex.specs.Record.{reading_of}
 
 -- the records of lines up to the end record, which has to come; none where a line before it is no record or has a wrong
 -- sum. Empty lines are passed over, and what follows the end record counts for nothing
@@ -24,8 +26,8 @@ abbrev pub addressed : ℕ → List ℕ → List (ℕ × ℕ)
 addressed at [] = []
 addressed at (byte ∷ bytes) = (at, byte) ∷ addressed (at + 1) bytes
 
--- all data bytes of records beside their addresses, which are base, offset and place together; the base is given, up to the
--- first record that sets it
+-- all data bytes of records beside their addresses, which are base, offset and place together; the base is given, up to
+-- the first record that sets it
 abbrev pub data_of : ℕ → List Record → List (ℕ × ℕ)
 data_of base [] = []
 data_of base (Data offset bytes ∷ more) = addressed (base + offset) bytes ++ data_of base more
@@ -48,4 +50,5 @@ pub record HoldsJust (core : Core) (cells : List (ℕ × ℕ)) (bytes : List ℕ
 
 -- a text denotes the image of a core with these bytes and flags. No text denotes two
 abbrev pub Denotes : Core → List ℕ → List ℕ → List Bool → Type 0
-Denotes core text bytes written = IsSomeAnd (records_in text) (λ records. HoldsJust core (data_of 0 records) bytes written)
+Denotes core text bytes written =
+    IsSomeAnd (records_in text) (λ records. HoldsJust core (data_of 0 records) bytes written)

@@ -33,14 +33,17 @@ pub record HasRead (readings : List Reading) (reader : Reader) : Type 0 where
   pub image : Holds reader.image (data_in readings)
   pub base : reader.base ≡ base_after 0 (told readings)
 
--- line n, counted from 0, was read, where all lines before it are clear: it was the end record, or is passed, or stops the reading
+-- line n, counted from 0, was read, where all lines before it are clear: it was the end record, or is passed, or stops
+-- the reading
 abbrev pub ReadsLine : Core → List Reading → ℕ → Result Bool HexStop → Reader → Type 0
-ReadsLine core readings n (Ok true) reader = (slice_get readings n ≡ Some (Sound EndOfFile)) × Holds reader.image (data_in (take n readings))
+ReadsLine core readings n (Ok true) reader =
+    (slice_get readings n ≡ Some (Sound EndOfFile)) × Holds reader.image (data_in (take n readings))
 ReadsLine core readings n (Ok false) reader = HasRead (take (n + 1) readings) reader
 ReadsLine core readings n (Err stop) reader = StopsIn core readings stop
 
 -- a line that reads like this is read, whichever lines stand before it
 abbrev pub ReadsOn : Reading → ℕ → Reader → Result Bool HexStop → Reader → Type 0
 ReadsOn reading line old result new =
-    (readings : List Reading) (n : ℕ) → line ≡ n + 1 → slice_get readings n ≡ Some reading → HasRead (take n readings) old
+    (readings : List Reading) (n : ℕ) → line ≡ n + 1 → slice_get readings n ≡ Some reading
+    → HasRead (take n readings) old
     → ReadsLine old.image.core readings n result new

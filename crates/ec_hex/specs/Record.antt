@@ -1,6 +1,7 @@
 -- The records of the Intel HEX format, as its lines tell them (Intel, Hexadecimal Object File Format Specification,
 -- Revision A, 1988).
-use Rattle.std.specs.Prelude.{ℕ, ◌+◌, ◌*◌, ◌%◌, ◌==◌, nat_le, ◌&&◌, if◌then◌else◌, Option, Some, None, List, [], ◌∷◌, length, take, slice_index}
+use Rattle.std.specs.Prelude.{ℕ, ◌+◌, ◌*◌, ◌%◌, ◌==◌, nat_le, ◌&&◌, if◌then◌else◌, Option, Some, None, List, [], ◌∷◌}
+use Rattle.std.specs.Prelude.{length, take, slice_index}
 use Rattle.std.specs.Option.{option_map_or}
 use Rattle.ec_hex.specs.Bytes.{bytes_of, total}
 
@@ -42,8 +43,8 @@ abbrev pub summed : ℕ → Option Record → Reading
 summed sum None = NoRecord
 summed sum (Some what) = if sum % 256 == 0 then Sound what else WrongSum
 
--- how a line of these bytes reads: the number of data bytes, the offset (the higher byte first), the type, the data and the
--- checksum. The number and the offset are at most 65,536 together, whatever the type
+-- how a line of these bytes reads: the number of data bytes, the offset (the higher byte first), the type, the data and
+-- the checksum. The number and the offset are at most 65,536 together, whatever the type
 abbrev pub reading_of_bytes : List ℕ → Reading
 reading_of_bytes (count ∷ high ∷ low ∷ kind ∷ more) =
     if (length more == count + 1) && nat_le (256 * high + low + count) 65536

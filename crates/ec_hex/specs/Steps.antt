@@ -10,7 +10,7 @@ abbrev pub run_line : ℕ → List ℕ → List ℕ
 run_line at [] = []
 run_line at (byte ∷ bytes) = record_line Data at (byte ∷ bytes)
 
--- after so many bytes these went out too, or a front of them, and the result counts all
+-- after so many bytes these went out too, or a prefix of them, and the result counts all
 abbrev pub WritesOn : ℕ → Option (List ℕ) → Option (List ℕ) → Result ℕ Written → List ℕ → Type 0
 WritesOn done old new r bytes =
     MatchResult r (λ after. (after ≡ done + length bytes) × Appends old new bytes)

@@ -1,5 +1,6 @@
 -- Why a text denotes no image, and at which line.
-use Rattle.std.specs.Prelude.{ℕ, ◌+◌, ◌<◌, ◌≡◌, ◌≢◌, Bool, true, false, List, [], ◌∷◌, Some, map, take, slice_get, All, AllPairs}
+use Rattle.std.specs.Prelude.{ℕ, ◌+◌, ◌<◌, ◌≡◌, ◌≢◌, Bool, true, false, List, [], ◌∷◌, Some, map, take, slice_get, All}
+use Rattle.std.specs.Prelude.{AllPairs}
 use Rattle.std.specs.Str.Lines.{lines}
 use Rattle.ec_space.specs.declared.Core.{Core}
 use Rattle.ec_avr.specs.Flash.{flash_size}
@@ -44,7 +45,8 @@ pub record IsClear (core : Core) (readings : List Reading) : Type 0 where
   pub in_flash : AreInFlash core (data_in readings)
   pub once : AreOnce (data_in readings)
 
--- the lines before a line, which is counted from 1, are clear, and the line itself, which is counted from 0, has a fault
+-- the lines before a line, which is counted from 1, are clear, and the line itself, which is counted from 0, has a
+-- fault
 abbrev pub StopsAt : Core → List Reading → ℕ → (ℕ → Type 0) → Type 0
 StopsAt core readings line HasFault = (n : ℕ) × ((line ≡ n + 1) × (IsClear core (take n readings) × HasFault n))
 
@@ -52,12 +54,14 @@ StopsAt core readings line HasFault = (n : ℕ) × ((line ≡ n + 1) × (IsClear
 abbrev pub StopsIn : Core → List Reading → HexStop → Type 0
 StopsIn core readings (stops.BadRecord line) = StopsAt core readings line (λ n. slice_get readings n ≡ Some NoRecord)
 StopsIn core readings (stops.BadSum line) = StopsAt core readings line (λ n. slice_get readings n ≡ Some WrongSum)
-StopsIn core readings (stops.OutOfFlash line) = StopsAt core readings line (λ n. ¬ AreInFlash core (data_in (take (n + 1) readings)))
+StopsIn core readings (stops.OutOfFlash line) =
+    StopsAt core readings line (λ n. ¬ AreInFlash core (data_in (take (n + 1) readings)))
 StopsIn core readings (stops.Twice line) =
-    StopsAt core readings line (λ n. AreInFlash core (data_in (take (n + 1) readings)) × ¬ AreOnce (data_in (take (n + 1) readings)))
+    StopsAt core readings line (λ n. AreInFlash core (data_in (take (n + 1) readings))
+    × ¬ AreOnce (data_in (take (n + 1) readings)))
 StopsIn core readings stops.NoEnd = IsClear core readings
 StopsIn core readings stops.NoMemory = Unit {0}
 
 -- the reading of a text stops in this way: at the first line that has a fault, or because no end record stands there
-abbrev pub Stops : Core → List ℕ → HexStop → Type 0
-Stops core text stop = StopsIn core (readings_of text) stop
+abbrev pub HasStop : Core → List ℕ → HexStop → Type 0
+HasStop core text stop = StopsIn core (readings_of text) stop

@@ -1,5 +1,6 @@
 -- The Intel HEX text of an image.
-use Rattle.std.specs.Prelude.{ℕ, zero, suc, ◌+◌, ◌-◌, ◌/◌, ◌%◌, if◌then◌else◌, Bool, Option, Some, None, List, [], ◌∷◌, ◌++◌, length}
+use Rattle.std.specs.Prelude.{ℕ, zero, suc, ◌+◌, ◌-◌, ◌/◌, ◌%◌, if◌then◌else◌, Bool, Option, Some, None, List, [], ◌∷◌}
+use Rattle.std.specs.Prelude.{◌++◌, length}
 use Rattle.ec_avr.specs.declared.image.Image.{Image}
 use Rattle.ec_hex.specs.Bytes.{digits_of, total}
 use Rattle.ec_hex.specs.declared.line.RecordType.{RecordType}

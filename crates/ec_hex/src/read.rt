@@ -1,10 +1,11 @@
 //! Reading Intel HEX.
-ghost use Rattle.std.specs.Prelude.{◌≡◌, ◌≢◌, ◌<◌, ◌+◌, ◌++◌, ◌^◌, ◌⊎◌, ℕ, Bool, List, Some, length, take, MatchResult, IfOk, IfErr, IsErrOf, IsOkUnless};
+ghost use Rattle.std.specs.Prelude.{◌≡◌, ◌≢◌, ◌<◌, ◌+◌, ◌++◌, ◌^◌, ◌⊎◌, ℕ, Bool, List, Some, length, take, MatchResult};
+ghost use Rattle.std.specs.Prelude.{IfOk, IfErr, IsErrOf, IsOkUnless};
 ghost use Rattle.ec_hex.specs.declared.read.HexStop.{HexStop};
 ghost use Rattle.ec_hex.specs.declared.read.HexStop.TheVariants.{NoMemory as OutOfMemory};
 ghost use Rattle.ec_hex.specs.Denotes.{Denotes, addressed};
 ghost use Rattle.ec_hex.specs.Reading.{Holds, Misfit};
-ghost use Rattle.ec_hex.specs.Stops.{Stops};
+ghost use Rattle.ec_hex.specs.Stops.{HasStop};
 
 use crate::record::{Reading, Record, bytes_of, reading_of};
 use crate::text::first_line;
@@ -13,8 +14,8 @@ use ec_space::{Core, NoMemory, Seq};
 use std::alloc::Global;
 use thiserror::Error;
 
-/// Why a text denotes no image. The first line that has a fault is told, by its number from 1, and of its faults the first
-/// in this order.
+/// Why a text denotes no image. The first line that has a fault is told, by its number from 1, and of its faults the
+/// first in this order.
 #[derive(Clone, Copy, Debug, PartialEq, Eq, Error)]
 pub enum HexStop {
     /// A line that is neither empty nor of the form of a record.
@@ -125,18 +126,18 @@ fn put_bytes(image: &mut Image, at: u64, bytes: &[u8], line: u32) -> Result<(), 
 
 /// The image that a text denotes for a core, or why it denotes none.
 ///
-/// Digits stand in either case. Lines end with LF or CRLF, the last may stand without an end, and empty lines are passed
-/// over, but all are counted. What follows the end record is not looked at.
+/// Digits stand in either case. Lines end with LF or CRLF, the last may stand without an end, and empty lines are
+/// passed over, but all are counted. What follows the end record is not looked at.
 pub fn read_hex(alloc: Global, core: Core, bytes: &Seq<u8>) -> Result<Image, HexStop>
     requires few { length bytes.now.items < 2 ^ 32 }
     ensures core { IfOk result (λ image. image.core ≡ core) }
     ensures denoted { IfOk result (λ image. Denotes core bytes.now.items image.bytes.items image.written.items) }
-    ensures stopped { IfErr result (Stops core bytes.now.items) }
+    ensures stopped { IfErr result (HasStop core bytes.now.items) }
 
-    // Where the text denotes an image, or stops in some way, no other answer comes but want of memory.
+    // Where the text denotes an image, or stops in some way, no other answer comes but out of memory.
     ensures image { (image : List ℕ) (written : List Bool) → Denotes core bytes.now.items image written
         → IsOkUnless result HexStop.NoMemory }
-    ensures stop { (stop : HexStop) → Stops core bytes.now.items stop → stop ≢ HexStop.NoMemory
+    ensures stop { (stop : HexStop) → HasStop core bytes.now.items stop → stop ≢ HexStop.NoMemory
         → IsErrOf result stop ⊎ IsErrOf result HexStop.NoMemory }
 {
     let mut reader = Reader {
@@ -156,6 +157,3 @@ pub fn read_hex(alloc: Global, core: Core, bytes: &Seq<u8>) -> Result<Image, Hex
     }
     Err(HexStop::NoEnd)
 }
-
-#[cfg(test)]
-mod tests;

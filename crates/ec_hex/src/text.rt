@@ -24,8 +24,8 @@ pub fn digit_number(c: u8) -> Option<u8>
     }
 }
 
-/// The first line of a text without its end, and the text behind it. A line ends with LF or CRLF, and the last may stand
-/// without an end.
+/// The first line of a text without its end, and the text behind it. A line ends with LF or CRLF, and the last may
+/// stand without an end.
 pub fn first_line(text: &[u8]) -> (&[u8], &[u8])
     requires { 0 < length text.now }
     ensures value { lines text.now ≡ result.0.now ∷ lines result.1.now }

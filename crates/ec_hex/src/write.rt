@@ -106,6 +106,3 @@ pub fn write_hex<O: Sink>(sink: &mut O, image: &Image) -> Result<(), Written>
     let written = image.written.as_slice();
     put_text(sink, bytes, written)
 }
-
-#[cfg(test)]
-mod tests;

@@ -46,20 +46,20 @@ sink_written None new (Err e) bytes h = tt
 sink_written (Some disk) new (Ok n) bytes h = appends disk.files disk.input disk.output new (take n bytes) h
 sink_written (Some disk) new (Err e) bytes h = rw h (keeps (written_of (Some disk)))
 
-rest_on : (files : Files) (input : Option (List ℕ × ℕ)) (output : Option (List ℕ)) (new : Option Disk) (bytes : List ℕ) (held : GName)
+rest_on : (files : Files) (input : Option (List ℕ × ℕ)) (output : Option (List ℕ)) (new : Option Disk) (bytes : List ℕ) (counts : ℕ × ℕ) (held : GName)
     → IsSomeAnd output (λ name. new ≡ Some (appended name bytes (record { files = files; input = input; output = output })))
-    → rest_of new held ≡ rest_of (Some (record { files = files; input = input; output = output })) held
-rest_on files input None new bytes held h = absurd h
-rest_on files input (Some name) new bytes held h =
-    rw h (ap (λ (m : Files). record { name = Some name; others = Some m; held = Some held }) (remove-insert files name (content files name ++ bytes)))
+    → rest_of new counts held ≡ rest_of (Some (record { files = files; input = input; output = output })) counts held
+rest_on files input None new bytes counts held h = absurd h
+rest_on files input (Some name) new bytes counts held h =
+    rw h (ap (λ (m : Files). record { name = Some name; others = Some m; counts = Some counts; held = Some held }) (remove-insert files name (content files name ++ bytes)))
 
-pub sink_rest : {E : Type 0} (old new : Option Disk) (r : Result ℕ E) (bytes : List ℕ) (held : GName)
-    → Writes old new r bytes → rest_of new held ≡ rest_of old held
-sink_rest None new r bytes held h = ap (λ (d : Option Disk). rest_of d held) h
-sink_rest (Some disk) new (Ok n) bytes held h = rest_on disk.files disk.input disk.output new (take n bytes) held h
-sink_rest (Some disk) new (Err e) bytes held h = ap (λ (d : Option Disk). rest_of d held) h
+pub sink_rest : {E : Type 0} (old new : Option Disk) (r : Result ℕ E) (bytes : List ℕ) (counts : ℕ × ℕ) (held : GName)
+    → Writes old new r bytes → rest_of new counts held ≡ rest_of old counts held
+sink_rest None new r bytes counts held h = ap (λ (d : Option Disk). rest_of d counts held) h
+sink_rest (Some disk) new (Ok n) bytes counts held h = rest_on disk.files disk.input disk.output new (take n bytes) counts held h
+sink_rest (Some disk) new (Err e) bytes counts held h = ap (λ (d : Option Disk). rest_of d counts held) h
 
--- a front of some bytes, and then a front of the rest
+-- a prefix of some bytes, and then a prefix of the rest
 pub fronts : (bytes : List ℕ) (done n : ℕ)
     → take done bytes ++ take n (take (length bytes - done) (drop done bytes)) ≡ take (done + n) bytes
 fronts bytes done n =

@@ -13,13 +13,13 @@ goes due there not_due here = rw (not_due, here) refl
 
 -- a calm store is calm after a call that counts, keeps its files and adds no fault
 pub calm_on : (old new : Stored) (names : List (List ℕ)) (made : List ℕ) (room left : ℕ) → IsCalmStore old names made room → IsCounted old new
-    → ((name : List ℕ) → IsSome (get old.disk.files name) → IsSome (get new.disk.files name)) → new.faults ≡ old.faults → left ≤ new.room
+    → ((name : List ℕ) → IsSome (get old.disk.files name) → IsSome (get new.disk.files name)) → new.read_faults ≡ old.read_faults → new.write_faults ≡ old.write_faults → left ≤ new.room
     → IsCalmStore new names made left
-calm_on old new names made room left calm counted files faults fits = record {
+calm_on old new names made room left calm counted files read written fits = record {
   there = λ name among. files name (calm.there name among);
   own = calm.own ∙ sym counted.made;
   fits = fits;
-  count = rw faults calm.count;
+  counts = rw (read, written) calm.counts;
   past = rw (counted.fail, counted.calls) (past_on old.fail old.calls calm.past);
 }
 

@@ -1,5 +1,6 @@
 -- What the calls of a store and a sink do where they tell what they hold. What they do not tell, they never tell.
-use Rattle.std.specs.Prelude.{ℕ, ◌-◌, ◌<◌, ◌≤◌, ◌≡◌, Bool, List, length, take, drop, Option, Some, None, Result, MatchResult, IsSome, IsSomeAnd, is_some}
+use Rattle.std.specs.Prelude.{ℕ, ◌-◌, ◌<◌, ◌≤◌, ◌≡◌, Bool, List, length, take, drop, Option, Some, None, Result}
+use Rattle.std.specs.Prelude.{MatchResult, IsSome, IsSomeAnd, is_some}
 use Rattle.std.specs.FinMap.{get}
 use Rattle.ec_io.specs.Disk.{Disk, content, opened, created, read_on, appended}
 use Rattle.ec_io.specs.Causes.{Counted}
@@ -32,11 +33,12 @@ pub record IsTaken (n : ℕ) (bytes : List ℕ) : Type 0 where
   pub within : n ≤ length bytes
   pub some : 0 < length bytes → 0 < n
 
--- a write appends a front of the bytes to the created file; a refusal leaves all as it was
+-- a write appends a prefix of the bytes to the created file; a refusal leaves all as it was
 abbrev pub Writes : {E : Type 0} → Option Disk → Option Disk → Result ℕ E → List ℕ → Type 0
 Writes None new r bytes = new ≡ None
 Writes (Some disk) new r bytes =
-    MatchResult r (λ n. IsSomeAnd disk.output (λ name. new ≡ Some (appended name (take n bytes) disk))) (λ _. new ≡ Some disk)
+    MatchResult r (λ n. IsSomeAnd disk.output (λ name. new ≡ Some (appended name (take n bytes) disk)))
+    (λ _. new ≡ Some disk)
 
 -- the count of received bytes rises by those that a read gave
 abbrev pub Counts : {E : Type 0} → ℕ → ℕ → Result ℕ E → Type 0

@@ -1,5 +1,6 @@
 -- What the fields of a store in memory stand for, and what they keep.
-use Rattle.std.specs.Prelude.{ℕ, ◌≡◌, ◌≤◌, List, [], Bool, true, false, if◌then◌else◌, Option, Some, None, IfSome, option_map, unwrap_or}
+use Rattle.std.specs.Prelude.{ℕ, ◌≡◌, ◌≤◌, List, [], Bool, true, false, if◌then◌else◌, Option, Some, None, IfSome}
+use Rattle.std.specs.Prelude.{option_map, unwrap_or}
 use Rattle.std.specs.FinMap.{get}
 use Rattle.ec_io.specs.MemFiles.{files_of, told_files, name_of, Names}
 use Rattle.ec_io.specs.Memory.{Stored}
@@ -22,7 +23,8 @@ stored_of s = record {
   room = s.room;
   fail = s.schedule.fail.items;
   calls = s.schedule.calls;
-  faults = s.schedule.faults;
+  read_faults = s.read_faults;
+  write_faults = s.write_faults;
   received = s.received;
 }
 

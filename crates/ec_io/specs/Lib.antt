@@ -8,3 +8,4 @@ pub mod Untold
 pub mod Memory
 pub mod MemFiles
 pub mod InMemory
+pub mod Views

@@ -30,7 +30,8 @@ pub record Kept : Type 0 where
 
 abbrev pub kept_code : Coded Kept
 kept_code =
-    code_by (List ℕ × (ℕ × (List ℕ × (ℕ × ℕ)))) (coded× (coded_list coded_ℕ) (coded× coded_ℕ (coded× (coded_list coded_ℕ) (coded× coded_ℕ coded_ℕ))))
+    code_by (List ℕ × (ℕ × (List ℕ × (ℕ × ℕ))))
+    (coded× (coded_list coded_ℕ) (coded× coded_ℕ (coded× (coded_list coded_ℕ) (coded× coded_ℕ coded_ℕ))))
     (λ s. (s.text, (s.room, (s.fail, (s.calls, s.faults)))))
     (λ p. record { text = p.0; room = p.1.0; fail = p.1.1.0; calls = p.1.1.1.0; faults = p.1.1.1.1 }) (λ _. refl)
 
@@ -50,35 +51,57 @@ pub record Stored : Type 0 where
   -- the numbers of the calls that fail
   pub fail : List ℕ
   pub calls : ℕ
-  pub faults : ℕ
+  -- how often opening or reading failed, and creating or writing
+  pub read_faults : ℕ
+  pub write_faults : ℕ
   pub received : ℕ
 
 abbrev pub disk_code : Coded Disk
 disk_code =
     code_by (Files × (Option (List ℕ × ℕ) × Option (List ℕ)))
-    (coded× (code (coded_list coded_ℕ) (coded_list coded_ℕ)) (coded× (coded_option (coded× (coded_list coded_ℕ) coded_ℕ)) (coded_option (coded_list coded_ℕ))))
+    (coded× (code (coded_list coded_ℕ) (coded_list coded_ℕ))
+    (coded× (coded_option (coded× (coded_list coded_ℕ) coded_ℕ)) (coded_option (coded_list coded_ℕ))))
     (λ d. (d.files, (d.input, d.output))) (λ p. record { files = p.0; input = p.1.0; output = p.1.1 }) (λ _. refl)
 
 abbrev pub stored_code : Coded Stored
 stored_code =
-    code_by (Disk × (List ℕ × (ℕ × (List ℕ × (ℕ × (ℕ × ℕ))))))
-    (coded× disk_code (coded× (coded_list coded_ℕ) (coded× coded_ℕ (coded× (coded_list coded_ℕ) (coded× coded_ℕ (coded× coded_ℕ coded_ℕ))))))
-    (λ s. (s.disk, (s.made, (s.room, (s.fail, (s.calls, (s.faults, s.received)))))))
-    (λ p. record { disk = p.0; made = p.1.0; room = p.1.1.0; fail = p.1.1.1.0; calls = p.1.1.1.1.0; faults = p.1.1.1.1.1.0; received = p.1.1.1.1.1.1 })
+    code_by (Disk × (List ℕ × (ℕ × (List ℕ × (ℕ × (ℕ × (ℕ × ℕ)))))))
+    (coded× disk_code (coded× (coded_list coded_ℕ) (coded× coded_ℕ (coded× (coded_list coded_ℕ)
+    (coded× coded_ℕ (coded× coded_ℕ (coded× coded_ℕ coded_ℕ)))))))
+    (λ s. (s.disk, (s.made, (s.room, (s.fail, (s.calls, (s.read_faults, (s.write_faults, s.received))))))))
+    (λ p. record {
+      disk = p.0;
+      made = p.1.0;
+      room = p.1.1.0;
+      fail = p.1.1.1.0;
+      calls = p.1.1.1.1.0;
+      read_faults = p.1.1.1.1.1.0;
+      write_faults = p.1.1.1.1.1.1.0;
+      received = p.1.1.1.1.1.1.1;
+    })
     (λ _. refl)
 
 -- before the first call
 abbrev pub fresh_store : Files → List ℕ → ℕ → List ℕ → Stored
 fresh_store files made room fail =
-    record { disk = record { files = files; input = None; output = None }; made = made; room = room; fail = fail; calls = 0; faults = 0; received = 0 }
+    record {
+      disk = record { files = files; input = None; output = None };
+      made = made;
+      room = room;
+      fail = fail;
+      calls = 0;
+      read_faults = 0;
+      write_faults = 0;
+      received = 0;
+    }
 
--- no later call fails that opens one of these names, reads or writes with a file opened for it, or creates this file, as long as the
--- bytes fit the room
+-- no later call fails that opens one of these names, reads or writes with a file opened for it, or creates this file,
+-- as long as the bytes fit the room
 pub record IsCalmStore (s : Stored) (names : List (List ℕ)) (made : List ℕ) (room : ℕ) : Type 0 where
   pub there : (name : List ℕ) → Contains names name → IsSome (get s.disk.files name)
   pub own : made ≡ s.made
   pub fits : room ≤ s.room
-  pub count : s.faults < greatest
+  pub counts : (s.read_faults < greatest) × (s.write_faults < greatest)
   pub past : IsPast s.fail s.calls
 
 -- what every call of a store in memory does: it counts, and keeps its list and the name that it creates

@@ -13,4 +13,6 @@ some_same x y h = cc
 
 -- a store that always tells has the flags of what it tells
 pub flags_told : {disk told : Disk} → Some disk ≡ Some told → IsFlagged told (is_some disk.input) (is_some disk.output)
-flags_told {disk} {told} h = subst (λ d. IsFlagged d (is_some disk.input) (is_some disk.output)) (some_same disk told h) (record { input = refl; output = refl })
+flags_told {disk} {told} h =
+    subst (λ d. IsFlagged d (is_some disk.input) (is_some disk.output)) (some_same disk told h)
+    (record { input = refl; output = refl })

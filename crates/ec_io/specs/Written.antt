@@ -1,4 +1,4 @@
--- What a call left in a sink that wrote all of some bytes, or a front of them.
+-- What a call left in a sink that wrote all of some bytes, or a prefix of them.
 use Rattle.std.specs.Prelude.{ℕ, ◌<◌, List, Option, Result, MatchResult, length, take}
 use Rattle.std.specs.Io.KnownBytes.{Appends}
 use Rattle.ec_io.specs.declared.write.Written.{Written}

@@ -11,8 +11,6 @@ mod real;
 mod schedule;
 mod sink;
 mod store;
-#[cfg(test)]
-mod tests;
 mod write;
 
 pub use file_sink::FileSink;

@@ -1,5 +1,6 @@
 //! A list of files, and which of them is read.
-ghost use Rattle.std.specs.Prelude.{◌≡◌, ◌≤◌, None, IfOk, true, false, MatchOption, slice_get, option_map, is_some, min, length, take, drop, ◌-◌};
+ghost use Rattle.std.specs.Prelude.{◌≡◌, ◌≤◌, None, IfOk, true, false, MatchOption, slice_get, option_map, is_some};
+ghost use Rattle.std.specs.Prelude.{min, length, take, drop, ◌-◌};
 ghost use Rattle.std.specs.FinMap.{get};
 ghost use Rattle.ec_io.specs.Disk.{content};
 ghost use Rattle.ec_io.specs.MemFiles.{files_of, told_files, IsFound, Names, bytes_of};
@@ -36,7 +37,8 @@ pub fn find(files: &[MemFile], name: &[u8]) -> Option<Source>
 /// The file of a name among those of the list and, where it stands, the one that was created.
 pub fn source_of(files: &[MemFile], made: &MemFile, stands: bool, name: &[u8]) -> Option<Source>
     requires { stands ≡ false → get (files_of files.now) made.now.name.items ≡ None }
-    ensures { MatchOption result (get (told_files files.now made.now stands) name.now ≡ None) (Names files.now made.now stands name.now) }
+    ensures { MatchOption result (get (told_files files.now made.now stands) name.now ≡ None)
+        (Names files.now made.now stands name.now) }
 {
     if !stands {
         return find(files, name);
@@ -71,7 +73,8 @@ pub fn is_given(files: &[MemFile], name: &[u8]) -> bool
     find(files, name).is_some()
 }
 
-/// The bytes of the named file of a list, none where there is no such file, with room for `room` bytes once it is empty.
+/// The bytes of the named file of a list, none where there is no such file, with room for `room` bytes once it is
+/// empty.
 pub fn copied(
     alloc: Global,
     files: &[MemFile],

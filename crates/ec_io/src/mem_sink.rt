@@ -1,12 +1,13 @@
 //! A sink in memory.
-ghost use Rattle.std.specs.Prelude.{◌≡◌, ◌<◌, ◌≤◌, ◌-◌, ◌==◌, ◌&&◌, ◌||◌, ℕ, [], Some, IfOk, OnOk, is_err, min, length, nat_lt};
+ghost use Rattle.std.specs.Prelude.{◌≡◌, ◌<◌, ◌≤◌, ◌-◌, ◌==◌, ◌&&◌, ◌||◌, ℕ, [], Some, IfOk, MatchResult, is_err, min};
+ghost use Rattle.std.specs.Prelude.{length, nat_lt};
 ghost use Rattle.std.specs.Io.KnownBytes.{WriteAppends};
 ghost use Rattle.ec_io.specs.Causes.{HasCause, Went, greatest};
 ghost use Rattle.ec_io.specs.Calls.{IsTaken};
 ghost use Rattle.ec_io.specs.Rest.{no_rest};
 ghost use Rattle.ec_io.specs.Memory.{IsCalmSink, is_due, next_call};
 
-use crate::schedule::Schedule;
+use crate::schedule::{Schedule, fault};
 use crate::{Failed, Sink};
 use ec_space::{NoMemory, Seq};
 use std::alloc::Global;
@@ -17,6 +18,7 @@ use std::marker::Model;
 pub struct MemSink {
     text: Seq<u8>,
     room: u32,
+    faults: u64,
     schedule: Schedule,
 }
 
@@ -28,7 +30,13 @@ impl Model for MemSink {
 
     ghost coded = { kept_code };
 
-    ghost view = { λ s. record { text = s.text.items; room = s.room; fail = s.schedule.fail.items; calls = s.schedule.calls; faults = s.schedule.faults } };
+    ghost view = { λ s. record {
+      text = s.text.items;
+      room = s.room;
+      fail = s.schedule.fail.items;
+      calls = s.schedule.calls;
+      faults = s.faults;
+    } };
 
     ghost invariant = { λ s. s.room ≤ s.text.spare };
 }
@@ -44,6 +52,7 @@ impl MemSink {
         Ok(MemSink {
             text,
             room,
+            faults: 0,
             schedule: Schedule::new(fail),
         })
     }
@@ -68,9 +77,11 @@ impl Sink for MemSink {
     /// Fails exactly where its number stands in the list, or the bytes are some and no room is left. Else it takes as
     /// many of the bytes as there is room for.
     fn write(&mut self, bytes: &[u8]) -> Result<usize, Failed>
-        ensures fails { is_err result ≡ (is_due self.old.fail self.old.calls || (self.old.room == 0 && nat_lt 0 (length bytes.now))) }
+        ensures fails { is_err result ≡
+            (is_due self.old.fail self.old.calls || (self.old.room == 0 && nat_lt 0 (length bytes.now))) }
         ensures most { IfOk result (λ n. n ≡ min (length bytes.now) self.old.room) }
-        ensures room { IfOk result (λ n. self.new.room ≡ self.old.room - n) }
+        ensures room { MatchResult result (λ n. self.new.room ≡ self.old.room - n)
+            (λ _. self.new.room ≡ self.old.room) }
         ensures calls { self.new.calls ≡ next_call self.old.calls }
         ensures fail { self.new.fail ≡ self.old.fail }
         ensures taken { IfOk result (λ n. IsTaken n bytes.now) }
@@ -80,10 +91,10 @@ impl Sink for MemSink {
             → Went self.old.faults self.new.faults result × IfOk result (λ n. IsCalmSink self.new (room - n)) }
     {
         if self.schedule.next() {
-            return Err(self.schedule.fault());
+            return Err(fault(&mut self.faults));
         }
         if self.room == 0 && !bytes.is_empty() {
-            return Err(self.schedule.fault());
+            return Err(fault(&mut self.faults));
         }
         let n = bytes.len().min(self.room as usize);
         match self.text.extend_from_slice(&bytes[..n]) {

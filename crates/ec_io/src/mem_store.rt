@@ -1,5 +1,7 @@
 //! A store in memory.
-ghost use Rattle.std.specs.Prelude.{◌≡◌, ◌<◌, ◌≤◌, ◌-◌, ◌==◌, ◌&&◌, ◌||◌, ℕ, List, Some, None, IfOk, IfSome, OnOk, is_err, is_none, is_some, not, true, min, length, nat_lt, bytes_eq, option_map, Contains, MatchResult};
+ghost use Rattle.std.specs.Prelude.{◌≡◌, ◌<◌, ◌≤◌, ◌-◌, ◌==◌, ◌&&◌, ◌||◌, ℕ, List, Some, None, IfOk, IfSome, OnOk};
+ghost use Rattle.std.specs.Prelude.{is_err, is_none, is_some, not, true, min, length, nat_lt, bytes_eq, option_map};
+ghost use Rattle.std.specs.Prelude.{Contains, MatchResult};
 ghost use Rattle.std.specs.Io.{ReadsAtMost};
 ghost use Rattle.std.specs.FinMap.{get};
 ghost use Rattle.ec_io.specs.Causes.{HasCause, Went};
@@ -9,7 +11,7 @@ ghost use Rattle.ec_io.specs.Memory.{IsCalmStore, IsCounted, fresh_store, is_due
 ghost use Rattle.ec_io.specs.MemFiles.{files_of};
 
 use crate::mem_file::{MemFile, Source, copied, is_given, put_next, source_bytes, source_of};
-use crate::schedule::Schedule;
+use crate::schedule::{Schedule, fault};
 use crate::{Failed, Store};
 use ec_space::{Name, NoMemory, Seq};
 use std::alloc::Global;
@@ -32,6 +34,8 @@ pub struct MemStore {
     input: Option<Place>,
     room: u32,
     received: u64,
+    read_faults: u64,
+    write_faults: u64,
     schedule: Schedule,
 }
 
@@ -72,6 +76,8 @@ impl MemStore {
             input: None,
             room,
             received: 0,
+            read_faults: 0,
+            write_faults: 0,
             schedule: Schedule::new(fail),
         })
     }
@@ -99,13 +105,15 @@ impl Store for MemStore {
 
     ghost writing = { λ s. is_some s.disk.output };
 
-    ghost faults = { λ s. s.faults };
+    ghost read_faults = { λ s. s.read_faults };
+
+    ghost write_faults = { λ s. s.write_faults };
 
     ghost received = { λ s. s.received };
 
     ghost calm = { IsCalmStore };
 
-    ghost below = { λ s names made room calm. calm.count };
+    ghost below = { λ s names made room calm. calm.counts };
 
     ghost use Rattle.ec_io.specs.Untold.{flags_told};
 
@@ -113,19 +121,23 @@ impl Store for MemStore {
 
     /// Fails exactly where its number stands in the list or the file is absent.
     fn open_file(&mut self, name: &str) -> Result<(), Failed>
-        ensures fails { is_err result ≡ (is_due self.old.fail self.old.calls || is_none (get self.old.disk.files name.now)) }
+        ensures fails { is_err result ≡
+            (is_due self.old.fail self.old.calls || is_none (get self.old.disk.files name.now)) }
         ensures counted { IsCounted self.old self.new }
         ensures room { self.new.room ≡ self.old.room }
         ensures disk { Opens name.now (Some self.old.disk) (Some self.new.disk) result }
-        ensures reading { MatchResult result (λ _. is_some self.new.disk.input ≡ true) (λ _. is_some self.new.disk.input ≡ is_some self.old.disk.input) }
+        ensures reading { MatchResult result (λ _. is_some self.new.disk.input ≡ true)
+            (λ _. is_some self.new.disk.input ≡ is_some self.old.disk.input) }
         ensures writing { is_some self.new.disk.output ≡ is_some self.old.disk.output }
-        ensures cause { HasCause self.old.faults self.new.faults result }
+        ensures cause { HasCause self.old.read_faults self.new.read_faults result }
+        ensures other_faults { self.new.write_faults ≡ self.old.write_faults }
         ensures received { self.new.received ≡ self.old.received }
-        ensures calm { (names : List (List ℕ)) (made : List ℕ) (room : ℕ) → IsCalmStore self.old names made room → Contains names name.now
-            → Went self.old.faults self.new.faults result × IsCalmStore self.new names made room }
+        ensures calm { (names : List (List ℕ)) (made : List ℕ) (room : ℕ) → IsCalmStore self.old names made room
+            → Contains names name.now
+            → Went self.old.read_faults self.new.read_faults result × IsCalmStore self.new names made room }
     {
         if self.schedule.next() {
-            return Err(self.schedule.fault());
+            return Err(fault(&mut self.read_faults));
         }
         match source_of(
             self.files.as_slice(),
@@ -137,7 +149,7 @@ impl Store for MemStore {
                 self.input = Some(Place { source, at: 0 });
                 Ok(())
             }
-            None => Err(self.schedule.fault()),
+            None => Err(fault(&mut self.read_faults)),
         }
     }
 
@@ -145,7 +157,9 @@ impl Store for MemStore {
     /// next bytes as fit the buffer.
     fn read(&mut self, buf: &mut [u8]) -> Result<usize, Failed>
         ensures fails { is_err result ≡ (is_due self.old.fail self.old.calls || is_none self.old.disk.input) }
-        ensures most { IfOk result (λ n. IfSome self.old.disk.input (λ place. n ≡ min (length buf.new) (length (content self.old.disk.files place.0) - place.1))) }
+        ensures most { IfOk result (λ n.
+            IfSome self.old.disk.input (λ place. n
+            ≡ min (length buf.new) (length (content self.old.disk.files place.0) - place.1))) }
         ensures counted { IsCounted self.old self.new }
         ensures room { self.new.room ≡ self.old.room }
         ensures bound { ReadsAtMost result buf.new }
@@ -153,16 +167,18 @@ impl Store for MemStore {
         ensures opened { OnOk result (is_some self.old.disk.input ≡ true) }
         ensures reading { is_some self.new.disk.input ≡ is_some self.old.disk.input }
         ensures writing { is_some self.new.disk.output ≡ is_some self.old.disk.output }
-        ensures cause { HasCause self.old.faults self.new.faults result }
+        ensures cause { HasCause self.old.read_faults self.new.read_faults result }
+        ensures other_faults { self.new.write_faults ≡ self.old.write_faults }
         ensures received { Counts self.old.received self.new.received result }
-        ensures calm { (names : List (List ℕ)) (made : List ℕ) (room : ℕ) → IsCalmStore self.old names made room → is_some self.old.disk.input ≡ true
-            → Went self.old.faults self.new.faults result × IsCalmStore self.new names made room }
+        ensures calm { (names : List (List ℕ)) (made : List ℕ) (room : ℕ) → IsCalmStore self.old names made room
+            → is_some self.old.disk.input ≡ true
+            → Went self.old.read_faults self.new.read_faults result × IsCalmStore self.new names made room }
     {
         if self.schedule.next() {
-            return Err(self.schedule.fault());
+            return Err(fault(&mut self.read_faults));
         }
         let Some(place) = self.input else {
-            return Err(self.schedule.fault());
+            return Err(fault(&mut self.read_faults));
         };
         let n = match source_bytes(self.files.as_slice(), &self.made, place.source) {
             Some(bytes) => put_next(buf, bytes.as_slice(), place.at),
@@ -182,18 +198,20 @@ impl Store for MemStore {
         ensures counted { IsCounted self.old self.new }
         ensures room { self.new.room ≡ self.old.room }
         ensures disk { Creates name.now (Some self.old.disk) (Some self.new.disk) result }
-        ensures writing { MatchResult result (λ _. is_some self.new.disk.output ≡ true) (λ _. is_some self.new.disk.output ≡ is_some self.old.disk.output) }
+        ensures writing { MatchResult result (λ _. is_some self.new.disk.output ≡ true)
+            (λ _. is_some self.new.disk.output ≡ is_some self.old.disk.output) }
         ensures reading { is_some self.new.disk.input ≡ is_some self.old.disk.input }
-        ensures cause { HasCause self.old.faults self.new.faults result }
+        ensures cause { HasCause self.old.write_faults self.new.write_faults result }
+        ensures other_faults { self.new.read_faults ≡ self.old.read_faults }
         ensures received { self.new.received ≡ self.old.received }
         ensures calm { (names : List (List ℕ)) (room : ℕ) → IsCalmStore self.old names name.now room
-            → Went self.old.faults self.new.faults result × IsCalmStore self.new names name.now room }
+            → Went self.old.write_faults self.new.write_faults result × IsCalmStore self.new names name.now room }
     {
         if self.schedule.next() {
-            return Err(self.schedule.fault());
+            return Err(fault(&mut self.write_faults));
         }
         if name.as_bytes() != self.made.name.as_slice() {
-            return Err(self.schedule.fault());
+            return Err(fault(&mut self.write_faults));
         }
         self.made.bytes.clear();
         self.stands = true;
@@ -201,33 +219,38 @@ impl Store for MemStore {
         Ok(())
     }
 
-    /// Fails exactly where its number stands in the list, no file is created, or the bytes are some and no room is left.
-    /// Else it takes as many of the bytes as there is room for.
+    /// Fails exactly where its number stands in the list, no file is created, or the bytes are some and no room is
+    /// left. Else it takes as many of the bytes as there is room for.
     fn write(&mut self, bytes: &[u8]) -> Result<usize, Failed>
-        ensures fails { is_err result ≡ (is_due self.old.fail self.old.calls || (is_none self.old.disk.output || (self.old.room == 0 && nat_lt 0 (length bytes.now)))) }
+        ensures fails { is_err result ≡
+            (is_due self.old.fail self.old.calls
+            || (is_none self.old.disk.output || (self.old.room == 0 && nat_lt 0 (length bytes.now)))) }
         ensures most { IfOk result (λ n. n ≡ min (length bytes.now) self.old.room) }
         ensures counted { IsCounted self.old self.new }
-        ensures room { MatchResult result (λ n. self.new.room ≡ self.old.room - n) (λ _. self.new.room ≡ self.old.room) }
+        ensures room { MatchResult result (λ n. self.new.room ≡ self.old.room - n)
+            (λ _. self.new.room ≡ self.old.room) }
         ensures taken { IfOk result (λ n. IsTaken n bytes.now) }
         ensures disk { Writes (Some self.old.disk) (Some self.new.disk) result bytes.now }
         ensures opened { OnOk result (is_some self.old.disk.output ≡ true) }
         ensures reading { is_some self.new.disk.input ≡ is_some self.old.disk.input }
         ensures writing { is_some self.new.disk.output ≡ is_some self.old.disk.output }
-        ensures cause { HasCause self.old.faults self.new.faults result }
+        ensures cause { HasCause self.old.write_faults self.new.write_faults result }
+        ensures other_faults { self.new.read_faults ≡ self.old.read_faults }
         ensures received { self.new.received ≡ self.old.received }
-        ensures calm { (names : List (List ℕ)) (made : List ℕ) (room : ℕ) → IsCalmStore self.old names made room → is_some self.old.disk.output ≡ true
+        ensures calm { (names : List (List ℕ)) (made : List ℕ) (room : ℕ) → IsCalmStore self.old names made room
+            → is_some self.old.disk.output ≡ true
             → length bytes.now ≤ room
-            → Went self.old.faults self.new.faults result
+            → Went self.old.write_faults self.new.write_faults result
             × IfOk result (λ n. IsCalmStore self.new names made (room - n)) }
     {
         if self.schedule.next() {
-            return Err(self.schedule.fault());
+            return Err(fault(&mut self.write_faults));
         }
         if !self.writing {
-            return Err(self.schedule.fault());
+            return Err(fault(&mut self.write_faults));
         }
         if self.room == 0 && !bytes.is_empty() {
-            return Err(self.schedule.fault());
+            return Err(fault(&mut self.write_faults));
         }
         let n = bytes.len().min(self.room as usize);
         match self.made.bytes.extend_from_slice(&bytes[..n]) {

@@ -31,11 +31,13 @@ pub fn read_file<S: Store>(
 ) -> Result<Seq<u8>, ReadStop>
     ensures told { ReadsFile name.now limit (S.disk store.old) (S.disk store.new) result }
     ensures received { Receives limit (S.received store.old) (S.received store.new) result }
-    ensures later { S.faults store.old ≤ S.faults store.new }
-    ensures fault { IsErrOf result ReadStop.ReadFault → Rose (S.faults store.old) (S.faults store.new) }
+    ensures later { S.read_faults store.old ≤ S.read_faults store.new }
+    ensures fault { IsErrOf result ReadStop.ReadFault → Rose (S.read_faults store.old) (S.read_faults store.new) }
+    ensures write_faults { S.write_faults store.new ≡ S.write_faults store.old }
     ensures writing { S.writing store.new ≡ S.writing store.old }
-    ensures calm { (names : List (List ℕ)) (made : List ℕ) (room : ℕ) → S.calm store.old names made room → Contains names name.now
-        → (S.faults store.new ≡ S.faults store.old) × S.calm store.new names made room }
+    ensures calm { (names : List (List ℕ)) (made : List ℕ) (room : ℕ) → S.calm store.old names made room
+        → Contains names name.now
+        → (S.read_faults store.new ≡ S.read_faults store.old) × S.calm store.new names made room }
 {
     if store.open_file(name).is_err() {
         return Err(ReadStop::ReadFault);

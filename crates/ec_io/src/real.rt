@@ -1,20 +1,12 @@
 //! The files and streams of the system. What they hold is told by no contract.
 ghost use Rattle.std.specs.Prelude.{◌≡◌, ◌≤◌, None, Some, is_some};
-ghost use Rattle.ec_io.specs.Causes.{Rose, Counted};
+ghost use Rattle.ec_io.specs.Causes.{Counted};
 
+use crate::schedule::fault;
 use crate::{Failed, Sink, Store};
 use std::fs;
 use std::io::{Read, Write};
 use std::rt::Files;
-
-// Counts a fault.
-fn fault(faults: &mut u64) -> Failed
-    ensures later { faults.old ≤ faults.new }
-    ensures rose { Rose faults.old faults.new }
-{
-    *faults = faults.saturating_add(1);
-    Failed
-}
 
 // Counts received bytes.
 fn count(received: &mut u64, n: usize)
@@ -28,7 +20,8 @@ pub struct RealStore<'r, R: Files> {
     rt: &'r R,
     input: Option<R::File>,
     output: Option<R::File>,
-    faults: u64,
+    read_faults: u64,
+    write_faults: u64,
     received: u64,
 }
 
@@ -38,7 +31,8 @@ impl<R: Files> Drop for RealStore<'_, R> {
             rt: _,
             input: _,
             output: _,
-            faults: _,
+            read_faults: _,
+            write_faults: _,
             received: _,
         } = self;
     }
@@ -51,7 +45,8 @@ impl<'r, R: Files> RealStore<'r, R> {
             rt,
             input: None,
             output: None,
-            faults: 0,
+            read_faults: 0,
+            write_faults: 0,
             received: 0,
         }
     }
@@ -64,7 +59,9 @@ impl<R: Files> Store for RealStore<'_, R> {
 
     ghost writing = { λ s. is_some s.output };
 
-    ghost faults = { λ s. s.faults };
+    ghost read_faults = { λ s. s.read_faults };
+
+    ghost write_faults = { λ s. s.write_faults };
 
     ghost received = { λ s. s.received };
 
@@ -82,7 +79,7 @@ impl<R: Files> Store for RealStore<'_, R> {
                 self.input = Some(file);
                 Ok(())
             }
-            Err(_) => Err(fault(&mut self.faults)),
+            Err(_) => Err(fault(&mut self.read_faults)),
         }
     }
 
@@ -93,7 +90,7 @@ impl<R: Files> Store for RealStore<'_, R> {
             count(&mut self.received, n);
             return Ok(n);
         }
-        Err(fault(&mut self.faults))
+        Err(fault(&mut self.read_faults))
     }
 
     fn create(&mut self, name: &str) -> Result<(), Failed> {
@@ -102,7 +99,7 @@ impl<R: Files> Store for RealStore<'_, R> {
                 self.output = Some(file);
                 Ok(())
             }
-            Err(_) => Err(fault(&mut self.faults)),
+            Err(_) => Err(fault(&mut self.write_faults)),
         }
     }
 
@@ -113,7 +110,7 @@ impl<R: Files> Store for RealStore<'_, R> {
         {
             return Ok(n);
         }
-        Err(fault(&mut self.faults))
+        Err(fault(&mut self.write_faults))
     }
 }
 

@@ -6,24 +6,29 @@ ghost use Rattle.ec_io.specs.Memory.{next_call, is_due};
 use crate::Failed;
 use ec_space::Seq;
 
+/// Counts a fault. The count stays at its greatest value once it is reached.
+pub fn fault(faults: &mut u64) -> Failed
+    ensures new { faults.new ≡ next_call faults.old }
+    ensures later { faults.old ≤ faults.new }
+    ensures rose { Rose faults.old faults.new }
+{
+    *faults = faults.saturating_add(1);
+    Failed
+}
+
 /// Calls are numbered from 1, and those of a list fail. The number stays at its greatest value once it is reached.
 #[derive(Drop)]
 pub struct Schedule {
     pub fail: Seq<u64>,
     pub calls: u64,
-    pub faults: u64,
 }
 
 impl Schedule {
     /// Before the first call.
     pub fn new(fail: Seq<u64>) -> Schedule
-        ensures { result ≡ record { fail = fail; calls = 0; faults = 0 } }
+        ensures { result ≡ record { fail = fail; calls = 0 } }
     {
-        Schedule {
-            fail,
-            calls: 0,
-            faults: 0,
-        }
+        Schedule { fail, calls: 0 }
     }
 
     /// Counts a call, and tells whether it fails by the list.
@@ -33,14 +38,5 @@ impl Schedule {
     {
         self.calls = self.calls.saturating_add(1);
         self.fail.as_slice().contains(&self.calls)
-    }
-
-    /// Counts a fault.
-    pub fn fault(&mut self) -> Failed
-        ensures new { self.new ≡ record self.old { faults = next_call self.old.faults } }
-        ensures later { self.old.faults ≤ self.new.faults }
-    {
-        self.faults = self.faults.saturating_add(1);
-        Failed
     }
 }

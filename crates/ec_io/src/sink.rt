@@ -24,7 +24,7 @@ pub trait Sink {
     /// No write fails, as long as the written pieces have at most so many bytes in all.
     ghost calm: { Self → ℕ → Type 0 };
 
-    /// Appends a front of the bytes, and tells its length, which is at least 1 where there are bytes.
+    /// Appends a prefix of the bytes, and tells its length, which is at least 1 where there are bytes.
     fn write(&mut self, bytes: &[u8]) -> Result<usize, Failed>
         ensures taken { IfOk result (λ n. IsTaken n bytes.now) }
         ensures written { WriteAppends (written self.old) (written self.new) result bytes.now }

@@ -11,7 +11,7 @@ use thiserror::Error;
 #[error("a write failed after {0} bytes")]
 pub struct Written(pub u64);
 
-/// Writes all of the bytes, or a front of them where the sink fails. It takes no memory.
+/// Writes all of the bytes, or a prefix of them where the sink fails. It takes no memory.
 pub fn write_all<O: Sink>(sink: &mut O, bytes: &[u8]) -> Result<(), Written>
     ensures written { WritesAll (O.written sink.old) (O.written sink.new) result bytes.now }
     ensures rest { O.rest sink.new ≡ O.rest sink.old }

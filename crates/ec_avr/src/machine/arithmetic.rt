@@ -5,7 +5,9 @@ use super::{Access, Machine, Stepped};
 
 impl Machine {
     ghost use Rattle.std.specs.Prelude.{◌≡◌, ◌<◌, ◌≤◌};
-    ghost use Rattle.ec_avr.specs.Effects.{silent, sum_into, difference_into, compare, logic_into, complement, count_to, shift, swap, add_to_pair, subtract_from_pair, multiply, set_flag, set_bit};
+    ghost use Rattle.ec_avr.specs.Effects.{silent, sum_into, difference_into, compare, logic_into, complement};
+    ghost use Rattle.ec_avr.specs.Effects.{count_to, shift, swap, add_to_pair, subtract_from_pair, multiply, set_flag};
+    ghost use Rattle.ec_avr.specs.Effects.{set_bit};
 
     /// Goes on, with nothing but registers accessed.
     pub(super) fn silent(&mut self) -> Stepped

@@ -2,14 +2,17 @@
 
 ghost use Rattle.std.specs.Prelude.{◌≡◌, ◌<◌, ◌≤◌};
 ghost use Rattle.std.specs.Int.{bit_at};
-ghost use Rattle.ec_avr.specs.Flags.{with_bit as bit_set, with_flags as flags_set, with_flags_but_half as flags_but_half_set};
+ghost use Rattle.ec_avr.specs.Flags.{with_bit as bit_set, with_flags as flags_set};
+ghost use Rattle.ec_avr.specs.Flags.{with_flags_but_half as flags_but_half_set};
 ghost use Rattle.ec_avr.specs.Flags.{with_flags_but_carries as flags_but_carries_set, sum_overflow as overflow_of_sum};
-ghost use Rattle.ec_avr.specs.Flags.{difference_overflow as overflow_of_difference, byte_sum as sum_of, sum_flags as flags_of_sum};
+ghost use Rattle.ec_avr.specs.Flags.{difference_overflow as overflow_of_difference, byte_sum as sum_of};
+ghost use Rattle.ec_avr.specs.Flags.{sum_flags as flags_of_sum};
 ghost use Rattle.ec_avr.specs.Flags.{byte_difference as difference_of, difference_flags as flags_of_difference};
 ghost use Rattle.ec_avr.specs.Flags.{logic_flags as flags_of_logic, complement_flags as flags_of_complement};
 ghost use Rattle.ec_avr.specs.Flags.{count_flags as flags_of_count, shifted as shift_of, shift_flags as flags_of_shift};
 ghost use Rattle.ec_avr.specs.Flags.{pair_sum as sum_of_pair, pair_sum_flags as flags_of_pair_sum};
-ghost use Rattle.ec_avr.specs.Flags.{pair_difference as difference_of_pair, pair_difference_flags as flags_of_pair_difference};
+ghost use Rattle.ec_avr.specs.Flags.{pair_difference as difference_of_pair};
+ghost use Rattle.ec_avr.specs.Flags.{pair_difference_flags as flags_of_pair_difference};
 ghost use Rattle.ec_avr.specs.Flags.{product_flags as flags_of_product};
 
 /// Bit `n` of a byte: 0 or 1.

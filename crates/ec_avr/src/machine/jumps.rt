@@ -17,6 +17,18 @@ impl Machine {
         ensures value { result ≡ instruction_at self.now at }
         ensures in_table { IfSome result (λ i. IsTrue (in_table i)) }
     {
+        match self.decoded.get(at as usize) {
+            Some(found) => *found,
+            None => self.decode_at(at),
+        }
+    }
+
+    /// The same, by decoding the words there.
+    pub(super) fn decode_at(&self, at: u32) -> Option<Instr>
+        requires { at ≤ 0x1_0000 }
+        ensures value { result ≡ instruction_at self.now at }
+        ensures in_table { IfSome result (λ i. IsTrue (in_table i)) }
+    {
         decode(self.word_at(at), self.word_at(at + 1))
     }
 

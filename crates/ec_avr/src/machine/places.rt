@@ -1,7 +1,8 @@
 // The places of the machine: bytes, registers, pointers, flags and words of flash.
 
 ghost use Rattle.std.specs.Prelude.{◌≡◌};
-ghost use Rattle.ec_avr.specs.State.{is_core_register as is_core_register_at, is_port as is_port_at, raised as raised_of, lowered as lowered_of};
+ghost use Rattle.ec_avr.specs.State.{is_core_register as is_core_register_at, is_port as is_port_at};
+ghost use Rattle.ec_avr.specs.State.{raised as raised_of, lowered as lowered_of};
 
 use super::Machine;
 use ec_space::Bank;
@@ -23,7 +24,9 @@ pub(super) const SREG: u8 = 0x5F;
 
 impl Machine {
     ghost use Rattle.std.specs.Prelude.{◌≡◌, ◌+◌, ◌%◌, ◌<◌, ◌≤◌, nat_lt, length, slice_index};
-    ghost use Rattle.ec_avr.specs.State.{byte_at, with_byte, register, with_register, pair, with_pair, stack_pointer, with_stack_pointer, sreg, with_sreg, flag, is_sram, is_in_flash, word_at, with_pc, passed};
+    ghost use Rattle.ec_avr.specs.State.{byte_at, with_byte, register, with_register, pair, with_pair, stack_pointer};
+    ghost use Rattle.ec_avr.specs.State.{with_stack_pointer, sreg, with_sreg, flag, is_sram, is_in_flash, word_at};
+    ghost use Rattle.ec_avr.specs.State.{with_pc, passed};
 
     /// The byte at a data address below 0x0100.
     pub(super) fn low_byte(&self, at: u8) -> u8

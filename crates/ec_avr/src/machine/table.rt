@@ -21,6 +21,7 @@ impl Machine {
     ghost use Rattle.ec_avr.specs.Effects.{effect, load_address};
 
     /// Performs an instruction of the table, where the port that it reads answers a byte.
+    #[tactic(auto, unfolding(crate::specs::Effects::effect))]
     pub(super) fn perform(&mut self, instruction: Instr, answer: u8) -> Stepped
         requires { IsTrue (in_table instruction) }
         ensures stepped { result ≡ (effect (Some instruction) answer self.old).stepped }

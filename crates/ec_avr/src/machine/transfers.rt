@@ -9,7 +9,9 @@ use ec_space::Bank;
 
 impl Machine {
     ghost use Rattle.std.specs.Prelude.{◌≡◌, ◌<◌, length};
-    ghost use Rattle.ec_avr.specs.Effects.{faulted, loaded, stored, load, load_and_raise, lower_and_load, store, store_and_raise, lower_and_store, load_flash, load_flash_and_raise, push, pop, call, return_from_call};
+    ghost use Rattle.ec_avr.specs.Effects.{faulted, loaded, stored, load, load_and_raise, lower_and_load, store};
+    ghost use Rattle.ec_avr.specs.Effects.{store_and_raise, lower_and_store, load_flash, load_flash_and_raise, push};
+    ghost use Rattle.ec_avr.specs.Effects.{pop, call, return_from_call};
 
     /// The step cannot be made.
     pub(super) fn faulted(&self, kind: FaultKind) -> Stepped
@@ -117,14 +119,14 @@ impl Machine {
         ensures stepped { result ≡ (lower_and_store pointer byte self.old).stepped }
         ensures state { self.new ≡ (lower_and_store pointer byte self.old).state }
     {
-        let at = lowered(self.pair(pointer));
-        if !self.has_data(at) {
+        let to = lowered(self.pair(pointer));
+        if !self.has_data(to) {
             return self.faulted(FaultKind::DataOut);
         }
-        self.set_pair(pointer, at);
-        self.put(at, byte);
+        self.set_pair(pointer, to);
+        self.put(to, byte);
         self.pass(1);
-        Stepped::Ran(store_access(at, byte))
+        Stepped::Ran(store_access(to, byte))
     }
 
     pub(super) fn load_flash(&mut self, d: u8) -> Stepped

@@ -79,7 +79,8 @@ returns-clause-kept c =
 
 pub returns-clause-lines : goal.returns-clause-lines
 returns-clause-lines c =
-    c.lines.invariant.listed ∙ ap entries (whole (goal.at.returns-clause-lines c).After-lines (sym c.is_empty.ensures ∙ c.lines-test.false))
+    rw c.new.ensures
+    (c.lines.invariant.listed ∙ ap entries (whole (goal.at.returns-clause-lines c).After-lines (sym c.is_empty.ensures ∙ c.lines-test.false)))
 
 pub returns-clause-stop : goal.returns-clause-stop
 returns-clause-stop c = λ stop stops some.

@@ -19,6 +19,7 @@ more-preserved g c =
           (read_more _ _ _ _ _ _ _ fits i.told c.in-Ok.ensures.disk);
       received = counted_more _ _ _ _ _ _ i.received c.in-Ok.ensures.received (sym long);
       later = omega arith;
+      write_faults = c.read.ensures.other_faults ∙ i.write_faults;
       writing = c.read.ensures.writing ∙ i.writing;
       reading = c.read.ensures.reading ∙ i.reading;
       calm = λ names made room calm named.

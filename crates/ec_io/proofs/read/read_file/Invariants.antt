@@ -9,11 +9,12 @@ invariant-more g l = record {
   within : length l.bytes.items < l.most;
   told : ReadSoFar l.name (g.S.Store.disk l.fn.store) (g.S.Store.disk l.store) l.bytes.items;
   received : Counted (g.S.Store.received l.fn.store) (g.S.Store.received l.store) (length l.bytes.items);
-  later : g.S.Store.faults l.fn.store ≤ g.S.Store.faults l.store;
+  later : g.S.Store.read_faults l.fn.store ≤ g.S.Store.read_faults l.store;
+  write_faults : g.S.Store.write_faults l.store ≡ g.S.Store.write_faults l.fn.store;
   writing : g.S.Store.writing l.store ≡ g.S.Store.writing l.fn.store;
   reading : g.S.Store.reading l.store ≡ true;
   calm : (names : List (List ℕ)) (made : List ℕ) (room : ℕ) → g.S.Store.calm l.fn.store names made room → Contains names l.name
-      → (g.S.Store.faults l.store ≡ g.S.Store.faults l.fn.store) × g.S.Store.calm l.store names made room;
+      → (g.S.Store.read_faults l.store ≡ g.S.Store.read_faults l.fn.store) × g.S.Store.calm l.store names made room;
 }
 
 abbrev pub decreases-more : goal.decreases-more

@@ -31,5 +31,5 @@ returns-clause-calm c =
     rw (← c.self.view_is) (rw (c.next.ensures.new) (λ names room calm. (
       record { ok = refl; same = refl },
       calm_on _ _ names _ room room calm (record { made = refl; fail = refl; calls = refl })
-          (λ name there. subst (λ (files : Files). IsSome (get files name)) (put_again c.self.inside.files.items c.self.inside.made c.self.inside.stands c.clear.new.self.items) (there_inserted _ _ _ name there)) refl calm.fits,
+          (λ name there. subst (λ (files : Files). IsSome (get files name)) (put_again c.self.inside.files.items c.self.inside.made c.self.inside.stands c.clear.new.self.items) (there_inserted _ _ _ name there)) refl refl calm.fits,
     )))

@@ -30,4 +30,4 @@ returns-clause-disk c =
 pub returns-clause-calm : goal.returns-clause-calm
 returns-clause-calm c =
     rw (← c.self.view_is) (rw c.next.ensures.new (λ names made room calm opened.
-    (record { ok = refl; same = refl }, calm_on _ _ names made room room calm (record { made = refl; fail = refl; calls = refl }) (λ name there. there) refl calm.fits)))
+    (record { ok = refl; same = refl }, calm_on _ _ names made room room calm (record { made = refl; fail = refl; calls = refl }) (λ name there. there) refl refl calm.fits)))

@@ -1,0 +1,4 @@
+mod Lines
+mod Outs
+mod RunParts
+pub mod RunComplete

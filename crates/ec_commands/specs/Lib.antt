@@ -1,0 +1,7 @@
+pub mod Words
+pub mod Stops
+pub mod Lines
+pub mod Tells
+pub mod Shown
+pub mod Runs
+pub mod Answers

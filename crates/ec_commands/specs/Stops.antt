@@ -1,0 +1,101 @@
+-- Why a command stops, its status and its line.
+use Rattle.std.specs.Prelude.{ℕ, ◌<◌, ◌/◌, ◌%◌, List, [], ◌∷◌, ◌++◌, length, codes, ⊤}
+use Rattle.std.specs.Fmt.{decimal}
+use Rattle.ec_avr.specs.declared.machine.FaultKind.{FaultKind}
+use Rattle.ec_avr.specs.declared.machine.FaultKind.TheVariants.{Unsupported, PcOut, DataOut, StackOut}
+use Rattle.ec_hex.specs.Bytes.{digits_of}
+use Rattle.ec_commands.specs.declared.stop.Limit.{Limit}
+use Rattle.ec_commands.specs.declared.stop.Limit.TheVariants.{Sources, SourceBytes, MapBytes, HexBytes, ScriptBytes}
+use Rattle.ec_commands.specs.declared.stop.Limit.TheVariants.{Tokens, Nesting}
+use Rattle.ec_commands.specs.declared.stop.CommandError.{CommandError}
+use Rattle.ec_commands.specs.declared.stop.CommandError.TheVariants.{Usage, CannotRead, CannotWrite, BadByte, BadNumber}
+use Rattle.ec_commands.specs.declared.stop.CommandError.TheVariants.{Unclosed, BadDirective, Syntax, NotCompiled}
+use Rattle.ec_commands.specs.declared.stop.CommandError.TheVariants.{TooMany}
+use Rattle.ec_commands.specs.declared.stop.CommandError.TheVariants.{NoMemory, BadRecord, BadSum, OutOfFlash, Twice}
+use Rattle.ec_commands.specs.declared.stop.CommandError.TheVariants.{NoEnd}
+use Rattle.ec_commands.specs.declared.stop.CommandError.TheVariants.{ScriptLine, Fault, StepsOut}
+use Rattle.ec_commands.specs.Words.{Words, word, source_name}
+
+abbrev pub number_of : Limit → ℕ
+number_of Sources = 1
+number_of SourceBytes = 2
+number_of MapBytes = 3
+number_of HexBytes = 4
+number_of ScriptBytes = 5
+number_of Tokens = 6
+number_of Nesting = 7
+
+abbrev pub most_of : Limit → ℕ
+most_of Sources = 1
+most_of SourceBytes = 65536
+most_of MapBytes = 16384
+most_of HexBytes = 1048576
+most_of ScriptBytes = 65536
+most_of Tokens = 65535
+most_of Nesting = 64
+
+abbrev pub status_of : CommandError → ℕ
+status_of Usage = 2
+status_of (CannotRead i) = 3
+status_of CannotWrite = 4
+status_of (BadByte at) = 5
+status_of (BadNumber at) = 5
+status_of (Unclosed at) = 5
+status_of (BadDirective at) = 5
+status_of (Syntax token) = 6
+status_of NotCompiled = 7
+status_of (TooMany limit) = 10
+status_of NoMemory = 11
+status_of (BadRecord line) = 12
+status_of (BadSum line) = 12
+status_of (OutOfFlash line) = 12
+status_of (Twice line) = 12
+status_of NoEnd = 12
+status_of (ScriptLine line rule) = 12
+status_of (Fault kind pc) = 13
+status_of StepsOut = 14
+
+abbrev pub fault_name : FaultKind → List ℕ
+fault_name Unsupported = codes "unsupported"
+fault_name PcOut = codes "pc"
+fault_name DataOut = codes "data"
+fault_name StackOut = codes "stack"
+
+-- four hexadecimal digits in upper case
+abbrev pub four_digits : ℕ → List ℕ
+four_digits n = digits_of (n / 256 ∷ n % 256 ∷ [])
+
+-- the line that tells it
+abbrev pub line_of : Words → CommandError → List ℕ
+line_of words Usage = codes "usage\n"
+line_of words (CannotRead i) = codes "cannot read " ++ word words i ++ codes "\n"
+line_of words CannotWrite = codes "cannot write\n"
+line_of words (BadByte at) = source_name words ++ codes " byte " ++ decimal at ++ codes ": bad byte\n"
+line_of words (BadNumber at) = source_name words ++ codes " byte " ++ decimal at ++ codes ": bad number\n"
+line_of words (Unclosed at) = source_name words ++ codes " byte " ++ decimal at ++ codes ": unclosed\n"
+line_of words (BadDirective at) = source_name words ++ codes " byte " ++ decimal at ++ codes ": bad directive\n"
+line_of words (Syntax token) = source_name words ++ codes " token " ++ decimal token ++ codes ": syntax\n"
+line_of words NotCompiled = source_name words ++ codes " token " ++ decimal 0 ++ codes ": constraint 0\n"
+line_of words (TooMany limit) =
+    codes "limit " ++ decimal (number_of limit) ++ codes " " ++ decimal (most_of limit) ++ codes "\n"
+line_of words NoMemory = codes "no memory\n"
+line_of words (BadRecord line) = codes "hex line " ++ decimal line ++ codes ": bad record\n"
+line_of words (BadSum line) = codes "hex line " ++ decimal line ++ codes ": bad sum\n"
+line_of words (OutOfFlash line) = codes "hex line " ++ decimal line ++ codes ": out of flash\n"
+line_of words (Twice line) = codes "hex line " ++ decimal line ++ codes ": twice\n"
+line_of words NoEnd = codes "hex: no end\n"
+line_of words (ScriptLine line rule) =
+    codes "script line " ++ decimal line ++ codes ": rule " ++ decimal rule ++ codes "\n"
+line_of words (Fault kind pc) = codes "fault " ++ fault_name kind ++ codes " at " ++ four_digits pc ++ codes "\n"
+line_of words StepsOut = codes "steps out\n"
+
+-- the word whose file a stop names is there
+abbrev pub IsNamed : Words → CommandError → Type 0
+IsNamed words (CannotRead i) = i < length words
+IsNamed words (BadByte at) = 3 < length words
+IsNamed words (BadNumber at) = 3 < length words
+IsNamed words (Unclosed at) = 3 < length words
+IsNamed words (BadDirective at) = 3 < length words
+IsNamed words (Syntax token) = 3 < length words
+IsNamed words NotCompiled = 3 < length words
+IsNamed words _ = ⊤

@@ -1,0 +1,55 @@
+-- The words of a command line, without the program's name.
+use Rattle.std.specs.Prelude.{ℕ, ◌-◌, ◌≡◌, ◌≤◌, ◌&&◌, nat_le, Bool, true, List, [], length, codes, option_map}
+use Rattle.std.specs.Prelude.{unwrap_or, slice_get, String, string_bytes, bytes_eq}
+use Rattle.std.specs.Str.Parse.{IsNumeral, digits_value}
+use Rattle.std.specs.declared.alloc.Global.{Global}
+
+abbrev pub Words : Type 0
+Words = List (String Global)
+
+-- the bytes of a word, none past the last
+abbrev pub word : Words → ℕ → List ℕ
+word words i = unwrap_or (option_map string_bytes (slice_get words i)) []
+
+-- 1 to 10 decimal digits, leading zeros allowed, which stand for n, at most so great a number
+pub record IsNumber (digits : List ℕ) (most n : ℕ) : Type 0 where
+  pub numeral : IsNumeral 10 digits
+  pub short : length digits ≤ 10
+  pub value : digits_value 10 digits ≡ n
+  pub small : n ≤ most
+
+-- build MAP OUT SRC...
+abbrev pub is_build : Words → Bool
+is_build words = nat_le 4 (length words) && bytes_eq (word words 0) (codes "build")
+
+abbrev pub map_name : Words → List ℕ
+map_name words = word words 1
+
+abbrev pub out_name : Words → List ℕ
+out_name words = word words 2
+
+-- the first source
+abbrev pub source_name : Words → List ℕ
+source_name words = word words 3
+
+-- how many sources there are
+abbrev pub sources : Words → ℕ
+sources words = length words - 3
+
+-- a build of one source
+pub record IsOneBuild (words : Words) : Type 0 where
+  pub row : is_build words ≡ true
+  pub one : sources words ≡ 1
+
+-- run HEX SCRIPT STEPS FILL
+pub record IsRun (words : Words) (steps fill : ℕ) : Type 0 where
+  pub five : length words ≡ 5
+  pub row : bytes_eq (word words 0) (codes "run") ≡ true
+  pub steps_word : IsNumber (word words 3) 4294967295 steps
+  pub fill_word : IsNumber (word words 4) 255 fill
+
+abbrev pub hex_name : Words → List ℕ
+hex_name words = word words 1
+
+abbrev pub script_name : Words → List ℕ
+script_name words = word words 2

@@ -1,0 +1,27 @@
+//! The status of an answer, and its line.
+ghost use Rattle.std.specs.Prelude.{◌≡◌, IfErr, OnOk};
+ghost use Rattle.ec_io.specs.Views.{sink_call};
+ghost use Rattle.ec_commands.specs.Answers.{IsTold};
+ghost use Rattle.ec_commands.specs.Stops.{IsNamed};
+
+use crate::line::tell;
+use crate::stop::{CommandError, status};
+use ec_io::Sink;
+
+/// The status of an answer. The line of a stop goes to `err`.
+pub fn conclude<E: Sink>(err: &mut E, words: &Vec<String>, answer: Result<(), CommandError>) -> u8
+    requires { IfErr answer (IsNamed words.now.items) }
+    ensures done { OnOk answer ((result ≡ 0) × (err.new ≡ err.old)) }
+    ensures told { IfErr answer (IsTold words.now.items
+        (sink_call (E.written err.old) (E.written err.new) (E.faults err.old) (E.faults err.new))
+        (E.calm err.old) result) }
+    ensures rest { E.rest err.new ≡ E.rest err.old }
+{
+    match answer {
+        Ok(()) => 0,
+        Err(stop) => {
+            tell(err, words, stop);
+            status(stop)
+        }
+    }
+}

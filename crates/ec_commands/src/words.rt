@@ -1,0 +1,55 @@
+//! The words of a command line.
+ghost use Rattle.std.specs.Prelude.{◌≡◌, ◌<◌, ◌≤◌, ℕ, true, false, length, IfSome, IfNone};
+ghost use Rattle.ec_commands.specs.Words.{is_build as is_build_row, word, IsNumber, IsRun};
+
+/// The steps that a run makes at most, and the byte that its registers and its memory hold at first.
+#[derive(Clone, Copy)]
+pub struct RunNumbers {
+    pub steps: u32,
+    pub fill: u8,
+}
+
+/// Whether the words are `build MAP OUT SRC...`.
+pub fn is_build(words: &Vec<String>) -> bool
+    ensures { result ≡ is_build_row words.now.items }
+{
+    words.len() >= 4 && words[0].as_str() == "build"
+}
+
+/// The word at `i`.
+pub fn word_at(words: &Vec<String>, i: usize) -> &str
+    requires { i < length words.now.items }
+    ensures { result.now ≡ word words.now.items i }
+{
+    words[i].as_str()
+}
+
+/// The number that 1 to 10 decimal digits stand for, leading zeros allowed, if it is at most `most`.
+fn number(digits: &str, most: u32) -> Option<u32>
+    ensures some { IfSome result (IsNumber digits.now most) }
+    ensures none { IfNone result ((n : ℕ) → ¬ (IsNumber digits.now most n)) }
+{
+    if digits.len() > 10 || digits.as_bytes().first() == Some(&b'+') {
+        return None;
+    }
+    match digits.parse::<u32>() {
+        Ok(n) if n <= most => Some(n),
+        _ => None,
+    }
+}
+
+/// The numbers of `run HEX SCRIPT STEPS FILL`, if the words are such.
+pub fn run_numbers(words: &Vec<String>) -> Option<RunNumbers>
+    ensures some { IfSome result (λ r. IsRun words.now.items r.steps r.fill) }
+    ensures none { IfNone result ((steps fill : ℕ) → ¬ (IsRun words.now.items steps fill)) }
+{
+    if words.len() != 5 || words[0].as_str() != "run" {
+        return None;
+    }
+    let steps = number(word_at(words, 3), u32::MAX)?;
+    let fill = number(word_at(words, 4), 255)?;
+    Some(RunNumbers {
+        steps,
+        fill: fill as u8,
+    })
+}
