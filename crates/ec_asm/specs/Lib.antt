@@ -1,0 +1,12 @@
+pub mod View
+pub mod Change
+pub mod Run
+pub mod Items
+pub mod Takes
+pub mod Shows
+pub mod Behaves
+pub mod Valid
+pub mod Placed
+pub mod Pieces
+pub mod Laws
+pub mod PieceLaws
