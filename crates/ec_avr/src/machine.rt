@@ -209,11 +209,12 @@ impl Machine {
         ensures { result ≡ needs_port self.now }
     {
         let found = self.instruction_at(self.pc as u32);
-        if !self.is_whole(found) {
-            return None;
-        }
         let at = self.load_address(found?)?;
-        self.port_at(at)
+        if self.is_whole(found) {
+            self.port_at(at)
+        } else {
+            None
+        }
     }
 
     /// The address, if it is that of a port.
