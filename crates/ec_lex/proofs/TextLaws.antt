@@ -11,8 +11,8 @@ use Rattle.ec_lex.specs.declared.stop.Cause.{Cause}
 use Rattle.ec_lex.specs.declared.stop.Cause.TheVariants.{BadByte, BadNumber, Unclosed, BadDirective}
 use Rattle.ec_lex.specs.declared.stop.LexStop.{LexStop}
 use Rattle.ec_lex.specs.declared.stop.LexStop.TheVariants as lex_stops
-use Rattle.ec_lex.specs.declared.stop.Stop.{Stop}
-use Rattle.ec_lex.specs.declared.stop.Stop.TheVariants as stops
+use Rattle.ec_lex.specs.declared.stop.Refusal.{Refusal}
+use Rattle.ec_lex.specs.declared.stop.Refusal.TheVariants as stops
 use Rattle.ec_lex.specs.declared.pieces.Form.{Form}
 use Rattle.ec_lex.specs.declared.pieces.Form.TheVariants.{Space, LineComment, Comment, OpenComment, Identifier, Number, Character, Quote, Punctuator, Directive}
 use Rattle.ec_lex.specs.Pieces.{Is}
@@ -302,7 +302,7 @@ pub ended_tokens : (bytes : List ℕ) (ts : List Placed) (known : Known) (rest :
 ended_tokens bytes ts known [] r none = record { tokens = ts; known = known; reads = r; ended = ap (λ (n : ℕ). ts ++ record { at = n; lexeme = end } ∷ []) (omega arith) }
 ended_tokens bytes ts known (b ∷ rest) r none = absurd (omega arith)
 
-pub stopped : (bytes : List ℕ) (ts : List Placed) (known known' : Known) (rest : List ℕ) (stop : Stop) (at : ℕ) (answer : LexStop) → Reads (length bytes) nothing_known bytes ts known rest → length ts ≤ 65_535 → 0 < length rest
+pub stopped : (bytes : List ℕ) (ts : List Placed) (known known' : Known) (rest : List ℕ) (stop : Refusal) (at : ℕ) (answer : LexStop) → Reads (length bytes) nothing_known bytes ts known rest → length ts ≤ 65_535 → 0 < length rest
     → Gives (Err stop) known' (step known rest).0 → at ≡ place (length bytes) rest → IsAt stop at answer → (answer ≡ lex_stops.NoMemory) ⊎ IsRefused bytes answer
 stopped bytes ts known known' rest stops.NoMemory at answer r few some h is_at e = inl e
 stopped bytes ts known known' rest (stops.Fault cause) at answer r few some h is_at e = inr (go cause (record { tokens = ts; known = known; rest = rest; next = (step known rest).1; reads = r; few = few; stands = step_is known rest (fault cause) (step known rest).1 some h refl; is_at = is_at }) e)

@@ -20,8 +20,8 @@ use Rattle.ec_grammar.specs.declared.token.TokenKind.{TokenKind}
 use Rattle.ec_lex.specs.declared.stop.Header.{Header}
 use Rattle.ec_lex.specs.declared.stop.LexStop.{LexStop}
 use Rattle.ec_lex.specs.declared.stop.LexStop.TheVariants as lex_stops
-use Rattle.ec_lex.specs.declared.stop.Stop.{Stop}
-use Rattle.ec_lex.specs.declared.stop.Stop.TheVariants as stops
+use Rattle.ec_lex.specs.declared.stop.Refusal.{Refusal}
+use Rattle.ec_lex.specs.declared.stop.Refusal.TheVariants as stops
 use Rattle.ec_lex.specs.declared.stop.Cause.TheVariants.{BadByte, BadNumber, Unclosed, BadDirective}
 use Rattle.ec_lex.specs.declared.constants.Suffix.{Suffix}
 use Rattle.ec_lex.specs.Words.{Known, same, look_up, known_word, meaning}
@@ -261,7 +261,7 @@ unfoldable pub step : Known → List ℕ → Effect × List ℕ
 step s bs = step_by s bs (piece_at s.line_start bs)
 
 -- what was answered, with what is known then, is this effect
-abbrev pub Gives : Result (Option TokenKind) Stop → Known → Effect → Type 0
+abbrev pub Gives : Result (Option TokenKind) Refusal → Known → Effect → Type 0
 Gives (Ok None) s e = e ≡ passed s
 Gives (Ok (Some k)) s e = e ≡ taken (view_kind k) s
 Gives (Err stops.NoMemory) s e = Unit {0}
@@ -273,7 +273,7 @@ told at None = []
 told at (Some k) = record { at = at; lexeme = view_kind k } ∷ []
 
 -- the answer for a stop at a place
-abbrev pub IsAt : Stop → ℕ → LexStop → Type 0
+abbrev pub IsAt : Refusal → ℕ → LexStop → Type 0
 IsAt stops.NoMemory at result = result ≡ lex_stops.NoMemory
 IsAt (stops.Fault BadByte) at result = result ≡ lex_stops.BadByte at
 IsAt (stops.Fault BadNumber) at result = result ≡ lex_stops.BadNumber at

@@ -14,7 +14,7 @@ use crate::constants::{character_constant, read_constant};
 use crate::directives::{Directed, directive};
 use crate::pieces::{Form, piece};
 use crate::scope::{Define, Scope, name_of};
-use crate::stop::{Cause, Header, LexStop, Stop};
+use crate::stop::{Cause, Header, LexStop, Refusal};
 use ec_grammar::{Token, TokenKind};
 use ec_space::{NoMemory, Seq};
 use std::alloc::Global;
@@ -36,7 +36,7 @@ fn note_directive(
     scope: &mut Scope,
     alloc: Global,
     directed: Directed<'_>,
-) -> Result<Option<TokenKind>, Stop>
+) -> Result<Option<TokenKind>, Refusal>
     ensures { Gives result (view_scope scope.new) (effect_of (view_directed directed.entry) (view_scope scope.old)) }
 {
     match directed {
@@ -70,7 +70,7 @@ fn quote_cause(rest: &[u8]) -> Cause
 }
 
 /// A token, after which its line has more than white space.
-fn taken(scope: &mut Scope, kind: TokenKind) -> Result<Option<TokenKind>, Stop>
+fn taken(scope: &mut Scope, kind: TokenKind) -> Result<Option<TokenKind>, Refusal>
     ensures { Gives result (view_scope scope.new) (taken (view_kind kind) (after_token (view_scope scope.old))) }
 {
     scope.line_start = false;
@@ -85,7 +85,7 @@ fn take(
     form: Form,
     text: &[u8],
     rest: &[u8],
-) -> Result<Option<TokenKind>, Stop>
+) -> Result<Option<TokenKind>, Refusal>
     requires { 0 < length text.now }
     ensures { Gives result (view_scope scope.new) (does (view_scope scope.old) form text.now rest.now) }
 {
@@ -95,21 +95,21 @@ fn take(
             Ok(None)
         }
         Form::LineComment => Ok(None),
-        Form::OpenComment => Err(Stop::Fault(Cause::Unclosed)),
+        Form::OpenComment => Err(Refusal::Fault(Cause::Unclosed)),
         Form::Identifier => {
             let kind = scope.meaning(alloc, text)?;
             taken(scope, kind)
         }
         Form::Number => match read_constant(text) {
             Some(constant) => taken(scope, constant.token()),
-            None => Err(Stop::Fault(Cause::BadNumber)),
+            None => Err(Refusal::Fault(Cause::BadNumber)),
         },
         Form::Character(value) => taken(scope, character_constant(value).token()),
-        Form::Quote => Err(Stop::Fault(quote_cause(rest))),
+        Form::Quote => Err(Refusal::Fault(quote_cause(rest))),
         Form::Punctuator(kind) => taken(scope, TokenKind::Punct(kind)),
         Form::Directive => match directive(scope, &text[1..]) {
             Some(directed) => note_directive(scope, alloc, directed),
-            None => Err(Stop::Fault(Cause::BadDirective)),
+            None => Err(Refusal::Fault(Cause::BadDirective)),
         },
     }
 }
@@ -120,7 +120,7 @@ fn step<'a>(
     scope: &mut Scope,
     alloc: Global,
     bytes: &'a [u8],
-) -> Result<(Option<TokenKind>, &'a [u8]), Stop>
+) -> Result<(Option<TokenKind>, &'a [u8]), Refusal>
     ensures effect { IfOk result (λ x.
         Gives (Ok x.0) (view_scope scope.new) (step (view_scope scope.old) bytes.now).0) }
     ensures rest { IfOk result (λ x. (step (view_scope scope.old) bytes.now).1 ≡ x.1.now) }
@@ -129,7 +129,7 @@ fn step<'a>(
         Gives (Err stop) (view_scope scope.new) (step (view_scope scope.old) bytes.now).0) }
 {
     let Some((form, rest)) = piece(scope.line_start, bytes) else {
-        return Err(Stop::Fault(Cause::BadByte));
+        return Err(Refusal::Fault(Cause::BadByte));
     };
     let kind = take(scope, alloc, form, &bytes[..bytes.len() - rest.len()], rest)?;
     Ok((kind, rest))
@@ -154,15 +154,15 @@ fn note_token(tokens: &mut Seq<Token>, at: u32, kind: Option<TokenKind>) -> Resu
     Ok(())
 }
 
-fn stop_at(stop: Stop, at: u32) -> LexStop
+fn stop_at(stop: Refusal, at: u32) -> LexStop
     ensures { IsAt stop at result }
 {
     match stop {
-        Stop::NoMemory => LexStop::NoMemory,
-        Stop::Fault(Cause::BadByte) => LexStop::BadByte(at),
-        Stop::Fault(Cause::BadNumber) => LexStop::BadNumber(at),
-        Stop::Fault(Cause::Unclosed) => LexStop::Unclosed(at),
-        Stop::Fault(Cause::BadDirective) => LexStop::BadDirective(at),
+        Refusal::NoMemory => LexStop::NoMemory,
+        Refusal::Fault(Cause::BadByte) => LexStop::BadByte(at),
+        Refusal::Fault(Cause::BadNumber) => LexStop::BadNumber(at),
+        Refusal::Fault(Cause::Unclosed) => LexStop::Unclosed(at),
+        Refusal::Fault(Cause::BadDirective) => LexStop::BadDirective(at),
     }
 }
 

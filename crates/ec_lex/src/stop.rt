@@ -1,7 +1,7 @@
 //! Why a text has no tokens.
 
 ghost use Rattle.std.specs.Prelude.{◌≡◌};
-ghost use Rattle.ec_lex.specs.declared.stop.Stop.TheVariants.{NoMemory as OutOfMemory};
+ghost use Rattle.ec_lex.specs.declared.stop.Refusal.TheVariants.{NoMemory as OutOfMemory};
 
 use ec_space::NoMemory;
 use thiserror::Error;
@@ -51,15 +51,15 @@ pub enum Header {
 
 /// Why the piece at a place gives nothing.
 #[derive(Clone, Copy)]
-pub enum Stop {
+pub enum Refusal {
     NoMemory,
     Fault(Cause),
 }
 
-impl From<NoMemory> for Stop {
+impl From<NoMemory> for Refusal {
     ghost from_gives = { λ _ e. e ≡ OutOfMemory };
 
-    fn from(_e: NoMemory) -> Stop {
-        Stop::NoMemory
+    fn from(_e: NoMemory) -> Refusal {
+        Refusal::NoMemory
     }
 }
