@@ -1,4 +1,5 @@
 pub mod Leaves
+pub mod Codes
 pub mod Depths
 pub mod Many
 pub mod Rows

@@ -3,8 +3,8 @@ use Rattle.std.proofs.Common.{◌≡◌, ℕ, suc, ◌-◌, ◌+◌, ◌<◌, �
 use Rattle.ec_grammar.specs.declared.token.Token.{Token}
 use Rattle.ec_grammar.specs.Trees.{Leaf}
 use Rattle.ec_reading.specs.Reading.{Read, ◌>>=◌, many_up_to, many}
-use Rattle.ec_parse.specs.declared.stop.Stop.{Stop}
-use Rattle.ec_parse.specs.declared.stop.Stop.TheVariants as stops
+use Rattle.ec_parse.specs.declared.stop.ReadError.{ReadError}
+use Rattle.ec_parse.specs.declared.stop.ReadError.TheVariants as errors
 use Rattle.ec_parse.specs.Reads.{leaves_of, Fails, FailsAt}
 use Rattle.ec_parse.proofs.Leaves.{length_leaves}
 
@@ -39,14 +39,14 @@ goes_on item front count i ts x after total lt e so_far =
     let one : with_front front (many_up_to item (count - i) ts) ≡ with_front (front ++ x ∷ []) (many_up_to item (count - (i + 1)) after) = rw (k, e) (regroup front x (many_up_to item (count - (i + 1)) after)) in
     sym one ∙ so_far
 
-pub fails : {A : Type 0} (item : List Leaf → Option (Read A)) (e : Stop) (front : List A) (count i : ℕ) (ts : List Leaf) (total : Read (List A))
+pub fails : {A : Type 0} (item : List Leaf → Option (Read A)) (e : ReadError) (front : List A) (count i : ℕ) (ts : List Leaf) (total : Read (List A))
     → i < count → FailsAt e (item ts) → IsPart item front (count - i) ts total → Fails e total
 unfolding many_up_to
-fails item stops.NoMemory front count i ts total lt h so_far = tt
-fails item (stops.Syntax n) front count i ts total lt h so_far =
+fails item errors.NoMemory front count i ts total lt h so_far = tt
+fails item (errors.Syntax n) front count i ts total lt h so_far =
     let k : count - i ≡ suc (count - (i + 1)) = omega arith in
     sym so_far ∙ rw (k, h) refl
-fails item (stops.TooDeep n) front count i ts total lt h so_far =
+fails item (errors.TooDeep n) front count i ts total lt h so_far =
     let k : count - i ≡ suc (count - (i + 1)) = omega arith in
     sym so_far ∙ rw (k, h) refl
 

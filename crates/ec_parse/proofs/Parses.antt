@@ -14,8 +14,8 @@ use Rattle.ec_reading.specs.Laws.{tree_of}
 use Rattle.ec_reading.specs.Refusals.{place, EndsWithEnd}
 use Rattle.ec_reading.proofs.Whole.{reads_every_derivation, derives_one_tree}
 use Rattle.ec_reading.proofs.Refusals.{names_token, tree_exactly, syntax_exactly, too_deep_exactly}
-use Rattle.ec_parse.specs.declared.stop.Stop.{Stop}
-use Rattle.ec_parse.specs.declared.stop.Stop.TheVariants as stops
+use Rattle.ec_parse.specs.declared.stop.ReadError.{ReadError}
+use Rattle.ec_parse.specs.declared.stop.ReadError.TheVariants as errors
 use Rattle.ec_parse.specs.declared.stop.ParseStop.{ParseStop}
 use Rattle.ec_parse.specs.declared.stop.ParseStop.TheVariants.{NoMemory, Syntax, TooDeep}
 use Rattle.ec_parse.specs.Reads.{leaves_of, Fails}
@@ -47,12 +47,12 @@ is_read ts u e = sym (tree_read ts) ∙ e
 index_of : (ts : List Token) (f : Fault) (n : ℕ) → EndsWithEnd (view_tokens ts) → tree_of 64 (view_tokens ts) ≡ Err f → place f ≡ n → (length ts - n) + n ≡ length (view_tokens ts)
 index_of ts f n ends e same = omega (arith, (names_token 64 (view_tokens ts) f ends e).1, same, length_view ts)
 
-pub is_refused : (ts : List Token) (stop : Stop) (told : ParseStop) → EndsWithEnd (view_tokens ts) → Fails stop (read 64 (leaves_of (length ts) ts)) → IsTold (length ts) stop told → IsRead (view_tokens ts) (Err told)
-is_refused ts stops.NoMemory told ends fails e = subst (λ s. IsRead (view_tokens ts) (Err s)) (sym e) tt
-is_refused ts (stops.Syntax n) told ends fails e =
+pub is_refused : (ts : List Token) (stop : ReadError) (told : ParseStop) → EndsWithEnd (view_tokens ts) → Fails stop (read 64 (leaves_of (length ts) ts)) → IsTold (length ts) stop told → IsRead (view_tokens ts) (Err told)
+is_refused ts errors.NoMemory told ends fails e = subst (λ s. IsRead (view_tokens ts) (Err s)) (sym e) tt
+is_refused ts (errors.Syntax n) told ends fails e =
     let is = sym (tree_read ts) ∙ fails in
     subst (λ s. IsRead (view_tokens ts) (Err s)) (sym e) (n, is, index_of ts (syntax n) n ends is refl)
-is_refused ts (stops.TooDeep n) told ends fails e =
+is_refused ts (errors.TooDeep n) told ends fails e =
     let is = sym (tree_read ts) ∙ fails in
     subst (λ s. IsRead (view_tokens ts) (Err s)) (sym e) (n, is, index_of ts (too_deep n) n ends is refl)
 

@@ -4,8 +4,8 @@ use Rattle.ec_grammar.specs.declared.tree.Argument.{Argument}
 use Rattle.ec_grammar.specs.Trees as t
 use Rattle.ec_grammar.specs.Trees.{Leaf}
 use Rattle.ec_reading.specs.Reading.{Inner, Depth, many, argument_at, further_of, further_by, binary_by, joins_by, chain}
-use Rattle.ec_parse.specs.declared.stop.Stop.{Stop}
-use Rattle.ec_parse.specs.declared.stop.Stop.TheVariants as stops
+use Rattle.ec_parse.specs.declared.stop.ReadError.{ReadError}
+use Rattle.ec_parse.specs.declared.stop.ReadError.TheVariants as errors
 use Rattle.ec_parse.specs.Reads.{Fails}
 use Rattle.ec_parse.specs.Parts.{view_argument}
 
@@ -13,11 +13,11 @@ pub further_is : (i : Inner) (ts : List Leaf) (xs : List Argument) (rest : List 
 unfolding further_by
 further_is i ts xs rest e = rw e refl
 
-pub further_fails : (i : Inner) (ts : List Leaf) (e : Stop) → Fails e (many (argument_at i) ts) → Fails e (further_by i ts)
+pub further_fails : (i : Inner) (ts : List Leaf) (e : ReadError) → Fails e (many (argument_at i) ts) → Fails e (further_by i ts)
 unfolding further_by
-further_fails i ts stops.NoMemory h = tt
-further_fails i ts (stops.Syntax n) h = rw h refl
-further_fails i ts (stops.TooDeep n) h = rw h refl
+further_fails i ts errors.NoMemory h = tt
+further_fails i ts (errors.Syntax n) h = rw h refl
+further_fails i ts (errors.TooDeep n) h = rw h refl
 
 pub level_up : (inner : Depth) (level room : ℕ) (ts : List Leaf) (a : t.Binary) (rest : List Leaf) → 0 < level → binary_by inner (level - 1) room ts ≡ Ok (a, rest)
     → binary_by inner level room ts ≡ joins_by (binary_by inner (level - 1)) level room (chain inner) a rest

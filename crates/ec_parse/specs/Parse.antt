@@ -9,16 +9,16 @@ use Rattle.ec_grammar.specs.Views.{view_tree}
 use Rattle.ec_reading.specs.Reading.{syntax, too_deep}
 use Rattle.ec_reading.specs.Laws.{tree_of}
 use Rattle.ec_reading.specs.Refusals.{StopsBehind, PassesFirstBehind}
-use Rattle.ec_parse.specs.declared.stop.Stop.{Stop}
-use Rattle.ec_parse.specs.declared.stop.Stop.TheVariants as stops
+use Rattle.ec_parse.specs.declared.stop.ReadError.{ReadError}
+use Rattle.ec_parse.specs.declared.stop.ReadError.TheVariants as errors
 use Rattle.ec_parse.specs.declared.stop.ParseStop.{ParseStop}
 use Rattle.ec_parse.specs.declared.stop.ParseStop.TheVariants.{NoMemory, Syntax, TooDeep}
 
 -- A stop, told by the index of the token in a list of so many.
-abbrev pub IsTold : ℕ → Stop → ParseStop → Type 0
-IsTold count stops.NoMemory told = told ≡ NoMemory
-IsTold count (stops.Syntax n) told = told ≡ Syntax (count - n)
-IsTold count (stops.TooDeep n) told = told ≡ TooDeep (count - n)
+abbrev pub IsTold : ℕ → ReadError → ParseStop → Type 0
+IsTold count errors.NoMemory told = told ≡ NoMemory
+IsTold count (errors.Syntax n) told = told ≡ Syntax (count - n)
+IsTold count (errors.TooDeep n) told = told ≡ TooDeep (count - n)
 
 -- The answer is what reading answers, unless memory ran out. Reading tells a token by how many there are from it on,
 -- parsing by its index.

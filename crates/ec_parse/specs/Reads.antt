@@ -17,8 +17,8 @@ use Rattle.ec_reading.specs.Reading.{Fault, syntax, too_deep, first_is, unary_of
 use Rattle.ec_reading.specs.Reading.{expression_by, assignment_by, conditional_by, cast_by, unary_by, initialiser_by}
 use Rattle.ec_reading.specs.Reading.{declaration_by, statement_by, compound_by}
 use Rattle.ec_reading.specs.Reading as reading
-use Rattle.ec_parse.specs.declared.stop.Stop.{Stop}
-use Rattle.ec_parse.specs.declared.stop.Stop.TheVariants as stops
+use Rattle.ec_parse.specs.declared.stop.ReadError.{ReadError}
+use Rattle.ec_parse.specs.declared.stop.ReadError.TheVariants as errors
 use Rattle.ec_parse.specs.declared.tokens.Keyword.{Keyword}
 use Rattle.ec_parse.specs.declared.tokens.Keyword.TheVariants as keywords
 
@@ -32,42 +32,43 @@ leaves_of count (x ∷ xs) =
 -- ---- answers
 
 -- A stop is the fault that reading answers, unless memory ran out.
-abbrev pub Fails : {Y : Type 0} → Stop → Result Y Fault → Type 0
-Fails stops.NoMemory read = Unit {0}
-Fails (stops.Syntax n) read = read ≡ Err (syntax n)
-Fails (stops.TooDeep n) read = read ≡ Err (too_deep n)
+abbrev pub Fails : {Y : Type 0} → ReadError → Result Y Fault → Type 0
+Fails errors.NoMemory read = Unit {0}
+Fails (errors.Syntax n) read = read ≡ Err (syntax n)
+Fails (errors.TooDeep n) read = read ≡ Err (too_deep n)
 
 -- What a function returned, seen by view, is what reading answers, unless memory ran out.
-abbrev pub Gives : {X Y : Type 0} → (X → Y) → Result X Stop → Result Y Fault → Type 0
+abbrev pub Gives : {X Y : Type 0} → (X → Y) → Result X ReadError → Result Y Fault → Type 0
 Gives view (Ok x) read = read ≡ Ok (view x)
 Gives view (Err e) read = Fails e read
 
-abbrev pub FailsAt : {Y : Type 0} → Stop → Option (Result Y Fault) → Type 0
-FailsAt stops.NoMemory read = Unit {0}
-FailsAt (stops.Syntax n) read = read ≡ Some (Err (syntax n))
-FailsAt (stops.TooDeep n) read = read ≡ Some (Err (too_deep n))
+abbrev pub FailsAt : {Y : Type 0} → ReadError → Option (Result Y Fault) → Type 0
+FailsAt errors.NoMemory read = Unit {0}
+FailsAt (errors.Syntax n) read = read ≡ Some (Err (syntax n))
+FailsAt (errors.TooDeep n) read = read ≡ Some (Err (too_deep n))
 
 -- The same of an item, which need not be there.
-abbrev pub GivesAt : {X Y : Type 0} → (X → Y) → Result (Option X) Stop → Option (Result Y Fault) → Type 0
+abbrev pub GivesAt : {X Y : Type 0} → (X → Y) → Result (Option X) ReadError → Option (Result Y Fault) → Type 0
 GivesAt view (Ok None) read = read ≡ None
 GivesAt view (Ok (Some x)) read = read ≡ Some (Ok (view x))
 GivesAt view (Err e) read = FailsAt e read
 
 -- What a function returned, seen by view, is what reading answers, and it is so; unless memory ran out.
-abbrev pub Reads : {X Y : Type 0} → (X → Y) → (X → Type 0) → Result X Stop → Result Y Fault → Type 0
+abbrev pub Reads : {X Y : Type 0} → (X → Y) → (X → Type 0) → Result X ReadError → Result Y Fault → Type 0
 Reads view IsSo (Ok x) read = (read ≡ Ok (view x)) × IsSo x
 Reads view IsSo (Err e) read = Fails e read
 
 -- The same of an item, which need not be there.
-abbrev pub ReadsAt : {X Y : Type 0} → (X → Y) → (X → Type 0) → Result (Option X) Stop → Option (Result Y Fault) → Type 0
+abbrev pub ReadsAt :
+    {X Y : Type 0} → (X → Y) → (X → Type 0) → Result (Option X) ReadError → Option (Result Y Fault) → Type 0
 ReadsAt view IsSo (Ok None) read = read ≡ None
 ReadsAt view IsSo (Ok (Some x)) read = (read ≡ Some (Ok (view x))) × IsSo x
 ReadsAt view IsSo (Err e) read = FailsAt e read
 
 -- What a function made, seen by view, is this, and it is so; unless memory ran out.
-abbrev pub Builds : {X Y : Type 0} → (X → Y) → (X → Type 0) → Result X Stop → Y → Type 0
+abbrev pub Builds : {X Y : Type 0} → (X → Y) → (X → Type 0) → Result X ReadError → Y → Type 0
 Builds view IsSo (Ok x) tree = (view x ≡ tree) × IsSo x
-Builds view IsSo (Err e) tree = e ≡ stops.NoMemory
+Builds view IsSo (Err e) tree = e ≡ errors.NoMemory
 
 -- This was made of what was read, and these leaves are left.
 abbrev pub made : {Y : Type 0} → Y → List Leaf → Result (Y × List Leaf) Fault
@@ -105,14 +106,14 @@ IsThere {Y = Y} true read = (y : Y) × (read ≡ Some y)
 IsThere {Y = Y} false read = read ≡ None
 
 -- It tells the first of the tokens.
-abbrev pub IsUnexpected : Stop → List Leaf → Type 0
-IsUnexpected stop ts = stop ≡ stops.Syntax (length ts)
+abbrev pub IsUnexpected : ReadError → List Leaf → Type 0
+IsUnexpected stop ts = stop ≡ errors.Syntax (length ts)
 
-abbrev pub IsTooLong : Stop → List Leaf → Type 0
-IsTooLong stop ts = stop ≡ stops.TooDeep (length ts)
+abbrev pub IsTooLong : ReadError → List Leaf → Type 0
+IsTooLong stop ts = stop ≡ errors.TooDeep (length ts)
 
 -- a fact of what was read, where an item is there
-abbrev pub IfThere : {X : Type 0} → Result (Option X) Stop → (X → Type 0) → Type 0
+abbrev pub IfThere : {X : Type 0} → Result (Option X) ReadError → (X → Type 0) → Type 0
 IfThere (Ok None) P = Unit {0}
 IfThere (Ok (Some x)) P = P x
 IfThere (Err e) P = Unit {0}
@@ -149,28 +150,28 @@ inner_at n = record {
 }
 
 -- How many may be opened inside a construct that the token before opens, where so many are left.
-abbrev pub Opens : ℕ → Result ℕ Stop → List Leaf → Type 0
+abbrev pub Opens : ℕ → Result ℕ ReadError → List Leaf → Type 0
 Opens left (Ok n) ts = (opened_at 64 left ≡ Some (inner_at n)) × (suc n ≡ left)
-Opens left (Err e) ts = (opened_at 64 left ≡ None) × (e ≡ stops.TooDeep (suc (length ts)))
+Opens left (Err e) ts = (opened_at 64 left ≡ None) × (e ≡ errors.TooDeep (suc (length ts)))
 
-abbrev pub IsFault : Stop → Fault → Type 0
-IsFault stops.NoMemory f = Unit {0}
-IsFault (stops.Syntax n) f = f ≡ syntax n
-IsFault (stops.TooDeep n) f = f ≡ too_deep n
+abbrev pub IsFault : ReadError → Fault → Type 0
+IsFault errors.NoMemory f = Unit {0}
+IsFault (errors.Syntax n) f = f ≡ syntax n
+IsFault (errors.TooDeep n) f = f ≡ too_deep n
 
 -- The same inside one that the first token opens, where it can begin one.
-abbrev pub BeginsIf : Bool → ℕ → Result ℕ Stop → List Leaf → Type 0
+abbrev pub BeginsIf : Bool → ℕ → Result ℕ ReadError → List Leaf → Type 0
 BeginsIf starts left (Ok n) ts = (opened_at 64 left ≡ Some (inner_at n)) × (suc n ≡ left)
 BeginsIf starts left (Err e) ts =
     (opened_at 64 left ≡ None) × IsFault e (cond starts (too_deep (length ts)) (syntax (length ts)))
 
-abbrev pub Begins : (Lexeme → Bool) → ℕ → Result ℕ Stop → List Leaf → Type 0
+abbrev pub Begins : (Lexeme → Bool) → ℕ → Result ℕ ReadError → List Leaf → Type 0
 Begins starts left result ts = BeginsIf (first_is starts ts) left result ts
 
 -- The height of a node whose parts have such a height, where it may end before these tokens.
-abbrev pub Ends : ℕ → ℕ → Result ℕ Stop → List Leaf → Type 0
+abbrev pub Ends : ℕ → ℕ → Result ℕ ReadError → List Leaf → Type 0
 Ends room below (Ok h) ts = (nat_lt room (suc below) ≡ false) × (h ≡ suc below) × (h ≤ room)
-Ends room below (Err e) ts = (nat_lt room (suc below) ≡ true) × (e ≡ stops.TooDeep (suc (length ts)))
+Ends room below (Err e) ts = (nat_lt room (suc below) ≡ true) × (e ≡ errors.TooDeep (suc (length ts)))
 
 -- ---- trees taken apart
 

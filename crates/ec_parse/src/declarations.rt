@@ -21,9 +21,10 @@ ghost use Rattle.ec_parse.specs.Parts.{is_void_spec, view_next_initialiser, brac
 ghost use Rattle.ec_parse.specs.Reads.{leaves_of, inner_at, Gives, GivesAt, IfThere, Reads, ReadsAt, IsHeight};
 ghost use Rattle.ec_parse.specs.Reads.{IsNodeHeight};
 
+use crate::boxes::boxed;
 use crate::depth::{LIMIT, ended, higher, opened};
 use crate::expressions::{assignment, conditional};
-use crate::stop::Stop;
+use crate::stop::ReadError;
 use crate::tokens::{
     Source, begins_specs, expect, expect_name, take, take_name, take_void, unexpected,
 };
@@ -37,7 +38,7 @@ use ec_grammar::{PunctKind, Token, WordKind};
 
 // Parameters.
 
-fn name(source: Source, tokens: &[Token]) -> Result<(Option<Identifier>, &[Token]), Stop>
+fn name(source: Source, tokens: &[Token]) -> Result<(Option<Identifier>, &[Token]), ReadError>
     ensures { Gives (λ x. (view_option view_identifier x.0, leaves_of source.count x.1.now)) result
         (name_at (leaves_of source.count tokens.now)) }
 {
@@ -71,19 +72,23 @@ fn is_lone_void(ty: &TypeName, name: &Option<Identifier>) -> bool
 }
 
 #[tactic(auto, unfolding(ec_reading::specs::Reading::param_by))]
-fn param(source: Source, tokens: &[Token]) -> Result<(Param, &[Token]), Stop>
+fn param(source: Source, tokens: &[Token]) -> Result<(Param, &[Token]), ReadError>
     ensures { Gives (λ x. (view_param x.0, leaves_of source.count x.1.now)) result
         (param_by (leaves_of source.count tokens.now)) }
 {
     let (ty, rest) = type_name(source, tokens)?;
     let (name, rest) = name(source, rest)?;
-    if is_lone_void(&ty, &name) {
+    if is_lone_void(&*ty, &name) {
         return Err(unexpected(source, rest));
     }
+    let ty = Box::into_inner(ty);
     Ok((Param { ty, name }, rest))
 }
 
-fn another_param(source: Source, tokens: &[Token]) -> Result<Option<(NextParam, &[Token])>, Stop>
+fn another_param(
+    source: Source,
+    tokens: &[Token],
+) -> Result<Option<(NextParam, &[Token])>, ReadError>
     ensures { GivesAt (λ x. (view_next_param x.0, leaves_of source.count x.1.now)) result
         (behind_comma next_param param_by (leaves_of source.count tokens.now)) }
 {
@@ -95,7 +100,7 @@ fn another_param(source: Source, tokens: &[Token]) -> Result<Option<(NextParam, 
 }
 
 #[tactic(auto, using(crate::proofs::Many::loops))]
-fn more_params(source: Source, tokens: &[Token]) -> Result<(Vec<NextParam>, &[Token]), Stop>
+fn more_params(source: Source, tokens: &[Token]) -> Result<(Vec<NextParam>, &[Token]), ReadError>
     ensures { Gives (λ x. (map view_next_param x.0.items, leaves_of source.count x.1.now)) result
         (many (behind_comma next_param param_by) (leaves_of source.count tokens.now)) }
 {
@@ -113,7 +118,7 @@ fn more_params(source: Source, tokens: &[Token]) -> Result<(Vec<NextParam>, &[To
 
 /// The parameters of a function (6.7.5.3).
 #[tactic(auto, unfolding(ec_reading::specs::Reading::params_by))]
-fn params(source: Source, tokens: &[Token]) -> Result<(Params, &[Token]), Stop>
+fn params(source: Source, tokens: &[Token]) -> Result<(Params, &[Token]), ReadError>
     ensures { Gives (λ x. (view_params x.0, leaves_of source.count x.1.now)) result
         (params_by (leaves_of source.count tokens.now)) }
 {
@@ -121,8 +126,9 @@ fn params(source: Source, tokens: &[Token]) -> Result<(Params, &[Token]), Stop>
         return Ok((Params::Void(word), rest));
     }
     let (first, rest) = param(source, tokens)?;
+    let first = boxed(source, first)?;
     let (more, rest) = more_params(source, rest)?;
-    Ok((Params::Some(first, more), rest))
+    Ok((Params::Some(Box::into_inner(first), more), rest))
 }
 
 // Declarators.
@@ -133,7 +139,7 @@ fn array(
     left: u8,
     opening: Spot,
     tokens: &[Token],
-) -> Result<(Shape, u8, &[Token]), Stop>
+) -> Result<(Shape, u8, &[Token]), ReadError>
     ensures read { Gives (λ x. (view_shape x.0, leaves_of source.count x.2.now)) result
         (array_by (inner_at left) opening (leaves_of source.count tokens.now)) }
     ensures height { IfOk result (λ x. x.1 ≡ height_shape (view_shape x.0)) }
@@ -143,12 +149,17 @@ fn array(
         return Ok((Shape::Array(opening, None, closing), 0, rest));
     }
     let (size, height, rest) = conditional(source, left, LIMIT, tokens)?;
+    let size = boxed(source, size)?;
     let (closing, rest) = expect(source, rest, PunctKind::RightBracket)?;
-    Ok((Shape::Array(opening, Some(size), closing), height, rest))
+    Ok((
+        Shape::Array(opening, Some(Box::into_inner(size)), closing),
+        height,
+        rest,
+    ))
 }
 
 #[tactic(auto, unfolding(ec_reading::specs::Reading::shape_by))]
-fn shape(source: Source, left: u8, tokens: &[Token]) -> Result<(Shape, u8, &[Token]), Stop>
+fn shape(source: Source, left: u8, tokens: &[Token]) -> Result<(Shape, u8, &[Token]), ReadError>
     ensures read { Gives (λ x. (view_shape x.0, leaves_of source.count x.2.now)) result
         (shape_by (within 64 left) (leaves_of source.count tokens.now)) }
     ensures height { IfOk result (λ x. x.1 ≡ height_shape (view_shape x.0)) }
@@ -161,8 +172,13 @@ fn shape(source: Source, left: u8, tokens: &[Token]) -> Result<(Shape, u8, &[Tok
     if let Some((opening, rest)) = take(source, tokens, PunctKind::LeftParenthesis) {
         let _ = opened(source, left, rest)?;
         let (params, rest) = params(source, rest)?;
+        let params = boxed(source, params)?;
         let (closing, rest) = expect(source, rest, PunctKind::RightParenthesis)?;
-        return Ok((Shape::Function(opening, params, closing), 0, rest));
+        return Ok((
+            Shape::Function(opening, Box::into_inner(params), closing),
+            0,
+            rest,
+        ));
     }
     Ok((Shape::Object, 0, tokens))
 }
@@ -173,16 +189,17 @@ pub fn declarator(
     source: Source,
     left: u8,
     tokens: &[Token],
-) -> Result<(Declarator, u8, &[Token]), Stop>
-    ensures read { Gives (λ x. (view_declarator x.0, leaves_of source.count x.2.now)) result
+) -> Result<(Box<Declarator>, u8, &[Token]), ReadError>
+    ensures read { Gives (λ x. (view_declarator x.0.value, leaves_of source.count x.2.now)) result
         (declarator_by (within 64 left) (leaves_of source.count tokens.now)) }
-    ensures height { IfOk result (λ x. x.1 ≡ height_declarator (view_declarator x.0)) }
+    ensures height { IfOk result (λ x. x.1 ≡ height_declarator (view_declarator x.0.value)) }
     ensures within { IfOk result (λ x. x.1 ≤ 64) }
 {
     let (stars, rest) = stars(source, tokens)?;
     let (name, rest) = expect_name(source, rest)?;
     let (shape, height, rest) = shape(source, left, rest)?;
-    Ok((Declarator { stars, name, shape }, height, rest))
+    let tree = boxed(source, Declarator { stars, name, shape })?;
+    Ok((tree, height, rest))
 }
 
 // Initialisers.
@@ -193,7 +210,7 @@ fn another_initialiser(
     source: Source,
     left: u8,
     tokens: &[Token],
-) -> Result<Option<(NextInitialiser, u8, &[Token])>, Stop>
+) -> Result<Option<(NextInitialiser, u8, &[Token])>, ReadError>
     ensures { ReadsAt (λ x. (view_next_initialiser x.0, leaves_of source.count x.2.now))
         (λ x. IsHeight 64 (height_initialiser (view_initialiser x.0.value)) x.1) result
         (initialiser_at (inner_at left) (leaves_of source.count tokens.now)) }
@@ -214,7 +231,7 @@ fn more_initialisers(
     source: Source,
     left: u8,
     tokens: &[Token],
-) -> Result<(Vec<NextInitialiser>, u8, &[Token]), Stop>
+) -> Result<(Vec<NextInitialiser>, u8, &[Token]), ReadError>
     ensures { Reads (λ x. (map view_next_initialiser x.0.items, leaves_of source.count x.2.now))
         (λ x. IsHeight 64 (height_initialisers (initialisers_of (map view_next_initialiser x.0.items))) x.1) result
         (many (initialiser_at (inner_at left)) (leaves_of source.count tokens.now)) }
@@ -249,22 +266,22 @@ fn braces_end(
     source: Source,
     room: u8,
     opening: Spot,
-    first: Initialiser,
+    first: Box<Initialiser>,
     more: Vec<NextInitialiser>,
     below: u8,
     tokens: &[Token],
-) -> Result<(Initialiser, u8, &[Token]), Stop>
-    requires { IsHeight 64 (max (height_initialiser (view_initialiser first))
+) -> Result<(Initialiser, u8, &[Token]), ReadError>
+    requires { IsHeight 64 (max (height_initialiser (view_initialiser first.value))
         (height_initialisers (initialisers_of (map view_next_initialiser more.items)))) below }
     ensures { Reads (λ x. (view_initialiser x.0, leaves_of source.count x.2.now))
         (λ x. IsNodeHeight room (height_initialiser (view_initialiser x.0)) x.1) result
-        (braces_after room opening (view_initialiser first) (initialisers_of (map view_next_initialiser more.items))
+        (braces_after room opening (view_initialiser first.value)
+        (initialisers_of (map view_next_initialiser more.items))
         (leaves_of source.count tokens.now)) }
 {
     let (comma, rest) = comma(source, tokens);
     let (closing, rest) = expect(source, rest, PunctKind::RightBrace)?;
     let height = ended(source, room, below, rest)?;
-    let first = Box::new(source.alloc, first)?;
     let tree = Initialiser::Braces(opening, first, more, comma, closing);
     Ok((tree, height, rest))
 }
@@ -277,13 +294,14 @@ fn braces(
     room: u8,
     opening: Spot,
     tokens: &[Token],
-) -> Result<(Initialiser, u8, &[Token]), Stop>
+) -> Result<(Initialiser, u8, &[Token]), ReadError>
     requires { room ≤ 64 }
     ensures { Reads (λ x. (view_initialiser x.0, leaves_of source.count x.2.now))
         (λ x. IsNodeHeight room (height_initialiser (view_initialiser x.0)) x.1) result
         (braces_by (inner_at left) room opening (leaves_of source.count tokens.now)) }
 {
     let (first, height, rest) = initialiser(source, left, LIMIT, tokens)?;
+    let first = boxed(source, first)?;
     let (more, more_height, rest) = more_initialisers(source, left, rest)?;
     let below = higher(height, more_height);
     braces_end(source, room, opening, first, more, below, rest)
@@ -297,7 +315,7 @@ fn initialiser(
     left: u8,
     room: u8,
     tokens: &[Token],
-) -> Result<(Initialiser, u8, &[Token]), Stop>
+) -> Result<(Initialiser, u8, &[Token]), ReadError>
     requires { room ≤ 64 }
     ensures { Reads (λ x. (view_initialiser x.0, leaves_of source.count x.2.now))
         (λ x. IsNodeHeight room (height_initialiser (view_initialiser x.0)) x.1) result
@@ -308,11 +326,15 @@ fn initialiser(
         return braces(source, left, room, opening, rest);
     }
     let (value, height, rest) = assignment(source, left, room, tokens)?;
-    Ok((Initialiser::Value(value), height, rest))
+    Ok((Initialiser::Value(Box::into_inner(value)), height, rest))
 }
 
 #[tactic(auto, unfolding(ec_reading::specs::Reading::start_by))]
-fn start(source: Source, left: u8, tokens: &[Token]) -> Result<(Option<Start>, u8, &[Token]), Stop>
+fn start(
+    source: Source,
+    left: u8,
+    tokens: &[Token],
+) -> Result<(Option<Start>, u8, &[Token]), ReadError>
     ensures read { Gives (λ x. (view_option view_start x.0, leaves_of source.count x.2.now)) result
         (start_by (within 64 left) (leaves_of source.count tokens.now)) }
     ensures height { IfOk result (λ x. x.1 ≡ height_option height_start (view_option view_start x.0)) }
@@ -332,7 +354,7 @@ fn init_declarator(
     source: Source,
     left: u8,
     tokens: &[Token],
-) -> Result<(InitDeclarator, u8, &[Token]), Stop>
+) -> Result<(InitDeclarator, u8, &[Token]), ReadError>
     ensures read { Gives (λ x. (view_init_declarator x.0, leaves_of source.count x.2.now)) result
         (init_declarator_by (within 64 left) (leaves_of source.count tokens.now)) }
     ensures height { IfOk result (λ x. x.1 ≡ height_init_declarator (view_init_declarator x.0)) }
@@ -340,7 +362,10 @@ fn init_declarator(
 {
     let (declarator, height, rest) = declarator(source, left, tokens)?;
     let (start, start_height, rest) = start(source, left, rest)?;
-    let tree = InitDeclarator { declarator, start };
+    let tree = InitDeclarator {
+        declarator: Box::into_inner(declarator),
+        start,
+    };
     Ok((tree, higher(height, start_height), rest))
 }
 
@@ -348,7 +373,7 @@ fn another_init_declarator(
     source: Source,
     left: u8,
     tokens: &[Token],
-) -> Result<Option<(NextInitDeclarator, u8, &[Token])>, Stop>
+) -> Result<Option<(NextInitDeclarator, u8, &[Token])>, ReadError>
     ensures read { GivesAt (λ x. (view_next_init_declarator x.0, leaves_of source.count x.2.now)) result
         (behind_comma next_init_declarator (init_declarator_by (within 64 left)) (leaves_of source.count tokens.now)) }
     ensures height { IfThere result (λ x. x.1 ≡ height_next_init_declarator (view_next_init_declarator x.0)) }
@@ -365,7 +390,7 @@ fn more_init_declarators(
     source: Source,
     left: u8,
     tokens: &[Token],
-) -> Result<(Vec<NextInitDeclarator>, u8, &[Token]), Stop>
+) -> Result<(Vec<NextInitDeclarator>, u8, &[Token]), ReadError>
     ensures read { Gives (λ x. (map view_next_init_declarator x.0.items, leaves_of source.count x.2.now)) result
         (many (behind_comma next_init_declarator (init_declarator_by (within 64 left)))
         (leaves_of source.count tokens.now)) }
@@ -392,26 +417,30 @@ fn more_init_declarators(
 pub fn declared(
     source: Source,
     left: u8,
-    specs: Specs,
-    declarator: Declarator,
+    specs: Box<Specs>,
+    declarator: Box<Declarator>,
     declarator_height: u8,
     tokens: &[Token],
-) -> Result<(Declaration, u8, &[Token]), Stop>
-    requires height { declarator_height ≡ height_declarator (view_declarator declarator) }
+) -> Result<(Declaration, u8, &[Token]), ReadError>
+    requires height { declarator_height ≡ height_declarator (view_declarator declarator.value) }
     requires within { declarator_height ≤ 64 }
     ensures read { Gives (λ x. (view_declaration x.0, leaves_of source.count x.2.now)) result
-        (declared_by (within 64 left) (view_specs specs) (view_declarator declarator)
+        (declared_by (within 64 left) (view_specs specs.value) (view_declarator declarator.value)
         (leaves_of source.count tokens.now)) }
     ensures height { IfOk result (λ x. x.1 ≡ height_declaration (view_declaration x.0)) }
     ensures within { IfOk result (λ x. x.1 ≤ 64) }
 {
     let (start, start_height, rest) = start(source, left, tokens)?;
+    let start = boxed(source, start)?;
     let (more, more_height, rest) = more_init_declarators(source, left, rest)?;
     let (semicolon, rest) = expect(source, rest, PunctKind::Semicolon)?;
     let height = higher(higher(declarator_height, start_height), more_height);
-    let first = InitDeclarator { declarator, start };
+    let first = InitDeclarator {
+        declarator: Box::into_inner(declarator),
+        start: Box::into_inner(start),
+    };
     let tree = Declaration {
-        specs,
+        specs: Box::into_inner(specs),
         first,
         more,
         semicolon,
@@ -425,7 +454,7 @@ pub fn declaration(
     source: Source,
     left: u8,
     tokens: &[Token],
-) -> Result<(Declaration, u8, &[Token]), Stop>
+) -> Result<(Declaration, u8, &[Token]), ReadError>
     ensures read { Gives (λ x. (view_declaration x.0, leaves_of source.count x.2.now)) result
         (declaration_by (within 64 left) (leaves_of source.count tokens.now)) }
     ensures height { IfOk result (λ x. x.1 ≡ height_declaration (view_declaration x.0)) }
@@ -442,7 +471,7 @@ fn another_declarator(
     source: Source,
     left: u8,
     tokens: &[Token],
-) -> Result<Option<(NextDeclarator, &[Token])>, Stop>
+) -> Result<Option<(NextDeclarator, &[Token])>, ReadError>
     ensures { GivesAt (λ x. (view_next_declarator x.0, leaves_of source.count x.1.now)) result
         (behind_comma next_declarator (declarator_by (within 64 left)) (leaves_of source.count tokens.now)) }
 {
@@ -450,6 +479,7 @@ fn another_declarator(
         return Ok(None);
     };
     let (declarator, _, rest) = declarator(source, left, rest)?;
+    let declarator = Box::into_inner(declarator);
     Ok(Some((NextDeclarator { comma, declarator }, rest)))
 }
 
@@ -458,7 +488,7 @@ fn more_declarators(
     source: Source,
     left: u8,
     tokens: &[Token],
-) -> Result<(Vec<NextDeclarator>, &[Token]), Stop>
+) -> Result<(Vec<NextDeclarator>, &[Token]), ReadError>
     ensures { Gives (λ x. (map view_next_declarator x.0.items, leaves_of source.count x.1.now)) result
         (many (behind_comma next_declarator (declarator_by (within 64 left))) (leaves_of source.count tokens.now)) }
 {
@@ -476,8 +506,12 @@ fn more_declarators(
 
 /// A declaration of members of a struct (6.7.2.1).
 #[tactic(auto, unfolding(ec_reading::specs::Reading::members_by))]
-pub fn member(source: Source, left: u8, tokens: &[Token]) -> Result<(Member, &[Token]), Stop>
-    ensures { Gives (λ x. (view_member x.0, leaves_of source.count x.1.now)) result
+pub fn member(
+    source: Source,
+    left: u8,
+    tokens: &[Token],
+) -> Result<(Box<Member>, &[Token]), ReadError>
+    ensures { Gives (λ x. (view_member x.0.value, leaves_of source.count x.1.now)) result
         (members_by (within 64 left) (leaves_of source.count tokens.now)) }
 {
     let (specs, rest) = specs(source, tokens)?;
@@ -485,11 +519,12 @@ pub fn member(source: Source, left: u8, tokens: &[Token]) -> Result<(Member, &[T
     let (more, rest) = more_declarators(source, left, rest)?;
     let (semicolon, rest) = expect(source, rest, PunctKind::Semicolon)?;
     let tree = Member {
-        specs,
-        first,
+        specs: Box::into_inner(specs),
+        first: Box::into_inner(first),
         more,
         semicolon,
     };
+    let tree = boxed(source, tree)?;
     Ok((tree, rest))
 }
 
@@ -498,7 +533,7 @@ fn another_member(
     source: Source,
     left: u8,
     tokens: &[Token],
-) -> Result<Option<(Member, &[Token])>, Stop>
+) -> Result<Option<(Member, &[Token])>, ReadError>
     ensures { GivesAt (λ x. (view_member x.0, leaves_of source.count x.1.now)) result
         (members_at (within 64 left) (leaves_of source.count tokens.now)) }
 {
@@ -506,7 +541,7 @@ fn another_member(
         return Ok(None);
     }
     let (member, rest) = member(source, left, tokens)?;
-    Ok(Some((member, rest)))
+    Ok(Some((Box::into_inner(member), rest)))
 }
 
 /// Declarations of members that follow another one.
@@ -515,7 +550,7 @@ pub fn more_members(
     source: Source,
     left: u8,
     tokens: &[Token],
-) -> Result<(Vec<Member>, &[Token]), Stop>
+) -> Result<(Vec<Member>, &[Token]), ReadError>
     ensures { Gives (λ x. (map view_member x.0.items, leaves_of source.count x.1.now)) result
         (many (members_at (within 64 left)) (leaves_of source.count tokens.now)) }
 {

@@ -21,8 +21,9 @@ ghost use Rattle.ec_parse.specs.Reads.{IsBehind, HasRoom, HasRoomAbove, Parts};
 ghost use Rattle.ec_parse.specs.Parts.{view_argument, operation_after, parenthesised_after, atom_by, index_after};
 ghost use Rattle.ec_parse.specs.Parts.{call_after};
 
+use crate::boxes::boxed;
 use crate::depth::{CHAIN, LIMIT, begun_expression, ended, higher, opened, room_behind, too_long};
-use crate::stop::Stop;
+use crate::stop::ReadError;
 use crate::tokens::{
     Source, expect, expect_name, take, take_access, take_assign, take_cast, take_constant,
     take_level, take_name, take_operation, take_prefix, take_step, take_word, unexpected,
@@ -41,7 +42,7 @@ fn argument(
     source: Source,
     left: u8,
     tokens: &[Token],
-) -> Result<Option<(Argument, u8, &[Token])>, Stop>
+) -> Result<Option<(Argument, u8, &[Token])>, ReadError>
     ensures { ReadsAt (λ x. (view_argument x.0, leaves_of source.count x.2.now))
         (λ x. IsHeight 64 (height_assignment (view_assignment x.0.value)) x.1) result
         (argument_at (inner_at left) (leaves_of source.count tokens.now)) }
@@ -50,6 +51,7 @@ fn argument(
         return Ok(None);
     };
     let (value, height, rest) = assignment(source, left, LIMIT, rest)?;
+    let value = Box::into_inner(value);
     Ok(Some((Argument { comma, value }, height, rest)))
 }
 
@@ -60,7 +62,7 @@ fn further(
     source: Source,
     left: u8,
     tokens: &[Token],
-) -> Result<(Vec<Argument>, u8, &[Token]), Stop>
+) -> Result<(Vec<Argument>, u8, &[Token]), ReadError>
     ensures { Reads (λ x. (further_of (map view_argument x.0.items), leaves_of source.count x.2.now))
         (λ x. IsHeight 64 (height_further (further_of (map view_argument x.0.items))) x.1) result
         (further_by (inner_at left) (leaves_of source.count tokens.now)) }
@@ -87,7 +89,11 @@ fn some_arguments(first: Assignment, more: Vec<Argument>) -> Arguments
 
 #[cycle(expressions)]
 #[tactic(auto, unfolding(ec_reading::specs::Reading::arguments_by))]
-fn arguments(source: Source, left: u8, tokens: &[Token]) -> Result<(Arguments, u8, &[Token]), Stop>
+fn arguments(
+    source: Source,
+    left: u8,
+    tokens: &[Token],
+) -> Result<(Arguments, u8, &[Token]), ReadError>
     ensures { Reads (λ x. (view_arguments x.0, leaves_of source.count x.2.now))
         (λ x. IsHeight 64 (height_arguments (view_arguments x.0)) x.1) result
         (arguments_by (inner_at left) (leaves_of source.count tokens.now)) }
@@ -97,6 +103,7 @@ fn arguments(source: Source, left: u8, tokens: &[Token]) -> Result<(Arguments, u
     }
     let (first, height, rest) = assignment(source, left, LIMIT, tokens)?;
     let (more, tall, rest) = further(source, left, rest)?;
+    let first = Box::into_inner(first);
     Ok((some_arguments(first, more), higher(height, tall), rest))
 }
 
@@ -113,7 +120,7 @@ fn operation_end(
     more: Vec<Argument>,
     below: u8,
     tokens: &[Token],
-) -> Result<(Primary, u8, &[Token]), Stop>
+) -> Result<(Primary, u8, &[Token]), ReadError>
     requires { IsHeight 64 (height_further (further_of (map view_argument more.items))) below }
     ensures { Reads (λ x. (view_primary x.0, leaves_of source.count x.2.now))
         (λ x. IsNodeHeight room (height_primary (view_primary x.0)) x.1) result
@@ -135,7 +142,7 @@ fn operation(
     spot: Spot,
     op: Operation,
     tokens: &[Token],
-) -> Result<(Primary, u8, &[Token]), Stop>
+) -> Result<(Primary, u8, &[Token]), ReadError>
     requires { room ≤ 64 }
     ensures { Reads (λ x. (view_primary x.0, leaves_of source.count x.2.now))
         (λ x. IsNodeHeight room (height_primary (view_primary x.0)) x.1) result
@@ -153,24 +160,23 @@ fn parenthesised(
     source: Source,
     room: u8,
     opening: Spot,
-    inner: Expression,
+    inner: Box<Expression>,
     below: u8,
     tokens: &[Token],
-) -> Result<(Primary, u8, &[Token]), Stop>
-    requires { IsHeight 64 (height_expression (view_expression inner)) below }
+) -> Result<(Primary, u8, &[Token]), ReadError>
+    requires { IsHeight 64 (height_expression (view_expression inner.value)) below }
     ensures { Reads (λ x. (view_primary x.0, leaves_of source.count x.2.now))
         (λ x. IsNodeHeight room (height_primary (view_primary x.0)) x.1) result
-        (parenthesised_after room opening (view_expression inner) (leaves_of source.count tokens.now)) }
+        (parenthesised_after room opening (view_expression inner.value) (leaves_of source.count tokens.now)) }
 {
     let (closing, rest) = expect(source, tokens, PunctKind::RightParenthesis)?;
     let height = ended(source, room, below, rest)?;
-    let inner = Box::new(source.alloc, inner)?;
     let tree = Primary::Parenthesised(opening, inner, closing);
     Ok((tree, height, rest))
 }
 
 /// A constant or a name.
-fn atom(source: Source, room: u8, tokens: &[Token]) -> Result<(Primary, u8, &[Token]), Stop>
+fn atom(source: Source, room: u8, tokens: &[Token]) -> Result<(Primary, u8, &[Token]), ReadError>
     ensures { Reads (λ x. (view_primary x.0, leaves_of source.count x.2.now))
         (λ x. IsNodeHeight room (height_primary (view_primary x.0)) x.1) result
         (atom_by room (leaves_of source.count tokens.now)) }
@@ -193,7 +199,7 @@ fn primary(
     left: u8,
     room: u8,
     tokens: &[Token],
-) -> Result<(Primary, u8, &[Token]), Stop>
+) -> Result<(Primary, u8, &[Token]), ReadError>
     requires { room ≤ 64 }
     ensures { Reads (λ x. (view_primary x.0, leaves_of source.count x.2.now))
         (λ x. IsNodeHeight room (height_primary (view_primary x.0)) x.1) result
@@ -216,24 +222,24 @@ fn primary(
 fn index_end(
     source: Source,
     room: u8,
-    array: Postfix,
+    array: Box<Postfix>,
     array_height: u8,
     opening: Spot,
-    index: Expression,
+    index: Box<Expression>,
     index_height: u8,
     tokens: &[Token],
-) -> Result<(Postfix, u8, &[Token]), Stop>
-    requires { IsBehind room (height_postfix (view_postfix array)) array_height
-        × IsHeight 64 (height_expression (view_expression index)) index_height }
-    ensures { Reads (λ x. (view_postfix x.0, leaves_of source.count x.2.now))
-        (λ x. IsNodeHeight room (height_postfix (view_postfix x.0)) x.1) result
-        (index_after room (view_postfix array) opening (view_expression index) (leaves_of source.count tokens.now)) }
+) -> Result<(Box<Postfix>, u8, &[Token]), ReadError>
+    requires { IsBehind room (height_postfix (view_postfix array.value)) array_height
+        × IsHeight 64 (height_expression (view_expression index.value)) index_height }
+    ensures { Reads (λ x. (view_postfix x.0.value, leaves_of source.count x.2.now))
+        (λ x. IsNodeHeight room (height_postfix (view_postfix x.0.value)) x.1) result
+        (index_after room (view_postfix array.value) opening (view_expression index.value)
+        (leaves_of source.count tokens.now)) }
 {
     let (closing, rest) = expect(source, tokens, PunctKind::RightBracket)?;
     let height = ended(source, room, higher(array_height, index_height), rest)?;
-    let array = Box::new(source.alloc, array)?;
-    let index = Box::new(source.alloc, index)?;
-    Ok((Postfix::Index(array, opening, index, closing), height, rest))
+    let tree = boxed(source, Postfix::Index(array, opening, index, closing))?;
+    Ok((tree, height, rest))
 }
 
 #[cycle(expressions)]
@@ -242,15 +248,15 @@ fn index(
     source: Source,
     left: u8,
     room: u8,
-    array: Postfix,
+    array: Box<Postfix>,
     array_height: u8,
     opening: Spot,
     tokens: &[Token],
-) -> Result<(Postfix, u8, &[Token]), Stop>
-    requires { IsBehind room (height_postfix (view_postfix array)) array_height }
-    ensures { Reads (λ x. (view_postfix x.0, leaves_of source.count x.2.now))
-        (λ x. IsNodeHeight room (height_postfix (view_postfix x.0)) x.1) result
-        (index_by (within 64 left) room (view_postfix array) opening (leaves_of source.count tokens.now)) }
+) -> Result<(Box<Postfix>, u8, &[Token]), ReadError>
+    requires { IsBehind room (height_postfix (view_postfix array.value)) array_height }
+    ensures { Reads (λ x. (view_postfix x.0.value, leaves_of source.count x.2.now))
+        (λ x. IsNodeHeight room (height_postfix (view_postfix x.0.value)) x.1) result
+        (index_by (within 64 left) room (view_postfix array.value) opening (leaves_of source.count tokens.now)) }
 {
     let left = opened(source, left, tokens)?;
     let (index, height, rest) = expression(source, left, LIMIT, tokens)?;
@@ -270,24 +276,24 @@ fn index(
 fn call_end(
     source: Source,
     room: u8,
-    function: Postfix,
+    function: Box<Postfix>,
     function_height: u8,
     opening: Spot,
     given: Arguments,
     given_height: u8,
     tokens: &[Token],
-) -> Result<(Postfix, u8, &[Token]), Stop>
-    requires { IsBehind room (height_postfix (view_postfix function)) function_height
+) -> Result<(Box<Postfix>, u8, &[Token]), ReadError>
+    requires { IsBehind room (height_postfix (view_postfix function.value)) function_height
         × IsHeight 64 (height_arguments (view_arguments given)) given_height }
-    ensures { Reads (λ x. (view_postfix x.0, leaves_of source.count x.2.now))
-        (λ x. IsNodeHeight room (height_postfix (view_postfix x.0)) x.1) result
-        (call_after room (view_postfix function) opening (view_arguments given) (leaves_of source.count tokens.now)) }
+    ensures { Reads (λ x. (view_postfix x.0.value, leaves_of source.count x.2.now))
+        (λ x. IsNodeHeight room (height_postfix (view_postfix x.0.value)) x.1) result
+        (call_after room (view_postfix function.value) opening (view_arguments given)
+        (leaves_of source.count tokens.now)) }
 {
+    let given = boxed(source, given)?;
     let (closing, rest) = expect(source, tokens, PunctKind::RightParenthesis)?;
     let height = ended(source, room, higher(function_height, given_height), rest)?;
-    let function = Box::new(source.alloc, function)?;
-    let given = Box::new(source.alloc, given)?;
-    let tree = Postfix::Call(function, opening, given, closing);
+    let tree = boxed(source, Postfix::Call(function, opening, given, closing))?;
     Ok((tree, height, rest))
 }
 
@@ -297,15 +303,15 @@ fn call(
     source: Source,
     left: u8,
     room: u8,
-    function: Postfix,
+    function: Box<Postfix>,
     function_height: u8,
     opening: Spot,
     tokens: &[Token],
-) -> Result<(Postfix, u8, &[Token]), Stop>
-    requires { IsBehind room (height_postfix (view_postfix function)) function_height }
-    ensures { Reads (λ x. (view_postfix x.0, leaves_of source.count x.2.now))
-        (λ x. IsNodeHeight room (height_postfix (view_postfix x.0)) x.1) result
-        (call_by (within 64 left) room (view_postfix function) opening (leaves_of source.count tokens.now)) }
+) -> Result<(Box<Postfix>, u8, &[Token]), ReadError>
+    requires { IsBehind room (height_postfix (view_postfix function.value)) function_height }
+    ensures { Reads (λ x. (view_postfix x.0.value, leaves_of source.count x.2.now))
+        (λ x. IsNodeHeight room (height_postfix (view_postfix x.0.value)) x.1) result
+        (call_by (within 64 left) room (view_postfix function.value) opening (leaves_of source.count tokens.now)) }
 {
     let left = opened(source, left, tokens)?;
     let (given, height, rest) = arguments(source, left, tokens)?;
@@ -325,41 +331,41 @@ fn call(
 fn member(
     source: Source,
     room: u8,
-    object: Postfix,
+    object: Box<Postfix>,
     object_height: u8,
     spot: Spot,
     op: PunctKind,
     tokens: &[Token],
-) -> Result<(Postfix, u8, &[Token]), Stop>
-    requires { IsBehind room (height_postfix (view_postfix object)) object_height }
-    ensures { Reads (λ x. (view_postfix x.0, leaves_of source.count x.2.now))
-        (λ x. IsNodeHeight room (height_postfix (view_postfix x.0)) x.1) result
-        (member_by room (view_postfix object) spot op (leaves_of source.count tokens.now)) }
+) -> Result<(Box<Postfix>, u8, &[Token]), ReadError>
+    requires { IsBehind room (height_postfix (view_postfix object.value)) object_height }
+    ensures { Reads (λ x. (view_postfix x.0.value, leaves_of source.count x.2.now))
+        (λ x. IsNodeHeight room (height_postfix (view_postfix x.0.value)) x.1) result
+        (member_by room (view_postfix object.value) spot op (leaves_of source.count tokens.now)) }
 {
     let (name, rest) = expect_name(source, tokens)?;
     let height = ended(source, room, object_height, rest)?;
-    let object = Box::new(source.alloc, object)?;
-    Ok((Postfix::Member(object, spot, op, name), height, rest))
+    let tree = boxed(source, Postfix::Member(object, spot, op, name))?;
+    Ok((tree, height, rest))
 }
 
 fn stepped(
     source: Source,
     room: u8,
-    place: Postfix,
+    place: Box<Postfix>,
     place_height: u8,
     spot: Spot,
     op: PunctKind,
     tokens: &[Token],
-) -> Result<(Postfix, u8, &[Token]), Stop>
-    requires { IsBehind room (height_postfix (view_postfix place)) place_height }
-    ensures { Reads (λ x. (view_postfix x.0, leaves_of source.count x.2.now))
-        (λ x. IsNodeHeight room (height_postfix (view_postfix x.0)) x.1) result
-        (ends room (suc (height_postfix (view_postfix place))) (t.stepped (view_postfix place) spot op)
+) -> Result<(Box<Postfix>, u8, &[Token]), ReadError>
+    requires { IsBehind room (height_postfix (view_postfix place.value)) place_height }
+    ensures { Reads (λ x. (view_postfix x.0.value, leaves_of source.count x.2.now))
+        (λ x. IsNodeHeight room (height_postfix (view_postfix x.0.value)) x.1) result
+        (ends room (suc (height_postfix (view_postfix place.value))) (t.stepped (view_postfix place.value) spot op)
         (leaves_of source.count tokens.now)) }
 {
     let height = ended(source, room, place_height, tokens)?;
-    let place = Box::new(source.alloc, place)?;
-    Ok((Postfix::Stepped(place, spot, op), height, tokens))
+    let tree = boxed(source, Postfix::Stepped(place, spot, op))?;
+    Ok((tree, height, tokens))
 }
 
 /// What the suffixes that follow make of an expression: there are at most so many.
@@ -370,14 +376,14 @@ fn suffixes(
     left: u8,
     room: u8,
     count: u8,
-    first: Postfix,
+    first: Box<Postfix>,
     first_height: u8,
     tokens: &[Token],
-) -> Result<(Postfix, u8, &[Token]), Stop>
-    requires { IsBehind room (height_postfix (view_postfix first)) first_height }
-    ensures { Reads (λ x. (view_postfix x.0, leaves_of source.count x.2.now))
-        (λ x. IsNodeHeight room (height_postfix (view_postfix x.0)) x.1) result
-        (suffixes_by (within 64 left) room count (view_postfix first) (leaves_of source.count tokens.now)) }
+) -> Result<(Box<Postfix>, u8, &[Token]), ReadError>
+    requires { IsBehind room (height_postfix (view_postfix first.value)) first_height }
+    ensures { Reads (λ x. (view_postfix x.0.value, leaves_of source.count x.2.now))
+        (λ x. IsNodeHeight room (height_postfix (view_postfix x.0.value)) x.1) result
+        (suffixes_by (within 64 left) room count (view_postfix first.value) (leaves_of source.count tokens.now)) }
 {
     if count == 0 {
         return Err(too_long(source, tokens));
@@ -408,14 +414,14 @@ fn postfix(
     left: u8,
     room: u8,
     tokens: &[Token],
-) -> Result<(Postfix, u8, &[Token]), Stop>
+) -> Result<(Box<Postfix>, u8, &[Token]), ReadError>
     requires { room ≤ 64 }
-    ensures { Reads (λ x. (view_postfix x.0, leaves_of source.count x.2.now))
-        (λ x. IsNodeHeight room (height_postfix (view_postfix x.0)) x.1) result
+    ensures { Reads (λ x. (view_postfix x.0.value, leaves_of source.count x.2.now))
+        (λ x. IsNodeHeight room (height_postfix (view_postfix x.0.value)) x.1) result
         (postfix_by (within 64 left) room (leaves_of source.count tokens.now)) }
 {
     let (first, height, rest) = primary(source, left, room, tokens)?;
-    let first = Postfix::Primary(first);
+    let first = boxed(source, Postfix::Primary(first))?;
     suffixes(source, left, room, CHAIN, first, height, rest)
 }
 
@@ -428,7 +434,7 @@ fn size(
     room: u8,
     spot: Spot,
     tokens: &[Token],
-) -> Result<(Unary, u8, &[Token]), Stop>
+) -> Result<(Unary, u8, &[Token]), ReadError>
     requires { room ≤ 64 }
     ensures { Reads (λ x. (view_unary x.0, leaves_of source.count x.2.now))
         (λ x. IsNodeHeight room (height_unary (view_unary x.0)) x.1) result
@@ -439,7 +445,11 @@ fn size(
     let (ty, rest) = type_name(source, rest)?;
     let (closing, rest) = expect(source, rest, PunctKind::RightParenthesis)?;
     let height = ended(source, room, 0, rest)?;
-    Ok((Unary::Size(spot, opening, ty, closing), height, rest))
+    Ok((
+        Unary::Size(spot, opening, Box::into_inner(ty), closing),
+        height,
+        rest,
+    ))
 }
 
 fn prefixed(
@@ -450,13 +460,13 @@ fn prefixed(
     operand: Cast,
     height: u8,
     tokens: &[Token],
-) -> Result<(Unary, u8, &[Token]), Stop>
+) -> Result<(Unary, u8, &[Token]), ReadError>
     requires { HasRoomAbove room (height_cast (view_cast operand)) height }
     ensures { Reads (λ x. (view_unary x.0, leaves_of source.count x.2.now))
         (λ x. IsNodeHeight room (height_unary (view_unary x.0)) x.1) result
         (made (t.prefix spot op (view_cast operand)) (leaves_of source.count tokens.now)) }
 {
-    let operand = Box::new(source.alloc, operand)?;
+    let operand = boxed(source, operand)?;
     Ok((Unary::Prefix(spot, op, operand), height + 1, tokens))
 }
 
@@ -468,13 +478,13 @@ fn stepped_first(
     operand: Unary,
     height: u8,
     tokens: &[Token],
-) -> Result<(Unary, u8, &[Token]), Stop>
+) -> Result<(Unary, u8, &[Token]), ReadError>
     requires { HasRoomAbove room (height_unary (view_unary operand)) height }
     ensures { Reads (λ x. (view_unary x.0, leaves_of source.count x.2.now))
         (λ x. IsNodeHeight room (height_unary (view_unary x.0)) x.1) result
         (made (t.step spot op (view_unary operand)) (leaves_of source.count tokens.now)) }
 {
-    let operand = Box::new(source.alloc, operand)?;
+    let operand = boxed(source, operand)?;
     Ok((Unary::Step(spot, op, operand), height + 1, tokens))
 }
 
@@ -485,7 +495,7 @@ fn unary(
     left: u8,
     room: u8,
     tokens: &[Token],
-) -> Result<(Unary, u8, &[Token]), Stop>
+) -> Result<(Unary, u8, &[Token]), ReadError>
     requires { room ≤ 64 }
     ensures { Reads (λ x. (view_unary x.0, leaves_of source.count x.2.now))
         (λ x. IsNodeHeight room (height_unary (view_unary x.0)) x.1) result
@@ -505,32 +515,38 @@ fn unary(
         return size(source, left, room, spot, rest);
     }
     let (operand, height, rest) = postfix(source, left, room, tokens)?;
-    Ok((Unary::Postfix(operand), height, rest))
+    Ok((Unary::Postfix(Box::into_inner(operand)), height, rest))
 }
 
 fn converted(
     source: Source,
     room: u8,
     opening: Spot,
-    ty: TypeName,
+    ty: Box<TypeName>,
     closing: Spot,
     operand: Cast,
     height: u8,
     tokens: &[Token],
-) -> Result<(Cast, u8, &[Token]), Stop>
+) -> Result<(Cast, u8, &[Token]), ReadError>
     requires { HasRoomAbove room (height_cast (view_cast operand)) height }
     ensures { Reads (λ x. (view_cast x.0, leaves_of source.count x.2.now))
         (λ x. IsNodeHeight room (height_cast (view_cast x.0)) x.1) result
-        (made (t.convert opening (view_type_name ty) closing (view_cast operand)) (leaves_of source.count tokens.now)) }
+        (made (t.convert opening (view_type_name ty.value) closing (view_cast operand))
+        (leaves_of source.count tokens.now)) }
 {
-    let operand = Box::new(source.alloc, operand)?;
-    let tree = Cast::Convert(opening, ty, closing, operand);
+    let operand = boxed(source, operand)?;
+    let tree = Cast::Convert(opening, Box::into_inner(ty), closing, operand);
     Ok((tree, height + 1, tokens))
 }
 
 #[cycle(expressions)]
 #[tactic(auto, unfolding(ec_reading::specs::Reading::cast_by))]
-fn cast(source: Source, left: u8, room: u8, tokens: &[Token]) -> Result<(Cast, u8, &[Token]), Stop>
+fn cast(
+    source: Source,
+    left: u8,
+    room: u8,
+    tokens: &[Token],
+) -> Result<(Cast, u8, &[Token]), ReadError>
     requires { room ≤ 64 }
     ensures { Reads (λ x. (view_cast x.0, leaves_of source.count x.2.now))
         (λ x. IsNodeHeight room (height_cast (view_cast x.0)) x.1) result
@@ -552,22 +568,21 @@ fn cast(source: Source, left: u8, room: u8, tokens: &[Token]) -> Result<(Cast, u
 fn joined(
     source: Source,
     room: u8,
-    first: Binary,
+    first: Box<Binary>,
     first_height: u8,
     spot: Spot,
     op: PunctKind,
-    second: Binary,
+    second: Box<Binary>,
     second_height: u8,
-) -> Result<(Binary, u8), Stop>
-    requires { HasRoom room (height_binary (view_binary first)) first_height
-        (height_binary (view_binary second)) second_height }
-    ensures { Builds (λ x. view_binary x.0) (λ x. IsNodeHeight room (height_binary (view_binary x.0)) x.1) result
-        (t.join (view_binary first) spot op (view_binary second)) }
+) -> Result<(Box<Binary>, u8), ReadError>
+    requires { HasRoom room (height_binary (view_binary first.value)) first_height
+        (height_binary (view_binary second.value)) second_height }
+    ensures { Builds (λ x. view_binary x.0.value)
+        (λ x. IsNodeHeight room (height_binary (view_binary x.0.value)) x.1) result
+        (t.join (view_binary first.value) spot op (view_binary second.value)) }
 {
-    let first = Box::new(source.alloc, first)?;
-    let second = Box::new(source.alloc, second)?;
-    let height = higher(first_height, second_height) + 1;
-    Ok((Binary::Join(first, spot, op, second), height))
+    let both = boxed(source, Binary::Join(first, spot, op, second))?;
+    Ok((both, higher(first_height, second_height) + 1))
 }
 
 /// What the operators of a level that follow make of an expression: there are at most so many.
@@ -579,14 +594,14 @@ fn joins(
     level: u8,
     room: u8,
     count: u8,
-    first: Binary,
+    first: Box<Binary>,
     first_height: u8,
     tokens: &[Token],
-) -> Result<(Binary, u8, &[Token]), Stop>
-    requires { (0 < level) × IsBehind room (height_binary (view_binary first)) first_height }
-    ensures { Reads (λ x. (view_binary x.0, leaves_of source.count x.2.now))
-        (λ x. IsNodeHeight room (height_binary (view_binary x.0)) x.1) result
-        (joins_by (binary_by (within 64 left) (level - 1)) level room count (view_binary first)
+) -> Result<(Box<Binary>, u8, &[Token]), ReadError>
+    requires { (0 < level) × IsBehind room (height_binary (view_binary first.value)) first_height }
+    ensures { Reads (λ x. (view_binary x.0.value, leaves_of source.count x.2.now))
+        (λ x. IsNodeHeight room (height_binary (view_binary x.0.value)) x.1) result
+        (joins_by (binary_by (within 64 left) (level - 1)) level room count (view_binary first.value)
         (leaves_of source.count tokens.now)) }
 {
     if count == 0 {
@@ -619,15 +634,16 @@ fn binary(
     level: u8,
     room: u8,
     tokens: &[Token],
-) -> Result<(Binary, u8, &[Token]), Stop>
+) -> Result<(Box<Binary>, u8, &[Token]), ReadError>
     requires { room ≤ 64 }
-    ensures { Reads (λ x. (view_binary x.0, leaves_of source.count x.2.now))
-        (λ x. IsNodeHeight room (height_binary (view_binary x.0)) x.1) result
+    ensures { Reads (λ x. (view_binary x.0.value, leaves_of source.count x.2.now))
+        (λ x. IsNodeHeight room (height_binary (view_binary x.0.value)) x.1) result
         (binary_by (within 64 left) level room (leaves_of source.count tokens.now)) }
 {
     if level == 0 {
         let (operand, height, rest) = cast(source, left, room, tokens)?;
-        return Ok((Binary::Operand(operand), height, rest));
+        let operand = boxed(source, Binary::Operand(operand))?;
+        return Ok((operand, height, rest));
     }
     let (first, height, rest) = binary(source, left, level - 1, room, tokens)?;
     joins(source, left, level, room, CHAIN, first, height, rest)
@@ -638,25 +654,25 @@ fn binary(
 fn chosen(
     source: Source,
     room: u8,
-    test: Binary,
+    test: Box<Binary>,
     question: Spot,
-    second: Expression,
+    second: Box<Expression>,
     colon: Spot,
     below: u8,
     third: Conditional,
     third_height: u8,
     tokens: &[Token],
-) -> Result<(Conditional, u8, &[Token]), Stop>
-    requires { HasRoom room (max (height_binary (view_binary test)) (height_expression (view_expression second))) below
+) -> Result<(Conditional, u8, &[Token]), ReadError>
+    requires { HasRoom room (max (height_binary (view_binary test.value))
+        (height_expression (view_expression second.value))) below
         (height_conditional (view_conditional third)) third_height }
     ensures { Reads (λ x. (view_conditional x.0, leaves_of source.count x.2.now))
         (λ x. IsNodeHeight room (height_conditional (view_conditional x.0)) x.1) result
-        (made (t.choose (view_binary test) question (view_expression second) colon (view_conditional third))
+        (made (t.choose (view_binary test.value) question (view_expression second.value) colon (view_conditional third))
         (leaves_of source.count tokens.now)) }
 {
-    let second = Box::new(source.alloc, second)?;
-    let third = Box::new(source.alloc, third)?;
-    let tree = Conditional::Choose(test, question, second, colon, third);
+    let third = boxed(source, third)?;
+    let tree = Conditional::Choose(Box::into_inner(test), question, second, colon, third);
     Ok((tree, higher(below, third_height) + 1, tokens))
 }
 
@@ -666,15 +682,15 @@ fn choice(
     source: Source,
     left: u8,
     room: u8,
-    test: Binary,
+    test: Box<Binary>,
     test_height: u8,
     question: Spot,
     tokens: &[Token],
-) -> Result<(Conditional, u8, &[Token]), Stop>
-    requires { IsBehind room (height_binary (view_binary test)) test_height }
+) -> Result<(Conditional, u8, &[Token]), ReadError>
+    requires { IsBehind room (height_binary (view_binary test.value)) test_height }
     ensures { Reads (λ x. (view_conditional x.0, leaves_of source.count x.2.now))
         (λ x. IsNodeHeight room (height_conditional (view_conditional x.0)) x.1) result
-        (choice_by (within 64 left) room (view_binary test) question (leaves_of source.count tokens.now)) }
+        (choice_by (within 64 left) room (view_binary test.value) question (leaves_of source.count tokens.now)) }
 {
     let left = begun_expression(source, left, tokens)?;
     let (second, second_height, rest) = expression(source, left, LIMIT, tokens)?;
@@ -694,7 +710,7 @@ pub fn conditional(
     left: u8,
     room: u8,
     tokens: &[Token],
-) -> Result<(Conditional, u8, &[Token]), Stop>
+) -> Result<(Conditional, u8, &[Token]), ReadError>
     requires { room ≤ 64 }
     ensures { Reads (λ x. (view_conditional x.0, leaves_of source.count x.2.now))
         (λ x. IsNodeHeight room (height_conditional (view_conditional x.0)) x.1) result
@@ -704,7 +720,7 @@ pub fn conditional(
     if let Some((question, rest)) = take(source, rest, PunctKind::Question) {
         return choice(source, left, room, test, height, question, rest);
     }
-    Ok((Conditional::Plain(test), height, rest))
+    Ok((Conditional::Plain(Box::into_inner(test)), height, rest))
 }
 
 /// The unary expression that it is, or the whole again.
@@ -720,22 +736,23 @@ fn unary_alone(tree: Conditional) -> Result<Unary, Conditional>
 fn assigns(
     source: Source,
     room: u8,
-    place: Unary,
+    place: Box<Unary>,
     place_height: u8,
     spot: Spot,
     op: PunctKind,
-    value: Assignment,
+    value: Box<Assignment>,
     value_height: u8,
     tokens: &[Token],
-) -> Result<(Assignment, u8, &[Token]), Stop>
-    requires { HasRoom room (height_unary (view_unary place)) place_height
-        (height_assignment (view_assignment value)) value_height }
-    ensures { Reads (λ x. (view_assignment x.0, leaves_of source.count x.2.now))
-        (λ x. IsNodeHeight room (height_assignment (view_assignment x.0)) x.1) result
-        (made (t.assign (view_unary place) spot op (view_assignment value)) (leaves_of source.count tokens.now)) }
+) -> Result<(Box<Assignment>, u8, &[Token]), ReadError>
+    requires { HasRoom room (height_unary (view_unary place.value)) place_height
+        (height_assignment (view_assignment value.value)) value_height }
+    ensures { Reads (λ x. (view_assignment x.0.value, leaves_of source.count x.2.now))
+        (λ x. IsNodeHeight room (height_assignment (view_assignment x.0.value)) x.1) result
+        (made (t.assign (view_unary place.value) spot op (view_assignment value.value))
+        (leaves_of source.count tokens.now)) }
 {
-    let value = Box::new(source.alloc, value)?;
-    let tree = Assignment::Assign(place, spot, op, value);
+    let place = Box::into_inner(place);
+    let tree = boxed(source, Assignment::Assign(place, spot, op, value))?;
     Ok((tree, higher(place_height, value_height) + 1, tokens))
 }
 
@@ -750,12 +767,13 @@ fn assigned(
     spot: Spot,
     op: PunctKind,
     tokens: &[Token],
-) -> Result<(Assignment, u8, &[Token]), Stop>
+) -> Result<(Box<Assignment>, u8, &[Token]), ReadError>
     requires { IsBehind room (height_unary (view_unary place)) place_height }
-    ensures { Reads (λ x. (view_assignment x.0, leaves_of source.count x.2.now))
-        (λ x. IsNodeHeight room (height_assignment (view_assignment x.0)) x.1) result
+    ensures { Reads (λ x. (view_assignment x.0.value, leaves_of source.count x.2.now))
+        (λ x. IsNodeHeight room (height_assignment (view_assignment x.0.value)) x.1) result
         (assigned_by (within 64 left) room (view_unary place) spot op (leaves_of source.count tokens.now)) }
 {
+    let place = boxed(source, place)?;
     let left = begun_expression(source, left, tokens)?;
     let last = room_behind(room, place_height);
     let (value, height, rest) = assignment(source, left, last, tokens)?;
@@ -780,41 +798,43 @@ pub fn assignment(
     left: u8,
     room: u8,
     tokens: &[Token],
-) -> Result<(Assignment, u8, &[Token]), Stop>
+) -> Result<(Box<Assignment>, u8, &[Token]), ReadError>
     requires { room ≤ 64 }
-    ensures { Reads (λ x. (view_assignment x.0, leaves_of source.count x.2.now))
-        (λ x. IsNodeHeight room (height_assignment (view_assignment x.0)) x.1) result
+    ensures { Reads (λ x. (view_assignment x.0.value, leaves_of source.count x.2.now))
+        (λ x. IsNodeHeight room (height_assignment (view_assignment x.0.value)) x.1) result
         (assignment_by (within 64 left) room (leaves_of source.count tokens.now)) }
 {
     let (tree, height, rest) = conditional(source, left, room, tokens)?;
     let Some((spot, op, after)) = take_assign(source, rest) else {
-        return Ok((Assignment::Value(tree), height, rest));
+        let tree = boxed(source, Assignment::Value(tree))?;
+        return Ok((tree, height, rest));
     };
     match unary_alone(tree) {
         Ok(place) => assigned(source, left, room, place, height, spot, op, after),
-        Err(tree) => Ok((Assignment::Value(tree), height, rest)),
+        Err(tree) => {
+            let tree = boxed(source, Assignment::Value(tree))?;
+            Ok((tree, height, rest))
+        }
     }
 }
 
 fn with_comma(
     source: Source,
     room: u8,
-    first: Expression,
+    first: Box<Expression>,
     first_height: u8,
     comma: Spot,
-    second: Assignment,
+    second: Box<Assignment>,
     second_height: u8,
-) -> Result<(Expression, u8), Stop>
-    requires { HasRoom room (height_expression (view_expression first)) first_height
-        (height_assignment (view_assignment second)) second_height }
-    ensures { Builds (λ x. view_expression x.0)
-        (λ x. IsNodeHeight room (height_expression (view_expression x.0)) x.1) result
-        (t.comma (view_expression first) comma (view_assignment second)) }
+) -> Result<(Box<Expression>, u8), ReadError>
+    requires { HasRoom room (height_expression (view_expression first.value)) first_height
+        (height_assignment (view_assignment second.value)) second_height }
+    ensures { Builds (λ x. view_expression x.0.value)
+        (λ x. IsNodeHeight room (height_expression (view_expression x.0.value)) x.1) result
+        (t.comma (view_expression first.value) comma (view_assignment second.value)) }
 {
-    let first = Box::new(source.alloc, first)?;
-    let second = Box::new(source.alloc, second)?;
-    let height = higher(first_height, second_height) + 1;
-    Ok((Expression::Comma(first, comma, second), height))
+    let both = boxed(source, Expression::Comma(first, comma, second))?;
+    Ok((both, higher(first_height, second_height) + 1))
 }
 
 /// What the commas that follow make of an expression: there are at most so many.
@@ -825,14 +845,14 @@ fn commas(
     left: u8,
     room: u8,
     count: u8,
-    first: Expression,
+    first: Box<Expression>,
     first_height: u8,
     tokens: &[Token],
-) -> Result<(Expression, u8, &[Token]), Stop>
-    requires { IsBehind room (height_expression (view_expression first)) first_height }
-    ensures { Reads (λ x. (view_expression x.0, leaves_of source.count x.2.now))
-        (λ x. IsNodeHeight room (height_expression (view_expression x.0)) x.1) result
-        (commas_by (within 64 left) room count (view_expression first) (leaves_of source.count tokens.now)) }
+) -> Result<(Box<Expression>, u8, &[Token]), ReadError>
+    requires { IsBehind room (height_expression (view_expression first.value)) first_height }
+    ensures { Reads (λ x. (view_expression x.0.value, leaves_of source.count x.2.now))
+        (λ x. IsNodeHeight room (height_expression (view_expression x.0.value)) x.1) result
+        (commas_by (within 64 left) room count (view_expression first.value) (leaves_of source.count tokens.now)) }
 {
     if count == 0 {
         return Err(too_long(source, tokens));
@@ -862,13 +882,13 @@ pub fn expression(
     left: u8,
     room: u8,
     tokens: &[Token],
-) -> Result<(Expression, u8, &[Token]), Stop>
+) -> Result<(Box<Expression>, u8, &[Token]), ReadError>
     requires { room ≤ 64 }
-    ensures { Reads (λ x. (view_expression x.0, leaves_of source.count x.2.now))
-        (λ x. IsNodeHeight room (height_expression (view_expression x.0)) x.1) result
+    ensures { Reads (λ x. (view_expression x.0.value, leaves_of source.count x.2.now))
+        (λ x. IsNodeHeight room (height_expression (view_expression x.0.value)) x.1) result
         (expression_by (within 64 left) room (leaves_of source.count tokens.now)) }
 {
     let (first, height, rest) = assignment(source, left, room, tokens)?;
-    let first = Expression::Single(first);
+    let first = boxed(source, Expression::Single(Box::into_inner(first)))?;
     commas(source, left, room, CHAIN, first, height, rest)
 }

@@ -1,6 +1,7 @@
 //! The tree of a list of tokens, read by recursive descent with no step back.
 #![tactic(auto)]
 
+mod boxes;
 mod declarations;
 mod depth;
 mod expressions;

@@ -9,7 +9,7 @@ ghost use Rattle.ec_grammar.specs.Views.{view_tree};
 ghost use Rattle.ec_reading.specs.Refusals.{EndsWithEnd};
 ghost use Rattle.ec_parse.specs.Parse.{IsTold, IsRead, IsOnly, IsRefused, IsBadAt};
 
-use crate::stop::{ParseStop, Stop};
+use crate::stop::{ParseStop, ReadError};
 use crate::tokens::Source;
 use crate::units::read;
 use ec_grammar::Token;
@@ -18,13 +18,15 @@ use ec_space::Seq;
 use std::alloc::Global;
 
 /// The stop where so many tokens, of a list of `count`, are left.
-fn told(count: u32, stop: Stop) -> ParseStop
+fn told(count: u32, stop: ReadError) -> ParseStop
     ensures { IsTold count stop result }
 {
     match stop {
-        Stop::NoMemory => ParseStop::NoMemory,
-        Stop::Syntax(left) => ParseStop::Syntax((count as usize).saturating_sub(left) as u32),
-        Stop::TooDeep(left) => ParseStop::TooDeep((count as usize).saturating_sub(left) as u32),
+        ReadError::NoMemory => ParseStop::NoMemory,
+        ReadError::Syntax(left) => ParseStop::Syntax((count as usize).saturating_sub(left) as u32),
+        ReadError::TooDeep(left) => ParseStop::TooDeep(
+            (count as usize).saturating_sub(left) as u32,
+        ),
     }
 }
 

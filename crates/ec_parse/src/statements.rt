@@ -18,10 +18,11 @@ ghost use Rattle.ec_parse.specs.Reads.{IsNodeHeight, HasRoomAbove, view_keyword}
 ghost use Rattle.ec_parse.specs.Statements.{HasLast, compound_after, else_after, while_after, do_after, for_after};
 ghost use Rattle.ec_parse.specs.Statements.{break_by, continue_by};
 
+use crate::boxes::boxed;
 use crate::declarations::declaration;
 use crate::depth::{LIMIT, begun_statement, ended, higher, opened, room_behind};
 use crate::expressions::expression;
-use crate::stop::Stop;
+use crate::stop::ReadError;
 use crate::tokens::{
     Keyword, Source, begins_specs, expect, expect_word, take, take_keyword, take_pragma, take_word,
 };
@@ -34,21 +35,29 @@ use ec_grammar::{PunctKind, Token, WordKind};
 
 /// An expression in parentheses.
 #[tactic(auto, unfolding(ec_reading::specs::Reading::condition_by))]
-fn condition(source: Source, left: u8, tokens: &[Token]) -> Result<(Condition, u8, &[Token]), Stop>
-    ensures read { Gives (λ x. (view_condition x.0, leaves_of source.count x.2.now)) result
+fn condition(
+    source: Source,
+    left: u8,
+    tokens: &[Token],
+) -> Result<(Box<Condition>, u8, &[Token]), ReadError>
+    ensures read { Gives (λ x. (view_condition x.0.value, leaves_of source.count x.2.now)) result
         (condition_by (within 64 left) (leaves_of source.count tokens.now)) }
-    ensures height { IfOk result (λ x. x.1 ≡ height_condition (view_condition x.0)) }
+    ensures height { IfOk result (λ x. x.1 ≡ height_condition (view_condition x.0.value)) }
     ensures within { IfOk result (λ x. x.1 ≤ 64) }
 {
     let (opening, rest) = expect(source, tokens, PunctKind::LeftParenthesis)?;
     let left = opened(source, left, rest)?;
     let (value, height, rest) = expression(source, left, LIMIT, rest)?;
     let (closing, rest) = expect(source, rest, PunctKind::RightParenthesis)?;
-    let tree = Condition {
-        opening,
-        value,
-        closing,
-    };
+    let value = Box::into_inner(value);
+    let tree = boxed(
+        source,
+        Condition {
+            opening,
+            value,
+            closing,
+        },
+    )?;
     Ok((tree, height, rest))
 }
 
@@ -59,10 +68,12 @@ fn optional(
     left: u8,
     end: PunctKind,
     tokens: &[Token],
-) -> Result<(Option<Expression>, Spot, u8, &[Token]), Stop>
-    ensures read { Gives (λ x. ((view_option view_expression x.0, x.1), leaves_of source.count x.3.now)) result
+) -> Result<(Option<Box<Expression>>, Spot, u8, &[Token]), ReadError>
+    ensures read { Gives
+        (λ x. ((view_option (λ e. view_expression e.value) x.0, x.1), leaves_of source.count x.3.now)) result
         (optional_by (expression_by (within 64 left) 64) end (leaves_of source.count tokens.now)) }
-    ensures height { IfOk result (λ x. x.2 ≡ height_option height_expression (view_option view_expression x.0)) }
+    ensures height { IfOk result
+        (λ x. x.2 ≡ height_option height_expression (view_option (λ e. view_expression e.value) x.0)) }
     ensures within { IfOk result (λ x. x.2 ≤ 64) }
 {
     if let Some((end, rest)) = take(source, tokens, end) {
@@ -73,28 +84,48 @@ fn optional(
     Ok((Some(value), end, height, rest))
 }
 
+/// The expression out of its box.
+fn unboxed(value: Option<Box<Expression>>) -> Option<Expression>
+    ensures { view_option view_expression result ≡ view_option (λ e. view_expression e.value) value }
+{
+    match value {
+        Some(value) => Some(Box::into_inner(value)),
+        None => None,
+    }
+}
+
 /// The first part of a `for` (6.8.5).
 #[tactic(auto, unfolding(ec_reading::specs::Reading::first_by))]
-fn first(source: Source, left: u8, tokens: &[Token]) -> Result<(First, u8, &[Token]), Stop>
-    ensures read { Gives (λ x. (view_first x.0, leaves_of source.count x.2.now)) result
+fn first(
+    source: Source,
+    left: u8,
+    tokens: &[Token],
+) -> Result<(Box<First>, u8, &[Token]), ReadError>
+    ensures read { Gives (λ x. (view_first x.0.value, leaves_of source.count x.2.now)) result
         (first_by (inner_at left) (leaves_of source.count tokens.now)) }
-    ensures height { IfOk result (λ x. x.1 ≡ height_first (view_first x.0)) }
+    ensures height { IfOk result (λ x. x.1 ≡ height_first (view_first x.0.value)) }
     ensures within { IfOk result (λ x. x.1 ≤ 64) }
 {
     if begins_specs(source, tokens) {
         let (declaration, height, rest) = declaration(source, left, tokens)?;
-        return Ok((First::Declared(declaration), height, rest));
+        let tree = boxed(source, First::Declared(declaration))?;
+        return Ok((tree, height, rest));
     }
     let (value, end, height, rest) = optional(source, left, PunctKind::Semicolon, tokens)?;
-    Ok((First::Evaluated(value, end), height, rest))
+    let tree = boxed(source, First::Evaluated(unboxed(value), end))?;
+    Ok((tree, height, rest))
 }
 
 /// The parts of a `for` in its parentheses (6.8.5).
 #[tactic(auto, unfolding(ec_reading::specs::Reading::heading_by))]
-fn heading(source: Source, left: u8, tokens: &[Token]) -> Result<(Heading, u8, &[Token]), Stop>
-    ensures read { Gives (λ x. (view_heading x.0, leaves_of source.count x.2.now)) result
+fn heading(
+    source: Source,
+    left: u8,
+    tokens: &[Token],
+) -> Result<(Box<Heading>, u8, &[Token]), ReadError>
+    ensures read { Gives (λ x. (view_heading x.0.value, leaves_of source.count x.2.now)) result
         (heading_by (within 64 left) (leaves_of source.count tokens.now)) }
-    ensures height { IfOk result (λ x. x.1 ≡ height_heading (view_heading x.0)) }
+    ensures height { IfOk result (λ x. x.1 ≡ height_heading (view_heading x.0.value)) }
     ensures within { IfOk result (λ x. x.1 ≤ 64) }
 {
     let (opening, rest) = expect(source, tokens, PunctKind::LeftParenthesis)?;
@@ -115,16 +146,17 @@ fn heading(source: Source, left: u8, tokens: &[Token]) -> Result<(Heading, u8, &
     let height = higher(first_height, higher(condition_height, last_height));
     let tree = Heading {
         opening,
-        first,
-        condition,
+        first: Box::into_inner(first),
+        condition: unboxed(condition),
         semicolon,
-        last,
+        last: unboxed(last),
         closing,
     };
+    let tree = boxed(source, tree)?;
     Ok((tree, height, rest))
 }
 
-fn pragma(source: Source, tokens: &[Token]) -> Result<Option<(Pragma, &[Token])>, Stop>
+fn pragma(source: Source, tokens: &[Token]) -> Result<Option<(Pragma, &[Token])>, ReadError>
     ensures { GivesAt (λ x. (x.0, leaves_of source.count x.1.now)) result
         (pragma_at (leaves_of source.count tokens.now)) }
 {
@@ -132,7 +164,7 @@ fn pragma(source: Source, tokens: &[Token]) -> Result<Option<(Pragma, &[Token])>
 }
 
 #[tactic(auto, using(crate::proofs::Many::loops))]
-fn pragmas(source: Source, tokens: &[Token]) -> Result<(Vec<Pragma>, &[Token]), Stop>
+fn pragmas(source: Source, tokens: &[Token]) -> Result<(Vec<Pragma>, &[Token]), ReadError>
     ensures { Gives (λ x. (x.0.items, leaves_of source.count x.1.now)) result
         (many pragma_at (leaves_of source.count tokens.now)) }
 {
@@ -152,7 +184,11 @@ fn pragmas(source: Source, tokens: &[Token]) -> Result<(Vec<Pragma>, &[Token]), 
 
 #[cycle(statements)]
 #[tactic(auto, unfolding(ec_reading::specs::Reading::item_at))]
-fn item(source: Source, left: u8, tokens: &[Token]) -> Result<Option<(Item, u8, &[Token])>, Stop>
+fn item(
+    source: Source,
+    left: u8,
+    tokens: &[Token],
+) -> Result<Option<(Item, u8, &[Token])>, ReadError>
     ensures { ReadsAt (λ x. (view_item x.0, leaves_of source.count x.2.now))
         (λ x. IsHeight 64 (height_item (view_item x.0)) x.1) result
         (item_at (within 64 left) (leaves_of source.count tokens.now)) }
@@ -165,12 +201,12 @@ fn item(source: Source, left: u8, tokens: &[Token]) -> Result<Option<(Item, u8, 
         return Ok(None);
     }
     let (statement, height, rest) = substatement(source, left, LIMIT, tokens)?;
-    Ok(Some((Item::Statement(statement), height, rest)))
+    Ok(Some((Item::Statement(Box::into_inner(statement)), height, rest)))
 }
 
 /// Declarations and statements, and their height.
 #[cycle(statements)]
-fn items(source: Source, left: u8, tokens: &[Token]) -> Result<(Vec<Item>, u8, &[Token]), Stop>
+fn items(source: Source, left: u8, tokens: &[Token]) -> Result<(Vec<Item>, u8, &[Token]), ReadError>
     ensures { Reads (λ x. (map view_item x.0.items, leaves_of source.count x.2.now))
         (λ x. IsHeight 64 (height_items (items_of (map view_item x.0.items))) x.1) result
         (many (item_at (within 64 left)) (leaves_of source.count tokens.now)) }
@@ -199,7 +235,7 @@ fn compound_end(
     items: Vec<Item>,
     below: u8,
     tokens: &[Token],
-) -> Result<(Compound, u8, &[Token]), Stop>
+) -> Result<(Compound, u8, &[Token]), ReadError>
     requires { IsHeight 64 (height_items (items_of (map view_item items.items))) below }
     ensures { Reads (λ x. (view_compound x.0, leaves_of source.count x.2.now))
         (λ x. IsNodeHeight room (height_compound (view_compound x.0)) x.1) result
@@ -225,7 +261,7 @@ pub fn compound(
     left: u8,
     room: u8,
     tokens: &[Token],
-) -> Result<(Compound, u8, &[Token]), Stop>
+) -> Result<(Compound, u8, &[Token]), ReadError>
     requires { room ≤ 64 }
     ensures { Reads (λ x. (view_compound x.0, leaves_of source.count x.2.now))
         (λ x. IsNodeHeight room (height_compound (view_compound x.0)) x.1) result
@@ -246,10 +282,10 @@ fn substatement(
     left: u8,
     room: u8,
     tokens: &[Token],
-) -> Result<(Statement, u8, &[Token]), Stop>
+) -> Result<(Box<Statement>, u8, &[Token]), ReadError>
     requires { room ≤ 64 }
-    ensures { Reads (λ x. (view_statement x.0, leaves_of source.count x.2.now))
-        (λ x. IsNodeHeight room (height_statement (view_statement x.0)) x.1) result
+    ensures { Reads (λ x. (view_statement x.0.value, leaves_of source.count x.2.now))
+        (λ x. IsNodeHeight room (height_statement (view_statement x.0.value)) x.1) result
         (substatement (within 64 left) room (leaves_of source.count tokens.now)) }
 {
     let left = begun_statement(source, left, tokens)?;
@@ -268,19 +304,20 @@ fn if_alone(
     source: Source,
     room: u8,
     word: Spot,
-    test: Condition,
-    first: Statement,
+    test: Box<Condition>,
+    first: Box<Statement>,
     below: u8,
     tokens: &[Token],
-) -> Result<(Statement, u8, &[Token]), Stop>
-    requires { HasRoomAbove room (max (height_condition (view_condition test))
-        (height_statement (view_statement first))) below }
-    ensures { Reads (λ x. (view_statement x.0, leaves_of source.count x.2.now))
-        (λ x. IsNodeHeight room (height_statement (view_statement x.0)) x.1) result
-        (made (t.if_then word (view_condition test) (view_statement first)) (leaves_of source.count tokens.now)) }
+) -> Result<(Box<Statement>, u8, &[Token]), ReadError>
+    requires { HasRoomAbove room (max (height_condition (view_condition test.value))
+        (height_statement (view_statement first.value))) below }
+    ensures { Reads (λ x. (view_statement x.0.value, leaves_of source.count x.2.now))
+        (λ x. IsNodeHeight room (height_statement (view_statement x.0.value)) x.1) result
+        (made (t.if_then word (view_condition test.value) (view_statement first.value))
+        (leaves_of source.count tokens.now)) }
 {
-    let first = Box::new(source.alloc, first)?;
-    Ok((Statement::If(word, test, first), below + 1, tokens))
+    let tree = boxed(source, Statement::If(word, Box::into_inner(test), first))?;
+    Ok((tree, below + 1, tokens))
 }
 
 /// An `if` with an `else` whose statement was read, with that much room, from these tokens.
@@ -289,28 +326,27 @@ fn if_else<'a>(
     left: u8,
     room: u8,
     word: Spot,
-    test: Condition,
-    first: Statement,
+    test: Box<Condition>,
+    first: Box<Statement>,
     below: u8,
     other: Spot,
     last: u8,
     tokens: &[Token],
-    second: Result<(Statement, u8, &'a [Token]), Stop>,
-) -> Result<(Statement, u8, &'a [Token]), Stop>
-    requires room { HasLast room (max (height_condition (view_condition test))
-        (height_statement (view_statement first))) below last }
-    requires second { Reads (λ x. (view_statement x.0, leaves_of source.count x.2.now))
-        (λ x. IsNodeHeight last (height_statement (view_statement x.0)) x.1) second
+    second: Result<(Box<Statement>, u8, &'a [Token]), ReadError>,
+) -> Result<(Box<Statement>, u8, &'a [Token]), ReadError>
+    requires room { HasLast room (max (height_condition (view_condition test.value))
+        (height_statement (view_statement first.value))) below last }
+    requires second { Reads (λ x. (view_statement x.0.value, leaves_of source.count x.2.now))
+        (λ x. IsNodeHeight last (height_statement (view_statement x.0.value)) x.1) second
         (substatement (within 64 left) last (leaves_of source.count tokens.now)) }
-    ensures { Reads (λ x. (view_statement x.0, leaves_of source.count x.2.now))
-        (λ x. IsNodeHeight room (height_statement (view_statement x.0)) x.1) result
-        (else_after (within 64 left) room word (view_condition test) (view_statement first) other
+    ensures { Reads (λ x. (view_statement x.0.value, leaves_of source.count x.2.now))
+        (λ x. IsNodeHeight room (height_statement (view_statement x.0.value)) x.1) result
+        (else_after (within 64 left) room word (view_condition test.value) (view_statement first.value) other
         (leaves_of source.count tokens.now)) }
 {
     let (second, height, rest) = second?;
-    let first = Box::new(source.alloc, first)?;
-    let second = Box::new(source.alloc, second)?;
-    let tree = Statement::IfElse(word, test, first, other, second);
+    let test = Box::into_inner(test);
+    let tree = boxed(source, Statement::IfElse(word, test, first, other, second))?;
     Ok((tree, higher(below, height) + 1, rest))
 }
 
@@ -322,16 +358,16 @@ fn otherwise(
     left: u8,
     room: u8,
     word: Spot,
-    test: Condition,
-    first: Statement,
+    test: Box<Condition>,
+    first: Box<Statement>,
     below: u8,
     tokens: &[Token],
-) -> Result<(Statement, u8, &[Token]), Stop>
-    requires { HasRoomAbove room (max (height_condition (view_condition test))
-        (height_statement (view_statement first))) below }
-    ensures { Reads (λ x. (view_statement x.0, leaves_of source.count x.2.now))
-        (λ x. IsNodeHeight room (height_statement (view_statement x.0)) x.1) result
-        (else_by (within 64 left) room word (view_condition test) (view_statement first)
+) -> Result<(Box<Statement>, u8, &[Token]), ReadError>
+    requires { HasRoomAbove room (max (height_condition (view_condition test.value))
+        (height_statement (view_statement first.value))) below }
+    ensures { Reads (λ x. (view_statement x.0.value, leaves_of source.count x.2.now))
+        (λ x. IsNodeHeight room (height_statement (view_statement x.0.value)) x.1) result
+        (else_by (within 64 left) room word (view_condition test.value) (view_statement first.value)
         (leaves_of source.count tokens.now)) }
 {
     let Some((other, rest)) = take_else(source, tokens) else {
@@ -353,10 +389,10 @@ fn selection(
     room: u8,
     word: Spot,
     tokens: &[Token],
-) -> Result<(Statement, u8, &[Token]), Stop>
+) -> Result<(Box<Statement>, u8, &[Token]), ReadError>
     requires { room ≤ 64 }
-    ensures { Reads (λ x. (view_statement x.0, leaves_of source.count x.2.now))
-        (λ x. IsNodeHeight room (height_statement (view_statement x.0)) x.1) result
+    ensures { Reads (λ x. (view_statement x.0.value, leaves_of source.count x.2.now))
+        (λ x. IsNodeHeight room (height_statement (view_statement x.0.value)) x.1) result
         (if_by (within 64 left) room word (leaves_of source.count tokens.now)) }
 {
     let (test, test_height, rest) = condition(source, left, tokens)?;
@@ -372,23 +408,22 @@ fn while_end<'a>(
     left: u8,
     room: u8,
     word: Spot,
-    test: Condition,
+    test: Box<Condition>,
     below: u8,
     last: u8,
     tokens: &[Token],
-    body: Result<(Statement, u8, &'a [Token]), Stop>,
-) -> Result<(Statement, u8, &'a [Token]), Stop>
-    requires room { HasLast room (height_condition (view_condition test)) below last }
-    requires body { Reads (λ x. (view_statement x.0, leaves_of source.count x.2.now))
-        (λ x. IsNodeHeight last (height_statement (view_statement x.0)) x.1) body
+    body: Result<(Box<Statement>, u8, &'a [Token]), ReadError>,
+) -> Result<(Box<Statement>, u8, &'a [Token]), ReadError>
+    requires room { HasLast room (height_condition (view_condition test.value)) below last }
+    requires body { Reads (λ x. (view_statement x.0.value, leaves_of source.count x.2.now))
+        (λ x. IsNodeHeight last (height_statement (view_statement x.0.value)) x.1) body
         (substatement (within 64 left) last (leaves_of source.count tokens.now)) }
-    ensures { Reads (λ x. (view_statement x.0, leaves_of source.count x.2.now))
-        (λ x. IsNodeHeight room (height_statement (view_statement x.0)) x.1) result
-        (while_after (within 64 left) room word (view_condition test) (leaves_of source.count tokens.now)) }
+    ensures { Reads (λ x. (view_statement x.0.value, leaves_of source.count x.2.now))
+        (λ x. IsNodeHeight room (height_statement (view_statement x.0.value)) x.1) result
+        (while_after (within 64 left) room word (view_condition test.value) (leaves_of source.count tokens.now)) }
 {
     let (body, height, rest) = body?;
-    let body = Box::new(source.alloc, body)?;
-    let tree = Statement::While(word, test, body);
+    let tree = boxed(source, Statement::While(word, Box::into_inner(test), body))?;
     Ok((tree, higher(below, height) + 1, rest))
 }
 
@@ -401,10 +436,10 @@ fn loop_while(
     room: u8,
     word: Spot,
     tokens: &[Token],
-) -> Result<(Statement, u8, &[Token]), Stop>
+) -> Result<(Box<Statement>, u8, &[Token]), ReadError>
     requires { room ≤ 64 }
-    ensures { Reads (λ x. (view_statement x.0, leaves_of source.count x.2.now))
-        (λ x. IsNodeHeight room (height_statement (view_statement x.0)) x.1) result
+    ensures { Reads (λ x. (view_statement x.0.value, leaves_of source.count x.2.now))
+        (λ x. IsNodeHeight room (height_statement (view_statement x.0.value)) x.1) result
         (while_by (within 64 left) room word (leaves_of source.count tokens.now)) }
 {
     let (test, below, rest) = condition(source, left, tokens)?;
@@ -419,23 +454,22 @@ fn for_end<'a>(
     left: u8,
     room: u8,
     word: Spot,
-    heading: Heading,
+    heading: Box<Heading>,
     below: u8,
     last: u8,
     tokens: &[Token],
-    body: Result<(Statement, u8, &'a [Token]), Stop>,
-) -> Result<(Statement, u8, &'a [Token]), Stop>
-    requires room { HasLast room (height_heading (view_heading heading)) below last }
-    requires body { Reads (λ x. (view_statement x.0, leaves_of source.count x.2.now))
-        (λ x. IsNodeHeight last (height_statement (view_statement x.0)) x.1) body
+    body: Result<(Box<Statement>, u8, &'a [Token]), ReadError>,
+) -> Result<(Box<Statement>, u8, &'a [Token]), ReadError>
+    requires room { HasLast room (height_heading (view_heading heading.value)) below last }
+    requires body { Reads (λ x. (view_statement x.0.value, leaves_of source.count x.2.now))
+        (λ x. IsNodeHeight last (height_statement (view_statement x.0.value)) x.1) body
         (substatement (within 64 left) last (leaves_of source.count tokens.now)) }
-    ensures { Reads (λ x. (view_statement x.0, leaves_of source.count x.2.now))
-        (λ x. IsNodeHeight room (height_statement (view_statement x.0)) x.1) result
-        (for_after (within 64 left) room word (view_heading heading) (leaves_of source.count tokens.now)) }
+    ensures { Reads (λ x. (view_statement x.0.value, leaves_of source.count x.2.now))
+        (λ x. IsNodeHeight room (height_statement (view_statement x.0.value)) x.1) result
+        (for_after (within 64 left) room word (view_heading heading.value) (leaves_of source.count tokens.now)) }
 {
     let (body, height, rest) = body?;
-    let body = Box::new(source.alloc, body)?;
-    let tree = Statement::For(word, heading, body);
+    let tree = boxed(source, Statement::For(word, Box::into_inner(heading), body))?;
     Ok((tree, higher(below, height) + 1, rest))
 }
 
@@ -448,10 +482,10 @@ fn loop_for(
     room: u8,
     word: Spot,
     tokens: &[Token],
-) -> Result<(Statement, u8, &[Token]), Stop>
+) -> Result<(Box<Statement>, u8, &[Token]), ReadError>
     requires { room ≤ 64 }
-    ensures { Reads (λ x. (view_statement x.0, leaves_of source.count x.2.now))
-        (λ x. IsNodeHeight room (height_statement (view_statement x.0)) x.1) result
+    ensures { Reads (λ x. (view_statement x.0.value, leaves_of source.count x.2.now))
+        (λ x. IsNodeHeight room (height_statement (view_statement x.0.value)) x.1) result
         (for_by (within 64 left) room word (leaves_of source.count tokens.now)) }
 {
     let (heading, below, rest) = heading(source, left, tokens)?;
@@ -466,21 +500,21 @@ fn do_end(
     left: u8,
     room: u8,
     word: Spot,
-    body: Statement,
+    body: Box<Statement>,
     body_height: u8,
     tokens: &[Token],
-) -> Result<(Statement, u8, &[Token]), Stop>
-    requires { IsHeight 64 (height_statement (view_statement body)) body_height }
-    ensures { Reads (λ x. (view_statement x.0, leaves_of source.count x.2.now))
-        (λ x. IsNodeHeight room (height_statement (view_statement x.0)) x.1) result
-        (do_after (within 64 left) room word (view_statement body) (leaves_of source.count tokens.now)) }
+) -> Result<(Box<Statement>, u8, &[Token]), ReadError>
+    requires { IsHeight 64 (height_statement (view_statement body.value)) body_height }
+    ensures { Reads (λ x. (view_statement x.0.value, leaves_of source.count x.2.now))
+        (λ x. IsNodeHeight room (height_statement (view_statement x.0.value)) x.1) result
+        (do_after (within 64 left) room word (view_statement body.value) (leaves_of source.count tokens.now)) }
 {
     let (again, rest) = expect_word(source, tokens, WordKind::While)?;
     let (test, test_height, rest) = condition(source, left, rest)?;
     let (semicolon, rest) = expect(source, rest, PunctKind::Semicolon)?;
     let height = ended(source, room, higher(body_height, test_height), rest)?;
-    let body = Box::new(source.alloc, body)?;
-    let tree = Statement::Do(word, body, again, test, semicolon);
+    let test = Box::into_inner(test);
+    let tree = boxed(source, Statement::Do(word, body, again, test, semicolon))?;
     Ok((tree, height, rest))
 }
 
@@ -493,10 +527,10 @@ fn loop_do(
     room: u8,
     word: Spot,
     tokens: &[Token],
-) -> Result<(Statement, u8, &[Token]), Stop>
+) -> Result<(Box<Statement>, u8, &[Token]), ReadError>
     requires { room ≤ 64 }
-    ensures { Reads (λ x. (view_statement x.0, leaves_of source.count x.2.now))
-        (λ x. IsNodeHeight room (height_statement (view_statement x.0)) x.1) result
+    ensures { Reads (λ x. (view_statement x.0.value, leaves_of source.count x.2.now))
+        (λ x. IsNodeHeight room (height_statement (view_statement x.0.value)) x.1) result
         (do_by (within 64 left) room word (leaves_of source.count tokens.now)) }
 {
     let (body, height, rest) = substatement(source, left, LIMIT, tokens)?;
@@ -509,14 +543,15 @@ fn break_loop(
     room: u8,
     word: Spot,
     tokens: &[Token],
-) -> Result<(Statement, u8, &[Token]), Stop>
-    ensures { Reads (λ x. (view_statement x.0, leaves_of source.count x.2.now))
-        (λ x. IsNodeHeight room (height_statement (view_statement x.0)) x.1) result
+) -> Result<(Box<Statement>, u8, &[Token]), ReadError>
+    ensures { Reads (λ x. (view_statement x.0.value, leaves_of source.count x.2.now))
+        (λ x. IsNodeHeight room (height_statement (view_statement x.0.value)) x.1) result
         (break_by room word (leaves_of source.count tokens.now)) }
 {
     let (semicolon, rest) = expect(source, tokens, PunctKind::Semicolon)?;
     let height = ended(source, room, 0, rest)?;
-    Ok((Statement::Break(word, semicolon), height, rest))
+    let tree = boxed(source, Statement::Break(word, semicolon))?;
+    Ok((tree, height, rest))
 }
 
 /// A `continue` (6.8.6.2).
@@ -525,14 +560,15 @@ fn continue_loop(
     room: u8,
     word: Spot,
     tokens: &[Token],
-) -> Result<(Statement, u8, &[Token]), Stop>
-    ensures { Reads (λ x. (view_statement x.0, leaves_of source.count x.2.now))
-        (λ x. IsNodeHeight room (height_statement (view_statement x.0)) x.1) result
+) -> Result<(Box<Statement>, u8, &[Token]), ReadError>
+    ensures { Reads (λ x. (view_statement x.0.value, leaves_of source.count x.2.now))
+        (λ x. IsNodeHeight room (height_statement (view_statement x.0.value)) x.1) result
         (continue_by room word (leaves_of source.count tokens.now)) }
 {
     let (semicolon, rest) = expect(source, tokens, PunctKind::Semicolon)?;
     let height = ended(source, room, 0, rest)?;
-    Ok((Statement::Continue(word, semicolon), height, rest))
+    let tree = boxed(source, Statement::Continue(word, semicolon))?;
+    Ok((tree, height, rest))
 }
 
 /// A `return` (6.8.6.4).
@@ -543,15 +579,16 @@ fn returned(
     room: u8,
     word: Spot,
     tokens: &[Token],
-) -> Result<(Statement, u8, &[Token]), Stop>
+) -> Result<(Box<Statement>, u8, &[Token]), ReadError>
     requires { room ≤ 64 }
-    ensures { Reads (λ x. (view_statement x.0, leaves_of source.count x.2.now))
-        (λ x. IsNodeHeight room (height_statement (view_statement x.0)) x.1) result
+    ensures { Reads (λ x. (view_statement x.0.value, leaves_of source.count x.2.now))
+        (λ x. IsNodeHeight room (height_statement (view_statement x.0.value)) x.1) result
         (return_by (within 64 left) room word (leaves_of source.count tokens.now)) }
 {
     let (value, semicolon, below, rest) = optional(source, left, PunctKind::Semicolon, tokens)?;
     let height = ended(source, room, below, rest)?;
-    Ok((Statement::Return(word, value, semicolon), height, rest))
+    let tree = boxed(source, Statement::Return(word, unboxed(value), semicolon))?;
+    Ok((tree, height, rest))
 }
 
 /// What follows the word that begins a statement.
@@ -563,10 +600,10 @@ fn worded(
     word: Spot,
     keyword: Keyword,
     tokens: &[Token],
-) -> Result<(Statement, u8, &[Token]), Stop>
+) -> Result<(Box<Statement>, u8, &[Token]), ReadError>
     requires { room ≤ 64 }
-    ensures { Reads (λ x. (view_statement x.0, leaves_of source.count x.2.now))
-        (λ x. IsNodeHeight room (height_statement (view_statement x.0)) x.1) result
+    ensures { Reads (λ x. (view_statement x.0.value, leaves_of source.count x.2.now))
+        (λ x. IsNodeHeight room (height_statement (view_statement x.0.value)) x.1) result
         (worded_by (within 64 left) room word (view_keyword keyword) (leaves_of source.count tokens.now)) }
 {
     match keyword {
@@ -587,15 +624,16 @@ fn simple(
     left: u8,
     room: u8,
     tokens: &[Token],
-) -> Result<(Statement, u8, &[Token]), Stop>
+) -> Result<(Box<Statement>, u8, &[Token]), ReadError>
     requires { room ≤ 64 }
-    ensures { Reads (λ x. (view_statement x.0, leaves_of source.count x.2.now))
-        (λ x. IsNodeHeight room (height_statement (view_statement x.0)) x.1) result
+    ensures { Reads (λ x. (view_statement x.0.value, leaves_of source.count x.2.now))
+        (λ x. IsNodeHeight room (height_statement (view_statement x.0.value)) x.1) result
         (simple_by (within 64 left) room (leaves_of source.count tokens.now)) }
 {
     let (value, semicolon, below, rest) = optional(source, left, PunctKind::Semicolon, tokens)?;
     let height = ended(source, room, below, rest)?;
-    Ok((Statement::Simple(value, semicolon), height, rest))
+    let tree = boxed(source, Statement::Simple(unboxed(value), semicolon))?;
+    Ok((tree, height, rest))
 }
 
 fn block(compound: Compound) -> Statement
@@ -612,10 +650,10 @@ fn statement(
     left: u8,
     room: u8,
     tokens: &[Token],
-) -> Result<(Statement, u8, &[Token]), Stop>
+) -> Result<(Box<Statement>, u8, &[Token]), ReadError>
     requires { room ≤ 64 }
-    ensures { Reads (λ x. (view_statement x.0, leaves_of source.count x.2.now))
-        (λ x. IsNodeHeight room (height_statement (view_statement x.0)) x.1) result
+    ensures { Reads (λ x. (view_statement x.0.value, leaves_of source.count x.2.now))
+        (λ x. IsNodeHeight room (height_statement (view_statement x.0.value)) x.1) result
         (statement_by (within 64 left) room (leaves_of source.count tokens.now)) }
 {
     if let Some((word, keyword, rest)) = take_keyword(source, tokens) {
@@ -623,7 +661,8 @@ fn statement(
     }
     if let Some(_) = take(source, tokens, PunctKind::LeftBrace) {
         let (compound, height, rest) = compound(source, left, room, tokens)?;
-        return Ok((block(compound), height, rest));
+        let tree = boxed(source, block(compound))?;
+        return Ok((tree, height, rest));
     }
     simple(source, left, room, tokens)
 }

@@ -1,7 +1,7 @@
 //! Why a list of tokens has no tree.
 
 ghost use Rattle.std.specs.Prelude.{◌≡◌};
-ghost use Rattle.ec_parse.specs.declared.stop.Stop.TheVariants.{NoMemory as OutOfMemory};
+ghost use Rattle.ec_parse.specs.declared.stop.ReadError.TheVariants.{NoMemory as OutOfMemory};
 
 use ec_space::NoMemory;
 use std::alloc::{AllocError, AllocFailed};
@@ -22,32 +22,32 @@ pub enum ParseStop {
 
 /// Why reading stops, with the number of tokens from that place on.
 #[derive(Clone, Copy)]
-pub enum Stop {
+pub enum ReadError {
     NoMemory,
     Syntax(usize),
     TooDeep(usize),
 }
 
-impl From<NoMemory> for Stop {
+impl From<NoMemory> for ReadError {
     ghost from_gives = { λ _ e. e ≡ OutOfMemory };
 
-    fn from(_e: NoMemory) -> Stop {
-        Stop::NoMemory
+    fn from(_e: NoMemory) -> ReadError {
+        ReadError::NoMemory
     }
 }
 
-impl From<AllocError> for Stop {
+impl From<AllocError> for ReadError {
     ghost from_gives = { λ _ e. e ≡ OutOfMemory };
 
-    fn from(_e: AllocError) -> Stop {
-        Stop::NoMemory
+    fn from(_e: AllocError) -> ReadError {
+        ReadError::NoMemory
     }
 }
 
-impl<T: Drop> From<AllocFailed<T>> for Stop {
+impl<T: Drop> From<AllocFailed<T>> for ReadError {
     ghost from_gives = { λ _ e. e ≡ OutOfMemory };
 
-    fn from(_e: AllocFailed<T>) -> Stop {
-        Stop::NoMemory
+    fn from(_e: AllocFailed<T>) -> ReadError {
+        ReadError::NoMemory
     }
 }

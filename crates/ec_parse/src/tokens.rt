@@ -14,7 +14,7 @@ ghost use Rattle.ec_reading.specs.Reading.{pragma_of, keyword_of_word, is_some};
 ghost use Rattle.ec_parse.specs.Reads.{leaves_of, Gives, GivesFirst, view_keyword, pragma_at_spot, IsThere};
 ghost use Rattle.ec_parse.specs.Reads.{IsUnexpected};
 
-use crate::stop::Stop;
+use crate::stop::ReadError;
 use ec_grammar::tree::{Constant, Identifier, Operation, Pragma, Spot};
 use ec_grammar::{PunctKind, Token, TokenKind, WordKind};
 use ec_space::{Name, NoMemory, Seq};
@@ -43,10 +43,10 @@ fn spot(source: Source, at: u32, rest: &[Token]) -> Spot
 
 /// The first of these tokens cannot be gone on with.
 #[tactic(auto, using(crate::proofs::Leaves::length_leaves))]
-pub fn unexpected(source: Source, tokens: &[Token]) -> Stop
+pub fn unexpected(source: Source, tokens: &[Token]) -> ReadError
     ensures { IsUnexpected result (leaves_of source.count tokens.now) }
 {
-    Stop::Syntax(tokens.len())
+    ReadError::Syntax(tokens.len())
 }
 
 // Punctuators.
@@ -77,7 +77,11 @@ pub fn take(source: Source, tokens: &[Token], wanted: PunctKind) -> Option<(Spot
 }
 
 /// This punctuator and the tokens after it; another token cannot stand here.
-pub fn expect(source: Source, tokens: &[Token], wanted: PunctKind) -> Result<(Spot, &[Token]), Stop>
+pub fn expect(
+    source: Source,
+    tokens: &[Token],
+    wanted: PunctKind,
+) -> Result<(Spot, &[Token]), ReadError>
     ensures { Gives (λ x. (x.0, leaves_of source.count x.1.now)) result
         (expected wanted (leaves_of source.count tokens.now)) }
 {
@@ -281,7 +285,7 @@ pub fn expect_word(
     source: Source,
     tokens: &[Token],
     wanted: WordKind,
-) -> Result<(Spot, &[Token]), Stop>
+) -> Result<(Spot, &[Token]), ReadError>
     ensures { Gives (λ x. (x.0, leaves_of source.count x.1.now)) result
         (expected_word wanted (leaves_of source.count tokens.now)) }
 {
@@ -470,7 +474,7 @@ pub fn take_name(
 }
 
 /// An identifier and the tokens after it; another token cannot stand here.
-pub fn expect_name(source: Source, tokens: &[Token]) -> Result<(Identifier, &[Token]), Stop>
+pub fn expect_name(source: Source, tokens: &[Token]) -> Result<(Identifier, &[Token]), ReadError>
     ensures { Gives (λ x. (view_identifier x.0, leaves_of source.count x.1.now)) result
         (identifier (leaves_of source.count tokens.now)) }
 {
@@ -571,7 +575,7 @@ pub fn take_pragma(source: Source, tokens: &[Token]) -> Option<(Pragma, &[Token]
 
 /// The end of the text; another token cannot stand here.
 #[tactic(auto, unfolding(ec_reading::specs::Reading::leaf_if))]
-pub fn expect_end(source: Source, tokens: &[Token]) -> Result<(Spot, &[Token]), Stop>
+pub fn expect_end(source: Source, tokens: &[Token]) -> Result<(Spot, &[Token]), ReadError>
     ensures { Gives (λ x. (x.0, leaves_of source.count x.1.now)) result
         (needed (leaf_if end_of (leaves_of source.count tokens.now)) (leaves_of source.count tokens.now)) }
 {

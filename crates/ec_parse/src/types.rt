@@ -5,14 +5,15 @@ ghost use Rattle.ec_grammar.specs.Views.{view_star, view_spec, view_specs, view_
 ghost use Rattle.ec_reading.specs.Reading.{many, qualifier_at, star_at, spec_at, specs_by, type_name_by};
 ghost use Rattle.ec_parse.specs.Reads.{leaves_of, Gives, GivesAt};
 
-use crate::stop::Stop;
+use crate::boxes::boxed;
+use crate::stop::ReadError;
 use crate::tokens::{
     Source, expect_name, take, take_qualifier, take_spec_word, take_word, unexpected,
 };
 use ec_grammar::tree::{Qualifier, Spec, Specs, Star, TypeName};
 use ec_grammar::{PunctKind, Token, WordKind};
 
-fn qualifier(source: Source, tokens: &[Token]) -> Result<Option<(Qualifier, &[Token])>, Stop>
+fn qualifier(source: Source, tokens: &[Token]) -> Result<Option<(Qualifier, &[Token])>, ReadError>
     ensures { GivesAt (λ x. (x.0, leaves_of source.count x.1.now)) result
         (qualifier_at (leaves_of source.count tokens.now)) }
 {
@@ -23,7 +24,7 @@ fn qualifier(source: Source, tokens: &[Token]) -> Result<Option<(Qualifier, &[To
 }
 
 #[tactic(auto, using(crate::proofs::Many::loops))]
-fn qualifiers(source: Source, tokens: &[Token]) -> Result<(Vec<Qualifier>, &[Token]), Stop>
+fn qualifiers(source: Source, tokens: &[Token]) -> Result<(Vec<Qualifier>, &[Token]), ReadError>
     ensures { Gives (λ x. (x.0.items, leaves_of source.count x.1.now)) result
         (many qualifier_at (leaves_of source.count tokens.now)) }
 {
@@ -40,7 +41,7 @@ fn qualifiers(source: Source, tokens: &[Token]) -> Result<(Vec<Qualifier>, &[Tok
 }
 
 #[tactic(auto, unfolding(ec_reading::specs::Reading::star_at))]
-fn star(source: Source, tokens: &[Token]) -> Result<Option<(Star, &[Token])>, Stop>
+fn star(source: Source, tokens: &[Token]) -> Result<Option<(Star, &[Token])>, ReadError>
     ensures { GivesAt (λ x. (view_star x.0, leaves_of source.count x.1.now)) result
         (star_at (leaves_of source.count tokens.now)) }
 {
@@ -53,7 +54,7 @@ fn star(source: Source, tokens: &[Token]) -> Result<Option<(Star, &[Token])>, St
 
 /// Stars and their qualifiers, as many as there are.
 #[tactic(auto, using(crate::proofs::Many::loops))]
-pub fn stars(source: Source, tokens: &[Token]) -> Result<(Vec<Star>, &[Token]), Stop>
+pub fn stars(source: Source, tokens: &[Token]) -> Result<(Vec<Star>, &[Token]), ReadError>
     ensures { Gives (λ x. (map view_star x.0.items, leaves_of source.count x.1.now)) result
         (many star_at (leaves_of source.count tokens.now)) }
 {
@@ -70,7 +71,7 @@ pub fn stars(source: Source, tokens: &[Token]) -> Result<(Vec<Star>, &[Token]), 
 }
 
 #[tactic(auto, unfolding(ec_reading::specs::Reading::spec_at))]
-fn spec(source: Source, tokens: &[Token]) -> Result<Option<(Spec, &[Token])>, Stop>
+fn spec(source: Source, tokens: &[Token]) -> Result<Option<(Spec, &[Token])>, ReadError>
     ensures { GivesAt (λ x. (view_spec x.0, leaves_of source.count x.1.now)) result
         (spec_at (leaves_of source.count tokens.now)) }
 {
@@ -85,7 +86,7 @@ fn spec(source: Source, tokens: &[Token]) -> Result<Option<(Spec, &[Token])>, St
 }
 
 #[tactic(auto, using(crate::proofs::Many::loops))]
-fn more_specs(source: Source, tokens: &[Token]) -> Result<(Vec<Spec>, &[Token]), Stop>
+fn more_specs(source: Source, tokens: &[Token]) -> Result<(Vec<Spec>, &[Token]), ReadError>
     ensures { Gives (λ x. (map view_spec x.0.items, leaves_of source.count x.1.now)) result
         (many spec_at (leaves_of source.count tokens.now)) }
 {
@@ -103,24 +104,27 @@ fn more_specs(source: Source, tokens: &[Token]) -> Result<(Vec<Spec>, &[Token]),
 
 /// The specifiers of a declaration, of which there is one at least (6.7).
 #[tactic(auto, unfolding(ec_reading::specs::Reading::specs_by))]
-pub fn specs(source: Source, tokens: &[Token]) -> Result<(Specs, &[Token]), Stop>
-    ensures { Gives (λ x. (view_specs x.0, leaves_of source.count x.1.now)) result
+pub fn specs(source: Source, tokens: &[Token]) -> Result<(Box<Specs>, &[Token]), ReadError>
+    ensures { Gives (λ x. (view_specs x.0.value, leaves_of source.count x.1.now)) result
         (specs_by (leaves_of source.count tokens.now)) }
 {
     let Some((first, rest)) = spec(source, tokens)? else {
         return Err(unexpected(source, tokens));
     };
     let (more, rest) = more_specs(source, rest)?;
-    Ok((Specs { first, more }, rest))
+    let all = boxed(source, Specs { first, more })?;
+    Ok((all, rest))
 }
 
 /// A type name (6.7.6).
 #[tactic(auto, unfolding(ec_reading::specs::Reading::type_name_by))]
-pub fn type_name(source: Source, tokens: &[Token]) -> Result<(TypeName, &[Token]), Stop>
-    ensures { Gives (λ x. (view_type_name x.0, leaves_of source.count x.1.now)) result
+pub fn type_name(source: Source, tokens: &[Token]) -> Result<(Box<TypeName>, &[Token]), ReadError>
+    ensures { Gives (λ x. (view_type_name x.0.value, leaves_of source.count x.1.now)) result
         (type_name_by (leaves_of source.count tokens.now)) }
 {
     let (specs, rest) = specs(source, tokens)?;
     let (stars, rest) = stars(source, rest)?;
-    Ok((TypeName { specs, stars }, rest))
+    let specs = Box::into_inner(specs);
+    let ty = boxed(source, TypeName { specs, stars })?;
+    Ok((ty, rest))
 }

@@ -9,10 +9,11 @@ ghost use Rattle.ec_reading.specs.Reading.{defined_by, external_at, unit_by, rea
 ghost use Rattle.ec_parse.specs.Reads.{leaves_of, Gives, GivesAt, GivesFirst};
 ghost use Rattle.ec_parse.specs.Units.{IsHead, view_head, function_by};
 
+use crate::boxes::boxed;
 use crate::declarations::{declarator, declared, member, more_members};
 use crate::depth::{LIMIT, begun_body};
 use crate::statements::compound;
-use crate::stop::Stop;
+use crate::stop::ReadError;
 use crate::tokens::{
     Source, begins_specs, expect, expect_end, expect_name, take, take_name, take_pragma, take_word,
     unexpected,
@@ -57,7 +58,7 @@ fn structure(
     tag: Identifier,
     opening: Spot,
     tokens: &[Token],
-) -> Result<(Structure, &[Token]), Stop>
+) -> Result<(Structure, &[Token]), ReadError>
     ensures { Gives (λ x. (view_structure x.0, leaves_of source.count x.1.now)) result
         (structure_by (within 64 left) word (view_identifier tag) opening (leaves_of source.count tokens.now)) }
 {
@@ -69,7 +70,7 @@ fn structure(
         word,
         tag,
         opening,
-        first,
+        first: Box::into_inner(first),
         more,
         closing,
         semicolon,
@@ -83,7 +84,7 @@ fn register(
     source: Source,
     word: Spot,
     tokens: &[Token],
-) -> Result<(RegisterObject, &[Token]), Stop>
+) -> Result<(RegisterObject, &[Token]), ReadError>
     ensures { Gives (λ x. (view_register_object x.0, leaves_of source.count x.1.now)) result
         (register_by word (leaves_of source.count tokens.now)) }
 {
@@ -94,7 +95,7 @@ fn register(
     let tree = RegisterObject {
         word,
         register,
-        specs,
+        specs: Box::into_inner(specs),
         name,
         semicolon,
     };
@@ -151,14 +152,15 @@ fn head_of(
 fn function(
     source: Source,
     left: u8,
-    head: Head,
+    head: Box<Head>,
     tokens: &[Token],
-) -> Result<(Function, &[Token]), Stop>
+) -> Result<(Function, &[Token]), ReadError>
     ensures { Gives (λ x. (function_item (view_function x.0), leaves_of source.count x.1.now)) result
-        (function_by (within 64 left) (view_head head) (leaves_of source.count tokens.now)) }
+        (function_by (within 64 left) (view_head head.value) (leaves_of source.count tokens.now)) }
 {
     let left = begun_body(source, left, tokens)?;
     let (body, _, rest) = compound(source, left, LIMIT, tokens)?;
+    let head = Box::into_inner(head);
     let tree = Function {
         result: head.result,
         name: head.name,
@@ -172,18 +174,22 @@ fn function(
 
 /// A function, where the brace of a body follows a declarator of one; else a declaration.
 #[tactic(auto, unfolding(ec_reading::specs::Reading::defined_by))]
-fn defined(source: Source, left: u8, tokens: &[Token]) -> Result<(External, &[Token]), Stop>
+fn defined(source: Source, left: u8, tokens: &[Token]) -> Result<(External, &[Token]), ReadError>
     ensures { Gives (λ x. (view_external x.0, leaves_of source.count x.1.now)) result
         (defined_by (within 64 left) (leaves_of source.count tokens.now)) }
 {
     let (specs, rest) = specs(source, tokens)?;
     let (declarator, height, rest) = declarator(source, left, rest)?;
+    let (specs, declarator) = (Box::into_inner(specs), Box::into_inner(declarator));
     match head_of(source, specs, declarator, rest) {
         Ok(head) => {
+            let head = boxed(source, head)?;
             let (function, rest) = function(source, left, head, rest)?;
             Ok((External::Function(function), rest))
         }
         Err((specs, declarator)) => {
+            let declarator = boxed(source, declarator)?;
+            let specs = boxed(source, specs)?;
             let (tree, _, rest) = declared(source, left, specs, declarator, height, rest)?;
             Ok((External::Declaration(tree), rest))
         }
@@ -197,7 +203,7 @@ fn external(
     source: Source,
     left: u8,
     tokens: &[Token],
-) -> Result<Option<(External, &[Token])>, Stop>
+) -> Result<Option<(External, &[Token])>, ReadError>
     ensures { GivesAt (λ x. (view_external x.0, leaves_of source.count x.1.now)) result
         (external_at (within 64 left) (leaves_of source.count tokens.now)) }
 {
@@ -220,7 +226,11 @@ fn external(
 }
 
 #[tactic(auto, using(crate::proofs::Many::loops))]
-fn externals(source: Source, left: u8, tokens: &[Token]) -> Result<(Vec<External>, &[Token]), Stop>
+fn externals(
+    source: Source,
+    left: u8,
+    tokens: &[Token],
+) -> Result<(Vec<External>, &[Token]), ReadError>
     ensures { Gives (λ x. (map view_external x.0.items, leaves_of source.count x.1.now)) result
         (many (external_at (within 64 left)) (leaves_of source.count tokens.now)) }
 {
@@ -237,7 +247,7 @@ fn externals(source: Source, left: u8, tokens: &[Token]) -> Result<(Vec<External
 }
 
 #[tactic(auto, unfolding(ec_reading::specs::Reading::unit_by))]
-fn unit(source: Source, left: u8, tokens: &[Token]) -> Result<(Tree, &[Token]), Stop>
+fn unit(source: Source, left: u8, tokens: &[Token]) -> Result<(Tree, &[Token]), ReadError>
     ensures { Gives (λ x. (view_tree x.0, leaves_of source.count x.1.now)) result
         (unit_by (within 64 left) (leaves_of source.count tokens.now)) }
 {
@@ -248,7 +258,7 @@ fn unit(source: Source, left: u8, tokens: &[Token]) -> Result<(Tree, &[Token]), 
 
 /// The tree of all the tokens.
 #[tactic(auto, unfolding(ec_reading::specs::Reading::read))]
-pub fn read(source: Source, tokens: &[Token]) -> Result<Tree, Stop>
+pub fn read(source: Source, tokens: &[Token]) -> Result<Tree, ReadError>
     ensures { Gives view_tree result (read 64 (leaves_of source.count tokens.now)) }
 {
     let (tree, rest) = unit(source, LIMIT, tokens)?;

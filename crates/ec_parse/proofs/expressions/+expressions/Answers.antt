@@ -12,7 +12,7 @@ use Rattle.ec_parse.proofs.expressions.+expressions.Goals as goal
 
 pub binary-returns : goal.binary-returns
 binary-returns t c =
-    subst (Reads (λ x. (view_binary x.0, leaves_of c.args.source.count x.2.now)) (λ x. IsNodeHeight c.args.room (height_binary (view_binary x.0)) x.1) c.joins.result)
+    subst (Reads (λ x. (view_binary x.0.value, leaves_of c.args.source.count x.2.now)) (λ x. IsNodeHeight c.args.room (height_binary (view_binary x.0.value)) x.1) c.joins.result)
     (sym (level_up (within 64 c.args.left) c.args.level c.args.room _ _ _ (omega arith) c.in_ok-first.ensures.0)) c.joins.ensures
 
 pub further-loop-init : goal.further-loop-init
