@@ -3,3 +3,4 @@ pub mod Changes
 pub mod Parts
 pub mod Operands
 pub mod Steps
+pub mod Passing

@@ -1,7 +1,7 @@
 -- Calls and blocks as plain trees, and the weights of items.
 use Rattle.std.proofs.Common.{◌≡◌, ◌<◌, ◌+◌, ◌-◌, ◌*◌, ℕ, zero, suc, Bool, List, [], ◌∷◌, length, get_or, take, drop, Some, None, refl, ap, sym, subst, ◌∙◌, ◌≤◌, map, arith, rules}
 use Rattle.std.proofs.Math.Seq.{drop-cons}
-use Rattle.std.specs.Prelude.{if◌then◌else◌, slice_get}
+use Rattle.std.specs.Prelude.{slice_get}
 use Rattle.std.specs.List.{AllByRecursion}
 use Rattle.ec_fx.specs.declared.numbers.Mode.{Mode}
 use Rattle.ec_space.specs.Listed.{Listed}
@@ -72,8 +72,8 @@ first_is_other w calls n (statement unit at break_loop) s e = refl
 first_is_other w calls n (statement unit at continue_loop) s e = refl
 first_is_other w calls n (statement unit at (return_value x)) s e = refl
 
-pub block_lighter : (a : PlainStmt) (ss : PlainStmts) → Some ss ≡ block_items a → stmts_weight ss + 1 ≡ stmt_weight a
-block_lighter (statement unit at (block all)) ss e = let f : ss ≡ all = cc in ap (λ z. stmts_weight z + 1) f
+pub block_lighter : (a : PlainStmt) (ss : PlainStmts) → Some ss ≡ block_items a → stmts_weight ss + 3 ≡ stmt_weight a
+block_lighter (statement unit at (block all)) ss e = let f : ss ≡ all = cc in ap (λ z. stmts_weight z + 3) f
 block_lighter (statement unit at empty) ss e = cc
 block_lighter (statement unit at (evaluate x)) ss e = cc
 block_lighter (statement unit at (declare o es)) ss e = cc
@@ -101,10 +101,10 @@ block_valid program io f returns in_loop (statement unit at (return_value x)) ss
 pub first_block : (unit at : ℕ) (ss : Listed Stmt) → declared_first (a_stmt (statement unit at (plain_kind (Block ss)))) ≡ declared (plain_stmts ss.items)
 first_block unit at ss = ap (λ kind. declared_first (a_stmt (statement unit at kind))) (plain_block ss)
 
-pub weight_call : (f : ℕ) (args : Listed Expr) → node_weight (plain_node (Call f args)) ≡ exprs_weight (plain_exprs args.items) + 1
+pub weight_call : (f : ℕ) (args : Listed Expr) → node_weight (plain_node (Call f args)) ≡ exprs_weight (plain_exprs args.items) + 3
 weight_call f args = ap node_weight (plain_call f args)
 
-pub weight_block : (ss : Listed Stmt) → kind_weight (plain_kind (Block ss)) ≡ stmts_weight (plain_stmts ss.items) + 1
+pub weight_block : (ss : Listed Stmt) → kind_weight (plain_kind (Block ss)) ≡ stmts_weight (plain_stmts ss.items) + 3
 weight_block ss = ap kind_weight (plain_block ss)
 
 pub widest_pointers : (p : PlainPlace) (tys : List PlainType) → widest (pointer_types p tys) ≡ widest_from p (widest tys)

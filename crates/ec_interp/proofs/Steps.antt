@@ -7,20 +7,21 @@ use Rattle.ec_core.specs.declared.expressions.Expr.{Expr}
 use Rattle.ec_core.specs.declared.statements.Stmt.{Stmt}
 use Rattle.ec_core.specs.declared.values.Undefined.{Undefined}
 use Rattle.ec_core.specs.declared.values.Value.{Value}
-use Rattle.ec_core.specs.declared.values.Value.TheVariants.{Number}
+use Rattle.ec_core.specs.declared.values.Value.TheVariants.{Number, Pointer}
 use Rattle.ec_core.specs.Accesses.{operand_of, begun, initialised, read}
 use Rattle.ec_core.specs.Expressions.{accessed, condition, value_of, place_of, option_value, values_of}
 use Rattle.ec_core.specs.Layout.{IsScalar, PlainLeaf, leaves_of_type}
 use Rattle.ec_core.specs.Meaning.{initial_state}
 use Rattle.ec_core.specs.Operators.{truth_result, step_operator}
-use Rattle.ec_core.specs.Plain.{PlainType, void, integer, fixed, pointer, array, struct, PlainExpr, expression, PlainNode, PlainPlace, OptionPlainExpr, no_expr, an_expr, PlainExprs, last_expr, next_expr, call, PlainStmt, a_stmt, next_stmt, plain_expr, plain_exprs, plain_stmt, plain_stmts, PlainObject, PlainFunction, PlainProgram, plain_program}
+use Rattle.ec_core.specs.Plain.{PlainType, void, integer, fixed, pointer, array, struct, PlainExpr, expression, PlainNode, PlainPlace, OptionPlainExpr, no_expr, an_expr, PlainExprs, last_expr, next_expr, call, PlainStmt, OptionPlainStmt, branch, a_stmt, next_stmt, plain_expr, plain_exprs, plain_stmt, plain_stmts, PlainObject, PlainFunction, PlainProgram, plain_program}
 use Rattle.ec_core.specs.Pointers.{Pointer as PointerValue}
 use Rattle.ec_core.specs.PortTable.{plain_table}
-use Rattle.ec_core.specs.State.{Setting, State, worked, Outcome, got, more, undefined, next, given}
-use Rattle.ec_core.specs.Statements.{Exit, at_end, test_of, evaluated, going_on, effect_of, first_effect, parameters_written, calls_within}
+use Rattle.ec_core.specs.State.{Setting, State, worked, Outcome, got, more, undefined, next, given, choose}
+use Rattle.ec_core.specs.Statements.{Exit, at_end, in_order, initialising, effects_of, kind_effect, option_effect, test_of, evaluated, going_on, effect_of, first_effect, parameters_written, calls_within}
 use Rattle.ec_core.specs.Typing.{int, type_of_expr, HaveCompoundTypes, AreArguments}
 use Rattle.ec_core.specs.Valid.{ValidExpr, ValidExprs, ValidPlace, ValidOptional, ValidCondition, AreLeafValues, IsDeclared, ValidStmt}
 use Rattle.ec_core.specs.ValueTypes.{HasType, IsTypedState, IsSoundOutcome, AreArgumentValues, ValuesHaveTheirTypes}
+use Rattle.ec_core.specs.Words.{leaf_words, branch_words}
 use Rattle.ec_core.proofs.TypedRuns.{types_are_kept}
 use Rattle.ec_interp.specs.declared.state.Context.{Context}
 use Rattle.ec_interp.specs.Suits.{IsGiven, Runs, RunsNode, RunsExpr, RunsPlace, RunsOption, RunsExprs, RunsOptional, RunsCondition, RunsLeaves, RunsStmt, RunsStmts, RunsTest, RunsLoop, AreArgumentsOf, IsOperand}
@@ -145,6 +146,11 @@ module _ (f : Context) where
 
   -- ---- operands
 
+  -- the type of a value plays no part in what it tells as a condition
+  pub truth_of_any : (ty other : PlainType) (x : Value) (s : State) → truth_result (operand_of program ty x s) ≡ truth_result (operand_of program other x s)
+  truth_of_any ty other (Number n) s = refl
+  truth_of_any ty other (Pointer p) s = refl
+
   -- `++` and `--` take a scalar and an int
   pub step_types : (up : Bool) (ty : PlainType) → IsScalar ty → HaveCompoundTypes (step_operator up) ty int
   step_types true void h = absurd h
@@ -209,7 +215,27 @@ module _ (f : Context) where
   pub leaves_next : (s : State) (o k : ℕ) (es : List Expr) (e : Expr) → k < length es → e ≡ get_or es k e → RunsLeaves f s o k (plain_exprs (drop k es)) → RunsLeaves f s o k (next_expr (plain_expr e) (plain_exprs (drop (k + 1) es)))
   leaves_next s o k es e l r h = subst (λ (xs : List Expr). RunsLeaves f s o k (plain_exprs xs)) (list_next es k e l r) h
 
+  -- what is done first with the rest of a list
+  pub exprs_step : (turns depth : ℕ) (es : List Expr) (i : ℕ) (e : Expr) (s : State) → i < length es → e ≡ get_or es i e → values_of w (calls_within w turns depth) (plain_exprs (drop i es)) s ≡ next (value_of w (calls_within w turns depth) (plain_expr e) s) (λ x s1. next (values_of w (calls_within w turns depth) (plain_exprs (drop (i + 1) es)) s1) (λ xs s2. got (x ∷ xs) s2))
+  exprs_step turns depth es i e s l r = ap (λ xs. values_of w (calls_within w turns depth) (plain_exprs xs) s) (list_next es i e l r)
+
+  pub leaves_step : (turns depth o k : ℕ) (es : List Expr) (e : Expr) (s t : State) → k < length es → e ≡ get_or es k e → t ≡ worked (leaf_words (plain_expr e)) s → initialising w (calls_within w turns depth) o k (plain_exprs (drop k es)) s ≡ next (value_of w (calls_within w turns depth) (plain_expr e) t) (λ x s1. next (initialised program o k x s1) (λ y s2. initialising w (calls_within w turns depth) o (k + 1) (plain_exprs (drop (k + 1) es)) s2))
+  leaves_step turns depth o k es e s t l r q =
+      ap (λ xs. initialising w (calls_within w turns depth) o k (plain_exprs xs) s) (list_next es k e l r)
+      ∙ ap (λ (z : State). next (value_of w (calls_within w turns depth) (plain_expr e) z) (λ x s1. next (initialised program o k x s1) (λ y s2. initialising w (calls_within w turns depth) o (k + 1) (plain_exprs (drop (k + 1) es)) s2))) (sym q)
+
+  pub stmts_step : (turns depth : ℕ) (ss : List Stmt) (i : ℕ) (a : Stmt) (s : State) → i < length ss → a ≡ get_or ss i a → effects_of w (calls_within w turns depth) turns (plain_stmts (drop i ss)) s ≡ next (effect_of w (calls_within w turns depth) turns (plain_stmt a) s) (λ x s1. in_order x s1 (λ s2. effects_of w (calls_within w turns depth) turns (plain_stmts (drop (i + 1) ss)) s2))
+  stmts_step turns depth ss i a s l r = ap (λ xs. effects_of w (calls_within w turns depth) turns (plain_stmts xs) s) (list_next ss i a l r)
+
+  -- the test of an `if`, after its work
+  pub branch_is : (turns depth : ℕ) (e : PlainExpr) (a : PlainStmt) (b : OptionPlainStmt) (s t : State) → t ≡ worked branch_words s → kind_effect w (calls_within w turns depth) turns (branch e a b) s ≡ next (condition w e (value_of w (calls_within w turns depth) e t)) (λ h s1. choose h (λ s2. effect_of w (calls_within w turns depth) turns a s2) (λ s2. option_effect w (calls_within w turns depth) turns b s2) s1)
+  branch_is turns depth e a b s t q = ap (λ (z : State). next (condition w e (value_of w (calls_within w turns depth) e z)) (λ h s1. choose h (λ s2. effect_of w (calls_within w turns depth) turns a s2) (λ s2. option_effect w (calls_within w turns depth) turns b s2) s1)) (sym q)
+
   -- ---- calls and loops
+
+  -- the arguments of a call, where its function is known
+  pub called_arguments : (g : ℕ) (function : PlainFunction) (xs : List Value) → slice_get program.functions g ≡ Some function → AreArgumentsOf f g xs → AreArgumentValues program function.params xs
+  called_arguments g function xs e a = subst (λ (z : Option PlainFunction). IsSomeAnd z (λ x. AreArgumentValues program x.params xs)) e a
 
   pub call_arguments : (turns depth g : ℕ) (ty : PlainType) (es : PlainExprs) (xs : List Value) (s t : State) → RunsNode f s ty (call g es) → values_of w (calls_within w turns depth) es s ≡ got xs t → IsReached (AreArgumentsOf f g) xs t
   call_arguments turns depth g ty es xs s t h q =

@@ -1,4 +1,5 @@
 -- The definitions that the contracts of the interpreter cite.
+pub mod Does
 pub mod Lookups
 pub mod Loops
 pub mod Shows

@@ -17,8 +17,8 @@ use Rattle.ec_core.specs.ValueTypes.{HasType, IsTypedState, GiveBytes, AreArgume
 use Rattle.ec_interp.specs.declared.behaviour.Unanswered.{Unanswered as Reason}
 use Rattle.ec_interp.specs.declared.behaviour.Unanswered.TheVariants.{NoMemory, Unsuited}
 use Rattle.ec_interp.specs.declared.state.Context.{Context}
-use Rattle.ec_interp.specs.declared.state.Stop.{Stop}
-use Rattle.ec_interp.specs.declared.state.Stop.TheVariants.{Unanswered, OutOfTurns, Undefined}
+use Rattle.ec_interp.specs.declared.state.RunError.{RunError}
+use Rattle.ec_interp.specs.declared.state.RunError.TheVariants.{Unanswered, OutOfTurns, Undefined}
 use Rattle.ec_interp.specs.Views.{inputs_of}
 
 -- ---- answers
@@ -29,7 +29,7 @@ IsMemory NoMemory = ⊤
 IsMemory Unsuited = ⊥
 
 -- an answer, but for running out of memory
-abbrev pub IsAnswered : {A : Type 0} → Result A Stop → Type 0
+abbrev pub IsAnswered : {A : Type 0} → Result A RunError → Type 0
 IsAnswered (Ok x) = ⊤
 IsAnswered (Err (Unanswered why)) = IsMemory why
 IsAnswered (Err OutOfTurns) = ⊤

@@ -15,21 +15,21 @@ abbrev mutual
   pub node_weight : PlainNode → ℕ
   node_weight (number n) = 1
   node_weight null = 1
-  node_weight (load p) = place_weight p + 1
-  node_weight (address_of p) = place_weight p + 1
-  node_weight (unary op a) = expr_weight a + 1
-  node_weight (binary op a b) = expr_weight a + expr_weight b + 2
-  node_weight (convert a) = expr_weight a + 1
-  node_weight (assign p a) = place_weight p + expr_weight a + 1
-  node_weight (compound op mode p a) = place_weight p + expr_weight a + 2
-  node_weight (step up prefix p) = place_weight p + 2
-  node_weight (logical_not a) = expr_weight a + 2
-  node_weight (logical_and a b) = expr_weight a + expr_weight b + 2
-  node_weight (logical_or a b) = expr_weight a + expr_weight b + 2
-  node_weight (conditional c a b) = expr_weight c + expr_weight a + expr_weight b + 2
-  node_weight (comma a b) = expr_weight a + expr_weight b + 1
-  node_weight (call f args) = exprs_weight args + 1
-  node_weight (io op port index value) = option_weight index + option_weight value + 2
+  node_weight (load p) = place_weight p + 3
+  node_weight (address_of p) = place_weight p + 3
+  node_weight (unary op a) = expr_weight a + 3
+  node_weight (binary op a b) = expr_weight a + expr_weight b + 3
+  node_weight (convert a) = expr_weight a + 3
+  node_weight (assign p a) = place_weight p + expr_weight a + 3
+  node_weight (compound op mode p a) = place_weight p + expr_weight a + 3
+  node_weight (step up prefix p) = place_weight p + 3
+  node_weight (logical_not a) = expr_weight a + 3
+  node_weight (logical_and a b) = expr_weight a + expr_weight b + 3
+  node_weight (logical_or a b) = expr_weight a + expr_weight b + 3
+  node_weight (conditional c a b) = expr_weight c + expr_weight a + expr_weight b + 3
+  node_weight (comma a b) = expr_weight a + expr_weight b + 3
+  node_weight (call f args) = exprs_weight args + 3
+  node_weight (io op port index value) = option_weight index + option_weight value + 3
   node_weight (group acquire g) = 1
 
   pub place_weight : PlainPlace → ℕ
@@ -55,9 +55,9 @@ abbrev mutual
 
   pub kind_weight : PlainKind → ℕ
   kind_weight empty = 1
-  kind_weight (evaluate e) = expr_weight e + 1
-  kind_weight (block ss) = stmts_weight ss + 1
-  kind_weight (declare o es) = exprs_weight es + 1
+  kind_weight (evaluate e) = expr_weight e + 3
+  kind_weight (block ss) = stmts_weight ss + 3
+  kind_weight (declare o es) = exprs_weight es + 3
   kind_weight (branch c a b) = expr_weight c + stmt_weight a + option_stmt_weight b + 3
   kind_weight (while_loop c s) = expr_weight c + stmt_weight s + 9
   kind_weight (do_loop s c) = expr_weight c + stmt_weight s + 9

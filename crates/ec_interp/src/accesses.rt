@@ -18,7 +18,7 @@ use crate::behaviour::{Event, Unanswered};
 use crate::layouts::{leaves_in, place_space};
 use crate::objects::set_leaf;
 use crate::operators::{is_live_in, referent};
-use crate::state::{Context, ObjectState, State, Stop, at, object, object_state, told};
+use crate::state::{Context, ObjectState, RunError, State, at, object, object_state, told};
 use ec_core::{CType, Leaf, Obj, ObjectPointer, PlaceExpr, Storage, Undefined, Value};
 use ec_space::{NoMemory, SpaceId};
 
@@ -131,7 +131,7 @@ fn is_readable(f: &Context, s: &State, v: Value) -> Result<bool, Unanswered>
     }
 }
 
-fn read_at(f: &Context, s: &mut State, a: Found) -> Result<Value, Stop>
+fn read_at(f: &Context, s: &mut State, a: Found) -> Result<Value, RunError>
     requires { HasLayouts f.now.program.now }
     ensures answered { IsGiven f.now → IsAnswered result }
     ensures shows { Shows result (seen s.new)
@@ -139,16 +139,16 @@ fn read_at(f: &Context, s: &mut State, a: Found) -> Result<Value, Stop>
         (seen s.old)) }
 {
     let Some(o) = object(f.program, a.object) else {
-        return Err(Stop::Undefined(Undefined::Access));
+        return Err(RunError::Undefined(Undefined::Access));
     };
     let Some(x) = object_state(s, a.object) else {
-        return Err(Stop::Undefined(Undefined::Access));
+        return Err(RunError::Undefined(Undefined::Access));
     };
     let Some(v) = leaf_value(x, a.leaf) else {
-        return Err(Stop::Undefined(Undefined::Unset));
+        return Err(RunError::Undefined(Undefined::Unset));
     };
     if !is_readable(f, s, v)? {
-        return Err(Stop::Undefined(Undefined::Unset));
+        return Err(RunError::Undefined(Undefined::Unset));
     }
     let event = Event::Read {
         object: a.object,
@@ -167,7 +167,7 @@ pub fn read(
     ty: &CType,
     p: &PlaceExpr,
     to: Option<ObjectPointer>,
-) -> Result<Value, Stop>
+) -> Result<Value, RunError>
     requires { HasLayouts f.now.program.now }
     ensures answered { IsGiven f.now → IsAnswered result }
     ensures shows { Shows result (seen s.new)
@@ -181,7 +181,7 @@ pub fn read(
             let v = read_at(f, s, a)?;
             Ok(v)
         }
-        None => Err(Stop::Undefined(Undefined::Access)),
+        None => Err(RunError::Undefined(Undefined::Access)),
     }
 }
 
@@ -209,19 +209,19 @@ fn is_fixed(o: &Obj) -> bool
     o.konst || SpaceId::Flash.holds(o.home)
 }
 
-fn write_at(f: &Context, s: &mut State, a: Found, v: Value) -> Result<Value, Stop>
+fn write_at(f: &Context, s: &mut State, a: Found, v: Value) -> Result<Value, RunError>
     ensures answered { IsAnswered result }
     ensures shows { Shows result (seen s.new)
         (write (access_at (plain_program f.now.program.now) (seen s.old) a) v (seen s.old)) }
 {
     let Some(o) = object(f.program, a.object) else {
-        return Err(Stop::Undefined(Undefined::Access));
+        return Err(RunError::Undefined(Undefined::Access));
     };
     if object_state(s, a.object).is_none() {
-        return Err(Stop::Undefined(Undefined::Access));
+        return Err(RunError::Undefined(Undefined::Access));
     }
     if is_fixed(o) {
-        return Err(Stop::Undefined(Undefined::ConstWrite));
+        return Err(RunError::Undefined(Undefined::ConstWrite));
     }
     store(s, o, a, v)?;
     Ok(v)
@@ -235,7 +235,7 @@ pub fn write(
     p: &PlaceExpr,
     to: Option<ObjectPointer>,
     v: Value,
-) -> Result<Value, Stop>
+) -> Result<Value, RunError>
     requires { HasLayouts f.now.program.now }
     ensures answered { IsGiven f.now → IsAnswered result }
     ensures shows { Shows result (seen s.new)
@@ -248,23 +248,23 @@ pub fn write(
             let v = write_at(f, s, a, v)?;
             Ok(v)
         }
-        None => Err(Stop::Undefined(Undefined::Access)),
+        None => Err(RunError::Undefined(Undefined::Access)),
     }
 }
 
 /// The initialisation of a leaf of the newest instance of an object: const objects are written too.
-pub fn initialise(f: &Context, s: &mut State, o: u16, k: usize, v: Value) -> Result<Value, Stop>
+pub fn initialise(f: &Context, s: &mut State, o: u16, k: usize, v: Value) -> Result<Value, RunError>
     ensures answered { IsAnswered result }
     ensures shows { Shows result (seen s.new) (initialised (plain_program f.now.program.now) o k v (seen s.old)) }
 {
     let Some(d) = object(f.program, o) else {
-        return Err(Stop::Undefined(Undefined::Access));
+        return Err(RunError::Undefined(Undefined::Access));
     };
     let Some(x) = object_state(s, o) else {
-        return Err(Stop::Undefined(Undefined::Access));
+        return Err(RunError::Undefined(Undefined::Access));
     };
     if !x.live || !d.space.holds(d.home) {
-        return Err(Stop::Undefined(Undefined::Access));
+        return Err(RunError::Undefined(Undefined::Access));
     }
     let a = Found {
         object: o,

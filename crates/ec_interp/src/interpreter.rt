@@ -17,7 +17,7 @@ use crate::behaviour::{Behaviour, Event, PortInput, Run, Unanswered};
 use crate::layouts::leaf_count;
 use crate::objects::unset_leaves;
 use crate::run::call;
-use crate::state::{Context, ObjectState, State, Stop, push};
+use crate::state::{Context, ObjectState, RunError, State, push};
 use ec_core::{LeafInit, Obj, ObjectPointer, Program, Storage, Value};
 use ec_iohw::IoTable;
 use ec_space::{NoMemory, Seq};
@@ -171,7 +171,7 @@ fn events_of(alloc: Global, s: &State) -> Result<Seq<Event>, NoMemory>
 
 fn behaviour_of(
     alloc: Global,
-    outcome: Result<Value, Stop>,
+    outcome: Result<Value, RunError>,
     s: &State,
 ) -> Result<Behaviour, Unanswered>
     ensures answered { IsAnswered outcome → IfErr result IsMemory }
@@ -182,11 +182,11 @@ fn behaviour_of(
             events: events_of(alloc, s)?,
             result: number_of(x),
         }),
-        Err(Stop::OutOfTurns) => Ok(Behaviour::Running {
+        Err(RunError::OutOfTurns) => Ok(Behaviour::Running {
             events: events_of(alloc, s)?,
         }),
-        Err(Stop::Undefined(point)) => Ok(Behaviour::MeetsUndefined(point)),
-        Err(Stop::Unanswered(why)) => Err(why),
+        Err(RunError::Undefined(point)) => Ok(Behaviour::MeetsUndefined(point)),
+        Err(RunError::Unanswered(why)) => Err(why),
     }
 }
 

@@ -15,7 +15,7 @@ ghost use Rattle.ec_interp.specs.Shows.{Tells};
 ghost use Rattle.ec_interp.specs.Suits.{IsMemory, IsAnswered};
 
 use crate::behaviour::Unanswered;
-use crate::state::Stop;
+use crate::state::RunError;
 use ec_core::{
     Arithmetic, BinOp, CType, FixedType, IntegerType, UnOp, arithmetic_conversion,
     arithmetic_operation, is_comparison, signed_kind, unary_operation,
@@ -192,7 +192,7 @@ fn operand(t: Arithmetic, n: i128) -> Result<Num, Unanswered>
     Ok(t.operand(n))
 }
 
-fn operation_on(op: BinOp, ty: Arithmetic, mode: Mode, a: Num, b: Num) -> Result<i128, Stop>
+fn operation_on(op: BinOp, ty: Arithmetic, mode: Mode, a: Num, b: Num) -> Result<i128, RunError>
     requires a_in { IsNumber a }
     requires b_in { IsNumber b }
     ensures tells { Tells result (arithmetic_value op ty mode a b) }
@@ -200,11 +200,11 @@ fn operation_on(op: BinOp, ty: Arithmetic, mode: Mode, a: Num, b: Num) -> Result
     ensures answered { Suits op ty a b → IsAnswered result }
 {
     if !suits(op, ty, a, b) {
-        return Err(Stop::Unanswered(Unanswered::Unsuited));
+        return Err(RunError::Unanswered(Unanswered::Unsuited));
     }
     match arithmetic_operation(op, ty, mode, a, b) {
         Ok(n) => Ok(n),
-        Err(point) => Err(Stop::Undefined(point)),
+        Err(point) => Err(RunError::Undefined(point)),
     }
 }
 
@@ -216,7 +216,13 @@ pub struct Typed {
 }
 
 /// The value of `a op b` with the result type `ty`.
-pub fn operation(op: BinOp, ty: Arithmetic, mode: Mode, a: Typed, b: Typed) -> Result<i128, Stop>
+pub fn operation(
+    op: BinOp,
+    ty: Arithmetic,
+    mode: Mode,
+    a: Typed,
+    b: Typed,
+) -> Result<i128, RunError>
     ensures tells { Tells result (arithmetic_value op ty mode (operand a.ty a.n) (operand b.ty b.n)) }
     ensures held { IfOk result (HoldsNumber ty) }
     ensures answered { HoldsNumber a.ty a.n → HoldsNumber b.ty b.n → Suits op ty (operand a.ty a.n) (operand b.ty b.n)
@@ -228,35 +234,35 @@ pub fn operation(op: BinOp, ty: Arithmetic, mode: Mode, a: Typed, b: Typed) -> R
 }
 
 /// The value of `op n` where both have the type `ty`.
-pub fn unary(op: UnOp, ty: Arithmetic, mode: Mode, n: i128) -> Result<i128, Stop>
+pub fn unary(op: UnOp, ty: Arithmetic, mode: Mode, n: i128) -> Result<i128, RunError>
     ensures tells { Tells result (unary_value op ty mode n) }
     ensures answered { HoldsNumber ty n → IsAnswered result }
 {
     if !is_in_range(ty, n) {
-        return Err(Stop::Unanswered(Unanswered::Unsuited));
+        return Err(RunError::Unanswered(Unanswered::Unsuited));
     }
     match (op, ty) {
         (UnOp::Invert, Arithmetic::Fixed(_)) => Ok(n),
         _ => match unary_operation(op, ty, mode, n) {
             Ok(n) => Ok(n),
-            Err(point) => Err(Stop::Undefined(point)),
+            Err(point) => Err(RunError::Undefined(point)),
         },
     }
 }
 
 /// A number of one type in another.
-pub fn brought(to: Arithmetic, mode: Mode, a: Typed) -> Result<i128, Stop>
+pub fn brought(to: Arithmetic, mode: Mode, a: Typed) -> Result<i128, RunError>
     ensures tells { Tells result (brought to mode a.ty a.n) }
     ensures held { IfOk result (HoldsNumber to) }
     ensures answered { IsKnownType to → HoldsNumber a.ty a.n → IsAnswered result }
 {
     let x = operand(a.ty, a.n)?;
     if !is_known(to) {
-        return Err(Stop::Unanswered(Unanswered::Unsuited));
+        return Err(RunError::Unanswered(Unanswered::Unsuited));
     }
     match arithmetic_conversion(to, mode, x) {
         Ok(n) => Ok(n),
-        Err(point) => Err(Stop::Undefined(point)),
+        Err(point) => Err(RunError::Undefined(point)),
     }
 }
 
@@ -328,7 +334,7 @@ pub fn compound(
     mode: Mode,
     a: Typed,
     b: Typed,
-) -> Result<i128, Stop>
+) -> Result<i128, RunError>
     ensures tells { Tells result (compound_value op operation_mode mode a.ty a.n b.ty b.n) }
     ensures answered { HaveCompoundArithmetic op a.ty b.ty → HoldsNumber a.ty a.n → HoldsNumber b.ty b.n
         → IsAnswered result }

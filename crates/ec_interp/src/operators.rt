@@ -17,7 +17,7 @@ ghost use Rattle.ec_interp.specs.Views.{seen, seen_object, HasLayouts};
 use crate::behaviour::Unanswered;
 use crate::layouts::{element_size, size};
 use crate::numbers::{Typed, brought, compound, number_type, operation, unary};
-use crate::state::{Context, ObjectState, State, Stop, object, object_state};
+use crate::state::{Context, ObjectState, RunError, State, object, object_state};
 use ec_core::{
     BinOp, CType, ObjectPointer, Referent, UnOp, Undefined, Value, is_comparison,
     pointer_comparison, pointer_conversion, pointer_difference, pointer_truth,
@@ -72,7 +72,7 @@ pub fn referent(f: &Context, s: &State, p: Option<ObjectPointer>) -> Result<Refe
 
 // ---- pointers
 
-fn displaced(p: ObjectPointer, size: u32, at: i128) -> Result<Option<ObjectPointer>, Stop>
+fn displaced(p: ObjectPointer, size: u32, at: i128) -> Result<Option<ObjectPointer>, RunError>
     ensures tells { Tells result (displaced p size at) }
     ensures answered { IsAnswered result }
 {
@@ -83,7 +83,7 @@ fn displaced(p: ObjectPointer, size: u32, at: i128) -> Result<Option<ObjectPoint
             offset: at as u32,
         }))
     } else {
-        Err(Stop::Undefined(Undefined::PointerRange))
+        Err(RunError::Undefined(Undefined::PointerRange))
     }
 }
 
@@ -92,19 +92,19 @@ pub fn moved(
     p: Option<ObjectPointer>,
     of: Referent,
     bytes: i128,
-) -> Result<Option<ObjectPointer>, Stop>
+) -> Result<Option<ObjectPointer>, RunError>
     requires low { neg_ℤ (pos (2 ^ 100)) ≤ℤ bytes }
     requires high { bytes ≤ℤ pos (2 ^ 100) }
     ensures tells { Tells result (moved p of bytes) }
     ensures answered { IsAnswered result }
 {
     match p {
-        None => Err(Stop::Undefined(Undefined::PointerRange)),
+        None => Err(RunError::Undefined(Undefined::PointerRange)),
         Some(p) => {
             if of.live {
                 displaced(p, of.size, p.offset as i128 + bytes)
             } else {
-                Err(Stop::Undefined(Undefined::PointerUse))
+                Err(RunError::Undefined(Undefined::PointerUse))
             }
         }
     }
@@ -126,7 +126,7 @@ fn moved_elements(
     of: Referent,
     n: i128,
     element: u32,
-) -> Result<Option<ObjectPointer>, Stop>
+) -> Result<Option<ObjectPointer>, RunError>
     requires { IsNear n }
     ensures tells { Tells result (sum_of_pointer p of n element) }
     ensures answered { IsAnswered result }
@@ -149,7 +149,7 @@ fn offset_pointer(
     a: &Operand,
     p: Option<ObjectPointer>,
     n: i128,
-) -> Result<Value, Stop>
+) -> Result<Value, RunError>
     requires layouts { HasLayouts f.now.program.now }
     requires pointer { a.now.value ≡ ThePointer p }
     ensures tells { Tells result (offset_result op
@@ -158,12 +158,12 @@ fn offset_pointer(
         → IsAnswered result }
 {
     if !is_near(n) {
-        return Err(Stop::Unanswered(Unanswered::Unsuited));
+        return Err(RunError::Unanswered(Unanswered::Unsuited));
     }
     let count = match op {
         BinOp::Add => n,
         BinOp::Sub => negated(n),
-        _ => return Err(Stop::Undefined(Undefined::Invalid)),
+        _ => return Err(RunError::Undefined(Undefined::Invalid)),
     };
     let of = referent(f, s, p)?;
     let element = element_size(f, a.ty)?;
@@ -185,7 +185,7 @@ fn compared(
     op: BinOp,
     p: Option<ObjectPointer>,
     q: Option<ObjectPointer>,
-) -> Result<i128, Stop>
+) -> Result<i128, RunError>
     requires { HasLayouts f.now.program.now }
     ensures answered { IsGiven f.now → IsAnswered result }
     ensures tells { Tells result (comparison_of_pointers op p
@@ -196,7 +196,7 @@ fn compared(
     let into = referent(f, s, q)?;
     match pointer_comparison(op, p, of, q, into) {
         Ok(n) => Ok(n),
-        Err(point) => Err(Stop::Undefined(point)),
+        Err(point) => Err(RunError::Undefined(point)),
     }
 }
 
@@ -206,7 +206,7 @@ fn difference(
     element: u32,
     p: Option<ObjectPointer>,
     q: Option<ObjectPointer>,
-) -> Result<i128, Stop>
+) -> Result<i128, RunError>
     requires { HasLayouts f.now.program.now }
     ensures answered { IsGiven f.now → 1 ≤ element → IsAnswered result }
     ensures tells { Tells result (difference_of_pointers element p
@@ -214,13 +214,13 @@ fn difference(
         (referent_of (plain_program f.now.program.now) q (seen s.now))) }
 {
     if element == 0 {
-        return Err(Stop::Unanswered(Unanswered::Unsuited));
+        return Err(RunError::Unanswered(Unanswered::Unsuited));
     }
     let of = referent(f, s, p)?;
     let into = referent(f, s, q)?;
     match pointer_difference(element, p, of, q, into) {
         Ok(n) => Ok(n),
-        Err(point) => Err(Stop::Undefined(point)),
+        Err(point) => Err(RunError::Undefined(point)),
     }
 }
 
@@ -233,7 +233,7 @@ fn pointers(
     p: Option<ObjectPointer>,
     b: &Operand,
     q: Option<ObjectPointer>,
-) -> Result<Value, Stop>
+) -> Result<Value, RunError>
     requires layouts { HasLayouts f.now.program.now }
     requires left { a.now.value ≡ ThePointer p }
     requires right { b.now.value ≡ ThePointer q }
@@ -255,7 +255,7 @@ fn pointers(
 // ---- operators
 
 /// The value of a unary operator.
-pub fn unary_value(op: UnOp, ty: &CType, mode: Mode, x: Value) -> Result<Value, Stop>
+pub fn unary_value(op: UnOp, ty: &CType, mode: Mode, x: Value) -> Result<Value, RunError>
     ensures tells { Tells result (unary_result op (plain_type ty.now) mode x) }
     ensures answered { IsNumberOf (plain_type ty.now) x → IsAnswered result }
 {
@@ -264,7 +264,7 @@ pub fn unary_value(op: UnOp, ty: &CType, mode: Mode, x: Value) -> Result<Value, 
             let r = unary(op, number_type(ty), mode, n)?;
             Ok(Value::Number(r))
         }
-        Value::Pointer(_) => Err(Stop::Undefined(Undefined::Invalid)),
+        Value::Pointer(_) => Err(RunError::Undefined(Undefined::Invalid)),
     }
 }
 
@@ -277,7 +277,7 @@ pub fn binary_value(
     mode: Mode,
     a: &Operand,
     b: &Operand,
-) -> Result<Value, Stop>
+) -> Result<Value, RunError>
     requires { HasLayouts f.now.program.now }
     ensures answered { IsGiven f.now → IsOperand f.now (plain_type a.now.ty.now) a.now.value
         → IsOperand f.now (plain_type b.now.ty.now) b.now.value
@@ -330,7 +330,7 @@ pub fn conversion(
     ty: &CType,
     mode: Mode,
     a: &Operand,
-) -> Result<Value, Stop>
+) -> Result<Value, RunError>
     requires { HasLayouts f.now.program.now }
     ensures answered { IsGiven f.now → IsOperand f.now (plain_type a.now.ty.now) a.now.value
         → IsScalar (plain_type ty.now) → AreConvertible (plain_type ty.now) (plain_type a.now.ty.now)
@@ -348,16 +348,16 @@ pub fn conversion(
                 let of = referent(f, s, p)?;
                 match pointer_conversion(*space, p, of) {
                     Ok(q) => Ok(Value::Pointer(q)),
-                    Err(point) => Err(Stop::Undefined(point)),
+                    Err(point) => Err(RunError::Undefined(point)),
                 }
             }
-            _ => Err(Stop::Undefined(Undefined::Invalid)),
+            _ => Err(RunError::Undefined(Undefined::Invalid)),
         },
     }
 }
 
 /// Whether a value is unequal to 0, or not null.
-pub fn truth(f: &Context, s: &State, x: Value) -> Result<bool, Stop>
+pub fn truth(f: &Context, s: &State, x: Value) -> Result<bool, RunError>
     requires { HasLayouts f.now.program.now }
     ensures answered { IsGiven f.now → IsAnswered result }
     ensures tells { Tells result (truth_result (operand_of (plain_program f.now.program.now) void x (seen s.now))) }
@@ -368,7 +368,7 @@ pub fn truth(f: &Context, s: &State, x: Value) -> Result<bool, Stop>
             let of = referent(f, s, p)?;
             match pointer_truth(p, of) {
                 Ok(holds) => Ok(holds),
-                Err(point) => Err(Stop::Undefined(point)),
+                Err(point) => Err(RunError::Undefined(point)),
             }
         }
     }
@@ -384,7 +384,7 @@ pub fn compound_value(
     mode: Mode,
     a: &Operand,
     b: &Operand,
-) -> Result<Value, Stop>
+) -> Result<Value, RunError>
     requires { HasLayouts f.now.program.now }
     ensures answered { IsGiven f.now → IsOperand f.now (plain_type a.now.ty.now) a.now.value
         → IsOperand f.now (plain_type b.now.ty.now) b.now.value
@@ -404,6 +404,6 @@ pub fn compound_value(
                 Ok(r)
             }
         },
-        Value::Pointer(_) => Err(Stop::Undefined(Undefined::Invalid)),
+        Value::Pointer(_) => Err(RunError::Undefined(Undefined::Invalid)),
     }
 }

@@ -13,7 +13,7 @@ ghost use Rattle.ec_interp.specs.Suits.{IsGiven, IsAnswered};
 ghost use Rattle.ec_interp.specs.Views.{seen, seen_action, seen_event, inputs_of};
 
 use crate::behaviour::{Event, PortInput, Unanswered};
-use crate::state::{Context, State, Stop, at};
+use crate::state::{Context, RunError, State, at};
 use ec_core::{Undefined, Value};
 use ec_iohw::{IoOp, IoTable, Pair, Port, PortGroup};
 use ec_space::NoMemory;
@@ -236,20 +236,20 @@ fn open_port(
     port: &Port,
     i: u128,
     v: u128,
-) -> Result<Value, Stop>
+) -> Result<Value, RunError>
     ensures shows { Shows result (seen s.new)
         (opened (inputs_of f.now.inputs.now) (is_open port.now.group (seen s.old)) op (plain_port port.now) i v
         (seen s.old)) }
     ensures answered { port.now.width ≤ 8 → IsAnswered result }
 {
     if !is_open(port.group, s) {
-        return Err(Stop::Undefined(Undefined::ClosedPort));
+        return Err(RunError::Undefined(Undefined::ClosedPort));
     }
     if i >= port.count as u128 {
-        return Err(Stop::Undefined(Undefined::BufferIndex));
+        return Err(RunError::Undefined(Undefined::BufferIndex));
     }
     if port.width > 8 {
-        return Err(Stop::Unanswered(Unanswered::Unsuited));
+        return Err(RunError::Unanswered(Unanswered::Unsuited));
     }
     let address = port.address as u32 + i as u32 * port.width as u32;
     let x = access_port(f, s, op, port.width, address, v)?;
@@ -264,14 +264,14 @@ pub fn operate(
     port: u16,
     i: Value,
     v: Value,
-) -> Result<Value, Stop>
+) -> Result<Value, RunError>
     ensures shows { Shows result (seen s.new)
         (port_effect (inputs_of f.now.inputs.now) op (slice_get (map plain_port f.now.io.now.ports.items) port) i v
         (seen s.old)) }
     ensures answered { IsGiven f.now → IsAnswered result }
 {
     match port_at(f.io, port) {
-        None => Err(Stop::Undefined(Undefined::Invalid)),
+        None => Err(RunError::Undefined(Undefined::Invalid)),
         Some(p) => {
             let x = open_port(f, s, op, p, unsigned(i), unsigned(v))?;
             Ok(x)
@@ -299,13 +299,13 @@ fn set_group(s: &mut State, g: u16, acquired: bool)
 }
 
 /// A group is acquired or released.
-pub fn operate_group(f: &Context, s: &mut State, acquire: bool, g: u16) -> Result<Value, Stop>
+pub fn operate_group(f: &Context, s: &mut State, acquire: bool, g: u16) -> Result<Value, RunError>
     ensures shows { Shows result (seen s.new)
         (group_effect acquire g (slice_get (map plain_group f.now.io.now.groups.items) g) (seen s.old)) }
     ensures answered { IsAnswered result }
 {
     match group_at(f.io, g) {
-        None => Err(Stop::Undefined(Undefined::Invalid)),
+        None => Err(RunError::Undefined(Undefined::Invalid)),
         Some(group) => {
             write_pairs(s, pairs(acquire, group))?;
             set_group(s, g, acquire);

@@ -43,7 +43,7 @@ pub struct State {
 
 /// Why a part of a run gives no value.
 #[derive(Clone, Copy, Debug, PartialEq, Eq)]
-pub enum Stop {
+pub enum RunError {
     Unanswered(Unanswered),
     OutOfTurns,
     Undefined(Undefined),
@@ -58,37 +58,37 @@ pub enum Exit {
     ByReturn(Option<Value>),
 }
 
-impl From<Unanswered> for Stop {
+impl From<Unanswered> for RunError {
     ghost use Rattle.std.specs.Prelude.{◌≡◌};
-    ghost use Rattle.ec_interp.specs.declared.state.Stop.TheVariants.{Unanswered as WithoutAnswer};
+    ghost use Rattle.ec_interp.specs.declared.state.RunError.TheVariants.{Unanswered as WithoutAnswer};
 
     ghost from_gives = { λ why r. r ≡ WithoutAnswer why };
 
-    fn from(why: Unanswered) -> Stop {
-        Stop::Unanswered(why)
+    fn from(why: Unanswered) -> RunError {
+        RunError::Unanswered(why)
     }
 }
 
-impl From<NoMemory> for Stop {
+impl From<NoMemory> for RunError {
     ghost use Rattle.std.specs.Prelude.{◌≡◌};
     ghost use Rattle.ec_interp.specs.declared.behaviour.Unanswered.TheVariants.{NoMemory as Full};
-    ghost use Rattle.ec_interp.specs.declared.state.Stop.TheVariants.{Unanswered as WithoutAnswer};
+    ghost use Rattle.ec_interp.specs.declared.state.RunError.TheVariants.{Unanswered as WithoutAnswer};
 
     ghost from_gives = { λ _ r. r ≡ WithoutAnswer Full };
 
-    fn from(_: NoMemory) -> Stop {
-        Stop::Unanswered(Unanswered::NoMemory)
+    fn from(_: NoMemory) -> RunError {
+        RunError::Unanswered(Unanswered::NoMemory)
     }
 }
 
-impl From<Undefined> for Stop {
+impl From<Undefined> for RunError {
     ghost use Rattle.std.specs.Prelude.{◌≡◌};
-    ghost use Rattle.ec_interp.specs.declared.state.Stop.TheVariants.{Undefined as AtPoint};
+    ghost use Rattle.ec_interp.specs.declared.state.RunError.TheVariants.{Undefined as AtPoint};
 
     ghost from_gives = { λ point r. r ≡ AtPoint point };
 
-    fn from(point: Undefined) -> Stop {
-        Stop::Undefined(point)
+    fn from(point: Undefined) -> RunError {
+        RunError::Undefined(point)
     }
 }
 

@@ -1,48 +1,33 @@
-use Rattle.std.proofs.Common.{rules, arith, sym, ap, subst, refl, ◌≡◌, ℕ, ◌<◌, ◌∙◌, Bool, map, true, false, []}
+use Rattle.std.proofs.Common.{rules, arith, sym, ap, subst, refl, ◌≡◌, ℕ, ◌<◌, ◌∙◌, Bool, List, map, true, false}
 use Rattle.std.proofs.lemmas.Grind.{common_steps}
+use Rattle.std.proofs.lemmas.Result.{err_from_is_err_and}
 use Rattle.std.specs.Prelude.{option_map}
 use Rattle.std.specs.Option.{option_copied}
-use Rattle.ec_core.specs.declared.expressions.Node.{the_lemmas as node_lemmas}
-use Rattle.ec_core.specs.Plain.{PlainType, PlainNode, io, no_expr, an_expr, plain_place, plain_program, plain_function, plain_expr, plain_exprs, plain_node, plain_kind, plain_stmt, plain_stmts, plain_type}
-use Rattle.ec_core.specs.State.{State, Outcome}
-use Rattle.ec_core.specs.Statements.{Exit, ending, effect_of, going_on, calls_within}
-use Rattle.ec_core.specs.declared.expressions.BinOp.{BinOp}
-use Rattle.ec_core.specs.Typing.{int, HaveUnaryTypes, HaveCompoundTypes}
-use Rattle.ec_core.specs.Valid.{ValidExpr, ValidOption}
+use Rattle.ec_core.specs.declared.values.Value.{Value}
+use Rattle.ec_core.specs.Words.{function_words}
+use Rattle.ec_interp.specs.Suits.{AreArgumentsOf}
+use Rattle.ec_core.specs.Plain.{PlainType, PlainNode, PlainKind, call, block, statement, plain_place, plain_program, plain_function, plain_expr, plain_exprs, plain_node, plain_kind, plain_stmt, plain_stmts, plain_type}
+use Rattle.ec_core.specs.State.{State, Outcome, worked}
+use Rattle.ec_core.specs.Statements.{Exit, effect_of, going_on, calls_within}
+use Rattle.ec_core.specs.Typing.{HaveUnaryTypes}
+use Rattle.ec_core.specs.Valid.{ValidExpr}
 use Rattle.ec_core.specs.ValueTypes.{HasType, IsTypedState}
-use Rattle.ec_interp.specs.Suits.{RunsNode}
+use Rattle.ec_interp.specs.Does.{DoesNode, DoesStmt, plain_other}
 use Rattle.ec_interp.specs.Views.{plain_optional, seen, seen_exit, setting_of}
 use Rattle.ec_interp.specs.Weights.{node_weight, exprs_weight, kind_weight, stmts_weight, bodies}
-use Rattle.ec_interp.proofs.Parts.{plain_call, plain_block, plain_local, lighter_expr, lighter_stmt, lighter_body, turns_one, one_less, value_call, effect_block, first_is_block, first_is_other, block_lighter, block_valid, weight_call, weight_block}
+use Rattle.ec_interp.proofs.Parts.{plain_call, plain_block, plain_local, lighter_expr, lighter_stmt, lighter_body, turns_one, calls_one, one_less, first_is_block, first_is_other, block_lighter, block_valid, weight_call, weight_block}
 use Rattle.ec_interp.proofs.Operands.{number_of}
-use Rattle.ec_interp.proofs.Steps.{part, later, worked_typed, node_expr, node_place, statement_expr, statement_in, loop_turn, loop_later, test_later, test_condition, test_last, declared_leaves, left_next, exprs_next, stmts_next, leaves_next, body_runs, after_value, after_place, after_read, after_condition, after_option, after_test, after_evaluated, after_going, after_statement, after_first, after_begin, after_parameters, old_operand, one_operand, step_types, call_arguments}
+use Rattle.ec_interp.proofs.Passing.{suited, shown, told, stops_of, stopped, passes, passes_second, full, ended_none}
+use Rattle.ec_interp.proofs.Steps.{part, later, worked_typed, node_expr, node_place, statement_expr, statement_in, loop_turn, loop_later, test_later, test_condition, test_last, declared_leaves, left_next, exprs_next, stmts_next, leaves_next, exprs_step, stmts_step, leaves_step, branch_is, body_runs, after_value, after_place, after_read, after_condition, after_option, after_test, after_evaluated, after_going, after_statement, after_first, after_parameters, after_begin, old_operand, call_arguments, called_arguments}
 use Rattle.ec_interp.proofs.run.+run.Goals as goal
 
-pub node_value-values_of-requires : goal.node_value-values_of-requires
-node_value-values_of-requires t c =
+pub node_value-call_with-requires : goal.node_value-call_with-requires
+node_value-call_with-requires t c =
     let e = weight_call c.in-Call.g c.in-Call.args in
     let i = ap (λ node. node_weight (plain_node node)) c.in-Call.is in
     let a = ap (λ es. exprs_weight (plain_exprs es)) c.as_slice.ensures in
     let d = c.decreases in
     (omega (arith, e, i, a, d), c.requires)
-
-pub node_value-returns-in_err-xs-in-Call-clause-shows : goal.node_value-returns-in_err-xs-in-Call-clause-shows
-node_value-returns-in_err-xs-in-Call-clause-shows t c =
-    let f = c.args.f.now in
-    let w = setting_of f.program.now f.io.now f.inputs.now in
-    rw (c.in-Call.is, value_call w (calls_within w f.turns c.args.depth) (plain_type c.args.ty.now) c.args.mode c.in-Call.g c.in-Call.args (seen c.args.s.now), ← c.as_slice.ensures) (first_of (search rules, grind (arith, common_steps)))
-
-pub node_value-returns-in_err-x-in-Call-clause-shows : goal.node_value-returns-in_err-x-in-Call-clause-shows
-node_value-returns-in_err-x-in-Call-clause-shows t c =
-    let f = c.args.f.now in
-    let w = setting_of f.program.now f.io.now f.inputs.now in
-    rw (c.in-Call.is, value_call w (calls_within w f.turns c.args.depth) (plain_type c.args.ty.now) c.args.mode c.in-Call.g c.in-Call.args (seen c.args.s.now), ← c.as_slice.ensures) (first_of (search rules, grind (arith, common_steps)))
-
-pub node_value-returns-in_ok-x-in-Call-clause-shows : goal.node_value-returns-in_ok-x-in-Call-clause-shows
-node_value-returns-in_ok-x-in-Call-clause-shows t c =
-    let f = c.args.f.now in
-    let w = setting_of f.program.now f.io.now f.inputs.now in
-    rw (c.in-Call.is, value_call w (calls_within w f.turns c.args.depth) (plain_type c.args.ty.now) c.args.mode c.in-Call.g c.in-Call.args (seen c.args.s.now), ← c.as_slice.ensures) (first_of (search rules, grind (arith, common_steps)))
 
 pub values_of-value_of-requires : goal.values_of-value_of-requires
 values_of-value_of-requires t c = first_of (grind (arith, common_steps, lighter_expr), search (rules, lighter_expr))
@@ -53,52 +38,13 @@ initialising-value_of-requires t c = first_of (grind (arith, common_steps, light
 pub effects_of-effect_of-requires : goal.effects_of-effect_of-requires
 effects_of-effect_of-requires t c = first_of (grind (arith, common_steps, lighter_stmt), search (rules, lighter_stmt))
 
-pub effect_of-effects_of-requires : goal.effect_of-effects_of-requires
-effect_of-effects_of-requires t c =
+pub effect_of-block-requires : goal.effect_of-block-requires
+effect_of-block-requires t c =
     let e = weight_block c.in-Block.all in
     let i = ap (λ kind. kind_weight (plain_kind kind)) c.in-Block.is in
-    let a = ap (λ ss. stmts_weight (plain_stmts ss)) c.as_slice-all.ensures in
+    let a = ap (λ ss. stmts_weight (plain_stmts ss)) c.as_slice.ensures in
     let d = c.decreases in
     (omega (arith, e, i, a, d), c.requires)
-
-pub effect_of-returns-in_err-x-in-Block-clause-shows : goal.effect_of-returns-in_err-x-in-Block-clause-shows
-effect_of-returns-in_err-x-in-Block-clause-shows t c =
-    let f = c.args.f.now in
-    let w = setting_of f.program.now f.io.now f.inputs.now in
-    rw (c.in-Block.is, effect_block w (calls_within w f.turns c.args.depth) f.turns c.in-Block.all (seen c.args.s.now), ← c.as_slice-all.ensures) (first_of (search rules, grind (arith, common_steps)))
-
-pub effect_of-returns-in_ok-x-in-Block-clause-shows : goal.effect_of-returns-in_ok-x-in-Block-clause-shows
-effect_of-returns-in_ok-x-in-Block-clause-shows t c =
-    let f = c.args.f.now in
-    let w = setting_of f.program.now f.io.now f.inputs.now in
-    rw (c.in-Block.is, effect_block w (calls_within w f.turns c.args.depth) f.turns c.in-Block.all (seen c.args.s.now), ← c.as_slice-all.ensures) (first_of (search rules, grind (arith, common_steps)))
-
-pub effect_of-returns-in_ok-x-in-While-clause-shows : goal.effect_of-returns-in_ok-x-in-While-clause-shows
-effect_of-returns-in_ok-x-in-While-clause-shows t c = rw (c.in-While.is, ← c.deref-in-While.ensures) c.in_ok-x-in-While.ensures.shows
-
-pub effect_of-returns-in_err-x-in-While-clause-shows : goal.effect_of-returns-in_err-x-in-While-clause-shows
-effect_of-returns-in_err-x-in-While-clause-shows t c = rw (c.in-While.is, ← c.deref-in-While.ensures) (first_of (search rules, grind (arith, common_steps)))
-
-pub effect_of-returns-in_err-x-in-DoWhile-clause-shows : goal.effect_of-returns-in_err-x-in-DoWhile-clause-shows
-effect_of-returns-in_err-x-in-DoWhile-clause-shows t c = rw (c.in-DoWhile.is, ← c.deref-in-DoWhile.ensures) (first_of (search rules, grind (arith, common_steps)))
-
-pub effect_of-returns-in_ok-x-in-None-first-clause-shows : goal.effect_of-returns-in_ok-x-in-None-first-clause-shows
-effect_of-returns-in_ok-x-in-None-first-clause-shows t c =
-    rw (c.in-For.is, c.in-None-first.is, ← c.as_ref.ensures.value, ← c.as_ref-in-None-first.ensures.value, ← c.deref-in-None-first.ensures) (ap (ending []) c.in_ok-x-in-None-first.ensures.shows)
-
-pub effect_of-returns-in_err-x-in-None-first-clause-shows : goal.effect_of-returns-in_err-x-in-None-first-clause-shows
-effect_of-returns-in_err-x-in-None-first-clause-shows t c =
-    rw (c.in-For.is, c.in-None-first.is, ← c.as_ref.ensures.value, ← c.as_ref-in-None-first.ensures.value, ← c.deref-in-None-first.ensures) (first_of (search rules, grind (arith, common_steps)))
-
-pub effect_of-returns-in_ok-x-in-Some-first-clause-shows : goal.effect_of-returns-in_ok-x-in-Some-first-clause-shows
-effect_of-returns-in_ok-x-in-Some-first-clause-shows t c =
-    let shown = rw c.deref-in-Some-first.ensures at c.in_ok-x-in-Some-first.ensures.shows in
-    let last = rw c.deref-in-Some-first-3.ensures at c.end_first.ensures in
-    rw (c.in-For.is, c.in-Some-first.is, ← c.as_ref-in-Some-first.ensures.value, ← c.as_ref-in-Some-first-2.ensures.value, ← c.deref-in-Some-first-2.ensures, shown, last) refl
-
-pub effect_of-returns-in_err-x-in-Some-first-clause-shows : goal.effect_of-returns-in_err-x-in-Some-first-clause-shows
-effect_of-returns-in_err-x-in-Some-first-clause-shows t c =
-    rw (c.in-For.is, c.in-Some-first.is, ← c.as_ref-in-Some-first.ensures.value, ← c.as_ref-in-Some-first-2.ensures.value, ← c.deref-in-Some-first-2.ensures, ← c.deref-in-Some-first.ensures) (first_of (search rules, grind (arith, common_steps)))
 
 pub first_effect-effects_of-requires : goal.first_effect-effects_of-requires
 first_effect-effects_of-requires t c =
@@ -106,84 +52,520 @@ first_effect-effects_of-requires t c =
     let d = c.decreases in
     (omega (arith, e, d), c.requires)
 
-pub first_effect-returns-in_ok-x-in-Some-clause-shows : goal.first_effect-returns-in_ok-x-in-Some-clause-shows
-first_effect-returns-in_ok-x-in-Some-clause-shows t c =
-    let f = c.args.f.now in
-    let w = setting_of f.program.now f.io.now f.inputs.now in
-    first_is_block w (calls_within w f.turns c.args.depth) f.turns (plain_stmt c.args.first.now) (plain_stmts c.in-Some.all.now) (seen c.args.s.now) c.in-Some.ensures ∙ c.in_ok-x-in-Some.ensures.shows
+pub value_of-returns-in_err-begin_node : goal.value_of-returns-in_err-begin_node
+value_of-returns-in_err-begin_node t c = full _ (λ x. x) c.from_residual.result _ _ c.from_residual.ensures.1
 
-pub first_effect-returns-in_err-x-in-Some-clause-shows : goal.first_effect-returns-in_err-x-in-Some-clause-shows
-first_effect-returns-in_err-x-in-Some-clause-shows t c =
-    let f = c.args.f.now in
-    let w = setting_of f.program.now f.io.now f.inputs.now in
-    rw (first_is_block w (calls_within w f.turns c.args.depth) f.turns (plain_stmt c.args.first.now) (plain_stmts c.in-Some.all.now) (seen c.args.s.now) c.in-Some.ensures) (first_of (search rules, grind (arith, common_steps)))
+pub value_of-returns : goal.value_of-returns
+value_of-returns t c =
+    rw (← c.in_ok-begin_node.ensures) (suited (λ x. x) c.node_value.result _ _ (λ h. record { given = h.given; typed = worked_typed c.args.f.now _ _ _ c.in_ok-begin_node.ensures h.typed; function = h.function; known = h.keeps.0; types = h.keeps.1; parts = h.keeps.2 }) c.node_value.ensures)
 
-pub first_effect-returns-in_ok-x-in-None-clause-shows : goal.first_effect-returns-in_ok-x-in-None-clause-shows
-first_effect-returns-in_ok-x-in-None-clause-shows t c =
-    let f = c.args.f.now in
-    let w = setting_of f.program.now f.io.now f.inputs.now in
-    first_is_other w (calls_within w f.turns c.args.depth) f.turns (plain_stmt c.args.first.now) (seen c.args.s.now) c.in-None.ensures ∙ c.in_ok-x-in-None.ensures.shows
+pub node_value-returns-in-Null : goal.node_value-returns-in-Null
+node_value-returns-in-Null t c = rw (c.in-Null.is) refl
 
-pub first_effect-returns-in_err-x-in-None-clause-shows : goal.first_effect-returns-in_err-x-in-None-clause-shows
-first_effect-returns-in_err-x-in-None-clause-shows t c =
-    let f = c.args.f.now in
-    let w = setting_of f.program.now f.io.now f.inputs.now in
-    rw (first_is_other w (calls_within w f.turns c.args.depth) f.turns (plain_stmt c.args.first.now) (seen c.args.s.now) c.in-None.ensures) (first_of (search rules, grind (arith, common_steps)))
+pub node_value-returns-in-Load : goal.node_value-returns-in-Load
+node_value-returns-in-Load t c = rw (c.in-Load.is) (c.load.ensures)
 
-pub first_and_loop-returns-in-Some-clause-shows : goal.first_and_loop-returns-in-Some-clause-shows
-first_and_loop-returns-in-Some-clause-shows t c = rw (c.in_ok-left.ensures.shows) (c.in-Some.ensures (seen c.first_effect.new.s) _)
+pub node_value-returns-in-AddressOf : goal.node_value-returns-in-AddressOf
+node_value-returns-in-AddressOf t c =
+    rw (c.in-AddressOf.is) (suited (λ x. x) c.address_of.result _ _ (λ h. (plain_type c.args.ty.now, h)) c.address_of.ensures)
 
-pub first_and_loop-returns-in_err-x-clause-shows : goal.first_and_loop-returns-in_err-x-clause-shows
-first_and_loop-returns-in_err-x-clause-shows t c = rw (c.in_ok-left.ensures.shows, c.in_default.ensures) (first_of (search rules, grind (arith, common_steps)))
+pub node_value-returns-in-Unary : goal.node_value-returns-in-Unary
+node_value-returns-in-Unary t c = rw (c.in-Unary.is, ← c.deref.ensures) (c.unary.ensures)
 
-pub turning_loop-returns-in-Some-clause-shows : goal.turning_loop-returns-in-Some-clause-shows
-turning_loop-returns-in-Some-clause-shows t c =
-    let f = c.args.f.now in
-    let w = setting_of f.program.now f.io.now f.inputs.now in
-    let calls = calls_within w f.turns c.args.depth in
-    let body : State → Outcome Exit = λ s. effect_of w calls f.turns (plain_stmt c.args.body.now) s in
+pub node_value-returns-in-Assign : goal.node_value-returns-in-Assign
+node_value-returns-in-Assign t c = rw (c.in-Assign.is, ← c.deref-in-Assign.ensures) (c.assign.ensures)
+
+pub node_value-returns-in-Step : goal.node_value-returns-in-Step
+node_value-returns-in-Step t c = rw (c.in-Step.is) (c.step.ensures)
+
+pub node_value-returns-in-Not : goal.node_value-returns-in-Not
+node_value-returns-in-Not t c =
+    rw (c.in-Not.is, ← c.deref-in-Not.ensures) (suited (λ x. x) c.logical_not.result _ _ (λ h. (plain_type c.args.ty.now, h)) c.logical_not.ensures)
+
+pub node_value-returns-in-And : goal.node_value-returns-in-And
+node_value-returns-in-And t c =
+    rw (c.in-And.is, ← c.deref-in-And.ensures, ← c.deref-in-And-2.ensures) (suited (λ x. x) c.logical_and.result _ _ (λ h. (plain_type c.args.ty.now, h)) c.logical_and.ensures)
+
+pub node_value-returns-in-Or : goal.node_value-returns-in-Or
+node_value-returns-in-Or t c =
+    rw (c.in-Or.is, ← c.deref-in-Or.ensures, ← c.deref-in-Or-2.ensures) (suited (λ x. x) c.logical_or.result _ _ (λ h. (plain_type c.args.ty.now, h)) c.logical_or.ensures)
+
+pub node_value-returns-in-Cond : goal.node_value-returns-in-Cond
+node_value-returns-in-Cond t c =
+    rw (c.in-Cond.is, ← c.deref-in-Cond.ensures, ← c.deref-in-Cond-2.ensures, ← c.deref-in-Cond-3.ensures) (suited (λ x. x) c.conditional.result _ _ (λ h. (plain_type c.args.ty.now, h)) c.conditional.ensures)
+
+pub node_value-returns-in-Comma : goal.node_value-returns-in-Comma
+node_value-returns-in-Comma t c =
+    rw (c.in-Comma.is, ← c.deref-in-Comma.ensures, ← c.deref-in-Comma-2.ensures) (suited (λ x. x) c.comma.result _ _ (λ h. (plain_type c.args.ty.now, h)) c.comma.ensures)
+
+pub node_value-returns-in-Call : goal.node_value-returns-in-Call
+node_value-returns-in-Call t c =
+    let is : plain_node c.args.node.now ≡ call c.in-Call.g (plain_exprs c.as_slice.result.now) = ap plain_node c.in-Call.is ∙ (plain_call c.in-Call.g c.in-Call.args ∙ ap (λ es. call c.in-Call.g (plain_exprs es)) (sym c.as_slice.ensures)) in
+    subst (λ (node : PlainNode). DoesNode c.args.f.now c.args.depth (plain_type c.args.ty.now) c.args.mode node c.call_with.result (seen c.args.s.now) (seen c.call_with.new.s)) (sym is) (suited (λ x. x) c.call_with.result _ _ (λ h. (plain_type c.args.ty.now, h)) c.call_with.ensures)
+
+pub node_value-returns-in-Group : goal.node_value-returns-in-Group
+node_value-returns-in-Group t c =
+    rw (c.in-Group.is) (shown (λ x. x) c.operate_group.result _ _ c.operate_group.ensures.shows (λ h. c.operate_group.ensures.answered))
+
+pub load-returns-in_err-to : goal.load-returns-in_err-to
+load-returns-in_err-to t c =
+    passes (λ x. x) c.from_residual.result c.in_err-to.field-0.0 _ _ _ c.from_residual.ensures.1 (λ h. node_place c.args.f.now (plain_place c.args.p.now) _ h h.typed h.parts) c.in_err-to.ensures
+
+pub load-returns : goal.load-returns
+load-returns t c =
+    rw (c.in_ok-to.ensures) (shown (λ x. x) c.read.result _ _ c.read.ensures.shows (λ h. c.read.ensures.answered h.given))
+
+pub address_of-returns-in_err-to : goal.address_of-returns-in_err-to
+address_of-returns-in_err-to t c =
+    passes (λ x. x) c.from_residual.result c.in_err-to.field-0.0 _ _ _ c.from_residual.ensures.1 (λ k. let h = k.1 in node_place c.args.f.now (plain_place c.args.p.now) _ h h.typed h.parts.0) c.in_err-to.ensures
+
+pub address_of-returns : goal.address_of-returns
+address_of-returns t c = rw (c.in_ok-to.ensures) refl
+
+pub unary-returns-in_err-x : goal.unary-returns-in_err-x
+unary-returns-in_err-x t c =
+    passes (λ x. x) c.from_residual.result c.in_err-x.field-0.0 _ _ _ c.from_residual.ensures.1 (λ h. node_expr c.args.f.now (plain_expr c.args.a.now) _ h h.typed h.parts) c.in_err-x.ensures
+
+pub unary-returns : goal.unary-returns
+unary-returns t c =
+    rw (c.in_ok-x.ensures) (told c.unary_value.result _ _ c.unary_value.ensures.tells (λ h. (let q = after_value c.args.f.now c.args.f.now.turns c.args.depth (plain_expr c.args.a.now) c.in_ok-x.x _ _ (node_expr c.args.f.now (plain_expr c.args.a.now) _ h h.typed h.parts) c.in_ok-x.ensures in c.unary_value.ensures.answered (number_of (plain_program c.args.f.now.program.now) (plain_type c.args.ty.now) (HaveUnaryTypes c.args.op) c.in_ok-x.x (subst (λ (z : PlainType). HasType (plain_program c.args.f.now.program.now) z c.in_ok-x.x) h.types.0 q.value.typed) h.types.1))))
+
+pub binary-returns-in_err-x : goal.binary-returns-in_err-x
+binary-returns-in_err-x t c =
+    passes (λ x. x) c.from_residual.result c.in_err-x.field-0.0 _ _ _ c.from_residual.ensures.1 (λ h. node_expr c.args.f.now (plain_expr c.args.a.now) _ h h.typed h.parts.0) c.in_err-x.ensures
+
+pub binary-returns-in_err-y : goal.binary-returns-in_err-y
+binary-returns-in_err-y t c =
+    rw (c.in_ok-x.ensures) (passes (λ x. x) c.from_residual-in_err-y.result c.in_err-y.field-0.0 _ _ _ c.from_residual-in_err-y.ensures.1 (λ h. (let q = after_value c.args.f.now c.args.f.now.turns c.args.depth (plain_expr c.args.a.now) c.in_ok-x.x _ _ (node_expr c.args.f.now (plain_expr c.args.a.now) _ h h.typed h.parts.0) c.in_ok-x.ensures in node_expr c.args.f.now (plain_expr c.args.b.now) _ h q.typed h.parts.1)) c.in_err-y.ensures)
+
+pub binary-returns : goal.binary-returns
+binary-returns t c =
+    rw (c.in_ok-x.ensures, c.in_ok-y.ensures) (told c.binary_of.result _ _ c.binary_of.ensures.tells (λ h. (let q = after_value c.args.f.now c.args.f.now.turns c.args.depth (plain_expr c.args.a.now) c.in_ok-x.x _ _ (node_expr c.args.f.now (plain_expr c.args.a.now) _ h h.typed h.parts.0) c.in_ok-x.ensures in let r = after_value c.args.f.now c.args.f.now.turns c.args.depth (plain_expr c.args.b.now) c.in_ok-y.y _ _ (node_expr c.args.f.now (plain_expr c.args.b.now) _ h q.typed h.parts.1) c.in_ok-y.ensures in c.binary_of.ensures.answered h.given q.value r.value h.types)))
+
+pub convert-returns-in_err-x : goal.convert-returns-in_err-x
+convert-returns-in_err-x t c =
+    passes (λ x. x) c.from_residual.result c.in_err-x.field-0.0 _ _ _ c.from_residual.ensures.1 (λ h. node_expr c.args.f.now (plain_expr c.args.a.now) _ h h.typed h.parts) c.in_err-x.ensures
+
+pub convert-returns : goal.convert-returns
+convert-returns t c =
+    rw (c.in_ok-x.ensures) (told c.converted.result _ _ c.converted.ensures.tells (λ h. (let q = after_value c.args.f.now c.args.f.now.turns c.args.depth (plain_expr c.args.a.now) c.in_ok-x.x _ _ (node_expr c.args.f.now (plain_expr c.args.a.now) _ h h.typed h.parts) c.in_ok-x.ensures in c.converted.ensures.answered h.given q.value h.types.0 h.types.1)))
+
+pub assign-returns-in_err-to : goal.assign-returns-in_err-to
+assign-returns-in_err-to t c =
+    passes (λ x. x) c.from_residual.result c.in_err-to.field-0.0 _ _ _ c.from_residual.ensures.1 (λ h. node_place c.args.f.now (plain_place c.args.p.now) _ h h.typed h.parts.0) c.in_err-to.ensures
+
+pub assign-returns-in_err-x : goal.assign-returns-in_err-x
+assign-returns-in_err-x t c =
+    rw (c.in_ok-to.ensures) (passes (λ x. x) c.from_residual-in_err-x.result c.in_err-x.field-0.0 _ _ _ c.from_residual-in_err-x.ensures.1 (λ h. (let k = after_place c.args.f.now c.args.f.now.turns c.args.depth (plain_place c.args.p.now) c.in_ok-to.to _ _ (node_place c.args.f.now (plain_place c.args.p.now) _ h h.typed h.parts.0) c.in_ok-to.ensures in node_expr c.args.f.now (plain_expr c.args.a.now) _ h k h.parts.1)) c.in_err-x.ensures)
+
+pub assign-returns : goal.assign-returns
+assign-returns t c =
+    rw (c.in_ok-to.ensures, c.in_ok-x.ensures) (shown (λ x. x) c.write.result _ _ c.write.ensures.shows (λ h. c.write.ensures.answered h.given))
+
+pub compound-returns-in_err-to : goal.compound-returns-in_err-to
+compound-returns-in_err-to t c =
+    passes (λ x. x) c.from_residual.result c.in_err-to.field-0.0 _ _ _ c.from_residual.ensures.1 (λ h. node_place c.args.f.now (plain_place c.args.p.now) _ h h.typed h.parts.0) c.in_err-to.ensures
+
+pub compound-returns-in_err-old : goal.compound-returns-in_err-old
+compound-returns-in_err-old t c =
+    rw (c.in_ok-to.ensures) (passes (λ x. x) c.from_residual-in_err-old.result c.in_err-old.field-0.0 _ _ _ c.from_residual-in_err-old.ensures.1 (λ h. h.given) (stops_of (λ (x : Value). x) c.in_err-old.field-0.0 _ _ c.in_err-old.ensures.shows c.in_err-old.ensures.answered))
+
+pub compound-returns-in_err-x : goal.compound-returns-in_err-x
+compound-returns-in_err-x t c =
+    rw (c.in_ok-to.ensures, c.in_ok-old.ensures.shows) (passes (λ x. x) c.from_residual-in_err-x.result c.in_err-x.field-0.0 _ _ _ c.from_residual-in_err-x.ensures.1 (λ h. (let k = after_place c.args.f.now c.args.f.now.turns c.args.depth (plain_place c.args.p.now) c.in_ok-to.to _ _ (node_place c.args.f.now (plain_place c.args.p.now) _ h h.typed h.parts.0) c.in_ok-to.ensures in let m = after_read c.args.f.now (plain_type c.args.ty.now) (plain_place c.args.p.now) c.in_ok-to.to c.in_ok-old.old _ _ h.given k c.in_ok-old.ensures.shows in node_expr c.args.f.now (plain_expr c.args.a.now) _ h m.typed h.parts.1)) c.in_err-x.ensures)
+
+pub compound-returns : goal.compound-returns
+compound-returns t c =
+    rw (c.in_ok-to.ensures, c.in_ok-old.ensures.shows, c.in_ok-x.ensures) (shown (λ x. x) c.compounded.result _ _ c.compounded.ensures.shows (λ h. (let k = after_place c.args.f.now c.args.f.now.turns c.args.depth (plain_place c.args.p.now) c.in_ok-to.to _ _ (node_place c.args.f.now (plain_place c.args.p.now) _ h h.typed h.parts.0) c.in_ok-to.ensures in let m = after_read c.args.f.now (plain_type c.args.ty.now) (plain_place c.args.p.now) c.in_ok-to.to c.in_ok-old.old _ _ h.given k c.in_ok-old.ensures.shows in let q = after_value c.args.f.now c.args.f.now.turns c.args.depth (plain_expr c.args.a.now) c.in_ok-x.x _ _ (node_expr c.args.f.now (plain_expr c.args.a.now) _ h m.typed h.parts.1) c.in_ok-x.ensures in c.compounded.ensures.answered h.given (old_operand c.args.f.now _ _ _ h m.value) q.value h.types.1)))
+
+pub step-returns-in_err-to : goal.step-returns-in_err-to
+step-returns-in_err-to t c =
+    passes (λ x. x) c.from_residual.result c.in_err-to.field-0.0 _ _ _ c.from_residual.ensures.1 (λ h. node_place c.args.f.now (plain_place c.args.p.now) _ h h.typed h.parts) c.in_err-to.ensures
+
+pub step-returns-in_err-old : goal.step-returns-in_err-old
+step-returns-in_err-old t c =
+    rw (c.in_ok-to.ensures) (passes (λ x. x) c.from_residual-in_err-old.result c.in_err-old.field-0.0 _ _ _ c.from_residual-in_err-old.ensures.1 (λ h. h.given) (stops_of (λ (x : Value). x) c.in_err-old.field-0.0 _ _ c.in_err-old.ensures.shows c.in_err-old.ensures.answered))
+
+pub step-returns : goal.step-returns
+step-returns t c =
+    rw (c.in_ok-to.ensures, c.in_ok-old.ensures.shows) (shown (λ x. x) c.stepped.result _ _ c.stepped.ensures.shows (λ h. (let k = after_place c.args.f.now c.args.f.now.turns c.args.depth (plain_place c.args.p.now) c.in_ok-to.to _ _ (node_place c.args.f.now (plain_place c.args.p.now) _ h h.typed h.parts) c.in_ok-to.ensures in let m = after_read c.args.f.now (plain_type c.args.ty.now) (plain_place c.args.p.now) c.in_ok-to.to c.in_ok-old.old _ _ h.given k c.in_ok-old.ensures.shows in c.stepped.ensures.answered h.given (old_operand c.args.f.now _ _ _ h m.value) h.types.0)))
+
+pub condition-returns-in_err-x : goal.condition-returns-in_err-x
+condition-returns-in_err-x t c =
+    passes (λ x. x) c.from_residual.result c.in_err-x.field-0.0 _ _ _ c.from_residual.ensures.1 (λ h. h) c.in_err-x.ensures
+
+pub condition-returns : goal.condition-returns
+condition-returns t c =
+    rw (c.in_ok-x.ensures) (told c.truth_of.result _ _ c.truth_of.ensures.tells (λ h. c.truth_of.ensures.answered h.given))
+
+pub logical_not-returns-in_err-holds : goal.logical_not-returns-in_err-holds
+logical_not-returns-in_err-holds t c =
+    passes (λ x. x) c.from_residual.result c.in_err-holds.field-0.0 _ _ _ c.from_residual.ensures.1 (λ k. let h = k.1 in node_expr c.args.f.now (plain_expr c.args.a.now) _ h h.typed h.parts) c.in_err-holds.ensures
+
+pub logical_not-returns : goal.logical_not-returns
+logical_not-returns t c = rw (c.in_ok-holds.ensures, c.truth_number.ensures) refl
+
+pub logical_and-returns-in_err-condition : goal.logical_and-returns-in_err-condition
+logical_and-returns-in_err-condition t c =
+    passes (λ x. x) c.from_residual.result c.in_err-condition.field-0.0 _ _ _ c.from_residual.ensures.1 (λ k. let h = k.1 in node_expr c.args.f.now (plain_expr c.args.a.now) _ h h.typed h.parts.0) c.in_err-condition.ensures
+
+pub logical_and-returns-then-not-branch : goal.logical_and-returns-then-not-branch
+logical_and-returns-then-not-branch t c = rw (c.in_ok-condition.ensures, c.if-not-branch.true, c.truth_number.ensures) refl
+
+pub logical_and-returns-in_err-holds : goal.logical_and-returns-in_err-holds
+logical_and-returns-in_err-holds t c =
+    rw (c.in_ok-condition.ensures, c.if-not-branch.false) (passes (λ x. x) c.from_residual-in_err-holds.result c.in_err-holds.field-0.0 _ _ _ c.from_residual-in_err-holds.ensures.1 (λ j. (let h = j.1 in let k = after_condition c.args.f.now c.args.f.now.turns c.args.depth (plain_expr c.args.a.now) _ _ _ (node_expr c.args.f.now (plain_expr c.args.a.now) _ h h.typed h.parts.0) c.in_ok-condition.ensures in node_expr c.args.f.now (plain_expr c.args.b.now) _ h k h.parts.1)) c.in_err-holds.ensures)
+
+pub logical_and-returns : goal.logical_and-returns
+logical_and-returns t c =
+    rw (c.in_ok-condition.ensures, c.if-not-branch.false, c.in_ok-holds.ensures, c.truth_number-2.ensures) refl
+
+pub logical_or-returns-in_err-condition : goal.logical_or-returns-in_err-condition
+logical_or-returns-in_err-condition t c =
+    passes (λ x. x) c.from_residual.result c.in_err-condition.field-0.0 _ _ _ c.from_residual.ensures.1 (λ k. let h = k.1 in node_expr c.args.f.now (plain_expr c.args.a.now) _ h h.typed h.parts.0) c.in_err-condition.ensures
+
+pub logical_or-returns-then-branch : goal.logical_or-returns-then-branch
+logical_or-returns-then-branch t c = rw (c.in_ok-condition.ensures, c.if-branch.true, c.truth_number.ensures) refl
+
+pub logical_or-returns-in_err-holds : goal.logical_or-returns-in_err-holds
+logical_or-returns-in_err-holds t c =
+    rw (c.in_ok-condition.ensures, c.if-branch.false) (passes (λ x. x) c.from_residual-in_err-holds.result c.in_err-holds.field-0.0 _ _ _ c.from_residual-in_err-holds.ensures.1 (λ j. (let h = j.1 in let k = after_condition c.args.f.now c.args.f.now.turns c.args.depth (plain_expr c.args.a.now) _ _ _ (node_expr c.args.f.now (plain_expr c.args.a.now) _ h h.typed h.parts.0) c.in_ok-condition.ensures in node_expr c.args.f.now (plain_expr c.args.b.now) _ h k h.parts.1)) c.in_err-holds.ensures)
+
+pub logical_or-returns : goal.logical_or-returns
+logical_or-returns t c =
+    rw (c.in_ok-condition.ensures, c.if-branch.false, c.in_ok-holds.ensures, c.truth_number-2.ensures) refl
+
+pub conditional-returns-in_err-condition : goal.conditional-returns-in_err-condition
+conditional-returns-in_err-condition t c =
+    passes (λ x. x) c.from_residual.result c.in_err-condition.field-0.0 _ _ _ c.from_residual.ensures.1 (λ k. let h = k.1 in node_expr c.args.f.now (plain_expr c.args.c.now) _ h h.typed h.parts.0) c.in_err-condition.ensures
+
+pub conditional-returns-then-branch : goal.conditional-returns-then-branch
+conditional-returns-then-branch t c =
+    rw (c.in_ok-condition.ensures, c.if-branch.true) (suited (λ x. x) c.value_of.result _ _ (λ j. (let h = j.1 in let k = after_condition c.args.f.now c.args.f.now.turns c.args.depth (plain_expr c.args.c.now) _ _ _ (node_expr c.args.f.now (plain_expr c.args.c.now) _ h h.typed h.parts.0) c.in_ok-condition.ensures in node_expr c.args.f.now (plain_expr c.args.a.now) _ h k h.parts.1)) c.value_of.ensures)
+
+pub conditional-returns : goal.conditional-returns
+conditional-returns t c =
+    rw (c.in_ok-condition.ensures, c.if-branch.false) (suited (λ x. x) c.value_of-2.result _ _ (λ j. (let h = j.1 in let k = after_condition c.args.f.now c.args.f.now.turns c.args.depth (plain_expr c.args.c.now) _ _ _ (node_expr c.args.f.now (plain_expr c.args.c.now) _ h h.typed h.parts.0) c.in_ok-condition.ensures in node_expr c.args.f.now (plain_expr c.args.b.now) _ h k h.parts.2)) c.value_of-2.ensures)
+
+pub comma-returns-in_err-value_of : goal.comma-returns-in_err-value_of
+comma-returns-in_err-value_of t c =
+    passes (λ x. x) c.from_residual.result c.in_err-value_of.field-0.0 _ _ _ c.from_residual.ensures.1 (λ k. let h = k.1 in node_expr c.args.f.now (plain_expr c.args.a.now) _ h h.typed h.parts.0) c.in_err-value_of.ensures
+
+pub comma-returns : goal.comma-returns
+comma-returns t c =
+    rw (c.in_ok-value_of.ensures) (suited (λ x. x) c.value_of-2.result _ _ (λ j. (let h = j.1 in let q = after_value c.args.f.now c.args.f.now.turns c.args.depth (plain_expr c.args.a.now) _ _ _ (node_expr c.args.f.now (plain_expr c.args.a.now) _ h h.typed h.parts.0) c.in_ok-value_of.ensures in node_expr c.args.f.now (plain_expr c.args.b.now) _ h q.typed h.parts.1)) c.value_of-2.ensures)
+
+pub call_with-returns-in_err-xs : goal.call_with-returns-in_err-xs
+call_with-returns-in_err-xs t c =
+    passes (λ x. x) c.from_residual.result c.in_err-xs.field-0.0 _ _ _ c.from_residual.ensures.1 (λ j. (let h = j.1 in record { given = h.given; typed = h.typed; function = h.function; keeps = h.parts })) c.in_err-xs.ensures
+
+pub call_with-returns-in_err-x : goal.call_with-returns-in_err-x
+call_with-returns-in_err-x t c =
+    rw (c.in_ok-xs.ensures, ← c.as_slice.ensures) (let p = err_from_is_err_and c.from_residual-in_err-x.result c.from_residual-in_err-x.ensures.1 in rw (p.1, p.2) (stopped c.in_err-x.field-0.0 _ _ (λ j. (let h = j.1 in let r = call_arguments c.args.f.now c.args.f.now.turns c.args.depth c.args.g j.0 (plain_exprs c.args.args.now) c.in_ok-xs.xs.items _ _ h c.in_ok-xs.ensures in record { given = h.given; typed = r.typed; arguments = subst (λ (xs : List Value). AreArgumentsOf c.args.f.now c.args.g xs) (sym c.as_slice.ensures) r.value })) c.in_err-x.ensures))
+
+pub call_with-returns : goal.call_with-returns
+call_with-returns t c = rw (c.in_ok-xs.ensures, ← c.as_slice.ensures) c.in_ok-x.ensures
+
+pub place_of-returns-in-Object : goal.place_of-returns-in-Object
+place_of-returns-in-Object t c =
+    rw (c.in-Object.is) (shown (λ to. to) c.object_place.result _ _ c.object_place.ensures.shows (λ h. c.object_place.ensures.answered))
+
+pub place_of-returns-in_err-x-in-Deref : goal.place_of-returns-in_err-x-in-Deref
+place_of-returns-in_err-x-in-Deref t c =
+    rw (c.in-Deref.is, ← c.deref.ensures) (passes (λ to. to) c.from_residual.result c.in_err-x-in-Deref.field-0.0 _ _ _ c.from_residual.ensures.1 (λ h. h) c.in_err-x-in-Deref.ensures)
+
+pub place_of-returns-in_err-work_more-in-Member : goal.place_of-returns-in_err-work_more-in-Member
+place_of-returns-in_err-work_more-in-Member t c =
+    full _ (λ to. to) c.from_residual-in_err-work_more-in-Member.result _ _ c.from_residual-in_err-work_more-in-Member.ensures.1
+
+pub place_of-returns-in_err-to-in-Member : goal.place_of-returns-in_err-to-in-Member
+place_of-returns-in_err-to-in-Member t c =
+    rw (c.in-Member.is, ← c.deref-in-Member.ensures, ← c.in_ok-work_more-in-Member.ensures) (passes (λ to. to) c.from_residual-in_err-to-in-Member.result c.in_err-to-in-Member.field-0.0 _ _ _ c.from_residual-in_err-to-in-Member.ensures.1 (λ h. record { given = h.given; typed = worked_typed c.args.f.now _ _ _ c.in_ok-work_more-in-Member.ensures h.typed; function = h.function; keeps = h.keeps }) c.in_err-to-in-Member.ensures)
+
+pub port_operation-returns-in_err-i : goal.port_operation-returns-in_err-i
+port_operation-returns-in_err-i t c =
+    passes (λ x. x) c.from_residual.result c.in_err-i.field-0.0 _ _ _ c.from_residual.ensures.1 (λ j. (let h = j.1 in record { given = h.given; typed = h.typed; function = h.function; keeps = h.parts.0 })) c.in_err-i.ensures
+
+pub port_operation-returns-in_err-v : goal.port_operation-returns-in_err-v
+port_operation-returns-in_err-v t c =
+    rw (c.in_ok-i.ensures) (passes (λ x. x) c.from_residual-in_err-v.result c.in_err-v.field-0.0 _ _ _ c.from_residual-in_err-v.ensures.1 (λ j. (let h = j.1 in let k = after_option c.args.f.now c.args.f.now.turns c.args.depth (plain_optional (option_copied c.args.index)) c.in_ok-i.i _ _ (record { given = h.given; typed = h.typed; function = h.function; keeps = h.parts.0 }) c.in_ok-i.ensures in record { given = h.given; typed = k; function = h.function; keeps = h.parts.1 })) c.in_err-v.ensures)
+
+pub port_operation-returns : goal.port_operation-returns
+port_operation-returns t c =
+    rw (c.in_ok-i.ensures, c.in_ok-v.ensures) (shown (λ x. x) c.operate.result _ _ c.operate.ensures.shows (λ j. c.operate.ensures.answered (j.1).given))
+
+pub option_value-returns-in-None : goal.option_value-returns-in-None
+option_value-returns-in-None t c = rw (c.in-None.is, c.no_value.ensures) refl
+
+pub option_value-returns-in-Some : goal.option_value-returns-in-Some
+option_value-returns-in-Some t c = rw (c.in-Some.is) c.value_of.ensures
+
+pub values_of-returns-in_err-x : goal.values_of-returns-in_err-x
+values_of-returns-in_err-x t c =
+    rw (← c.loop-e.invariant.0, exprs_step c.args.f.now c.args.f.now.turns c.args.depth c.args.es.now c.loop-e.e-index c.e-item.result (seen c.loop-e.s) (omega (arith, c.loop-e-test.true)) c.e-item.is) (passes_second (λ xs. xs.items) c.from_residual.result c.in_err-x.field-0.0 _ _ _ _ c.from_residual.ensures.1 (λ h. (let v = exprs_next c.args.f.now _ c.args.es.now c.loop-e.e-index c.e-item.result (omega (arith, c.loop-e-test.true)) c.e-item.is (c.loop-e.invariant.1 h) in part c.args.f.now (λ (g : ℕ). ValidExpr (plain_program c.args.f.now.program.now) c.args.f.now.io.now g (plain_expr c.e-item.result)) (λ g k. k.0) v)) c.in_err-x.ensures)
+
+pub values_of-returns-in_err-push_value : goal.values_of-returns-in_err-push_value
+values_of-returns-in_err-push_value t c =
+    full _ (λ xs. xs.items) c.from_residual-in_err-push_value.result _ _ c.from_residual-in_err-push_value.ensures.1
+
+pub values_of-loop-e-preserved : goal.values_of-loop-e-preserved
+values_of-loop-e-preserved t c = (
+  first_of (search rules, grind (arith, common_steps)),
+  λ h. (let v = exprs_next c.args.f.now _ c.args.es.now c.loop-e.e-index c.e-item.result (omega (arith, c.loop-e-test.true)) c.e-item.is (c.loop-e.invariant.1 h) in
+      let q = after_value c.args.f.now c.args.f.now.turns c.args.depth (plain_expr c.e-item.result) c.in_ok-x.x _ _ (part c.args.f.now (λ (g : ℕ). ValidExpr (plain_program c.args.f.now.program.now) c.args.f.now.io.now g (plain_expr c.e-item.result)) (λ g k. k.0) v) c.in_ok-x.ensures in
+      record { given = v.given; typed = q.typed; function = v.function; keeps = v.keeps.1 }),
+)
+
+pub test_of-returns-in-None : goal.test_of-returns-in-None
+test_of-returns-in-None t c = rw (c.in-None.is) refl
+
+pub test_of-returns-in-Some : goal.test_of-returns-in-Some
+test_of-returns-in-Some t c =
+    rw (c.in-Some.is) (suited (λ b. b) c.condition.result _ _ (λ h. record { given = h.given; typed = h.typed; function = h.function; keeps = h.keeps.0 }) c.condition.ensures)
+
+pub evaluated-returns-in-None : goal.evaluated-returns-in-None
+evaluated-returns-in-None t c = rw (c.in-None.is) refl
+
+pub evaluated-returns-in_err-value_of-in-Some : goal.evaluated-returns-in_err-value_of-in-Some
+evaluated-returns-in_err-value_of-in-Some t c =
+    rw (c.in-Some.is) (passes seen_exit c.from_residual.result c.in_err-value_of-in-Some.field-0.0 _ _ _ c.from_residual.ensures.1 (λ h. h) c.in_err-value_of-in-Some.ensures)
+
+pub evaluated-returns-in_ok-value_of-in-Some : goal.evaluated-returns-in_ok-value_of-in-Some
+evaluated-returns-in_ok-value_of-in-Some t c = rw (c.in-Some.is, c.in_ok-value_of-in-Some.ensures) refl
+
+pub returned-returns-in_err-work_more : goal.returned-returns-in_err-work_more
+returned-returns-in_err-work_more t c = full _ seen_exit c.from_residual.result _ _ c.from_residual.ensures.1
+
+pub returned-returns-in-None : goal.returned-returns-in-None
+returned-returns-in-None t c = rw (← c.return_of.ensures, ← c.in_ok-work_more.ensures, c.in-None.is) refl
+
+pub returned-returns-in_err-x-in-Some : goal.returned-returns-in_err-x-in-Some
+returned-returns-in_err-x-in-Some t c =
+    rw (← c.return_of.ensures, ← c.in_ok-work_more.ensures, c.in-Some.is) (passes seen_exit c.from_residual-in_err-x-in-Some.result c.in_err-x-in-Some.field-0.0 _ _ _ c.from_residual-in_err-x-in-Some.ensures.1 (λ h. record { given = h.given; typed = worked_typed c.args.f.now _ _ _ c.in_ok-work_more.ensures h.typed; function = h.function; keeps = h.keeps }) c.in_err-x-in-Some.ensures)
+
+pub returned-returns-in_ok-x-in-Some : goal.returned-returns-in_ok-x-in-Some
+returned-returns-in_ok-x-in-Some t c =
+    rw (← c.return_of.ensures, ← c.in_ok-work_more.ensures, c.in-Some.is, c.in_ok-x-in-Some.ensures) refl
+
+pub initialising-returns-in_err-work_more : goal.initialising-returns-in_err-work_more
+initialising-returns-in_err-work_more t c = full _ seen_exit c.from_residual.result _ _ c.from_residual.ensures.1
+
+pub initialising-returns-in_err-x : goal.initialising-returns-in_err-x
+initialising-returns-in_err-x t c =
+    rw (← c.loop-k.invariant.0, leaves_step c.args.f.now c.args.f.now.turns c.args.depth c.args.o c.loop-k.k c.args.values.now c.index-values-k.result (seen c.loop-k.s) (seen c.work_more.new.self) (omega (arith, c.loop-k-test.true)) c.index-values-k.is (c.in_ok-work_more.ensures ∙ ap (λ n. worked n (seen c.loop-k.s)) c.leaf_words.ensures)) (passes seen_exit c.from_residual-in_err-x.result c.in_err-x.field-0.0 _ _ _ c.from_residual-in_err-x.ensures.1 (λ h. (let v = leaves_next c.args.f.now _ c.args.o c.loop-k.k c.args.values.now c.index-values-k.result (omega (arith, c.loop-k-test.true)) c.index-values-k.is (c.loop-k.invariant.1 h) in let k = worked_typed c.args.f.now _ _ _ c.in_ok-work_more.ensures v.typed in later c.args.f.now (λ (g : ℕ). ValidExpr (plain_program c.args.f.now.program.now) c.args.f.now.io.now g (plain_expr c.index-values-k.result)) (λ g z. z.3.0) v k)) c.in_err-x.ensures)
+
+pub initialising-returns-in_err-initialise : goal.initialising-returns-in_err-initialise
+initialising-returns-in_err-initialise t c =
+    rw (← c.loop-k.invariant.0, leaves_step c.args.f.now c.args.f.now.turns c.args.depth c.args.o c.loop-k.k c.args.values.now c.index-values-k.result (seen c.loop-k.s) (seen c.work_more.new.self) (omega (arith, c.loop-k-test.true)) c.index-values-k.is (c.in_ok-work_more.ensures ∙ ap (λ n. worked n (seen c.loop-k.s)) c.leaf_words.ensures), c.in_ok-x.ensures) (passes seen_exit c.from_residual-in_err-initialise.result c.in_err-initialise.field-0.0 _ _ _ c.from_residual-in_err-initialise.ensures.1 (λ h. h) (stops_of (λ (x : Value). x) c.in_err-initialise.field-0.0 _ _ c.in_err-initialise.ensures.shows (λ h. c.in_err-initialise.ensures.answered)))
+
+pub initialising-loop-k-preserved : goal.initialising-loop-k-preserved
+initialising-loop-k-preserved t c = (
+  first_of (search rules, grind (arith, common_steps)),
+  λ h. (let v = leaves_next c.args.f.now _ c.args.o c.loop-k.k c.args.values.now c.index-values-k.result (omega (arith, c.loop-k-test.true)) c.index-values-k.is (c.loop-k.invariant.1 h) in
+      left_next c.args.f.now c.args.f.now.turns c.args.depth _ c.args.o c.loop-k.k (plain_expr c.index-values-k.result) _ c.in_ok-x.x _ _ _ _ _ v c.in_ok-work_more.ensures c.in_ok-x.ensures c.in_ok-initialise.ensures.shows),
+)
+
+pub effect_of-returns-in-Empty : goal.effect_of-returns-in-Empty
+effect_of-returns-in-Empty t c = rw (c.in-Empty.is) refl
+
+pub effect_of-returns-in-Do1 : goal.effect_of-returns-in-Do1
+effect_of-returns-in-Do1 t c =
+    rw (c.in-Do1.is) (suited seen_exit c.evaluated.result _ _ (λ h. statement_expr c.args.f.now (plain_expr c.in-Do1.e) _ h h.typed h.valid) c.evaluated.ensures)
+
+pub effect_of-returns-in-Block : goal.effect_of-returns-in-Block
+effect_of-returns-in-Block t c =
+    let is : plain_kind c.args.a.now.kind ≡ block (plain_stmts c.as_slice.result.now) = ap plain_kind c.in-Block.is ∙ (plain_block c.in-Block.all ∙ ap (λ ss. block (plain_stmts ss)) (sym c.as_slice.ensures)) in
+    subst (λ (kind : PlainKind). DoesStmt c.args.f.now c.args.depth (statement c.args.a.now.unit c.args.a.now.at kind) c.block.result (seen c.args.s.now) (seen c.block.new.s)) (sym is) (suited seen_exit c.block.result _ _ (λ h. record { given = h.given; typed = h.typed; function = h.function; returns = h.returns; in_loop = h.in_loop; valid = h.valid }) c.block.ensures)
+
+pub effect_of-returns-in-Local : goal.effect_of-returns-in-Local
+effect_of-returns-in-Local t c =
+    rw (c.in-Local.is, plain_local c.in-Local.o c.in-Local.values, ← c.as_slice-in-Local.ensures) (suited seen_exit c.declare.result _ _ (λ h. record { given = h.given; typed = h.typed; function = h.function; returns = h.returns; in_loop = h.in_loop; valid = h.valid }) c.declare.ensures)
+
+pub effect_of-returns-in-None : goal.effect_of-returns-in-None
+effect_of-returns-in-None t c =
+    rw (c.in-If.is, c.in-None.is, ← c.deref.ensures) (suited seen_exit c.branch-f.result _ _ (λ h. record { given = h.given; typed = h.typed; function = h.function; returns = h.returns; in_loop = h.in_loop; valid = h.valid }) c.branch-f.ensures)
+
+pub effect_of-returns-in-Some : goal.effect_of-returns-in-Some
+effect_of-returns-in-Some t c =
+    rw (c.in-If.is, c.in-Some.is, ← c.deref-in-Some.ensures, ← c.deref-in-Some-2.ensures) (suited seen_exit c.branch-f-in-Some.result _ _ (λ h. record { given = h.given; typed = h.typed; function = h.function; returns = h.returns; in_loop = h.in_loop; valid = h.valid }) c.branch-f-in-Some.ensures)
+
+pub effect_of-returns-in-While : goal.effect_of-returns-in-While
+effect_of-returns-in-While t c =
+    rw (c.in-While.is, ← c.deref-in-While.ensures) (suited seen_exit c.tested_loop.result _ _ (λ h. record { test = record { given = h.given; typed = h.typed; function = h.function; tested = h.valid.0; done = tt }; returns = h.returns; turn = h.valid.1 }) c.tested_loop.ensures)
+
+pub effect_of-returns-in-DoWhile : goal.effect_of-returns-in-DoWhile
+effect_of-returns-in-DoWhile t c =
+    rw (c.in-DoWhile.is, ← c.deref-in-DoWhile.ensures) (suited seen_exit c.turning_loop.result _ _ (λ h. record { test = record { given = h.given; typed = h.typed; function = h.function; tested = h.valid.1; done = tt }; returns = h.returns; turn = h.valid.0 }) c.turning_loop.ensures)
+
+pub effect_of-returns-in-None-first : goal.effect_of-returns-in-None-first
+effect_of-returns-in-None-first t c =
+    rw (c.in-For.is, c.in-None-first.is, ← c.as_ref.ensures.value, ← c.as_ref-in-None-first.ensures.value, ← c.deref-in-None-first.ensures) (ended_none _ seen_exit c.tested_loop-in-None-first.result _ _ (suited seen_exit c.tested_loop-in-None-first.result _ _ (λ h. record { test = record { given = h.given; typed = h.typed; function = h.function; tested = h.valid.1; done = h.valid.2 }; returns = h.returns; turn = h.valid.3 }) c.tested_loop-in-None-first.ensures))
+
+pub effect_of-returns-in-Some-first : goal.effect_of-returns-in-Some-first
+effect_of-returns-in-Some-first t c =
+    rw (c.in-For.is, c.in-Some-first.is, ← c.as_ref-in-Some-first.ensures.value, ← c.as_ref-in-Some-first-2.ensures.value, ← c.deref-in-Some-first.ensures, ← c.deref-in-Some-first-2.ensures) (suited seen_exit c.for_loop.result _ _ (λ h. record { given = h.given; typed = h.typed; function = h.function; returns = h.returns; in_loop = h.in_loop; valid = h.valid }) c.for_loop.ensures)
+
+pub effect_of-returns-in-Break : goal.effect_of-returns-in-Break
+effect_of-returns-in-Break t c = rw (c.in-Break.is) (suited seen_exit c.jump.result _ _ (λ h. tt) c.jump.ensures)
+
+pub effect_of-returns-in-Continue : goal.effect_of-returns-in-Continue
+effect_of-returns-in-Continue t c =
+    rw (c.in-Continue.is) (suited seen_exit c.jump-in-Continue.result _ _ (λ h. tt) c.jump-in-Continue.ensures)
+
+pub effect_of-returns-in-Return : goal.effect_of-returns-in-Return
+effect_of-returns-in-Return t c =
+    rw (c.in-Return.is) (suited seen_exit c.returned.result _ _ (λ h. record { given = h.given; typed = h.typed; function = h.function; keeps = h.valid.1 }) c.returned.ensures)
+
+pub block-returns-in_err-exit : goal.block-returns-in_err-exit
+block-returns-in_err-exit t c =
+    passes seen_exit c.from_residual.result c.in_err-exit.field-0.0 _ _ _ c.from_residual.ensures.1 (λ h. record { given = h.given; typed = h.typed; function = h.function; returns = h.returns; in_loop = h.in_loop; valid = h.valid }) c.in_err-exit.ensures
+
+pub block-returns : goal.block-returns
+block-returns t c = rw (c.in_ok-exit.ensures, ← c.end_declared.ensures) refl
+
+pub declare-returns-in_err-begin : goal.declare-returns-in_err-begin
+declare-returns-in_err-begin t c =
+    let p = err_from_is_err_and c.from_residual.result c.from_residual.ensures.1 in rw (p.1, p.2) (λ h. c.in_err-begin.ensures.answered h.given)
+
+pub declare-returns : goal.declare-returns
+declare-returns t c =
+    rw (← c.in_ok-begin.ensures.begun) (suited seen_exit c.initialising.result _ _ (λ h. (let b = after_begin c.args.f.now c.args.o (seen c.args.s.now) h.given h.typed in let k = subst (λ (s : State). IsTypedState (plain_program c.args.f.now.program.now) s) (sym c.in_ok-begin.ensures.begun) b in declared_leaves c.args.f.now c.args.o (plain_exprs c.args.values.now) _ h.function h.given k h.valid.0 h.valid.1)) c.initialising.ensures)
+
+pub branch-returns-in_err-work_more : goal.branch-returns-in_err-work_more
+branch-returns-in_err-work_more t c = full _ seen_exit c.from_residual.result _ _ c.from_residual.ensures.1
+
+pub branch-returns-in_err-condition : goal.branch-returns-in_err-condition
+branch-returns-in_err-condition t c =
+    rw (branch_is c.args.f.now c.args.f.now.turns c.args.depth (plain_expr c.args.c.now) (plain_stmt c.args.a.now) (plain_other (option_copied c.args.b)) (seen c.args.s.now) (seen c.work_more.new.self) c.in_ok-work_more.ensures) (passes seen_exit c.from_residual-in_err-condition.result c.in_err-condition.field-0.0 _ _ _ c.from_residual-in_err-condition.ensures.1 (λ h. (let k = worked_typed c.args.f.now _ _ _ c.in_ok-work_more.ensures h.typed in statement_expr c.args.f.now (plain_expr c.args.c.now) _ h k h.valid.0.0)) c.in_err-condition.ensures)
+
+pub branch-returns-then-branch : goal.branch-returns-then-branch
+branch-returns-then-branch t c =
+    rw (branch_is c.args.f.now c.args.f.now.turns c.args.depth (plain_expr c.args.c.now) (plain_stmt c.args.a.now) (plain_other (option_copied c.args.b)) (seen c.args.s.now) (seen c.work_more.new.self) c.in_ok-work_more.ensures, c.in_ok-condition.ensures, c.if-branch.true) (suited seen_exit c.effect_of.result _ _ (λ h. (let k = worked_typed c.args.f.now _ _ _ c.in_ok-work_more.ensures h.typed in let m = after_condition c.args.f.now c.args.f.now.turns c.args.depth (plain_expr c.args.c.now) _ _ _ (statement_expr c.args.f.now (plain_expr c.args.c.now) _ h k h.valid.0.0) c.in_ok-condition.ensures in statement_in c.args.f.now (plain_stmt c.args.a.now) _ h m h.valid.1)) c.effect_of.ensures)
+
+pub branch-returns-in-None : goal.branch-returns-in-None
+branch-returns-in-None t c =
+    rw (branch_is c.args.f.now c.args.f.now.turns c.args.depth (plain_expr c.args.c.now) (plain_stmt c.args.a.now) (plain_other (option_copied c.args.b)) (seen c.args.s.now) (seen c.work_more.new.self) c.in_ok-work_more.ensures, c.in_ok-condition.ensures, c.if-branch.false, c.in-None.is) refl
+
+pub branch-returns-in-Some : goal.branch-returns-in-Some
+branch-returns-in-Some t c =
+    rw (branch_is c.args.f.now c.args.f.now.turns c.args.depth (plain_expr c.args.c.now) (plain_stmt c.args.a.now) (plain_other (option_copied c.args.b)) (seen c.args.s.now) (seen c.work_more.new.self) c.in_ok-work_more.ensures, c.in_ok-condition.ensures, c.if-branch.false, c.in-Some.is) (suited seen_exit c.effect_of-in-Some.result _ _ (λ h. (let k = worked_typed c.args.f.now _ _ _ c.in_ok-work_more.ensures h.typed in let m = after_condition c.args.f.now c.args.f.now.turns c.args.depth (plain_expr c.args.c.now) _ _ _ (statement_expr c.args.f.now (plain_expr c.args.c.now) _ h k h.valid.0.0) c.in_ok-condition.ensures in statement_in c.args.f.now (plain_stmt c.in-Some.b.now) _ h m h.valid.2)) c.effect_of-in-Some.ensures)
+
+pub first_effect-returns-in-Some : goal.first_effect-returns-in-Some
+first_effect-returns-in-Some t c =
+    rw (first_is_block (setting_of c.args.f.now.program.now c.args.f.now.io.now c.args.f.now.inputs.now) (calls_within (setting_of c.args.f.now.program.now c.args.f.now.io.now c.args.f.now.inputs.now) c.args.f.now.turns c.args.depth) c.args.f.now.turns (plain_stmt c.args.first.now) (plain_stmts c.in-Some.all.now) (seen c.args.s.now) c.in-Some.ensures) (suited seen_exit c.effects_of.result _ _ (λ h. record { given = h.given; typed = h.typed; function = h.function; returns = h.returns; in_loop = h.in_loop; valid = block_valid (plain_program c.args.f.now.program.now) c.args.f.now.io.now h.function h.returns h.in_loop (plain_stmt c.args.first.now) (plain_stmts c.in-Some.all.now) c.in-Some.ensures h.valid }) c.effects_of.ensures)
+
+pub first_effect-returns-in-None : goal.first_effect-returns-in-None
+first_effect-returns-in-None t c =
+    rw (first_is_other (setting_of c.args.f.now.program.now c.args.f.now.io.now c.args.f.now.inputs.now) (calls_within (setting_of c.args.f.now.program.now c.args.f.now.io.now c.args.f.now.inputs.now) c.args.f.now.turns c.args.depth) c.args.f.now.turns (plain_stmt c.args.first.now) (seen c.args.s.now) c.in-None.ensures) c.effect_of.ensures
+
+pub first_and_loop-returns-in_err-left : goal.first_and_loop-returns-in_err-left
+first_and_loop-returns-in_err-left t c =
+    passes seen_exit c.from_residual.result c.in_err-left.field-0.0 _ _ _ c.from_residual.ensures.1 (λ h. h.0) c.in_err-left.ensures
+
+pub first_and_loop-returns-in-Some : goal.first_and_loop-returns-in-Some
+first_and_loop-returns-in-Some t c = rw (c.in_ok-left.ensures) (c.in-Some.ensures (seen c.first_effect.new.s) _)
+
+pub first_and_loop-returns-in-None : goal.first_and_loop-returns-in-None
+first_and_loop-returns-in-None t c =
+    rw (c.in_ok-left.ensures, c.in-None.ensures) (suited seen_exit c.tested_loop.result _ _ (λ h. (let k = after_first c.args.f.now c.args.f.now.turns c.args.depth (plain_stmt c.args.first.now) (seen_exit c.in_ok-left.left) _ _ h.0 c.in_ok-left.ensures in loop_later c.args.f.now _ h.1 k)) c.tested_loop.ensures)
+
+pub for_loop-returns-in_err-exit : goal.for_loop-returns-in_err-exit
+for_loop-returns-in_err-exit t c =
+    passes seen_exit c.from_residual.result c.in_err-exit.field-0.0 _ _ _ c.from_residual.ensures.1 (λ h. (statement_in c.args.f.now (plain_stmt c.args.first.now) _ h h.typed h.valid.0, record { test = record { given = h.given; typed = h.typed; function = h.function; tested = h.valid.1; done = h.valid.2 }; returns = h.returns; turn = h.valid.3 })) c.in_err-exit.ensures
+
+pub for_loop-returns : goal.for_loop-returns
+for_loop-returns t c = rw (c.in_ok-exit.ensures, ← c.end_first.ensures) refl
+
+pub effects_of-returns-in_err-left : goal.effects_of-returns-in_err-left
+effects_of-returns-in_err-left t c =
+    rw (← c.loop-a.invariant.0, stmts_step c.args.f.now c.args.f.now.turns c.args.depth c.args.all.now c.loop-a.a-index c.a-item.result (seen c.loop-a.s) (omega (arith, c.loop-a-test.true)) c.a-item.is) (passes seen_exit c.from_residual.result c.in_err-left.field-0.0 _ _ _ c.from_residual.ensures.1 (λ h. (let v = stmts_next c.args.f.now _ c.args.all.now c.loop-a.a-index c.a-item.result (omega (arith, c.loop-a-test.true)) c.a-item.is (c.loop-a.invariant.1 h) in record { given = v.given; typed = v.typed; function = v.function; returns = v.returns; in_loop = v.in_loop; valid = v.valid.0 })) c.in_err-left.ensures)
+
+pub effects_of-returns-in-Some : goal.effects_of-returns-in-Some
+effects_of-returns-in-Some t c =
+    rw (← c.loop-a.invariant.0, stmts_step c.args.f.now c.args.f.now.turns c.args.depth c.args.all.now c.loop-a.a-index c.a-item.result (seen c.loop-a.s) (omega (arith, c.loop-a-test.true)) c.a-item.is, c.in_ok-left.ensures) (c.in-Some.ensures (seen c.effect_of.new.s) _)
+
+pub effects_of-loop-a-preserved : goal.effects_of-loop-a-preserved
+effects_of-loop-a-preserved t c = (
+  sym (stmts_step c.args.f.now c.args.f.now.turns c.args.depth c.args.all.now c.loop-a.a-index c.a-item.result (seen c.loop-a.s) (omega (arith, c.loop-a-test.true)) c.a-item.is ∙ rw (c.in_ok-left.ensures) (c.in_default.ensures (seen c.effect_of.new.s) _)) ∙ c.loop-a.invariant.0,
+  λ h. (let v = stmts_next c.args.f.now _ c.args.all.now c.loop-a.a-index c.a-item.result (omega (arith, c.loop-a-test.true)) c.a-item.is (c.loop-a.invariant.1 h) in
+      let k = after_statement c.args.f.now c.args.f.now.turns c.args.depth (plain_stmt c.a-item.result) (seen_exit c.in_ok-left.left) _ _ (record { given = v.given; typed = v.typed; function = v.function; returns = v.returns; in_loop = v.in_loop; valid = v.valid.0 }) c.in_ok-left.ensures in
+      record { given = v.given; typed = k; function = v.function; returns = v.returns; in_loop = v.in_loop; valid = v.valid.1 }),
+)
+
+pub tested_loop-returns-in_err-test_of : goal.tested_loop-returns-in_err-test_of
+tested_loop-returns-in_err-test_of t c =
+    passes seen_exit c.from_residual.result c.in_err-test_of.field-0.0 _ _ _ c.from_residual.ensures.1 (λ h. test_condition c.args.f.now h.test) c.in_err-test_of.ensures
+
+pub tested_loop-returns-then-branch : goal.tested_loop-returns-then-branch
+tested_loop-returns-then-branch t c =
+    rw (c.in_ok-test_of.ensures, c.if-branch.true) (suited seen_exit c.turning_loop.result _ _ (λ h. (let k = after_test c.args.f.now c.args.f.now.turns c.args.depth (option_map plain_expr (option_copied c.args.c)) _ _ _ (test_condition c.args.f.now h.test) c.in_ok-test_of.ensures in loop_later c.args.f.now _ h k)) c.turning_loop.ensures)
+
+pub tested_loop-returns : goal.tested_loop-returns
+tested_loop-returns t c =
+    rw (c.in_ok-test_of.ensures, c.if-branch.false) (suited seen_exit c.end_loop.result _ _ (λ h. tt) c.end_loop.ensures)
+
+pub turning_loop-returns-in_err-work_more : goal.turning_loop-returns-in_err-work_more
+turning_loop-returns-in_err-work_more t c = full _ seen_exit c.from_residual.result _ _ c.from_residual.ensures.1
+
+pub turning_loop-returns-in_err-x : goal.turning_loop-returns-in_err-x
+turning_loop-returns-in_err-x t c =
+    let w = (setting_of c.args.f.now.program.now c.args.f.now.io.now c.args.f.now.inputs.now) in
+    let calls = calls_within w c.args.f.now.turns c.args.depth in
+    let body : State → Outcome Exit = λ s. effect_of w calls c.args.f.now.turns (plain_stmt c.args.body.now) s in
     let test : State → Outcome Bool = λ s. going_on w calls (option_map plain_expr (option_copied c.args.last)) (option_map plain_expr (option_copied c.args.c)) s in
     let one = turns_one c.loop-left.left body test (seen c.loop-left.s) (omega (arith, c.loop-left-test.true)) in
-    sym c.loop-left.invariant.0 ∙ (one ∙ rw (← c.in_ok-work_more.ensures, c.in_ok-x.ensures.shows) (c.in-Some.ensures (seen c.effect_of.new.s) _))
+    rw (← c.loop-left.invariant.0, one, ← c.in_ok-work_more.ensures) (passes seen_exit c.from_residual-in_err-x.result c.in_err-x.field-0.0 _ _ _ c.from_residual-in_err-x.ensures.1 (λ h. (let l = c.loop-left.invariant.1 h in let k = worked_typed c.args.f.now _ _ _ c.in_ok-work_more.ensures l.test.typed in loop_turn c.args.f.now _ l k)) c.in_err-x.ensures)
 
-pub turning_loop-returns-in_err-goes_on-clause-shows : goal.turning_loop-returns-in_err-goes_on-clause-shows
-turning_loop-returns-in_err-goes_on-clause-shows t c =
-    let f = c.args.f.now in
-    let w = setting_of f.program.now f.io.now f.inputs.now in
-    let calls = calls_within w f.turns c.args.depth in
-    let body : State → Outcome Exit = λ s. effect_of w calls f.turns (plain_stmt c.args.body.now) s in
+pub turning_loop-returns-in-Some : goal.turning_loop-returns-in-Some
+turning_loop-returns-in-Some t c =
+    let w = (setting_of c.args.f.now.program.now c.args.f.now.io.now c.args.f.now.inputs.now) in
+    let calls = calls_within w c.args.f.now.turns c.args.depth in
+    let body : State → Outcome Exit = λ s. effect_of w calls c.args.f.now.turns (plain_stmt c.args.body.now) s in
     let test : State → Outcome Bool = λ s. going_on w calls (option_map plain_expr (option_copied c.args.last)) (option_map plain_expr (option_copied c.args.c)) s in
     let one = turns_one c.loop-left.left body test (seen c.loop-left.s) (omega (arith, c.loop-left-test.true)) in
-    rw (← c.loop-left.invariant.0, one, ← c.in_ok-work_more.ensures, c.in_ok-x.ensures.shows, c.in_default.ensures) (first_of (search rules, grind (arith, common_steps)))
+    rw (← c.loop-left.invariant.0, one, ← c.in_ok-work_more.ensures, c.in_ok-x.ensures) (c.in-Some.ensures (seen c.effect_of.new.s) _)
 
-pub turning_loop-returns-then-not-branch-clause-shows : goal.turning_loop-returns-then-not-branch-clause-shows
-turning_loop-returns-then-not-branch-clause-shows t c =
-    let f = c.args.f.now in
-    let w = setting_of f.program.now f.io.now f.inputs.now in
-    let calls = calls_within w f.turns c.args.depth in
-    let body : State → Outcome Exit = λ s. effect_of w calls f.turns (plain_stmt c.args.body.now) s in
+pub turning_loop-returns-in_err-goes_on : goal.turning_loop-returns-in_err-goes_on
+turning_loop-returns-in_err-goes_on t c =
+    let w = (setting_of c.args.f.now.program.now c.args.f.now.io.now c.args.f.now.inputs.now) in
+    let calls = calls_within w c.args.f.now.turns c.args.depth in
+    let body : State → Outcome Exit = λ s. effect_of w calls c.args.f.now.turns (plain_stmt c.args.body.now) s in
     let test : State → Outcome Bool = λ s. going_on w calls (option_map plain_expr (option_copied c.args.last)) (option_map plain_expr (option_copied c.args.c)) s in
     let one = turns_one c.loop-left.left body test (seen c.loop-left.s) (omega (arith, c.loop-left-test.true)) in
-    sym c.loop-left.invariant.0 ∙ (one ∙ rw (← c.in_ok-work_more.ensures, c.in_ok-x.ensures.shows, c.in_default.ensures, c.in_ok-goes_on.ensures.shows, c.if-not-branch.true, c.in_ok-exit.ensures.exit, c.in_ok-exit.ensures.state) refl)
+    rw (← c.loop-left.invariant.0, one, ← c.in_ok-work_more.ensures, c.in_ok-x.ensures, c.in_default.ensures) (passes seen_exit c.from_residual-in_err-goes_on.result c.in_err-goes_on.field-0.0 _ _ _ c.from_residual-in_err-goes_on.ensures.1 (λ h. (let l = c.loop-left.invariant.1 h in let k = worked_typed c.args.f.now _ _ _ c.in_ok-work_more.ensures l.test.typed in let m = after_statement c.args.f.now c.args.f.now.turns c.args.depth (plain_stmt c.args.body.now) (seen_exit c.in_ok-x.x) _ _ (loop_turn c.args.f.now _ l k) c.in_ok-x.ensures in test_later c.args.f.now _ l.test m)) c.in_err-goes_on.ensures)
+
+pub turning_loop-returns-then-not-branch : goal.turning_loop-returns-then-not-branch
+turning_loop-returns-then-not-branch t c =
+    let w = (setting_of c.args.f.now.program.now c.args.f.now.io.now c.args.f.now.inputs.now) in
+    let calls = calls_within w c.args.f.now.turns c.args.depth in
+    let body : State → Outcome Exit = λ s. effect_of w calls c.args.f.now.turns (plain_stmt c.args.body.now) s in
+    let test : State → Outcome Bool = λ s. going_on w calls (option_map plain_expr (option_copied c.args.last)) (option_map plain_expr (option_copied c.args.c)) s in
+    let one = turns_one c.loop-left.left body test (seen c.loop-left.s) (omega (arith, c.loop-left-test.true)) in
+    rw (← c.loop-left.invariant.0, one, ← c.in_ok-work_more.ensures, c.in_ok-x.ensures, c.in_default.ensures, c.in_ok-goes_on.ensures, c.if-not-branch.true) (suited seen_exit c.end_loop.result _ _ (λ h. tt) c.end_loop.ensures)
 
 pub turning_loop-loop-left-preserved : goal.turning_loop-loop-left-preserved
 turning_loop-loop-left-preserved t c =
-    let f = c.args.f.now in
-    let w = setting_of f.program.now f.io.now f.inputs.now in
-    let calls = calls_within w f.turns c.args.depth in
-    let body : State → Outcome Exit = λ s. effect_of w calls f.turns (plain_stmt c.args.body.now) s in
+    let w = (setting_of c.args.f.now.program.now c.args.f.now.io.now c.args.f.now.inputs.now) in
+    let calls = calls_within w c.args.f.now.turns c.args.depth in
+    let body : State → Outcome Exit = λ s. effect_of w calls c.args.f.now.turns (plain_stmt c.args.body.now) s in
     let test : State → Outcome Bool = λ s. going_on w calls (option_map plain_expr (option_copied c.args.last)) (option_map plain_expr (option_copied c.args.c)) s in
     let one = turns_one c.loop-left.left body test (seen c.loop-left.s) (omega (arith, c.loop-left-test.true)) in (
-      sym (one ∙ rw (← c.in_ok-work_more.ensures, c.in_ok-x.ensures.shows, c.in_default.ensures, c.in_ok-goes_on.ensures.shows, c.if-not-branch.false) refl) ∙ c.loop-left.invariant.0,
-      λ h. (let l = c.loop-left.invariant.1 h in
-          let k = worked_typed c.args.f.now _ _ _ c.in_ok-work_more.ensures l.test.typed in
-          let m = after_statement c.args.f.now f.turns c.args.depth (plain_stmt c.args.body.now) (seen_exit c.in_ok-x.x) _ _ (loop_turn c.args.f.now _ l k) c.in_ok-x.ensures.shows in
-          let n = after_going c.args.f.now f.turns c.args.depth (option_map plain_expr (option_copied c.args.last)) (option_map plain_expr (option_copied c.args.c)) _ _ _ (test_later c.args.f.now _ l.test m) c.in_ok-goes_on.ensures.shows in
+      sym (one ∙ rw (← c.in_ok-work_more.ensures, c.in_ok-x.ensures, c.in_default.ensures, c.in_ok-goes_on.ensures, c.if-not-branch.false) refl) ∙ c.loop-left.invariant.0,
+      λ h. (let l = c.loop-left.invariant.1 h in let k = worked_typed c.args.f.now _ _ _ c.in_ok-work_more.ensures l.test.typed in let m = after_statement c.args.f.now c.args.f.now.turns c.args.depth (plain_stmt c.args.body.now) (seen_exit c.in_ok-x.x) _ _ (loop_turn c.args.f.now _ l k) c.in_ok-x.ensures in
+          let n = after_going c.args.f.now c.args.f.now.turns c.args.depth (option_map plain_expr (option_copied c.args.last)) (option_map plain_expr (option_copied c.args.c)) _ _ _ (test_later c.args.f.now _ l.test m) c.in_ok-goes_on.ensures in
           loop_later c.args.f.now _ l n),
     )
 
-pub call-enter-requires : goal.call-enter-requires
-call-enter-requires t c =
+pub goes_on-returns-in_err-evaluated : goal.goes_on-returns-in_err-evaluated
+goes_on-returns-in_err-evaluated t c =
+    passes (λ b. b) c.from_residual.result c.in_err-evaluated.field-0.0 _ _ _ c.from_residual.ensures.1 (λ h. test_last c.args.f.now h) c.in_err-evaluated.ensures
+
+pub goes_on-returns : goal.goes_on-returns
+goes_on-returns t c =
+    rw (c.in_ok-evaluated.ensures) (suited (λ b. b) c.test_of.result _ _ (λ h. (let k = after_evaluated c.args.f.now c.args.f.now.turns c.args.depth (option_map plain_expr (option_copied c.args.last)) _ _ _ (test_last c.args.f.now h) c.in_ok-evaluated.ensures in test_condition c.args.f.now (test_later c.args.f.now _ h k))) c.test_of.ensures)
+
+pub call_function-enter-requires : goal.call_function-enter-requires
+call_function-enter-requires t c =
     let f = c.args.f.now in
     let all = map plain_function f.program.now.funcs.items in
     let h = lighter_body all c.args.g (plain_function c.in-Some.called.now) (sym c.in-Some.ensures) in
@@ -192,350 +574,25 @@ call-enter-requires t c =
     let d = c.decreases in
     (omega (arith, h, e, d), (c.requires, h))
 
--- ---- that only running out of memory keeps a valid program from an answer
-
-pub value_of-returns-clause-answered : goal.value_of-returns-clause-answered
-value_of-returns-clause-answered t c = λ h.
-    c.node_value.ensures.answered (record { given = h.given; typed = worked_typed c.args.f.now _ _ _ c.in_ok-work_more.ensures h.typed; function = h.function; known = h.keeps.0; types = h.keeps.1; parts = h.keeps.2 })
-
-pub node_value-returns-in_err-to-in-Load-clause-answered : goal.node_value-returns-in_err-to-in-Load-clause-answered
-node_value-returns-in_err-to-in-Load-clause-answered t c = rw (c.in-Load.is) (λ h.
-    (let a = c.in_err-to-in-Load.ensures.answered (node_place c.args.f.now (plain_place c.in-Load.p) _ h h.typed h.parts) in search rules))
-
-pub node_value-returns-in_err-to-in-AddressOf-clause-answered : goal.node_value-returns-in_err-to-in-AddressOf-clause-answered
-node_value-returns-in_err-to-in-AddressOf-clause-answered t c = rw (c.in-AddressOf.is) (λ h.
-    (let a = c.in_err-to-in-AddressOf.ensures.answered (node_place c.args.f.now (plain_place c.in-AddressOf.p) _ h h.typed h.parts.0) in search rules))
-
-pub node_value-returns-in_err-x-in-Unary-clause-answered : goal.node_value-returns-in_err-x-in-Unary-clause-answered
-node_value-returns-in_err-x-in-Unary-clause-answered t c = rw (c.in-Unary.is, ← c.deref.ensures) (λ h.
-    (let a = c.in_err-x-in-Unary.ensures.answered (node_expr c.args.f.now (plain_expr c.deref.result.now) _ h h.typed h.parts) in search rules))
-
-pub node_value-returns-in_err-r-in-Unary-clause-answered : goal.node_value-returns-in_err-r-in-Unary-clause-answered
-node_value-returns-in_err-r-in-Unary-clause-answered t c = rw (c.in-Unary.is, ← c.deref.ensures) (λ h.
-    (let q = after_value c.args.f.now c.args.f.now.turns c.args.depth (plain_expr c.deref.result.now) c.in_ok-x-in-Unary.x _ _ (node_expr c.args.f.now (plain_expr c.deref.result.now) _ h h.typed h.parts) c.in_ok-x-in-Unary.ensures.shows in
-    let n = number_of (plain_program c.args.f.now.program.now) (plain_type c.args.ty.now) (HaveUnaryTypes c.in-Unary.op) c.in_ok-x-in-Unary.x (subst (λ (z : PlainType). HasType (plain_program c.args.f.now.program.now) z c.in_ok-x-in-Unary.x) h.types.0 q.value.typed) h.types.1 in
-    let a = c.in_err-r-in-Unary.ensures.answered n in search rules))
-
-pub node_value-returns-in_err-x-in-Convert-clause-answered : goal.node_value-returns-in_err-x-in-Convert-clause-answered
-node_value-returns-in_err-x-in-Convert-clause-answered t c = rw (c.in-Convert.is, ← c.deref-in-Convert.ensures) (λ h.
-    (let a = c.in_err-x-in-Convert.ensures.answered (node_expr c.args.f.now (plain_expr c.deref-in-Convert.result.now) _ h h.typed h.parts) in search rules))
-
-pub node_value-returns-in_err-r-in-Convert-clause-answered : goal.node_value-returns-in_err-r-in-Convert-clause-answered
-node_value-returns-in_err-r-in-Convert-clause-answered t c = rw (c.in-Convert.is, ← c.deref-in-Convert.ensures) (λ h.
-    (let q = after_value c.args.f.now c.args.f.now.turns c.args.depth (plain_expr c.deref-in-Convert.result.now) c.in_ok-x-in-Convert.x _ _ (node_expr c.args.f.now (plain_expr c.deref-in-Convert.result.now) _ h h.typed h.parts) c.in_ok-x-in-Convert.ensures.shows in
-    let g = h.given in
-    let v = q.value in
-    let i = h.types.0 in
-    let k = h.types.1 in search rules))
-
-pub node_value-returns-in_err-to-in-Assign-clause-answered : goal.node_value-returns-in_err-to-in-Assign-clause-answered
-node_value-returns-in_err-to-in-Assign-clause-answered t c = rw (c.in-Assign.is) (λ h.
-    (let a = c.in_err-to-in-Assign.ensures.answered (node_place c.args.f.now (plain_place c.in-Assign.p) _ h h.typed h.parts.0) in search rules))
-
-pub node_value-returns-in_err-x-in-Assign-clause-answered : goal.node_value-returns-in_err-x-in-Assign-clause-answered
-node_value-returns-in_err-x-in-Assign-clause-answered t c = rw (c.in-Assign.is, ← c.deref-in-Assign.ensures) (λ h.
-    (let k = after_place c.args.f.now c.args.f.now.turns c.args.depth (plain_place c.in-Assign.p) c.in_ok-to-in-Assign.to _ _ (node_place c.args.f.now (plain_place c.in-Assign.p) _ h h.typed h.parts.0) c.in_ok-to-in-Assign.ensures.shows in
-    let a = c.in_err-x-in-Assign.ensures.answered (node_expr c.args.f.now (plain_expr c.deref-in-Assign.result.now) _ h k h.parts.1) in search rules))
-
-pub node_value-returns-in_err-h-in-Not-clause-answered : goal.node_value-returns-in_err-h-in-Not-clause-answered
-node_value-returns-in_err-h-in-Not-clause-answered t c = rw (c.in-Not.is, ← c.deref-in-Not.ensures) (λ h.
-    (let a = c.in_err-h-in-Not.ensures.answered (node_expr c.args.f.now (plain_expr c.deref-in-Not.result.now) _ h h.typed h.parts) in search rules))
-
-pub node_value-returns-in_err-condition-in-And-clause-answered : goal.node_value-returns-in_err-condition-in-And-clause-answered
-node_value-returns-in_err-condition-in-And-clause-answered t c = rw (c.in-And.is, ← c.deref-in-And.ensures) (λ h.
-    (let a = c.in_err-condition-in-And.ensures.answered (node_expr c.args.f.now (plain_expr c.deref-in-And.result.now) _ h h.typed h.parts.0) in search rules))
-
-pub node_value-returns-in_err-h-in-And-clause-answered : goal.node_value-returns-in_err-h-in-And-clause-answered
-node_value-returns-in_err-h-in-And-clause-answered t c = rw (c.in-And.is, ← c.deref-in-And.ensures, ← c.deref-in-And-2.ensures) (λ h.
-    (let k = after_condition c.args.f.now c.args.f.now.turns c.args.depth (plain_expr c.deref-in-And.result.now) _ _ _ (node_expr c.args.f.now (plain_expr c.deref-in-And.result.now) _ h h.typed h.parts.0) c.in_ok-condition-in-And.ensures.shows in
-    let a = c.in_err-h-in-And.ensures.answered (node_expr c.args.f.now (plain_expr c.deref-in-And-2.result.now) _ h k h.parts.1) in search rules))
-
-pub node_value-returns-in_err-condition-in-Or-clause-answered : goal.node_value-returns-in_err-condition-in-Or-clause-answered
-node_value-returns-in_err-condition-in-Or-clause-answered t c = rw (c.in-Or.is, ← c.deref-in-Or.ensures) (λ h.
-    (let a = c.in_err-condition-in-Or.ensures.answered (node_expr c.args.f.now (plain_expr c.deref-in-Or.result.now) _ h h.typed h.parts.0) in search rules))
-
-pub node_value-returns-in_err-h-in-Or-clause-answered : goal.node_value-returns-in_err-h-in-Or-clause-answered
-node_value-returns-in_err-h-in-Or-clause-answered t c = rw (c.in-Or.is, ← c.deref-in-Or.ensures, ← c.deref-in-Or-2.ensures) (λ h.
-    (let k = after_condition c.args.f.now c.args.f.now.turns c.args.depth (plain_expr c.deref-in-Or.result.now) _ _ _ (node_expr c.args.f.now (plain_expr c.deref-in-Or.result.now) _ h h.typed h.parts.0) c.in_ok-condition-in-Or.ensures.shows in
-    let a = c.in_err-h-in-Or.ensures.answered (node_expr c.args.f.now (plain_expr c.deref-in-Or-2.result.now) _ h k h.parts.1) in search rules))
-
-pub node_value-returns-in_err-condition-in-Cond-clause-answered : goal.node_value-returns-in_err-condition-in-Cond-clause-answered
-node_value-returns-in_err-condition-in-Cond-clause-answered t c = rw (c.in-Cond.is, ← c.deref-in-Cond.ensures) (λ h.
-    (let a = c.in_err-condition-in-Cond.ensures.answered (node_expr c.args.f.now (plain_expr c.deref-in-Cond.result.now) _ h h.typed h.parts.0) in search rules))
-
-pub node_value-returns-in_err-x-in-Cond-clause-answered : goal.node_value-returns-in_err-x-in-Cond-clause-answered
-node_value-returns-in_err-x-in-Cond-clause-answered t c = rw (c.in-Cond.is, ← c.deref-in-Cond.ensures, ← c.deref-then-branch-2.ensures) (λ h.
-    (let k = after_condition c.args.f.now c.args.f.now.turns c.args.depth (plain_expr c.deref-in-Cond.result.now) _ _ _ (node_expr c.args.f.now (plain_expr c.deref-in-Cond.result.now) _ h h.typed h.parts.0) c.in_ok-condition-in-Cond.ensures.shows in
-    let a = c.in_err-x-in-Cond.ensures.answered (node_expr c.args.f.now (plain_expr c.deref-then-branch-2.result.now) _ h k h.parts.1) in search rules))
-
-pub node_value-returns-in_err-x-in-Cond-2-clause-answered : goal.node_value-returns-in_err-x-in-Cond-2-clause-answered
-node_value-returns-in_err-x-in-Cond-2-clause-answered t c = rw (c.in-Cond.is, ← c.deref-in-Cond.ensures, ← c.deref-else-branch-2.ensures) (λ h.
-    (let k = after_condition c.args.f.now c.args.f.now.turns c.args.depth (plain_expr c.deref-in-Cond.result.now) _ _ _ (node_expr c.args.f.now (plain_expr c.deref-in-Cond.result.now) _ h h.typed h.parts.0) c.in_ok-condition-in-Cond.ensures.shows in
-    let a = c.in_err-x-in-Cond-2.ensures.answered (node_expr c.args.f.now (plain_expr c.deref-else-branch-2.result.now) _ h k h.parts.2) in search rules))
-
-pub node_value-returns-in_err-value_of-in-Comma-clause-answered : goal.node_value-returns-in_err-value_of-in-Comma-clause-answered
-node_value-returns-in_err-value_of-in-Comma-clause-answered t c = rw (c.in-Comma.is, ← c.deref-in-Comma.ensures) (λ h.
-    (let a = c.in_err-value_of-in-Comma.ensures.answered (node_expr c.args.f.now (plain_expr c.deref-in-Comma.result.now) _ h h.typed h.parts.0) in search rules))
-
-pub node_value-returns-in_err-x-in-Comma-clause-answered : goal.node_value-returns-in_err-x-in-Comma-clause-answered
-node_value-returns-in_err-x-in-Comma-clause-answered t c = rw (c.in-Comma.is, ← c.deref-in-Comma.ensures, ← c.deref-in-Comma-2.ensures) (λ h.
-    (let q = after_value c.args.f.now c.args.f.now.turns c.args.depth (plain_expr c.deref-in-Comma.result.now) _ _ _ (node_expr c.args.f.now (plain_expr c.deref-in-Comma.result.now) _ h h.typed h.parts.0) c.in_ok-value_of-in-Comma.ensures.shows in
-    let a = c.in_err-x-in-Comma.ensures.answered (node_expr c.args.f.now (plain_expr c.deref-in-Comma-2.result.now) _ h q.typed h.parts.1) in search rules))
-
-pub node_value-returns-in_err-xs-in-Call-clause-answered : goal.node_value-returns-in_err-xs-in-Call-clause-answered
-node_value-returns-in_err-xs-in-Call-clause-answered t c = rw (c.in-Call.is, plain_call c.in-Call.g c.in-Call.args, ← c.as_slice.ensures) (λ h.
-    (let a = c.in_err-xs-in-Call.ensures.answered (record { given = h.given; typed = h.typed; function = h.function; keeps = h.parts }) in search rules))
-
-pub node_value-returns-in_err-x-in-Call-clause-answered : goal.node_value-returns-in_err-x-in-Call-clause-answered
-node_value-returns-in_err-x-in-Call-clause-answered t c = rw (c.in-Call.is, plain_call c.in-Call.g c.in-Call.args, ← c.as_slice.ensures) (λ h.
-    (let r = call_arguments c.args.f.now c.args.f.now.turns c.args.depth c.in-Call.g (plain_type c.args.ty.now) (plain_exprs c.as_slice.result.now) c.in_ok-xs-in-Call.xs.items _ _ h c.in_ok-xs-in-Call.ensures.shows in
-    let g = h.given in
-    let v = r.value in
-    let k = r.typed in search rules))
-
-pub node_value-returns-in_err-x-in-Io-default-default-None-None-clause-answered : goal.node_value-returns-in_err-x-in-Io-default-default-None-None-clause-answered
-node_value-returns-in_err-x-in-Io-default-default-None-None-clause-answered t c = λ h.
-    (let e : plain_node c.args.node.now ≡ io c.in-Io-default-default-None-None.op c.in-Io-default-default-None-None.port no_expr no_expr = rw (c.in-Io-default-default-None-None.is) (search (rules, node_lemmas)) in
-    let p = subst (λ (z : PlainNode). RunsNode c.args.f.now (seen c.args.s.now) (plain_type c.args.ty.now) z) e h in
-    let a = c.in_err-x-in-Io-default-default-None-None.ensures.answered (record { given = p.given; typed = p.typed; function = p.function; keeps = p.parts }) in search rules)
-
-pub node_value-returns-in_err-x-in-Io-default-default-None-Some-clause-answered : goal.node_value-returns-in_err-x-in-Io-default-default-None-Some-clause-answered
-node_value-returns-in_err-x-in-Io-default-default-None-Some-clause-answered t c = λ h.
-    (let e : plain_node c.args.node.now ≡ io c.in-Io-default-default-None-Some.op c.in-Io-default-default-None-Some.port no_expr (an_expr (plain_expr c.deref-in-Io-default-default-None-Some.result.now)) = rw (c.in-Io-default-default-None-Some.is) (search (rules, node_lemmas)) in
-    let p = subst (λ (z : PlainNode). RunsNode c.args.f.now (seen c.args.s.now) (plain_type c.args.ty.now) z) e h in
-    let a = c.in_err-x-in-Io-default-default-None-Some.ensures.answered (record { given = p.given; typed = p.typed; function = p.function; keeps = p.parts }) in search rules)
-
-pub node_value-returns-in_err-x-in-Io-default-default-Some-None-clause-answered : goal.node_value-returns-in_err-x-in-Io-default-default-Some-None-clause-answered
-node_value-returns-in_err-x-in-Io-default-default-Some-None-clause-answered t c = λ h.
-    (let e : plain_node c.args.node.now ≡ io c.in-Io-default-default-Some-None.op c.in-Io-default-default-Some-None.port (an_expr (plain_expr c.deref-in-Io-default-default-Some-None.result.now)) no_expr = rw (c.in-Io-default-default-Some-None.is) (search (rules, node_lemmas)) in
-    let p = subst (λ (z : PlainNode). RunsNode c.args.f.now (seen c.args.s.now) (plain_type c.args.ty.now) z) e h in
-    let a = c.in_err-x-in-Io-default-default-Some-None.ensures.answered (record { given = p.given; typed = p.typed; function = p.function; keeps = p.parts }) in search rules)
-
-pub node_value-returns-in_err-x-in-Io-default-default-Some-Some-clause-answered : goal.node_value-returns-in_err-x-in-Io-default-default-Some-Some-clause-answered
-node_value-returns-in_err-x-in-Io-default-default-Some-Some-clause-answered t c = λ h.
-    (let e : plain_node c.args.node.now ≡ io c.in-Io-default-default-Some-Some.op c.in-Io-default-default-Some-Some.port (an_expr (plain_expr c.deref-in-Io-default-default-Some-Some.result.now)) (an_expr (plain_expr c.deref-in-Io-default-default-Some-Some-2.result.now)) = rw (c.in-Io-default-default-Some-Some.is) (search (rules, node_lemmas)) in
-    let p = subst (λ (z : PlainNode). RunsNode c.args.f.now (seen c.args.s.now) (plain_type c.args.ty.now) z) e h in
-    let a = c.in_err-x-in-Io-default-default-Some-Some.ensures.answered (record { given = p.given; typed = p.typed; function = p.function; keeps = p.parts }) in search rules)
-
-pub binary-returns-in_err-m-clause-answered : goal.binary-returns-in_err-m-clause-answered
-binary-returns-in_err-m-clause-answered t c = λ h.
-    (let a = c.in_err-m.ensures.answered (node_expr c.args.f.now (plain_expr c.args.a.now) _ h h.typed h.parts.0) in search rules)
-
-pub binary-returns-in_err-n-clause-answered : goal.binary-returns-in_err-n-clause-answered
-binary-returns-in_err-n-clause-answered t c = λ h.
-    (let q = after_value c.args.f.now c.args.f.now.turns c.args.depth (plain_expr c.args.a.now) c.in_ok-m.m _ _ (node_expr c.args.f.now (plain_expr c.args.a.now) _ h h.typed h.parts.0) c.in_ok-m.ensures.shows in
-    let a = c.in_err-n.ensures.answered (node_expr c.args.f.now (plain_expr c.args.b.now) _ h q.typed h.parts.1) in search rules)
-
-pub binary-returns-in_err-r-clause-answered : goal.binary-returns-in_err-r-clause-answered
-binary-returns-in_err-r-clause-answered t c = λ h.
-    (let q = after_value c.args.f.now c.args.f.now.turns c.args.depth (plain_expr c.args.a.now) c.in_ok-m.m _ _ (node_expr c.args.f.now (plain_expr c.args.a.now) _ h h.typed h.parts.0) c.in_ok-m.ensures.shows in
-    let r = after_value c.args.f.now c.args.f.now.turns c.args.depth (plain_expr c.args.b.now) c.in_ok-n.n _ _ (node_expr c.args.f.now (plain_expr c.args.b.now) _ h q.typed h.parts.1) c.in_ok-n.ensures.shows in
-    let a = c.in_err-r.ensures.answered h.given q.value r.value h.types in search rules)
-
-pub compound-returns-in_err-to-clause-answered : goal.compound-returns-in_err-to-clause-answered
-compound-returns-in_err-to-clause-answered t c = λ h.
-    (let a = c.in_err-to.ensures.answered (node_place c.args.f.now (plain_place c.args.p.now) _ h h.typed h.parts.0) in search rules)
-
-pub compound-returns-in_err-operand-clause-answered : goal.compound-returns-in_err-operand-clause-answered
-compound-returns-in_err-operand-clause-answered t c = λ h.
-    (let k = after_place c.args.f.now c.args.f.now.turns c.args.depth (plain_place c.args.p.now) c.in_ok-to.to _ _ (node_place c.args.f.now (plain_place c.args.p.now) _ h h.typed h.parts.0) c.in_ok-to.ensures.shows in
-    let m = after_read c.args.f.now (plain_type c.args.ty.now) (plain_place c.args.p.now) c.in_ok-to.to c.in_ok-earlier.earlier _ _ h.given k c.in_ok-earlier.ensures.shows in
-    let a = c.in_err-operand.ensures.answered (node_expr c.args.f.now (plain_expr c.args.a.now) _ h m.typed h.parts.1) in search rules)
-
-pub compound-returns-in_err-r-clause-answered : goal.compound-returns-in_err-r-clause-answered
-compound-returns-in_err-r-clause-answered t c = λ h.
-    (let k = after_place c.args.f.now c.args.f.now.turns c.args.depth (plain_place c.args.p.now) c.in_ok-to.to _ _ (node_place c.args.f.now (plain_place c.args.p.now) _ h h.typed h.parts.0) c.in_ok-to.ensures.shows in
-    let m = after_read c.args.f.now (plain_type c.args.ty.now) (plain_place c.args.p.now) c.in_ok-to.to c.in_ok-earlier.earlier _ _ h.given k c.in_ok-earlier.ensures.shows in
-    let q = after_value c.args.f.now c.args.f.now.turns c.args.depth (plain_expr c.args.a.now) c.in_ok-operand.operand _ _ (node_expr c.args.f.now (plain_expr c.args.a.now) _ h m.typed h.parts.1) c.in_ok-operand.ensures.shows in
-    let old = old_operand c.args.f.now _ _ _ h m.value in
-    let a = c.in_err-r.ensures.answered h.given old q.value h.types.1 in search rules)
-
-pub step-returns-in_err-to-clause-answered : goal.step-returns-in_err-to-clause-answered
-step-returns-in_err-to-clause-answered t c = λ h.
-    (let a = c.in_err-to.ensures.answered (node_place c.args.f.now (plain_place c.args.p.now) _ h h.typed h.parts) in search rules)
-
-pub step-returns-in_err-r-clause-answered : goal.step-returns-in_err-r-clause-answered
-step-returns-in_err-r-clause-answered t c = λ h.
-    (let k = after_place c.args.f.now c.args.f.now.turns c.args.depth (plain_place c.args.p.now) c.in_ok-to.to _ _ (node_place c.args.f.now (plain_place c.args.p.now) _ h h.typed h.parts) c.in_ok-to.ensures.shows in
-    let m = after_read c.args.f.now (plain_type c.args.ty.now) (plain_place c.args.p.now) c.in_ok-to.to c.in_ok-old.old _ _ h.given k c.in_ok-old.ensures.shows in
-    let old = old_operand c.args.f.now _ _ _ h m.value in
-    let types = subst (λ (op : BinOp). HaveCompoundTypes op (plain_type c.args.ty.now) int) (sym c.step_operator.ensures) (step_types c.args.f.now c.args.up (plain_type c.args.ty.now) h.types.0) in
-    let a = c.in_err-r.ensures.answered h.given old (one_operand c.args.f.now) types in search rules)
-
-pub place_of-returns-in_err-x-in-Deref-clause-answered : goal.place_of-returns-in_err-x-in-Deref-clause-answered
-place_of-returns-in_err-x-in-Deref-clause-answered t c = rw (c.in-Deref.is, ← c.deref.ensures) (λ h.
-    (let a = c.in_err-x-in-Deref.ensures.answered h in search rules))
-
-pub place_of-returns-in_err-to-in-Member-clause-answered : goal.place_of-returns-in_err-to-in-Member-clause-answered
-place_of-returns-in_err-to-in-Member-clause-answered t c = rw (c.in-Member.is, ← c.deref-in-Member.ensures) (λ h.
-    (let a = c.in_err-to-in-Member.ensures.answered (record { given = h.given; typed = worked_typed c.args.f.now _ _ _ c.in_ok-work_more-in-Member.ensures h.typed; function = h.function; keeps = h.keeps }) in search rules))
-
-pub port_operation-returns-in_err-i-clause-answered : goal.port_operation-returns-in_err-i-clause-answered
-port_operation-returns-in_err-i-clause-answered t c = λ h.
-    (let a = c.in_err-i.ensures.answered (part c.args.f.now (λ (g : ℕ). ValidOption (plain_program c.args.f.now.program.now) c.args.f.now.io.now g (plain_optional (option_copied c.args.index))) (λ g v. v.0) h) in search rules)
-
-pub port_operation-returns-in_err-v-clause-answered : goal.port_operation-returns-in_err-v-clause-answered
-port_operation-returns-in_err-v-clause-answered t c = λ h.
-    (let k = after_option c.args.f.now c.args.f.now.turns c.args.depth (plain_optional (option_copied c.args.index)) c.in_ok-i.i _ _ (part c.args.f.now (λ (g : ℕ). ValidOption (plain_program c.args.f.now.program.now) c.args.f.now.io.now g (plain_optional (option_copied c.args.index))) (λ g v. v.0) h) c.in_ok-i.ensures.shows in
-    let a = c.in_err-v.ensures.answered (later c.args.f.now (λ (g : ℕ). ValidOption (plain_program c.args.f.now.program.now) c.args.f.now.io.now g (plain_optional (option_copied c.args.value))) (λ g v. v.1) h k) in search rules)
-
-pub option_value-returns-in_err-x-in-Some-clause-answered : goal.option_value-returns-in_err-x-in-Some-clause-answered
-option_value-returns-in_err-x-in-Some-clause-answered t c = rw (c.in-Some.is) (λ h.
-    (let a = c.in_err-x-in-Some.ensures.answered h in search rules))
-
-pub test_of-returns-in_err-h-in-Some-clause-answered : goal.test_of-returns-in_err-h-in-Some-clause-answered
-test_of-returns-in_err-h-in-Some-clause-answered t c = rw (c.in-Some.is) (λ h.
-    (let a = c.in_err-h-in-Some.ensures.answered (record { given = h.given; typed = h.typed; function = h.function; keeps = h.keeps.0 }) in search rules))
-
-pub evaluated-returns-in_err-value_of-in-Some-clause-answered : goal.evaluated-returns-in_err-value_of-in-Some-clause-answered
-evaluated-returns-in_err-value_of-in-Some-clause-answered t c = rw (c.in-Some.is) (λ h.
-    (let a = c.in_err-value_of-in-Some.ensures.answered h in search rules))
-
-pub returned-returns-in_err-x-in-Some-clause-answered : goal.returned-returns-in_err-x-in-Some-clause-answered
-returned-returns-in_err-x-in-Some-clause-answered t c = rw (c.in-Some.is) (λ h.
-    (let a = c.in_err-x-in-Some.ensures.answered h in search rules))
-
-pub turning_loop-returns-in_err-x-clause-shows : goal.turning_loop-returns-in_err-x-clause-shows
-turning_loop-returns-in_err-x-clause-shows t c =
-    let f = c.args.f.now in
-    let w = setting_of f.program.now f.io.now f.inputs.now in
-    let calls = calls_within w f.turns c.args.depth in
-    let body : State → Outcome Exit = λ s. effect_of w calls f.turns (plain_stmt c.args.body.now) s in
-    let test : State → Outcome Bool = λ s. going_on w calls (option_map plain_expr (option_copied c.args.last)) (option_map plain_expr (option_copied c.args.c)) s in
-    let one = turns_one c.loop-left.left body test (seen c.loop-left.s) (omega (arith, c.loop-left-test.true)) in
-    rw (← c.loop-left.invariant.0, one, ← c.in_ok-work_more.ensures) (first_of (search rules, grind (arith, common_steps)))
-
-pub turning_loop-returns-in_err-goes_on-clause-answered : goal.turning_loop-returns-in_err-goes_on-clause-answered
-turning_loop-returns-in_err-goes_on-clause-answered t c = λ h.
-    (let l = c.loop-left.invariant.1 h in
-    let k = worked_typed c.args.f.now _ _ _ c.in_ok-work_more.ensures l.test.typed in
-    let m = after_statement c.args.f.now c.args.f.now.turns c.args.depth (plain_stmt c.args.body.now) (seen_exit c.in_ok-x.x) _ _ (loop_turn c.args.f.now _ l k) c.in_ok-x.ensures.shows in
-    let a = c.in_err-goes_on.ensures.answered (test_later c.args.f.now _ l.test m) in search rules)
-
-pub tested_loop-returns-in_err-test_of-clause-answered : goal.tested_loop-returns-in_err-test_of-clause-answered
-tested_loop-returns-in_err-test_of-clause-answered t c = λ h.
-    (let a = c.in_err-test_of.ensures.answered (test_condition c.args.f.now h.test) in search rules)
-
-pub tested_loop-returns-in_err-x-2-clause-answered : goal.tested_loop-returns-in_err-x-2-clause-answered
-tested_loop-returns-in_err-x-2-clause-answered t c = λ h.
-    (let k = after_test c.args.f.now c.args.f.now.turns c.args.depth (option_map plain_expr (option_copied c.args.c)) _ _ _ (test_condition c.args.f.now h.test) c.in_ok-test_of.ensures.shows in
-    let a = c.in_err-x-2.ensures.answered (loop_later c.args.f.now _ h k) in search rules)
-
-pub goes_on-returns-in_err-evaluated-clause-answered : goal.goes_on-returns-in_err-evaluated-clause-answered
-goes_on-returns-in_err-evaluated-clause-answered t c = λ h.
-    (let a = c.in_err-evaluated.ensures.answered (test_last c.args.f.now h) in search rules)
-
-pub goes_on-returns-in_err-h-clause-answered : goal.goes_on-returns-in_err-h-clause-answered
-goes_on-returns-in_err-h-clause-answered t c = λ h.
-    (let k = after_evaluated c.args.f.now c.args.f.now.turns c.args.depth (option_map plain_expr (option_copied c.args.last)) _ _ _ (test_last c.args.f.now h) c.in_ok-evaluated.ensures.shows in
-    let a = c.in_err-h.ensures.answered (test_condition c.args.f.now (test_later c.args.f.now _ h k)) in search rules)
-
-pub values_of-returns-in_err-x-clause-answered : goal.values_of-returns-in_err-x-clause-answered
-values_of-returns-in_err-x-clause-answered t c = λ h.
-    (let v = exprs_next c.args.f.now _ c.args.es.now c.loop-e.e-index c.e-item.result (omega (arith, c.loop-e-test.true)) c.e-item.is (c.loop-e.invariant.1 h) in
-    let a = c.in_err-x.ensures.answered (part c.args.f.now (λ (g : ℕ). ValidExpr (plain_program c.args.f.now.program.now) c.args.f.now.io.now g (plain_expr c.e-item.result)) (λ g k. k.0) v) in search rules)
-
-pub values_of-loop-e-preserved : goal.values_of-loop-e-preserved
-values_of-loop-e-preserved t c = (
-  first_of (search rules, grind (arith, common_steps)),
-  λ h. (let v = exprs_next c.args.f.now _ c.args.es.now c.loop-e.e-index c.e-item.result (omega (arith, c.loop-e-test.true)) c.e-item.is (c.loop-e.invariant.1 h) in
-      let q = after_value c.args.f.now c.args.f.now.turns c.args.depth (plain_expr c.e-item.result) c.in_ok-x.x _ _ (part c.args.f.now (λ (g : ℕ). ValidExpr (plain_program c.args.f.now.program.now) c.args.f.now.io.now g (plain_expr c.e-item.result)) (λ g k. k.0) v) c.in_ok-x.ensures.shows in
-      record { given = v.given; typed = q.typed; function = v.function; keeps = v.keeps.1 }),
-)
-
-pub effects_of-loop-a-preserved : goal.effects_of-loop-a-preserved
-effects_of-loop-a-preserved t c = (
-  first_of (search rules, grind (arith, common_steps)),
-  λ h. (let v = stmts_next c.args.f.now _ c.args.all.now c.loop-a.a-index c.a-item.result (omega (arith, c.loop-a-test.true)) c.a-item.is (c.loop-a.invariant.1 h) in
-      let k = after_statement c.args.f.now c.args.f.now.turns c.args.depth (plain_stmt c.a-item.result) (seen_exit c.in_ok-x.x) _ _ (record { given = v.given; typed = v.typed; function = v.function; returns = v.returns; in_loop = v.in_loop; valid = v.valid.0 }) c.in_ok-x.ensures.shows in
-      record { given = v.given; typed = k; function = v.function; returns = v.returns; in_loop = v.in_loop; valid = v.valid.1 }),
-)
-
-pub initialising-returns-in_err-x-clause-answered : goal.initialising-returns-in_err-x-clause-answered
-initialising-returns-in_err-x-clause-answered t c = λ h.
-    (let v = leaves_next c.args.f.now _ c.args.o c.loop-k.k c.args.values.now c.index-values-k.result (omega (arith, c.loop-k-test.true)) c.index-values-k.is (c.loop-k.invariant.1 h) in
-    let k = worked_typed c.args.f.now _ _ _ c.in_ok-work_more.ensures v.typed in
-    let a = c.in_err-x.ensures.answered (later c.args.f.now (λ (g : ℕ). ValidExpr (plain_program c.args.f.now.program.now) c.args.f.now.io.now g (plain_expr c.index-values-k.result)) (λ g z. z.3.0) v k) in search rules)
-
-pub initialising-loop-k-preserved : goal.initialising-loop-k-preserved
-initialising-loop-k-preserved t c = (
-  first_of (search rules, grind (arith, common_steps)),
-  λ h. (let v = leaves_next c.args.f.now _ c.args.o c.loop-k.k c.args.values.now c.index-values-k.result (omega (arith, c.loop-k-test.true)) c.index-values-k.is (c.loop-k.invariant.1 h) in
-      left_next c.args.f.now c.args.f.now.turns c.args.depth _ c.args.o c.loop-k.k (plain_expr c.index-values-k.result) _ c.in_ok-x.x _ _ _ _ _ v c.in_ok-work_more.ensures c.in_ok-x.ensures.shows c.in_ok-initialise.ensures.shows),
-)
-
-pub enter-returns-in_err-exit-clause-answered : goal.enter-returns-in_err-exit-clause-answered
-enter-returns-in_err-exit-clause-answered t c = λ g k a.
-    (let m = worked_typed c.args.f.now _ _ _ c.in_ok-work_more.ensures k in
-    let b = rw (c.as_slice.ensures) at c.in_ok-bind.ensures.shows in
-    let p = after_parameters c.args.f.now c.args.g (plain_function c.args.called.now) c.args.xs.now _ _ _ g a.0 a.1 m b in
-    let e = c.in_err-exit.ensures.answered (body_runs c.args.f.now c.args.g (plain_function c.args.called.now) _ g a.0 p) in
-    search rules)
-
-pub effect_of-returns-in_err-value_of-in-Do1-clause-answered : goal.effect_of-returns-in_err-value_of-in-Do1-clause-answered
-effect_of-returns-in_err-value_of-in-Do1-clause-answered t c = rw (c.in-Do1.is) (λ h.
-    (let a = c.in_err-value_of-in-Do1.ensures.answered (statement_expr c.args.f.now (plain_expr c.in-Do1.e) _ h h.typed h.valid) in search rules))
-
-pub effect_of-returns-in_err-x-in-Block-clause-answered : goal.effect_of-returns-in_err-x-in-Block-clause-answered
-effect_of-returns-in_err-x-in-Block-clause-answered t c = rw (c.in-Block.is, plain_block c.in-Block.all, ← c.as_slice-all.ensures) (λ h.
-    (let a = c.in_err-x-in-Block.ensures.answered (record { given = h.given; typed = h.typed; function = h.function; returns = h.returns; in_loop = h.in_loop; valid = h.valid }) in search rules))
-
-pub effect_of-returns-in_err-x-in-Local-clause-answered : goal.effect_of-returns-in_err-x-in-Local-clause-answered
-effect_of-returns-in_err-x-in-Local-clause-answered t c = rw (c.in-Local.is, plain_local c.in-Local.o c.in-Local.values, ← c.as_slice.ensures) (λ h.
-    (let b = after_begin c.args.f.now c.in-Local.o (seen c.args.s.now) h.given h.typed in
-    let k = subst (λ (s : State). IsTypedState (plain_program c.args.f.now.program.now) s) (sym c.in_ok-begin-in-Local.ensures.begun) b in
-    let a = c.in_err-x-in-Local.ensures.answered (declared_leaves c.args.f.now c.in-Local.o (plain_exprs c.as_slice.result.now) _ h.function h.given k h.valid.0 h.valid.1) in search rules))
-
-pub effect_of-returns-in_err-condition-in-If-clause-answered : goal.effect_of-returns-in_err-condition-in-If-clause-answered
-effect_of-returns-in_err-condition-in-If-clause-answered t c = rw (c.in-If.is) (λ h.
-    (let k = worked_typed c.args.f.now _ _ _ c.in_ok-work_more-in-If.ensures h.typed in
-    let a = c.in_err-condition-in-If.ensures.answered (statement_expr c.args.f.now (plain_expr c.in-If.c) _ h k h.valid.0.0) in search rules))
-
-pub effect_of-returns-in_err-x-in-If-clause-answered : goal.effect_of-returns-in_err-x-in-If-clause-answered
-effect_of-returns-in_err-x-in-If-clause-answered t c = rw (c.in-If.is, ← c.deref.ensures) (λ h.
-    (let k = worked_typed c.args.f.now _ _ _ c.in_ok-work_more-in-If.ensures h.typed in
-    let m = after_condition c.args.f.now c.args.f.now.turns c.args.depth (plain_expr c.in-If.c) _ _ _ (statement_expr c.args.f.now (plain_expr c.in-If.c) _ h k h.valid.0.0) c.in_ok-condition-in-If.ensures.shows in
-    let a = c.in_err-x-in-If.ensures.answered (statement_in c.args.f.now (plain_stmt c.deref.result.now) _ h m h.valid.1) in search rules))
-
-pub effect_of-returns-in_err-x-in-Some-clause-answered : goal.effect_of-returns-in_err-x-in-Some-clause-answered
-effect_of-returns-in_err-x-in-Some-clause-answered t c = rw (c.in-If.is, c.in-Some.is, ← c.deref-in-Some.ensures) (λ h.
-    (let k = worked_typed c.args.f.now _ _ _ c.in_ok-work_more-in-If.ensures h.typed in
-    let m = after_condition c.args.f.now c.args.f.now.turns c.args.depth (plain_expr c.in-If.c) _ _ _ (statement_expr c.args.f.now (plain_expr c.in-If.c) _ h k h.valid.0.0) c.in_ok-condition-in-If.ensures.shows in
-    let a = c.in_err-x-in-Some.ensures.answered (statement_in c.args.f.now (plain_stmt c.deref-in-Some.result.now) _ h m h.valid.2) in search rules))
-
-pub effect_of-returns-in_err-x-in-While-clause-answered : goal.effect_of-returns-in_err-x-in-While-clause-answered
-effect_of-returns-in_err-x-in-While-clause-answered t c = rw (c.in-While.is, ← c.deref-in-While.ensures) (λ h.
-    (let a = c.in_err-x-in-While.ensures.answered (record { test = record { given = h.given; typed = h.typed; function = h.function; tested = h.valid.0; done = tt }; returns = h.returns; turn = h.valid.1 }) in search rules))
-
-pub effect_of-returns-in_err-x-in-DoWhile-clause-answered : goal.effect_of-returns-in_err-x-in-DoWhile-clause-answered
-effect_of-returns-in_err-x-in-DoWhile-clause-answered t c = rw (c.in-DoWhile.is, ← c.deref-in-DoWhile.ensures) (λ h.
-    (let a = c.in_err-x-in-DoWhile.ensures.answered (record { test = record { given = h.given; typed = h.typed; function = h.function; tested = h.valid.1; done = tt }; returns = h.returns; turn = h.valid.0 }) in search rules))
-
-pub effect_of-returns-in_err-x-in-None-first-clause-answered : goal.effect_of-returns-in_err-x-in-None-first-clause-answered
-effect_of-returns-in_err-x-in-None-first-clause-answered t c = rw (c.in-For.is, c.in-None-first.is, ← c.as_ref.ensures.value, ← c.as_ref-in-None-first.ensures.value, ← c.deref-in-None-first.ensures) (λ h.
-    (let a = c.in_err-x-in-None-first.ensures.answered (record { test = record { given = h.given; typed = h.typed; function = h.function; tested = h.valid.1; done = h.valid.2 }; returns = h.returns; turn = h.valid.3 }) in search rules))
-
-pub effect_of-returns-in_err-x-in-Some-first-clause-answered : goal.effect_of-returns-in_err-x-in-Some-first-clause-answered
-effect_of-returns-in_err-x-in-Some-first-clause-answered t c = rw (c.in-For.is, c.in-Some-first.is, ← c.as_ref-in-Some-first.ensures.value, ← c.as_ref-in-Some-first-2.ensures.value, ← c.deref-in-Some-first-2.ensures, ← c.deref-in-Some-first.ensures) (λ h.
-    (let a = c.in_err-x-in-Some-first.ensures.answered (statement_in c.args.f.now (plain_stmt c.deref-in-Some-first.result.now) _ h h.typed h.valid.0) (record { test = record { given = h.given; typed = h.typed; function = h.function; tested = h.valid.1; done = h.valid.2 }; returns = h.returns; turn = h.valid.3 }) in search rules))
-
-pub first_effect-returns-in_err-x-in-Some-clause-answered : goal.first_effect-returns-in_err-x-in-Some-clause-answered
-first_effect-returns-in_err-x-in-Some-clause-answered t c = λ h.
-    (let v = block_valid (plain_program c.args.f.now.program.now) c.args.f.now.io.now h.function h.returns h.in_loop (plain_stmt c.args.first.now) (plain_stmts c.in-Some.all.now) c.in-Some.ensures h.valid in
-    let a = c.in_err-x-in-Some.ensures.answered (record { given = h.given; typed = h.typed; function = h.function; returns = h.returns; in_loop = h.in_loop; valid = v }) in search rules)
-
-pub first_effect-returns-in_err-x-in-None-clause-answered : goal.first_effect-returns-in_err-x-in-None-clause-answered
-first_effect-returns-in_err-x-in-None-clause-answered t c = λ h. (let a = c.in_err-x-in-None.ensures.answered h in search rules)
-
-pub first_and_loop-returns-in_err-left-clause-answered : goal.first_and_loop-returns-in_err-left-clause-answered
-first_and_loop-returns-in_err-left-clause-answered t c = λ h l. (let a = c.in_err-left.ensures.answered h in search rules)
-
-pub first_and_loop-returns-in_err-x-clause-answered : goal.first_and_loop-returns-in_err-x-clause-answered
-first_and_loop-returns-in_err-x-clause-answered t c = λ h l.
-    (let k = after_first c.args.f.now c.args.f.now.turns c.args.depth (plain_stmt c.args.first.now) (seen_exit c.in_ok-left.left) _ _ h c.in_ok-left.ensures.shows in
-    let a = c.in_err-x.ensures.answered (loop_later c.args.f.now _ l k) in search rules)
-
-pub effect_of-returns-in_err-x-in-Return-clause-answered : goal.effect_of-returns-in_err-x-in-Return-clause-answered
-effect_of-returns-in_err-x-in-Return-clause-answered t c = rw (c.in-Return.is) (λ h.
-    (let k = worked_typed c.args.f.now _ _ _ c.in_ok-work_more-in-Return.ensures h.typed in
-    let a = c.in_err-x-in-Return.ensures.answered (record { given = h.given; typed = k; function = h.function; keeps = h.valid.1 }) in search rules))
+pub call_function-returns-then-depth-eq0 : goal.call_function-returns-then-depth-eq0
+call_function-returns-then-depth-eq0 t c = rw (c.if-depth-eq0.true) refl
+
+pub call_function-returns-in-None : goal.call_function-returns-in-None
+call_function-returns-in-None t c =
+    calls_one (setting_of c.args.f.now.program.now c.args.f.now.io.now c.args.f.now.inputs.now) c.args.f.now.turns c.args.depth c.args.g c.args.xs.now (seen c.args.s.now) (omega (arith, c.if-depth-eq0.false)) ∙ rw (← c.in-None.ensures) refl
+
+pub call_function-returns-in-Some : goal.call_function-returns-in-Some
+call_function-returns-in-Some t c =
+    rw (calls_one (setting_of c.args.f.now.program.now c.args.f.now.io.now c.args.f.now.inputs.now) c.args.f.now.turns c.args.depth c.args.g c.args.xs.now (seen c.args.s.now) (omega (arith, c.if-depth-eq0.false)), ← c.in-Some.ensures) (suited (λ x. x) c.enter.result _ _ (λ h. record { given = h.given; typed = h.typed; called = (sym c.in-Some.ensures, called_arguments c.args.f.now c.args.g (plain_function c.in-Some.called.now) c.args.xs.now (sym c.in-Some.ensures) h.arguments) }) c.enter.ensures)
+
+pub enter-returns-in_err-begin_call : goal.enter-returns-in_err-begin_call
+enter-returns-in_err-begin_call t c =
+    passes (λ x. x) c.from_residual.result c.in_err-begin_call.field-0.0 _ _ _ c.from_residual.ensures.1 (λ h. h.given) (rw (c.as_slice.ensures) at c.in_err-begin_call.ensures)
+
+pub enter-returns-in_err-exit : goal.enter-returns-in_err-exit
+enter-returns-in_err-exit t c =
+    rw (rw (c.as_slice.ensures) at c.in_ok-begin_call.ensures) (passes (λ x. x) c.from_residual-in_err-exit.result c.in_err-exit.field-0.0 _ _ _ c.from_residual-in_err-exit.ensures.1 (λ h. (let b = rw (c.as_slice.ensures) at c.in_ok-begin_call.ensures in let p = after_parameters c.args.f.now c.args.g (plain_function c.args.called.now) c.args.xs.now _ _ _ h.given h.called.0 h.called.1 (worked_typed c.args.f.now function_words (seen c.args.s.now) (worked function_words (seen c.args.s.now)) refl h.typed) b in body_runs c.args.f.now c.args.g (plain_function c.args.called.now) _ h.given h.called.0 p)) c.in_err-exit.ensures)
+
+pub enter-returns : goal.enter-returns
+enter-returns t c =
+    rw (rw (c.as_slice.ensures) at c.in_ok-begin_call.ensures, c.in_ok-exit.ensures) (suited (λ x. x) c.end_call.result _ _ (λ h. tt) c.end_call.ensures)
