@@ -1,0 +1,2 @@
+/* A comment
+   of two lines */ int f(void); int main(void) { return f(1); }

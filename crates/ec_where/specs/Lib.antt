@@ -1,0 +1,4 @@
+pub mod Position
+pub mod Pointed
+pub mod Line
+pub mod Located
