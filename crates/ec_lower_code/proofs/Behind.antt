@@ -1,0 +1,109 @@
+-- What stands behind a part of the code.
+use Rattle.std.specs.Prelude.{ℕ, ◌+◌, Bool, true, false, List, [], ◌∷◌, Option, Some, None}
+use Rattle.ec_fx.specs.declared.numbers.Mode.{Mode}
+use Rattle.ec_core.specs.declared.expressions.BinOp.{BinOp}
+use Rattle.ec_core.specs.Layout.{PlainLeaf}
+use Rattle.ec_core.specs.Operators.{OperationTypes, number_type, step_operator}
+use Rattle.ec_core.specs.Typing.{type_of_expr}
+use Rattle.ec_core.specs.Plain.{PlainType, PlainExpr, expression, PlainNode, number, null, load, address_of, unary, binary, convert, assign, compound, step, logical_not, logical_and, logical_or, conditional, comma, call, io, group, object, deref, member, PlainExprs, last_expr, next_expr, PlainStmt, statement, PlainKind, empty, evaluate, block, declare, branch, while_loop, do_loop, for_loop, break_loop, continue_loop, return_value, OptionPlainStmt, no_stmt, a_stmt, PlainStmts, last_stmt, next_stmt, PlainProgram}
+use Rattle.ec_ir.specs.Operations.{PlainIr}
+use Rattle.ec_lower_code.specs.Code.{truth_code, update_types, update_code, step_code, params_code, params_of, expr_labels, optional_labels, option_stmt_labels, expr_code, node_code, args_code, init_code, test_code, last_code, leaves_of_object, loop_code, stmt_code, kind_code, option_stmt_code, stmts_code}
+use Rattle.ec_lower_code.proofs.Steps.{Stands, behind}
+
+module _ (program : PlainProgram) (code : List PlainIr) where
+  pub truth_behind : (h : Bool) (ty : PlainType) (l t : ℕ) (rest : List PlainIr) → Stands code (truth_code h ty l t rest) → Stands code rest
+  truth_behind h ty l t rest s = behind code _ rest (behind code _ _ (behind code _ _ (behind code _ _ (behind code _ _ s))))
+
+  pub update_behind : (op : BinOp) (ts : OperationTypes) (own mode : Mode) (ty : PlainType) (o t : ℕ) (right : PlainType) (rest : List PlainIr) → Stands code (update_code op ts own mode ty o t right rest) → Stands code rest
+  update_behind op ts own mode ty o t right rest s = behind code _ rest (behind code _ _ (behind code _ _ (behind code _ _ (behind code _ _ s))))
+
+  step_behind : (prefix : Bool) (op : BinOp) (mode : Mode) (ty : PlainType) (o t : ℕ) (rest : List PlainIr) → Stands code (step_code prefix op mode ty o t rest) → Stands code rest
+  step_behind true op mode ty o t rest s = behind code _ rest (behind code _ _ (behind code _ _ (behind code _ _ (behind code _ _ s))))
+  step_behind false op mode ty o t rest s = behind code _ rest (behind code _ _ (behind code _ _ (behind code _ _ (behind code _ _ (behind code _ _ s)))))
+
+  pub params_behind : (os : List ℕ) (es : PlainExprs) (t : ℕ) (rest : List PlainIr) → Stands code (params_code os es t rest) → Stands code rest
+  params_behind [] es t rest h = h
+  params_behind (o ∷ os) last_expr t rest h = h
+  params_behind (o ∷ os) (next_expr e es) t rest h = params_behind os es (t + 1) rest (behind code _ _ h)
+
+  mutual
+    pub expr_behind : (e : PlainExpr) (l t : ℕ) (rest : List PlainIr) → Stands code (expr_code program e l t rest) → Stands code rest
+    expr_behind (expression ty mode node) l t rest h = node_behind ty mode node l t rest h
+
+    node_behind : (ty : PlainType) (mode : Mode) (node : PlainNode) (l t : ℕ) (rest : List PlainIr) → Stands code (node_code program ty mode node l t rest) → Stands code rest
+    node_behind ty mode (number n) l t rest h = behind code _ rest h
+    node_behind ty mode null l t rest h = h
+    node_behind ty mode (load (object o)) l t rest h = behind code _ rest h
+    node_behind ty mode (load (deref e)) l t rest h = h
+    node_behind ty mode (load (member q i)) l t rest h = h
+    node_behind ty mode (address_of q) l t rest h = h
+    node_behind ty mode (unary op a) l t rest h = behind code _ rest (expr_behind a l t _ h)
+    node_behind ty mode (binary op a b) l t rest h = behind code _ rest (expr_behind b _ (t + 1) _ (expr_behind a l t _ h))
+    node_behind ty mode (convert a) l t rest h = behind code _ rest (expr_behind a l t _ h)
+    node_behind ty mode (assign (object o) a) l t rest h = behind code _ rest (expr_behind a l t _ h)
+    node_behind ty mode (assign (deref e) a) l t rest h = h
+    node_behind ty mode (assign (member q i) a) l t rest h = h
+    node_behind ty mode (compound op own (object o) a) l t rest h = update_behind op (update_types op (number_type ty) (number_type (type_of_expr a))) own mode ty o t (type_of_expr a) rest (expr_behind a l (t + 1) _ (behind code _ _ h))
+    node_behind ty mode (compound op own (deref e) a) l t rest h = h
+    node_behind ty mode (compound op own (member q i) a) l t rest h = h
+    node_behind ty mode (step up prefix (object o)) l t rest h = step_behind prefix (step_operator up) mode ty o t rest (behind code _ _ (behind code _ _ h))
+    node_behind ty mode (step up prefix (deref e)) l t rest h = h
+    node_behind ty mode (step up prefix (member q i)) l t rest h = h
+    node_behind ty mode (logical_not a) l t rest h = truth_behind false ty l t rest (behind code _ _ (expr_behind a (l + 2) t _ h))
+    node_behind ty mode (logical_and a b) l t rest h = truth_behind true ty l t rest (behind code _ _ (expr_behind b _ t _ (behind code _ _ (expr_behind a (l + 2) t _ h))))
+    node_behind ty mode (logical_or a b) l t rest h = truth_behind true ty l t rest (behind code _ _ (behind code _ _ (expr_behind b _ t _ (behind code _ _ (behind code _ _ (behind code _ _ (expr_behind a (l + 4) t _ h)))))))
+    node_behind ty mode (conditional c a b) l t rest h = behind code _ rest (expr_behind b _ t _ (behind code _ _ (behind code _ _ (expr_behind a _ t _ (behind code _ _ (expr_behind c (l + 2) t _ h))))))
+    node_behind ty mode (comma a b) l t rest h = expr_behind b _ t rest (expr_behind a l t _ h)
+    node_behind ty mode (call f args) l t rest h = behind code _ rest (params_behind (params_of program f) args t _ (args_behind args l t _ h))
+    node_behind ty mode (io op port i v) l t rest h = h
+    node_behind ty mode (group acquire g) l t rest h = h
+
+    pub args_behind : (es : PlainExprs) (l t : ℕ) (rest : List PlainIr) → Stands code (args_code program es l t rest) → Stands code rest
+    args_behind last_expr l t rest h = h
+    args_behind (next_expr e es) l t rest h = args_behind es _ (t + 1) rest (expr_behind e l t _ h)
+
+  pub init_behind : (ls : List PlainLeaf) (o : ℕ) (es : PlainExprs) (l : ℕ) (rest : List PlainIr) → Stands code (init_code program ls o es l rest) → Stands code rest
+  init_behind [] o es l rest h = h
+  init_behind (leaf ∷ ls) o last_expr l rest h = h
+  init_behind (leaf ∷ ls) o (next_expr e es) l rest h = init_behind ls o es _ rest (behind code _ _ (expr_behind e l 0 _ h))
+
+  pub test_behind : (c : Option PlainExpr) (out l : ℕ) (rest : List PlainIr) → Stands code (test_code program c out l rest) → Stands code rest
+  test_behind None out l rest h = h
+  test_behind (Some c) out l rest h = behind code _ rest (expr_behind c l 0 _ h)
+
+  pub last_behind : (e : Option PlainExpr) (l : ℕ) (rest : List PlainIr) → Stands code (last_code program e l rest) → Stands code rest
+  last_behind None l rest h = h
+  last_behind (Some e) l rest h = expr_behind e l 0 rest h
+
+  loop_behind : (c last : Option PlainExpr) (l : ℕ) (body : List PlainIr → List PlainIr) (rest : List PlainIr) → ((q : List PlainIr) → Stands code (body q) → Stands code q) → Stands code (loop_code program c last l body rest) → Stands code rest
+  loop_behind c last l body rest f h =
+      behind code _ rest (behind code _ _ (last_behind last _ _ (behind code _ _ (f _ (behind code _ _ (test_behind c _ _ _ (behind code _ _ h)))))))
+
+  mutual
+    pub stmt_behind : (a : PlainStmt) (l out on : ℕ) (rest : List PlainIr) → Stands code (stmt_code program a l out on rest) → Stands code rest
+    stmt_behind (statement unit k kind) l out on rest h = kind_behind kind l out on rest h
+
+    kind_behind : (kind : PlainKind) (l out on : ℕ) (rest : List PlainIr) → Stands code (kind_code program kind l out on rest) → Stands code rest
+    kind_behind empty l out on rest h = h
+    kind_behind (evaluate e) l out on rest h = expr_behind e l 0 rest h
+    kind_behind (block ss) l out on rest h = stmts_behind ss l out on rest h
+    kind_behind (declare o es) l out on rest h = init_behind (leaves_of_object program o) o es l rest h
+    kind_behind (branch c a no_stmt) l out on rest h = behind code _ rest (stmt_behind a _ out on _ (behind code _ _ (expr_behind c (l + 2) 0 _ h)))
+    kind_behind (branch c a (a_stmt b)) l out on rest h = behind code _ rest (stmt_behind b _ out on _ (behind code _ _ (behind code _ _ (stmt_behind a _ out on _ (behind code _ _ (expr_behind c (l + 2) 0 _ h))))))
+    kind_behind (while_loop c a) l out on rest h = loop_behind (Some c) None l (λ q. stmt_code program a (l + 4 + expr_labels c) (l + 1) (l + 2) q) rest (λ q g. stmt_behind a (l + 4 + expr_labels c) (l + 1) (l + 2) q g) h
+    kind_behind (do_loop a c) l out on rest h = loop_behind (Some c) None l (λ q. stmt_code program a (l + 4 + expr_labels c) (l + 1) (l + 2) q) rest (λ q g. stmt_behind a (l + 4 + expr_labels c) (l + 1) (l + 2) q g) (behind code _ _ h)
+    kind_behind (for_loop first c last a) l out on rest h =
+        let m = l + option_stmt_labels first in
+        loop_behind c last m (λ q. stmt_code program a (m + 4 + optional_labels c + optional_labels last) (m + 1) (m + 2) q) rest (λ q g. stmt_behind a (m + 4 + optional_labels c + optional_labels last) (m + 1) (m + 2) q g) (option_behind first l out on _ h)
+    kind_behind break_loop l out on rest h = behind code _ rest h
+    kind_behind continue_loop l out on rest h = behind code _ rest h
+    kind_behind (return_value None) l out on rest h = behind code _ rest h
+    kind_behind (return_value (Some e)) l out on rest h = behind code _ rest (expr_behind e l 0 _ h)
+
+    pub option_behind : (a : OptionPlainStmt) (l out on : ℕ) (rest : List PlainIr) → Stands code (option_stmt_code program a l out on rest) → Stands code rest
+    option_behind no_stmt l out on rest h = h
+    option_behind (a_stmt a) l out on rest h = stmt_behind a l out on rest h
+
+    pub stmts_behind : (ss : PlainStmts) (l out on : ℕ) (rest : List PlainIr) → Stands code (stmts_code program ss l out on rest) → Stands code rest
+    stmts_behind last_stmt l out on rest h = h
+    stmts_behind (next_stmt a ss) l out on rest h = stmts_behind ss _ out on rest (stmt_behind a l out on _ h)

@@ -1,0 +1,129 @@
+-- Reads and writes of an object that is named, beside the operations for them.
+use Rattle.std.proofs.Common.{◌≡◌, ℕ, suc, ◌+◌, ◌<◌, Bool, true, false, ◌&&◌, List, [], ◌∷◌, Option, Some, None, refl, sym, ap, ◌∙◌, arith, cond, eqb-true}
+use Rattle.std.specs.Prelude.{◌==◌, if◌then◌else◌, slice_get, option_map, option_and_then, unwrap_or}
+use Rattle.std.specs.List.{position_from}
+use Rattle.std.proofs.lemmas.Option.{slice_get_within}
+use Rattle.ec_space.specs.declared.space.SpaceId.TheVariants.{Flash}
+use Rattle.ec_space.specs.Spaces.{holds}
+use Rattle.ec_core.specs.declared.values.Undefined.TheVariants.{Unset, ConstWrite}
+use Rattle.ec_core.specs.declared.values.Value.{Value}
+use Rattle.ec_core.specs.Accesses.{pointer_to, is_live_in, is_readable, leaf_at, Access, access, leaf_of, read_value, read, recorded, with_leaf, leaf_count, first_write}
+use Rattle.ec_core.specs.Layout.{PlainLeaf, IsScalar, leaves_of_type}
+use Rattle.ec_core.specs.Operators.{same_type}
+use Rattle.ec_core.specs.Plain.{PlainType, void, object, PlainObject, PlainProgram}
+use Rattle.ec_core.specs.State.{Read, Write, told, ObjectState, State, with_object, got, undefined, next}
+use Rattle.ec_core.specs.Typing.{place_space}
+use Rattle.ec_core.proofs.Growth.{some_if, some_then, some_map, and_true}
+use Rattle.ec_core.proofs.Sameness.{type_true}
+use Rattle.ec_ir.specs.Meaning.{held_as, leaf_from, access_at, object_access, accessed_type, put_leaf, put}
+use Rattle.ec_ir.specs.Temporaries.{Temps}
+use Rattle.ec_lower_code.specs.Code.{temp}
+use Rattle.ec_lower_code.proofs.Objects.{shown_at}
+use Rattle.ec_lower_code.proofs.Shown.{shown, held_of, IsValueOf, AreShown}
+use Rattle.ec_lower_code.proofs.Steps.{held_as_is}
+use Rattle.ec_lower_code.proofs.Values.{told_shown, readable_shown}
+
+-- the leaves of an object begin at different offsets
+abbrev pub AreApart : PlainProgram → Type 0
+AreApart program = (o : ℕ) (d : PlainObject) (k : ℕ) (leaf : PlainLeaf) → slice_get program.objects o ≡ Some d → slice_get (leaves_of_type program.structs d.ty) k ≡ Some leaf → leaf_from program d leaf.at ≡ Some k
+
+-- what a search found
+record IsFound {X : Type 0} (q : X → Bool) (i : ℕ) (xs : List X) (k : ℕ) : Type 0 where
+  item : X
+  at : ℕ
+  is : slice_get xs at ≡ Some item
+  counted : k ≡ i + at
+  passes : q item ≡ true
+
+found : {X : Type 0} (q : X → Bool) (i : ℕ) (xs : List X) (k : ℕ) → position_from q i xs ≡ Some k → IsFound q i xs k
+found q i [] k e = cc
+found {X} q i (x ∷ xs) k e = by_test (q x) refl e (λ f. found q (i + 1) xs k f)
+  where
+    first : q x ≡ true → Some i ≡ Some k → IsFound q i (x ∷ xs) k
+    first t f = let g : i ≡ k = cc in record { item = x; at = 0; is = refl; counted = omega (arith, g); passes = t }
+
+    later : IsFound q (i + 1) xs k → IsFound q i (x ∷ xs) k
+    later r = record { item = r.item; at = suc r.at; is = r.is; counted = omega (arith, r.counted); passes = r.passes }
+
+    by_test : (b : Bool) → q x ≡ b → cond b (Some i) (position_from q (i + 1) xs) ≡ Some k → (position_from q (i + 1) xs ≡ Some k → IsFound q (i + 1) xs k) → IsFound q i (x ∷ xs) k
+    by_test true t f go = first t f
+    by_test false t f go = later (go f)
+
+module _ (program : PlainProgram) (apart : AreApart program) where
+  -- a leaf of a live object, found on both sides
+  pub record HasLeaf (o offset : ℕ) (ty : PlainType) (s : State) (a : Access) : Type 0 where
+    pub d : PlainObject
+    pub x : ObjectState
+    pub k : ℕ
+    pub leaf : PlainLeaf
+    pub declared : slice_get program.objects o ≡ Some d
+    pub state : slice_get s.objects o ≡ Some x
+    pub item : slice_get (leaves_of_type program.structs d.ty) k ≡ Some leaf
+    pub begins : leaf_from program d offset ≡ Some k
+    pub typed : leaf.ty ≡ ty
+    pub is : access_at None o d x k ≡ a
+
+  -- the object that a place names
+  pub object_found : (ty : PlainType) (o : ℕ) (s0 s : State) (a : Access) → access program ty (place_space program (object o)) (pointer_to o s0) s ≡ Some a → HasLeaf o 0 ty s a
+  object_found ty o s0 s a h = by_state (slice_get s0.objects o) h
+    where
+      by_state : (z : Option ObjectState) → access program ty (place_space program (object o)) (option_map (λ x. record { object = o; instance = x.serial; offset = 0 }) z) s ≡ Some a → HasLeaf o 0 ty s a
+      by_state None f = let c = some_then (place_space program (object o)) _ a f in let g = c.2 in cc
+      by_state (Some z) f =
+          let c = some_then (place_space program (object o)) _ a f in
+          let d = some_then (slice_get program.objects o) _ a c.2 in
+          let x = some_then (slice_get s.objects o) _ a d.2 in
+          let b = some_if (is_live_in (record { object = o; instance = z.serial; offset = 0 }) x.0 && holds c.0 d.0.home) _ a x.2 in
+          let m = some_map (leaf_at program d.0 ty 0) _ a b.1 in
+          let e = some_map (slice_get program.objects o) (λ (y : PlainObject). y.space) c.0 c.1 in
+          let y : Some e.0 ≡ Some d.0 = sym e.1 ∙ d.1 in
+          let w : e.0 ≡ d.0 = cc in
+          let l = found (λ (leaf : PlainLeaf). leaf.at == 0 && same_type leaf.ty ty) 0 (leaves_of_type program.structs d.0.ty) m.0 m.1 in
+          let n : l.at ≡ m.0 = omega (arith, l.counted) in
+          let p = and_true (l.item.at == 0) (same_type l.item.ty ty) l.passes in
+          let is : slice_get (leaves_of_type program.structs d.0.ty) m.0 ≡ Some l.item = ap (slice_get (leaves_of_type program.structs d.0.ty)) (sym n) ∙ l.is in
+          record {
+            d = d.0;
+            x = x.0;
+            k = m.0;
+            leaf = l.item;
+            declared = d.1;
+            state = x.1;
+            item = is;
+            begins = ap (leaf_from program d.0) (sym (eqb-true l.item.at 0 p.0)) ∙ apart o d.0 m.0 l.item d.1 is;
+            typed = type_true l.item.ty ty p.1;
+            is = ap (λ sp. record { object = o; leaf = m.0; space = sp; declared = d.0; state = x.0 }) (sym (ap (λ (q : PlainObject). q.space) w) ∙ e.2) ∙ m.2;
+          }
+
+  -- the operations' access of it
+  home_access : (o offset : ℕ) (d : PlainObject) (y : ObjectState) (k : ℕ) (t : State) → slice_get program.objects o ≡ Some d → slice_get t.objects o ≡ Some y → leaf_from program d offset ≡ Some k → object_access program None o offset t ≡ Some (access_at None o d y k)
+  home_access o offset d y k t e f g =
+      ap (λ z. option_and_then (λ d. option_and_then (λ x. option_map (access_at None o d x) (leaf_from program d offset)) (slice_get t.objects o)) z) e
+      ∙ ap (λ z. option_and_then (λ x. option_map (access_at None o d x) (leaf_from program d offset)) z) f
+      ∙ ap (option_map (access_at None o d y)) g
+
+  -- a value that is read is read at home
+  pub read_home : (o offset : ℕ) (ty : PlainType) (s t : State) (a : Access) (l : HasLeaf o offset ty s a) (v : Value) → AreShown program program.objects s.objects t.objects → leaf_of l.x l.k ≡ Some v → is_readable program v s ≡ true → read program (object_access program None o offset t) t ≡ got (shown v) (recorded l.d.storage (Read o l.k l.d.space (told v)) t)
+  read_home o offset ty s t a l v h e r =
+      let z = shown_at program program.objects s.objects t.objects o l.d l.x h l.declared l.state in
+      let b : Access = access_at None o l.d z.0 l.k in
+      ap (λ q. read program q t) (home_access o offset l.d z.0 l.k t l.declared z.1 l.begins)
+      ∙ ap (λ q. read_value program b q t) (z.2.values l.k v e)
+      ∙ ap (λ c. if c then got (shown v) (recorded l.d.storage (Read o l.k l.d.space (told (shown v))) t) else undefined Unset t) (readable_shown program s t h v r)
+      ∙ ap (λ q. got (shown v) (recorded l.d.storage (Read o l.k l.d.space q) t)) (told_shown v)
+
+  -- a value that is written to an object that is not kept in flash
+  pub put_home : (o offset : ℕ) (ty : PlainType) (t0 : ℕ) (temps : Temps) (s t : State) (a : Access) (l : HasLeaf o offset ty s a) (v : Value) → AreShown program program.objects s.objects t.objects → IsScalar ty → IsValueOf ty v → temps t0 ≡ Some (held_of ty v) → holds Flash l.d.home ≡ false
+      → put program (object_access program None o offset t) (temp t0 ty) temps t ≡ got (shown v) (recorded l.d.storage (Write o l.k l.d.space (told v)) (with_object o (with_leaf l.k (shown v)) t))
+  put_home o offset ty t0 temps s t a l v h i vt e f =
+      let z = shown_at program program.objects s.objects t.objects o l.d l.x h l.declared l.state in
+      let b : Access = access_at None o l.d z.0 l.k in
+      let typed : accessed_type program (Some b) ≡ ty = ap (λ q. unwrap_or (option_map (λ (leaf : PlainLeaf). leaf.ty) q) void) l.item ∙ l.typed in
+      ap (λ q. put program q (temp t0 ty) temps t) (home_access o offset l.d z.0 l.k t l.declared z.1 l.begins)
+      ∙ ap (λ q. next (held_as q (temp t0 ty) temps t) (λ x s1. put_leaf (Some b) x s1)) typed
+      ∙ ap (λ q. next q (λ x s1. put_leaf (Some b) x s1)) (held_as_is ty t0 v temps t i vt e)
+      ∙ ap (λ c. if c then undefined ConstWrite t else first_write (Some b) (shown v) t) f
+      ∙ ap (λ q. got (shown v) (recorded l.d.storage (Write o l.k l.d.space q) (with_object o (with_leaf l.k (shown v)) t))) (told_shown v)
+
+  pub leaf_within : (o offset : ℕ) (ty : PlainType) (s : State) (a : Access) (l : HasLeaf o offset ty s a) → l.k < leaf_count program l.d.ty
+  leaf_within o offset ty s a l = slice_get_within (leaves_of_type program.structs l.d.ty) l.k l.leaf l.item

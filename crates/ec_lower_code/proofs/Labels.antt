@@ -1,0 +1,263 @@
+-- Each label stands once: how often a label stands is a sum over the parts, whose labels lie in intervals one after another.
+use Rattle.std.proofs.Common.{◌≡◌, ℕ, zero, suc, ◌+◌, ◌<◌, ◌≤◌, Bool, true, false, List, [], ◌∷◌, ◌++◌, Option, Some, None, refl, ap, ◌∙◌, subst, arith, eq-eqb, eqb-true}
+use Rattle.std.specs.Prelude.{◌==◌, if◌then◌else◌}
+use Rattle.std.proofs.lemmas.Grind.{common_steps}
+use Rattle.ec_fx.specs.declared.numbers.Mode.{Mode}
+use Rattle.ec_core.specs.declared.expressions.BinOp.{BinOp}
+use Rattle.ec_core.specs.Layout.{PlainLeaf}
+use Rattle.ec_core.specs.Operators.{number_type, step_operator}
+use Rattle.ec_core.specs.Plain.{PlainType, PlainExpr, expression, PlainNode, number, null, load, address_of, unary, binary, convert, assign, compound, step, logical_not, logical_and, logical_or, conditional, comma, call, io, group, object, deref, member, PlainExprs, last_expr, next_expr, PlainStmt, statement, PlainKind, empty, evaluate, block, declare, branch, while_loop, do_loop, for_loop, break_loop, continue_loop, return_value, OptionPlainStmt, no_stmt, a_stmt, PlainStmts, last_stmt, next_stmt, PlainFunction, PlainProgram}
+use Rattle.ec_core.specs.Typing.{type_of_expr}
+use Rattle.ec_ir.specs.Meaning.{find}
+use Rattle.ec_ir.specs.Operations.{PlainIr, constant, copy, address, field, load_at, store_at, load_object, store_object, binary_op, unary_op, conversion, label, jump, branch_zero, call_function, return_from, port_in, port_out}
+use Rattle.ec_ir.specs.Valid.{count}
+use Rattle.ec_lower_code.specs.Code.{temp, result_temp, truth_code, update_types, update_code, step_code, params_of, params_code, expr_labels, node_labels, exprs_labels, optional_labels, stmt_labels, kind_labels, option_stmt_labels, stmts_labels, expr_code, node_code, args_code, init_code, test_code, last_code, leaves_of_object, stmt_code, kind_code, option_stmt_code, stmts_code, function_code}
+use Rattle.ec_lower_code.proofs.Steps.{Resolves}
+
+abbrev is_at : (l j : ℕ) → ℕ
+is_at l j = if l == j then 1 else 0
+
+-- 1 where j is from l to l + k - 1, and else 0
+abbrev pub among : (k l j : ℕ) → ℕ
+among zero l j = 0
+among (suc k) l j = is_at l j + among k (l + 1) j
+
+is_other : (l j : ℕ) → j < l → is_at l j ≡ 0
+is_other l j h = let e : (l == j) ≡ false = grind (arith, common_steps) in ap (λ b. if b then 1 else 0) e
+
+among_below : (k l j : ℕ) → j < l → among k l j ≡ 0
+among_below zero l j h = refl
+among_below (suc k) l j h = let a = is_other l j h in let b = among_below k (l + 1) j (omega arith) in omega (arith, a, b)
+
+among_one : (k l j : ℕ) → among k l j ≤ 1
+among_one zero l j = omega arith
+among_one (suc k) l j = by_test (l == j) refl (among_one k (l + 1) j)
+  where
+    by_test : (b : Bool) → (l == j) ≡ b → among k (l + 1) j ≤ 1 → (if b then 1 else 0) + among k (l + 1) j ≤ 1
+    by_test true e h = let f : l ≡ j = eqb-true l j e in let g = among_below k (l + 1) j (omega (arith, f)) in omega (arith, g)
+    by_test false e h = omega (arith, h)
+
+pub among_two : (a b l j : ℕ) → among (a + b) l j ≡ among a l j + among b (l + a) j
+among_two zero b l j =
+    let e : among (0 + b) l j ≡ among b l j = ap (λ k. among k l j) (let z : 0 + b ≡ b = omega arith in z) in
+    let f : among b (l + 0) j ≡ among b l j = ap (λ m. among b m j) (let z : l + 0 ≡ l = omega arith in z) in
+    omega (arith, e, f)
+among_two (suc a) b l j =
+    let e : among (suc a + b) l j ≡ is_at l j + among (a + b) (l + 1) j = ap (λ k. among k l j) (let z : suc a + b ≡ suc (a + b) = omega arith in z) in
+    let f = among_two a b (l + 1) j in
+    let g : among b (l + 1 + a) j ≡ among b (l + suc a) j = ap (λ m. among b m j) (omega arith) in
+    omega (arith, e, f, g)
+
+among_three : (f a b l j : ℕ) → among (f + a + b) l j ≡ among f l j + among a (l + f) j + among b (l + f + a) j
+among_three f a b l j = let x = among_two (f + a) b l j in let y = among_two f a l j in let z : among b (l + (f + a)) j ≡ among b (l + f + a) j = ap (λ m. among b m j) (omega arith) in omega (arith, x, y, z)
+
+among_four : (f a b c l j : ℕ) → among (f + a + b + c) l j ≡ among f l j + among a (l + f) j + among b (l + f + a) j + among c (l + f + a + b) j
+among_four f a b c l j = let x = among_two (f + a + b) c l j in let y = among_three f a b l j in let z : among c (l + (f + a + b)) j ≡ among c (l + f + a + b) j = ap (λ m. among c m j) (omega arith) in omega (arith, x, y, z)
+
+two_labels : (l j : ℕ) → among 2 l j ≡ is_at l j + is_at (l + 1) j
+two_labels l j = omega arith
+
+four_labels : (l j : ℕ) → among 4 l j ≡ is_at l j + is_at (l + 1) j + is_at (l + 2) j + is_at (l + 3) j
+four_labels l j =
+    let a : is_at (l + 1 + 1) j ≡ is_at (l + 2) j = ap (λ m. is_at m j) (omega arith) in
+    let b : is_at (l + 1 + 1 + 1) j ≡ is_at (l + 3) j = ap (λ m. is_at m j) (omega arith) in
+    omega (arith, a, b)
+
+-- ---- labels that stand once are found
+
+op_count : (i : PlainIr) (code : List PlainIr) (j : ℕ) → count j code ≤ count j (i ∷ code)
+op_count (constant t n) code j = omega arith
+op_count (copy to from) code j = omega arith
+op_count (address t o f) code j = omega arith
+op_count (field t s o) code j = omega arith
+op_count (load_at to ptr s) code j = omega arith
+op_count (store_at ptr s from) code j = omega arith
+op_count (load_object t o f) code j = omega arith
+op_count (store_object o f t) code j = omega arith
+op_count (binary_op op ty mode to a aty b bty) code j = omega arith
+op_count (unary_op op ty mode to a) code j = omega arith
+op_count (conversion to ty mode a aty) code j = omega arith
+op_count (label k) code j = omega arith
+op_count (jump k) code j = omega arith
+op_count (branch_zero t k) code j = omega arith
+op_count (call_function f to) code j = omega arith
+op_count (return_from t) code j = omega arith
+op_count (port_in t a i k) code j = omega arith
+op_count (port_out t a i k) code j = omega arith
+
+pub counted : (pre : List PlainIr) (j : ℕ) (rest : List PlainIr) → 1 ≤ count j (pre ++ label j ∷ rest)
+counted [] j rest = let e : is_at j j ≡ 1 = ap (λ b. if b then 1 else 0) (eq-eqb j j refl) in omega (arith, e)
+counted (i ∷ pre) j rest = let a = counted pre j rest in let b = op_count i (pre ++ label j ∷ rest) j in omega (arith, a, b)
+
+-- behind another operation a label is found, if it is not that one
+found_behind : (i : PlainIr) (code : List PlainIr) (j : ℕ) → 1 ≤ count j code → count j (i ∷ code) ≤ 1 → find j (i ∷ code) ≡ find j code
+found_behind (constant t n) code j a b = refl
+found_behind (copy to from) code j a b = refl
+found_behind (address t o f) code j a b = refl
+found_behind (field t s o) code j a b = refl
+found_behind (load_at to ptr s) code j a b = refl
+found_behind (store_at ptr s from) code j a b = refl
+found_behind (load_object t o f) code j a b = refl
+found_behind (store_object o f t) code j a b = refl
+found_behind (binary_op op ty mode to x aty y bty) code j a b = refl
+found_behind (unary_op op ty mode to x) code j a b = refl
+found_behind (conversion to ty mode x aty) code j a b = refl
+found_behind (label k) code j a b = by_test (k == j) refl b
+  where
+    by_test : (c : Bool) → (k == j) ≡ c → (if c then 1 else 0) + count j code ≤ 1 → (if c then Some code else find j code) ≡ find j code
+    by_test true e h = absurd (omega (arith, a, h))
+    by_test false e h = refl
+found_behind (jump k) code j a b = refl
+found_behind (branch_zero t k) code j a b = refl
+found_behind (call_function f to) code j a b = refl
+found_behind (return_from t) code j a b = refl
+found_behind (port_in t x i k) code j a b = refl
+found_behind (port_out t x i k) code j a b = refl
+
+found_at : (pre : List PlainIr) (j : ℕ) (rest : List PlainIr) → count j (pre ++ label j ∷ rest) ≤ 1 → find j (pre ++ label j ∷ rest) ≡ Some rest
+found_at [] j rest h = ap (λ b. if b then Some rest else find j rest) (eq-eqb j j refl)
+found_at (i ∷ pre) j rest h =
+    let a = op_count i (pre ++ label j ∷ rest) j in
+    found_behind i (pre ++ label j ∷ rest) j (counted pre j rest) h ∙ found_at pre j rest (omega (arith, a, h))
+
+pub counts_resolve : (code : List PlainIr) → ((j : ℕ) → count j code ≤ 1) → Resolves code
+counts_resolve code h l rest s =
+    ap (find l) s.1 ∙ found_at s.0 l rest (subst (λ (c : List PlainIr). count l c ≤ 1) s.1 (h l))
+
+-- ---- the labels of parts
+
+step_counts : (j : ℕ) (prefix : Bool) (op : BinOp) (mode : Mode) (ty : PlainType) (o t : ℕ) (rest : List PlainIr) → count j (step_code prefix op mode ty o t rest) ≤ count j rest
+step_counts j true op mode ty o t rest = omega arith
+step_counts j false op mode ty o t rest = omega arith
+
+params_counts : (j : ℕ) (os : List ℕ) (es : PlainExprs) (t : ℕ) (rest : List PlainIr) → count j (params_code os es t rest) ≤ count j rest
+params_counts j [] es t rest = omega arith
+params_counts j (o ∷ os) last_expr t rest = omega arith
+params_counts j (o ∷ os) (next_expr e es) t rest = params_counts j os es (t + 1) rest
+
+module _ (program : PlainProgram) where
+  mutual
+    pub expr_counts : (j : ℕ) (e : PlainExpr) (l t : ℕ) (rest : List PlainIr) → count j (expr_code program e l t rest) ≤ among (expr_labels e) l j + count j rest
+    expr_counts j (expression ty mode node) l t rest = node_counts j ty mode node l t rest
+
+    node_counts : (j : ℕ) (ty : PlainType) (mode : Mode) (node : PlainNode) (l t : ℕ) (rest : List PlainIr) → count j (node_code program ty mode node l t rest) ≤ among (node_labels node) l j + count j rest
+    node_counts j ty mode (number n) l t rest = omega arith
+    node_counts j ty mode null l t rest = omega arith
+    node_counts j ty mode (load (object o)) l t rest = omega arith
+    node_counts j ty mode (load (deref e)) l t rest = omega arith
+    node_counts j ty mode (load (member q i)) l t rest = omega arith
+    node_counts j ty mode (address_of q) l t rest = omega arith
+    node_counts j ty mode (unary op a) l t rest = expr_counts j a l t (unary_op op ty mode (temp t ty) (temp t ty) ∷ rest)
+    node_counts j ty mode (binary op a b) l t rest =
+        let q : List PlainIr = binary_op op ty mode (temp t ty) (temp t (type_of_expr a)) (type_of_expr a) (temp (t + 1) (type_of_expr b)) (type_of_expr b) ∷ rest in
+        let x = expr_counts j a l t (expr_code program b (l + expr_labels a) (t + 1) q) in let y = expr_counts j b (l + expr_labels a) (t + 1) q in let z = among_two (expr_labels a) (expr_labels b) l j in omega (arith, x, y, z)
+    node_counts j ty mode (convert a) l t rest = expr_counts j a l t (conversion (temp t ty) ty mode (temp t (type_of_expr a)) (type_of_expr a) ∷ rest)
+    node_counts j ty mode (assign (object o) a) l t rest = expr_counts j a l t (store_object o 0 (temp t ty) ∷ rest)
+    node_counts j ty mode (assign (deref e) a) l t rest = omega arith
+    node_counts j ty mode (assign (member q i) a) l t rest = omega arith
+    node_counts j ty mode (compound op own (object o) a) l t rest = expr_counts j a l (t + 1) (update_code op (update_types op (number_type ty) (number_type (type_of_expr a))) own mode ty o t (type_of_expr a) rest)
+    node_counts j ty mode (compound op own (deref e) a) l t rest = omega arith
+    node_counts j ty mode (compound op own (member q i) a) l t rest = omega arith
+    node_counts j ty mode (step up prefix (object o)) l t rest = let x = step_counts j prefix (step_operator up) mode ty o t rest in omega (arith, x)
+    node_counts j ty mode (step up prefix (deref e)) l t rest = omega arith
+    node_counts j ty mode (step up prefix (member q i)) l t rest = omega arith
+    node_counts j ty mode (logical_not a) l t rest =
+        let x = expr_counts j a (l + 2) t (branch_zero (temp t (type_of_expr a)) l ∷ truth_code false ty l t rest) in let z = among_two 2 (expr_labels a) l j in let v = two_labels l j in omega (arith, x, z, v)
+    node_counts j ty mode (logical_and a b) l t rest =
+        let q : List PlainIr = branch_zero (temp t (type_of_expr b)) l ∷ truth_code true ty l t rest in
+        let x = expr_counts j a (l + 2) t (branch_zero (temp t (type_of_expr a)) l ∷ expr_code program b (l + 2 + expr_labels a) t q) in let y = expr_counts j b (l + 2 + expr_labels a) t q in let z = among_three 2 (expr_labels a) (expr_labels b) l j in let v = two_labels l j in omega (arith, x, y, z, v)
+    node_counts j ty mode (logical_or a b) l t rest =
+        let q : List PlainIr = branch_zero (temp t (type_of_expr b)) l ∷ label (l + 3) ∷ truth_code true ty l t rest in
+        let x = expr_counts j a (l + 4) t (branch_zero (temp t (type_of_expr a)) (l + 2) ∷ jump (l + 3) ∷ label (l + 2) ∷ expr_code program b (l + 4 + expr_labels a) t q) in let y = expr_counts j b (l + 4 + expr_labels a) t q in let z = among_three 4 (expr_labels a) (expr_labels b) l j in let v = four_labels l j in omega (arith, x, y, z, v)
+    node_counts j ty mode (conditional c a b) l t rest =
+        let r : List PlainIr = label (l + 1) ∷ rest in
+        let q : List PlainIr = jump (l + 1) ∷ label l ∷ expr_code program b (l + 2 + expr_labels c + expr_labels a) t r in
+        let x = expr_counts j c (l + 2) t (branch_zero (temp t (type_of_expr c)) l ∷ expr_code program a (l + 2 + expr_labels c) t q) in let y = expr_counts j a (l + 2 + expr_labels c) t q in let u = expr_counts j b (l + 2 + expr_labels c + expr_labels a) t r in
+        let z = among_four 2 (expr_labels c) (expr_labels a) (expr_labels b) l j in let v = two_labels l j in omega (arith, x, y, u, z, v)
+    node_counts j ty mode (comma a b) l t rest =
+        let x = expr_counts j a l t (expr_code program b (l + expr_labels a) t rest) in let y = expr_counts j b (l + expr_labels a) t rest in let z = among_two (expr_labels a) (expr_labels b) l j in omega (arith, x, y, z)
+    node_counts j ty mode (call f args) l t rest =
+        let q : List PlainIr = call_function f (result_temp t ty) ∷ rest in
+        let x = args_counts j args l t (params_code (params_of program f) args t q) in let y = params_counts j (params_of program f) args t q in omega (arith, x, y)
+    node_counts j ty mode (io op port i v) l t rest = omega arith
+    node_counts j ty mode (group acquire g) l t rest = omega arith
+
+    args_counts : (j : ℕ) (es : PlainExprs) (l t : ℕ) (rest : List PlainIr) → count j (args_code program es l t rest) ≤ among (exprs_labels es) l j + count j rest
+    args_counts j last_expr l t rest = omega arith
+    args_counts j (next_expr e es) l t rest =
+        let x = expr_counts j e l t (args_code program es (l + expr_labels e) (t + 1) rest) in let y = args_counts j es (l + expr_labels e) (t + 1) rest in let z = among_two (expr_labels e) (exprs_labels es) l j in omega (arith, x, y, z)
+
+  init_counts : (j : ℕ) (ls : List PlainLeaf) (o : ℕ) (es : PlainExprs) (l : ℕ) (rest : List PlainIr) → count j (init_code program ls o es l rest) ≤ among (exprs_labels es) l j + count j rest
+  init_counts j [] o es l rest = omega arith
+  init_counts j (leaf ∷ ls) o last_expr l rest = omega arith
+  init_counts j (leaf ∷ ls) o (next_expr e es) l rest =
+      let x = expr_counts j e l 0 (store_object o leaf.at (temp 0 (type_of_expr e)) ∷ init_code program ls o es (l + expr_labels e) rest) in let y = init_counts j ls o es (l + expr_labels e) rest in let z = among_two (expr_labels e) (exprs_labels es) l j in omega (arith, x, y, z)
+
+  test_counts : (j : ℕ) (c : Option PlainExpr) (out l : ℕ) (rest : List PlainIr) → count j (test_code program c out l rest) ≤ among (optional_labels c) l j + count j rest
+  test_counts j None out l rest = omega arith
+  test_counts j (Some c) out l rest = expr_counts j c l 0 (branch_zero (temp 0 (type_of_expr c)) out ∷ rest)
+
+  last_counts : (j : ℕ) (e : Option PlainExpr) (l : ℕ) (rest : List PlainIr) → count j (last_code program e l rest) ≤ among (optional_labels e) l j + count j rest
+  last_counts j None l rest = omega arith
+  last_counts j (Some e) l rest = expr_counts j e l 0 rest
+
+  mutual
+    pub stmt_counts : (j : ℕ) (a : PlainStmt) (l out on : ℕ) (rest : List PlainIr) → count j (stmt_code program a l out on rest) ≤ among (stmt_labels a) l j + count j rest
+    stmt_counts j (statement unit at kind) l out on rest = kind_counts j kind l out on rest
+
+    kind_counts : (j : ℕ) (kind : PlainKind) (l out on : ℕ) (rest : List PlainIr) → count j (kind_code program kind l out on rest) ≤ among (kind_labels kind) l j + count j rest
+    kind_counts j empty l out on rest = omega arith
+    kind_counts j (evaluate e) l out on rest = expr_counts j e l 0 rest
+    kind_counts j (block ss) l out on rest = stmts_counts j ss l out on rest
+    kind_counts j (declare o es) l out on rest = init_counts j (leaves_of_object program o) o es l rest
+    kind_counts j (branch c a no_stmt) l out on rest =
+        let x = expr_counts j c (l + 2) 0 (branch_zero (temp 0 (type_of_expr c)) l ∷ stmt_code program a (l + 2 + expr_labels c) out on (label l ∷ rest)) in let y = stmt_counts j a (l + 2 + expr_labels c) out on (label l ∷ rest) in
+        let z = among_four 2 (expr_labels c) (stmt_labels a) 0 l j in let v = two_labels l j in omega (arith, x, y, z, v)
+    kind_counts j (branch c a (a_stmt b)) l out on rest =
+        let q : List PlainIr = jump (l + 1) ∷ label l ∷ stmt_code program b (l + 2 + expr_labels c + stmt_labels a) out on (label (l + 1) ∷ rest) in
+        let x = expr_counts j c (l + 2) 0 (branch_zero (temp 0 (type_of_expr c)) l ∷ stmt_code program a (l + 2 + expr_labels c) out on q) in let y = stmt_counts j a (l + 2 + expr_labels c) out on q in let u = stmt_counts j b (l + 2 + expr_labels c + stmt_labels a) out on (label (l + 1) ∷ rest) in
+        let z = among_four 2 (expr_labels c) (stmt_labels a) (stmt_labels b) l j in let v = two_labels l j in omega (arith, x, y, u, z, v)
+    kind_counts j (while_loop c a) l out on rest =
+        let q : List PlainIr = label (l + 2) ∷ jump l ∷ label (l + 1) ∷ rest in
+        let b : List PlainIr = label (l + 3) ∷ stmt_code program a (l + 4 + expr_labels c) (l + 1) (l + 2) q in
+        let x = test_counts j (Some c) (l + 1) (l + 4) b in let y = stmt_counts j a (l + 4 + expr_labels c) (l + 1) (l + 2) q in
+        let z = among_three 4 (expr_labels c) (stmt_labels a) l j in let v = four_labels l j in omega (arith, x, y, z, v)
+    kind_counts j (do_loop a c) l out on rest =
+        let q : List PlainIr = label (l + 2) ∷ jump l ∷ label (l + 1) ∷ rest in
+        let b : List PlainIr = label (l + 3) ∷ stmt_code program a (l + 4 + expr_labels c) (l + 1) (l + 2) q in
+        let x = test_counts j (Some c) (l + 1) (l + 4) b in let y = stmt_counts j a (l + 4 + expr_labels c) (l + 1) (l + 2) q in
+        let z = among_three 4 (expr_labels c) (stmt_labels a) l j in let v = four_labels l j in omega (arith, x, y, z, v)
+    kind_counts j (for_loop first c last a) l0 out on rest =
+        let l = l0 + option_stmt_labels first in
+        let e : List PlainIr = jump l ∷ label (l + 1) ∷ rest in
+        let q : List PlainIr = label (l + 2) ∷ last_code program last (l + 4 + optional_labels c) e in
+        let b : List PlainIr = label (l + 3) ∷ stmt_code program a (l + 4 + optional_labels c + optional_labels last) (l + 1) (l + 2) q in
+        let f = option_counts j first l0 out on (label l ∷ test_code program c (l + 1) (l + 4) b) in
+        let x = test_counts j c (l + 1) (l + 4) b in
+        let y = stmt_counts j a (l + 4 + optional_labels c + optional_labels last) (l + 1) (l + 2) q in
+        let u = last_counts j last (l + 4 + optional_labels c) e in
+        let w = among_two (option_stmt_labels first) (4 + optional_labels c + optional_labels last + stmt_labels a) l0 j in
+        let z = among_four 4 (optional_labels c) (optional_labels last) (stmt_labels a) l j in let v = four_labels l j in omega (arith, f, x, y, u, w, z, v)
+    kind_counts j break_loop l out on rest = omega arith
+    kind_counts j continue_loop l out on rest = omega arith
+    kind_counts j (return_value None) l out on rest = omega arith
+    kind_counts j (return_value (Some e)) l out on rest = expr_counts j e l 0 (return_from (Some (temp 0 (type_of_expr e))) ∷ rest)
+
+    option_counts : (j : ℕ) (a : OptionPlainStmt) (l out on : ℕ) (rest : List PlainIr) → count j (option_stmt_code program a l out on rest) ≤ among (option_stmt_labels a) l j + count j rest
+    option_counts j no_stmt l out on rest = omega arith
+    option_counts j (a_stmt a) l out on rest = stmt_counts j a l out on rest
+
+    stmts_counts : (j : ℕ) (ss : PlainStmts) (l out on : ℕ) (rest : List PlainIr) → count j (stmts_code program ss l out on rest) ≤ among (stmts_labels ss) l j + count j rest
+    stmts_counts j last_stmt l out on rest = omega arith
+    stmts_counts j (next_stmt a ss) l out on rest =
+        let x = stmt_counts j a l out on (stmts_code program ss (l + stmt_labels a) out on rest) in let y = stmts_counts j ss (l + stmt_labels a) out on rest in let z = among_two (stmt_labels a) (stmts_labels ss) l j in omega (arith, x, y, z)
+
+  -- the label 0 stands behind the body, whose labels are from 1 on
+  pub function_counts : (f : PlainFunction) (j : ℕ) → count j (function_code program f) ≤ 1
+  function_counts f j =
+      let x = stmt_counts j f.body 1 0 0 (label 0 ∷ return_from None ∷ []) in
+      let y = among_two 1 (stmt_labels f.body) 0 j in let z = among_one (1 + stmt_labels f.body) 0 j in
+      omega (arith, x, y, z)
+
+  pub function_resolves : (f : PlainFunction) → Resolves (function_code program f)
+  function_resolves f = counts_resolve (function_code program f) (function_counts f)

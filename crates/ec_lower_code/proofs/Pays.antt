@@ -1,0 +1,47 @@
+-- The rows of the parts pay for their operations.
+use Rattle.std.proofs.Common.{◌≡◌, ℕ, ◌+◌, ◌*◌, ◌≤◌, Bool, true, false, [], ◌∷◌, arith}
+use Rattle.std.specs.Prelude.{◌&&◌, ◌||◌, if◌then◌else◌, max}
+use Rattle.ec_core.specs.declared.expressions.BinOp.{BinOp}
+use Rattle.ec_core.specs.Operators.{same_type}
+use Rattle.ec_core.specs.Plain.{PlainType}
+use Rattle.ec_core.specs.Words.{widest, operation_words, choice_words, return_words}
+use Rattle.ec_ir.specs.Costs.{branch_zero_words, is_bitwise, is_integer, conversion_words, binary_words}
+
+pub simple_pays : (a b : ℕ) → 5 * a ≤ 30 + 10 * max a b
+simple_pays a b = omega arith
+
+pub unary_pays : (a b : ℕ) → 60 + 40 * a ≤ operation_words (max a b)
+unary_pays a b = omega arith
+
+pub within : (c : Bool) (x y z : ℕ) → x ≤ z → y ≤ z → (if c then x else y) ≤ z
+within true x y z h k = h
+within false x y z h k = k
+
+operation_more : (b : ℕ) → 10 * b ≤ operation_words b
+operation_more b = omega arith
+
+conversion_more : (b : ℕ) → 100 + 40 * b ≤ operation_words b
+conversion_more b = omega arith
+
+same_more : (b : ℕ) → operation_words b ≤ operation_words b
+same_more b = omega arith
+
+pub binary_pays : (op : BinOp) (ty aty bty : PlainType) → binary_words op ty aty bty ≤ operation_words (widest (ty ∷ aty ∷ bty ∷ []))
+binary_pays op ty aty bty =
+    within (is_bitwise op && is_integer ty) _ _ _ (operation_more (widest (ty ∷ aty ∷ bty ∷ []))) (same_more (widest (ty ∷ aty ∷ bty ∷ [])))
+
+pub conversion_pays : (ty from : PlainType) → conversion_words ty from ≤ operation_words (widest (ty ∷ from ∷ []))
+conversion_pays ty from =
+    within (same_type ty from || (is_integer ty && is_integer from)) _ _ _ (operation_more (widest (ty ∷ from ∷ []))) (conversion_more (widest (ty ∷ from ∷ [])))
+
+pub not_pays : (t a : ℕ) → t ≡ 2 → branch_zero_words a + (5 * t + 5) ≤ choice_words (max t (max a 1))
+not_pays t a e = omega (arith, e)
+
+pub and_pays : (t a b : ℕ) → t ≡ 2 → branch_zero_words a + (branch_zero_words b + (5 * t + 10)) ≤ choice_words (max t (max a (max b 1)))
+and_pays t a b e = omega (arith, e)
+
+pub choice_pays : (t c a b : ℕ) → branch_zero_words c + 5 ≤ choice_words (max t (max c (max a (max b 1))))
+choice_pays t c a b = omega arith
+
+pub return_pays : (a : ℕ) → 40 + 5 * a ≤ return_words (max a 1)
+return_pays a = omega arith

@@ -1,0 +1,290 @@
+-- The operations of a program. Each part's are written before what follows them. The value of an expression goes to the
+-- temporary at place t, with what is worked out while it is kept at t + 1 and on; labels are numbers from l on.
+use Rattle.std.specs.Prelude.{ℕ, ◌+◌, Bool, true, false, not, pos, List, [], ◌∷◌, map, Option, Some, None, option_map}
+use Rattle.std.specs.Prelude.{unwrap_or, slice_get}
+use Rattle.ec_fx.specs.declared.numbers.Mode.{Mode}
+use Rattle.ec_core.specs.declared.arithmetic_types.Arithmetic.{Arithmetic}
+use Rattle.ec_core.specs.declared.expressions.BinOp.{BinOp}
+use Rattle.ec_core.specs.declared.expressions.BinOp.TheVariants.{Mul}
+use Rattle.ec_core.specs.ArithmeticTypes.{type_of, common}
+use Rattle.ec_core.specs.Integers.{truth}
+use Rattle.ec_core.specs.Layout.{scalar_size, PlainLeaf, leaves_of_type}
+use Rattle.ec_core.specs.Needs.{stmt_need}
+use Rattle.ec_core.specs.Operators.{number_type, OperationTypes, operation_types, step_operator}
+use Rattle.ec_core.specs.Plain.{PlainType, void, PlainExpr, expression, PlainNode, number, null, load, address_of}
+use Rattle.ec_core.specs.Plain.{unary, binary, convert, assign, compound, step, logical_not, logical_and, logical_or}
+use Rattle.ec_core.specs.Plain.{conditional, comma, call, io, group, object, PlainExprs}
+use Rattle.ec_core.specs.Plain.{last_expr, next_expr, PlainStmt, statement, PlainKind, empty, evaluate, block, declare}
+use Rattle.ec_core.specs.Plain.{branch, while_loop, do_loop, for_loop, break_loop, continue_loop, return_value}
+use Rattle.ec_core.specs.Plain.{OptionPlainStmt, no_stmt, a_stmt, PlainStmts, last_stmt, next_stmt, PlainFunction}
+use Rattle.ec_core.specs.Plain.{PlainProgram}
+use Rattle.ec_core.specs.TypeLaws.{factor_beside}
+use Rattle.ec_core.specs.Typing.{int, type_of_expr}
+use Rattle.ec_ir.specs.Operations.{PlainIr, constant, load_object, store_object, binary_op, unary_op, conversion, label}
+use Rattle.ec_ir.specs.Operations.{jump, branch_zero, call_function, return_from, PlainIrFunction, PlainIrProgram}
+use Rattle.ec_ir.specs.declared.operations.Temp.{Temp}
+
+-- ---- temporaries
+
+abbrev pub temp : ℕ → PlainType → Temp
+temp t ty = record { at = t; bytes = scalar_size ty }
+
+-- a void expression has no temporary
+abbrev pub result_temp : ℕ → PlainType → Option Temp
+result_temp t void = None
+result_temp t ty = Some (temp t ty)
+
+-- ---- how many labels a part has
+
+abbrev mutual
+  pub expr_labels : PlainExpr → ℕ
+  expr_labels (expression ty mode node) = node_labels node
+
+  pub node_labels : PlainNode → ℕ
+  node_labels (number n) = 0
+  node_labels null = 0
+  node_labels (load p) = 0
+  node_labels (address_of p) = 0
+  node_labels (unary op a) = expr_labels a
+  node_labels (binary op a b) = expr_labels a + expr_labels b
+  node_labels (convert a) = expr_labels a
+  node_labels (assign p a) = expr_labels a
+  node_labels (compound op own p a) = expr_labels a
+  node_labels (step up prefix p) = 0
+  node_labels (logical_not a) = 2 + expr_labels a
+  node_labels (logical_and a b) = 2 + expr_labels a + expr_labels b
+  node_labels (logical_or a b) = 4 + expr_labels a + expr_labels b
+  node_labels (conditional c a b) = 2 + expr_labels c + expr_labels a + expr_labels b
+  node_labels (comma a b) = expr_labels a + expr_labels b
+  node_labels (call f args) = exprs_labels args
+  node_labels (io op port index value) = 0
+  node_labels (group acquire g) = 0
+
+  pub exprs_labels : PlainExprs → ℕ
+  exprs_labels last_expr = 0
+  exprs_labels (next_expr e es) = expr_labels e + exprs_labels es
+
+abbrev pub optional_labels : Option PlainExpr → ℕ
+optional_labels None = 0
+optional_labels (Some e) = expr_labels e
+
+abbrev mutual
+  pub stmt_labels : PlainStmt → ℕ
+  stmt_labels (statement unit at kind) = kind_labels kind
+
+  pub kind_labels : PlainKind → ℕ
+  kind_labels empty = 0
+  kind_labels (evaluate e) = expr_labels e
+  kind_labels (block ss) = stmts_labels ss
+  kind_labels (declare o values) = exprs_labels values
+  kind_labels (branch c a b) = 2 + expr_labels c + stmt_labels a + option_stmt_labels b
+  kind_labels (while_loop c body) = 4 + expr_labels c + stmt_labels body
+  kind_labels (do_loop body c) = 4 + expr_labels c + stmt_labels body
+  kind_labels (for_loop first c last body) =
+      option_stmt_labels first + (4 + optional_labels c + optional_labels last + stmt_labels body)
+  kind_labels break_loop = 0
+  kind_labels continue_loop = 0
+  kind_labels (return_value e) = optional_labels e
+
+  pub option_stmt_labels : OptionPlainStmt → ℕ
+  option_stmt_labels no_stmt = 0
+  option_stmt_labels (a_stmt a) = stmt_labels a
+
+  pub stmts_labels : PlainStmts → ℕ
+  stmts_labels last_stmt = 0
+  stmts_labels (next_stmt a ss) = stmt_labels a + stmts_labels ss
+
+-- ---- parts of expressions
+
+-- one truth value where the branch to l was not taken, and the other where it was
+abbrev pub truth_code : Bool → PlainType → (l t : ℕ) → List PlainIr → List PlainIr
+truth_code h ty l t rest =
+    constant (temp t ty) (truth h) ∷ jump (l + 1)
+    ∷ label l ∷ constant (temp t ty) (truth (not h)) ∷ label (l + 1) ∷ rest
+
+-- the types of the operation of a compound assignment. Factors have one byte, and are not promoted
+abbrev pub update_types : BinOp → Arithmetic → Arithmetic → OperationTypes
+update_types Mul x y = record { left = factor_beside x y; right = factor_beside y x; result = common x y }
+update_types op x y = operation_types op x y
+
+-- the old value at t and the right side at t + 1: both are brought to the operation's types; then the operation; its
+-- result, brought to the place's type, is stored
+abbrev pub update_code :
+    BinOp → OperationTypes → (own mode : Mode) → PlainType → (o t : ℕ) → PlainType → List PlainIr → List PlainIr
+update_code op ts own mode ty o t right rest =
+    conversion (temp t (type_of ts.left)) (type_of ts.left) own (temp t ty) ty
+    ∷ conversion (temp (t + 1) (type_of ts.right)) (type_of ts.right) own (temp (t + 1) right) right
+    ∷ binary_op op (type_of ts.result) own (temp t (type_of ts.result)) (temp t (type_of ts.left)) (type_of ts.left)
+    (temp (t + 1) (type_of ts.right)) (type_of ts.right)
+    ∷ conversion (temp t ty) ty mode (temp t (type_of ts.result)) (type_of ts.result)
+    ∷ store_object o 0 (temp t ty) ∷ rest
+
+-- the same, where the old value is kept at t: the operation's result goes to t + 1, and the old value is brought back
+-- to its type
+abbrev pub keeping_code :
+    BinOp → OperationTypes → Mode → PlainType → (o t : ℕ) → PlainType → List PlainIr → List PlainIr
+keeping_code op ts mode ty o t right rest =
+    conversion (temp t (type_of ts.left)) (type_of ts.left) mode (temp t ty) ty
+    ∷ conversion (temp (t + 1) (type_of ts.right)) (type_of ts.right) mode (temp (t + 1) right) right
+    ∷ binary_op op (type_of ts.result) mode (temp (t + 1) (type_of ts.result)) (temp t (type_of ts.left))
+    (type_of ts.left) (temp (t + 1) (type_of ts.right)) (type_of ts.right)
+    ∷ conversion (temp (t + 1) ty) ty mode (temp (t + 1) (type_of ts.result)) (type_of ts.result)
+    ∷ store_object o 0 (temp (t + 1) ty)
+    ∷ conversion (temp t ty) ty mode (temp t (type_of ts.left)) (type_of ts.left) ∷ rest
+
+-- a step, by the 1 of type int at t + 1
+abbrev pub step_code : Bool → BinOp → Mode → PlainType → (o t : ℕ) → List PlainIr → List PlainIr
+step_code true op mode ty o t rest =
+    update_code op (update_types op (number_type ty) (number_type int)) mode mode ty o t int rest
+step_code false op mode ty o t rest =
+    keeping_code op (update_types op (number_type ty) (number_type int)) mode ty o t int rest
+
+-- arguments from t on are stored to the parameters
+abbrev pub params_code : List ℕ → PlainExprs → (t : ℕ) → List PlainIr → List PlainIr
+params_code (o ∷ os) (next_expr e es) t rest =
+    store_object o 0 (temp t (type_of_expr e)) ∷ params_code os es (t + 1) rest
+params_code os es t rest = rest
+
+-- the end of a body returns without a value. A break and a continue outside loops, of which there are none, go there
+abbrev pub end_code : List PlainIr
+end_code = return_from None ∷ []
+
+module _ (program : PlainProgram) where
+  abbrev pub params_of : ℕ → List ℕ
+  params_of f = unwrap_or (option_map (λ g. g.params) (slice_get program.functions f)) []
+
+  -- ---- expressions
+
+  abbrev mutual
+    pub expr_code : PlainExpr → (l t : ℕ) → List PlainIr → List PlainIr
+    expr_code (expression ty mode node) l t rest = node_code ty mode node l t rest
+
+    pub node_code : PlainType → Mode → PlainNode → (l t : ℕ) → List PlainIr → List PlainIr
+    node_code ty mode (number n) l t rest = constant (temp t ty) n ∷ rest
+    node_code ty mode (load (object o)) l t rest = load_object (temp t ty) o 0 ∷ rest
+    node_code ty mode (unary op a) l t rest =
+        expr_code a l t (unary_op op ty mode (temp t ty) (temp t ty) ∷ rest)
+    node_code ty mode (binary op a b) l t rest =
+        expr_code a l t (expr_code b (l + expr_labels a) (t + 1)
+        (binary_op op ty mode (temp t ty) (temp t (type_of_expr a)) (type_of_expr a) (temp (t + 1) (type_of_expr b))
+        (type_of_expr b) ∷ rest))
+    node_code ty mode (convert a) l t rest =
+        expr_code a l t (conversion (temp t ty) ty mode (temp t (type_of_expr a)) (type_of_expr a) ∷ rest)
+    node_code ty mode (assign (object o) a) l t rest = expr_code a l t (store_object o 0 (temp t ty) ∷ rest)
+    node_code ty mode (compound op own (object o) a) l t rest =
+        load_object (temp t ty) o 0
+        ∷ expr_code a l (t + 1) (update_code op (update_types op (number_type ty) (number_type (type_of_expr a)))
+        own mode ty o t (type_of_expr a) rest)
+    node_code ty mode (step up prefix (object o)) l t rest =
+        load_object (temp t ty) o 0 ∷ constant (temp (t + 1) int) (pos 1)
+        ∷ step_code prefix (step_operator up) mode ty o t rest
+    node_code ty mode (logical_not a) l t rest =
+        expr_code a (l + 2) t (branch_zero (temp t (type_of_expr a)) l ∷ truth_code false ty l t rest)
+    node_code ty mode (logical_and a b) l t rest =
+        expr_code a (l + 2) t (branch_zero (temp t (type_of_expr a)) l
+        ∷ expr_code b (l + 2 + expr_labels a) t (branch_zero (temp t (type_of_expr b)) l ∷ truth_code true ty l t rest))
+    node_code ty mode (logical_or a b) l t rest =
+        expr_code a (l + 4) t (branch_zero (temp t (type_of_expr a)) (l + 2) ∷ jump (l + 3) ∷ label (l + 2)
+        ∷ expr_code b (l + 4 + expr_labels a) t (branch_zero (temp t (type_of_expr b)) l ∷ label (l + 3)
+        ∷ truth_code true ty l t rest))
+    node_code ty mode (conditional c a b) l t rest =
+        expr_code c (l + 2) t (branch_zero (temp t (type_of_expr c)) l
+        ∷ expr_code a (l + 2 + expr_labels c) t (jump (l + 1) ∷ label l
+        ∷ expr_code b (l + 2 + expr_labels c + expr_labels a) t (label (l + 1) ∷ rest)))
+    node_code ty mode (comma a b) l t rest = expr_code a l t (expr_code b (l + expr_labels a) t rest)
+    -- all arguments, then they are stored to the parameters, then the call
+    node_code ty mode (call f args) l t rest =
+        args_code args l t (params_code (params_of f) args t (call_function f (result_temp t ty) ∷ rest))
+    node_code ty mode node l t rest = rest
+
+    -- arguments from t on
+    pub args_code : PlainExprs → (l t : ℕ) → List PlainIr → List PlainIr
+    args_code last_expr l t rest = rest
+    args_code (next_expr e es) l t rest = expr_code e l t (args_code es (l + expr_labels e) (t + 1) rest)
+
+  -- ---- statements
+
+  abbrev pub leaves_of_object : ℕ → List PlainLeaf
+  leaves_of_object o =
+      unwrap_or (option_map (λ d. leaves_of_type program.structs d.ty) (slice_get program.objects o)) []
+
+  -- the leaves of an object from one on get the values of these expressions
+  abbrev pub init_code : List PlainLeaf → (o : ℕ) → PlainExprs → (l : ℕ) → List PlainIr → List PlainIr
+  init_code (leaf ∷ leaves) o (next_expr e es) l rest =
+      expr_code e l 0 (store_object o leaf.at (temp 0 (type_of_expr e))
+      ∷ init_code leaves o es (l + expr_labels e) rest)
+  init_code leaves o es l rest = rest
+
+  abbrev pub test_code : Option PlainExpr → (out l : ℕ) → List PlainIr → List PlainIr
+  test_code None out l rest = rest
+  test_code (Some c) out l rest = expr_code c l 0 (branch_zero (temp 0 (type_of_expr c)) out ∷ rest)
+
+  abbrev pub last_code : Option PlainExpr → (l : ℕ) → List PlainIr → List PlainIr
+  last_code None l rest = rest
+  last_code (Some e) l rest = expr_code e l 0 rest
+
+  -- a loop, with the operations of its body: l is the test, l + 1 the end, l + 2 what a continue goes to, and l + 3 the
+  -- body
+  abbrev pub loop_code :
+      Option PlainExpr → Option PlainExpr → (l : ℕ) → (List PlainIr → List PlainIr) → List PlainIr → List PlainIr
+  loop_code c last l body rest =
+      label l ∷ test_code c (l + 1) (l + 4) (label (l + 3) ∷ body (label (l + 2)
+      ∷ last_code last (l + 4 + optional_labels c) (jump l ∷ label (l + 1) ∷ rest)))
+
+  -- a break goes to the label out, and a continue to the label on
+  abbrev mutual
+    pub stmt_code : PlainStmt → (l out on : ℕ) → List PlainIr → List PlainIr
+    stmt_code (statement unit at kind) l out on rest = kind_code kind l out on rest
+
+    pub kind_code : PlainKind → (l out on : ℕ) → List PlainIr → List PlainIr
+    kind_code empty l out on rest = rest
+    kind_code (evaluate e) l out on rest = expr_code e l 0 rest
+    kind_code (block ss) l out on rest = stmts_code ss l out on rest
+    kind_code (declare o values) l out on rest = init_code (leaves_of_object o) o values l rest
+    kind_code (branch c a no_stmt) l out on rest =
+        expr_code c (l + 2) 0 (branch_zero (temp 0 (type_of_expr c)) l
+        ∷ stmt_code a (l + 2 + expr_labels c) out on (label l ∷ rest))
+    kind_code (branch c a (a_stmt b)) l out on rest =
+        expr_code c (l + 2) 0 (branch_zero (temp 0 (type_of_expr c)) l
+        ∷ stmt_code a (l + 2 + expr_labels c) out on (jump (l + 1) ∷ label l
+        ∷ stmt_code b (l + 2 + expr_labels c + stmt_labels a) out on (label (l + 1) ∷ rest)))
+    kind_code (while_loop c body) l out on rest =
+        loop_code (Some c) None l (λ q. stmt_code body (l + 4 + expr_labels c) (l + 1) (l + 2) q) rest
+    -- a `do` begins with its body
+    kind_code (do_loop body c) l out on rest =
+        jump (l + 3)
+        ∷ loop_code (Some c) None l (λ q. stmt_code body (l + 4 + expr_labels c) (l + 1) (l + 2) q) rest
+    kind_code (for_loop first c last body) l out on rest =
+        option_stmt_code first l out on (loop_code c last (l + option_stmt_labels first) (λ q. stmt_code body
+        (l + option_stmt_labels first + 4 + optional_labels c + optional_labels last)
+        (l + option_stmt_labels first + 1) (l + option_stmt_labels first + 2) q) rest)
+    kind_code break_loop l out on rest = jump out ∷ rest
+    kind_code continue_loop l out on rest = jump on ∷ rest
+    kind_code (return_value None) l out on rest = return_from None ∷ rest
+    kind_code (return_value (Some e)) l out on rest =
+        expr_code e l 0 (return_from (Some (temp 0 (type_of_expr e))) ∷ rest)
+
+    pub option_stmt_code : OptionPlainStmt → (l out on : ℕ) → List PlainIr → List PlainIr
+    option_stmt_code no_stmt l out on rest = rest
+    option_stmt_code (a_stmt a) l out on rest = stmt_code a l out on rest
+
+    pub stmts_code : PlainStmts → (l out on : ℕ) → List PlainIr → List PlainIr
+    stmts_code last_stmt l out on rest = rest
+    stmts_code (next_stmt a ss) l out on rest = stmt_code a l out on (stmts_code ss (l + stmt_labels a) out on rest)
+
+  -- ---- functions
+
+  abbrev pub function_code : PlainFunction → List PlainIr
+  function_code f = stmt_code f.body 1 0 0 (label 0 ∷ end_code)
+
+  abbrev pub lowered_function : PlainFunction → PlainIrFunction
+  lowered_function f = record { code = function_code f; slots = stmt_need f.body }
+
+  abbrev pub lowered : PlainIrProgram
+  lowered =
+      record {
+        functions = map lowered_function program.functions;
+        objects = program.objects;
+        structs = program.structs;
+        main = program.main;
+      }

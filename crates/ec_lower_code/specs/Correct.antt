@@ -1,0 +1,55 @@
+-- What the operations of a program have to do with it.
+use Rattle.std.specs.Prelude.{◌≡◌, ℕ, ◌+◌, ◌≤◌, nat_le, Bool, Contains, [], Some, slice_get}
+use Rattle.ec_runs.specs.Behaviours.{Reaches, IsWithin}
+use Rattle.ec_iohw.specs.declared.table.IoTable.{IoTable}
+use Rattle.ec_core.specs.Meaning.{source, work}
+use Rattle.ec_core.specs.Needs.{stmt_need, stmt_calls}
+use Rattle.ec_core.specs.Plain.{PlainFunction, PlainProgram}
+use Rattle.ec_core.specs.PortTable.{plain_table}
+use Rattle.ec_core.specs.State.{Inputs}
+use Rattle.ec_core.specs.Valid.{Valid}
+use Rattle.ec_core.specs.ValueTypes.{GiveBytes}
+use Rattle.ec_core.specs.Weight.{weight}
+use Rattle.ec_core.specs.Words.{program_words}
+use Rattle.ec_ir.specs.Costs.{functions_words}
+use Rattle.ec_ir.specs.Meaning.{meaning, steps_of}
+use Rattle.ec_ir.specs.Operations.{PlainIrFunction, PlainIrProgram}
+use Rattle.ec_ir.specs.Valid.{count, called_in, ValidIr}
+use Rattle.ec_lower_code.specs.Code.{lowered}
+use Rattle.ec_lower_code.specs.Parts.{IsLowered}
+
+-- the steps that m operations may take are within the work of n turns, less that of the program's own row: 64 times its
+-- 200 words
+abbrev pub is_paid : PlainProgram → IoTable → PlainIrProgram → Inputs → ℕ → ℕ → Bool
+is_paid program io ir inputs n m = nat_le (steps_of ir inputs m + 12_800) (work program (plain_table io) inputs n)
+
+-- for all inputs, the operations reach all that the program shows, within its work, and stay within it
+pub record Follows (program : PlainProgram) (io : IoTable) (ir : PlainIrProgram) : Type 0 where
+  pub reaches : (inputs : Inputs) → GiveBytes inputs
+      → Reaches (is_paid program io ir inputs) (source program (plain_table io) inputs) (meaning ir inputs)
+  pub within : (inputs : Inputs) → GiveBytes inputs → (m : ℕ)
+      → IsWithin (source program (plain_table io) inputs m) (meaning ir inputs m)
+
+abbrev pub LoweredFollows : Type 0
+LoweredFollows =
+    (program : PlainProgram) (io : IoTable) → Valid program io → IsLowered program
+    → Follows program io (lowered program)
+
+-- A function of the program and that of the operations with its number: labels stand once, there are as many places for
+-- temporaries as its expressions need at once, and it calls none that the function of the program does not call
+pub record IsLoweredFunction (f : PlainFunction) (g : PlainIrFunction) : Type 0 where
+  pub labels : (l : ℕ) → count l g.code ≤ 1
+  pub places : g.slots ≡ stmt_need f.body
+  pub calls : (k : ℕ) → Contains (called_in g.code) k → Contains (stmt_calls f.body []) k
+
+-- the operations keep their rules, and their words are within the weight of the program less its own row
+pub record IsMadeOf (program : PlainProgram) (io : IoTable) (ir : PlainIrProgram) : Type 0 where
+  pub valid : ValidIr ir
+  pub functions : (n : ℕ) (f : PlainFunction) (g : PlainIrFunction) → slice_get program.functions n ≡ Some f
+      → slice_get ir.functions n ≡ Some g → IsLoweredFunction f g
+  pub words : functions_words ir.functions + program_words ≤ weight program (plain_table io)
+
+abbrev pub LoweredIsMadeOf : Type 0
+LoweredIsMadeOf =
+    (program : PlainProgram) (io : IoTable) → Valid program io → IsLowered program
+    → IsMadeOf program io (lowered program)

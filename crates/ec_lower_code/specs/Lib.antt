@@ -1,0 +1,4 @@
+-- The definitions that the contracts of the lowering cite.
+pub mod Code
+pub mod Correct
+pub mod Parts
