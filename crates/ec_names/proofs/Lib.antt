@@ -1,0 +1,6 @@
+pub mod Tabled
+pub mod Naming
+pub mod Numbered
+pub mod Walks
+pub mod Alike
+pub mod Finding

@@ -1,0 +1,13 @@
+pub mod Words
+pub mod Qualifiers
+pub mod Firsts
+pub mod Tables
+pub mod Tags
+pub mod Specifiers
+pub mod Stars
+pub mod Names
+pub mod Linkage
+pub mod Counts
+pub mod Definitions
+pub mod Laws
+pub mod Structs

@@ -1,0 +1,120 @@
+//! Implicit conversions.
+ghost use Rattle.std.specs.Prelude.{◌≡◌, IfOk, option_map};
+ghost use Rattle.std.specs.Option.{option_copied};
+ghost use Rattle.ec_core.specs.Plain.{plain_type, plain_expr};
+ghost use Rattle.ec_faults.specs.Faults.{all_judged};
+ghost use Rattle.ec_operands.specs.Operands.{plain_operand, plain_sort};
+ghost use Rattle.ec_operands.specs.Passing.{passes, in_type as in_type_of, brought, passed, passing_rules};
+
+use crate::operands::{Modes, Operand, as_value, boxed, convert, is_null, made};
+use crate::types::{Sort, drops_const, narrows, same_pointee, sort_of, type_sort};
+use ec_core::{CType, Expr, Node};
+use ec_faults::Faults;
+use ec_space::NoMemory;
+use std::alloc::Global;
+
+fn passes(from: Sort<'_>, null: bool, to: Sort<'_>) -> bool
+    ensures { result ≡ passes (plain_sort from.entry) null (plain_sort to.entry) }
+{
+    from.is_arithmetic() && to.is_arithmetic() || null && to.is_pointer() || same_pointee(from, to)
+}
+
+/// The operand in a type to which a conversion leads.
+pub(crate) fn in_type(alloc: Global, modes: Modes, to: &CType, x: Operand) -> Result<Expr, NoMemory>
+    ensures { IfOk result (λ e. plain_expr e ≡ in_type_of modes (plain_type to.now) (plain_operand x)) }
+{
+    if is_null(&x) && type_sort(to).is_pointer() {
+        let to = to.copied(alloc)?;
+        return Ok(made(modes, to, Node::Null));
+    }
+    let e = convert(alloc, modes, to, as_value(modes, x))?;
+    Ok(e)
+}
+
+/// The same, in a box.
+pub(crate) fn boxed_in_type(
+    alloc: Global,
+    modes: Modes,
+    to: &CType,
+    x: Operand,
+) -> Result<Box<Expr>, NoMemory>
+    ensures { IfOk result (λ e. plain_expr e.value ≡ in_type_of modes (plain_type to.now) (plain_operand x)) }
+{
+    let e = in_type(alloc, modes, to, x)?;
+    let e = boxed(alloc, e)?;
+    Ok(e)
+}
+
+pub(crate) fn brought(
+    alloc: Global,
+    modes: Modes,
+    to: &CType,
+    x: Operand,
+) -> Result<Option<Expr>, NoMemory>
+    ensures { IfOk result (λ e. option_map plain_expr e ≡ brought modes (plain_type to.now) (plain_operand x)) }
+{
+    let from = sort_of(&x);
+    let target = type_sort(to);
+    if passes(from, is_null(&x), target) && !(narrows(from, target) || drops_const(from, target)) {
+        let e = in_type(alloc, modes, to, x)?;
+        Ok(Some(e))
+    } else {
+        Ok(None)
+    }
+}
+
+/// The operand in the type to which it is passed, or None where one of both is unknown or no implicit conversion leads
+/// there.
+pub fn pass(
+    alloc: Global,
+    modes: Modes,
+    to: Option<&CType>,
+    x: Option<Operand>,
+) -> Result<Option<Expr>, NoMemory>
+    ensures { IfOk result (λ e. option_map plain_expr e
+        ≡ passed modes (option_map plain_type (option_copied to.entry)) (option_map plain_operand x)) }
+{
+    let Some(to) = to else {
+        return Ok(None);
+    };
+    let Some(x) = x else {
+        return Ok(None);
+    };
+    let e = brought(alloc, modes, to, x)?;
+    Ok(e)
+}
+
+/// Judges the conversion of an operand to a type, which is told at `at`: at the first token of an argument or an
+/// initialiser, or at `return`.
+pub fn judge_passing(faults: &mut Faults, x: &Option<Operand>, to: &Option<CType>, at: u32)
+    ensures { faults.new.least ≡ all_judged faults.old.least
+        (passing_rules (option_map plain_operand x.now) (option_map plain_type to.now) at) }
+{
+    judge_conversion(faults, x, to.as_ref(), at);
+}
+
+pub(crate) fn judge_conversion(
+    faults: &mut Faults,
+    x: &Option<Operand>,
+    to: Option<&CType>,
+    at: u32,
+)
+    ensures { faults.new.least ≡ all_judged faults.old.least
+        (passing_rules (option_map plain_operand x.now) (option_map plain_type (option_copied to.entry)) at) }
+{
+    let Some(x) = x else {
+        return;
+    };
+    let Some(to) = to else {
+        return;
+    };
+    let from = sort_of(x);
+    let target = type_sort(to);
+    faults.judge(28, !passes(from, is_null(x), target), at);
+    faults.judge(29, same_pointee(from, target) && narrows(from, target), at);
+    faults.judge(
+        30,
+        same_pointee(from, target) && drops_const(from, target),
+        at,
+    );
+}
