@@ -1,0 +1,11 @@
+pub mod Sums
+pub mod Objects
+pub mod Trees
+pub mod Values
+pub mod Words
+pub mod Stand
+pub mod CodeStand
+pub mod InOrders
+pub mod StandApart
+pub mod Chains
+pub mod Causes

@@ -1,0 +1,36 @@
+-- What a placed program keeps stands apart: the whole.
+use Rattle.std.proofs.Common.{◌+◌, [], ◌∷◌, arith, length}
+use Rattle.ec_map.specs.Regions.{end_of}
+use Rattle.ec_locate.specs.Apart.{Span, InOrder, PlacedStandApart}
+use Rattle.ec_locate.specs.Entries.{flash_sizes, data_sizes, initial_sizes, frame_sizes}
+use Rattle.ec_locate.specs.Fixed.{blocks}
+use Rattle.ec_locate.specs.Placing.{entries_by, needs}
+use Rattle.ec_locate.proofs.CodeStand.{code_fits}
+use Rattle.ec_locate.proofs.InOrders.{data_in_order, flash_in_order, initial_in_order, frames_in_order, tables_fit, vars_fit, stack_fits, places_free}
+use Rattle.ec_locate.proofs.Chains.{chain_below}
+
+pub stand-apart : PlacedStandApart
+stand-apart p m asm l valid located =
+    let es = entries_by m p in
+    let frames = asm.frames.items in
+    let n = needs p es frames asm.items.items in
+    let tables = tables_fit m n located.fits in
+    let vars = vars_fit m n located.fits in
+    let code = code_fits m n located.fits in
+    let stack = stack_fits m n located.fits in
+    let scratch = m.vars.first + data_sizes es in
+    let work = m.vars.first + data_sizes es + frame_sizes frames in
+    let w : Span = record { from = work; size = 64 } in
+    let last : InOrder (scratch + frame_sizes frames) (w ∷ []) (end_of m.vars) = (omega arith, omega (arith, vars)) in
+    let ram = data_in_order es m.tables.first m.vars.first _ (end_of m.vars) (frames_in_order frames scratch (w ∷ []) (end_of m.vars) last) in
+    let values : InOrder (m.tables.first + flash_sizes es + initial_sizes es) [] (end_of m.tables) = omega (arith, tables) in
+    let flash = flash_in_order es m.tables.first m.vars.first _ (end_of m.tables) (initial_in_order es m.tables.first (m.tables.first + flash_sizes es) [] (end_of m.tables) values) in
+    record {
+      ram = rw (located.places, located.frames, located.work) ram;
+      flash = rw located.places flash;
+      code = omega (arith, code);
+      stack = λ fs chain few.
+          let deep = chain_below p.functions (length p.functions) p.main fs chain few in
+          omega (arith, deep, stack);
+      fixed = places_free m 0 (blocks es p.objects m.places.items) located.free;
+    }

@@ -1,0 +1,97 @@
+-- What a placed program keeps stands apart.
+use Rattle.std.specs.Prelude.{ℕ, ◌≡◌, ◌+◌, ◌*◌, ◌≤◌, ⊤, Bool, true, false, List, [], ◌∷◌, None}
+use Rattle.std.specs.Prelude.{length, position}
+use Rattle.ec_space.specs.declared.space.Bank.{Bank}
+use Rattle.ec_space.specs.declared.space.Bank.TheVariants.{Flash, Data}
+use Rattle.ec_space.specs.declared.space.Place.{Place}
+use Rattle.ec_asm.specs.Items.{code_words}
+use Rattle.ec_asm.specs.declared.items.AsmProgram.{AsmProgram}
+use Rattle.ec_core.specs.Plain.{PlainProgram}
+use Rattle.ec_map.specs.Maps.{ValidMap}
+use Rattle.ec_map.specs.Regions.{end_of}
+use Rattle.ec_map.specs.declared.map.Map.{Map}
+use Rattle.ec_locate.specs.Calls.{IsChain}
+use Rattle.ec_locate.specs.Entries.{frame_size}
+use Rattle.ec_locate.specs.Fixed.{blocks, is_in_bank, region_met, overlaps}
+use Rattle.ec_locate.specs.Placing.{IsLocated, entries_by, layout_by}
+use Rattle.ec_locate.specs.declared.entries.Entry.{Entry}
+use Rattle.ec_locate.specs.declared.entries.Kept.{Kept}
+use Rattle.ec_locate.specs.declared.entries.Kept.TheVariants.{Packed}
+use Rattle.ec_locate.specs.declared.fixed.Block.{Block}
+use Rattle.ec_locate.specs.declared.placing.Located.{Located}
+
+-- ---- bytes in a row
+
+pub record Span : Type 0 where
+  pub from : ℕ
+  pub size : ℕ
+
+-- the spans stand one behind another, from an address on, and end by another
+abbrev pub InOrder : (from : ℕ) → List Span → (to : ℕ) → Type 0
+InOrder from [] to = from ≤ to
+InOrder from (s ∷ ss) to = (from ≤ s.from) × InOrder (s.from + s.size) ss to
+
+abbrev pub add_where : Bool → Span → List Span → List Span
+add_where true s ss = s ∷ ss
+add_where false s ss = ss
+
+-- ---- what stands in the regions
+
+-- an object of a bank that stands in its region
+abbrev pub is_packed_in : Bank → Kept → Bank → Bool
+is_packed_in Flash Packed Flash = true
+is_packed_in Data Packed Data = true
+is_packed_in _ _ _ = false
+
+-- the objects of a bank that stand in its region, before other spans
+abbrev pub objects_in : Bank → List Place → List Entry → List Span → List Span
+objects_in bank [] es rest = rest
+objects_in bank (p ∷ ps) [] rest = rest
+objects_in bank (p ∷ ps) (e ∷ es) rest =
+    add_where (is_packed_in bank e.kept e.home) (record { from = p.offset; size = e.size }) (objects_in bank ps es rest)
+
+abbrev pub has_initial : (is_static : Bool) → Bank → Bool
+has_initial true Data = true
+has_initial _ _ = false
+
+-- the initial bytes of static data objects
+abbrev pub initial_spans : List ℕ → List Entry → List Span → List Span
+initial_spans [] es rest = rest
+initial_spans (at ∷ ats) [] rest = rest
+initial_spans (at ∷ ats) (e ∷ es) rest =
+    add_where (has_initial e.is_static e.home) (record { from = at; size = e.size }) (initial_spans ats es rest)
+
+-- the scratch memory of each function
+abbrev pub frame_spans : List ℕ → List ℕ → List Span → List Span
+frame_spans [] frames rest = rest
+frame_spans (at ∷ ats) [] rest = rest
+frame_spans (at ∷ ats) (frame ∷ frames) rest =
+    record { from = at; size = frame_size frame } ∷ frame_spans ats frames rest
+
+-- ---- what stands at fixed addresses: in its bank, outside the regions, and clear of later ones
+abbrev pub AreFree : Map → List Block → Type 0
+AreFree m [] = ⊤
+AreFree m (b ∷ bs) =
+    (is_in_bank b ≡ true) × (region_met m b ≡ None) × (position (overlaps b) bs ≡ None) × AreFree m bs
+
+-- ---- the whole
+
+-- In region `data` stand the free data objects, the scratch memory of each function and the work bytes, in region
+-- `tables` the free flash objects and the initial bytes, and in region `code` the code, each behind the one before.
+-- Region `stack` has 16 bytes, and two for each function of a chain of calls from main
+pub record StandsApart (p : PlainProgram) (m : Map) (asm : AsmProgram) (l : Located) : Type 0 where
+  pub ram : InOrder m.vars.first
+      (objects_in Data l.places.items (entries_by m p)
+      (frame_spans l.frames.items asm.frames.items (record { from = l.work; size = 64 } ∷ []))) (end_of m.vars)
+  pub flash : InOrder m.tables.first
+      (objects_in Flash l.places.items (entries_by m p)
+      (initial_spans (layout_by p m asm).initials (entries_by m p) [])) (end_of m.tables)
+  pub code : 2 * code_words asm.items.items ≤ end_of m.code
+  pub stack : (fs : List ℕ) → IsChain p.functions (p.main ∷ fs) → length (p.main ∷ fs) ≤ length p.functions
+      → 16 + 2 * length (p.main ∷ fs) ≤ m.stack.size
+  pub fixed : AreFree m (blocks (entries_by m p) p.objects m.places.items)
+
+abbrev pub PlacedStandApart : Type 0
+PlacedStandApart =
+    (p : PlainProgram) (m : Map) (asm : AsmProgram) (l : Located) → ValidMap m → IsLocated p m asm l
+    → StandsApart p m asm l

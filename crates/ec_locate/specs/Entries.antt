@@ -1,0 +1,98 @@
+-- What is asked of the objects of a program to place them, and how many bytes of the regions they need.
+use Rattle.std.specs.Prelude.{ℕ, ◌+◌, ◌*◌, Bool, true, false, if◌then◌else◌, List, map, Option, Some, None}
+use Rattle.std.specs.Prelude.{option_map, sum_by}
+use Rattle.std.specs.List.{find}
+use Rattle.std.specs.Str.{bytes_eq}
+use Rattle.ec_space.specs.declared.space.Bank.{Bank}
+use Rattle.ec_space.specs.declared.space.Bank.TheVariants.{Flash, Data}
+use Rattle.ec_core.specs.Layout.{size_of_type}
+use Rattle.ec_core.specs.Plain.{PlainStruct, PlainStorage, static, local, param, register, PlainObject, PlainProgram}
+use Rattle.ec_map.specs.declared.map.Fixed1.{Fixed1}
+use Rattle.ec_locate.specs.declared.entries.Entry.{Entry}
+use Rattle.ec_locate.specs.declared.entries.Kept.{Kept}
+use Rattle.ec_locate.specs.declared.entries.Kept.TheVariants.{Register, Fixed, Packed}
+
+-- ---- objects
+
+-- where the map puts an object of a name
+abbrev pub fixed_place : List Fixed1 → List ℕ → Option ℕ
+fixed_place places name = option_map (λ p. p.at) (find (λ p. bytes_eq p.name.items name) places)
+
+abbrev pub fixed_or_packed : Option ℕ → Kept
+fixed_or_packed None = Packed
+fixed_or_packed (Some at) = Fixed at
+
+-- a named register is kept in its registers, and an external object that the map names where it says
+abbrev pub kept_by : List Fixed1 → (external : Bool) → (name : List ℕ) → PlainStorage → Kept
+kept_by places external name (static inits) = if external then fixed_or_packed (fixed_place places name) else Packed
+kept_by places external name (local f) = Packed
+kept_by places external name (param f) = Packed
+kept_by places external name (register first) = Register first
+
+abbrev pub is_static : PlainStorage → Bool
+is_static (static inits) = true
+is_static (local f) = false
+is_static (param f) = false
+is_static (register first) = false
+
+abbrev pub entry_of : List PlainStruct → List Fixed1 → PlainObject → Entry
+entry_of structs places o = record {
+  size = size_of_type structs o.ty;
+  home = o.home;
+  is_static = is_static o.storage;
+  kept = kept_by places o.external o.name o.storage;
+}
+
+abbrev pub entries : List Fixed1 → PlainProgram → List Entry
+entries places p = map (entry_of p.structs places) p.objects
+
+-- ---- bytes
+
+abbrev pub packed_flash : Kept → Bank → ℕ → ℕ
+packed_flash Packed Flash size = size
+packed_flash _ _ size = 0
+
+abbrev pub packed_data : Kept → Bank → ℕ → ℕ
+packed_data Packed Data size = size
+packed_data _ _ size = 0
+
+abbrev pub initial_bytes : (is_static : Bool) → Bank → ℕ → ℕ
+initial_bytes true Data size = size
+initial_bytes _ _ size = 0
+
+-- the bytes of an object in the region of its bank, 0 where it is kept elsewhere
+abbrev pub flash_size : Entry → ℕ
+flash_size e = packed_flash e.kept e.home e.size
+
+abbrev pub data_size : Entry → ℕ
+data_size e = packed_data e.kept e.home e.size
+
+-- the initial bytes of a static object of the data bank, wherever it is kept
+abbrev pub initial_size : Entry → ℕ
+initial_size e = initial_bytes e.is_static e.home e.size
+
+abbrev pub flash_sizes : List Entry → ℕ
+flash_sizes es = sum_by flash_size es
+
+abbrev pub data_sizes : List Entry → ℕ
+data_sizes es = sum_by data_size es
+
+abbrev pub initial_sizes : List Entry → ℕ
+initial_sizes es = sum_by initial_size es
+
+-- the bytes of the scratch memory of a function, by its sixteenth part
+abbrev pub frame_size : ℕ → ℕ
+frame_size frame = 16 * frame
+
+abbrev pub frame_sizes : List ℕ → ℕ
+frame_sizes frames = sum_by frame_size frames
+
+-- ---- needs
+
+-- of region `tables`: free flash objects, and the initial bytes of all static data objects
+abbrev pub table_need : List Entry → ℕ
+table_need es = flash_sizes es + initial_sizes es
+
+-- of region `data`: all other data objects that are free, the scratch memory of each function, and the work bytes
+abbrev pub data_need : (work : ℕ) → List Entry → (frames : List ℕ) → ℕ
+data_need work es frames = data_sizes es + frame_sizes frames + work

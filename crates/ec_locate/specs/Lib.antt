@@ -1,0 +1,10 @@
+pub mod Entries
+pub mod Layout
+pub mod Fixed
+pub mod Calls
+pub mod Needs
+pub mod Code
+pub mod Image
+pub mod Placing
+pub mod Stands
+pub mod Apart

@@ -1,0 +1,39 @@
+-- What the image holds.
+use Rattle.std.specs.Prelude.{ℕ, ◌≡◌, false, ⊤, List, [], ◌∷◌}
+use Rattle.std.specs.List.{list_any}
+use Rattle.ec_asm.specs.Change.{Env, Kind}
+use Rattle.ec_asm.specs.Placed.{IsPlaced}
+use Rattle.ec_asm.specs.Valid.{ValidAsm, is_label}
+use Rattle.ec_asm.specs.declared.items.AsmItem.{AsmItem}
+use Rattle.ec_asm.specs.declared.items.AsmItem.TheVariants.{Label}
+use Rattle.ec_asm.specs.declared.items.AsmProgram.{AsmProgram}
+use Rattle.ec_core.specs.Plain.{PlainProgram}
+use Rattle.ec_map.specs.Maps.{ValidMap}
+use Rattle.ec_map.specs.declared.map.Map.{Map}
+use Rattle.ec_locate.specs.Code.{label_word, address_of}
+use Rattle.ec_locate.specs.Placing.{IsLocated, object_sizes, layout_by, last_of}
+use Rattle.ec_locate.specs.declared.placing.Located.{Located}
+
+-- no label stands twice
+abbrev pub StandOnce : List AsmItem → Type 0
+StandOnce [] = ⊤
+StandOnce (Label l ∷ is) = (list_any (is_label l) is ≡ false) × StandOnce is
+StandOnce (i ∷ is) = StandOnce is
+
+-- the flash of a placed program, the words of its labels and the addresses of what its code names. What stands at an
+-- address is for the reader to say
+abbrev pub environment : PlainProgram → Map → AsmProgram → Located → (kind table : ℕ → Kind) → Env
+environment p m asm l kind table = record {
+  flash = l.image.bytes.items;
+  word_of = label_word asm.items.items;
+  address_of = address_of (layout_by p m asm) (last_of m);
+  kind = kind;
+  table = table;
+}
+
+-- the code of a placed program stands in its image from word 0 on, with its labels and the places of objects put in
+abbrev pub CodeStands : Type 0
+CodeStands =
+    (p : PlainProgram) (m : Map) (asm : AsmProgram) (l : Located) (kind table : ℕ → Kind) → ValidMap m
+    → ValidAsm (object_sizes p) 64 asm → StandOnce asm.items.items → IsLocated p m asm l
+    → IsPlaced (environment p m asm l kind table) asm.items.items 0

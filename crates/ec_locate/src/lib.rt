@@ -1,0 +1,18 @@
+//! The locating linker: where objects stand by the map, and the image.
+#![tactic(auto)]
+
+mod calls;
+mod code;
+mod entries;
+mod fixed;
+mod image;
+mod laws;
+mod layout;
+mod needs;
+mod placing;
+mod stop;
+
+pub use ec_map::{Fixed1, Map, MapStop, Region, read_map};
+pub use laws::{code_stands, placed_stand_apart, stops_have_causes};
+pub use placing::{Located, place};
+pub use stop::{PlaceStop, RegionName};

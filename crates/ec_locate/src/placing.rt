@@ -1,0 +1,210 @@
+//! Placing a program.
+ghost use Rattle.std.specs.Prelude.{◌≡◌, ◌<◌, ◌^◌, ◌+◌, ◌*◌, All, IsTrue, IfOk, IfErr, OnOk, length, Some, None};
+ghost use Rattle.std.specs.Prelude.{map as each};
+ghost use Rattle.ec_asm.specs.Items.{code_words};
+ghost use Rattle.ec_asm.specs.Valid.{ValidAsm};
+ghost use Rattle.ec_core.specs.Layout.{AreStructs, IsObjectType};
+ghost use Rattle.ec_core.specs.Plain.{plain_struct, plain_type, plain_object, plain_program};
+ghost use Rattle.ec_core.specs.Valid.{Valid};
+ghost use Rattle.ec_map.specs.Maps.{ValidMap};
+ghost use Rattle.ec_locate.specs.Calls.{call_depth as depth_of_calls};
+ghost use Rattle.ec_locate.specs.Code.{has_words};
+ghost use Rattle.ec_locate.specs.Entries.{flash_sizes, initial_sizes, data_sizes, frame_sizes, entries};
+ghost use Rattle.ec_locate.specs.Fixed.{missing, blocks, first_clash};
+ghost use Rattle.ec_locate.specs.Image.{flash_of, image};
+ghost use Rattle.ec_locate.specs.Layout.{layout};
+ghost use Rattle.ec_locate.specs.Needs.{first_shortage};
+ghost use Rattle.ec_locate.specs.Placing.{object_sizes, scratch_needs, needs, IsShort, IsWithoutObject, IsClash};
+ghost use Rattle.ec_locate.specs.Placing.{IsStop, IsLocated, last_of};
+ghost use Rattle.ec_space.specs.declared.Core.TheVariants.{Small};
+
+use crate::calls::call_depth;
+use crate::entries::{Entry, data_sizes, entries_of, flash_sizes, frame_sizes, initial_sizes};
+use crate::fixed::{Neighbour, blocks_of, first_clash, missing, named, neighbour_name, place_name};
+use crate::image::image_from;
+use crate::layout::{Layout, layout_of};
+use crate::needs::{Needs, first_shortage};
+use crate::stop::PlaceStop;
+use ec_asm::{AsmProgram, code_words};
+use ec_avr::Image;
+use ec_core::{Obj, Program};
+use ec_map::{Fixed1, Map};
+use ec_space::{NoMemory, Place, Seq};
+use std::alloc::Global;
+
+/// A program that was placed.
+#[derive(Drop)]
+pub struct Located {
+    /// The code, and the initial values of static objects.
+    pub image: Image,
+    /// The place of each object.
+    pub places: Seq<Place>,
+    /// The data address of the scratch memory of each function.
+    pub frames: Seq<u32>,
+    /// The data address of the 64 work bytes.
+    pub work: u32,
+    /// The bytes of the code.
+    pub code_bytes: u32,
+}
+
+/// The bytes that the regions have to have.
+fn needs_of(
+    alloc: Global,
+    program: &Program,
+    entries: &[Entry],
+    asm: &AsmProgram,
+) -> Result<Needs, NoMemory>
+    requires functions { length program.now.funcs.items < 2 ^ 29 }
+    requires objects { length entries.now < 2 ^ 29 }
+    requires frames { length asm.now.frames.items < 2 ^ 29 }
+    requires items { length asm.now.items.items < 2 ^ 32 }
+    ensures { IfOk result (λ made. made
+        ≡ needs (plain_program program.now) entries.now asm.now.frames.items asm.now.items.items) }
+{
+    let depth = call_depth(alloc, program)?;
+    let frames = asm.frames.as_slice();
+    Ok(Needs {
+        tables: flash_sizes(entries) + initial_sizes(entries),
+        vars: data_sizes(entries) + frame_sizes(frames) + 64,
+        stack: 16 + 2 * u64::from(depth),
+        code: 2 * code_words(asm.items.as_slice()),
+    })
+}
+
+/// Refuses a program where a region is too small.
+fn refuse_short(map: &Map, needs: Needs) -> Result<(), PlaceStop>
+    ensures ok { OnOk result (first_shortage map.now needs ≡ None) }
+    ensures stop { IfErr result (IsShort (first_shortage map.now needs)) }
+{
+    match first_shortage(map, needs) {
+        Some(shortage) => Err(PlaceStop::TooSmall {
+            region: shortage.region,
+            needed: shortage.needed,
+            available: shortage.available,
+        }),
+        None => Ok(()),
+    }
+}
+
+/// Refuses a map that places an object that there is not.
+fn refuse_missing(alloc: Global, objs: &[Obj], places: &[Fixed1]) -> Result<(), PlaceStop>
+    ensures ok { OnOk result (missing (each plain_object objs.now) places.now ≡ None) }
+    ensures stop { IfErr result (IsWithoutObject (missing (each plain_object objs.now) places.now)) }
+{
+    match missing(objs, places) {
+        Some(place) => {
+            let name = named(alloc, place.name.as_slice())?;
+            Err(PlaceStop::NoSuchObject(name))
+        }
+        None => Ok(()),
+    }
+}
+
+/// How a clash is told.
+fn clash_told(
+    alloc: Global,
+    places: &[Fixed1],
+    i: usize,
+    neighbour: Neighbour,
+) -> Result<PlaceStop, NoMemory>
+    requires { i < length places.now }
+    ensures { IfOk result (IsClash places.now (Some (i, neighbour))) }
+{
+    let name = named(alloc, place_name(places, i))?;
+    let other = named(alloc, neighbour_name(places, i, neighbour))?;
+    Ok(PlaceStop::Clash(name, other))
+}
+
+/// Refuses a map whose fixed places clash.
+fn refuse_clash(alloc: Global, map: &Map, entries: &[Entry], objs: &[Obj]) -> Result<(), PlaceStop>
+    ensures ok { OnOk result (first_clash map.now 0 (blocks entries.now (each plain_object objs.now)
+        map.now.places.items) ≡ None) }
+    ensures stop { IfErr result (IsClash map.now.places.items (first_clash map.now 0
+        (blocks entries.now (each plain_object objs.now) map.now.places.items))) }
+{
+    let places = map.places.as_slice();
+    let made = blocks_of(alloc, entries, objs, places)?;
+    match first_clash(map, made.as_slice()) {
+        Some((i, neighbour)) => {
+            let stop = clash_told(alloc, places, i, neighbour)?;
+            Err(stop)
+        }
+        None => Ok(()),
+    }
+}
+
+/// The program where it stands, which the regions have room for.
+fn locate(
+    alloc: Global,
+    program: &Program,
+    asm: &AsmProgram,
+    map: &Map,
+    entries: &[Entry],
+) -> Result<Located, NoMemory>
+    requires structs { AreStructs (each plain_struct program.now.structs.items) }
+    requires objects { All (λ obj. IsObjectType (length program.now.structs.items) (plain_type obj.ty))
+        program.now.objs.items }
+    requires words { All (λ item. IsTrue (has_words item)) asm.now.items.items }
+    requires room { code_words asm.now.items.items < 2 ^ 16 }
+    requires items { length asm.now.items.items < 2 ^ 32 }
+    requires few { length entries.now < 2 ^ 29 }
+    requires functions { length asm.now.frames.items < 2 ^ 29 }
+    requires flash { map.now.tables.first + flash_sizes entries.now + initial_sizes entries.now < 2 ^ 32 }
+    requires ram { map.now.vars.first + data_sizes entries.now + frame_sizes asm.now.frames.items < 2 ^ 32 }
+    requires stack { map.now.stack.first + map.now.stack.size < 2 ^ 32 }
+    requires some { 0 < map.now.stack.size }
+    ensures places { IfOk result (λ l. l.places.items ≡ (layout map.now entries.now asm.now.frames.items).places) }
+    ensures frames { IfOk result (λ l. l.frames.items ≡ (layout map.now entries.now asm.now.frames.items).frames) }
+    ensures work { IfOk result (λ l. l.work ≡ (layout map.now entries.now asm.now.frames.items).work) }
+    ensures code_bytes { IfOk result (λ l. l.code_bytes ≡ 2 * code_words asm.now.items.items) }
+    ensures core { IfOk result (λ l. l.image.core ≡ Small) }
+    ensures flash { IfOk result (λ l. flash_of l.image ≡ image (plain_program program.now)
+        (layout map.now entries.now asm.now.frames.items) (last_of map.now) asm.now.items.items) }
+{
+    let items = asm.items.as_slice();
+    let layout = layout_of(alloc, map, entries, asm.frames.as_slice())?;
+    let last = map.stack.first + map.stack.size - 1;
+    let image = image_from(alloc, program, items, &layout, last)?;
+    let Layout {
+        places,
+        initials: _,
+        frames,
+        work,
+    } = layout;
+    Ok(Located {
+        image,
+        places,
+        frames,
+        work,
+        code_bytes: (2 * code_words(items)) as u32,
+    })
+}
+
+/// Places a program by a map.
+///
+/// Objects stand where the map or the packing puts them, the code stands from address 0 on with its labels and the
+/// places of objects put in, and the initial values of static objects stand in flash. A program is refused where a
+/// region is too small, a place of the map has no object, or an object that the map places clashes, in this order.
+pub fn place(
+    alloc: Global,
+    program: &Program,
+    asm: &AsmProgram,
+    map: &Map,
+) -> Result<Located, PlaceStop>
+    requires program { Valid (plain_program program.now) map.now.io }
+    requires map { ValidMap map.now }
+    requires asm { ValidAsm (object_sizes (plain_program program.now)) 64 asm.now }
+    requires frames { asm.now.frames.items ≡ scratch_needs (plain_program program.now) }
+    requires items { length asm.now.items.items < 2 ^ 32 }
+    ensures located { IfOk result (IsLocated (plain_program program.now) map.now asm.now) }
+    ensures stopped { IfErr result (IsStop (plain_program program.now) map.now asm.now) }
+{
+    let objs = program.objs.as_slice();
+    let entries = entries_of(alloc, program, map.places.as_slice())?;
+    let needs = needs_of(alloc, program, entries.as_slice(), asm)?;
+    refuse_short(map, needs)?;
+    refuse_missing(alloc, objs, map.places.as_slice())?;
+    refuse_clash(alloc, map, entries.as_slice(), objs)?;
+    let located = locate(alloc, program, asm, map, entries.as_slice())?;
+    Ok(located)
+}

@@ -1,0 +1,5 @@
+use Rattle.ec_map.proofs.Made.{ascending-nil}
+use Rattle.ec_map.proofs.map.places_of.Goals as goal
+
+pub returns-in-None-clause-ascending : goal.returns-in-None-clause-ascending
+returns-in-None-clause-ascending c = rw c.new.ensures ascending-nil

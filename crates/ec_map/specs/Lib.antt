@@ -1,0 +1,4 @@
+pub mod Values
+pub mod Regions
+pub mod Rules
+pub mod Maps

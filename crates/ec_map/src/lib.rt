@@ -1,0 +1,15 @@
+//! The map of a chip: where code, objects and the stack stand, and its ports.
+#![tactic(auto)]
+
+mod groups;
+mod keys;
+mod map;
+mod ports;
+mod read;
+mod region;
+mod rules;
+mod values;
+
+pub use map::{Fixed1, Map};
+pub use read::{MapStop, read_map};
+pub use region::{Region, Regions};

@@ -1,0 +1,257 @@
+//! The map that a table is.
+ghost use Rattle.std.specs.Prelude.{◌≡◌, ◌<◌, ◌^◌, map, length, codes, Some, None, IfOk};
+ghost use Rattle.toml.specs.View.{view, table_view};
+ghost use Rattle.ec_map.specs.Values.{values_at, entries, entries_at, entries_of};
+ghost use Rattle.ec_map.specs.Rules.{groups_of, ports_of, group_of, broken};
+ghost use Rattle.ec_map.specs.Regions.{regions_of};
+ghost use Rattle.ec_map.specs.Maps.{byte_in, pair_of, port_of, port_group_of, place_of, port_view, group_view};
+ghost use Rattle.ec_map.specs.Maps.{place_view, names_of, AreAscending, IsMapOf};
+
+use crate::ports::{address_of, byte_of, count_of, group_of, name_of, width_of};
+use crate::region::{Region, Regions, regions_of};
+use crate::rules::{groups_of, ports_of};
+use crate::values::{number_of, values_at};
+use ec_iohw::{IoTable, Pair, Port, PortGroup};
+use ec_space::{Core, Name, NoMemory, Seq};
+use std::alloc::Global;
+use toml::{Table, Value};
+
+/// The place of an object that a map puts outside all regions.
+#[derive(Drop)]
+pub struct Fixed1 {
+    /// The object's name.
+    pub name: Name,
+    /// The address of its first byte in its home bank, from 1 to 65,535.
+    pub at: u32,
+}
+
+/// What a map says of a chip.
+#[derive(Drop)]
+pub struct Map {
+    pub core: Core,
+    /// The code, in flash from address 0.
+    pub code: Region,
+    /// Flash objects and initial bytes, in flash.
+    pub tables: Region,
+    /// The region `data`, in SRAM.
+    pub vars: Region,
+    /// The stack, in SRAM.
+    pub stack: Region,
+    /// The ports and groups that programs can name.
+    pub io: IoTable,
+    /// Where external objects stand outside the regions, by rising bytes of their names.
+    pub places: Seq<Fixed1>,
+}
+
+impl Map {
+    ghost use Rattle.ec_map.specs.Maps.{regions};
+
+    /// The regions.
+    pub fn regions(&self) -> Regions
+        ensures { result ≡ regions self.now }
+    {
+        Regions {
+            code: self.code,
+            tables: self.tables,
+            vars: self.vars,
+            stack: self.stack,
+        }
+    }
+}
+
+fn name_from(alloc: Global, text: &str) -> Result<Name, NoMemory>
+    ensures { IfOk result (λ name. name.items ≡ text.now) }
+{
+    let mut name = Seq::new(alloc);
+    name.extend_from_slice(text.as_bytes())?;
+    Ok(name)
+}
+
+/// The place of a port's group among the groups.
+fn group_number(groups: &[Value], port: &Value) -> Option<u16>
+    requires { length groups.now < 2 ^ 16 }
+    ensures { result ≡ group_of (map view groups.now) (view port.now) }
+{
+    match group_of(groups, port) {
+        Some(at) => Some(at as u16),
+        None => None,
+    }
+}
+
+fn port_from(alloc: Global, port: &Value, groups: &[Value]) -> Result<Port, NoMemory>
+    requires { length groups.now < 2 ^ 16 }
+    ensures { IfOk result (λ p. port_view p ≡ port_of (map view groups.now) (view port.now)) }
+{
+    let name = name_from(alloc, name_of(port))?;
+    Ok(Port {
+        name,
+        address: address_of(port),
+        width: width_of(port),
+        count: count_of(port),
+        group: group_number(groups, port),
+    })
+}
+
+fn ports_from(alloc: Global, ports: &[Value], groups: &[Value]) -> Result<Seq<Port>, NoMemory>
+    requires { length groups.now < 2 ^ 16 }
+    ensures { IfOk result (λ made. map port_view made.items
+        ≡ map (port_of (map view groups.now)) (map view ports.now)) }
+{
+    let mut made = Seq::new(alloc);
+    for port in ports {
+        made.push(port_from(alloc, port, groups)?)?;
+    }
+    Ok(made)
+}
+
+/// The value at an index of an array, as a byte.
+fn byte_in(index: usize, array: &Value) -> u8
+    ensures { result ≡ byte_in index (view array.now) }
+{
+    match array.get(index) {
+        Some(byte) => byte_of(byte).unwrap_or(0),
+        None => 0,
+    }
+}
+
+fn pair_from(array: &Value) -> Pair
+    ensures { result ≡ pair_of (view array.now) }
+{
+    Pair {
+        port: byte_in(0, array),
+        byte: byte_in(1, array),
+    }
+}
+
+fn pairs_from(alloc: Global, arrays: &[Value]) -> Result<Seq<Pair>, NoMemory>
+    ensures { IfOk result (λ pairs. pairs.items ≡ map pair_of (map view arrays.now)) }
+{
+    let mut pairs = Seq::new(alloc);
+    for array in arrays {
+        pairs.push(pair_from(array))?;
+    }
+    Ok(pairs)
+}
+
+/// What is written by the array at a key.
+fn pairs_at(alloc: Global, group: &Value, key: &str) -> Result<Seq<Pair>, NoMemory>
+    ensures { IfOk result (λ pairs. pairs.items ≡ map pair_of (values_at key.now (view group.now))) }
+{
+    pairs_from(alloc, values_at(group, key))
+}
+
+fn group_from(alloc: Global, group: &Value) -> Result<PortGroup, NoMemory>
+    ensures { IfOk result (λ g. group_view g ≡ port_group_of (view group.now)) }
+{
+    Ok(PortGroup {
+        name: name_from(alloc, name_of(group))?,
+        acquire: pairs_at(alloc, group, "acquire")?,
+        release: pairs_at(alloc, group, "release")?,
+    })
+}
+
+fn groups_from(alloc: Global, groups: &[Value]) -> Result<Seq<PortGroup>, NoMemory>
+    ensures { IfOk result (λ made. map group_view made.items ≡ map port_group_of (map view groups.now)) }
+{
+    let mut made = Seq::new(alloc);
+    for group in groups {
+        made.push(group_from(alloc, group)?)?;
+    }
+    Ok(made)
+}
+
+fn place_from(alloc: Global, name: &str, value: &Value) -> Result<Fixed1, NoMemory>
+    ensures { IfOk result (λ p. place_view p ≡ place_of (name.now, view value.now)) }
+{
+    let name = name_from(alloc, name)?;
+    Ok(Fixed1 {
+        name,
+        at: number_of(value, 65_535).unwrap_or(0),
+    })
+}
+
+fn places_in(alloc: Global, table: &Table) -> Result<Seq<Fixed1>, NoMemory>
+    ensures told { IfOk result (λ made. map place_view made.items
+        ≡ map place_of (entries_of (table_view table.now))) }
+    ensures ascending { IfOk result (λ made. AreAscending (names_of made.items)) }
+{
+    let mut made = Seq::new(alloc);
+    'places: for (name, value) in table.iter() {
+        made.push(place_from(alloc, name.as_str(), value)?)?;
+    }
+    Ok(made)
+}
+
+fn places_of(alloc: Global, value: &Value) -> Result<Seq<Fixed1>, NoMemory>
+    ensures told { IfOk result (λ made. map place_view made.items ≡ map place_of (entries (view value.now))) }
+    ensures ascending { IfOk result (λ made. AreAscending (names_of made.items)) }
+{
+    match value.as_table() {
+        Some(table) => {
+            let made = places_in(alloc, table)?;
+            Ok(made)
+        }
+        None => Ok(Seq::new(alloc)),
+    }
+}
+
+fn places_from(alloc: Global, root: &Value) -> Result<Seq<Fixed1>, NoMemory>
+    ensures told { IfOk result (λ made. map place_view made.items
+        ≡ map place_of (entries_at (codes "place") (view root.now))) }
+    ensures ascending { IfOk result (λ made. AreAscending (names_of made.items)) }
+{
+    match root.get("place") {
+        Some(places) => {
+            let made = places_of(alloc, places)?;
+            Ok(made)
+        }
+        None => Ok(Seq::new(alloc)),
+    }
+}
+
+fn io_from(alloc: Global, root: &Value) -> Result<IoTable, NoMemory>
+    requires { length (groups_of (view root.now)) < 2 ^ 16 }
+    ensures ports { IfOk result (λ io. map port_view io.ports.items
+        ≡ map (port_of (groups_of (view root.now))) (ports_of (view root.now))) }
+    ensures groups { IfOk result (λ io. map group_view io.groups.items
+        ≡ map port_group_of (groups_of (view root.now))) }
+{
+    Ok(IoTable {
+        ports: ports_from(alloc, ports_of(root), groups_of(root))?,
+        groups: groups_from(alloc, groups_of(root))?,
+    })
+}
+
+/// The regions of a table that keeps the rules.
+fn regions_from(root: &Value) -> Regions
+    requires { broken (view root.now) ≡ None }
+    ensures { regions_of (view root.now) ≡ Some result }
+{
+    match regions_of(root) {
+        Some(regions) => regions,
+        None => unreachable!(),
+    }
+}
+
+/// The map that a table is which keeps the rules.
+pub(crate) fn map_from(alloc: Global, root: &Value) -> Result<Map, NoMemory>
+    requires { broken (view root.now) ≡ None }
+    ensures told { IfOk result (IsMapOf (view root.now)) }
+    ensures ascending { IfOk result (λ m. AreAscending (names_of m.places.items)) }
+{
+    let Regions {
+        code,
+        tables,
+        vars,
+        stack,
+    } = regions_from(root);
+    Ok(Map {
+        core: Core::Small,
+        code,
+        tables,
+        vars,
+        stack,
+        io: io_from(alloc, root)?,
+        places: places_from(alloc, root)?,
+    })
+}

@@ -1,0 +1,264 @@
+//! The rules of a map, over the table that its text is read as.
+ghost use Rattle.std.specs.Prelude.{◌≡◌, ◌<◌, map, not, length, position, IfSome};
+ghost use Rattle.std.specs.List.{list_all};
+ghost use Rattle.std.specs.Map.{values_of};
+ghost use Rattle.toml.specs.View.{view};
+ghost use Rattle.ec_map.specs.Values.{entries};
+ghost use Rattle.ec_map.specs.Rules.{rule_1, rule_2, rule_3, rule_4, rule_5, rule_6, rule_7, rule_8, rule_9};
+ghost use Rattle.ec_map.specs.Rules.{rule_10, rule_11, rule_12, rule_13, rule_14, rule_15, rule_16, rule_17, rule_18};
+ghost use Rattle.ec_map.specs.Rules.{ports_of, groups_of, has_size, has_ports, has_lists, has_writes, has_group};
+ghost use Rattle.ec_map.specs.Rules.{is_place, kept, broken};
+
+use crate::groups::{has_lists, has_writes};
+use crate::keys::{Kind, is_array_of, is_table_of};
+use crate::ports::{are_named, has_group, has_ports, has_size};
+use crate::region::regions_of;
+use crate::values::{number_of, text_at, values_at};
+use toml::{Table, Value};
+
+/// The ports of a map, one table each.
+pub(crate) fn ports_of(root: &Value) -> &[Value]
+    ensures { map view result.now ≡ ports_of (view root.now) }
+{
+    values_at(root, "port")
+}
+
+/// The groups of a map, one table each.
+pub(crate) fn groups_of(root: &Value) -> &[Value]
+    ensures { map view result.now ≡ groups_of (view root.now) }
+{
+    values_at(root, "group")
+}
+
+fn rule_1(root: &Value) -> bool
+    ensures { result ≡ rule_1 (view root.now) }
+{
+    is_table_of(Kind::WholeMap, root)
+}
+
+fn rule_2(root: &Value) -> bool
+    ensures { result ≡ rule_2 (view root.now) }
+{
+    match text_at(root, "core") {
+        Some(core) => core == "small",
+        None => false,
+    }
+}
+
+fn rule_3(root: &Value) -> bool
+    ensures { result ≡ rule_3 (view root.now) }
+{
+    match root.get("region") {
+        Some(table) => is_table_of(Kind::RegionTable, table),
+        None => false,
+    }
+}
+
+fn rule_4(root: &Value) -> bool
+    ensures { result ≡ rule_4 (view root.now) }
+{
+    regions_of(root).is_some()
+}
+
+fn rule_5(root: &Value) -> bool
+    ensures { result ≡ rule_5 (view root.now) }
+{
+    match regions_of(root) {
+        Some(regions) => regions.are_in_banks(),
+        None => false,
+    }
+}
+
+fn rule_6(root: &Value) -> bool
+    ensures { result ≡ rule_6 (view root.now) }
+{
+    match regions_of(root) {
+        Some(regions) => regions.is_code(),
+        None => false,
+    }
+}
+
+fn rule_7(root: &Value) -> bool
+    ensures { result ≡ rule_7 (view root.now) }
+{
+    match regions_of(root) {
+        Some(regions) => regions.are_apart(),
+        None => false,
+    }
+}
+
+fn rule_8(root: &Value) -> bool
+    ensures { result ≡ rule_8 (view root.now) }
+{
+    match root.get("port") {
+        Some(ports) => is_array_of(Kind::PortTable, 64, ports),
+        None => true,
+    }
+}
+
+fn rule_9(root: &Value) -> bool
+    ensures { result ≡ rule_9 (view root.now) }
+{
+    are_named(ports_of(root))
+}
+
+fn each_has_size(ports: &[Value]) -> bool
+    ensures { result ≡ list_all (λ port. has_size (view port)) ports.now }
+{
+    ports.iter().all(|port| has_size(port))
+}
+
+fn rule_10(root: &Value) -> bool
+    ensures { result ≡ rule_10 (view root.now) }
+{
+    each_has_size(ports_of(root))
+}
+
+fn each_has_ports(ports: &[Value]) -> bool
+    ensures { result ≡ list_all (λ port. has_ports (view port)) ports.now }
+{
+    ports.iter().all(|port| has_ports(port))
+}
+
+fn rule_11(root: &Value) -> bool
+    ensures { result ≡ rule_11 (view root.now) }
+{
+    each_has_ports(ports_of(root))
+}
+
+fn rule_12(root: &Value) -> bool
+    ensures { result ≡ rule_12 (view root.now) }
+{
+    match root.get("group") {
+        Some(groups) => is_array_of(Kind::GroupTable, 16, groups),
+        None => true,
+    }
+}
+
+fn rule_13(root: &Value) -> bool
+    ensures { result ≡ rule_13 (view root.now) }
+{
+    are_named(groups_of(root))
+}
+
+fn each_has_lists(groups: &[Value]) -> bool
+    ensures { result ≡ list_all (λ group. has_lists (view group)) groups.now }
+{
+    groups.iter().all(|group| has_lists(group))
+}
+
+fn rule_14(root: &Value) -> bool
+    ensures { result ≡ rule_14 (view root.now) }
+{
+    each_has_lists(groups_of(root))
+}
+
+fn each_has_writes(groups: &[Value]) -> bool
+    ensures { result ≡ list_all (λ group. has_writes (view group)) groups.now }
+{
+    groups.iter().all(|group| has_writes(group))
+}
+
+fn rule_15(root: &Value) -> bool
+    ensures { result ≡ rule_15 (view root.now) }
+{
+    each_has_writes(groups_of(root))
+}
+
+fn each_has_group(groups: &[Value], ports: &[Value]) -> bool
+    ensures { result ≡ list_all (λ port. has_group (map view groups.now) (view port)) ports.now }
+{
+    ports.iter().all(|port| has_group(groups, port))
+}
+
+fn rule_16(root: &Value) -> bool
+    ensures { result ≡ rule_16 (view root.now) }
+{
+    each_has_group(groups_of(root), ports_of(root))
+}
+
+fn rule_17(root: &Value) -> bool
+    ensures { result ≡ rule_17 (view root.now) }
+{
+    match root.get("place") {
+        Some(places) => places.is_table(),
+        None => true,
+    }
+}
+
+fn is_place(value: &Value) -> bool
+    ensures { result ≡ is_place (view value.now) }
+{
+    match number_of(value, 65_535) {
+        Some(at) => 1 <= at,
+        None => false,
+    }
+}
+
+fn each_is_place(places: &Table) -> bool
+    ensures { result ≡ list_all (λ value. is_place (view value)) (values_of places.now.entries) }
+{
+    places.values().all(|value| is_place(value))
+}
+
+fn are_places(places: &Value) -> bool
+    ensures { result ≡ list_all (λ e. is_place e.1) (entries (view places.now)) }
+{
+    match places.as_table() {
+        Some(table) => each_is_place(table),
+        None => true,
+    }
+}
+
+fn rule_18(root: &Value) -> bool
+    ensures { result ≡ rule_18 (view root.now) }
+{
+    match root.get("place") {
+        Some(places) => are_places(places),
+        None => true,
+    }
+}
+
+/// Whether each rule is kept, in order.
+fn kept(root: &Value) -> [bool; 18]
+    ensures { result ≡ kept (view root.now) }
+{
+    [
+        rule_1(root),
+        rule_2(root),
+        rule_3(root),
+        rule_4(root),
+        rule_5(root),
+        rule_6(root),
+        rule_7(root),
+        rule_8(root),
+        rule_9(root),
+        rule_10(root),
+        rule_11(root),
+        rule_12(root),
+        rule_13(root),
+        rule_14(root),
+        rule_15(root),
+        rule_16(root),
+        rule_17(root),
+        rule_18(root),
+    ]
+}
+
+/// The place of the first rule that is not kept.
+fn first_broken(kept: &[bool]) -> Option<usize>
+    ensures value { result ≡ position not kept.now }
+    ensures within { IfSome result (λ at. at < length kept.now) }
+{
+    kept.iter().position(|kept| !*kept)
+}
+
+/// The first rule that a table breaks, by its number from 1.
+pub(crate) fn broken(root: &Value) -> Option<u8>
+    ensures { result ≡ broken (view root.now) }
+{
+    match first_broken(&kept(root)) {
+        Some(at) => Some(at as u8 + 1),
+        None => None,
+    }
+}
