@@ -4,3 +4,4 @@ pub mod Numbered
 pub mod Walks
 pub mod Alike
 pub mod Finding
+pub mod Samples

@@ -11,3 +11,4 @@ pub mod Counts
 pub mod Definitions
 pub mod Laws
 pub mod Structs
+pub mod Spellings

@@ -10,6 +10,7 @@ mod names;
 mod numbering;
 mod qualifiers;
 mod specifiers;
+mod spellings;
 mod stars;
 mod structs;
 mod tags;
@@ -21,7 +22,10 @@ pub use firsts::{
     first_declaration, first_expression, first_initialiser, first_item, first_param, first_postfix,
     first_primary, first_spec, first_specs, first_statement, first_type_name, first_unary,
 };
-pub use laws::{blocks_end, definitions_are_numbered, inner_names_hide, outer_names_are_known};
+pub use laws::{
+    blocks_end, definitions_are_found, definitions_are_numbered, equal_structs_are_one,
+    inner_names_hide, outer_names_are_known,
+};
 pub use linkage::{Linkage, linkage_of};
 pub use names::{Entry, Named, Names};
 pub use numbering::{Defined, Definition, definitions, is_defined, number_of, storage_of};
@@ -29,6 +33,7 @@ pub use qualifiers::{Qualities, SpaceWord, judge_qualifiers, judge_quality, qual
 pub use specifiers::{
     Lone, Specified, Storage, StorageWord, Storages, TypeWords, judge_specs, said_by, storages_of,
 };
+pub use spellings::{is_main, register_number};
 pub use stars::{Declared, pointed};
 pub use structs::{same_struct, struct_place};
 pub use tags::{TagState, Tags};

@@ -1,0 +1,9 @@
+-- Lemmas of the emitters.
+use Rattle.std.proofs.Common.{ℕ, ◌≤◌, arith}
+use Rattle.ec_asm.specs.declared.pieces.Location.{Location}
+use Rattle.ec_asm.specs.declared.pieces.Location.TheVariants.{InRegisters, InMemory}
+use Rattle.ec_asm.specs.Pieces.{HasBytes}
+
+pub fewer_bytes : (p : Location) (n m : ℕ) → m ≤ n → HasBytes p n → HasBytes p m
+fewer_bytes (InRegisters r) n m l h = omega arith
+fewer_bytes (InMemory o k) n m l h = omega arith

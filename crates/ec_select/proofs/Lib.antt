@@ -1,0 +1,14 @@
+pub mod Wrapped
+pub mod Moves
+pub mod Match
+pub mod Computed
+pub mod Accesses
+pub mod Follow
+pub mod Numbers
+pub mod Steps
+pub mod Whole
+pub mod Extended
+pub mod Emits
+pub mod Standing
+pub mod Selected
+pub mod Written

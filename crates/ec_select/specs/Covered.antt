@@ -1,0 +1,87 @@
+-- The operations that have code: for each its temporaries, types and objects. The other operations have none yet, so no
+-- program with one of them is covered.
+use Rattle.std.specs.Prelude.{◌≡◌, ◌≢◌, ℕ, ◌==◌, ⊤, Bool, List, [], ◌∷◌, Option, Some, None}
+use Rattle.std.specs.Prelude.{slice_get}
+use Rattle.std.specs.List.{position_from}
+use Rattle.ec_space.specs.declared.space.Bank.TheVariants.{Data as DataBank}
+use Rattle.ec_asm.specs.declared.pieces.Operator.{Operator}
+use Rattle.ec_core.specs.declared.expressions.BinOp.{BinOp}
+use Rattle.ec_core.specs.Layout.{leaves_of_type}
+use Rattle.ec_core.specs.Plain.{PlainType, integer, PlainObject}
+use Rattle.ec_core.specs.Plain.{PlainProgram}
+use Rattle.ec_ir.specs.declared.operations.Temp.{Temp}
+use Rattle.ec_ir.specs.Operations.{PlainIr, constant, copy, address, field, load_at, store_at, load_object}
+use Rattle.ec_ir.specs.Operations.{store_object, binary_op, unary_op, conversion, label, jump, branch_zero}
+use Rattle.ec_ir.specs.Operations.{call_function, return_from, port_in, port_out}
+use Rattle.ec_ir.specs.Valid.{IsTemp}
+use Rattle.ec_select.specs.Code.{operator_of}
+
+-- a number of so many bytes, with an integer type, begins at an offset in an object that is kept in the data bank
+pub record HasNumberAt (p : PlainProgram) (o offset bytes : ℕ) : Type 0 where
+  pub number : ℕ
+  pub declared : PlainObject
+  pub signed : Bool
+  pub is_object : slice_get p.objects o ≡ Some declared
+  pub is_leaf : slice_get (leaves_of_type p.structs declared.ty) number
+      ≡ Some (record { ty = integer signed bytes; at = offset })
+  pub in_data : declared.home ≡ DataBank
+  pub found : position_from (λ x. x.at == offset) 0 (leaves_of_type p.structs declared.ty) ≡ Some number
+
+-- an operator that has code
+pub record HasOperator (op : BinOp) : Type 0 where
+  pub operator : Operator
+  pub is : operator_of op ≡ Some operator
+
+-- operands and result have integer types of as many bytes as their temporaries, all the same
+pub record AreIntegers (slots : ℕ) (to a b : Temp) (ty aty bty : PlainType) : Type 0 where
+  pub signed : Bool
+  pub left_signed : Bool
+  pub right_signed : Bool
+  pub result_type : ty ≡ integer signed to.bytes
+  pub left_type : aty ≡ integer left_signed a.bytes
+  pub right_type : bty ≡ integer right_signed b.bytes
+  pub result : IsTemp slots to
+  pub left : IsTemp slots a
+  pub right : IsTemp slots b
+  pub left_bytes : a.bytes ≡ to.bytes
+  pub right_bytes : b.bytes ≡ to.bytes
+
+-- an integer of a temporary is brought to the type of another one
+pub record AreConverted (slots : ℕ) (to a : Temp) (ty aty : PlainType) : Type 0 where
+  pub signed : Bool
+  pub from_signed : Bool
+  pub result_type : ty ≡ integer signed to.bytes
+  pub from_type : aty ≡ integer from_signed a.bytes
+  pub result : IsTemp slots to
+  pub from : IsTemp slots a
+
+abbrev pub IsResult : ℕ → Option Temp → Type 0
+IsResult slots None = ⊤
+IsResult slots (Some t) = IsTemp slots t × (t.bytes ≡ 2)
+
+-- operations of main, which has so many places of temporaries. The result of an operator is not put to the place of
+-- its second operand
+abbrev pub IsCovered : PlainProgram → ℕ → PlainIr → Type 0
+IsCovered p slots (constant t n) = IsTemp slots t
+IsCovered p slots (copy to from) = IsTemp slots to × IsTemp slots from × (to.bytes ≡ from.bytes)
+IsCovered p slots (load_object t o offset) = IsTemp slots t × HasNumberAt p o offset t.bytes
+IsCovered p slots (store_object o offset t) = IsTemp slots t × HasNumberAt p o offset t.bytes
+IsCovered p slots (binary_op op ty mode to a aty b bty) =
+    HasOperator op × AreIntegers slots to a b ty aty bty × (to.at ≢ b.at)
+IsCovered p slots (label l) = ⊤
+IsCovered p slots (jump l) = ⊤
+IsCovered p slots (branch_zero t l) = IsTemp slots t
+IsCovered p slots (return_from from) = IsResult slots from
+IsCovered p slots (conversion to ty mode a aty) = AreConverted slots to a ty aty
+IsCovered p slots (address t o offset) = ⊥
+IsCovered p slots (field ptr space offset) = ⊥
+IsCovered p slots (load_at to ptr space) = ⊥
+IsCovered p slots (store_at ptr space from) = ⊥
+IsCovered p slots (unary_op op ty mode to a) = ⊥
+IsCovered p slots (call_function f to) = ⊥
+IsCovered p slots (port_in to port index width) = ⊥
+IsCovered p slots (port_out from port index width) = ⊥
+
+abbrev pub AreCovered : PlainProgram → ℕ → List PlainIr → Type 0
+AreCovered p slots [] = ⊤
+AreCovered p slots (i ∷ code) = IsCovered p slots i × AreCovered p slots code

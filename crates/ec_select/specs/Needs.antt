@@ -1,0 +1,68 @@
+-- How many low bytes of what each place of temporaries holds are still needed. Code computes only these bytes.
+use Rattle.std.specs.Prelude.{ℕ, ◌≤◌, ◌==◌, ⊤, if◌then◌else◌, min, max, List, [], ◌∷◌, Option, Some, None}
+use Rattle.ec_ir.specs.declared.operations.Temp.{Temp}
+use Rattle.ec_ir.specs.Operations.{PlainIr, constant, copy, address, field, load_at, store_at, load_object}
+use Rattle.ec_ir.specs.Operations.{store_object, binary_op, unary_op, conversion, label, jump, branch_zero}
+use Rattle.ec_ir.specs.Operations.{call_function, return_from, port_in, port_out}
+
+-- for each place the number of its low bytes that are needed
+abbrev pub Need : Type 0
+Need = ℕ → ℕ
+
+abbrev pub nothing : Need
+nothing place = 0
+
+-- a place has room for 16 bytes
+abbrev pub everything : Need
+everything place = 16
+
+abbrev pub at_least : ℕ → ℕ → Need → Need
+at_least at n need place = if place == at then max (need place) n else need place
+
+abbrev pub without : ℕ → Need → Need
+without at need place = if place == at then 0 else need place
+
+abbrev pub either : Need → Need → Need
+either a b place = max (a place) (b place)
+
+-- the bytes of a temporary that are needed
+abbrev pub wanted : Need → Temp → ℕ
+wanted need t = min (need t.at) t.bytes
+
+-- what is needed of the temporary that is returned
+abbrev pub returned_need : Option Temp → Need
+returned_need None = nothing
+returned_need (Some t) = at_least t.at t.bytes nothing
+
+-- what is needed before an operation, where `at` tells what is needed at each label, and `need` what is after the
+-- operation
+abbrev pub before : (ℕ → Need) → PlainIr → Need → Need
+before at (constant t n) need = without t.at need
+before at (copy to from) need = at_least from.at (wanted need to) (without to.at need)
+before at (address t o offset) need = everything
+before at (field ptr space offset) need = everything
+before at (load_at to ptr space) need = everything
+before at (store_at ptr space from) need = everything
+before at (load_object t o offset) need = without t.at need
+before at (store_object o offset t) need = at_least t.at t.bytes need
+before at (binary_op op ty mode to a aty b bty) need =
+    at_least a.at (wanted need to) (at_least b.at (wanted need to) (without to.at need))
+before at (unary_op op ty mode to a) need = everything
+before at (conversion to ty mode a aty) need = at_least a.at (wanted need to) (without to.at need)
+before at (label l) need = at l
+before at (jump l) need = at l
+before at (branch_zero t l) need = at_least t.at t.bytes (either need (at l))
+before at (call_function f to) need = everything
+before at (return_from from) need = returned_need from
+before at (port_in to port index width) need = everything
+before at (port_out from port index width) need = everything
+
+abbrev pub needs : (ℕ → Need) → List PlainIr → Need
+needs at [] place = 0
+needs at (i ∷ code) place = before at i (needs at code) place
+
+-- the table of labels tells at least what the code after each label needs
+abbrev pub IsLive : (ℕ → Need) → List PlainIr → Type 0
+IsLive at [] = ⊤
+IsLive at (label l ∷ code) = ((place : ℕ) → needs at code place ≤ at l place) × IsLive at code
+IsLive at (i ∷ code) = IsLive at code

@@ -1,0 +1,5 @@
+pub mod Constants
+pub mod Tests
+pub mod Extensions
+pub mod Straight
+pub mod Bounds

@@ -1,0 +1,102 @@
+-- The form of the pieces: straight code, and its steps and words.
+use Rattle.std.proofs.Common.{◌≡◌, ℕ, zero, suc, ◌+◌, ◌-◌, ◌*◌, ◌≤◌, ⊎_elim, Bool, true, false, refl, arith}
+use Rattle.std.specs.Prelude.{nat_le, if◌then◌else◌, List, [], ◌∷◌, ◌++◌}
+use Rattle.std.proofs.lemmas.List.Sums.{sum_by-append}
+use Rattle.std.proofs.lemmas.Bool.{cases_Bool}
+use Rattle.ec_isa.specs.declared.instructions.Instr.TheVariants.{Eor}
+use Rattle.ec_asm.specs.declared.items.AsmItem.{AsmItem}
+use Rattle.ec_asm.specs.declared.items.AsmItem.TheVariants.{Plain}
+use Rattle.ec_asm.specs.declared.pieces.Location.{Location}
+use Rattle.ec_asm.specs.declared.pieces.Location.TheVariants.{InRegisters, InMemory}
+use Rattle.ec_asm.specs.Items.{all_straight, code_steps, code_words, item_words, chain}
+use Rattle.ec_asm.proofs.Hoare.{straight-append, steps-append}
+use Rattle.ec_select_bytes.specs.Values.{byte_of, constant_byte, constant_code, test_byte, tests_code, test_code, put_byte, fill_code, puts_code, extend_code}
+use Rattle.ec_select_bytes.specs.Laws.{ValuesAreStraight, ValuesTake, ValuesHave}
+
+-- code that is straight, with at most so many steps and words
+record IsShort (code : List AsmItem) (steps words : ℕ) : Type 0 where
+  straight : all_straight code ≡ true
+  steps_are : code_steps code ≤ steps
+  words_are : code_words code ≤ words
+
+joined : (a b : List AsmItem) (k m l n : ℕ) → IsShort a k l → IsShort b m n → IsShort (a ++ b) (k + m) (l + n)
+joined a b k m l n p q =
+    let s = p.steps_are in
+    let t = q.steps_are in
+    let u = p.words_are in
+    let w = q.words_are in
+    record {
+      straight = straight-append a b p.straight q.straight;
+      steps_are = omega (arith, steps-append a b, s, t);
+      words_are = omega (arith, sum_by-append item_words a b, u, w);
+    }
+
+chained : (body : ℕ → List AsmItem) (n k l : ℕ) → ((i : ℕ) → IsShort (body i) k l)
+    → IsShort (chain body n) (n * k) (n * l)
+chained body zero k l h = record { straight = refl; steps_are = omega arith; words_are = omega arith }
+chained body (suc n) k l h =
+    let j = joined (chain body n) (body n) (n * k) k (n * l) l (chained body n k l h) (h n) in
+    let s = j.steps_are in
+    let w = j.words_are in
+    record { straight = j.straight; steps_are = omega (arith, s); words_are = omega (arith, w) }
+
+weaker : (code : List AsmItem) (k m l n : ℕ) → k ≤ m → l ≤ n → IsShort code k l → IsShort code m n
+weaker code k m l n a b h =
+    let s = h.steps_are in
+    let w = h.words_are in
+    record { straight = h.straight; steps_are = omega arith; words_are = omega arith }
+
+by_reach : (byte d : ℕ) (b : Bool) (a c : List AsmItem) → IsShort a 2 3 → IsShort c 2 3 → IsShort (if b then a else c) 2 3
+by_reach byte d true a c p q = p
+by_reach byte d false a c p q = q
+
+constant_short : (p : Location) (byte i : ℕ) → IsShort (constant_byte p byte i) 2 3
+constant_short (InRegisters r) byte i =
+    by_reach byte (r + i) (nat_le 16 (r + i)) _ _ (record { straight = refl; steps_are = omega arith; words_are = omega arith }) (record { straight = refl; steps_are = omega arith; words_are = omega arith })
+constant_short (InMemory o k) byte i = record { straight = refl; steps_are = omega arith; words_are = omega arith }
+
+test_short : (p : Location) (i : ℕ) → IsShort (test_byte p i) 2 3
+test_short (InRegisters r) zero = record { straight = refl; steps_are = omega arith; words_are = omega arith }
+test_short (InRegisters r) (suc i) = record { straight = refl; steps_are = omega arith; words_are = omega arith }
+test_short (InMemory o k) zero = record { straight = refl; steps_are = omega arith; words_are = omega arith }
+test_short (InMemory o k) (suc i) = record { straight = refl; steps_are = omega arith; words_are = omega arith }
+
+put_short : (p : Location) (i : ℕ) → IsShort (put_byte p i) 1 2
+put_short (InRegisters r) i = record { straight = refl; steps_are = omega arith; words_are = omega arith }
+put_short (InMemory o k) i = record { straight = refl; steps_are = omega arith; words_are = omega arith }
+
+fill_short : (signed : Bool) (p : Location) (m : ℕ) → IsShort (fill_code signed p m) 3 4
+fill_short true (InRegisters r) m = record { straight = refl; steps_are = omega arith; words_are = omega arith }
+fill_short true (InMemory o k) m = record { straight = refl; steps_are = omega arith; words_are = omega arith }
+fill_short false p m = record { straight = refl; steps_are = omega arith; words_are = omega arith }
+
+constants : (p : Location) (number n : ℕ) → IsShort (constant_code p number n) (2 * n) (3 * n)
+constants p number n =
+    weaker _ (n * 2) (2 * n) (n * 3) (3 * n) (omega arith) (omega arith) (chained (λ i. constant_byte p (byte_of number i) i) n 2 3 (λ i. constant_short p (byte_of number i) i))
+
+tests : (p : Location) (n : ℕ) → IsShort (test_code p n) (1 + 2 * n) (1 + 3 * n)
+tests p n =
+    weaker (test_code p n) (1 + n * 2) (1 + 2 * n) (1 + n * 3) (1 + 3 * n) (omega arith) (omega arith) (joined (Plain (Eor 1 1) ∷ []) (tests_code p n) 1 (n * 2) 1 (n * 3) (record { straight = refl; steps_are = omega arith; words_are = omega arith }) (chained (test_byte p) n 2 3 (test_short p)))
+
+puts : (p : Location) (m n : ℕ) → IsShort (puts_code p m (n - m)) n (2 * n)
+puts p m n =
+    weaker _ ((n - m) * 1) n ((n - m) * 2) (2 * n) (omega arith) (omega arith) (chained (λ i. put_byte p (m + i)) (n - m) 1 2 (λ i. put_short p (m + i)))
+
+extends : (signed : Bool) (p : Location) (m n : ℕ) → IsShort (extend_code signed p m n) (3 + n) (4 + 2 * n)
+extends signed p m n =
+    ⊎_elim
+    (λ x. rw x (record { straight = refl; steps_are = omega arith; words_are = omega arith }))
+    (λ x. rw x (joined (fill_code signed p m) (puts_code p m (n - m)) 3 n 4 (2 * n) (fill_short signed p m) (puts p m n)))
+    (cases_Bool (nat_le n m))
+
+pub values_are_straight : ValuesAreStraight
+values_are_straight p number m n =
+    ((constants p number n).straight, (tests p n).straight, λ signed. (extends signed p m n).straight)
+
+pub values_take : ValuesTake
+values_take p number m n =
+    ((constants p number n).steps_are, (tests p n).steps_are, λ signed. (extends signed p m n).steps_are)
+
+pub values_have : ValuesHave
+values_have p number m n =
+    ((constants p number n).words_are, (tests p n).words_are, λ signed. (extends signed p m n).words_are)
