@@ -1,5 +1,5 @@
 -- The operations of a call do what it does.
-use Rattle.std.proofs.Common.{◌≡◌, ◌≢◌, ℕ, zero, suc, ◌+◌, ◌*◌, ◌<◌, ◌≤◌, Bool, true, false, List, [], ◌∷◌, Option, Some, None, refl, sym, ap, ◌∙◌, subst, arith, eqb-true}
+use Rattle.std.proofs.Common.{◌≡◌, ◌≢◌, ℕ, zero, suc, ◌+◌, ◌*◌, ◌<◌, ◌≤◌, Bool, true, false, List, [], ◌∷◌, Option, Some, None, refl, sym, ap, ◌∙◌, subst, inr, arith, eqb-true}
 use Rattle.std.specs.Prelude.{◌==◌, IsSomeAnd, slice_get, option_map}
 use Rattle.std.specs.List.{AllByRecursion}
 use Rattle.std.proofs.lemmas.Option.{slice_get-map}
@@ -23,6 +23,7 @@ use Rattle.ec_ir.specs.Operations.{PlainIr, store_object, label, call_function, 
 use Rattle.ec_ir.specs.Temporaries.{Temps, no_temps, with_held}
 use Rattle.ec_lower_code.specs.Code.{temp, result_temp, params_code, end_code, function_code, lowered_function}
 use Rattle.ec_lower_code.specs.Parts.{IsStmt}
+use Rattle.ec_lower_code.proofs.Callees.{IsOther, IsRun, run_parts}
 use Rattle.ec_lower_code.proofs.Behind.{stmt_behind}
 use Rattle.ec_lower_code.proofs.Bodies.{stmt_runs}
 use Rattle.ec_lower_code.proofs.Expressions.{W}
@@ -125,7 +126,7 @@ not_main a b h = by_test (a == b) refl
     by_test true e = absurd (h (eqb-true a b e))
     by_test false e = refl
 
-module _ (wd : World) (depth : ℕ) (callee : Callee wd depth) (g : ℕ) (f : PlainFunction) (is : slice_get wd.program.functions g ≡ Some f) (other : g ≢ wd.program.main) (code rest : List PlainIr) (temps : Temps) (t : ℕ) (stack : List Frame) where
+module _ (wd : World) (depth : ℕ) (callee : Callee wd depth) (g : ℕ) (f : PlainFunction) (is : slice_get wd.program.functions g ≡ Some f) (other : IsOther wd.program g) (code rest : List PlainIr) (temps : Temps) (t : ℕ) (stack : List Frame) where
   abbrev body_code : List PlainIr
   body_code = function_code wd.program f
 
@@ -221,7 +222,7 @@ module _ (wd : World) (depth : ℕ) (callee : Callee wd depth) (g : ℕ) (f : Pl
       let all : Stands body_code body_code = ([], refl) in
       let end = function_resolves wd.program f 0 end_code (stmt_behind wd.program body_code f.body 1 0 0 (label 0 ∷ end_code) all) in
       finishes d body_code m (effect_of (set wd) (calls_to wd depth) wd.n f.body s)
-      (stmt_runs wd inside returns_to f.body false 1 0 0 (d + 40) (label 0 ∷ end_code) end_code end_code (all_at (λ (z : PlainFunction). IsStmt wd.program.main z.body) wd.program.functions g f wd.parts is) function_is.body all end end s m h st)
+      (stmt_runs wd inside returns_to f.body false 1 0 0 (d + 40) (label 0 ∷ end_code) end_code end_code (run_parts wd.program wd.io wd.valid wd.parts g f is (inr other.1)) function_is.body all end end s m h st)
 
 -- ---- calls
 
@@ -271,7 +272,7 @@ called_runs wd depth callee g f is other code stack es vs t d b rest s m args hd
         let u1 : Mach = machine no_temps (worked (op_steps i) u.state) in
         let size = call_bytes t f.returns in
         let paid = spent_on (homes wd) d1 (d + 40) i no_temps s1 u (omega (arith, size)) r.match in
-        subst (λ (z : Bool). Runs w0 wd.n calling u (to_rest w0 rest) (HasValue w0 f.returns t d b) (next (effect_of (set wd) (calls_to wd depth) wd.n f.body s1) (λ x s2. call_result f.returns z x (frame_ended wd.program g s2)))) (sym (not_main g wd.program.main other))
+        subst (λ (z : Bool). Runs w0 wd.n calling u (to_rest w0 rest) (HasValue w0 f.returns t d b) (next (effect_of (set wd) (calls_to wd depth) wd.n f.body s1) (λ x s2. call_result f.returns z x (frame_ended wd.program g s2)))) (sym (not_main g wd.program.main other.0))
         (after w0 (to_rest w0 rest) (HasValue w0 f.returns t d b) wd.n (here w0 calling) (place (function_code wd.program f) frames (function_code wd.program f)) u u1 (o1 s1)
         (counts w0 calling (place (function_code wd.program f) frames (function_code wd.program f)) u u1 (entered_step u r.kept))
         (elsewhere wd (function_code wd.program f) frames code stack wd.n (place (function_code wd.program f) frames (function_code wd.program f)) u1 (λ v. at (place code stack rest)) f.returns t d m.temps b below (o1 s1)

@@ -33,6 +33,7 @@ use Rattle.ec_lower_code.proofs.Operations.{number_value, value_number, type_bac
 use Rattle.ec_lower_code.proofs.Updates.{compound_same, updated_value, held_ok, stored_value, update_runs}
 use Rattle.ec_lower_code.proofs.Keeps.{step_back, kept_value, keep_runs}
 use Rattle.ec_lower_code.specs.Parts.{IsNumeric, IsNumericOrVoid, IsExpr, IsNode, AreExprs}
+use Rattle.ec_lower_code.proofs.Callees.{IsOther}
 use Rattle.ec_lower_code.proofs.Behind.{expr_behind}
 use Rattle.ec_lower_code.proofs.Numbers.{value_of_type}
 use Rattle.ec_lower_code.proofs.Ops.{to_rest, Below, HasValue, HasTest, constant_runs, label_comes, jumps, branch_on, branch_off, unary_runs, conversion_runs, binary_runs, test_runs, branches, read_runs, write_runs}
@@ -88,8 +89,8 @@ converted_scalar program (pointer s c t) void q k i h = absurd h
 converted_scalar program (array t n) void q k i h = absurd i
 converted_scalar program (struct j) void q k i h = absurd i
 
-pub type_kind : (main : ℕ) (e : PlainExpr) → IsExpr main e → IsNumericOrVoid (type_of_expr e)
-type_kind main (expression ty mode node) h = h.0
+pub type_kind : (C : ℕ → Type 0) (e : PlainExpr) → IsExpr C e → IsNumericOrVoid (type_of_expr e)
+type_kind C (expression ty mode node) h = h.0
 
 pub type_known : (program : PlainProgram) (io : _) (f : ℕ) (e : PlainExpr) → ValidExpr program io f e → IsExprType program (type_of_expr e)
 type_known program table f (expression ty mode node) h = h.0
@@ -273,7 +274,7 @@ module _ (wd : World) (sc : Scene wd) where
           (λ x s1 u r. write_runs W (apart wd) n t d e b ty o s s1 u x rest tp.0.0 (value_of_type wd.program ty x (subst (λ (z : PlainType). HasType wd.program z x) tp.1 r.typed)) (omega (arith, pays)) (subst (λ (z : PlainType). HasValue W z t e b x s1 u) tp.1 r.has) (accessed (set wd) ty (object o) (Some q) s1) (ap (λ z. access wd.program ty (place_space wd.program (object o)) z s1) f))
 
   -- a call within its row, from its arguments
-  call_runs : (n : ℕ) (ty : PlainType) (mode : Mode) (f : ℕ) (args : PlainExprs) (l t d : ℕ) (b : Temps) (s : State) (m : Mach) (rest : List PlainIr) → n ≤ wd.n → f ≢ wd.program.main → IsTyped wd.program wd.io ty (call f args)
+  call_runs : (n : ℕ) (ty : PlainType) (mode : Mode) (f : ℕ) (args : PlainExprs) (l t d : ℕ) (b : Temps) (s : State) (m : Mach) (rest : List PlainIr) → n ≤ wd.n → IsOther wd.program f → IsTyped wd.program wd.io ty (call f args)
       → Goes n (args_code wd.program args l t (params_code (params_of wd.program f) args t (call_function f (result_temp t ty) ∷ rest))) m (on_to (params_code (params_of wd.program f) args t (call_function f (result_temp t ty) ∷ rest))) (HasArguments args t (d + Row ty (call f args)) b) (values_of (set wd) (calls_to wd sc.depth) args s)
       → Goes n (node_code wd.program ty mode (call f args) l t rest) m (on_to rest) (HasValue W ty t d b) (node_value (set wd) (calls_to wd sc.depth) ty mode (call f args) s)
   call_runs n ty mode f args l t d b s m rest le other tp r0 =
@@ -454,13 +455,13 @@ module _ (wd : World) (sc : Scene wd) where
   -- ---- expressions
 
   mutual
-    pub expr_runs : (n : ℕ) (e : PlainExpr) (l t d : ℕ) (b : Temps) (s : State) (m : Mach) (rest : List PlainIr) → n ≤ wd.n → IsExpr wd.program.main e → ValidExpr wd.program wd.io sc.f e → IsTypedState wd.program s → Stands sc.code (expr_code wd.program e l t rest) → Match (homes wd) d s m → Below W t b m
+    pub expr_runs : (n : ℕ) (e : PlainExpr) (l t d : ℕ) (b : Temps) (s : State) (m : Mach) (rest : List PlainIr) → n ≤ wd.n → IsExpr (IsOther wd.program) e → ValidExpr wd.program wd.io sc.f e → IsTypedState wd.program s → Stands sc.code (expr_code wd.program e l t rest) → Match (homes wd) d s m → Below W t b m
         → Goes n (expr_code wd.program e l t rest) m (on_to rest) (Has (type_of_expr e) t d b) (value e s)
     expr_runs n (expression ty mode node) l t d b s m rest le p v st stands h same =
         typed_runs n (node_code wd.program ty mode node l t rest) m (on_to rest) ty t d b (value (expression ty mode node) s) ((law wd).expressions wd.n sc.depth sc.f (expression ty mode node) s v st)
         (node_runs n ty mode node l t d b (worked (Row ty node) s) m rest le p.0 p.1 v.0 v.1 v.2 st stands (credited (homes wd) (Row ty node) d s m h) same)
 
-    node_runs : (n : ℕ) (ty : PlainType) (mode : Mode) (node : PlainNode) (l t d : ℕ) (b : Temps) (s : State) (m : Mach) (rest : List PlainIr) → n ≤ wd.n → IsNumericOrVoid ty → IsNode wd.program.main node → IsExprType wd.program ty → IsTyped wd.program wd.io ty node → ValidParts wd.program wd.io sc.f node → IsTypedState wd.program s
+    node_runs : (n : ℕ) (ty : PlainType) (mode : Mode) (node : PlainNode) (l t d : ℕ) (b : Temps) (s : State) (m : Mach) (rest : List PlainIr) → n ≤ wd.n → IsNumericOrVoid ty → IsNode (IsOther wd.program) node → IsExprType wd.program ty → IsTyped wd.program wd.io ty node → ValidParts wd.program wd.io sc.f node → IsTypedState wd.program s
         → Stands sc.code (node_code wd.program ty mode node l t rest) → Match (homes wd) (d + Row ty node) s m → Below W t b m
         → Goes n (node_code wd.program ty mode node l t rest) m (on_to rest) (HasValue W ty t d b) (node_value (set wd) (calls_to wd sc.depth) ty mode node s)
     node_runs n ty mode (number x) l t d b s m rest le num p k tp v st stands h same =
@@ -489,7 +490,7 @@ module _ (wd : World) (sc : Scene wd) where
         let i = binary_op op ty mode (temp t ty) (temp t (type_of_expr a)) (type_of_expr a) (temp (t + 1) (type_of_expr c)) (type_of_expr c) in
         let pays = binary_pays op ty (type_of_expr a) (type_of_expr c) in
         let next_code = expr_code wd.program c (l + expr_labels a) (t + 1) (i ∷ rest) in
-        let sides = binary_scalars wd.program op ty (type_of_expr a) (type_of_expr c) (type_kind wd.program.main a p.0) (type_kind wd.program.main c p.1) (type_known wd.program wd.io sc.f a v.0) (type_known wd.program wd.io sc.f c v.1) tp in
+        let sides = binary_scalars wd.program op ty (type_of_expr a) (type_of_expr c) (type_kind (IsOther wd.program) a p.0) (type_kind (IsOther wd.program) c p.1) (type_known wd.program wd.io sc.f a v.0) (type_known wd.program wd.io sc.f c v.1) tp in
         bind W n (here W (expr_code wd.program a l t next_code)) m (on_to next_code) (Has (type_of_expr a) t e b) (on_to rest) (HasValue W ty t d b) (here W next_code) (value a s) _ (λ z. refl)
         (expr_runs n a l t e b s m next_code le p.0 v.0 st stands h same)
         (λ x s1 u r. bind W n (here W next_code) u (on_to (i ∷ rest)) (Has (type_of_expr c) (t + 1) e u.temps) (on_to rest) (HasValue W ty t d b) (here W (i ∷ rest)) (value c s1) _ (λ z. refl)
@@ -500,7 +501,7 @@ module _ (wd : World) (sc : Scene wd) where
         let e = d + Row ty (convert a) in
         let i = conversion (temp t ty) ty mode (temp t (type_of_expr a)) (type_of_expr a) in
         let pays = conversion_pays ty (type_of_expr a) in
-        let sc1 = converted_scalar wd.program ty (type_of_expr a) (type_kind wd.program.main a p) (type_known wd.program wd.io sc.f a v) tp.0 tp.1 in
+        let sc1 = converted_scalar wd.program ty (type_of_expr a) (type_kind (IsOther wd.program) a p) (type_known wd.program wd.io sc.f a v) tp.0 tp.1 in
         bind W n (here W (expr_code wd.program a l t (i ∷ rest))) m (on_to (i ∷ rest)) (Has (type_of_expr a) t e b) (on_to rest) (HasValue W ty t d b) (here W (i ∷ rest)) (value a s) _ (λ z. refl)
         (expr_runs n a l t e b s m (i ∷ rest) le p v st stands h same)
         (λ x s1 u r. conversion_runs W n t d e b ty mode (type_of_expr a) x s1 u rest sc1 (value_of_type wd.program (type_of_expr a) x r.typed) (omega (arith, pays)) r.has (conversion_result ty mode (operand_of wd.program (type_of_expr a) x s1)) refl)
@@ -509,7 +510,7 @@ module _ (wd : World) (sc : Scene wd) where
     node_runs n ty mode (assign (deref e) a) l t d b s m rest le num p k tp v st stands h same = absurd p.0
     node_runs n ty mode (assign (member q i) a) l t d b s m rest le num p k tp v st stands h same = absurd p.0
     node_runs n ty mode (compound op own (object o) a) l t d b s m rest le num p k tp v st stands h same =
-        compound_runs n ty mode op own o a l t d b s m rest num (type_kind wd.program.main a p.1) (type_known wd.program wd.io sc.f a v.1) tp st
+        compound_runs n ty mode op own o a l t d b s m rest num (type_kind (IsOther wd.program) a p.1) (type_known wd.program wd.io sc.f a v.1) tp st
         (λ e s1 u st1 h1. expr_runs n a l (t + 1) e u.temps s1 u (update_code op (update_types op (number_type ty) (number_type (type_of_expr a))) own mode ty o t (type_of_expr a) rest) le p.1 v.1 st1 (behind sc.code (load_object (temp t ty) o 0) _ stands) h1 (λ i lt. refl))
         h same
     node_runs n ty mode (compound op own (deref e) a) l t d b s m rest le num p k tp v st stands h same = absurd p.0
@@ -604,7 +605,7 @@ module _ (wd : World) (sc : Scene wd) where
     node_runs n ty mode (io op port i v1) l t d b s m rest le num p k tp v st stands h same = absurd p
     node_runs n ty mode (group acquire g) l t d b s m rest le num p k tp v st stands h same = absurd p
 
-    args_run : (n : ℕ) (es : PlainExprs) (l t d : ℕ) (b : Temps) (s : State) (m : Mach) (rest : List PlainIr) → n ≤ wd.n → AreExprs wd.program.main es → ValidExprs wd.program wd.io sc.f es → IsTypedState wd.program s → Stands sc.code (args_code wd.program es l t rest) → Match (homes wd) d s m → Below W t b m
+    args_run : (n : ℕ) (es : PlainExprs) (l t d : ℕ) (b : Temps) (s : State) (m : Mach) (rest : List PlainIr) → n ≤ wd.n → AreExprs (IsOther wd.program) es → ValidExprs wd.program wd.io sc.f es → IsTypedState wd.program s → Stands sc.code (args_code wd.program es l t rest) → Match (homes wd) d s m → Below W t b m
         → Goes n (args_code wd.program es l t rest) m (on_to rest) (HasArguments es t d b) (values_of (set wd) (calls_to wd sc.depth) es s)
     args_run n last_expr l t d b s m rest le p v st stands h same = (m, record { match = h; held = tt; same = same; state = st }, stays W (here W rest) m)
     args_run n (next_expr e es) l t d b s m rest le p v st stands h same =

@@ -7,6 +7,7 @@ pub mod Homes
 pub mod Ops
 pub mod Pays
 pub mod Behind
+pub mod Callees
 pub mod Scene
 pub mod Expressions
 pub mod Facts

@@ -21,6 +21,7 @@ use Rattle.ec_ir.specs.Operations.{PlainIr, call_function, data_of}
 use Rattle.ec_ir.specs.Temporaries.{Temps}
 use Rattle.ec_lower_code.specs.Code.{result_temp, params_code, lowered}
 use Rattle.ec_lower_code.specs.Parts.{IsLowered}
+use Rattle.ec_lower_code.proofs.Callees.{IsOther}
 use Rattle.ec_lower_code.proofs.Homes.{AreApart}
 use Rattle.ec_lower_code.proofs.Ops.{to_rest, HasValue, Below}
 use Rattle.ec_lower_code.proofs.Shown.{held_of, Match}
@@ -65,7 +66,7 @@ module _ (x : World) where
   -- The operations of a call of a function other than main, from the arguments on, do what it does. It is paid by its row
   abbrev pub Callee : ℕ → Type 0
   Callee depth =
-      (g : ℕ) (f : PlainFunction) → slice_get x.program.functions g ≡ Some f → g ≢ x.program.main
+      (g : ℕ) (f : PlainFunction) → slice_get x.program.functions g ≡ Some f → IsOther x.program g
       → (code : List PlainIr) (stack : List Frame) (es : PlainExprs) (vs : List Value) (t d : ℕ) (b : Temps) (rest : List PlainIr) (s : State) (m : Mach)
       → AreArguments x.program f.params es → AreHeld es vs t m.temps → Match homes (d + (60 + 10 * (total_size es + scalar_size f.returns))) s m → IsTypedState x.program s → Below (spot code stack) t b m
       → Runs (spot code stack) x.n (params_code f.params es t (call_function g (result_temp t f.returns) ∷ rest)) m (to_rest (spot code stack) rest) (HasValue (spot code stack) f.returns t d b) (calls_to depth g vs s)

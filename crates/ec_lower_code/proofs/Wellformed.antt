@@ -34,7 +34,7 @@ use Rattle.ec_ir.specs.declared.operations.Temp.{Temp}
 use Rattle.ec_ir.specs.Operations.{PlainIr, constant, copy, address, field, load_at, store_at, load_object, store_object, binary_op, unary_op, conversion, label, jump, branch_zero, call_function, return_from, port_in, port_out, data_of}
 use Rattle.ec_ir.specs.Valid.{count, called_in, IsResult, HaveOperationTypes, IsTemp, IsTempOf, IsNumberOf, HasLeafOf, IsParameterOf, ValidOperation}
 use Rattle.ec_lower_code.specs.Code.{temp, result_temp, truth_code, update_types, update_code, keeping_code, step_code, params_of, params_code, expr_labels, expr_code, node_code, args_code, lowered_function, lowered}
-use Rattle.ec_lower_code.specs.Parts.{IsNumeric, IsNumericOrVoid, IsExpr, IsNode, AreExprs}
+use Rattle.ec_lower_code.specs.Parts.{IsAnyFunction, IsNumeric, IsNumericOrVoid, IsExpr, IsNode, AreExprs}
 use Rattle.ec_lower_code.proofs.Behind.{expr_behind, args_behind, params_behind}
 use Rattle.ec_lower_code.proofs.Expressions.{arithmetic_scalar, binary_scalars, converted_scalar, type_kind, type_known, compound_facts, numeric_scalar}
 use Rattle.ec_lower_code.proofs.Facts.{each_at, param_home, scalar_leaf}
@@ -338,10 +338,10 @@ module _ (program : PlainProgram) (table : IoTable) (valid : Valid program table
   parameters g h e = (subst (λ (k : ℕ). IsFunction program table k h) (let z : 0 + g ≡ g = omega arith in z) (each_at (IsFunction program table) 0 program.functions g h valid.functions e)).params
 
   mutual
-    pub expr_ok : (e : PlainExpr) (l t : ℕ) (rest : List PlainIr) → IsExpr program.main e → ValidExpr program table f e → t + expr_need e ≤ slots → Stands all (expr_code program e l t rest) → AllGood rest → AllGood (expr_code program e l t rest)
+    pub expr_ok : (e : PlainExpr) (l t : ℕ) (rest : List PlainIr) → IsExpr IsAnyFunction e → ValidExpr program table f e → t + expr_need e ≤ slots → Stands all (expr_code program e l t rest) → AllGood rest → AllGood (expr_code program e l t rest)
     expr_ok (expression ty mode node) l t rest p v le s r = node_ok ty mode node l t rest p.0 p.1 v.0 v.1 v.2 le s r
 
-    node_ok : (ty : PlainType) (mode : Mode) (node : PlainNode) (l t : ℕ) (rest : List PlainIr) → IsNumericOrVoid ty → IsNode program.main node → IsExprType program ty → IsTyped program table ty node → ValidParts program table f node → t + expr_need (expression ty mode node) ≤ slots → Stands all (node_code program ty mode node l t rest) → AllGood rest → AllGood (node_code program ty mode node l t rest)
+    node_ok : (ty : PlainType) (mode : Mode) (node : PlainNode) (l t : ℕ) (rest : List PlainIr) → IsNumericOrVoid ty → IsNode IsAnyFunction node → IsExprType program ty → IsTyped program table ty node → ValidParts program table f node → t + expr_need (expression ty mode node) ≤ slots → Stands all (node_code program ty mode node l t rest) → AllGood rest → AllGood (node_code program ty mode node l t rest)
     node_ok ty mode (number n) l t rest num p k tp v le s r = let i = arithmetic_scalar program ty _ k tp in ((temp_ok t ty (omega (arith, le)) i, number_ok ty n i tp), r)
     node_ok ty mode null l t rest num p k tp v le s r = absurd p
     node_ok ty mode (load (object o)) l t rest num p k tp v le s r = (load_ok t o ty (omega (arith, le)) v tp, r)
@@ -354,7 +354,7 @@ module _ (program : PlainProgram) (table : IoTable) (valid : Valid program table
     node_ok ty mode (binary op a b) l t rest num p k tp v le s r =
         let q : List PlainIr = binary_op op ty mode (temp t ty) (temp t (type_of_expr a)) (type_of_expr a) (temp (t + 1) (type_of_expr b)) (type_of_expr b) ∷ rest in
         let ka = type_known program table f a v.0 in let kb = type_known program table f b v.1 in
-        let na = type_kind program.main a p.0 in let nb = type_kind program.main b p.1 in
+        let na = type_kind IsAnyFunction a p.0 in let nb = type_kind IsAnyFunction b p.1 in
         let sides = binary_scalars program op ty (type_of_expr a) (type_of_expr b) na nb ka kb tp in
         let i = binary_result_scalar program op ty (type_of_expr a) (type_of_expr b) na nb k tp in
         let need = some_need b in
@@ -363,7 +363,7 @@ module _ (program : PlainProgram) (table : IoTable) (valid : Valid program table
         ((of_ok t ty (omega (arith, le)) i k, of_ok t (type_of_expr a) (omega (arith, le)) sides.0 ka, of_ok (t + 1) (type_of_expr b) (omega (arith, le, need)) sides.1 kb, inl tp), r))
     node_ok ty mode (convert a) l t rest num p k tp v le s r =
         let ka = type_known program table f a v in
-        let i = converted_scalar program ty (type_of_expr a) (type_kind program.main a p) ka tp.0 tp.1 in
+        let i = converted_scalar program ty (type_of_expr a) (type_kind IsAnyFunction a p) ka tp.0 tp.1 in
         expr_ok a l t (conversion (temp t ty) ty mode (temp t (type_of_expr a)) (type_of_expr a) ∷ rest) p v (omega (arith, le)) s
         ((of_ok t ty (omega (arith, le)) tp.0 k, of_ok t (type_of_expr a) (omega (arith, le)) i ka, tp.1), r)
     node_ok ty mode (assign (object o) a) l t rest num p k tp v le s r =
@@ -372,7 +372,7 @@ module _ (program : PlainProgram) (table : IoTable) (valid : Valid program table
     node_ok ty mode (assign (member q i) a) l t rest num p k tp v le s r = absurd p.0
     node_ok ty mode (compound op own (object o) a) l t rest num p k tp v le s r =
         let ka = type_known program table f a v.1 in
-        let facts = compound_facts program op ty (type_of_expr a) num (type_kind program.main a p.1) tp.0.0 ka tp.1 in
+        let facts = compound_facts program op ty (type_of_expr a) num (type_kind IsAnyFunction a p.1) tp.0.0 ka tp.1 in
         let need = some_need a in
         let q = update_code op (update_types op (number_type ty) (number_type (type_of_expr a))) own mode ty o t (type_of_expr a) rest in (
           load_ok t o ty (omega (arith, le)) v.0 tp.0,
@@ -454,7 +454,7 @@ module _ (program : PlainProgram) (table : IoTable) (valid : Valid program table
     node_ok ty mode (io op port i w) l t rest num p k tp v le s r = absurd p
     node_ok ty mode (group acquire g) l t rest num p k tp v le s r = absurd p
 
-    args_ok : (es : PlainExprs) (l base k : ℕ) (rest : List PlainIr) (t : ℕ) → t ≡ base + k → AreExprs program.main es → ValidExprs program table f es → base + greatest_from k (exprs_needs es) ≤ slots → Stands all (args_code program es l t rest) → AllGood rest → AllGood (args_code program es l t rest)
+    args_ok : (es : PlainExprs) (l base k : ℕ) (rest : List PlainIr) (t : ℕ) → t ≡ base + k → AreExprs IsAnyFunction es → ValidExprs program table f es → base + greatest_from k (exprs_needs es) ≤ slots → Stands all (args_code program es l t rest) → AllGood rest → AllGood (args_code program es l t rest)
     args_ok last_expr l base k rest t e p v le s r = r
     args_ok (next_expr a es) l base k rest t e p v le s r =
         let q = args_code program es (l + expr_labels a) (t + 1) rest in

@@ -30,6 +30,7 @@ use Rattle.ec_ir.proofs.Runs.{operations_are_runs}
 use Rattle.ec_lower_code.specs.Code.{temp, end_code, function_code, lowered_function, lowered}
 use Rattle.ec_lower_code.specs.Correct.{is_paid, LoweredFollows}
 use Rattle.ec_lower_code.specs.Parts.{IsStmt}
+use Rattle.ec_lower_code.proofs.Callees.{IsOther, IsRun, run_parts}
 use Rattle.ec_lower_code.proofs.Behind.{stmt_behind}
 use Rattle.ec_lower_code.proofs.Bodies.{stmt_runs}
 use Rattle.ec_lower_code.proofs.Calls.{frame_match, callee_runs}
@@ -166,7 +167,7 @@ module _ (wd : World) (main : PlainFunction) (is : slice_get wd.program.function
         (subst (λ (ty : PlainType). Ends (here w code) m (next (effect_of (set wd) (calls_to wd deep) wd.n main.body (worked function_words s)) (λ x s2. call_result ty (wd.program.main == wd.program.main) x (frame_ended wd.program wd.program.main s2)))) (sym returns)
         (subst (λ (b : Bool). Ends (here w code) m (next (effect_of (set wd) (calls_to wd deep) wd.n main.body (worked function_words s)) (λ x s2. call_result int b x (frame_ended wd.program wd.program.main s2)))) (sym (eq-eqb wd.program.main wd.program.main refl))
         (finishes code m (effect_of (set wd) (calls_to wd deep) wd.n main.body (worked function_words s))
-        (stmt_runs wd inside returns_to main.body false 1 0 0 40 (label 0 ∷ end_code) end_code end_code (all_at (λ (z : PlainFunction). IsStmt wd.program.main z.body) wd.program.functions wd.program.main main wd.parts is)
+        (stmt_runs wd inside returns_to main.body false 1 0 0 40 (label 0 ∷ end_code) end_code end_code (run_parts wd.program wd.io wd.valid wd.parts wd.program.main main is (inl refl))
         (subst (λ (ty : PlainType). ValidStmt wd.program wd.io wd.program.main ty false main.body) returns function_is.body) all end end (worked function_words s) m (credited (homes wd) 40 0 s m h) st))))
 
   abbrev w0 : Spot

@@ -1,6 +1,6 @@
 -- The parts of the language that are lowered: numbers, void expressions, objects by their names, and all statements.
--- Arrays, structs, pointers and ports are none of them, nor is a call of main.
-use Rattle.std.specs.Prelude.{◌≢◌, ⊤, ℕ, Option, None, Some}
+-- Arrays, structs, pointers and ports are none of them.
+use Rattle.std.specs.Prelude.{⊤, ℕ, Option, None, Some}
 use Rattle.std.specs.List.{AllByRecursion}
 use Rattle.ec_core.specs.Plain.{PlainType, void, integer, fixed, PlainExpr, expression}
 use Rattle.ec_core.specs.Plain.{PlainNode, number, load, unary, binary, convert, assign, compound}
@@ -24,7 +24,11 @@ abbrev pub IsNamed : PlainPlace → Type 0
 IsNamed (object o) = ⊤
 IsNamed p = ⊥
 
-module _ (main : ℕ) where
+abbrev pub IsAnyFunction : ℕ → Type 0
+IsAnyFunction f = ⊤
+
+-- the functions that are called are such ones
+module _ (IsCallee : ℕ → Type 0) where
   abbrev mutual
     pub IsExpr : PlainExpr → Type 0
     IsExpr (expression ty mode node) = IsNumericOrVoid ty × IsNode node
@@ -43,7 +47,7 @@ module _ (main : ℕ) where
     IsNode (logical_or a b) = IsExpr a × IsExpr b
     IsNode (conditional c a b) = IsExpr c × IsExpr a × IsExpr b
     IsNode (comma a b) = IsExpr a × IsExpr b
-    IsNode (call f args) = (f ≢ main) × AreExprs args
+    IsNode (call f args) = IsCallee f × AreExprs args
     IsNode node = ⊥
 
     pub AreExprs : PlainExprs → Type 0
@@ -81,4 +85,4 @@ module _ (main : ℕ) where
 
 -- a program whose functions are made of these parts
 abbrev pub IsLowered : PlainProgram → Type 0
-IsLowered program = AllByRecursion (λ f. IsStmt program.main f.body) program.functions
+IsLowered program = AllByRecursion (λ f. IsStmt IsAnyFunction f.body) program.functions
