@@ -9,7 +9,7 @@ use Rattle.ec_avr.specs.Effects.{relative, has_two_words}
 use Rattle.ec_asm.specs.View.{View}
 use Rattle.ec_asm.specs.Change.{Env, flag_at, words}
 use Rattle.ec_asm.specs.Run.{Running, act, is_flag, fetch, word_in, skip_to}
-use Rattle.ec_asm.specs.Items.{At, JumpsAt, BranchesAt, branch_if, branch_unless}
+use Rattle.ec_asm.specs.Items.{At, JumpsAt, CallsAt, BranchesAt, branch_if, branch_unless}
 use Rattle.ec_asm.specs.Takes.{Goes, Takes, if_bit}
 use Rattle.ec_asm.specs.Laws.{LoopsTake}
 use Rattle.ec_asm.proofs.Hoare.{goes_on_to}
@@ -46,6 +46,20 @@ jump_goes e l pc end v j = ⊎_elim (λ a. far a.0 a.1) (λ a. near a.0 a.1 a.2)
 
     near : (k : ℤ) → At e (Rjmp k) pc end → relative pc k % 65536 ≡ e.word_of l → Goes e 1 pc v (e.word_of l) v
     near k a q = record { by = ap (λ o. act e o pc v) a.is ∙ ap (λ n. Running n v) q }
+
+-- a jump or a branch that stands is to a label that has a word
+word_below : (e : Env) (l n : ℕ) → n % 65536 ≡ e.word_of l → e.word_of l < 65536
+word_below e l n q = let small : n % 65536 < 65536 = omega arith in omega (arith, q, small)
+
+pub jump_has_word : (e : Env) (l pc end : ℕ) → JumpsAt e l pc end → e.word_of l < 65536
+jump_has_word e l pc end j = ⊎_elim (λ a. a.1) (λ a. word_below e l (relative pc a.0) a.2) j
+
+pub branch_has_word : (e : Env) (set : Bool) (flag l pc end : ℕ) → BranchesAt e set flag l pc end → e.word_of l < 65536
+branch_has_word e set flag l pc end b =
+    ⊎_elim (λ a. jump_has_word e l a.0 end a.3) (λ a. word_below e l (relative pc a.0) a.2) b
+
+pub call_has_word : (e : Env) (l pc end : ℕ) → CallsAt e l pc end → e.word_of l < 65536
+call_has_word e l pc end j = ⊎_elim (λ a. a.1) (λ a. word_below e l (relative pc a.0) a.2) j
 
 -- what a branch looks at
 abbrev pub is_taken : Bool → ℕ → View → Bool

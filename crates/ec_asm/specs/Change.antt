@@ -29,8 +29,8 @@ pub data Kind : Type 0 where
   Stacked : Kind
   Barred : Kind
 
--- What is outside the code: the flash, the word of each label, the address of each byte of an object, what stands at
--- each data address, and what at each address of the flash
+-- What is outside the code: the flash, the word of each label (65,536 or more for one that has none), the address of
+-- each byte of an object, what stands at each data address, and what at each address of the flash
 pub record Env : Type 0 where
   pub flash : List ℕ
   pub word_of : ℕ → ℕ

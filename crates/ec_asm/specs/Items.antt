@@ -52,9 +52,10 @@ BranchesAt e set flag l pc end =
 abbrev pub part_of : ℕ → ℕ → ℕ
 part_of n part = n / 256 ^ part % 256
 
+-- a label that has a word stands at it
 abbrev pub Stands : Env → AsmItem → (pc end : ℕ) → Type 0
 Stands e (Plain i) pc end = At e i pc end
-Stands e (Label l) pc end = (e.word_of l ≡ pc) × (end ≡ pc)
+Stands e (Label l) pc end = (e.word_of l < 65536 → e.word_of l ≡ pc) × (end ≡ pc)
 Stands e (JumpTo l) pc end = JumpsAt e l pc end
 Stands e (CallTo l) pc end = CallsAt e l pc end
 Stands e (BranchTo set flag l) pc end = BranchesAt e set flag l pc end

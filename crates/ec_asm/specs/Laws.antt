@@ -17,7 +17,7 @@ use Rattle.ec_asm.specs.declared.items.AsmItem.TheVariants.{JumpTo, CallTo, Bran
 use Rattle.ec_asm.specs.View.{View, put, pair}
 use Rattle.ec_asm.specs.Change.{Env, Port, Stacked, change, sp, flag_at, see, given, taken}
 use Rattle.ec_asm.specs.Run.{Running, Ended, run, fetch, pushed, popped, back_at, is_flag, is_safe}
-use Rattle.ec_asm.specs.Items.{At, Stands, HasAt, JumpsAt, BranchesAt, branch_if, distance, all_straight, code_steps}
+use Rattle.ec_asm.specs.Items.{At, Stands, HasAt, JumpsAt, CallsAt, BranchesAt, branch_if, distance, all_straight, code_steps}
 use Rattle.ec_asm.specs.Items.{code_words, block, chain}
 use Rattle.ec_asm.specs.Takes.{Goes, Takes, if_bit, back_or_past, KeepsReturn}
 use Rattle.ec_asm.specs.Shows.{Shows, Fits, Follows, RunsAs, GoesOn, Ends}
@@ -74,6 +74,16 @@ NearBranchesStand =
     (e : Env) (set : Bool) (flag l pc end : ℕ) → At e (branch_if set flag (distance pc (e.word_of l))) pc end
     → pc < 65536
     → e.word_of l < 65536 → Stands e (BranchTo set flag l) pc end
+
+-- a jump, call or branch that stands is to a label that has a word
+abbrev pub JumpsHaveWords : Type 0
+JumpsHaveWords = (e : Env) (l pc end : ℕ) → JumpsAt e l pc end → e.word_of l < 65536
+
+abbrev pub CallsHaveWords : Type 0
+CallsHaveWords = (e : Env) (l pc end : ℕ) → CallsAt e l pc end → e.word_of l < 65536
+
+abbrev pub BranchesHaveWords : Type 0
+BranchesHaveWords = (e : Env) (set : Bool) (flag l pc end : ℕ) → BranchesAt e set flag l pc end → e.word_of l < 65536
 
 -- ---- straight code
 

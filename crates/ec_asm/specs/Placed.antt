@@ -37,12 +37,12 @@ abbrev pub InTable : Env → List AsmItem → Type 0
 InTable e [] = Unit {0}
 InTable e (i ∷ is) = IsTrue (list_all in_table (instructions e i)) × InTable e is
 
--- the word of a label is the one where it stands
+-- the word of a label that has one is where it stands
 abbrev pub LabelStands : Env → AsmItem → ℕ → Type 0
-LabelStands e (Label l) pc = e.word_of l ≡ pc
+LabelStands e (Label l) pc = e.word_of l < 65536 → e.word_of l ≡ pc
 LabelStands e i pc = Unit {0}
 
--- the words of all labels are those where they stand, where the items begin at a word
+-- the words of all labels that have one are those where they stand, where the items begin at a word
 abbrev pub LabelsStand : Env → List AsmItem → ℕ → Type 0
 LabelsStand e [] pc = Unit {0}
 LabelsStand e (i ∷ is) pc = LabelStands e i pc × LabelsStand e is (pc + item_words i)

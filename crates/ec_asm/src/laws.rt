@@ -51,6 +51,13 @@ pub fn near_jumps_stand()
     ensures branch { law.NearBranchesStand }
 {}
 
+/// A jump, call or branch that stands is to a label that has a word.
+pub fn jumps_have_words()
+    ensures jump { law.JumpsHaveWords }
+    ensures call { law.CallsHaveWords }
+    ensures branch { law.BranchesHaveWords }
+{}
+
 // ---- runs
 
 /// Straight code is one change of the view, in as many steps as it has instructions, and of two parts it is one after

@@ -5,7 +5,7 @@ use Rattle.ec_core.specs.Needs.{stmt_calls}
 use Rattle.ec_core.specs.Plain.{PlainFunction}
 use Rattle.ec_locate.specs.Calls.{deepest, chains, CallsFirst, IsChain}
 
-mapped_at : (h : PlainFunction → ℕ) (fs : List PlainFunction) (f : ℕ) (g : PlainFunction) → slice_get fs f ≡ Some g → slice_index (map h fs) f ≡ h g
+pub mapped_at : (h : PlainFunction → ℕ) (fs : List PlainFunction) (f : ℕ) (g : PlainFunction) → slice_get fs f ≡ Some g → slice_index (map h fs) f ≡ h g
 mapped_at h [] f g q = cc
 mapped_at h (x ∷ fs) zero g q = let e : x ≡ g = cc in rw e refl
 mapped_at h (x ∷ fs) (suc f) g q = mapped_at h fs f g q

@@ -1,22 +1,22 @@
 -- The code of a placed program stands in its image: the whole.
-use Rattle.std.proofs.Common.{◌≡◌, ◌+◌, ◌%◌, ◌<◌, ◌≤◌, ℕ, Bool, true, false, List, [], ◌∷◌, ◌++◌, length, Option, Some, None, zero-add, refl, sym, ap, ◌∙◌, arith}
-use Rattle.std.specs.Prelude.{nat_lt, if◌then◌else◌, slice_index}
+use Rattle.std.proofs.Common.{◌≡◌, ◌+◌, ◌%◌, ◌<◌, ◌≤◌, ℕ, Bool, true, false, List, [], ◌∷◌, ◌++◌, length, Option, Some, None, zero-add, refl, sym, ap, ◌∙◌, subst, arith}
+use Rattle.std.specs.Prelude.{nat_lt, if◌then◌else◌, slice_index, count_by}
 use Rattle.std.specs.List.{list_all}
-use Rattle.std.proofs.lemmas.Bool.{and_parts, ltb-false}
+use Rattle.std.proofs.lemmas.Bool.{and_parts, ltb-false, eqb-true}
 use Rattle.ec_space.specs.Memory.{flash_size}
-use Rattle.ec_asm.specs.Change.{Env, Kind, Barred}
+use Rattle.ec_asm.specs.Change.{Env}
 use Rattle.ec_asm.specs.Items.{code_words}
 use Rattle.ec_asm.specs.Placed.{instructions, bytes_of_all, code_image}
-use Rattle.ec_asm.specs.Valid.{sizes_of, is_valid_item}
+use Rattle.ec_asm.specs.Valid.{sizes_of, is_valid_item, used_label, is_label, stands_once, is_placed}
 use Rattle.ec_asm.specs.declared.items.AsmItem.{AsmItem}
 use Rattle.ec_asm.specs.declared.items.AsmItem.TheVariants.{Plain, Label, JumpTo, CallTo, BranchTo, LoadPart, LoadObj, StoreObj}
 use Rattle.ec_map.specs.declared.map.Map.{Map}
 use Rattle.ec_map.specs.declared.region.Region.{Region}
-use Rattle.ec_locate.specs.Code.{label_word, address_of, resolved, has_words, overwritten}
+use Rattle.ec_locate.specs.Code.{label_word, resolved, has_words, overwritten}
 use Rattle.ec_locate.specs.Image.{with_objects, blank}
 use Rattle.ec_locate.specs.Needs.{told, shortage_of, or_else, first_shortage}
 use Rattle.ec_locate.specs.Placing.{object_sizes, layout_by, last_of, needs, entries_by}
-use Rattle.ec_locate.specs.Stands.{environment, CodeStands}
+use Rattle.ec_locate.specs.Stands.{own_word, environment, CodeStands}
 use Rattle.ec_locate.specs.declared.needs.Needs.{Needs}
 use Rattle.ec_locate.specs.declared.needs.Shortage.{Shortage}
 use Rattle.ec_locate.specs.declared.stop.RegionName.{RegionName}
@@ -47,29 +47,57 @@ code_fits m n h =
     let c = (neither_short (shortage_of Stack m.stack n.stack) (shortage_of Code m.code n.code) b).1 in
     fits Code m.code n.code c
 
--- ---- code depends on labels and addresses alone
+-- ---- code depends on the addresses and on the labels that it uses
 
-same_instructions : (w : ℕ → ℕ) (a : ℕ → ℕ → ℕ) (f g : List ℕ) (k t k' t' : ℕ → Kind) (i : AsmItem)
-    → (let e : Env = record { flash = f; word_of = w; address_of = a; kind = k; table = t } in instructions e i)
-    ≡ (let e : Env = record { flash = g; word_of = w; address_of = a; kind = k'; table = t' } in instructions e i)
-same_instructions w a f g k t k' t' (Plain i) = refl
-same_instructions w a f g k t k' t' (Label l) = refl
-same_instructions w a f g k t k' t' (JumpTo l) = refl
-same_instructions w a f g k t k' t' (CallTo l) = refl
-same_instructions w a f g k t k' t' (BranchTo set flag l) = refl
-same_instructions w a f g k t k' t' (LoadPart d o offset part) = refl
-same_instructions w a f g k t k' t' (LoadObj d o offset) = refl
-same_instructions w a f g k t k' t' (StoreObj o offset r) = refl
+-- the labels that an item refers to have the same words
+abbrev HaveSame : (w w' : ℕ → ℕ) → AsmItem → Type 0
+HaveSame w w' i = (l : ℕ) → used_label i ≡ Some l → w l ≡ w' l
 
-same_code : (w : ℕ → ℕ) (a : ℕ → ℕ → ℕ) (f g : List ℕ) (k t k' t' : ℕ → Kind) (items : List AsmItem)
-    → (let e : Env = record { flash = f; word_of = w; address_of = a; kind = k; table = t } in code_image e items)
-    ≡ (let e : Env = record { flash = g; word_of = w; address_of = a; kind = k'; table = t' } in code_image e items)
-same_code w a f g k t k' t' [] = refl
-same_code w a f g k t k' t' (i ∷ is) =
-    let e : Env = record { flash = f; word_of = w; address_of = a; kind = k; table = t } in
-    let e' : Env = record { flash = g; word_of = w; address_of = a; kind = k'; table = t' } in
-    ap (λ x. bytes_of_all x ++ code_image e is) (same_instructions w a f g k t k' t' i)
-    ∙ ap (λ x. bytes_of_all (instructions e' i) ++ x) (same_code w a f g k t k' t' is)
+same_instructions : (e e' : Env) → e.address_of ≡ e'.address_of → (i : AsmItem) → HaveSame e.word_of e'.word_of i
+    → instructions e i ≡ instructions e' i
+same_instructions e e' a (Plain i) h = refl
+same_instructions e e' a (Label l) h = refl
+same_instructions e e' a (JumpTo l) h = rw (h l refl) refl
+same_instructions e e' a (CallTo l) h = rw (h l refl) refl
+same_instructions e e' a (BranchTo set flag l) h = rw (h l refl) refl
+same_instructions e e' a (LoadPart d o offset part) h = rw a refl
+same_instructions e e' a (LoadObj d o offset) h = rw a refl
+same_instructions e e' a (StoreObj o offset r) h = rw a refl
+
+same_code : (e e' : Env) (q : AsmItem → Bool) → e.address_of ≡ e'.address_of
+    → ((i : AsmItem) → q i ≡ true → HaveSame e.word_of e'.word_of i) → (items : List AsmItem) → list_all q items ≡ true
+    → code_image e items ≡ code_image e' items
+same_code e e' q a h [] u = refl
+same_code e e' q a h (i ∷ is) u =
+    let (here, more) = and_parts (q i) (list_all q is) u in
+    ap (λ x. bytes_of_all x ++ code_image e is) (same_instructions e e' a i (h i here))
+    ∙ ap (λ x. bytes_of_all (instructions e' i) ++ x) (same_code e e' q a h is more)
+
+-- ---- labels that stand once
+
+-- a label that has a word stands once, and so has the word where it stands first
+once_where : (b : Bool) (n : ℕ) → (if b then n else 65536) < 65536 → (b ≡ true) × ((if b then n else 65536) ≡ n)
+once_where true n h = (refl, refl)
+once_where false n h = absurd (omega arith)
+
+own_words : (items : List AsmItem) (l : ℕ) → own_word items l < 65536
+    → (count_by (is_label l) items ≡ 1) × (own_word items l ≡ label_word items l)
+own_words items l h =
+    let o = once_where (stands_once items l) (label_word items l) h in
+    (eqb-true (count_by (is_label l) items) 1 o.0, o.1)
+
+own_where : (b : Bool) (n : ℕ) → b ≡ true → (if b then n else 65536) ≡ n
+own_where true n h = refl
+own_where false n h = cc
+
+-- so does each label that a valid item refers to
+placed_label : (items : List AsmItem) (o : Option ℕ) (l : ℕ) → is_placed items o ≡ true → o ≡ Some l → stands_once items l ≡ true
+placed_label items None l h q = cc
+placed_label items (Some k) l h q = let e : k ≡ l = cc in rw e at h
+
+placed_word : (items : List AsmItem) (i : AsmItem) → is_placed items (used_label i) ≡ true → HaveSame (label_word items) (own_word items) i
+placed_word items i h l q =
+    sym (own_where (stands_once items l) (label_word items l) (placed_label items (used_label i) l h q))
 
 -- ---- valid items have words
 
@@ -85,7 +113,7 @@ address_below n = omega arith
 -- ---- the whole
 
 pub code-stands : CodeStands
-code-stands p m asm l kind table valid asm_valid once located =
+code-stands p m asm l kind table valid asm_valid located =
     let items = asm.items.items in
     let y = layout_by p m asm in
     let last = last_of m in
@@ -95,22 +123,23 @@ code-stands p m asm l kind table valid asm_valid once located =
     let small : code_words items ≤ 16384 = omega (arith, room, ends) in
     let sizes = sizes_of (object_sizes p) asm.frames.items 64 in
     let words = all_have (is_valid_item sizes) has_words (valid_words sizes) items asm_valid.items in
+    let placed : AsmItem → Bool = λ i. is_placed items (used_label i) in
     let objects = with_objects p.structs y 0 p.objects blank in
     let code = code_image (resolved items y last) items in
-    let same : code ≡ code_image e items = same_code (label_word items) (address_of y last) [] l.image.bytes.items (λ a. Barred) (λ a. Barred) kind table items in
+    let same : code ≡ code_image e items = same_code (resolved items y last) e placed refl (placed_word items) items asm_valid.labels in
     let flash : l.image.bytes.items ≡ overwritten objects.bytes 0 code = ap (λ f. f.bytes) located.flash in
     let sized : length l.image.bytes.items ≡ 32768 = l.image.sized ∙ ap flash_size located.core in
     let before : length objects.bytes ≡ 32768 = sym (length_overwritten objects.bytes 0 code) ∙ ap length (sym flash) ∙ sized in
     let long = length_image (resolved items y last) items in
     let long' = length_image e items in
+    let below : (n : ℕ) → label_word items n < 65536 = λ n. let b = label_below items n in omega (arith, b, small) in
     record {
-      known = known_items e items (λ n. let b = label_below items n in omega (arith, b, small)) (λ o k. address_below _) words;
-      labels = labels_stand e items 0 once (λ n there. sym (zero-add (label_word items n)));
+      known = known_items e items placed (λ i h n q. subst (λ w. w < 65536) (placed_word items i h n q) (below n)) (λ o k. address_below _) asm_valid.labels words;
+      labels = labels_stand e items 0 (λ n has. let o = own_words items n has in (let one = o.0 in omega (arith, one), λ one. o.1 ∙ sym (zero-add (label_word items n))));
       image = record {
         within = omega (arith, long', sized, small);
         bytes_there = λ k less.
-            let z : 0 + k ≡ k = zero-add k in
-            let held = overwritten_holds objects.bytes 0 code (omega (arith, long, before, small)) k (omega (arith, long, long', less)) in
+            let held = overwritten_holds objects.bytes 0 code 0 (omega (arith, long, before, small)) k (omega (arith, long, long', less)) in
             ap (λ f. slice_index f (0 + k)) flash ∙ held ∙ ap (λ c. slice_index c k) same;
       };
       room = omega (arith, small);

@@ -9,3 +9,11 @@ pub mod InOrders
 pub mod StandApart
 pub mod Chains
 pub mod Causes
+pub mod Longest
+pub mod Where
+pub mod Written
+pub mod Stood
+pub mod Spots
+pub mod Initial
+pub mod DataBank
+pub mod DataStand

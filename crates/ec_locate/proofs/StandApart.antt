@@ -1,5 +1,5 @@
 -- What a placed program keeps stands apart: the whole.
-use Rattle.std.proofs.Common.{◌+◌, [], ◌∷◌, arith, length}
+use Rattle.std.proofs.Common.{◌+◌, [], ◌∷◌, arith}
 use Rattle.ec_map.specs.Regions.{end_of}
 use Rattle.ec_locate.specs.Apart.{Span, InOrder, PlacedStandApart}
 use Rattle.ec_locate.specs.Entries.{flash_sizes, data_sizes, initial_sizes, frame_sizes}
@@ -7,7 +7,7 @@ use Rattle.ec_locate.specs.Fixed.{blocks}
 use Rattle.ec_locate.specs.Placing.{entries_by, needs}
 use Rattle.ec_locate.proofs.CodeStand.{code_fits}
 use Rattle.ec_locate.proofs.InOrders.{data_in_order, flash_in_order, initial_in_order, frames_in_order, tables_fit, vars_fit, stack_fits, places_free}
-use Rattle.ec_locate.proofs.Chains.{chain_below}
+use Rattle.ec_locate.proofs.Longest.{chains-are-counted}
 
 pub stand-apart : PlacedStandApart
 stand-apart p m asm l valid located =
@@ -29,8 +29,6 @@ stand-apart p m asm l valid located =
       ram = rw (located.places, located.frames, located.work) ram;
       flash = rw located.places flash;
       code = omega (arith, code);
-      stack = λ fs chain few.
-          let deep = chain_below p.functions (length p.functions) p.main fs chain few in
-          omega (arith, deep, stack);
+      stack = λ program fs chain. let deep = (chains-are-counted p m.io program).most fs chain in omega (arith, deep, stack);
       fixed = places_free m 0 (blocks es p.objects m.places.items) located.free;
     }

@@ -7,6 +7,7 @@ use Rattle.ec_space.specs.declared.space.Place.{Place}
 use Rattle.ec_asm.specs.Items.{code_words}
 use Rattle.ec_asm.specs.declared.items.AsmProgram.{AsmProgram}
 use Rattle.ec_core.specs.Plain.{PlainProgram}
+use Rattle.ec_core.specs.Valid.{Valid}
 use Rattle.ec_map.specs.Maps.{ValidMap}
 use Rattle.ec_map.specs.Regions.{end_of}
 use Rattle.ec_map.specs.declared.map.Map.{Map}
@@ -78,7 +79,7 @@ AreFree m (b ∷ bs) =
 
 -- In region `data` stand the free data objects, the scratch memory of each function and the work bytes, in region
 -- `tables` the free flash objects and the initial bytes, and in region `code` the code, each behind the one before.
--- Region `stack` has 16 bytes, and two for each function of a chain of calls from main
+-- Region `stack` has 16 bytes, and two for each function of a chain of calls from main, where the program is valid
 pub record StandsApart (p : PlainProgram) (m : Map) (asm : AsmProgram) (l : Located) : Type 0 where
   pub ram : InOrder m.vars.first
       (objects_in Data l.places.items (entries_by m p)
@@ -87,7 +88,7 @@ pub record StandsApart (p : PlainProgram) (m : Map) (asm : AsmProgram) (l : Loca
       (objects_in Flash l.places.items (entries_by m p)
       (initial_spans (layout_by p m asm).initials (entries_by m p) [])) (end_of m.tables)
   pub code : 2 * code_words asm.items.items ≤ end_of m.code
-  pub stack : (fs : List ℕ) → IsChain p.functions (p.main ∷ fs) → length (p.main ∷ fs) ≤ length p.functions
+  pub stack : Valid p m.io → (fs : List ℕ) → IsChain p.functions (p.main ∷ fs)
       → 16 + 2 * length (p.main ∷ fs) ≤ m.stack.size
   pub fixed : AreFree m (blocks (entries_by m p) p.objects m.places.items)
 

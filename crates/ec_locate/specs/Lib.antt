@@ -8,3 +8,5 @@ pub mod Image
 pub mod Placing
 pub mod Stands
 pub mod Apart
+pub mod Initial
+pub mod DataBank

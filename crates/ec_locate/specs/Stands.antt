@@ -1,11 +1,9 @@
--- What the image holds.
-use Rattle.std.specs.Prelude.{ℕ, ◌≡◌, false, ⊤, List, [], ◌∷◌}
-use Rattle.std.specs.List.{list_any}
+-- The code of a placed program stands in its image.
+use Rattle.std.specs.Prelude.{ℕ, if◌then◌else◌, List}
 use Rattle.ec_asm.specs.Change.{Env, Kind}
 use Rattle.ec_asm.specs.Placed.{IsPlaced}
-use Rattle.ec_asm.specs.Valid.{ValidAsm, is_label}
+use Rattle.ec_asm.specs.Valid.{ValidAsm, stands_once}
 use Rattle.ec_asm.specs.declared.items.AsmItem.{AsmItem}
-use Rattle.ec_asm.specs.declared.items.AsmItem.TheVariants.{Label}
 use Rattle.ec_asm.specs.declared.items.AsmProgram.{AsmProgram}
 use Rattle.ec_core.specs.Plain.{PlainProgram}
 use Rattle.ec_map.specs.Maps.{ValidMap}
@@ -14,18 +12,16 @@ use Rattle.ec_locate.specs.Code.{label_word, address_of}
 use Rattle.ec_locate.specs.Placing.{IsLocated, object_sizes, layout_by, last_of}
 use Rattle.ec_locate.specs.declared.placing.Located.{Located}
 
--- no label stands twice
-abbrev pub StandOnce : List AsmItem → Type 0
-StandOnce [] = ⊤
-StandOnce (Label l ∷ is) = (list_any (is_label l) is ≡ false) × StandOnce is
-StandOnce (i ∷ is) = StandOnce is
+-- The word of a label that stands once. Any other label has none: no item of a valid program refers to it
+abbrev pub own_word : List AsmItem → ℕ → ℕ
+own_word items l = if stands_once items l then label_word items l else 65536
 
 -- the flash of a placed program, the words of its labels and the addresses of what its code names. What stands at an
 -- address is for the reader to say
 abbrev pub environment : PlainProgram → Map → AsmProgram → Located → (kind table : ℕ → Kind) → Env
 environment p m asm l kind table = record {
   flash = l.image.bytes.items;
-  word_of = label_word asm.items.items;
+  word_of = own_word asm.items.items;
   address_of = address_of (layout_by p m asm) (last_of m);
   kind = kind;
   table = table;
@@ -35,5 +31,5 @@ environment p m asm l kind table = record {
 abbrev pub CodeStands : Type 0
 CodeStands =
     (p : PlainProgram) (m : Map) (asm : AsmProgram) (l : Located) (kind table : ℕ → Kind) → ValidMap m
-    → ValidAsm (object_sizes p) 64 asm → StandOnce asm.items.items → IsLocated p m asm l
+    → ValidAsm (object_sizes p) 64 asm → IsLocated p m asm l
     → IsPlaced (environment p m asm l kind table) asm.items.items 0

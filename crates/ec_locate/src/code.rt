@@ -2,6 +2,7 @@
 ghost use Rattle.std.specs.Prelude.{◌≡◌, ◌<◌, ◌≤◌, ◌^◌, ◌++◌, IsTrue, All, OnOk, IfOk, pos, length};
 ghost use Rattle.std.specs.Prelude.{map, true, slice_index};
 ghost use Rattle.std.specs.Prelude.{slice_set};
+ghost use Rattle.ec_isa.specs.declared.instructions.Instr.TheVariants.{Jmp, Call};
 ghost use Rattle.ec_isa.specs.Table.{in_table};
 ghost use Rattle.ec_avr.specs.Placed.{code_bytes};
 ghost use Rattle.ec_asm.specs.Items.{branch_unless, part_of, code_words};
@@ -114,6 +115,26 @@ fn put_instr(out: &mut Seq<u8>, instr: Instr) -> Result<(), NoMemory>
     }
 }
 
+/// The jump to a label.
+fn jump_to(items: &[AsmItem], label: u64) -> Instr
+    requires { code_words items.now < 2 ^ 16 }
+    ensures { result ≡ Jmp (label_word items.now label) }
+{
+    Instr::Jmp {
+        k: label_word(items, label),
+    }
+}
+
+/// The call of a label.
+fn call_of(items: &[AsmItem], label: u64) -> Instr
+    requires { code_words items.now < 2 ^ 16 }
+    ensures { result ≡ Call (label_word items.now label) }
+{
+    Instr::Call {
+        k: label_word(items, label),
+    }
+}
+
 /// Appends the bytes of an item.
 fn put_item(
     out: &mut Seq<u8>,
@@ -130,26 +151,11 @@ fn put_item(
     match item {
         AsmItem::Plain(instr) => put_instr(out, instr),
         AsmItem::Label(_) => Ok(()),
-        AsmItem::JumpTo(label) => put_instr(
-            out,
-            Instr::Jmp {
-                k: label_word(items, label),
-            },
-        ),
-        AsmItem::CallTo(label) => put_instr(
-            out,
-            Instr::Call {
-                k: label_word(items, label),
-            },
-        ),
+        AsmItem::JumpTo(label) => put_instr(out, jump_to(items, label)),
+        AsmItem::CallTo(label) => put_instr(out, call_of(items, label)),
         AsmItem::BranchTo { set, flag, label } => {
             put_instr(out, branch_unless(set, flag))?;
-            put_instr(
-                out,
-                Instr::Jmp {
-                    k: label_word(items, label),
-                },
-            )
+            put_instr(out, jump_to(items, label))
         }
         AsmItem::LoadPart {
             d,
@@ -157,29 +163,17 @@ fn put_item(
             offset,
             part,
         } => {
-            let address = address_of(layout, last, object, offset);
-            put_instr(
-                out,
-                Instr::Ldi {
-                    d,
-                    k: part_of(address, part),
-                },
-            )
+            let k = part_of(address_of(layout, last, object, offset), part);
+            put_instr(out, Instr::Ldi { d, k })
         }
-        AsmItem::LoadObj { d, object, offset } => put_instr(
-            out,
-            Instr::Lds {
-                d,
-                k: address_of(layout, last, object, offset),
-            },
-        ),
-        AsmItem::StoreObj { object, offset, r } => put_instr(
-            out,
-            Instr::Sts {
-                k: address_of(layout, last, object, offset),
-                r,
-            },
-        ),
+        AsmItem::LoadObj { d, object, offset } => {
+            let k = address_of(layout, last, object, offset);
+            put_instr(out, Instr::Lds { d, k })
+        }
+        AsmItem::StoreObj { object, offset, r } => {
+            let k = address_of(layout, last, object, offset);
+            put_instr(out, Instr::Sts { k, r })
+        }
     }
 }
 

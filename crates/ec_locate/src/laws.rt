@@ -1,19 +1,44 @@
 //! What holds of every program that was placed.
 ghost use Rattle.ec_locate.specs.Apart.{PlacedStandApart};
+ghost use Rattle.ec_locate.specs.Calls.{ChainsAreCounted};
+ghost use Rattle.ec_locate.specs.DataBank.{DataStandsApart};
+ghost use Rattle.ec_locate.specs.Initial.{InitialValuesStand};
 ghost use Rattle.ec_locate.specs.Placing.{StopsHaveCauses};
 ghost use Rattle.ec_locate.specs.Stands.{CodeStands};
 
-/// The code of a placed program stands in its image from word 0 on, with its labels and the places of objects put in,
-/// where no label stands twice. So what `ec_asm` says of items that are placed holds of it.
+use ec_core::leaves_fill_their_types;
+
+/// The code of a placed program stands in its image from word 0 on, with its labels and the places of objects put in.
+/// So what `ec_asm` says of items that are placed holds of it.
 pub fn code_stands()
     ensures { CodeStands }
 {}
+
+/// The initial values of each static object stand in the image of a placed program, as many bytes as the object has,
+/// and nothing but these and the code is written there.
+pub fn initial_values_stand()
+    ensures { InitialValuesStand }
+{
+    leaves_fill_their_types();
+}
 
 /// What a placed program keeps stands apart: objects, scratch memory and work bytes in a row in region `data`, flash
 /// objects and initial bytes in a row in `tables`, the code in `code`, and what the map places outside all of these.
 /// The stack has room for each chain of calls from main.
 pub fn placed_stand_apart()
     ensures { PlacedStandApart }
+{}
+
+/// What the numbers of items name in the data bank stands apart, and apart from the stack: objects, the scratch memory of
+/// each function and the work bytes. The address of each byte is the one that the code has.
+pub fn data_stands_apart()
+    ensures { DataStandsApart }
+{}
+
+/// The need of region `stack` counts the functions on the longest chain of calls from main: none is longer, and one is as
+/// long.
+pub fn chains_are_counted()
+    ensures { ChainsAreCounted }
 {}
 
 /// Where nothing stands against a program, it is refused for want of memory alone; and of several causes the first is

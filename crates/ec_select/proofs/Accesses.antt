@@ -30,7 +30,7 @@ use Rattle.ec_select.specs.Needs.{Need, at_least, without, wanted}
 use Rattle.ec_select.specs.Places.{location_in, kind_in, object_location, NumberLeaf, AreDifferent, Layout}
 use Rattle.ec_select.specs.Relation.{byte_accesses, object_accesses, event_accesses, accesses, HoldsLeaf, Matches}
 use Rattle.ec_select.proofs.Match.{wanted_most, least_other, without_other, at_width, whole, written, held_row, same_content, same_leaf}
-use Rattle.ec_select.proofs.Moves.{Frame, numbers_kept, row_kept, row_value, work_kept}
+use Rattle.ec_select.proofs.Moves.{Frame, work_outside, numbers_kept, row_kept, row_value, work_kept}
 use Rattle.ec_select.proofs.Wrapped.{low_below, kept_below}
 
 -- ---- events
@@ -220,7 +220,7 @@ module _ (p : PlainProgram) (e : Env) (slots : ℕ) (home : Temp → Location) (
       → Frame v v1 (place l.object + l.at) l.bytes → (j : ℕ) → j < k.bytes
       → v1.at (place k.object + k.at + j) ≡ v.at (place k.object + k.at + j)
   other_leaf l k v v1 other f j r =
-      row_kept v v1 (place l.object + l.at) l.bytes (place k.object + k.at) k.bytes (y.leaves_at k).clear (y.leaves_work k) (y.leaves_apart l k other) f j r
+      row_kept v v1 (place l.object + l.at) l.bytes (place k.object + k.at) k.bytes (y.leaves_at k).clear (work_outside (place k.object + k.at) k.bytes (y.leaves_work k)) (y.leaves_apart l k other) f j r
 
   -- two leaves with the same numbers are one
   same_place : (l k : NumberLeaf p) → l.object ≡ k.object → l.number ≡ k.number → (l.at ≡ k.at) × (l.bytes ≡ k.bytes)
@@ -305,7 +305,7 @@ module _ (p : PlainProgram) (e : Env) (slots : ℕ) (home : Temp → Location) (
       let objects : s1.objects ≡ changed_at o (with_leaf l.number (Number i)) m.state.objects = recorded_objects storage _ s0 in
       rw (location_is o offset t.bytes l)
       (record {
-        temps_hold = λ u h iu r w. same_content v.at v1.at (base u) (wanted need u) u.bytes h.content (λ j f. row_kept v v1 b n (base u) u.bytes (y.temps_at u iu).clear (y.temps_work u iu) (y.leaf_temp k u iu) frame j (let most = wanted_most need u in omega arith)) (at_width p e slots home base place y (at_least t.at t.bytes need) m v u h (wanted need u) z iu r w (let f = least_other t.at t.bytes u.at need in omega (arith, f)));
+        temps_hold = λ u h iu r w. same_content v.at v1.at (base u) (wanted need u) u.bytes h.content (λ j f. row_kept v v1 b n (base u) u.bytes (y.temps_at u iu).clear (work_outside (base u) u.bytes (y.temps_work u iu)) (y.leaf_temp k u iu) frame j (let most = wanted_most need u in omega arith)) (at_width p e slots home base place y (at_least t.at t.bytes need) m v u h (wanted need u) z iu r w (let f = least_other t.at t.bytes u.at need in omega (arith, f)));
         leaves_hold = λ f x u r w. stored_leaves k i (at_least t.at t.bytes need) m v v1 z frame here f x u (ap (λ g. slice_get g f.object) (sym objects) ∙ r) w;
         bytes = numbers;
         seen = seen;

@@ -23,12 +23,12 @@ use Rattle.ec_ir.specs.Temporaries.{Content, bits, points, Held, with_content, l
 use Rattle.ec_ir.specs.Valid.{IsTemp}
 use Rattle.ec_select_bytes.specs.Values.{byte_of, constant_code}
 use Rattle.ec_select_bytes.proofs.Constants.{constants_are_right}
-use Rattle.ec_select.specs.Code.{move_code, binary_code}
+use Rattle.ec_select.specs.Code.{move_code, combined_code}
 use Rattle.ec_select.specs.Needs.{Need, at_least, without, wanted}
 use Rattle.ec_select.specs.Places.{Layout}
 use Rattle.ec_select.specs.Relation.{HoldsContent, Matches}
 use Rattle.ec_select.proofs.Match.{wanted_most, least_here, least_other, without_other, at_width, read_first, written, held_row}
-use Rattle.ec_select.proofs.Moves.{Frame, wider_frame, narrower, numbers_kept, row_kept, row_value, stands_less, Moves, move_holds}
+use Rattle.ec_select.proofs.Moves.{Frame, wider_frame, work_outside, narrower, numbers_kept, row_kept, row_value, stands_less, Moves, move_holds}
 use Rattle.ec_select.proofs.Wrapped.{low_part, low_below, value_of_bytes, byte_of_bitwise, powers}
 
 -- ---- numbers
@@ -131,7 +131,7 @@ mod_difference x z m k h l =
         let w : k * m ≡ (b + 1 + n) * m = ap (λ t. t * m) f in
         omega (arith, d, c, w, l)
 
-power_of : (n b : ℕ) → n ≤ b → 256 ^ b ≡ 256 ^ (b - n) * 256 ^ n
+pub power_of : (n b : ℕ) → n ≤ b → 256 ^ b ≡ 256 ^ (b - n) * 256 ^ n
 power_of n b l = let e : b ≡ (b - n) + n = omega arith in ap (λ k. 256 ^ k) e ∙ pow-add 256 (b - n) n
 
 bits_power : (f : ℕ → ℕ → ℕ) → ((x z k : ℕ) → f x z % 2 ^ k ≡ f (x % 2 ^ k) (z % 2 ^ k)) → (n b x z : ℕ) → n ≤ b
@@ -142,7 +142,7 @@ bits_power f h n b x z l =
     ap (λ t. t % 256 ^ n) (sym q) ∙ r ∙ sym (mod_less (f x z) n b l)
 
 -- what an operator leaves of n bytes, where its operands' low bytes are given
-results : (op : Operator) (n b x z : ℕ) → n ≤ b → z ≤ 256 ^ b
+pub results : (op : Operator) (n b x z : ℕ) → n ≤ b → z ≤ 256 ^ b
     → result_of op n (x % 256 ^ n) (z % 256 ^ n) ≡ result_of op b x z % 256 ^ n
 results Sum n b x z l k = mod_sum x z (256 ^ n) (pow_pos n) ∙ sym (mod_less (x + z) n b l)
 results Difference n b x z l k =
@@ -171,7 +171,7 @@ module _ (p : PlainProgram) (e : Env) (slots : ℕ) (home : Temp → Location) (
   N need m v = Matches p slots base place need m v
 
   -- the low bytes of a temporary stand at its base
-  stand : (t : Temp) (n : ℕ) → IsTemp slots t → n ≤ t.bytes → StandsFrom e (home t) n (base t) Own
+  pub stand : (t : Temp) (n : ℕ) → IsTemp slots t → n ≤ t.bytes → StandsFrom e (home t) n (base t) Own
   stand t n it l = stands_less e (home t) t.bytes n (base t) Own l (y.temps_at t it)
 
   pub constant_matches : (t : Temp) (need : Need) (m : Mach) (v : View) (n : ℤ) (c : ℕ) → IsTemp slots t
@@ -184,7 +184,7 @@ module _ (p : PlainProgram) (e : Env) (slots : ℕ) (home : Temp → Location) (
       let own = low_bytes t.bytes n in
       let most = wanted_most need t in
       let v1 = block e (constant_code (home t) low w) v in
-      let k = constants_are_right e (home t) w (base t) low v (stand t w it most) (narrower (base t) t.bytes w 30 most (y.temps_work t it)) in
+      let k = constants_are_right e (home t) w (base t) low v (stand t w it most) (narrower (base t) t.bytes w 30 most (work_outside (base t) t.bytes (y.temps_work t it))) in
       let frame : Frame v v1 (base t) w = λ i a b d o. k.same i d o in
       let numbers = numbers_kept v v1 (base t) w z.bytes frame (λ j l. rw (k.there j l) (byte_below low j)) (k.work (z.bytes 30 (omega arith))) in
       written p e slots home base place y t (bits own) need (without t.at need) m (worked c m.state) v v1 it z (λ u q. without_other t.at u need q) (wider_frame v v1 (base t) t.bytes w most frame) (value_of_bytes v1.at (base t) w low k.there ∙ low_part n w 16 (let room = it.most in omega arith) ∙ sym (low_part n w t.bytes most), low_below t.bytes n) numbers refl (k.seen ∙ z.seen) (k.safe ∙ z.safe)
@@ -195,7 +195,7 @@ module _ (p : PlainProgram) (e : Env) (slots : ℕ) (home : Temp → Location) (
   moved_content v v1 a b n bytes (bits low) k h = (row_value v1.at v.at a b n k.there ∙ h.0, h.1)
   moved_content v v1 a b n bytes (points q) k h = h
 
-  moved_numbers : (v v1 : View) (a b n : ℕ) → 2 ≤ a → HoldsNumbers v → Moves v v1 a b n → HoldsNumbers v1
+  pub moved_numbers : (v v1 : View) (a b n : ℕ) → 2 ≤ a → HoldsNumbers v → Moves v v1 a b n → HoldsNumbers v1
   moved_numbers v v1 a b n some h k =
       numbers_kept v v1 b n h k.frame (λ j l. rw (k.there j l) (h (a + j) (omega arith))) k.work
 
@@ -230,7 +230,7 @@ module _ (p : PlainProgram) (e : Env) (slots : ℕ) (home : Temp → Location) (
       → m.temps b.at ≡ Some (record { bytes = b.bytes; content = bits z })
       → N (at_least a.at (wanted need t) (at_least b.at (wanted need t) (without t.at need))) m v
       → N need (machine (with_content t (bits (result_of op t.bytes x z)) m.temps) (worked c m.state))
-      (block e (binary_code (Some op) (home a) (home b) (home t) (wanted need t)) v)
+      (block e (combined_code op (home a) (home b) (home t) (wanted need t)) v)
   binary_matches op t a b need m v c x z it ia ib sa sb other qa qb h =
       let n = wanted need t in
       let need1 = at_least b.at n (without t.at need) in
@@ -254,7 +254,7 @@ module _ (p : PlainProgram) (e : Env) (slots : ℕ) (home : Temp → Location) (
       let v2 = block e (operate_code op (home b) (home t) n) v1 in
       let o = combined op e (home b) (home t) n (base b) (base t) v1 (stand b n ib less_b) (stand t n it most) (read_first p e slots home base place y t b n it ib less_b) numbers1 in
       let left : value v1.at (base t) n ≡ x % 256 ^ n = row_value v1.at v.at (base a) (base t) n k.there ∙ xa.0 in
-      let row : (j : ℕ) → j < n → v1.at (base b + j) ≡ v.at (base b + j) = λ j l. row_kept v v1 (base t) t.bytes (base b) b.bytes some_b (y.temps_work b ib) (y.temps_apart t b it ib other) frame1 j (omega arith) in
+      let row : (j : ℕ) → j < n → v1.at (base b + j) ≡ v.at (base b + j) = λ j l. row_kept v v1 (base t) t.bytes (base b) b.bytes some_b (work_outside (base b) b.bytes (y.temps_work b ib)) (y.temps_apart t b it ib other) frame1 j (omega arith) in
       let right : value v1.at (base b) n ≡ z % 256 ^ n = value-same v1.at v.at (base b) n row ∙ xb.0 in
       let result : value v2.at (base t) n ≡ result_of op t.bytes x z % 256 ^ n = o.result ∙ ap (λ i. result_of op n i (value v1.at (base b) n)) left ∙ ap (result_of op n (x % 256 ^ n)) right ∙ results op n t.bytes x z most (let l = xb.1 in let s : 256 ^ b.bytes ≡ 256 ^ t.bytes = ap (λ i. 256 ^ i) sb in omega (arith, l, s)) in
       let frame2 : Frame v1 v2 (base t) n = λ i d f g r. o.keeps.same i d f r in

@@ -10,8 +10,8 @@ use Rattle.ec_asm.specs.declared.pieces.Location.{Location}
 use Rattle.ec_asm.specs.View.{View}
 use Rattle.ec_asm.specs.Change.{Env, Own}
 use Rattle.ec_asm.specs.Items.{block}
-use Rattle.ec_asm.specs.Pieces.{Outside, value}
-use Rattle.ec_asm.specs.PieceLaws.{HoldsNumbers}
+use Rattle.ec_asm.specs.Pieces.{StandsFrom, Outside, value}
+use Rattle.ec_asm.specs.PieceLaws.{HoldsNumbers, IsReadFirst}
 use Rattle.ec_asm.proofs.Hoare.{block-append}
 use Rattle.ec_asm.proofs.Numbers.{value_below, mod_less}
 use Rattle.ec_asm.proofs.Sum.{value-same}
@@ -144,44 +144,45 @@ module _ (p : PlainProgram) (e : Env) (slots : ℕ) (home : Temp → Location) (
   C need m v = Matches p slots base place need m v
 
   -- what a conversion leaves
-  record Converted (signed : Bool) (t : Temp) (bytes n low : ℕ) (v w : View) : Type 0 where
-    result : value w.at (base t) n ≡ low_bytes n (number_of_bytes signed bytes low)
-    frame : Frame v w (base t) n
-    numbers : HoldsNumbers w
-    quiet : Quiet v w
+  pub record Converted (signed : Bool) (t : Temp) (bytes n low : ℕ) (v w : View) : Type 0 where
+    pub result : value w.at (base t) n ≡ low_bytes n (number_of_bytes signed bytes low)
+    pub frame : Frame v w (base t) n
+    pub numbers : HoldsNumbers w
+    pub quiet : Quiet v w
 
   moved_numbers : (v v1 : View) (a b n : ℕ) → 2 ≤ a → HoldsNumbers v → Moves v v1 a b n → HoldsNumbers v1
   moved_numbers v v1 a b n some h k =
       numbers_kept v v1 b n h k.frame (λ j l. rw (k.there j l) (h (a + j) (omega arith))) k.work
 
-  -- where no more bytes are wanted than there are
-  shorter : (signed : Bool) (t a : Temp) (n low : ℕ) (v : View) → IsTemp slots t → IsTemp slots a → n ≤ t.bytes
-      → n ≤ a.bytes → HoldsNumbers v → value v.at (base a) n ≡ low % 256 ^ n
-      → Converted signed t a.bytes n low v (block e (move_code (home a) (home t) n) v)
-  shorter signed t a n low v it ia lt la h is =
-      let v1 = block e (move_code (home a) (home t) n) v in
-      let k = move_holds e (home a) (home t) n (base a) (base t) v (stands_less e (home a) a.bytes n (base a) Own la (y.temps_at a ia)) (stands_less e (home t) t.bytes n (base t) Own lt (y.temps_at t it)) (read_first p e slots home base place y t a n it ia la) h in
+  -- where no more bytes are wanted than there are, of m bytes at a location
+  shorter : (signed : Bool) (t : Temp) (q : Location) (c m n low : ℕ) (v : View) → IsTemp slots t
+      → StandsFrom e q m c Own → IsReadFirst c (base t) n → n ≤ t.bytes → n ≤ m → HoldsNumbers v
+      → value v.at c n ≡ low % 256 ^ n → Converted signed t m n low v (block e (move_code q (home t) n) v)
+  shorter signed t q c m n low v it sq far lt la h is =
+      let v1 = block e (move_code q (home t) n) v in
+      let k = move_holds e q (home t) n c (base t) v (stands_less e q m n c Own la sq) (stands_less e (home t) t.bytes n (base t) Own lt (y.temps_at t it)) far h in
       record {
-        result = row_value v1.at v.at (base a) (base t) n k.there ∙ is ∙ shortened signed a.bytes n low la;
+        result = row_value v1.at v.at c (base t) n k.there ∙ is ∙ shortened signed m n low la;
         frame = k.frame;
-        numbers = moved_numbers v v1 (base a) (base t) n (y.temps_at a ia).clear h k;
+        numbers = moved_numbers v v1 c (base t) n sq.clear h k;
         quiet = k.quiet;
       }
 
   -- where more are wanted
-  longer : (signed : Bool) (t a : Temp) (m n low : ℕ) (v : View) → IsTemp slots t → IsTemp slots a → n ≤ t.bytes
-      → a.bytes ≡ suc m → suc m ≤ n → HoldsNumbers v → value v.at (base a) (suc m) ≡ low
+  longer : (signed : Bool) (t : Temp) (q : Location) (c m n low : ℕ) (v : View) → IsTemp slots t
+      → StandsFrom e q (suc m) c Own → IsReadFirst c (base t) (suc m) → n ≤ t.bytes → suc m ≤ n → HoldsNumbers v
+      → value v.at c (suc m) ≡ low
       → Converted signed t (suc m) n low v
-      (block e (extend_code signed (home t) (suc m) n) (block e (move_code (home a) (home t) (suc m)) v))
-  longer signed t a m n low v it ia lt sa l h is =
-      let v1 = block e (move_code (home a) (home t) (suc m)) v in
+      (block e (extend_code signed (home t) (suc m) n) (block e (move_code q (home t) (suc m)) v))
+  longer signed t q c m n low v it sq far lt l h is =
+      let v1 = block e (move_code q (home t) (suc m)) v in
       let v2 = block e (extend_code signed (home t) (suc m) n) v1 in
       let st = (y.temps_at t it).clear in
-      let k = move_holds e (home a) (home t) (suc m) (base a) (base t) v (stands_less e (home a) a.bytes (suc m) (base a) Own (omega arith) (y.temps_at a ia)) (stands_less e (home t) t.bytes (suc m) (base t) Own (omega arith) (y.temps_at t it)) (read_first p e slots home base place y t a (suc m) it ia (omega arith)) h in
-      let numbers1 = moved_numbers v v1 (base a) (base t) (suc m) (y.temps_at a ia).clear h k in
+      let k = move_holds e q (home t) (suc m) c (base t) v sq (stands_less e (home t) t.bytes (suc m) (base t) Own (omega arith) (y.temps_at t it)) far h in
+      let numbers1 = moved_numbers v v1 c (base t) (suc m) sq.clear h k in
       let x = extensions_are_right signed e (home t) m n (base t) v1 (stands_less e (home t) t.bytes n (base t) Own lt (y.temps_at t it)) l numbers1 in
       let kept : (j : ℕ) → j < suc m → v2.at (base t + j) ≡ v1.at (base t + j) = λ j q. x.keeps.same (base t + j) (omega arith) (omega arith) (λ i. absurd (omega arith)) in
-      let low1 : value v1.at (base t) (suc m) ≡ low = row_value v1.at v.at (base a) (base t) (suc m) k.there ∙ is in
+      let low1 : value v1.at (base t) (suc m) ≡ low = row_value v1.at v.at c (base t) (suc m) k.there ∙ is in
       let low2 : value v2.at (base t) (suc m) ≡ low = value-same v2.at v1.at (base t) (suc m) kept ∙ low1 in
       let small : (j : ℕ) → j < suc m → v2.at (base t + j) < 256 = λ j q. rw (kept j q) (numbers1 (base t + j) (omega arith)) in
       let top = kept m (omega arith) in
@@ -203,36 +204,38 @@ module _ (p : PlainProgram) (e : Env) (slots : ℕ) (home : Temp → Location) (
       fill_small true top q = omega arith
       fill_small false top q = omega arith
 
-  rw_block : (signed : Bool) (t : Temp) (m n low : ℕ) (v : View) (a : Temp)
-      → Converted signed t (suc m) n low v (block e (extend_code signed (home t) (suc m) n) (block e (move_code (home a) (home t) (suc m)) v))
-      → Converted signed t (suc m) n low v (block e (move_code (home a) (home t) (suc m) ++ extend_code signed (home t) (suc m) n) v)
-  rw_block signed t m n low v a x =
-      subst (λ w. Converted signed t (suc m) n low v w) (sym (block-append e (move_code (home a) (home t) (suc m)) (extend_code signed (home t) (suc m) n) v)) x
+  rw_block : (signed : Bool) (t : Temp) (q : Location) (m n low : ℕ) (v : View)
+      → Converted signed t (suc m) n low v (block e (extend_code signed (home t) (suc m) n) (block e (move_code q (home t) (suc m)) v))
+      → Converted signed t (suc m) n low v (block e (move_code q (home t) (suc m) ++ extend_code signed (home t) (suc m) n) v)
+  rw_block signed t q m n low v x =
+      subst (λ w. Converted signed t (suc m) n low v w) (sym (block-append e (move_code q (home t) (suc m)) (extend_code signed (home t) (suc m) n) v)) x
 
-  converted : (signed : Bool) (t a : Temp) (n low : ℕ) (v : View) → IsTemp slots t → IsTemp slots a → n ≤ t.bytes
-      → low < 256 ^ a.bytes → HoldsNumbers v → value v.at (base a) (min n a.bytes) ≡ low % 256 ^ min n a.bytes
-      → Converted signed t a.bytes n low v (block e (conversion_code signed (home a) (home t) a.bytes n) v)
-  converted signed t a n low v it ia lt under h is =
+  -- a number of some bytes at a location, of which no byte is overwritten before it is read
+  pub converted : (signed : Bool) (t : Temp) (q : Location) (c bytes n low : ℕ) (v : View) → IsTemp slots t → 1 ≤ bytes
+      → StandsFrom e q bytes c Own → ((k : ℕ) → k ≤ bytes → IsReadFirst c (base t) k) → n ≤ t.bytes
+      → low < 256 ^ bytes → HoldsNumbers v → value v.at c (min n bytes) ≡ low % 256 ^ min n bytes
+      → Converted signed t bytes n low v (block e (conversion_code signed q (home t) bytes n) v)
+  converted signed t q c bytes n low v it some sq far lt under h is =
       ⊎_elim
-      (λ q.
-      let g : n ≤ a.bytes = leb-true n a.bytes q in
-      let k : min n a.bytes ≡ n = omega arith in
-      let i : value v.at (base a) n ≡ low % 256 ^ n = subst (λ j. value v.at (base a) j ≡ low % 256 ^ j) k is in
-      rw (k, q, append-nil (move_code (home a) (home t) n)) (shorter signed t a n low v it ia lt g h i))
-      (λ q.
-      let g : a.bytes < n = leb-false n a.bytes q in
-      let some = ia.some in
-      let m = a.bytes - 1 in
-      let s : a.bytes ≡ suc m = omega arith in
-      let k : min n a.bytes ≡ suc m = omega arith in
-      let i : value v.at (base a) (suc m) ≡ low % 256 ^ suc m = subst (λ j. value v.at (base a) j ≡ low % 256 ^ j) k is in
+      (λ x.
+      let g : n ≤ bytes = leb-true n bytes x in
+      let k : min n bytes ≡ n = omega arith in
+      let i : value v.at c n ≡ low % 256 ^ n = subst (λ j. value v.at c j ≡ low % 256 ^ j) k is in
+      rw (k, x, append-nil (move_code q (home t) n)) (shorter signed t q c bytes n low v it sq (far n g) lt g h i))
+      (λ x.
+      let g : bytes < n = leb-false n bytes x in
+      let m = bytes - 1 in
+      let s : bytes ≡ suc m = omega arith in
+      let k : min n bytes ≡ suc m = omega arith in
+      let i : value v.at c (suc m) ≡ low % 256 ^ suc m = subst (λ j. value v.at c j ≡ low % 256 ^ j) k is in
       let u : low < 256 ^ suc m = subst (λ j. low < 256 ^ j) s under in
-      let whole_low : value v.at (base a) (suc m) ≡ low = i ∙ kept_below low (256 ^ suc m) u in
-      let x = longer signed t a m n low v it ia lt s (omega arith) h whole_low in
-      let x1 = rw_block signed t m n low v a x in
-      let x2 : Converted signed t a.bytes n low v (block e (move_code (home a) (home t) (suc m) ++ extend_code signed (home t) a.bytes n) v) = subst (λ j. Converted signed t j n low v (block e (move_code (home a) (home t) (suc m) ++ extend_code signed (home t) j n) v)) (sym s) x1 in
-      subst (λ j. Converted signed t a.bytes n low v (block e (move_code (home a) (home t) j ++ extend_code signed (home t) a.bytes n) v)) (sym k) x2)
-      (cases_Bool (nat_le n a.bytes))
+      let whole_low : value v.at c (suc m) ≡ low = i ∙ kept_below low (256 ^ suc m) u in
+      let sq1 : StandsFrom e q (suc m) c Own = subst (λ j. StandsFrom e q j c Own) s sq in
+      let x0 = longer signed t q c m n low v it sq1 (far (suc m) (omega arith)) lt (omega arith) h whole_low in
+      let x1 = rw_block signed t q m n low v x0 in
+      let x2 : Converted signed t bytes n low v (block e (move_code q (home t) (suc m) ++ extend_code signed (home t) bytes n) v) = subst (λ j. Converted signed t j n low v (block e (move_code q (home t) (suc m) ++ extend_code signed (home t) j n) v)) (sym s) x1 in
+      subst (λ j. Converted signed t bytes n low v (block e (move_code q (home t) j ++ extend_code signed (home t) bytes n) v)) (sym k) x2)
+      (cases_Bool (nat_le n bytes))
 
   pub conversion_matches : (signed : Bool) (t a : Temp) (need : Need) (m : Mach) (v : View) (c low : ℕ) → IsTemp slots t
       → IsTemp slots a → m.temps a.at ≡ Some (record { bytes = a.bytes; content = bits low })
@@ -247,7 +250,7 @@ module _ (p : PlainProgram) (e : Env) (slots : ℕ) (home : Temp → Location) (
       let here = least_here a.at n (without t.at need) in
       let wide : min n a.bytes ≤ wanted need0 a = omega (arith, here) in
       let content = at_width p e slots home base place y need0 m v a _ (min n a.bytes) z ia q refl wide in
-      let k = converted signed t a n low v it ia most content.1 z.bytes content.0 in
+      let k = converted signed t (home a) (base a) a.bytes n low v it ia.some (y.temps_at a ia) (λ j l. read_first p e slots home base place y t a j it ia l) most content.1 z.bytes content.0 in
       let number = number_of_bytes signed a.bytes low in
       let result : value w.at (base t) n ≡ low_bytes t.bytes number % 256 ^ n = k.result ∙ sym (low_part number n t.bytes most) in
       written p e slots home base place y t (bits (low_bytes t.bytes number)) need need0 m (worked c m.state) v w it z (λ i r. still i r) (wider_frame v w (base t) t.bytes n most k.frame) (result, low_below t.bytes number) k.numbers refl (k.quiet.seen ∙ z.seen) (k.quiet.safe ∙ z.safe)

@@ -12,3 +12,9 @@ pub mod Emits
 pub mod Standing
 pub mod Selected
 pub mod Written
+pub mod Orders
+pub mod Related
+pub mod Turned
+pub mod Multiplied
+pub mod Shifted
+pub mod Divided

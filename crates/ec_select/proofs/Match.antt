@@ -20,7 +20,7 @@ use Rattle.ec_ir.specs.Valid.{IsTemp}
 use Rattle.ec_select.specs.Needs.{Need, at_least, without, wanted}
 use Rattle.ec_select.specs.Places.{NumberLeaf, Apart, Layout}
 use Rattle.ec_select.specs.Relation.{accesses, HoldsContent, HoldsLeaf, Matches}
-use Rattle.ec_select.proofs.Moves.{Frame, row_kept}
+use Rattle.ec_select.proofs.Moves.{Frame, Wide, widened, row_kept_wide}
 
 -- ---- contents
 
@@ -105,18 +105,18 @@ module _ (p : PlainProgram) (e : Env) (slots : ℕ) (home : Temp → Location) (
       (cases_eq u.at t.at)
 
   pub temp_row : (t u : Temp) (v v1 : View) → IsTemp slots t → IsTemp slots u → t.at ≢ u.at
-      → Frame v v1 (base t) t.bytes → (j : ℕ) → j < u.bytes → v1.at (base u + j) ≡ v.at (base u + j)
+      → Wide v v1 (base t) t.bytes → (j : ℕ) → j < u.bytes → v1.at (base u + j) ≡ v.at (base u + j)
   temp_row t u v v1 it iu other f j l =
-      row_kept v v1 (base t) t.bytes (base u) u.bytes (y.temps_at u iu).clear (y.temps_work u iu) (y.temps_apart t u it iu other) f j l
+      row_kept_wide v v1 (base t) t.bytes (base u) u.bytes (y.temps_at u iu).clear (y.temps_work u iu) (y.temps_apart t u it iu other) f j l
 
-  pub leaf_row : (t : Temp) (k : NumberLeaf p) (v v1 : View) → IsTemp slots t → Frame v v1 (base t) t.bytes → (j : ℕ)
+  pub leaf_row : (t : Temp) (k : NumberLeaf p) (v v1 : View) → IsTemp slots t → Wide v v1 (base t) t.bytes → (j : ℕ)
       → j < k.bytes → v1.at (place k.object + k.at + j) ≡ v.at (place k.object + k.at + j)
   leaf_row t k v v1 it f j l =
-      row_kept v v1 (base t) t.bytes (place k.object + k.at) k.bytes (y.leaves_at k).clear (y.leaves_work k) (y.temp_leaf t k it) f j l
+      row_kept_wide v v1 (base t) t.bytes (place k.object + k.at) k.bytes (y.leaves_at k).clear (y.leaves_work k) (y.temp_leaf t k it) f j l
 
   -- what came of the temporaries: t was written, and of the others no more is needed than before
   written_temp : (t : Temp) (c : Content) (need need0 : Need) (m : Mach) (v v1 : View) → IsTemp slots t → M need0 m v
-      → ((u : ℕ) → u ≢ t.at → need u ≤ need0 u) → Frame v v1 (base t) t.bytes
+      → ((u : ℕ) → u ≢ t.at → need u ≤ need0 u) → Wide v v1 (base t) t.bytes
       → HoldsContent v1.at (base t) (wanted need t) t.bytes c → (u : Temp) (h : Held) → IsTemp slots u
       → with_content t c m.temps u.at ≡ Some h → h.bytes ≡ u.bytes
       → HoldsContent v1.at (base u) (wanted need u) u.bytes h.content
@@ -143,14 +143,22 @@ module _ (p : PlainProgram) (e : Env) (slots : ℕ) (home : Temp → Location) (
       (cases_eq u.at t.at)
 
   -- a temporary was written
-  pub written : (t : Temp) (c : Content) (need need0 : Need) (m : Mach) (s1 : State) (v v1 : View) → IsTemp slots t
-      → M need0 m v → ((u : ℕ) → u ≢ t.at → need u ≤ need0 u) → Frame v v1 (base t) t.bytes
+  pub written_wide : (t : Temp) (c : Content) (need need0 : Need) (m : Mach) (s1 : State) (v v1 : View) → IsTemp slots t
+      → M need0 m v → ((u : ℕ) → u ≢ t.at → need u ≤ need0 u) → Wide v v1 (base t) t.bytes
       → HoldsContent v1.at (base t) (wanted need t) t.bytes c → HoldsNumbers v1 → s1.objects ≡ m.state.objects
       → v1.seen ≡ accesses p place s1.events → v1.safe ≡ true → M need (machine (with_content t c m.temps) s1) v1
-  written t c need need0 m s1 v v1 it z more frame here numbers objects seen safe = record {
+  written_wide t c need need0 m s1 v v1 it z more frame here numbers objects seen safe = record {
     temps_hold = written_temp t c need need0 m v v1 it z more frame here;
     leaves_hold = λ l x u q w. same_leaf v.at v1.at (place l.object + l.at) l.bytes u (leaf_row t l v v1 it frame) (z.leaves_hold l x u (ap (λ o. slice_get o l.object) (sym objects) ∙ q) w);
     bytes = numbers;
     seen = seen;
     safe = safe;
   }
+
+  -- the same where of the work registers R30 alone has changed
+  pub written : (t : Temp) (c : Content) (need need0 : Need) (m : Mach) (s1 : State) (v v1 : View) → IsTemp slots t
+      → M need0 m v → ((u : ℕ) → u ≢ t.at → need u ≤ need0 u) → Frame v v1 (base t) t.bytes
+      → HoldsContent v1.at (base t) (wanted need t) t.bytes c → HoldsNumbers v1 → s1.objects ≡ m.state.objects
+      → v1.seen ≡ accesses p place s1.events → v1.safe ≡ true → M need (machine (with_content t c m.temps) s1) v1
+  written t c need need0 m s1 v v1 it z more frame here numbers objects seen safe =
+      written_wide t c need need0 m s1 v v1 it z more (widened v v1 (base t) t.bytes frame) here numbers objects seen safe

@@ -13,11 +13,25 @@ use Rattle.ec_asm.specs.declared.pieces.Operator.TheVariants.{Sum}
 use Rattle.ec_asm.proofs.Compared.{copy_holds}
 use Rattle.ec_asm.proofs.Results.{pieces_are_straight, pieces_take}
 use Rattle.ec_select.specs.Code.{same_location, move_code}
-use Rattle.ec_select.specs.Places.{Apart}
+use Rattle.ec_select.specs.Places.{Apart, IsClear}
 
 -- all is kept but n bytes from b, R0, R1 and R30
 abbrev pub Frame : View → View → ℕ → ℕ → Type 0
 Frame v v1 b n = (k : ℕ) → k ≢ 0 → k ≢ 1 → k ≢ 30 → Outside b n k → v1.at k ≡ v.at k
+
+-- all is kept but n bytes from b, R0, R1, R8 to R13 and R26 to R31
+abbrev pub Wide : View → View → ℕ → ℕ → Type 0
+Wide v v1 b n = (k : ℕ) → k ≢ 0 → k ≢ 1 → Outside 8 6 k → Outside 26 6 k → Outside b n k → v1.at k ≡ v.at k
+
+pub widened : (v v1 : View) (b n : ℕ) → Frame v v1 b n → Wide v v1 b n
+widened v v1 b n f k x y w z o = f k x y (not_work k z) o
+  where
+    not_work : (k : ℕ) → Outside 26 6 k → k ≢ 30
+    not_work k z q = let l = z (omega arith) in omega arith
+
+pub work_outside : (a n : ℕ) → IsClear a n → Outside a n 30
+work_outside a n x l =
+    ⊎_elim (λ (q : a < 26). let z = x.high.left q in omega arith) (λ (q : 26 ≤ a). let z = x.high.right q in absurd (omega arith)) (cases_lt a 26)
 
 -- nothing was seen
 pub record Quiet (v v1 : View) : Type 0 where
@@ -46,6 +60,19 @@ row_kept v v1 b n a m some work x f j l =
   where
     not_work : (a n j : ℕ) → Outside a n 30 → j < n → a + j ≢ 30
     not_work a n j h l q = grind arith
+
+pub row_kept_wide : (v v1 : View) (b n a m : ℕ) → 2 ≤ a → IsClear a m → Apart b n a m → Wide v v1 b n → (j : ℕ)
+    → j < m → v1.at (a + j) ≡ v.at (a + j)
+row_kept_wide v v1 b n a m some work x f j l =
+    f (a + j) (omega arith) (omega arith) (outside_low a m j work l) (outside_work a m j work l) (outside_row b n a m j x l)
+  where
+    outside_low : (a m j : ℕ) → IsClear a m → j < m → Outside 8 6 (a + j)
+    outside_low a m j w l le =
+        ⊎_elim (λ (q : a < 8). let z = w.low.left q in absurd (omega arith)) (λ (q : 8 ≤ a). let z = w.low.right q in omega arith) (cases_lt a 8)
+
+    outside_work : (a m j : ℕ) → IsClear a m → j < m → Outside 26 6 (a + j)
+    outside_work a m j w l le =
+        ⊎_elim (λ (q : a < 26). let z = w.high.left q in absurd (omega arith)) (λ (q : 26 ≤ a). let z = w.high.right q in omega arith) (cases_lt a 26)
 
 -- n bytes from b and R30 are numbers, and all else is kept
 pub numbers_kept : (v v1 : View) (b n : ℕ) → HoldsNumbers v → Frame v v1 b n → ((j : ℕ) → j < n → v1.at (b + j) < 256)

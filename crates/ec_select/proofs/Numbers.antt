@@ -15,7 +15,8 @@ use Rattle.ec_core.specs.Operators.{binary_result}
 use Rattle.ec_core.specs.Plain.{integer, PlainProgram}
 use Rattle.ec_core.specs.State.{State}
 use Rattle.ec_ir.specs.Temporaries.{low_bytes, number_of_bytes}
-use Rattle.ec_select.specs.Code.{operator_of}
+use Rattle.ec_select.specs.declared.families.Family.TheVariants.{Combined}
+use Rattle.ec_select.specs.Code.{family_of}
 use Rattle.ec_select.proofs.Computed.{result_of}
 use Rattle.ec_select.proofs.Wrapped.{low_of_sum, low_of_difference, low_of_bits}
 
@@ -25,7 +26,7 @@ pub record Gives (op : BinOp) (f : Operator) (p : PlainProgram) (mode : Mode) (s
   pub is : binary_result op (integer s b) mode (operand_of p (integer s1 b) (Number (number_of_bytes s1 b x)) st) (operand_of p (integer s2 b) (Number (number_of_bytes s2 b z)) st1) ≡ Ok (Number number)
   pub low : low_bytes b number ≡ result_of f b x z
 
-pub gives : (op : BinOp) (f : Operator) → operator_of op ≡ Some f → (p : PlainProgram) (mode : Mode) (s s1 s2 : Bool)
+pub gives : (op : BinOp) (f : Operator) → family_of op ≡ Combined f → (p : PlainProgram) (mode : Mode) (s s1 s2 : Bool)
     (b x z : ℕ) (st st1 : State) → x < 256 ^ b → z < 256 ^ b → Gives op f p mode s s1 s2 b x z st st1
 gives Add Sum h p mode s s1 s2 b x z st st1 l k = record { number = _; is = refl; low = low_of_sum s1 s2 s b x z }
 gives Sub Difference h p mode s s1 s2 b x z st st1 l k =
@@ -74,7 +75,7 @@ pub record GivesOf (op : BinOp) (f : Operator) (p : PlainProgram) (mode : Mode) 
   pub is : binary_result op (integer s b) mode (operand_of p (integer s1 b1) (Number (number_of_bytes s1 b1 x)) st) (operand_of p (integer s2 b2) (Number (number_of_bytes s2 b2 z)) st1) ≡ Ok (Number number)
   pub low : low_bytes b number ≡ result_of f b x z
 
-pub gives_of : (op : BinOp) (f : Operator) → operator_of op ≡ Some f → (p : PlainProgram) (mode : Mode)
+pub gives_of : (op : BinOp) (f : Operator) → family_of op ≡ Combined f → (p : PlainProgram) (mode : Mode)
     (s s1 s2 : Bool) (b b1 b2 x z : ℕ) (st st1 : State) → b1 ≡ b → b2 ≡ b → x < 256 ^ b → z < 256 ^ b
     → GivesOf op f p mode s s1 s2 b b1 b2 x z st st1
 gives_of op f h p mode s s1 s2 b b1 b2 x z st st1 q r l k =

@@ -6,7 +6,7 @@ use Rattle.std.proofs.lemmas.Bool.{cases_Bool, cases_eq, cases_lt, and_parts}
 use Rattle.std.proofs.lemmas.Nat.{mul-le}
 use Rattle.ec_asm.specs.declared.pieces.Location.TheVariants.{InRegisters, InMemory}
 use Rattle.ec_asm.specs.Change.{Env, Own, Object}
-use Rattle.ec_asm.specs.Pieces.{StandsFrom, Outside}
+use Rattle.ec_asm.specs.Pieces.{StandsFrom}
 use Rattle.ec_asm.specs.PieceLaws.{IsReadFirst}
 use Rattle.ec_core.specs.Layout.{PlainLeaf, size_of_type, leaves_of_type}
 use Rattle.ec_core.specs.Plain.{integer, PlainStorage, static, local, param, register, PlainObject}
@@ -17,7 +17,7 @@ use Rattle.ec_ir.specs.Operations.{PlainIrProgram, data_of}
 use Rattle.ec_ir.specs.Valid.{IsTemp, ValidIr}
 use Rattle.ec_select.specs.declared.homes.Homes.{Homes}
 use Rattle.ec_select.specs.Homes.{depth, home}
-use Rattle.ec_select.specs.Places.{location_in, kind_in, NumberLeaf, Apart, AreDifferent, Layout}
+use Rattle.ec_select.specs.Places.{location_in, kind_in, NumberLeaf, Apart, IsClear, AreDifferent, Layout}
 use Rattle.ec_select.specs.Standing.{home_address, ScratchStands, ObjectStands, ObjectsStand}
 
 -- ---- a home is in registers or in scratch memory
@@ -109,11 +109,17 @@ module _ (e : Env) (slots : ℕ) (h : Homes) (scratch : ℕ) (s : ScratchStands 
   starts_high : (t : Temp) → InScratch h scratch t → 256 ≤ home_address h scratch t
   starts_high t r = let high = s.high in rw (r.address) (omega arith)
 
-  work_home : (t : Temp) → IsTemp slots t → Outside (home_address h scratch t) t.bytes 30
+  work_home : (t : Temp) → IsTemp slots t → IsClear (home_address h scratch t) t.bytes
   work_home t it =
       ⊎_elim
-      (λ (r : InRegister h scratch t). (λ l. let z = ends_low t r in omega arith))
-      (λ (r : InScratch h scratch t). (λ l. let z = starts_high t r in absurd (omega arith)))
+      (λ (r : InRegister h scratch t).
+      let z = ends_low t r in
+      let shallow = r.shallow in
+      let starts : 14 ≤ home_address h scratch t = rw (r.address) (omega arith) in
+      record { low = above_apart (home_address h scratch t) t.bytes 8 6 (omega arith) starts; high = below_apart (home_address h scratch t) t.bytes 26 6 it.some z })
+      (λ (r : InScratch h scratch t).
+      let z = starts_high t r in
+      record { low = above_apart (home_address h scratch t) t.bytes 8 6 (omega arith) (omega arith); high = above_apart (home_address h scratch t) t.bytes 26 6 (omega arith) (omega arith) })
       (kinds h scratch t)
 
   -- registers and scratch memory are apart
@@ -251,10 +257,14 @@ module _ (fill : LeavesFillTheirTypes) (p : PlainIrProgram) (valid : ValidIr p) 
   object_of : (l : NumberLeaf (data_of p)) → ObjectStands e l.object (size_of_type p.structs l.declared.ty) (place l.object) l.declared.storage
   object_of l = o.each l.object l.declared l.is_object l.in_data
 
-  work_leaf : (l : NumberLeaf (data_of p)) → Outside (leaf_address l) l.bytes 30
-  work_leaf l q =
+  work_leaf : (l : NumberLeaf (data_of p)) → IsClear (leaf_address l) l.bytes
+  work_leaf l =
       let inside = (lies l).inside in
-      ⊎_elim (λ (x : place l.object + size_of_type p.structs l.declared.ty ≤ 8). omega arith) (λ (x : 256 ≤ place l.object). absurd (omega arith)) (in_place l.declared.storage l.object _ (place l.object) (object_of l))
+      let some = (lies l).some in
+      ⊎_elim
+      (λ (x : place l.object + size_of_type p.structs l.declared.ty ≤ 8). record { low = below_apart (leaf_address l) l.bytes 8 6 some (omega arith); high = below_apart (leaf_address l) l.bytes 26 6 some (omega arith) })
+      (λ (x : 256 ≤ place l.object). record { low = above_apart (leaf_address l) l.bytes 8 6 (omega arith) (omega arith); high = above_apart (leaf_address l) l.bytes 26 6 (omega arith) (omega arith) })
+      (in_place l.declared.storage l.object _ (place l.object) (object_of l))
 
   leaf_home : (l : NumberLeaf (data_of p)) (t : Temp) → IsTemp slots t
       → Apart (leaf_address l) l.bytes (home_address h scratch t) t.bytes

@@ -89,7 +89,7 @@ powers (suc b) =
 pub kept_below : (x m : ℕ) → x < m → x % m ≡ x
 kept_below x m h = let e : x ≡ 0 * m + x = omega arith in ap (λ t. t % m) e ∙ mod-mul-add 0 m x h
 
-abbrev of_type : Bool → ℕ → IntegerType
+abbrev pub of_type : Bool → ℕ → IntegerType
 of_type signed b = record { signed = signed; bytes = b }
 
 from_bits_is : (signed : Bool) (b low : ℕ) → from_bits (of_type signed b) low ≡ number_of_bytes signed b low

@@ -1,11 +1,9 @@
 -- The operations that have code: for each its temporaries, types and objects. The other operations have none yet, so no
 -- program with one of them is covered.
-use Rattle.std.specs.Prelude.{◌≡◌, ◌≢◌, ℕ, ◌==◌, ⊤, Bool, List, [], ◌∷◌, Option, Some, None}
+use Rattle.std.specs.Prelude.{◌≡◌, ◌≢◌, ℕ, ◌≤◌, ◌==◌, ⊤, Bool, List, [], ◌∷◌, Option, Some, None}
 use Rattle.std.specs.Prelude.{slice_get}
 use Rattle.std.specs.List.{position_from}
 use Rattle.ec_space.specs.declared.space.Bank.TheVariants.{Data as DataBank}
-use Rattle.ec_asm.specs.declared.pieces.Operator.{Operator}
-use Rattle.ec_core.specs.declared.expressions.BinOp.{BinOp}
 use Rattle.ec_core.specs.Layout.{leaves_of_type}
 use Rattle.ec_core.specs.Plain.{PlainType, integer, PlainObject}
 use Rattle.ec_core.specs.Plain.{PlainProgram}
@@ -14,7 +12,9 @@ use Rattle.ec_ir.specs.Operations.{PlainIr, constant, copy, address, field, load
 use Rattle.ec_ir.specs.Operations.{store_object, binary_op, unary_op, conversion, label, jump, branch_zero}
 use Rattle.ec_ir.specs.Operations.{call_function, return_from, port_in, port_out}
 use Rattle.ec_ir.specs.Valid.{IsTemp}
-use Rattle.ec_select.specs.Code.{operator_of}
+use Rattle.ec_select.specs.declared.families.Family.{Family}
+use Rattle.ec_select.specs.declared.families.Family.TheVariants.{Combined, Compared, Multiplied, Shifted, Divided}
+use Rattle.ec_select.specs.Code.{family_of}
 
 -- a number of so many bytes, with an integer type, begins at an offset in an object that is kept in the data bank
 pub record HasNumberAt (p : PlainProgram) (o offset bytes : ℕ) : Type 0 where
@@ -26,11 +26,6 @@ pub record HasNumberAt (p : PlainProgram) (o offset bytes : ℕ) : Type 0 where
       ≡ Some (record { ty = integer signed bytes; at = offset })
   pub in_data : declared.home ≡ DataBank
   pub found : position_from (λ x. x.at == offset) 0 (leaves_of_type p.structs declared.ty) ≡ Some number
-
--- an operator that has code
-pub record HasOperator (op : BinOp) : Type 0 where
-  pub operator : Operator
-  pub is : operator_of op ≡ Some operator
 
 -- operands and result have integer types of as many bytes as their temporaries, all the same
 pub record AreIntegers (slots : ℕ) (to a b : Temp) (ty aty bty : PlainType) : Type 0 where
@@ -46,6 +41,73 @@ pub record AreIntegers (slots : ℕ) (to a b : Temp) (ty aty bty : PlainType) : 
   pub left_bytes : a.bytes ≡ to.bytes
   pub right_bytes : b.bytes ≡ to.bytes
 
+-- operands have one integer type, of as many bytes as their temporaries
+pub record AreCompared (slots : ℕ) (to a b : Temp) (aty bty : PlainType) : Type 0 where
+  pub signed : Bool
+  pub left_type : aty ≡ integer signed a.bytes
+  pub right_type : bty ≡ integer signed b.bytes
+  pub result : IsTemp slots to
+  pub left : IsTemp slots a
+  pub right : IsTemp slots b
+  pub same_bytes : b.bytes ≡ a.bytes
+
+-- operands have integer types of one byte, and the result one of two bytes
+pub record AreFactors (slots : ℕ) (to a b : Temp) (ty aty bty : PlainType) : Type 0 where
+  pub signed : Bool
+  pub left_signed : Bool
+  pub right_signed : Bool
+  pub result_type : ty ≡ integer signed 2
+  pub left_type : aty ≡ integer left_signed 1
+  pub right_type : bty ≡ integer right_signed 1
+  pub result : IsTemp slots to
+  pub left : IsTemp slots a
+  pub right : IsTemp slots b
+  pub result_bytes : to.bytes ≡ 2
+  pub left_bytes : a.bytes ≡ 1
+  pub right_bytes : b.bytes ≡ 1
+
+-- the number that is shifted has the type of the result, and the count any integer type
+pub record AreShifted (slots : ℕ) (to a b : Temp) (ty aty bty : PlainType) : Type 0 where
+  pub signed : Bool
+  pub count_signed : Bool
+  pub result_type : ty ≡ integer signed to.bytes
+  pub left_type : aty ≡ integer signed a.bytes
+  pub count_type : bty ≡ integer count_signed b.bytes
+  pub result : IsTemp slots to
+  pub left : IsTemp slots a
+  pub count : IsTemp slots b
+  pub same_bytes : a.bytes ≡ to.bytes
+
+-- operands and result have one integer type, of at most four bytes
+pub record AreDivided (slots : ℕ) (to a b : Temp) (ty aty bty : PlainType) : Type 0 where
+  pub signed : Bool
+  pub result_type : ty ≡ integer signed to.bytes
+  pub left_type : aty ≡ integer signed a.bytes
+  pub right_type : bty ≡ integer signed b.bytes
+  pub result : IsTemp slots to
+  pub left : IsTemp slots a
+  pub right : IsTemp slots b
+  pub left_bytes : a.bytes ≡ to.bytes
+  pub right_bytes : b.bytes ≡ to.bytes
+  pub most : to.bytes ≤ 4
+
+-- a binary operator of a family. The result of a combination, a shift and a division is not put to the place of the
+-- second operand
+abbrev pub IsBinary : Family → ℕ → (to a b : Temp) → (ty aty bty : PlainType) → Type 0
+IsBinary (Combined op) slots to a b ty aty bty = AreIntegers slots to a b ty aty bty × (to.at ≢ b.at)
+IsBinary (Compared r exchanged) slots to a b ty aty bty = AreCompared slots to a b aty bty
+IsBinary Multiplied slots to a b ty aty bty = AreFactors slots to a b ty aty bty
+IsBinary (Shifted up) slots to a b ty aty bty = AreShifted slots to a b ty aty bty × (to.at ≢ b.at)
+IsBinary (Divided r) slots to a b ty aty bty = AreDivided slots to a b ty aty bty × (to.at ≢ b.at)
+
+-- operand and result have one integer type, of as many bytes as their temporaries
+pub record IsUnary (slots : ℕ) (to a : Temp) (ty : PlainType) : Type 0 where
+  pub signed : Bool
+  pub result_type : ty ≡ integer signed to.bytes
+  pub result : IsTemp slots to
+  pub operand : IsTemp slots a
+  pub same_bytes : a.bytes ≡ to.bytes
+
 -- an integer of a temporary is brought to the type of another one
 pub record AreConverted (slots : ℕ) (to a : Temp) (ty aty : PlainType) : Type 0 where
   pub signed : Bool
@@ -59,15 +121,15 @@ abbrev pub IsResult : ℕ → Option Temp → Type 0
 IsResult slots None = ⊤
 IsResult slots (Some t) = IsTemp slots t × (t.bytes ≡ 2)
 
--- operations of main, which has so many places of temporaries. The result of an operator is not put to the place of
--- its second operand
+-- operations of main, which has so many places of temporaries
 abbrev pub IsCovered : PlainProgram → ℕ → PlainIr → Type 0
 IsCovered p slots (constant t n) = IsTemp slots t
 IsCovered p slots (copy to from) = IsTemp slots to × IsTemp slots from × (to.bytes ≡ from.bytes)
 IsCovered p slots (load_object t o offset) = IsTemp slots t × HasNumberAt p o offset t.bytes
 IsCovered p slots (store_object o offset t) = IsTemp slots t × HasNumberAt p o offset t.bytes
 IsCovered p slots (binary_op op ty mode to a aty b bty) =
-    HasOperator op × AreIntegers slots to a b ty aty bty × (to.at ≢ b.at)
+    IsBinary (family_of op) slots to a b ty aty bty
+IsCovered p slots (unary_op op ty mode to a) = IsUnary slots to a ty
 IsCovered p slots (label l) = ⊤
 IsCovered p slots (jump l) = ⊤
 IsCovered p slots (branch_zero t l) = IsTemp slots t
@@ -77,7 +139,6 @@ IsCovered p slots (address t o offset) = ⊥
 IsCovered p slots (field ptr space offset) = ⊥
 IsCovered p slots (load_at to ptr space) = ⊥
 IsCovered p slots (store_at ptr space from) = ⊥
-IsCovered p slots (unary_op op ty mode to a) = ⊥
 IsCovered p slots (call_function f to) = ⊥
 IsCovered p slots (port_in to port index width) = ⊥
 IsCovered p slots (port_out from port index width) = ⊥

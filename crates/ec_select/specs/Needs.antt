@@ -1,5 +1,8 @@
 -- How many low bytes of what each place of temporaries holds are still needed. Code computes only these bytes.
-use Rattle.std.specs.Prelude.{ℕ, ◌≤◌, ◌==◌, ⊤, if◌then◌else◌, min, max, List, [], ◌∷◌, Option, Some, None}
+use Rattle.std.specs.Prelude.{ℕ, zero, suc, ◌≤◌, ◌==◌, ⊤, Bool, true, false, if◌then◌else◌, min, max, List, [], ◌∷◌}
+use Rattle.std.specs.Prelude.{Option, Some, None}
+use Rattle.ec_core.specs.declared.expressions.BinOp.{BinOp}
+use Rattle.ec_core.specs.declared.expressions.BinOp.TheVariants.{Add, Sub, And, Or, Xor, Shl, Shr}
 use Rattle.ec_ir.specs.declared.operations.Temp.{Temp}
 use Rattle.ec_ir.specs.Operations.{PlainIr, constant, copy, address, field, load_at, store_at, load_object}
 use Rattle.ec_ir.specs.Operations.{store_object, binary_op, unary_op, conversion, label, jump, branch_zero}
@@ -34,6 +37,32 @@ abbrev pub returned_need : Option Temp → Need
 returned_need None = nothing
 returned_need (Some t) = at_least t.at t.bytes nothing
 
+-- the low bytes of the result depend on as many low bytes of the first operand alone, and but for a shift of the second
+-- one too
+abbrev pub is_of_low_bytes : BinOp → Bool
+is_of_low_bytes Add = true
+is_of_low_bytes Sub = true
+is_of_low_bytes And = true
+is_of_low_bytes Or = true
+is_of_low_bytes Xor = true
+is_of_low_bytes Shl = true
+is_of_low_bytes op = false
+
+-- all bytes, or none where none of the result is needed
+abbrev pub all_or_none : (bytes n : ℕ) → ℕ
+all_or_none bytes zero = 0
+all_or_none bytes (suc n) = bytes
+
+-- the bytes of the first operand that n bytes of an operator's result take, and those of the second one: a count is less
+-- than 256
+abbrev pub operand_wanted : BinOp → (bytes n : ℕ) → ℕ
+operand_wanted op bytes n = if is_of_low_bytes op then n else all_or_none bytes n
+
+abbrev pub right_wanted : BinOp → (bytes n : ℕ) → ℕ
+right_wanted Shl bytes n = all_or_none 1 n
+right_wanted Shr bytes n = all_or_none 1 n
+right_wanted op bytes n = operand_wanted op bytes n
+
 -- what is needed before an operation, where `at` tells what is needed at each label, and `need` what is after the
 -- operation
 abbrev pub before : (ℕ → Need) → PlainIr → Need → Need
@@ -46,8 +75,9 @@ before at (store_at ptr space from) need = everything
 before at (load_object t o offset) need = without t.at need
 before at (store_object o offset t) need = at_least t.at t.bytes need
 before at (binary_op op ty mode to a aty b bty) need =
-    at_least a.at (wanted need to) (at_least b.at (wanted need to) (without to.at need))
-before at (unary_op op ty mode to a) need = everything
+    at_least a.at (operand_wanted op a.bytes (wanted need to))
+    (at_least b.at (right_wanted op b.bytes (wanted need to)) (without to.at need))
+before at (unary_op op ty mode to a) need = at_least a.at (wanted need to) (without to.at need)
 before at (conversion to ty mode a aty) need = at_least a.at (wanted need to) (without to.at need)
 before at (label l) need = at l
 before at (jump l) need = at l

@@ -5,7 +5,7 @@ use Rattle.ec_space.specs.declared.space.Bank.TheVariants.{Data as DataBank}
 use Rattle.ec_asm.specs.declared.pieces.Location.{Location}
 use Rattle.ec_asm.specs.declared.pieces.Location.TheVariants.{InRegisters, InMemory}
 use Rattle.ec_asm.specs.Change.{Env, Kind, Own, Object}
-use Rattle.ec_asm.specs.Pieces.{StandsFrom, Outside}
+use Rattle.ec_asm.specs.Pieces.{StandsFrom}
 use Rattle.ec_asm.specs.PieceLaws.{IsReadFirst}
 use Rattle.ec_core.specs.Layout.{leaves_of_type}
 use Rattle.ec_core.specs.Plain.{integer, PlainStorage, static, local, param, register, PlainObject, PlainProgram}
@@ -58,12 +58,17 @@ AreDifferent p l k = (l.object ≢ k.object) ⊎ (l.number ≢ k.number)
 
 -- ---- a layout: `home` is the location of each temporary, `base` its address, and `place` the address of each object
 
+-- n bytes stand apart from the work registers R8 to R13 and R26 to R31
+pub record IsClear (a n : ℕ) : Type 0 where
+  pub low : Apart a n 8 6
+  pub high : Apart a n 26 6
+
 -- The temporaries and the leaves stand in bytes of their own. Two temporaries at one place begin at one address, or
--- are apart. R0, R1 and R30 are work registers, and a result goes to R25:R24
+-- are apart. R0, R1, R8 to R13 and R26 to R31 are work registers, and a result goes to R25:R24
 pub record Layout (p : PlainProgram) (e : Env) (slots : ℕ) (home : Temp → Location) (base : Temp → ℕ)
     (place : ℕ → ℕ) : Type 0 where
   pub temps_at : (t : Temp) → IsTemp slots t → StandsFrom e (home t) t.bytes (base t) Own
-  pub temps_work : (t : Temp) → IsTemp slots t → Outside (base t) t.bytes 30
+  pub temps_work : (t : Temp) → IsTemp slots t → IsClear (base t) t.bytes
   pub temps_apart : (t u : Temp) → IsTemp slots t → IsTemp slots u → t.at ≢ u.at
       → Apart (base t) t.bytes (base u) u.bytes
   pub temps_again : (t u : Temp) → IsTemp slots t → IsTemp slots u → t.at ≡ u.at
@@ -72,7 +77,7 @@ pub record Layout (p : PlainProgram) (e : Env) (slots : ℕ) (home : Temp → Lo
   pub leaves_at : (l : NumberLeaf p)
       → StandsFrom e (location_in l.declared.storage l.object l.at) l.bytes (place l.object + l.at)
       (kind_in l.declared.storage)
-  pub leaves_work : (l : NumberLeaf p) → Outside (place l.object + l.at) l.bytes 30
+  pub leaves_work : (l : NumberLeaf p) → IsClear (place l.object + l.at) l.bytes
   pub leaves_apart : (l k : NumberLeaf p) → AreDifferent p l k
       → Apart (place l.object + l.at) l.bytes (place k.object + k.at) k.bytes
   pub temp_leaf : (t : Temp) (l : NumberLeaf p) → IsTemp slots t

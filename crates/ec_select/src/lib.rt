@@ -11,7 +11,10 @@ mod homes;
 mod laws;
 mod operations;
 
-pub use families::{binary, branch, convert, finish, move_number};
+pub use families::{
+    BinaryOperation, Family, Operands, binary, branch, combine, convert, divide_numbers, finish,
+    move_number, multiply_bytes, shift_by_count, tell, unary,
+};
 pub use homes::{Homes, home};
 pub use laws::{
     code_follows_operations, homes_are_laid_out, needed_code_is_written, selected_code_follows,

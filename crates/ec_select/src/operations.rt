@@ -11,7 +11,7 @@ ghost use Rattle.ec_select.specs.Homes.{home};
 ghost use Rattle.ec_select.specs.Places.{object_location};
 ghost use Rattle.ec_select.specs.Written.{CanBeWritten, written_code};
 
-use crate::families::{binary, branch, convert, finish, move_number};
+use crate::families::{BinaryOperation, binary, branch, convert, finish, move_number, unary};
 use crate::homes::{Homes, home};
 use ec_asm::{AsmItem, Location, copy};
 use ec_core::{CType, Obj, Storage};
@@ -80,14 +80,25 @@ pub fn operation(
             object_location(objects, *o, *offset, t.bytes),
             t.bytes,
         ),
-        Ir::Bin { op, to, a, b, .. } => binary(
-            out,
-            *op,
-            home(homes, *a),
-            home(homes, *b),
-            home(homes, *to),
-            wanted,
-        ),
+        Ir::Bin {
+            op,
+            to,
+            a,
+            aty,
+            b,
+            bty,
+            ..
+        } => {
+            let of = BinaryOperation {
+                to: *to,
+                a: *a,
+                b: *b,
+                left_signed: is_signed(aty),
+                right_signed: is_signed(bty),
+            };
+            binary(out, homes, *op, of, wanted)
+        }
+        Ir::Un { op, to, a, .. } => unary(out, *op, home(homes, *a), home(homes, *to), wanted),
         Ir::Conv { to, a, aty, .. } => convert(
             out,
             is_signed(aty),

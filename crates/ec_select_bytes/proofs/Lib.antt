@@ -3,3 +3,4 @@ pub mod Tests
 pub mod Extensions
 pub mod Straight
 pub mod Bounds
+pub mod Turned

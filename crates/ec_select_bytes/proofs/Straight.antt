@@ -12,6 +12,8 @@ use Rattle.ec_asm.specs.Items.{all_straight, code_steps, code_words, item_words,
 use Rattle.ec_asm.proofs.Hoare.{straight-append, steps-append}
 use Rattle.ec_select_bytes.specs.Values.{byte_of, constant_byte, constant_code, test_byte, tests_code, test_code, put_byte, fill_code, puts_code, extend_code}
 use Rattle.ec_select_bytes.specs.Laws.{ValuesAreStraight, ValuesTake, ValuesHave}
+use Rattle.ec_select_bytes.specs.Complements.{complement_byte, complement_code, carry_byte, carry_code, negation_code}
+use Rattle.ec_select_bytes.specs.ComplementLaws.{ComplementsAreStraight, ComplementsTake, ComplementsHave}
 
 -- code that is straight, with at most so many steps and words
 record IsShort (code : List AsmItem) (steps words : ℕ) : Type 0 where
@@ -100,3 +102,38 @@ values_take p number m n =
 pub values_have : ValuesHave
 values_have p number m n =
     ((constants p number n).words_are, (tests p n).words_are, λ signed. (extends signed p m n).words_are)
+
+-- ---- complements
+
+complement_short : (p : Location) (i : ℕ) → IsShort (complement_byte p i) 3 5
+complement_short (InRegisters r) i = record { straight = refl; steps_are = omega arith; words_are = omega arith }
+complement_short (InMemory o k) i = record { straight = refl; steps_are = omega arith; words_are = omega arith }
+
+carry_short : (p : Location) (i : ℕ) → IsShort (carry_byte p i) 3 5
+carry_short (InRegisters r) i = record { straight = refl; steps_are = omega arith; words_are = omega arith }
+carry_short (InMemory o k) i = record { straight = refl; steps_are = omega arith; words_are = omega arith }
+
+complements : (p : Location) (n : ℕ) → IsShort (complement_code p n) (3 * n) (5 * n)
+complements p n =
+    weaker _ (n * 3) (3 * n) (n * 5) (5 * n) (omega arith) (omega arith) (chained (complement_byte p) n 3 5 (complement_short p))
+
+carries : (p : Location) (n : ℕ) → IsShort (carry_code p n) (3 * n) (5 * n)
+carries p n =
+    weaker _ (n * 3) (3 * n) (n * 5) (5 * n) (omega arith) (omega arith) (chained (carry_byte p) n 3 5 (carry_short p))
+
+cleared : (p : Location) (n : ℕ) → IsShort (Plain (Eor 1 1) ∷ carry_code p n) (1 + 3 * n) (1 + 5 * n)
+cleared p n =
+    joined (Plain (Eor 1 1) ∷ []) (carry_code p n) 1 (3 * n) 1 (5 * n) (record { straight = refl; steps_are = omega arith; words_are = omega arith }) (carries p n)
+
+negations : (p : Location) (n : ℕ) → IsShort (negation_code p n) (1 + 6 * n) (1 + 10 * n)
+negations p n =
+    weaker (negation_code p n) (3 * n + (1 + 3 * n)) (1 + 6 * n) (5 * n + (1 + 5 * n)) (1 + 10 * n) (omega arith) (omega arith) (joined (complement_code p n) (Plain (Eor 1 1) ∷ carry_code p n) (3 * n) (1 + 3 * n) (5 * n) (1 + 5 * n) (complements p n) (cleared p n))
+
+pub complements_are_straight : ComplementsAreStraight
+complements_are_straight p n = ((complements p n).straight, (negations p n).straight)
+
+pub complements_take : ComplementsTake
+complements_take p n = ((complements p n).steps_are, (negations p n).steps_are)
+
+pub complements_have : ComplementsHave
+complements_have p n = ((complements p n).words_are, (negations p n).words_are)

@@ -1,0 +1,173 @@
+-- The initial values of static objects stand apart in the flash, behind the code.
+use Rattle.std.proofs.Common.{◌≡◌, inl, inr, ⊎_elim, ◌+◌, ◌<◌, ◌≤◌, ℕ, Bool, true, false, List, take, Option, Some, None, refl, sym, ap, ◌∙◌, subst, arith}
+use Rattle.std.specs.Prelude.{slice_get, option_map, unwrap_or}
+use Rattle.std.proofs.lemmas.Bool.{leb-true}
+use Rattle.ec_space.specs.declared.space.Bank.{Bank}
+use Rattle.ec_space.specs.declared.space.Bank.TheVariants.{Flash, Data}
+use Rattle.ec_asm.specs.declared.items.AsmProgram.{AsmProgram}
+use Rattle.ec_core.specs.Plain.{PlainObject, PlainProgram}
+use Rattle.ec_core.specs.Valid.{Valid}
+use Rattle.ec_core.specs.declared.programs.LeafInit.{LeafInit}
+use Rattle.ec_map.specs.Maps.{ValidMap}
+use Rattle.ec_map.specs.Regions.{end_of}
+use Rattle.ec_map.specs.declared.map.Map.{Map}
+use Rattle.ec_locate.specs.declared.entries.Kept.{Kept}
+use Rattle.ec_locate.specs.declared.entries.Kept.TheVariants.{Packed, Fixed}
+use Rattle.ec_locate.specs.declared.fixed.Block.{Block}
+use Rattle.ec_locate.specs.declared.stop.RegionName.TheVariants as regions
+use Rattle.ec_locate.specs.Apart.{AreFree}
+use Rattle.ec_locate.specs.Entries.{fixed_place, is_static, flash_size, initial_size, flash_sizes, data_sizes, initial_sizes}
+use Rattle.ec_locate.specs.Fixed.{blocks}
+use Rattle.ec_locate.specs.Image.{values_at}
+use Rattle.ec_locate.specs.Initial.{IsInitialised, values_of}
+use Rattle.ec_locate.specs.Layout.{place_by}
+use Rattle.ec_locate.specs.Placing.{layout_by}
+use Rattle.ec_locate.proofs.Stood.{Clear, turned, es, size, entry, entry_there, Stood, stood, both_stood}
+use Rattle.ec_locate.proofs.Where.{sum_until, sum_within, place_at, initial_there, free_at, apart_where, clear_of}
+
+-- ---- where the initial values of an object stand
+
+module _ (p : PlainProgram) (m : Map) where
+  -- among the initial bytes of region `tables`, among its flash objects, or where the map puts the object
+  pub data Spot (i : ℕ) (o : PlainObject) : ℕ → Type 0 where
+    initial : (at : ℕ) → initial_size (entry p m o) ≡ size p m o → at ≡ m.tables.first + flash_sizes (es p m) + initial_sizes (take i (es p m)) → Spot i o at
+    packed : (at : ℕ) → flash_size (entry p m o) ≡ size p m o → at ≡ m.tables.first + flash_sizes (take i (es p m)) → Spot i o at
+    fixed : (at : ℕ) → o.home ≡ Flash → o.external ≡ true → is_static o.storage ≡ true → fixed_place m.places.items o.name ≡ Some at → Spot i o at
+
+  pub spot : (asm : AsmProgram) (i : ℕ) (o : PlainObject) (inits : List LeafInit) → IsInitialised p i o inits → Spot i o (values_of p m asm i o)
+  spot asm i o inits h = by_home o.home refl
+    where
+      is_there : slice_get (es p m) i ≡ Some (entry p m o)
+      is_there = entry_there p m i o h.is_object
+
+      static_there : is_static o.storage ≡ true
+      static_there = rw h.is_static refl
+
+      at_flash : (Kept) → ℕ
+      at_flash k = (place_by k o.home (m.tables.first + flash_sizes (take i (es p m))) (m.vars.first + data_sizes (take i (es p m)))).offset
+
+      in_flash : o.home ≡ Flash → values_of p m asm i o ≡ at_flash (entry p m o).kept
+      in_flash f =
+          ap (λ b. values_at (layout_by p m asm) i b) f
+          ∙ ap (λ z. unwrap_or (option_map (λ q. q.offset) z) 0) (place_at (es p m) m.tables.first m.vars.first i (entry p m o) is_there)
+
+      by_place : o.home ≡ Flash → (z : Option ℕ) → fixed_place m.places.items o.name ≡ z → o.external ≡ true → Spot i o (values_of p m asm i o)
+      by_place f None z x =
+          let k : (entry p m o).kept ≡ Packed = rw (h.is_static, x, z) refl in
+          packed (values_of p m asm i o) (rw (k, f) refl) (in_flash f ∙ rw (k, f) refl)
+      by_place f (Some at) z x =
+          let k : (entry p m o).kept ≡ Fixed at = rw (h.is_static, x, z) refl in
+          let here : values_of p m asm i o ≡ at = in_flash f ∙ rw k refl in
+          subst (λ n. Spot i o n) (sym here) (fixed at f x static_there z)
+
+      by_external : o.home ≡ Flash → (b : Bool) → o.external ≡ b → Spot i o (values_of p m asm i o)
+      by_external f true x = by_place f (fixed_place m.places.items o.name) refl x
+      by_external f false x =
+          let k : (entry p m o).kept ≡ Packed = rw (h.is_static, x) refl in
+          packed (values_of p m asm i o) (rw (k, f) refl) (in_flash f ∙ rw (k, f) refl)
+
+      by_home : (b : Bank) → o.home ≡ b → Spot i o (values_of p m asm i o)
+      by_home Flash f = by_external f o.external refl
+      by_home Data f =
+          initial (values_of p m asm i o) (rw (static_there, f) refl)
+          (ap (λ b. values_at (layout_by p m asm) i b) f
+          ∙ initial_there (es p m) m.tables.first (m.tables.first + flash_sizes (es p m)) i (entry p m o) is_there
+          ∙ rw (static_there, f) refl)
+
+  -- ---- one behind the other
+
+  -- what stands in region `tables` and nowhere else
+  record InTables (at size : ℕ) : Type 0 where
+    from_there : m.tables.first ≤ at
+    ends : at + size ≤ end_of m.tables
+
+  -- what the map places stands in the flash, outside of both regions
+  record Outside (at size : ℕ) : Type 0 where
+    within : at + size ≤ 32768
+    code : Clear at size m.code.first m.code.size
+    tables : Clear at size m.tables.first m.tables.size
+
+  module _ (valid : Valid p m.io) (room : flash_sizes (es p m) + initial_sizes (es p m) ≤ m.tables.size)
+      (free : AreFree m (blocks (es p m) p.objects m.places.items)) where
+    initial_in : (i : ℕ) (o : PlainObject) (at : ℕ) → slice_get p.objects i ≡ Some o → initial_size (entry p m o) ≡ size p m o
+        → at ≡ m.tables.first + flash_sizes (es p m) + initial_sizes (take i (es p m)) → InTables at (size p m o)
+    initial_in i o at q s e =
+        let w = sum_within initial_size (es p m) i (entry p m o) (entry_there p m i o q) in
+        record { from_there = omega (arith, e); ends = omega (arith, e, w, s, room) }
+
+    packed_in : (i : ℕ) (o : PlainObject) (at : ℕ) → slice_get p.objects i ≡ Some o → flash_size (entry p m o) ≡ size p m o
+        → at ≡ m.tables.first + flash_sizes (take i (es p m)) → InTables at (size p m o)
+    packed_in i o at q s e =
+        let w = sum_within flash_size (es p m) i (entry p m o) (entry_there p m i o q) in
+        record { from_there = omega (arith, e); ends = omega (arith, e, w, s, room) }
+
+    outside : (o : PlainObject) (at : ℕ) → Stood p m Flash o at → Outside at (size p m o)
+    outside o at s =
+        let b : Block = record { bank = Flash; at = at; size = size p m o } in
+        let (inside, unmet) = free_at m (blocks (es p m) p.objects m.places.items) s.found.number b free s.is_block in
+        let (code, tables) = clear_of b m.code regions.Code m.tables regions.Tables unmet in
+        record {
+          within = leb-true (at + size p m o) 32768 inside;
+          code = turned m.code.first m.code.size at (size p m o) (apart_where at (size p m o) m.code.first m.code.size code);
+          tables = turned m.tables.first m.tables.size at (size p m o) (apart_where at (size p m o) m.tables.first m.tables.size tables);
+        }
+
+    beside : (at size to many : ℕ) → Outside at size → InTables to many → Clear at size to many
+    beside at size to many a b =
+        let from = b.from_there in
+        let ends = b.ends in
+        ⊎_elim (λ l. inl (omega (arith, l, from))) (λ l. inr (omega (arith, l, ends))) a.tables
+
+    pub spots_apart : (i k : ℕ) (o x : PlainObject) (at to : ℕ) → i < k → slice_get p.objects i ≡ Some o → slice_get p.objects k ≡ Some x
+        → Spot i o at → Spot k x to → Clear at (size p m o) to (size p m x)
+    spots_apart i k o x at to l q r (initial _ a e) (initial _ b f) =
+        let w = sum_until initial_size (es p m) i k (entry p m o) (entry_there p m i o q) l in
+        inl (omega (arith, w, a, e, f))
+    spots_apart i k o x at to l q r (packed _ a e) (packed _ b f) =
+        let w = sum_until flash_size (es p m) i k (entry p m o) (entry_there p m i o q) l in
+        inl (omega (arith, w, a, e, f))
+    spots_apart i k o x at to l q r (initial _ a e) (packed _ b f) =
+        let w = sum_within flash_size (es p m) k (entry p m x) (entry_there p m k x r) in
+        inr (omega (arith, w, b, e, f))
+    spots_apart i k o x at to l q r (packed _ a e) (initial _ b f) =
+        let w = sum_within flash_size (es p m) i (entry p m o) (entry_there p m i o q) in
+        inl (omega (arith, w, a, e, f))
+    spots_apart i k o x at to l q r (fixed _ a eo so z) (initial _ b f) =
+        beside at (size p m o) to (size p m x) (outside o at (stood p m valid free Flash i o at q a eo so z)) (initial_in k x to r b f)
+    spots_apart i k o x at to l q r (fixed _ a eo so z) (packed _ b f) =
+        beside at (size p m o) to (size p m x) (outside o at (stood p m valid free Flash i o at q a eo so z)) (packed_in k x to r b f)
+    spots_apart i k o x at to l q r (initial _ b f) (fixed _ a ex sx z) =
+        turned to (size p m x) at (size p m o) (beside to (size p m x) at (size p m o) (outside x to (stood p m valid free Flash k x to r a ex sx z)) (initial_in i o at q b f))
+    spots_apart i k o x at to l q r (packed _ b f) (fixed _ a ex sx z) =
+        turned to (size p m x) at (size p m o) (beside to (size p m x) at (size p m o) (outside x to (stood p m valid free Flash k x to r a ex sx z)) (packed_in i o at q b f))
+    spots_apart i k o x at to l q r (fixed _ a eo so z) (fixed _ b ex sx w) =
+        both_stood p m valid free Flash i k o x at to l q r (stood p m valid free Flash i o at q a eo so z) (stood p m valid free Flash k x to r b ex sx w)
+
+    -- in the flash, behind the code
+    pub record Room (at size : ℕ) : Type 0 where
+      pub behind : m.code.size ≤ at
+      pub within : at + size ≤ 32768
+
+    pub room_of : (map_valid : ValidMap m) (i : ℕ) (o : PlainObject) (at : ℕ) → slice_get p.objects i ≡ Some o → 1 ≤ size p m o → Spot i o at → Room at (size p m o)
+    room_of map_valid i o at q some s = by_spot s
+      where
+        in_tables : InTables at (size p m o) → Room at (size p m o)
+        in_tables t =
+            let from = t.from_there in
+            let ends = t.ends in
+            let flash = map_valid.regions_valid.tables.ends in
+            let least = map_valid.regions_valid.tables.some in
+            let start = map_valid.regions_valid.start in
+            let most = map_valid.regions_valid.code.some in
+            ⊎_elim (λ a. record { behind = omega (arith, a, from, start); within = omega (arith, ends, flash) })
+            (λ a. absurd (omega (arith, a, start, least))) map_valid.regions_valid.flash_apart
+
+        out_of_code : Outside at (size p m o) → Room at (size p m o)
+        out_of_code t =
+            let start = map_valid.regions_valid.start in
+            ⊎_elim (λ a. absurd (omega (arith, a, start, some))) (λ a. record { behind = omega (arith, a, start); within = t.within }) t.code
+
+        by_spot : Spot i o at → Room at (size p m o)
+        by_spot (initial _ b f) = in_tables (initial_in i o at q b f)
+        by_spot (packed _ b f) = in_tables (packed_in i o at q b f)
+        by_spot (fixed _ a eo so z) = out_of_code (outside o at (stood p m valid free Flash i o at q a eo so z))

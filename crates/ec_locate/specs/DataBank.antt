@@ -1,0 +1,54 @@
+-- What a placed program keeps in the data bank, by the numbers of its items, stands apart.
+use Rattle.std.specs.Prelude.{ℕ, ◌≡◌, ◌≢◌, ◌⊎◌, ◌+◌, ◌≤◌, Some, slice_get}
+use Rattle.ec_space.specs.declared.space.Bank.TheVariants.{Data}
+use Rattle.ec_space.specs.declared.space.Place.{Place}
+use Rattle.ec_asm.specs.Valid.{ValidAsm}
+use Rattle.ec_asm.specs.declared.items.AsmProgram.{AsmProgram}
+use Rattle.ec_core.specs.Layout.{size_of_type}
+use Rattle.ec_core.specs.Plain.{PlainStorage, static, local, param, register, PlainObject, PlainProgram}
+use Rattle.ec_core.specs.Valid.{Valid}
+use Rattle.ec_map.specs.Maps.{ValidMap}
+use Rattle.ec_map.specs.Regions.{end_of}
+use Rattle.ec_map.specs.declared.map.Map.{Map}
+use Rattle.ec_locate.specs.Code.{address_of}
+use Rattle.ec_locate.specs.Entries.{frame_size}
+use Rattle.ec_locate.specs.Placing.{IsLocated, object_sizes, layout_by, last_of}
+use Rattle.ec_locate.specs.declared.placing.Located.{Located}
+
+-- a number names so many bytes from a data address on: an object, the scratch memory of a function, or the work bytes
+pub data Names (p : PlainProgram) (asm : AsmProgram) (l : Located) : (number at size : ℕ) → Type 0 where
+  an_object : (i : ℕ) (o : PlainObject) (q : Place) → slice_get p.objects i ≡ Some o → o.home ≡ Data
+      → slice_get l.places.items i ≡ Some q → Names p asm l i q.offset (size_of_type p.structs o.ty)
+  scratch : (f frame at : ℕ) → slice_get asm.frames.items f ≡ Some frame → slice_get l.frames.items f ≡ Some at
+      → Names p asm l (1024 + f) at (frame_size frame)
+  work : Names p asm l 1280 l.work 64
+
+-- in the SRAM of the core `small`
+abbrev pub IsInMemory : (at size : ℕ) → Type 0
+IsInMemory at size = (256 ≤ at) × (at + size ≤ 2304)
+
+-- a named register stands in its registers, and any other object in memory
+abbrev pub StandsIn : PlainStorage → (at size : ℕ) → Type 0
+StandsIn (static inits) at size = IsInMemory at size
+StandsIn (local f) at size = IsInMemory at size
+StandsIn (param f) at size = IsInMemory at size
+StandsIn (register first) at size = (at ≡ first) × (2 ≤ first) × (first + size ≤ 8)
+
+-- What different numbers name stands apart, and apart from the stack. It stands in memory, or in registers, and the
+-- address of each byte, and of the end, is the one that the code has
+pub record DataStands (p : PlainProgram) (m : Map) (asm : AsmProgram) (l : Located) : Type 0 where
+  pub apart : (n k at to size many : ℕ) → n ≢ k → Names p asm l n at size → Names p asm l k to many
+      → (at + size ≤ to) ⊎ (to + many ≤ at)
+  pub stack : (n at size : ℕ) → Names p asm l n at size → (at + size ≤ m.stack.first) ⊎ (end_of m.stack ≤ at)
+  pub objects : (i : ℕ) (o : PlainObject) (q : Place) → slice_get p.objects i ≡ Some o → o.home ≡ Data
+      → slice_get l.places.items i ≡ Some q → StandsIn o.storage q.offset (size_of_type p.structs o.ty)
+  pub frames : (f frame at : ℕ) → slice_get asm.frames.items f ≡ Some frame → slice_get l.frames.items f ≡ Some at
+      → IsInMemory at (frame_size frame)
+  pub work : IsInMemory l.work 64
+  pub address : (n at size i : ℕ) → Names p asm l n at size → i ≤ size
+      → address_of (layout_by p m asm) (last_of m) n i ≡ at + i
+
+abbrev pub DataStandsApart : Type 0
+DataStandsApart =
+    (p : PlainProgram) (m : Map) (asm : AsmProgram) (l : Located) → Valid p m.io → ValidMap m
+    → ValidAsm (object_sizes p) 64 asm → IsLocated p m asm l → DataStands p m asm l

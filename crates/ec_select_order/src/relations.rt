@@ -1,0 +1,79 @@
+//! Relations of two numbers of several bytes.
+ghost use Rattle.std.specs.Prelude.{◌≡◌, ◌++◌, ◌∷◌, [], pos, OnOk, OnErr};
+ghost use Rattle.ec_runs.specs.Behaviours.{BeginWith};
+ghost use Rattle.ec_asm.specs.Items.{branch_if};
+ghost use Rattle.ec_asm.specs.Pieces.{HasBytes};
+ghost use Rattle.ec_select_order.specs.Relations.{flag_of, is_set, truth_code, relation_code};
+
+use ec_asm::{AsmItem, Location, compare};
+use ec_isa::Instr;
+use ec_space::{NoMemory, Seq};
+
+/// How one number may stand to another one.
+#[derive(Clone, Copy)]
+pub enum Relation {
+    Less,
+    NotLess,
+    Equal,
+    NotEqual,
+}
+
+/// The flag that a comparison leaves for a relation: S for signed numbers and C for unsigned ones that are less, Z for
+/// equal ones.
+fn flag_of(relation: Relation, signed: bool) -> u8
+    ensures { result ≡ flag_of relation signed }
+{
+    match relation {
+        Relation::Less | Relation::NotLess => if signed { 4 } else { 0 },
+        Relation::Equal | Relation::NotEqual => 1,
+    }
+}
+
+/// Whether the relation holds where that flag is 1.
+fn is_set(relation: Relation) -> bool
+    ensures { result ≡ is_set relation }
+{
+    matches!(relation, Relation::Less | Relation::Equal)
+}
+
+/// A branch over one word, where a flag is 1 or where it is 0.
+fn skip_if(set: bool, flag: u8) -> Instr
+    ensures { result ≡ branch_if set flag (pos 1) }
+{
+    if set {
+        Instr::Brbs { s: flag, k: 1 }
+    } else {
+        Instr::Brbc { s: flag, k: 1 }
+    }
+}
+
+/// Appends code that leaves in R30 what the flags tell of a relation: 1 where it holds, and else 0.
+fn truth(out: &mut Seq<AsmItem>, relation: Relation, signed: bool) -> Result<(), NoMemory>
+    ensures ok { OnOk result (out.new.items ≡ out.old.items ++ truth_code relation signed) }
+    ensures err { OnErr result (out.new.items ≡ out.old.items) }
+{
+    out.extend_from_slice(&[
+        AsmItem::Plain(Instr::Ldi { d: 30, k: 1 }),
+        AsmItem::Plain(skip_if(is_set(relation), flag_of(relation, signed))),
+        AsmItem::Plain(Instr::Ldi { d: 30, k: 0 }),
+    ])
+}
+
+/// Appends code that leaves 1 in R30 where the number at `left` stands in the relation to that at `right`, and else 0.
+/// Where memory runs out, a part of the code is appended.
+pub fn relate(
+    out: &mut Seq<AsmItem>,
+    relation: Relation,
+    signed: bool,
+    left: Location,
+    right: Location,
+    bytes: u8,
+) -> Result<(), NoMemory>
+    requires left { HasBytes left bytes }
+    requires right { HasBytes right bytes }
+    ensures ok { OnOk result (out.new.items ≡ out.old.items ++ relation_code relation signed left right bytes) }
+    ensures err { OnErr result (BeginWith out.old.items out.new.items) }
+{
+    compare(out, right, left, bytes)?;
+    truth(out, relation, signed)
+}

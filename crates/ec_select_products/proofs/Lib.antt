@@ -1,0 +1,4 @@
+pub mod Puts
+pub mod Signs
+pub mod Multiplied
+pub mod Words

@@ -1,0 +1,9 @@
+pub mod Rotates
+pub mod Marks
+pub mod Words
+pub mod Long
+pub mod Turns
+pub mod Loops
+pub mod Negated
+pub mod Stages
+pub mod Signed

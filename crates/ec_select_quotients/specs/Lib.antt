@@ -1,0 +1,4 @@
+pub mod Quotients
+pub mod Signs
+pub mod Laws
+pub mod SignLaws

@@ -1,0 +1,4 @@
+pub mod Words
+pub mod Halves
+pub mod Once
+pub mod Loops

@@ -1,0 +1,42 @@
+-- Programs whose `main` returns 0: one without objects, and one with four variables.
+use Rattle.std.specs.Prelude.{ℕ, pos, Bool, true, false, List, [], ◌∷◌, Some}
+use Rattle.ec_space.specs.declared.space.Bank.{Bank}
+use Rattle.ec_space.specs.declared.space.Bank.TheVariants as bank
+use Rattle.ec_space.specs.declared.space.SpaceId.{SpaceId}
+use Rattle.ec_space.specs.declared.space.SpaceId.TheVariants as space
+use Rattle.ec_core.specs.Plain.{expression, number, statement, return_value, static, PlainObject, PlainFunction, PlainProgram}
+use Rattle.ec_core.specs.Typing.{int}
+use Rattle.ec_core.specs.declared.programs.LeafInit.TheVariants.{Number}
+
+-- an int variable with an initial value, and a name of one byte
+abbrev pub variable : (name : ℕ) (external : Bool) → SpaceId → Bank → (value : ℕ) → PlainObject
+variable name external space home value = record {
+  name = name ∷ [];
+  unit = 0;
+  external = external;
+  ty = int;
+  space = space;
+  home = home;
+  const = false;
+  storage = static (Number (pos value) ∷ []);
+}
+
+-- q, r and t, which is kept in flash, are external, and s is not
+abbrev pub variables : Bool → List PlainObject
+variables false = []
+variables true =
+    variable 113 true space.Data bank.Data 7 ∷ variable 114 true space.Data bank.Data 8
+    ∷ variable 116 true space.Flash bank.Flash 9 ∷ variable 115 false space.Data bank.Data 5 ∷ []
+
+-- int main(void) { return 0; }
+abbrev pub main_function : PlainFunction
+main_function = record {
+  name = [];
+  unit = 0;
+  returns = int;
+  params = [];
+  body = statement 0 0 (return_value (Some (expression int (record { saturate = false }) (number (pos 0)))));
+}
+
+abbrev pub sample : Bool → PlainProgram
+sample some = record { structs = []; objects = variables some; functions = main_function ∷ []; main = 0 }
