@@ -1,5 +1,6 @@
 -- The definitions that the contracts of the intermediate program cite.
 pub mod Costs
+pub mod Integers
 pub mod Laws
 pub mod Meaning
 pub mod Operations

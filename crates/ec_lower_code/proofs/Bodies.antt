@@ -18,7 +18,7 @@ use Rattle.ec_ir.specs.Meaning.{Mach, machine, Place, find}
 use Rattle.ec_ir.specs.Operations.{PlainIr, label, jump, branch_zero, return_from}
 use Rattle.ec_ir.specs.Temporaries.{Temps}
 use Rattle.ec_lower_code.specs.Code.{temp, expr_labels, optional_labels, option_stmt_labels, stmt_labels, expr_code, init_code, test_code, last_code, leaves_of_object, stmt_code, kind_code, option_stmt_code, stmts_code}
-use Rattle.ec_lower_code.specs.Parts.{IsExpr, AreExprs, IsStmt, IsKind, IsOptionStmt, AreStmts}
+use Rattle.ec_lower_code.specs.Parts.{IsNumericOrVoid, IsExpr, AreExprs, IsStmt, IsKind, IsOptionStmt, AreStmts}
 use Rattle.ec_lower_code.proofs.Callees.{IsOther}
 use Rattle.ec_lower_code.proofs.Behind.{expr_behind, test_behind, last_behind, stmt_behind, option_behind}
 use Rattle.ec_lower_code.proofs.Expressions.{W, value, Has, Tests, tests}
@@ -46,7 +46,7 @@ module _ (wd : World) (sc : Scene wd) (ret : Returns wd sc) where
   Keeps p m rest out on d o = Typed wd sc ret wd.n p m rest out on d o
 
   -- a condition before a branch
-  condition_runs : (c : PlainExpr) (l d : ℕ) (s : State) (m : Mach) (rest : List PlainIr) → IsExpr (IsOther wd.program) c → ValidExpr wd.program wd.io sc.f c → IsScalar (type_of_expr c) → IsTypedState wd.program s → Stands sc.code (expr_code wd.program c l 0 rest) → Match (homes wd) d s m → Does (W wd sc) wd.n (Spots (expr_code wd.program c l 0 rest)) m (to_rest (W wd sc) rest) (Tests wd sc (type_of_expr c) 0 d m.temps) (condition (set wd) c (value wd sc c s))
+  condition_runs : (c : PlainExpr) (l d : ℕ) (s : State) (m : Mach) (rest : List PlainIr) → IsExpr IsNumericOrVoid (IsOther wd.program) c → ValidExpr wd.program wd.io sc.f c → IsScalar (type_of_expr c) → IsTypedState wd.program s → Stands sc.code (expr_code wd.program c l 0 rest) → Match (homes wd) d s m → Does (W wd sc) wd.n (Spots (expr_code wd.program c l 0 rest)) m (to_rest (W wd sc) rest) (Tests wd sc (type_of_expr c) 0 d m.temps) (condition (set wd) c (value wd sc c s))
   condition_runs c l d s m rest p v i st stands h = tests wd sc wd.n 0 d m.temps c s (expr_code wd.program c l 0 rest) rest m i (whole_runs wd sc ret wd.n c l d s m rest (omega arith) p v st stands h)
 
   -- a branch of a statement: to its first part, or to a label
@@ -84,7 +84,7 @@ module _ (wd : World) (sc : Scene wd) (ret : Returns wd sc) where
       (g.0, record { match = match_state (homes wd) d s u.temps (worked (op_steps i) u.state) g.0 g.1 (spent_on (homes wd) (d + return_of (Some e)) d i u.temps s u (omega (arith, a, size)) r.has.match); back = g.2 }, g.3))
 
   -- a declaration, with a value for each leaf or none
-  declared_runs : (o : ℕ) (es : PlainExprs) (l d : ℕ) (rest out on : List PlainIr) → AreExprs (IsOther wd.program) es → ValidKind wd.program wd.io sc.f ret.returns true (declare o es) → Stands sc.code (kind_code wd.program (declare o es) l 0 0 rest) → (s : State) (m : Mach) → Match (homes wd) d s m → IsTypedState wd.program s → Goes (init_code wd.program (leaves_of_object wd.program o) o es l rest) m rest out on d (initialising (set wd) calls o 0 es (begun wd.program o s))
+  declared_runs : (o : ℕ) (es : PlainExprs) (l d : ℕ) (rest out on : List PlainIr) → AreExprs IsNumericOrVoid (IsOther wd.program) es → ValidKind wd.program wd.io sc.f ret.returns true (declare o es) → Stands sc.code (kind_code wd.program (declare o es) l 0 0 rest) → (s : State) (m : Mach) → Match (homes wd) d s m → IsTypedState wd.program s → Goes (init_code wd.program (leaves_of_object wd.program o) o es l rest) m rest out on d (initialising (set wd) calls o 0 es (begun wd.program o s))
   declared_runs o es l d rest out on p v stands s m h st =
       let x = some_and (slice_get wd.program.objects o) (IsDeclared wd.program wd.io sc.f es) v.0 in
       by_values x.0 x.1 x.2.0 x.2.1 (leaves_are wd.program o x.0 x.1)
@@ -107,12 +107,12 @@ module _ (wd : World) (sc : Scene wd) (ret : Returns wd sc) where
           (subst (λ (q : List PlainLeaf). Stands sc.code (init_code wd.program q o es l rest)) g stands) (begun wd.program o s) m begins typed)
 
   mutual
-    pub stmt_runs : (a : PlainStmt) (in_loop : Bool) (l lo lc d : ℕ) (rest out on : List PlainIr) → IsStmt (IsOther wd.program) a → ValidStmt wd.program wd.io sc.f ret.returns in_loop a → Stands sc.code (stmt_code wd.program a l lo lc rest) → find lo sc.code ≡ Some out → find lc sc.code ≡ Some on → (s : State) (m : Mach) → Match (homes wd) d s m → IsTypedState wd.program s → Keeps (stmt_code wd.program a l lo lc rest) m rest out on d (effect_of (set wd) calls wd.n a s)
+    pub stmt_runs : (a : PlainStmt) (in_loop : Bool) (l lo lc d : ℕ) (rest out on : List PlainIr) → IsStmt IsNumericOrVoid (IsOther wd.program) a → ValidStmt wd.program wd.io sc.f ret.returns in_loop a → Stands sc.code (stmt_code wd.program a l lo lc rest) → find lo sc.code ≡ Some out → find lc sc.code ≡ Some on → (s : State) (m : Mach) → Match (homes wd) d s m → IsTypedState wd.program s → Keeps (stmt_code wd.program a l lo lc rest) m rest out on d (effect_of (set wd) calls wd.n a s)
     stmt_runs (statement unit k kind) in_loop l lo lc d rest out on p v stands fo fc s m h st =
         typed_way wd sc ret (IsExitOf wd.program ret.returns) wd.n (kind_code wd.program kind l lo lc rest) m rest out on d (effect_of (set wd) calls wd.n (statement unit k kind) s) ((law wd).statements wd.n sc.depth sc.f ret.returns in_loop (statement unit k kind) s v st)
         (kind_runs kind in_loop l lo lc d rest out on p v stands fo fc s m h st)
 
-    kind_runs : (kind : PlainKind) (in_loop : Bool) (l lo lc d : ℕ) (rest out on : List PlainIr) → IsKind (IsOther wd.program) kind → ValidKind wd.program wd.io sc.f ret.returns in_loop kind → Stands sc.code (kind_code wd.program kind l lo lc rest) → find lo sc.code ≡ Some out → find lc sc.code ≡ Some on → (s : State) (m : Mach) → Match (homes wd) d s m → IsTypedState wd.program s → Goes (kind_code wd.program kind l lo lc rest) m rest out on d (kind_effect (set wd) calls wd.n kind s)
+    kind_runs : (kind : PlainKind) (in_loop : Bool) (l lo lc d : ℕ) (rest out on : List PlainIr) → IsKind IsNumericOrVoid (IsOther wd.program) kind → ValidKind wd.program wd.io sc.f ret.returns in_loop kind → Stands sc.code (kind_code wd.program kind l lo lc rest) → find lo sc.code ≡ Some out → find lc sc.code ≡ Some on → (s : State) (m : Mach) → Match (homes wd) d s m → IsTypedState wd.program s → Goes (kind_code wd.program kind l lo lc rest) m rest out on d (kind_effect (set wd) calls wd.n kind s)
     kind_runs empty in_loop l lo lc d rest out on p v stands fo fc s m h st = at_rest wd sc ret d rest out on wd.n s m h
     kind_runs (evaluate e) in_loop l lo lc d rest out on p v stands fo fc s m h st = done_runs wd sc ret wd.n e l d s m rest out on (omega arith) p v st stands h
     kind_runs (block ss) in_loop l lo lc d rest out on p v stands fo fc s m h st =
@@ -222,7 +222,7 @@ module _ (wd : World) (sc : Scene wd) (ret : Returns wd sc) where
         (λ s1 u h1 st1. (u, record { match = h1; back = tt }, stays (W wd sc) (Spots on) u)))
 
     -- the first part of a `for`: the objects of a block live on
-    first_runs : (a : OptionPlainStmt) (in_loop : Bool) (l lo lc d : ℕ) (rest out on : List PlainIr) → IsOptionStmt (IsOther wd.program) a → ValidOptionStmt wd.program wd.io sc.f ret.returns in_loop a → Stands sc.code (option_stmt_code wd.program a l lo lc rest) → find lo sc.code ≡ Some out → find lc sc.code ≡ Some on → (s : State) (m : Mach) → Match (homes wd) d s m → IsTypedState wd.program s → Goes (option_stmt_code wd.program a l lo lc rest) m rest out on d (first_effect (set wd) calls wd.n a s)
+    first_runs : (a : OptionPlainStmt) (in_loop : Bool) (l lo lc d : ℕ) (rest out on : List PlainIr) → IsOptionStmt IsNumericOrVoid (IsOther wd.program) a → ValidOptionStmt wd.program wd.io sc.f ret.returns in_loop a → Stands sc.code (option_stmt_code wd.program a l lo lc rest) → find lo sc.code ≡ Some out → find lc sc.code ≡ Some on → (s : State) (m : Mach) → Match (homes wd) d s m → IsTypedState wd.program s → Goes (option_stmt_code wd.program a l lo lc rest) m rest out on d (first_effect (set wd) calls wd.n a s)
     first_runs no_stmt in_loop l lo lc d rest out on p v stands fo fc s m h st = at_rest wd sc ret d rest out on wd.n s m h
     first_runs (a_stmt (statement unit k empty)) in_loop l lo lc d rest out on p v stands fo fc s m h st = kind_runs empty in_loop l lo lc d rest out on p v stands fo fc s m h st
     first_runs (a_stmt (statement unit k (evaluate e))) in_loop l lo lc d rest out on p v stands fo fc s m h st = kind_runs (evaluate e) in_loop l lo lc d rest out on p v stands fo fc s m h st
@@ -236,7 +236,7 @@ module _ (wd : World) (sc : Scene wd) (ret : Returns wd sc) where
     first_runs (a_stmt (statement unit k continue_loop)) in_loop l lo lc d rest out on p v stands fo fc s m h st = kind_runs continue_loop in_loop l lo lc d rest out on p v stands fo fc s m h st
     first_runs (a_stmt (statement unit k (return_value e))) in_loop l lo lc d rest out on p v stands fo fc s m h st = kind_runs (return_value e) in_loop l lo lc d rest out on p v stands fo fc s m h st
 
-    stmts_runs : (ss : PlainStmts) (in_loop : Bool) (l lo lc d : ℕ) (rest out on : List PlainIr) → AreStmts (IsOther wd.program) ss → ValidStmts wd.program wd.io sc.f ret.returns in_loop ss → Stands sc.code (stmts_code wd.program ss l lo lc rest) → find lo sc.code ≡ Some out → find lc sc.code ≡ Some on → (s : State) (m : Mach) → Match (homes wd) d s m → IsTypedState wd.program s → Goes (stmts_code wd.program ss l lo lc rest) m rest out on d (effects_of (set wd) calls wd.n ss s)
+    stmts_runs : (ss : PlainStmts) (in_loop : Bool) (l lo lc d : ℕ) (rest out on : List PlainIr) → AreStmts IsNumericOrVoid (IsOther wd.program) ss → ValidStmts wd.program wd.io sc.f ret.returns in_loop ss → Stands sc.code (stmts_code wd.program ss l lo lc rest) → find lo sc.code ≡ Some out → find lc sc.code ≡ Some on → (s : State) (m : Mach) → Match (homes wd) d s m → IsTypedState wd.program s → Goes (stmts_code wd.program ss l lo lc rest) m rest out on d (effects_of (set wd) calls wd.n ss s)
     stmts_runs last_stmt in_loop l lo lc d rest out on p v stands fo fc s m h st = at_rest wd sc ret d rest out on wd.n s m h
     stmts_runs (next_stmt a ss) in_loop l lo lc d rest out on p v stands fo fc s m h st =
         let more_code = stmts_code wd.program ss (l + stmt_labels a) lo lc rest in

@@ -6,7 +6,7 @@ use Rattle.ec_core.specs.Needs.{expr_calls, node_calls, exprs_calls, optional_ca
 use Rattle.ec_core.specs.Plain.{PlainExpr, expression, PlainNode, number, null, load, address_of, unary, binary, convert, assign, compound, step, logical_not, logical_and, logical_or, conditional, comma, call, io, group, PlainPlace, object, deref, member, PlainExprs, last_expr, next_expr, PlainStmt, statement, PlainKind, empty, evaluate, block, declare, branch, while_loop, do_loop, for_loop, break_loop, continue_loop, return_value, OptionPlainStmt, no_stmt, a_stmt, PlainStmts, last_stmt, next_stmt, PlainFunction, PlainProgram}
 use Rattle.ec_core.specs.Valid.{Reaches, calls, calls_through, Valid}
 use Rattle.ec_iohw.specs.declared.table.IoTable.{IoTable}
-use Rattle.ec_lower_code.specs.Parts.{IsAnyFunction, IsNamed, IsExpr, IsNode, AreExprs, IsOptional, IsStmt, IsKind, IsOptionStmt, AreStmts, IsLowered}
+use Rattle.ec_lower_code.specs.Parts.{IsNumericOrVoid, IsAnyFunction, IsNamed, IsExpr, IsNode, AreExprs, IsOptional, IsStmt, IsKind, IsOptionStmt, AreStmts, IsLowered}
 use Rattle.ec_lower_code.proofs.Facts.{all_at}
 
 -- a function that main reaches, and that is not main
@@ -22,10 +22,10 @@ module _ (C : ℕ → Type 0) where
   AllOf numbers = (k : ℕ) → Contains numbers k → C k
 
   mutual
-    expr_suits : (e : PlainExpr) (rest : List ℕ) → IsExpr IsAnyFunction e → AllOf (expr_calls e rest) → IsExpr C e × AllOf rest
+    expr_suits : (e : PlainExpr) (rest : List ℕ) → IsExpr IsNumericOrVoid IsAnyFunction e → AllOf (expr_calls e rest) → IsExpr IsNumericOrVoid C e × AllOf rest
     expr_suits (expression ty mode node) rest p h = let x = node_suits node rest p.1 h in ((p.0, x.0), x.1)
 
-    node_suits : (node : PlainNode) (rest : List ℕ) → IsNode IsAnyFunction node → AllOf (node_calls node rest) → IsNode C node × AllOf rest
+    node_suits : (node : PlainNode) (rest : List ℕ) → IsNode IsNumericOrVoid IsAnyFunction node → AllOf (node_calls node rest) → IsNode IsNumericOrVoid C node × AllOf rest
     node_suits (number n) rest p h = (tt, h)
     node_suits null rest p h = absurd p
     node_suits (load (object o)) rest p h = (tt, h)
@@ -71,22 +71,22 @@ module _ (C : ℕ → Type 0) where
     node_suits (io op port index value) rest p h = absurd p
     node_suits (group acquire g) rest p h = absurd p
 
-    exprs_suit : (es : PlainExprs) (rest : List ℕ) → AreExprs IsAnyFunction es → AllOf (exprs_calls es rest) → AreExprs C es × AllOf rest
+    exprs_suit : (es : PlainExprs) (rest : List ℕ) → AreExprs IsNumericOrVoid IsAnyFunction es → AllOf (exprs_calls es rest) → AreExprs IsNumericOrVoid C es × AllOf rest
     exprs_suit last_expr rest p h = (tt, h)
     exprs_suit (next_expr e es) rest p h =
         let x = expr_suits e (exprs_calls es rest) p.0 h in
         let y = exprs_suit es rest p.1 x.1 in
         ((x.0, y.0), y.1)
 
-  optional_suits : (e : Option PlainExpr) (rest : List ℕ) → IsOptional IsAnyFunction e → AllOf (optional_calls e rest) → IsOptional C e × AllOf rest
+  optional_suits : (e : Option PlainExpr) (rest : List ℕ) → IsOptional IsNumericOrVoid IsAnyFunction e → AllOf (optional_calls e rest) → IsOptional IsNumericOrVoid C e × AllOf rest
   optional_suits None rest p h = (tt, h)
   optional_suits (Some e) rest p h = expr_suits e rest p h
 
   mutual
-    stmt_suits : (a : PlainStmt) (rest : List ℕ) → IsStmt IsAnyFunction a → AllOf (stmt_calls a rest) → IsStmt C a × AllOf rest
+    stmt_suits : (a : PlainStmt) (rest : List ℕ) → IsStmt IsNumericOrVoid IsAnyFunction a → AllOf (stmt_calls a rest) → IsStmt IsNumericOrVoid C a × AllOf rest
     stmt_suits (statement unit at kind) rest p h = kind_suits kind rest p h
 
-    kind_suits : (kind : PlainKind) (rest : List ℕ) → IsKind IsAnyFunction kind → AllOf (kind_calls kind rest) → IsKind C kind × AllOf rest
+    kind_suits : (kind : PlainKind) (rest : List ℕ) → IsKind IsNumericOrVoid IsAnyFunction kind → AllOf (kind_calls kind rest) → IsKind IsNumericOrVoid C kind × AllOf rest
     kind_suits empty rest p h = (tt, h)
     kind_suits (evaluate e) rest p h = expr_suits e rest p h
     kind_suits (block ss) rest p h = stmts_suit ss rest p h
@@ -114,11 +114,11 @@ module _ (C : ℕ → Type 0) where
     kind_suits continue_loop rest p h = (tt, h)
     kind_suits (return_value e) rest p h = optional_suits e rest p h
 
-    option_stmt_suits : (a : OptionPlainStmt) (rest : List ℕ) → IsOptionStmt IsAnyFunction a → AllOf (option_stmt_calls a rest) → IsOptionStmt C a × AllOf rest
+    option_stmt_suits : (a : OptionPlainStmt) (rest : List ℕ) → IsOptionStmt IsNumericOrVoid IsAnyFunction a → AllOf (option_stmt_calls a rest) → IsOptionStmt IsNumericOrVoid C a × AllOf rest
     option_stmt_suits no_stmt rest p h = (tt, h)
     option_stmt_suits (a_stmt a) rest p h = stmt_suits a rest p h
 
-    stmts_suit : (ss : PlainStmts) (rest : List ℕ) → AreStmts IsAnyFunction ss → AllOf (stmts_calls ss rest) → AreStmts C ss × AllOf rest
+    stmts_suit : (ss : PlainStmts) (rest : List ℕ) → AreStmts IsNumericOrVoid IsAnyFunction ss → AllOf (stmts_calls ss rest) → AreStmts IsNumericOrVoid C ss × AllOf rest
     stmts_suit last_stmt rest p h = (tt, h)
     stmts_suit (next_stmt a ss) rest p h =
         let x = stmt_suits a (stmts_calls ss rest) p.0 h in
@@ -135,9 +135,9 @@ callee_reached program h k f is (inl e) c = subst (Reaches program k) e (calls h
 callee_reached program h k f is (inr r) c = reached_on program h k f is c program.main r
 
 -- a function that a run is in calls others than main
-pub run_parts : (program : PlainProgram) (table : IoTable) → Valid program table → IsLowered program → (h : ℕ) (f : PlainFunction) → slice_get program.functions h ≡ Some f → IsRun program h → IsStmt (IsOther program) f.body
+pub run_parts : (program : PlainProgram) (table : IoTable) → Valid program table → IsLowered program → (h : ℕ) (f : PlainFunction) → slice_get program.functions h ≡ Some f → IsRun program h → IsStmt IsNumericOrVoid (IsOther program) f.body
 run_parts program table valid parts h f is run =
-    (stmt_suits (IsOther program) f.body [] (all_at (λ (z : PlainFunction). IsStmt IsAnyFunction z.body) program.functions h f parts is) (λ k c. other k (callee_reached program h k f is run c))).0
+    (stmt_suits (IsOther program) f.body [] (all_at (λ (z : PlainFunction). IsStmt IsNumericOrVoid IsAnyFunction z.body) program.functions h f parts is) (λ k c. other k (callee_reached program h k f is run c))).0
   where
     other : (k : ℕ) → Reaches program k program.main → IsOther program k
     other k r = (λ e. valid.no_recursion program.main (subst (λ (z : ℕ). Reaches program z program.main) e r), r)

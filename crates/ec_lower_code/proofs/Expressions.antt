@@ -89,7 +89,7 @@ converted_scalar program (pointer s c t) void q k i h = absurd h
 converted_scalar program (array t n) void q k i h = absurd i
 converted_scalar program (struct j) void q k i h = absurd i
 
-pub type_kind : (C : ℕ → Type 0) (e : PlainExpr) → IsExpr C e → IsNumericOrVoid (type_of_expr e)
+pub type_kind : (C : ℕ → Type 0) (e : PlainExpr) → IsExpr IsNumericOrVoid C e → IsNumericOrVoid (type_of_expr e)
 type_kind C (expression ty mode node) h = h.0
 
 pub type_known : (program : PlainProgram) (io : _) (f : ℕ) (e : PlainExpr) → ValidExpr program io f e → IsExprType program (type_of_expr e)
@@ -455,13 +455,13 @@ module _ (wd : World) (sc : Scene wd) where
   -- ---- expressions
 
   mutual
-    pub expr_runs : (n : ℕ) (e : PlainExpr) (l t d : ℕ) (b : Temps) (s : State) (m : Mach) (rest : List PlainIr) → n ≤ wd.n → IsExpr (IsOther wd.program) e → ValidExpr wd.program wd.io sc.f e → IsTypedState wd.program s → Stands sc.code (expr_code wd.program e l t rest) → Match (homes wd) d s m → Below W t b m
+    pub expr_runs : (n : ℕ) (e : PlainExpr) (l t d : ℕ) (b : Temps) (s : State) (m : Mach) (rest : List PlainIr) → n ≤ wd.n → IsExpr IsNumericOrVoid (IsOther wd.program) e → ValidExpr wd.program wd.io sc.f e → IsTypedState wd.program s → Stands sc.code (expr_code wd.program e l t rest) → Match (homes wd) d s m → Below W t b m
         → Goes n (expr_code wd.program e l t rest) m (on_to rest) (Has (type_of_expr e) t d b) (value e s)
     expr_runs n (expression ty mode node) l t d b s m rest le p v st stands h same =
         typed_runs n (node_code wd.program ty mode node l t rest) m (on_to rest) ty t d b (value (expression ty mode node) s) ((law wd).expressions wd.n sc.depth sc.f (expression ty mode node) s v st)
         (node_runs n ty mode node l t d b (worked (Row ty node) s) m rest le p.0 p.1 v.0 v.1 v.2 st stands (credited (homes wd) (Row ty node) d s m h) same)
 
-    node_runs : (n : ℕ) (ty : PlainType) (mode : Mode) (node : PlainNode) (l t d : ℕ) (b : Temps) (s : State) (m : Mach) (rest : List PlainIr) → n ≤ wd.n → IsNumericOrVoid ty → IsNode (IsOther wd.program) node → IsExprType wd.program ty → IsTyped wd.program wd.io ty node → ValidParts wd.program wd.io sc.f node → IsTypedState wd.program s
+    node_runs : (n : ℕ) (ty : PlainType) (mode : Mode) (node : PlainNode) (l t d : ℕ) (b : Temps) (s : State) (m : Mach) (rest : List PlainIr) → n ≤ wd.n → IsNumericOrVoid ty → IsNode IsNumericOrVoid (IsOther wd.program) node → IsExprType wd.program ty → IsTyped wd.program wd.io ty node → ValidParts wd.program wd.io sc.f node → IsTypedState wd.program s
         → Stands sc.code (node_code wd.program ty mode node l t rest) → Match (homes wd) (d + Row ty node) s m → Below W t b m
         → Goes n (node_code wd.program ty mode node l t rest) m (on_to rest) (HasValue W ty t d b) (node_value (set wd) (calls_to wd sc.depth) ty mode node s)
     node_runs n ty mode (number x) l t d b s m rest le num p k tp v st stands h same =
@@ -605,7 +605,7 @@ module _ (wd : World) (sc : Scene wd) where
     node_runs n ty mode (io op port i v1) l t d b s m rest le num p k tp v st stands h same = absurd p
     node_runs n ty mode (group acquire g) l t d b s m rest le num p k tp v st stands h same = absurd p
 
-    args_run : (n : ℕ) (es : PlainExprs) (l t d : ℕ) (b : Temps) (s : State) (m : Mach) (rest : List PlainIr) → n ≤ wd.n → AreExprs (IsOther wd.program) es → ValidExprs wd.program wd.io sc.f es → IsTypedState wd.program s → Stands sc.code (args_code wd.program es l t rest) → Match (homes wd) d s m → Below W t b m
+    args_run : (n : ℕ) (es : PlainExprs) (l t d : ℕ) (b : Temps) (s : State) (m : Mach) (rest : List PlainIr) → n ≤ wd.n → AreExprs IsNumericOrVoid (IsOther wd.program) es → ValidExprs wd.program wd.io sc.f es → IsTypedState wd.program s → Stands sc.code (args_code wd.program es l t rest) → Match (homes wd) d s m → Below W t b m
         → Goes n (args_code wd.program es l t rest) m (on_to rest) (HasArguments es t d b) (values_of (set wd) (calls_to wd sc.depth) es s)
     args_run n last_expr l t d b s m rest le p v st stands h same = (m, record { match = h; held = tt; same = same; state = st }, stays W (here W rest) m)
     args_run n (next_expr e es) l t d b s m rest le p v st stands h same =

@@ -39,10 +39,10 @@ module _ (program : PlainProgram) (table : IoTable) (f : ℕ) where
   step_fits false up mode ty o t rest num = let x = step_row up ty num in omega (arith, x)
 
   mutual
-    pub expr_fits : (e : PlainExpr) (l t : ℕ) (rest : List PlainIr) → IsExpr IsAnyFunction e → ValidExpr program table f e → code_words (expr_code program e l t rest) ≤ expr_weight (plain_table table) e + code_words rest
+    pub expr_fits : (e : PlainExpr) (l t : ℕ) (rest : List PlainIr) → IsExpr IsNumericOrVoid IsAnyFunction e → ValidExpr program table f e → code_words (expr_code program e l t rest) ≤ expr_weight (plain_table table) e + code_words rest
     expr_fits (expression ty mode node) l t rest p v = node_fits ty mode node l t rest p.0 p.1 v.1 v.2
 
-    node_fits : (ty : PlainType) (mode : Mode) (node : PlainNode) (l t : ℕ) (rest : List PlainIr) → IsNumericOrVoid ty → IsNode IsAnyFunction node → IsTyped program table ty node → ValidParts program table f node → code_words (node_code program ty mode node l t rest) ≤ expr_weight (plain_table table) (expression ty mode node) + code_words rest
+    node_fits : (ty : PlainType) (mode : Mode) (node : PlainNode) (l t : ℕ) (rest : List PlainIr) → IsNumericOrVoid ty → IsNode IsNumericOrVoid IsAnyFunction node → IsTyped program table ty node → ValidParts program table f node → code_words (node_code program ty mode node l t rest) ≤ expr_weight (plain_table table) (expression ty mode node) + code_words rest
     node_fits ty mode (number n) l t rest num p tp v = let x = simple_pays (scalar_size ty) 1 in omega (arith, x)
     node_fits ty mode null l t rest num p tp v = absurd p
     node_fits ty mode (load (object o)) l t rest num p tp v = let x = simple_pays (scalar_size ty) 1 in omega (arith, x)
@@ -97,32 +97,32 @@ module _ (program : PlainProgram) (table : IoTable) (f : ℕ) where
     node_fits ty mode (io op port i w) l t rest num p tp v = absurd p
     node_fits ty mode (group acquire g) l t rest num p tp v = absurd p
 
-    args_fit : (es : PlainExprs) (l t : ℕ) (rest : List PlainIr) → AreExprs IsAnyFunction es → ValidExprs program table f es → code_words (args_code program es l t rest) ≤ exprs_weight (plain_table table) es + code_words rest
+    args_fit : (es : PlainExprs) (l t : ℕ) (rest : List PlainIr) → AreExprs IsNumericOrVoid IsAnyFunction es → ValidExprs program table f es → code_words (args_code program es l t rest) ≤ exprs_weight (plain_table table) es + code_words rest
     args_fit last_expr l t rest p v = omega arith
     args_fit (next_expr e es) l t rest p v =
         let x = expr_fits e l t (args_code program es (l + expr_labels e) (t + 1) rest) p.0 v.0 in let y = args_fit es (l + expr_labels e) (t + 1) rest p.1 v.1 in omega (arith, x, y)
 
-  init_fits : (ls : List PlainLeaf) (o : ℕ) (es : PlainExprs) (l : ℕ) (rest : List PlainIr) → AreExprs IsAnyFunction es → ValidExprs program table f es → code_words (init_code program ls o es l rest) ≤ leaves_weight (plain_table table) es + code_words rest
+  init_fits : (ls : List PlainLeaf) (o : ℕ) (es : PlainExprs) (l : ℕ) (rest : List PlainIr) → AreExprs IsNumericOrVoid IsAnyFunction es → ValidExprs program table f es → code_words (init_code program ls o es l rest) ≤ leaves_weight (plain_table table) es + code_words rest
   init_fits [] o es l rest p v = omega arith
   init_fits (leaf ∷ ls) o last_expr l rest p v = omega arith
   init_fits (leaf ∷ ls) o (next_expr e es) l rest p v =
       let q : List PlainIr = store_object o leaf.at (temp 0 (type_of_expr e)) ∷ init_code program ls o es (l + expr_labels e) rest in
       let x = expr_fits e l 0 q p.0 v.0 in let y = init_fits ls o es (l + expr_labels e) rest p.1 v.1 in let z = simple_pays (scalar_size (type_of_expr e)) 1 in omega (arith, x, y, z)
 
-  test_fits : (c : Option PlainExpr) (out l : ℕ) (rest : List PlainIr) → IsOptional IsAnyFunction c → ValidCondition program table f c → code_words (test_code program c out l rest) ≤ 30 + optional_weight (plain_table table) c + code_words rest
+  test_fits : (c : Option PlainExpr) (out l : ℕ) (rest : List PlainIr) → IsOptional IsNumericOrVoid IsAnyFunction c → ValidCondition program table f c → code_words (test_code program c out l rest) ≤ 30 + optional_weight (plain_table table) c + code_words rest
   test_fits None out l rest p v = omega arith
   test_fits (Some c) out l rest p v = let q : List PlainIr = branch_zero (temp 0 (type_of_expr c)) out ∷ rest in let x = expr_fits c l 0 q p v.0 in let y = (scalar_bytes (type_of_expr c) v.1).1 in omega (arith, x, y)
 
-  last_fits : (e : Option PlainExpr) (l : ℕ) (rest : List PlainIr) → IsOptional IsAnyFunction e → ValidOptional program table f e → code_words (last_code program e l rest) ≤ optional_weight (plain_table table) e + code_words rest
+  last_fits : (e : Option PlainExpr) (l : ℕ) (rest : List PlainIr) → IsOptional IsNumericOrVoid IsAnyFunction e → ValidOptional program table f e → code_words (last_code program e l rest) ≤ optional_weight (plain_table table) e + code_words rest
   last_fits None l rest p v = omega arith
   last_fits (Some e) l rest p v = expr_fits e l 0 rest p v
 
   module _ (returns : PlainType) where
     mutual
-      pub stmt_fits : (a : PlainStmt) (k : Bool) (l out on : ℕ) (rest : List PlainIr) → IsStmt IsAnyFunction a → ValidStmt program table f returns k a → code_words (stmt_code program a l out on rest) ≤ stmt_weight (plain_table table) a + code_words rest
+      pub stmt_fits : (a : PlainStmt) (k : Bool) (l out on : ℕ) (rest : List PlainIr) → IsStmt IsNumericOrVoid IsAnyFunction a → ValidStmt program table f returns k a → code_words (stmt_code program a l out on rest) ≤ stmt_weight (plain_table table) a + code_words rest
       stmt_fits (statement unit at kind) k l out on rest p v = kind_fits kind k l out on rest p v
 
-      kind_fits : (kind : PlainKind) (k : Bool) (l out on : ℕ) (rest : List PlainIr) → IsKind IsAnyFunction kind → ValidKind program table f returns k kind → code_words (kind_code program kind l out on rest) ≤ kind_weight (plain_table table) kind + code_words rest
+      kind_fits : (kind : PlainKind) (k : Bool) (l out on : ℕ) (rest : List PlainIr) → IsKind IsNumericOrVoid IsAnyFunction kind → ValidKind program table f returns k kind → code_words (kind_code program kind l out on rest) ≤ kind_weight (plain_table table) kind + code_words rest
       kind_fits empty k l out on rest p v = omega arith
       kind_fits (evaluate e) k l out on rest p v = expr_fits e l 0 rest p v
       kind_fits (block ss) k l out on rest p v = stmts_fits ss k l out on rest p v
@@ -156,19 +156,19 @@ module _ (program : PlainProgram) (table : IoTable) (f : ℕ) where
           let q : List PlainIr = return_from (Some (temp 0 (type_of_expr e))) ∷ rest in
           let x = expr_fits e l 0 q p v.1 in let y = return_pays (scalar_size (type_of_expr e)) in omega (arith, x, y)
 
-      option_fits : (a : OptionPlainStmt) (k : Bool) (l out on : ℕ) (rest : List PlainIr) → IsOptionStmt IsAnyFunction a → ValidOptionStmt program table f returns k a → code_words (option_stmt_code program a l out on rest) ≤ option_stmt_weight (plain_table table) a + code_words rest
+      option_fits : (a : OptionPlainStmt) (k : Bool) (l out on : ℕ) (rest : List PlainIr) → IsOptionStmt IsNumericOrVoid IsAnyFunction a → ValidOptionStmt program table f returns k a → code_words (option_stmt_code program a l out on rest) ≤ option_stmt_weight (plain_table table) a + code_words rest
       option_fits no_stmt k l out on rest p v = omega arith
       option_fits (a_stmt a) k l out on rest p v = stmt_fits a k l out on rest p v
 
-      stmts_fits : (ss : PlainStmts) (k : Bool) (l out on : ℕ) (rest : List PlainIr) → AreStmts IsAnyFunction ss → ValidStmts program table f returns k ss → code_words (stmts_code program ss l out on rest) ≤ stmts_weight (plain_table table) ss + code_words rest
+      stmts_fits : (ss : PlainStmts) (k : Bool) (l out on : ℕ) (rest : List PlainIr) → AreStmts IsNumericOrVoid IsAnyFunction ss → ValidStmts program table f returns k ss → code_words (stmts_code program ss l out on rest) ≤ stmts_weight (plain_table table) ss + code_words rest
       stmts_fits last_stmt k l out on rest p v = omega arith
       stmts_fits (next_stmt a ss) k l out on rest p v = let x = stmt_fits a k l out on (stmts_code program ss (l + stmt_labels a) out on rest) p.0 v.0 in let y = stmts_fits ss k (l + stmt_labels a) out on rest p.1 v.1 in omega (arith, x, y)
 
 -- a function's operations are within the rows of its body and its own
-function_fits : (program : PlainProgram) (table : IoTable) (f : ℕ) (g : PlainFunction) → IsStmt IsAnyFunction g.body → IsFunction program table f g → code_words (function_code program g) ≤ function_weight (plain_table table) g
+function_fits : (program : PlainProgram) (table : IoTable) (f : ℕ) (g : PlainFunction) → IsStmt IsNumericOrVoid IsAnyFunction g.body → IsFunction program table f g → code_words (function_code program g) ≤ function_weight (plain_table table) g
 function_fits program table f g p v = let x = stmt_fits program table f g.returns g.body false 1 0 0 (label 0 ∷ return_from None ∷ []) p v.body in omega (arith, x)
 
-functions_fit : (program : PlainProgram) (table : IoTable) (n : ℕ) (fs : List PlainFunction) → AllByRecursion (λ g. IsStmt IsAnyFunction g.body) fs → EachFrom n (IsFunction program table) fs → functions_words (map (lowered_function program) fs) ≤ functions_weight (plain_table table) fs
+functions_fit : (program : PlainProgram) (table : IoTable) (n : ℕ) (fs : List PlainFunction) → AllByRecursion (λ g. IsStmt IsNumericOrVoid IsAnyFunction g.body) fs → EachFrom n (IsFunction program table) fs → functions_words (map (lowered_function program) fs) ≤ functions_weight (plain_table table) fs
 functions_fit program table n [] p v = omega arith
 functions_fit program table n (g ∷ fs) p v = let x = function_fits program table n g p.0 v.0 in let y = functions_fit program table (n + 1) fs p.1 v.1 in omega (arith, x, y)
 

@@ -25,3 +25,4 @@ pub mod Wellformed
 pub mod Reached
 pub mod Rules
 pub mod Made
+pub mod Integers

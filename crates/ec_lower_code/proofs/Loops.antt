@@ -15,7 +15,7 @@ use Rattle.ec_ir.specs.Meaning.{Mach, machine, find}
 use Rattle.ec_ir.specs.Operations.{PlainIr, label, jump, branch_zero}
 use Rattle.ec_ir.specs.Temporaries.{Temps}
 use Rattle.ec_lower_code.specs.Code.{temp, optional_labels, expr_code, test_code, last_code}
-use Rattle.ec_lower_code.specs.Parts.{IsOptional}
+use Rattle.ec_lower_code.specs.Parts.{IsNumericOrVoid, IsOptional}
 use Rattle.ec_lower_code.proofs.Callees.{IsOther}
 use Rattle.ec_lower_code.proofs.Expressions.{W, value, Has, Tests, tests}
 use Rattle.ec_lower_code.proofs.Numbers.{scalar_bytes}
@@ -36,8 +36,8 @@ module _ (wd : World) (sc : Scene wd) (ret : Returns wd sc) where
       (ended_at : find (l + 1) sc.code ≡ Some rest)
       (test_stands : Stands sc.code (test_code wd.program c (l + 1) (l + 4) (label (l + 3) ∷ inner)))
       (last_stands : Stands sc.code (last_code wd.program last (l + 4 + optional_labels c) (jump l ∷ label (l + 1) ∷ rest)))
-      (part : IsOptional (IsOther wd.program) c) (valid_part : ValidCondition wd.program wd.io sc.f c)
-      (last_part : IsOptional (IsOther wd.program) last) (valid_last : ValidOptional wd.program wd.io sc.f last)
+      (part : IsOptional IsNumericOrVoid (IsOther wd.program) c) (valid_part : ValidCondition wd.program wd.io sc.f c)
+      (last_part : IsOptional IsNumericOrVoid (IsOther wd.program) last) (valid_last : ValidOptional wd.program wd.io sc.f last)
       (body_runs : (s : State) (m : Mach) → Match (homes wd) (d + 30) s m → IsTypedState wd.program s
       → Typed wd sc ret wd.n inner m (label (l + 2) ∷ last_code wd.program last (l + 4 + optional_labels c) (jump l ∷ label (l + 1) ∷ rest)) rest (last_code wd.program last (l + 4 + optional_labels c) (jump l ∷ label (l + 1) ∷ rest)) (d + 30) (body s))
     where
@@ -72,7 +72,7 @@ module _ (wd : World) (sc : Scene wd) (ret : Returns wd sc) where
             after (W wd sc) (left_to wd sc ret rest out on) (Left wd sc ret d) k (here (W wd sc) (i ∷ label (l + 3) ∷ inner)) (here (W wd sc) rest) u v (got at_end (worked loop_words s)) (branch_off (W wd sc) (type_of_expr x) 0 (l + 1) (label (l + 3) ∷ inner) rest u r.test.tested ended_at r.test.value r.test.zero)
             (at_rest wd sc ret d rest out on k (worked loop_words s) v (spent_on (homes wd) (d + 60) d i u.temps (worked loop_words s) u (omega (arith, e)) (credited (homes wd) loop_words d s u r.test.match)))
 
-        test_runs : (c1 : Option PlainExpr) → IsOptional (IsOther wd.program) c1 → ValidCondition wd.program wd.io sc.f c1 → (s : State) (m : Mach) → Stands sc.code (test_code wd.program c1 (l + 1) (l + 4) (label (l + 3) ∷ inner)) → Match (homes wd) d s m → IsTypedState wd.program s → Way wd sc ret k (test_code wd.program c1 (l + 1) (l + 4) (label (l + 3) ∷ inner)) m rest out on d (tested (test_of (set wd) calls c1 s) go)
+        test_runs : (c1 : Option PlainExpr) → IsOptional IsNumericOrVoid (IsOther wd.program) c1 → ValidCondition wd.program wd.io sc.f c1 → (s : State) (m : Mach) → Stands sc.code (test_code wd.program c1 (l + 1) (l + 4) (label (l + 3) ∷ inner)) → Match (homes wd) d s m → IsTypedState wd.program s → Way wd sc ret k (test_code wd.program c1 (l + 1) (l + 4) (label (l + 3) ∷ inner)) m rest out on d (tested (test_of (set wd) calls c1 s) go)
         test_runs None q v s m stands h st =
             runs s (label (l + 3) ∷ inner) m (record { by = λ s1 h1. (m, less (homes wd) (d + 60) (d + 30) (worked loop_words s1) m (omega arith) (credited (homes wd) loop_words d s1 m h1), label_comes (W wd sc) (l + 3) inner m) }) h st
         test_runs (Some x) q v s m stands h st =
@@ -92,7 +92,7 @@ module _ (wd : World) (sc : Scene wd) (ret : Returns wd sc) where
               after_step (W wd sc) (left_to wd sc ret rest out on) (Left wd sc ret d) k (jump l ∷ label (l + 1) ∷ rest) (here (W wd sc) test_place) u v (tested (test_of (set wd) calls c s1) go) (jump_steps (W wd sc) l (label (l + 1) ∷ rest) test_place u tested_at)
               (test_runs k (omega (arith, le)) out on go runs c part valid_part s1 v test_stands (spent_on (homes wd) (d + 30) d (jump l) u.temps s1 u (omega arith) h1) st1)
 
-          by_last : (y : Option PlainExpr) → IsOptional (IsOther wd.program) y → ValidOptional wd.program wd.io sc.f y → Stands sc.code (last_code wd.program y (l + 4 + optional_labels c) (jump l ∷ label (l + 1) ∷ rest)) → Way wd sc ret (suc k) (last_code wd.program y (l + 4 + optional_labels c) (jump l ∷ label (l + 1) ∷ rest)) m rest out on d (tested (going_on (set wd) calls y c s) go)
+          by_last : (y : Option PlainExpr) → IsOptional IsNumericOrVoid (IsOther wd.program) y → ValidOptional wd.program wd.io sc.f y → Stands sc.code (last_code wd.program y (l + 4 + optional_labels c) (jump l ∷ label (l + 1) ∷ rest)) → Way wd sc ret (suc k) (last_code wd.program y (l + 4 + optional_labels c) (jump l ∷ label (l + 1) ∷ rest)) m rest out on d (tested (going_on (set wd) calls y c s) go)
           by_last None q v stands = jumped s m h st
           by_last (Some e) q v stands =
               let p : List PlainIr = jump l ∷ label (l + 1) ∷ rest in

@@ -16,7 +16,7 @@ use Rattle.ec_core.proofs.TypedValues.{some_and}
 use Rattle.ec_ir.specs.Operations.{PlainIr, store_object, label, jump, branch_zero, return_from, idle_function, data_of}
 use Rattle.ec_ir.specs.Valid.{count, called_in, HasLeafOf, IsParameterOf, ValidOperation, ValidIrFunction, ValidIr}
 use Rattle.ec_lower_code.specs.Code.{temp, expr_labels, optional_labels, option_stmt_labels, stmt_labels, expr_code, init_code, test_code, last_code, leaves_of_object, loop_code, stmt_code, kind_code, option_stmt_code, stmts_code, end_code, function_code, lowered_function, lowered}
-use Rattle.ec_lower_code.specs.Parts.{IsAnyFunction, IsExpr, AreExprs, IsOptional, IsStmt, IsKind, IsOptionStmt, AreStmts, IsLowered}
+use Rattle.ec_lower_code.specs.Parts.{IsNumericOrVoid, IsAnyFunction, IsExpr, AreExprs, IsOptional, IsStmt, IsKind, IsOptionStmt, AreStmts, IsLowered}
 use Rattle.ec_lower_code.proofs.Behind.{expr_behind, test_behind, last_behind, stmt_behind, option_behind}
 use Rattle.ec_lower_code.proofs.Facts.{result_scalar, leaves_are}
 use Rattle.ec_lower_code.proofs.Labels.{function_counts}
@@ -31,12 +31,12 @@ module _ (program : PlainProgram) (table : IoTable) (valid : Valid program table
   one : (l : ℕ) (rest : List PlainIr) → Stands all (label l ∷ rest) → count l all ≡ 1
   one l rest s = label_once program table valid f slots all once l rest s
 
-  good : (e : PlainExpr) (l : ℕ) (rest : List PlainIr) → IsExpr IsAnyFunction e → ValidExpr program table f e → expr_need e ≤ slots → Stands all (expr_code program e l 0 rest) → Good rest → Good (expr_code program e l 0 rest)
+  good : (e : PlainExpr) (l : ℕ) (rest : List PlainIr) → IsExpr IsNumericOrVoid IsAnyFunction e → ValidExpr program table f e → expr_need e ≤ slots → Stands all (expr_code program e l 0 rest) → Good rest → Good (expr_code program e l 0 rest)
   good e l rest p v le s r = expr_ok program table valid f slots all once e l 0 rest p v (omega (arith, le)) s r
 
   -- the leaves from number i on
   init_ok : (ls : List PlainLeaf) (o i : ℕ) (x : PlainObject) (es : PlainExprs) (l : ℕ) (rest : List PlainIr) → slice_get program.objects o ≡ Some x → x.storage ≡ local f → ((j : ℕ) (leaf : PlainLeaf) → slice_get ls j ≡ Some leaf → slice_get (leaves_of_type program.structs x.ty) (i + j) ≡ Some leaf)
-      → AreLeafValues program table f ls es → AreExprs IsAnyFunction es → ValidExprs program table f es → most (exprs_needs es) ≤ slots → Stands all (init_code program ls o es l rest) → Good rest → Good (init_code program ls o es l rest)
+      → AreLeafValues program table f ls es → AreExprs IsNumericOrVoid IsAnyFunction es → ValidExprs program table f es → most (exprs_needs es) ≤ slots → Stands all (init_code program ls o es l rest) → Good rest → Good (init_code program ls o es l rest)
   init_ok [] o i x last_expr l rest e st at ty p v le s r = r
   init_ok (leaf ∷ ls) o i x last_expr l rest e st at ty p v le s r = absurd ty
   init_ok [] o i x (next_expr a es) l rest e st at ty p v le s r = absurd ty
@@ -57,7 +57,7 @@ module _ (program : PlainProgram) (table : IoTable) (valid : Valid program table
         init_ok ls o (i + 1) x es (l + expr_labels a) rest e st (λ j z q. ap (slice_get (leaves_of_type program.structs x.ty)) (let a : i + 1 + j ≡ i + suc j = omega arith in a) ∙ at (suc j) z q) ty.1 p.1 v.1 (omega (arith, le)) s1 r,
       )
 
-  declared_ok : (o : ℕ) (es : PlainExprs) (l : ℕ) (rest : List PlainIr) → AreExprs IsAnyFunction es → IsSomeAnd (slice_get program.objects o) (IsDeclared program table f es) → ValidExprs program table f es → most (exprs_needs es) ≤ slots → Stands all (init_code program (leaves_of_object program o) o es l rest) → Good rest → Good (init_code program (leaves_of_object program o) o es l rest)
+  declared_ok : (o : ℕ) (es : PlainExprs) (l : ℕ) (rest : List PlainIr) → AreExprs IsNumericOrVoid IsAnyFunction es → IsSomeAnd (slice_get program.objects o) (IsDeclared program table f es) → ValidExprs program table f es → most (exprs_needs es) ≤ slots → Stands all (init_code program (leaves_of_object program o) o es l rest) → Good rest → Good (init_code program (leaves_of_object program o) o es l rest)
   declared_ok o es l rest p d v le s r =
       let x = some_and (slice_get program.objects o) (IsDeclared program table f es) d in
       by_values x.0 x.1 x.2.0 x.2.1 (leaves_are program o x.0 x.1)
@@ -74,23 +74,23 @@ module _ (program : PlainProgram) (table : IoTable) (valid : Valid program table
           (subst (λ (q : List PlainLeaf). Stands all (init_code program q o es l rest)) g s) r)
 
   -- a branch on a condition
-  condition_ok : (c : PlainExpr) (l out : ℕ) (rest : List PlainIr) → IsExpr IsAnyFunction c → ValidCondition program table f (Some c) → expr_need c ≤ slots → count out all ≡ 1 → Stands all (expr_code program c l 0 (branch_zero (temp 0 (type_of_expr c)) out ∷ rest)) → Good rest → Good (expr_code program c l 0 (branch_zero (temp 0 (type_of_expr c)) out ∷ rest))
+  condition_ok : (c : PlainExpr) (l out : ℕ) (rest : List PlainIr) → IsExpr IsNumericOrVoid IsAnyFunction c → ValidCondition program table f (Some c) → expr_need c ≤ slots → count out all ≡ 1 → Stands all (expr_code program c l 0 (branch_zero (temp 0 (type_of_expr c)) out ∷ rest)) → Good rest → Good (expr_code program c l 0 (branch_zero (temp 0 (type_of_expr c)) out ∷ rest))
   condition_ok c l out rest p v le h s r =
       let need = some_need c in
       good c l (branch_zero (temp 0 (type_of_expr c)) out ∷ rest) p v.0 le s ((temp_ok program table valid f slots all once 0 (type_of_expr c) (omega (arith, le, need)) v.1, h), r)
 
-  test_ok : (c : Option PlainExpr) (out l : ℕ) (rest : List PlainIr) → IsOptional IsAnyFunction c → ValidCondition program table f c → option_need c ≤ slots → count out all ≡ 1 → Stands all (test_code program c out l rest) → Good rest → Good (test_code program c out l rest)
+  test_ok : (c : Option PlainExpr) (out l : ℕ) (rest : List PlainIr) → IsOptional IsNumericOrVoid IsAnyFunction c → ValidCondition program table f c → option_need c ≤ slots → count out all ≡ 1 → Stands all (test_code program c out l rest) → Good rest → Good (test_code program c out l rest)
   test_ok None out l rest p v le h s r = r
   test_ok (Some c) out l rest p v le h s r = condition_ok c l out rest p v le h s r
 
-  last_ok : (e : Option PlainExpr) (l : ℕ) (rest : List PlainIr) → IsOptional IsAnyFunction e → ValidOptional program table f e → option_need e ≤ slots → Stands all (last_code program e l rest) → Good rest → Good (last_code program e l rest)
+  last_ok : (e : Option PlainExpr) (l : ℕ) (rest : List PlainIr) → IsOptional IsNumericOrVoid IsAnyFunction e → ValidOptional program table f e → option_need e ≤ slots → Stands all (last_code program e l rest) → Good rest → Good (last_code program e l rest)
   last_ok None l rest p v le s r = r
   last_ok (Some e) l rest p v le s r = good e l rest p v le s r
 
   module _ (returns : PlainType) (scalar : returns ≢ void → IsScalar returns) (bytes : result_bytes program f ≡ scalar_size returns) where
     -- a loop, of whose body this is known
     loop_ok : (c last : Option PlainExpr) (l : ℕ) (body : List PlainIr → List PlainIr) (rest : List PlainIr) → ((q : List PlainIr) → Stands all (body q) → Stands all q) → ((q : List PlainIr) → count (l + 1) all ≡ 1 → count (l + 2) all ≡ 1 → Stands all (body q) → Good q → Good (body q))
-        → IsOptional IsAnyFunction c → ValidCondition program table f c → option_need c ≤ slots → IsOptional IsAnyFunction last → ValidOptional program table f last → option_need last ≤ slots → Stands all (loop_code program c last l body rest) → Good rest → (count (l + 3) all ≡ 1) × Good (loop_code program c last l body rest)
+        → IsOptional IsNumericOrVoid IsAnyFunction c → ValidCondition program table f c → option_need c ≤ slots → IsOptional IsNumericOrVoid IsAnyFunction last → ValidOptional program table f last → option_need last ≤ slots → Stands all (loop_code program c last l body rest) → Good rest → (count (l + 3) all ≡ 1) × Good (loop_code program c last l body rest)
     loop_ok c last l body rest behind_body body_ok pc vc lc pl vl ll s r =
         let end : List PlainIr = jump l ∷ label (l + 1) ∷ rest in
         let q : List PlainIr = label (l + 2) ∷ last_code program last (l + 4 + optional_labels c) end in
@@ -112,10 +112,10 @@ module _ (program : PlainProgram) (table : IoTable) (valid : Valid program table
         )
 
     mutual
-      stmt_ok : (a : PlainStmt) (in_loop : Bool) (l lo lc : ℕ) (rest : List PlainIr) → IsStmt IsAnyFunction a → ValidStmt program table f returns in_loop a → stmt_need a ≤ slots → count lo all ≡ 1 → count lc all ≡ 1 → Stands all (stmt_code program a l lo lc rest) → Good rest → Good (stmt_code program a l lo lc rest)
+      stmt_ok : (a : PlainStmt) (in_loop : Bool) (l lo lc : ℕ) (rest : List PlainIr) → IsStmt IsNumericOrVoid IsAnyFunction a → ValidStmt program table f returns in_loop a → stmt_need a ≤ slots → count lo all ≡ 1 → count lc all ≡ 1 → Stands all (stmt_code program a l lo lc rest) → Good rest → Good (stmt_code program a l lo lc rest)
       stmt_ok (statement unit at kind) in_loop l lo lc rest p v le go gc s r = kind_ok kind in_loop l lo lc rest p v le go gc s r
 
-      kind_ok : (kind : PlainKind) (in_loop : Bool) (l lo lc : ℕ) (rest : List PlainIr) → IsKind IsAnyFunction kind → ValidKind program table f returns in_loop kind → kind_need kind ≤ slots → count lo all ≡ 1 → count lc all ≡ 1 → Stands all (kind_code program kind l lo lc rest) → Good rest → Good (kind_code program kind l lo lc rest)
+      kind_ok : (kind : PlainKind) (in_loop : Bool) (l lo lc : ℕ) (rest : List PlainIr) → IsKind IsNumericOrVoid IsAnyFunction kind → ValidKind program table f returns in_loop kind → kind_need kind ≤ slots → count lo all ≡ 1 → count lc all ≡ 1 → Stands all (kind_code program kind l lo lc rest) → Good rest → Good (kind_code program kind l lo lc rest)
       kind_ok empty in_loop l lo lc rest p v le go gc s r = r
       kind_ok (evaluate e) in_loop l lo lc rest p v le go gc s r = good e l rest p v le s r
       kind_ok (block ss) in_loop l lo lc rest p v le go gc s r = stmts_ok ss in_loop l lo lc rest p v le go gc s r
@@ -162,11 +162,11 @@ module _ (program : PlainProgram) (table : IoTable) (valid : Valid program table
           good e l (return_from (Some (temp 0 (type_of_expr e))) ∷ rest) p v.1 (omega (arith, le)) s
           ((temp_ok program table valid f slots all once 0 (type_of_expr e) (omega (arith, le, need)) is, ap scalar_size v.0.1 ∙ sym bytes), r)
 
-      option_ok : (a : OptionPlainStmt) (in_loop : Bool) (l lo lc : ℕ) (rest : List PlainIr) → IsOptionStmt IsAnyFunction a → ValidOptionStmt program table f returns in_loop a → option_stmt_need a ≤ slots → count lo all ≡ 1 → count lc all ≡ 1 → Stands all (option_stmt_code program a l lo lc rest) → Good rest → Good (option_stmt_code program a l lo lc rest)
+      option_ok : (a : OptionPlainStmt) (in_loop : Bool) (l lo lc : ℕ) (rest : List PlainIr) → IsOptionStmt IsNumericOrVoid IsAnyFunction a → ValidOptionStmt program table f returns in_loop a → option_stmt_need a ≤ slots → count lo all ≡ 1 → count lc all ≡ 1 → Stands all (option_stmt_code program a l lo lc rest) → Good rest → Good (option_stmt_code program a l lo lc rest)
       option_ok no_stmt in_loop l lo lc rest p v le go gc s r = r
       option_ok (a_stmt a) in_loop l lo lc rest p v le go gc s r = stmt_ok a in_loop l lo lc rest p v le go gc s r
 
-      stmts_ok : (ss : PlainStmts) (in_loop : Bool) (l lo lc : ℕ) (rest : List PlainIr) → AreStmts IsAnyFunction ss → ValidStmts program table f returns in_loop ss → stmts_need ss ≤ slots → count lo all ≡ 1 → count lc all ≡ 1 → Stands all (stmts_code program ss l lo lc rest) → Good rest → Good (stmts_code program ss l lo lc rest)
+      stmts_ok : (ss : PlainStmts) (in_loop : Bool) (l lo lc : ℕ) (rest : List PlainIr) → AreStmts IsNumericOrVoid IsAnyFunction ss → ValidStmts program table f returns in_loop ss → stmts_need ss ≤ slots → count lo all ≡ 1 → count lc all ≡ 1 → Stands all (stmts_code program ss l lo lc rest) → Good rest → Good (stmts_code program ss l lo lc rest)
       stmts_ok last_stmt in_loop l lo lc rest p v le go gc s r = r
       stmts_ok (next_stmt a ss) in_loop l lo lc rest p v le go gc s r =
           let q = stmts_code program ss (l + stmt_labels a) lo lc rest in
@@ -176,7 +176,7 @@ module _ (program : PlainProgram) (table : IoTable) (valid : Valid program table
 -- ---- functions and the program
 
 module _ (program : PlainProgram) (table : IoTable) (valid : Valid program table) where
-  function_ok : (f : ℕ) (h : PlainFunction) → slice_get program.functions f ≡ Some h → IsStmt IsAnyFunction h.body → IsFunction program table f h → ValidIrFunction (lowered program) (result_bytes program) f (lowered_function program h)
+  function_ok : (f : ℕ) (h : PlainFunction) → slice_get program.functions f ≡ Some h → IsStmt IsNumericOrVoid IsAnyFunction h.body → IsFunction program table f h → ValidIrFunction (lowered program) (result_bytes program) f (lowered_function program h)
   function_ok f h e p g =
       record {
         slots = g.need;
@@ -192,7 +192,7 @@ module _ (program : PlainProgram) (table : IoTable) (valid : Valid program table
       bytes : result_bytes program f ≡ scalar_size h.returns
       bytes = ap (λ z. unwrap_or (option_map (λ (h : PlainFunction). scalar_size h.returns) z) 0) e
 
-  functions_ok : (n : ℕ) (hs : List PlainFunction) → ((i : ℕ) (h : PlainFunction) → slice_get hs i ≡ Some h → slice_get program.functions (n + i) ≡ Some h) → AllByRecursion (λ h. IsStmt IsAnyFunction h.body) hs → EachFrom n (IsFunction program table) hs → EachFrom n (ValidIrFunction (lowered program) (result_bytes program)) (map (lowered_function program) hs)
+  functions_ok : (n : ℕ) (hs : List PlainFunction) → ((i : ℕ) (h : PlainFunction) → slice_get hs i ≡ Some h → slice_get program.functions (n + i) ≡ Some h) → AllByRecursion (λ h. IsStmt IsNumericOrVoid IsAnyFunction h.body) hs → EachFrom n (IsFunction program table) hs → EachFrom n (ValidIrFunction (lowered program) (result_bytes program)) (map (lowered_function program) hs)
   functions_ok n [] at p v = tt
   functions_ok n (h ∷ hs) at p v = (
     function_ok n h (ap (slice_get program.functions) (let z : n ≡ n + 0 = omega arith in z) ∙ at 0 h refl) p.0 v.0,

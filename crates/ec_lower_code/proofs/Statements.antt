@@ -20,7 +20,7 @@ use Rattle.ec_ir.specs.Meaning.{Mach, machine, Frame, access_at}
 use Rattle.ec_ir.specs.Operations.{PlainIr, store_object, return_from}
 use Rattle.ec_ir.specs.Temporaries.{Temps}
 use Rattle.ec_lower_code.specs.Code.{temp, expr_labels, expr_code, init_code}
-use Rattle.ec_lower_code.specs.Parts.{IsExpr, AreExprs}
+use Rattle.ec_lower_code.specs.Parts.{IsNumericOrVoid, IsExpr, AreExprs}
 use Rattle.ec_lower_code.proofs.Callees.{IsOther}
 use Rattle.ec_lower_code.proofs.Behind.{expr_behind}
 use Rattle.ec_lower_code.proofs.Expressions.{W, value, Has, expr_runs}
@@ -119,11 +119,11 @@ module _ (wd : World) (sc : Scene wd) (ret : Returns wd sc) where
   ending_runs k d p m rest out on os (undefined point s) h = tt
 
   -- an expression at the bottom of the temporaries
-  pub whole_runs : (k : ℕ) (e : PlainExpr) (l d : ℕ) (s : State) (m : Mach) (rest : List PlainIr) → k ≤ wd.n → IsExpr (IsOther wd.program) e → ValidExpr wd.program wd.io sc.f e → IsTypedState wd.program s → Stands sc.code (expr_code wd.program e l 0 rest) → Match (homes wd) d s m
+  pub whole_runs : (k : ℕ) (e : PlainExpr) (l d : ℕ) (s : State) (m : Mach) (rest : List PlainIr) → k ≤ wd.n → IsExpr IsNumericOrVoid (IsOther wd.program) e → ValidExpr wd.program wd.io sc.f e → IsTypedState wd.program s → Stands sc.code (expr_code wd.program e l 0 rest) → Match (homes wd) d s m
       → Does (W wd sc) k (here (W wd sc) (expr_code wd.program e l 0 rest)) m (to_rest (W wd sc) rest) (Has wd sc (type_of_expr e) 0 d m.temps) (value wd sc e s)
   whole_runs k e l d s m rest le p v st stands h = expr_runs wd sc k e l 0 d m.temps s m rest le p v st stands h (λ i lt. refl)
 
-  pub done_runs : (k : ℕ) (e : PlainExpr) (l d : ℕ) (s : State) (m : Mach) (rest out on : List PlainIr) → k ≤ wd.n → IsExpr (IsOther wd.program) e → ValidExpr wd.program wd.io sc.f e → IsTypedState wd.program s → Stands sc.code (expr_code wd.program e l 0 rest) → Match (homes wd) d s m
+  pub done_runs : (k : ℕ) (e : PlainExpr) (l d : ℕ) (s : State) (m : Mach) (rest out on : List PlainIr) → k ≤ wd.n → IsExpr IsNumericOrVoid (IsOther wd.program) e → ValidExpr wd.program wd.io sc.f e → IsTypedState wd.program s → Stands sc.code (expr_code wd.program e l 0 rest) → Match (homes wd) d s m
       → Way k (expr_code wd.program e l 0 rest) m rest out on d (evaluated (set wd) (calls_to wd sc.depth) (Some e) s)
   done_runs k e l d s m rest out on le p v st stands h =
       bind (W wd sc) k (here (W wd sc) (expr_code wd.program e l 0 rest)) m (to_rest (W wd sc) rest) (Has wd sc (type_of_expr e) 0 d m.temps) (left_to rest out on) (Left d) (here (W wd sc) rest) (value wd sc e s) _ (λ z. refl)
@@ -188,7 +188,7 @@ module _ (wd : World) (sc : Scene wd) (ret : Returns wd sc) where
       by_outcome (undefined point s1) ts g e = tt
 
   -- the leaves from number i on
-  pub init_runs : (d o i : ℕ) (x : PlainObject) (ls : List PlainLeaf) (es : PlainExprs) (l : ℕ) (rest out on : List PlainIr) → slice_get wd.program.objects o ≡ Some x → ((j : ℕ) (leaf : PlainLeaf) → slice_get ls j ≡ Some leaf → slice_get (leaves_of_type wd.program.structs x.ty) (i + j) ≡ Some leaf) → holds Flash x.home ≡ false → AreLeafValues wd.program wd.io sc.f ls es → AreExprs (IsOther wd.program) es → ValidExprs wd.program wd.io sc.f es → Stands sc.code (init_code wd.program ls o es l rest)
+  pub init_runs : (d o i : ℕ) (x : PlainObject) (ls : List PlainLeaf) (es : PlainExprs) (l : ℕ) (rest out on : List PlainIr) → slice_get wd.program.objects o ≡ Some x → ((j : ℕ) (leaf : PlainLeaf) → slice_get ls j ≡ Some leaf → slice_get (leaves_of_type wd.program.structs x.ty) (i + j) ≡ Some leaf) → holds Flash x.home ≡ false → AreLeafValues wd.program wd.io sc.f ls es → AreExprs IsNumericOrVoid (IsOther wd.program) es → ValidExprs wd.program wd.io sc.f es → Stands sc.code (init_code wd.program ls o es l rest)
       → (s : State) (m : Mach) → Match (homes wd) d s m → IsTypedState wd.program s → Way wd sc ret wd.n (init_code wd.program ls o es l rest) m rest out on d (initialising (set wd) (calls_to wd sc.depth) o i es s)
   init_runs d o i x [] last_expr l rest out on f g home ty p v stands s m h st = at_rest wd sc ret d rest out on wd.n s m h
   init_runs d o i x (leaf ∷ ls) last_expr l rest out on f g home ty p v stands s m h st = absurd ty

@@ -338,10 +338,10 @@ module _ (program : PlainProgram) (table : IoTable) (valid : Valid program table
   parameters g h e = (subst (λ (k : ℕ). IsFunction program table k h) (let z : 0 + g ≡ g = omega arith in z) (each_at (IsFunction program table) 0 program.functions g h valid.functions e)).params
 
   mutual
-    pub expr_ok : (e : PlainExpr) (l t : ℕ) (rest : List PlainIr) → IsExpr IsAnyFunction e → ValidExpr program table f e → t + expr_need e ≤ slots → Stands all (expr_code program e l t rest) → AllGood rest → AllGood (expr_code program e l t rest)
+    pub expr_ok : (e : PlainExpr) (l t : ℕ) (rest : List PlainIr) → IsExpr IsNumericOrVoid IsAnyFunction e → ValidExpr program table f e → t + expr_need e ≤ slots → Stands all (expr_code program e l t rest) → AllGood rest → AllGood (expr_code program e l t rest)
     expr_ok (expression ty mode node) l t rest p v le s r = node_ok ty mode node l t rest p.0 p.1 v.0 v.1 v.2 le s r
 
-    node_ok : (ty : PlainType) (mode : Mode) (node : PlainNode) (l t : ℕ) (rest : List PlainIr) → IsNumericOrVoid ty → IsNode IsAnyFunction node → IsExprType program ty → IsTyped program table ty node → ValidParts program table f node → t + expr_need (expression ty mode node) ≤ slots → Stands all (node_code program ty mode node l t rest) → AllGood rest → AllGood (node_code program ty mode node l t rest)
+    node_ok : (ty : PlainType) (mode : Mode) (node : PlainNode) (l t : ℕ) (rest : List PlainIr) → IsNumericOrVoid ty → IsNode IsNumericOrVoid IsAnyFunction node → IsExprType program ty → IsTyped program table ty node → ValidParts program table f node → t + expr_need (expression ty mode node) ≤ slots → Stands all (node_code program ty mode node l t rest) → AllGood rest → AllGood (node_code program ty mode node l t rest)
     node_ok ty mode (number n) l t rest num p k tp v le s r = let i = arithmetic_scalar program ty _ k tp in ((temp_ok t ty (omega (arith, le)) i, number_ok ty n i tp), r)
     node_ok ty mode null l t rest num p k tp v le s r = absurd p
     node_ok ty mode (load (object o)) l t rest num p k tp v le s r = (load_ok t o ty (omega (arith, le)) v tp, r)
@@ -454,7 +454,7 @@ module _ (program : PlainProgram) (table : IoTable) (valid : Valid program table
     node_ok ty mode (io op port i w) l t rest num p k tp v le s r = absurd p
     node_ok ty mode (group acquire g) l t rest num p k tp v le s r = absurd p
 
-    args_ok : (es : PlainExprs) (l base k : ℕ) (rest : List PlainIr) (t : ℕ) → t ≡ base + k → AreExprs IsAnyFunction es → ValidExprs program table f es → base + greatest_from k (exprs_needs es) ≤ slots → Stands all (args_code program es l t rest) → AllGood rest → AllGood (args_code program es l t rest)
+    args_ok : (es : PlainExprs) (l base k : ℕ) (rest : List PlainIr) (t : ℕ) → t ≡ base + k → AreExprs IsNumericOrVoid IsAnyFunction es → ValidExprs program table f es → base + greatest_from k (exprs_needs es) ≤ slots → Stands all (args_code program es l t rest) → AllGood rest → AllGood (args_code program es l t rest)
     args_ok last_expr l base k rest t e p v le s r = r
     args_ok (next_expr a es) l base k rest t e p v le s r =
         let q = args_code program es (l + expr_labels a) (t + 1) rest in

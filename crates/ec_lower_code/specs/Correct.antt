@@ -1,5 +1,6 @@
 -- What the operations of a program have to do with it.
 use Rattle.std.specs.Prelude.{◌≡◌, ℕ, ◌+◌, ◌≤◌, nat_le, Bool, Contains, [], Some, slice_get}
+use Rattle.std.specs.List.{AllByRecursion}
 use Rattle.ec_runs.specs.Behaviours.{Reaches, IsWithin}
 use Rattle.ec_iohw.specs.declared.table.IoTable.{IoTable}
 use Rattle.ec_core.specs.Meaning.{source, work}
@@ -14,9 +15,10 @@ use Rattle.ec_core.specs.Words.{program_words}
 use Rattle.ec_ir.specs.Costs.{functions_words}
 use Rattle.ec_ir.specs.Meaning.{meaning, steps_of}
 use Rattle.ec_ir.specs.Operations.{PlainIrFunction, PlainIrProgram}
+use Rattle.ec_ir.specs.Integers.{IsIntegerOperation}
 use Rattle.ec_ir.specs.Valid.{count, called_in, ValidIr}
 use Rattle.ec_lower_code.specs.Code.{lowered}
-use Rattle.ec_lower_code.specs.Parts.{IsLowered}
+use Rattle.ec_lower_code.specs.Parts.{IsLowered, IsCompiled}
 
 -- the steps that m operations may take are within the work of n turns, less that of the program's own row: 64 times its
 -- 200 words
@@ -53,3 +55,13 @@ abbrev pub LoweredIsMadeOf : Type 0
 LoweredIsMadeOf =
     (program : PlainProgram) (io : IoTable) → Valid program io → IsLowered program
     → IsMadeOf program io (lowered program)
+
+-- the operations of a compiled program are those on integers, and such a program is lowered
+pub record IsMadeOfIntegers (program : PlainProgram) (ir : PlainIrProgram) : Type 0 where
+  pub lowered : IsLowered program
+  pub operations : AllByRecursion (λ g. AllByRecursion IsIntegerOperation g.code) ir.functions
+
+abbrev pub CompiledIsOfIntegers : Type 0
+CompiledIsOfIntegers =
+    (program : PlainProgram) (io : IoTable) → Valid program io → IsCompiled program
+    → IsMadeOfIntegers program (lowered program)

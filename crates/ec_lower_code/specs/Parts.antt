@@ -20,6 +20,12 @@ abbrev pub IsNumericOrVoid : PlainType → Type 0
 IsNumericOrVoid void = ⊤
 IsNumericOrVoid ty = IsNumeric ty
 
+-- an integer type or void
+abbrev pub IsIntegerOrVoid : PlainType → Type 0
+IsIntegerOrVoid void = ⊤
+IsIntegerOrVoid (integer signed bytes) = ⊤
+IsIntegerOrVoid ty = ⊥
+
 abbrev pub IsNamed : PlainPlace → Type 0
 IsNamed (object o) = ⊤
 IsNamed p = ⊥
@@ -27,11 +33,11 @@ IsNamed p = ⊥
 abbrev pub IsAnyFunction : ℕ → Type 0
 IsAnyFunction f = ⊤
 
--- the functions that are called are such ones
-module _ (IsCallee : ℕ → Type 0) where
+-- expressions have such types, and the functions that are called are such ones
+module _ (HasForm : PlainType → Type 0) (IsCallee : ℕ → Type 0) where
   abbrev mutual
     pub IsExpr : PlainExpr → Type 0
-    IsExpr (expression ty mode node) = IsNumericOrVoid ty × IsNode node
+    IsExpr (expression ty mode node) = HasForm ty × IsNode node
 
     pub IsNode : PlainNode → Type 0
     IsNode (number n) = ⊤
@@ -85,4 +91,8 @@ module _ (IsCallee : ℕ → Type 0) where
 
 -- a program whose functions are made of these parts
 abbrev pub IsLowered : PlainProgram → Type 0
-IsLowered program = AllByRecursion (λ f. IsStmt IsAnyFunction f.body) program.functions
+IsLowered program = AllByRecursion (λ f. IsStmt IsNumericOrVoid IsAnyFunction f.body) program.functions
+
+-- a program whose expressions are integers as well: the code of fixed-point operations is still to come
+abbrev pub IsCompiled : PlainProgram → Type 0
+IsCompiled program = AllByRecursion (λ f. IsStmt IsIntegerOrVoid IsAnyFunction f.body) program.functions

@@ -1,0 +1,6 @@
+use Rattle.std.proofs.Common.{◌∙◌}
+use Rattle.ec_lower.proofs.updates.give.Goals as goal
+
+pub returns : goal.returns
+returns c = λ rest.
+    rw (c.value_type-z.ensures, c.temp.ensures) at (c.in_ok-put.ensures rest ∙ c.in_ok-put_conversion.ensures _)

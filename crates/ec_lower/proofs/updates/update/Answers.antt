@@ -1,0 +1,5 @@
+use Rattle.std.proofs.Common.{◌∙◌}
+use Rattle.ec_lower.proofs.updates.update.Goals as goal
+
+pub returns : goal.returns
+returns c = λ rest. rw (c.in_ok-up.ensures) at (c.in_ok-give.ensures rest ∙ c.in_ok-operate.ensures _)

@@ -1,0 +1,4 @@
+-- The definitions that the contracts of the lowering cite.
+pub mod Emits
+pub mod Forms
+pub mod Sizes

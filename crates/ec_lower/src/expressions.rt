@@ -1,0 +1,312 @@
+//! The operations of expressions.
+ghost use Rattle.std.specs.Prelude.{◌≡◌, ◌+◌, ◌∷◌, pos, OnOk, IfOk};
+ghost use Rattle.ec_core.specs.Plain.{plain_type, plain_expr, plain_exprs, plain_node, plain_program};
+ghost use Rattle.ec_core.specs.Operators.{step_operator};
+ghost use Rattle.ec_core.specs.Plain.{logical_or, conditional};
+ghost use Rattle.ec_core.specs.Typing.{int};
+ghost use Rattle.ec_ir.specs.Operations.{constant, load_object};
+ghost use Rattle.ec_lower.specs.Emits.{Emits};
+ghost use Rattle.ec_lower_code.specs.Code.{temp, expr_labels, node_labels, exprs_labels, expr_code, node_code, args_code};
+ghost use Rattle.ec_lower_code.specs.Code.{params_code, params_of, step_code};
+
+use crate::emit::{
+    above, behind, put, put_binary, put_conversion, put_load, put_number, put_unary, result_temp,
+    temp, truth,
+};
+use crate::updates::{step, update};
+use ec_core::{CType, Expr, Node, PlaceExpr, Program};
+use ec_fx::Mode;
+use ec_ir::{Ir, Temp};
+use ec_space::{NoMemory, Seq};
+use std::alloc::Global;
+
+/// Appends the operations of an expression, whose value goes to the place `t`, with labels from `l` on. Answers the
+/// first label that is free.
+#[cycle(lower)]
+pub fn lower_expr(
+    code: &mut Seq<Ir>,
+    alloc: Global,
+    program: &Program,
+    e: &Expr,
+    l: u64,
+    t: u16,
+) -> Result<u64, NoMemory>
+    ensures next { IfOk result (λ m. m ≡ l + expr_labels (plain_expr e.now)) }
+    ensures code { OnOk result (Emits code.old.items code.new.items
+        (expr_code (plain_program program.now) (plain_expr e.now) l t)) }
+{
+    match &e.node {
+        Node::Number(n) => {
+            put_number(code, n, &e.ty, t)?;
+            Ok(l)
+        }
+        Node::Load(PlaceExpr::Object(o)) => {
+            put_load(code, &e.ty, *o, t)?;
+            Ok(l)
+        }
+        Node::Unary(op, a) => {
+            let m = lower_expr(code, alloc, program, a, l, t)?;
+            put_unary(code, alloc, *op, &e.ty, e.mode, t)?;
+            Ok(m)
+        }
+        Node::Binary(op, a, b) => {
+            let k = lower_expr(code, alloc, program, a, l, t)?;
+            let u = above(t)?;
+            let m = lower_expr(code, alloc, program, b, k, u)?;
+            put_binary(code, alloc, *op, &e.ty, e.mode, t, t, &a.ty, u, &b.ty)?;
+            Ok(m)
+        }
+        Node::Convert(a) => {
+            let m = lower_expr(code, alloc, program, a, l, t)?;
+            put_conversion(code, alloc, t, &e.ty, e.mode, &a.ty)?;
+            Ok(m)
+        }
+        Node::Comma(a, b) => {
+            let k = lower_expr(code, alloc, program, a, l, t)?;
+            let m = lower_expr(code, alloc, program, b, k, t)?;
+            Ok(m)
+        }
+        node => {
+            let m = lower_effect(code, alloc, program, &e.ty, e.mode, node, l, t)?;
+            Ok(m)
+        }
+    }
+}
+
+/// Those of a node with an effect or a choice.
+#[cycle(lower)]
+fn lower_effect(
+    code: &mut Seq<Ir>,
+    alloc: Global,
+    program: &Program,
+    ty: &CType,
+    mode: Mode,
+    node: &Node,
+    l: u64,
+    t: u16,
+) -> Result<u64, NoMemory>
+    ensures next { IfOk result (λ m. m ≡ l + node_labels (plain_node node.now)) }
+    ensures code { OnOk result (Emits code.old.items code.new.items
+        (node_code (plain_program program.now) (plain_type ty.now) mode (plain_node node.now) l t)) }
+{
+    match node {
+        Node::Assign(PlaceExpr::Object(o), a) => {
+            let m = lower_expr(code, alloc, program, a, l, t)?;
+            put(code, Ir::StoreObj(*o, 0, temp(t, ty)))?;
+            Ok(m)
+        }
+        Node::Compound(op, own, PlaceExpr::Object(o), a) => {
+            put(code, Ir::LoadObj(temp(t, ty), *o, 0))?;
+            let u = above(t)?;
+            let m = lower_expr(code, alloc, program, a, l, u)?;
+            update(code, alloc, *op, *own, mode, ty, *o, t, &a.ty)?;
+            Ok(m)
+        }
+        Node::Step {
+            up,
+            prefix,
+            place: PlaceExpr::Object(o),
+        } => {
+            lower_step(code, alloc, *up, *prefix, ty, mode, *o, t)?;
+            Ok(l)
+        }
+        Node::Call(f, args) => {
+            let m = lower_args(code, alloc, program, args.as_slice(), l, t)?;
+            store_call(code, program, *f, args.as_slice(), t)?;
+            put(code, Ir::Call(*f, result_temp(t, ty)))?;
+            Ok(m)
+        }
+        node => {
+            let m = lower_choice(code, alloc, program, ty, mode, node, l, t)?;
+            Ok(m)
+        }
+    }
+}
+
+/// Those of a step of an object.
+fn lower_step(
+    code: &mut Seq<Ir>,
+    alloc: Global,
+    up: bool,
+    prefix: bool,
+    ty: &CType,
+    mode: Mode,
+    o: u16,
+    t: u16,
+) -> Result<(), NoMemory>
+    ensures { OnOk result (Emits code.old.items code.new.items (λ rest. load_object (temp t (plain_type ty.now)) o 0
+        ∷ constant (temp (t + 1) int) (pos 1) ∷ step_code prefix (step_operator up) mode (plain_type ty.now) o t rest)) }
+{
+    put(code, Ir::LoadObj(temp(t, ty), o, 0))?;
+    let at = above(t)?;
+    put(code, Ir::Const(Temp { at, bytes: 2 }, 1))?;
+    step(code, alloc, prefix, up, mode, ty, o, t)?;
+    Ok(())
+}
+
+/// Those of a truth value or a choice. `lower` takes no other form.
+#[cycle(lower)]
+fn lower_choice(
+    code: &mut Seq<Ir>,
+    alloc: Global,
+    program: &Program,
+    ty: &CType,
+    mode: Mode,
+    node: &Node,
+    l: u64,
+    t: u16,
+) -> Result<u64, NoMemory>
+    ensures next { IfOk result (λ m. m ≡ l + node_labels (plain_node node.now)) }
+    ensures code { OnOk result (Emits code.old.items code.new.items
+        (node_code (plain_program program.now) (plain_type ty.now) mode (plain_node node.now) l t)) }
+{
+    match node {
+        Node::Not(a) => {
+            let k = behind(l, 2)?;
+            let m = lower_expr(code, alloc, program, a, k, t)?;
+            put(code, Ir::BranchZero(temp(t, &a.ty), l))?;
+            truth(code, false, ty, l, t)?;
+            Ok(m)
+        }
+        Node::And(a, b) => {
+            let k = behind(l, 2)?;
+            let k = lower_expr(code, alloc, program, a, k, t)?;
+            put(code, Ir::BranchZero(temp(t, &a.ty), l))?;
+            let m = lower_expr(code, alloc, program, b, k, t)?;
+            put(code, Ir::BranchZero(temp(t, &b.ty), l))?;
+            truth(code, true, ty, l, t)?;
+            Ok(m)
+        }
+        Node::Or(a, b) => {
+            let m = lower_or(code, alloc, program, ty, mode, a, b, l, t)?;
+            Ok(m)
+        }
+        Node::Cond(c, a, b) => {
+            let m = lower_cond(code, alloc, program, ty, mode, c, a, b, l, t)?;
+            Ok(m)
+        }
+        _ => Err(NoMemory),
+    }
+}
+
+/// Those of `||`.
+#[cycle(lower)]
+fn lower_or(
+    code: &mut Seq<Ir>,
+    alloc: Global,
+    program: &Program,
+    ty: &CType,
+    mode: Mode,
+    a: &Expr,
+    b: &Expr,
+    l: u64,
+    t: u16,
+) -> Result<u64, NoMemory>
+    ensures next { IfOk result (λ m. m ≡ l + 4 + expr_labels (plain_expr a.now) + expr_labels (plain_expr b.now)) }
+    ensures code { OnOk result (Emits code.old.items code.new.items (node_code (plain_program program.now)
+        (plain_type ty.now) mode (logical_or (plain_expr a.now) (plain_expr b.now)) l t)) }
+{
+    let right = behind(l, 2)?;
+    let end = behind(l, 3)?;
+    let k = behind(l, 4)?;
+    let k = lower_expr(code, alloc, program, a, k, t)?;
+    put(code, Ir::BranchZero(temp(t, &a.ty), right))?;
+    put(code, Ir::Jump(end))?;
+    put(code, Ir::Label(right))?;
+    let m = lower_expr(code, alloc, program, b, k, t)?;
+    put(code, Ir::BranchZero(temp(t, &b.ty), l))?;
+    put(code, Ir::Label(end))?;
+    truth(code, true, ty, l, t)?;
+    Ok(m)
+}
+
+/// Those of `?:`.
+#[cycle(lower)]
+fn lower_cond(
+    code: &mut Seq<Ir>,
+    alloc: Global,
+    program: &Program,
+    ty: &CType,
+    mode: Mode,
+    c: &Expr,
+    a: &Expr,
+    b: &Expr,
+    l: u64,
+    t: u16,
+) -> Result<u64, NoMemory>
+    ensures next { IfOk result (λ m. m ≡ l + 2 + expr_labels (plain_expr c.now) + expr_labels (plain_expr a.now)
+        + expr_labels (plain_expr b.now)) }
+    ensures code { OnOk result (Emits code.old.items code.new.items (node_code (plain_program program.now)
+        (plain_type ty.now) mode (conditional (plain_expr c.now) (plain_expr a.now) (plain_expr b.now)) l t)) }
+{
+    let end = behind(l, 1)?;
+    let k = behind(l, 2)?;
+    let k = lower_expr(code, alloc, program, c, k, t)?;
+    put(code, Ir::BranchZero(temp(t, &c.ty), l))?;
+    let k = lower_expr(code, alloc, program, a, k, t)?;
+    put(code, Ir::Jump(end))?;
+    put(code, Ir::Label(l))?;
+    let m = lower_expr(code, alloc, program, b, k, t)?;
+    put(code, Ir::Label(end))?;
+    Ok(m)
+}
+
+/// Those of arguments, whose values go to the places from `t` on.
+#[cycle(lower)]
+fn lower_args(
+    code: &mut Seq<Ir>,
+    alloc: Global,
+    program: &Program,
+    args: &[Expr],
+    l: u64,
+    t: u16,
+) -> Result<u64, NoMemory>
+    ensures next { IfOk result (λ m. m ≡ l + exprs_labels (plain_exprs args.now)) }
+    ensures code { OnOk result (Emits code.old.items code.new.items
+        (args_code (plain_program program.now) (plain_exprs args.now) l t)) }
+{
+    let mut k = l;
+    let mut u = t;
+    for e in args {
+        k = lower_expr(code, alloc, program, e, k, u)?;
+        u = above(u)?;
+    }
+    Ok(k)
+}
+
+/// The stores of arguments from `t` on to the parameters.
+fn store_args(code: &mut Seq<Ir>, params: &[u16], args: &[Expr], t: u16) -> Result<(), NoMemory>
+    ensures { OnOk result (Emits code.old.items code.new.items (params_code params.now (plain_exprs args.now) t)) }
+{
+    let mut u = t;
+    for (i, o) in params.iter().enumerate() {
+        match args.get(i) {
+            None => return Ok(()),
+            Some(e) => {
+                put(code, Ir::StoreObj(*o, 0, temp(u, &e.ty)))?;
+                u = above(u)?;
+            }
+        }
+    }
+    Ok(())
+}
+
+/// Those of a call, from its arguments on.
+fn store_call(
+    code: &mut Seq<Ir>,
+    program: &Program,
+    f: u16,
+    args: &[Expr],
+    t: u16,
+) -> Result<(), NoMemory>
+    ensures { OnOk result (Emits code.old.items code.new.items
+        (params_code (params_of (plain_program program.now) f) (plain_exprs args.now) t)) }
+{
+    match program.funcs.get(f as usize) {
+        None => Ok(()),
+        Some(g) => {
+            store_args(code, g.params.as_slice(), args, t)?;
+            Ok(())
+        }
+    }
+}

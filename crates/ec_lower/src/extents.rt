@@ -1,0 +1,356 @@
+//! How many labels the operations of a part have, and how many places its temporaries take.
+ghost use Rattle.std.specs.Prelude.{◌≡◌, ◌+◌, max, [], ◌∷◌, option_map, IfOk};
+ghost use Rattle.std.specs.Option.{option_copied};
+ghost use Rattle.ec_core.specs.Needs.{expr_need, node_need, operand_needs, exprs_needs, most, option_need};
+ghost use Rattle.ec_core.specs.Needs.{stmt_need, stmts_need};
+ghost use Rattle.ec_core.specs.Plain.{branch, plain_expr, plain_exprs, plain_node, plain_stmt, plain_stmts};
+ghost use Rattle.ec_lower.specs.Emits.{plain_other};
+ghost use Rattle.ec_core.specs.Needs.{kind_need, option_stmt_need};
+ghost use Rattle.ec_lower_code.specs.Code.{expr_labels, node_labels, exprs_labels, optional_labels};
+
+use crate::emit::{above, behind};
+use ec_core::{Expr, Node, PlaceExpr, Stmt, StmtKind};
+use ec_space::NoMemory;
+
+/// The numbers of labels and of places for temporaries.
+#[derive(Clone, Copy)]
+pub struct Extent {
+    pub labels: u64,
+    pub places: u16,
+}
+
+/// That of a node with an operand and so many labels of its own.
+fn alone(a: Extent, own: u64) -> Result<Extent, NoMemory>
+    ensures labels { IfOk result (λ x. x.labels ≡ own + a.labels) }
+    ensures places { IfOk result (λ x. x.places ≡ node_need (a.places ∷ [])) }
+{
+    let labels = behind(own, a.labels)?;
+    Ok(Extent {
+        labels,
+        places: a.places.max(1),
+    })
+}
+
+/// That of a node with two operands, of which the first is kept while the second is worked out.
+fn beside(a: Extent, b: Extent, own: u64) -> Result<Extent, NoMemory>
+    ensures labels { IfOk result (λ x. x.labels ≡ own + a.labels + b.labels) }
+    ensures places { IfOk result (λ x. x.places ≡ node_need (a.places ∷ b.places ∷ [])) }
+{
+    let first = behind(own, a.labels)?;
+    let labels = behind(first, b.labels)?;
+    let second = above(b.places)?;
+    Ok(Extent {
+        labels,
+        places: a.places.max(second).max(1),
+    })
+}
+
+/// That of a node with three operands.
+fn between(a: Extent, b: Extent, c: Extent, own: u64) -> Result<Extent, NoMemory>
+    ensures labels { IfOk result (λ x. x.labels ≡ own + a.labels + b.labels + c.labels) }
+    ensures places { IfOk result (λ x. x.places ≡ node_need (a.places ∷ b.places ∷ c.places ∷ [])) }
+{
+    let first = beside(a, b, own)?;
+    let labels = behind(first.labels, c.labels)?;
+    let second = above(c.places)?;
+    let third = above(second)?;
+    Ok(Extent {
+        labels,
+        places: first.places.max(third),
+    })
+}
+
+/// That of an expression.
+#[cycle(extents)]
+pub fn expr_extent(e: &Expr) -> Result<Extent, NoMemory>
+    ensures labels { IfOk result (λ x. x.labels ≡ expr_labels (plain_expr e.now)) }
+    ensures places { IfOk result (λ x. x.places ≡ expr_need (plain_expr e.now)) }
+{
+    match &e.node {
+        Node::Number(_) | Node::Load(PlaceExpr::Object(_)) => Ok(Extent {
+            labels: 0,
+            places: 1,
+        }),
+        Node::Unary(_, a) => {
+            let x = expr_extent(a)?;
+            let whole = alone(x, 0)?;
+            Ok(whole)
+        }
+        Node::Convert(a) => {
+            let x = expr_extent(a)?;
+            let whole = alone(x, 0)?;
+            Ok(whole)
+        }
+        Node::Assign(PlaceExpr::Object(_), a) => {
+            let x = expr_extent(a)?;
+            let whole = alone(x, 0)?;
+            Ok(whole)
+        }
+        Node::Compound(_, _, PlaceExpr::Object(_), a) => {
+            let x = expr_extent(a)?;
+            let old = Extent {
+                labels: 0,
+                places: 1,
+            };
+            let whole = beside(old, x, 0)?;
+            Ok(whole)
+        }
+        Node::Step {
+            place: PlaceExpr::Object(_),
+            ..
+        } => Ok(Extent {
+            labels: 0,
+            places: 2,
+        }),
+        node => {
+            let x = choice_extent(node)?;
+            Ok(x)
+        }
+    }
+}
+
+/// That of a node with several operands or with labels of its own. `lower` takes no other form.
+#[cycle(extents)]
+fn choice_extent(node: &Node) -> Result<Extent, NoMemory>
+    ensures labels { IfOk result (λ x. x.labels ≡ node_labels (plain_node node.now)) }
+    ensures places { IfOk result (λ x. x.places ≡ node_need (operand_needs (plain_node node.now))) }
+{
+    match node {
+        Node::Not(a) => {
+            let x = expr_extent(a)?;
+            let whole = alone(x, 2)?;
+            Ok(whole)
+        }
+        Node::Binary(_, a, b) => {
+            let x = pair_extent(a, b, 0)?;
+            Ok(x)
+        }
+        Node::And(a, b) => {
+            let x = pair_extent(a, b, 2)?;
+            Ok(x)
+        }
+        Node::Or(a, b) => {
+            let x = pair_extent(a, b, 4)?;
+            Ok(x)
+        }
+        Node::Comma(a, b) => {
+            let x = pair_extent(a, b, 0)?;
+            Ok(x)
+        }
+        Node::Cond(c, a, b) => {
+            let x = expr_extent(c)?;
+            let y = expr_extent(a)?;
+            let z = expr_extent(b)?;
+            let whole = between(x, y, z, 2)?;
+            Ok(whole)
+        }
+        Node::Call(_, args) => {
+            let x = args_extent(args.as_slice())?;
+            Ok(x)
+        }
+        _ => Err(NoMemory),
+    }
+}
+
+/// That of two operands.
+#[cycle(extents)]
+fn pair_extent(a: &Expr, b: &Expr, own: u64) -> Result<Extent, NoMemory>
+    ensures labels { IfOk result (λ x. x.labels
+        ≡ own + expr_labels (plain_expr a.now) + expr_labels (plain_expr b.now)) }
+    ensures places { IfOk result (λ x. x.places
+        ≡ node_need (expr_need (plain_expr a.now) ∷ expr_need (plain_expr b.now) ∷ [])) }
+{
+    let x = expr_extent(a)?;
+    let y = expr_extent(b)?;
+    let z = beside(x, y, own)?;
+    Ok(z)
+}
+
+/// That of arguments, which are kept while the next ones are worked out.
+#[cycle(extents)]
+fn args_extent(args: &[Expr]) -> Result<Extent, NoMemory>
+    ensures labels { IfOk result (λ x. x.labels ≡ exprs_labels (plain_exprs args.now)) }
+    ensures places { IfOk result (λ x. x.places ≡ node_need (exprs_needs (plain_exprs args.now))) }
+{
+    let mut labels = 0;
+    let mut places = 1;
+    let mut kept = 0;
+    for e in args {
+        let x = expr_extent(e)?;
+        labels = behind(labels, x.labels)?;
+        places = kept_beside(places, x.places, kept)?;
+        kept = above(kept)?;
+    }
+    Ok(Extent { labels, places })
+}
+
+/// The most of some places and of others above so many that are kept.
+fn kept_beside(places: u16, more: u16, kept: u16) -> Result<u16, NoMemory>
+    ensures { IfOk result (λ n. n ≡ max places (more + kept)) }
+{
+    match more.checked_add(kept) {
+        Some(n) => Ok(places.max(n)),
+        None => Err(NoMemory),
+    }
+}
+
+/// The labels of an expression that may be absent.
+pub fn optional_labels(e: Option<&Expr>) -> Result<u64, NoMemory>
+    ensures { IfOk result (λ n. n ≡ optional_labels (option_map plain_expr (option_copied e.entry))) }
+{
+    match e {
+        None => Ok(0),
+        Some(e) => {
+            let x = expr_extent(e)?;
+            Ok(x.labels)
+        }
+    }
+}
+
+fn expr_places(e: &Expr) -> Result<u16, NoMemory>
+    ensures { IfOk result (λ n. n ≡ expr_need (plain_expr e.now)) }
+{
+    let x = expr_extent(e)?;
+    Ok(x.places)
+}
+
+fn optional_places(e: Option<&Expr>) -> Result<u16, NoMemory>
+    ensures { IfOk result (λ n. n ≡ option_need (option_map plain_expr (option_copied e.entry))) }
+{
+    match e {
+        None => Ok(0),
+        Some(e) => {
+            let n = expr_places(e)?;
+            Ok(n)
+        }
+    }
+}
+
+/// The most places that one of these takes.
+fn most_places(es: &[Expr]) -> Result<u16, NoMemory>
+    ensures { IfOk result (λ n. n ≡ most (exprs_needs (plain_exprs es.now))) }
+{
+    let mut most = 0;
+    for e in es {
+        let n = expr_places(e)?;
+        most = n.max(most);
+    }
+    Ok(most)
+}
+
+/// The most places that an expression of a statement takes.
+#[cycle(places)]
+pub fn stmt_places(s: &Stmt) -> Result<u16, NoMemory>
+    ensures { IfOk result (λ n. n ≡ stmt_need (plain_stmt s.now)) }
+{
+    match &s.kind {
+        StmtKind::Empty | StmtKind::Break | StmtKind::Continue => Ok(0),
+        StmtKind::Do1(e) => expr_places(e),
+        StmtKind::Block(ss) => {
+            let x = stmts_places(ss.as_slice())?;
+            Ok(x)
+        }
+        StmtKind::Local(_, values) => {
+            let x = most_places(values.as_slice())?;
+            Ok(x)
+        }
+        StmtKind::If(c, a, b) => match b {
+            None => {
+                let x = branch_places(c, a, None)?;
+                Ok(x)
+            }
+            Some(b) => {
+                let x = branch_places(c, a, Some(b))?;
+                Ok(x)
+            }
+        },
+        StmtKind::While(c, body) => {
+            let x = loop_places(Some(c), None, body)?;
+            Ok(x)
+        }
+        StmtKind::DoWhile(body, c) => {
+            let x = loop_places(Some(c), None, body)?;
+            Ok(x)
+        }
+        StmtKind::For(first, c, last, body) => match first {
+            None => {
+                let x = loop_places(c.as_ref(), last.as_ref(), body)?;
+                Ok(x)
+            }
+            Some(first) => {
+                let x = for_places(first, c.as_ref(), last.as_ref(), body)?;
+                Ok(x)
+            }
+        },
+        StmtKind::Return(e) => {
+            let x = optional_places(e.as_ref())?;
+            Ok(x)
+        }
+    }
+}
+
+/// That of an `if`, of which the second statement need not be there.
+#[cycle(places)]
+fn branch_places(c: &Expr, a: &Stmt, b: Option<&Stmt>) -> Result<u16, NoMemory>
+    ensures { IfOk result (λ n. n ≡ kind_need (branch (plain_expr c.now) (plain_stmt a.now)
+        (plain_other (option_copied b.entry)))) }
+{
+    let x = expr_places(c)?;
+    let y = stmt_places(a)?;
+    let z = other_places(b)?;
+    Ok(x.max(y.max(z)))
+}
+
+/// That of a loop.
+#[cycle(places)]
+fn loop_places(c: Option<&Expr>, last: Option<&Expr>, body: &Stmt) -> Result<u16, NoMemory>
+    ensures { IfOk result (λ n. n ≡ max (option_need (option_map plain_expr (option_copied c.entry)))
+        (max (option_need (option_map plain_expr (option_copied last.entry))) (stmt_need (plain_stmt body.now)))) }
+{
+    let x = optional_places(c)?;
+    let y = optional_places(last)?;
+    let z = stmt_places(body)?;
+    Ok(x.max(y.max(z)))
+}
+
+/// That of a `for` with a first part.
+#[cycle(places)]
+fn for_places(
+    first: &Stmt,
+    c: Option<&Expr>,
+    last: Option<&Expr>,
+    body: &Stmt,
+) -> Result<u16, NoMemory>
+    ensures { IfOk result (λ n. n ≡ max (stmt_need (plain_stmt first.now))
+        (max (option_need (option_map plain_expr (option_copied c.entry)))
+        (max (option_need (option_map plain_expr (option_copied last.entry))) (stmt_need (plain_stmt body.now))))) }
+{
+    let x = stmt_places(first)?;
+    let y = loop_places(c, last, body)?;
+    Ok(x.max(y))
+}
+
+#[cycle(places)]
+fn other_places(s: Option<&Stmt>) -> Result<u16, NoMemory>
+    ensures { IfOk result (λ n. n ≡ option_stmt_need (plain_other (option_copied s.entry))) }
+{
+    match s {
+        None => Ok(0),
+        Some(s) => {
+            let x = stmt_places(s)?;
+            Ok(x)
+        }
+    }
+}
+
+#[cycle(places)]
+fn stmts_places(ss: &[Stmt]) -> Result<u16, NoMemory>
+    ensures { IfOk result (λ n. n ≡ stmts_need (plain_stmts ss.now)) }
+{
+    let mut most = 0;
+    for s in ss {
+        let n = stmt_places(s)?;
+        most = n.max(most);
+    }
+    Ok(most)
+}

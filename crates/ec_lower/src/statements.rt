@@ -1,0 +1,441 @@
+//! The operations of statements.
+ghost use Rattle.std.specs.Prelude.{◌≡◌, ◌+◌, map, ◌∷◌, Some, None, option_map, OnOk, IfOk};
+ghost use Rattle.std.specs.Option.{option_copied};
+ghost use Rattle.ec_core.specs.Plain.{branch, for_loop, return_value, no_stmt, a_stmt, plain_expr, plain_exprs, plain_stmt, plain_stmts};
+ghost use Rattle.ec_core.specs.Plain.{plain_program};
+ghost use Rattle.ec_ir.specs.Operations.{label, jump};
+ghost use Rattle.ec_lower.specs.Emits.{Emits, IsLaidOut};
+ghost use Rattle.ec_lower_code.specs.Code.{expr_labels, exprs_labels, optional_labels, stmt_labels};
+ghost use Rattle.ec_lower_code.specs.Code.{stmts_labels, kind_labels, leaves_of_object, init_code, test_code, last_code};
+ghost use Rattle.ec_lower_code.specs.Code.{loop_code, stmt_code, kind_code, stmts_code, temp};
+ghost use Rattle.ec_core.specs.Layout.{plain_leaf};
+
+use crate::emit::{behind, put, put_store, temp};
+use crate::expressions::lower_expr;
+use crate::extents::optional_labels;
+use ec_core::{Expr, Leaf, Program, Stmt, StmtKind, leaves};
+use ec_ir::Ir;
+use ec_space::{NoMemory, Seq};
+use std::alloc::Global;
+
+// ---- parts without statements
+
+/// The scalar parts of an object.
+fn leaves_of_object(alloc: Global, program: &Program, o: u16) -> Result<Seq<Leaf>, NoMemory>
+    requires { IsLaidOut (plain_program program.now) }
+    ensures { IfOk result (λ leaves. map plain_leaf leaves.items
+        ≡ leaves_of_object (plain_program program.now) o) }
+{
+    match program.objs.get(o as usize) {
+        None => Ok(Seq::new(alloc)),
+        Some(object) => {
+            let leaves = leaves(alloc, &program.structs, &object.ty)?;
+            Ok(leaves)
+        }
+    }
+}
+
+/// Those of the values of an object's leaves. There are no more values than leaves.
+fn lower_values(
+    code: &mut Seq<Ir>,
+    alloc: Global,
+    program: &Program,
+    leaves: &Seq<Leaf>,
+    o: u16,
+    values: &[Expr],
+    l: u64,
+) -> Result<u64, NoMemory>
+    ensures next { IfOk result (λ m. m ≡ l + exprs_labels (plain_exprs values.now)) }
+    ensures code { OnOk result (Emits code.old.items code.new.items
+        (init_code (plain_program program.now) (map plain_leaf leaves.now.items) o (plain_exprs values.now) l)) }
+{
+    let mut k = l;
+    for (i, e) in values.iter().enumerate() {
+        match leaves.get(i) {
+            None => return Err(NoMemory),
+            Some(leaf) => {
+                k = lower_expr(code, alloc, program, e, k, 0)?;
+                put_store(code, o, leaf.at, &e.ty, 0)?;
+            }
+        }
+    }
+    Ok(k)
+}
+
+/// Those of a declaration.
+fn lower_local(
+    code: &mut Seq<Ir>,
+    alloc: Global,
+    program: &Program,
+    o: u16,
+    values: &[Expr],
+    l: u64,
+) -> Result<u64, NoMemory>
+    requires { IsLaidOut (plain_program program.now) }
+    ensures next { IfOk result (λ m. m ≡ l + exprs_labels (plain_exprs values.now)) }
+    ensures code { OnOk result (Emits code.old.items code.new.items (init_code (plain_program program.now)
+        (leaves_of_object (plain_program program.now) o) o (plain_exprs values.now) l)) }
+{
+    let leaves = leaves_of_object(alloc, program, o)?;
+    let m = lower_values(code, alloc, program, &leaves, o, values, l)?;
+    Ok(m)
+}
+
+/// Those of a return.
+fn lower_return(
+    code: &mut Seq<Ir>,
+    alloc: Global,
+    program: &Program,
+    e: Option<&Expr>,
+    l: u64,
+    out: u64,
+    on: u64,
+) -> Result<u64, NoMemory>
+    ensures next { IfOk result (λ m. m ≡ l + optional_labels (option_map plain_expr (option_copied e.entry))) }
+    ensures code { OnOk result (Emits code.old.items code.new.items (kind_code (plain_program program.now)
+        (return_value (option_map plain_expr (option_copied e.entry))) l out on)) }
+{
+    match e {
+        None => {
+            put(code, Ir::Return(None))?;
+            Ok(l)
+        }
+        Some(e) => {
+            let m = lower_expr(code, alloc, program, e, l, 0)?;
+            put(code, Ir::Return(Some(temp(0, &e.ty))))?;
+            Ok(m)
+        }
+    }
+}
+
+/// Those of a condition that may be absent; where it is 0 they jump to `out`.
+fn lower_test(
+    code: &mut Seq<Ir>,
+    alloc: Global,
+    program: &Program,
+    c: Option<&Expr>,
+    out: u64,
+    l: u64,
+) -> Result<u64, NoMemory>
+    ensures next { IfOk result (λ m. m ≡ l + optional_labels (option_map plain_expr (option_copied c.entry))) }
+    ensures code { OnOk result (Emits code.old.items code.new.items
+        (test_code (plain_program program.now) (option_map plain_expr (option_copied c.entry)) out l)) }
+{
+    match c {
+        None => Ok(l),
+        Some(c) => {
+            let m = lower_expr(code, alloc, program, c, l, 0)?;
+            put(code, Ir::BranchZero(temp(0, &c.ty), out))?;
+            Ok(m)
+        }
+    }
+}
+
+/// Those of the last part of a `for`.
+fn lower_last(
+    code: &mut Seq<Ir>,
+    alloc: Global,
+    program: &Program,
+    last: Option<&Expr>,
+    l: u64,
+) -> Result<(), NoMemory>
+    ensures { OnOk result (Emits code.old.items code.new.items
+        (last_code (plain_program program.now) (option_map plain_expr (option_copied last.entry)) l)) }
+{
+    match last {
+        None => Ok(()),
+        Some(e) => {
+            lower_expr(code, alloc, program, e, l, 0)?;
+            Ok(())
+        }
+    }
+}
+
+/// Those of a loop before its body, with the labels `l`, for the test, to `l + 3`.
+fn begin_loop(
+    code: &mut Seq<Ir>,
+    alloc: Global,
+    program: &Program,
+    c: Option<&Expr>,
+    l: u64,
+) -> Result<u64, NoMemory>
+    ensures next { IfOk result (λ m. m ≡ l + 4 + optional_labels (option_map plain_expr (option_copied c.entry))) }
+    ensures code { OnOk result (Emits code.old.items code.new.items (λ rest. label l
+        ∷ test_code (plain_program program.now) (option_map plain_expr (option_copied c.entry)) (l + 1) (l + 4)
+        (label (l + 3) ∷ rest))) }
+{
+    let out = behind(l, 1)?;
+    let body = behind(l, 3)?;
+    let k = behind(l, 4)?;
+    put(code, Ir::Label(l))?;
+    let m = lower_test(code, alloc, program, c, out, k)?;
+    put(code, Ir::Label(body))?;
+    Ok(m)
+}
+
+/// Those of a loop behind its body; the labels of the last part begin at `k`.
+fn end_loop(
+    code: &mut Seq<Ir>,
+    alloc: Global,
+    program: &Program,
+    last: Option<&Expr>,
+    l: u64,
+    k: u64,
+) -> Result<(), NoMemory>
+    ensures { OnOk result (Emits code.old.items code.new.items (λ rest. label (l + 2)
+        ∷ last_code (plain_program program.now) (option_map plain_expr (option_copied last.entry)) k
+        (jump l ∷ label (l + 1) ∷ rest))) }
+{
+    let out = behind(l, 1)?;
+    let on = behind(l, 2)?;
+    put(code, Ir::Label(on))?;
+    lower_last(code, alloc, program, last, k)?;
+    put(code, Ir::Jump(l))?;
+    put(code, Ir::Label(out))?;
+    Ok(())
+}
+
+// ---- statements
+
+/// Appends the operations of a statement, with labels from `l` on; a `break` goes to the label `out` and a `continue` to
+/// the label `on`. Answers the first label that is free.
+#[cycle(lower)]
+pub fn lower_stmt(
+    code: &mut Seq<Ir>,
+    alloc: Global,
+    program: &Program,
+    s: &Stmt,
+    l: u64,
+    out: u64,
+    on: u64,
+) -> Result<u64, NoMemory>
+    requires { IsLaidOut (plain_program program.now) }
+    ensures next { IfOk result (λ m. m ≡ l + stmt_labels (plain_stmt s.now)) }
+    ensures code { OnOk result (Emits code.old.items code.new.items
+        (stmt_code (plain_program program.now) (plain_stmt s.now) l out on)) }
+{
+    match &s.kind {
+        StmtKind::Empty => Ok(l),
+        StmtKind::Do1(e) => {
+            let m = lower_expr(code, alloc, program, e, l, 0)?;
+            Ok(m)
+        }
+        StmtKind::Block(ss) => {
+            let m = lower_stmts(code, alloc, program, ss.as_slice(), l, out, on)?;
+            Ok(m)
+        }
+        StmtKind::Local(o, values) => {
+            let m = lower_local(code, alloc, program, *o, values.as_slice(), l)?;
+            Ok(m)
+        }
+        StmtKind::If(c, a, b) => match b {
+            None => {
+                let m = lower_if(code, alloc, program, c, a, l, out, on)?;
+                Ok(m)
+            }
+            Some(b) => {
+                let m = lower_if_else(code, alloc, program, c, a, b, l, out, on)?;
+                Ok(m)
+            }
+        },
+        StmtKind::While(c, body) => {
+            let m = lower_loop(code, alloc, program, Some(c), None, body, l)?;
+            Ok(m)
+        }
+        StmtKind::DoWhile(body, c) => {
+            let m = lower_do(code, alloc, program, c, body, l)?;
+            Ok(m)
+        }
+        StmtKind::For(first, c, last, body) => match first {
+            None => {
+                let m = lower_loop(code, alloc, program, c.as_ref(), last.as_ref(), body, l)?;
+                Ok(m)
+            }
+            Some(first) => {
+                let m = lower_for(
+                    code,
+                    alloc,
+                    program,
+                    first,
+                    c.as_ref(),
+                    last.as_ref(),
+                    body,
+                    l,
+                    out,
+                    on,
+                )?;
+                Ok(m)
+            }
+        },
+        StmtKind::Break => {
+            put(code, Ir::Jump(out))?;
+            Ok(l)
+        }
+        StmtKind::Continue => {
+            put(code, Ir::Jump(on))?;
+            Ok(l)
+        }
+        StmtKind::Return(e) => {
+            let m = lower_return(code, alloc, program, e.as_ref(), l, out, on)?;
+            Ok(m)
+        }
+    }
+}
+
+/// Those of the statements of a block.
+#[cycle(lower)]
+fn lower_stmts(
+    code: &mut Seq<Ir>,
+    alloc: Global,
+    program: &Program,
+    ss: &[Stmt],
+    l: u64,
+    out: u64,
+    on: u64,
+) -> Result<u64, NoMemory>
+    requires { IsLaidOut (plain_program program.now) }
+    ensures next { IfOk result (λ m. m ≡ l + stmts_labels (plain_stmts ss.now)) }
+    ensures code { OnOk result (Emits code.old.items code.new.items
+        (stmts_code (plain_program program.now) (plain_stmts ss.now) l out on)) }
+{
+    let mut k = l;
+    for s in ss {
+        k = lower_stmt(code, alloc, program, s, k, out, on)?;
+    }
+    Ok(k)
+}
+
+/// Those of an `if` without `else`.
+#[cycle(lower)]
+fn lower_if(
+    code: &mut Seq<Ir>,
+    alloc: Global,
+    program: &Program,
+    c: &Expr,
+    a: &Stmt,
+    l: u64,
+    out: u64,
+    on: u64,
+) -> Result<u64, NoMemory>
+    requires { IsLaidOut (plain_program program.now) }
+    ensures next { IfOk result (λ m. m ≡ l + kind_labels (branch (plain_expr c.now) (plain_stmt a.now) no_stmt)) }
+    ensures code { OnOk result (Emits code.old.items code.new.items (kind_code (plain_program program.now)
+        (branch (plain_expr c.now) (plain_stmt a.now) no_stmt) l out on)) }
+{
+    let k = behind(l, 2)?;
+    let k = lower_expr(code, alloc, program, c, k, 0)?;
+    put(code, Ir::BranchZero(temp(0, &c.ty), l))?;
+    let m = lower_stmt(code, alloc, program, a, k, out, on)?;
+    put(code, Ir::Label(l))?;
+    Ok(m)
+}
+
+/// Those of an `if` with an `else`.
+#[cycle(lower)]
+fn lower_if_else(
+    code: &mut Seq<Ir>,
+    alloc: Global,
+    program: &Program,
+    c: &Expr,
+    a: &Stmt,
+    b: &Stmt,
+    l: u64,
+    out: u64,
+    on: u64,
+) -> Result<u64, NoMemory>
+    requires { IsLaidOut (plain_program program.now) }
+    ensures next { IfOk result (λ m. m ≡ l
+        + kind_labels (branch (plain_expr c.now) (plain_stmt a.now) (a_stmt (plain_stmt b.now)))) }
+    ensures code { OnOk result (Emits code.old.items code.new.items (kind_code (plain_program program.now)
+        (branch (plain_expr c.now) (plain_stmt a.now) (a_stmt (plain_stmt b.now))) l out on)) }
+{
+    let end = behind(l, 1)?;
+    let k = behind(l, 2)?;
+    let k = lower_expr(code, alloc, program, c, k, 0)?;
+    put(code, Ir::BranchZero(temp(0, &c.ty), l))?;
+    let k = lower_stmt(code, alloc, program, a, k, out, on)?;
+    put(code, Ir::Jump(end))?;
+    put(code, Ir::Label(l))?;
+    let m = lower_stmt(code, alloc, program, b, k, out, on)?;
+    put(code, Ir::Label(end))?;
+    Ok(m)
+}
+
+/// Those of a `do`.
+#[cycle(lower)]
+fn lower_do(
+    code: &mut Seq<Ir>,
+    alloc: Global,
+    program: &Program,
+    c: &Expr,
+    body: &Stmt,
+    l: u64,
+) -> Result<u64, NoMemory>
+    requires { IsLaidOut (plain_program program.now) }
+    ensures next { IfOk result (λ m. m ≡ l + 4 + expr_labels (plain_expr c.now) + stmt_labels (plain_stmt body.now)) }
+    ensures code { OnOk result (Emits code.old.items code.new.items (λ rest. jump (l + 3)
+        ∷ loop_code (plain_program program.now) (Some (plain_expr c.now)) None l
+        (stmt_code (plain_program program.now) (plain_stmt body.now) (l + 4 + expr_labels (plain_expr c.now)) (l + 1)
+        (l + 2)) rest)) }
+{
+    let first = behind(l, 3)?;
+    put(code, Ir::Jump(first))?;
+    let m = lower_loop(code, alloc, program, Some(c), None, body, l)?;
+    Ok(m)
+}
+
+/// Those of a loop.
+#[cycle(lower)]
+fn lower_loop(
+    code: &mut Seq<Ir>,
+    alloc: Global,
+    program: &Program,
+    c: Option<&Expr>,
+    last: Option<&Expr>,
+    body: &Stmt,
+    l: u64,
+) -> Result<u64, NoMemory>
+    requires { IsLaidOut (plain_program program.now) }
+    ensures next { IfOk result (λ m. m ≡ l + 4 + optional_labels (option_map plain_expr (option_copied c.entry))
+        + optional_labels (option_map plain_expr (option_copied last.entry)) + stmt_labels (plain_stmt body.now)) }
+    ensures code { OnOk result (Emits code.old.items code.new.items (let program = plain_program program.now in
+        let c = option_map plain_expr (option_copied c.entry) in let last = option_map plain_expr (option_copied last.entry) in
+        loop_code program c last l (stmt_code program (plain_stmt body.now)
+        (l + 4 + optional_labels c + optional_labels last) (l + 1) (l + 2)))) }
+{
+    let out = behind(l, 1)?;
+    let on = behind(l, 2)?;
+    let k = begin_loop(code, alloc, program, c, l)?;
+    let count = optional_labels(last)?;
+    let first = behind(k, count)?;
+    let m = lower_stmt(code, alloc, program, body, first, out, on)?;
+    end_loop(code, alloc, program, last, l, k)?;
+    Ok(m)
+}
+
+/// Those of a `for` with a first part.
+#[cycle(lower)]
+fn lower_for(
+    code: &mut Seq<Ir>,
+    alloc: Global,
+    program: &Program,
+    first: &Stmt,
+    c: Option<&Expr>,
+    last: Option<&Expr>,
+    body: &Stmt,
+    l: u64,
+    out: u64,
+    on: u64,
+) -> Result<u64, NoMemory>
+    requires { IsLaidOut (plain_program program.now) }
+    ensures next { IfOk result (λ m. m ≡ l + kind_labels (for_loop (a_stmt (plain_stmt first.now))
+        (option_map plain_expr (option_copied c.entry)) (option_map plain_expr (option_copied last.entry))
+        (plain_stmt body.now))) }
+    ensures code { OnOk result (Emits code.old.items code.new.items (kind_code (plain_program program.now)
+        (for_loop (a_stmt (plain_stmt first.now)) (option_map plain_expr (option_copied c.entry))
+        (option_map plain_expr (option_copied last.entry)) (plain_stmt body.now)) l out on)) }
+{
+    let k = lower_stmt(code, alloc, program, first, l, out, on)?;
+    let m = lower_loop(code, alloc, program, c, last, body, k)?;
+    Ok(m)
+}
