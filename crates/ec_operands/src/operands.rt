@@ -36,7 +36,8 @@ pub enum Operand {
     },
 }
 
-pub(crate) fn boxed<T: Drop>(alloc: Global, x: T) -> Result<Box<T>, NoMemory>
+/// A value in a box.
+pub fn boxed<T: Drop>(alloc: Global, x: T) -> Result<Box<T>, NoMemory>
     ensures { IfOk result (λ b. b.value ≡ x) }
 {
     match Box::new(alloc, x) {
@@ -45,7 +46,9 @@ pub(crate) fn boxed<T: Drop>(alloc: Global, x: T) -> Result<Box<T>, NoMemory>
     }
 }
 
-pub(crate) fn mode_of(modes: Modes, ty: &CType) -> Mode
+/// What an operation of a type does with a result out of range: a fixed-point result saturates where its type or the state
+/// of its family says so.
+pub fn mode_of(modes: Modes, ty: &CType) -> Mode
     ensures { result ≡ mode_of modes (plain_type ty.now) }
 {
     match ty {
@@ -118,7 +121,7 @@ fn value_at(modes: Modes, ty: CType, konst: bool, space: SpaceId, place: PlaceEx
 }
 
 /// The value in a type: converted where that is another one.
-pub(crate) fn convert(alloc: Global, modes: Modes, ty: &CType, e: Expr) -> Result<Expr, NoMemory>
+pub fn convert(alloc: Global, modes: Modes, ty: &CType, e: Expr) -> Result<Expr, NoMemory>
     ensures { IfOk result (λ x. plain_expr x ≡ converted modes (plain_type ty.now) (plain_expr e)) }
 {
     if e.ty.is_same(ty) {
@@ -130,12 +133,7 @@ pub(crate) fn convert(alloc: Global, modes: Modes, ty: &CType, e: Expr) -> Resul
 }
 
 /// The same, in a box.
-pub(crate) fn boxed_in(
-    alloc: Global,
-    modes: Modes,
-    ty: &CType,
-    e: Expr,
-) -> Result<Box<Expr>, NoMemory>
+pub fn boxed_in(alloc: Global, modes: Modes, ty: &CType, e: Expr) -> Result<Box<Expr>, NoMemory>
     ensures { IfOk result (λ b. plain_expr b.value ≡ converted modes (plain_type ty.now) (plain_expr e)) }
 {
     let e = convert(alloc, modes, ty, e)?;
@@ -144,7 +142,7 @@ pub(crate) fn boxed_in(
 }
 
 /// Whether it is the null pointer constant.
-pub(crate) fn is_null(x: &Operand) -> bool
+pub fn is_null(x: &Operand) -> bool
     ensures { result ≡ is_null (plain_operand x.now) }
 {
     match x {
@@ -154,7 +152,7 @@ pub(crate) fn is_null(x: &Operand) -> bool
 }
 
 /// A form with a value, which is no null constant, or None where it has no value.
-pub(crate) fn valued(e: Option<Expr>) -> Option<Operand>
+pub fn valued(e: Option<Expr>) -> Option<Operand>
     ensures { option_map plain_operand result ≡ with_one (option_map plain_expr e) valued_of }
 {
     match e {

@@ -29,7 +29,7 @@ const INT: Arithmetic = Arithmetic::Integer(IntegerType {
 
 // ---- rules
 
-pub(crate) fn suits_alone(op: BinOp, left: bool, ty: Sort<'_>) -> bool
+fn suits_alone(op: BinOp, left: bool, ty: Sort<'_>) -> bool
     ensures { result ≡ suits_alone op left (plain_sort ty.entry) }
 {
     match op {
@@ -66,7 +66,8 @@ fn suit_together(op: BinOp, a: Sort<'_>, b: Sort<'_>) -> bool
     }
 }
 
-pub(crate) fn suits(op: BinOp, a: Sort<'_>, b: Sort<'_>) -> bool
+/// Whether two values suit an operator, each alone and both together.
+pub fn suits(op: BinOp, a: Sort<'_>, b: Sort<'_>) -> bool
     ensures { result ≡ suits op (plain_sort a.entry) (plain_sort b.entry) }
 {
     suits_alone(op, true, a) && suits_alone(op, false, b) && suit_together(op, a, b)
@@ -82,7 +83,7 @@ fn is_equality(op: BinOp) -> bool
 }
 
 /// Whether one is a pointer and the other the null constant.
-pub(crate) fn is_beside_null(a: Sort<'_>, p: bool, b: Sort<'_>, q: bool) -> bool
+pub fn is_beside_null(a: Sort<'_>, p: bool, b: Sort<'_>, q: bool) -> bool
     ensures { result ≡ is_beside_null (plain_sort a.entry) p (plain_sort b.entry) q }
 {
     a.is_pointer() && q || p && b.is_pointer()
@@ -106,13 +107,14 @@ fn meets(op: BinOp) -> bool
 }
 
 /// Whether both are pointers to one type, into spaces neither of which encloses the other.
-pub(crate) fn are_apart(a: Sort<'_>, b: Sort<'_>) -> bool
+pub fn are_apart(a: Sort<'_>, b: Sort<'_>) -> bool
     ensures { result ≡ are_apart (plain_sort a.entry) (plain_sort b.entry) }
 {
     same_pointee(a, b) && !nest(a, b)
 }
 
-pub(crate) fn is_unsuited(op: BinOp, x: &Option<Operand>, y: &Option<Operand>) -> bool
+/// Whether an operand whose type is known does not suit an operator, or two do not.
+pub fn is_unsuited(op: BinOp, x: &Option<Operand>, y: &Option<Operand>) -> bool
     ensures { result ≡ unsuited op (option_map plain_operand x.now) (option_map plain_operand y.now) }
 {
     match (x, y) {
@@ -209,7 +211,8 @@ fn compared_beside(x: Arithmetic, y: Arithmetic) -> Arithmetic
     }
 }
 
-pub(crate) fn promoted_type(x: Arithmetic) -> Arithmetic
+/// The type after the integer promotions, which leave a fixed-point type as it is.
+pub fn promoted_type(x: Arithmetic) -> Arithmetic
     ensures { result ≡ promoted_type x }
 {
     match x {
@@ -454,7 +457,8 @@ fn meeting_by(a: Option<SpaceId>, b: Option<SpaceId>, numbers: Meeting) -> Meeti
     }
 }
 
-pub(crate) fn meeting_of(a: Sort<'_>, b: Sort<'_>) -> Meeting
+/// How values of two types meet.
+pub fn meeting_of(a: Sort<'_>, b: Sort<'_>) -> Meeting
     ensures { result ≡ meeting (plain_sort a.entry) (plain_sort b.entry) }
 {
     meeting_by(

@@ -20,7 +20,7 @@ fn passes(from: Sort<'_>, null: bool, to: Sort<'_>) -> bool
 }
 
 /// The operand in a type to which a conversion leads.
-pub(crate) fn in_type(alloc: Global, modes: Modes, to: &CType, x: Operand) -> Result<Expr, NoMemory>
+pub fn in_type(alloc: Global, modes: Modes, to: &CType, x: Operand) -> Result<Expr, NoMemory>
     ensures { IfOk result (λ e. plain_expr e ≡ in_type_of modes (plain_type to.now) (plain_operand x)) }
 {
     if is_null(&x) && type_sort(to).is_pointer() {
@@ -32,7 +32,7 @@ pub(crate) fn in_type(alloc: Global, modes: Modes, to: &CType, x: Operand) -> Re
 }
 
 /// The same, in a box.
-pub(crate) fn boxed_in_type(
+pub fn boxed_in_type(
     alloc: Global,
     modes: Modes,
     to: &CType,
@@ -45,7 +45,8 @@ pub(crate) fn boxed_in_type(
     Ok(e)
 }
 
-pub(crate) fn brought(
+/// The operand in a type, or None where no implicit conversion leads there.
+pub fn brought(
     alloc: Global,
     modes: Modes,
     to: &CType,
@@ -93,12 +94,8 @@ pub fn judge_passing(faults: &mut Faults, x: &Option<Operand>, to: &Option<CType
     judge_conversion(faults, x, to.as_ref(), at);
 }
 
-pub(crate) fn judge_conversion(
-    faults: &mut Faults,
-    x: &Option<Operand>,
-    to: Option<&CType>,
-    at: u32,
-)
+/// Judges the conversion of an operand to a type, where both are known.
+pub fn judge_conversion(faults: &mut Faults, x: &Option<Operand>, to: Option<&CType>, at: u32)
     ensures { faults.new.least ≡ all_judged faults.old.least
         (passing_rules (option_map plain_operand x.now) (option_map plain_type (option_copied to.entry)) at) }
 {

@@ -1,0 +1,387 @@
+//! `&&`, `||`, the comma, `?:` and casts.
+ghost use Rattle.std.specs.Prelude.{◌≡◌, IfOk, option_map};
+ghost use Rattle.std.specs.Option.{option_copied};
+ghost use Rattle.ec_core.specs.Plain.{plain_type, plain_expr};
+ghost use Rattle.ec_faults.specs.Faults.{all_judged};
+ghost use Rattle.ec_operands.specs.Operands.{plain_operand, plain_sort, value_type, with_one, with_both};
+ghost use Rattle.ec_choices.specs.Choices.{logical, logical_rules, sequence, alternatives, no_alternatives};
+ghost use Rattle.ec_choices.specs.Choices.{chosen_apart};
+ghost use Rattle.ec_choices.specs.Choices.{choice_rules, pointer_between, type_between, choice_type, choice_made};
+ghost use Rattle.ec_choices.specs.Choices.{chosen, castable};
+ghost use Rattle.ec_forms.specs.Nodes.{condition as condition_of};
+ghost use Rattle.ec_choices.specs.Choices.{no_cast, cast_rules, cast};
+ghost use Rattle.ec_core.specs.Typing.{points_to_const};
+ghost use Rattle.ec_operands.specs.Passing.{in_type as in_type_of};
+
+use ec_core::{Arithmetic, CType, Expr, Node};
+use ec_faults::Faults;
+use ec_forms::{condition, int, is_no_scalar};
+use ec_operands::{
+    Meeting, Modes, Operand, Sort, are_apart, as_value, boxed, boxed_in_type, in_type,
+    is_beside_null, is_null, made, meeting_of, nest, same_pointee, sort_of, type_sort, valued,
+};
+use ec_space::{NoMemory, SpaceId};
+use std::alloc::Global;
+
+// ---- `&&`, `||`
+
+/// Judges the operands of `&&` or `||`, which are told there.
+pub fn judge_logical(faults: &mut Faults, x: &Option<Operand>, y: &Option<Operand>, at: u32)
+    ensures { faults.new.least ≡ all_judged faults.old.least
+        (logical_rules (option_map plain_operand x.now) (option_map plain_operand y.now) at) }
+{
+    faults.judge(25, is_no_scalar(x), at);
+    faults.judge(25, is_no_scalar(y), at);
+}
+
+fn logical_of(
+    alloc: Global,
+    modes: Modes,
+    both: bool,
+    x: Option<Expr>,
+    y: Option<Expr>,
+) -> Result<Option<Operand>, NoMemory>
+    ensures { IfOk result (λ z. option_map plain_operand z
+        ≡ logical modes both (option_map plain_expr x) (option_map plain_expr y)) }
+{
+    let Some(x) = x else {
+        return Ok(None);
+    };
+    let Some(y) = y else {
+        return Ok(None);
+    };
+    let x = boxed(alloc, x)?;
+    let y = boxed(alloc, y)?;
+    let node = if both {
+        Node::And(x, y)
+    } else {
+        Node::Or(x, y)
+    };
+    Ok(valued(Some(made(modes, int(), node))))
+}
+
+/// What `&&`, where `both` holds, or `||` makes of its operands, or None where one has no type or is not scalar.
+pub fn logical(
+    alloc: Global,
+    modes: Modes,
+    both: bool,
+    x: Option<Operand>,
+    y: Option<Operand>,
+) -> Result<Option<Operand>, NoMemory>
+    ensures { IfOk result (λ z. option_map plain_operand z
+        ≡ logical modes both (condition_of modes (option_map plain_operand x))
+        (condition_of modes (option_map plain_operand y))) }
+{
+    let x = condition(modes, x);
+    let y = condition(modes, y);
+    let z = logical_of(alloc, modes, both, x, y)?;
+    Ok(z)
+}
+
+// ---- the comma
+
+/// What a comma makes of its operands, or None where one has no type.
+pub fn sequence(
+    alloc: Global,
+    modes: Modes,
+    x: Option<Operand>,
+    y: Option<Operand>,
+) -> Result<Option<Operand>, NoMemory>
+    ensures { IfOk result (λ z. option_map plain_operand z
+        ≡ with_both (option_map plain_operand x) (option_map plain_operand y) (sequence modes)) }
+{
+    let Some(x) = x else {
+        return Ok(None);
+    };
+    let Some(y) = y else {
+        return Ok(None);
+    };
+    let x = boxed(alloc, as_value(modes, x))?;
+    let y = boxed(alloc, as_value(modes, y))?;
+    let ty = y.ty.copied(alloc)?;
+    Ok(valued(Some(made(modes, ty, Node::Comma(x, y)))))
+}
+
+// ---- `?:`
+
+fn alternatives(a: Sort<'_>, p: bool, b: Sort<'_>, q: bool) -> bool
+    ensures { result ≡ alternatives (plain_sort a.entry) p (plain_sort b.entry) q }
+{
+    a.is_void() && b.is_void()
+        || a.is_arithmetic() && b.is_arithmetic()
+        || same_pointee(a, b)
+        || is_beside_null(a, p, b, q)
+}
+
+fn are_no_alternatives(x: &Option<Operand>, y: &Option<Operand>) -> bool
+    ensures { result ≡ no_alternatives (option_map plain_operand x.now) (option_map plain_operand y.now) }
+{
+    match (x, y) {
+        (Some(x), Some(y)) => !alternatives(sort_of(x), is_null(x), sort_of(y), is_null(y)),
+        _ => false,
+    }
+}
+
+fn are_chosen_apart(x: &Option<Operand>, y: &Option<Operand>) -> bool
+    ensures { result ≡ chosen_apart (option_map plain_operand x.now) (option_map plain_operand y.now) }
+{
+    match (x, y) {
+        (Some(x), Some(y)) => are_apart(sort_of(x), sort_of(y)),
+        _ => false,
+    }
+}
+
+/// Judges the operands of `?:`, which are told at `?`.
+pub fn judge_choice(
+    faults: &mut Faults,
+    c: &Option<Operand>,
+    x: &Option<Operand>,
+    y: &Option<Operand>,
+    at: u32,
+)
+    ensures { faults.new.least ≡ all_judged faults.old.least
+        (choice_rules (option_map plain_operand c.now) (option_map plain_operand x.now)
+        (option_map plain_operand y.now) at) }
+{
+    faults.judge(25, is_no_scalar(c), at);
+    faults.judge(24, are_no_alternatives(x, y), at);
+    faults.judge(32, are_chosen_apart(x, y), at);
+}
+
+/// A type that was looked at, to be kept.
+fn kept(alloc: Global, ty: Sort<'_>) -> Result<CType, NoMemory>
+    ensures { IfOk result (λ kept. plain_type kept ≡ plain_sort ty.entry) }
+{
+    match ty {
+        Sort::Void => Ok(CType::Void),
+        Sort::Number(t) => Ok(t.to_type()),
+        Sort::Pointer { space, konst, to } => {
+            let to = boxed(alloc, to.copied(alloc)?)?;
+            Ok(CType::Ptr { space, konst, to })
+        }
+        Sort::Array { of, len } => {
+            let of = boxed(alloc, of.copied(alloc)?)?;
+            Ok(CType::Array { of, len })
+        }
+        Sort::Struct { index } => Ok(CType::Struct { index }),
+    }
+}
+
+fn is_to_const(ty: Sort<'_>) -> bool
+    ensures { result ≡ points_to_const (plain_sort ty.entry) }
+{
+    match ty {
+        Sort::Pointer { konst, .. } => konst,
+        Sort::Number(Arithmetic::Integer(_)) | Sort::Number(Arithmetic::Fixed(_)) => false,
+        Sort::Void | Sort::Array { .. } | Sort::Struct { .. } => false,
+    }
+}
+
+fn pointer_between(
+    alloc: Global,
+    s: SpaceId,
+    a: Sort<'_>,
+    b: Sort<'_>,
+) -> Result<Option<CType>, NoMemory>
+    ensures { IfOk result (λ ty. option_map plain_type ty
+        ≡ pointer_between s (plain_sort a.entry) (plain_sort b.entry)) }
+{
+    match a {
+        Sort::Pointer { konst, to, .. } => {
+            let to = boxed(alloc, to.copied(alloc)?)?;
+            Ok(Some(CType::Ptr {
+                space: s,
+                konst: konst || is_to_const(b),
+                to,
+            }))
+        }
+        Sort::Number(Arithmetic::Integer(_)) | Sort::Number(Arithmetic::Fixed(_)) => Ok(None),
+        Sort::Void | Sort::Array { .. } | Sort::Struct { .. } => Ok(None),
+    }
+}
+
+fn type_between(
+    alloc: Global,
+    how: Meeting,
+    a: Sort<'_>,
+    b: Sort<'_>,
+) -> Result<Option<CType>, NoMemory>
+    ensures { IfOk result (λ ty. option_map plain_type ty
+        ≡ type_between how (plain_sort a.entry) (plain_sort b.entry)) }
+{
+    match how {
+        Meeting::Pointers(None) | Meeting::Nothing => Ok(None),
+        Meeting::Pointers(Some(s)) => {
+            let ty = pointer_between(alloc, s, a, b)?;
+            Ok(ty)
+        }
+        Meeting::Mixed(true) => {
+            let ty = kept(alloc, a)?;
+            Ok(Some(ty))
+        }
+        Meeting::Mixed(false) => {
+            let ty = kept(alloc, b)?;
+            Ok(Some(ty))
+        }
+        Meeting::Numbers(s, t) => Ok(Some(s.common(t).to_type())),
+    }
+}
+
+fn choice_type(alloc: Global, x: &Operand, y: &Operand) -> Result<Option<CType>, NoMemory>
+    ensures { IfOk result (λ ty. option_map plain_type ty
+        ≡ choice_type (plain_operand x.now) (plain_operand y.now)) }
+{
+    let a = sort_of(x);
+    let b = sort_of(y);
+    if !alternatives(a, is_null(x), b, is_null(y)) {
+        return Ok(None);
+    }
+    if a.is_void() {
+        return Ok(Some(CType::Void));
+    }
+    let ty = type_between(alloc, meeting_of(a, b), a, b)?;
+    Ok(ty)
+}
+
+fn choice_with(
+    alloc: Global,
+    modes: Modes,
+    ty: CType,
+    c: Box<Expr>,
+    x: Box<Expr>,
+    y: Operand,
+) -> Result<Expr, NoMemory>
+    ensures { IfOk result (λ e. plain_expr e
+        ≡ choice_made modes (plain_type ty) (plain_expr c.value) (plain_expr x.value)
+        (in_type_of modes (plain_type ty) (plain_operand y))) }
+{
+    let y = boxed_in_type(alloc, modes, &ty, y)?;
+    Ok(made(modes, ty, Node::Cond(c, x, y)))
+}
+
+fn choice_in(
+    alloc: Global,
+    modes: Modes,
+    ty: CType,
+    c: Box<Expr>,
+    x: Operand,
+    y: Operand,
+) -> Result<Expr, NoMemory>
+    ensures { IfOk result (λ e. plain_expr e
+        ≡ choice_made modes (plain_type ty) (plain_expr c.value)
+        (in_type_of modes (plain_type ty) (plain_operand x))
+        (in_type_of modes (plain_type ty) (plain_operand y))) }
+{
+    let x = boxed_in_type(alloc, modes, &ty, x)?;
+    let e = choice_with(alloc, modes, ty, c, x, y)?;
+    Ok(e)
+}
+
+fn choice(
+    alloc: Global,
+    modes: Modes,
+    c: Box<Expr>,
+    x: Operand,
+    y: Operand,
+) -> Result<Option<Operand>, NoMemory>
+    ensures { IfOk result (λ z. option_map plain_operand z
+        ≡ chosen modes (plain_expr c.value) (plain_operand x) (plain_operand y)) }
+{
+    match choice_type(alloc, &x, &y)? {
+        None => Ok(None),
+        Some(ty) => {
+            let e = choice_in(alloc, modes, ty, c, x, y)?;
+            Ok(valued(Some(e)))
+        }
+    }
+}
+
+fn choice_on(
+    alloc: Global,
+    modes: Modes,
+    c: Option<Expr>,
+    x: Operand,
+    y: Operand,
+) -> Result<Option<Operand>, NoMemory>
+    ensures { IfOk result (λ z. option_map plain_operand z
+        ≡ with_one (option_map plain_expr c) (λ c. chosen modes c (plain_operand x) (plain_operand y))) }
+{
+    let Some(c) = c else {
+        return Ok(None);
+    };
+    let c = boxed(alloc, c)?;
+    let z = choice(alloc, modes, c, x, y)?;
+    Ok(z)
+}
+
+/// What `?:` makes of its operands, or None where one has no type or they break a rule.
+pub fn choose(
+    alloc: Global,
+    modes: Modes,
+    c: Option<Operand>,
+    x: Option<Operand>,
+    y: Option<Operand>,
+) -> Result<Option<Operand>, NoMemory>
+    ensures { IfOk result (λ z. option_map plain_operand z
+        ≡ with_both (option_map plain_operand x) (option_map plain_operand y) (λ a b.
+        with_one (condition_of modes (option_map plain_operand c)) (λ c. chosen modes c a b))) }
+{
+    let Some(x) = x else {
+        return Ok(None);
+    };
+    let Some(y) = y else {
+        return Ok(None);
+    };
+    let z = choice_on(alloc, modes, condition(modes, c), x, y)?;
+    Ok(z)
+}
+
+// ---- casts
+
+fn castable(from: Sort<'_>, null: bool, to: Sort<'_>) -> bool
+    ensures { result ≡ castable (plain_sort from.entry) null (plain_sort to.entry) }
+{
+    from.is_arithmetic() && to.is_arithmetic()
+        || null && to.is_pointer()
+        || same_pointee(from, to) && nest(from, to)
+}
+
+fn is_no_cast(to: &Option<CType>, x: &Option<Operand>) -> bool
+    ensures { result ≡ no_cast (option_map plain_type to.now) (option_map plain_operand x.now) }
+{
+    match (to, x) {
+        (Some(to), Some(x)) => !castable(sort_of(x), is_null(x), type_sort(to)),
+        _ => false,
+    }
+}
+
+/// Judges a cast of an operand to a type, which is told at `(`.
+pub fn judge_cast(faults: &mut Faults, to: &Option<CType>, x: &Option<Operand>, at: u32)
+    ensures { faults.new.least ≡ all_judged faults.old.least
+        (cast_rules (option_map plain_type to.now) (option_map plain_operand x.now) at) }
+{
+    faults.judge(31, is_no_cast(to, x), at);
+}
+
+/// What a cast makes of an operand, or None where the type or the operand is unknown or the cast breaks a rule.
+pub fn cast(
+    alloc: Global,
+    modes: Modes,
+    to: &Option<CType>,
+    x: Option<Operand>,
+) -> Result<Option<Operand>, NoMemory>
+    ensures { IfOk result (λ y. option_map plain_operand y
+        ≡ with_both (option_map plain_type to.now) (option_map plain_operand x) (cast modes)) }
+{
+    let Some(to) = to else {
+        return Ok(None);
+    };
+    let Some(x) = x else {
+        return Ok(None);
+    };
+    if !castable(sort_of(&x), is_null(&x), type_sort(to)) {
+        return Ok(None);
+    }
+    let e = in_type(alloc, modes, to, x)?;
+    Ok(valued(Some(e)))
+}

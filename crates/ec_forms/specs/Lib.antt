@@ -1,0 +1,2 @@
+-- The definitions that the contracts of forms cite.
+pub mod Nodes

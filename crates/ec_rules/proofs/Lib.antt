@@ -1,0 +1,11 @@
+pub mod Decided
+pub mod Rules
+pub mod ValidNumbers
+pub mod ValidOperands
+pub mod ValidOperations
+pub mod ValidForms
+pub mod ValidChoices
+pub mod FormsValid
+pub mod Meanings
+pub mod MembersMeant
+pub mod Sizes
