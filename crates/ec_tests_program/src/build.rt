@@ -40,13 +40,33 @@ fn store(alloc: Global, source: &[u8], fail: u64) -> Result<MemStore, Fail> {
 // No call has this number.
 const NONE: u64 = 1_000_000;
 
-// A build over memory: the status and what `err` received.
-fn run(alloc: Global, store: &mut MemStore, texts: &[&str]) -> Result<(u8, MemSink), Fail> {
-    let mut err = MemSink::new(alloc, 1_000, Seq::new(alloc))?;
+const BUILD: &[&str] = &["build", "m", "out", "a.c"];
+
+// A status, what `err` received, and the file `out` where there is one.
+fn told(alloc: Global, status: u8, err: &[u8], out: Option<&[u8]>) -> Result<String, Fail> {
+    let line = String::from_utf8_lossy(alloc, err)?;
+    match out {
+        None => Ok(format!(in alloc; "{status} {line}no file")?),
+        Some(bytes) => {
+            let text = String::from_utf8_lossy(alloc, bytes)?;
+            Ok(format!(in alloc; "{status} {line}{text}")?)
+        }
+    }
+}
+
+// What a build over memory comes to.
+fn built(alloc: Global, source: &[u8], fail: u64, texts: &[&str]) -> Result<String, Fail> {
     let words = words(alloc, texts)?;
-    let answer = build(alloc, &words, store);
+    let mut store = store(alloc, source, fail)?;
+    let mut err = MemSink::new(alloc, 1_000, Seq::new(alloc))?;
+    let answer = build(alloc, &words, &mut store);
     let status = conclude(&mut err, &words, answer);
-    Ok((status, err))
+    told(
+        alloc,
+        status,
+        err.text().as_slice(),
+        store.file("out").map(|f| f.as_slice()),
+    )
 }
 
 // Numbers that `main` returns, and the texts of their images.
@@ -68,19 +88,14 @@ fn writes_the_text(rt: HostRuntime) -> Result<(), Fail> {
     let alloc = rt.alloc();
     for (number, text) in &RETURNED {
         let source = format!(in alloc; "int  main ( void )\n{{ return /* x */ {number} ; }}")?;
-        let mut store = store(alloc, source.as_bytes(), NONE)?;
-        let (status, err) = run(alloc, &mut store, &["build", "m", "out", "a.c"])?;
-        assert_eq!(rt; status, 0, "at {number}");
-        assert!(rt; err.text().is_empty());
-        let out = store.file("out").ok_or("no file")?;
-        assert_eq!(rt; out.as_slice(), text.as_bytes(), "at {number}");
+        let built = built(alloc, source.as_bytes(), NONE, BUILD)?;
+        let want = format!(in alloc; "0 {text}")?;
+        assert_eq!(rt; built.as_str(), want.as_str(), "at {number}");
     }
     Ok(())
 }
 
 const GOOD: &str = "int main(void){return 7;}\n";
-
-const BUILD: &[&str] = &["build", "m", "out", "a.c"];
 
 const LATER: &str = "a.c token 0: constraint 0\n";
 
@@ -119,12 +134,10 @@ static STOPPED: [(&[&str], &str, u8, &str); 13] = [
 #[test]
 fn tells_what_stops_it(rt: HostRuntime) -> Result<(), Fail> {
     let alloc = rt.alloc();
-    for (texts, source, want, line) in &STOPPED {
-        let mut store = store(alloc, source.as_bytes(), NONE)?;
-        let (status, err) = run(alloc, &mut store, *texts)?;
-        assert_eq!(rt; status, *want, "at {line}");
-        assert_eq!(rt; err.text().as_slice(), line.as_bytes());
-        assert!(rt; store.file("out").is_none());
+    for (texts, source, status, line) in &STOPPED {
+        let built = built(alloc, source.as_bytes(), NONE, *texts)?;
+        let want = format!(in alloc; "{status} {line}no file")?;
+        assert_eq!(rt; built.as_str(), want.as_str());
     }
     Ok(())
 }
@@ -146,66 +159,73 @@ static LIMITS: [(&str, char, u32, u8, &str); 8] = [
     (BODY, '{', 64, 10, "limit 7 64\n"),
 ];
 
+fn repeated(alloc: Global, front: &str, byte: char, count: u32) -> Result<String, Fail> {
+    let mut source = String::from_str(alloc, front)?;
+    for _ in 0..count {
+        source.push(byte)?;
+    }
+    Ok(source)
+}
+
 #[test]
 fn keeps_its_limits(rt: HostRuntime) -> Result<(), Fail> {
     let alloc = rt.alloc();
-    for (front, byte, count, want, line) in &LIMITS {
-        let mut source = String::from_str(alloc, *front)?;
-        for _ in 0..*count {
-            source.push(*byte)?;
-        }
-        let mut store = store(alloc, source.as_bytes(), NONE)?;
-        let (status, err) = run(alloc, &mut store, &["build", "m", "out", "a.c"])?;
-        assert_eq!(rt; status, *want, "at {line}");
-        assert_eq!(rt; err.text().as_slice(), line.as_bytes());
+    for (front, byte, count, status, line) in &LIMITS {
+        let source = repeated(alloc, *front, *byte, *count)?;
+        let built = built(alloc, source.as_bytes(), NONE, BUILD)?;
+        let want = format!(in alloc; "{status} {line}no file")?;
+        assert_eq!(rt; built.as_str(), want.as_str());
     }
     Ok(())
 }
 
 // The map is opened, read and read to its end, and so is the source. Then the output is created, and two lines are
 // written.
+static FAILED: [&str; 10] = [
+    "3 cannot read m\nno file",
+    "3 cannot read m\nno file",
+    "3 cannot read m\nno file",
+    "3 cannot read a.c\nno file",
+    "3 cannot read a.c\nno file",
+    "3 cannot read a.c\nno file",
+    "4 cannot write\nno file",
+    "4 cannot write\n",
+    "4 cannot write\n:0600000087E090E09895F6\n",
+    "0 :0600000087E090E09895F6\n:00000001FF\n",
+];
+
 #[test]
 fn tells_which_call_failed(rt: HostRuntime) -> Result<(), Fail> {
-    let alloc = rt.alloc();
-    for fail in 1..11 {
-        let mut store = store(alloc, b"int main(void){return 7;}", fail)?;
-        let (status, err) = run(alloc, &mut store, &["build", "m", "out", "a.c"])?;
-        let (want, line) = match fail {
-            1..=3 => (3, "cannot read m\n"),
-            4..=6 => (3, "cannot read a.c\n"),
-            7..=9 => (4, "cannot write\n"),
-            _ => (0, ""),
-        };
-        assert_eq!(rt; status, want, "at call {fail}");
-        assert_eq!(rt; err.text().as_slice(), line.as_bytes());
-        let front = match fail {
-            1..=7 => None,
-            8 => Some(""),
-            9 => Some(":0600000087E090E09895F6\n"),
-            _ => Some(":0600000087E090E09895F6\n:00000001FF\n"),
-        };
-        match (store.file("out"), front) {
-            (Some(bytes), Some(front)) => assert_eq!(rt; bytes.as_slice(), front.as_bytes()),
-            (found, front) => assert_eq!(rt; found.is_none(), front.is_none()),
-        }
+    for (k, want) in FAILED.iter().enumerate() {
+        let built = built(
+            rt.alloc(),
+            b"int main(void){return 7;}",
+            k as u64 + 1,
+            BUILD,
+        )?;
+        assert_eq!(rt; built.as_str(), *want, "behind call {k}");
     }
     Ok(())
 }
 
+// The status of a build of the file of this name.
+fn built_of_files(rt: &HostRuntime, name: &str) -> Result<u8, Fail> {
+    let words = words(rt.alloc(), &["build", "m", "out", name])?;
+    let mut store = RealStore::new(rt);
+    let mut err = RealSink::new(rt.stderr());
+    let answer = build(rt.alloc(), &words, &mut store);
+    Ok(conclude(&mut err, &words, answer))
+}
+
 #[test]
 fn reads_and_writes_files(rt: HostRuntime) -> Result<(), Fail> {
-    let alloc = rt.alloc();
     fs::write(&rt, "m", "core = \"small\"\n")?;
     fs::write(&rt, "a.c", "int main(void){return 0;}")?;
-    let mut store = RealStore::new(&rt);
-    let mut err = RealSink::new(rt.stderr());
-    let built = words(alloc, &["build", "m", "out", "a.c"])?;
-    let answer = build(alloc, &built, &mut store);
-    assert_eq!(rt; conclude(&mut err, &built, answer), 0);
+    let status = built_of_files(&rt, "a.c")?;
+    assert_eq!(rt; status, 0);
     let text = fs::read_to_string(&rt, "out")?;
     assert_eq!(rt; text.as_str(), ":0600000080E090E09895FD\n:00000001FF\n");
-    let absent = words(alloc, &["build", "m", "out", "b.c"])?;
-    let answer = build(alloc, &absent, &mut store);
-    assert_eq!(rt; conclude(&mut err, &absent, answer), 3);
+    let status = built_of_files(&rt, "b.c")?;
+    assert_eq!(rt; status, 3);
     Ok(())
 }

@@ -49,25 +49,35 @@ fn store(alloc: Global, hex: &str, script: &str, fail: u64) -> Result<MemStore, 
     Ok(MemStore::new(alloc, files, seq(alloc, b"o")?, 0, failing)?)
 }
 
-// The status of a run, and what `out`, which takes so many bytes, and `err` received.
-fn run_of(
+// A status, what `out` received, and what `err` received.
+fn told(alloc: Global, status: u8, out: &[u8], err: &[u8]) -> Result<String, Fail> {
+    let printed = String::from_utf8_lossy(alloc, out)?;
+    let line = String::from_utf8_lossy(alloc, err)?;
+    Ok(format!(in alloc; "{status} {printed}/ {line}")?)
+}
+
+// What a run over memory comes to, where `out` takes so many bytes.
+fn ran(
     alloc: Global,
-    store: &mut MemStore,
+    hex: &str,
+    script: &str,
+    fail: u64,
     texts: &[&str],
     room: u32,
-) -> Result<(u8, MemSink, MemSink), Fail> {
+) -> Result<String, Fail> {
+    let words = words(alloc, texts)?;
+    let mut store = store(alloc, hex, script, fail)?;
     let mut out = MemSink::new(alloc, room, Seq::new(alloc))?;
     let mut err = MemSink::new(alloc, 1_000, Seq::new(alloc))?;
     let mut hooks = Hooked {
         hook: Hook::new(|ask: Ask| ask.last, Last),
     };
-    let words = words(alloc, texts)?;
     let answer = match run_numbers(&words) {
-        Some(numbers) => run(alloc, &words, numbers, store, &mut out, &mut hooks),
+        Some(numbers) => run(alloc, &words, numbers, &mut store, &mut out, &mut hooks),
         None => Err(CommandError::Usage),
     };
     let status = conclude(&mut err, &words, answer);
-    Ok((status, out, err))
+    told(alloc, status, out.text().as_slice(), err.text().as_slice())
 }
 
 // IN R24 from the port 0x25, LDI R25 with 0, BREAK; and BREAK alone.
@@ -117,60 +127,52 @@ static RUNS: [(&str, &str, &str, u8, &str, &str); 17] = [
 #[test]
 fn runs_images(rt: HostRuntime) -> Result<(), Fail> {
     let alloc = rt.alloc();
-    for (hex, script, steps, want, printed, line) in &RUNS {
-        let mut store = store(alloc, *hex, *script, 100)?;
-        let (status, out, err) = run_of(
-            alloc,
-            &mut store,
-            &["run", "h", "s", *steps, "165"],
-            1_000,
-        )?;
-        assert_eq!(rt; status, *want, "at {hex} {script}");
-        assert_eq!(rt; out.text().as_slice(), printed.as_bytes());
-        assert_eq!(rt; err.text().as_slice(), line.as_bytes());
+    for (hex, script, steps, status, printed, line) in &RUNS {
+        let texts = ["run", "h", "s", *steps, "165"];
+        let ran = ran(alloc, *hex, *script, 100, &texts, 1_000)?;
+        let want = format!(in alloc; "{status} {printed}/ {line}")?;
+        assert_eq!(rt; ran.as_str(), want.as_str(), "at {hex} {script}");
     }
     Ok(())
 }
 
 // Each file is opened, read and read to its end. What fails is told by the file's name, and nothing is printed.
+static FAILED: [&str; 7] = [
+    "3 / cannot read h\n",
+    "3 / cannot read h\n",
+    "3 / cannot read h\n",
+    "3 / cannot read s\n",
+    "3 / cannot read s\n",
+    "3 / cannot read s\n",
+    "0 in 25 2A\nresult 42\n/ ",
+];
+
 #[test]
 fn tells_which_file_was_not_read(rt: HostRuntime) -> Result<(), Fail> {
-    let alloc = rt.alloc();
     let texts = ["run", "h", "s", "10", "0000000255"];
-    for fail in 1..8 {
-        let mut store = store(alloc, IN, "25: 2A", fail)?;
-        let (status, out, err) = run_of(alloc, &mut store, &texts, 1_000)?;
-        let (want, line) = match fail {
-            1..=3 => (3, "cannot read h\n"),
-            4..=6 => (3, "cannot read s\n"),
-            _ => (0, ""),
-        };
-        assert_eq!(rt; status, want, "at call {fail}");
-        assert_eq!(rt; err.text().as_slice(), line.as_bytes());
-        assert_eq!(rt; out.text().is_empty(), status != 0);
+    for (k, want) in FAILED.iter().enumerate() {
+        let ran = ran(rt.alloc(), IN, "25: 2A", k as u64 + 1, &texts, 1_000)?;
+        assert_eq!(rt; ran.as_str(), *want, "behind call {k}");
     }
-    let mut absent = store(alloc, IN, "", 100)?;
-    let (status, _, err) = run_of(alloc, &mut absent, &["run", "h", "n", "1", "1"], 1_000)?;
-    assert_eq!(rt; status, 3);
-    assert_eq!(rt; err.text().as_slice(), b"cannot read n\n".as_slice());
+    let absent = ran(rt.alloc(), IN, "", 100, &["run", "h", "n", "1", "1"], 1_000)?;
+    assert_eq!(rt; absent.as_str(), "3 / cannot read n\n");
     Ok(())
 }
 
 // What `out` has no room for is status 4, and what it received is a prefix of what is printed.
+static ROOMS: [(u32, &str); 4] = [
+    (0, "4 / cannot write\n"),
+    (5, "4 in 25/ cannot write\n"),
+    (9, "4 in 25 2A\n/ cannot write\n"),
+    (18, "4 in 25 2A\nresult 42/ cannot write\n"),
+];
+
 #[test]
 fn prints_a_prefix(rt: HostRuntime) -> Result<(), Fail> {
-    let alloc = rt.alloc();
-    for (room, front) in [
-        (0, ""),
-        (5, "in 25"),
-        (9, "in 25 2A\n"),
-        (18, "in 25 2A\nresult 42"),
-    ] {
-        let mut store = store(alloc, IN, "25: 2A", 100)?;
-        let (status, out, err) = run_of(alloc, &mut store, &["run", "h", "s", "10", "165"], room)?;
-        assert_eq!(rt; status, 4);
-        assert_eq!(rt; out.text().as_slice(), front.as_bytes());
-        assert_eq!(rt; err.text().as_slice(), b"cannot write\n".as_slice());
+    for (room, want) in &ROOMS {
+        let texts = ["run", "h", "s", "10", "165"];
+        let ran = ran(rt.alloc(), IN, "25: 2A", 100, &texts, *room)?;
+        assert_eq!(rt; ran.as_str(), *want);
     }
     Ok(())
 }

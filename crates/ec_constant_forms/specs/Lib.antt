@@ -1,0 +1,2 @@
+-- The definitions that the contracts of constant forms cite.
+pub mod Forms

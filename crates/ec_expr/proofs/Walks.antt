@@ -1,0 +1,30 @@
+-- Walks one after another.
+use Rattle.std.proofs.Common.{◌≡◌, ◌∙◌, ℕ, ap, subst, List, ◌∷◌}
+use Rattle.std.specs.Prelude.{Option}
+use Rattle.ec_core.specs.Plain.{PlainType}
+use Rattle.ec_faults.specs.Faults.{all_judged}
+use Rattle.ec_grammar.specs.Trees as t
+use Rattle.ec_names.specs.Tags.{Tags}
+use Rattle.ec_operands.specs.declared.operands.Modes.{Modes}
+use Rattle.ec_choices.specs.Choices.{cast, cast_rules}
+use Rattle.ec_operands.specs.Operands.{Operand, with_both}
+use Rattle.ec_rules.specs.Sites.{a_cast}
+use Rattle.ec_expr.specs.TypeNames.{said_type, void_said, meant_type}
+use Rattle.ec_faults.specs.declared.Fault.{Fault}
+use Rattle.ec_expr.specs.Sites.{Site, on, a_type_name, told, Walked}
+
+-- what is told of one part and then of a form with it
+pub then : {A B : Type 0} {f g h : Option Fault} {first : List Site → List Site} {x v : A} {z : B} (second : A → List Site → List Site) (form : A → B) → Walked f g first x v → Walked g h (second x) z (form x) → Walked f h (λ rest. first (second v rest)) z (form v)
+then {A} {B} {f} {g} {h} {first} {x} {v} {z} second form a b =
+    let c = subst (λ (y : A). Walked g h (second y) z (form y)) a.meant b in
+    record { meant = c.meant; noted = λ rest. c.noted rest ∙ a.noted (second v rest) }
+
+-- a cast, whose type name was judged before
+pub cast_walked : {f g h : Option Fault} (tags : Tags) (name : t.TypeName) (at : ℕ) (m : Modes) {ty : Option PlainType} {at_void : Option ℕ} {a b z : Option Operand} → ty ≡ said_type tags name → at_void ≡ void_said tags name → ((rest : List Site) → told g rest ≡ told f (a_type_name tags name ∷ rest)) → h ≡ all_judged g (cast_rules ty b at) → z ≡ with_both (meant_type at_void ty) b (cast m) → b ≡ a → Walked f h (λ rest. a_type_name tags name ∷ on (a_cast (said_type tags name) a at) ∷ rest) z (with_both (meant_type (void_said tags name) (said_type tags name)) a (cast m))
+cast_walked {f} {g} {h} tags name at m {ty} {at_void} {a} {b} {z} typed void judged noted meant same =
+    let n1 = subst (λ (u : Option PlainType). h ≡ all_judged g (cast_rules u b at)) typed noted in
+    let n2 = subst (λ (u : Option Operand). h ≡ all_judged g (cast_rules (said_type tags name) u at)) same n1 in
+    let m1 = subst (λ (u : Option ℕ). z ≡ with_both (meant_type u ty) b (cast m)) void meant in
+    let m2 = subst (λ (u : Option PlainType). z ≡ with_both (meant_type (void_said tags name) u) b (cast m)) typed m1 in
+    let m3 = subst (λ (u : Option Operand). z ≡ with_both (meant_type (void_said tags name) (said_type tags name)) u (cast m)) same m2 in
+    record { meant = m3; noted = λ rest. ap (λ u. told u rest) n2 ∙ judged (on (a_cast (said_type tags name) a at) ∷ rest) }

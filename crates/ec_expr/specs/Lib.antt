@@ -1,0 +1,10 @@
+-- The definitions that the contracts of the walk over expressions cite, in the order in which they build on one
+-- another.
+pub mod Known
+pub mod TypeNames
+pub mod Sites
+pub mod Tokens
+pub mod Names
+pub mod Callees
+pub mod Arguments
+pub mod Expressions

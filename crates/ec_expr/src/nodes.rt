@@ -1,0 +1,527 @@
+//! Forms of expressions whose operands were walked: they are judged, and what the form means is made.
+//!
+//! Each function takes the last of its operands as the walk gives it, before it is used.
+ghost use Rattle.std.specs.Prelude.{◌≡◌, IfOk, OnOk, List, ◌∷◌, option_map};
+ghost use Rattle.ec_core.specs.Plain.{plain_type};
+ghost use Rattle.ec_grammar.specs.Views.{view_type_name};
+ghost use Rattle.ec_names.specs.Tags.{plain_tags};
+ghost use Rattle.ec_forms.specs.Nodes.{used, used_part, condition, prefixed, stepped, indexed};
+ghost use Rattle.ec_choices.specs.Choices.{sequence, chosen};
+ghost use Rattle.ec_forms.specs.Nodes.{member_of};
+ghost use Rattle.ec_choices.specs.Choices.{cast};
+ghost use Rattle.ec_operands.specs.Operands.{plain_operand, with_one, with_both};
+ghost use Rattle.ec_rules.specs.Sites.{a_use, a_part, a_prefix, a_step, an_index, a_member, a_choice, a_cast};
+ghost use Rattle.ec_expr.specs.Known.{IsSound, plain_known};
+ghost use Rattle.ec_expr.specs.Sites.{Site, on, a_type_name, told, Walked};
+ghost use Rattle.ec_expr.specs.Tokens.{operator_of, is_and, joined, a_join, compound_operator, stored, a_storing};
+ghost use Rattle.ec_expr.specs.Tokens.{prefix_operator, is_up, is_arrow};
+ghost use Rattle.ec_expr.specs.TypeNames.{said_type, void_said, meant_type, size_of_type_name};
+
+use crate::known::{Known, is_sized};
+use crate::type_names::{TypeNamed, type_named};
+use ec_calls::size_value;
+use ec_choices::{cast, choose, judge_cast, judge_choice, judge_logical, logical, sequence};
+use ec_core::{BinOp, CType};
+use ec_faults::Faults;
+use ec_forms::{
+    PrefixOp, assign, compound, index, judge_assignment, judge_compound, judge_index, judge_member,
+    judge_prefix, judge_step, member, prefix, step, take, take_part,
+};
+use ec_grammar::PunctKind;
+use ec_grammar::tree::{Identifier, TypeName};
+use ec_names::Tags;
+use ec_operands::{Modes, Operand, judge_operation, operate};
+use ec_space::NoMemory;
+use std::alloc::Global;
+
+// ---- operators by their tokens
+
+fn operator_of(op: PunctKind) -> Option<BinOp>
+    ensures { result ≡ operator_of op }
+{
+    match op {
+        PunctKind::Plus => Some(BinOp::Add),
+        PunctKind::Minus => Some(BinOp::Sub),
+        PunctKind::Star => Some(BinOp::Mul),
+        PunctKind::Slash => Some(BinOp::Div),
+        PunctKind::Percent => Some(BinOp::Rem),
+        PunctKind::ShiftLeft => Some(BinOp::Shl),
+        PunctKind::ShiftRight => Some(BinOp::Shr),
+        PunctKind::Ampersand => Some(BinOp::And),
+        PunctKind::Bar => Some(BinOp::Or),
+        PunctKind::Caret => Some(BinOp::Xor),
+        PunctKind::Less => Some(BinOp::Lt),
+        PunctKind::Greater => Some(BinOp::Gt),
+        PunctKind::LessEqual => Some(BinOp::Le),
+        PunctKind::GreaterEqual => Some(BinOp::Ge),
+        PunctKind::Equal => Some(BinOp::Eq),
+        PunctKind::NotEqual => Some(BinOp::Ne),
+        _ => None,
+    }
+}
+
+fn is_and(op: PunctKind) -> bool
+    ensures { result ≡ is_and op }
+{
+    match op {
+        PunctKind::AndAnd => true,
+        _ => false,
+    }
+}
+
+fn compound_operator(op: PunctKind) -> Option<BinOp>
+    ensures { result ≡ compound_operator op }
+{
+    match op {
+        PunctKind::StarAssign => Some(BinOp::Mul),
+        PunctKind::SlashAssign => Some(BinOp::Div),
+        PunctKind::PercentAssign => Some(BinOp::Rem),
+        PunctKind::PlusAssign => Some(BinOp::Add),
+        PunctKind::MinusAssign => Some(BinOp::Sub),
+        PunctKind::ShiftLeftAssign => Some(BinOp::Shl),
+        PunctKind::ShiftRightAssign => Some(BinOp::Shr),
+        PunctKind::AmpersandAssign => Some(BinOp::And),
+        PunctKind::CaretAssign => Some(BinOp::Xor),
+        PunctKind::BarAssign => Some(BinOp::Or),
+        _ => None,
+    }
+}
+
+fn prefix_operator(op: PunctKind) -> PrefixOp
+    ensures { result ≡ prefix_operator op }
+{
+    match op {
+        PunctKind::Ampersand => PrefixOp::Address,
+        PunctKind::Star => PrefixOp::Deref,
+        PunctKind::Plus => PrefixOp::Plus,
+        PunctKind::Minus => PrefixOp::Minus,
+        PunctKind::Tilde => PrefixOp::Invert,
+        _ => PrefixOp::Not,
+    }
+}
+
+fn is_up(op: PunctKind) -> bool
+    ensures { result ≡ is_up op }
+{
+    match op {
+        PunctKind::Increment => true,
+        _ => false,
+    }
+}
+
+fn is_arrow(op: PunctKind) -> bool
+    ensures { result ≡ is_arrow op }
+{
+    match op {
+        PunctKind::Arrow => true,
+        _ => false,
+    }
+}
+
+// ---- operands that are kept while others are walked
+
+/// An operand that is kept while others are walked.
+pub(crate) type Kept = Box<Option<Operand>>;
+
+pub(crate) fn kept(alloc: Global, x: Option<Operand>) -> Result<Kept, NoMemory>
+    ensures { IfOk result (λ b. b.value ≡ x) }
+{
+    match Box::new(alloc, x) {
+        Ok(b) => Ok(b),
+        Err(_) => Err(NoMemory),
+    }
+}
+
+/// Takes an operand for use (rule 40), and keeps it.
+pub(crate) fn take_first(
+    alloc: Global,
+    faults: &mut Faults,
+    x: Option<Operand>,
+    at: u32,
+) -> Result<Kept, NoMemory>
+    ensures { let v = option_map plain_operand x in
+        IfOk result (λ b. Walked faults.old.least faults.new.least (λ rest. on (a_use v at) ∷ rest)
+        (option_map plain_operand b.value) (used v)) }
+{
+    let x = take(faults, x, at);
+    let b = kept(alloc, x)?;
+    Ok(b)
+}
+
+/// Takes the first operand of a comma (rule 40), and keeps it.
+pub(crate) fn take_first_part(
+    alloc: Global,
+    faults: &mut Faults,
+    x: Option<Operand>,
+    at: u32,
+) -> Result<Kept, NoMemory>
+    ensures { let v = option_map plain_operand x in
+        IfOk result (λ b. Walked faults.old.least faults.new.least
+        (λ rest. on (a_use v at) ∷ on (a_part (used v) at) ∷ rest)
+        (option_map plain_operand b.value) (used_part (used v))) }
+{
+    let x = take(faults, x, at);
+    let x = take_part(faults, x, at);
+    let b = kept(alloc, x)?;
+    Ok(b)
+}
+
+// ---- forms of two operands
+
+/// The comma.
+pub(crate) fn sequenced(
+    alloc: Global,
+    modes: Modes,
+    faults: &mut Faults,
+    x: Kept,
+    y: Option<Operand>,
+    second: u32,
+) -> Result<Option<Operand>, NoMemory>
+    ensures { let a = option_map plain_operand x.value in let b = option_map plain_operand y in
+        IfOk result (λ z. Walked faults.old.least faults.new.least
+        (λ rest. on (a_use b second) ∷ on (a_part (used b) second) ∷ rest)
+        (option_map plain_operand z) (with_both a (used_part (used b)) (sequence modes))) }
+{
+    let y = take(faults, y, second);
+    let y = take_part(faults, y, second);
+    let z = sequence(alloc, modes, Box::into_inner(x), y)?;
+    Ok(z)
+}
+
+fn store(
+    alloc: Global,
+    modes: Modes,
+    op: PunctKind,
+    x: Option<Operand>,
+    y: Option<Operand>,
+) -> Result<Option<Operand>, NoMemory>
+    ensures { IfOk result (λ z. option_map plain_operand z
+        ≡ stored modes op (option_map plain_operand x) (option_map plain_operand y)) }
+{
+    match compound_operator(op) {
+        Some(op) => {
+            let z = compound(alloc, modes, op, x, y)?;
+            Ok(z)
+        }
+        None => {
+            let z = assign(alloc, modes, x, y)?;
+            Ok(z)
+        }
+    }
+}
+
+fn judge_storing(
+    faults: &mut Faults,
+    op: PunctKind,
+    x: &Option<Operand>,
+    y: &Option<Operand>,
+    at: u32,
+)
+    ensures { (rest : List Site) → told faults.new.least rest ≡ told faults.old.least
+        (a_storing op (option_map plain_operand x.now) (option_map plain_operand y.now) at ∷ rest) }
+{
+    match compound_operator(op) {
+        Some(op) => judge_compound(faults, op, x, y, at),
+        None => judge_assignment(faults, x, y, at),
+    }
+}
+
+/// An assignment.
+pub(crate) fn storing(
+    alloc: Global,
+    modes: Modes,
+    faults: &mut Faults,
+    op: PunctKind,
+    x: Kept,
+    y: Option<Operand>,
+    second: u32,
+    at: u32,
+) -> Result<Option<Operand>, NoMemory>
+    ensures { let a = option_map plain_operand x.value in let b = option_map plain_operand y in
+        IfOk result (λ z. Walked faults.old.least faults.new.least
+        (λ rest. on (a_use b second) ∷ a_storing op a (used b) at ∷ rest)
+        (option_map plain_operand z) (stored modes op a (used b))) }
+{
+    let x = Box::into_inner(x);
+    let y = take(faults, y, second);
+    judge_storing(faults, op, &x, &y, at);
+    let z = store(alloc, modes, op, x, y)?;
+    Ok(z)
+}
+
+fn join(
+    alloc: Global,
+    modes: Modes,
+    op: PunctKind,
+    x: Option<Operand>,
+    y: Option<Operand>,
+) -> Result<Option<Operand>, NoMemory>
+    ensures { IfOk result (λ z. option_map plain_operand z
+        ≡ joined modes op (option_map plain_operand x) (option_map plain_operand y)) }
+{
+    match operator_of(op) {
+        Some(op) => {
+            let z = operate(alloc, modes, op, x, y)?;
+            Ok(z)
+        }
+        None => {
+            let z = logical(alloc, modes, is_and(op), x, y)?;
+            Ok(z)
+        }
+    }
+}
+
+fn judge_join(faults: &mut Faults, op: PunctKind, x: &Option<Operand>, y: &Option<Operand>, at: u32)
+    ensures { (rest : List Site) → told faults.new.least rest ≡ told faults.old.least
+        (a_join op (option_map plain_operand x.now) (option_map plain_operand y.now) at ∷ rest) }
+{
+    match operator_of(op) {
+        Some(op) => judge_operation(faults, op, x, y, at),
+        None => judge_logical(faults, x, y, at),
+    }
+}
+
+/// A binary operator.
+pub(crate) fn joining(
+    alloc: Global,
+    modes: Modes,
+    faults: &mut Faults,
+    op: PunctKind,
+    x: Kept,
+    y: Option<Operand>,
+    second: u32,
+    at: u32,
+) -> Result<Option<Operand>, NoMemory>
+    ensures { let a = option_map plain_operand x.value in let b = option_map plain_operand y in
+        IfOk result (λ z. Walked faults.old.least faults.new.least
+        (λ rest. on (a_use b second) ∷ a_join op a (used b) at ∷ rest)
+        (option_map plain_operand z) (joined modes op a (used b))) }
+{
+    let x = Box::into_inner(x);
+    let y = take(faults, y, second);
+    judge_join(faults, op, &x, &y, at);
+    let z = join(alloc, modes, op, x, y)?;
+    Ok(z)
+}
+
+/// A subscript.
+pub(crate) fn indexing(
+    alloc: Global,
+    modes: Modes,
+    faults: &mut Faults,
+    x: Kept,
+    y: Option<Operand>,
+    second: u32,
+    at: u32,
+) -> Result<Option<Operand>, NoMemory>
+    ensures { let a = option_map plain_operand x.value in let b = option_map plain_operand y in
+        IfOk result (λ z. Walked faults.old.least faults.new.least
+        (λ rest. on (a_use b second) ∷ on (an_index a (used b) at) ∷ rest)
+        (option_map plain_operand z) (with_both a (used b) (indexed modes))) }
+{
+    let x = Box::into_inner(x);
+    let y = take(faults, y, second);
+    judge_index(faults, &x, &y, at);
+    let z = index(alloc, modes, x, y)?;
+    Ok(z)
+}
+
+/// The operator `?:`, whose second and third operands may be void.
+pub(crate) fn choosing(
+    alloc: Global,
+    modes: Modes,
+    faults: &mut Faults,
+    c: Kept,
+    x: Kept,
+    y: Option<Operand>,
+    at: u32,
+) -> Result<Option<Operand>, NoMemory>
+    ensures { let w = option_map plain_operand c.value in let a = option_map plain_operand x.value in
+        let b = option_map plain_operand y in
+        IfOk result (λ z. Walked faults.old.least faults.new.least (λ rest. on (a_choice w a b at) ∷ rest)
+        (option_map plain_operand z)
+        (with_both a b (λ p q. with_one (condition modes w) (λ e. chosen modes e p q)))) }
+{
+    let c = Box::into_inner(c);
+    let x = Box::into_inner(x);
+    judge_choice(faults, &c, &x, &y, at);
+    let z = choose(alloc, modes, c, x, y)?;
+    Ok(z)
+}
+
+// ---- forms of one operand
+
+/// A prefix operator other than `++` and `--`.
+pub(crate) fn prefixing(
+    alloc: Global,
+    modes: Modes,
+    faults: &mut Faults,
+    op: PunctKind,
+    x: Option<Operand>,
+    first: u32,
+    at: u32,
+) -> Result<Option<Operand>, NoMemory>
+    ensures { let a = option_map plain_operand x in
+        IfOk result (λ z. Walked faults.old.least faults.new.least
+        (λ rest. on (a_use a first) ∷ on (a_prefix (prefix_operator op) (used a) at) ∷ rest)
+        (option_map plain_operand z) (with_one (used a) (prefixed modes (prefix_operator op)))) }
+{
+    let x = take(faults, x, first);
+    let op = prefix_operator(op);
+    judge_prefix(faults, op, &x, at);
+    let z = prefix(alloc, modes, op, x)?;
+    Ok(z)
+}
+
+/// `++` or `--`, before its operand where `before` holds.
+pub(crate) fn stepping(
+    modes: Modes,
+    faults: &mut Faults,
+    op: PunctKind,
+    before: bool,
+    x: Option<Operand>,
+    first: u32,
+    at: u32,
+) -> Option<Operand>
+    ensures { let a = option_map plain_operand x in
+        Walked faults.old.least faults.new.least
+        (λ rest. on (a_use a first) ∷ on (a_step (used a) at) ∷ rest)
+        (option_map plain_operand result) (with_one (used a) (stepped modes (is_up op) before)) }
+{
+    let x = take(faults, x, first);
+    judge_step(faults, &x, at);
+    step(modes, is_up(op), before, x)
+}
+
+/// `.` or `->` and the name of a member.
+pub(crate) fn reaching(
+    alloc: Global,
+    known: &Known,
+    faults: &mut Faults,
+    op: PunctKind,
+    name: &Identifier,
+    x: Option<Operand>,
+    first: u32,
+    at: u32,
+) -> Result<Option<Operand>, NoMemory>
+    requires { IsSound (plain_known known.now) }
+    ensures { let k = plain_known known.now in let a = option_map plain_operand x in
+        IfOk result (λ z. Walked faults.old.least faults.new.least
+        (λ rest. on (a_use a first)
+        ∷ on (a_member k.structs name.now.name.items (is_arrow op) (used a) at name.now.spot.index) ∷ rest)
+        (option_map plain_operand z)
+        (with_one (used a) (member_of k.modes k.structs name.now.name.items (is_arrow op)))) }
+{
+    let x = take(faults, x, first);
+    let arrow = is_arrow(op);
+    judge_member(
+        faults,
+        known.structs,
+        &name.name,
+        arrow,
+        &x,
+        at,
+        name.spot.index,
+    );
+    let z = member(alloc, known.modes, known.structs, &name.name, arrow, x)?;
+    Ok(z)
+}
+
+// ---- forms with a type name
+
+fn judged_type(
+    alloc: Global,
+    faults: &mut Faults,
+    tags: &Tags,
+    name: &TypeName,
+) -> Result<TypeNamed, NoMemory>
+    ensures ty { IfOk result (λ n. option_map plain_type n.ty
+        ≡ said_type (plain_tags tags.now) (view_type_name name.now)) }
+    ensures void { IfOk result (λ n. n.void_at ≡ void_said (plain_tags tags.now) (view_type_name name.now)) }
+    ensures judged { OnOk result ((rest : List Site) → told faults.new.least rest
+        ≡ told faults.old.least (a_type_name (plain_tags tags.now) (view_type_name name.now) ∷ rest)) }
+{
+    let n = type_named(alloc, faults, tags, name)?;
+    Ok(n)
+}
+
+fn meant_type(n: TypeNamed) -> Option<CType>
+    ensures { option_map plain_type result ≡ meant_type n.void_at (option_map plain_type n.ty) }
+{
+    match n.void_at {
+        None => n.ty,
+        Some(_) => None,
+    }
+}
+
+fn cast_as(
+    alloc: Global,
+    modes: Modes,
+    n: TypeNamed,
+    x: Option<Operand>,
+) -> Result<Option<Operand>, NoMemory>
+    ensures { IfOk result (λ z. option_map plain_operand z
+        ≡ with_both (meant_type n.void_at (option_map plain_type n.ty)) (option_map plain_operand x) (cast modes)) }
+{
+    let to = meant_type(n);
+    let z = cast(alloc, modes, &to, x)?;
+    Ok(z)
+}
+
+/// A cast.
+pub(crate) fn casting(
+    alloc: Global,
+    known: &Known,
+    faults: &mut Faults,
+    name: &TypeName,
+    x: Kept,
+    at: u32,
+) -> Result<Option<Operand>, NoMemory>
+    ensures { let k = plain_known known.now in let n = view_type_name name.now in
+        let a = option_map plain_operand x.value in
+        IfOk result (λ z. Walked faults.old.least faults.new.least
+        (λ rest. a_type_name k.tags n ∷ on (a_cast (said_type k.tags n) a at) ∷ rest)
+        (option_map plain_operand z)
+        (with_both (meant_type (void_said k.tags n) (said_type k.tags n)) a (cast k.modes))) }
+{
+    let n = judged_type(alloc, faults, known.tags, name)?;
+    let x = Box::into_inner(x);
+    judge_cast(faults, &n.ty, &x, at);
+    let z = cast_as(alloc, known.modes, n, x)?;
+    Ok(z)
+}
+
+fn size_of_type(known: &Known, ty: &Option<CType>) -> Option<Operand>
+    requires { IsSound (plain_known known.now) }
+    ensures { option_map plain_operand result ≡ size_of_type_name (plain_known known.now).modes
+        (plain_known known.now).structs (option_map plain_type ty.now) }
+{
+    match ty {
+        None => None,
+        Some(ty) => {
+            if is_sized(known.structs.len(), ty) {
+                Some(size_value(known.modes, known.structs, ty))
+            } else {
+                None
+            }
+        }
+    }
+}
+
+/// `sizeof` of a type name.
+pub(crate) fn sizing(
+    alloc: Global,
+    known: &Known,
+    faults: &mut Faults,
+    name: &TypeName,
+) -> Result<Option<Operand>, NoMemory>
+    requires { IsSound (plain_known known.now) }
+    ensures { let k = plain_known known.now in let n = view_type_name name.now in
+        IfOk result (λ z. Walked faults.old.least faults.new.least (λ rest. a_type_name k.tags n ∷ rest)
+        (option_map plain_operand z)
+        (size_of_type_name k.modes k.structs (meant_type (void_said k.tags n) (said_type k.tags n)))) }
+{
+    let n = judged_type(alloc, faults, known.tags, name)?;
+    let ty = meant_type(n);
+    Ok(size_of_type(known, &ty))
+}
