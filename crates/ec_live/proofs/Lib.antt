@@ -1,0 +1,5 @@
+pub mod Operations
+pub mod Entries
+pub mod Passes
+pub mod Growth
+pub mod Valid

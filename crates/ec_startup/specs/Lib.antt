@@ -1,0 +1,2 @@
+pub mod Startup
+pub mod Laws

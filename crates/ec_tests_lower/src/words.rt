@@ -1,0 +1,418 @@
+//! Typed programs of int from words, each behind what it takes: `b 1 = ; b get return fn` is
+//! `int main(void) { b = 1; return b; }`.
+//!
+//! Each program has the static object a, the objects b and c of `main`, and the parameters d and e of the function 1.
+ghost use Rattle.std.specs.List.{AllByRecursion};
+ghost use Rattle.std.specs.Prelude.{◌≡◌, map, IfOk};
+ghost use Rattle.ec_core.specs.Layout.{IsObjectType};
+ghost use Rattle.ec_core.specs.Plain.{plain_type, plain_object, plain_program};
+ghost use Rattle.ec_core.specs.Typing.{int};
+ghost use Rattle.ec_lower.specs.Emits.{IsLaidOut};
+ghost use Rattle.ec_interp.specs.Views.{HasLayouts};
+
+use ec_core::{
+    BinOp, CType, Expr, Func, LeafInit, Node, Obj, PlaceExpr, Program, Stmt, StmtKind, Storage,
+};
+use ec_fx::Mode;
+use ec_space::{Bank, NoMemory, Seq, SpaceId};
+use std::alloc::Global;
+use std::test::Fail;
+
+/// What a word makes of the expressions before it.
+#[derive(Clone, Copy)]
+enum Form {
+    Get,
+    Binary(BinOp),
+    Compound(BinOp),
+    Assign,
+    Step { up: bool, prefix: bool },
+    Not,
+    And,
+    Or,
+    Choice,
+    Comma,
+    /// The value as a char, in type int.
+    Narrow,
+    /// A call of the function 1, with two arguments.
+    Call,
+}
+
+static FORMS: [(&str, Form); 20] = [
+    ("get", Form::Get),
+    ("+", Form::Binary(BinOp::Add)),
+    ("-", Form::Binary(BinOp::Sub)),
+    ("/", Form::Binary(BinOp::Div)),
+    ("<<", Form::Binary(BinOp::Shl)),
+    ("<", Form::Binary(BinOp::Lt)),
+    ("==", Form::Binary(BinOp::Eq)),
+    ("+=", Form::Compound(BinOp::Add)),
+    ("-=", Form::Compound(BinOp::Sub)),
+    ("=", Form::Assign),
+    (
+        "++_",
+        Form::Step {
+            up: true,
+            prefix: true,
+        },
+    ),
+    (
+        "_++",
+        Form::Step {
+            up: true,
+            prefix: false,
+        },
+    ),
+    (
+        "_--",
+        Form::Step {
+            up: false,
+            prefix: false,
+        },
+    ),
+    ("!", Form::Not),
+    ("&&", Form::And),
+    ("||", Form::Or),
+    ("?:", Form::Choice),
+    (",", Form::Comma),
+    ("char", Form::Narrow),
+    ("call", Form::Call),
+];
+
+/// What a word makes of the expressions and statements before it.
+#[derive(Clone, Copy)]
+enum Part {
+    Evaluate,
+    Declare,
+    Empty,
+    If,
+    Else,
+    While,
+    Do,
+    /// A first statement, a condition, a last expression and the body.
+    For,
+    Forever,
+    Break,
+    Continue,
+    Return,
+    /// The statements since `{`.
+    Block,
+}
+
+static PARTS: [(&str, Part); 13] = [
+    (";", Part::Evaluate),
+    ("var", Part::Declare),
+    ("empty", Part::Empty),
+    ("if", Part::If),
+    ("else", Part::Else),
+    ("while", Part::While),
+    ("do", Part::Do),
+    ("for", Part::For),
+    ("forever", Part::Forever),
+    ("break", Part::Break),
+    ("continue", Part::Continue),
+    ("return", Part::Return),
+    ("}", Part::Block),
+];
+
+static OBJECTS: [(&str, u16); 5] = [("a", 0), ("b", 1), ("c", 2), ("d", 3), ("e", 4)];
+
+fn look_up<K: Copy>(word: &str, table: &[(&str, K)]) -> Option<K> {
+    for (text, kind) in table {
+        if word == *text {
+            return Some(*kind);
+        }
+    }
+    None
+}
+
+#[derive(Drop)]
+struct Builder {
+    alloc: Global,
+    objects: Vec<u16>,
+    exprs: Vec<Expr>,
+    stmts: Vec<Stmt>,
+    /// How many statements stood before each `{` that is open.
+    open: Vec<usize>,
+    /// The bodies of functions that are whole.
+    bodies: Vec<Stmt>,
+}
+
+fn int_type() -> CType
+    ensures { plain_type result ≡ int }
+{
+    CType::Int {
+        signed: true,
+        bytes: 2,
+    }
+}
+
+fn value(node: Node) -> Expr {
+    Expr {
+        ty: int_type(),
+        mode: Mode { saturate: false },
+        node,
+    }
+}
+
+fn statement(kind: StmtKind) -> Stmt {
+    Stmt {
+        unit: 0,
+        at: 0,
+        kind,
+    }
+}
+
+/// The last items of a list, in order.
+fn taken<T: Drop>(alloc: Global, items: &mut Vec<T>, count: usize) -> Result<Seq<T>, Fail> {
+    let from = items.len().saturating_sub(count);
+    let mut last = Seq::new(alloc);
+    for item in items.drain(from..) {
+        last.push(item)?;
+    }
+    Ok(last)
+}
+
+impl Builder {
+    fn new(alloc: Global) -> Builder {
+        Builder {
+            alloc,
+            objects: Vec::new(alloc),
+            exprs: Vec::new(alloc),
+            stmts: Vec::new(alloc),
+            open: Vec::new(alloc),
+            bodies: Vec::new(alloc),
+        }
+    }
+
+    fn object(&mut self) -> Result<u16, Fail> {
+        let o = self.objects.pop().ok_or("no object")?;
+        Ok(o)
+    }
+
+    fn place(&mut self) -> Result<PlaceExpr, Fail> {
+        let o = self.object()?;
+        Ok(PlaceExpr::Object(o))
+    }
+
+    fn expr(&mut self) -> Result<Expr, Fail> {
+        let e = self.exprs.pop().ok_or("no expression")?;
+        Ok(e)
+    }
+
+    fn operand(&mut self) -> Result<Box<Expr>, Fail> {
+        let e = self.expr()?;
+        let e = Box::new(self.alloc, e)?;
+        Ok(e)
+    }
+
+    fn stmt(&mut self) -> Result<Box<Stmt>, Fail> {
+        let s = self.stmts.pop().ok_or("no statement")?;
+        let s = Box::new(self.alloc, s)?;
+        Ok(s)
+    }
+
+    fn two(&mut self) -> Result<(Box<Expr>, Box<Expr>), Fail> {
+        let b = self.operand()?;
+        let a = self.operand()?;
+        Ok((a, b))
+    }
+
+    fn joined(&mut self, form: Form) -> Result<Node, Fail> {
+        let (a, b) = self.two()?;
+        match form {
+            Form::Binary(op) => Ok(Node::Binary(op, a, b)),
+            Form::And => Ok(Node::And(a, b)),
+            Form::Or => Ok(Node::Or(a, b)),
+            Form::Comma => Ok(Node::Comma(a, b)),
+            Form::Choice => Ok(Node::Cond(self.operand()?, a, b)),
+            _ => Err("no operator")?,
+        }
+    }
+
+    fn narrowed(&mut self) -> Result<Node, Fail> {
+        let node = Node::Convert(self.operand()?);
+        let ty = CType::Int {
+            signed: true,
+            bytes: 1,
+        };
+        let mode = Mode { saturate: false };
+        let e = Box::new(self.alloc, Expr { ty, mode, node })?;
+        Ok(Node::Convert(e))
+    }
+
+    fn node(&mut self, form: Form) -> Result<Node, Fail> {
+        match form {
+            Form::Get => Ok(Node::Load(self.place()?)),
+            Form::Step { up, prefix } => Ok(Node::Step {
+                up,
+                prefix,
+                place: self.place()?,
+            }),
+            Form::Not => Ok(Node::Not(self.operand()?)),
+            Form::Assign => {
+                let e = self.operand()?;
+                Ok(Node::Assign(self.place()?, e))
+            }
+            Form::Compound(op) => {
+                let e = self.operand()?;
+                Ok(Node::Compound(op, Mode { saturate: false }, self.place()?, e))
+            }
+            Form::Narrow => self.narrowed(),
+            Form::Call => Ok(Node::Call(1, taken(self.alloc, &mut self.exprs, 2)?)),
+            _ => self.joined(form),
+        }
+    }
+
+    fn block(&mut self) -> Result<StmtKind, Fail> {
+        let before = self.open.pop().ok_or("no block")?;
+        let count = self.stmts.len().saturating_sub(before);
+        let inner = taken(self.alloc, &mut self.stmts, count)?;
+        Ok(StmtKind::Block(inner))
+    }
+
+    /// A condition, and one statement or two.
+    fn choice(&mut self, both: bool) -> Result<StmtKind, Fail> {
+        let other = if both { Some(self.stmt()?) } else { None };
+        let s = self.stmt()?;
+        let c = self.expr()?;
+        Ok(StmtKind::If(c, s, other))
+    }
+
+    fn counted(&mut self) -> Result<StmtKind, Fail> {
+        let body = self.stmt()?;
+        let first = self.stmt()?;
+        let last = self.expr()?;
+        let c = self.expr()?;
+        Ok(StmtKind::For(Some(first), Some(c), Some(last), body))
+    }
+
+    fn kind(&mut self, part: Part) -> Result<StmtKind, Fail> {
+        match part {
+            Part::Evaluate => Ok(StmtKind::Do1(self.expr()?)),
+            Part::Declare => {
+                let values = taken(self.alloc, &mut self.exprs, 1)?;
+                Ok(StmtKind::Local(self.object()?, values))
+            }
+            Part::Empty => Ok(StmtKind::Empty),
+            Part::If => self.choice(false),
+            Part::Else => self.choice(true),
+            Part::While => {
+                let s = self.stmt()?;
+                Ok(StmtKind::While(self.expr()?, s))
+            }
+            Part::Do => {
+                let c = self.expr()?;
+                Ok(StmtKind::DoWhile(self.stmt()?, c))
+            }
+            Part::For => self.counted(),
+            Part::Forever => Ok(StmtKind::For(None, None, None, self.stmt()?)),
+            Part::Break => Ok(StmtKind::Break),
+            Part::Continue => Ok(StmtKind::Continue),
+            Part::Return => Ok(StmtKind::Return(Some(self.expr()?))),
+            Part::Block => self.block(),
+        }
+    }
+
+    fn end_function(&mut self) -> Result<(), Fail> {
+        let count = self.stmts.len();
+        let body = taken(self.alloc, &mut self.stmts, count)?;
+        self.bodies.push(statement(StmtKind::Block(body)))?;
+        Ok(())
+    }
+
+    fn add(&mut self, word: &str) -> Result<(), Fail> {
+        if let Some(o) = look_up(word, &OBJECTS) {
+            self.objects.push(o)?;
+        } else if let Some(form) = look_up(word, &FORMS) {
+            let node = self.node(form)?;
+            self.exprs.push(value(node))?;
+        } else if let Some(part) = look_up(word, &PARTS) {
+            let kind = self.kind(part)?;
+            self.stmts.push(statement(kind))?;
+        } else if word == "{" {
+            self.open.push(self.stmts.len())?;
+        } else if word == "fn" {
+            self.end_function()?;
+        } else {
+            let n = word.parse::<i64>().ok().ok_or("no such word")?;
+            self.exprs.push(value(Node::Number(i128::from(n))))?;
+        }
+        Ok(())
+    }
+}
+
+// ---- programs
+
+fn object(alloc: Global, storage: Storage) -> Obj
+    ensures { (plain_object result).ty ≡ int }
+{
+    Obj {
+        name: Seq::new(alloc),
+        unit: 0,
+        external: false,
+        ty: int_type(),
+        space: SpaceId::Generic,
+        home: Bank::Data,
+        konst: false,
+        storage,
+    }
+}
+
+fn zero(alloc: Global) -> Result<Storage, NoMemory> {
+    let mut values = Seq::new(alloc);
+    values.push(LeafInit::Number(0))?;
+    Ok(Storage::Static(values))
+}
+
+fn objects(alloc: Global) -> Result<Seq<Obj>, NoMemory>
+    ensures { IfOk result (λ objs. AllByRecursion (λ o. IsObjectType 0 o.ty) (map plain_object objs.items)) }
+{
+    let mut objs = Seq::new(alloc);
+    let a = object(alloc, zero(alloc)?);
+    objs.push(a)?;
+    objs.push(object(alloc, Storage::Local(0)))?;
+    objs.push(object(alloc, Storage::Local(0)))?;
+    objs.push(object(alloc, Storage::Param(1)))?;
+    objs.push(object(alloc, Storage::Param(1)))?;
+    Ok(objs)
+}
+
+fn function(alloc: Global, params: &[u16], body: Stmt) -> Result<Func, Fail> {
+    let mut list = Seq::new(alloc);
+    list.extend_from_slice(params)?;
+    Ok(Func {
+        name: Seq::new(alloc),
+        unit: 0,
+        result: int_type(),
+        params: list,
+        body,
+    })
+}
+
+fn functions(alloc: Global, words: &str) -> Result<Seq<Func>, Fail> {
+    let mut builder = Builder::new(alloc);
+    for word in words.split(' ') {
+        builder.add(word)?;
+    }
+    let mut functions = Seq::new(alloc);
+    for body in builder.bodies.drain(..) {
+        let params: &[u16] = if functions.is_empty() { &[] } else { &[3, 4] };
+        functions.push(function(alloc, params, body)?)?;
+    }
+    Ok(functions)
+}
+
+/// The program of some words.
+pub fn program(alloc: Global, words: &str) -> Result<Program, Fail>
+    ensures layouts { IfOk result HasLayouts }
+    ensures objects { IfOk result (λ p. IsLaidOut (plain_program p)) }
+{
+    let funcs = functions(alloc, words)?;
+    let objs = objects(alloc)?;
+    Ok(Program {
+        structs: Seq::new(alloc),
+        objs,
+        funcs,
+        main: 0,
+    })
+}
