@@ -1,0 +1,3 @@
+-- The definitions that the contracts of these tests cite.
+pub mod Tests
+pub mod Laws

@@ -1,0 +1,17 @@
+-- What is told of an expression, among other places.
+use Rattle.std.proofs.Common.{◌≡◌, ◌∙◌, refl, sym, ap, List, [], ◌∷◌}
+use Rattle.std.specs.Prelude.{Option}
+use Rattle.ec_faults.specs.declared.Fault.{Fault}
+use Rattle.ec_faults.specs.Faults.{all_judged}
+use Rattle.ec_expr.specs.Sites as expressions
+use Rattle.ec_initial.specs.Sites.{Site, told, sites_in}
+
+told_in : (f : Option Fault) (ss : List expressions.Site) (rest : List Site) → told f (sites_in ss rest) ≡ told (expressions.told f ss) rest
+told_in f [] rest = refl
+told_in f (s ∷ ss) rest = told_in (all_judged f (expressions.rules_at s)) ss rest
+
+-- an expression that was walked, and what was judged of it then
+pub walked_in : {A : Type 0} {f g h : Option Fault} {sites : List expressions.Site → List expressions.Site} {x v : A} (us : List expressions.Site)
+    → expressions.Walked f g sites x v → h ≡ expressions.told g us → (rest : List Site) → told h rest ≡ told f (sites_in (sites us) rest)
+walked_in {A} {f} {g} {h} {sites} us w e rest =
+    ap (λ z. told z rest) (e ∙ w.noted us) ∙ sym (told_in f (sites us) rest)

@@ -1,0 +1,3 @@
+-- Lemmas about sizes.
+pub mod Inside
+pub mod Numbers
