@@ -130,6 +130,27 @@ static OPERATIONS: [Operation; 73] = [
     (0x9F01, 0x0080, 0x02, 0x00, 0, 0x0100, 0x00), // MUL
 ];
 
+/// The pair of registers at `at` and SREG, where seven silent steps lead to a BREAK.
+fn outcome(machine: &mut Machine, at: u8) -> Option<(u16, u8)> {
+    for _ in 0..7 {
+        if stepped(machine, 0) != Stepped::Ran(Access::Silent) {
+            return None;
+        }
+    }
+    if stepped(machine, 0) != Stepped::Ended {
+        return None;
+    }
+    let low = byte_at(machine, at as u32)? as u16;
+    let high = byte_at(machine, at as u32 + 1)? as u16;
+    Some((low + 256 * high, byte_at(machine, 0x5F)?))
+}
+
+/// That of an operation on its operands.
+fn operated(alloc: Global, words: &[u16], at: u8) -> Result<Option<(u16, u8)>, NoMemory> {
+    let mut machine = booted(alloc, words, 0)?;
+    Ok(outcome(&mut machine, at))
+}
+
 #[test]
 fn operations(rt: HostRuntime) -> Result<(), Fail> {
     for (word, x, y, before, at, result, after) in OPERATIONS {
@@ -143,21 +164,9 @@ fn operations(rt: HostRuntime) -> Result<(), Fail> {
             word,
             0x9598,
         ];
-        let mut machine = booted(rt.alloc(), &words, 0)?;
-        for _ in 0..7 {
-            assert_eq!(rt; stepped(&mut machine, 0), Stepped::Ran(Access::Silent));
-        }
-        assert_eq!(rt; stepped(&mut machine, 0), Stepped::Ended);
-        let low = byte_at(&machine, at as u32).ok_or("data")? as u16;
-        let high = byte_at(&machine, at as u32 + 1).ok_or("data")? as u16;
         assert_eq!(rt;
-            low + 256 * high,
-            result,
-            "{word:04X} {x:04X} {y:02X} {before:02X}"
-        );
-        assert_eq!(rt;
-            byte_at(&machine, 0x5F),
-            Some(after),
+            operated(rt.alloc(), &words, at),
+            Ok(Some((result, after))),
             "{word:04X} {x:04X} {y:02X} {before:02X}"
         );
     }
@@ -374,30 +383,54 @@ static PROGRAMS: [Program; 9] = [
     },
 ];
 
-/// Makes steps that access nothing.
-fn silent_steps(rt: &impl Abort, machine: &mut Machine, count: u8) {
+/// Whether so many steps access nothing.
+fn are_silent(machine: &mut Machine, count: u8) -> bool {
     for _ in 0..count {
-        assert_eq!(rt; stepped(machine, 0x2A), Stepped::Ran(Access::Silent));
+        if stepped(machine, 0x2A) != Stepped::Ran(Access::Silent) {
+            return false;
+        }
     }
+    true
+}
+
+/// Whether the accesses are these, each behind so many silent steps.
+fn accesses(machine: &mut Machine, trace: &[(u8, Access)]) -> bool {
+    for (silent, access) in trace {
+        if !are_silent(machine, *silent) || stepped(machine, 0x2A) != Stepped::Ran(*access) {
+            return false;
+        }
+    }
+    true
+}
+
+/// Whether a machine does what is told of a program, and then stays where it ended.
+fn does(machine: &mut Machine, program: &Program) -> bool {
+    accesses(machine, program.trace)
+        && are_silent(machine, program.rest)
+        && stepped(machine, 0x2A) == Stepped::Ended
+        && stepped(machine, 0x2A) == Stepped::Ended
+        && machine.result() == program.result
+}
+
+fn holds(machine: &Machine, bytes: &[(u32, u8)]) -> bool {
+    for (at, byte) in bytes {
+        if byte_at(machine, *at) != Some(*byte) {
+            return false;
+        }
+    }
+    true
+}
+
+fn runs(alloc: Global, program: &Program) -> Result<bool, NoMemory> {
+    let mut machine = booted(alloc, program.words, 0xA5)?;
+    Ok(does(&mut machine, program) && holds(&machine, program.bytes))
 }
 
 #[test]
-fn programs(rt: HostRuntime) -> Result<(), Fail> {
-    for program in &PROGRAMS {
-        let mut machine = booted(rt.alloc(), program.words, 0xA5)?;
-        for (silent, access) in program.trace {
-            silent_steps(&rt, &mut machine, *silent);
-            assert_eq!(rt; stepped(&mut machine, 0x2A), Stepped::Ran(*access));
-        }
-        silent_steps(&rt, &mut machine, program.rest);
-        assert_eq!(rt; stepped(&mut machine, 0x2A), Stepped::Ended);
-        assert_eq!(rt; stepped(&mut machine, 0x2A), Stepped::Ended, "it stays");
-        assert_eq!(rt; machine.result(), program.result);
-        for (at, byte) in program.bytes {
-            assert_eq!(rt; byte_at(&machine, *at), Some(*byte), "at {at:04X}");
-        }
+fn programs(rt: HostRuntime) {
+    for (k, program) in PROGRAMS.iter().enumerate() {
+        assert_eq!(rt; runs(rt.alloc(), program), Ok(true), "program {k}");
     }
-    Ok(())
 }
 
 /// The words, the byte that memory holds, the silent steps before the fault, the fault and its program counter.
@@ -424,33 +457,55 @@ static STOPS: [Stop; 10] = [
     (&[0xE001, 0xBF0E, 0xD000], 0x00, 2, FaultKind::StackOut, 2),
 ];
 
-#[test]
-fn faults(rt: HostRuntime) -> Result<(), Fail> {
-    for (words, fill, before, kind, pc) in STOPS {
-        let mut machine = booted(rt.alloc(), words, fill)?;
-        silent_steps(&rt, &mut machine, before);
-        for _ in 0..2 {
-            assert_eq!(rt; stepped(&mut machine, 0), Stepped::Fault(kind, pc));
-        }
+/// What the first two steps behind so many silent ones come to.
+fn end_of(machine: &mut Machine, before: u8) -> Option<(Stepped, Stepped)> {
+    if are_silent(machine, before) {
+        Some((stepped(machine, 0), stepped(machine, 0)))
+    } else {
+        None
     }
-    Ok(())
+}
+
+fn stopped_at(
+    alloc: Global,
+    words: &[u16],
+    fill: u8,
+    before: u8,
+) -> Result<Option<(Stepped, Stepped)>, NoMemory> {
+    let mut machine = booted(alloc, words, fill)?;
+    Ok(end_of(&mut machine, before))
 }
 
 #[test]
-fn second_word_past_flash(rt: HostRuntime) -> Result<(), Fail> {
+fn faults(rt: HostRuntime) {
+    for (words, fill, before, kind, pc) in STOPS {
+        let fault = Stepped::Fault(kind, pc);
+        assert_eq!(rt;
+            stopped_at(rt.alloc(), words, fill, before),
+            Ok(Some((fault, fault)))
+        );
+    }
+}
+
+/// The first steps of JMP 0x3FFF to a word that stands there, at the end of the flash.
+fn last_word(alloc: Global, word: u16) -> Result<Option<(Stepped, Stepped)>, NoMemory> {
+    let mut image = Image::new(alloc, Core::Small)?;
+    write_word(&mut image, 0, 0x940C);
+    write_word(&mut image, 1, 0x3FFF);
+    write_word(&mut image, 0x3FFF, word);
+    let mut machine = Machine::boot(alloc, &image, 0xFF)?;
+    Ok(end_of(&mut machine, 1))
+}
+
+#[test]
+fn second_word_past_flash(rt: HostRuntime) {
     // At the last word LDS R0 lacks its second word, LD R0,Z does not, and 0x940D has none.
     for (word, fault) in [
         (0x9000, FaultKind::PcOut),
         (0x8000, FaultKind::DataOut),
         (0x940D, FaultKind::Unsupported),
     ] {
-        let mut image = Image::new(rt.alloc(), Core::Small)?;
-        write_word(&mut image, 0, 0x940C);
-        write_word(&mut image, 1, 0x3FFF);
-        write_word(&mut image, 0x3FFF, word);
-        let mut machine = Machine::boot(rt.alloc(), &image, 0xFF)?;
-        silent_steps(&rt, &mut machine, 1);
-        assert_eq!(rt; stepped(&mut machine, 0), Stepped::Fault(fault, 0x3FFF));
+        let fault = Stepped::Fault(fault, 0x3FFF);
+        assert_eq!(rt; last_word(rt.alloc(), word), Ok(Some((fault, fault))));
     }
-    Ok(())
 }

@@ -1,7 +1,7 @@
 //! Runs of small programs with scripts and hooks, and lines of scripts, on texts that were worked out apart.
-use ec_avr::{FaultKind, Image, Machine};
+use ec_avr::{Image, Machine};
 use ec_emu::{
-    Ask, EmuEnd, EmuReport, Hook, Hooked, Ports, Rule, Script, ScriptStop, Scripted, emulate,
+    Ask, EmuReport, Hook, Hooked, Ports, Rule, Script, ScriptLine, ScriptStop, Scripted, emulate,
     read_script,
 };
 use ec_hex::{HexStop, read_hex};
@@ -69,8 +69,15 @@ fn script(alloc: Global, text: &[u8]) -> Result<Script, ScriptStop> {
     }
 }
 
+// What a sink received, and a report.
+fn told(alloc: Global, text: &[u8], report: EmuReport) -> Result<String, Fail> {
+    let printed = String::from_utf8_lossy(alloc, text)?;
+    let EmuReport { end, reads, writes } = report;
+    Ok(format!(in alloc; "{printed}{end:?} {reads} {writes}")?)
+}
+
 // What a HEX text prints with a script, and its report.
-fn run(alloc: Global, hex: &[u8], lines: &[u8], steps: u32) -> Result<(MemSink, EmuReport), Fail> {
+fn run(alloc: Global, hex: &[u8], lines: &[u8], steps: u32) -> Result<String, Fail> {
     let script = script(alloc, lines)?;
     let mut machine = Machine::boot(alloc, &image(alloc, hex)?, 165)?;
     let mut sink = MemSink::new(alloc, 1_000, Seq::new(alloc))?;
@@ -82,7 +89,7 @@ fn run(alloc: Global, hex: &[u8], lines: &[u8], steps: u32) -> Result<(MemSink, 
         hooks: &mut hooked,
     };
     let report = emulate(&mut machine, &mut ports, steps, &mut sink);
-    Ok((sink, report))
+    told(alloc, sink.text().as_slice(), report)
 }
 
 // LDS R24, 0x25; LDI R25, 0; BREAK.
@@ -91,46 +98,42 @@ const LOADS: &[u8] = b":080000008091250090E0989525\n:00000001FF\n";
 // LDI R24, 9; STS 0x25, R24; LDS R24, 0x25; LDI R25, 0; BREAK.
 const STORES: &[u8] = b":0E00000089E0809325008091250090E098957E\n:00000001FF\n";
 
+// A HEX text, a script, the steps, and what comes of it: the lines, the end, and how often ports are read and written.
+static RUNS: [(&[u8], &[u8], u32, &str); 8] = [
+    (LOADS, b"25: 2A", 3, "in 25 2A\nEnded(42) 1 0"),
+    (LOADS, b"25: 2A", 2, "in 25 2A\nStepsOut 1 0"),
+    (LOADS, b"25: 2A", 0, "StepsOut 0 0"),
+    (LOADS, b"25: hook", 10, "in 25 00\nEnded(0) 1 0"),
+    (LOADS, b"", 10, "in 25 00\nEnded(0) 1 0"),
+    (STORES, b"25: hook", 10, "out 25 09\nin 25 09\nEnded(9) 1 1"),
+    (
+        STORES,
+        b"25: ab cd",
+        10,
+        "out 25 09\nin 25 AB\nEnded(171) 1 1",
+    ),
+    (b":00000001FF", b"", 1, "Fault(Unsupported, 0) 0 0"),
+];
+
 #[test]
 fn prints_and_ends(rt: HostRuntime) -> Result<(), Fail> {
-    let cases: [(&[u8], &[u8], u32, &[u8], EmuEnd); 8] = [
-        (LOADS, b"25: 2A", 3, b"in 25 2A\n", EmuEnd::Ended(42)),
-        (LOADS, b"25: 2A", 2, b"in 25 2A\n", EmuEnd::StepsOut),
-        (LOADS, b"25: 2A", 0, b"", EmuEnd::StepsOut),
-        (LOADS, b"25: hook", 10, b"in 25 00\n", EmuEnd::Ended(0)),
-        (LOADS, b"", 10, b"in 25 00\n", EmuEnd::Ended(0)),
-        (
-            STORES,
-            b"25: hook",
-            10,
-            b"out 25 09\nin 25 09\n",
-            EmuEnd::Ended(9),
-        ),
-        (
-            STORES,
-            b"25: ab cd",
-            10,
-            b"out 25 09\nin 25 AB\n",
-            EmuEnd::Ended(0xAB),
-        ),
-        (
-            b":00000001FF",
-            b"",
-            1,
-            b"",
-            EmuEnd::Fault(FaultKind::Unsupported, 0),
-        ),
-    ];
-    for (hex, lines, steps, want, end) in cases {
-        let (sink, report) = run(rt.alloc(), hex, lines, steps)?;
-        assert_eq!(rt; sink.text().as_slice(), want);
-        assert_eq!(rt; report.end, end);
+    for (hex, lines, steps, want) in RUNS {
+        let run = run(rt.alloc(), hex, lines, steps)?;
+        assert_eq!(rt; run.as_str(), want);
     }
     Ok(())
 }
 
 // LDS R24, 0x25; LDS R24, 0x26; LDS R25, 0x25; BREAK.
 const TWO_PORTS: &[u8] = b":0E000000809125008091260090912500989512\n:00000001FF\n";
+
+// What the text prints where ports answer how often they were read before.
+fn run_counted(alloc: Global, ports: &mut Counted) -> Result<String, Fail> {
+    let mut machine = Machine::boot(alloc, &image(alloc, TWO_PORTS)?, 165)?;
+    let mut sink = MemSink::new(alloc, 100, Seq::new(alloc))?;
+    let report = emulate(&mut machine, ports, 10, &mut sink);
+    told(alloc, sink.text().as_slice(), report)
+}
 
 #[test]
 fn asks_once_a_read(rt: HostRuntime) -> Result<(), Fail> {
@@ -140,36 +143,31 @@ fn asks_once_a_read(rt: HostRuntime) -> Result<(), Fail> {
         last: 0,
     };
     let mut ports = Counted { asks: 0, first };
-    let mut machine = Machine::boot(rt.alloc(), &image(rt.alloc(), TWO_PORTS)?, 165)?;
-    let mut sink = MemSink::new(rt.alloc(), 100, Seq::new(rt.alloc()))?;
-    let report = emulate(&mut machine, &mut ports, 10, &mut sink);
+    let counted = run_counted(rt.alloc(), &mut ports)?;
     assert_eq!(rt;
-        sink.text().as_slice(),
-        b"in 25 00\nin 26 00\nin 25 01\n".as_slice()
+        counted.as_str(),
+        "in 25 00\nin 26 00\nin 25 01\nEnded(256) 3 0"
     );
-    assert_eq!(rt; report.end, EmuEnd::Ended(256));
     assert_eq!(rt; ports.asks, 3);
     assert_eq!(rt; ports.first, first);
     Ok(())
 }
 
-#[test]
-fn counts_after_a_failed_write(rt: HostRuntime) -> Result<(), Fail> {
-    let mut machine = Machine::boot(rt.alloc(), &image(rt.alloc(), STORES)?, 165)?;
-    let mut sink = MemSink::new(rt.alloc(), 12, Seq::new(rt.alloc()))?;
+// What the text prints to a sink that takes 12 bytes.
+fn cut_off(alloc: Global) -> Result<String, Fail> {
+    let mut machine = Machine::boot(alloc, &image(alloc, STORES)?, 165)?;
+    let mut sink = MemSink::new(alloc, 12, Seq::new(alloc))?;
     let mut ports = Hooked {
         hook: Hook::new(|ask: Ask| ask.last, Last),
     };
     let report = emulate(&mut machine, &mut ports, 10, &mut sink);
-    assert_eq!(rt; sink.text().as_slice(), b"out 25 09\nin".as_slice());
-    assert_eq!(rt;
-        report,
-        EmuReport {
-            end: EmuEnd::WriteFault,
-            reads: 1,
-            writes: 1
-        }
-    );
+    told(alloc, sink.text().as_slice(), report)
+}
+
+#[test]
+fn counts_after_a_failed_write(rt: HostRuntime) -> Result<(), Fail> {
+    let cut_off = cut_off(rt.alloc())?;
+    assert_eq!(rt; cut_off.as_str(), "out 25 09\ninWriteFault 1 1");
     Ok(())
 }
 
@@ -198,22 +196,27 @@ fn hooks_are_given_back(rt: HostRuntime) -> Result<(), Fail> {
     Ok(())
 }
 
+// The lines of a script, each with its port, whether it is hooked, and its bytes.
+fn shown(alloc: Global, lines: &[ScriptLine]) -> Result<String, Fail> {
+    let mut out = String::new(alloc);
+    for line in lines {
+        let (port, hook, bytes) = (line.port, line.hook, line.bytes.as_slice());
+        out.push_str(format!(in alloc; "{port:02X} {hook} {bytes:?}\n")?.as_str())?;
+    }
+    Ok(out)
+}
+
+fn lines(alloc: Global, text: &[u8]) -> Result<String, Fail> {
+    let script = script(alloc, text)?;
+    shown(alloc, script.lines.as_slice())
+}
+
 #[test]
 fn reads_lines(rt: HostRuntime) -> Result<(), Fail> {
     let text = b"# a comment\r\n\r\ncore small\r\n25: 2A  fF \n79:\n7a: hook  \nFF: 00";
-    let script = script(rt.alloc(), text)?;
-    let want: [(u8, bool, &[u8]); 4] = [
-        (0x25, false, &[0x2A, 0xFF]),
-        (0x79, false, &[]),
-        (0x7A, true, &[]),
-        (0xFF, false, &[0]),
-    ];
-    assert_eq!(rt; script.lines.len(), 4);
-    for (line, (port, hook, bytes)) in script.lines.as_slice().iter().zip(want) {
-        assert_eq!(rt; line.port, port);
-        assert_eq!(rt; line.hook, hook);
-        assert_eq!(rt; line.bytes.as_slice(), bytes);
-    }
+    let lines = lines(rt.alloc(), text)?;
+    let want = "25 false [42, 255]\n79 false []\n7A true []\nFF false [0]\n";
+    assert_eq!(rt; lines.as_str(), want);
     Ok(())
 }
 
@@ -241,10 +244,8 @@ fn tells_the_first_broken_rule(rt: HostRuntime) -> Result<(), Fail> {
         (b"25:\n5E:\n25:", 2, 2),
     ];
     for (text, line, rule) in cases {
-        assert_eq!(rt;
-            script(rt.alloc(), text).err(),
-            Some(ScriptStop::Line { line, rule })
-        );
+        let told = script(rt.alloc(), text).err();
+        assert_eq!(rt; told, Some(ScriptStop::Line { line, rule }));
     }
     Ok(())
 }

@@ -4,7 +4,7 @@ ghost use Rattle.std.specs.Prelude.{None};
 use ec_avr::Image;
 use ec_hex::{HexStop, read_hex, write_hex};
 use ec_io::{Failed, Sink, Written};
-use ec_space::{Core, Seq};
+use ec_space::{Core, NoMemory, Seq};
 use std::alloc::{AllocError, Global};
 use std::test::Fail;
 
@@ -18,9 +18,19 @@ fn read(alloc: Global, text: &[u8]) -> Result<Image, HexStop> {
     }
 }
 
+fn cell(image: &Image, at: usize) -> Option<(u8, bool)> {
+    Some((*image.bytes.get(at)?, *image.written.get(at)?))
+}
+
+// The first three bytes of an image, and whether they are written.
+fn cells_of(alloc: Global, text: &[u8]) -> Result<[Option<(u8, bool)>; 3], HexStop> {
+    let image = read(alloc, text)?;
+    Ok([cell(&image, 0), cell(&image, 1), cell(&image, 2)])
+}
+
 // Forms of one image, whose first bytes are 98 95. The data lines are those of avr-objcopy for these bytes.
 #[test]
-fn reads_every_form(rt: HostRuntime) -> Result<(), Fail> {
+fn reads_every_form(rt: HostRuntime) {
     let texts: [&[u8]; 7] = [
         b":020000009895D1\n:00000001FF\n",
         b":020000009895d1\r\n\r\n:00000001ff\r\n",
@@ -32,14 +42,9 @@ fn reads_every_form(rt: HostRuntime) -> Result<(), Fail> {
         b":020000009895D1\n:00000001FF\nzz\n:0100000000FF\n:0100000000FF\n",
     ];
     for text in texts {
-        let image = read(rt.alloc(), text)?;
-        assert_eq!(rt; image.bytes.get(0).copied(), Some(0x98));
-        assert_eq!(rt; image.bytes.get(1).copied(), Some(0x95));
-        assert_eq!(rt; image.bytes.get(2).copied(), Some(0xFF));
-        assert_eq!(rt; image.written.get(1).copied(), Some(true));
-        assert_eq!(rt; image.written.get(2).copied(), Some(false));
+        let cells = [Some((0x98, true)), Some((0x95, true)), Some((0xFF, false))];
+        assert_eq!(rt; cells_of(rt.alloc(), text), Ok(cells));
     }
-    Ok(())
 }
 
 #[test]
@@ -166,34 +171,45 @@ fn hands_over_lines(rt: HostRuntime) -> Result<(), Fail> {
     Ok(())
 }
 
-#[test]
-fn passes_gaps(rt: HostRuntime) -> Result<(), Fail> {
-    let mut image = Image::new(rt.alloc(), Core::Small)?;
+fn written_parts(alloc: Global) -> Result<Vec<u8>, Fail> {
+    let mut image = Image::new(alloc, Core::Small)?;
     put(&mut image, 0x20, &[1, 2]);
     put(&mut image, 0x23, &[3]);
     put(&mut image, 0x7FFF, &[0]);
-    let mut sink = sink(rt.alloc(), 100, 100);
+    let mut sink = sink(alloc, 100, 100);
     write_hex(&mut sink, &image)?;
+    Ok(sink.text)
+}
+
+#[test]
+fn passes_gaps(rt: HostRuntime) -> Result<(), Fail> {
+    let text = written_parts(rt.alloc())?;
     let lines = b":020020000102DB\n|:0100230003D9\n|:017FFF000081\n|:00000001FF\n|";
-    assert_eq!(rt; sink.text.as_slice(), lines.as_slice());
+    assert_eq!(rt; text.as_slice(), lines.as_slice());
     Ok(())
 }
 
 // Two lines of 16 and 12 bytes: how many go out where the sink takes at most so many at once and then fails.
-#[test]
-fn tells_what_went_out(rt: HostRuntime) -> Result<(), Fail> {
-    let mut image = Image::new(rt.alloc(), Core::Small)?;
+fn write_two_lines(
+    alloc: Global,
+    most: usize,
+    limit: usize,
+) -> Result<Result<(), Written>, NoMemory> {
+    let mut image = Image::new(alloc, Core::Small)?;
     put(&mut image, 0, &[0x98, 0x95]);
-    let cases = [
+    let mut sink = sink(alloc, most, limit);
+    Ok(write_hex(&mut sink, &image))
+}
+
+#[test]
+fn tells_what_went_out(rt: HostRuntime) {
+    for (most, limit, want) in [
         (100, 0, Err(Written(0))),
         (100, 1, Err(Written(16))),
         (10, 1, Err(Written(10))),
         (10, 3, Err(Written(26))),
         (10, 4, Ok(())),
-    ];
-    for (most, limit, want) in cases {
-        let mut sink = sink(rt.alloc(), most, limit);
-        assert_eq!(rt; write_hex(&mut sink, &image), want);
+    ] {
+        assert_eq!(rt; write_two_lines(rt.alloc(), most, limit), Ok(want));
     }
-    Ok(())
 }
