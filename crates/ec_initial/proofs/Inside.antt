@@ -1,8 +1,12 @@
 -- What is told of an expression, among other places.
 use Rattle.std.proofs.Common.{◌≡◌, ◌∙◌, refl, sym, ap, List, [], ◌∷◌}
-use Rattle.std.specs.Prelude.{Option}
+use Rattle.std.specs.Prelude.{ℕ, Option}
 use Rattle.ec_faults.specs.declared.Fault.{Fault}
 use Rattle.ec_faults.specs.Faults.{all_judged}
+use Rattle.ec_core.specs.Plain.{PlainType}
+use Rattle.ec_forms.specs.Nodes.{used, use_rules}
+use Rattle.ec_operands.specs.Operands.{Operand}
+use Rattle.ec_operands.specs.Passing.{passing_rules}
 use Rattle.ec_expr.specs.Sites as expressions
 use Rattle.ec_initial.specs.Sites.{Site, told, sites_in}
 
@@ -15,3 +19,14 @@ pub walked_in : {A : Type 0} {f g h : Option Fault} {sites : List expressions.Si
     → expressions.Walked f g sites x v → h ≡ expressions.told g us → (rest : List Site) → told h rest ≡ told f (sites_in (sites us) rest)
 walked_in {A} {f} {g} {h} {sites} us w e rest =
     ap (λ z. told z rest) (e ∙ w.noted us) ∙ sym (told_in f (sites us) rest)
+
+-- what is judged of an operand that is used and then brought to a type
+pub used_and_judged : (g h i : Option Fault) (x v y : Option Operand) (to : Option PlainType) (at first : ℕ)
+    → h ≡ all_judged g (use_rules x at) → i ≡ all_judged h (passing_rules y to at) → x ≡ v → y ≡ used x → at ≡ first
+    → i ≡ all_judged (all_judged g (use_rules v first)) (passing_rules (used v) to first)
+used_and_judged g h i x v y to at first a b ex ey ea =
+    b
+    ∙ ap (λ z. all_judged z (passing_rules y to at)) a
+    ∙ ap (λ z. all_judged (all_judged g (use_rules x at)) (passing_rules z to at)) ey
+    ∙ ap (λ z. all_judged (all_judged g (use_rules z at)) (passing_rules (used z) to at)) ex
+    ∙ ap (λ z. all_judged (all_judged g (use_rules v z)) (passing_rules (used v) to z)) ea

@@ -1,9 +1,10 @@
--- The places of sizes where rules are judged, and what is told there.
+-- The places of sizes and initialisers where rules are judged, and what is told there.
 use Rattle.std.specs.Prelude.{ℕ, Bool, true, false, if◌then◌else◌, ◌≡◌, Option, None, List, [], ◌∷◌}
 use Rattle.ec_faults.specs.declared.Fault.{Fault}
 use Rattle.ec_faults.specs.Faults.{Judgement, all_judged}
 use Rattle.ec_grammar.specs.Trees as t
 use Rattle.ec_names.specs.Firsts.{first_conditional}
+use Rattle.ec_core.specs.Plain.{PlainType, PlainStruct}
 use Rattle.ec_operands.specs.Operands.{Operand}
 use Rattle.ec_forms.specs.Nodes.{used}
 use Rattle.ec_rules.specs.Sites.{a_use}
@@ -11,6 +12,7 @@ use Rattle.ec_expr.specs.Expressions.{of_conditional, conditional_sites}
 use Rattle.ec_expr.specs.Known.{Known}
 use Rattle.ec_expr.specs.Sites as expressions
 use Rattle.ec_constant_forms.specs.Forms.{is_constant_conditional}
+use Rattle.ec_initial.specs.Parts.{bare_rules, braces_rules}
 use Rattle.ec_initial.specs.Sizes.{size_rules}
 
 pub data Site : Type 0 where
@@ -18,11 +20,17 @@ pub data Site : Type 0 where
   in_expression : expressions.Site → Site
   -- the size of an array, which has the form of a constant expression or not, at `[`
   a_size : (form : Bool) → Option Operand → (at : ℕ) → Site
+  -- an initialiser without braces of an object of a type, at its first token
+  a_bare : Option PlainType → (at : ℕ) → Site
+  -- an initialiser with so many items in braces, at `{`
+  braces : List PlainStruct → Option PlainType → (count at : ℕ) → Site
 
 -- the rules that are judged there
 abbrev pub rules_at : Site → List Judgement
 rules_at (in_expression s) = expressions.rules_at s
 rules_at (a_size form x at) = size_rules form x at
+rules_at (a_bare ty at) = bare_rules ty at
+rules_at (braces structs ty count at) = braces_rules structs ty count at
 
 -- the least fault of one that is known and those at some sites
 abbrev pub told : Option Fault → List Site → Option Fault
