@@ -7,7 +7,8 @@ use Rattle.ec_names.specs.Firsts.{first_expression, first_assignment, first_bina
 use Rattle.ec_names.specs.Firsts.{first_postfix}
 use Rattle.ec_names.specs.Names.{found}
 use Rattle.ec_calls.specs.Calls.{port_named, group_named, group_operation}
-use Rattle.ec_forms.specs.Nodes.{used, used_part, condition, prefixed, stepped, indexed, member_of}
+use Rattle.ec_forms.specs.Nodes.{used, used_part, condition, prefixed, stepped}
+use Rattle.ec_accesses.specs.Accesses.{indexed, member_of}
 use Rattle.ec_choices.specs.Choices.{sequence}
 use Rattle.ec_choices.specs.Choices.{chosen, cast}
 use Rattle.ec_operands.specs.Operands.{Operand, with_one, with_both}

@@ -5,7 +5,7 @@ use Rattle.ec_iohw.specs.Valid.{ValidIo}
 use Rattle.ec_core.specs.Layout.{AreStructs}
 use Rattle.ec_core.specs.Plain.{PlainType, void, integer, fixed, pointer, array, struct, PlainStruct, plain_struct}
 use Rattle.ec_operands.specs.declared.operands.Modes.{Modes}
-use Rattle.ec_forms.specs.Nodes.{AreCounted}
+use Rattle.ec_accesses.specs.Accesses.{AreCounted}
 use Rattle.ec_names.specs.Names.{Names, plain_names}
 use Rattle.ec_names.specs.Tags.{Tags, plain_tags}
 use Rattle.ec_expr.specs.declared.known.Known as known

@@ -5,9 +5,10 @@ ghost use Rattle.std.specs.Prelude.{◌≡◌, IfOk, OnOk, List, ◌∷◌, opti
 ghost use Rattle.ec_core.specs.Plain.{plain_type};
 ghost use Rattle.ec_grammar.specs.Views.{view_type_name};
 ghost use Rattle.ec_names.specs.Tags.{plain_tags};
-ghost use Rattle.ec_forms.specs.Nodes.{used, used_part, condition, prefixed, stepped, indexed};
+ghost use Rattle.ec_forms.specs.Nodes.{used, used_part, condition, prefixed, stepped};
+ghost use Rattle.ec_accesses.specs.Accesses.{indexed};
 ghost use Rattle.ec_choices.specs.Choices.{sequence, chosen};
-ghost use Rattle.ec_forms.specs.Nodes.{member_of};
+ghost use Rattle.ec_accesses.specs.Accesses.{member_of};
 ghost use Rattle.ec_choices.specs.Choices.{cast};
 ghost use Rattle.ec_operands.specs.Operands.{plain_operand, with_one, with_both};
 ghost use Rattle.ec_rules.specs.Sites.{a_use, a_part, a_prefix, a_step, an_index, a_member, a_choice, a_cast};
@@ -19,13 +20,14 @@ ghost use Rattle.ec_expr.specs.TypeNames.{said_type, void_said, meant_type, size
 
 use crate::known::{Known, is_sized};
 use crate::type_names::{TypeNamed, type_named};
+use ec_accesses::{index, judge_index, judge_member, member};
 use ec_calls::size_value;
 use ec_choices::{cast, choose, judge_cast, judge_choice, judge_logical, logical, sequence};
 use ec_core::{BinOp, CType};
 use ec_faults::Faults;
 use ec_forms::{
-    PrefixOp, assign, compound, index, judge_assignment, judge_compound, judge_index, judge_member,
-    judge_prefix, judge_step, member, prefix, step, take, take_part,
+    PrefixOp, assign, compound, judge_assignment, judge_compound, judge_prefix, judge_step, prefix,
+    step, take, take_part,
 };
 use ec_grammar::PunctKind;
 use ec_grammar::tree::{Identifier, TypeName};

@@ -112,7 +112,7 @@ fn address(alloc: Global, modes: Modes, x: Operand) -> Result<Option<Operand>, N
 }
 
 /// What a pointer points to, or None where the value is no pointer.
-pub(crate) fn pointed(alloc: Global, e: Expr) -> Result<Option<Operand>, NoMemory>
+pub fn pointed(alloc: Global, e: Expr) -> Result<Option<Operand>, NoMemory>
     ensures { IfOk result (λ x. option_map plain_operand x ≡ pointed (plain_expr e)) }
 {
     match &e.ty {

@@ -20,7 +20,8 @@ use Rattle.ec_calls.specs.declared.ports.GroupAction.TheVariants.{Acquire, Relea
 use Rattle.ec_calls.specs.declared.ports.NamedPort.{NamedPort}
 use Rattle.ec_calls.specs.Calls.{is_map, too_wide}
 use Rattle.ec_rules.specs.Constraints.{IsInteger, IsArithmetic, IsPointer, IsScalar, IsStruct, IsAggregate, HasOneByte, PointToOneType, LeavesSpace, LosesConst, HaveNestedSpaces, ArePointerAndNull, AreApart, SuitsAlone, SuitTogether, DoNotSuit, IsEquality, IsComparison, AreComparable, AreIncomparable, PointersMeet, MeetApart, AreAlternatives, AreNoAlternatives, ChosenApart, IsKnownAnd, IsNoScalar, CannotBeAssigned, IsConst, IsNoPlace, IsInRegister, Passes, CanBeCast, IsNoCast, AddsPointer, HasNoStruct, IsNotAmong, HasNoMember, IsWide}
-use Rattle.ec_forms.specs.Nodes.{void_used, struct_part, no_scalar, is_value, is_register, unassigned, const_assigned, pointer_added, no_pointer, no_integer, base_of, member_number, no_base, not_among, no_member}
+use Rattle.ec_forms.specs.Nodes.{void_used, struct_part, no_scalar, is_value, is_register, unassigned, const_assigned, pointer_added}
+use Rattle.ec_accesses.specs.Accesses.{no_pointer, no_integer, base_of, member_number, no_base, not_among, no_member}
 use Rattle.ec_choices.specs.Choices.{alternatives, no_alternatives, chosen_apart, castable, no_cast}
 use Rattle.ec_operands.specs.Operands.{Operand, place, value, value_type, is_null}
 use Rattle.ec_operands.specs.Operators.{suits_alone, suit_together, suits, is_equality, is_beside_null, comparable, meets, are_apart, unsuited, incomparable, meet_apart}

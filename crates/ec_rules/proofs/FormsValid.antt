@@ -8,7 +8,8 @@ use Rattle.ec_core.specs.Laws.{TypesAreTold}
 use Rattle.ec_core.specs.Plain.{PlainProgram}
 use Rattle.ec_core.specs.TypeLaws.{UsualConversions}
 use Rattle.ec_operands.specs.declared.operands.Modes.{Modes}
-use Rattle.ec_forms.specs.Nodes.{condition, prefixed, stepped, assigned, compounded, indexed, member_of}
+use Rattle.ec_forms.specs.Nodes.{condition, prefixed, stepped, assigned, compounded}
+use Rattle.ec_accesses.specs.Accesses.{indexed, member_of}
 use Rattle.ec_choices.specs.Choices.{cast}
 use Rattle.ec_operands.specs.Operands.{Operand, with_one, with_both}
 use Rattle.ec_rules.specs.Validity.{IsOperand, IsOptional, FormsAreOperands, FormsStayValid, NamesAreValid}

@@ -20,7 +20,8 @@ use Rattle.ec_forms.specs.declared.prefixes.PrefixOp.{PrefixOp}
 use Rattle.ec_forms.specs.declared.prefixes.PrefixOp.TheVariants.{Address, Deref, Plus, Minus, Invert, Not}
 use Rattle.ec_rules.specs.Constraints.{IsInteger, IsScalar as IsScalarKind, AreAlternatives}
 use Rattle.ec_rules.specs.Meanings.{IsKept, HasNullType, FormsHaveMeanings, KeptFormsHaveMeanings}
-use Rattle.ec_forms.specs.Nodes.{condition, is_value, is_register, prefix_rules, address, pointed, plus, unary_operation, prefixed, assignment_rules, assigned, operation_mode, compound_rules, compounded, step_rules, stepped, index_rules, indexed}
+use Rattle.ec_forms.specs.Nodes.{condition, is_value, is_register, prefix_rules, address, pointed, plus, unary_operation, prefixed, assignment_rules, assigned, operation_mode, compound_rules, compounded, step_rules, stepped}
+use Rattle.ec_accesses.specs.Accesses.{index_rules, indexed}
 use Rattle.ec_choices.specs.Choices.{logical_rules, logical, alternatives, choice_rules, type_between, choice_type, chosen, cast_rules, castable, cast}
 use Rattle.ec_operands.specs.Operands.{Operand, place, value, made, value_type, as_value, is_null, valued, with_one, with_both}
 use Rattle.ec_operands.specs.Operators.{suits, unsuited, incomparable, meet_apart, are_apart, meets, operation_rules, in_space, pointer_operation, meeting, operation_by, operated}

@@ -8,7 +8,8 @@ use Rattle.std.proofs.lemmas.Option.{slice_get-get_or}
 use Rattle.ec_core.specs.Plain.{PlainType, void, integer, fixed, pointer, array, struct, PlainMember, PlainStruct, PlainExpr, expression}
 use Rattle.ec_core.specs.Typing.{type_of_expr, type_of_member}
 use Rattle.ec_operands.specs.declared.operands.Modes.{Modes}
-use Rattle.ec_forms.specs.Nodes.{pointed, base_of, member_number, not_among, part_of, member_of, member_rules}
+use Rattle.ec_forms.specs.Nodes.{pointed}
+use Rattle.ec_accesses.specs.Accesses.{base_of, member_number, not_among, part_of, member_of, member_rules}
 use Rattle.ec_operands.specs.Operands.{Operand, place, value, value_type, as_value, with_one}
 use Rattle.ec_rules.specs.Sites.{a_member}
 use Rattle.ec_rules.specs.Meanings.{IsNoStructValue, KeptMembersHaveMeanings}

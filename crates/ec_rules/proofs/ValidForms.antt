@@ -24,7 +24,8 @@ use Rattle.ec_operands.specs.declared.operands.Modes.{Modes}
 use Rattle.ec_forms.specs.declared.prefixes.PrefixOp.{PrefixOp}
 use Rattle.ec_forms.specs.declared.prefixes.PrefixOp.TheVariants.{Address, Deref, Plus, Minus, Invert, Not}
 use Rattle.ec_rules.specs.Constraints.{IsInteger, IsArithmetic, IsPointer, IsScalar as IsScalarKind, HasOneByte, PointToOneType}
-use Rattle.ec_forms.specs.Nodes.{used, used_part, condition, address, pointed, plus, unary_operation, negated, prefixed, assigned, operation_mode, compounded, stepped, indexed, struct_of, base_of, member_number, reached, part_of, member_of}
+use Rattle.ec_forms.specs.Nodes.{used, used_part, condition, address, pointed, plus, unary_operation, negated, prefixed, assigned, operation_mode, compounded, stepped}
+use Rattle.ec_accesses.specs.Accesses.{indexed, struct_of, base_of, member_number, reached, part_of, member_of}
 use Rattle.ec_choices.specs.Choices.{logical, sequence, castable, cast}
 use Rattle.ec_operands.specs.Operands.{Operand, place, value, made, value_type, as_value, is_null, converted, valued, with_one, with_both}
 use Rattle.ec_operands.specs.Operators.{suits}

@@ -16,7 +16,8 @@ use Rattle.ec_calls.specs.declared.ports.GroupAction.TheVariants.{Map}
 use Rattle.ec_calls.specs.declared.ports.NamedPort.{NamedPort}
 use Rattle.ec_forms.specs.declared.prefixes.PrefixOp.TheVariants.{Address, Deref, Plus, Minus, Invert, Not}
 use Rattle.ec_calls.specs.Calls.{operand_count}
-use Rattle.ec_forms.specs.Nodes.{base_of, member_number, type_of_place}
+use Rattle.ec_forms.specs.Nodes.{type_of_place}
+use Rattle.ec_accesses.specs.Accesses.{base_of, member_number}
 use Rattle.ec_operands.specs.Operands.{Operand, place, value, value_type, is_null}
 use Rattle.ec_rules.specs.Sites.{Site, a_name, a_function, a_callee, a_call, a_use, a_part, a_condition}
 use Rattle.ec_rules.specs.Sites.{an_operation}

@@ -8,7 +8,8 @@ use Rattle.ec_core.specs.Typing.{type_of_expr}
 use Rattle.ec_operands.specs.declared.operands.Modes.{Modes}
 use Rattle.ec_forms.specs.declared.prefixes.PrefixOp.{PrefixOp}
 use Rattle.ec_rules.specs.Constraints.{IsInteger, IsStruct}
-use Rattle.ec_forms.specs.Nodes.{condition, prefixed, stepped, assigned, compounded, indexed, member_of}
+use Rattle.ec_forms.specs.Nodes.{condition, prefixed, stepped, assigned, compounded}
+use Rattle.ec_accesses.specs.Accesses.{indexed, member_of}
 use Rattle.ec_choices.specs.Choices.{logical, chosen, cast}
 use Rattle.ec_operands.specs.Operands.{Operand, place, value, value_type, is_null, with_one, with_both}
 use Rattle.ec_operands.specs.Operators.{operated}

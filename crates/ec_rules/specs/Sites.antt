@@ -12,7 +12,8 @@ use Rattle.ec_calls.specs.declared.ports.NamedPort.{NamedPort}
 use Rattle.ec_forms.specs.declared.prefixes.PrefixOp.{PrefixOp}
 use Rattle.ec_calls.specs.Calls.{name_rules, function_rules, callee_rules, call_rules, port_rules, group_rules}
 use Rattle.ec_forms.specs.Nodes.{use_rules, part_rules, condition_rules, prefix_rules, assignment_rules}
-use Rattle.ec_forms.specs.Nodes.{compound_rules, step_rules, index_rules, member_rules}
+use Rattle.ec_forms.specs.Nodes.{compound_rules, step_rules}
+use Rattle.ec_accesses.specs.Accesses.{index_rules, member_rules}
 use Rattle.ec_choices.specs.Choices.{logical_rules, choice_rules}
 use Rattle.ec_choices.specs.Choices.{cast_rules}
 use Rattle.ec_operands.specs.Operands.{Operand}

@@ -22,8 +22,9 @@ use Rattle.ec_calls.specs.declared.ports.NamedPort.{NamedPort}
 use Rattle.ec_forms.specs.declared.prefixes.PrefixOp.{PrefixOp}
 use Rattle.ec_calls.specs.Calls.{called, accessed, group_operation, size_value, whole_constant, fixed_constant}
 use Rattle.ec_rules.specs.Constraints.{IsInteger, IsArithmetic}
-use Rattle.ec_forms.specs.Nodes.{used, used_part, condition, prefixed, stepped, assigned, compounded, indexed}
-use Rattle.ec_forms.specs.Nodes.{member_of}
+use Rattle.ec_forms.specs.Nodes.{used, used_part, condition, prefixed, stepped, assigned, compounded}
+use Rattle.ec_accesses.specs.Accesses.{indexed}
+use Rattle.ec_accesses.specs.Accesses.{member_of}
 use Rattle.ec_choices.specs.Choices.{logical, sequence, chosen, cast}
 use Rattle.ec_operands.specs.Operands.{Operand, place, value, with_one, with_both}
 use Rattle.ec_operands.specs.Operators.{operated}

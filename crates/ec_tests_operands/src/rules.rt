@@ -2,6 +2,7 @@
 
 use crate::given::Given::{Const, Object, Register, Unknown, Value, Zero};
 use crate::given::*;
+use ec_accesses::*;
 use ec_calls::*;
 use ec_choices::*;
 use ec_core::{BinOp, CType, Member, PlaceExpr, StructDef};

@@ -1,8 +1,8 @@
 use Rattle.std.proofs.Common.{sym, ◌∙◌}
 use Rattle.std.specs.Str.{bytes_eq}
 use Rattle.ec_core.specs.Plain.{plain_member}
-use Rattle.ec_forms.proofs.Members.{position-map}
-use Rattle.ec_forms.proofs.accesses.number_in.Goals as goal
+use Rattle.ec_accesses.proofs.Members.{position-map}
+use Rattle.ec_accesses.proofs.accesses.number_in.Goals as goal
 
 pub returns : goal.returns
 returns c =

@@ -5,13 +5,13 @@ ghost use Rattle.ec_core.specs.Plain.{plain_type, plain_struct, struct};
 ghost use Rattle.ec_core.specs.Typing.{type_of_member};
 ghost use Rattle.ec_faults.specs.Faults.{all_judged};
 ghost use Rattle.ec_operands.specs.Operands.{plain_operand, plain_sort, with_one, with_both};
-ghost use Rattle.ec_forms.specs.Nodes.{no_pointer, no_integer, index_rules, indexed, struct_of, base_of, no_base};
-ghost use Rattle.ec_forms.specs.Nodes.{member_number, not_among, no_member, member_rules, reached, part_of};
-ghost use Rattle.ec_forms.specs.Nodes.{member_of, AreCounted};
+ghost use Rattle.ec_accesses.specs.Accesses.{no_pointer, no_integer, index_rules, indexed, struct_of, base_of, no_base};
+ghost use Rattle.ec_accesses.specs.Accesses.{member_number, not_among, no_member, member_rules, reached, part_of};
+ghost use Rattle.ec_accesses.specs.Accesses.{member_of, AreCounted};
 
-use crate::prefixes::pointed;
 use ec_core::{Arithmetic, BinOp, CType, Member, Node, PlaceExpr, StructDef};
 use ec_faults::Faults;
+use ec_forms::pointed;
 use ec_operands::{Modes, Operand, Sort, as_value, boxed, made, sort_of};
 use ec_space::{Name, NoMemory, Seq};
 use std::alloc::Global;

@@ -2,8 +2,8 @@ use Rattle.std.proofs.Common.{◌∙◌}
 use Rattle.std.specs.Prelude.{position}
 use Rattle.std.specs.Str.{bytes_eq}
 use Rattle.ec_core.specs.Plain.{PlainStruct, plain_struct}
-use Rattle.ec_forms.proofs.Members.{with_one-map}
-use Rattle.ec_forms.proofs.accesses.member_number.Goals as goal
+use Rattle.ec_accesses.proofs.Members.{with_one-map}
+use Rattle.ec_accesses.proofs.accesses.member_number.Goals as goal
 
 pub returns : goal.returns
 returns c =
