@@ -10,6 +10,6 @@ pub use calls::{
     whole_constant,
 };
 pub use ports::{
-    GroupAction, NamedPort, access, group_named, group_operation, judge_group, judge_port,
-    operand_type, port_named,
+    GroupAction, NamedPort, access, group_named, group_operation, is_indexed, judge_group,
+    judge_port, operand_count, operand_type, port_named,
 };

@@ -38,7 +38,8 @@ pub enum GroupAction {
 
 // ---- the operations by what they take
 
-fn is_indexed(op: IoOp) -> bool
+/// Whether an operation takes the index of an element of its port.
+pub fn is_indexed(op: IoOp) -> bool
     ensures { result ≡ (port_operation op).indexed }
 {
     match op {
@@ -151,7 +152,7 @@ fn result_type(op: IoOp) -> CType
 }
 
 /// How many operands an operation has besides its port.
-fn operand_count(op: IoOp) -> usize
+pub fn operand_count(op: IoOp) -> usize
     ensures { result ≡ operand_count (port_operation op) }
 {
     let index = if is_indexed(op) { 1 } else { 0 };

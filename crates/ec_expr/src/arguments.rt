@@ -1,8 +1,7 @@
 //! Arguments of calls, and operands of operations on ports.
 ghost use Rattle.std.specs.Prelude.{◌≡◌, IfOk, OnOk, [], ◌∷◌, None, Some, map, option_map, slice_get};
 ghost use Rattle.ec_core.specs.Plain.{plain_type, plain_expr};
-ghost use Rattle.ec_core.specs.PortOperations.{port_operation};
-ghost use Rattle.ec_calls.specs.Calls.{operand_count, port_named, group_named, group_operation};
+ghost use Rattle.ec_calls.specs.Calls.{port_named, group_named, group_operation};
 ghost use Rattle.ec_forms.specs.Nodes.{used};
 ghost use Rattle.ec_operands.specs.Operands.{plain_operand};
 ghost use Rattle.ec_operands.specs.Passing.{passed as passed_to};
@@ -18,8 +17,8 @@ ghost use Rattle.ec_expr.specs.Sites.{on, Walked};
 use crate::known::Known;
 use crate::nodes::kept;
 use ec_calls::{
-    GroupAction, NamedPort, access, group_named, group_operation, judge_group, judge_port,
-    operand_type, port_named,
+    GroupAction, NamedPort, access, group_named, group_operation, is_indexed, judge_group,
+    judge_port, operand_count, operand_type, port_named,
 };
 use ec_core::{CType, Expr};
 use ec_faults::Faults;
@@ -110,60 +109,6 @@ impl Passed {
             Passed::Arguments(es) => es,
             Passed::Operands { .. } => None,
         }
-    }
-}
-
-fn is_indexed(op: IoOp) -> bool
-    ensures { result ≡ (port_operation op).indexed }
-{
-    match op {
-        IoOp::ReadBuffer
-        | IoOp::ReadBufferLong
-        | IoOp::WriteBuffer
-        | IoOp::WriteBufferLong
-        | IoOp::OrBuffer
-        | IoOp::OrBufferLong
-        | IoOp::AndBuffer
-        | IoOp::AndBufferLong
-        | IoOp::XorBuffer
-        | IoOp::XorBufferLong => true,
-        IoOp::Read
-        | IoOp::ReadLong
-        | IoOp::Write
-        | IoOp::WriteLong
-        | IoOp::Or
-        | IoOp::OrLong
-        | IoOp::And
-        | IoOp::AndLong
-        | IoOp::Xor
-        | IoOp::XorLong => false,
-    }
-}
-
-/// How many operands an operation has besides its port.
-fn operand_count(op: IoOp) -> usize
-    ensures { result ≡ operand_count (port_operation op) }
-{
-    match op {
-        IoOp::Read | IoOp::ReadLong => 0,
-        IoOp::ReadBuffer
-        | IoOp::ReadBufferLong
-        | IoOp::Write
-        | IoOp::WriteLong
-        | IoOp::Or
-        | IoOp::OrLong
-        | IoOp::And
-        | IoOp::AndLong
-        | IoOp::Xor
-        | IoOp::XorLong => 1,
-        IoOp::WriteBuffer
-        | IoOp::WriteBufferLong
-        | IoOp::OrBuffer
-        | IoOp::OrBufferLong
-        | IoOp::AndBuffer
-        | IoOp::AndBufferLong
-        | IoOp::XorBuffer
-        | IoOp::XorBufferLong => 2,
     }
 }
 
