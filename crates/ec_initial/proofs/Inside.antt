@@ -1,14 +1,17 @@
 -- What is told of an expression, among other places.
-use Rattle.std.proofs.Common.{◌≡◌, ◌∙◌, refl, sym, ap, List, [], ◌∷◌}
+use Rattle.std.proofs.Common.{◌≡◌, ◌∙◌, refl, sym, ap, Bool, List, [], ◌∷◌}
 use Rattle.std.specs.Prelude.{ℕ, Option}
 use Rattle.ec_faults.specs.declared.Fault.{Fault}
 use Rattle.ec_faults.specs.Faults.{all_judged}
-use Rattle.ec_core.specs.Plain.{PlainType}
+use Rattle.ec_core.specs.Plain.{PlainType, PlainExpr}
 use Rattle.ec_forms.specs.Nodes.{used, use_rules}
 use Rattle.ec_operands.specs.Operands.{Operand}
 use Rattle.ec_operands.specs.Passing.{passing_rules}
 use Rattle.ec_expr.specs.Sites as expressions
-use Rattle.ec_initial.specs.Sites.{Site, told, sites_in}
+use Rattle.ec_initial.specs.declared.places.ItemForm.{ItemForm}
+use Rattle.ec_initial.specs.Items.{leaf_rules}
+use Rattle.ec_initial.specs.Parts.{bare_rules}
+use Rattle.ec_initial.specs.Sites.{Site, told, sites_in, a_bare, a_leaf}
 
 told_in : (f : Option Fault) (ss : List expressions.Site) (rest : List Site) → told f (sites_in ss rest) ≡ told (expressions.told f ss) rest
 told_in f [] rest = refl
@@ -30,3 +33,16 @@ used_and_judged g h i x v y to at first a b ex ey ea =
     ∙ ap (λ z. all_judged (all_judged g (use_rules x at)) (passing_rules z to at)) ey
     ∙ ap (λ z. all_judged (all_judged g (use_rules z at)) (passing_rules (used z) to at)) ex
     ∙ ap (λ z. all_judged (all_judged g (use_rules v z)) (passing_rules (used v) to z)) ea
+
+-- what is judged of an item without braces, behind its expression
+pub told_leaf : (f g h i : Option Fault) (sites : List Site → List Site) (ty : Option PlainType) (form : ItemForm) (z null : Bool) (e v : Option PlainExpr) (at first : ℕ)
+    → ((rest : List Site) → told g rest ≡ told f (sites rest)) → h ≡ all_judged g (bare_rules ty at) → i ≡ all_judged h (leaf_rules form z e at) → z ≡ null → e ≡ v → at ≡ first
+    → (rest : List Site) → told i rest ≡ told f (sites (a_bare ty first ∷ a_leaf form null v first ∷ rest))
+told_leaf f g h i sites ty form z null e v at first w a b ez ee ea rest =
+    ap (λ x. told x rest)
+    (b
+    ∙ ap (λ x. all_judged x (leaf_rules form z e at)) a
+    ∙ ap (λ x. all_judged (all_judged g (bare_rules ty at)) (leaf_rules form x e at)) ez
+    ∙ ap (λ x. all_judged (all_judged g (bare_rules ty at)) (leaf_rules form null x at)) ee
+    ∙ ap (λ x. all_judged (all_judged g (bare_rules ty x)) (leaf_rules form null v x)) ea)
+    ∙ w (a_bare ty first ∷ a_leaf form null v first ∷ rest)

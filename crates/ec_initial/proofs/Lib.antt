@@ -3,3 +3,13 @@ pub mod Inside
 pub mod Numbers
 pub mod PartTypes
 pub mod Counts
+pub mod Moves
+pub mod Members
+pub mod Rests
+pub mod Fitting
+pub mod LocalLeaves
+pub mod HeldConstants
+pub mod Agreement
+pub mod StaticLeaves
+pub mod StaticNumbers
+pub mod Samples

@@ -1,5 +1,5 @@
 -- A size is the value of a constant expression.
-use Rattle.std.proofs.Common.{◌≡◌, ◌∙◌, ℕ, ◌≤◌, ℤ, pos, negsuc, refl, sym, ap, subst, Bool, true, false, ◌&&◌, if◌then◌else◌, Option, Some, None, Result, Ok, Err, unsigned_abs, int_le, arith}
+use Rattle.std.proofs.Common.{◌≡◌, ◌∙◌, ℕ, ◌≤◌, ℤ, pos, negsuc, refl, ap, Bool, true, false, ◌&&◌, if◌then◌else◌, Option, Some, None, Result, Ok, Err, unsigned_abs, int_le, arith}
 use Rattle.std.proofs.lemmas.Int.{ints}
 use Rattle.ec_grammar.specs.Trees as t
 use Rattle.ec_core.specs.declared.values.Undefined.{Undefined}
@@ -15,7 +15,7 @@ use Rattle.ec_forms.specs.Nodes.{used}
 use Rattle.ec_expr.specs.Expressions.{of_conditional}
 use Rattle.ec_expr.specs.Known.{Known}
 use Rattle.ec_initial.specs.Laws.{IsSize, SizesAreValues}
-use Rattle.ec_initial.specs.Sizes.{size_of_number, size_of_result, size_of_value, size_of_operand, array_size}
+use Rattle.ec_initial.specs.Sizes.{size_of_result, size_of_operand}
 
 -- a number that is a size
 record IsSmall (m : ℤ) (n : ℕ) : Type 0 where

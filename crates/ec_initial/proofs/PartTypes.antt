@@ -1,13 +1,13 @@
 -- The parts of the type of an object are types of objects.
-use Rattle.std.proofs.Common.{◌≡◌, ◌∙◌, ℕ, zero, suc, refl, sym, ap, subst, Bool, true, false, if◌then◌else◌, Option, Some, None, List, [], ◌∷◌, length, option_map, option_and_then, slice_get, nat_lt}
-use Rattle.std.specs.Prelude.{⊤, IfSome}
+use Rattle.std.proofs.Common.{◌≡◌, ℕ, zero, suc, refl, sym, subst, Bool, true, false, if◌then◌else◌, Option, Some, None, List, [], ◌∷◌, length, option_map, option_and_then, slice_get, nat_lt}
+use Rattle.std.specs.Prelude.{IfSome}
 use Rattle.std.specs.List.{AllByRecursion}
 use Rattle.ec_core.specs.Layout.{NamesBelow, IsElement, IsObjectType, AreStructs}
 use Rattle.ec_core.specs.Plain.{PlainType, void, integer, fixed, pointer, array, struct, PlainMember, PlainStruct}
 use Rattle.ec_core.specs.TypeLaws.{StructsAreLaidOut}
 use Rattle.ec_initial.specs.Parts.{part_type, part_of}
 
-each_at : {X : Type 0} (P : X → Type 0) (xs : List X) (k : ℕ) (x : X) → AllByRecursion P xs → slice_get xs k ≡ Some x → P x
+pub each_at : {X : Type 0} (P : X → Type 0) (xs : List X) (k : ℕ) (x : X) → AllByRecursion P xs → slice_get xs k ≡ Some x → P x
 each_at P [] k x h e = cc
 each_at P (y ∷ xs) zero x h e = let g : y ≡ x = cc in subst P g h.0
 each_at P (y ∷ xs) (suc k) x h e = each_at P xs k x h.1 e
@@ -38,7 +38,7 @@ module _ (law : StructsAreLaidOut) (structs : List PlainStruct) (h : AreStructs 
   in_struct index i p (Some s) q e =
       in_member i s p (law.each structs index s h q).known (slice_get s.members i) refl e
 
-  part_object : (ty : PlainType) (i : ℕ) (p : PlainType) → IsObjectType (length structs) ty → part_type structs ty i ≡ Some p
+  pub part_object : (ty : PlainType) (i : ℕ) (p : PlainType) → IsObjectType (length structs) ty → part_type structs ty i ≡ Some p
       → IsObjectType (length structs) p
   part_object void i p o e = cc
   part_object (integer signed bytes) i p o e = cc

@@ -1,5 +1,5 @@
 -- Initialisers of locals (ISO/IEC 9899:1999, 6.7.8): the values of all leaves, in order.
-use Rattle.std.specs.Prelude.{ℕ, ◌+◌, Option, Some, None, List, [], ◌∷◌}
+use Rattle.std.specs.Prelude.{ℕ, ◌+◌, Option, Some, List, [], ◌∷◌}
 use Rattle.ec_grammar.specs.Trees as t
 use Rattle.ec_names.specs.Firsts.{first_assignment}
 use Rattle.ec_core.specs.Plain.{PlainType, PlainExpr}

@@ -1,6 +1,6 @@
 -- The parts of arrays and structs, and what an initialiser leaves out (ISO/IEC 9899:1999, 6.7.8).
-use Rattle.std.specs.Prelude.{ℕ, Bool, true, false, not, ◌||◌, if◌then◌else◌, nat_lt, pos, Option, Some, None, option_map}
-use Rattle.std.specs.Prelude.{unwrap_or, List, [], ◌∷◌, ◌++◌, map, drop, length, slice_get}
+use Rattle.std.specs.Prelude.{ℕ, Bool, true, false, not, ◌||◌, if◌then◌else◌, nat_lt, pos, Option, Some, None}
+use Rattle.std.specs.Prelude.{option_map, List, [], ◌∷◌, ◌++◌, map, drop, length, slice_get}
 use Rattle.ec_faults.specs.Faults.{Judgement, rule}
 use Rattle.ec_core.specs.Layout.{leaves_of_type}
 use Rattle.ec_core.specs.Plain.{PlainType, void, integer, fixed, pointer, array, struct, PlainStruct, PlainExpr}
@@ -70,17 +70,24 @@ abbrev pub zero_of : Modes → PlainType → PlainExpr
 zero_of m ty = made m ty (zero_node (is_pointer ty))
 
 -- the values of all leaves of a type, the first of which are given; the others are zero
+abbrev pub filled_by : {A : Type 0} → (PlainType → A) → List PlainStruct → PlainType → List A → List A
+filled_by zero structs ty es = es ++ map (λ leaf. zero leaf.ty) (drop (length es) (leaves_of_type structs ty))
+
+abbrev pub whole_by : {A : Type 0} → (PlainType → A) → List PlainStruct → Option PlainType → Option (List A)
+    → Option (List A)
+whole_by zero structs None es = None
+whole_by zero structs (Some ty) None = None
+whole_by zero structs (Some ty) (Some es) = if is_aggregate ty then Some (filled_by zero structs ty es) else None
+
 abbrev pub filled : Modes → List PlainStruct → PlainType → List PlainExpr → List PlainExpr
-filled m structs ty es = es ++ map (λ leaf. zero_of m leaf.ty) (drop (length es) (leaves_of_type structs ty))
+filled m structs ty es = filled_by (zero_of m) structs ty es
 
 abbrev pub whole_values : Modes → List PlainStruct → Option PlainType → Option (List PlainExpr)
     → Option (List PlainExpr)
-whole_values m structs None es = None
-whole_values m structs (Some ty) None = None
-whole_values m structs (Some ty) (Some es) = if is_aggregate ty then Some (filled m structs ty es) else None
+whole_values m structs ty es = whole_by (zero_of m) structs ty es
 
 -- one value behind another
-abbrev pub joined : Option (List PlainExpr) → Option (List PlainExpr) → Option (List PlainExpr)
+abbrev pub joined : {A : Type 0} → Option (List A) → Option (List A) → Option (List A)
 joined None fs = None
 joined (Some es) None = None
 joined (Some es) (Some fs) = Some (es ++ fs)

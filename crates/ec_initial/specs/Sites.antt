@@ -4,7 +4,7 @@ use Rattle.ec_faults.specs.declared.Fault.{Fault}
 use Rattle.ec_faults.specs.Faults.{Judgement, all_judged}
 use Rattle.ec_grammar.specs.Trees as t
 use Rattle.ec_names.specs.Firsts.{first_conditional}
-use Rattle.ec_core.specs.Plain.{PlainType, PlainStruct}
+use Rattle.ec_core.specs.Plain.{PlainType, PlainStruct, PlainExpr}
 use Rattle.ec_operands.specs.Operands.{Operand}
 use Rattle.ec_forms.specs.Nodes.{used}
 use Rattle.ec_rules.specs.Sites.{a_use}
@@ -12,6 +12,8 @@ use Rattle.ec_expr.specs.Expressions.{of_conditional, conditional_sites}
 use Rattle.ec_expr.specs.Known.{Known}
 use Rattle.ec_expr.specs.Sites as expressions
 use Rattle.ec_constant_forms.specs.Forms.{is_constant_conditional}
+use Rattle.ec_initial.specs.declared.places.ItemForm.{ItemForm}
+use Rattle.ec_initial.specs.Items.{leaf_rules}
 use Rattle.ec_initial.specs.Parts.{bare_rules, braces_rules}
 use Rattle.ec_initial.specs.Sizes.{size_rules}
 
@@ -24,6 +26,9 @@ pub data Site : Type 0 where
   a_bare : Option PlainType → (at : ℕ) → Site
   -- an initialiser with so many items in braces, at `{`
   braces : List PlainStruct → Option PlainType → (count at : ℕ) → Site
+  -- an item of an initialiser of a static object, with its form and its value in the leaf's type, which is the null
+  -- pointer or not, at its first token
+  a_leaf : ItemForm → (null : Bool) → Option PlainExpr → (at : ℕ) → Site
 
 -- the rules that are judged there
 abbrev pub rules_at : Site → List Judgement
@@ -31,6 +36,7 @@ rules_at (in_expression s) = expressions.rules_at s
 rules_at (a_size form x at) = size_rules form x at
 rules_at (a_bare ty at) = bare_rules ty at
 rules_at (braces structs ty count at) = braces_rules structs ty count at
+rules_at (a_leaf form null e at) = leaf_rules form null e at
 
 -- the least fault of one that is known and those at some sites
 abbrev pub told : Option Fault → List Site → Option Fault

@@ -1,5 +1,5 @@
 -- Sizes of arrays: integer constant expressions from 1 to 32,767 (ISO/IEC 9899:1999, 6.6 and 6.7.5.2).
-use Rattle.std.specs.Prelude.{ℕ, Bool, true, false, not, ◌&&◌, ◌||◌, if◌then◌else◌, ℤ, pos, int_le, unsigned_abs}
+use Rattle.std.specs.Prelude.{ℕ, Bool, false, not, ◌&&◌, ◌||◌, if◌then◌else◌, ℤ, pos, int_le, unsigned_abs}
 use Rattle.std.specs.Prelude.{is_none, Option, Some, None, Result, Ok, Err, List, ◌∷◌, []}
 use Rattle.ec_grammar.specs.Trees as t
 use Rattle.ec_faults.specs.Faults.{Judgement, rule}

@@ -110,7 +110,7 @@ fn whole_values(
 // ---- initialisers
 
 /// How many items follow the first one.
-fn items_count(more: &[NextInitialiser]) -> usize
+pub(crate) fn items_count(more: &[NextInitialiser]) -> usize
     ensures value { result ≡ items_count (views_initialisers more.now) }
     ensures bound { result ≡ length more.now }
 {
@@ -127,7 +127,8 @@ fn judge_scalar(faults: &mut Faults, x: &Option<Operand>, ty: &Option<CType>, at
     }
 }
 
-fn walked_value(
+/// The operand of an item without braces.
+pub(crate) fn walked_value(
     alloc: Global,
     known: &Known,
     faults: &mut Faults,

@@ -241,7 +241,7 @@ fn count(es: &[Expr]) -> usize
 }
 
 /// What stands behind the first `given` leaves.
-fn rest_of(all: &[Leaf], given: usize) -> &[Leaf]
+pub(crate) fn rest_of(all: &[Leaf], given: usize) -> &[Leaf]
     ensures { result.now ≡ drop given all.now }
 {
     if given < all.len() {

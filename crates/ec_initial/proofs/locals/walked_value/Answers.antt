@@ -1,4 +1,4 @@
-use Rattle.std.proofs.Common.{◌≡◌, ◌∙◌, ap, ◌∷◌, []}
+use Rattle.std.proofs.Common.{◌∙◌, ap, ◌∷◌, []}
 use Rattle.std.specs.Prelude.{option_map}
 use Rattle.ec_core.specs.Plain.{plain_type}
 use Rattle.ec_grammar.specs.Views.{view_assignment}

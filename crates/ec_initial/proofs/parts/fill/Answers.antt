@@ -1,4 +1,4 @@
-use Rattle.std.proofs.Common.{◌≡◌, ◌∙◌, sym, ap, ◌++◌, length, map, drop}
+use Rattle.std.proofs.Common.{◌∙◌, sym, ap, ◌++◌, length, map, drop}
 use Rattle.std.proofs.Math.ListN.{length-map}
 use Rattle.ec_core.specs.Layout.{plain_leaf, leaves_of_type}
 use Rattle.ec_core.specs.Plain.{plain_type, plain_expr, plain_struct}

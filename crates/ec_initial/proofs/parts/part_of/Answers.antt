@@ -1,4 +1,4 @@
-use Rattle.std.proofs.Common.{◌≡◌, ◌∙◌, sym, ap, subst, Option, length, map}
+use Rattle.std.proofs.Common.{◌∙◌, sym, ap, subst, Option, length, map}
 use Rattle.std.proofs.Math.ListN.{length-map}
 use Rattle.std.specs.Prelude.{IfSome, option_map}
 use Rattle.ec_core.specs.Layout.{IsObjectType}

@@ -1,10 +1,8 @@
 use Rattle.std.proofs.Common.{◌≡◌, ◌∙◌, ap, ◌∷◌, []}
-use Rattle.std.specs.Prelude.{option_map}
 use Rattle.ec_faults.specs.Faults.{all_judged}
 use Rattle.ec_grammar.specs.Views.{view_conditional}
 use Rattle.ec_names.specs.Firsts.{first_conditional}
 use Rattle.ec_forms.specs.Nodes.{used, use_rules}
-use Rattle.ec_operands.specs.Operands.{plain_operand}
 use Rattle.ec_rules.specs.Sites.{a_use}
 use Rattle.ec_expr.specs.Expressions.{of_conditional}
 use Rattle.ec_expr.specs.Known.{plain_known}
