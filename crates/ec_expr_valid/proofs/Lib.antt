@@ -1,0 +1,15 @@
+pub mod Tokens
+pub mod SaidTypes
+pub mod Members
+pub mod ValidArguments
+pub mod ValidExpressions
+pub mod Shapes
+pub mod Unbroken
+pub mod KeptTypes
+pub mod KeptForms
+pub mod KeptExpressions
+pub mod Needs
+pub mod NeedTokens
+pub mod Declarations
+pub mod ValidValues
+pub mod Definitions
