@@ -1,0 +1,4 @@
+-- Lemmas about declarations at file scope.
+pub mod Walks
+pub mod After
+pub mod Sound

@@ -1,0 +1,12 @@
+use Rattle.ec_grammar.specs.Views.{view_init_declarator}
+use Rattle.ec_file_scope.specs.FileObjects.{declared_sites, with_declared}
+use Rattle.ec_file_scope.specs.States.{plain_setting, plain_state}
+use Rattle.ec_file_scope.proofs.After.{then}
+use Rattle.ec_file_scope.proofs.file_objects.file_object.Goals as goal
+
+pub returns-clause-walked : goal.returns-clause-walked
+returns-clause-walked c =
+    let r = plain_setting c.args.setting.now in
+    let s = plain_state c.args.state.now in
+    let t = view_init_declarator c.args.d.now in
+    then (declared_sites r c.args.storage t s) (with_declared r c.args.storage t s) c.in_ok-o.ensures.walked c.in_ok-add_declared.ensures.walked

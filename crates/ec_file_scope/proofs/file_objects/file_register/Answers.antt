@@ -1,0 +1,12 @@
+use Rattle.ec_grammar.specs.Views.{view_register_object}
+use Rattle.ec_file_scope.specs.FileObjects.{register_name_sites, with_register}
+use Rattle.ec_file_scope.specs.States.{plain_setting, plain_state}
+use Rattle.ec_file_scope.proofs.After.{then}
+use Rattle.ec_file_scope.proofs.file_objects.file_register.Goals as goal
+
+pub returns-clause-walked : goal.returns-clause-walked
+returns-clause-walked c =
+    let r = plain_setting c.args.setting.now in
+    let s = plain_state c.args.state.now in
+    let t = view_register_object c.args.r.now in
+    then (register_name_sites r t s) (with_register r t s) c.in_ok-o.ensures.walked c.in_ok-add_register.ensures.walked

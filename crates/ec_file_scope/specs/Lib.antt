@@ -1,0 +1,6 @@
+-- The definitions that the contracts of declarations at file scope cite.
+pub mod States
+pub mod FileNames
+pub mod FileObjects
+pub mod FileFunctions
+pub mod FileScope

@@ -1,0 +1,15 @@
+//! Declarations at file scope: what they declare in the program and in the names of a unit, and the rules that they
+//! break (ISO/IEC 9899:1999, 6.2.2, 6.7 and 6.9; ISO/IEC TR 18037:2008, 5.2).
+#![tactic(auto)]
+
+mod file_functions;
+mod file_names;
+mod file_objects;
+mod file_scope;
+mod states;
+
+pub use file_functions::name_function;
+pub use file_names::{FileKind, FileName};
+pub use file_objects::{file_register, word_of};
+pub use file_scope::{file_declaration, file_structure};
+pub use states::{Setting, State, known_of};
