@@ -1,0 +1,4 @@
+-- Lemmas about statements.
+pub mod Inside
+pub mod Lists
+pub mod Walks

@@ -1,0 +1,150 @@
+//! Statements that are made of their parts, where none of these breaks a rule.
+ghost use Rattle.std.specs.Prelude.{◌≡◌, IfOk, OnOk, Option, Some, option_map};
+ghost use Rattle.ec_core.specs.Plain.{plain_expr, plain_stmt, plain_kind, PlainStmts, block, last_stmt, statement};
+ghost use Rattle.ec_statements.specs.Headings.{plain_heading};
+ghost use Rattle.ec_statements.specs.Statements.{one_branch, branches, while_of, do_of, for_of};
+ghost use Rattle.ec_statements.specs.Walks.{plain_kept, before, followed};
+
+use crate::headings::ForHeading;
+use ec_core::{Expr, Stmt, StmtKind};
+use ec_operands::boxed;
+use ec_space::{NoMemory, Seq};
+use std::alloc::Global;
+
+/// An expression that is kept while other parts are walked, or None where a rule is broken.
+pub(crate) type KeptExpr = Option<Box<Expr>>;
+
+/// A statement that is kept so.
+pub(crate) type KeptStmt = Option<Box<Stmt>>;
+
+/// Statements one after another, or None where one of them breaks a rule.
+pub(crate) type Stmts = Option<Seq<Stmt>>;
+
+pub(crate) fn kept_expr(alloc: Global, e: Option<Expr>) -> Result<KeptExpr, NoMemory>
+    ensures { IfOk result (λ b. option_map (λ b. plain_expr b.value) b ≡ option_map plain_expr e) }
+{
+    let Some(e) = e else {
+        return Ok(None);
+    };
+    let b = boxed(alloc, e)?;
+    Ok(Some(b))
+}
+
+/// A statement whose first token stands at `at`.
+pub(crate) fn stated(unit: u8, at: u32, kind: Option<StmtKind>) -> Option<Stmt>
+    ensures { option_map plain_stmt result ≡ option_map (statement unit at) (option_map plain_kind kind) }
+{
+    match kind {
+        None => None,
+        Some(kind) => Some(Stmt { unit, at, kind }),
+    }
+}
+
+pub(crate) fn kept_stmt(alloc: Global, s: Option<Stmt>) -> Result<KeptStmt, NoMemory>
+    ensures { IfOk result (λ b. option_map (λ b. plain_stmt b.value) b ≡ option_map plain_stmt s) }
+{
+    let Some(s) = s else {
+        return Ok(None);
+    };
+    let b = boxed(alloc, s)?;
+    Ok(Some(b))
+}
+
+// ---- statements one after another
+
+/// Puts a statement behind others.
+pub(crate) fn keep(stmts: &mut Stmts, s: Option<Stmt>) -> Result<(), NoMemory>
+    ensures { OnOk result ((rest : Option PlainStmts) → before (plain_kept stmts.new) rest
+        ≡ before (plain_kept stmts.old) (followed (option_map plain_stmt s) rest)) }
+{
+    let Some(all) = stmts else {
+        return Ok(());
+    };
+    let Some(s) = s else {
+        *stmts = None;
+        return Ok(());
+    };
+    all.push(s)?;
+    Ok(())
+}
+
+/// A block of statements.
+pub(crate) fn block_of(stmts: Stmts) -> Option<StmtKind>
+    ensures { option_map plain_kind result ≡ option_map block (before (plain_kept stmts) (Some last_stmt)) }
+{
+    match stmts {
+        None => None,
+        Some(stmts) => Some(StmtKind::Block(stmts)),
+    }
+}
+
+// ---- branches and loops
+
+pub(crate) fn one_branch(x: KeptExpr, a: KeptStmt) -> Option<StmtKind>
+    ensures { option_map plain_kind result ≡ one_branch (option_map (λ b. plain_expr b.value) x)
+        (option_map (λ b. plain_stmt b.value) a) }
+{
+    let Some(x) = x else {
+        return None;
+    };
+    let Some(a) = a else {
+        return None;
+    };
+    Some(StmtKind::If(Box::into_inner(x), a, None))
+}
+
+pub(crate) fn branches(x: KeptExpr, a: KeptStmt, b: KeptStmt) -> Option<StmtKind>
+    ensures { option_map plain_kind result ≡ branches (option_map (λ b. plain_expr b.value) x)
+        (option_map (λ b. plain_stmt b.value) a) (option_map (λ b. plain_stmt b.value) b) }
+{
+    let Some(x) = x else {
+        return None;
+    };
+    let Some(a) = a else {
+        return None;
+    };
+    let Some(b) = b else {
+        return None;
+    };
+    Some(StmtKind::If(Box::into_inner(x), a, Some(b)))
+}
+
+pub(crate) fn while_of(x: KeptExpr, a: KeptStmt) -> Option<StmtKind>
+    ensures { option_map plain_kind result ≡ while_of (option_map (λ b. plain_expr b.value) x)
+        (option_map (λ b. plain_stmt b.value) a) }
+{
+    let Some(x) = x else {
+        return None;
+    };
+    let Some(a) = a else {
+        return None;
+    };
+    Some(StmtKind::While(Box::into_inner(x), a))
+}
+
+pub(crate) fn do_of(a: KeptStmt, x: KeptExpr) -> Option<StmtKind>
+    ensures { option_map plain_kind result ≡ do_of (option_map (λ b. plain_stmt b.value) a)
+        (option_map (λ b. plain_expr b.value) x) }
+{
+    let Some(a) = a else {
+        return None;
+    };
+    let Some(x) = x else {
+        return None;
+    };
+    Some(StmtKind::DoWhile(a, Box::into_inner(x)))
+}
+
+pub(crate) fn for_of(h: Option<Box<ForHeading>>, a: KeptStmt) -> Option<StmtKind>
+    ensures { option_map plain_kind result ≡ for_of (option_map (λ b. plain_heading b.value) h)
+        (option_map (λ b. plain_stmt b.value) a) }
+{
+    let Some(h) = h else {
+        return None;
+    };
+    let Some(a) = a else {
+        return None;
+    };
+    let h = Box::into_inner(h);
+    Some(StmtKind::For(h.first, h.condition, h.last, a))
+}

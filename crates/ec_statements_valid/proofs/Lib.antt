@@ -1,0 +1,22 @@
+-- Lemmas about what statements mean.
+pub mod Choices
+pub mod Layouts
+pub mod LeafTypes
+pub mod Tokens
+pub mod DeclaredTypes
+pub mod Growth
+pub mod Scopes
+pub mod ValidInitialisers
+pub mod ValidParts
+pub mod ValidLocals
+pub mod ValidStatements
+pub mod InnerObjects
+pub mod Unbroken
+pub mod KeptParts
+pub mod KeptInitialisers
+pub mod KeptTypes
+pub mod KeptLocals
+pub mod KeptStatements
+pub mod Longer
+pub mod Needs
+pub mod FunctionTypes
