@@ -1,0 +1,11 @@
+pub mod Alike
+pub mod Clamped
+pub mod Ends
+pub mod Fits
+pub mod Gathered
+pub mod Moves
+pub mod Outcomes
+pub mod Parts
+pub mod Short
+pub mod ValidItems
+pub mod Whole

@@ -1,0 +1,3 @@
+pub mod Clamps
+pub mod ClampLaws
+pub mod Slots
