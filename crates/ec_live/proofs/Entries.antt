@@ -4,7 +4,7 @@ use Rattle.std.proofs.Common.{length, get_or, set, replicate, ⊎_elim, get_or-s
 use Rattle.std.proofs.Common.{true, false, ◌+◌, below_more}
 use Rattle.std.proofs.lemmas.List.{map-set, get_or-map, get_or_default}
 use Rattle.std.proofs.lemmas.Bool.{cases_eq}
-use Rattle.ec_select.specs.Needs.{Need}
+use Rattle.ec_select_functions.specs.Needs.{Need}
 use Rattle.ec_live.specs.Tables.{need_of, needs_of, IsBounded, IsTable, NeedsNoMore, TellNoMore, row_room}
 use Rattle.ec_live.specs.Tables.{room}
 

@@ -1,5 +1,5 @@
 -- What needs no more than any table that tells all.
-use Rattle.std.proofs.Common.{◌≡◌, ℕ, zero, suc, ◌<◌, ◌≤◌, List, [], ◌∷◌, Bool, true, false}
+use Rattle.std.proofs.Common.{Some, None, ◌≡◌, ℕ, zero, suc, ◌<◌, ◌≤◌, List, [], ◌∷◌, Bool, true, false}
 use Rattle.std.proofs.Common.{refl, sym, ap, ◌∙◌, subst, arith, drop, replicate, max, ◌+◌, ⊎_elim}
 use Rattle.std.specs.Prelude.{◌==◌, if◌then◌else◌}
 use Rattle.std.proofs.lemmas.Bool.{cases_eq, ne_eqb}
@@ -11,8 +11,9 @@ use Rattle.ec_ir.specs.Operations.{PlainIr, constant, copy, address, field, load
 use Rattle.ec_ir.specs.Operations.{store_object, binary_op, unary_op, conversion, label, jump, branch_zero}
 use Rattle.ec_ir.specs.Operations.{call_function, return_from, port_in, port_out}
 use Rattle.ec_ir.specs.Valid.{count}
-use Rattle.ec_select.specs.Needs.{Need, everything, at_least, without, either, wanted, is_of_low_bytes}
-use Rattle.ec_select.specs.Needs.{all_or_none, operand_wanted, right_wanted, returned_need, before, needs, IsLive}
+use Rattle.ec_select_functions.specs.Needs.{Need, everything, at_least, without, either, wanted, is_of_low_bytes}
+use Rattle.ec_select_functions.specs.Needs.{all_or_none, operand_wanted, right_wanted, returned_need, before, needs}
+use Rattle.ec_select_functions.specs.Needs.{IsLive}
 use Rattle.ec_live.specs.Least.{HasLabel, HaveLabels, IsLeast}
 use Rattle.ec_live.specs.Places.{HasPlace, HasPlaces}
 use Rattle.ec_live.specs.Tables.{need_of, needs_of, AreSame, IsJoined, NeedsNoMore, TellNoMore}
@@ -80,7 +81,8 @@ before_more n s at other (address t o offset) a b l k q h = same_needs s everyth
 before_more n s at other (field ptr space offset) a b l k q h = same_needs s everything
 before_more n s at other (load_at to ptr space) a b l k q h = same_needs s everything
 before_more n s at other (store_at ptr space from) a b l k q h = same_needs s everything
-before_more n s at other (call_function f to) a b l k q h = same_needs s everything
+before_more n s at other (call_function f None) a b l k q h = h
+before_more n s at other (call_function f (Some t)) a b l k q h = more_without s t.at a b h
 before_more n s at other (port_in to port index width) a b l k q h = same_needs s everything
 before_more n s at other (port_out from port index width) a b l k q h = same_needs s everything
 

@@ -3,3 +3,4 @@ pub mod Entries
 pub mod Passes
 pub mod Growth
 pub mod Valid
+pub mod KeptRows

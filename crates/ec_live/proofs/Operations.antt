@@ -9,9 +9,10 @@ use Rattle.ec_ir.specs.declared.operations.Temp.{Temp}
 use Rattle.ec_ir.specs.Operations.{PlainIr, constant, copy, address, field, load_at, store_at, load_object}
 use Rattle.ec_ir.specs.Operations.{store_object, binary_op, unary_op, conversion, label, jump, branch_zero}
 use Rattle.ec_ir.specs.Operations.{call_function, return_from, port_in, port_out}
-use Rattle.ec_select.specs.Code.{result_wanted}
-use Rattle.ec_select.specs.Needs.{Need, nothing, at_least, without, either, wanted, is_of_low_bytes, all_or_none}
-use Rattle.ec_select.specs.Needs.{operand_wanted, right_wanted, returned_need, before, needs}
+use Rattle.ec_select_functions.specs.Code.{result_wanted}
+use Rattle.ec_select_functions.specs.Needs.{Need, nothing, at_least, without, either, wanted, is_of_low_bytes}
+use Rattle.ec_select_functions.specs.Needs.{all_or_none}
+use Rattle.ec_select_functions.specs.Needs.{operand_wanted, right_wanted, returned_need, without_result, before, needs}
 use Rattle.ec_live.specs.Places.{HasPlace, MayHavePlace, HasPlaces, HavePlaces}
 use Rattle.ec_live.specs.Tables.{AreSame, IsBounded, AreBounded}
 
@@ -35,6 +36,10 @@ same_value : (s : ℕ) (to from : Temp) (a b : Need) → HasPlace s to → AreSa
     → AreSame s (at_least from.at (wanted a to) (without to.at a)) (at_least from.at (wanted b to) (without to.at b))
 same_value s to from a b l h =
     same_least s from.at (wanted a to) (wanted b to) (without to.at a) (without to.at b) (same_wanted s to a b l h) (same_without s to.at a b h)
+
+pub same_result : (s : ℕ) (to : Option Temp) (a b : Need) → AreSame s a b → AreSame s (without_result to a) (without_result to b)
+same_result s None a b h = h
+same_result s (Some t) a b h = same_without s t.at a b h
 
 pub before_same : (s : ℕ) (at : ℕ → Need) (i : PlainIr) (a b : Need) → HasPlaces s i → AreSame s a b
     → AreSame s (before at i a) (before at i b)
@@ -60,7 +65,7 @@ before_same s at (address t o offset) a b l h = λ place q. refl
 before_same s at (field ptr space offset) a b l h = λ place q. refl
 before_same s at (load_at to ptr space) a b l h = λ place q. refl
 before_same s at (store_at ptr space from) a b l h = λ place q. refl
-before_same s at (call_function f to) a b l h = λ place q. refl
+before_same s at (call_function f to) a b l h = same_result s to a b h
 before_same s at (port_in to port index width) a b l h = λ place q. refl
 before_same s at (port_out from port index width) a b l h = λ place q. refl
 
@@ -81,7 +86,8 @@ result_same s (address t o offset) a b l h = refl
 result_same s (field ptr space offset) a b l h = refl
 result_same s (load_at to ptr space) a b l h = refl
 result_same s (store_at ptr space from) a b l h = refl
-result_same s (call_function f to) a b l h = refl
+result_same s (call_function f None) a b l h = refl
+result_same s (call_function f (Some t)) a b l h = same_wanted s t a b l h
 result_same s (port_in to port index width) a b l h = refl
 result_same s (port_out from port index width) a b l h = refl
 
@@ -147,7 +153,8 @@ before_bounded s at (address t o offset) a l k h = λ place. omega arith
 before_bounded s at (field ptr space offset) a l k h = λ place. omega arith
 before_bounded s at (load_at to ptr space) a l k h = λ place. omega arith
 before_bounded s at (store_at ptr space from) a l k h = λ place. omega arith
-before_bounded s at (call_function f to) a l k h = λ place. omega arith
+before_bounded s at (call_function f None) a l k h = h
+before_bounded s at (call_function f (Some t)) a l k h = bounded_without t.at a h
 before_bounded s at (port_in to port index width) a l k h = λ place. omega arith
 before_bounded s at (port_out from port index width) a l k h = λ place. omega arith
 

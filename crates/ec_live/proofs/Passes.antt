@@ -6,9 +6,9 @@ use Rattle.std.proofs.lemmas.List.{drop_more, get_or-map, get_or_past, length-ma
 use Rattle.ec_ir.specs.Operations.{PlainIr, constant, copy, address, field, load_at, store_at, load_object}
 use Rattle.ec_ir.specs.Operations.{store_object, binary_op, unary_op, conversion, label, jump, branch_zero}
 use Rattle.ec_ir.specs.Operations.{call_function, return_from, port_in, port_out}
-use Rattle.ec_select.specs.Code.{result_wanted}
-use Rattle.ec_select.specs.Needs.{Need, before, needs, IsLive}
-use Rattle.ec_select.specs.Written.{wanted_bytes}
+use Rattle.ec_select_functions.specs.Code.{result_wanted}
+use Rattle.ec_select_functions.specs.Needs.{Need, before, needs, IsLive}
+use Rattle.ec_select_functions.specs.Written.{wanted_bytes}
 use Rattle.ec_live.specs.Places.{HasPlaces, HavePlaces}
 use Rattle.ec_live.specs.Tables.{need_of, needs_of, AreSame, IsBounded, IsTable, IsJoined, room}
 use Rattle.ec_live.proofs.Operations.{before_same, before_bounded, needs_bounded, result_same}

@@ -17,6 +17,10 @@ module _ (p : PlainIrProgram) (results : Results) (f s : ℕ) (all : List PlainI
   place_of_result None h = tt
   place_of_result (Some t) h = place_of s t h.0
 
+  place_of_called : (g : ℕ) (to : Option Temp) → IsResult p results f s all g to → MayHavePlace s to
+  place_of_called g None h = tt
+  place_of_called g (Some t) h = place_of s t h.0
+
   places_of : (i : PlainIr) → ValidOperation p results f s all i → HasPlaces s i
   places_of (constant t n) h = place_of s t h.0
   places_of (copy to from) h = (place_of s to h.0, place_of s from h.1)
@@ -34,7 +38,7 @@ module _ (p : PlainIrProgram) (results : Results) (f s : ℕ) (all : List PlainI
   places_of (field ptr space offset) h = tt
   places_of (load_at to ptr space) h = tt
   places_of (store_at ptr space from) h = tt
-  places_of (call_function g to) h = tt
+  places_of (call_function g to) h = place_of_called g to h.1
   places_of (port_in to port index width) h = tt
   places_of (port_out from port index width) h = tt
 

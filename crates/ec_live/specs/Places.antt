@@ -31,7 +31,7 @@ HasPlaces slots (address t o offset) = ⊤
 HasPlaces slots (field ptr space offset) = ⊤
 HasPlaces slots (load_at to ptr space) = ⊤
 HasPlaces slots (store_at ptr space from) = ⊤
-HasPlaces slots (call_function f to) = ⊤
+HasPlaces slots (call_function f to) = MayHavePlace slots to
 HasPlaces slots (port_in to port index width) = ⊤
 HasPlaces slots (port_out from port index width) = ⊤
 

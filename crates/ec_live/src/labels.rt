@@ -1,9 +1,9 @@
 //! What is needed at the labels of a function, and of the results of its operations.
 ghost use Rattle.std.specs.Prelude.{◌≡◌, ℕ, ◌<◌, length, map, IfOk, false, true};
 ghost use Rattle.ec_ir.specs.Operations.{plain_ir};
-ghost use Rattle.ec_select.specs.Code.{result_wanted};
-ghost use Rattle.ec_select.specs.Needs.{Need, IsLive};
-ghost use Rattle.ec_select.specs.Written.{wanted_bytes};
+ghost use Rattle.ec_select_functions.specs.Code.{result_wanted};
+ghost use Rattle.ec_select_functions.specs.Needs.{Need, IsLive};
+ghost use Rattle.ec_select_functions.specs.Written.{wanted_bytes};
 ghost use Rattle.ec_live.specs.Places.{HasPlaces, HavePlaces};
 ghost use Rattle.ec_live.specs.Tables.{need_of, needs_of, IsBounded, IsTable, IsJoined, TellNoMore, room};
 ghost use Rattle.ec_live.specs.Least.{IsLeast, HasLabel, HaveLabels};
@@ -123,7 +123,8 @@ fn result_wanted(need: &[u8], i: &Ir) -> u8
         | Ir::Copy(to, _)
         | Ir::Bin { to, .. }
         | Ir::Un { to, .. }
-        | Ir::Conv { to, .. } => wanted_of(need, *to),
+        | Ir::Conv { to, .. }
+        | Ir::Call(_, Some(to)) => wanted_of(need, *to),
         _ => 0,
     }
 }

@@ -1,8 +1,8 @@
 //! What is needed before operations.
 ghost use Rattle.std.specs.Prelude.{◌<◌, length};
 ghost use Rattle.ec_ir.specs.Operations.{plain_ir};
-ghost use Rattle.ec_select.specs.Needs.{before, either, at_least, without, wanted};
-ghost use Rattle.ec_select.specs.Needs.{returned_need, operand_wanted, right_wanted};
+ghost use Rattle.ec_select_functions.specs.Needs.{before, either, at_least, without, wanted};
+ghost use Rattle.ec_select_functions.specs.Needs.{returned_need, without_result, operand_wanted, right_wanted};
 ghost use Rattle.ec_live.specs.Places.{MayHavePlace, HasPlaces};
 ghost use Rattle.ec_live.specs.Tables.{need_of, needs_of, AreSame};
 
@@ -69,6 +69,16 @@ fn at_return(need: &mut [u8], from: Option<Temp>)
     }
 }
 
+/// What is needed before a call: all but its result.
+fn at_call(need: &mut [u8], to: Option<Temp>)
+    requires { MayHavePlace (length need.old) to }
+    ensures { AreSame (length need.old) (need_of need.new) (without_result to (need_of need.old)) }
+{
+    if let Some(t) = to {
+        forget(need, t);
+    }
+}
+
 /// What is needed before a branch to a label where a temporary is 0.
 fn at_branch(table: &LabelNeeds, t: Temp, l: u64, need: &mut [u8])
     requires { t.at < length need.old }
@@ -93,6 +103,7 @@ pub fn before(table: &LabelNeeds, i: &Ir, need: &mut [u8])
         Ir::Bin { op, to, a, b, .. } => pass_operands(need, *op, *to, *a, *b),
         Ir::Label(l) | Ir::Jump(l) => at_label(table, *l, need),
         Ir::BranchZero(t, l) => at_branch(table, *t, *l, need),
+        Ir::Call(_, to) => at_call(need, *to),
         Ir::Return(from) => at_return(need, *from),
         _ => fill(need),
     }

@@ -1,7 +1,8 @@
 //! A row of bytes, which tells how many low bytes of each place are needed.
 ghost use Rattle.std.specs.Prelude.{◌≡◌, ◌<◌, length};
-ghost use Rattle.ec_select.specs.Needs.{nothing, everything, at_least, without, wanted, all_or_none, operand_wanted};
-ghost use Rattle.ec_select.specs.Needs.{right_wanted, is_of_low_bytes};
+ghost use Rattle.ec_select_functions.specs.Needs.{nothing, everything, at_least, without, wanted, all_or_none};
+ghost use Rattle.ec_select_functions.specs.Needs.{operand_wanted};
+ghost use Rattle.ec_select_functions.specs.Needs.{right_wanted, is_of_low_bytes};
 ghost use Rattle.ec_live.specs.Tables.{need_of, AreSame};
 
 use ec_core::BinOp;

@@ -1,13 +1,108 @@
--- Lemmas of the emitters.
-use Rattle.std.proofs.Common.{ℕ, ◌<◌, ◌≤◌, arith}
-use Rattle.ec_asm.specs.declared.pieces.Location.{Location}
-use Rattle.ec_asm.specs.declared.pieces.Location.TheVariants.{InRegisters, InMemory}
-use Rattle.ec_asm.specs.Pieces.{HasBytes, HasByte}
+-- What the emitters ask holds of covered operations.
+use Rattle.std.proofs.Common.{◌≡◌, ℕ, zero, suc, ◌+◌, ◌^◌, ◌<◌, ◌≤◌, List, [], ◌∷◌, refl}
+use Rattle.std.proofs.Common.{ap, subst, arith, length}
+use Rattle.std.specs.Prelude.{Option, Some, None}
+use Rattle.std.specs.List.{AllByRecursion}
+use Rattle.ec_asm.specs.Pieces.{HasBytes}
+use Rattle.ec_core.specs.Layout.{size_of_type}
+use Rattle.ec_core.specs.Plain.{PlainType, PlainStorage, static, local, param, register, PlainObject}
+use Rattle.ec_core.specs.TypeLaws.{LeavesFillTheirTypes}
+use Rattle.ec_core.specs.Valid.{IsObject, IsStored}
+use Rattle.ec_ir.specs.declared.operations.Temp.{Temp}
+use Rattle.ec_ir.specs.Operations.{PlainIr, constant, copy, address, field, load_at, store_at, load_object}
+use Rattle.ec_ir.specs.Operations.{store_object, binary_op, unary_op, conversion, label, jump, branch_zero}
+use Rattle.ec_ir.specs.Operations.{call_function, return_from, port_in, port_out, PlainIrProgram, data_of}
+use Rattle.ec_ir.specs.Valid.{ValidIr, ValidOperation}
+use Rattle.ec_select_functions.specs.declared.calls.Linking.{Linking}
+use Rattle.ec_select_functions.specs.declared.families.Family.{Family}
+use Rattle.ec_select_functions.specs.declared.families.Family.TheVariants.{Combined, Compared, Multiplied, Shifted}
+use Rattle.ec_select_functions.specs.declared.families.Family.TheVariants.{Divided}
+use Rattle.ec_select_functions.specs.Code.{family_of, result_wanted, HasResult}
+use Rattle.ec_select_functions.specs.Covered.{HasNumberAt, IsBinary, IsResult, IsCovered, AreCovered}
+use Rattle.ec_select_functions.specs.Emitted.{BinaryHasBytes, CanBeTaken, CanBeEmitted}
+use Rattle.ec_select_functions.specs.Needs.{Need, wanted, wanted_result, needs}
+use Rattle.ec_select_functions.specs.Places.{location_in, object_location}
+use Rattle.ec_select_functions.specs.Written.{CanBeWritten, wanted_bytes, kept_rows}
+use Rattle.ec_select.specs.Labels.{label_count}
+use Rattle.ec_select.proofs.Setting.{all_at, leaf_inside}
 
-pub fewer_bytes : (p : Location) (n m : ℕ) → m ≤ n → HasBytes p n → HasBytes p m
-fewer_bytes (InRegisters r) n m l h = omega arith
-fewer_bytes (InMemory o k) n m l h = omega arith
+pub wanted_length : (at : ℕ → Need) (code : List PlainIr) → length (wanted_bytes at code) ≡ length code
+wanted_length at [] = refl
+wanted_length at (i ∷ code) = ap suc (wanted_length at code)
 
-pub byte_there : (p : Location) (n i : ℕ) → HasBytes p n → i < n → HasByte p i
-byte_there (InRegisters r) n i h l = omega arith
-byte_there (InMemory o k) n i h l = omega arith
+pub kept_length : (slots : ℕ) (at : ℕ → Need) (code : List PlainIr) → length (kept_rows slots at code) ≡ length code
+kept_length slots at [] = refl
+kept_length slots at (i ∷ code) = ap suc (kept_length slots at code)
+
+module _ (p : PlainIrProgram) (valid : ValidIr p) (leaves : LeavesFillTheirTypes) where
+  by_storage : (o offset bytes : ℕ) (d : PlainObject) (s : PlainStorage) → IsStored (data_of p) d s
+      → size_of_type p.structs d.ty ≤ 32767 → offset + bytes ≤ size_of_type p.structs d.ty
+      → HasBytes (location_in s o offset) bytes
+  by_storage o offset bytes d (static inits) k small inside = omega arith
+  by_storage o offset bytes d (local f) k small inside = omega arith
+  by_storage o offset bytes d (param f) k small inside = omega arith
+  by_storage o offset bytes d (register first) k small inside = let h = k.high in omega arith
+
+  object_has : (o offset bytes : ℕ) → HasNumberAt (data_of p) o offset bytes
+      → HasBytes (object_location p.objects o offset) bytes
+  object_has o offset bytes h =
+      let d = all_at (IsObject (data_of p)) p.objects o h.declared valid.objects h.is_object in
+      rw h.is_object (by_storage o offset bytes h.declared h.declared.storage d.storage d.small (leaf_inside p valid leaves o offset bytes h))
+
+  binary_has : (family : Family) (slots : ℕ) (to a b : Temp) (ty aty bty : PlainType) (n : ℕ)
+      → IsBinary family slots to a b ty aty bty → n ≤ to.bytes → BinaryHasBytes family n to a b
+  binary_has (Combined op) slots to a b ty aty bty n h l =
+      let x = h.left_bytes in let y = h.right_bytes in (l, omega arith, omega arith)
+  binary_has (Compared r e) slots to a b ty aty bty n h l = let x = h.same_bytes in (l, omega arith)
+  binary_has Multiplied slots to a b ty aty bty n h l =
+      let x = h.left_bytes in let y = h.right_bytes in (l, omega arith, omega arith)
+  binary_has (Shifted up) slots to a b ty aty bty n h l =
+      let x = h.0.same_bytes in let y = h.0.count.some in (omega arith, omega arith, y)
+  binary_has (Divided r) slots to a b ty aty bty n h l =
+      let x = h.0.left_bytes in let y = h.0.right_bytes in let z = h.0.most in let w = h.0.left.some in
+      (w, omega arith, omega arith, omega arith)
+
+  module _ (results : ℕ → ℕ) (f slots : ℕ) (k : Linking) (all : List PlainIr) (bound : ℕ)
+      (room : k.first_label + bound < 2 ^ 64) (entries : k.first_entry ≡ 1) where
+    taken_has : (need : Need) (g : ℕ) (to : Option Temp) → IsResult results g slots to
+        → CanBeTaken (wanted_result need to) to
+    taken_has need g None h = tt
+    taken_has need g (Some t) h = let m = h.0.most in (omega arith, m)
+
+    result_has : (from : Option Temp) → IsResult results f slots from → HasResult from
+    result_has None h = tt
+    result_has (Some t) h = h.0.most
+
+    emits : (need : Need) (i : PlainIr) (code : List PlainIr) → IsCovered (data_of p) results f slots i
+        → ValidOperation p valid.results f slots all i → label_count (i ∷ code) ≤ bound
+        → CanBeEmitted p.objects k (result_wanted need i) i
+    emits need (constant t n) code h v l = let m = h.most in (omega arith, omega arith)
+    emits need (copy to from) code h v l = let m = h.2 in (omega arith, omega arith)
+    emits need (load_object t o offset) code h v l = object_has o offset t.bytes h.1
+    emits need (store_object o offset t) code h v l = object_has o offset t.bytes h.1
+    emits need (binary_op op ty mode to a aty b bty) code h v l =
+        binary_has (family_of op) slots to a b ty aty bty (wanted need to) h (omega arith)
+    emits need (unary_op op ty mode to a) code h v l = let m = h.same_bytes in (omega arith, omega arith)
+    emits need (conversion to ty mode a aty) code h v l = let m = h.from.some in (omega arith, m)
+    emits need (label m) code h v l = omega arith
+    emits need (jump m) code h v l = omega arith
+    emits need (branch_zero t m) code h v l = omega arith
+    emits need (call_function g to) code h v l =
+        let c = valid.function_count in let d = v.0 in (taken_has need g to h, omega arith)
+    emits need (return_from from) code h v l = result_has from h
+    emits need (address t o offset) code h v l = absurd h
+    emits need (field ptr space offset) code h v l = absurd h
+    emits need (load_at to ptr space) code h v l = absurd h
+    emits need (store_at ptr space from) code h v l = absurd h
+    emits need (port_in to port index width) code h v l = absurd h
+    emits need (port_out from port index width) code h v l = absurd h
+
+    pub all_emitted : (at : ℕ → Need) (code : List PlainIr) → AreCovered (data_of p) results f slots code
+        → AllByRecursion (ValidOperation p valid.results f slots all) code → label_count code ≤ bound
+        → CanBeWritten p.objects k (wanted_bytes at code) code
+    all_emitted at [] h v l j i e = absurd (cc)
+    all_emitted at (x ∷ code) h v l zero i e =
+        let q : x ≡ i = cc in
+        subst (λ (y : PlainIr). CanBeEmitted p.objects k (result_wanted (needs at code) x) y) q
+        (emits (needs at code) x code h.0 v.0 l)
+    all_emitted at (x ∷ code) h v l (suc j) i e = all_emitted at code h.1 v.1 (omega arith) j i e

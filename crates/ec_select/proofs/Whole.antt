@@ -1,94 +1,198 @@
--- The machine reaches all that the operations show, and stays within it.
-use Rattle.std.proofs.Common.{◌≡◌, ℕ, ◌+◌, true, List, [], sym, ap, ◌∙◌, subst, arith, Some, ℤ}
-use Rattle.std.specs.Prelude.{nat_le}
-use Rattle.std.specs.Int.{cast_signed, w16}
-use Rattle.std.proofs.lemmas.Bool.{le-leb}
-use Rattle.ec_runs.specs.Behaviours.{Behaviour, Running, Ended, Reached, Reaches, seen_as}
-use Rattle.ec_runs.proofs.Runs.{what_reaches_stays_within}
-use Rattle.ec_isa.specs.declared.instructions.Instr.TheVariants.{Break}
-use Rattle.ec_avr.specs.declared.machine.Access.{Access}
-use Rattle.ec_avr.specs.Machine.{State}
-use Rattle.ec_avr.specs.Runs.{MachineFault}
-use Rattle.ec_asm.specs.declared.pieces.Location.{Location}
-use Rattle.ec_asm.specs.View.{View, pair}
-use Rattle.ec_asm.specs.Change.{Env}
-use Rattle.ec_asm.specs.Run.{run, fetch, Running as VRunning, Ended as VEnded}
-use Rattle.ec_asm.specs.Shows.{Shows, Fits, RunsAs}
-use Rattle.ec_asm.specs.Behaves.{noted_run}
-use Rattle.ec_asm.specs.Takes.{Goes}
-use Rattle.ec_asm.specs.Laws.{MachineRunsAsView, NotedRunsAreRuns}
-use Rattle.ec_asm.proofs.Behaves.{goes_on_noted, ends_noted}
-use Rattle.ec_asm.proofs.Ending.{runs_end}
-use Rattle.ec_core.specs.declared.values.Undefined.{Undefined}
-use Rattle.ec_core.specs.declared.values.Value.{Value}
-use Rattle.ec_core.specs.Meaning.{behaviour_of, state_of, number_of}
-use Rattle.ec_core.specs.State.{Inputs, Outcome, got, more, undefined}
-use Rattle.ec_ir.specs.declared.operations.Temp.{Temp}
-use Rattle.ec_ir.specs.Meaning.{meaning, start, enter, exec, run as ir_run}
-use Rattle.ec_ir.specs.Operations.{PlainIrProgram, data_of}
-use Rattle.ec_select.specs.Needs.{needs}
-use Rattle.ec_select.specs.Relation.{accesses, Matches}
-use Rattle.ec_select.specs.Laws.{HasCode, HoldsStart, within_steps, ShowsOperations, CodeFollowsOperations}
-use Rattle.ec_select.proofs.Follow.{Follows}
-use Rattle.ec_select.proofs.Steps.{Ready, follows}
+-- The code of a program can be placed.
+use Rattle.std.proofs.Common.{◌≡◌, ℕ, zero, suc, ◌+◌, ◌<◌, ◌==◌, Bool, true, false, List, [], ◌∷◌, ◌++◌, refl, sym}
+use Rattle.std.proofs.Common.{subst, arith, map, length}
+use Rattle.std.specs.Prelude.{cond, count_by, Option, Some, None, slice_get}
+use Rattle.std.specs.List.{list_all, AllByRecursion}
+use Rattle.std.proofs.lemmas.Bool.Decides.{nat_tests}
+use Rattle.std.proofs.lemmas.List.{length-map}
+use Rattle.ec_asm.specs.declared.items.AsmItem.{AsmItem}
+use Rattle.ec_asm.specs.declared.items.AsmItem.TheVariants.{Label}
+use Rattle.ec_asm.specs.declared.items.AsmProgram.{AsmProgram}
+use Rattle.ec_asm.specs.Valid.{sizes_of, is_valid_item, used_label, is_label, stands_once, is_placed, ValidAsm}
+use Rattle.ec_core.specs.TypeLaws.{LeavesFillTheirTypes}
+use Rattle.ec_ir.specs.Operations.{PlainIr, constant, copy, address, field, load_at, store_at, load_object}
+use Rattle.ec_ir.specs.Operations.{store_object, binary_op, unary_op, conversion, label, jump, branch_zero}
+use Rattle.ec_ir.specs.Operations.{call_function, return_from, port_in, port_out, PlainIrFunction, PlainIrProgram}
+use Rattle.ec_ir.specs.Operations.{data_of}
+use Rattle.ec_ir.specs.Valid.{ValidIr, ValidOperation, count}
+use Rattle.ec_near.specs.Laws.{ProgramsStayValid}
+use Rattle.ec_select_functions.specs.Code.{Linkage}
+use Rattle.ec_select_functions.specs.Needs.{Need}
+use Rattle.ec_startup.specs.Laws.{StartupIsValid, StartupUsesMain, StartupPlacesNoLabel}
+use Rattle.ec_startup.specs.Startup.{startup_code}
+use Rattle.ec_select.specs.Labels.{entry_label, function_label, first_label}
+use Rattle.ec_select.specs.Laws.{object_sizes, SelectionsAreValid}
+use Rattle.ec_select.specs.Program.{spans_of, code_of, functions_code, program_code}
+use Rattle.ec_select.specs.Selected.{HasCode, IsSelection}
+use Rattle.ec_select.proofs.Fitting.{fits, joined, chained, valid_item, placed_item}
+use Rattle.ec_select.proofs.OneOperation.{AcceptsLabels, AllAccepted, operations_pass}
+use Rattle.ec_select.proofs.Setting.{function_valid, own_sizes, has_room, object_stands, spans_valid}
+use Rattle.ec_select.proofs.Counted.{joined_count, first_label_above, link, entry_is_apart, function_stands}
+use Rattle.ec_select.proofs.Counted.{label_stands}
 
--- what this rests on of the layer below
+-- what code needs of the crates below
 pub record CodeLaws : Type 0 where
-  pub views : MachineRunsAsView
-  pub runs : NotedRunsAreRuns
+  pub leaves : LeavesFillTheirTypes
+  pub items : StartupIsValid
+  pub used : StartupUsesMain
+  pub placed : StartupPlacesNoLabel
+  pub near : ProgramsStayValid
 
-module _ (laws : CodeLaws) (p : PlainIrProgram) (home : Temp → Location) (base : Temp → ℕ) (place : ℕ → ℕ) (e : Env) (size end : ℕ) (s : State) (v : View) (inputs : Inputs) (fit : Fits e size) (shows : Shows e size s.mem v) (begin : HoldsStart (data_of p) place v) (code : HasCode p e home base place s.pc end) where
-  -- a run of the view that goes on
-  goes_noted : (k to : ℕ) (u : View) → Goes e k s.pc v to u → u.safe ≡ true → noted_run e v.inputs s k ≡ Running u.seen
-  goes_noted k to u g safe =
-      goes_on_noted e size k v s to u begin.seen (subst (RunsAs e size k v s) g.by (laws.views e size k s v fit shows) safe)
+module _ (laws : CodeLaws) (p : PlainIrProgram) (valid : ValidIr p) (has : HasCode p) (tables : ℕ → ℕ → Need) where
+  abbrev code : List AsmItem
+  code = program_code p tables
 
-  -- one that comes to the BREAK
-  ends_at : (k to : ℕ) (u : View) → Goes e k s.pc v to u → fetch e to ≡ Some Break → u.safe ≡ true
-      → noted_run e v.inputs s (k + 1) ≡ Ended u.seen (cast_signed w16 (pair u.at 24))
-  ends_at k to u g stop safe =
-      let b : run e (k + 1) (VRunning s.pc v) ≡ VEnded u = runs_end e k 0 s.pc to v u g stop in
-      ends_noted e size (k + 1) v s u begin.seen (subst (RunsAs e size (k + 1) v s) b (laws.views e size (k + 1) s v fit shows) safe)
+  abbrev start : List AsmItem
+  start = startup_code (spans_of p) (function_label p.main)
 
-  reached : (n : ℕ) (o : Outcome Value) → Follows (data_of p) place e n 0 s.pc v o
-      → Reached (λ m. nat_le m ((state_of o).work + 1)) (noted_run e v.inputs s) n (seen_as (accesses (data_of p) place) (behaviour_of o))
-  reached n (more r) f =
-      let most = f.most in
-      (f.steps, le-leb f.steps (r.work + 1) (omega arith), f.least, goes_noted f.steps f.to f.last f.goes f.safe ∙ ap Running f.seen)
-  reached n (got x r) f =
-      let most = f.most in
-      (f.steps + 1, le-leb (f.steps + 1) (r.work + 1) (omega arith), ends_at f.steps f.to f.last f.goes f.stop f.safe ∙ ends_same f.last.seen (accesses (data_of p) place r.events) (cast_signed w16 (pair f.last.at 24)) (number_of x) f.seen f.result)
-    where
-      ends_same : (a b : List Access) (i j : ℤ) → a ≡ b → i ≡ j → ◌≡◌ {A = Behaviour Access ℤ MachineFault} (Ended a i) (Ended b j)
-      ends_same a b i j q r = ap (λ c. Ended c i) q ∙ ap (Ended b) r
-  reached n (undefined point r) f = tt
+  -- what the items of all functions pass
+  by_functions : (q : AsmItem → Bool) → ((i : AsmItem) → fits (own_sizes p valid) i ≡ true → q i ≡ true)
+      → ((l : ℕ) → q (Label l) ≡ true)
+      → ((f : ℕ) (g : PlainIrFunction) → slice_get p.functions f ≡ Some g → AllAccepted q (link p valid has laws.leaves tables f g) g.code)
+      → list_all q (functions_code p tables (length p.functions)) ≡ true
+  by_functions q passes labels accepts =
+      chained q (λ f. code_of p (tables f) f (slice_get p.functions f)) (length p.functions) (λ f l. by_function f (slice_get p.functions f) refl) where
+        by_function : (f : ℕ) (o : Option PlainIrFunction) → slice_get p.functions f ≡ o
+            → list_all q (code_of p (tables f) f o) ≡ true
+        by_function f None e = refl
+        by_function f (Some g) e =
+            let k = link p valid has laws.leaves tables f g in
+            let rest = operations_pass (own_sizes p valid) (data_of p) k (has_room p valid f g e) (object_stands p valid laws.leaves)
+            q passes has.results f (tables f) g.code (has.functions f g e) (accepts f g e) in
+            rw (labels (function_label f), rest) refl
 
-  begun : Matches (data_of p) code.main.slots base place (needs code.labels code.main.code) (start (data_of p)) v
-  begun = record {
-    temps_hold = λ t h it q w. absurd (cc);
-    leaves_hold = begin.leaves;
-    bytes = begin.bytes;
-    seen = begin.seen;
-    safe = begin.safe;
+  -- ---- fields
+
+  is_right : AsmItem → Bool
+  is_right i = is_valid_item (own_sizes p valid) i
+
+  right_labels : (k : Linkage) (i : PlainIr) → AcceptsLabels is_right k i
+  unfolding is_right
+  right_labels k (label l) = refl
+  right_labels k (jump l) = refl
+  right_labels k (branch_zero t l) = refl
+  right_labels k (call_function c to) = refl
+  right_labels k (constant t n) = tt
+  right_labels k (copy to from) = tt
+  right_labels k (load_object t o offset) = tt
+  right_labels k (store_object o offset t) = tt
+  right_labels k (binary_op op ty mode to a aty b bty) = tt
+  right_labels k (unary_op op ty mode to a) = tt
+  right_labels k (conversion to ty mode a aty) = tt
+  right_labels k (return_from from) = tt
+  right_labels k (address t o offset) = tt
+  right_labels k (field ptr space offset) = tt
+  right_labels k (load_at to ptr space) = tt
+  right_labels k (store_at ptr space from) = tt
+  right_labels k (port_in to port index width) = tt
+  right_labels k (port_out from port index width) = tt
+
+  all_right : (k : Linkage) (is : List PlainIr) → AllAccepted is_right k is
+  all_right k [] = tt
+  all_right k (i ∷ is) = (right_labels k i, all_right k is)
+
+  items_are_right : list_all (is_valid_item (own_sizes p valid)) code ≡ true
+  unfolding is_right
+  items_are_right =
+      joined is_right start (functions_code p tables (length p.functions))
+      (laws.items (own_sizes p valid) (spans_of p) (function_label p.main) (spans_valid p valid))
+      (by_functions is_right (valid_item (own_sizes p valid)) (λ l. refl) (λ f g e. all_right (link p valid has laws.leaves tables f g) g.code))
+
+  -- ---- labels
+
+  counted : (l : ℕ) → count_by (is_label l) code
+      ≡ cond (entry_label == l) 1 0 + count_by (is_label l) (functions_code p tables (length p.functions))
+  counted l =
+      let none = laws.placed (spans_of p) (function_label p.main) l in
+      let parts = joined_count l start (functions_code p tables (length p.functions)) in
+      let first = joined_count l (Label entry_label ∷ []) (start ++ functions_code p tables (length p.functions)) in
+      omega (arith, none, parts, first)
+
+  entry_once : stands_once code entry_label ≡ true
+  entry_once = rw (counted 0, entry_is_apart p valid has laws.leaves tables) refl
+
+  once : (l : ℕ) → 0 < l → count_by (is_label l) (functions_code p tables (length p.functions)) ≡ 1
+      → stands_once code l ≡ true
+  once l above one =
+      let q : (0 == l) ≡ false = grind (arith, nat_tests) in rw (counted l, one, q) refl
+
+  there : (fs : List PlainIrFunction) (c : ℕ) → c < length fs → (g : PlainIrFunction) × (slice_get fs c ≡ Some g)
+  there [] c l = absurd (omega arith)
+  there (g ∷ fs) zero l = (g, refl)
+  there (g ∷ fs) (suc c) l = there fs c (omega arith)
+
+  function_once : (c : ℕ) → c < length p.functions → stands_once code (function_label c) ≡ true
+  function_once c l =
+      let g = there p.functions c l in
+      once (function_label c) (omega arith) (function_stands p valid has laws.leaves tables c g.0 g.1)
+
+  label_once : (f m : ℕ) (g : PlainIrFunction) → slice_get p.functions f ≡ Some g → count m g.code ≡ 1
+      → stands_once code (first_label p.functions f + m) ≡ true
+  label_once f m g e one =
+      let above = first_label_above p.functions f in
+      once (first_label p.functions f + m) (omega arith) (label_stands p valid has laws.leaves tables f m g e one)
+
+  is_put : AsmItem → Bool
+  is_put i = is_placed code (used_label i)
+
+  put_labels : (f : ℕ) (g : PlainIrFunction) → slice_get p.functions f ≡ Some g → (i : PlainIr)
+      → ValidOperation p valid.results f g.slots g.code i
+      → AcceptsLabels is_put (link p valid has laws.leaves tables f g) i
+  unfolding is_put
+  put_labels f g e (label l) h = refl
+  put_labels f g e (jump l) h = label_once f l g e h
+  put_labels f g e (branch_zero t l) h = label_once f l g e h.1
+  put_labels f g e (call_function c to) h = function_once c h.0
+  put_labels f g e (constant t n) h = tt
+  put_labels f g e (copy to from) h = tt
+  put_labels f g e (load_object t o offset) h = tt
+  put_labels f g e (store_object o offset t) h = tt
+  put_labels f g e (binary_op op ty mode to a aty b bty) h = tt
+  put_labels f g e (unary_op op ty mode to a) h = tt
+  put_labels f g e (conversion to ty mode a aty) h = tt
+  put_labels f g e (return_from from) h = tt
+  put_labels f g e (address t o offset) h = tt
+  put_labels f g e (field ptr space offset) h = tt
+  put_labels f g e (load_at to ptr space) h = tt
+  put_labels f g e (store_at ptr space from) h = tt
+  put_labels f g e (port_in to port index width) h = tt
+  put_labels f g e (port_out from port index width) h = tt
+
+  all_put : (f : ℕ) (g : PlainIrFunction) → slice_get p.functions f ≡ Some g → (is : List PlainIr)
+      → AllByRecursion (ValidOperation p valid.results f g.slots g.code) is
+      → AllAccepted is_put (link p valid has laws.leaves tables f g) is
+  all_put f g e [] h = tt
+  all_put f g e (i ∷ is) h = (put_labels f g e i h.0, all_put f g e is h.1)
+
+  items_are_placed : list_all (λ i. is_placed code (used_label i)) code ≡ true
+  unfolding is_put
+  items_are_placed =
+      joined is_put start (functions_code p tables (length p.functions))
+      (laws.used code (spans_of p) (function_label p.main) (function_once p.main valid.main))
+      (by_functions is_put (placed_item (own_sizes p valid) code) (λ l. refl)
+      (λ f g e. all_put f g e g.code (function_valid p valid f g e).code))
+
+  -- ---- the program
+
+  pub is_valid : (asm : AsmProgram) → asm.items.items ≡ code → asm.frames.items ≡ map (λ g. g.slots) p.functions
+      → asm.entry ≡ entry_label → ValidAsm (object_sizes p) 64 asm
+  is_valid asm items frames entry = record {
+    items = subst (λ is. list_all (is_valid_item (sizes_of (object_sizes p) asm.frames.items 64)) is ≡ true) (sym items)
+        (subst (λ fs. list_all (is_valid_item (sizes_of (object_sizes p) fs 64)) code ≡ true) (sym frames) items_are_right);
+    labels = subst (λ is. list_all (λ i. is_placed is (used_label i)) is ≡ true) (sym items) items_are_placed;
+    entry = subst (λ is. stands_once is asm.entry ≡ true) (sym items) (rw entry entry_once);
+    functions = rw frames (let l = valid.function_count in omega (arith, length-map p.functions (λ (g : PlainIrFunction). g.slots)));
   }
 
-  ready : Ready (data_of p) p.functions inputs e code.main.slots home base place code.layout code.labels code.main.code end s.pc code.main.code
-  ready = record { covered = code.covered; live = code.live; stands = code.stands }
+-- the program with all items in their long forms
+abbrev pub long_form : PlainIrProgram → (ℕ → ℕ → Need) → AsmProgram → AsmProgram
+long_form p tables asm = record asm { items = record asm.items { items = program_code p tables } }
 
-  entered : (n : ℕ) → Follows (data_of p) place e n 0 s.pc v (ir_run p inputs n)
-  entered n =
-      subst (λ o. Follows (data_of p) place e n 0 s.pc v (enter o (λ q m. exec p.functions (data_of p) inputs n q m) [] (start (data_of p)))) (sym code.is_main)
-      (follows (data_of p) p.functions inputs e code.main.slots home base place code.layout code.labels code.main.code end s.pc ready n s.pc code.main.code (start (data_of p)) v ready begun)
+pub long_is_valid : CodeLaws → (p : PlainIrProgram) (asm : AsmProgram) → ValidIr p → HasCode p → (h : IsSelection p asm)
+    → ValidAsm (object_sizes p) 64 (long_form p h.tables asm)
+long_is_valid laws p asm valid has h =
+    is_valid laws p valid has h.tables (long_form p h.tables asm) refl h.frames h.entry
 
-  reaches : Reaches (within_steps p inputs) (λ n. seen_as (accesses (data_of p) place) (meaning p inputs n)) (noted_run e v.inputs s)
-  reaches n = reached n (ir_run p inputs n) (entered n)
-
-  pub whole : ShowsOperations p place e v s inputs
-  whole = record {
-    reaches = reaches;
-    within = what_reaches_stays_within Access ℤ Undefined MachineFault (within_steps p inputs) (λ n. seen_as (accesses (data_of p) place) (meaning p inputs n)) (noted_run e v.inputs s) (laws.runs e v.inputs s) reaches;
-  }
-
-pub code_follows_operations : CodeLaws → CodeFollowsOperations
-code_follows_operations laws p home base place e size end s v inputs fit shows begin code =
-    whole laws p home base place e size end s v inputs fit shows begin code
+pub selections_are_valid : CodeLaws → SelectionsAreValid
+selections_are_valid laws p asm valid has h =
+    laws.near (object_sizes p) 64 (long_form p h.tables asm) asm h.items refl refl (long_is_valid laws p asm valid has h)

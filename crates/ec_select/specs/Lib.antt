@@ -1,10 +1,7 @@
-pub mod Homes
-pub mod Needs
-pub mod Places
-pub mod Standing
-pub mod Code
-pub mod Emitted
-pub mod Written
-pub mod Covered
-pub mod Relation
+pub mod Labels
+pub mod InPlace
+pub mod Integers
+pub mod Program
+pub mod Selected
+pub mod LaidOut
 pub mod Laws

@@ -1,38 +1,58 @@
-//! The laws of the code of operations: each function proves one, and does nothing.
-ghost use Rattle.ec_select.specs.Laws.{CodeFollowsOperations, HomesAreLaidOut, SelectedCodeFollows};
-ghost use Rattle.ec_select.specs.Written.{NeededCodeIsWritten};
+//! The laws of the code of programs: each function proves one, and does nothing.
+ghost use Rattle.ec_select.specs.Laws.{IntegersHaveCode, SelectionsAreValid, SelectionsHaveWords};
+ghost use Rattle.ec_select.specs.Laws.{SelectionsRun};
 
-use ec_asm::laws::{machine_runs_as_view, noted_runs_are_runs};
+use ec_asm::laws::parts_stand;
 use ec_core::leaves_fill_their_types;
+use ec_near::laws::{near_code_stands, near_items_are_short, near_items_are_valid};
+use ec_reset::programs_show_their_operations;
+use ec_select_bytes::laws::{complements_are_straight, values_are_straight};
+use ec_select_order::laws::relations_have_words;
+use ec_select_products::laws::products_have_words;
+use ec_select_shifts::laws::shifts_have_words;
+use ec_startup::laws::{startup_has_words, startup_is_valid};
 
-/// A machine that stands at the first word of the code of `main`, with the objects' initial values in its memory,
-/// comes to all that the operations do, in no more steps than they may take; it never runs ahead of them, ends only
-/// where they end, and never fails.
-pub fn code_follows_operations()
-    ensures { CodeFollowsOperations }
-{
-    machine_runs_as_view();
-    noted_runs_are_runs();
-}
-
-/// In a valid program the homes of temporaries and the leaves of objects stand apart, wherever scratch memory and
-/// objects stand.
-pub fn homes_are_laid_out()
-    ensures { HomesAreLaidOut }
+/// The operations of a valid program have code where they are operations on integers, which load and store integers of
+/// the data bank, and put the result of an operator to the place of its first operand. Then `select` can be called.
+pub fn integers_have_code()
+    ensures { IntegersHaveCode }
 {
     leaves_fill_their_types();
 }
 
-/// The same for a valid program whose temporaries stand at their homes, wherever code, scratch memory and objects
-/// stand.
-pub fn selected_code_follows()
-    ensures { SelectedCodeFollows }
+/// The code of a program can be placed, with the sizes of its objects and 64 work bytes.
+pub fn selections_are_valid()
+    ensures { SelectionsAreValid }
 {
-    code_follows_operations();
-    homes_are_laid_out();
+    startup_is_valid();
+    near_items_are_valid();
+    leaves_fill_their_types();
 }
 
-/// Code that is written with the bytes that are needed of each result is the code of the operations.
-pub fn needed_code_is_written()
-    ensures { NeededCodeIsWritten }
-{}
+/// The code of a program whose operators have their results in place has at most the words that its operations may
+/// take, and those of the rows of the program and of its objects.
+pub fn selections_have_words()
+    ensures { SelectionsHaveWords }
+{
+    values_are_straight();
+    complements_are_straight();
+    relations_have_words();
+    products_have_words();
+    shifts_have_words();
+    startup_has_words();
+    near_items_are_short();
+}
+
+/// A machine that begins at the first word of a program's code shows what its operations do, wherever code, objects
+/// and stack stand, and whatever memory holds: it comes to `main` with no accesses but those that copy initial bytes,
+/// and from there on shows all that the operations do, within the steps that they may take, and never more.
+pub fn selections_run()
+    ensures { SelectionsRun }
+{
+    startup_is_valid();
+    leaves_fill_their_types();
+    near_code_stands();
+    near_items_are_valid();
+    parts_stand();
+    programs_show_their_operations();
+}

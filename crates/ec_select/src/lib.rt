@@ -1,22 +1,15 @@
-//! The code of a program's operations: integers, objects, jumps, and the end of `main`.
+//! The code of a whole program, from what runs before `main` to the last function.
 //!
-//! `specs/Code.antt` has the code of each operation, `specs/Needs.antt` how many bytes of each temporary it computes,
-//! `specs/Covered.antt` which operations have code, and `specs/Relation.antt` when a machine shows the state of an
-//! intermediate program. The law in `laws` tells that the machine shows what the operations do, wherever code and
-//! objects stand.
+//! `specs/Program.antt` has the code, `specs/Labels.antt` the labels and homes of its functions, `specs/Selected.antt`
+//! which programs have code, and `specs/LaidOut.antt` where code, objects and stack stand. The laws tell that the code
+//! can be placed, how many words it has, and that a machine shows by it what the operations do.
 #![tactic(auto)]
 
-mod families;
-mod homes;
+mod functions;
+mod labels;
 mod laws;
-mod operations;
+mod program;
+mod spans;
 
-pub use families::{
-    BinaryOperation, Family, Operands, binary, branch, combine, convert, divide_numbers, finish,
-    move_number, multiply_bytes, shift_by_count, tell, unary,
-};
-pub use homes::{Homes, home};
-pub use laws::{
-    code_follows_operations, homes_are_laid_out, needed_code_is_written, selected_code_follows,
-};
-pub use operations::{all_operations, operation};
+pub use laws::{integers_have_code, selections_are_valid, selections_have_words, selections_run};
+pub use program::select;

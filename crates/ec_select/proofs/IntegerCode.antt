@@ -1,0 +1,427 @@
+-- Valid operations on integers are covered.
+use Rattle.std.proofs.Common.{◌≡◌, ◌≢◌, ◌⊎◌, ℕ, ◌≤◌, ◌==◌, Bool, true, false, List, [], ◌∷◌, refl}
+use Rattle.std.proofs.Common.{sym, ◌∙◌, ap, subst, arith, inl, inr}
+use Rattle.std.specs.Prelude.{◌&&◌, nat_lt, Option, Some, None, slice_get, IsSomeAnd}
+use Rattle.std.specs.List.{AllByRecursion, position_from}
+use Rattle.std.proofs.lemmas.Bool.{false≢true}
+use Rattle.std.proofs.lemmas.Bool.Decides.{nat_tests}
+use Rattle.ec_core.specs.declared.arithmetic_types.Arithmetic.TheVariants.{Integer}
+use Rattle.ec_core.specs.declared.arithmetic_types.IntegerType.{IntegerType}
+use Rattle.ec_core.specs.declared.expressions.BinOp.{BinOp}
+use Rattle.ec_core.specs.declared.expressions.BinOp.TheVariants.{Add, Sub, Mul, Div, Rem, And, Or, Xor, Lt, Gt, Le, Ge}
+use Rattle.ec_core.specs.declared.expressions.BinOp.TheVariants.{Eq, Ne, Shl, Shr}
+use Rattle.ec_core.specs.ArithmeticTypes.{promoted, common_integer, wider_or_unsigned}
+use Rattle.ec_core.specs.Layout.{IsIntegerSize, PlainLeaf, leaves_of_type, scalar_size}
+use Rattle.ec_core.specs.Plain.{PlainType, void, integer, fixed, pointer, array, struct, PlainObject}
+use Rattle.ec_core.specs.TypeLaws.{LeavesFillTheirTypes}
+use Rattle.ec_core.specs.Typing.{HaveUsualTypes, HaveProductTypes, HaveComparedTypes}
+use Rattle.ec_core.specs.Valid.{IsObject, IsNamedIn}
+use Rattle.ec_ir.specs.declared.operations.Temp.{Temp}
+use Rattle.ec_ir.specs.Costs.{is_bitwise}
+use Rattle.ec_ir.specs.Integers.{IsIntegerType, IsIntegerOperation}
+use Rattle.ec_ir.specs.Operations.{PlainIr, constant, copy, address, field, load_at, store_at, load_object}
+use Rattle.ec_ir.specs.Operations.{store_object, binary_op, unary_op, conversion, label, jump, branch_zero}
+use Rattle.ec_ir.specs.Operations.{call_function, return_from, port_in, port_out, PlainIrFunction, PlainIrProgram}
+use Rattle.ec_ir.specs.Operations.{data_of}
+use Rattle.ec_ir.specs.Valid.{ValidIr, ValidOperation, IsTemp, IsTempOf, HasLeafOf, HaveOperationTypes, HaveCountTypes}
+use Rattle.ec_ir.specs.Valid.{IsResult as IsValidResult, IsParameterOf, called_in}
+use Rattle.ec_select_functions.specs.Code.{family_of}
+use Rattle.ec_select_functions.specs.Covered.{HasNumberAt, AreIntegers, AreCompared, AreFactors, AreShifted}
+use Rattle.ec_select_functions.specs.Covered.{AreDivided, IsBinary}
+use Rattle.ec_select_functions.specs.Covered.{IsResult, IsCovered, AreCovered}
+use Rattle.ec_select_functions.specs.Homes.{HasHome}
+use Rattle.ec_select.specs.InPlace.{IsInPlace}
+use Rattle.ec_select.specs.Integers.{IsAdditive, HasIntegerAt, IsSuited}
+use Rattle.ec_select.specs.Laws.{IntegersHaveCode}
+use Rattle.ec_select.proofs.Setting.{all_at, function_valid}
+
+-- ---- types
+
+as_integer : (ty : PlainType) → IsIntegerType ty → (s : Bool) × (n : ℕ) × (ty ≡ integer s n)
+as_integer (integer s n) h = (s, n, refl)
+as_integer void h = absurd h
+as_integer (fixed kind sat) h = absurd h
+as_integer (pointer space const to) h = absurd h
+as_integer (array of len) h = absurd h
+as_integer (struct index) h = absurd h
+
+abbrev kind : Bool → ℕ → IntegerType
+kind s n = record { signed = s; bytes = n }
+
+same_twice : (s : Bool) → (s && s) ≡ s
+same_twice true = refl
+same_twice false = refl
+
+wider_same : (s : Bool) (n : ℕ) → wider_or_unsigned (kind s n) (kind s n) ≡ kind s n
+wider_same s n = let q : nat_lt n n ≡ false = grind (arith, nat_tests) in rw (q, same_twice s) refl
+
+-- two operands that have their common type
+record AreUsual (s t u : Bool) (n m k : ℕ) : Type 0 where
+  operands : kind t m ≡ kind u k
+  result : kind s n ≡ kind t m
+
+usual : (s t u : Bool) (n m k : ℕ) → HaveUsualTypes (Integer (kind s n)) (Integer (kind t m)) (Integer (kind u k))
+    → AreUsual s t u n m k
+usual s t u n m k h =
+    let same : kind t m ≡ kind u k = h.integers.0 in
+    let stays : promoted (kind t m) ≡ kind t m = h.integers.1 in
+    let value : kind s n ≡ common_integer (kind t m) (kind u k) = let v = h.value in cc in
+    let common : common_integer (kind t m) (kind u k) ≡ kind t m =
+    subst (λ (y : IntegerType). common_integer (kind t m) y ≡ kind t m) same (rw stays (wider_same t m)) in
+    record { operands = same; result = value ∙ common }
+
+bytes_of : (x y : IntegerType) → x ≡ y → x.bytes ≡ y.bytes
+bytes_of x y e = ap (λ (z : IntegerType). z.bytes) e
+
+signed_of : (x y : IntegerType) → x ≡ y → x.signed ≡ y.signed
+signed_of x y e = ap (λ (z : IntegerType). z.signed) e
+
+at_most_four : (n : ℕ) → IsIntegerSize n → n ≤ 4
+at_most_four n h =
+    elim h [ inl e ↦ omega arith | inr r ↦ elim r [ inl e ↦ omega arith | inr e ↦ omega arith ] ]
+
+home_of : (slots : ℕ) (t : Temp) → IsTemp slots t → t.bytes ≤ 8 → HasHome slots t
+home_of slots t h few = record { within = h.within; some = h.some; most = few }
+
+-- ---- binary operators of a function with so many places
+
+module _ (slots : ℕ) (to a b : Temp) (s t u : Bool) (n m k : ℕ) (homes : HasHome slots to × HasHome slots a × HasHome slots b)
+    (bytes : (to.bytes ≡ n) × (a.bytes ≡ m) × (b.bytes ≡ k)) (four : n ≤ 4) where
+  in_temp : (s : Bool) (j : ℕ) (x : Temp) → x.bytes ≡ j → integer s j ≡ integer s x.bytes
+  in_temp s j x e = rw e refl
+
+  integers : HaveUsualTypes (Integer (kind s n)) (Integer (kind t m)) (Integer (kind u k))
+      → AreIntegers slots to a b (integer s n) (integer t m) (integer u k)
+  integers h =
+      let w = usual s t u n m k h in
+      let x = bytes_of (kind t m) (kind u k) w.operands in let y = bytes_of (kind s n) (kind t m) w.result in
+      let p = bytes.0 in let q = bytes.1 in let r = bytes.2 in
+      record {
+        signed = s;
+        left_signed = t;
+        right_signed = u;
+        result_type = in_temp s n to bytes.0;
+        left_type = in_temp t m a bytes.1;
+        right_type = in_temp u k b bytes.2;
+        result = homes.0;
+        left = homes.1;
+        right = homes.2;
+        left_bytes = omega arith;
+        right_bytes = omega arith;
+      }
+
+  divided : HaveUsualTypes (Integer (kind s n)) (Integer (kind t m)) (Integer (kind u k))
+      → AreDivided slots to a b (integer s n) (integer t m) (integer u k)
+  divided h =
+      let w = usual s t u n m k h in
+      let x = bytes_of (kind t m) (kind u k) w.operands in let y = bytes_of (kind s n) (kind t m) w.result in
+      let v = signed_of (kind t m) (kind u k) w.operands in let z = signed_of (kind s n) (kind t m) w.result in
+      let p = bytes.0 in let q = bytes.1 in let r = bytes.2 in
+      record {
+        signed = s;
+        result_type = in_temp s n to bytes.0;
+        left_type = subst (λ (c : Bool). integer t m ≡ integer c a.bytes) (sym z) (in_temp t m a bytes.1);
+        right_type = subst (λ (c : Bool). integer u k ≡ integer c b.bytes) (sym (z ∙ v)) (in_temp u k b bytes.2);
+        result = homes.0;
+        left = homes.1;
+        right = homes.2;
+        left_bytes = omega arith;
+        right_bytes = omega arith;
+        most = omega arith;
+      }
+
+  compared : HaveComparedTypes (Integer (kind s n)) (Integer (kind t m)) (Integer (kind u k))
+      → AreCompared slots to a b (integer t m) (integer u k)
+  compared h =
+      let same : kind t m ≡ kind u k = h.integers.0 in
+      let x = bytes_of (kind t m) (kind u k) same in let v = signed_of (kind t m) (kind u k) same in
+      let q = bytes.1 in let r = bytes.2 in
+      record {
+        signed = t;
+        left_type = in_temp t m a bytes.1;
+        right_type = subst (λ (c : Bool). integer u k ≡ integer c b.bytes) (sym v) (in_temp u k b bytes.2);
+        result = homes.0;
+        left = homes.1;
+        right = homes.2;
+        same_bytes = omega arith;
+      }
+
+  factors : HaveProductTypes (Integer (kind s n)) (Integer (kind t m)) (Integer (kind u k))
+      → AreFactors slots to a b (integer s n) (integer t m) (integer u k)
+  factors h =
+      let x : m ≡ 1 = h.left in let y : k ≡ 1 = h.right in
+      let value : kind s n ≡ common_integer (kind t m) (kind u k) = let v = h.value in cc in
+      let two : common_integer (kind t m) (kind u k) ≡ kind true 2 = rw (x, y) refl in
+      let z : n ≡ 2 = bytes_of (kind s n) (kind true 2) (value ∙ two) in
+      let p = bytes.0 in let q = bytes.1 in let r = bytes.2 in
+      record {
+        signed = s;
+        left_signed = t;
+        right_signed = u;
+        result_type = rw z refl;
+        left_type = rw x refl;
+        right_type = rw y refl;
+        result = homes.0;
+        left = homes.1;
+        right = homes.2;
+        result_bytes = omega arith;
+        left_bytes = omega arith;
+        right_bytes = omega arith;
+      }
+
+  shifted : kind s n ≡ kind t m → AreShifted slots to a b (integer s n) (integer t m) (integer u k)
+  shifted same =
+      let x = bytes_of (kind s n) (kind t m) same in let v = signed_of (kind s n) (kind t m) same in
+      let p = bytes.0 in let q = bytes.1 in
+      record {
+        signed = s;
+        count_signed = u;
+        result_type = in_temp s n to bytes.0;
+        left_type = subst (λ (c : Bool). integer t m ≡ integer c a.bytes) (sym v) (in_temp t m a bytes.1);
+        count_type = in_temp u k b bytes.2;
+        result = homes.0;
+        left = homes.1;
+        count = homes.2;
+        same_bytes = omega arith;
+      }
+
+  -- a shift may have a count of any integer type
+  counted : (op : BinOp) → to.at ≢ b.at → HaveCountTypes op (integer s n) (integer t m) (integer u k)
+      → IsBinary (family_of op) slots to a b (integer s n) (integer t m) (integer u k)
+  counted Shl apart h = (shifted (let v = h.value in cc), apart)
+  counted Shr apart h = (shifted (let v = h.value in cc), apart)
+  counted Add apart h = absurd h.shift
+  counted Sub apart h = absurd h.shift
+  counted Mul apart h = absurd h.shift
+  counted Div apart h = absurd h.shift
+  counted Rem apart h = absurd h.shift
+  counted And apart h = absurd h.shift
+  counted Or apart h = absurd h.shift
+  counted Xor apart h = absurd h.shift
+  counted Lt apart h = absurd h.shift
+  counted Gt apart h = absurd h.shift
+  counted Le apart h = absurd h.shift
+  counted Ge apart h = absurd h.shift
+  counted Eq apart h = absurd h.shift
+  counted Ne apart h = absurd h.shift
+
+  -- an operator whose second operand has another place than the result
+  binary : (op : BinOp) → to.at ≢ b.at → HaveOperationTypes op (integer s n) (integer t m) (integer u k)
+      → IsBinary (family_of op) slots to a b (integer s n) (integer t m) (integer u k)
+  binary op apart (inr h) = counted op apart h
+  binary Add apart (inl h) = integers h
+  binary Sub apart (inl h) = integers h
+  binary And apart (inl h) = integers h.usual
+  binary Or apart (inl h) = integers h.usual
+  binary Xor apart (inl h) = integers h.usual
+  binary Lt apart (inl h) = compared h
+  binary Gt apart (inl h) = compared h
+  binary Le apart (inl h) = compared h
+  binary Ge apart (inl h) = compared h
+  binary Eq apart (inl h) = compared h
+  binary Ne apart (inl h) = compared h
+  binary Mul apart (inl h) = factors h
+  binary Div apart (inl h) = (divided h, apart)
+  binary Rem apart (inl h) = (divided h.usual, apart)
+  binary Shl apart (inl h) = (shifted (let v = h.value in cc), apart)
+  binary Shr apart (inl h) = (shifted (let v = h.value in cc), apart)
+
+  -- a sum or difference, wherever its result is put
+  additive : (op : BinOp) → IsAdditive op → HaveOperationTypes op (integer s n) (integer t m) (integer u k)
+      → IsBinary (family_of op) slots to a b (integer s n) (integer t m) (integer u k)
+  additive Add i (inl h) = integers h
+  additive Sub i (inl h) = integers h
+  additive Add i (inr h) = absurd h.shift
+  additive Sub i (inr h) = absurd h.shift
+  additive Mul i h = absurd i
+  additive Div i h = absurd i
+  additive Rem i h = absurd i
+  additive And i h = absurd i
+  additive Or i h = absurd i
+  additive Xor i h = absurd i
+  additive Lt i h = absurd i
+  additive Gt i h = absurd i
+  additive Le i h = absurd i
+  additive Ge i h = absurd i
+  additive Eq i h = absurd i
+  additive Ne i h = absurd i
+  additive Shl i h = absurd i
+  additive Shr i h = absurd i
+
+  placed : (op : BinOp) → ((to.at ≡ a.at) × (b.at ≢ a.at)) ⊎ IsAdditive op
+      → HaveOperationTypes op (integer s n) (integer t m) (integer u k)
+      → IsBinary (family_of op) slots to a b (integer s n) (integer t m) (integer u k)
+  placed op (inl q) h = binary op (λ g. q.1 (sym g ∙ q.0)) h
+  placed op (inr i) h = additive op i h
+
+-- ---- operations of a function
+
+module _ (leaves : LeavesFillTheirTypes) (p : PlainIrProgram) (valid : ValidIr p) (f slots : ℕ) (all : List PlainIr) where
+  typed_home : (ty : PlainType) (s : Bool) (n : ℕ) (t : Temp) → ty ≡ integer s n → IsTempOf (data_of p) slots ty t
+      → HasHome slots t × (t.bytes ≡ n) × (n ≤ 4)
+  typed_home ty s n t e h =
+      let k : IsTempOf (data_of p) slots (integer s n) t = subst (λ (x : PlainType). IsTempOf (data_of p) slots x t) e h in
+      let few = at_most_four n k.known in
+      let b : t.bytes ≡ n = k.bytes in
+      (home_of slots t k.temp (omega arith), b, few)
+
+  binary_covered : (op : BinOp) (ty aty bty : PlainType) (to a b : Temp) → IsIntegerType ty → IsIntegerType aty
+      → IsIntegerType bty → ((to.at ≡ a.at) × (b.at ≢ a.at)) ⊎ IsAdditive op → IsTempOf (data_of p) slots ty to
+      → IsTempOf (data_of p) slots aty a → IsTempOf (data_of p) slots bty b → HaveOperationTypes op ty aty bty
+      → IsBinary (family_of op) slots to a b ty aty bty
+  binary_covered op ty aty bty to a b i j l place x y z h =
+      let q = as_integer ty i in let r = as_integer aty j in let w = as_integer bty l in
+      let c = typed_home ty q.0 q.1 to q.2 x in let d = typed_home aty r.0 r.1 a r.2 y in let e = typed_home bty w.0 w.1 b w.2 z in
+      let types : HaveOperationTypes op (integer q.0 q.1) (integer r.0 r.1) (integer w.0 w.1) =
+      subst (λ (v : PlainType). HaveOperationTypes op (integer q.0 q.1) (integer r.0 r.1) v) w.2
+      (subst (λ (v : PlainType). HaveOperationTypes op (integer q.0 q.1) v bty) r.2
+      (subst (λ (v : PlainType). HaveOperationTypes op v aty bty) q.2 h)) in
+      let there = placed slots to a b q.0 r.0 w.0 q.1 r.1 w.1 (c.0, d.0, e.0) (c.1, d.1, e.1) c.2 op place types in
+      subst (λ (v : PlainType). IsBinary (family_of op) slots to a b ty aty v) (sym w.2)
+      (subst (λ (v : PlainType). IsBinary (family_of op) slots to a b ty v (integer w.0 w.1)) (sym r.2)
+      (subst (λ (v : PlainType). IsBinary (family_of op) slots to a b v (integer r.0 r.1) (integer w.0 w.1)) (sym q.2) there))
+
+  some_at : {X : Type 0} (P Q : X → Type 0) (o : Option X) → IsSomeAnd o P → IsSomeAnd o Q → (x : X) × (o ≡ Some x) × P x × Q x
+  some_at P Q None a b = absurd a
+  some_at P Q (Some x) a b = (x, refl, a, b)
+
+  -- the leaf at an offset
+  number_at : (o offset : ℕ) (t : Temp) (d : PlainObject) → slice_get p.objects o ≡ Some d → IsTemp slots t
+      → HasLeafOf (data_of p) d offset t.bytes → HasIntegerAt p offset d → HasHome slots t × HasNumberAt (data_of p) o offset t.bytes
+  number_at o offset t d q temp l i = by_leaf l.leaf l.is l.at l.size (as_integer l.leaf.ty (i.integer_there l.k l.leaf l.is l.at)) where
+    by_leaf : (leaf : PlainLeaf) → slice_get (leaves_of_type p.structs d.ty) l.k ≡ Some leaf → leaf.at ≡ offset
+        → scalar_size leaf.ty ≡ t.bytes → (s : Bool) × (n : ℕ) × (leaf.ty ≡ integer s n)
+        → HasHome slots t × HasNumberAt (data_of p) o offset t.bytes
+    by_leaf leaf is at size ty =
+        let object = all_at (IsObject (data_of p)) p.objects o d valid.objects q in
+        let place = (leaves.types p.structs d.ty valid.structs object.ty).each l.k leaf is in
+        let few : scalar_size leaf.ty ≤ 8 = place.scalar.most in
+        let n : ty.1 ≡ t.bytes = sym (ap scalar_size ty.2) ∙ size in
+        let whole : leaf ≡ record { ty = integer ty.0 t.bytes; at = offset } = rw (← n, ← at, ← ty.2) refl in (
+          home_of slots t temp (omega arith),
+          record {
+            number = l.k;
+            declared = d;
+            signed = ty.0;
+            is_object = q;
+            is_leaf = is ∙ ap (λ (x : PlainLeaf). Some x) whole;
+            in_data = i.in_data;
+            found = subst (λ (at : ℕ). position_from (λ x. x.at == at) 0 (leaves_of_type p.structs d.ty) ≡ Some l.k) at place.found;
+          },
+        )
+
+  result_covered : (g : ℕ) (t : Option Temp) → IsValidResult p valid.results f slots all g t → IsSuited p (return_from t)
+      → IsResult valid.results g slots t
+  result_covered g None h few = tt
+  result_covered g (Some t) h few = (home_of slots t h.0 few, h.1)
+
+  covered : (i : PlainIr) → ValidOperation p valid.results f slots all i → IsIntegerOperation i → IsSuited p i
+      → IsCovered (data_of p) valid.results f slots i
+  covered (constant t n) v h s = home_of slots t v.0 s
+  covered (copy to from) v h s =
+      let e = v.2 in (home_of slots to v.0 s, home_of slots from v.1 (omega arith), e)
+  covered (load_object t o offset) v h s =
+      let d = some_at (λ x. IsNamedIn f x.storage × HasLeafOf (data_of p) x offset t.bytes) (HasIntegerAt p offset) (slice_get p.objects o) v.1 s in
+      number_at o offset t d.0 d.1 v.0 d.2.1 d.3
+  covered (store_object o offset t) v h s =
+      let d = some_at (λ x. (IsNamedIn f x.storage ⊎ IsParameterOf (called_in all) x.storage) × HasLeafOf (data_of p) x offset t.bytes)
+      (HasIntegerAt p offset) (slice_get p.objects o) v.1 s in
+      number_at o offset t d.0 d.1 v.0 d.2.1 d.3
+  covered (binary_op op ty mode to a aty b bty) v h s =
+      binary_covered op ty aty bty to a b h.0 h.1 h.2 s v.0 v.1 v.2 v.3
+  covered (unary_op op ty mode to a) v h s =
+      let q = as_integer ty h in
+      let c = typed_home ty q.0 q.1 to q.2 v.0 in let d = typed_home ty q.0 q.1 a q.2 v.1 in
+      let x = c.1 in let y = d.1 in
+      record { signed = q.0; result_type = rw x q.2; result = c.0; operand = d.0; same_bytes = omega arith }
+  covered (conversion to ty mode a aty) v h s =
+      let q = as_integer ty h.0 in let r = as_integer aty h.1 in
+      let c = typed_home ty q.0 q.1 to q.2 v.0 in let d = typed_home aty r.0 r.1 a r.2 v.1 in
+      let x = c.1 in let y = d.1 in
+      record {
+        signed = q.0;
+        from_signed = r.0;
+        result_type = rw x q.2;
+        from_type = rw y r.2;
+        result = c.0;
+        from = d.0;
+      }
+  covered (label l) v h s = tt
+  covered (jump l) v h s = tt
+  covered (branch_zero t l) v h s = home_of slots t v.0 s
+  covered (call_function g to) v h s = result_covered g to v.1 s
+  covered (return_from from) v h s = result_covered f from v s
+  covered (address t o offset) v h s = absurd h
+  covered (field ptr space offset) v h s = absurd h
+  covered (load_at to ptr space) v h s = absurd h
+  covered (store_at ptr space from) v h s = absurd h
+  covered (port_in to port index width) v h s = absurd h
+  covered (port_out from port index width) v h s = absurd h
+
+  all_covered : (code : List PlainIr) → AllByRecursion (ValidOperation p valid.results f slots all) code
+      → AllByRecursion IsIntegerOperation code → AllByRecursion (IsSuited p) code
+      → AreCovered (data_of p) valid.results f slots code
+  all_covered [] v h s = tt
+  all_covered (i ∷ code) v h s = (covered i v.0 h.0 s.0, all_covered code v.1 h.1 s.1)
+
+-- ---- results in place
+
+not_bitwise : (op : BinOp) → IsAdditive op → is_bitwise op ≡ true → ⊥
+not_bitwise Add i k = false≢true k
+not_bitwise Sub i k = false≢true k
+not_bitwise Mul i k = i
+not_bitwise Div i k = i
+not_bitwise Rem i k = i
+not_bitwise And i k = i
+not_bitwise Or i k = i
+not_bitwise Xor i k = i
+not_bitwise Lt i k = i
+not_bitwise Gt i k = i
+not_bitwise Le i k = i
+not_bitwise Ge i k = i
+not_bitwise Eq i k = i
+not_bitwise Ne i k = i
+not_bitwise Shl i k = i
+not_bitwise Shr i k = i
+
+in_place : (p : PlainIrProgram) (i : PlainIr) → IsSuited p i → IsInPlace i
+in_place p (binary_op op ty mode to a aty b bty) (inl s) = λ k. s.0
+in_place p (binary_op op ty mode to a aty b bty) (inr i) = λ k. absurd (not_bitwise op i k)
+in_place p (constant t n) s = tt
+in_place p (copy to from) s = tt
+in_place p (load_object t o offset) s = tt
+in_place p (store_object o offset t) s = tt
+in_place p (unary_op op ty mode to a) s = tt
+in_place p (conversion to ty mode a aty) s = tt
+in_place p (label l) s = tt
+in_place p (jump l) s = tt
+in_place p (branch_zero t l) s = tt
+in_place p (call_function g to) s = tt
+in_place p (return_from from) s = tt
+in_place p (address t o offset) s = tt
+in_place p (field ptr space offset) s = tt
+in_place p (load_at to ptr space) s = tt
+in_place p (store_at ptr space from) s = tt
+in_place p (port_in to port index width) s = tt
+in_place p (port_out from port index width) s = tt
+
+all_in_place : (p : PlainIrProgram) (code : List PlainIr) → AllByRecursion (IsSuited p) code → AllByRecursion IsInPlace code
+all_in_place p [] s = tt
+all_in_place p (i ∷ code) s = (in_place p i s.0, all_in_place p code s.1)
+
+functions_in_place : (p : PlainIrProgram) (fs : List PlainIrFunction) → AllByRecursion (λ g. AllByRecursion (IsSuited p) g.code) fs
+    → AllByRecursion (λ g. AllByRecursion IsInPlace g.code) fs
+functions_in_place p [] s = tt
+functions_in_place p (g ∷ fs) s = (all_in_place p g.code s.0, functions_in_place p fs s.1)
+
+pub integers_have_code : LeavesFillTheirTypes → IntegersHaveCode
+integers_have_code leaves p valid are suited = (
+  record {
+    results = valid.results;
+    main_result = valid.main_result;
+    functions = λ f g e. all_covered leaves p valid f g.slots g.code g.code (function_valid p valid f g e).code
+        (all_at (λ h. AllByRecursion IsIntegerOperation h.code) p.functions f g are e)
+        (all_at (λ h. AllByRecursion (IsSuited p) h.code) p.functions f g suited e);
+  },
+  functions_in_place p p.functions suited,
+)

@@ -1,0 +1,361 @@
+-- What the items of an operation's code pass.
+use Rattle.std.proofs.Common.{◌≡◌, ◌⊎◌, ℕ, suc, ◌+◌, ◌-◌, ◌*◌, ◌<◌, ◌≤◌, ◌==◌, Bool, true, false, List, [], ◌∷◌, ◌++◌}
+use Rattle.std.proofs.Common.{refl, arith, inl, inr}
+use Rattle.std.specs.Prelude.{⊤, min, nat_le, ◌&&◌, if◌then◌else◌, Option, Some, None}
+use Rattle.std.specs.List.{list_all}
+use Rattle.ec_isa.specs.declared.instructions.Instr.TheVariants.{Ret}
+use Rattle.ec_asm.specs.declared.items.AsmItem.{AsmItem}
+use Rattle.ec_asm.specs.declared.items.AsmItem.TheVariants.{Plain, Label, JumpTo, CallTo, BranchTo}
+use Rattle.ec_asm.specs.declared.pieces.Location.{Location}
+use Rattle.ec_asm.specs.declared.pieces.Location.TheVariants.{InRegisters, InMemory}
+use Rattle.ec_asm.specs.declared.pieces.Operator.{Operator}
+use Rattle.ec_asm.specs.declared.pieces.Operator.TheVariants.{Sum, Difference, BitAnd, BitOr, BitXor}
+use Rattle.ec_select_bytes.specs.Complements.{negation_code}
+use Rattle.ec_asm.specs.Pieces.{copy_code, operate_code}
+use Rattle.ec_asm.specs.Valid.{Sizes, is_offset}
+use Rattle.ec_core.specs.declared.expressions.UnOp.{UnOp}
+use Rattle.ec_core.specs.declared.expressions.UnOp.TheVariants.{Minus, Invert}
+use Rattle.ec_core.specs.Plain.{PlainType, PlainProgram}
+use Rattle.ec_ir.specs.declared.operations.Temp.{Temp}
+use Rattle.ec_ir.specs.Operations.{PlainIr, constant, copy, address, field, load_at, store_at, load_object}
+use Rattle.ec_ir.specs.Operations.{store_object, binary_op, unary_op, conversion, label, jump, branch_zero}
+use Rattle.ec_ir.specs.Operations.{call_function, return_from, port_in, port_out}
+use Rattle.ec_ir.specs.Temporaries.{low_bytes}
+use Rattle.ec_select_bytes.specs.Values.{constant_code, test_code, extend_code}
+use Rattle.ec_select_order.specs.declared.relations.Relation.{Relation}
+use Rattle.ec_select_order.specs.Relations.{relation_code}
+use Rattle.ec_select_products.specs.Products.{product_code}
+use Rattle.ec_select_quotients.specs.Signs.{quotient_code}
+use Rattle.ec_select_shifts.specs.Shifts.{shift_code}
+use Rattle.ec_select_functions.specs.declared.families.Family.{Family}
+use Rattle.ec_select_functions.specs.declared.families.Family.TheVariants.{Combined, Compared, Multiplied, Shifted}
+use Rattle.ec_select_functions.specs.declared.families.Family.TheVariants.{Divided}
+use Rattle.ec_select_functions.specs.declared.homes.Homes.{Homes}
+use Rattle.ec_select_functions.specs.Code.{same_location, move_code, reversed_code, family_of, is_signed}
+use Rattle.ec_select_functions.specs.Code.{conversion_code, combined_code}
+use Rattle.ec_select_functions.specs.Code.{compared_code, multiplied_code, shift_of, shifted_bytes, turned_code}
+use Rattle.ec_select_functions.specs.Code.{shifted_code, long_code}
+use Rattle.ec_select_functions.specs.Code.{divided_code, binary_code, turn_code, unary_code, branch_code, Linkage}
+use Rattle.ec_select_functions.specs.Code.{place_register}
+use Rattle.ec_select_functions.specs.Code.{kept_bytes, waiting_location, save_place, restore_place, register_places}
+use Rattle.ec_select_functions.specs.Code.{save_code}
+use Rattle.ec_select_functions.specs.Code.{restore_code, taken_code, call_code, result_code, return_code}
+use Rattle.ec_select_functions.specs.Code.{kept_need, op_code, ops_code}
+use Rattle.ec_select_functions.specs.Covered.{HasNumberAt, IsBinary}
+use Rattle.ec_select_functions.specs.Covered.{IsUnary, IsResult, IsCovered, AreCovered}
+use Rattle.ec_select_functions.specs.Homes.{HasHome, depth, home, result_location}
+use Rattle.ec_select_functions.specs.Needs.{Need, wanted, wanted_result, needs}
+use Rattle.ec_select_functions.specs.Places.{object_location}
+use Rattle.ec_select.proofs.Fitting.{fits, Fit, joined, chained, passing, BytesFit, registers_fit, fewer_fit}
+use Rattle.ec_select.proofs.Pieces.{copy_fits, operate_fits, relation_fits, constant_fits, test_fits, extend_fits}
+use Rattle.ec_select.proofs.Pieces.{complement_fits, negation_fits}
+use Rattle.ec_select.proofs.Loops.{shift_fits, product_fits, quotient_fits}
+
+-- the scratch memory has room for so many places
+pub record HasRoom (sizes : Sizes) (h : Homes) (slots : ℕ) : Type 0 where
+  pub width : (h.width ≡ 2) ⊎ (h.width ≡ 4)
+  pub scratch : (k : ℕ) → k ≤ 16 * slots → is_offset sizes h.scratch k ≡ true
+
+-- what is asked of a test for the items that name labels
+abbrev pub AcceptsLabels : (AsmItem → Bool) → Linkage → PlainIr → Type 0
+AcceptsLabels q k (label l) = q (Label (k.label_of l)) ≡ true
+AcceptsLabels q k (jump l) = q (JumpTo (k.label_of l)) ≡ true
+AcceptsLabels q k (branch_zero t l) = q (BranchTo true 1 (k.label_of l)) ≡ true
+AcceptsLabels q k (call_function f to) = q (CallTo (k.entry_of f)) ≡ true
+AcceptsLabels q k (constant t n) = ⊤
+AcceptsLabels q k (copy to from) = ⊤
+AcceptsLabels q k (address t o offset) = ⊤
+AcceptsLabels q k (field ptr space offset) = ⊤
+AcceptsLabels q k (load_at to ptr space) = ⊤
+AcceptsLabels q k (store_at ptr space from) = ⊤
+AcceptsLabels q k (load_object t o offset) = ⊤
+AcceptsLabels q k (store_object o offset t) = ⊤
+AcceptsLabels q k (binary_op op ty mode to a aty b bty) = ⊤
+AcceptsLabels q k (unary_op op ty mode to a) = ⊤
+AcceptsLabels q k (conversion to ty mode a aty) = ⊤
+AcceptsLabels q k (return_from from) = ⊤
+AcceptsLabels q k (port_in to port index width) = ⊤
+AcceptsLabels q k (port_out from port index width) = ⊤
+
+abbrev pub AllAccepted : (AsmItem → Bool) → Linkage → List PlainIr → Type 0
+AllAccepted q k [] = ⊤
+AllAccepted q k (i ∷ code) = AcceptsLabels q k i × AllAccepted q k code
+
+module _ (sizes : Sizes) where
+  -- ---- families
+
+  pub move_fits : (p q : Location) (n : ℕ) → BytesFit sizes p n → BytesFit sizes q n → Fit sizes (move_code p q n)
+  move_fits p q n x y = by_place (same_location p q) where
+    by_place : (same : Bool) → Fit sizes (if same then [] else copy_code p q n)
+    by_place true = refl
+    by_place false = copy_fits sizes p q n x y
+
+  convert_fits : (signed : Bool) (p q : Location) (bytes n : ℕ) → 1 ≤ bytes → BytesFit sizes p bytes
+      → BytesFit sizes q n → Fit sizes (conversion_code signed p q bytes n)
+  convert_fits signed p q bytes n some x y =
+      joined (fits sizes) (move_code p q (min n bytes)) (extend_code signed q bytes n)
+      (move_fits p q (min n bytes) (fewer_fit sizes p (min n bytes) bytes (omega arith) x) (fewer_fit sizes q (min n bytes) n (omega arith) y))
+      (extend_fits sizes signed q bytes n some y)
+
+  unless_none : (n : ℕ) (code : List AsmItem) → Fit sizes code → Fit sizes (if n == 0 then [] else code)
+  unless_none n code h = by_count (n == 0) where
+    by_count : (none : Bool) → Fit sizes (if none then [] else code)
+    by_count true = refl
+    by_count false = h
+
+  reversed_fit : (op : Operator) (a to : Location) (n : ℕ) → BytesFit sizes a n → BytesFit sizes to n
+      → Fit sizes (reversed_code op a to n)
+  reversed_fit Sum a to n x z = operate_fits sizes Sum a to n x z
+  reversed_fit BitAnd a to n x z = operate_fits sizes BitAnd a to n x z
+  reversed_fit BitOr a to n x z = operate_fits sizes BitOr a to n x z
+  reversed_fit BitXor a to n x z = operate_fits sizes BitXor a to n x z
+  reversed_fit Difference a to n x z =
+      joined (fits sizes) (operate_code Difference a to n) (negation_code to n) (operate_fits sizes Difference a to n x z)
+      (negation_fits sizes to n z)
+
+  combined_fit : (op : Operator) (a b to : Location) (n : ℕ) → BytesFit sizes a n → BytesFit sizes b n
+      → BytesFit sizes to n → Fit sizes (combined_code op a b to n)
+  combined_fit op a b to n x y z = by_place (same_location b to) where
+    by_place : (same : Bool)
+        → Fit sizes (if same then reversed_code op a to n else move_code a to n ++ operate_code op b to n)
+    by_place true = reversed_fit op a to n x z
+    by_place false =
+        joined (fits sizes) (move_code a to n) (operate_code op b to n) (move_fits a to n x z)
+        (operate_fits sizes op b to n y z)
+
+  compared_fit : (r : Relation) (signed : Bool) (a b to : Location) (bytes n : ℕ) → BytesFit sizes a bytes
+      → BytesFit sizes b bytes → BytesFit sizes to n → Fit sizes (compared_code r signed a b to bytes n)
+  compared_fit r signed a b to bytes n x y z =
+      let truth = conversion_code false (InRegisters 30) to 1 n in
+      unless_none n (relation_code r signed a b bytes ++ truth)
+      (joined (fits sizes) (relation_code r signed a b bytes) truth (relation_fits sizes r signed a b bytes x y)
+      (convert_fits false (InRegisters 30) to 1 n (omega arith) (registers_fit sizes 30 1 (omega arith)) z))
+
+  multiplied_fit : (left right : Bool) (a b to : Location) (n : ℕ) → n ≤ 2 → BytesFit sizes a 1 → BytesFit sizes b 1
+      → BytesFit sizes to n → Fit sizes (multiplied_code left right a b to n)
+  multiplied_fit left right a b to n few x y z =
+      unless_none n (product_code left right a b to n) (product_fits sizes left right a b to n few x y z)
+
+  shifted_fit : (up signed : Bool) (a b to : Location) (bytes n : ℕ) → bytes ≤ 8 → n ≤ bytes → BytesFit sizes a bytes
+      → BytesFit sizes b 1 → BytesFit sizes to bytes → Fit sizes (shifted_code up signed a b to bytes n)
+  shifted_fit up signed a b to bytes n few l x y z =
+      unless_none n (turned_code (shift_of up signed) a b to (shifted_bytes up bytes n))
+      (by_width (shifted_bytes up bytes n) (fewer up)) where
+        fewer : (left : Bool) → shifted_bytes left bytes n ≤ bytes
+        fewer true = l
+        fewer false = omega arith
+
+        by_width : (m : ℕ) → m ≤ bytes → Fit sizes (turned_code (shift_of up signed) a b to m)
+        by_width m h =
+            joined (fits sizes) (move_code a to m) (move_code b (InRegisters 30) 1 ++ shift_code (shift_of up signed) to m)
+            (move_fits a to m (fewer_fit sizes a m bytes h x) (fewer_fit sizes to m bytes h z))
+            (joined (fits sizes) (move_code b (InRegisters 30) 1) (shift_code (shift_of up signed) to m)
+            (move_fits b (InRegisters 30) 1 y (registers_fit sizes 30 1 (omega arith)))
+            (shift_fits sizes (shift_of up signed) to m (omega arith) (fewer_fit sizes to m bytes h z)))
+
+  divided_fit : (r signed : Bool) (a b to : Location) (bytes n : ℕ) → 1 ≤ bytes → bytes ≤ 4 → BytesFit sizes a bytes
+      → BytesFit sizes b bytes → BytesFit sizes to bytes → Fit sizes (divided_code r signed a b to bytes n)
+  divided_fit r signed a b to bytes n some few x y z =
+      let whole : suc (bytes - 1) ≤ bytes = omega arith in
+      let top = bytes - 1 in
+      unless_none n (long_code r signed a b to top)
+      (joined (fits sizes) (move_code a to (suc top)) (quotient_code r signed to b top)
+      (move_fits a to (suc top) (fewer_fit sizes a (suc top) bytes whole x) (fewer_fit sizes to (suc top) bytes whole z))
+      (quotient_fits sizes r signed to b top (omega arith) (fewer_fit sizes to (suc top) bytes whole z)
+      (fewer_fit sizes b (suc top) bytes whole y)))
+
+  -- ---- homes
+
+  pub home_fits : (h : Homes) (slots : ℕ) → HasRoom sizes h slots → (t : Temp) → HasHome slots t
+      → BytesFit sizes (home h t) t.bytes
+  home_fits h slots room t k = by_depth (nat_le t.bytes h.width && nat_le (depth h t) 12) where
+    by_depth : (near : Bool) → BytesFit sizes (if near then InRegisters (26 - depth h t)
+        else InMemory h.scratch (16 * t.at)) t.bytes
+    by_depth true i l = let m = k.most in grind arith
+    by_depth false i l = let m = k.most in let w = k.within in room.scratch (16 * t.at + i) (omega arith)
+
+  -- ---- operations of a function
+
+  module _ (p : PlainProgram) (k : Linkage) (room : HasRoom sizes k.homes k.slots)
+      (stands : (o offset bytes : ℕ) → HasNumberAt p o offset bytes
+      → BytesFit sizes (object_location p.objects o offset) bytes) where
+    at_home : (t : Temp) → HasHome k.slots t → BytesFit sizes (home k.homes t) t.bytes
+    at_home t h = home_fits k.homes k.slots room t h
+
+    -- the first n bytes
+    low_home : (t : Temp) (n : ℕ) → HasHome k.slots t → n ≤ t.bytes → BytesFit sizes (home k.homes t) n
+    low_home t n h l = fewer_fit sizes (home k.homes t) n t.bytes l (at_home t h)
+
+    binary_fits : (family : Family) (to a b : Temp) (ty aty bty : PlainType) (left right : Bool) (n : ℕ)
+        → IsBinary family k.slots to a b ty aty bty → n ≤ to.bytes
+        → Fit sizes (binary_code family left right (home k.homes a) (home k.homes b) (home k.homes to) a.bytes n)
+    binary_fits (Combined op) to a b ty aty bty left right n h l =
+        let x = h.left_bytes in let y = h.right_bytes in
+        combined_fit op (home k.homes a) (home k.homes b) (home k.homes to) n (low_home a n h.left (omega arith))
+        (low_home b n h.right (omega arith)) (low_home to n h.result l)
+    binary_fits (Compared r false) to a b ty aty bty left right n h l =
+        compared_fit r left (home k.homes a) (home k.homes b) (home k.homes to) a.bytes n (at_home a h.left)
+        (low_home b a.bytes h.right (let x = h.same_bytes in omega arith)) (low_home to n h.result l)
+    binary_fits (Compared r true) to a b ty aty bty left right n h l =
+        compared_fit r left (home k.homes b) (home k.homes a) (home k.homes to) a.bytes n
+        (low_home b a.bytes h.right (let x = h.same_bytes in omega arith)) (at_home a h.left) (low_home to n h.result l)
+    binary_fits Multiplied to a b ty aty bty left right n h l =
+        let x = h.left_bytes in let y = h.right_bytes in let z = h.result_bytes in
+        multiplied_fit left right (home k.homes a) (home k.homes b) (home k.homes to) n (omega arith)
+        (low_home a 1 h.left (omega arith)) (low_home b 1 h.right (omega arith)) (low_home to n h.result l)
+    binary_fits (Shifted up) to a b ty aty bty left right n h l =
+        let i = h.0 in let x = i.same_bytes in let most = i.left.most in let some = i.count.some in
+        shifted_fit up left (home k.homes a) (home k.homes b) (home k.homes to) a.bytes n most (omega arith)
+        (at_home a i.left) (low_home b 1 i.count some) (low_home to a.bytes i.result (omega arith))
+    binary_fits (Divided r) to a b ty aty bty left right n h l =
+        let i = h.0 in let x = i.left_bytes in let y = i.right_bytes in let most = i.most in let some = i.left.some in
+        divided_fit r left (home k.homes a) (home k.homes b) (home k.homes to) a.bytes n some (omega arith)
+        (at_home a i.left) (low_home b a.bytes i.right (omega arith)) (low_home to a.bytes i.result (omega arith))
+
+    turn_fits : (op : UnOp) (q : Location) (n : ℕ) → BytesFit sizes q n → Fit sizes (turn_code op q n)
+    turn_fits Minus q n x = negation_fits sizes q n x
+    turn_fits Invert q n x = complement_fits sizes q n x
+
+    unary_fits : (op : UnOp) (to a : Temp) (ty : PlainType) (n : ℕ) → IsUnary k.slots to a ty → n ≤ to.bytes
+        → Fit sizes (unary_code op (home k.homes a) (home k.homes to) n)
+    unary_fits op to a ty n h l =
+        let x = h.same_bytes in
+        joined (fits sizes) (move_code (home k.homes a) (home k.homes to) n) (turn_code op (home k.homes to) n)
+        (move_fits (home k.homes a) (home k.homes to) n (low_home a n h.operand (omega arith)) (low_home to n h.result l))
+        (turn_fits op (home k.homes to) n (low_home to n h.result l))
+
+    -- ---- calls and returns
+
+    waiting_fits : (place n : ℕ) → place < register_places k.slots → n ≤ 8
+        → BytesFit sizes (waiting_location k.homes place) n
+    waiting_fits place n l few i h = room.scratch (16 * place + 8 + i) (omega arith)
+
+    kept_few : (place n : ℕ) → kept_bytes k.homes place n ≤ k.homes.width
+    kept_few place n = by_depth (nat_le (k.homes.width * (place + 1)) 12) where
+      by_depth : (near : Bool) → (if near then min n k.homes.width else 0) ≤ k.homes.width
+      by_depth true = omega arith
+      by_depth false = omega arith
+
+    narrow : k.homes.width ≤ 4
+    narrow = elim room.width [ inl e ↦ omega arith | inr e ↦ omega arith ]
+
+    -- the registers of a place of which bytes are kept
+    registers_kept : (place n : ℕ) → BytesFit sizes (InRegisters (place_register k.homes place)) (kept_bytes k.homes place n)
+    registers_kept place n i l = let few = kept_few place n in let w = narrow in omega arith
+
+    save_fits : (place n : ℕ) → place < register_places k.slots → Fit sizes (save_place k.homes place n)
+    save_fits place n l =
+        let few = kept_few place n in let w = narrow in
+        copy_fits sizes (InRegisters (place_register k.homes place)) (waiting_location k.homes place) (kept_bytes k.homes place n)
+        (registers_kept place n) (waiting_fits place (kept_bytes k.homes place n) l (omega arith))
+
+    restore_fits : (place n : ℕ) → place < register_places k.slots → Fit sizes (restore_place k.homes place n)
+    restore_fits place n l =
+        let few = kept_few place n in let w = narrow in
+        copy_fits sizes (waiting_location k.homes place) (InRegisters (place_register k.homes place)) (kept_bytes k.homes place n)
+        (waiting_fits place (kept_bytes k.homes place n) l (omega arith)) (registers_kept place n)
+
+    result_fits : (bytes n : ℕ) → bytes ≤ 8 → n ≤ bytes → BytesFit sizes (result_location bytes) n
+    result_fits bytes n few l = by_two (nat_le bytes 2) where
+      by_four : (four : Bool) → BytesFit sizes (InRegisters (if four then 22 else 18)) n
+      by_four true i h = omega arith
+      by_four false i h = omega arith
+
+      by_two : (two : Bool) → BytesFit sizes (InRegisters (if two then 24 else if nat_le bytes 4 then 22 else 18)) n
+      by_two true i h = omega arith
+      by_two false i h = by_four (nat_le bytes 4) i h
+
+    taken_fits : (results : ℕ → ℕ) (g : ℕ) (to : Option Temp) (n : ℕ) → IsResult results g k.slots to
+        → ((t : Temp) → to ≡ Some t → n ≤ t.bytes) → Fit sizes (taken_code (home k.homes) to n)
+    taken_fits results g None n h l = refl
+    taken_fits results g (Some t) n h l =
+        let few : n ≤ t.bytes = l t refl in
+        move_fits (result_location t.bytes) (home k.homes t) n (result_fits t.bytes n h.0.most few) (low_home t n h.0 few)
+
+    brought_fits : (results : ℕ → ℕ) (f : ℕ) (is_main : Bool) (from : Option Temp) → IsResult results f k.slots from
+        → Fit sizes (result_code (home k.homes) is_main from)
+    brought_fits results f true None h = constant_fits sizes (InRegisters 24) 0 2 (registers_fit sizes 24 2 (omega arith))
+    brought_fits results f false None h = refl
+    brought_fits results f is_main (Some t) h =
+        move_fits (home k.homes t) (result_location t.bytes) t.bytes (at_home t h.0)
+        (result_fits t.bytes t.bytes h.0.most (omega arith))
+
+    -- ---- what an operation's items pass
+
+    module _ (q : AsmItem → Bool) (passes : (i : AsmItem) → fits sizes i ≡ true → q i ≡ true) where
+      by_fit : (items : List AsmItem) → Fit sizes items → list_all q items ≡ true
+      by_fit items h = passing sizes q passes items h
+
+      branch_passes : (t : Temp) (l : ℕ) → HasHome k.slots t → q (BranchTo true 1 l) ≡ true
+          → list_all q (branch_code (home k.homes t) t.bytes l) ≡ true
+      branch_passes t l h a =
+          joined q (test_code (home k.homes t) t.bytes) (BranchTo true 1 l ∷ [])
+          (by_fit (test_code (home k.homes t) t.bytes) (test_fits sizes (home k.homes t) t.bytes (at_home t h))) (rw a refl)
+
+      call_passes : (results : ℕ → ℕ) (g : ℕ) (to : Option Temp) (n : ℕ) (kept : Need) → IsResult results g k.slots to
+          → ((t : Temp) → to ≡ Some t → n ≤ t.bytes) → q (CallTo (k.entry_of g)) ≡ true
+          → list_all q (call_code (home k.homes) k g to n kept) ≡ true
+      call_passes results g to n kept h l a =
+          let saved = by_fit (save_code k kept) (chained (fits sizes) (λ place. save_place k.homes place (kept place)) (register_places k.slots) (λ i b. save_fits i (kept i) b)) in
+          let loaded = by_fit (restore_code k kept) (chained (fits sizes) (λ place. restore_place k.homes place (kept place)) (register_places k.slots) (λ i b. restore_fits i (kept i) b)) in
+          let taken = by_fit (taken_code (home k.homes) to n) (taken_fits results g to n h l) in
+          let rest = joined q (taken_code (home k.homes) to n) (restore_code k kept) taken loaded in
+          joined q (save_code k kept) (CallTo (k.entry_of g) ∷ (taken_code (home k.homes) to n ++ restore_code k kept)) saved
+          (rw (a, rest) refl)
+
+      return_passes : (results : ℕ → ℕ) (f : ℕ) (is_main : Bool) (from : Option Temp) → IsResult results f k.slots from
+          → list_all q (return_code (home k.homes) is_main from) ≡ true
+      return_passes results f is_main from h =
+          joined q (result_code (home k.homes) is_main from) (Plain Ret ∷ [])
+          (by_fit (result_code (home k.homes) is_main from) (brought_fits results f is_main from h)) (rw (passes (Plain Ret) refl) refl)
+
+      wanted_few : (need : Need) (to : Option Temp) (t : Temp) → to ≡ Some t → wanted_result need to ≤ t.bytes
+      wanted_few need to t e = rw e (omega arith)
+
+      pub operation_passes : (results : ℕ → ℕ) (f : ℕ) (need : Need) (i : PlainIr) → IsCovered p results f k.slots i
+          → AcceptsLabels q k i → list_all q (op_code p.objects (home k.homes) k need i) ≡ true
+      operation_passes results f need (constant t n) h a =
+          by_fit (constant_code (home k.homes t) (low_bytes 16 n) (wanted need t))
+          (constant_fits sizes (home k.homes t) (low_bytes 16 n) (wanted need t) (low_home t (wanted need t) h (omega arith)))
+      operation_passes results f need (copy to from) h a =
+          let e = h.2 in
+          by_fit (move_code (home k.homes from) (home k.homes to) (wanted need to))
+          (move_fits (home k.homes from) (home k.homes to) (wanted need to) (low_home from (wanted need to) h.1 (omega arith))
+          (low_home to (wanted need to) h.0 (omega arith)))
+      operation_passes results f need (load_object t o offset) h a =
+          by_fit (copy_code (object_location p.objects o offset) (home k.homes t) t.bytes)
+          (copy_fits sizes (object_location p.objects o offset) (home k.homes t) t.bytes (stands o offset t.bytes h.1) (at_home t h.0))
+      operation_passes results f need (store_object o offset t) h a =
+          by_fit (copy_code (home k.homes t) (object_location p.objects o offset) t.bytes)
+          (copy_fits sizes (home k.homes t) (object_location p.objects o offset) t.bytes (at_home t h.0) (stands o offset t.bytes h.1))
+      operation_passes results f need (binary_op op ty mode to x aty y bty) h a =
+          by_fit (op_code p.objects (home k.homes) k need (binary_op op ty mode to x aty y bty))
+          (binary_fits (family_of op) to x y ty aty bty (is_signed aty) (is_signed bty) (wanted need to) h (omega arith))
+      operation_passes results f need (unary_op op ty mode to x) h a =
+          by_fit (unary_code op (home k.homes x) (home k.homes to) (wanted need to)) (unary_fits op to x ty (wanted need to) h (omega arith))
+      operation_passes results f need (conversion to ty mode x aty) h a =
+          by_fit (conversion_code (is_signed aty) (home k.homes x) (home k.homes to) x.bytes (wanted need to))
+          (convert_fits (is_signed aty) (home k.homes x) (home k.homes to) x.bytes (wanted need to) h.from.some (at_home x h.from)
+          (low_home to (wanted need to) h.result (omega arith)))
+      operation_passes results f need (label l) h a = rw a refl
+      operation_passes results f need (jump l) h a = rw a refl
+      operation_passes results f need (branch_zero t l) h a = branch_passes t (k.label_of l) h a
+      operation_passes results f need (call_function g to) h a =
+          call_passes results g to (wanted_result need to) (kept_need need (call_function g to)) h (wanted_few need to) a
+      operation_passes results f need (return_from from) h a = return_passes results f k.is_main from h
+      operation_passes results f need (address t o offset) h a = absurd h
+      operation_passes results f need (field ptr space offset) h a = absurd h
+      operation_passes results f need (load_at to ptr space) h a = absurd h
+      operation_passes results f need (store_at ptr space from) h a = absurd h
+      operation_passes results f need (port_in to port index width) h a = absurd h
+      operation_passes results f need (port_out from port index width) h a = absurd h
+
+      -- all operations
+
+      pub operations_pass : (results : ℕ → ℕ) (f : ℕ) (at : ℕ → Need) (code : List PlainIr)
+          → AreCovered p results f k.slots code → AllAccepted q k code
+          → list_all q (ops_code p.objects (home k.homes) k at code) ≡ true
+      operations_pass results f at [] h a = refl
+      operations_pass results f at (i ∷ code) h a =
+          joined q (op_code p.objects (home k.homes) k (needs at code) i) (ops_code p.objects (home k.homes) k at code)
+          (operation_passes results f (needs at code) i h.0 a.0) (operations_pass results f at code h.1 a.1)

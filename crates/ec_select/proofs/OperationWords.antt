@@ -1,0 +1,451 @@
+-- The words of operations' code.
+use Rattle.std.proofs.Common.{◌≡◌, ◌⊎◌, ℕ, zero, suc, ◌+◌, ◌-◌, ◌*◌, ◌≤◌, ◌==◌, Bool, true, false, List, [], ◌∷◌, ◌++◌}
+use Rattle.std.proofs.Common.{refl, subst, arith, leb-true, inl, inr}
+use Rattle.std.specs.Prelude.{min, nat_le, ◌||◌, if◌then◌else◌, Option, Some, None}
+use Rattle.std.specs.List.{AllByRecursion}
+use Rattle.std.proofs.Math.Nat.{mul-le-mul_left}
+use Rattle.std.proofs.lemmas.Bool.{le-leb, false≢true}
+use Rattle.std.proofs.lemmas.Bool.Decides.{nat_tests}
+use Rattle.ec_isa.specs.declared.instructions.Instr.TheVariants.{Ret}
+use Rattle.ec_asm.specs.declared.items.AsmItem.{AsmItem}
+use Rattle.ec_asm.specs.declared.items.AsmItem.TheVariants.{Plain, CallTo, BranchTo}
+use Rattle.ec_asm.specs.declared.pieces.Location.{Location}
+use Rattle.ec_asm.specs.declared.pieces.Location.TheVariants.{InRegisters, InMemory}
+use Rattle.ec_asm.specs.declared.pieces.Operator.{Operator}
+use Rattle.ec_asm.specs.declared.pieces.Operator.TheVariants.{Sum, Difference, BitAnd, BitOr, BitXor}
+use Rattle.ec_asm.specs.declared.pieces.Operator.TheVariants.{BitAnd, BitOr, BitXor}
+use Rattle.ec_asm.specs.Items.{chain, code_words}
+use Rattle.ec_asm.specs.Pieces.{copy_code, operate_code}
+use Rattle.ec_asm.specs.Pieces.{is_bitwise as is_bitwise_operator}
+use Rattle.ec_core.specs.declared.expressions.BinOp.{BinOp}
+use Rattle.ec_core.specs.declared.expressions.BinOp.TheVariants.{Add, Sub, Mul, Div, Rem, And, Or, Xor, Lt, Gt, Le, Ge}
+use Rattle.ec_core.specs.declared.expressions.BinOp.TheVariants.{Eq, Ne, Shl, Shr}
+use Rattle.ec_core.specs.declared.expressions.UnOp.{UnOp}
+use Rattle.ec_core.specs.declared.expressions.UnOp.TheVariants.{Minus, Invert}
+use Rattle.ec_core.specs.Operators.{same_type}
+use Rattle.ec_core.specs.Plain.{PlainType, integer, PlainProgram}
+use Rattle.ec_core.specs.Words.{widest, operation_words}
+use Rattle.ec_ir.specs.declared.operations.Temp.{Temp}
+use Rattle.ec_ir.specs.Costs.{op_words, is_bitwise, binary_words, unary_words, conversion_words, temp_bytes}
+use Rattle.ec_ir.specs.Costs.{code_words as operations_words}
+use Rattle.ec_ir.specs.Operations.{PlainIr, constant, copy, address, field, load_at, store_at, load_object}
+use Rattle.ec_ir.specs.Operations.{store_object, binary_op, unary_op, conversion, label, jump, branch_zero}
+use Rattle.ec_ir.specs.Operations.{call_function, return_from, port_in, port_out}
+use Rattle.ec_ir.specs.Temporaries.{low_bytes}
+use Rattle.ec_select_bytes.specs.Complements.{negation_code}
+use Rattle.ec_select_bytes.specs.ComplementLaws.{ComplementsHave}
+use Rattle.ec_select_bytes.specs.Laws.{ValuesHave}
+use Rattle.ec_select_bytes.specs.Values.{test_code, extend_code}
+use Rattle.ec_select_order.specs.declared.relations.Relation.{Relation}
+use Rattle.ec_select_order.specs.Laws.{RelationsHaveWords}
+use Rattle.ec_select_order.specs.Relations.{relation_code}
+use Rattle.ec_select_products.specs.Laws.{ProductsHaveWords}
+use Rattle.ec_select_products.specs.Products.{product_code}
+use Rattle.ec_select_quotients.specs.Signs.{quotient_code}
+use Rattle.ec_select_shifts.specs.declared.shifts.Direction.{Direction}
+use Rattle.ec_select_shifts.specs.declared.shifts.Direction.TheVariants.{Left, Right}
+use Rattle.ec_select_shifts.specs.Laws.{ShiftsHaveWords}
+use Rattle.ec_select_shifts.specs.Shifts.{shift_code, turn_words}
+use Rattle.ec_select_functions.specs.declared.families.Family.{Family}
+use Rattle.ec_select_functions.specs.declared.families.Family.TheVariants.{Combined, Compared, Multiplied, Shifted}
+use Rattle.ec_select_functions.specs.declared.families.Family.TheVariants.{Divided}
+use Rattle.ec_select_functions.specs.declared.homes.Homes.{Homes}
+use Rattle.ec_select_functions.specs.Code.{same_location, move_code, reversed_code, family_of, is_signed}
+use Rattle.ec_select_functions.specs.Code.{conversion_code, combined_code}
+use Rattle.ec_select_functions.specs.Code.{compared_code, multiplied_code, shift_of, shifted_bytes, turned_code}
+use Rattle.ec_select_functions.specs.Code.{shifted_code, long_code}
+use Rattle.ec_select_functions.specs.Code.{divided_code, binary_code, turn_code, unary_code, branch_code, Linkage}
+use Rattle.ec_select_functions.specs.Code.{place_register}
+use Rattle.ec_select_functions.specs.Code.{kept_bytes, save_place, restore_place, register_places, save_code}
+use Rattle.ec_select_functions.specs.Code.{restore_code, taken_code, call_code, result_code, return_code}
+use Rattle.ec_select_functions.specs.Code.{kept_need, op_code, ops_code}
+use Rattle.ec_select_functions.specs.Covered.{IsBinary, IsUnary, IsCovered, AreCovered}
+use Rattle.ec_select_functions.specs.Homes.{home, result_location}
+use Rattle.ec_select_functions.specs.Needs.{Need, wanted, wanted_result, needs}
+use Rattle.ec_select_functions.specs.Places.{object_location}
+use Rattle.ec_select.specs.InPlace.{IsInPlace}
+use Rattle.ec_select.proofs.Words.{joined_words, chained_words, copy_words_most, save_words_most, load_words_most}
+use Rattle.ec_select.proofs.Words.{operate_words_most, quotient_words}
+
+-- the words of the pieces, by the crates below
+pub record WordLaws : Type 0 where
+  pub values : ValuesHave
+  pub complements : ComplementsHave
+  pub relations : RelationsHaveWords
+  pub products : ProductsHaveWords
+  pub shifts : ShiftsHaveWords
+
+move_words : (p q : Location) (n : ℕ) → code_words (move_code p q n) ≤ 4 * n
+move_words p q n = by_place (same_location p q) where
+  by_place : (same : Bool) → code_words (if same then [] else copy_code p q n) ≤ 4 * n
+  by_place true = omega arith
+  by_place false = copy_words_most p q n
+
+same_place : (p : Location) → same_location p p ≡ true
+same_place (InRegisters r) = grind (arith, nat_tests)
+same_place (InMemory o k) = let a : (o == o) ≡ true = grind (arith, nat_tests) in let b : (k == k) ≡ true = grind (arith, nat_tests) in rw (a, b) refl
+
+-- a number that stands there already
+kept_words : (p q : Location) (n : ℕ) → p ≡ q → code_words (move_code p q n) ≡ 0
+kept_words p q n e =
+    let s : same_location p q ≡ true = subst (λ r. same_location p r ≡ true) e (same_place p) in rw s refl
+
+unless_none : (n most : ℕ) (code : List AsmItem) → code_words code ≤ most → code_words (if n == 0 then [] else code) ≤ most
+unless_none n most code h = by_count (n == 0) where
+  by_count : (none : Bool) → code_words (if none then [] else code) ≤ most
+  by_count true = omega arith
+  by_count false = h
+
+-- squares grow
+at_least_one : (b : ℕ) → 1 ≤ b → b ≤ b * b
+at_least_one b h = let m = mul-le-mul_left b h in omega (arith, m)
+
+module _ (laws : WordLaws) where
+  convert_words : (signed : Bool) (p q : Location) (bytes n : ℕ)
+      → code_words (conversion_code signed p q bytes n) ≤ 6 * n + 4
+  convert_words signed p q bytes n =
+      let a = move_words p q (min n bytes) in let b = (laws.values q 0 bytes n).2 signed in
+      omega (arith, joined_words (move_code p q (min n bytes)) (extend_code signed q bytes n), a, b)
+
+  -- no bytes, no code
+  convert_none : (signed : Bool) (p q : Location) (bytes : ℕ) → code_words (conversion_code signed p q bytes 0) ≡ 0
+  convert_none signed p q bytes =
+      let a = move_words p q (min 0 bytes) in let t : nat_le 0 bytes ≡ true = le-leb 0 bytes (omega arith) in
+      let b : code_words (extend_code signed q bytes 0) ≡ 0 = rw t refl in
+      omega (arith, joined_words (move_code p q (min 0 bytes)) (extend_code signed q bytes 0), a, b)
+
+  conversion_few : (signed : Bool) (p q : Location) (bytes n w : ℕ) → n ≤ w
+      → code_words (conversion_code signed p q bytes n) ≤ 10 * w
+  conversion_few signed p q bytes zero w l = let a = convert_none signed p q bytes in omega (arith, a)
+  conversion_few signed p q bytes (suc n) w l = let a = convert_words signed p q bytes (suc n) in omega (arith, a)
+
+  turn_words_few : (s : Direction) (p : Location) (n : ℕ) → turn_words s p n ≤ 7 * n
+  turn_words_few s (InRegisters r) n = omega arith
+  turn_words_few Left (InMemory o k) n = omega arith
+  turn_words_few (Right signed) (InMemory o k) n = omega arith
+
+  turn_most : (op : UnOp) (p : Location) (n : ℕ) → code_words (turn_code op p n) ≤ 1 + 10 * n
+  turn_most Minus p n = (laws.complements p n).1
+  turn_most Invert p n = let a = (laws.complements p n).0 in omega (arith, a)
+
+  shift_most : (s : Direction) (a b to : Location) (n : ℕ) → code_words (turned_code s a b to n) ≤ 11 * n + 7
+  shift_most s a b to n =
+      let x = move_words a to n in let y = move_words b (InRegisters 30) 1 in let z = laws.shifts s to n in
+      let w = turn_words_few s to n in
+      omega (
+        arith,
+        joined_words (move_code a to n) (move_code b (InRegisters 30) 1 ++ shift_code s to n),
+        joined_words (move_code b (InRegisters 30) 1) (shift_code s to n),
+        x,
+        y,
+        z,
+        w,
+      )
+
+  -- ---- binary operators
+
+  -- a number of bytes is within the widest of three types
+  first_within : (ty aty bty : PlainType) (signed : Bool) (n : ℕ) → ty ≡ integer signed n
+      → n ≤ widest (ty ∷ aty ∷ bty ∷ [])
+  first_within ty aty bty signed n e = rw e (omega arith)
+
+  second_within : (ty aty bty : PlainType) (signed : Bool) (n : ℕ) → aty ≡ integer signed n
+      → n ≤ widest (ty ∷ aty ∷ bty ∷ [])
+  second_within ty aty bty signed n e = rw e (omega arith)
+
+  some_within : (ty aty bty : PlainType) → 1 ≤ widest (ty ∷ aty ∷ bty ∷ [])
+  some_within ty aty bty = omega arith
+
+  reversed_most : (op : Operator) (a to : Location) (n : ℕ) → code_words (reversed_code op a to n) ≤ 17 * n + 1
+  reversed_most Sum a to n = let y = operate_words_most Sum a to n in omega (arith, y)
+  reversed_most BitAnd a to n = let y = operate_words_most BitAnd a to n in omega (arith, y)
+  reversed_most BitOr a to n = let y = operate_words_most BitOr a to n in omega (arith, y)
+  reversed_most BitXor a to n = let y = operate_words_most BitXor a to n in omega (arith, y)
+  reversed_most Difference a to n =
+      let y = operate_words_most Difference a to n in let z = (laws.complements to n).1 in
+      omega (arith, joined_words (operate_code Difference a to n) (negation_code to n), y, z)
+
+  combined_most : (op : Operator) (a b to : Location) (n : ℕ) → code_words (combined_code op a b to n) ≤ 17 * n + 1
+  combined_most op a b to n = by_place (same_location b to) where
+    by_place : (same : Bool)
+        → code_words (if same then reversed_code op a to n else move_code a to n ++ operate_code op b to n) ≤ 17 * n + 1
+    by_place true = reversed_most op a to n
+    by_place false =
+        let x = move_words a to n in let y = operate_words_most op b to n in
+        omega (arith, joined_words (move_code a to n) (operate_code op b to n), x, y)
+
+  -- so many words are within the row of w bytes
+  within : (words w : ℕ) → words ≤ 80 * w + 110 → 1 ≤ w → words ≤ operation_words w
+  within words w h some = let m = at_least_one w some in omega (arith, m)
+
+  compared_most : (rel : Relation) (signed : Bool) (p q r : Location) (bytes n : ℕ) → n ≤ 8
+      → code_words (compared_code rel signed p q r bytes n) ≤ 5 * bytes + 55
+  compared_most rel signed p q r bytes n l =
+      let truth = conversion_code false (InRegisters 30) r 1 n in
+      let x = laws.relations rel signed p q bytes in
+      let y = convert_words false (InRegisters 30) r 1 n in
+      unless_none n (5 * bytes + 55) (relation_code rel signed p q bytes ++ truth)
+      (omega (arith, joined_words (relation_code rel signed p q bytes) truth, x, y))
+
+  fewer_bytes : (up : Bool) (bytes n : ℕ) → n ≤ bytes → shifted_bytes up bytes n ≤ bytes
+  fewer_bytes true bytes n l = l
+  fewer_bytes false bytes n l = omega arith
+
+  -- the words of an operator that is not bitwise
+  within_row : (family : Family) (slots : ℕ) (to a b : Temp) (ty aty bty : PlainType) (left right : Bool)
+      (p q r : Location) (n : ℕ) → IsBinary family slots to a b ty aty bty → n ≤ to.bytes
+      → code_words (binary_code family left right p q r a.bytes n) ≤ operation_words (widest (ty ∷ aty ∷ bty ∷ []))
+  within_row (Combined op) slots to a b ty aty bty left right p q r n h l =
+      let x = first_within ty aty bty h.signed to.bytes h.result_type in
+      let y = combined_most op p q r n in
+      within (code_words (combined_code op p q r n)) (widest (ty ∷ aty ∷ bty ∷ [])) (omega (arith, x, y)) (some_within ty aty bty)
+  within_row (Compared rel false) slots to a b ty aty bty left right p q r n h l =
+      let x = second_within ty aty bty h.signed a.bytes h.left_type in
+      let few = h.result.most in
+      let y = compared_most rel left p q r a.bytes n (omega arith) in
+      within (code_words (compared_code rel left p q r a.bytes n)) (widest (ty ∷ aty ∷ bty ∷ [])) (omega (arith, x, y)) (some_within ty aty bty)
+  within_row (Compared rel true) slots to a b ty aty bty left right p q r n h l =
+      let x = second_within ty aty bty h.signed a.bytes h.left_type in
+      let few = h.result.most in
+      let y = compared_most rel left q p r a.bytes n (omega arith) in
+      within (code_words (compared_code rel left q p r a.bytes n)) (widest (ty ∷ aty ∷ bty ∷ [])) (omega (arith, x, y)) (some_within ty aty bty)
+  within_row Multiplied slots to a b ty aty bty left right p q r n h l =
+      let few = h.result_bytes in
+      let x = laws.products left right p q r n in
+      let y = unless_none n (9 + 2 * n) (product_code left right p q r n) x in
+      within (code_words (multiplied_code left right p q r n)) (widest (ty ∷ aty ∷ bty ∷ [])) (omega (arith, y)) (some_within ty aty bty)
+  within_row (Shifted up) slots to a b ty aty bty left right p q r n h l =
+      let i = h.0 in let same = i.same_bytes in
+      let x = first_within ty aty bty i.signed to.bytes i.result_type in
+      let m = shifted_bytes up a.bytes n in
+      let few = fewer_bytes up a.bytes n (omega arith) in
+      let y = shift_most (shift_of up left) p q r m in
+      let z = unless_none n (11 * m + 7) (turned_code (shift_of up left) p q r m) y in
+      within (code_words (shifted_code up left p q r a.bytes n)) (widest (ty ∷ aty ∷ bty ∷ [])) (omega (arith, x, few, z)) (some_within ty aty bty)
+  within_row (Divided rem) slots to a b ty aty bty left right p q r n h l =
+      let i = h.0 in let same = i.left_bytes in let some = i.left.some in
+      let x = first_within ty aty bty i.signed to.bytes i.result_type in
+      let top = a.bytes - 1 in
+      let whole : suc top ≤ a.bytes = omega arith in
+      let y = move_words p r (suc top) in
+      let z = quotient_words laws.complements rem left r q top in
+      let w : code_words (long_code rem left p q r top) ≤ 63 * suc top + 40 =
+      omega (arith, joined_words (move_code p r (suc top)) (quotient_code rem left r q top), y, z) in
+      let v = unless_none n (63 * suc top + 40) (long_code rem left p q r top) w in
+      within (code_words (divided_code rem left p q r a.bytes n)) (widest (ty ∷ aty ∷ bty ∷ [])) (omega (arith, x, whole, v)) (some_within ty aty bty)
+
+  -- a bitwise operator whose result comes to the place of its first operand
+  bitwise_words : (op : Operator) → is_bitwise_operator op ≡ true → (h : Homes) (to a : Temp) (q : Location) (n : ℕ)
+      → to.at ≡ a.at → a.bytes ≡ to.bytes → code_words (combined_code op (home h a) q (home h to) n) ≤ 7 * n
+  bitwise_words op k h to a q n same bytes = by_place (same_location q (home h to)) where
+    around : (op : Operator) → is_bitwise_operator op ≡ true → code_words (reversed_code op (home h a) (home h to) n) ≤ 7 * n
+    around Sum k = absurd (false≢true k)
+    around Difference k = absurd (false≢true k)
+    around BitAnd k = operate_words_most BitAnd (home h a) (home h to) n
+    around BitOr k = operate_words_most BitOr (home h a) (home h to) n
+    around BitXor k = operate_words_most BitXor (home h a) (home h to) n
+
+    by_place : (there : Bool)
+        → code_words (if there then reversed_code op (home h a) (home h to) n
+        else move_code (home h a) (home h to) n ++ operate_code op q (home h to) n) ≤ 7 * n
+    by_place true = around op k
+    by_place false =
+        let e : home h a ≡ home h to = rw (bytes, ← same) refl in
+        let x = kept_words (home h a) (home h to) n e in
+        let y = operate_words_most op q (home h to) n in
+        omega (arith, joined_words (move_code (home h a) (home h to) n) (operate_code op q (home h to) n), x, y)
+
+  bitwise_row : (op : BinOp) (ty aty bty : PlainType) (signed : Bool) (n : ℕ) → is_bitwise op ≡ true → ty ≡ integer signed n
+      → 10 * n ≤ binary_words op ty aty bty
+  bitwise_row op ty aty bty signed n b e = rw (b, e) (omega arith)
+
+  other_row : (op : BinOp) (ty aty bty : PlainType) → is_bitwise op ≡ false
+      → binary_words op ty aty bty ≡ operation_words (widest (ty ∷ aty ∷ bty ∷ []))
+  other_row op ty aty bty b = rw b refl
+
+  pub binary_most : (op : BinOp) (slots : ℕ) (h : Homes) (to a b : Temp) (ty aty bty : PlainType) (left right : Bool) (n : ℕ)
+      → IsBinary (family_of op) slots to a b ty aty bty → n ≤ to.bytes → (is_bitwise op ≡ true → to.at ≡ a.at)
+      → code_words (binary_code (family_of op) left right (home h a) (home h b) (home h to) a.bytes n)
+      ≤ binary_words op ty aty bty
+  binary_most And slots h to a b ty aty bty left right n i l same =
+      let x = bitwise_words BitAnd refl h to a (home h b) n (same refl) i.left_bytes in
+      let y = bitwise_row And ty aty bty i.signed to.bytes refl i.result_type in
+      omega (arith, x, y)
+  binary_most Or slots h to a b ty aty bty left right n i l same =
+      let x = bitwise_words BitOr refl h to a (home h b) n (same refl) i.left_bytes in
+      let y = bitwise_row Or ty aty bty i.signed to.bytes refl i.result_type in
+      omega (arith, x, y)
+  binary_most Xor slots h to a b ty aty bty left right n i l same =
+      let x = bitwise_words BitXor refl h to a (home h b) n (same refl) i.left_bytes in
+      let y = bitwise_row Xor ty aty bty i.signed to.bytes refl i.result_type in
+      omega (arith, x, y)
+  binary_most Add slots h to a b ty aty bty left right n i l same =
+      within_row (family_of Add) slots to a b ty aty bty left right (home h a) (home h b) (home h to) n i l
+  binary_most Sub slots h to a b ty aty bty left right n i l same =
+      within_row (family_of Sub) slots to a b ty aty bty left right (home h a) (home h b) (home h to) n i l
+  binary_most Mul slots h to a b ty aty bty left right n i l same =
+      within_row (family_of Mul) slots to a b ty aty bty left right (home h a) (home h b) (home h to) n i l
+  binary_most Div slots h to a b ty aty bty left right n i l same =
+      within_row (family_of Div) slots to a b ty aty bty left right (home h a) (home h b) (home h to) n i l
+  binary_most Rem slots h to a b ty aty bty left right n i l same =
+      within_row (family_of Rem) slots to a b ty aty bty left right (home h a) (home h b) (home h to) n i l
+  binary_most Lt slots h to a b ty aty bty left right n i l same =
+      within_row (family_of Lt) slots to a b ty aty bty left right (home h a) (home h b) (home h to) n i l
+  binary_most Gt slots h to a b ty aty bty left right n i l same =
+      within_row (family_of Gt) slots to a b ty aty bty left right (home h a) (home h b) (home h to) n i l
+  binary_most Le slots h to a b ty aty bty left right n i l same =
+      within_row (family_of Le) slots to a b ty aty bty left right (home h a) (home h b) (home h to) n i l
+  binary_most Ge slots h to a b ty aty bty left right n i l same =
+      within_row (family_of Ge) slots to a b ty aty bty left right (home h a) (home h b) (home h to) n i l
+  binary_most Eq slots h to a b ty aty bty left right n i l same =
+      within_row (family_of Eq) slots to a b ty aty bty left right (home h a) (home h b) (home h to) n i l
+  binary_most Ne slots h to a b ty aty bty left right n i l same =
+      within_row (family_of Ne) slots to a b ty aty bty left right (home h a) (home h b) (home h to) n i l
+  binary_most Shl slots h to a b ty aty bty left right n i l same =
+      within_row (family_of Shl) slots to a b ty aty bty left right (home h a) (home h b) (home h to) n i l
+  binary_most Shr slots h to a b ty aty bty left right n i l same =
+      within_row (family_of Shr) slots to a b ty aty bty left right (home h a) (home h b) (home h to) n i l
+
+  -- ---- other operations
+
+  unary_most : (op : UnOp) (slots : ℕ) (p q : Location) (to a : Temp) (ty : PlainType) (n : ℕ) → IsUnary slots to a ty
+      → n ≤ to.bytes → code_words (unary_code op p q n) ≤ unary_words ty
+  unary_most op slots p q to a ty n h l =
+      let x = move_words p q n in let y = turn_most op q n in
+      let z : 60 + 40 * to.bytes ≤ unary_words ty = rw h.result_type (omega arith) in
+      omega (arith, joined_words (move_code p q n) (turn_code op q n), x, y, z)
+
+  conversion_row : (ty aty : PlainType) (s t : Bool) (m n : ℕ) → ty ≡ integer s m → aty ≡ integer t n
+      → 10 * m ≤ conversion_words ty aty
+  conversion_row ty aty s t m n e d = rw (e, d) (by_type (same_type (integer s m) (integer t n))) where
+    by_type : (same : Bool) → 10 * m ≤ (if same || true then 10 * widest (integer s m ∷ integer t n ∷ [])
+        else 100 + 40 * widest (integer s m ∷ integer t n ∷ []))
+    by_type true = omega arith
+    by_type false = omega arith
+
+  branch_most : (p : Location) (bytes l : ℕ) → code_words (branch_code p bytes l) ≤ 6 + 3 * bytes
+  branch_most p bytes l =
+      let x = (laws.values p 0 bytes bytes).1 in
+      omega (arith, joined_words (test_code p bytes) (BranchTo true 1 l ∷ []), x)
+
+  -- ---- calls and returns
+
+  kept_few : (h : Homes) (place n : ℕ) → kept_bytes h place n ≤ h.width
+  kept_few h place n = by_depth (nat_le (h.width * (place + 1)) 12) where
+    by_depth : (near : Bool) → (if near then min n h.width else 0) ≤ h.width
+    by_depth true = omega arith
+    by_depth false = omega arith
+
+  -- three places have registers of four bytes
+  kept_next : (h : Homes) (place n : ℕ) → h.width ≡ 4
+      → 2 * kept_bytes h place n + 8 * min place 3 ≤ 8 * min (suc place) 3
+  kept_next h place n e = by_depth (nat_le (h.width * (place + 1)) 12) refl where
+    by_depth : (near : Bool) → nat_le (h.width * (place + 1)) 12 ≡ near
+        → 2 * (if near then min n h.width else 0) + 8 * min place 3 ≤ 8 * min (suc place) 3
+    by_depth true q =
+        let d : h.width * (place + 1) ≤ 12 = leb-true (h.width * (place + 1)) 12 q in
+        let g : 4 * (place + 1) ≤ 12 = subst (λ (w : ℕ). w * (place + 1) ≤ 12) e d in omega arith
+    by_depth false q = omega arith
+
+  -- what is kept of all places takes at most 24 words, where each byte takes two
+  module _ (h : Homes) (need : Need) (body : ℕ → List AsmItem)
+      (each : (place : ℕ) → code_words (body place) ≤ 2 * kept_bytes h place (need place)) where
+    kept_of_four : h.width ≡ 4 → (m : ℕ) → code_words (chain body m) ≤ 8 * min m 3
+    kept_of_four e zero = omega arith
+    kept_of_four e (suc m) =
+        let a = kept_of_four e m in let b = each m in let c = kept_next h m (need m) e in
+        omega (arith, joined_words (chain body m) (body m), a, b, c)
+
+    kept_most : (h.width ≡ 2) ⊎ (h.width ≡ 4) → (m : ℕ) → m ≤ 6 → code_words (chain body m) ≤ 24
+    kept_most (inl e) m l =
+        let a = chained_words body m 4 (λ i. let b = each i in let c = kept_few h i (need i) in omega arith) in omega (arith, a)
+    kept_most (inr e) m l = let a = kept_of_four e m in omega (arith, a)
+
+  saved_most : (k : Linkage) (need : Need) → (k.homes.width ≡ 2) ⊎ (k.homes.width ≡ 4)
+      → code_words (save_code k need) ≤ 24
+  saved_most k need w =
+      kept_most k.homes need (λ place. save_place k.homes place (need place))
+      (λ place. save_words_most (place_register k.homes place) k.homes.scratch (16 * place + 8) (kept_bytes k.homes place (need place)))
+      w (register_places k.slots) (omega arith)
+
+  loaded_most : (k : Linkage) (need : Need) → (k.homes.width ≡ 2) ⊎ (k.homes.width ≡ 4)
+      → code_words (restore_code k need) ≤ 24
+  loaded_most k need w =
+      kept_most k.homes need (λ place. restore_place k.homes place (need place))
+      (λ place. load_words_most k.homes.scratch (16 * place + 8) (place_register k.homes place) (kept_bytes k.homes place (need place)))
+      w (register_places k.slots) (omega arith)
+
+  taken_most : (home : Temp → Location) (to : Option Temp) (need : Need)
+      → code_words (taken_code home to (wanted_result need to)) ≤ 5 * temp_bytes to
+  taken_most home None need = omega arith
+  taken_most home (Some t) need =
+      let a = move_words (result_location t.bytes) (home t) (wanted need t) in omega (arith, a)
+
+  call_most : (home : Temp → Location) (k : Linkage) (f : ℕ) (to : Option Temp) (need kept : Need)
+      → (k.homes.width ≡ 2) ⊎ (k.homes.width ≡ 4)
+      → code_words (call_code home k f to (wanted_result need to) kept) ≤ 60 + 5 * temp_bytes to
+  call_most home k f to need kept w =
+      let a = saved_most k kept w in let b = taken_most home to need in let c = loaded_most k kept w in
+      let taken = taken_code home to (wanted_result need to) in
+      omega (
+        arith,
+        joined_words (save_code k kept) (CallTo (k.entry_of f) ∷ (taken ++ restore_code k kept)),
+        joined_words (CallTo (k.entry_of f) ∷ []) (taken ++ restore_code k kept),
+        joined_words taken (restore_code k kept),
+        a,
+        b,
+        c,
+      )
+
+  brought_most : (home : Temp → Location) (is_main : Bool) (from : Option Temp)
+      → code_words (result_code home is_main from) ≤ 6 + 5 * temp_bytes from
+  brought_most home true None = let a = (laws.values (InRegisters 24) 0 2 2).0 in omega (arith, a)
+  brought_most home false None = omega arith
+  brought_most home is_main (Some t) =
+      let a = move_words (home t) (result_location t.bytes) t.bytes in omega (arith, a)
+
+  return_most : (home : Temp → Location) (is_main : Bool) (from : Option Temp)
+      → code_words (return_code home is_main from) ≤ 40 + 5 * temp_bytes from
+  return_most home is_main from =
+      let a = brought_most home is_main from in
+      omega (arith, joined_words (result_code home is_main from) (Plain Ret ∷ []), a)
+
+  -- ---- all operations of a function
+
+  module _ (p : PlainProgram) (results : ℕ → ℕ) (f : ℕ) (k : Linkage) (width : (k.homes.width ≡ 2) ⊎ (k.homes.width ≡ 4)) where
+    operation_most : (need : Need) (i : PlainIr) → IsCovered p results f k.slots i → IsInPlace i
+        → code_words (op_code p.objects (home k.homes) k need i) ≤ op_words i
+    operation_most need (constant t n) h q =
+        let a = (laws.values (home k.homes t) (low_bytes 16 n) (wanted need t) (wanted need t)).0 in omega (arith, a)
+    operation_most need (copy to from) h q =
+        let a = move_words (home k.homes from) (home k.homes to) (wanted need to) in omega (arith, a)
+    operation_most need (load_object t o offset) h q =
+        let a = copy_words_most (object_location p.objects o offset) (home k.homes t) t.bytes in omega (arith, a)
+    operation_most need (store_object o offset t) h q =
+        let a = copy_words_most (home k.homes t) (object_location p.objects o offset) t.bytes in omega (arith, a)
+    operation_most need (binary_op op ty mode to a aty b bty) h q =
+        binary_most op k.slots k.homes to a b ty aty bty (is_signed aty) (is_signed bty) (wanted need to) h (omega arith) q
+    operation_most need (unary_op op ty mode to a) h q =
+        unary_most op k.slots (home k.homes a) (home k.homes to) to a ty (wanted need to) h (omega arith)
+    operation_most need (conversion to ty mode a aty) h q =
+        let x = conversion_few (is_signed aty) (home k.homes a) (home k.homes to) a.bytes (wanted need to) to.bytes (omega arith) in
+        let y = conversion_row ty aty h.signed h.from_signed to.bytes a.bytes h.result_type h.from_type in omega (arith, x, y)
+    operation_most need (label l) h q = omega arith
+    operation_most need (jump l) h q = omega arith
+    operation_most need (branch_zero t l) h q = branch_most (home k.homes t) t.bytes (k.label_of l)
+    operation_most need (call_function g to) h q =
+        call_most (home k.homes) k g to need (kept_need need (call_function g to)) width
+    operation_most need (return_from from) h q = return_most (home k.homes) k.is_main from
+    operation_most need (address t o offset) h q = absurd h
+    operation_most need (field ptr space offset) h q = absurd h
+    operation_most need (load_at to ptr space) h q = absurd h
+    operation_most need (store_at ptr space from) h q = absurd h
+    operation_most need (port_in to port index width) h q = absurd h
+    operation_most need (port_out from port index width) h q = absurd h
+
+    pub operations_most : (at : ℕ → Need) (code : List PlainIr) → AreCovered p results f k.slots code
+        → AllByRecursion IsInPlace code → code_words (ops_code p.objects (home k.homes) k at code) ≤ operations_words code
+    operations_most at [] h q = omega arith
+    operations_most at (i ∷ code) h q =
+        let a = operation_most (needs at code) i h.0 q.0 in let b = operations_most at code h.1 q.1 in
+        omega (arith, joined_words (op_code p.objects (home k.homes) k (needs at code) i) (ops_code p.objects (home k.homes) k at code), a, b)

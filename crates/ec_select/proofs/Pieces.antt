@@ -1,0 +1,163 @@
+-- The pieces of code fit.
+use Rattle.std.proofs.Common.{◌≡◌, ℕ, zero, suc, ◌+◌, ◌-◌, ◌<◌, ◌≤◌, Bool, true, false, []}
+use Rattle.std.proofs.Common.{◌∷◌, ◌++◌, refl, arith}
+use Rattle.std.specs.Prelude.{nat_le, if◌then◌else◌}
+use Rattle.std.proofs.lemmas.Bool.{lt-ltb, le-leb}
+use Rattle.ec_isa.specs.declared.instructions.Instr.{Instr}
+use Rattle.ec_isa.specs.declared.instructions.Instr.TheVariants.{Eor, Add, Sbc, Mov, Ldi}
+use Rattle.ec_isa.specs.Table.{in_table}
+use Rattle.ec_asm.specs.declared.items.AsmItem.TheVariants.{Plain}
+use Rattle.ec_asm.specs.declared.pieces.Location.{Location}
+use Rattle.ec_asm.specs.declared.pieces.Location.TheVariants.{InRegisters, InMemory}
+use Rattle.ec_asm.specs.declared.pieces.Operator.{Operator}
+use Rattle.ec_asm.specs.declared.pieces.Operator.TheVariants.{Sum, Difference, BitAnd, BitOr, BitXor}
+use Rattle.ec_asm.specs.Pieces.{copy_byte, copy_code, binary_byte, instruction, operate_byte, operate_code, compares}
+use Rattle.ec_asm.specs.Pieces.{compare_byte, compare_code}
+use Rattle.ec_asm.specs.Valid.{Sizes}
+use Rattle.ec_select_bytes.specs.Complements.{complement_byte, complement_code, carry_byte, carry_code, negation_code}
+use Rattle.ec_select_bytes.specs.Values.{byte_of, constant_byte, constant_code, test_byte, test_code, put_byte}
+use Rattle.ec_select_bytes.specs.Values.{take_byte, fill_code, puts_code, extend_code}
+use Rattle.ec_select_order.specs.declared.relations.Relation.{Relation}
+use Rattle.ec_select_order.specs.declared.relations.Relation.TheVariants.{Less, NotLess, Equal, NotEqual}
+use Rattle.ec_select_order.specs.Relations.{truth_code, relation_code}
+use Rattle.ec_select.proofs.Fitting.{fits, Fit, joined, chained, ByteFits, BytesFit, fewer_fit}
+use Rattle.ec_select.proofs.Fitting.{two_fit, reg}
+
+module _ (sizes : Sizes) where
+  -- ---- copies
+
+  copy_byte_fits : (p q : Location) (i : ℕ) → ByteFits sizes p i → ByteFits sizes q i → Fit sizes (copy_byte p q i)
+  copy_byte_fits (InRegisters a) (InRegisters b) i x y = rw (reg (b + i) y, reg (a + i) x) refl
+  copy_byte_fits (InMemory o k) (InRegisters b) i x y = rw (reg (b + i) y, x) refl
+  copy_byte_fits (InRegisters a) (InMemory o k) i x y = rw (reg (a + i) x, y) refl
+  copy_byte_fits (InMemory o k) (InMemory p j) i x y = rw (x, y) refl
+
+  pub copy_fits : (p q : Location) (n : ℕ) → BytesFit sizes p n → BytesFit sizes q n → Fit sizes (copy_code p q n)
+  copy_fits p q n x y =
+      chained (fits sizes) (copy_byte p q) n (λ i l. copy_byte_fits p q i (x i l) (y i l))
+
+  -- ---- operators
+
+  -- an instruction of two registers is one of the table
+  abbrev IsOfRegisters : (ℕ → ℕ → Instr) → Type 0
+  IsOfRegisters op = (d r : ℕ) → d < 32 → r < 32 → in_table (op d r) ≡ true
+
+  instruction_fits : (op : Operator) (i : ℕ) → IsOfRegisters (instruction op i)
+  instruction_fits Sum zero d r x y = two_fit d r x y
+  instruction_fits Sum (suc i) d r x y = two_fit d r x y
+  instruction_fits Difference zero d r x y = two_fit d r x y
+  instruction_fits Difference (suc i) d r x y = two_fit d r x y
+  instruction_fits BitAnd i d r x y = two_fit d r x y
+  instruction_fits BitOr i d r x y = two_fit d r x y
+  instruction_fits BitXor i d r x y = two_fit d r x y
+
+  binary_byte_fits : (op : ℕ → ℕ → Instr) → IsOfRegisters op → (p q : Location) (i : ℕ) → ByteFits sizes p i
+      → ByteFits sizes q i → Fit sizes (binary_byte op p q i)
+  binary_byte_fits op h (InRegisters a) (InRegisters b) i x y = rw (h (b + i) (a + i) y x) refl
+  binary_byte_fits op h (InMemory o k) (InRegisters b) i x y = rw (x, h (b + i) 0 y (omega arith)) refl
+  binary_byte_fits op h (InRegisters a) (InMemory o k) i x y = rw (y, h 0 (a + i) (omega arith) x) refl
+  binary_byte_fits op h (InMemory o k) (InMemory p j) i x y = rw (x, y, h 0 1 (omega arith) (omega arith)) refl
+
+  pub operate_fits : (op : Operator) (p q : Location) (n : ℕ) → BytesFit sizes p n → BytesFit sizes q n
+      → Fit sizes (operate_code op p q n)
+  operate_fits op p q n x y =
+      chained (fits sizes) (operate_byte op p q) n
+      (λ i l. binary_byte_fits (instruction op i) (instruction_fits op i) p q i (x i l) (y i l))
+
+  -- ---- comparisons
+
+  compares_fits : (i : ℕ) → IsOfRegisters (compares i)
+  compares_fits zero d r x y = two_fit d r x y
+  compares_fits (suc i) d r x y = two_fit d r x y
+
+  compare_byte_fits : (p q : Location) (i : ℕ) → ByteFits sizes p i → ByteFits sizes q i
+      → Fit sizes (compare_byte p q i)
+  compare_byte_fits (InRegisters a) (InRegisters b) i x y = rw (compares_fits i (b + i) (a + i) y x) refl
+  compare_byte_fits (InMemory o k) (InRegisters b) i x y = rw (x, compares_fits i (b + i) 0 y (omega arith)) refl
+  compare_byte_fits (InRegisters a) (InMemory o k) i x y = rw (y, compares_fits i 0 (a + i) (omega arith) x) refl
+  compare_byte_fits (InMemory o k) (InMemory p j) i x y =
+      rw (x, y, compares_fits i 0 1 (omega arith) (omega arith)) refl
+
+  pub compare_fits : (p q : Location) (n : ℕ) → BytesFit sizes p n → BytesFit sizes q n
+      → Fit sizes (compare_code p q n)
+  compare_fits p q n x y = chained (fits sizes) (compare_byte p q) n (λ i l. compare_byte_fits p q i (x i l) (y i l))
+
+  truth_fits : (r : Relation) (signed : Bool) → Fit sizes (truth_code r signed)
+  truth_fits Less true = refl
+  truth_fits Less false = refl
+  truth_fits NotLess true = refl
+  truth_fits NotLess false = refl
+  truth_fits Equal signed = refl
+  truth_fits NotEqual signed = refl
+
+  pub relation_fits : (r : Relation) (signed : Bool) (p q : Location) (n : ℕ) → BytesFit sizes p n
+      → BytesFit sizes q n → Fit sizes (relation_code r signed p q n)
+  relation_fits r signed p q n x y =
+      joined (fits sizes) (compare_code q p n) (truth_code r signed) (compare_fits q p n y x) (truth_fits r signed)
+
+  -- ---- constants, tests, extensions
+
+  constant_byte_fits : (p : Location) (byte i : ℕ) → byte < 256 → ByteFits sizes p i → Fit sizes (constant_byte p byte i)
+  constant_byte_fits (InMemory o k) byte i b x = rw (lt-ltb byte 256 b, x) refl
+  constant_byte_fits (InRegisters r) byte i b x = by_register (nat_le 16 (r + i)) refl where
+    by_register : (high : Bool) → nat_le 16 (r + i) ≡ high → Fit sizes (if high then Plain (Ldi (r + i) byte) ∷ []
+        else Plain (Ldi 30 byte) ∷ Plain (Mov (r + i) 30) ∷ [])
+    by_register true q = rw (q, reg (r + i) x, lt-ltb byte 256 b) refl
+    by_register false q = rw (reg (r + i) x, lt-ltb byte 256 b) refl
+
+  pub constant_fits : (p : Location) (number n : ℕ) → BytesFit sizes p n → Fit sizes (constant_code p number n)
+  constant_fits p number n x =
+      chained (fits sizes) (λ i. constant_byte p (byte_of number i) i) n
+      (λ i l. constant_byte_fits p (byte_of number i) i (omega arith) (x i l))
+
+  test_byte_fits : (p : Location) (i : ℕ) → ByteFits sizes p i → Fit sizes (test_byte p i)
+  test_byte_fits (InRegisters r) i x = rw (compares_fits i (r + i) 1 x (omega arith)) refl
+  test_byte_fits (InMemory o k) i x = rw (x, compares_fits i 0 1 (omega arith) (omega arith)) refl
+
+  pub test_fits : (p : Location) (n : ℕ) → BytesFit sizes p n → Fit sizes (test_code p n)
+  test_fits p n x = chained (fits sizes) (test_byte p) n (λ i l. test_byte_fits p i (x i l))
+
+  put_byte_fits : (p : Location) (i : ℕ) → ByteFits sizes p i → Fit sizes (put_byte p i)
+  put_byte_fits (InRegisters r) i x = rw (reg (r + i) x) refl
+  put_byte_fits (InMemory o k) i x = rw x refl
+
+  take_byte_fits : (p : Location) (i : ℕ) → ByteFits sizes p i → Fit sizes (take_byte p i)
+  take_byte_fits (InRegisters r) i x = rw (reg (r + i) x) refl
+  take_byte_fits (InMemory o k) i x = rw x refl
+
+  fill_fits : (signed : Bool) (p : Location) (m : ℕ) → ByteFits sizes p (m - 1) → Fit sizes (fill_code signed p m)
+  fill_fits true p m x =
+      joined (fits sizes) (take_byte p (m - 1)) (Plain (Add 0 0) ∷ Plain (Sbc 0 0) ∷ []) (take_byte_fits p (m - 1) x) refl
+  fill_fits false p m x = refl
+
+  puts_fits : (p : Location) (m count : ℕ) → BytesFit sizes p (m + count) → Fit sizes (puts_code p m count)
+  puts_fits p m count x =
+      chained (fits sizes) (λ i. put_byte p (m + i)) count (λ i l. put_byte_fits p (m + i) (x (m + i) (omega arith)))
+
+  pub extend_fits : (signed : Bool) (p : Location) (m n : ℕ) → 1 ≤ m → BytesFit sizes p n
+      → Fit sizes (extend_code signed p m n)
+  extend_fits signed p m n some x = by_bytes (nat_le n m) refl where
+    by_bytes : (few : Bool) → nat_le n m ≡ few
+        → Fit sizes (if few then [] else fill_code signed p m ++ puts_code p m (n - m))
+    by_bytes true q = refl
+    by_bytes false q =
+        joined (fits sizes) (fill_code signed p m) (puts_code p m (n - m))
+        (fill_fits signed p m (x (m - 1) (grind (arith, le-leb n m)))) (puts_fits p m (n - m) (fewer_fit sizes p (m + (n - m)) n (grind (arith, le-leb n m)) x))
+
+  -- ---- complements and negations
+
+  complement_byte_fits : (p : Location) (i : ℕ) → ByteFits sizes p i → Fit sizes (complement_byte p i)
+  complement_byte_fits (InRegisters r) i x = rw (reg (r + i) x) refl
+  complement_byte_fits (InMemory o k) i x = rw x refl
+
+  carry_byte_fits : (p : Location) (i : ℕ) → ByteFits sizes p i → Fit sizes (carry_byte p i)
+  carry_byte_fits (InRegisters r) i x = rw (reg (r + i) x) refl
+  carry_byte_fits (InMemory o k) i x = rw x refl
+
+  pub complement_fits : (p : Location) (n : ℕ) → BytesFit sizes p n → Fit sizes (complement_code p n)
+  complement_fits p n x = chained (fits sizes) (complement_byte p) n (λ i l. complement_byte_fits p i (x i l))
+
+  pub negation_fits : (p : Location) (n : ℕ) → BytesFit sizes p n → Fit sizes (negation_code p n)
+  negation_fits p n x =
+      joined (fits sizes) (complement_code p n) (Plain (Eor 1 1) ∷ carry_code p n) (complement_fits p n x)
+      (chained (fits sizes) (carry_byte p) n (λ i l. carry_byte_fits p i (x i l)))

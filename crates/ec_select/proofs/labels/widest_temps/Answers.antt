@@ -1,0 +1,8 @@
+use Rattle.ec_ir.specs.Operations.{plain_ir}
+use Rattle.ec_select.proofs.Lists.{drop_back}
+use Rattle.ec_select.proofs.labels.widest_temps.Goals as goal
+
+pub loop-k-preserved : goal.loop-k-preserved
+loop-k-preserved c =
+    let step = drop_back plain_ir c.args.code.now c.loop-k.k c.index-code-k.result c.loop-k-test.true c.loop-k.auto.k c.index-code-k.is in
+    rw step (cc)

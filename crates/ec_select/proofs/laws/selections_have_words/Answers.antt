@@ -1,0 +1,11 @@
+use Rattle.ec_select.proofs.ProgramWords.{selections_have_words}
+use Rattle.ec_select.proofs.laws.selections_have_words.Goals as goal
+
+pub returns : goal.returns
+returns c = selections_have_words (record {
+  values = c.values_are_straight.ensures.words;
+  complements = c.complements_are_straight.ensures.words;
+  relations = c.relations_have_words.ensures;
+  products = c.products_have_words.ensures;
+  shifts = c.shifts_have_words.ensures;
+}) c.startup_has_words.ensures c.near_items_are_short.ensures.less

@@ -1,0 +1,64 @@
+-- The code of a whole program: the code before main, and behind it that of each function.
+use Rattle.std.specs.Prelude.{ℕ, ◌+◌, Bool, true, false, List, [], ◌∷◌, ◌++◌, Option, Some, None, length, slice_get}
+use Rattle.std.specs.Prelude.{if◌then◌else◌}
+use Rattle.ec_space.specs.declared.space.Bank.{Bank}
+use Rattle.ec_space.specs.declared.space.Bank.TheVariants.{Data as DataBank}
+use Rattle.ec_asm.specs.declared.items.AsmItem.{AsmItem}
+use Rattle.ec_asm.specs.declared.items.AsmItem.TheVariants.{Label}
+use Rattle.ec_asm.specs.Items.{chain}
+use Rattle.ec_core.specs.Layout.{size_of_type}
+use Rattle.ec_core.specs.Plain.{PlainStorage, static, PlainObject, PlainStruct}
+use Rattle.ec_ir.specs.Operations.{PlainIrFunction, PlainIrProgram}
+use Rattle.ec_select_functions.specs.Code.{function_code}
+use Rattle.ec_select_functions.specs.Laws.{Made, linkage_of}
+use Rattle.ec_select_functions.specs.Needs.{Need}
+use Rattle.ec_startup.specs.Startup.{startup_code}
+use Rattle.ec_startup.specs.declared.spans.Span.{Span}
+use Rattle.ec_select.specs.Labels.{homes_of, entry_label, function_label, first_label}
+
+-- ---- the code before main
+
+-- a static object of the data bank has initial bytes
+abbrev pub has_initial_bytes : PlainStorage → Bank → Bool
+has_initial_bytes (static inits) DataBank = true
+has_initial_bytes storage home = false
+
+-- object o is set from the initial bytes that have the number 2,048 + o
+abbrev pub span_of : List PlainStruct → (o : ℕ) → PlainObject → List Span
+span_of structs o d =
+    if has_initial_bytes d.storage d.home
+    then record { from = 2048 + o; to = o; bytes = size_of_type structs d.ty } ∷ [] else []
+
+-- the spans of objects that are numbered from o on
+abbrev pub spans_from : List PlainStruct → (o : ℕ) → List PlainObject → List Span
+spans_from structs o [] = []
+spans_from structs o (d ∷ ds) = span_of structs o d ++ spans_from structs (o + 1) ds
+
+abbrev pub spans_of : PlainIrProgram → List Span
+spans_of p = spans_from p.structs 0 p.objects
+
+-- ---- functions
+
+-- the function with number f, where a table tells what is needed at its labels
+abbrev pub made_with : PlainIrProgram → (ℕ → Need) → ℕ → PlainIrFunction → Made
+made_with p labels f g = record {
+  homes = homes_of f g.code;
+  label_of = λ l. first_label p.functions f + l;
+  labels = labels;
+}
+
+abbrev pub code_of : PlainIrProgram → (ℕ → Need) → ℕ → Option PlainIrFunction → List AsmItem
+code_of p labels f None = []
+code_of p labels f (Some g) =
+    function_code p.objects (linkage_of p function_label f g.slots (made_with p labels f g)) f labels g.code
+
+-- the code of the first n functions, for each of which a table tells what is needed at its labels
+abbrev pub functions_code : PlainIrProgram → (ℕ → ℕ → Need) → ℕ → List AsmItem
+functions_code p tables n = chain (λ f. code_of p (tables f) f (slice_get p.functions f)) n
+
+-- ---- the program
+
+abbrev pub program_code : PlainIrProgram → (ℕ → ℕ → Need) → List AsmItem
+program_code p tables =
+    Label entry_label ∷ (startup_code (spans_of p) (function_label p.main)
+    ++ functions_code p tables (length p.functions))

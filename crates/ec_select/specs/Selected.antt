@@ -1,0 +1,46 @@
+-- Programs that have code, and what their code is.
+use Rattle.std.specs.Prelude.{◌≡◌, ℕ, ◌<◌, List, ◌++◌, map, Some, slice_get, length}
+use Rattle.ec_asm.specs.declared.items.AsmItem.{AsmItem}
+use Rattle.ec_asm.specs.declared.items.AsmProgram.{AsmProgram}
+use Rattle.ec_ir.specs.Operations.{PlainIrFunction, PlainIrProgram, data_of}
+use Rattle.ec_live.specs.Least.{IsLeast}
+use Rattle.ec_near.specs.Near.{near_items}
+use Rattle.ec_select_functions.specs.Covered.{AreCovered}
+use Rattle.ec_select_functions.specs.Needs.{Need, IsLive}
+use Rattle.ec_select.specs.Labels.{entry_label}
+use Rattle.ec_select.specs.Program.{code_of, functions_code, program_code}
+
+-- All operations of a program have code. `results` are the bytes of the results of its functions
+pub record HasCode (p : PlainIrProgram) : Type 0 where
+  pub results : ℕ → ℕ
+  pub main_result : results p.main ≡ 2
+  pub functions : (f : ℕ) (g : PlainIrFunction) → slice_get p.functions f ≡ Some g
+      → AreCovered (data_of p) results f g.slots g.code
+
+-- the tables tell for each of the first n functions what is needed at its labels, and no more
+pub record AreTables (p : PlainIrProgram) (tables : ℕ → ℕ → Need) (n : ℕ) : Type 0 where
+  pub live : (f : ℕ) (g : PlainIrFunction) → f < n → slice_get p.functions f ≡ Some g → IsLive (tables f) g.code
+  pub least : (f : ℕ) (g : PlainIrFunction) → f < n → slice_get p.functions f ≡ Some g
+      → IsLeast g.slots (tables f) g.code
+
+-- the items are the code of the function with number f, behind others
+pub record IsAdded (p : PlainIrProgram) (f : ℕ) (g : PlainIrFunction) (before items : List AsmItem) : Type 0 where
+  pub labels : ℕ → Need
+  pub live : IsLive labels g.code
+  pub least : IsLeast g.slots labels g.code
+  pub items_are : items ≡ before ++ code_of p labels f (Some g)
+
+-- the items are the code of the first n functions, behind others
+pub record AreWritten (p : PlainIrProgram) (n : ℕ) (before : List AsmItem) (items : List AsmItem) : Type 0 where
+  pub tables : ℕ → ℕ → Need
+  pub are_tables : AreTables p tables n
+  pub items_are : items ≡ before ++ functions_code p tables n
+
+-- The items are the code of the program, by what is needed at the labels. Jumps, calls and branches to labels that are
+-- near are in one word
+pub record IsSelection (p : PlainIrProgram) (asm : AsmProgram) : Type 0 where
+  pub tables : ℕ → ℕ → Need
+  pub are_tables : AreTables p tables (length p.functions)
+  pub items : asm.items.items ≡ near_items (program_code p tables)
+  pub frames : asm.frames.items ≡ map (λ g. g.slots) p.functions
+  pub entry : asm.entry ≡ entry_label

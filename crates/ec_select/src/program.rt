@@ -1,0 +1,64 @@
+//! The code of a program.
+ghost use Rattle.std.specs.Prelude.{◌≡◌, ◌≤◌, ◌+◌, map, IfOk};
+ghost use Rattle.ec_asm.specs.Items.{code_words};
+ghost use Rattle.ec_asm.specs.Valid.{ValidAsm};
+ghost use Rattle.ec_core.specs.Weight.{objects_weight};
+ghost use Rattle.ec_core.specs.Words.{program_words};
+ghost use Rattle.ec_ir.specs.Costs.{functions_words};
+ghost use Rattle.ec_ir.specs.Operations.{plain_ir_program};
+ghost use Rattle.ec_ir.specs.Valid.{ValidIr};
+ghost use Rattle.ec_select.specs.InPlace.{AreInPlace};
+ghost use Rattle.ec_select.specs.Laws.{object_sizes};
+ghost use Rattle.ec_select.specs.Selected.{HasCode, IsSelection};
+
+use crate::functions::add_functions;
+use crate::laws::{selections_are_valid, selections_have_words};
+use crate::spans::spans_of;
+use ec_asm::{AsmItem, AsmProgram};
+use ec_ir::IrProgram;
+use ec_near::near;
+use ec_space::{NoMemory, Seq};
+use ec_startup::startup;
+use std::alloc::Global;
+
+/// For each function the places of its temporaries.
+fn frames_of(alloc: Global, ir: &IrProgram) -> Result<Seq<u16>, NoMemory>
+    ensures { IfOk result (λ frames. frames.items ≡ map (λ g. g.slots) (plain_ir_program ir.now).functions) }
+{
+    let mut frames = Seq::new(alloc);
+    for g in ir.funcs.as_slice() {
+        frames.push(g.slots)?;
+    }
+    Ok(frames)
+}
+
+/// The code of a program whose operations all have code: what runs before `main`, and behind it each function. Jumps,
+/// calls and branches to labels that are near take one word.
+///
+/// It can be placed, with the sizes of the program's objects and 64 work bytes. Where operators have their results in
+/// place, it has at most the words that the operations may take and those of the rows of the program and its objects.
+/// Or the answer is that memory ran out.
+pub fn select(alloc: Global, ir: &IrProgram) -> Result<AsmProgram, NoMemory>
+    requires valid { ValidIr (plain_ir_program ir.now) }
+    requires code { HasCode (plain_ir_program ir.now) }
+    ensures code { IfOk result (λ asm. IsSelection (plain_ir_program ir.now) asm) }
+    ensures valid { IfOk result (λ asm. ValidAsm (object_sizes (plain_ir_program ir.now)) 64 asm) }
+    ensures words { AreInPlace (plain_ir_program ir.now) → IfOk result (λ asm. code_words asm.items.items
+        ≤ program_words + objects_weight (plain_ir_program ir.now).objects
+        + functions_words (plain_ir_program ir.now).functions) }
+{
+    selections_are_valid();
+    selections_have_words();
+    let mut items = Seq::new(alloc);
+    items.push(AsmItem::Label(0))?;
+    let spans = spans_of(alloc, ir)?;
+    startup(&mut items, spans.as_slice(), 1 + u64::from(ir.main))?;
+    add_functions(alloc, &mut items, ir)?;
+    let short = near(alloc, &items)?;
+    let frames = frames_of(alloc, ir)?;
+    Ok(AsmProgram {
+        items: short,
+        frames,
+        entry: 0,
+    })
+}

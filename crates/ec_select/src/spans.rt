@@ -1,0 +1,51 @@
+//! The initial bytes that are copied before `main`.
+ghost use Rattle.std.specs.Prelude.{◌≡◌, ◌++◌, ◌<◌, map, IfOk, OnOk, Some, slice_get};
+ghost use Rattle.ec_core.specs.Plain.{plain_object, plain_storage, plain_struct};
+ghost use Rattle.ec_ir.specs.Operations.{plain_ir_program};
+ghost use Rattle.ec_ir.specs.Valid.{ValidIr};
+ghost use Rattle.ec_select.specs.Program.{has_initial_bytes, span_of, spans_of};
+
+use ec_core::{Obj, Storage, size_of};
+use ec_ir::IrProgram;
+use ec_space::{Bank, NoMemory, Seq};
+use ec_startup::Span;
+use std::alloc::Global;
+
+/// Whether an object is static and kept in the data bank.
+fn has_initial_bytes(obj: &Obj) -> bool
+    ensures { result ≡ has_initial_bytes (plain_storage obj.now.storage) obj.now.home }
+{
+    match (&obj.storage, obj.home) {
+        (Storage::Static(_), Bank::Data) => true,
+        _ => false,
+    }
+}
+
+/// Appends the span of object `o` of a program, if it has one.
+fn add_span(spans: &mut Seq<Span>, ir: &IrProgram, o: usize, obj: &Obj) -> Result<(), NoMemory>
+    requires valid { ValidIr (plain_ir_program ir.now) }
+    requires is { slice_get (plain_ir_program ir.now).objects o ≡ Some (plain_object obj.now) }
+    ensures { OnOk result (spans.new.items
+        ≡ spans.old.items ++ span_of (map plain_struct ir.now.structs.items) o (plain_object obj.now)) }
+{
+    if has_initial_bytes(obj) {
+        spans.push(Span {
+            from: 2048 + o as u16,
+            to: o as u16,
+            bytes: size_of(&ir.structs, &obj.ty) as u16,
+        })?;
+    }
+    Ok(())
+}
+
+/// The spans of the objects of a program.
+pub(crate) fn spans_of(alloc: Global, ir: &IrProgram) -> Result<Seq<Span>, NoMemory>
+    requires { ValidIr (plain_ir_program ir.now) }
+    ensures { IfOk result (λ spans. spans.items ≡ spans_of (plain_ir_program ir.now)) }
+{
+    let mut spans = Seq::new(alloc);
+    for (o, obj) in ir.objs.as_slice().iter().enumerate() {
+        add_span(&mut spans, ir, o, obj)?;
+    }
+    Ok(spans)
+}

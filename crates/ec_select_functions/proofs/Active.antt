@@ -1,0 +1,275 @@
+-- The function that runs, and what is set aside for those that wait for it.
+use Rattle.std.proofs.Common.{◌≡◌, ℕ, ◌+◌, ◌-◌, ◌*◌, ◌<◌, ◌≤◌, ◌⊎◌, ⊎_elim, Bool, true, ◌&&◌, ◌||◌, List, [], ◌∷◌}
+use Rattle.std.proofs.Common.{Some, length, subst, arith, leb-true, ltb-true, Contains}
+use Rattle.std.specs.Prelude.{nat_le, nat_lt, slice_get}
+use Rattle.std.proofs.lemmas.Bool.{and_parts, and_from, or_cases, or_left, or_right, lt-ltb, le-leb, cases_lt}
+use Rattle.ec_asm.specs.View.{View, pair}
+use Rattle.ec_asm.specs.Change.{Env, Kind, Own, Object, Stacked, sp}
+use Rattle.ec_asm.specs.Pieces.{Outside}
+use Rattle.ec_core.specs.Layout.{size_of_type}
+use Rattle.ec_core.specs.Plain.{PlainStorage, static, local, param, register}
+use Rattle.ec_core.specs.TypeLaws.{LeavesFillTheirTypes}
+use Rattle.ec_ir.specs.declared.operations.Temp.{Temp}
+use Rattle.ec_ir.specs.Operations.{PlainIrFunction, PlainIrProgram, data_of}
+use Rattle.ec_ir.specs.Valid.{ValidIr, CallsTo, calls, calls_through, called_in}
+use Rattle.ec_select_functions.specs.declared.homes.Homes.{Homes}
+use Rattle.ec_select_functions.specs.Homes.{home, HasHome}
+use Rattle.ec_select_functions.specs.Laws.{AreSelected, IsSelected, CallsOn}
+use Rattle.ec_select_functions.specs.Places.{NumberLeaf, Apart, Layout}
+use Rattle.ec_select_functions.specs.Standing.{home_address, ObjectStands}
+use Rattle.ec_select_functions.proofs.Moves.{outside_row}
+use Rattle.ec_select_functions.proofs.Setting.{Setting}
+use Rattle.ec_select_functions.proofs.Standing.{InRegister, InScratch, kinds, ends_low, homes_are_laid_out}
+use Rattle.ec_select_functions.proofs.Standing.{leaf_where, lies}
+
+-- the code of a valid program, and bytes of the stack from one address to another
+pub record World (p : PlainIrProgram) (e : Env) (place entry_of : ℕ → ℕ) : Type 0 where
+  pub selected : AreSelected p e place entry_of
+  pub valid : ValidIr p
+  pub fill : LeavesFillTheirTypes
+  pub low : ℕ
+  pub top : ℕ
+  pub high : 256 ≤ low
+  pub below : top < 65536
+  pub stacked : (k : ℕ) → low ≤ k → k ≤ top → e.kind k ≡ Stacked
+
+-- ---- rows of bytes
+
+abbrev pub in_row : (a n k : ℕ) → Bool
+in_row a n k = nat_le a k && nat_lt k (a + n)
+
+pub row_parts : (a n k : ℕ) → in_row a n k ≡ true → (a ≤ k) × (k < a + n)
+row_parts a n k h = let r = and_parts (nat_le a k) (nat_lt k (a + n)) h in (leb-true a k r.0, ltb-true k (a + n) r.1)
+
+pub row_from : (a n k : ℕ) → a ≤ k → k < a + n → in_row a n k ≡ true
+row_from a n k l m = and_from (nat_le a k) (nat_lt k (a + n)) (le-leb a k l) (lt-ltb k (a + n) m)
+
+-- what is set aside by a call: the scratch memory of the caller, and the return address
+abbrev pub aside_by : (aside : ℕ → Bool) → (scratch size s : ℕ) → ℕ → Bool
+aside_by aside scratch size s k = aside k || (in_row scratch size k || in_row (s - 1) 2 k)
+
+pub aside_before : (aside : ℕ → Bool) (scratch size s k : ℕ) → aside k ≡ true → aside_by aside scratch size s k ≡ true
+aside_before aside scratch size s k h = or_left (aside k) (in_row scratch size k || in_row (s - 1) 2 k) h
+
+pub aside_scratch : (aside : ℕ → Bool) (scratch size s k : ℕ) → scratch ≤ k → k < scratch + size
+    → aside_by aside scratch size s k ≡ true
+aside_scratch aside scratch size s k l m =
+    or_right (aside k) (in_row scratch size k || in_row (s - 1) 2 k) (or_left (in_row scratch size k) (in_row (s - 1) 2 k) (row_from scratch size k l m))
+
+pub aside_stack : (aside : ℕ → Bool) (scratch size s k : ℕ) → s - 1 ≤ k → k < s - 1 + 2
+    → aside_by aside scratch size s k ≡ true
+aside_stack aside scratch size s k l m =
+    or_right (aside k) (in_row scratch size k || in_row (s - 1) 2 k) (or_right (in_row scratch size k) (in_row (s - 1) 2 k) (row_from (s - 1) 2 k l m))
+
+-- one of the three
+aside_cases : (aside : ℕ → Bool) (scratch size s k : ℕ) (P : Type 0) → aside_by aside scratch size s k ≡ true
+    → (aside k ≡ true → P) → (scratch ≤ k → k < scratch + size → P) → (s - 1 ≤ k → k < s - 1 + 2 → P) → P
+aside_cases aside scratch size s k P h f g i =
+    ⊎_elim f
+    (λ q. ⊎_elim
+    (λ r. let z = row_parts scratch size k r in g z.0 z.1)
+    (λ r. let z = row_parts (s - 1) 2 k r in i z.0 z.1)
+    (or_cases (in_row scratch size k) (in_row (s - 1) 2 k) q))
+    (or_cases (aside k) (in_row scratch size k || in_row (s - 1) 2 k) h)
+
+-- ---- kinds that differ
+
+pub own_is_not_stacked : (k : Kind) → k ≡ Own → k ≡ Stacked → ⊥
+own_is_not_stacked k q r = cc
+
+object_is_not_stacked : (k : Kind) → k ≡ Object → k ≡ Stacked → ⊥
+object_is_not_stacked k q r = cc
+
+module _ (p : PlainIrProgram) (e : Env) (place entry_of : ℕ → ℕ) (w : World p e place entry_of) where
+  abbrev pub homes_of : ℕ → Homes
+  homes_of f = (w.selected.made f).homes
+
+  abbrev pub scratch_of : ℕ → ℕ
+  scratch_of f = w.selected.scratch f
+
+  abbrev pub base_of : ℕ → Temp → ℕ
+  base_of f t = home_address (homes_of f) (scratch_of f) t
+
+  abbrev pub leaf_at : NumberLeaf (data_of p) → ℕ
+  leaf_at l = place l.object + l.at
+
+  -- The function f runs with the stack pointer s. What is set aside stands apart from its own scratch memory and that of
+  -- all which it calls, from leaves, and from the bytes that it pushes; and there are bytes enough to push
+  pub record Active (f : ℕ) (g : PlainIrFunction) (s : ℕ) (aside : ℕ → Bool) (was : ℕ → ℕ) : Type 0 where
+    pub is : slice_get p.functions f ≡ Some g
+    pub high : (k : ℕ) → aside k ≡ true → 32 ≤ k
+    pub leaves : (l : NumberLeaf (data_of p)) (k : ℕ) → aside k ≡ true → Outside (leaf_at l) l.bytes k
+    pub own : (k : ℕ) → aside k ≡ true → Outside (scratch_of f) (16 * g.slots) k
+    pub others : (b : ℕ) (h : PlainIrFunction) → CallsTo p b f → slice_get p.functions b ≡ Some h → (k : ℕ)
+        → aside k ≡ true → Outside (scratch_of b) (16 * h.slots) k
+    pub free : (k : ℕ) → aside k ≡ true → w.low ≤ k → s < k
+    pub pointer_low : aside 93 ≡ true
+    pub pointer_high : aside 94 ≡ true
+    pub pointer : pair was 93 ≡ s
+    pub room : (fs : List ℕ) → CallsOn p f fs → w.low + 2 * length fs ≤ s + 1
+    pub below : s + 2 ≤ w.top
+
+  abbrev pub selected_of : (f : ℕ) (g : PlainIrFunction) → slice_get p.functions f ≡ Some g
+      → IsSelected p e place entry_of w.selected.results f g (w.selected.made f) (scratch_of f)
+  selected_of f g q = w.selected.each f g q
+
+  pub layout_of : (f : ℕ) (g : PlainIrFunction) → slice_get p.functions f ≡ Some g
+      → Layout (data_of p) e g.slots (home (homes_of f)) (base_of f) place
+  layout_of f g q =
+      let x = selected_of f g q in
+      homes_are_laid_out w.fill p w.valid e g.slots (homes_of f) (scratch_of f) place x.scratch_stands x.objects_stand
+
+  pub leaf_is : (f : ℕ) (g : PlainIrFunction) → slice_get p.functions f ≡ Some g → (l : NumberLeaf (data_of p))
+      → (leaf_at l + l.bytes ≤ 8) ⊎ (256 ≤ leaf_at l)
+  leaf_is f g q l =
+      let x = selected_of f g q in
+      leaf_where w.fill p w.valid e g.slots (homes_of f) (scratch_of f) place x.scratch_stands x.objects_stand l
+
+  -- what is set aside is none of a temporary's
+  pub temp_aside : (f : ℕ) (g : PlainIrFunction) (k : ℕ) (t : Temp) → slice_get p.functions f ≡ Some g → 32 ≤ k
+      → Outside (scratch_of f) (16 * g.slots) k → HasHome g.slots t → Outside (base_of f t) t.bytes k
+  temp_aside f g k t q high own it =
+      let x = selected_of f g q in
+      let within = it.within in
+      let most = it.most in
+      ⊎_elim
+      (λ (r : InRegister (homes_of f) (scratch_of f) t). let z = ends_low e g.slots (homes_of f) (scratch_of f) x.scratch_stands t r in (λ l. omega arith))
+      (λ (r : InScratch (homes_of f) (scratch_of f) t). rw (r.address) (λ l. let z = own (omega arith) in omega arith))
+      (kinds (homes_of f) (scratch_of f) t)
+
+  abbrev pub setting_of : (f : ℕ) (g : PlainIrFunction) (s : ℕ) (aside : ℕ → Bool) (was : ℕ → ℕ) → Active f g s aside was
+      → Setting (data_of p) e g.slots (home (homes_of f)) (base_of f) place
+  setting_of f g s aside was a = record {
+    layout = layout_of f g a.is;
+    aside = aside;
+    was = was;
+    high = a.high;
+    temps_aside = λ t k it q. temp_aside f g k t a.is (a.high k q) (a.own k q) it;
+    leaves_aside = a.leaves;
+  }
+
+  -- ---- bytes of the stack are none of scratch memory and of leaves
+
+  pub scratch_kind : (f : ℕ) (g : PlainIrFunction) → slice_get p.functions f ≡ Some g → (k : ℕ) → scratch_of f ≤ k
+      → k < scratch_of f + 16 * g.slots → e.kind k ≡ Own
+  scratch_kind f g q k l m =
+      let x = selected_of f g q in
+      let i : scratch_of f + (k - scratch_of f) ≡ k = omega arith in
+      subst (λ j. e.kind j ≡ Own) i (x.scratch_stands.kind (k - scratch_of f) (omega arith))
+
+  pub stack_scratch : (f : ℕ) (g : PlainIrFunction) → slice_get p.functions f ≡ Some g → (k : ℕ) → e.kind k ≡ Stacked
+      → Outside (scratch_of f) (16 * g.slots) k
+  stack_scratch f g q k stacked l =
+      ⊎_elim
+      (λ (m : k < scratch_of f + 16 * g.slots). absurd (own_is_not_stacked (e.kind k) (scratch_kind f g q k l m) stacked))
+      (λ (m : scratch_of f + 16 * g.slots ≤ k). m)
+      (cases_lt k (scratch_of f + 16 * g.slots))
+
+  pub stack_leaf : (f : ℕ) (g : PlainIrFunction) → slice_get p.functions f ≡ Some g → (l : NumberLeaf (data_of p)) (k : ℕ)
+      → 256 ≤ k → e.kind k ≡ Stacked → Outside (leaf_at l) l.bytes k
+  stack_leaf f g q l k high stacked u =
+      let x = selected_of f g q in
+      let n = size_of_type p.structs l.declared.ty in
+      let inside = (lies w.fill p w.valid e g.slots (homes_of f) (scratch_of f) place x.scratch_stands x.objects_stand l).inside in
+      ⊎_elim
+      (λ (m : k < leaf_at l + l.bytes). absurd (by_storage l.declared.storage n inside (x.objects_stand.each l.object l.declared l.is_object l.in_data) m))
+      (λ (m : leaf_at l + l.bytes ≤ k). m)
+      (cases_lt k (leaf_at l + l.bytes))
+    where
+      in_object : (n : ℕ) → l.at + l.bytes ≤ n → ((i : ℕ) → i < n → e.kind (place l.object + i) ≡ Object)
+          → k < leaf_at l + l.bytes → ⊥
+      in_object n inside f m =
+          let i : place l.object + (k - place l.object) ≡ k = omega arith in
+          object_is_not_stacked (e.kind k) (subst (λ j. e.kind j ≡ Object) i (f (k - place l.object) (omega arith))) stacked
+
+      by_storage : (storage : PlainStorage) (n : ℕ) → l.at + l.bytes ≤ n → ObjectStands e l.object n (place l.object) storage
+          → k < leaf_at l + l.bytes → ⊥
+      by_storage (static inits) n inside x m = in_object n inside (λ i q. (x.1 i q).1) m
+      by_storage (local j) n inside x m = in_object n inside (λ i q. (x.1 i q).1) m
+      by_storage (param j) n inside x m = in_object n inside (λ i q. (x.1 i q).1) m
+      by_storage (register first) n inside x m = let z = x.0 in let y = x.2 in absurd (omega arith)
+
+  -- no byte of a leaf is the stack's
+  pub leaf_not_stacked : (f : ℕ) (g : PlainIrFunction) → slice_get p.functions f ≡ Some g → (l : NumberLeaf (data_of p))
+      (i : ℕ) → i < l.bytes → e.kind (leaf_at l + i) ≡ Stacked → 256 ≤ leaf_at l + i → ⊥
+  leaf_not_stacked f g q l i m stacked high =
+      let z = stack_leaf f g q l (leaf_at l + i) high stacked (omega arith) in
+      absurd (omega arith)
+
+  -- nor one of scratch memory
+  pub leaf_outside_scratch : (f : ℕ) (g : PlainIrFunction) → slice_get p.functions f ≡ Some g → (l : NumberLeaf (data_of p))
+      (i : ℕ) → i < l.bytes → Outside (scratch_of f) (16 * g.slots) (leaf_at l + i)
+  leaf_outside_scratch f g q l i m u =
+      let x = selected_of f g q in
+      let n = size_of_type p.structs l.declared.ty in
+      let inside = (lies w.fill p w.valid e g.slots (homes_of f) (scratch_of f) place x.scratch_stands x.objects_stand l).inside in
+      let r = x.objects_stand.scratch_apart l.object l.declared l.is_object l.in_data in
+      ⊎_elim
+      (λ (z : place l.object < scratch_of f). let y = r.left z in absurd (omega arith))
+      (λ (z : scratch_of f ≤ place l.object). let y = r.right z in omega arith)
+      (cases_lt (place l.object) (scratch_of f))
+
+  -- a row that stands apart
+  row_outside : (a m b n k : ℕ) → Apart a m b n → b ≤ k → k < b + n → Outside a m k
+  row_outside a m b n k x l r =
+      let i : b + (k - b) ≡ k = omega arith in
+      subst (λ j. Outside a m j) i (outside_row a m b n (k - b) x (omega arith))
+
+  row_outside_back : (a m b n k : ℕ) → Apart b n a m → b ≤ k → k < b + n → Outside a m k
+  row_outside_back a m b n k x l r q =
+      ⊎_elim
+      (λ (z : b < a). let y = x.left z in absurd (omega arith))
+      (λ (z : a ≤ b). let y = x.right z in omega arith)
+      (cases_lt b a)
+
+  -- ---- a call
+
+  -- there are two bytes to push
+  pub has_room : (f : ℕ) (g : PlainIrFunction) (s : ℕ) (aside : ℕ → Bool) (was : ℕ → ℕ) → Active f g s aside was
+      → (b : ℕ) → Contains (called_in g.code) b → w.low + 1 ≤ s
+  has_room f g s aside was a b there =
+      let r : w.low + 2 * length (b ∷ []) ≤ s + 1 = a.room (b ∷ []) (rw (a.is) there, tt) in
+      omega arith
+
+  pub called : (f : ℕ) (g : PlainIrFunction) (s : ℕ) (aside : ℕ → Bool) (was : ℕ → ℕ) → Active f g s aside was
+      → (b : ℕ) (h : PlainIrFunction) → Contains (called_in g.code) b → slice_get p.functions b ≡ Some h → (u : View)
+      → sp u ≡ s - 2 → Active b h (s - 2) (aside_by aside (scratch_of f) (16 * g.slots) s) u.at
+  called f g s aside was a b h there is u pointer =
+      let first = has_room f g s aside was a b there in
+      let high = w.high in
+      let top = w.below in
+      let last = a.below in
+      let x = selected_of f g a.is in
+      let outside = x.scratch_stands.high in
+      let to : CallsTo p b f = calls f g a.is there in
+      record {
+        is = is;
+        high = λ k q. aside_cases aside (scratch_of f) (16 * g.slots) s k (32 ≤ k) q (λ r. a.high k r) (λ l m. omega arith) (λ l m. omega arith);
+        leaves = λ l k q. aside_cases aside (scratch_of f) (16 * g.slots) s k (Outside (leaf_at l) l.bytes k) q (λ r. a.leaves l k r) (λ i m. leaf_scratch l k i m) (λ i m. stack_leaf f g a.is l k (omega arith) (w.stacked k (omega arith) (omega arith)));
+        own = λ k q. aside_cases aside (scratch_of f) (16 * g.slots) s k (Outside (scratch_of b) (16 * h.slots) k) q (λ r. a.others b h to is k r) (λ l m. row_outside_back (scratch_of b) (16 * h.slots) (scratch_of f) (16 * g.slots) k (w.selected.apart f b g h to a.is is) l m) (λ l m. stack_scratch b h is k (w.stacked k (omega arith) (omega arith)));
+        others = λ c i r z k q. (let through : CallsTo p c f = calls_through f b g a.is there r in
+            aside_cases aside (scratch_of f) (16 * g.slots) s k (Outside (scratch_of c) (16 * i.slots) k) q (λ r. a.others c i through z k r) (λ l m. row_outside_back (scratch_of c) (16 * i.slots) (scratch_of f) (16 * g.slots) k (w.selected.apart f c g i through a.is z) l m) (λ l m. stack_scratch c i z k (w.stacked k (omega arith) (omega arith))));
+        free = λ k q l. aside_cases aside (scratch_of f) (16 * g.slots) s k (s - 2 < k) q (λ r. let z = a.free k r l in omega arith) (λ i m. scratch_free k l i m) (λ i m. omega arith);
+        pointer_low = aside_before aside (scratch_of f) (16 * g.slots) s 93 a.pointer_low;
+        pointer_high = aside_before aside (scratch_of f) (16 * g.slots) s 94 a.pointer_high;
+        pointer = pointer;
+        room = λ fs on. (let r : w.low + 2 * length (b ∷ fs) ≤ s + 1 = a.room (b ∷ fs) (rw (a.is) there, on) in omega arith);
+        below = omega arith;
+      }
+    where
+      leaf_scratch : (l : NumberLeaf (data_of p)) (k : ℕ) → scratch_of f ≤ k → k < scratch_of f + 16 * g.slots
+          → Outside (leaf_at l) l.bytes k
+      leaf_scratch l k i m q =
+          let x = selected_of f g a.is in
+          let inside = (lies w.fill p w.valid e g.slots (homes_of f) (scratch_of f) place x.scratch_stands x.objects_stand l).inside in
+          let z = row_outside (place l.object) (size_of_type p.structs l.declared.ty) (scratch_of f) (16 * g.slots) k (x.objects_stand.scratch_apart l.object l.declared l.is_object l.in_data) i m in
+          let y = z (omega arith) in
+          omega arith
+
+      scratch_free : (k : ℕ) → w.low ≤ k → scratch_of f ≤ k → k < scratch_of f + 16 * g.slots → s - 2 < k
+      scratch_free k l i m =
+          let last = a.below in
+          ⊎_elim
+          (λ (z : w.top < k). omega arith)
+          (λ (z : k ≤ w.top). absurd (own_is_not_stacked (e.kind k) (scratch_kind f g a.is k i m) (w.stacked k l z)))
+          (cases_lt w.top k)

@@ -1,0 +1,313 @@
+-- Programs of several functions: the machine reaches all that the operations show, and stays within it.
+use Rattle.std.proofs.Common.{◌≡◌, ℕ, zero, suc, ◌+◌, ◌-◌, ◌*◌, ◌%◌, ◌<◌, ◌≤◌, ⊎_elim, Bool, true, ◌||◌, List, []}
+use Rattle.std.proofs.Common.{refl, sym, ap, ◌∙◌, subst, arith, Option, Some, None, ℤ, eqb-true}
+use Rattle.std.specs.Prelude.{◌==◌, nat_le, slice_get}
+use Rattle.std.specs.Int.{cast_signed, w16}
+use Rattle.std.proofs.lemmas.Bool.{cases_lt, le-leb, or_cases, or_right}
+use Rattle.ec_runs.specs.Behaviours.{Behaviour, Running, Ended, Reached, Reaches, seen_as}
+use Rattle.ec_runs.proofs.Runs.{what_reaches_stays_within}
+use Rattle.ec_isa.specs.declared.instructions.Instr.TheVariants.{Break}
+use Rattle.ec_avr.specs.declared.machine.Access.{Access}
+use Rattle.ec_avr.specs.Machine.{State as MachineState}
+use Rattle.ec_avr.specs.Runs.{MachineFault}
+use Rattle.ec_avr.specs.State.{raised}
+use Rattle.ec_asm.specs.View.{View, pair}
+use Rattle.ec_asm.specs.Change.{Env, sp}
+use Rattle.ec_asm.specs.Items.{HasAt}
+use Rattle.ec_asm.specs.Pieces.{Outside, value}
+use Rattle.ec_asm.specs.Run.{run, is_safe, fetch, back_at, popped, Running as VRunning, Ended as VEnded}
+use Rattle.ec_asm.specs.Shows.{Shows, Fits, RunsAs}
+use Rattle.ec_asm.specs.Behaves.{noted_run}
+use Rattle.ec_asm.specs.Takes.{Goes}
+use Rattle.ec_asm.specs.Laws.{MachineRunsAsView, NotedRunsAreRuns}
+use Rattle.ec_asm.proofs.Behaves.{goes_on_noted, ends_noted}
+use Rattle.ec_asm.proofs.Ending.{runs_end}
+use Rattle.ec_core.specs.declared.values.Undefined.{Undefined}
+use Rattle.ec_core.specs.declared.values.Value.{Value}
+use Rattle.ec_core.specs.Meaning.{behaviour_of, state_of, number_of}
+use Rattle.ec_core.specs.Plain.{PlainProgram}
+use Rattle.ec_core.specs.State.{Inputs, State, Outcome, got, more, undefined}
+use Rattle.ec_core.specs.TypeLaws.{LeavesFillTheirTypes}
+use Rattle.ec_ir.specs.Meaning.{meaning, start, enter, exec, leave, run as ir_run}
+use Rattle.ec_ir.specs.Operations.{PlainIrFunction, PlainIrProgram, data_of}
+use Rattle.ec_ir.specs.Temporaries.{Content, bits, points, Held}
+use Rattle.ec_ir.specs.Valid.{ValidIr}
+use Rattle.ec_select_functions.specs.Code.{ops_code}
+use Rattle.ec_select_functions.specs.Homes.{home, result_register}
+use Rattle.ec_select_functions.specs.Laws.{HoldsStart, AreSelected, IsEntered, linkage_of, within_steps}
+use Rattle.ec_select_functions.specs.Laws.{HoldsUnlessFailed, ShowsOperations, CodeFollowsOperations}
+use Rattle.ec_select_functions.specs.Needs.{needs}
+use Rattle.ec_select_functions.specs.Places.{NumberLeaf}
+use Rattle.ec_select_functions.specs.Relation.{accesses, HoldsContent, Matches}
+use Rattle.ec_select_functions.proofs.Active.{World, Active, in_row, row_parts, row_from, homes_of, scratch_of}
+use Rattle.ec_select_functions.proofs.Active.{base_of, leaf_at, leaf_is, setting_of, selected_of, stack_scratch}
+use Rattle.ec_select_functions.proofs.Active.{stack_leaf}
+use Rattle.ec_select_functions.proofs.Called.{Statement, call_follows}
+use Rattle.ec_select_functions.proofs.Follow.{Follows, stay}
+use Rattle.ec_select_functions.proofs.Numbers.{signed_word}
+use Rattle.ec_select_functions.proofs.Returned.{HandsOn, Left, Returns, go_on, pointer_is, return_follows}
+use Rattle.ec_select_functions.proofs.Safe.{safe_earlier}
+use Rattle.ec_select_functions.proofs.Steps.{Ready, follows}
+
+-- what this rests on of the layers below
+pub record CodeLaws : Type 0 where
+  pub views : MachineRunsAsView
+  pub runs : NotedRunsAreRuns
+  pub fill : LeavesFillTheirTypes
+
+-- ---- all functions, by the operations that count
+
+module _ (p : PlainIrProgram) (inputs : Inputs) (e : Env) (place entry_of : ℕ → ℕ) (w : World p e place entry_of) where
+  abbrev D : PlainProgram
+  D = data_of p
+
+  none_made : Statement p inputs e place entry_of w 0
+  none_made f g s aside was a stack returns pc rest m v r h = stay D place e pc v m.state h.seen h.safe
+
+  one_more : (n : ℕ) → ((j : ℕ) → j ≤ n → Statement p inputs e place entry_of w j) → Statement p inputs e place entry_of w (suc n)
+  one_more n below f g s aside was a stack returns =
+      let x = selected_of p e place entry_of w f g a.is in
+      let labels = (w.selected.made f).labels in
+      let link = linkage_of p entry_of f g.slots (w.selected.made f) in
+      let hs = home (homes_of p e place entry_of w f) in
+      let bs = base_of p e place entry_of w f in
+      let setting = setting_of p e place entry_of w f g s aside was a in
+      let stands = x.stands in
+      let ready : Ready D p.functions inputs e g.slots hs bs place setting labels g.code x.end w.selected.results f link stack stands.0 g.code = record { covered = x.covered; live = x.live; inside = λ b q. q; stands = stands.2 } in
+      follows D p.functions inputs e g.slots hs bs place setting labels g.code x.end w.selected.results f link stack stands.0 ready n
+      (below n (omega arith) f g s aside was a stack (λ j l. returns j (omega arith)))
+      (call_follows p inputs e place entry_of w f g s aside was a stack n below (λ j l. returns j (omega arith)))
+      (return_follows p inputs e place entry_of w f g s aside was a stack n (returns n (omega arith)))
+
+  up_to : (n j : ℕ) → j ≤ n → Statement p inputs e place entry_of w j
+  up_to zero zero l = none_made
+  up_to zero (suc j) l = absurd (omega arith)
+  up_to (suc n) j l =
+      ⊎_elim
+      (λ (q : j < suc n). up_to n j (omega arith))
+      (λ (q : suc n ≤ j). let z : suc n ≡ j = omega arith in subst (λ i. Statement p inputs e place entry_of w i) z (one_more n (up_to n)))
+      (cases_lt j (suc n))
+
+  pub all_functions : (n : ℕ) → Statement p inputs e place entry_of w n
+  all_functions n = up_to n n (omega arith)
+
+-- ---- main, at the bottom of the stack
+
+-- the stack pointer and the return address
+abbrev first_aside : ℕ → ℕ → Bool
+first_aside s k = (k == 93 || k == 94) || in_row (s + 1) 2 k
+
+module _ (s k : ℕ) (P : Type 0) where
+  first_cases : first_aside s k ≡ true → (k ≡ 93 → P) → (k ≡ 94 → P) → (s + 1 ≤ k → k < s + 1 + 2 → P) → P
+  first_cases h f g i =
+      ⊎_elim
+      (λ q. ⊎_elim (λ r. f (eqb-true k 93 r)) (λ r. g (eqb-true k 94 r)) (or_cases (k == 93) (k == 94) q))
+      (λ q. let z = row_parts (s + 1) 2 k q in i z.0 z.1)
+      (or_cases (k == 93 || k == 94) (in_row (s + 1) 2 k) h)
+
+module _ (laws : CodeLaws) (p : PlainIrProgram) (place entry_of : ℕ → ℕ) (e : Env) (size low : ℕ) (s : MachineState) (v : View) (inputs : Inputs) (valid : ValidIr p) (fit : Fits e size) (shows : Shows e size s.mem v) (begin : HoldsStart (data_of p) place v) (selected : AreSelected p e place entry_of) (enters : IsEntered p e low (entry_of p.main) s.pc v) where
+  abbrev w : World p e place entry_of
+  w = record {
+    selected = selected;
+    valid = valid;
+    fill = laws.fill;
+    low = low;
+    top = sp v + 2;
+    high = enters.high;
+    below = enters.top;
+    stacked = enters.stacked;
+  }
+
+  abbrev D1 : PlainProgram
+  D1 = data_of p
+
+  low_room : low ≤ sp v + 1
+  low_room = let r : low + 2 * 0 ≤ sp v + 1 = enters.room [] tt in omega arith
+
+  active : (g : PlainIrFunction) → slice_get p.functions p.main ≡ Some g → Active p e place entry_of w p.main g (sp v) (first_aside (sp v)) v.at
+  active g is =
+      let high = enters.high in
+      let room = low_room in
+      let top = enters.top in
+      record {
+        is = is;
+        high = λ k q. first_cases (sp v) k (32 ≤ k) q (λ r. omega arith) (λ r. omega arith) (λ l m. omega arith);
+        leaves = λ l k q. first_cases (sp v) k (Outside (leaf_at p e place entry_of w l) l.bytes k) q (λ r. low_leaf l k (omega arith) (omega arith)) (λ r. low_leaf l k (omega arith) (omega arith)) (λ i m. stack_leaf p e place entry_of w p.main g is l k (omega arith) (enters.stacked k (omega arith) (omega arith)));
+        own = λ k q. other p.main g is k q;
+        others = λ b h to is1 k q. other b h is1 k q;
+        free = λ k q l. first_cases (sp v) k (sp v < k) q (λ r. absurd (omega arith)) (λ r. absurd (omega arith)) (λ i m. omega arith);
+        pointer_low = refl;
+        pointer_high = refl;
+        pointer = refl;
+        room = enters.room;
+        below = omega arith;
+      }
+    where
+      low_leaf : (l : NumberLeaf D1) (k : ℕ) → 32 ≤ k → k < 256 → Outside (leaf_at p e place entry_of w l) l.bytes k
+      low_leaf l k a b q =
+          ⊎_elim
+          (λ (z : leaf_at p e place entry_of w l + l.bytes ≤ 8). omega arith)
+          (λ (z : 256 ≤ leaf_at p e place entry_of w l). absurd (omega arith))
+          (leaf_is p e place entry_of w p.main g is l)
+
+      other : (b : ℕ) (h : PlainIrFunction) → slice_get p.functions b ≡ Some h → (k : ℕ) → first_aside (sp v) k ≡ true
+          → Outside (scratch_of p e place entry_of w b) (16 * h.slots) k
+      other b h is1 k q =
+          let above = (selected_of p e place entry_of w b h is1).scratch_stands.high in
+          let high = enters.high in
+          let room = low_room in
+          first_cases (sp v) k (Outside (scratch_of p e place entry_of w b) (16 * h.slots) k) q (λ r z. absurd (omega arith)) (λ r z. absurd (omega arith)) (λ l m. stack_scratch p e place entry_of w b h is1 k (enters.stacked k (omega arith) (omega arith)))
+
+  -- it returns to the BREAK
+  module _ (g : PlainIrFunction) (is : slice_get p.functions p.main ≡ Some g) (j : ℕ) (st : State) (u : View) (spent : ℕ) (credit : spent + 64 ≤ st.work) (left : Left p inputs e place entry_of w g p.main (first_aside (sp v)) v.at st u) where
+    pointer_u : sp u ≡ sp v
+    pointer_u = pointer_is p inputs e place entry_of w p.main g (sp v) (first_aside (sp v)) v.at (active g is) [] _ _ u left
+
+    stack_kept : (k : ℕ) → sp v + 1 ≤ k → k < sp v + 1 + 2 → u.at k ≡ v.at k
+    stack_kept k l m = left.kept k (or_right (k == 93 || k == 94) (in_row (sp v + 1) 2 k) (row_from (sp v + 1) 2 k l m))
+
+    same_back : back_at u ≡ back_at v
+    same_back =
+        let top = enters.top in
+        let one : raised (sp v) ≡ sp v + 1 = omega arith in
+        let two : raised (raised (sp v)) ≡ sp v + 2 = omega arith in
+        let a : u.at (raised (sp u)) ≡ v.at (raised (sp v)) = ap (λ n. u.at (raised n)) pointer_u ∙ ap u.at one ∙ stack_kept (sp v + 1) (omega arith) (omega arith) ∙ ap v.at (sym one) in
+        let b : u.at (raised (raised (sp u))) ≡ v.at (raised (raised (sp v))) = ap (λ n. u.at (raised (raised n))) pointer_u ∙ ap u.at two ∙ stack_kept (sp v + 2) (omega arith) (omega arith) ∙ ap v.at (sym two) in
+        rw (a, b) refl
+
+    stops : fetch e (back_at u % 65536) ≡ Some Break
+    stops = ap (λ n. fetch e (n % 65536)) same_back ∙ enters.stop
+
+    bottom : (result : Option Held) → HandsOn p inputs e place entry_of w p.main result u
+        → Follows D1 place e j spent (back_at u % 65536) (popped u) (leave [] result (go_on p inputs e place entry_of w j) st)
+    bottom None hands =
+        let word : pair u.at 24 ≡ 0 = hands refl in
+        record {
+          steps = 0;
+          to = back_at u % 65536;
+          last = popped u;
+          most = omega arith;
+          goes = record { by = refl };
+          stop = stops;
+          seen = left.seen;
+          safe = left.safe;
+          result = ap (cast_signed w16) word;
+        }
+    bottom (Some c) hands = by_content c.content hands.2
+      where
+        two : c.bytes ≡ 2
+        two = hands.0 ∙ selected.main_result
+
+        by_content : (x : Content) → HoldsContent u.at (result_register c.bytes) c.bytes c.bytes x
+            → Follows D1 place e j spent (back_at u % 65536) (popped u) (leave [] (Some (record { bytes = c.bytes; content = x })) (go_on p inputs e place entry_of w j) st)
+        by_content (points q) content = absurd content
+        by_content (bits number) content =
+            let content2 : HoldsContent u.at (result_register 2) 2 2 (bits number) = subst (λ n. HoldsContent u.at (result_register n) n n (bits number)) two content in
+            let below : number < 65536 = content2.1 in
+            let moved : value u.at 24 2 ≡ number % 65536 = content2.0 in
+            let word : pair u.at 24 ≡ number = omega (arith, moved, below) in
+            record {
+              steps = 0;
+              to = back_at u % 65536;
+              last = popped u;
+              most = omega arith;
+              goes = record { by = refl };
+              stop = stops;
+              seen = left.seen;
+              safe = left.safe;
+              result = ap (cast_signed w16) word ∙ signed_word number below;
+            }
+
+  returns : (g : PlainIrFunction) (is : slice_get p.functions p.main ≡ Some g) (j : ℕ)
+      → Returns p inputs e place entry_of w p.main g (first_aside (sp v)) v.at [] j
+  returns g is j result st u spent credit hands left = bottom g is j st u spent credit left result hands
+
+  begun : (g : PlainIrFunction) → Matches D1 g.slots (base_of p e place entry_of w p.main) place (first_aside (sp v)) v.at (needs (selected.made p.main).labels g.code) (start D1) v
+  begun g = record {
+    temps_hold = λ t h it q z. absurd cc;
+    leaves_hold = begin.leaves;
+    kept = λ k q. refl;
+    bytes = begin.bytes;
+    seen = begin.seen;
+    safe = begin.safe;
+  }
+
+  entered : (n : ℕ) → Follows D1 place e n 0 s.pc v (ir_run p inputs n)
+  entered n = by_main (slice_get p.functions p.main) refl
+    where
+      by_main : (o : Option PlainIrFunction) → slice_get p.functions p.main ≡ o
+          → Follows D1 place e n 0 s.pc v (enter o (λ q m. exec p.functions D1 inputs n q m) [] (start D1))
+      by_main None is = tt
+      by_main (Some g) is =
+          let a = active g is in
+          let x = selected_of p e place entry_of w p.main g a.is in
+          let stands = x.stands in
+          let labels = (selected.made p.main).labels in
+          let link = linkage_of p entry_of p.main g.slots (selected.made p.main) in
+          let hs = home (homes_of p e place entry_of w p.main) in
+          let here : x.pc ≡ s.pc = sym (stands.1.0 enters.word) ∙ sym enters.at in
+          let mid : stands.0 ≡ s.pc = stands.1.1 ∙ here in
+          let ready : Ready D1 p.functions inputs e g.slots hs (base_of p e place entry_of w p.main) place (setting_of p e place entry_of w p.main g (sp v) (first_aside (sp v)) v.at a) labels g.code x.end selected.results p.main link [] s.pc g.code = record { covered = x.covered; live = x.live; inside = λ b q. q; stands = subst (λ i. HasAt e (ops_code p.objects hs link labels g.code) i x.end) mid stands.2 } in
+          all_functions p inputs e place entry_of w n p.main g (sp v) (first_aside (sp v)) v.at a [] (λ j l. returns g is j) s.pc g.code (start D1) v ready (begun g)
+
+  -- ---- the machine
+
+  -- a run of the view that goes on
+  goes_noted : (k to : ℕ) (u : View) → Goes e k s.pc v to u → u.safe ≡ true → noted_run e v.inputs s k ≡ Running u.seen
+  goes_noted k to u g safe =
+      goes_on_noted e size k v s to u begin.seen (subst (RunsAs e size k v s) g.by (laws.views e size k s v fit shows) safe)
+
+  -- one that comes to the BREAK
+  ends_at : (k to : ℕ) (u : View) → Goes e k s.pc v to u → fetch e to ≡ Some Break → u.safe ≡ true
+      → noted_run e v.inputs s (k + 1) ≡ Ended u.seen (cast_signed w16 (pair u.at 24))
+  ends_at k to u g stop safe =
+      let b : run e (k + 1) (VRunning s.pc v) ≡ VEnded u = runs_end e k 0 s.pc to v u g stop in
+      ends_noted e size (k + 1) v s u begin.seen (subst (RunsAs e size (k + 1) v s) b (laws.views e size (k + 1) s v fit shows) safe)
+
+  reached : (n : ℕ) (o : Outcome Value) → Follows D1 place e n 0 s.pc v o
+      → Reached (λ m. nat_le m ((state_of o).work + 1)) (noted_run e v.inputs s) n (seen_as (accesses D1 place) (behaviour_of o))
+  reached n (more r) f =
+      let most = f.most in
+      (f.steps, le-leb f.steps (r.work + 1) (omega arith), f.least, goes_noted f.steps f.to f.last f.goes f.safe ∙ ap Running f.seen)
+  reached n (got x r) f =
+      let most = f.most in
+      (f.steps + 1, le-leb (f.steps + 1) (r.work + 1) (omega arith), ends_at f.steps f.to f.last f.goes f.stop f.safe ∙ ends_same f.last.seen (accesses D1 place r.events) (cast_signed w16 (pair f.last.at 24)) (number_of x) f.seen f.result)
+    where
+      ends_same : (a b : List Access) (i j : ℤ) → a ≡ b → i ≡ j → ◌≡◌ {A = Behaviour Access ℤ MachineFault} (Ended a i) (Ended b j)
+      ends_same a b i j q r = ap (λ c. Ended c i) q ∙ ap (Ended b) r
+  reached n (undefined point r) f = tt
+
+  reaches : Reaches (within_steps p inputs) (λ n. seen_as (accesses D1 place) (meaning p inputs n)) (noted_run e v.inputs s)
+  reaches n = reached n (ir_run p inputs n) (entered n)
+
+  -- ---- no barred access
+
+  safe_upto : (k steps to : ℕ) (u : View) → k ≤ steps → Goes e steps s.pc v to u → u.safe ≡ true → is_safe (run e k (VRunning s.pc v)) ≡ true
+  safe_upto k steps to u l g safe =
+      let q : k + (steps - k) ≡ steps = omega (arith, l) in
+      safe_earlier e k (steps - k) (VRunning s.pc v) (subst (λ st. is_safe st ≡ true) (sym (ap (λ n. run e n (VRunning s.pc v)) q ∙ g.by)) safe)
+
+  safe_past : (k steps to : ℕ) (u : View) → steps ≤ k → Goes e steps s.pc v to u → fetch e to ≡ Some Break → u.safe ≡ true
+      → is_safe (run e k (VRunning s.pc v)) ≡ true
+  safe_past k steps to u l g stop safe =
+      let q : k + 1 ≡ steps + suc (k - steps) = omega (arith, l) in
+      let b : run e (k + 1) (VRunning s.pc v) ≡ VEnded u = ap (λ n. run e n (VRunning s.pc v)) q ∙ runs_end e steps (k - steps) s.pc to v u g stop in
+      safe_earlier e k 1 (VRunning s.pc v) (subst (λ st. is_safe st ≡ true) (sym b) safe)
+
+  safe_at : (k : ℕ) (o : Outcome Value) → Follows D1 place e k 0 s.pc v o → HoldsUnlessFailed (behaviour_of o) (is_safe (run e k (VRunning s.pc v)))
+  safe_at k (more r) f = safe_upto k f.steps f.to f.last f.least f.goes f.safe
+  safe_at k (got x r) f =
+      ⊎_elim (λ l. safe_upto k f.steps f.to f.last (omega (arith, l)) f.goes f.safe)
+      (λ l. safe_past k f.steps f.to f.last l f.goes f.stop f.safe) (cases_lt k f.steps)
+  safe_at k (undefined point r) f = tt
+
+  pub whole : ShowsOperations p place e v s inputs
+  whole = record {
+    reaches = reaches;
+    within = what_reaches_stays_within Access ℤ Undefined MachineFault (within_steps p inputs) (λ n. seen_as (accesses D1 place) (meaning p inputs n)) (noted_run e v.inputs s) (laws.runs e v.inputs s) reaches;
+    safe = λ k. safe_at k (ir_run p inputs k) (entered k);
+  }
+
+pub code_follows_operations : CodeLaws → CodeFollowsOperations
+code_follows_operations laws p place entry_of e size low s v inputs valid fit shows begin selected enters =
+    whole laws p place entry_of e size low s v inputs valid fit shows begin selected enters

@@ -1,0 +1,1269 @@
+-- One operation after another: what the code of each operation does for it.
+use Rattle.std.proofs.Common.{◌≡◌, ◌≢◌, ℕ, zero, suc, ◌+◌, ◌-◌, ◌*◌, ◌%◌, ◌^◌, ◌<◌, ◌≤◌, min, Bool, true, false, ℤ}
+use Rattle.std.proofs.Common.{pos, ◌*ℤ◌, unsigned_abs, Ok, Err, List, [], ◌∷◌, ◌++◌, ◌&&◌, ◌||◌, ⊎_elim, refl, sym}
+use Rattle.std.proofs.Common.{ap, ◌∙◌, subst, arith, Some, None, Option}
+use Rattle.std.specs.Prelude.{◌==◌, if◌then◌else◌, slice_get, Contains}
+use Rattle.std.proofs.lemmas.List.Elements.{Contains-append_right}
+use Rattle.ec_ir.specs.Valid.{called_in}
+use Rattle.std.specs.Int.{from_bool}
+use Rattle.std.specs.Ordering.{int_eq}
+use Rattle.std.proofs.lemmas.Bool.{cases_Bool, cases_lt, eqb-true}
+use Rattle.std.proofs.lemmas.Nat.{mod_below, mul-le}
+use Rattle.ec_fx.specs.declared.numbers.Mode.{Mode}
+use Rattle.ec_asm.specs.declared.items.AsmItem.{AsmItem}
+use Rattle.ec_asm.specs.declared.items.AsmItem.TheVariants.{BranchTo}
+use Rattle.ec_asm.specs.declared.pieces.Location.{Location}
+use Rattle.ec_asm.specs.declared.pieces.Location.TheVariants.{InRegisters}
+use Rattle.ec_asm.specs.declared.pieces.Operator.{Operator}
+use Rattle.ec_asm.specs.declared.pieces.Operator.TheVariants.{Sum, Difference, BitAnd, BitOr, BitXor}
+use Rattle.ec_asm.specs.View.{View}
+use Rattle.ec_asm.specs.Change.{Env, Own}
+use Rattle.ec_asm.specs.Items.{HasAt, BranchesAt, block, code_steps, all_straight}
+use Rattle.ec_asm.specs.Pieces.{StandsFrom, Outside, KeepsAll, value, operate_code}
+use Rattle.ec_asm.specs.PieceLaws.{HoldsNumbers}
+use Rattle.ec_asm.specs.Takes.{Goes}
+use Rattle.ec_asm.proofs.Hoare.{has_parts, block_goes, goes_on_to, steps-append, straight-append}
+use Rattle.ec_asm.proofs.Numbers.{value_mod}
+use Rattle.ec_asm.proofs.Results.{pieces_are_straight, pieces_take}
+use Rattle.ec_asm.proofs.Sum.{value-same}
+use Rattle.ec_asm.proofs.Takes.{jump_goes, branch_taken, branch_passed, jump_has_word, branch_has_word}
+use Rattle.ec_core.specs.declared.expressions.BinOp.{BinOp}
+use Rattle.ec_core.specs.declared.expressions.BinOp.TheVariants.{Add, Sub, Mul, Div, Rem, Shl, Shr, And, Or, Xor, Lt}
+use Rattle.ec_core.specs.declared.expressions.BinOp.TheVariants.{Gt, Le, Ge, Eq, Ne}
+use Rattle.ec_core.specs.declared.expressions.UnOp.{UnOp}
+use Rattle.ec_core.specs.declared.expressions.UnOp.TheVariants.{Minus, Invert}
+use Rattle.ec_core.specs.declared.values.Value.{Value}
+use Rattle.ec_core.specs.declared.values.Value.TheVariants.{Number, Pointer}
+use Rattle.ec_core.specs.Accesses.{Access, read, read_value, leaf_of, stored, operand_of}
+use Rattle.ec_core.specs.Layout.{scalar_size}
+use Rattle.ec_core.specs.declared.values.Undefined.TheVariants.{ShiftCount, ZeroDivisor}
+use Rattle.ec_core.specs.Integers.{wrapped, is_count}
+use Rattle.ec_core.specs.Operators.{same_type, binary_result, as_number}
+use Rattle.ec_core.specs.Words.{widest, operation_words}
+use Rattle.ec_core.specs.Plain.{PlainType, integer, void, PlainProgram}
+use Rattle.ec_core.specs.State.{Inputs, State, ObjectState, worked, Outcome, got, next, given}
+use Rattle.ec_ir.specs.declared.operations.Temp.{Temp}
+use Rattle.ec_ir.specs.Costs.{op_steps, binary_words, conversion_words, is_bitwise, is_integer}
+use Rattle.ec_ir.specs.Meaning.{Mach, machine, held_as, exec_from, object_access, accessed_type, put, put_leaf, find}
+use Rattle.ec_ir.specs.Meaning.{jump_to, Frame as Call}
+use Rattle.ec_ir.specs.Operations.{PlainIr, constant, copy, load_object, store_object, binary_op, conversion, label}
+use Rattle.ec_ir.specs.Operations.{jump, branch_zero, return_from, address, field, load_at, store_at, unary_op}
+use Rattle.ec_ir.specs.Operations.{call_function, port_in, port_out, PlainIrFunction}
+use Rattle.ec_ir.specs.Temporaries.{Content, bits, points, number_of_bytes, low_bytes, with_content, with_temp, is_zero}
+use Rattle.ec_select_functions.specs.Homes.{HasHome}
+use Rattle.ec_select_bytes.specs.Values.{test_code, extend_code}
+use Rattle.ec_select_bytes.proofs.Tests.{tests_keep, tests_tell_zero}
+use Rattle.ec_select_bytes.specs.Complements.{negation_code}
+use Rattle.ec_select_bytes.proofs.Straight.{values_are_straight, values_take, complements_are_straight}
+use Rattle.ec_select_bytes.proofs.Straight.{complements_take}
+use Rattle.ec_select_order.specs.declared.relations.Relation.{Relation}
+use Rattle.ec_select_order.specs.Relations.{stand_so, relation_code}
+use Rattle.ec_select_order.specs.Laws.{Tells}
+use Rattle.ec_select_order.proofs.Truths.{relations_are_told}
+use Rattle.ec_select_products.specs.Products.{product_of, product_code}
+use Rattle.ec_select_products.specs.Laws.{Leads}
+use Rattle.ec_select_products.proofs.Multiplied.{products_are_right}
+use Rattle.ec_select_shifts.specs.Shifts.{shifted_by}
+use Rattle.ec_select_quotients.specs.Signs.{quotient_of, quotient_code}
+use Rattle.ec_select_quotients.specs.SignLaws.{IsClearOf}
+use Rattle.ec_select_quotients.proofs.Signed.{quotients_are_right}
+use Rattle.ec_select_functions.specs.declared.families.Family.{Family}
+use Rattle.ec_select_functions.specs.declared.families.Family.TheVariants.{Combined, Compared, Multiplied, Shifted}
+use Rattle.ec_select_functions.specs.declared.families.Family.TheVariants.{Divided}
+use Rattle.ec_select_functions.specs.Code.{Linkage, op_code, ops_code, family_of, same_location, reversed_code}
+use Rattle.ec_select_functions.specs.Code.{combined_code, binary_code, turn_code, unary_code, move_code}
+use Rattle.ec_select_functions.specs.Code.{conversion_code, turned_code, shift_of, shifted_bytes, long_code}
+use Rattle.ec_select_functions.specs.Covered.{IsCovered, IsBinary, AreCovered, HasNumberAt}
+use Rattle.ec_select_functions.specs.Needs.{Need, needs, IsLive, wanted, at_least, without, either, returned_need}
+use Rattle.ec_select_functions.specs.Needs.{all_or_none, operand_wanted, right_wanted}
+use Rattle.ec_select_functions.specs.Places.{IsClear, object_location}
+use Rattle.ec_select_functions.proofs.Setting.{Setting}
+use Rattle.ec_select_functions.specs.Relation.{Matches, HoldsLeaf, HoldsContent}
+use Rattle.ec_select_functions.proofs.Accesses.{load_matches, store_matches, leaf_with, after_read, after_write}
+use Rattle.ec_select_functions.proofs.Accesses.{recorded_work}
+use Rattle.ec_select_functions.proofs.Computed.{constant_matches, copy_matches, binary_matches, moved_numbers}
+use Rattle.ec_select_functions.proofs.Computed.{result_of}
+use Rattle.ec_select_functions.proofs.Extended.{conversion_matches}
+use Rattle.ec_select_functions.proofs.Follow.{Follows, after, from_held, from_number, from_nothing, next_next}
+use Rattle.ec_select_functions.proofs.Match.{wanted_most, read_first, whole, at_width, weaker, written, written_wide}
+use Rattle.ec_select_functions.proofs.Match.{same_content, same_leaf, least_here, least_other, without_other}
+use Rattle.ec_select_functions.proofs.Moves.{Frame, Wide, widened, wider_frame, work_outside, row_kept, narrower}
+use Rattle.ec_select_functions.proofs.Moves.{stands_less, copy_straight, copy_steps, move_straight, move_steps}
+use Rattle.ec_select_functions.proofs.Moves.{move_holds, row_value}
+use Rattle.ec_select_functions.proofs.Numbers.{gives_of}
+use Rattle.ec_select_functions.proofs.Orders.{first_of_two, decided}
+use Rattle.ec_select_functions.proofs.Related.{told_matches}
+use Rattle.ec_select_functions.proofs.Multiplied.{product_low}
+use Rattle.ec_select_functions.proofs.Shifted.{count_is, shift_number, shift_low, shift_part, shifted_below}
+use Rattle.ec_select_functions.proofs.Shifted.{turned_leads}
+use Rattle.ec_select_functions.proofs.Divided.{int_part, quotient_low, not_zero}
+use Rattle.ec_select_functions.proofs.Turned.{turned, turns, unary_matches}
+use Rattle.ec_select_functions.proofs.Wrapped.{low_of_number, low_of_wrapped, low_below, kept_below}
+
+module _ (p : PlainProgram) (functions : List PlainIrFunction) (inputs : Inputs) (e : Env) (slots : ℕ) (home : Temp → Location) (base : Temp → ℕ) (place : ℕ → ℕ) (y : Setting p e slots home base place) (at : ℕ → Need) (all : List PlainIr) (end : ℕ) (results : ℕ → ℕ) (me : ℕ) (link : Linkage) (stack : List Call) where
+  abbrev pub M : Need → Mach → View → Type 0
+  M need m v = Matches p slots base place y.aside y.was need m v
+
+  abbrev pub G : (n w pc : ℕ) → View → Outcome Value → Type 0
+  G n w pc v o = Follows p place e n w pc v o
+
+  abbrev pub items : List PlainIr → List AsmItem
+  items code = ops_code p.objects home link at code
+
+  abbrev pub code_of : PlainIr → List PlainIr → List AsmItem
+  code_of i rest = op_code p.objects home link (needs at rest) i
+
+  -- the operations that are left have their code from this word on
+  pub record Ready (pc : ℕ) (rest : List PlainIr) : Type 0 where
+    pub covered : AreCovered p results me slots rest
+    pub live : IsLive at rest
+    pub inside : (b : ℕ) → Contains (called_in rest) b → Contains (called_in all) b
+    pub stands : HasAt e (items rest) pc end
+
+  -- the run of operations from here on
+  abbrev pub R : ℕ → List PlainIr → Mach → Outcome Value
+  R n rest m = exec_from functions p inputs n all stack rest m
+
+  -- straight code of an operation, and what comes after it
+  passes : (i : PlainIr) (rest : List PlainIr) (n n1 w w1 pc : ℕ) (v : View) (o : Outcome Value)
+      → HasAt e (items (i ∷ rest)) pc end → all_straight (code_of i rest) ≡ true → n1 ≤ code_steps (code_of i rest) + n
+      → w + code_steps (code_of i rest) ≤ w1
+      → ((mid : ℕ) → HasAt e (items rest) mid end → G n w1 mid (block e (code_of i rest) v) o) → G n1 w pc v o
+  passes i rest n n1 w w1 pc v o stands straight least most f =
+      let s = has_parts e (code_of i rest) (items rest) pc end stands in
+      after p place e (code_steps (code_of i rest)) n n1 w w1 pc s.0 v (block e (code_of i rest) v) o (block_goes e (code_of i rest) pc s.0 v straight s.1) least most (f s.0 s.2)
+
+  -- what is shown of the rest
+  abbrev pub Rest : ℕ → List PlainIr → Type 0
+  Rest n rest = (pc : ℕ) (m : Mach) (v : View) → HasAt e (items rest) pc end → M (needs at rest) m v
+      → G n m.state.work pc v (R n rest m)
+
+  pub constant_follows : (t : Temp) (k : ℤ) (rest : List PlainIr) (n pc : ℕ) (m : Mach) (v : View) → HasHome slots t
+      → HasAt e (items (constant t k ∷ rest)) pc end → M (without t.at (needs at rest)) m v → Rest (suc n) rest
+      → G (suc n) m.state.work pc v (R (suc n) (constant t k ∷ rest) m)
+  constant_follows t k rest n pc m v it stands h f =
+      let need = needs at rest in
+      let c = op_steps (constant t k) in
+      let low = low_bytes t.bytes k in
+      let m1 = machine (with_content t (bits low) m.temps) (worked c m.state) in
+      let take = (values_take (home t) (low_bytes 16 k) 0 (wanted need t)).0 in
+      let most = wanted_most need t in
+      let small : code_steps (code_of (constant t k) rest) ≤ 64 * (5 * t.bytes) = omega (arith, take, most) in
+      passes (constant t k) rest (suc n) (suc n) m.state.work m1.state.work pc v (R (suc n) rest m1) stands (values_are_straight (home t) (low_bytes 16 k) 0 (wanted need t)).0 (omega arith) (omega (arith, small))
+      (λ mid s. f mid m1 _ s (constant_matches p e slots home base place y t need m v k c it h))
+
+  pub copy_follows : (t u : Temp) (rest : List PlainIr) (n pc : ℕ) (m : Mach) (v : View) → HasHome slots t → HasHome slots u
+      → t.bytes ≡ u.bytes → HasAt e (items (copy t u ∷ rest)) pc end
+      → M (at_least u.at (wanted (needs at rest) t) (without t.at (needs at rest))) m v → Rest (suc n) rest
+      → G (suc n) m.state.work pc v (R (suc n) (copy t u ∷ rest) m)
+  copy_follows t u rest n pc m v it iu same stands h f =
+      let need = needs at rest in
+      let c = op_steps (copy t u) in
+      let take = move_steps (home u) (home t) (wanted need t) in
+      let most = wanted_most need t in
+      let small : code_steps (code_of (copy t u) rest) ≤ 64 * (5 * t.bytes) = omega (arith, take, most) in
+      from_held p place e u m.temps (worked c m.state) _ (suc n) m.state.work pc v
+      (λ x q w.
+      let m1 = machine (with_content t x.content m.temps) (worked c m.state) in
+      passes (copy t u) rest (suc n) (suc n) m.state.work m1.state.work pc v (R (suc n) rest m1) stands (move_straight (home u) (home t) (wanted need t)) (omega arith) (omega (arith, small))
+      (λ mid s. f mid m1 _ s (copy_matches p e slots home base place y t u need m v x c it iu same q w h)))
+
+  -- ---- operators
+
+  reversed_straight : (op : Operator) (a t : Location) (n : ℕ) → all_straight (reversed_code op a t n) ≡ true
+  reversed_straight Sum a t n = (pieces_are_straight Sum a t n).1
+  reversed_straight BitAnd a t n = (pieces_are_straight BitAnd a t n).1
+  reversed_straight BitOr a t n = (pieces_are_straight BitOr a t n).1
+  reversed_straight BitXor a t n = (pieces_are_straight BitXor a t n).1
+  reversed_straight Difference a t n =
+      straight-append (operate_code Difference a t n) (negation_code t n) (pieces_are_straight Difference a t n).1 (complements_are_straight t n).1
+
+  reversed_steps : (op : Operator) (a t : Location) (n : ℕ) → code_steps (reversed_code op a t n) ≤ 10 * n + 1
+  reversed_steps Sum a t n = let z = (pieces_take Sum a t n).1.1 in omega (arith, z)
+  reversed_steps BitAnd a t n = let z = (pieces_take BitAnd a t n).1.1 in omega (arith, z)
+  reversed_steps BitOr a t n = let z = (pieces_take BitOr a t n).1.1 in omega (arith, z)
+  reversed_steps BitXor a t n = let z = (pieces_take BitXor a t n).1.1 in omega (arith, z)
+  reversed_steps Difference a t n =
+      let z = (pieces_take Difference a t n).1.1 in
+      let w = (complements_take t n).1 in
+      omega (arith, steps-append (operate_code Difference a t n) (negation_code t n), z, w)
+
+  combined_straight : (op : Operator) (a b t : Location) (n : ℕ) → all_straight (combined_code op a b t n) ≡ true
+  combined_straight op a b t n = by_place (same_location b t) where
+    by_place : (same : Bool) → all_straight (if same then reversed_code op a t n else move_code a t n ++ operate_code op b t n) ≡ true
+    by_place true = reversed_straight op a t n
+    by_place false = straight-append (move_code a t n) (operate_code op b t n) (move_straight a t n) (pieces_are_straight op b t n).1
+
+  combined_steps : (op : Operator) (a b t : Location) (n : ℕ) → code_steps (combined_code op a b t n) ≤ 10 * n + 1
+  combined_steps op a b t n = by_place (same_location b t) where
+    by_place : (same : Bool) → code_steps (if same then reversed_code op a t n else move_code a t n ++ operate_code op b t n) ≤ 10 * n + 1
+    by_place true = reversed_steps op a t n
+    by_place false =
+        let x = move_steps a t n in
+        let z = (pieces_take op b t n).1.1 in
+        omega (arith, steps-append (move_code a t n) (operate_code op b t n), x, z)
+
+  -- the words of an operator
+  operator_big : (op : BinOp) (ty aty bty : PlainType) (n : ℕ) → n ≤ scalar_size ty → 10 * n + 1 ≤ 64 * binary_words op ty aty bty
+  operator_big op ty aty bty n l = by_kind (is_bitwise op && is_integer ty)
+    where
+      wide : n ≤ widest (ty ∷ aty ∷ bty ∷ [])
+      wide = omega (arith, l)
+
+      by_kind : (x : Bool) → 10 * n + 1 ≤ 64 * (if x then 10 * widest (ty ∷ aty ∷ bty ∷ []) else operation_words (widest (ty ∷ aty ∷ bty ∷ [])))
+      by_kind true = omega (arith, wide)
+      by_kind false = omega (arith, wide)
+
+  -- the machine of an operator's result
+  abbrev after_operator : Temp → ℕ → ℕ → Mach → Mach
+  after_operator t low c m = machine (with_content t (bits low) m.temps) (worked c m.state)
+
+  -- low bytes of operands are enough
+  low_bytes_wanted : (op : BinOp) (o : Operator) → family_of op ≡ Combined o → (bytes n : ℕ)
+      → operand_wanted op bytes n ≡ n
+  low_bytes_wanted Add o h bytes n = refl
+  low_bytes_wanted Sub o h bytes n = refl
+  low_bytes_wanted And o h bytes n = refl
+  low_bytes_wanted Or o h bytes n = refl
+  low_bytes_wanted Xor o h bytes n = refl
+  low_bytes_wanted op o h bytes n = absurd cc
+
+  low_right_wanted : (op : BinOp) (o : Operator) → family_of op ≡ Combined o → (bytes n : ℕ)
+      → right_wanted op bytes n ≡ n
+  low_right_wanted Add o h bytes n = refl
+  low_right_wanted Sub o h bytes n = refl
+  low_right_wanted And o h bytes n = refl
+  low_right_wanted Or o h bytes n = refl
+  low_right_wanted Xor o h bytes n = refl
+  low_right_wanted op o h bytes n = absurd cc
+
+  -- what is needed before an operator
+  abbrev operands_needed : BinOp → (t a b : Temp) → (ka kb : ℕ) → Need → Need
+  operands_needed op t a b ka kb need = at_least a.at ka (at_least b.at kb (without t.at need))
+
+  pub combined_follows : (op : BinOp) (o : Operator) → family_of op ≡ Combined o → (s s1 s2 : Bool) (mode : Mode)
+      (t a b : Temp) (rest : List PlainIr) (n pc : ℕ) (m : Mach) (v : View) → HasHome slots t → HasHome slots a
+      → HasHome slots b → a.bytes ≡ t.bytes → b.bytes ≡ t.bytes
+      → HasAt e (items (binary_op op (integer s t.bytes) mode t a (integer s1 a.bytes) b (integer s2 b.bytes) ∷ rest)) pc end
+      → M (operands_needed op t a b (wanted (needs at rest) t) (wanted (needs at rest) t) (needs at rest)) m v
+      → Rest (suc n) rest
+      → G (suc n) m.state.work pc v (R (suc n) (binary_op op (integer s t.bytes) mode t a (integer s1 a.bytes) b (integer s2 b.bytes) ∷ rest) m)
+  combined_follows op o is s s1 s2 mode t a b rest n pc m v it ia ib sa sb stands h f =
+      let need = needs at rest in
+      let i = binary_op op (integer s t.bytes) mode t a (integer s1 a.bytes) b (integer s2 b.bytes) in
+      let c = op_steps i in
+      let st = worked c m.state in
+      let k = wanted need t in
+      let most = wanted_most need t in
+      let big : 10 * k + 1 ≤ c = operator_big op (integer s t.bytes) (integer s1 a.bytes) (integer s2 b.bytes) k most in
+      let take : code_steps (code_of i rest) ≤ 10 * k + 1 = subst (λ x. code_steps (binary_code x s1 s2 (home a) (home b) (home t) a.bytes k) ≤ 10 * k + 1) (sym is) (combined_steps o (home a) (home b) (home t) k) in
+      let straight : all_straight (code_of i rest) ≡ true = subst (λ x. all_straight (binary_code x s1 s2 (home a) (home b) (home t) a.bytes k) ≡ true) (sym is) (combined_straight o (home a) (home b) (home t) k) in
+      from_number p place e s1 a m.temps st _ (suc n) m.state.work pc v
+      (λ low1 qa. from_number p place e s2 b m.temps st _ (suc n) m.state.work pc v
+      (λ low2 qb.
+      let below1 : low1 < 256 ^ t.bytes = subst (λ x. low1 < 256 ^ x) sa (h.temps_hold a _ ia qa refl).1 in
+      let below2 : low2 < 256 ^ t.bytes = subst (λ x. low2 < 256 ^ x) sb (h.temps_hold b _ ib qb refl).1 in
+      let g = gives_of op o is p mode s s1 s2 t.bytes a.bytes b.bytes low1 low2 st st sa sb below1 below2 in
+      let m1 = after_operator t (low_bytes t.bytes g.number) c m in
+      let matches : M need (after_operator t (result_of o t.bytes low1 low2) c m) (block e (combined_code o (home a) (home b) (home t) k) v) = binary_matches p e slots home base place y o t a b need m v c low1 low2 it ia ib sa sb qa qb h in
+      let matches1 : M need m1 (block e (combined_code o (home a) (home b) (home t) k) v) = subst (λ r. M need (after_operator t r c m) (block e (combined_code o (home a) (home b) (home t) k) v)) (sym g.low) matches in
+      let matches2 : M need m1 (block e (code_of i rest) v) = subst (λ x. M need m1 (block e (binary_code x s1 s2 (home a) (home b) (home t) a.bytes k) v)) (sym is) matches1 in
+      subst (λ r. G (suc n) m.state.work pc v (next (given r st) (λ u s3. R (suc n) rest (machine (with_temp t u m.temps) s3)))) (sym g.is)
+      (passes i rest (suc n) (suc n) m.state.work m1.state.work pc v (R (suc n) rest m1) stands straight (omega arith) (omega (arith, take, big))
+      (λ mid u. f mid m1 _ u matches2))))
+
+  -- ---- comparisons
+
+  conversion_straight : (signed : Bool) (a t : Location) (bytes n : ℕ) → all_straight (conversion_code signed a t bytes n) ≡ true
+  conversion_straight signed a t bytes n =
+      straight-append (move_code a t (min n bytes)) (extend_code signed t bytes n) (move_straight a t (min n bytes)) ((values_are_straight t 0 bytes n).2 signed)
+
+  conversion_steps : (signed : Bool) (a t : Location) (bytes n : ℕ) → code_steps (conversion_code signed a t bytes n) ≤ 3 + 3 * n
+  conversion_steps signed a t bytes n =
+      let x = move_steps a t (min n bytes) in
+      let z = (values_take t 0 bytes n).2 signed in
+      omega (arith, steps-append (move_code a t (min n bytes)) (extend_code signed t bytes n), x, z)
+
+  -- where some bytes are wanted, all are
+  all_when : (bytes k : ℕ) → (k == 0) ≡ false → all_or_none bytes k ≡ bytes
+  all_when bytes zero q = absurd cc
+  all_when bytes (suc k) q = refl
+
+  all_wanted : (op : BinOp) (r : Relation) (exchanged : Bool) → family_of op ≡ Compared r exchanged
+      → (bytes k : ℕ) → (k == 0) ≡ false → operand_wanted op bytes k ≡ bytes
+  all_wanted Lt r exchanged h bytes k q = all_when bytes k q
+  all_wanted Gt r exchanged h bytes k q = all_when bytes k q
+  all_wanted Le r exchanged h bytes k q = all_when bytes k q
+  all_wanted Ge r exchanged h bytes k q = all_when bytes k q
+  all_wanted Eq r exchanged h bytes k q = all_when bytes k q
+  all_wanted Ne r exchanged h bytes k q = all_when bytes k q
+  all_wanted op r exchanged h bytes k q = absurd cc
+
+  all_right_wanted : (op : BinOp) (r : Relation) (exchanged : Bool) → family_of op ≡ Compared r exchanged
+      → (bytes k : ℕ) → (k == 0) ≡ false → right_wanted op bytes k ≡ bytes
+  all_right_wanted Lt r exchanged h bytes k q = all_when bytes k q
+  all_right_wanted Gt r exchanged h bytes k q = all_when bytes k q
+  all_right_wanted Le r exchanged h bytes k q = all_when bytes k q
+  all_right_wanted Ge r exchanged h bytes k q = all_when bytes k q
+  all_right_wanted Eq r exchanged h bytes k q = all_when bytes k q
+  all_right_wanted Ne r exchanged h bytes k q = all_when bytes k q
+  all_right_wanted op r exchanged h bytes k q = absurd cc
+
+  -- the words of an operator of temporaries
+  relation_big : (op : BinOp) (ty aty bty : PlainType) → 102 ≤ 64 * binary_words op ty aty bty
+  relation_big op ty aty bty = by_kind (is_bitwise op && is_integer ty)
+    where
+      wide : 1 ≤ widest (ty ∷ aty ∷ bty ∷ [])
+      wide = omega arith
+
+      by_kind : (x : Bool) → 102 ≤ 64 * (if x then 10 * widest (ty ∷ aty ∷ bty ∷ []) else operation_words (widest (ty ∷ aty ∷ bty ∷ [])))
+      by_kind true = omega (arith, wide)
+      by_kind false = omega (arith, wide)
+
+  -- no byte of the result is needed
+  not_needed : (t : Temp) (low c : ℕ) (need need0 : Need) (m : Mach) (v : View) → HasHome slots t → wanted need t ≡ 0
+      → low < 256 ^ t.bytes → ((u : ℕ) → u ≢ t.at → need u ≤ need0 u) → M need0 m v → M need (after_operator t low c m) v
+  not_needed t low c need need0 m v it none below more h =
+      let empty : value v.at (base t) 0 ≡ low % 256 ^ 0 = omega arith in
+      written p e slots home base place y t (bits low) need need0 m (worked c m.state) v v it h more (λ i d f g o. refl) (subst (λ j. value v.at (base t) j ≡ low % 256 ^ j) (sym none) empty, below) h.bytes refl h.seen h.safe
+
+  -- nor is there code
+  nothing_passes : (i : PlainIr) (t : Temp) (low c : ℕ) (rest : List PlainIr) (n pc : ℕ) (need0 : Need) (m : Mach) (v : View)
+      → HasHome slots t → code_of i rest ≡ [] → wanted (needs at rest) t ≡ 0 → low < 256 ^ t.bytes
+      → HasAt e (items (i ∷ rest)) pc end → ((u : ℕ) → u ≢ t.at → needs at rest u ≤ need0 u) → M need0 m v
+      → Rest (suc n) rest → G (suc n) m.state.work pc v (R (suc n) rest (after_operator t low c m))
+  nothing_passes i t low c rest n pc need0 m v it empty none below stands more h f =
+      let matches = not_needed t low c (needs at rest) need0 m v it none below more h in
+      let m1 = after_operator t low c m in
+      let steps : code_steps (code_of i rest) ≡ 0 = ap code_steps empty in
+      passes i rest (suc n) (suc n) m.state.work m1.state.work pc v (R (suc n) rest m1) stands (ap all_straight empty) (omega arith) (omega (arith, steps))
+      (λ mid u. f mid m1 _ u (subst (λ w. M (needs at rest) m1 (block e w v)) (sym empty) matches))
+
+  -- of other places no less is needed before an operator
+  other_needed : (op : BinOp) (t a b : Temp) (ka kb : ℕ) (need : Need) (u : ℕ) → u ≢ t.at
+      → need u ≤ operands_needed op t a b ka kb need u
+  other_needed op t a b ka kb need u d =
+      let w = without_other t.at u need d in
+      let x = least_other b.at kb u (without t.at need) in
+      let z = least_other a.at ka u (at_least b.at kb (without t.at need)) in
+      omega arith
+
+  -- the low bytes of operands of which so many are needed
+  left_holds : (op : BinOp) (t a b : Temp) (ka kb x : ℕ) (need : Need) (m : Mach) (v : View) → HasHome slots a → ka ≤ a.bytes
+      → m.temps a.at ≡ Some (record { bytes = a.bytes; content = bits x }) → M (operands_needed op t a b ka kb need) m v
+      → value v.at (base a) ka ≡ x % 256 ^ ka
+  left_holds op t a b ka kb x need m v ia l q h =
+      let here = least_here a.at ka (at_least b.at kb (without t.at need)) in
+      (at_width p e slots home base place y (operands_needed op t a b ka kb need) m v a _ ka h ia q refl (omega (arith, here, l))).0
+
+  right_holds : (op : BinOp) (t a b : Temp) (ka kb x : ℕ) (need : Need) (m : Mach) (v : View) → HasHome slots b → kb ≤ b.bytes
+      → m.temps b.at ≡ Some (record { bytes = b.bytes; content = bits x }) → M (operands_needed op t a b ka kb need) m v
+      → value v.at (base b) kb ≡ x % 256 ^ kb
+  right_holds op t a b ka kb x need m v ib l q h =
+      let here = least_here b.at kb (without t.at need) in
+      let also = least_other a.at ka b.at (at_least b.at kb (without t.at need)) in
+      (at_width p e slots home base place y (operands_needed op t a b ka kb need) m v b _ kb h ib q refl (omega (arith, here, also, l))).0
+
+  abbrev told_machine : Temp → Bool → ℕ → Mach → Mach
+  told_machine t truth c m = after_operator t (low_bytes t.bytes (pos (from_bool truth))) c m
+
+  -- the code of a relation of two temporaries, and what comes after it
+  related_passes : (r : Relation) (s : Bool) (t l u : Temp) (bytes x z c : ℕ) (rest : List PlainIr) (n pc : ℕ) (need0 : Need) (m : Mach) (v : View)
+      → HasHome slots t → HasHome slots l → HasHome slots u → l.bytes ≡ suc bytes → u.bytes ≡ suc bytes → suc bytes ≤ 16
+      → value v.at (base l) (suc bytes) ≡ x → value v.at (base u) (suc bytes) ≡ z → 102 ≤ c
+      → HasAt e ((relation_code r s (home l) (home u) (suc bytes) ++ conversion_code false (InRegisters 30) (home t) 1 (wanted (needs at rest) t)) ++ items rest) pc end
+      → ((k : ℕ) → k ≢ t.at → needs at rest k ≤ need0 k) → M need0 m v → Rest (suc n) rest
+      → G (suc n) m.state.work pc v (R (suc n) rest (told_machine t (stand_so r s (suc bytes) x z) c m))
+  related_passes r s t l u bytes x z c rest n pc need0 m v it il iu ql qu most xl zu big stands more h f =
+      let k = wanted (needs at rest) t in
+      let relation = relation_code r s (home l) (home u) (suc bytes) in
+      let conversion = conversion_code false (InRegisters 30) (home t) 1 k in
+      let s1 = has_parts e (relation ++ conversion) (items rest) pc end stands in
+      let s2 = has_parts e relation conversion pc s1.0 s1.1 in
+      let left : StandsFrom e (home l) (suc bytes) (base l) Own = subst (λ j. StandsFrom e (home l) j (base l) Own) ql (y.layout.temps_at l il) in
+      let right : StandsFrom e (home u) (suc bytes) (base u) Own = subst (λ j. StandsFrom e (home u) j (base u) Own) qu (y.layout.temps_at u iu) in
+      let told0 = relations_are_told r s e (home l) (home u) bytes (base l) (base u) pc s2.0 v left right h.bytes s2.1 in
+      let truth : stand_so r s (suc bytes) (value v.at (base l) (suc bytes)) (value v.at (base u) (suc bytes)) ≡ stand_so r s (suc bytes) x z = rw (xl, zu) refl in
+      let told : Tells e (3 + 3 * suc bytes) pc v s2.0 (stand_so r s (suc bytes) x z) = subst (λ w. Tells e (3 + 3 * suc bytes) pc v s2.0 w) truth told0 in
+      let m1 = told_machine t (stand_so r s (suc bytes) x z) c m in
+      let second = block_goes e conversion s2.0 s1.0 told.last (conversion_straight false (InRegisters 30) (home t) 1 k) s2.2 in
+      let steps = told.steps + code_steps conversion in
+      let take = conversion_steps false (InRegisters 30) (home t) 1 k in
+      let take1 = told.at_most in
+      let kmost = wanted_most (needs at rest) t in
+      let room = it.most in
+      let goes = goes_on_to e told.steps (code_steps conversion) pc s2.0 s1.0 v told.last (block e conversion told.last) told.goes second in
+      let matches = told_matches p e slots home base place y (stand_so r s (suc bytes) x z) (3 + 3 * suc bytes) pc s2.0 t (needs at rest) need0 m v c it told more h in
+      after p place e steps (suc n) (suc n) m.state.work m1.state.work pc s1.0 v (block e conversion told.last) (R (suc n) rest m1) goes (omega arith) (omega (arith, take, take1, kmost, room, most, big)) (f s1.0 m1 (block e conversion told.last) s1.2 matches)
+
+  pub related_follows : (op : BinOp) (r : Relation) (exchanged : Bool) → family_of op ≡ Compared r exchanged
+      → (s : Bool) (ty : PlainType) (mode : Mode) (t a b : Temp) (rest : List PlainIr) (n pc : ℕ) (m : Mach) (v : View)
+      → HasHome slots t → HasHome slots a → HasHome slots b → b.bytes ≡ a.bytes
+      → HasAt e (items (binary_op op ty mode t a (integer s a.bytes) b (integer s b.bytes) ∷ rest)) pc end
+      → M (needs at (binary_op op ty mode t a (integer s a.bytes) b (integer s b.bytes) ∷ rest)) m v
+      → Rest (suc n) rest
+      → G (suc n) m.state.work pc v (R (suc n) (binary_op op ty mode t a (integer s a.bytes) b (integer s b.bytes) ∷ rest) m)
+  related_follows op r exchanged is s ty mode t a b rest n pc m v it ia ib same stands h f =
+      from_number p place e s a m.temps (worked (op_steps (binary_op op ty mode t a (integer s a.bytes) b (integer s b.bytes))) m.state) _ (suc n) m.state.work pc v
+      (λ low1 qa. from_number p place e s b m.temps (worked (op_steps (binary_op op ty mode t a (integer s a.bytes) b (integer s b.bytes))) m.state) _ (suc n) m.state.work pc v
+      (λ low2 qb.
+      let below1 : low1 < 256 ^ a.bytes = (h.temps_hold a _ ia qa refl).1 in
+      let below2 : low2 < 256 ^ a.bytes = subst (λ x. low2 < 256 ^ x) same (h.temps_hold b _ ib qb refl).1 in
+      let g0 = decided op r exchanged is p ty mode s a.bytes low1 low2 (worked (op_steps (binary_op op ty mode t a (integer s a.bytes) b (integer s b.bytes))) m.state) (worked (op_steps (binary_op op ty mode t a (integer s a.bytes) b (integer s b.bytes))) m.state) ia.some below1 below2 in
+      let g = subst (λ j. binary_result op ty mode (operand_of p (integer s a.bytes) (Number (number_of_bytes s a.bytes low1)) (worked (op_steps (binary_op op ty mode t a (integer s a.bytes) b (integer s b.bytes))) m.state)) (operand_of p (integer s j) (Number (number_of_bytes s j low2)) (worked (op_steps (binary_op op ty mode t a (integer s a.bytes) b (integer s b.bytes))) m.state)) ≡ Ok (Number (pos (from_bool (stand_so r s a.bytes (first_of_two exchanged low1 low2) (first_of_two exchanged low2 low1)))))) (sym same) g0 in
+      subst (λ o. G (suc n) m.state.work pc v (next (given o (worked (op_steps (binary_op op ty mode t a (integer s a.bytes) b (integer s b.bytes))) m.state)) (λ u s3. R (suc n) rest (machine (with_temp t u m.temps) s3)))) (sym g)
+      (⊎_elim (λ q. dead q low1 low2) (λ q. alive q low1 low2 qa qb below1 below2) (cases_Bool ((wanted (needs at rest) t) == 0)))))
+    where
+      dead : ((wanted (needs at rest) t) == 0) ≡ true → (low1 low2 : ℕ) → G (suc n) m.state.work pc v (R (suc n) rest (told_machine t (stand_so r s a.bytes (first_of_two exchanged low1 low2) (first_of_two exchanged low2 low1)) (op_steps (binary_op op ty mode t a (integer s a.bytes) b (integer s b.bytes))) m))
+      dead q low1 low2 =
+          let truth = stand_so r s a.bytes (first_of_two exchanged low1 low2) (first_of_two exchanged low2 low1) in
+          let empty : code_of (binary_op op ty mode t a (integer s a.bytes) b (integer s b.bytes)) rest ≡ [] = ap (λ x. binary_code x s s (home a) (home b) (home t) a.bytes (wanted (needs at rest) t)) is ∙ none exchanged in
+          nothing_passes (binary_op op ty mode t a (integer s a.bytes) b (integer s b.bytes)) t (low_bytes t.bytes (pos (from_bool truth))) (op_steps (binary_op op ty mode t a (integer s a.bytes) b (integer s b.bytes))) rest n pc (needs at ((binary_op op ty mode t a (integer s a.bytes) b (integer s b.bytes)) ∷ rest)) m v it empty (eqb-true (wanted (needs at rest) t) 0 q) (low_below t.bytes (pos (from_bool truth))) stands (other_needed op t a b (operand_wanted op a.bytes (wanted (needs at rest) t)) (right_wanted op b.bytes (wanted (needs at rest) t)) (needs at rest)) h f
+        where
+          none : (x : Bool) → binary_code (Compared r x) s s (home a) (home b) (home t) a.bytes (wanted (needs at rest) t) ≡ []
+          none false = rw q refl
+          none true = rw q refl
+
+      alive : ((wanted (needs at rest) t) == 0) ≡ false → (low1 low2 : ℕ) → m.temps a.at ≡ Some (record { bytes = a.bytes; content = bits low1 })
+          → m.temps b.at ≡ Some (record { bytes = b.bytes; content = bits low2 }) → low1 < 256 ^ a.bytes
+          → low2 < 256 ^ a.bytes → G (suc n) m.state.work pc v (R (suc n) rest (told_machine t (stand_so r s a.bytes (first_of_two exchanged low1 low2) (first_of_two exchanged low2 low1)) (op_steps (binary_op op ty mode t a (integer s a.bytes) b (integer s b.bytes))) m))
+      alive q low1 low2 qa qb below1 below2 =
+          let some = ia.some in
+          by_side exchanged (a.bytes - 1) (omega arith) is
+        where
+          all_needed : M (operands_needed op t a b a.bytes b.bytes (needs at rest)) m v
+          all_needed =
+              subst (λ x. M (operands_needed op t a b x b.bytes (needs at rest)) m v) (all_wanted op r exchanged is a.bytes (wanted (needs at rest) t) q)
+              (subst (λ x. M (operands_needed op t a b (operand_wanted op a.bytes (wanted (needs at rest) t)) x (needs at rest)) m v) (all_right_wanted op r exchanged is b.bytes (wanted (needs at rest) t) q) h)
+
+          left_is : value v.at (base a) a.bytes ≡ low1
+          left_is =
+              left_holds op t a b a.bytes b.bytes low1 (needs at rest) m v ia (omega arith) qa all_needed ∙ kept_below low1 (256 ^ a.bytes) below1
+
+          right_is : value v.at (base b) a.bytes ≡ low2
+          right_is =
+              subst (λ j. value v.at (base b) j ≡ low2 % 256 ^ j) same (right_holds op t a b a.bytes b.bytes low2 (needs at rest) m v ib (omega arith) qb all_needed) ∙ kept_below low2 (256 ^ a.bytes) below2
+
+          by_side : (x : Bool) (bytes : ℕ) → a.bytes ≡ suc bytes → family_of op ≡ Compared r x
+              → G (suc n) m.state.work pc v (R (suc n) rest (told_machine t (stand_so r s a.bytes (first_of_two x low1 low2) (first_of_two x low2 low1)) (op_steps (binary_op op ty mode t a (integer s a.bytes) b (integer s b.bytes))) m))
+          by_side false bytes size w =
+              let code : code_of (binary_op op ty mode t a (integer s a.bytes) b (integer s b.bytes)) rest ≡ relation_code r s (home a) (home b) (suc bytes) ++ conversion_code false (InRegisters 30) (home t) 1 (wanted (needs at rest) t) = ap (λ x. binary_code x s s (home a) (home b) (home t) a.bytes (wanted (needs at rest) t)) w ∙ rw q refl ∙ ap (λ j. relation_code r s (home a) (home b) j ++ conversion_code false (InRegisters 30) (home t) 1 (wanted (needs at rest) t)) size in
+              let stand = subst (λ x. HasAt e (x ++ items rest) pc end) code stands in
+              let la = subst (λ j. value v.at (base a) j ≡ low1) size left_is in
+              let lb = subst (λ j. value v.at (base b) j ≡ low2) size right_is in
+              let most = ia.most in
+              subst (λ j. G (suc n) m.state.work pc v (R (suc n) rest (told_machine t (stand_so r s j low1 low2) (op_steps (binary_op op ty mode t a (integer s a.bytes) b (integer s b.bytes))) m))) (sym size)
+              (related_passes r s t a b bytes low1 low2 (op_steps (binary_op op ty mode t a (integer s a.bytes) b (integer s b.bytes))) rest n pc (operands_needed op t a b a.bytes b.bytes (needs at rest)) m v it ia ib size (same ∙ size) (omega arith) la lb (relation_big op ty (integer s a.bytes) (integer s b.bytes)) stand (other_needed op t a b a.bytes b.bytes (needs at rest)) all_needed f)
+          by_side true bytes size w =
+              let code : code_of (binary_op op ty mode t a (integer s a.bytes) b (integer s b.bytes)) rest ≡ relation_code r s (home b) (home a) (suc bytes) ++ conversion_code false (InRegisters 30) (home t) 1 (wanted (needs at rest) t) = ap (λ x. binary_code x s s (home a) (home b) (home t) a.bytes (wanted (needs at rest) t)) w ∙ rw q refl ∙ ap (λ j. relation_code r s (home b) (home a) j ++ conversion_code false (InRegisters 30) (home t) 1 (wanted (needs at rest) t)) size in
+              let stand = subst (λ x. HasAt e (x ++ items rest) pc end) code stands in
+              let la = subst (λ j. value v.at (base a) j ≡ low1) size left_is in
+              let lb = subst (λ j. value v.at (base b) j ≡ low2) size right_is in
+              let most = ia.most in
+              subst (λ j. G (suc n) m.state.work pc v (R (suc n) rest (told_machine t (stand_so r s j low2 low1) (op_steps (binary_op op ty mode t a (integer s a.bytes) b (integer s b.bytes))) m))) (sym size)
+              (related_passes r s t b a bytes low2 low1 (op_steps (binary_op op ty mode t a (integer s a.bytes) b (integer s b.bytes))) rest n pc (operands_needed op t a b a.bytes b.bytes (needs at rest)) m v it ib ia (same ∙ size) size (omega arith) lb la (relation_big op ty (integer s a.bytes) (integer s b.bytes)) stand (other_needed op t a b a.bytes b.bytes (needs at rest)) all_needed f)
+
+  -- ---- products
+
+  factor_wanted : (op : BinOp) → family_of op ≡ Multiplied → (bytes k : ℕ) → (k == 0) ≡ false
+      → (operand_wanted op bytes k ≡ bytes) × (right_wanted op bytes k ≡ bytes)
+  factor_wanted Mul h bytes k q = (all_when bytes k q, all_when bytes k q)
+  factor_wanted op h bytes k q = absurd cc
+
+  -- what is needed of a product is put to its temporary
+  led_matches : (t : Temp) (low most pc to k : ℕ) (need need0 : Need) (m : Mach) (v : View) (c : ℕ) → HasHome slots t
+      → (g : Leads e most pc v to (base t) k (low % 256 ^ k)) → k ≡ wanted need t → low < 256 ^ t.bytes
+      → ((u : ℕ) → u ≢ t.at → need u ≤ need0 u) → M need0 m v → M need (after_operator t low c m) g.last
+  led_matches t low most pc to k need need0 m v c it g q below more h =
+      let room = wanted_most need t in
+      let frame : Wide v g.last (base t) t.bytes = λ i a b u d o. g.same i a b (λ l. let z = d (omega arith) in omega arith) (narrower (base t) t.bytes k i (omega arith) o) in
+      written_wide p e slots home base place y t (bits low) need need0 m (worked c m.state) v g.last it h more frame (subst (λ j. value g.last.at (base t) j ≡ low % 256 ^ j) q g.number_is, below) g.numbers refl (g.seen ∙ h.seen) (g.safe ∙ h.safe)
+
+  product_value : (op : BinOp) → family_of op ≡ Multiplied → (mode : Mode) (s s1 s2 : Bool) (x z : ℕ) (st st1 : State)
+      → binary_result op (integer s 2) mode (operand_of p (integer s1 1) (Number (number_of_bytes s1 1 x)) st) (operand_of p (integer s2 1) (Number (number_of_bytes s2 1 z)) st1)
+      ≡ Ok (Number (wrapped (record { signed = s; bytes = 2 }) (number_of_bytes s1 1 x *ℤ number_of_bytes s2 1 z)))
+  product_value Mul h mode s s1 s2 x z st st1 = refl
+  product_value op h mode s s1 s2 x z st st1 = absurd cc
+
+  pub multiplied_follows : (op : BinOp) → family_of op ≡ Multiplied → (s s1 s2 : Bool) (mode : Mode) (t a b : Temp)
+      (rest : List PlainIr) (n pc : ℕ) (m : Mach) (v : View) → HasHome slots t → HasHome slots a → HasHome slots b
+      → t.bytes ≡ 2 → a.bytes ≡ 1 → b.bytes ≡ 1
+      → HasAt e (items (binary_op op (integer s 2) mode t a (integer s1 1) b (integer s2 1) ∷ rest)) pc end
+      → M (needs at (binary_op op (integer s 2) mode t a (integer s1 1) b (integer s2 1) ∷ rest)) m v → Rest (suc n) rest
+      → G (suc n) m.state.work pc v (R (suc n) (binary_op op (integer s 2) mode t a (integer s1 1) b (integer s2 1) ∷ rest) m)
+  multiplied_follows op is s s1 s2 mode t a b rest n pc m v it ia ib two one_a one_b stands h f =
+      subst (λ j. G (suc n) m.state.work pc v (next (held_as (integer s1 j) a m.temps (worked (op_steps (binary_op op (integer s 2) mode t a (integer s1 1) b (integer s2 1))) m.state)) (λ x st1. next (held_as (integer s2 1) b m.temps st1) (λ z st2. next (given (binary_result op (integer s 2) mode (operand_of p (integer s1 1) x st2) (operand_of p (integer s2 1) z st2)) st2) (λ u st3. R (suc n) rest (machine (with_temp t u m.temps) st3)))))) one_a
+      (from_number p place e s1 a m.temps (worked (op_steps (binary_op op (integer s 2) mode t a (integer s1 1) b (integer s2 1))) m.state) _ (suc n) m.state.work pc v
+      (λ low1 qa.
+      subst (λ j. G (suc n) m.state.work pc v (next (held_as (integer s2 j) b m.temps (worked (op_steps (binary_op op (integer s 2) mode t a (integer s1 1) b (integer s2 1))) m.state)) (λ z st2. next (given (binary_result op (integer s 2) mode (operand_of p (integer s1 1) (Number (number_of_bytes s1 a.bytes low1)) st2) (operand_of p (integer s2 1) z st2)) st2) (λ u st3. R (suc n) rest (machine (with_temp t u m.temps) st3))))) one_b
+      (from_number p place e s2 b m.temps (worked (op_steps (binary_op op (integer s 2) mode t a (integer s1 1) b (integer s2 1))) m.state) _ (suc n) m.state.work pc v
+      (λ low2 qb.
+      let below1 : low1 < 256 = subst (λ x. low1 < 256 ^ x) one_a (h.temps_hold a _ ia qa refl).1 in
+      let below2 : low2 < 256 = subst (λ x. low2 < 256 ^ x) one_b (h.temps_hold b _ ib qb refl).1 in
+      let z = wrapped (record { signed = s; bytes = 2 }) (number_of_bytes s1 1 low1 *ℤ number_of_bytes s2 1 low2) in
+      let g : binary_result op (integer s 2) mode (operand_of p (integer s1 1) (Number (number_of_bytes s1 a.bytes low1)) (worked (op_steps (binary_op op (integer s 2) mode t a (integer s1 1) b (integer s2 1))) m.state)) (operand_of p (integer s2 1) (Number (number_of_bytes s2 b.bytes low2)) (worked (op_steps (binary_op op (integer s 2) mode t a (integer s1 1) b (integer s2 1))) m.state)) ≡ Ok (Number z) = rw (one_a, one_b) (product_value op is mode s s1 s2 low1 low2 (worked (op_steps (binary_op op (integer s 2) mode t a (integer s1 1) b (integer s2 1))) m.state) (worked (op_steps (binary_op op (integer s 2) mode t a (integer s1 1) b (integer s2 1))) m.state)) in
+      let number : low_bytes t.bytes z ≡ product_of s1 s2 low1 low2 = rw two (product_low s1 s2 s low1 low2 below1 below2) in
+      subst (λ o. G (suc n) m.state.work pc v (next (given o (worked (op_steps (binary_op op (integer s 2) mode t a (integer s1 1) b (integer s2 1))) m.state)) (λ u st3. R (suc n) rest (machine (with_temp t u m.temps) st3)))) (sym g)
+      (subst (λ w. G (suc n) m.state.work pc v (R (suc n) rest (after_operator t w (op_steps (binary_op op (integer s 2) mode t a (integer s1 1) b (integer s2 1))) m))) (sym number)
+      (⊎_elim (λ q. dead q low1 low2) (λ q. alive q low1 low2 qa qb below1 below2) (cases_Bool ((wanted (needs at rest) t) == 0))))))))
+    where
+      below : (low1 low2 : ℕ) → product_of s1 s2 low1 low2 < 256 ^ t.bytes
+      below low1 low2 = rw two (mod_below _ 65536 (omega arith))
+
+      dead : ((wanted (needs at rest) t) == 0) ≡ true → (low1 low2 : ℕ) → G (suc n) m.state.work pc v (R (suc n) rest (after_operator t (product_of s1 s2 low1 low2) (op_steps (binary_op op (integer s 2) mode t a (integer s1 1) b (integer s2 1))) m))
+      dead q low1 low2 =
+          let empty : code_of (binary_op op (integer s 2) mode t a (integer s1 1) b (integer s2 1)) rest ≡ [] = ap (λ x. binary_code x s1 s2 (home a) (home b) (home t) a.bytes (wanted (needs at rest) t)) is ∙ rw q refl in
+          nothing_passes (binary_op op (integer s 2) mode t a (integer s1 1) b (integer s2 1)) t (product_of s1 s2 low1 low2) (op_steps (binary_op op (integer s 2) mode t a (integer s1 1) b (integer s2 1))) rest n pc (needs at ((binary_op op (integer s 2) mode t a (integer s1 1) b (integer s2 1)) ∷ rest)) m v it empty (eqb-true (wanted (needs at rest) t) 0 q) (below low1 low2) stands (other_needed op t a b (operand_wanted op a.bytes (wanted (needs at rest) t)) (right_wanted op b.bytes (wanted (needs at rest) t)) (needs at rest)) h f
+
+      alive : ((wanted (needs at rest) t) == 0) ≡ false → (low1 low2 : ℕ) → m.temps a.at ≡ Some (record { bytes = a.bytes; content = bits low1 })
+          → m.temps b.at ≡ Some (record { bytes = b.bytes; content = bits low2 }) → low1 < 256 → low2 < 256
+          → G (suc n) m.state.work pc v (R (suc n) rest (after_operator t (product_of s1 s2 low1 low2) (op_steps (binary_op op (integer s 2) mode t a (integer s1 1) b (integer s2 1))) m))
+      alive q low1 low2 qa qb below1 below2 =
+          let need1 = operands_needed op t a b a.bytes b.bytes (needs at rest) in
+          let h1 : M need1 m v = subst (λ x. M (operands_needed op t a b x b.bytes (needs at rest)) m v) (factor_wanted op is a.bytes (wanted (needs at rest) t) q).0 (subst (λ x. M (operands_needed op t a b (operand_wanted op a.bytes (wanted (needs at rest) t)) x (needs at rest)) m v) (factor_wanted op is b.bytes (wanted (needs at rest) t) q).1 h) in
+          let code : code_of (binary_op op (integer s 2) mode t a (integer s1 1) b (integer s2 1)) rest ≡ product_code s1 s2 (home a) (home b) (home t) (wanted (needs at rest) t) = ap (λ x. binary_code x s1 s2 (home a) (home b) (home t) a.bytes (wanted (needs at rest) t)) is ∙ rw q refl in
+          let stand : HasAt e (product_code s1 s2 (home a) (home b) (home t) (wanted (needs at rest) t) ++ items rest) pc end = subst (λ x. HasAt e (x ++ items rest) pc end) code stands in
+          let parts = has_parts e (product_code s1 s2 (home a) (home b) (home t) (wanted (needs at rest) t)) (items rest) pc end stand in
+          let sa : StandsFrom e (home a) 1 (base a) Own = subst (λ j. StandsFrom e (home a) j (base a) Own) one_a (y.layout.temps_at a ia) in
+          let sb : StandsFrom e (home b) 1 (base b) Own = subst (λ j. StandsFrom e (home b) j (base b) Own) one_b (y.layout.temps_at b ib) in
+          let most = wanted_most (needs at rest) t in
+          let st1 : StandsFrom e (home t) (wanted (needs at rest) t) (base t) Own = stands_less e (home t) t.bytes (wanted (needs at rest) t) (base t) Own most (y.layout.temps_at t it) in
+          let x1 : v.at (base a) ≡ low1 = byte_at (base a) a.bytes low1 one_a below1 (left_holds op t a b a.bytes b.bytes low1 (needs at rest) m v ia (omega arith) qa h1) in
+          let x2 : v.at (base b) ≡ low2 = byte_at (base b) b.bytes low2 one_b below2 (right_holds op t a b a.bytes b.bytes low2 (needs at rest) m v ib (omega arith) qb h1) in
+          let g0 = products_are_right s1 s2 e (home a) (home b) (home t) (wanted (needs at rest) t) (base a) (base b) (base t) pc parts.0 v sa sb st1 (omega (arith, most, two)) (clear_of (base a) a.bytes (omega (arith, one_a)) (y.layout.temps_work a ia)) (clear_of (base b) b.bytes (omega (arith, one_b)) (y.layout.temps_work b ib)) h1.bytes parts.1 in
+          let g : Leads e (9 + (wanted (needs at rest) t)) pc v parts.0 (base t) (wanted (needs at rest) t) (product_of s1 s2 low1 low2 % 256 ^ (wanted (needs at rest) t)) = subst (λ j. Leads e (9 + (wanted (needs at rest) t)) pc v parts.0 (base t) (wanted (needs at rest) t) (product_of s1 s2 j low2 % 256 ^ (wanted (needs at rest) t))) x1 (subst (λ j. Leads e (9 + (wanted (needs at rest) t)) pc v parts.0 (base t) (wanted (needs at rest) t) (product_of s1 s2 (v.at (base a)) j % 256 ^ (wanted (needs at rest) t))) x2 g0) in
+          let m1 = after_operator t (product_of s1 s2 low1 low2) (op_steps (binary_op op (integer s 2) mode t a (integer s1 1) b (integer s2 1))) m in
+          let matches = led_matches t (product_of s1 s2 low1 low2) (9 + (wanted (needs at rest) t)) pc parts.0 (wanted (needs at rest) t) (needs at rest) need1 m v (op_steps (binary_op op (integer s 2) mode t a (integer s1 1) b (integer s2 1))) it g refl (below low1 low2) (other_needed op t a b a.bytes b.bytes (needs at rest)) h1 in
+          let take = g.at_most in
+          let big = relation_big op (integer s 2) (integer s1 1) (integer s2 1) in
+          after p place e g.steps (suc n) (suc n) m.state.work m1.state.work pc parts.0 v g.last (R (suc n) rest m1) g.goes (omega arith) (omega (arith, take, big, most, two)) (f parts.0 m1 g.last parts.2 matches)
+        where
+          byte_at : (c bytes x : ℕ) → bytes ≡ 1 → x < 256 → value v.at c bytes ≡ x % 256 ^ bytes → v.at c ≡ x
+          byte_at c bytes x one l w =
+              let w1 : value v.at c 1 ≡ x % 256 ^ 1 = subst (λ j. value v.at c j ≡ x % 256 ^ j) one w in
+              let z : c + 0 ≡ c = omega arith in
+              let w2 : v.at (c + 0) * 1 ≡ x % 256 = omega (arith, w1) in
+              sym (ap v.at z) ∙ omega (arith, w2, l)
+
+          clear_of : (c bytes : ℕ) → 1 ≤ bytes → IsClear c bytes → Outside 30 2 c
+          clear_of c bytes some w l =
+              ⊎_elim (λ (z : c < 26). let d = w.high.left z in absurd (omega arith)) (λ (z : 26 ≤ c). let d = w.high.right z in omega arith) (cases_lt c 26)
+
+  -- ---- shifts
+
+  shift_wanted : (op : BinOp) (up : Bool) → family_of op ≡ Shifted up → (bytes other k : ℕ) → (k == 0) ≡ false
+      → (operand_wanted op bytes k ≡ shifted_bytes up bytes k) × (right_wanted op other k ≡ 1)
+  shift_wanted Shl true h bytes other k q = (refl, all_when 1 k q)
+  shift_wanted Shr false h bytes other k q = (all_when bytes k q, all_when 1 k q)
+  shift_wanted op up h bytes other k q = absurd cc
+
+  shift_value : (op : BinOp) (up : Bool) → family_of op ≡ Shifted up → (mode : Mode) (s s2 : Bool) (b bb x z : ℕ)
+      (st st1 : State)
+      → binary_result op (integer s b) mode (operand_of p (integer s b) (Number (number_of_bytes s b x)) st) (operand_of p (integer s2 bb) (Number (number_of_bytes s2 bb z)) st1)
+      ≡ as_number (if is_count (8 * b) (number_of_bytes s2 bb z) then Ok (wrapped (record { signed = s; bytes = b }) (shift_number up (number_of_bytes s b x) (unsigned_abs (number_of_bytes s2 bb z)))) else Err ShiftCount)
+  shift_value Shl true h mode s s2 b bb x z st st1 = refl
+  shift_value Shr false h mode s s2 b bb x z st st1 = refl
+  shift_value op up h mode s s2 b bb x z st st1 = absurd cc
+
+  -- the words of a shift
+  shift_big : (op : BinOp) (up : Bool) → family_of op ≡ Shifted up → (ty aty bty : PlainType)
+      → 9600 ≤ 64 * binary_words op ty aty bty
+  shift_big Shl up h ty aty bty = omega arith
+  shift_big Shr up h ty aty bty = omega arith
+  shift_big op up h ty aty bty = absurd cc
+
+  shift_room : (w c : ℕ) → w ≤ 16 → c < 128 → w * 2 + 2 + (3 + c * (2 + 4 * w)) ≤ 9600
+  shift_room w c l k =
+      let m : c * (2 + 4 * w) ≤ 127 * (2 + 4 * 16) = mul-le c (2 + 4 * w) 127 (2 + 4 * 16) (omega arith) (omega arith) in
+      omega (arith, m, l)
+
+  shifted_some : (up : Bool) (bytes k : ℕ) → 1 ≤ bytes → (k == 0) ≡ false → k ≤ bytes
+      → (1 ≤ shifted_bytes up bytes k) × (shifted_bytes up bytes k ≤ bytes)
+  shifted_some true bytes zero some q l = absurd cc
+  shifted_some true bytes (suc k) some q l = (omega arith, l)
+  shifted_some false bytes k some q l = (some, omega arith)
+
+  pub shifted_follows : (op : BinOp) (up : Bool) → family_of op ≡ Shifted up → (s s2 : Bool) (mode : Mode)
+      (t a b : Temp) (rest : List PlainIr) (n pc : ℕ) (m : Mach) (v : View) → HasHome slots t → HasHome slots a
+      → HasHome slots b → a.bytes ≡ t.bytes → t.at ≢ b.at
+      → HasAt e (items (binary_op op (integer s a.bytes) mode t a (integer s a.bytes) b (integer s2 b.bytes) ∷ rest)) pc end
+      → M (needs at (binary_op op (integer s a.bytes) mode t a (integer s a.bytes) b (integer s2 b.bytes) ∷ rest)) m v
+      → Rest (suc n) rest
+      → G (suc n) m.state.work pc v (R (suc n) (binary_op op (integer s a.bytes) mode t a (integer s a.bytes) b (integer s2 b.bytes) ∷ rest) m)
+  shifted_follows op up is s s2 mode t a b rest n pc m v it ia ib same other stands h f =
+      from_number p place e s a m.temps (worked (op_steps (binary_op op (integer s a.bytes) mode t a (integer s a.bytes) b (integer s2 b.bytes))) m.state) _ (suc n) m.state.work pc v
+      (λ low1 qa. from_number p place e s2 b m.temps (worked (op_steps (binary_op op (integer s a.bytes) mode t a (integer s a.bytes) b (integer s2 b.bytes))) m.state) _ (suc n) m.state.work pc v
+      (λ low2 qb.
+      subst (λ o. G (suc n) m.state.work pc v (next (given o (worked (op_steps (binary_op op (integer s a.bytes) mode t a (integer s a.bytes) b (integer s2 b.bytes))) m.state)) (λ u st3. R (suc n) rest (machine (with_temp t u m.temps) st3)))) (sym (shift_value op up is mode s s2 a.bytes b.bytes low1 low2 (worked (op_steps (binary_op op (integer s a.bytes) mode t a (integer s a.bytes) b (integer s2 b.bytes))) m.state) (worked (op_steps (binary_op op (integer s a.bytes) mode t a (integer s a.bytes) b (integer s2 b.bytes))) m.state)))
+      (by_count low1 low2 qa qb (h.temps_hold a _ ia qa refl).1 (h.temps_hold b _ ib qb refl).1 (is_count (8 * a.bytes) (number_of_bytes s2 b.bytes low2)) refl)))
+    where
+      dead : ((wanted (needs at rest) t) == 0) ≡ true → (low1 c : ℕ) → low1 < 256 ^ t.bytes → G (suc n) m.state.work pc v (R (suc n) rest (after_operator t (shifted_by (shift_of up s) t.bytes low1 c) (op_steps (binary_op op (integer s a.bytes) mode t a (integer s a.bytes) b (integer s2 b.bytes))) m))
+      dead q low1 c below =
+          let empty : code_of (binary_op op (integer s a.bytes) mode t a (integer s a.bytes) b (integer s2 b.bytes)) rest ≡ [] = ap (λ x. binary_code x s s2 (home a) (home b) (home t) a.bytes (wanted (needs at rest) t)) is ∙ rw q refl in
+          nothing_passes (binary_op op (integer s a.bytes) mode t a (integer s a.bytes) b (integer s2 b.bytes)) t (shifted_by (shift_of up s) t.bytes low1 c) (op_steps (binary_op op (integer s a.bytes) mode t a (integer s a.bytes) b (integer s2 b.bytes))) rest n pc (needs at ((binary_op op (integer s a.bytes) mode t a (integer s a.bytes) b (integer s2 b.bytes)) ∷ rest)) m v it empty (eqb-true (wanted (needs at rest) t) 0 q) (shifted_below (shift_of up s) t.bytes low1 c below) stands (other_needed op t a b (operand_wanted op a.bytes (wanted (needs at rest) t)) (right_wanted op b.bytes (wanted (needs at rest) t)) (needs at rest)) h f
+
+      alive : ((wanted (needs at rest) t) == 0) ≡ false → (low1 c : ℕ) → m.temps a.at ≡ Some (record { bytes = a.bytes; content = bits low1 })
+          → m.temps b.at ≡ Some (record { bytes = b.bytes; content = bits c }) → low1 < 256 ^ t.bytes → c < 128
+          → G (suc n) m.state.work pc v (R (suc n) rest (after_operator t (shifted_by (shift_of up s) t.bytes low1 c) (op_steps (binary_op op (integer s a.bytes) mode t a (integer s a.bytes) b (integer s2 b.bytes))) m))
+      alive q low1 c qa qb below small =
+          let most = wanted_most (needs at rest) t in
+          let part = shifted_some up a.bytes (wanted (needs at rest) t) ia.some q (omega (arith, most, same)) in
+          by_width ((shifted_bytes up a.bytes (wanted (needs at rest) t)) - 1) (omega (arith, part)) part.1
+        where
+          h1 : M (operands_needed op t a b (shifted_bytes up a.bytes (wanted (needs at rest) t)) 1 (needs at rest)) m v
+          h1 =
+              subst (λ x. M (operands_needed op t a b x 1 (needs at rest)) m v) (shift_wanted op up is a.bytes b.bytes (wanted (needs at rest) t) q).0
+              (subst (λ x. M (operands_needed op t a b (operand_wanted op a.bytes (wanted (needs at rest) t)) x (needs at rest)) m v) (shift_wanted op up is a.bytes b.bytes (wanted (needs at rest) t) q).1 h)
+
+          count_at : v.at (base b) ≡ c
+          count_at =
+              let r : value v.at (base b) 1 ≡ c % 256 ^ 1 = right_holds op t a b (shifted_bytes up a.bytes (wanted (needs at rest) t)) 1 c (needs at rest) m v ib ib.some qb h1 in
+              let z : base b + 0 ≡ base b = omega arith in
+              let r1 : v.at (base b + 0) * 1 ≡ c % 256 = omega (arith, r) in
+              sym (ap v.at z) ∙ omega (arith, r1, small)
+
+          by_width : (j : ℕ) → (shifted_bytes up a.bytes (wanted (needs at rest) t)) ≡ suc j → (shifted_bytes up a.bytes (wanted (needs at rest) t)) ≤ a.bytes → G (suc n) m.state.work pc v (R (suc n) rest (after_operator t (shifted_by (shift_of up s) t.bytes low1 c) (op_steps (binary_op op (integer s a.bytes) mode t a (integer s a.bytes) b (integer s2 b.bytes))) m))
+          by_width j q1 less =
+              let code : code_of (binary_op op (integer s a.bytes) mode t a (integer s a.bytes) b (integer s2 b.bytes)) rest ≡ turned_code (shift_of up s) (home a) (home b) (home t) (suc j) = ap (λ x. binary_code x s s2 (home a) (home b) (home t) a.bytes (wanted (needs at rest) t)) is ∙ rw q refl ∙ ap (λ x. turned_code (shift_of up s) (home a) (home b) (home t) x) q1 in
+              let stand : HasAt e (turned_code (shift_of up s) (home a) (home b) (home t) (suc j) ++ items rest) pc end = subst (λ x. HasAt e (x ++ items rest) pc end) code stands in
+              let parts = has_parts e (turned_code (shift_of up s) (home a) (home b) (home t) (suc j)) (items rest) pc end stand in
+              let left0 : value v.at (base a) (shifted_bytes up a.bytes (wanted (needs at rest) t)) ≡ low1 % 256 ^ (shifted_bytes up a.bytes (wanted (needs at rest) t)) = left_holds op t a b (shifted_bytes up a.bytes (wanted (needs at rest) t)) 1 low1 (needs at rest) m v ia less qa h1 in
+              let left : value v.at (base a) (suc j) ≡ low1 % 256 ^ (shifted_bytes up a.bytes (wanted (needs at rest) t)) = subst (λ x. value v.at (base a) x ≡ low1 % 256 ^ (shifted_bytes up a.bytes (wanted (needs at rest) t))) q1 left0 in
+              let g = turned_leads p e slots home base place y (shift_of up s) t a b j (low1 % 256 ^ (shifted_bytes up a.bytes (wanted (needs at rest) t))) c pc parts.0 v it ia ib other (omega (arith, q1, less, same)) (omega (arith, q1, less)) left count_at small h1.bytes parts.1 in
+              let number : value g.last.at (base t) (shifted_bytes up a.bytes (wanted (needs at rest) t)) ≡ shifted_by (shift_of up s) (shifted_bytes up a.bytes (wanted (needs at rest) t)) (low1 % 256 ^ (shifted_bytes up a.bytes (wanted (needs at rest) t))) c = subst (λ x. value g.last.at (base t) x ≡ shifted_by (shift_of up s) x (low1 % 256 ^ (shifted_bytes up a.bytes (wanted (needs at rest) t))) c) (sym q1) g.number_is in
+              let number1 : value g.last.at (base t) (shifted_bytes up t.bytes (wanted (needs at rest) t)) ≡ shifted_by (shift_of up s) (shifted_bytes up t.bytes (wanted (needs at rest) t)) (low1 % 256 ^ shifted_bytes up t.bytes (wanted (needs at rest) t)) c = subst (λ x. value g.last.at (base t) (shifted_bytes up x (wanted (needs at rest) t)) ≡ shifted_by (shift_of up s) (shifted_bytes up x (wanted (needs at rest) t)) (low1 % 256 ^ shifted_bytes up x (wanted (needs at rest) t)) c) same number in
+              let most = wanted_most (needs at rest) t in
+              let clear = (y.layout.temps_at t it).clear in
+              let here = shift_part up s g.last.at (base t) (wanted (needs at rest) t) t.bytes low1 c most below (λ x l. g.numbers (base t + x) (omega arith)) number1 in
+              let m1 = after_operator t (shifted_by (shift_of up s) t.bytes low1 c) (op_steps (binary_op op (integer s a.bytes) mode t a (integer s a.bytes) b (integer s2 b.bytes))) m in
+              let frame : Frame v g.last (base t) t.bytes = λ x d r u o. g.same x d r u (narrower (base t) t.bytes (suc j) x (omega (arith, q1, less, same)) o) in
+              let matches = written p e slots home base place y t (bits (shifted_by (shift_of up s) t.bytes low1 c)) (needs at rest) (operands_needed op t a b (shifted_bytes up a.bytes (wanted (needs at rest) t)) 1 (needs at rest)) m (worked (op_steps (binary_op op (integer s a.bytes) mode t a (integer s a.bytes) b (integer s2 b.bytes))) m.state) v g.last it h1 (other_needed op t a b (shifted_bytes up a.bytes (wanted (needs at rest) t)) 1 (needs at rest)) frame (here, shifted_below (shift_of up s) t.bytes low1 c below) g.numbers refl (g.seen ∙ h1.seen) (g.safe ∙ h1.safe) in
+              let take = g.at_most in
+              let room = ia.most in
+              let fits = shift_room (suc j) c (omega (arith, q1, less, room)) small in
+              let big = shift_big op up is (integer s a.bytes) (integer s a.bytes) (integer s2 b.bytes) in
+              after p place e g.steps (suc n) (suc n) m.state.work m1.state.work pc parts.0 v g.last (R (suc n) rest m1) g.goes (omega arith) (omega (arith, take, fits, big)) (f parts.0 m1 g.last parts.2 matches)
+
+      by_count : (low1 low2 : ℕ) → m.temps a.at ≡ Some (record { bytes = a.bytes; content = bits low1 })
+          → m.temps b.at ≡ Some (record { bytes = b.bytes; content = bits low2 }) → low1 < 256 ^ a.bytes → low2 < 256 ^ b.bytes
+          → (x : Bool) → is_count (8 * a.bytes) (number_of_bytes s2 b.bytes low2) ≡ x
+          → G (suc n) m.state.work pc v (next (given (as_number (if x then Ok (wrapped (record { signed = s; bytes = a.bytes }) (shift_number up (number_of_bytes s a.bytes low1) (unsigned_abs (number_of_bytes s2 b.bytes low2)))) else Err ShiftCount)) (worked (op_steps (binary_op op (integer s a.bytes) mode t a (integer s a.bytes) b (integer s2 b.bytes))) m.state)) (λ u st3. R (suc n) rest (machine (with_temp t u m.temps) st3)))
+      by_count low1 low2 qa qb below1 below2 false q = tt
+      by_count low1 low2 qa qb below1 below2 true q =
+          let c = count_is s2 b.bytes low2 (8 * a.bytes) below2 q in
+          let count = unsigned_abs (number_of_bytes s2 b.bytes low2) in
+          let room = ia.most in
+          let z = wrapped (record { signed = s; bytes = a.bytes }) (shift_number up (number_of_bytes s a.bytes low1) count) in
+          let below : low1 < 256 ^ t.bytes = subst (λ x. low1 < 256 ^ x) same below1 in
+          let number0 : low_bytes a.bytes z ≡ shifted_by (shift_of up s) a.bytes low1 low2 = shift_low up s a.bytes low1 count below1 ∙ ap (shifted_by (shift_of up s) a.bytes low1) c.0 in
+          let number : low_bytes t.bytes z ≡ shifted_by (shift_of up s) t.bytes low1 low2 = subst (λ x. low_bytes x z ≡ shifted_by (shift_of up s) x low1 low2) same number0 in
+          subst (λ x. G (suc n) m.state.work pc v (R (suc n) rest (after_operator t x (op_steps (binary_op op (integer s a.bytes) mode t a (integer s a.bytes) b (integer s2 b.bytes))) m))) (sym number)
+          (⊎_elim (λ r. dead r low1 low2 below) (λ r. alive r low1 low2 qa qb below (omega (arith, c.1, room))) (cases_Bool ((wanted (needs at rest) t) == 0)))
+
+  -- ---- quotients and remainders
+
+  divided_wanted : (op : BinOp) (r : Bool) → family_of op ≡ Divided r → (bytes k : ℕ) → (k == 0) ≡ false
+      → (operand_wanted op bytes k ≡ bytes) × (right_wanted op bytes k ≡ bytes)
+  divided_wanted Div r h bytes k q = (all_when bytes k q, all_when bytes k q)
+  divided_wanted Rem r h bytes k q = (all_when bytes k q, all_when bytes k q)
+  divided_wanted op r h bytes k q = absurd cc
+
+  divided_value : (op : BinOp) (r : Bool) → family_of op ≡ Divided r → (mode : Mode) (s : Bool) (b x z : ℕ) (st st1 : State)
+      → binary_result op (integer s b) mode (operand_of p (integer s b) (Number (number_of_bytes s b x)) st) (operand_of p (integer s b) (Number (number_of_bytes s b z)) st1)
+      ≡ as_number (if int_eq (number_of_bytes s b z) (pos 0) then Err ZeroDivisor else Ok (wrapped (record { signed = s; bytes = b }) (int_part r (number_of_bytes s b x) (number_of_bytes s b z))))
+  divided_value Div false h mode s b x z st st1 = refl
+  divided_value Rem true h mode s b x z st st1 = refl
+  divided_value op r h mode s b x z st st1 = absurd cc
+
+  divided_big : (op : BinOp) (r : Bool) → family_of op ≡ Divided r → (ty aty bty : PlainType)
+      → 9600 ≤ 64 * binary_words op ty aty bty
+  divided_big Div r h ty aty bty = omega arith
+  divided_big Rem r h ty aty bty = omega arith
+  divided_big op r h ty aty bty = absurd cc
+
+  clear_row : (c n : ℕ) → IsClear c n → IsClearOf c n
+  clear_row c n x = record {
+    low = λ l. let z = x.low.left l in omega arith;
+    above_low = λ l. let z = x.low.right l in omega arith;
+    high = λ l. let z = x.high.left l in omega arith;
+    above_high = λ l. let z = x.high.right l in omega arith;
+  }
+
+  -- the code of a division, and what comes after it
+  divided_passes : (r s : Bool) (t a b : Temp) (top x z c : ℕ) (rest : List PlainIr) (n pc : ℕ) (need0 : Need) (m : Mach) (v : View)
+      → HasHome slots t → HasHome slots a → HasHome slots b → t.bytes ≡ suc top → a.bytes ≡ suc top → b.bytes ≡ suc top
+      → suc top ≤ 4 → t.at ≢ b.at → value v.at (base a) (suc top) ≡ x → value v.at (base b) (suc top) ≡ z → 1 ≤ z
+      → quotient_of r s top x z < 256 ^ t.bytes → 9600 ≤ c
+      → HasAt e (long_code r s (home a) (home b) (home t) top ++ items rest) pc end
+      → ((k : ℕ) → k ≢ t.at → needs at rest k ≤ need0 k) → M need0 m v → Rest (suc n) rest
+      → G (suc n) m.state.work pc v (R (suc n) rest (after_operator t (quotient_of r s top x z) c m))
+  divided_passes r s t a b top x z c rest n pc need0 m v it ia ib qt qa qb most other xa zb some below big stands more h f =
+      let w = suc top in
+      let first = move_code (home a) (home t) w in
+      let second = quotient_code r s (home t) (home b) top in
+      let s1 = has_parts e (first ++ second) (items rest) pc end stands in
+      let s2 = has_parts e first second pc s1.0 s1.1 in
+      let ta : StandsFrom e (home t) w (base t) Own = subst (λ j. StandsFrom e (home t) j (base t) Own) qt (y.layout.temps_at t it) in
+      let aa : StandsFrom e (home a) w (base a) Own = subst (λ j. StandsFrom e (home a) j (base a) Own) qa (y.layout.temps_at a ia) in
+      let ba : StandsFrom e (home b) w (base b) Own = subst (λ j. StandsFrom e (home b) j (base b) Own) qb (y.layout.temps_at b ib) in
+      let v1 = block e first v in
+      let k = move_holds e (home a) (home t) w (base a) (base t) v aa ta (read_first p e slots home base place y t a w it ia (omega (arith, qa))) h.bytes in
+      let h1 = moved_numbers p e slots home base place y v v1 (base a) (base t) w (y.layout.temps_at a ia).clear h.bytes k in
+      let frame1 = wider_frame v v1 (base t) t.bytes w (omega (arith, qt)) k.frame in
+      let row : (j : ℕ) → j < w → v1.at (base b + j) ≡ v.at (base b + j) = λ j l. row_kept v v1 (base t) t.bytes (base b) b.bytes (y.layout.temps_at b ib).clear (work_outside (base b) b.bytes (y.layout.temps_work b ib)) (y.layout.temps_apart t b it ib other) frame1 j (omega (arith, qb, l)) in
+      let left : value v1.at (base t) w ≡ x = row_value v1.at v.at (base a) (base t) w k.there ∙ xa in
+      let right : value v1.at (base b) w ≡ z = value-same v1.at v.at (base b) w row ∙ zb in
+      let ct : IsClearOf (base t) w = clear_row (base t) w (subst (λ j. IsClear (base t) j) qt (y.layout.temps_work t it)) in
+      let cb : IsClearOf (base b) w = clear_row (base b) w (subst (λ j. IsClear (base b) j) qb (y.layout.temps_work b ib)) in
+      let g = quotients_are_right r s e (home t) (home b) top (base t) (base b) s2.0 s1.0 v1 ta ba most ct cb h1 (subst (λ j. 1 ≤ j) (sym right) some) s2.2 in
+      let go = block_goes e first pc s2.0 v (move_straight (home a) (home t) w) s2.1 in
+      let take1 = move_steps (home a) (home t) w in
+      let take2 = g.at_most in
+      let number : value g.last.at (base t) w ≡ quotient_of r s top x z = g.number_is ∙ ap (λ j. quotient_of r s top j (value v1.at (base b) w)) left ∙ ap (quotient_of r s top x) right in
+      let clear = (y.layout.temps_at t it).clear in
+      let kmost = wanted_most (needs at rest) t in
+      let here : value g.last.at (base t) (wanted (needs at rest) t) ≡ quotient_of r s top x z % 256 ^ wanted (needs at rest) t = sym (value_mod g.last.at (base t) (wanted (needs at rest) t) w (omega (arith, kmost, qt)) (λ j l. g.numbers (base t + j) (omega arith))) ∙ ap (λ j. j % 256 ^ wanted (needs at rest) t) number in
+      let m1 = after_operator t (quotient_of r s top x z) c m in
+      let frame : Wide v g.last (base t) t.bytes = λ i d u low high o. g.same i d u low high (narrower (base t) t.bytes w i (omega (arith, qt)) o) ∙ widened v v1 (base t) t.bytes frame1 i d u low high o in
+      let matches = written_wide p e slots home base place y t (bits (quotient_of r s top x z)) (needs at rest) need0 m (worked c m.state) v g.last it h more frame (here, below) g.numbers refl (g.seen ∙ k.quiet.seen ∙ h.seen) (g.safe ∙ k.quiet.safe ∙ h.safe) in
+      after p place e (code_steps first + g.steps) (suc n) (suc n) m.state.work m1.state.work pc s1.0 v g.last (R (suc n) rest m1) (goes_on_to e (code_steps first) g.steps pc s2.0 s1.0 v v1 g.last go g.goes) (omega arith) (omega (arith, take1, take2, big, most)) (f s1.0 m1 g.last s1.2 matches)
+
+  pub divided_follows : (op : BinOp) (r : Bool) → family_of op ≡ Divided r → (s : Bool) (mode : Mode)
+      (t a b : Temp) (top : ℕ) (rest : List PlainIr) (n pc : ℕ) (m : Mach) (v : View) → HasHome slots t → HasHome slots a
+      → HasHome slots b → t.bytes ≡ suc top → a.bytes ≡ suc top → b.bytes ≡ suc top → suc top ≤ 4 → t.at ≢ b.at
+      → HasAt e (items (binary_op op (integer s (suc top)) mode t a (integer s a.bytes) b (integer s b.bytes) ∷ rest)) pc end
+      → M (needs at (binary_op op (integer s (suc top)) mode t a (integer s a.bytes) b (integer s b.bytes) ∷ rest)) m v
+      → Rest (suc n) rest
+      → G (suc n) m.state.work pc v (R (suc n) (binary_op op (integer s (suc top)) mode t a (integer s a.bytes) b (integer s b.bytes) ∷ rest) m)
+  divided_follows op r is s mode t a b top rest n pc m v it ia ib qt qa qb most other stands h f =
+      from_number p place e s a m.temps (worked (op_steps (binary_op op (integer s (suc top)) mode t a (integer s a.bytes) b (integer s b.bytes))) m.state) _ (suc n) m.state.work pc v
+      (λ low1 ha. from_number p place e s b m.temps (worked (op_steps (binary_op op (integer s (suc top)) mode t a (integer s a.bytes) b (integer s b.bytes))) m.state) _ (suc n) m.state.work pc v
+      (λ low2 hb.
+      let st = worked (op_steps (binary_op op (integer s (suc top)) mode t a (integer s a.bytes) b (integer s b.bytes))) m.state in
+      let below1 : low1 < 256 ^ suc top = subst (λ x. low1 < 256 ^ x) qa (h.temps_hold a _ ia ha refl).1 in
+      let below2 : low2 < 256 ^ suc top = subst (λ x. low2 < 256 ^ x) qb (h.temps_hold b _ ib hb refl).1 in
+      let v0 = divided_value op r is mode s (suc top) low1 low2 st st in
+      let v1 = subst (λ j. binary_result op (integer s (suc top)) mode (operand_of p (integer s j) (Number (number_of_bytes s j low1)) st) (operand_of p (integer s (suc top)) (Number (number_of_bytes s (suc top) low2)) st) ≡ as_number (if int_eq (number_of_bytes s (suc top) low2) (pos 0) then Err ZeroDivisor else Ok (wrapped (record { signed = s; bytes = suc top }) (int_part r (number_of_bytes s (suc top) low1) (number_of_bytes s (suc top) low2))))) (sym qa) v0 in
+      let v2 = subst (λ j. binary_result op (integer s (suc top)) mode (operand_of p (integer s a.bytes) (Number (number_of_bytes s a.bytes low1)) st) (operand_of p (integer s j) (Number (number_of_bytes s j low2)) st) ≡ as_number (if int_eq (number_of_bytes s (suc top) low2) (pos 0) then Err ZeroDivisor else Ok (wrapped (record { signed = s; bytes = suc top }) (int_part r (number_of_bytes s (suc top) low1) (number_of_bytes s (suc top) low2))))) (sym qb) v1 in
+      subst (λ o. G (suc n) m.state.work pc v (next (given o st) (λ u st3. R (suc n) rest (machine (with_temp t u m.temps) st3)))) (sym v2)
+      (by_divisor low1 low2 ha hb below1 below2 (int_eq (number_of_bytes s (suc top) low2) (pos 0)) refl)))
+    where
+      below_result : (low1 low2 : ℕ) → low1 < 256 ^ suc top → low2 < 256 ^ suc top → 1 ≤ low2 → quotient_of r s top low1 low2 < 256 ^ t.bytes
+      below_result low1 low2 l k some =
+          let q = quotient_low r s s top low1 low2 l k some in
+          let u : quotient_of r s top low1 low2 < 256 ^ suc top = subst (λ j. j < 256 ^ suc top) q (low_below (suc top) _) in
+          subst (λ j. quotient_of r s top low1 low2 < 256 ^ j) (sym qt) u
+
+      dead : (wanted (needs at rest) t == 0) ≡ true → (low1 low2 : ℕ) → low1 < 256 ^ suc top → low2 < 256 ^ suc top → 1 ≤ low2
+          → G (suc n) m.state.work pc v (R (suc n) rest (after_operator t (quotient_of r s top low1 low2) (op_steps (binary_op op (integer s (suc top)) mode t a (integer s a.bytes) b (integer s b.bytes))) m))
+      dead q low1 low2 l k some =
+          let empty : code_of (binary_op op (integer s (suc top)) mode t a (integer s a.bytes) b (integer s b.bytes)) rest ≡ [] = ap (λ x. binary_code x s s (home a) (home b) (home t) a.bytes (wanted (needs at rest) t)) is ∙ rw q refl in
+          nothing_passes (binary_op op (integer s (suc top)) mode t a (integer s a.bytes) b (integer s b.bytes)) t (quotient_of r s top low1 low2) (op_steps (binary_op op (integer s (suc top)) mode t a (integer s a.bytes) b (integer s b.bytes))) rest n pc (needs at (binary_op op (integer s (suc top)) mode t a (integer s a.bytes) b (integer s b.bytes) ∷ rest)) m v it empty (eqb-true (wanted (needs at rest) t) 0 q) (below_result low1 low2 l k some) stands (other_needed op t a b (operand_wanted op a.bytes (wanted (needs at rest) t)) (right_wanted op b.bytes (wanted (needs at rest) t)) (needs at rest)) h f
+
+      alive : (wanted (needs at rest) t == 0) ≡ false → (low1 low2 : ℕ) → m.temps a.at ≡ Some (record { bytes = a.bytes; content = bits low1 })
+          → m.temps b.at ≡ Some (record { bytes = b.bytes; content = bits low2 }) → low1 < 256 ^ suc top → low2 < 256 ^ suc top → 1 ≤ low2
+          → G (suc n) m.state.work pc v (R (suc n) rest (after_operator t (quotient_of r s top low1 low2) (op_steps (binary_op op (integer s (suc top)) mode t a (integer s a.bytes) b (integer s b.bytes))) m))
+      alive q low1 low2 ha hb l k some =
+          let h1 : M (operands_needed op t a b a.bytes b.bytes (needs at rest)) m v = subst (λ x. M (operands_needed op t a b x b.bytes (needs at rest)) m v) (divided_wanted op r is a.bytes (wanted (needs at rest) t) q).0 (subst (λ x. M (operands_needed op t a b (operand_wanted op a.bytes (wanted (needs at rest) t)) x (needs at rest)) m v) (divided_wanted op r is b.bytes (wanted (needs at rest) t) q).1 h) in
+          let size : a.bytes - 1 ≡ top = omega (arith, qa) in
+          let code : code_of (binary_op op (integer s (suc top)) mode t a (integer s a.bytes) b (integer s b.bytes)) rest ≡ long_code r s (home a) (home b) (home t) top = ap (λ x. binary_code x s s (home a) (home b) (home t) a.bytes (wanted (needs at rest) t)) is ∙ rw q refl ∙ ap (long_code r s (home a) (home b) (home t)) size in
+          let stand = subst (λ x. HasAt e (x ++ items rest) pc end) code stands in
+          let x1 : value v.at (base a) (suc top) ≡ low1 = subst (λ j. value v.at (base a) j ≡ low1 % 256 ^ j) qa (left_holds op t a b a.bytes b.bytes low1 (needs at rest) m v ia (omega arith) ha h1) ∙ kept_below low1 (256 ^ suc top) l in
+          let x2 : value v.at (base b) (suc top) ≡ low2 = subst (λ j. value v.at (base b) j ≡ low2 % 256 ^ j) qb (right_holds op t a b a.bytes b.bytes low2 (needs at rest) m v ib (omega arith) hb h1) ∙ kept_below low2 (256 ^ suc top) k in
+          divided_passes r s t a b top low1 low2 (op_steps (binary_op op (integer s (suc top)) mode t a (integer s a.bytes) b (integer s b.bytes))) rest n pc (operands_needed op t a b a.bytes b.bytes (needs at rest)) m v it ia ib qt qa qb most other x1 x2 some (below_result low1 low2 l k some) (divided_big op r is (integer s (suc top)) (integer s a.bytes) (integer s b.bytes)) stand (other_needed op t a b a.bytes b.bytes (needs at rest)) h1 f
+
+      by_divisor : (low1 low2 : ℕ) → m.temps a.at ≡ Some (record { bytes = a.bytes; content = bits low1 })
+          → m.temps b.at ≡ Some (record { bytes = b.bytes; content = bits low2 }) → low1 < 256 ^ suc top → low2 < 256 ^ suc top
+          → (x : Bool) → int_eq (number_of_bytes s (suc top) low2) (pos 0) ≡ x
+          → G (suc n) m.state.work pc v (next (given (as_number (if x then Err ZeroDivisor else Ok (wrapped (record { signed = s; bytes = suc top }) (int_part r (number_of_bytes s (suc top) low1) (number_of_bytes s (suc top) low2))))) (worked (op_steps (binary_op op (integer s (suc top)) mode t a (integer s a.bytes) b (integer s b.bytes))) m.state)) (λ u st3. R (suc n) rest (machine (with_temp t u m.temps) st3)))
+      by_divisor low1 low2 ha hb l k true q = tt
+      by_divisor low1 low2 ha hb l k false q =
+          let some = not_zero s (suc top) low2 q in
+          let z = wrapped (record { signed = s; bytes = suc top }) (int_part r (number_of_bytes s (suc top) low1) (number_of_bytes s (suc top) low2)) in
+          let number : low_bytes t.bytes z ≡ quotient_of r s top low1 low2 = ap (λ j. low_bytes j z) qt ∙ quotient_low r s s top low1 low2 l k some in
+          subst (λ x. G (suc n) m.state.work pc v (R (suc n) rest (after_operator t x (op_steps (binary_op op (integer s (suc top)) mode t a (integer s a.bytes) b (integer s b.bytes))) m))) (sym number)
+          (⊎_elim (λ u. dead u low1 low2 l k some) (λ u. alive u low1 low2 ha hb l k some) (cases_Bool (wanted (needs at rest) t == 0)))
+
+  -- ---- all operators
+
+  -- an operator with these types, from where its code stands on
+  abbrev Done : BinOp → (ty aty bty : PlainType) → Mode → (t a b : Temp) → List PlainIr → (n pc : ℕ) → Mach → View → Type 0
+  Done op ty aty bty mode t a b rest n pc m v =
+      HasAt e (items (binary_op op ty mode t a aty b bty ∷ rest)) pc end
+      → G (suc n) m.state.work pc v (R (suc n) (binary_op op ty mode t a aty b bty ∷ rest) m)
+
+  pub operator_follows : (op : BinOp) (ty : PlainType) (mode : Mode) (t a : Temp) (aty : PlainType) (b : Temp)
+      (bty : PlainType) (rest : List PlainIr) (n pc : ℕ) (m : Mach) (v : View)
+      → IsCovered p results me slots (binary_op op ty mode t a aty b bty)
+      → HasAt e (items (binary_op op ty mode t a aty b bty ∷ rest)) pc end
+      → M (needs at (binary_op op ty mode t a aty b bty ∷ rest)) m v
+      → Rest (suc n) rest → G (suc n) m.state.work pc v (R (suc n) (binary_op op ty mode t a aty b bty ∷ rest) m)
+  operator_follows op ty mode t a aty b bty rest n pc m v i stands h f = by_family (family_of op) refl i
+    where
+      by_family : (x : Family) → family_of op ≡ x → IsBinary x slots t a b ty aty bty
+          → G (suc n) m.state.work pc v (R (suc n) (binary_op op ty mode t a aty b bty ∷ rest) m)
+      by_family (Combined o) q k =
+          let w = wanted (needs at rest) t in
+          let la = low_bytes_wanted op o q a.bytes w in
+          let lb = low_right_wanted op o q b.bytes w in
+          let h1 = subst (λ x. M (operands_needed op t a b x w (needs at rest)) m v) la (subst (λ x. M (operands_needed op t a b (operand_wanted op a.bytes w) x (needs at rest)) m v) lb h) in
+          (subst (λ x. Done op x aty bty mode t a b rest n pc m v) (sym k.result_type)
+          (subst (λ x. Done op (integer k.signed t.bytes) x bty mode t a b rest n pc m v) (sym k.left_type)
+          (subst (λ x. Done op (integer k.signed t.bytes) (integer k.left_signed a.bytes) x mode t a b rest n pc m v) (sym k.right_type)
+          (λ stand. combined_follows op o q k.signed k.left_signed k.right_signed mode t a b rest n pc m v k.result k.left k.right k.left_bytes k.right_bytes stand h1 f)))) stands
+      by_family (Compared r exchanged) q k =
+          (subst (λ x. Done op ty x bty mode t a b rest n pc m v) (sym k.left_type)
+          (subst (λ x. Done op ty (integer k.signed a.bytes) x mode t a b rest n pc m v) (sym k.right_type)
+          (λ stand. related_follows op r exchanged q k.signed ty mode t a b rest n pc m v k.result k.left k.right k.same_bytes stand h f))) stands
+      by_family Multiplied q k =
+          (subst (λ x. Done op x aty bty mode t a b rest n pc m v) (sym k.result_type)
+          (subst (λ x. Done op (integer k.signed 2) x bty mode t a b rest n pc m v) (sym k.left_type)
+          (subst (λ x. Done op (integer k.signed 2) (integer k.left_signed 1) x mode t a b rest n pc m v) (sym k.right_type)
+          (λ stand. multiplied_follows op q k.signed k.left_signed k.right_signed mode t a b rest n pc m v k.result k.left k.right k.result_bytes k.left_bytes k.right_bytes stand h f)))) stands
+      by_family (Shifted up) q i =
+          let k = i.0 in
+          let same = k.same_bytes in
+          let type : ty ≡ integer k.signed a.bytes = k.result_type ∙ ap (integer k.signed) (sym same) in
+          (subst (λ x. Done op x aty bty mode t a b rest n pc m v) (sym type)
+          (subst (λ x. Done op (integer k.signed a.bytes) x bty mode t a b rest n pc m v) (sym k.left_type)
+          (subst (λ x. Done op (integer k.signed a.bytes) (integer k.signed a.bytes) x mode t a b rest n pc m v) (sym k.count_type)
+          (λ stand. shifted_follows op up q k.signed k.count_signed mode t a b rest n pc m v k.result k.left k.count same i.1 stand h f)))) stands
+      by_family (Divided r) q i =
+          let k = i.0 in
+          let some = k.result.some in
+          let top = t.bytes - 1 in
+          let qt : t.bytes ≡ suc top = omega arith in
+          let type : ty ≡ integer k.signed (suc top) = k.result_type ∙ ap (integer k.signed) qt in
+          (subst (λ x. Done op x aty bty mode t a b rest n pc m v) (sym type)
+          (subst (λ x. Done op (integer k.signed (suc top)) x bty mode t a b rest n pc m v) (sym k.left_type)
+          (subst (λ x. Done op (integer k.signed (suc top)) (integer k.signed a.bytes) x mode t a b rest n pc m v) (sym k.right_type)
+          (λ stand. divided_follows op r q k.signed mode t a b top rest n pc m v k.result k.left k.right qt (k.left_bytes ∙ qt) (k.right_bytes ∙ qt) (subst (λ j. j ≤ 4) qt k.most) i.1 stand h f)))) stands
+
+  -- ---- unary operators
+
+  turn_straight : (op : UnOp) (q : Location) (n : ℕ) → all_straight (turn_code op q n) ≡ true
+  turn_straight Minus q n = (complements_are_straight q n).1
+  turn_straight Invert q n = (complements_are_straight q n).0
+
+  turn_steps : (op : UnOp) (q : Location) (n : ℕ) → code_steps (turn_code op q n) ≤ 1 + 6 * n
+  turn_steps Minus q n = (complements_take q n).1
+  turn_steps Invert q n = let x = (complements_take q n).0 in omega arith
+
+  unary_straight : (op : UnOp) (a t : Location) (n : ℕ) → all_straight (unary_code op a t n) ≡ true
+  unary_straight op a t n =
+      straight-append (move_code a t n) (turn_code op t n) (move_straight a t n) (turn_straight op t n)
+
+  unary_steps : (op : UnOp) (a t : Location) (n : ℕ) → code_steps (unary_code op a t n) ≤ 1 + 8 * n
+  unary_steps op a t n =
+      let x = move_steps a t n in
+      let z = turn_steps op t n in
+      omega (arith, steps-append (move_code a t n) (turn_code op t n), x, z)
+
+  unary_of_numbers : (op : UnOp) (s : Bool) (mode : Mode) (t a : Temp) (rest : List PlainIr) (n pc : ℕ) (m : Mach) (v : View)
+      → HasHome slots t → HasHome slots a → a.bytes ≡ t.bytes
+      → HasAt e (items (unary_op op (integer s a.bytes) mode t a ∷ rest)) pc end
+      → M (at_least a.at (wanted (needs at rest) t) (without t.at (needs at rest))) m v → Rest (suc n) rest
+      → G (suc n) m.state.work pc v (R (suc n) (unary_op op (integer s a.bytes) mode t a ∷ rest) m)
+  unary_of_numbers op s mode t a rest n pc m v it ia same stands h f =
+      let need = needs at rest in
+      let i = unary_op op (integer s a.bytes) mode t a in
+      let c = op_steps i in
+      let st = worked c m.state in
+      let k = wanted need t in
+      let most = wanted_most need t in
+      let take = unary_steps op (home a) (home t) k in
+      let big : 1 + 8 * k ≤ c = omega (arith, most, same) in
+      from_number p place e s a m.temps st _ (suc n) m.state.work pc v
+      (λ low q.
+      let below : low < 256 ^ a.bytes = (h.temps_hold a _ ia q refl).1 in
+      let g = turns op mode s a.bytes low below in
+      let m1 = after_operator t (low_bytes t.bytes g.number) c m in
+      let matches : M need (after_operator t (turned op t.bytes low) c m) (block e (code_of i rest) v) = unary_matches p e slots home base place y op t a need m v c low it ia same q h in
+      let number : low_bytes t.bytes g.number ≡ turned op t.bytes low = subst (λ b. low_bytes b g.number ≡ turned op b low) same g.low in
+      let matches1 : M need m1 (block e (code_of i rest) v) = subst (λ r. M need (after_operator t r c m) (block e (code_of i rest) v)) (sym number) matches in
+      subst (λ r. G (suc n) m.state.work pc v (next (given r st) (λ u s3. R (suc n) rest (machine (with_temp t u m.temps) s3)))) (sym g.is)
+      (passes i rest (suc n) (suc n) m.state.work m1.state.work pc v (R (suc n) rest m1) stands (unary_straight op (home a) (home t) k) (omega arith) (omega (arith, take, big))
+      (λ mid u. f mid m1 _ u matches1)))
+
+  pub unary_follows : (op : UnOp) (ty : PlainType) (mode : Mode) (t a : Temp) (rest : List PlainIr) (n pc : ℕ) (m : Mach)
+      (v : View) → IsCovered p results me slots (unary_op op ty mode t a)
+      → HasAt e (items (unary_op op ty mode t a ∷ rest)) pc end
+      → M (at_least a.at (wanted (needs at rest) t) (without t.at (needs at rest))) m v → Rest (suc n) rest
+      → G (suc n) m.state.work pc v (R (suc n) (unary_op op ty mode t a ∷ rest) m)
+  unary_follows op ty mode t a rest n pc m v k stands h f =
+      let same = k.same_bytes in
+      let type : ty ≡ integer k.signed a.bytes = k.result_type ∙ ap (integer k.signed) (sym same) in
+      subst (λ x. G (suc n) m.state.work pc v (R (suc n) (unary_op op x mode t a ∷ rest) m)) (sym type)
+      (unary_of_numbers op k.signed mode t a rest n pc m v k.result k.operand same stands h f)
+
+  -- ---- conversions
+
+  conversion_big : (signed from : Bool) (bytes other n : ℕ) → 1 ≤ bytes → n ≤ bytes
+      → 3 + 3 * n ≤ 64 * conversion_words (integer signed bytes) (integer from other)
+  conversion_big signed from bytes other n some l =
+      by_kind (same_type (integer signed bytes) (integer from other))
+    where
+      wide : bytes ≤ widest (integer signed bytes ∷ integer from other ∷ [])
+      wide = omega arith
+
+      by_kind : (x : Bool) → 3 + 3 * n ≤ 64 * (if x || true then 10 * widest (integer signed bytes ∷ integer from other ∷ []) else 100 + 40 * widest (integer signed bytes ∷ integer from other ∷ []))
+      by_kind true = omega (arith, wide, some, l)
+      by_kind false = omega (arith, wide, some, l)
+
+  conversion_of_numbers : (s s1 : Bool) (mode : Mode) (t a : Temp) (rest : List PlainIr) (n pc : ℕ) (m : Mach) (v : View)
+      → HasHome slots t → HasHome slots a
+      → HasAt e (items (conversion t (integer s t.bytes) mode a (integer s1 a.bytes) ∷ rest)) pc end
+      → M (at_least a.at (wanted (needs at rest) t) (without t.at (needs at rest))) m v → Rest (suc n) rest
+      → G (suc n) m.state.work pc v (R (suc n) (conversion t (integer s t.bytes) mode a (integer s1 a.bytes) ∷ rest) m)
+  conversion_of_numbers s s1 mode t a rest n pc m v it ia stands h f =
+      let need = needs at rest in
+      let i = conversion t (integer s t.bytes) mode a (integer s1 a.bytes) in
+      let c = op_steps i in
+      let st = worked c m.state in
+      let k = wanted need t in
+      let most = wanted_most need t in
+      let some = it.some in
+      let big : 3 + 3 * k ≤ c = conversion_big s s1 t.bytes a.bytes k some most in
+      let take = conversion_steps s1 (home a) (home t) a.bytes k in
+      from_number p place e s1 a m.temps st _ (suc n) m.state.work pc v
+      (λ low q.
+      let z = number_of_bytes s1 a.bytes low in
+      let m1 = after_operator t (low_bytes t.bytes (wrapped (record { signed = s; bytes = t.bytes }) z)) c m in
+      let matches = conversion_matches p e slots home base place y s1 t a need m v c low it ia q h in
+      let matches1 : M need m1 (block e (code_of i rest) v) = subst (λ r. M need (after_operator t r c m) (block e (code_of i rest) v)) (sym (low_of_wrapped s t.bytes z)) matches in
+      passes i rest (suc n) (suc n) m.state.work m1.state.work pc v (R (suc n) rest m1) stands (conversion_straight s1 (home a) (home t) a.bytes k) (omega arith) (omega (arith, take, big))
+      (λ mid u. f mid m1 _ u matches1))
+
+  pub conversion_follows : (t : Temp) (ty : PlainType) (mode : Mode) (a : Temp) (aty : PlainType) (rest : List PlainIr)
+      (n pc : ℕ) (m : Mach) (v : View) → IsCovered p results me slots (conversion t ty mode a aty)
+      → HasAt e (items (conversion t ty mode a aty ∷ rest)) pc end
+      → M (at_least a.at (wanted (needs at rest) t) (without t.at (needs at rest))) m v → Rest (suc n) rest
+      → G (suc n) m.state.work pc v (R (suc n) (conversion t ty mode a aty ∷ rest) m)
+  conversion_follows t ty mode a aty rest n pc m v k stands h f =
+      subst (λ x. HasAt e (items (conversion t x mode a aty ∷ rest)) pc end → G (suc n) m.state.work pc v (R (suc n) (conversion t x mode a aty ∷ rest) m)) (sym k.result_type)
+      (subst (λ x. HasAt e (items (conversion t (integer k.signed t.bytes) mode a x ∷ rest)) pc end → G (suc n) m.state.work pc v (R (suc n) (conversion t (integer k.signed t.bytes) mode a x ∷ rest) m)) (sym k.from_type)
+      (λ stand. conversion_of_numbers k.signed k.from_signed mode t a rest n pc m v k.result k.from stand h f)) stands
+
+  -- ---- accesses
+
+  -- the state when an operation begins, whose steps are counted
+  abbrev begun : PlainIr → Mach → State
+  begun i m = worked (op_steps i) m.state
+
+  abbrev access_in : (o offset bytes : ℕ) → HasNumberAt p o offset bytes → ObjectState → Access
+  access_in o offset bytes l x =
+      record { object = o; leaf = l.number; space = l.declared.space; declared = l.declared; state = x }
+
+  -- how a load and a store go on
+  abbrev load_on : ℕ → List PlainIr → Temp → Mach → Value → State → Outcome Value
+  load_on n rest t m x s1 = R n rest (machine (with_temp t x m.temps) s1)
+
+  abbrev store_on : ℕ → List PlainIr → Mach → Value → State → Outcome Value
+  store_on n rest m x s1 = R n rest (machine m.temps s1)
+
+  pub load_follows : (t : Temp) (o offset : ℕ) (l : HasNumberAt p o offset t.bytes) (rest : List PlainIr) (n pc : ℕ)
+      (m : Mach) (v : View) → HasHome slots t → HasAt e (items (load_object t o offset ∷ rest)) pc end
+      → M (without t.at (needs at rest)) m v → Rest n rest
+      → G (suc n) m.state.work pc v (R (suc n) (load_object t o offset ∷ rest) m)
+  load_follows t o offset l rest n pc m v it stands h f = at_object (slice_get m.state.objects o) refl
+    where
+      at_value : (x : ObjectState) → slice_get m.state.objects o ≡ Some x → (u : Value) → leaf_of x l.number ≡ Some u
+          → HoldsLeaf v.at (place o + offset) t.bytes u
+          → G (suc n) m.state.work pc v (next (read_value p (access_in o offset t.bytes l x) (Some u) (begun (load_object t o offset) m)) (load_on n rest t m))
+      at_value x q (Number i) w k =
+          let copies = copy_steps (object_location p.objects o offset) (home t) t.bytes in
+          let some = it.some in
+          let s1 = after_read p e slots home base place y o offset t.bytes l i (begun (load_object t o offset) m) in
+          let m1 = machine (with_content t (bits (low_bytes t.bytes i)) m.temps) s1 in
+          let work : s1.work ≡ m.state.work + op_steps (load_object t o offset) = recorded_work l.declared.storage _ (begun (load_object t o offset) m) in
+          let small : code_steps (code_of (load_object t o offset) rest) ≤ 64 * (5 * t.bytes) = omega (arith, copies.1) in
+          passes (load_object t o offset) rest n (suc n) m.state.work m1.state.work pc v (R n rest m1) stands (copy_straight (object_location p.objects o offset) (home t) t.bytes) (omega (arith, copies.0, some)) (omega (arith, small, work))
+          (λ mid u. f mid m1 _ u (load_matches p e slots home base place y t o offset l (needs at rest) m v (op_steps (load_object t o offset)) i x it q w h))
+      at_value x q (Pointer z) w k = absurd k
+
+      at_leaf : (x : ObjectState) → slice_get m.state.objects o ≡ Some x → (z : Option Value) → leaf_of x l.number ≡ z
+          → G (suc n) m.state.work pc v (next (read_value p (access_in o offset t.bytes l x) z (begun (load_object t o offset) m)) (load_on n rest t m))
+      at_leaf x q None w = tt
+      at_leaf x q (Some u) w = at_value x q u w (h.leaves_hold (leaf_with p o offset t.bytes l) x u q w)
+
+      at_object : (z : Option ObjectState) → slice_get m.state.objects o ≡ z
+          → G (suc n) m.state.work pc v (next (read p (object_access p None o offset (begun (load_object t o offset) m)) (begun (load_object t o offset) m)) (load_on n rest t m))
+      at_object None q =
+          let a : object_access p None o offset (begun (load_object t o offset) m) ≡ None = rw (l.is_object, q) refl in
+          subst (λ z. G (suc n) m.state.work pc v (next (read p z (begun (load_object t o offset) m)) (load_on n rest t m))) (sym a) tt
+      at_object (Some x) q =
+          let a : object_access p None o offset (begun (load_object t o offset) m) ≡ Some (access_in o offset t.bytes l x) = rw (l.is_object, q, l.found) refl in
+          subst (λ z. G (suc n) m.state.work pc v (next (read p z (begun (load_object t o offset) m)) (load_on n rest t m))) (sym a) (at_leaf x q (leaf_of x l.number) refl)
+
+  pub store_follows : (t : Temp) (o offset : ℕ) (l : HasNumberAt p o offset t.bytes) (rest : List PlainIr) (n pc : ℕ)
+      (m : Mach) (v : View) → HasHome slots t → HasAt e (items (store_object o offset t ∷ rest)) pc end
+      → M (at_least t.at t.bytes (needs at rest)) m v → Rest n rest
+      → G (suc n) m.state.work pc v (R (suc n) (store_object o offset t ∷ rest) m)
+  store_follows t o offset l rest n pc m v it stands h f = at_object (slice_get m.state.objects o) refl
+    where
+      put_is : (x : ObjectState) (u : Value) → put_leaf (Some (access_in o offset t.bytes l x)) u (begun (store_object o offset t) m) ≡ got u (stored (access_in o offset t.bytes l x) u (begun (store_object o offset t) m))
+      put_is x u = rw (l.in_data) refl
+
+      at_number : (x : ObjectState) (low : ℕ) → m.temps t.at ≡ Some (record { bytes = t.bytes; content = bits low })
+          → G (suc n) m.state.work pc v (next (put_leaf (Some (access_in o offset t.bytes l x)) (Number (number_of_bytes l.signed t.bytes low)) (begun (store_object o offset t) m)) (store_on n rest m))
+      at_number x low q =
+          let i = number_of_bytes l.signed t.bytes low in
+          let copies = copy_steps (home t) (object_location p.objects o offset) t.bytes in
+          let some = it.some in
+          let s1 = after_write p e slots home base place y o offset t.bytes l i (begun (store_object o offset t) m) in
+          let m1 = machine m.temps s1 in
+          let work : s1.work ≡ m.state.work + op_steps (store_object o offset t) = recorded_work l.declared.storage _ _ in
+          let small : code_steps (code_of (store_object o offset t) rest) ≤ 64 * (5 * t.bytes) = omega (arith, copies.1) in
+          let below : low < 256 ^ t.bytes = (h.temps_hold t _ it q refl).1 in
+          subst (λ z. G (suc n) m.state.work pc v (next z (store_on n rest m))) (sym (put_is x (Number i)))
+          (passes (store_object o offset t) rest n (suc n) m.state.work m1.state.work pc v (R n rest m1) stands (copy_straight (home t) (object_location p.objects o offset) t.bytes) (omega (arith, copies.0, some)) (omega (arith, small, work))
+          (λ mid u. f mid m1 _ u (store_matches p e slots home base place y t o offset l (needs at rest) m v (op_steps (store_object o offset t)) low i it q (low_of_number l.signed t.bytes low below) h)))
+
+      at_access : (x : ObjectState) → G (suc n) m.state.work pc v (next (put p (Some (access_in o offset t.bytes l x)) t m.temps (begun (store_object o offset t) m)) (store_on n rest m))
+      at_access x =
+          let ty : accessed_type p (Some (access_in o offset t.bytes l x)) ≡ integer l.signed t.bytes = rw (l.is_leaf) refl in
+          subst (λ z. G (suc n) m.state.work pc v (next (next (held_as z t m.temps (begun (store_object o offset t) m)) (λ u s1. put_leaf (Some (access_in o offset t.bytes l x)) u s1)) (store_on n rest m))) (sym ty)
+          (subst (λ z. G (suc n) m.state.work pc v z) (sym (next_next (held_as (integer l.signed t.bytes) t m.temps (begun (store_object o offset t) m)) (λ u s1. put_leaf (Some (access_in o offset t.bytes l x)) u s1) (store_on n rest m)))
+          (from_number p place e l.signed t m.temps (begun (store_object o offset t) m) (λ u s1. next (put_leaf (Some (access_in o offset t.bytes l x)) u s1) (store_on n rest m)) (suc n) m.state.work pc v (at_number x)))
+
+      at_object : (z : Option ObjectState) → slice_get m.state.objects o ≡ z
+          → G (suc n) m.state.work pc v (next (put p (object_access p None o offset (begun (store_object o offset t) m)) t m.temps (begun (store_object o offset t) m)) (store_on n rest m))
+      at_object None q =
+          let a : object_access p None o offset (begun (store_object o offset t) m) ≡ None = rw (l.is_object, q) refl in
+          subst (λ z. G (suc n) m.state.work pc v (next (put p z t m.temps (begun (store_object o offset t) m)) (store_on n rest m))) (sym a)
+          (subst (λ z. G (suc n) m.state.work pc v z) (sym (next_next (held_as void t m.temps (begun (store_object o offset t) m)) (λ u s1. put_leaf None u s1) (store_on n rest m)))
+          (from_nothing p place e t m.temps (begun (store_object o offset t) m) (λ u s1. next (put_leaf None u s1) (store_on n rest m)) (suc n) m.state.work pc v))
+      at_object (Some x) q =
+          let a : object_access p None o offset (begun (store_object o offset t) m) ≡ Some (access_in o offset t.bytes l x) = rw (l.is_object, q, l.found) refl in
+          subst (λ z. G (suc n) m.state.work pc v (next (put p z t m.temps (begun (store_object o offset t) m)) (store_on n rest m))) (sym a) (at_access x)
+
+  -- ---- jumps
+
+  -- where a label that has a word stands, and what is needed there
+  pub record Target (l : ℕ) (rest : List PlainIr) : Type 0 where
+    pub ready : e.word_of (link.label_of l) < 65536 → Ready (e.word_of (link.label_of l)) rest
+    pub needed : (u : ℕ) → needs at rest u ≤ at l u
+
+  -- behind an operation that is no label
+  onward : (i : PlainIr) (ops : List PlainIr) (pc : ℕ) → HasAt e (items (i ∷ ops)) pc end
+      → (mid : ℕ) × HasAt e (items ops) mid end
+  onward i ops pc stands = let s = has_parts e (code_of i ops) (items ops) pc end stands in (s.0, s.2)
+
+  found : (ops : List PlainIr) (pc l : ℕ) (rest : List PlainIr) → Ready pc ops → find l ops ≡ Some rest → Target l rest
+  found [] pc l rest r f = absurd (cc)
+  found (label k ∷ ops) pc l rest r f =
+      let s = r.stands in
+      ⊎_elim
+      (λ q.
+      let g : (if k == l then Some ops else find l ops) ≡ Some rest = f in
+      let h : Some ops ≡ Some rest = (rw q at g) in
+      let o : ops ≡ rest = cc in
+      let i = eqb-true k l q in
+      let here : e.word_of (link.label_of l) < 65536 → e.word_of (link.label_of k) ≡ pc = λ w. s.1.0 (subst (λ n. e.word_of (link.label_of n) < 65536) (sym i) w) in
+      let stands : e.word_of (link.label_of l) < 65536 → HasAt e (items ops) (e.word_of (link.label_of l)) end = λ w. subst (λ n. HasAt e (items ops) n end) (s.1.1 ∙ sym (here w) ∙ ap (λ n. e.word_of (link.label_of n)) i) s.2 in
+      let needed : (u : ℕ) → needs at ops u ≤ at l u = λ u. subst (λ n. needs at ops u ≤ at n u) i (r.live.0 u) in
+      subst (λ x. Target l x) o (record { ready = λ w. record { covered = r.covered.1; live = r.live.1; inside = r.inside; stands = stands w }; needed = needed }))
+      (λ q.
+      let g : (if k == l then Some ops else find l ops) ≡ Some rest = f in
+      let h : find l ops ≡ Some rest = (rw q at g) in
+      found ops s.0 l rest (record { covered = r.covered.1; live = r.live.1; inside = r.inside; stands = s.2 }) h)
+      (cases_Bool (k == l))
+  found (constant t k ∷ ops) pc l rest r f = let s = onward (constant t k) ops pc r.stands in found ops s.0 l rest (record { covered = r.covered.1; live = r.live; inside = r.inside; stands = s.1 }) f
+  found (copy t u ∷ ops) pc l rest r f = let s = onward (copy t u) ops pc r.stands in found ops s.0 l rest (record { covered = r.covered.1; live = r.live; inside = r.inside; stands = s.1 }) f
+  found (load_object t o offset ∷ ops) pc l rest r f = let s = onward (load_object t o offset) ops pc r.stands in found ops s.0 l rest (record { covered = r.covered.1; live = r.live; inside = r.inside; stands = s.1 }) f
+  found (store_object o offset t ∷ ops) pc l rest r f = let s = onward (store_object o offset t) ops pc r.stands in found ops s.0 l rest (record { covered = r.covered.1; live = r.live; inside = r.inside; stands = s.1 }) f
+  found (binary_op op ty mode t a aty b bty ∷ ops) pc l rest r f = let s = onward (binary_op op ty mode t a aty b bty) ops pc r.stands in found ops s.0 l rest (record { covered = r.covered.1; live = r.live; inside = r.inside; stands = s.1 }) f
+  found (conversion t ty mode a aty ∷ ops) pc l rest r f = let s = onward (conversion t ty mode a aty) ops pc r.stands in found ops s.0 l rest (record { covered = r.covered.1; live = r.live; inside = r.inside; stands = s.1 }) f
+  found (jump k ∷ ops) pc l rest r f = let s = onward (jump k) ops pc r.stands in found ops s.0 l rest (record { covered = r.covered.1; live = r.live; inside = r.inside; stands = s.1 }) f
+  found (branch_zero t k ∷ ops) pc l rest r f = let s = onward (branch_zero t k) ops pc r.stands in found ops s.0 l rest (record { covered = r.covered.1; live = r.live; inside = r.inside; stands = s.1 }) f
+  found (return_from t ∷ ops) pc l rest r f = let s = onward (return_from t) ops pc r.stands in found ops s.0 l rest (record { covered = r.covered.1; live = r.live; inside = r.inside; stands = s.1 }) f
+  found (address t o offset ∷ ops) pc l rest r f = absurd r.covered.0
+  found (field t space offset ∷ ops) pc l rest r f = absurd r.covered.0
+  found (load_at t u space ∷ ops) pc l rest r f = absurd r.covered.0
+  found (store_at t space u ∷ ops) pc l rest r f = absurd r.covered.0
+  found (unary_op op ty mode t a ∷ ops) pc l rest r f = let s = onward (unary_op op ty mode t a) ops pc r.stands in found ops s.0 l rest (record { covered = r.covered.1; live = r.live; inside = r.inside; stands = s.1 }) f
+  found (call_function g t ∷ ops) pc l rest r f = let s = onward (call_function g t) ops pc r.stands in found ops s.0 l rest (record { covered = r.covered.1; live = r.live; inside = λ b c. r.inside b (Contains-append_right (g ∷ []) (called_in ops) b c); stands = s.1 }) f
+  found (port_in t port index width ∷ ops) pc l rest r f = absurd r.covered.0
+  found (port_out t port index width ∷ ops) pc l rest r f = absurd r.covered.0
+
+  -- what is shown from any operation on
+  abbrev pub Onward : ℕ → Type 0
+  Onward n = (pc : ℕ) (rest : List PlainIr) (m : Mach) (v : View) → Ready pc rest → M (needs at rest) m v
+      → G n m.state.work pc v (R n rest m)
+
+  -- to a label
+  jumps : (start l n c k pc : ℕ) (m : Mach) (v v1 : View) → Ready start all → e.word_of (link.label_of l) < 65536
+      → Goes e k pc v (e.word_of (link.label_of l)) v1 → 1 ≤ k → k ≤ c → M (at l) m v1 → Onward n
+      → G (suc n) m.state.work pc v (jump_to (find l all) (λ q u. exec_from functions p inputs n q.code q.stack q.rest u) all stack (machine m.temps (worked c m.state)))
+  jumps start l n c k pc m v v1 ready w goes some most h f = by_label (find l all) refl
+    where
+      by_label : (o : Option (List PlainIr)) → find l all ≡ o
+          → G (suc n) m.state.work pc v (jump_to o (λ q u. exec_from functions p inputs n q.code q.stack q.rest u) all stack (machine m.temps (worked c m.state)))
+      by_label None q = tt
+      by_label (Some rest) q =
+          let g = found all start l rest ready q in
+          let m1 = machine m.temps (worked c m.state) in
+          let z = weaker p e slots home base place y (at l) (needs at rest) m v1 h g.needed in
+          let matches : M (needs at rest) m1 v1 = record { temps_hold = z.temps_hold; leaves_hold = z.leaves_hold; kept = z.kept; bytes = z.bytes; seen = z.seen; safe = z.safe } in
+          after p place e k n (suc n) m.state.work m1.state.work pc (e.word_of (link.label_of l)) v v1 (R n rest m1) goes (omega arith) (omega arith) (f (e.word_of (link.label_of l)) rest m1 v1 (g.ready w) matches)
+
+  pub jump_follows : (start l : ℕ) (rest : List PlainIr) (n pc : ℕ) (m : Mach) (v : View) → Ready start all
+      → HasAt e (items (jump l ∷ rest)) pc end → M (at l) m v → Onward n
+      → G (suc n) m.state.work pc v (R (suc n) (jump l ∷ rest) m)
+  jump_follows start l rest n pc m v ready stands h f =
+      jumps start l n (op_steps (jump l)) 1 pc m v v ready (jump_has_word e (link.label_of l) pc stands.0 stands.1) (jump_goes e (link.label_of l) pc stands.0 v stands.1) (omega arith) (omega arith) h f
+
+  -- the same after an operation that changes neither temporaries nor objects
+  again : (need : Need) (m : Mach) (v : View) (c : ℕ) → M need m v → M need (machine m.temps (worked c m.state)) v
+  again need m v c z =
+      record { temps_hold = z.temps_hold; leaves_hold = z.leaves_hold; kept = z.kept; bytes = z.bytes; seen = z.seen; safe = z.safe }
+
+  -- ---- branches
+
+  -- all is kept by a test
+  tested : (need : Need) (m : Mach) (v : View) (t : Temp) → HasHome slots t → M need m v
+      → M need m (block e (test_code (home t) t.bytes) v)
+  tested need m v t it h =
+      let k : KeepsAll v (block e (test_code (home t) t.bytes) v) = tests_keep e (home t) t.bytes (base t) v (y.layout.temps_at t it) h.bytes in
+      record {
+        temps_hold = λ u x iu q w. (let some = (y.layout.temps_at u iu).clear in same_content v.at (block e (test_code (home t) t.bytes) v).at (base u) (wanted need u) u.bytes x.content (λ j l. k.same (base u + j) (omega arith) (omega arith)) (h.temps_hold u x iu q w));
+        leaves_hold = λ l x u q w. (let some = (y.layout.leaves_at l).clear in same_leaf v.at (block e (test_code (home t) t.bytes) v).at (place l.object + l.at) l.bytes u (λ j r. k.same (place l.object + l.at + j) (omega arith) (omega arith)) (h.leaves_hold l x u q w));
+        kept = λ i q. (let u = y.high i q in k.same i (omega arith) (omega arith)) ∙ h.kept i q;
+        bytes = λ i u. rw (k.same i (omega arith) (omega arith)) (h.bytes i u);
+        seen = k.seen ∙ h.seen;
+        safe = k.safe ∙ h.safe;
+      }
+
+  zero_flag : (n : ℕ) → 1 ≤ n → (q : Location) (a : ℕ) (v : View) → StandsFrom e q n a Own → HoldsNumbers v
+      → (block e (test_code q n) v).flags.z ≡ from_bool (value v.at a n == 0)
+  zero_flag zero l q a v s h = absurd (omega arith)
+  zero_flag (suc n) l q a v s h = tests_tell_zero e q n a v s h
+
+  either_left : (a b : Need) (u : ℕ) → a u ≤ either a b u
+  either_left a b u = omega arith
+
+  either_right : (a b : Need) (u : ℕ) → b u ≤ either a b u
+  either_right a b u = omega arith
+
+  pub branch_follows : (start l : ℕ) (t : Temp) (rest : List PlainIr) (n pc : ℕ) (m : Mach) (v : View)
+      → Ready start all → AreCovered p results me slots rest → IsLive at rest
+      → ((b : ℕ) → Contains (called_in rest) b → Contains (called_in all) b) → HasHome slots t
+      → HasAt e (items (branch_zero t l ∷ rest)) pc end
+      → M (at_least t.at t.bytes (either (needs at rest) (at l))) m v → Onward n
+      → G (suc n) m.state.work pc v (R (suc n) (branch_zero t l ∷ rest) m)
+  branch_follows start l t rest n pc m v ready covered live inside it stands h f =
+      let need = needs at rest in
+      let both = either need (at l) in
+      let need0 = at_least t.at t.bytes both in
+      let c = op_steps (branch_zero t l) in
+      let st = worked c m.state in
+      let test = test_code (home t) t.bytes in
+      let jumper = BranchTo true 1 (link.label_of l) ∷ [] in
+      let s = has_parts e (test ++ jumper) (items rest) pc end stands in
+      let s1 = has_parts e test jumper pc s.0 s.1 in
+      let to_end : HasAt e (items rest) s1.2.0 end = subst (λ x. HasAt e (items rest) x end) s1.2.2 s.2 in
+      let v1 = block e test v in
+      let straight = (values_are_straight (home t) 0 0 t.bytes).1 in
+      let goes = block_goes e test pc s1.0 v straight s1.1 in
+      let take : code_steps test ≤ 1 + 2 * t.bytes = (values_take (home t) 0 0 t.bytes).1 in
+      let kept = tested need0 m v t it h in
+      let here : M need m v1 = weaker p e slots home base place y need0 need m v1 kept (λ u. let a = either_left need (at l) u in let b = least_other t.at t.bytes u both in omega (arith, a, b)) in
+      let there : M (at l) m v1 = weaker p e slots home base place y need0 (at l) m v1 kept (λ u. let a = either_right need (at l) u in let b = least_other t.at t.bytes u both in omega (arith, a, b)) in
+      from_held p place e t m.temps st _ (suc n) m.state.work pc v
+      (λ x q w.
+      let content = whole p e slots home base place y both m v t x h it q w in
+      by_content s1.0 s1.2.0 goes take s1.2.1 to_end here there x.content content)
+    where
+      by_content : (mid to : ℕ)
+          → Goes e (code_steps (test_code (home t) t.bytes)) pc v mid (block e (test_code (home t) t.bytes) v)
+          → code_steps (test_code (home t) t.bytes) ≤ 1 + 2 * t.bytes
+          → BranchesAt e true 1 (link.label_of l) mid to → HasAt e (items rest) to end
+          → M (needs at rest) m (block e (test_code (home t) t.bytes) v)
+          → M (at l) m (block e (test_code (home t) t.bytes) v) → (x : Content)
+          → HoldsContent v.at (base t) t.bytes t.bytes x
+          → G (suc n) m.state.work pc v (if is_zero x then jump_to (find l all) (λ q u. exec_from functions p inputs n q.code q.stack q.rest u) all stack (machine m.temps (worked (op_steps (branch_zero t l)) m.state)) else R n rest (machine m.temps (worked (op_steps (branch_zero t l)) m.state)))
+      by_content mid to goes take branch to_end here there (points x) content = absurd content
+      by_content mid to goes take branch to_end here there (bits low) content =
+          let c = op_steps (branch_zero t l) in
+          let k = code_steps (test_code (home t) t.bytes) in
+          let v1 = block e (test_code (home t) t.bytes) v in
+          let m1 = machine m.temps (worked c m.state) in
+          let number : value v.at (base t) t.bytes ≡ low = content.0 ∙ kept_below low (256 ^ t.bytes) content.1 in
+          let flag : v1.flags.z ≡ from_bool (low == 0) = zero_flag t.bytes it.some (home t) (base t) v (y.layout.temps_at t it) h.bytes ∙ ap (λ x. from_bool (x == 0)) number in
+          ⊎_elim
+          (λ (q : (low == 0) ≡ true).
+          let set : v1.flags.z ≡ 1 = flag ∙ ap from_bool q in
+          let b = branch_taken e true 1 (link.label_of l) mid to v1 refl set branch in
+          let least = b.at_least in
+          let most = b.at_most in
+          rw q (jumps start l n c (k + b.steps) pc m v v1 ready (branch_has_word e true 1 (link.label_of l) mid to branch) (goes_on_to e k b.steps pc mid (e.word_of (link.label_of l)) v v1 v1 goes b.goes) (omega arith) (omega (arith, take, most)) there f))
+          (λ (q : (low == 0) ≡ false).
+          let clear : v1.flags.z ≡ 0 = flag ∙ ap from_bool q in
+          let b = branch_passed e true 1 (link.label_of l) mid to v1 refl clear branch in
+          rw q (after p place e (k + 1) n (suc n) m.state.work m1.state.work pc to v v1 (R n rest m1) (goes_on_to e k 1 pc mid to v v1 v1 goes b) (omega arith) (omega (arith, take)) (f to rest m1 v1 (record { covered = covered; live = live; inside = inside; stands = to_end }) (again (needs at rest) m v1 c here))))
+          (cases_Bool (low == 0))
+
+  -- ---- labels
+
+  -- a label counts for nothing
+  label_follows : (l : ℕ) (rest : List PlainIr) (n pc : ℕ) (m : Mach) (v : View)
+      → G (suc n) (m.state.work + op_steps (label l)) pc v (R (suc n) rest (machine m.temps (worked (op_steps (label l)) m.state)))
+      → G (suc n) m.state.work pc v (R (suc n) (label l ∷ rest) m)
+  label_follows l rest n pc m v f =
+      let q : m.state.work + op_steps (label l) ≡ m.state.work = omega arith in
+      subst (λ w. G (suc n) w pc v (R (suc n) (label l ∷ rest) m)) q f
+
+  -- ---- all operations
+
+  -- what is shown from a call on, and from a return on
+  abbrev pub CallCase : ℕ → Type 0
+  CallCase n =
+      (g : ℕ) (to : Option Temp) (pc : ℕ) (rest : List PlainIr) (m : Mach) (v : View)
+      → Ready pc (call_function g to ∷ rest) → M (needs at (call_function g to ∷ rest)) m v
+      → G (suc n) m.state.work pc v (R (suc n) (call_function g to ∷ rest) m)
+
+  abbrev pub ReturnCase : ℕ → Type 0
+  ReturnCase n =
+      (from : Option Temp) (pc : ℕ) (rest : List PlainIr) (m : Mach) (v : View)
+      → Ready pc (return_from from ∷ rest) → M (returned_need from) m v
+      → G (suc n) m.state.work pc v (R (suc n) (return_from from ∷ rest) m)
+
+  pub follows : (start : ℕ) → Ready start all → (n : ℕ) → Onward n → CallCase n → ReturnCase n → Onward (suc n)
+  follows start ready n go calls returns pc [] m v r h = tt
+  follows start ready n go calls returns pc (constant t k ∷ rest) m v r h =
+      constant_follows t k rest n pc m v r.covered.0 r.stands h (λ pc1 m1 v1 s z. follows start ready n go calls returns pc1 rest m1 v1 (record { covered = r.covered.1; live = r.live; inside = r.inside; stands = s }) z)
+  follows start ready n go calls returns pc (copy t u ∷ rest) m v r h =
+      let i = r.covered.0 in
+      copy_follows t u rest n pc m v i.0 i.1 i.2 r.stands h (λ pc1 m1 v1 s z. follows start ready n go calls returns pc1 rest m1 v1 (record { covered = r.covered.1; live = r.live; inside = r.inside; stands = s }) z)
+  follows start ready n go calls returns pc (load_object t o offset ∷ rest) m v r h =
+      let i = r.covered.0 in
+      load_follows t o offset i.1 rest n pc m v i.0 r.stands h (λ pc1 m1 v1 s z. go pc1 rest m1 v1 (record { covered = r.covered.1; live = r.live; inside = r.inside; stands = s }) z)
+  follows start ready n go calls returns pc (store_object o offset t ∷ rest) m v r h =
+      let i = r.covered.0 in
+      store_follows t o offset i.1 rest n pc m v i.0 r.stands h (λ pc1 m1 v1 s z. go pc1 rest m1 v1 (record { covered = r.covered.1; live = r.live; inside = r.inside; stands = s }) z)
+  follows start ready n go calls returns pc (binary_op op ty mode t a aty b bty ∷ rest) m v r h =
+      operator_follows op ty mode t a aty b bty rest n pc m v r.covered.0 r.stands h (λ pc1 m1 v1 s z. follows start ready n go calls returns pc1 rest m1 v1 (record { covered = r.covered.1; live = r.live; inside = r.inside; stands = s }) z)
+  follows start ready n go calls returns pc (label l ∷ rest) m v r h =
+      let s = r.stands in
+      let need = needs at rest in
+      let z = weaker p e slots home base place y (at l) need m v h r.live.0 in
+      let stands : HasAt e (items rest) pc end = subst (λ i. HasAt e (items rest) i end) s.1.1 s.2 in
+      after p place e 0 (suc n) (suc n) m.state.work m.state.work pc pc v v (R (suc n) (label l ∷ rest) m) (record { by = refl }) (omega arith) (omega arith)
+      (label_follows l rest n pc m v (follows start ready n go calls returns pc rest (machine m.temps (worked (op_steps (label l)) m.state)) v (record { covered = r.covered.1; live = r.live.1; inside = r.inside; stands = stands }) (again need m v (op_steps (label l)) z)))
+  follows start ready n go calls returns pc (jump l ∷ rest) m v r h =
+      jump_follows start l rest n pc m v ready r.stands h go
+  follows start ready n go calls returns pc (branch_zero t l ∷ rest) m v r h =
+      branch_follows start l t rest n pc m v ready r.covered.1 r.live r.inside r.covered.0 r.stands h go
+  follows start ready n go calls returns pc (return_from from ∷ rest) m v r h =
+      returns from pc rest m v r h
+  follows start ready n go calls returns pc (conversion t ty mode a aty ∷ rest) m v r h =
+      conversion_follows t ty mode a aty rest n pc m v r.covered.0 r.stands h (λ pc1 m1 v1 s z. follows start ready n go calls returns pc1 rest m1 v1 (record { covered = r.covered.1; live = r.live; inside = r.inside; stands = s }) z)
+  follows start ready n go calls returns pc (unary_op op ty mode t a ∷ rest) m v r h =
+      unary_follows op ty mode t a rest n pc m v r.covered.0 r.stands h (λ pc1 m1 v1 s z. follows start ready n go calls returns pc1 rest m1 v1 (record { covered = r.covered.1; live = r.live; inside = r.inside; stands = s }) z)
+  follows start ready n go calls returns pc (address t o offset ∷ rest) m v r h = absurd r.covered.0
+  follows start ready n go calls returns pc (field t space offset ∷ rest) m v r h = absurd r.covered.0
+  follows start ready n go calls returns pc (load_at t u space ∷ rest) m v r h = absurd r.covered.0
+  follows start ready n go calls returns pc (store_at t space u ∷ rest) m v r h = absurd r.covered.0
+  follows start ready n go calls returns pc (call_function g t ∷ rest) m v r h = calls g t pc rest m v r h
+  follows start ready n go calls returns pc (port_in t port index width ∷ rest) m v r h = absurd r.covered.0
+  follows start ready n go calls returns pc (port_out t port index width ∷ rest) m v r h = absurd r.covered.0

@@ -1,0 +1,261 @@
+-- The code of operations. The families of operations that are not named here have none yet.
+use Rattle.std.specs.Prelude.{◌≤◌, ⊤, ℕ, suc, ◌+◌, ◌-◌, ◌*◌, ◌==◌, nat_le, Bool, true, false, ◌&&◌, if◌then◌else◌}
+use Rattle.std.specs.Prelude.{min, List, [], ◌∷◌, ◌++◌, Option, Some, None}
+use Rattle.ec_isa.specs.declared.instructions.Instr.TheVariants.{Ret}
+use Rattle.ec_asm.specs.declared.items.AsmItem.{AsmItem}
+use Rattle.ec_asm.specs.declared.items.AsmItem.TheVariants.{Plain, Label, JumpTo, CallTo, BranchTo}
+use Rattle.ec_asm.specs.Items.{chain}
+use Rattle.ec_asm.specs.declared.pieces.Location.{Location}
+use Rattle.ec_asm.specs.declared.pieces.Location.TheVariants.{InRegisters, InMemory}
+use Rattle.ec_asm.specs.declared.pieces.Operator.{Operator}
+use Rattle.ec_asm.specs.declared.pieces.Operator.TheVariants.{Sum, Difference, BitAnd, BitOr, BitXor}
+use Rattle.ec_asm.specs.Pieces.{copy_code, operate_code}
+use Rattle.ec_core.specs.declared.expressions.BinOp.{BinOp}
+use Rattle.ec_core.specs.declared.expressions.BinOp.TheVariants.{Add, Sub, Mul, Div, Rem, And, Or, Xor, Lt, Gt, Le, Ge}
+use Rattle.ec_core.specs.declared.expressions.BinOp.TheVariants.{Eq, Ne, Shl, Shr}
+use Rattle.ec_core.specs.declared.expressions.UnOp.{UnOp}
+use Rattle.ec_core.specs.declared.expressions.UnOp.TheVariants.{Minus, Invert}
+use Rattle.ec_core.specs.Plain.{PlainType, integer, PlainObject}
+use Rattle.ec_ir.specs.declared.operations.Temp.{Temp}
+use Rattle.ec_ir.specs.Operations.{PlainIr, constant, copy, load_object, store_object, binary_op, unary_op, conversion}
+use Rattle.ec_ir.specs.Operations.{label, jump, branch_zero, call_function, return_from}
+use Rattle.ec_ir.specs.Temporaries.{low_bytes}
+use Rattle.ec_select_bytes.specs.Values.{constant_code, test_code, extend_code}
+use Rattle.ec_select_bytes.specs.Complements.{complement_code, negation_code}
+use Rattle.ec_select_order.specs.declared.relations.Relation.{Relation}
+use Rattle.ec_select_order.specs.declared.relations.Relation.TheVariants.{Less, NotLess, Equal, NotEqual}
+use Rattle.ec_select_order.specs.Relations.{relation_code}
+use Rattle.ec_select_products.specs.Products.{product_code}
+use Rattle.ec_select_quotients.specs.Signs.{quotient_code}
+use Rattle.ec_select_shifts.specs.declared.shifts.Direction.{Direction}
+use Rattle.ec_select_shifts.specs.declared.shifts.Direction.TheVariants.{Left, Right}
+use Rattle.ec_select_shifts.specs.Shifts.{shift_code}
+use Rattle.ec_select_functions.specs.declared.families.Family.{Family}
+use Rattle.ec_select_functions.specs.declared.families.Family.TheVariants.{Combined, Compared, Multiplied, Shifted}
+use Rattle.ec_select_functions.specs.declared.families.Family.TheVariants.{Divided}
+use Rattle.ec_select_functions.specs.declared.homes.Homes.{Homes}
+use Rattle.ec_select_functions.specs.Homes.{home, result_location}
+use Rattle.ec_select_functions.specs.Needs.{Need, nothing, wanted, wanted_result, without_result, needs}
+use Rattle.ec_select_functions.specs.Places.{object_location}
+
+abbrev pub same_location : Location → Location → Bool
+same_location (InRegisters a) (InRegisters b) = a == b
+same_location (InRegisters a) (InMemory p j) = false
+same_location (InMemory o k) (InRegisters b) = false
+same_location (InMemory o k) (InMemory p j) = o == p && k == j
+
+-- a copy to where the number stands already is no code
+abbrev pub move_code : Location → Location → ℕ → List AsmItem
+move_code p q n = if same_location p q then [] else copy_code p q n
+
+-- ---- families
+
+abbrev pub family_of : BinOp → Family
+family_of Add = Combined Sum
+family_of Sub = Combined Difference
+family_of And = Combined BitAnd
+family_of Or = Combined BitOr
+family_of Xor = Combined BitXor
+family_of Lt = Compared Less false
+family_of Gt = Compared Less true
+family_of Le = Compared NotLess true
+family_of Ge = Compared NotLess false
+family_of Eq = Compared Equal false
+family_of Ne = Compared NotEqual false
+family_of Mul = Multiplied
+family_of Div = Divided false
+family_of Rem = Divided true
+family_of Shl = Shifted true
+family_of Shr = Shifted false
+
+abbrev pub is_signed : PlainType → Bool
+is_signed (integer signed bytes) = signed
+is_signed ty = false
+
+-- the low bytes, and where more are needed the sign or 0
+abbrev pub conversion_code : Bool → (from to : Location) → (bytes n : ℕ) → List AsmItem
+conversion_code signed from to bytes n = move_code from to (min n bytes) ++ extend_code signed to bytes n
+
+-- where the second operand stands at the result's place, the first one is combined with it there the other way round
+abbrev pub reversed_code : Operator → (a to : Location) → ℕ → List AsmItem
+reversed_code Sum a to n = operate_code Sum a to n
+reversed_code Difference a to n = operate_code Difference a to n ++ negation_code to n
+reversed_code BitAnd a to n = operate_code BitAnd a to n
+reversed_code BitOr a to n = operate_code BitOr a to n
+reversed_code BitXor a to n = operate_code BitXor a to n
+
+-- else the first operand is brought there, and the second one is combined with it
+abbrev pub combined_code : Operator → (a b to : Location) → ℕ → List AsmItem
+combined_code op a b to n =
+    if same_location b to then reversed_code op a to n else move_code a to n ++ operate_code op b to n
+
+-- a truth value, which is an unsigned number of one byte in R30, where some of its bytes are needed
+abbrev pub compared_code : Relation → (signed : Bool) → (left right to : Location) → (bytes n : ℕ) → List AsmItem
+compared_code r signed left right to bytes n =
+    if n == 0 then []
+    else relation_code r signed left right bytes ++ conversion_code false (InRegisters 30) to 1 n
+
+-- the product of two bytes
+abbrev pub multiplied_code : (left right : Bool) → (a b to : Location) → ℕ → List AsmItem
+multiplied_code left right a b to n = if n == 0 then [] else product_code left right a b to n
+
+abbrev pub shift_of : (left signed : Bool) → Direction
+shift_of true signed = Left
+shift_of false signed = Right signed
+
+-- the bytes that are shifted: to the right all
+abbrev pub shifted_bytes : (left : Bool) → (bytes n : ℕ) → ℕ
+shifted_bytes true bytes n = n
+shifted_bytes false bytes n = bytes
+
+-- the number is brought to the result's place and the lowest byte of the count to R30, and the number is shifted there
+abbrev pub turned_code : Direction → (a b to : Location) → ℕ → List AsmItem
+turned_code s a b to n = move_code a to n ++ (move_code b (InRegisters 30) 1 ++ shift_code s to n)
+
+abbrev pub shifted_code : (left signed : Bool) → (a b to : Location) → (bytes n : ℕ) → List AsmItem
+shifted_code left signed a b to bytes n =
+    if n == 0 then [] else turned_code (shift_of left signed) a b to (shifted_bytes left bytes n)
+
+-- the number is brought to the result's place, and divided there with all its bytes, which are top + 1
+abbrev pub long_code : (remainder signed : Bool) → (a b to : Location) → (top : ℕ) → List AsmItem
+long_code r signed a b to top = move_code a to (suc top) ++ quotient_code r signed to b top
+
+abbrev pub divided_code : (remainder signed : Bool) → (a b to : Location) → (bytes n : ℕ) → List AsmItem
+divided_code r signed a b to bytes n = if n == 0 then [] else long_code r signed a b to (bytes - 1)
+
+-- the signs of both operands, and the bytes of the first one. Of the result n bytes are needed
+abbrev pub binary_code : Family → (left right : Bool) → (a b to : Location) → (bytes n : ℕ) → List AsmItem
+binary_code (Combined op) left right a b to bytes n = combined_code op a b to n
+binary_code (Compared r false) left right a b to bytes n = compared_code r left a b to bytes n
+binary_code (Compared r true) left right a b to bytes n = compared_code r left b a to bytes n
+binary_code Multiplied left right a b to bytes n = multiplied_code left right a b to n
+binary_code (Shifted up) left right a b to bytes n = shifted_code up left a b to bytes n
+binary_code (Divided r) left right a b to bytes n = divided_code r left a b to bytes n
+
+-- the operand is brought to the result's place, and negated or complemented there
+abbrev pub turn_code : UnOp → Location → ℕ → List AsmItem
+turn_code Minus p n = negation_code p n
+turn_code Invert p n = complement_code p n
+
+abbrev pub unary_code : UnOp → (from to : Location) → ℕ → List AsmItem
+unary_code op from to n = move_code from to n ++ turn_code op to n
+
+abbrev pub branch_code : Location → ℕ → ℕ → List AsmItem
+branch_code p bytes l = test_code p bytes ++ BranchTo true 1 l ∷ []
+
+-- ---- calls
+
+-- How the code of a function is put together with that of the others: the label of items for each of its own, and the
+-- one at which each function begins; where its temporaries stand, at so many places; and whether it is main
+pub record Linkage : Type 0 where
+  pub label_of : ℕ → ℕ
+  pub entry_of : ℕ → ℕ
+  pub homes : Homes
+  pub slots : ℕ
+  pub is_main : Bool
+
+-- the first register of a place
+abbrev pub place_register : Homes → ℕ → ℕ
+place_register h place = 26 - h.width * (place + 1)
+
+-- the bytes of its registers that a call keeps, where so many bytes of the place are needed after it
+abbrev pub kept_bytes : Homes → (place n : ℕ) → ℕ
+kept_bytes h place n = if nat_le (h.width * (place + 1)) 12 then min n h.width else 0
+
+-- they wait in the scratch memory of the place, behind its temporaries there
+abbrev pub waiting_location : Homes → ℕ → Location
+waiting_location h place = InMemory h.scratch (16 * place + 8)
+
+abbrev pub save_place : Homes → (place n : ℕ) → List AsmItem
+save_place h place n =
+    copy_code (InRegisters (place_register h place)) (waiting_location h place) (kept_bytes h place n)
+
+abbrev pub restore_place : Homes → (place n : ℕ) → List AsmItem
+restore_place h place n =
+    copy_code (waiting_location h place) (InRegisters (place_register h place)) (kept_bytes h place n)
+
+-- the places that may have registers: at most the first six
+abbrev pub register_places : ℕ → ℕ
+register_places slots = min slots 6
+
+abbrev pub save_code : Linkage → Need → List AsmItem
+save_code k need = chain (λ place. save_place k.homes place (need place)) (register_places k.slots)
+
+abbrev pub restore_code : Linkage → Need → List AsmItem
+restore_code k need = chain (λ place. restore_place k.homes place (need place)) (register_places k.slots)
+
+-- of the result so many bytes are wanted
+abbrev pub taken_code : (Temp → Location) → Option Temp → ℕ → List AsmItem
+taken_code home None bytes = []
+taken_code home (Some t) bytes = move_code (result_location t.bytes) (home t) bytes
+
+-- what is needed of other places waits in memory while the function runs
+abbrev pub call_code : (Temp → Location) → Linkage → (f : ℕ) → (to : Option Temp) → (bytes : ℕ) → (kept : Need)
+    → List AsmItem
+call_code home k f to bytes kept =
+    save_code k kept ++ (CallTo (k.entry_of f) ∷ (taken_code home to bytes ++ restore_code k kept))
+
+-- ---- returns
+
+-- a result has at most 8 bytes
+abbrev pub HasResult : Option Temp → Type 0
+HasResult None = ⊤
+HasResult (Some t) = t.bytes ≤ 8
+
+-- main's result is 0 where it gives none
+abbrev pub result_code : (Temp → Location) → (is_main : Bool) → Option Temp → List AsmItem
+result_code home is_main None = if is_main then constant_code (InRegisters 24) 0 2 else []
+result_code home is_main (Some t) = move_code (home t) (result_location t.bytes) t.bytes
+
+abbrev pub return_code : (Temp → Location) → (is_main : Bool) → Option Temp → List AsmItem
+return_code home is_main from = result_code home is_main from ++ Plain Ret ∷ []
+
+-- ---- operations
+
+-- An operation, of whose result so many bytes are needed, and after a call so many of other places. A constant is taken
+-- in two's complement of 16 bytes, since no temporary has more
+abbrev pub operation_code : List PlainObject → (Temp → Location) → Linkage → ℕ → Need → PlainIr → List AsmItem
+operation_code objects home k bytes kept (constant t n) = constant_code (home t) (low_bytes 16 n) bytes
+operation_code objects home k bytes kept (copy to from) = move_code (home from) (home to) bytes
+operation_code objects home k bytes kept (load_object t o offset) =
+    copy_code (object_location objects o offset) (home t) t.bytes
+operation_code objects home k bytes kept (store_object o offset t) =
+    copy_code (home t) (object_location objects o offset) t.bytes
+operation_code objects home k bytes kept (binary_op op ty mode to a aty b bty) =
+    binary_code (family_of op) (is_signed aty) (is_signed bty) (home a) (home b) (home to) a.bytes bytes
+operation_code objects home k bytes kept (unary_op op ty mode to a) = unary_code op (home a) (home to) bytes
+operation_code objects home k bytes kept (conversion to ty mode a aty) =
+    conversion_code (is_signed aty) (home a) (home to) a.bytes bytes
+operation_code objects home k bytes kept (label l) = Label (k.label_of l) ∷ []
+operation_code objects home k bytes kept (jump l) = JumpTo (k.label_of l) ∷ []
+operation_code objects home k bytes kept (branch_zero t l) = branch_code (home t) t.bytes (k.label_of l)
+operation_code objects home k bytes kept (call_function f to) = call_code home k f to bytes kept
+operation_code objects home k bytes kept (return_from from) = return_code home k.is_main from
+operation_code objects home k bytes kept i = []
+
+-- the bytes that are needed of an operation's result
+abbrev pub result_wanted : Need → PlainIr → ℕ
+result_wanted need (constant t n) = wanted need t
+result_wanted need (copy to from) = wanted need to
+result_wanted need (binary_op op ty mode to a aty b bty) = wanted need to
+result_wanted need (unary_op op ty mode to a) = wanted need to
+result_wanted need (conversion to ty mode a aty) = wanted need to
+result_wanted need (call_function f to) = wanted_result need to
+result_wanted need i = 0
+
+-- what a call keeps
+abbrev pub kept_need : Need → PlainIr → Need
+kept_need need (call_function f to) = without_result to need
+kept_need need i = nothing
+
+-- an operation, where so much is needed after it
+abbrev pub op_code : List PlainObject → (Temp → Location) → Linkage → Need → PlainIr → List AsmItem
+op_code objects home k need i = operation_code objects home k (result_wanted need i) (kept_need need i) i
+
+abbrev pub ops_code : List PlainObject → (Temp → Location) → Linkage → (ℕ → Need) → List PlainIr → List AsmItem
+ops_code objects home k at [] = []
+ops_code objects home k at (i ∷ code) = op_code objects home k (needs at code) i ++ ops_code objects home k at code
+
+-- the code of a function, which begins with its label
+abbrev pub function_code : List PlainObject → Linkage → (f : ℕ) → (ℕ → Need) → List PlainIr → List AsmItem
+function_code objects k f at code = Label (k.entry_of f) ∷ ops_code objects (home k.homes) k at code

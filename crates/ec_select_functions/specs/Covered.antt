@@ -1,0 +1,149 @@
+-- The operations that have code: for each its temporaries, types and objects. The other operations have none yet, so no
+-- program with one of them is covered.
+use Rattle.std.specs.Prelude.{◌≡◌, ◌≢◌, ℕ, ◌≤◌, ◌==◌, ⊤, Bool, List, [], ◌∷◌, Option, Some, None}
+use Rattle.std.specs.Prelude.{slice_get}
+use Rattle.std.specs.List.{position_from}
+use Rattle.ec_space.specs.declared.space.Bank.TheVariants.{Data as DataBank}
+use Rattle.ec_core.specs.Layout.{leaves_of_type}
+use Rattle.ec_core.specs.Plain.{PlainType, integer, PlainObject}
+use Rattle.ec_core.specs.Plain.{PlainProgram}
+use Rattle.ec_ir.specs.declared.operations.Temp.{Temp}
+use Rattle.ec_ir.specs.Operations.{PlainIr, constant, copy, address, field, load_at, store_at, load_object}
+use Rattle.ec_ir.specs.Operations.{store_object, binary_op, unary_op, conversion, label, jump, branch_zero}
+use Rattle.ec_ir.specs.Operations.{call_function, return_from, port_in, port_out}
+use Rattle.ec_select_functions.specs.declared.families.Family.{Family}
+use Rattle.ec_select_functions.specs.declared.families.Family.TheVariants.{Combined, Compared, Multiplied, Shifted}
+use Rattle.ec_select_functions.specs.declared.families.Family.TheVariants.{Divided}
+use Rattle.ec_select_functions.specs.Code.{family_of}
+use Rattle.ec_select_functions.specs.Homes.{HasHome}
+
+-- a number of so many bytes, with an integer type, begins at an offset in an object that is kept in the data bank
+pub record HasNumberAt (p : PlainProgram) (o offset bytes : ℕ) : Type 0 where
+  pub number : ℕ
+  pub declared : PlainObject
+  pub signed : Bool
+  pub is_object : slice_get p.objects o ≡ Some declared
+  pub is_leaf : slice_get (leaves_of_type p.structs declared.ty) number
+      ≡ Some (record { ty = integer signed bytes; at = offset })
+  pub in_data : declared.home ≡ DataBank
+  pub found : position_from (λ x. x.at == offset) 0 (leaves_of_type p.structs declared.ty) ≡ Some number
+
+-- operands and result have integer types of as many bytes as their temporaries, all the same
+pub record AreIntegers (slots : ℕ) (to a b : Temp) (ty aty bty : PlainType) : Type 0 where
+  pub signed : Bool
+  pub left_signed : Bool
+  pub right_signed : Bool
+  pub result_type : ty ≡ integer signed to.bytes
+  pub left_type : aty ≡ integer left_signed a.bytes
+  pub right_type : bty ≡ integer right_signed b.bytes
+  pub result : HasHome slots to
+  pub left : HasHome slots a
+  pub right : HasHome slots b
+  pub left_bytes : a.bytes ≡ to.bytes
+  pub right_bytes : b.bytes ≡ to.bytes
+
+-- operands have one integer type, of as many bytes as their temporaries
+pub record AreCompared (slots : ℕ) (to a b : Temp) (aty bty : PlainType) : Type 0 where
+  pub signed : Bool
+  pub left_type : aty ≡ integer signed a.bytes
+  pub right_type : bty ≡ integer signed b.bytes
+  pub result : HasHome slots to
+  pub left : HasHome slots a
+  pub right : HasHome slots b
+  pub same_bytes : b.bytes ≡ a.bytes
+
+-- operands have integer types of one byte, and the result one of two bytes
+pub record AreFactors (slots : ℕ) (to a b : Temp) (ty aty bty : PlainType) : Type 0 where
+  pub signed : Bool
+  pub left_signed : Bool
+  pub right_signed : Bool
+  pub result_type : ty ≡ integer signed 2
+  pub left_type : aty ≡ integer left_signed 1
+  pub right_type : bty ≡ integer right_signed 1
+  pub result : HasHome slots to
+  pub left : HasHome slots a
+  pub right : HasHome slots b
+  pub result_bytes : to.bytes ≡ 2
+  pub left_bytes : a.bytes ≡ 1
+  pub right_bytes : b.bytes ≡ 1
+
+-- the number that is shifted has the type of the result, and the count any integer type
+pub record AreShifted (slots : ℕ) (to a b : Temp) (ty aty bty : PlainType) : Type 0 where
+  pub signed : Bool
+  pub count_signed : Bool
+  pub result_type : ty ≡ integer signed to.bytes
+  pub left_type : aty ≡ integer signed a.bytes
+  pub count_type : bty ≡ integer count_signed b.bytes
+  pub result : HasHome slots to
+  pub left : HasHome slots a
+  pub count : HasHome slots b
+  pub same_bytes : a.bytes ≡ to.bytes
+
+-- operands and result have one integer type, of at most four bytes
+pub record AreDivided (slots : ℕ) (to a b : Temp) (ty aty bty : PlainType) : Type 0 where
+  pub signed : Bool
+  pub result_type : ty ≡ integer signed to.bytes
+  pub left_type : aty ≡ integer signed a.bytes
+  pub right_type : bty ≡ integer signed b.bytes
+  pub result : HasHome slots to
+  pub left : HasHome slots a
+  pub right : HasHome slots b
+  pub left_bytes : a.bytes ≡ to.bytes
+  pub right_bytes : b.bytes ≡ to.bytes
+  pub most : to.bytes ≤ 4
+
+-- a binary operator of a family. The result of a shift and a division is not put to the place of the second operand
+abbrev pub IsBinary : Family → ℕ → (to a b : Temp) → (ty aty bty : PlainType) → Type 0
+IsBinary (Combined op) slots to a b ty aty bty = AreIntegers slots to a b ty aty bty
+IsBinary (Compared r exchanged) slots to a b ty aty bty = AreCompared slots to a b aty bty
+IsBinary Multiplied slots to a b ty aty bty = AreFactors slots to a b ty aty bty
+IsBinary (Shifted up) slots to a b ty aty bty = AreShifted slots to a b ty aty bty × (to.at ≢ b.at)
+IsBinary (Divided r) slots to a b ty aty bty = AreDivided slots to a b ty aty bty × (to.at ≢ b.at)
+
+-- operand and result have one integer type, of as many bytes as their temporaries
+pub record IsUnary (slots : ℕ) (to a : Temp) (ty : PlainType) : Type 0 where
+  pub signed : Bool
+  pub result_type : ty ≡ integer signed to.bytes
+  pub result : HasHome slots to
+  pub operand : HasHome slots a
+  pub same_bytes : a.bytes ≡ to.bytes
+
+-- an integer of a temporary is brought to the type of another one
+pub record AreConverted (slots : ℕ) (to a : Temp) (ty aty : PlainType) : Type 0 where
+  pub signed : Bool
+  pub from_signed : Bool
+  pub result_type : ty ≡ integer signed to.bytes
+  pub from_type : aty ≡ integer from_signed a.bytes
+  pub result : HasHome slots to
+  pub from : HasHome slots a
+
+-- the result of a function with a number, of as many bytes as its results have
+abbrev pub IsResult : (results : ℕ → ℕ) (f slots : ℕ) → Option Temp → Type 0
+IsResult results f slots None = ⊤
+IsResult results f slots (Some t) = HasHome slots t × (t.bytes ≡ results f)
+
+-- operations of a function with a number, which has so many places of temporaries
+abbrev pub IsCovered : PlainProgram → (results : ℕ → ℕ) (f slots : ℕ) → PlainIr → Type 0
+IsCovered p results f slots (constant t n) = HasHome slots t
+IsCovered p results f slots (copy to from) = HasHome slots to × HasHome slots from × (to.bytes ≡ from.bytes)
+IsCovered p results f slots (load_object t o offset) = HasHome slots t × HasNumberAt p o offset t.bytes
+IsCovered p results f slots (store_object o offset t) = HasHome slots t × HasNumberAt p o offset t.bytes
+IsCovered p results f slots (binary_op op ty mode to a aty b bty) =
+    IsBinary (family_of op) slots to a b ty aty bty
+IsCovered p results f slots (unary_op op ty mode to a) = IsUnary slots to a ty
+IsCovered p results f slots (label l) = ⊤
+IsCovered p results f slots (jump l) = ⊤
+IsCovered p results f slots (branch_zero t l) = HasHome slots t
+IsCovered p results f slots (return_from from) = IsResult results f slots from
+IsCovered p results f slots (conversion to ty mode a aty) = AreConverted slots to a ty aty
+IsCovered p results f slots (address t o offset) = ⊥
+IsCovered p results f slots (field ptr space offset) = ⊥
+IsCovered p results f slots (load_at to ptr space) = ⊥
+IsCovered p results f slots (store_at ptr space from) = ⊥
+IsCovered p results f slots (call_function g to) = IsResult results g slots to
+IsCovered p results f slots (port_in to port index width) = ⊥
+IsCovered p results f slots (port_out from port index width) = ⊥
+
+abbrev pub AreCovered : PlainProgram → (results : ℕ → ℕ) (f slots : ℕ) → List PlainIr → Type 0
+AreCovered p results f slots [] = ⊤
+AreCovered p results f slots (i ∷ code) = IsCovered p results f slots i × AreCovered p results f slots code

@@ -1,0 +1,65 @@
+-- What the emitters ask of an operation.
+use Rattle.std.specs.Prelude.{ℕ, ◌+◌, ◌<◌, ◌≤◌, ⊤, List, Option, Some, None}
+use Rattle.ec_asm.specs.Pieces.{HasBytes}
+use Rattle.ec_core.specs.Plain.{PlainObject}
+use Rattle.ec_ir.specs.Operations.{PlainIr, constant, copy, address, field, load_at, store_at, load_object}
+use Rattle.ec_ir.specs.Operations.{store_object, binary_op, unary_op, conversion, label, jump, branch_zero}
+use Rattle.ec_ir.specs.Operations.{call_function, return_from, port_in, port_out}
+use Rattle.ec_ir.specs.declared.operations.Temp.{Temp}
+use Rattle.ec_select_functions.specs.declared.families.Family.{Family}
+use Rattle.ec_select_functions.specs.declared.families.Family.TheVariants.{Combined, Compared, Multiplied, Shifted}
+use Rattle.ec_select_functions.specs.declared.families.Family.TheVariants.{Divided}
+use Rattle.ec_select_functions.specs.declared.calls.Linking.{Linking}
+use Rattle.ec_select_functions.specs.Code.{Linkage, HasResult, family_of}
+use Rattle.ec_select_functions.specs.Places.{object_location}
+
+-- labels of items stand in a row for the labels of a function, and in another one for the beginnings of functions
+abbrev pub linkage : Linking → Linkage
+linkage l = record {
+  label_of = λ k. l.first_label + k;
+  entry_of = λ f. l.first_entry + f;
+  homes = l.homes;
+  slots = l.slots;
+  is_main = l.is_main;
+}
+
+-- a label of items has a number of 64 bits
+abbrev pub IsLabel : ℕ → Type 0
+IsLabel l = l < 0x1_0000_0000_0000_0000
+
+-- so many bytes of a binary operator's result
+abbrev pub BinaryHasBytes : Family → ℕ → (to a b : Temp) → Type 0
+BinaryHasBytes (Combined op) wanted to a b = (wanted ≤ to.bytes) × (wanted ≤ a.bytes) × (wanted ≤ b.bytes)
+BinaryHasBytes (Compared r exchanged) wanted to a b = (wanted ≤ to.bytes) × (a.bytes ≤ b.bytes)
+BinaryHasBytes Multiplied wanted to a b = (wanted ≤ to.bytes) × (1 ≤ a.bytes) × (1 ≤ b.bytes)
+BinaryHasBytes (Shifted up) wanted to a b =
+    (wanted ≤ a.bytes) × (a.bytes ≤ to.bytes) × (1 ≤ b.bytes)
+BinaryHasBytes (Divided r) wanted to a b =
+    (1 ≤ a.bytes) × (a.bytes ≤ 4) × (a.bytes ≤ to.bytes) × (a.bytes ≤ b.bytes)
+
+-- so many bytes of a call's result
+abbrev pub CanBeTaken : ℕ → Option Temp → Type 0
+CanBeTaken wanted None = ⊤
+CanBeTaken wanted (Some t) = (wanted ≤ t.bytes) × (t.bytes ≤ 8)
+
+-- no more bytes are wanted than the temporaries have, and the bytes of an object and labels have numbers
+abbrev pub CanBeEmitted : List PlainObject → Linking → ℕ → PlainIr → Type 0
+CanBeEmitted objects k wanted (constant t n) = (wanted ≤ t.bytes) × (t.bytes ≤ 16)
+CanBeEmitted objects k wanted (copy to from) = (wanted ≤ to.bytes) × (wanted ≤ from.bytes)
+CanBeEmitted objects k wanted (load_object t o offset) = HasBytes (object_location objects o offset) t.bytes
+CanBeEmitted objects k wanted (store_object o offset t) = HasBytes (object_location objects o offset) t.bytes
+CanBeEmitted objects k wanted (binary_op op ty mode to a aty b bty) =
+    BinaryHasBytes (family_of op) wanted to a b
+CanBeEmitted objects k wanted (conversion to ty mode a aty) = (wanted ≤ to.bytes) × (1 ≤ a.bytes)
+CanBeEmitted objects k wanted (unary_op op ty mode to a) = (wanted ≤ to.bytes) × (wanted ≤ a.bytes)
+CanBeEmitted objects k wanted (return_from from) = HasResult from
+CanBeEmitted objects k wanted (label l) = IsLabel (k.first_label + l)
+CanBeEmitted objects k wanted (jump l) = IsLabel (k.first_label + l)
+CanBeEmitted objects k wanted (branch_zero t l) = IsLabel (k.first_label + l)
+CanBeEmitted objects k wanted (address t o offset) = ⊤
+CanBeEmitted objects k wanted (field ptr space offset) = ⊤
+CanBeEmitted objects k wanted (load_at to ptr space) = ⊤
+CanBeEmitted objects k wanted (store_at ptr space from) = ⊤
+CanBeEmitted objects k wanted (call_function f to) = CanBeTaken wanted to × IsLabel (k.first_entry + f)
+CanBeEmitted objects k wanted (port_in to port index width) = ⊤
+CanBeEmitted objects k wanted (port_out from port index width) = ⊤

@@ -1,0 +1,10 @@
+pub mod Homes
+pub mod Needs
+pub mod Places
+pub mod Standing
+pub mod Code
+pub mod Emitted
+pub mod Written
+pub mod Covered
+pub mod Relation
+pub mod Laws

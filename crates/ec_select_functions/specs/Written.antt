@@ -1,0 +1,73 @@
+-- The code of a list of operations, for each of which numbers tell how many bytes are wanted.
+use Rattle.std.specs.Prelude.{◌≡◌, ℕ, zero, suc, List, [], ◌∷◌, Option, Some, None, slice_get, slice_index, get_or}
+use Rattle.std.specs.Prelude.{length}
+use Rattle.ec_asm.specs.declared.items.AsmItem.{AsmItem}
+use Rattle.ec_asm.specs.declared.items.AsmItem.TheVariants.{Label}
+use Rattle.ec_asm.specs.declared.pieces.Location.{Location}
+use Rattle.ec_asm.specs.Items.{chain}
+use Rattle.ec_core.specs.Plain.{PlainObject}
+use Rattle.ec_ir.specs.declared.operations.Temp.{Temp}
+use Rattle.ec_ir.specs.Operations.{PlainIr, call_function}
+use Rattle.ec_select_functions.specs.declared.calls.Linking.{Linking}
+use Rattle.ec_select_functions.specs.Code.{Linkage, register_places, operation_code, result_wanted, ops_code}
+use Rattle.ec_select_functions.specs.Code.{function_code}
+use Rattle.ec_select_functions.specs.Emitted.{CanBeEmitted}
+use Rattle.ec_select_functions.specs.Homes.{home}
+use Rattle.ec_select_functions.specs.Needs.{Need, without_result, needs}
+
+-- what is needed of each place, where a row tells it of the first ones. Of the others nothing is
+abbrev pub need_in : List ℕ → Need
+need_in row place = get_or row place 0
+
+abbrev pub operation_at : List PlainObject → (Temp → Location) → Linkage → (wanted : ℕ) → (row : List ℕ)
+    → Option PlainIr → List AsmItem
+operation_at objects home k wanted row None = []
+operation_at objects home k wanted row (Some i) = operation_code objects home k wanted (need_in row) i
+
+-- the code of the first n operations: `wanted` has for each the bytes of its result, and `kept` what a call keeps
+abbrev pub written_code : List PlainObject → (Temp → Location) → Linkage → (wanted : List ℕ) → (kept : List (List ℕ))
+    → List PlainIr → ℕ → List AsmItem
+written_code objects home k wanted kept code n =
+    chain (λ j. operation_at objects home k (slice_index wanted j) (get_or kept j []) (slice_get code j)) n
+
+-- that of a function, which begins with its label
+abbrev pub written_function : List PlainObject → Linkage → (f : ℕ) → (wanted : List ℕ) → (kept : List (List ℕ))
+    → List PlainIr → List AsmItem
+written_function objects k f wanted kept code =
+    Label (k.entry_of f) ∷ written_code objects (home k.homes) k wanted kept code (length code)
+
+abbrev pub CanBeWritten : List PlainObject → Linking → List ℕ → List PlainIr → Type 0
+CanBeWritten objects k wanted code =
+    (j : ℕ) (i : PlainIr) → slice_get code j ≡ Some i → CanBeEmitted objects k (slice_index wanted j) i
+
+-- for each operation the bytes of its result that are needed
+abbrev pub wanted_bytes : (ℕ → Need) → List PlainIr → List ℕ
+wanted_bytes at [] = []
+wanted_bytes at (i ∷ code) = result_wanted (needs at code) i ∷ wanted_bytes at code
+
+-- what is needed of so many places, from a first one on
+abbrev pub row_from : (count place : ℕ) → Need → List ℕ
+row_from zero place need = []
+row_from (suc count) place need = need place ∷ row_from count (suc place) need
+
+-- and for each call what is kept of the places that may have registers
+abbrev pub kept_row : (slots : ℕ) → Need → PlainIr → List ℕ
+kept_row slots need (call_function f to) = row_from (register_places slots) 0 (without_result to need)
+kept_row slots need i = []
+
+abbrev pub kept_rows : (slots : ℕ) → (ℕ → Need) → List PlainIr → List (List ℕ)
+kept_rows slots at [] = []
+kept_rows slots at (i ∷ code) = kept_row slots (needs at code) i ∷ kept_rows slots at code
+
+-- code that is written with these numbers is the code of the operations
+abbrev pub NeededCodeIsWritten : Type 0
+NeededCodeIsWritten =
+    (objects : List PlainObject) (home : Temp → Location) (k : Linkage) (at : ℕ → Need) (code : List PlainIr)
+    → written_code objects home k (wanted_bytes at code) (kept_rows k.slots at code) code (length code)
+    ≡ ops_code objects home k at code
+
+abbrev pub NeededFunctionsAreWritten : Type 0
+NeededFunctionsAreWritten =
+    (objects : List PlainObject) (k : Linkage) (f : ℕ) (at : ℕ → Need) (code : List PlainIr)
+    → written_function objects k f (wanted_bytes at code) (kept_rows k.slots at code) code
+    ≡ function_code objects k f at code

@@ -1,0 +1,25 @@
+//! The code of a program's operations: integers, objects, jumps, calls and returns.
+//!
+//! `specs/Code.antt` has the code of each operation, `specs/Needs.antt` how many bytes of each temporary it computes,
+//! `specs/Covered.antt` which operations have code, and `specs/Relation.antt` when a machine shows the state of an
+//! intermediate program. The law in `laws` tells that the machine shows what the operations of all functions do,
+//! wherever code, objects and stack stand.
+#![tactic(auto)]
+
+mod calls;
+mod families;
+mod homes;
+mod laws;
+mod operations;
+
+pub use calls::{Linking, call, finish};
+pub use families::{
+    BinaryOperation, Family, Operands, binary, branch, combine, convert, divide_numbers,
+    move_number, multiply_bytes, shift_by_count, tell, unary,
+};
+pub use homes::{Homes, home};
+pub use laws::{
+    code_follows_operations, homes_are_laid_out, needed_code_is_written,
+    needed_functions_are_written,
+};
+pub use operations::{all_operations, function, operation};

@@ -1,0 +1,171 @@
+//! The code of operations, one after another.
+ghost use Rattle.std.specs.Prelude.{◌≡◌, ◌≤◌, ◌++◌, ◌+◌, ◌^◌, ◌<◌, OnOk, OnErr, map, length};
+ghost use Rattle.ec_runs.specs.Behaviours.{BeginWith};
+ghost use Rattle.ec_asm.specs.Pieces.{HasBytes};
+ghost use Rattle.ec_core.specs.Plain.{plain_object, plain_type};
+ghost use Rattle.ec_ir.specs.Operations.{plain_ir};
+ghost use Rattle.ec_ir.specs.Temporaries.{low_bytes};
+ghost use Rattle.ec_select_functions.specs.Code.{operation_code, is_signed};
+ghost use Rattle.ec_select_functions.specs.Emitted.{linkage, IsLabel, CanBeEmitted};
+ghost use Rattle.ec_select_functions.specs.Homes.{home};
+ghost use Rattle.ec_select_functions.specs.Places.{object_location};
+ghost use Rattle.ec_select_functions.specs.Written.{need_in, CanBeWritten, written_code, written_function};
+
+use crate::calls::{Linking, call, finish};
+use crate::families::{BinaryOperation, binary, branch, convert, move_number, unary};
+use crate::homes::home;
+use ec_asm::{AsmItem, Location, copy};
+use ec_core::{CType, Obj, Storage};
+use ec_ir::{Ir, Temp};
+use ec_select_bytes::constant;
+use ec_space::{NoMemory, Seq};
+
+/// A number in two's complement of 16 bytes.
+fn bits_of(n: i128) -> u128
+    ensures { result ≡ low_bytes 16 n }
+{
+    let size = n.unsigned_abs();
+    if n >= 0 { size } else { u128::MAX - (size - 1) }
+}
+
+fn is_signed(ty: &CType) -> bool
+    ensures { result ≡ is_signed (plain_type ty.now) }
+{
+    match ty {
+        CType::Int { signed, .. } => *signed,
+        _ => false,
+    }
+}
+
+/// Where the bytes of an object from an offset on stand.
+fn object_location(objects: &[Obj], o: u16, offset: u32, bytes: u8) -> Location
+    requires { HasBytes (object_location (map plain_object objects.now) o offset) bytes }
+    ensures { result ≡ object_location (map plain_object objects.now) o offset }
+{
+    match objects.get(usize::from(o)) {
+        None => Location::InMemory { object: o, offset },
+        Some(d) => match &d.storage {
+            Storage::Register(first) => Location::InRegisters(*first + offset as u8),
+            _ => Location::InMemory { object: o, offset },
+        },
+    }
+}
+
+/// Appends the code of an operation of a function that has some. Of its result so many bytes are wanted, and no more
+/// than its temporary has; after a call so many of the first places, as a row tells. Where memory runs out, a part of
+/// the code is appended.
+#[tactic(auto, using(crate::proofs::Emits::fewer_bytes))]
+pub fn operation(
+    out: &mut Seq<AsmItem>,
+    objects: &[Obj],
+    of: Linking,
+    wanted: u8,
+    kept: &[u8],
+    i: &Ir,
+) -> Result<(), NoMemory>
+    requires { CanBeEmitted (map plain_object objects.now) of wanted (plain_ir i.now) }
+    ensures ok { OnOk result (out.new.items ≡ out.old.items
+        ++ operation_code (map plain_object objects.now) (home of.homes) (linkage of) wanted (need_in kept.now)
+        (plain_ir i.now)) }
+    ensures err { OnErr result (BeginWith out.old.items out.new.items) }
+{
+    let homes = of.homes;
+    match i {
+        Ir::Const(t, n) => constant(out, bits_of(*n), home(homes, *t), wanted),
+        Ir::Copy(to, from) => move_number(out, home(homes, *from), home(homes, *to), wanted),
+        Ir::LoadObj(t, o, offset) => copy(
+            out,
+            object_location(objects, *o, *offset, t.bytes),
+            home(homes, *t),
+            t.bytes,
+        ),
+        Ir::StoreObj(o, offset, t) => copy(
+            out,
+            home(homes, *t),
+            object_location(objects, *o, *offset, t.bytes),
+            t.bytes,
+        ),
+        Ir::Bin {
+            op,
+            to,
+            a,
+            aty,
+            b,
+            bty,
+            ..
+        } => {
+            let binary_operation = BinaryOperation {
+                to: *to,
+                a: *a,
+                b: *b,
+                left_signed: is_signed(aty),
+                right_signed: is_signed(bty),
+            };
+            binary(out, homes, *op, binary_operation, wanted)
+        }
+        Ir::Un { op, to, a, .. } => unary(out, *op, home(homes, *a), home(homes, *to), wanted),
+        Ir::Conv { to, a, aty, .. } => convert(
+            out,
+            is_signed(aty),
+            home(homes, *a),
+            home(homes, *to),
+            a.bytes,
+            wanted,
+        ),
+        Ir::Label(l) => out.extend_from_slice(&[AsmItem::Label(of.first_label + *l)]),
+        Ir::Jump(l) => out.extend_from_slice(&[AsmItem::JumpTo(of.first_label + *l)]),
+        Ir::BranchZero(t, l) => branch(out, home(homes, *t), t.bytes, of.first_label + *l),
+        Ir::Call(f, to) => call(out, of, *f, *to, wanted, kept),
+        Ir::Return(from) => finish(out, homes, of.is_main, *from),
+        _ => Ok(()),
+    }
+}
+
+/// Appends the code of a function's operations, one after another: of the result of each so many bytes are wanted as
+/// the number at its place tells, and a call keeps what the row at its place tells. Where memory runs out, a part of
+/// the code is appended.
+pub fn all_operations(
+    out: &mut Seq<AsmItem>,
+    objects: &[Obj],
+    of: Linking,
+    code: &[Ir],
+    wanted: &[u8],
+    kept: &[Vec<u8>],
+) -> Result<(), NoMemory>
+    requires numbers { length code.now ≡ length wanted.now }
+    requires rows { length code.now ≡ length kept.now }
+    requires each { CanBeWritten (map plain_object objects.now) of wanted.now (map plain_ir code.now) }
+    ensures ok { OnOk result (out.new.items ≡ out.old.items
+        ++ written_code (map plain_object objects.now) (home of.homes) (linkage of) wanted.now
+        (map (λ row. row.items) kept.now) (map plain_ir code.now) (length code.now)) }
+    ensures err { OnErr result (BeginWith out.old.items out.new.items) }
+{
+    for k in 0..code.len() {
+        operation(out, objects, of, wanted[k], kept[k].as_slice(), &code[k])?;
+    }
+    Ok(())
+}
+
+/// Appends the code of the function with a number: the label at which it begins, and that of its operations. Where
+/// memory runs out, a part of the code is appended.
+pub fn function(
+    out: &mut Seq<AsmItem>,
+    objects: &[Obj],
+    of: Linking,
+    f: u16,
+    code: &[Ir],
+    wanted: &[u8],
+    kept: &[Vec<u8>],
+) -> Result<(), NoMemory>
+    requires label { IsLabel (of.first_entry + f) }
+    requires numbers { length code.now ≡ length wanted.now }
+    requires rows { length code.now ≡ length kept.now }
+    requires each { CanBeWritten (map plain_object objects.now) of wanted.now (map plain_ir code.now) }
+    ensures ok { OnOk result (out.new.items ≡ out.old.items
+        ++ written_function (map plain_object objects.now) (linkage of) f wanted.now
+        (map (λ row. row.items) kept.now) (map plain_ir code.now)) }
+    ensures err { OnErr result (BeginWith out.old.items out.new.items) }
+{
+    out.extend_from_slice(&[AsmItem::Label(of.first_entry + u64::from(f))])?;
+    all_operations(out, objects, of, code, wanted, kept)
+}
