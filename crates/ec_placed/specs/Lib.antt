@@ -1,0 +1,6 @@
+pub mod Kinds
+pub mod Translation
+pub mod Laws
+pub mod Runs
+pub mod Shown
+pub mod Spaces

@@ -1,0 +1,84 @@
+//! The laws of placed programs: each function proves one, and does nothing.
+ghost use Rattle.ec_placed.specs.Laws.{KindsAreTold, KindsFit, PlacedAreLaidOut};
+ghost use Rattle.ec_placed.specs.Runs.{ImagesRun, ImagesRunAsSources};
+ghost use Rattle.ec_placed.specs.Shown.{ImagesShowTheirSources};
+ghost use Rattle.ec_placed.specs.Spaces.{NotedAreOfObjects, EventsStayInSpaces};
+
+use ec_asm::laws::{placed_items_stand, stack_stays_inside};
+use ec_avr::runs_are_steps;
+use ec_core::{events_are_at_home, leaves_fill_their_types, more_turns_only_add};
+use ec_locate::{code_stands, data_stands_apart, initial_values_stand, placed_stand_apart};
+use ec_lower_code::{lowered_follows, lowered_is_made_of_its_program};
+use ec_select::{selections_are_valid, selections_run};
+
+/// What stands at each data address of a placed program: registers, scratch memory and work bytes are code's own, the
+/// bytes of region `stack` are the stack's, and the bytes of objects are told to be such. No other bytes are told to be
+/// any of these. All of it suits the data addresses and the flash of the core `small`.
+pub fn kinds_are_told()
+    ensures told { KindsAreTold }
+    ensures fit { KindsFit }
+{
+    data_stands_apart();
+}
+
+/// The code of a placed program, its objects and its stack stand as the code asks.
+pub fn placed_are_laid_out()
+    ensures { PlacedAreLaidOut }
+{
+    code_stands();
+    data_stands_apart();
+    initial_values_stand();
+    leaves_fill_their_types();
+    lowered_is_made_of_its_program();
+    placed_items_stand();
+    placed_stand_apart();
+    selections_are_valid();
+}
+
+/// From every reset state a placed program does what its operations do: the machine comes to where `main` begins, and
+/// from there on shows all that the operations do, within the steps that they may take, and never more.
+pub fn images_run()
+    ensures { ImagesRun }
+{
+    kinds_are_told();
+    placed_are_laid_out();
+    lowered_is_made_of_its_program();
+    selections_run();
+}
+
+/// From every reset state a placed program does what its source does: from `main` on the machine shows all that the
+/// source shows, within its work, and never more.
+pub fn images_run_as_sources()
+    ensures { ImagesRunAsSources }
+{
+    images_run();
+    lowered_follows();
+    runs_are_steps();
+}
+
+/// From every reset state the machine of a placed program makes a few steps before `main`, with no access of a port.
+/// Then it comes to each part of what the source shows, within its work, and each of its steps stays within the source;
+/// what it pushes and pops are bytes of region `stack`.
+pub fn images_show_their_sources()
+    ensures { ImagesShowTheirSources }
+{
+    images_run_as_sources();
+    kinds_are_told();
+    lowered_is_made_of_its_program();
+    more_turns_only_add();
+    runs_are_steps();
+    selections_are_valid();
+    stack_stays_inside();
+}
+
+/// Each access that is noted of the machine is one of a port, or of a byte of an object in the bank where that is kept.
+/// The accesses of an event are those of the bytes of its leaf, and the home of its object is in its space.
+pub fn accesses_stay_in_spaces()
+    ensures noted { NotedAreOfObjects }
+    ensures events { EventsStayInSpaces }
+{
+    kinds_are_told();
+    lowered_is_made_of_its_program();
+    selections_are_valid();
+    events_are_at_home();
+}

@@ -1,0 +1,11 @@
+//! What a placed program does: the machine from every reset state on, beside the source.
+#![tactic(auto)]
+
+mod bytes;
+mod laws;
+
+pub use bytes::image_holds_bytes;
+pub use laws::{
+    accesses_stay_in_spaces, images_run, images_run_as_sources, images_show_their_sources,
+    kinds_are_told, placed_are_laid_out,
+};
