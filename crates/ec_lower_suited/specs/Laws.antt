@@ -1,0 +1,34 @@
+-- The operations of a compiled program have code.
+use Rattle.std.specs.Prelude.{◌≡◌}
+use Rattle.std.specs.List.{AllByRecursion}
+use Rattle.ec_iohw.specs.declared.table.IoTable.{IoTable}
+use Rattle.ec_space.specs.declared.space.Bank.TheVariants.{Data as DataBank}
+use Rattle.ec_core.specs.Plain.{PlainObject, PlainProgram}
+use Rattle.ec_core.specs.Valid.{Valid}
+use Rattle.ec_ir.specs.Integers.{IsIntegerType}
+use Rattle.ec_ir.specs.Operations.{PlainIrProgram}
+use Rattle.ec_lower_code.specs.Code.{lowered}
+use Rattle.ec_lower_code.specs.Parts.{IsCompiled}
+use Rattle.ec_select.specs.InPlace.{AreInPlace}
+use Rattle.ec_select.specs.Integers.{AreSuited}
+use Rattle.ec_select.specs.Selected.{HasCode}
+
+-- An object of an integer type is kept in the data bank: one in flash is read by other instructions. Locals, parameters
+-- and named registers are there anyway. Objects of other types may be kept in either bank, since the expressions of a
+-- compiled program name none
+abbrev pub IsInDataIfInteger : PlainObject → Type 0
+IsInDataIfInteger d = IsIntegerType d.ty → d.home ≡ DataBank
+
+abbrev pub IntegersAreInData : PlainProgram → Type 0
+IntegersAreInData program = AllByRecursion IsInDataIfInteger program.objects
+
+-- the operations have the forms that code stands for, so all of them have code, and put their results in place
+pub record HasCodeInPlace (ir : PlainIrProgram) : Type 0 where
+  pub suited : AreSuited ir
+  pub code : HasCode ir
+  pub in_place : AreInPlace ir
+
+abbrev pub LoweredProgramsHaveCode : Type 0
+LoweredProgramsHaveCode =
+    (program : PlainProgram) (io : IoTable) → Valid program io → IsCompiled program → IntegersAreInData program
+    → HasCodeInPlace (lowered program)
