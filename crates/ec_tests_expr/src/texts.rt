@@ -2,6 +2,7 @@
 //! the token of the part where it is told.
 
 ghost use Rattle.std.specs.Prelude.{◌≡◌, []};
+ghost use Rattle.ec_iohw.specs.Valid.{ValidIo};
 ghost use Rattle.ec_expr.specs.Known.{IsSound, plain_known};
 ghost use Rattle.ec_initial.specs.Places.{NamesObjects};
 
@@ -13,6 +14,7 @@ use ec_expr::{Known, expression};
 use ec_faults::{Fault, Faults};
 use ec_grammar::tree::{Conditional, Expression, Initialiser, Tree};
 use ec_initial::{array_size, local_values, static_values};
+use ec_iohw::IoTable;
 use ec_names::{Names, Tags};
 use ec_operands::{Modes, Operand, as_value};
 use ec_space::Seq;
@@ -115,27 +117,49 @@ fn no_structs(alloc: Global) -> Seq<StructDef>
     Seq::new(alloc)
 }
 
-fn shown(alloc: Global, text: &str, part: Part) -> Result<String, Fail> {
-    let tree = tree(alloc, text)?;
-    let ports = ports(alloc)?;
-    let mut names = Names::new(alloc);
-    declare(alloc, &mut names)?;
+fn known_told(
+    alloc: Global,
+    tree: &Tree,
+    names: &Names,
+    ports: &IoTable,
+    part: Part,
+) -> Result<String, Fail>
+    requires { ValidIo ports.now }
+{
     let tags = Tags::new(alloc);
     let structs = no_structs(alloc);
     let known = Known {
-        names: &names,
+        names,
         tags: &tags,
         structs: &structs,
-        ports: &ports,
+        ports,
         modes: MODES,
     };
-    part_told(alloc, &known, &tree, part)
+    part_told(alloc, &known, tree, part)
+}
+
+fn named_told(alloc: Global, tree: &Tree, ports: &IoTable, part: Part) -> Result<String, Fail>
+    requires { ValidIo ports.now }
+{
+    let mut names = Names::new(alloc);
+    declare(alloc, &mut names)?;
+    known_told(alloc, tree, &names, ports, part)
+}
+
+fn tree_told(alloc: Global, tree: &Tree, part: Part) -> Result<String, Fail> {
+    let ports = ports(alloc)?;
+    named_told(alloc, tree, &ports, part)
+}
+
+/// What a part of a text means where the names are known, or the least rule that it breaks.
+fn shown(alloc: Global, text: &str, part: Part) -> Result<String, Fail> {
+    let tree = tree(alloc, text)?;
+    tree_told(alloc, &tree, part)
 }
 
 fn static_told(alloc: Global, known: &Known, i: &Initialiser, form: Form) -> Result<String, Fail>
     requires sound { IsSound (plain_known known.now) }
     requires named { NamesObjects (plain_known known.now) }
-    requires none { (plain_known known.now).structs ≡ [] }
 {
     let mut faults = Faults::new();
     let ty = Some(type_of(alloc, form)?);
@@ -157,10 +181,14 @@ fn values_told(alloc: Global, values: &[LeafInit]) -> Result<String, Fail> {
     }
 }
 
-/// What an initialiser of a static object means where no name is known.
-fn static_shown(alloc: Global, text: &str, form: Form) -> Result<String, Fail> {
-    let tree = tree(alloc, text)?;
-    let ports = ports(alloc)?;
+fn nameless_told(
+    alloc: Global,
+    i: &Initialiser,
+    ports: &IoTable,
+    form: Form,
+) -> Result<String, Fail>
+    requires { ValidIo ports.now }
+{
     let names = Names::new(alloc);
     let tags = Tags::new(alloc);
     let structs = no_structs(alloc);
@@ -168,12 +196,23 @@ fn static_shown(alloc: Global, text: &str, form: Form) -> Result<String, Fail> {
         names: &names,
         tags: &tags,
         structs: &structs,
-        ports: &ports,
+        ports,
         modes: MODES,
     };
+    static_told(alloc, &known, i, form)
+}
+
+fn initialiser_told(alloc: Global, i: &Initialiser, form: Form) -> Result<String, Fail> {
+    let ports = ports(alloc)?;
+    nameless_told(alloc, i, &ports, form)
+}
+
+/// What an initialiser of a static object means where no name is known.
+fn static_shown(alloc: Global, text: &str, form: Form) -> Result<String, Fail> {
+    let tree = tree(alloc, text)?;
     match initialiser_of(&tree) {
         None => Err("no initialiser")?,
-        Some(i) => static_told(alloc, &known, i, form),
+        Some(i) => initialiser_told(alloc, i, form),
     }
 }
 

@@ -1,8 +1,8 @@
 //! The parts of a tree that are walked.
 
 use ec_grammar::tree::{
-    Conditional, Declarator, Expression, External, InitDeclarator, Initialiser, Item, Shape,
-    Statement, Tree,
+    Compound, Conditional, Declarator, Expression, External, InitDeclarator, Initialiser, Item,
+    Shape, Statement, Tree,
 };
 use ec_lex::lex;
 use ec_parse::parse;
@@ -22,10 +22,23 @@ pub fn tree(alloc: Global, text: &str) -> Result<Tree, Fail> {
     Ok(tree)
 }
 
+fn body_of(external: &External) -> Option<&Compound> {
+    match external {
+        External::Function(f) => Some(&f.body),
+        _ => None,
+    }
+}
+
 /// The first declaration or statement of the last function of a unit.
 fn first_item(tree: &Tree) -> Option<&Item> {
-    match tree.items.last() {
-        Some(External::Function(f)) => f.body.items.first(),
+    let external = tree.items.last()?;
+    let body = body_of(external)?;
+    body.items.first()
+}
+
+fn evaluated_in(statement: &Statement) -> Option<&Expression> {
+    match statement {
+        Statement::Simple(e, _) => e.as_ref(),
         _ => None,
     }
 }
@@ -33,28 +46,32 @@ fn first_item(tree: &Tree) -> Option<&Item> {
 /// The expression in a statement that stands first.
 pub fn expression_of(tree: &Tree) -> Option<&Expression> {
     match first_item(tree) {
-        Some(Item::Statement(Statement::Simple(Some(e), _))) => Some(e),
-        _ => None,
+        Some(item) => match item {
+            Item::Statement(statement) => evaluated_in(statement),
+            Item::Declaration(_) => None,
+        },
+        None => None,
     }
 }
 
 fn declared_in(tree: &Tree) -> Option<&InitDeclarator> {
     match first_item(tree) {
-        Some(Item::Declaration(d)) => Some(&d.first),
-        _ => None,
+        Some(item) => match item {
+            Item::Declaration(d) => Some(&d.first),
+            Item::Statement(_) => None,
+        },
+        None => None,
     }
 }
 
 /// The initialiser in a declaration that stands first.
 pub fn initialiser_of(tree: &Tree) -> Option<&Initialiser> {
     match declared_in(tree) {
-        Some(
-            InitDeclarator {
-                start: Some(start),
-                ..
-            },
-        ) => Some(&start.value),
-        _ => None,
+        Some(d) => match &d.start {
+            Some(start) => Some(&start.value),
+            None => None,
+        },
+        None => None,
     }
 }
 

@@ -1,7 +1,7 @@
 //! Types by their forms.
-ghost use Rattle.std.specs.Prelude.{IfOk};
+ghost use Rattle.std.specs.Prelude.{◌≡◌, ℕ, true, IfOk};
 ghost use Rattle.ec_core.specs.Layout.{IsObjectType};
-ghost use Rattle.ec_core.specs.Plain.{plain_type};
+ghost use Rattle.ec_core.specs.Plain.{plain_type, integer};
 
 use ec_core::CType;
 use ec_fx::FxKind;
@@ -25,7 +25,7 @@ pub enum Form {
 }
 
 fn boxed_int(alloc: Global) -> Result<Box<CType>, NoMemory>
-    ensures { IfOk result (λ ty. IsObjectType 0 (plain_type ty.inner)) }
+    ensures { IfOk result (λ ty. plain_type ty.value ≡ integer true 2) }
 {
     let int = CType::Int {
         signed: true,
@@ -35,7 +35,7 @@ fn boxed_int(alloc: Global) -> Result<Box<CType>, NoMemory>
 }
 
 pub fn type_of(alloc: Global, form: Form) -> Result<CType, NoMemory>
-    ensures { IfOk result (λ ty. IsObjectType 0 (plain_type ty)) }
+    ensures { IfOk result (λ ty. (structs : ℕ) → IsObjectType structs (plain_type ty)) }
 {
     match form {
         Form::Char => Ok(CType::Int {
