@@ -1,0 +1,4 @@
+-- The definitions that the contract of `check` cites.
+pub mod Definitions
+pub mod Units
+pub mod Answers

@@ -1,0 +1,196 @@
+//! The typed program of all units, or why there is none.
+ghost use Rattle.std.specs.Prelude.{◌≡◌, ◌≤◌, None, IfOk, IfSome, is_some, option_map, map, length};
+ghost use Rattle.ec_iohw.specs.Valid.{ValidIo};
+ghost use Rattle.ec_core.specs.Plain.{plain_program};
+ghost use Rattle.ec_grammar.specs.Views.{view_tree};
+ghost use Rattle.ec_names.specs.Definitions.{plain_definitions};
+ghost use Rattle.ec_file_scope.specs.States.{plain_state, IsSoundState};
+ghost use Rattle.ec_check.specs.Answers.{Walks, HasFewFunctions, Recurs, Checked};
+ghost use Rattle.ec_check.specs.Units.{main_of, is_last, after_units, first_fault, program_by};
+ghost use Rattle.ec_check.specs.Answers.{plain_unit_fault};
+
+use crate::units::{main_of, unit};
+use ec_core::Program;
+use ec_declare::copied_name;
+use ec_faults::Fault;
+use ec_file_scope::{Setting, State};
+use ec_grammar::Tree;
+use ec_iohw::IoTable;
+use ec_names::{Definition, definitions, has_too_many_functions, has_too_many_objects};
+use ec_recursion::first_recursive;
+use ec_space::{Name, NoMemory, Seq};
+use std::alloc::Global;
+use thiserror::Error;
+
+/// Why there is no program.
+#[derive(Debug, Drop, Error)]
+pub enum CheckStop {
+    /// Memory ran out.
+    #[error("no memory")]
+    NoMemory,
+    /// The units declare more than 1,024 objects.
+    #[error("too many objects")]
+    TooManyObjects,
+    /// The units define more than 256 functions.
+    #[error("too many functions")]
+    TooManyFunctions,
+    /// The least broken rule by unit, token and rule, from 1 to 40.
+    #[error("constraint {rule} at token {token} of unit {unit}")]
+    Constraint { unit: u8, token: u32, rule: u8 },
+    /// The name of the function, first by place of definition, that reaches itself by calls.
+    #[error("recursion")]
+    Recursion(Name),
+}
+
+/// A fault of a unit.
+#[derive(Clone, Copy)]
+pub(crate) struct UnitFault {
+    pub(crate) unit: u8,
+    pub(crate) fault: Fault,
+}
+
+fn is_last(behind: &[Tree]) -> bool
+    ensures { result ≡ is_last (map view_tree behind.now) }
+{
+    match behind {
+        [] => true,
+        [_, ..] => false,
+    }
+}
+
+/// Walks all units in order, up to the first that has a fault, and answers its least fault.
+fn walk_units(
+    alloc: Global,
+    definitions: &[Definition],
+    ports: &IoTable,
+    has_main: bool,
+    units: &[Tree],
+    state: &mut State,
+) -> Result<Option<UnitFault>, NoMemory>
+    requires io { ValidIo ports.now }
+    requires units { length units.now ≤ 16 }
+    requires sound { IsSoundState (plain_state state.old) }
+    requires main { has_main ≡ is_some (main_of (plain_definitions definitions.now)) }
+    ensures fault { IfOk result (λ f. option_map plain_unit_fault f ≡ first_fault (plain_definitions definitions.now)
+        ports.now 0 (map view_tree units.now) (plain_state state.old)) }
+    ensures state { IfOk result (λ f. f ≡ None → plain_state state.new ≡ after_units
+        (plain_definitions definitions.now) ports.now 0 (map view_tree units.now) (plain_state state.old)) }
+{
+    for (i, u) in units.iter().enumerate() {
+        let setting = Setting {
+            definitions,
+            ports,
+            unit: i as u8,
+        };
+        let last = is_last(&units[i + 1..]);
+        let found = unit(alloc, &setting, state, has_main, last, u)?;
+        if let Some(fault) = found {
+            return Ok(Some(UnitFault {
+                unit: i as u8,
+                fault,
+            }));
+        }
+    }
+    Ok(None)
+}
+
+fn program_by(main: Option<u16>, state: State) -> Option<Program>
+    ensures value { option_map plain_program result ≡ program_by main (plain_state state) }
+    ensures few { IfSome result (λ p. length p.funcs.items ≤ 65_536) }
+{
+    let State {
+        scope,
+        structs,
+        functions,
+        whole,
+        ..
+    } = state;
+    let main = main?;
+    if whole && functions.len() <= 65_536 {
+        Some(Program {
+            structs,
+            objs: scope.objects,
+            funcs: functions,
+            main,
+        })
+    } else {
+        None
+    }
+}
+
+/// The program of the units, or None where not all of it has a meaning.
+fn program_of(
+    alloc: Global,
+    definitions: &[Definition],
+    ports: &IoTable,
+    units: &[Tree],
+) -> Result<Result<Option<Program>, UnitFault>, NoMemory>
+    requires io { ValidIo ports.now }
+    requires units { length units.now ≤ 16 }
+    ensures walks { IfOk result (λ r. Walks (plain_definitions definitions.now) ports.now (map view_tree units.now) r) }
+    ensures few { IfOk result (λ r. HasFewFunctions r) }
+{
+    let mut state = State::new(alloc);
+    let main = main_of(alloc, definitions)?;
+    let found = walk_units(alloc, definitions, ports, main.is_some(), units, &mut state)?;
+    match found {
+        Some(f) => Ok(Err(f)),
+        None => Ok(Ok(program_by(main, state))),
+    }
+}
+
+fn recursion(alloc: Global, p: Program) -> Result<Program, CheckStop>
+    requires { length p.funcs.items ≤ 65_536 }
+    ensures { Recurs (plain_program p) result }
+{
+    let found = match first_recursive(alloc, &p) {
+        Ok(found) => found,
+        Err(_) => return Err(CheckStop::NoMemory),
+    };
+    let Some(f) = found else {
+        return Ok(p);
+    };
+    let Some(function) = p.funcs.get(f as usize) else {
+        return Err(CheckStop::NoMemory);
+    };
+    match copied_name(alloc, &function.name) {
+        Ok(name) => Err(CheckStop::Recursion(name)),
+        Err(_) => Err(CheckStop::NoMemory),
+    }
+}
+
+/// The typed program of the units, which no constraint, no limit and no recursion stands against. Otherwise the
+/// first of these causes: too many objects; too many functions; the least constraint by unit, token and rule; the
+/// first function that reaches itself. `NoMemory` also where no rule is broken and yet not all has a meaning: no input
+/// is known for which that is so, and no law excludes it so far.
+pub fn check(alloc: Global, units: &Seq<Tree>, io: &IoTable) -> Result<Program, CheckStop>
+    requires io { ValidIo io.now }
+    requires some { 1 ≤ length units.now.items }
+    requires most { length units.now.items ≤ 16 }
+    ensures { Checked (map view_tree units.now.items) io.now result }
+{
+    let trees = units.as_slice();
+    if has_too_many_objects(trees) {
+        return Err(CheckStop::TooManyObjects);
+    }
+    if has_too_many_functions(trees) {
+        return Err(CheckStop::TooManyFunctions);
+    }
+    let definitions = match definitions(alloc, trees) {
+        Ok(definitions) => definitions,
+        Err(_) => return Err(CheckStop::NoMemory),
+    };
+    let walked = match program_of(alloc, definitions.as_slice(), io, trees) {
+        Ok(walked) => walked,
+        Err(_) => return Err(CheckStop::NoMemory),
+    };
+    match walked {
+        Err(f) => Err(CheckStop::Constraint {
+            unit: f.unit,
+            token: f.fault.at,
+            rule: f.fault.rule,
+        }),
+        Ok(None) => Err(CheckStop::NoMemory),
+        Ok(Some(p)) => recursion(alloc, p),
+    }
+}

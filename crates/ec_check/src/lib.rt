@@ -1,0 +1,9 @@
+//! The checker: the typed program of all units, or the least constraint that they break (ISO/IEC 9899:1999; ISO/IEC TR
+//! 18037:2008).
+#![tactic(auto)]
+
+mod checking;
+mod definitions;
+mod units;
+
+pub use checking::{CheckStop, check};
