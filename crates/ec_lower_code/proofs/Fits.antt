@@ -10,7 +10,7 @@ use Rattle.ec_core.specs.Plain.{PlainType, PlainExpr, expression, PlainNode, num
 use Rattle.ec_core.specs.PortTable.{plain_table}
 use Rattle.ec_core.specs.Typing.{type_of_expr, IsTyped}
 use Rattle.ec_core.specs.Valid.{EachFrom, ValidExpr, ValidParts, ValidExprs, ValidCondition, ValidOptional, ValidStmt, ValidKind, ValidOptionStmt, ValidStmts, IsFunction, Valid}
-use Rattle.ec_core.specs.Weight.{expr_weight, exprs_weight, optional_weight, leaves_weight, stmt_weight, kind_weight, option_stmt_weight, stmts_weight, function_weight, functions_weight, weight}
+use Rattle.ec_core.specs.Weight.{expr_weight, exprs_weight, optional_weight, leaves_weight, stmt_weight, kind_weight, option_stmt_weight, stmts_weight, function_weight, functions_weight, objects_weight, weight}
 use Rattle.ec_core.specs.Words.{choice_words, program_words, total_size, update_words}
 use Rattle.ec_ir.specs.Costs.{branch_zero_words, code_words, functions_words}
 use Rattle.ec_ir.specs.Operations.{PlainIr, store_object, binary_op, unary_op, conversion, label, jump, branch_zero, call_function, return_from}
@@ -172,5 +172,5 @@ functions_fit : (program : PlainProgram) (table : IoTable) (n : ℕ) (fs : List 
 functions_fit program table n [] p v = omega arith
 functions_fit program table n (g ∷ fs) p v = let x = function_fits program table n g p.0 v.0 in let y = functions_fit program table (n + 1) fs p.1 v.1 in omega (arith, x, y)
 
-pub words_fit : (program : PlainProgram) (table : IoTable) → Valid program table → IsLowered program → functions_words (lowered program).functions + program_words ≤ weight program (plain_table table)
+pub words_fit : (program : PlainProgram) (table : IoTable) → Valid program table → IsLowered program → program_words + objects_weight program.objects + functions_words (lowered program).functions ≤ weight program (plain_table table)
 words_fit program table valid parts = let x = functions_fit program table 0 program.functions parts valid.functions in omega (arith, x)

@@ -10,7 +10,7 @@ use Rattle.ec_core.specs.PortTable.{plain_table}
 use Rattle.ec_core.specs.State.{Inputs}
 use Rattle.ec_core.specs.Valid.{Valid}
 use Rattle.ec_core.specs.ValueTypes.{GiveBytes}
-use Rattle.ec_core.specs.Weight.{weight}
+use Rattle.ec_core.specs.Weight.{objects_weight, weight}
 use Rattle.ec_core.specs.Words.{program_words}
 use Rattle.ec_ir.specs.Costs.{functions_words}
 use Rattle.ec_ir.specs.Meaning.{meaning, steps_of}
@@ -44,12 +44,13 @@ pub record IsLoweredFunction (f : PlainFunction) (g : PlainIrFunction) : Type 0 
   pub places : g.slots ≡ stmt_need f.body
   pub calls : (k : ℕ) → Contains (called_in g.code) k → Contains (stmt_calls f.body []) k
 
--- the operations keep their rules, and their words are within the weight of the program less its own row
+-- the operations keep their rules, and their words, with the rows of the program and its objects, are within the weight
 pub record IsMadeOf (program : PlainProgram) (io : IoTable) (ir : PlainIrProgram) : Type 0 where
   pub valid : ValidIr ir
   pub functions : (n : ℕ) (f : PlainFunction) (g : PlainIrFunction) → slice_get program.functions n ≡ Some f
       → slice_get ir.functions n ≡ Some g → IsLoweredFunction f g
-  pub words : functions_words ir.functions + program_words ≤ weight program (plain_table io)
+  pub words : program_words + objects_weight program.objects + functions_words ir.functions
+      ≤ weight program (plain_table io)
 
 abbrev pub LoweredIsMadeOf : Type 0
 LoweredIsMadeOf =
