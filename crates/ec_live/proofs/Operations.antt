@@ -9,7 +9,7 @@ use Rattle.ec_ir.specs.declared.operations.Temp.{Temp}
 use Rattle.ec_ir.specs.Operations.{PlainIr, constant, copy, address, field, load_at, store_at, load_object}
 use Rattle.ec_ir.specs.Operations.{store_object, binary_op, unary_op, conversion, label, jump, branch_zero}
 use Rattle.ec_ir.specs.Operations.{call_function, return_from, port_in, port_out}
-use Rattle.ec_select_functions.specs.Code.{result_wanted}
+use Rattle.ec_select_functions.specs.Code.{result_wanted, wanted_behind}
 use Rattle.ec_select_functions.specs.Needs.{Need, nothing, at_least, without, either, wanted, is_of_low_bytes}
 use Rattle.ec_select_functions.specs.Needs.{all_or_none}
 use Rattle.ec_select_functions.specs.Needs.{operand_wanted, right_wanted, returned_need, without_result, before, needs}
@@ -90,6 +90,11 @@ result_same s (call_function f None) a b l h = refl
 result_same s (call_function f (Some t)) a b l h = same_wanted s t a b l h
 result_same s (port_in to port index width) a b l h = refl
 result_same s (port_out from port index width) a b l h = refl
+
+pub behind_same : (s : ℕ) (at : ℕ → Need) (i : PlainIr) (a b : Need) → HasPlaces s i → AreSame s a b
+    → wanted_behind at a i ≡ wanted_behind at b i
+behind_same s at (branch_zero t k) a b l h = same_wanted s t (either a (at k)) (either b (at k)) l (same_either s a b (at k) h)
+behind_same s at i a b l h = result_same s i a b l h
 
 -- ---- no more bytes than a place has
 

@@ -6,12 +6,11 @@ use Rattle.std.proofs.lemmas.List.{drop_more, get_or-map, get_or_past, length-ma
 use Rattle.ec_ir.specs.Operations.{PlainIr, constant, copy, address, field, load_at, store_at, load_object}
 use Rattle.ec_ir.specs.Operations.{store_object, binary_op, unary_op, conversion, label, jump, branch_zero}
 use Rattle.ec_ir.specs.Operations.{call_function, return_from, port_in, port_out}
-use Rattle.ec_select_functions.specs.Code.{result_wanted}
+use Rattle.ec_select_functions.specs.Code.{wanted_behind, wanted_bytes}
 use Rattle.ec_select_functions.specs.Needs.{Need, before, needs, IsLive}
-use Rattle.ec_select_functions.specs.Written.{wanted_bytes}
 use Rattle.ec_live.specs.Places.{HasPlaces, HavePlaces}
 use Rattle.ec_live.specs.Tables.{need_of, needs_of, AreSame, IsBounded, IsTable, IsJoined, room}
-use Rattle.ec_live.proofs.Operations.{before_same, before_bounded, needs_bounded, result_same}
+use Rattle.ec_live.proofs.Operations.{before_same, before_bounded, needs_bounded, behind_same}
 
 below_or_not : (a b : ℕ) → (a < b) ⊎ (b ≤ a)
 below_or_not a zero = inr (omega arith)
@@ -155,12 +154,12 @@ need_more s at code rest i need need1 p is h b =
 
 pub wanted_more : (s : ℕ) (at : ℕ → Need) (code rest : List PlainIr) (i : PlainIr) (need wanted : List ℕ) (k n : ℕ)
     → HasPlaces s i → code ≡ i ∷ rest → AreSame s (need_of need) (needs at rest)
-    → n ≡ result_wanted (need_of need) i → 0 < k → k ≤ length wanted → drop k wanted ≡ wanted_bytes at rest
+    → n ≡ wanted_behind at (need_of need) i → 0 < k → k ≤ length wanted → drop k wanted ≡ wanted_bytes at rest
     → drop (k - 1) (set wanted (k - 1) n) ≡ wanted_bytes at code
 wanted_more s at code rest i need wanted k n p is h r z l w =
     let m : k - 1 < length wanted = omega arith in
     let e : (k - 1) + 1 ≡ k = omega arith in
-    let q : n ≡ result_wanted (needs at rest) i = r ∙ result_same s i (need_of need) (needs at rest) p h in
+    let q : n ≡ wanted_behind at (needs at rest) i = r ∙ behind_same s at i (need_of need) (needs at rest) p h in
     drop-set wanted (k - 1) n m
     ∙ ap (λ (j : ℕ). n ∷ drop j wanted) e
     ∙ ap (λ (x : List ℕ). n ∷ x) w

@@ -1,9 +1,8 @@
 //! What is needed at the labels of a function, and of the results of its operations.
 ghost use Rattle.std.specs.Prelude.{◌≡◌, ℕ, ◌<◌, length, map, IfOk, false, true};
 ghost use Rattle.ec_ir.specs.Operations.{plain_ir};
-ghost use Rattle.ec_select_functions.specs.Code.{result_wanted};
+ghost use Rattle.ec_select_functions.specs.Code.{wanted_behind, wanted_bytes};
 ghost use Rattle.ec_select_functions.specs.Needs.{Need, IsLive};
-ghost use Rattle.ec_select_functions.specs.Written.{wanted_bytes};
 ghost use Rattle.ec_live.specs.Places.{HasPlaces, HavePlaces};
 ghost use Rattle.ec_live.specs.Tables.{need_of, needs_of, IsBounded, IsTable, IsJoined, TellNoMore, room};
 ghost use Rattle.ec_live.specs.Least.{IsLeast, HasLabel, HaveLabels};
@@ -113,10 +112,11 @@ pub fn live(alloc: Global, code: &Seq<Ir>, slots: u16) -> Result<LabelNeeds, NoM
     Ok(table)
 }
 
-/// The bytes that are wanted of an operation's result, where so much is needed after it.
-fn result_wanted(need: &[u8], i: &Ir) -> u8
+/// The bytes that are needed behind an operation, where so much is needed there: of its result, or of what a branch has
+/// tested.
+fn wanted_behind(table: &LabelNeeds, need: &[u8], i: &Ir) -> u8
     requires { HasPlaces (length need.now) (plain_ir i.now) }
-    ensures { result ≡ result_wanted (need_of need.now) (plain_ir i.now) }
+    ensures { result ≡ wanted_behind (needs_of table.now) (need_of need.now) (plain_ir i.now) }
 {
     match i {
         Ir::Const(to, _)
@@ -125,6 +125,10 @@ fn result_wanted(need: &[u8], i: &Ir) -> u8
         | Ir::Un { to, .. }
         | Ir::Conv { to, .. }
         | Ir::Call(_, Some(to)) => wanted_of(need, *to),
+        Ir::BranchZero(t, l) => {
+            let place = usize::from(t.at);
+            need[place].max(table.need(*l, place)).min(t.bytes)
+        }
         _ => 0,
     }
 }
@@ -137,12 +141,13 @@ fn want(table: &LabelNeeds, code: &[Ir], need: &mut [u8], wanted: &mut [u8])
     clear(need);
     for k in (0..code.len()).rev() {
         let i = &code[k];
-        wanted[k] = result_wanted(need, i);
+        wanted[k] = wanted_behind(table, need, i);
         before(table, i, need);
     }
 }
 
-/// For each operation how many low bytes of its result are wanted, where so much is needed at the labels.
+/// For each operation how many low bytes are needed behind it, of its result or of what a branch has tested, where so
+/// much is needed at the labels.
 pub fn wanted(
     alloc: Global,
     table: &LabelNeeds,

@@ -13,10 +13,10 @@ use Rattle.ec_live.specs.Least.{IsLeast}
 use Rattle.ec_near.specs.Near.{near_items}
 use Rattle.ec_select_functions.specs.Needs.{Need, IsLive}
 use Rattle.ec_select_functions.specs.declared.calls.Linking.{Linking}
-use Rattle.ec_select_functions.specs.Code.{Linkage, function_code}
+use Rattle.ec_select_functions.specs.Code.{Linkage, wanted_bytes, function_code}
 use Rattle.ec_select_functions.specs.Emitted.{linkage}
 use Rattle.ec_select_functions.specs.Laws.{linkage_of}
-use Rattle.ec_select_functions.specs.Written.{written_function, wanted_bytes, kept_rows, NeededFunctionsAreWritten}
+use Rattle.ec_select_functions.specs.Written.{written_function, kept_rows, NeededFunctionsAreWritten}
 use Rattle.ec_startup.specs.Startup.{startup_code}
 use Rattle.ec_select.specs.Labels.{homes_of, label_count, labels_in, entry_label, first_label, function_label}
 use Rattle.ec_select.specs.Program.{spans_of, made_with, code_of, functions_code}

@@ -17,12 +17,12 @@ use Rattle.ec_select_functions.specs.declared.calls.Linking.{Linking}
 use Rattle.ec_select_functions.specs.declared.families.Family.{Family}
 use Rattle.ec_select_functions.specs.declared.families.Family.TheVariants.{Combined, Compared, Multiplied, Shifted}
 use Rattle.ec_select_functions.specs.declared.families.Family.TheVariants.{Divided}
-use Rattle.ec_select_functions.specs.Code.{family_of, result_wanted, HasResult}
+use Rattle.ec_select_functions.specs.Code.{family_of, result_wanted, wanted_behind, wanted_bytes, HasResult}
 use Rattle.ec_select_functions.specs.Covered.{HasNumberAt, IsBinary, IsResult, IsCovered, AreCovered}
 use Rattle.ec_select_functions.specs.Emitted.{BinaryHasBytes, CanBeTaken, CanBeEmitted}
 use Rattle.ec_select_functions.specs.Needs.{Need, wanted, wanted_result, needs}
 use Rattle.ec_select_functions.specs.Places.{location_in, object_location}
-use Rattle.ec_select_functions.specs.Written.{CanBeWritten, wanted_bytes, kept_rows}
+use Rattle.ec_select_functions.specs.Written.{CanBeWritten, kept_rows}
 use Rattle.ec_select.specs.Labels.{label_count}
 use Rattle.ec_select.proofs.Setting.{all_at, leaf_inside}
 
@@ -97,12 +97,18 @@ module _ (p : PlainIrProgram) (valid : ValidIr p) (leaves : LeavesFillTheirTypes
     emits need (port_in to port index width) code h v l = absurd h
     emits need (port_out from port index width) code h v l = absurd h
 
+    emits_behind : (at : ℕ → Need) (need : Need) (i : PlainIr) (code : List PlainIr)
+        → IsCovered (data_of p) results f slots i → ValidOperation p valid.results f slots all i
+        → label_count (i ∷ code) ≤ bound → CanBeEmitted p.objects k (wanted_behind at need i) i
+    emits_behind at need (branch_zero t m) code h v l = omega arith
+    emits_behind at need i code h v l = emits need i code h v l
+
     pub all_emitted : (at : ℕ → Need) (code : List PlainIr) → AreCovered (data_of p) results f slots code
         → AllByRecursion (ValidOperation p valid.results f slots all) code → label_count code ≤ bound
         → CanBeWritten p.objects k (wanted_bytes at code) code
     all_emitted at [] h v l j i e = absurd (cc)
     all_emitted at (x ∷ code) h v l zero i e =
         let q : x ≡ i = cc in
-        subst (λ (y : PlainIr). CanBeEmitted p.objects k (result_wanted (needs at code) x) y) q
-        (emits (needs at code) x code h.0 v.0 l)
+        subst (λ (y : PlainIr). CanBeEmitted p.objects k (wanted_behind at (needs at code) x) y) q
+        (emits_behind at (needs at code) x code h.0 v.0 l)
     all_emitted at (x ∷ code) h v l (suc j) i e = all_emitted at code h.1 v.1 (omega arith) j i e

@@ -1,7 +1,7 @@
 -- What the items of an operation's code pass.
-use Rattle.std.proofs.Common.{◌≡◌, ◌⊎◌, ℕ, suc, ◌+◌, ◌-◌, ◌*◌, ◌<◌, ◌≤◌, ◌==◌, Bool, true, false, List, [], ◌∷◌, ◌++◌}
+use Rattle.std.proofs.Common.{◌≡◌, ◌⊎◌, ℕ, suc, ◌+◌, ◌-◌, ◌*◌, ◌<◌, ◌≤◌, ◌==◌, Bool, true, false, not, List, [], ◌∷◌, ◌++◌}
 use Rattle.std.proofs.Common.{refl, arith, inl, inr}
-use Rattle.std.specs.Prelude.{⊤, min, nat_le, ◌&&◌, if◌then◌else◌, Option, Some, None}
+use Rattle.std.specs.Prelude.{⊤, min, nat_le, nat_lt, ◌&&◌, if◌then◌else◌, Option, Some, None}
 use Rattle.std.specs.List.{list_all}
 use Rattle.ec_isa.specs.declared.instructions.Instr.TheVariants.{Ret}
 use Rattle.ec_asm.specs.declared.items.AsmItem.{AsmItem}
@@ -11,7 +11,7 @@ use Rattle.ec_asm.specs.declared.pieces.Location.TheVariants.{InRegisters, InMem
 use Rattle.ec_asm.specs.declared.pieces.Operator.{Operator}
 use Rattle.ec_asm.specs.declared.pieces.Operator.TheVariants.{Sum, Difference, BitAnd, BitOr, BitXor}
 use Rattle.ec_select_bytes.specs.Complements.{negation_code}
-use Rattle.ec_asm.specs.Pieces.{copy_code, operate_code}
+use Rattle.ec_asm.specs.Pieces.{copy_code, operate_code, compare_code}
 use Rattle.ec_asm.specs.Valid.{Sizes, is_offset}
 use Rattle.ec_core.specs.declared.expressions.UnOp.{UnOp}
 use Rattle.ec_core.specs.declared.expressions.UnOp.TheVariants.{Minus, Invert}
@@ -23,13 +23,15 @@ use Rattle.ec_ir.specs.Operations.{call_function, return_from, port_in, port_out
 use Rattle.ec_ir.specs.Temporaries.{low_bytes}
 use Rattle.ec_select_bytes.specs.Values.{constant_code, test_code, extend_code}
 use Rattle.ec_select_order.specs.declared.relations.Relation.{Relation}
-use Rattle.ec_select_order.specs.Relations.{relation_code}
+use Rattle.ec_select_order.specs.declared.relations.Relation.TheVariants.{Less, NotLess, Equal, NotEqual}
+use Rattle.ec_select_order.specs.Relations.{relation_code, flag_of, is_set}
 use Rattle.ec_select_products.specs.Products.{product_code}
 use Rattle.ec_select_quotients.specs.Signs.{quotient_code}
 use Rattle.ec_select_shifts.specs.Shifts.{shift_code}
 use Rattle.ec_select_functions.specs.declared.families.Family.{Family}
 use Rattle.ec_select_functions.specs.declared.families.Family.TheVariants.{Combined, Compared, Multiplied, Shifted}
 use Rattle.ec_select_functions.specs.declared.families.Family.TheVariants.{Divided}
+use Rattle.ec_select_functions.specs.declared.families.Told.{Told}
 use Rattle.ec_select_functions.specs.declared.homes.Homes.{Homes}
 use Rattle.ec_select_functions.specs.Code.{same_location, move_code, reversed_code, family_of, is_signed}
 use Rattle.ec_select_functions.specs.Code.{conversion_code, combined_code}
@@ -40,16 +42,24 @@ use Rattle.ec_select_functions.specs.Code.{place_register}
 use Rattle.ec_select_functions.specs.Code.{kept_bytes, waiting_location, save_place, restore_place, register_places}
 use Rattle.ec_select_functions.specs.Code.{save_code}
 use Rattle.ec_select_functions.specs.Code.{restore_code, taken_code, call_code, result_code, return_code}
-use Rattle.ec_select_functions.specs.Code.{kept_need, op_code, ops_code}
+use Rattle.ec_select_functions.specs.Code.{flag_code, operator_code, tested_code, kept_need, op_code, tells_next, ops_code}
 use Rattle.ec_select_functions.specs.Covered.{HasNumberAt, IsBinary}
 use Rattle.ec_select_functions.specs.Covered.{IsUnary, IsResult, IsCovered, AreCovered}
 use Rattle.ec_select_functions.specs.Homes.{HasHome, depth, home, result_location}
 use Rattle.ec_select_functions.specs.Needs.{Need, wanted, wanted_result, needs}
 use Rattle.ec_select_functions.specs.Places.{object_location}
 use Rattle.ec_select.proofs.Fitting.{fits, Fit, joined, chained, passing, BytesFit, registers_fit, fewer_fit}
-use Rattle.ec_select.proofs.Pieces.{copy_fits, operate_fits, relation_fits, constant_fits, test_fits, extend_fits}
+use Rattle.ec_select.proofs.Pieces.{copy_fits, operate_fits, compare_fits, relation_fits, constant_fits, test_fits, extend_fits}
 use Rattle.ec_select.proofs.Pieces.{complement_fits, negation_fits}
 use Rattle.ec_select.proofs.Loops.{shift_fits, product_fits, quotient_fits}
+
+flag_small : (r : Relation) (signed : Bool) → nat_lt (flag_of r signed) 8 ≡ true
+flag_small Less true = refl
+flag_small Less false = refl
+flag_small NotLess true = refl
+flag_small NotLess false = refl
+flag_small Equal signed = refl
+flag_small NotEqual signed = refl
 
 -- the scratch memory has room for so many places
 pub record HasRoom (sizes : Sizes) (h : Homes) (slots : ℕ) : Type 0 where
@@ -60,7 +70,8 @@ pub record HasRoom (sizes : Sizes) (h : Homes) (slots : ℕ) : Type 0 where
 abbrev pub AcceptsLabels : (AsmItem → Bool) → Linkage → PlainIr → Type 0
 AcceptsLabels q k (label l) = q (Label (k.label_of l)) ≡ true
 AcceptsLabels q k (jump l) = q (JumpTo (k.label_of l)) ≡ true
-AcceptsLabels q k (branch_zero t l) = q (BranchTo true 1 (k.label_of l)) ≡ true
+AcceptsLabels q k (branch_zero t l) =
+    (set : Bool) (flag : ℕ) → nat_lt flag 8 ≡ true → q (BranchTo set flag (k.label_of l)) ≡ true
 AcceptsLabels q k (call_function f to) = q (CallTo (k.entry_of f)) ≡ true
 AcceptsLabels q k (constant t n) = ⊤
 AcceptsLabels q k (copy to from) = ⊤
@@ -212,6 +223,23 @@ module _ (sizes : Sizes) where
         divided_fit r left (home k.homes a) (home k.homes b) (home k.homes to) a.bytes n some (omega arith)
         (at_home a i.left) (low_home b a.bytes i.right (omega arith)) (low_home to a.bytes i.result (omega arith))
 
+    -- a comparison whose result is told by a flag
+    flag_fits : (family : Family) (to a b : Temp) (ty aty bty : PlainType) → IsBinary family k.slots to a b ty aty bty
+        → Fit sizes (flag_code family (home k.homes a) (home k.homes b) a.bytes)
+    flag_fits (Compared r false) to a b ty aty bty h =
+        compare_fits sizes (home k.homes b) (home k.homes a) a.bytes
+        (low_home b a.bytes h.right (let x = h.same_bytes in omega arith)) (at_home a h.left)
+    flag_fits (Compared r true) to a b ty aty bty h =
+        compare_fits sizes (home k.homes a) (home k.homes b) a.bytes (at_home a h.left)
+        (low_home b a.bytes h.right (let x = h.same_bytes in omega arith))
+    flag_fits family to a b ty aty bty h = refl
+
+    operator_fits : (telling : Option Told) (family : Family) (to a b : Temp) (ty aty bty : PlainType) (left right : Bool)
+        (n : ℕ) → IsBinary family k.slots to a b ty aty bty → n ≤ to.bytes
+        → Fit sizes (operator_code telling family left right (home k.homes a) (home k.homes b) (home k.homes to) a.bytes n)
+    operator_fits None family to a b ty aty bty left right n h l = binary_fits family to a b ty aty bty left right n h l
+    operator_fits (Some t) family to a b ty aty bty left right n h l = flag_fits family to a b ty aty bty h
+
     turn_fits : (op : UnOp) (q : Location) (n : ℕ) → BytesFit sizes q n → Fit sizes (turn_code op q n)
     turn_fits Minus q n x = negation_fits sizes q n x
     turn_fits Invert q n x = complement_fits sizes q n x
@@ -292,6 +320,14 @@ module _ (sizes : Sizes) where
           joined q (test_code (home k.homes t) t.bytes) (BranchTo true 1 l ∷ [])
           (by_fit (test_code (home k.homes t) t.bytes) (test_fits sizes (home k.homes t) t.bytes (at_home t h))) (rw a refl)
 
+      tested_passes : (told : Option Told) (t : Temp) (l : ℕ) → HasHome k.slots t
+          → ((set : Bool) (flag : ℕ) → nat_lt flag 8 ≡ true → q (BranchTo set flag l) ≡ true)
+          → list_all q (tested_code told (home k.homes t) t.bytes l) ≡ true
+      tested_passes None t l h a = branch_passes t l h (a true 1 refl)
+      tested_passes (Some told) t l h a =
+          let one = a (not (is_set told.relation)) (flag_of told.relation told.signed) (flag_small told.relation told.signed) in
+          rw one refl
+
       call_passes : (results : ℕ → ℕ) (g : ℕ) (to : Option Temp) (n : ℕ) (kept : Need) → IsResult results g k.slots to
           → ((t : Temp) → to ≡ Some t → n ≤ t.bytes) → q (CallTo (k.entry_of g)) ≡ true
           → list_all q (call_code (home k.homes) k g to n kept) ≡ true
@@ -312,50 +348,53 @@ module _ (sizes : Sizes) where
       wanted_few : (need : Need) (to : Option Temp) (t : Temp) → to ≡ Some t → wanted_result need to ≤ t.bytes
       wanted_few need to t e = rw e (omega arith)
 
-      pub operation_passes : (results : ℕ → ℕ) (f : ℕ) (need : Need) (i : PlainIr) → IsCovered p results f k.slots i
-          → AcceptsLabels q k i → list_all q (op_code p.objects (home k.homes) k need i) ≡ true
-      operation_passes results f need (constant t n) h a =
+      pub operation_passes : (results : ℕ → ℕ) (f : ℕ) (told telling : Option Told) (need : Need) (i : PlainIr)
+          → IsCovered p results f k.slots i → AcceptsLabels q k i
+          → list_all q (op_code p.objects (home k.homes) k told telling need i) ≡ true
+      operation_passes results f told telling need (constant t n) h a =
           by_fit (constant_code (home k.homes t) (low_bytes 16 n) (wanted need t))
           (constant_fits sizes (home k.homes t) (low_bytes 16 n) (wanted need t) (low_home t (wanted need t) h (omega arith)))
-      operation_passes results f need (copy to from) h a =
+      operation_passes results f told telling need (copy to from) h a =
           let e = h.2 in
           by_fit (move_code (home k.homes from) (home k.homes to) (wanted need to))
           (move_fits (home k.homes from) (home k.homes to) (wanted need to) (low_home from (wanted need to) h.1 (omega arith))
           (low_home to (wanted need to) h.0 (omega arith)))
-      operation_passes results f need (load_object t o offset) h a =
+      operation_passes results f told telling need (load_object t o offset) h a =
           by_fit (copy_code (object_location p.objects o offset) (home k.homes t) t.bytes)
           (copy_fits sizes (object_location p.objects o offset) (home k.homes t) t.bytes (stands o offset t.bytes h.1) (at_home t h.0))
-      operation_passes results f need (store_object o offset t) h a =
+      operation_passes results f told telling need (store_object o offset t) h a =
           by_fit (copy_code (home k.homes t) (object_location p.objects o offset) t.bytes)
           (copy_fits sizes (home k.homes t) (object_location p.objects o offset) t.bytes (at_home t h.0) (stands o offset t.bytes h.1))
-      operation_passes results f need (binary_op op ty mode to x aty y bty) h a =
-          by_fit (op_code p.objects (home k.homes) k need (binary_op op ty mode to x aty y bty))
-          (binary_fits (family_of op) to x y ty aty bty (is_signed aty) (is_signed bty) (wanted need to) h (omega arith))
-      operation_passes results f need (unary_op op ty mode to x) h a =
+      operation_passes results f told telling need (binary_op op ty mode to x aty y bty) h a =
+          by_fit (op_code p.objects (home k.homes) k told telling need (binary_op op ty mode to x aty y bty))
+          (operator_fits telling (family_of op) to x y ty aty bty (is_signed aty) (is_signed bty) (wanted need to) h (omega arith))
+      operation_passes results f told telling need (unary_op op ty mode to x) h a =
           by_fit (unary_code op (home k.homes x) (home k.homes to) (wanted need to)) (unary_fits op to x ty (wanted need to) h (omega arith))
-      operation_passes results f need (conversion to ty mode x aty) h a =
+      operation_passes results f told telling need (conversion to ty mode x aty) h a =
           by_fit (conversion_code (is_signed aty) (home k.homes x) (home k.homes to) x.bytes (wanted need to))
           (convert_fits (is_signed aty) (home k.homes x) (home k.homes to) x.bytes (wanted need to) h.from.some (at_home x h.from)
           (low_home to (wanted need to) h.result (omega arith)))
-      operation_passes results f need (label l) h a = rw a refl
-      operation_passes results f need (jump l) h a = rw a refl
-      operation_passes results f need (branch_zero t l) h a = branch_passes t (k.label_of l) h a
-      operation_passes results f need (call_function g to) h a =
+      operation_passes results f told telling need (label l) h a = rw a refl
+      operation_passes results f told telling need (jump l) h a = rw a refl
+      operation_passes results f told telling need (branch_zero t l) h a = tested_passes told t (k.label_of l) h a
+      operation_passes results f told telling need (call_function g to) h a =
           call_passes results g to (wanted_result need to) (kept_need need (call_function g to)) h (wanted_few need to) a
-      operation_passes results f need (return_from from) h a = return_passes results f k.is_main from h
-      operation_passes results f need (address t o offset) h a = absurd h
-      operation_passes results f need (field ptr space offset) h a = absurd h
-      operation_passes results f need (load_at to ptr space) h a = absurd h
-      operation_passes results f need (store_at ptr space from) h a = absurd h
-      operation_passes results f need (port_in to port index width) h a = absurd h
-      operation_passes results f need (port_out from port index width) h a = absurd h
+      operation_passes results f told telling need (return_from from) h a = return_passes results f k.is_main from h
+      operation_passes results f told telling need (address t o offset) h a = absurd h
+      operation_passes results f told telling need (field ptr space offset) h a = absurd h
+      operation_passes results f told telling need (load_at to ptr space) h a = absurd h
+      operation_passes results f told telling need (store_at ptr space from) h a = absurd h
+      operation_passes results f told telling need (port_in to port index width) h a = absurd h
+      operation_passes results f told telling need (port_out from port index width) h a = absurd h
 
       -- all operations
 
-      pub operations_pass : (results : ℕ → ℕ) (f : ℕ) (at : ℕ → Need) (code : List PlainIr)
+      pub operations_pass : (results : ℕ → ℕ) (f : ℕ) (at : ℕ → Need) (told : Option Told) (code : List PlainIr)
           → AreCovered p results f k.slots code → AllAccepted q k code
-          → list_all q (ops_code p.objects (home k.homes) k at code) ≡ true
-      operations_pass results f at [] h a = refl
-      operations_pass results f at (i ∷ code) h a =
-          joined q (op_code p.objects (home k.homes) k (needs at code) i) (ops_code p.objects (home k.homes) k at code)
-          (operation_passes results f (needs at code) i h.0 a.0) (operations_pass results f at code h.1 a.1)
+          → list_all q (ops_code p.objects (home k.homes) k at told code) ≡ true
+      operations_pass results f at told [] h a = refl
+      operations_pass results f at told (i ∷ code) h a =
+          joined q (op_code p.objects (home k.homes) k told (tells_next at i code) (needs at code) i)
+          (ops_code p.objects (home k.homes) k at (tells_next at i code) code)
+          (operation_passes results f told (tells_next at i code) (needs at code) i h.0 a.0)
+          (operations_pass results f at (tells_next at i code) code h.1 a.1)

@@ -15,7 +15,7 @@ use Rattle.ec_asm.specs.declared.pieces.Operator.{Operator}
 use Rattle.ec_asm.specs.declared.pieces.Operator.TheVariants.{Sum, Difference, BitAnd, BitOr, BitXor}
 use Rattle.ec_asm.specs.declared.pieces.Operator.TheVariants.{BitAnd, BitOr, BitXor}
 use Rattle.ec_asm.specs.Items.{chain, code_words}
-use Rattle.ec_asm.specs.Pieces.{copy_code, operate_code}
+use Rattle.ec_asm.specs.Pieces.{copy_code, operate_code, compare_code}
 use Rattle.ec_asm.specs.Pieces.{is_bitwise as is_bitwise_operator}
 use Rattle.ec_core.specs.declared.expressions.BinOp.{BinOp}
 use Rattle.ec_core.specs.declared.expressions.BinOp.TheVariants.{Add, Sub, Mul, Div, Rem, And, Or, Xor, Lt, Gt, Le, Ge}
@@ -38,7 +38,7 @@ use Rattle.ec_select_bytes.specs.Laws.{ValuesHave}
 use Rattle.ec_select_bytes.specs.Values.{test_code, extend_code}
 use Rattle.ec_select_order.specs.declared.relations.Relation.{Relation}
 use Rattle.ec_select_order.specs.Laws.{RelationsHaveWords}
-use Rattle.ec_select_order.specs.Relations.{relation_code}
+use Rattle.ec_select_order.specs.Relations.{relation_code, truth_code}
 use Rattle.ec_select_products.specs.Laws.{ProductsHaveWords}
 use Rattle.ec_select_products.specs.Products.{product_code}
 use Rattle.ec_select_quotients.specs.Signs.{quotient_code}
@@ -49,6 +49,7 @@ use Rattle.ec_select_shifts.specs.Shifts.{shift_code, turn_words}
 use Rattle.ec_select_functions.specs.declared.families.Family.{Family}
 use Rattle.ec_select_functions.specs.declared.families.Family.TheVariants.{Combined, Compared, Multiplied, Shifted}
 use Rattle.ec_select_functions.specs.declared.families.Family.TheVariants.{Divided}
+use Rattle.ec_select_functions.specs.declared.families.Told.{Told}
 use Rattle.ec_select_functions.specs.declared.homes.Homes.{Homes}
 use Rattle.ec_select_functions.specs.Code.{same_location, move_code, reversed_code, family_of, is_signed}
 use Rattle.ec_select_functions.specs.Code.{conversion_code, combined_code}
@@ -58,7 +59,7 @@ use Rattle.ec_select_functions.specs.Code.{divided_code, binary_code, turn_code,
 use Rattle.ec_select_functions.specs.Code.{place_register}
 use Rattle.ec_select_functions.specs.Code.{kept_bytes, save_place, restore_place, register_places, save_code}
 use Rattle.ec_select_functions.specs.Code.{restore_code, taken_code, call_code, result_code, return_code}
-use Rattle.ec_select_functions.specs.Code.{kept_need, op_code, ops_code}
+use Rattle.ec_select_functions.specs.Code.{flag_code, operator_code, tested_code, kept_need, op_code, tells_next, ops_code}
 use Rattle.ec_select_functions.specs.Covered.{IsBinary, IsUnary, IsCovered, AreCovered}
 use Rattle.ec_select_functions.specs.Homes.{home, result_location}
 use Rattle.ec_select_functions.specs.Needs.{Need, wanted, wanted_result, needs}
@@ -306,6 +307,44 @@ module _ (laws : WordLaws) where
   binary_most Shr slots h to a b ty aty bty left right n i l same =
       within_row (family_of Shr) slots to a b ty aty bty left right (home h a) (home h b) (home h to) n i l
 
+  -- ---- comparisons that are told by a flag
+
+  flag_few : (family : Family) (left right : Bool) (p q r : Location) (bytes : ℕ)
+      → code_words (flag_code family p q bytes) ≤ code_words (binary_code family left right p q r bytes 1)
+  flag_few (Compared rel false) left right p q r bytes =
+      omega (
+        arith,
+        joined_words (relation_code rel left p q bytes) (conversion_code false (InRegisters 30) r 1 1),
+        joined_words (compare_code q p bytes) (truth_code rel left),
+      )
+  flag_few (Compared rel true) left right p q r bytes =
+      omega (
+        arith,
+        joined_words (relation_code rel left q p bytes) (conversion_code false (InRegisters 30) r 1 1),
+        joined_words (compare_code p q bytes) (truth_code rel left),
+      )
+  flag_few family left right p q r bytes = omega arith
+
+  result_some : (family : Family) (slots : ℕ) (to a b : Temp) (ty aty bty : PlainType)
+      → IsBinary family slots to a b ty aty bty → 1 ≤ to.bytes
+  result_some (Combined op) slots to a b ty aty bty h = h.result.some
+  result_some (Compared r e) slots to a b ty aty bty h = h.result.some
+  result_some Multiplied slots to a b ty aty bty h = h.result.some
+  result_some (Shifted up) slots to a b ty aty bty h = h.0.result.some
+  result_some (Divided r) slots to a b ty aty bty h = h.0.result.some
+
+  operator_most : (telling : Option Told) (op : BinOp) (slots : ℕ) (h : Homes) (to a b : Temp) (ty aty bty : PlainType)
+      (left right : Bool) (n : ℕ) → IsBinary (family_of op) slots to a b ty aty bty → n ≤ to.bytes
+      → (is_bitwise op ≡ true → to.at ≡ a.at)
+      → code_words (operator_code telling (family_of op) left right (home h a) (home h b) (home h to) a.bytes n)
+      ≤ binary_words op ty aty bty
+  operator_most None op slots h to a b ty aty bty left right n i l same =
+      binary_most op slots h to a b ty aty bty left right n i l same
+  operator_most (Some told) op slots h to a b ty aty bty left right n i l same =
+      let x = flag_few (family_of op) left right (home h a) (home h b) (home h to) a.bytes in
+      let y = binary_most op slots h to a b ty aty bty left right 1 i (result_some (family_of op) slots to a b ty aty bty i) same in
+      omega (arith, x, y)
+
   -- ---- other operations
 
   unary_most : (op : UnOp) (slots : ℕ) (p q : Location) (to a : Temp) (ty : PlainType) (n : ℕ) → IsUnary slots to a ty
@@ -327,6 +366,10 @@ module _ (laws : WordLaws) where
   branch_most p bytes l =
       let x = (laws.values p 0 bytes bytes).1 in
       omega (arith, joined_words (test_code p bytes) (BranchTo true 1 l ∷ []), x)
+
+  tested_most : (told : Option Told) (p : Location) (bytes l : ℕ) → code_words (tested_code told p bytes l) ≤ 6 + 3 * bytes
+  tested_most None p bytes l = branch_most p bytes l
+  tested_most (Some told) p bytes l = omega arith
 
   -- ---- calls and returns
 
@@ -413,39 +456,41 @@ module _ (laws : WordLaws) where
   -- ---- all operations of a function
 
   module _ (p : PlainProgram) (results : ℕ → ℕ) (f : ℕ) (k : Linkage) (width : (k.homes.width ≡ 2) ⊎ (k.homes.width ≡ 4)) where
-    operation_most : (need : Need) (i : PlainIr) → IsCovered p results f k.slots i → IsInPlace i
-        → code_words (op_code p.objects (home k.homes) k need i) ≤ op_words i
-    operation_most need (constant t n) h q =
+    operation_most : (told telling : Option Told) (need : Need) (i : PlainIr) → IsCovered p results f k.slots i
+        → IsInPlace i → code_words (op_code p.objects (home k.homes) k told telling need i) ≤ op_words i
+    operation_most told telling need (constant t n) h q =
         let a = (laws.values (home k.homes t) (low_bytes 16 n) (wanted need t) (wanted need t)).0 in omega (arith, a)
-    operation_most need (copy to from) h q =
+    operation_most told telling need (copy to from) h q =
         let a = move_words (home k.homes from) (home k.homes to) (wanted need to) in omega (arith, a)
-    operation_most need (load_object t o offset) h q =
+    operation_most told telling need (load_object t o offset) h q =
         let a = copy_words_most (object_location p.objects o offset) (home k.homes t) t.bytes in omega (arith, a)
-    operation_most need (store_object o offset t) h q =
+    operation_most told telling need (store_object o offset t) h q =
         let a = copy_words_most (home k.homes t) (object_location p.objects o offset) t.bytes in omega (arith, a)
-    operation_most need (binary_op op ty mode to a aty b bty) h q =
-        binary_most op k.slots k.homes to a b ty aty bty (is_signed aty) (is_signed bty) (wanted need to) h (omega arith) q
-    operation_most need (unary_op op ty mode to a) h q =
+    operation_most told telling need (binary_op op ty mode to a aty b bty) h q =
+        operator_most telling op k.slots k.homes to a b ty aty bty (is_signed aty) (is_signed bty) (wanted need to) h (omega arith) q
+    operation_most told telling need (unary_op op ty mode to a) h q =
         unary_most op k.slots (home k.homes a) (home k.homes to) to a ty (wanted need to) h (omega arith)
-    operation_most need (conversion to ty mode a aty) h q =
+    operation_most told telling need (conversion to ty mode a aty) h q =
         let x = conversion_few (is_signed aty) (home k.homes a) (home k.homes to) a.bytes (wanted need to) to.bytes (omega arith) in
         let y = conversion_row ty aty h.signed h.from_signed to.bytes a.bytes h.result_type h.from_type in omega (arith, x, y)
-    operation_most need (label l) h q = omega arith
-    operation_most need (jump l) h q = omega arith
-    operation_most need (branch_zero t l) h q = branch_most (home k.homes t) t.bytes (k.label_of l)
-    operation_most need (call_function g to) h q =
+    operation_most told telling need (label l) h q = omega arith
+    operation_most told telling need (jump l) h q = omega arith
+    operation_most told telling need (branch_zero t l) h q = tested_most told (home k.homes t) t.bytes (k.label_of l)
+    operation_most told telling need (call_function g to) h q =
         call_most (home k.homes) k g to need (kept_need need (call_function g to)) width
-    operation_most need (return_from from) h q = return_most (home k.homes) k.is_main from
-    operation_most need (address t o offset) h q = absurd h
-    operation_most need (field ptr space offset) h q = absurd h
-    operation_most need (load_at to ptr space) h q = absurd h
-    operation_most need (store_at ptr space from) h q = absurd h
-    operation_most need (port_in to port index width) h q = absurd h
-    operation_most need (port_out from port index width) h q = absurd h
+    operation_most told telling need (return_from from) h q = return_most (home k.homes) k.is_main from
+    operation_most told telling need (address t o offset) h q = absurd h
+    operation_most told telling need (field ptr space offset) h q = absurd h
+    operation_most told telling need (load_at to ptr space) h q = absurd h
+    operation_most told telling need (store_at ptr space from) h q = absurd h
+    operation_most told telling need (port_in to port index width) h q = absurd h
+    operation_most told telling need (port_out from port index width) h q = absurd h
 
-    pub operations_most : (at : ℕ → Need) (code : List PlainIr) → AreCovered p results f k.slots code
-        → AllByRecursion IsInPlace code → code_words (ops_code p.objects (home k.homes) k at code) ≤ operations_words code
-    operations_most at [] h q = omega arith
-    operations_most at (i ∷ code) h q =
-        let a = operation_most (needs at code) i h.0 q.0 in let b = operations_most at code h.1 q.1 in
-        omega (arith, joined_words (op_code p.objects (home k.homes) k (needs at code) i) (ops_code p.objects (home k.homes) k at code), a, b)
+    pub operations_most : (at : ℕ → Need) (told : Option Told) (code : List PlainIr) → AreCovered p results f k.slots code
+        → AllByRecursion IsInPlace code
+        → code_words (ops_code p.objects (home k.homes) k at told code) ≤ operations_words code
+    operations_most at told [] h q = omega arith
+    operations_most at told (i ∷ code) h q =
+        let next = tells_next at i code in
+        let a = operation_most told next (needs at code) i h.0 q.0 in let b = operations_most at next code h.1 q.1 in
+        omega (arith, joined_words (op_code p.objects (home k.homes) k told next (needs at code) i) (ops_code p.objects (home k.homes) k at next code), a, b)

@@ -84,9 +84,9 @@ module _ (laws : WordLaws) (startup : StartupHasWords) (p : PlainIrProgram) (val
   function_few f (Some g) e =
       let k = linkage_of p function_label f g.slots (made_with p (tables f) f g) in
       let room = has_room p valid f g e in
-      let a = operations_most laws (data_of p) has.results f k room.width (tables f) g.code (has.functions f g e)
+      let a = operations_most laws (data_of p) has.results f k room.width (tables f) None g.code (has.functions f g e)
       (all_at (λ h. AllByRecursion IsInPlace h.code) p.functions f g in_place e) in
-      omega (arith, joined_words (Label (function_label f) ∷ []) (ops_code p.objects (home k.homes) k (tables f) g.code), a)
+      omega (arith, joined_words (Label (function_label f) ∷ []) (ops_code p.objects (home k.homes) k (tables f) None g.code), a)
 
   functions_few : (n : ℕ) → code_words (functions_code p tables n) ≤ functions_words (take n p.functions)
   functions_few zero = omega arith

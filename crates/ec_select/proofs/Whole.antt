@@ -58,7 +58,7 @@ module _ (laws : CodeLaws) (p : PlainIrProgram) (valid : ValidIr p) (has : HasCo
         by_function f (Some g) e =
             let k = link p valid has laws.leaves tables f g in
             let rest = operations_pass (own_sizes p valid) (data_of p) k (has_room p valid f g e) (object_stands p valid laws.leaves)
-            q passes has.results f (tables f) g.code (has.functions f g e) (accepts f g e) in
+            q passes has.results f (tables f) None g.code (has.functions f g e) (accepts f g e) in
             rw (labels (function_label f), rest) refl
 
   -- ---- fields
@@ -70,7 +70,7 @@ module _ (laws : CodeLaws) (p : PlainIrProgram) (valid : ValidIr p) (has : HasCo
   unfolding is_right
   right_labels k (label l) = refl
   right_labels k (jump l) = refl
-  right_labels k (branch_zero t l) = refl
+  right_labels k (branch_zero t l) = λ set flag w. w
   right_labels k (call_function c to) = refl
   right_labels k (constant t n) = tt
   right_labels k (copy to from) = tt
@@ -141,7 +141,7 @@ module _ (laws : CodeLaws) (p : PlainIrProgram) (valid : ValidIr p) (has : HasCo
   unfolding is_put
   put_labels f g e (label l) h = refl
   put_labels f g e (jump l) h = label_once f l g e h
-  put_labels f g e (branch_zero t l) h = label_once f l g e h.1
+  put_labels f g e (branch_zero t l) h = λ set flag w. label_once f l g e h.1
   put_labels f g e (call_function c to) h = function_once c h.0
   put_labels f g e (constant t n) h = tt
   put_labels f g e (copy to from) h = tt

@@ -93,7 +93,7 @@ module _ (p : PlainIrProgram) (inputs : Inputs) (e : Env) (place entry_of : ℕ 
         covered = x.covered;
         live = x.live;
         inside = λ c q. q;
-        stands = subst (λ i. HasAt e (ops_code p.objects (home (homes_of p e place entry_of w b)) (linkage_of p entry_of b gb.slots (w.selected.made b)) (w.selected.made b).labels gb.code) i x.end) mid stands.2;
+        stands = subst (λ i. HasAt e (ops_code p.objects (home (homes_of p e place entry_of w b)) (linkage_of p entry_of b gb.slots (w.selected.made b)) (w.selected.made b).labels None gb.code) i x.end) mid stands.2;
       }
 
   module _ (f : ℕ) (g : PlainIrFunction) (s : ℕ) (aside : ℕ → Bool) (was : ℕ → ℕ) (a : Active p e place entry_of w f g s aside was) (stack : List Call) where
@@ -365,7 +365,7 @@ module _ (p : PlainIrProgram) (inputs : Inputs) (e : Env) (place entry_of : ℕ 
             let taken = taken_code hs to (wanted_result need to) in
             let restore = restore_code link need0 in
             let code = call_code hs link b to (wanted_result need to) need0 in
-            let s0 = has_parts e code (ops_code p.objects hs link labels rest) pc x.end r.stands in
+            let s0 = has_parts e code (ops_code p.objects hs link labels None rest) pc x.end r.stands in
             let s1 = has_parts e save (CallTo (entry_of b) ∷ (taken ++ restore)) pc s0.0 s0.1 in
             let back = s1.2.0 in
             let s2 = has_parts e taken restore back s0.0 s1.2.2 in

@@ -11,6 +11,7 @@ pub mod Emits
 pub mod Standing
 pub mod Written
 pub mod Orders
+pub mod Truth
 pub mod Related
 pub mod Turned
 pub mod Multiplied

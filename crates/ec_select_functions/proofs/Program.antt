@@ -118,8 +118,8 @@ module _ (laws : CodeLaws) (p : PlainIrProgram) (place entry_of : ℕ → ℕ) (
     stacked = enters.stacked;
   }
 
-  abbrev D1 : PlainProgram
-  D1 = data_of p
+  abbrev program_data : PlainProgram
+  program_data = data_of p
 
   low_room : low ≤ sp v + 1
   low_room = let r : low + 2 * 0 ≤ sp v + 1 = enters.room [] tt in omega arith
@@ -143,7 +143,7 @@ module _ (laws : CodeLaws) (p : PlainIrProgram) (place entry_of : ℕ → ℕ) (
         below = omega arith;
       }
     where
-      low_leaf : (l : NumberLeaf D1) (k : ℕ) → 32 ≤ k → k < 256 → Outside (leaf_at p e place entry_of w l) l.bytes k
+      low_leaf : (l : NumberLeaf program_data) (k : ℕ) → 32 ≤ k → k < 256 → Outside (leaf_at p e place entry_of w l) l.bytes k
       low_leaf l k a b q =
           ⊎_elim
           (λ (z : leaf_at p e place entry_of w l + l.bytes ≤ 8). omega arith)
@@ -179,7 +179,7 @@ module _ (laws : CodeLaws) (p : PlainIrProgram) (place entry_of : ℕ → ℕ) (
     stops = ap (λ n. fetch e (n % 65536)) same_back ∙ enters.stop
 
     bottom : (result : Option Held) → HandsOn p inputs e place entry_of w p.main result u
-        → Follows D1 place e j spent (back_at u % 65536) (popped u) (leave [] result (go_on p inputs e place entry_of w j) st)
+        → Follows program_data place e j spent (back_at u % 65536) (popped u) (leave [] result (go_on p inputs e place entry_of w j) st)
     bottom None hands =
         let word : pair u.at 24 ≡ 0 = hands refl in
         record {
@@ -199,7 +199,7 @@ module _ (laws : CodeLaws) (p : PlainIrProgram) (place entry_of : ℕ → ℕ) (
         two = hands.0 ∙ selected.main_result
 
         by_content : (x : Content) → HoldsContent u.at (result_register c.bytes) c.bytes c.bytes x
-            → Follows D1 place e j spent (back_at u % 65536) (popped u) (leave [] (Some (record { bytes = c.bytes; content = x })) (go_on p inputs e place entry_of w j) st)
+            → Follows program_data place e j spent (back_at u % 65536) (popped u) (leave [] (Some (record { bytes = c.bytes; content = x })) (go_on p inputs e place entry_of w j) st)
         by_content (points q) content = absurd content
         by_content (bits number) content =
             let content2 : HoldsContent u.at (result_register 2) 2 2 (bits number) = subst (λ n. HoldsContent u.at (result_register n) n n (bits number)) two content in
@@ -222,7 +222,7 @@ module _ (laws : CodeLaws) (p : PlainIrProgram) (place entry_of : ℕ → ℕ) (
       → Returns p inputs e place entry_of w p.main g (first_aside (sp v)) v.at [] j
   returns g is j result st u spent credit hands left = bottom g is j st u spent credit left result hands
 
-  begun : (g : PlainIrFunction) → Matches D1 g.slots (base_of p e place entry_of w p.main) place (first_aside (sp v)) v.at (needs (selected.made p.main).labels g.code) (start D1) v
+  begun : (g : PlainIrFunction) → Matches program_data g.slots (base_of p e place entry_of w p.main) place (first_aside (sp v)) v.at (needs (selected.made p.main).labels g.code) (start program_data) v
   begun g = record {
     temps_hold = λ t h it q z. absurd cc;
     leaves_hold = begin.leaves;
@@ -232,11 +232,11 @@ module _ (laws : CodeLaws) (p : PlainIrProgram) (place entry_of : ℕ → ℕ) (
     safe = begin.safe;
   }
 
-  entered : (n : ℕ) → Follows D1 place e n 0 s.pc v (ir_run p inputs n)
+  entered : (n : ℕ) → Follows program_data place e n 0 s.pc v (ir_run p inputs n)
   entered n = by_main (slice_get p.functions p.main) refl
     where
       by_main : (o : Option PlainIrFunction) → slice_get p.functions p.main ≡ o
-          → Follows D1 place e n 0 s.pc v (enter o (λ q m. exec p.functions D1 inputs n q m) [] (start D1))
+          → Follows program_data place e n 0 s.pc v (enter o (λ q m. exec p.functions program_data inputs n q m) [] (start program_data))
       by_main None is = tt
       by_main (Some g) is =
           let a = active g is in
@@ -247,8 +247,8 @@ module _ (laws : CodeLaws) (p : PlainIrProgram) (place entry_of : ℕ → ℕ) (
           let hs = home (homes_of p e place entry_of w p.main) in
           let here : x.pc ≡ s.pc = sym (stands.1.0 enters.word) ∙ sym enters.at in
           let mid : stands.0 ≡ s.pc = stands.1.1 ∙ here in
-          let ready : Ready D1 p.functions inputs e g.slots hs (base_of p e place entry_of w p.main) place (setting_of p e place entry_of w p.main g (sp v) (first_aside (sp v)) v.at a) labels g.code x.end selected.results p.main link [] s.pc g.code = record { covered = x.covered; live = x.live; inside = λ b q. q; stands = subst (λ i. HasAt e (ops_code p.objects hs link labels g.code) i x.end) mid stands.2 } in
-          all_functions p inputs e place entry_of w n p.main g (sp v) (first_aside (sp v)) v.at a [] (λ j l. returns g is j) s.pc g.code (start D1) v ready (begun g)
+          let ready : Ready program_data p.functions inputs e g.slots hs (base_of p e place entry_of w p.main) place (setting_of p e place entry_of w p.main g (sp v) (first_aside (sp v)) v.at a) labels g.code x.end selected.results p.main link [] s.pc g.code = record { covered = x.covered; live = x.live; inside = λ b q. q; stands = subst (λ i. HasAt e (ops_code p.objects hs link labels None g.code) i x.end) mid stands.2 } in
+          all_functions p inputs e place entry_of w n p.main g (sp v) (first_aside (sp v)) v.at a [] (λ j l. returns g is j) s.pc g.code (start program_data) v ready (begun g)
 
   -- ---- the machine
 
@@ -264,20 +264,20 @@ module _ (laws : CodeLaws) (p : PlainIrProgram) (place entry_of : ℕ → ℕ) (
       let b : run e (k + 1) (VRunning s.pc v) ≡ VEnded u = runs_end e k 0 s.pc to v u g stop in
       ends_noted e size (k + 1) v s u begin.seen (subst (RunsAs e size (k + 1) v s) b (laws.views e size (k + 1) s v fit shows) safe)
 
-  reached : (n : ℕ) (o : Outcome Value) → Follows D1 place e n 0 s.pc v o
-      → Reached (λ m. nat_le m ((state_of o).work + 1)) (noted_run e v.inputs s) n (seen_as (accesses D1 place) (behaviour_of o))
+  reached : (n : ℕ) (o : Outcome Value) → Follows program_data place e n 0 s.pc v o
+      → Reached (λ m. nat_le m ((state_of o).work + 1)) (noted_run e v.inputs s) n (seen_as (accesses program_data place) (behaviour_of o))
   reached n (more r) f =
       let most = f.most in
       (f.steps, le-leb f.steps (r.work + 1) (omega arith), f.least, goes_noted f.steps f.to f.last f.goes f.safe ∙ ap Running f.seen)
   reached n (got x r) f =
       let most = f.most in
-      (f.steps + 1, le-leb (f.steps + 1) (r.work + 1) (omega arith), ends_at f.steps f.to f.last f.goes f.stop f.safe ∙ ends_same f.last.seen (accesses D1 place r.events) (cast_signed w16 (pair f.last.at 24)) (number_of x) f.seen f.result)
+      (f.steps + 1, le-leb (f.steps + 1) (r.work + 1) (omega arith), ends_at f.steps f.to f.last f.goes f.stop f.safe ∙ ends_same f.last.seen (accesses program_data place r.events) (cast_signed w16 (pair f.last.at 24)) (number_of x) f.seen f.result)
     where
       ends_same : (a b : List Access) (i j : ℤ) → a ≡ b → i ≡ j → ◌≡◌ {A = Behaviour Access ℤ MachineFault} (Ended a i) (Ended b j)
       ends_same a b i j q r = ap (λ c. Ended c i) q ∙ ap (Ended b) r
   reached n (undefined point r) f = tt
 
-  reaches : Reaches (within_steps p inputs) (λ n. seen_as (accesses D1 place) (meaning p inputs n)) (noted_run e v.inputs s)
+  reaches : Reaches (within_steps p inputs) (λ n. seen_as (accesses program_data place) (meaning p inputs n)) (noted_run e v.inputs s)
   reaches n = reached n (ir_run p inputs n) (entered n)
 
   -- ---- no barred access
@@ -294,7 +294,7 @@ module _ (laws : CodeLaws) (p : PlainIrProgram) (place entry_of : ℕ → ℕ) (
       let b : run e (k + 1) (VRunning s.pc v) ≡ VEnded u = ap (λ n. run e n (VRunning s.pc v)) q ∙ runs_end e steps (k - steps) s.pc to v u g stop in
       safe_earlier e k 1 (VRunning s.pc v) (subst (λ st. is_safe st ≡ true) (sym b) safe)
 
-  safe_at : (k : ℕ) (o : Outcome Value) → Follows D1 place e k 0 s.pc v o → HoldsUnlessFailed (behaviour_of o) (is_safe (run e k (VRunning s.pc v)))
+  safe_at : (k : ℕ) (o : Outcome Value) → Follows program_data place e k 0 s.pc v o → HoldsUnlessFailed (behaviour_of o) (is_safe (run e k (VRunning s.pc v)))
   safe_at k (more r) f = safe_upto k f.steps f.to f.last f.least f.goes f.safe
   safe_at k (got x r) f =
       ⊎_elim (λ l. safe_upto k f.steps f.to f.last (omega (arith, l)) f.goes f.safe)
@@ -304,7 +304,7 @@ module _ (laws : CodeLaws) (p : PlainIrProgram) (place entry_of : ℕ → ℕ) (
   pub whole : ShowsOperations p place e v s inputs
   whole = record {
     reaches = reaches;
-    within = what_reaches_stays_within Access ℤ Undefined MachineFault (within_steps p inputs) (λ n. seen_as (accesses D1 place) (meaning p inputs n)) (noted_run e v.inputs s) (laws.runs e v.inputs s) reaches;
+    within = what_reaches_stays_within Access ℤ Undefined MachineFault (within_steps p inputs) (λ n. seen_as (accesses program_data place) (meaning p inputs n)) (noted_run e v.inputs s) (laws.runs e v.inputs s) reaches;
     safe = λ k. safe_at k (ir_run p inputs k) (entered k);
   }
 

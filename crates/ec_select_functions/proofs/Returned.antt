@@ -157,7 +157,7 @@ module _ (p : PlainIrProgram) (inputs : Inputs) (e : Env) (place entry_of : ℕ 
     return_follows n returns None pc rest m v r h = by_flag (f == p.main) refl r.stands
       where
         left_over : List AsmItem
-        left_over = ops_code p.objects hs (linkage_of p entry_of f slots (w.selected.made f)) labels rest
+        left_over = ops_code p.objects hs (linkage_of p entry_of f slots (w.selected.made f)) labels None rest
 
         by_flag : (b : Bool) → (f == p.main) ≡ b → HasAt e (return_code hs b None ++ left_over) pc x.end
             → Follows D place e (suc n) m.state.work pc v (leave stack None (go_on n) (worked (op_steps (return_from None)) m.state))
@@ -208,7 +208,7 @@ module _ (p : PlainIrProgram) (inputs : Inputs) (e : Env) (place entry_of : ℕ 
         it = r.covered.0.0
 
         left_over : List AsmItem
-        left_over = ops_code p.objects hs (linkage_of p entry_of f slots (w.selected.made f)) labels rest
+        left_over = ops_code p.objects hs (linkage_of p entry_of f slots (w.selected.made f)) labels None rest
 
         by_content : (c : Content) → HoldsContent v.at (bs t) t.bytes t.bytes c
             → Follows D place e (suc n) m.state.work pc v (next (got (Some (record { bytes = t.bytes; content = c })) st) leaves)

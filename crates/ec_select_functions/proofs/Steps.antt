@@ -1,5 +1,5 @@
 -- One operation after another: what the code of each operation does for it.
-use Rattle.std.proofs.Common.{◌≡◌, ◌≢◌, ℕ, zero, suc, ◌+◌, ◌-◌, ◌*◌, ◌%◌, ◌^◌, ◌<◌, ◌≤◌, min, Bool, true, false, ℤ}
+use Rattle.std.proofs.Common.{◌≡◌, ◌≢◌, ℕ, zero, suc, ◌+◌, ◌-◌, ◌*◌, ◌%◌, ◌^◌, ◌<◌, ◌≤◌, min, Bool, true, false, not, ℤ}
 use Rattle.std.proofs.Common.{pos, ◌*ℤ◌, unsigned_abs, Ok, Err, List, [], ◌∷◌, ◌++◌, ◌&&◌, ◌||◌, ⊎_elim, refl, sym}
 use Rattle.std.proofs.Common.{ap, ◌∙◌, subst, arith, Some, None, Option}
 use Rattle.std.specs.Prelude.{◌==◌, if◌then◌else◌, slice_get, Contains}
@@ -7,7 +7,7 @@ use Rattle.std.proofs.lemmas.List.Elements.{Contains-append_right}
 use Rattle.ec_ir.specs.Valid.{called_in}
 use Rattle.std.specs.Int.{from_bool}
 use Rattle.std.specs.Ordering.{int_eq}
-use Rattle.std.proofs.lemmas.Bool.{cases_Bool, cases_lt, eqb-true}
+use Rattle.std.proofs.lemmas.Bool.{cases_Bool, cases_lt, eqb-true, ne_eqb, and_parts}
 use Rattle.std.proofs.lemmas.Nat.{mod_below, mul-le}
 use Rattle.ec_fx.specs.declared.numbers.Mode.{Mode}
 use Rattle.ec_asm.specs.declared.items.AsmItem.{AsmItem}
@@ -17,14 +17,15 @@ use Rattle.ec_asm.specs.declared.pieces.Location.TheVariants.{InRegisters}
 use Rattle.ec_asm.specs.declared.pieces.Operator.{Operator}
 use Rattle.ec_asm.specs.declared.pieces.Operator.TheVariants.{Sum, Difference, BitAnd, BitOr, BitXor}
 use Rattle.ec_asm.specs.View.{View}
-use Rattle.ec_asm.specs.Change.{Env, Own}
+use Rattle.ec_asm.specs.Change.{Env, Own, flag_at}
+use Rattle.ec_asm.specs.Run.{is_flag}
 use Rattle.ec_asm.specs.Items.{HasAt, BranchesAt, block, code_steps, all_straight}
-use Rattle.ec_asm.specs.Pieces.{StandsFrom, Outside, KeepsAll, value, operate_code}
+use Rattle.ec_asm.specs.Pieces.{StandsFrom, Outside, KeepsAll, value, operate_code, compare_code}
 use Rattle.ec_asm.specs.PieceLaws.{HoldsNumbers}
-use Rattle.ec_asm.specs.Takes.{Goes}
+use Rattle.ec_asm.specs.Takes.{Goes, if_bit}
 use Rattle.ec_asm.proofs.Hoare.{has_parts, block_goes, goes_on_to, steps-append, straight-append}
 use Rattle.ec_asm.proofs.Numbers.{value_mod}
-use Rattle.ec_asm.proofs.Results.{pieces_are_straight, pieces_take}
+use Rattle.ec_asm.proofs.Results.{pieces_are_straight, pieces_take, comparisons_keep}
 use Rattle.ec_asm.proofs.Sum.{value-same}
 use Rattle.ec_asm.proofs.Takes.{jump_goes, branch_taken, branch_passed, jump_has_word, branch_has_word}
 use Rattle.ec_core.specs.declared.expressions.BinOp.{BinOp}
@@ -57,9 +58,9 @@ use Rattle.ec_select_bytes.specs.Complements.{negation_code}
 use Rattle.ec_select_bytes.proofs.Straight.{values_are_straight, values_take, complements_are_straight}
 use Rattle.ec_select_bytes.proofs.Straight.{complements_take}
 use Rattle.ec_select_order.specs.declared.relations.Relation.{Relation}
-use Rattle.ec_select_order.specs.Relations.{stand_so, relation_code}
+use Rattle.ec_select_order.specs.Relations.{stand_so, relation_code, flag_of, is_set, unless_code}
 use Rattle.ec_select_order.specs.Laws.{Tells}
-use Rattle.ec_select_order.proofs.Truths.{relations_are_told}
+use Rattle.ec_select_order.proofs.Truths.{relations_are_told, flag_is, fails_in_flag, holds_in_flag}
 use Rattle.ec_select_products.specs.Products.{product_of, product_code}
 use Rattle.ec_select_products.specs.Laws.{Leads}
 use Rattle.ec_select_products.proofs.Multiplied.{products_are_right}
@@ -70,7 +71,9 @@ use Rattle.ec_select_quotients.proofs.Signed.{quotients_are_right}
 use Rattle.ec_select_functions.specs.declared.families.Family.{Family}
 use Rattle.ec_select_functions.specs.declared.families.Family.TheVariants.{Combined, Compared, Multiplied, Shifted}
 use Rattle.ec_select_functions.specs.declared.families.Family.TheVariants.{Divided}
-use Rattle.ec_select_functions.specs.Code.{Linkage, op_code, ops_code, family_of, same_location, reversed_code}
+use Rattle.ec_select_functions.specs.declared.families.Told.{Told}
+use Rattle.ec_select_functions.specs.Code.{Linkage, told_of, is_only_tested, tells_next, flag_code, is_signed}
+use Rattle.ec_select_functions.specs.Code.{op_code, ops_code, family_of, same_location, reversed_code}
 use Rattle.ec_select_functions.specs.Code.{combined_code, binary_code, turn_code, unary_code, move_code}
 use Rattle.ec_select_functions.specs.Code.{conversion_code, turned_code, shift_of, shifted_bytes, long_code}
 use Rattle.ec_select_functions.specs.Covered.{IsCovered, IsBinary, AreCovered, HasNumberAt}
@@ -93,6 +96,7 @@ use Rattle.ec_select_functions.proofs.Moves.{move_holds, row_value}
 use Rattle.ec_select_functions.proofs.Numbers.{gives_of}
 use Rattle.ec_select_functions.proofs.Orders.{first_of_two, decided}
 use Rattle.ec_select_functions.proofs.Related.{told_matches}
+use Rattle.ec_select_functions.proofs.Truth.{bit_is, not_not, truth_low, held_at, content_of_held, same_temp}
 use Rattle.ec_select_functions.proofs.Multiplied.{product_low}
 use Rattle.ec_select_functions.proofs.Shifted.{count_is, shift_number, shift_low, shift_part, shifted_below}
 use Rattle.ec_select_functions.proofs.Shifted.{turned_leads}
@@ -107,11 +111,16 @@ module _ (p : PlainProgram) (functions : List PlainIrFunction) (inputs : Inputs)
   abbrev pub G : (n w pc : ℕ) → View → Outcome Value → Type 0
   G n w pc v o = Follows p place e n w pc v o
 
-  abbrev pub items : List PlainIr → List AsmItem
-  items code = ops_code p.objects home link at code
+  -- the code of operations, of which the first one has been told so much
+  abbrev pub items_told : Option Told → List PlainIr → List AsmItem
+  items_told told code = ops_code p.objects home link at told code
 
+  abbrev pub items : List PlainIr → List AsmItem
+  items code = items_told None code
+
+  -- that of one which has been told nothing, and tells nothing
   abbrev pub code_of : PlainIr → List PlainIr → List AsmItem
-  code_of i rest = op_code p.objects home link (needs at rest) i
+  code_of i rest = op_code p.objects home link None None (needs at rest) i
 
   -- the operations that are left have their code from this word on
   pub record Ready (pc : ℕ) (rest : List PlainIr) : Type 0 where
@@ -126,7 +135,7 @@ module _ (p : PlainProgram) (functions : List PlainIrFunction) (inputs : Inputs)
 
   -- straight code of an operation, and what comes after it
   passes : (i : PlainIr) (rest : List PlainIr) (n n1 w w1 pc : ℕ) (v : View) (o : Outcome Value)
-      → HasAt e (items (i ∷ rest)) pc end → all_straight (code_of i rest) ≡ true → n1 ≤ code_steps (code_of i rest) + n
+      → HasAt e (code_of i rest ++ items rest) pc end → all_straight (code_of i rest) ≡ true → n1 ≤ code_steps (code_of i rest) + n
       → w + code_steps (code_of i rest) ≤ w1
       → ((mid : ℕ) → HasAt e (items rest) mid end → G n w1 mid (block e (code_of i rest) v) o) → G n1 w pc v o
   passes i rest n n1 w w1 pc v o stands straight least most f =
@@ -244,7 +253,7 @@ module _ (p : PlainProgram) (functions : List PlainIrFunction) (inputs : Inputs)
   pub combined_follows : (op : BinOp) (o : Operator) → family_of op ≡ Combined o → (s s1 s2 : Bool) (mode : Mode)
       (t a b : Temp) (rest : List PlainIr) (n pc : ℕ) (m : Mach) (v : View) → HasHome slots t → HasHome slots a
       → HasHome slots b → a.bytes ≡ t.bytes → b.bytes ≡ t.bytes
-      → HasAt e (items (binary_op op (integer s t.bytes) mode t a (integer s1 a.bytes) b (integer s2 b.bytes) ∷ rest)) pc end
+      → HasAt e (code_of (binary_op op (integer s t.bytes) mode t a (integer s1 a.bytes) b (integer s2 b.bytes)) rest ++ items rest) pc end
       → M (operands_needed op t a b (wanted (needs at rest) t) (wanted (needs at rest) t) (needs at rest)) m v
       → Rest (suc n) rest
       → G (suc n) m.state.work pc v (R (suc n) (binary_op op (integer s t.bytes) mode t a (integer s1 a.bytes) b (integer s2 b.bytes) ∷ rest) m)
@@ -330,7 +339,7 @@ module _ (p : PlainProgram) (functions : List PlainIrFunction) (inputs : Inputs)
   -- nor is there code
   nothing_passes : (i : PlainIr) (t : Temp) (low c : ℕ) (rest : List PlainIr) (n pc : ℕ) (need0 : Need) (m : Mach) (v : View)
       → HasHome slots t → code_of i rest ≡ [] → wanted (needs at rest) t ≡ 0 → low < 256 ^ t.bytes
-      → HasAt e (items (i ∷ rest)) pc end → ((u : ℕ) → u ≢ t.at → needs at rest u ≤ need0 u) → M need0 m v
+      → HasAt e (code_of i rest ++ items rest) pc end → ((u : ℕ) → u ≢ t.at → needs at rest u ≤ need0 u) → M need0 m v
       → Rest (suc n) rest → G (suc n) m.state.work pc v (R (suc n) rest (after_operator t low c m))
   nothing_passes i t low c rest n pc need0 m v it empty none below stands more h f =
       let matches = not_needed t low c (needs at rest) need0 m v it none below more h in
@@ -396,14 +405,15 @@ module _ (p : PlainProgram) (functions : List PlainIrFunction) (inputs : Inputs)
       let matches = told_matches p e slots home base place y (stand_so r s (suc bytes) x z) (3 + 3 * suc bytes) pc s2.0 t (needs at rest) need0 m v c it told more h in
       after p place e steps (suc n) (suc n) m.state.work m1.state.work pc s1.0 v (block e conversion told.last) (R (suc n) rest m1) goes (omega arith) (omega (arith, take, take1, kmost, room, most, big)) (f s1.0 m1 (block e conversion told.last) s1.2 matches)
 
-  pub related_follows : (op : BinOp) (r : Relation) (exchanged : Bool) → family_of op ≡ Compared r exchanged
-      → (s : Bool) (ty : PlainType) (mode : Mode) (t a b : Temp) (rest : List PlainIr) (n pc : ℕ) (m : Mach) (v : View)
-      → HasHome slots t → HasHome slots a → HasHome slots b → b.bytes ≡ a.bytes
-      → HasAt e (items (binary_op op ty mode t a (integer s a.bytes) b (integer s b.bytes) ∷ rest)) pc end
-      → M (needs at (binary_op op ty mode t a (integer s a.bytes) b (integer s b.bytes) ∷ rest)) m v
-      → Rest (suc n) rest
+  -- what a comparison of two numbers gives
+  compared_numbers : (op : BinOp) (r : Relation) (exchanged : Bool) → family_of op ≡ Compared r exchanged
+      → (s : Bool) (ty : PlainType) (mode : Mode) (t a b : Temp) (rest : List PlainIr) (n pc : ℕ) (need0 : Need) (m : Mach)
+      (v : View) → HasHome slots a → HasHome slots b → b.bytes ≡ a.bytes → M need0 m v
+      → ((low1 low2 : ℕ) → m.temps a.at ≡ Some (record { bytes = a.bytes; content = bits low1 })
+      → m.temps b.at ≡ Some (record { bytes = b.bytes; content = bits low2 }) → low1 < 256 ^ a.bytes → low2 < 256 ^ a.bytes
+      → G (suc n) m.state.work pc v (R (suc n) rest (told_machine t (stand_so r s a.bytes (first_of_two exchanged low1 low2) (first_of_two exchanged low2 low1)) (op_steps (binary_op op ty mode t a (integer s a.bytes) b (integer s b.bytes))) m)))
       → G (suc n) m.state.work pc v (R (suc n) (binary_op op ty mode t a (integer s a.bytes) b (integer s b.bytes) ∷ rest) m)
-  related_follows op r exchanged is s ty mode t a b rest n pc m v it ia ib same stands h f =
+  compared_numbers op r exchanged is s ty mode t a b rest n pc need0 m v ia ib same h f =
       from_number p place e s a m.temps (worked (op_steps (binary_op op ty mode t a (integer s a.bytes) b (integer s b.bytes))) m.state) _ (suc n) m.state.work pc v
       (λ low1 qa. from_number p place e s b m.temps (worked (op_steps (binary_op op ty mode t a (integer s a.bytes) b (integer s b.bytes))) m.state) _ (suc n) m.state.work pc v
       (λ low2 qb.
@@ -412,7 +422,43 @@ module _ (p : PlainProgram) (functions : List PlainIrFunction) (inputs : Inputs)
       let g0 = decided op r exchanged is p ty mode s a.bytes low1 low2 (worked (op_steps (binary_op op ty mode t a (integer s a.bytes) b (integer s b.bytes))) m.state) (worked (op_steps (binary_op op ty mode t a (integer s a.bytes) b (integer s b.bytes))) m.state) ia.some below1 below2 in
       let g = subst (λ j. binary_result op ty mode (operand_of p (integer s a.bytes) (Number (number_of_bytes s a.bytes low1)) (worked (op_steps (binary_op op ty mode t a (integer s a.bytes) b (integer s b.bytes))) m.state)) (operand_of p (integer s j) (Number (number_of_bytes s j low2)) (worked (op_steps (binary_op op ty mode t a (integer s a.bytes) b (integer s b.bytes))) m.state)) ≡ Ok (Number (pos (from_bool (stand_so r s a.bytes (first_of_two exchanged low1 low2) (first_of_two exchanged low2 low1)))))) (sym same) g0 in
       subst (λ o. G (suc n) m.state.work pc v (next (given o (worked (op_steps (binary_op op ty mode t a (integer s a.bytes) b (integer s b.bytes))) m.state)) (λ u s3. R (suc n) rest (machine (with_temp t u m.temps) s3)))) (sym g)
-      (⊎_elim (λ q. dead q low1 low2) (λ q. alive q low1 low2 qa qb below1 below2) (cases_Bool ((wanted (needs at rest) t) == 0)))))
+      (f low1 low2 qa qb below1 below2)))
+
+  -- where some of its result is needed, all bytes of both numbers are there
+  compared_hold : (op : BinOp) (r : Relation) (exchanged : Bool) → family_of op ≡ Compared r exchanged
+      → (s : Bool) (ty : PlainType) (mode : Mode) (t a b : Temp) (rest : List PlainIr) (m : Mach) (v : View) (low1 low2 : ℕ)
+      → HasHome slots a → HasHome slots b → b.bytes ≡ a.bytes → (wanted (needs at rest) t == 0) ≡ false
+      → m.temps a.at ≡ Some (record { bytes = a.bytes; content = bits low1 })
+      → m.temps b.at ≡ Some (record { bytes = b.bytes; content = bits low2 }) → low1 < 256 ^ a.bytes → low2 < 256 ^ a.bytes
+      → M (needs at (binary_op op ty mode t a (integer s a.bytes) b (integer s b.bytes) ∷ rest)) m v
+      → M (operands_needed op t a b a.bytes b.bytes (needs at rest)) m v × (value v.at (base a) a.bytes ≡ low1)
+      × (value v.at (base b) a.bytes ≡ low2)
+  compared_hold op r exchanged is s ty mode t a b rest m v low1 low2 ia ib same q qa qb below1 below2 h =
+      (all_needed, left_is, right_is)
+    where
+      all_needed : M (operands_needed op t a b a.bytes b.bytes (needs at rest)) m v
+      all_needed =
+          subst (λ x. M (operands_needed op t a b x b.bytes (needs at rest)) m v) (all_wanted op r exchanged is a.bytes (wanted (needs at rest) t) q)
+          (subst (λ x. M (operands_needed op t a b (operand_wanted op a.bytes (wanted (needs at rest) t)) x (needs at rest)) m v) (all_right_wanted op r exchanged is b.bytes (wanted (needs at rest) t) q) h)
+
+      left_is : value v.at (base a) a.bytes ≡ low1
+      left_is =
+          left_holds op t a b a.bytes b.bytes low1 (needs at rest) m v ia (omega arith) qa all_needed ∙ kept_below low1 (256 ^ a.bytes) below1
+
+      right_is : value v.at (base b) a.bytes ≡ low2
+      right_is =
+          subst (λ j. value v.at (base b) j ≡ low2 % 256 ^ j) same (right_holds op t a b a.bytes b.bytes low2 (needs at rest) m v ib (omega arith) qb all_needed) ∙ kept_below low2 (256 ^ a.bytes) below2
+
+  pub related_follows : (op : BinOp) (r : Relation) (exchanged : Bool) → family_of op ≡ Compared r exchanged
+      → (s : Bool) (ty : PlainType) (mode : Mode) (t a b : Temp) (rest : List PlainIr) (n pc : ℕ) (m : Mach) (v : View)
+      → HasHome slots t → HasHome slots a → HasHome slots b → b.bytes ≡ a.bytes
+      → HasAt e (code_of (binary_op op ty mode t a (integer s a.bytes) b (integer s b.bytes)) rest ++ items rest) pc end
+      → M (needs at (binary_op op ty mode t a (integer s a.bytes) b (integer s b.bytes) ∷ rest)) m v
+      → Rest (suc n) rest
+      → G (suc n) m.state.work pc v (R (suc n) (binary_op op ty mode t a (integer s a.bytes) b (integer s b.bytes) ∷ rest) m)
+  related_follows op r exchanged is s ty mode t a b rest n pc m v it ia ib same stands h f =
+      compared_numbers op r exchanged is s ty mode t a b rest n pc (needs at (binary_op op ty mode t a (integer s a.bytes) b (integer s b.bytes) ∷ rest)) m v ia ib same h
+      (λ low1 low2 qa qb below1 below2. ⊎_elim (λ q. dead q low1 low2) (λ q. alive q low1 low2 qa qb below1 below2) (cases_Bool ((wanted (needs at rest) t) == 0)))
     where
       dead : ((wanted (needs at rest) t) == 0) ≡ true → (low1 low2 : ℕ) → G (suc n) m.state.work pc v (R (suc n) rest (told_machine t (stand_so r s a.bytes (first_of_two exchanged low1 low2) (first_of_two exchanged low2 low1)) (op_steps (binary_op op ty mode t a (integer s a.bytes) b (integer s b.bytes))) m))
       dead q low1 low2 =
@@ -429,24 +475,13 @@ module _ (p : PlainProgram) (functions : List PlainIrFunction) (inputs : Inputs)
           → low2 < 256 ^ a.bytes → G (suc n) m.state.work pc v (R (suc n) rest (told_machine t (stand_so r s a.bytes (first_of_two exchanged low1 low2) (first_of_two exchanged low2 low1)) (op_steps (binary_op op ty mode t a (integer s a.bytes) b (integer s b.bytes))) m))
       alive q low1 low2 qa qb below1 below2 =
           let some = ia.some in
-          by_side exchanged (a.bytes - 1) (omega arith) is
+          let hold = compared_hold op r exchanged is s ty mode t a b rest m v low1 low2 ia ib same q qa qb below1 below2 h in
+          by_side hold.0 hold.1 hold.2 exchanged (a.bytes - 1) (omega arith) is
         where
-          all_needed : M (operands_needed op t a b a.bytes b.bytes (needs at rest)) m v
-          all_needed =
-              subst (λ x. M (operands_needed op t a b x b.bytes (needs at rest)) m v) (all_wanted op r exchanged is a.bytes (wanted (needs at rest) t) q)
-              (subst (λ x. M (operands_needed op t a b (operand_wanted op a.bytes (wanted (needs at rest) t)) x (needs at rest)) m v) (all_right_wanted op r exchanged is b.bytes (wanted (needs at rest) t) q) h)
-
-          left_is : value v.at (base a) a.bytes ≡ low1
-          left_is =
-              left_holds op t a b a.bytes b.bytes low1 (needs at rest) m v ia (omega arith) qa all_needed ∙ kept_below low1 (256 ^ a.bytes) below1
-
-          right_is : value v.at (base b) a.bytes ≡ low2
-          right_is =
-              subst (λ j. value v.at (base b) j ≡ low2 % 256 ^ j) same (right_holds op t a b a.bytes b.bytes low2 (needs at rest) m v ib (omega arith) qb all_needed) ∙ kept_below low2 (256 ^ a.bytes) below2
-
-          by_side : (x : Bool) (bytes : ℕ) → a.bytes ≡ suc bytes → family_of op ≡ Compared r x
+          by_side : M (operands_needed op t a b a.bytes b.bytes (needs at rest)) m v → value v.at (base a) a.bytes ≡ low1
+              → value v.at (base b) a.bytes ≡ low2 → (x : Bool) (bytes : ℕ) → a.bytes ≡ suc bytes → family_of op ≡ Compared r x
               → G (suc n) m.state.work pc v (R (suc n) rest (told_machine t (stand_so r s a.bytes (first_of_two x low1 low2) (first_of_two x low2 low1)) (op_steps (binary_op op ty mode t a (integer s a.bytes) b (integer s b.bytes))) m))
-          by_side false bytes size w =
+          by_side all_needed left_is right_is false bytes size w =
               let code : code_of (binary_op op ty mode t a (integer s a.bytes) b (integer s b.bytes)) rest ≡ relation_code r s (home a) (home b) (suc bytes) ++ conversion_code false (InRegisters 30) (home t) 1 (wanted (needs at rest) t) = ap (λ x. binary_code x s s (home a) (home b) (home t) a.bytes (wanted (needs at rest) t)) w ∙ rw q refl ∙ ap (λ j. relation_code r s (home a) (home b) j ++ conversion_code false (InRegisters 30) (home t) 1 (wanted (needs at rest) t)) size in
               let stand = subst (λ x. HasAt e (x ++ items rest) pc end) code stands in
               let la = subst (λ j. value v.at (base a) j ≡ low1) size left_is in
@@ -454,7 +489,7 @@ module _ (p : PlainProgram) (functions : List PlainIrFunction) (inputs : Inputs)
               let most = ia.most in
               subst (λ j. G (suc n) m.state.work pc v (R (suc n) rest (told_machine t (stand_so r s j low1 low2) (op_steps (binary_op op ty mode t a (integer s a.bytes) b (integer s b.bytes))) m))) (sym size)
               (related_passes r s t a b bytes low1 low2 (op_steps (binary_op op ty mode t a (integer s a.bytes) b (integer s b.bytes))) rest n pc (operands_needed op t a b a.bytes b.bytes (needs at rest)) m v it ia ib size (same ∙ size) (omega arith) la lb (relation_big op ty (integer s a.bytes) (integer s b.bytes)) stand (other_needed op t a b a.bytes b.bytes (needs at rest)) all_needed f)
-          by_side true bytes size w =
+          by_side all_needed left_is right_is true bytes size w =
               let code : code_of (binary_op op ty mode t a (integer s a.bytes) b (integer s b.bytes)) rest ≡ relation_code r s (home b) (home a) (suc bytes) ++ conversion_code false (InRegisters 30) (home t) 1 (wanted (needs at rest) t) = ap (λ x. binary_code x s s (home a) (home b) (home t) a.bytes (wanted (needs at rest) t)) w ∙ rw q refl ∙ ap (λ j. relation_code r s (home b) (home a) j ++ conversion_code false (InRegisters 30) (home t) 1 (wanted (needs at rest) t)) size in
               let stand = subst (λ x. HasAt e (x ++ items rest) pc end) code stands in
               let la = subst (λ j. value v.at (base a) j ≡ low1) size left_is in
@@ -488,7 +523,7 @@ module _ (p : PlainProgram) (functions : List PlainIrFunction) (inputs : Inputs)
   pub multiplied_follows : (op : BinOp) → family_of op ≡ Multiplied → (s s1 s2 : Bool) (mode : Mode) (t a b : Temp)
       (rest : List PlainIr) (n pc : ℕ) (m : Mach) (v : View) → HasHome slots t → HasHome slots a → HasHome slots b
       → t.bytes ≡ 2 → a.bytes ≡ 1 → b.bytes ≡ 1
-      → HasAt e (items (binary_op op (integer s 2) mode t a (integer s1 1) b (integer s2 1) ∷ rest)) pc end
+      → HasAt e (code_of (binary_op op (integer s 2) mode t a (integer s1 1) b (integer s2 1)) rest ++ items rest) pc end
       → M (needs at (binary_op op (integer s 2) mode t a (integer s1 1) b (integer s2 1) ∷ rest)) m v → Rest (suc n) rest
       → G (suc n) m.state.work pc v (R (suc n) (binary_op op (integer s 2) mode t a (integer s1 1) b (integer s2 1) ∷ rest) m)
   multiplied_follows op is s s1 s2 mode t a b rest n pc m v it ia ib two one_a one_b stands h f =
@@ -586,7 +621,7 @@ module _ (p : PlainProgram) (functions : List PlainIrFunction) (inputs : Inputs)
   pub shifted_follows : (op : BinOp) (up : Bool) → family_of op ≡ Shifted up → (s s2 : Bool) (mode : Mode)
       (t a b : Temp) (rest : List PlainIr) (n pc : ℕ) (m : Mach) (v : View) → HasHome slots t → HasHome slots a
       → HasHome slots b → a.bytes ≡ t.bytes → t.at ≢ b.at
-      → HasAt e (items (binary_op op (integer s a.bytes) mode t a (integer s a.bytes) b (integer s2 b.bytes) ∷ rest)) pc end
+      → HasAt e (code_of (binary_op op (integer s a.bytes) mode t a (integer s a.bytes) b (integer s2 b.bytes)) rest ++ items rest) pc end
       → M (needs at (binary_op op (integer s a.bytes) mode t a (integer s a.bytes) b (integer s2 b.bytes) ∷ rest)) m v
       → Rest (suc n) rest
       → G (suc n) m.state.work pc v (R (suc n) (binary_op op (integer s a.bytes) mode t a (integer s a.bytes) b (integer s2 b.bytes) ∷ rest) m)
@@ -731,7 +766,7 @@ module _ (p : PlainProgram) (functions : List PlainIrFunction) (inputs : Inputs)
   pub divided_follows : (op : BinOp) (r : Bool) → family_of op ≡ Divided r → (s : Bool) (mode : Mode)
       (t a b : Temp) (top : ℕ) (rest : List PlainIr) (n pc : ℕ) (m : Mach) (v : View) → HasHome slots t → HasHome slots a
       → HasHome slots b → t.bytes ≡ suc top → a.bytes ≡ suc top → b.bytes ≡ suc top → suc top ≤ 4 → t.at ≢ b.at
-      → HasAt e (items (binary_op op (integer s (suc top)) mode t a (integer s a.bytes) b (integer s b.bytes) ∷ rest)) pc end
+      → HasAt e (code_of (binary_op op (integer s (suc top)) mode t a (integer s a.bytes) b (integer s b.bytes)) rest ++ items rest) pc end
       → M (needs at (binary_op op (integer s (suc top)) mode t a (integer s a.bytes) b (integer s b.bytes) ∷ rest)) m v
       → Rest (suc n) rest
       → G (suc n) m.state.work pc v (R (suc n) (binary_op op (integer s (suc top)) mode t a (integer s a.bytes) b (integer s b.bytes) ∷ rest) m)
@@ -789,13 +824,13 @@ module _ (p : PlainProgram) (functions : List PlainIrFunction) (inputs : Inputs)
   -- an operator with these types, from where its code stands on
   abbrev Done : BinOp → (ty aty bty : PlainType) → Mode → (t a b : Temp) → List PlainIr → (n pc : ℕ) → Mach → View → Type 0
   Done op ty aty bty mode t a b rest n pc m v =
-      HasAt e (items (binary_op op ty mode t a aty b bty ∷ rest)) pc end
+      HasAt e (code_of (binary_op op ty mode t a aty b bty) rest ++ items rest) pc end
       → G (suc n) m.state.work pc v (R (suc n) (binary_op op ty mode t a aty b bty ∷ rest) m)
 
   pub operator_follows : (op : BinOp) (ty : PlainType) (mode : Mode) (t a : Temp) (aty : PlainType) (b : Temp)
       (bty : PlainType) (rest : List PlainIr) (n pc : ℕ) (m : Mach) (v : View)
       → IsCovered p results me slots (binary_op op ty mode t a aty b bty)
-      → HasAt e (items (binary_op op ty mode t a aty b bty ∷ rest)) pc end
+      → HasAt e (code_of (binary_op op ty mode t a aty b bty) rest ++ items rest) pc end
       → M (needs at (binary_op op ty mode t a aty b bty ∷ rest)) m v
       → Rest (suc n) rest → G (suc n) m.state.work pc v (R (suc n) (binary_op op ty mode t a aty b bty ∷ rest) m)
   operator_follows op ty mode t a aty b bty rest n pc m v i stands h f = by_family (family_of op) refl i
@@ -1045,13 +1080,22 @@ module _ (p : PlainProgram) (functions : List PlainIrFunction) (inputs : Inputs)
     pub needed : (u : ℕ) → needs at rest u ≤ at l u
 
   -- behind an operation that is no label
-  onward : (i : PlainIr) (ops : List PlainIr) (pc : ℕ) → HasAt e (items (i ∷ ops)) pc end
-      → (mid : ℕ) × HasAt e (items ops) mid end
-  onward i ops pc stands = let s = has_parts e (code_of i ops) (items ops) pc end stands in (s.0, s.2)
+  onward : (told : Option Told) (i : PlainIr) (ops : List PlainIr) (pc : ℕ) → HasAt e (items_told told (i ∷ ops)) pc end
+      → (mid : ℕ) × HasAt e (items_told (tells_next at i ops) ops) mid end
+  onward told i ops pc stands =
+      let s = has_parts e (op_code p.objects home link told (tells_next at i ops) (needs at ops) i) (items_told (tells_next at i ops) ops) pc end stands in
+      (s.0, s.2)
 
-  found : (ops : List PlainIr) (pc l : ℕ) (rest : List PlainIr) → Ready pc ops → find l ops ≡ Some rest → Target l rest
-  found [] pc l rest r f = absurd (cc)
-  found (label k ∷ ops) pc l rest r f =
+  -- operations of which the first one may have been told something
+  record Walked (told : Option Told) (pc : ℕ) (rest : List PlainIr) : Type 0 where
+    covered : AreCovered p results me slots rest
+    live : IsLive at rest
+    inside : (b : ℕ) → Contains (called_in rest) b → Contains (called_in all) b
+    stands : HasAt e (items_told told rest) pc end
+
+  found : (told : Option Told) (ops : List PlainIr) (pc l : ℕ) (rest : List PlainIr) → Walked told pc ops → find l ops ≡ Some rest → Target l rest
+  found told [] pc l rest r f = absurd (cc)
+  found told (label k ∷ ops) pc l rest r f =
       let s = r.stands in
       ⊎_elim
       (λ q.
@@ -1066,25 +1110,25 @@ module _ (p : PlainProgram) (functions : List PlainIrFunction) (inputs : Inputs)
       (λ q.
       let g : (if k == l then Some ops else find l ops) ≡ Some rest = f in
       let h : find l ops ≡ Some rest = (rw q at g) in
-      found ops s.0 l rest (record { covered = r.covered.1; live = r.live.1; inside = r.inside; stands = s.2 }) h)
+      found None ops s.0 l rest (record { covered = r.covered.1; live = r.live.1; inside = r.inside; stands = s.2 }) h)
       (cases_Bool (k == l))
-  found (constant t k ∷ ops) pc l rest r f = let s = onward (constant t k) ops pc r.stands in found ops s.0 l rest (record { covered = r.covered.1; live = r.live; inside = r.inside; stands = s.1 }) f
-  found (copy t u ∷ ops) pc l rest r f = let s = onward (copy t u) ops pc r.stands in found ops s.0 l rest (record { covered = r.covered.1; live = r.live; inside = r.inside; stands = s.1 }) f
-  found (load_object t o offset ∷ ops) pc l rest r f = let s = onward (load_object t o offset) ops pc r.stands in found ops s.0 l rest (record { covered = r.covered.1; live = r.live; inside = r.inside; stands = s.1 }) f
-  found (store_object o offset t ∷ ops) pc l rest r f = let s = onward (store_object o offset t) ops pc r.stands in found ops s.0 l rest (record { covered = r.covered.1; live = r.live; inside = r.inside; stands = s.1 }) f
-  found (binary_op op ty mode t a aty b bty ∷ ops) pc l rest r f = let s = onward (binary_op op ty mode t a aty b bty) ops pc r.stands in found ops s.0 l rest (record { covered = r.covered.1; live = r.live; inside = r.inside; stands = s.1 }) f
-  found (conversion t ty mode a aty ∷ ops) pc l rest r f = let s = onward (conversion t ty mode a aty) ops pc r.stands in found ops s.0 l rest (record { covered = r.covered.1; live = r.live; inside = r.inside; stands = s.1 }) f
-  found (jump k ∷ ops) pc l rest r f = let s = onward (jump k) ops pc r.stands in found ops s.0 l rest (record { covered = r.covered.1; live = r.live; inside = r.inside; stands = s.1 }) f
-  found (branch_zero t k ∷ ops) pc l rest r f = let s = onward (branch_zero t k) ops pc r.stands in found ops s.0 l rest (record { covered = r.covered.1; live = r.live; inside = r.inside; stands = s.1 }) f
-  found (return_from t ∷ ops) pc l rest r f = let s = onward (return_from t) ops pc r.stands in found ops s.0 l rest (record { covered = r.covered.1; live = r.live; inside = r.inside; stands = s.1 }) f
-  found (address t o offset ∷ ops) pc l rest r f = absurd r.covered.0
-  found (field t space offset ∷ ops) pc l rest r f = absurd r.covered.0
-  found (load_at t u space ∷ ops) pc l rest r f = absurd r.covered.0
-  found (store_at t space u ∷ ops) pc l rest r f = absurd r.covered.0
-  found (unary_op op ty mode t a ∷ ops) pc l rest r f = let s = onward (unary_op op ty mode t a) ops pc r.stands in found ops s.0 l rest (record { covered = r.covered.1; live = r.live; inside = r.inside; stands = s.1 }) f
-  found (call_function g t ∷ ops) pc l rest r f = let s = onward (call_function g t) ops pc r.stands in found ops s.0 l rest (record { covered = r.covered.1; live = r.live; inside = λ b c. r.inside b (Contains-append_right (g ∷ []) (called_in ops) b c); stands = s.1 }) f
-  found (port_in t port index width ∷ ops) pc l rest r f = absurd r.covered.0
-  found (port_out t port index width ∷ ops) pc l rest r f = absurd r.covered.0
+  found told (constant t k ∷ ops) pc l rest r f = let s = onward told (constant t k) ops pc r.stands in found None ops s.0 l rest (record { covered = r.covered.1; live = r.live; inside = r.inside; stands = s.1 }) f
+  found told (copy t u ∷ ops) pc l rest r f = let s = onward told (copy t u) ops pc r.stands in found None ops s.0 l rest (record { covered = r.covered.1; live = r.live; inside = r.inside; stands = s.1 }) f
+  found told (load_object t o offset ∷ ops) pc l rest r f = let s = onward told (load_object t o offset) ops pc r.stands in found None ops s.0 l rest (record { covered = r.covered.1; live = r.live; inside = r.inside; stands = s.1 }) f
+  found told (store_object o offset t ∷ ops) pc l rest r f = let s = onward told (store_object o offset t) ops pc r.stands in found None ops s.0 l rest (record { covered = r.covered.1; live = r.live; inside = r.inside; stands = s.1 }) f
+  found told (binary_op op ty mode t a aty b bty ∷ ops) pc l rest r f = let s = onward told (binary_op op ty mode t a aty b bty) ops pc r.stands in found (tells_next at (binary_op op ty mode t a aty b bty) ops) ops s.0 l rest (record { covered = r.covered.1; live = r.live; inside = r.inside; stands = s.1 }) f
+  found told (conversion t ty mode a aty ∷ ops) pc l rest r f = let s = onward told (conversion t ty mode a aty) ops pc r.stands in found None ops s.0 l rest (record { covered = r.covered.1; live = r.live; inside = r.inside; stands = s.1 }) f
+  found told (jump k ∷ ops) pc l rest r f = let s = onward told (jump k) ops pc r.stands in found None ops s.0 l rest (record { covered = r.covered.1; live = r.live; inside = r.inside; stands = s.1 }) f
+  found told (branch_zero t k ∷ ops) pc l rest r f = let s = onward told (branch_zero t k) ops pc r.stands in found None ops s.0 l rest (record { covered = r.covered.1; live = r.live; inside = r.inside; stands = s.1 }) f
+  found told (return_from t ∷ ops) pc l rest r f = let s = onward told (return_from t) ops pc r.stands in found None ops s.0 l rest (record { covered = r.covered.1; live = r.live; inside = r.inside; stands = s.1 }) f
+  found told (address t o offset ∷ ops) pc l rest r f = absurd r.covered.0
+  found told (field t space offset ∷ ops) pc l rest r f = absurd r.covered.0
+  found told (load_at t u space ∷ ops) pc l rest r f = absurd r.covered.0
+  found told (store_at t space u ∷ ops) pc l rest r f = absurd r.covered.0
+  found told (unary_op op ty mode t a ∷ ops) pc l rest r f = let s = onward told (unary_op op ty mode t a) ops pc r.stands in found None ops s.0 l rest (record { covered = r.covered.1; live = r.live; inside = r.inside; stands = s.1 }) f
+  found told (call_function g t ∷ ops) pc l rest r f = let s = onward told (call_function g t) ops pc r.stands in found None ops s.0 l rest (record { covered = r.covered.1; live = r.live; inside = λ b c. r.inside b (Contains-append_right (g ∷ []) (called_in ops) b c); stands = s.1 }) f
+  found told (port_in t port index width ∷ ops) pc l rest r f = absurd r.covered.0
+  found told (port_out t port index width ∷ ops) pc l rest r f = absurd r.covered.0
 
   -- what is shown from any operation on
   abbrev pub Onward : ℕ → Type 0
@@ -1101,7 +1145,7 @@ module _ (p : PlainProgram) (functions : List PlainIrFunction) (inputs : Inputs)
           → G (suc n) m.state.work pc v (jump_to o (λ q u. exec_from functions p inputs n q.code q.stack q.rest u) all stack (machine m.temps (worked c m.state)))
       by_label None q = tt
       by_label (Some rest) q =
-          let g = found all start l rest ready q in
+          let g = found None all start l rest (record { covered = ready.covered; live = ready.live; inside = ready.inside; stands = ready.stands }) q in
           let m1 = machine m.temps (worked c m.state) in
           let z = weaker p e slots home base place y (at l) (needs at rest) m v1 h g.needed in
           let matches : M (needs at rest) m1 v1 = record { temps_hold = z.temps_hold; leaves_hold = z.leaves_hold; kept = z.kept; bytes = z.bytes; seen = z.seen; safe = z.safe } in
@@ -1120,19 +1164,23 @@ module _ (p : PlainProgram) (functions : List PlainIrFunction) (inputs : Inputs)
 
   -- ---- branches
 
-  -- all is kept by a test
-  tested : (need : Need) (m : Mach) (v : View) (t : Temp) → HasHome slots t → M need m v
-      → M need m (block e (test_code (home t) t.bytes) v)
-  tested need m v t it h =
-      let k : KeepsAll v (block e (test_code (home t) t.bytes) v) = tests_keep e (home t) t.bytes (base t) v (y.layout.temps_at t it) h.bytes in
+  -- where only flags and the work registers R0 and R1 have changed, the same is matched
+  kept_matches : (need : Need) (m : Mach) (v w : View) → KeepsAll v w → M need m v → M need m w
+  kept_matches need m v w k h =
       record {
-        temps_hold = λ u x iu q w. (let some = (y.layout.temps_at u iu).clear in same_content v.at (block e (test_code (home t) t.bytes) v).at (base u) (wanted need u) u.bytes x.content (λ j l. k.same (base u + j) (omega arith) (omega arith)) (h.temps_hold u x iu q w));
-        leaves_hold = λ l x u q w. (let some = (y.layout.leaves_at l).clear in same_leaf v.at (block e (test_code (home t) t.bytes) v).at (place l.object + l.at) l.bytes u (λ j r. k.same (place l.object + l.at + j) (omega arith) (omega arith)) (h.leaves_hold l x u q w));
+        temps_hold = λ u x iu q z. (let some = (y.layout.temps_at u iu).clear in same_content v.at w.at (base u) (wanted need u) u.bytes x.content (λ j l. k.same (base u + j) (omega arith) (omega arith)) (h.temps_hold u x iu q z));
+        leaves_hold = λ l x u q z. (let some = (y.layout.leaves_at l).clear in same_leaf v.at w.at (place l.object + l.at) l.bytes u (λ j r. k.same (place l.object + l.at + j) (omega arith) (omega arith)) (h.leaves_hold l x u q z));
         kept = λ i q. (let u = y.high i q in k.same i (omega arith) (omega arith)) ∙ h.kept i q;
         bytes = λ i u. rw (k.same i (omega arith) (omega arith)) (h.bytes i u);
         seen = k.seen ∙ h.seen;
         safe = k.safe ∙ h.safe;
       }
+
+  -- all is kept by a test
+  tested : (need : Need) (m : Mach) (v : View) (t : Temp) → HasHome slots t → M need m v
+      → M need m (block e (test_code (home t) t.bytes) v)
+  tested need m v t it h =
+      kept_matches need m v (block e (test_code (home t) t.bytes) v) (tests_keep e (home t) t.bytes (base t) v (y.layout.temps_at t it) h.bytes) h
 
   zero_flag : (n : ℕ) → 1 ≤ n → (q : Location) (a : ℕ) (v : View) → StandsFrom e q n a Own → HoldsNumbers v
       → (block e (test_code q n) v).flags.z ≡ from_bool (value v.at a n == 0)
@@ -1203,6 +1251,124 @@ module _ (p : PlainProgram) (functions : List PlainIrFunction) (inputs : Inputs)
           rw q (after p place e (k + 1) n (suc n) m.state.work m1.state.work pc to v v1 (R n rest m1) (goes_on_to e k 1 pc mid to v v1 v1 goes b) (omega arith) (omega (arith, take)) (f to rest m1 v1 (record { covered = covered; live = live; inside = inside; stands = to_end }) (again (needs at rest) m v1 c here))))
           (cases_Bool (low == 0))
 
+  -- ---- a comparison that only the next operation tests
+
+  -- how a branch goes on
+  abbrev branched : (n l : ℕ) (t : Temp) (rest : List PlainIr) → Mach → Bool → Outcome Value
+  branched n l t rest m is_none =
+      if is_none then jump_to (find l all) (λ q u. exec_from functions p inputs n q.code q.stack q.rest u) all stack (machine m.temps (worked (op_steps (branch_zero t l)) m.state))
+      else R n rest (machine m.temps (worked (op_steps (branch_zero t l)) m.state))
+
+  -- the branch on a truth value that a flag tells: it is taken where the flag is `set`
+  told_branch_follows : (start l : ℕ) (t : Temp) (truth set : Bool) (flag : ℕ) (rest : List PlainIr) (n pc to : ℕ) (m : Mach)
+      (v : View) → Ready start all → Ready to rest → HasHome slots t
+      → m.temps t.at ≡ Some (record { bytes = t.bytes; content = bits (low_bytes t.bytes (pos (from_bool truth))) })
+      → is_flag flag ≡ true → (truth ≡ false → flag_at v.flags flag ≡ if_bit set)
+      → (truth ≡ true → flag_at v.flags flag ≡ if_bit (not set)) → BranchesAt e set flag (link.label_of l) pc to
+      → M (needs at rest) m v → M (at l) m v → Onward n
+      → G (suc n) m.state.work pc v (R (suc n) (branch_zero t l ∷ rest) m)
+  told_branch_follows start l t truth set flag rest n pc to m v ready ready1 it holds is fails stays branch here there f =
+      from_held p place e t m.temps (worked (op_steps (branch_zero t l)) m.state) _ (suc n) m.state.work pc v
+      (λ x q w.
+      let same : x.content ≡ bits (low_bytes t.bytes (pos (from_bool truth))) = content_of_held x _ (sym q ∙ holds) in
+      subst (λ c. G (suc n) m.state.work pc v (branched n l t rest m (is_zero c))) (sym (same ∙ ap bits (truth_low t.bytes it.some truth))) (by_truth truth fails stays))
+    where
+      by_truth : (b : Bool) → (b ≡ false → flag_at v.flags flag ≡ if_bit set)
+          → (b ≡ true → flag_at v.flags flag ≡ if_bit (not set))
+          → G (suc n) m.state.work pc v (branched n l t rest m (from_bool b == 0))
+      by_truth false fails stays =
+          let c = op_steps (branch_zero t l) in
+          let b = branch_taken e set flag (link.label_of l) pc to v is (fails refl) branch in
+          let least = b.at_least in
+          let most = b.at_most in
+          jumps start l n c b.steps pc m v v ready (branch_has_word e set flag (link.label_of l) pc to branch) b.goes (omega arith) (omega (arith, most)) there f
+      by_truth true fails stays =
+          let c = op_steps (branch_zero t l) in
+          let m1 = machine m.temps (worked c m.state) in
+          let b = branch_passed e set flag (link.label_of l) pc to v is (stays refl) branch in
+          after p place e 1 n (suc n) m.state.work m1.state.work pc to v v (R n rest m1) b (omega arith) (omega arith) (f to rest m1 v ready1 (again (needs at rest) m v c here))
+
+  -- the comparison of two temporaries, and the branch behind it
+  told_passes : (start l : ℕ) (r : Relation) (s : Bool) (t x1 x2 : Temp) (bytes x z c : ℕ) (rest : List PlainIr) (n pc : ℕ)
+      (need0 : Need) (m : Mach) (v : View) → Ready start all → AreCovered p results me slots rest → IsLive at rest
+      → ((b : ℕ) → Contains (called_in rest) b → Contains (called_in all) b) → HasHome slots t → HasHome slots x1
+      → HasHome slots x2 → x1.bytes ≡ suc bytes → x2.bytes ≡ suc bytes → suc bytes ≤ 16
+      → value v.at (base x1) (suc bytes) ≡ x → value v.at (base x2) (suc bytes) ≡ z → 102 ≤ c
+      → wanted (either (needs at rest) (at l)) t ≡ 0
+      → HasAt e (compare_code (home x2) (home x1) (suc bytes) ++ (unless_code r s (link.label_of l) ++ items rest)) pc end
+      → ((k : ℕ) → k ≢ t.at → either (needs at rest) (at l) k ≤ need0 k) → M need0 m v → Onward n
+      → G (suc n) m.state.work pc v (R (suc n) (branch_zero t l ∷ rest) (told_machine t (stand_so r s (suc bytes) x z) c m))
+  told_passes start l r s t x1 x2 bytes x z c rest n pc need0 m v ready covered live inside it i1 i2 q1 q2 most xl zu big none stands more h f =
+      let both = either (needs at rest) (at l) in
+      let truth = stand_so r s (suc bytes) x z in
+      let compared = compare_code (home x2) (home x1) (suc bytes) in
+      let v1 = block e compared v in
+      let m1 = told_machine t truth c m in
+      let s1 = has_parts e compared (unless_code r s (link.label_of l) ++ items rest) pc end stands in
+      let sa : StandsFrom e (home x1) (suc bytes) (base x1) Own = subst (λ j. StandsFrom e (home x1) j (base x1) Own) q1 (y.layout.temps_at x1 i1) in
+      let sb : StandsFrom e (home x2) (suc bytes) (base x2) Own = subst (λ j. StandsFrom e (home x2) j (base x2) Own) q2 (y.layout.temps_at x2 i2) in
+      let kept : KeepsAll v v1 = comparisons_keep e (home x2) (home x1) (suc bytes) (base x2) (base x1) v sb sa h.bytes in
+      let matches : M both m1 v1 = kept_matches both m1 v v1 kept (not_needed t (low_bytes t.bytes (pos (from_bool truth))) c both need0 m v it none (low_below t.bytes (pos (from_bool truth))) more h) in
+      let here : M (needs at rest) m1 v1 = weaker p e slots home base place y both (needs at rest) m1 v1 matches (either_left (needs at rest) (at l)) in
+      let there : M (at l) m1 v1 = weaker p e slots home base place y both (at l) m1 v1 matches (either_right (needs at rest) (at l)) in
+      let straight = (pieces_are_straight Sum (home x2) (home x1) (suc bytes)).2 in
+      let take = (pieces_take Sum (home x2) (home x1) (suc bytes)).2.1 in
+      let told : stand_so r s (suc bytes) (value v.at (base x1) (suc bytes)) (value v.at (base x2) (suc bytes)) ≡ truth = rw (xl, zu) refl in
+      let goes = block_goes e compared pc s1.0 v straight s1.1 in
+      after p place e (code_steps compared) (suc n) (suc n) m.state.work m1.state.work pc s1.0 v v1 (R (suc n) (branch_zero t l ∷ rest) m1) goes (omega arith) (omega (arith, take, most, big))
+      (told_branch_follows start l t truth (not (is_set r)) (flag_of r s) rest n s1.0 s1.2.0 m1 v1 ready (record { covered = covered; live = live; inside = inside; stands = s1.2.2 }) it (held_at t _ m.temps) (flag_is r s)
+      (λ q. fails_in_flag r s e (home x1) (home x2) bytes (base x1) (base x2) v sa sb h.bytes (told ∙ q) ∙ bit_is (not (is_set r)))
+      (λ q. holds_in_flag r s e (home x1) (home x2) bytes (base x1) (base x2) v sa sb h.bytes (told ∙ q) ∙ bit_is (is_set r) ∙ ap if_bit (sym (not_not (is_set r)))) s1.2.1 here there f)
+
+  pub told_follows : (start l : ℕ) (op : BinOp) (r : Relation) (exchanged : Bool) → family_of op ≡ Compared r exchanged
+      → (s : Bool) (ty : PlainType) (mode : Mode) (t a b : Temp) (rest : List PlainIr) (n pc : ℕ) (m : Mach) (v : View)
+      → Ready start all → AreCovered p results me slots rest → IsLive at rest
+      → ((c : ℕ) → Contains (called_in rest) c → Contains (called_in all) c) → HasHome slots t → HasHome slots a
+      → HasHome slots b → b.bytes ≡ a.bytes → wanted (either (needs at rest) (at l)) t ≡ 0
+      → HasAt e (flag_code (Compared r exchanged) (home a) (home b) a.bytes ++ (unless_code r s (link.label_of l) ++ items rest)) pc end
+      → M (needs at (binary_op op ty mode t a (integer s a.bytes) b (integer s b.bytes) ∷ branch_zero t l ∷ rest)) m v
+      → Onward n
+      → G (suc n) m.state.work pc v (R (suc n) (binary_op op ty mode t a (integer s a.bytes) b (integer s b.bytes) ∷ branch_zero t l ∷ rest) m)
+  told_follows start l op r exchanged is s ty mode t a b rest n pc m v ready covered live inside it ia ib same none stands h f =
+      compared_numbers op r exchanged is s ty mode t a b (branch_zero t l ∷ rest) n pc (needs at (binary_op op ty mode t a (integer s a.bytes) b (integer s b.bytes) ∷ branch_zero t l ∷ rest)) m v ia ib same h
+      (λ low1 low2 qa qb below1 below2.
+      let hold = compared_hold op r exchanged is s ty mode t a b (branch_zero t l ∷ rest) m v low1 low2 ia ib same tested_needed qa qb below1 below2 h in
+      let some = ia.some in
+      by_side low1 low2 hold.0 hold.1 hold.2 exchanged (a.bytes - 1) (omega arith) stands)
+    where
+      both : Need
+      both = either (needs at rest) (at l)
+
+      tested_needed : (wanted (needs at (branch_zero t l ∷ rest)) t == 0) ≡ false
+      tested_needed =
+          let here = least_here t.at t.bytes (either (needs at rest) (at l)) in
+          let some = it.some in
+          ne_eqb (wanted (needs at (branch_zero t l ∷ rest)) t) 0 (λ q. absurd (omega (arith, here, some, q)))
+
+      more : (k : ℕ) → k ≢ t.at → either (needs at rest) (at l) k ≤ operands_needed op t a b a.bytes b.bytes (needs at (branch_zero t l ∷ rest)) k
+      more k d =
+          let x = other_needed op t a b a.bytes b.bytes (needs at (branch_zero t l ∷ rest)) k d in
+          let z = least_other t.at t.bytes k (either (needs at rest) (at l)) in
+          omega (arith, x, z)
+
+      by_side : (low1 low2 : ℕ) → M (operands_needed op t a b a.bytes b.bytes (needs at (branch_zero t l ∷ rest))) m v
+          → value v.at (base a) a.bytes ≡ low1 → value v.at (base b) a.bytes ≡ low2 → (x : Bool) (bytes : ℕ)
+          → a.bytes ≡ suc bytes
+          → HasAt e (flag_code (Compared r x) (home a) (home b) a.bytes ++ (unless_code r s (link.label_of l) ++ items rest)) pc end
+          → G (suc n) m.state.work pc v (R (suc n) (branch_zero t l ∷ rest) (told_machine t (stand_so r s a.bytes (first_of_two x low1 low2) (first_of_two x low2 low1)) (op_steps (binary_op op ty mode t a (integer s a.bytes) b (integer s b.bytes))) m))
+      by_side low1 low2 needed left_is right_is false bytes size stand =
+          let most = ia.most in
+          let la = subst (λ j. value v.at (base a) j ≡ low1) size left_is in
+          let lb = subst (λ j. value v.at (base b) j ≡ low2) size right_is in
+          subst (λ j. G (suc n) m.state.work pc v (R (suc n) (branch_zero t l ∷ rest) (told_machine t (stand_so r s j low1 low2) (op_steps (binary_op op ty mode t a (integer s a.bytes) b (integer s b.bytes))) m))) (sym size)
+          (told_passes start l r s t a b bytes low1 low2 (op_steps (binary_op op ty mode t a (integer s a.bytes) b (integer s b.bytes))) rest n pc (operands_needed op t a b a.bytes b.bytes (needs at (branch_zero t l ∷ rest))) m v ready covered live inside it ia ib size (same ∙ size) (omega arith) la lb (relation_big op ty (integer s a.bytes) (integer s b.bytes)) none (subst (λ j. HasAt e (compare_code (home b) (home a) j ++ (unless_code r s (link.label_of l) ++ items rest)) pc end) size stand) more needed f)
+      by_side low1 low2 needed left_is right_is true bytes size stand =
+          let most = ia.most in
+          let la = subst (λ j. value v.at (base a) j ≡ low1) size left_is in
+          let lb = subst (λ j. value v.at (base b) j ≡ low2) size right_is in
+          subst (λ j. G (suc n) m.state.work pc v (R (suc n) (branch_zero t l ∷ rest) (told_machine t (stand_so r s j low2 low1) (op_steps (binary_op op ty mode t a (integer s a.bytes) b (integer s b.bytes))) m))) (sym size)
+          (told_passes start l r s t b a bytes low2 low1 (op_steps (binary_op op ty mode t a (integer s a.bytes) b (integer s b.bytes))) rest n pc (operands_needed op t a b a.bytes b.bytes (needs at (branch_zero t l ∷ rest))) m v ready covered live inside it ib ia (same ∙ size) size (omega arith) lb la (relation_big op ty (integer s a.bytes) (integer s b.bytes)) none (subst (λ j. HasAt e (compare_code (home a) (home b) j ++ (unless_code r s (link.label_of l) ++ items rest)) pc end) size stand) more needed f)
+
   -- ---- labels
 
   -- a label counts for nothing
@@ -1228,6 +1394,65 @@ module _ (p : PlainProgram) (functions : List PlainIrFunction) (inputs : Inputs)
       → Ready pc (return_from from ∷ rest) → M (returned_need from) m v
       → G (suc n) m.state.work pc v (R (suc n) (return_from from ∷ rest) m)
 
+  -- the code of a binary operator that tells something, and what comes after it
+  abbrev StandsTelling : BinOp → PlainType → Mode → (t a : Temp) → PlainType → Temp → PlainType → ℕ → Option Told
+      → List PlainIr → Type 0
+  StandsTelling op ty mode t a aty b bty pc told ops =
+      HasAt e (op_code p.objects home link None told (needs at ops) (binary_op op ty mode t a aty b bty) ++ items_told told ops) pc end
+
+  -- a binary operator, and where it is a comparison that only the branch behind it tests, this branch too
+  binary_follows : (start : ℕ) → Ready start all → (n : ℕ) → Onward n → (op : BinOp) (ty : PlainType) (mode : Mode)
+      (t a : Temp) (aty : PlainType) (b : Temp) (bty : PlainType) (pc : ℕ) (rest : List PlainIr) (m : Mach) (v : View)
+      → Ready pc (binary_op op ty mode t a aty b bty ∷ rest) → M (needs at (binary_op op ty mode t a aty b bty ∷ rest)) m v
+      → Rest (suc n) rest → G (suc n) m.state.work pc v (R (suc n) (binary_op op ty mode t a aty b bty ∷ rest) m)
+  binary_follows start ready n go op ty mode t a aty b bty pc rest m v r h f = by_told (tells_next at (binary_op op ty mode t a aty b bty) rest) refl
+    where
+      by_family : (x : Family) → family_of op ≡ x → (told : Told) → told_of x (is_signed aty) ≡ Some told → (l : ℕ) (ops : List PlainIr)
+          → IsBinary x slots t a b ty aty bty → AreCovered p results me slots ops → IsLive at ops
+          → ((c : ℕ) → Contains (called_in ops) c → Contains (called_in all) c) → wanted (either (needs at ops) (at l)) t ≡ 0
+          → HasAt e (flag_code x (home a) (home b) a.bytes ++ (unless_code told.relation told.signed (link.label_of l) ++ items ops)) pc end
+          → M (needs at (binary_op op ty mode t a aty b bty ∷ branch_zero t l ∷ ops)) m v
+          → G (suc n) m.state.work pc v (R (suc n) (binary_op op ty mode t a aty b bty ∷ branch_zero t l ∷ ops) m)
+      by_family (Compared r exchanged) q told w l ops k covered live inside none stands h =
+          let relation : r ≡ told.relation = (let c : record { relation = r; signed = is_signed aty } ≡ told = cc in ap (λ x. x.relation) c) in
+          let signs : k.signed ≡ told.signed = ap is_signed (sym k.left_type) ∙ (let c : record { relation = r; signed = is_signed aty } ≡ told = cc in ap (λ x. x.signed) c) in
+          let stand : HasAt e (flag_code (Compared r exchanged) (home a) (home b) a.bytes ++ (unless_code r k.signed (link.label_of l) ++ items ops)) pc end = subst (λ x. HasAt e (flag_code (Compared r exchanged) (home a) (home b) a.bytes ++ (unless_code x k.signed (link.label_of l) ++ items ops)) pc end) (sym relation) (subst (λ x. HasAt e (flag_code (Compared r exchanged) (home a) (home b) a.bytes ++ (unless_code told.relation x (link.label_of l) ++ items ops)) pc end) (sym signs) stands) in
+          subst (λ x. G (suc n) m.state.work pc v (R (suc n) (binary_op op ty mode t a x b bty ∷ branch_zero t l ∷ ops) m)) (sym k.left_type)
+          (subst (λ x. G (suc n) m.state.work pc v (R (suc n) (binary_op op ty mode t a (integer k.signed a.bytes) b x ∷ branch_zero t l ∷ ops) m)) (sym k.right_type)
+          (told_follows start l op r exchanged q k.signed ty mode t a b ops n pc m v ready covered live inside k.result k.left k.right k.same_bytes none stand h go))
+      by_family x q told w l ops k covered live inside none stands h = absurd (cc)
+
+      at_branch : (u : Temp) (l : ℕ) (ops : List PlainIr) (told : Told) → (only : Bool)
+          → is_only_tested t (Some (branch_zero u l)) (wanted (either (needs at ops) (at l)) u) ≡ only
+          → (if only then told_of (family_of op) (is_signed aty) else None) ≡ Some told
+          → Ready pc (binary_op op ty mode t a aty b bty ∷ branch_zero u l ∷ ops)
+          → M (needs at (binary_op op ty mode t a aty b bty ∷ branch_zero u l ∷ ops)) m v
+          → StandsTelling op ty mode t a aty b bty pc (Some told) (branch_zero u l ∷ ops)
+          → G (suc n) m.state.work pc v (R (suc n) (binary_op op ty mode t a aty b bty ∷ branch_zero u l ∷ ops) m)
+      at_branch u l ops told false o q r h stands = absurd (cc)
+      at_branch u l ops told true o q r h stands =
+          let parts = and_parts (wanted (either (needs at ops) (at l)) u == 0) (u.at == t.at && u.bytes == t.bytes) o in
+          let both = and_parts (u.at == t.at) (u.bytes == t.bytes) parts.1 in
+          let same : u ≡ t = same_temp t u (eqb-true u.at t.at both.0) (eqb-true u.bytes t.bytes both.1) in
+          let none : wanted (either (needs at ops) (at l)) t ≡ 0 = subst (λ x. wanted (either (needs at ops) (at l)) x ≡ 0) same (eqb-true (wanted (either (needs at ops) (at l)) u) 0 parts.0) in
+          let h1 = subst (λ x. M (needs at (binary_op op ty mode t a aty b bty ∷ branch_zero x l ∷ ops)) m v) same h in
+          subst (λ x. G (suc n) m.state.work pc v (R (suc n) (binary_op op ty mode t a aty b bty ∷ branch_zero x l ∷ ops) m)) (sym same)
+          (by_family (family_of op) refl told q l ops r.covered.0 r.covered.1.1 r.live r.inside none stands h1)
+
+      at_next : (ops : List PlainIr) (told : Told) → tells_next at (binary_op op ty mode t a aty b bty) ops ≡ Some told
+          → Ready pc (binary_op op ty mode t a aty b bty ∷ ops) → M (needs at (binary_op op ty mode t a aty b bty ∷ ops)) m v
+          → G (suc n) m.state.work pc v (R (suc n) (binary_op op ty mode t a aty b bty ∷ ops) m)
+      at_next (branch_zero u l ∷ ops) told q r h =
+          at_branch u l ops told (is_only_tested t (Some (branch_zero u l)) (wanted (either (needs at ops) (at l)) u)) refl q r h (subst (λ x. StandsTelling op ty mode t a aty b bty pc x (branch_zero u l ∷ ops)) q r.stands)
+      at_next [] told q r h = absurd (cc)
+      at_next (i ∷ ops) told q r h = absurd (cc)
+
+      by_told : (told : Option Told) → tells_next at (binary_op op ty mode t a aty b bty) rest ≡ told
+          → G (suc n) m.state.work pc v (R (suc n) (binary_op op ty mode t a aty b bty ∷ rest) m)
+      by_told None q =
+          operator_follows op ty mode t a aty b bty rest n pc m v r.covered.0 (subst (λ x. StandsTelling op ty mode t a aty b bty pc x rest) q r.stands) h f
+      by_told (Some told) q = at_next rest told q r h
+
   pub follows : (start : ℕ) → Ready start all → (n : ℕ) → Onward n → CallCase n → ReturnCase n → Onward (suc n)
   follows start ready n go calls returns pc [] m v r h = tt
   follows start ready n go calls returns pc (constant t k ∷ rest) m v r h =
@@ -1242,7 +1467,7 @@ module _ (p : PlainProgram) (functions : List PlainIrFunction) (inputs : Inputs)
       let i = r.covered.0 in
       store_follows t o offset i.1 rest n pc m v i.0 r.stands h (λ pc1 m1 v1 s z. go pc1 rest m1 v1 (record { covered = r.covered.1; live = r.live; inside = r.inside; stands = s }) z)
   follows start ready n go calls returns pc (binary_op op ty mode t a aty b bty ∷ rest) m v r h =
-      operator_follows op ty mode t a aty b bty rest n pc m v r.covered.0 r.stands h (λ pc1 m1 v1 s z. follows start ready n go calls returns pc1 rest m1 v1 (record { covered = r.covered.1; live = r.live; inside = r.inside; stands = s }) z)
+      binary_follows start ready n go op ty mode t a aty b bty pc rest m v r h (λ pc1 m1 v1 s z. follows start ready n go calls returns pc1 rest m1 v1 (record { covered = r.covered.1; live = r.live; inside = r.inside; stands = s }) z)
   follows start ready n go calls returns pc (label l ∷ rest) m v r h =
       let s = r.stands in
       let need = needs at rest in

@@ -1,7 +1,7 @@
 -- Code that is written operation by operation.
-use Rattle.std.proofs.Common.{◌≡◌, ℕ, zero, suc, ◌+◌, ◌<◌, List, [], ◌∷◌, ◌++◌, Some, length, refl, sym, ap, ◌∙◌}
+use Rattle.std.proofs.Common.{◌≡◌, ℕ, zero, suc, ◌+◌, ◌-◌, ◌<◌, List, [], ◌∷◌, ◌++◌, Some, length, refl, sym, ap, ◌∙◌}
 use Rattle.std.proofs.Common.{subst, arith, append_assoc, append-nil}
-use Rattle.std.specs.Prelude.{slice_get, slice_index, get_or}
+use Rattle.std.specs.Prelude.{slice_get, slice_index, get_or, Option, None}
 use Rattle.ec_asm.specs.declared.items.AsmItem.{AsmItem}
 use Rattle.ec_asm.specs.declared.pieces.Location.{Location}
 use Rattle.ec_asm.specs.Items.{chain}
@@ -11,9 +11,10 @@ use Rattle.ec_ir.specs.Operations.{PlainIr, constant, copy, address, field, load
 use Rattle.ec_ir.specs.Operations.{store_object, binary_op, unary_op, conversion, label, jump, branch_zero}
 use Rattle.ec_ir.specs.Operations.{call_function, return_from, port_in, port_out}
 use Rattle.ec_select_functions.specs.Code.{Linkage, register_places, save_place, restore_place, save_code}
-use Rattle.ec_select_functions.specs.Code.{restore_code, operation_code, result_wanted, op_code, ops_code}
+use Rattle.ec_select_functions.specs.declared.families.Told.{Told}
+use Rattle.ec_select_functions.specs.Code.{restore_code, operation_code, tells, wanted_behind, wanted_bytes, op_code, tells_next, ops_code}
 use Rattle.ec_select_functions.specs.Needs.{Need, without_result, needs}
-use Rattle.ec_select_functions.specs.Written.{need_in, operation_at, written_code, wanted_bytes, row_from, kept_row}
+use Rattle.ec_select_functions.specs.Written.{need_in, operation_at, told_from, told_at, written_code, row_from, kept_row}
 use Rattle.ec_select_functions.specs.Written.{kept_rows, NeededCodeIsWritten}
 
 -- the first piece, and the others
@@ -59,36 +60,53 @@ module _ (objects : List PlainObject) (home : Temp → Location) (k : Linkage) w
       chain_same (λ j. restore_place k.homes j (need_in (row_from (register_places k.slots) 0 need) j)) (λ j. restore_place k.homes j (need j)) (register_places k.slots)
       (λ j l. ap (restore_place k.homes j) (kept_here need j l))
 
-  same_code : (need : Need) (i : PlainIr)
-      → operation_code objects home k (result_wanted need i) (need_in (kept_row k.slots need i)) i ≡ op_code objects home k need i
-  same_code need (call_function f to) =
+  same_code : (at : ℕ → Need) (told telling : Option Told) (need : Need) (i : PlainIr)
+      → operation_code objects home k told telling (wanted_behind at need i) (need_in (kept_row k.slots need i)) i
+      ≡ op_code objects home k told telling need i
+  same_code at told telling need (call_function f to) =
       let a = same_save (without_result to need) in
       let b = same_restore (without_result to need) in
       rw (a, b) refl
-  same_code need (constant t n) = refl
-  same_code need (copy to from) = refl
-  same_code need (address t o offset) = refl
-  same_code need (field ptr space offset) = refl
-  same_code need (load_at to ptr space) = refl
-  same_code need (store_at ptr space from) = refl
-  same_code need (load_object t o offset) = refl
-  same_code need (store_object o offset t) = refl
-  same_code need (binary_op op ty mode to a aty b bty) = refl
-  same_code need (unary_op op ty mode to a) = refl
-  same_code need (conversion to ty mode a aty) = refl
-  same_code need (label l) = refl
-  same_code need (jump l) = refl
-  same_code need (branch_zero t l) = refl
-  same_code need (return_from from) = refl
-  same_code need (port_in to port index width) = refl
-  same_code need (port_out from port index width) = refl
+  same_code at told telling need (constant t n) = refl
+  same_code at told telling need (copy to from) = refl
+  same_code at told telling need (address t o offset) = refl
+  same_code at told telling need (field ptr space offset) = refl
+  same_code at told telling need (load_at to ptr space) = refl
+  same_code at told telling need (store_at ptr space from) = refl
+  same_code at told telling need (load_object t o offset) = refl
+  same_code at told telling need (store_object o offset t) = refl
+  same_code at told telling need (binary_op op ty mode to a aty b bty) = refl
+  same_code at told telling need (unary_op op ty mode to a) = refl
+  same_code at told telling need (conversion to ty mode a aty) = refl
+  same_code at told telling need (label l) = refl
+  same_code at told telling need (jump l) = refl
+  same_code at told telling need (branch_zero t l) = refl
+  same_code at told telling need (return_from from) = refl
+  same_code at told telling need (port_in to port index width) = refl
+  same_code at told telling need (port_out from port index width) = refl
+
+  -- the pieces of a list of operations, of which the first one has been told so much
+  abbrev piece : (at : ℕ → Need) → Option Told → List PlainIr → ℕ → List AsmItem
+  piece at first code j =
+      operation_at objects home k (told_from first (wanted_bytes at code) code j) (told_from first (wanted_bytes at code) code (suc j)) (slice_index (wanted_bytes at code) j) (get_or (kept_rows k.slots at code) j []) (slice_get code j)
+
+  -- those behind the first operation are those of the other ones
+  piece_behind : (at : ℕ → Need) (first : Option Told) (i : PlainIr) (code : List PlainIr) (j : ℕ)
+      → piece at first (i ∷ code) (suc j) ≡ piece at (tells_next at i code) code j
+  piece_behind at first i code zero = refl
+  piece_behind at first i code (suc j) = refl
+
+  pieces_are : (at : ℕ → Need) (first : Option Told) (code : List PlainIr)
+      → chain (piece at first code) (length code) ≡ ops_code objects home k at first code
+  pieces_are at first [] = refl
+  pieces_are at first (i ∷ code) =
+      let behind = chain_same (λ j. piece at first (i ∷ code) (suc j)) (piece at (tells_next at i code) code) (length code) (λ j l. piece_behind at first i code j) in
+      chain_front (piece at first (i ∷ code)) (length code)
+      ∙ ap (λ l. piece at first (i ∷ code) 0 ++ l) (behind ∙ pieces_are at (tells_next at i code) code)
+      ∙ ap (λ l. l ++ ops_code objects home k at (tells_next at i code) code) (same_code at first (tells_next at i code) (needs at code) i)
 
 pub needed_code_is_written : NeededCodeIsWritten
-needed_code_is_written objects home k at [] = refl
-needed_code_is_written objects home k at (i ∷ code) =
-    chain_front (λ j. operation_at objects home k (slice_index (wanted_bytes at (i ∷ code)) j) (get_or (kept_rows k.slots at (i ∷ code)) j []) (slice_get (i ∷ code) j)) (length code)
-    ∙ ap (λ l. operation_code objects home k (result_wanted (needs at code) i) (need_in (kept_row k.slots (needs at code) i)) i ++ l) (needed_code_is_written objects home k at code)
-    ∙ ap (λ l. l ++ ops_code objects home k at code) (same_code objects home k (needs at code) i)
+needed_code_is_written objects home k at code = pieces_are objects home k at None code
 
 -- one piece more
 pub chain_more : (f : ℕ → List AsmItem) (j : ℕ) (first before after : List AsmItem) → before ≡ first ++ chain f j
@@ -99,13 +117,16 @@ chain_more f j first before after p q =
 
 -- one operation more
 pub one_more : (objects : List PlainObject) (home : Temp → Location) (k : Linkage) (wanted : List ℕ) (kept : List (List ℕ))
-    (code : List PlainIr) (j : ℕ) (i : PlainIr) (row : List ℕ) (first before after : List AsmItem) → slice_get code j ≡ Some i
+    (code : List PlainIr) (j : ℕ) (i : PlainIr) (told telling : Option Told) (row : List ℕ) (first before after : List AsmItem)
+    → slice_get code j ≡ Some i → told ≡ told_at wanted code j → telling ≡ told_at wanted code (j + 1)
     → get_or kept j [] ≡ row → before ≡ first ++ written_code objects home k wanted kept code j
-    → after ≡ before ++ operation_code objects home k (slice_index wanted j) (need_in row) i
+    → after ≡ before ++ operation_code objects home k told telling (slice_index wanted j) (need_in row) i
     → after ≡ first ++ written_code objects home k wanted kept code (j + 1)
-one_more objects home k wanted kept code j i row first before after is row_is p q =
-    let here : operation_at objects home k (slice_index wanted j) (get_or kept j []) (slice_get code j) ≡ operation_code objects home k (slice_index wanted j) (need_in row) i = ap (operation_at objects home k (slice_index wanted j) (get_or kept j [])) is ∙ ap (λ r. operation_code objects home k (slice_index wanted j) (need_in r) i) row_is in
-    chain_more (λ j. operation_at objects home k (slice_index wanted j) (get_or kept j []) (slice_get code j)) j first before after p (q ∙ ap (λ l. before ++ l) (sym here))
+one_more objects home k wanted kept code j i told telling row first before after is told_is telling_is row_is p q =
+    let e : j + 1 ≡ suc j = omega arith in
+    let next : telling ≡ told_at wanted code (suc j) = telling_is ∙ ap (told_at wanted code) e in
+    let here : operation_at objects home k (told_at wanted code j) (told_at wanted code (suc j)) (slice_index wanted j) (get_or kept j []) (slice_get code j) ≡ operation_code objects home k told telling (slice_index wanted j) (need_in row) i = rw (told_is, next, is, row_is) refl in
+    chain_more (λ j. operation_at objects home k (told_at wanted code j) (told_at wanted code (suc j)) (slice_index wanted j) (get_or kept j []) (slice_get code j)) j first before after p (q ∙ ap (λ l. before ++ l) (sym here))
 
 -- an item of a list
 pub item_there : {A : Type 0} (xs : List A) (k : ℕ) (x : A) → k < length xs → x ≡ get_or xs k x
@@ -113,3 +134,11 @@ pub item_there : {A : Type 0} (xs : List A) (k : ℕ) (x : A) → k < length xs 
 item_there [] k x l q = absurd (omega arith)
 item_there (z ∷ xs) zero x l q = (let g : x ≡ z = q in ap Some (sym g))
 item_there (z ∷ xs) (suc k) x l q = item_there xs k x (omega arith) q
+
+-- what an operation behind another one has been told
+pub told_here : (code : List PlainIr) (wanted : List ℕ) (k : ℕ) (i next : PlainIr) → 0 < k → slice_get code (k - 1) ≡ Some i
+    → slice_get code k ≡ Some next → tells i (Some next) (slice_index wanted k) ≡ told_at wanted code k
+told_here code wanted zero i next z p q = absurd (omega arith)
+told_here code wanted (suc k) i next z p q = let e : suc k - 1 ≡ k = omega arith in
+    let here : slice_get code k ≡ Some i = subst (λ (j : ℕ). slice_get code j ≡ Some i) e p in
+    rw (here, q) refl

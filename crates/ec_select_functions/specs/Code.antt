@@ -1,6 +1,6 @@
 -- The code of operations. The families of operations that are not named here have none yet.
 use Rattle.std.specs.Prelude.{◌≤◌, ⊤, ℕ, suc, ◌+◌, ◌-◌, ◌*◌, ◌==◌, nat_le, Bool, true, false, ◌&&◌, if◌then◌else◌}
-use Rattle.std.specs.Prelude.{min, List, [], ◌∷◌, ◌++◌, Option, Some, None}
+use Rattle.std.specs.Prelude.{min, List, [], ◌∷◌, ◌++◌, Option, Some, None, slice_get, slice_index}
 use Rattle.ec_isa.specs.declared.instructions.Instr.TheVariants.{Ret}
 use Rattle.ec_asm.specs.declared.items.AsmItem.{AsmItem}
 use Rattle.ec_asm.specs.declared.items.AsmItem.TheVariants.{Plain, Label, JumpTo, CallTo, BranchTo}
@@ -9,7 +9,7 @@ use Rattle.ec_asm.specs.declared.pieces.Location.{Location}
 use Rattle.ec_asm.specs.declared.pieces.Location.TheVariants.{InRegisters, InMemory}
 use Rattle.ec_asm.specs.declared.pieces.Operator.{Operator}
 use Rattle.ec_asm.specs.declared.pieces.Operator.TheVariants.{Sum, Difference, BitAnd, BitOr, BitXor}
-use Rattle.ec_asm.specs.Pieces.{copy_code, operate_code}
+use Rattle.ec_asm.specs.Pieces.{copy_code, operate_code, compare_code}
 use Rattle.ec_core.specs.declared.expressions.BinOp.{BinOp}
 use Rattle.ec_core.specs.declared.expressions.BinOp.TheVariants.{Add, Sub, Mul, Div, Rem, And, Or, Xor, Lt, Gt, Le, Ge}
 use Rattle.ec_core.specs.declared.expressions.BinOp.TheVariants.{Eq, Ne, Shl, Shr}
@@ -24,7 +24,7 @@ use Rattle.ec_select_bytes.specs.Values.{constant_code, test_code, extend_code}
 use Rattle.ec_select_bytes.specs.Complements.{complement_code, negation_code}
 use Rattle.ec_select_order.specs.declared.relations.Relation.{Relation}
 use Rattle.ec_select_order.specs.declared.relations.Relation.TheVariants.{Less, NotLess, Equal, NotEqual}
-use Rattle.ec_select_order.specs.Relations.{relation_code}
+use Rattle.ec_select_order.specs.Relations.{relation_code, unless_code}
 use Rattle.ec_select_products.specs.Products.{product_code}
 use Rattle.ec_select_quotients.specs.Signs.{quotient_code}
 use Rattle.ec_select_shifts.specs.declared.shifts.Direction.{Direction}
@@ -33,9 +33,10 @@ use Rattle.ec_select_shifts.specs.Shifts.{shift_code}
 use Rattle.ec_select_functions.specs.declared.families.Family.{Family}
 use Rattle.ec_select_functions.specs.declared.families.Family.TheVariants.{Combined, Compared, Multiplied, Shifted}
 use Rattle.ec_select_functions.specs.declared.families.Family.TheVariants.{Divided}
+use Rattle.ec_select_functions.specs.declared.families.Told.{Told}
 use Rattle.ec_select_functions.specs.declared.homes.Homes.{Homes}
 use Rattle.ec_select_functions.specs.Homes.{home, result_location}
-use Rattle.ec_select_functions.specs.Needs.{Need, nothing, wanted, wanted_result, without_result, needs}
+use Rattle.ec_select_functions.specs.Needs.{Need, nothing, wanted, wanted_result, without_result, either, needs}
 use Rattle.ec_select_functions.specs.Places.{object_location}
 
 abbrev pub same_location : Location → Location → Bool
@@ -143,6 +144,40 @@ unary_code op from to n = move_code from to n ++ turn_code op to n
 abbrev pub branch_code : Location → ℕ → ℕ → List AsmItem
 branch_code p bytes l = test_code p bytes ++ BranchTo true 1 l ∷ []
 
+-- ---- a comparison, and a branch on what it tells by a flag
+
+-- how operands stand, where the operator is a comparison
+abbrev pub told_of : Family → (signed : Bool) → Option Told
+told_of (Compared r exchanged) signed = Some (record { relation = r; signed = signed })
+told_of f signed = None
+
+-- the next operation branches on the result, of which nothing is needed afterwards
+abbrev pub is_only_tested : (to : Temp) → (next : Option PlainIr) → (needed : ℕ) → Bool
+is_only_tested to (Some (branch_zero t l)) needed = needed == 0 && (t.at == to.at && t.bytes == to.bytes)
+is_only_tested to next needed = false
+
+-- what an operation tells the next one by a flag, in place of its result
+abbrev pub tells : PlainIr → (next : Option PlainIr) → (needed : ℕ) → Option Told
+tells (binary_op op ty mode to a aty b bty) next needed =
+    if is_only_tested to next needed then told_of (family_of op) (is_signed aty) else None
+tells i next needed = None
+
+-- the comparison alone
+abbrev pub flag_code : Family → (a b : Location) → (bytes : ℕ) → List AsmItem
+flag_code (Compared r false) a b bytes = compare_code b a bytes
+flag_code (Compared r true) a b bytes = compare_code a b bytes
+flag_code f a b bytes = []
+
+abbrev pub operator_code : (telling : Option Told) → Family → (left right : Bool) → (a b to : Location)
+    → (bytes n : ℕ) → List AsmItem
+operator_code None f left right a b to bytes n = binary_code f left right a b to bytes n
+operator_code (Some told) f left right a b to bytes n = flag_code f a b bytes
+
+-- it branches where the operands of the comparison before it do not stand so, or where a number is 0
+abbrev pub tested_code : Option Told → Location → (bytes l : ℕ) → List AsmItem
+tested_code None p bytes l = branch_code p bytes l
+tested_code (Some told) p bytes l = unless_code told.relation told.signed l
+
 -- ---- calls
 
 -- How the code of a function is put together with that of the others: the label of items for each of its own, and the
@@ -212,26 +247,29 @@ return_code home is_main from = result_code home is_main from ++ Plain Ret ∷ [
 
 -- ---- operations
 
--- An operation, of whose result so many bytes are needed, and after a call so many of other places. A constant is taken
--- in two's complement of 16 bytes, since no temporary has more
-abbrev pub operation_code : List PlainObject → (Temp → Location) → Linkage → ℕ → Need → PlainIr → List AsmItem
-operation_code objects home k bytes kept (constant t n) = constant_code (home t) (low_bytes 16 n) bytes
-operation_code objects home k bytes kept (copy to from) = move_code (home from) (home to) bytes
-operation_code objects home k bytes kept (load_object t o offset) =
+-- An operation, of whose result so many bytes are needed, and after a call so many of other places; what the one before
+-- it told, and what it tells itself. A constant is taken in two's complement of 16 bytes, since no temporary has more
+abbrev pub operation_code : List PlainObject → (Temp → Location) → Linkage → (told telling : Option Told) → ℕ → Need
+    → PlainIr → List AsmItem
+operation_code objects home k told telling bytes kept (constant t n) = constant_code (home t) (low_bytes 16 n) bytes
+operation_code objects home k told telling bytes kept (copy to from) = move_code (home from) (home to) bytes
+operation_code objects home k told telling bytes kept (load_object t o offset) =
     copy_code (object_location objects o offset) (home t) t.bytes
-operation_code objects home k bytes kept (store_object o offset t) =
+operation_code objects home k told telling bytes kept (store_object o offset t) =
     copy_code (home t) (object_location objects o offset) t.bytes
-operation_code objects home k bytes kept (binary_op op ty mode to a aty b bty) =
-    binary_code (family_of op) (is_signed aty) (is_signed bty) (home a) (home b) (home to) a.bytes bytes
-operation_code objects home k bytes kept (unary_op op ty mode to a) = unary_code op (home a) (home to) bytes
-operation_code objects home k bytes kept (conversion to ty mode a aty) =
+operation_code objects home k told telling bytes kept (binary_op op ty mode to a aty b bty) =
+    operator_code telling (family_of op) (is_signed aty) (is_signed bty) (home a) (home b) (home to) a.bytes bytes
+operation_code objects home k told telling bytes kept (unary_op op ty mode to a) =
+    unary_code op (home a) (home to) bytes
+operation_code objects home k told telling bytes kept (conversion to ty mode a aty) =
     conversion_code (is_signed aty) (home a) (home to) a.bytes bytes
-operation_code objects home k bytes kept (label l) = Label (k.label_of l) ∷ []
-operation_code objects home k bytes kept (jump l) = JumpTo (k.label_of l) ∷ []
-operation_code objects home k bytes kept (branch_zero t l) = branch_code (home t) t.bytes (k.label_of l)
-operation_code objects home k bytes kept (call_function f to) = call_code home k f to bytes kept
-operation_code objects home k bytes kept (return_from from) = return_code home k.is_main from
-operation_code objects home k bytes kept i = []
+operation_code objects home k told telling bytes kept (label l) = Label (k.label_of l) ∷ []
+operation_code objects home k told telling bytes kept (jump l) = JumpTo (k.label_of l) ∷ []
+operation_code objects home k told telling bytes kept (branch_zero t l) =
+    tested_code told (home t) t.bytes (k.label_of l)
+operation_code objects home k told telling bytes kept (call_function f to) = call_code home k f to bytes kept
+operation_code objects home k told telling bytes kept (return_from from) = return_code home k.is_main from
+operation_code objects home k told telling bytes kept i = []
 
 -- the bytes that are needed of an operation's result
 abbrev pub result_wanted : Need → PlainIr → ℕ
@@ -243,19 +281,37 @@ result_wanted need (conversion to ty mode a aty) = wanted need to
 result_wanted need (call_function f to) = wanted_result need to
 result_wanted need i = 0
 
+-- the bytes that are needed behind an operation: of its result, or of what a branch has tested
+abbrev pub wanted_behind : (ℕ → Need) → Need → PlainIr → ℕ
+wanted_behind at need (branch_zero t l) = wanted (either need (at l)) t
+wanted_behind at need i = result_wanted need i
+
+abbrev pub wanted_bytes : (ℕ → Need) → List PlainIr → List ℕ
+wanted_bytes at [] = []
+wanted_bytes at (i ∷ code) = wanted_behind at (needs at code) i ∷ wanted_bytes at code
+
 -- what a call keeps
 abbrev pub kept_need : Need → PlainIr → Need
 kept_need need (call_function f to) = without_result to need
 kept_need need i = nothing
 
 -- an operation, where so much is needed after it
-abbrev pub op_code : List PlainObject → (Temp → Location) → Linkage → Need → PlainIr → List AsmItem
-op_code objects home k need i = operation_code objects home k (result_wanted need i) (kept_need need i) i
+abbrev pub op_code : List PlainObject → (Temp → Location) → Linkage → (told telling : Option Told) → Need → PlainIr
+    → List AsmItem
+op_code objects home k told telling need i =
+    operation_code objects home k told telling (result_wanted need i) (kept_need need i) i
 
-abbrev pub ops_code : List PlainObject → (Temp → Location) → Linkage → (ℕ → Need) → List PlainIr → List AsmItem
-ops_code objects home k at [] = []
-ops_code objects home k at (i ∷ code) = op_code objects home k (needs at code) i ++ ops_code objects home k at code
+-- what an operation tells those behind it
+abbrev pub tells_next : (ℕ → Need) → PlainIr → List PlainIr → Option Told
+tells_next at i code = tells i (slice_get code 0) (slice_index (wanted_bytes at code) 0)
+
+abbrev pub ops_code : List PlainObject → (Temp → Location) → Linkage → (ℕ → Need) → (told : Option Told)
+    → List PlainIr → List AsmItem
+ops_code objects home k at told [] = []
+ops_code objects home k at told (i ∷ code) =
+    op_code objects home k told (tells_next at i code) (needs at code) i
+    ++ ops_code objects home k at (tells_next at i code) code
 
 -- the code of a function, which begins with its label
 abbrev pub function_code : List PlainObject → Linkage → (f : ℕ) → (ℕ → Need) → List PlainIr → List AsmItem
-function_code objects k f at code = Label (k.entry_of f) ∷ ops_code objects (home k.homes) k at code
+function_code objects k f at code = Label (k.entry_of f) ∷ ops_code objects (home k.homes) k at None code

@@ -1,6 +1,6 @@
 -- The code of a list of operations, for each of which numbers tell how many bytes are wanted.
 use Rattle.std.specs.Prelude.{◌≡◌, ℕ, zero, suc, List, [], ◌∷◌, Option, Some, None, slice_get, slice_index, get_or}
-use Rattle.std.specs.Prelude.{length}
+use Rattle.std.specs.Prelude.{option_and_then, length}
 use Rattle.ec_asm.specs.declared.items.AsmItem.{AsmItem}
 use Rattle.ec_asm.specs.declared.items.AsmItem.TheVariants.{Label}
 use Rattle.ec_asm.specs.declared.pieces.Location.{Location}
@@ -9,7 +9,8 @@ use Rattle.ec_core.specs.Plain.{PlainObject}
 use Rattle.ec_ir.specs.declared.operations.Temp.{Temp}
 use Rattle.ec_ir.specs.Operations.{PlainIr, call_function}
 use Rattle.ec_select_functions.specs.declared.calls.Linking.{Linking}
-use Rattle.ec_select_functions.specs.Code.{Linkage, register_places, operation_code, result_wanted, ops_code}
+use Rattle.ec_select_functions.specs.declared.families.Told.{Told}
+use Rattle.ec_select_functions.specs.Code.{Linkage, register_places, operation_code, tells, wanted_bytes, ops_code}
 use Rattle.ec_select_functions.specs.Code.{function_code}
 use Rattle.ec_select_functions.specs.Emitted.{CanBeEmitted}
 use Rattle.ec_select_functions.specs.Homes.{home}
@@ -19,16 +20,29 @@ use Rattle.ec_select_functions.specs.Needs.{Need, without_result, needs}
 abbrev pub need_in : List ℕ → Need
 need_in row place = get_or row place 0
 
-abbrev pub operation_at : List PlainObject → (Temp → Location) → Linkage → (wanted : ℕ) → (row : List ℕ)
-    → Option PlainIr → List AsmItem
-operation_at objects home k wanted row None = []
-operation_at objects home k wanted row (Some i) = operation_code objects home k wanted (need_in row) i
+-- what operation j has been told, where the first one has been told so much
+abbrev pub told_from : (first : Option Told) → (wanted : List ℕ) → List PlainIr → ℕ → Option Told
+told_from first wanted code zero = first
+told_from first wanted code (suc j) =
+    option_and_then (λ i. tells i (slice_get code (suc j)) (slice_index wanted (suc j))) (slice_get code j)
 
--- the code of the first n operations: `wanted` has for each the bytes of its result, and `kept` what a call keeps
+-- no operation stands before the first one
+abbrev pub told_at : (wanted : List ℕ) → List PlainIr → ℕ → Option Told
+told_at wanted code j = told_from None wanted code j
+
+abbrev pub operation_at : List PlainObject → (Temp → Location) → Linkage → (told telling : Option Told)
+    → (wanted : ℕ) → (row : List ℕ) → Option PlainIr → List AsmItem
+operation_at objects home k told telling wanted row None = []
+operation_at objects home k told telling wanted row (Some i) =
+    operation_code objects home k told telling wanted (need_in row) i
+
+-- the code of the first n operations: `wanted` has for each the bytes that are needed behind it, and `kept` what a
+-- call keeps
 abbrev pub written_code : List PlainObject → (Temp → Location) → Linkage → (wanted : List ℕ) → (kept : List (List ℕ))
     → List PlainIr → ℕ → List AsmItem
 written_code objects home k wanted kept code n =
-    chain (λ j. operation_at objects home k (slice_index wanted j) (get_or kept j []) (slice_get code j)) n
+    chain (λ j. operation_at objects home k (told_at wanted code j) (told_at wanted code (suc j))
+    (slice_index wanted j) (get_or kept j []) (slice_get code j)) n
 
 -- that of a function, which begins with its label
 abbrev pub written_function : List PlainObject → Linkage → (f : ℕ) → (wanted : List ℕ) → (kept : List (List ℕ))
@@ -39,11 +53,6 @@ written_function objects k f wanted kept code =
 abbrev pub CanBeWritten : List PlainObject → Linking → List ℕ → List PlainIr → Type 0
 CanBeWritten objects k wanted code =
     (j : ℕ) (i : PlainIr) → slice_get code j ≡ Some i → CanBeEmitted objects k (slice_index wanted j) i
-
--- for each operation the bytes of its result that are needed
-abbrev pub wanted_bytes : (ℕ → Need) → List PlainIr → List ℕ
-wanted_bytes at [] = []
-wanted_bytes at (i ∷ code) = result_wanted (needs at code) i ∷ wanted_bytes at code
 
 -- what is needed of so many places, from a first one on
 abbrev pub row_from : (count place : ℕ) → Need → List ℕ
@@ -64,7 +73,7 @@ abbrev pub NeededCodeIsWritten : Type 0
 NeededCodeIsWritten =
     (objects : List PlainObject) (home : Temp → Location) (k : Linkage) (at : ℕ → Need) (code : List PlainIr)
     → written_code objects home k (wanted_bytes at code) (kept_rows k.slots at code) code (length code)
-    ≡ ops_code objects home k at code
+    ≡ ops_code objects home k at None code
 
 abbrev pub NeededFunctionsAreWritten : Type 0
 NeededFunctionsAreWritten =

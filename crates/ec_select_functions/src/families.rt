@@ -7,15 +7,15 @@ ghost use Rattle.ec_select_functions.specs.Code.{reversed_code, combined_code};
 ghost use Rattle.ec_select_functions.specs.Code.{conversion_code, turn_code, unary_code, multiplied_code};
 ghost use Rattle.ec_select_functions.specs.Code.{shift_of, turned_code, shifted_code, long_code, divided_code};
 ghost use Rattle.ec_select_functions.specs.Emitted.{BinaryHasBytes};
-ghost use Rattle.ec_select_functions.specs.Code.{branch_code};
+ghost use Rattle.ec_select_functions.specs.Code.{branch_code, told_of, flag_code, operator_code, tested_code};
 ghost use Rattle.ec_select_functions.specs.Homes.{home};
 
 use crate::homes::{Homes, home};
-use ec_asm::{AsmItem, Location, Operator, copy, operate};
+use ec_asm::{AsmItem, Location, Operator, compare, copy, operate};
 use ec_core::{BinOp, UnOp};
 use ec_ir::Temp;
 use ec_select_bytes::{complement, extend, negate, test};
-use ec_select_order::{Relation, relate};
+use ec_select_order::{Relation, branch_unless, relate};
 use ec_select_products::{Factor, multiply};
 use ec_select_quotients::{Division, quotient};
 use ec_select_shifts::{Direction, shift};
@@ -74,7 +74,7 @@ pub enum Family {
     Divided { remainder: bool },
 }
 
-fn family_of(op: BinOp) -> Family
+pub(crate) fn family_of(op: BinOp) -> Family
     ensures { result ≡ family_of op }
 {
     let (relation, exchanged) = match op {
@@ -449,4 +449,86 @@ pub fn branch(out: &mut Seq<AsmItem>, at: Location, bytes: u8, label: u64) -> Re
         flag: 1,
         label,
     }])
+}
+
+/// What a comparison tells by a flag: how its operands stand, in two's complement or without signs.
+#[derive(Clone, Copy)]
+pub struct Told {
+    pub relation: Relation,
+    pub signed: bool,
+}
+
+/// What an operator tells by a flag, where it is a comparison.
+pub(crate) fn told_of(family: Family, signed: bool) -> Option<Told>
+    ensures { result ≡ told_of family signed }
+{
+    match family {
+        Family::Compared { relation, .. } => Some(Told { relation, signed }),
+        _ => None,
+    }
+}
+
+/// Appends code that leaves in a flag what a comparison tells. Where memory runs out, a part of the code is appended.
+#[tactic(auto, using(crate::proofs::Emits::fewer_bytes))]
+fn compare_only(
+    out: &mut Seq<AsmItem>,
+    homes: Homes,
+    op: BinOp,
+    of: BinaryOperation,
+    wanted: u8,
+) -> Result<(), NoMemory>
+    requires { BinaryHasBytes (family_of op) wanted of.to of.a of.b }
+    ensures ok { OnOk result (out.new.items ≡ out.old.items
+        ++ flag_code (family_of op) (home homes of.a) (home homes of.b) of.a.bytes) }
+    ensures err { OnErr result (BeginWith out.old.items out.new.items) }
+{
+    let (a, b) = (home(homes, of.a), home(homes, of.b));
+    match family_of(op) {
+        Family::Compared { exchanged, .. } => {
+            let (left, right) = if exchanged { (b, a) } else { (a, b) };
+            compare(out, right, left, of.a.bytes)
+        }
+        _ => Ok(()),
+    }
+}
+
+/// Appends the code of a binary operator, or where it tells something by a flag, of the comparison alone. Where memory
+/// runs out, a part of the code is appended.
+pub fn operator(
+    out: &mut Seq<AsmItem>,
+    homes: Homes,
+    telling: Option<Told>,
+    op: BinOp,
+    of: BinaryOperation,
+    wanted: u8,
+) -> Result<(), NoMemory>
+    requires { BinaryHasBytes (family_of op) wanted of.to of.a of.b }
+    ensures ok { OnOk result (out.new.items ≡ out.old.items
+        ++ operator_code telling (family_of op) of.left_signed of.right_signed (home homes of.a) (home homes of.b)
+        (home homes of.to) of.a.bytes wanted) }
+    ensures err { OnErr result (BeginWith out.old.items out.new.items) }
+{
+    match telling {
+        None => binary(out, homes, op, of, wanted),
+        Some(_) => compare_only(out, homes, op, of, wanted),
+    }
+}
+
+/// Appends code that jumps to a label: where the operands of the comparison before it do not stand so, or where all
+/// bytes of a number are 0. Where memory runs out, a part of the code is appended.
+pub fn branch_on(
+    out: &mut Seq<AsmItem>,
+    told: Option<Told>,
+    at: Location,
+    bytes: u8,
+    label: u64,
+) -> Result<(), NoMemory>
+    requires { HasBytes at bytes }
+    ensures ok { OnOk result (out.new.items ≡ out.old.items ++ tested_code told at bytes label) }
+    ensures err { OnErr result (BeginWith out.old.items out.new.items) }
+{
+    match told {
+        Some(t) => branch_unless(out, t.relation, t.signed, label),
+        None => branch(out, at, bytes, label),
+    }
 }

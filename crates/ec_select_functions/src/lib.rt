@@ -14,12 +14,12 @@ mod operations;
 
 pub use calls::{Linking, call, finish};
 pub use families::{
-    BinaryOperation, Family, Operands, binary, branch, combine, convert, divide_numbers,
-    move_number, multiply_bytes, shift_by_count, tell, unary,
+    BinaryOperation, Family, Operands, Told, binary, branch, branch_on, combine, convert,
+    divide_numbers, move_number, multiply_bytes, operator, shift_by_count, tell, unary,
 };
 pub use homes::{Homes, home};
 pub use laws::{
     code_follows_operations, homes_are_laid_out, needed_code_is_written,
     needed_functions_are_written,
 };
-pub use operations::{all_operations, function, operation};
+pub use operations::{Flags, all_operations, function, operation};

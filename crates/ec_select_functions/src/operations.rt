@@ -1,24 +1,34 @@
 //! The code of operations, one after another.
-ghost use Rattle.std.specs.Prelude.{◌≡◌, ◌≤◌, ◌++◌, ◌+◌, ◌^◌, ◌<◌, OnOk, OnErr, map, length};
+ghost use Rattle.std.specs.Prelude.{◌≡◌, ◌≤◌, ◌++◌, ◌+◌, ◌^◌, ◌<◌, OnOk, OnErr, Some, map, length};
 ghost use Rattle.ec_runs.specs.Behaviours.{BeginWith};
 ghost use Rattle.ec_asm.specs.Pieces.{HasBytes};
 ghost use Rattle.ec_core.specs.Plain.{plain_object, plain_type};
 ghost use Rattle.ec_ir.specs.Operations.{plain_ir};
 ghost use Rattle.ec_ir.specs.Temporaries.{low_bytes};
-ghost use Rattle.ec_select_functions.specs.Code.{operation_code, is_signed};
+ghost use Rattle.ec_select_functions.specs.Code.{operation_code, is_signed, is_only_tested, tells};
 ghost use Rattle.ec_select_functions.specs.Emitted.{linkage, IsLabel, CanBeEmitted};
 ghost use Rattle.ec_select_functions.specs.Homes.{home};
 ghost use Rattle.ec_select_functions.specs.Places.{object_location};
-ghost use Rattle.ec_select_functions.specs.Written.{need_in, CanBeWritten, written_code, written_function};
+ghost use Rattle.ec_select_functions.specs.Written.{need_in, CanBeWritten, told_at, written_code};
+ghost use Rattle.ec_select_functions.specs.Written.{written_function};
 
 use crate::calls::{Linking, call, finish};
-use crate::families::{BinaryOperation, binary, branch, convert, move_number, unary};
+use crate::families::{
+    BinaryOperation, Told, branch_on, convert, family_of, move_number, operator, told_of, unary,
+};
 use crate::homes::home;
 use ec_asm::{AsmItem, Location, copy};
 use ec_core::{CType, Obj, Storage};
 use ec_ir::{Ir, Temp};
 use ec_select_bytes::constant;
 use ec_space::{NoMemory, Seq};
+
+/// What an operation has been told by the one before it, and what it tells the next one.
+#[derive(Clone, Copy)]
+pub struct Flags {
+    pub told: Option<Told>,
+    pub telling: Option<Told>,
+}
 
 /// A number in two's complement of 16 bytes.
 fn bits_of(n: i128) -> u128
@@ -51,22 +61,60 @@ fn object_location(objects: &[Obj], o: u16, offset: u32, bytes: u8) -> Location
     }
 }
 
+/// Whether the next operation branches on the result, of which nothing is needed afterwards.
+fn is_only_tested(to: Temp, next: &Ir, needed: u8) -> bool
+    ensures { result ≡ is_only_tested to (Some (plain_ir next.now)) needed }
+{
+    match next {
+        Ir::BranchZero(t, _) => needed == 0 && t.at == to.at && t.bytes == to.bytes,
+        _ => false,
+    }
+}
+
+/// What an operation tells the next one by a flag, in place of its result.
+fn tells(i: &Ir, next: &Ir, needed: u8) -> Option<Told>
+    ensures { result ≡ tells (plain_ir i.now) (Some (plain_ir next.now)) needed }
+{
+    match i {
+        Ir::Bin { op, to, aty, .. } => {
+            if is_only_tested(*to, next, needed) {
+                told_of(family_of(*op), is_signed(aty))
+            } else {
+                None
+            }
+        }
+        _ => None,
+    }
+}
+
+/// What the operation at a place has been told by the one before it.
+fn told_at(wanted: &[u8], code: &[Ir], k: usize) -> Option<Told>
+    requires { length code.now ≡ length wanted.now }
+    ensures { result ≡ told_at wanted.now (map plain_ir code.now) k }
+{
+    if k == 0 || k >= code.len() {
+        return None;
+    }
+    tells(&code[k - 1], &code[k], wanted[k])
+}
+
 /// Appends the code of an operation of a function that has some. Of its result so many bytes are wanted, and no more
-/// than its temporary has; after a call so many of the first places, as a row tells. Where memory runs out, a part of
-/// the code is appended.
+/// than its temporary has; after a call so many of the first places, as a row tells. It has been told something by the
+/// operation before it, and is telling the next one something. Where memory runs out, a part of the code is appended.
 #[tactic(auto, using(crate::proofs::Emits::fewer_bytes))]
 pub fn operation(
     out: &mut Seq<AsmItem>,
     objects: &[Obj],
     of: Linking,
+    flags: Flags,
     wanted: u8,
     kept: &[u8],
     i: &Ir,
 ) -> Result<(), NoMemory>
     requires { CanBeEmitted (map plain_object objects.now) of wanted (plain_ir i.now) }
     ensures ok { OnOk result (out.new.items ≡ out.old.items
-        ++ operation_code (map plain_object objects.now) (home of.homes) (linkage of) wanted (need_in kept.now)
-        (plain_ir i.now)) }
+        ++ operation_code (map plain_object objects.now) (home of.homes) (linkage of) flags.told flags.telling wanted
+        (need_in kept.now) (plain_ir i.now)) }
     ensures err { OnErr result (BeginWith out.old.items out.new.items) }
 {
     let homes = of.homes;
@@ -101,7 +149,7 @@ pub fn operation(
                 left_signed: is_signed(aty),
                 right_signed: is_signed(bty),
             };
-            binary(out, homes, *op, binary_operation, wanted)
+            operator(out, homes, flags.telling, *op, binary_operation, wanted)
         }
         Ir::Un { op, to, a, .. } => unary(out, *op, home(homes, *a), home(homes, *to), wanted),
         Ir::Conv { to, a, aty, .. } => convert(
@@ -114,16 +162,22 @@ pub fn operation(
         ),
         Ir::Label(l) => out.extend_from_slice(&[AsmItem::Label(of.first_label + *l)]),
         Ir::Jump(l) => out.extend_from_slice(&[AsmItem::JumpTo(of.first_label + *l)]),
-        Ir::BranchZero(t, l) => branch(out, home(homes, *t), t.bytes, of.first_label + *l),
+        Ir::BranchZero(t, l) => branch_on(
+            out,
+            flags.told,
+            home(homes, *t),
+            t.bytes,
+            of.first_label + *l,
+        ),
         Ir::Call(f, to) => call(out, of, *f, *to, wanted, kept),
         Ir::Return(from) => finish(out, homes, of.is_main, *from),
         _ => Ok(()),
     }
 }
 
-/// Appends the code of a function's operations, one after another: of the result of each so many bytes are wanted as
-/// the number at its place tells, and a call keeps what the row at its place tells. Where memory runs out, a part of
-/// the code is appended.
+/// Appends the code of a function's operations, one after another: behind each so many bytes are needed as the number
+/// at its place tells, of its result or of what it has tested, and a call keeps what the row at its place tells. Where
+/// memory runs out, a part of the code is appended.
 pub fn all_operations(
     out: &mut Seq<AsmItem>,
     objects: &[Obj],
@@ -141,7 +195,18 @@ pub fn all_operations(
     ensures err { OnErr result (BeginWith out.old.items out.new.items) }
 {
     for k in 0..code.len() {
-        operation(out, objects, of, wanted[k], kept[k].as_slice(), &code[k])?;
+        let told = told_at(wanted, code, k);
+        let telling = told_at(wanted, code, k + 1);
+        let flags = Flags { told, telling };
+        operation(
+            out,
+            objects,
+            of,
+            flags,
+            wanted[k],
+            kept[k].as_slice(),
+            &code[k],
+        )?;
     }
     Ok(())
 }

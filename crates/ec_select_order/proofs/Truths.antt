@@ -96,7 +96,8 @@ is_hit NotLess signed n x z = refl
 is_hit Equal signed n x z = refl
 is_hit NotEqual signed n x z = refl
 
-flag_is : (r : Relation) (signed : Bool) → is_flag (flag_of r signed) ≡ true
+-- a branch can look at it
+pub flag_is : (r : Relation) (signed : Bool) → is_flag (flag_of r signed) ≡ true
 flag_is Less true = refl
 flag_is Less false = refl
 flag_is NotLess true = refl
@@ -114,6 +115,46 @@ flag_tells NotLess true e left right n a b v sa sb h = comparisons_tell_signed e
 flag_tells NotLess false e left right n a b v sa sb h = comparisons_tell_less e right left n b a v sb sa h
 flag_tells Equal signed e left right n a b v sa sb h = comparisons_tell_equal e right left n b a v sb sa h
 flag_tells NotEqual signed e left right n a b v sa sb h = comparisons_tell_equal e right left n b a v sb sa h
+
+not_back : (b : Bool) → not b ≡ false → b ≡ true
+not_back true q = refl
+not_back false q = absurd (cc)
+
+not_over : (b : Bool) → not b ≡ true → b ≡ false
+not_over true q = absurd (cc)
+not_over false q = refl
+
+-- where the relation does not hold, its flag is the other way
+pub fails_in_flag : (r : Relation) (signed : Bool) (e : Env) (left right : Location) (n a b : ℕ) (v : View)
+    → StandsFrom e left (suc n) a Own → StandsFrom e right (suc n) b Own → HoldsNumbers v
+    → stand_so r signed (suc n) (value v.at a (suc n)) (value v.at b (suc n)) ≡ false
+    → flag_at (block e (compare_code right left (suc n)) v).flags (flag_of r signed) ≡ from_bool (not (is_set r))
+fails_in_flag Less signed e left right n a b v sa sb h q =
+    flag_tells Less signed e left right n a b v sa sb h ∙ ap from_bool q
+fails_in_flag NotLess signed e left right n a b v sa sb h q =
+    flag_tells NotLess signed e left right n a b v sa sb h
+    ∙ ap from_bool (not_back (is_less signed (suc n) (value v.at a (suc n)) (value v.at b (suc n))) q)
+fails_in_flag Equal signed e left right n a b v sa sb h q =
+    flag_tells Equal signed e left right n a b v sa sb h ∙ ap from_bool q
+fails_in_flag NotEqual signed e left right n a b v sa sb h q =
+    flag_tells NotEqual signed e left right n a b v sa sb h
+    ∙ ap from_bool (not_back (value v.at a (suc n) == value v.at b (suc n)) q)
+
+-- and where it holds, as it is to be
+pub holds_in_flag : (r : Relation) (signed : Bool) (e : Env) (left right : Location) (n a b : ℕ) (v : View)
+    → StandsFrom e left (suc n) a Own → StandsFrom e right (suc n) b Own → HoldsNumbers v
+    → stand_so r signed (suc n) (value v.at a (suc n)) (value v.at b (suc n)) ≡ true
+    → flag_at (block e (compare_code right left (suc n)) v).flags (flag_of r signed) ≡ from_bool (is_set r)
+holds_in_flag Less signed e left right n a b v sa sb h q =
+    flag_tells Less signed e left right n a b v sa sb h ∙ ap from_bool q
+holds_in_flag NotLess signed e left right n a b v sa sb h q =
+    flag_tells NotLess signed e left right n a b v sa sb h
+    ∙ ap from_bool (not_over (is_less signed (suc n) (value v.at a (suc n)) (value v.at b (suc n))) q)
+holds_in_flag Equal signed e left right n a b v sa sb h q =
+    flag_tells Equal signed e left right n a b v sa sb h ∙ ap from_bool q
+holds_in_flag NotEqual signed e left right n a b v sa sb h q =
+    flag_tells NotEqual signed e left right n a b v sa sb h
+    ∙ ap from_bool (not_over (value v.at a (suc n) == value v.at b (suc n)) q)
 
 pub relations_are_told : RelationsAreTold
 relations_are_told r signed e left right n a b pc end v sa sb h stands =

@@ -2,7 +2,7 @@
 use Rattle.std.specs.Prelude.{ℕ, ◌==◌, nat_lt, Bool, true, false, not, pos, List, [], ◌∷◌, ◌++◌}
 use Rattle.ec_isa.specs.declared.instructions.Instr.TheVariants.{Ldi}
 use Rattle.ec_asm.specs.declared.items.AsmItem.{AsmItem}
-use Rattle.ec_asm.specs.declared.items.AsmItem.TheVariants.{Plain}
+use Rattle.ec_asm.specs.declared.items.AsmItem.TheVariants.{Plain, BranchTo}
 use Rattle.ec_asm.specs.declared.pieces.Location.{Location}
 use Rattle.ec_asm.specs.Items.{branch_if}
 use Rattle.ec_asm.specs.Pieces.{compare_code}
@@ -48,3 +48,7 @@ truth_code r signed =
 
 abbrev pub relation_code : Relation → Bool → (left right : Location) → ℕ → List AsmItem
 relation_code r signed left right n = compare_code right left n ++ truth_code r signed
+
+-- behind a comparison: a branch that is taken where the relation does not hold
+abbrev pub unless_code : Relation → Bool → ℕ → List AsmItem
+unless_code r signed l = BranchTo (not (is_set r)) (flag_of r signed) l ∷ []

@@ -6,4 +6,4 @@
 pub mod laws;
 mod relations;
 
-pub use relations::{Relation, relate};
+pub use relations::{Relation, branch_unless, relate};

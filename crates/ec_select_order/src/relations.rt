@@ -3,7 +3,7 @@ ghost use Rattle.std.specs.Prelude.{◌≡◌, ◌++◌, ◌∷◌, [], pos, OnO
 ghost use Rattle.ec_runs.specs.Behaviours.{BeginWith};
 ghost use Rattle.ec_asm.specs.Items.{branch_if};
 ghost use Rattle.ec_asm.specs.Pieces.{HasBytes};
-ghost use Rattle.ec_select_order.specs.Relations.{flag_of, is_set, truth_code, relation_code};
+ghost use Rattle.ec_select_order.specs.Relations.{flag_of, is_set, truth_code, relation_code, unless_code};
 
 use ec_asm::{AsmItem, Location, compare};
 use ec_isa::Instr;
@@ -76,4 +76,21 @@ pub fn relate(
 {
     compare(out, right, left, bytes)?;
     truth(out, relation, signed)
+}
+
+/// Appends a branch to a label, which behind a comparison is taken where the relation does not hold.
+pub fn branch_unless(
+    out: &mut Seq<AsmItem>,
+    relation: Relation,
+    signed: bool,
+    label: u64,
+) -> Result<(), NoMemory>
+    ensures ok { OnOk result (out.new.items ≡ out.old.items ++ unless_code relation signed label) }
+    ensures err { OnErr result (out.new.items ≡ out.old.items) }
+{
+    out.extend_from_slice(&[AsmItem::BranchTo {
+        set: !is_set(relation),
+        flag: flag_of(relation, signed),
+        label,
+    }])
 }

@@ -15,8 +15,8 @@ has_places c =
     c.requires.places in
     subst (λ (s : ℕ). HasPlaces s (plain_ir c.index-code-k.result)) e p.0
 
-pub result_wanted-requires : goal.result_wanted-requires
-result_wanted-requires c = has_places (goal.at.result_wanted-requires c).After-index-code-k
+pub wanted_behind-requires : goal.wanted_behind-requires
+wanted_behind-requires c = has_places (goal.at.wanted_behind-requires c).After-index-code-k
 
 pub before-requires : goal.before-requires
 before-requires c = has_places (goal.at.before-requires c).After-index-code-k
@@ -34,6 +34,6 @@ loop-k-preserved c =
           (plain_ir c.index-code-k.result) c.loop-k.need c.before-in-loop-k.new.need p is c.loop-k.invariant.need
           c.before-in-loop-k.ensures);
       written = wanted_more (length c.loop-k.need) (needs_of c.args.table.now) code rest
-          (plain_ir c.index-code-k.result) c.loop-k.need c.loop-k.wanted c.loop-k.k c.result_wanted.result p is c.loop-k.invariant.need
-          c.result_wanted.ensures c.loop-k-test.true (omega arith) c.loop-k.invariant.written;
+          (plain_ir c.index-code-k.result) c.loop-k.need c.loop-k.wanted c.loop-k.k c.wanted_behind.result p is c.loop-k.invariant.need
+          c.wanted_behind.ensures c.loop-k-test.true (omega arith) c.loop-k.invariant.written;
     }

@@ -8,8 +8,9 @@ use Rattle.ec_ir.specs.declared.operations.Ir.{Ir}
 use Rattle.ec_ir.specs.Operations.{plain_ir, plain_ir_function, plain_ir_program}
 use Rattle.ec_live.specs.Tables.{needs_of}
 use Rattle.ec_select_functions.specs.declared.calls.Linking.{Linking}
+use Rattle.ec_select_functions.specs.Code.{wanted_bytes}
 use Rattle.ec_select_functions.specs.Emitted.{linkage}
-use Rattle.ec_select_functions.specs.Written.{CanBeWritten, wanted_bytes, kept_rows, written_function}
+use Rattle.ec_select_functions.specs.Written.{CanBeWritten, kept_rows, written_function}
 use Rattle.ec_select.specs.Labels.{label_count}
 use Rattle.ec_select.proofs.Added.{added}
 use Rattle.ec_select.proofs.Emits.{wanted_length, kept_length, all_emitted}
