@@ -1,1 +1,2 @@
 pub mod Suited
+pub mod InData

@@ -1,9 +1,10 @@
 -- The operations of a compiled program have code.
-use Rattle.std.specs.Prelude.{◌≡◌}
+use Rattle.std.specs.Prelude.{◌≡◌, Bool, true, false}
 use Rattle.std.specs.List.{AllByRecursion}
 use Rattle.ec_iohw.specs.declared.table.IoTable.{IoTable}
-use Rattle.ec_space.specs.declared.space.Bank.TheVariants.{Data as DataBank}
-use Rattle.ec_core.specs.Plain.{PlainObject, PlainProgram}
+use Rattle.ec_space.specs.declared.space.Bank.{Bank}
+use Rattle.ec_space.specs.declared.space.Bank.TheVariants.{Flash as FlashBank, Data as DataBank}
+use Rattle.ec_core.specs.Plain.{PlainType, integer, PlainObject, PlainProgram}
 use Rattle.ec_core.specs.Valid.{Valid}
 use Rattle.ec_ir.specs.Integers.{IsIntegerType}
 use Rattle.ec_ir.specs.Operations.{PlainIrProgram}
@@ -21,6 +22,14 @@ IsInDataIfInteger d = IsIntegerType d.ty → d.home ≡ DataBank
 
 abbrev pub IntegersAreInData : PlainProgram → Type 0
 IntegersAreInData program = AllByRecursion IsInDataIfInteger program.objects
+
+-- the same of one object as a test
+abbrev pub is_in_data_by : PlainType → Bank → Bool
+is_in_data_by (integer signed bytes) FlashBank = false
+is_in_data_by ty home = true
+
+abbrev pub is_in_data_if_integer : PlainObject → Bool
+is_in_data_if_integer d = is_in_data_by d.ty d.home
 
 -- the operations have the forms that code stands for, so all of them have code, and put their results in place
 pub record HasCodeInPlace (ir : PlainIrProgram) : Type 0 where

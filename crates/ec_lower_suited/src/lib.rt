@@ -2,5 +2,7 @@
 #![tactic(auto)]
 
 mod laws;
+mod objects;
 
 pub use laws::lowered_programs_have_code;
+pub use objects::integers_are_in_data;

@@ -1,0 +1,10 @@
+use Rattle.std.proofs.Common.{◌≡◌, ℕ, List, drop, map}
+use Rattle.ec_grammar.specs.Views.{view_next_declarator}
+use Rattle.ec_later.specs.Places.{or_first, in_list}
+use Rattle.ec_later.specs.Laters.{in_next_declarator}
+use Rattle.ec_later.proofs.declarations.in_next_declarators.Given as goal
+
+abbrev pub invariant-loop-d : goal.invariant-loop-d
+invariant-loop-d l =
+    (rest : List ℕ) → or_first l.first (in_list in_next_declarator (map view_next_declarator (drop l.d-index l.more)) rest)
+    ≡ or_first l.fn.found (in_list in_next_declarator (map view_next_declarator l.more) rest)

@@ -1,0 +1,5 @@
+pub mod Words
+pub mod Places
+pub mod Laters
+pub mod First
+pub mod Laws

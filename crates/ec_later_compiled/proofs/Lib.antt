@@ -1,0 +1,10 @@
+pub mod Choices
+pub mod Operators
+pub mod Types
+pub mod Names
+pub mod Expressions
+pub mod Declared
+pub mod Locals
+pub mod Statements
+pub mod FileScope
+pub mod Units
