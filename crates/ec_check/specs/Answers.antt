@@ -1,9 +1,10 @@
 -- What the answers of `check` say.
 use Rattle.std.specs.Prelude.{ℕ, ◌≡◌, ◌<◌, ◌≤◌, ⊤, Option, Some, None, option_map, IfSome, IsSomeAnd, Result, Ok, Err}
-use Rattle.std.specs.Prelude.{List, length, slice_get}
+use Rattle.std.specs.Prelude.{List, length, map, slice_get}
 use Rattle.ec_grammar.specs.Trees as t
 use Rattle.ec_iohw.specs.declared.table.IoTable.{IoTable}
-use Rattle.ec_core.specs.Plain.{PlainProgram, plain_program}
+use Rattle.ec_core.specs.Layout.{AreStructs}
+use Rattle.ec_core.specs.Plain.{PlainProgram, plain_program, plain_struct}
 use Rattle.ec_core.specs.declared.programs.Program.{Program}
 use Rattle.ec_names.specs.Counts.{most_objects, most_functions, objects_declared, functions_defined}
 use Rattle.ec_recursion.specs.Recursion.{IsFirstRecursive, NothingRecurs}
@@ -63,6 +64,11 @@ Walks ds io us (Err f) = first_fault ds io 0 us nothing_declared ≡ Some (plain
 abbrev pub HasFewFunctions : Result (Option Program) unit_fault_code.UnitFault → Type 0
 HasFewFunctions (Ok p) = IfSome p (λ p. length p.funcs.items ≤ 65_536)
 HasFewFunctions (Err f) = ⊤
+
+-- the structs of a program have layouts
+abbrev pub HasStructs : Result (Option Program) unit_fault_code.UnitFault → Type 0
+HasStructs (Ok p) = IfSome p (λ p. AreStructs (map plain_struct p.structs.items))
+HasStructs (Err f) = ⊤
 
 -- what is told of recursion
 abbrev pub Recurs : PlainProgram → Result Program CheckStop → Type 0

@@ -1,14 +1,20 @@
 //! The typed program of all units, or why there is none.
 ghost use Rattle.std.specs.Prelude.{◌≡◌, ◌≤◌, None, IfOk, IfSome, is_some, option_map, map, length};
 ghost use Rattle.ec_iohw.specs.Valid.{ValidIo};
-ghost use Rattle.ec_core.specs.Plain.{plain_program};
+ghost use Rattle.ec_core.specs.Layout.{AreStructs};
+ghost use Rattle.ec_core.specs.Plain.{plain_program, plain_struct};
+ghost use Rattle.ec_core.specs.Valid.{Valid};
 ghost use Rattle.ec_grammar.specs.Views.{view_tree};
 ghost use Rattle.ec_names.specs.Definitions.{plain_definitions};
 ghost use Rattle.ec_file_scope.specs.States.{plain_state, IsSoundState};
-ghost use Rattle.ec_check.specs.Answers.{Walks, HasFewFunctions, Recurs, Checked};
+ghost use Rattle.ec_check.specs.Answers.{Walks, HasFewFunctions, HasStructs, Recurs, Checked};
 ghost use Rattle.ec_check.specs.Units.{main_of, is_last, after_units, first_fault, program_by};
 ghost use Rattle.ec_check.specs.Answers.{plain_unit_fault};
+ghost use Rattle.ec_check.specs.Laws.{AreShort};
+ghost use Rattle.ec_check.specs.Validity.{HoldNumbers};
 
+use crate::counts::has_too_many_structs;
+use crate::laws::{programs_are_valid, programs_exist, structs_are_few};
 use crate::units::{main_of, unit};
 use ec_core::Program;
 use ec_declare::copied_name;
@@ -25,7 +31,7 @@ use thiserror::Error;
 /// Why there is no program.
 #[derive(Debug, Drop, Error)]
 pub enum CheckStop {
-    /// Memory ran out.
+    /// Memory ran out, or the units define more structs than there are numbers of 32 bits.
     #[error("no memory")]
     NoMemory,
     /// The units declare more than 1,024 objects.
@@ -75,6 +81,7 @@ fn walk_units(
         ports.now 0 (map view_tree units.now) (plain_state state.old)) }
     ensures state { IfOk result (λ f. f ≡ None → plain_state state.new ≡ after_units
         (plain_definitions definitions.now) ports.now 0 (map view_tree units.now) (plain_state state.old)) }
+    ensures sound { IfOk result (λ f. f ≡ None → IsSoundState (plain_state state.new)) }
 {
     for (i, u) in units.iter().enumerate() {
         let setting = Setting {
@@ -95,6 +102,8 @@ fn walk_units(
 }
 
 fn program_by(main: Option<u16>, state: State) -> Option<Program>
+    requires sound { IsSoundState (plain_state state) }
+    ensures structs { IfSome result (λ p. AreStructs (map plain_struct p.structs.items)) }
     ensures value { option_map plain_program result ≡ program_by main (plain_state state) }
     ensures few { IfSome result (λ p. length p.funcs.items ≤ 65_536) }
 {
@@ -129,6 +138,7 @@ fn program_of(
     requires units { length units.now ≤ 16 }
     ensures walks { IfOk result (λ r. Walks (plain_definitions definitions.now) ports.now (map view_tree units.now) r) }
     ensures few { IfOk result (λ r. HasFewFunctions r) }
+    ensures structs { IfOk result (λ r. HasStructs r) }
 {
     let mut state = State::new(alloc);
     let main = main_of(alloc, definitions)?;
@@ -140,8 +150,10 @@ fn program_of(
 }
 
 fn recursion(alloc: Global, p: Program) -> Result<Program, CheckStop>
-    requires { length p.funcs.items ≤ 65_536 }
-    ensures { Recurs (plain_program p) result }
+    requires few { length p.funcs.items ≤ 65_536 }
+    requires structs { AreStructs (map plain_struct p.structs.items) }
+    ensures recurs { Recurs (plain_program p) result }
+    ensures structs { IfOk result (λ p. AreStructs (map plain_struct p.structs.items)) }
 {
     let found = match first_recursive(alloc, &p) {
         Ok(found) => found,
@@ -151,7 +163,7 @@ fn recursion(alloc: Global, p: Program) -> Result<Program, CheckStop>
         return Ok(p);
     };
     let Some(function) = p.funcs.get(f as usize) else {
-        return Err(CheckStop::NoMemory);
+        unreachable!();
     };
     match copied_name(alloc, &function.name) {
         Ok(name) => Err(CheckStop::Recursion(name)),
@@ -159,15 +171,13 @@ fn recursion(alloc: Global, p: Program) -> Result<Program, CheckStop>
     }
 }
 
-/// The typed program of the units, which no constraint, no limit and no recursion stands against. Otherwise the
-/// first of these causes: too many objects; too many functions; the least constraint by unit, token and rule; the
-/// first function that reaches itself. `NoMemory` also where no rule is broken and yet not all has a meaning: no input
-/// is known for which that is so, and no law excludes it so far.
-pub fn check(alloc: Global, units: &Seq<Tree>, io: &IoTable) -> Result<Program, CheckStop>
+/// What `check` answers.
+fn checked_program(alloc: Global, units: &Seq<Tree>, io: &IoTable) -> Result<Program, CheckStop>
     requires io { ValidIo io.now }
     requires some { 1 ≤ length units.now.items }
     requires most { length units.now.items ≤ 16 }
-    ensures { Checked (map view_tree units.now.items) io.now result }
+    ensures answer { Checked (map view_tree units.now.items) io.now result }
+    ensures structs { IfOk result (λ p. AreStructs (map plain_struct p.structs.items)) }
 {
     let trees = units.as_slice();
     if has_too_many_objects(trees) {
@@ -176,6 +186,10 @@ pub fn check(alloc: Global, units: &Seq<Tree>, io: &IoTable) -> Result<Program, 
     if has_too_many_functions(trees) {
         return Err(CheckStop::TooManyFunctions);
     }
+    if has_too_many_structs(trees) {
+        return Err(CheckStop::NoMemory);
+    }
+    programs_exist();
     let definitions = match definitions(alloc, trees) {
         Ok(definitions) => definitions,
         Err(_) => return Err(CheckStop::NoMemory),
@@ -190,7 +204,26 @@ pub fn check(alloc: Global, units: &Seq<Tree>, io: &IoTable) -> Result<Program, 
             token: f.fault.at,
             rule: f.fault.rule,
         }),
-        Ok(None) => Err(CheckStop::NoMemory),
+        Ok(None) => unreachable!(),
         Ok(Some(p)) => recursion(alloc, p),
     }
+}
+
+/// The typed program of the units, which no constraint, no limit and no recursion stands against. Otherwise the
+/// first of these causes: too many objects; too many functions; the least constraint by unit, token and rule; the
+/// first function that reaches itself. There is a program wherever none of these stands against it and memory lasts;
+/// and it is valid, where the constants in the units stand for numbers of their types, and no unit has more than 65,536
+/// tokens.
+pub fn check(alloc: Global, units: &Seq<Tree>, io: &IoTable) -> Result<Program, CheckStop>
+    requires io { ValidIo io.now }
+    requires some { 1 ≤ length units.now.items }
+    requires most { length units.now.items ≤ 16 }
+    ensures answer { Checked (map view_tree units.now.items) io.now result }
+    ensures valid { HoldNumbers (map view_tree units.now.items) → AreShort (map view_tree units.now.items)
+        → IfOk result (λ p. Valid (plain_program p) io.now) }
+    ensures structs { IfOk result (λ p. AreStructs (map plain_struct p.structs.items)) }
+{
+    structs_are_few();
+    programs_are_valid();
+    checked_program(alloc, units, io)
 }

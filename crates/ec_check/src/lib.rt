@@ -3,7 +3,10 @@
 #![tactic(auto)]
 
 mod checking;
+mod counts;
 mod definitions;
+mod laws;
 mod units;
 
 pub use checking::{CheckStop, check};
+pub use laws::{programs_are_valid, programs_exist, structs_are_few};

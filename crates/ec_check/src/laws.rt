@@ -1,0 +1,69 @@
+//! The laws of the checker: each function proves one, and does nothing.
+ghost use Rattle.ec_check.specs.Laws.{ProgramsExist, StructsAreFew};
+ghost use Rattle.ec_check.specs.Validity.{ProgramsAreValid};
+
+use ec_core::structs_are_laid_out;
+use ec_expr_valid::{
+    declarations_keep_suiting, definitions_keep_suiting, kept_expressions_have_meanings,
+    kept_types_are_said, said_types_are_placed,
+};
+use ec_initial::{initial_values_suit, sizes_are_values};
+use ec_names::equal_structs_are_one;
+use ec_rules::kept_forms_have_meanings;
+use ec_statements_valid::{
+    bodies_are_valid, bodies_need_their_tokens, function_types_are_usable,
+    inner_objects_keep_suiting, kept_bodies_have_meanings, kept_functions_have_types,
+    kept_objects_have_types, objects_are_appended, objects_stay, scopes_end,
+};
+
+/// Units that keep the limits and break no rule have a program, where they define no more structs than there are numbers
+/// of 32 bits.
+pub fn programs_exist()
+    ensures { ProgramsExist }
+{
+    structs_are_laid_out();
+    sizes_are_values();
+    kept_types_are_said();
+    kept_forms_have_meanings();
+    kept_expressions_have_meanings();
+    declarations_keep_suiting();
+    definitions_keep_suiting();
+    kept_objects_have_types();
+    kept_functions_have_types();
+    inner_objects_keep_suiting();
+    objects_stay();
+    scopes_end();
+    kept_bodies_have_meanings();
+}
+
+/// Units of at most 65,536 tokens, of which there are at most 16, define no more structs than that.
+pub fn structs_are_few()
+    ensures { StructsAreFew }
+{}
+
+/// The program of units that keep the limits and break no rule is a valid program, where no function reaches itself, each
+/// constant in the units stands for a number of its type, and each unit has at most 65,536 tokens.
+pub fn programs_are_valid()
+    ensures { ProgramsAreValid }
+{
+    structs_are_laid_out();
+    equal_structs_are_one();
+    sizes_are_values();
+    initial_values_suit();
+    said_types_are_placed();
+    kept_types_are_said();
+    kept_forms_have_meanings();
+    kept_expressions_have_meanings();
+    declarations_keep_suiting();
+    definitions_keep_suiting();
+    kept_objects_have_types();
+    function_types_are_usable();
+    kept_functions_have_types();
+    inner_objects_keep_suiting();
+    objects_stay();
+    scopes_end();
+    objects_are_appended();
+    kept_bodies_have_meanings();
+    bodies_are_valid();
+    bodies_need_their_tokens();
+}
