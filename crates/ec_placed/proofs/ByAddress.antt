@@ -97,7 +97,7 @@ object_told bank structs (x ∷ os) (y ∷ qs) a h =
 
 -- ---- scratch memory
 
-scratch_there : (frames ats : List ℕ) (a f frame at : ℕ) → slice_get frames f ≡ Some frame → slice_get ats f ≡ Some at → at ≤ a
+pub scratch_there : (frames ats : List ℕ) (a f frame at : ℕ) → slice_get frames f ≡ Some frame → slice_get ats f ≡ Some at → at ≤ a
     → a < at + frame_size frame → is_of_scratch frames ats a ≡ true
 scratch_there [] ats a f frame at is there from below = absurd cc
 scratch_there (x ∷ frames) [] a f frame at is there from below = absurd cc
@@ -108,16 +108,16 @@ scratch_there (x ∷ frames) (y ∷ ats) a zero frame at is there from below =
 scratch_there (x ∷ frames) (y ∷ ats) a (suc f) frame at is there from below =
     or_right (is_byte_of y (frame_size x) a) (is_of_scratch frames ats a) (scratch_there frames ats a f frame at is there from below)
 
-record Scratch (frames ats : List ℕ) (a : ℕ) : Type 0 where
-  f : ℕ
-  frame : ℕ
-  at : ℕ
-  is : slice_get frames f ≡ Some frame
-  there : slice_get ats f ≡ Some at
-  from_there : at ≤ a
-  below : a < at + frame_size frame
+pub record Scratch (frames ats : List ℕ) (a : ℕ) : Type 0 where
+  pub f : ℕ
+  pub frame : ℕ
+  pub at : ℕ
+  pub is : slice_get frames f ≡ Some frame
+  pub there : slice_get ats f ≡ Some at
+  pub from_there : at ≤ a
+  pub below : a < at + frame_size frame
 
-scratch_told : (frames ats : List ℕ) (a : ℕ) → is_of_scratch frames ats a ≡ true → Scratch frames ats a
+pub scratch_told : (frames ats : List ℕ) (a : ℕ) → is_of_scratch frames ats a ≡ true → Scratch frames ats a
 scratch_told [] ats a h = absurd (false≢true h)
 scratch_told (x ∷ frames) [] a h = absurd (false≢true h)
 scratch_told (x ∷ frames) (y ∷ ats) a h =
@@ -136,10 +136,10 @@ low_kind p m asm l a h = rw (lt-ltb a 256 h) refl
 high_kind : (p : PlainProgram) (m : Map) (asm : AsmProgram) (l : Located) (a : ℕ) → 256 ≤ a → a < 2304 → kinds p m asm l a ≡ memory_kind p m asm l a
 high_kind p m asm l a h k = rw (le-ltb a 256 h, lt-ltb a 2304 k) refl
 
-core_is_low : (a : ℕ) → is_core_register a ≡ true → a < 256
+pub core_is_low : (a : ℕ) → is_core_register a ≡ true → a < 256
 core_is_low a h = grind arith
 
-port_is_none : (a : ℕ) → is_port a ≡ true → (a < 256) × (is_core_register a ≡ false)
+pub port_is_none : (a : ℕ) → is_port a ≡ true → (a < 256) × (is_core_register a ≡ false)
 port_is_none a h = let (l, n) = and_parts (nat_lt a 256) (not (is_core_register a)) h in (ltb-true a 256 l, not-true (is_core_register a) n)
 
 own_if : (b c : Bool) → b ≡ false → c ≡ true → (if b then Barred else if c then Own else Port) ≡ Own
@@ -302,14 +302,14 @@ kinds_are_told apart p m asm l valid map_valid asm_valid located =
 
 -- ---- that they suit
 
-register_may_be : (a : ℕ) → a < 256 → may_be (register_kind a) 2304 a ≡ true
+pub register_may_be : (a : ℕ) → a < 256 → may_be (register_kind a) 2304 a ≡ true
 register_may_be a low = by_tests (a == 0x5F) (is_core_register a) refl refl where
   by_tests : (b c : Bool) → (a == 0x5F) ≡ b → is_core_register a ≡ c → may_be (if b then Barred else if c then Own else Port) 2304 a ≡ true
   by_tests true c q r = refl
   by_tests false true q r = rw (r, q) refl
   by_tests false false q r = rw (r, lt-ltb a 256 low) refl
 
-memory_may_be : (k : Kind) (a : ℕ) → (k ≢ Port) → 256 ≤ a → a < 2304 → may_be k 2304 a ≡ true
+pub memory_may_be : (k : Kind) (a : ℕ) → (k ≢ Port) → 256 ≤ a → a < 2304 → may_be k 2304 a ≡ true
 memory_may_be Own a n low high =
     or_right (is_core_register a && not (a == 0x5F)) (nat_le 256 a && nat_lt a 2304) (rw (le-leb 256 a low, lt-ltb a 2304 high) refl)
 memory_may_be Object a n low high = rw (le-leb 256 a low, lt-ltb a 2304 high) refl
@@ -317,7 +317,7 @@ memory_may_be Port a n low high = absurd (n refl)
 memory_may_be Stacked a n low high = rw (le-leb 256 a low, lt-ltb a 2304 high) refl
 memory_may_be Barred a n low high = refl
 
-memory_is_no_port : (b c d : Bool) → (let k : Kind = if b then Object else if c then Own else if d then Stacked else Barred in k) ≢ Port
+pub memory_is_no_port : (b c d : Bool) → (let k : Kind = if b then Object else if c then Own else if d then Stacked else Barred in k) ≢ Port
 memory_is_no_port true c d h = cc
 memory_is_no_port false true d h = cc
 memory_is_no_port false false true h = cc

@@ -41,7 +41,7 @@ are_kinds laws p m asm l h =
 
 -- ---- what is noted of the machine
 
-both_append : {A : Type 0} (P : A → Type 0) (xs ys : List A) → AllByRecursion P xs → AllByRecursion P ys → AllByRecursion P (xs ++ ys)
+pub both_append : {A : Type 0} (P : A → Type 0) (xs ys : List A) → AllByRecursion P xs → AllByRecursion P ys → AllByRecursion P (xs ++ ys)
 both_append P [] ys a b = b
 both_append P (x ∷ xs) ys a b = (a.0, both_append P xs ys a.1 b)
 

@@ -1,6 +1,6 @@
 -- Code, objects and stack of a placed program stand as its code asks.
 use Rattle.std.proofs.Common.{◌≡◌, ◌≢◌, ◌⊎◌, inl, inr, ⊎_elim, ℕ, zero, suc, ◌+◌, ◌-◌, ◌*◌, ◌%◌, ◌<◌, ◌≤◌, Bool, true}
-use Rattle.std.proofs.Common.{false, List, [], ◌∷◌, length, map, replicate, zero-add, ℤ, Option, Some, None, refl}
+use Rattle.std.proofs.Common.{false, List, [], ◌∷◌, length, map, replicate, zero-add, add-zero, ℤ, Option, Some, None, refl}
 use Rattle.std.proofs.Common.{sym, ap, ◌∙◌, subst, arith}
 use Rattle.std.specs.Prelude.{nat_le, ◌==◌, if◌then◌else◌, slice_get, slice_index, option_map, option_and_then}
 use Rattle.std.specs.Prelude.{Contains}
@@ -15,7 +15,8 @@ use Rattle.ec_space.specs.Bytes.{little_endian}
 use Rattle.ec_space.specs.declared.space.Bank.{Bank}
 use Rattle.ec_space.specs.declared.space.Bank.TheVariants.{Flash, Data}
 use Rattle.ec_space.specs.declared.space.Place.{Place}
-use Rattle.ec_asm.specs.Change.{Env, Own, Object}
+use Rattle.ec_avr.specs.State.{is_core_register}
+use Rattle.ec_asm.specs.Change.{Env, Kind, Own, Object, Stacked}
 use Rattle.ec_asm.specs.Items.{HasAt, code_words}
 use Rattle.ec_asm.specs.Laws.{PlacedItemsStand}
 use Rattle.ec_asm.specs.Pieces.{is_held}
@@ -43,16 +44,17 @@ use Rattle.ec_ir.specs.Operations.{PlainIr, call_function, PlainIrFunction, Plai
 use Rattle.ec_ir.specs.Valid.{Results, ValidOperation, ValidIrFunction, called_in, CallsTo}
 use Rattle.ec_lower_code.specs.Code.{lowered, lowered_function}
 use Rattle.ec_lower_code.specs.Correct.{IsMadeOf, LoweredIsMadeOf}
+use Rattle.ec_map.specs.Regions.{end_of}
 use Rattle.ec_map.specs.declared.map.Map.{Map}
 use Rattle.ec_locate.specs.Apart.{PlacedStandApart}
 use Rattle.ec_locate.specs.Calls.{IsChain}
 use Rattle.ec_locate.specs.Code.{label_word, address_of}
 use Rattle.ec_locate.specs.DataBank.{Names, an_object, scratch, StandsIn, DataStands, DataStandsApart}
-use Rattle.ec_locate.specs.Entries.{entries, flash_sizes, data_sizes}
+use Rattle.ec_locate.specs.Entries.{entries, flash_sizes, data_sizes, frame_size}
 use Rattle.ec_locate.specs.Initial.{values_of, ValuesStand, InitialValues, InitialValuesStand}
 use Rattle.ec_locate.specs.Layout.{LayoutView}
 use Rattle.ec_locate.specs.Placing.{layout_by, last_of, object_sizes}
-use Rattle.ec_locate.specs.Stands.{CodeStands}
+use Rattle.ec_locate.specs.Stands.{environment, CodeStands}
 use Rattle.ec_locate.specs.declared.placing.Located.{Located}
 use Rattle.ec_select_functions.specs.Laws.{CallsOn}
 use Rattle.ec_select_functions.specs.Places.{NumberLeaf, Apart}
@@ -63,8 +65,8 @@ use Rattle.ec_select.specs.LaidOut.{StackStands, IsLaidOut}
 use Rattle.ec_select.specs.Labels.{homes_of, widest_temps}
 use Rattle.ec_select.specs.Laws.{SelectionsAreValid}
 use Rattle.ec_select.specs.Program.{has_initial_bytes}
-use Rattle.ec_placed.specs.Kinds.{is_of_objects, is_of_initials, kinds, tables, placed, place_of, scratch_of}
-use Rattle.ec_placed.specs.Laws.{AreKinds, PlacedAreLaidOut}
+use Rattle.ec_placed.specs.Kinds.{is_of_objects, is_of_initials, kinds, tables, place_of, scratch_of}
+use Rattle.ec_placed.specs.Laws.{IsByteOf, AreKinds, PlacedAreLaidOut}
 use Rattle.ec_placed.specs.Translation.{IsTranslated}
 use Rattle.ec_placed.proofs.ByAddress.{kinds_are_told, flash_length}
 use Rattle.ec_placed.proofs.Numbers.{bytes_are_low}
@@ -165,12 +167,24 @@ called_known p results f slots all (i ∷ code) h b c = called_known p results f
 
 -- ---- the whole
 
-module _ (laws : PlacedLaws) (p : PlainProgram) (m : Map) (asm : AsmProgram) (l : Located) (h : IsTranslated p m asm l) where
+-- what stands at an address is told so that code can stand: registers and scratch memory are code's own, and objects,
+-- the stack and initial bytes are told to be such
+pub record HasKinds (p : PlainProgram) (m : Map) (asm : AsmProgram) (l : Located) (kind table : ℕ → Kind) : Type 0 where
+  pub registers : (a : ℕ) → is_core_register a ≡ true → a ≢ 0x5F → kind a ≡ Own
+  pub objects : (a i : ℕ) (o : PlainObject) (q : Place) → IsByteOf p l Data a i o q → IsAddressable o.storage → kind a ≡ Object
+  pub scratch : (f frame at a : ℕ) → slice_get asm.frames.items f ≡ Some frame → slice_get l.frames.items f ≡ Some at
+      → at ≤ a → a < at + frame_size frame → kind a ≡ Own
+  pub stack : (a : ℕ) → m.stack.first ≤ a → a < end_of m.stack → kind a ≡ Stacked
+  pub initials : (a : ℕ) → a < 32768 → is_of_initials p.structs p.objects (layout_by p m asm).initials a ≡ true
+      → is_held (table a) ≡ true
+
+module _ (laws : PlacedLaws) (p : PlainProgram) (m : Map) (asm : AsmProgram) (l : Located) (h : IsTranslated p m asm l)
+    (kind table : ℕ → Kind) (are : HasKinds p m asm l kind table) where
   abbrev q : PlainIrProgram
   q = lowered p
 
   abbrev e : Env
-  e = placed p m asm l
+  e = environment p m asm l kind table
 
   abbrev y : LayoutView
   y = layout_by p m asm
@@ -181,19 +195,16 @@ module _ (laws : PlacedLaws) (p : PlainProgram) (m : Map) (asm : AsmProgram) (l 
   made : IsMadeOf p m.io q
   made = laws.made p m.io h.valid h.lowered_whole
 
-  pub asm_valid : ValidAsm (object_sizes p) 64 asm
+  asm_valid : ValidAsm (object_sizes p) 64 asm
   asm_valid = laws.selections q asm made.valid h.code h.selection
 
   stand : DataStands p m asm l
   stand = laws.apart p m asm l h.valid h.map asm_valid h.located
 
-  are : AreKinds p m asm l
-  are = kinds_are_told laws.apart p m asm l h.valid h.map asm_valid h.located
-
   -- ---- code
 
   is_placed : IsPlaced e asm.items.items 0
-  is_placed = laws.code p m asm l (kinds p m asm l) (tables p m asm l) h.map asm_valid h.located
+  is_placed = laws.code p m asm l kind table h.map asm_valid h.located
 
   code : CodeIsLaidOut asm e
   code = record {
@@ -236,7 +247,7 @@ module _ (laws : PlacedLaws) (p : PlainProgram) (m : Map) (asm : AsmProgram) (l 
 
   -- the bytes of an object in memory
   bytes_stand : (o : ℕ) (d : PlainObject) → slice_get p.objects o ≡ Some d → d.home ≡ Data
-      → ((a : ℕ) → place_of l o ≤ a → a < place_of l o + size d → kinds p m asm l a ≡ Object) → (i : ℕ) → i < size d
+      → ((a : ℕ) → place_of l o ≤ a → a < place_of l o + size d → kind a ≡ Object) → (i : ℕ) → i < size d
       → (e.address_of o i ≡ place_of l o + i) × (e.kind (place_of l o + i) ≡ Object)
   bytes_stand o d is home kind i less =
       (stand.address o (place_of l o) (size d) i (names o d is home) (omega (arith, less)), kind (place_of l o + i) (omega arith) (omega (arith, less)))
@@ -251,7 +262,7 @@ module _ (laws : PlacedLaws) (p : PlainProgram) (m : Map) (asm : AsmProgram) (l 
   object_stands : (o : ℕ) (d : PlainObject) → slice_get p.objects o ≡ Some d → d.home ≡ Data
       → ObjectStands e o (size d) (place_of l o) d.storage
   object_stands o d is home = by_storage d.storage refl (stands_in o d is home) where
-    kind_there : (named : IsAddressable d.storage) → (a : ℕ) → place_of l o ≤ a → a < place_of l o + size d → kinds p m asm l a ≡ Object
+    kind_there : (named : IsAddressable d.storage) → (a : ℕ) → place_of l o ≤ a → a < place_of l o + size d → kind a ≡ Object
     kind_there named a from below =
         let z = object_kind o d is home a from below in
         are.objects a o d z.0 (record { object = is; home = home; place = z.1.0; from_there = z.1.1; within = z.1.2 }) named
@@ -380,19 +391,15 @@ module _ (laws : PlacedLaws) (p : PlainProgram) (m : Map) (asm : AsmProgram) (l 
   initial_is o d is has = let r = initial_room o d is has in index_of_initials y (last_of m) o (omega (arith, r))
 
   initial_table : (o : ℕ) (d : PlainObject) → slice_get p.objects o ≡ Some d → has_initial_bytes d.storage d.home ≡ true
-      → (k : ℕ) → k < size d → is_held (tables p m asm l (initial_at e o + k)) ≡ true
+      → (k : ℕ) → k < size d → is_held (table (initial_at e o + k)) ≡ true
   initial_table o d is has k less =
       let room = initial_room o d is has in
       let there = initial_there p.structs m.places.items p.objects m.tables.first (m.tables.first + flash_sizes (entries m.places.items p)) o d is in
       let at = get_or_from_slice_get y.initials o there.0 0 there.1 in
-      let a = slice_index y.initials o + k in
       let told : is_of_initials p.structs p.objects y.initials (slice_index y.initials o + k) ≡ true =
       initial_byte p.structs p.objects y.initials (slice_index y.initials o + k) o d there.0 is there.1 has (omega (arith, at)) (omega (arith, at, less)) in
-      subst (λ n. is_held (tables p m asm l (n + k)) ≡ true) (sym (initial_is o d is has))
-      (rw (lt-ltb (slice_index y.initials o + k) 32768 (omega (arith, room, less)), told) (held (is_of_objects Flash p.structs p.objects l.places.items (slice_index y.initials o + k)))) where
-        held : (b : Bool) → is_held (if b then Object else Own) ≡ true
-        held true = refl
-        held false = refl
+      subst (λ n. is_held (table (n + k)) ≡ true) (sym (initial_is o d is has))
+      (are.initials (slice_index y.initials o + k) (omega (arith, room, less)) told)
 
   -- ---- the value of a leaf
 
@@ -511,8 +518,53 @@ module _ (laws : PlacedLaws) (p : PlainProgram) (m : Map) (asm : AsmProgram) (l 
         omega (arith, room, last);
   }
 
+  -- what is copied before main: from where, to where, and that the one is in flash and the other the object's
+  pub record IsCopied (o : ℕ) (d : PlainObject) : Type 0 where
+    pub from : e.address_of (2048 + o) 0 ≡ slice_index y.initials o
+    pub to : e.address_of o 0 ≡ place_of l o
+    pub room : slice_index y.initials o + size d ≤ 32768
+    pub high : 256 ≤ place_of l o
+    pub kinds : (k : ℕ) → k < size d → kind (place_of l o + k) ≡ Object
+
+  pub is_copied : (o : ℕ) (d : PlainObject) → slice_get p.objects o ≡ Some d → has_initial_bytes d.storage d.home ≡ true → IsCopied o d
+  is_copied o d is has =
+      let k = is_kept d.storage d.home has in
+      let some = (object_is o d is).some in
+      let stands : ObjectStands e o (size d) (place_of l o) (static k.inits) = subst (ObjectStands e o (size d) (place_of l o)) k.is_static (object_stands o d is k.in_data) in
+      record {
+        from = initial_is o d is has;
+        to = (stands.1 0 some).0 ∙ add-zero (place_of l o);
+        room = initial_room o d is has;
+        high = stands.0;
+        kinds = λ i less. (stands.1 i less).1;
+      }
+
   pub laid_out : IsLaidOut q asm e (place_of l) (scratch_of asm l) m.stack.first
   laid_out = record { code = code; memory = memory; initials = initials; stack = stack }
 
+-- ---- the kinds of a placed program are told so
+
+asm_is_valid : PlacedLaws → (p : PlainProgram) (m : Map) (asm : AsmProgram) (l : Located) → IsTranslated p m asm l → ValidAsm (object_sizes p) 64 asm
+asm_is_valid laws p m asm l h =
+    laws.selections (lowered p) asm (laws.made p m.io h.valid h.lowered_whole).valid h.code h.selection
+
+pub are_kinds_of : PlacedLaws → (p : PlainProgram) (m : Map) (asm : AsmProgram) (l : Located) → IsTranslated p m asm l → AreKinds p m asm l
+are_kinds_of laws p m asm l h =
+    kinds_are_told laws.apart p m asm l h.valid h.map (asm_is_valid laws p m asm l h) h.located
+
+placed_has_kinds : (p : PlainProgram) (m : Map) (asm : AsmProgram) (l : Located) → AreKinds p m asm l
+    → HasKinds p m asm l (kinds p m asm l) (tables p m asm l)
+placed_has_kinds p m asm l are = record {
+  registers = are.registers;
+  objects = are.objects;
+  scratch = are.scratch;
+  stack = are.stack;
+  initials = λ a low told. rw (lt-ltb a 32768 low, told) (held (is_of_objects Flash p.structs p.objects l.places.items a));
+} where
+  held : (b : Bool) → is_held (if b then Object else Own) ≡ true
+  held true = refl
+  held false = refl
+
 pub placed_are_laid_out : PlacedLaws → PlacedAreLaidOut
-placed_are_laid_out laws p m asm l h = laid_out laws p m asm l h
+placed_are_laid_out laws p m asm l h =
+    laid_out laws p m asm l h (kinds p m asm l) (tables p m asm l) (placed_has_kinds p m asm l (are_kinds_of laws p m asm l h))

@@ -5,3 +5,8 @@ pub mod Laid
 pub mod Ran
 pub mod FromReset
 pub mod Guarded
+pub mod Watched
+pub mod Kept
+pub mod Copied
+pub mod DataEvents
+pub mod Whole

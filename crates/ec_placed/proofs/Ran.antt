@@ -1,5 +1,5 @@
 -- What a placed program does.
-use Rattle.std.proofs.Common.{Bool, subst, ℕ, ◌+◌, ◌≤◌, ℤ, refl, ap, ◌∙◌, arith}
+use Rattle.std.proofs.Common.{◌≡◌, Bool, subst, ℕ, ◌+◌, ◌≤◌, ℤ, refl, ap, ◌∙◌, arith}
 use Rattle.std.specs.Prelude.{IsTrue}
 use Rattle.std.proofs.lemmas.Bool.{leb-true, le-leb}
 use Rattle.ec_space.specs.Memory.{data_size}
@@ -10,8 +10,9 @@ use Rattle.ec_avr.specs.Laws.{MachineIsRun}
 use Rattle.ec_avr.specs.Machine.{State, Inputs, IsReset}
 use Rattle.ec_avr.specs.Runs.{MachineFault}
 use Rattle.ec_asm.specs.Behaves.{noted_run}
+use Rattle.ec_asm.specs.Change.{Env}
 use Rattle.ec_asm.proofs.Behaves.{stays_within}
-use Rattle.ec_asm.specs.Shows.{Shows}
+use Rattle.ec_asm.specs.Shows.{Shows, Fits}
 use Rattle.ec_asm.specs.declared.items.AsmProgram.{AsmProgram}
 use Rattle.ec_core.specs.Meaning.{source, work}
 use Rattle.ec_core.specs.Plain.{PlainProgram}
@@ -27,10 +28,11 @@ use Rattle.ec_locate.specs.declared.placing.Located.{Located}
 use Rattle.ec_asm.specs.Run.{Running as AtWord, run, is_safe}
 use Rattle.ec_select_functions.specs.Laws.{within_steps, HoldsUnlessFailed}
 use Rattle.ec_select_functions.specs.Relation.{accesses}
-use Rattle.ec_select.specs.Laws.{SelectionsRun}
+use Rattle.ec_select.specs.LaidOut.{IsLaidOut}
+use Rattle.ec_select.specs.Laws.{RunsAsOperations, SelectionsRun}
 use Rattle.ec_placed.specs.Kinds.{placed, place_of, scratch_of}
 use Rattle.ec_placed.specs.Laws.{KindsFit, PlacedAreLaidOut}
-use Rattle.ec_placed.specs.Runs.{view_of, ImagesRun, seen_source, is_within_work, ImagesRunAsSources}
+use Rattle.ec_placed.specs.Runs.{view_of, ImagesRun, seen_source, is_within_work, RunsAsSource, ImagesRunAsSources}
 use Rattle.ec_placed.specs.Translation.{IsTranslated}
 
 pub record ImageLaws : Type 0 where
@@ -39,10 +41,10 @@ pub record ImageLaws : Type 0 where
   pub made : LoweredIsMadeOf
   pub run : SelectionsRun
 
-reset_shows : (p : PlainProgram) (m : Map) (asm : AsmProgram) (l : Located) (s : State) (inputs : Inputs) → IsTranslated p m asm l
-    → IsReset l.image.core l.image.bytes.items s → GiveBytes inputs → Shows (placed p m asm l) 2304 s.mem (view_of s inputs)
-reset_shows p m asm l s inputs h reset give = record {
-  flash = reset.flash;
+pub reset_shows : (p : PlainProgram) (m : Map) (asm : AsmProgram) (l : Located) (e : Env) (s : State) (inputs : Inputs) → IsTranslated p m asm l
+    → l.image.bytes.items ≡ e.flash → IsReset l.image.core l.image.bytes.items s → GiveBytes inputs → Shows e 2304 s.mem (view_of s inputs)
+reset_shows p m asm l e s inputs h flash reset give = record {
+  flash = reset.flash ∙ flash;
   sized = reset.size ∙ ap data_size h.located.core;
   bytes = reset.bytes;
   at = refl;
@@ -50,11 +52,20 @@ reset_shows p m asm l s inputs h reset give = record {
   feeds = give;
 }
 
+-- wherever code and data stand, in an environment with the flash of the image
+pub runs_as_operations : LoweredIsMadeOf → SelectionsRun → (p : PlainProgram) (m : Map) (asm : AsmProgram) (l : Located) (e : Env) (s : State)
+    (inputs : Inputs) → IsTranslated p m asm l → IsReset l.image.core l.image.bytes.items s → GiveBytes inputs → l.image.bytes.items ≡ e.flash
+    → Fits e 2304 → IsLaidOut (lowered p) asm e (place_of l) (scratch_of asm l) m.stack.first
+    → RunsAsOperations (lowered p) (place_of l) e (view_of s inputs) s inputs
+runs_as_operations made selections p m asm l e s inputs h reset give flash fit laid =
+    selections (lowered p) asm e (place_of l) (scratch_of asm l) 2304 m.stack.first s (view_of s inputs) inputs
+    (made p m.io h.valid h.lowered_whole).valid h.code h.selection fit (omega arith)
+    (reset_shows p m asm l e s inputs h flash reset give) reset.begin laid
+
 pub images_run : ImageLaws → ImagesRun
 images_run laws p m asm l s inputs h reset give =
-    laws.run (lowered p) asm (placed p m asm l) (place_of l) (scratch_of asm l) 2304 m.stack.first s (view_of s inputs) inputs
-    (laws.made p m.io h.valid h.lowered_whole).valid h.code h.selection (laws.fit p m asm l h.located h.bytes) (omega arith)
-    (reset_shows p m asm l s inputs h reset give) reset.begin (laws.laid p m asm l h)
+    runs_as_operations laws.made laws.run p m asm l (placed p m asm l) s inputs h reset give refl (laws.fit p m asm l h.located h.bytes)
+    (laws.laid p m asm l h)
 
 -- the steps that are paid are within the work, with the one of BREAK
 paid_twice : (p : PlainProgram) (m : Map) (inputs : Inputs) (n k j : ℕ) → IsTrue (is_paid p m.io (lowered p) inputs n k)
@@ -76,11 +87,12 @@ holds_within (Ends es result) (GoesOn fs) t w h = h
 holds_within (Ends es result) (Ends fs other) t w h = h
 holds_within (Ends es result) (Failed point) t w h = absurd w
 
-pub images_run_as_sources : ImagesRun → LoweredFollows → MachineIsRun → ImagesRunAsSources
-images_run_as_sources images follows is_run p m asm l s inputs h reset give =
-    let r = images p m asm l s inputs h reset give in
+-- from what a machine shows of the operations, whatever is noted of it
+pub runs_as_source : LoweredFollows → MachineIsRun → (p : PlainProgram) (m : Map) (asm : AsmProgram) (l : Located) (e : Env) (s : State)
+    (inputs : Inputs) → IsTranslated p m asm l → IsReset l.image.core l.image.bytes.items s → GiveBytes inputs
+    → RunsAsOperations (lowered p) (place_of l) e (view_of s inputs) s inputs → RunsAsSource p m l e s inputs
+runs_as_source follows is_run p m asm l e s inputs h reset give r =
     let f = follows p m.io h.valid h.lowered_whole in
-    let e = placed p m asm l in
     let source_seen = reaches_as_seen Event Access ℤ Undefined Undefined (accesses p (place_of l)) (is_paid p m.io (lowered p) inputs)
     (source p (plain_table m.io) inputs) (meaning (lowered p) inputs) (f.reaches inputs give) in
     let reached : Reaches (is_within_work p m.io inputs) (seen_source p m.io l inputs) (noted_run e inputs r.shows.main) =
@@ -94,6 +106,7 @@ images_run_as_sources images follows is_run p m asm l s inputs h reset give =
       main = r.shows.main;
       ran = r.shows.ran;
       on = r.shows.on;
+      started = r.shows.started;
       seen = r.shows.seen;
       reaches = reached;
       view = r.shows.view;
@@ -104,3 +117,7 @@ images_run_as_sources images follows is_run p m asm l s inputs h reset give =
           (f.within inputs give k) (r.shows.safe k);
       within = stays_within is_run e inputs r.shows.main (is_within_work p m.io inputs) (seen_source p m.io l inputs) reached;
     }
+
+pub images_run_as_sources : ImagesRun → LoweredFollows → MachineIsRun → ImagesRunAsSources
+images_run_as_sources images follows is_run p m asm l s inputs h reset give =
+    runs_as_source follows is_run p m asm l (placed p m asm l) s inputs h reset give (images p m asm l s inputs h reset give)

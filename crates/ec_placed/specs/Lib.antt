@@ -4,3 +4,4 @@ pub mod Laws
 pub mod Runs
 pub mod Shown
 pub mod Spaces
+pub mod Whole

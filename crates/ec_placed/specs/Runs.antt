@@ -5,6 +5,7 @@ use Rattle.ec_avr.specs.declared.machine.Access.{Access}
 use Rattle.ec_avr.specs.Machine.{State, Inputs, Running, machine, IsReset}
 use Rattle.ec_avr.specs.Runs.{preceded_by}
 use Rattle.ec_asm.specs.Behaves.{noted_run}
+use Rattle.ec_asm.specs.Change.{Env}
 use Rattle.ec_asm.specs.Run.{Running as AtWord, run, is_safe}
 use Rattle.ec_asm.specs.Shows.{Shows, noted_all}
 use Rattle.ec_asm.specs.View.{View, bytes_of, flags_of}
@@ -62,10 +63,11 @@ seen_source p io l inputs n = seen_as (accesses p (place_of l)) (source p (plain
 abbrev pub is_within_work : PlainProgram → IoTable → Inputs → (n steps : ℕ) → Bool
 is_within_work p io inputs n steps = nat_le steps (work p (plain_table io) inputs n)
 
--- In a number of steps the machine comes to where main begins, with no noted accesses but those that copy the initial
--- bytes. From there on it shows all that the source shows, within its work, and never more. A view shows the state
--- where main begins, with the initial values of the objects, and its run makes no access that is barred
-pub record RunsAsSource (p : PlainProgram) (m : Map) (asm : AsmProgram) (l : Located) (s : State)
+-- In a number of steps the machine comes to where main begins, with no access that is barred, and no noted ones but
+-- those that copy the initial bytes. From there on it shows all that the source shows, within its work, and never more.
+-- A view shows the state where main begins, with the initial values of the objects, and its run makes no access that is
+-- barred. What is noted and what is barred is as an environment tells
+pub record RunsAsSource (p : PlainProgram) (m : Map) (l : Located) (e : Env) (s : State)
     (inputs : Inputs) : Type 0 where
   pub steps : ℕ
   pub few : steps ≤ start_steps p
@@ -73,20 +75,19 @@ pub record RunsAsSource (p : PlainProgram) (m : Map) (asm : AsmProgram) (l : Loc
   pub main : State
   pub ran : machine steps inputs s ≡ Running trace main
   pub on : (k : ℕ) → machine (steps + k) inputs s ≡ preceded_by trace (machine k inputs main)
-  pub seen : let e = placed p m asm l in noted_all e trace ≡ noted_all e (all_accesses e (spans_of (lowered p)))
-  pub reaches : Reaches (is_within_work p m.io inputs) (seen_source p m.io l inputs)
-      (noted_run (placed p m asm l) inputs main)
-  pub within : (k : ℕ) → IsWithin (seen_source p m.io l inputs k) (noted_run (placed p m asm l) inputs main k)
+  pub started : is_safe (run e steps (AtWord s.pc (view_of s inputs))) ≡ true
+  pub seen : noted_all e trace ≡ noted_all e (all_accesses e (spans_of (lowered p)))
+  pub reaches : Reaches (is_within_work p m.io inputs) (seen_source p m.io l inputs) (noted_run e inputs main)
+  pub within : (k : ℕ) → IsWithin (seen_source p m.io l inputs k) (noted_run e inputs main k)
   pub view : View
-  pub shown : Shows (placed p m asm l) 2304 main.mem view
+  pub shown : Shows e 2304 main.mem view
   pub given : view.inputs ≡ inputs
   pub initials : HasInitials (data_of (lowered p)) (place_of l) view
   pub safe : (k : ℕ)
-      → HoldsUnlessFailed (source p (plain_table m.io) inputs k)
-      (is_safe (run (placed p m asm l) k (AtWord main.pc view)))
+      → HoldsUnlessFailed (source p (plain_table m.io) inputs k) (is_safe (run e k (AtWord main.pc view)))
 
 abbrev pub ImagesRunAsSources : Type 0
 ImagesRunAsSources =
     (p : PlainProgram) (m : Map) (asm : AsmProgram) (l : Located) (s : State) (inputs : Inputs)
     → IsTranslated p m asm l → IsReset l.image.core l.image.bytes.items s → GiveBytes inputs
-    → RunsAsSource p m asm l s inputs
+    → RunsAsSource p m l (placed p m asm l) s inputs

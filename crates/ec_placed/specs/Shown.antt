@@ -4,7 +4,6 @@ use Rattle.ec_runs.specs.Behaviours.{Behaviour, Running as GoesOn, Ended as Ends
 use Rattle.ec_avr.specs.declared.machine.Access.{Access}
 use Rattle.ec_avr.specs.declared.machine.Access.TheVariants.{In, Out}
 use Rattle.ec_avr.specs.Machine.{State, Inputs, Run, Running, EndedWith, FaultedAt, machine, IsReset}
-use Rattle.ec_asm.specs.Change.{Env}
 use Rattle.ec_avr.specs.Placed.{stack_bytes}
 use Rattle.ec_asm.specs.Shows.{Shows, noted_all}
 use Rattle.ec_asm.specs.View.{View}
@@ -35,40 +34,41 @@ ports_of (In port byte ∷ trace) = In port byte ∷ ports_of trace
 ports_of (Out port byte ∷ trace) = Out port byte ∷ ports_of trace
 ports_of (a ∷ trace) = ports_of trace
 
--- behind the accesses before main come those that are noted, which are all that some events are
-pub record ShowsAll (p : PlainProgram) (l : Located) (e : Env) (start : List Access) (es : List Event)
-    (trace : List Access) : Type 0 where
+-- what is left of the accesses behind those before main is all that some events are
+pub record ShowsAll (p : PlainProgram) (l : Located) (left : List Access → List Access) (start : List Access)
+    (es : List Event) (trace : List Access) : Type 0 where
   pub after : List Access
   pub is : trace ≡ start ++ after
-  pub noted : noted_all e after ≡ accesses p (place_of l) es
+  pub shown : left after ≡ accesses p (place_of l) es
 
 -- or the first of these
-pub record ShowsFirst (p : PlainProgram) (l : Located) (e : Env) (start : List Access) (es : List Event)
-    (trace : List Access) : Type 0 where
+pub record ShowsFirst (p : PlainProgram) (l : Located) (left : List Access → List Access) (start : List Access)
+    (es : List Event) (trace : List Access) : Type 0 where
   pub after : List Access
   pub is : trace ≡ start ++ after
-  pub noted : BeginWith (noted_all e after) (accesses p (place_of l) es)
+  pub shown : BeginWith (left after) (accesses p (place_of l) es)
 
--- A machine with `start` before main. In at most so many steps it comes to what the source shows after n turns, and at
--- least n steps where that goes on
-module _ (p : PlainProgram) (l : Located) (e : Env) (s : State) (inputs : Inputs) (start : List Access) where
+-- A machine with `start` before main, of whose accesses behind these some are left. In at most so many steps it comes
+-- to what the source shows after n turns, and at least n steps where that goes on
+module _ (p : PlainProgram) (l : Located) (left : List Access → List Access) (s : State) (inputs : Inputs)
+    (start : List Access) where
   abbrev pub Comes : (n most : ℕ) → Behaviour Event ℤ Undefined → Type 0
   Comes n most (GoesOn es) =
       (k : ℕ) × (trace : List Access) × (t : State) × (k ≤ most) × (n ≤ k) × (machine k inputs s ≡ Running trace t)
-      × ShowsAll p l e start es trace
+      × ShowsAll p l left start es trace
   Comes n most (Ends es result) =
       (k : ℕ) × (trace : List Access) × (k ≤ most) × (machine k inputs s ≡ EndedWith trace result)
-      × ShowsAll p l e start es trace
+      × ShowsAll p l left start es trace
   Comes n most (Failed point) = ⊤
 
   -- it is not yet in main, or shows a part of what the source shows. It ends only where that ends, and never faults
   abbrev pub IsWithinSource : Behaviour Event ℤ Undefined → Run → Type 0
   IsWithinSource (Failed point) run = ⊤
-  IsWithinSource (GoesOn es) (Running trace t) = BeginWith trace start ⊎ ShowsFirst p l e start es trace
+  IsWithinSource (GoesOn es) (Running trace t) = BeginWith trace start ⊎ ShowsFirst p l left start es trace
   IsWithinSource (GoesOn es) (EndedWith trace result) = ⊥
   IsWithinSource (GoesOn es) (FaultedAt trace kind pc) = ⊥
-  IsWithinSource (Ends es other) (Running trace t) = BeginWith trace start ⊎ ShowsFirst p l e start es trace
-  IsWithinSource (Ends es other) (EndedWith trace result) = ShowsAll p l e start es trace × (result ≡ other)
+  IsWithinSource (Ends es other) (Running trace t) = BeginWith trace start ⊎ ShowsFirst p l left start es trace
+  IsWithinSource (Ends es other) (EndedWith trace result) = ShowsAll p l left start es trace × (result ≡ other)
   IsWithinSource (Ends es other) (FaultedAt trace kind pc) = ⊥
 
 -- where the source has a meaning, the bytes that the next step pushes or pops are all of region `stack`
@@ -93,10 +93,10 @@ pub record ShowsSource (p : PlainProgram) (m : Map) (asm : AsmProgram) (l : Loca
   pub shown : Shows (placed p m asm l) 2304 main.mem view
   pub initials : HasInitials (data_of (lowered p)) (place_of l) view
   pub reached : (n : ℕ)
-      → Comes p l (placed p m asm l) s inputs start n (start_steps p + work p (plain_table m.io) inputs n)
+      → Comes p l (noted_all (placed p m asm l)) s inputs start n (start_steps p + work p (plain_table m.io) inputs n)
       (source p (plain_table m.io) inputs n)
   pub within : (k : ℕ)
-      → IsWithinSource p l (placed p m asm l) s inputs start (source p (plain_table m.io) inputs k)
+      → IsWithinSource p l (noted_all (placed p m asm l)) s inputs start (source p (plain_table m.io) inputs k)
       (machine k inputs s)
   pub stack : (k : ℕ) (trace : List Access) (t : State) → machine k inputs main ≡ Running trace t
       → PushesInRegion m (source p (plain_table m.io) inputs (k + 1)) t

@@ -3,10 +3,12 @@ ghost use Rattle.ec_placed.specs.Laws.{KindsAreTold, KindsFit, PlacedAreLaidOut}
 ghost use Rattle.ec_placed.specs.Runs.{ImagesRun, ImagesRunAsSources};
 ghost use Rattle.ec_placed.specs.Shown.{ImagesShowTheirSources};
 ghost use Rattle.ec_placed.specs.Spaces.{NotedAreOfObjects, EventsStayInSpaces};
+ghost use Rattle.ec_placed.specs.Whole.{ProgramsShowTheirSources};
 
 use ec_asm::laws::{placed_items_stand, stack_stays_inside};
 use ec_avr::runs_are_steps;
 use ec_core::{events_are_at_home, leaves_fill_their_types, more_turns_only_add};
+use ec_guarded::accesses_are_allowed;
 use ec_locate::{code_stands, data_stands_apart, initial_values_stand, placed_stand_apart};
 use ec_lower_code::{lowered_follows, lowered_is_made_of_its_program};
 use ec_select::{selections_are_valid, selections_run};
@@ -81,4 +83,28 @@ pub fn accesses_stay_in_spaces()
     lowered_is_made_of_its_program();
     selections_are_valid();
     events_are_at_home();
+}
+
+/// From every reset state the machine of a placed program makes a few steps before `main`, which copy the initial bytes
+/// and access no port. From there on all that is kept of its trace, where code's scratch memory and work bytes and what
+/// is pushed and popped count for nothing, is what the source shows: each part of it is reached within its work, and
+/// each step stays within it. Each of these accesses is of a byte of its event's object, in the bank that is its home.
+pub fn programs_show_their_sources()
+    ensures { ProgramsShowTheirSources }
+{
+    accesses_are_allowed();
+    code_stands();
+    data_stands_apart();
+    events_are_at_home();
+    initial_values_stand();
+    leaves_fill_their_types();
+    lowered_follows();
+    lowered_is_made_of_its_program();
+    more_turns_only_add();
+    placed_items_stand();
+    placed_stand_apart();
+    runs_are_steps();
+    selections_are_valid();
+    selections_run();
+    stack_stays_inside();
 }

@@ -7,5 +7,5 @@ mod laws;
 pub use bytes::image_holds_bytes;
 pub use laws::{
     accesses_stay_in_spaces, images_run, images_run_as_sources, images_show_their_sources,
-    kinds_are_told, placed_are_laid_out,
+    kinds_are_told, placed_are_laid_out, programs_show_their_sources,
 };

@@ -14,7 +14,7 @@ use Rattle.ec_asm.specs.View.{View}
 use Rattle.ec_asm.specs.Change.{Env, Kind, Own, Object, Port, Stacked, Barred, sp}
 use Rattle.ec_asm.specs.Pieces.{is_held}
 use Rattle.ec_asm.specs.PieceLaws.{HoldsNumbers}
-use Rattle.ec_asm.specs.Run.{fetch, word_in, pushed, back_at}
+use Rattle.ec_asm.specs.Run.{fetch, word_in, pushed, back_at, is_safe}
 use Rattle.ec_asm.specs.Shows.{Shows, Fits, RunsAs, GoesOn}
 use Rattle.ec_asm.specs.Behaves.{noted_run}
 use Rattle.ec_asm.specs.Takes.{Goes}
@@ -194,6 +194,7 @@ module _ (laws : StartLaws) (p : PlainIrProgram) (place entry_of : ℕ → ℕ) 
         ran = goes_on.ran;
         on = λ k. goes_on.on k ∙ ap (λ i. preceded_by goes_on.trace (machine k i goes_on.state)) same_inputs;
         seen = sym goes_on.seen ∙ starts.seen;
+        started = ap is_safe goes.by ∙ starts.safe;
         reaches = subst (λ i. Reaches (within_steps p inputs) (seen_meaning p place inputs) (noted_run e i goes_on.state)) same_inputs shown.reaches;
         within = λ m. subst (λ i. IsWithin (seen_meaning p place inputs m) (noted_run e i goes_on.state m)) same_inputs (shown.within m);
         view = w0;

@@ -1,5 +1,5 @@
 -- What a machine shows that begins at the startup code of a program.
-use Rattle.std.specs.Prelude.{◌≡◌, ℕ, ◌+◌, ◌*◌, ◌≤◌, List, All, Some, slice_get, length}
+use Rattle.std.specs.Prelude.{◌≡◌, ℕ, ◌+◌, ◌*◌, ◌≤◌, true, List, [], All, Some, slice_get, length}
 use Rattle.std.specs.List.{AllPairs}
 use Rattle.ec_runs.specs.Behaviours.{Reaches, IsWithin}
 use Rattle.ec_avr.specs.declared.machine.Access.{Access}
@@ -47,9 +47,14 @@ pub record CanStart (p : PlainIrProgram) (e : Env) (place entry_of : ℕ → ℕ
   pub stacked : (k : ℕ) → low ≤ k → k ≤ e.address_of 1281 0 → e.kind k ≡ Stacked
   pub room : (fs : List ℕ) → CallsOn p p.main fs → low + 2 * length fs + 1 ≤ e.address_of 1281 0
 
--- After some steps the machine is where main begins, and goes on from there with the same inputs. What it shows from
--- there on is all that the operations do, in at most the steps that they may take, and never more. A view shows the
--- state where main begins, with the initial values of the objects, and its run makes no access that is barred
+-- a view before whose run nothing was noted and no access was barred
+abbrev pub anew : View → View
+anew v = record { at = v.at; flags = v.flags; inputs = v.inputs; seen = []; safe = true }
+
+-- After some steps, none of which makes an access that is barred, the machine is where main begins, and goes on from
+-- there with the same inputs. What it shows from there on is all that the operations do, in at most the steps that they
+-- may take, and never more. A view shows the state where main begins, with the initial values of the objects, and its
+-- run makes no access that is barred
 pub record ShowsProgram (p : PlainIrProgram) (place : ℕ → ℕ) (e : Env) (spans : List Span) (v : View) (s : State)
     (inputs : Inputs) : Type 0 where
   pub steps : ℕ
@@ -59,6 +64,7 @@ pub record ShowsProgram (p : PlainIrProgram) (place : ℕ → ℕ) (e : Env) (sp
   pub ran : machine steps v.inputs s ≡ Running trace main
   pub on : (k : ℕ) → machine (steps + k) v.inputs s ≡ preceded_by trace (machine k v.inputs main)
   pub seen : noted_all e trace ≡ noted_all e (all_accesses e spans)
+  pub started : is_safe (run e steps (AtWord s.pc (anew v))) ≡ true
   pub reaches : Reaches (within_steps p inputs) (seen_meaning p place inputs) (noted_run e v.inputs main)
   pub within : (m : ℕ) → IsWithin (seen_meaning p place inputs m) (noted_run e v.inputs main m)
   pub view : View

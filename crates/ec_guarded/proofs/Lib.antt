@@ -1,0 +1,4 @@
+pub mod Unsafe
+pub mod OneStep
+pub mod Allowed
+pub mod InMemory

@@ -1,0 +1,234 @@
+-- What is left of a machine's whole trace.
+use Rattle.std.proofs.Common.{◌≡◌, ℕ, zero, suc, ◌+◌, ◌≤◌, true, ℤ, List, [], ◌∷◌, Some, refl, sym, ap, ◌∙◌, subst, arith}
+use Rattle.std.specs.Prelude.{IsSomeAnd, slice_get, option_map, IsTrue}
+use Rattle.std.specs.List.{AllByRecursion}
+use Rattle.std.proofs.lemmas.Bool.{ne_eqb}
+use Rattle.std.proofs.lemmas.Option.{slice_get-map}
+use Rattle.ec_runs.specs.Behaviours.{Behaviour, Running as GoesOn, Ended as Ends, Failed, Reached}
+use Rattle.ec_space.specs.Spaces.{holds}
+use Rattle.ec_space.specs.declared.space.Bank.TheVariants.{Data as DataBank}
+use Rattle.ec_space.specs.declared.space.SpaceId.{SpaceId}
+use Rattle.ec_avr.specs.declared.machine.Access.TheVariants.{Read as ByteRead, Write as ByteWrite}
+use Rattle.ec_avr.specs.Inputs.{trace_of}
+use Rattle.ec_avr.specs.Laws.{MachineIsRun}
+use Rattle.ec_avr.specs.Machine.{State, Inputs, machine, IsReset}
+use Rattle.ec_avr.specs.State.{byte_at}
+use Rattle.ec_asm.specs.View.{bytes_of}
+use Rattle.ec_asm.specs.Change.{Env, Stacked}
+use Rattle.ec_asm.specs.Laws.{StackStaysInside}
+use Rattle.ec_asm.specs.Pieces.{value}
+use Rattle.ec_asm.specs.Run.{Running as AtWord, run, is_safe}
+use Rattle.ec_asm.specs.Shows.{Fits, noted_all}
+use Rattle.ec_asm.specs.declared.items.AsmProgram.{AsmProgram}
+use Rattle.ec_core.specs.Accesses.{leaf_of, leaf_count}
+use Rattle.ec_core.specs.Laws.{IsAtHome, EventsAreAtHome, MoreTurnsOnlyAdd}
+use Rattle.ec_core.specs.Meaning.{initial_object, initial_value, behaviour_of, state_of, run as source_run, source}
+use Rattle.ec_core.specs.Plain.{PlainObject, PlainProgram}
+use Rattle.ec_core.specs.PortTable.{plain_table}
+use Rattle.ec_core.specs.State.{Event, In, Out, Read, Write, Outcome, got, more, undefined}
+use Rattle.ec_core.specs.Valid.{IsAddressable}
+use Rattle.ec_core.specs.ValueTypes.{GiveBytes}
+use Rattle.ec_core.specs.declared.programs.LeafInit.{LeafInit}
+use Rattle.ec_core.specs.declared.values.Undefined.{Undefined}
+use Rattle.ec_core.specs.declared.values.Value.{Value}
+use Rattle.ec_core.specs.declared.values.Value.TheVariants.{Number}
+use Rattle.ec_guarded.specs.Allowed.{IsAllowed, AccessesAreAllowed}
+use Rattle.ec_ir.specs.Meaning.{meaning, run as operations_run, start_state, standing}
+use Rattle.ec_ir.specs.Operations.{data_of}
+use Rattle.ec_ir.specs.Temporaries.{low_bytes}
+use Rattle.ec_lower_code.specs.Code.{lowered}
+use Rattle.ec_lower_code.specs.Correct.{LoweredFollows, is_paid}
+use Rattle.ec_map.specs.declared.map.Map.{Map}
+use Rattle.ec_locate.specs.declared.placing.Located.{Located}
+use Rattle.ec_select_functions.specs.Laws.{HoldsUnlessFailed}
+use Rattle.ec_select_functions.specs.Places.{NumberLeaf}
+use Rattle.ec_select_functions.specs.Relation.{event_accesses}
+use Rattle.ec_select.specs.Laws.{SelectionsRun}
+use Rattle.ec_select.specs.Program.{has_initial_bytes, spans_of}
+use Rattle.ec_placed.specs.Kinds.{place_of}
+use Rattle.ec_placed.specs.Laws.{AreKinds}
+use Rattle.ec_placed.specs.Runs.{view_of, RunsAsSource}
+use Rattle.ec_placed.specs.Spaces.{IsLeafByte}
+use Rattle.ec_placed.specs.Translation.{IsTranslated}
+use Rattle.ec_placed.specs.Whole.{kept, copies, IsHomeByte, IsForEvent, AreForEvents, StaysAtHome, AreInitial, ShowsWhole, ProgramsShowTheirSources}
+use Rattle.ec_placed.proofs.DataEvents.{IsKeptInData, IsInData, events_in_data}
+use Rattle.ec_placed.proofs.FromReset.{HasMeaning, meaning_before, quiet, reached, within, pushes}
+use Rattle.ec_placed.proofs.Guarded.{all_of}
+use Rattle.ec_placed.proofs.Kept.{frames_are_needs, kept_is_noted}
+use Rattle.ec_placed.proofs.Laid.{PlacedLaws, are_kinds_of, is_copied}
+use Rattle.ec_placed.proofs.Copied.{copies_are_noted}
+use Rattle.ec_placed.proofs.Ran.{reset_shows, runs_as_operations, runs_as_source}
+use Rattle.ec_placed.proofs.Watched.{watched_kinds, watched_tables, watched, watched_has_kinds, watched_was, watched_fits, watched_are_laid_out}
+
+-- what this rests on
+pub record WholeLaws : Type 0 where
+  pub laid : PlacedLaws
+  pub selections : SelectionsRun
+  pub follows : LoweredFollows
+  pub machine_run : MachineIsRun
+  pub turns : MoreTurnsOnlyAdd
+  pub stack : StackStaysInside
+  pub allowed : AccessesAreAllowed
+  pub home : EventsAreAtHome
+
+-- ---- events
+
+both_to : {A : Type 0} (P Q R : A → Type 0) → ((x : A) → P x → Q x → R x) → (xs : List A) → AllByRecursion P xs → AllByRecursion Q xs → AllByRecursion R xs
+both_to P Q R f [] a b = tt
+both_to P Q R f (x ∷ xs) a b = (f x a.0 b.0, both_to P Q R f xs a.1 b.1)
+
+events_running : (o : Outcome Value) (es : List Event) → behaviour_of o ≡ GoesOn es → (state_of o).events ≡ es
+events_running (got x s) es h = absurd cc
+events_running (more s) es h = cc
+events_running (undefined point s) es h = absurd cc
+
+events_ended : (o : Outcome Value) (es : List Event) (result : ℤ) → behaviour_of o ≡ Ends es result → (state_of o).events ≡ es
+events_ended (got x s) es result h = cc
+events_ended (more s) es result h = absurd cc
+events_ended (undefined point s) es result h = absurd cc
+
+module _ (p : PlainProgram) (l : Located) where
+  home_byte : (o k at : ℕ) (space : SpaceId) → IsSomeAnd (slice_get p.objects o) (λ x. IsTrue (holds space x.home) × IsAddressable x.storage)
+      → IsKeptInData p o → IsLeafByte p l o k at → IsHomeByte p l o k space DataBank at
+  home_byte o k at space there kept_there b =
+      let here : IsTrue (holds space b.object.home) × IsAddressable b.object.storage =
+      subst (λ z. IsSomeAnd z (λ x. IsTrue (holds space x.home) × IsAddressable x.storage)) b.is_object there in
+      let home : b.object.home ≡ DataBank = subst (λ z. IsSomeAnd z (λ x. x.home ≡ DataBank)) b.is_object kept_there in
+      record { object = b.object; leaf = b.leaf; is_object = b.is_object; is_leaf = b.is_leaf; home = home; in_space = here.0; from_there = b.from_there; within = b.within }
+
+  -- each access of an event is of a byte of its leaf
+  for_event : (event : Event) → IsAtHome p event → IsInData p event → AllByRecursion (IsForEvent p l event) (event_accesses p (place_of l) event)
+  for_event (In port byte) there kept_there = (refl, tt)
+  for_event (Out port byte) there kept_there = (refl, tt)
+  for_event (Read o k space v) there kept_there =
+      all_of p l (IsForEvent p l (Read o k space v)) (ByteRead DataBank) o k v (λ at byte b. (DataBank, at, byte, refl, home_byte o k at space there kept_there b))
+  for_event (Write o k space v) there kept_there =
+      all_of p l (IsForEvent p l (Write o k space v)) ByteWrite o k v (λ at byte b. (at, byte, refl, home_byte o k at space there kept_there b))
+
+same_data : (p : PlainProgram) (event : Event) → IsInData (data_of (lowered p)) event → IsInData p event
+same_data p (In port byte) h = tt
+same_data p (Out port byte) h = tt
+same_data p (Read o k space v) h = h
+same_data p (Write o k space v) h = h
+
+-- ---- memory
+
+-- above the ports the view shows each byte
+value_seen : (t : State) (a n : ℕ) → 256 ≤ a → value (bytes_of t.mem.data) a n ≡ value (byte_at t) a n
+value_seen t a zero high = refl
+value_seen t a (suc n) high =
+    let before = value_seen t a n high in
+    let other = ne_eqb (a + n) 0x5F (λ q. omega (arith, q, high)) in
+    rw (before, other) refl
+
+-- ---- the whole
+
+module _ (laws : WholeLaws) (p : PlainProgram) (m : Map) (asm : AsmProgram) (l : Located) (s : State) (inputs : Inputs)
+    (h : IsTranslated p m asm l) (reset : IsReset l.image.core l.image.bytes.items s) (give : GiveBytes inputs) where
+  abbrev e : Env
+  e = watched p m asm l
+
+  are : AreKinds p m asm l
+  are = are_kinds_of laws.laid p m asm l h
+
+  fit : Fits e 2304
+  fit = watched_fits p m asm l h.located h.bytes
+
+  r : RunsAsSource p m l e s inputs
+  r =
+      runs_as_source laws.follows laws.machine_run p m asm l e s inputs h reset give
+      (runs_as_operations laws.laid.made laws.selections p m asm l e s inputs h reset give refl fit (watched_are_laid_out laws.laid p m asm l h))
+
+  -- ---- accesses
+
+  safe_at : (k : ℕ) → HasMeaning p m inputs k → is_safe (run e k (AtWord r.main.pc r.view)) ≡ true
+  safe_at k has = by_shown (source p (plain_table m.io) inputs k) refl (r.safe k) where
+    by_shown : (b : Behaviour Event ℤ Undefined) → source p (plain_table m.io) inputs k ≡ b
+        → HoldsUnlessFailed b (is_safe (run e k (AtWord r.main.pc r.view))) → is_safe (run e k (AtWord r.main.pc r.view)) ≡ true
+    by_shown (Failed point) q t = absurd (has point q)
+    by_shown (GoesOn es) q t = t
+    by_shown (Ends es result) q t = t
+
+  alike : (k : ℕ) → HasMeaning p m inputs k → noted_all e (trace_of (machine k inputs r.main)) ≡ kept p l (trace_of (machine k inputs r.main))
+  alike k has =
+      kept_is_noted p m asm l are (frames_are_needs p m asm l h) (trace_of (machine k inputs r.main))
+      (subst (λ f. AllByRecursion (IsAllowed e) (trace_of (machine k f r.main))) r.given
+      (laws.allowed e 2304 k k r.main r.view fit r.shown (safe_at k has) (omega arith)))
+
+  -- ---- before main
+
+  start_allowed : AllByRecursion (IsAllowed e) r.trace
+  start_allowed =
+      subst (λ run. AllByRecursion (IsAllowed e) (trace_of run)) r.ran
+      (laws.allowed e 2304 r.steps r.steps s (view_of s inputs) fit (reset_shows p m asm l e s inputs h refl reset give) r.started (omega arith))
+
+  copied : kept p l r.trace ≡ copies p m l
+  copied =
+      sym (kept_is_noted p m asm l are (frames_are_needs p m asm l h) r.trace start_allowed) ∙ r.seen ∙ copies_are_noted laws.laid p m asm l h are
+
+  -- ---- spaces
+
+  of_events : (n k : ℕ) (es : List Event) → (state_of (source_run p (plain_table m.io) inputs n)).events ≡ es
+      → (state_of (operations_run (lowered p) inputs k)).events ≡ es → AreForEvents p l es
+  of_events n k es q o =
+      both_to (IsAtHome p) (IsInData (data_of (lowered p))) (λ event. AllByRecursion (IsForEvent p l event) (event_accesses p (place_of l) event))
+      (λ event there kept_there. for_event p l event there (same_data p event kept_there)) es
+      (subst (AllByRecursion (IsAtHome p)) q (laws.home p (plain_table m.io) inputs n))
+      (subst (AllByRecursion (IsInData (data_of (lowered p)))) o (events_in_data (lowered p) inputs k h.code))
+
+  spaces : (n : ℕ) → StaysAtHome p l (source p (plain_table m.io) inputs n)
+  spaces n = by_shown (source p (plain_table m.io) inputs n) refl ((laws.follows p m.io h.valid h.lowered_whole).reaches inputs give n) where
+    by_shown : (b : Behaviour Event ℤ Undefined) → source p (plain_table m.io) inputs n ≡ b
+        → Reached (is_paid p m.io (lowered p) inputs n) (meaning (lowered p) inputs) n b → StaysAtHome p l b
+    by_shown (Failed point) q x = tt
+    by_shown (GoesOn es) q x =
+        of_events n x.0 es (events_running (source_run p (plain_table m.io) inputs n) es q) (events_running (operations_run (lowered p) inputs x.0) es x.3)
+    by_shown (Ends es result) q x =
+        of_events n x.0 es (events_ended (source_run p (plain_table m.io) inputs n) es result q)
+        (events_ended (operations_run (lowered p) inputs x.0) es result x.2)
+
+  -- ---- initial values
+
+  initials : AreInitial p l r.main
+  initials leaf inits n is_static has =
+      let own : NumberLeaf (data_of (lowered p)) = record {
+        object = leaf.object;
+        number = leaf.number;
+        declared = leaf.declared;
+        signed = leaf.signed;
+        bytes = leaf.bytes;
+        at = leaf.at;
+        is_object = leaf.is_object;
+        is_leaf = leaf.is_leaf;
+        in_data = leaf.in_data;
+      } in
+      let of = λ (o : PlainObject). standing (initial_object (leaf_count (data_of (lowered p)) o.ty) o.storage) in
+      let there : slice_get (start_state (data_of (lowered p))).objects leaf.object ≡ Some (of leaf.declared) =
+      slice_get-map of p.objects leaf.object ∙ ap (option_map of) leaf.is_object in
+      let set : leaf_of (of leaf.declared) leaf.number ≡ Some (Number n) =
+      rw is_static (rw (slice_get-map (λ (init : LeafInit). Some (initial_value init)) inits leaf.number) (rw has refl)) in
+      let is : has_initial_bytes leaf.declared.storage leaf.declared.home ≡ true = rw (is_static, leaf.in_data) refl in
+      let high =
+      (is_copied laws.laid p m asm l h (watched_kinds p m asm l) watched_tables (watched_has_kinds p m asm l are) leaf.object leaf.declared leaf.is_object is).high in
+      sym (value_seen r.main (place_of l leaf.object + leaf.at) leaf.bytes (omega (arith, high)))
+      ∙ subst (λ f. value f (place_of l leaf.object + leaf.at) leaf.bytes ≡ low_bytes leaf.bytes n) r.shown.at
+      (r.initials own (of leaf.declared) (Number n) there set)
+
+  pub whole : ShowsWhole p m l s inputs
+  whole = record {
+    steps = r.steps;
+    few = r.few;
+    start = r.trace;
+    main = r.main;
+    ran = r.ran;
+    quiet = quiet e r.trace (spans_of (lowered p)) r.seen;
+    copied = copied;
+    initials = initials;
+    reached = λ defined. reached p m l e s inputs r (kept p l) (HasMeaning p m inputs) alike (λ k point. defined k point);
+    within = within p m l e s inputs r (kept p l) (HasMeaning p m inputs) alike laws.machine_run laws.turns (meaning_before laws.turns p m inputs);
+    spaces = spaces;
+    stack = pushes p m l e s inputs r laws.stack fit (λ a q. are.stack_told a (watched_was p m asm l a Stacked q (λ z. cc)));
+  }
+
+pub programs_show_their_sources : WholeLaws → ProgramsShowTheirSources
+programs_show_their_sources laws p m asm l s inputs h reset give = whole laws p m asm l s inputs h reset give
