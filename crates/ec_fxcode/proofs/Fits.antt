@@ -33,17 +33,17 @@ holds_end to mode k X end h = holds_by to mode k X end mode.saturate h
 
 -- ---- numbers with and without a sign
 
-plus : (n A : ℕ) → 2 * A < 256 ^ n → signed_number n A ≡ pos A
+pub plus : (n A : ℕ) → 2 * A < 256 ^ n → signed_number n A ≡ pos A
 plus n A l = rw (lt-ltb (2 * A) (256 ^ n) l) refl
 
-minus : (n A : ℕ) → 256 ^ n ≤ 2 * A → A < 256 ^ n → signed_number n A ≡ negsuc (256 ^ n - A - 1)
+pub minus : (n A : ℕ) → 256 ^ n ≤ 2 * A → A < 256 ^ n → signed_number n A ≡ negsuc (256 ^ n - A - 1)
 minus n A l m =
     let e : pos A -ℤ pos (256 ^ n) ≡ negsuc (256 ^ n - A - 1) = omega (arith, ints) in
     rw (le-ltb (2 * A) (256 ^ n) l) e
 
 -- ---- the range with a sign
 
-signed_inside : (to : Format) (mode : Mode) (x h : ℕ) → to.signed ≡ true → 2 ^ (to.bits - 1) ≡ h → x < h
+pub signed_inside : (to : Format) (mode : Mode) (x h : ℕ) → to.signed ≡ true → 2 ^ (to.bits - 1) ≡ h → x < h
     → fit to mode (pos x) ≡ Got (record { format = to; n = pos x })
 signed_inside to mode x h s p l = rw (s, p) (grind (arith, ints))
 
@@ -51,7 +51,7 @@ signed_above : (to : Format) (mode : Mode) (x h : ℕ) → to.signed ≡ true �
     → fit to mode (pos x) ≡ clamped to mode (pos (h - 1))
 signed_above to mode x h s p o l = rw (s, p) (grind (arith, ints))
 
-negative_inside : (to : Format) (mode : Mode) (x h : ℕ) → to.signed ≡ true → 2 ^ (to.bits - 1) ≡ h → x < h
+pub negative_inside : (to : Format) (mode : Mode) (x h : ℕ) → to.signed ≡ true → 2 ^ (to.bits - 1) ≡ h → x < h
     → fit to mode (negsuc x) ≡ Got (record { format = to; n = negsuc x })
 negative_inside to mode x h s p l = rw (s, p) (grind (arith, ints))
 
@@ -87,7 +87,7 @@ signed_holds to mode n k A X h s p o w l c =
 
 -- ---- the range without a sign
 
-unsigned_inside : (to : Format) (mode : Mode) (x P : ℕ) → to.signed ≡ false → 2 ^ to.bits ≡ P → x < P
+pub unsigned_inside : (to : Format) (mode : Mode) (x P : ℕ) → to.signed ≡ false → 2 ^ to.bits ≡ P → x < P
     → fit to mode (pos x) ≡ Got (record { format = to; n = pos x })
 unsigned_inside to mode x P s p l = rw (s, p) (grind (arith, ints))
 

@@ -79,7 +79,7 @@ signed_by e v x l =
       seen = refl;
     }
 
-signs : (e : Env) (p : Location) (n a : ℕ) (v : View) → address e p n ≡ a → KindIs e p a Own → v.at a < 256
+pub signs : (e : Env) (p : Location) (n a : ℕ) (v : View) → address e p n ≡ a → KindIs e p a Own → v.at a < 256
     → Signs v (block e (sign_code p (suc n)) v) (fill (v.at a))
 signs e p n a v at kind l =
     let q : suc n - 1 ≡ n = omega arith in
@@ -88,7 +88,7 @@ signs e p n a v at kind l =
 
 -- ---- the bytes above
 
-record FillsTo (u : View) (a byte i : ℕ) (v : View) : Type 0 where
+pub record FillsTo (u : View) (a byte i : ℕ) (v : View) : Type 0 where
   pub there : (j : ℕ) → j < i → v.at (a + j) ≡ byte
   pub sign : v.at 31 ≡ byte
   pub keeps : Keeps u v a i
@@ -113,7 +113,7 @@ fill_step e q k b m byte u s clear i l v h =
       };
     })
 
-fills : (e : Env) (q : Location) (k b m byte : ℕ) (v : View) → StandsFrom e q k b Own → IsClearOfEnds b k
+pub fills : (e : Env) (q : Location) (k b m byte : ℕ) (v : View) → StandsFrom e q k b Own → IsClearOfEnds b k
     → v.at 31 ≡ byte → FillsTo v (b + m) byte (k - m) (block e (fills_code q m k) v)
 fills e q k b m byte v s clear sign =
     chain_holds e (λ i. put_byte 31 q (m + i)) (FillsTo v (b + m) byte) (k - m) (λ i l u h. fill_step e q k b m byte v s clear i (omega arith) u h) v (record { there = λ j z. absurd (omega arith); sign = sign; keeps = record { same = λ j y z o. refl; inputs = refl; safe = refl; seen = refl } })
@@ -128,11 +128,11 @@ pub record Extends (v0 : View) (a b k m byte : ℕ) (v : View) : Type 0 where
   pub other : v.at 30 ≡ v0.at 30
   pub keeps : KeepsBut v0 v b k
 
-part_stands : (e : Env) (p : Location) (n m a : ℕ) → m ≤ n → StandsFrom e p n a Own → StandsFrom e p m a Own
+pub part_stands : (e : Env) (p : Location) (n m a : ℕ) → m ≤ n → StandsFrom e p n a Own → StandsFrom e p m a Own
 part_stands e p n m a l s = record { at = λ i k. s.at i (omega arith); kind = λ i k. s.kind i (omega arith); clear = s.clear }
 
 -- a copy of what no object has is not seen
-no_log : (a b : ℕ) (f : ℕ → ℕ) (n : ℕ) → copy_log Own Own a b f n ≡ []
+pub no_log : (a b : ℕ) (f : ℕ → ℕ) (n : ℕ) → copy_log Own Own a b f n ≡ []
 no_log a b f zero = refl
 no_log a b f (suc n) = ap (λ l. l ++ []) (no_log a b f n)
 
@@ -141,7 +141,7 @@ apart_from_30 : (b k m : ℕ) → m ≤ k → IsClearOfEnds b k → b ≤ 30 →
 apart_from_30 b k m l c x =
     ⊎_elim (λ y. c.below y) (λ y. let z = c.above y in absurd (omega arith)) (cases_lt b 30)
 
-joined : (v0 v1 v2 v3 : View) (a b n k m byte : ℕ) → m ≤ n → m ≤ k → 2 ≤ a → 2 ≤ b → IsClearOfEnds a n → IsClearOfEnds b k
+pub joined : (v0 v1 v2 v3 : View) (a b n k m byte : ℕ) → m ≤ n → m ≤ k → 2 ≤ a → 2 ≤ b → IsClearOfEnds a n → IsClearOfEnds b k
     → Signs v0 v1 byte → CopiesTo v1 a b Own Own m v2 → FillsTo v2 (b + m) byte (k - m) v3
     → Extends v0 a b k m byte v3
 joined v0 v1 v2 v3 a b n k m byte l l' ua ub ca cb s c f = record {
@@ -161,7 +161,7 @@ joined v0 v1 v2 v3 a b n k m byte l l' ua ub ca cb s c f = record {
 }
 
 -- R31 is not among the bytes
-beyond : (b k m : ℕ) → m ≤ k → IsClearOfEnds b k → b ≤ 31 → b + m ≤ 31
+pub beyond : (b k m : ℕ) → m ≤ k → IsClearOfEnds b k → b ≤ 31 → b + m ≤ 31
 beyond b k m l c x =
     ⊎_elim (λ y. let z = c.below y in omega arith) (λ y. let z = c.above y in omega arith) (cases_lt b 30)
 

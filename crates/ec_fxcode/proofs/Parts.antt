@@ -10,7 +10,7 @@ use Rattle.ec_fxcode.proofs.Alike.{value_parts, zeros, ones, low_top, high_top, 
 use Rattle.ec_fxcode.proofs.Moves.{Extends}
 use Rattle.ec_fxcode.proofs.Fits.{IsSignedEnd, IsUnsignedEnd}
 
-value_moved : (f g : ℕ → ℕ) (a b n : ℕ) → ((j : ℕ) → j < n → f (a + j) ≡ g (b + j)) → value f a n ≡ value g b n
+pub value_moved : (f g : ℕ → ℕ) (a b n : ℕ) → ((j : ℕ) → j < n → f (a + j) ≡ g (b + j)) → value f a n ≡ value g b n
 value_moved f g a b zero h = refl
 value_moved f g a b (suc n) h =
     let x = value_moved f g a b n (λ j l. h j (omega arith)) in

@@ -20,7 +20,7 @@ pub record IsShort (code : List AsmItem) (steps words : ℕ) : Type 0 where
   pub steps_are : code_steps code ≤ steps
   pub words_are : code_words code ≤ words
 
-joined : (a b : List AsmItem) (k m l n : ℕ) → IsShort a k l → IsShort b m n → IsShort (a ++ b) (k + m) (l + n)
+pub joined : (a b : List AsmItem) (k m l n : ℕ) → IsShort a k l → IsShort b m n → IsShort (a ++ b) (k + m) (l + n)
 joined a b k m l n p q =
     let s = p.steps_are in
     let t = q.steps_are in
@@ -32,7 +32,7 @@ joined a b k m l n p q =
       words_are = omega (arith, sum_by-append item_words a b, u, w);
     }
 
-chained : (body : ℕ → List AsmItem) (n k l : ℕ) → ((i : ℕ) → IsShort (body i) k l)
+pub chained : (body : ℕ → List AsmItem) (n k l : ℕ) → ((i : ℕ) → IsShort (body i) k l)
     → IsShort (chain body n) (n * k) (n * l)
 chained body zero k l h = record { straight = refl; steps_are = omega arith; words_are = omega arith }
 chained body (suc n) k l h =
@@ -41,7 +41,7 @@ chained body (suc n) k l h =
     let w = j.words_are in
     record { straight = j.straight; steps_are = omega (arith, s); words_are = omega (arith, w) }
 
-weaker : (code : List AsmItem) (k m l n : ℕ) → k ≤ m → l ≤ n → IsShort code k l → IsShort code m n
+pub weaker : (code : List AsmItem) (k m l n : ℕ) → k ≤ m → l ≤ n → IsShort code k l → IsShort code m n
 weaker code k m l n a b h =
     let s = h.steps_are in
     let w = h.words_are in
@@ -49,21 +49,21 @@ weaker code k m l n a b h =
 
 -- ---- the pieces
 
-take_short : (p : Location) (i : ℕ) → IsShort (take_byte p i) 1 2
+pub take_short : (p : Location) (i : ℕ) → IsShort (take_byte p i) 1 2
 take_short (InRegisters r) i = record { straight = refl; steps_are = omega arith; words_are = omega arith }
 take_short (InMemory o k) i = record { straight = refl; steps_are = omega arith; words_are = omega arith }
 
-put_short : (s : ℕ) (p : Location) (i : ℕ) → IsShort (put_byte s p i) 1 2
+pub put_short : (s : ℕ) (p : Location) (i : ℕ) → IsShort (put_byte s p i) 1 2
 put_short s (InRegisters r) i = record { straight = refl; steps_are = omega arith; words_are = omega arith }
 put_short s (InMemory o k) i = record { straight = refl; steps_are = omega arith; words_are = omega arith }
 
-copy_short : (p q : Location) (i : ℕ) → IsShort (copy_byte p q i) 2 4
+pub copy_short : (p q : Location) (i : ℕ) → IsShort (copy_byte p q i) 2 4
 copy_short (InRegisters r) (InRegisters s) i = record { straight = refl; steps_are = omega arith; words_are = omega arith }
 copy_short (InRegisters r) (InMemory o k) i = record { straight = refl; steps_are = omega arith; words_are = omega arith }
 copy_short (InMemory o k) (InRegisters r) i = record { straight = refl; steps_are = omega arith; words_are = omega arith }
 copy_short (InMemory o k) (InMemory o' k') i = record { straight = refl; steps_are = omega arith; words_are = omega arith }
 
-sign_short : (p : Location) (n : ℕ) → IsShort (sign_code p n) 3 4
+pub sign_short : (p : Location) (n : ℕ) → IsShort (sign_code p n) 3 4
 sign_short p n =
     joined (take_byte p (n - 1)) (Plain (Add 0 0) ∷ Plain (Sbc 31 31) ∷ []) 1 2 2 2 (take_short p (n - 1)) (record { straight = refl; steps_are = omega arith; words_are = omega arith })
 
@@ -117,3 +117,23 @@ pub clamp_short : (to : Format) (mode : Mode) (p q : Location) (n k : ℕ)
 clamp_short to mode p q n k =
     weaker (clamp_code to mode p q n k) (3 + 2 * k + (16 + 4 * k + 3 * n)) (60 + 20 * max n k) (4 + 4 * k + (19 + 6 * k + 4 * n)) (60 + 20 * max n k) (omega arith) (omega arith)
     (joined (extended_code p q n k) (saturate_if (mode.saturate && may_pass to.signed n k) to.signed p q n k) (3 + 2 * k) (16 + 4 * k + 3 * n) (4 + 4 * k) (19 + 6 * k + 4 * n) (extended_short p q n k) (if_short (mode.saturate && may_pass to.signed n k) to.signed p q n k))
+
+-- and so many words, by the bytes of the number beyond those of the format
+pub clamp_words : (to : Format) (mode : Mode) (p q : Location) (n k : ℕ)
+    → code_words (clamp_code to mode p q n k) ≤ 23 + 10 * k + 4 * (n - k)
+clamp_words to mode p q n k =
+    let a = (extended_short p q n k).words_are in
+    let b = if_words (mode.saturate && may_pass to.signed n k) to.signed p q n k in
+    omega (arith, sum_by-append item_words (extended_code p q n k) (saturate_if (mode.saturate && may_pass to.signed n k) to.signed p q n k), a, b)
+  where
+    few : (signed : Bool) (p q : Location) (n k : ℕ) → code_words (saturate_code signed p q n k) ≤ 19 + 6 * k + 4 * (n - k)
+    few signed p q n k =
+        let r = n - k in
+        (weaker (saturate_code signed p q n k) (4 + (r * 3 + (5 + (4 * k + 7)))) (4 + (r * 3 + (5 + (4 * k + 7)))) (5 + (r * 4 + (5 + (6 * k + 9)))) (19 + 6 * k + 4 * r) (omega arith) (omega arith)
+        (joined (wanted_code signed p k) (gather_code p k n ++ (masks_code ++ ends_code signed q k)) 4 (r * 3 + (5 + (4 * k + 7))) 5 (r * 4 + (5 + (6 * k + 9))) (wanted_short signed p k)
+        (joined (gather_code p k n) (masks_code ++ ends_code signed q k) (r * 3) (5 + (4 * k + 7)) (r * 4) (5 + (6 * k + 9)) (chained (λ i. gather_byte p (k + i)) r 3 4 (λ i. gather_short p (k + i)))
+        (joined masks_code (ends_code signed q k) 5 (4 * k + 7) 5 (6 * k + 9) (record { straight = refl; steps_are = omega arith; words_are = omega arith }) (ends_short signed q k))))).words_are
+
+    if_words : (test signed : Bool) (p q : Location) (n k : ℕ) → code_words (saturate_if test signed p q n k) ≤ 19 + 6 * k + 4 * (n - k)
+    if_words true signed p q n k = few signed p q n k
+    if_words false signed p q n k = omega arith

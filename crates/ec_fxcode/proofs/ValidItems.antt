@@ -18,10 +18,10 @@ use Rattle.ec_asm.specs.Valid.{Sizes, is_valid_item, used_label, is_label, is_pl
 use Rattle.ec_fxcode.specs.Clamps.{take_byte, put_byte, sign_code, fills_code, extended_code, wanted_code, gather_byte, gather_code, masks_code, end_byte, top_byte, ends_code, saturate_code, may_pass, saturate_if, clamp_code}
 use Rattle.ec_fxcode.specs.ClampLaws.{HasPlaces, ClampsAreValid, ClampsUseNoLabel, ClampsPlaceNoLabel}
 
-both : (t : AsmItem → Bool) (a b : List AsmItem) → list_all t a ≡ true → list_all t b ≡ true → list_all t (a ++ b) ≡ true
+pub both : (t : AsmItem → Bool) (a b : List AsmItem) → list_all t a ≡ true → list_all t b ≡ true → list_all t (a ++ b) ≡ true
 both t a b h k = list_all-append t a b ∙ rw (h, k) refl
 
-chain_passes : (t : AsmItem → Bool) (body : ℕ → List AsmItem) (n : ℕ) → ((i : ℕ) → i < n → list_all t (body i) ≡ true)
+pub chain_passes : (t : AsmItem → Bool) (body : ℕ → List AsmItem) (n : ℕ) → ((i : ℕ) → i < n → list_all t (body i) ≡ true)
     → list_all t (chain body n) ≡ true
 chain_passes t body zero h = refl
 chain_passes t body (suc n) h =
@@ -95,17 +95,17 @@ module _ (t : AsmItem → Bool) (p q : Location) (n k : ℕ) (h : Passes t p q n
 
 -- ---- fields
 
-take_valid : (sizes : Sizes) (p : Location) (n i : ℕ) → HasPlaces sizes p n → i < n
+pub take_valid : (sizes : Sizes) (p : Location) (n i : ℕ) → HasPlaces sizes p n → i < n
     → list_all (is_valid_item sizes) (take_byte p i) ≡ true
 take_valid sizes (InRegisters r) n i h l = let m : r + i < 32 = omega arith in rw (lt-ltb (r + i) 32 m) refl
 take_valid sizes (InMemory o k) n i h l = rw (h i l) refl
 
-put_valid : (sizes : Sizes) (s : ℕ) (p : Location) (n i : ℕ) → nat_lt s 32 ≡ true → HasPlaces sizes p n → i < n
+pub put_valid : (sizes : Sizes) (s : ℕ) (p : Location) (n i : ℕ) → nat_lt s 32 ≡ true → HasPlaces sizes p n → i < n
     → list_all (is_valid_item sizes) (put_byte s p i) ≡ true
 put_valid sizes s (InRegisters r) n i e h l = let m : r + i < 32 = omega arith in rw (lt-ltb (r + i) 32 m, e) refl
 put_valid sizes s (InMemory o k) n i e h l = rw (e, h i l) refl
 
-copy_valid : (sizes : Sizes) (p q : Location) (n k i : ℕ) → HasPlaces sizes p n → HasPlaces sizes q k → i < n → i < k
+pub copy_valid : (sizes : Sizes) (p q : Location) (n k i : ℕ) → HasPlaces sizes p n → HasPlaces sizes q k → i < n → i < k
     → list_all (is_valid_item sizes) (copy_byte p q i) ≡ true
 copy_valid sizes (InRegisters r) (InRegisters s) n k i h g l m =
     let x : r + i < 32 = omega arith in

@@ -15,7 +15,7 @@ use ec_space::{NoMemory, Seq};
 use std::alloc::Global;
 
 /// Appends code that takes byte `i` of a number to R0.
-fn take_byte(out: &mut Seq<AsmItem>, from: Location, i: u8) -> Result<(), NoMemory>
+pub fn take_byte(out: &mut Seq<AsmItem>, from: Location, i: u8) -> Result<(), NoMemory>
     requires { HasByte from i }
     ensures ok { OnOk result (out.new.items ≡ out.old.items ++ take_byte from i) }
     ensures err { OnErr result (out.new.items ≡ out.old.items) }
@@ -33,7 +33,7 @@ fn take_byte(out: &mut Seq<AsmItem>, from: Location, i: u8) -> Result<(), NoMemo
 }
 
 /// Appends code that puts the byte of a register to byte `i` of a place.
-fn put_byte(out: &mut Seq<AsmItem>, register: u8, to: Location, i: u8) -> Result<(), NoMemory>
+pub fn put_byte(out: &mut Seq<AsmItem>, register: u8, to: Location, i: u8) -> Result<(), NoMemory>
     requires { HasByte to i }
     ensures ok { OnOk result (out.new.items ≡ out.old.items ++ put_byte register to i) }
     ensures err { OnErr result (out.new.items ≡ out.old.items) }
@@ -52,7 +52,7 @@ fn put_byte(out: &mut Seq<AsmItem>, register: u8, to: Location, i: u8) -> Result
 }
 
 /// Appends code that makes R31 0, or 255 where a number is negative.
-fn sign(out: &mut Seq<AsmItem>, from: Location, bytes: u8) -> Result<(), NoMemory>
+pub fn sign(out: &mut Seq<AsmItem>, from: Location, bytes: u8) -> Result<(), NoMemory>
     requires from { HasByte from (bytes - 1) }
     requires some { 1 ≤ bytes }
     ensures ok { OnOk result (out.new.items ≡ out.old.items ++ sign_code from bytes) }
@@ -66,7 +66,7 @@ fn sign(out: &mut Seq<AsmItem>, from: Location, bytes: u8) -> Result<(), NoMemor
 }
 
 /// Appends code that puts R31 to the bytes of a place from byte `m` up to byte `bytes`.
-fn fills(out: &mut Seq<AsmItem>, to: Location, m: u8, bytes: u8) -> Result<(), NoMemory>
+pub fn fills(out: &mut Seq<AsmItem>, to: Location, m: u8, bytes: u8) -> Result<(), NoMemory>
     requires to { HasBytes to bytes }
     requires most { m ≤ bytes }
     ensures ok { OnOk result (out.new.items ≡ out.old.items ++ fills_code to m bytes) }
@@ -315,7 +315,7 @@ pub fn clamp_code(
 }
 
 /// The bytes of a slot.
-fn place_of(slot: Slot) -> Location
+pub fn place_of(slot: Slot) -> Location
     ensures { result ≡ place_of slot }
 {
     Location::InMemory {

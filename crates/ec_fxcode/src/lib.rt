@@ -7,4 +7,4 @@
 mod clamps;
 pub mod laws;
 
-pub use clamps::{clamp, clamp_code};
+pub use clamps::{clamp, clamp_code, fills, place_of, put_byte, sign, take_byte};

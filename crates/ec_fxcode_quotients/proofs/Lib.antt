@@ -1,0 +1,12 @@
+pub mod Begun
+pub mod Loop
+pub mod Number
+pub mod Ready
+pub mod Rows
+pub mod Signs
+pub mod Sizes
+pub mod Start
+pub mod Steps
+pub mod ValidItems
+pub mod Whole
+pub mod Words

@@ -1,0 +1,10 @@
+//! The code of quotients of fixed-point numbers.
+//!
+//! `specs/Quotients.antt` has the code, `specs/QuotientLaws.antt` what it does. R0, R1, R30 and R31 are work registers.
+#![tactic(auto)]
+
+mod division;
+pub mod laws;
+mod quotients;
+
+pub use quotients::div_code;

@@ -1,0 +1,11 @@
+pub mod Before
+pub mod Bounds
+pub mod Entered
+pub mod Left
+pub mod Right
+pub mod Shifted
+pub mod Steps
+pub mod Negated
+pub mod Turns
+pub mod ValidItems
+pub mod Whole
