@@ -5,16 +5,10 @@
 #[cfg(test)]
 mod fx;
 #[cfg(test)]
-mod interp;
-#[cfg(test)]
-mod interp_programs;
-#[cfg(test)]
 mod iohw;
 #[cfg(test)]
 mod isa;
 #[cfg(test)]
 mod space;
-#[cfg(test)]
-mod tables;
 #[cfg(test)]
 mod typed_core;

@@ -1,0 +1,458 @@
+//! A text for each constraint, told at its unit and token by the reading of the rule; and programs.
+
+use crate::units::shown;
+use std::alloc::Global;
+use std::process::Abort;
+use std::test::Fail;
+
+/// A text, and what `check` tells of it.
+type Row = (&'static str, &'static str);
+
+/// Rules of specifiers and declarators.
+static DECLARATIONS: [Row; 16] = [
+    (
+        "char short g;int main(void){return 0;}",
+        "unit 0 token 0 rule 1",
+    ),
+    (
+        "static extern int g;int main(void){return 0;}",
+        "unit 0 token 0 rule 1",
+    ),
+    (
+        "int f(static int a){return a;}int main(void){return 0;}",
+        "unit 0 token 3 rule 1",
+    ),
+    (
+        "__data __flash const int g=0;int main(void){return 0;}",
+        "unit 0 token 1 rule 2",
+    ),
+    (
+        "int main(void){__data int a=0;return a;}",
+        "unit 0 token 6 rule 3",
+    ),
+    (
+        "__data int f(void){return 0;}int main(void){return 0;}",
+        "unit 0 token 0 rule 3",
+    ),
+    (
+        "__flash int g=1;int main(void){return 0;}",
+        "unit 0 token 0 rule 4",
+    ),
+    (
+        "int main(void){int a;int a;return 0;}",
+        "unit 0 token 10 rule 5",
+    ),
+    (
+        "int f(int){return 0;}int main(void){return 0;}",
+        "unit 0 token 3 rule 5",
+    ),
+    (
+        "int f(int a){int a;return 0;}int main(void){return 0;}",
+        "unit 0 token 8 rule 5",
+    ),
+    (
+        "int a;int a;int main(void){return 0;}",
+        "unit 0 token 4 rule 6",
+    ),
+    ("void g;int main(void){return 0;}", "unit 0 token 0 rule 7"),
+    (
+        "int g[0];int main(void){return 0;}",
+        "unit 0 token 2 rule 8",
+    ),
+    ("int g[];int main(void){return 0;}", "unit 0 token 2 rule 8"),
+    (
+        "int n;int g[n];int main(void){return 0;}",
+        "unit 0 token 5 rule 8",
+    ),
+    (
+        "int main(void){int a;int a=x;return 0;}",
+        "unit 0 token 10 rule 5",
+    ),
+];
+
+/// Rules of sizes, structs, named registers and initialisers.
+static TYPES: [Row; 16] = [
+    (
+        "int g[16384];int main(void){return 0;}",
+        "unit 0 token 1 rule 9",
+    ),
+    (
+        "struct s{int a[16000];int b[384];};int main(void){return 0;}",
+        "unit 0 token 1 rule 9",
+    ),
+    (
+        "struct s g;int main(void){return 0;}",
+        "unit 0 token 1 rule 10",
+    ),
+    (
+        "struct s{int a;};struct s{int a;};int main(void){return 0;}",
+        "unit 0 token 9 rule 10",
+    ),
+    (
+        "struct s{const int a;};int main(void){return 0;}",
+        "unit 0 token 5 rule 11",
+    ),
+    (
+        "struct s{int f(void);};int main(void){return 0;}",
+        "unit 0 token 4 rule 11",
+    ),
+    (
+        "register _R1 char g;int main(void){return 0;}",
+        "unit 0 token 1 rule 12",
+    ),
+    (
+        "register _R6 long g;int main(void){return 0;}",
+        "unit 0 token 1 rule 12",
+    ),
+    (
+        "register _R2 int *g;int main(void){return 0;}",
+        "unit 0 token 1 rule 12",
+    ),
+    (
+        "register _R2 int a;register _R3 int b;int main(void){return 0;}",
+        "unit 0 token 6 rule 13",
+    ),
+    (
+        "int g={1};int main(void){return 0;}",
+        "unit 0 token 3 rule 14",
+    ),
+    (
+        "int g[2]=3;int main(void){return 0;}",
+        "unit 0 token 6 rule 14",
+    ),
+    (
+        "int g[2]={1,2,3};int main(void){return 0;}",
+        "unit 0 token 6 rule 14",
+    ),
+    (
+        "int a;int g=a;int main(void){return 0;}",
+        "unit 0 token 6 rule 15",
+    ),
+    (
+        "int g=1/0;int main(void){return 0;}",
+        "unit 0 token 3 rule 15",
+    ),
+    (
+        "_Fract g=0.75r+0.75r;int main(void){return 0;}",
+        "unit 0 token 3 rule 15",
+    ),
+];
+
+/// Rules of functions and names.
+static FUNCTIONS: [Row; 18] = [
+    (
+        "extern int g=1;int main(void){return 0;}",
+        "unit 0 token 0 rule 16",
+    ),
+    (
+        "int main(void){extern int a;return 0;}",
+        "unit 0 token 6 rule 16",
+    ),
+    (
+        "int main(void){int f(void);return 0;}",
+        "unit 0 token 7 rule 16",
+    ),
+    (
+        "struct s{int a;};int f(struct s a){return 0;}int main(void){return 0;}",
+        "unit 0 token 13 rule 17",
+    ),
+    (
+        "struct s{int a;};struct s f(void);int main(void){return 0;}",
+        "unit 0 token 10 rule 17",
+    ),
+    ("int main(int a){return 0;}", "unit 0 token 1 rule 18"),
+    ("static int main(void){return 0;}", "unit 0 token 2 rule 18"),
+    ("void main(void){}", "unit 0 token 1 rule 18"),
+    ("int f(void){return 0;}", "unit 0 token 10 rule 18"),
+    (
+        "int f(void);int main(void){return f();}",
+        "unit 0 token 13 rule 19",
+    ),
+    (
+        "extern int a;int main(void){return a;}",
+        "unit 0 token 11 rule 19",
+    ),
+    ("int main(void){return x;}", "unit 0 token 7 rule 20"),
+    (
+        "int main(void){{int a=1;}return a;}",
+        "unit 0 token 14 rule 20",
+    ),
+    (
+        "int main(void){return f();}int f(void){return 0;}",
+        "unit 0 token 7 rule 20",
+    ),
+    (
+        "int f(void){return 0;}int main(void){return f;}",
+        "unit 0 token 17 rule 21",
+    ),
+    (
+        "int a;int main(void){return a();}",
+        "unit 0 token 10 rule 21",
+    ),
+    (
+        "int f(int a){return a;}int main(void){return f();}",
+        "unit 0 token 19 rule 22",
+    ),
+    ("int main(void){return x+y;}", "unit 0 token 7 rule 20"),
+];
+
+/// Rules of operators and assignments.
+static OPERATORS: [Row; 16] = [
+    (
+        "int main(void){int a=2;return a * a;}",
+        "unit 0 token 13 rule 23",
+    ),
+    (
+        "int main(void){_Fract a=0.5r;return (int)(a % 2);}",
+        "unit 0 token 17 rule 23",
+    ),
+    (
+        "struct s{int a;};int main(void){struct s a={1};return -a;}",
+        "unit 0 token 23 rule 23",
+    ),
+    (
+        "int main(void){_Fract a=0.5r;a=a*a;return 0;}",
+        "unit 0 token 14 rule 23",
+    ),
+    (
+        "int main(void){int a=0;int *p=&a;return p < 1;}",
+        "unit 0 token 20 rule 24",
+    ),
+    (
+        "int main(void){int a=0;int *p=&a;return 1 ? p : 1;}",
+        "unit 0 token 20 rule 24",
+    ),
+    (
+        "void f(void){}struct s{int a;};int main(void){struct s a={1};if(a)return 1;return 0;}",
+        "unit 0 token 29 rule 25",
+    ),
+    (
+        "struct s{int a;};int main(void){struct s a={1};return !a;}",
+        "unit 0 token 23 rule 25",
+    ),
+    ("int main(void){1 = 2;return 0;}", "unit 0 token 7 rule 26"),
+    (
+        "int main(void){int a[2];int b[2];a = b;return 0;}",
+        "unit 0 token 19 rule 26",
+    ),
+    ("int main(void){return *&1;}", "unit 0 token 8 rule 26"),
+    (
+        "const int a=1;int main(void){a = 2;return 0;}",
+        "unit 0 token 13 rule 27",
+    ),
+    (
+        "const int a=1;int main(void){++a;return 0;}",
+        "unit 0 token 12 rule 27",
+    ),
+    (
+        "int main(void){int a=0;int *p=&a;a = p;return 0;}",
+        "unit 0 token 19 rule 28",
+    ),
+    (
+        "int main(void){int a=0;char *p=&a;return 0;}",
+        "unit 0 token 15 rule 28",
+    ),
+    (
+        "int main(void){int a=0;return &a;}",
+        "unit 0 token 11 rule 28",
+    ),
+];
+
+/// Rules of pointers, ports and statements.
+static POINTERS: [Row; 23] = [
+    (
+        "int main(void){__data int *p;int *g;p = g;return 0;}",
+        "unit 0 token 16 rule 29",
+    ),
+    (
+        "const int a=1;int main(void){int *p=&a;return 0;}",
+        "unit 0 token 16 rule 30",
+    ),
+    (
+        "int main(void){int a=0;return *(int*)a;}",
+        "unit 0 token 13 rule 31",
+    ),
+    (
+        "int main(void){int a=0;return (int)*(char*)&a;}",
+        "unit 0 token 16 rule 31",
+    ),
+    (
+        "const __flash int t=1;__data int d;int main(void){const __flash int *p=&t;__data int *q=&d;return p == q;}",
+        "unit 0 token 36 rule 32",
+    ),
+    (
+        "register _R4 int g;int main(void){int *p=&g;return 0;}",
+        "unit 0 token 15 rule 33",
+    ),
+    (
+        "int main(void){int a=0;return *a;}",
+        "unit 0 token 12 rule 34",
+    ),
+    (
+        "int main(void){int a=0;return a[0];}",
+        "unit 0 token 13 rule 34",
+    ),
+    (
+        "int a[2];int main(void){return a[0.5r];}",
+        "unit 0 token 14 rule 34",
+    ),
+    (
+        "int main(void){int a=0;return a.x;}",
+        "unit 0 token 13 rule 34",
+    ),
+    (
+        "int main(void){int a=0;return a->x;}",
+        "unit 0 token 13 rule 34",
+    ),
+    (
+        "struct s{int a;};struct s g;int main(void){return g.b;}",
+        "unit 0 token 21 rule 35",
+    ),
+    (
+        "#include <iohw.h>\nint main(void){return (int)iord(NONE);}",
+        "unit 0 token 10 rule 36",
+    ),
+    (
+        "#include <iohw.h>\nint main(void){iowr(LED);return 0;}",
+        "unit 0 token 6 rule 36",
+    ),
+    (
+        "#include <iohw.h>\nint main(void){iogroup_acquire(LED);return 0;}",
+        "unit 0 token 6 rule 36",
+    ),
+    (
+        "#include <iohw.h>\nint main(void){return (int)iord(L);}",
+        "unit 0 token 10 rule 37",
+    ),
+    ("int main(void){break;}", "unit 0 token 6 rule 38"),
+    (
+        "int main(void){if(1)continue;return 0;}",
+        "unit 0 token 10 rule 38",
+    ),
+    (
+        "void f(void){return 1;}int main(void){return 0;}",
+        "unit 0 token 6 rule 39",
+    ),
+    ("int main(void){return;}", "unit 0 token 6 rule 39"),
+    (
+        "void f(void){}int main(void){int a=f();return 0;}",
+        "unit 0 token 16 rule 40",
+    ),
+    (
+        "void f(void){}int main(void){return f()+1;}",
+        "unit 0 token 14 rule 40",
+    ),
+    (
+        "struct s{int a;};struct s g;int main(void){g;return 0;}",
+        "unit 0 token 18 rule 40",
+    ),
+];
+
+/// Programs, and such as recur.
+static PROGRAMS: [Row; 6] = [
+    ("int main(void){return 0;}", "0 objects, 1 functions"),
+    (
+        "int a;static int b[3];int f(int x){int y=x;return y;}int main(void){return f(a)+b[0];}",
+        "4 objects, 2 functions",
+    ),
+    (
+        "#pragma STDC FX_FRACT_OVERFLOW SAT\n_Fract g=0.75r+0.75r;int main(void){return g==1.0r;}",
+        "1 objects, 1 functions",
+    ),
+    (
+        "int a;int main(void){int a=1;{int a=2;}return a;}",
+        "3 objects, 1 functions",
+    ),
+    (
+        "int g(void);int f(void){return g();}int g(void){return f();}int main(void){return f();}",
+        "recursion f",
+    ),
+    ("int main(void){return main();}", "recursion main"),
+];
+
+/// Programs of two units.
+static PAIRS: [(&str, &str, &str); 8] = [
+    (
+        "int a;int main(void){return 0;}",
+        "extern long a;",
+        "unit 1 token 2 rule 6",
+    ),
+    (
+        "int f(void);int main(void){return 0;}",
+        "int f(int x){return x;}",
+        "unit 1 token 1 rule 6",
+    ),
+    ("", "", "unit 1 token 0 rule 18"),
+    (
+        "int f(void){return x;}",
+        "int main(void){break;}",
+        "unit 0 token 7 rule 20",
+    ),
+    (
+        "int twice(int x);int main(void){return twice(21);}",
+        "int twice(int x){return x+x;}",
+        "1 objects, 2 functions",
+    ),
+    (
+        "register _R4 long acc;int main(void){return 0;}",
+        "register _R4 long acc;",
+        "1 objects, 1 functions",
+    ),
+    (
+        "static int a;int main(void){return a;}",
+        "static int a;extern int b;int b=1;",
+        "3 objects, 1 functions",
+    ),
+    (
+        "int h(void);int g(void){return h();}int main(void){return g();}",
+        "int g(void);int h(void){return g();}",
+        "recursion g",
+    ),
+];
+
+fn compare(rt: &impl Abort, alloc: Global, rows: &[Row]) -> Result<(), Fail> {
+    for (text, want) in rows {
+        let told = shown(alloc, &[*text])?;
+        assert_eq!(rt; told.as_str(), *want, "{text}");
+    }
+    Ok(())
+}
+
+#[test]
+fn declarations(rt: HostRuntime) -> Result<(), Fail> {
+    compare(&rt, rt.alloc(), &DECLARATIONS)
+}
+
+#[test]
+fn types(rt: HostRuntime) -> Result<(), Fail> {
+    compare(&rt, rt.alloc(), &TYPES)
+}
+
+#[test]
+fn functions(rt: HostRuntime) -> Result<(), Fail> {
+    compare(&rt, rt.alloc(), &FUNCTIONS)
+}
+
+#[test]
+fn operators(rt: HostRuntime) -> Result<(), Fail> {
+    compare(&rt, rt.alloc(), &OPERATORS)
+}
+
+#[test]
+fn pointers(rt: HostRuntime) -> Result<(), Fail> {
+    compare(&rt, rt.alloc(), &POINTERS)
+}
+
+#[test]
+fn programs(rt: HostRuntime) -> Result<(), Fail> {
+    compare(&rt, rt.alloc(), &PROGRAMS)
+}
+
+#[test]
+fn pairs_of_units(rt: HostRuntime) -> Result<(), Fail> {
+    for (first, second, want) in &PAIRS {
+        let told = shown(rt.alloc(), &[*first, *second])?;
+        assert_eq!(rt; told.as_str(), *want, "{first} {second}");
+    }
+    Ok(())
+}
