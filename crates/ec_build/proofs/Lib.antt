@@ -1,7 +1,10 @@
-mod Returning
-mod Refusing
-mod CodeRun
-mod Inputs
-mod Built
-pub mod Complete
+pub mod Zips
+pub mod Lexed
+pub mod Parsed
+pub mod Held
+pub mod Coded
+pub mod Imaged
 pub mod Refused
+pub mod Unchecked
+pub mod Unplaced
+pub mod Composed

@@ -1,52 +1,44 @@
--- A source that was read and refused.
-use Rattle.std.proofs.Common.{◌≡◌, ℕ, List, Result, Ok, Err, inl, inr}
-use Rattle.std.specs.Prelude.{IfErr}
-use Rattle.ec_io.specs.Disk.{content}
-use Rattle.ec_build.specs.Builds.{HasInput, BuildStops}
-use Rattle.ec_build.specs.Refusals.{IsRefusedFor, StopsCompiling}
-use Rattle.ec_io.specs.Views.{StoreView}
-use Rattle.ec_commands.specs.Shown.{Told, KeepsAll}
-use Rattle.ec_commands.specs.Words.{Words, IsOneBuild, source_name}
-use Rattle.ec_commands.specs.declared.stop.Limit.TheVariants.{Sources, SourceBytes, MapBytes, HexBytes, ScriptBytes, Tokens, Nesting}
-use Rattle.ec_commands.specs.declared.stop.CommandError.{CommandError}
-use Rattle.ec_commands.specs.declared.stop.CommandError.TheVariants.{Usage, CannotRead, CannotWrite, BadByte, BadNumber, Unclosed, BadDirective, Syntax, NotCompiled, TooMany, NoMemory, BadRecord, BadSum, OutOfFlash, Twice, NoEnd, ScriptLine, Fault, StepsOut}
+-- What is accepted has no cause to be refused: the map and the units.
+use Rattle.std.proofs.Common.{◌≡◌, ℕ, zero, suc, List, [], ◌∷◌, Option, Some, None, subst, IsSomeAnd, slice_get}
+use Rattle.ec_grammar.specs.Trees as t
+use Rattle.ec_lex.specs.declared.stop.LexStop.{LexStop}
+use Rattle.ec_parse.specs.declared.stop.ParseStop.{ParseStop}
+use Rattle.ec_map.specs.Maps.{IsMap}
+use Rattle.ec_map.specs.Rules.{broken}
+use Rattle.ec_map.specs.Values.{document}
+use Rattle.ec_map.specs.declared.map.Map.{Map}
+use Rattle.ec_map.specs.declared.read.MapStop.{MapStop}
+use Rattle.ec_map.specs.declared.read.MapStop.TheVariants as map_stops
+use Rattle.ec_build.specs.MapTexts.{IsMapText, IsNoMap}
+use Rattle.ec_build.specs.Units.{IsUnit, AreUnits, IsFaulty, IsUnparsed}
 
-refused : (bytes : List ℕ) (stop : CommandError) → (stop ≡ NoMemory → ⊥) → StopsCompiling bytes stop → IsRefusedFor bytes stop
-refused bytes stop other (inl e) = absurd (other e)
-refused bytes stop other (inr h) = h
+-- ---- the map
 
--- what is so of these bytes is so of the source, where the store tells it
-abbrev pub OfSource : Words → StoreView → List ℕ → Type 1
-OfSource words old bytes = (P : List ℕ → Type 0) → P bytes → Told (λ files. HasInput words files × P (content files (source_name words))) old.disk
+both : {A : Type 0} (o : Option A) (P Q : A → Type 0) → IsSomeAnd o P → IsSomeAnd o Q → (x : A) × P x × Q x
+both None P Q h g = absurd h
+both (Some x) P Q h g = (x, h, g)
 
-pub stops_compiling : (words : Words) (old new : StoreView) (bytes : List ℕ) (stop : CommandError) → IsOneBuild words → KeepsAll old.disk new.disk
-    → OfSource words old bytes → StopsCompiling bytes stop → BuildStops words old new stop
-stops_compiling words old new bytes NoMemory one kept of h = record { cause = one; files = kept }
-stops_compiling words old new bytes (BadByte at) one kept of h = record { cause = (one, of (λ b. IsRefusedFor b (BadByte at)) (refused bytes (BadByte at) (λ e. cc) h)); files = kept }
-stops_compiling words old new bytes (BadNumber at) one kept of h = record { cause = (one, of (λ b. IsRefusedFor b (BadNumber at)) (refused bytes (BadNumber at) (λ e. cc) h)); files = kept }
-stops_compiling words old new bytes (Unclosed at) one kept of h = record { cause = (one, of (λ b. IsRefusedFor b (Unclosed at)) (refused bytes (Unclosed at) (λ e. cc) h)); files = kept }
-stops_compiling words old new bytes (BadDirective at) one kept of h = record { cause = (one, of (λ b. IsRefusedFor b (BadDirective at)) (refused bytes (BadDirective at) (λ e. cc) h)); files = kept }
-stops_compiling words old new bytes (Syntax token) one kept of h = record { cause = (one, of (λ b. IsRefusedFor b (Syntax token)) (refused bytes (Syntax token) (λ e. cc) h)); files = kept }
-stops_compiling words old new bytes NotCompiled one kept of h = record { cause = (one, of (λ b. IsRefusedFor b NotCompiled) (refused bytes NotCompiled (λ e. cc) h)); files = kept }
-stops_compiling words old new bytes (TooMany Tokens) one kept of h = record { cause = (one, of (λ b. IsRefusedFor b (TooMany Tokens)) (refused bytes (TooMany Tokens) (λ e. cc) h)); files = kept }
-stops_compiling words old new bytes (TooMany Nesting) one kept of h = record { cause = (one, of (λ b. IsRefusedFor b (TooMany Nesting)) (refused bytes (TooMany Nesting) (λ e. cc) h)); files = kept }
-stops_compiling words old new bytes Usage one kept of h = absurd (refused bytes Usage (λ e. cc) h).fault
-stops_compiling words old new bytes (CannotRead i) one kept of h = absurd (refused bytes (CannotRead i) (λ e. cc) h).fault
-stops_compiling words old new bytes CannotWrite one kept of h = absurd (refused bytes CannotWrite (λ e. cc) h).fault
-stops_compiling words old new bytes (TooMany Sources) one kept of h = absurd (refused bytes (TooMany Sources) (λ e. cc) h).fault
-stops_compiling words old new bytes (TooMany SourceBytes) one kept of h = absurd (refused bytes (TooMany SourceBytes) (λ e. cc) h).fault
-stops_compiling words old new bytes (TooMany MapBytes) one kept of h = absurd (refused bytes (TooMany MapBytes) (λ e. cc) h).fault
-stops_compiling words old new bytes (TooMany HexBytes) one kept of h = absurd (refused bytes (TooMany HexBytes) (λ e. cc) h).fault
-stops_compiling words old new bytes (TooMany ScriptBytes) one kept of h = absurd (refused bytes (TooMany ScriptBytes) (λ e. cc) h).fault
-stops_compiling words old new bytes (BadRecord line) one kept of h = absurd (refused bytes (BadRecord line) (λ e. cc) h).fault
-stops_compiling words old new bytes (BadSum line) one kept of h = absurd (refused bytes (BadSum line) (λ e. cc) h).fault
-stops_compiling words old new bytes (OutOfFlash line) one kept of h = absurd (refused bytes (OutOfFlash line) (λ e. cc) h).fault
-stops_compiling words old new bytes (Twice line) one kept of h = absurd (refused bytes (Twice line) (λ e. cc) h).fault
-stops_compiling words old new bytes NoEnd one kept of h = absurd (refused bytes NoEnd (λ e. cc) h).fault
-stops_compiling words old new bytes (ScriptLine line rule) one kept of h = absurd (refused bytes (ScriptLine line rule) (λ e. cc) h).fault
-stops_compiling words old new bytes (Fault kind pc) one kept of h = absurd (refused bytes (Fault kind pc) (λ e. cc) h).fault
-stops_compiling words old new bytes StepsOut one kept of h = absurd (refused bytes StepsOut (λ e. cc) h).fault
+pub map_not_refused : (text : List ℕ) (m : Map) (stop : MapStop) → IsMapText text m → IsNoMap text stop → ⊥
+map_not_refused text m map_stops.NotToml h why = subst (λ d. IsSomeAnd d (IsMap m)) (why h.utf8) h.map
+map_not_refused text m (map_stops.MapRule k) h why =
+    let x = both (document text) (IsMap m) (λ d. broken d ≡ Some k) h.map why.1 in
+    let kept = x.1.kept in
+    let is = x.2 in
+    cc
+map_not_refused text m map_stops.NoMemory h why = why
 
-pub err_map : {A : Type 0} (r : Result A CommandError) (P Q : CommandError → Type 0) → ((stop : CommandError) → P stop → Q stop) → IfErr r P → IfErr r Q
-err_map (Ok x) P Q f h = tt
-err_map (Err e) P Q f h = f e h
+-- ---- the units
+
+-- a text that has a tree is not told
+unit_there : (P : List ℕ → Type 0) (i : ℕ) (sources : List (List ℕ)) (units : List t.Tree) → ((bytes : List ℕ) (u : t.Tree) → IsUnit bytes u → ¬ P bytes) → AreUnits sources units → ¬ IsSomeAnd (slice_get sources i) P
+unit_there P i [] [] never h told = told
+unit_there P i [] (u ∷ units) never h told = h
+unit_there P i (s ∷ sources) [] never h told = h
+unit_there P zero (s ∷ sources) (u ∷ units) never h told = never s u h.0 told
+unit_there P (suc i) (s ∷ sources) (u ∷ units) never h told = unit_there P i sources units never h.1 told
+
+pub no_fault : (i : ℕ) (sources : List (List ℕ)) (units : List t.Tree) (stop : LexStop) → AreUnits sources units → ¬ IsSomeAnd (slice_get sources i) (λ bytes. IsFaulty bytes stop)
+no_fault i sources units stop h = unit_there (λ bytes. IsFaulty bytes stop) i sources units (λ bytes u unit faulty. faulty.none unit.list unit.lexed) h
+
+pub no_unparsed : (i : ℕ) (sources : List (List ℕ)) (units : List t.Tree) (stop : ParseStop) → AreUnits sources units → ¬ IsSomeAnd (slice_get sources i) (λ bytes. IsUnparsed bytes stop)
+no_unparsed i sources units stop h = unit_there (λ bytes. IsUnparsed bytes stop) i sources units (λ bytes u unit why. why.none u unit) h

@@ -1,75 +1,62 @@
--- When each answer of a build comes, and what it leaves.
-use Rattle.std.specs.Prelude.{ℕ, ◌+◌, ◌≤◌, ◌<◌, ◌≡◌, ◌⊎◌, true, false, take, Option, Some, None, IsSomeAnd, ⊤}
-use Rattle.ec_io.specs.Causes.{Rose, Counted}
-use Rattle.ec_io.specs.Disk.{Files, Disk, content}
-use Rattle.ec_build.specs.Code.{code_text}
-use Rattle.ec_build.specs.Refusals.{IsRefusedFor}
-use Rattle.ec_io.specs.Views.{StoreView}
-use Rattle.ec_commands.specs.Shown.{Told, IsWithin, IsPast, KeepsAll, Holds}
-use Rattle.ec_build.specs.Source.{IsSource}
-use Rattle.ec_commands.specs.Words.{Words, is_build, map_name, out_name, source_name, sources, IsOneBuild}
-use Rattle.ec_commands.specs.declared.stop.Limit.TheVariants.{Sources, SourceBytes, MapBytes}
-use Rattle.ec_commands.specs.declared.stop.CommandError.{CommandError}
-use Rattle.ec_commands.specs.declared.stop.CommandError.TheVariants.{Usage, CannotRead, CannotWrite, TooMany, NoMemory}
+-- What a build promises.
+use Rattle.std.specs.Prelude.{ℕ, ◌≡◌, ◌*◌, ◌≤◌, List, None}
+use Rattle.ec_grammar.specs.Trees as t
+use Rattle.ec_iohw.specs.declared.table.IoTable.{IoTable}
+use Rattle.ec_avr.specs.Machine.{State, Inputs, IsReset}
+use Rattle.ec_asm.specs.declared.items.AsmProgram.{AsmProgram}
+use Rattle.ec_core.specs.Plain.{PlainProgram, plain_program}
+use Rattle.ec_core.specs.PortTable.{plain_table}
+use Rattle.ec_core.specs.ValueTypes.{GiveBytes}
+use Rattle.ec_core.specs.Weight.{weight}
+use Rattle.ec_recursion.specs.Recursion.{NothingRecurs}
+use Rattle.ec_check.specs.Answers.{IsTyped, IsWithinLimits}
+use Rattle.ec_check.specs.Units.{least_fault}
+use Rattle.ec_later.specs.First.{first_later}
+use Rattle.ec_map.specs.declared.map.Map.{Map}
+use Rattle.ec_locate.specs.Placing.{scratch_needs}
+use Rattle.ec_locate.specs.declared.placing.Located.{Located}
+use Rattle.ec_placed.specs.Translation.{IsTranslated}
+use Rattle.ec_placed.specs.Whole.{ShowsWhole}
+use Rattle.ec_build.specs.MapTexts.{IsMapText}
+use Rattle.ec_build.specs.Units.{AreUnits}
+use Rattle.ec_build.specs.declared.building.Built.{Built}
 
--- the map is within its limit
-abbrev pub HasMap : Words → Files → Type 0
-HasMap words = IsWithin (map_name words) 16384
+-- ---- what is read
 
--- so are the map and the source
-pub record HasInput (words : Words) (files : Files) : Type 0 where
-  pub map : HasMap words files
-  pub source : IsWithin (source_name words) 65536 files
+-- the map, and the trees of the sources, which have no others
+pub record IsRead (sources : List (List ℕ)) (text : List ℕ) (m : Map) (units : List t.Tree) : Type 0 where
+  pub map : IsMapText text m
+  pub trees : AreUnits sources units
+  pub only : (others : List t.Tree) → AreUnits sources others → others ≡ units
 
--- the map and the source are within their limits, and the source returns k
-pub record Returning (words : Words) (k : ℕ) (files : Files) : Type 0 where
-  pub input : HasInput words files
-  pub source : IsSource (content files (source_name words)) k
+-- P is the typed program of trees: no token of theirs belongs to a form that is not compiled, and no limit, no
+-- constraint and no recursion stands against them
+pub record IsProgram (units : List t.Tree) (io : IoTable) (p : PlainProgram) : Type 0 where
+  pub compiled : first_later units ≡ None
+  pub limits : IsWithinLimits units
+  pub unbroken : least_fault units io ≡ None
+  pub typed : IsTyped units io p
+  pub loopless : NothingRecurs p
 
--- the store told its files, and the source is accepted
-abbrev pub Accepts : Words → Option Disk → Type 0
-Accepts words None = ⊥
-Accepts words (Some disk) = (k : ℕ) × Returning words k disk.files
+-- the map, and the typed program of the sources
+pub record IsChecked (sources : List (List ℕ)) (text : List ℕ) (m : Map) (p : PlainProgram) : Type 0 where
+  pub units : List t.Tree
+  pub read : IsRead sources text m units
+  pub program : IsProgram units m.io p
 
--- the map and the source are within their limits, and the source is refused for this
-abbrev pub RefusesSource : Words → StoreView → CommandError → Type 0
-RefusesSource words old stop =
-    IsOneBuild words × Told (λ files. HasInput words files
-    × IsRefusedFor (content files (source_name words)) stop) old.disk
+-- ---- what is built
 
--- when each answer other than 0 comes; none but out of memory comes where an earlier one has its cause
-abbrev pub BuildCause : Words → StoreView → StoreView → CommandError → Type 0
-BuildCause words old new Usage = is_build words ≡ false
-BuildCause words old new (TooMany Sources) = (is_build words ≡ true) × (1 < sources words)
-BuildCause words old new (CannotRead i) =
-    IsOneBuild words × Rose old.read_faults new.read_faults × ((i ≡ 1) ⊎ ((i ≡ 3) × Told (HasMap words) old.disk))
-BuildCause words old new (TooMany MapBytes) =
-    IsOneBuild words × Told (IsPast (map_name words) 16384) old.disk × Counted old.received new.received (16384 + 1)
-BuildCause words old new (TooMany SourceBytes) =
-    IsOneBuild words × Told (λ files. HasMap words files × IsPast (source_name words) 65536 files) old.disk
-    × ((n : ℕ) × ((n ≤ 16384) × Counted old.received new.received (n + (65536 + 1))))
-BuildCause words old new CannotWrite =
-    IsOneBuild words × Rose old.write_faults new.write_faults
-    × Told (λ files. (k : ℕ) × Returning words k files) old.disk
-BuildCause words old new NoMemory = IsOneBuild words
-BuildCause words old new stop = RefusesSource words old stop
+-- A valid program, whose code `asm` is, is placed by a map. The code has at most twice as many bytes as the program
+-- weighs. From every reset state, and whatever the ports give, the machine shows what the program does
+pub record IsImageOf (p : PlainProgram) (m : Map) (asm : AsmProgram) (l : Located) : Type 0 where
+  pub translated : IsTranslated p m asm l
+  pub frames : asm.frames.items ≡ scratch_needs p
+  pub small : l.code_bytes ≤ 2 * weight p (plain_table m.io)
+  pub shows : (s : State) (inputs : Inputs) → IsReset l.image.core l.image.bytes.items s → GiveBytes inputs
+      → ShowsWhole p m l s inputs
 
--- OUT holds a prefix of the HEX text of what the source returns, and all other files are as at entry
-abbrev pub HoldsPrefix : Words → Disk → Disk → Type 0
-HoldsPrefix words old new =
-    (k : ℕ) × (IsSource (content old.files (source_name words)) k
-    × ((n : ℕ) × Holds (out_name words) (take n (code_text k)) old new))
-
--- what a failed creation or a failed write leaves, where the store told its files
-abbrev pub LeavesPrefix : Words → Option Disk → Option Disk → Type 0
-LeavesPrefix words None new = ⊤
-LeavesPrefix words (Some old) new = IsSomeAnd new (λ now. (now.files ≡ old.files) ⊎ HoldsPrefix words old now)
-
--- the files after each answer other than 0
-abbrev pub LeavesFiles : Words → Option Disk → Option Disk → CommandError → Type 0
-LeavesFiles words old new CannotWrite = LeavesPrefix words old new
-LeavesFiles words old new _ = KeepsAll old new
-
-pub record BuildStops (words : Words) (old new : StoreView) (stop : CommandError) : Type 0 where
-  pub cause : BuildCause words old new stop
-  pub files : LeavesFiles words old.disk new.disk stop
+-- the program of the sources, and its image by the map
+pub record IsBuilt (sources : List (List ℕ)) (text : List ℕ) (b : Built) : Type 0 where
+  pub checked : IsChecked sources text b.map (plain_program b.program)
+  pub asm : AsmProgram
+  pub image : IsImageOf (plain_program b.program) b.map asm b.located

@@ -1,34 +1,23 @@
--- The code that returns a number: LDI R24 and LDI R25 with its two bytes, and BREAK.
-use Rattle.std.specs.Prelude.{ℕ, ◌+◌, ◌/◌, ◌%◌, true, false, Bool, List, replicate, slice_set}
-use Rattle.ec_space.specs.declared.Core.TheVariants.{Small}
-use Rattle.ec_avr.specs.Flash.{flash_size}
-use Rattle.ec_isa.specs.declared.instructions.Instr.TheVariants.{Ldi, Break}
-use Rattle.ec_isa.specs.Table.{first_word}
-use Rattle.ec_hex.specs.Text.{hex_text}
+-- The code of a program.
+use Rattle.std.specs.Prelude.{◌≡◌, ◌<◌, ◌≤◌, ◌^◌, length}
+use Rattle.ec_iohw.specs.declared.table.IoTable.{IoTable}
+use Rattle.ec_asm.specs.Items.{code_words}
+use Rattle.ec_asm.specs.Valid.{ValidAsm}
+use Rattle.ec_asm.specs.declared.items.AsmProgram.{AsmProgram}
+use Rattle.ec_core.specs.Plain.{PlainProgram}
+use Rattle.ec_core.specs.PortTable.{plain_table}
+use Rattle.ec_core.specs.Weight.{weight}
+use Rattle.ec_lower_code.specs.Code.{lowered}
+use Rattle.ec_lower_code.specs.Parts.{IsLowered}
+use Rattle.ec_locate.specs.Placing.{object_sizes, scratch_needs}
+use Rattle.ec_select.specs.Selected.{HasCode, IsSelection}
 
--- a flash with a word written at a byte address, the low byte first
-abbrev pub with_word : ℕ → ℕ → List ℕ → List ℕ
-with_word at word bytes = slice_set (slice_set bytes at (word % 256)) (at + 1) (word / 256)
-
-abbrev pub with_flags : ℕ → List Bool → List Bool
-with_flags at written = slice_set (slice_set written at true) (at + 1) true
-
--- a flash with the code written from address 0 on
-abbrev pub with_code : ℕ → List ℕ → List ℕ
-with_code k bytes =
-    with_word 4 (first_word Break)
-    (with_word 2 (first_word (Ldi 25 (k / 256))) (with_word 0 (first_word (Ldi 24 (k % 256))) bytes))
-
-abbrev pub with_code_flags : List Bool → List Bool
-with_code_flags written = with_flags 4 (with_flags 2 (with_flags 0 written))
-
--- the flash that holds the code alone
-unfoldable pub code_bytes : ℕ → List ℕ
-code_bytes k = with_code k (replicate (flash_size Small) 255)
-
-unfoldable pub code_flags : List Bool
-code_flags = with_code_flags (replicate (flash_size Small) false)
-
--- its Intel HEX text
-abbrev pub code_text : ℕ → List ℕ
-code_text k = hex_text (code_bytes k) code_flags
+-- the code of the operations of a program, which can be placed, and has at most as many words as the program weighs
+pub record IsCodeOf (p : PlainProgram) (io : IoTable) (asm : AsmProgram) : Type 0 where
+  pub lowered_whole : IsLowered p
+  pub code : HasCode (lowered p)
+  pub selection : IsSelection (lowered p) asm
+  pub frames : asm.frames.items ≡ scratch_needs p
+  pub small : code_words asm.items.items ≤ weight p (plain_table io)
+  pub valid : ValidAsm (object_sizes p) 64 asm
+  pub few : length asm.items.items < 2 ^ 32

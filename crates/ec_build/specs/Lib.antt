@@ -1,5 +1,8 @@
-pub mod Source
+pub mod Units
+pub mod Stops
+pub mod MapTexts
+pub mod Places
 pub mod Code
-pub mod Refusals
 pub mod Builds
-pub mod Headline
+pub mod Causes
+pub mod Accepted

@@ -1,110 +1,69 @@
-//! The command `build`.
-ghost use Rattle.std.specs.Prelude.{◌≡◌, ◌≤◌, ◌<◌, ◌∷◌, [], ℕ, List, IfOk, IfErr, OnOk, IsErrOf, true, false, length};
-ghost use Rattle.ec_build.specs.Code.{code_text};
-ghost use Rattle.ec_build.specs.Headline.{Builds};
-ghost use Rattle.ec_build.specs.Builds.{Returning, BuildStops};
-ghost use Rattle.ec_io.specs.Views.{store_view};
-ghost use Rattle.ec_commands.specs.Shown.{KeepsAll, Told};
-ghost use Rattle.ec_commands.specs.Words.{is_build as is_build_row, IsOneBuild, map_name, out_name, source_name};
-ghost use Rattle.ec_commands.specs.Words.{sources};
-ghost use Rattle.ec_commands.specs.declared.stop.Limit.TheVariants.{Sources};
-ghost use Rattle.ec_commands.specs.declared.stop.CommandError.{CommandError as Stopping};
+//! From sources and a map to a placed image.
+ghost use Rattle.std.specs.Prelude.{◌≡◌, ◌<◌, ◌≤◌, ◌^◌, All, IfOk, IfErr, length, map as each};
+ghost use Rattle.ec_build.specs.Accepted.{IsAccepted};
+ghost use Rattle.ec_build.specs.Builds.{IsBuilt};
+ghost use Rattle.ec_build.specs.Causes.{HasCause};
 
-use crate::code::image_of;
-use crate::compile::compile;
-use ec_commands::{CommandError, Limit, is_build, read, word_at, write_file};
-use ec_io::Store;
-use ec_space::NoMemory;
+use crate::codes::code_of;
+use crate::maps::map_of;
+use crate::places::placed;
+use crate::programs::program_of;
+use crate::stop::BuildStop;
+use crate::units::units_of;
+use ec_core::Program;
+use ec_later_compiled::forms_are_compiled;
+use ec_locate::Located;
+use ec_map::Map;
+use ec_space::Seq;
+use ec_text_numbers::texts_hold_numbers;
 use std::alloc::Global;
 
-/// The number that the one source returns. The map is read, and counts for nothing yet.
-fn read_and_compile<S: Store>(
-    alloc: Global,
-    words: &Vec<String>,
-    store: &mut S,
-) -> Result<u16, CommandError>
-    requires { IsOneBuild words.now.items }
-    ensures files { KeepsAll (S.disk store.old) (S.disk store.new) }
-    ensures small { IfOk result (λ k. k ≤ 32767) }
-    ensures found { IfOk result (λ k. Told (Returning words.now.items k) (S.disk store.old)) }
-    ensures stopped { IfErr result (BuildStops words.now.items
-        (store_view (S.disk store.old) (S.read_faults store.old) (S.write_faults store.old) (S.received store.old))
-        (store_view (S.disk store.new) (S.read_faults store.new) (S.write_faults store.new) (S.received store.new))) }
-    ensures later { S.read_faults store.old ≤ S.read_faults store.new }
-    ensures write_faults { S.write_faults store.new ≡ S.write_faults store.old }
-    ensures calm { (room : ℕ) → S.calm store.old (map_name words.now.items ∷ source_name words.now.items ∷ [])
-        (out_name words.now.items) room
-        → (S.read_faults store.new ≡ S.read_faults store.old)
-        × S.calm store.new (map_name words.now.items ∷ source_name words.now.items ∷ [])
-        (out_name words.now.items) room }
-{
-    match read(alloc, store, words, 1, Limit::MapBytes) {
-        Ok(_) => {}
-        Err(stop) => return Err(stop),
-    }
-    match read(alloc, store, words, 3, Limit::SourceBytes) {
-        Ok(source) => compile(alloc, &source),
-        Err(stop) => Err(stop),
-    }
+/// A program, the map by which it was placed, and where it stands.
+#[derive(Drop)]
+pub struct Built {
+    pub program: Program,
+    pub map: Map,
+    pub located: Located,
 }
 
-/// Builds the one source.
-fn build_one<S: Store>(
-    alloc: Global,
-    words: &Vec<String>,
-    store: &mut S,
-) -> Result<(), CommandError>
-    requires { IsOneBuild words.now.items }
-    ensures built { OnOk result (Builds words.now.items (S.disk store.old) (S.disk store.new)) }
-    ensures stopped { IfErr result (BuildStops words.now.items
-        (store_view (S.disk store.old) (S.read_faults store.old) (S.write_faults store.old) (S.received store.old))
-        (store_view (S.disk store.new) (S.read_faults store.new) (S.write_faults store.new) (S.received store.new))) }
-    ensures later { (S.read_faults store.old ≤ S.read_faults store.new)
-        × (S.write_faults store.old ≤ S.write_faults store.new) }
-    ensures calm { (room : ℕ) → S.calm store.old (map_name words.now.items ∷ source_name words.now.items ∷ [])
-        (out_name words.now.items) room
-        → ((k : ℕ) → Told (Returning words.now.items k) (S.disk store.old) → length (code_text k) ≤ room)
-        → (S.read_faults store.new ≡ S.read_faults store.old) × (S.write_faults store.new ≡ S.write_faults store.old) }
+/// What `build` answers.
+fn answer(alloc: Global, sources: &Seq<Seq<u8>>, map: &Seq<u8>) -> Result<Built, BuildStop>
+    requires some { 1 ≤ length sources.now.items }
+    requires most { length sources.now.items ≤ 16 }
+    requires short { All (λ s. length s.items < 2 ^ 32) sources.now.items }
+    ensures built { IfOk result (IsBuilt (each (λ s. s.items) sources.now.items) map.now.items) }
+    ensures stopped { IfErr result (HasCause (each (λ s. s.items) sources.now.items) map.now.items) }
 {
-    let k = match read_and_compile(alloc, words, store) {
-        Ok(k) => k,
-        Err(stop) => return Err(stop),
-    };
-    let image = match image_of(alloc, k) {
-        Ok(image) => image,
-        Err(NoMemory) => return Err(CommandError::NoMemory),
-    };
-    match write_file(store, word_at(words, 2), &image) {
-        Ok(()) => Ok(()),
-        Err(_) => Err(CommandError::CannotWrite),
-    }
+    let map = map_of(alloc, map)?;
+    let units = units_of(alloc, sources)?;
+    texts_hold_numbers();
+    let program = program_of(alloc, &units, &map)?;
+    forms_are_compiled();
+    let asm = code_of(alloc, &program, &map)?;
+    let located = placed(alloc, &program, &asm, &map)?;
+    Ok(Built {
+        program,
+        map,
+        located,
+    })
 }
 
-/// Builds the sources that the words name, and writes the HEX text of their image to OUT.
-pub fn build<S: Store>(
-    alloc: Global,
-    words: &Vec<String>,
-    store: &mut S,
-) -> Result<(), CommandError>
-    ensures usage { is_build_row words.now.items ≡ false → IsErrOf result CommandError.Usage × (store.new ≡ store.old) }
-    ensures sources { is_build_row words.now.items ≡ true → 1 < sources words.now.items
-        → IsErrOf result (CommandError.TooMany Sources) }
-    ensures built { OnOk result (Builds words.now.items (S.disk store.old) (S.disk store.new)) }
-    ensures stopped { IfErr result (BuildStops words.now.items
-        (store_view (S.disk store.old) (S.read_faults store.old) (S.write_faults store.old) (S.received store.old))
-        (store_view (S.disk store.new) (S.read_faults store.new) (S.write_faults store.new) (S.received store.new))) }
-    ensures later { (S.read_faults store.old ≤ S.read_faults store.new)
-        × (S.write_faults store.old ≤ S.write_faults store.new) }
-    ensures calm { (room : ℕ) → S.calm store.old (map_name words.now.items ∷ source_name words.now.items ∷ [])
-        (out_name words.now.items) room
-        → ((k : ℕ) → Told (Returning words.now.items k) (S.disk store.old) → length (code_text k) ≤ room)
-        → (S.read_faults store.new ≡ S.read_faults store.old) × (S.write_faults store.new ≡ S.write_faults store.old) }
+/// Compiles the sources and places their program by a map.
+///
+/// The answer is the program of the sources with its image, or the first cause why there is none: the map; the first
+/// unit whose text has a fault; the first whose tokens have no tree; the first token of a form that is not compiled
+/// yet; a limit, a constraint or recursion; the places. Where nothing stands against the sources and the map, only
+/// running out of memory keeps it from an answer.
+///
+/// `NoMemory` also where the code has more than 4,294,967,295 items.
+pub fn build(alloc: Global, sources: &Seq<Seq<u8>>, map: &Seq<u8>) -> Result<Built, BuildStop>
+    requires some { 1 ≤ length sources.now.items }
+    requires most { length sources.now.items ≤ 16 }
+    requires short { All (λ s. length s.items < 2 ^ 32) sources.now.items }
+    ensures built { IfOk result (IsBuilt (each (λ s. s.items) sources.now.items) map.now.items) }
+    ensures stopped { IfErr result (HasCause (each (λ s. s.items) sources.now.items) map.now.items) }
+    ensures complete { IsAccepted (each (λ s. s.items) sources.now.items) map.now.items
+        → IfErr result (λ stop. stop ≡ BuildStop.NoMemory) }
 {
-    if !is_build(words) {
-        return Err(CommandError::Usage);
-    }
-    if words.len() > 4 {
-        return Err(CommandError::TooMany(Limit::Sources));
-    }
-    build_one(alloc, words, store)
+    answer(alloc, sources, map)
 }

@@ -1,12 +1,19 @@
-//! From sources to the HEX text of their image.
+//! From sources and a map to a placed image.
 //!
-//! `specs/Source.antt` says what is compiled, `specs/Headline.antt` what status 0 promises of the text, and
-//! `specs/Builds.antt` when each other answer comes and which files it leaves.
+//! `build` reads the map, lexes all sources, parses them, checks their program, lowers it, selects its code and places
+//! it. `specs/Builds.antt` says what it promises, `specs/Causes.antt` why there is no build, and `specs/Accepted.antt`
+//! when there is one.
 #![tactic(auto)]
 
 mod building;
-mod code;
-mod compile;
-mod source;
+mod codes;
+mod maps;
+mod places;
+mod programs;
+mod stop;
+mod units;
 
-pub use building::build;
+pub use building::{Built, build};
+pub use ec_check::CheckStop;
+pub use ec_later::Later;
+pub use stop::BuildStop;

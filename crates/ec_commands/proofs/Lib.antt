@@ -2,3 +2,5 @@ mod Lines
 mod Outs
 mod RunParts
 pub mod RunComplete
+pub mod Files
+pub mod Named

@@ -12,7 +12,7 @@ use Rattle.ec_emu.specs.Script.{AreKept, BreaksAt, forms_of}
 use Rattle.ec_hex.specs.Denotes.{Denotes}
 use Rattle.ec_space.specs.declared.Core.TheVariants.{Small}
 use Rattle.ec_io.specs.Views.{StoreView, SinkCall, store_view}
-use Rattle.ec_commands.specs.Answers.{IsTold}
+use Rattle.ec_commands.specs.Answers.{IsTold, IsLeft}
 use Rattle.ec_commands.specs.Runs.{Gives, AcceptsRun, CanRun, StopsReadingInputs, HasTextFault, StopsLoading, StopsRunning, RunStops, Shows}
 use Rattle.ec_commands.specs.Stops.{status_of}
 use Rattle.ec_commands.specs.Words.{Words, IsNumber, hex_name, script_name}
@@ -25,14 +25,10 @@ same_number digits most n m a b = sym a.value ∙ b.value
 
 -- ---- answers by status
 
-pub by_status : (P : ℕ → Type 0) (Q : Type 0) (words : Words) (err : SinkCall) (calm : ℕ → Type 0) (r : Result Unit CommandError) (status : ℕ)
-    → OnOk r ((status ≡ 0) × Q) → IfErr r (IsTold words err calm status) → IfErr r (λ stop. P (status_of stop)) → (status ≡ 0) ⊎ P status
-by_status P Q words err calm (Ok x) status zero told all = inl zero.0
-by_status P Q words err calm (Err stop) status zero told all = inr (subst P (sym told.number) all)
-
--- out of memory, or how a run that was made ends
-abbrev pub IsLeft : ℕ → Type 0
-IsLeft status = (status ≡ 11) ⊎ ((status ≡ 13) ⊎ (status ≡ 14))
+pub by_status : {Stop : Type 0} (status_of : Stop → ℕ) (line_of : Stop → List ℕ) (P : ℕ → Type 0) (Q : Type 0) (err : SinkCall) (calm : ℕ → Type 0) (r : Result Unit Stop) (status : ℕ)
+    → OnOk r ((status ≡ 0) × Q) → IfErr r (λ stop. IsTold (status_of stop) (line_of stop) err calm status) → IfErr r (λ stop. P (status_of stop)) → (status ≡ 0) ⊎ P status
+by_status status_of line_of P Q err calm (Ok x) status zero told all = inl zero.0
+by_status status_of line_of P Q err calm (Err stop) status zero told all = inr (subst P (sym told.is) all)
 
 -- ---- no other stop
 
@@ -50,7 +46,7 @@ no_reading_stop words disk read written received new (TooMany HexBytes) accepted
 no_reading_stop words disk read written received new (TooMany ScriptBytes) accepted calm h = not_past (get disk.files (script_name words)) accepted.lines 65536 accepted.script accepted.script_fits h.0.1
 no_reading_stop words disk read written received new _ accepted calm h = h
 
-not_broken : (forms : List Form) (line rule : ℕ) → AreKept forms → BreaksAt forms line rule → ⊥
+pub not_broken : (forms : List Form) (line rule : ℕ) → AreKept forms → BreaksAt forms line rule → ⊥
 not_broken forms line rule kept breaks = let e = sym (kept breaks.n breaks.form breaks.at) ∙ breaks.breaks in cc
 
 no_text_fault : (words : Words) (disk : Disk) (text lines : List ℕ) (stop : CommandError) → (accepted : AcceptsRun words disk.files) → text ≡ accepted.text → lines ≡ accepted.lines
@@ -61,7 +57,7 @@ no_text_fault words disk text lines stop accepted hex script (inr h) =
     not_broken (forms_of Small lines) h.1.line h.1.rule (subst (λ (t : List ℕ). AreKept (forms_of Small t)) (sym script) accepted.kept) h.1.fault
 
 -- a stop that tells how a run ended
-shown_stop : (old new : Option (List ℕ)) (end : EmuEnd) (trace : List Access) (stop : CommandError) → Shows old new end trace (Some stop)
+pub shown_stop : (old new : Option (List ℕ)) (end : EmuEnd) (trace : List Access) (stop : CommandError) → Shows old new end trace (Some stop)
     → (stop ≡ CannotWrite) ⊎ IsLeft (status_of stop)
 shown_stop old new (ends.Ended n) trace CannotWrite h = inl refl
 shown_stop old new (ends.Ended n) trace _ h = absurd h

@@ -6,15 +6,13 @@ use Rattle.ec_avr.specs.declared.machine.FaultKind.TheVariants.{Unsupported, PcO
 use Rattle.ec_hex.specs.Bytes.{digits_of}
 use Rattle.ec_commands.specs.declared.stop.Limit.{Limit}
 use Rattle.ec_commands.specs.declared.stop.Limit.TheVariants.{Sources, SourceBytes, MapBytes, HexBytes, ScriptBytes}
-use Rattle.ec_commands.specs.declared.stop.Limit.TheVariants.{Tokens, Nesting}
+use Rattle.ec_commands.specs.declared.stop.Limit.TheVariants.{Tokens, Nesting, Objects, Functions}
 use Rattle.ec_commands.specs.declared.stop.CommandError.{CommandError}
-use Rattle.ec_commands.specs.declared.stop.CommandError.TheVariants.{Usage, CannotRead, CannotWrite, BadByte, BadNumber}
-use Rattle.ec_commands.specs.declared.stop.CommandError.TheVariants.{Unclosed, BadDirective, Syntax, NotCompiled}
-use Rattle.ec_commands.specs.declared.stop.CommandError.TheVariants.{TooMany}
+use Rattle.ec_commands.specs.declared.stop.CommandError.TheVariants.{Usage, CannotRead, CannotWrite, TooMany}
 use Rattle.ec_commands.specs.declared.stop.CommandError.TheVariants.{NoMemory, BadRecord, BadSum, OutOfFlash, Twice}
 use Rattle.ec_commands.specs.declared.stop.CommandError.TheVariants.{NoEnd}
 use Rattle.ec_commands.specs.declared.stop.CommandError.TheVariants.{ScriptLine, Fault, StepsOut}
-use Rattle.ec_commands.specs.Words.{Words, word, source_name}
+use Rattle.ec_commands.specs.Words.{Words, word}
 
 abbrev pub number_of : Limit → ℕ
 number_of Sources = 1
@@ -24,26 +22,24 @@ number_of HexBytes = 4
 number_of ScriptBytes = 5
 number_of Tokens = 6
 number_of Nesting = 7
+number_of Objects = 8
+number_of Functions = 9
 
 abbrev pub most_of : Limit → ℕ
-most_of Sources = 1
+most_of Sources = 16
 most_of SourceBytes = 65536
 most_of MapBytes = 16384
 most_of HexBytes = 1048576
 most_of ScriptBytes = 65536
 most_of Tokens = 65535
 most_of Nesting = 64
+most_of Objects = 1024
+most_of Functions = 256
 
 abbrev pub status_of : CommandError → ℕ
 status_of Usage = 2
 status_of (CannotRead i) = 3
 status_of CannotWrite = 4
-status_of (BadByte at) = 5
-status_of (BadNumber at) = 5
-status_of (Unclosed at) = 5
-status_of (BadDirective at) = 5
-status_of (Syntax token) = 6
-status_of NotCompiled = 7
 status_of (TooMany limit) = 10
 status_of NoMemory = 11
 status_of (BadRecord line) = 12
@@ -70,12 +66,6 @@ abbrev pub line_of : Words → CommandError → List ℕ
 line_of words Usage = codes "usage\n"
 line_of words (CannotRead i) = codes "cannot read " ++ word words i ++ codes "\n"
 line_of words CannotWrite = codes "cannot write\n"
-line_of words (BadByte at) = source_name words ++ codes " byte " ++ decimal at ++ codes ": bad byte\n"
-line_of words (BadNumber at) = source_name words ++ codes " byte " ++ decimal at ++ codes ": bad number\n"
-line_of words (Unclosed at) = source_name words ++ codes " byte " ++ decimal at ++ codes ": unclosed\n"
-line_of words (BadDirective at) = source_name words ++ codes " byte " ++ decimal at ++ codes ": bad directive\n"
-line_of words (Syntax token) = source_name words ++ codes " token " ++ decimal token ++ codes ": syntax\n"
-line_of words NotCompiled = source_name words ++ codes " token " ++ decimal 0 ++ codes ": constraint 0\n"
 line_of words (TooMany limit) =
     codes "limit " ++ decimal (number_of limit) ++ codes " " ++ decimal (most_of limit) ++ codes "\n"
 line_of words NoMemory = codes "no memory\n"
@@ -92,10 +82,4 @@ line_of words StepsOut = codes "steps out\n"
 -- the word whose file a stop names is there
 abbrev pub IsNamed : Words → CommandError → Type 0
 IsNamed words (CannotRead i) = i < length words
-IsNamed words (BadByte at) = 3 < length words
-IsNamed words (BadNumber at) = 3 < length words
-IsNamed words (Unclosed at) = 3 < length words
-IsNamed words (BadDirective at) = 3 < length words
-IsNamed words (Syntax token) = 3 < length words
-IsNamed words NotCompiled = 3 < length words
 IsNamed words _ = ⊤

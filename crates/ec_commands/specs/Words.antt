@@ -1,5 +1,6 @@
 -- The words of a command line, without the program's name.
-use Rattle.std.specs.Prelude.{ℕ, ◌-◌, ◌≡◌, ◌≤◌, ◌&&◌, nat_le, Bool, true, List, [], length, codes, option_map}
+use Rattle.std.specs.Prelude.{ℕ, ◌-◌, ◌≡◌, ◌≤◌, ◌&&◌, nat_le, Bool, true, List, [], length, map, drop, codes}
+use Rattle.std.specs.Prelude.{option_map}
 use Rattle.std.specs.Prelude.{unwrap_or, slice_get, String, string_bytes, bytes_eq}
 use Rattle.std.specs.Str.Parse.{IsNumeral, digits_value}
 use Rattle.std.specs.declared.alloc.Global.{Global}
@@ -28,18 +29,28 @@ map_name words = word words 1
 abbrev pub out_name : Words → List ℕ
 out_name words = word words 2
 
--- the first source
-abbrev pub source_name : Words → List ℕ
-source_name words = word words 3
+-- how many words there are from this one on, and the names that they are
+abbrev pub words_from : Words → ℕ → ℕ
+words_from words first = length words - first
 
--- how many sources there are
-abbrev pub sources : Words → ℕ
-sources words = length words - 3
+abbrev pub names_from : Words → ℕ → List (List ℕ)
+names_from words first = map string_bytes (drop first words)
 
--- a build of one source
-pub record IsOneBuild (words : Words) : Type 0 where
+-- a build of at most 16 sources
+pub record IsBuild (words : Words) : Type 0 where
   pub row : is_build words ≡ true
-  pub one : sources words ≡ 1
+  pub few : words_from words 3 ≤ 16
+
+-- exec MAP SCRIPT STEPS SRC...
+pub record IsExecRow (words : Words) (steps : ℕ) : Type 0 where
+  pub five : 5 ≤ length words
+  pub row : bytes_eq (word words 0) (codes "exec") ≡ true
+  pub steps_word : IsNumber (word words 3) 4294967295 steps
+
+-- with at most 16 sources
+pub record IsExec (words : Words) (steps : ℕ) : Type 0 where
+  pub row : IsExecRow words steps
+  pub few : words_from words 4 ≤ 16
 
 -- run HEX SCRIPT STEPS FILL
 pub record IsRun (words : Words) (steps fill : ℕ) : Type 0 where

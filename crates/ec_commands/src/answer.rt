@@ -2,7 +2,7 @@
 ghost use Rattle.std.specs.Prelude.{◌≡◌, IfErr, OnOk};
 ghost use Rattle.ec_io.specs.Views.{sink_call};
 ghost use Rattle.ec_commands.specs.Answers.{IsTold};
-ghost use Rattle.ec_commands.specs.Stops.{IsNamed};
+ghost use Rattle.ec_commands.specs.Stops.{IsNamed, status_of, line_of};
 
 use crate::line::tell;
 use crate::stop::{CommandError, status};
@@ -12,7 +12,7 @@ use ec_io::Sink;
 pub fn conclude<E: Sink>(err: &mut E, words: &Vec<String>, answer: Result<(), CommandError>) -> u8
     requires { IfErr answer (IsNamed words.now.items) }
     ensures done { OnOk answer ((result ≡ 0) × (err.new ≡ err.old)) }
-    ensures told { IfErr answer (IsTold words.now.items
+    ensures told { IfErr answer (λ stop. IsTold (status_of stop) (line_of words.now.items stop)
         (sink_call (E.written err.old) (E.written err.new) (E.faults err.old) (E.faults err.new))
         (E.calm err.old) result) }
     ensures rest { E.rest err.new ≡ E.rest err.old }

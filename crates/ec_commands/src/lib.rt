@@ -1,5 +1,5 @@
 //! What the commands share: their words, their answers with the lines that tell them, the reading of inputs, the
-//! writing of an image, and the command `run`.
+//! writing of an image, the running of a machine, and the command `run`.
 #![tactic(auto)]
 
 mod answer;
@@ -8,13 +8,16 @@ mod line;
 mod load;
 mod output;
 mod running;
+mod sources;
 mod stop;
 mod words;
 
 pub use answer::conclude;
 pub use input::read;
-pub use line::tell;
+pub use line::{Part, tell, write_line};
+pub use load::{Loaded, load_script};
 pub use output::write_file;
-pub use running::run;
+pub use running::{print_run, run};
+pub use sources::read_sources;
 pub use stop::{CommandError, Limit, status};
-pub use words::{RunNumbers, is_build, run_numbers, word_at};
+pub use words::{RunNumbers, exec_steps, is_build, run_numbers, word_at};

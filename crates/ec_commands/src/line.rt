@@ -7,7 +7,6 @@ ghost use Rattle.ec_commands.specs.Runs.{end_line, WritesEnd};
 ghost use Rattle.ec_commands.specs.Stops.{line_of, fault_name, four_digits, IsNamed};
 ghost use Rattle.ec_commands.specs.Lines.{bytes_of, line};
 ghost use Rattle.ec_commands.specs.Tells.{WritesPrefix, Tells};
-ghost use Rattle.ec_commands.specs.Words.{source_name};
 
 use crate::line::Part::{Hex, Number, Signed, Text};
 use crate::stop::CommandError;
@@ -69,7 +68,7 @@ fn write_parts<O: Sink>(out: &mut O, parts: &[Part<'_>]) -> Result<(), Failed>
 }
 
 /// Writes a line in parts. That a write failed is not told.
-fn write_line<E: Sink>(err: &mut E, parts: &[Part<'_>])
+pub fn write_line<E: Sink>(err: &mut E, parts: &[Part<'_>])
     ensures told { Tells (E.written err.old) (E.written err.new) (E.faults err.old) (E.faults err.new)
         (line parts.now) }
     ensures rest { E.rest err.new ≡ E.rest err.old }
@@ -121,26 +120,6 @@ fn digits_of(n: u16) -> [u8; 4]
     ]
 }
 
-/// Writes the line of a place in the source.
-fn write_place<'a, E: Sink>(
-    err: &mut E,
-    words: &'a Vec<String>,
-    what: &'a [u8],
-    n: u32,
-    why: &'a [u8],
-)
-    requires { 3 < length words.now.items }
-    ensures told { Tells (E.written err.old) (E.written err.new) (E.faults err.old) (E.faults err.new)
-        (source_name words.now.items ++ what.now ++ decimal n ++ why.now) }
-    ensures rest { E.rest err.new ≡ E.rest err.old }
-    ensures calm { (room : ℕ) → E.calm err.old room
-        → length (source_name words.now.items ++ what.now ++ decimal n ++ why.now) ≤ room
-        → E.faults err.new ≡ E.faults err.old }
-{
-    let name = word_at(words, 3).as_bytes();
-    write_line(err, &[Text(name), Text(what), Number(n), Text(why)]);
-}
-
 /// Writes a line with two numbers in it.
 fn write_numbers<'a, E: Sink>(err: &mut E, before: &'a [u8], n: u32, between: &'a [u8], m: u32)
     ensures told { Tells (E.written err.old) (E.written err.new) (E.faults err.old) (E.faults err.new)
@@ -178,18 +157,6 @@ pub fn tell<E: Sink>(err: &mut E, words: &Vec<String>, stop: CommandError)
             write_line(err, &[Text(b"cannot read "), Text(name), Text(b"\n")])
         }
         CommandError::CannotWrite => write_line(err, &[Text(b"cannot write\n")]),
-        CommandError::BadByte(at) => write_place(err, words, b" byte ", at, b": bad byte\n"),
-        CommandError::BadNumber(at) => write_place(err, words, b" byte ", at, b": bad number\n"),
-        CommandError::Unclosed(at) => write_place(err, words, b" byte ", at, b": unclosed\n"),
-        CommandError::BadDirective(at) => write_place(
-            err,
-            words,
-            b" byte ",
-            at,
-            b": bad directive\n",
-        ),
-        CommandError::Syntax(token) => write_place(err, words, b" token ", token, b": syntax\n"),
-        CommandError::NotCompiled => write_place(err, words, b" token ", 0, b": constraint 0\n"),
         CommandError::TooMany(limit) => write_numbers(
             err,
             b"limit ",

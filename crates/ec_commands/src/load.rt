@@ -94,7 +94,7 @@ fn load_machine(alloc: Global, hex: &Seq<u8>, fill: u8) -> Result<Machine, Comma
 }
 
 /// The script that a text is.
-fn load_script(alloc: Global, text: &Seq<u8>) -> Result<Script, CommandError>
+pub fn load_script(alloc: Global, text: &Seq<u8>) -> Result<Script, CommandError>
     requires { length text.now.items < 2 ^ 32 }
     ensures kept { IfOk result (λ _. AreKept (forms_of Small text.now.items)) }
     ensures lines { IfOk result (λ script. map entry_of script.lines.items ≡ entries (forms_of Small text.now.items)) }

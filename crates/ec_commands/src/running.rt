@@ -32,7 +32,7 @@ fn answer(end: EmuEnd) -> Result<(), CommandError>
 }
 
 /// Makes the run, and prints its lines and its result.
-fn print_run<O: Sink, H: Ports>(
+pub fn print_run<O: Sink, H: Ports>(
     loaded: &mut Loaded,
     hooks: &mut H,
     steps: u32,

@@ -21,6 +21,10 @@ pub enum Limit {
     Tokens,
     /// The constructs that are open at once in a unit, and the height of its nodes.
     Nesting,
+    /// The objects of all units.
+    Objects,
+    /// The functions of all units.
+    Functions,
 }
 
 impl Limit {
@@ -36,6 +40,8 @@ impl Limit {
             Limit::ScriptBytes => 5,
             Limit::Tokens => 6,
             Limit::Nesting => 7,
+            Limit::Objects => 8,
+            Limit::Functions => 9,
         }
     }
 
@@ -44,18 +50,20 @@ impl Limit {
         ensures { result ≡ most_of self }
     {
         match self {
-            Limit::Sources => 1,
+            Limit::Sources => 16,
             Limit::SourceBytes => 65_536,
             Limit::MapBytes => 16_384,
             Limit::HexBytes => 1_048_576,
             Limit::ScriptBytes => 65_536,
             Limit::Tokens => 65_535,
             Limit::Nesting => 64,
+            Limit::Objects => 1_024,
+            Limit::Functions => 256,
         }
     }
 }
 
-/// Why a command stops. A token is told by its index in its unit, a byte by its offset, a line counted from 1.
+/// Why a command stops, besides what is told of the sources and the map of a build. A line is counted from 1.
 #[derive(Clone, Copy, Debug, PartialEq, Eq)]
 pub enum CommandError {
     /// The words are no command.
@@ -64,18 +72,6 @@ pub enum CommandError {
     CannotRead(usize),
     /// The output was not created or not wholly written.
     CannotWrite,
-    /// A byte of the source begins nothing.
-    BadByte(u32),
-    /// A number of the source is no constant.
-    BadNumber(u32),
-    /// A comment or a character constant of the source has no end.
-    Unclosed(u32),
-    /// A line of the source begins with `#` and is no directive.
-    BadDirective(u32),
-    /// The source's tokens are no program.
-    Syntax(u32),
-    /// The source is a program in a form that is not compiled yet.
-    NotCompiled,
     /// A limit is passed.
     TooMany(Limit),
     /// Memory ran out.
@@ -106,12 +102,6 @@ pub fn status(stop: CommandError) -> u8
         CommandError::Usage => 2,
         CommandError::CannotRead(_) => 3,
         CommandError::CannotWrite => 4,
-        CommandError::BadByte(_)
-        | CommandError::BadNumber(_)
-        | CommandError::Unclosed(_)
-        | CommandError::BadDirective(_) => 5,
-        CommandError::Syntax(_) => 6,
-        CommandError::NotCompiled => 7,
         CommandError::TooMany(_) => 10,
         CommandError::NoMemory => 11,
         CommandError::BadRecord(_)

@@ -1,6 +1,6 @@
 //! The words of a command line.
 ghost use Rattle.std.specs.Prelude.{◌≡◌, ◌<◌, ◌≤◌, ℕ, true, false, length, IfSome, IfNone};
-ghost use Rattle.ec_commands.specs.Words.{is_build as is_build_row, word, IsNumber, IsRun};
+ghost use Rattle.ec_commands.specs.Words.{is_build as is_build_row, word, IsNumber, IsRun, IsExecRow};
 
 /// The steps that a run makes at most, and the byte that its registers and its memory hold at first.
 #[derive(Clone, Copy)]
@@ -52,4 +52,15 @@ pub fn run_numbers(words: &Vec<String>) -> Option<RunNumbers>
         steps,
         fill: fill as u8,
     })
+}
+
+/// The steps of `exec MAP SCRIPT STEPS SRC...`, if the words are such.
+pub fn exec_steps(words: &Vec<String>) -> Option<u32>
+    ensures some { IfSome result (IsExecRow words.now.items) }
+    ensures none { IfNone result ((steps : ℕ) → ¬ (IsExecRow words.now.items steps)) }
+{
+    if words.len() < 5 || words[0].as_str() != "exec" {
+        return None;
+    }
+    number(word_at(words, 3), u32::MAX)
 }

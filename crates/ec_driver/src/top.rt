@@ -2,21 +2,22 @@
 ghost use Rattle.std.specs.Prelude.{◌≡◌, ◌≤◌, ◌<◌, ◌↔◌, ℕ, true};
 ghost use Rattle.ec_io.specs.Views.{store_view, sink_call};
 ghost use Rattle.ec_emu.specs.declared.ask.Ask.{Ask};
-ghost use Rattle.ec_commands.specs.Words.{is_build, IsRun, sources};
+ghost use Rattle.ec_commands.specs.Words.{is_build, IsRun, IsExecRow, words_from};
 ghost use Rattle.ec_driver.specs.Commands.{IsNoCommand, Answered, Kept, Completed, KeptCalm};
 
-use ec_build::build;
-use ec_commands::{conclude, run, run_numbers};
+use ec_commands::{conclude, exec_steps, run, run_numbers};
+use ec_compile::{build, conclude as conclude_compiling, exec};
 use ec_emu::Ports;
 use ec_io::{Sink, Store};
 use std::alloc::Global;
 
 /// Does what the words say, over the store's files, and answers the status.
 ///
-/// `build MAP OUT SRC` compiles the source and writes its Intel HEX text to OUT. `run HEX SCRIPT STEPS FILL` runs the
-/// image of a HEX file, for at most STEPS steps, from the state in which its registers and its memory hold FILL; its
-/// ports answer by the script, and the hooked ones by `hooks`. Each access of a port is printed on `out`, and at BREAK
-/// the result. A stop is told on `err` by one line, and a failed write there does not change the status.
+/// `build MAP OUT SRC...` compiles the sources, places their program by the map, and writes the Intel HEX text of its
+/// image to OUT. `run HEX SCRIPT STEPS FILL` runs the image of a HEX file, for at most STEPS steps, from the state in
+/// which its registers and its memory hold FILL; its ports answer by the script, and the hooked ones by `hooks`. Each
+/// access of a port is printed on `out`, and at BREAK the result. `exec MAP SCRIPT STEPS SRC...` builds, and runs that
+/// image with FILL 165. A stop is told on `err` by one line, and a failed write there does not change the status.
 pub fn tool<S: Store, O: Sink, E: Sink, H: Ports>(
     alloc: Global,
     words: &Vec<String>,
@@ -49,19 +50,22 @@ pub fn tool<S: Store, O: Sink, E: Sink, H: Ports>(
         (sink_call (O.written out.old) (O.written out.new) (O.faults out.old) (O.faults out.new)) (S.calm store.old)
         (O.calm out.old) }
 
-    // A run changes no file. Only a run prints and asks the hooks, and words that are no command do nothing but their
-    // line. Where the work was done, `err` received nothing.
+    // A run and an exec change no file. Only these print and ask the hooks, and words that are no command do nothing
+    // but their line. Where the work was done, `err` received nothing.
     ensures kept { Kept words.now.items
         (store_view (S.disk store.old) (S.read_faults store.old) (S.write_faults store.old) (S.received store.old))
         (store_view (S.disk store.new) (S.read_faults store.new) (S.write_faults store.new) (S.received store.new)) }
     ensures unasked { ((steps fill : ℕ) → ¬ (IsRun words.now.items steps fill))
+        → ((steps : ℕ) → ¬ (IsExecRow words.now.items steps))
         → (out.new ≡ out.old) × (hooks.new ≡ hooks.old) }
     ensures idle { IsNoCommand words.now.items → store.new ≡ store.old }
     ensures quiet { result ≡ 0 → err.new ≡ err.old }
 
     // These are judged without memory.
     ensures usage { (result ≡ 2) ↔ IsNoCommand words.now.items }
-    ensures sources { is_build words.now.items ≡ true → 1 < sources words.now.items → result ≡ 10 }
+    ensures sources { is_build words.now.items ≡ true → 16 < words_from words.now.items 3 → result ≡ 10 }
+    ensures exec_sources { (steps : ℕ) → IsExecRow words.now.items steps → 16 < words_from words.now.items 4
+        → result ≡ 10 }
 
     // No count falls. The hooks can be asked again and answer by the same rule.
     ensures later { (S.read_faults store.old ≤ S.read_faults store.new)
@@ -71,14 +75,18 @@ pub fn tool<S: Store, O: Sink, E: Sink, H: Ports>(
     ensures can { H.can_ask hooks.new }
     ensures stays { (ask : Ask) (byte : ℕ) → H.gives hooks.new ask byte ↔ H.gives hooks.old ask byte }
 {
-    match run_numbers(words) {
-        Some(numbers) => {
-            let answer = run(alloc, words, numbers, store, out, hooks);
-            conclude(err, words, answer)
+    if let Some(numbers) = run_numbers(words) {
+        let answer = run(alloc, words, numbers, store, out, hooks);
+        return conclude(err, words, answer);
+    }
+    match exec_steps(words) {
+        Some(steps) => {
+            let executed = exec(alloc, words, steps, store, out, hooks);
+            conclude_compiling(err, words, 4, executed)
         }
         None => {
-            let answer = build(alloc, words, store);
-            conclude(err, words, answer)
+            let built = build(alloc, words, store);
+            conclude_compiling(err, words, 3, built)
         }
     }
 }

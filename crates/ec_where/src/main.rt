@@ -46,6 +46,11 @@ fn names_of(words: &[String]) -> FileNames<'_> {
             map: map.as_str(),
             ..names
         },
+        [command, map, script, ..] if command.as_str() == "exec" => FileNames {
+            map: map.as_str(),
+            script: script.as_str(),
+            ..names
+        },
         _ => names,
     }
 }

@@ -6,15 +6,6 @@ returns-in-CannotRead-clause-told g c = rw c.in-CannotRead.is (rw (c.as_bytes-na
 pub returns-in-CannotWrite-clause-told : goal.returns-in-CannotWrite-clause-told
 returns-in-CannotWrite-clause-told g c = rw c.in-CannotWrite.is c.write_line-in-CannotWrite.ensures.told
 
-pub returns-in-BadByte-clause-told : goal.returns-in-BadByte-clause-told
-returns-in-BadByte-clause-told g c = rw c.in-BadByte.is c.write_place.ensures.told
-
-pub returns-in-Unclosed-clause-told : goal.returns-in-Unclosed-clause-told
-returns-in-Unclosed-clause-told g c = rw c.in-Unclosed.is c.write_place-in-Unclosed.ensures.told
-
-pub returns-in-BadDirective-clause-told : goal.returns-in-BadDirective-clause-told
-returns-in-BadDirective-clause-told g c = rw c.in-BadDirective.is c.write_place-in-BadDirective.ensures.told
-
 pub returns-in-NoMemory-clause-told : goal.returns-in-NoMemory-clause-told
 returns-in-NoMemory-clause-told g c = rw c.in-NoMemory.is c.write_line-in-NoMemory.ensures.told
 

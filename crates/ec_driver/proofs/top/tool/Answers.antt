@@ -1,10 +1,11 @@
 use Rattle.std.proofs.Common.{◌≡◌}
 use Rattle.ec_io.specs.Views.{store_view, sink_call}
+use Rattle.ec_commands.specs.Answers.{IsLeft}
 use Rattle.ec_commands.specs.Words.{word}
-use Rattle.ec_commands.proofs.RunComplete.{IsLeft, by_status, left_of, same_number}
-use Rattle.ec_driver.proofs.Commands.{not_both, answer_of, usage_of}
-use Rattle.ec_build.proofs.Complete.{only_memory}
-use Rattle.ec_build.proofs.Refused.{err_map}
+use Rattle.ec_commands.specs.Stops as commands
+use Rattle.ec_compile.specs.Stops as compiling
+use Rattle.ec_commands.proofs.RunComplete.{by_status, left_of, same_number}
+use Rattle.ec_driver.proofs.Commands.{not_both, not_exec, not_run, answer_of, usage_of, err_map, exec_no_usage}
 use Rattle.ec_driver.proofs.top.tool.Goals as goal
 
 -- ---- run
@@ -17,8 +18,9 @@ returns-in-Some-clause-answered g c =
       run = λ steps fill of.
           let same_steps = same_number (word c.args.words.now.items 3) 4294967295 steps c.in-Some.numbers.steps of.steps_word is.steps_word in
           let same_fill = same_number (word c.args.words.now.items 4) 255 fill c.in-Some.numbers.fill of.fill_word is.fill_word in
-          rw (same_steps, same_fill) (answer_of _ _ _ _ _ _ c.run-answer.result c.conclude.result c.conclude.ensures.done c.conclude.ensures.told
-          c.run-answer.ensures.ran c.run-answer.ensures.stopped);
+          rw (same_steps, same_fill) (answer_of commands.status_of (commands.line_of c.args.words.now.items) _ _ _ _ _ c.run-answer.result c.conclude.result c.conclude.ensures.done
+          c.conclude.ensures.told c.run-answer.ensures.ran c.run-answer.ensures.stopped);
+      exec = λ steps of. absurd (not_run _ _ _ _ is of);
       none = λ no. absurd (no.no_run _ _ is);
     }
 
@@ -26,7 +28,7 @@ pub returns-in-Some-clause-complete : goal.returns-in-Some-clause-complete
 returns-in-Some-clause-complete g c = record {
   build = λ one accepted reads writes. absurd (not_both _ _ _ c.in-Some.ensures.some one.row);
   run = λ steps fill is accepts calm out_calm.
-      by_status IsLeft _ _ _ _ c.run-answer.result c.conclude.result c.conclude.ensures.done c.conclude.ensures.told
+      by_status commands.status_of (commands.line_of c.args.words.now.items) IsLeft _ _ _ c.run-answer.result c.conclude.result c.conclude.ensures.done c.conclude.ensures.told
       (err_map c.run-answer.result _ _ (λ stop h. left_of c.args.words.now.items c.in-Some.numbers.steps c.in-Some.numbers.fill _ (g.S.Store.disk c.args.store.now)
       (g.S.Store.read_faults c.args.store.now) (g.S.Store.write_faults c.args.store.now) (g.S.Store.received c.args.store.now)
       (store_view (g.S.Store.disk c.run-answer.new.store) (g.S.Store.read_faults c.run-answer.new.store) (g.S.Store.write_faults c.run-answer.new.store)
@@ -34,21 +36,26 @@ returns-in-Some-clause-complete g c = record {
       (sink_call (g.O.Sink.written c.args.out.now) (g.O.Sink.written c.run-answer.new.out) (g.O.Sink.faults c.args.out.now) (g.O.Sink.faults c.run-answer.new.out))
       stop accepts calm out_calm h)
       c.run-answer.ensures.stopped);
+  exec = λ steps of. absurd (not_run _ _ _ _ c.in-Some.ensures.some of.row);
 }
 
 pub returns-in-Some-clause-calm : goal.returns-in-Some-clause-calm
 returns-in-Some-clause-calm g c = record {
   build = λ room b calm fits. absurd (not_both _ _ _ c.in-Some.ensures.some b);
   run = λ steps fill room made is calm. (c.run-answer.ensures.calm made room calm, c.run-answer.ensures.write_faults);
-  printed = λ steps fill room is calm fits.
+  exec = λ steps room made of. absurd (not_run _ _ _ _ c.in-Some.ensures.some of);
+  run_printed = λ steps fill room is calm fits.
       let same_steps = same_number (word c.args.words.now.items 3) 4294967295 steps c.in-Some.numbers.steps is.steps_word c.in-Some.ensures.some.steps_word in
       let same_fill = same_number (word c.args.words.now.items 4) 255 fill c.in-Some.numbers.fill is.fill_word c.in-Some.ensures.some.fill_word in
       c.run-answer.ensures.out_calm room calm (rw (same_steps, same_fill) at fits);
+  exec_printed = λ steps room of. absurd (not_run _ _ _ _ c.in-Some.ensures.some of);
 }
 
 pub returns-in-Some-clause-kept : goal.returns-in-Some-clause-kept
-returns-in-Some-clause-kept g c =
-    record { files = λ steps fill is. c.run-answer.ensures.files; created = λ steps fill is. c.run-answer.ensures.write_faults }
+returns-in-Some-clause-kept g c = record {
+  run = λ steps fill is. (c.run-answer.ensures.files, c.run-answer.ensures.write_faults);
+  exec = λ steps of. absurd (not_run _ _ _ _ c.in-Some.ensures.some of);
+}
 
 pub returns-in-Some-clause-unasked : goal.returns-in-Some-clause-unasked
 returns-in-Some-clause-unasked g c = λ no. absurd (no _ _ c.in-Some.ensures.some)
@@ -59,40 +66,107 @@ returns-in-Some-clause-idle g c = λ no. absurd (no.no_run _ _ c.in-Some.ensures
 pub returns-in-Some-clause-sources : goal.returns-in-Some-clause-sources
 returns-in-Some-clause-sources g c = λ b several. absurd (not_both _ _ _ c.in-Some.ensures.some b)
 
+pub returns-in-Some-clause-exec_sources : goal.returns-in-Some-clause-exec_sources
+returns-in-Some-clause-exec_sources g c = λ steps of several. absurd (not_run _ _ _ _ c.in-Some.ensures.some of)
+
+-- ---- exec
+
+pub returns-in-Some-exec_steps-clause-answered : goal.returns-in-Some-exec_steps-clause-answered
+returns-in-Some-exec_steps-clause-answered g c =
+    let is = c.in-Some-exec_steps.ensures.some in
+    record {
+      build = λ b. absurd (not_exec _ _ is b);
+      run = λ steps fill of. absurd (c.in_default.ensures.none steps fill of);
+      exec = λ steps of.
+          let same_steps = same_number (word c.args.words.now.items 3) 4294967295 steps c.in-Some-exec_steps.steps of.steps_word is.steps_word in
+          rw same_steps (answer_of compiling.status_of (compiling.line_of c.args.words.now.items 4) _ _ _ _ _ c.exec-executed.result c.conclude-in-Some-exec_steps.result
+          c.conclude-in-Some-exec_steps.ensures.done c.conclude-in-Some-exec_steps.ensures.told c.exec-executed.ensures.ran c.exec-executed.ensures.stopped);
+      none = λ no. absurd (no.no_exec _ is);
+    }
+
+pub returns-in-Some-exec_steps-clause-complete : goal.returns-in-Some-exec_steps-clause-complete
+returns-in-Some-exec_steps-clause-complete g c = record {
+  build = λ one accepted reads writes. absurd (not_exec _ _ c.in-Some-exec_steps.ensures.some one.row);
+  run = λ steps fill of. absurd (c.in_default.ensures.none steps fill of);
+  exec = λ steps is accepts calm out_calm.
+      by_status compiling.status_of (compiling.line_of c.args.words.now.items 4) IsLeft _ _ _ c.exec-executed.result c.conclude-in-Some-exec_steps.result
+      c.conclude-in-Some-exec_steps.ensures.done c.conclude-in-Some-exec_steps.ensures.told (c.exec-executed.ensures.complete is.few accepts calm out_calm);
+}
+
+pub returns-in-Some-exec_steps-clause-calm : goal.returns-in-Some-exec_steps-clause-calm
+returns-in-Some-exec_steps-clause-calm g c = record {
+  build = λ room b calm fits. absurd (not_exec _ _ c.in-Some-exec_steps.ensures.some b);
+  run = λ steps fill room made of. absurd (c.in_default.ensures.none steps fill of);
+  exec = λ steps room made is calm. (c.exec-executed.ensures.calm made room calm, c.exec-executed.ensures.write_faults);
+  run_printed = λ steps fill room of. absurd (c.in_default.ensures.none steps fill of);
+  exec_printed = λ steps room is calm fits.
+      let same_steps = same_number (word c.args.words.now.items 3) 4294967295 steps c.in-Some-exec_steps.steps is.steps_word c.in-Some-exec_steps.ensures.some.steps_word in
+      c.exec-executed.ensures.out_calm room calm (rw same_steps at fits);
+}
+
+pub returns-in-Some-exec_steps-clause-kept : goal.returns-in-Some-exec_steps-clause-kept
+returns-in-Some-exec_steps-clause-kept g c = record {
+  run = λ steps fill of. absurd (c.in_default.ensures.none steps fill of);
+  exec = λ steps is. (c.exec-executed.ensures.files, c.exec-executed.ensures.write_faults);
+}
+
+pub returns-in-Some-exec_steps-clause-unasked : goal.returns-in-Some-exec_steps-clause-unasked
+returns-in-Some-exec_steps-clause-unasked g c = λ no_run no. absurd (no _ c.in-Some-exec_steps.ensures.some)
+
+pub returns-in-Some-exec_steps-clause-idle : goal.returns-in-Some-exec_steps-clause-idle
+returns-in-Some-exec_steps-clause-idle g c = λ no. absurd (no.no_exec _ c.in-Some-exec_steps.ensures.some)
+
+pub returns-in-Some-exec_steps-clause-usage : goal.returns-in-Some-exec_steps-clause-usage
+returns-in-Some-exec_steps-clause-usage g c = (
+  λ e. absurd (exec_no_usage c.args.words.now.items c.in-Some-exec_steps.steps _
+      (store_view (g.S.Store.disk c.args.store.now) (g.S.Store.read_faults c.args.store.now) (g.S.Store.write_faults c.args.store.now) (g.S.Store.received c.args.store.now))
+      (store_view (g.S.Store.disk c.exec-executed.new.store) (g.S.Store.read_faults c.exec-executed.new.store) (g.S.Store.write_faults c.exec-executed.new.store) (g.S.Store.received c.exec-executed.new.store))
+      (sink_call (g.O.Sink.written c.args.out.now) (g.O.Sink.written c.exec-executed.new.out) (g.O.Sink.faults c.args.out.now) (g.O.Sink.faults c.exec-executed.new.out))
+      _ _ _ c.exec-executed.result c.conclude-in-Some-exec_steps.result c.conclude-in-Some-exec_steps.ensures.done c.conclude-in-Some-exec_steps.ensures.told
+      c.exec-executed.ensures.stopped e),
+  λ no. absurd (no.no_exec _ c.in-Some-exec_steps.ensures.some),
+)
+
+pub returns-in-Some-exec_steps-clause-sources : goal.returns-in-Some-exec_steps-clause-sources
+returns-in-Some-exec_steps-clause-sources g c = λ b several. absurd (not_exec _ _ c.in-Some-exec_steps.ensures.some b)
+
 -- ---- build, and words that are no command
 
 pub returns-in-None-clause-answered : goal.returns-in-None-clause-answered
 returns-in-None-clause-answered g c = record {
-  build = λ b. answer_of _ _ _ _ _ _ c.build-answer.result c.conclude-in-None.result c.conclude-in-None.ensures.done c.conclude-in-None.ensures.told
-      c.build-answer.ensures.built c.build-answer.ensures.stopped;
-  run = λ steps fill is. absurd (c.in-None.ensures.none steps fill is);
-  none = λ no.
-      let usage = usage_of c.build-answer.result (c.build-answer.ensures.usage no.no_build).0 in
-      answer_of _ _ _ _ _ _ c.build-answer.result c.conclude-in-None.result c.conclude-in-None.ensures.done c.conclude-in-None.ensures.told usage.0 usage.1;
+  build = λ b. answer_of compiling.status_of (compiling.line_of c.args.words.now.items 3) _ _ _ _ _ c.build-built.result c.conclude-in-None.result c.conclude-in-None.ensures.done
+      c.conclude-in-None.ensures.told c.build-built.ensures.built c.build-built.ensures.stopped;
+  run = λ steps fill of. absurd (c.in_default.ensures.none steps fill of);
+  exec = λ steps of. absurd (c.in-None.ensures.none steps of);
+  none = λ no. usage_of c.args.words.now.items _ _ c.build-built.result c.conclude-in-None.result (c.build-built.ensures.usage no.no_build).0 c.conclude-in-None.ensures.told;
 }
 
 pub returns-in-None-clause-complete : goal.returns-in-None-clause-complete
 returns-in-None-clause-complete g c = record {
   build = λ one accepted reads writes.
-      by_status (λ status. status ≡ 11) _ _ _ _ c.build-answer.result c.conclude-in-None.result c.conclude-in-None.ensures.done c.conclude-in-None.ensures.told
-      (err_map c.build-answer.result _ _ (λ stop h. only_memory c.args.words.now.items (g.S.Store.disk c.args.store.now)
-      (g.S.Store.read_faults c.args.store.now) (g.S.Store.write_faults c.args.store.now) (g.S.Store.received c.args.store.now) _ stop one accepted reads writes h)
-      c.build-answer.ensures.stopped);
-  run = λ steps fill is. absurd (c.in-None.ensures.none steps fill is);
+      by_status compiling.status_of (compiling.line_of c.args.words.now.items 3) (λ status. status ≡ 11) _ _ _ c.build-built.result c.conclude-in-None.result
+      c.conclude-in-None.ensures.done c.conclude-in-None.ensures.told (c.build-built.ensures.complete one accepted reads writes);
+  run = λ steps fill of. absurd (c.in_default.ensures.none steps fill of);
+  exec = λ steps of. absurd (c.in-None.ensures.none steps of.row);
 }
 
 pub returns-in-None-clause-calm : goal.returns-in-None-clause-calm
 returns-in-None-clause-calm g c = record {
-  build = λ room b calm fits. c.build-answer.ensures.calm room calm fits;
-  run = λ steps fill room made is. absurd (c.in-None.ensures.none steps fill is);
-  printed = λ steps fill room is. absurd (c.in-None.ensures.none steps fill is);
+  build = λ room b calm fits. c.build-built.ensures.calm room calm fits;
+  run = λ steps fill room made of. absurd (c.in_default.ensures.none steps fill of);
+  exec = λ steps room made of. absurd (c.in-None.ensures.none steps of);
+  run_printed = λ steps fill room of. absurd (c.in_default.ensures.none steps fill of);
+  exec_printed = λ steps room of. absurd (c.in-None.ensures.none steps of);
 }
 
 pub returns-in-None-clause-kept : goal.returns-in-None-clause-kept
 returns-in-None-clause-kept g c = record {
-  files = λ steps fill is. absurd (c.in-None.ensures.none steps fill is);
-  created = λ steps fill is. absurd (c.in-None.ensures.none steps fill is);
+  run = λ steps fill of. absurd (c.in_default.ensures.none steps fill of);
+  exec = λ steps of. absurd (c.in-None.ensures.none steps of);
 }
 
 pub returns-in-None-clause-idle : goal.returns-in-None-clause-idle
-returns-in-None-clause-idle g c = λ no. (c.build-answer.ensures.usage no.no_build).1
+returns-in-None-clause-idle g c = λ no. (c.build-built.ensures.usage no.no_build).1
+
+pub returns-in-None-clause-exec_sources : goal.returns-in-None-clause-exec_sources
+returns-in-None-clause-exec_sources g c = λ steps of several. absurd (c.in-None.ensures.none steps of)

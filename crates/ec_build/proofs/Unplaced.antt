@@ -1,0 +1,58 @@
+-- A program that fits its map has a place.
+use Rattle.std.proofs.Common.{◌≡◌, ℕ, ◌*◌, ◌≤◌, Option, Some, None, sym, subst, ap, arith, IsSomeAnd}
+use Rattle.std.specs.Prelude.{option_map}
+use Rattle.std.proofs.lemmas.Bool.{le-ltb}
+use Rattle.ec_asm.specs.Items.{code_words}
+use Rattle.ec_asm.specs.declared.items.AsmProgram.{AsmProgram}
+use Rattle.ec_core.specs.Plain.{PlainProgram}
+use Rattle.ec_core.specs.PortTable.{plain_table}
+use Rattle.ec_core.specs.Weight.{weight}
+use Rattle.ec_map.specs.declared.map.Map.{Map}
+use Rattle.ec_map.specs.declared.region.Region.{Region}
+use Rattle.ec_locate.specs.Entries.{data_need}
+use Rattle.ec_locate.specs.Needs.{shortage_of, first_shortage}
+use Rattle.ec_locate.specs.Fixed.{place_name, neighbour_name}
+use Rattle.ec_locate.specs.Placing.{needs, entries_by, scratch_needs, shortage, without_object, clash}
+use Rattle.ec_locate.specs.declared.needs.Needs.{Needs}
+use Rattle.ec_locate.specs.declared.stop.RegionName.{RegionName}
+use Rattle.ec_locate.specs.declared.stop.RegionName.TheVariants.{Code, Tables, Data, Stack}
+use Rattle.ec_locate.specs.declared.stop.PlaceStop.{PlaceStop}
+use Rattle.ec_locate.specs.declared.stop.PlaceStop.TheVariants.{TooSmall, NoSuchObject, Clash, NoMemory}
+use Rattle.ec_build.specs.Places.{Fits, HasNoPlace}
+
+-- a region that is large enough is not told
+no_shortage : (name : RegionName) (region : Region) (need : ℕ) → need ≤ region.size → shortage_of name region need ≡ None
+no_shortage name region need h =
+    rw (le-ltb region.size need h)
+
+all_fit : (m : Map) (n : Needs) → n.tables ≤ m.tables.size → n.vars ≤ m.vars.size → n.stack ≤ m.stack.size → n.code ≤ m.code.size → first_shortage m n ≡ None
+all_fit m n a b c d =
+    let tables = no_shortage Tables m.tables n.tables a in
+    let vars = no_shortage Data m.vars n.vars b in
+    let stack = no_shortage Stack m.stack n.stack c in
+    let code = no_shortage Code m.code n.code d in
+    rw (tables, vars, stack, code)
+
+pub fits_whole : (p : PlainProgram) (m : Map) (asm : AsmProgram) → Fits p m → asm.frames.items ≡ scratch_needs p → code_words asm.items.items ≤ weight p (plain_table m.io) → shortage p m asm ≡ None
+fits_whole p m asm fits frames small =
+    let vars : data_need 64 (entries_by m p) asm.frames.items ≤ m.vars.size = subst (λ f. data_need 64 (entries_by m p) f ≤ m.vars.size) (sym frames) fits.vars in
+    let code : 2 * code_words asm.items.items ≤ m.code.size = omega (arith, small, fits.code) in
+    all_fit m (needs p (entries_by m p) asm.frames.items asm.items.items) fits.tables vars fits.stack code
+
+nothing_there : {A : Type 0} (o : Option A) (P : A → Type 0) → o ≡ None → IsSomeAnd o P → ⊥
+nothing_there None P e h = h
+nothing_there (Some x) P e h = cc
+
+pub not_unplaced : (p : PlainProgram) (m : Map) (asm : AsmProgram) (stop : PlaceStop) → Fits p m → asm.frames.items ≡ scratch_needs p → code_words asm.items.items ≤ weight p (plain_table m.io) → ¬ HasNoPlace p m asm stop
+not_unplaced p m asm (TooSmall region needed available) fits frames small why =
+    let room = fits_whole p m asm fits frames small in
+    let told = why.against in
+    cc
+not_unplaced p m asm (NoSuchObject name) fits frames small why =
+    let there = fits.there in
+    let named = why.against.1 in
+    let e : option_map (λ q. q.name.items) (without_object p m) ≡ None = ap (option_map (λ q. q.name.items)) there in
+    cc
+not_unplaced p m asm (Clash name other) fits frames small why =
+    nothing_there (clash p m) (λ found. (name.items ≡ place_name m.places.items found.0) × (other.items ≡ neighbour_name m.places.items found.0 found.1)) fits.free why.against.2
+not_unplaced p m asm NoMemory fits frames small why = why.told tt

@@ -1,0 +1,6 @@
+mod Reading
+mod ReadingExec
+mod Keeping
+mod RunExec
+mod Written
+pub mod Usage

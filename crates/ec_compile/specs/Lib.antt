@@ -1,0 +1,5 @@
+pub mod Stops
+pub mod Inputs
+pub mod Builds
+pub mod Kept
+pub mod Execs
