@@ -1,0 +1,1 @@
+int q = 7;int main(void){return q;}

@@ -1,0 +1,1 @@
+int f(void){return f();}int main(void){return f();}
