@@ -105,8 +105,8 @@ static TYPES: [Row; 16] = [
         "unit 0 token 1 rule 12",
     ),
     (
-        "register _R2 int *g;int main(void){return 0;}",
-        "unit 0 token 1 rule 12",
+        "struct s{int a;};register _R2 struct s g;int main(void){return 0;}",
+        "unit 0 token 9 rule 12",
     ),
     (
         "register _R2 int a;register _R3 int b;int main(void){return 0;}",
