@@ -17,6 +17,7 @@ translated : (p : PlainProgram) (m : Map) (asm : AsmProgram) (l : Located) → V
 translated p m asm l valid map code located bytes = record {
   valid = valid;
   map = map;
+  groups = code.groups;
   lowered_whole = code.lowered_whole;
   code = code.code;
   selection = code.selection;

@@ -51,7 +51,7 @@ pub record IsUnplaced (sources : List (List ℕ)) (text : List ℕ) (stop : Plac
   pub program : PlainProgram
   pub checked : IsChecked sources text map program
   pub asm : AsmProgram
-  pub code : IsSelection (lowered program) asm
+  pub code : IsSelection (lowered program (plain_table map.io)) asm
   pub frames : asm.frames.items ≡ scratch_needs program
   pub small : code_words asm.items.items ≤ weight program (plain_table map.io)
   pub against : HasNoPlace program map asm stop

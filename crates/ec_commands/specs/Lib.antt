@@ -5,4 +5,5 @@ pub mod Tells
 pub mod Shown
 pub mod Sources
 pub mod Runs
+pub mod Counts
 pub mod Answers

@@ -64,3 +64,10 @@ hex_name words = word words 1
 
 abbrev pub script_name : Words → List ℕ
 script_name words = word words 2
+
+-- gen N
+pub record IsGen (words : Words) (n : ℕ) : Type 0 where
+  pub two : length words ≡ 2
+  pub row : bytes_eq (word words 0) (codes "gen") ≡ true
+  pub number_word : IsNumber (word words 1) 2000 n
+  pub some : 1 ≤ n

@@ -3,6 +3,7 @@
 #![tactic(auto)]
 
 mod answer;
+mod counting;
 mod input;
 mod line;
 mod load;
@@ -13,6 +14,7 @@ mod stop;
 mod words;
 
 pub use answer::conclude;
+pub use counting::print_counts;
 pub use input::read;
 pub use line::{Part, tell, write_line};
 pub use load::{Loaded, load_script};
@@ -20,4 +22,4 @@ pub use output::write_file;
 pub use running::{print_run, run};
 pub use sources::read_sources;
 pub use stop::{CommandError, Limit, status};
-pub use words::{RunNumbers, exec_steps, is_build, run_numbers, word_at};
+pub use words::{RunNumbers, exec_steps, gen_number, is_build, run_numbers, word_at};

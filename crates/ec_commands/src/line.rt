@@ -4,6 +4,7 @@ ghost use Rattle.std.specs.Fmt.{decimal};
 ghost use Rattle.ec_io.specs.Causes.{HasCause, Went};
 ghost use Rattle.ec_io.specs.Written.{WritesAll};
 ghost use Rattle.ec_commands.specs.Runs.{end_line, WritesEnd};
+ghost use Rattle.ec_commands.specs.Counts.{counts_of, WritesCounts};
 ghost use Rattle.ec_commands.specs.Stops.{line_of, fault_name, four_digits, IsNamed};
 ghost use Rattle.ec_commands.specs.Lines.{bytes_of, line};
 ghost use Rattle.ec_commands.specs.Tells.{WritesPrefix, Tells};
@@ -90,6 +91,29 @@ pub fn write_end<O: Sink>(out: &mut O, end: EmuEnd) -> Result<(), Failed>
 {
     match end {
         EmuEnd::Ended(n) => write_parts(out, &[Text(b"result "), Signed(n), Text(b"\n")]),
+        EmuEnd::StepsOut | EmuEnd::Fault(_, _) | EmuEnd::WriteFault => Ok(()),
+    }
+}
+
+/// Writes the result of a run and how often it wrote ports, where it ended.
+pub fn write_counts<O: Sink>(out: &mut O, end: EmuEnd, writes: u32) -> Result<(), Failed>
+    ensures written { WritesCounts (O.written out.old) (O.written out.new) end writes result }
+    ensures rest { O.rest out.new ≡ O.rest out.old }
+    ensures cause { HasCause (O.faults out.old) (O.faults out.new) result }
+    ensures calm { (room : ℕ) → O.calm out.old room → length (counts_of end writes) ≤ room
+        → Went (O.faults out.old) (O.faults out.new) result }
+{
+    match end {
+        EmuEnd::Ended(n) => write_parts(
+            out,
+            &[
+                Text(b"result "),
+                Signed(n),
+                Text(b"\nwrites "),
+                Number(writes),
+                Text(b"\n"),
+            ],
+        ),
         EmuEnd::StepsOut | EmuEnd::Fault(_, _) | EmuEnd::WriteFault => Ok(()),
     }
 }

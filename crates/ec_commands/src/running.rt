@@ -20,7 +20,7 @@ use ec_io::{Sink, Store};
 use std::alloc::Global;
 
 /// The answer that tells how a run ended.
-fn answer(end: EmuEnd) -> Result<(), CommandError>
+pub(crate) fn answer(end: EmuEnd) -> Result<(), CommandError>
     ensures { stop_of result ≡ stop_at end }
 {
     match end {

@@ -1,6 +1,6 @@
 //! The words of a command line.
 ghost use Rattle.std.specs.Prelude.{◌≡◌, ◌<◌, ◌≤◌, ℕ, true, false, length, IfSome, IfNone};
-ghost use Rattle.ec_commands.specs.Words.{is_build as is_build_row, word, IsNumber, IsRun, IsExecRow};
+ghost use Rattle.ec_commands.specs.Words.{is_build as is_build_row, word, IsNumber, IsRun, IsExecRow, IsGen};
 
 /// The steps that a run makes at most, and the byte that its registers and its memory hold at first.
 #[derive(Clone, Copy)]
@@ -63,4 +63,16 @@ pub fn exec_steps(words: &Vec<String>) -> Option<u32>
         return None;
     }
     number(word_at(words, 3), u32::MAX)
+}
+
+/// The number of `gen N`, from 1 to 2,000, if the words are such.
+pub fn gen_number(words: &Vec<String>) -> Option<u16>
+    ensures some { IfSome result (IsGen words.now.items) }
+    ensures none { IfNone result ((n : ℕ) → ¬ (IsGen words.now.items n)) }
+{
+    if words.len() != 2 || words[0].as_str() != "gen" {
+        return None;
+    }
+    let n = number(word_at(words, 1), 2_000)?;
+    if n == 0 { None } else { Some(n as u16) }
 }

@@ -4,3 +4,5 @@ mod Keeping
 mod RunExec
 mod Written
 pub mod Usage
+pub mod RunGen
+pub mod Statuses

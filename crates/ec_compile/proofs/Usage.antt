@@ -53,7 +53,7 @@ place_not (placing.NoSuchObject name) e = omega (arith, e)
 place_not (placing.Clash name other) e = omega (arith, e)
 place_not placing.NoMemory e = omega (arith, e)
 
-build_not : (stop : BuildStop) → build_status stop ≡ 2 → ⊥
+pub build_not : (stop : BuildStop) → build_status stop ≡ 2 → ⊥
 build_not (building.Map stop) e = map_not stop e
 build_not (building.Lex unit stop) e = lex_not stop e
 build_not (building.Parse unit stop) e = parse_not stop e

@@ -3,3 +3,4 @@ pub mod Inputs
 pub mod Builds
 pub mod Kept
 pub mod Execs
+pub mod Gens

@@ -30,7 +30,7 @@ use ec_space::Seq;
 use std::alloc::Global;
 
 /// The byte that the registers and the memory of the machine hold at first.
-const FILL: u8 = 165;
+pub(crate) const FILL: u8 = 165;
 
 /// The texts of the map, of the sources and of the script.
 #[derive(Drop)]

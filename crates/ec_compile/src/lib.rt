@@ -1,13 +1,15 @@
-//! The commands `build` and `exec`: from the named files to a HEX text, or to a run.
+//! The commands `build`, `exec` and `gen`: from the named files or a generated program to a HEX text, or to a run.
 #![tactic(auto)]
 
 mod answer;
 mod building;
 mod executing;
+mod generating;
 mod line;
 mod stop;
 
 pub use answer::conclude;
 pub use building::build;
 pub use executing::exec;
+pub use generating::run_generated;
 pub use stop::{CompileStop, status};

@@ -2,11 +2,11 @@
 ghost use Rattle.std.specs.Prelude.{◌≡◌, ◌≤◌, ◌<◌, ◌↔◌, ℕ, true};
 ghost use Rattle.ec_io.specs.Views.{store_view, sink_call};
 ghost use Rattle.ec_emu.specs.declared.ask.Ask.{Ask};
-ghost use Rattle.ec_commands.specs.Words.{is_build, IsRun, IsExecRow, words_from};
+ghost use Rattle.ec_commands.specs.Words.{is_build, IsRun, IsExecRow, IsGen, words_from};
 ghost use Rattle.ec_driver.specs.Commands.{IsNoCommand, Answered, Kept, Completed, KeptCalm};
 
-use ec_commands::{conclude, exec_steps, run, run_numbers};
-use ec_compile::{build, conclude as conclude_compiling, exec};
+use ec_commands::{conclude, exec_steps, gen_number, run, run_numbers};
+use ec_compile::{build, conclude as conclude_compiling, exec, run_generated};
 use ec_emu::Ports;
 use ec_io::{Sink, Store};
 use std::alloc::Global;
@@ -17,7 +17,8 @@ use std::alloc::Global;
 /// image to OUT. `run HEX SCRIPT STEPS FILL` runs the image of a HEX file, for at most STEPS steps, from the state in
 /// which its registers and its memory hold FILL; its ports answer by the script, and the hooked ones by `hooks`. Each
 /// access of a port is printed on `out`, and at BREAK the result. `exec MAP SCRIPT STEPS SRC...` builds, and runs that
-/// image with FILL 165. A stop is told on `err` by one line, and a failed write there does not change the status.
+/// image with FILL 165. `gen N` builds and runs the generated program for N so, and prints its result and how often it
+/// wrote ports. A stop is told on `err` by one line, and a failed write there does not change the status.
 pub fn tool<S: Store, O: Sink, E: Sink, H: Ports>(
     alloc: Global,
     words: &Vec<String>,
@@ -50,13 +51,13 @@ pub fn tool<S: Store, O: Sink, E: Sink, H: Ports>(
         (sink_call (O.written out.old) (O.written out.new) (O.faults out.old) (O.faults out.new)) (S.calm store.old)
         (O.calm out.old) }
 
-    // A run and an exec change no file. Only these print and ask the hooks, and words that are no command do nothing
-    // but their line. Where the work was done, `err` received nothing.
+    // A run and an exec change no file, and a gen leaves the store as it is. Only these print and ask the hooks, and words
+    // that are no command do nothing but their line. Where the work was done, `err` received nothing.
     ensures kept { Kept words.now.items
         (store_view (S.disk store.old) (S.read_faults store.old) (S.write_faults store.old) (S.received store.old))
         (store_view (S.disk store.new) (S.read_faults store.new) (S.write_faults store.new) (S.received store.new)) }
     ensures unasked { ((steps fill : ℕ) → ¬ (IsRun words.now.items steps fill))
-        → ((steps : ℕ) → ¬ (IsExecRow words.now.items steps))
+        → ((steps : ℕ) → ¬ (IsExecRow words.now.items steps)) → ((n : ℕ) → ¬ (IsGen words.now.items n))
         → (out.new ≡ out.old) × (hooks.new ≡ hooks.old) }
     ensures idle { IsNoCommand words.now.items → store.new ≡ store.old }
     ensures quiet { result ≡ 0 → err.new ≡ err.old }
@@ -78,6 +79,10 @@ pub fn tool<S: Store, O: Sink, E: Sink, H: Ports>(
     if let Some(numbers) = run_numbers(words) {
         let answer = run(alloc, words, numbers, store, out, hooks);
         return conclude(err, words, answer);
+    }
+    if let Some(n) = gen_number(words) {
+        let generated = run_generated(alloc, n, out, hooks);
+        return conclude_compiling(err, words, 0, generated);
     }
     match exec_steps(words) {
         Some(steps) => {

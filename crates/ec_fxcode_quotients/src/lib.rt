@@ -7,4 +7,4 @@ mod division;
 pub mod laws;
 mod quotients;
 
-pub use quotients::div_code;
+pub use quotients::{Term, div_code, divide_numbers};

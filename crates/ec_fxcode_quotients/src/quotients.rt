@@ -238,6 +238,59 @@ fn bits_of(number: Format, divisor: Format, to: Format, bytes: u8) -> u8
     number.bits + (divisor.frac + to.frac) - number.frac
 }
 
+/// A number that is divided, a divisor or a quotient: where it stands, and its format, of which it has the bytes.
+#[derive(Clone, Copy)]
+pub struct Term {
+    pub at: Location,
+    pub format: Format,
+}
+
+/// Appends code that divides one number by another, and puts the exact quotient, rounded toward zero, to the place of the
+/// result: where it is out of the range of its format and the mode saturates, the nearer end of the range. It promises no
+/// result where the divisor is 0. It needs no label, and at most 31 of the work bytes. Where memory runs out, a part of
+/// the code is appended.
+#[tactic(auto, using(ec_fxcode_shifts::proofs::Places::byte_there, ec_fxcode_shifts::proofs::Places::fewer_bytes))]
+pub fn divide_numbers(
+    out: &mut Seq<AsmItem>,
+    number: Term,
+    divisor: Term,
+    to: Term,
+    mode: Mode,
+    work: Location,
+) -> Result<(), NoMemory>
+    requires number_format { IsOperandFormat number.format }
+    requires number { HasBytes number.at (number.format.bits / 8) }
+    requires divisor_format { IsOperandFormat divisor.format }
+    requires divisor { HasBytes divisor.at (divisor.format.bits / 8) }
+    requires to_format { IsFormat to.format }
+    requires to { HasBytes to.at (to.format.bits / 8) }
+    requires work { HasBytes work 40 }
+    ensures ok { OnOk result (out.new.items ≡ out.old.items
+        ++ divide_code number.format divisor.format to.format mode number.at divisor.at to.at work
+        (number.format.bits / 8) (divisor.format.bits / 8) (to.format.bits / 8)) }
+    ensures err { OnErr result (BeginWith out.old.items out.new.items) }
+{
+    let of = Operands {
+        number: number.at,
+        signed: number.format.signed,
+        bytes: number.format.bits / 8,
+        divisor: divisor.at,
+        divisor_signed: divisor.format.signed,
+        divisor_bytes: divisor.format.bits / 8,
+    };
+    let bits = bits_of(number.format, divisor.format, to.format, of.bytes);
+    divide(
+        out,
+        of,
+        bits,
+        to.format,
+        mode,
+        work,
+        to.at,
+        to.format.bits / 8,
+    )
+}
+
 /// Appends code that divides the number in the bytes of `a`, of the format `afmt`, by that in the bytes of `b`, of the
 /// format `bfmt`, and puts the exact quotient, rounded toward zero, into the bytes of `to`, in the format `tofmt`:
 /// where it is out of the range of that format and the mode saturates, the nearer end of the range. It promises no

@@ -2,6 +2,7 @@ pub mod Before
 pub mod Bounds
 pub mod Entered
 pub mod Left
+pub mod Places
 pub mod Right
 pub mod Shifted
 pub mod Steps

@@ -6,4 +6,4 @@
 pub mod laws;
 mod shifts;
 
-pub use shifts::{mark, shift_code, turned};
+pub use shifts::{mark, shift_code, shift_number, turned};

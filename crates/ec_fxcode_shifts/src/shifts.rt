@@ -1,5 +1,5 @@
 //! A fixed-point number shifted by a count.
-ghost use Rattle.std.specs.Prelude.{◌≡◌, ℕ, ◌+◌, ◌-◌, ◌*◌, ◌≤◌, ◌<◌, ◌^◌, ◌++◌, pos, negsuc, OnOk, OnErr};
+ghost use Rattle.std.specs.Prelude.{◌≡◌, ℕ, ◌+◌, ◌-◌, ◌*◌, ◌/◌, ◌≤◌, ◌<◌, ◌^◌, ◌++◌, pos, negsuc, OnOk, OnErr};
 ghost use Rattle.ec_runs.specs.Behaviours.{BeginWith};
 ghost use Rattle.ec_asm.specs.Pieces.{HasBytes, HasByte, instruction};
 ghost use Rattle.ec_fx.specs.Formats.{IsFormat};
@@ -252,6 +252,36 @@ fn after(
 {
     turns(out, left, work, if left { 2 * bytes } else { bytes })?;
     leave(out, left, format, mode, work, to, bytes)
+}
+
+/// Appends code that shifts the fixed-point number at `from` to the left or to the right by the number of bits that the
+/// lowest byte at `by` tells, and puts the result to `to`: the number times two to the power of the count, or divided by
+/// it and rounded toward zero, and, where it is out of the range of the format and the mode saturates, the nearer end of
+/// that range. It promises no result where the count is below 0 or not below the bits of the format. It needs no label,
+/// and at most 16 of the work bytes. Where memory runs out, a part of the code is appended.
+#[tactic(auto, using(crate::proofs::Places::byte_there, crate::proofs::Places::fewer_bytes))]
+pub fn shift_number(
+    out: &mut Seq<AsmItem>,
+    format: Format,
+    left: bool,
+    mode: Mode,
+    from: Location,
+    by: Location,
+    to: Location,
+    work: Location,
+) -> Result<(), NoMemory>
+    requires format { IsFormat format }
+    requires from { HasBytes from (format.bits / 8) }
+    requires by { HasBytes by 1 }
+    requires to { HasBytes to (format.bits / 8) }
+    requires work { HasBytes work 40 }
+    ensures ok { OnOk result (out.new.items ≡ out.old.items
+        ++ shift_code format left mode from by to work (format.bits / 8)) }
+    ensures err { OnErr result (BeginWith out.old.items out.new.items) }
+{
+    let bytes = format.bits / 8;
+    before(out, format.signed, left, from, by, work, bytes)?;
+    after(out, left, format, mode, work, to, bytes)
 }
 
 /// Appends code that shifts the fixed-point number in the bytes of `a`, of the format `afmt`, to the left or to the

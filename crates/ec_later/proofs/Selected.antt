@@ -13,16 +13,16 @@ use Rattle.ec_grammar.specs.declared.tree.Pragma.{Pragma}
 use Rattle.ec_grammar.specs.Trees as t
 use Rattle.ec_grammar.specs.Trees.{Leaf}
 use Rattle.ec_grammar.specs.Spelling as spelled
-use Rattle.ec_grammar.specs.Spelling.{mark, word, leaf, lexeme_of_constant, lexeme_of_operation, of_list, of_option}
+use Rattle.ec_grammar.specs.Spelling.{mark, word, lexeme_of_constant, lexeme_of_operation, of_list, of_option}
 use Rattle.ec_grammar.specs.Grammar as g
 use Rattle.ec_grammar.specs.Grammar.{Every, Given, is_assign, is_step, is_prefix, is_access, level_of, rank}
-use Rattle.ec_later.specs.Words.{is_later_word, is_later_prefix, is_later_constant}
+use Rattle.ec_later.specs.Words.{is_later_word, is_later_prefix}
 use Rattle.ec_later.specs.Places.{here_if, in_list, in_option}
-use Rattle.ec_later.specs.Laters.{in_pragma, in_qualifier, in_star, in_spec, in_specs, in_type_name}
+use Rattle.ec_later.specs.Laters.{in_qualifier, in_star, in_spec, in_specs, in_type_name}
 use Rattle.ec_later.specs.Laters.{in_expression, in_assignment, in_conditional, in_binary, in_cast, in_unary}
 use Rattle.ec_later.specs.Laters.{in_postfix, in_arguments, in_further, in_primary, in_param, in_next_param, in_params}
 use Rattle.ec_later.specs.Laters.{in_shape, in_declarator, in_initialiser, in_initialisers}
-use Rattle.ec_later.specs.Laws.{is_always_later, is_ever_later, may_be_told, Selects, told, passed}
+use Rattle.ec_later.specs.Laws.{is_always_later, is_ever_later, must_be_told, Selects, told, passed}
 
 -- ---- tokens
 
@@ -31,9 +31,6 @@ a_word words.Struct s h = told refl h
 a_word words.Sizeof s h = told refl h
 a_word words.Flash s h = told refl h
 a_word words.Data s h = told refl h
-a_word words.Fract s h = told refl h
-a_word words.Accum s h = told refl h
-a_word words.Sat s h = told refl h
 a_word _ s h = passed refl h
 
 assign_passed : (op : PunctKind) → is_assign op ≡ true → is_always_later op ≡ false
@@ -67,13 +64,13 @@ a_prefix puncts.Dot s e h = cc
 a_prefix puncts.Arrow s e h = cc
 a_prefix _ s e h = passed refl h
 
-a_constant : (k : Constant) (s : Spot) {xs : List Leaf} {ks : List ℕ} → Selects xs ks → Selects (leaf s (lexeme_of_constant k) ∷ xs) (here_if (is_later_constant k) s ks)
-a_constant (constants.Whole value signed bytes) s h = passed refl h
-a_constant (constants.Fixed kind n) s h = told refl h
+a_constant : (k : Constant) → must_be_told (lexeme_of_constant k) ≡ false
+a_constant (constants.Whole value signed bytes) = refl
+a_constant (constants.Fixed kind n) = refl
 
-operation_told : (op : Operation) → may_be_told (lexeme_of_operation op) ≡ true
-operation_told (operations.Port op) = refl
-operation_told (operations.Group op) = refl
+operation_passed : (op : Operation) → must_be_told (lexeme_of_operation op) ≡ false
+operation_passed (operations.Port op) = refl
+operation_passed (operations.Group op) = refl
 
 -- ---- lists and parts that may be left out
 
@@ -98,9 +95,9 @@ any_comma : (s : Option Spot) {xs : List Leaf} {ks : List ℕ} → Selects xs ks
 any_comma None h = h
 any_comma (Some s) h = passed refl h
 
-pub pragmas : (all : List Pragma) {xs : List Leaf} {ks : List ℕ} → Selects xs ks → Selects (of_list spelled.of_pragma all xs) (in_list in_pragma all ks)
+pub pragmas : (all : List Pragma) {xs : List Leaf} {ks : List ℕ} → Selects xs ks → Selects (of_list spelled.of_pragma all xs) ks
 pragmas [] h = h
-pragmas (p ∷ more) h = told refl (pragmas more h)
+pragmas (p ∷ more) h = passed refl (pragmas more h)
 
 star : (x : t.Star) → g.Is_star x → {xs : List Leaf} {ks : List ℕ} → Selects xs ks → Selects (spelled.of_star x xs) (in_star x ks)
 star (t.star s qualifiers) is h =
@@ -166,9 +163,9 @@ mutual
 
   primary : (x : t.Primary) → g.Is_primary x → {xs : List Leaf} {ks : List ℕ} → Selects xs ks → Selects (spelled.of_primary x xs) (in_primary x ks)
   primary (t.name n) is h = identifier n h
-  primary (t.constant s k) is h = a_constant k s h
+  primary (t.constant s k) is h = passed (a_constant k) h
   primary (t.parenthesised l e r) is h = passed refl (expression e is (passed refl h))
-  primary (t.operation s op l n more r) is h = told (operation_told op) (passed refl (identifier n (further more is (passed refl h))))
+  primary (t.operation s op l n more r) is h = passed (operation_passed op) (passed refl (identifier n (further more is (passed refl h))))
 
 -- ---- declarators
 

@@ -92,7 +92,7 @@ function (t.function ty n l p r b) is h =
     type_name ty is.0 (identifier n (passed refl (params p is.1 (passed refl (compound b is.2 h)))))
 
 external : (x : t.External) → g.Is_external x → {xs : List Leaf} {ks : List ℕ} → Selects xs ks → Selects (spelled.of_external x xs) (in_external x ks)
-external (t.pragma_item p) is h = told refl h
+external (t.pragma_item p) is h = passed refl h
 external (t.structure_item s) is h = structure s is h
 external (t.register_item r) is h = register_object r is h
 external (t.declaration_item d) is h = declaration d is h

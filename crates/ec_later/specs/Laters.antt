@@ -1,19 +1,14 @@
 -- The places of the tokens of a tree that belong to a form that is not compiled yet, in the order of the text, put
 -- before the places that follow them.
 --
--- A declaration specifier or a qualifier is such a token by its word alone, and so is a constant by its type. The other
--- tokens are the first ones of a production or its operator: `struct`, `sizeof`, `[`, `.` and `->`, a `*` of a
--- declarator, the operators `&` and `*` before an operand, the `{` of an initialiser, a pragma and the name of a port
--- operation.
+-- A declaration specifier or a qualifier is such a token by its word alone. The other tokens are the first ones of a
+-- production or its operator: `struct`, `sizeof`, `[`, `.` and `->`, a `*` of a declarator, the operators `&` and `*`
+-- before an operand, and the `{` of an initialiser.
 use Rattle.std.specs.Prelude.{ℕ, List}
-use Rattle.ec_grammar.specs.declared.tree.Pragma.{Pragma}
 use Rattle.ec_grammar.specs.declared.tree.Qualifier.{Qualifier}
 use Rattle.ec_grammar.specs.Trees as t
-use Rattle.ec_later.specs.Words.{is_later_word, is_later_prefix, is_later_constant}
+use Rattle.ec_later.specs.Words.{is_later_word, is_later_prefix}
 use Rattle.ec_later.specs.Places.{here, here_if, in_list, in_option}
-
-abbrev pub in_pragma : Pragma → List ℕ → List ℕ
-in_pragma p rest = here p.spot rest
 
 abbrev pub in_qualifier : Qualifier → List ℕ → List ℕ
 in_qualifier q rest = here_if (is_later_word q.word) q.spot rest
@@ -76,9 +71,9 @@ abbrev mutual
 
   pub in_primary : t.Primary → List ℕ → List ℕ
   in_primary (t.name n) rest = rest
-  in_primary (t.constant s k) rest = here_if (is_later_constant k) s rest
+  in_primary (t.constant s k) rest = rest
   in_primary (t.parenthesised l e r) rest = in_expression e rest
-  in_primary (t.operation s op l n more r) rest = here s (in_further more rest)
+  in_primary (t.operation s op l n more r) rest = in_further more rest
 
 -- declarators
 abbrev pub in_param : t.Param → List ℕ → List ℕ
@@ -150,7 +145,7 @@ in_heading (t.heading l f c s e r) rest = in_first f (in_option in_expression c 
 
 abbrev mutual
   pub in_compound : t.Compound → List ℕ → List ℕ
-  in_compound (t.compound l pragmas b r) rest = in_list in_pragma pragmas (in_items b rest)
+  in_compound (t.compound l pragmas b r) rest = in_items b rest
 
   pub in_items : t.Items → List ℕ → List ℕ
   in_items t.no_items rest = rest
@@ -177,7 +172,7 @@ abbrev pub in_function : t.Function → List ℕ → List ℕ
 in_function (t.function ty n l p r b) rest = in_type_name ty (in_params p (in_compound b rest))
 
 abbrev pub in_external : t.External → List ℕ → List ℕ
-in_external (t.pragma_item p) rest = in_pragma p rest
+in_external (t.pragma_item p) rest = rest
 in_external (t.structure_item s) rest = in_structure s rest
 in_external (t.register_item r) rest = in_register_object r rest
 in_external (t.declaration_item d) rest = in_declaration d rest

@@ -34,10 +34,10 @@ belongs marks (word w) = is_later_word w
 belongs marks (name n) = false
 belongs marks (punct p) = marks p
 belongs marks (whole value signed bytes) = false
-belongs marks (fixed kind n) = true
-belongs marks (io_name op) = true
-belongs marks (group_name op) = true
-belongs marks (pragma which state) = true
+belongs marks (fixed kind n) = false
+belongs marks (io_name op) = false
+belongs marks (group_name op) = false
+belongs marks (pragma which state) = false
 belongs marks reserved = false
 belongs marks end = false
 

@@ -9,7 +9,7 @@ ghost use Rattle.ec_later.specs.Laters.{in_postfix, in_arguments, in_further, in
 
 use crate::places::{here, here_if};
 use crate::types::in_type_name;
-use crate::words::{is_later_constant, is_later_prefix};
+use crate::words::is_later_prefix;
 use ec_grammar::tree::{
     Argument, Arguments, Assignment, Binary, Cast, Conditional, Expression, Postfix, Primary, Unary,
 };
@@ -118,9 +118,9 @@ fn in_primary(found: Option<u32>, p: &Primary) -> Option<u32>
 {
     match p {
         Primary::Name(_) => found,
-        Primary::Constant(s, k) => here_if(found, is_later_constant(k), s),
+        Primary::Constant(_, _) => found,
         Primary::Parenthesised(_, e, _) => in_expression(found, e),
-        Primary::Operation(s, _, _, _, more, _) => in_further(here(found, s), more),
+        Primary::Operation(_, _, _, _, more, _) => in_further(found, more),
     }
 }
 

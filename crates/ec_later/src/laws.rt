@@ -1,8 +1,8 @@
 //! The laws of the tokens that are told: each function proves one, and does nothing.
 ghost use Rattle.ec_later.specs.Laws.{LatersStandInTheirUnit, LatersRise};
 
-/// What is told of a unit are tokens of it, in the order of its text: all words, punctuators, constants, pragmas and
-/// names that belong to such a form wherever they stand, and besides them no others than `&`, `*` and `{`.
+/// What is told of a unit are tokens of it, in the order of its text: all words and punctuators that belong to such a
+/// form wherever they stand, and besides them no others than `&`, `*` and `{`.
 pub fn laters_stand_in_their_unit()
     ensures { LatersStandInTheirUnit }
 {}

@@ -1,5 +1,4 @@
-//! The first token of a form that is not compiled yet: spaces, structs, arrays and pointers, fixed-point types, and
-//! port operations.
+//! The first token of a form that is not compiled yet: spaces, structs, arrays and pointers.
 #![tactic(auto)]
 
 mod declarations;

@@ -2,14 +2,13 @@
 ghost use Rattle.std.specs.Prelude.{◌≡◌, ℕ, List};
 ghost use Rattle.ec_grammar.specs.Views.{view_condition, view_first, view_heading, view_compound, views_items};
 ghost use Rattle.ec_grammar.specs.Views.{view_item, view_statement};
-ghost use Rattle.ec_later.specs.Places.{or_first, in_list};
-ghost use Rattle.ec_later.specs.Laters.{in_pragma, in_condition, in_first, in_heading, in_compound, in_items, in_item};
+ghost use Rattle.ec_later.specs.Places.{or_first};
+ghost use Rattle.ec_later.specs.Laters.{in_condition, in_first, in_heading, in_compound, in_items, in_item};
 ghost use Rattle.ec_later.specs.Laters.{in_statement};
 
 use crate::declarations::in_declaration;
 use crate::expressions::{in_any_expression, in_expression};
-use crate::places::here;
-use ec_grammar::tree::{Compound, Condition, First, Heading, Item, Pragma, Statement};
+use ec_grammar::tree::{Compound, Condition, First, Heading, Item, Statement};
 
 fn in_condition(found: Option<u32>, c: &Condition) -> Option<u32>
     ensures { (rest : List ℕ) → or_first result rest ≡ or_first found (in_condition (view_condition c.now) rest) }
@@ -35,21 +34,11 @@ fn in_heading(found: Option<u32>, h: &Heading) -> Option<u32>
     )
 }
 
-fn in_pragmas(found: Option<u32>, pragmas: &[Pragma]) -> Option<u32>
-    ensures { (rest : List ℕ) → or_first result rest ≡ or_first found (in_list in_pragma pragmas.now rest) }
-{
-    let mut first = found;
-    for p in pragmas {
-        first = here(first, &p.spot);
-    }
-    first
-}
-
 #[cycle(statements)]
 pub(crate) fn in_compound(found: Option<u32>, c: &Compound) -> Option<u32>
     ensures { (rest : List ℕ) → or_first result rest ≡ or_first found (in_compound (view_compound c.now) rest) }
 {
-    in_items(in_pragmas(found, &c.pragmas), &c.items)
+    in_items(found, &c.items)
 }
 
 #[cycle(statements)]

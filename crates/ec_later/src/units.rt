@@ -6,7 +6,6 @@ ghost use Rattle.ec_later.specs.Laters.{in_function, in_external, in_tree};
 ghost use Rattle.ec_later.specs.First.{first_later};
 
 use crate::declarations::{in_declaration, in_params, in_register_object, in_structure};
-use crate::places::here;
 use crate::statements::in_compound;
 use crate::tokens::Later;
 use crate::types::in_type_name;
@@ -28,7 +27,7 @@ fn in_external(found: Option<u32>, external: &External) -> Option<u32>
         ≡ or_first found (in_external (view_external external.now) rest) }
 {
     match external {
-        External::Pragma(p) => here(found, &p.spot),
+        External::Pragma(_) => found,
         External::Structure(s) => in_structure(found, s),
         External::Register(r) => in_register_object(found, r),
         External::Declaration(d) => in_declaration(found, d),
@@ -54,8 +53,7 @@ fn in_tree(tree: &Tree) -> Option<u32>
 }
 
 /// The first token, in the first unit that has one, of a form that is not compiled yet: of a space, a struct, an array
-/// or a pointer, `sizeof`, an initialiser in braces, a fixed-point type or constant, a pragma, or a port operation.
-/// None where there is no such token.
+/// or a pointer, `sizeof`, or an initialiser in braces. None where there is no such token.
 ///
 /// It is the least one by unit and index, since the tokens of a unit rise (`laters_rise`). It takes no memory.
 pub fn later(units: &Seq<Tree>) -> Option<Later>

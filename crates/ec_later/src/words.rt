@@ -1,8 +1,7 @@
 //! The tokens that belong to a form that is not compiled yet, by themselves or before an operand.
 ghost use Rattle.std.specs.Prelude.{◌≡◌};
-ghost use Rattle.ec_later.specs.Words.{is_later_word, is_later_prefix, is_later_constant};
+ghost use Rattle.ec_later.specs.Words.{is_later_word, is_later_prefix};
 
-use ec_grammar::tree::Constant;
 use ec_grammar::{PunctKind, WordKind};
 
 pub(crate) fn is_later_word(word: WordKind) -> bool
@@ -10,13 +9,7 @@ pub(crate) fn is_later_word(word: WordKind) -> bool
 {
     matches!(
         word,
-        WordKind::Struct
-            | WordKind::Sizeof
-            | WordKind::Flash
-            | WordKind::Data
-            | WordKind::Fract
-            | WordKind::Accum
-            | WordKind::Sat
+        WordKind::Struct | WordKind::Sizeof | WordKind::Flash | WordKind::Data
     )
 }
 
@@ -24,10 +17,4 @@ pub(crate) fn is_later_prefix(operator: PunctKind) -> bool
     ensures { result ≡ is_later_prefix operator }
 {
     matches!(operator, PunctKind::Ampersand | PunctKind::Star)
-}
-
-pub(crate) fn is_later_constant(constant: &Constant) -> bool
-    ensures { result ≡ is_later_constant constant.now }
-{
-    matches!(constant, Constant::Fixed { .. })
 }

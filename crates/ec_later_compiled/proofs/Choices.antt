@@ -1,6 +1,6 @@
 -- What holds where there is a choice, or a value.
 use Rattle.std.proofs.Common.{◌≡◌, Bool, true, false, refl}
-use Rattle.std.specs.Prelude.{if◌then◌else◌, Option, Some, None, IfSome, option_map}
+use Rattle.std.specs.Prelude.{⊤, if◌then◌else◌, Option, Some, None, IfSome, option_map}
 use Rattle.ec_operands.specs.Operands.{with_one, with_both}
 
 -- what holds of both cases of a choice holds of it
@@ -23,3 +23,7 @@ pub mapped_some : {A B : Type 0} → (P : A → Type 0) (Q : B → Type 0) (f : 
     → ((a : A) → P a → Q (f a)) → IfSome (option_map f x) Q
 mapped_some P Q f None h k = tt
 mapped_some P Q f (Some a) h k = k a h
+
+pub any_some : {A : Type 0} → (x : Option A) → IfSome x (λ y. ⊤)
+any_some None = tt
+any_some (Some x) = tt

@@ -1,12 +1,12 @@
--- Declarators without tokens of forms that are not compiled yet declare objects of integer types in the generic space,
--- and functions of such parameters, whose results are integers or void.
+-- Declarators without tokens of forms that are not compiled yet declare objects of number types in the generic space,
+-- and functions of such parameters, whose results are numbers or void.
 use Rattle.std.proofs.Common.{◌≡◌, ℕ, Bool, List, [], ◌∷◌, ◌++◌, length, map, ap}
 use Rattle.std.specs.Prelude.{if◌then◌else◌, ◌||◌, ◌&&◌, Option, Some, None, IfSome}
 use Rattle.std.specs.List.{AllByRecursion}
 use Rattle.ec_space.specs.declared.space.SpaceId.TheVariants.{Generic}
 use Rattle.ec_grammar.specs.Trees as t
 use Rattle.ec_core.specs.Plain.{PlainType, PlainStruct}
-use Rattle.ec_lower_code.specs.Parts.{IsIntegerOrVoid}
+use Rattle.ec_lower_code.specs.Parts.{IsNumericOrVoid}
 use Rattle.ec_names.specs.declared.specifiers.Specified.{Specified}
 use Rattle.ec_names.specs.Qualifiers.{space_in}
 use Rattle.ec_names.specs.Specifiers.{specified, void_at}
@@ -26,19 +26,19 @@ use Rattle.ec_later_compiled.proofs.Names.{all_append, AreCompiledTypes}
 use Rattle.ec_later_compiled.proofs.Types.{never, IsCompiledSaid, meant_compiled, said_base, type_said}
 
 -- a type that is kept where it passes a test
-pub kept_compiled : (test : PlainType → Bool) (ty : Option PlainType) → IfSome ty IsIntegerOrVoid
-    → IfSome (with_one ty (λ ty. if test ty then Some ty else None)) IsIntegerOrVoid
+pub kept_compiled : (test : PlainType → Bool) (ty : Option PlainType) → IfSome ty IsNumericOrVoid
+    → IfSome (with_one ty (λ ty. if test ty then Some ty else None)) IsNumericOrVoid
 kept_compiled test ty h =
-    one_some IsIntegerOrVoid IsIntegerOrVoid ty (λ ty. if test ty then Some ty else None) h
-    (λ ty w. if_both (λ o. IfSome o IsIntegerOrVoid) (test ty) (Some ty) None (λ z. w) (λ z. tt))
+    one_some IsNumericOrVoid IsNumericOrVoid ty (λ ty. if test ty then Some ty else None) h
+    (λ ty w. if_both (λ o. IfSome o IsNumericOrVoid) (test ty) (Some ty) None (λ z. w) (λ z. tt))
 
-small_compiled : (structs : List PlainStruct) (ty : Option PlainType) → IfSome ty IsIntegerOrVoid → IfSome (small_type structs ty) IsIntegerOrVoid
-small_compiled structs ty h = if_both (λ o. IfSome o IsIntegerOrVoid) (is_too_large structs ty) None ty (λ z. tt) (λ z. h)
+small_compiled : (structs : List PlainStruct) (ty : Option PlainType) → IfSome ty IsNumericOrVoid → IfSome (small_type structs ty) IsNumericOrVoid
+small_compiled structs ty h = if_both (λ o. IfSome o IsNumericOrVoid) (is_too_large structs ty) None ty (λ z. tt) (λ z. h)
 
 -- ---- parameters
 
 abbrev pub IsCompiledParam : ParamDeclared → Type 0
-IsCompiledParam p = IfSome p.ty IsIntegerOrVoid
+IsCompiledParam p = IfSome p.ty IsNumericOrVoid
 
 abbrev pub AreCompiledParams : List ParamDeclared → Type 0
 AreCompiledParams ps = AllByRecursion IsCompiledParam ps
@@ -70,19 +70,19 @@ params_compiled tags n (t.params first more) rest h =
 types_compiled : (ts : List PlainType) (ps : List ParamDeclared) → AreCompiledTypes ts → AreCompiledParams ps → IfSome (types_from ts ps) AreCompiledTypes
 types_compiled ts [] h k = h
 types_compiled ts (p ∷ ps) h k =
-    one_some IsIntegerOrVoid AreCompiledTypes p.ty (λ ty. types_from (ts ++ ty ∷ []) ps) k.0
-    (λ ty w. types_compiled (ts ++ ty ∷ []) ps (all_append IsIntegerOrVoid ts (ty ∷ []) h (w, tt)) k.1)
+    one_some IsNumericOrVoid AreCompiledTypes p.ty (λ ty. types_from (ts ++ ty ∷ []) ps) k.0
+    (λ ty w. types_compiled (ts ++ ty ∷ []) ps (all_append IsNumericOrVoid ts (ty ∷ []) h (w, tt)) k.1)
 
 -- ---- functions
 
 pub record IsCompiledFunction (f : FunctionDeclared) : Type 0 where
-  pub returns : IfSome f.returns IsIntegerOrVoid
+  pub returns : IfSome f.returns IsNumericOrVoid
   pub params : AreCompiledParams f.params
 
 pub param_types_compiled : (f : FunctionDeclared) → IsCompiledFunction f → IfSome (param_types f.params) AreCompiledTypes
 param_types_compiled f h = types_compiled [] f.params tt h.params
 
-pub function_compiled : (tags : Tags) (n : ℕ) (s : Specified) (stars : List t.Star) (ps : t.Params) → IfSome (head_of s stars).ty IsIntegerOrVoid
+pub function_compiled : (tags : Tags) (n : ℕ) (s : Specified) (stars : List t.Star) (ps : t.Params) → IfSome (head_of s stars).ty IsNumericOrVoid
     → AreCompiledParams (params_declared tags n ps) → IsCompiledFunction (function_declared tags n s stars ps)
 function_compiled tags n s stars ps h k = record {
   returns = kept_compiled (λ ty. is_void ty || is_scalar ty && is_object_type n ty)
@@ -94,7 +94,7 @@ function_compiled tags n s stars ps h k = record {
 -- ---- objects
 
 pub record IsCompiledObject (o : ObjectDeclared) : Type 0 where
-  pub ty : IfSome o.ty IsIntegerOrVoid
+  pub ty : IfSome o.ty IsNumericOrVoid
   pub space : o.space ≡ Generic
 
 pub object_compiled : (k : Known) (s : Specified) → IsCompiledSaid s → (d : t.Declarator) (start : Option t.Start) (rest : List ℕ)

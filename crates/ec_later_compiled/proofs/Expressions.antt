@@ -1,30 +1,37 @@
--- What an expression without tokens of forms that are not compiled yet means: an operand of an integer type or void.
-use Rattle.std.proofs.Common.{◌≡◌, ◌+◌, ℕ, true, false, List, [], ◌∷◌}
-use Rattle.std.specs.Prelude.{if◌then◌else◌, ⊤, Option, Some, None, IfSome, option_map}
+-- What an expression without tokens of forms that are not compiled yet means: an operand of a number type or void.
+use Rattle.std.proofs.Common.{◌≡◌, ◌+◌, ◌-◌, ℕ, Bool, true, false, not, ◌&&◌, ◌||◌, List, [], ◌∷◌}
+use Rattle.std.specs.Prelude.{◌==◌, if◌then◌else◌, ⊤, Option, Some, None, IfSome, option_map}
 use Rattle.std.specs.List.{AllByRecursion}
-use Rattle.std.proofs.lemmas.Bool.{true≢false}
 use Rattle.ec_grammar.specs.declared.tree.Constant.{Constant}
 use Rattle.ec_grammar.specs.declared.tree.Constant.TheVariants as constants
 use Rattle.ec_grammar.specs.Trees as t
-use Rattle.ec_core.specs.Plain.{PlainType, PlainExpr}
-use Rattle.ec_lower_code.specs.Parts.{IsIntegerOrVoid, IsAnyFunction, AreExprs}
+use Rattle.ec_grammar.specs.declared.tree.Operation.{Operation}
+use Rattle.ec_grammar.specs.declared.tree.Operation.TheVariants as operations
+use Rattle.ec_iohw.specs.declared.operations.IoOp.{IoOp}
+use Rattle.ec_core.specs.Plain.{PlainType, PlainExpr, io}
+use Rattle.ec_core.specs.PortOperations.{PortAction, reads, writes, updates, PortOperation, port_operation, takes_value}
+use Rattle.ec_core.specs.Typing.{unsigned_int, unsigned_long, port_value, port_result}
+use Rattle.ec_lower_code.specs.Parts.{IsNumericOrVoid, IsAnyFunction, IsOptionExpr, AreExprs}
 use Rattle.ec_names.specs.Names.{Named, an_object, a_function, found}
-use Rattle.ec_calls.specs.Calls.{called}
+use Rattle.ec_calls.specs.declared.ports.GroupAction.{GroupAction}
+use Rattle.ec_calls.specs.declared.ports.GroupAction.TheVariants.{Acquire, Release, Map}
+use Rattle.ec_calls.specs.declared.ports.NamedPort.{NamedPort}
+use Rattle.ec_calls.specs.Calls.{called, port_named, operand_count, value_if, operand_type, is_too_wide, optional, fits, accessed, group_named, grouped}
 use Rattle.ec_operands.specs.declared.operands.Modes.{Modes}
-use Rattle.ec_operands.specs.Operands.{Operand}
+use Rattle.ec_operands.specs.Operands.{Operand, made, valued, with_one}
 use Rattle.ec_operands.specs.Passing.{passed}
 use Rattle.ec_forms.specs.Nodes.{used}
-use Rattle.ec_expr.specs.Arguments.{Wanted, nothing, parameters, port_operands, wanted_of, wanted_type, Passed, arguments, operands, appended, is_index, with_argument, arguments_in}
-use Rattle.ec_expr.specs.Callees.{name_in_postfix, Called, function_named, called_by, callee, argument_count, takes, exprs_of, call_of}
-use Rattle.ec_expr.specs.Expressions.{of_expression, of_assignment, of_conditional, of_binary, of_cast, of_unary, of_postfix, passed_arguments, passed_further, of_primary}
+use Rattle.ec_expr.specs.Arguments.{Wanted, nothing, parameters, port_operands, wanted_of, wanted_type, Passed, arguments, operands, appended, is_index, with_argument, arguments_in, access_by, group_action}
+use Rattle.ec_expr.specs.Callees.{name_in_postfix, Called, function_named, called_by, callee, further_count, argument_count, takes, exprs_of, call_of}
+use Rattle.ec_expr.specs.Expressions.{of_expression, of_assignment, of_conditional, of_binary, of_cast, of_unary, of_postfix, passed_arguments, passed_further, wanted_for, operation_of, of_primary}
 use Rattle.ec_expr.specs.Known.{Known}
 use Rattle.ec_expr.specs.Names.{named, constant_value}
 use Rattle.ec_expr.specs.Tokens.{compound_operator, is_up}
 use Rattle.ec_expr.specs.TypeNames.{said_type, void_said, meant_type}
-use Rattle.ec_later.specs.Words.{is_later_prefix, is_later_constant}
+use Rattle.ec_later.specs.Words.{is_later_prefix}
 use Rattle.ec_later.specs.Places.{here}
 use Rattle.ec_later.specs.Laters.{in_expression, in_assignment, in_conditional, in_binary, in_cast, in_unary, in_postfix, in_arguments, in_further, in_primary}
-use Rattle.ec_later_compiled.proofs.Choices.{if_both, one_some, both_some}
+use Rattle.ec_later_compiled.proofs.Choices.{if_both, one_some, both_some, any_some}
 use Rattle.ec_later_compiled.proofs.Names.{all_append, all_at, AreCompiledTypes, IsCompiledNamed, AreCompiledNames, found_compiled}
 use Rattle.ec_later_compiled.proofs.Operators.{IsCompiledExpr, IsCompiledOperand, IsCompiledMeaning, used_compiled, passed_compiled, comma_compiled, stored_compiled, step_compiled, prefix_compiled, join_compiled, choice_compiled, cast_compiled}
 use Rattle.ec_later_compiled.proofs.Types.{never, past_if, type_name_compiled}
@@ -38,14 +45,14 @@ named_compiled (Some (an_object None ty konst space register)) h = tt
 named_compiled (Some (an_object (Some n) None konst space register)) h = tt
 named_compiled (Some (an_object (Some n) (Some ty) konst space register)) h = (h, tt)
 
-constant_compiled : (m : Modes) (c : Constant) → is_later_constant c ≡ false → IsCompiledMeaning (Some (constant_value m c))
-constant_compiled m (constants.Whole n signed bytes) h = (tt, tt)
-constant_compiled m (constants.Fixed kind n) h = absurd (true≢false h)
+constant_compiled : (m : Modes) (c : Constant) → IsCompiledMeaning (Some (constant_value m c))
+constant_compiled m (constants.Whole n signed bytes) = (tt, tt)
+constant_compiled m (constants.Fixed kind n) = (tt, tt)
 
 -- ---- calls
 
 abbrev IsCompiledCalled : Called → Type 0
-IsCompiledCalled f = IfSome f.returns IsIntegerOrVoid × IfSome f.params AreCompiledTypes
+IsCompiledCalled f = IfSome f.returns IsNumericOrVoid × IfSome f.params AreCompiledTypes
 
 callee_by_name : (at : ℕ) (what : Option Named) → IfSome what IsCompiledNamed → IfSome (function_named at what) IsCompiledCalled
 callee_by_name at None h = tt
@@ -59,31 +66,64 @@ callee_compiled k h (Some (t.identifier spot n)) = callee_by_name spot.index (fo
 abbrev pub AreCompiledValues : List PlainExpr → Type 0
 AreCompiledValues es = AllByRecursion IsCompiledExpr es
 
-pub exprs_compiled : (es : List PlainExpr) → AreCompiledValues es → AreExprs IsIntegerOrVoid IsAnyFunction (exprs_of es)
+pub exprs_compiled : (es : List PlainExpr) → AreCompiledValues es → AreExprs IsNumericOrVoid IsAnyFunction (exprs_of es)
 exprs_compiled [] h = tt
 exprs_compiled (e ∷ es) h = (h.0, exprs_compiled es h.1)
 
-called_compiled : (m : Modes) (f : ℕ) (ty : PlainType) (args : Option (List PlainExpr)) → IsIntegerOrVoid ty → IfSome args AreCompiledValues
+called_compiled : (m : Modes) (f : ℕ) (ty : PlainType) (args : Option (List PlainExpr)) → IsNumericOrVoid ty → IfSome args AreCompiledValues
     → IsCompiledMeaning (called m f ty (option_map exprs_of args))
 called_compiled m f ty None t h = tt
 called_compiled m f ty (Some es) t h = (t, (tt, exprs_compiled es h))
 
-any_number : (n : Option ℕ) → IfSome n (λ n. ⊤)
-any_number None = tt
-any_number (Some n) = tt
-
 call_compiled : (m : Modes) (f : Called) (count : ℕ) (args : Option (List PlainExpr)) → IsCompiledCalled f → IfSome args AreCompiledValues
     → IsCompiledMeaning (call_of m f count args)
 call_compiled m f count args h g =
-    both_some (λ (n : ℕ). ⊤) IsIntegerOrVoid IsCompiledOperand f.number f.returns
-    (λ n ty. if takes f.params count then called m n ty (option_map exprs_of args) else None) (any_number f.number) h.0
+    both_some (λ (n : ℕ). ⊤) IsNumericOrVoid IsCompiledOperand f.number f.returns
+    (λ n ty. if takes f.params count then called m n ty (option_map exprs_of args) else None) (any_some f.number) h.0
     (λ n ty u w. if_both IsCompiledMeaning (takes f.params count) (called m n ty (option_map exprs_of args)) None (λ z. called_compiled m n ty args w g) (λ z. tt))
+
+-- ---- operations on ports and groups
+
+value_compiled : (op : PortOperation) → IsNumericOrVoid (port_value op)
+value_compiled op = if_both IsNumericOrVoid op.long unsigned_long unsigned_int (λ z. tt) (λ z. tt)
+
+value_if_compiled : (here : Bool) (op : PortOperation) → IfSome (value_if here op) IsNumericOrVoid
+value_if_compiled here op =
+    if_both (λ ty. IfSome ty IsNumericOrVoid) (here && takes_value op) (Some (port_value op)) None (λ z. value_compiled op) (λ z. tt)
+
+port_operand_compiled : (op : PortOperation) (i : ℕ) → IfSome (operand_type op i) IsNumericOrVoid
+port_operand_compiled op i =
+    if_both (λ ty. IfSome ty IsNumericOrVoid) op.indexed (if i == 0 then Some unsigned_int else value_if (i == 1) op) (value_if (i == 0) op)
+    (λ z. if_both (λ ty. IfSome ty IsNumericOrVoid) (i == 0) (Some unsigned_int) (value_if (i == 1) op) (λ q. tt) (λ q. value_if_compiled (i == 1) op))
+    (λ z. value_if_compiled (i == 0) op)
+
+port_result_compiled : (action : PortAction) (ty : PlainType) → IsNumericOrVoid ty → IsNumericOrVoid (port_result action ty)
+port_result_compiled reads ty h = h
+port_result_compiled writes ty h = tt
+port_result_compiled updates ty h = tt
+
+optional_compiled : (e : Option PlainExpr) → IfSome e IsCompiledExpr → IsOptionExpr IsNumericOrVoid IsAnyFunction (optional e)
+optional_compiled None h = tt
+optional_compiled (Some e) h = h
+
+accessed_compiled : (m : Modes) (op : IoOp) (index contents : Option PlainExpr) (p : NamedPort) → IfSome index IsCompiledExpr → IfSome contents IsCompiledExpr
+    → IsCompiledMeaning (accessed m op index contents p)
+accessed_compiled m op index contents p i c =
+    let form = port_operation op in
+    if_both IsCompiledMeaning (is_too_wide form p || not (fits form.indexed index && fits (takes_value form) contents)) None
+    (valued (made m (port_result form.action (port_value form)) (io op p.number (optional index) (optional contents)))) (λ z. tt)
+    (λ z. (port_result_compiled form.action (port_value form) (value_compiled form), (optional_compiled index i, optional_compiled contents c)))
+
+grouped_compiled : (m : Modes) (action : GroupAction) (g : ℕ) → IsCompiledMeaning (grouped m action g)
+grouped_compiled m Acquire g = (tt, tt)
+grouped_compiled m Release g = (tt, tt)
+grouped_compiled m Map g = tt
 
 -- ---- arguments
 
 abbrev AreCompiledPassed : Passed → Type 0
 AreCompiledPassed (arguments es) = IfSome es AreCompiledValues
-AreCompiledPassed (operands index contents) = ⊤
+AreCompiledPassed (operands index contents) = IfSome index IsCompiledExpr × IfSome contents IsCompiledExpr
 
 appended_compiled : (es : Option (List PlainExpr)) (e : Option PlainExpr) → IfSome es AreCompiledValues → IfSome e IsCompiledExpr → IfSome (appended es e) AreCompiledValues
 appended_compiled None e h k = tt
@@ -93,7 +133,7 @@ appended_compiled (Some es) (Some e) h k = all_append IsCompiledExpr es (e ∷ [
 one_more : (w : Wanted) (i : ℕ) (args : Passed) (e : Option PlainExpr) → AreCompiledPassed args → IfSome e IsCompiledExpr → AreCompiledPassed (with_argument w i args e)
 one_more w i (arguments es) e h k = appended_compiled es e h k
 one_more w i (operands index contents) e h k =
-    if_both AreCompiledPassed (is_index w i) (operands e contents) (operands index e) (λ z. tt) (λ z. tt)
+    if_both AreCompiledPassed (is_index w i) (operands e contents) (operands index e) (λ z. (k, h.1)) (λ z. (h.0, k))
 
 given_compiled : (args : Passed) → AreCompiledPassed args → IfSome (arguments_in args) AreCompiledValues
 given_compiled (arguments es) h = h
@@ -102,16 +142,37 @@ given_compiled (operands index contents) h = tt
 abbrev IsCompiledWanted : Wanted → Type 0
 IsCompiledWanted nothing = ⊤
 IsCompiledWanted (parameters ts) = AreCompiledTypes ts
-IsCompiledWanted (port_operands op) = ⊥
+IsCompiledWanted (port_operands op) = ⊤
 
-wanted_compiled : (w : Wanted) (i : ℕ) → IsCompiledWanted w → IfSome (wanted_type w i) IsIntegerOrVoid
+wanted_compiled : (w : Wanted) (i : ℕ) → IsCompiledWanted w → IfSome (wanted_type w i) IsNumericOrVoid
 wanted_compiled nothing i h = tt
-wanted_compiled (parameters ts) i h = all_at IsIntegerOrVoid ts i h
-wanted_compiled (port_operands op) i h = absurd h
+wanted_compiled (parameters ts) i h = all_at IsNumericOrVoid ts i h
+wanted_compiled (port_operands op) i h = port_operand_compiled (port_operation op) (i - 1)
 
 wanted_of_compiled : (ts : Option (List PlainType)) → IfSome ts AreCompiledTypes → IsCompiledWanted (wanted_of ts)
 wanted_of_compiled None h = tt
 wanted_of_compiled (Some ts) h = h
+
+wanted_for_compiled : (op : Operation) → IsCompiledWanted (wanted_for op)
+wanted_for_compiled (operations.Port op) = tt
+wanted_for_compiled (operations.Group op) = tt
+
+access_by_compiled : (m : Modes) (op : IoOp) (port : Option NamedPort) (args : Passed) → AreCompiledPassed args → IsCompiledMeaning (access_by m op port args)
+access_by_compiled m op port (arguments es) h = tt
+access_by_compiled m op port (operands index contents) h =
+    one_some (λ (p : NamedPort). ⊤) IsCompiledOperand port (accessed m op index contents) (any_some port) (λ p w. accessed_compiled m op index contents p h.0 h.1)
+
+operation_compiled : (k : Known) (op : Operation) (n : List ℕ) (count : ℕ) (args : Passed) → AreCompiledPassed args
+    → IsCompiledMeaning (operation_of k op n count args)
+operation_compiled k (operations.Port op) n count args h =
+    let port = port_named k.ports n in
+    if_both IsCompiledMeaning (count == operand_count (port_operation op)) (access_by k.modes op port args) None
+    (λ z. access_by_compiled k.modes op port args h) (λ z. tt)
+operation_compiled k (operations.Group op) n count args h =
+    let g = group_named k.ports n in
+    if_both IsCompiledMeaning (count == 0) (with_one g (grouped k.modes (group_action op))) None
+    (λ z. one_some (λ (g : ℕ). ⊤) IsCompiledOperand g (grouped k.modes (group_action op)) (any_some g) (λ g w. grouped_compiled k.modes (group_action op) g))
+    (λ z. tt)
 
 -- ---- all
 
@@ -208,8 +269,8 @@ module _ (k : Known) (names : AreCompiledNames k.names) where
 
     primary_compiled : (x : t.Primary) (rest : List ℕ) → in_primary x rest ≡ [] → IsCompiledMeaning (of_primary k x) × (rest ≡ [])
     primary_compiled (t.name (t.identifier s n)) rest h = (named_compiled (found n k.names) (found_compiled n k.names names), h)
-    primary_compiled (t.constant s c) rest h =
-        let p = past_if (is_later_constant c) s rest h in
-        (constant_compiled k.modes c p.0, p.1)
+    primary_compiled (t.constant s c) rest h = (constant_compiled k.modes c, h)
     primary_compiled (t.parenthesised l e r) rest h = expression_compiled e rest h
-    primary_compiled (t.operation s op l n more r) rest h = absurd (never s.index _ h)
+    primary_compiled (t.operation s op l (t.identifier at n) more r) rest h =
+        let p = further_compiled more (wanted_for op) (operands None None) 1 rest h (wanted_for_compiled op) (tt, tt) in
+        (operation_compiled k op n (further_count more) (passed_further k (wanted_for op) (operands None None) 1 more) p.0, p.1)

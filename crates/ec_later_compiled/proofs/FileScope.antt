@@ -1,5 +1,5 @@
 -- Declarations at file scope and definitions of functions without tokens of forms that are not compiled yet: the
--- objects are kept in the data bank, and the bodies are of integer types or void.
+-- objects are kept in the data bank, and the bodies are of number types or void.
 use Rattle.std.proofs.Common.{◌≡◌, ℕ, Bool, true, false, List, [], ◌∷◌, ◌++◌, length, refl, ap}
 use Rattle.std.specs.Prelude.{Option, Some, None, IfSome}
 use Rattle.std.specs.List.{AllByRecursion}
@@ -7,7 +7,7 @@ use Rattle.ec_space.specs.declared.space.SpaceId.TheVariants.{Generic}
 use Rattle.ec_grammar.specs.Trees as t
 use Rattle.ec_core.specs.declared.programs.LeafInit.{LeafInit}
 use Rattle.ec_core.specs.Plain.{PlainType, PlainStmt, PlainObject, PlainFunction, param}
-use Rattle.ec_lower_code.specs.Parts.{IsIntegerOrVoid}
+use Rattle.ec_lower_code.specs.Parts.{IsNumericOrVoid}
 use Rattle.ec_names.specs.declared.linkage.Linkage.{Linkage}
 use Rattle.ec_names.specs.declared.specifiers.Specified.{Specified}
 use Rattle.ec_names.specs.declared.specifiers.Storage.{Storage}
@@ -135,11 +135,11 @@ register_compiled r (t.register_object w (t.identifier at register) ss (t.identi
     let o = register_declared (known_of r.ports s) x in
     let a = specs_compiled s.tags ss rest e in
     let ty = register_type (length s.structs) said in
-    let kind : IfSome ty IsIntegerOrVoid =
+    let kind : IfSome ty IsNumericOrVoid =
     kept_compiled (is_object_type (length s.structs)) (meant_type (void_at said.types) (head_of said []).ty)
     (meant_compiled (void_at said.types) (head_of said []).ty (said_base said.types a.0.types)) in
-    let typed : IfSome o.ty IsIntegerOrVoid =
-    if_both (λ o. IfSome o IsIntegerOrVoid) (passes_last s.structs (register_number register) ty) None (number_type ty) (λ z. tt)
+    let typed : IfSome o.ty IsNumericOrVoid =
+    if_both (λ o. IfSome o IsNumericOrVoid) (passes_last s.structs (register_number register) ty) None (number_type ty) (λ z. tt)
     (λ z. kept_compiled is_arithmetic ty kind) in (
       defined_compiled _ (register_made r n o o.first o.ty) (with_name n (register_named r n o) (register_name r n o) s)
           (register_in_data r n o o.first o.ty) (named_compiled n (register_named r n o) (register_name r n o) s typed k),
@@ -148,7 +148,7 @@ register_compiled r (t.register_object w (t.identifier at register) ss (t.identi
 
 -- ---- definitions of functions
 
-param_scope : (unit function : ℕ) (n : Option (List ℕ)) (p : ParamDeclared) (s : Scope) → IfSome p.ty IsIntegerOrVoid → IsCompiledScope s
+param_scope : (unit function : ℕ) (n : Option (List ℕ)) (p : ParamDeclared) (s : Scope) → IfSome p.ty IsNumericOrVoid → IsCompiledScope s
     → IsCompiledScope (with_param unit function n p s)
 param_scope unit function None p s w h = h
 param_scope unit function (Some n) p s w h = inner_compiled unit n p.ty p.konst (param function) s w h

@@ -1,4 +1,4 @@
--- The statements of objects that a block declares are of integer types or void, and the objects are kept in the data
+-- The statements of objects that a block declares are of number types or void, and the objects are kept in the data
 -- bank.
 use Rattle.std.proofs.Common.{◌≡◌, ℕ, Bool, false, List, [], ◌∷◌, ◌++◌, refl}
 use Rattle.std.specs.Prelude.{⊤, Option, Some, None, IfSome, option_map}
@@ -7,7 +7,7 @@ use Rattle.ec_space.specs.declared.space.Bank.TheVariants.{Data as DataBank}
 use Rattle.ec_space.specs.declared.space.SpaceId.TheVariants.{Generic}
 use Rattle.ec_grammar.specs.Trees as t
 use Rattle.ec_core.specs.Plain.{PlainType, PlainExpr, PlainExprs, PlainStmt, statement, declare, PlainStmts, next_stmt, PlainObject, PlainStorage, local}
-use Rattle.ec_lower_code.specs.Parts.{IsIntegerOrVoid, IsAnyFunction, AreExprs, IsStmt, AreStmts}
+use Rattle.ec_lower_code.specs.Parts.{IsNumericOrVoid, IsAnyFunction, AreExprs, IsStmt, AreStmts}
 use Rattle.ec_names.specs.declared.specifiers.Specified.{Specified}
 use Rattle.ec_names.specs.Names.{Names, an_object}
 use Rattle.ec_names.specs.Specifiers.{specified}
@@ -31,16 +31,16 @@ use Rattle.ec_later_compiled.proofs.Types.{never, IsCompiledSaid, specs_compiled
 use Rattle.ec_later_compiled.proofs.Expressions.{assignment_compiled}
 use Rattle.ec_later_compiled.proofs.Declared.{object_compiled}
 
--- ---- statements of integer types or void
+-- ---- statements of number types or void
 
 abbrev pub IsCompiledStmt : PlainStmt → Type 0
-IsCompiledStmt s = IsStmt IsIntegerOrVoid IsAnyFunction s
+IsCompiledStmt s = IsStmt IsNumericOrVoid IsAnyFunction s
 
 abbrev pub AreCompiledStmts : PlainStmts → Type 0
-AreCompiledStmts ss = AreStmts IsIntegerOrVoid IsAnyFunction ss
+AreCompiledStmts ss = AreStmts IsNumericOrVoid IsAnyFunction ss
 
 abbrev pub AreCompiledExprs : PlainExprs → Type 0
-AreCompiledExprs es = AreExprs IsIntegerOrVoid IsAnyFunction es
+AreCompiledExprs es = AreExprs IsNumericOrVoid IsAnyFunction es
 
 pub followed_compiled : (s : Option PlainStmt) (tail : Option PlainStmts) → IfSome s IsCompiledStmt → IfSome tail AreCompiledStmts
     → IfSome (followed s tail) AreCompiledStmts
@@ -62,7 +62,7 @@ object_in_data None object os k h = h
 object_in_data (Some ty) object os k h =
     if_both (AllByRecursion IsInData) (has_room os) (os ++ object ty ∷ []) os (λ z. all_append IsInData os (object ty ∷ []) h (k ty, tt)) (λ z. h)
 
-pub inner_compiled : (unit : ℕ) (n : List ℕ) (ty : Option PlainType) (konst : Bool) (storage : PlainStorage) (s : Scope) → IfSome ty IsIntegerOrVoid
+pub inner_compiled : (unit : ℕ) (n : List ℕ) (ty : Option PlainType) (konst : Bool) (storage : PlainStorage) (s : Scope) → IfSome ty IsNumericOrVoid
     → IsCompiledScope s → IsCompiledScope (with_inner unit n ty konst storage s)
 inner_compiled unit n ty konst storage s t h = record {
   names = inside_compiled n (an_object _ ty konst Generic false) s.names t h.names;
@@ -77,9 +77,9 @@ pub record AreCompiledBefore (s : Scope) (before : Option PlainStmts → Option 
 
 -- ---- initial values
 
-scalar_compiled : (ty : Option PlainType) → IfSome ty IsIntegerOrVoid → IfSome (scalar_of ty) IsIntegerOrVoid
+scalar_compiled : (ty : Option PlainType) → IfSome ty IsNumericOrVoid → IfSome (scalar_of ty) IsNumericOrVoid
 scalar_compiled None h = tt
-scalar_compiled (Some ty) h = if_both (λ o. IfSome o IsIntegerOrVoid) (is_aggregate ty) None (Some ty) (λ z. tt) (λ z. h)
+scalar_compiled (Some ty) h = if_both (λ o. IfSome o IsNumericOrVoid) (is_aggregate ty) None (Some ty) (λ z. tt) (λ z. h)
 
 one_compiled : (e : Option PlainExpr) → IfSome e IsCompiledExpr → IfSome (option_map exprs_of (one_value e)) AreCompiledExprs
 one_compiled None h = tt
@@ -87,7 +87,7 @@ one_compiled (Some e) h = (h, tt)
 
 module _ (c : Context) where
   pub values_compiled : (names : Names) → AreCompiledNames names → (start : Option t.Start) (ty : Option PlainType) (rest : List ℕ)
-      → in_option in_start start rest ≡ [] → IfSome ty IsIntegerOrVoid
+      → in_option in_start start rest ≡ [] → IfSome ty IsNumericOrVoid
       → IfSome (initial_values c names start ty) AreCompiledExprs × (rest ≡ [])
   unfolding initial_values
   values_compiled names h None ty rest e w = (tt, e)

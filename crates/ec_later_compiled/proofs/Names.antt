@@ -1,10 +1,10 @@
--- Names that stand for objects and functions of integer types or void.
+-- Names that stand for objects and functions of number types or void.
 use Rattle.std.proofs.Common.{ℕ, zero, suc, List, [], ◌∷◌, ◌++◌, take}
 use Rattle.std.specs.Prelude.{if◌then◌else◌, Option, Some, None, IfSome, slice_get}
 use Rattle.std.specs.List.{AllByRecursion}
 use Rattle.std.specs.Str.{bytes_eq}
 use Rattle.ec_core.specs.Plain.{PlainType}
-use Rattle.ec_lower_code.specs.Parts.{IsIntegerOrVoid}
+use Rattle.ec_lower_code.specs.Parts.{IsNumericOrVoid}
 use Rattle.ec_names.specs.Names.{Named, an_object, a_function, Entry, Names, newest_from, newest, or_else, found, with_outside, with_inside, closed}
 use Rattle.ec_names.specs.Tables.{Table, at_name, with_name}
 use Rattle.ec_later_compiled.proofs.Choices.{if_both}
@@ -29,11 +29,11 @@ all_at P (x ∷ xs) (suc i) h = all_at P xs i h.1
 -- ---- names
 
 abbrev pub AreCompiledTypes : List PlainType → Type 0
-AreCompiledTypes ts = AllByRecursion IsIntegerOrVoid ts
+AreCompiledTypes ts = AllByRecursion IsNumericOrVoid ts
 
 abbrev pub IsCompiledNamed : Named → Type 0
-IsCompiledNamed (an_object number ty konst space register) = IfSome ty IsIntegerOrVoid
-IsCompiledNamed (a_function number returns params) = IfSome returns IsIntegerOrVoid × IfSome params AreCompiledTypes
+IsCompiledNamed (an_object number ty konst space register) = IfSome ty IsNumericOrVoid
+IsCompiledNamed (a_function number returns params) = IfSome returns IsNumericOrVoid × IfSome params AreCompiledTypes
 
 abbrev IsCompiledAt : List ℕ × Named → Type 0
 IsCompiledAt e = IsCompiledNamed e.1

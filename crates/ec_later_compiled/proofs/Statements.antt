@@ -1,9 +1,9 @@
--- The statements of a body without tokens of forms that are not compiled yet are of integer types or void.
+-- The statements of a body without tokens of forms that are not compiled yet are of number types or void.
 use Rattle.std.proofs.Common.{◌≡◌, ℕ, List, [], ◌∷◌, length}
 use Rattle.std.specs.Prelude.{Option, Some, None, IfSome, option_map}
 use Rattle.ec_grammar.specs.Trees as t
 use Rattle.ec_core.specs.Plain.{PlainType, PlainExpr, PlainStmt, statement, PlainKind, evaluate, block, branch, while_loop, do_loop, for_loop, break_loop, continue_loop, return_value, no_stmt, last_stmt}
-use Rattle.ec_lower_code.specs.Parts.{IsIntegerOrVoid, IsAnyFunction, IsOptional, IsKind, IsOptionStmt}
+use Rattle.ec_lower_code.specs.Parts.{IsNumericOrVoid, IsAnyFunction, IsOptional, IsKind, IsOptionStmt}
 use Rattle.ec_names.specs.Firsts.{first_specs, first_expression}
 use Rattle.ec_names.specs.Names.{Names}
 use Rattle.ec_names.specs.Specifiers.{specified}
@@ -23,15 +23,15 @@ use Rattle.ec_later.specs.Laters.{in_expression, in_first, in_heading, in_compou
 use Rattle.ec_later_compiled.proofs.Choices.{if_both, both_some, mapped_some}
 use Rattle.ec_later_compiled.proofs.Names.{AreCompiledNames, closed_compiled}
 use Rattle.ec_later_compiled.proofs.Operators.{IsCompiledExpr, IsCompiledOperand, value_compiled, used_compiled, part_compiled, condition_compiled, passed_compiled}
-use Rattle.ec_later_compiled.proofs.Types.{never, specs_compiled}
+use Rattle.ec_later_compiled.proofs.Types.{specs_compiled}
 use Rattle.ec_later_compiled.proofs.Expressions.{expression_compiled}
 use Rattle.ec_later_compiled.proofs.Locals.{IsCompiledStmt, AreCompiledStmts, followed_compiled, IsCompiledScope, AreCompiledBefore, local_compiled, declaration_compiled}
 
 abbrev IsCompiledKind : PlainKind → Type 0
-IsCompiledKind x = IsKind IsIntegerOrVoid IsAnyFunction x
+IsCompiledKind x = IsKind IsNumericOrVoid IsAnyFunction x
 
 abbrev IsCompiledOptional : Option PlainExpr → Type 0
-IsCompiledOptional x = IsOptional IsIntegerOrVoid IsAnyFunction x
+IsCompiledOptional x = IsOptional IsNumericOrVoid IsAnyFunction x
 
 some_compiled : (e : Option PlainExpr) → IfSome e IsCompiledExpr → IfSome (option_map Some e) IsCompiledOptional
 some_compiled None h = tt
@@ -79,11 +79,11 @@ module _ (c : Context) (names : Names) (h : AreCompiledNames names) where
       let p = evaluated_compiled x rest e in
       (mapped_some IsCompiledExpr IsCompiledKind evaluate (evaluated c names x) p.0 (λ v w. w), p.1)
 
-  result_compiled : (ty : Option PlainType) → IfSome ty IsIntegerOrVoid → IfSome (returned_type ty) IsIntegerOrVoid
+  result_compiled : (ty : Option PlainType) → IfSome ty IsNumericOrVoid → IfSome (returned_type ty) IsNumericOrVoid
   result_compiled None w = tt
-  result_compiled (Some ty) w = if_both (λ o. IfSome o IsIntegerOrVoid) (is_void ty) None (Some ty) (λ z. tt) (λ z. w)
+  result_compiled (Some ty) w = if_both (λ o. IfSome o IsNumericOrVoid) (is_void ty) None (Some ty) (λ z. tt) (λ z. w)
 
-  returned_compiled : (r : Around) → IfSome r.result IsIntegerOrVoid → (x : Option t.Expression) (rest : List ℕ) → in_option in_expression x rest ≡ []
+  returned_compiled : (r : Around) → IfSome r.result IsNumericOrVoid → (x : Option t.Expression) (rest : List ℕ) → in_option in_expression x rest ≡ []
       → IfSome (returned c r names x) IsCompiledKind × (rest ≡ [])
   unfolding returned
   returned_compiled r w None rest e =
@@ -103,10 +103,10 @@ stated_compiled r x (Some k) h = h
 -- ---- headings
 
 abbrev IsCompiledFirst : Option PlainStmt → Type 0
-IsCompiledFirst s = IsOptionStmt IsIntegerOrVoid IsAnyFunction (optional_stmt s)
+IsCompiledFirst s = IsOptionStmt IsNumericOrVoid IsAnyFunction (optional_stmt s)
 
 pub record IsCompiledHeading (x : ForHeading) : Type 0 where
-  pub first : IsOptionStmt IsIntegerOrVoid IsAnyFunction x.first
+  pub first : IsOptionStmt IsNumericOrVoid IsAnyFunction x.first
   pub condition : IsCompiledOptional x.condition
   pub last : IsCompiledOptional x.last
 
@@ -186,16 +186,15 @@ ended_compiled : (n : ℕ) (s : Scope) → IsCompiledScope s → IsCompiledScope
 ended_compiled n s h = record { names = closed_compiled n s.names h.names; objects = h.objects }
 
 mutual
-  kind_compiled : (c : Context) (r : Around) → IfSome r.result IsIntegerOrVoid → (x : t.Statement) (s : Scope) (rest : List ℕ)
+  kind_compiled : (c : Context) (r : Around) → IfSome r.result IsNumericOrVoid → (x : t.Statement) (s : Scope) (rest : List ℕ)
       → in_statement x rest ≡ [] → IsCompiledScope s
       → IfSome (kind_of c r x s) IsCompiledKind × IsCompiledScope (after c r x s) × (rest ≡ [])
-  kind_compiled c r w (t.block (t.compound l [] xs z)) s rest e k =
-      let p = items_compiled (under [] c) (within r s.names) w xs s rest e k in (
-        mapped_some AreCompiledStmts IsCompiledKind block (items_of (under [] c) (within r s.names) xs s) p.0 (λ ss v. v),
-        ended_compiled (length s.names.inside) (after_items (under [] c) (within r s.names) xs s) p.1,
+  kind_compiled c r w (t.block (t.compound l ps xs z)) s rest e k =
+      let p = items_compiled (under ps c) (within r s.names) w xs s rest e k in (
+        mapped_some AreCompiledStmts IsCompiledKind block (items_of (under ps c) (within r s.names) xs s) p.0 (λ ss v. v),
+        ended_compiled (length s.names.inside) (after_items (under ps c) (within r s.names) xs s) p.1,
         p.2,
       )
-  kind_compiled c r w (t.block (t.compound l (pragma ∷ ps) xs z)) s rest e k = absurd (never pragma.spot.index _ e)
   kind_compiled c r w (t.simple x z) s rest e k =
       let p = evaluation_compiled c s.names k.names x rest e in
       (p.0, k, p.1)
@@ -244,7 +243,7 @@ mutual
       let p = returned_compiled c s.names k.names r w x rest e in
       (p.0, k, p.1)
 
-  item_compiled : (c : Context) (r : Around) → IfSome r.result IsIntegerOrVoid → (x : t.Item) (s : Scope) (rest : List ℕ)
+  item_compiled : (c : Context) (r : Around) → IfSome r.result IsNumericOrVoid → (x : t.Item) (s : Scope) (rest : List ℕ)
       → in_item x rest ≡ [] → IsCompiledScope s → AreCompiledBefore (after_item c r x s) (item_before c r x s) rest
   item_compiled c r w (t.declared d) s rest e k = declaration_compiled c r d s rest e k
   item_compiled c r w (t.stated x) s rest e k =
@@ -255,7 +254,7 @@ mutual
         past = p.2;
       }
 
-  items_compiled : (c : Context) (r : Around) → IfSome r.result IsIntegerOrVoid → (xs : t.Items) (s : Scope) (rest : List ℕ)
+  items_compiled : (c : Context) (r : Around) → IfSome r.result IsNumericOrVoid → (xs : t.Items) (s : Scope) (rest : List ℕ)
       → in_items xs rest ≡ [] → IsCompiledScope s
       → IfSome (items_of c r xs s) AreCompiledStmts × IsCompiledScope (after_items c r xs s) × (rest ≡ [])
   items_compiled c r w t.no_items s rest e k = (tt, k, e)
@@ -266,15 +265,14 @@ mutual
 
 -- ---- bodies
 
-pub body_compiled : (c : Context) (r : Around) → IfSome r.result IsIntegerOrVoid → (x : t.Compound) (s : Scope) (rest : List ℕ)
+pub body_compiled : (c : Context) (r : Around) → IfSome r.result IsNumericOrVoid → (x : t.Compound) (s : Scope) (rest : List ℕ)
     → in_compound x rest ≡ [] → IsCompiledScope s
     → IfSome (body_of c r x s) IsCompiledStmt × IsCompiledScope (after_body c r x s) × (rest ≡ [])
 unfolding body_of after_body
-body_compiled c r w (t.compound l (pragma ∷ ps) xs z) s rest e k = absurd (never pragma.spot.index _ e)
-body_compiled c r w (t.compound l [] xs z) s rest e k =
-    let p = items_compiled (under [] c) r w xs s rest e k in (
-      mapped_some IsCompiledKind IsCompiledStmt (statement r.unit l.index) (option_map block (items_of (under [] c) r xs s))
-          (mapped_some AreCompiledStmts IsCompiledKind block (items_of (under [] c) r xs s) p.0 (λ ss v. v)) (λ x v. v),
-      ended_compiled r.first (after_items (under [] c) r xs s) p.1,
+body_compiled c r w (t.compound l ps xs z) s rest e k =
+    let p = items_compiled (under ps c) r w xs s rest e k in (
+      mapped_some IsCompiledKind IsCompiledStmt (statement r.unit l.index) (option_map block (items_of (under ps c) r xs s))
+          (mapped_some AreCompiledStmts IsCompiledKind block (items_of (under ps c) r xs s) p.0 (λ ss v. v)) (λ x v. v),
+      ended_compiled r.first (after_items (under ps c) r xs s) p.1,
       p.2,
     )

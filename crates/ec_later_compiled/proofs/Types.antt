@@ -1,16 +1,16 @@
--- Specifiers and declarators without tokens of forms that are not compiled yet say integer types or void, in no space
--- but the generic one.
-use Rattle.std.proofs.Common.{◌≡◌, ℕ, Bool, true, false, not, ◌&&◌, ◌||◌, List, [], ◌∷◌, refl, sym, subst}
-use Rattle.std.specs.Prelude.{if◌then◌else◌, Option, Some, None, IfSome, option_map}
+-- Specifiers and declarators without tokens of forms that are not compiled yet say number types or void, in no space but
+-- the generic one.
+use Rattle.std.proofs.Common.{◌≡◌, ℕ, Bool, true, false, List, [], ◌∷◌, refl}
+use Rattle.std.specs.Prelude.{Option, Some, None, IfSome, option_map}
 use Rattle.std.proofs.lemmas.Bool.{true≢false}
 use Rattle.ec_grammar.specs.declared.token.WordKind.{WordKind}
 use Rattle.ec_grammar.specs.declared.token.WordKind.TheVariants as w
 use Rattle.ec_grammar.specs.declared.tree.Spot.{Spot}
 use Rattle.ec_grammar.specs.Trees as t
 use Rattle.ec_core.specs.declared.arithmetic_types.Arithmetic.{Arithmetic}
-use Rattle.ec_core.specs.declared.arithmetic_types.Arithmetic.TheVariants.{Integer}
+use Rattle.ec_core.specs.declared.arithmetic_types.Arithmetic.TheVariants.{Integer, Fixed}
 use Rattle.ec_core.specs.Plain.{PlainType}
-use Rattle.ec_lower_code.specs.Parts.{IsIntegerOrVoid}
+use Rattle.ec_lower_code.specs.Parts.{IsNumericOrVoid}
 use Rattle.ec_names.specs.declared.qualifiers.SpaceWord.{SpaceWord}
 use Rattle.ec_names.specs.declared.specifiers.Lone.{Lone}
 use Rattle.ec_names.specs.declared.specifiers.Specified.{Specified}
@@ -24,7 +24,7 @@ use Rattle.ec_names.specs.Qualifiers.{space_word, first_space}
 use Rattle.ec_names.specs.Specifiers.{with_type_word, base_by, base_of, void_at, with_spec, specified_from, specified, nothing_said}
 use Rattle.ec_names.specs.Stars.{declared_by, behind}
 use Rattle.ec_names.specs.Tags.{Tags}
-use Rattle.ec_names.specs.Words.{integer_type, fixed_type, number_type, are_none, base_type, is_once, is_never, is_at_most_once, together, has_one_form, has_integer_word}
+use Rattle.ec_names.specs.Words.{number_type, are_none, base_type}
 use Rattle.ec_expr.specs.TypeNames.{said_type, void_said, meant_type}
 use Rattle.ec_later.specs.Words.{is_later_word}
 use Rattle.ec_later.specs.Places.{here_if, in_list}
@@ -43,25 +43,21 @@ past_if false s rest h = (refl, h)
 -- ---- words
 
 abbrev IsCompiledBase : BaseType → Type 0
-IsCompiledBase ty = IsIntegerOrVoid (base_type ty)
+IsCompiledBase ty = IsNumericOrVoid (base_type ty)
 
--- no word of a fixed-point type stands among them
-pub record AreCompiledWords (s : TypeWords) : Type 0 where
-  pub fract : s.words.fract ≡ Never
-  pub accum : s.words.accum ≡ Never
-  pub lone : IfSome s.lone (λ l. IfSome l.ty IsCompiledBase)
+-- a type that a specifier names alone is a number type or void
+abbrev pub AreCompiledWords : TypeWords → Type 0
+AreCompiledWords s = IfSome s.lone (λ l. IfSome l.ty IsCompiledBase)
 
-words_compiled : (s : TypeWords) (at : ℕ) (word : WordKind) → is_later_word word ≡ false → AreCompiledWords s → AreCompiledWords (with_type_word s at word)
-words_compiled s at w.Fract e h = absurd (true≢false e)
-words_compiled s at w.Accum e h = absurd (true≢false e)
-words_compiled s at w.Void e h = record { fract = h.fract; accum = h.accum; lone = tt }
-words_compiled s at w.Int8 e h = record { fract = h.fract; accum = h.accum; lone = tt }
-words_compiled s at w.Uint8 e h = record { fract = h.fract; accum = h.accum; lone = tt }
-words_compiled s at w.Int16 e h = record { fract = h.fract; accum = h.accum; lone = tt }
-words_compiled s at w.Uint16 e h = record { fract = h.fract; accum = h.accum; lone = tt }
-words_compiled s at w.Int32 e h = record { fract = h.fract; accum = h.accum; lone = tt }
-words_compiled s at w.Uint32 e h = record { fract = h.fract; accum = h.accum; lone = tt }
-words_compiled s at word e h = record { fract = h.fract; accum = h.accum; lone = h.lone }
+words_compiled : (s : TypeWords) (at : ℕ) (word : WordKind) → AreCompiledWords s → AreCompiledWords (with_type_word s at word)
+words_compiled s at w.Void h = tt
+words_compiled s at w.Int8 h = tt
+words_compiled s at w.Uint8 h = tt
+words_compiled s at w.Int16 h = tt
+words_compiled s at w.Uint16 h = tt
+words_compiled s at w.Int32 h = tt
+words_compiled s at w.Uint32 h = tt
+words_compiled s at word h = h
 
 space_compiled : (o : Option SpaceWord) (at : ℕ) (word : WordKind) → is_later_word word ≡ false → o ≡ None → first_space o at (space_word word) ≡ None
 space_compiled (Some s) at word e q = absurd (no_space s q)
@@ -72,46 +68,22 @@ space_compiled None at w.Flash e q = absurd (true≢false e)
 space_compiled None at w.Data e q = absurd (true≢false e)
 space_compiled None at word e q = refl
 
-integer_compiled : (s : Words) → IfSome (option_map Number (integer_type s)) IsCompiledBase
-integer_compiled s =
-    if_both P (not (is_never s.sat) || not (has_one_form s)) None (if is_once s.character then one else more) (λ h. tt)
-    (λ h. if_both P (is_once s.character) one more
-    (λ h. if_both P (is_never s.int && is_never (together s.short s.long)) (Some (Integer (record { signed = is_never s.unsigned; bytes = 1 }))) None (λ h. tt)
-    (λ h. tt))
-    (λ h. if_both P (is_never s.character && is_at_most_once s.int && has_integer_word s)
-    (Some (Integer (record { signed = is_never s.unsigned; bytes = if is_once s.long then 4 else 2 }))) None (λ h. tt) (λ h. tt)))
+number_compiled : (o : Option Arithmetic) → IfSome (option_map Number o) IsCompiledBase
+number_compiled None = tt
+number_compiled (Some (Integer t)) = tt
+number_compiled (Some (Fixed t)) = tt
+
+base_by_compiled : (n : Times) (words : Words) (alone : Option Lone) → IfSome alone (λ l. IfSome l.ty IsCompiledBase)
+    → IfSome (base_by n words alone) IsCompiledBase
+base_by_compiled Never words alone h = number_compiled (number_type words)
+base_by_compiled Once words None h = if_both (λ o. IfSome o IsCompiledBase) (are_none words) None None (λ z. tt) (λ z. tt)
+base_by_compiled Once words (Some l) h = if_both (λ o. IfSome o IsCompiledBase) (are_none words) l.ty None (λ z. h) (λ z. tt)
+base_by_compiled Often words alone h = tt
+
+pub said_base : (s : TypeWords) → AreCompiledWords s → IfSome (option_map base_type (base_of s)) IsNumericOrVoid
+said_base s h = mapped (base_of s) (base_by_compiled s.lones s.words s.lone h)
   where
-    P : Option Arithmetic → Type 0
-    P o = IfSome (option_map Number o) IsCompiledBase
-
-    one : Option Arithmetic
-    one = if is_never s.int && is_never (together s.short s.long) then Some (Integer (record { signed = is_never s.unsigned; bytes = 1 })) else None
-
-    more : Option Arithmetic
-    more =
-        if is_never s.character && is_at_most_once s.int && has_integer_word s
-        then Some (Integer (record { signed = is_never s.unsigned; bytes = if is_once s.long then 4 else 2 })) else None
-
-both_never : (a b : Times) → a ≡ Never → b ≡ Never → (is_never a && is_never b) ≡ true
-both_never a b e q =
-    subst (λ (x : Times). (is_never x && is_never b) ≡ true) (sym e) (subst (λ (x : Times). (is_never Never && is_never x) ≡ true) (sym q) refl)
-
-number_compiled : (s : Words) → s.fract ≡ Never → s.accum ≡ Never → IfSome (option_map Number (number_type s)) IsCompiledBase
-number_compiled s e q =
-    if_both (λ (o : Option Arithmetic). IfSome (option_map Number o) IsCompiledBase) (is_never s.fract && is_never s.accum) (integer_type s) (fixed_type s)
-    (λ h. integer_compiled s) (λ h. absurd (true≢false (subst (λ b. b ≡ false) (both_never s.fract s.accum e q) h)))
-
-base_by_compiled : (n : Times) (words : Words) (alone : Option Lone) → words.fract ≡ Never → words.accum ≡ Never
-    → IfSome alone (λ l. IfSome l.ty IsCompiledBase) → IfSome (base_by n words alone) IsCompiledBase
-base_by_compiled Never words alone e q h = number_compiled words e q
-base_by_compiled Once words None e q h = if_both (λ o. IfSome o IsCompiledBase) (are_none words) None None (λ z. tt) (λ z. tt)
-base_by_compiled Once words (Some l) e q h = if_both (λ o. IfSome o IsCompiledBase) (are_none words) l.ty None (λ z. h) (λ z. tt)
-base_by_compiled Often words alone e q h = tt
-
-pub said_base : (s : TypeWords) → AreCompiledWords s → IfSome (option_map base_type (base_of s)) IsIntegerOrVoid
-said_base s h = mapped (base_of s) (base_by_compiled s.lones s.words s.lone h.fract h.accum h.lone)
-  where
-    mapped : (o : Option BaseType) → IfSome o IsCompiledBase → IfSome (option_map base_type o) IsIntegerOrVoid
+    mapped : (o : Option BaseType) → IfSome o IsCompiledBase → IfSome (option_map base_type o) IsNumericOrVoid
     mapped None h = tt
     mapped (Some ty) h = h
 
@@ -126,7 +98,7 @@ spec_compiled : (tags : Tags) (s : Specified) (x : t.Spec) (rest : List ℕ) →
 spec_compiled tags s (t.word_spec spot word) rest h k =
     let p = past_if (is_later_word word) spot rest h in (
       record {
-        types = words_compiled s.types spot.index word p.0 k.types;
+        types = words_compiled s.types spot.index word k.types;
         space = space_compiled s.qualities.space spot.index word p.0 k.space;
       },
       p.1,
@@ -141,7 +113,7 @@ more_compiled tags s (x ∷ xs) rest h k =
     more_compiled tags (with_spec tags s x) xs rest p.1 p.0
 
 nothing_compiled : IsCompiledSaid nothing_said
-nothing_compiled = record { types = record { fract = refl; accum = refl; lone = tt }; space = refl }
+nothing_compiled = record { types = tt; space = refl }
 
 pub specs_compiled : (tags : Tags) (x : t.Specs) (rest : List ℕ) → in_specs x rest ≡ [] → IsCompiledSaid (specified tags x) × (rest ≡ [])
 specs_compiled tags (t.specs first more) rest h =
@@ -150,12 +122,12 @@ specs_compiled tags (t.specs first more) rest h =
 
 -- ---- type names
 
-pub meant_compiled : (at : Option ℕ) (ty : Option PlainType) → IfSome ty IsIntegerOrVoid → IfSome (meant_type at ty) IsIntegerOrVoid
+pub meant_compiled : (at : Option ℕ) (ty : Option PlainType) → IfSome ty IsNumericOrVoid → IfSome (meant_type at ty) IsNumericOrVoid
 meant_compiled None ty h = h
 meant_compiled (Some at) ty h = tt
 
 pub type_said : (tags : Tags) (ss : t.Specs) (stars : List t.Star) (rest : List ℕ) → in_type_name (t.type_name ss stars) rest ≡ []
-    → IfSome (behind (declared_by (specified tags ss)) stars).ty IsIntegerOrVoid × (rest ≡ [])
+    → IfSome (behind (declared_by (specified tags ss)) stars).ty IsNumericOrVoid × (rest ≡ [])
 type_said tags ss [] rest h =
     let p = specs_compiled tags ss rest h in
     (said_base (specified tags ss).types p.0.types, p.1)
@@ -163,7 +135,7 @@ type_said tags ss (t.star spot qs ∷ more) rest h =
     absurd (never spot.index _ (specs_compiled tags ss (in_list in_star (t.star spot qs ∷ more) rest) h).1)
 
 pub type_name_compiled : (tags : Tags) (x : t.TypeName) (rest : List ℕ) → in_type_name x rest ≡ []
-    → IfSome (meant_type (void_said tags x) (said_type tags x)) IsIntegerOrVoid × (rest ≡ [])
+    → IfSome (meant_type (void_said tags x) (said_type tags x)) IsNumericOrVoid × (rest ≡ [])
 unfolding void_said said_type
 type_name_compiled tags (t.type_name ss stars) rest h =
     let p = type_said tags ss stars rest h in

@@ -6,7 +6,7 @@ use Rattle.ec_iohw.specs.declared.table.IoTable.{IoTable}
 use Rattle.ec_grammar.specs.Trees as t
 use Rattle.ec_core.specs.Plain.{PlainObject, PlainProgram}
 use Rattle.ec_lower_code.specs.Parts.{IsCompiled}
-use Rattle.ec_lower_suited.specs.Laws.{IsInDataIfInteger, IntegersAreInData}
+use Rattle.ec_lower_suited.specs.Laws.{IsInDataIfNumber, NumbersAreInData}
 use Rattle.ec_names.specs.Definitions.{Definition, definitions}
 use Rattle.ec_file_scope.specs.States.{Setting, State, nothing_declared, in_unit}
 use Rattle.ec_check.specs.Units.{after_external, after_externals, main_of, after_unit, setting_of, after_units, program_by}
@@ -22,7 +22,7 @@ use Rattle.ec_later_compiled.proofs.FileScope.{IsCompiledState, declaration_comp
 
 external_compiled : (r : Setting) (x : t.External) (s : State) (rest : List ℕ) → in_external x rest ≡ [] → IsCompiledState s
     → IsCompiledState (after_external r x s) × (rest ≡ [])
-external_compiled r (t.pragma_item p) s rest e k = absurd (never p.spot.index _ e)
+external_compiled r (t.pragma_item p) s rest e k = (record { scope = k.scope; functions = k.functions }, e)
 external_compiled r (t.structure_item (t.structure w tag l first more m semicolon)) s rest e k = absurd (never w.index _ e)
 external_compiled r (t.register_item d) s rest e k = register_compiled r d s rest e k
 external_compiled r (t.declaration_item d) s rest e k = declaration_compiled r d s rest e k
@@ -56,19 +56,19 @@ units_compiled ds io unit (u ∷ us) s e k =
 
 -- ---- programs
 
-integers_in_data : (os : List PlainObject) → AllByRecursion IsInData os → AllByRecursion IsInDataIfInteger os
-integers_in_data [] h = tt
-integers_in_data (o ∷ os) h = (λ i. h.0, integers_in_data os h.1)
+numbers_in_data : (os : List PlainObject) → AllByRecursion IsInData os → AllByRecursion IsInDataIfNumber os
+numbers_in_data [] h = tt
+numbers_in_data (o ∷ os) h = (λ i. h.0, numbers_in_data os h.1)
 
 abbrev IsCompiledProgram : PlainProgram → Type 0
-IsCompiledProgram p = IsCompiled p × IntegersAreInData p
+IsCompiledProgram p = IsCompiled p × NumbersAreInData p
 
 program_compiled : (main : Option ℕ) (s : State) → IsCompiledState s → IfSome (program_by main s) IsCompiledProgram
 program_compiled None s h = tt
 program_compiled (Some main) s h =
     if_both (λ o. IfSome o IsCompiledProgram) (s.whole && nat_le (length s.functions) 65_536)
     (Some (record { structs = s.structs; objects = s.scope.objects; functions = s.functions; main = main })) None
-    (λ z. (h.functions, integers_in_data s.scope.objects h.scope.objects)) (λ z. tt)
+    (λ z. (h.functions, numbers_in_data s.scope.objects h.scope.objects)) (λ z. tt)
 
 nothing_compiled : IsCompiledState nothing_declared
 nothing_compiled = record { scope = record { names = record { outside = tt; inside = tt }; objects = tt }; functions = tt }

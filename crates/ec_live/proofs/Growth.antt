@@ -1,7 +1,7 @@
 -- What needs no more than any table that tells all.
-use Rattle.std.proofs.Common.{Some, None, ◌≡◌, ℕ, zero, suc, ◌<◌, ◌≤◌, List, [], ◌∷◌, Bool, true, false}
+use Rattle.std.proofs.Common.{Option, Some, None, ◌≡◌, ℕ, zero, suc, ◌<◌, ◌≤◌, List, [], ◌∷◌, Bool, true, false}
 use Rattle.std.proofs.Common.{refl, sym, ap, ◌∙◌, subst, arith, drop, replicate, max, ◌+◌, ⊎_elim}
-use Rattle.std.specs.Prelude.{◌==◌, if◌then◌else◌}
+use Rattle.std.specs.Prelude.{◌==◌, ◌||◌, if◌then◌else◌}
 use Rattle.std.proofs.lemmas.Bool.{cases_eq, ne_eqb}
 use Rattle.std.proofs.lemmas.Bool.Decides.{nat_tests}
 use Rattle.ec_core.specs.declared.expressions.BinOp.{BinOp}
@@ -12,7 +12,8 @@ use Rattle.ec_ir.specs.Operations.{store_object, binary_op, unary_op, conversion
 use Rattle.ec_ir.specs.Operations.{call_function, return_from, port_in, port_out}
 use Rattle.ec_ir.specs.Valid.{count}
 use Rattle.ec_select_functions.specs.Needs.{Need, everything, at_least, without, either, wanted, is_of_low_bytes}
-use Rattle.ec_select_functions.specs.Needs.{all_or_none, operand_wanted, right_wanted, returned_need, before, needs}
+use Rattle.ec_select_functions.specs.Needs.{is_fixed, first_wanted, second_wanted, only_wanted}
+use Rattle.ec_select_functions.specs.Needs.{index_needed, all_or_none, operand_wanted, right_wanted, returned_need, before, needs}
 use Rattle.ec_select_functions.specs.Needs.{IsLive}
 use Rattle.ec_live.specs.Least.{HasLabel, HaveLabels, IsLeast}
 use Rattle.ec_live.specs.Places.{HasPlace, HasPlaces}
@@ -49,10 +50,34 @@ more_right Shl bytes n m l = more_all 1 n m l
 more_right Shr bytes n m l = more_all 1 n m l
 more_right op bytes n m l = more_operand op bytes n m l
 
+more_first : (whole : Bool) (op : BinOp) (bytes n m : ℕ) → n ≤ m → first_wanted whole op bytes n ≤ first_wanted whole op bytes m
+more_first true op bytes n m l = more_all bytes n m l
+more_first false op bytes n m l = more_operand op bytes n m l
+
+more_second : (whole : Bool) (op : BinOp) (bytes n m : ℕ) → n ≤ m → second_wanted whole op bytes n ≤ second_wanted whole op bytes m
+more_second true op bytes n m l = more_all bytes n m l
+more_second false op bytes n m l = more_right op bytes n m l
+
+more_only : (whole : Bool) (bytes n m : ℕ) → n ≤ m → only_wanted whole bytes n ≤ only_wanted whole bytes m
+more_only true bytes n m l = more_all bytes n m l
+more_only false bytes n m l = l
+
+more_alone : (s : ℕ) (whole : Bool) (to from : Temp) (a b : Need) → HasPlace s to → NeedsNoMore s a b
+    → NeedsNoMore s (at_least from.at (only_wanted whole from.bytes (wanted a to)) (without to.at a))
+    (at_least from.at (only_wanted whole from.bytes (wanted b to)) (without to.at b))
+more_alone s whole to from a b l h =
+    more_least s from.at (only_wanted whole from.bytes (wanted a to)) (only_wanted whole from.bytes (wanted b to)) (without to.at a)
+    (without to.at b) (more_only whole from.bytes (wanted a to) (wanted b to) (more_wanted s to a b l h)) (more_without s to.at a b h)
+
 more_value : (s : ℕ) (to from : Temp) (a b : Need) → HasPlace s to → NeedsNoMore s a b
     → NeedsNoMore s (at_least from.at (wanted a to) (without to.at a)) (at_least from.at (wanted b to) (without to.at b))
 more_value s to from a b l h =
     more_least s from.at (wanted a to) (wanted b to) (without to.at a) (without to.at b) (more_wanted s to a b l h) (more_without s to.at a b h)
+
+more_index : (s : ℕ) (index : Option Temp) (a b : Need) → NeedsNoMore s a b
+    → NeedsNoMore s (index_needed index a) (index_needed index b)
+more_index s None a b h = h
+more_index s (Some t) a b h = more_least s t.at 1 1 a b (omega arith) h
 
 same_needs : (s : ℕ) (a : Need) → NeedsNoMore s a a
 same_needs s a place l = omega arith
@@ -64,14 +89,15 @@ before_more n s at other (copy to from) a b l k q h = more_value s to from a b l
 before_more n s at other (load_object t o offset) a b l k q h = more_without s t.at a b h
 before_more n s at other (store_object o offset t) a b l k q h = more_least s t.at t.bytes t.bytes a b (omega arith) h
 before_more n s at other (binary_op op ty mode to x xty y yty) a b l k q h =
-    more_least s x.at (operand_wanted op x.bytes (wanted a to)) (operand_wanted op x.bytes (wanted b to))
-    (at_least y.at (right_wanted op y.bytes (wanted a to)) (without to.at a))
-    (at_least y.at (right_wanted op y.bytes (wanted b to)) (without to.at b))
-    (more_operand op x.bytes (wanted a to) (wanted b to) (more_wanted s to a b l.0 h))
-    (more_least s y.at (right_wanted op y.bytes (wanted a to)) (right_wanted op y.bytes (wanted b to)) (without to.at a) (without to.at b)
-    (more_right op y.bytes (wanted a to) (wanted b to) (more_wanted s to a b l.0 h)) (more_without s to.at a b h))
-before_more n s at other (unary_op op ty mode to x) a b l k q h = more_value s to x a b l.0 h
-before_more n s at other (conversion to ty mode x xty) a b l k q h = more_value s to x a b l.0 h
+    let w = is_fixed xty || is_fixed yty in
+    more_least s x.at (first_wanted w op x.bytes (wanted a to)) (first_wanted w op x.bytes (wanted b to))
+    (at_least y.at (second_wanted w op y.bytes (wanted a to)) (without to.at a))
+    (at_least y.at (second_wanted w op y.bytes (wanted b to)) (without to.at b))
+    (more_first w op x.bytes (wanted a to) (wanted b to) (more_wanted s to a b l.0 h))
+    (more_least s y.at (second_wanted w op y.bytes (wanted a to)) (second_wanted w op y.bytes (wanted b to)) (without to.at a)
+    (without to.at b) (more_second w op y.bytes (wanted a to) (wanted b to) (more_wanted s to a b l.0 h)) (more_without s to.at a b h))
+before_more n s at other (unary_op op ty mode to x) a b l k q h = more_alone s (is_fixed ty) to x a b l.0 h
+before_more n s at other (conversion to ty mode x xty) a b l k q h = more_alone s (is_fixed ty || is_fixed xty) to x a b l.0 h
 before_more n s at other (branch_zero t j) a b l k q h =
     more_least s t.at t.bytes t.bytes (either a (at j)) (either b (other j)) (omega arith) (more_either s a b (at j) (other j) h (q j k))
 before_more n s at other (return_from from) a b l k q h = same_needs s (returned_need from)
@@ -83,8 +109,9 @@ before_more n s at other (load_at to ptr space) a b l k q h = same_needs s every
 before_more n s at other (store_at ptr space from) a b l k q h = same_needs s everything
 before_more n s at other (call_function f None) a b l k q h = h
 before_more n s at other (call_function f (Some t)) a b l k q h = more_without s t.at a b h
-before_more n s at other (port_in to port index width) a b l k q h = same_needs s everything
-before_more n s at other (port_out from port index width) a b l k q h = same_needs s everything
+before_more n s at other (port_in to port index width) a b l k q h = more_index s index (without to.at a) (without to.at b) (more_without s to.at a b h)
+before_more n s at other (port_out from port index width) a b l k q h =
+    more_least s from.at width width (index_needed index a) (index_needed index b) (omega arith) (more_index s index a b h)
 
 -- ---- tables that tell all
 

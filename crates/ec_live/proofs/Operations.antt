@@ -1,5 +1,5 @@
 -- What is needed before operations, of the first places.
-use Rattle.std.proofs.Common.{◌≡◌, ℕ, zero, suc, ◌≤◌, List, [], ◌∷◌, Option, Some, None, true, false, refl}
+use Rattle.std.proofs.Common.{◌≡◌, ℕ, zero, suc, ◌≤◌, List, [], ◌∷◌, Option, Some, None, Bool, true, false, ◌||◌, refl}
 use Rattle.std.proofs.Common.{ap, ◌∙◌, arith}
 use Rattle.std.specs.Prelude.{◌==◌, if◌then◌else◌, min, max}
 use Rattle.std.proofs.lemmas.Bool.Decides.{nat_tests}
@@ -11,8 +11,9 @@ use Rattle.ec_ir.specs.Operations.{store_object, binary_op, unary_op, conversion
 use Rattle.ec_ir.specs.Operations.{call_function, return_from, port_in, port_out}
 use Rattle.ec_select_functions.specs.Code.{result_wanted, wanted_behind}
 use Rattle.ec_select_functions.specs.Needs.{Need, nothing, at_least, without, either, wanted, is_of_low_bytes}
-use Rattle.ec_select_functions.specs.Needs.{all_or_none}
-use Rattle.ec_select_functions.specs.Needs.{operand_wanted, right_wanted, returned_need, without_result, before, needs}
+use Rattle.ec_select_functions.specs.Needs.{all_or_none, is_fixed, first_wanted, second_wanted, only_wanted}
+use Rattle.ec_select_functions.specs.Needs.{index_needed, operand_wanted, right_wanted, returned_need, without_result, before}
+use Rattle.ec_select_functions.specs.Needs.{needs}
 use Rattle.ec_live.specs.Places.{HasPlace, MayHavePlace, HasPlaces, HavePlaces}
 use Rattle.ec_live.specs.Tables.{AreSame, IsBounded, AreBounded}
 
@@ -37,9 +38,21 @@ same_value : (s : ℕ) (to from : Temp) (a b : Need) → HasPlace s to → AreSa
 same_value s to from a b l h =
     same_least s from.at (wanted a to) (wanted b to) (without to.at a) (without to.at b) (same_wanted s to a b l h) (same_without s to.at a b h)
 
+same_only : (s : ℕ) (whole : Bool) (to from : Temp) (a b : Need) → HasPlace s to → AreSame s a b
+    → AreSame s (at_least from.at (only_wanted whole from.bytes (wanted a to)) (without to.at a))
+    (at_least from.at (only_wanted whole from.bytes (wanted b to)) (without to.at b))
+same_only s whole to from a b l h =
+    same_least s from.at (only_wanted whole from.bytes (wanted a to)) (only_wanted whole from.bytes (wanted b to)) (without to.at a)
+    (without to.at b) (ap (only_wanted whole from.bytes) (same_wanted s to a b l h)) (same_without s to.at a b h)
+
 pub same_result : (s : ℕ) (to : Option Temp) (a b : Need) → AreSame s a b → AreSame s (without_result to a) (without_result to b)
 same_result s None a b h = h
 same_result s (Some t) a b h = same_without s t.at a b h
+
+same_index : (s : ℕ) (index : Option Temp) (a b : Need) → AreSame s a b
+    → AreSame s (index_needed index a) (index_needed index b)
+same_index s None a b h = h
+same_index s (Some t) a b h = same_least s t.at 1 1 a b refl h
 
 pub before_same : (s : ℕ) (at : ℕ → Need) (i : PlainIr) (a b : Need) → HasPlaces s i → AreSame s a b
     → AreSame s (before at i a) (before at i b)
@@ -48,14 +61,15 @@ before_same s at (copy to from) a b l h = same_value s to from a b l.0 h
 before_same s at (load_object t o offset) a b l h = same_without s t.at a b h
 before_same s at (store_object o offset t) a b l h = same_least s t.at t.bytes t.bytes a b refl h
 before_same s at (binary_op op ty mode to x xty y yty) a b l h =
-    same_least s x.at (operand_wanted op x.bytes (wanted a to)) (operand_wanted op x.bytes (wanted b to))
-    (at_least y.at (right_wanted op y.bytes (wanted a to)) (without to.at a))
-    (at_least y.at (right_wanted op y.bytes (wanted b to)) (without to.at b))
-    (ap (operand_wanted op x.bytes) (same_wanted s to a b l.0 h))
-    (same_least s y.at (right_wanted op y.bytes (wanted a to)) (right_wanted op y.bytes (wanted b to)) (without to.at a) (without to.at b)
-    (ap (right_wanted op y.bytes) (same_wanted s to a b l.0 h)) (same_without s to.at a b h))
-before_same s at (unary_op op ty mode to x) a b l h = same_value s to x a b l.0 h
-before_same s at (conversion to ty mode x xty) a b l h = same_value s to x a b l.0 h
+    let w = is_fixed xty || is_fixed yty in
+    same_least s x.at (first_wanted w op x.bytes (wanted a to)) (first_wanted w op x.bytes (wanted b to))
+    (at_least y.at (second_wanted w op y.bytes (wanted a to)) (without to.at a))
+    (at_least y.at (second_wanted w op y.bytes (wanted b to)) (without to.at b))
+    (ap (first_wanted w op x.bytes) (same_wanted s to a b l.0 h))
+    (same_least s y.at (second_wanted w op y.bytes (wanted a to)) (second_wanted w op y.bytes (wanted b to)) (without to.at a)
+    (without to.at b) (ap (second_wanted w op y.bytes) (same_wanted s to a b l.0 h)) (same_without s to.at a b h))
+before_same s at (unary_op op ty mode to x) a b l h = same_only s (is_fixed ty) to x a b l.0 h
+before_same s at (conversion to ty mode x xty) a b l h = same_only s (is_fixed ty || is_fixed xty) to x a b l.0 h
 before_same s at (branch_zero t k) a b l h = same_least s t.at t.bytes t.bytes (either a (at k)) (either b (at k)) refl
     (same_either s a b (at k) h)
 before_same s at (return_from from) a b l h = λ place k. refl
@@ -66,8 +80,9 @@ before_same s at (field ptr space offset) a b l h = λ place q. refl
 before_same s at (load_at to ptr space) a b l h = λ place q. refl
 before_same s at (store_at ptr space from) a b l h = λ place q. refl
 before_same s at (call_function f to) a b l h = same_result s to a b h
-before_same s at (port_in to port index width) a b l h = λ place q. refl
-before_same s at (port_out from port index width) a b l h = λ place q. refl
+before_same s at (port_in to port index width) a b l h = same_index s index (without to.at a) (without to.at b) (same_without s to.at a b h)
+before_same s at (port_out from port index width) a b l h =
+    same_least s from.at width width (index_needed index a) (index_needed index b) refl (same_index s index a b h)
 
 pub result_same : (s : ℕ) (i : PlainIr) (a b : Need) → HasPlaces s i → AreSame s a b
     → result_wanted a i ≡ result_wanted b i
@@ -88,7 +103,7 @@ result_same s (load_at to ptr space) a b l h = refl
 result_same s (store_at ptr space from) a b l h = refl
 result_same s (call_function f None) a b l h = refl
 result_same s (call_function f (Some t)) a b l h = same_wanted s t a b l h
-result_same s (port_in to port index width) a b l h = refl
+result_same s (port_in to port index width) a b l h = same_wanted s to a b l.0 h
 result_same s (port_out from port index width) a b l h = refl
 
 pub behind_same : (s : ℕ) (at : ℕ → Need) (i : PlainIr) (a b : Need) → HasPlaces s i → AreSame s a b
@@ -124,10 +139,32 @@ right_most Shl bytes n l k = all_most 1 n (omega arith)
 right_most Shr bytes n l k = all_most 1 n (omega arith)
 right_most op bytes n l k = operand_most op bytes n l k
 
+first_most : (whole : Bool) (op : BinOp) (bytes n : ℕ) → bytes ≤ 16 → n ≤ 16 → first_wanted whole op bytes n ≤ 16
+first_most true op bytes n l k = all_most bytes n l
+first_most false op bytes n l k = operand_most op bytes n l k
+
+second_most : (whole : Bool) (op : BinOp) (bytes n : ℕ) → bytes ≤ 16 → n ≤ 16 → second_wanted whole op bytes n ≤ 16
+second_most true op bytes n l k = all_most bytes n l
+second_most false op bytes n l k = right_most op bytes n l k
+
+only_most : (whole : Bool) (bytes n : ℕ) → bytes ≤ 16 → n ≤ 16 → only_wanted whole bytes n ≤ 16
+only_most true bytes n l k = all_most bytes n l
+only_most false bytes n l k = k
+
+bounded_only : (whole : Bool) (to from : Temp) (a : Need) → to.bytes ≤ 16 → from.bytes ≤ 16 → IsBounded a
+    → IsBounded (at_least from.at (only_wanted whole from.bytes (wanted a to)) (without to.at a))
+bounded_only whole to from a l k h =
+    bounded_least from.at (only_wanted whole from.bytes (wanted a to)) (without to.at a)
+    (only_most whole from.bytes (wanted a to) k (wanted_most a to l)) (bounded_without to.at a h)
+
 bounded_value : (to from : Temp) (a : Need) → to.bytes ≤ 16 → IsBounded a
     → IsBounded (at_least from.at (wanted a to) (without to.at a))
 bounded_value to from a l h =
     bounded_least from.at (wanted a to) (without to.at a) (wanted_most a to l) (bounded_without to.at a h)
+
+bounded_index : (index : Option Temp) (a : Need) → IsBounded a → IsBounded (index_needed index a)
+bounded_index None a h = h
+bounded_index (Some t) a h = bounded_least t.at 1 a (omega arith) h
 
 bounded_nothing : IsBounded nothing
 bounded_nothing place = omega arith
@@ -143,12 +180,13 @@ before_bounded s at (copy to from) a l k h = bounded_value to from a l.0.1 h
 before_bounded s at (load_object t o offset) a l k h = bounded_without t.at a h
 before_bounded s at (store_object o offset t) a l k h = bounded_least t.at t.bytes a l.1 h
 before_bounded s at (binary_op op ty mode to x xty y yty) a l k h =
-    bounded_least x.at (operand_wanted op x.bytes (wanted a to)) (at_least y.at (right_wanted op y.bytes (wanted a to)) (without to.at a))
-    (operand_most op x.bytes (wanted a to) l.1.1 (wanted_most a to l.0.1))
-    (bounded_least y.at (right_wanted op y.bytes (wanted a to)) (without to.at a)
-    (right_most op y.bytes (wanted a to) l.2.1 (wanted_most a to l.0.1)) (bounded_without to.at a h))
-before_bounded s at (unary_op op ty mode to x) a l k h = bounded_value to x a l.0.1 h
-before_bounded s at (conversion to ty mode x xty) a l k h = bounded_value to x a l.0.1 h
+    let w = is_fixed xty || is_fixed yty in
+    bounded_least x.at (first_wanted w op x.bytes (wanted a to)) (at_least y.at (second_wanted w op y.bytes (wanted a to)) (without to.at a))
+    (first_most w op x.bytes (wanted a to) l.1.1 (wanted_most a to l.0.1))
+    (bounded_least y.at (second_wanted w op y.bytes (wanted a to)) (without to.at a)
+    (second_most w op y.bytes (wanted a to) l.2.1 (wanted_most a to l.0.1)) (bounded_without to.at a h))
+before_bounded s at (unary_op op ty mode to x) a l k h = bounded_only (is_fixed ty) to x a l.0.1 l.1.1 h
+before_bounded s at (conversion to ty mode x xty) a l k h = bounded_only (is_fixed ty || is_fixed xty) to x a l.0.1 l.1.1 h
 before_bounded s at (branch_zero t q) a l k h =
     bounded_least t.at t.bytes (either a (at q)) l.1 (bounded_either a (at q) h (k q))
 before_bounded s at (return_from from) a l k h = bounded_returned s from l
@@ -160,8 +198,9 @@ before_bounded s at (load_at to ptr space) a l k h = λ place. omega arith
 before_bounded s at (store_at ptr space from) a l k h = λ place. omega arith
 before_bounded s at (call_function f None) a l k h = h
 before_bounded s at (call_function f (Some t)) a l k h = bounded_without t.at a h
-before_bounded s at (port_in to port index width) a l k h = λ place. omega arith
-before_bounded s at (port_out from port index width) a l k h = λ place. omega arith
+before_bounded s at (port_in to port index width) a l k h = bounded_index index (without to.at a) (bounded_without to.at a h)
+before_bounded s at (port_out from port index width) a l k h =
+    bounded_least from.at width (index_needed index a) l.2 (bounded_index index a h)
 
 pub needs_bounded : (s : ℕ) (at : ℕ → Need) (code : List PlainIr) → HavePlaces s code → AreBounded at
     → IsBounded (needs at code)

@@ -1,11 +1,11 @@
 -- Operations of valid functions.
-use Rattle.std.proofs.Common.{ℕ, List, [], ◌∷◌, Option, Some, None}
+use Rattle.std.proofs.Common.{ℕ, arith, List, [], ◌∷◌, Option, Some, None}
 use Rattle.std.specs.List.{AllByRecursion}
 use Rattle.ec_ir.specs.declared.operations.Temp.{Temp}
 use Rattle.ec_ir.specs.Operations.{PlainIr, constant, copy, address, field, load_at, store_at, load_object}
 use Rattle.ec_ir.specs.Operations.{store_object, binary_op, unary_op, conversion, label, jump, branch_zero}
 use Rattle.ec_ir.specs.Operations.{call_function, return_from, port_in, port_out, PlainIrProgram}
-use Rattle.ec_ir.specs.Valid.{IsTemp, Results, IsResult, ValidOperation}
+use Rattle.ec_ir.specs.Valid.{IsTemp, IsIndex, Results, IsResult, ValidOperation}
 use Rattle.ec_live.specs.Laws.{ValidOperationsHavePlaces}
 use Rattle.ec_live.specs.Places.{HasPlace, MayHavePlace, HasPlaces, HavePlaces}
 
@@ -20,6 +20,10 @@ module _ (p : PlainIrProgram) (results : Results) (f s : ℕ) (all : List PlainI
   place_of_called : (g : ℕ) (to : Option Temp) → IsResult p results f s all g to → MayHavePlace s to
   place_of_called g None h = tt
   place_of_called g (Some t) h = place_of s t h.0
+
+  place_of_index : (index : Option Temp) → IsIndex s index → MayHavePlace s index
+  place_of_index None h = tt
+  place_of_index (Some t) h = place_of s t h.0
 
   places_of : (i : PlainIr) → ValidOperation p results f s all i → HasPlaces s i
   places_of (constant t n) h = place_of s t h.0
@@ -39,8 +43,9 @@ module _ (p : PlainIrProgram) (results : Results) (f s : ℕ) (all : List PlainI
   places_of (load_at to ptr space) h = tt
   places_of (store_at ptr space from) h = tt
   places_of (call_function g to) h = place_of_called g to h.1
-  places_of (port_in to port index width) h = tt
-  places_of (port_out from port index width) h = tt
+  places_of (port_in to port index width) h = (place_of s to h.0.temp, place_of_index index h.1)
+  places_of (port_out from port index width) h =
+      (let most = h.0.temp.most in let within = h.0.within in (place_of s from h.0.temp, place_of_index index h.1, omega (arith, most, within)))
 
   places_of_all : (code : List PlainIr) → AllByRecursion (ValidOperation p results f s all) code → HavePlaces s code
   places_of_all [] h = tt

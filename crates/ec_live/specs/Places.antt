@@ -32,8 +32,8 @@ HasPlaces slots (field ptr space offset) = ⊤
 HasPlaces slots (load_at to ptr space) = ⊤
 HasPlaces slots (store_at ptr space from) = ⊤
 HasPlaces slots (call_function f to) = MayHavePlace slots to
-HasPlaces slots (port_in to port index width) = ⊤
-HasPlaces slots (port_out from port index width) = ⊤
+HasPlaces slots (port_in to port index width) = HasPlace slots to × MayHavePlace slots index
+HasPlaces slots (port_out from port index width) = HasPlace slots from × MayHavePlace slots index × (width ≤ 16)
 
 abbrev pub HavePlaces : ℕ → List PlainIr → Type 0
 HavePlaces slots code = AllByRecursion (HasPlaces slots) code

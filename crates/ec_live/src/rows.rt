@@ -1,7 +1,7 @@
 //! A row of bytes, which tells how many low bytes of each place are needed.
 ghost use Rattle.std.specs.Prelude.{◌≡◌, ◌<◌, length};
 ghost use Rattle.ec_select_functions.specs.Needs.{nothing, everything, at_least, without, wanted, all_or_none};
-ghost use Rattle.ec_select_functions.specs.Needs.{operand_wanted};
+ghost use Rattle.ec_select_functions.specs.Needs.{operand_wanted, first_wanted, second_wanted, only_wanted};
 ghost use Rattle.ec_select_functions.specs.Needs.{right_wanted, is_of_low_bytes};
 ghost use Rattle.ec_live.specs.Tables.{need_of, AreSame};
 
@@ -67,7 +67,7 @@ fn all_or_none(bytes: u8, n: u8) -> u8
 }
 
 /// The bytes of the first operand that `n` bytes of an operator's result take.
-pub fn operand_wanted(op: BinOp, bytes: u8, n: u8) -> u8
+fn operand_wanted(op: BinOp, bytes: u8, n: u8) -> u8
     ensures { result ≡ operand_wanted op bytes n }
 {
     if is_of_low_bytes(op) {
@@ -77,12 +77,41 @@ pub fn operand_wanted(op: BinOp, bytes: u8, n: u8) -> u8
     }
 }
 
+/// The same, or where all bytes are taken all of them.
+pub fn first_wanted(whole: bool, op: BinOp, bytes: u8, n: u8) -> u8
+    ensures { result ≡ first_wanted whole op bytes n }
+{
+    if whole {
+        all_or_none(bytes, n)
+    } else {
+        operand_wanted(op, bytes, n)
+    }
+}
+
 /// The bytes of the second one.
-pub fn right_wanted(op: BinOp, bytes: u8, n: u8) -> u8
+fn right_wanted(op: BinOp, bytes: u8, n: u8) -> u8
     ensures { result ≡ right_wanted op bytes n }
 {
     match op {
         BinOp::Shl | BinOp::Shr => all_or_none(1, n),
         _ => operand_wanted(op, bytes, n),
     }
+}
+
+/// The same, or where all bytes are taken all of them.
+pub fn second_wanted(whole: bool, op: BinOp, bytes: u8, n: u8) -> u8
+    ensures { result ≡ second_wanted whole op bytes n }
+{
+    if whole {
+        all_or_none(bytes, n)
+    } else {
+        right_wanted(op, bytes, n)
+    }
+}
+
+/// The bytes of the only operand that `n` bytes of a result take: as many, or where all bytes are taken all of them.
+pub fn only_wanted(whole: bool, bytes: u8, n: u8) -> u8
+    ensures { result ≡ only_wanted whole bytes n }
+{
+    if whole { all_or_none(bytes, n) } else { n }
 }

@@ -6,6 +6,7 @@ use Rattle.ec_core.specs.declared.expressions.Expr.{Expr}
 use Rattle.ec_core.specs.declared.layout.Leaf.{Leaf}
 use Rattle.ec_core.specs.Layout.{PlainLeaf, plain_leaf, leaves_of_type}
 use Rattle.ec_core.specs.Plain.{last_expr, plain_expr, plain_exprs, PlainFunction, PlainObject, PlainProgram}
+use Rattle.ec_core.specs.PortTable.{PlainTable}
 use Rattle.ec_core.specs.Typing.{type_of_expr}
 use Rattle.ec_ir.specs.Operations.{PlainIr, store_object}
 use Rattle.ec_lower_code.specs.Code.{temp, expr_labels, expr_code, params_of, params_code, leaves_of_object, init_code}
@@ -23,15 +24,15 @@ params_none (o ∷ os) t rest = refl
 pub params_out : (os : List ℕ) (es : List Expr) (t : ℕ) (rest : List PlainIr) → es ≡ [] → params_code os (plain_exprs es) t rest ≡ rest
 params_out os es t rest e = ap (λ xs. params_code os (plain_exprs xs) t rest) e ∙ params_none os t rest
 
-pub init_none : (program : PlainProgram) (leaves : List PlainLeaf) (o l : ℕ) (rest : List PlainIr) → init_code program leaves o last_expr l rest ≡ rest
-init_none program [] o l rest = refl
-init_none program (leaf ∷ leaves) o l rest = refl
+pub init_none : (program : PlainProgram) (table : PlainTable) (leaves : List PlainLeaf) (o l : ℕ) (rest : List PlainIr) → init_code program table leaves o last_expr l rest ≡ rest
+init_none program table [] o l rest = refl
+init_none program table (leaf ∷ leaves) o l rest = refl
 
-pub init_out : (program : PlainProgram) (leaves : List PlainLeaf) (o : ℕ) (es : List Expr) (l : ℕ) (rest : List PlainIr) → es ≡ [] → init_code program leaves o (plain_exprs es) l rest ≡ rest
-init_out program leaves o es l rest e = ap (λ xs. init_code program leaves o (plain_exprs xs) l rest) e ∙ init_none program leaves o l rest
+pub init_out : (program : PlainProgram) (table : PlainTable) (leaves : List PlainLeaf) (o : ℕ) (es : List Expr) (l : ℕ) (rest : List PlainIr) → es ≡ [] → init_code program table leaves o (plain_exprs es) l rest ≡ rest
+init_out program table leaves o es l rest e = ap (λ xs. init_code program table leaves o (plain_exprs xs) l rest) e ∙ init_none program table leaves o l rest
 
-pub init_step : (program : PlainProgram) (leaves : List Leaf) (o i : ℕ) (es : List Expr) (leaf : Leaf) (e : Expr) (k : ℕ) (rest : List PlainIr) → drop i leaves ≡ leaf ∷ drop (i + 1) leaves → drop i es ≡ e ∷ drop (i + 1) es → init_code program (map plain_leaf (drop i leaves)) o (plain_exprs (drop i es)) k rest ≡ expr_code program (plain_expr e) k 0 (store_object o leaf.at (temp 0 (type_of_expr (plain_expr e))) ∷ init_code program (map plain_leaf (drop (i + 1) leaves)) o (plain_exprs (drop (i + 1) es)) (k + expr_labels (plain_expr e)) rest)
-init_step program leaves o i es leaf e k rest p q = ap (λ xs. init_code program (map plain_leaf xs) o (plain_exprs (drop i es)) k rest) p ∙ ap (λ xs. init_code program (plain_leaf leaf ∷ map plain_leaf (drop (i + 1) leaves)) o (plain_exprs xs) k rest) q
+pub init_step : (program : PlainProgram) (table : PlainTable) (leaves : List Leaf) (o i : ℕ) (es : List Expr) (leaf : Leaf) (e : Expr) (k : ℕ) (rest : List PlainIr) → drop i leaves ≡ leaf ∷ drop (i + 1) leaves → drop i es ≡ e ∷ drop (i + 1) es → init_code program table (map plain_leaf (drop i leaves)) o (plain_exprs (drop i es)) k rest ≡ expr_code program table (plain_expr e) k 0 (store_object o leaf.at (temp 0 (type_of_expr (plain_expr e))) ∷ init_code program table (map plain_leaf (drop (i + 1) leaves)) o (plain_exprs (drop (i + 1) es)) (k + expr_labels (plain_expr e)) rest)
+init_step program table leaves o i es leaf e k rest p q = ap (λ xs. init_code program table (map plain_leaf xs) o (plain_exprs (drop i es)) k rest) p ∙ ap (λ xs. init_code program table (plain_leaf leaf ∷ map plain_leaf (drop (i + 1) leaves)) o (plain_exprs xs) k rest) q
 
 -- the plain item that is read at i
 pub seen_at : {A B : Type 0} (f : A → B) (xs : List A) (i : ℕ) (x : Option A) → x ≡ slice_get xs i → slice_get (map f xs) i ≡ option_map f x

@@ -1,21 +1,26 @@
 //! The operations of expressions.
-ghost use Rattle.std.specs.Prelude.{◌≡◌, ◌+◌, ◌∷◌, pos, OnOk, IfOk};
+ghost use Rattle.std.specs.Prelude.{◌≡◌, ◌+◌, ◌∷◌, pos, slice_get, OnOk, IfOk};
+ghost use Rattle.std.specs.Option.{option_copied};
 ghost use Rattle.ec_core.specs.Plain.{plain_type, plain_expr, plain_exprs, plain_node, plain_program};
 ghost use Rattle.ec_core.specs.Operators.{step_operator};
 ghost use Rattle.ec_core.specs.Plain.{logical_or, conditional};
 ghost use Rattle.ec_core.specs.Typing.{int};
+ghost use Rattle.ec_core.specs.PortTable.{plain_table};
 ghost use Rattle.ec_ir.specs.Operations.{constant, load_object};
-ghost use Rattle.ec_lower.specs.Emits.{Emits};
-ghost use Rattle.ec_lower_code.specs.Code.{temp, expr_labels, node_labels, exprs_labels, expr_code, node_code, args_code};
+ghost use Rattle.ec_lower.specs.Emits.{Emits, plain_operand};
+ghost use Rattle.ec_lower_code.specs.Code.{temp, place_behind, access_code, expr_labels, node_labels, option_labels};
+ghost use Rattle.ec_lower_code.specs.Code.{exprs_labels, expr_code, node_code, option_code, args_code};
 ghost use Rattle.ec_lower_code.specs.Code.{params_code, params_of, step_code};
 
 use crate::emit::{
     above, behind, put, put_binary, put_conversion, put_load, put_number, put_unary, result_temp,
     temp, truth,
 };
+use crate::ports::{place_behind, put_access, put_group};
 use crate::updates::{step, update};
 use ec_core::{CType, Expr, Node, PlaceExpr, Program};
 use ec_fx::Mode;
+use ec_iohw::{IoOp, IoTable};
 use ec_ir::{Ir, Temp};
 use ec_space::{NoMemory, Seq};
 use std::alloc::Global;
@@ -27,13 +32,14 @@ pub fn lower_expr(
     code: &mut Seq<Ir>,
     alloc: Global,
     program: &Program,
+    io: &IoTable,
     e: &Expr,
     l: u64,
     t: u16,
 ) -> Result<u64, NoMemory>
     ensures next { IfOk result (λ m. m ≡ l + expr_labels (plain_expr e.now)) }
     ensures code { OnOk result (Emits code.old.items code.new.items
-        (expr_code (plain_program program.now) (plain_expr e.now) l t)) }
+        (expr_code (plain_program program.now) (plain_table io.now) (plain_expr e.now) l t)) }
 {
     match &e.node {
         Node::Number(n) => {
@@ -45,29 +51,29 @@ pub fn lower_expr(
             Ok(l)
         }
         Node::Unary(op, a) => {
-            let m = lower_expr(code, alloc, program, a, l, t)?;
+            let m = lower_expr(code, alloc, program, io, a, l, t)?;
             put_unary(code, alloc, *op, &e.ty, e.mode, t)?;
             Ok(m)
         }
         Node::Binary(op, a, b) => {
-            let k = lower_expr(code, alloc, program, a, l, t)?;
+            let k = lower_expr(code, alloc, program, io, a, l, t)?;
             let u = above(t)?;
-            let m = lower_expr(code, alloc, program, b, k, u)?;
+            let m = lower_expr(code, alloc, program, io, b, k, u)?;
             put_binary(code, alloc, *op, &e.ty, e.mode, t, t, &a.ty, u, &b.ty)?;
             Ok(m)
         }
         Node::Convert(a) => {
-            let m = lower_expr(code, alloc, program, a, l, t)?;
+            let m = lower_expr(code, alloc, program, io, a, l, t)?;
             put_conversion(code, alloc, t, &e.ty, e.mode, &a.ty)?;
             Ok(m)
         }
         Node::Comma(a, b) => {
-            let k = lower_expr(code, alloc, program, a, l, t)?;
-            let m = lower_expr(code, alloc, program, b, k, t)?;
+            let k = lower_expr(code, alloc, program, io, a, l, t)?;
+            let m = lower_expr(code, alloc, program, io, b, k, t)?;
             Ok(m)
         }
         node => {
-            let m = lower_effect(code, alloc, program, &e.ty, e.mode, node, l, t)?;
+            let m = lower_effect(code, alloc, program, io, &e.ty, e.mode, node, l, t)?;
             Ok(m)
         }
     }
@@ -79,6 +85,7 @@ fn lower_effect(
     code: &mut Seq<Ir>,
     alloc: Global,
     program: &Program,
+    io: &IoTable,
     ty: &CType,
     mode: Mode,
     node: &Node,
@@ -87,18 +94,19 @@ fn lower_effect(
 ) -> Result<u64, NoMemory>
     ensures next { IfOk result (λ m. m ≡ l + node_labels (plain_node node.now)) }
     ensures code { OnOk result (Emits code.old.items code.new.items
-        (node_code (plain_program program.now) (plain_type ty.now) mode (plain_node node.now) l t)) }
+        (node_code (plain_program program.now) (plain_table io.now) (plain_type ty.now) mode
+        (plain_node node.now) l t)) }
 {
     match node {
         Node::Assign(PlaceExpr::Object(o), a) => {
-            let m = lower_expr(code, alloc, program, a, l, t)?;
+            let m = lower_expr(code, alloc, program, io, a, l, t)?;
             put(code, Ir::StoreObj(*o, 0, temp(t, ty)))?;
             Ok(m)
         }
         Node::Compound(op, own, PlaceExpr::Object(o), a) => {
             put(code, Ir::LoadObj(temp(t, ty), *o, 0))?;
             let u = above(t)?;
-            let m = lower_expr(code, alloc, program, a, l, u)?;
+            let m = lower_expr(code, alloc, program, io, a, l, u)?;
             update(code, alloc, *op, *own, mode, ty, *o, t, &a.ty)?;
             Ok(m)
         }
@@ -111,13 +119,13 @@ fn lower_effect(
             Ok(l)
         }
         Node::Call(f, args) => {
-            let m = lower_args(code, alloc, program, args.as_slice(), l, t)?;
+            let m = lower_args(code, alloc, program, io, args.as_slice(), l, t)?;
             store_call(code, program, *f, args.as_slice(), t)?;
             put(code, Ir::Call(*f, result_temp(t, ty)))?;
             Ok(m)
         }
         node => {
-            let m = lower_choice(code, alloc, program, ty, mode, node, l, t)?;
+            let m = lower_choice(code, alloc, program, io, ty, mode, node, l, t)?;
             Ok(m)
         }
     }
@@ -135,7 +143,8 @@ fn lower_step(
     t: u16,
 ) -> Result<(), NoMemory>
     ensures { OnOk result (Emits code.old.items code.new.items (λ rest. load_object (temp t (plain_type ty.now)) o 0
-        ∷ constant (temp (t + 1) int) (pos 1) ∷ step_code prefix (step_operator up) mode (plain_type ty.now) o t rest)) }
+        ∷ constant (temp (t + 1) int) (pos 1) ∷ step_code prefix (step_operator up) mode
+        (plain_type ty.now) o t rest)) }
 {
     put(code, Ir::LoadObj(temp(t, ty), o, 0))?;
     let at = above(t)?;
@@ -144,12 +153,13 @@ fn lower_step(
     Ok(())
 }
 
-/// Those of a truth value or a choice. `lower` takes no other form.
+/// Those of a truth value or a choice.
 #[cycle(lower)]
 fn lower_choice(
     code: &mut Seq<Ir>,
     alloc: Global,
     program: &Program,
+    io: &IoTable,
     ty: &CType,
     mode: Mode,
     node: &Node,
@@ -158,34 +168,170 @@ fn lower_choice(
 ) -> Result<u64, NoMemory>
     ensures next { IfOk result (λ m. m ≡ l + node_labels (plain_node node.now)) }
     ensures code { OnOk result (Emits code.old.items code.new.items
-        (node_code (plain_program program.now) (plain_type ty.now) mode (plain_node node.now) l t)) }
+        (node_code (plain_program program.now) (plain_table io.now) (plain_type ty.now) mode
+        (plain_node node.now) l t)) }
 {
     match node {
         Node::Not(a) => {
             let k = behind(l, 2)?;
-            let m = lower_expr(code, alloc, program, a, k, t)?;
+            let m = lower_expr(code, alloc, program, io, a, k, t)?;
             put(code, Ir::BranchZero(temp(t, &a.ty), l))?;
             truth(code, false, ty, l, t)?;
             Ok(m)
         }
         Node::And(a, b) => {
             let k = behind(l, 2)?;
-            let k = lower_expr(code, alloc, program, a, k, t)?;
+            let k = lower_expr(code, alloc, program, io, a, k, t)?;
             put(code, Ir::BranchZero(temp(t, &a.ty), l))?;
-            let m = lower_expr(code, alloc, program, b, k, t)?;
+            let m = lower_expr(code, alloc, program, io, b, k, t)?;
             put(code, Ir::BranchZero(temp(t, &b.ty), l))?;
             truth(code, true, ty, l, t)?;
             Ok(m)
         }
         Node::Or(a, b) => {
-            let m = lower_or(code, alloc, program, ty, mode, a, b, l, t)?;
+            let m = lower_or(code, alloc, program, io, ty, mode, a, b, l, t)?;
             Ok(m)
         }
         Node::Cond(c, a, b) => {
-            let m = lower_cond(code, alloc, program, ty, mode, c, a, b, l, t)?;
+            let m = lower_cond(code, alloc, program, io, ty, mode, c, a, b, l, t)?;
             Ok(m)
         }
+        node => {
+            let m = lower_port(code, alloc, program, io, ty, mode, node, l, t)?;
+            Ok(m)
+        }
+    }
+}
+
+/// Those of an operation on a port or a group. `lower` takes no other form.
+#[cycle(lower)]
+fn lower_port(
+    code: &mut Seq<Ir>,
+    alloc: Global,
+    program: &Program,
+    io: &IoTable,
+    ty: &CType,
+    mode: Mode,
+    node: &Node,
+    l: u64,
+    t: u16,
+) -> Result<u64, NoMemory>
+    ensures next { IfOk result (λ m. m ≡ l + node_labels (plain_node node.now)) }
+    ensures code { OnOk result (Emits code.old.items code.new.items
+        (node_code (plain_program program.now) (plain_table io.now) (plain_type ty.now) mode
+        (plain_node node.now) l t)) }
+{
+    match node {
+        Node::Io {
+            op,
+            port,
+            index,
+            value,
+        } => match index {
+            None => match value {
+                None => lower_io(code, alloc, program, io, *op, mode, *port, None, None, l, t),
+                Some(v) => lower_io(
+                    code,
+                    alloc,
+                    program,
+                    io,
+                    *op,
+                    mode,
+                    *port,
+                    None,
+                    Some(v),
+                    l,
+                    t,
+                ),
+            },
+            Some(i) => match value {
+                None => lower_io(
+                    code,
+                    alloc,
+                    program,
+                    io,
+                    *op,
+                    mode,
+                    *port,
+                    Some(i),
+                    None,
+                    l,
+                    t,
+                ),
+                Some(v) => lower_io(
+                    code,
+                    alloc,
+                    program,
+                    io,
+                    *op,
+                    mode,
+                    *port,
+                    Some(i),
+                    Some(v),
+                    l,
+                    t,
+                ),
+            },
+        },
+        Node::Group { acquire, group } => {
+            put_group(code, io, *acquire, *group, t)?;
+            Ok(l)
+        }
         _ => Err(NoMemory),
+    }
+}
+
+/// Those of an operation on a port: its operands, then the access.
+#[cycle(lower)]
+fn lower_io(
+    code: &mut Seq<Ir>,
+    alloc: Global,
+    program: &Program,
+    io: &IoTable,
+    op: IoOp,
+    mode: Mode,
+    port: u16,
+    index: Option<&Expr>,
+    value: Option<&Expr>,
+    l: u64,
+    t: u16,
+) -> Result<u64, NoMemory>
+    ensures next { IfOk result (λ m. m ≡ l + (option_labels (plain_operand (option_copied index.entry))
+        + option_labels (plain_operand (option_copied value.entry)))) }
+    ensures code { OnOk result (Emits code.old.items code.new.items (λ rest.
+        let i = plain_operand (option_copied index.entry) in let v = plain_operand (option_copied value.entry) in
+        option_code (plain_program program.now) (plain_table io.now) i l t
+        (option_code (plain_program program.now) (plain_table io.now) v (l + option_labels i) (place_behind i t)
+        (access_code op mode (slice_get (plain_table io.now).ports port) i t rest)))) }
+{
+    let k = lower_operand(code, alloc, program, io, index, l, t)?;
+    let u = place_behind(index, t)?;
+    let m = lower_operand(code, alloc, program, io, value, k, u)?;
+    put_access(code, alloc, io, op, mode, port, index, t)?;
+    Ok(m)
+}
+
+/// Those of an operand that may be absent.
+#[cycle(lower)]
+fn lower_operand(
+    code: &mut Seq<Ir>,
+    alloc: Global,
+    program: &Program,
+    io: &IoTable,
+    e: Option<&Expr>,
+    l: u64,
+    t: u16,
+) -> Result<u64, NoMemory>
+    ensures next { IfOk result (λ m. m ≡ l + option_labels (plain_operand (option_copied e.entry))) }
+    ensures code { OnOk result (Emits code.old.items code.new.items (option_code (plain_program program.now)
+        (plain_table io.now) (plain_operand (option_copied e.entry)) l t)) }
+{
+    match e {
+        None => Ok(l),
+        Some(e) => {
+            let m = lower_expr(code, alloc, program, io, e, l, t)?;
+            Ok(m)
+        }
     }
 }
 
@@ -195,6 +341,7 @@ fn lower_or(
     code: &mut Seq<Ir>,
     alloc: Global,
     program: &Program,
+    io: &IoTable,
     ty: &CType,
     mode: Mode,
     a: &Expr,
@@ -204,16 +351,17 @@ fn lower_or(
 ) -> Result<u64, NoMemory>
     ensures next { IfOk result (λ m. m ≡ l + 4 + expr_labels (plain_expr a.now) + expr_labels (plain_expr b.now)) }
     ensures code { OnOk result (Emits code.old.items code.new.items (node_code (plain_program program.now)
+        (plain_table io.now)
         (plain_type ty.now) mode (logical_or (plain_expr a.now) (plain_expr b.now)) l t)) }
 {
     let right = behind(l, 2)?;
     let end = behind(l, 3)?;
     let k = behind(l, 4)?;
-    let k = lower_expr(code, alloc, program, a, k, t)?;
+    let k = lower_expr(code, alloc, program, io, a, k, t)?;
     put(code, Ir::BranchZero(temp(t, &a.ty), right))?;
     put(code, Ir::Jump(end))?;
     put(code, Ir::Label(right))?;
-    let m = lower_expr(code, alloc, program, b, k, t)?;
+    let m = lower_expr(code, alloc, program, io, b, k, t)?;
     put(code, Ir::BranchZero(temp(t, &b.ty), l))?;
     put(code, Ir::Label(end))?;
     truth(code, true, ty, l, t)?;
@@ -226,6 +374,7 @@ fn lower_cond(
     code: &mut Seq<Ir>,
     alloc: Global,
     program: &Program,
+    io: &IoTable,
     ty: &CType,
     mode: Mode,
     c: &Expr,
@@ -237,16 +386,17 @@ fn lower_cond(
     ensures next { IfOk result (λ m. m ≡ l + 2 + expr_labels (plain_expr c.now) + expr_labels (plain_expr a.now)
         + expr_labels (plain_expr b.now)) }
     ensures code { OnOk result (Emits code.old.items code.new.items (node_code (plain_program program.now)
+        (plain_table io.now)
         (plain_type ty.now) mode (conditional (plain_expr c.now) (plain_expr a.now) (plain_expr b.now)) l t)) }
 {
     let end = behind(l, 1)?;
     let k = behind(l, 2)?;
-    let k = lower_expr(code, alloc, program, c, k, t)?;
+    let k = lower_expr(code, alloc, program, io, c, k, t)?;
     put(code, Ir::BranchZero(temp(t, &c.ty), l))?;
-    let k = lower_expr(code, alloc, program, a, k, t)?;
+    let k = lower_expr(code, alloc, program, io, a, k, t)?;
     put(code, Ir::Jump(end))?;
     put(code, Ir::Label(l))?;
-    let m = lower_expr(code, alloc, program, b, k, t)?;
+    let m = lower_expr(code, alloc, program, io, b, k, t)?;
     put(code, Ir::Label(end))?;
     Ok(m)
 }
@@ -257,18 +407,19 @@ fn lower_args(
     code: &mut Seq<Ir>,
     alloc: Global,
     program: &Program,
+    io: &IoTable,
     args: &[Expr],
     l: u64,
     t: u16,
 ) -> Result<u64, NoMemory>
     ensures next { IfOk result (λ m. m ≡ l + exprs_labels (plain_exprs args.now)) }
     ensures code { OnOk result (Emits code.old.items code.new.items
-        (args_code (plain_program program.now) (plain_exprs args.now) l t)) }
+        (args_code (plain_program program.now) (plain_table io.now) (plain_exprs args.now) l t)) }
 {
     let mut k = l;
     let mut u = t;
     for e in args {
-        k = lower_expr(code, alloc, program, e, k, u)?;
+        k = lower_expr(code, alloc, program, io, e, k, u)?;
         u = above(u)?;
     }
     Ok(k)

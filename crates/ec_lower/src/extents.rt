@@ -1,15 +1,19 @@
 //! How many labels the operations of a part have, and how many places its temporaries take.
-ghost use Rattle.std.specs.Prelude.{◌≡◌, ◌+◌, max, [], ◌∷◌, option_map, IfOk};
+ghost use Rattle.std.specs.Prelude.{◌≡◌, ◌+◌, max, if◌then◌else◌, [], ◌∷◌, option_map, IfOk};
 ghost use Rattle.std.specs.Option.{option_copied};
-ghost use Rattle.ec_core.specs.Needs.{expr_need, node_need, operand_needs, exprs_needs, most, option_need};
+ghost use Rattle.ec_core.specs.Needs.{greatest_from, expr_need, node_need, operand_needs, option_needs, exprs_needs};
+ghost use Rattle.ec_core.specs.Needs.{most, option_need};
+ghost use Rattle.ec_core.specs.PortOperations.{is_update, port_operation};
 ghost use Rattle.ec_core.specs.Needs.{stmt_need, stmts_need};
 ghost use Rattle.ec_core.specs.Plain.{branch, plain_expr, plain_exprs, plain_node, plain_stmt, plain_stmts};
-ghost use Rattle.ec_lower.specs.Emits.{plain_other};
+ghost use Rattle.ec_lower.specs.Emits.{plain_operand, plain_other};
 ghost use Rattle.ec_core.specs.Needs.{kind_need, option_stmt_need};
-ghost use Rattle.ec_lower_code.specs.Code.{expr_labels, node_labels, exprs_labels, optional_labels};
+ghost use Rattle.ec_lower_code.specs.Code.{expr_labels, node_labels, option_labels, exprs_labels, optional_labels};
 
 use crate::emit::{above, behind};
+use crate::ports::is_update;
 use ec_core::{Expr, Node, PlaceExpr, Stmt, StmtKind};
+use ec_iohw::IoOp;
 use ec_space::NoMemory;
 
 /// The numbers of labels and of places for temporaries.
@@ -109,7 +113,7 @@ pub fn expr_extent(e: &Expr) -> Result<Extent, NoMemory>
     }
 }
 
-/// That of a node with several operands or with labels of its own. `lower` takes no other form.
+/// That of a node with several operands or with labels of its own.
 #[cycle(extents)]
 fn choice_extent(node: &Node) -> Result<Extent, NoMemory>
     ensures labels { IfOk result (λ x. x.labels ≡ node_labels (plain_node node.now)) }
@@ -148,8 +152,103 @@ fn choice_extent(node: &Node) -> Result<Extent, NoMemory>
             let x = args_extent(args.as_slice())?;
             Ok(x)
         }
+        node => {
+            let x = port_extent(node)?;
+            Ok(x)
+        }
+    }
+}
+
+/// That of an operation on a port or a group. `lower` takes no other form.
+#[cycle(extents)]
+fn port_extent(node: &Node) -> Result<Extent, NoMemory>
+    ensures labels { IfOk result (λ x. x.labels ≡ node_labels (plain_node node.now)) }
+    ensures places { IfOk result (λ x. x.places ≡ node_need (operand_needs (plain_node node.now))) }
+{
+    match node {
+        Node::Io {
+            op,
+            index,
+            value,
+            ..
+        } => match index {
+            None => match value {
+                None => io_extent(*op, None, None),
+                Some(v) => io_extent(*op, None, Some(v)),
+            },
+            Some(i) => match value {
+                None => io_extent(*op, Some(i), None),
+                Some(v) => io_extent(*op, Some(i), Some(v)),
+            },
+        },
+        Node::Group { .. } => Ok(Extent {
+            labels: 0,
+            places: 1,
+        }),
         _ => Err(NoMemory),
     }
+}
+
+/// That of an operation on a port with these operands.
+#[cycle(extents)]
+fn io_extent(op: IoOp, index: Option<&Expr>, value: Option<&Expr>) -> Result<Extent, NoMemory>
+    ensures labels { IfOk result (λ x. x.labels ≡ option_labels (plain_operand (option_copied index.entry))
+        + option_labels (plain_operand (option_copied value.entry))) }
+    ensures places { IfOk result (λ x. x.places ≡ node_need (option_needs (plain_operand (option_copied index.entry))
+        (option_needs (plain_operand (option_copied value.entry))
+        (if is_update (port_operation op).action then 1 ∷ [] else [])))) }
+{
+    match index {
+        None => {
+            let y = value_extent(op, value, 0)?;
+            Ok(Extent {
+                labels: y.labels,
+                places: y.places.max(1),
+            })
+        }
+        Some(e) => {
+            let x = expr_extent(e)?;
+            let y = value_extent(op, value, 1)?;
+            let labels = behind(x.labels, y.labels)?;
+            Ok(Extent {
+                labels,
+                places: x.places.max(y.places).max(1),
+            })
+        }
+    }
+}
+
+/// That of the value of an operation on a port, and of what an update reads, above so many places that are kept.
+#[cycle(extents)]
+fn value_extent(op: IoOp, value: Option<&Expr>, kept: u16) -> Result<Extent, NoMemory>
+    ensures labels { IfOk result (λ x. x.labels ≡ option_labels (plain_operand (option_copied value.entry))) }
+    ensures places { IfOk result (λ x. x.places ≡ greatest_from kept (option_needs
+        (plain_operand (option_copied value.entry)) (if is_update (port_operation op).action then 1 ∷ [] else []))) }
+{
+    match value {
+        None => {
+            let places = read_places(op, kept)?;
+            Ok(Extent { labels: 0, places })
+        }
+        Some(e) => {
+            let x = expr_extent(e)?;
+            let u = above(kept)?;
+            let last = read_places(op, u)?;
+            let places = kept_beside(last, x.places, kept)?;
+            Ok(Extent {
+                labels: x.labels,
+                places,
+            })
+        }
+    }
+}
+
+/// The places up to what an update reads.
+fn read_places(op: IoOp, kept: u16) -> Result<u16, NoMemory>
+    ensures { IfOk result (λ n. n ≡ greatest_from kept
+        (if is_update (port_operation op).action then 1 ∷ [] else [])) }
+{
+    if is_update(op) { above(kept) } else { Ok(0) }
 }
 
 /// That of two operands.

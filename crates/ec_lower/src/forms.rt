@@ -4,19 +4,19 @@ ghost use Rattle.std.specs.Option.{option_copied};
 ghost use Rattle.ec_core.specs.Plain.{plain_type, plain_place, plain_expr, plain_exprs, plain_node, plain_kind};
 ghost use Rattle.ec_core.specs.Plain.{plain_stmt, plain_stmts, plain_program};
 ghost use Rattle.ec_lower.specs.Forms.{HasCompiledParts, TellsIn, TellsInside, TellsAmong, TellsFirst};
-ghost use Rattle.ec_lower_code.specs.Parts.{IsAnyFunction, IsIntegerOrVoid, IsNamed, IsExpr, IsNode, AreExprs, IsOptional};
+ghost use Rattle.ec_lower_code.specs.Parts.{IsAnyFunction, IsNumericOrVoid, IsNamed, IsExpr, IsNode, AreExprs, IsOptional};
 
 use ec_core::{CType, Expr, Node, PlaceExpr, Program, Stmt, StmtKind};
 
 // ---- expressions
 
-fn is_integer_or_void(ty: &CType) -> bool
-    ensures only { IsTrue result → IsIntegerOrVoid (plain_type ty.now) }
-    ensures all { IsIntegerOrVoid (plain_type ty.now) → IsTrue result }
+fn is_numeric_or_void(ty: &CType) -> bool
+    ensures only { IsTrue result → IsNumericOrVoid (plain_type ty.now) }
+    ensures all { IsNumericOrVoid (plain_type ty.now) → IsTrue result }
 {
     match ty {
-        CType::Void | CType::Int { .. } => true,
-        CType::Fx { .. } | CType::Ptr { .. } | CType::Array { .. } | CType::Struct { .. } => false,
+        CType::Void | CType::Int { .. } | CType::Fx { .. } => true,
+        CType::Ptr { .. } | CType::Array { .. } | CType::Struct { .. } => false,
     }
 }
 
@@ -32,16 +32,16 @@ fn is_named(p: &PlaceExpr) -> bool
 
 #[cycle(forms)]
 fn is_expr(e: &Expr) -> bool
-    ensures only { IsTrue result → IsExpr IsIntegerOrVoid IsAnyFunction (plain_expr e.now) }
-    ensures all { IsExpr IsIntegerOrVoid IsAnyFunction (plain_expr e.now) → IsTrue result }
+    ensures only { IsTrue result → IsExpr IsNumericOrVoid IsAnyFunction (plain_expr e.now) }
+    ensures all { IsExpr IsNumericOrVoid IsAnyFunction (plain_expr e.now) → IsTrue result }
 {
-    is_integer_or_void(&e.ty) && is_node(&e.node)
+    is_numeric_or_void(&e.ty) && is_node(&e.node)
 }
 
 #[cycle(forms)]
 fn is_node(node: &Node) -> bool
-    ensures only { IsTrue result → IsNode IsIntegerOrVoid IsAnyFunction (plain_node node.now) }
-    ensures all { IsNode IsIntegerOrVoid IsAnyFunction (plain_node node.now) → IsTrue result }
+    ensures only { IsTrue result → IsNode IsNumericOrVoid IsAnyFunction (plain_node node.now) }
+    ensures all { IsNode IsNumericOrVoid IsAnyFunction (plain_node node.now) → IsTrue result }
 {
     match node {
         Node::Number(_) => true,
@@ -58,14 +58,25 @@ fn is_node(node: &Node) -> bool
         Node::Cond(c, a, b) => is_expr(c) && is_expr(a) && is_expr(b),
         Node::Comma(a, b) => is_expr(a) && is_expr(b),
         Node::Call(_, args) => are_exprs(args.as_slice()),
-        Node::Null | Node::AddressOf(_) | Node::Io { .. } | Node::Group { .. } => false,
+        Node::Io { index, value, .. } => match index {
+            None => match value {
+                None => true,
+                Some(v) => is_expr(v),
+            },
+            Some(i) => match value {
+                None => is_expr(i),
+                Some(v) => is_expr(i) && is_expr(v),
+            },
+        },
+        Node::Group { .. } => true,
+        Node::Null | Node::AddressOf(_) => false,
     }
 }
 
 #[cycle(forms)]
 fn are_exprs(es: &[Expr]) -> bool
-    ensures only { IsTrue result → AreExprs IsIntegerOrVoid IsAnyFunction (plain_exprs es.now) }
-    ensures all { AreExprs IsIntegerOrVoid IsAnyFunction (plain_exprs es.now) → IsTrue result }
+    ensures only { IsTrue result → AreExprs IsNumericOrVoid IsAnyFunction (plain_exprs es.now) }
+    ensures all { AreExprs IsNumericOrVoid IsAnyFunction (plain_exprs es.now) → IsTrue result }
 {
     for e in es {
         if !is_expr(e) {
@@ -76,8 +87,10 @@ fn are_exprs(es: &[Expr]) -> bool
 }
 
 fn is_optional(e: Option<&Expr>) -> bool
-    ensures only { IsTrue result → IsOptional IsIntegerOrVoid IsAnyFunction (option_map plain_expr (option_copied e.entry)) }
-    ensures all { IsOptional IsIntegerOrVoid IsAnyFunction (option_map plain_expr (option_copied e.entry)) → IsTrue result }
+    ensures only { IsTrue result → IsOptional IsNumericOrVoid IsAnyFunction (option_map plain_expr
+        (option_copied e.entry)) }
+    ensures all { IsOptional IsNumericOrVoid IsAnyFunction (option_map plain_expr
+        (option_copied e.entry)) → IsTrue result }
 {
     match e {
         None => true,
@@ -160,8 +173,7 @@ fn first_among(ss: &[Stmt]) -> Option<&Stmt>
 }
 
 /// The first statement of a program, in the order of its functions and their texts, with a form that `lower` does not
-/// take, an array, a struct, a pointer or a port, or with one that no code stands for yet, a fixed-point number. None where
-/// there is no such statement.
+/// take: an array, a struct or a pointer. None where there is no such statement.
 pub fn is_compiled(program: &Program) -> Option<&Stmt>
     ensures { TellsFirst (option_map plain_stmt (option_copied result)) (plain_program program.now) }
 {

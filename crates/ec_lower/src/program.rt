@@ -2,21 +2,23 @@
 ghost use Rattle.std.specs.Prelude.{◌≡◌, ◌∷◌, ◌++◌, map, OnOk, IfOk};
 ghost use Rattle.ec_core.specs.Plain.{plain_function, plain_program, plain_stmt};
 ghost use Rattle.ec_core.specs.Valid.{Valid};
+ghost use Rattle.ec_core.specs.PortTable.{plain_table};
 ghost use Rattle.ec_ir.specs.Operations.{plain_ir, label, plain_ir_function, plain_ir_program};
 ghost use Rattle.ec_ir.specs.Valid.{ValidIr};
 ghost use Rattle.ec_lower.specs.Emits.{IsLaidOut};
 ghost use Rattle.ec_lower_code.specs.Code.{stmt_code, end_code, lowered_function, lowered};
-ghost use Rattle.ec_lower_code.specs.Correct.{Follows, IsMadeOf, IsMadeOfIntegers};
+ghost use Rattle.ec_lower_code.specs.Correct.{Follows, IsMadeOf, IsMadeOfNumbers};
 ghost use Rattle.ec_lower_code.specs.Parts.{IsLowered, IsCompiled};
 
 use crate::copies::{copied_objects, copied_structs};
 use crate::emit::put;
 use crate::extents::stmt_places;
+use crate::ports::read_groups;
 use crate::statements::lower_stmt;
 use ec_core::{Func, Program, Stmt};
 use ec_iohw::IoTable;
 use ec_ir::{Ir, IrFunc, IrProgram};
-use ec_lower_code::{compiled_is_of_integers, lowered_follows, lowered_is_made_of_its_program};
+use ec_lower_code::{compiled_is_of_numbers, lowered_follows, lowered_is_made_of_its_program};
 use ec_space::{NoMemory, Seq};
 use std::alloc::Global;
 
@@ -25,37 +27,45 @@ fn lower_body(
     code: &mut Seq<Ir>,
     alloc: Global,
     program: &Program,
+    io: &IoTable,
     body: &Stmt,
 ) -> Result<(), NoMemory>
     requires { IsLaidOut (plain_program program.now) }
     ensures { OnOk result (map plain_ir code.new.items ≡ map plain_ir code.old.items
-        ++ stmt_code (plain_program program.now) (plain_stmt body.now) 1 0 0 (label 0 ∷ end_code)) }
+        ++ stmt_code (plain_program program.now) (plain_table io.now) (plain_stmt body.now) 1 0 0
+        (label 0 ∷ end_code)) }
 {
-    lower_stmt(code, alloc, program, body, 1, 0, 0)?;
+    lower_stmt(code, alloc, program, io, body, 1, 0, 0)?;
     put(code, Ir::Label(0))?;
     put(code, Ir::Return(None))?;
     Ok(())
 }
 
-fn lower_function(alloc: Global, program: &Program, f: &Func) -> Result<IrFunc, NoMemory>
+fn lower_function(
+    alloc: Global,
+    program: &Program,
+    io: &IoTable,
+    f: &Func,
+) -> Result<IrFunc, NoMemory>
     requires { IsLaidOut (plain_program program.now) }
     ensures { IfOk result (λ g. plain_ir_function g
-        ≡ lowered_function (plain_program program.now) (plain_function f.now)) }
+        ≡ lowered_function (plain_program program.now) (plain_table io.now) (plain_function f.now)) }
 {
     let slots = stmt_places(&f.body)?;
     let mut code = Seq::new(alloc);
-    lower_body(&mut code, alloc, program, &f.body)?;
+    lower_body(&mut code, alloc, program, io, &f.body)?;
     Ok(IrFunc { code, slots })
 }
 
-fn lower_functions(alloc: Global, program: &Program) -> Result<Seq<IrFunc>, NoMemory>
+fn lower_functions(alloc: Global, program: &Program, io: &IoTable) -> Result<Seq<IrFunc>, NoMemory>
     requires { IsLaidOut (plain_program program.now) }
     ensures { IfOk result (λ funcs. map plain_ir_function funcs.items
-        ≡ map (lowered_function (plain_program program.now)) (map plain_function program.now.funcs.items)) }
+        ≡ map (lowered_function (plain_program program.now) (plain_table io.now))
+        (map plain_function program.now.funcs.items)) }
 {
     let mut funcs = Seq::new(alloc);
     for f in program.funcs.as_slice() {
-        let g = lower_function(alloc, program, f)?;
+        let g = lower_function(alloc, program, io, f)?;
         funcs.push(g)?;
     }
     Ok(funcs)
@@ -63,11 +73,11 @@ fn lower_functions(alloc: Global, program: &Program) -> Result<Seq<IrFunc>, NoMe
 
 /// The operations of a program whose objects have types with leaves, be it valid or not. Of an expression or a statement
 /// that is not lowered they say nothing.
-pub fn operations(alloc: Global, program: &Program) -> Result<IrProgram, NoMemory>
+pub fn operations(alloc: Global, program: &Program, io: &IoTable) -> Result<IrProgram, NoMemory>
     requires { IsLaidOut (plain_program program.now) }
-    ensures { IfOk result (λ ir. plain_ir_program ir ≡ lowered (plain_program program.now)) }
+    ensures { IfOk result (λ ir. plain_ir_program ir ≡ lowered (plain_program program.now) (plain_table io.now)) }
 {
-    let funcs = lower_functions(alloc, program)?;
+    let funcs = lower_functions(alloc, program, io)?;
     let objs = copied_objects(alloc, program.objs.as_slice())?;
     let structs = copied_structs(alloc, program.structs.as_slice())?;
     Ok(IrProgram {
@@ -78,23 +88,24 @@ pub fn operations(alloc: Global, program: &Program) -> Result<IrProgram, NoMemor
     })
 }
 
-/// The operations of a program that has no arrays, structs, pointers or ports. They reach all events that the program
-/// shows, within its work, and show no others; they keep the rules of intermediate programs, and their words are within the
-/// program's weight. Where `is_compiled` tells no statement, they are operations on integers, those that code stands for.
-/// Only running out of memory keeps it from an answer.
+/// The operations of a program that has no arrays, structs or pointers. They reach all events that the program shows,
+/// within its work, and show no others; they keep the rules of intermediate programs, and their words are within the
+/// program's weight. Where `is_compiled` tells no statement, they are operations on integers, on fixed-point numbers and
+/// on ports. Only running out of memory keeps it from an answer.
 pub fn lower(alloc: Global, program: &Program, io: &IoTable) -> Result<IrProgram, NoMemory>
     requires valid { Valid (plain_program program.now) io.now }
     requires lowered { IsLowered (plain_program program.now) }
-    ensures code { IfOk result (λ ir. plain_ir_program ir ≡ lowered (plain_program program.now)) }
+    ensures code { IfOk result (λ ir. plain_ir_program ir ≡ lowered (plain_program program.now) (plain_table io.now)) }
     ensures follows { IfOk result (λ ir. Follows (plain_program program.now) io.now (plain_ir_program ir)) }
     ensures made { IfOk result (λ ir. IsMadeOf (plain_program program.now) io.now (plain_ir_program ir)) }
     ensures valid { IfOk result (λ ir. ValidIr (plain_ir_program ir)) }
     ensures compiled { IsCompiled (plain_program program.now)
-        → IfOk result (λ ir. IsMadeOfIntegers (plain_program program.now) (plain_ir_program ir)) }
+        → IfOk result (λ ir. IsMadeOfNumbers (plain_program program.now) (plain_ir_program ir)) }
 {
+    read_groups(io);
     lowered_follows();
     lowered_is_made_of_its_program();
-    compiled_is_of_integers();
-    let ir = operations(alloc, program)?;
+    compiled_is_of_numbers();
+    let ir = operations(alloc, program, io)?;
     Ok(ir)
 }

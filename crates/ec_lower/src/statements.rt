@@ -3,6 +3,7 @@ ghost use Rattle.std.specs.Prelude.{◌≡◌, ◌+◌, map, ◌∷◌, Some, No
 ghost use Rattle.std.specs.Option.{option_copied};
 ghost use Rattle.ec_core.specs.Plain.{branch, for_loop, return_value, no_stmt, a_stmt, plain_expr, plain_exprs, plain_stmt, plain_stmts};
 ghost use Rattle.ec_core.specs.Plain.{plain_program};
+ghost use Rattle.ec_core.specs.PortTable.{plain_table};
 ghost use Rattle.ec_ir.specs.Operations.{label, jump};
 ghost use Rattle.ec_lower.specs.Emits.{Emits, IsLaidOut};
 ghost use Rattle.ec_lower_code.specs.Code.{expr_labels, exprs_labels, optional_labels, stmt_labels};
@@ -14,6 +15,7 @@ use crate::emit::{behind, put, put_store, temp};
 use crate::expressions::lower_expr;
 use crate::extents::optional_labels;
 use ec_core::{Expr, Leaf, Program, Stmt, StmtKind, leaves};
+use ec_iohw::IoTable;
 use ec_ir::Ir;
 use ec_space::{NoMemory, Seq};
 use std::alloc::Global;
@@ -40,6 +42,7 @@ fn lower_values(
     code: &mut Seq<Ir>,
     alloc: Global,
     program: &Program,
+    io: &IoTable,
     leaves: &Seq<Leaf>,
     o: u16,
     values: &[Expr],
@@ -47,14 +50,15 @@ fn lower_values(
 ) -> Result<u64, NoMemory>
     ensures next { IfOk result (λ m. m ≡ l + exprs_labels (plain_exprs values.now)) }
     ensures code { OnOk result (Emits code.old.items code.new.items
-        (init_code (plain_program program.now) (map plain_leaf leaves.now.items) o (plain_exprs values.now) l)) }
+        (init_code (plain_program program.now) (plain_table io.now) (map plain_leaf leaves.now.items) o
+        (plain_exprs values.now) l)) }
 {
     let mut k = l;
     for (i, e) in values.iter().enumerate() {
         match leaves.get(i) {
             None => return Err(NoMemory),
             Some(leaf) => {
-                k = lower_expr(code, alloc, program, e, k, 0)?;
+                k = lower_expr(code, alloc, program, io, e, k, 0)?;
                 put_store(code, o, leaf.at, &e.ty, 0)?;
             }
         }
@@ -67,6 +71,7 @@ fn lower_local(
     code: &mut Seq<Ir>,
     alloc: Global,
     program: &Program,
+    io: &IoTable,
     o: u16,
     values: &[Expr],
     l: u64,
@@ -74,10 +79,11 @@ fn lower_local(
     requires { IsLaidOut (plain_program program.now) }
     ensures next { IfOk result (λ m. m ≡ l + exprs_labels (plain_exprs values.now)) }
     ensures code { OnOk result (Emits code.old.items code.new.items (init_code (plain_program program.now)
+        (plain_table io.now)
         (leaves_of_object (plain_program program.now) o) o (plain_exprs values.now) l)) }
 {
     let leaves = leaves_of_object(alloc, program, o)?;
-    let m = lower_values(code, alloc, program, &leaves, o, values, l)?;
+    let m = lower_values(code, alloc, program, io, &leaves, o, values, l)?;
     Ok(m)
 }
 
@@ -86,6 +92,7 @@ fn lower_return(
     code: &mut Seq<Ir>,
     alloc: Global,
     program: &Program,
+    io: &IoTable,
     e: Option<&Expr>,
     l: u64,
     out: u64,
@@ -93,6 +100,7 @@ fn lower_return(
 ) -> Result<u64, NoMemory>
     ensures next { IfOk result (λ m. m ≡ l + optional_labels (option_map plain_expr (option_copied e.entry))) }
     ensures code { OnOk result (Emits code.old.items code.new.items (kind_code (plain_program program.now)
+        (plain_table io.now)
         (return_value (option_map plain_expr (option_copied e.entry))) l out on)) }
 {
     match e {
@@ -101,7 +109,7 @@ fn lower_return(
             Ok(l)
         }
         Some(e) => {
-            let m = lower_expr(code, alloc, program, e, l, 0)?;
+            let m = lower_expr(code, alloc, program, io, e, l, 0)?;
             put(code, Ir::Return(Some(temp(0, &e.ty))))?;
             Ok(m)
         }
@@ -113,18 +121,20 @@ fn lower_test(
     code: &mut Seq<Ir>,
     alloc: Global,
     program: &Program,
+    io: &IoTable,
     c: Option<&Expr>,
     out: u64,
     l: u64,
 ) -> Result<u64, NoMemory>
     ensures next { IfOk result (λ m. m ≡ l + optional_labels (option_map plain_expr (option_copied c.entry))) }
     ensures code { OnOk result (Emits code.old.items code.new.items
-        (test_code (plain_program program.now) (option_map plain_expr (option_copied c.entry)) out l)) }
+        (test_code (plain_program program.now) (plain_table io.now) (option_map plain_expr
+        (option_copied c.entry)) out l)) }
 {
     match c {
         None => Ok(l),
         Some(c) => {
-            let m = lower_expr(code, alloc, program, c, l, 0)?;
+            let m = lower_expr(code, alloc, program, io, c, l, 0)?;
             put(code, Ir::BranchZero(temp(0, &c.ty), out))?;
             Ok(m)
         }
@@ -136,16 +146,18 @@ fn lower_last(
     code: &mut Seq<Ir>,
     alloc: Global,
     program: &Program,
+    io: &IoTable,
     last: Option<&Expr>,
     l: u64,
 ) -> Result<(), NoMemory>
     ensures { OnOk result (Emits code.old.items code.new.items
-        (last_code (plain_program program.now) (option_map plain_expr (option_copied last.entry)) l)) }
+        (last_code (plain_program program.now) (plain_table io.now) (option_map plain_expr
+        (option_copied last.entry)) l)) }
 {
     match last {
         None => Ok(()),
         Some(e) => {
-            lower_expr(code, alloc, program, e, l, 0)?;
+            lower_expr(code, alloc, program, io, e, l, 0)?;
             Ok(())
         }
     }
@@ -156,19 +168,21 @@ fn begin_loop(
     code: &mut Seq<Ir>,
     alloc: Global,
     program: &Program,
+    io: &IoTable,
     c: Option<&Expr>,
     l: u64,
 ) -> Result<u64, NoMemory>
     ensures next { IfOk result (λ m. m ≡ l + 4 + optional_labels (option_map plain_expr (option_copied c.entry))) }
     ensures code { OnOk result (Emits code.old.items code.new.items (λ rest. label l
-        ∷ test_code (plain_program program.now) (option_map plain_expr (option_copied c.entry)) (l + 1) (l + 4)
+        ∷ test_code (plain_program program.now) (plain_table io.now) (option_map plain_expr (option_copied c.entry))
+        (l + 1) (l + 4)
         (label (l + 3) ∷ rest))) }
 {
     let out = behind(l, 1)?;
     let body = behind(l, 3)?;
     let k = behind(l, 4)?;
     put(code, Ir::Label(l))?;
-    let m = lower_test(code, alloc, program, c, out, k)?;
+    let m = lower_test(code, alloc, program, io, c, out, k)?;
     put(code, Ir::Label(body))?;
     Ok(m)
 }
@@ -178,18 +192,20 @@ fn end_loop(
     code: &mut Seq<Ir>,
     alloc: Global,
     program: &Program,
+    io: &IoTable,
     last: Option<&Expr>,
     l: u64,
     k: u64,
 ) -> Result<(), NoMemory>
     ensures { OnOk result (Emits code.old.items code.new.items (λ rest. label (l + 2)
-        ∷ last_code (plain_program program.now) (option_map plain_expr (option_copied last.entry)) k
+        ∷ last_code (plain_program program.now) (plain_table io.now) (option_map plain_expr
+        (option_copied last.entry)) k
         (jump l ∷ label (l + 1) ∷ rest))) }
 {
     let out = behind(l, 1)?;
     let on = behind(l, 2)?;
     put(code, Ir::Label(on))?;
-    lower_last(code, alloc, program, last, k)?;
+    lower_last(code, alloc, program, io, last, k)?;
     put(code, Ir::Jump(l))?;
     put(code, Ir::Label(out))?;
     Ok(())
@@ -204,6 +220,7 @@ pub fn lower_stmt(
     code: &mut Seq<Ir>,
     alloc: Global,
     program: &Program,
+    io: &IoTable,
     s: &Stmt,
     l: u64,
     out: u64,
@@ -212,43 +229,43 @@ pub fn lower_stmt(
     requires { IsLaidOut (plain_program program.now) }
     ensures next { IfOk result (λ m. m ≡ l + stmt_labels (plain_stmt s.now)) }
     ensures code { OnOk result (Emits code.old.items code.new.items
-        (stmt_code (plain_program program.now) (plain_stmt s.now) l out on)) }
+        (stmt_code (plain_program program.now) (plain_table io.now) (plain_stmt s.now) l out on)) }
 {
     match &s.kind {
         StmtKind::Empty => Ok(l),
         StmtKind::Do1(e) => {
-            let m = lower_expr(code, alloc, program, e, l, 0)?;
+            let m = lower_expr(code, alloc, program, io, e, l, 0)?;
             Ok(m)
         }
         StmtKind::Block(ss) => {
-            let m = lower_stmts(code, alloc, program, ss.as_slice(), l, out, on)?;
+            let m = lower_stmts(code, alloc, program, io, ss.as_slice(), l, out, on)?;
             Ok(m)
         }
         StmtKind::Local(o, values) => {
-            let m = lower_local(code, alloc, program, *o, values.as_slice(), l)?;
+            let m = lower_local(code, alloc, program, io, *o, values.as_slice(), l)?;
             Ok(m)
         }
         StmtKind::If(c, a, b) => match b {
             None => {
-                let m = lower_if(code, alloc, program, c, a, l, out, on)?;
+                let m = lower_if(code, alloc, program, io, c, a, l, out, on)?;
                 Ok(m)
             }
             Some(b) => {
-                let m = lower_if_else(code, alloc, program, c, a, b, l, out, on)?;
+                let m = lower_if_else(code, alloc, program, io, c, a, b, l, out, on)?;
                 Ok(m)
             }
         },
         StmtKind::While(c, body) => {
-            let m = lower_loop(code, alloc, program, Some(c), None, body, l)?;
+            let m = lower_loop(code, alloc, program, io, Some(c), None, body, l)?;
             Ok(m)
         }
         StmtKind::DoWhile(body, c) => {
-            let m = lower_do(code, alloc, program, c, body, l)?;
+            let m = lower_do(code, alloc, program, io, c, body, l)?;
             Ok(m)
         }
         StmtKind::For(first, c, last, body) => match first {
             None => {
-                let m = lower_loop(code, alloc, program, c.as_ref(), last.as_ref(), body, l)?;
+                let m = lower_loop(code, alloc, program, io, c.as_ref(), last.as_ref(), body, l)?;
                 Ok(m)
             }
             Some(first) => {
@@ -256,6 +273,7 @@ pub fn lower_stmt(
                     code,
                     alloc,
                     program,
+                    io,
                     first,
                     c.as_ref(),
                     last.as_ref(),
@@ -276,7 +294,7 @@ pub fn lower_stmt(
             Ok(l)
         }
         StmtKind::Return(e) => {
-            let m = lower_return(code, alloc, program, e.as_ref(), l, out, on)?;
+            let m = lower_return(code, alloc, program, io, e.as_ref(), l, out, on)?;
             Ok(m)
         }
     }
@@ -288,6 +306,7 @@ fn lower_stmts(
     code: &mut Seq<Ir>,
     alloc: Global,
     program: &Program,
+    io: &IoTable,
     ss: &[Stmt],
     l: u64,
     out: u64,
@@ -296,11 +315,11 @@ fn lower_stmts(
     requires { IsLaidOut (plain_program program.now) }
     ensures next { IfOk result (λ m. m ≡ l + stmts_labels (plain_stmts ss.now)) }
     ensures code { OnOk result (Emits code.old.items code.new.items
-        (stmts_code (plain_program program.now) (plain_stmts ss.now) l out on)) }
+        (stmts_code (plain_program program.now) (plain_table io.now) (plain_stmts ss.now) l out on)) }
 {
     let mut k = l;
     for s in ss {
-        k = lower_stmt(code, alloc, program, s, k, out, on)?;
+        k = lower_stmt(code, alloc, program, io, s, k, out, on)?;
     }
     Ok(k)
 }
@@ -311,6 +330,7 @@ fn lower_if(
     code: &mut Seq<Ir>,
     alloc: Global,
     program: &Program,
+    io: &IoTable,
     c: &Expr,
     a: &Stmt,
     l: u64,
@@ -320,12 +340,13 @@ fn lower_if(
     requires { IsLaidOut (plain_program program.now) }
     ensures next { IfOk result (λ m. m ≡ l + kind_labels (branch (plain_expr c.now) (plain_stmt a.now) no_stmt)) }
     ensures code { OnOk result (Emits code.old.items code.new.items (kind_code (plain_program program.now)
+        (plain_table io.now)
         (branch (plain_expr c.now) (plain_stmt a.now) no_stmt) l out on)) }
 {
     let k = behind(l, 2)?;
-    let k = lower_expr(code, alloc, program, c, k, 0)?;
+    let k = lower_expr(code, alloc, program, io, c, k, 0)?;
     put(code, Ir::BranchZero(temp(0, &c.ty), l))?;
-    let m = lower_stmt(code, alloc, program, a, k, out, on)?;
+    let m = lower_stmt(code, alloc, program, io, a, k, out, on)?;
     put(code, Ir::Label(l))?;
     Ok(m)
 }
@@ -336,6 +357,7 @@ fn lower_if_else(
     code: &mut Seq<Ir>,
     alloc: Global,
     program: &Program,
+    io: &IoTable,
     c: &Expr,
     a: &Stmt,
     b: &Stmt,
@@ -347,16 +369,17 @@ fn lower_if_else(
     ensures next { IfOk result (λ m. m ≡ l
         + kind_labels (branch (plain_expr c.now) (plain_stmt a.now) (a_stmt (plain_stmt b.now)))) }
     ensures code { OnOk result (Emits code.old.items code.new.items (kind_code (plain_program program.now)
+        (plain_table io.now)
         (branch (plain_expr c.now) (plain_stmt a.now) (a_stmt (plain_stmt b.now))) l out on)) }
 {
     let end = behind(l, 1)?;
     let k = behind(l, 2)?;
-    let k = lower_expr(code, alloc, program, c, k, 0)?;
+    let k = lower_expr(code, alloc, program, io, c, k, 0)?;
     put(code, Ir::BranchZero(temp(0, &c.ty), l))?;
-    let k = lower_stmt(code, alloc, program, a, k, out, on)?;
+    let k = lower_stmt(code, alloc, program, io, a, k, out, on)?;
     put(code, Ir::Jump(end))?;
     put(code, Ir::Label(l))?;
-    let m = lower_stmt(code, alloc, program, b, k, out, on)?;
+    let m = lower_stmt(code, alloc, program, io, b, k, out, on)?;
     put(code, Ir::Label(end))?;
     Ok(m)
 }
@@ -367,6 +390,7 @@ fn lower_do(
     code: &mut Seq<Ir>,
     alloc: Global,
     program: &Program,
+    io: &IoTable,
     c: &Expr,
     body: &Stmt,
     l: u64,
@@ -374,13 +398,14 @@ fn lower_do(
     requires { IsLaidOut (plain_program program.now) }
     ensures next { IfOk result (λ m. m ≡ l + 4 + expr_labels (plain_expr c.now) + stmt_labels (plain_stmt body.now)) }
     ensures code { OnOk result (Emits code.old.items code.new.items (λ rest. jump (l + 3)
-        ∷ loop_code (plain_program program.now) (Some (plain_expr c.now)) None l
-        (stmt_code (plain_program program.now) (plain_stmt body.now) (l + 4 + expr_labels (plain_expr c.now)) (l + 1)
+        ∷ loop_code (plain_program program.now) (plain_table io.now) (Some (plain_expr c.now)) None l
+        (stmt_code (plain_program program.now) (plain_table io.now) (plain_stmt body.now) (l + 4 + expr_labels
+        (plain_expr c.now)) (l + 1)
         (l + 2)) rest)) }
 {
     let first = behind(l, 3)?;
     put(code, Ir::Jump(first))?;
-    let m = lower_loop(code, alloc, program, Some(c), None, body, l)?;
+    let m = lower_loop(code, alloc, program, io, Some(c), None, body, l)?;
     Ok(m)
 }
 
@@ -390,6 +415,7 @@ fn lower_loop(
     code: &mut Seq<Ir>,
     alloc: Global,
     program: &Program,
+    io: &IoTable,
     c: Option<&Expr>,
     last: Option<&Expr>,
     body: &Stmt,
@@ -399,17 +425,19 @@ fn lower_loop(
     ensures next { IfOk result (λ m. m ≡ l + 4 + optional_labels (option_map plain_expr (option_copied c.entry))
         + optional_labels (option_map plain_expr (option_copied last.entry)) + stmt_labels (plain_stmt body.now)) }
     ensures code { OnOk result (Emits code.old.items code.new.items (let program = plain_program program.now in
-        let c = option_map plain_expr (option_copied c.entry) in let last = option_map plain_expr (option_copied last.entry) in
-        loop_code program c last l (stmt_code program (plain_stmt body.now)
+        let table = plain_table io.now in
+        let c = option_map plain_expr (option_copied c.entry) in
+        let last = option_map plain_expr (option_copied last.entry) in
+        loop_code program table c last l (stmt_code program table (plain_stmt body.now)
         (l + 4 + optional_labels c + optional_labels last) (l + 1) (l + 2)))) }
 {
     let out = behind(l, 1)?;
     let on = behind(l, 2)?;
-    let k = begin_loop(code, alloc, program, c, l)?;
+    let k = begin_loop(code, alloc, program, io, c, l)?;
     let count = optional_labels(last)?;
     let first = behind(k, count)?;
-    let m = lower_stmt(code, alloc, program, body, first, out, on)?;
-    end_loop(code, alloc, program, last, l, k)?;
+    let m = lower_stmt(code, alloc, program, io, body, first, out, on)?;
+    end_loop(code, alloc, program, io, last, l, k)?;
     Ok(m)
 }
 
@@ -419,6 +447,7 @@ fn lower_for(
     code: &mut Seq<Ir>,
     alloc: Global,
     program: &Program,
+    io: &IoTable,
     first: &Stmt,
     c: Option<&Expr>,
     last: Option<&Expr>,
@@ -432,10 +461,11 @@ fn lower_for(
         (option_map plain_expr (option_copied c.entry)) (option_map plain_expr (option_copied last.entry))
         (plain_stmt body.now))) }
     ensures code { OnOk result (Emits code.old.items code.new.items (kind_code (plain_program program.now)
+        (plain_table io.now)
         (for_loop (a_stmt (plain_stmt first.now)) (option_map plain_expr (option_copied c.entry))
         (option_map plain_expr (option_copied last.entry)) (plain_stmt body.now)) l out on)) }
 {
-    let k = lower_stmt(code, alloc, program, first, l, out, on)?;
-    let m = lower_loop(code, alloc, program, c, last, body, k)?;
+    let k = lower_stmt(code, alloc, program, io, first, l, out, on)?;
+    let m = lower_loop(code, alloc, program, io, c, last, body, k)?;
     Ok(m)
 }

@@ -27,7 +27,7 @@ use Rattle.ec_lower_code.proofs.Loops.{loop_runs, do_runs}
 use Rattle.ec_lower_code.proofs.Numbers.{value_of_type, scalar_bytes}
 use Rattle.ec_lower_code.proofs.Ops.{to_rest, past_label, jumps, branch_on, branch_off}
 use Rattle.ec_lower_code.proofs.Pays.{return_pays}
-use Rattle.ec_lower_code.proofs.Scene.{World, homes, set, calls_to, law, Scene}
+use Rattle.ec_lower_code.proofs.Scene.{World, ports, homes, set, calls_to, law, Scene}
 use Rattle.ec_lower_code.proofs.Shown.{Match}
 use Rattle.ec_lower_code.proofs.Statements.{Returns, match_state, Left, left_to, Way, Typed, typed_way, at_rest, bind_exit, joins, begun_match, ending_runs, whole_runs, done_runs, init_runs}
 use Rattle.ec_lower_code.proofs.Steps.{Stands, behind, here, Does, stays, after, bind, credited, spent_on, less}
@@ -46,8 +46,8 @@ module _ (wd : World) (sc : Scene wd) (ret : Returns wd sc) where
   Keeps p m rest out on d o = Typed wd sc ret wd.n p m rest out on d o
 
   -- a condition before a branch
-  condition_runs : (c : PlainExpr) (l d : ℕ) (s : State) (m : Mach) (rest : List PlainIr) → IsExpr IsNumericOrVoid (IsOther wd.program) c → ValidExpr wd.program wd.io sc.f c → IsScalar (type_of_expr c) → IsTypedState wd.program s → Stands sc.code (expr_code wd.program c l 0 rest) → Match (homes wd) d s m → Does (W wd sc) wd.n (Spots (expr_code wd.program c l 0 rest)) m (to_rest (W wd sc) rest) (Tests wd sc (type_of_expr c) 0 d m.temps) (condition (set wd) c (value wd sc c s))
-  condition_runs c l d s m rest p v i st stands h = tests wd sc wd.n 0 d m.temps c s (expr_code wd.program c l 0 rest) rest m i (whole_runs wd sc ret wd.n c l d s m rest (omega arith) p v st stands h)
+  condition_runs : (c : PlainExpr) (l d : ℕ) (s : State) (m : Mach) (rest : List PlainIr) → IsExpr IsNumericOrVoid (IsOther wd.program) c → ValidExpr wd.program wd.io sc.f c → IsScalar (type_of_expr c) → IsTypedState wd.program s → Stands sc.code (expr_code wd.program (ports wd) c l 0 rest) → Match (homes wd) d s m → Does (W wd sc) wd.n (Spots (expr_code wd.program (ports wd) c l 0 rest)) m (to_rest (W wd sc) rest) (Tests wd sc (type_of_expr c) 0 d m.temps) (condition (set wd) c (value wd sc c s))
+  condition_runs c l d s m rest p v i st stands h = tests wd sc wd.n 0 d m.temps c s (expr_code wd.program (ports wd) c l 0 rest) rest m i (whole_runs wd sc ret wd.n c l d s m rest (omega arith) p v st stands h)
 
   -- a branch of a statement: to its first part, or to a label
   branch_runs : (c : PlainExpr) (l d g f : ℕ) (b : Temps) (then_code other rest out on : List PlainIr) (x y : State → Outcome Exit) (h : Bool) (s : State) (u : Mach) → find l sc.code ≡ Some other → branch_zero_words (scalar_size (type_of_expr c)) + f ≤ d → Tests wd sc (type_of_expr c) 0 d b h s u
@@ -84,7 +84,7 @@ module _ (wd : World) (sc : Scene wd) (ret : Returns wd sc) where
       (g.0, record { match = match_state (homes wd) d s u.temps (worked (op_steps i) u.state) g.0 g.1 (spent_on (homes wd) (d + return_of (Some e)) d i u.temps s u (omega (arith, a, size)) r.has.match); back = g.2 }, g.3))
 
   -- a declaration, with a value for each leaf or none
-  declared_runs : (o : ℕ) (es : PlainExprs) (l d : ℕ) (rest out on : List PlainIr) → AreExprs IsNumericOrVoid (IsOther wd.program) es → ValidKind wd.program wd.io sc.f ret.returns true (declare o es) → Stands sc.code (kind_code wd.program (declare o es) l 0 0 rest) → (s : State) (m : Mach) → Match (homes wd) d s m → IsTypedState wd.program s → Goes (init_code wd.program (leaves_of_object wd.program o) o es l rest) m rest out on d (initialising (set wd) calls o 0 es (begun wd.program o s))
+  declared_runs : (o : ℕ) (es : PlainExprs) (l d : ℕ) (rest out on : List PlainIr) → AreExprs IsNumericOrVoid (IsOther wd.program) es → ValidKind wd.program wd.io sc.f ret.returns true (declare o es) → Stands sc.code (kind_code wd.program (ports wd) (declare o es) l 0 0 rest) → (s : State) (m : Mach) → Match (homes wd) d s m → IsTypedState wd.program s → Goes (init_code wd.program (ports wd) (leaves_of_object wd.program o) o es l rest) m rest out on d (initialising (set wd) calls o 0 es (begun wd.program o s))
   declared_runs o es l d rest out on p v stands s m h st =
       let x = some_and (slice_get wd.program.objects o) (IsDeclared wd.program wd.io sc.f es) v.0 in
       by_values x.0 x.1 x.2.0 x.2.1 (leaves_are wd.program o x.0 x.1)
@@ -95,38 +95,38 @@ module _ (wd : World) (sc : Scene wd) (ret : Returns wd sc) where
       typed : IsTypedState wd.program (begun wd.program o s)
       typed = (law wd).states.begun o s st
 
-      none : (ls : List PlainLeaf) (k : ℕ) → Goes (init_code wd.program ls o last_expr k rest) m rest out on d (initialising (set wd) calls o 0 last_expr (begun wd.program o s))
+      none : (ls : List PlainLeaf) (k : ℕ) → Goes (init_code wd.program (ports wd) ls o last_expr k rest) m rest out on d (initialising (set wd) calls o 0 last_expr (begun wd.program o s))
       none [] k = at_rest wd sc ret d rest out on wd.n (begun wd.program o s) m begins
       none (leaf ∷ ls) k = at_rest wd sc ret d rest out on wd.n (begun wd.program o s) m begins
 
-      by_values : (x : PlainObject) → slice_get wd.program.objects o ≡ Some x → x.storage ≡ local sc.f → (es ≡ last_expr) ⊎ AreLeafValues wd.program wd.io sc.f (leaves_of_type wd.program.structs x.ty) es → leaves_of_object wd.program o ≡ leaves_of_type wd.program.structs x.ty → Goes (init_code wd.program (leaves_of_object wd.program o) o es l rest) m rest out on d (initialising (set wd) calls o 0 es (begun wd.program o s))
-      by_values x e t (inl z) g = subst (λ (q : PlainExprs). Goes (init_code wd.program (leaves_of_object wd.program o) o q l rest) m rest out on d (initialising (set wd) calls o 0 q (begun wd.program o s))) (sym z) (none (leaves_of_object wd.program o) l)
+      by_values : (x : PlainObject) → slice_get wd.program.objects o ≡ Some x → x.storage ≡ local sc.f → (es ≡ last_expr) ⊎ AreLeafValues wd.program wd.io sc.f (leaves_of_type wd.program.structs x.ty) es → leaves_of_object wd.program o ≡ leaves_of_type wd.program.structs x.ty → Goes (init_code wd.program (ports wd) (leaves_of_object wd.program o) o es l rest) m rest out on d (initialising (set wd) calls o 0 es (begun wd.program o s))
+      by_values x e t (inl z) g = subst (λ (q : PlainExprs). Goes (init_code wd.program (ports wd) (leaves_of_object wd.program o) o q l rest) m rest out on d (initialising (set wd) calls o 0 q (begun wd.program o s))) (sym z) (none (leaves_of_object wd.program o) l)
       by_values x e t (inr z) g =
-          subst (λ (q : List PlainLeaf). Goes (init_code wd.program q o es l rest) m rest out on d (initialising (set wd) calls o 0 es (begun wd.program o s))) (sym g)
+          subst (λ (q : List PlainLeaf). Goes (init_code wd.program (ports wd) q o es l rest) m rest out on d (initialising (set wd) calls o 0 es (begun wd.program o s))) (sym g)
           (init_runs wd sc ret d o 0 x (leaves_of_type wd.program.structs x.ty) es l rest out on e (λ j leaf q. ap (slice_get (leaves_of_type wd.program.structs x.ty)) (let a : 0 + j ≡ j = omega arith in a) ∙ q) (local_home wd.program wd.io wd.valid o sc.f x e t) z p v.1
-          (subst (λ (q : List PlainLeaf). Stands sc.code (init_code wd.program q o es l rest)) g stands) (begun wd.program o s) m begins typed)
+          (subst (λ (q : List PlainLeaf). Stands sc.code (init_code wd.program (ports wd) q o es l rest)) g stands) (begun wd.program o s) m begins typed)
 
   mutual
-    pub stmt_runs : (a : PlainStmt) (in_loop : Bool) (l lo lc d : ℕ) (rest out on : List PlainIr) → IsStmt IsNumericOrVoid (IsOther wd.program) a → ValidStmt wd.program wd.io sc.f ret.returns in_loop a → Stands sc.code (stmt_code wd.program a l lo lc rest) → find lo sc.code ≡ Some out → find lc sc.code ≡ Some on → (s : State) (m : Mach) → Match (homes wd) d s m → IsTypedState wd.program s → Keeps (stmt_code wd.program a l lo lc rest) m rest out on d (effect_of (set wd) calls wd.n a s)
+    pub stmt_runs : (a : PlainStmt) (in_loop : Bool) (l lo lc d : ℕ) (rest out on : List PlainIr) → IsStmt IsNumericOrVoid (IsOther wd.program) a → ValidStmt wd.program wd.io sc.f ret.returns in_loop a → Stands sc.code (stmt_code wd.program (ports wd) a l lo lc rest) → find lo sc.code ≡ Some out → find lc sc.code ≡ Some on → (s : State) (m : Mach) → Match (homes wd) d s m → IsTypedState wd.program s → Keeps (stmt_code wd.program (ports wd) a l lo lc rest) m rest out on d (effect_of (set wd) calls wd.n a s)
     stmt_runs (statement unit k kind) in_loop l lo lc d rest out on p v stands fo fc s m h st =
-        typed_way wd sc ret (IsExitOf wd.program ret.returns) wd.n (kind_code wd.program kind l lo lc rest) m rest out on d (effect_of (set wd) calls wd.n (statement unit k kind) s) ((law wd).statements wd.n sc.depth sc.f ret.returns in_loop (statement unit k kind) s v st)
+        typed_way wd sc ret (IsExitOf wd.program ret.returns) wd.n (kind_code wd.program (ports wd) kind l lo lc rest) m rest out on d (effect_of (set wd) calls wd.n (statement unit k kind) s) ((law wd).statements wd.n sc.depth sc.f ret.returns in_loop (statement unit k kind) s v st)
         (kind_runs kind in_loop l lo lc d rest out on p v stands fo fc s m h st)
 
-    kind_runs : (kind : PlainKind) (in_loop : Bool) (l lo lc d : ℕ) (rest out on : List PlainIr) → IsKind IsNumericOrVoid (IsOther wd.program) kind → ValidKind wd.program wd.io sc.f ret.returns in_loop kind → Stands sc.code (kind_code wd.program kind l lo lc rest) → find lo sc.code ≡ Some out → find lc sc.code ≡ Some on → (s : State) (m : Mach) → Match (homes wd) d s m → IsTypedState wd.program s → Goes (kind_code wd.program kind l lo lc rest) m rest out on d (kind_effect (set wd) calls wd.n kind s)
+    kind_runs : (kind : PlainKind) (in_loop : Bool) (l lo lc d : ℕ) (rest out on : List PlainIr) → IsKind IsNumericOrVoid (IsOther wd.program) kind → ValidKind wd.program wd.io sc.f ret.returns in_loop kind → Stands sc.code (kind_code wd.program (ports wd) kind l lo lc rest) → find lo sc.code ≡ Some out → find lc sc.code ≡ Some on → (s : State) (m : Mach) → Match (homes wd) d s m → IsTypedState wd.program s → Goes (kind_code wd.program (ports wd) kind l lo lc rest) m rest out on d (kind_effect (set wd) calls wd.n kind s)
     kind_runs empty in_loop l lo lc d rest out on p v stands fo fc s m h st = at_rest wd sc ret d rest out on wd.n s m h
     kind_runs (evaluate e) in_loop l lo lc d rest out on p v stands fo fc s m h st = done_runs wd sc ret wd.n e l d s m rest out on (omega arith) p v st stands h
     kind_runs (block ss) in_loop l lo lc d rest out on p v stands fo fc s m h st =
-        ending_runs wd sc ret wd.n d (stmts_code wd.program ss l lo lc rest) m rest out on (declared ss) (effects_of (set wd) calls wd.n ss s) (stmts_runs ss in_loop l lo lc d rest out on p v stands fo fc s m h st)
+        ending_runs wd sc ret wd.n d (stmts_code wd.program (ports wd) ss l lo lc rest) m rest out on (declared ss) (effects_of (set wd) calls wd.n ss s) (stmts_runs ss in_loop l lo lc d rest out on p v stands fo fc s m h st)
     kind_runs (declare o es) in_loop l lo lc d rest out on p v stands fo fc s m h st =
         declared_runs o es l d rest out on p v stands s m h st
     kind_runs (branch c a no_stmt) in_loop l lo lc d rest out on p v stands fo fc s m h st =
-        let then_code = stmt_code wd.program a (l + 2 + expr_labels c) lo lc (label l ∷ rest) in
+        let then_code = stmt_code wd.program (ports wd) a (l + 2 + expr_labels c) lo lc (label l ∷ rest) in
         let i = branch_zero (temp 0 (type_of_expr c)) l in
-        let then_at = behind sc.code _ _ (expr_behind wd.program sc.code c (l + 2) 0 (i ∷ then_code) stands) in
-        let end = stmt_behind wd.program sc.code a (l + 2 + expr_labels c) lo lc (label l ∷ rest) then_at in
+        let then_at = behind sc.code _ _ (expr_behind wd.program (ports wd) sc.code c (l + 2) 0 (i ∷ then_code) stands) in
+        let end = stmt_behind wd.program (ports wd) sc.code a (l + 2 + expr_labels c) lo lc (label l ∷ rest) then_at in
         let e = d + branch_words in
         let size = (scalar_bytes (type_of_expr c) v.0.1).1 in
-        bind (W wd sc) wd.n (Spots (expr_code wd.program c (l + 2) 0 (i ∷ then_code))) m (to_rest (W wd sc) (i ∷ then_code)) (Tests wd sc (type_of_expr c) 0 e m.temps) (left_to wd sc ret rest out on) (Left wd sc ret d) (Spots (i ∷ then_code)) (condition (set wd) c (value wd sc c (worked branch_words s))) _ (λ z. refl)
+        bind (W wd sc) wd.n (Spots (expr_code wd.program (ports wd) c (l + 2) 0 (i ∷ then_code))) m (to_rest (W wd sc) (i ∷ then_code)) (Tests wd sc (type_of_expr c) 0 e m.temps) (left_to wd sc ret rest out on) (Left wd sc ret d) (Spots (i ∷ then_code)) (condition (set wd) c (value wd sc c (worked branch_words s))) _ (λ z. refl)
         (condition_runs c (l + 2) e (worked branch_words s) m (i ∷ then_code) p.0 v.0.0 v.0.1 st stands (credited (homes wd) branch_words d s m h))
         (λ x s1 u r. branch_runs c l e d d m.temps then_code rest rest out on (λ s2. effect_of (set wd) calls wd.n a s2) (λ s2. got at_end s2) x s1 u (sc.resolves l rest end) (omega (arith, size)) r
         (λ u1 k. joins wd sc ret wd.n d d then_code u1 (label l ∷ rest) rest out on (effect_of (set wd) calls wd.n a s1) (omega arith) (stmt_runs a in_loop (l + 2 + expr_labels c) lo lc d (label l ∷ rest) out on p.1 v.1 then_at fo fc s1 u1 k r.state)
@@ -134,17 +134,17 @@ module _ (wd : World) (sc : Scene wd) (ret : Returns wd sc) where
         (λ u1 k. at_rest wd sc ret d rest out on wd.n s1 u1 k))
     kind_runs (branch c a (a_stmt a2)) in_loop l lo lc d rest out on p v stands fo fc s m h st =
         let lb = l + 2 + expr_labels c + stmt_labels a in
-        let else_code = stmt_code wd.program a2 lb lo lc (label (l + 1) ∷ rest) in
-        let then_code = stmt_code wd.program a (l + 2 + expr_labels c) lo lc (jump (l + 1) ∷ label l ∷ else_code) in
+        let else_code = stmt_code wd.program (ports wd) a2 lb lo lc (label (l + 1) ∷ rest) in
+        let then_code = stmt_code wd.program (ports wd) a (l + 2 + expr_labels c) lo lc (jump (l + 1) ∷ label l ∷ else_code) in
         let i = branch_zero (temp 0 (type_of_expr c)) l in
-        let then_at = behind sc.code _ _ (expr_behind wd.program sc.code c (l + 2) 0 (i ∷ then_code) stands) in
-        let then_end = stmt_behind wd.program sc.code a (l + 2 + expr_labels c) lo lc (jump (l + 1) ∷ label l ∷ else_code) then_at in
+        let then_at = behind sc.code _ _ (expr_behind wd.program (ports wd) sc.code c (l + 2) 0 (i ∷ then_code) stands) in
+        let then_end = stmt_behind wd.program (ports wd) sc.code a (l + 2 + expr_labels c) lo lc (jump (l + 1) ∷ label l ∷ else_code) then_at in
         let label_at = behind sc.code _ _ then_end in
         let else_at = behind sc.code _ _ label_at in
-        let end = stmt_behind wd.program sc.code a2 lb lo lc (label (l + 1) ∷ rest) else_at in
+        let end = stmt_behind wd.program (ports wd) sc.code a2 lb lo lc (label (l + 1) ∷ rest) else_at in
         let e = d + branch_words in
         let size = (scalar_bytes (type_of_expr c) v.0.1).1 in
-        bind (W wd sc) wd.n (Spots (expr_code wd.program c (l + 2) 0 (i ∷ then_code))) m (to_rest (W wd sc) (i ∷ then_code)) (Tests wd sc (type_of_expr c) 0 e m.temps) (left_to wd sc ret rest out on) (Left wd sc ret d) (Spots (i ∷ then_code)) (condition (set wd) c (value wd sc c (worked branch_words s))) _ (λ z. refl)
+        bind (W wd sc) wd.n (Spots (expr_code wd.program (ports wd) c (l + 2) 0 (i ∷ then_code))) m (to_rest (W wd sc) (i ∷ then_code)) (Tests wd sc (type_of_expr c) 0 e m.temps) (left_to wd sc ret rest out on) (Left wd sc ret d) (Spots (i ∷ then_code)) (condition (set wd) c (value wd sc c (worked branch_words s))) _ (λ z. refl)
         (condition_runs c (l + 2) e (worked branch_words s) m (i ∷ then_code) p.0 v.0.0 v.0.1 st stands (credited (homes wd) branch_words d s m h))
         (λ x s1 u r. branch_runs c l e d (d + 5) m.temps then_code else_code rest out on (λ s2. effect_of (set wd) calls wd.n a s2) (λ s2. effect_of (set wd) calls wd.n a2 s2) x s1 u (sc.resolves l else_code label_at) (omega (arith, size)) r
         (λ u1 k. joins wd sc ret wd.n (d + 5) d then_code u1 (jump (l + 1) ∷ label l ∷ else_code) rest out on (effect_of (set wd) calls wd.n a s1) (omega arith) (stmt_runs a in_loop (l + 2 + expr_labels c) lo lc (d + 5) (jump (l + 1) ∷ label l ∷ else_code) out on p.1 v.1 then_at fo fc s1 u1 k r.state)
@@ -162,18 +162,18 @@ module _ (wd : World) (sc : Scene wd) (ret : Returns wd sc) where
     kind_runs (return_value (Some x)) in_loop l lo lc d rest out on p v stands fo fc s m h st =
         let i = return_from (Some (temp 0 (type_of_expr x))) in
         let e = d + return_of (Some x) in
-        bind (W wd sc) wd.n (Spots (expr_code wd.program x l 0 (i ∷ rest))) m (to_rest (W wd sc) (i ∷ rest)) (Has wd sc (type_of_expr x) 0 e m.temps) (left_to wd sc ret rest out on) (Left wd sc ret d) (Spots (i ∷ rest)) (value wd sc x (worked (return_of (Some x)) s)) _ (λ z. refl)
+        bind (W wd sc) wd.n (Spots (expr_code wd.program (ports wd) x l 0 (i ∷ rest))) m (to_rest (W wd sc) (i ∷ rest)) (Has wd sc (type_of_expr x) 0 e m.temps) (left_to wd sc ret rest out on) (Left wd sc ret d) (Spots (i ∷ rest)) (value wd sc x (worked (return_of (Some x)) s)) _ (λ z. refl)
         (whole_runs wd sc ret wd.n x l e (worked (return_of (Some x)) s) m (i ∷ rest) (omega arith) p v.1 st stands (credited (homes wd) (return_of (Some x)) d s m h))
         (λ y s1 u r. return_runs d x m.temps y s1 u rest out on rest v.0.0 v.0.1 r)
     kind_runs (while_loop c a) in_loop l lo lc d rest out on p v stands fo fc s m h st =
         let q : List PlainIr = jump l ∷ label (l + 1) ∷ rest in
         let after_code : List PlainIr = label (l + 2) ∷ q in
-        let inner = stmt_code wd.program a (l + 4 + expr_labels c) (l + 1) (l + 2) after_code in
-        let test = test_code wd.program (Some c) (l + 1) (l + 4) (label (l + 3) ∷ inner) in
+        let inner = stmt_code wd.program (ports wd) a (l + 4 + expr_labels c) (l + 1) (l + 2) after_code in
+        let test = test_code wd.program (ports wd) (Some c) (l + 1) (l + 4) (label (l + 3) ∷ inner) in
         let test_at = behind sc.code (label l) test stands in
-        let inner_label = test_behind wd.program sc.code (Some c) (l + 1) (l + 4) (label (l + 3) ∷ inner) test_at in
+        let inner_label = test_behind wd.program (ports wd) sc.code (Some c) (l + 1) (l + 4) (label (l + 3) ∷ inner) test_at in
         let inner_at = behind sc.code (label (l + 3)) inner inner_label in
-        let end = stmt_behind wd.program sc.code a (l + 4 + expr_labels c) (l + 1) (l + 2) after_code inner_at in
+        let end = stmt_behind wd.program (ports wd) sc.code a (l + 4 + expr_labels c) (l + 1) (l + 2) after_code inner_at in
         let q_at = behind sc.code (label (l + 2)) q end in
         let f1 = sc.resolves (l + 1) rest (behind sc.code (jump l) _ q_at) in
         past_label (W wd sc) wd.n l test m (left_to wd sc ret rest out on) (Left wd sc ret d) _
@@ -182,13 +182,13 @@ module _ (wd : World) (sc : Scene wd) (ret : Returns wd sc) where
     kind_runs (do_loop a c) in_loop l lo lc d rest out on p v stands fo fc s m h st =
         let q : List PlainIr = jump l ∷ label (l + 1) ∷ rest in
         let after_code : List PlainIr = label (l + 2) ∷ q in
-        let inner = stmt_code wd.program a (l + 4 + expr_labels c) (l + 1) (l + 2) after_code in
-        let test = test_code wd.program (Some c) (l + 1) (l + 4) (label (l + 3) ∷ inner) in
+        let inner = stmt_code wd.program (ports wd) a (l + 4 + expr_labels c) (l + 1) (l + 2) after_code in
+        let test = test_code wd.program (ports wd) (Some c) (l + 1) (l + 4) (label (l + 3) ∷ inner) in
         let label_at = behind sc.code (jump (l + 3)) (label l ∷ test) stands in
         let test_at = behind sc.code (label l) test label_at in
-        let inner_label = test_behind wd.program sc.code (Some c) (l + 1) (l + 4) (label (l + 3) ∷ inner) test_at in
+        let inner_label = test_behind wd.program (ports wd) sc.code (Some c) (l + 1) (l + 4) (label (l + 3) ∷ inner) test_at in
         let inner_at = behind sc.code (label (l + 3)) inner inner_label in
-        let end = stmt_behind wd.program sc.code a (l + 4 + expr_labels c) (l + 1) (l + 2) after_code inner_at in
+        let end = stmt_behind wd.program (ports wd) sc.code a (l + 4 + expr_labels c) (l + 1) (l + 2) after_code inner_at in
         let q_at = behind sc.code (label (l + 2)) q end in
         let f1 = sc.resolves (l + 1) rest (behind sc.code (jump l) _ q_at) in
         do_runs wd sc ret (Some c) None l d (λ s1. effect_of (set wd) calls wd.n a s1) inner rest (sc.resolves l test label_at) f1 test_at q_at p.1 v.1 tt tt
@@ -197,23 +197,23 @@ module _ (wd : World) (sc : Scene wd) (ret : Returns wd sc) where
         let l = l0 + option_stmt_labels first in
         let ll = l + 4 + optional_labels c in
         let q : List PlainIr = jump l ∷ label (l + 1) ∷ rest in
-        let last_at : List PlainIr = last_code wd.program last ll q in
+        let last_at : List PlainIr = last_code wd.program (ports wd) last ll q in
         let after_code : List PlainIr = label (l + 2) ∷ last_at in
-        let inner = stmt_code wd.program a (l + 4 + optional_labels c + optional_labels last) (l + 1) (l + 2) after_code in
-        let test = test_code wd.program c (l + 1) (l + 4) (label (l + 3) ∷ inner) in
-        let label_at = option_behind wd.program sc.code first l0 lo lc (label l ∷ test) stands in
+        let inner = stmt_code wd.program (ports wd) a (l + 4 + optional_labels c + optional_labels last) (l + 1) (l + 2) after_code in
+        let test = test_code wd.program (ports wd) c (l + 1) (l + 4) (label (l + 3) ∷ inner) in
+        let label_at = option_behind wd.program (ports wd) sc.code first l0 lo lc (label l ∷ test) stands in
         let test_at = behind sc.code (label l) test label_at in
-        let inner_label = test_behind wd.program sc.code c (l + 1) (l + 4) (label (l + 3) ∷ inner) test_at in
+        let inner_label = test_behind wd.program (ports wd) sc.code c (l + 1) (l + 4) (label (l + 3) ∷ inner) test_at in
         let inner_at = behind sc.code (label (l + 3)) inner inner_label in
-        let end = stmt_behind wd.program sc.code a (l + 4 + optional_labels c + optional_labels last) (l + 1) (l + 2) after_code inner_at in
+        let end = stmt_behind wd.program (ports wd) sc.code a (l + 4 + optional_labels c + optional_labels last) (l + 1) (l + 2) after_code inner_at in
         let l_at = behind sc.code (label (l + 2)) last_at end in
-        let q_at = last_behind wd.program sc.code last ll q l_at in
+        let q_at = last_behind wd.program (ports wd) sc.code last ll q l_at in
         let f1 = sc.resolves (l + 1) rest (behind sc.code (jump l) _ q_at) in
         let f2 = sc.resolves (l + 2) last_at end in
         let loop = λ (s1 : State). tested (test_of (set wd) calls c s1) (λ s2. turns wd.n (λ s3. effect_of (set wd) calls wd.n a s3) (λ s3. going_on (set wd) calls last c s3) s2) in
-        ending_runs wd sc ret wd.n d (option_stmt_code wd.program first l0 lo lc (label l ∷ test)) m rest out on (declared_first first) (next (first_effect (set wd) calls wd.n first s) (λ x s1. in_order x s1 loop))
-        (bind_exit wd sc ret wd.n d d (option_stmt_code wd.program first l0 lo lc (label l ∷ test)) m (label l ∷ test) out on rest out on (first_effect (set wd) calls wd.n first s) _ (omega arith) (λ z s1. refl)
-        (typed_way wd sc ret (IsExitOf wd.program ret.returns) wd.n (option_stmt_code wd.program first l0 lo lc (label l ∷ test)) m (label l ∷ test) out on d (first_effect (set wd) calls wd.n first s) ((law wd).first_parts wd.n sc.depth sc.f ret.returns in_loop first s v.0 st)
+        ending_runs wd sc ret wd.n d (option_stmt_code wd.program (ports wd) first l0 lo lc (label l ∷ test)) m rest out on (declared_first first) (next (first_effect (set wd) calls wd.n first s) (λ x s1. in_order x s1 loop))
+        (bind_exit wd sc ret wd.n d d (option_stmt_code wd.program (ports wd) first l0 lo lc (label l ∷ test)) m (label l ∷ test) out on rest out on (first_effect (set wd) calls wd.n first s) _ (omega arith) (λ z s1. refl)
+        (typed_way wd sc ret (IsExitOf wd.program ret.returns) wd.n (option_stmt_code wd.program (ports wd) first l0 lo lc (label l ∷ test)) m (label l ∷ test) out on d (first_effect (set wd) calls wd.n first s) ((law wd).first_parts wd.n sc.depth sc.f ret.returns in_loop first s v.0 st)
         (first_runs first in_loop l0 lo lc d (label l ∷ test) out on p.0 v.0 stands fo fc s m h st))
         (λ s1 u h1 st1. past_label (W wd sc) wd.n l test u (left_to wd sc ret rest out on) (Left wd sc ret d) (loop s1)
         (loop_runs wd sc ret c last l d (λ s3. effect_of (set wd) calls wd.n a s3) inner rest (sc.resolves l test label_at) f1 test_at l_at p.1 v.1 p.2 v.2
@@ -222,7 +222,7 @@ module _ (wd : World) (sc : Scene wd) (ret : Returns wd sc) where
         (λ s1 u h1 st1. (u, record { match = h1; back = tt }, stays (W wd sc) (Spots on) u)))
 
     -- the first part of a `for`: the objects of a block live on
-    first_runs : (a : OptionPlainStmt) (in_loop : Bool) (l lo lc d : ℕ) (rest out on : List PlainIr) → IsOptionStmt IsNumericOrVoid (IsOther wd.program) a → ValidOptionStmt wd.program wd.io sc.f ret.returns in_loop a → Stands sc.code (option_stmt_code wd.program a l lo lc rest) → find lo sc.code ≡ Some out → find lc sc.code ≡ Some on → (s : State) (m : Mach) → Match (homes wd) d s m → IsTypedState wd.program s → Goes (option_stmt_code wd.program a l lo lc rest) m rest out on d (first_effect (set wd) calls wd.n a s)
+    first_runs : (a : OptionPlainStmt) (in_loop : Bool) (l lo lc d : ℕ) (rest out on : List PlainIr) → IsOptionStmt IsNumericOrVoid (IsOther wd.program) a → ValidOptionStmt wd.program wd.io sc.f ret.returns in_loop a → Stands sc.code (option_stmt_code wd.program (ports wd) a l lo lc rest) → find lo sc.code ≡ Some out → find lc sc.code ≡ Some on → (s : State) (m : Mach) → Match (homes wd) d s m → IsTypedState wd.program s → Goes (option_stmt_code wd.program (ports wd) a l lo lc rest) m rest out on d (first_effect (set wd) calls wd.n a s)
     first_runs no_stmt in_loop l lo lc d rest out on p v stands fo fc s m h st = at_rest wd sc ret d rest out on wd.n s m h
     first_runs (a_stmt (statement unit k empty)) in_loop l lo lc d rest out on p v stands fo fc s m h st = kind_runs empty in_loop l lo lc d rest out on p v stands fo fc s m h st
     first_runs (a_stmt (statement unit k (evaluate e))) in_loop l lo lc d rest out on p v stands fo fc s m h st = kind_runs (evaluate e) in_loop l lo lc d rest out on p v stands fo fc s m h st
@@ -236,12 +236,12 @@ module _ (wd : World) (sc : Scene wd) (ret : Returns wd sc) where
     first_runs (a_stmt (statement unit k continue_loop)) in_loop l lo lc d rest out on p v stands fo fc s m h st = kind_runs continue_loop in_loop l lo lc d rest out on p v stands fo fc s m h st
     first_runs (a_stmt (statement unit k (return_value e))) in_loop l lo lc d rest out on p v stands fo fc s m h st = kind_runs (return_value e) in_loop l lo lc d rest out on p v stands fo fc s m h st
 
-    stmts_runs : (ss : PlainStmts) (in_loop : Bool) (l lo lc d : ℕ) (rest out on : List PlainIr) → AreStmts IsNumericOrVoid (IsOther wd.program) ss → ValidStmts wd.program wd.io sc.f ret.returns in_loop ss → Stands sc.code (stmts_code wd.program ss l lo lc rest) → find lo sc.code ≡ Some out → find lc sc.code ≡ Some on → (s : State) (m : Mach) → Match (homes wd) d s m → IsTypedState wd.program s → Goes (stmts_code wd.program ss l lo lc rest) m rest out on d (effects_of (set wd) calls wd.n ss s)
+    stmts_runs : (ss : PlainStmts) (in_loop : Bool) (l lo lc d : ℕ) (rest out on : List PlainIr) → AreStmts IsNumericOrVoid (IsOther wd.program) ss → ValidStmts wd.program wd.io sc.f ret.returns in_loop ss → Stands sc.code (stmts_code wd.program (ports wd) ss l lo lc rest) → find lo sc.code ≡ Some out → find lc sc.code ≡ Some on → (s : State) (m : Mach) → Match (homes wd) d s m → IsTypedState wd.program s → Goes (stmts_code wd.program (ports wd) ss l lo lc rest) m rest out on d (effects_of (set wd) calls wd.n ss s)
     stmts_runs last_stmt in_loop l lo lc d rest out on p v stands fo fc s m h st = at_rest wd sc ret d rest out on wd.n s m h
     stmts_runs (next_stmt a ss) in_loop l lo lc d rest out on p v stands fo fc s m h st =
-        let more_code = stmts_code wd.program ss (l + stmt_labels a) lo lc rest in
-        bind_exit wd sc ret wd.n d d (stmt_code wd.program a l lo lc more_code) m more_code out on rest out on (effect_of (set wd) calls wd.n a s) _ (omega arith) (λ z s1. refl)
+        let more_code = stmts_code wd.program (ports wd) ss (l + stmt_labels a) lo lc rest in
+        bind_exit wd sc ret wd.n d d (stmt_code wd.program (ports wd) a l lo lc more_code) m more_code out on rest out on (effect_of (set wd) calls wd.n a s) _ (omega arith) (λ z s1. refl)
         (stmt_runs a in_loop l lo lc d more_code out on p.0 v.0 stands fo fc s m h st)
-        (λ s1 u h1 st1. stmts_runs ss in_loop (l + stmt_labels a) lo lc d rest out on p.1 v.1 (stmt_behind wd.program sc.code a l lo lc more_code stands) fo fc s1 u h1 st1)
+        (λ s1 u h1 st1. stmts_runs ss in_loop (l + stmt_labels a) lo lc d rest out on p.1 v.1 (stmt_behind wd.program (ports wd) sc.code a l lo lc more_code stands) fo fc s1 u h1 st1)
         (λ s1 u h1 st1. (u, record { match = h1; back = tt }, stays (W wd sc) (Spots out) u))
         (λ s1 u h1 st1. (u, record { match = h1; back = tt }, stays (W wd sc) (Spots on) u))

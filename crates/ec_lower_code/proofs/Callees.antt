@@ -2,11 +2,11 @@
 use Rattle.std.proofs.Common.{◌≡◌, ◌≢◌, ◌⊎◌, ℕ, suc, ◌<◌, List, [], ◌∷◌, Option, Some, None, refl, subst, inl, inr, arith}
 use Rattle.std.specs.Prelude.{⊤, Contains, slice_get}
 use Rattle.std.specs.List.{AllByRecursion}
-use Rattle.ec_core.specs.Needs.{expr_calls, node_calls, exprs_calls, optional_calls, stmt_calls, kind_calls, option_stmt_calls, stmts_calls}
-use Rattle.ec_core.specs.Plain.{PlainExpr, expression, PlainNode, number, null, load, address_of, unary, binary, convert, assign, compound, step, logical_not, logical_and, logical_or, conditional, comma, call, io, group, PlainPlace, object, deref, member, PlainExprs, last_expr, next_expr, PlainStmt, statement, PlainKind, empty, evaluate, block, declare, branch, while_loop, do_loop, for_loop, break_loop, continue_loop, return_value, OptionPlainStmt, no_stmt, a_stmt, PlainStmts, last_stmt, next_stmt, PlainFunction, PlainProgram}
+use Rattle.ec_core.specs.Needs.{expr_calls, node_calls, option_calls, exprs_calls, optional_calls, stmt_calls, kind_calls, option_stmt_calls, stmts_calls}
+use Rattle.ec_core.specs.Plain.{PlainExpr, expression, PlainNode, number, null, load, address_of, unary, binary, convert, assign, compound, step, logical_not, logical_and, logical_or, conditional, comma, call, io, group, PlainPlace, object, deref, member, OptionPlainExpr, no_expr, an_expr, PlainExprs, last_expr, next_expr, PlainStmt, statement, PlainKind, empty, evaluate, block, declare, branch, while_loop, do_loop, for_loop, break_loop, continue_loop, return_value, OptionPlainStmt, no_stmt, a_stmt, PlainStmts, last_stmt, next_stmt, PlainFunction, PlainProgram}
 use Rattle.ec_core.specs.Valid.{Reaches, calls, calls_through, Valid}
 use Rattle.ec_iohw.specs.declared.table.IoTable.{IoTable}
-use Rattle.ec_lower_code.specs.Parts.{IsNumericOrVoid, IsAnyFunction, IsNamed, IsExpr, IsNode, AreExprs, IsOptional, IsStmt, IsKind, IsOptionStmt, AreStmts, IsLowered}
+use Rattle.ec_lower_code.specs.Parts.{IsNumericOrVoid, IsAnyFunction, IsNamed, IsExpr, IsNode, IsOptionExpr, AreExprs, IsOptional, IsStmt, IsKind, IsOptionStmt, AreStmts, IsLowered}
 use Rattle.ec_lower_code.proofs.Facts.{all_at}
 
 -- a function that main reaches, and that is not main
@@ -68,8 +68,16 @@ module _ (C : ℕ → Type 0) where
     node_suits (call f args) rest p h =
         let x = exprs_suit args rest p.1 (λ k c. h k (suc c.0, omega (arith, c.1), c.2)) in
         ((h f (0, omega arith, refl), x.0), x.1)
-    node_suits (io op port index value) rest p h = absurd p
-    node_suits (group acquire g) rest p h = absurd p
+    node_suits (io op port index value) rest p h =
+        let x = operand_suits index (option_calls value rest) p.0 h in
+        let y = operand_suits value rest p.1 x.1 in
+        ((x.0, y.0), y.1)
+    node_suits (group acquire g) rest p h = (tt, h)
+
+    operand_suits : (e : OptionPlainExpr) (rest : List ℕ) → IsOptionExpr IsNumericOrVoid IsAnyFunction e → AllOf (option_calls e rest)
+        → IsOptionExpr IsNumericOrVoid C e × AllOf rest
+    operand_suits no_expr rest p h = (tt, h)
+    operand_suits (an_expr e) rest p h = expr_suits e rest p h
 
     exprs_suit : (es : PlainExprs) (rest : List ℕ) → AreExprs IsNumericOrVoid IsAnyFunction es → AllOf (exprs_calls es rest) → AreExprs IsNumericOrVoid C es × AllOf rest
     exprs_suit last_expr rest p h = (tt, h)

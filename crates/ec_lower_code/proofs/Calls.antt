@@ -32,7 +32,7 @@ use Rattle.ec_lower_code.proofs.Labels.{function_resolves}
 use Rattle.ec_lower_code.proofs.Numbers.{value_of_type}
 use Rattle.ec_lower_code.proofs.Objects.{frame_one}
 use Rattle.ec_lower_code.proofs.Ops.{to_rest, Below, HasValue, label_comes}
-use Rattle.ec_lower_code.proofs.Scene.{World, homes, set, calls_to, spot, law, AreHeld, Callee, Scene}
+use Rattle.ec_lower_code.proofs.Scene.{World, ports, homes, set, calls_to, spot, law, AreHeld, Callee, Scene}
 use Rattle.ec_lower_code.proofs.Shown.{held_of, Match}
 use Rattle.ec_lower_code.proofs.Statements.{Returns, match_state, begun_match, own_store, Typed}
 use Rattle.ec_lower_code.proofs.Steps.{held_at, held_below, held_is, Target, at, over, Stands, Spot, here, goes, execs, Comes, Does, Runs, stays, counts, after, bind, credited, spent_on, less}
@@ -128,10 +128,10 @@ not_main a b h = by_test (a == b) refl
 
 module _ (wd : World) (depth : ℕ) (callee : Callee wd depth) (g : ℕ) (f : PlainFunction) (is : slice_get wd.program.functions g ≡ Some f) (other : IsOther wd.program g) (code rest : List PlainIr) (temps : Temps) (t : ℕ) (stack : List Frame) where
   abbrev body_code : List PlainIr
-  body_code = function_code wd.program f
+  body_code = function_code wd.program (ports wd) f
 
   abbrev inside : Scene wd
-  inside = record { depth = depth; f = g; code = body_code; resolves = function_resolves wd.program f; stack = frame_of code rest temps t f.returns ∷ stack; callee = callee }
+  inside = record { depth = depth; f = g; code = body_code; resolves = function_resolves wd.program (ports wd) f; stack = frame_of code rest temps t f.returns ∷ stack; callee = callee }
 
   abbrev w : Spot
   w = W wd inside
@@ -220,7 +220,7 @@ module _ (wd : World) (depth : ℕ) (callee : Callee wd depth) (g : ℕ) (f : Pl
   unfolding returns_to
   body_runs d s m h st =
       let all : Stands body_code body_code = ([], refl) in
-      let end = function_resolves wd.program f 0 end_code (stmt_behind wd.program body_code f.body 1 0 0 (label 0 ∷ end_code) all) in
+      let end = function_resolves wd.program (ports wd) f 0 end_code (stmt_behind wd.program (ports wd) body_code f.body 1 0 0 (label 0 ∷ end_code) all) in
       finishes d body_code m (effect_of (set wd) (calls_to wd depth) wd.n f.body s)
       (stmt_runs wd inside returns_to f.body false 1 0 0 (d + 40) (label 0 ∷ end_code) end_code end_code (run_parts wd.program wd.io wd.valid wd.parts g f is (inr other.1)) function_is.body all end end s m h st)
 
@@ -261,10 +261,10 @@ called_runs wd depth callee g f is other code stack es vs t d b rest s m args hd
     frames : List Frame
     frames = frame_of code rest m.temps t f.returns ∷ stack
 
-    entered_step : (u : Mach) → u.temps ≡ m.temps → (k : ℕ) → goes w0 (suc k) calling u ≡ execs w0 k (place (function_code wd.program f) frames (function_code wd.program f)) (machine no_temps (worked (op_steps (call_function g (result_temp t f.returns))) u.state))
+    entered_step : (u : Mach) → u.temps ≡ m.temps → (k : ℕ) → goes w0 (suc k) calling u ≡ execs w0 k (place (function_code wd.program (ports wd) f) frames (function_code wd.program (ports wd) f)) (machine no_temps (worked (op_steps (call_function g (result_temp t f.returns))) u.state))
     entered_step u e k =
-        ap (λ z. enter z (λ q v. execs w0 k q v) (frame_of code rest u.temps t f.returns ∷ stack) (machine no_temps (worked (op_steps (call_function g (result_temp t f.returns))) u.state))) (slice_get-map (lowered_function wd.program) wd.program.functions g ∙ ap (option_map (lowered_function wd.program)) is)
-        ∙ ap (λ (z : Temps). execs w0 k (place (function_code wd.program f) (frame_of code rest z t f.returns ∷ stack) (function_code wd.program f)) (machine no_temps (worked (op_steps (call_function g (result_temp t f.returns))) u.state))) e
+        ap (λ z. enter z (λ q v. execs w0 k q v) (frame_of code rest u.temps t f.returns ∷ stack) (machine no_temps (worked (op_steps (call_function g (result_temp t f.returns))) u.state))) (slice_get-map (lowered_function wd.program (ports wd)) wd.program.functions g ∙ ap (option_map (lowered_function wd.program (ports wd))) is)
+        ∙ ap (λ (z : Temps). execs w0 k (place (function_code wd.program (ports wd) f) (frame_of code rest z t f.returns ∷ stack) (function_code wd.program (ports wd) f)) (machine no_temps (worked (op_steps (call_function g (result_temp t f.returns))) u.state))) e
 
     entered : (y : Value) (s1 : State) (u : Mach) → Written wd code stack d1 m.temps y s1 u → Runs w0 wd.n calling u (to_rest w0 rest) (HasValue w0 f.returns t d b) (next (effect_of (set wd) (calls_to wd depth) wd.n f.body s1) (λ x s2. call_result f.returns (g == wd.program.main) x (frame_ended wd.program g s2)))
     entered y s1 u r =
@@ -273,9 +273,9 @@ called_runs wd depth callee g f is other code stack es vs t d b rest s m args hd
         let size = call_bytes t f.returns in
         let paid = spent_on (homes wd) d1 (d + 40) i no_temps s1 u (omega (arith, size)) r.match in
         subst (λ (z : Bool). Runs w0 wd.n calling u (to_rest w0 rest) (HasValue w0 f.returns t d b) (next (effect_of (set wd) (calls_to wd depth) wd.n f.body s1) (λ x s2. call_result f.returns z x (frame_ended wd.program g s2)))) (sym (not_main g wd.program.main other.0))
-        (after w0 (to_rest w0 rest) (HasValue w0 f.returns t d b) wd.n (here w0 calling) (place (function_code wd.program f) frames (function_code wd.program f)) u u1 (o1 s1)
-        (counts w0 calling (place (function_code wd.program f) frames (function_code wd.program f)) u u1 (entered_step u r.kept))
-        (elsewhere wd (function_code wd.program f) frames code stack wd.n (place (function_code wd.program f) frames (function_code wd.program f)) u1 (λ v. at (place code stack rest)) f.returns t d m.temps b below (o1 s1)
+        (after w0 (to_rest w0 rest) (HasValue w0 f.returns t d b) wd.n (here w0 calling) (place (function_code wd.program (ports wd) f) frames (function_code wd.program (ports wd) f)) u u1 (o1 s1)
+        (counts w0 calling (place (function_code wd.program (ports wd) f) frames (function_code wd.program (ports wd) f)) u u1 (entered_step u r.kept))
+        (elsewhere wd (function_code wd.program (ports wd) f) frames code stack wd.n (place (function_code wd.program (ports wd) f) frames (function_code wd.program (ports wd) f)) u1 (λ v. at (place code stack rest)) f.returns t d m.temps b below (o1 s1)
         (body_runs wd depth callee g f is other code rest m.temps t stack d s1 u1 paid r.state)))
 
 pub callee_runs : (wd : World) (depth : ℕ) → Callee wd depth

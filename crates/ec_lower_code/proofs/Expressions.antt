@@ -9,18 +9,20 @@ use Rattle.ec_core.specs.declared.values.Value.{Value}
 use Rattle.ec_core.specs.declared.values.Value.TheVariants.{Number}
 use Rattle.ec_core.specs.Accesses.{pointer_to, operand_of, access, read, write}
 use Rattle.ec_core.specs.ArithmeticTypes.{arithmetic_of, type_of}
-use Rattle.ec_core.specs.Expressions.{condition, truth_value, accessed, object_place, updated_place, compound_update, step_update, value_of, node_value, values_of}
+use Rattle.ec_core.specs.Expressions.{condition, truth_value, accessed, object_place, updated_place, compound_update, step_update, value_of, node_value, option_value, values_of}
 use Rattle.ec_core.specs.Integers.{truth}
 use Rattle.ec_core.specs.Layout.{scalar_size, IsScalar}
 use Rattle.ec_core.specs.ArithmeticValues.{HoldsNumber, IsKnownType, operand, arithmetic_value}
 use Rattle.ec_core.specs.Operators.{unary_result, binary_result, conversion_result, truth_result, as_number, number_type, OperationTypes, then_with, brought, step_operator}
 use Rattle.ec_core.proofs.HeldNumbers.{truth_number, conversion_held}
-use Rattle.ec_core.specs.Plain.{PlainType, void, integer, fixed, pointer, array, struct, PlainExpr, expression, PlainNode, number, null, load, address_of, unary, binary, convert, assign, compound, step, logical_not, logical_and, logical_or, conditional, comma, call, io, group, object, deref, member, PlainExprs, last_expr, next_expr, PlainFunction, PlainProgram}
+use Rattle.ec_core.specs.Plain.{PlainType, void, integer, fixed, pointer, array, struct, PlainExpr, expression, PlainNode, number, null, load, address_of, unary, binary, convert, assign, compound, step, logical_not, logical_and, logical_or, conditional, comma, call, io, group, object, deref, member, OptionPlainExpr, no_expr, an_expr, PlainExprs, last_expr, next_expr, PlainFunction, PlainProgram}
 use Rattle.ec_core.specs.Pointers.{Pointer as PointerValue}
+use Rattle.ec_core.specs.PortAccesses.{no_value, port_effect, group_effect}
+use Rattle.ec_core.specs.PortOperations.{port_operation}
 use Rattle.ec_core.specs.PortTable.{plain_table}
 use Rattle.ec_core.specs.State.{State, worked, Outcome, got, more, undefined, next, given}
-use Rattle.ec_core.specs.Typing.{int, type_of_expr, place_space, HaveBinaryTypes, HaveCompoundTypes, HaveCompoundArithmetic, AreConvertible, IsTyped, AreArguments}
-use Rattle.ec_core.specs.Valid.{IsExprType, ValidExpr, ValidParts, ValidExprs}
+use Rattle.ec_core.specs.Typing.{int, port_value, port_result, type_of_expr, place_space, HaveBinaryTypes, HaveCompoundTypes, HaveCompoundArithmetic, AreConvertible, IsTyped, AreArguments}
+use Rattle.ec_core.specs.Valid.{IsExprType, ValidExpr, ValidParts, ValidOption, ValidExprs}
 use Rattle.ec_core.specs.ValueTypes.{HasType, IsTypedState, IsSoundOutcome}
 use Rattle.ec_core.specs.Words.{node_words, update_words, total_size}
 use Rattle.ec_core.proofs.TypedValues.{some_and}
@@ -28,17 +30,20 @@ use Rattle.ec_ir.specs.Costs.{op_steps, branch_zero_words, binary_words, convers
 use Rattle.ec_ir.specs.Meaning.{Mach, machine, find}
 use Rattle.ec_ir.specs.Operations.{PlainIr, constant, load_object, store_object, binary_op, unary_op, conversion, label, jump, branch_zero, call_function}
 use Rattle.ec_ir.specs.Temporaries.{Temps}
-use Rattle.ec_lower_code.specs.Code.{temp, result_temp, truth_code, update_types, update_code, keeping_code, params_of, params_code, expr_labels, expr_code, node_code, args_code}
+use Rattle.ec_lower_code.specs.Code.{temp, result_temp, truth_code, update_types, update_code, keeping_code, params_of, params_code, place_behind, access_code, option_labels, option_code, expr_labels, expr_code, node_code, args_code}
 use Rattle.ec_lower_code.proofs.Operations.{number_value, value_number, type_back, AreUpdateTypes, update_known, words_of, update_pays, step_known, step_arithmetic, step_pays}
 use Rattle.ec_lower_code.proofs.Updates.{compound_same, updated_value, held_ok, stored_value, update_runs}
 use Rattle.ec_lower_code.proofs.Keeps.{step_back, kept_value, keep_runs}
-use Rattle.ec_lower_code.specs.Parts.{IsNumeric, IsNumericOrVoid, IsExpr, IsNode, AreExprs}
+use Rattle.ec_lower_code.specs.Parts.{IsNumeric, IsNumericOrVoid, IsExpr, IsNode, IsOptionExpr, AreExprs}
 use Rattle.ec_lower_code.proofs.Callees.{IsOther}
-use Rattle.ec_lower_code.proofs.Behind.{expr_behind}
+use Rattle.ec_lower_code.proofs.Behind.{expr_behind, operand_behind}
 use Rattle.ec_lower_code.proofs.Numbers.{value_of_type}
 use Rattle.ec_lower_code.proofs.Ops.{to_rest, Below, HasValue, HasTest, constant_runs, label_comes, jumps, branch_on, branch_off, unary_runs, conversion_runs, binary_runs, test_runs, branches, read_runs, write_runs}
 use Rattle.ec_lower_code.proofs.Pays.{simple_pays, unary_pays, binary_pays, conversion_pays, not_pays, and_pays, choice_pays}
-use Rattle.ec_lower_code.proofs.Scene.{World, homes, set, calls_to, spot, law, apart, AreHeld, Scene}
+use Rattle.ec_lower_code.proofs.PortNodes.{access_runs, group_runs}
+use Rattle.ec_lower_code.proofs.PortRuns.{IsHeld, held_kept}
+use Rattle.ec_lower_code.proofs.Tables.{port_operated, group_pairs}
+use Rattle.ec_lower_code.proofs.Scene.{World, ports, homes, set, calls_to, spot, law, apart, AreHeld, Scene}
 use Rattle.ec_lower_code.proofs.Shown.{held_of, Match}
 use Rattle.ec_lower_code.proofs.Steps.{Target, at, Stands, behind, Spot, here, Comes, Runs, stays, after, fewer, bind, onward, credited, spent_on, less}
 
@@ -179,6 +184,13 @@ module _ (wd : World) (sc : Scene wd) where
     pub test : HasTest W ty t d b h s u
     pub state : IsTypedState wd.program s
 
+  -- an operand that may be absent, at t
+  pub record HasOperand (e : OptionPlainExpr) (t d : ℕ) (b : Temps) (v : Value) (s : State) (u : Mach) : Type 0 where
+    pub match : Match (homes wd) d s u
+    pub held : IsHeld W wd.program e v t u.temps
+    pub same : Below W t b u
+    pub state : IsTypedState wd.program s
+
   -- arguments from t on
   pub record HasArguments (es : PlainExprs) (t d : ℕ) (b : Temps) (vs : List Value) (s : State) (u : Mach) : Type 0 where
     pub match : Match (homes wd) d s u
@@ -260,25 +272,25 @@ module _ (wd : World) (sc : Scene wd) where
   -- ---- assignments and calls, from the values of their parts
 
   assign_runs : (n : ℕ) (ty : PlainType) (mode : Mode) (o : ℕ) (a : PlainExpr) (l t d : ℕ) (b : Temps) (s : State) (m : Mach) (rest : List PlainIr) → IsTyped wd.program wd.io ty (assign (object o) a)
-      → Goes n (expr_code wd.program a l t (store_object o 0 (temp t ty) ∷ rest)) m (on_to (store_object o 0 (temp t ty) ∷ rest)) (Has (type_of_expr a) t (d + Row ty (assign (object o) a)) b) (value a s)
-      → Goes n (node_code wd.program ty mode (assign (object o) a) l t rest) m (on_to rest) (HasValue W ty t d b) (node_value (set wd) (calls_to wd sc.depth) ty mode (assign (object o) a) s)
+      → Goes n (expr_code wd.program (ports wd) a l t (store_object o 0 (temp t ty) ∷ rest)) m (on_to (store_object o 0 (temp t ty) ∷ rest)) (Has (type_of_expr a) t (d + Row ty (assign (object o) a)) b) (value a s)
+      → Goes n (node_code wd.program (ports wd) ty mode (assign (object o) a) l t rest) m (on_to rest) (HasValue W ty t d b) (node_value (set wd) (calls_to wd sc.depth) ty mode (assign (object o) a) s)
   assign_runs n ty mode o a l t d b s m rest tp g = by_place (pointer_to o s) refl
     where
-      by_place : (q : PointerValue) → pointer_to o s ≡ q → Goes n (expr_code wd.program a l t (store_object o 0 (temp t ty) ∷ rest)) m (on_to rest) (HasValue W ty t d b) (next (object_place q s) (λ at s1. next (value a s1) (λ x s2. write (accessed (set wd) ty (object o) at s2) x s2)))
+      by_place : (q : PointerValue) → pointer_to o s ≡ q → Goes n (expr_code wd.program (ports wd) a l t (store_object o 0 (temp t ty) ∷ rest)) m (on_to rest) (HasValue W ty t d b) (next (object_place q s) (λ at s1. next (value a s1) (λ x s2. write (accessed (set wd) ty (object o) at s2) x s2)))
       by_place None f = tt
       by_place (Some q) f =
           let e = d + Row ty (assign (object o) a) in
           let i = store_object o 0 (temp t ty) in
           let pays = simple_pays (scalar_size ty) (max (scalar_size (type_of_expr a)) 1) in
-          bind W n (here W (expr_code wd.program a l t (i ∷ rest))) m (on_to (i ∷ rest)) (Has (type_of_expr a) t e b) (on_to rest) (HasValue W ty t d b) (here W (i ∷ rest)) (value a s) _ (λ z. refl) g
+          bind W n (here W (expr_code wd.program (ports wd) a l t (i ∷ rest))) m (on_to (i ∷ rest)) (Has (type_of_expr a) t e b) (on_to rest) (HasValue W ty t d b) (here W (i ∷ rest)) (value a s) _ (λ z. refl) g
           (λ x s1 u r. write_runs W (apart wd) n t d e b ty o s s1 u x rest tp.0.0 (value_of_type wd.program ty x (subst (λ (z : PlainType). HasType wd.program z x) tp.1 r.typed)) (omega (arith, pays)) (subst (λ (z : PlainType). HasValue W z t e b x s1 u) tp.1 r.has) (accessed (set wd) ty (object o) (Some q) s1) (ap (λ z. access wd.program ty (place_space wd.program (object o)) z s1) f))
 
   -- a call within its row, from its arguments
   call_runs : (n : ℕ) (ty : PlainType) (mode : Mode) (f : ℕ) (args : PlainExprs) (l t d : ℕ) (b : Temps) (s : State) (m : Mach) (rest : List PlainIr) → n ≤ wd.n → IsOther wd.program f → IsTyped wd.program wd.io ty (call f args)
-      → Goes n (args_code wd.program args l t (params_code (params_of wd.program f) args t (call_function f (result_temp t ty) ∷ rest))) m (on_to (params_code (params_of wd.program f) args t (call_function f (result_temp t ty) ∷ rest))) (HasArguments args t (d + Row ty (call f args)) b) (values_of (set wd) (calls_to wd sc.depth) args s)
-      → Goes n (node_code wd.program ty mode (call f args) l t rest) m (on_to rest) (HasValue W ty t d b) (node_value (set wd) (calls_to wd sc.depth) ty mode (call f args) s)
+      → Goes n (args_code wd.program (ports wd) args l t (params_code (params_of wd.program f) args t (call_function f (result_temp t ty) ∷ rest))) m (on_to (params_code (params_of wd.program f) args t (call_function f (result_temp t ty) ∷ rest))) (HasArguments args t (d + Row ty (call f args)) b) (values_of (set wd) (calls_to wd sc.depth) args s)
+      → Goes n (node_code wd.program (ports wd) ty mode (call f args) l t rest) m (on_to rest) (HasValue W ty t d b) (node_value (set wd) (calls_to wd sc.depth) ty mode (call f args) s)
   call_runs n ty mode f args l t d b s m rest le other tp r0 =
-      bind W n (here W (args_code wd.program args l t calling)) m (on_to calling) (HasArguments args t e b) (on_to rest) (HasValue W ty t d b) (here W calling) (values_of (set wd) (calls_to wd sc.depth) args s) _ (λ z. refl) r0
+      bind W n (here W (args_code wd.program (ports wd) args l t calling)) m (on_to calling) (HasArguments args t e b) (on_to rest) (HasValue W ty t d b) (here W calling) (values_of (set wd) (calls_to wd sc.depth) args s) _ (λ z. refl) r0
       (λ xs s1 u q. fewer W (on_to rest) (HasValue W ty t d b) wd.n n (here W calling) u (calls_to wd sc.depth f xs s1) le
       (renamed u xs s1 (λ d1 h. sc.callee f g.0 g.1 other sc.code sc.stack args xs t d b rest s1 u g.2.1 q.held h q.state q.same) q.match))
     where
@@ -305,9 +317,9 @@ module _ (wd : World) (sc : Scene wd) where
   -- ---- compound assignments and steps
 
   compound_runs : (n : ℕ) (ty : PlainType) (mode : Mode) (op : BinOp) (own : Mode) (o : ℕ) (a : PlainExpr) (l t d : ℕ) (b : Temps) (s : State) (m : Mach) (rest : List PlainIr) → IsNumericOrVoid ty → IsNumericOrVoid (type_of_expr a) → IsExprType wd.program (type_of_expr a) → IsTyped wd.program wd.io ty (compound op own (object o) a) → IsTypedState wd.program s
-      → ((e : ℕ) (s1 : State) (u : Mach) → IsTypedState wd.program s1 → Match (homes wd) e s1 u → Goes n (expr_code wd.program a l (t + 1) (update_code op (update_types op (number_type ty) (number_type (type_of_expr a))) own mode ty o t (type_of_expr a) rest)) u (on_to (update_code op (update_types op (number_type ty) (number_type (type_of_expr a))) own mode ty o t (type_of_expr a) rest)) (Has (type_of_expr a) (t + 1) e u.temps) (value a s1))
+      → ((e : ℕ) (s1 : State) (u : Mach) → IsTypedState wd.program s1 → Match (homes wd) e s1 u → Goes n (expr_code wd.program (ports wd) a l (t + 1) (update_code op (update_types op (number_type ty) (number_type (type_of_expr a))) own mode ty o t (type_of_expr a) rest)) u (on_to (update_code op (update_types op (number_type ty) (number_type (type_of_expr a))) own mode ty o t (type_of_expr a) rest)) (Has (type_of_expr a) (t + 1) e u.temps) (value a s1))
       → Match (homes wd) (d + Row ty (compound op own (object o) a)) s m → Below W t b m
-      → Goes n (node_code wd.program ty mode (compound op own (object o) a) l t rest) m (on_to rest) (HasValue W ty t d b) (node_value (set wd) (calls_to wd sc.depth) ty mode (compound op own (object o) a) s)
+      → Goes n (node_code wd.program (ports wd) ty mode (compound op own (object o) a) l t rest) m (on_to rest) (HasValue W ty t d b) (node_value (set wd) (calls_to wd sc.depth) ty mode (compound op own (object o) a) s)
   compound_runs n ty mode op own o a l t d b s m rest num anum aknown tp st right h same = by_place (pointer_to o s) refl
     where
       ts : OperationTypes
@@ -335,11 +347,11 @@ module _ (wd : World) (sc : Scene wd) where
           (subst (λ r. Goes n tail u (on_to rest) (HasValue W ty t d b) (stored_value wd sc.code sc.stack n op ts own mode known ty (type_of_expr a) o t d b s q f rest facts.0 facts.1 tp.0.0 facts.2 (as_number r) s2)) (sym (compound_same op own mode (number_type ty) (number_type (type_of_expr a)) x0.0 y0.0 facts.3 x0.2 y0.2))
           (update_runs wd sc.code sc.stack n op ts own mode known ty (type_of_expr a) o t d b s q f rest facts.0 facts.1 tp.0.0 facts.2 (brought ts.left own (number_type ty) x0.0) x0.0 y0.0 s2 u e (omega arith) (value_number ty x0.0 facts.0 x0.2) (value_number (type_of_expr a) y0.0 facts.1 y0.2) h1 (ho ∙ ap (λ z. Some (held_of ty z)) x0.1) (hy ∙ ap (λ z. Some (held_of (type_of_expr a) z)) y0.1) below refl)))
 
-      by_place : (q : PointerValue) → pointer_to o s ≡ q → Goes n (load_object (temp t ty) o 0 ∷ expr_code wd.program a l (t + 1) tail) m (on_to rest) (HasValue W ty t d b) (next (object_place q s) (λ at s1. next (read wd.program (accessed (set wd) ty (object o) at s1) s1) (λ old s2. next (value a s2) (λ y s3. updated_place (set wd) (compound_update op own ty mode (object o)) at old (type_of_expr a) y s3))))
+      by_place : (q : PointerValue) → pointer_to o s ≡ q → Goes n (load_object (temp t ty) o 0 ∷ expr_code wd.program (ports wd) a l (t + 1) tail) m (on_to rest) (HasValue W ty t d b) (next (object_place q s) (λ at s1. next (read wd.program (accessed (set wd) ty (object o) at s1) s1) (λ old s2. next (value a s2) (λ y s3. updated_place (set wd) (compound_update op own ty mode (object o)) at old (type_of_expr a) y s3))))
       by_place None f = tt
       by_place (Some q) f =
           let pays = update_row op ty (type_of_expr a) facts.0 facts.1 facts.3 in
-          let inner = expr_code wd.program a l (t + 1) tail in
+          let inner = expr_code wd.program (ports wd) a l (t + 1) tail in
           bind W n (here W (load_object (temp t ty) o 0 ∷ inner)) m (on_to inner) (Has ty t e b) (on_to rest) (HasValue W ty t d b) (here W inner) (read wd.program (accessed (set wd) ty (object o) (Some q) s) s) _ (λ z. refl)
           (typed_runs n (load_object (temp t ty) o 0 ∷ inner) m (on_to inner) ty t e b (read wd.program (accessed (set wd) ty (object o) (Some q) s) s) ((law wd).states.read ty (place_space wd.program (object o)) (Some q) s st)
           (read_runs W (apart wd) n t e (d + Row ty (compound op own (object o) a)) b ty o s s m inner (omega (arith, pays)) h same (accessed (set wd) ty (object o) (Some q) s) (ap (λ z. access wd.program ty (place_space wd.program (object o)) z s) f)))
@@ -349,7 +361,7 @@ module _ (wd : World) (sc : Scene wd) where
 
   prefix_runs : (n : ℕ) (ty : PlainType) (mode : Mode) (up : Bool) (o : ℕ) (l t d : ℕ) (b : Temps) (s : State) (m : Mach) (rest : List PlainIr) → IsNumericOrVoid ty → IsTyped wd.program wd.io ty (step up true (object o)) → IsTypedState wd.program s
       → Match (homes wd) (d + Row ty (step up true (object o))) s m → Below W t b m
-      → Goes n (node_code wd.program ty mode (step up true (object o)) l t rest) m (on_to rest) (HasValue W ty t d b) (node_value (set wd) (calls_to wd sc.depth) ty mode (step up true (object o)) s)
+      → Goes n (node_code wd.program (ports wd) ty mode (step up true (object o)) l t rest) m (on_to rest) (HasValue W ty t d b) (node_value (set wd) (calls_to wd sc.depth) ty mode (step up true (object o)) s)
   prefix_runs n ty mode up o l t d b s m rest kind tp st h same = by_place (pointer_to o s) refl
     where
       op : BinOp
@@ -398,7 +410,7 @@ module _ (wd : World) (sc : Scene wd) where
 
   postfix_runs : (n : ℕ) (ty : PlainType) (mode : Mode) (up : Bool) (o : ℕ) (l t d : ℕ) (b : Temps) (s : State) (m : Mach) (rest : List PlainIr) → IsNumericOrVoid ty → IsTyped wd.program wd.io ty (step up false (object o)) → IsTypedState wd.program s
       → Match (homes wd) (d + Row ty (step up false (object o))) s m → Below W t b m
-      → Goes n (node_code wd.program ty mode (step up false (object o)) l t rest) m (on_to rest) (HasValue W ty t d b) (node_value (set wd) (calls_to wd sc.depth) ty mode (step up false (object o)) s)
+      → Goes n (node_code wd.program (ports wd) ty mode (step up false (object o)) l t rest) m (on_to rest) (HasValue W ty t d b) (node_value (set wd) (calls_to wd sc.depth) ty mode (step up false (object o)) s)
   postfix_runs n ty mode up o l t d b s m rest kind tp st h same = by_place (pointer_to o s) refl
     where
       op : BinOp
@@ -452,18 +464,47 @@ module _ (wd : World) (sc : Scene wd) where
               after W (on_to rest) (HasValue W ty t d b) n (here W (constant (temp (t + 1) int) (pos 1) ∷ tail)) (here W tail) u z.0 _ z.2
               (updates (Some q) f old s1 z.0 r.typed z.1.match (z.1.same t (omega arith) ∙ r.has.value tp.0) (z.1.value (inr (inl refl))) (λ i lt. z.1.same i (omega (arith, lt)) ∙ r.has.same i lt))
 
+  -- ---- operands that may be absent
+
+  -- the value of an operand
+  operand_has : (n : ℕ) (q : List PlainIr) (m : Mach) (rest : List PlainIr) (e : PlainExpr) (t d : ℕ) (b : Temps) (o : Outcome Value)
+      → Goes n q m (on_to rest) (Has (type_of_expr e) t d b) o → Goes n q m (on_to rest) (HasOperand (an_expr e) t d b) o
+  operand_has n q m rest e t d b (got v s) r = (
+    r.0,
+    record {
+      match = r.1.has.match;
+      held = (r.1.has.value, r.1.typed);
+      same = r.1.has.same;
+      state = r.1.state;
+    },
+    r.2,
+  )
+  operand_has n q m rest e t d b (more s) r = r
+  operand_has n q m rest e t d b (undefined point s) r = tt
+
+  -- the second one leaves the first, and what is below it
+  index_kept : (i : OptionPlainExpr) (x : Value) (t : ℕ) (temps : Temps) (u : Mach) → Below W (place_behind i t) temps u
+      → IsHeld W wd.program i x t temps → IsHeld W wd.program i x t u.temps
+  index_kept no_expr x t temps u same h = h
+  index_kept (an_expr e) x t temps u same h = held_kept W wd.program (an_expr e) x t temps u.temps (same t (omega arith)) h
+
+  below_kept : (i : OptionPlainExpr) (t : ℕ) (b : Temps) (u u2 : Mach) → Below W (place_behind i t) u.temps u2 → Below W t b u
+      → Below W t b u2
+  below_kept no_expr t b u u2 same h = λ j lt. same j lt ∙ h j lt
+  below_kept (an_expr e) t b u u2 same h = λ j lt. same j (omega (arith, lt)) ∙ h j lt
+
   -- ---- expressions
 
   mutual
-    pub expr_runs : (n : ℕ) (e : PlainExpr) (l t d : ℕ) (b : Temps) (s : State) (m : Mach) (rest : List PlainIr) → n ≤ wd.n → IsExpr IsNumericOrVoid (IsOther wd.program) e → ValidExpr wd.program wd.io sc.f e → IsTypedState wd.program s → Stands sc.code (expr_code wd.program e l t rest) → Match (homes wd) d s m → Below W t b m
-        → Goes n (expr_code wd.program e l t rest) m (on_to rest) (Has (type_of_expr e) t d b) (value e s)
+    pub expr_runs : (n : ℕ) (e : PlainExpr) (l t d : ℕ) (b : Temps) (s : State) (m : Mach) (rest : List PlainIr) → n ≤ wd.n → IsExpr IsNumericOrVoid (IsOther wd.program) e → ValidExpr wd.program wd.io sc.f e → IsTypedState wd.program s → Stands sc.code (expr_code wd.program (ports wd) e l t rest) → Match (homes wd) d s m → Below W t b m
+        → Goes n (expr_code wd.program (ports wd) e l t rest) m (on_to rest) (Has (type_of_expr e) t d b) (value e s)
     expr_runs n (expression ty mode node) l t d b s m rest le p v st stands h same =
-        typed_runs n (node_code wd.program ty mode node l t rest) m (on_to rest) ty t d b (value (expression ty mode node) s) ((law wd).expressions wd.n sc.depth sc.f (expression ty mode node) s v st)
+        typed_runs n (node_code wd.program (ports wd) ty mode node l t rest) m (on_to rest) ty t d b (value (expression ty mode node) s) ((law wd).expressions wd.n sc.depth sc.f (expression ty mode node) s v st)
         (node_runs n ty mode node l t d b (worked (Row ty node) s) m rest le p.0 p.1 v.0 v.1 v.2 st stands (credited (homes wd) (Row ty node) d s m h) same)
 
     node_runs : (n : ℕ) (ty : PlainType) (mode : Mode) (node : PlainNode) (l t d : ℕ) (b : Temps) (s : State) (m : Mach) (rest : List PlainIr) → n ≤ wd.n → IsNumericOrVoid ty → IsNode IsNumericOrVoid (IsOther wd.program) node → IsExprType wd.program ty → IsTyped wd.program wd.io ty node → ValidParts wd.program wd.io sc.f node → IsTypedState wd.program s
-        → Stands sc.code (node_code wd.program ty mode node l t rest) → Match (homes wd) (d + Row ty node) s m → Below W t b m
-        → Goes n (node_code wd.program ty mode node l t rest) m (on_to rest) (HasValue W ty t d b) (node_value (set wd) (calls_to wd sc.depth) ty mode node s)
+        → Stands sc.code (node_code wd.program (ports wd) ty mode node l t rest) → Match (homes wd) (d + Row ty node) s m → Below W t b m
+        → Goes n (node_code wd.program (ports wd) ty mode node l t rest) m (on_to rest) (HasValue W ty t d b) (node_value (set wd) (calls_to wd sc.depth) ty mode node s)
     node_runs n ty mode (number x) l t d b s m rest le num p k tp v st stands h same =
         let pays = simple_pays (scalar_size ty) 1 in constant_runs W n t d (d + Row ty (number x)) b ty x s m rest (omega (arith, pays)) h same
     node_runs n ty mode null l t d b s m rest le num p k tp v st stands h same = absurd p
@@ -482,19 +523,19 @@ module _ (wd : World) (sc : Scene wd) where
         let pays = unary_pays (scalar_size ty) (max (scalar_size (type_of_expr a)) 1) in
         let e = d + Row ty (unary op a) in
         let sc1 = arithmetic_scalar wd.program ty _ k tp.1 in
-        bind W n (here W (expr_code wd.program a l t (i ∷ rest))) m (on_to (i ∷ rest)) (Has (type_of_expr a) t e b) (on_to rest) (HasValue W ty t d b) (here W (i ∷ rest)) (value a s) _ (λ z. refl)
+        bind W n (here W (expr_code wd.program (ports wd) a l t (i ∷ rest))) m (on_to (i ∷ rest)) (Has (type_of_expr a) t e b) (on_to rest) (HasValue W ty t d b) (here W (i ∷ rest)) (value a s) _ (λ z. refl)
         (expr_runs n a l t e b s m (i ∷ rest) le p v st stands h same)
         (λ x s1 u r. unary_runs W n t d e b op ty mode x s1 u rest sc1 (value_of_type wd.program ty x (subst (λ (z : PlainType). HasType wd.program z x) tp.0 r.typed)) (omega (arith, pays)) (subst (λ (z : PlainType). HasValue W z t e b x s1 u) tp.0 r.has) (unary_result op ty mode x) refl)
     node_runs n ty mode (binary op a c) l t d b s m rest le num p k tp v st stands h same =
         let e = d + Row ty (binary op a c) in
         let i = binary_op op ty mode (temp t ty) (temp t (type_of_expr a)) (type_of_expr a) (temp (t + 1) (type_of_expr c)) (type_of_expr c) in
         let pays = binary_pays op ty (type_of_expr a) (type_of_expr c) in
-        let next_code = expr_code wd.program c (l + expr_labels a) (t + 1) (i ∷ rest) in
+        let next_code = expr_code wd.program (ports wd) c (l + expr_labels a) (t + 1) (i ∷ rest) in
         let sides = binary_scalars wd.program op ty (type_of_expr a) (type_of_expr c) (type_kind (IsOther wd.program) a p.0) (type_kind (IsOther wd.program) c p.1) (type_known wd.program wd.io sc.f a v.0) (type_known wd.program wd.io sc.f c v.1) tp in
-        bind W n (here W (expr_code wd.program a l t next_code)) m (on_to next_code) (Has (type_of_expr a) t e b) (on_to rest) (HasValue W ty t d b) (here W next_code) (value a s) _ (λ z. refl)
+        bind W n (here W (expr_code wd.program (ports wd) a l t next_code)) m (on_to next_code) (Has (type_of_expr a) t e b) (on_to rest) (HasValue W ty t d b) (here W next_code) (value a s) _ (λ z. refl)
         (expr_runs n a l t e b s m next_code le p.0 v.0 st stands h same)
         (λ x s1 u r. bind W n (here W next_code) u (on_to (i ∷ rest)) (Has (type_of_expr c) (t + 1) e u.temps) (on_to rest) (HasValue W ty t d b) (here W (i ∷ rest)) (value c s1) _ (λ z. refl)
-        (expr_runs n c (l + expr_labels a) (t + 1) e u.temps s1 u (i ∷ rest) le p.1 v.1 r.state (expr_behind wd.program sc.code a l t next_code stands) r.has.match (λ j lt. refl))
+        (expr_runs n c (l + expr_labels a) (t + 1) e u.temps s1 u (i ∷ rest) le p.1 v.1 r.state (expr_behind wd.program (ports wd) sc.code a l t next_code stands) r.has.match (λ j lt. refl))
         (λ y s2 u2 q. binary_runs W n t d e b op ty mode (type_of_expr a) (type_of_expr c) x y s2 u2 rest sides.0 (value_of_type wd.program (type_of_expr a) x r.typed) sides.1 (value_of_type wd.program (type_of_expr c) y q.typed) (omega (arith, pays)) q.has.match (q.has.same t (omega arith) ∙ r.has.value sides.0) (q.has.value sides.1)
         (λ j lt. q.has.same j (omega (arith, lt)) ∙ r.has.same j lt) (binary_result op ty mode (operand_of wd.program (type_of_expr a) x s2) (operand_of wd.program (type_of_expr c) y s2)) refl))
     node_runs n ty mode (convert a) l t d b s m rest le num p k tp v st stands h same =
@@ -502,7 +543,7 @@ module _ (wd : World) (sc : Scene wd) where
         let i = conversion (temp t ty) ty mode (temp t (type_of_expr a)) (type_of_expr a) in
         let pays = conversion_pays ty (type_of_expr a) in
         let sc1 = converted_scalar wd.program ty (type_of_expr a) (type_kind (IsOther wd.program) a p) (type_known wd.program wd.io sc.f a v) tp.0 tp.1 in
-        bind W n (here W (expr_code wd.program a l t (i ∷ rest))) m (on_to (i ∷ rest)) (Has (type_of_expr a) t e b) (on_to rest) (HasValue W ty t d b) (here W (i ∷ rest)) (value a s) _ (λ z. refl)
+        bind W n (here W (expr_code wd.program (ports wd) a l t (i ∷ rest))) m (on_to (i ∷ rest)) (Has (type_of_expr a) t e b) (on_to rest) (HasValue W ty t d b) (here W (i ∷ rest)) (value a s) _ (λ z. refl)
         (expr_runs n a l t e b s m (i ∷ rest) le p v st stands h same)
         (λ x s1 u r. conversion_runs W n t d e b ty mode (type_of_expr a) x s1 u rest sc1 (value_of_type wd.program (type_of_expr a) x r.typed) (omega (arith, pays)) r.has (conversion_result ty mode (operand_of wd.program (type_of_expr a) x s1)) refl)
     node_runs n ty mode (assign (object o) a) l t d b s m rest le num p k tp v st stands h same =
@@ -524,10 +565,10 @@ module _ (wd : World) (sc : Scene wd) where
         let i = branch_zero (temp t (type_of_expr a)) l in
         let tail = truth_code false ty l t rest in
         let pays = not_pays (scalar_size ty) (scalar_size (type_of_expr a)) (ap scalar_size tp.1) in
-        let inner = expr_behind wd.program sc.code a (l + 2) t (i ∷ tail) stands in
+        let inner = expr_behind wd.program (ports wd) sc.code a (l + 2) t (i ∷ tail) stands in
         let other = sc.resolves l (off_code false ty l t rest) (behind sc.code _ _ (behind sc.code _ _ (behind sc.code _ _ inner))) in
-        bind W n (here W (expr_code wd.program a (l + 2) t (i ∷ tail))) m (on_to (i ∷ tail)) (Tests (type_of_expr a) t e b) (on_to rest) (HasValue W ty t d b) (here W (i ∷ tail)) (condition (set wd) a (value a s)) _ (λ z. refl)
-        (tests n t e b a s (expr_code wd.program a (l + 2) t (i ∷ tail)) (i ∷ tail) m tp.0 (expr_runs n a (l + 2) t e b s m (i ∷ tail) le p v st stands h same))
+        bind W n (here W (expr_code wd.program (ports wd) a (l + 2) t (i ∷ tail))) m (on_to (i ∷ tail)) (Tests (type_of_expr a) t e b) (on_to rest) (HasValue W ty t d b) (here W (i ∷ tail)) (condition (set wd) a (value a s)) _ (λ z. refl)
+        (tests n t e b a s (expr_code wd.program (ports wd) a (l + 2) t (i ∷ tail)) (i ∷ tail) m tp.0 (expr_runs n a (l + 2) t e b s m (i ∷ tail) le p v st stands h same))
         (λ c s1 u r. subst (λ (z : Bool). Goes n (i ∷ tail) u (on_to rest) (HasValue W ty t d b) (got (Number (truth z)) s1)) (denied c)
         (settled false c n t d (d + (5 * scalar_size ty + 5)) e b ty (type_of_expr a) l s1 u tail rest (λ z. stays W (here W tail) z) (behind sc.code _ _ inner) other (omega (arith, pays)) (omega arith) r.test))
     node_runs n ty mode (logical_and a c) l t d b s m rest le num p k tp v st stands h same =
@@ -535,15 +576,15 @@ module _ (wd : World) (sc : Scene wd) where
         let i = branch_zero (temp t (type_of_expr a)) l in
         let j = branch_zero (temp t (type_of_expr c)) l in
         let tail = truth_code true ty l t rest in
-        let next_code = expr_code wd.program c (l + 2 + expr_labels a) t (j ∷ tail) in
+        let next_code = expr_code wd.program (ports wd) c (l + 2 + expr_labels a) t (j ∷ tail) in
         let pays = and_pays (scalar_size ty) (scalar_size (type_of_expr a)) (scalar_size (type_of_expr c)) (ap scalar_size tp.2) in
-        let first = behind sc.code _ _ (expr_behind wd.program sc.code a (l + 2) t (i ∷ next_code) stands) in
-        let inner = behind sc.code _ _ (expr_behind wd.program sc.code c (l + 2 + expr_labels a) t (j ∷ tail) first) in
+        let first = behind sc.code _ _ (expr_behind wd.program (ports wd) sc.code a (l + 2) t (i ∷ next_code) stands) in
+        let inner = behind sc.code _ _ (expr_behind wd.program (ports wd) sc.code c (l + 2 + expr_labels a) t (j ∷ tail) first) in
         let other = sc.resolves l (off_code true ty l t rest) (behind sc.code _ _ (behind sc.code _ _ inner)) in
         let f = d + (5 * scalar_size ty + 5) in
         let g = f + branch_zero_words (scalar_size (type_of_expr c)) in
-        bind W n (here W (expr_code wd.program a (l + 2) t (i ∷ next_code))) m (on_to (i ∷ next_code)) (Tests (type_of_expr a) t e b) (on_to rest) (HasValue W ty t d b) (here W (i ∷ next_code)) (condition (set wd) a (value a s)) _ (λ z. refl)
-        (tests n t e b a s (expr_code wd.program a (l + 2) t (i ∷ next_code)) (i ∷ next_code) m tp.0 (expr_runs n a (l + 2) t e b s m (i ∷ next_code) le p.0 v.0 st stands h same))
+        bind W n (here W (expr_code wd.program (ports wd) a (l + 2) t (i ∷ next_code))) m (on_to (i ∷ next_code)) (Tests (type_of_expr a) t e b) (on_to rest) (HasValue W ty t d b) (here W (i ∷ next_code)) (condition (set wd) a (value a s)) _ (λ z. refl)
+        (tests n t e b a s (expr_code wd.program (ports wd) a (l + 2) t (i ∷ next_code)) (i ∷ next_code) m tp.0 (expr_runs n a (l + 2) t e b s m (i ∷ next_code) le p.0 v.0 st stands h same))
         (λ x s1 u r. branches W n t g e b (type_of_expr a) l next_code (off_code true ty l t rest) (on_to rest) (HasValue W ty t d b) x (λ s2. truth_value (condition (set wd) c (value c s2))) (λ s2. got (Number (truth false)) s2) s1 u other (omega (arith, pays)) r.test
         (λ u1 h1 below. bind W n (here W next_code) u1 (on_to (j ∷ tail)) (Tests (type_of_expr c) t g b) (on_to rest) (HasValue W ty t d b) (here W (j ∷ tail)) (condition (set wd) c (value c s1)) _ (λ z. refl)
         (tests n t g b c s1 next_code (j ∷ tail) u1 tp.1 (expr_runs n c (l + 2 + expr_labels a) t g b s1 u1 (j ∷ tail) le p.1 v.1 r.state first h1 below))
@@ -555,18 +596,18 @@ module _ (wd : World) (sc : Scene wd) where
         let i = branch_zero (temp t (type_of_expr a)) (l + 2) in
         let j = branch_zero (temp t (type_of_expr c)) l in
         let tail = truth_code true ty l t rest in
-        let next_code = expr_code wd.program c (l + 4 + expr_labels a) t (j ∷ label (l + 3) ∷ tail) in
+        let next_code = expr_code wd.program (ports wd) c (l + 4 + expr_labels a) t (j ∷ label (l + 3) ∷ tail) in
         let skip_code : List PlainIr = jump (l + 3) ∷ label (l + 2) ∷ next_code in
         let pays = and_pays (scalar_size ty) (scalar_size (type_of_expr a)) (scalar_size (type_of_expr c)) (ap scalar_size tp.2) in
-        let first = behind sc.code _ _ (behind sc.code _ _ (expr_behind wd.program sc.code a (l + 4) t (i ∷ skip_code) stands)) in
+        let first = behind sc.code _ _ (behind sc.code _ _ (expr_behind wd.program (ports wd) sc.code a (l + 4) t (i ∷ skip_code) stands)) in
         let next_at = behind sc.code _ _ first in
-        let inner = behind sc.code _ _ (expr_behind wd.program sc.code c (l + 4 + expr_labels a) t (j ∷ label (l + 3) ∷ tail) next_at) in
+        let inner = behind sc.code _ _ (expr_behind wd.program (ports wd) sc.code c (l + 4 + expr_labels a) t (j ∷ label (l + 3) ∷ tail) next_at) in
         let tail_at = behind sc.code _ _ inner in
         let other = sc.resolves l (off_code true ty l t rest) (behind sc.code _ _ (behind sc.code _ _ tail_at)) in
         let f = d + (5 * scalar_size ty + 5) in
         let g = d + (branch_zero_words (scalar_size (type_of_expr c)) + (5 * scalar_size ty + 10)) in
-        bind W n (here W (expr_code wd.program a (l + 4) t (i ∷ skip_code))) m (on_to (i ∷ skip_code)) (Tests (type_of_expr a) t e b) (on_to rest) (HasValue W ty t d b) (here W (i ∷ skip_code)) (condition (set wd) a (value a s)) _ (λ z. refl)
-        (tests n t e b a s (expr_code wd.program a (l + 4) t (i ∷ skip_code)) (i ∷ skip_code) m tp.0 (expr_runs n a (l + 4) t e b s m (i ∷ skip_code) le p.0 v.0 st stands h same))
+        bind W n (here W (expr_code wd.program (ports wd) a (l + 4) t (i ∷ skip_code))) m (on_to (i ∷ skip_code)) (Tests (type_of_expr a) t e b) (on_to rest) (HasValue W ty t d b) (here W (i ∷ skip_code)) (condition (set wd) a (value a s)) _ (λ z. refl)
+        (tests n t e b a s (expr_code wd.program (ports wd) a (l + 4) t (i ∷ skip_code)) (i ∷ skip_code) m tp.0 (expr_runs n a (l + 4) t e b s m (i ∷ skip_code) le p.0 v.0 st stands h same))
         (λ x s1 u r. branches W n t g e b (type_of_expr a) (l + 2) skip_code next_code (on_to rest) (HasValue W ty t d b) x (λ s2. got (Number (truth true)) s2) (λ s2. truth_value (condition (set wd) c (value c s2))) s1 u (sc.resolves (l + 2) next_code first) (omega (arith, pays)) r.test
         (λ u1 h1 below. after W (on_to rest) (HasValue W ty t d b) n (here W skip_code) (here W tail) u1 _ (got (Number (truth true)) s1) (jumps W (l + 3) (label (l + 2) ∷ next_code) tail u1 (sc.resolves (l + 3) tail inner))
         (truth_on n t d f b true ty l s1 (machine u1.temps (worked (op_steps (jump (l + 3))) u1.state)) rest tail_at (omega arith) (spent_on (homes wd) g f (jump (l + 3)) u1.temps s1 u1 (omega arith) h1) below))
@@ -577,16 +618,16 @@ module _ (wd : World) (sc : Scene wd) where
     node_runs n ty mode (conditional c a a2) l t d b s m rest le num p k tp v st stands h same =
         let e = d + Row ty (conditional c a a2) in
         let i = branch_zero (temp t (type_of_expr c)) l in
-        let other_code = expr_code wd.program a2 (l + 2 + expr_labels c + expr_labels a) t (label (l + 1) ∷ rest) in
-        let then_code = expr_code wd.program a (l + 2 + expr_labels c) t (jump (l + 1) ∷ label l ∷ other_code) in
+        let other_code = expr_code wd.program (ports wd) a2 (l + 2 + expr_labels c + expr_labels a) t (label (l + 1) ∷ rest) in
+        let then_code = expr_code wd.program (ports wd) a (l + 2 + expr_labels c) t (jump (l + 1) ∷ label l ∷ other_code) in
         let pays = choice_pays (scalar_size ty) (scalar_size (type_of_expr c)) (scalar_size (type_of_expr a)) (scalar_size (type_of_expr a2)) in
-        let then_at = behind sc.code _ _ (expr_behind wd.program sc.code c (l + 2) t (i ∷ then_code) stands) in
-        let then_end = expr_behind wd.program sc.code a (l + 2 + expr_labels c) t (jump (l + 1) ∷ label l ∷ other_code) then_at in
+        let then_at = behind sc.code _ _ (expr_behind wd.program (ports wd) sc.code c (l + 2) t (i ∷ then_code) stands) in
+        let then_end = expr_behind wd.program (ports wd) sc.code a (l + 2 + expr_labels c) t (jump (l + 1) ∷ label l ∷ other_code) then_at in
         let other_at = behind sc.code _ _ (behind sc.code _ _ then_end) in
         let other = sc.resolves l other_code (behind sc.code _ _ then_end) in
-        let end = sc.resolves (l + 1) rest (expr_behind wd.program sc.code a2 (l + 2 + expr_labels c + expr_labels a) t (label (l + 1) ∷ rest) other_at) in
-        bind W n (here W (expr_code wd.program c (l + 2) t (i ∷ then_code))) m (on_to (i ∷ then_code)) (Tests (type_of_expr c) t e b) (on_to rest) (HasValue W ty t d b) (here W (i ∷ then_code)) (condition (set wd) c (value c s)) _ (λ z. refl)
-        (tests n t e b c s (expr_code wd.program c (l + 2) t (i ∷ then_code)) (i ∷ then_code) m tp.0 (expr_runs n c (l + 2) t e b s m (i ∷ then_code) le p.0 v.0 st stands h same))
+        let end = sc.resolves (l + 1) rest (expr_behind wd.program (ports wd) sc.code a2 (l + 2 + expr_labels c + expr_labels a) t (label (l + 1) ∷ rest) other_at) in
+        bind W n (here W (expr_code wd.program (ports wd) c (l + 2) t (i ∷ then_code))) m (on_to (i ∷ then_code)) (Tests (type_of_expr c) t e b) (on_to rest) (HasValue W ty t d b) (here W (i ∷ then_code)) (condition (set wd) c (value c s)) _ (λ z. refl)
+        (tests n t e b c s (expr_code wd.program (ports wd) c (l + 2) t (i ∷ then_code)) (i ∷ then_code) m tp.0 (expr_runs n c (l + 2) t e b s m (i ∷ then_code) le p.0 v.0 st stands h same))
         (λ x s1 u r. branches W n t (d + 5) e b (type_of_expr c) l then_code other_code (on_to rest) (HasValue W ty t d b) x (λ s2. value a s2) (λ s2. value a2 s2) s1 u other (omega (arith, pays)) r.test
         (λ u1 h1 below. jump_end n t d (l + 1) b ty then_code (label l ∷ other_code) rest u1 (value a s1) end
         (as_type ty (type_of_expr a) n then_code u1 (on_to (jump (l + 1) ∷ label l ∷ other_code)) t (d + 5) b (value a s1) tp.2
@@ -595,25 +636,62 @@ module _ (wd : World) (sc : Scene wd) where
         (as_type ty (type_of_expr a2) n other_code u1 (on_to (label (l + 1) ∷ rest)) t d b (value a2 s1) tp.3
         (untyped n other_code u1 (on_to (label (l + 1) ∷ rest)) (type_of_expr a2) t d b (value a2 s1) (expr_runs n a2 (l + 2 + expr_labels c + expr_labels a) t d b s1 u1 (label (l + 1) ∷ rest) le p.2 v.2 r.state other_at (less (homes wd) (d + 5) d s1 u1 (omega arith) h1) below)))))
     node_runs n ty mode (comma a c) l t d b s m rest le num p k tp v st stands h same =
-        let next_code = expr_code wd.program c (l + expr_labels a) t rest in
-        bind W n (here W (expr_code wd.program a l t next_code)) m (on_to next_code) (Has (type_of_expr a) t d b) (on_to rest) (HasValue W ty t d b) (here W next_code) (value a s) _ (λ z. refl)
+        let next_code = expr_code wd.program (ports wd) c (l + expr_labels a) t rest in
+        bind W n (here W (expr_code wd.program (ports wd) a l t next_code)) m (on_to next_code) (Has (type_of_expr a) t d b) (on_to rest) (HasValue W ty t d b) (here W next_code) (value a s) _ (λ z. refl)
         (expr_runs n a l t d b s m next_code le p.0 v.0 st stands (less (homes wd) (d + 0) d s m (omega arith) h) same)
         (λ x s1 u r. as_type ty (type_of_expr c) n next_code u (on_to rest) t d b (value c s1) tp.2
-        (untyped n next_code u (on_to rest) (type_of_expr c) t d b (value c s1) (expr_runs n c (l + expr_labels a) t d b s1 u rest le p.1 v.1 r.state (expr_behind wd.program sc.code a l t next_code stands) r.has.match r.has.same)))
+        (untyped n next_code u (on_to rest) (type_of_expr c) t d b (value c s1) (expr_runs n c (l + expr_labels a) t d b s1 u rest le p.1 v.1 r.state (expr_behind wd.program (ports wd) sc.code a l t next_code stands) r.has.match r.has.same)))
     node_runs n ty mode (call f args) l t d b s m rest le num p k tp v st stands h same =
         call_runs n ty mode f args l t d b s m rest le p.0 tp (args_run n args l t (d + Row ty (call f args)) b s m (params_code (params_of wd.program f) args t (call_function f (result_temp t ty) ∷ rest)) le p.1 v st stands h same)
-    node_runs n ty mode (io op port i v1) l t d b s m rest le num p k tp v st stands h same = absurd p
-    node_runs n ty mode (group acquire g) l t d b s m rest le num p k tp v st stands h same = absurd p
+    node_runs n ty mode (io op port i c) l t d b s m rest le num p k tp v st stands h same =
+        let e = d + Row ty (io op port i c) in
+        let tables = slice_get (ports wd).ports port in
+        let q = access_code op mode tables i t rest in
+        let next_code = option_code wd.program (ports wd) c (l + option_labels i) (place_behind i t) q in
+        as_type ty (port_result (port_operation op).action (port_value (port_operation op))) n
+        (option_code wd.program (ports wd) i l t next_code) m (on_to rest) t d b
+        (node_value (set wd) (calls_to wd sc.depth) ty mode (io op port i c) s) (sym tp.result)
+        (bind W n (here W (option_code wd.program (ports wd) i l t next_code)) m (on_to next_code) (HasOperand i t e b) (on_to rest)
+        (HasValue W (port_result (port_operation op).action (port_value (port_operation op))) t d b) (here W next_code)
+        (option_value (set wd) (calls_to wd sc.depth) i s) _ (λ z. refl)
+        (operand_run n i l t e b s m next_code le p.0 v.0 st stands h same)
+        (λ x s1 u r. bind W n (here W next_code) u (on_to q) (HasOperand c (place_behind i t) e u.temps) (on_to rest)
+        (HasValue W (port_result (port_operation op).action (port_value (port_operation op))) t d b) (here W q)
+        (option_value (set wd) (calls_to wd sc.depth) c s1) _ (λ z. refl)
+        (operand_run n c (l + option_labels i) (place_behind i t) e u.temps s1 u q le p.1 v.1 r.state
+        (operand_behind wd.program (ports wd) sc.code i l t next_code stands) r.match (λ j lt. refl))
+        (λ y s2 u2 z. access_runs wd sc.code sc.stack n op mode tables i c t d b x y s2 u2 rest
+        (port_operated wd.io wd.valid.ports port (port_operation op).long tp.port) tp.index tp.value
+        (index_kept i x t u.temps u2 z.same r.held) z.held z.match (below_kept i t b u u2 z.same r.same))))
+    node_runs n ty mode (group acquire g) l t d b s m rest le num p k tp v st stands h same =
+        as_type ty void n (node_code wd.program (ports wd) ty mode (group acquire g) l t rest) m (on_to rest) t d b
+        (group_effect acquire g (slice_get (ports wd).groups g) s) (sym tp.1)
+        (group_runs wd sc.code sc.stack n acquire g (slice_get (ports wd).groups g) t d b s m rest (group_pairs wd.io wd.pairs g) h same)
 
-    args_run : (n : ℕ) (es : PlainExprs) (l t d : ℕ) (b : Temps) (s : State) (m : Mach) (rest : List PlainIr) → n ≤ wd.n → AreExprs IsNumericOrVoid (IsOther wd.program) es → ValidExprs wd.program wd.io sc.f es → IsTypedState wd.program s → Stands sc.code (args_code wd.program es l t rest) → Match (homes wd) d s m → Below W t b m
-        → Goes n (args_code wd.program es l t rest) m (on_to rest) (HasArguments es t d b) (values_of (set wd) (calls_to wd sc.depth) es s)
+    operand_run : (n : ℕ) (e : OptionPlainExpr) (l t d : ℕ) (b : Temps) (s : State) (m : Mach) (rest : List PlainIr) → n ≤ wd.n
+        → IsOptionExpr IsNumericOrVoid (IsOther wd.program) e → ValidOption wd.program wd.io sc.f e → IsTypedState wd.program s
+        → Stands sc.code (option_code wd.program (ports wd) e l t rest) → Match (homes wd) d s m → Below W t b m
+        → Goes n (option_code wd.program (ports wd) e l t rest) m (on_to rest) (HasOperand e t d b)
+        (option_value (set wd) (calls_to wd sc.depth) e s)
+    operand_run n no_expr l t d b s m rest le p v st stands h same = (
+      m,
+      record { match = h; held = refl; same = same; state = st },
+      stays
+          W (here W rest) m,
+    )
+    operand_run n (an_expr e) l t d b s m rest le p v st stands h same =
+        operand_has n (expr_code wd.program (ports wd) e l t rest) m rest e t d b (value e s)
+        (expr_runs n e l t d b s m rest le p v st stands h same)
+
+    args_run : (n : ℕ) (es : PlainExprs) (l t d : ℕ) (b : Temps) (s : State) (m : Mach) (rest : List PlainIr) → n ≤ wd.n → AreExprs IsNumericOrVoid (IsOther wd.program) es → ValidExprs wd.program wd.io sc.f es → IsTypedState wd.program s → Stands sc.code (args_code wd.program (ports wd) es l t rest) → Match (homes wd) d s m → Below W t b m
+        → Goes n (args_code wd.program (ports wd) es l t rest) m (on_to rest) (HasArguments es t d b) (values_of (set wd) (calls_to wd sc.depth) es s)
     args_run n last_expr l t d b s m rest le p v st stands h same = (m, record { match = h; held = tt; same = same; state = st }, stays W (here W rest) m)
     args_run n (next_expr e es) l t d b s m rest le p v st stands h same =
-        let next_code = args_code wd.program es (l + expr_labels e) (t + 1) rest in
-        bind W n (here W (expr_code wd.program e l t next_code)) m (on_to next_code) (Has (type_of_expr e) t d b) (on_to rest) (HasArguments (next_expr e es) t d b) (here W next_code) (value e s) _ (λ z. refl)
+        let next_code = args_code wd.program (ports wd) es (l + expr_labels e) (t + 1) rest in
+        bind W n (here W (expr_code wd.program (ports wd) e l t next_code)) m (on_to next_code) (Has (type_of_expr e) t d b) (on_to rest) (HasArguments (next_expr e es) t d b) (here W next_code) (value e s) _ (λ z. refl)
         (expr_runs n e l t d b s m next_code le p.0 v.0 st stands h same)
         (λ x s1 u r. bind W n (here W next_code) u (on_to rest) (HasArguments es (t + 1) d u.temps) (on_to rest) (HasArguments (next_expr e es) t d b) (here W rest) (values_of (set wd) (calls_to wd sc.depth) es s1) _ (λ z. refl)
-        (args_run n es (l + expr_labels e) (t + 1) d u.temps s1 u rest le p.1 v.1 r.state (expr_behind wd.program sc.code e l t next_code stands) r.has.match (λ j lt. refl))
+        (args_run n es (l + expr_labels e) (t + 1) d u.temps s1 u rest le p.1 v.1 r.state (expr_behind wd.program (ports wd) sc.code e l t next_code stands) r.has.match (λ j lt. refl))
         (λ xs s2 u2 q. (
           u2,
           record {

@@ -1,25 +1,30 @@
 -- The words of a function's operations are within the rows of its parts.
 use Rattle.std.proofs.Common.{◌≡◌, ℕ, ◌+◌, ◌*◌, ◌≤◌, Bool, true, false, List, [], ◌∷◌, map, Option, Some, None, ap, arith}
-use Rattle.std.specs.Prelude.{max}
+use Rattle.std.specs.Prelude.{max, length, slice_get, option_map, unwrap_or, if◌then◌else◌}
 use Rattle.std.specs.List.{AllByRecursion}
 use Rattle.ec_iohw.specs.declared.table.IoTable.{IoTable}
 use Rattle.ec_fx.specs.declared.numbers.Mode.{Mode}
 use Rattle.ec_core.specs.Layout.{scalar_size, PlainLeaf}
 use Rattle.ec_core.specs.Operators.{number_type, step_operator}
-use Rattle.ec_core.specs.Plain.{PlainType, PlainExpr, expression, PlainNode, number, null, load, address_of, unary, binary, convert, assign, compound, step, logical_not, logical_and, logical_or, conditional, comma, call, io, group, object, deref, member, PlainExprs, last_expr, next_expr, PlainStmt, statement, PlainKind, empty, evaluate, block, declare, branch, while_loop, do_loop, for_loop, break_loop, continue_loop, return_value, OptionPlainStmt, no_stmt, a_stmt, PlainStmts, last_stmt, next_stmt, PlainFunction, PlainProgram}
-use Rattle.ec_core.specs.PortTable.{plain_table}
-use Rattle.ec_core.specs.Typing.{type_of_expr, IsTyped}
-use Rattle.ec_core.specs.Valid.{EachFrom, ValidExpr, ValidParts, ValidExprs, ValidCondition, ValidOptional, ValidStmt, ValidKind, ValidOptionStmt, ValidStmts, IsFunction, Valid}
-use Rattle.ec_core.specs.Weight.{expr_weight, exprs_weight, optional_weight, leaves_weight, stmt_weight, kind_weight, option_stmt_weight, stmts_weight, function_weight, functions_weight, objects_weight, weight}
-use Rattle.ec_core.specs.Words.{choice_words, program_words, total_size, update_words}
-use Rattle.ec_ir.specs.Costs.{branch_zero_words, code_words, functions_words}
+use Rattle.ec_core.specs.Plain.{PlainType, PlainExpr, expression, PlainNode, number, null, load, address_of, unary, binary, convert, assign, compound, step, logical_not, logical_and, logical_or, conditional, comma, call, io, group, object, deref, member, OptionPlainExpr, no_expr, an_expr, PlainExprs, last_expr, next_expr, PlainStmt, statement, PlainKind, empty, evaluate, block, declare, branch, while_loop, do_loop, for_loop, break_loop, continue_loop, return_value, OptionPlainStmt, no_stmt, a_stmt, PlainStmts, last_stmt, next_stmt, PlainFunction, PlainProgram}
+use Rattle.ec_core.specs.PortAccesses.{pairs_of}
+use Rattle.ec_core.specs.PortOperations.{PortAction, reads, writes, updates, port_operation}
+use Rattle.ec_core.specs.PortTable.{PlainPort, PlainGroup, plain_table}
+use Rattle.ec_iohw.specs.declared.operations.IoOp.{IoOp}
+use Rattle.ec_iohw.specs.declared.table.Pair.{Pair}
+use Rattle.ec_ir.specs.declared.operations.Temp.{Temp}
+use Rattle.ec_core.specs.Typing.{type_of_expr, port_value, unsigned_int, unsigned_long, IsTyped}
+use Rattle.ec_core.specs.Valid.{EachFrom, ValidExpr, ValidParts, ValidOption, ValidExprs, ValidCondition, ValidOptional, ValidStmt, ValidKind, ValidOptionStmt, ValidStmts, IsFunction, Valid}
+use Rattle.ec_core.specs.Weight.{expr_weight, option_weight, exprs_weight, optional_weight, leaves_weight, stmt_weight, kind_weight, option_stmt_weight, stmts_weight, function_weight, functions_weight, objects_weight, weight}
+use Rattle.ec_core.specs.Words.{choice_words, group_words, port_words, program_words, total_size, update_words}
+use Rattle.ec_ir.specs.Costs.{branch_zero_words, code_words, functions_words, index_words}
 use Rattle.ec_ir.specs.Operations.{PlainIr, store_object, binary_op, unary_op, conversion, label, jump, branch_zero, call_function, return_from}
-use Rattle.ec_lower_code.specs.Code.{temp, result_temp, truth_code, update_types, update_code, step_code, params_of, params_code, expr_labels, optional_labels, option_stmt_labels, stmt_labels, expr_code, node_code, args_code, init_code, test_code, last_code, leaves_of_object, stmt_code, kind_code, option_stmt_code, stmts_code, function_code, lowered_function, lowered}
-use Rattle.ec_lower_code.specs.Parts.{IsAnyFunction, IsNumeric, IsNumericOrVoid, IsExpr, IsNode, AreExprs, IsOptional, IsStmt, IsKind, IsOptionStmt, AreStmts, IsLowered}
+use Rattle.ec_lower_code.specs.Code.{temp, result_temp, truth_code, update_types, update_code, step_code, params_of, params_code, port_operator, port_code, place_behind, operand_temp, access_code, pairs_code, group_code, option_labels, option_code, expr_labels, optional_labels, option_stmt_labels, stmt_labels, expr_code, node_code, args_code, init_code, test_code, last_code, leaves_of_object, stmt_code, kind_code, option_stmt_code, stmts_code, function_code, lowered_function, lowered}
+use Rattle.ec_lower_code.specs.Parts.{IsAnyFunction, IsNumeric, IsNumericOrVoid, IsExpr, IsNode, IsOptionExpr, AreExprs, IsOptional, IsStmt, IsKind, IsOptionStmt, AreStmts, IsLowered}
 use Rattle.ec_lower_code.proofs.Expressions.{type_kind, type_known, compound_facts, numeric_scalar, update_row, step_row}
 use Rattle.ec_lower_code.proofs.Calls.{call_bytes}
 use Rattle.ec_lower_code.proofs.Numbers.{scalar_bytes}
-use Rattle.ec_lower_code.proofs.Pays.{simple_pays, unary_pays, binary_pays, conversion_pays, choice_pays, return_pays}
+use Rattle.ec_lower_code.proofs.Pays.{simple_pays, unary_pays, binary_pays, conversion_pays, choice_pays, return_pays, update_words_are, index_pays, port_bytes}
 
 not_fits : (t a : ℕ) → t ≡ 2 → branch_zero_words a + (10 * t + 5) ≤ choice_words (max t (max a 1))
 not_fits t a e = omega (arith, e)
@@ -32,6 +37,33 @@ params_fit [] es t rest = omega arith
 params_fit (o ∷ os) last_expr t rest = omega arith
 params_fit (o ∷ os) (next_expr e es) t rest = let x = params_fit os es (t + 1) rest in omega (arith, x)
 
+-- an operation on a port, where it takes an index or not
+port_fits : (action : PortAction) (op : IoOp) (long : Bool) (mode : Mode) (port : PlainPort) (index : OptionPlainExpr) (t v : ℕ)
+    (rest : List PlainIr)
+    → code_words (port_code action (port_operator op) (if long then unsigned_long else unsigned_int) mode port (operand_temp index t) t v
+    rest) ≤ port_words action port.width + code_words rest
+port_fits reads op long mode port index t v rest = let i = index_pays index t in let b = port_bytes long in omega (arith, i, b)
+port_fits writes op long mode port index t v rest = let i = index_pays index t in omega (arith, i)
+port_fits updates op true mode port index t v rest = let i = index_pays index t in let u = update_words_are op 4 in omega (arith, i, u)
+port_fits updates op false mode port index t v rest = let i = index_pays index t in let u = update_words_are op 2 in omega (arith, i, u)
+
+access_fits : (op : IoOp) (mode : Mode) (port : Option PlainPort) (index : OptionPlainExpr) (t : ℕ) (rest : List PlainIr)
+    → code_words (access_code op mode port index t rest) ≤ port_words (port_operation op).action
+    (unwrap_or (option_map (λ (p : PlainPort). p.width) port) 0) + code_words rest
+access_fits op mode None index t rest = omega arith
+access_fits op mode (Some port) index t rest = port_fits (port_operation op).action op (port_operation op).long mode port index t
+    (place_behind index t) rest
+
+pairs_fit : (pairs : List Pair) (t : ℕ) (rest : List PlainIr) → code_words (pairs_code pairs t rest) ≤ 10 * length pairs + code_words rest
+pairs_fit [] t rest = omega arith
+pairs_fit (pair ∷ pairs) t rest = let x = pairs_fit pairs t rest in omega (arith, x)
+
+group_fits : (acquire : Bool) (x : Option PlainGroup) (t : ℕ) (rest : List PlainIr)
+    → code_words (group_code acquire x t rest) ≤ group_words (unwrap_or (option_map (λ (y : PlainGroup). length (pairs_of acquire y)) x)
+    0) + code_words rest
+group_fits acquire None t rest = omega arith
+group_fits acquire (Some x) t rest = let y = pairs_fit (pairs_of acquire x) t rest in omega (arith, y)
+
 module _ (program : PlainProgram) (table : IoTable) (f : ℕ) where
   -- the words of the parts of a step
   step_fits : (prefix up : Bool) (mode : Mode) (ty : PlainType) (o t : ℕ) (rest : List PlainIr) → IsNumeric ty → 5 * scalar_size ty + (10 + code_words (step_code prefix (step_operator up) mode ty o t rest)) ≤ update_words (max (scalar_size ty) 1) + code_words rest
@@ -39,10 +71,10 @@ module _ (program : PlainProgram) (table : IoTable) (f : ℕ) where
   step_fits false up mode ty o t rest num = let x = step_row up ty num in omega (arith, x)
 
   mutual
-    pub expr_fits : (e : PlainExpr) (l t : ℕ) (rest : List PlainIr) → IsExpr IsNumericOrVoid IsAnyFunction e → ValidExpr program table f e → code_words (expr_code program e l t rest) ≤ expr_weight (plain_table table) e + code_words rest
+    pub expr_fits : (e : PlainExpr) (l t : ℕ) (rest : List PlainIr) → IsExpr IsNumericOrVoid IsAnyFunction e → ValidExpr program table f e → code_words (expr_code program (plain_table table) e l t rest) ≤ expr_weight (plain_table table) e + code_words rest
     expr_fits (expression ty mode node) l t rest p v = node_fits ty mode node l t rest p.0 p.1 v.1 v.2
 
-    node_fits : (ty : PlainType) (mode : Mode) (node : PlainNode) (l t : ℕ) (rest : List PlainIr) → IsNumericOrVoid ty → IsNode IsNumericOrVoid IsAnyFunction node → IsTyped program table ty node → ValidParts program table f node → code_words (node_code program ty mode node l t rest) ≤ expr_weight (plain_table table) (expression ty mode node) + code_words rest
+    node_fits : (ty : PlainType) (mode : Mode) (node : PlainNode) (l t : ℕ) (rest : List PlainIr) → IsNumericOrVoid ty → IsNode IsNumericOrVoid IsAnyFunction node → IsTyped program table ty node → ValidParts program table f node → code_words (node_code program (plain_table table) ty mode node l t rest) ≤ expr_weight (plain_table table) (expression ty mode node) + code_words rest
     node_fits ty mode (number n) l t rest num p tp v = let x = simple_pays (scalar_size ty) 1 in omega (arith, x)
     node_fits ty mode null l t rest num p tp v = absurd p
     node_fits ty mode (load (object o)) l t rest num p tp v = let x = simple_pays (scalar_size ty) 1 in omega (arith, x)
@@ -54,7 +86,7 @@ module _ (program : PlainProgram) (table : IoTable) (f : ℕ) where
         let x = expr_fits a l t q p v in let y = unary_pays (scalar_size ty) (max (scalar_size (type_of_expr a)) 1) in omega (arith, x, y)
     node_fits ty mode (binary op a b) l t rest num p tp v =
         let q : List PlainIr = binary_op op ty mode (temp t ty) (temp t (type_of_expr a)) (type_of_expr a) (temp (t + 1) (type_of_expr b)) (type_of_expr b) ∷ rest in
-        let x = expr_fits a l t (expr_code program b (l + expr_labels a) (t + 1) q) p.0 v.0 in let y = expr_fits b (l + expr_labels a) (t + 1) q p.1 v.1 in
+        let x = expr_fits a l t (expr_code program (plain_table table) b (l + expr_labels a) (t + 1) q) p.0 v.0 in let y = expr_fits b (l + expr_labels a) (t + 1) q p.1 v.1 in
         let z = binary_pays op ty (type_of_expr a) (type_of_expr b) in omega (arith, x, y, z)
     node_fits ty mode (convert a) l t rest num p tp v =
         let q : List PlainIr = conversion (temp t ty) ty mode (temp t (type_of_expr a)) (type_of_expr a) ∷ rest in
@@ -78,74 +110,85 @@ module _ (program : PlainProgram) (table : IoTable) (f : ℕ) where
         let y = not_fits (scalar_size ty) (scalar_size (type_of_expr a)) (ap scalar_size tp.1) in omega (arith, x, y)
     node_fits ty mode (logical_and a b) l t rest num p tp v =
         let q : List PlainIr = branch_zero (temp t (type_of_expr b)) l ∷ truth_code true ty l t rest in
-        let x = expr_fits a (l + 2) t (branch_zero (temp t (type_of_expr a)) l ∷ expr_code program b (l + 2 + expr_labels a) t q) p.0 v.0 in let y = expr_fits b (l + 2 + expr_labels a) t q p.1 v.1 in
+        let x = expr_fits a (l + 2) t (branch_zero (temp t (type_of_expr a)) l ∷ expr_code program (plain_table table) b (l + 2 + expr_labels a) t q) p.0 v.0 in let y = expr_fits b (l + 2 + expr_labels a) t q p.1 v.1 in
         let z = both_fit (scalar_size ty) (scalar_size (type_of_expr a)) (scalar_size (type_of_expr b)) (ap scalar_size tp.2) in omega (arith, x, y, z)
     node_fits ty mode (logical_or a b) l t rest num p tp v =
         let q : List PlainIr = branch_zero (temp t (type_of_expr b)) l ∷ label (l + 3) ∷ truth_code true ty l t rest in
-        let x = expr_fits a (l + 4) t (branch_zero (temp t (type_of_expr a)) (l + 2) ∷ jump (l + 3) ∷ label (l + 2) ∷ expr_code program b (l + 4 + expr_labels a) t q) p.0 v.0 in let y = expr_fits b (l + 4 + expr_labels a) t q p.1 v.1 in
+        let x = expr_fits a (l + 4) t (branch_zero (temp t (type_of_expr a)) (l + 2) ∷ jump (l + 3) ∷ label (l + 2) ∷ expr_code program (plain_table table) b (l + 4 + expr_labels a) t q) p.0 v.0 in let y = expr_fits b (l + 4 + expr_labels a) t q p.1 v.1 in
         let z = both_fit (scalar_size ty) (scalar_size (type_of_expr a)) (scalar_size (type_of_expr b)) (ap scalar_size tp.2) in omega (arith, x, y, z)
     node_fits ty mode (conditional c a b) l t rest num p tp v =
         let r : List PlainIr = label (l + 1) ∷ rest in
-        let q : List PlainIr = jump (l + 1) ∷ label l ∷ expr_code program b (l + 2 + expr_labels c + expr_labels a) t r in
-        let x = expr_fits c (l + 2) t (branch_zero (temp t (type_of_expr c)) l ∷ expr_code program a (l + 2 + expr_labels c) t q) p.0 v.0 in let y = expr_fits a (l + 2 + expr_labels c) t q p.1 v.1 in let u = expr_fits b (l + 2 + expr_labels c + expr_labels a) t r p.2 v.2 in
+        let q : List PlainIr = jump (l + 1) ∷ label l ∷ expr_code program (plain_table table) b (l + 2 + expr_labels c + expr_labels a) t r in
+        let x = expr_fits c (l + 2) t (branch_zero (temp t (type_of_expr c)) l ∷ expr_code program (plain_table table) a (l + 2 + expr_labels c) t q) p.0 v.0 in let y = expr_fits a (l + 2 + expr_labels c) t q p.1 v.1 in let u = expr_fits b (l + 2 + expr_labels c + expr_labels a) t r p.2 v.2 in
         let z = choice_pays (scalar_size ty) (scalar_size (type_of_expr c)) (scalar_size (type_of_expr a)) (scalar_size (type_of_expr b)) in omega (arith, x, y, u, z)
     node_fits ty mode (comma a b) l t rest num p tp v =
-        let x = expr_fits a l t (expr_code program b (l + expr_labels a) t rest) p.0 v.0 in let y = expr_fits b (l + expr_labels a) t rest p.1 v.1 in omega (arith, x, y)
+        let x = expr_fits a l t (expr_code program (plain_table table) b (l + expr_labels a) t rest) p.0 v.0 in let y = expr_fits b (l + expr_labels a) t rest p.1 v.1 in omega (arith, x, y)
     node_fits ty mode (call g args) l t rest num p tp v =
         let q : List PlainIr = call_function g (result_temp t ty) ∷ rest in
         let x = args_fit args l t (params_code (params_of program g) args t q) p.1 v in let y = params_fit (params_of program g) args t q in let z = call_bytes t ty in omega (arith, x, y, z)
-    node_fits ty mode (io op port i w) l t rest num p tp v = absurd p
-    node_fits ty mode (group acquire g) l t rest num p tp v = absurd p
+    node_fits ty mode (io op port i w) l t rest num p tp v =
+        let q = access_code op mode (slice_get (plain_table table).ports port) i t rest in
+        let x = operand_fits i l t (option_code program (plain_table table) w (l + option_labels i) (place_behind i t) q) p.0 v.0 in
+        let y = operand_fits w (l + option_labels i) (place_behind i t) q p.1 v.1 in
+        let z = access_fits op mode (slice_get (plain_table table).ports port) i t rest in omega (arith, x, y, z)
+    node_fits ty mode (group acquire g) l t rest num p tp v = let x = group_fits acquire (slice_get (plain_table table).groups g) t rest
+        in omega (arith, x)
 
-    args_fit : (es : PlainExprs) (l t : ℕ) (rest : List PlainIr) → AreExprs IsNumericOrVoid IsAnyFunction es → ValidExprs program table f es → code_words (args_code program es l t rest) ≤ exprs_weight (plain_table table) es + code_words rest
+    operand_fits : (e : OptionPlainExpr) (l t : ℕ) (rest : List PlainIr) → IsOptionExpr IsNumericOrVoid IsAnyFunction e
+        → ValidOption program table f e
+        → code_words (option_code program (plain_table table) e l t rest) ≤ option_weight (plain_table table) e + code_words rest
+    operand_fits no_expr l t rest p v = omega arith
+    operand_fits (an_expr e) l t rest p v = expr_fits e l t rest p v
+
+    args_fit : (es : PlainExprs) (l t : ℕ) (rest : List PlainIr) → AreExprs IsNumericOrVoid IsAnyFunction es → ValidExprs program table f es → code_words (args_code program (plain_table table) es l t rest) ≤ exprs_weight (plain_table table) es + code_words rest
     args_fit last_expr l t rest p v = omega arith
     args_fit (next_expr e es) l t rest p v =
-        let x = expr_fits e l t (args_code program es (l + expr_labels e) (t + 1) rest) p.0 v.0 in let y = args_fit es (l + expr_labels e) (t + 1) rest p.1 v.1 in omega (arith, x, y)
+        let x = expr_fits e l t (args_code program (plain_table table) es (l + expr_labels e) (t + 1) rest) p.0 v.0 in let y = args_fit es (l + expr_labels e) (t + 1) rest p.1 v.1 in omega (arith, x, y)
 
-  init_fits : (ls : List PlainLeaf) (o : ℕ) (es : PlainExprs) (l : ℕ) (rest : List PlainIr) → AreExprs IsNumericOrVoid IsAnyFunction es → ValidExprs program table f es → code_words (init_code program ls o es l rest) ≤ leaves_weight (plain_table table) es + code_words rest
+  init_fits : (ls : List PlainLeaf) (o : ℕ) (es : PlainExprs) (l : ℕ) (rest : List PlainIr) → AreExprs IsNumericOrVoid IsAnyFunction es → ValidExprs program table f es → code_words (init_code program (plain_table table) ls o es l rest) ≤ leaves_weight (plain_table table) es + code_words rest
   init_fits [] o es l rest p v = omega arith
   init_fits (leaf ∷ ls) o last_expr l rest p v = omega arith
   init_fits (leaf ∷ ls) o (next_expr e es) l rest p v =
-      let q : List PlainIr = store_object o leaf.at (temp 0 (type_of_expr e)) ∷ init_code program ls o es (l + expr_labels e) rest in
+      let q : List PlainIr = store_object o leaf.at (temp 0 (type_of_expr e)) ∷ init_code program (plain_table table) ls o es (l + expr_labels e) rest in
       let x = expr_fits e l 0 q p.0 v.0 in let y = init_fits ls o es (l + expr_labels e) rest p.1 v.1 in let z = simple_pays (scalar_size (type_of_expr e)) 1 in omega (arith, x, y, z)
 
-  test_fits : (c : Option PlainExpr) (out l : ℕ) (rest : List PlainIr) → IsOptional IsNumericOrVoid IsAnyFunction c → ValidCondition program table f c → code_words (test_code program c out l rest) ≤ 30 + optional_weight (plain_table table) c + code_words rest
+  test_fits : (c : Option PlainExpr) (out l : ℕ) (rest : List PlainIr) → IsOptional IsNumericOrVoid IsAnyFunction c → ValidCondition program table f c → code_words (test_code program (plain_table table) c out l rest) ≤ 30 + optional_weight (plain_table table) c + code_words rest
   test_fits None out l rest p v = omega arith
   test_fits (Some c) out l rest p v = let q : List PlainIr = branch_zero (temp 0 (type_of_expr c)) out ∷ rest in let x = expr_fits c l 0 q p v.0 in let y = (scalar_bytes (type_of_expr c) v.1).1 in omega (arith, x, y)
 
-  last_fits : (e : Option PlainExpr) (l : ℕ) (rest : List PlainIr) → IsOptional IsNumericOrVoid IsAnyFunction e → ValidOptional program table f e → code_words (last_code program e l rest) ≤ optional_weight (plain_table table) e + code_words rest
+  last_fits : (e : Option PlainExpr) (l : ℕ) (rest : List PlainIr) → IsOptional IsNumericOrVoid IsAnyFunction e → ValidOptional program table f e → code_words (last_code program (plain_table table) e l rest) ≤ optional_weight (plain_table table) e + code_words rest
   last_fits None l rest p v = omega arith
   last_fits (Some e) l rest p v = expr_fits e l 0 rest p v
 
   module _ (returns : PlainType) where
     mutual
-      pub stmt_fits : (a : PlainStmt) (k : Bool) (l out on : ℕ) (rest : List PlainIr) → IsStmt IsNumericOrVoid IsAnyFunction a → ValidStmt program table f returns k a → code_words (stmt_code program a l out on rest) ≤ stmt_weight (plain_table table) a + code_words rest
+      pub stmt_fits : (a : PlainStmt) (k : Bool) (l out on : ℕ) (rest : List PlainIr) → IsStmt IsNumericOrVoid IsAnyFunction a → ValidStmt program table f returns k a → code_words (stmt_code program (plain_table table) a l out on rest) ≤ stmt_weight (plain_table table) a + code_words rest
       stmt_fits (statement unit at kind) k l out on rest p v = kind_fits kind k l out on rest p v
 
-      kind_fits : (kind : PlainKind) (k : Bool) (l out on : ℕ) (rest : List PlainIr) → IsKind IsNumericOrVoid IsAnyFunction kind → ValidKind program table f returns k kind → code_words (kind_code program kind l out on rest) ≤ kind_weight (plain_table table) kind + code_words rest
+      kind_fits : (kind : PlainKind) (k : Bool) (l out on : ℕ) (rest : List PlainIr) → IsKind IsNumericOrVoid IsAnyFunction kind → ValidKind program table f returns k kind → code_words (kind_code program (plain_table table) kind l out on rest) ≤ kind_weight (plain_table table) kind + code_words rest
       kind_fits empty k l out on rest p v = omega arith
       kind_fits (evaluate e) k l out on rest p v = expr_fits e l 0 rest p v
       kind_fits (block ss) k l out on rest p v = stmts_fits ss k l out on rest p v
       kind_fits (declare o es) k l out on rest p v = init_fits (leaves_of_object program o) o es l rest p v.1
       kind_fits (branch c a no_stmt) k l out on rest p v =
-          let x = test_fits (Some c) l (l + 2) (stmt_code program a (l + 2 + expr_labels c) out on (label l ∷ rest)) p.0 v.0 in let y = stmt_fits a k (l + 2 + expr_labels c) out on (label l ∷ rest) p.1 v.1 in omega (arith, x, y)
+          let x = test_fits (Some c) l (l + 2) (stmt_code program (plain_table table) a (l + 2 + expr_labels c) out on (label l ∷ rest)) p.0 v.0 in let y = stmt_fits a k (l + 2 + expr_labels c) out on (label l ∷ rest) p.1 v.1 in omega (arith, x, y)
       kind_fits (branch c a (a_stmt b)) k l out on rest p v =
-          let q : List PlainIr = jump (l + 1) ∷ label l ∷ stmt_code program b (l + 2 + expr_labels c + stmt_labels a) out on (label (l + 1) ∷ rest) in
-          let x = test_fits (Some c) l (l + 2) (stmt_code program a (l + 2 + expr_labels c) out on q) p.0 v.0 in let y = stmt_fits a k (l + 2 + expr_labels c) out on q p.1 v.1 in let u = stmt_fits b k (l + 2 + expr_labels c + stmt_labels a) out on (label (l + 1) ∷ rest) p.2 v.2 in omega (arith, x, y, u)
+          let q : List PlainIr = jump (l + 1) ∷ label l ∷ stmt_code program (plain_table table) b (l + 2 + expr_labels c + stmt_labels a) out on (label (l + 1) ∷ rest) in
+          let x = test_fits (Some c) l (l + 2) (stmt_code program (plain_table table) a (l + 2 + expr_labels c) out on q) p.0 v.0 in let y = stmt_fits a k (l + 2 + expr_labels c) out on q p.1 v.1 in let u = stmt_fits b k (l + 2 + expr_labels c + stmt_labels a) out on (label (l + 1) ∷ rest) p.2 v.2 in omega (arith, x, y, u)
       kind_fits (while_loop c a) k l out on rest p v =
           let q : List PlainIr = label (l + 2) ∷ jump l ∷ label (l + 1) ∷ rest in
-          let b : List PlainIr = label (l + 3) ∷ stmt_code program a (l + 4 + expr_labels c) (l + 1) (l + 2) q in
+          let b : List PlainIr = label (l + 3) ∷ stmt_code program (plain_table table) a (l + 4 + expr_labels c) (l + 1) (l + 2) q in
           let x = test_fits (Some c) (l + 1) (l + 4) b p.0 v.0 in let y = stmt_fits a true (l + 4 + expr_labels c) (l + 1) (l + 2) q p.1 v.1 in omega (arith, x, y)
       kind_fits (do_loop a c) k l out on rest p v =
           let q : List PlainIr = label (l + 2) ∷ jump l ∷ label (l + 1) ∷ rest in
-          let b : List PlainIr = label (l + 3) ∷ stmt_code program a (l + 4 + expr_labels c) (l + 1) (l + 2) q in
+          let b : List PlainIr = label (l + 3) ∷ stmt_code program (plain_table table) a (l + 4 + expr_labels c) (l + 1) (l + 2) q in
           let x = test_fits (Some c) (l + 1) (l + 4) b p.1 v.1 in let y = stmt_fits a true (l + 4 + expr_labels c) (l + 1) (l + 2) q p.0 v.0 in omega (arith, x, y)
       kind_fits (for_loop first c last a) k l0 out on rest p v =
           let l = l0 + option_stmt_labels first in
           let e : List PlainIr = jump l ∷ label (l + 1) ∷ rest in
-          let q : List PlainIr = label (l + 2) ∷ last_code program last (l + 4 + optional_labels c) e in
-          let b : List PlainIr = label (l + 3) ∷ stmt_code program a (l + 4 + optional_labels c + optional_labels last) (l + 1) (l + 2) q in
-          let g = option_fits first k l0 out on (label l ∷ test_code program c (l + 1) (l + 4) b) p.0 v.0 in
+          let q : List PlainIr = label (l + 2) ∷ last_code program (plain_table table) last (l + 4 + optional_labels c) e in
+          let b : List PlainIr = label (l + 3) ∷ stmt_code program (plain_table table) a (l + 4 + optional_labels c + optional_labels last) (l + 1) (l + 2) q in
+          let g = option_fits first k l0 out on (label l ∷ test_code program (plain_table table) c (l + 1) (l + 4) b) p.0 v.0 in
           let x = test_fits c (l + 1) (l + 4) b p.1 v.1 in
           let y = stmt_fits a true (l + 4 + optional_labels c + optional_labels last) (l + 1) (l + 2) q p.3 v.3 in
           let u = last_fits last (l + 4 + optional_labels c) e p.2 v.2 in omega (arith, g, x, y, u)
@@ -156,21 +199,21 @@ module _ (program : PlainProgram) (table : IoTable) (f : ℕ) where
           let q : List PlainIr = return_from (Some (temp 0 (type_of_expr e))) ∷ rest in
           let x = expr_fits e l 0 q p v.1 in let y = return_pays (scalar_size (type_of_expr e)) in omega (arith, x, y)
 
-      option_fits : (a : OptionPlainStmt) (k : Bool) (l out on : ℕ) (rest : List PlainIr) → IsOptionStmt IsNumericOrVoid IsAnyFunction a → ValidOptionStmt program table f returns k a → code_words (option_stmt_code program a l out on rest) ≤ option_stmt_weight (plain_table table) a + code_words rest
+      option_fits : (a : OptionPlainStmt) (k : Bool) (l out on : ℕ) (rest : List PlainIr) → IsOptionStmt IsNumericOrVoid IsAnyFunction a → ValidOptionStmt program table f returns k a → code_words (option_stmt_code program (plain_table table) a l out on rest) ≤ option_stmt_weight (plain_table table) a + code_words rest
       option_fits no_stmt k l out on rest p v = omega arith
       option_fits (a_stmt a) k l out on rest p v = stmt_fits a k l out on rest p v
 
-      stmts_fits : (ss : PlainStmts) (k : Bool) (l out on : ℕ) (rest : List PlainIr) → AreStmts IsNumericOrVoid IsAnyFunction ss → ValidStmts program table f returns k ss → code_words (stmts_code program ss l out on rest) ≤ stmts_weight (plain_table table) ss + code_words rest
+      stmts_fits : (ss : PlainStmts) (k : Bool) (l out on : ℕ) (rest : List PlainIr) → AreStmts IsNumericOrVoid IsAnyFunction ss → ValidStmts program table f returns k ss → code_words (stmts_code program (plain_table table) ss l out on rest) ≤ stmts_weight (plain_table table) ss + code_words rest
       stmts_fits last_stmt k l out on rest p v = omega arith
-      stmts_fits (next_stmt a ss) k l out on rest p v = let x = stmt_fits a k l out on (stmts_code program ss (l + stmt_labels a) out on rest) p.0 v.0 in let y = stmts_fits ss k (l + stmt_labels a) out on rest p.1 v.1 in omega (arith, x, y)
+      stmts_fits (next_stmt a ss) k l out on rest p v = let x = stmt_fits a k l out on (stmts_code program (plain_table table) ss (l + stmt_labels a) out on rest) p.0 v.0 in let y = stmts_fits ss k (l + stmt_labels a) out on rest p.1 v.1 in omega (arith, x, y)
 
 -- a function's operations are within the rows of its body and its own
-function_fits : (program : PlainProgram) (table : IoTable) (f : ℕ) (g : PlainFunction) → IsStmt IsNumericOrVoid IsAnyFunction g.body → IsFunction program table f g → code_words (function_code program g) ≤ function_weight (plain_table table) g
+function_fits : (program : PlainProgram) (table : IoTable) (f : ℕ) (g : PlainFunction) → IsStmt IsNumericOrVoid IsAnyFunction g.body → IsFunction program table f g → code_words (function_code program (plain_table table) g) ≤ function_weight (plain_table table) g
 function_fits program table f g p v = let x = stmt_fits program table f g.returns g.body false 1 0 0 (label 0 ∷ return_from None ∷ []) p v.body in omega (arith, x)
 
-functions_fit : (program : PlainProgram) (table : IoTable) (n : ℕ) (fs : List PlainFunction) → AllByRecursion (λ g. IsStmt IsNumericOrVoid IsAnyFunction g.body) fs → EachFrom n (IsFunction program table) fs → functions_words (map (lowered_function program) fs) ≤ functions_weight (plain_table table) fs
+functions_fit : (program : PlainProgram) (table : IoTable) (n : ℕ) (fs : List PlainFunction) → AllByRecursion (λ g. IsStmt IsNumericOrVoid IsAnyFunction g.body) fs → EachFrom n (IsFunction program table) fs → functions_words (map (lowered_function program (plain_table table)) fs) ≤ functions_weight (plain_table table) fs
 functions_fit program table n [] p v = omega arith
 functions_fit program table n (g ∷ fs) p v = let x = function_fits program table n g p.0 v.0 in let y = functions_fit program table (n + 1) fs p.1 v.1 in omega (arith, x, y)
 
-pub words_fit : (program : PlainProgram) (table : IoTable) → Valid program table → IsLowered program → program_words + objects_weight program.objects + functions_words (lowered program).functions ≤ weight program (plain_table table)
+pub words_fit : (program : PlainProgram) (table : IoTable) → Valid program table → IsLowered program → program_words + objects_weight program.objects + functions_words (lowered program (plain_table table)).functions ≤ weight program (plain_table table)
 words_fit program table valid parts = let x = functions_fit program table 0 program.functions parts valid.functions in omega (arith, x)

@@ -1,17 +1,23 @@
 -- Each label stands once: how often a label stands is a sum over the parts, whose labels lie in intervals one after another.
 use Rattle.std.proofs.Common.{◌≡◌, ℕ, zero, suc, ◌+◌, ◌<◌, ◌≤◌, Bool, true, false, List, [], ◌∷◌, ◌++◌, Option, Some, None, refl, ap, ◌∙◌, subst, arith, eq-eqb, eqb-true}
-use Rattle.std.specs.Prelude.{◌==◌, if◌then◌else◌}
+use Rattle.std.specs.Prelude.{◌==◌, if◌then◌else◌, slice_get}
 use Rattle.std.proofs.lemmas.Grind.{common_steps}
 use Rattle.ec_fx.specs.declared.numbers.Mode.{Mode}
 use Rattle.ec_core.specs.declared.expressions.BinOp.{BinOp}
 use Rattle.ec_core.specs.Layout.{PlainLeaf}
 use Rattle.ec_core.specs.Operators.{number_type, step_operator}
-use Rattle.ec_core.specs.Plain.{PlainType, PlainExpr, expression, PlainNode, number, null, load, address_of, unary, binary, convert, assign, compound, step, logical_not, logical_and, logical_or, conditional, comma, call, io, group, object, deref, member, PlainExprs, last_expr, next_expr, PlainStmt, statement, PlainKind, empty, evaluate, block, declare, branch, while_loop, do_loop, for_loop, break_loop, continue_loop, return_value, OptionPlainStmt, no_stmt, a_stmt, PlainStmts, last_stmt, next_stmt, PlainFunction, PlainProgram}
-use Rattle.ec_core.specs.Typing.{type_of_expr}
+use Rattle.ec_core.specs.PortAccesses.{pairs_of}
+use Rattle.ec_core.specs.PortOperations.{PortAction, reads, writes, updates, port_operation}
+use Rattle.ec_core.specs.PortTable.{PlainPort, PlainGroup, PlainTable}
+use Rattle.ec_iohw.specs.declared.operations.IoOp.{IoOp}
+use Rattle.ec_iohw.specs.declared.table.Pair.{Pair}
+use Rattle.ec_ir.specs.declared.operations.Temp.{Temp}
+use Rattle.ec_core.specs.Plain.{PlainType, PlainExpr, expression, PlainNode, number, null, load, address_of, unary, binary, convert, assign, compound, step, logical_not, logical_and, logical_or, conditional, comma, call, io, group, object, deref, member, OptionPlainExpr, no_expr, an_expr, PlainExprs, last_expr, next_expr, PlainStmt, statement, PlainKind, empty, evaluate, block, declare, branch, while_loop, do_loop, for_loop, break_loop, continue_loop, return_value, OptionPlainStmt, no_stmt, a_stmt, PlainStmts, last_stmt, next_stmt, PlainFunction, PlainProgram}
+use Rattle.ec_core.specs.Typing.{type_of_expr, port_value}
 use Rattle.ec_ir.specs.Meaning.{find}
 use Rattle.ec_ir.specs.Operations.{PlainIr, constant, copy, address, field, load_at, store_at, load_object, store_object, binary_op, unary_op, conversion, label, jump, branch_zero, call_function, return_from, port_in, port_out}
 use Rattle.ec_ir.specs.Valid.{count}
-use Rattle.ec_lower_code.specs.Code.{temp, result_temp, truth_code, update_types, update_code, step_code, params_of, params_code, expr_labels, node_labels, exprs_labels, optional_labels, stmt_labels, kind_labels, option_stmt_labels, stmts_labels, expr_code, node_code, args_code, init_code, test_code, last_code, leaves_of_object, stmt_code, kind_code, option_stmt_code, stmts_code, function_code}
+use Rattle.ec_lower_code.specs.Code.{temp, result_temp, truth_code, update_types, update_code, step_code, params_of, params_code, port_operator, port_code, place_behind, operand_temp, access_code, pairs_code, group_code, option_labels, option_code, expr_labels, node_labels, exprs_labels, optional_labels, stmt_labels, kind_labels, option_stmt_labels, stmts_labels, expr_code, node_code, args_code, init_code, test_code, last_code, leaves_of_object, stmt_code, kind_code, option_stmt_code, stmts_code, function_code}
 use Rattle.ec_lower_code.proofs.Steps.{Resolves}
 
 abbrev is_at : (l j : ℕ) → ℕ
@@ -135,12 +141,35 @@ params_counts j [] es t rest = omega arith
 params_counts j (o ∷ os) last_expr t rest = omega arith
 params_counts j (o ∷ os) (next_expr e es) t rest = params_counts j os es (t + 1) rest
 
-module _ (program : PlainProgram) where
+port_counts : (j : ℕ) (action : PortAction) (op : BinOp) (ty : PlainType) (mode : Mode) (port : PlainPort) (index : Option Temp) (t v : ℕ)
+    (rest : List PlainIr)
+    → count j (port_code action op ty mode port index t v rest) ≤ count j rest
+port_counts j reads op ty mode port index t v rest = omega arith
+port_counts j writes op ty mode port index t v rest = omega arith
+port_counts j updates op ty mode port index t v rest = omega arith
+
+access_counts : (j : ℕ) (op : IoOp) (mode : Mode) (port : Option PlainPort) (index : OptionPlainExpr) (t : ℕ) (rest : List PlainIr)
+    → count j (access_code op mode port index t rest) ≤ count j rest
+access_counts j op mode None index t rest = omega arith
+access_counts j op mode (Some port) index t rest =
+    port_counts j (port_operation op).action (port_operator op) (port_value (port_operation op)) mode port (operand_temp index t) t
+    (place_behind index t) rest
+
+pairs_counts : (j : ℕ) (pairs : List Pair) (t : ℕ) (rest : List PlainIr) → count j (pairs_code pairs t rest) ≤ count j rest
+pairs_counts j [] t rest = omega arith
+pairs_counts j (pair ∷ pairs) t rest = pairs_counts j pairs t rest
+
+group_counts : (j : ℕ) (acquire : Bool) (x : Option PlainGroup) (t : ℕ) (rest : List PlainIr)
+    → count j (group_code acquire x t rest) ≤ count j rest
+group_counts j acquire None t rest = omega arith
+group_counts j acquire (Some x) t rest = pairs_counts j (pairs_of acquire x) t rest
+
+module _ (program : PlainProgram) (table : PlainTable) where
   mutual
-    pub expr_counts : (j : ℕ) (e : PlainExpr) (l t : ℕ) (rest : List PlainIr) → count j (expr_code program e l t rest) ≤ among (expr_labels e) l j + count j rest
+    pub expr_counts : (j : ℕ) (e : PlainExpr) (l t : ℕ) (rest : List PlainIr) → count j (expr_code program table e l t rest) ≤ among (expr_labels e) l j + count j rest
     expr_counts j (expression ty mode node) l t rest = node_counts j ty mode node l t rest
 
-    node_counts : (j : ℕ) (ty : PlainType) (mode : Mode) (node : PlainNode) (l t : ℕ) (rest : List PlainIr) → count j (node_code program ty mode node l t rest) ≤ among (node_labels node) l j + count j rest
+    node_counts : (j : ℕ) (ty : PlainType) (mode : Mode) (node : PlainNode) (l t : ℕ) (rest : List PlainIr) → count j (node_code program table ty mode node l t rest) ≤ among (node_labels node) l j + count j rest
     node_counts j ty mode (number n) l t rest = omega arith
     node_counts j ty mode null l t rest = omega arith
     node_counts j ty mode (load (object o)) l t rest = omega arith
@@ -150,7 +179,7 @@ module _ (program : PlainProgram) where
     node_counts j ty mode (unary op a) l t rest = expr_counts j a l t (unary_op op ty mode (temp t ty) (temp t ty) ∷ rest)
     node_counts j ty mode (binary op a b) l t rest =
         let q : List PlainIr = binary_op op ty mode (temp t ty) (temp t (type_of_expr a)) (type_of_expr a) (temp (t + 1) (type_of_expr b)) (type_of_expr b) ∷ rest in
-        let x = expr_counts j a l t (expr_code program b (l + expr_labels a) (t + 1) q) in let y = expr_counts j b (l + expr_labels a) (t + 1) q in let z = among_two (expr_labels a) (expr_labels b) l j in omega (arith, x, y, z)
+        let x = expr_counts j a l t (expr_code program table b (l + expr_labels a) (t + 1) q) in let y = expr_counts j b (l + expr_labels a) (t + 1) q in let z = among_two (expr_labels a) (expr_labels b) l j in omega (arith, x, y, z)
     node_counts j ty mode (convert a) l t rest = expr_counts j a l t (conversion (temp t ty) ty mode (temp t (type_of_expr a)) (type_of_expr a) ∷ rest)
     node_counts j ty mode (assign (object o) a) l t rest = expr_counts j a l t (store_object o 0 (temp t ty) ∷ rest)
     node_counts j ty mode (assign (deref e) a) l t rest = omega arith
@@ -165,74 +194,84 @@ module _ (program : PlainProgram) where
         let x = expr_counts j a (l + 2) t (branch_zero (temp t (type_of_expr a)) l ∷ truth_code false ty l t rest) in let z = among_two 2 (expr_labels a) l j in let v = two_labels l j in omega (arith, x, z, v)
     node_counts j ty mode (logical_and a b) l t rest =
         let q : List PlainIr = branch_zero (temp t (type_of_expr b)) l ∷ truth_code true ty l t rest in
-        let x = expr_counts j a (l + 2) t (branch_zero (temp t (type_of_expr a)) l ∷ expr_code program b (l + 2 + expr_labels a) t q) in let y = expr_counts j b (l + 2 + expr_labels a) t q in let z = among_three 2 (expr_labels a) (expr_labels b) l j in let v = two_labels l j in omega (arith, x, y, z, v)
+        let x = expr_counts j a (l + 2) t (branch_zero (temp t (type_of_expr a)) l ∷ expr_code program table b (l + 2 + expr_labels a) t q) in let y = expr_counts j b (l + 2 + expr_labels a) t q in let z = among_three 2 (expr_labels a) (expr_labels b) l j in let v = two_labels l j in omega (arith, x, y, z, v)
     node_counts j ty mode (logical_or a b) l t rest =
         let q : List PlainIr = branch_zero (temp t (type_of_expr b)) l ∷ label (l + 3) ∷ truth_code true ty l t rest in
-        let x = expr_counts j a (l + 4) t (branch_zero (temp t (type_of_expr a)) (l + 2) ∷ jump (l + 3) ∷ label (l + 2) ∷ expr_code program b (l + 4 + expr_labels a) t q) in let y = expr_counts j b (l + 4 + expr_labels a) t q in let z = among_three 4 (expr_labels a) (expr_labels b) l j in let v = four_labels l j in omega (arith, x, y, z, v)
+        let x = expr_counts j a (l + 4) t (branch_zero (temp t (type_of_expr a)) (l + 2) ∷ jump (l + 3) ∷ label (l + 2) ∷ expr_code program table b (l + 4 + expr_labels a) t q) in let y = expr_counts j b (l + 4 + expr_labels a) t q in let z = among_three 4 (expr_labels a) (expr_labels b) l j in let v = four_labels l j in omega (arith, x, y, z, v)
     node_counts j ty mode (conditional c a b) l t rest =
         let r : List PlainIr = label (l + 1) ∷ rest in
-        let q : List PlainIr = jump (l + 1) ∷ label l ∷ expr_code program b (l + 2 + expr_labels c + expr_labels a) t r in
-        let x = expr_counts j c (l + 2) t (branch_zero (temp t (type_of_expr c)) l ∷ expr_code program a (l + 2 + expr_labels c) t q) in let y = expr_counts j a (l + 2 + expr_labels c) t q in let u = expr_counts j b (l + 2 + expr_labels c + expr_labels a) t r in
+        let q : List PlainIr = jump (l + 1) ∷ label l ∷ expr_code program table b (l + 2 + expr_labels c + expr_labels a) t r in
+        let x = expr_counts j c (l + 2) t (branch_zero (temp t (type_of_expr c)) l ∷ expr_code program table a (l + 2 + expr_labels c) t q) in let y = expr_counts j a (l + 2 + expr_labels c) t q in let u = expr_counts j b (l + 2 + expr_labels c + expr_labels a) t r in
         let z = among_four 2 (expr_labels c) (expr_labels a) (expr_labels b) l j in let v = two_labels l j in omega (arith, x, y, u, z, v)
     node_counts j ty mode (comma a b) l t rest =
-        let x = expr_counts j a l t (expr_code program b (l + expr_labels a) t rest) in let y = expr_counts j b (l + expr_labels a) t rest in let z = among_two (expr_labels a) (expr_labels b) l j in omega (arith, x, y, z)
+        let x = expr_counts j a l t (expr_code program table b (l + expr_labels a) t rest) in let y = expr_counts j b (l + expr_labels a) t rest in let z = among_two (expr_labels a) (expr_labels b) l j in omega (arith, x, y, z)
     node_counts j ty mode (call f args) l t rest =
         let q : List PlainIr = call_function f (result_temp t ty) ∷ rest in
         let x = args_counts j args l t (params_code (params_of program f) args t q) in let y = params_counts j (params_of program f) args t q in omega (arith, x, y)
-    node_counts j ty mode (io op port i v) l t rest = omega arith
-    node_counts j ty mode (group acquire g) l t rest = omega arith
+    node_counts j ty mode (io op port i v) l t rest =
+        let q = access_code op mode (slice_get table.ports port) i t rest in
+        let x = operand_counts j i l t (option_code program table v (l + option_labels i) (place_behind i t) q) in
+        let y = operand_counts j v (l + option_labels i) (place_behind i t) q in
+        let u = access_counts j op mode (slice_get table.ports port) i t rest in
+        let z = among_two (option_labels i) (option_labels v) l j in omega (arith, x, y, u, z)
+    node_counts j ty mode (group acquire g) l t rest = let x = group_counts j acquire (slice_get table.groups g) t rest in omega (arith, x)
 
-    args_counts : (j : ℕ) (es : PlainExprs) (l t : ℕ) (rest : List PlainIr) → count j (args_code program es l t rest) ≤ among (exprs_labels es) l j + count j rest
+    operand_counts : (j : ℕ) (e : OptionPlainExpr) (l t : ℕ) (rest : List PlainIr)
+        → count j (option_code program table e l t rest) ≤ among (option_labels e) l j + count j rest
+    operand_counts j no_expr l t rest = omega arith
+    operand_counts j (an_expr e) l t rest = expr_counts j e l t rest
+
+    args_counts : (j : ℕ) (es : PlainExprs) (l t : ℕ) (rest : List PlainIr) → count j (args_code program table es l t rest) ≤ among (exprs_labels es) l j + count j rest
     args_counts j last_expr l t rest = omega arith
     args_counts j (next_expr e es) l t rest =
-        let x = expr_counts j e l t (args_code program es (l + expr_labels e) (t + 1) rest) in let y = args_counts j es (l + expr_labels e) (t + 1) rest in let z = among_two (expr_labels e) (exprs_labels es) l j in omega (arith, x, y, z)
+        let x = expr_counts j e l t (args_code program table es (l + expr_labels e) (t + 1) rest) in let y = args_counts j es (l + expr_labels e) (t + 1) rest in let z = among_two (expr_labels e) (exprs_labels es) l j in omega (arith, x, y, z)
 
-  init_counts : (j : ℕ) (ls : List PlainLeaf) (o : ℕ) (es : PlainExprs) (l : ℕ) (rest : List PlainIr) → count j (init_code program ls o es l rest) ≤ among (exprs_labels es) l j + count j rest
+  init_counts : (j : ℕ) (ls : List PlainLeaf) (o : ℕ) (es : PlainExprs) (l : ℕ) (rest : List PlainIr) → count j (init_code program table ls o es l rest) ≤ among (exprs_labels es) l j + count j rest
   init_counts j [] o es l rest = omega arith
   init_counts j (leaf ∷ ls) o last_expr l rest = omega arith
   init_counts j (leaf ∷ ls) o (next_expr e es) l rest =
-      let x = expr_counts j e l 0 (store_object o leaf.at (temp 0 (type_of_expr e)) ∷ init_code program ls o es (l + expr_labels e) rest) in let y = init_counts j ls o es (l + expr_labels e) rest in let z = among_two (expr_labels e) (exprs_labels es) l j in omega (arith, x, y, z)
+      let x = expr_counts j e l 0 (store_object o leaf.at (temp 0 (type_of_expr e)) ∷ init_code program table ls o es (l + expr_labels e) rest) in let y = init_counts j ls o es (l + expr_labels e) rest in let z = among_two (expr_labels e) (exprs_labels es) l j in omega (arith, x, y, z)
 
-  test_counts : (j : ℕ) (c : Option PlainExpr) (out l : ℕ) (rest : List PlainIr) → count j (test_code program c out l rest) ≤ among (optional_labels c) l j + count j rest
+  test_counts : (j : ℕ) (c : Option PlainExpr) (out l : ℕ) (rest : List PlainIr) → count j (test_code program table c out l rest) ≤ among (optional_labels c) l j + count j rest
   test_counts j None out l rest = omega arith
   test_counts j (Some c) out l rest = expr_counts j c l 0 (branch_zero (temp 0 (type_of_expr c)) out ∷ rest)
 
-  last_counts : (j : ℕ) (e : Option PlainExpr) (l : ℕ) (rest : List PlainIr) → count j (last_code program e l rest) ≤ among (optional_labels e) l j + count j rest
+  last_counts : (j : ℕ) (e : Option PlainExpr) (l : ℕ) (rest : List PlainIr) → count j (last_code program table e l rest) ≤ among (optional_labels e) l j + count j rest
   last_counts j None l rest = omega arith
   last_counts j (Some e) l rest = expr_counts j e l 0 rest
 
   mutual
-    pub stmt_counts : (j : ℕ) (a : PlainStmt) (l out on : ℕ) (rest : List PlainIr) → count j (stmt_code program a l out on rest) ≤ among (stmt_labels a) l j + count j rest
+    pub stmt_counts : (j : ℕ) (a : PlainStmt) (l out on : ℕ) (rest : List PlainIr) → count j (stmt_code program table a l out on rest) ≤ among (stmt_labels a) l j + count j rest
     stmt_counts j (statement unit at kind) l out on rest = kind_counts j kind l out on rest
 
-    kind_counts : (j : ℕ) (kind : PlainKind) (l out on : ℕ) (rest : List PlainIr) → count j (kind_code program kind l out on rest) ≤ among (kind_labels kind) l j + count j rest
+    kind_counts : (j : ℕ) (kind : PlainKind) (l out on : ℕ) (rest : List PlainIr) → count j (kind_code program table kind l out on rest) ≤ among (kind_labels kind) l j + count j rest
     kind_counts j empty l out on rest = omega arith
     kind_counts j (evaluate e) l out on rest = expr_counts j e l 0 rest
     kind_counts j (block ss) l out on rest = stmts_counts j ss l out on rest
     kind_counts j (declare o es) l out on rest = init_counts j (leaves_of_object program o) o es l rest
     kind_counts j (branch c a no_stmt) l out on rest =
-        let x = expr_counts j c (l + 2) 0 (branch_zero (temp 0 (type_of_expr c)) l ∷ stmt_code program a (l + 2 + expr_labels c) out on (label l ∷ rest)) in let y = stmt_counts j a (l + 2 + expr_labels c) out on (label l ∷ rest) in
+        let x = expr_counts j c (l + 2) 0 (branch_zero (temp 0 (type_of_expr c)) l ∷ stmt_code program table a (l + 2 + expr_labels c) out on (label l ∷ rest)) in let y = stmt_counts j a (l + 2 + expr_labels c) out on (label l ∷ rest) in
         let z = among_four 2 (expr_labels c) (stmt_labels a) 0 l j in let v = two_labels l j in omega (arith, x, y, z, v)
     kind_counts j (branch c a (a_stmt b)) l out on rest =
-        let q : List PlainIr = jump (l + 1) ∷ label l ∷ stmt_code program b (l + 2 + expr_labels c + stmt_labels a) out on (label (l + 1) ∷ rest) in
-        let x = expr_counts j c (l + 2) 0 (branch_zero (temp 0 (type_of_expr c)) l ∷ stmt_code program a (l + 2 + expr_labels c) out on q) in let y = stmt_counts j a (l + 2 + expr_labels c) out on q in let u = stmt_counts j b (l + 2 + expr_labels c + stmt_labels a) out on (label (l + 1) ∷ rest) in
+        let q : List PlainIr = jump (l + 1) ∷ label l ∷ stmt_code program table b (l + 2 + expr_labels c + stmt_labels a) out on (label (l + 1) ∷ rest) in
+        let x = expr_counts j c (l + 2) 0 (branch_zero (temp 0 (type_of_expr c)) l ∷ stmt_code program table a (l + 2 + expr_labels c) out on q) in let y = stmt_counts j a (l + 2 + expr_labels c) out on q in let u = stmt_counts j b (l + 2 + expr_labels c + stmt_labels a) out on (label (l + 1) ∷ rest) in
         let z = among_four 2 (expr_labels c) (stmt_labels a) (stmt_labels b) l j in let v = two_labels l j in omega (arith, x, y, u, z, v)
     kind_counts j (while_loop c a) l out on rest =
         let q : List PlainIr = label (l + 2) ∷ jump l ∷ label (l + 1) ∷ rest in
-        let b : List PlainIr = label (l + 3) ∷ stmt_code program a (l + 4 + expr_labels c) (l + 1) (l + 2) q in
+        let b : List PlainIr = label (l + 3) ∷ stmt_code program table a (l + 4 + expr_labels c) (l + 1) (l + 2) q in
         let x = test_counts j (Some c) (l + 1) (l + 4) b in let y = stmt_counts j a (l + 4 + expr_labels c) (l + 1) (l + 2) q in
         let z = among_three 4 (expr_labels c) (stmt_labels a) l j in let v = four_labels l j in omega (arith, x, y, z, v)
     kind_counts j (do_loop a c) l out on rest =
         let q : List PlainIr = label (l + 2) ∷ jump l ∷ label (l + 1) ∷ rest in
-        let b : List PlainIr = label (l + 3) ∷ stmt_code program a (l + 4 + expr_labels c) (l + 1) (l + 2) q in
+        let b : List PlainIr = label (l + 3) ∷ stmt_code program table a (l + 4 + expr_labels c) (l + 1) (l + 2) q in
         let x = test_counts j (Some c) (l + 1) (l + 4) b in let y = stmt_counts j a (l + 4 + expr_labels c) (l + 1) (l + 2) q in
         let z = among_three 4 (expr_labels c) (stmt_labels a) l j in let v = four_labels l j in omega (arith, x, y, z, v)
     kind_counts j (for_loop first c last a) l0 out on rest =
         let l = l0 + option_stmt_labels first in
         let e : List PlainIr = jump l ∷ label (l + 1) ∷ rest in
-        let q : List PlainIr = label (l + 2) ∷ last_code program last (l + 4 + optional_labels c) e in
-        let b : List PlainIr = label (l + 3) ∷ stmt_code program a (l + 4 + optional_labels c + optional_labels last) (l + 1) (l + 2) q in
-        let f = option_counts j first l0 out on (label l ∷ test_code program c (l + 1) (l + 4) b) in
+        let q : List PlainIr = label (l + 2) ∷ last_code program table last (l + 4 + optional_labels c) e in
+        let b : List PlainIr = label (l + 3) ∷ stmt_code program table a (l + 4 + optional_labels c + optional_labels last) (l + 1) (l + 2) q in
+        let f = option_counts j first l0 out on (label l ∷ test_code program table c (l + 1) (l + 4) b) in
         let x = test_counts j c (l + 1) (l + 4) b in
         let y = stmt_counts j a (l + 4 + optional_labels c + optional_labels last) (l + 1) (l + 2) q in
         let u = last_counts j last (l + 4 + optional_labels c) e in
@@ -243,21 +282,21 @@ module _ (program : PlainProgram) where
     kind_counts j (return_value None) l out on rest = omega arith
     kind_counts j (return_value (Some e)) l out on rest = expr_counts j e l 0 (return_from (Some (temp 0 (type_of_expr e))) ∷ rest)
 
-    option_counts : (j : ℕ) (a : OptionPlainStmt) (l out on : ℕ) (rest : List PlainIr) → count j (option_stmt_code program a l out on rest) ≤ among (option_stmt_labels a) l j + count j rest
+    option_counts : (j : ℕ) (a : OptionPlainStmt) (l out on : ℕ) (rest : List PlainIr) → count j (option_stmt_code program table a l out on rest) ≤ among (option_stmt_labels a) l j + count j rest
     option_counts j no_stmt l out on rest = omega arith
     option_counts j (a_stmt a) l out on rest = stmt_counts j a l out on rest
 
-    stmts_counts : (j : ℕ) (ss : PlainStmts) (l out on : ℕ) (rest : List PlainIr) → count j (stmts_code program ss l out on rest) ≤ among (stmts_labels ss) l j + count j rest
+    stmts_counts : (j : ℕ) (ss : PlainStmts) (l out on : ℕ) (rest : List PlainIr) → count j (stmts_code program table ss l out on rest) ≤ among (stmts_labels ss) l j + count j rest
     stmts_counts j last_stmt l out on rest = omega arith
     stmts_counts j (next_stmt a ss) l out on rest =
-        let x = stmt_counts j a l out on (stmts_code program ss (l + stmt_labels a) out on rest) in let y = stmts_counts j ss (l + stmt_labels a) out on rest in let z = among_two (stmt_labels a) (stmts_labels ss) l j in omega (arith, x, y, z)
+        let x = stmt_counts j a l out on (stmts_code program table ss (l + stmt_labels a) out on rest) in let y = stmts_counts j ss (l + stmt_labels a) out on rest in let z = among_two (stmt_labels a) (stmts_labels ss) l j in omega (arith, x, y, z)
 
   -- the label 0 stands behind the body, whose labels are from 1 on
-  pub function_counts : (f : PlainFunction) (j : ℕ) → count j (function_code program f) ≤ 1
+  pub function_counts : (f : PlainFunction) (j : ℕ) → count j (function_code program table f) ≤ 1
   function_counts f j =
       let x = stmt_counts j f.body 1 0 0 (label 0 ∷ return_from None ∷ []) in
       let y = among_two 1 (stmt_labels f.body) 0 j in let z = among_one (1 + stmt_labels f.body) 0 j in
       omega (arith, x, y, z)
 
-  pub function_resolves : (f : PlainFunction) → Resolves (function_code program f)
-  function_resolves f = counts_resolve (function_code program f) (function_counts f)
+  pub function_resolves : (f : PlainFunction) → Resolves (function_code program table f)
+  function_resolves f = counts_resolve (function_code program table f) (function_counts f)

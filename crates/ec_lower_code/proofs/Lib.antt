@@ -5,10 +5,14 @@ pub mod Values
 pub mod Steps
 pub mod Homes
 pub mod Ops
+pub mod PortOperators
+pub mod Tables
 pub mod Pays
+pub mod PortRuns
 pub mod Behind
 pub mod Callees
 pub mod Scene
+pub mod PortNodes
 pub mod Expressions
 pub mod Facts
 pub mod Statements
@@ -25,4 +29,4 @@ pub mod Wellformed
 pub mod Reached
 pub mod Rules
 pub mod Made
-pub mod Integers
+pub mod Compiled

@@ -20,7 +20,7 @@ use Rattle.ec_lower_code.proofs.Callees.{IsOther}
 use Rattle.ec_lower_code.proofs.Expressions.{W, value, Has, Tests, tests}
 use Rattle.ec_lower_code.proofs.Numbers.{scalar_bytes}
 use Rattle.ec_lower_code.proofs.Ops.{to_rest, past_label, label_comes, jumps, jump_steps, branch_on, branch_off}
-use Rattle.ec_lower_code.proofs.Scene.{World, homes, set, calls_to, Scene}
+use Rattle.ec_lower_code.proofs.Scene.{World, ports, homes, set, calls_to, Scene}
 use Rattle.ec_lower_code.proofs.Shown.{Match}
 use Rattle.ec_lower_code.proofs.Statements.{Returns, Left, Kept, left_to, Way, Typed, at_rest, bind_exit, whole_runs}
 use Rattle.ec_lower_code.proofs.Steps.{at, Stands, here, Comes, Does, comes_on, after, after_step, fewer, bind, credited, spent_on, less}
@@ -32,20 +32,20 @@ module _ (wd : World) (sc : Scene wd) (ret : Returns wd sc) where
   -- a loop: its condition, the last part of a turn, its body as the source has it, and its labels; then its places: the
   -- test, the body, what a continue goes to, and what follows
   module _ (c last : Option PlainExpr) (l d : ℕ) (body : State → Outcome Exit) (inner rest : List PlainIr)
-      (tested_at : find l sc.code ≡ Some (test_code wd.program c (l + 1) (l + 4) (label (l + 3) ∷ inner)))
+      (tested_at : find l sc.code ≡ Some (test_code wd.program (ports wd) c (l + 1) (l + 4) (label (l + 3) ∷ inner)))
       (ended_at : find (l + 1) sc.code ≡ Some rest)
-      (test_stands : Stands sc.code (test_code wd.program c (l + 1) (l + 4) (label (l + 3) ∷ inner)))
-      (last_stands : Stands sc.code (last_code wd.program last (l + 4 + optional_labels c) (jump l ∷ label (l + 1) ∷ rest)))
+      (test_stands : Stands sc.code (test_code wd.program (ports wd) c (l + 1) (l + 4) (label (l + 3) ∷ inner)))
+      (last_stands : Stands sc.code (last_code wd.program (ports wd) last (l + 4 + optional_labels c) (jump l ∷ label (l + 1) ∷ rest)))
       (part : IsOptional IsNumericOrVoid (IsOther wd.program) c) (valid_part : ValidCondition wd.program wd.io sc.f c)
       (last_part : IsOptional IsNumericOrVoid (IsOther wd.program) last) (valid_last : ValidOptional wd.program wd.io sc.f last)
       (body_runs : (s : State) (m : Mach) → Match (homes wd) (d + 30) s m → IsTypedState wd.program s
-      → Typed wd sc ret wd.n inner m (label (l + 2) ∷ last_code wd.program last (l + 4 + optional_labels c) (jump l ∷ label (l + 1) ∷ rest)) rest (last_code wd.program last (l + 4 + optional_labels c) (jump l ∷ label (l + 1) ∷ rest)) (d + 30) (body s))
+      → Typed wd sc ret wd.n inner m (label (l + 2) ∷ last_code wd.program (ports wd) last (l + 4 + optional_labels c) (jump l ∷ label (l + 1) ∷ rest)) rest (last_code wd.program (ports wd) last (l + 4 + optional_labels c) (jump l ∷ label (l + 1) ∷ rest)) (d + 30) (body s))
     where
       abbrev last_place : List PlainIr
-      last_place = last_code wd.program last (l + 4 + optional_labels c) (jump l ∷ label (l + 1) ∷ rest)
+      last_place = last_code wd.program (ports wd) last (l + 4 + optional_labels c) (jump l ∷ label (l + 1) ∷ rest)
 
       abbrev test_place : List PlainIr
-      test_place = test_code wd.program c (l + 1) (l + 4) (label (l + 3) ∷ inner)
+      test_place = test_code wd.program (ports wd) c (l + 1) (l + 4) (label (l + 3) ∷ inner)
 
       -- the machine goes from here to the body, within the words of a turn
       pub record Enters (p : List PlainIr) (u : Mach) : Type 0 where
@@ -72,14 +72,14 @@ module _ (wd : World) (sc : Scene wd) (ret : Returns wd sc) where
             after (W wd sc) (left_to wd sc ret rest out on) (Left wd sc ret d) k (here (W wd sc) (i ∷ label (l + 3) ∷ inner)) (here (W wd sc) rest) u v (got at_end (worked loop_words s)) (branch_off (W wd sc) (type_of_expr x) 0 (l + 1) (label (l + 3) ∷ inner) rest u r.test.tested ended_at r.test.value r.test.zero)
             (at_rest wd sc ret d rest out on k (worked loop_words s) v (spent_on (homes wd) (d + 60) d i u.temps (worked loop_words s) u (omega (arith, e)) (credited (homes wd) loop_words d s u r.test.match)))
 
-        test_runs : (c1 : Option PlainExpr) → IsOptional IsNumericOrVoid (IsOther wd.program) c1 → ValidCondition wd.program wd.io sc.f c1 → (s : State) (m : Mach) → Stands sc.code (test_code wd.program c1 (l + 1) (l + 4) (label (l + 3) ∷ inner)) → Match (homes wd) d s m → IsTypedState wd.program s → Way wd sc ret k (test_code wd.program c1 (l + 1) (l + 4) (label (l + 3) ∷ inner)) m rest out on d (tested (test_of (set wd) calls c1 s) go)
+        test_runs : (c1 : Option PlainExpr) → IsOptional IsNumericOrVoid (IsOther wd.program) c1 → ValidCondition wd.program wd.io sc.f c1 → (s : State) (m : Mach) → Stands sc.code (test_code wd.program (ports wd) c1 (l + 1) (l + 4) (label (l + 3) ∷ inner)) → Match (homes wd) d s m → IsTypedState wd.program s → Way wd sc ret k (test_code wd.program (ports wd) c1 (l + 1) (l + 4) (label (l + 3) ∷ inner)) m rest out on d (tested (test_of (set wd) calls c1 s) go)
         test_runs None q v s m stands h st =
             runs s (label (l + 3) ∷ inner) m (record { by = λ s1 h1. (m, less (homes wd) (d + 60) (d + 30) (worked loop_words s1) m (omega arith) (credited (homes wd) loop_words d s1 m h1), label_comes (W wd sc) (l + 3) inner m) }) h st
         test_runs (Some x) q v s m stands h st =
             let i = branch_zero (temp 0 (type_of_expr x)) (l + 1) in
             let p : List PlainIr = i ∷ label (l + 3) ∷ inner in
-            bind (W wd sc) k (here (W wd sc) (expr_code wd.program x (l + 4) 0 p)) m (to_rest (W wd sc) p) (Tests wd sc (type_of_expr x) 0 d m.temps) (left_to wd sc ret rest out on) (Left wd sc ret d) (here (W wd sc) p) (condition (set wd) x (value wd sc x s)) _ (λ z. refl)
-            (tests wd sc k 0 d m.temps x s (expr_code wd.program x (l + 4) 0 p) p m v.1 (whole_runs wd sc ret k x (l + 4) d s m p le q v.0 st stands h))
+            bind (W wd sc) k (here (W wd sc) (expr_code wd.program (ports wd) x (l + 4) 0 p)) m (to_rest (W wd sc) p) (Tests wd sc (type_of_expr x) 0 d m.temps) (left_to wd sc ret rest out on) (Left wd sc ret d) (here (W wd sc) p) (condition (set wd) x (value wd sc x s)) _ (λ z. refl)
+            (tests wd sc k 0 d m.temps x s (expr_code wd.program (ports wd) x (l + 4) 0 p) p m v.1 (whole_runs wd sc ret k x (l + 4) d s m p le q v.0 st stands h))
             (λ b s1 u r. selected x m.temps b s1 u v.1 r)
 
       -- the last part, the jump and the test
@@ -92,14 +92,14 @@ module _ (wd : World) (sc : Scene wd) (ret : Returns wd sc) where
               after_step (W wd sc) (left_to wd sc ret rest out on) (Left wd sc ret d) k (jump l ∷ label (l + 1) ∷ rest) (here (W wd sc) test_place) u v (tested (test_of (set wd) calls c s1) go) (jump_steps (W wd sc) l (label (l + 1) ∷ rest) test_place u tested_at)
               (test_runs k (omega (arith, le)) out on go runs c part valid_part s1 v test_stands (spent_on (homes wd) (d + 30) d (jump l) u.temps s1 u (omega arith) h1) st1)
 
-          by_last : (y : Option PlainExpr) → IsOptional IsNumericOrVoid (IsOther wd.program) y → ValidOptional wd.program wd.io sc.f y → Stands sc.code (last_code wd.program y (l + 4 + optional_labels c) (jump l ∷ label (l + 1) ∷ rest)) → Way wd sc ret (suc k) (last_code wd.program y (l + 4 + optional_labels c) (jump l ∷ label (l + 1) ∷ rest)) m rest out on d (tested (going_on (set wd) calls y c s) go)
+          by_last : (y : Option PlainExpr) → IsOptional IsNumericOrVoid (IsOther wd.program) y → ValidOptional wd.program wd.io sc.f y → Stands sc.code (last_code wd.program (ports wd) y (l + 4 + optional_labels c) (jump l ∷ label (l + 1) ∷ rest)) → Way wd sc ret (suc k) (last_code wd.program (ports wd) y (l + 4 + optional_labels c) (jump l ∷ label (l + 1) ∷ rest)) m rest out on d (tested (going_on (set wd) calls y c s) go)
           by_last None q v stands = jumped s m h st
           by_last (Some e) q v stands =
               let p : List PlainIr = jump l ∷ label (l + 1) ∷ rest in
               value_then (value wd sc e s) (whole_runs wd sc ret (suc k) e (l + 4 + optional_labels c) (d + 30) s m p le q v st stands h)
             where
-              value_then : (o : Outcome Value) → Does (W wd sc) (suc k) (here (W wd sc) (expr_code wd.program e (l + 4 + optional_labels c) 0 (jump l ∷ label (l + 1) ∷ rest))) m (to_rest (W wd sc) (jump l ∷ label (l + 1) ∷ rest)) (Has wd sc (type_of_expr e) 0 (d + 30) m.temps) o → Way wd sc ret (suc k) (expr_code wd.program e (l + 4 + optional_labels c) 0 (jump l ∷ label (l + 1) ∷ rest)) m rest out on d (tested (next (next o (λ x s1. got at_end s1)) (λ x s1. test_of (set wd) calls c s1)) go)
-              value_then (got x s1) r = after (W wd sc) (left_to wd sc ret rest out on) (Left wd sc ret d) (suc k) (here (W wd sc) (expr_code wd.program e (l + 4 + optional_labels c) 0 (jump l ∷ label (l + 1) ∷ rest))) (here (W wd sc) (jump l ∷ label (l + 1) ∷ rest)) m r.0 (tested (test_of (set wd) calls c s1) go) r.2 (jumped s1 r.0 r.1.has.match r.1.state)
+              value_then : (o : Outcome Value) → Does (W wd sc) (suc k) (here (W wd sc) (expr_code wd.program (ports wd) e (l + 4 + optional_labels c) 0 (jump l ∷ label (l + 1) ∷ rest))) m (to_rest (W wd sc) (jump l ∷ label (l + 1) ∷ rest)) (Has wd sc (type_of_expr e) 0 (d + 30) m.temps) o → Way wd sc ret (suc k) (expr_code wd.program (ports wd) e (l + 4 + optional_labels c) 0 (jump l ∷ label (l + 1) ∷ rest)) m rest out on d (tested (next (next o (λ x s1. got at_end s1)) (λ x s1. test_of (set wd) calls c s1)) go)
+              value_then (got x s1) r = after (W wd sc) (left_to wd sc ret rest out on) (Left wd sc ret d) (suc k) (here (W wd sc) (expr_code wd.program (ports wd) e (l + 4 + optional_labels c) 0 (jump l ∷ label (l + 1) ∷ rest))) (here (W wd sc) (jump l ∷ label (l + 1) ∷ rest)) m r.0 (tested (test_of (set wd) calls c s1) go) r.2 (jumped s1 r.0 r.1.has.match r.1.state)
               value_then (more s1) r = r
               value_then (undefined point s1) r = tt
 

@@ -135,14 +135,22 @@ module _ (w : Spot) where
       (computes w i rest u u1 (conversion_step t t ty mode aty x v s u rest sc vt (h.value sc) h.match.objects f) refl refl (omega arith))
       (set_value i ty t d e b u s v le h.match h.same, held_above t (held_of ty v) u.temps ∙ above)
 
-  -- an operation on what stands at t and t + 1, whose result goes to one of them
-  binary_step : (t q : ℕ) (op : BinOp) (ty : PlainType) (mode : Mode) (aty bty : PlainType) (x y v : Value) (s : State) (u : Mach) (rest : List PlainIr) → IsScalar aty → IsValueOf aty x → IsScalar bty → IsValueOf bty y → u.temps t ≡ Some (held_of aty x) → u.temps (t + 1) ≡ Some (held_of bty y) → AreShown w.program w.program.objects s.objects u.state.objects
+  -- an operation on what stands at two places, whose result goes to another
+  binary_step : (t p q : ℕ) (op : BinOp) (ty : PlainType) (mode : Mode) (aty bty : PlainType) (x y v : Value) (s : State) (u : Mach)
+      (rest : List PlainIr) → IsScalar aty → IsValueOf aty x → IsScalar bty → IsValueOf bty y → u.temps t ≡ Some (held_of aty x)
+      → u.temps p ≡ Some (held_of bty y) → AreShown w.program w.program.objects s.objects u.state.objects
       → binary_result op ty mode (operand_of w.program aty x s) (operand_of w.program bty y s) ≡ Ok v
-      → (k : ℕ) → goes w (suc k) (binary_op op ty mode (temp q ty) (temp t aty) aty (temp (t + 1) bty) bty ∷ rest) u ≡ goes w (suc k) rest (machine (with_temp (temp q ty) (shown v) u.temps) (worked (op_steps (binary_op op ty mode (temp q ty) (temp t aty) aty (temp (t + 1) bty) bty)) u.state))
-  binary_step t q op ty mode aty bty x y v s u rest sa va sb vb hx hy o f k =
-      let s1 : State = worked (op_steps (binary_op op ty mode (temp q ty) (temp t aty) aty (temp (t + 1) bty) bty)) u.state in
-      ap (λ z. next z (λ x s2. next (held_as bty (temp (t + 1) bty) u.temps s2) (λ y s3. next (given (binary_result op ty mode (operand_of w.program aty x s3) (operand_of w.program bty y s3)) s3) (λ v s4. goes w (suc k) rest (machine (with_temp (temp q ty) v u.temps) s4))))) (held_as_is aty t x u.temps s1 sa va hx)
-      ∙ ap (λ z. next z (λ y s3. next (given (binary_result op ty mode (operand_of w.program aty (shown x) s3) (operand_of w.program bty y s3)) s3) (λ v s4. goes w (suc k) rest (machine (with_temp (temp q ty) v u.temps) s4)))) (held_as_is bty (t + 1) y u.temps s1 sb vb hy)
+      → (k : ℕ) → goes w (suc k) (binary_op op ty mode (temp q ty) (temp t aty) aty (temp p bty) bty ∷ rest) u ≡ goes w (suc k) rest
+      (machine (with_temp (temp q ty) (shown v) u.temps) (worked (op_steps
+      (binary_op op ty mode (temp q ty) (temp t aty) aty (temp p bty) bty)) u.state))
+  binary_step t p q op ty mode aty bty x y v s u rest sa va sb vb hx hy o f k =
+      let s1 : State = worked (op_steps (binary_op op ty mode (temp q ty) (temp t aty) aty (temp p bty) bty)) u.state in
+      ap (λ z. next z (λ x s2. next (held_as bty (temp p bty) u.temps s2)
+      (λ y s3. next (given (binary_result op ty mode (operand_of w.program aty x s3) (operand_of w.program bty y s3)) s3)
+      (λ v s4. goes w (suc k) rest (machine (with_temp (temp q ty) v u.temps) s4))))) (held_as_is aty t x u.temps s1 sa va hx)
+      ∙ ap (λ z. next z (λ y s3. next (given (binary_result op ty mode (operand_of w.program aty (shown x) s3)
+      (operand_of w.program bty y s3)) s3) (λ v s4. goes w (suc k) rest (machine (with_temp (temp q ty) v u.temps) s4))))
+      (held_as_is bty p y u.temps s1 sb vb hy)
       ∙ ap (λ z. next (given z s1) (λ v s4. goes w (suc k) rest (machine (with_temp (temp q ty) v u.temps) s4))) (binary_shown w.program s s1 o op ty mode aty bty x y v f)
 
   pub binary_runs : (n t d e : ℕ) (b : Temps) (op : BinOp) (ty : PlainType) (mode : Mode) (aty bty : PlainType) (x y : Value) (s : State) (u : Mach) (rest : List PlainIr) → IsScalar aty → IsValueOf aty x → IsScalar bty → IsValueOf bty y → binary_words op ty aty bty + d ≤ e
@@ -150,14 +158,28 @@ module _ (w : Spot) where
       → Runs w n (binary_op op ty mode (temp t ty) (temp t aty) aty (temp (t + 1) bty) bty ∷ rest) u (to_rest rest) (HasValue ty t d b) (given r s)
   binary_runs n t d e b op ty mode aty bty x y s u rest sa va sb vb le h hx hy same (Err point) f = tt
   binary_runs n t d e b op ty mode aty bty x y s u rest sa va sb vb le h hx hy same (Ok v) f =
-      computed n t d e b (binary_op op ty mode (temp t ty) (temp t aty) aty (temp (t + 1) bty) bty) ty v s u rest le h same (binary_step t t op ty mode aty bty x y v s u rest sa va sb vb hx hy h.objects f)
+      computed n t d e b (binary_op op ty mode (temp t ty) (temp t aty) aty (temp (t + 1) bty) bty) ty v s u rest le h same
+      (binary_step t (t + 1) t op ty mode aty bty x y v s u rest sa va sb vb hx hy h.objects f)
 
   -- the same, where the left operand is kept
   pub binary_above : (n t d e : ℕ) (op : BinOp) (ty : PlainType) (mode : Mode) (aty bty : PlainType) (x y v : Value) (s : State) (u : Mach) (rest : List PlainIr) → IsScalar aty → IsValueOf aty x → IsScalar bty → IsValueOf bty y → binary_words op ty aty bty + d ≤ e
       → Match w.program e s u → u.temps t ≡ Some (held_of aty x) → u.temps (t + 1) ≡ Some (held_of bty y) → binary_result op ty mode (operand_of w.program aty x s) (operand_of w.program bty y s) ≡ Ok v
       → Runs w n (binary_op op ty mode (temp (t + 1) ty) (temp t aty) aty (temp (t + 1) bty) bty ∷ rest) u (to_rest rest) (HasValue ty (t + 1) d u.temps) (got v s)
   binary_above n t d e op ty mode aty bty x y v s u rest sa va sb vb le h hx hy f =
-      computed n (t + 1) d e u.temps (binary_op op ty mode (temp (t + 1) ty) (temp t aty) aty (temp (t + 1) bty) bty) ty v s u rest le h (λ j lt. refl) (binary_step t (t + 1) op ty mode aty bty x y v s u rest sa va sb vb hx hy h.objects f)
+      computed n (t + 1) d e u.temps (binary_op op ty mode (temp (t + 1) ty) (temp t aty) aty (temp (t + 1) bty) bty) ty v s u rest le h
+      (λ j lt. refl) (binary_step t (t + 1) (t + 1) op ty mode aty bty x y v s u rest sa va sb vb hx hy h.objects f)
+
+  -- the same, where the right operand is kept
+  pub binary_over : (n t d e : ℕ) (op : BinOp) (ty : PlainType) (mode : Mode) (aty bty : PlainType) (x y v : Value) (s : State) (u : Mach)
+      (rest : List PlainIr) → IsScalar aty → IsValueOf aty x → IsScalar bty → IsValueOf bty y → binary_words op ty aty bty + d ≤ e
+      → Match w.program e s u → u.temps (t + 1) ≡ Some (held_of aty x) → u.temps t ≡ Some (held_of bty y)
+      → binary_result op ty mode (operand_of w.program aty x s) (operand_of w.program bty y s) ≡ Ok v
+      → Runs w n (binary_op op ty mode (temp (t + 1) ty) (temp (t + 1) aty) aty (temp t bty) bty ∷ rest) u (to_rest rest)
+      (HasValue ty (t + 1) d u.temps) (got v s)
+  binary_over n t d e op ty mode aty bty x y v s u rest sa va sb vb le h hx hy f =
+      computed n (t + 1) d e u.temps (binary_op op ty mode (temp (t + 1) ty) (temp (t + 1) aty) aty (temp t bty) bty) ty v s u rest le h
+      (λ j lt. refl)
+      (binary_step (t + 1) t (t + 1) op ty mode aty bty x y v s u rest sa va sb vb hx hy h.objects f)
 
   -- a condition, which takes no operation
   pub test_runs : (n t d : ℕ) (b : Temps) (ty : PlainType) (x : Value) (s : State) (u : Mach) (rest : List PlainIr) → IsScalar ty → IsValueOf ty x → HasValue ty t d b x s u → (r : Result Bool Undefined) → truth_result (operand_of w.program ty x s) ≡ r → Runs w n rest u (to_rest rest) (HasTest ty t d b) (given r s)

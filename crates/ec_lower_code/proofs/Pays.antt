@@ -1,11 +1,16 @@
 -- The rows of the parts pay for their operations.
-use Rattle.std.proofs.Common.{◌≡◌, ℕ, ◌+◌, ◌*◌, ◌≤◌, Bool, true, false, [], ◌∷◌, arith}
+use Rattle.std.proofs.Common.{◌≡◌, ℕ, ◌+◌, ◌*◌, ◌≤◌, Bool, true, false, [], ◌∷◌, Option, None, Some, refl, ap, ◌∙◌, arith}
 use Rattle.std.specs.Prelude.{◌&&◌, ◌||◌, if◌then◌else◌, max}
 use Rattle.ec_core.specs.declared.expressions.BinOp.{BinOp}
 use Rattle.ec_core.specs.Operators.{same_type}
-use Rattle.ec_core.specs.Plain.{PlainType}
+use Rattle.ec_core.specs.Layout.{scalar_size}
+use Rattle.ec_core.specs.Plain.{PlainType, integer, OptionPlainExpr, no_expr, an_expr}
+use Rattle.ec_core.specs.Typing.{unsigned_int, unsigned_long}
 use Rattle.ec_core.specs.Words.{widest, operation_words, choice_words, return_words}
-use Rattle.ec_ir.specs.Costs.{branch_zero_words, is_bitwise, is_integer, conversion_words, binary_words}
+use Rattle.ec_ir.specs.Costs.{branch_zero_words, is_bitwise, is_integer, conversion_words, binary_words, index_words}
+use Rattle.ec_iohw.specs.declared.operations.IoOp.{IoOp}
+use Rattle.ec_lower_code.specs.Code.{operand_temp, port_operator}
+use Rattle.ec_lower_code.proofs.PortOperators.{operator_bitwise}
 
 pub simple_pays : (a b : ℕ) → 5 * a ≤ 30 + 10 * max a b
 simple_pays a b = omega arith
@@ -42,6 +47,25 @@ and_pays t a b e = omega (arith, e)
 
 pub choice_pays : (t c a b : ℕ) → branch_zero_words c + 5 ≤ choice_words (max t (max c (max a (max b 1))))
 choice_pays t c a b = omega arith
+
+-- ---- ports
+
+-- the operation of an update, on unsigned values
+pub update_words_are : (op : IoOp) (b : ℕ)
+    → binary_words (port_operator op) (integer false b) (integer false b) (integer false b) ≡ 10 * max b 1
+update_words_are op b =
+    ap (λ c. if c && true then 10 * widest (integer false b ∷ integer false b ∷ integer false b ∷ []) else operation_words
+    (widest (integer false b ∷ integer false b ∷ integer false b ∷ []))) (operator_bitwise op)
+    ∙ omega arith
+
+pub index_pays : (index : OptionPlainExpr) (t : ℕ) → index_words (operand_temp index t) ≤ 40
+index_pays no_expr t = omega arith
+index_pays (an_expr e) t = omega arith
+
+-- the bytes of the values of a port operation
+pub port_bytes : (long : Bool) → scalar_size (if long then unsigned_long else unsigned_int) ≤ 4
+port_bytes true = omega arith
+port_bytes false = omega arith
 
 pub return_pays : (a : ℕ) → 40 + 5 * a ≤ return_words (max a 1)
 return_pays a = omega arith

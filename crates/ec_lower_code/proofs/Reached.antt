@@ -7,11 +7,18 @@ use Rattle.ec_core.specs.declared.expressions.BinOp.{BinOp}
 use Rattle.ec_core.specs.Layout.{PlainLeaf}
 use Rattle.ec_core.specs.Needs.{expr_calls, node_calls, place_calls, option_calls, exprs_calls, optional_calls, stmt_calls, kind_calls, option_stmt_calls, stmts_calls}
 use Rattle.ec_core.specs.Operators.{step_operator}
+use Rattle.ec_core.specs.PortAccesses.{pairs_of}
+use Rattle.ec_core.specs.PortOperations.{PortAction, reads, writes, updates, port_operation}
+use Rattle.ec_core.specs.PortTable.{PlainPort, PlainGroup, PlainTable}
+use Rattle.ec_iohw.specs.declared.operations.IoOp.{IoOp}
+use Rattle.ec_iohw.specs.declared.table.Pair.{Pair}
+use Rattle.ec_ir.specs.declared.operations.Temp.{Temp}
+use Rattle.ec_core.specs.Typing.{port_value}
 use Rattle.ec_core.specs.Plain.{PlainType, PlainExpr, expression, PlainNode, number, null, load, address_of, unary, binary, convert, assign, compound, step, logical_not, logical_and, logical_or, conditional, comma, call, io, group, PlainPlace, object, deref, member, OptionPlainExpr, no_expr, an_expr, PlainExprs, last_expr, next_expr, PlainStmt, statement, PlainKind, empty, evaluate, block, declare, branch, while_loop, do_loop, for_loop, break_loop, continue_loop, return_value, OptionPlainStmt, no_stmt, a_stmt, PlainStmts, last_stmt, next_stmt, PlainFunction, PlainProgram}
 use Rattle.ec_core.specs.Valid.{Reaches, calls, calls_through}
 use Rattle.ec_ir.specs.Operations.{PlainIr, PlainIrFunction}
 use Rattle.ec_ir.specs.Valid.{called_in, CallsTo, calls as calls_at, calls_through as calls_by}
-use Rattle.ec_lower_code.specs.Code.{step_code, params_of, params_code, expr_code, node_code, args_code, init_code, test_code, last_code, leaves_of_object, stmt_code, kind_code, option_stmt_code, stmts_code, function_code, lowered_function, lowered}
+use Rattle.ec_lower_code.specs.Code.{step_code, params_of, params_code, port_operator, port_code, place_behind, operand_temp, access_code, pairs_code, group_code, option_code, expr_code, node_code, args_code, init_code, test_code, last_code, leaves_of_object, stmt_code, kind_code, option_stmt_code, stmts_code, function_code, lowered_function, lowered}
 
 -- a member of a list
 abbrev pub In : List ℕ → ℕ → Type 0
@@ -117,12 +124,36 @@ behind_two a b cs ds g first second =
 
 -- ---- what the operations of a part call, the part or what follows it calls
 
-module _ (program : PlainProgram) where
+port_called : (action : PortAction) (op : BinOp) (ty : PlainType) (mode : Mode) (port : PlainPort) (index : Option Temp) (t v : ℕ)
+    (rest : List PlainIr) (g : ℕ)
+    → In (called_in (port_code action op ty mode port index t v rest)) g → In (called_in rest) g
+port_called reads op ty mode port index t v rest g h = h
+port_called writes op ty mode port index t v rest g h = h
+port_called updates op ty mode port index t v rest g h = h
+
+access_called : (op : IoOp) (mode : Mode) (port : Option PlainPort) (index : OptionPlainExpr) (t : ℕ) (rest : List PlainIr) (g : ℕ)
+    → In (called_in (access_code op mode port index t rest)) g → In (called_in rest) g
+access_called op mode None index t rest g h = h
+access_called op mode (Some port) index t rest g h =
+    port_called (port_operation op).action (port_operator op) (port_value (port_operation op)) mode port (operand_temp index t) t
+    (place_behind index t) rest g h
+
+pairs_called : (pairs : List Pair) (t : ℕ) (rest : List PlainIr) (g : ℕ) → In (called_in (pairs_code pairs t rest)) g
+    → In (called_in rest) g
+pairs_called [] t rest g h = h
+pairs_called (pair ∷ pairs) t rest g h = pairs_called pairs t rest g h
+
+group_called : (acquire : Bool) (x : Option PlainGroup) (t : ℕ) (rest : List PlainIr) (g : ℕ)
+    → In (called_in (group_code acquire x t rest)) g → In (called_in rest) g
+group_called acquire None t rest g h = h
+group_called acquire (Some x) t rest g h = pairs_called (pairs_of acquire x) t rest g h
+
+module _ (program : PlainProgram) (table : PlainTable) where
   mutual
-    expr_called : (e : PlainExpr) (l t : ℕ) (rest : List PlainIr) (cs : List ℕ) (g : ℕ) → In (called_in (expr_code program e l t rest)) g → In (expr_calls e cs) g ⊎ In (called_in rest) g
+    expr_called : (e : PlainExpr) (l t : ℕ) (rest : List PlainIr) (cs : List ℕ) (g : ℕ) → In (called_in (expr_code program table e l t rest)) g → In (expr_calls e cs) g ⊎ In (called_in rest) g
     expr_called (expression ty mode node) l t rest cs g h = node_called ty mode node l t rest cs g h
 
-    node_called : (ty : PlainType) (mode : Mode) (node : PlainNode) (l t : ℕ) (rest : List PlainIr) (cs : List ℕ) (g : ℕ) → In (called_in (node_code program ty mode node l t rest)) g → In (node_calls node cs) g ⊎ In (called_in rest) g
+    node_called : (ty : PlainType) (mode : Mode) (node : PlainNode) (l t : ℕ) (rest : List PlainIr) (cs : List ℕ) (g : ℕ) → In (called_in (node_code program table ty mode node l t rest)) g → In (node_calls node cs) g ⊎ In (called_in rest) g
     node_called ty mode (number n) l t rest cs g h = inr h
     node_called ty mode null l t rest cs g h = inr h
     node_called ty mode (load (object o)) l t rest cs g h = inr h
@@ -151,35 +182,43 @@ module _ (program : PlainProgram) where
     node_called ty mode (call f args) l t rest cs g h =
         either (args_called args l t _ cs g h) (λ x. inl (inr x))
         (λ y. either (params_calls (params_of program f) args t _ g y) (λ z. inl (inl z)) (λ z. inr z))
-    node_called ty mode (io op port i v) l t rest cs g h = inr h
-    node_called ty mode (group acquire k) l t rest cs g h = inr h
+    node_called ty mode (io op port i v) l t rest cs g h =
+        either (operand_called i l t _ (option_calls v cs) g h) (λ x. inl x)
+        (λ y. either (operand_called v _ _ _ cs g y) (λ z. inl (option_more i (option_calls v cs) g z))
+        (λ z. inr (access_called op mode (slice_get table.ports port) i t rest g z)))
+    node_called ty mode (group acquire k) l t rest cs g h = inr (group_called acquire (slice_get table.groups k) t rest g h)
 
-    args_called : (es : PlainExprs) (l t : ℕ) (rest : List PlainIr) (cs : List ℕ) (g : ℕ) → In (called_in (args_code program es l t rest)) g → In (exprs_calls es cs) g ⊎ In (called_in rest) g
+    operand_called : (e : OptionPlainExpr) (l t : ℕ) (rest : List PlainIr) (cs : List ℕ) (g : ℕ)
+        → In (called_in (option_code program table e l t rest)) g → In (option_calls e cs) g ⊎ In (called_in rest) g
+    operand_called no_expr l t rest cs g h = inr h
+    operand_called (an_expr e) l t rest cs g h = expr_called e l t rest cs g h
+
+    args_called : (es : PlainExprs) (l t : ℕ) (rest : List PlainIr) (cs : List ℕ) (g : ℕ) → In (called_in (args_code program table es l t rest)) g → In (exprs_calls es cs) g ⊎ In (called_in rest) g
     args_called last_expr l t rest cs g h = inr h
     args_called (next_expr e es) l t rest cs g h =
         either (expr_called e l t _ (exprs_calls es cs) g h) (λ x. inl x)
         (λ y. either (args_called es _ (t + 1) rest cs g y) (λ z. inl (expr_more e (exprs_calls es cs) g z)) (λ z. inr z))
 
-  init_called : (ls : List PlainLeaf) (o : ℕ) (es : PlainExprs) (l : ℕ) (rest : List PlainIr) (cs : List ℕ) (g : ℕ) → In (called_in (init_code program ls o es l rest)) g → In (exprs_calls es cs) g ⊎ In (called_in rest) g
+  init_called : (ls : List PlainLeaf) (o : ℕ) (es : PlainExprs) (l : ℕ) (rest : List PlainIr) (cs : List ℕ) (g : ℕ) → In (called_in (init_code program table ls o es l rest)) g → In (exprs_calls es cs) g ⊎ In (called_in rest) g
   init_called [] o es l rest cs g h = inr h
   init_called (leaf ∷ ls) o last_expr l rest cs g h = inr h
   init_called (leaf ∷ ls) o (next_expr e es) l rest cs g h =
       either (expr_called e l 0 _ (exprs_calls es cs) g h) (λ x. inl x)
       (λ y. either (init_called ls o es _ rest cs g y) (λ z. inl (expr_more e (exprs_calls es cs) g z)) (λ z. inr z))
 
-  test_called : (c : Option PlainExpr) (out l : ℕ) (rest : List PlainIr) (cs : List ℕ) (g : ℕ) → In (called_in (test_code program c out l rest)) g → In (optional_calls c cs) g ⊎ In (called_in rest) g
+  test_called : (c : Option PlainExpr) (out l : ℕ) (rest : List PlainIr) (cs : List ℕ) (g : ℕ) → In (called_in (test_code program table c out l rest)) g → In (optional_calls c cs) g ⊎ In (called_in rest) g
   test_called None out l rest cs g h = inr h
   test_called (Some c) out l rest cs g h = expr_called c l 0 _ cs g h
 
-  last_called : (e : Option PlainExpr) (l : ℕ) (rest : List PlainIr) (cs : List ℕ) (g : ℕ) → In (called_in (last_code program e l rest)) g → In (optional_calls e cs) g ⊎ In (called_in rest) g
+  last_called : (e : Option PlainExpr) (l : ℕ) (rest : List PlainIr) (cs : List ℕ) (g : ℕ) → In (called_in (last_code program table e l rest)) g → In (optional_calls e cs) g ⊎ In (called_in rest) g
   last_called None l rest cs g h = inr h
   last_called (Some e) l rest cs g h = expr_called e l 0 rest cs g h
 
   mutual
-    stmt_called : (a : PlainStmt) (l out on : ℕ) (rest : List PlainIr) (cs : List ℕ) (g : ℕ) → In (called_in (stmt_code program a l out on rest)) g → In (stmt_calls a cs) g ⊎ In (called_in rest) g
+    stmt_called : (a : PlainStmt) (l out on : ℕ) (rest : List PlainIr) (cs : List ℕ) (g : ℕ) → In (called_in (stmt_code program table a l out on rest)) g → In (stmt_calls a cs) g ⊎ In (called_in rest) g
     stmt_called (statement unit at kind) l out on rest cs g h = kind_called kind l out on rest cs g h
 
-    kind_called : (kind : PlainKind) (l out on : ℕ) (rest : List PlainIr) (cs : List ℕ) (g : ℕ) → In (called_in (kind_code program kind l out on rest)) g → In (kind_calls kind cs) g ⊎ In (called_in rest) g
+    kind_called : (kind : PlainKind) (l out on : ℕ) (rest : List PlainIr) (cs : List ℕ) (g : ℕ) → In (called_in (kind_code program table kind l out on rest)) g → In (kind_calls kind cs) g ⊎ In (called_in rest) g
     kind_called empty l out on rest cs g h = inr h
     kind_called (evaluate e) l out on rest cs g h = expr_called e l 0 rest cs g h
     kind_called (block ss) l out on rest cs g h = stmts_called ss l out on rest cs g h
@@ -209,31 +248,31 @@ module _ (program : PlainProgram) where
     kind_called (return_value None) l out on rest cs g h = inr h
     kind_called (return_value (Some e)) l out on rest cs g h = expr_called e l 0 _ cs g h
 
-    option_called : (a : OptionPlainStmt) (l out on : ℕ) (rest : List PlainIr) (cs : List ℕ) (g : ℕ) → In (called_in (option_stmt_code program a l out on rest)) g → In (option_stmt_calls a cs) g ⊎ In (called_in rest) g
+    option_called : (a : OptionPlainStmt) (l out on : ℕ) (rest : List PlainIr) (cs : List ℕ) (g : ℕ) → In (called_in (option_stmt_code program table a l out on rest)) g → In (option_stmt_calls a cs) g ⊎ In (called_in rest) g
     option_called no_stmt l out on rest cs g h = inr h
     option_called (a_stmt a) l out on rest cs g h = stmt_called a l out on rest cs g h
 
-    stmts_called : (ss : PlainStmts) (l out on : ℕ) (rest : List PlainIr) (cs : List ℕ) (g : ℕ) → In (called_in (stmts_code program ss l out on rest)) g → In (stmts_calls ss cs) g ⊎ In (called_in rest) g
+    stmts_called : (ss : PlainStmts) (l out on : ℕ) (rest : List PlainIr) (cs : List ℕ) (g : ℕ) → In (called_in (stmts_code program table ss l out on rest)) g → In (stmts_calls ss cs) g ⊎ In (called_in rest) g
     stmts_called last_stmt l out on rest cs g h = inr h
     stmts_called (next_stmt a ss) l out on rest cs g h =
         either (stmt_called a l out on _ (stmts_calls ss cs) g h) (λ x. inl x)
         (λ y. either (stmts_called ss _ out on rest cs g y) (λ z. inl (stmt_more a (stmts_calls ss cs) g z)) (λ z. inr z))
 
   -- a function's operations call only what its body calls
-  pub function_called : (f : PlainFunction) (g : ℕ) → Contains (called_in (function_code program f)) g → Contains (stmt_calls f.body []) g
-  function_called f g h = in_contains (stmt_calls f.body []) g (either (stmt_called f.body 1 0 0 _ [] g (contains_in (called_in (function_code program f)) g h)) (λ x. x) (λ y. absurd y))
+  pub function_called : (f : PlainFunction) (g : ℕ) → Contains (called_in (function_code program table f)) g → Contains (stmt_calls f.body []) g
+  function_called f g h = in_contains (stmt_calls f.body []) g (either (stmt_called f.body 1 0 0 _ [] g (contains_in (called_in (function_code program table f)) g h)) (λ x. x) (λ y. absurd y))
 
   -- so no function reaches itself
-  found_function : (f : ℕ) (x : PlainIrFunction) → slice_get (lowered program).functions f ≡ Some x → (h : PlainFunction) × (slice_get program.functions f ≡ Some h) × (lowered_function program h ≡ x)
-  found_function f x e = by_source (slice_get program.functions f) refl (sym (slice_get-map (lowered_function program) program.functions f) ∙ e)
+  found_function : (f : ℕ) (x : PlainIrFunction) → slice_get (lowered program table).functions f ≡ Some x → (h : PlainFunction) × (slice_get program.functions f ≡ Some h) × (lowered_function program table h ≡ x)
+  found_function f x e = by_source (slice_get program.functions f) refl (sym (slice_get-map (lowered_function program table) program.functions f) ∙ e)
     where
-      by_source : (z : Option PlainFunction) → slice_get program.functions f ≡ z → option_map (lowered_function program) z ≡ Some x → (h : PlainFunction) × (slice_get program.functions f ≡ Some h) × (lowered_function program h ≡ x)
+      by_source : (z : Option PlainFunction) → slice_get program.functions f ≡ z → option_map (lowered_function program table) z ≡ Some x → (h : PlainFunction) × (slice_get program.functions f ≡ Some h) × (lowered_function program table h ≡ x)
       by_source None g k = cc
       by_source (Some h) g k = (h, g, cc)
 
-  called_source : (f g : ℕ) (x : PlainIrFunction) → slice_get (lowered program).functions f ≡ Some x → Contains (called_in x.code) g → (h : PlainFunction) × (slice_get program.functions f ≡ Some h) × Contains (stmt_calls h.body []) g
+  called_source : (f g : ℕ) (x : PlainIrFunction) → slice_get (lowered program table).functions f ≡ Some x → Contains (called_in x.code) g → (h : PlainFunction) × (slice_get program.functions f ≡ Some h) × Contains (stmt_calls h.body []) g
   called_source f g x e c = let h = found_function f x e in (h.0, h.1, function_called h.0 g (subst (λ (z : PlainIrFunction). Contains (called_in z.code) g) (sym h.2) c))
 
-  pub reached_source : (g f : ℕ) → CallsTo (lowered program) g f → Reaches program g f
+  pub reached_source : (g f : ℕ) → CallsTo (lowered program table) g f → Reaches program g f
   reached_source g f (calls_at _ x e c) = let h = called_source f g x e c in calls f h.0 h.1 h.2
   reached_source g f (calls_by _ k x e c d) = let h = called_source f k x e c in calls_through f k h.0 h.1 h.2 (reached_source g k d)

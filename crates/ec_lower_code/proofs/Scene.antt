@@ -7,7 +7,7 @@ use Rattle.ec_core.specs.Expressions.{Calls}
 use Rattle.ec_core.specs.Layout.{IsScalar, scalar_size}
 use Rattle.ec_core.specs.Meaning.{setting}
 use Rattle.ec_core.specs.Plain.{PlainExprs, last_expr, next_expr, PlainFunction, PlainProgram}
-use Rattle.ec_core.specs.PortTable.{plain_table}
+use Rattle.ec_core.specs.PortTable.{PlainTable, plain_table}
 use Rattle.ec_core.specs.State.{Inputs, Setting, State}
 use Rattle.ec_core.specs.Statements.{calls_within}
 use Rattle.ec_core.specs.Typing.{type_of_expr, AreArguments}
@@ -20,6 +20,7 @@ use Rattle.ec_ir.specs.Meaning.{Mach, Frame}
 use Rattle.ec_ir.specs.Operations.{PlainIr, call_function, data_of}
 use Rattle.ec_ir.specs.Temporaries.{Temps}
 use Rattle.ec_lower_code.specs.Code.{result_temp, params_code, lowered}
+use Rattle.ec_lower_code.specs.Correct.{GroupsHaveBytes}
 use Rattle.ec_lower_code.specs.Parts.{IsLowered}
 use Rattle.ec_lower_code.proofs.Callees.{IsOther}
 use Rattle.ec_lower_code.proofs.Homes.{AreApart}
@@ -32,13 +33,17 @@ pub record World : Type 0 where
   pub io : IoTable
   pub inputs : Inputs
   pub valid : Valid program io
+  pub pairs : GroupsHaveBytes io
   pub bytes : GiveBytes inputs
   pub parts : IsLowered program
   pub n : ℕ
 
 module _ (x : World) where
+  abbrev pub ports : PlainTable
+  ports = plain_table x.io
+
   abbrev pub homes : PlainProgram
-  homes = data_of (lowered x.program)
+  homes = data_of (lowered x.program ports)
 
   abbrev pub set : Setting
   set = setting x.program (plain_table x.io) x.inputs
@@ -48,7 +53,13 @@ module _ (x : World) where
 
   -- the machine in a function with these operations, where these calls wait
   abbrev pub spot : List PlainIr → List Frame → Spot
-  spot code stack = record { functions = (lowered x.program).functions; program = homes; inputs = x.inputs; code = code; stack = stack }
+  spot code stack = record {
+    functions = (lowered x.program ports).functions;
+    program = homes;
+    inputs = x.inputs;
+    code = code;
+    stack = stack;
+  }
 
   pub law : ValuesHaveTheirTypes x.program x.io x.inputs
   law = types_are_kept x.program x.io x.inputs x.valid x.bytes

@@ -29,7 +29,7 @@ use Rattle.ec_lower_code.proofs.Numbers.{value_of_type}
 use Rattle.ec_lower_code.proofs.Objects.{change_one, renew_one, end_one}
 use Rattle.ec_lower_code.proofs.Ops.{to_rest, store_match, store_comes}
 use Rattle.ec_lower_code.proofs.Pays.{simple_pays}
-use Rattle.ec_lower_code.proofs.Scene.{World, homes, set, calls_to, spot, law, apart, Scene}
+use Rattle.ec_lower_code.proofs.Scene.{World, ports, homes, set, calls_to, spot, law, apart, Scene}
 use Rattle.ec_lower_code.proofs.Shown.{held_of, IsValueOf, Match}
 use Rattle.ec_lower_code.proofs.Steps.{Target, at, Stands, behind, here, Comes, Does, stays, after, bind, ends, credited, less}
 
@@ -119,14 +119,14 @@ module _ (wd : World) (sc : Scene wd) (ret : Returns wd sc) where
   ending_runs k d p m rest out on os (undefined point s) h = tt
 
   -- an expression at the bottom of the temporaries
-  pub whole_runs : (k : ℕ) (e : PlainExpr) (l d : ℕ) (s : State) (m : Mach) (rest : List PlainIr) → k ≤ wd.n → IsExpr IsNumericOrVoid (IsOther wd.program) e → ValidExpr wd.program wd.io sc.f e → IsTypedState wd.program s → Stands sc.code (expr_code wd.program e l 0 rest) → Match (homes wd) d s m
-      → Does (W wd sc) k (here (W wd sc) (expr_code wd.program e l 0 rest)) m (to_rest (W wd sc) rest) (Has wd sc (type_of_expr e) 0 d m.temps) (value wd sc e s)
+  pub whole_runs : (k : ℕ) (e : PlainExpr) (l d : ℕ) (s : State) (m : Mach) (rest : List PlainIr) → k ≤ wd.n → IsExpr IsNumericOrVoid (IsOther wd.program) e → ValidExpr wd.program wd.io sc.f e → IsTypedState wd.program s → Stands sc.code (expr_code wd.program (ports wd) e l 0 rest) → Match (homes wd) d s m
+      → Does (W wd sc) k (here (W wd sc) (expr_code wd.program (ports wd) e l 0 rest)) m (to_rest (W wd sc) rest) (Has wd sc (type_of_expr e) 0 d m.temps) (value wd sc e s)
   whole_runs k e l d s m rest le p v st stands h = expr_runs wd sc k e l 0 d m.temps s m rest le p v st stands h (λ i lt. refl)
 
-  pub done_runs : (k : ℕ) (e : PlainExpr) (l d : ℕ) (s : State) (m : Mach) (rest out on : List PlainIr) → k ≤ wd.n → IsExpr IsNumericOrVoid (IsOther wd.program) e → ValidExpr wd.program wd.io sc.f e → IsTypedState wd.program s → Stands sc.code (expr_code wd.program e l 0 rest) → Match (homes wd) d s m
-      → Way k (expr_code wd.program e l 0 rest) m rest out on d (evaluated (set wd) (calls_to wd sc.depth) (Some e) s)
+  pub done_runs : (k : ℕ) (e : PlainExpr) (l d : ℕ) (s : State) (m : Mach) (rest out on : List PlainIr) → k ≤ wd.n → IsExpr IsNumericOrVoid (IsOther wd.program) e → ValidExpr wd.program wd.io sc.f e → IsTypedState wd.program s → Stands sc.code (expr_code wd.program (ports wd) e l 0 rest) → Match (homes wd) d s m
+      → Way k (expr_code wd.program (ports wd) e l 0 rest) m rest out on d (evaluated (set wd) (calls_to wd sc.depth) (Some e) s)
   done_runs k e l d s m rest out on le p v st stands h =
-      bind (W wd sc) k (here (W wd sc) (expr_code wd.program e l 0 rest)) m (to_rest (W wd sc) rest) (Has wd sc (type_of_expr e) 0 d m.temps) (left_to rest out on) (Left d) (here (W wd sc) rest) (value wd sc e s) _ (λ z. refl)
+      bind (W wd sc) k (here (W wd sc) (expr_code wd.program (ports wd) e l 0 rest)) m (to_rest (W wd sc) rest) (Has wd sc (type_of_expr e) 0 d m.temps) (left_to rest out on) (Left d) (here (W wd sc) rest) (value wd sc e s) _ (λ z. refl)
       (whole_runs k e l d s m rest le p v st stands h) (λ x s1 u r. at_rest d rest out on k s1 u r.has.match)
 
 pub begun_match : (wd : World) (o d : ℕ) (s : State) (u : Mach) → Match (homes wd) d s u → Match (homes wd) d (begun wd.program o s) u
@@ -188,19 +188,19 @@ module _ (wd : World) (sc : Scene wd) (ret : Returns wd sc) where
       by_outcome (undefined point s1) ts g e = tt
 
   -- the leaves from number i on
-  pub init_runs : (d o i : ℕ) (x : PlainObject) (ls : List PlainLeaf) (es : PlainExprs) (l : ℕ) (rest out on : List PlainIr) → slice_get wd.program.objects o ≡ Some x → ((j : ℕ) (leaf : PlainLeaf) → slice_get ls j ≡ Some leaf → slice_get (leaves_of_type wd.program.structs x.ty) (i + j) ≡ Some leaf) → holds Flash x.home ≡ false → AreLeafValues wd.program wd.io sc.f ls es → AreExprs IsNumericOrVoid (IsOther wd.program) es → ValidExprs wd.program wd.io sc.f es → Stands sc.code (init_code wd.program ls o es l rest)
-      → (s : State) (m : Mach) → Match (homes wd) d s m → IsTypedState wd.program s → Way wd sc ret wd.n (init_code wd.program ls o es l rest) m rest out on d (initialising (set wd) (calls_to wd sc.depth) o i es s)
+  pub init_runs : (d o i : ℕ) (x : PlainObject) (ls : List PlainLeaf) (es : PlainExprs) (l : ℕ) (rest out on : List PlainIr) → slice_get wd.program.objects o ≡ Some x → ((j : ℕ) (leaf : PlainLeaf) → slice_get ls j ≡ Some leaf → slice_get (leaves_of_type wd.program.structs x.ty) (i + j) ≡ Some leaf) → holds Flash x.home ≡ false → AreLeafValues wd.program wd.io sc.f ls es → AreExprs IsNumericOrVoid (IsOther wd.program) es → ValidExprs wd.program wd.io sc.f es → Stands sc.code (init_code wd.program (ports wd) ls o es l rest)
+      → (s : State) (m : Mach) → Match (homes wd) d s m → IsTypedState wd.program s → Way wd sc ret wd.n (init_code wd.program (ports wd) ls o es l rest) m rest out on d (initialising (set wd) (calls_to wd sc.depth) o i es s)
   init_runs d o i x [] last_expr l rest out on f g home ty p v stands s m h st = at_rest wd sc ret d rest out on wd.n s m h
   init_runs d o i x (leaf ∷ ls) last_expr l rest out on f g home ty p v stands s m h st = absurd ty
   init_runs d o i x [] (next_expr e es) l rest out on f g home ty p v stands s m h st = absurd ty
   init_runs d o i x (leaf ∷ ls) (next_expr e es) l rest out on f g home ty p v stands s m h st =
       let c = d + leaf_words e in
-      let more_code = init_code wd.program ls o es (l + expr_labels e) rest in
+      let more_code = init_code wd.program (ports wd) ls o es (l + expr_labels e) rest in
       let op = store_object o leaf.at (temp 0 (type_of_expr e)) in
       let pays = simple_pays (scalar_size (type_of_expr e)) 1 in
-      let after_value = expr_behind wd.program sc.code e l 0 (op ∷ more_code) stands in
+      let after_value = expr_behind wd.program (ports wd) sc.code e l 0 (op ∷ more_code) stands in
       let item : slice_get (leaves_of_type wd.program.structs x.ty) i ≡ Some leaf = ap (slice_get (leaves_of_type wd.program.structs x.ty)) (let z : i ≡ i + 0 = omega arith in z) ∙ g 0 leaf refl in
-      bind (W wd sc) wd.n (here (W wd sc) (expr_code wd.program e l 0 (op ∷ more_code))) m (to_rest (W wd sc) (op ∷ more_code)) (Has wd sc (type_of_expr e) 0 c m.temps) (left_to wd sc ret rest out on) (Left wd sc ret d) (here (W wd sc) (op ∷ more_code)) (value wd sc e (worked (leaf_words e) s)) _ (λ z. refl)
+      bind (W wd sc) wd.n (here (W wd sc) (expr_code wd.program (ports wd) e l 0 (op ∷ more_code))) m (to_rest (W wd sc) (op ∷ more_code)) (Has wd sc (type_of_expr e) 0 c m.temps) (left_to wd sc ret rest out on) (Left wd sc ret d) (here (W wd sc) (op ∷ more_code)) (value wd sc e (worked (leaf_words e) s)) _ (λ z. refl)
       (whole_runs wd sc ret wd.n e l c (worked (leaf_words e) s) m (op ∷ more_code) (omega arith) p.0 v.0 st stands (credited (homes wd) (leaf_words e) d s m h))
       (λ y s1 u r. init_store wd.n d o i x leaf (type_of_expr e) m.temps y s1 u more_code rest out on (λ z s2. initialising (set wd) (calls_to wd sc.depth) o (i + 1) es s2) f item ty.0 home
       (record { has = record { match = less (homes wd) c (d + leaf_cost (type_of_expr e)) s1 u (omega (arith, pays)) r.has.match; value = r.has.value; same = r.has.same }; typed = r.typed; state = r.state })

@@ -39,7 +39,7 @@ use Rattle.ec_lower_code.proofs.Facts.{all_at}
 use Rattle.ec_lower_code.proofs.Labels.{function_resolves}
 use Rattle.ec_lower_code.proofs.Numbers.{typed_back}
 use Rattle.ec_lower_code.proofs.Ops.{label_comes}
-use Rattle.ec_lower_code.proofs.Scene.{World, homes, set, calls_to, law, Scene}
+use Rattle.ec_lower_code.proofs.Scene.{World, ports, homes, set, calls_to, law, Scene}
 use Rattle.ec_lower_code.proofs.Shown.{shown, held_of, IsValueOf, IsShown, AreShown, Match}
 use Rattle.ec_lower_code.proofs.Statements.{Returns, Typed}
 use Rattle.ec_lower_code.proofs.Steps.{held_is, Target, over, same, sooner, Stops, Stands, Spot, here, execs, Comes, Does, after, credited, spent_on, less}
@@ -93,11 +93,11 @@ module _ (wd : World) (main : PlainFunction) (is : slice_get wd.program.function
   depth = length wd.program.functions
 
   abbrev code : List PlainIr
-  code = function_code wd.program main
+  code = function_code wd.program (ports wd) main
 
   module _ (deep : ℕ) where
     abbrev inside : Scene wd
-    inside = record { depth = deep; f = wd.program.main; code = code; resolves = function_resolves wd.program main; stack = []; callee = callee_runs wd deep }
+    inside = record { depth = deep; f = wd.program.main; code = code; resolves = function_resolves wd.program (ports wd) main; stack = []; callee = callee_runs wd deep }
 
     abbrev w : Spot
     w = W wd inside
@@ -161,7 +161,7 @@ module _ (wd : World) (main : PlainFunction) (is : slice_get wd.program.function
     unfolding returns_to
     main_runs s m h st =
         let all : Stands code code = ([], refl) in
-        let end = function_resolves wd.program main 0 end_code (stmt_behind wd.program code main.body 1 0 0 (label 0 ∷ end_code) all) in
+        let end = function_resolves wd.program (ports wd) main 0 end_code (stmt_behind wd.program (ports wd) code main.body 1 0 0 (label 0 ∷ end_code) all) in
         let function_is : IsFunction wd.program wd.io wd.program.main main = (law wd).functions wd.program.main main is in
         subst (λ (ps : List ℕ). Ends (here w code) m (next (parameters_written (set wd) ps [] (worked function_words s)) (λ y s1. next (effect_of (set wd) (calls_to wd deep) wd.n main.body s1) (λ x s2. call_result main.returns (wd.program.main == wd.program.main) x (frame_ended wd.program wd.program.main s2))))) (sym params)
         (subst (λ (ty : PlainType). Ends (here w code) m (next (effect_of (set wd) (calls_to wd deep) wd.n main.body (worked function_words s)) (λ x s2. call_result ty (wd.program.main == wd.program.main) x (frame_ended wd.program wd.program.main s2)))) (sym returns)
@@ -198,19 +198,19 @@ module _ (wd : World) (main : PlainFunction) (is : slice_get wd.program.function
   runs = called depth
 
   -- the run of the operations is that of main's
-  entered : (m : ℕ) → run (lowered wd.program) wd.inputs m ≡ execs w0 m first (start (homes wd))
-  entered m = ap (λ f. enter f (λ q u. execs w0 m q u) [] (start (homes wd))) (slice_get-map (lowered_function wd.program) wd.program.functions wd.program.main ∙ ap (option_map (lowered_function wd.program)) is)
+  entered : (m : ℕ) → run (lowered wd.program (ports wd)) wd.inputs m ≡ execs w0 m first (start (homes wd))
+  entered m = ap (λ f. enter f (λ q u. execs w0 m q u) [] (start (homes wd))) (slice_get-map (lowered_function wd.program (ports wd)) wd.program.functions wd.program.main ∙ ap (option_map (lowered_function wd.program (ports wd))) is)
 
-  paid : (m : ℕ) (s : State) (o : Outcome Value) (u : Mach) → execs w0 m first (start (homes wd)) ≡ o → u.state ≡ state_of o → Match (homes wd) 0 s u → IsTrue (nat_le ((state_of (run (lowered wd.program) wd.inputs m)).work + 12_800) (64 * s.work))
+  paid : (m : ℕ) (s : State) (o : Outcome Value) (u : Mach) → execs w0 m first (start (homes wd)) ≡ o → u.state ≡ state_of o → Match (homes wd) 0 s u → IsTrue (nat_le ((state_of (run (lowered wd.program (ports wd)) wd.inputs m)).work + 12_800) (64 * s.work))
   paid m s o u e f h =
-      let a : (state_of (run (lowered wd.program) wd.inputs m)).work ≡ u.state.work = ap (λ z. (state_of z).work) (entered m ∙ e) ∙ ap (λ (z : State). z.work) (sym f) in
+      let a : (state_of (run (lowered wd.program (ports wd)) wd.inputs m)).work ≡ u.state.work = ap (λ z. (state_of z).work) (entered m ∙ e) ∙ ap (λ (z : State). z.work) (sym f) in
       let b = h.spent in le-leb _ _ (omega (arith, a, b))
 
   over_is : (m : ℕ) (v : Value) (s : State) → Stops (execs w0 m first (start (homes wd))) (got v s) → execs w0 m first (start (homes wd)) ≡ got v s
   over_is m v s (same e) = e
   over_is m v s (sooner t r e f o ev wk) = cc
 
-  reached_of : (o : Outcome Value) → EndsAll o → Reached (λ m. nat_le ((state_of (run (lowered wd.program) wd.inputs m)).work + 12_800) (64 * (state_of o).work)) (meaning (lowered wd.program) wd.inputs) wd.n (behaviour_of o)
+  reached_of : (o : Outcome Value) → EndsAll o → Reached (λ m. nat_le ((state_of (run (lowered wd.program (ports wd)) wd.inputs m)).work + 12_800) (64 * (state_of o).work)) (meaning (lowered wd.program (ports wd)) wd.inputs) wd.n (behaviour_of o)
   reached_of (got x s) d =
       let c = d.2.by 0 in
       let e = over_is c.0 (shown x) d.0.state c.2 in
@@ -219,13 +219,13 @@ module _ (wd : World) (main : PlainFunction) (is : slice_get wd.program.function
   reached_of (undefined point s) d = tt
 
 pub follows : LoweredFollows
-follows program table valid parts = record {
+follows program table valid pairs parts = record {
   reaches = λ inputs bytes. reaches inputs bytes;
-  within = λ inputs bytes m. what_reaches_stays_within Event ℤ Undefined Undefined (is_paid program table (lowered program) inputs) (source program (plain_table table) inputs) (meaning (lowered program) inputs) (operations_are_runs (lowered program) inputs) (reaches inputs bytes) m;
+  within = λ inputs bytes m. what_reaches_stays_within Event ℤ Undefined Undefined (is_paid program table (lowered program (plain_table table)) inputs) (source program (plain_table table) inputs) (meaning (lowered program (plain_table table)) inputs) (operations_are_runs (lowered program (plain_table table)) inputs) (reaches inputs bytes) m;
 }
   where
-    reaches : (inputs : Inputs) → GiveBytes inputs → Reaches (is_paid program table (lowered program) inputs) (source program (plain_table table) inputs) (meaning (lowered program) inputs)
+    reaches : (inputs : Inputs) → GiveBytes inputs → Reaches (is_paid program table (lowered program (plain_table table)) inputs) (source program (plain_table table) inputs) (meaning (lowered program (plain_table table)) inputs)
     reaches inputs bytes n =
-        let wd : World = record { program = program; io = table; inputs = inputs; valid = valid; bytes = bytes; parts = parts; n = n } in
+        let wd : World = record { program = program; io = table; inputs = inputs; valid = valid; pairs = pairs; bytes = bytes; parts = parts; n = n } in
         let g = some_and (slice_get program.functions program.main) (λ g. (g.params ≡ []) × (g.returns ≡ int)) valid.main in
         reached_of wd g.0 g.1 g.2.0 g.2.1 (source_run program (plain_table table) inputs n) (runs wd g.0 g.1 g.2.0 g.2.1)

@@ -3,25 +3,34 @@
 use Rattle.std.specs.Prelude.{ℕ, ◌+◌, Bool, true, false, not, pos, List, [], ◌∷◌, map, Option, Some, None, option_map}
 use Rattle.std.specs.Prelude.{unwrap_or, slice_get}
 use Rattle.ec_fx.specs.declared.numbers.Mode.{Mode}
+use Rattle.ec_iohw.specs.declared.operations.IoOp.{IoOp}
+use Rattle.ec_iohw.specs.declared.operations.IoOp.TheVariants.{Or, OrLong, OrBuffer, OrBufferLong, And, AndLong}
+use Rattle.ec_iohw.specs.declared.operations.IoOp.TheVariants.{AndBuffer, AndBufferLong}
+use Rattle.ec_iohw.specs.declared.table.Pair.{Pair}
 use Rattle.ec_core.specs.declared.arithmetic_types.Arithmetic.{Arithmetic}
 use Rattle.ec_core.specs.declared.expressions.BinOp.{BinOp}
-use Rattle.ec_core.specs.declared.expressions.BinOp.TheVariants.{Mul}
+use Rattle.ec_core.specs.declared.expressions.BinOp.TheVariants.{Mul, And as AndOp, Or as OrOp, Xor as XorOp}
 use Rattle.ec_core.specs.ArithmeticTypes.{type_of, common}
 use Rattle.ec_core.specs.Integers.{truth}
 use Rattle.ec_core.specs.Layout.{scalar_size, PlainLeaf, leaves_of_type}
 use Rattle.ec_core.specs.Needs.{stmt_need}
 use Rattle.ec_core.specs.Operators.{number_type, OperationTypes, operation_types, step_operator}
-use Rattle.ec_core.specs.Plain.{PlainType, void, PlainExpr, expression, PlainNode, number, null, load, address_of}
-use Rattle.ec_core.specs.Plain.{unary, binary, convert, assign, compound, step, logical_not, logical_and, logical_or}
-use Rattle.ec_core.specs.Plain.{conditional, comma, call, io, group, object, PlainExprs}
+use Rattle.ec_core.specs.Plain.{PlainType, void, integer, PlainExpr, expression, PlainNode, number, null, load}
+use Rattle.ec_core.specs.Plain.{address_of, unary, binary, convert, assign, compound, step, logical_not, logical_and}
+use Rattle.ec_core.specs.Plain.{logical_or, conditional, comma, call, io, group, object, OptionPlainExpr, no_expr}
+use Rattle.ec_core.specs.Plain.{an_expr, PlainExprs}
 use Rattle.ec_core.specs.Plain.{last_expr, next_expr, PlainStmt, statement, PlainKind, empty, evaluate, block, declare}
 use Rattle.ec_core.specs.Plain.{branch, while_loop, do_loop, for_loop, break_loop, continue_loop, return_value}
 use Rattle.ec_core.specs.Plain.{OptionPlainStmt, no_stmt, a_stmt, PlainStmts, last_stmt, next_stmt, PlainFunction}
 use Rattle.ec_core.specs.Plain.{PlainProgram}
+use Rattle.ec_core.specs.PortAccesses.{pairs_of}
+use Rattle.ec_core.specs.PortOperations.{PortAction, reads, writes, updates, port_operation}
+use Rattle.ec_core.specs.PortTable.{PlainPort, PlainGroup, PlainTable}
 use Rattle.ec_core.specs.TypeLaws.{factor_beside}
-use Rattle.ec_core.specs.Typing.{int, type_of_expr}
+use Rattle.ec_core.specs.Typing.{int, type_of_expr, port_value}
 use Rattle.ec_ir.specs.Operations.{PlainIr, constant, load_object, store_object, binary_op, unary_op, conversion, label}
-use Rattle.ec_ir.specs.Operations.{jump, branch_zero, call_function, return_from, PlainIrFunction, PlainIrProgram}
+use Rattle.ec_ir.specs.Operations.{jump, branch_zero, call_function, return_from, port_in, port_out, PlainIrFunction}
+use Rattle.ec_ir.specs.Operations.{PlainIrProgram}
 use Rattle.ec_ir.specs.declared.operations.Temp.{Temp}
 
 -- ---- temporaries
@@ -57,8 +66,12 @@ abbrev mutual
   node_labels (conditional c a b) = 2 + expr_labels c + expr_labels a + expr_labels b
   node_labels (comma a b) = expr_labels a + expr_labels b
   node_labels (call f args) = exprs_labels args
-  node_labels (io op port index value) = 0
+  node_labels (io op port index value) = option_labels index + option_labels value
   node_labels (group acquire g) = 0
+
+  pub option_labels : OptionPlainExpr → ℕ
+  option_labels no_expr = 0
+  option_labels (an_expr e) = expr_labels e
 
   pub exprs_labels : PlainExprs → ℕ
   exprs_labels last_expr = 0
@@ -145,6 +158,64 @@ params_code (o ∷ os) (next_expr e es) t rest =
     store_object o 0 (temp t (type_of_expr e)) ∷ params_code os es (t + 1) rest
 params_code os es t rest = rest
 
+-- ---- ports (ISO/IEC TR 18037:2008, 6)
+
+-- the place behind an operand that may be absent, and its temporary
+abbrev pub place_behind : OptionPlainExpr → ℕ → ℕ
+place_behind no_expr t = t
+place_behind (an_expr e) t = t + 1
+
+abbrev pub operand_temp : OptionPlainExpr → ℕ → Option Temp
+operand_temp no_expr t = None
+operand_temp (an_expr e) t = Some (temp t (type_of_expr e))
+
+-- the operator of an update
+abbrev pub port_operator : IoOp → BinOp
+port_operator Or = OrOp
+port_operator OrLong = OrOp
+port_operator OrBuffer = OrOp
+port_operator OrBufferLong = OrOp
+port_operator And = AndOp
+port_operator AndLong = AndOp
+port_operator AndBuffer = AndOp
+port_operator AndBufferLong = AndOp
+port_operator op = XorOp
+
+-- the bytes of a port from an address on, where values are of a type: they are read to t; written from v; or read to
+-- v + 1, combined with the value at v, and written
+abbrev pub port_code :
+    PortAction → BinOp → PlainType → Mode → PlainPort → Option Temp → (t v : ℕ) → List PlainIr → List PlainIr
+port_code reads op ty mode port index t v rest = port_in (temp t ty) port.address index port.width ∷ rest
+port_code writes op ty mode port index t v rest = port_out (temp v ty) port.address index port.width ∷ rest
+port_code updates op ty mode port index t v rest =
+    port_in (temp (v + 1) ty) port.address index port.width
+    ∷ binary_op op ty mode (temp (v + 1) ty) (temp (v + 1) ty) ty (temp v ty) ty
+    ∷ port_out (temp (v + 1) ty) port.address index port.width ∷ rest
+
+-- an operation on a port of the table, from its operands on: the index at t, and the value behind it
+abbrev pub access_code :
+    IoOp → Mode → Option PlainPort → OptionPlainExpr → (t : ℕ) → List PlainIr → List PlainIr
+access_code op mode None index t rest = rest
+access_code op mode (Some port) index t rest =
+    port_code (port_operation op).action (port_operator op) (port_value (port_operation op)) mode port
+    (operand_temp index t) t (place_behind index t) rest
+
+-- the type of a byte of a pair
+abbrev pub byte_type : PlainType
+byte_type = integer false 1
+
+-- the byte of each pair is written to its port, in order
+abbrev pub pairs_code : List Pair → (t : ℕ) → List PlainIr → List PlainIr
+pairs_code [] t rest = rest
+pairs_code (pair ∷ pairs) t rest =
+    constant (temp t byte_type) (pos pair.byte) ∷ port_out (temp t byte_type) pair.port None 1
+    ∷ pairs_code pairs t rest
+
+-- the acquire or the release of a group of the table
+abbrev pub group_code : Bool → Option PlainGroup → (t : ℕ) → List PlainIr → List PlainIr
+group_code acquire None t rest = rest
+group_code acquire (Some g) t rest = pairs_code (pairs_of acquire g) t rest
+
 -- the end of a body returns without a value. A break and a continue outside loops, of which there are none, go there
 abbrev pub end_code : List PlainIr
 end_code = return_from None ∷ []
@@ -153,6 +224,11 @@ module _ (program : PlainProgram) where
   abbrev pub params_of : ℕ → List ℕ
   params_of f = unwrap_or (option_map (λ g. g.params) (slice_get program.functions f)) []
 
+  abbrev pub leaves_of_object : ℕ → List PlainLeaf
+  leaves_of_object o =
+      unwrap_or (option_map (λ d. leaves_of_type program.structs d.ty) (slice_get program.objects o)) []
+
+module _ (program : PlainProgram) (table : PlainTable) where
   -- ---- expressions
 
   abbrev mutual
@@ -194,8 +270,17 @@ module _ (program : PlainProgram) where
     node_code ty mode (comma a b) l t rest = expr_code a l t (expr_code b (l + expr_labels a) t rest)
     -- all arguments, then they are stored to the parameters, then the call
     node_code ty mode (call f args) l t rest =
-        args_code args l t (params_code (params_of f) args t (call_function f (result_temp t ty) ∷ rest))
+        args_code args l t (params_code (params_of program f) args t (call_function f (result_temp t ty) ∷ rest))
+    -- the operands in order, then the access
+    node_code ty mode (io op port index value) l t rest =
+        option_code index l t (option_code value (l + option_labels index) (place_behind index t)
+        (access_code op mode (slice_get table.ports port) index t rest))
+    node_code ty mode (group acquire g) l t rest = group_code acquire (slice_get table.groups g) t rest
     node_code ty mode node l t rest = rest
+
+    pub option_code : OptionPlainExpr → (l t : ℕ) → List PlainIr → List PlainIr
+    option_code no_expr l t rest = rest
+    option_code (an_expr e) l t rest = expr_code e l t rest
 
     -- arguments from t on
     pub args_code : PlainExprs → (l t : ℕ) → List PlainIr → List PlainIr
@@ -203,10 +288,6 @@ module _ (program : PlainProgram) where
     args_code (next_expr e es) l t rest = expr_code e l t (args_code es (l + expr_labels e) (t + 1) rest)
 
   -- ---- statements
-
-  abbrev pub leaves_of_object : ℕ → List PlainLeaf
-  leaves_of_object o =
-      unwrap_or (option_map (λ d. leaves_of_type program.structs d.ty) (slice_get program.objects o)) []
 
   -- the leaves of an object from one on get the values of these expressions
   abbrev pub init_code : List PlainLeaf → (o : ℕ) → PlainExprs → (l : ℕ) → List PlainIr → List PlainIr
@@ -240,7 +321,7 @@ module _ (program : PlainProgram) where
     kind_code empty l out on rest = rest
     kind_code (evaluate e) l out on rest = expr_code e l 0 rest
     kind_code (block ss) l out on rest = stmts_code ss l out on rest
-    kind_code (declare o values) l out on rest = init_code (leaves_of_object o) o values l rest
+    kind_code (declare o values) l out on rest = init_code (leaves_of_object program o) o values l rest
     kind_code (branch c a no_stmt) l out on rest =
         expr_code c (l + 2) 0 (branch_zero (temp 0 (type_of_expr c)) l
         ∷ stmt_code a (l + 2 + expr_labels c) out on (label l ∷ rest))

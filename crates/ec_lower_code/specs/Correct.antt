@@ -1,8 +1,10 @@
 -- What the operations of a program have to do with it.
-use Rattle.std.specs.Prelude.{◌≡◌, ℕ, ◌+◌, ◌≤◌, nat_le, Bool, Contains, [], Some, slice_get}
+use Rattle.std.specs.Prelude.{◌≡◌, ⊤, ℕ, ◌+◌, ◌<◌, ◌≤◌, nat_le, Bool, Contains, [], Some, slice_get}
 use Rattle.std.specs.List.{AllByRecursion}
 use Rattle.ec_runs.specs.Behaviours.{Reaches, IsWithin}
 use Rattle.ec_iohw.specs.declared.table.IoTable.{IoTable}
+use Rattle.ec_iohw.specs.declared.table.Pair.{Pair}
+use Rattle.ec_iohw.specs.declared.table.PortGroup.{PortGroup}
 use Rattle.ec_core.specs.Meaning.{source, work}
 use Rattle.ec_core.specs.Needs.{stmt_need, stmt_calls}
 use Rattle.ec_core.specs.Plain.{PlainFunction, PlainProgram}
@@ -14,11 +16,22 @@ use Rattle.ec_core.specs.Weight.{objects_weight, weight}
 use Rattle.ec_core.specs.Words.{program_words}
 use Rattle.ec_ir.specs.Costs.{functions_words}
 use Rattle.ec_ir.specs.Meaning.{meaning, steps_of}
-use Rattle.ec_ir.specs.Operations.{PlainIrFunction, PlainIrProgram}
-use Rattle.ec_ir.specs.Integers.{IsIntegerOperation}
+use Rattle.ec_ir.specs.Operations.{PlainIr, constant, copy, address, field, load_at, store_at, load_object}
+use Rattle.ec_ir.specs.Operations.{store_object, binary_op, unary_op, conversion, label, jump, branch_zero}
+use Rattle.ec_ir.specs.Operations.{call_function, return_from, port_in, port_out, PlainIrFunction, PlainIrProgram}
 use Rattle.ec_ir.specs.Valid.{count, called_in, ValidIr}
 use Rattle.ec_lower_code.specs.Code.{lowered}
-use Rattle.ec_lower_code.specs.Parts.{IsLowered, IsCompiled}
+use Rattle.ec_lower_code.specs.Parts.{IsNumeric, IsLowered, IsCompiled}
+
+-- the numbers of pairs are bytes, as their types say: no law knows the ranges of types
+abbrev pub IsBytePair : Pair → Type 0
+IsBytePair pair = (pair.port < 0x100) × (pair.byte < 0x100)
+
+abbrev pub HasBytePairs : PortGroup → Type 0
+HasBytePairs g = AllByRecursion IsBytePair g.acquire.items × AllByRecursion IsBytePair g.release.items
+
+abbrev pub GroupsHaveBytes : IoTable → Type 0
+GroupsHaveBytes io = AllByRecursion HasBytePairs io.groups.items
 
 -- the steps that m operations may take are within the work of n turns, less that of the program's own row: 64 times its
 -- 200 words
@@ -34,8 +47,8 @@ pub record Follows (program : PlainProgram) (io : IoTable) (ir : PlainIrProgram)
 
 abbrev pub LoweredFollows : Type 0
 LoweredFollows =
-    (program : PlainProgram) (io : IoTable) → Valid program io → IsLowered program
-    → Follows program io (lowered program)
+    (program : PlainProgram) (io : IoTable) → Valid program io → GroupsHaveBytes io → IsLowered program
+    → Follows program io (lowered program (plain_table io))
 
 -- A function of the program and that of the operations with its number: labels stand once, there are as many places for
 -- temporaries as its expressions need at once, and it calls none that the function of the program does not call
@@ -54,15 +67,42 @@ pub record IsMadeOf (program : PlainProgram) (io : IoTable) (ir : PlainIrProgram
 
 abbrev pub LoweredIsMadeOf : Type 0
 LoweredIsMadeOf =
-    (program : PlainProgram) (io : IoTable) → Valid program io → IsLowered program
-    → IsMadeOf program io (lowered program)
+    (program : PlainProgram) (io : IoTable) → Valid program io → GroupsHaveBytes io → IsLowered program
+    → IsMadeOf program io (lowered program (plain_table io))
 
--- the operations of a compiled program are those on integers, and such a program is lowered
-pub record IsMadeOfIntegers (program : PlainProgram) (ir : PlainIrProgram) : Type 0 where
+-- an operation on integers and fixed-point numbers: those on pointers and ports are none of them
+abbrev pub IsNumberOperation : PlainIr → Type 0
+IsNumberOperation (constant t n) = ⊤
+IsNumberOperation (copy to from) = ⊤
+IsNumberOperation (address t o offset) = ⊥
+IsNumberOperation (field ptr space offset) = ⊥
+IsNumberOperation (load_at to ptr space) = ⊥
+IsNumberOperation (store_at ptr space from) = ⊥
+IsNumberOperation (load_object t o offset) = ⊤
+IsNumberOperation (store_object o offset t) = ⊤
+IsNumberOperation (binary_op op ty mode to a aty b bty) = IsNumeric ty × IsNumeric aty × IsNumeric bty
+IsNumberOperation (unary_op op ty mode to a) = IsNumeric ty
+IsNumberOperation (conversion to ty mode a aty) = IsNumeric ty × IsNumeric aty
+IsNumberOperation (label l) = ⊤
+IsNumberOperation (jump l) = ⊤
+IsNumberOperation (branch_zero t l) = ⊤
+IsNumberOperation (call_function f to) = ⊤
+IsNumberOperation (return_from from) = ⊤
+IsNumberOperation (port_in to port index width) = ⊥
+IsNumberOperation (port_out from port index width) = ⊥
+
+-- an operation on numbers, or one on a port whose bytes are at 0xFF or below
+abbrev pub IsNumberOrPort : PlainIr → Type 0
+IsNumberOrPort (port_in to port index width) = port + width ≤ 0x100
+IsNumberOrPort (port_out from port index width) = port + width ≤ 0x100
+IsNumberOrPort i = IsNumberOperation i
+
+-- the operations of a compiled program are those on numbers and ports, and such a program is lowered
+pub record IsMadeOfNumbers (program : PlainProgram) (ir : PlainIrProgram) : Type 0 where
   pub lowered : IsLowered program
-  pub operations : AllByRecursion (λ g. AllByRecursion IsIntegerOperation g.code) ir.functions
+  pub operations : AllByRecursion (λ g. AllByRecursion IsNumberOrPort g.code) ir.functions
 
-abbrev pub CompiledIsOfIntegers : Type 0
-CompiledIsOfIntegers =
-    (program : PlainProgram) (io : IoTable) → Valid program io → IsCompiled program
-    → IsMadeOfIntegers program (lowered program)
+abbrev pub CompiledIsOfNumbers : Type 0
+CompiledIsOfNumbers =
+    (program : PlainProgram) (io : IoTable) → Valid program io → GroupsHaveBytes io → IsCompiled program
+    → IsMadeOfNumbers program (lowered program (plain_table io))

@@ -1,11 +1,12 @@
--- The parts of the language that are lowered: numbers, void expressions, objects by their names, and all statements.
--- Arrays, structs, pointers and ports are none of them.
+-- The parts of the language that are lowered: numbers, void expressions, objects by their names, ports and groups of
+-- ports, and all statements. Arrays, structs and pointers are none of them.
 use Rattle.std.specs.Prelude.{⊤, ℕ, Option, None, Some}
 use Rattle.std.specs.List.{AllByRecursion}
 use Rattle.ec_core.specs.Plain.{PlainType, void, integer, fixed, PlainExpr, expression}
 use Rattle.ec_core.specs.Plain.{PlainNode, number, load, unary, binary, convert, assign, compound}
-use Rattle.ec_core.specs.Plain.{step, logical_not, logical_and, logical_or, conditional, comma, call}
-use Rattle.ec_core.specs.Plain.{PlainPlace, object, PlainExprs, last_expr, next_expr, PlainStmt}
+use Rattle.ec_core.specs.Plain.{step, logical_not, logical_and, logical_or, conditional, comma, call, io, group}
+use Rattle.ec_core.specs.Plain.{PlainPlace, object, OptionPlainExpr, no_expr, an_expr, PlainExprs, last_expr}
+use Rattle.ec_core.specs.Plain.{next_expr, PlainStmt}
 use Rattle.ec_core.specs.Plain.{statement, PlainKind, empty, evaluate, block, declare, branch, while_loop, do_loop}
 use Rattle.ec_core.specs.Plain.{for_loop, break_loop, continue_loop, return_value, OptionPlainStmt, no_stmt, a_stmt}
 use Rattle.ec_core.specs.Plain.{PlainStmts, last_stmt, next_stmt, PlainProgram}
@@ -19,12 +20,6 @@ IsNumeric ty = ⊥
 abbrev pub IsNumericOrVoid : PlainType → Type 0
 IsNumericOrVoid void = ⊤
 IsNumericOrVoid ty = IsNumeric ty
-
--- an integer type or void
-abbrev pub IsIntegerOrVoid : PlainType → Type 0
-IsIntegerOrVoid void = ⊤
-IsIntegerOrVoid (integer signed bytes) = ⊤
-IsIntegerOrVoid ty = ⊥
 
 abbrev pub IsNamed : PlainPlace → Type 0
 IsNamed (object o) = ⊤
@@ -54,7 +49,14 @@ module _ (HasForm : PlainType → Type 0) (IsCallee : ℕ → Type 0) where
     IsNode (conditional c a b) = IsExpr c × IsExpr a × IsExpr b
     IsNode (comma a b) = IsExpr a × IsExpr b
     IsNode (call f args) = IsCallee f × AreExprs args
+    IsNode (io op port index value) = IsOptionExpr index × IsOptionExpr value
+    IsNode (group acquire g) = ⊤
     IsNode node = ⊥
+
+    -- an operand of a port operation, which may be absent
+    pub IsOptionExpr : OptionPlainExpr → Type 0
+    IsOptionExpr no_expr = ⊤
+    IsOptionExpr (an_expr e) = IsExpr e
 
     pub AreExprs : PlainExprs → Type 0
     AreExprs last_expr = ⊤
@@ -93,6 +95,6 @@ module _ (HasForm : PlainType → Type 0) (IsCallee : ℕ → Type 0) where
 abbrev pub IsLowered : PlainProgram → Type 0
 IsLowered program = AllByRecursion (λ f. IsStmt IsNumericOrVoid IsAnyFunction f.body) program.functions
 
--- a program whose expressions are integers as well: the code of fixed-point operations is still to come
+-- A program that is compiled. All that is lowered has code: expressions are integers and fixed-point numbers, or void
 abbrev pub IsCompiled : PlainProgram → Type 0
-IsCompiled program = AllByRecursion (λ f. IsStmt IsIntegerOrVoid IsAnyFunction f.body) program.functions
+IsCompiled program = AllByRecursion (λ f. IsStmt IsNumericOrVoid IsAnyFunction f.body) program.functions

@@ -12,6 +12,7 @@ use Rattle.ec_asm.specs.Shows.{noted, noted_all}
 use Rattle.ec_asm.specs.declared.items.AsmProgram.{AsmProgram}
 use Rattle.ec_core.specs.Layout.{size_of_type}
 use Rattle.ec_core.specs.Plain.{PlainStruct, PlainObject, PlainProgram}
+use Rattle.ec_core.specs.PortTable.{plain_table}
 use Rattle.ec_lower_code.specs.Code.{lowered}
 use Rattle.ec_map.specs.declared.map.Map.{Map}
 use Rattle.ec_locate.specs.Entries.{entries, flash_sizes}
@@ -134,5 +135,5 @@ module _ (laws : PlacedLaws) (p : PlainProgram) (m : Map) (asm : AsmProgram) (l 
             });
       }
 
-  pub copies_are_noted : noted_all w (all_accesses w (spans_of (lowered p))) ≡ copies p m l
+  pub copies_are_noted : noted_all w (all_accesses w (spans_of (lowered p (plain_table m.io)))) ≡ copies p m l
   copies_are_noted = all_noted w p.structs 0 p.objects (layout_by p m asm).initials l.places.items stands_from

@@ -303,7 +303,7 @@ images_show_their_sources runs is_run turns laws inside p m asm l s inputs h res
       main = r.main;
       ran = r.ran;
       copies = r.seen;
-      quiet = quiet e r.trace (spans_of (lowered p)) r.seen;
+      quiet = quiet e r.trace (spans_of (lowered p (plain_table m.io))) r.seen;
       reached = reached p m l e s inputs r (noted_all e) (λ k. Unit {0}) (λ k ok. refl) (λ k. tt);
       within = within p m l e s inputs r (noted_all e) (λ k. Unit {0}) (λ k ok. refl) is_run turns (λ j k less later. tt);
     }

@@ -13,6 +13,7 @@ use Rattle.ec_asm.specs.declared.items.AsmProgram.{AsmProgram}
 use Rattle.ec_core.specs.Laws.{EventsAreAtHome}
 use Rattle.ec_core.specs.Layout.{PlainLeaf, scalar_size, leaves_of_type}
 use Rattle.ec_core.specs.Plain.{PlainObject, PlainProgram}
+use Rattle.ec_core.specs.PortTable.{plain_table}
 use Rattle.ec_core.specs.State.{Event, In, Out, Read, Write}
 use Rattle.ec_core.specs.declared.programs.LeafInit.{LeafInit}
 use Rattle.ec_ir.specs.Temporaries.{low_bytes}
@@ -37,7 +38,7 @@ pub record GuardLaws : Type 0 where
 
 pub are_kinds : GuardLaws → (p : PlainProgram) (m : Map) (asm : AsmProgram) (l : Located) → IsTranslated p m asm l → AreKinds p m asm l
 are_kinds laws p m asm l h =
-    laws.told p m asm l h.valid h.map (laws.selections (lowered p) asm (laws.made p m.io h.valid h.lowered_whole).valid h.code h.selection) h.located
+    laws.told p m asm l h.valid h.map (laws.selections (lowered p (plain_table m.io)) asm (laws.made p m.io h.valid h.groups h.lowered_whole).valid h.code h.selection) h.located
 
 -- ---- what is noted of the machine
 

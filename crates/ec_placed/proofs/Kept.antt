@@ -12,6 +12,7 @@ use Rattle.ec_asm.specs.Shows.{if_object, noted, noted_all}
 use Rattle.ec_asm.specs.declared.items.AsmProgram.{AsmProgram}
 use Rattle.ec_core.specs.Plain.{PlainFunction, PlainProgram}
 use Rattle.ec_core.specs.Needs.{stmt_need}
+use Rattle.ec_core.specs.PortTable.{plain_table}
 use Rattle.ec_guarded.specs.Allowed.{IsAllowed}
 use Rattle.ec_ir.specs.Operations.{PlainIrFunction}
 use Rattle.ec_lower_code.specs.Code.{lowered_function}
@@ -26,13 +27,13 @@ use Rattle.ec_placed.proofs.ByAddress.{byte_there, byte_told, scratch_there, scr
 use Rattle.ec_placed.proofs.Watched.{watched_kinds, watched_tables, watched, watched_as, watched_was}
 
 -- the scratch memory that code has is what its functions need
-needs_are : (p : PlainProgram) (fs : List PlainFunction)
-    → map (λ (g : PlainIrFunction). g.slots) (map (lowered_function p) fs) ≡ map (λ (f : PlainFunction). stmt_need f.body) fs
-needs_are p [] = refl
-needs_are p (f ∷ fs) = ap (λ ns. stmt_need f.body ∷ ns) (needs_are p fs)
+needs_are : (p : PlainProgram) (m : Map) (fs : List PlainFunction)
+    → map (λ (g : PlainIrFunction). g.slots) (map (lowered_function p (plain_table m.io)) fs) ≡ map (λ (f : PlainFunction). stmt_need f.body) fs
+needs_are p m [] = refl
+needs_are p m (f ∷ fs) = ap (λ ns. stmt_need f.body ∷ ns) (needs_are p m fs)
 
 pub frames_are_needs : (p : PlainProgram) (m : Map) (asm : AsmProgram) (l : Located) → IsTranslated p m asm l → asm.frames.items ≡ scratch_needs p
-frames_are_needs p m asm l h = h.selection.frames ∙ needs_are p p.functions
+frames_are_needs p m asm l h = h.selection.frames ∙ needs_are p m p.functions
 
 module _ (p : PlainProgram) (m : Map) (asm : AsmProgram) (l : Located) (are : AreKinds p m asm l) (frames : asm.frames.items ≡ scratch_needs p) where
   abbrev scratch : ℕ → Bool

@@ -19,7 +19,7 @@ use Rattle.ec_avr.specs.State.{is_core_register}
 use Rattle.ec_asm.specs.Change.{Env, Kind, Own, Object, Stacked}
 use Rattle.ec_asm.specs.Items.{HasAt, code_words}
 use Rattle.ec_asm.specs.Laws.{PlacedItemsStand}
-use Rattle.ec_asm.specs.Pieces.{is_held}
+use Rattle.ec_asm.specs.Pieces.{is_held, value}
 use Rattle.ec_asm.specs.Placed.{IsPlaced, HoldsFrom}
 use Rattle.ec_asm.specs.Valid.{ValidAsm}
 use Rattle.ec_asm.specs.declared.items.AsmItem.{AsmItem}
@@ -28,12 +28,12 @@ use Rattle.ec_asm.specs.declared.items.AsmItem.TheVariants.{StoreObj}
 use Rattle.ec_asm.specs.declared.items.AsmProgram.{AsmProgram}
 use Rattle.ec_asm.proofs.ItemWords.{words_cons}
 use Rattle.ec_core.specs.Accesses.{leaf_of, leaf_count}
-use Rattle.ec_core.specs.Layout.{IsIntegerSize, size_of_type, leaves_of_type}
+use Rattle.ec_core.specs.Layout.{scalar_size, size_of_type, leaves_of_type}
 use Rattle.ec_core.specs.Meaning.{initial_object, initial_value}
-use Rattle.ec_core.specs.Plain.{integer, PlainStorage, static, local, param, register, PlainObject, PlainFunction}
-use Rattle.ec_core.specs.Plain.{PlainProgram}
+use Rattle.ec_core.specs.Plain.{PlainType, void, integer, fixed, pointer, array, struct, PlainStorage, static, local, param}
+use Rattle.ec_core.specs.Plain.{register, PlainObject, PlainFunction, PlainProgram}
+use Rattle.ec_core.specs.PortTable.{plain_table}
 use Rattle.ec_core.specs.State.{ObjectState}
-use Rattle.ec_core.specs.TypeLaws.{LeavesFillTheirTypes}
 use Rattle.ec_core.specs.Valid.{IsObject, IsStored, IsInitialValue, AreInitialValues, IsAddressable}
 use Rattle.ec_core.specs.declared.programs.LeafInit.{LeafInit}
 use Rattle.ec_core.specs.declared.programs.LeafInit.TheVariants.{Number as TheNumber, Null as TheNull, Address}
@@ -41,6 +41,7 @@ use Rattle.ec_core.specs.declared.values.Value.{Value}
 use Rattle.ec_core.specs.declared.values.Value.TheVariants.{Number}
 use Rattle.ec_ir.specs.Meaning.{start_state, standing}
 use Rattle.ec_ir.specs.Operations.{PlainIr, call_function, PlainIrFunction, PlainIrProgram, data_of}
+use Rattle.ec_ir.specs.Temporaries.{low_bytes}
 use Rattle.ec_ir.specs.Valid.{Results, ValidOperation, ValidIrFunction, called_in, CallsTo}
 use Rattle.ec_lower_code.specs.Code.{lowered, lowered_function}
 use Rattle.ec_lower_code.specs.Correct.{IsMadeOf, LoweredIsMadeOf}
@@ -49,7 +50,7 @@ use Rattle.ec_map.specs.declared.map.Map.{Map}
 use Rattle.ec_locate.specs.Apart.{PlacedStandApart}
 use Rattle.ec_locate.specs.Calls.{IsChain}
 use Rattle.ec_locate.specs.Code.{label_word, address_of}
-use Rattle.ec_locate.specs.DataBank.{Names, an_object, scratch, StandsIn, DataStands, DataStandsApart}
+use Rattle.ec_locate.specs.DataBank.{Names, an_object, scratch, work, StandsIn, DataStands, DataStandsApart}
 use Rattle.ec_locate.specs.Entries.{entries, flash_sizes, data_sizes, frame_size}
 use Rattle.ec_locate.specs.Initial.{values_of, ValuesStand, InitialValues, InitialValuesStand}
 use Rattle.ec_locate.specs.Layout.{LayoutView}
@@ -57,11 +58,11 @@ use Rattle.ec_locate.specs.Placing.{layout_by, last_of, object_sizes}
 use Rattle.ec_locate.specs.Stands.{environment, CodeStands}
 use Rattle.ec_locate.specs.declared.placing.Located.{Located}
 use Rattle.ec_select_functions.specs.Laws.{CallsOn}
-use Rattle.ec_select_functions.specs.Places.{NumberLeaf, Apart}
+use Rattle.ec_select_functions.specs.Places.{IsNumeric, NumberLeaf, Apart}
 use Rattle.ec_select_functions.specs.Relation.{HoldsLeaf}
-use Rattle.ec_select_functions.specs.Standing.{ScratchStands, ObjectStands, ObjectsStand}
+use Rattle.ec_select_functions.specs.Standing.{ScratchStands, WorkStands, ObjectStands, ObjectsStand}
 use Rattle.ec_select.specs.LaidOut.{CodeStands as CodeIsLaidOut, ScratchIsLaidOut, initial_at, InitialsStand}
-use Rattle.ec_select.specs.LaidOut.{StackStands, IsLaidOut}
+use Rattle.ec_select.specs.LaidOut.{StackStands, WorkIsLaidOut, IsLaidOut}
 use Rattle.ec_select.specs.Labels.{homes_of, widest_temps}
 use Rattle.ec_select.specs.Laws.{SelectionsAreValid}
 use Rattle.ec_select.specs.Program.{has_initial_bytes}
@@ -75,7 +76,6 @@ use Rattle.ec_placed.proofs.Rows.{value_suits}
 
 -- what this rests on
 pub record PlacedLaws : Type 0 where
-  pub leaves : LeavesFillTheirTypes
   pub items : PlacedItemsStand
   pub code : CodeStands
   pub apart : DataStandsApart
@@ -155,6 +155,23 @@ set_by [] k u h = absurd cc
 set_by (x ∷ inits) zero u h = record { init = x; has = refl; same = cc }
 set_by (x ∷ inits) (suc k) u h = let r = set_by inits k u h in record { init = r.init; has = r.has; same = r.same }
 
+-- no pointer is the initial value of a number
+null_is_no_number : (p : PlainProgram) (ty : PlainType) → IsNumeric ty → IsInitialValue p ty TheNull → ⊥
+null_is_no_number p void is h = is
+null_is_no_number p (integer signed bytes) is h = h
+null_is_no_number p (fixed kind sat) is h = h
+null_is_no_number p (pointer space const to) is h = is
+null_is_no_number p (array of len) is h = is
+null_is_no_number p (struct index) is h = is
+
+address_is_no_number : (p : PlainProgram) (ty : PlainType) (o offset : ℕ) → IsNumeric ty → IsInitialValue p ty (Address o offset) → ⊥
+address_is_no_number p void o offset is h = is
+address_is_no_number p (integer signed bytes) o offset is h = h
+address_is_no_number p (fixed kind sat) o offset is h = h
+address_is_no_number p (pointer space const to) o offset is h = is
+address_is_no_number p (array of len) o offset is h = is
+address_is_no_number p (struct index) o offset is h = is
+
 -- ---- calls
 
 called_known : (p : PlainIrProgram) (results : Results) (f slots : ℕ) (all code : List PlainIr)
@@ -167,13 +184,14 @@ called_known p results f slots all (i ∷ code) h b c = called_known p results f
 
 -- ---- the whole
 
--- what stands at an address is told so that code can stand: registers and scratch memory are code's own, and objects,
--- the stack and initial bytes are told to be such
+-- what stands at an address is told so that code can stand: registers, scratch memory and the work bytes are code's own,
+-- and objects, the stack and initial bytes are told to be such
 pub record HasKinds (p : PlainProgram) (m : Map) (asm : AsmProgram) (l : Located) (kind table : ℕ → Kind) : Type 0 where
   pub registers : (a : ℕ) → is_core_register a ≡ true → a ≢ 0x5F → kind a ≡ Own
   pub objects : (a i : ℕ) (o : PlainObject) (q : Place) → IsByteOf p l Data a i o q → IsAddressable o.storage → kind a ≡ Object
   pub scratch : (f frame at a : ℕ) → slice_get asm.frames.items f ≡ Some frame → slice_get l.frames.items f ≡ Some at
       → at ≤ a → a < at + frame_size frame → kind a ≡ Own
+  pub work : (a : ℕ) → l.work ≤ a → a < l.work + 64 → kind a ≡ Own
   pub stack : (a : ℕ) → m.stack.first ≤ a → a < end_of m.stack → kind a ≡ Stacked
   pub initials : (a : ℕ) → a < 32768 → is_of_initials p.structs p.objects (layout_by p m asm).initials a ≡ true
       → is_held (table a) ≡ true
@@ -181,7 +199,7 @@ pub record HasKinds (p : PlainProgram) (m : Map) (asm : AsmProgram) (l : Located
 module _ (laws : PlacedLaws) (p : PlainProgram) (m : Map) (asm : AsmProgram) (l : Located) (h : IsTranslated p m asm l)
     (kind table : ℕ → Kind) (are : HasKinds p m asm l kind table) where
   abbrev q : PlainIrProgram
-  q = lowered p
+  q = lowered p (plain_table m.io)
 
   abbrev e : Env
   e = environment p m asm l kind table
@@ -193,7 +211,7 @@ module _ (laws : PlacedLaws) (p : PlainProgram) (m : Map) (asm : AsmProgram) (l 
   size o = size_of_type p.structs o.ty
 
   made : IsMadeOf p m.io q
-  made = laws.made p m.io h.valid h.lowered_whole
+  made = laws.made p m.io h.valid h.groups h.lowered_whole
 
   asm_valid : ValidAsm (object_sizes p) 64 asm
   asm_valid = laws.selections q asm made.valid h.code h.selection
@@ -363,6 +381,36 @@ module _ (laws : PlacedLaws) (p : PlainProgram) (m : Map) (asm : AsmProgram) (l 
   memory : ScratchIsLaidOut q e (place_of l) (scratch_of asm l)
   memory = record { stands = scratch_stands; objects = objects_stand; apart = scratch_apart }
 
+  -- ---- the work bytes
+
+  work_stands : WorkStands (data_of q) e (place_of l) l.work
+  work_stands = record {
+    high = stand.work.0;
+    at = λ i less. stand.address 1280 l.work 64 i work (omega (arith, less));
+    kind = λ i less. are.work (l.work + i) (omega arith) (omega (arith, less));
+    objects_apart = λ o d od home.
+        apart_from (place_of l o) (size d) l.work 64 (object_is o d od).some
+        (stand.apart o 1280 (place_of l o) l.work (size d) 64 (λ z. let b = few_objects o d od in omega (arith, z, b)) (names o d od home) work);
+  }
+
+  few_functions : (f : ℕ) (g : PlainIrFunction) → slice_get q.functions f ≡ Some g → f < 256
+  few_functions f g is =
+      let b = slice_get_within q.functions f g is in
+      let c = length-map p.functions (lowered_function p (plain_table m.io)) in
+      let d = h.valid.function_count in
+      omega (arith, b, c, d)
+
+  work_apart : (f : ℕ) (g : PlainIrFunction) → slice_get q.functions f ≡ Some g
+      → Apart (scratch_of asm l f) (16 * g.slots) l.work 64
+  work_apart f g is =
+      ⊎_elim (λ s. let n = s.none in let w = stand.work.1 in nothing_apart (scratch_of asm l f) (16 * g.slots) l.work 64 s.at (omega (arith, n)) w)
+      (λ s. apart_from (scratch_of asm l f) (16 * g.slots) l.work 64 (let n = s.some in omega (arith, n))
+      (stand.apart (1024 + f) 1280 (scratch_of asm l f) l.work (16 * g.slots) 64 (λ z. let b = few_functions f g is in omega (arith, z, b)) (scratch_names f g s) work))
+      (scratch_is f g is)
+
+  work_laid_out : WorkIsLaidOut q e (place_of l) (scratch_of asm l)
+  work_laid_out = record { work = l.work; stands = work_stands; apart = work_apart }
+
   -- ---- initial values
 
   values : InitialValues p m asm l
@@ -429,29 +477,28 @@ module _ (laws : PlacedLaws) (p : PlainProgram) (m : Map) (asm : AsmProgram) (l 
     stored : AreInitialValues p (leaves_of_type p.structs leaf.declared.ty) s.inits
     stored = subst (λ st. IsStored p leaf.declared st) s.is_static (object_is leaf.object leaf.declared leaf.is_object).storage
 
-    suits : IsInitialValue p (integer leaf.signed leaf.bytes) s.set.init
-    suits = value_suits p (leaves_of_type p.structs leaf.declared.ty) s.inits leaf.number (record { ty = integer leaf.signed leaf.bytes; at = leaf.at }) s.set.init stored leaf.is_leaf s.set.has
-
-    scalar : IsIntegerSize leaf.bytes
-    scalar = ((laws.leaves.types p.structs leaf.declared.ty h.valid.structs (object_is leaf.object leaf.declared leaf.is_object).ty).each leaf.number (record { ty = integer leaf.signed leaf.bytes; at = leaf.at }) leaf.is_leaf).scalar.scalar
+    suits : IsInitialValue p leaf.ty s.set.init
+    suits = value_suits p (leaves_of_type p.structs leaf.declared.ty) s.inits leaf.number (record { ty = leaf.ty; at = leaf.at }) s.set.init stored leaf.is_leaf s.set.has
 
     bytes : (n : ℤ) → s.set.init ≡ TheNumber n
-        → HoldsFrom l.image.bytes.items (slice_index y.initials leaf.object + leaf.at) (little_endian leaf.bytes (cast_unsigned w128 n))
+        → HoldsFrom l.image.bytes.items (slice_index y.initials leaf.object + leaf.at) (little_endian (scalar_size leaf.ty) (cast_unsigned w128 n))
     bytes n is =
         let v = values.values leaf.object leaf.declared s.inits (record { is_object = leaf.is_object; is_static = s.is_static }) in
-        let one = v.each leaf.number (record { ty = integer leaf.signed leaf.bytes; at = leaf.at }) s.set.init leaf.is_leaf s.set.has in
-        subst (λ k. HoldsFrom l.image.bytes.items (k + leaf.at) (little_endian leaf.bytes (cast_unsigned w128 n))) (kept_at leaf.object leaf.declared leaf.in_data) (rw is at one)
+        let one = v.each leaf.number (record { ty = leaf.ty; at = leaf.at }) s.set.init leaf.is_leaf s.set.has in
+        subst (λ k. HoldsFrom l.image.bytes.items (k + leaf.at) (little_endian (scalar_size leaf.ty) (cast_unsigned w128 n))) (kept_at leaf.object leaf.declared leaf.in_data) (rw is at one)
 
     by_init : (init : LeafInit) → s.set.init ≡ init → HoldsLeaf (slice_index l.image.bytes.items) (slice_index y.initials leaf.object + leaf.at) leaf.bytes u
     by_init (TheNumber n) is =
         let b = bytes n is in
-        let c = length-little_endian leaf.bytes (cast_unsigned w128 n) in
-        let range : IsInitialValue p (integer leaf.signed leaf.bytes) (TheNumber n) = rw is at suits in
-        let low = bytes_are_low (slice_index l.image.bytes.items) (slice_index y.initials leaf.object + leaf.at) leaf.bytes leaf.signed n scalar range.1 (λ k less. b.bytes_there k (omega (arith, c, less))) in
+        let c = length-little_endian (scalar_size leaf.ty) (cast_unsigned w128 n) in
+        let range : IsInitialValue p leaf.ty (TheNumber n) = rw is at suits in
+        let low = bytes_are_low leaf.ty (slice_index l.image.bytes.items) (slice_index y.initials leaf.object + leaf.at) n leaf.is_number range (λ k less. b.bytes_there k (omega (arith, c, less))) in
         let same : Number n ≡ u = ap initial_value (sym is) ∙ s.set.same in
-        subst (λ w. HoldsLeaf (slice_index l.image.bytes.items) (slice_index y.initials leaf.object + leaf.at) leaf.bytes w) same low
-    by_init TheNull is = let none : IsInitialValue p (integer leaf.signed leaf.bytes) TheNull = rw is at suits in absurd none
-    by_init (Address o offset) is = let none : IsInitialValue p (integer leaf.signed leaf.bytes) (Address o offset) = rw is at suits in absurd none
+        subst (λ w. HoldsLeaf (slice_index l.image.bytes.items) (slice_index y.initials leaf.object + leaf.at) leaf.bytes w) same
+        (subst (λ k. value (slice_index l.image.bytes.items) (slice_index y.initials leaf.object + leaf.at) k ≡ low_bytes k n) leaf.size low)
+    by_init TheNull is = let none : IsInitialValue p leaf.ty TheNull = rw is at suits in absurd (null_is_no_number p leaf.ty leaf.is_number none)
+    by_init (Address o offset) is =
+        let none : IsInitialValue p leaf.ty (Address o offset) = rw is at suits in absurd (address_is_no_number p leaf.ty o offset leaf.is_number none)
 
   kept_of : (leaf : NumberLeaf (data_of q)) (u : Value) → StartsWith leaf u → has_initial_bytes leaf.declared.storage leaf.declared.home ≡ true
   kept_of leaf u s = rw (s.is_static, leaf.in_data) refl
@@ -474,31 +521,31 @@ module _ (laws : PlacedLaws) (p : PlainProgram) (m : Map) (asm : AsmProgram) (l 
       omega (arith, ends)
 
   function_of : (f : ℕ) (g : PlainIrFunction) → slice_get q.functions f ≡ Some g → (x : PlainFunction) × (slice_get p.functions f ≡ Some x)
-  function_of f g is = by_found (slice_get p.functions f) refl (sym (slice_get-map (lowered_function p) p.functions f) ∙ is) where
-    by_found : (o : Option PlainFunction) → slice_get p.functions f ≡ o → option_map (lowered_function p) o ≡ Some g → (x : PlainFunction) × (slice_get p.functions f ≡ Some x)
+  function_of f g is = by_found (slice_get p.functions f) refl (sym (slice_get-map (lowered_function p (plain_table m.io)) p.functions f) ∙ is) where
+    by_found : (o : Option PlainFunction) → slice_get p.functions f ≡ o → option_map (lowered_function p (plain_table m.io)) o ≡ Some g → (x : PlainFunction) × (slice_get p.functions f ≡ Some x)
     by_found None found r = absurd cc
     by_found (Some x) found r = (x, found)
 
   known : (f : ℕ) → f < length p.functions → (x : PlainFunction) × (slice_get p.functions f ≡ Some x)
   known f less = there_is p.functions f less
 
-  lowered_at : (f : ℕ) (x : PlainFunction) → slice_get p.functions f ≡ Some x → slice_get q.functions f ≡ Some (lowered_function p x)
-  lowered_at f x is = slice_get-map (lowered_function p) p.functions f ∙ ap (option_map (lowered_function p)) is
+  lowered_at : (f : ℕ) (x : PlainFunction) → slice_get p.functions f ≡ Some x → slice_get q.functions f ≡ Some (lowered_function p (plain_table m.io) x)
+  lowered_at f x is = slice_get-map (lowered_function p (plain_table m.io)) p.functions f ∙ ap (option_map (lowered_function p (plain_table m.io))) is
 
   -- a function that is called is one of the program's
-  called_below : (f : ℕ) (x : PlainFunction) → slice_get p.functions f ≡ Some x → (b : ℕ) → Contains (called_in (lowered_function p x).code) b → b < length p.functions
+  called_below : (f : ℕ) (x : PlainFunction) → slice_get p.functions f ≡ Some x → (b : ℕ) → Contains (called_in (lowered_function p (plain_table m.io) x).code) b → b < length p.functions
   called_below f x is b c =
-      let v = each_at (ValidIrFunction q made.valid.results) 0 q.functions f (lowered_function p x) made.valid.functions (lowered_at f x is) in
-      subst (λ n. b < n) (length-map p.functions (lowered_function p))
-      (called_known q made.valid.results (0 + f) (lowered_function p x).slots (lowered_function p x).code (lowered_function p x).code v.code b c)
+      let v = each_at (ValidIrFunction q made.valid.results) 0 q.functions f (lowered_function p (plain_table m.io) x) made.valid.functions (lowered_at f x is) in
+      subst (λ n. b < n) (length-map p.functions (lowered_function p (plain_table m.io)))
+      (called_known q made.valid.results (0 + f) (lowered_function p (plain_table m.io) x).slots (lowered_function p (plain_table m.io) x).code (lowered_function p (plain_table m.io) x).code v.code b c)
 
   is_chain : (f : ℕ) (fs : List ℕ) → f < length p.functions → CallsOn q f fs → IsChain p.functions (f ∷ fs)
   is_chain f [] less c = let x = known f less in (rw x.1 tt, tt)
   is_chain f (b ∷ fs) less c =
       let x = known f less in
       let at = lowered_at f x.0 x.1 in
-      let here : Contains (called_in (lowered_function p x.0).code) b = rw at at c.0 in
-      (rw x.1 ((made.functions f x.0 (lowered_function p x.0) x.1 at).calls b here), is_chain b fs (called_below f x.0 x.1 b here) c.1)
+      let here : Contains (called_in (lowered_function p (plain_table m.io) x.0).code) b = rw at at c.0 in
+      (rw x.1 ((made.functions f x.0 (lowered_function p (plain_table m.io) x.0) x.1 at).calls b here), is_chain b fs (called_below f x.0 x.1 b here) c.1)
 
   stack : StackStands q e m.stack.first
   stack = record {
@@ -513,7 +560,7 @@ module _ (laws : PlacedLaws) (p : PlainProgram) (m : Map) (asm : AsmProgram) (l 
         let last = last_is in
         are.stack k low (omega (arith, some, last, high));
     room = λ fs calls.
-        let room = (laws.separate p m asm l h.map h.located).stack h.valid fs (is_chain p.main fs (subst (λ n. p.main < n) (length-map p.functions (lowered_function p)) made.valid.main) calls) in
+        let room = (laws.separate p m asm l h.map h.located).stack h.valid fs (is_chain p.main fs (subst (λ n. p.main < n) (length-map p.functions (lowered_function p (plain_table m.io))) made.valid.main) calls) in
         let last = last_is in
         omega (arith, room, last);
   }
@@ -540,13 +587,13 @@ module _ (laws : PlacedLaws) (p : PlainProgram) (m : Map) (asm : AsmProgram) (l 
       }
 
   pub laid_out : IsLaidOut q asm e (place_of l) (scratch_of asm l) m.stack.first
-  laid_out = record { code = code; memory = memory; initials = initials; stack = stack }
+  laid_out = record { code = code; memory = memory; work = work_laid_out; initials = initials; stack = stack }
 
 -- ---- the kinds of a placed program are told so
 
 asm_is_valid : PlacedLaws → (p : PlainProgram) (m : Map) (asm : AsmProgram) (l : Located) → IsTranslated p m asm l → ValidAsm (object_sizes p) 64 asm
 asm_is_valid laws p m asm l h =
-    laws.selections (lowered p) asm (laws.made p m.io h.valid h.lowered_whole).valid h.code h.selection
+    laws.selections (lowered p (plain_table m.io)) asm (laws.made p m.io h.valid h.groups h.lowered_whole).valid h.code h.selection
 
 pub are_kinds_of : PlacedLaws → (p : PlainProgram) (m : Map) (asm : AsmProgram) (l : Located) → IsTranslated p m asm l → AreKinds p m asm l
 are_kinds_of laws p m asm l h =
@@ -558,6 +605,7 @@ placed_has_kinds p m asm l are = record {
   registers = are.registers;
   objects = are.objects;
   scratch = are.scratch;
+  work = are.work;
   stack = are.stack;
   initials = λ a low told. rw (lt-ltb a 32768 low, told) (held (is_of_objects Flash p.structs p.objects l.places.items a));
 } where

@@ -2,6 +2,7 @@ pub mod ByAddress
 pub mod Numbers
 pub mod Rows
 pub mod Laid
+pub mod Ports
 pub mod Ran
 pub mod FromReset
 pub mod Guarded

@@ -6,6 +6,7 @@ use Rattle.ec_asm.specs.Change.{Env, Kind, Own, Object, Port, Stacked, Barred}
 use Rattle.ec_asm.specs.Shows.{Fits, may_be, in_flash}
 use Rattle.ec_asm.specs.declared.items.AsmProgram.{AsmProgram}
 use Rattle.ec_core.specs.Plain.{PlainProgram}
+use Rattle.ec_core.specs.PortTable.{plain_table}
 use Rattle.ec_map.specs.declared.map.Map.{Map}
 use Rattle.ec_locate.specs.declared.placing.Located.{Located}
 use Rattle.ec_select.specs.LaidOut.{IsLaidOut}
@@ -126,11 +127,12 @@ module _ (p : PlainProgram) (m : Map) (asm : AsmProgram) (l : Located) where
     registers = λ a core other. watched_as a Own (are.registers a core other) (λ q. cc);
     objects = λ a i o q h named. watched_as a Object (are.objects a i o q h named) (λ q. cc);
     scratch = λ f frame at a is there from below. watched_as a Own (are.scratch f frame at a is there from below) (λ q. cc);
+    work = λ a from below. watched_as a Own (are.work a from below) (λ q. cc);
     stack = λ a low high. watched_as a Stacked (are.stack a low high) (λ q. cc);
     initials = λ a low told. rw (lt-ltb a 32768 low) refl;
   }
 
 pub watched_are_laid_out : PlacedLaws → (p : PlainProgram) (m : Map) (asm : AsmProgram) (l : Located) → IsTranslated p m asm l
-    → IsLaidOut (lowered p) asm (watched p m asm l) (place_of l) (scratch_of asm l) m.stack.first
+    → IsLaidOut (lowered p (plain_table m.io)) asm (watched p m asm l) (place_of l) (scratch_of asm l) m.stack.first
 watched_are_laid_out laws p m asm l h =
     laid_out laws p m asm l h (watched_kinds p m asm l) watched_tables (watched_has_kinds p m asm l (are_kinds_of laws p m asm l h))

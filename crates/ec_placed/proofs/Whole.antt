@@ -14,7 +14,7 @@ use Rattle.ec_avr.specs.Laws.{MachineIsRun}
 use Rattle.ec_avr.specs.Machine.{State, Inputs, machine, IsReset}
 use Rattle.ec_avr.specs.State.{byte_at}
 use Rattle.ec_asm.specs.View.{bytes_of}
-use Rattle.ec_asm.specs.Change.{Env, Stacked}
+use Rattle.ec_asm.specs.Change.{Env, Port, Stacked}
 use Rattle.ec_asm.specs.Laws.{StackStaysInside}
 use Rattle.ec_asm.specs.Pieces.{value}
 use Rattle.ec_asm.specs.Run.{Running as AtWord, run, is_safe}
@@ -40,6 +40,7 @@ use Rattle.ec_lower_code.specs.Code.{lowered}
 use Rattle.ec_lower_code.specs.Correct.{LoweredFollows, is_paid}
 use Rattle.ec_map.specs.declared.map.Map.{Map}
 use Rattle.ec_locate.specs.declared.placing.Located.{Located}
+use Rattle.ec_port_events.specs.Ports.{SourcesAccessPorts, PortBytesPass}
 use Rattle.ec_select_functions.specs.Laws.{HoldsUnlessFailed}
 use Rattle.ec_select_functions.specs.Places.{NumberLeaf}
 use Rattle.ec_select_functions.specs.Relation.{event_accesses}
@@ -57,8 +58,9 @@ use Rattle.ec_placed.proofs.Guarded.{all_of}
 use Rattle.ec_placed.proofs.Kept.{frames_are_needs, kept_is_noted}
 use Rattle.ec_placed.proofs.Laid.{PlacedLaws, are_kinds_of, is_copied}
 use Rattle.ec_placed.proofs.Copied.{copies_are_noted}
+use Rattle.ec_placed.proofs.Ports.{ports_of_map}
 use Rattle.ec_placed.proofs.Ran.{reset_shows, runs_as_operations, runs_as_source}
-use Rattle.ec_placed.proofs.Watched.{watched_kinds, watched_tables, watched, watched_has_kinds, watched_was, watched_fits, watched_are_laid_out}
+use Rattle.ec_placed.proofs.Watched.{watched_kinds, watched_tables, watched, watched_as, watched_has_kinds, watched_was, watched_fits, watched_are_laid_out}
 
 -- what this rests on
 pub record WholeLaws : Type 0 where
@@ -70,6 +72,8 @@ pub record WholeLaws : Type 0 where
   pub stack : StackStaysInside
   pub allowed : AccessesAreAllowed
   pub home : EventsAreAtHome
+  pub on_ports : SourcesAccessPorts
+  pub port_bytes : PortBytesPass
 
 -- ---- events
 
@@ -105,11 +109,11 @@ module _ (p : PlainProgram) (l : Located) where
   for_event (Write o k space v) there kept_there =
       all_of p l (IsForEvent p l (Write o k space v)) ByteWrite o k v (λ at byte b. (at, byte, refl, home_byte o k at space there kept_there b))
 
-same_data : (p : PlainProgram) (event : Event) → IsInData (data_of (lowered p)) event → IsInData p event
-same_data p (In port byte) h = tt
-same_data p (Out port byte) h = tt
-same_data p (Read o k space v) h = h
-same_data p (Write o k space v) h = h
+same_data : (p : PlainProgram) (m : Map) (event : Event) → IsInData (data_of (lowered p (plain_table m.io))) event → IsInData p event
+same_data p m (In port byte) h = tt
+same_data p m (Out port byte) h = tt
+same_data p m (Read o k space v) h = h
+same_data p m (Write o k space v) h = h
 
 -- ---- memory
 
@@ -136,7 +140,8 @@ module _ (laws : WholeLaws) (p : PlainProgram) (m : Map) (asm : AsmProgram) (l :
 
   r : RunsAsSource p m l e s inputs
   r =
-      runs_as_source laws.follows laws.machine_run p m asm l e s inputs h reset give
+      runs_as_source laws.follows laws.machine_run laws.on_ports p m asm l e s inputs h reset give
+      (λ a is. watched_as p m asm l a Port (are.ports a (ports_of_map laws.port_bytes m h.map a is)) (λ z. cc))
       (runs_as_operations laws.laid.made laws.selections p m asm l e s inputs h reset give refl fit (watched_are_laid_out laws.laid p m asm l h))
 
   -- ---- accesses
@@ -169,41 +174,43 @@ module _ (laws : WholeLaws) (p : PlainProgram) (m : Map) (asm : AsmProgram) (l :
   -- ---- spaces
 
   of_events : (n k : ℕ) (es : List Event) → (state_of (source_run p (plain_table m.io) inputs n)).events ≡ es
-      → (state_of (operations_run (lowered p) inputs k)).events ≡ es → AreForEvents p l es
+      → (state_of (operations_run (lowered p (plain_table m.io)) inputs k)).events ≡ es → AreForEvents p l es
   of_events n k es q o =
-      both_to (IsAtHome p) (IsInData (data_of (lowered p))) (λ event. AllByRecursion (IsForEvent p l event) (event_accesses p (place_of l) event))
-      (λ event there kept_there. for_event p l event there (same_data p event kept_there)) es
+      both_to (IsAtHome p) (IsInData (data_of (lowered p (plain_table m.io)))) (λ event. AllByRecursion (IsForEvent p l event) (event_accesses p (place_of l) event))
+      (λ event there kept_there. for_event p l event there (same_data p m event kept_there)) es
       (subst (AllByRecursion (IsAtHome p)) q (laws.home p (plain_table m.io) inputs n))
-      (subst (AllByRecursion (IsInData (data_of (lowered p)))) o (events_in_data (lowered p) inputs k h.code))
+      (subst (AllByRecursion (IsInData (data_of (lowered p (plain_table m.io))))) o (events_in_data (lowered p (plain_table m.io)) inputs k h.code))
 
   spaces : (n : ℕ) → StaysAtHome p l (source p (plain_table m.io) inputs n)
-  spaces n = by_shown (source p (plain_table m.io) inputs n) refl ((laws.follows p m.io h.valid h.lowered_whole).reaches inputs give n) where
+  spaces n = by_shown (source p (plain_table m.io) inputs n) refl ((laws.follows p m.io h.valid h.groups h.lowered_whole).reaches inputs give n) where
     by_shown : (b : Behaviour Event ℤ Undefined) → source p (plain_table m.io) inputs n ≡ b
-        → Reached (is_paid p m.io (lowered p) inputs n) (meaning (lowered p) inputs) n b → StaysAtHome p l b
+        → Reached (is_paid p m.io (lowered p (plain_table m.io)) inputs n) (meaning (lowered p (plain_table m.io)) inputs) n b → StaysAtHome p l b
     by_shown (Failed point) q x = tt
     by_shown (GoesOn es) q x =
-        of_events n x.0 es (events_running (source_run p (plain_table m.io) inputs n) es q) (events_running (operations_run (lowered p) inputs x.0) es x.3)
+        of_events n x.0 es (events_running (source_run p (plain_table m.io) inputs n) es q) (events_running (operations_run (lowered p (plain_table m.io)) inputs x.0) es x.3)
     by_shown (Ends es result) q x =
         of_events n x.0 es (events_ended (source_run p (plain_table m.io) inputs n) es result q)
-        (events_ended (operations_run (lowered p) inputs x.0) es result x.2)
+        (events_ended (operations_run (lowered p (plain_table m.io)) inputs x.0) es result x.2)
 
   -- ---- initial values
 
   initials : AreInitial p l r.main
   initials leaf inits n is_static has =
-      let own : NumberLeaf (data_of (lowered p)) = record {
+      let own : NumberLeaf (data_of (lowered p (plain_table m.io))) = record {
         object = leaf.object;
         number = leaf.number;
         declared = leaf.declared;
-        signed = leaf.signed;
+        ty = leaf.ty;
         bytes = leaf.bytes;
         at = leaf.at;
         is_object = leaf.is_object;
         is_leaf = leaf.is_leaf;
+        is_number = leaf.is_number;
+        size = leaf.size;
         in_data = leaf.in_data;
       } in
-      let of = λ (o : PlainObject). standing (initial_object (leaf_count (data_of (lowered p)) o.ty) o.storage) in
-      let there : slice_get (start_state (data_of (lowered p))).objects leaf.object ≡ Some (of leaf.declared) =
+      let of = λ (o : PlainObject). standing (initial_object (leaf_count (data_of (lowered p (plain_table m.io))) o.ty) o.storage) in
+      let there : slice_get (start_state (data_of (lowered p (plain_table m.io)))).objects leaf.object ≡ Some (of leaf.declared) =
       slice_get-map of p.objects leaf.object ∙ ap (option_map of) leaf.is_object in
       let set : leaf_of (of leaf.declared) leaf.number ≡ Some (Number n) =
       rw is_static (rw (slice_get-map (λ (init : LeafInit). Some (initial_value init)) inits leaf.number) (rw has refl)) in
@@ -221,7 +228,7 @@ module _ (laws : WholeLaws) (p : PlainProgram) (m : Map) (asm : AsmProgram) (l :
     start = r.trace;
     main = r.main;
     ran = r.ran;
-    quiet = quiet e r.trace (spans_of (lowered p)) r.seen;
+    quiet = quiet e r.trace (spans_of (lowered p (plain_table m.io))) r.seen;
     copied = copied;
     initials = initials;
     reached = λ defined. reached p m l e s inputs r (kept p l) (HasMeaning p m inputs) alike (λ k point. defined k point);

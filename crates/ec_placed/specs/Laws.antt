@@ -11,6 +11,7 @@ use Rattle.ec_asm.specs.Valid.{ValidAsm}
 use Rattle.ec_asm.specs.declared.items.AsmProgram.{AsmProgram}
 use Rattle.ec_core.specs.Layout.{size_of_type}
 use Rattle.ec_core.specs.Plain.{PlainObject, PlainProgram}
+use Rattle.ec_core.specs.PortTable.{plain_table}
 use Rattle.ec_core.specs.Valid.{IsAddressable, Valid}
 use Rattle.ec_map.specs.Maps.{ValidMap}
 use Rattle.ec_map.specs.Regions.{end_of}
@@ -83,4 +84,4 @@ KindsFit =
 abbrev pub PlacedAreLaidOut : Type 0
 PlacedAreLaidOut =
     (p : PlainProgram) (m : Map) (asm : AsmProgram) (l : Located) → IsTranslated p m asm l
-    → IsLaidOut (lowered p) asm (placed p m asm l) (place_of l) (scratch_of asm l) m.stack.first
+    → IsLaidOut (lowered p (plain_table m.io)) asm (placed p m asm l) (place_of l) (scratch_of asm l) m.stack.first

@@ -42,12 +42,13 @@ view_of s inputs = record {
   safe = true;
 }
 
--- from every reset state a placed program does what its operations do
+-- from every reset state a placed program does what its operations do, as long as they access none but ports of the
+-- machine
 abbrev pub ImagesRun : Type 0
 ImagesRun =
     (p : PlainProgram) (m : Map) (asm : AsmProgram) (l : Located) (s : State) (inputs : Inputs)
     → IsTranslated p m asm l → IsReset l.image.core l.image.bytes.items s → GiveBytes inputs
-    → RunsAsOperations (lowered p) (place_of l) (placed p m asm l) (view_of s inputs) s inputs
+    → RunsAsOperations (lowered p (plain_table m.io)) (place_of l) (placed p m asm l) (view_of s inputs) s inputs
 
 -- ---- beside the source
 
@@ -76,13 +77,13 @@ pub record RunsAsSource (p : PlainProgram) (m : Map) (l : Located) (e : Env) (s 
   pub ran : machine steps inputs s ≡ Running trace main
   pub on : (k : ℕ) → machine (steps + k) inputs s ≡ preceded_by trace (machine k inputs main)
   pub started : is_safe (run e steps (AtWord s.pc (view_of s inputs))) ≡ true
-  pub seen : noted_all e trace ≡ noted_all e (all_accesses e (spans_of (lowered p)))
+  pub seen : noted_all e trace ≡ noted_all e (all_accesses e (spans_of (lowered p (plain_table m.io))))
   pub reaches : Reaches (is_within_work p m.io inputs) (seen_source p m.io l inputs) (noted_run e inputs main)
   pub within : (k : ℕ) → IsWithin (seen_source p m.io l inputs k) (noted_run e inputs main k)
   pub view : View
   pub shown : Shows e 2304 main.mem view
   pub given : view.inputs ≡ inputs
-  pub initials : HasInitials (data_of (lowered p)) (place_of l) view
+  pub initials : HasInitials (data_of (lowered p (plain_table m.io))) (place_of l) view
   pub safe : (k : ℕ)
       → HoldsUnlessFailed (source p (plain_table m.io) inputs k) (is_safe (run e k (AtWord main.pc view)))
 

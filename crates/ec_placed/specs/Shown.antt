@@ -87,11 +87,12 @@ pub record ShowsSource (p : PlainProgram) (m : Map) (asm : AsmProgram) (l : Loca
   pub start : List Access
   pub main : State
   pub ran : machine steps inputs s ≡ Running start main
-  pub copies : let e = placed p m asm l in noted_all e start ≡ noted_all e (all_accesses e (spans_of (lowered p)))
+  pub copies : let e = placed p m asm l in
+      noted_all e start ≡ noted_all e (all_accesses e (spans_of (lowered p (plain_table m.io))))
   pub quiet : ports_of start ≡ []
   pub view : View
   pub shown : Shows (placed p m asm l) 2304 main.mem view
-  pub initials : HasInitials (data_of (lowered p)) (place_of l) view
+  pub initials : HasInitials (data_of (lowered p (plain_table m.io))) (place_of l) view
   pub reached : (n : ℕ)
       → Comes p l (noted_all (placed p m asm l)) s inputs start n (start_steps p + work p (plain_table m.io) inputs n)
       (source p (plain_table m.io) inputs n)

@@ -2,8 +2,10 @@
 use Rattle.ec_space.specs.Bytes.{AreBytes}
 use Rattle.ec_asm.specs.declared.items.AsmProgram.{AsmProgram}
 use Rattle.ec_core.specs.Plain.{PlainProgram}
+use Rattle.ec_core.specs.PortTable.{plain_table}
 use Rattle.ec_core.specs.Valid.{Valid}
 use Rattle.ec_lower_code.specs.Code.{lowered}
+use Rattle.ec_lower_code.specs.Correct.{GroupsHaveBytes}
 use Rattle.ec_lower_code.specs.Parts.{IsLowered}
 use Rattle.ec_map.specs.Maps.{ValidMap}
 use Rattle.ec_map.specs.declared.map.Map.{Map}
@@ -11,12 +13,14 @@ use Rattle.ec_locate.specs.Placing.{IsLocated}
 use Rattle.ec_locate.specs.declared.placing.Located.{Located}
 use Rattle.ec_select.specs.Selected.{HasCode, IsSelection}
 
--- A valid program was lowered, its operations all have code, and this was placed by a map. The flash holds bytes
+-- A valid program was lowered, its operations all have code, and this was placed by a map. The flash holds bytes, and
+-- so do the groups of the map
 pub record IsTranslated (p : PlainProgram) (m : Map) (asm : AsmProgram) (l : Located) : Type 0 where
   pub valid : Valid p m.io
   pub map : ValidMap m
+  pub groups : GroupsHaveBytes m.io
   pub lowered_whole : IsLowered p
-  pub code : HasCode (lowered p)
-  pub selection : IsSelection (lowered p) asm
+  pub code : HasCode (lowered p (plain_table m.io))
+  pub selection : IsSelection (lowered p (plain_table m.io)) asm
   pub located : IsLocated p m asm l
   pub bytes : AreBytes l.image.bytes.items

@@ -7,10 +7,11 @@ ghost use Rattle.ec_placed.specs.Whole.{ProgramsShowTheirSources};
 
 use ec_asm::laws::{placed_items_stand, stack_stays_inside};
 use ec_avr::runs_are_steps;
-use ec_core::{events_are_at_home, leaves_fill_their_types, more_turns_only_add};
+use ec_core::{events_are_at_home, more_turns_only_add};
 use ec_guarded::accesses_are_allowed;
 use ec_locate::{code_stands, data_stands_apart, initial_values_stand, placed_stand_apart};
 use ec_lower_code::{lowered_follows, lowered_is_made_of_its_program};
+use ec_port_events::{port_bytes_pass, sources_access_ports};
 use ec_select::{selections_are_valid, selections_run};
 
 /// What stands at each data address of a placed program: registers, scratch memory and work bytes are code's own, the
@@ -30,7 +31,6 @@ pub fn placed_are_laid_out()
     code_stands();
     data_stands_apart();
     initial_values_stand();
-    leaves_fill_their_types();
     lowered_is_made_of_its_program();
     placed_items_stand();
     placed_stand_apart();
@@ -38,7 +38,8 @@ pub fn placed_are_laid_out()
 }
 
 /// From every reset state a placed program does what its operations do: the machine comes to where `main` begins, and
-/// from there on shows all that the operations do, within the steps that they may take, and never more.
+/// from there on shows all that the operations do, within the steps that they may take, and never more, as long as they
+/// access none but ports of the machine.
 pub fn images_run()
     ensures { ImagesRun }
 {
@@ -54,8 +55,13 @@ pub fn images_run_as_sources()
     ensures { ImagesRunAsSources }
 {
     images_run();
+    kinds_are_told();
     lowered_follows();
+    lowered_is_made_of_its_program();
+    port_bytes_pass();
     runs_are_steps();
+    selections_are_valid();
+    sources_access_ports();
 }
 
 /// From every reset state the machine of a placed program makes a few steps before `main`, with no access of a port.
@@ -97,14 +103,15 @@ pub fn programs_show_their_sources()
     data_stands_apart();
     events_are_at_home();
     initial_values_stand();
-    leaves_fill_their_types();
     lowered_follows();
     lowered_is_made_of_its_program();
     more_turns_only_add();
     placed_items_stand();
     placed_stand_apart();
+    port_bytes_pass();
     runs_are_steps();
     selections_are_valid();
     selections_run();
+    sources_access_ports();
     stack_stays_inside();
 }

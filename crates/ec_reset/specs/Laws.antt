@@ -15,9 +15,10 @@ use Rattle.ec_core.specs.declared.values.Value.{Value}
 use Rattle.ec_core.specs.Accesses.{leaf_of}
 use Rattle.ec_core.specs.Plain.{PlainProgram}
 use Rattle.ec_core.specs.State.{Inputs, ObjectState}
-use Rattle.ec_ir.specs.Meaning.{meaning, start_state}
+use Rattle.ec_ir.specs.Meaning.{start_state}
 use Rattle.ec_ir.specs.Operations.{PlainIrProgram, data_of}
 use Rattle.ec_ir.specs.Valid.{ValidIr}
+use Rattle.ec_select_functions.specs.Kept.{meaning_on}
 use Rattle.ec_select_functions.specs.Laws.{AreSelected, CallsOn, within_steps, seen_meaning, HoldsUnlessFailed}
 use Rattle.ec_select_functions.specs.Places.{NumberLeaf}
 use Rattle.ec_select_functions.specs.Relation.{HoldsLeaf}
@@ -53,8 +54,8 @@ anew v = record { at = v.at; flags = v.flags; inputs = v.inputs; seen = []; safe
 
 -- After some steps, none of which makes an access that is barred, the machine is where main begins, and goes on from
 -- there with the same inputs. What it shows from there on is all that the operations do, in at most the steps that they
--- may take, and never more. A view shows the state where main begins, with the initial values of the objects, and its
--- run makes no access that is barred
+-- may take, and never more, as long as they access none but ports of the machine. A view shows the state where main
+-- begins, with the initial values of the objects, and its run makes no access that is barred
 pub record ShowsProgram (p : PlainIrProgram) (place : ℕ → ℕ) (e : Env) (spans : List Span) (v : View) (s : State)
     (inputs : Inputs) : Type 0 where
   pub steps : ℕ
@@ -65,16 +66,17 @@ pub record ShowsProgram (p : PlainIrProgram) (place : ℕ → ℕ) (e : Env) (sp
   pub on : (k : ℕ) → machine (steps + k) v.inputs s ≡ preceded_by trace (machine k v.inputs main)
   pub seen : noted_all e trace ≡ noted_all e (all_accesses e spans)
   pub started : is_safe (run e steps (AtWord s.pc (anew v))) ≡ true
-  pub reaches : Reaches (within_steps p inputs) (seen_meaning p place inputs) (noted_run e v.inputs main)
-  pub within : (m : ℕ) → IsWithin (seen_meaning p place inputs m) (noted_run e v.inputs main m)
+  pub reaches : Reaches (within_steps p inputs) (seen_meaning e p place inputs) (noted_run e v.inputs main)
+  pub within : (m : ℕ) → IsWithin (seen_meaning e p place inputs m) (noted_run e v.inputs main m)
   pub view : View
   pub shown : Shows e (length s.mem.data) main.mem view
   pub given : view.inputs ≡ v.inputs
   pub initials : HasInitials (data_of p) place view
-  pub safe : (m : ℕ) → HoldsUnlessFailed (meaning p inputs m) (is_safe (run e m (AtWord main.pc view)))
+  pub safe : (m : ℕ) → HoldsUnlessFailed (meaning_on e p inputs m) (is_safe (run e m (AtWord main.pc view)))
 
 abbrev pub ProgramsShowTheirOperations : Type 0
 ProgramsShowTheirOperations =
     (p : PlainIrProgram) (place entry_of : ℕ → ℕ) (e : Env) (spans : List Span) (size low : ℕ) (s : State) (v : View)
-    (inputs : Inputs) → ValidIr p → Fits e size → Shows e size s.mem v → AreSelected p e place entry_of
-    → CanStart p e place entry_of spans low s.pc → ShowsProgram p place e spans v s inputs
+    (inputs : Inputs) → ValidIr p → Fits e size → Shows e size s.mem v → ((port : ℕ) → v.inputs port ≡ inputs port)
+    → AreSelected p e place entry_of → CanStart p e place entry_of spans low s.pc
+    → ShowsProgram p place e spans v s inputs

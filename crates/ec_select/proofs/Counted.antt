@@ -28,6 +28,7 @@ use Rattle.ec_select.specs.Labels.{label_count, function_label, first_label}
 use Rattle.ec_select.specs.Program.{made_with, code_of, functions_code}
 use Rattle.ec_select.specs.Selected.{HasCode}
 use Rattle.ec_select.proofs.Fitting.{fits, no_label}
+use Rattle.ec_select.proofs.FixedItems.{FixedItemLaws}
 use Rattle.ec_select.proofs.OneOperation.{operation_passes, AcceptsLabels}
 use Rattle.ec_select.proofs.Setting.{own_sizes, has_room, object_stands}
 
@@ -170,7 +171,7 @@ first_label_above functions (suc k) = let r = first_label_above functions k in o
 -- ---- the functions of a program
 
 module _ (p : PlainIrProgram) (valid : ValidIr p) (has : HasCode p) (leaves : LeavesFillTheirTypes)
-    (tables : ℕ → ℕ → Need) where
+    (plain : FixedItemLaws) (tables : ℕ → ℕ → Need) where
   abbrev pub link : ℕ → PlainIrFunction → Linkage
   link f g = linkage_of p function_label f g.slots (made_with p (tables f) f g)
 
@@ -193,7 +194,7 @@ module _ (p : PlainIrProgram) (valid : ValidIr p) (has : HasCode p) (leaves : Le
       → count_by (is_label x) (op_code p.objects (home (link f g).homes) (link f g) told telling need i) ≡ 0
   others_pass x f g e told telling need i h a =
       none_there x (op_code p.objects (home (link f g).homes) (link f g) told telling need i)
-      (operation_passes (own_sizes p valid) (data_of p) (link f g) (has_room p valid f g e) (object_stands p valid leaves)
+      (operation_passes (own_sizes p valid) (data_of p) (link f g) (has_room p valid f g e) (object_stands p valid leaves) plain
       (is_other x) (fits_other x) has.results f told telling need i h a)
 
   operation_places : (x f : ℕ) (g : PlainIrFunction) → slice_get p.functions f ≡ Some g → (told telling : Option Told) (need : Need)
@@ -218,8 +219,8 @@ module _ (p : PlainIrProgram) (valid : ValidIr p) (has : HasCode p) (leaves : Le
   operation_places x f g e told telling need (field ptr space offset) h = absurd h
   operation_places x f g e told telling need (load_at to ptr space) h = absurd h
   operation_places x f g e told telling need (store_at ptr space from) h = absurd h
-  operation_places x f g e told telling need (port_in to port index width) h = absurd h
-  operation_places x f g e told telling need (port_out from port index width) h = absurd h
+  operation_places x f g e told telling need (port_in to port index width) h = others_pass x f g e told telling need (port_in to port index width) h tt
+  operation_places x f g e told telling need (port_out from port index width) h = others_pass x f g e told telling need (port_out from port index width) h tt
 
   code_places : (x f : ℕ) (g : PlainIrFunction) → slice_get p.functions f ≡ Some g → (told : Option Told)
       (code : List PlainIr) → AreCovered (data_of p) has.results f g.slots code

@@ -1,7 +1,7 @@
 -- What the emitters ask holds of covered operations.
-use Rattle.std.proofs.Common.{◌≡◌, ℕ, zero, suc, ◌+◌, ◌^◌, ◌<◌, ◌≤◌, List, [], ◌∷◌, refl}
+use Rattle.std.proofs.Common.{◌≡◌, ◌⊎◌, ⊎_elim, ℕ, zero, suc, ◌+◌, ◌^◌, ◌<◌, ◌≤◌, Bool, true, false, List, [], ◌∷◌, refl}
 use Rattle.std.proofs.Common.{ap, subst, arith, length}
-use Rattle.std.specs.Prelude.{Option, Some, None}
+use Rattle.std.specs.Prelude.{◌||◌, Option, Some, None}
 use Rattle.std.specs.List.{AllByRecursion}
 use Rattle.ec_asm.specs.Pieces.{HasBytes}
 use Rattle.ec_core.specs.Layout.{size_of_type}
@@ -18,12 +18,15 @@ use Rattle.ec_select_functions.specs.declared.families.Family.{Family}
 use Rattle.ec_select_functions.specs.declared.families.Family.TheVariants.{Combined, Compared, Multiplied, Shifted}
 use Rattle.ec_select_functions.specs.declared.families.Family.TheVariants.{Divided}
 use Rattle.ec_select_functions.specs.Code.{family_of, result_wanted, wanted_behind, wanted_bytes, HasResult}
-use Rattle.ec_select_functions.specs.Covered.{HasNumberAt, IsBinary, IsResult, IsCovered, AreCovered}
-use Rattle.ec_select_functions.specs.Emitted.{BinaryHasBytes, CanBeTaken, CanBeEmitted}
-use Rattle.ec_select_functions.specs.Needs.{Need, wanted, wanted_result, needs}
+use Rattle.ec_select_functions.specs.Covered.{HasIndex, HasNumberAt, IsBinary, IsResult, IsCovered, AreCovered}
+use Rattle.ec_select_functions.specs.Covered.{IsFixedBinary, IsUnary, IsFixedUnary, AreConverted, IsFixedConversion}
+use Rattle.ec_select_functions.specs.Emitted.{BinaryHasBytes, FixedHasBytes, FixedOperandHasBytes}
+use Rattle.ec_select_functions.specs.Emitted.{FixedConversionHasBytes, OfKind, CanBeTaken, IndexHasByte, CanBeEmitted}
+use Rattle.ec_select_functions.specs.Needs.{Need, wanted, wanted_result, needs, is_fixed}
 use Rattle.ec_select_functions.specs.Places.{location_in, object_location}
 use Rattle.ec_select_functions.specs.Written.{CanBeWritten, kept_rows}
 use Rattle.ec_select.specs.Labels.{label_count}
+use Rattle.ec_select.proofs.FixedTypes.{type_fixed, either_fixed, no_fixed, no_fixed_operand, none_converted}
 use Rattle.ec_select.proofs.Setting.{all_at, leaf_inside}
 
 pub wanted_length : (at : ℕ → Need) (code : List PlainIr) → length (wanted_bytes at code) ≡ length code
@@ -33,6 +36,12 @@ wanted_length at (i ∷ code) = ap suc (wanted_length at code)
 pub kept_length : (slots : ℕ) (at : ℕ → Need) (code : List PlainIr) → length (kept_rows slots at code) ≡ length code
 kept_length slots at [] = refl
 kept_length slots at (i ∷ code) = ap suc (kept_length slots at code)
+
+of_fixed : (k : Bool) (F I : Type 0) → k ≡ true → F → OfKind k F I
+of_fixed k F I e h = rw e h
+
+of_integers : (k : Bool) (F I : Type 0) → k ≡ false → I → OfKind k F I
+of_integers k F I e h = rw e h
 
 module _ (p : PlainIrProgram) (valid : ValidIr p) (leaves : LeavesFillTheirTypes) where
   by_storage : (o offset bytes : ℕ) (d : PlainObject) (s : PlainStorage) → IsStored (data_of p) d s
@@ -73,6 +82,15 @@ module _ (p : PlainIrProgram) (valid : ValidIr p) (leaves : LeavesFillTheirTypes
     result_has None h = tt
     result_has (Some t) h = h.0.most
 
+    index_has : (index : Option Temp) → HasIndex slots index → IndexHasByte index
+    index_has None h = tt
+    index_has (Some t) h = h.0.some
+
+    port_some : (width : ℕ) → (width ≡ 1) ⊎ ((width ≡ 2) ⊎ (width ≡ 4)) → 1 ≤ width
+    port_some width cases =
+        ⊎_elim (λ (q : width ≡ 1). omega arith)
+        (λ (r : (width ≡ 2) ⊎ (width ≡ 4)). ⊎_elim (λ (q : width ≡ 2). omega arith) (λ (q : width ≡ 4). omega arith) r) cases
+
     emits : (need : Need) (i : PlainIr) (code : List PlainIr) → IsCovered (data_of p) results f slots i
         → ValidOperation p valid.results f slots all i → label_count (i ∷ code) ≤ bound
         → CanBeEmitted p.objects k (result_wanted need i) i
@@ -81,9 +99,38 @@ module _ (p : PlainIrProgram) (valid : ValidIr p) (leaves : LeavesFillTheirTypes
     emits need (load_object t o offset) code h v l = object_has o offset t.bytes h.1
     emits need (store_object o offset t) code h v l = object_has o offset t.bytes h.1
     emits need (binary_op op ty mode to a aty b bty) code h v l =
-        binary_has (family_of op) slots to a b ty aty bty (wanted need to) h (omega arith)
-    emits need (unary_op op ty mode to a) code h v l = let m = h.same_bytes in (omega arith, omega arith)
-    emits need (conversion to ty mode a aty) code h v l = let m = h.from.some in (omega arith, m)
+        ⊎_elim
+        (λ (i : IsBinary (family_of op) slots to a b ty aty bty).
+        of_integers (is_fixed aty || is_fixed bty) (FixedHasBytes op (wanted need to) to a b ty aty bty)
+        (BinaryHasBytes (family_of op) (wanted need to) to a b) (no_fixed (family_of op) slots to a b ty aty bty i)
+        (binary_has (family_of op) slots to a b ty aty bty (wanted need to) i (omega arith)))
+        (λ (i : IsFixedBinary slots op to a b ty aty bty).
+        of_fixed (is_fixed aty || is_fixed bty) (FixedHasBytes op (wanted need to) to a b ty aty bty)
+        (BinaryHasBytes (family_of op) (wanted need to) to a b) (either_fixed aty bty i.types.fixed)
+        (record { types = i.types; left = i.left_bytes; right = i.right_bytes; result = i.result_bytes; most = omega arith }))
+        h
+    emits need (unary_op op ty mode to a) code h v l =
+        ⊎_elim
+        (λ (i : IsUnary slots to a ty).
+        of_integers (is_fixed ty) (FixedOperandHasBytes op (wanted need to) to a ty)
+        ((wanted need to ≤ to.bytes) × (wanted need to ≤ a.bytes)) (no_fixed_operand slots to a ty i)
+        (let m = i.same_bytes in (omega arith, omega arith)))
+        (λ (i : IsFixedUnary slots op to a ty).
+        of_fixed (is_fixed ty) (FixedOperandHasBytes op (wanted need to) to a ty)
+        ((wanted need to ≤ to.bytes) × (wanted need to ≤ a.bytes)) (type_fixed ty i.types.fixed)
+        (record { types = i.types; operand = i.operand_bytes; result = i.result_bytes; most = omega arith }))
+        h
+    emits need (conversion to ty mode a aty) code h v l =
+        ⊎_elim
+        (λ (i : AreConverted slots to a ty aty).
+        of_integers (is_fixed ty || is_fixed aty) (FixedConversionHasBytes (wanted need to) to a ty aty)
+        ((wanted need to ≤ to.bytes) × (1 ≤ a.bytes)) (none_converted slots to a ty aty i)
+        (let m = i.from.some in (omega arith, m)))
+        (λ (i : IsFixedConversion slots to a ty aty).
+        of_fixed (is_fixed ty || is_fixed aty) (FixedConversionHasBytes (wanted need to) to a ty aty)
+        ((wanted need to ≤ to.bytes) × (1 ≤ a.bytes)) (either_fixed ty aty i.types.fixed)
+        (record { types = i.types; from = i.from_bytes; result = i.result_bytes; most = omega arith }))
+        h
     emits need (label m) code h v l = omega arith
     emits need (jump m) code h v l = omega arith
     emits need (branch_zero t m) code h v l = omega arith
@@ -94,8 +141,9 @@ module _ (p : PlainIrProgram) (valid : ValidIr p) (leaves : LeavesFillTheirTypes
     emits need (field ptr space offset) code h v l = absurd h
     emits need (load_at to ptr space) code h v l = absurd h
     emits need (store_at ptr space from) code h v l = absurd h
-    emits need (port_in to port index width) code h v l = absurd h
-    emits need (port_out from port index width) code h v l = absurd h
+    emits need (port_in to port index width) code h v l =
+        let m = h.within in let w = port_some width h.one_two_four in (omega arith, w, m, index_has index h.index_has)
+    emits need (port_out from port index width) code h v l = (h.within, index_has index h.index_has)
 
     emits_behind : (at : ℕ → Need) (need : Need) (i : PlainIr) (code : List PlainIr)
         → IsCovered (data_of p) results f slots i → ValidOperation p valid.results f slots all i

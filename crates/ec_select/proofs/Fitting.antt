@@ -39,11 +39,11 @@ chained p body zero h = refl
 chained p body (suc n) h = joined p (chain body n) (body n) (chained p body n (λ i l. h i (omega arith))) (h n (omega arith))
 
 -- what each item that fits passes, a list of such items passes
-and_first : (a b : Bool) → (a && b) ≡ true → a ≡ true
+pub and_first : (a b : Bool) → (a && b) ≡ true → a ≡ true
 and_first true b h = refl
 and_first false b h = h
 
-and_second : (a b : Bool) → (a && b) ≡ true → b ≡ true
+pub and_second : (a b : Bool) → (a && b) ≡ true → b ≡ true
 and_second true b h = h
 and_second false b h = absurd (false≢true h)
 

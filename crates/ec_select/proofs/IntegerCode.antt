@@ -1,7 +1,7 @@
--- Valid operations on integers are covered.
-use Rattle.std.proofs.Common.{◌≡◌, ◌≢◌, ◌⊎◌, ℕ, ◌≤◌, ◌==◌, Bool, true, false, List, [], ◌∷◌, refl}
+-- Valid operations on integers, on fixed-point numbers and on ports are covered.
+use Rattle.std.proofs.Common.{◌≡◌, ◌≢◌, ◌⊎◌, ⊎_elim, ℕ, ◌+◌, ◌≤◌, ◌==◌, Bool, true, false, List, [], ◌∷◌, refl}
 use Rattle.std.proofs.Common.{sym, ◌∙◌, ap, subst, arith, inl, inr}
-use Rattle.std.specs.Prelude.{◌&&◌, nat_lt, Option, Some, None, slice_get, IsSomeAnd}
+use Rattle.std.specs.Prelude.{⊤, ◌&&◌, ◌||◌, nat_lt, Option, Some, None, slice_get, IsSomeAnd}
 use Rattle.std.specs.List.{AllByRecursion, position_from}
 use Rattle.std.proofs.lemmas.Bool.{false≢true}
 use Rattle.std.proofs.lemmas.Bool.Decides.{nat_tests}
@@ -11,28 +11,34 @@ use Rattle.ec_core.specs.declared.expressions.BinOp.{BinOp}
 use Rattle.ec_core.specs.declared.expressions.BinOp.TheVariants.{Add, Sub, Mul, Div, Rem, And, Or, Xor, Lt, Gt, Le, Ge}
 use Rattle.ec_core.specs.declared.expressions.BinOp.TheVariants.{Eq, Ne, Shl, Shr}
 use Rattle.ec_core.specs.ArithmeticTypes.{promoted, common_integer, wider_or_unsigned}
-use Rattle.ec_core.specs.Layout.{IsIntegerSize, PlainLeaf, leaves_of_type, scalar_size}
+use Rattle.ec_core.specs.Layout.{PlainLeaf, leaves_of_type, scalar_size}
 use Rattle.ec_core.specs.Plain.{PlainType, void, integer, fixed, pointer, array, struct, PlainObject}
 use Rattle.ec_core.specs.TypeLaws.{LeavesFillTheirTypes}
 use Rattle.ec_core.specs.Typing.{HaveUsualTypes, HaveProductTypes, HaveComparedTypes}
 use Rattle.ec_core.specs.Valid.{IsObject, IsNamedIn}
 use Rattle.ec_ir.specs.declared.operations.Temp.{Temp}
 use Rattle.ec_ir.specs.Costs.{is_bitwise}
-use Rattle.ec_ir.specs.Integers.{IsIntegerType, IsIntegerOperation}
+use Rattle.ec_ir.specs.Integers.{IsIntegerType}
 use Rattle.ec_ir.specs.Operations.{PlainIr, constant, copy, address, field, load_at, store_at, load_object}
 use Rattle.ec_ir.specs.Operations.{store_object, binary_op, unary_op, conversion, label, jump, branch_zero}
 use Rattle.ec_ir.specs.Operations.{call_function, return_from, port_in, port_out, PlainIrFunction, PlainIrProgram}
 use Rattle.ec_ir.specs.Operations.{data_of}
 use Rattle.ec_ir.specs.Valid.{ValidIr, ValidOperation, IsTemp, IsTempOf, HasLeafOf, HaveOperationTypes, HaveCountTypes}
-use Rattle.ec_ir.specs.Valid.{IsResult as IsValidResult, IsParameterOf, called_in}
+use Rattle.ec_ir.specs.Valid.{IsResult as IsValidResult, IsIndex, IsPortWidth, IsParameterOf, called_in}
+use Rattle.ec_select_fixed.specs.Types.{IsFixedType}
 use Rattle.ec_select_functions.specs.Code.{family_of}
+use Rattle.ec_select_functions.specs.Emitted.{OfKind}
+use Rattle.ec_select_functions.specs.Needs.{is_fixed}
+use Rattle.ec_select_functions.specs.Places.{IsNumeric}
 use Rattle.ec_select_functions.specs.Covered.{HasNumberAt, AreIntegers, AreCompared, AreFactors, AreShifted}
-use Rattle.ec_select_functions.specs.Covered.{AreDivided, IsBinary}
+use Rattle.ec_select_functions.specs.Covered.{AreDivided, IsBinary, HasIndex, IsPort}
+use Rattle.ec_select_functions.specs.Covered.{IsFixedBinary, IsUnary, IsFixedUnary, AreConverted, IsFixedConversion}
 use Rattle.ec_select_functions.specs.Covered.{IsResult, IsCovered, AreCovered}
 use Rattle.ec_select_functions.specs.Homes.{HasHome}
 use Rattle.ec_select.specs.InPlace.{IsInPlace}
-use Rattle.ec_select.specs.Integers.{IsAdditive, HasIntegerAt, IsSuited}
+use Rattle.ec_select.specs.Integers.{IsAdditive, HasNumericAt, ArePlacesSuited, IsSuited, IsCompiledOperation}
 use Rattle.ec_select.specs.Laws.{IntegersHaveCode}
+use Rattle.ec_select.proofs.FixedTypes.{at_most_four, at_most_eight, fixed_type, fixed_either}
 use Rattle.ec_select.proofs.Setting.{all_at, function_valid}
 
 -- ---- types
@@ -75,10 +81,6 @@ bytes_of x y e = ap (λ (z : IntegerType). z.bytes) e
 
 signed_of : (x y : IntegerType) → x ≡ y → x.signed ≡ y.signed
 signed_of x y e = ap (λ (z : IntegerType). z.signed) e
-
-at_most_four : (n : ℕ) → IsIntegerSize n → n ≤ 4
-at_most_four n h =
-    elim h [ inl e ↦ omega arith | inr r ↦ elim r [ inl e ↦ omega arith | inr e ↦ omega arith ] ]
 
 home_of : (slots : ℕ) (t : Temp) → IsTemp slots t → t.bytes ≤ 8 → HasHome slots t
 home_of slots t h few = record { within = h.within; some = h.some; most = few }
@@ -265,6 +267,28 @@ module _ (leaves : LeavesFillTheirTypes) (p : PlainIrProgram) (valid : ValidIr p
       let b : t.bytes ≡ n = k.bytes in
       (home_of slots t k.temp (omega arith), b, few)
 
+  -- operations with a fixed-point type
+  fixed_home : (ty : PlainType) (t : Temp) → IsTempOf (data_of p) slots ty t → HasHome slots t × (t.bytes ≡ scalar_size ty)
+  fixed_home ty t h =
+      let few = at_most_eight ty h.scalar in let b : t.bytes ≡ scalar_size ty = h.bytes in
+      (home_of slots t h.temp (omega arith), b)
+
+  fixed_binary_covered : (op : BinOp) (ty aty bty : PlainType) (to a b : Temp) → IsFixedType aty ⊎ IsFixedType bty
+      → a.at ≢ b.at → IsTempOf (data_of p) slots ty to → IsTempOf (data_of p) slots aty a
+      → IsTempOf (data_of p) slots bty b → HaveOperationTypes op ty aty bty → IsFixedBinary slots op to a b ty aty bty
+  fixed_binary_covered op ty aty bty to a b k apart x y z h =
+      let c = fixed_home ty to x in let d = fixed_home aty a y in let e = fixed_home bty b z in
+      record {
+        types = record { types = h; left = y.scalar; right = z.scalar; fixed = k };
+        result = c.0;
+        left = d.0;
+        right = e.0;
+        result_bytes = c.1;
+        left_bytes = d.1;
+        right_bytes = e.1;
+        different = apart;
+      }
+
   binary_covered : (op : BinOp) (ty aty bty : PlainType) (to a b : Temp) → IsIntegerType ty → IsIntegerType aty
       → IsIntegerType bty → ((to.at ≡ a.at) × (b.at ≢ a.at)) ⊎ IsAdditive op → IsTempOf (data_of p) slots ty to
       → IsTempOf (data_of p) slots aty a → IsTempOf (data_of p) slots bty b → HaveOperationTypes op ty aty bty
@@ -287,24 +311,25 @@ module _ (leaves : LeavesFillTheirTypes) (p : PlainIrProgram) (valid : ValidIr p
 
   -- the leaf at an offset
   number_at : (o offset : ℕ) (t : Temp) (d : PlainObject) → slice_get p.objects o ≡ Some d → IsTemp slots t
-      → HasLeafOf (data_of p) d offset t.bytes → HasIntegerAt p offset d → HasHome slots t × HasNumberAt (data_of p) o offset t.bytes
-  number_at o offset t d q temp l i = by_leaf l.leaf l.is l.at l.size (as_integer l.leaf.ty (i.integer_there l.k l.leaf l.is l.at)) where
+      → HasLeafOf (data_of p) d offset t.bytes → HasNumericAt p offset d → HasHome slots t × HasNumberAt (data_of p) o offset t.bytes
+  number_at o offset t d q temp l i = by_leaf l.leaf l.is l.at l.size (i.number_there l.k l.leaf l.is l.at) where
     by_leaf : (leaf : PlainLeaf) → slice_get (leaves_of_type p.structs d.ty) l.k ≡ Some leaf → leaf.at ≡ offset
-        → scalar_size leaf.ty ≡ t.bytes → (s : Bool) × (n : ℕ) × (leaf.ty ≡ integer s n)
+        → scalar_size leaf.ty ≡ t.bytes → IsNumeric leaf.ty
         → HasHome slots t × HasNumberAt (data_of p) o offset t.bytes
-    by_leaf leaf is at size ty =
+    by_leaf leaf is at size numeric =
         let object = all_at (IsObject (data_of p)) p.objects o d valid.objects q in
         let place = (leaves.types p.structs d.ty valid.structs object.ty).each l.k leaf is in
         let few : scalar_size leaf.ty ≤ 8 = place.scalar.most in
-        let n : ty.1 ≡ t.bytes = sym (ap scalar_size ty.2) ∙ size in
-        let whole : leaf ≡ record { ty = integer ty.0 t.bytes; at = offset } = rw (← n, ← at, ← ty.2) refl in (
+        let whole : leaf ≡ record { ty = leaf.ty; at = offset } = rw (← at) refl in (
           home_of slots t temp (omega arith),
           record {
             number = l.k;
             declared = d;
-            signed = ty.0;
+            ty = leaf.ty;
             is_object = q;
             is_leaf = is ∙ ap (λ (x : PlainLeaf). Some x) whole;
+            is_number = numeric;
+            size = size;
             in_data = i.in_data;
             found = subst (λ (at : ℕ). position_from (λ x. x.at == at) 0 (leaves_of_type p.structs d.ty) ≡ Some l.k) at place.found;
           },
@@ -315,37 +340,84 @@ module _ (leaves : LeavesFillTheirTypes) (p : PlainIrProgram) (valid : ValidIr p
   result_covered g None h few = tt
   result_covered g (Some t) h few = (home_of slots t h.0 few, h.1)
 
-  covered : (i : PlainIr) → ValidOperation p valid.results f slots all i → IsIntegerOperation i → IsSuited p i
+  index_covered : (index : Option Temp) → IsIndex slots index → HasIndex slots index
+  index_covered None v = tt
+  index_covered (Some t) v = let two = v.1 in (home_of slots t v.0 (omega (arith, two)), two)
+
+  port_covered : (t : Temp) (port : ℕ) (index : Option Temp) (width : ℕ) → IsPortWidth slots t width → IsIndex slots index
+      → port + width ≤ 0x100 → t.bytes ≤ 8 → IsPort slots t port index width
+  port_covered t port index width v i h s = record {
+    number = home_of slots t v.temp s;
+    index_has = index_covered index i;
+    one_two_four = v.width;
+    within = v.within;
+    address = ⊎_elim (λ (q : width ≡ 1). omega (arith, h))
+        (λ (r : (width ≡ 2) ⊎ (width ≡ 4)). ⊎_elim (λ (q : width ≡ 2). omega (arith, h)) (λ (q : width ≡ 4). omega (arith, h)) r)
+        v.width;
+  }
+
+  covered : (i : PlainIr) → ValidOperation p valid.results f slots all i → IsCompiledOperation i → IsSuited p i
       → IsCovered (data_of p) valid.results f slots i
   covered (constant t n) v h s = home_of slots t v.0 s
   covered (copy to from) v h s =
       let e = v.2 in (home_of slots to v.0 s, home_of slots from v.1 (omega arith), e)
   covered (load_object t o offset) v h s =
-      let d = some_at (λ x. IsNamedIn f x.storage × HasLeafOf (data_of p) x offset t.bytes) (HasIntegerAt p offset) (slice_get p.objects o) v.1 s in
+      let d = some_at (λ x. IsNamedIn f x.storage × HasLeafOf (data_of p) x offset t.bytes) (HasNumericAt p offset) (slice_get p.objects o) v.1 s in
       number_at o offset t d.0 d.1 v.0 d.2.1 d.3
   covered (store_object o offset t) v h s =
       let d = some_at (λ x. (IsNamedIn f x.storage ⊎ IsParameterOf (called_in all) x.storage) × HasLeafOf (data_of p) x offset t.bytes)
-      (HasIntegerAt p offset) (slice_get p.objects o) v.1 s in
+      (HasNumericAt p offset) (slice_get p.objects o) v.1 s in
       number_at o offset t d.0 d.1 v.0 d.2.1 d.3
   covered (binary_op op ty mode to a aty b bty) v h s =
-      binary_covered op ty aty bty to a b h.0 h.1 h.2 s v.0 v.1 v.2 v.3
+      by_kind (is_fixed aty || is_fixed bty) refl h s where
+        by_kind : (k : Bool) → (is_fixed aty || is_fixed bty) ≡ k
+            → OfKind k ⊤ (IsIntegerType ty × IsIntegerType aty × IsIntegerType bty) → ArePlacesSuited op to.at a.at b.at k
+            → IsBinary (family_of op) slots to a b ty aty bty ⊎ IsFixedBinary slots op to a b ty aty bty
+        by_kind true e h s = inr (fixed_binary_covered op ty aty bty to a b (fixed_either aty bty e) s v.0 v.1 v.2 v.3)
+        by_kind false e h s = inl (binary_covered op ty aty bty to a b h.0 h.1 h.2 s v.0 v.1 v.2 v.3)
   covered (unary_op op ty mode to a) v h s =
-      let q = as_integer ty h in
-      let c = typed_home ty q.0 q.1 to q.2 v.0 in let d = typed_home ty q.0 q.1 a q.2 v.1 in
-      let x = c.1 in let y = d.1 in
-      record { signed = q.0; result_type = rw x q.2; result = c.0; operand = d.0; same_bytes = omega arith }
+      by_kind (is_fixed ty) refl h where
+        by_kind : (k : Bool) → is_fixed ty ≡ k → OfKind k ⊤ (IsIntegerType ty)
+            → IsUnary slots to a ty ⊎ IsFixedUnary slots op to a ty
+        by_kind true e h =
+            let c = fixed_home ty to v.0 in let d = fixed_home ty a v.1 in
+            inr (record {
+              types = record { types = v.2; fixed = fixed_type ty e };
+              result = c.0;
+              operand = d.0;
+              result_bytes = c.1;
+              operand_bytes = d.1;
+            })
+        by_kind false e h =
+            let q = as_integer ty h in
+            let c = typed_home ty q.0 q.1 to q.2 v.0 in let d = typed_home ty q.0 q.1 a q.2 v.1 in
+            let x = c.1 in let y = d.1 in
+            inl (record { signed = q.0; result_type = rw x q.2; result = c.0; operand = d.0; same_bytes = omega arith })
   covered (conversion to ty mode a aty) v h s =
-      let q = as_integer ty h.0 in let r = as_integer aty h.1 in
-      let c = typed_home ty q.0 q.1 to q.2 v.0 in let d = typed_home aty r.0 r.1 a r.2 v.1 in
-      let x = c.1 in let y = d.1 in
-      record {
-        signed = q.0;
-        from_signed = r.0;
-        result_type = rw x q.2;
-        from_type = rw y r.2;
-        result = c.0;
-        from = d.0;
-      }
+      by_kind (is_fixed ty || is_fixed aty) refl h where
+        by_kind : (k : Bool) → (is_fixed ty || is_fixed aty) ≡ k → OfKind k ⊤ (IsIntegerType ty × IsIntegerType aty)
+            → AreConverted slots to a ty aty ⊎ IsFixedConversion slots to a ty aty
+        by_kind true e h =
+            let c = fixed_home ty to v.0 in let d = fixed_home aty a v.1 in
+            inr (record {
+              types = record { types = v.2; result = v.0.scalar; operand = v.1.scalar; fixed = fixed_either ty aty e };
+              result = c.0;
+              from = d.0;
+              result_bytes = c.1;
+              from_bytes = d.1;
+            })
+        by_kind false e h =
+            let q = as_integer ty h.0 in let r = as_integer aty h.1 in
+            let c = typed_home ty q.0 q.1 to q.2 v.0 in let d = typed_home aty r.0 r.1 a r.2 v.1 in
+            let x = c.1 in let y = d.1 in
+            inl (record {
+              signed = q.0;
+              from_signed = r.0;
+              result_type = rw x q.2;
+              from_type = rw y r.2;
+              result = c.0;
+              from = d.0;
+            })
   covered (label l) v h s = tt
   covered (jump l) v h s = tt
   covered (branch_zero t l) v h s = home_of slots t v.0 s
@@ -355,11 +427,11 @@ module _ (leaves : LeavesFillTheirTypes) (p : PlainIrProgram) (valid : ValidIr p
   covered (field ptr space offset) v h s = absurd h
   covered (load_at to ptr space) v h s = absurd h
   covered (store_at ptr space from) v h s = absurd h
-  covered (port_in to port index width) v h s = absurd h
-  covered (port_out from port index width) v h s = absurd h
+  covered (port_in to port index width) v h s = port_covered to port index width v.0 v.1 h s
+  covered (port_out from port index width) v h s = port_covered from port index width v.0 v.1 h s
 
   all_covered : (code : List PlainIr) → AllByRecursion (ValidOperation p valid.results f slots all) code
-      → AllByRecursion IsIntegerOperation code → AllByRecursion (IsSuited p) code
+      → AllByRecursion IsCompiledOperation code → AllByRecursion (IsSuited p) code
       → AreCovered (data_of p) valid.results f slots code
   all_covered [] v h s = tt
   all_covered (i ∷ code) v h s = (covered i v.0 h.0 s.0, all_covered code v.1 h.1 s.1)
@@ -384,9 +456,14 @@ not_bitwise Ne i k = i
 not_bitwise Shl i k = i
 not_bitwise Shr i k = i
 
+in_place_binary : (op : BinOp) (to a b : ℕ) (k : Bool) → ArePlacesSuited op to a b k
+    → OfKind k ⊤ (is_bitwise op ≡ true → to ≡ a)
+in_place_binary op to a b true s = tt
+in_place_binary op to a b false (inl s) = λ k. s.0
+in_place_binary op to a b false (inr i) = λ k. absurd (not_bitwise op i k)
+
 in_place : (p : PlainIrProgram) (i : PlainIr) → IsSuited p i → IsInPlace i
-in_place p (binary_op op ty mode to a aty b bty) (inl s) = λ k. s.0
-in_place p (binary_op op ty mode to a aty b bty) (inr i) = λ k. absurd (not_bitwise op i k)
+in_place p (binary_op op ty mode to a aty b bty) s = in_place_binary op to.at a.at b.at (is_fixed aty || is_fixed bty) s
 in_place p (constant t n) s = tt
 in_place p (copy to from) s = tt
 in_place p (load_object t o offset) s = tt
@@ -420,7 +497,7 @@ integers_have_code leaves p valid are suited = (
     results = valid.results;
     main_result = valid.main_result;
     functions = λ f g e. all_covered leaves p valid f g.slots g.code g.code (function_valid p valid f g e).code
-        (all_at (λ h. AllByRecursion IsIntegerOperation h.code) p.functions f g are e)
+        (all_at (λ h. AllByRecursion IsCompiledOperation h.code) p.functions f g are e)
         (all_at (λ h. AllByRecursion (IsSuited p) h.code) p.functions f g suited e);
   },
   functions_in_place p p.functions suited,

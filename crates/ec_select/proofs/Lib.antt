@@ -1,6 +1,9 @@
 pub mod Fitting
 pub mod Pieces
 pub mod Loops
+pub mod FixedTypes
+pub mod FixedItems
+pub mod PortItems
 pub mod OneOperation
 pub mod Setting
 pub mod Counted

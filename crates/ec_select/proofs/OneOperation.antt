@@ -1,7 +1,7 @@
 -- What the items of an operation's code pass.
 use Rattle.std.proofs.Common.{◌≡◌, ◌⊎◌, ℕ, suc, ◌+◌, ◌-◌, ◌*◌, ◌<◌, ◌≤◌, ◌==◌, Bool, true, false, not, List, [], ◌∷◌, ◌++◌}
-use Rattle.std.proofs.Common.{refl, arith, inl, inr}
-use Rattle.std.specs.Prelude.{⊤, min, nat_le, nat_lt, ◌&&◌, if◌then◌else◌, Option, Some, None}
+use Rattle.std.proofs.Common.{refl, subst, arith, inl, inr}
+use Rattle.std.specs.Prelude.{⊤, min, nat_le, nat_lt, ◌&&◌, ◌||◌, if◌then◌else◌, Option, Some, None, option_map}
 use Rattle.std.specs.List.{list_all}
 use Rattle.ec_isa.specs.declared.instructions.Instr.TheVariants.{Ret}
 use Rattle.ec_asm.specs.declared.items.AsmItem.{AsmItem}
@@ -11,11 +11,16 @@ use Rattle.ec_asm.specs.declared.pieces.Location.TheVariants.{InRegisters, InMem
 use Rattle.ec_asm.specs.declared.pieces.Operator.{Operator}
 use Rattle.ec_asm.specs.declared.pieces.Operator.TheVariants.{Sum, Difference, BitAnd, BitOr, BitXor}
 use Rattle.ec_select_bytes.specs.Complements.{negation_code}
-use Rattle.ec_asm.specs.Pieces.{copy_code, operate_code, compare_code}
+use Rattle.ec_asm.specs.Pieces.{copy_code, operate_code}
 use Rattle.ec_asm.specs.Valid.{Sizes, is_offset}
+use Rattle.ec_core.specs.declared.expressions.BinOp.{BinOp}
 use Rattle.ec_core.specs.declared.expressions.UnOp.{UnOp}
 use Rattle.ec_core.specs.declared.expressions.UnOp.TheVariants.{Minus, Invert}
+use Rattle.ec_core.specs.Layout.{scalar_size}
 use Rattle.ec_core.specs.Plain.{PlainType, PlainProgram}
+use Rattle.ec_fx.specs.declared.numbers.Mode.{Mode}
+use Rattle.ec_fxcode.specs.ClampLaws.{HasPlaces}
+use Rattle.ec_select_fixed.specs.Codes.{fixed_binary_code, fixed_unary_code, fixed_conversion_code}
 use Rattle.ec_ir.specs.declared.operations.Temp.{Temp}
 use Rattle.ec_ir.specs.Operations.{PlainIr, constant, copy, address, field, load_at, store_at, load_object}
 use Rattle.ec_ir.specs.Operations.{store_object, binary_op, unary_op, conversion, label, jump, branch_zero}
@@ -43,14 +48,21 @@ use Rattle.ec_select_functions.specs.Code.{kept_bytes, waiting_location, save_pl
 use Rattle.ec_select_functions.specs.Code.{save_code}
 use Rattle.ec_select_functions.specs.Code.{restore_code, taken_code, call_code, result_code, return_code}
 use Rattle.ec_select_functions.specs.Code.{flag_code, operator_code, tested_code, kept_need, op_code, tells_next, ops_code}
-use Rattle.ec_select_functions.specs.Covered.{HasNumberAt, IsBinary}
+use Rattle.ec_select_functions.specs.Code.{work_location, answer_location, by_kind, fixed_binary, fixed_unary}
+use Rattle.ec_select_functions.specs.Code.{fixed_conversion}
+use Rattle.ec_select_functions.specs.Covered.{HasIndex, HasNumberAt, IsBinary, IsFixedBinary, IsFixedUnary}
+use Rattle.ec_select_functions.specs.Covered.{AreConverted, IsFixedConversion}
 use Rattle.ec_select_functions.specs.Covered.{IsUnary, IsResult, IsCovered, AreCovered}
 use Rattle.ec_select_functions.specs.Homes.{HasHome, depth, home, result_location}
-use Rattle.ec_select_functions.specs.Needs.{Need, wanted, wanted_result, needs}
+use Rattle.ec_select_functions.specs.Needs.{Need, wanted, wanted_result, needs, is_fixed}
 use Rattle.ec_select_functions.specs.Places.{object_location}
+use Rattle.ec_select_functions.specs.Ports.{in_code, out_code}
+use Rattle.ec_select.proofs.FixedItems.{FixedItemLaws, plain_fits, has_places, answer_fits, fixed_fits, integers_fit}
+use Rattle.ec_select.proofs.FixedTypes.{type_fixed, either_fixed, no_fixed, no_fixed_operand, none_converted}
 use Rattle.ec_select.proofs.Fitting.{fits, Fit, joined, chained, passing, BytesFit, registers_fit, fewer_fit}
 use Rattle.ec_select.proofs.Pieces.{copy_fits, operate_fits, compare_fits, relation_fits, constant_fits, test_fits, extend_fits}
 use Rattle.ec_select.proofs.Pieces.{complement_fits, negation_fits}
+use Rattle.ec_select.proofs.PortItems.{IndexFits, in_fits, out_fits}
 use Rattle.ec_select.proofs.Loops.{shift_fits, product_fits, quotient_fits}
 
 flag_small : (r : Relation) (signed : Bool) → nat_lt (flag_of r signed) 8 ≡ true
@@ -61,10 +73,11 @@ flag_small NotLess false = refl
 flag_small Equal signed = refl
 flag_small NotEqual signed = refl
 
--- the scratch memory has room for so many places
+-- the scratch memory has room for so many places, and there are 64 work bytes
 pub record HasRoom (sizes : Sizes) (h : Homes) (slots : ℕ) : Type 0 where
   pub width : (h.width ≡ 2) ⊎ (h.width ≡ 4)
   pub scratch : (k : ℕ) → k ≤ 16 * slots → is_offset sizes h.scratch k ≡ true
+  pub work : (k : ℕ) → k ≤ 64 → is_offset sizes 1280 k ≡ true
 
 -- what is asked of a test for the items that name labels
 abbrev pub AcceptsLabels : (AsmItem → Bool) → Linkage → PlainIr → Type 0
@@ -189,7 +202,8 @@ module _ (sizes : Sizes) where
 
   module _ (p : PlainProgram) (k : Linkage) (room : HasRoom sizes k.homes k.slots)
       (stands : (o offset bytes : ℕ) → HasNumberAt p o offset bytes
-      → BytesFit sizes (object_location p.objects o offset) bytes) where
+      → BytesFit sizes (object_location p.objects o offset) bytes)
+      (plain : FixedItemLaws) where
     at_home : (t : Temp) → HasHome k.slots t → BytesFit sizes (home k.homes t) t.bytes
     at_home t h = home_fits k.homes k.slots room t h
 
@@ -252,6 +266,103 @@ module _ (sizes : Sizes) where
         (move_fits (home k.homes a) (home k.homes to) n (low_home a n h.operand (omega arith)) (low_home to n h.result l))
         (turn_fits op (home k.homes to) n (low_home to n h.result l))
 
+    -- ---- operations with a fixed-point type
+
+    places : (t : Temp) (n : ℕ) → HasHome k.slots t → t.bytes ≡ n → HasPlaces sizes (home k.homes t) n
+    places t n h e =
+        let some = h.some in
+        has_places sizes (home k.homes t) n (omega arith) (subst (λ (m : ℕ). BytesFit sizes (home k.homes t) m) e (at_home t h))
+
+    work_places : HasPlaces sizes work_location 40
+    work_places i l = room.work (0 + i) (omega arith)
+
+    answer_places : (n : ℕ) → n ≤ 8 → HasPlaces sizes answer_location n
+    answer_places n few i l = room.work (40 + i) (omega arith)
+
+    fixed_binary_fits : (op : BinOp) (ty aty bty : PlainType) (mode : Mode) (to a b : Temp) (n : ℕ)
+        → IsFixedBinary k.slots op to a b ty aty bty → n ≤ to.bytes
+        → Fit sizes (fixed_binary op ty aty bty mode (home k.homes a) (home k.homes b) (home k.homes to) n)
+    fixed_binary_fits op ty aty bty mode to a b n h l =
+        let most = h.result.most in let e = h.result_bytes in
+        let code = fixed_binary_code op ty aty bty mode (home k.homes a) (home k.homes b) answer_location work_location in
+        answer_fits sizes room.work code (home k.homes to) n (omega arith)
+        (plain_fits sizes code
+        (plain.binaries sizes op ty aty bty mode (home k.homes a) (home k.homes b) answer_location work_location h.types
+        (places a (scalar_size aty) h.left h.left_bytes) (places b (scalar_size bty) h.right h.right_bytes)
+        (answer_places (scalar_size ty) (omega arith)) work_places))
+        (low_home to n h.result l)
+
+    fixed_unary_fits : (op : UnOp) (ty : PlainType) (mode : Mode) (to a : Temp) (n : ℕ) → IsFixedUnary k.slots op to a ty
+        → n ≤ to.bytes → Fit sizes (fixed_unary op ty mode (home k.homes a) (home k.homes to) n)
+    fixed_unary_fits op ty mode to a n h l =
+        let most = h.result.most in let e = h.result_bytes in
+        let code = fixed_unary_code op ty mode (home k.homes a) answer_location work_location in
+        answer_fits sizes room.work code (home k.homes to) n (omega arith)
+        (plain_fits sizes code
+        (plain.unaries sizes op ty mode (home k.homes a) answer_location work_location h.types
+        (places a (scalar_size ty) h.operand h.operand_bytes) (answer_places (scalar_size ty) (omega arith)) work_places))
+        (low_home to n h.result l)
+
+    fixed_conversion_fits : (ty aty : PlainType) (mode : Mode) (to a : Temp) (n : ℕ) → IsFixedConversion k.slots to a ty aty
+        → n ≤ to.bytes → Fit sizes (fixed_conversion ty aty mode (home k.homes a) (home k.homes to) n)
+    fixed_conversion_fits ty aty mode to a n h l =
+        let most = h.result.most in let e = h.result_bytes in
+        let code = fixed_conversion_code ty aty mode (home k.homes a) answer_location work_location in
+        answer_fits sizes room.work code (home k.homes to) n (omega arith)
+        (plain_fits sizes code
+        (plain.conversions sizes ty aty mode (home k.homes a) answer_location work_location h.types
+        (places a (scalar_size aty) h.from h.from_bytes) (answer_places (scalar_size ty) (omega arith)) work_places))
+        (low_home to n h.result l)
+
+    -- an operation on integers, or one with a fixed-point type
+    of_binary : (telling : Option Told) (op : BinOp) (ty aty bty : PlainType) (mode : Mode) (to a b : Temp) (n : ℕ)
+        → IsBinary (family_of op) k.slots to a b ty aty bty ⊎ IsFixedBinary k.slots op to a b ty aty bty → n ≤ to.bytes
+        → Fit sizes (by_kind (is_fixed aty || is_fixed bty)
+        (fixed_binary op ty aty bty mode (home k.homes a) (home k.homes b) (home k.homes to) n)
+        (operator_code telling (family_of op) (is_signed aty) (is_signed bty) (home k.homes a) (home k.homes b)
+        (home k.homes to) a.bytes n))
+    of_binary telling op ty aty bty mode to a b n (inl h) l =
+        integers_fit sizes (is_fixed aty || is_fixed bty)
+        (fixed_binary op ty aty bty mode (home k.homes a) (home k.homes b) (home k.homes to) n)
+        (operator_code telling (family_of op) (is_signed aty) (is_signed bty) (home k.homes a) (home k.homes b)
+        (home k.homes to) a.bytes n)
+        (no_fixed (family_of op) k.slots to a b ty aty bty h)
+        (operator_fits telling (family_of op) to a b ty aty bty (is_signed aty) (is_signed bty) n h l)
+    of_binary telling op ty aty bty mode to a b n (inr h) l =
+        fixed_fits sizes (is_fixed aty || is_fixed bty)
+        (fixed_binary op ty aty bty mode (home k.homes a) (home k.homes b) (home k.homes to) n)
+        (operator_code telling (family_of op) (is_signed aty) (is_signed bty) (home k.homes a) (home k.homes b)
+        (home k.homes to) a.bytes n)
+        (either_fixed aty bty h.types.fixed) (fixed_binary_fits op ty aty bty mode to a b n h l)
+
+    of_unary : (op : UnOp) (ty : PlainType) (mode : Mode) (to a : Temp) (n : ℕ)
+        → IsUnary k.slots to a ty ⊎ IsFixedUnary k.slots op to a ty → n ≤ to.bytes
+        → Fit sizes (by_kind (is_fixed ty) (fixed_unary op ty mode (home k.homes a) (home k.homes to) n)
+        (unary_code op (home k.homes a) (home k.homes to) n))
+    of_unary op ty mode to a n (inl h) l =
+        integers_fit sizes (is_fixed ty) (fixed_unary op ty mode (home k.homes a) (home k.homes to) n)
+        (unary_code op (home k.homes a) (home k.homes to) n) (no_fixed_operand k.slots to a ty h) (unary_fits op to a ty n h l)
+    of_unary op ty mode to a n (inr h) l =
+        fixed_fits sizes (is_fixed ty) (fixed_unary op ty mode (home k.homes a) (home k.homes to) n)
+        (unary_code op (home k.homes a) (home k.homes to) n) (type_fixed ty h.types.fixed) (fixed_unary_fits op ty mode to a n h l)
+
+    of_conversion : (ty aty : PlainType) (mode : Mode) (to a : Temp) (n : ℕ)
+        → AreConverted k.slots to a ty aty ⊎ IsFixedConversion k.slots to a ty aty → n ≤ to.bytes
+        → Fit sizes (by_kind (is_fixed ty || is_fixed aty) (fixed_conversion ty aty mode (home k.homes a) (home k.homes to) n)
+        (conversion_code (is_signed aty) (home k.homes a) (home k.homes to) a.bytes n))
+    of_conversion ty aty mode to a n (inl h) l =
+        integers_fit sizes (is_fixed ty || is_fixed aty)
+        (fixed_conversion ty aty mode (home k.homes a) (home k.homes to) n)
+        (conversion_code (is_signed aty) (home k.homes a) (home k.homes to) a.bytes n)
+        (none_converted k.slots to a ty aty h)
+        (convert_fits (is_signed aty) (home k.homes a) (home k.homes to) a.bytes n h.from.some (at_home a h.from)
+        (low_home to n h.result l))
+    of_conversion ty aty mode to a n (inr h) l =
+        fixed_fits sizes (is_fixed ty || is_fixed aty)
+        (fixed_conversion ty aty mode (home k.homes a) (home k.homes to) n)
+        (conversion_code (is_signed aty) (home k.homes a) (home k.homes to) a.bytes n)
+        (either_fixed ty aty h.types.fixed) (fixed_conversion_fits ty aty mode to a n h l)
+
     -- ---- calls and returns
 
     waiting_fits : (place n : ℕ) → place < register_places k.slots → n ≤ 8
@@ -307,6 +418,10 @@ module _ (sizes : Sizes) where
     brought_fits results f is_main (Some t) h =
         move_fits (home k.homes t) (result_location t.bytes) t.bytes (at_home t h.0)
         (result_fits t.bytes t.bytes h.0.most (omega arith))
+
+    index_fits : (index : Option Temp) → HasIndex k.slots index → IndexFits sizes (option_map (home k.homes) index)
+    index_fits None h = tt
+    index_fits (Some t) h = low_home t 1 h.0 h.0.some
 
     -- ---- what an operation's items pass
 
@@ -367,13 +482,13 @@ module _ (sizes : Sizes) where
           (copy_fits sizes (home k.homes t) (object_location p.objects o offset) t.bytes (at_home t h.0) (stands o offset t.bytes h.1))
       operation_passes results f told telling need (binary_op op ty mode to x aty y bty) h a =
           by_fit (op_code p.objects (home k.homes) k told telling need (binary_op op ty mode to x aty y bty))
-          (operator_fits telling (family_of op) to x y ty aty bty (is_signed aty) (is_signed bty) (wanted need to) h (omega arith))
+          (of_binary telling op ty aty bty mode to x y (wanted need to) h (omega arith))
       operation_passes results f told telling need (unary_op op ty mode to x) h a =
-          by_fit (unary_code op (home k.homes x) (home k.homes to) (wanted need to)) (unary_fits op to x ty (wanted need to) h (omega arith))
+          by_fit (op_code p.objects (home k.homes) k told telling need (unary_op op ty mode to x))
+          (of_unary op ty mode to x (wanted need to) h (omega arith))
       operation_passes results f told telling need (conversion to ty mode x aty) h a =
-          by_fit (conversion_code (is_signed aty) (home k.homes x) (home k.homes to) x.bytes (wanted need to))
-          (convert_fits (is_signed aty) (home k.homes x) (home k.homes to) x.bytes (wanted need to) h.from.some (at_home x h.from)
-          (low_home to (wanted need to) h.result (omega arith)))
+          by_fit (op_code p.objects (home k.homes) k told telling need (conversion to ty mode x aty))
+          (of_conversion ty aty mode to x (wanted need to) h (omega arith))
       operation_passes results f told telling need (label l) h a = rw a refl
       operation_passes results f told telling need (jump l) h a = rw a refl
       operation_passes results f told telling need (branch_zero t l) h a = tested_passes told t (k.label_of l) h a
@@ -384,8 +499,14 @@ module _ (sizes : Sizes) where
       operation_passes results f told telling need (field ptr space offset) h a = absurd h
       operation_passes results f told telling need (load_at to ptr space) h a = absurd h
       operation_passes results f told telling need (store_at ptr space from) h a = absurd h
-      operation_passes results f told telling need (port_in to port index width) h a = absurd h
-      operation_passes results f told telling need (port_out from port index width) h a = absurd h
+      operation_passes results f told telling need (port_in to port index width) h a =
+          let there = option_map (home k.homes) index in
+          by_fit (in_code there (home k.homes to) port width (wanted need to))
+          (in_fits sizes there (home k.homes to) port width h.address h.one_two_four (index_fits index h.index_has) (low_home to width h.number h.within) (wanted need to) (low_home to (wanted need to) h.number (omega arith)))
+      operation_passes results f told telling need (port_out from port index width) h a =
+          let there = option_map (home k.homes) index in
+          by_fit (out_code there (home k.homes from) port width)
+          (out_fits sizes there (home k.homes from) port width h.address h.one_two_four (index_fits index h.index_has) (low_home from width h.number h.within))
 
       -- all operations
 

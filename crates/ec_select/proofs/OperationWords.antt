@@ -1,7 +1,7 @@
 -- The words of operations' code.
 use Rattle.std.proofs.Common.{◌≡◌, ◌⊎◌, ℕ, zero, suc, ◌+◌, ◌-◌, ◌*◌, ◌≤◌, ◌==◌, Bool, true, false, List, [], ◌∷◌, ◌++◌}
 use Rattle.std.proofs.Common.{refl, subst, arith, leb-true, inl, inr}
-use Rattle.std.specs.Prelude.{min, nat_le, ◌||◌, if◌then◌else◌, Option, Some, None}
+use Rattle.std.specs.Prelude.{⊤, min, nat_le, ◌||◌, if◌then◌else◌, Option, Some, None, option_map}
 use Rattle.std.specs.List.{AllByRecursion}
 use Rattle.std.proofs.Math.Nat.{mul-le-mul_left}
 use Rattle.std.proofs.lemmas.Bool.{le-leb, false≢true}
@@ -22,16 +22,20 @@ use Rattle.ec_core.specs.declared.expressions.BinOp.TheVariants.{Add, Sub, Mul, 
 use Rattle.ec_core.specs.declared.expressions.BinOp.TheVariants.{Eq, Ne, Shl, Shr}
 use Rattle.ec_core.specs.declared.expressions.UnOp.{UnOp}
 use Rattle.ec_core.specs.declared.expressions.UnOp.TheVariants.{Minus, Invert}
+use Rattle.ec_core.specs.Layout.{scalar_size}
 use Rattle.ec_core.specs.Operators.{same_type}
 use Rattle.ec_core.specs.Plain.{PlainType, integer, PlainProgram}
 use Rattle.ec_core.specs.Words.{widest, operation_words}
 use Rattle.ec_ir.specs.declared.operations.Temp.{Temp}
-use Rattle.ec_ir.specs.Costs.{op_words, is_bitwise, binary_words, unary_words, conversion_words, temp_bytes}
+use Rattle.ec_ir.specs.Costs.{op_words, index_words, is_bitwise, binary_words, unary_words, conversion_words, temp_bytes}
 use Rattle.ec_ir.specs.Costs.{code_words as operations_words}
 use Rattle.ec_ir.specs.Operations.{PlainIr, constant, copy, address, field, load_at, store_at, load_object}
 use Rattle.ec_ir.specs.Operations.{store_object, binary_op, unary_op, conversion, label, jump, branch_zero}
 use Rattle.ec_ir.specs.Operations.{call_function, return_from, port_in, port_out}
 use Rattle.ec_ir.specs.Temporaries.{low_bytes}
+use Rattle.ec_fx.specs.declared.numbers.Mode.{Mode}
+use Rattle.ec_select_fixed.specs.Codes.{fixed_binary_code, fixed_unary_code, fixed_conversion_code}
+use Rattle.ec_select_fixed.specs.FixedLaws.{FixedBinariesHave, FixedUnariesHave, FixedConversionsHave}
 use Rattle.ec_select_bytes.specs.Complements.{negation_code}
 use Rattle.ec_select_bytes.specs.ComplementLaws.{ComplementsHave}
 use Rattle.ec_select_bytes.specs.Laws.{ValuesHave}
@@ -60,12 +64,19 @@ use Rattle.ec_select_functions.specs.Code.{place_register}
 use Rattle.ec_select_functions.specs.Code.{kept_bytes, save_place, restore_place, register_places, save_code}
 use Rattle.ec_select_functions.specs.Code.{restore_code, taken_code, call_code, result_code, return_code}
 use Rattle.ec_select_functions.specs.Code.{flag_code, operator_code, tested_code, kept_need, op_code, tells_next, ops_code}
+use Rattle.ec_select_functions.specs.Code.{work_location, answer_location, by_kind, fixed_binary, fixed_unary}
+use Rattle.ec_select_functions.specs.Code.{fixed_conversion}
 use Rattle.ec_select_functions.specs.Covered.{IsBinary, IsUnary, IsCovered, AreCovered}
+use Rattle.ec_select_functions.specs.Covered.{IsFixedBinary, IsFixedUnary, AreConverted, IsFixedConversion}
+use Rattle.ec_select_functions.specs.Emitted.{OfKind}
 use Rattle.ec_select_functions.specs.Homes.{home, result_location}
-use Rattle.ec_select_functions.specs.Needs.{Need, wanted, wanted_result, needs}
+use Rattle.ec_select_functions.specs.Needs.{Need, wanted, wanted_result, needs, is_fixed}
 use Rattle.ec_select_functions.specs.Places.{object_location}
 use Rattle.ec_select.specs.InPlace.{IsInPlace}
+use Rattle.ec_select.proofs.FixedItems.{answer_words, fixed_words, integers_words}
+use Rattle.ec_select.proofs.FixedTypes.{type_fixed, either_fixed, no_fixed, no_fixed_operand, none_converted}
 use Rattle.ec_select.proofs.Words.{joined_words, chained_words, copy_words_most, save_words_most, load_words_most}
+use Rattle.ec_select.proofs.PortItems.{point_words, in_words_most, out_words_most}
 use Rattle.ec_select.proofs.Words.{operate_words_most, quotient_words}
 
 -- the words of the pieces, by the crates below
@@ -75,6 +86,9 @@ pub record WordLaws : Type 0 where
   pub relations : RelationsHaveWords
   pub products : ProductsHaveWords
   pub shifts : ShiftsHaveWords
+  pub fixed_binaries : FixedBinariesHave
+  pub fixed_unaries : FixedUnariesHave
+  pub fixed_conversions : FixedConversionsHave
 
 move_words : (p q : Location) (n : ℕ) → code_words (move_code p q n) ≤ 4 * n
 move_words p q n = by_place (same_location p q) where
@@ -362,6 +376,64 @@ module _ (laws : WordLaws) where
     by_type true = omega arith
     by_type false = omega arith
 
+  -- ---- operations on integers, or with a fixed-point type
+
+  one_binary : (telling : Option Told) (op : BinOp) (ty aty bty : PlainType) (mode : Mode) (slots : ℕ) (h : Homes)
+      (to a b : Temp) (n : ℕ) → IsBinary (family_of op) slots to a b ty aty bty ⊎ IsFixedBinary slots op to a b ty aty bty
+      → n ≤ to.bytes → OfKind (is_fixed aty || is_fixed bty) ⊤ (is_bitwise op ≡ true → to.at ≡ a.at)
+      → code_words (by_kind (is_fixed aty || is_fixed bty) (fixed_binary op ty aty bty mode (home h a) (home h b) (home h to) n)
+      (operator_code telling (family_of op) (is_signed aty) (is_signed bty) (home h a) (home h b) (home h to) a.bytes n))
+      ≤ binary_words op ty aty bty
+  one_binary telling op ty aty bty mode slots h to a b n (inl i) l q =
+      let e = no_fixed (family_of op) slots to a b ty aty bty i in
+      let same = subst (λ (k : Bool). OfKind k ⊤ (is_bitwise op ≡ true → to.at ≡ a.at)) e q in
+      integers_words (is_fixed aty || is_fixed bty) (fixed_binary op ty aty bty mode (home h a) (home h b) (home h to) n)
+      (operator_code telling (family_of op) (is_signed aty) (is_signed bty) (home h a) (home h b) (home h to) a.bytes n)
+      (binary_words op ty aty bty) e
+      (operator_most telling op slots h to a b ty aty bty (is_signed aty) (is_signed bty) n i l same)
+  one_binary telling op ty aty bty mode slots h to a b n (inr i) l q =
+      let bytes = i.result_bytes in
+      let code = fixed_binary_code op ty aty bty mode (home h a) (home h b) answer_location work_location in
+      let most = laws.fixed_binaries op ty aty bty mode (home h a) (home h b) answer_location work_location i.types in
+      fixed_words (is_fixed aty || is_fixed bty) (fixed_binary op ty aty bty mode (home h a) (home h b) (home h to) n)
+      (operator_code telling (family_of op) (is_signed aty) (is_signed bty) (home h a) (home h b) (home h to) a.bytes n)
+      (binary_words op ty aty bty) (either_fixed aty bty i.types.fixed)
+      (answer_words code (home h to) n (scalar_size ty) (binary_words op ty aty bty) (omega arith) most)
+
+  one_unary : (op : UnOp) (ty : PlainType) (mode : Mode) (slots : ℕ) (h : Homes) (to a : Temp) (n : ℕ)
+      → IsUnary slots to a ty ⊎ IsFixedUnary slots op to a ty → n ≤ to.bytes
+      → code_words (by_kind (is_fixed ty) (fixed_unary op ty mode (home h a) (home h to) n) (unary_code op (home h a) (home h to) n))
+      ≤ unary_words ty
+  one_unary op ty mode slots h to a n (inl i) l =
+      integers_words (is_fixed ty) (fixed_unary op ty mode (home h a) (home h to) n) (unary_code op (home h a) (home h to) n)
+      (unary_words ty) (no_fixed_operand slots to a ty i) (unary_most op slots (home h a) (home h to) to a ty n i l)
+  one_unary op ty mode slots h to a n (inr i) l =
+      let bytes = i.result_bytes in
+      let code = fixed_unary_code op ty mode (home h a) answer_location work_location in
+      let most = laws.fixed_unaries op ty mode (home h a) answer_location work_location i.types in
+      fixed_words (is_fixed ty) (fixed_unary op ty mode (home h a) (home h to) n) (unary_code op (home h a) (home h to) n)
+      (unary_words ty) (type_fixed ty i.types.fixed)
+      (answer_words code (home h to) n (scalar_size ty) (unary_words ty) (omega arith) most)
+
+  one_conversion : (ty aty : PlainType) (mode : Mode) (slots : ℕ) (h : Homes) (to a : Temp) (n : ℕ)
+      → AreConverted slots to a ty aty ⊎ IsFixedConversion slots to a ty aty → n ≤ to.bytes
+      → code_words (by_kind (is_fixed ty || is_fixed aty) (fixed_conversion ty aty mode (home h a) (home h to) n)
+      (conversion_code (is_signed aty) (home h a) (home h to) a.bytes n)) ≤ conversion_words ty aty
+  one_conversion ty aty mode slots h to a n (inl i) l =
+      let x = conversion_few (is_signed aty) (home h a) (home h to) a.bytes n to.bytes l in
+      let y = conversion_row ty aty i.signed i.from_signed to.bytes a.bytes i.result_type i.from_type in
+      integers_words (is_fixed ty || is_fixed aty) (fixed_conversion ty aty mode (home h a) (home h to) n)
+      (conversion_code (is_signed aty) (home h a) (home h to) a.bytes n) (conversion_words ty aty)
+      (none_converted slots to a ty aty i) (omega (arith, x, y))
+  one_conversion ty aty mode slots h to a n (inr i) l =
+      let bytes = i.result_bytes in
+      let code = fixed_conversion_code ty aty mode (home h a) answer_location work_location in
+      let most = laws.fixed_conversions ty aty mode (home h a) answer_location work_location i.types in
+      fixed_words (is_fixed ty || is_fixed aty) (fixed_conversion ty aty mode (home h a) (home h to) n)
+      (conversion_code (is_signed aty) (home h a) (home h to) a.bytes n) (conversion_words ty aty)
+      (either_fixed ty aty i.types.fixed)
+      (answer_words code (home h to) n (scalar_size ty) (conversion_words ty aty) (omega arith) most)
+
   branch_most : (p : Location) (bytes l : ℕ) → code_words (branch_code p bytes l) ≤ 6 + 3 * bytes
   branch_most p bytes l =
       let x = (laws.values p 0 bytes bytes).1 in
@@ -456,6 +528,10 @@ module _ (laws : WordLaws) where
   -- ---- all operations of a function
 
   module _ (p : PlainProgram) (results : ℕ → ℕ) (f : ℕ) (k : Linkage) (width : (k.homes.width ≡ 2) ⊎ (k.homes.width ≡ 4)) where
+    index_row : (h : Homes) (index : Option Temp) → point_words (option_map (home h) index) ≤ index_words index
+    index_row h None = omega arith
+    index_row h (Some t) = omega arith
+
     operation_most : (told telling : Option Told) (need : Need) (i : PlainIr) → IsCovered p results f k.slots i
         → IsInPlace i → code_words (op_code p.objects (home k.homes) k told telling need i) ≤ op_words i
     operation_most told telling need (constant t n) h q =
@@ -467,12 +543,11 @@ module _ (laws : WordLaws) where
     operation_most told telling need (store_object o offset t) h q =
         let a = copy_words_most (home k.homes t) (object_location p.objects o offset) t.bytes in omega (arith, a)
     operation_most told telling need (binary_op op ty mode to a aty b bty) h q =
-        operator_most telling op k.slots k.homes to a b ty aty bty (is_signed aty) (is_signed bty) (wanted need to) h (omega arith) q
+        one_binary telling op ty aty bty mode k.slots k.homes to a b (wanted need to) h (omega arith) q
     operation_most told telling need (unary_op op ty mode to a) h q =
-        unary_most op k.slots (home k.homes a) (home k.homes to) to a ty (wanted need to) h (omega arith)
+        one_unary op ty mode k.slots k.homes to a (wanted need to) h (omega arith)
     operation_most told telling need (conversion to ty mode a aty) h q =
-        let x = conversion_few (is_signed aty) (home k.homes a) (home k.homes to) a.bytes (wanted need to) to.bytes (omega arith) in
-        let y = conversion_row ty aty h.signed h.from_signed to.bytes a.bytes h.result_type h.from_type in omega (arith, x, y)
+        one_conversion ty aty mode k.slots k.homes to a (wanted need to) h (omega arith)
     operation_most told telling need (label l) h q = omega arith
     operation_most told telling need (jump l) h q = omega arith
     operation_most told telling need (branch_zero t l) h q = tested_most told (home k.homes t) t.bytes (k.label_of l)
@@ -483,8 +558,12 @@ module _ (laws : WordLaws) where
     operation_most told telling need (field ptr space offset) h q = absurd h
     operation_most told telling need (load_at to ptr space) h q = absurd h
     operation_most told telling need (store_at ptr space from) h q = absurd h
-    operation_most told telling need (port_in to port index width) h q = absurd h
-    operation_most told telling need (port_out from port index width) h q = absurd h
+    operation_most told telling need (port_in to port index width) h q =
+        let x = in_words_most laws.values (option_map (home k.homes) index) (home k.homes to) port width (wanted need to) to.bytes h.one_two_four (omega arith) in
+        let y = index_row k.homes index in omega (arith, x, y)
+    operation_most told telling need (port_out from port index width) h q =
+        let x = out_words_most (option_map (home k.homes) index) (home k.homes from) port width in
+        let y = index_row k.homes index in omega (arith, x, y)
 
     pub operations_most : (at : ℕ → Need) (told : Option Told) (code : List PlainIr) → AreCovered p results f k.slots code
         → AllByRecursion IsInPlace code

@@ -200,6 +200,9 @@ module _ (laws : RunLaws) (p : PlainIrProgram) (asm : AsmProgram) (e : Env) (pla
     main_result = has.main_result;
     each = is_selected;
     apart = laid.memory.apart;
+    work = laid.work.work;
+    work_stands = laid.work.stands;
+    work_apart = laid.work.apart;
   }
 
   -- ---- objects
@@ -296,7 +299,7 @@ module _ (laws : RunLaws) (p : PlainIrProgram) (asm : AsmProgram) (e : Env) (pla
   inside l =
       let d = all_at (IsObject (data_of p)) p.objects l.object l.declared valid.objects l.is_object in
       let all = laws.code.leaves.types p.structs l.declared.ty valid.structs d.ty in
-      (all.each l.number _ l.is_leaf).inside
+      subst (λ (n : ℕ). l.at + n ≤ size_of_type p.structs l.declared.ty) l.size (all.each l.number _ l.is_leaf).inside
 
   initials : (v : View) → All (IsSet e v) (spans_of p) → HasInitials (data_of p) place v
   initials v sets l x u q r =
@@ -331,15 +334,15 @@ module _ (laws : RunLaws) (p : PlainIrProgram) (asm : AsmProgram) (e : Env) (pla
         room = laid.stack.room;
       }
 
-  pub runs : (s : State) (v : View) (inputs : Inputs) → Shows e size s.mem v → s.pc ≡ 0
-      → RunsAsOperations p place e v s inputs
-  runs s v inputs shows pc =
+  pub runs : (s : State) (v : View) (inputs : Inputs) → Shows e size s.mem v → ((port : ℕ) → v.inputs port ≡ inputs port)
+      → s.pc ≡ 0 → RunsAsOperations p place e v s inputs
+  runs s v inputs shows feeds pc =
       let begun = subst (λ (n : ℕ). CanStart p e place function_label (spans_of p) low n) (sym pc) can_start in
-      let shown = laws.follows p place function_label e (spans_of p) size low s v inputs valid fits shows are_selected begun in
+      let shown = laws.follows p place function_label e (spans_of p) size low s v inputs valid fits shows feeds are_selected begun in
       let few = span_steps p.structs 0 p.objects in
       let most = shown.at_most in
       record { shows = shown; few = omega (arith, few, most) }
 
 pub selections_run : RunLaws → SelectionsRun
-selections_run laws p asm e place scratch size low s v inputs valid has h fits small shows pc laid =
-    runs laws p asm e place scratch size low valid has h fits small laid s v inputs shows pc
+selections_run laws p asm e place scratch size low s v inputs valid has h fits small shows feeds pc laid =
+    runs laws p asm e place scratch size low valid has h fits small laid s v inputs shows feeds pc

@@ -57,6 +57,10 @@ scratch_offset sizes f k frame l e h =
     let q : 1024 + f - 1024 ≡ f = omega arith in
     rw (not_below (1024 + f) 1024 (omega arith), lt-ltb (1024 + f) 1280 (omega arith), q, e, le-leb k (16 * frame) h) refl
 
+-- the work bytes
+work_offset : (sizes : Sizes) (k : ℕ) → k ≤ sizes.work → is_offset sizes 1280 k ≡ true
+work_offset sizes k h = le-leb k sizes.work h
+
 pub initial_offset : (sizes : Sizes) (o size : ℕ) → slice_get sizes.objects o ≡ Some size
     → is_offset sizes (2048 + o) 0 ≡ true
 initial_offset sizes o size e =
@@ -101,7 +105,11 @@ module _ (p : PlainIrProgram) (valid : ValidIr p) where
 
   pub has_room : (f : ℕ) (g : PlainIrFunction) → slice_get p.functions f ≡ Some g
       → HasRoom own_sizes (homes_of f g.code) g.slots
-  has_room f g e = record { width = by_width (nat_le (widest_temps g.code) 2); scratch = in_scratch } where
+  has_room f g e = record {
+    width = by_width (nat_le (widest_temps g.code) 2);
+    scratch = in_scratch;
+    work = λ k l. work_offset own_sizes k l;
+  } where
     by_width : (narrow : Bool) → IsWidth (if narrow then 2 else 4)
     by_width true = inl refl
     by_width false = inr refl
@@ -128,7 +136,7 @@ module _ (p : PlainIrProgram) (valid : ValidIr p) where
   leaf_inside leaves o offset bytes h =
       let d = all_at (IsObject (data_of p)) p.objects o h.declared valid.objects h.is_object in
       let all = leaves.types p.structs h.declared.ty valid.structs d.ty in
-      (all.each h.number _ h.is_leaf).inside
+      subst (λ (n : ℕ). offset + n ≤ size_of_type p.structs h.declared.ty) h.size (all.each h.number _ h.is_leaf).inside
 
   pub object_stands : LeavesFillTheirTypes → (o offset bytes : ℕ) → HasNumberAt (data_of p) o offset bytes
       → BytesFit own_sizes (object_location p.objects o offset) bytes

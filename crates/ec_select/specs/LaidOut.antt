@@ -17,7 +17,7 @@ use Rattle.ec_ir.specs.Valid.{CallsTo}
 use Rattle.ec_select_functions.specs.Laws.{CallsOn}
 use Rattle.ec_select_functions.specs.Places.{NumberLeaf, Apart}
 use Rattle.ec_select_functions.specs.Relation.{HoldsLeaf}
-use Rattle.ec_select_functions.specs.Standing.{ScratchStands, ObjectsStand}
+use Rattle.ec_select_functions.specs.Standing.{ScratchStands, ObjectsStand, WorkStands}
 use Rattle.ec_startup.specs.Laws.{HasStack}
 use Rattle.ec_select.specs.Labels.{homes_of}
 use Rattle.ec_select.specs.Program.{has_initial_bytes}
@@ -60,9 +60,17 @@ pub record StackStands (p : PlainIrProgram) (e : Env) (low : ℕ) : Type 0 where
   pub stacked : (k : ℕ) → low ≤ k → k ≤ e.address_of 1281 0 → e.kind k ≡ Stacked
   pub room : (fs : List ℕ) → CallsOn p p.main fs → low + 2 * length fs + 1 ≤ e.address_of 1281 0
 
+-- the work bytes stand apart from the scratch memory of each function
+pub record WorkIsLaidOut (p : PlainIrProgram) (e : Env) (place scratch : ℕ → ℕ) : Type 0 where
+  pub work : ℕ
+  pub stands : WorkStands (data_of p) e place work
+  pub apart : (f : ℕ) (g : PlainIrFunction) → slice_get p.functions f ≡ Some g
+      → Apart (scratch f) (16 * g.slots) work 64
+
 pub record IsLaidOut (p : PlainIrProgram) (asm : AsmProgram) (e : Env) (place scratch : ℕ → ℕ) (low : ℕ) : Type 0 where
   pub code : CodeStands asm e
   pub memory : ScratchIsLaidOut p e place scratch
+  pub work : WorkIsLaidOut p e place scratch
   pub initials : InitialsStand p e
   pub stack : StackStands p e low
 

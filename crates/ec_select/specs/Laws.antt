@@ -16,7 +16,7 @@ use Rattle.ec_ir.specs.Operations.{PlainIrProgram}
 use Rattle.ec_ir.specs.Valid.{ValidIr}
 use Rattle.ec_reset.specs.Laws.{ShowsProgram}
 use Rattle.ec_select.specs.InPlace.{AreInPlace}
-use Rattle.ec_select.specs.Integers.{AreIntegerOperations, AreSuited}
+use Rattle.ec_select.specs.Integers.{AreCompiledOperations, AreSuited}
 use Rattle.ec_select.specs.LaidOut.{IsLaidOut, start_steps}
 use Rattle.ec_select.specs.Program.{spans_of}
 use Rattle.ec_select.specs.Selected.{HasCode, IsSelection}
@@ -36,16 +36,16 @@ SelectionsHaveWords =
     (p : PlainIrProgram) (asm : AsmProgram) → ValidIr p → HasCode p → AreInPlace p → IsSelection p asm
     → code_words asm.items.items ≤ program_words + objects_weight p.objects + functions_words p.functions
 
--- valid operations on integers have code
+-- valid operations on integers, on fixed-point numbers and on ports have code
 abbrev pub IntegersHaveCode : Type 0
 IntegersHaveCode =
-    (p : PlainIrProgram) → ValidIr p → AreIntegerOperations p → AreSuited p → HasCode p × AreInPlace p
+    (p : PlainIrProgram) → ValidIr p → AreCompiledOperations p → AreSuited p → HasCode p × AreInPlace p
 
 -- ---- what the code does
 
 -- From the first word on a machine comes to where main begins, in at most so many steps and with no accesses but those
 -- that copy the initial bytes. From there on it shows all that the operations do, within the steps that they may take,
--- and never more
+-- and never more, as long as they access none but ports of the machine
 pub record RunsAsOperations (p : PlainIrProgram) (place : ℕ → ℕ) (e : Env) (v : View) (s : State)
     (inputs : Inputs) : Type 0 where
   pub shows : ShowsProgram p place e (spans_of p) v s inputs
@@ -56,5 +56,5 @@ abbrev pub SelectionsRun : Type 0
 SelectionsRun =
     (p : PlainIrProgram) (asm : AsmProgram) (e : Env) (place scratch : ℕ → ℕ) (size low : ℕ) (s : State) (v : View)
     (inputs : Inputs) → ValidIr p → HasCode p → IsSelection p asm → Fits e size → size < 65536
-    → Shows e size s.mem v → s.pc ≡ 0 → IsLaidOut p asm e place scratch low
-    → RunsAsOperations p place e v s inputs
+    → Shows e size s.mem v → ((port : ℕ) → v.inputs port ≡ inputs port) → s.pc ≡ 0
+    → IsLaidOut p asm e place scratch low → RunsAsOperations p place e v s inputs

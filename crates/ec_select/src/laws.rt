@@ -7,13 +7,18 @@ use ec_core::leaves_fill_their_types;
 use ec_near::laws::{near_code_stands, near_items_are_short, near_items_are_valid};
 use ec_reset::programs_show_their_operations;
 use ec_select_bytes::laws::{complements_are_straight, values_are_straight};
+use ec_select_fixed::laws::{
+    fixed_binaries_are_plain, fixed_binaries_are_short, fixed_conversions_are_plain,
+    fixed_conversions_are_short, fixed_unaries_are_plain, fixed_unaries_are_short,
+};
 use ec_select_order::laws::relations_have_words;
 use ec_select_products::laws::products_have_words;
 use ec_select_shifts::laws::shifts_have_words;
 use ec_startup::laws::{startup_has_words, startup_is_valid};
 
-/// The operations of a valid program have code where they are operations on integers, which load and store integers of
-/// the data bank, and put the result of an operator to the place of its first operand. Then `select` can be called.
+/// The operations of a valid program have code where they are operations on integers and on fixed-point numbers, which
+/// load and store such numbers of the data bank, and put the result of an operator on integers to the place of its
+/// first operand, and operations on ports. Then `select` can be called.
 pub fn integers_have_code()
     ensures { IntegersHaveCode }
 {
@@ -27,6 +32,9 @@ pub fn selections_are_valid()
     startup_is_valid();
     near_items_are_valid();
     leaves_fill_their_types();
+    fixed_binaries_are_plain();
+    fixed_unaries_are_plain();
+    fixed_conversions_are_plain();
 }
 
 /// The code of a program whose operators have their results in place has at most the words that its operations may
@@ -39,18 +47,25 @@ pub fn selections_have_words()
     relations_have_words();
     products_have_words();
     shifts_have_words();
+    fixed_binaries_are_short();
+    fixed_unaries_are_short();
+    fixed_conversions_are_short();
     startup_has_words();
     near_items_are_short();
 }
 
 /// A machine that begins at the first word of a program's code shows what its operations do, wherever code, objects
 /// and stack stand, and whatever memory holds: it comes to `main` with no accesses but those that copy initial bytes,
-/// and from there on shows all that the operations do, within the steps that they may take, and never more.
+/// and from there on shows all that the operations do, within the steps that they may take, and never more, as long as
+/// they access none but ports of the machine.
 pub fn selections_run()
     ensures { SelectionsRun }
 {
     startup_is_valid();
     leaves_fill_their_types();
+    fixed_binaries_are_plain();
+    fixed_unaries_are_plain();
+    fixed_conversions_are_plain();
     near_code_stands();
     near_items_are_valid();
     parts_stand();

@@ -1,7 +1,7 @@
 -- Loads and stores of objects.
 use Rattle.std.proofs.Common.{◌≡◌, ◌≢◌, ℕ, zero, suc, ◌+◌, ◌/◌, ◌%◌, ◌^◌, ◌<◌, ⊎_elim, inl, inr, true, ℤ, List, []}
 use Rattle.std.proofs.Common.{◌∷◌, ◌++◌, Option, Some, refl, sym, ap, ◌∙◌, subst, arith, append-nil, append_assoc}
-use Rattle.std.specs.Prelude.{slice_get, option_and_then}
+use Rattle.std.specs.Prelude.{Bool, false, ◌==◌, if◌then◌else◌, drop, slice_get, option_and_then}
 use Rattle.std.proofs.lemmas.Bool.{cases_eq}
 use Rattle.ec_space.specs.declared.space.Bank.TheVariants.{Data as DataBank}
 use Rattle.ec_space.specs.declared.space.SpaceId.{SpaceId}
@@ -19,9 +19,11 @@ use Rattle.ec_core.specs.declared.programs.LeafInit.TheVariants.{Number as TheNu
 use Rattle.ec_core.specs.declared.values.Value.{Value}
 use Rattle.ec_core.specs.declared.values.Value.TheVariants.{Number}
 use Rattle.ec_core.specs.Accesses.{leaf_of, recorded, with_leaf}
+use Rattle.ec_core.specs.Laws.{left_of}
 use Rattle.ec_core.specs.Layout.{PlainLeaf, scalar_size, leaves_of_type}
 use Rattle.ec_core.specs.Plain.{integer, PlainStorage, static, local, param, register, PlainObject, PlainProgram}
-use Rattle.ec_core.specs.State.{Event, Read, Write, State, ObjectState, worked, with_object, changed_at}
+use Rattle.ec_core.specs.State.{Inputs, Event, In, Out, Read, Write, reads_of, State, ObjectState, worked, with_event}
+use Rattle.ec_core.specs.State.{with_object, changed_at}
 use Rattle.ec_ir.specs.declared.operations.Temp.{Temp}
 use Rattle.ec_ir.specs.Meaning.{Mach, machine}
 use Rattle.ec_ir.specs.Temporaries.{bits, with_content, low_bytes}
@@ -33,13 +35,13 @@ use Rattle.ec_select_functions.proofs.Setting.{Setting}
 use Rattle.ec_select_functions.specs.Relation.{byte_accesses, object_accesses, event_accesses, accesses, HoldsLeaf}
 use Rattle.ec_select_functions.specs.Relation.{Matches}
 use Rattle.ec_select_functions.proofs.Match.{wanted_most, least_other, without_other, at_width, whole, written}
-use Rattle.ec_select_functions.proofs.Match.{held_row, same_content, same_leaf}
+use Rattle.ec_select_functions.proofs.Match.{kept_left, held_row, same_content, same_leaf}
 use Rattle.ec_select_functions.proofs.Moves.{Frame, work_outside, numbers_kept, row_kept, row_value, work_kept}
 use Rattle.ec_select_functions.proofs.Wrapped.{low_below, kept_below}
 
 -- ---- events
 
-accesses-more : (p : PlainProgram) (place : ℕ → ℕ) (xs : List Event) (x : Event)
+pub accesses-more : (p : PlainProgram) (place : ℕ → ℕ) (xs : List Event) (x : Event)
     → accesses p place (xs ++ x ∷ []) ≡ accesses p place xs ++ event_accesses p place x
 accesses-more p place [] x = append-nil (event_accesses p place x)
 accesses-more p place (z ∷ xs) x =
@@ -51,11 +53,13 @@ leaf_with p o offset bytes h = record {
   object = o;
   number = h.number;
   declared = h.declared;
-  signed = h.signed;
+  ty = h.ty;
   bytes = bytes;
   at = offset;
   is_object = h.is_object;
   is_leaf = h.is_leaf;
+  is_number = h.is_number;
+  size = h.size;
   in_data = h.in_data;
 }
 
@@ -66,7 +70,7 @@ log_of kind make at number n = []
 
 number_accesses : (p : PlainProgram) (place : ℕ → ℕ) (l : NumberLeaf p) (make : ℕ → ℕ → MachineAccess) (i : ℤ)
     → object_accesses p place make l.object l.number (TheNumber i) ≡ byte_accesses make (place l.object + l.at) (low_bytes l.bytes i) l.bytes
-number_accesses p place l make i = rw (l.is_object, l.is_leaf) refl
+number_accesses p place l make i = rw (l.is_object, l.is_leaf, l.size) refl
 
 recorded_objects : (storage : PlainStorage) (x : Event) (s : State) → (recorded storage x s).objects ≡ s.objects
 recorded_objects (static inits) x s = refl
@@ -79,6 +83,33 @@ recorded_work (static inits) x s = refl
 recorded_work (local f) x s = refl
 recorded_work (param f) x s = refl
 recorded_work (register first) x s = refl
+
+-- accesses of objects take nothing from ports
+reads_after : (port : ℕ) (es : List Event) (x : Event) → reads_of port (x ∷ []) ≡ 0
+    → reads_of port (es ++ x ∷ []) ≡ reads_of port es
+reads_after port [] x h = h
+reads_after port (In q byte ∷ es) x h = by_port (q == port) (reads_after port es x h)
+  where
+    by_port : (b : Bool) → reads_of port (es ++ x ∷ []) ≡ reads_of port es
+        → (if b then 1 + reads_of port (es ++ x ∷ []) else reads_of port (es ++ x ∷ []))
+        ≡ (if b then 1 + reads_of port es else reads_of port es)
+    by_port true q = ap (λ n. 1 + n) q
+    by_port false q = q
+reads_after port (Out q byte ∷ es) x h = reads_after port es x h
+reads_after port (Read o k space i ∷ es) x h = reads_after port es x h
+reads_after port (Write o k space i ∷ es) x h = reads_after port es x h
+
+-- so what is left of the inputs stays
+pub left_after : (inputs : Inputs) (port : ℕ) (x : Event) (s : State) → reads_of port (x ∷ []) ≡ 0
+    → left_of inputs port (with_event x s) ≡ left_of inputs port s
+left_after inputs port x s h = ap (λ n. drop n (inputs port)) (reads_after port s.events x h)
+
+recorded_left : (inputs : Inputs) (port : ℕ) (storage : PlainStorage) (x : Event) (s : State)
+    → reads_of port (x ∷ []) ≡ 0 → left_of inputs port (recorded storage x s) ≡ left_of inputs port s
+recorded_left inputs port (static inits) x s h = left_after inputs port x s h
+recorded_left inputs port (local f) x s h = left_after inputs port x s h
+recorded_left inputs port (param f) x s h = left_after inputs port x s h
+recorded_left inputs port (register first) x s h = refl
 
 -- what is seen of a read of a number
 read_seen : (p : PlainProgram) (place : ℕ → ℕ) (l : NumberLeaf p) (space : SpaceId) (i : ℤ) (s : State)
@@ -177,7 +208,7 @@ leaf_other x k j u q = ap (option_and_then (λ v. v)) (changed_other k j (λ was
 
 module _ (p : PlainProgram) (e : Env) (slots : ℕ) (home : Temp → Location) (base : Temp → ℕ) (place : ℕ → ℕ) (y : Setting p e slots home base place) where
   abbrev A : Need → Mach → View → Type 0
-  A need m v = Matches p slots base place y.aside y.was need m v
+  A need m v = Matches p y.inputs slots base place y.aside y.was need m v
 
   location_is : (o offset bytes : ℕ) (l : HasNumberAt p o offset bytes)
       → object_location p.objects o offset ≡ location_in l.declared.storage o offset
@@ -217,7 +248,7 @@ module _ (p : PlainProgram) (e : Env) (slots : ℕ) (home : Temp → Location) (
       let here : value v1.at (base t) (wanted need t) ≡ low % 256 ^ wanted need t = sym (value_mod v1.at (base t) (wanted need t) n most b1) ∙ ap (λ b. b % 256 ^ wanted need t) full in
       let seen : v1.seen ≡ accesses p place s1.events = d.seen ∙ ap (λ b. v.seen ++ b) log ∙ ap (λ b. b ++ log_of (kind_in storage) (ByteRead DataBank) a low n) z.seen ∙ sym (read_seen p place k l.declared.space i (worked c m.state) storage) in
       rw (location_is o offset t.bytes l)
-      (written p e slots home base place y t (bits low) need (without t.at need) m s1 v v1 it z (λ b f. without_other t.at b need f) frame (here, low_below n i) numbers (recorded_objects storage _ (worked c m.state)) seen (d.safe ∙ z.safe))
+      (written p e slots home base place y t (bits low) need (without t.at need) m s1 v v1 it z (λ b f. without_other t.at b need f) frame (here, low_below n i) numbers (recorded_objects storage _ (worked c m.state)) seen (λ port. kept_left y.inputs m.state v v1 d.inputs z.left port ∙ sym (recorded_left y.inputs port storage _ (worked c m.state) refl)) (d.safe ∙ z.safe))
 
   -- a leaf that stands apart from the one that was written
   other_leaf : (l k : NumberLeaf p) (v v1 : View) → AreDifferent p l k
@@ -232,13 +263,13 @@ module _ (p : PlainProgram) (e : Env) (slots : ℕ) (home : Temp → Location) (
       let a : slice_get p.objects k.object ≡ Some l.declared = subst (λ o. slice_get p.objects o ≡ Some l.declared) q l.is_object in
       let b : Some l.declared ≡ Some k.declared = sym a ∙ k.is_object in
       let d : l.declared ≡ k.declared = cc in
-      let f : slice_get (leaves_of_type p.structs k.declared.ty) l.number ≡ Some (record { ty = integer l.signed l.bytes; at = l.at }) = subst (λ (o : PlainObject). slice_get (leaves_of_type p.structs o.ty) l.number ≡ Some (record { ty = integer l.signed l.bytes; at = l.at })) d l.is_leaf in
-      let g : slice_get (leaves_of_type p.structs k.declared.ty) k.number ≡ Some (record { ty = integer l.signed l.bytes; at = l.at }) = subst (λ o. slice_get (leaves_of_type p.structs k.declared.ty) o ≡ Some (record { ty = integer l.signed l.bytes; at = l.at })) r f in
-      let first : PlainLeaf = record { ty = integer l.signed l.bytes; at = l.at } in
-      let second : PlainLeaf = record { ty = integer k.signed k.bytes; at = k.at } in
+      let f : slice_get (leaves_of_type p.structs k.declared.ty) l.number ≡ Some (record { ty = l.ty; at = l.at }) = subst (λ (o : PlainObject). slice_get (leaves_of_type p.structs o.ty) l.number ≡ Some (record { ty = l.ty; at = l.at })) d l.is_leaf in
+      let g : slice_get (leaves_of_type p.structs k.declared.ty) k.number ≡ Some (record { ty = l.ty; at = l.at }) = subst (λ o. slice_get (leaves_of_type p.structs k.declared.ty) o ≡ Some (record { ty = l.ty; at = l.at })) r f in
+      let first : PlainLeaf = record { ty = l.ty; at = l.at } in
+      let second : PlainLeaf = record { ty = k.ty; at = k.at } in
       let h : Some first ≡ Some second = sym g ∙ k.is_leaf in
       let i : first ≡ second = cc in
-      (ap (λ (x : PlainLeaf). x.at) i, ap (λ (x : PlainLeaf). scalar_size x.ty) i)
+      (ap (λ (x : PlainLeaf). x.at) i, sym l.size ∙ ap (λ (x : PlainLeaf). scalar_size x.ty) i ∙ k.size)
 
   -- the state after a write of a number
   abbrev pub after_write : (o offset bytes : ℕ) → HasNumberAt p o offset bytes → ℤ → State → State
@@ -313,6 +344,7 @@ module _ (p : PlainProgram) (e : Env) (slots : ℕ) (home : Temp → Location) (
         leaves_hold = λ f x u r w. stored_leaves k i (at_least t.at t.bytes need) m v v1 z frame here f x u (ap (λ g. slice_get g f.object) (sym objects) ∙ r) w;
         kept = λ f r. (let u = y.high f r in frame f (omega arith) (omega arith) (omega arith) (y.leaves_aside k f r)) ∙ z.kept f r;
         bytes = numbers;
+        left = λ port. kept_left y.inputs m.state v v1 d.inputs z.left port ∙ sym (recorded_left y.inputs port storage _ s0 refl);
         seen = seen;
         safe = d.safe ∙ z.safe;
       })

@@ -1,13 +1,15 @@
 -- The function that runs, and what is set aside for those that wait for it.
 use Rattle.std.proofs.Common.{◌≡◌, ℕ, ◌+◌, ◌-◌, ◌*◌, ◌<◌, ◌≤◌, ◌⊎◌, ⊎_elim, Bool, true, ◌&&◌, ◌||◌, List, [], ◌∷◌}
 use Rattle.std.proofs.Common.{Some, length, subst, arith, leb-true, ltb-true, Contains}
-use Rattle.std.specs.Prelude.{nat_le, nat_lt, slice_get}
+use Rattle.std.specs.Prelude.{nat_le, nat_lt, slice_get, slice_index}
 use Rattle.std.proofs.lemmas.Bool.{and_parts, and_from, or_cases, or_left, or_right, lt-ltb, le-leb, cases_lt}
 use Rattle.ec_asm.specs.View.{View, pair}
 use Rattle.ec_asm.specs.Change.{Env, Kind, Own, Object, Stacked, sp}
 use Rattle.ec_asm.specs.Pieces.{Outside}
 use Rattle.ec_core.specs.Layout.{size_of_type}
+use Rattle.ec_core.specs.Laws.{BytesAreTakenInOrder}
 use Rattle.ec_core.specs.Plain.{PlainStorage, static, local, param, register}
+use Rattle.ec_core.specs.State.{Inputs}
 use Rattle.ec_core.specs.TypeLaws.{LeavesFillTheirTypes}
 use Rattle.ec_ir.specs.declared.operations.Temp.{Temp}
 use Rattle.ec_ir.specs.Operations.{PlainIrFunction, PlainIrProgram, data_of}
@@ -18,15 +20,19 @@ use Rattle.ec_select_functions.specs.Laws.{AreSelected, IsSelected, CallsOn}
 use Rattle.ec_select_functions.specs.Places.{NumberLeaf, Apart, Layout}
 use Rattle.ec_select_functions.specs.Standing.{home_address, ObjectStands}
 use Rattle.ec_select_functions.proofs.Moves.{outside_row}
-use Rattle.ec_select_functions.proofs.Setting.{Setting}
+use Rattle.ec_select_functions.proofs.Setting.{Setting, FixedLaws}
 use Rattle.ec_select_functions.proofs.Standing.{InRegister, InScratch, kinds, ends_low, homes_are_laid_out}
 use Rattle.ec_select_functions.proofs.Standing.{leaf_where, lies}
 
--- the code of a valid program, and bytes of the stack from one address to another
+-- the code of a valid program, bytes of the stack from one address to another, and the inputs, which are bytes
 pub record World (p : PlainIrProgram) (e : Env) (place entry_of : ℕ → ℕ) : Type 0 where
   pub selected : AreSelected p e place entry_of
   pub valid : ValidIr p
   pub fill : LeavesFillTheirTypes
+  pub inputs : Inputs
+  pub feeds : (port k : ℕ) → slice_index (inputs port) k < 256
+  pub taken : BytesAreTakenInOrder
+  pub fixed : FixedLaws
   pub low : ℕ
   pub top : ℕ
   pub high : 256 ≤ low
@@ -103,6 +109,7 @@ module _ (p : PlainIrProgram) (e : Env) (place entry_of : ℕ → ℕ) (w : Worl
     pub others : (b : ℕ) (h : PlainIrFunction) → CallsTo p b f → slice_get p.functions b ≡ Some h → (k : ℕ)
         → aside k ≡ true → Outside (scratch_of b) (16 * h.slots) k
     pub free : (k : ℕ) → aside k ≡ true → w.low ≤ k → s < k
+    pub work : (k : ℕ) → aside k ≡ true → Outside w.selected.work 64 k
     pub pointer_low : aside 93 ≡ true
     pub pointer_high : aside 94 ≡ true
     pub pointer : pair was 93 ≡ s
@@ -137,12 +144,61 @@ module _ (p : PlainIrProgram) (e : Env) (place entry_of : ℕ → ℕ) (w : Worl
       (λ (r : InScratch (homes_of f) (scratch_of f) t). rw (r.address) (λ l. let z = own (omega arith) in omega arith))
       (kinds (homes_of f) (scratch_of f) t)
 
+  -- the work bytes are none of a temporary's, of a leaf's, and of the stack's
+  pub temp_work : (f : ℕ) (g : PlainIrFunction) (t : Temp) → slice_get p.functions f ≡ Some g → HasHome g.slots t
+      → Apart (base_of f t) t.bytes w.selected.work 64
+  temp_work f g t q it =
+      let x = selected_of f g q in
+      let within = it.within in
+      let most = it.most in
+      let high = w.selected.work_stands.high in
+      let far = w.selected.work_apart f g q in
+      ⊎_elim
+      (λ (r : InRegister (homes_of f) (scratch_of f) t). let z = ends_low e g.slots (homes_of f) (scratch_of f) x.scratch_stands t r in record { left = λ l. omega arith; right = λ l. absurd (omega arith) })
+      (λ (r : InScratch (homes_of f) (scratch_of f) t).
+      rw (r.address) (record {
+        left = λ l. ⊎_elim (λ (z : scratch_of f < w.selected.work). let y = far.left z in omega arith) (λ (z : w.selected.work ≤ scratch_of f). let y = far.right z in absurd (omega arith)) (cases_lt (scratch_of f) w.selected.work);
+        right = λ l. ⊎_elim (λ (z : scratch_of f < w.selected.work). let y = far.left z in absurd (omega arith)) (λ (z : w.selected.work ≤ scratch_of f). let y = far.right z in omega arith) (cases_lt (scratch_of f) w.selected.work);
+      }))
+      (kinds (homes_of f) (scratch_of f) t)
+
+  pub leaf_outside_work : (f : ℕ) (g : PlainIrFunction) → slice_get p.functions f ≡ Some g → (l : NumberLeaf (data_of p))
+      (i : ℕ) → i < l.bytes → Outside w.selected.work 64 (leaf_at l + i)
+  leaf_outside_work f g q l i m u =
+      let x = selected_of f g q in
+      let n = size_of_type p.structs l.declared.ty in
+      let inside = (lies w.fill p w.valid e g.slots (homes_of f) (scratch_of f) place x.scratch_stands x.objects_stand l).inside in
+      let r = w.selected.work_stands.objects_apart l.object l.declared l.is_object l.in_data in
+      ⊎_elim
+      (λ (z : place l.object < w.selected.work). let y = r.left z in absurd (omega arith))
+      (λ (z : w.selected.work ≤ place l.object). let y = r.right z in omega arith)
+      (cases_lt (place l.object) w.selected.work)
+
+  pub stack_work : (k : ℕ) → e.kind k ≡ Stacked → Outside w.selected.work 64 k
+  stack_work k stacked l =
+      ⊎_elim
+      (λ (m : k < w.selected.work + 64).
+      let i : w.selected.work + (k - w.selected.work) ≡ k = omega arith in
+      let own : e.kind k ≡ Own = subst (λ j. e.kind j ≡ Own) i (w.selected.work_stands.kind (k - w.selected.work) (omega arith)) in
+      absurd (own_is_not_stacked (e.kind k) own stacked))
+      (λ (m : w.selected.work + 64 ≤ k). m)
+      (cases_lt k (w.selected.work + 64))
+
   abbrev pub setting_of : (f : ℕ) (g : PlainIrFunction) (s : ℕ) (aside : ℕ → Bool) (was : ℕ → ℕ) → Active f g s aside was
       → Setting (data_of p) e g.slots (home (homes_of f)) (base_of f) place
   setting_of f g s aside was a = record {
     layout = layout_of f g a.is;
     aside = aside;
     was = was;
+    inputs = w.inputs;
+    feeds = w.feeds;
+    taken = w.taken;
+    work = w.selected.work;
+    work_stands = w.selected.work_stands;
+    temps_work = λ t it. temp_work f g t a.is it;
+    leaves_work = λ l j m. leaf_outside_work f g a.is l j m;
+    work_aside = a.work;
+    fixed = w.fixed;
     high = a.high;
     temps_aside = λ t k it q. temp_aside f g k t a.is (a.high k q) (a.own k q) it;
     leaves_aside = a.leaves;
@@ -250,6 +306,9 @@ module _ (p : PlainIrProgram) (e : Env) (place entry_of : ℕ → ℕ) (w : Worl
         others = λ c i r z k q. (let through : CallsTo p c f = calls_through f b g a.is there r in
             aside_cases aside (scratch_of f) (16 * g.slots) s k (Outside (scratch_of c) (16 * i.slots) k) q (λ r. a.others c i through z k r) (λ l m. row_outside_back (scratch_of c) (16 * i.slots) (scratch_of f) (16 * g.slots) k (w.selected.apart f c g i through a.is z) l m) (λ l m. stack_scratch c i z k (w.stacked k (omega arith) (omega arith))));
         free = λ k q l. aside_cases aside (scratch_of f) (16 * g.slots) s k (s - 2 < k) q (λ r. let z = a.free k r l in omega arith) (λ i m. scratch_free k l i m) (λ i m. omega arith);
+        work = λ k q. aside_cases aside (scratch_of f) (16 * g.slots) s k (Outside w.selected.work 64 k) q (λ r. a.work k r)
+            (λ l m. row_outside_back w.selected.work 64 (scratch_of f) (16 * g.slots) k (w.selected.work_apart f g a.is) l m)
+            (λ l m. stack_work k (w.stacked k (omega arith) (omega arith)));
         pointer_low = aside_before aside (scratch_of f) (16 * g.slots) s 93 a.pointer_low;
         pointer_high = aside_before aside (scratch_of f) (16 * g.slots) s 94 a.pointer_high;
         pointer = pointer;

@@ -1,7 +1,7 @@
 -- A call: what is needed waits in memory, the called function runs, and the caller goes on.
 use Rattle.std.proofs.Common.{◌≡◌, ◌≢◌, ℕ, suc, ◌+◌, ◌-◌, ◌*◌, ◌%◌, ◌<◌, ◌≤◌, ◌⊎◌, ⊎_elim, inl, inr, Bool, List, []}
 use Rattle.std.proofs.Common.{◌∷◌, ◌++◌, Option, Some, None, refl, sym, ap, ◌∙◌, subst, arith, Contains, ℤ}
-use Rattle.std.specs.Prelude.{◌==◌, if◌then◌else◌, slice_get}
+use Rattle.std.specs.Prelude.{◌==◌, if◌then◌else◌, drop, slice_get}
 use Rattle.std.proofs.lemmas.Bool.{cases_eq, eq-eqb, ne_eqb}
 use Rattle.std.proofs.lemmas.List.Elements.{Contains-append_right}
 use Rattle.ec_avr.specs.State.{lowered}
@@ -20,7 +20,7 @@ use Rattle.ec_asm.proofs.Calls.{call_goes}
 use Rattle.ec_asm.proofs.Hoare.{has_parts, block_goes, goes_on_to}
 use Rattle.ec_asm.proofs.Takes.{call_has_word}
 use Rattle.ec_core.specs.Plain.{PlainProgram}
-use Rattle.ec_core.specs.State.{Inputs, State, worked, next}
+use Rattle.ec_core.specs.State.{reads_of, State, worked, next}
 use Rattle.ec_ir.specs.declared.operations.Temp.{Temp}
 use Rattle.ec_ir.specs.Costs.{op_steps}
 use Rattle.ec_ir.specs.Meaning.{Mach, machine, Frame as Call, enter, resulted, leave}
@@ -41,7 +41,7 @@ use Rattle.ec_select_functions.proofs.Active.{layout_of, setting_of, selected_of
 use Rattle.ec_select_functions.proofs.Active.{has_room, leaf_outside_scratch, leaf_not_stacked}
 use Rattle.ec_select_functions.proofs.Computed.{moved_numbers}
 use Rattle.ec_select_functions.proofs.Follow.{Follows, after}
-use Rattle.ec_select_functions.proofs.Match.{same_content, same_leaf, less_content, held_row, same_temp, wanted_most}
+use Rattle.ec_select_functions.proofs.Match.{kept_left, same_content, same_leaf, less_content, held_row, same_temp, wanted_most}
 use Rattle.ec_select_functions.proofs.Moves.{narrower, stands_less, move_holds, move_straight, move_steps, row_value}
 use Rattle.ec_select_functions.proofs.Resumed.{IsAt, IsElsewhere, Took, HasPlace, resumes}
 use Rattle.ec_select_functions.proofs.Returned.{HandsOn, Left, Returns, go_on, pointer_is}
@@ -51,7 +51,7 @@ use Rattle.ec_select_functions.proofs.Stacked.{popped_numbers}
 use Rattle.ec_select_functions.proofs.Standing.{result_bounds, result_ends}
 use Rattle.ec_select_functions.proofs.Steps.{Ready, Onward, CallCase}
 
-module _ (p : PlainIrProgram) (inputs : Inputs) (e : Env) (place entry_of : ℕ → ℕ) (w : World p e place entry_of) where
+module _ (p : PlainIrProgram) (e : Env) (place entry_of : ℕ → ℕ) (w : World p e place entry_of) where
   abbrev D : PlainProgram
   D = data_of p
 
@@ -66,7 +66,7 @@ module _ (p : PlainIrProgram) (inputs : Inputs) (e : Env) (place entry_of : ℕ 
   -- what the code of a function shows that runs, from any of its operations on
   abbrev pub Runs : (n f : ℕ) (g : PlainIrFunction) (s : ℕ) (aside : ℕ → Bool) (was : ℕ → ℕ) → Active p e place entry_of w f g s aside was → List Call → Type 0
   Runs n f g s aside was a stack =
-      Onward D p.functions inputs e g.slots (home (homes_of p e place entry_of w f)) (base_of p e place entry_of w f) place
+      Onward D p.functions e g.slots (home (homes_of p e place entry_of w f)) (base_of p e place entry_of w f) place
       (setting_of p e place entry_of w f g s aside was a) (w.selected.made f).labels g.code
       (selected_of p e place entry_of w f g a.is).end w.selected.results f
       (linkage_of p entry_of f g.slots (w.selected.made f)) stack n
@@ -75,12 +75,12 @@ module _ (p : PlainIrProgram) (inputs : Inputs) (e : Env) (place entry_of : ℕ 
   abbrev pub Statement : ℕ → Type 0
   Statement n =
       (f : ℕ) (g : PlainIrFunction) (s : ℕ) (aside : ℕ → Bool) (was : ℕ → ℕ) (a : Active p e place entry_of w f g s aside was)
-      (stack : List Call) → ((j : ℕ) → j ≤ n → Returns p inputs e place entry_of w f g aside was stack j) → Runs n f g s aside was a stack
+      (stack : List Call) → ((j : ℕ) → j ≤ n → Returns p e place entry_of w f g aside was stack j) → Runs n f g s aside was a stack
 
   -- the first operation of a function
   begins : (b : ℕ) (gb : PlainIrFunction) (s : ℕ) (aside : ℕ → Bool) (was : ℕ → ℕ) (a : Active p e place entry_of w b gb s aside was) (stack : List Call)
       → e.word_of (entry_of b) < 65536
-      → Ready D p.functions inputs e gb.slots (home (homes_of p e place entry_of w b)) (base_of p e place entry_of w b) place
+      → Ready D p.functions e gb.slots (home (homes_of p e place entry_of w b)) (base_of p e place entry_of w b) place
       (setting_of p e place entry_of w b gb s aside was a) (w.selected.made b).labels gb.code
       (selected_of p e place entry_of w b gb a.is).end w.selected.results b
       (linkage_of p entry_of b gb.slots (w.selected.made b)) stack (e.word_of (entry_of b)) gb.code
@@ -125,7 +125,7 @@ module _ (p : PlainIrProgram) (inputs : Inputs) (e : Env) (place entry_of : ℕ 
     T to v v1 = Took p e place entry_of w f g s aside was a to v v1
 
     abbrev MM : Need → Mach → View → Type 0
-    MM need m v = Matches D slots bs place aside was need m v
+    MM need m v = Matches D w.inputs slots bs place aside was need m v
 
     -- ---- the result is taken
 
@@ -162,13 +162,13 @@ module _ (p : PlainIrProgram) (inputs : Inputs) (e : Env) (place entry_of : ℕ 
 
     -- ---- the caller goes on
 
-    module _ (n : ℕ) (below : (j : ℕ) → j ≤ n → Statement j) (returns : (j : ℕ) → j ≤ n → Returns p inputs e place entry_of w f g aside was stack j)
+    module _ (n : ℕ) (below : (j : ℕ) → j ≤ n → Statement j) (returns : (j : ℕ) → j ≤ n → Returns p e place entry_of w f g aside was stack j)
         (b : ℕ) (gb : PlainIrFunction) (is : slice_get p.functions b ≡ Some gb) (there : Contains (called_in g.code) b)
         (to : Option Temp) (result_is : IsResult w.selected.results b slots to) (rest : List PlainIr) (m : Mach) (v : View)
         (before : MM (without_result to (needs labels rest)) m v) (back end0 mid3 : ℕ) (room : back < 65536)
         (taken_at : HasAt e (taken_code hs to (wanted_result (needs labels rest) to)) back mid3)
         (restore_at : HasAt e (restore_code link (without_result to (needs labels rest))) mid3 end0)
-        (ready : Ready D p.functions inputs e slots hs bs place (setting_of p e place entry_of w f g s aside was a) labels g.code x.end w.selected.results f link stack end0 rest) where
+        (ready : Ready D p.functions e slots hs bs place (setting_of p e place entry_of w f g s aside was a) labels g.code x.end w.selected.results f link stack end0 rest) where
       abbrev need : Need
       need = needs labels rest
 
@@ -205,7 +205,7 @@ module _ (p : PlainIrProgram) (inputs : Inputs) (e : Env) (place entry_of : ℕ 
       saved = saves e slots h scratch x.scratch_stands need0 v before.bytes (register_places slots) within few
 
       pointer0 : sp v ≡ s
-      pointer0 = pointer_is p inputs e place entry_of w f g s aside was a stack need0 m v before
+      pointer0 = pointer_is p e place entry_of w f g s aside was a stack need0 m v before
 
       pointer : sp v1 ≡ s
       pointer =
@@ -221,7 +221,7 @@ module _ (p : PlainIrProgram) (inputs : Inputs) (e : Env) (place entry_of : ℕ 
       active = called p e place entry_of w f g s aside was a b gb there is (pushed back v1) pushed_is
 
       -- what a called function left
-      module _ (s1 : State) (u : View) (left : Left p inputs e place entry_of w gb b aside_b (pushed back v1).at s1 u) where
+      module _ (s1 : State) (u : View) (left : Left p e place entry_of w gb b aside_b (pushed back v1).at s1 u) where
         pointer_u : sp u ≡ s - 2
         pointer_u =
             let low = left.kept 93 active.pointer_low in
@@ -243,20 +243,20 @@ module _ (p : PlainIrProgram) (inputs : Inputs) (e : Env) (place entry_of : ℕ 
             → Goes e steps back (popped u) mid3 v4 → (it : HasPlace p e place entry_of w f g s aside was a to) → T to (popped u) v4
             → ((t : Temp) (c : Held) → HasHome slots t → temps t.at ≡ Some c → c.bytes ≡ t.bytes
             → (IsAt to t × HoldsContent v4.at (bs t) (wanted need t) t.bytes c.content) ⊎ (IsElsewhere to t × (m.temps t.at ≡ Some c)))
-            → Follows D place e j spent back (popped u) (go_on p inputs e place entry_of w j (record { code = g.code; rest = rest; stack = stack }) (machine temps s1))
+            → Follows D place e j spent back (popped u) (go_on p e place entry_of w j (record { code = g.code; rest = rest; stack = stack }) (machine temps s1))
         goes_on j spent l credit temps v4 steps some goes it took held =
             let form = restore_form e slots h scratch x.scratch_stands need0 (register_places slots) few in
             let v5 = block e (restore_code link need0) v4 in
             let second = block_goes e (restore_code link need0) mid3 end0 v4 form.0 restore_at in
             let most = form.1 in
             let matches = resumes p e place entry_of w f g s aside was a need to it m temps s1 back v v1 u v4 before pointer0 saved pointer first b gb left pointer_u took held in
-            after D place e (steps + code_steps (restore_code link need0)) j j spent s1.work back end0 (popped u) v5 (go_on p inputs e place entry_of w j (record { code = g.code; rest = rest; stack = stack }) (machine temps s1))
+            after D place e (steps + code_steps (restore_code link need0)) j j spent s1.work back end0 (popped u) v5 (go_on p e place entry_of w j (record { code = g.code; rest = rest; stack = stack }) (machine temps s1))
             (goes_on_to e steps (code_steps (restore_code link need0)) back mid3 end0 (popped u) v4 v5 goes second) (omega arith) (omega (arith, most, some, credit))
             (below j l f g s aside was a stack (λ i r. returns i (omega (arith, r, l))) end0 rest (machine temps s1) v5 ready matches)
 
       back_with : (j : ℕ) → j ≤ n → (to1 : Option Temp) → to ≡ to1 → (result : Option Held) (s1 : State) (u : View) (spent : ℕ) → spent + 64 ≤ s1.work
-          → HandsOn p inputs e place entry_of w b result u → Left p inputs e place entry_of w gb b aside_b (pushed back v1).at s1 u
-          → Follows D place e j spent back (popped u) (next (resulted to1 result m.temps s1) (λ temps s2. go_on p inputs e place entry_of w j (record { code = g.code; rest = rest; stack = stack }) (machine temps s2)))
+          → HandsOn p e place entry_of w b result u → Left p e place entry_of w gb b aside_b (pushed back v1).at s1 u
+          → Follows D place e j spent back (popped u) (next (resulted to1 result m.temps s1) (λ temps s2. go_on p e place entry_of w j (record { code = g.code; rest = rest; stack = stack }) (machine temps s2)))
       back_with j l None q result s1 u spent credit hands left =
           let at : HasAt e (taken_code hs None (wanted_result need None)) back mid3 = subst (λ o. HasAt e (taken_code hs o (wanted_result need o)) back mid3) q taken_at in
           let none : HasPlace p e place entry_of w f g s aside was a to = subst (λ o. HasPlace p e place entry_of w f g s aside was a o) (sym q) tt in
@@ -308,19 +308,20 @@ module _ (p : PlainIrProgram) (inputs : Inputs) (e : Env) (place entry_of : ℕ 
               (cases_eq t1.at t.at)
 
       -- what waits for the called function
-      returns_b : (j : ℕ) → j ≤ n → Returns p inputs e place entry_of w b gb aside_b (pushed back v1).at (waits ∷ stack) j
+      returns_b : (j : ℕ) → j ≤ n → Returns p e place entry_of w b gb aside_b (pushed back v1).at (waits ∷ stack) j
       returns_b j l result s1 u spent credit hands left =
-          subst (λ i. Follows D place e j spent i (popped u) (leave (waits ∷ stack) result (go_on p inputs e place entry_of w j) s1)) (sym (goes_back s1 u left))
+          subst (λ i. Follows D place e j spent i (popped u) (leave (waits ∷ stack) result (go_on p e place entry_of w j) s1)) (sym (goes_back s1 u left))
           (back_with j l to refl result s1 u spent credit hands left)
 
       -- it begins with the caller's objects
       entered : MM need0 m v → (st : State) → st.objects ≡ m.state.objects → st.events ≡ m.state.events
-          → Matches D gb.slots (base_of p e place entry_of w b) place aside_b (pushed back v1).at (needs (w.selected.made b).labels gb.code) (machine no_temps st) (pushed back v1)
+          → Matches D w.inputs gb.slots (base_of p e place entry_of w b) place aside_b (pushed back v1).at (needs (w.selected.made b).labels gb.code) (machine no_temps st) (pushed back v1)
       entered z st objects events = record {
         temps_hold = λ t c it q r. absurd cc;
         leaves_hold = λ l y o q k. same_leaf v.at (pushed back v1).at (place l.object + l.at) l.bytes o (λ i r. leaf_kept l i r) (z.leaves_hold l y o (ap (λ i. slice_get i l.object) (sym objects) ∙ q) k);
         kept = λ k q. refl;
         bytes = pushed_numbers back v1 saved.numbers;
+        left = λ port. kept_left w.inputs m.state v v1 saved.quiet.inputs z.left port ∙ ap (λ es. drop (reads_of port es) (w.inputs port)) (sym events);
         seen = saved.quiet.seen ∙ z.seen ∙ ap (λ i. accesses D place i) (sym events);
         safe = saved.quiet.safe ∙ z.safe;
       }
@@ -343,8 +344,8 @@ module _ (p : PlainIrProgram) (inputs : Inputs) (e : Env) (place entry_of : ℕ 
 
     -- ---- the call
 
-    pub call_follows : (n : ℕ) → ((j : ℕ) → j ≤ n → Statement j) → ((j : ℕ) → j ≤ n → Returns p inputs e place entry_of w f g aside was stack j)
-        → CallCase D p.functions inputs e slots hs bs place (setting_of p e place entry_of w f g s aside was a) labels g.code x.end w.selected.results f link stack n
+    pub call_follows : (n : ℕ) → ((j : ℕ) → j ≤ n → Statement j) → ((j : ℕ) → j ≤ n → Returns p e place entry_of w f g aside was stack j)
+        → CallCase D p.functions e slots hs bs place (setting_of p e place entry_of w f g s aside was a) labels g.code x.end w.selected.results f link stack n
     call_follows n below returns b to pc rest m v r z = by_function (slice_get p.functions b) refl
       where
         st : State
@@ -357,7 +358,7 @@ module _ (p : PlainIrProgram) (inputs : Inputs) (e : Env) (place entry_of : ℕ 
         there = r.inside b (0, omega arith, refl)
 
         by_function : (o : Option PlainIrFunction) → slice_get p.functions b ≡ o
-            → Follows D place e (suc n) m.state.work pc v (enter o (go_on p inputs e place entry_of w n) (record { code = g.code; rest = rest; temps = m.temps; to = to } ∷ stack) (machine no_temps st))
+            → Follows D place e (suc n) m.state.work pc v (enter o (go_on p e place entry_of w n) (record { code = g.code; rest = rest; temps = m.temps; to = to } ∷ stack) (machine no_temps st))
         by_function None is = tt
         by_function (Some gb) is =
             let need0 = without_result to need in
@@ -370,7 +371,7 @@ module _ (p : PlainIrProgram) (inputs : Inputs) (e : Env) (place entry_of : ℕ 
             let back = s1.2.0 in
             let s2 = has_parts e taken restore back s0.0 s1.2.2 in
             let room : back < 65536 = call_ends (entry_of b) s1.0 back s1.2.1 in
-            let ready : Ready D p.functions inputs e slots hs bs place (setting_of p e place entry_of w f g s aside was a) labels g.code x.end w.selected.results f link stack s0.0 rest = record { covered = r.covered.1; live = r.live; inside = λ c q. r.inside c (Contains-append_right (b ∷ []) (called_in rest) c q); stands = s0.2 } in
+            let ready : Ready D p.functions e slots hs bs place (setting_of p e place entry_of w f g s aside was a) labels g.code x.end w.selected.results f link stack s0.0 rest = record { covered = r.covered.1; live = r.live; inside = λ c q. r.inside c (Contains-append_right (b ∷ []) (called_in rest) c q); stands = s0.2 } in
             let v1 = block e save v in
             let form = save_form e slots h scratch x.scratch_stands need0 (register_places slots) (omega arith) in
             let saving = block_goes e save pc s1.0 v form.0 s1.1 in
@@ -391,6 +392,6 @@ module _ (p : PlainIrProgram) (inputs : Inputs) (e : Env) (place entry_of : ℕ 
             let waiting = returns_b n below returns b gb is there to r.covered.0 rest m v z back s0.0 s2.0 room s2.1 s2.2 ready in
             let start = begins b gb (s - 2) (aside_by aside scratch (16 * slots) s) v2.at active1 (frame ∷ stack) word in
             let matches = entered n below returns b gb is there to r.covered.0 rest m v z back s0.0 s2.0 room s2.1 s2.2 ready z st refl refl in
-            after D place e (code_steps save + 1) n (suc n) m.state.work st.work pc (e.word_of (entry_of b)) v v2 (enter (Some gb) (go_on p inputs e place entry_of w n) (frame ∷ stack) (machine no_temps st))
+            after D place e (code_steps save + 1) n (suc n) m.state.work st.work pc (e.word_of (entry_of b)) v v2 (enter (Some gb) (go_on p e place entry_of w n) (frame ∷ stack) (machine no_temps st))
             (goes_on_to e (code_steps save) 1 pc s1.0 (e.word_of (entry_of b)) v v1 v2 saving calling) (omega arith) (omega (arith, most))
             (below n (omega arith) b gb (s - 2) (aside_by aside scratch (16 * slots) s) v2.at active1 (frame ∷ stack) waiting (e.word_of (entry_of b)) gb.code (machine no_temps st) v2 start matches)

@@ -36,7 +36,7 @@ use Rattle.ec_select_functions.specs.Code.{same_location, move_code, reversed_co
 use Rattle.ec_select_functions.specs.Needs.{Need, at_least, without, wanted}
 use Rattle.ec_select_functions.proofs.Setting.{Setting}
 use Rattle.ec_select_functions.specs.Relation.{HoldsContent, Matches}
-use Rattle.ec_select_functions.proofs.Match.{wanted_most, least_here, least_other, without_other, at_width}
+use Rattle.ec_select_functions.proofs.Match.{kept_left, wanted_most, least_here, least_other, without_other, at_width}
 use Rattle.ec_select_functions.proofs.Match.{read_first, written, held_row}
 use Rattle.ec_select_functions.proofs.Moves.{Frame, wider_frame, work_outside, narrower, numbers_kept, row_kept}
 use Rattle.ec_select_functions.proofs.Moves.{row_value, stands_less, Moves, move_holds}
@@ -274,7 +274,7 @@ work_after v1 v2 b n h f there =
 
 module _ (p : PlainProgram) (e : Env) (slots : ℕ) (home : Temp → Location) (base : Temp → ℕ) (place : ℕ → ℕ) (y : Setting p e slots home base place) where
   abbrev N : Need → Mach → View → Type 0
-  N need m v = Matches p slots base place y.aside y.was need m v
+  N need m v = Matches p y.inputs slots base place y.aside y.was need m v
 
   -- the low bytes of a temporary stand at its base
   pub stand : (t : Temp) (n : ℕ) → HasHome slots t → n ≤ t.bytes → StandsFrom e (home t) n (base t) Own
@@ -293,7 +293,7 @@ module _ (p : PlainProgram) (e : Env) (slots : ℕ) (home : Temp → Location) (
       let k = constants_are_right e (home t) w (base t) low v (stand t w it most) (narrower (base t) t.bytes w 30 most (work_outside (base t) t.bytes (y.layout.temps_work t it))) in
       let frame : Frame v v1 (base t) w = λ i a b d o. k.same i d o in
       let numbers = numbers_kept v v1 (base t) w z.bytes frame (λ j l. rw (k.there j l) (byte_below low j)) (k.work (z.bytes 30 (omega arith))) in
-      written p e slots home base place y t (bits own) need (without t.at need) m (worked c m.state) v v1 it z (λ u q. without_other t.at u need q) (wider_frame v v1 (base t) t.bytes w most frame) (value_of_bytes v1.at (base t) w low k.there ∙ low_part n w 16 (let room = it.most in omega arith) ∙ sym (low_part n w t.bytes most), low_below t.bytes n) numbers refl (k.seen ∙ z.seen) (k.safe ∙ z.safe)
+      written p e slots home base place y t (bits own) need (without t.at need) m (worked c m.state) v v1 it z (λ u q. without_other t.at u need q) (wider_frame v v1 (base t) t.bytes w most frame) (value_of_bytes v1.at (base t) w low k.there ∙ low_part n w 16 (let room = it.most in omega arith) ∙ sym (low_part n w t.bytes most), low_below t.bytes n) numbers refl (k.seen ∙ z.seen) (kept_left y.inputs m.state v v1 (k.inputs) z.left) (k.safe ∙ z.safe)
 
   -- a temporary that was moved holds the content
   moved_content : (v v1 : View) (a b n bytes : ℕ) (c : Content) → Moves v v1 a b n → HoldsContent v.at a n bytes c
@@ -322,7 +322,7 @@ module _ (p : PlainProgram) (e : Env) (slots : ℕ) (home : Temp → Location) (
       let wide : n ≤ wanted need0 u = omega (arith, there, less) in
       let content = at_width p e slots home base place y need0 m v u h n z iu q w wide in
       let here = moved_content v v1 (base u) (base t) n u.bytes h.content k content in
-      written p e slots home base place y t h.content need need0 m (worked c m.state) v v1 it z (λ i r. still i r) (wider_frame v v1 (base t) t.bytes n most k.frame) (subst (λ b. HoldsContent v1.at (base t) n b h.content) (sym same) here) (moved_numbers v v1 (base u) (base t) n some z.bytes k) refl (k.quiet.seen ∙ z.seen) (k.quiet.safe ∙ z.safe)
+      written p e slots home base place y t h.content need need0 m (worked c m.state) v v1 it z (λ i r. still i r) (wider_frame v v1 (base t) t.bytes n most k.frame) (subst (λ b. HoldsContent v1.at (base t) n b h.content) (sym same) here) (moved_numbers v v1 (base u) (base t) n some z.bytes k) refl (k.quiet.seen ∙ z.seen) (kept_left y.inputs m.state v v1 (k.quiet.inputs) z.left) (k.quiet.safe ∙ z.safe)
     where
       still : (i : ℕ) → i ≢ t.at → need i ≤ at_least u.at (wanted need t) (without t.at need) i
       still i r =
@@ -368,7 +368,7 @@ module _ (p : PlainProgram) (e : Env) (slots : ℕ) (home : Temp → Location) (
       let work : v2.at 30 < 256 = work_after v1 v2 (base t) n numbers1 o.keeps.same o.numbers in
       let numbers2 = numbers_kept v1 v2 (base t) n numbers1 frame2 o.numbers work in
       rw (block-append e (move_code (home a) (home t) n) (operate_code op (home b) (home t) n) v)
-      (written p e slots home base place y t (bits (result_of op t.bytes x z)) need need0 m (worked c m.state) v v2 it h (λ i r. still i r) frame (result, result_below op t.bytes x z) numbers2 refl (o.keeps.seen ∙ k.quiet.seen ∙ h.seen) (o.keeps.safe ∙ k.quiet.safe ∙ h.safe))
+      (written p e slots home base place y t (bits (result_of op t.bytes x z)) need need0 m (worked c m.state) v v2 it h (λ i r. still i r) frame (result, result_below op t.bytes x z) numbers2 refl (o.keeps.seen ∙ k.quiet.seen ∙ h.seen) (kept_left y.inputs m.state v v2 (o.keeps.inputs ∙ k.quiet.inputs) h.left) (o.keeps.safe ∙ k.quiet.safe ∙ h.safe))
     where
       still : (i : ℕ) → i ≢ t.at → need i ≤ at_least a.at (wanted need t) (at_least b.at (wanted need t) (without t.at need)) i
       still i r =
@@ -410,7 +410,7 @@ module _ (p : PlainProgram) (e : Env) (slots : ℕ) (home : Temp → Location) (
       let frame = wider_frame v v1 (base t) t.bytes n most frame1 in
       let work : v1.at 30 < 256 = work_after v v1 (base t) n h.bytes o.keeps.same o.numbers in
       let numbers1 = numbers_kept v v1 (base t) n h.bytes frame1 o.numbers work in
-      written p e slots home base place y t (bits (result_of op t.bytes x z)) need need0 m (worked c m.state) v v1 it h (λ i r. still i r) frame (result, result_below op t.bytes x z) numbers1 refl (o.keeps.seen ∙ h.seen) (o.keeps.safe ∙ h.safe)
+      written p e slots home base place y t (bits (result_of op t.bytes x z)) need need0 m (worked c m.state) v v1 it h (λ i r. still i r) frame (result, result_below op t.bytes x z) numbers1 refl (o.keeps.seen ∙ h.seen) (kept_left y.inputs m.state v v1 (o.keeps.inputs) h.left) (o.keeps.safe ∙ h.safe)
     where
       still : (i : ℕ) → i ≢ t.at → need i ≤ at_least a.at (wanted need t) (at_least b.at (wanted need t) (without t.at need)) i
       still i r =

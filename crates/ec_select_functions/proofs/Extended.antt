@@ -30,7 +30,7 @@ use Rattle.ec_select_functions.specs.Needs.{Need, at_least, without, wanted}
 use Rattle.ec_select_functions.proofs.Setting.{Setting}
 use Rattle.ec_select_functions.specs.Relation.{Matches}
 use Rattle.ec_select_functions.proofs.Computed.{work_after}
-use Rattle.ec_select_functions.proofs.Match.{wanted_most, least_here, least_other, without_other, at_width}
+use Rattle.ec_select_functions.proofs.Match.{kept_left, wanted_most, least_here, least_other, without_other, at_width}
 use Rattle.ec_select_functions.proofs.Match.{read_first, written}
 use Rattle.ec_select_functions.proofs.Moves.{Frame, Quiet, wider_frame, numbers_kept, row_value, stands_less, Moves}
 use Rattle.ec_select_functions.proofs.Moves.{move_holds}
@@ -145,7 +145,7 @@ shortened signed n w low l =
 
 module _ (p : PlainProgram) (e : Env) (slots : ℕ) (home : Temp → Location) (base : Temp → ℕ) (place : ℕ → ℕ) (y : Setting p e slots home base place) where
   abbrev C : Need → Mach → View → Type 0
-  C need m v = Matches p slots base place y.aside y.was need m v
+  C need m v = Matches p y.inputs slots base place y.aside y.was need m v
 
   -- what a conversion leaves
   pub record Converted (signed : Bool) (t : Temp) (bytes n low : ℕ) (v w : View) : Type 0 where
@@ -257,7 +257,7 @@ module _ (p : PlainProgram) (e : Env) (slots : ℕ) (home : Temp → Location) (
       let k = converted signed t (home a) (base a) a.bytes n low v it ia.some (y.layout.temps_at a ia) (λ j l. read_first p e slots home base place y t a j it ia l) most content.1 z.bytes content.0 in
       let number = number_of_bytes signed a.bytes low in
       let result : value w.at (base t) n ≡ low_bytes t.bytes number % 256 ^ n = k.result ∙ sym (low_part number n t.bytes most) in
-      written p e slots home base place y t (bits (low_bytes t.bytes number)) need need0 m (worked c m.state) v w it z (λ i r. still i r) (wider_frame v w (base t) t.bytes n most k.frame) (result, low_below t.bytes number) k.numbers refl (k.quiet.seen ∙ z.seen) (k.quiet.safe ∙ z.safe)
+      written p e slots home base place y t (bits (low_bytes t.bytes number)) need need0 m (worked c m.state) v w it z (λ i r. still i r) (wider_frame v w (base t) t.bytes n most k.frame) (result, low_below t.bytes number) k.numbers refl (k.quiet.seen ∙ z.seen) (kept_left y.inputs m.state v w (k.quiet.inputs) z.left) (k.quiet.safe ∙ z.safe)
     where
       still : (i : ℕ) → i ≢ t.at → need i ≤ at_least a.at (wanted need t) (without t.at need) i
       still i r =

@@ -12,12 +12,13 @@ use Rattle.ec_asm.proofs.Hoare.{goes_on_to}
 use Rattle.ec_core.specs.declared.values.Undefined.TheVariants.{Unset}
 use Rattle.ec_core.specs.declared.values.Value.{Value}
 use Rattle.ec_core.specs.declared.values.Value.TheVariants.{Number}
-use Rattle.ec_core.specs.Meaning.{number_of}
+use Rattle.ec_core.specs.Meaning.{number_of, state_of}
 use Rattle.ec_core.specs.Plain.{integer, void, PlainProgram}
 use Rattle.ec_core.specs.State.{State, Outcome, got, more, undefined, next, given}
 use Rattle.ec_ir.specs.declared.operations.Temp.{Temp}
 use Rattle.ec_ir.specs.Meaning.{held_as}
 use Rattle.ec_ir.specs.Temporaries.{Content, bits, points, value_in, Held, Temps, read_held, held, number_of_bytes}
+use Rattle.ec_select_functions.specs.Kept.{are_on_ports}
 use Rattle.ec_select_functions.specs.Relation.{accesses}
 
 -- ---- what a run shows
@@ -45,10 +46,11 @@ pub record Finished (p : PlainProgram) (place : ℕ → ℕ) (e : Env) (w pc : �
   pub safe : last.safe ≡ true
   pub result : cast_signed w16 (pair last.at 24) ≡ number_of x
 
--- what the code does for an outcome of the operations, of which n that count are made
+-- what the code does for an outcome of the operations, of which n that count are made, and which have accessed none but
+-- ports of the machine
 abbrev pub Follows : PlainProgram → (ℕ → ℕ) → Env → (n w pc : ℕ) → View → Outcome Value → Type 0
-Follows p place e n w pc v (more s) = Shown p place e n w pc v s
-Follows p place e n w pc v (got x s) = Finished p place e w pc v x s
+Follows p place e n w pc v (more s) = are_on_ports e s.events ≡ true → Shown p place e n w pc v s
+Follows p place e n w pc v (got x s) = are_on_ports e s.events ≡ true → Finished p place e w pc v x s
 Follows p place e n w pc v (undefined point s) = ⊤
 
 -- ---- outcomes
@@ -66,11 +68,15 @@ module _ (p : PlainProgram) (place : ℕ → ℕ) (e : Env) where
   -- a run that goes on
   pub after : (k n n1 w w1 pc pc1 : ℕ) (v v1 : View) (o : Outcome Value) → Goes e k pc v pc1 v1 → n1 ≤ k + n
       → w + k ≤ w1 → F n w1 pc1 v1 o → F n1 w pc v o
-  after k n n1 w w1 pc pc1 v v1 (more s) g a b f =
+  after k n n1 w w1 pc pc1 v v1 (more s) g a b h =
+      λ ports.
+      let f = h ports in
       let l = f.least in
       let m = f.most in
       record { steps = k + f.steps; to = f.to; last = f.last; least = omega arith; most = omega arith; goes = goes_on_to e k f.steps pc pc1 f.to v v1 f.last g f.goes; seen = f.seen; safe = f.safe }
-  after k n n1 w w1 pc pc1 v v1 (got x s) g a b f =
+  after k n n1 w w1 pc pc1 v v1 (got x s) g a b h =
+      λ ports.
+      let f = h ports in
       let m = f.most in
       record { steps = k + f.steps; to = f.to; last = f.last; most = omega arith; goes = goes_on_to e k f.steps pc pc1 f.to v v1 f.last g f.goes; stop = f.stop; seen = f.seen; safe = f.safe; result = f.result }
   after k n n1 w w1 pc pc1 v v1 (undefined point s) g a b f = tt
@@ -78,7 +84,14 @@ module _ (p : PlainProgram) (place : ℕ → ℕ) (e : Env) where
   -- nothing has been done
   pub stay : (pc : ℕ) (v : View) (s : State) → v.seen ≡ accesses p place s.events → v.safe ≡ true
       → F 0 s.work pc v (more s)
-  stay pc v s seen safe = record { steps = 0; to = pc; last = v; least = omega arith; most = omega arith; goes = record { by = refl }; seen = seen; safe = safe }
+  stay pc v s seen safe ports = record { steps = 0; to = pc; last = v; least = omega arith; most = omega arith; goes = record { by = refl }; seen = seen; safe = safe }
+
+  -- where ports of the machine alone are accessed
+  pub with_ports : (n w pc : ℕ) (v : View) (o : Outcome Value) → (are_on_ports e (state_of o).events ≡ true → F n w pc v o)
+      → F n w pc v o
+  with_ports n w pc v (more s) f = λ ports. f ports ports
+  with_ports n w pc v (got x s) f = λ ports. f ports ports
+  with_ports n w pc v (undefined point s) f = tt
 
   -- a temporary that is read
   pub from_held : (t : Temp) (temps : Temps) (s : State) (go : Content → State → Outcome Value) (n w pc : ℕ)
@@ -98,7 +111,7 @@ module _ (p : PlainProgram) (place : ℕ → ℕ) (e : Env) where
   abbrev held_of : ℕ → Content → Held
   held_of bytes content = record { bytes = bytes; content = content }
 
-  held_is : (h : Held) (b : ℕ) (c : Content) → h.bytes ≡ b → h.content ≡ c → h ≡ record { bytes = b; content = c }
+  pub held_is : (h : Held) (b : ℕ) (c : Content) → h.bytes ≡ b → h.content ≡ c → h ≡ record { bytes = b; content = c }
   held_is h b c q r = ap (λ a. held_of a h.content) q ∙ ap (held_of b) r
 
   -- one that holds a number of a type

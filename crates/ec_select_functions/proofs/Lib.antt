@@ -3,8 +3,17 @@ pub mod Moves
 pub mod Match
 pub mod Computed
 pub mod Accesses
+pub mod FixedRuns
 pub mod Follow
+pub mod PortBytes
+pub mod PortStates
+pub mod PortReads
+pub mod PortPoints
+pub mod PortForms
+pub mod PortMatch
+pub mod Fronts
 pub mod Numbers
+pub mod Numeric
 pub mod Steps
 pub mod Extended
 pub mod Emits

@@ -12,7 +12,7 @@ use Rattle.ec_asm.proofs.Sum.{value-same}
 use Rattle.ec_core.specs.declared.values.Value.{Value}
 use Rattle.ec_core.specs.declared.values.Value.TheVariants.{Number, Pointer}
 use Rattle.ec_core.specs.Plain.{PlainProgram}
-use Rattle.ec_core.specs.State.{State}
+use Rattle.ec_core.specs.State.{Inputs, State}
 use Rattle.ec_ir.specs.declared.operations.Temp.{Temp}
 use Rattle.ec_ir.specs.Meaning.{Mach, machine}
 use Rattle.ec_ir.specs.Temporaries.{Content, bits, points, Held, with_content}
@@ -20,7 +20,7 @@ use Rattle.ec_select_functions.specs.Homes.{HasHome}
 use Rattle.ec_select_functions.specs.Needs.{Need, at_least, without, wanted}
 use Rattle.ec_select_functions.specs.Places.{NumberLeaf, Apart}
 use Rattle.ec_select_functions.proofs.Setting.{Setting}
-use Rattle.ec_select_functions.specs.Relation.{accesses, HoldsContent, HoldsLeaf, Matches}
+use Rattle.ec_select_functions.specs.Relation.{accesses, AreLeft, HoldsContent, HoldsLeaf, Matches}
 use Rattle.ec_select_functions.proofs.Moves.{Frame, Wide, widened, row_kept_wide}
 
 -- ---- contents
@@ -67,9 +67,14 @@ without_other at place need q = grind (arith, nat_tests)
 pub held_row : (v : View) (a n : ℕ) → 2 ≤ a → HoldsNumbers v → AreHeld v.at a n
 held_row v a n some h j l = h (a + j) (omega arith)
 
+-- where the inputs are kept
+pub kept_left : (inputs : Inputs) (s : State) (v v1 : View) → v1.inputs ≡ v.inputs → AreLeft inputs s v
+    → AreLeft inputs s v1
+kept_left inputs s v v1 q h port = ap (λ f. f port) q ∙ h port
+
 module _ (p : PlainProgram) (e : Env) (slots : ℕ) (home : Temp → Location) (base : Temp → ℕ) (place : ℕ → ℕ) (y : Setting p e slots home base place) where
   abbrev pub M : Need → Mach → View → Type 0
-  M need m v = Matches p slots base place y.aside y.was need m v
+  M need m v = Matches p y.inputs slots base place y.aside y.was need m v
 
   -- fewer bytes of a temporary that is read
   pub at_width : (need : Need) (m : Mach) (v : View) (t : Temp) (h : Held) (n : ℕ) → M need m v → HasHome slots t
@@ -90,6 +95,7 @@ module _ (p : PlainProgram) (e : Env) (slots : ℕ) (home : Temp → Location) (
     leaves_hold = z.leaves_hold;
     kept = z.kept;
     bytes = z.bytes;
+    left = z.left;
     seen = z.seen;
     safe = z.safe;
   }
@@ -155,12 +161,13 @@ module _ (p : PlainProgram) (e : Env) (slots : ℕ) (home : Temp → Location) (
   pub written_wide : (t : Temp) (c : Content) (need need0 : Need) (m : Mach) (s1 : State) (v v1 : View) → HasHome slots t
       → M need0 m v → ((u : ℕ) → u ≢ t.at → need u ≤ need0 u) → Wide v v1 (base t) t.bytes
       → HoldsContent v1.at (base t) (wanted need t) t.bytes c → HoldsNumbers v1 → s1.objects ≡ m.state.objects
-      → v1.seen ≡ accesses p place s1.events → v1.safe ≡ true → M need (machine (with_content t c m.temps) s1) v1
-  written_wide t c need need0 m s1 v v1 it z more frame here numbers objects seen safe = record {
+      → v1.seen ≡ accesses p place s1.events → AreLeft y.inputs s1 v1 → v1.safe ≡ true → M need (machine (with_content t c m.temps) s1) v1
+  written_wide t c need need0 m s1 v v1 it z more frame here numbers objects seen left safe = record {
     temps_hold = written_temp t c need need0 m v v1 it z more frame here;
     leaves_hold = λ l x u q w. same_leaf v.at v1.at (place l.object + l.at) l.bytes u (leaf_row t l v v1 it frame) (z.leaves_hold l x u (ap (λ o. slice_get o l.object) (sym objects) ∙ q) w);
     kept = λ k q. aside_kept t v v1 it frame k q ∙ z.kept k q;
     bytes = numbers;
+    left = left;
     seen = seen;
     safe = safe;
   }
@@ -169,6 +176,6 @@ module _ (p : PlainProgram) (e : Env) (slots : ℕ) (home : Temp → Location) (
   pub written : (t : Temp) (c : Content) (need need0 : Need) (m : Mach) (s1 : State) (v v1 : View) → HasHome slots t
       → M need0 m v → ((u : ℕ) → u ≢ t.at → need u ≤ need0 u) → Frame v v1 (base t) t.bytes
       → HoldsContent v1.at (base t) (wanted need t) t.bytes c → HoldsNumbers v1 → s1.objects ≡ m.state.objects
-      → v1.seen ≡ accesses p place s1.events → v1.safe ≡ true → M need (machine (with_content t c m.temps) s1) v1
-  written t c need need0 m s1 v v1 it z more frame here numbers objects seen safe =
-      written_wide t c need need0 m s1 v v1 it z more (widened v v1 (base t) t.bytes frame) here numbers objects seen safe
+      → v1.seen ≡ accesses p place s1.events → AreLeft y.inputs s1 v1 → v1.safe ≡ true → M need (machine (with_content t c m.temps) s1) v1
+  written t c need need0 m s1 v v1 it z more frame here numbers objects seen left safe =
+      written_wide t c need need0 m s1 v v1 it z more (widened v v1 (base t) t.bytes frame) here numbers objects seen left safe

@@ -151,7 +151,7 @@ stays e p q n a b v sa sb same h = record {
   quiet = record { inputs = refl; safe = refl; seen = refl };
 }
 
-copied : (e : Env) (p q : Location) (n a b : ℕ) (v : View) → StandsFrom e p n a Own → StandsFrom e q n b Own
+pub copied : (e : Env) (p q : Location) (n a b : ℕ) (v : View) → StandsFrom e p n a Own → StandsFrom e q n b Own
     → IsReadFirst a b n → HoldsNumbers v → Moves v (block e (copy_code p q n) v) a b n
 copied e p q n a b v sa sb far h =
     let c = copy_holds e p q n a b Own Own v sa sb refl refl far in

@@ -1,10 +1,10 @@
 -- Programs of several functions: the machine reaches all that the operations show, and stays within it.
-use Rattle.std.proofs.Common.{◌≡◌, ℕ, zero, suc, ◌+◌, ◌-◌, ◌*◌, ◌%◌, ◌<◌, ◌≤◌, ⊎_elim, Bool, true, ◌||◌, List, []}
+use Rattle.std.proofs.Common.{◌≡◌, ℕ, zero, suc, ◌+◌, ◌-◌, ◌*◌, ◌%◌, ◌<◌, ◌≤◌, ⊎_elim, Bool, true, false, ◌||◌, List, []}
 use Rattle.std.proofs.Common.{refl, sym, ap, ◌∙◌, subst, arith, Option, Some, None, ℤ, eqb-true}
-use Rattle.std.specs.Prelude.{◌==◌, nat_le, slice_get}
+use Rattle.std.specs.Prelude.{◌==◌, nat_le, if◌then◌else◌, slice_get, slice_index}
 use Rattle.std.specs.Int.{cast_signed, w16}
 use Rattle.std.proofs.lemmas.Bool.{cases_lt, le-leb, or_cases, or_right}
-use Rattle.ec_runs.specs.Behaviours.{Behaviour, Running, Ended, Reached, Reaches, seen_as}
+use Rattle.ec_runs.specs.Behaviours.{Behaviour, Running, Ended, Failed, Reached, Reaches, seen_as}
 use Rattle.ec_runs.proofs.Runs.{what_reaches_stays_within}
 use Rattle.ec_isa.specs.declared.instructions.Instr.TheVariants.{Break}
 use Rattle.ec_avr.specs.declared.machine.Access.{Access}
@@ -23,12 +23,14 @@ use Rattle.ec_asm.specs.Laws.{MachineRunsAsView, NotedRunsAreRuns}
 use Rattle.ec_asm.proofs.Behaves.{goes_on_noted, ends_noted}
 use Rattle.ec_asm.proofs.Ending.{runs_end}
 use Rattle.ec_core.specs.declared.values.Undefined.{Undefined}
+use Rattle.ec_core.specs.declared.values.Undefined.TheVariants.{Access as NoAccess}
 use Rattle.ec_core.specs.declared.values.Value.{Value}
+use Rattle.ec_core.specs.Laws.{BytesAreTakenInOrder}
 use Rattle.ec_core.specs.Meaning.{behaviour_of, state_of, number_of}
 use Rattle.ec_core.specs.Plain.{PlainProgram}
-use Rattle.ec_core.specs.State.{Inputs, State, Outcome, got, more, undefined}
+use Rattle.ec_core.specs.State.{Inputs, Event, State, Outcome, got, more, undefined}
 use Rattle.ec_core.specs.TypeLaws.{LeavesFillTheirTypes}
-use Rattle.ec_ir.specs.Meaning.{meaning, start, enter, exec, leave, run as ir_run}
+use Rattle.ec_ir.specs.Meaning.{start, enter, exec, leave, run as ir_run}
 use Rattle.ec_ir.specs.Operations.{PlainIrFunction, PlainIrProgram, data_of}
 use Rattle.ec_ir.specs.Temporaries.{Content, bits, points, Held}
 use Rattle.ec_ir.specs.Valid.{ValidIr}
@@ -36,10 +38,12 @@ use Rattle.ec_select_functions.specs.Code.{ops_code}
 use Rattle.ec_select_functions.specs.Homes.{home, result_register}
 use Rattle.ec_select_functions.specs.Laws.{HoldsStart, AreSelected, IsEntered, linkage_of, within_steps}
 use Rattle.ec_select_functions.specs.Laws.{HoldsUnlessFailed, ShowsOperations, CodeFollowsOperations}
+use Rattle.ec_select_functions.specs.Kept.{are_on_ports, on_ports, meaning_on}
 use Rattle.ec_select_functions.specs.Needs.{needs}
 use Rattle.ec_select_functions.specs.Places.{NumberLeaf}
 use Rattle.ec_select_functions.specs.Relation.{accesses, HoldsContent, Matches}
-use Rattle.ec_select_functions.proofs.Active.{World, Active, in_row, row_parts, row_from, homes_of, scratch_of}
+use Rattle.ec_select_functions.proofs.Setting.{FixedLaws}
+use Rattle.ec_select_functions.proofs.Active.{World, Active, in_row, row_parts, row_from, homes_of, scratch_of, stack_work}
 use Rattle.ec_select_functions.proofs.Active.{base_of, leaf_at, leaf_is, setting_of, selected_of, stack_scratch}
 use Rattle.ec_select_functions.proofs.Active.{stack_leaf}
 use Rattle.ec_select_functions.proofs.Called.{Statement, call_follows}
@@ -54,17 +58,19 @@ pub record CodeLaws : Type 0 where
   pub views : MachineRunsAsView
   pub runs : NotedRunsAreRuns
   pub fill : LeavesFillTheirTypes
+  pub taken : BytesAreTakenInOrder
+  pub fixed : FixedLaws
 
 -- ---- all functions, by the operations that count
 
-module _ (p : PlainIrProgram) (inputs : Inputs) (e : Env) (place entry_of : ℕ → ℕ) (w : World p e place entry_of) where
+module _ (p : PlainIrProgram) (e : Env) (place entry_of : ℕ → ℕ) (w : World p e place entry_of) where
   abbrev D : PlainProgram
   D = data_of p
 
-  none_made : Statement p inputs e place entry_of w 0
+  none_made : Statement p e place entry_of w 0
   none_made f g s aside was a stack returns pc rest m v r h = stay D place e pc v m.state h.seen h.safe
 
-  one_more : (n : ℕ) → ((j : ℕ) → j ≤ n → Statement p inputs e place entry_of w j) → Statement p inputs e place entry_of w (suc n)
+  one_more : (n : ℕ) → ((j : ℕ) → j ≤ n → Statement p e place entry_of w j) → Statement p e place entry_of w (suc n)
   one_more n below f g s aside was a stack returns =
       let x = selected_of p e place entry_of w f g a.is in
       let labels = (w.selected.made f).labels in
@@ -73,22 +79,22 @@ module _ (p : PlainIrProgram) (inputs : Inputs) (e : Env) (place entry_of : ℕ 
       let bs = base_of p e place entry_of w f in
       let setting = setting_of p e place entry_of w f g s aside was a in
       let stands = x.stands in
-      let ready : Ready D p.functions inputs e g.slots hs bs place setting labels g.code x.end w.selected.results f link stack stands.0 g.code = record { covered = x.covered; live = x.live; inside = λ b q. q; stands = stands.2 } in
-      follows D p.functions inputs e g.slots hs bs place setting labels g.code x.end w.selected.results f link stack stands.0 ready n
+      let ready : Ready D p.functions e g.slots hs bs place setting labels g.code x.end w.selected.results f link stack stands.0 g.code = record { covered = x.covered; live = x.live; inside = λ b q. q; stands = stands.2 } in
+      follows D p.functions e g.slots hs bs place setting labels g.code x.end w.selected.results f link stack stands.0 ready n
       (below n (omega arith) f g s aside was a stack (λ j l. returns j (omega arith)))
-      (call_follows p inputs e place entry_of w f g s aside was a stack n below (λ j l. returns j (omega arith)))
-      (return_follows p inputs e place entry_of w f g s aside was a stack n (returns n (omega arith)))
+      (call_follows p e place entry_of w f g s aside was a stack n below (λ j l. returns j (omega arith)))
+      (return_follows p e place entry_of w f g s aside was a stack n (returns n (omega arith)))
 
-  up_to : (n j : ℕ) → j ≤ n → Statement p inputs e place entry_of w j
+  up_to : (n j : ℕ) → j ≤ n → Statement p e place entry_of w j
   up_to zero zero l = none_made
   up_to zero (suc j) l = absurd (omega arith)
   up_to (suc n) j l =
       ⊎_elim
       (λ (q : j < suc n). up_to n j (omega arith))
-      (λ (q : suc n ≤ j). let z : suc n ≡ j = omega arith in subst (λ i. Statement p inputs e place entry_of w i) z (one_more n (up_to n)))
+      (λ (q : suc n ≤ j). let z : suc n ≡ j = omega arith in subst (λ i. Statement p e place entry_of w i) z (one_more n (up_to n)))
       (cases_lt j (suc n))
 
-  pub all_functions : (n : ℕ) → Statement p inputs e place entry_of w n
+  pub all_functions : (n : ℕ) → Statement p e place entry_of w n
   all_functions n = up_to n n (omega arith)
 
 -- ---- main, at the bottom of the stack
@@ -105,12 +111,16 @@ module _ (s k : ℕ) (P : Type 0) where
       (λ q. let z = row_parts (s + 1) 2 k q in i z.0 z.1)
       (or_cases (k == 93 || k == 94) (in_row (s + 1) 2 k) h)
 
-module _ (laws : CodeLaws) (p : PlainIrProgram) (place entry_of : ℕ → ℕ) (e : Env) (size low : ℕ) (s : MachineState) (v : View) (inputs : Inputs) (valid : ValidIr p) (fit : Fits e size) (shows : Shows e size s.mem v) (begin : HoldsStart (data_of p) place v) (selected : AreSelected p e place entry_of) (enters : IsEntered p e low (entry_of p.main) s.pc v) where
+module _ (laws : CodeLaws) (p : PlainIrProgram) (place entry_of : ℕ → ℕ) (e : Env) (size low : ℕ) (s : MachineState) (v : View) (inputs : Inputs) (valid : ValidIr p) (fit : Fits e size) (shows : Shows e size s.mem v) (feeds : (port : ℕ) → v.inputs port ≡ inputs port) (begin : HoldsStart (data_of p) place v) (selected : AreSelected p e place entry_of) (enters : IsEntered p e low (entry_of p.main) s.pc v) where
   abbrev w : World p e place entry_of
   w = record {
     selected = selected;
     valid = valid;
     fill = laws.fill;
+    inputs = inputs;
+    feeds = λ port k. subst (λ (bytes : List ℕ). slice_index bytes k < 256) (feeds port) (shows.feeds port k);
+    taken = laws.taken;
+    fixed = laws.fixed;
     low = low;
     top = sp v + 2;
     high = enters.high;
@@ -136,6 +146,8 @@ module _ (laws : CodeLaws) (p : PlainIrProgram) (place entry_of : ℕ → ℕ) (
         own = λ k q. other p.main g is k q;
         others = λ b h to is1 k q. other b h is1 k q;
         free = λ k q l. first_cases (sp v) k (sp v < k) q (λ r. absurd (omega arith)) (λ r. absurd (omega arith)) (λ i m. omega arith);
+        work = λ k q. (let above = selected.work_stands.high in first_cases (sp v) k (Outside selected.work 64 k) q (λ r z. absurd (omega arith)) (λ r z. absurd (omega arith))
+            (λ l m. stack_work p e place entry_of w k (enters.stacked k (omega arith) (omega arith))));
         pointer_low = refl;
         pointer_high = refl;
         pointer = refl;
@@ -159,9 +171,9 @@ module _ (laws : CodeLaws) (p : PlainIrProgram) (place entry_of : ℕ → ℕ) (
           first_cases (sp v) k (Outside (scratch_of p e place entry_of w b) (16 * h.slots) k) q (λ r z. absurd (omega arith)) (λ r z. absurd (omega arith)) (λ l m. stack_scratch p e place entry_of w b h is1 k (enters.stacked k (omega arith) (omega arith)))
 
   -- it returns to the BREAK
-  module _ (g : PlainIrFunction) (is : slice_get p.functions p.main ≡ Some g) (j : ℕ) (st : State) (u : View) (spent : ℕ) (credit : spent + 64 ≤ st.work) (left : Left p inputs e place entry_of w g p.main (first_aside (sp v)) v.at st u) where
+  module _ (g : PlainIrFunction) (is : slice_get p.functions p.main ≡ Some g) (j : ℕ) (st : State) (u : View) (spent : ℕ) (credit : spent + 64 ≤ st.work) (left : Left p e place entry_of w g p.main (first_aside (sp v)) v.at st u) where
     pointer_u : sp u ≡ sp v
-    pointer_u = pointer_is p inputs e place entry_of w p.main g (sp v) (first_aside (sp v)) v.at (active g is) [] _ _ u left
+    pointer_u = pointer_is p e place entry_of w p.main g (sp v) (first_aside (sp v)) v.at (active g is) [] _ _ u left
 
     stack_kept : (k : ℕ) → sp v + 1 ≤ k → k < sp v + 1 + 2 → u.at k ≡ v.at k
     stack_kept k l m = left.kept k (or_right (k == 93 || k == 94) (in_row (sp v + 1) 2 k) (row_from (sp v + 1) 2 k l m))
@@ -178,9 +190,10 @@ module _ (laws : CodeLaws) (p : PlainIrProgram) (place entry_of : ℕ → ℕ) (
     stops : fetch e (back_at u % 65536) ≡ Some Break
     stops = ap (λ n. fetch e (n % 65536)) same_back ∙ enters.stop
 
-    bottom : (result : Option Held) → HandsOn p inputs e place entry_of w p.main result u
-        → Follows program_data place e j spent (back_at u % 65536) (popped u) (leave [] result (go_on p inputs e place entry_of w j) st)
+    bottom : (result : Option Held) → HandsOn p e place entry_of w p.main result u
+        → Follows program_data place e j spent (back_at u % 65536) (popped u) (leave [] result (go_on p e place entry_of w j) st)
     bottom None hands =
+        λ ports.
         let word : pair u.at 24 ≡ 0 = hands refl in
         record {
           steps = 0;
@@ -199,9 +212,10 @@ module _ (laws : CodeLaws) (p : PlainIrProgram) (place entry_of : ℕ → ℕ) (
         two = hands.0 ∙ selected.main_result
 
         by_content : (x : Content) → HoldsContent u.at (result_register c.bytes) c.bytes c.bytes x
-            → Follows program_data place e j spent (back_at u % 65536) (popped u) (leave [] (Some (record { bytes = c.bytes; content = x })) (go_on p inputs e place entry_of w j) st)
+            → Follows program_data place e j spent (back_at u % 65536) (popped u) (leave [] (Some (record { bytes = c.bytes; content = x })) (go_on p e place entry_of w j) st)
         by_content (points q) content = absurd content
         by_content (bits number) content =
+            λ ports.
             let content2 : HoldsContent u.at (result_register 2) 2 2 (bits number) = subst (λ n. HoldsContent u.at (result_register n) n n (bits number)) two content in
             let below : number < 65536 = content2.1 in
             let moved : value u.at 24 2 ≡ number % 65536 = content2.0 in
@@ -219,15 +233,16 @@ module _ (laws : CodeLaws) (p : PlainIrProgram) (place entry_of : ℕ → ℕ) (
             }
 
   returns : (g : PlainIrFunction) (is : slice_get p.functions p.main ≡ Some g) (j : ℕ)
-      → Returns p inputs e place entry_of w p.main g (first_aside (sp v)) v.at [] j
+      → Returns p e place entry_of w p.main g (first_aside (sp v)) v.at [] j
   returns g is j result st u spent credit hands left = bottom g is j st u spent credit left result hands
 
-  begun : (g : PlainIrFunction) → Matches program_data g.slots (base_of p e place entry_of w p.main) place (first_aside (sp v)) v.at (needs (selected.made p.main).labels g.code) (start program_data) v
+  begun : (g : PlainIrFunction) → Matches program_data inputs g.slots (base_of p e place entry_of w p.main) place (first_aside (sp v)) v.at (needs (selected.made p.main).labels g.code) (start program_data) v
   begun g = record {
     temps_hold = λ t h it q z. absurd cc;
     leaves_hold = begin.leaves;
     kept = λ k q. refl;
     bytes = begin.bytes;
+    left = feeds;
     seen = begin.seen;
     safe = begin.safe;
   }
@@ -247,8 +262,8 @@ module _ (laws : CodeLaws) (p : PlainIrProgram) (place entry_of : ℕ → ℕ) (
           let hs = home (homes_of p e place entry_of w p.main) in
           let here : x.pc ≡ s.pc = sym (stands.1.0 enters.word) ∙ sym enters.at in
           let mid : stands.0 ≡ s.pc = stands.1.1 ∙ here in
-          let ready : Ready program_data p.functions inputs e g.slots hs (base_of p e place entry_of w p.main) place (setting_of p e place entry_of w p.main g (sp v) (first_aside (sp v)) v.at a) labels g.code x.end selected.results p.main link [] s.pc g.code = record { covered = x.covered; live = x.live; inside = λ b q. q; stands = subst (λ i. HasAt e (ops_code p.objects hs link labels None g.code) i x.end) mid stands.2 } in
-          all_functions p inputs e place entry_of w n p.main g (sp v) (first_aside (sp v)) v.at a [] (λ j l. returns g is j) s.pc g.code (start program_data) v ready (begun g)
+          let ready : Ready program_data p.functions e g.slots hs (base_of p e place entry_of w p.main) place (setting_of p e place entry_of w p.main g (sp v) (first_aside (sp v)) v.at a) labels g.code x.end selected.results p.main link [] s.pc g.code = record { covered = x.covered; live = x.live; inside = λ b q. q; stands = subst (λ i. HasAt e (ops_code p.objects hs link labels None g.code) i x.end) mid stands.2 } in
+          all_functions p e place entry_of w n p.main g (sp v) (first_aside (sp v)) v.at a [] (λ j l. returns g is j) s.pc g.code (start program_data) v ready (begun g)
 
   -- ---- the machine
 
@@ -264,20 +279,31 @@ module _ (laws : CodeLaws) (p : PlainIrProgram) (place entry_of : ℕ → ℕ) (
       let b : run e (k + 1) (VRunning s.pc v) ≡ VEnded u = runs_end e k 0 s.pc to v u g stop in
       ends_noted e size (k + 1) v s u begin.seen (subst (RunsAs e size (k + 1) v s) b (laws.views e size (k + 1) s v fit shows) safe)
 
+  ends_same : (a b : List Access) (i j : ℤ) → a ≡ b → i ≡ j → ◌≡◌ {A = Behaviour Access ℤ MachineFault} (Ended a i) (Ended b j)
+  ends_same a b i j q r = ap (λ c. Ended c i) q ∙ ap (Ended b) r
+
+  -- where the operations accessed a port that the machine lacks, nothing is owed
   reached : (n : ℕ) (o : Outcome Value) → Follows program_data place e n 0 s.pc v o
-      → Reached (λ m. nat_le m ((state_of o).work + 1)) (noted_run e v.inputs s) n (seen_as (accesses program_data place) (behaviour_of o))
-  reached n (more r) f =
-      let most = f.most in
-      (f.steps, le-leb f.steps (r.work + 1) (omega arith), f.least, goes_noted f.steps f.to f.last f.goes f.safe ∙ ap Running f.seen)
-  reached n (got x r) f =
-      let most = f.most in
-      (f.steps + 1, le-leb (f.steps + 1) (r.work + 1) (omega arith), ends_at f.steps f.to f.last f.goes f.stop f.safe ∙ ends_same f.last.seen (accesses program_data place r.events) (cast_signed w16 (pair f.last.at 24)) (number_of x) f.seen f.result)
+      → Reached (λ m. nat_le m ((state_of o).work + 1)) (noted_run e v.inputs s) n (seen_as (accesses program_data place) (on_ports e (behaviour_of o)))
+  reached n (more r) f = by_ports (are_on_ports e r.events) refl
     where
-      ends_same : (a b : List Access) (i j : ℤ) → a ≡ b → i ≡ j → ◌≡◌ {A = Behaviour Access ℤ MachineFault} (Ended a i) (Ended b j)
-      ends_same a b i j q r = ap (λ c. Ended c i) q ∙ ap (Ended b) r
+      by_ports : (b : Bool) → are_on_ports e r.events ≡ b → Reached (λ m. nat_le m (r.work + 1)) (noted_run e v.inputs s) n (seen_as (accesses program_data place) (if b then Running r.events else Failed NoAccess))
+      by_ports false q = tt
+      by_ports true q =
+          let g = f q in
+          let most = g.most in
+          (g.steps, le-leb g.steps (r.work + 1) (omega arith), g.least, goes_noted g.steps g.to g.last g.goes g.safe ∙ ap Running g.seen)
+  reached n (got x r) f = by_ports (are_on_ports e r.events) refl
+    where
+      by_ports : (b : Bool) → are_on_ports e r.events ≡ b → Reached (λ m. nat_le m (r.work + 1)) (noted_run e v.inputs s) n (seen_as (accesses program_data place) (if b then Ended r.events (number_of x) else Failed NoAccess))
+      by_ports false q = tt
+      by_ports true q =
+          let g = f q in
+          let most = g.most in
+          (g.steps + 1, le-leb (g.steps + 1) (r.work + 1) (omega arith), ends_at g.steps g.to g.last g.goes g.stop g.safe ∙ ends_same g.last.seen (accesses program_data place r.events) (cast_signed w16 (pair g.last.at 24)) (number_of x) g.seen g.result)
   reached n (undefined point r) f = tt
 
-  reaches : Reaches (within_steps p inputs) (λ n. seen_as (accesses program_data place) (meaning p inputs n)) (noted_run e v.inputs s)
+  reaches : Reaches (within_steps p inputs) (λ n. seen_as (accesses program_data place) (meaning_on e p inputs n)) (noted_run e v.inputs s)
   reaches n = reached n (ir_run p inputs n) (entered n)
 
   -- ---- no barred access
@@ -294,20 +320,31 @@ module _ (laws : CodeLaws) (p : PlainIrProgram) (place entry_of : ℕ → ℕ) (
       let b : run e (k + 1) (VRunning s.pc v) ≡ VEnded u = ap (λ n. run e n (VRunning s.pc v)) q ∙ runs_end e steps (k - steps) s.pc to v u g stop in
       safe_earlier e k 1 (VRunning s.pc v) (subst (λ st. is_safe st ≡ true) (sym b) safe)
 
-  safe_at : (k : ℕ) (o : Outcome Value) → Follows program_data place e k 0 s.pc v o → HoldsUnlessFailed (behaviour_of o) (is_safe (run e k (VRunning s.pc v)))
-  safe_at k (more r) f = safe_upto k f.steps f.to f.last f.least f.goes f.safe
-  safe_at k (got x r) f =
-      ⊎_elim (λ l. safe_upto k f.steps f.to f.last (omega (arith, l)) f.goes f.safe)
-      (λ l. safe_past k f.steps f.to f.last l f.goes f.stop f.safe) (cases_lt k f.steps)
+  safe_at : (k : ℕ) (o : Outcome Value) → Follows program_data place e k 0 s.pc v o → HoldsUnlessFailed (on_ports e (behaviour_of o)) (is_safe (run e k (VRunning s.pc v)))
+  safe_at k (more r) f = by_ports (are_on_ports e r.events) refl
+    where
+      by_ports : (b : Bool) → are_on_ports e r.events ≡ b
+          → HoldsUnlessFailed {E = Event} {R = ℤ} (if b then Running r.events else Failed NoAccess) (is_safe (run e k (VRunning s.pc v)))
+      by_ports false q = tt
+      by_ports true q = let g = f q in safe_upto k g.steps g.to g.last g.least g.goes g.safe
+  safe_at k (got x r) f = by_ports (are_on_ports e r.events) refl
+    where
+      by_ports : (b : Bool) → are_on_ports e r.events ≡ b
+          → HoldsUnlessFailed (if b then Ended r.events (number_of x) else Failed NoAccess) (is_safe (run e k (VRunning s.pc v)))
+      by_ports false q = tt
+      by_ports true q =
+          let g = f q in
+          ⊎_elim (λ l. safe_upto k g.steps g.to g.last (omega (arith, l)) g.goes g.safe)
+          (λ l. safe_past k g.steps g.to g.last l g.goes g.stop g.safe) (cases_lt k g.steps)
   safe_at k (undefined point r) f = tt
 
   pub whole : ShowsOperations p place e v s inputs
   whole = record {
     reaches = reaches;
-    within = what_reaches_stays_within Access ℤ Undefined MachineFault (within_steps p inputs) (λ n. seen_as (accesses program_data place) (meaning p inputs n)) (noted_run e v.inputs s) (laws.runs e v.inputs s) reaches;
+    within = what_reaches_stays_within Access ℤ Undefined MachineFault (within_steps p inputs) (λ n. seen_as (accesses program_data place) (meaning_on e p inputs n)) (noted_run e v.inputs s) (laws.runs e v.inputs s) reaches;
     safe = λ k. safe_at k (ir_run p inputs k) (entered k);
   }
 
 pub code_follows_operations : CodeLaws → CodeFollowsOperations
-code_follows_operations laws p place entry_of e size low s v inputs valid fit shows begin selected enters =
-    whole laws p place entry_of e size low s v inputs valid fit shows begin selected enters
+code_follows_operations laws p place entry_of e size low s v inputs valid fit shows feeds begin selected enters =
+    whole laws p place entry_of e size low s v inputs valid fit shows feeds begin selected enters

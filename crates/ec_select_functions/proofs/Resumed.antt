@@ -27,7 +27,7 @@ use Rattle.ec_select_functions.specs.Relation.{HoldsContent, Matches}
 use Rattle.ec_select_functions.proofs.Active.{World, Active, homes_of, scratch_of, base_of, leaf_at, leaf_is}
 use Rattle.ec_select_functions.proofs.Active.{layout_of, setting_of, selected_of, aside_by, aside_before}
 use Rattle.ec_select_functions.proofs.Active.{aside_scratch, own_is_not_stacked, scratch_kind}
-use Rattle.ec_select_functions.proofs.Match.{same_content, same_leaf, wanted_most}
+use Rattle.ec_select_functions.proofs.Match.{kept_left, same_content, same_leaf, wanted_most}
 use Rattle.ec_select_functions.proofs.Moves.{Quiet, outside_row}
 use Rattle.ec_select_functions.proofs.Saved.{Saves, Restores, restores, kept, register, are_kept, register_ends}
 use Rattle.ec_select_functions.proofs.Saved.{register_apart}
@@ -218,7 +218,7 @@ module _ (p : PlainIrProgram) (e : Env) (place entry_of : ℕ → ℕ) (w : Worl
   -- ---- the whole
 
   abbrev MM : Need → Mach → View → Type 0
-  MM need m v = Matches D slots bs place aside was need m v
+  MM need m v = Matches D w.inputs slots bs place aside was need m v
 
   module _ (need : Need) (to : Option Temp) (it : HasPlace to) (m : Mach) (temps : Temps) (s1 : State) (back : ℕ) (v v1 u v4 : View)
       (before : MM (without_result to need) m v)
@@ -226,7 +226,7 @@ module _ (p : PlainIrProgram) (e : Env) (place entry_of : ℕ → ℕ) (w : Worl
       (saved : Saves e slots h scratch x.scratch_stands (without_result to need) v v1 (register_places slots))
       (pointer : sp v1 ≡ s) (first : w.low + 1 ≤ s)
       (b : ℕ) (gb : PlainIrFunction)
-      (left : Matches D gb.slots (base_of p e place entry_of w b) place (aside_by aside scratch (16 * slots) s) (pushed back v1).at nothing (machine no_temps s1) u)
+      (left : Matches D w.inputs gb.slots (base_of p e place entry_of w b) place (aside_by aside scratch (16 * slots) s) (pushed back v1).at nothing (machine no_temps s1) u)
       (pointer1 : sp u ≡ s - 2)
       (took : Took to (popped u) v4)
       (held : (t : Temp) (c : Held) → HasHome slots t → temps t.at ≡ Some c → c.bytes ≡ t.bytes
@@ -354,6 +354,7 @@ module _ (p : PlainIrProgram) (e : Env) (place entry_of : ℕ → ℕ) (w : Worl
       leaves_hold = λ l z y q k. same_leaf u.at v5.at (place l.object + l.at) l.bytes y (λ i r. leaf_back l i r) (left.leaves_hold l z y q k);
       kept = λ k q. (let above = a.high k q in loaded.same k (omega arith) (λ j y. outside_above need0 j k above) ∙ took.same k (omega arith) (omega arith) (omega arith) (outside_aside to k it q)) ∙ aside_back k q;
       bytes = loaded.numbers;
+      left = kept_left w.inputs s1 u v5 (loaded.quiet.inputs ∙ took.quiet.inputs) left.left;
       seen = loaded.quiet.seen ∙ took.quiet.seen ∙ left.seen;
       safe = loaded.quiet.safe ∙ took.quiet.safe ∙ left.safe;
     }

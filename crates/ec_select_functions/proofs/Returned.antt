@@ -1,7 +1,7 @@
 -- A return: the result is handed on, and what waits goes on.
 use Rattle.std.proofs.Common.{◌≡◌, ◌≢◌, ℕ, suc, ◌+◌, ◌*◌, ◌%◌, ◌^◌, ◌<◌, ◌≤◌, ⊎_elim, Bool, true, false, List, []}
 use Rattle.std.proofs.Common.{◌∷◌, ◌++◌, Option, Some, None, refl, sym, ap, ◌∙◌, subst, arith}
-use Rattle.std.specs.Prelude.{◌==◌, slice_get}
+use Rattle.std.specs.Prelude.{◌==◌, drop, slice_get}
 use Rattle.std.proofs.lemmas.Bool.{cases_eq, eq-eqb}
 use Rattle.ec_isa.specs.declared.instructions.Instr.TheVariants.{Ret}
 use Rattle.ec_avr.specs.State.{raised}
@@ -20,7 +20,7 @@ use Rattle.ec_asm.proofs.Calls.{return_goes}
 use Rattle.ec_asm.proofs.Hoare.{has_parts, block_goes, goes_on_to}
 use Rattle.ec_core.specs.declared.values.Value.{Value}
 use Rattle.ec_core.specs.Plain.{PlainProgram}
-use Rattle.ec_core.specs.State.{Inputs, State, worked, Outcome, got, next}
+use Rattle.ec_core.specs.State.{reads_of, State, worked, Outcome, got, next}
 use Rattle.ec_ir.specs.declared.operations.Temp.{Temp}
 use Rattle.ec_ir.specs.Costs.{op_steps}
 use Rattle.ec_ir.specs.Meaning.{Mach, machine, Frame as Call, Place, exec_from, leave}
@@ -39,18 +39,18 @@ use Rattle.ec_select_functions.proofs.Active.{World, Active, homes_of, scratch_o
 use Rattle.ec_select_functions.proofs.Active.{layout_of, setting_of, selected_of}
 use Rattle.ec_select_functions.proofs.Computed.{moved_numbers}
 use Rattle.ec_select_functions.proofs.Follow.{Follows, after, from_held, next_next}
-use Rattle.ec_select_functions.proofs.Match.{same_leaf, whole}
+use Rattle.ec_select_functions.proofs.Match.{kept_left, same_leaf, whole}
 use Rattle.ec_select_functions.proofs.Moves.{Quiet, move_holds, move_straight, move_steps, row_value}
 use Rattle.ec_select_functions.proofs.Standing.{result_bounds, result_ends}
 use Rattle.ec_select_functions.proofs.Steps.{ReturnCase}
 
-module _ (p : PlainIrProgram) (inputs : Inputs) (e : Env) (place entry_of : ℕ → ℕ) (w : World p e place entry_of) where
+module _ (p : PlainIrProgram) (e : Env) (place entry_of : ℕ → ℕ) (w : World p e place entry_of) where
   abbrev pub D : PlainProgram
   D = data_of p
 
   -- how a run goes on for so many operations
   abbrev pub go_on : ℕ → Place → Mach → Outcome Value
-  go_on n q u = exec_from p.functions D inputs n q.code q.stack q.rest u
+  go_on n q u = exec_from p.functions D w.inputs n q.code q.stack q.rest u
 
   -- the registers of a result. The result of main is 0 where it gives none
   abbrev pub HandsOn : ℕ → Option Held → View → Type 0
@@ -60,7 +60,7 @@ module _ (p : PlainIrProgram) (inputs : Inputs) (e : Env) (place entry_of : ℕ 
 
   -- what a return finds, and the state in which it leaves the objects
   abbrev pub Left : (g : PlainIrFunction) (f : ℕ) (aside : ℕ → Bool) (was : ℕ → ℕ) → State → View → Type 0
-  Left g f aside was s v = Matches D g.slots (base_of p e place entry_of w f) place aside was nothing (machine no_temps s) v
+  Left g f aside was s v = Matches D w.inputs g.slots (base_of p e place entry_of w f) place aside was nothing (machine no_temps s) v
 
   -- what waits goes on, of which n operations that count are made. 64 steps are left for it
   abbrev pub Returns : (f : ℕ) (g : PlainIrFunction) (aside : ℕ → Bool) (was : ℕ → ℕ) (stack : List Call) (n : ℕ) → Type 0
@@ -86,7 +86,7 @@ module _ (p : PlainIrProgram) (inputs : Inputs) (e : Env) (place entry_of : ℕ 
 
     -- the result registers have changed alone
     left_by : (need : Need) (m : Mach) (st : State) (v v1 : View) (r n : ℕ) → 18 ≤ r → r + n ≤ 26
-        → Matches D slots bs place aside was need m v → st.objects ≡ m.state.objects → st.events ≡ m.state.events
+        → Matches D w.inputs slots bs place aside was need m v → st.objects ≡ m.state.objects → st.events ≡ m.state.events
         → ((k : ℕ) → k ≢ 0 → k ≢ 1 → k ≢ 30 → Outside r n k → v1.at k ≡ v.at k) → HoldsNumbers v1 → Quiet v v1
         → Left g f aside was st v1
     left_by need m st v v1 r n low high h objects events frame numbers quiet = record {
@@ -94,6 +94,7 @@ module _ (p : PlainIrProgram) (inputs : Inputs) (e : Env) (place entry_of : ℕ 
       leaves_hold = λ l z u q k. same_leaf v.at v1.at (place l.object + l.at) l.bytes u (λ j i. leaf_kept l j i) (h.leaves_hold l z u (ap (λ o. slice_get o l.object) (sym objects) ∙ q) k);
       kept = λ k q. (let z = a.high k q in frame k (omega arith) (omega arith) (kept_high k q z) (λ l. omega arith)) ∙ h.kept k q;
       bytes = numbers;
+      left = λ port. kept_left w.inputs m.state v v1 quiet.inputs h.left port ∙ ap (λ es. drop (reads_of port es) (w.inputs port)) (sym events);
       seen = quiet.seen ∙ h.seen ∙ ap (λ o. accesses D place o) (sym events);
       safe = quiet.safe ∙ h.safe;
     }
@@ -110,7 +111,7 @@ module _ (p : PlainIrProgram) (inputs : Inputs) (e : Env) (place entry_of : ℕ 
             (leaf_is p e place entry_of w f g a.is l)
 
     -- the stack pointer is where it was
-    pub pointer_is : (need : Need) (m : Mach) (v : View) → Matches D slots bs place aside was need m v → sp v ≡ s
+    pub pointer_is : (need : Need) (m : Mach) (v : View) → Matches D w.inputs slots bs place aside was need m v → sp v ≡ s
     pointer_is need m v h =
         let low = h.kept 93 a.pointer_low in
         let high = h.kept 94 a.pointer_high in
@@ -153,7 +154,7 @@ module _ (p : PlainIrProgram) (inputs : Inputs) (e : Env) (place entry_of : ℕ 
     main_flag b q r = sym q ∙ eq-eqb f p.main r
 
     pub return_follows : (n : ℕ) → Returns f g aside was stack n
-        → ReturnCase D p.functions inputs e slots hs bs place (setting_of p e place entry_of w f g s aside was a) labels g.code x.end w.selected.results f (linkage_of p entry_of f slots (w.selected.made f)) stack n
+        → ReturnCase D p.functions e slots hs bs place (setting_of p e place entry_of w f g s aside was a) labels g.code x.end w.selected.results f (linkage_of p entry_of f slots (w.selected.made f)) stack n
     return_follows n returns None pc rest m v r h = by_flag (f == p.main) refl r.stands
       where
         left_over : List AsmItem

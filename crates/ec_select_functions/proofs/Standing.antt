@@ -256,8 +256,12 @@ module _ (fill : LeavesFillTheirTypes) (p : PlainIrProgram) (valid : ValidIr p) 
   lies l =
       let d : IsObject (data_of p) l.declared = item_of (IsObject (data_of p)) p.objects l.object l.declared valid.objects l.is_object in
       let f = fill.types p.structs l.declared.ty valid.structs d.ty in
-      let k = f.each l.number (record { ty = integer l.signed l.bytes; at = l.at }) l.is_leaf in
-      record { some = k.scalar.some; inside = k.inside; next = k.apart }
+      let k = f.each l.number (record { ty = l.ty; at = l.at }) l.is_leaf in
+      record {
+        some = subst (λ (n : ℕ). 1 ≤ n) l.size k.scalar.some;
+        inside = subst (λ (n : ℕ). l.at + n ≤ size_of_type p.structs l.declared.ty) l.size k.inside;
+        next = λ j after x y. subst (λ (n : ℕ). l.at + n ≤ after.at) l.size (k.apart j after x y);
+      }
 
   in_memory : (object n at bytes a : ℕ) → at + bytes ≤ n → 256 ≤ a
       → ((i : ℕ) → i < n → (e.address_of object i ≡ a + i) × (e.kind (a + i) ≡ Object))
@@ -345,8 +349,8 @@ module _ (fill : LeavesFillTheirTypes) (p : PlainIrProgram) (valid : ValidIr p) 
           let a : slice_get p.objects k.object ≡ Some l.declared = subst (λ i. slice_get p.objects i ≡ Some l.declared) same l.is_object in
           let b : Some l.declared ≡ Some k.declared = sym a ∙ k.is_object in
           let d : l.declared ≡ k.declared = cc in
-          let first : PlainLeaf = record { ty = integer l.signed l.bytes; at = l.at } in
-          let second : PlainLeaf = record { ty = integer k.signed k.bytes; at = k.at } in
+          let first : PlainLeaf = record { ty = l.ty; at = l.at } in
+          let second : PlainLeaf = record { ty = k.ty; at = k.at } in
           let places : place l.object ≡ place k.object = ap place same in
           ⊎_elim
           (λ (z : l.number < k.number).

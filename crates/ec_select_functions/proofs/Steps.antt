@@ -2,12 +2,12 @@
 use Rattle.std.proofs.Common.{◌≡◌, ◌≢◌, ℕ, zero, suc, ◌+◌, ◌-◌, ◌*◌, ◌%◌, ◌^◌, ◌<◌, ◌≤◌, min, Bool, true, false, not, ℤ}
 use Rattle.std.proofs.Common.{pos, ◌*ℤ◌, unsigned_abs, Ok, Err, List, [], ◌∷◌, ◌++◌, ◌&&◌, ◌||◌, ⊎_elim, refl, sym}
 use Rattle.std.proofs.Common.{ap, ◌∙◌, subst, arith, Some, None, Option}
-use Rattle.std.specs.Prelude.{◌==◌, if◌then◌else◌, slice_get, Contains}
+use Rattle.std.specs.Prelude.{Result, ◌==◌, nat_le, if◌then◌else◌, option_map, slice_get, slice_index, Contains, ◌⊎◌}
 use Rattle.std.proofs.lemmas.List.Elements.{Contains-append_right}
 use Rattle.ec_ir.specs.Valid.{called_in}
 use Rattle.std.specs.Int.{from_bool}
 use Rattle.std.specs.Ordering.{int_eq}
-use Rattle.std.proofs.lemmas.Bool.{cases_Bool, cases_lt, eqb-true, ne_eqb, and_parts}
+use Rattle.std.proofs.lemmas.Bool.{cases_Bool, cases_lt, eqb-true, leb-true, ne_eqb, and_parts}
 use Rattle.std.proofs.lemmas.Nat.{mod_below, mul-le}
 use Rattle.ec_fx.specs.declared.numbers.Mode.{Mode}
 use Rattle.ec_asm.specs.declared.items.AsmItem.{AsmItem}
@@ -20,7 +20,7 @@ use Rattle.ec_asm.specs.View.{View}
 use Rattle.ec_asm.specs.Change.{Env, Own, flag_at}
 use Rattle.ec_asm.specs.Run.{is_flag}
 use Rattle.ec_asm.specs.Items.{HasAt, BranchesAt, block, code_steps, all_straight}
-use Rattle.ec_asm.specs.Pieces.{StandsFrom, Outside, KeepsAll, value, operate_code, compare_code}
+use Rattle.ec_asm.specs.Pieces.{StandsFrom, Outside, KeepsAll, value, copy_code, operate_code, compare_code}
 use Rattle.ec_asm.specs.PieceLaws.{HoldsNumbers}
 use Rattle.ec_asm.specs.Takes.{Goes, if_bit}
 use Rattle.ec_asm.proofs.Hoare.{has_parts, block_goes, goes_on_to, steps-append, straight-append}
@@ -37,20 +37,24 @@ use Rattle.ec_core.specs.declared.values.Value.{Value}
 use Rattle.ec_core.specs.declared.values.Value.TheVariants.{Number, Pointer}
 use Rattle.ec_core.specs.Accesses.{Access, read, read_value, leaf_of, stored, operand_of}
 use Rattle.ec_core.specs.Layout.{scalar_size}
-use Rattle.ec_core.specs.declared.values.Undefined.TheVariants.{ShiftCount, ZeroDivisor}
+use Rattle.ec_core.specs.declared.values.Undefined.TheVariants.{ShiftCount, ZeroDivisor, BufferIndex}
 use Rattle.ec_core.specs.Integers.{wrapped, is_count}
-use Rattle.ec_core.specs.Operators.{same_type, binary_result, as_number}
+use Rattle.ec_core.specs.declared.values.Undefined.{Undefined}
+use Rattle.ec_core.specs.ArithmeticValues.{arithmetic_value, unary_value, conversion_value}
+use Rattle.ec_core.specs.Operators.{Operand, same_type, unary_result, binary_result, conversion_result, as_number, number_type}
 use Rattle.ec_core.specs.Words.{widest, operation_words}
-use Rattle.ec_core.specs.Plain.{PlainType, integer, void, PlainProgram}
-use Rattle.ec_core.specs.State.{Inputs, State, ObjectState, worked, Outcome, got, next, given}
+use Rattle.ec_core.specs.Plain.{PlainType, integer, fixed, pointer, array, struct, void, PlainProgram}
+use Rattle.ec_core.specs.Meaning.{state_of}
+use Rattle.ec_core.specs.PortAccesses.{number_read, bytes_read, bytes_written}
+use Rattle.ec_core.specs.State.{State, ObjectState, worked, Outcome, got, undefined, next, given}
 use Rattle.ec_ir.specs.declared.operations.Temp.{Temp}
 use Rattle.ec_ir.specs.Costs.{op_steps, binary_words, conversion_words, is_bitwise, is_integer}
 use Rattle.ec_ir.specs.Meaning.{Mach, machine, held_as, exec_from, object_access, accessed_type, put, put_leaf, find}
-use Rattle.ec_ir.specs.Meaning.{jump_to, Frame as Call}
+use Rattle.ec_ir.specs.Meaning.{jump_to, held_number, port_read, port_written, Frame as Call}
 use Rattle.ec_ir.specs.Operations.{PlainIr, constant, copy, load_object, store_object, binary_op, conversion, label}
 use Rattle.ec_ir.specs.Operations.{jump, branch_zero, return_from, address, field, load_at, store_at, unary_op}
 use Rattle.ec_ir.specs.Operations.{call_function, port_in, port_out, PlainIrFunction}
-use Rattle.ec_ir.specs.Temporaries.{Content, bits, points, number_of_bytes, low_bytes, with_content, with_temp, is_zero}
+use Rattle.ec_ir.specs.Temporaries.{Content, bits, points, number_of_bytes, low_bytes, Temps, content_of, value_in, with_content, with_temp, is_zero}
 use Rattle.ec_select_functions.specs.Homes.{HasHome}
 use Rattle.ec_select_bytes.specs.Values.{test_code, extend_code}
 use Rattle.ec_select_bytes.proofs.Tests.{tests_keep, tests_tell_zero}
@@ -76,9 +80,25 @@ use Rattle.ec_select_functions.specs.Code.{Linkage, told_of, is_only_tested, tel
 use Rattle.ec_select_functions.specs.Code.{op_code, ops_code, family_of, same_location, reversed_code}
 use Rattle.ec_select_functions.specs.Code.{combined_code, binary_code, turn_code, unary_code, move_code}
 use Rattle.ec_select_functions.specs.Code.{conversion_code, turned_code, shift_of, shifted_bytes, long_code}
-use Rattle.ec_select_functions.specs.Covered.{IsCovered, IsBinary, AreCovered, HasNumberAt}
+use Rattle.ec_select_functions.specs.Covered.{IsCovered, IsBinary, IsUnary, AreConverted, IsPort, AreCovered, HasNumberAt}
+use Rattle.ec_select_functions.specs.Covered.{IsFixedBinary, IsFixedUnary, IsFixedConversion}
+use Rattle.ec_select_fixed.specs.Types.{IsFixedType, IsNumberType}
+use Rattle.ec_select_fixed.proofs.Suits.{AreSuited, operands_suit}
+use Rattle.ec_select_functions.specs.Code.{told_by, by_kind as code_by_kind, fixed_binary, fixed_unary, fixed_conversion, answer_code, answer_location, work_location, wanted_bytes}
+use Rattle.ec_select_fixed.specs.Codes.{fixed_binary_code, fixed_unary_code, fixed_conversion_code}
+use Rattle.ec_select_fixed.specs.FixedLaws.{IsBinaryResult, IsUnaryResult, IsConversionResult, binary_room, unary_room, conversion_room}
+use Rattle.ec_fxcode_quotients.specs.QuotientLaws.{AreSlots, operand_in as fixed_operand_in}
+use Rattle.ec_select_fixed.specs.Types.{format_in}
+use Rattle.ec_select_fixed.proofs.Conversions.{AreConverted as AreNumberTypes, converted_types}
+use Rattle.ec_select_fixed.proofs.Converted.{conversion_told}
+use Rattle.ec_select_fixed.proofs.Formats.{fixed_number_type}
+use Rattle.ec_select_fixed.proofs.Operators.{IsNumber, as_told, binary_told}
+use Rattle.ec_select_fixed.specs.FixedLaws.{AreOperandSlots, HasOperandBytes}
+use Rattle.ec_select_functions.specs.Needs.{is_fixed, first_wanted, second_wanted, only_wanted}
+use Rattle.ec_select_functions.specs.Places.{IsNumeric}
+use Rattle.ec_select_functions.specs.Kept.{are_on_ports}
 use Rattle.ec_select_functions.specs.Needs.{Need, needs, IsLive, wanted, at_least, without, either, returned_need}
-use Rattle.ec_select_functions.specs.Needs.{all_or_none, operand_wanted, right_wanted}
+use Rattle.ec_select_functions.specs.Needs.{index_needed, all_or_none, operand_wanted, right_wanted}
 use Rattle.ec_select_functions.specs.Places.{IsClear, object_location}
 use Rattle.ec_select_functions.proofs.Setting.{Setting}
 use Rattle.ec_select_functions.specs.Relation.{Matches, HoldsLeaf, HoldsContent}
@@ -87,13 +107,21 @@ use Rattle.ec_select_functions.proofs.Accesses.{recorded_work}
 use Rattle.ec_select_functions.proofs.Computed.{constant_matches, copy_matches, binary_matches, moved_numbers}
 use Rattle.ec_select_functions.proofs.Computed.{result_of}
 use Rattle.ec_select_functions.proofs.Extended.{conversion_matches}
-use Rattle.ec_select_functions.proofs.Follow.{Follows, after, from_held, from_number, from_nothing, next_next}
-use Rattle.ec_select_functions.proofs.Match.{wanted_most, read_first, whole, at_width, weaker, written, written_wide}
+use Rattle.ec_select_functions.proofs.FixedRuns.{answer_passes, slots_of, operand_slots_of}
+use Rattle.ec_select_functions.proofs.Follow.{with_ports, Follows, after, from_held, from_number, from_nothing, next_next}
+use Rattle.ec_select_functions.proofs.Match.{kept_left, wanted_most, read_first, whole, at_width, weaker, written, written_wide}
 use Rattle.ec_select_functions.proofs.Match.{same_content, same_leaf, least_here, least_other, without_other}
+use Rattle.ec_select_functions.proofs.Fronts.{exec_adds}
+use Rattle.ec_select_functions.proofs.PortForms.{in_straight, in_steps, out_straight, out_steps}
+use Rattle.ec_select_functions.proofs.PortMatch.{needs_index, needs_index_too, index_other, in_matches, out_matches}
+use Rattle.ec_select_functions.proofs.PortMatch.{points as points_at}
+use Rattle.ec_select_functions.proofs.PortPoints.{IsElement, from_bytes, from_element}
+use Rattle.ec_select_functions.proofs.PortStates.{ports_before, kinds_read, kinds_written, read_work, written_work}
 use Rattle.ec_select_functions.proofs.Moves.{Frame, Wide, widened, wider_frame, work_outside, row_kept, narrower}
 use Rattle.ec_select_functions.proofs.Moves.{stands_less, copy_straight, copy_steps, move_straight, move_steps}
 use Rattle.ec_select_functions.proofs.Moves.{move_holds, row_value}
 use Rattle.ec_select_functions.proofs.Numbers.{gives_of}
+use Rattle.ec_select_functions.proofs.Numeric.{sign_in, number_in, value_is, from_numeric, from_typed}
 use Rattle.ec_select_functions.proofs.Orders.{first_of_two, decided}
 use Rattle.ec_select_functions.proofs.Related.{told_matches}
 use Rattle.ec_select_functions.proofs.Truth.{bit_is, not_not, truth_low, held_at, content_of_held, same_temp}
@@ -104,9 +132,9 @@ use Rattle.ec_select_functions.proofs.Divided.{int_part, quotient_low, not_zero}
 use Rattle.ec_select_functions.proofs.Turned.{turned, turns, unary_matches}
 use Rattle.ec_select_functions.proofs.Wrapped.{low_of_number, low_of_wrapped, low_below, kept_below}
 
-module _ (p : PlainProgram) (functions : List PlainIrFunction) (inputs : Inputs) (e : Env) (slots : ℕ) (home : Temp → Location) (base : Temp → ℕ) (place : ℕ → ℕ) (y : Setting p e slots home base place) (at : ℕ → Need) (all : List PlainIr) (end : ℕ) (results : ℕ → ℕ) (me : ℕ) (link : Linkage) (stack : List Call) where
+module _ (p : PlainProgram) (functions : List PlainIrFunction) (e : Env) (slots : ℕ) (home : Temp → Location) (base : Temp → ℕ) (place : ℕ → ℕ) (y : Setting p e slots home base place) (at : ℕ → Need) (all : List PlainIr) (end : ℕ) (results : ℕ → ℕ) (me : ℕ) (link : Linkage) (stack : List Call) where
   abbrev pub M : Need → Mach → View → Type 0
-  M need m v = Matches p slots base place y.aside y.was need m v
+  M need m v = Matches p y.inputs slots base place y.aside y.was need m v
 
   abbrev pub G : (n w pc : ℕ) → View → Outcome Value → Type 0
   G n w pc v o = Follows p place e n w pc v o
@@ -131,7 +159,7 @@ module _ (p : PlainProgram) (functions : List PlainIrFunction) (inputs : Inputs)
 
   -- the run of operations from here on
   abbrev pub R : ℕ → List PlainIr → Mach → Outcome Value
-  R n rest m = exec_from functions p inputs n all stack rest m
+  R n rest m = exec_from functions p y.inputs n all stack rest m
 
   -- straight code of an operation, and what comes after it
   passes : (i : PlainIr) (rest : List PlainIr) (n n1 w w1 pc : ℕ) (v : View) (o : Outcome Value)
@@ -334,7 +362,7 @@ module _ (p : PlainProgram) (functions : List PlainIrFunction) (inputs : Inputs)
       → low < 256 ^ t.bytes → ((u : ℕ) → u ≢ t.at → need u ≤ need0 u) → M need0 m v → M need (after_operator t low c m) v
   not_needed t low c need need0 m v it none below more h =
       let empty : value v.at (base t) 0 ≡ low % 256 ^ 0 = omega arith in
-      written p e slots home base place y t (bits low) need need0 m (worked c m.state) v v it h more (λ i d f g o. refl) (subst (λ j. value v.at (base t) j ≡ low % 256 ^ j) (sym none) empty, below) h.bytes refl h.seen h.safe
+      written p e slots home base place y t (bits low) need need0 m (worked c m.state) v v it h more (λ i d f g o. refl) (subst (λ j. value v.at (base t) j ≡ low % 256 ^ j) (sym none) empty, below) h.bytes refl h.seen h.left h.safe
 
   -- nor is there code
   nothing_passes : (i : PlainIr) (t : Temp) (low c : ℕ) (rest : List PlainIr) (n pc : ℕ) (need0 : Need) (m : Mach) (v : View)
@@ -512,7 +540,7 @@ module _ (p : PlainProgram) (functions : List PlainIrFunction) (inputs : Inputs)
   led_matches t low most pc to k need need0 m v c it g q below more h =
       let room = wanted_most need t in
       let frame : Wide v g.last (base t) t.bytes = λ i a b u d o. g.same i a b (λ l. let z = d (omega arith) in omega arith) (narrower (base t) t.bytes k i (omega arith) o) in
-      written_wide p e slots home base place y t (bits low) need need0 m (worked c m.state) v g.last it h more frame (subst (λ j. value g.last.at (base t) j ≡ low % 256 ^ j) q g.number_is, below) g.numbers refl (g.seen ∙ h.seen) (g.safe ∙ h.safe)
+      written_wide p e slots home base place y t (bits low) need need0 m (worked c m.state) v g.last it h more frame (subst (λ j. value g.last.at (base t) j ≡ low % 256 ^ j) q g.number_is, below) g.numbers refl (g.seen ∙ h.seen) (kept_left y.inputs m.state v g.last (g.inputs) h.left) (g.safe ∙ h.safe)
 
   product_value : (op : BinOp) → family_of op ≡ Multiplied → (mode : Mode) (s s1 s2 : Bool) (x z : ℕ) (st st1 : State)
       → binary_result op (integer s 2) mode (operand_of p (integer s1 1) (Number (number_of_bytes s1 1 x)) st) (operand_of p (integer s2 1) (Number (number_of_bytes s2 1 z)) st1)
@@ -672,7 +700,7 @@ module _ (p : PlainProgram) (functions : List PlainIrFunction) (inputs : Inputs)
               let here = shift_part up s g.last.at (base t) (wanted (needs at rest) t) t.bytes low1 c most below (λ x l. g.numbers (base t + x) (omega arith)) number1 in
               let m1 = after_operator t (shifted_by (shift_of up s) t.bytes low1 c) (op_steps (binary_op op (integer s a.bytes) mode t a (integer s a.bytes) b (integer s2 b.bytes))) m in
               let frame : Frame v g.last (base t) t.bytes = λ x d r u o. g.same x d r u (narrower (base t) t.bytes (suc j) x (omega (arith, q1, less, same)) o) in
-              let matches = written p e slots home base place y t (bits (shifted_by (shift_of up s) t.bytes low1 c)) (needs at rest) (operands_needed op t a b (shifted_bytes up a.bytes (wanted (needs at rest) t)) 1 (needs at rest)) m (worked (op_steps (binary_op op (integer s a.bytes) mode t a (integer s a.bytes) b (integer s2 b.bytes))) m.state) v g.last it h1 (other_needed op t a b (shifted_bytes up a.bytes (wanted (needs at rest) t)) 1 (needs at rest)) frame (here, shifted_below (shift_of up s) t.bytes low1 c below) g.numbers refl (g.seen ∙ h1.seen) (g.safe ∙ h1.safe) in
+              let matches = written p e slots home base place y t (bits (shifted_by (shift_of up s) t.bytes low1 c)) (needs at rest) (operands_needed op t a b (shifted_bytes up a.bytes (wanted (needs at rest) t)) 1 (needs at rest)) m (worked (op_steps (binary_op op (integer s a.bytes) mode t a (integer s a.bytes) b (integer s2 b.bytes))) m.state) v g.last it h1 (other_needed op t a b (shifted_bytes up a.bytes (wanted (needs at rest) t)) 1 (needs at rest)) frame (here, shifted_below (shift_of up s) t.bytes low1 c below) g.numbers refl (g.seen ∙ h1.seen) (kept_left y.inputs m.state v g.last (g.inputs) h1.left) (g.safe ∙ h1.safe) in
               let take = g.at_most in
               let room = ia.most in
               let fits = shift_room (suc j) c (omega (arith, q1, less, room)) small in
@@ -760,7 +788,7 @@ module _ (p : PlainProgram) (functions : List PlainIrFunction) (inputs : Inputs)
       let here : value g.last.at (base t) (wanted (needs at rest) t) ≡ quotient_of r s top x z % 256 ^ wanted (needs at rest) t = sym (value_mod g.last.at (base t) (wanted (needs at rest) t) w (omega (arith, kmost, qt)) (λ j l. g.numbers (base t + j) (omega arith))) ∙ ap (λ j. j % 256 ^ wanted (needs at rest) t) number in
       let m1 = after_operator t (quotient_of r s top x z) c m in
       let frame : Wide v g.last (base t) t.bytes = λ i d u low high o. g.same i d u low high (narrower (base t) t.bytes w i (omega (arith, qt)) o) ∙ widened v v1 (base t) t.bytes frame1 i d u low high o in
-      let matches = written_wide p e slots home base place y t (bits (quotient_of r s top x z)) (needs at rest) need0 m (worked c m.state) v g.last it h more frame (here, below) g.numbers refl (g.seen ∙ k.quiet.seen ∙ h.seen) (g.safe ∙ k.quiet.safe ∙ h.safe) in
+      let matches = written_wide p e slots home base place y t (bits (quotient_of r s top x z)) (needs at rest) need0 m (worked c m.state) v g.last it h more frame (here, below) g.numbers refl (g.seen ∙ k.quiet.seen ∙ h.seen) (kept_left y.inputs m.state v g.last (g.inputs ∙ k.quiet.inputs) h.left) (g.safe ∙ k.quiet.safe ∙ h.safe) in
       after p place e (code_steps first + g.steps) (suc n) (suc n) m.state.work m1.state.work pc s1.0 v g.last (R (suc n) rest m1) (goes_on_to e (code_steps first) g.steps pc s2.0 s1.0 v v1 g.last go g.goes) (omega arith) (omega (arith, take1, take2, big, most)) (f s1.0 m1 g.last s1.2 matches)
 
   pub divided_follows : (op : BinOp) (r : Bool) → family_of op ≡ Divided r → (s : Bool) (mode : Mode)
@@ -829,9 +857,9 @@ module _ (p : PlainProgram) (functions : List PlainIrFunction) (inputs : Inputs)
 
   pub operator_follows : (op : BinOp) (ty : PlainType) (mode : Mode) (t a : Temp) (aty : PlainType) (b : Temp)
       (bty : PlainType) (rest : List PlainIr) (n pc : ℕ) (m : Mach) (v : View)
-      → IsCovered p results me slots (binary_op op ty mode t a aty b bty)
+      → IsBinary (family_of op) slots t a b ty aty bty
       → HasAt e (code_of (binary_op op ty mode t a aty b bty) rest ++ items rest) pc end
-      → M (needs at (binary_op op ty mode t a aty b bty ∷ rest)) m v
+      → M (operands_needed op t a b (operand_wanted op a.bytes (wanted (needs at rest) t)) (right_wanted op b.bytes (wanted (needs at rest) t)) (needs at rest)) m v
       → Rest (suc n) rest → G (suc n) m.state.work pc v (R (suc n) (binary_op op ty mode t a aty b bty ∷ rest) m)
   operator_follows op ty mode t a aty b bty rest n pc m v i stands h f = by_family (family_of op) refl i
     where
@@ -873,6 +901,324 @@ module _ (p : PlainProgram) (functions : List PlainIrFunction) (inputs : Inputs)
           (subst (λ x. Done op (integer k.signed (suc top)) x bty mode t a b rest n pc m v) (sym k.left_type)
           (subst (λ x. Done op (integer k.signed (suc top)) (integer k.signed a.bytes) x mode t a b rest n pc m v) (sym k.right_type)
           (λ stand. divided_follows op r q k.signed mode t a b top rest n pc m v k.result k.left k.right qt (k.left_bytes ∙ qt) (k.right_bytes ∙ qt) (subst (λ j. j ≤ 4) qt k.most) i.1 stand h f)))) stands
+
+  -- ---- operations with a fixed-point type
+
+  type_fixed : (x : PlainType) → IsFixedType x → is_fixed x ≡ true
+  type_fixed (fixed k s) h = refl
+  type_fixed (integer s n) h = absurd h
+  type_fixed void h = absurd h
+  type_fixed (pointer s k z) h = absurd h
+  type_fixed (array of n) h = absurd h
+  type_fixed (struct n) h = absurd h
+
+  either_fixed : (x z : PlainType) → IsFixedType x ⊎ IsFixedType z → (is_fixed x || is_fixed z) ≡ true
+  either_fixed x z f =
+      ⊎_elim
+      (λ (q : IsFixedType x). ap (λ b. b || is_fixed z) (type_fixed x q))
+      (λ (q : IsFixedType z). ap (λ b. is_fixed x || b) (type_fixed z q) ∙ or_true (is_fixed x))
+      f
+    where
+      or_true : (b : Bool) → (b || true) ≡ true
+      or_true true = refl
+      or_true false = refl
+
+  fixed_numeric : (ty : PlainType) → IsNumberType ty → IsNumeric ty
+  fixed_numeric (integer s n) h = tt
+  fixed_numeric (fixed k s) h = tt
+  fixed_numeric void h = absurd h
+  fixed_numeric (pointer s k z) h = absurd h
+  fixed_numeric (array of n) h = absurd h
+  fixed_numeric (struct n) h = absurd h
+
+  -- the words of an operator leave room for copies of its result
+  binary_roomy : (op : BinOp) (ty aty bty : PlainType) → 4 * scalar_size ty ≤ binary_words op ty aty bty
+  binary_roomy op ty aty bty = by_kind (is_bitwise op && is_integer ty)
+    where
+      wide : scalar_size ty ≤ widest (ty ∷ aty ∷ bty ∷ [])
+      wide = omega arith
+
+      by_kind : (x : Bool) → 4 * scalar_size ty ≤ (if x then 10 * widest (ty ∷ aty ∷ bty ∷ []) else operation_words (widest (ty ∷ aty ∷ bty ∷ [])))
+      by_kind true = omega (arith, wide)
+      by_kind false = omega (arith, wide)
+
+  conversion_roomy : (ty aty : PlainType) → 4 * scalar_size ty ≤ conversion_words ty aty
+  conversion_roomy ty aty = by_kind (same_type ty aty || (is_integer ty && is_integer aty))
+    where
+      by_kind : (x : Bool) → 4 * scalar_size ty ≤ (if x then 10 * widest (ty ∷ aty ∷ []) else 100 + 40 * widest (ty ∷ aty ∷ []))
+      by_kind true = omega arith
+      by_kind false = omega arith
+
+  -- all bytes of an operand are there
+  all_there : (a : Temp) (k low bytes : ℕ) (need : Need) (m : Mach) (v : View) → HasHome slots a → a.bytes ≡ bytes → (k == 0) ≡ false
+      → all_or_none a.bytes k ≤ need a.at → m.temps a.at ≡ Some (record { bytes = a.bytes; content = bits low }) → M need m v
+      → value v.at (base a) bytes ≡ low
+  all_there a k low bytes need m v ia same some least q h =
+      let all = all_when a.bytes k some in
+      let w = at_width p e slots home base place y need m v a _ a.bytes h ia q refl (omega (arith, least, all)) in
+      subst (λ (x : ℕ). value v.at (base a) x ≡ low) same (w.0 ∙ kept_below low (256 ^ a.bytes) w.1)
+
+  pub fixed_binary_follows : (op : BinOp) (ty : PlainType) (mode : Mode) (t a : Temp) (aty : PlainType) (b : Temp) (bty : PlainType)
+      (rest : List PlainIr) (n pc : ℕ) (m : Mach) (v : View) → IsFixedBinary slots op t a b ty aty bty
+      → HasAt e (items (binary_op op ty mode t a aty b bty ∷ rest)) pc end → M (needs at (binary_op op ty mode t a aty b bty ∷ rest)) m v
+      → Rest (suc n) rest → G (suc n) m.state.work pc v (R (suc n) (binary_op op ty mode t a aty b bty ∷ rest) m)
+  fixed_binary_follows op ty mode t a aty b bty rest n pc m v k stands h f =
+      from_typed p place e aty a m.temps st _ (suc n) m.state.work pc v (fixed_numeric aty suited.first)
+      (λ low1 qa. from_typed p place e bty b m.temps st _ (suc n) m.state.work pc v (fixed_numeric bty suited.second)
+      (λ low2 qb. by_result low1 low2 qa qb (binary_result op ty mode (left low1) (right low2)) refl))
+    where
+      i : PlainIr
+      i = binary_op op ty mode t a aty b bty
+
+      c : ℕ
+      c = op_steps i
+
+      st : State
+      st = worked c m.state
+
+      need : Need
+      need = needs at rest
+
+      w : ℕ
+      w = wanted need t
+
+      suited : AreSuited op ty aty bty
+      suited = operands_suit op ty aty bty k.types
+
+      left : ℕ → Operand
+      left low = operand_of p aty (number_in aty low) st
+
+      right : ℕ → Operand
+      right low = operand_of p bty (number_in bty low) st
+
+      by_result : (low1 low2 : ℕ) → m.temps a.at ≡ Some (record { bytes = a.bytes; content = bits low1 })
+          → m.temps b.at ≡ Some (record { bytes = b.bytes; content = bits low2 }) → (z : Result Value Undefined)
+          → binary_result op ty mode (left low1) (right low2) ≡ z
+          → G (suc n) m.state.work pc v (next (given z st) (λ u s3. R (suc n) rest (machine (with_temp t u m.temps) s3)))
+      by_result low1 low2 qa qb (Err point) q = tt
+      by_result low1 low2 qa qb (Ok r) q = by_need (w == 0) refl
+        where
+          ka : ℕ
+          ka = first_wanted (is_fixed aty || is_fixed bty) op a.bytes w
+
+          kb : ℕ
+          kb = second_wanted (is_fixed aty || is_fixed bty) op b.bytes w
+
+          fx : (is_fixed aty || is_fixed bty) ≡ true
+          fx = either_fixed aty bty k.types.fixed
+
+          none_told : (x : Bool) → (if x then told_by (is_fixed aty || is_fixed bty) (family_of op) (is_signed aty) else None) ≡ None
+          none_told true = ap (λ z. told_by z (family_of op) (is_signed aty)) fx
+          none_told false = refl
+
+          code : List AsmItem
+          code = fixed_binary_code op ty aty bty mode (home a) (home b) answer_location work_location
+
+          code_is : code_of i rest ≡ answer_code code (home t) w
+          code_is = ap (λ z. code_by_kind z (answer_code code (home t) w) (binary_code (family_of op) (is_signed aty) (is_signed bty) (home a) (home b) (home t) a.bytes w)) fx
+
+          stand : HasAt e (code_of i rest ++ items rest) pc end
+          stand = subst (λ x. HasAt e (op_code p.objects home link None x need i ++ items_told x rest) pc end) (none_told (is_only_tested t (slice_get rest 0) (slice_index (wanted_bytes at rest) 0))) stands
+
+          more : (u : ℕ) → u ≢ t.at → need u ≤ needs at (i ∷ rest) u
+          more u d = other_needed op t a b ka kb need u d
+
+          m1 : Mach
+          m1 = machine (with_temp t r m.temps) st
+
+          number : IsNumber (arithmetic_value op (number_type ty) mode (fixed_operand_in (format_in aty) (scalar_size aty) low1) (fixed_operand_in (format_in bty) (scalar_size bty) low2)) r
+          number = binary_told op ty aty bty mode low1 low2 (left low1) (right low2) r suited.first suited.second
+              (record { type_is = refl; value_is = value_is aty low1 (fixed_numeric aty suited.first) }) (record { type_is = refl; value_is = value_is bty low2 (fixed_numeric bty suited.second) }) q
+
+          by_need : (x : Bool) → (w == 0) ≡ x → G (suc n) m.state.work pc v (R (suc n) rest m1)
+          by_need true z =
+              let empty : code_of i rest ≡ [] = code_is ∙ ap (λ x. if x then [] else code ++ copy_code answer_location (home t) w) z in
+              let go = nothing_passes i t (low_bytes t.bytes number.number) c rest n pc (needs at (i ∷ rest)) m v k.result empty (eqb-true w 0 z) (low_below t.bytes number.number) stand more h f in
+              subst (λ (x : Value). G (suc n) m.state.work pc v (R (suc n) rest (machine (with_temp t x m.temps) st))) (sym number.result) go
+          by_need false z =
+              let parts = has_parts e (code_of i rest) (items rest) pc end stand in
+              let there : HasAt e (answer_code code (home t) w) pc parts.0 = subst (λ x. HasAt e x pc parts.0) code_is parts.1 in
+              let size = scalar_size ty in
+              let same : size ≡ t.bytes = sym k.result_bytes in
+              let some = k.result.some in
+              let most = k.result.most in
+              let need0 = needs at (i ∷ rest) in
+              let least_a : all_or_none a.bytes w ≤ need0 a.at = subst (λ (x : Bool). first_wanted x op a.bytes w ≤ need0 a.at) fx (least_here a.at ka (at_least b.at kb (without t.at need))) in
+              let inner = least_here b.at kb (without t.at need) in
+              let outer = least_other a.at ka b.at (at_least b.at kb (without t.at need)) in
+              let least_b : all_or_none b.bytes w ≤ need0 b.at = subst (λ (x : Bool). second_wanted x op b.bytes w ≤ need0 b.at) fx (omega arith) in
+              let x_is : value v.at (base a) (scalar_size aty) ≡ low1 = all_there a w low1 (scalar_size aty) need0 m v k.left k.left_bytes z least_a qa h in
+              let y_is : value v.at (base b) (scalar_size bty) ≡ low2 = all_there b w low2 (scalar_size bty) need0 m v k.right k.right_bytes z least_b qb h in
+              let slots0 = slots_of p e slots home base place y a b size k.left k.right k.different (omega arith) (omega arith) in
+              let slots1 = subst (λ (x : ℕ). AreSlots e (home a) (home b) answer_location work_location x b.bytes size (base a) (base b) (y.work + 40) y.work) k.left_bytes slots0 in
+              let slots2 = subst (λ (x : ℕ). AreSlots e (home a) (home b) answer_location work_location (scalar_size aty) x size (base a) (base b) (y.work + 40) y.work) k.right_bytes slots1 in
+              let holds = IsBinaryResult op ty mode aty bty (value v.at (base a) (scalar_size aty)) (value v.at (base b) (scalar_size bty)) in
+              let run = λ (mid : ℕ) (u : HasAt e code pc mid). y.fixed.binaries op ty aty bty mode e (home a) (home b) answer_location work_location (base a) (base b) (y.work + 40) y.work pc mid v k.types slots2 h.bytes u in
+              let room = binary_roomy op ty aty bty in
+              answer_passes p e slots home base place y code (64 * binary_room op ty aty bty) size c (suc n) pc parts.0 t need need0 m v (R (suc n) rest m1) holds k.result same h more z there run (omega (arith, room, same))
+              (λ number v2 g matches.
+              let content : content_of t.bytes r ≡ bits number =
+              ap (λ s. content_of s r) k.result_bytes ∙ g (left low1) (right low2) r
+              (record { type_is = refl; value_is = ap (λ x. value_in aty (bits x)) x_is ∙ value_is aty low1 (fixed_numeric aty suited.first) })
+              (record { type_is = refl; value_is = ap (λ x. value_in bty (bits x)) y_is ∙ value_is bty low2 (fixed_numeric bty suited.second) }) q in
+              f parts.0 m1 v2 parts.2 (subst (λ (x : Content). M need (machine (with_content t x m.temps) st) v2) (sym content) matches))
+
+  pub fixed_unary_follows : (op : UnOp) (ty : PlainType) (mode : Mode) (t a : Temp) (rest : List PlainIr) (n pc : ℕ) (m : Mach) (v : View)
+      → IsFixedUnary slots op t a ty → HasAt e (items (unary_op op ty mode t a ∷ rest)) pc end → M (needs at (unary_op op ty mode t a ∷ rest)) m v
+      → Rest (suc n) rest → G (suc n) m.state.work pc v (R (suc n) (unary_op op ty mode t a ∷ rest) m)
+  fixed_unary_follows op ty mode t a rest n pc m v k stands h f =
+      from_typed p place e ty a m.temps st _ (suc n) m.state.work pc v (fixed_numeric ty known)
+      (λ low q. by_result low q (unary_result op ty mode (number_in ty low)) refl)
+    where
+      i : PlainIr
+      i = unary_op op ty mode t a
+
+      c : ℕ
+      c = op_steps i
+
+      st : State
+      st = worked c m.state
+
+      need : Need
+      need = needs at rest
+
+      w : ℕ
+      w = wanted need t
+
+      known : IsNumberType ty
+      known = fixed_number_type ty k.types.fixed
+
+      by_result : (low : ℕ) → m.temps a.at ≡ Some (record { bytes = a.bytes; content = bits low }) → (z : Result Value Undefined)
+          → unary_result op ty mode (number_in ty low) ≡ z → G (suc n) m.state.work pc v (next (given z st) (λ u s3. R (suc n) rest (machine (with_temp t u m.temps) s3)))
+      by_result low qa (Err point) q = tt
+      by_result low qa (Ok r) q = by_need (w == 0) refl
+        where
+          ka : ℕ
+          ka = only_wanted (is_fixed ty) a.bytes w
+
+          fx : is_fixed ty ≡ true
+          fx = type_fixed ty k.types.fixed
+
+          code : List AsmItem
+          code = fixed_unary_code op ty mode (home a) answer_location work_location
+
+          code_is : code_of i rest ≡ answer_code code (home t) w
+          code_is = ap (λ z. code_by_kind z (answer_code code (home t) w) (unary_code op (home a) (home t) w)) fx
+
+          more : (u : ℕ) → u ≢ t.at → need u ≤ needs at (i ∷ rest) u
+          more u d = let x = without_other t.at u need d in let z = least_other a.at ka u (without t.at need) in omega arith
+
+          m1 : Mach
+          m1 = machine (with_temp t r m.temps) st
+
+          number : IsNumber (unary_value op (number_type ty) mode (number_of_bytes (sign_in ty) (scalar_size ty) low)) r
+          number = as_told (unary_value op (number_type ty) mode (number_of_bytes (sign_in ty) (scalar_size ty) low)) r q
+
+          by_need : (x : Bool) → (w == 0) ≡ x → G (suc n) m.state.work pc v (R (suc n) rest m1)
+          by_need true z =
+              let empty : code_of i rest ≡ [] = code_is ∙ ap (λ x. if x then [] else code ++ copy_code answer_location (home t) w) z in
+              let go = nothing_passes i t (low_bytes t.bytes number.number) c rest n pc (needs at (i ∷ rest)) m v k.result empty (eqb-true w 0 z) (low_below t.bytes number.number) stands more h f in
+              subst (λ (x : Value). G (suc n) m.state.work pc v (R (suc n) rest (machine (with_temp t x m.temps) st))) (sym number.result) go
+          by_need false z =
+              let parts = has_parts e (code_of i rest) (items rest) pc end stands in
+              let there : HasAt e (answer_code code (home t) w) pc parts.0 = subst (λ x. HasAt e x pc parts.0) code_is parts.1 in
+              let size = scalar_size ty in
+              let same : size ≡ t.bytes = sym k.result_bytes in
+              let some = k.result.some in
+              let most = k.result.most in
+              let need0 = needs at (i ∷ rest) in
+              let least_a : all_or_none a.bytes w ≤ need0 a.at = subst (λ (x : Bool). only_wanted x a.bytes w ≤ need0 a.at) fx (least_here a.at ka (without t.at need)) in
+              let x_is : value v.at (base a) size ≡ low = all_there a w low size need0 m v k.operand k.operand_bytes z least_a qa h in
+              let slots1 = subst (λ (x : ℕ). AreOperandSlots e (home a) answer_location work_location x size (base a) (y.work + 40) y.work) k.operand_bytes (operand_slots_of p e slots home base place y a size k.operand (omega arith) (omega arith)) in
+              let holds = IsUnaryResult op ty mode (value v.at (base a) size) in
+              let run = λ (mid : ℕ) (u : HasAt e code pc mid). y.fixed.unaries op ty mode e (home a) answer_location work_location (base a) (y.work + 40) y.work pc mid v k.types slots1 h.bytes u in
+              answer_passes p e slots home base place y code (64 * unary_room ty) size c (suc n) pc parts.0 t need need0 m v (R (suc n) rest m1) holds k.result same h more z there run (omega (arith, same))
+              (λ result v2 g matches.
+              let content : content_of t.bytes r ≡ bits result =
+              ap (λ s. content_of s r) k.result_bytes ∙ g (number_in ty low) r (ap (λ x. value_in ty (bits x)) x_is ∙ value_is ty low (fixed_numeric ty known)) q in
+              f parts.0 m1 v2 parts.2 (subst (λ (x : Content). M need (machine (with_content t x m.temps) st) v2) (sym content) matches))
+
+  pub fixed_conversion_follows : (t : Temp) (ty : PlainType) (mode : Mode) (a : Temp) (aty : PlainType) (rest : List PlainIr) (n pc : ℕ) (m : Mach) (v : View)
+      → IsFixedConversion slots t a ty aty → HasAt e (items (conversion t ty mode a aty ∷ rest)) pc end → M (needs at (conversion t ty mode a aty ∷ rest)) m v
+      → Rest (suc n) rest → G (suc n) m.state.work pc v (R (suc n) (conversion t ty mode a aty ∷ rest) m)
+  fixed_conversion_follows t ty mode a aty rest n pc m v k stands h f =
+      from_typed p place e aty a m.temps st _ (suc n) m.state.work pc v (fixed_numeric aty known.operand)
+      (λ low q. by_result low q (conversion_result ty mode (operand low)) refl)
+    where
+      i : PlainIr
+      i = conversion t ty mode a aty
+
+      c : ℕ
+      c = op_steps i
+
+      st : State
+      st = worked c m.state
+
+      need : Need
+      need = needs at rest
+
+      w : ℕ
+      w = wanted need t
+
+      known : AreNumberTypes ty aty
+      known = converted_types ty aty k.types
+
+      operand : ℕ → Operand
+      operand low = operand_of p aty (number_in aty low) st
+
+      by_result : (low : ℕ) → m.temps a.at ≡ Some (record { bytes = a.bytes; content = bits low }) → (z : Result Value Undefined)
+          → conversion_result ty mode (operand low) ≡ z → G (suc n) m.state.work pc v (next (given z st) (λ u s3. R (suc n) rest (machine (with_temp t u m.temps) s3)))
+      by_result low qa (Err point) q = tt
+      by_result low qa (Ok r) q = by_need (w == 0) refl
+        where
+          ka : ℕ
+          ka = only_wanted (is_fixed ty || is_fixed aty) a.bytes w
+
+          fx : (is_fixed ty || is_fixed aty) ≡ true
+          fx = either_fixed ty aty k.types.fixed
+
+          code : List AsmItem
+          code = fixed_conversion_code ty aty mode (home a) answer_location work_location
+
+          code_is : code_of i rest ≡ answer_code code (home t) w
+          code_is = ap (λ z. code_by_kind z (answer_code code (home t) w) (conversion_code (is_signed aty) (home a) (home t) a.bytes w)) fx
+
+          more : (u : ℕ) → u ≢ t.at → need u ≤ needs at (i ∷ rest) u
+          more u d = let x = without_other t.at u need d in let z = least_other a.at ka u (without t.at need) in omega arith
+
+          m1 : Mach
+          m1 = machine (with_temp t r m.temps) st
+
+          is_operand : HasOperandBytes aty low (operand low)
+          is_operand = record { type_is = refl; value_is = value_is aty low (fixed_numeric aty known.operand) }
+
+          number : IsNumber (conversion_value (number_type ty) mode (fixed_operand_in (format_in aty) (scalar_size aty) low)) r
+          number = conversion_told ty aty mode low (operand low) r known.result known.operand is_operand q
+
+          by_need : (x : Bool) → (w == 0) ≡ x → G (suc n) m.state.work pc v (R (suc n) rest m1)
+          by_need true z =
+              let empty : code_of i rest ≡ [] = code_is ∙ ap (λ x. if x then [] else code ++ copy_code answer_location (home t) w) z in
+              let go = nothing_passes i t (low_bytes t.bytes number.number) c rest n pc (needs at (i ∷ rest)) m v k.result empty (eqb-true w 0 z) (low_below t.bytes number.number) stands more h f in
+              subst (λ (x : Value). G (suc n) m.state.work pc v (R (suc n) rest (machine (with_temp t x m.temps) st))) (sym number.result) go
+          by_need false z =
+              let parts = has_parts e (code_of i rest) (items rest) pc end stands in
+              let there : HasAt e (answer_code code (home t) w) pc parts.0 = subst (λ x. HasAt e x pc parts.0) code_is parts.1 in
+              let size = scalar_size ty in
+              let same : size ≡ t.bytes = sym k.result_bytes in
+              let some = k.result.some in
+              let most = k.result.most in
+              let need0 = needs at (i ∷ rest) in
+              let least_a : all_or_none a.bytes w ≤ need0 a.at = subst (λ (x : Bool). only_wanted x a.bytes w ≤ need0 a.at) fx (least_here a.at ka (without t.at need)) in
+              let x_is : value v.at (base a) (scalar_size aty) ≡ low = all_there a w low (scalar_size aty) need0 m v k.from k.from_bytes z least_a qa h in
+              let slots1 = subst (λ (x : ℕ). AreOperandSlots e (home a) answer_location work_location x size (base a) (y.work + 40) y.work) k.from_bytes (operand_slots_of p e slots home base place y a size k.from (omega arith) (omega arith)) in
+              let holds = IsConversionResult ty mode aty (value v.at (base a) (scalar_size aty)) in
+              let run = λ (mid : ℕ) (u : HasAt e code pc mid). y.fixed.conversions ty aty mode e (home a) answer_location work_location (base a) (y.work + 40) y.work pc mid v k.types slots1 h.bytes u in
+              let room = conversion_roomy ty aty in
+              answer_passes p e slots home base place y code (64 * conversion_room ty aty) size c (suc n) pc parts.0 t need need0 m v (R (suc n) rest m1) holds k.result same h more z there run (omega (arith, room, same))
+              (λ result v2 g matches.
+              let content : content_of t.bytes r ≡ bits result =
+              ap (λ s. content_of s r) k.result_bytes ∙ g (operand low) r (record { type_is = refl; value_is = ap (λ x. value_in aty (bits x)) x_is ∙ value_is aty low (fixed_numeric aty known.operand) }) q in
+              f parts.0 m1 v2 parts.2 (subst (λ (x : Content). M need (machine (with_content t x m.temps) st) v2) (sym content) matches))
 
   -- ---- unary operators
 
@@ -923,13 +1269,17 @@ module _ (p : PlainProgram) (functions : List PlainIrFunction) (inputs : Inputs)
   pub unary_follows : (op : UnOp) (ty : PlainType) (mode : Mode) (t a : Temp) (rest : List PlainIr) (n pc : ℕ) (m : Mach)
       (v : View) → IsCovered p results me slots (unary_op op ty mode t a)
       → HasAt e (items (unary_op op ty mode t a ∷ rest)) pc end
-      → M (at_least a.at (wanted (needs at rest) t) (without t.at (needs at rest))) m v → Rest (suc n) rest
+      → M (needs at (unary_op op ty mode t a ∷ rest)) m v → Rest (suc n) rest
       → G (suc n) m.state.work pc v (R (suc n) (unary_op op ty mode t a ∷ rest) m)
-  unary_follows op ty mode t a rest n pc m v k stands h f =
+  unary_follows op ty mode t a rest n pc m v covered stands h f =
+      ⊎_elim
+      (λ (k : IsUnary slots t a ty).
       let same = k.same_bytes in
       let type : ty ≡ integer k.signed a.bytes = k.result_type ∙ ap (integer k.signed) (sym same) in
-      subst (λ x. G (suc n) m.state.work pc v (R (suc n) (unary_op op x mode t a ∷ rest) m)) (sym type)
-      (unary_of_numbers op k.signed mode t a rest n pc m v k.result k.operand same stands h f)
+      let done = λ (x : PlainType). HasAt e (items (unary_op op x mode t a ∷ rest)) pc end → M (needs at (unary_op op x mode t a ∷ rest)) m v → G (suc n) m.state.work pc v (R (suc n) (unary_op op x mode t a ∷ rest) m) in
+      subst done (sym type) (λ stand needed. unary_of_numbers op k.signed mode t a rest n pc m v k.result k.operand same stand needed f) stands h)
+      (λ (k : IsFixedUnary slots op t a ty). fixed_unary_follows op ty mode t a rest n pc m v k stands h f)
+      covered
 
   -- ---- conversions
 
@@ -972,12 +1322,17 @@ module _ (p : PlainProgram) (functions : List PlainIrFunction) (inputs : Inputs)
   pub conversion_follows : (t : Temp) (ty : PlainType) (mode : Mode) (a : Temp) (aty : PlainType) (rest : List PlainIr)
       (n pc : ℕ) (m : Mach) (v : View) → IsCovered p results me slots (conversion t ty mode a aty)
       → HasAt e (items (conversion t ty mode a aty ∷ rest)) pc end
-      → M (at_least a.at (wanted (needs at rest) t) (without t.at (needs at rest))) m v → Rest (suc n) rest
+      → M (needs at (conversion t ty mode a aty ∷ rest)) m v → Rest (suc n) rest
       → G (suc n) m.state.work pc v (R (suc n) (conversion t ty mode a aty ∷ rest) m)
-  conversion_follows t ty mode a aty rest n pc m v k stands h f =
-      subst (λ x. HasAt e (items (conversion t x mode a aty ∷ rest)) pc end → G (suc n) m.state.work pc v (R (suc n) (conversion t x mode a aty ∷ rest) m)) (sym k.result_type)
-      (subst (λ x. HasAt e (items (conversion t (integer k.signed t.bytes) mode a x ∷ rest)) pc end → G (suc n) m.state.work pc v (R (suc n) (conversion t (integer k.signed t.bytes) mode a x ∷ rest) m)) (sym k.from_type)
-      (λ stand. conversion_of_numbers k.signed k.from_signed mode t a rest n pc m v k.result k.from stand h f)) stands
+  conversion_follows t ty mode a aty rest n pc m v covered stands h f =
+      ⊎_elim
+      (λ (k : AreConverted slots t a ty aty).
+      let done = λ (x z : PlainType). HasAt e (items (conversion t x mode a z ∷ rest)) pc end → M (needs at (conversion t x mode a z ∷ rest)) m v → G (suc n) m.state.work pc v (R (suc n) (conversion t x mode a z ∷ rest) m) in
+      subst (λ x. done x aty) (sym k.result_type)
+      (subst (λ x. done (integer k.signed t.bytes) x) (sym k.from_type)
+      (λ stand needed. conversion_of_numbers k.signed k.from_signed mode t a rest n pc m v k.result k.from stand needed f)) stands h)
+      (λ (k : IsFixedConversion slots t a ty aty). fixed_conversion_follows t ty mode a aty rest n pc m v k stands h f)
+      covered
 
   -- ---- accesses
 
@@ -1040,9 +1395,9 @@ module _ (p : PlainProgram) (functions : List PlainIrFunction) (inputs : Inputs)
       put_is x u = rw (l.in_data) refl
 
       at_number : (x : ObjectState) (low : ℕ) → m.temps t.at ≡ Some (record { bytes = t.bytes; content = bits low })
-          → G (suc n) m.state.work pc v (next (put_leaf (Some (access_in o offset t.bytes l x)) (Number (number_of_bytes l.signed t.bytes low)) (begun (store_object o offset t) m)) (store_on n rest m))
+          → G (suc n) m.state.work pc v (next (put_leaf (Some (access_in o offset t.bytes l x)) (Number (number_of_bytes (sign_in l.ty) t.bytes low)) (begun (store_object o offset t) m)) (store_on n rest m))
       at_number x low q =
-          let i = number_of_bytes l.signed t.bytes low in
+          let i = number_of_bytes (sign_in l.ty) t.bytes low in
           let copies = copy_steps (home t) (object_location p.objects o offset) t.bytes in
           let some = it.some in
           let s1 = after_write p e slots home base place y o offset t.bytes l i (begun (store_object o offset t) m) in
@@ -1052,14 +1407,14 @@ module _ (p : PlainProgram) (functions : List PlainIrFunction) (inputs : Inputs)
           let below : low < 256 ^ t.bytes = (h.temps_hold t _ it q refl).1 in
           subst (λ z. G (suc n) m.state.work pc v (next z (store_on n rest m))) (sym (put_is x (Number i)))
           (passes (store_object o offset t) rest n (suc n) m.state.work m1.state.work pc v (R n rest m1) stands (copy_straight (home t) (object_location p.objects o offset) t.bytes) (omega (arith, copies.0, some)) (omega (arith, small, work))
-          (λ mid u. f mid m1 _ u (store_matches p e slots home base place y t o offset l (needs at rest) m v (op_steps (store_object o offset t)) low i it q (low_of_number l.signed t.bytes low below) h)))
+          (λ mid u. f mid m1 _ u (store_matches p e slots home base place y t o offset l (needs at rest) m v (op_steps (store_object o offset t)) low i it q (low_of_number (sign_in l.ty) t.bytes low below) h)))
 
       at_access : (x : ObjectState) → G (suc n) m.state.work pc v (next (put p (Some (access_in o offset t.bytes l x)) t m.temps (begun (store_object o offset t) m)) (store_on n rest m))
       at_access x =
-          let ty : accessed_type p (Some (access_in o offset t.bytes l x)) ≡ integer l.signed t.bytes = rw (l.is_leaf) refl in
+          let ty : accessed_type p (Some (access_in o offset t.bytes l x)) ≡ l.ty = rw (l.is_leaf) refl in
           subst (λ z. G (suc n) m.state.work pc v (next (next (held_as z t m.temps (begun (store_object o offset t) m)) (λ u s1. put_leaf (Some (access_in o offset t.bytes l x)) u s1)) (store_on n rest m))) (sym ty)
-          (subst (λ z. G (suc n) m.state.work pc v z) (sym (next_next (held_as (integer l.signed t.bytes) t m.temps (begun (store_object o offset t) m)) (λ u s1. put_leaf (Some (access_in o offset t.bytes l x)) u s1) (store_on n rest m)))
-          (from_number p place e l.signed t m.temps (begun (store_object o offset t) m) (λ u s1. next (put_leaf (Some (access_in o offset t.bytes l x)) u s1) (store_on n rest m)) (suc n) m.state.work pc v (at_number x)))
+          (subst (λ z. G (suc n) m.state.work pc v z) (sym (next_next (held_as l.ty t m.temps (begun (store_object o offset t) m)) (λ u s1. put_leaf (Some (access_in o offset t.bytes l x)) u s1) (store_on n rest m)))
+          (from_numeric p place e l.ty t m.temps (begun (store_object o offset t) m) (λ u s1. next (put_leaf (Some (access_in o offset t.bytes l x)) u s1) (store_on n rest m)) (suc n) m.state.work pc v l.is_number l.size (at_number x)))
 
       at_object : (z : Option ObjectState) → slice_get m.state.objects o ≡ z
           → G (suc n) m.state.work pc v (next (put p (object_access p None o offset (begun (store_object o offset t) m)) t m.temps (begun (store_object o offset t) m)) (store_on n rest m))
@@ -1071,6 +1426,105 @@ module _ (p : PlainProgram) (functions : List PlainIrFunction) (inputs : Inputs)
       at_object (Some x) q =
           let a : object_access p None o offset (begun (store_object o offset t) m) ≡ Some (access_in o offset t.bytes l x) = rw (l.is_object, q, l.found) refl in
           subst (λ z. G (suc n) m.state.work pc v (next (put p z t m.temps (begun (store_object o offset t) m)) (store_on n rest m))) (sym a) (at_access x)
+
+  -- ---- ports
+
+  -- the bytes of a port have been accessed where the run goes on, so they are ports of the machine
+  on_machine : (n : ℕ) (rest : List PlainIr) (temps : Temps) (s : State) → are_on_ports e (state_of (R n rest (machine temps s))).events ≡ true
+      → are_on_ports e s.events ≡ true
+  on_machine n rest temps s q =
+      ports_before e s (state_of (R n rest (machine temps s))) (exec_adds functions p y.inputs n all stack rest (machine temps s)).events q
+
+  some_width : (width : ℕ) → (width ≡ 1) ⊎ ((width ≡ 2) ⊎ (width ≡ 4)) → 1 ≤ width
+  some_width width cases =
+      ⊎_elim (λ (q : width ≡ 1). omega arith)
+      (λ (r : (width ≡ 2) ⊎ (width ≡ 4)). ⊎_elim (λ (q : width ≡ 2). omega arith) (λ (q : width ≡ 4). omega arith) r) cases
+
+  -- how a read and a write go on
+  abbrev in_on : ℕ → List PlainIr → Temp → Mach → Value → State → Outcome Value
+  in_on n rest t m x s1 = R n rest (machine (with_temp t x m.temps) s1)
+
+  pub in_follows : (t : Temp) (port : ℕ) (index : Option Temp) (width : ℕ) (rest : List PlainIr) (n pc : ℕ) (m : Mach)
+      (v : View) → IsPort slots t port index width → HasAt e (items (port_in t port index width ∷ rest)) pc end
+      → M (index_needed index (without t.at (needs at rest))) m v → Rest n rest
+      → G (suc n) m.state.work pc v (R (suc n) (port_in t port index width ∷ rest) m)
+  in_follows t port index width rest n pc m v is stands h f =
+      from_element p place e index port width m.temps s (λ a s1. next (port_read y.inputs a width s1) (in_on n rest t m)) (suc n) m.state.work pc v
+      (λ a element. by_place a element (nat_le (a + width) 256) refl)
+    where
+      s : State
+      s = begun (port_in t port index width) m
+
+      some : 1 ≤ width
+      some = some_width width is.one_two_four
+
+      m1 : ℕ → Mach
+      m1 a = machine (with_content t (bits (low_bytes t.bytes (pos (number_read y.inputs width a s)))) m.temps) (bytes_read y.inputs width a s)
+
+      found : (a : ℕ) → IsElement index port width a m.temps → a + width ≤ 256
+          → G (suc n) m.state.work pc v (R n rest (m1 a))
+      found a element below =
+          with_ports p place e (suc n) m.state.work pc v (R n rest (m1 a))
+          (λ ports.
+          let need0 = index_needed index (without t.at (needs at rest)) in
+          let point = points_at p e slots home base place y index port width a need0 m v is.index_has (needs_index p e slots home base place y index (without t.at (needs at rest))) is.one_two_four below some element h in
+          let kinds = kinds_read e y.inputs width a s (on_machine n rest (m1 a).temps (m1 a).state ports) in
+          let more : (u : ℕ) → u ≢ t.at → needs at rest u ≤ need0 u = λ u d. (let x = without_other t.at u (needs at rest) d in let z = index_other p e slots home base place y index (without t.at (needs at rest)) u in omega (arith, x, z)) in
+          let matches = in_matches p e slots home base place y index t port width a (op_steps (port_in t port index width)) (needs at rest) need0 m v is.number is.within some below kinds more h point in
+          let take = in_steps (option_map home index) (home t) port width (wanted (needs at rest) t) in
+          let most = wanted_most (needs at rest) t in
+          let work = read_work y.inputs width a s in
+          passes (port_in t port index width) rest n (suc n) m.state.work (m1 a).state.work pc v (R n rest (m1 a)) stands (in_straight (option_map home index) (home t) port width (wanted (needs at rest) t)) (omega (arith, take.0, some)) (omega (arith, take.1, most, some, work))
+          (λ mid u. f mid (m1 a) _ u matches))
+
+      by_place : (a : ℕ) → IsElement index port width a m.temps → (b : Bool) → nat_le (a + width) 256 ≡ b
+          → G (suc n) m.state.work pc v (next (if b then got (Number (pos (number_read y.inputs width a s))) (bytes_read y.inputs width a s) else undefined BufferIndex s) (in_on n rest t m))
+      by_place a element true q = found a element (leb-true (a + width) 256 q)
+      by_place a element false q = tt
+
+  abbrev out_on : ℕ → List PlainIr → Mach → Value → State → Outcome Value
+  out_on n rest m x s1 = R n rest (machine m.temps s1)
+
+  pub out_follows : (t : Temp) (port : ℕ) (index : Option Temp) (width : ℕ) (rest : List PlainIr) (n pc : ℕ) (m : Mach)
+      (v : View) → IsPort slots t port index width → HasAt e (items (port_out t port index width ∷ rest)) pc end
+      → M (at_least t.at width (index_needed index (needs at rest))) m v → Rest n rest
+      → G (suc n) m.state.work pc v (R (suc n) (port_out t port index width ∷ rest) m)
+  out_follows t port index width rest n pc m v is stands h f =
+      from_element p place e index port width m.temps s (λ a s1. next (held_number t m.temps s1) (λ low s2. next (port_written a width low s2) (out_on n rest m))) (suc n) m.state.work pc v
+      (λ a element. from_bytes p place e t m.temps s (λ low s2. next (port_written a width low s2) (out_on n rest m)) (suc n) m.state.work pc v
+      (λ low holds. by_place a element low holds (nat_le (a + width) 256) refl))
+    where
+      s : State
+      s = begun (port_out t port index width) m
+
+      some : 1 ≤ width
+      some = some_width width is.one_two_four
+
+      m1 : (a low : ℕ) → Mach
+      m1 a low = machine m.temps (bytes_written width a low s)
+
+      found : (a : ℕ) → IsElement index port width a m.temps → (low : ℕ)
+          → m.temps t.at ≡ Some (record { bytes = t.bytes; content = bits low }) → a + width ≤ 256
+          → G (suc n) m.state.work pc v (R n rest (m1 a low))
+      found a element low holds below =
+          with_ports p place e (suc n) m.state.work pc v (R n rest (m1 a low))
+          (λ ports.
+          let need0 = at_least t.at width (index_needed index (needs at rest)) in
+          let needed = needs_index_too p e slots home base place y index t.at width (index_needed index (needs at rest)) (needs_index p e slots home base place y index (needs at rest)) in
+          let point = points_at p e slots home base place y index port width a need0 m v is.index_has needed is.one_two_four below some element h in
+          let kinds = kinds_written e width a low s (on_machine n rest m.temps (m1 a low).state ports) in
+          let less : (u : ℕ) → needs at rest u ≤ need0 u = λ u. (let x = least_other t.at width u (index_needed index (needs at rest)) in let z = index_other p e slots home base place y index (needs at rest) u in omega (arith, x, z)) in
+          let matches = out_matches p e slots home base place y index t port width a (op_steps (port_out t port index width)) low (needs at rest) need0 m v is.number is.within below kinds (least_here t.at width (index_needed index (needs at rest))) less holds h point in
+          let take = out_steps (option_map home index) (home t) port width in
+          let work = written_work width a low s in
+          passes (port_out t port index width) rest n (suc n) m.state.work (m1 a low).state.work pc v (R n rest (m1 a low)) stands (out_straight (option_map home index) (home t) port width) (omega (arith, take.0, some)) (omega (arith, take.1, some, work))
+          (λ mid u. f mid (m1 a low) _ u matches))
+
+      by_place : (a : ℕ) → IsElement index port width a m.temps → (low : ℕ)
+          → m.temps t.at ≡ Some (record { bytes = t.bytes; content = bits low }) → (b : Bool) → nat_le (a + width) 256 ≡ b
+          → G (suc n) m.state.work pc v (next (if b then got (Number (pos low)) (bytes_written width a low s) else undefined BufferIndex s) (out_on n rest m))
+      by_place a element low holds true q = found a element low holds (leb-true (a + width) 256 q)
+      by_place a element low holds false q = tt
 
   -- ---- jumps
 
@@ -1127,8 +1581,8 @@ module _ (p : PlainProgram) (functions : List PlainIrFunction) (inputs : Inputs)
   found told (store_at t space u ∷ ops) pc l rest r f = absurd r.covered.0
   found told (unary_op op ty mode t a ∷ ops) pc l rest r f = let s = onward told (unary_op op ty mode t a) ops pc r.stands in found None ops s.0 l rest (record { covered = r.covered.1; live = r.live; inside = r.inside; stands = s.1 }) f
   found told (call_function g t ∷ ops) pc l rest r f = let s = onward told (call_function g t) ops pc r.stands in found None ops s.0 l rest (record { covered = r.covered.1; live = r.live; inside = λ b c. r.inside b (Contains-append_right (g ∷ []) (called_in ops) b c); stands = s.1 }) f
-  found told (port_in t port index width ∷ ops) pc l rest r f = absurd r.covered.0
-  found told (port_out t port index width ∷ ops) pc l rest r f = absurd r.covered.0
+  found told (port_in t port index width ∷ ops) pc l rest r f = let s = onward told (port_in t port index width) ops pc r.stands in found None ops s.0 l rest (record { covered = r.covered.1; live = r.live; inside = r.inside; stands = s.1 }) f
+  found told (port_out t port index width ∷ ops) pc l rest r f = let s = onward told (port_out t port index width) ops pc r.stands in found None ops s.0 l rest (record { covered = r.covered.1; live = r.live; inside = r.inside; stands = s.1 }) f
 
   -- what is shown from any operation on
   abbrev pub Onward : ℕ → Type 0
@@ -1138,17 +1592,17 @@ module _ (p : PlainProgram) (functions : List PlainIrFunction) (inputs : Inputs)
   -- to a label
   jumps : (start l n c k pc : ℕ) (m : Mach) (v v1 : View) → Ready start all → e.word_of (link.label_of l) < 65536
       → Goes e k pc v (e.word_of (link.label_of l)) v1 → 1 ≤ k → k ≤ c → M (at l) m v1 → Onward n
-      → G (suc n) m.state.work pc v (jump_to (find l all) (λ q u. exec_from functions p inputs n q.code q.stack q.rest u) all stack (machine m.temps (worked c m.state)))
+      → G (suc n) m.state.work pc v (jump_to (find l all) (λ q u. exec_from functions p y.inputs n q.code q.stack q.rest u) all stack (machine m.temps (worked c m.state)))
   jumps start l n c k pc m v v1 ready w goes some most h f = by_label (find l all) refl
     where
       by_label : (o : Option (List PlainIr)) → find l all ≡ o
-          → G (suc n) m.state.work pc v (jump_to o (λ q u. exec_from functions p inputs n q.code q.stack q.rest u) all stack (machine m.temps (worked c m.state)))
+          → G (suc n) m.state.work pc v (jump_to o (λ q u. exec_from functions p y.inputs n q.code q.stack q.rest u) all stack (machine m.temps (worked c m.state)))
       by_label None q = tt
       by_label (Some rest) q =
           let g = found None all start l rest (record { covered = ready.covered; live = ready.live; inside = ready.inside; stands = ready.stands }) q in
           let m1 = machine m.temps (worked c m.state) in
           let z = weaker p e slots home base place y (at l) (needs at rest) m v1 h g.needed in
-          let matches : M (needs at rest) m1 v1 = record { temps_hold = z.temps_hold; leaves_hold = z.leaves_hold; kept = z.kept; bytes = z.bytes; seen = z.seen; safe = z.safe } in
+          let matches : M (needs at rest) m1 v1 = record { temps_hold = z.temps_hold; leaves_hold = z.leaves_hold; kept = z.kept; bytes = z.bytes; left = z.left; seen = z.seen; safe = z.safe } in
           after p place e k n (suc n) m.state.work m1.state.work pc (e.word_of (link.label_of l)) v v1 (R n rest m1) goes (omega arith) (omega arith) (f (e.word_of (link.label_of l)) rest m1 v1 (g.ready w) matches)
 
   pub jump_follows : (start l : ℕ) (rest : List PlainIr) (n pc : ℕ) (m : Mach) (v : View) → Ready start all
@@ -1160,7 +1614,7 @@ module _ (p : PlainProgram) (functions : List PlainIrFunction) (inputs : Inputs)
   -- the same after an operation that changes neither temporaries nor objects
   again : (need : Need) (m : Mach) (v : View) (c : ℕ) → M need m v → M need (machine m.temps (worked c m.state)) v
   again need m v c z =
-      record { temps_hold = z.temps_hold; leaves_hold = z.leaves_hold; kept = z.kept; bytes = z.bytes; seen = z.seen; safe = z.safe }
+      record { temps_hold = z.temps_hold; leaves_hold = z.leaves_hold; kept = z.kept; bytes = z.bytes; left = z.left; seen = z.seen; safe = z.safe }
 
   -- ---- branches
 
@@ -1172,6 +1626,7 @@ module _ (p : PlainProgram) (functions : List PlainIrFunction) (inputs : Inputs)
         leaves_hold = λ l x u q z. (let some = (y.layout.leaves_at l).clear in same_leaf v.at w.at (place l.object + l.at) l.bytes u (λ j r. k.same (place l.object + l.at + j) (omega arith) (omega arith)) (h.leaves_hold l x u q z));
         kept = λ i q. (let u = y.high i q in k.same i (omega arith) (omega arith)) ∙ h.kept i q;
         bytes = λ i u. rw (k.same i (omega arith) (omega arith)) (h.bytes i u);
+        left = kept_left y.inputs m.state v w k.inputs h.left;
         seen = k.seen ∙ h.seen;
         safe = k.safe ∙ h.safe;
       }
@@ -1229,7 +1684,7 @@ module _ (p : PlainProgram) (functions : List PlainIrFunction) (inputs : Inputs)
           → M (needs at rest) m (block e (test_code (home t) t.bytes) v)
           → M (at l) m (block e (test_code (home t) t.bytes) v) → (x : Content)
           → HoldsContent v.at (base t) t.bytes t.bytes x
-          → G (suc n) m.state.work pc v (if is_zero x then jump_to (find l all) (λ q u. exec_from functions p inputs n q.code q.stack q.rest u) all stack (machine m.temps (worked (op_steps (branch_zero t l)) m.state)) else R n rest (machine m.temps (worked (op_steps (branch_zero t l)) m.state)))
+          → G (suc n) m.state.work pc v (if is_zero x then jump_to (find l all) (λ q u. exec_from functions p y.inputs n q.code q.stack q.rest u) all stack (machine m.temps (worked (op_steps (branch_zero t l)) m.state)) else R n rest (machine m.temps (worked (op_steps (branch_zero t l)) m.state)))
       by_content mid to goes take branch to_end here there (points x) content = absurd content
       by_content mid to goes take branch to_end here there (bits low) content =
           let c = op_steps (branch_zero t l) in
@@ -1256,7 +1711,7 @@ module _ (p : PlainProgram) (functions : List PlainIrFunction) (inputs : Inputs)
   -- how a branch goes on
   abbrev branched : (n l : ℕ) (t : Temp) (rest : List PlainIr) → Mach → Bool → Outcome Value
   branched n l t rest m is_none =
-      if is_none then jump_to (find l all) (λ q u. exec_from functions p inputs n q.code q.stack q.rest u) all stack (machine m.temps (worked (op_steps (branch_zero t l)) m.state))
+      if is_none then jump_to (find l all) (λ q u. exec_from functions p y.inputs n q.code q.stack q.rest u) all stack (machine m.temps (worked (op_steps (branch_zero t l)) m.state))
       else R n rest (machine m.temps (worked (op_steps (branch_zero t l)) m.state))
 
   -- the branch on a truth value that a flag tells: it is taken where the flag is `set`
@@ -1401,12 +1856,16 @@ module _ (p : PlainProgram) (functions : List PlainIrFunction) (inputs : Inputs)
       HasAt e (op_code p.objects home link None told (needs at ops) (binary_op op ty mode t a aty b bty) ++ items_told told ops) pc end
 
   -- a binary operator, and where it is a comparison that only the branch behind it tests, this branch too
-  binary_follows : (start : ℕ) → Ready start all → (n : ℕ) → Onward n → (op : BinOp) (ty : PlainType) (mode : Mode)
+  integers_follow : (start : ℕ) → Ready start all → (n : ℕ) → Onward n → (op : BinOp) (ty : PlainType) (mode : Mode)
       (t a : Temp) (aty : PlainType) (b : Temp) (bty : PlainType) (pc : ℕ) (rest : List PlainIr) (m : Mach) (v : View)
-      → Ready pc (binary_op op ty mode t a aty b bty ∷ rest) → M (needs at (binary_op op ty mode t a aty b bty ∷ rest)) m v
+      → IsBinary (family_of op) slots t a b ty aty bty → (is_fixed aty || is_fixed bty) ≡ false → Ready pc (binary_op op ty mode t a aty b bty ∷ rest) → M (needs at (binary_op op ty mode t a aty b bty ∷ rest)) m v
       → Rest (suc n) rest → G (suc n) m.state.work pc v (R (suc n) (binary_op op ty mode t a aty b bty ∷ rest) m)
-  binary_follows start ready n go op ty mode t a aty b bty pc rest m v r h f = by_told (tells_next at (binary_op op ty mode t a aty b bty) rest) refl
+  integers_follow start ready n go op ty mode t a aty b bty pc rest m v integers fx r h f = by_told (tells_next at (binary_op op ty mode t a aty b bty) rest) refl
     where
+      needed : (ops : List PlainIr) → M (needs at (binary_op op ty mode t a aty b bty ∷ ops)) m v
+          → M (operands_needed op t a b (operand_wanted op a.bytes (wanted (needs at ops) t)) (right_wanted op b.bytes (wanted (needs at ops) t)) (needs at ops)) m v
+      needed ops h = subst (λ x. M (operands_needed op t a b (first_wanted x op a.bytes (wanted (needs at ops) t)) (second_wanted x op b.bytes (wanted (needs at ops) t)) (needs at ops)) m v) fx h
+
       by_family : (x : Family) → family_of op ≡ x → (told : Told) → told_of x (is_signed aty) ≡ Some told → (l : ℕ) (ops : List PlainIr)
           → IsBinary x slots t a b ty aty bty → AreCovered p results me slots ops → IsLive at ops
           → ((c : ℕ) → Contains (called_in ops) c → Contains (called_in all) c) → wanted (either (needs at ops) (at l)) t ≡ 0
@@ -1419,12 +1878,12 @@ module _ (p : PlainProgram) (functions : List PlainIrFunction) (inputs : Inputs)
           let stand : HasAt e (flag_code (Compared r exchanged) (home a) (home b) a.bytes ++ (unless_code r k.signed (link.label_of l) ++ items ops)) pc end = subst (λ x. HasAt e (flag_code (Compared r exchanged) (home a) (home b) a.bytes ++ (unless_code x k.signed (link.label_of l) ++ items ops)) pc end) (sym relation) (subst (λ x. HasAt e (flag_code (Compared r exchanged) (home a) (home b) a.bytes ++ (unless_code told.relation x (link.label_of l) ++ items ops)) pc end) (sym signs) stands) in
           subst (λ x. G (suc n) m.state.work pc v (R (suc n) (binary_op op ty mode t a x b bty ∷ branch_zero t l ∷ ops) m)) (sym k.left_type)
           (subst (λ x. G (suc n) m.state.work pc v (R (suc n) (binary_op op ty mode t a (integer k.signed a.bytes) b x ∷ branch_zero t l ∷ ops) m)) (sym k.right_type)
-          (told_follows start l op r exchanged q k.signed ty mode t a b ops n pc m v ready covered live inside k.result k.left k.right k.same_bytes none stand h go))
+          (told_follows start l op r exchanged q k.signed ty mode t a b ops n pc m v ready covered live inside k.result k.left k.right k.same_bytes none stand (needed (branch_zero t l ∷ ops) h) go))
       by_family x q told w l ops k covered live inside none stands h = absurd (cc)
 
       at_branch : (u : Temp) (l : ℕ) (ops : List PlainIr) (told : Told) → (only : Bool)
           → is_only_tested t (Some (branch_zero u l)) (wanted (either (needs at ops) (at l)) u) ≡ only
-          → (if only then told_of (family_of op) (is_signed aty) else None) ≡ Some told
+          → (if only then told_by (is_fixed aty || is_fixed bty) (family_of op) (is_signed aty) else None) ≡ Some told
           → Ready pc (binary_op op ty mode t a aty b bty ∷ branch_zero u l ∷ ops)
           → M (needs at (binary_op op ty mode t a aty b bty ∷ branch_zero u l ∷ ops)) m v
           → StandsTelling op ty mode t a aty b bty pc (Some told) (branch_zero u l ∷ ops)
@@ -1437,7 +1896,7 @@ module _ (p : PlainProgram) (functions : List PlainIrFunction) (inputs : Inputs)
           let none : wanted (either (needs at ops) (at l)) t ≡ 0 = subst (λ x. wanted (either (needs at ops) (at l)) x ≡ 0) same (eqb-true (wanted (either (needs at ops) (at l)) u) 0 parts.0) in
           let h1 = subst (λ x. M (needs at (binary_op op ty mode t a aty b bty ∷ branch_zero x l ∷ ops)) m v) same h in
           subst (λ x. G (suc n) m.state.work pc v (R (suc n) (binary_op op ty mode t a aty b bty ∷ branch_zero x l ∷ ops) m)) (sym same)
-          (by_family (family_of op) refl told q l ops r.covered.0 r.covered.1.1 r.live r.inside none stands h1)
+          (by_family (family_of op) refl told (subst (λ x. told_by x (family_of op) (is_signed aty) ≡ Some told) fx q) l ops integers r.covered.1.1 r.live r.inside none (subst (λ x. HasAt e (code_by_kind x (fixed_binary op ty aty bty mode (home a) (home b) (home t) (wanted (needs at (branch_zero t l ∷ ops)) t)) (flag_code (family_of op) (home a) (home b) a.bytes) ++ items_told (Some told) (branch_zero t l ∷ ops)) pc end) fx (subst (λ x. StandsTelling op ty mode t a aty b bty pc (Some told) (branch_zero x l ∷ ops)) same stands)) h1)
 
       at_next : (ops : List PlainIr) (told : Told) → tells_next at (binary_op op ty mode t a aty b bty) ops ≡ Some told
           → Ready pc (binary_op op ty mode t a aty b bty ∷ ops) → M (needs at (binary_op op ty mode t a aty b bty ∷ ops)) m v
@@ -1450,8 +1909,26 @@ module _ (p : PlainProgram) (functions : List PlainIrFunction) (inputs : Inputs)
       by_told : (told : Option Told) → tells_next at (binary_op op ty mode t a aty b bty) rest ≡ told
           → G (suc n) m.state.work pc v (R (suc n) (binary_op op ty mode t a aty b bty ∷ rest) m)
       by_told None q =
-          operator_follows op ty mode t a aty b bty rest n pc m v r.covered.0 (subst (λ x. StandsTelling op ty mode t a aty b bty pc x rest) q r.stands) h f
+          operator_follows op ty mode t a aty b bty rest n pc m v integers (subst (λ x. StandsTelling op ty mode t a aty b bty pc x rest) q r.stands) (needed rest h) f
       by_told (Some told) q = at_next rest told q r h
+
+  -- the types of integer operators are no fixed-point ones
+  no_fixed : (x : Family) (t a b : Temp) (ty aty bty : PlainType) → IsBinary x slots t a b ty aty bty → (is_fixed aty || is_fixed bty) ≡ false
+  no_fixed (Combined o) t a b ty aty bty k = ap (λ z. is_fixed z || is_fixed bty) k.left_type ∙ ap is_fixed k.right_type
+  no_fixed (Compared r exchanged) t a b ty aty bty k = ap (λ z. is_fixed z || is_fixed bty) k.left_type ∙ ap is_fixed k.right_type
+  no_fixed Multiplied t a b ty aty bty k = ap (λ z. is_fixed z || is_fixed bty) k.left_type ∙ ap is_fixed k.right_type
+  no_fixed (Shifted up) t a b ty aty bty k = ap (λ z. is_fixed z || is_fixed bty) k.0.left_type ∙ ap is_fixed k.0.count_type
+  no_fixed (Divided r) t a b ty aty bty k = ap (λ z. is_fixed z || is_fixed bty) k.0.left_type ∙ ap is_fixed k.0.right_type
+
+  binary_follows : (start : ℕ) → Ready start all → (n : ℕ) → Onward n → (op : BinOp) (ty : PlainType) (mode : Mode)
+      (t a : Temp) (aty : PlainType) (b : Temp) (bty : PlainType) (pc : ℕ) (rest : List PlainIr) (m : Mach) (v : View)
+      → Ready pc (binary_op op ty mode t a aty b bty ∷ rest) → M (needs at (binary_op op ty mode t a aty b bty ∷ rest)) m v
+      → Rest (suc n) rest → G (suc n) m.state.work pc v (R (suc n) (binary_op op ty mode t a aty b bty ∷ rest) m)
+  binary_follows start ready n go op ty mode t a aty b bty pc rest m v r h f =
+      ⊎_elim
+      (λ (k : IsBinary (family_of op) slots t a b ty aty bty). integers_follow start ready n go op ty mode t a aty b bty pc rest m v k (no_fixed (family_of op) t a b ty aty bty k) r h f)
+      (λ (k : IsFixedBinary slots op t a b ty aty bty). fixed_binary_follows op ty mode t a aty b bty rest n pc m v k r.stands h f)
+      r.covered.0
 
   pub follows : (start : ℕ) → Ready start all → (n : ℕ) → Onward n → CallCase n → ReturnCase n → Onward (suc n)
   follows start ready n go calls returns pc [] m v r h = tt
@@ -1490,5 +1967,7 @@ module _ (p : PlainProgram) (functions : List PlainIrFunction) (inputs : Inputs)
   follows start ready n go calls returns pc (load_at t u space ∷ rest) m v r h = absurd r.covered.0
   follows start ready n go calls returns pc (store_at t space u ∷ rest) m v r h = absurd r.covered.0
   follows start ready n go calls returns pc (call_function g t ∷ rest) m v r h = calls g t pc rest m v r h
-  follows start ready n go calls returns pc (port_in t port index width ∷ rest) m v r h = absurd r.covered.0
-  follows start ready n go calls returns pc (port_out t port index width ∷ rest) m v r h = absurd r.covered.0
+  follows start ready n go calls returns pc (port_in t port index width ∷ rest) m v r h =
+      in_follows t port index width rest n pc m v r.covered.0 r.stands h (λ pc1 m1 v1 s z. go pc1 rest m1 v1 (record { covered = r.covered.1; live = r.live; inside = r.inside; stands = s }) z)
+  follows start ready n go calls returns pc (port_out t port index width ∷ rest) m v r h =
+      out_follows t port index width rest n pc m v r.covered.0 r.stands h (λ pc1 m1 v1 s z. go pc1 rest m1 v1 (record { covered = r.covered.1; live = r.live; inside = r.inside; stands = s }) z)

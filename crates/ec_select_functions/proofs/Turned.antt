@@ -31,7 +31,7 @@ use Rattle.ec_select_functions.specs.Needs.{Need, at_least, without, wanted}
 use Rattle.ec_select_functions.proofs.Setting.{Setting}
 use Rattle.ec_select_functions.specs.Relation.{Matches}
 use Rattle.ec_select_functions.proofs.Computed.{results, work_after, power_of, stand, moved_numbers}
-use Rattle.ec_select_functions.proofs.Match.{wanted_most, least_here, least_other, without_other, at_width}
+use Rattle.ec_select_functions.proofs.Match.{kept_left, wanted_most, least_here, least_other, without_other, at_width}
 use Rattle.ec_select_functions.proofs.Match.{read_first, written}
 use Rattle.ec_select_functions.proofs.Moves.{Frame, wider_frame, numbers_kept, row_value, move_holds}
 use Rattle.ec_select_functions.proofs.Wrapped.{Lifts, low_of, low_of_wrapped, low_of_difference, lifts_number}
@@ -115,7 +115,7 @@ left_by Invert e p n a v s h = complements_are_right e p n a v s h
 
 module _ (p : PlainProgram) (e : Env) (slots : ℕ) (home : Temp → Location) (base : Temp → ℕ) (place : ℕ → ℕ) (y : Setting p e slots home base place) where
   abbrev U : Need → Mach → View → Type 0
-  U need m v = Matches p slots base place y.aside y.was need m v
+  U need m v = Matches p y.inputs slots base place y.aside y.was need m v
 
   pub unary_matches : (op : UnOp) (t a : Temp) (need : Need) (m : Mach) (v : View) (c x : ℕ) → HasHome slots t
       → HasHome slots a → a.bytes ≡ t.bytes → m.temps a.at ≡ Some (record { bytes = a.bytes; content = bits x })
@@ -145,7 +145,7 @@ module _ (p : PlainProgram) (e : Env) (slots : ℕ) (home : Temp → Location) (
       let work : v2.at 30 < 256 = work_after v1 v2 (base t) n numbers1 o.keeps.same o.numbers in
       let numbers2 = numbers_kept v1 v2 (base t) n numbers1 frame2 o.numbers work in
       rw (block-append e (move_code (home a) (home t) n) (turn_code op (home t) n) v)
-      (written p e slots home base place y t (bits (turned op t.bytes x)) need need0 m (worked c m.state) v v2 it h (λ i r. still i r) frame (result, turned_below op t.bytes x) numbers2 refl (o.keeps.seen ∙ k.quiet.seen ∙ h.seen) (o.keeps.safe ∙ k.quiet.safe ∙ h.safe))
+      (written p e slots home base place y t (bits (turned op t.bytes x)) need need0 m (worked c m.state) v v2 it h (λ i r. still i r) frame (result, turned_below op t.bytes x) numbers2 refl (o.keeps.seen ∙ k.quiet.seen ∙ h.seen) (kept_left y.inputs m.state v v2 (o.keeps.inputs ∙ k.quiet.inputs) h.left) (o.keeps.safe ∙ k.quiet.safe ∙ h.safe))
     where
       still : (i : ℕ) → i ≢ t.at → need i ≤ at_least a.at (wanted need t) (without t.at need) i
       still i r =

@@ -1,6 +1,7 @@
 -- The code of operations. The families of operations that are not named here have none yet.
-use Rattle.std.specs.Prelude.{◌≤◌, ⊤, ℕ, suc, ◌+◌, ◌-◌, ◌*◌, ◌==◌, nat_le, Bool, true, false, ◌&&◌, if◌then◌else◌}
-use Rattle.std.specs.Prelude.{min, List, [], ◌∷◌, ◌++◌, Option, Some, None, slice_get, slice_index}
+use Rattle.std.specs.Prelude.{◌≤◌, ⊤, ℕ, suc, ◌+◌, ◌-◌, ◌*◌, ◌==◌, nat_le, Bool, true, false, ◌&&◌, ◌||◌, if◌then◌else◌}
+use Rattle.std.specs.Prelude.{min, List, [], ◌∷◌, ◌++◌, Option, Some, None, option_map, slice_get, slice_index}
+use Rattle.ec_fx.specs.declared.numbers.Mode.{Mode}
 use Rattle.ec_isa.specs.declared.instructions.Instr.TheVariants.{Ret}
 use Rattle.ec_asm.specs.declared.items.AsmItem.{AsmItem}
 use Rattle.ec_asm.specs.declared.items.AsmItem.TheVariants.{Plain, Label, JumpTo, CallTo, BranchTo}
@@ -18,7 +19,7 @@ use Rattle.ec_core.specs.declared.expressions.UnOp.TheVariants.{Minus, Invert}
 use Rattle.ec_core.specs.Plain.{PlainType, integer, PlainObject}
 use Rattle.ec_ir.specs.declared.operations.Temp.{Temp}
 use Rattle.ec_ir.specs.Operations.{PlainIr, constant, copy, load_object, store_object, binary_op, unary_op, conversion}
-use Rattle.ec_ir.specs.Operations.{label, jump, branch_zero, call_function, return_from}
+use Rattle.ec_ir.specs.Operations.{label, jump, branch_zero, call_function, return_from, port_in, port_out}
 use Rattle.ec_ir.specs.Temporaries.{low_bytes}
 use Rattle.ec_select_bytes.specs.Values.{constant_code, test_code, extend_code}
 use Rattle.ec_select_bytes.specs.Complements.{complement_code, negation_code}
@@ -36,8 +37,11 @@ use Rattle.ec_select_functions.specs.declared.families.Family.TheVariants.{Divid
 use Rattle.ec_select_functions.specs.declared.families.Told.{Told}
 use Rattle.ec_select_functions.specs.declared.homes.Homes.{Homes}
 use Rattle.ec_select_functions.specs.Homes.{home, result_location}
+use Rattle.ec_select_fixed.specs.Codes.{fixed_binary_code, fixed_unary_code, fixed_conversion_code}
+use Rattle.ec_select_functions.specs.Needs.{is_fixed}
 use Rattle.ec_select_functions.specs.Needs.{Need, nothing, wanted, wanted_result, without_result, either, needs}
 use Rattle.ec_select_functions.specs.Places.{object_location}
+use Rattle.ec_select_functions.specs.Ports.{in_code, out_code}
 
 abbrev pub same_location : Location → Location → Bool
 same_location (InRegisters a) (InRegisters b) = a == b
@@ -151,6 +155,11 @@ abbrev pub told_of : Family → (signed : Bool) → Option Told
 told_of (Compared r exchanged) signed = Some (record { relation = r; signed = signed })
 told_of f signed = None
 
+-- a comparison with a fixed-point operand leaves none
+abbrev pub told_by : (is_fixed : Bool) → Family → (signed : Bool) → Option Told
+told_by true f signed = None
+told_by false f signed = told_of f signed
+
 -- the next operation branches on the result, of which nothing is needed afterwards
 abbrev pub is_only_tested : (to : Temp) → (next : Option PlainIr) → (needed : ℕ) → Bool
 is_only_tested to (Some (branch_zero t l)) needed = needed == 0 && (t.at == to.at && t.bytes == to.bytes)
@@ -159,7 +168,8 @@ is_only_tested to next needed = false
 -- what an operation tells the next one by a flag, in place of its result
 abbrev pub tells : PlainIr → (next : Option PlainIr) → (needed : ℕ) → Option Told
 tells (binary_op op ty mode to a aty b bty) next needed =
-    if is_only_tested to next needed then told_of (family_of op) (is_signed aty) else None
+    if is_only_tested to next needed
+    then told_by (is_fixed aty || is_fixed bty) (family_of op) (is_signed aty) else None
 tells i next needed = None
 
 -- the comparison alone
@@ -245,6 +255,35 @@ result_code home is_main (Some t) = move_code (home t) (result_location t.bytes)
 abbrev pub return_code : (Temp → Location) → (is_main : Bool) → Option Temp → List AsmItem
 return_code home is_main from = result_code home is_main from ++ Plain Ret ∷ []
 
+-- ---- operations with a fixed-point type
+
+-- the work bytes: 40 that operations work in, and behind them a result
+abbrev pub work_location : Location
+work_location = InMemory 1280 0
+
+abbrev pub answer_location : Location
+answer_location = InMemory 1280 40
+
+-- code that leaves a result there, of which so many bytes are brought to their place; none where none is needed
+abbrev pub answer_code : List AsmItem → Location → (n : ℕ) → List AsmItem
+answer_code code to n = if n == 0 then [] else code ++ copy_code answer_location to n
+
+-- the code for an operation with a fixed-point type, or that for one with integers alone
+abbrev pub by_kind : (is_fixed : Bool) → (fixed integers : List AsmItem) → List AsmItem
+by_kind true fixed integers = fixed
+by_kind false fixed integers = integers
+
+abbrev pub fixed_binary : BinOp → (ty aty bty : PlainType) → Mode → (a b to : Location) → (n : ℕ) → List AsmItem
+fixed_binary op ty aty bty mode a b to n =
+    answer_code (fixed_binary_code op ty aty bty mode a b answer_location work_location) to n
+
+abbrev pub fixed_unary : UnOp → PlainType → Mode → (a to : Location) → (n : ℕ) → List AsmItem
+fixed_unary op ty mode a to n = answer_code (fixed_unary_code op ty mode a answer_location work_location) to n
+
+abbrev pub fixed_conversion : (ty aty : PlainType) → Mode → (a to : Location) → (n : ℕ) → List AsmItem
+fixed_conversion ty aty mode a to n =
+    answer_code (fixed_conversion_code ty aty mode a answer_location work_location) to n
+
 -- ---- operations
 
 -- An operation, of whose result so many bytes are needed, and after a call so many of other places; what the one before
@@ -258,17 +297,23 @@ operation_code objects home k told telling bytes kept (load_object t o offset) =
 operation_code objects home k told telling bytes kept (store_object o offset t) =
     copy_code (home t) (object_location objects o offset) t.bytes
 operation_code objects home k told telling bytes kept (binary_op op ty mode to a aty b bty) =
-    operator_code telling (family_of op) (is_signed aty) (is_signed bty) (home a) (home b) (home to) a.bytes bytes
+    by_kind (is_fixed aty || is_fixed bty) (fixed_binary op ty aty bty mode (home a) (home b) (home to) bytes)
+    (operator_code telling (family_of op) (is_signed aty) (is_signed bty) (home a) (home b) (home to) a.bytes bytes)
 operation_code objects home k told telling bytes kept (unary_op op ty mode to a) =
-    unary_code op (home a) (home to) bytes
+    by_kind (is_fixed ty) (fixed_unary op ty mode (home a) (home to) bytes) (unary_code op (home a) (home to) bytes)
 operation_code objects home k told telling bytes kept (conversion to ty mode a aty) =
-    conversion_code (is_signed aty) (home a) (home to) a.bytes bytes
+    by_kind (is_fixed ty || is_fixed aty) (fixed_conversion ty aty mode (home a) (home to) bytes)
+    (conversion_code (is_signed aty) (home a) (home to) a.bytes bytes)
 operation_code objects home k told telling bytes kept (label l) = Label (k.label_of l) ∷ []
 operation_code objects home k told telling bytes kept (jump l) = JumpTo (k.label_of l) ∷ []
 operation_code objects home k told telling bytes kept (branch_zero t l) =
     tested_code told (home t) t.bytes (k.label_of l)
 operation_code objects home k told telling bytes kept (call_function f to) = call_code home k f to bytes kept
 operation_code objects home k told telling bytes kept (return_from from) = return_code home k.is_main from
+operation_code objects home k told telling bytes kept (port_in to port index width) =
+    in_code (option_map home index) (home to) port width bytes
+operation_code objects home k told telling bytes kept (port_out from port index width) =
+    out_code (option_map home index) (home from) port width
 operation_code objects home k told telling bytes kept i = []
 
 -- the bytes that are needed of an operation's result
@@ -279,6 +324,7 @@ result_wanted need (binary_op op ty mode to a aty b bty) = wanted need to
 result_wanted need (unary_op op ty mode to a) = wanted need to
 result_wanted need (conversion to ty mode a aty) = wanted need to
 result_wanted need (call_function f to) = wanted_result need to
+result_wanted need (port_in to port index width) = wanted need to
 result_wanted need i = 0
 
 -- the bytes that are needed behind an operation: of its result, or of what a branch has tested

@@ -1,12 +1,14 @@
 -- The operations that have code: for each its temporaries, types and objects. The other operations have none yet, so no
 -- program with one of them is covered.
-use Rattle.std.specs.Prelude.{◌≡◌, ◌≢◌, ℕ, ◌≤◌, ◌==◌, ⊤, Bool, List, [], ◌∷◌, Option, Some, None}
+use Rattle.std.specs.Prelude.{◌≡◌, ◌≢◌, ◌⊎◌, ℕ, ◌<◌, ◌≤◌, ◌==◌, ⊤, Bool, List, [], ◌∷◌, Option, Some, None}
 use Rattle.std.specs.Prelude.{slice_get}
 use Rattle.std.specs.List.{position_from}
 use Rattle.ec_space.specs.declared.space.Bank.TheVariants.{Data as DataBank}
-use Rattle.ec_core.specs.Layout.{leaves_of_type}
+use Rattle.ec_core.specs.Layout.{scalar_size, leaves_of_type}
 use Rattle.ec_core.specs.Plain.{PlainType, integer, PlainObject}
 use Rattle.ec_core.specs.Plain.{PlainProgram}
+use Rattle.ec_core.specs.declared.expressions.BinOp.{BinOp}
+use Rattle.ec_core.specs.declared.expressions.UnOp.{UnOp}
 use Rattle.ec_ir.specs.declared.operations.Temp.{Temp}
 use Rattle.ec_ir.specs.Operations.{PlainIr, constant, copy, address, field, load_at, store_at, load_object}
 use Rattle.ec_ir.specs.Operations.{store_object, binary_op, unary_op, conversion, label, jump, branch_zero}
@@ -14,17 +16,20 @@ use Rattle.ec_ir.specs.Operations.{call_function, return_from, port_in, port_out
 use Rattle.ec_select_functions.specs.declared.families.Family.{Family}
 use Rattle.ec_select_functions.specs.declared.families.Family.TheVariants.{Combined, Compared, Multiplied, Shifted}
 use Rattle.ec_select_functions.specs.declared.families.Family.TheVariants.{Divided}
+use Rattle.ec_select_fixed.specs.Types.{AreFixedOperands, IsFixedOperand, AreFixedConverted}
 use Rattle.ec_select_functions.specs.Code.{family_of}
 use Rattle.ec_select_functions.specs.Homes.{HasHome}
+use Rattle.ec_select_functions.specs.Places.{IsNumeric}
 
--- a number of so many bytes, with an integer type, begins at an offset in an object that is kept in the data bank
+-- a number of so many bytes begins at an offset in an object that is kept in the data bank
 pub record HasNumberAt (p : PlainProgram) (o offset bytes : ℕ) : Type 0 where
   pub number : ℕ
   pub declared : PlainObject
-  pub signed : Bool
+  pub ty : PlainType
   pub is_object : slice_get p.objects o ≡ Some declared
-  pub is_leaf : slice_get (leaves_of_type p.structs declared.ty) number
-      ≡ Some (record { ty = integer signed bytes; at = offset })
+  pub is_leaf : slice_get (leaves_of_type p.structs declared.ty) number ≡ Some (record { ty = ty; at = offset })
+  pub is_number : IsNumeric ty
+  pub size : scalar_size ty ≡ bytes
   pub in_data : declared.home ≡ DataBank
   pub found : position_from (λ x. x.at == offset) 0 (leaves_of_type p.structs declared.ty) ≡ Some number
 
@@ -100,6 +105,34 @@ IsBinary Multiplied slots to a b ty aty bty = AreFactors slots to a b ty aty bty
 IsBinary (Shifted up) slots to a b ty aty bty = AreShifted slots to a b ty aty bty × (to.at ≢ b.at)
 IsBinary (Divided r) slots to a b ty aty bty = AreDivided slots to a b ty aty bty × (to.at ≢ b.at)
 
+-- an operator on operands of which one is fixed-point at least: the temporaries have the bytes of their types, and the
+-- operands stand at different places
+pub record IsFixedBinary (slots : ℕ) (op : BinOp) (to a b : Temp) (ty aty bty : PlainType) : Type 0 where
+  pub types : AreFixedOperands op ty aty bty
+  pub result : HasHome slots to
+  pub left : HasHome slots a
+  pub right : HasHome slots b
+  pub result_bytes : to.bytes ≡ scalar_size ty
+  pub left_bytes : a.bytes ≡ scalar_size aty
+  pub right_bytes : b.bytes ≡ scalar_size bty
+  pub different : a.at ≢ b.at
+
+-- a negation of a fixed-point number
+pub record IsFixedUnary (slots : ℕ) (op : UnOp) (to a : Temp) (ty : PlainType) : Type 0 where
+  pub types : IsFixedOperand op ty
+  pub result : HasHome slots to
+  pub operand : HasHome slots a
+  pub result_bytes : to.bytes ≡ scalar_size ty
+  pub operand_bytes : a.bytes ≡ scalar_size ty
+
+-- a conversion from or to a fixed-point type
+pub record IsFixedConversion (slots : ℕ) (to a : Temp) (ty aty : PlainType) : Type 0 where
+  pub types : AreFixedConverted ty aty
+  pub result : HasHome slots to
+  pub from : HasHome slots a
+  pub result_bytes : to.bytes ≡ scalar_size ty
+  pub from_bytes : a.bytes ≡ scalar_size aty
+
 -- operand and result have one integer type, of as many bytes as their temporaries
 pub record IsUnary (slots : ℕ) (to a : Temp) (ty : PlainType) : Type 0 where
   pub signed : Bool
@@ -122,6 +155,19 @@ abbrev pub IsResult : (results : ℕ → ℕ) (f slots : ℕ) → Option Temp �
 IsResult results f slots None = ⊤
 IsResult results f slots (Some t) = HasHome slots t × (t.bytes ≡ results f)
 
+-- the index of a port has two bytes
+abbrev pub HasIndex : (slots : ℕ) → Option Temp → Type 0
+HasIndex slots None = ⊤
+HasIndex slots (Some t) = HasHome slots t × (t.bytes ≡ 2)
+
+-- 1, 2 or 4 bytes of a port, of as many bytes of a temporary
+pub record IsPort (slots : ℕ) (t : Temp) (port : ℕ) (index : Option Temp) (width : ℕ) : Type 0 where
+  pub number : HasHome slots t
+  pub index_has : HasIndex slots index
+  pub one_two_four : (width ≡ 1) ⊎ ((width ≡ 2) ⊎ (width ≡ 4))
+  pub within : width ≤ t.bytes
+  pub address : port < 256
+
 -- operations of a function with a number, which has so many places of temporaries
 abbrev pub IsCovered : PlainProgram → (results : ℕ → ℕ) (f slots : ℕ) → PlainIr → Type 0
 IsCovered p results f slots (constant t n) = HasHome slots t
@@ -129,20 +175,21 @@ IsCovered p results f slots (copy to from) = HasHome slots to × HasHome slots f
 IsCovered p results f slots (load_object t o offset) = HasHome slots t × HasNumberAt p o offset t.bytes
 IsCovered p results f slots (store_object o offset t) = HasHome slots t × HasNumberAt p o offset t.bytes
 IsCovered p results f slots (binary_op op ty mode to a aty b bty) =
-    IsBinary (family_of op) slots to a b ty aty bty
-IsCovered p results f slots (unary_op op ty mode to a) = IsUnary slots to a ty
+    IsBinary (family_of op) slots to a b ty aty bty ⊎ IsFixedBinary slots op to a b ty aty bty
+IsCovered p results f slots (unary_op op ty mode to a) = IsUnary slots to a ty ⊎ IsFixedUnary slots op to a ty
 IsCovered p results f slots (label l) = ⊤
 IsCovered p results f slots (jump l) = ⊤
 IsCovered p results f slots (branch_zero t l) = HasHome slots t
 IsCovered p results f slots (return_from from) = IsResult results f slots from
-IsCovered p results f slots (conversion to ty mode a aty) = AreConverted slots to a ty aty
+IsCovered p results f slots (conversion to ty mode a aty) =
+    AreConverted slots to a ty aty ⊎ IsFixedConversion slots to a ty aty
 IsCovered p results f slots (address t o offset) = ⊥
 IsCovered p results f slots (field ptr space offset) = ⊥
 IsCovered p results f slots (load_at to ptr space) = ⊥
 IsCovered p results f slots (store_at ptr space from) = ⊥
 IsCovered p results f slots (call_function g to) = IsResult results g slots to
-IsCovered p results f slots (port_in to port index width) = ⊥
-IsCovered p results f slots (port_out from port index width) = ⊥
+IsCovered p results f slots (port_in to port index width) = IsPort slots to port index width
+IsCovered p results f slots (port_out from port index width) = IsPort slots from port index width
 
 abbrev pub AreCovered : PlainProgram → (results : ℕ → ℕ) (f slots : ℕ) → List PlainIr → Type 0
 AreCovered p results f slots [] = ⊤

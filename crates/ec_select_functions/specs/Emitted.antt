@@ -1,7 +1,11 @@
 -- What the emitters ask of an operation.
-use Rattle.std.specs.Prelude.{ℕ, ◌+◌, ◌<◌, ◌≤◌, ⊤, List, Option, Some, None}
+use Rattle.std.specs.Prelude.{◌≡◌, ℕ, ◌+◌, ◌<◌, ◌≤◌, ⊤, Bool, true, false, ◌||◌, List, Option, Some, None}
+use Rattle.ec_asm.specs.declared.pieces.Location.{Location}
 use Rattle.ec_asm.specs.Pieces.{HasBytes}
-use Rattle.ec_core.specs.Plain.{PlainObject}
+use Rattle.ec_core.specs.declared.expressions.BinOp.{BinOp}
+use Rattle.ec_core.specs.declared.expressions.UnOp.{UnOp}
+use Rattle.ec_core.specs.Layout.{scalar_size}
+use Rattle.ec_core.specs.Plain.{PlainType, PlainObject}
 use Rattle.ec_ir.specs.Operations.{PlainIr, constant, copy, address, field, load_at, store_at, load_object}
 use Rattle.ec_ir.specs.Operations.{store_object, binary_op, unary_op, conversion, label, jump, branch_zero}
 use Rattle.ec_ir.specs.Operations.{call_function, return_from, port_in, port_out}
@@ -11,7 +15,9 @@ use Rattle.ec_select_functions.specs.declared.families.Family.TheVariants.{Combi
 use Rattle.ec_select_functions.specs.declared.families.Family.TheVariants.{Divided}
 use Rattle.ec_select_functions.specs.declared.calls.Linking.{Linking}
 use Rattle.ec_select_functions.specs.Code.{Linkage, HasResult, family_of}
+use Rattle.ec_select_functions.specs.Needs.{is_fixed}
 use Rattle.ec_select_functions.specs.Places.{object_location}
+use Rattle.ec_select_fixed.specs.Types.{AreFixedOperands, IsFixedOperand, AreFixedConverted}
 
 -- labels of items stand in a row for the labels of a function, and in another one for the beginnings of functions
 abbrev pub linkage : Linking → Linkage
@@ -37,10 +43,44 @@ BinaryHasBytes (Shifted up) wanted to a b =
 BinaryHasBytes (Divided r) wanted to a b =
     (1 ≤ a.bytes) × (a.bytes ≤ 4) × (a.bytes ≤ to.bytes) × (a.bytes ≤ b.bytes)
 
+-- of operands that are fixed-point numbers all bytes are there
+pub record FixedHasBytes (op : BinOp) (wanted : ℕ) (to a b : Temp) (ty aty bty : PlainType) : Type 0 where
+  pub types : AreFixedOperands op ty aty bty
+  pub left : a.bytes ≡ scalar_size aty
+  pub right : b.bytes ≡ scalar_size bty
+  pub result : to.bytes ≡ scalar_size ty
+  pub most : wanted ≤ to.bytes
+
+pub record FixedOperandHasBytes (op : UnOp) (wanted : ℕ) (to a : Temp) (ty : PlainType) : Type 0 where
+  pub types : IsFixedOperand op ty
+  pub operand : a.bytes ≡ scalar_size ty
+  pub result : to.bytes ≡ scalar_size ty
+  pub most : wanted ≤ to.bytes
+
+pub record FixedConversionHasBytes (wanted : ℕ) (to a : Temp) (ty aty : PlainType) : Type 0 where
+  pub types : AreFixedConverted ty aty
+  pub from : a.bytes ≡ scalar_size aty
+  pub result : to.bytes ≡ scalar_size ty
+  pub most : wanted ≤ to.bytes
+
+-- one or the other, by the kind of an operation
+abbrev pub OfKind : (is_fixed : Bool) → (fixed integers : Type 0) → Type 0
+OfKind true fixed integers = fixed
+OfKind false fixed integers = integers
+
 -- so many bytes of a call's result
 abbrev pub CanBeTaken : ℕ → Option Temp → Type 0
 CanBeTaken wanted None = ⊤
 CanBeTaken wanted (Some t) = (wanted ≤ t.bytes) × (t.bytes ≤ 8)
+
+-- the index of a port, if there is one, has a low byte, and so has its place
+abbrev pub IndexHasByte : Option Temp → Type 0
+IndexHasByte None = ⊤
+IndexHasByte (Some t) = 1 ≤ t.bytes
+
+abbrev pub HasIndexByte : Option Location → Type 0
+HasIndexByte None = ⊤
+HasIndexByte (Some at) = HasBytes at 1
 
 -- no more bytes are wanted than the temporaries have, and the bytes of an object and labels have numbers
 abbrev pub CanBeEmitted : List PlainObject → Linking → ℕ → PlainIr → Type 0
@@ -49,9 +89,13 @@ CanBeEmitted objects k wanted (copy to from) = (wanted ≤ to.bytes) × (wanted 
 CanBeEmitted objects k wanted (load_object t o offset) = HasBytes (object_location objects o offset) t.bytes
 CanBeEmitted objects k wanted (store_object o offset t) = HasBytes (object_location objects o offset) t.bytes
 CanBeEmitted objects k wanted (binary_op op ty mode to a aty b bty) =
-    BinaryHasBytes (family_of op) wanted to a b
-CanBeEmitted objects k wanted (conversion to ty mode a aty) = (wanted ≤ to.bytes) × (1 ≤ a.bytes)
-CanBeEmitted objects k wanted (unary_op op ty mode to a) = (wanted ≤ to.bytes) × (wanted ≤ a.bytes)
+    OfKind (is_fixed aty || is_fixed bty) (FixedHasBytes op wanted to a b ty aty bty)
+    (BinaryHasBytes (family_of op) wanted to a b)
+CanBeEmitted objects k wanted (conversion to ty mode a aty) =
+    OfKind (is_fixed ty || is_fixed aty) (FixedConversionHasBytes wanted to a ty aty)
+    ((wanted ≤ to.bytes) × (1 ≤ a.bytes))
+CanBeEmitted objects k wanted (unary_op op ty mode to a) =
+    OfKind (is_fixed ty) (FixedOperandHasBytes op wanted to a ty) ((wanted ≤ to.bytes) × (wanted ≤ a.bytes))
 CanBeEmitted objects k wanted (return_from from) = HasResult from
 CanBeEmitted objects k wanted (label l) = IsLabel (k.first_label + l)
 CanBeEmitted objects k wanted (jump l) = IsLabel (k.first_label + l)
@@ -61,5 +105,6 @@ CanBeEmitted objects k wanted (field ptr space offset) = ⊤
 CanBeEmitted objects k wanted (load_at to ptr space) = ⊤
 CanBeEmitted objects k wanted (store_at ptr space from) = ⊤
 CanBeEmitted objects k wanted (call_function f to) = CanBeTaken wanted to × IsLabel (k.first_entry + f)
-CanBeEmitted objects k wanted (port_in to port index width) = ⊤
-CanBeEmitted objects k wanted (port_out from port index width) = ⊤
+CanBeEmitted objects k wanted (port_in to port index width) =
+    (wanted ≤ to.bytes) × (1 ≤ width) × (width ≤ to.bytes) × IndexHasByte index
+CanBeEmitted objects k wanted (port_out from port index width) = (width ≤ from.bytes) × IndexHasByte index

@@ -17,17 +17,18 @@ use Rattle.ec_core.specs.declared.values.Value.{Value}
 use Rattle.ec_core.specs.Accesses.{leaf_of}
 use Rattle.ec_core.specs.Plain.{PlainProgram}
 use Rattle.ec_core.specs.State.{Inputs, ObjectState}
-use Rattle.ec_ir.specs.Meaning.{meaning, steps_of, start_state}
+use Rattle.ec_ir.specs.Meaning.{steps_of, start_state}
 use Rattle.ec_ir.specs.Operations.{PlainIrFunction, PlainIrProgram, data_of}
 use Rattle.ec_ir.specs.Valid.{ValidIr, CallsTo, called_in}
 use Rattle.ec_select_functions.specs.declared.homes.Homes.{Homes}
 use Rattle.ec_select_functions.specs.Code.{Linkage, function_code}
 use Rattle.ec_select_functions.specs.Covered.{AreCovered}
 use Rattle.ec_select_functions.specs.Homes.{home}
+use Rattle.ec_select_functions.specs.Kept.{meaning_on}
 use Rattle.ec_select_functions.specs.Needs.{Need, IsLive}
 use Rattle.ec_select_functions.specs.Places.{NumberLeaf, Apart, Layout}
 use Rattle.ec_select_functions.specs.Relation.{accesses, HoldsLeaf}
-use Rattle.ec_select_functions.specs.Standing.{home_address, ScratchStands, ObjectsStand}
+use Rattle.ec_select_functions.specs.Standing.{home_address, ScratchStands, ObjectsStand, WorkStands}
 
 -- ---- where code and data stand
 
@@ -71,6 +72,10 @@ pub record AreSelected (p : PlainIrProgram) (e : Env) (place : ℕ → ℕ) (ent
       → IsSelected p e place entry_of results f g (made f) (scratch f)
   pub apart : (f h : ℕ) (a b : PlainIrFunction) → CallsTo p h f → slice_get p.functions f ≡ Some a
       → slice_get p.functions h ≡ Some b → Apart (scratch f) (16 * a.slots) (scratch h) (16 * b.slots)
+  pub work : ℕ
+  pub work_stands : WorkStands (data_of p) e place work
+  pub work_apart : (f : ℕ) (g : PlainIrFunction) → slice_get p.functions f ≡ Some g
+      → Apart (scratch f) (16 * g.slots) work 64
 
 -- ---- the stack
 
@@ -105,9 +110,9 @@ pub record HoldsStart (p : PlainProgram) (place : ℕ → ℕ) (v : View) : Type
 abbrev pub within_steps : PlainIrProgram → Inputs → ℕ → ℕ → Bool
 within_steps p inputs n m = nat_le m (steps_of p inputs n + 1)
 
--- what is seen of the operations, the accesses of objects as those of their bytes
-abbrev pub seen_meaning : PlainIrProgram → (ℕ → ℕ) → Inputs → ℕ → Behaviour Access ℤ Undefined
-seen_meaning p place inputs n = seen_as (accesses (data_of p) place) (meaning p inputs n)
+-- what is seen of the operations on a machine, the accesses of objects as those of their bytes
+abbrev pub seen_meaning : Env → PlainIrProgram → (ℕ → ℕ) → Inputs → ℕ → Behaviour Access ℤ Undefined
+seen_meaning e p place inputs n = seen_as (accesses (data_of p) place) (meaning_on e p inputs n)
 
 -- a test holds where a run has a meaning
 abbrev pub HoldsUnlessFailed : {E R F : Type 0} → Behaviour E R F → Bool → Type 0
@@ -121,15 +126,16 @@ HoldsUnlessFailed (Failed reason) b = ⊤
 -- operations do, in at most the steps that they may take, and never more. No access is one that is barred
 pub record ShowsOperations (p : PlainIrProgram) (place : ℕ → ℕ) (e : Env) (v : View) (s : State)
     (inputs : Inputs) : Type 0 where
-  pub reaches : Reaches (within_steps p inputs) (seen_meaning p place inputs) (noted_run e v.inputs s)
-  pub within : (m : ℕ) → IsWithin (seen_meaning p place inputs m) (noted_run e v.inputs s m)
-  pub safe : (m : ℕ) → HoldsUnlessFailed (meaning p inputs m) (is_safe (run e m (AtWord s.pc v)))
+  pub reaches : Reaches (within_steps p inputs) (seen_meaning e p place inputs) (noted_run e v.inputs s)
+  pub within : (m : ℕ) → IsWithin (seen_meaning e p place inputs m) (noted_run e v.inputs s m)
+  pub safe : (m : ℕ) → HoldsUnlessFailed (meaning_on e p inputs m) (is_safe (run e m (AtWord s.pc v)))
 
 abbrev pub CodeFollowsOperations : Type 0
 CodeFollowsOperations =
     (p : PlainIrProgram) (place entry_of : ℕ → ℕ) (e : Env) (size low : ℕ) (s : State) (v : View) (inputs : Inputs)
-    → ValidIr p → Fits e size → Shows e size s.mem v → HoldsStart (data_of p) place v → AreSelected p e place entry_of
-    → IsEntered p e low (entry_of p.main) s.pc v → ShowsOperations p place e v s inputs
+    → ValidIr p → Fits e size → Shows e size s.mem v → ((port : ℕ) → v.inputs port ≡ inputs port)
+    → HoldsStart (data_of p) place v → AreSelected p e place entry_of → IsEntered p e low (entry_of p.main) s.pc v
+    → ShowsOperations p place e v s inputs
 
 -- ---- homes
 

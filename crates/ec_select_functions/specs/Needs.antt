@@ -1,8 +1,10 @@
 -- How many low bytes of what each place of temporaries holds are still needed. Code computes only these bytes.
-use Rattle.std.specs.Prelude.{ℕ, zero, suc, ◌≤◌, ◌==◌, ⊤, Bool, true, false, if◌then◌else◌, min, max, List, [], ◌∷◌}
+use Rattle.std.specs.Prelude.{ℕ, zero, suc, ◌≤◌, ◌==◌, ⊤, Bool, true, false, ◌||◌, if◌then◌else◌, min, max, List, []}
+use Rattle.std.specs.Prelude.{◌∷◌}
 use Rattle.std.specs.Prelude.{Option, Some, None}
 use Rattle.ec_core.specs.declared.expressions.BinOp.{BinOp}
 use Rattle.ec_core.specs.declared.expressions.BinOp.TheVariants.{Add, Sub, And, Or, Xor, Shl, Shr}
+use Rattle.ec_core.specs.Plain.{PlainType, fixed}
 use Rattle.ec_ir.specs.declared.operations.Temp.{Temp}
 use Rattle.ec_ir.specs.Operations.{PlainIr, constant, copy, address, field, load_at, store_at, load_object}
 use Rattle.ec_ir.specs.Operations.{store_object, binary_op, unary_op, conversion, label, jump, branch_zero}
@@ -72,6 +74,30 @@ right_wanted Shl bytes n = all_or_none 1 n
 right_wanted Shr bytes n = all_or_none 1 n
 right_wanted op bytes n = operand_wanted op bytes n
 
+-- of the index of a port the low byte is needed: an element stands below 0x100
+abbrev pub index_needed : Option Temp → Need → Need
+index_needed None need = need
+index_needed (Some t) need = at_least t.at 1 need
+
+-- ---- operations with a fixed-point type take all bytes of their operands
+
+abbrev pub is_fixed : PlainType → Bool
+is_fixed (fixed kind saturates) = true
+is_fixed ty = false
+
+abbrev pub first_wanted : (whole : Bool) → BinOp → (bytes n : ℕ) → ℕ
+first_wanted true op bytes n = all_or_none bytes n
+first_wanted false op bytes n = operand_wanted op bytes n
+
+abbrev pub second_wanted : (whole : Bool) → BinOp → (bytes n : ℕ) → ℕ
+second_wanted true op bytes n = all_or_none bytes n
+second_wanted false op bytes n = right_wanted op bytes n
+
+-- of the only operand
+abbrev pub only_wanted : (whole : Bool) → (bytes n : ℕ) → ℕ
+only_wanted true bytes n = all_or_none bytes n
+only_wanted false bytes n = n
+
 -- what is needed before an operation, where `at` tells what is needed at each label, and `need` what is after the
 -- operation
 abbrev pub before : (ℕ → Need) → PlainIr → Need → Need
@@ -84,17 +110,19 @@ before at (store_at ptr space from) need = everything
 before at (load_object t o offset) need = without t.at need
 before at (store_object o offset t) need = at_least t.at t.bytes need
 before at (binary_op op ty mode to a aty b bty) need =
-    at_least a.at (operand_wanted op a.bytes (wanted need to))
-    (at_least b.at (right_wanted op b.bytes (wanted need to)) (without to.at need))
-before at (unary_op op ty mode to a) need = at_least a.at (wanted need to) (without to.at need)
-before at (conversion to ty mode a aty) need = at_least a.at (wanted need to) (without to.at need)
+    at_least a.at (first_wanted (is_fixed aty || is_fixed bty) op a.bytes (wanted need to))
+    (at_least b.at (second_wanted (is_fixed aty || is_fixed bty) op b.bytes (wanted need to)) (without to.at need))
+before at (unary_op op ty mode to a) need =
+    at_least a.at (only_wanted (is_fixed ty) a.bytes (wanted need to)) (without to.at need)
+before at (conversion to ty mode a aty) need =
+    at_least a.at (only_wanted (is_fixed ty || is_fixed aty) a.bytes (wanted need to)) (without to.at need)
 before at (label l) need = at l
 before at (jump l) need = at l
 before at (branch_zero t l) need = at_least t.at t.bytes (either need (at l))
 before at (call_function f to) need = without_result to need
 before at (return_from from) need = returned_need from
-before at (port_in to port index width) need = everything
-before at (port_out from port index width) need = everything
+before at (port_in to port index width) need = index_needed index (without to.at need)
+before at (port_out from port index width) need = at_least from.at width (index_needed index need)
 
 abbrev pub needs : (ℕ → Need) → List PlainIr → Need
 needs at [] place = 0

@@ -1,5 +1,5 @@
 -- Where temporaries and objects stand.
-use Rattle.std.specs.Prelude.{◌≡◌, ◌≢◌, ◌⊎◌, ℕ, ◌+◌, ◌<◌, ◌≤◌, Bool, List, Some}
+use Rattle.std.specs.Prelude.{◌≡◌, ◌≢◌, ◌⊎◌, ⊤, ℕ, ◌+◌, ◌<◌, ◌≤◌, List, Some}
 use Rattle.std.specs.Prelude.{option_map, unwrap_or, slice_get}
 use Rattle.ec_space.specs.declared.space.Bank.TheVariants.{Data as DataBank}
 use Rattle.ec_asm.specs.declared.pieces.Location.{Location}
@@ -7,8 +7,9 @@ use Rattle.ec_asm.specs.declared.pieces.Location.TheVariants.{InRegisters, InMem
 use Rattle.ec_asm.specs.Change.{Env, Kind, Own, Object}
 use Rattle.ec_asm.specs.Pieces.{StandsFrom}
 use Rattle.ec_asm.specs.PieceLaws.{IsReadFirst}
-use Rattle.ec_core.specs.Layout.{leaves_of_type}
-use Rattle.ec_core.specs.Plain.{integer, PlainStorage, static, local, param, register, PlainObject, PlainProgram}
+use Rattle.ec_core.specs.Layout.{scalar_size, leaves_of_type}
+use Rattle.ec_core.specs.Plain.{PlainType, integer, fixed, PlainStorage, static, local, param, register, PlainObject}
+use Rattle.ec_core.specs.Plain.{PlainProgram}
 use Rattle.ec_ir.specs.declared.operations.Temp.{Temp}
 use Rattle.ec_select_functions.specs.Homes.{HasHome, result_register}
 
@@ -33,17 +34,24 @@ abbrev pub object_location : List PlainObject → (object offset : ℕ) → Loca
 object_location objects o offset =
     unwrap_or (option_map (λ d. location_in d.storage o offset) (slice_get objects o)) (InMemory o offset)
 
--- a leaf with an integer type of an object that is kept in the data bank
+-- an integer type, or a fixed-point type
+abbrev pub IsNumeric : PlainType → Type 0
+IsNumeric (integer signed bytes) = ⊤
+IsNumeric (fixed kind saturates) = ⊤
+IsNumeric ty = ⊥
+
+-- a leaf with a type of numbers, of so many bytes, of an object that is kept in the data bank
 pub record NumberLeaf (p : PlainProgram) : Type 0 where
   pub object : ℕ
   pub number : ℕ
   pub declared : PlainObject
-  pub signed : Bool
+  pub ty : PlainType
   pub bytes : ℕ
   pub at : ℕ
   pub is_object : slice_get p.objects object ≡ Some declared
-  pub is_leaf : slice_get (leaves_of_type p.structs declared.ty) number
-      ≡ Some (record { ty = integer signed bytes; at = at })
+  pub is_leaf : slice_get (leaves_of_type p.structs declared.ty) number ≡ Some (record { ty = ty; at = at })
+  pub is_number : IsNumeric ty
+  pub size : scalar_size ty ≡ bytes
   pub in_data : declared.home ≡ DataBank
 
 -- ---- apartness

@@ -13,9 +13,10 @@ use Rattle.ec_core.specs.declared.programs.LeafInit.TheVariants.{Number as TheNu
 use Rattle.ec_core.specs.declared.values.Value.{Value}
 use Rattle.ec_core.specs.declared.values.Value.TheVariants.{Number, Pointer}
 use Rattle.ec_core.specs.Accesses.{leaf_of}
+use Rattle.ec_core.specs.Laws.{left_of}
 use Rattle.ec_core.specs.Layout.{PlainLeaf, scalar_size, leaves_of_type}
 use Rattle.ec_core.specs.Plain.{PlainProgram}
-use Rattle.ec_core.specs.State.{Event, In, Out, Read, Write, ObjectState}
+use Rattle.ec_core.specs.State.{Inputs, State, Event, In, Out, Read, Write, ObjectState}
 use Rattle.ec_ir.specs.declared.operations.Temp.{Temp}
 use Rattle.ec_ir.specs.Meaning.{Mach}
 use Rattle.ec_ir.specs.Temporaries.{Content, bits, points, Held, low_bytes}
@@ -67,15 +68,20 @@ abbrev pub HoldsLeaf : (ℕ → ℕ) → (base n : ℕ) → Value → Type 0
 HoldsLeaf f a n (Number i) = value f a n ≡ low_bytes n i
 HoldsLeaf f a n (Pointer q) = ⊥
 
+-- each port is going to give what the operations have left of its bytes
+abbrev pub AreLeft : Inputs → State → View → Type 0
+AreLeft inputs s v = (port : ℕ) → v.inputs port ≡ left_of inputs port s
+
 -- what is needed of each temporary stands at its address, and each number of an object at its own. The bytes that are
 -- set aside, for functions that wait, are as they were
-pub record Matches (p : PlainProgram) (slots : ℕ) (base : Temp → ℕ) (place : ℕ → ℕ) (aside : ℕ → Bool) (was : ℕ → ℕ)
-    (need : Need) (m : Mach) (v : View) : Type 0 where
+pub record Matches (p : PlainProgram) (inputs : Inputs) (slots : ℕ) (base : Temp → ℕ) (place : ℕ → ℕ)
+    (aside : ℕ → Bool) (was : ℕ → ℕ) (need : Need) (m : Mach) (v : View) : Type 0 where
   pub temps_hold : (t : Temp) (h : Held) → HasHome slots t → m.temps t.at ≡ Some h → h.bytes ≡ t.bytes
       → HoldsContent v.at (base t) (wanted need t) t.bytes h.content
   pub leaves_hold : (l : NumberLeaf p) (x : ObjectState) (u : Value) → slice_get m.state.objects l.object ≡ Some x
       → leaf_of x l.number ≡ Some u → HoldsLeaf v.at (place l.object + l.at) l.bytes u
   pub kept : (k : ℕ) → aside k ≡ true → v.at k ≡ was k
   pub bytes : HoldsNumbers v
+  pub left : AreLeft inputs m.state v
   pub seen : v.seen ≡ accesses p place m.state.events
   pub safe : v.safe ≡ true

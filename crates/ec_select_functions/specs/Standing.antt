@@ -21,6 +21,15 @@ pub record ScratchStands (e : Env) (slots : ℕ) (h : Homes) (scratch : ℕ) : T
   pub at : (i : ℕ) → i < 16 * slots → e.address_of h.scratch i ≡ scratch + i
   pub kind : (i : ℕ) → i < 16 * slots → e.kind (scratch + i) ≡ Own
 
+-- the work bytes stand at an address, outside registers and ports, are code's own, and stand apart from the objects of
+-- the data bank
+pub record WorkStands (p : PlainProgram) (e : Env) (place : ℕ → ℕ) (work : ℕ) : Type 0 where
+  pub high : 256 ≤ work
+  pub at : (i : ℕ) → i < 64 → e.address_of 1280 i ≡ work + i
+  pub kind : (i : ℕ) → i < 64 → e.kind (work + i) ≡ Own
+  pub objects_apart : (o : ℕ) (d : PlainObject) → slice_get p.objects o ≡ Some d → d.home ≡ DataBank
+      → Apart (place o) (size_of_type p.structs d.ty) work 64
+
 -- n bytes of an object stand at an address: a named register at its number, and any other object in memory, where its
 -- accesses are noted
 abbrev pub ObjectStands : Env → (object n place : ℕ) → PlainStorage → Type 0

@@ -7,7 +7,7 @@ ghost use Rattle.ec_select_functions.specs.Code.{reversed_code, combined_code};
 ghost use Rattle.ec_select_functions.specs.Code.{conversion_code, turn_code, unary_code, multiplied_code};
 ghost use Rattle.ec_select_functions.specs.Code.{shift_of, turned_code, shifted_code, long_code, divided_code};
 ghost use Rattle.ec_select_functions.specs.Emitted.{BinaryHasBytes};
-ghost use Rattle.ec_select_functions.specs.Code.{branch_code, told_of, flag_code, operator_code, tested_code};
+ghost use Rattle.ec_select_functions.specs.Code.{told_by, branch_code, told_of, flag_code, operator_code, tested_code};
 ghost use Rattle.ec_select_functions.specs.Homes.{home};
 
 use crate::homes::{Homes, home};
@@ -459,12 +459,23 @@ pub struct Told {
 }
 
 /// What an operator tells by a flag, where it is a comparison.
-pub(crate) fn told_of(family: Family, signed: bool) -> Option<Told>
+fn told_of(family: Family, signed: bool) -> Option<Told>
     ensures { result ≡ told_of family signed }
 {
     match family {
         Family::Compared { relation, .. } => Some(Told { relation, signed }),
         _ => None,
+    }
+}
+
+/// The same, where no operand is fixed-point: a comparison of fixed-point operands tells nothing.
+pub(crate) fn told_by(is_fixed: bool, family: Family, signed: bool) -> Option<Told>
+    ensures { result ≡ told_by is_fixed family signed }
+{
+    if is_fixed {
+        None
+    } else {
+        told_of(family, signed)
     }
 }
 

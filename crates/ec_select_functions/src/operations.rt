@@ -14,9 +14,11 @@ ghost use Rattle.ec_select_functions.specs.Written.{written_function};
 
 use crate::calls::{Linking, call, finish};
 use crate::families::{
-    BinaryOperation, Told, branch_on, convert, family_of, move_number, operator, told_of, unary,
+    BinaryOperation, Told, branch_on, convert, family_of, move_number, operator, told_by, unary,
 };
+use crate::fixed::{fixed_binary, fixed_conversion, fixed_unary, is_fixed};
 use crate::homes::home;
+use crate::ports::{PortAccess, index_place, read_port, write_port};
 use ec_asm::{AsmItem, Location, copy};
 use ec_core::{CType, Obj, Storage};
 use ec_ir::{Ir, Temp};
@@ -76,9 +78,19 @@ fn tells(i: &Ir, next: &Ir, needed: u8) -> Option<Told>
     ensures { result ≡ tells (plain_ir i.now) (Some (plain_ir next.now)) needed }
 {
     match i {
-        Ir::Bin { op, to, aty, .. } => {
+        Ir::Bin {
+            op,
+            to,
+            aty,
+            bty,
+            ..
+        } => {
             if is_only_tested(*to, next, needed) {
-                told_of(family_of(*op), is_signed(aty))
+                told_by(
+                    is_fixed(aty) || is_fixed(bty),
+                    family_of(*op),
+                    is_signed(aty),
+                )
             } else {
                 None
             }
@@ -135,13 +147,17 @@ pub fn operation(
         ),
         Ir::Bin {
             op,
+            ty,
+            mode,
             to,
             a,
             aty,
             b,
             bty,
-            ..
         } => {
+            if is_fixed(aty) || is_fixed(bty) {
+                return fixed_binary(out, homes, *op, ty, *mode, *to, *a, aty, *b, bty, wanted);
+            }
             let binary_operation = BinaryOperation {
                 to: *to,
                 a: *a,
@@ -151,15 +167,37 @@ pub fn operation(
             };
             operator(out, homes, flags.telling, *op, binary_operation, wanted)
         }
-        Ir::Un { op, to, a, .. } => unary(out, *op, home(homes, *a), home(homes, *to), wanted),
-        Ir::Conv { to, a, aty, .. } => convert(
-            out,
-            is_signed(aty),
-            home(homes, *a),
-            home(homes, *to),
-            a.bytes,
-            wanted,
-        ),
+        Ir::Un {
+            op,
+            ty,
+            mode,
+            to,
+            a,
+        } => {
+            if is_fixed(ty) {
+                return fixed_unary(out, homes, *op, ty, *mode, *to, *a, wanted);
+            }
+            unary(out, *op, home(homes, *a), home(homes, *to), wanted)
+        }
+        Ir::Conv {
+            to,
+            ty,
+            mode,
+            a,
+            aty,
+        } => {
+            if is_fixed(ty) || is_fixed(aty) {
+                return fixed_conversion(out, homes, *to, ty, *mode, *a, aty, wanted);
+            }
+            convert(
+                out,
+                is_signed(aty),
+                home(homes, *a),
+                home(homes, *to),
+                a.bytes,
+                wanted,
+            )
+        }
         Ir::Label(l) => out.extend_from_slice(&[AsmItem::Label(of.first_label + *l)]),
         Ir::Jump(l) => out.extend_from_slice(&[AsmItem::JumpTo(of.first_label + *l)]),
         Ir::BranchZero(t, l) => branch_on(
@@ -171,6 +209,32 @@ pub fn operation(
         ),
         Ir::Call(f, to) => call(out, of, *f, *to, wanted, kept),
         Ir::Return(from) => finish(out, homes, of.is_main, *from),
+        Ir::PortIn {
+            to,
+            address,
+            index,
+            width,
+        } => {
+            let of = PortAccess {
+                port: *address,
+                width: *width,
+                index: index_place(homes, *index),
+            };
+            read_port(out, of, home(homes, *to), wanted)
+        }
+        Ir::PortOut {
+            from,
+            address,
+            index,
+            width,
+        } => {
+            let of = PortAccess {
+                port: *address,
+                width: *width,
+                index: index_place(homes, *index),
+            };
+            write_port(out, of, home(homes, *from))
+        }
         _ => Ok(()),
     }
 }

@@ -2,17 +2,16 @@
 //! result that is worked out by the rules of C.
 
 use crate::stepper;
-use crate::words::program;
-use ec_interp::{Behaviour, interpret};
-use ec_iohw::IoTable;
+use crate::words::{program, table};
+use ec_interp::{Behaviour, PortInput, interpret};
 use ec_lower::operations;
-use ec_space::Seq;
+use ec_space::{NoMemory, Seq};
 use std::alloc::Global;
 use std::process::Abort;
 use std::test::Fail;
 
 /// What stands in C, the same in words, and the result of `main`.
-static PROGRAMS: [(&str, &str, i128); 17] = [
+static PROGRAMS: [(&str, &str, i128); 21] = [
     ("return 3 - 5 - 4;", "3 5 - 4 - return fn", -6),
     (
         "; { ; } { int b = 7; a = b; } return a;",
@@ -90,17 +89,47 @@ static PROGRAMS: [(&str, &str, i128); 17] = [
         3,
     ),
     ("int main(void) { a = 9; }", "a 9 = ; fn", 0),
+    (
+        "iogroup_acquire(G); a = iord(P); a += iord(P); iogroup_release(G); return a;",
+        "acquire ; a iord = ; a iord += ; release ; a get return fn",
+        206,
+    ),
+    (
+        "iowrbuf(B, 2, 515); return 1;",
+        "2 515 iowrbuf ; 1 return fn",
+        1,
+    ),
+    (
+        "iogroup_acquire(G); ioor(P, 7); ioand(P, 3); return iord(P);",
+        "acquire ; 7 ioor ; 3 ioand ; iord return fn",
+        0,
+    ),
+    (
+        "iogroup_acquire(G); ioxorbuf(B, a = 1, iord(P)); return a;",
+        "acquire ; a 1 = iord ioxorbuf ; a get return fn",
+        1,
+    ),
 ];
+
+/// Two bytes of the port of one byte, and one of each byte of the second port of two bytes.
+fn inputs(alloc: Global) -> Result<Seq<PortInput>, NoMemory> {
+    let mut inputs = Seq::new(alloc);
+    let given: [(u8, &[u8]); 3] = [(0x25, &[200, 6]), (0x42, &[0x0F]), (0x43, &[0xA5])];
+    for (port, list) in &given {
+        let mut bytes = Seq::new(alloc);
+        bytes.extend_from_slice(list)?;
+        inputs.push(PortInput { port: *port, bytes })?;
+    }
+    Ok(inputs)
+}
 
 fn check(rt: &impl Abort, alloc: Global, words: &str, want: i128) -> Result<(), Fail> {
     let program = program(alloc, words)?;
-    let io = IoTable {
-        ports: Seq::new(alloc),
-        groups: Seq::new(alloc),
-    };
-    let told = interpret(alloc, &program, &io, &Seq::new(alloc), 20)?;
-    let ir = operations(alloc, &program)?;
-    let shown = stepper::run(alloc, &ir)?;
+    let io = table(alloc)?;
+    let inputs = inputs(alloc)?;
+    let told = interpret(alloc, &program, &io, &inputs, 20)?;
+    let ir = operations(alloc, &program, &io)?;
+    let shown = stepper::run(alloc, &ir, &inputs)?;
     assert_eq!(rt; shown.result, want, "{words}");
     match &told.behaviour {
         Behaviour::Ended { events, result } => {

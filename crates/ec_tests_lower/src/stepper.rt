@@ -1,10 +1,10 @@
-//! A run of operations, made one by one, of programs whose objects are numbers.
+//! A run of operations, made one by one, of programs whose objects are numbers, and whose ports have inputs.
 ghost use Rattle.std.specs.Prelude.{IfOk};
 ghost use Rattle.ec_core.specs.Integers.{IsInteger};
 ghost use Rattle.ec_fx.specs.Numbers.{IsWhole};
 
 use ec_core::{BinOp, CType, IntegerType, integer_operation};
-use ec_interp::{Event, Told};
+use ec_interp::{Event, PortInput, Told};
 use ec_ir::{Ir, IrProgram, Temp};
 use ec_space::Seq;
 use std::alloc::Global;
@@ -15,6 +15,16 @@ use std::test::Fail;
 const INT: IntegerType = IntegerType {
     signed: true,
     bytes: 2,
+};
+
+const UNSIGNED: IntegerType = IntegerType {
+    signed: false,
+    bytes: 2,
+};
+
+const UNSIGNED_LONG: IntegerType = IntegerType {
+    signed: false,
+    bytes: 4,
 };
 
 /// A call that waits for its end.
@@ -37,6 +47,7 @@ pub struct Shown {
 struct Stepper<'a> {
     alloc: Global,
     program: &'a IrProgram,
+    inputs: &'a Seq<PortInput>,
     function: usize,
     at: usize,
     /// What stands at each place of temporaries.
@@ -139,6 +150,65 @@ impl Stepper<'_> {
         Ok(())
     }
 
+    /// The next byte that a port address gives.
+    fn next_byte(&self, at: u32) -> u8 {
+        let mut count: usize = 0;
+        for event in self.events.as_slice() {
+            if matches!(event, Event::In { port, .. } if *port == at) {
+                count = count.saturating_add(1);
+            }
+        }
+        for input in self.inputs.as_slice() {
+            if u32::from(input.port) == at {
+                return input.bytes.get(count).copied().unwrap_or(0);
+            }
+        }
+        0
+    }
+
+    /// The first address of a port, or of its element with an index.
+    fn element(&self, address: u8, index: Option<Temp>, width: u8) -> Result<u32, Fail> {
+        let i = match index {
+            None => 0,
+            Some(t) => {
+                let n = self.number(t, UNSIGNED)?;
+                u32::try_from(n).ok().ok_or("no index")?
+            }
+        };
+        Ok(u32::from(address).saturating_add(i.saturating_mul(u32::from(width))))
+    }
+
+    /// Bytes are read by rising addresses, the lowest one first.
+    fn read_port(&mut self, to: Temp, first: u32, width: u8) -> Result<(), Fail> {
+        let mut number: i128 = 0;
+        let mut scale: i128 = 1;
+        for i in 0..width {
+            let port = first.saturating_add(u32::from(i));
+            let byte = self.next_byte(port);
+            self.events.push(Event::In { port, byte })?;
+            number = number.saturating_add(scale.saturating_mul(i128::from(byte)));
+            scale = scale.saturating_mul(256);
+        }
+        self.put(to, number)
+    }
+
+    /// The lowest bytes of a number are written by falling addresses.
+    fn write_port(&mut self, from: Temp, first: u32, width: u8) -> Result<(), Fail> {
+        let mut number = self.number(from, UNSIGNED_LONG)?;
+        let mut bytes = Vec::new(self.alloc);
+        for _ in 0..width {
+            let byte = u8::try_from(number.rem_euclid(256)).ok().ok_or("no byte")?;
+            bytes.push(byte)?;
+            number = number.div_euclid(256);
+        }
+        for i in (0..width).rev() {
+            let port = first.saturating_add(u32::from(i));
+            let byte = *bytes.get(usize::from(i)).ok_or("no byte")?;
+            self.events.push(Event::Out { port, byte })?;
+        }
+        Ok(())
+    }
+
     fn jump(&mut self, label: u64) -> Result<(), Fail> {
         let f = self.program.funcs.get(self.function).ok_or("no function")?;
         for (at, op) in f.code.as_slice().iter().enumerate() {
@@ -211,6 +281,24 @@ impl Stepper<'_> {
                 let n = type_of(ty)?.wrapped(n);
                 self.put(*to, n)?;
             }
+            Ir::PortIn {
+                to,
+                address,
+                index,
+                width,
+            } => {
+                let first = self.element(*address, *index, *width)?;
+                self.read_port(*to, first, *width)?;
+            }
+            Ir::PortOut {
+                from,
+                address,
+                index,
+                width,
+            } => {
+                let first = self.element(*address, *index, *width)?;
+                self.write_port(*from, first, *width)?;
+            }
             Ir::Label(_) => {}
             Ir::Jump(l) => self.jump(*l)?,
             Ir::BranchZero(t, l) => {
@@ -235,7 +323,7 @@ impl Stepper<'_> {
 }
 
 /// The run of a program that ends within 10,000 operations.
-pub fn run(alloc: Global, program: &IrProgram) -> Result<Shown, Fail> {
+pub fn run(alloc: Global, program: &IrProgram, inputs: &Seq<PortInput>) -> Result<Shown, Fail> {
     let mut objects = Vec::new(alloc);
     for _ in program.objs.as_slice() {
         objects.push(0)?;
@@ -243,6 +331,7 @@ pub fn run(alloc: Global, program: &IrProgram) -> Result<Shown, Fail> {
     let mut stepper = Stepper {
         alloc,
         program,
+        inputs,
         function: usize::from(program.main),
         at: 0,
         numbers: Vec::new(alloc),

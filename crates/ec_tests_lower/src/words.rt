@@ -14,6 +14,7 @@ use ec_core::{
     BinOp, CType, Expr, Func, LeafInit, Node, Obj, PlaceExpr, Program, Stmt, StmtKind, Storage,
 };
 use ec_fx::Mode;
+use ec_iohw::{IoOp, IoTable, Pair, Port, PortGroup};
 use ec_space::{Bank, NoMemory, Seq, SpaceId};
 use std::alloc::Global;
 use std::test::Fail;
@@ -35,9 +36,13 @@ enum Form {
     Narrow,
     /// A call of the function 1, with two arguments.
     Call,
+    /// An operation on the port with this number, whose values are ints here.
+    Port(IoOp, u16),
+    /// The acquire or the release of the group.
+    Group(bool),
 }
 
-static FORMS: [(&str, Form); 20] = [
+static FORMS: [(&str, Form); 28] = [
     ("get", Form::Get),
     ("+", Form::Binary(BinOp::Add)),
     ("-", Form::Binary(BinOp::Sub)),
@@ -76,6 +81,14 @@ static FORMS: [(&str, Form); 20] = [
     (",", Form::Comma),
     ("char", Form::Narrow),
     ("call", Form::Call),
+    ("iord", Form::Port(IoOp::Read, 0)),
+    ("iowr", Form::Port(IoOp::Write, 0)),
+    ("ioor", Form::Port(IoOp::Or, 0)),
+    ("ioand", Form::Port(IoOp::And, 0)),
+    ("iowrbuf", Form::Port(IoOp::WriteBuffer, 1)),
+    ("ioxorbuf", Form::Port(IoOp::XorBuffer, 1)),
+    ("acquire", Form::Group(true)),
+    ("release", Form::Group(false)),
 ];
 
 /// What a word makes of the expressions and statements before it.
@@ -151,6 +164,21 @@ fn value(node: Node) -> Expr {
         ty: int_type(),
         mode: Mode { saturate: false },
         node,
+    }
+}
+
+fn typed(ty: CType, node: Node) -> Expr {
+    Expr {
+        ty,
+        mode: Mode { saturate: false },
+        node,
+    }
+}
+
+fn unsigned_type() -> CType {
+    CType::Int {
+        signed: false,
+        bytes: 2,
     }
 }
 
@@ -263,6 +291,44 @@ impl Builder {
         }
     }
 
+    /// An int operand as an unsigned int.
+    fn unsigned(&mut self) -> Result<Option<Box<Expr>>, Fail> {
+        let e = typed(unsigned_type(), Node::Convert(self.operand()?));
+        let e = Box::new(self.alloc, e)?;
+        Ok(Some(e))
+    }
+
+    /// An operation on a port; what it reads is brought to int.
+    fn port(&mut self, op: IoOp, port: u16) -> Result<Expr, Fail> {
+        let read = op == IoOp::Read;
+        let indexed = op == IoOp::WriteBuffer || op == IoOp::XorBuffer;
+        let operand = if read { None } else { self.unsigned()? };
+        let node = Node::Io {
+            op,
+            port,
+            index: if indexed { self.unsigned()? } else { None },
+            value: operand,
+        };
+        if read {
+            let e = Box::new(self.alloc, typed(unsigned_type(), node))?;
+            Ok(value(Node::Convert(e)))
+        } else {
+            Ok(typed(CType::Void, node))
+        }
+    }
+
+    /// What a word makes of the expressions before it.
+    fn formed(&mut self, form: Form) -> Result<Expr, Fail> {
+        match form {
+            Form::Port(op, port) => self.port(op, port),
+            Form::Group(acquire) => Ok(typed(CType::Void, Node::Group { acquire, group: 0 })),
+            _ => {
+                let node = self.node(form)?;
+                Ok(value(node))
+            }
+        }
+    }
+
     fn block(&mut self) -> Result<StmtKind, Fail> {
         let before = self.open.pop().ok_or("no block")?;
         let count = self.stmts.len().saturating_sub(before);
@@ -324,8 +390,8 @@ impl Builder {
         if let Some(o) = look_up(word, &OBJECTS) {
             self.objects.push(o)?;
         } else if let Some(form) = look_up(word, &FORMS) {
-            let node = self.node(form)?;
-            self.exprs.push(value(node))?;
+            let e = self.formed(form)?;
+            self.exprs.push(e)?;
         } else if let Some(part) = look_up(word, &PARTS) {
             let kind = self.kind(part)?;
             self.stmts.push(statement(kind))?;
@@ -400,6 +466,42 @@ fn functions(alloc: Global, words: &str) -> Result<Seq<Func>, Fail> {
         functions.push(function(alloc, params, body)?)?;
     }
     Ok(functions)
+}
+
+// ---- ports
+
+fn pairs(alloc: Global, byte: u8) -> Result<Seq<Pair>, NoMemory> {
+    let mut pairs = Seq::new(alloc);
+    pairs.push(Pair { port: 0x24, byte })?;
+    pairs.push(Pair {
+        port: 0x64,
+        byte: 1,
+    })?;
+    Ok(pairs)
+}
+
+fn port(alloc: Global, address: u8, width: u8, count: u8, group: Option<u16>) -> Port {
+    Port {
+        name: Seq::new(alloc),
+        address,
+        width,
+        count,
+        group,
+    }
+}
+
+/// A port of one byte in a group, and three ports of two bytes that follow one another.
+pub fn table(alloc: Global) -> Result<IoTable, NoMemory> {
+    let mut ports = Seq::new(alloc);
+    ports.push(port(alloc, 0x25, 1, 1, Some(0)))?;
+    ports.push(port(alloc, 0x40, 2, 3, None))?;
+    let mut groups = Seq::new(alloc);
+    groups.push(PortGroup {
+        name: Seq::new(alloc),
+        acquire: pairs(alloc, 15)?,
+        release: pairs(alloc, 0)?,
+    })?;
+    Ok(IoTable { ports, groups })
 }
 
 /// The program of some words.

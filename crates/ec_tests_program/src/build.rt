@@ -141,8 +141,20 @@ const TWENTY_ONE: &str = "int twice(int x); int main(void){return twice(21);}";
 
 const ENDLESS: &str = "int main(void){int i; i = 0; for (;;) i = i + 1;}";
 
+// 100 and 200 below zero are clamped to the least value, -256.
+const CLAMPED: &str =
+    "#pragma STDC FX_ACCUM_OVERFLOW SAT\nint main(void){short _Accum a = -200.0hk; a = a - 100.0hk; return (int)a;}";
+
+// Three quarters are 96 of 128 steps.
+const QUARTERS: &str =
+    "int main(void){short _Fract a = 0.25hr; short _Accum b = a * (char)3; return (int)(b << 7);}";
+
+// Half is above minus a quarter, below three quarters, and not 0.49.
+const ORDERED: &str =
+    "static _Fract g = 0.5r; int main(void){return (g > -0.25r) + (g < 0.75hr) + (g == 0.49r);}";
+
 // A source, and what comes of its run with `b.c` behind it, within 10,000 steps.
-static EXECS: [(&str, &str); 10] = [
+static EXECS: [(&str, &str); 13] = [
     ("int main(void){return 0;}", "0 result 0\n/ "),
     (
         "int main(void){int a = -7; return a / 2 + a % 2;}",
@@ -160,6 +172,9 @@ static EXECS: [(&str, &str); 10] = [
     (TENTHS, "0 result 100\n/ "),
     (REGISTER, "0 result 100\n/ "),
     (UP, "0 result 16\n/ "),
+    (CLAMPED, "0 result -256\n/ "),
+    (QUARTERS, "0 result 96\n/ "),
+    (ORDERED, "0 result 2\n/ "),
     (TWENTY_ONE, "0 result 42\n/ "),
     (ENDLESS, "14 / steps out\n"),
 ];
@@ -198,6 +213,91 @@ fn places_by_the_map(rt: HostRuntime) -> Result<(), Fail> {
         let told = told(rt.alloc(), EXEC, *data, *more, *script, *source)?;
         assert_eq!(rt; told.as_str(), *want, "at {data} {source}");
     }
+    Ok(())
+}
+
+// Ports of one byte, one of them in a group; a port of two bytes; a buffer of three ports of two bytes, and one of two
+// ports of four bytes.
+const PORTS: &str = "[[port]]
+name = \"LED\"
+address = 0x25
+width = 1
+[[port]]
+name = \"SAMPLE\"
+address = 0x79
+width = 1
+group = \"ADC\"
+[[port]]
+name = \"T\"
+address = 0x84
+width = 2
+[[port]]
+name = \"B\"
+address = 0x60
+width = 2
+count = 3
+[[port]]
+name = \"L\"
+address = 0x90
+width = 4
+count = 2
+[[group]]
+name = \"ADC\"
+acquire = [[0x7A, 0x80]]
+release = [[0x7A, 0x00]]
+";
+
+const COUNTED: &str =
+    "#include <iohw.h>\nint main(void){iowr(T, iord(T) + 1); return (int)iord(T);}";
+
+const HOOKED: &str = "#include <iohw.h>\nint main(void){iowr(LED, 9); return (int)iord(LED);}";
+
+const SET: &str = "#include <iohw.h>\nint main(void){ioor(LED, 1); return 0;}";
+
+const SUM: &str =
+    "#include <iohw.h>\nint main(void){int n, s = 0; iogroup_acquire(ADC); for (n = 0; n < 3; n++) s = s + (int)iord(SAMPLE); iogroup_release(ADC); iowr(LED, s); return s;}";
+
+const BUFFER: &str =
+    "#include <iohw.h>\nint main(void){int i; for (i = 2; i >= 0; i--) ioxorbuf(B, i, 0x0110); iowrbufl(L, 1, iordbuf(B, 1)); return 0;}";
+
+// A script, a source, and what comes of its run with ports.
+static ACCESSES: [(&str, &str, &str); 5] = [
+    (
+        "84: 34\n85: 12 01\n",
+        COUNTED,
+        "0 in 84 34\nin 85 12\nout 85 12\nout 84 35\nin 84 00\nin 85 01\nresult 256\n/ ",
+    ),
+    ("25: hook\n", HOOKED, "0 out 25 09\nin 25 09\nresult 9\n/ "),
+    ("25: 80\n", SET, "0 in 25 80\nout 25 81\nresult 0\n/ "),
+    (
+        "79: 03 04 0A\n",
+        SUM,
+        "0 out 7A 80\nin 79 03\nin 79 04\nin 79 0A\nout 7A 00\nout 25 11\nresult 17\n/ ",
+    ),
+    (
+        "62: 1F 05\n63: 01 02\n64: 30\n",
+        BUFFER,
+        "0 in 64 30\nin 65 00\nout 65 01\nout 64 20\nin 62 1F\nin 63 01\nout 63 00\nout 62 0F\nin 60 00\nin 61 00\nout 61 01\nout 60 10\nin 62 05\nin 63 02\nout 97 00\nout 96 00\nout 95 02\nout 94 05\nresult 0\n/ ",
+    ),
+];
+
+#[test]
+fn accesses_ports(rt: HostRuntime) -> Result<(), Fail> {
+    for (script, source, want) in &ACCESSES {
+        let told = told(rt.alloc(), EXEC, DATA, PORTS, *script, *source)?;
+        assert_eq!(rt; told.as_str(), *want, "at {source}");
+    }
+    Ok(())
+}
+
+const BLINK: &str = "#include <iohw.h>\nint main(void){for(;;) iowr(LED, 1);}";
+
+#[test]
+fn writes_to_ports_for_ever(rt: HostRuntime) -> Result<(), Fail> {
+    let texts = ["exec", "m", "s", "20000", "a.c"];
+    let told = told(rt.alloc(), &texts, DATA, PORTS, "", BLINK)?;
+    assert!(rt; told.as_str().starts_with("14 out 25 01\nout 25 01\n"));
+    assert!(rt; told.as_str().ends_with("out 25 01\n/ steps out\n"));
     Ok(())
 }
 

@@ -1,6 +1,7 @@
 use Rattle.std.proofs.Common.{◌≡◌, ◌++◌, ◌∙◌, ap, sym, arith, rules, List, map}
 use Rattle.std.proofs.lemmas.Grind.{common_steps}
 use Rattle.ec_core.specs.declared.expressions.Expr.{Expr}
+use Rattle.ec_core.specs.PortTable.{plain_table}
 use Rattle.ec_core.specs.Plain.{PlainNode, call, plain_exprs, plain_node, plain_program, plain_type}
 use Rattle.ec_ir.specs.Operations.{plain_ir}
 use Rattle.ec_lower.specs.Sizes.{node_size, exprs_size}
@@ -26,7 +27,7 @@ lower_args-loop-e-preserved t c =
     let labels = ap (λ es. exprs_labels (plain_exprs es)) next in
     let program = plain_program c.args.program.now in (
       omega (arith, labels, c.in_ok-k.ensures.next, c.loop-e.invariant.0),
-      λ rest. rw (c.in_ok-k.ensures.next, c.in_ok-u.ensures) (c.in_ok-k.ensures.code _ ∙ (sym (ap (λ (es : List Expr). map plain_ir c.loop-e.code.items ++ args_code program (plain_exprs es) c.loop-e.k c.loop-e.u rest) next) ∙ c.loop-e.invariant.1 rest)),
+      λ rest. rw (c.in_ok-k.ensures.next, c.in_ok-u.ensures) (c.in_ok-k.ensures.code _ ∙ (sym (ap (λ (es : List Expr). map plain_ir c.loop-e.code.items ++ args_code program (plain_table c.args.io.now) (plain_exprs es) c.loop-e.k c.loop-e.u rest) next) ∙ c.loop-e.invariant.1 rest)),
     )
 
 pub lower_expr-returns-in_ok-put_unary-in-Unary-clause-code : goal.lower_expr-returns-in_ok-put_unary-in-Unary-clause-code
@@ -54,7 +55,7 @@ pub lower_effect-returns-in_ok-put-in-Call-clause-code : goal.lower_effect-retur
 lower_effect-returns-in_ok-put-in-Call-clause-code t c = λ rest.
     (let is : plain_node c.args.node.now ≡ call c.in-Call.f (plain_exprs c.in-Call.args.items) = ap plain_node c.in-Call.is ∙ plain_call c.in-Call.f c.in-Call.args in
     rw (c.as_slice.ensures, c.as_slice-in-Call.ensures, c.result_temp.ensures) at (c.in_ok-put-in-Call.ensures rest ∙ (c.in_ok-store_call-in-Call.ensures _ ∙ c.in_ok-m-in-Call.ensures.code _))
-    ∙ ap (λ (node : PlainNode). map plain_ir c.args.code.now.items ++ node_code (plain_program c.args.program.now) (plain_type c.args.ty.now) c.args.mode node c.args.l c.args.t rest) (sym is))
+    ∙ ap (λ (node : PlainNode). map plain_ir c.args.code.now.items ++ node_code (plain_program c.args.program.now) (plain_table c.args.io.now) (plain_type c.args.ty.now) c.args.mode node c.args.l c.args.t rest) (sym is))
 
 pub lower_choice-returns-in_ok-truth-in-Not-clause-code : goal.lower_choice-returns-in_ok-truth-in-Not-clause-code
 lower_choice-returns-in_ok-truth-in-Not-clause-code t c = λ rest.
@@ -85,4 +86,4 @@ lower_expr-returns-in_ok-put_number-in-Number-clause-code t c = λ rest. rw (c.i
 
 pub lower_args-returns-clause-code : goal.lower_args-returns-clause-code
 lower_args-returns-clause-code t c = λ rest.
-    ap (λ (es : List Expr). map plain_ir c.loop-e.code.items ++ args_code (plain_program c.args.program.now) (plain_exprs es) c.loop-e.k c.loop-e.u rest) (sym (list_end c.args.args.now c.loop-e.e-index (omega (arith, c.loop-e-test.false)))) ∙ c.loop-e.invariant.1 rest
+    ap (λ (es : List Expr). map plain_ir c.loop-e.code.items ++ args_code (plain_program c.args.program.now) (plain_table c.args.io.now) (plain_exprs es) c.loop-e.k c.loop-e.u rest) (sym (list_end c.args.args.now c.loop-e.e-index (omega (arith, c.loop-e-test.false)))) ∙ c.loop-e.invariant.1 rest

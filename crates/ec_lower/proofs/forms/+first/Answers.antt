@@ -4,14 +4,14 @@ use Rattle.std.specs.Option.{option_copied}
 use Rattle.ec_core.specs.declared.statements.Stmt.{Stmt}
 use Rattle.ec_core.specs.Plain.{PlainKind, PlainStmt, PlainStmts, block, plain_kind, plain_stmt, plain_stmts}
 use Rattle.ec_lower.specs.Forms.{IsFirstAmong, TellsInside, TellsAmong}
-use Rattle.ec_lower_code.specs.Parts.{IsIntegerOrVoid, IsAnyFunction, AreStmts}
+use Rattle.ec_lower_code.specs.Parts.{IsNumericOrVoid, IsAnyFunction, AreStmts}
 use Rattle.ec_lower.proofs.Lists.{plain_block, list_next}
 use Rattle.ec_lower.proofs.Steps.{list_end}
 use Rattle.ec_lower.proofs.forms.+first.Goals as goal
 
 pub first_among-returns : goal.first_among-returns
 first_among-returns t c =
-    c.loop-s.invariant.0 (subst (λ (ss : List Stmt). AreStmts IsIntegerOrVoid IsAnyFunction (plain_stmts ss)) (sym (list_end c.args.ss.now c.loop-s.s-index (omega (arith, c.loop-s-test.false)))) tt)
+    c.loop-s.invariant.0 (subst (λ (ss : List Stmt). AreStmts IsNumericOrVoid IsAnyFunction (plain_stmts ss)) (sym (list_end c.args.ss.now c.loop-s.s-index (omega (arith, c.loop-s-test.false)))) tt)
 
 pub first_among-returns-in-Some : goal.first_among-returns-in-Some
 first_among-returns-in-Some t c =
@@ -21,7 +21,7 @@ first_among-returns-in-Some t c =
 pub first_among-loop-s-preserved : goal.first_among-loop-s-preserved
 first_among-loop-s-preserved t c =
     let next = list_next c.args.ss.now c.loop-s.s-index c.s-item.result (omega (arith, c.loop-s-test.true)) c.s-item.is in (
-      λ h. c.loop-s.invariant.0 (subst (λ (ss : List Stmt). AreStmts IsIntegerOrVoid IsAnyFunction (plain_stmts ss)) (sym next) (c.in-None.ensures, h)),
+      λ h. c.loop-s.invariant.0 (subst (λ (ss : List Stmt). AreStmts IsNumericOrVoid IsAnyFunction (plain_stmts ss)) (sym next) (c.in-None.ensures, h)),
       λ x h. c.loop-s.invariant.1 x (subst (λ (ss : List Stmt). IsFirstAmong x (plain_stmts ss)) (sym next) (inr (c.in-None.ensures, h))),
     )
 

@@ -3,13 +3,13 @@ use Rattle.std.specs.List.{AllByRecursion}
 use Rattle.ec_core.specs.declared.programs.Func.{Func}
 use Rattle.ec_core.specs.Plain.{PlainStmt, plain_function, plain_stmt}
 use Rattle.ec_lower.specs.Forms.{IsFirstOf}
-use Rattle.ec_lower_code.specs.Parts.{IsIntegerOrVoid, IsAnyFunction, IsStmt}
+use Rattle.ec_lower_code.specs.Parts.{IsNumericOrVoid, IsAnyFunction, IsStmt}
 use Rattle.ec_lower.proofs.Lists.{list_next}
 use Rattle.ec_lower.proofs.Steps.{list_end}
 use Rattle.ec_lower.proofs.forms.is_compiled.Goals as goal
 
 AreLowered : List Func → Type 0
-AreLowered fs = AllByRecursion (λ f. IsStmt IsIntegerOrVoid IsAnyFunction f.body) (map plain_function fs)
+AreLowered fs = AllByRecursion (λ f. IsStmt IsNumericOrVoid IsAnyFunction f.body) (map plain_function fs)
 
 IsAmong : PlainStmt → List Func → Type 0
 IsAmong x fs = IsFirstOf x (map plain_function fs)

@@ -1,6 +1,7 @@
 use Rattle.std.proofs.Common.{◌≡◌, ◌+◌, ◌++◌, ◌∙◌, ap, sym, arith, rules, List, map}
 use Rattle.std.proofs.lemmas.Grind.{common_steps}
 use Rattle.ec_core.specs.declared.statements.Stmt.{Stmt}
+use Rattle.ec_core.specs.PortTable.{plain_table}
 use Rattle.ec_core.specs.Plain.{PlainKind, block, plain_expr, plain_kind, plain_stmts, plain_program}
 use Rattle.ec_ir.specs.Operations.{plain_ir}
 use Rattle.ec_lower.specs.Sizes.{kind_size, stmts_size}
@@ -26,7 +27,7 @@ lower_stmts-loop-s-preserved t c =
     let labels = ap (λ ss. stmts_labels (plain_stmts ss)) next in
     let program = plain_program c.args.program.now in (
       omega (arith, labels, c.in_ok-k.ensures.next, c.loop-s.invariant.0),
-      λ rest. rw (c.in_ok-k.ensures.next) (c.in_ok-k.ensures.code _ ∙ (sym (ap (λ (ss : List Stmt). map plain_ir c.loop-s.code.items ++ stmts_code program (plain_stmts ss) c.loop-s.k c.args.out c.args.on rest) next) ∙ c.loop-s.invariant.1 rest)),
+      λ rest. rw (c.in_ok-k.ensures.next) (c.in_ok-k.ensures.code _ ∙ (sym (ap (λ (ss : List Stmt). map plain_ir c.loop-s.code.items ++ stmts_code program (plain_table c.args.io.now) (plain_stmts ss) c.loop-s.k c.args.out c.args.on rest) next) ∙ c.loop-s.invariant.1 rest)),
     )
 
 pub lower_stmt-returns-in_ok-m-in-Do1-clause-code : goal.lower_stmt-returns-in_ok-m-in-Do1-clause-code
@@ -40,7 +41,7 @@ lower_stmt-returns-in_ok-m-in-Block-clause-next t c =
 pub lower_stmt-returns-in_ok-m-in-Block-clause-code : goal.lower_stmt-returns-in_ok-m-in-Block-clause-code
 lower_stmt-returns-in_ok-m-in-Block-clause-code t c = λ rest.
     (let is : plain_kind c.args.s.now.kind ≡ block (plain_stmts c.as_slice.result.now) = ap plain_kind c.in-Block.is ∙ (plain_block c.in-Block.ss ∙ ap (λ ss. block (plain_stmts ss)) (sym c.as_slice.ensures)) in
-    c.in_ok-m-in-Block.ensures.code rest ∙ ap (λ (kind : PlainKind). map plain_ir c.args.code.now.items ++ kind_code (plain_program c.args.program.now) kind c.args.l c.args.out c.args.on rest) (sym is))
+    c.in_ok-m-in-Block.ensures.code rest ∙ ap (λ (kind : PlainKind). map plain_ir c.args.code.now.items ++ kind_code (plain_program c.args.program.now) (plain_table c.args.io.now) kind c.args.l c.args.out c.args.on rest) (sym is))
 
 pub lower_stmt-returns-in_ok-m-in-Local-clause-code : goal.lower_stmt-returns-in_ok-m-in-Local-clause-code
 lower_stmt-returns-in_ok-m-in-Local-clause-code t c = λ rest. rw (c.in-Local.is, ← c.as_slice-in-Local.ensures) (c.in_ok-m-in-Local.ensures.code rest)
@@ -100,4 +101,4 @@ lower_for-returns-clause-code t c = λ rest.
 
 pub lower_stmts-returns-clause-code : goal.lower_stmts-returns-clause-code
 lower_stmts-returns-clause-code t c = λ rest.
-    ap (λ (ss : List Stmt). map plain_ir c.loop-s.code.items ++ stmts_code (plain_program c.args.program.now) (plain_stmts ss) c.loop-s.k c.args.out c.args.on rest) (sym (list_end c.args.ss.now c.loop-s.s-index (omega (arith, c.loop-s-test.false)))) ∙ c.loop-s.invariant.1 rest
+    ap (λ (ss : List Stmt). map plain_ir c.loop-s.code.items ++ stmts_code (plain_program c.args.program.now) (plain_table c.args.io.now) (plain_stmts ss) c.loop-s.k c.args.out c.args.on rest) (sym (list_end c.args.ss.now c.loop-s.s-index (omega (arith, c.loop-s-test.false)))) ∙ c.loop-s.invariant.1 rest

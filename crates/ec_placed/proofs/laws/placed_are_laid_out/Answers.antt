@@ -3,7 +3,6 @@ use Rattle.ec_placed.proofs.laws.placed_are_laid_out.Goals as goal
 
 pub returns : goal.returns
 returns c = placed_are_laid_out (record {
-  leaves = c.leaves_fill_their_types.ensures;
   items = c.placed_items_stand.ensures;
   code = c.code_stands.ensures;
   apart = c.data_stands_apart.ensures;

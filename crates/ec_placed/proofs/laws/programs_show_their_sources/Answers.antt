@@ -4,7 +4,6 @@ use Rattle.ec_placed.proofs.laws.programs_show_their_sources.Goals as goal
 pub returns : goal.returns
 returns c = programs_show_their_sources (record {
   laid = record {
-    leaves = c.leaves_fill_their_types.ensures;
     items = c.placed_items_stand.ensures;
     code = c.code_stands.ensures;
     apart = c.data_stands_apart.ensures;
@@ -20,4 +19,6 @@ returns c = programs_show_their_sources (record {
   stack = c.stack_stays_inside.ensures;
   allowed = c.accesses_are_allowed.ensures;
   home = c.events_are_at_home.ensures;
+  on_ports = c.sources_access_ports.ensures;
+  port_bytes = c.port_bytes_pass.ensures;
 })

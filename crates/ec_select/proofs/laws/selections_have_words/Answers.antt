@@ -8,4 +8,7 @@ returns c = selections_have_words (record {
   relations = c.relations_have_words.ensures;
   products = c.products_have_words.ensures;
   shifts = c.shifts_have_words.ensures;
+  fixed_binaries = c.fixed_binaries_are_short.ensures;
+  fixed_unaries = c.fixed_unaries_are_short.ensures;
+  fixed_conversions = c.fixed_conversions_are_short.ensures;
 }) c.startup_has_words.ensures c.near_items_are_short.ensures.less

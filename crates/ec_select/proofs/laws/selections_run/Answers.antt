@@ -5,6 +5,11 @@ pub returns : goal.returns
 returns c = selections_run (record {
   code = record {
     leaves = c.leaves_fill_their_types.ensures;
+    plain = record {
+      binaries = c.fixed_binaries_are_plain.ensures;
+      unaries = c.fixed_unaries_are_plain.ensures;
+      conversions = c.fixed_conversions_are_plain.ensures;
+    };
     items = c.startup_is_valid.ensures.items;
     used = c.startup_is_valid.ensures.used;
     placed = c.startup_is_valid.ensures.placed;

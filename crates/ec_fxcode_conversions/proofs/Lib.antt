@@ -1,0 +1,11 @@
+pub mod Appended
+pub mod Converted
+pub mod Factors
+pub mod Numbers
+pub mod Multiplied
+pub mod Places
+pub mod Runs
+pub mod Units
+pub mod ValidItems
+pub mod Wholes
+pub mod Words

@@ -1,0 +1,4 @@
+pub mod Conversions
+pub mod Products
+pub mod ConversionLaws
+pub mod ProductLaws

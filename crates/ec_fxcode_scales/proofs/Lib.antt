@@ -1,0 +1,10 @@
+mod Numbers
+mod Quotients
+mod Moves
+mod Form
+mod Placed
+mod Scaled
+mod Divided
+mod Lowered
+mod ClampWords
+mod ValidItems

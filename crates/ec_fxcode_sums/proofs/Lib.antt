@@ -1,0 +1,12 @@
+mod Aligning
+mod Compared
+mod Exact
+mod Known
+mod Negated
+mod Ordered
+mod Settled
+mod Sizes
+mod Summed
+mod TwosComplement
+mod ValidItems
+mod Words

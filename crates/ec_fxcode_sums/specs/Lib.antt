@@ -1,0 +1,5 @@
+pub mod Sums
+pub mod SumLaws
+pub mod Orders
+pub mod OrderLaws
+pub mod Operands

@@ -1,0 +1,13 @@
+pub mod Emits
+pub mod Formats
+pub mod Conversions
+pub mod Converted
+pub mod Kept
+pub mod Operators
+pub mod PlainItems
+pub mod Runs
+pub mod Sizes
+pub mod Suits
+pub mod Truths
+pub mod Unaries
+pub mod Values

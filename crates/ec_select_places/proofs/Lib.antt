@@ -1,0 +1,9 @@
+pub mod Places
+pub mod Blocks
+pub mod Scaled
+pub mod Advanced
+pub mod Embedded
+pub mod Short
+pub mod Valid
+pub mod Apart
+pub mod Inverted

@@ -1,0 +1,230 @@
+-- A number of elements is loaded to R31:R30, and becomes one of bytes.
+use Rattle.std.proofs.Common.{◌≡◌, ◌≢◌, ℕ, zero, suc, ◌+◌, ◌*◌, ◌/◌, ◌%◌, ◌<◌, ◌≤◌, ◌==◌, ⊎_elim, Bool, true, false}
+use Rattle.std.proofs.Common.{[], refl, ap, ◌∙◌, arith, append-nil}
+use Rattle.std.specs.Prelude.{if◌then◌else◌}
+use Rattle.std.proofs.lemmas.Bool.{cases_eq, eqb-true, ne_eqb}
+use Rattle.ec_isa.specs.declared.instructions.Instr.TheVariants.{Ldi, Movw, Mul, Add}
+use Rattle.ec_asm.specs.declared.pieces.Location.{Location}
+use Rattle.ec_asm.specs.View.{View}
+use Rattle.ec_asm.specs.Change.{Env, Own, change}
+use Rattle.ec_asm.specs.Items.{block}
+use Rattle.ec_asm.specs.Pieces.{StandsFrom, Outside, value, copy_code, CopiesTo}
+use Rattle.ec_asm.specs.PieceLaws.{HoldsNumbers, CopiesAreRight, NumbersHaveLowParts}
+use Rattle.ec_select_bytes.specs.Values.{extend_code, fill_of}
+use Rattle.ec_select_bytes.specs.Laws.{ExtensionsAreRight}
+use Rattle.ec_select_places.specs.Steps.{z_pair, index_code, product_code, scale_code}
+use Rattle.ec_select_places.specs.StepLaws.{LeavesZ, index_of, Scales, IndexesAreScaled}
+use Rattle.ec_select_places.proofs.Blocks.{put_other, pair_other, block-append, first_bytes, copied_numbers}
+
+-- what is known of the pieces
+pub record Lower : Type 0 where
+  pub copies : CopiesAreRight
+  pub extensions : ExtensionsAreRight
+  pub low : NumbersHaveLowParts
+
+-- ---- loaded
+
+-- R31:R30 has a number, and all else is kept but R0, R1 and the flags
+pub record Loads (v : View) (number : ℕ) (w : View) : Type 0 where
+  pub number_is : value w.at 30 2 ≡ number
+  pub numbers : HoldsNumbers w
+  pub same : (k : ℕ) → k ≢ 0 → k ≢ 1 → Outside 30 2 k → w.at k ≡ v.at k
+  pub inputs : w.inputs ≡ v.inputs
+  pub safe : w.safe ≡ v.safe
+  pub seen : w.seen ≡ v.seen
+
+pub z_stands : (e : Env) (m : ℕ) → StandsFrom e z_pair m 30 Own
+z_stands e m = record { at = λ i l. refl; kind = λ i l. refl; clear = omega arith }
+
+pub to_z : (copies : CopiesAreRight) (e : Env) (p : Location) (m n a : ℕ) (v : View) → m ≤ n → StandsFrom e p n a Own
+    → LeavesZ a n → CopiesTo v a 30 Own Own m (block e (copy_code p z_pair m) v)
+to_z copies e p m n a v l s z =
+    copies e p z_pair m a 30 Own Own v (first_bytes e p m n a l s) (z_stands e m) refl refl
+    (λ q. let b = z.low (omega arith) in omega arith)
+
+pub two_loaded : (copies : CopiesAreRight) (e : Env) (p : Location) (n a : ℕ) (v : View) → 2 ≤ n
+    → StandsFrom e p n a Own → LeavesZ a n → HoldsNumbers v → Loads v (value v.at a 2) (block e (copy_code p z_pair 2) v)
+two_loaded copies e p n a v l s z h =
+    let w = block e (copy_code p z_pair 2) v in
+    let c = to_z copies e p 2 n a v l s z in
+    let low : w.at (30 + 0) ≡ v.at (a + 0) = c.there 0 (omega arith) in
+    let high : w.at (30 + 1) ≡ v.at (a + 1) = c.there 1 (omega arith) in
+    record {
+      number_is = rw (low, high) refl;
+      numbers = copied_numbers v w a 30 2 s.clear h c.there c.same;
+      same = λ k n0 n1 o. c.same k n0 o;
+      inputs = c.inputs;
+      safe = c.safe;
+      seen = c.seen ∙ append-nil v.seen;
+    }
+
+fill_is_below : (signed : Bool) (x : ℕ) → x < 256 → fill_of signed x < 256
+fill_is_below true x l = omega arith
+fill_is_below false x l = omega arith
+
+one_loaded : (copies : CopiesAreRight) (extensions : ExtensionsAreRight) (e : Env) (p : Location) (signed : Bool)
+    (a : ℕ) (v : View) → StandsFrom e p 1 a Own → LeavesZ a 1 → HoldsNumbers v
+    → Loads v (value v.at a 1 + 256 * fill_of signed (value v.at a 1))
+    (block e (extend_code signed z_pair 1 2) (block e (copy_code p z_pair 1) v))
+one_loaded copies extensions e p signed a v s z h =
+    let v1 = block e (copy_code p z_pair 1) v in
+    let w = block e (extend_code signed z_pair 1 2) v1 in
+    let c = to_z copies e p 1 1 a v (omega arith) s z in
+    let n1 : HoldsNumbers v1 = copied_numbers v v1 a 30 1 s.clear h c.there c.same in
+    let x = extensions signed e z_pair 0 2 30 v1 (z_stands e 2) (omega arith) n1 in
+    let ua = s.clear in
+    let small : v.at (a + 0) < 256 = h (a + 0) (omega arith) in
+    let low1 : v1.at (30 + 0) ≡ v.at (a + 0) = c.there 0 (omega arith) in
+    let low : w.at (30 + 0) ≡ v.at (a + 0) = x.keeps.same 30 (omega arith) (omega arith) (λ o. absurd (omega arith)) ∙ low1 in
+    let high : w.at (30 + 1) ≡ fill_of signed (v.at (a + 0)) =
+    x.there 1 (omega arith) (omega arith) ∙ ap (λ t. fill_of signed t) low1 in
+    let one : value v.at a 1 ≡ v.at (a + 0) = omega arith in
+    let fill = fill_is_below signed (v.at (a + 0)) small in
+    record {
+      number_is = rw (low, high, one) (omega arith);
+      numbers = λ k u.
+          ⊎_elim
+          (λ (q : k ≡ 31). rw (q, high) fill)
+          (λ (q : k ≢ 31).
+          ⊎_elim
+          (λ (t : k ≡ 1). absurd (omega arith))
+          (λ (t : k ≢ 1). rw (x.keeps.same k (omega arith) t (λ o. omega (arith, q))) (n1 k u))
+          (cases_eq k 1))
+          (cases_eq k 31);
+      same = λ k k0 k1 o.
+          x.keeps.same k k0 k1 (λ l. let b = o (omega arith) in omega arith)
+          ∙ c.same k k0 (λ l. let b = o l in omega arith);
+      inputs = x.keeps.inputs ∙ c.inputs;
+      safe = x.keeps.safe ∙ c.safe;
+      seen = x.keeps.seen ∙ (c.seen ∙ append-nil v.seen);
+    }
+
+index_loads : (lower : Lower) (e : Env) (p : Location) (signed : Bool) (n a : ℕ) (v : View) → StandsFrom e p n a Own
+    → LeavesZ a n → 1 ≤ n → HoldsNumbers v
+    → Loads v (index_of signed n (value v.at a n)) (block e (index_code p signed n) v)
+index_loads lower e p signed zero a v s z l h = absurd (omega arith)
+index_loads lower e p signed (suc zero) a v s z l h =
+    rw (block-append e (copy_code p z_pair 1) (extend_code signed z_pair 1 2) v)
+    (one_loaded lower.copies lower.extensions e p signed a v s z h)
+index_loads lower e p signed (suc (suc n)) a v s z l h =
+    let ua = s.clear in
+    let low : value v.at a (suc (suc n)) % 65536 ≡ value v.at a 2 =
+    lower.low v.at a 2 (suc (suc n)) (omega arith) (λ j m. h (a + j) (omega arith)) in
+    rw (ne_eqb (suc (suc n)) 1 (omega arith), low) (two_loaded lower.copies e p (suc (suc n)) a v (omega arith) s z h)
+
+-- ---- scaled
+
+-- the low two bytes of a product, of the products of bytes
+abbrev low_product : (xx xy yx : ℕ) → ℕ
+low_product xx xy yx =
+    let r = xx % 256 + 256 * (xx / 256) in
+    r % 256 + 256 * (((r / 256 + xy % 256 + 0) % 256 + yx % 256 + 0) % 256)
+
+product_is : (x y k m : ℕ) → low_product (x * k) (x * m) (y * k) ≡ (x + 256 * y) * (k + 256 * m) % 65536
+product_is x y k m =
+    let p : (x + 256 * y) * (k + 256 * m) ≡ x * k + 256 * (x * m) + 256 * (y * k) + 65536 * (y * m) = omega arith in
+    rw p (parts (x * k) (x * m) (y * k) (y * m))
+  where
+    parts : (a b c d : ℕ) → low_product a b c ≡ (a + 256 * b + 256 * c + 65536 * d) % 65536
+    parts a b c d = omega arith
+
+-- registers that are changed
+numbers_hold : (v w : View) → HoldsNumbers v → w.at 8 < 256 → w.at 9 < 256 → w.at 10 < 256 → w.at 11 < 256
+    → w.at 30 < 256 → w.at 31 < 256
+    → ((k : ℕ) → k ≢ 0 → k ≢ 1 → Outside 8 4 k → Outside 30 2 k → w.at k ≡ v.at k) → HoldsNumbers w
+numbers_hold v w h h8 h9 h10 h11 h30 h31 same k u =
+    by k 8 w h8 (λ n8. by k 9 w h9 (λ n9. by k 10 w h10 (λ n10. by k 11 w h11 (λ n11. by k 30 w h30 (λ n30. by k 31 w h31 (λ n31.
+    rw (same k (omega arith) (omega arith) (λ o. omega (arith, n8, n9, n10, n11)) (λ o. omega (arith, n30, n31))) (h k u)))))))
+  where
+    by : (k a : ℕ) (w : View) → w.at a < 256 → (k ≢ a → w.at k < 256) → w.at k < 256
+    by k a w h f = ⊎_elim (λ (q : k ≡ a). rw q h) f (cases_eq k a)
+
+multiplied : (e : Env) (size : ℕ) (v : View) → size < 65536 → HoldsNumbers v
+    → Scales v (value v.at 30 2 * size % 65536) (block e (product_code size) v)
+multiplied e size v l h =
+    let k = size % 256 in
+    let m = size / 256 in
+    let x = v.at 30 in
+    let y = v.at 31 in
+    let xs : x < 256 = h 30 (omega arith) in
+    let ys : y < 256 = h 31 (omega arith) in
+    let px = (x + 256 * y) % 256 in
+    let py = (x + 256 * y) / 256 in
+    let ex : px ≡ x = omega arith in
+    let ey : py ≡ y = omega arith in
+    let v1 = change e (Movw 8 30) v in
+    let v2 = change e (Ldi 30 k) v1 in
+    let v3 = change e (Ldi 31 m) v2 in
+    let v4 = change e (Mul 8 30) v3 in
+    let v5 = change e (Movw 10 0) v4 in
+    let v6 = change e (Mul 8 31) v5 in
+    let v7 = change e (Add 11 0) v6 in
+    let v8 = change e (Mul 9 30) v7 in
+    let v9 = change e (Add 11 0) v8 in
+    let w = change e (Movw 30 10) v9 in
+    let p = low_product (px * k) (px * m) (py * k) in
+    let low : w.at 30 ≡ p % 256 = refl in
+    let high : w.at 31 ≡ p / 256 = refl in
+    let total : p ≡ (x + 256 * y) * (k + 256 * m) % 65536 = rw (ex, ey) (product_is x y k m) in
+    let size_is : k + 256 * m ≡ size = omega arith in
+    let number_is : x + 256 * y ≡ value v.at 30 2 = omega arith in
+    let q : p ≡ value v.at 30 2 * size % 65536 =
+    total ∙ (ap (λ t. (x + 256 * y) * t % 65536) size_is ∙ ap (λ t. t * size % 65536) number_is) in
+    let same : (j : ℕ) → j ≢ 0 → j ≢ 1 → Outside 8 4 j → Outside 30 2 j → w.at j ≡ v.at j =
+    λ j n0 n1 o z.
+    let n8 : j ≢ 8 = λ (t : j ≡ 8). let b = o (omega arith) in omega arith in
+    let n9 : j ≢ 9 = λ (t : j ≡ 9). let b = o (omega arith) in omega arith in
+    let n10 : j ≢ 10 = λ (t : j ≡ 10). let b = o (omega arith) in omega arith in
+    let n11 : j ≢ 11 = λ (t : j ≡ 11). let b = o (omega arith) in omega arith in
+    let n30 : j ≢ 30 = λ (t : j ≡ 30). let b = z (omega arith) in omega arith in
+    let n31 : j ≢ 31 = λ (t : j ≡ 31). let b = z (omega arith) in omega arith in
+    pair_other v9.at 30 _ j n30 n31 ∙ (put_other v8.at 11 _ j n11 ∙ (pair_other v7.at 0 _ j n0 n1
+    ∙ (put_other v6.at 11 _ j n11 ∙ (pair_other v5.at 0 _ j n0 n1 ∙ (pair_other v4.at 10 _ j n10 n11
+    ∙ (pair_other v3.at 0 _ j n0 n1 ∙ (put_other v2.at 31 _ j n31 ∙ (put_other v1.at 30 _ j n30
+    ∙ pair_other v.at 8 _ j n8 n9)))))))) in
+    let b8 : w.at 8 < 256 = omega arith in
+    let b9 : w.at 9 < 256 = omega (arith, xs, ys) in
+    let r = (px * k) % 256 + 256 * (px * k / 256) in
+    let b10 : w.at 10 < 256 = omega arith in
+    let b11 : w.at 11 < 256 = omega arith in
+    let b30 : w.at 30 < 256 = omega arith in
+    let bp : p < 65536 = omega arith in
+    let b31 : w.at 31 < 256 = omega (arith, bp, high) in
+    record {
+      number_is = rw (low, high) (omega (arith, q));
+      numbers = numbers_hold v w h b8 b9 b10 b11 b30 b31 same;
+      same = same;
+      inputs = refl;
+      safe = refl;
+      seen = refl;
+    }
+
+pub scaled : (e : Env) (size : ℕ) (v : View) (b : Bool) → (size == 1) ≡ b → size < 65536 → HoldsNumbers v
+    → Scales v (value v.at 30 2 * size % 65536) (block e (if b then [] else product_code size) v)
+scaled e size v true t l h =
+    let one : size ≡ 1 = eqb-true size 1 t in
+    let xs : v.at (30 + 0) < 256 = h 30 (omega arith) in
+    let ys : v.at (30 + 1) < 256 = h 31 (omega arith) in
+    record {
+      number_is = rw one (omega (arith, xs, ys));
+      numbers = h;
+      same = λ k n0 n1 o z. refl;
+      inputs = refl;
+      safe = refl;
+      seen = refl;
+    }
+scaled e size v false t l h = multiplied e size v l h
+
+pub indexes_are_scaled : Lower → IndexesAreScaled
+indexes_are_scaled lower e p signed n size a v s z some l h =
+    let v1 = block e (index_code p signed n) v in
+    let o = index_loads lower e p signed n a v s z some h in
+    let r = scaled e size v1 (size == 1) refl l o.numbers in
+    rw (block-append e (index_code p signed n) (scale_code size) v) (record {
+      number_is = r.number_is ∙ ap (λ t. t * size % 65536) o.number_is;
+      numbers = r.numbers;
+      same = λ k n0 n1 m q. r.same k n0 n1 m q ∙ o.same k n0 n1 q;
+      inputs = r.inputs ∙ o.inputs;
+      safe = r.safe ∙ o.safe;
+      seen = r.seen ∙ o.seen;
+    })

@@ -1,0 +1,59 @@
+-- Pieces of code for a pointer moved by so many elements. R0, R1, R8 to R11, R30 and R31 are work registers.
+use Rattle.std.specs.Prelude.{ℕ, ◌/◌, ◌%◌, ◌==◌, Bool, false, if◌then◌else◌, List, [], ◌∷◌, ◌++◌}
+use Rattle.ec_isa.specs.declared.instructions.Instr.TheVariants.{Ldi, Movw, Mul, Add}
+use Rattle.ec_asm.specs.declared.items.AsmItem.{AsmItem}
+use Rattle.ec_asm.specs.declared.items.AsmItem.TheVariants.{Plain}
+use Rattle.ec_asm.specs.declared.pieces.Location.{Location}
+use Rattle.ec_asm.specs.declared.pieces.Location.TheVariants.{InRegisters}
+use Rattle.ec_asm.specs.declared.pieces.Operator.{Operator}
+use Rattle.ec_asm.specs.declared.pieces.Operator.TheVariants.{Sum, Difference}
+use Rattle.ec_asm.specs.Pieces.{copy_code, operate_code}
+use Rattle.ec_select_order.specs.declared.relations.Relation.{Relation}
+use Rattle.ec_select_order.specs.declared.relations.Relation.TheVariants.{Less, NotLess, Equal, NotEqual}
+use Rattle.ec_select_order.specs.Relations.{relation_code}
+use Rattle.ec_select_bytes.specs.Values.{extend_code}
+
+-- R30 and R31
+abbrev pub z_pair : Location
+z_pair = InRegisters 30
+
+-- ---- sums
+
+-- the low two bytes of a number of n bytes, or one byte with its sign or 0 above it
+abbrev pub index_code : Location → Bool → ℕ → List AsmItem
+index_code p signed n =
+    if n == 1 then copy_code p z_pair 1 ++ extend_code signed z_pair 1 2 else copy_code p z_pair 2
+
+-- R31:R30 times a constant: the product of the low bytes, and those of a low and a high byte above it
+abbrev pub product_code : ℕ → List AsmItem
+product_code size =
+    Plain (Movw 8 30) ∷ Plain (Ldi 30 (size % 256)) ∷ Plain (Ldi 31 (size / 256)) ∷ Plain (Mul 8 30) ∷ Plain (Movw 10 0)
+    ∷ Plain (Mul 8 31) ∷ Plain (Add 11 0) ∷ Plain (Mul 9 30) ∷ Plain (Add 11 0) ∷ Plain (Movw 30 10) ∷ []
+
+-- elements of one byte are counted as they are
+abbrev pub scale_code : ℕ → List AsmItem
+scale_code size = if size == 1 then [] else product_code size
+
+-- R31:R30 becomes a number of elements in bytes
+abbrev pub scale_index_code : Location → Bool → (n size : ℕ) → List AsmItem
+scale_index_code p signed n size = index_code p signed n ++ scale_code size
+
+abbrev pub sign_operator : Bool → Operator
+sign_operator minus = if minus then Difference else Sum
+
+-- the offset in a pointer plus R31:R30, or less it
+abbrev pub advance_code : Bool → Location → List AsmItem
+advance_code minus q = operate_code (sign_operator minus) z_pair q 2
+
+-- ---- comparisons
+
+-- all bytes are compared for equality, and the offsets for order
+abbrev pub compared_bytes : Relation → ℕ → ℕ
+compared_bytes Less n = 2
+compared_bytes NotLess n = 2
+compared_bytes Equal n = n
+compared_bytes NotEqual n = n
+
+-- no pointer has a sign
+abbrev pub order_code : Relation → (left right : Location) → ℕ → List AsmItem
+order_code r left right n = relation_code r false left right (compared_bytes r n)

@@ -1,0 +1,301 @@
+-- The address of a place put to a pointer, and an offset added to one.
+use Rattle.std.proofs.Common.{◌≡◌, ◌≢◌, ℕ, zero, suc, ◌+◌, ◌-◌, ◌*◌, ◌/◌, ◌%◌, ◌<◌, ◌≤◌, ◌==◌, ⊎_elim, Bool, true}
+use Rattle.std.proofs.Common.{false, [], ◌∷◌, ◌++◌, Option, Some, None, refl, sym, ap, ◌∙◌, arith}
+use Rattle.std.specs.Prelude.{nat_le, nat_lt, if◌then◌else◌}
+use Rattle.std.specs.Int.{from_bool}
+use Rattle.std.proofs.lemmas.Bool.{cases_eq, cases_lt, eqb-true, eqb-false}
+use Rattle.std.proofs.lemmas.Bool.Decides.{nat_tests}
+use Rattle.ec_isa.specs.declared.instructions.Instr.TheVariants.{Ldi, Mov}
+use Rattle.ec_avr.specs.Flags.{byte_difference}
+use Rattle.ec_asm.specs.declared.items.AsmItem.{AsmItem}
+use Rattle.ec_asm.specs.declared.items.AsmItem.TheVariants.{Plain, LoadPart}
+use Rattle.ec_asm.specs.declared.pieces.Location.{Location}
+use Rattle.ec_asm.specs.declared.pieces.Location.TheVariants.{InRegisters, InMemory}
+use Rattle.ec_asm.specs.View.{Flags, View}
+use Rattle.ec_asm.specs.Change.{Env, Own, set, set_both, change, difference_flags}
+use Rattle.ec_asm.specs.Items.{block, item_change, part_of}
+use Rattle.ec_asm.specs.Pieces.{address, KindIs, StandsFrom, Outside, value, carry_at, zero_at}
+use Rattle.ec_asm.specs.PieceLaws.{HoldsNumbers}
+use Rattle.ec_select_pointers.specs.Addresses.{set_byte, part_byte, tag_code, address_code, rest_of}
+use Rattle.ec_select_pointers.specs.Addresses.{subtracts, subtract_byte}
+use Rattle.ec_select_pointers.specs.AddressLaws.{HasPut, AddressesAreRight, FieldsAreRight}
+use Rattle.ec_select_pointers.proofs.Blocks.{put_here, put_other, block-append, outside_ne, fewer}
+
+-- ---- one byte
+
+-- a byte was put to address a, maybe through R30
+record PutsByte (v w : View) (a x : ℕ) (f : Flags) : Type 0 where
+  here : w.at a ≡ x
+  same : (k : ℕ) → k ≢ 30 → k ≢ a → w.at k ≡ v.at k
+  work : x < 256 → v.at 30 < 256 → w.at 30 < 256
+  flags : w.flags ≡ f
+  inputs : w.inputs ≡ v.inputs
+  safe : w.safe ≡ v.safe
+  seen : w.seen ≡ v.seen
+
+-- R30 has either the byte or what it had
+work_is : (g : ℕ → ℕ) (a x old : ℕ) → g 30 < 256 → x < 256 → (if 30 == a then x else g 30) < 256
+work_is g a x old l m = ⊎_elim (λ (q : 30 ≡ a). rw (put_here g a x 30 q) m) (λ (q : 30 ≢ a). rw (put_other g a x 30 q) l) (cases_eq 30 a)
+
+direct : (a x : ℕ) (f : Flags) (v : View) → PutsByte v (set_both a x f v) a x f
+direct a x f v = record {
+  here = put_here v.at a x a refl;
+  same = λ k z n. put_other v.at a x k n;
+  work = λ m l. work_is v.at a x 0 l m;
+  flags = refl;
+  inputs = refl;
+  safe = refl;
+  seen = refl;
+}
+
+-- a view in which R30 alone has changed, and then the byte is put
+through : (a x : ℕ) (v u : View) → u.at 30 ≡ x → ((k : ℕ) → k ≢ 30 → u.at k ≡ v.at k) → u.inputs ≡ v.inputs
+    → u.safe ≡ v.safe → u.seen ≡ v.seen → PutsByte v (set a (u.at 30) u) a x u.flags
+through a x v u h same i s n = record {
+  here = put_here u.at a (u.at 30) a refl ∙ h;
+  same = λ k z m. put_other u.at a (u.at 30) k m ∙ same k z;
+  work = λ m l. let b : u.at 30 < 256 = rw h m in work_is u.at a (u.at 30) 0 b b;
+  flags = refl;
+  inputs = i;
+  safe = s;
+  seen = n;
+}
+
+-- ---- an item that sets a register to a byte
+
+abbrev IsSetter : Env → (ℕ → AsmItem) → ℕ → Type 0
+IsSetter e make x = (d : ℕ) (v : View) → item_change e (make d) v ≡ set d x v
+
+set_by_reach : (e : Env) (make : ℕ → AsmItem) (x a : ℕ) (v : View) (b : Bool) → IsSetter e make x
+    → PutsByte v (block e (if b then make a ∷ [] else make 30 ∷ Plain (Mov a 30) ∷ []) v) a x v.flags
+set_by_reach e make x a v true h = rw (h a v) (direct a x v.flags v)
+set_by_reach e make x a v false h =
+    rw (h 30 v) (through a x v (set 30 x v) refl (λ k z. put_other v.at 30 x k z) refl refl refl)
+
+byte_is_set : (e : Env) (make : ℕ → AsmItem) (x : ℕ) (q : Location) (i a : ℕ) (v : View) → IsSetter e make x
+    → address e q i ≡ a → KindIs e q a Own → PutsByte v (block e (set_byte make q i) v) a x v.flags
+byte_is_set e make x (InRegisters r) i a v h p k = rw p (set_by_reach e make x a v (nat_le 16 a) h)
+byte_is_set e make x (InMemory o j) i a v h p k =
+    rw (p, h 30 v, k) (through a x v (set 30 x v) refl (λ k z. put_other v.at 30 x k z) refl refl refl)
+
+-- ---- several bytes
+
+-- the first i bytes are those that are given
+record PutTo (v0 : View) (a : ℕ) (byte : ℕ → ℕ) (i : ℕ) (v : View) : Type 0 where
+  there : (j : ℕ) → j < i → v.at (a + j) ≡ byte j
+  numbers : HoldsNumbers v0 → HoldsNumbers v
+  same : (k : ℕ) → k ≢ 30 → Outside a i k → v.at k ≡ v0.at k
+  inputs : v.inputs ≡ v0.inputs
+  safe : v.safe ≡ v0.safe
+  seen : v.seen ≡ v0.seen
+
+none_put : (a : ℕ) (byte : ℕ → ℕ) (v : View) → PutTo v a byte 0 v
+none_put a byte v = record {
+  there = λ j l. absurd (omega arith);
+  numbers = λ h. h;
+  same = λ k z o. refl;
+  inputs = refl;
+  safe = refl;
+  seen = refl;
+}
+
+one_put : (a i x : ℕ) (byte : ℕ → ℕ) (f : Flags) (v0 v w : View) → Outside a (suc i) 30 → byte i ≡ x → x < 256
+    → PutTo v0 a byte i v → PutsByte v w (a + i) x f → PutTo v0 a byte (suc i) w
+one_put a i x byte f v0 v w far is small h o = record {
+  there = λ j m.
+      ⊎_elim
+      (λ (q : j ≡ i). rw q (o.here ∙ sym is))
+      (λ (q : j ≢ i). o.same (a + j) (λ t. outside_ne a (suc i) 30 j far m (sym t)) (λ t. q (omega arith)) ∙ h.there j (omega (arith, q)))
+      (cases_eq j i);
+  numbers = λ n k u.
+      ⊎_elim
+      (λ (q : k ≡ a + i). rw (q, o.here) small)
+      (λ (q : k ≢ a + i).
+      ⊎_elim
+      (λ (t : k ≡ 30). rw t (o.work small (h.numbers n 30 (omega arith))))
+      (λ (t : k ≢ 30). rw (o.same k t q) (h.numbers n k u))
+      (cases_eq k 30))
+      (cases_eq k (a + i));
+  same = λ k z m. o.same k z (outside_ne a (suc i) k i m (omega arith)) ∙ h.same k z (fewer a i k m);
+  inputs = o.inputs ∙ h.inputs;
+  safe = o.safe ∙ h.safe;
+  seen = o.seen ∙ h.seen;
+}
+
+has_put : (a n number : ℕ) (byte : ℕ → ℕ) (v w : View) → PutTo v a byte n w → value w.at a n ≡ number
+    → HasPut v a n number w
+has_put a n number byte v w h q = record {
+  number_is = q;
+  numbers = h.numbers;
+  same = h.same;
+  inputs = h.inputs;
+  safe = h.safe;
+  seen = h.seen;
+}
+
+-- ---- addresses
+
+-- the bytes of a pointer
+abbrev pointer_byte : (address : ℕ) → Option ℕ → ℕ → ℕ
+pointer_byte n tag zero = part_of n 0
+pointer_byte n tag (suc zero) = part_of n 1
+pointer_byte n None (suc (suc i)) = 0
+pointer_byte n (Some tag) (suc (suc i)) = tag
+
+address_put : (e : Env) (q : Location) (object offset a : ℕ) (tag : Option ℕ) (m : ℕ) (v : View) → 2 ≤ m
+    → StandsFrom e q m a Own → Outside a m 30 → let n = e.address_of object offset in
+    let w = block e (part_byte object offset q 1) (block e (part_byte object offset q 0) v) in
+    PutTo v a (pointer_byte n tag) 2 w × (w.flags ≡ v.flags)
+address_put e q object offset a tag m v two s far =
+    let n = e.address_of object offset in
+    let v1 = block e (part_byte object offset q 0) v in
+    let o0 = byte_is_set e (λ d. LoadPart d object offset 0) (part_of n 0) q 0 (a + 0) v (λ d u. refl)
+    (s.at 0 (omega arith)) (s.kind 0 (omega arith)) in
+    let o1 = byte_is_set e (λ d. LoadPart d object offset 1) (part_of n 1) q 1 (a + 1) v1 (λ d u. refl)
+    (s.at 1 (omega arith)) (s.kind 1 (omega arith)) in
+    let p1 = one_put a 0 (part_of n 0) (pointer_byte n tag) v.flags v v v1 (λ l. let f = far l in omega arith) refl (omega arith)
+    (none_put a (pointer_byte n tag) v) o0 in
+    let p2 = one_put a 1 (part_of n 1) (pointer_byte n tag) v1.flags v v1 _ (λ l. let f = far l in omega arith) refl (omega arith) p1 o1 in
+    (p2, o1.flags ∙ o0.flags)
+
+pub addresses_are_right : AddressesAreRight
+addresses_are_right e q object offset a None v t s far =
+    let n = e.address_of object offset in
+    let p = address_put e q object offset a None 2 v (omega arith) s far in
+    let w = block e (part_byte object offset q 1) (block e (part_byte object offset q 0) v) in
+    let b0 = p.0.there 0 (omega arith) in
+    let b1 = p.0.there 1 (omega arith) in
+    let same : block e (address_code object offset None q) v ≡ w =
+    block-append e (part_byte object offset q 0) (part_byte object offset q 1 ++ []) v
+    ∙ block-append e (part_byte object offset q 1) [] (block e (part_byte object offset q 0) v) in
+    let number : value w.at a 2 ≡ n % 65536 = rw (b0, b1) (omega arith) in
+    rw same (has_put a 2 (n % 65536) (pointer_byte n None) v w p.0 number, p.1)
+addresses_are_right e q object offset a (Some tag) v t s far =
+    let n = e.address_of object offset in
+    let p = address_put e q object offset a (Some tag) 3 v (omega arith) s far in
+    let v2 = block e (part_byte object offset q 1) (block e (part_byte object offset q 0) v) in
+    let w = block e (tag_code (Some tag) q) v2 in
+    let o = byte_is_set e (λ d. Plain (Ldi d tag)) tag q 2 (a + 2) v2 (λ d u. refl) (s.at 2 (omega arith)) (s.kind 2 (omega arith)) in
+    let p3 = one_put a 2 tag (pointer_byte n (Some tag)) v2.flags v v2 w far refl t p.0 o in
+    let b0 = p3.there 0 (omega arith) in
+    let b1 = p3.there 1 (omega arith) in
+    let b2 = p3.there 2 (omega arith) in
+    let same : block e (address_code object offset (Some tag) q) v ≡ w =
+    block-append e (part_byte object offset q 0) (part_byte object offset q 1 ++ tag_code (Some tag) q) v
+    ∙ block-append e (part_byte object offset q 1) (tag_code (Some tag) q) (block e (part_byte object offset q 0) v) in
+    let number : value w.at a 3 ≡ n % 65536 + tag * 65536 = rw (b0, b1, b2) (omega arith) in
+    rw same (has_put a 3 (n % 65536 + tag * 65536) (pointer_byte n (Some tag)) v w p3 number, o.flags ∙ p.1)
+
+-- ---- a constant subtracted
+
+subtracts_change : (e : Env) (i d k : ℕ) (v : View) → change e (subtracts i d k) v
+    ≡ set_both d (byte_difference (v.at d) k (carry_at i v.flags))
+    (difference_flags v.flags (v.at d) k (carry_at i v.flags) (zero_at i v.flags)) v
+subtracts_change e zero d k v = refl
+subtracts_change e (suc i) d k v = refl
+
+-- what a byte leaves in its place and in the flags
+abbrev left : (i x k : ℕ) → Flags → ℕ
+left i x k f = byte_difference x k (carry_at i f)
+
+abbrev flags_left : (i x k : ℕ) → Flags → Flags
+flags_left i x k f = difference_flags f x k (carry_at i f) (zero_at i f)
+
+subtracted_through : (e : Env) (i k a : ℕ) (v : View)
+    → let v1 = set 30 (v.at a) v in let v2 = change e (subtracts i 30 k) v1 in
+    PutsByte v (set a (v2.at 30) v2) a (left i (v.at a) k v.flags) (flags_left i (v.at a) k v.flags)
+subtracted_through e i k a v =
+    let x = v.at a in
+    let v1 = set 30 x v in
+    let u = set_both 30 (left i x k v.flags) (flags_left i x k v.flags) v1 in
+    rw (subtracts_change e i 30 k v1)
+    (through a (left i x k v.flags) v u refl (λ j z. put_other v1.at 30 _ j z ∙ put_other v.at 30 x j z) refl refl refl)
+
+subtracted_by_reach : (e : Env) (i k a : ℕ) (v : View) (b : Bool)
+    → let code =
+    if b then Plain (subtracts i a k) ∷ []
+    else Plain (Mov 30 a) ∷ Plain (subtracts i 30 k) ∷ Plain (Mov a 30) ∷ [] in
+    PutsByte v (block e code v) a (left i (v.at a) k v.flags) (flags_left i (v.at a) k v.flags)
+subtracted_by_reach e i k a v true =
+    rw (subtracts_change e i a k v) (direct a (left i (v.at a) k v.flags) (flags_left i (v.at a) k v.flags) v)
+subtracted_by_reach e i k a v false = subtracted_through e i k a v
+
+byte_is_subtracted : (e : Env) (k : ℕ) (q : Location) (i a : ℕ) (v : View) → address e q i ≡ a → KindIs e q a Own
+    → PutsByte v (block e (subtract_byte k q i) v) a (left i (v.at a) k v.flags) (flags_left i (v.at a) k v.flags)
+byte_is_subtracted e k (InRegisters r) i a v p h = rw p (subtracted_by_reach e i k a v (nat_le 16 a))
+byte_is_subtracted e k (InMemory o j) i a v p h = rw (p, h) (subtracted_through e i k a v)
+
+-- ---- an offset added
+
+-- two bytes less two bytes, with a borrow between them
+abbrev low_left : (x k : ℕ) → ℕ
+low_left x k = byte_difference x (k % 256) 0
+
+abbrev high_left : (x y k : ℕ) → ℕ
+high_left x y k = byte_difference y (k / 256) (from_bool (nat_lt x (k % 256 + 0)))
+
+difference_is : (x y k : ℕ) → x < 256 → y < 256 → 0 < k → k ≤ 65536
+    → low_left x k + high_left x y k * 256 ≡ (x + y * 256 + (65536 - k)) % 65536
+difference_is x y k l m s n =
+    ⊎_elim
+    (λ (g : x < k % 256 + 0). let t : nat_lt x (k % 256 + 0) ≡ true = is_less x (k % 256 + 0) g in rw t (omega arith))
+    (λ (g : k % 256 + 0 ≤ x). let t : nat_lt x (k % 256 + 0) ≡ false = is_not_less x (k % 256 + 0) g in rw t (omega arith))
+    (cases_lt x (k % 256 + 0))
+  where
+    is_less : (a b : ℕ) → a < b → nat_lt a b ≡ true
+    is_less a b h = grind (arith, nat_tests)
+
+    is_not_less : (a b : ℕ) → b ≤ a → nat_lt a b ≡ false
+    is_not_less a b h = grind (arith, nat_tests)
+
+-- less what is missing from the offset to a multiple of 65,536
+moved_is : (x offset : ℕ) → (x + (65536 - rest_of offset)) % 65536 ≡ (x + offset) % 65536
+moved_is x offset = omega arith
+
+-- the two bytes that are left
+abbrev byte_left : (x y k : ℕ) → ℕ → ℕ
+byte_left x y k zero = low_left x k
+byte_left x y k (suc i) = high_left x y k
+
+field_moves : (e : Env) (q : Location) (offset a : ℕ) (v : View) (b : Bool) → (offset % 65536 == 0) ≡ b
+    → StandsFrom e q 2 a Own → Outside a 2 30 → HoldsNumbers v
+    → HasPut v a 2 ((value v.at a 2 + offset) % 65536)
+    (block e (if b then [] else subtract_byte (rest_of offset % 256) q 0 ++ subtract_byte (rest_of offset / 256) q 1) v)
+field_moves e q offset a v true t s far h =
+    let z : offset % 65536 ≡ 0 = eqb-true (offset % 65536) 0 t in
+    let ua = s.clear in
+    let x : v.at (a + 0) < 256 = h (a + 0) (omega arith) in
+    let y : v.at (a + 1) < 256 = h (a + 1) (omega arith) in
+    let same : value v.at a 2 ≡ (value v.at a 2 + offset) % 65536 = omega arith in
+    record { number_is = same; numbers = λ g. g; same = λ k n o. refl; inputs = refl; safe = refl; seen = refl }
+field_moves e q offset a v false t s far h =
+    let k = rest_of offset in
+    let z : offset % 65536 ≢ 0 = eqb-false (offset % 65536) 0 t in
+    let ua = s.clear in
+    let x = v.at (a + 0) in
+    let y = v.at (a + 1) in
+    let xs : x < 256 = h (a + 0) (omega arith) in
+    let ys : y < 256 = h (a + 1) (omega arith) in
+    let code0 = subtract_byte (k % 256) q 0 in
+    let code1 = subtract_byte (k / 256) q 1 in
+    let v1 = block e code0 v in
+    let w = block e code1 v1 in
+    let o0 = byte_is_subtracted e (k % 256) q 0 (a + 0) v (s.at 0 (omega arith)) (s.kind 0 (omega arith)) in
+    let o1 = byte_is_subtracted e (k / 256) q 1 (a + 1) v1 (s.at 1 (omega arith)) (s.kind 1 (omega arith)) in
+    let same1 : v1.at (a + 1) ≡ y = o0.same (a + 1) (λ u. outside_ne a 2 30 1 far (omega arith) (sym u)) (omega arith) in
+    let borrow : v1.flags.c ≡ from_bool (nat_lt x (k % 256 + 0)) = ap (λ f. f.c) o0.flags in
+    let byte = byte_left x y k in
+    let l1 : byte 1 ≡ left 1 (v1.at (a + 1)) (k / 256) v1.flags = rw (same1, borrow) refl in
+    let p1 = one_put a 0 (low_left x k) byte (flags_left 0 x (k % 256) v.flags) v v v1 (λ l. let f = far l in omega arith) refl
+    (omega arith) (none_put a byte v) o0 in
+    let p2 = one_put a 1 (left 1 (v1.at (a + 1)) (k / 256) v1.flags) byte
+    (flags_left 1 (v1.at (a + 1)) (k / 256) v1.flags) v v1 w far l1 (omega arith) p1 o1 in
+    let b0 = p2.there 0 (omega arith) in
+    let b1 = p2.there 1 (omega arith) in
+    let difference = difference_is x y k xs ys (omega arith) (omega arith) in
+    let number : value w.at a 2 ≡ (value v.at a 2 + offset) % 65536 =
+    rw (b0, b1) (omega (arith, difference, moved_is (x + y * 256) offset)) in
+    rw (block-append e code0 code1 v) (has_put a 2 ((value v.at a 2 + offset) % 65536) byte v w p2 number)
+
+pub fields_are_right : FieldsAreRight
+fields_are_right e q offset a v s far h = field_moves e q offset a v (offset % 65536 == 0) refl s far h

@@ -1,0 +1,264 @@
+-- The form of the code: straight code, and its steps and words.
+use Rattle.std.proofs.Common.{◌≡◌, ℕ, zero, suc, ◌+◌, ◌-◌, ◌*◌, ◌/◌, ◌%◌, ◌<◌, ◌≤◌, ◌==◌, Bool, true, false, List, []}
+use Rattle.std.proofs.Common.{◌∷◌, ◌++◌, Option, Some, None, refl, arith}
+use Rattle.std.specs.Prelude.{nat_le, if◌then◌else◌}
+use Rattle.std.proofs.lemmas.List.Sums.{sum_by-append, sum_by-drop_more}
+use Rattle.std.proofs.lemmas.Bool.{and_parts, and_from, false≢true}
+use Rattle.ec_isa.specs.declared.instructions.Instr.TheVariants.{Ldi, Mov, Movw}
+use Rattle.ec_asm.specs.declared.items.AsmItem.{AsmItem}
+use Rattle.ec_asm.specs.declared.items.AsmItem.TheVariants.{Plain, Label, JumpTo, CallTo, BranchTo, LoadPart, LoadObj}
+use Rattle.ec_asm.specs.declared.items.AsmItem.TheVariants.{StoreObj}
+use Rattle.ec_asm.specs.declared.pieces.Location.{Location}
+use Rattle.ec_asm.specs.declared.pieces.Location.TheVariants.{InRegisters, InMemory}
+use Rattle.ec_asm.specs.Change.{Env}
+use Rattle.ec_asm.specs.Items.{HasAt, Stands, is_straight, all_straight, code_steps, code_words, item_words, chain}
+use Rattle.ec_asm.specs.Pieces.{copy_code}
+use Rattle.ec_select_pointers.specs.Addresses.{pointer_bytes, part_byte, tag_code, address_code, rest_of}
+use Rattle.ec_select_pointers.specs.Addresses.{subtract_byte, field_code}
+use Rattle.ec_select_pointers.specs.Accesses.{point_code, data_byte, data_bytes, flash_byte, flash_bytes, bytes_words}
+use Rattle.ec_select_pointers.specs.Accesses.{tag_test, over, either_bytes, load_data_code, load_flash_code}
+use Rattle.ec_select_pointers.specs.Accesses.{load_any_code, store_byte, store_bytes, store_data_code}
+use Rattle.ec_select_pointers.specs.Form.{Takes, PointersAreStraight, PointersTake, PointersHave}
+
+-- ---- lists of items
+
+straight-append : (a b : List AsmItem) → all_straight a ≡ true → all_straight b ≡ true → all_straight (a ++ b) ≡ true
+straight-append [] b p q = q
+straight-append (i ∷ a) b p q =
+    let r = and_parts (is_straight i) (all_straight a) p in
+    and_from (is_straight i) (all_straight (a ++ b)) r.0 (straight-append a b r.1 q)
+
+steps-append : (a b : List AsmItem) → code_steps (a ++ b) ≡ code_steps a + code_steps b
+steps-append [] b = omega arith
+steps-append (i ∷ a) b = omega (arith, steps-append a b)
+
+-- code that is straight, with at least and at most so many steps, and at most so many words
+pub record IsShort (code : List AsmItem) (least steps words : ℕ) : Type 0 where
+  pub straight : all_straight code ≡ true
+  pub at_least : least ≤ code_steps code
+  pub steps_are : code_steps code ≤ steps
+  pub words_are : code_words code ≤ words
+
+joined : (a b : List AsmItem) (i j k m l n : ℕ) → IsShort a i k l → IsShort b j m n
+    → IsShort (a ++ b) (i + j) (k + m) (l + n)
+joined a b i j k m l n p q =
+    let x = p.at_least in
+    let y = q.at_least in
+    let s = p.steps_are in
+    let t = q.steps_are in
+    let u = p.words_are in
+    let w = q.words_are in
+    record {
+      straight = straight-append a b p.straight q.straight;
+      at_least = omega (arith, steps-append a b, x, y);
+      steps_are = omega (arith, steps-append a b, s, t);
+      words_are = omega (arith, sum_by-append item_words a b, u, w);
+    }
+
+chained : (body : ℕ → List AsmItem) (n k l : ℕ) → ((i : ℕ) → IsShort (body i) 1 k l)
+    → IsShort (chain body n) n (k * n) (l * n)
+chained body zero k l h = record { straight = refl; at_least = omega arith; steps_are = omega arith; words_are = omega arith }
+chained body (suc n) k l h =
+    let j = joined (chain body n) (body n) n 1 (k * n) k (l * n) l (chained body n k l h) (h n) in
+    let x = j.at_least in
+    let s = j.steps_are in
+    let w = j.words_are in
+    record { straight = j.straight; at_least = omega (arith, x); steps_are = omega (arith, s); words_are = omega (arith, w) }
+
+by_test : (b : Bool) (a c : List AsmItem) (j k l : ℕ) → IsShort a j k l → IsShort c j k l
+    → IsShort (if b then a else c) j k l
+by_test true a c j k l p q = p
+by_test false a c j k l p q = q
+
+-- ---- addresses
+
+part_short : (o k : ℕ) (q : Location) (i : ℕ) → IsShort (part_byte o k q i) 1 2 3
+part_short o k (InRegisters r) i =
+    by_test (nat_le 16 (r + i)) (LoadPart (r + i) o k i ∷ []) (LoadPart 30 o k i ∷ Plain (Mov (r + i) 30) ∷ []) 1 2 3
+    (record { straight = refl; at_least = omega arith; steps_are = omega arith; words_are = omega arith })
+    (record { straight = refl; at_least = omega arith; steps_are = omega arith; words_are = omega arith })
+part_short o k (InMemory p j) i = record { straight = refl; at_least = omega arith; steps_are = omega arith; words_are = omega arith }
+
+tag_short : (tag : Option ℕ) (q : Location)
+    → IsShort (tag_code tag q) (pointer_bytes tag - 2) (2 * (pointer_bytes tag - 2)) (3 * (pointer_bytes tag - 2))
+tag_short None q = record { straight = refl; at_least = omega arith; steps_are = omega arith; words_are = omega arith }
+tag_short (Some tag) (InRegisters r) =
+    by_test (nat_le 16 (r + 2)) (Plain (Ldi (r + 2) tag) ∷ []) (Plain (Ldi 30 tag) ∷ Plain (Mov (r + 2) 30) ∷ []) 1 2 3
+    (record { straight = refl; at_least = omega arith; steps_are = omega arith; words_are = omega arith })
+    (record { straight = refl; at_least = omega arith; steps_are = omega arith; words_are = omega arith })
+tag_short (Some tag) (InMemory o k) = record { straight = refl; at_least = omega arith; steps_are = omega arith; words_are = omega arith }
+
+two_or_three : (tag : Option ℕ) → 2 ≤ pointer_bytes tag
+two_or_three None = omega arith
+two_or_three (Some tag) = omega arith
+
+address_short : (o k : ℕ) (tag : Option ℕ) (q : Location)
+    → IsShort (address_code o k tag q) (pointer_bytes tag) (2 * pointer_bytes tag) (3 * pointer_bytes tag)
+address_short o k tag q =
+    let t = joined (part_byte o k q 1) (tag_code tag q) 1 _ 2 _ 3 _ (part_short o k q 1) (tag_short tag q) in
+    let j = joined (part_byte o k q 0) (part_byte o k q 1 ++ tag_code tag q) 1 _ 2 _ 3 _ (part_short o k q 0) t in
+    let m = two_or_three tag in
+    let x = j.at_least in
+    let s = j.steps_are in
+    let w = j.words_are in
+    record {
+      straight = j.straight;
+      at_least = omega (arith, x, m);
+      steps_are = omega (arith, s, m);
+      words_are = omega (arith, w, m);
+    }
+
+subtract_short : (k : ℕ) (q : Location) (i : ℕ) → IsShort (subtract_byte k q i) 0 3 5
+subtract_short k (InRegisters r) zero =
+    by_test (nat_le 16 (r + 0)) _ _ 0 3 5
+    (record { straight = refl; at_least = omega arith; steps_are = omega arith; words_are = omega arith })
+    (record { straight = refl; at_least = omega arith; steps_are = omega arith; words_are = omega arith })
+subtract_short k (InRegisters r) (suc i) =
+    by_test (nat_le 16 (r + suc i)) _ _ 0 3 5
+    (record { straight = refl; at_least = omega arith; steps_are = omega arith; words_are = omega arith })
+    (record { straight = refl; at_least = omega arith; steps_are = omega arith; words_are = omega arith })
+subtract_short k (InMemory o j) zero =
+    record { straight = refl; at_least = omega arith; steps_are = omega arith; words_are = omega arith }
+subtract_short k (InMemory o j) (suc i) =
+    record { straight = refl; at_least = omega arith; steps_are = omega arith; words_are = omega arith }
+
+field_short : (q : Location) (offset : ℕ) → IsShort (field_code q offset) 0 6 10
+field_short q offset =
+    by_test (offset % 65536 == 0) [] (subtract_byte (rest_of offset % 256) q 0 ++ subtract_byte (rest_of offset / 256) q 1) 0 6 10
+    (record { straight = refl; at_least = omega arith; steps_are = omega arith; words_are = omega arith })
+    (joined (subtract_byte (rest_of offset % 256) q 0) (subtract_byte (rest_of offset / 256) q 1) 0 0 3 3 5 5
+    (subtract_short (rest_of offset % 256) q 0) (subtract_short (rest_of offset / 256) q 1))
+
+-- ---- accesses
+
+pub point_short : (p : Location) → IsShort (point_code p) 1 2 4
+point_short (InRegisters r) =
+    by_test (r % 2 == 0) (Plain (Movw 30 r) ∷ []) (copy_code (InRegisters r) (InRegisters 30) 2) 1 2 4
+    (record { straight = refl; at_least = omega arith; steps_are = omega arith; words_are = omega arith })
+    (record { straight = refl; at_least = omega arith; steps_are = omega arith; words_are = omega arith })
+point_short (InMemory o k) = record { straight = refl; at_least = omega arith; steps_are = omega arith; words_are = omega arith }
+
+data_short : (q : Location) (i : ℕ) → IsShort (data_byte q i) 1 2 3
+data_short (InRegisters r) i = record { straight = refl; at_least = omega arith; steps_are = omega arith; words_are = omega arith }
+data_short (InMemory o k) i = record { straight = refl; at_least = omega arith; steps_are = omega arith; words_are = omega arith }
+
+flash_short : (q : Location) (i : ℕ) → IsShort (flash_byte q i) 1 2 3
+flash_short (InRegisters r) i = record { straight = refl; at_least = omega arith; steps_are = omega arith; words_are = omega arith }
+flash_short (InMemory o k) i = record { straight = refl; at_least = omega arith; steps_are = omega arith; words_are = omega arith }
+
+store_short : (p : Location) (i : ℕ) → IsShort (store_byte p i) 1 2 3
+store_short (InRegisters r) i = record { straight = refl; at_least = omega arith; steps_are = omega arith; words_are = omega arith }
+store_short (InMemory o k) i = record { straight = refl; at_least = omega arith; steps_are = omega arith; words_are = omega arith }
+
+pub all_data_short : (q : Location) (n : ℕ) → IsShort (data_bytes q n) n (2 * n) (3 * n)
+all_data_short q n = chained (data_byte q) n 2 3 (data_short q)
+
+pub all_flash_short : (q : Location) (n : ℕ) → IsShort (flash_bytes q n) n (2 * n) (3 * n)
+all_flash_short q n = chained (flash_byte q) n 2 3 (flash_short q)
+
+load_data_short : (p q : Location) (n : ℕ) → IsShort (load_data_code p q n) (1 + n) (2 + 2 * n) (4 + 3 * n)
+load_data_short p q n =
+    joined (point_code p) (data_bytes q n) 1 n 2 (2 * n) 4 (3 * n) (point_short p) (all_data_short q n)
+
+load_flash_short : (p q : Location) (n : ℕ) → IsShort (load_flash_code p q n) (1 + n) (2 + 2 * n) (4 + 3 * n)
+load_flash_short p q n =
+    joined (point_code p) (flash_bytes q n) 1 n 2 (2 * n) 4 (3 * n) (point_short p) (all_flash_short q n)
+
+store_data_short : (p q : Location) (n : ℕ) → IsShort (store_data_code p q n) (1 + n) (2 + 2 * n) (4 + 3 * n)
+store_data_short p q n =
+    joined (point_code q) (store_bytes p n) 1 n 2 (2 * n) 4 (3 * n) (point_short q)
+    (chained (store_byte p) n 2 3 (store_short p))
+
+-- ---- words
+
+test_words : (p : Location) → code_words (tag_test p) ≤ 3
+test_words (InRegisters r) = omega arith
+test_words (InMemory o k) = omega arith
+
+any_words : (p q : Location) (n : ℕ) → code_words (load_any_code p q n) ≤ 9 + 6 * n
+any_words p q n =
+    let w = bytes_words q n in
+    let last = over w ++ flash_bytes q n in
+    let middle = data_bytes q n ++ last in
+    let a = (point_short p).words_are in
+    let b = test_words p in
+    let c = (all_data_short q n).words_are in
+    let d = (all_flash_short q n).words_are in
+    let s1 = sum_by-append item_words (point_code p) (tag_test p ++ either_bytes q n) in
+    let s2 = sum_by-append item_words (tag_test p) (either_bytes q n) in
+    let s3 = sum_by-append item_words (over (w + 1)) middle in
+    let s4 = sum_by-append item_words (data_bytes q n) last in
+    let s5 = sum_by-append item_words (over w) (flash_bytes q n) in
+    let o1 : code_words (over (w + 1)) ≡ 1 = refl in
+    let o2 : code_words (over w) ≡ 1 = refl in
+    omega (arith, s1, s2, s3, s4, s5, a, b, c, d, o1, o2)
+
+pub pointers_are_straight : PointersAreStraight
+pointers_are_straight o k tag p q n = (
+  (address_short o k tag q).straight,
+  (field_short q k).straight,
+  (load_data_short p q n).straight,
+  (load_flash_short p q n).straight,
+  (store_data_short p q n).straight,
+)
+
+takes : (code : List AsmItem) (least most words : ℕ) → IsShort code least most words → Takes least most code
+takes code least most words h = (h.at_least, h.steps_are)
+
+pub pointers_take : PointersTake
+pointers_take o k tag p q n = (
+  takes (address_code o k tag q) _ _ _ (address_short o k tag q),
+  takes (field_code q k) _ _ _ (field_short q k),
+  takes (load_data_code p q n) _ _ _ (load_data_short p q n),
+  takes (load_flash_code p q n) _ _ _ (load_flash_short p q n),
+  takes (store_data_code p q n) _ _ _ (store_data_short p q n),
+)
+
+pub pointers_have : PointersHave
+pointers_have o k tag p q n = (
+  (address_short o k tag q).words_are,
+  (field_short q k).words_are,
+  (load_data_short p q n).words_are,
+  (load_flash_short p q n).words_are,
+  any_words p q n,
+  (store_data_short p q n).words_are,
+)
+
+-- ---- where code ends
+
+words-chain : (body : ℕ → List AsmItem) (n k : ℕ) → ((i : ℕ) → code_words (body i) ≡ k) → code_words (chain body n) ≡ k * n
+words-chain body zero k h = omega arith
+words-chain body (suc n) k h =
+    let r = words-chain body n k h in
+    let b = h n in
+    omega (arith, sum_by-append item_words (chain body n) (body n), r, b)
+
+pub data_has_words : (q : Location) (n : ℕ) → code_words (data_bytes q n) ≡ bytes_words q n
+data_has_words (InRegisters r) n = words-chain (data_byte (InRegisters r)) n 1 (λ i. refl)
+data_has_words (InMemory o k) n = words-chain (data_byte (InMemory o k)) n 3 (λ i. refl)
+
+pub flash_has_words : (q : Location) (n : ℕ) → code_words (flash_bytes q n) ≡ bytes_words q n
+flash_has_words (InRegisters r) n = words-chain (flash_byte (InRegisters r)) n 1 (λ i. refl)
+flash_has_words (InMemory o k) n = words-chain (flash_byte (InMemory o k)) n 3 (λ i. refl)
+
+-- a straight item ends behind its words, at a word address
+item_ends : (e : Env) (i : AsmItem) (pc end : ℕ) → is_straight i ≡ true → Stands e i pc end
+    → (end ≡ pc + item_words i) × (pc < 65536 → end < 65536)
+item_ends e (Plain i) pc end h a = (a.ends, λ l. a.room)
+item_ends e (Label l) pc end h a = let q = a.1 in (omega arith, λ m. omega arith)
+item_ends e (JumpTo l) pc end h a = absurd (false≢true h)
+item_ends e (CallTo l) pc end h a = absurd (false≢true h)
+item_ends e (BranchTo set flag l) pc end h a = absurd (false≢true h)
+item_ends e (LoadPart d o k part) pc end h a = (a.ends, λ l. a.room)
+item_ends e (LoadObj d o k) pc end h a = (a.ends, λ l. a.room)
+item_ends e (StoreObj o k r) pc end h a = (a.ends, λ l. a.room)
+
+pub straight_ends : (e : Env) (is : List AsmItem) (pc end : ℕ) → all_straight is ≡ true → HasAt e is pc end
+    → (end ≡ pc + code_words is) × (pc < 65536 → end < 65536)
+straight_ends e [] pc end h at = (omega (arith, at), λ l. omega (arith, at))
+straight_ends e (i ∷ is) pc end h at =
+    let p = and_parts (is_straight i) (all_straight is) h in
+    let a = item_ends e i pc at.0 p.0 at.1 in
+    let b = straight_ends e is at.0 end p.1 at.2 in
+    let more : code_words (i ∷ is) ≡ item_words i + code_words is = sum_by-drop_more item_words (i ∷ is) 0 i (omega arith) in
+    (omega (arith, a.0, b.0, more), λ l. b.1 (a.1 l))

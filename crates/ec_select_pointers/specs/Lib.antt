@@ -1,0 +1,5 @@
+pub mod Addresses
+pub mod Accesses
+pub mod AddressLaws
+pub mod AccessLaws
+pub mod Form

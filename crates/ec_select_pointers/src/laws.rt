@@ -1,0 +1,63 @@
+//! What the pieces of code do.
+ghost use Rattle.ec_select_pointers.specs.AddressLaws.{AddressesAreRight, FieldsAreRight};
+ghost use Rattle.ec_select_pointers.specs.AccessLaws.{DataIsLoaded, FlashIsLoaded, DataIsStored};
+ghost use Rattle.ec_select_pointers.specs.AccessLaws.{DataIsLoadedByTag, FlashIsLoadedByTag};
+ghost use Rattle.ec_select_pointers.specs.Form.{PointersAreStraight, PointersTake, PointersHave};
+ghost use Rattle.ec_select_pointers.specs.Form.{AddressesAreValid, AccessesAreValid, PointersHaveNoLabel};
+
+use ec_asm::laws::{copies_are_right, jumps_go, parts_stand, runs_join, straight_code_goes};
+
+/// The code of `address` puts the address of a place to a pointer, and keeps all else but R30.
+pub fn addresses_are_right()
+    ensures { AddressesAreRight }
+{}
+
+/// The code of `field` adds an offset to the address in a pointer, and keeps all else but R30 and the flags.
+pub fn fields_are_right()
+    ensures { FieldsAreRight }
+{}
+
+/// The code of `load_data` and `load_flash` brings the bytes that a pointer points to from their bank, each by one
+/// read, by rising address. All else is kept but R0, R30 and R31.
+pub fn loads_are_right()
+    ensures from_data { DataIsLoaded }
+    ensures from_flash { FlashIsLoaded }
+{
+    copies_are_right();
+}
+
+/// From its first word to its end the code of `load_any` does so from the bank that the pointer's third byte tells, in
+/// at least and at most so many steps.
+pub fn loads_by_tag_are_right()
+    ensures from_data { DataIsLoadedByTag }
+    ensures from_flash { FlashIsLoadedByTag }
+{
+    copies_are_right();
+    parts_stand();
+    straight_code_goes();
+    runs_join();
+    jumps_go();
+}
+
+/// The code of `store_data` brings a number to the bytes that a pointer points to, each by one write, by rising
+/// address. All else is kept but R0, R30 and R31.
+pub fn stores_are_right()
+    ensures { DataIsStored }
+{
+    copies_are_right();
+}
+
+/// The code is straight but for that of `load_any`. It has at least and at most so many steps, and at most so many
+/// words.
+pub fn pointers_are_straight()
+    ensures straight { PointersAreStraight }
+    ensures steps { PointersTake }
+    ensures words { PointersHave }
+{}
+
+/// Its items can be placed, and have no labels.
+pub fn pointers_are_valid()
+    ensures addresses { AddressesAreValid }
+    ensures accesses { AccessesAreValid }
+    ensures labels { PointersHaveNoLabel }
+{}

@@ -1,0 +1,16 @@
+//! Pieces of code for pointers: the address of a place put to a pointer, a pointer moved by an offset, and loads and
+//! stores of numbers of several bytes through pointers.
+//!
+//! A pointer has its address in two bytes, the low one first, and that of the unnamed space has a third byte, which
+//! tells the bank: 0x00 is flash, and 0x80 is data. `specs/Addresses.antt` and `specs/Accesses.antt` have the pieces,
+//! `specs/AddressLaws.antt`, `specs/AccessLaws.antt` and `specs/Form.antt` what they do. R0, R30 and R31 are work
+//! registers.
+#![tactic(auto)]
+
+mod accesses;
+mod addresses;
+pub mod laws;
+mod memory;
+
+pub use accesses::{load_any, load_data, load_flash, store_data};
+pub use addresses::{address, field};
