@@ -62,7 +62,7 @@ fn plain_notice(alloc: Global, names: &FileNames<'_>, line: &str) -> Option<Stri
     let (name, message) = match line {
         "usage" => (
             "napledge",
-            "the words are `build MAP OUT SRC...`, `run HEX SCRIPT STEPS FILL` or `exec MAP SCRIPT STEPS SRC...`",
+            "the words are `build MAP OUT SRC...`, `run HEX SCRIPT STEPS FILL`, `exec MAP SCRIPT STEPS SRC...` or `gen N`",
         ),
         "cannot write" => (
             "napledge",
