@@ -1,9 +1,8 @@
 -- The causes of the parts are causes of the whole, and what is accepted has none.
-use Rattle.std.proofs.Common.{◌≡◌, ℕ, List, Some, refl}
+use Rattle.std.proofs.Common.{◌≡◌, ℕ, List, refl}
 use Rattle.ec_grammar.specs.Trees as t
 use Rattle.ec_asm.specs.declared.items.AsmProgram.{AsmProgram}
 use Rattle.ec_core.specs.Plain.{PlainProgram}
-use Rattle.ec_later.specs.First.{first_later}
 use Rattle.ec_map.specs.declared.map.Map.{Map}
 use Rattle.ec_build.specs.Accepted.{IsAccepted}
 use Rattle.ec_build.specs.Builds.{IsRead, IsChecked}
@@ -13,7 +12,7 @@ use Rattle.ec_build.specs.Causes.{StopsChecking, HasCause}
 use Rattle.ec_build.specs.Code.{IsCodeOf}
 use Rattle.ec_build.specs.Stops.{StopsReading}
 use Rattle.ec_build.specs.declared.stop.BuildStop.{BuildStop}
-use Rattle.ec_build.specs.declared.stop.BuildStop.TheVariants.{Map as MapFault, Lex, Parse, Later, Check, Place, NoMemory}
+use Rattle.ec_build.specs.declared.stop.BuildStop.TheVariants.{Map as MapFault, Lex, Parse, Check, Place, NoMemory}
 use Rattle.ec_build.proofs.Refused.{map_not_refused, no_fault, no_unparsed}
 use Rattle.ec_build.proofs.Unchecked.{not_unchecked}
 use Rattle.ec_build.proofs.Unplaced.{not_unplaced}
@@ -22,34 +21,33 @@ pub map_cause : (sources : List (List ℕ)) (text : List ℕ) (stop : BuildStop)
 map_cause sources text (MapFault stop) h = h
 map_cause sources text (Lex unit stop) h = absurd h
 map_cause sources text (Parse unit stop) h = absurd h
-map_cause sources text (Later l) h = absurd h
 map_cause sources text (Check stop) h = absurd h
 map_cause sources text (Place stop) h = absurd h
 map_cause sources text NoMemory h = tt
 
-pub reading_cause : (sources : List (List ℕ)) (text : List ℕ) (m : Map) (stop : BuildStop) → IsMapText text m → StopsReading sources stop → HasCause sources text stop
+pub reading_cause : (sources : List (List ℕ)) (text : List ℕ) (m : Map) (stop : BuildStop) → IsMapText text m
+    → StopsReading sources stop → HasCause sources text stop
 reading_cause sources text m (MapFault stop) is h = absurd h
 reading_cause sources text m (Lex unit stop) is h = ((m, is), h)
 reading_cause sources text m (Parse unit stop) is h = ((m, is), h)
-reading_cause sources text m (Later l) is h = absurd h
 reading_cause sources text m (Check stop) is h = absurd h
 reading_cause sources text m (Place stop) is h = absurd h
 reading_cause sources text m NoMemory is h = tt
 
-pub checking_cause : (sources : List (List ℕ)) (text : List ℕ) (m : Map) (units : List t.Tree) (stop : BuildStop) → IsRead sources text m units → StopsChecking units m.io stop → HasCause sources text stop
+pub checking_cause : (sources : List (List ℕ)) (text : List ℕ) (m : Map) (units : List t.Tree) (stop : BuildStop)
+    → IsRead sources text m units → StopsChecking units m.io stop → HasCause sources text stop
 checking_cause sources text m units (MapFault stop) is h = absurd h
 checking_cause sources text m units (Lex unit stop) is h = absurd h
 checking_cause sources text m units (Parse unit stop) is h = absurd h
-checking_cause sources text m units (Later l) is h = record { map = m; units = units; read = is; against = h }
 checking_cause sources text m units (Check stop) is h = record { map = m; units = units; read = is; against = h }
 checking_cause sources text m units (Place stop) is h = absurd h
 checking_cause sources text m units NoMemory is h = tt
 
-pub placing_cause : (sources : List (List ℕ)) (text : List ℕ) (m : Map) (p : PlainProgram) (asm : AsmProgram) (stop : BuildStop) → IsChecked sources text m p → IsCodeOf p m.io asm → StopsPlacing p m asm stop → HasCause sources text stop
+pub placing_cause : (sources : List (List ℕ)) (text : List ℕ) (m : Map) (p : PlainProgram) (asm : AsmProgram) (stop : BuildStop)
+    → IsChecked sources text m p → IsCodeOf p m.io asm → StopsPlacing p m asm stop → HasCause sources text stop
 placing_cause sources text m p asm (MapFault stop) is code h = absurd h
 placing_cause sources text m p asm (Lex unit stop) is code h = absurd h
 placing_cause sources text m p asm (Parse unit stop) is code h = absurd h
-placing_cause sources text m p asm (Later l) is code h = absurd h
 placing_cause sources text m p asm (Check stop) is code h = absurd h
 placing_cause sources text m p asm (Place stop) is code h = record {
   map = m;
@@ -64,16 +62,15 @@ placing_cause sources text m p asm (Place stop) is code h = record {
 placing_cause sources text m p asm NoMemory is code h = tt
 
 -- what is accepted is told no cause
-pub accepted_has_none : (sources : List (List ℕ)) (text : List ℕ) (stop : BuildStop) → IsAccepted sources text → HasCause sources text stop → stop ≡ NoMemory
+pub accepted_has_none : (sources : List (List ℕ)) (text : List ℕ) (stop : BuildStop) → IsAccepted sources text
+    → HasCause sources text stop → stop ≡ NoMemory
 accepted_has_none sources text (MapFault stop) ok why = absurd (map_not_refused text ok.map.0 stop ok.map.1 why)
 accepted_has_none sources text (Lex unit stop) ok why = absurd (no_fault unit sources ok.units.0 stop ok.units.1 why.1.here)
 accepted_has_none sources text (Parse unit stop) ok why = absurd (no_unparsed unit sources ok.units.0 stop ok.units.1 why.1.here)
-accepted_has_none sources text (Later l) ok why =
-    let none = ok.compiled why.units why.read.trees in
-    let some : first_later why.units ≡ Some l = why.against in
-    cc
 accepted_has_none sources text (Check stop) ok why =
-    absurd (not_unchecked why.units why.map.io stop (ok.limits why.units why.read.trees) (ok.unbroken why.map why.units why.read.map why.read.trees) (λ p typed. ok.loopless why.map why.units p why.read.map why.read.trees typed) why.against)
+    absurd (not_unchecked why.units why.map.io stop (ok.limits why.units why.read.trees)
+    (ok.unbroken why.map why.units why.read.map why.read.trees)
+    (λ p typed. ok.loopless why.map why.units p why.read.map why.read.trees typed) why.against)
 accepted_has_none sources text (Place stop) ok why =
     absurd (not_unplaced why.program why.map why.asm stop (ok.fits why.map why.program why.checked) why.frames why.small why.against)
 accepted_has_none sources text NoMemory ok why = refl

@@ -48,7 +48,8 @@ units_are_short (s ∷ sources) [] h = absurd h
 units_are_short (s ∷ sources) (u ∷ units) h = (unit_is_short s u h.0, units_are_short sources units h.1)
 
 -- there are as many units as texts
-pub as_many_units : (sources : List (Listed ℕ)) (trees : List Tree) → AreUnits (map (λ s. s.items) sources) (map view_tree trees) → length trees ≡ length sources
+pub as_many_units : (sources : List (Listed ℕ)) (trees : List Tree) → AreUnits (map (λ s. s.items) sources) (map view_tree trees)
+    → length trees ≡ length sources
 as_many_units [] [] h = refl
 as_many_units [] (u ∷ trees) h = absurd h
 as_many_units (s ∷ sources) [] h = absurd h

@@ -13,19 +13,20 @@ use Rattle.ec_placed.specs.Whole.{ProgramsShowTheirSources}
 use Rattle.ec_build.specs.Builds.{IsImageOf}
 use Rattle.ec_build.specs.Code.{IsCodeOf}
 
-translated : (p : PlainProgram) (m : Map) (asm : AsmProgram) (l : Located) → Valid p m.io → ValidMap m → IsCodeOf p m.io asm → IsLocated p m asm l → AreBytes l.image.bytes.items → IsTranslated p m asm l
+translated : (p : PlainProgram) (m : Map) (asm : AsmProgram) (l : Located) → Valid p m.io → ValidMap m → IsCodeOf p m.io asm
+    → IsLocated p m asm l → AreBytes l.image.bytes.items → IsTranslated p m asm l
 translated p m asm l valid map code located bytes = record {
   valid = valid;
   map = map;
   groups = code.groups;
-  lowered_whole = code.lowered_whole;
   code = code.code;
   selection = code.selection;
   located = located;
   bytes = bytes;
 }
 
-pub image_made : (p : PlainProgram) (m : Map) (asm : AsmProgram) (l : Located) → ProgramsShowTheirSources → Valid p m.io → ValidMap m → IsCodeOf p m.io asm → IsLocated p m asm l → AreBytes l.image.bytes.items → IsImageOf p m asm l
+pub image_made : (p : PlainProgram) (m : Map) (asm : AsmProgram) (l : Located) → ProgramsShowTheirSources → Valid p m.io → ValidMap m
+    → IsCodeOf p m.io asm → IsLocated p m asm l → AreBytes l.image.bytes.items → IsImageOf p m asm l
 image_made p m asm l shows valid map code located bytes =
     let is = translated p m asm l valid map code located bytes in
     let count = located.code_bytes in

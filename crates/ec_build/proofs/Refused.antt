@@ -30,15 +30,19 @@ map_not_refused text m map_stops.NoMemory h why = why
 -- ---- the units
 
 -- a text that has a tree is not told
-unit_there : (P : List ℕ → Type 0) (i : ℕ) (sources : List (List ℕ)) (units : List t.Tree) → ((bytes : List ℕ) (u : t.Tree) → IsUnit bytes u → ¬ P bytes) → AreUnits sources units → ¬ IsSomeAnd (slice_get sources i) P
+unit_there : (P : List ℕ → Type 0) (i : ℕ) (sources : List (List ℕ)) (units : List t.Tree)
+    → ((bytes : List ℕ) (u : t.Tree) → IsUnit bytes u → ¬ P bytes) → AreUnits sources units → ¬ IsSomeAnd (slice_get sources i) P
 unit_there P i [] [] never h told = told
 unit_there P i [] (u ∷ units) never h told = h
 unit_there P i (s ∷ sources) [] never h told = h
 unit_there P zero (s ∷ sources) (u ∷ units) never h told = never s u h.0 told
 unit_there P (suc i) (s ∷ sources) (u ∷ units) never h told = unit_there P i sources units never h.1 told
 
-pub no_fault : (i : ℕ) (sources : List (List ℕ)) (units : List t.Tree) (stop : LexStop) → AreUnits sources units → ¬ IsSomeAnd (slice_get sources i) (λ bytes. IsFaulty bytes stop)
-no_fault i sources units stop h = unit_there (λ bytes. IsFaulty bytes stop) i sources units (λ bytes u unit faulty. faulty.none unit.list unit.lexed) h
+pub no_fault : (i : ℕ) (sources : List (List ℕ)) (units : List t.Tree) (stop : LexStop) → AreUnits sources units
+    → ¬ IsSomeAnd (slice_get sources i) (λ bytes. IsFaulty bytes stop)
+no_fault i sources units stop h =
+    unit_there (λ bytes. IsFaulty bytes stop) i sources units (λ bytes u unit faulty. faulty.none unit.list unit.lexed) h
 
-pub no_unparsed : (i : ℕ) (sources : List (List ℕ)) (units : List t.Tree) (stop : ParseStop) → AreUnits sources units → ¬ IsSomeAnd (slice_get sources i) (λ bytes. IsUnparsed bytes stop)
+pub no_unparsed : (i : ℕ) (sources : List (List ℕ)) (units : List t.Tree) (stop : ParseStop) → AreUnits sources units
+    → ¬ IsSomeAnd (slice_get sources i) (λ bytes. IsUnparsed bytes stop)
 no_unparsed i sources units stop h = unit_there (λ bytes. IsUnparsed bytes stop) i sources units (λ bytes u unit why. why.none u unit) h

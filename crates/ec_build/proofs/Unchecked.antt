@@ -10,7 +10,8 @@ use Rattle.ec_check.specs.declared.checking.CheckStop.{CheckStop}
 use Rattle.ec_check.specs.declared.checking.CheckStop.TheVariants as check_stops
 use Rattle.ec_build.specs.Causes.{IsUnchecked}
 
-pub not_unchecked : (units : List t.Tree) (io : IoTable) (stop : CheckStop) → IsWithinLimits units → least_fault units io ≡ None → ((p : PlainProgram) → IsTyped units io p → NothingRecurs p) → ¬ IsUnchecked units io stop
+pub not_unchecked : (units : List t.Tree) (io : IoTable) (stop : CheckStop) → IsWithinLimits units → least_fault units io ≡ None
+    → ((p : PlainProgram) → IsTyped units io p → NothingRecurs p) → ¬ IsUnchecked units io stop
 not_unchecked units io check_stops.NoMemory limits unbroken loopless why = why.told refl
 not_unchecked units io check_stops.TooManyObjects limits unbroken loopless why =
     let against = why.against in omega (arith, limits.objects, against)

@@ -25,7 +25,8 @@ no_shortage : (name : RegionName) (region : Region) (need : ℕ) → need ≤ re
 no_shortage name region need h =
     rw (le-ltb region.size need h)
 
-all_fit : (m : Map) (n : Needs) → n.tables ≤ m.tables.size → n.vars ≤ m.vars.size → n.stack ≤ m.stack.size → n.code ≤ m.code.size → first_shortage m n ≡ None
+all_fit : (m : Map) (n : Needs) → n.tables ≤ m.tables.size → n.vars ≤ m.vars.size → n.stack ≤ m.stack.size → n.code ≤ m.code.size
+    → first_shortage m n ≡ None
 all_fit m n a b c d =
     let tables = no_shortage Tables m.tables n.tables a in
     let vars = no_shortage Data m.vars n.vars b in
@@ -33,9 +34,11 @@ all_fit m n a b c d =
     let code = no_shortage Code m.code n.code d in
     rw (tables, vars, stack, code)
 
-pub fits_whole : (p : PlainProgram) (m : Map) (asm : AsmProgram) → Fits p m → asm.frames.items ≡ scratch_needs p → code_words asm.items.items ≤ weight p (plain_table m.io) → shortage p m asm ≡ None
+pub fits_whole : (p : PlainProgram) (m : Map) (asm : AsmProgram) → Fits p m → asm.frames.items ≡ scratch_needs p
+    → code_words asm.items.items ≤ weight p (plain_table m.io) → shortage p m asm ≡ None
 fits_whole p m asm fits frames small =
-    let vars : data_need 64 (entries_by m p) asm.frames.items ≤ m.vars.size = subst (λ f. data_need 64 (entries_by m p) f ≤ m.vars.size) (sym frames) fits.vars in
+    let vars : data_need 64 (entries_by m p) asm.frames.items ≤ m.vars.size =
+    subst (λ f. data_need 64 (entries_by m p) f ≤ m.vars.size) (sym frames) fits.vars in
     let code : 2 * code_words asm.items.items ≤ m.code.size = omega (arith, small, fits.code) in
     all_fit m (needs p (entries_by m p) asm.frames.items asm.items.items) fits.tables vars fits.stack code
 
@@ -43,7 +46,8 @@ nothing_there : {A : Type 0} (o : Option A) (P : A → Type 0) → o ≡ None �
 nothing_there None P e h = h
 nothing_there (Some x) P e h = cc
 
-pub not_unplaced : (p : PlainProgram) (m : Map) (asm : AsmProgram) (stop : PlaceStop) → Fits p m → asm.frames.items ≡ scratch_needs p → code_words asm.items.items ≤ weight p (plain_table m.io) → ¬ HasNoPlace p m asm stop
+pub not_unplaced : (p : PlainProgram) (m : Map) (asm : AsmProgram) (stop : PlaceStop) → Fits p m → asm.frames.items ≡ scratch_needs p
+    → code_words asm.items.items ≤ weight p (plain_table m.io) → ¬ HasNoPlace p m asm stop
 not_unplaced p m asm (TooSmall region needed available) fits frames small why =
     let room = fits_whole p m asm fits frames small in
     let told = why.against in
@@ -54,5 +58,7 @@ not_unplaced p m asm (NoSuchObject name) fits frames small why =
     let e : option_map (λ q. q.name.items) (without_object p m) ≡ None = ap (option_map (λ q. q.name.items)) there in
     cc
 not_unplaced p m asm (Clash name other) fits frames small why =
-    nothing_there (clash p m) (λ found. (name.items ≡ place_name m.places.items found.0) × (other.items ≡ neighbour_name m.places.items found.0 found.1)) fits.free why.against.2
+    nothing_there (clash p m)
+    (λ found. (name.items ≡ place_name m.places.items found.0) ×
+    (other.items ≡ neighbour_name m.places.items found.0 found.1)) fits.free why.against.2
 not_unplaced p m asm NoMemory fits frames small why = why.told tt

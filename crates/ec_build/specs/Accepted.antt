@@ -5,7 +5,6 @@ use Rattle.ec_core.specs.Plain.{PlainProgram}
 use Rattle.ec_recursion.specs.Recursion.{NothingRecurs}
 use Rattle.ec_check.specs.Answers.{IsTyped, IsWithinLimits}
 use Rattle.ec_check.specs.Units.{least_fault}
-use Rattle.ec_later.specs.First.{first_later}
 use Rattle.ec_map.specs.declared.map.Map.{Map}
 use Rattle.ec_build.specs.Builds.{IsChecked}
 use Rattle.ec_build.specs.MapTexts.{IsMapText, HasMap}
@@ -18,7 +17,6 @@ use Rattle.ec_build.specs.Units.{AreUnits}
 pub record IsAccepted (sources : List (List ℕ)) (text : List ℕ) : Type 0 where
   pub map : HasMap text
   pub units : (units : List t.Tree) × AreUnits sources units
-  pub compiled : (units : List t.Tree) → AreUnits sources units → first_later units ≡ None
   pub limits : (units : List t.Tree) → AreUnits sources units → IsWithinLimits units
   pub unbroken : (m : Map) (units : List t.Tree) → IsMapText text m → AreUnits sources units
       → least_fault units m.io ≡ None

@@ -11,7 +11,6 @@ use Rattle.ec_core.specs.Weight.{weight}
 use Rattle.ec_recursion.specs.Recursion.{NothingRecurs}
 use Rattle.ec_check.specs.Answers.{IsTyped, IsWithinLimits}
 use Rattle.ec_check.specs.Units.{least_fault}
-use Rattle.ec_later.specs.First.{first_later}
 use Rattle.ec_map.specs.declared.map.Map.{Map}
 use Rattle.ec_locate.specs.Placing.{scratch_needs}
 use Rattle.ec_locate.specs.declared.placing.Located.{Located}
@@ -29,10 +28,8 @@ pub record IsRead (sources : List (List ℕ)) (text : List ℕ) (m : Map) (units
   pub trees : AreUnits sources units
   pub only : (others : List t.Tree) → AreUnits sources others → others ≡ units
 
--- P is the typed program of trees: no token of theirs belongs to a form that is not compiled, and no limit, no
--- constraint and no recursion stands against them
+-- P is the typed program of trees: no limit, no constraint and no recursion stands against them
 pub record IsProgram (units : List t.Tree) (io : IoTable) (p : PlainProgram) : Type 0 where
-  pub compiled : first_later units ≡ None
   pub limits : IsWithinLimits units
   pub unbroken : least_fault units io ≡ None
   pub typed : IsTyped units io p

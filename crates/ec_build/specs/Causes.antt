@@ -1,5 +1,5 @@
 -- Why there is no build. Where a cause is told, none that is judged before it holds.
-use Rattle.std.specs.Prelude.{ℕ, ◌≡◌, ◌≤◌, ⊤, List, None, Some, Err}
+use Rattle.std.specs.Prelude.{ℕ, ◌≡◌, ◌≤◌, ⊤, List, Err}
 use Rattle.ec_grammar.specs.Trees as t
 use Rattle.ec_iohw.specs.declared.table.IoTable.{IoTable}
 use Rattle.ec_asm.specs.Items.{code_words}
@@ -10,7 +10,6 @@ use Rattle.ec_core.specs.Weight.{weight}
 use Rattle.ec_check.specs.Answers.{Checked}
 use Rattle.ec_check.specs.declared.checking.CheckStop.{CheckStop}
 use Rattle.ec_check.specs.declared.checking.CheckStop.TheVariants as check_stops
-use Rattle.ec_later.specs.First.{first_later}
 use Rattle.ec_lower_code.specs.Code.{lowered}
 use Rattle.ec_map.specs.declared.map.Map.{Map}
 use Rattle.ec_locate.specs.Placing.{scratch_needs}
@@ -21,18 +20,16 @@ use Rattle.ec_build.specs.MapTexts.{HasMap, IsNoMap}
 use Rattle.ec_build.specs.Places.{HasNoPlace}
 use Rattle.ec_build.specs.Units.{IsFirstFault, IsFirstUnparsed}
 use Rattle.ec_build.specs.declared.stop.BuildStop.{BuildStop}
-use Rattle.ec_build.specs.declared.stop.BuildStop.TheVariants.{Map as MapFault, Lex, Parse, Later, Check, Place}
+use Rattle.ec_build.specs.declared.stop.BuildStop.TheVariants.{Map as MapFault, Lex, Parse, Check, Place}
 use Rattle.ec_build.specs.declared.stop.BuildStop.TheVariants.{NoMemory}
 
--- a limit, a constraint or recursion stands against trees, none of whose tokens belongs to a form that is not compiled
+-- a limit, a constraint or recursion stands against trees
 pub record IsUnchecked (units : List t.Tree) (io : IoTable) (stop : CheckStop) : Type 0 where
-  pub compiled : first_later units ≡ None
   pub against : Checked units io (Err stop)
   pub told : stop ≡ check_stops.NoMemory → ⊥
 
 -- why trees have no program
 abbrev pub StopsChecking : List t.Tree → IoTable → BuildStop → Type 0
-StopsChecking units io (Later l) = first_later units ≡ Some l
 StopsChecking units io (Check stop) = IsUnchecked units io stop
 StopsChecking units io NoMemory = ⊤
 StopsChecking units io _ = ⊥
@@ -61,7 +58,6 @@ abbrev pub HasCause : List (List ℕ) → List ℕ → BuildStop → Type 0
 HasCause sources text (MapFault stop) = IsNoMap text stop
 HasCause sources text (Lex unit stop) = HasMap text × IsFirstFault sources unit stop
 HasCause sources text (Parse unit stop) = HasMap text × IsFirstUnparsed sources unit stop
-HasCause sources text (Later l) = HasNoProgram sources text (Later l)
 HasCause sources text (Check stop) = HasNoProgram sources text (Check stop)
 HasCause sources text (Place stop) = IsUnplaced sources text stop
 HasCause sources text NoMemory = ⊤

@@ -9,7 +9,6 @@ use Rattle.ec_core.specs.PortTable.{plain_table}
 use Rattle.ec_core.specs.Weight.{weight}
 use Rattle.ec_lower_code.specs.Code.{lowered}
 use Rattle.ec_lower_code.specs.Correct.{GroupsHaveBytes}
-use Rattle.ec_lower_code.specs.Parts.{IsLowered}
 use Rattle.ec_locate.specs.Placing.{object_sizes, scratch_needs}
 use Rattle.ec_select.specs.Selected.{HasCode, IsSelection}
 
@@ -17,7 +16,6 @@ use Rattle.ec_select.specs.Selected.{HasCode, IsSelection}
 -- groups of the ports hold bytes
 pub record IsCodeOf (p : PlainProgram) (io : IoTable) (asm : AsmProgram) : Type 0 where
   pub groups : GroupsHaveBytes io
-  pub lowered_whole : IsLowered p
   pub code : HasCode (lowered p (plain_table io))
   pub selection : IsSelection (lowered p (plain_table io)) asm
   pub frames : asm.frames.items ≡ scratch_needs p

@@ -11,7 +11,6 @@ use crate::programs::program_of;
 use crate::stop::BuildStop;
 use crate::units::units_of;
 use ec_core::Program;
-use ec_later_compiled::forms_are_compiled;
 use ec_locate::Located;
 use ec_map::Map;
 use ec_space::Seq;
@@ -38,7 +37,6 @@ fn answer(alloc: Global, sources: &Seq<Seq<u8>>, map: &Seq<u8>) -> Result<Built,
     let units = units_of(alloc, sources)?;
     texts_hold_numbers();
     let program = program_of(alloc, &units, &map)?;
-    forms_are_compiled();
     let asm = code_of(alloc, &program, &map)?;
     let located = placed(alloc, &program, &asm, &map)?;
     Ok(Built {
@@ -51,9 +49,8 @@ fn answer(alloc: Global, sources: &Seq<Seq<u8>>, map: &Seq<u8>) -> Result<Built,
 /// Compiles the sources and places their program by a map.
 ///
 /// The answer is the program of the sources with its image, or the first cause why there is none: the map; the first
-/// unit whose text has a fault; the first whose tokens have no tree; the first token of a form that is not compiled
-/// yet; a limit, a constraint or recursion; the places. Where nothing stands against the sources and the map, only
-/// running out of memory keeps it from an answer.
+/// unit whose text has a fault; the first whose tokens have no tree; a limit, a constraint or recursion; the places.
+/// Where nothing stands against the sources and the map, only running out of memory keeps it from an answer.
 ///
 /// `NoMemory` also where the code has more than 4,294,967,295 items.
 pub fn build(alloc: Global, sources: &Seq<Seq<u8>>, map: &Seq<u8>) -> Result<Built, BuildStop>

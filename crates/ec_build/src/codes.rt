@@ -2,15 +2,12 @@
 ghost use Rattle.std.specs.Prelude.{◌≡◌, IfOk, IfErr};
 ghost use Rattle.ec_core.specs.Plain.{plain_program};
 ghost use Rattle.ec_core.specs.Valid.{Valid};
-ghost use Rattle.ec_lower_code.specs.Parts.{IsCompiled};
-ghost use Rattle.ec_lower_suited.specs.Laws.{NumbersAreInData};
 ghost use Rattle.ec_build.specs.Code.{IsCodeOf};
 
 use crate::stop::BuildStop;
 use ec_asm::AsmProgram;
 use ec_core::Program;
 use ec_lower::{lower, read_groups};
-use ec_lower_code::compiled_is_of_numbers;
 use ec_lower_suited::lowered_programs_have_code;
 use ec_map::Map;
 use ec_select::select;
@@ -19,16 +16,12 @@ use std::alloc::Global;
 /// The greatest number of items of code that can be placed.
 const MOST_ITEMS: usize = 4_294_967_295;
 
-/// The code of a program whose expressions are integers, fixed-point numbers or void, and whose objects of integer and
-/// fixed-point types are kept in the data bank. `NoMemory` also for code of more than 4,294,967,295 items.
+/// The code of a program. `NoMemory` also for code of more than 4,294,967,295 items.
 pub(crate) fn code_of(alloc: Global, program: &Program, map: &Map) -> Result<AsmProgram, BuildStop>
     requires valid { Valid (plain_program program.now) map.now.io }
-    requires compiled { IsCompiled (plain_program program.now) }
-    requires in_data { NumbersAreInData (plain_program program.now) }
     ensures code { IfOk result (IsCodeOf (plain_program program.now) map.now.io) }
     ensures stopped { IfErr result (λ stop. stop ≡ BuildStop.NoMemory) }
 {
-    compiled_is_of_numbers();
     lowered_programs_have_code();
     read_groups(&map.io);
     let ir = lower(alloc, program, &map.io)?;

@@ -15,5 +15,4 @@ mod units;
 
 pub use building::{Built, build};
 pub use ec_check::CheckStop;
-pub use ec_later::Later;
 pub use stop::BuildStop;

@@ -12,13 +12,12 @@ ghost use Rattle.ec_build.specs.Causes.{StopsChecking};
 use crate::stop::BuildStop;
 use ec_check::{CheckStop, check};
 use ec_core::Program;
-use ec_later::later;
 use ec_map::Map;
 use ec_parse::Tree;
 use ec_space::Seq;
 use std::alloc::Global;
 
-/// The typed program of the units, in which no token belongs to a form that is not compiled.
+/// The typed program of the units.
 pub(crate) fn program_of(alloc: Global, units: &Seq<Tree>, map: &Map) -> Result<Program, BuildStop>
     requires io { ValidIo map.now.io }
     requires some { 1 ≤ length units.now.items }
@@ -28,9 +27,6 @@ pub(crate) fn program_of(alloc: Global, units: &Seq<Tree>, map: &Map) -> Result<
         → IfOk result (λ p. Valid (plain_program p) map.now.io) }
     ensures stopped { IfErr result (StopsChecking (each view_tree units.now.items) map.now.io) }
 {
-    if let Some(token) = later(units) {
-        return Err(BuildStop::Later(token));
-    }
     match check(alloc, units, &map.io) {
         Ok(program) => Ok(program),
         Err(CheckStop::NoMemory) => Err(BuildStop::NoMemory),

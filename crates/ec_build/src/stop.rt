@@ -3,7 +3,6 @@ ghost use Rattle.ec_build.specs.declared.stop.BuildStop.TheVariants.{NoMemory as
 ghost use Rattle.std.specs.Prelude.{◌≡◌};
 
 use ec_check::CheckStop;
-use ec_later::Later;
 use ec_lex::LexStop;
 use ec_locate::PlaceStop;
 use ec_map::MapStop;
@@ -23,9 +22,6 @@ pub enum BuildStop {
     /// The tokens of a unit are no program, or are nested too deep.
     #[error("unit {unit}: {stop}")]
     Parse { unit: u8, stop: ParseStop },
-    /// A token belongs to a form that is not compiled yet.
-    #[error("not compiled yet")]
-    Later(Later),
     /// A limit is passed, a constraint is broken, or a function reaches itself by calls.
     #[error("{0}")]
     Check(CheckStop),

@@ -1,5 +1,6 @@
 -- The map and the sources that were read.
-use Rattle.std.proofs.Common.{◌≡◌, ◌≤◌, ◌<◌, ℕ, zero, suc, List, [], ◌∷◌, get_or, Some, None, Ok, Err, refl, subst, arith, inl, inr, length}
+use Rattle.std.proofs.Common.{◌≡◌, ◌≤◌, ◌<◌, ℕ, zero, suc, List, [], ◌∷◌, get_or, Some, None, Ok, Err, refl, subst}
+use Rattle.std.proofs.Common.{arith, inl, inr, length}
 use Rattle.std.specs.Prelude.{Option, Result, IfOk, IfErr, All, Contains}
 use Rattle.std.specs.FinMap.{get}
 use Rattle.ec_space.specs.Listed.{Listed}
@@ -23,28 +24,36 @@ use Rattle.ec_compile.specs.Builds.{Accepts, IsBuiltFrom, IsRefusedFor, RefusesB
 use Rattle.ec_compile.specs.declared.stop.CompileStop.{CompileStop}
 use Rattle.ec_compile.specs.declared.stop.CompileStop.TheVariants.{Command, Build}
 
-pub within_here : (files : Files) (name bytes : List ℕ) (most : ℕ) → get files name ≡ Some bytes → length bytes ≤ most → IsWithin name most files
+pub within_here : (files : Files) (name bytes : List ℕ) (most : ℕ) → get files name ≡ Some bytes → length bytes ≤ most
+    → IsWithin name most files
 within_here files name bytes most here fits = rw here fits
 
 pub inputs_told : (words : Words) (first : ℕ) (old mid : Option Disk) (map : List ℕ) (sources : List (List ℕ)) → KeepsAll old mid
     → Told (λ files. get files (word words 1) ≡ Some map) old → length map ≤ 16384
-    → Told (HoldTexts (names_from words first) sources) mid → All (λ text. length text ≤ 65536) sources → Told (AreInputs words first map sources) old
+    → Told (HoldTexts (names_from words first) sources) mid → All (λ text. length text ≤ 65536) sources
+    → Told (AreInputs words first map sources) old
 inputs_told words first old mid map sources kept there fits held fit =
-    told_both (λ files. get files (word words 1) ≡ Some map) (HoldTexts (names_from words first) sources) (AreInputs words first map sources) old mid kept there held
+    told_both (λ files. get files (word words 1) ≡ Some map) (HoldTexts (names_from words first) sources)
+    (AreInputs words first map sources) old mid kept there held
     (λ files m s. record { map_there = m; map_fits = fits; sources_there = s; sources_fit = fit })
 
 same_map : (found : Option (List ℕ)) (x y : List ℕ) → found ≡ Some x → found ≡ Some y → x ≡ y
 same_map found x y p q = cc
 
 -- what was read is what the files hold
-pub inputs_same : (words : Words) (first : ℕ) (a b : List ℕ) (s t : List (List ℕ)) (files : Files) → AreInputs words first a s files → AreInputs words first b t files
+pub inputs_same : (words : Words) (first : ℕ) (a b : List ℕ) (s t : List (List ℕ)) (files : Files) → AreInputs words first a s files
+    → AreInputs words first b t files
     → (a ≡ b) × (s ≡ t)
-inputs_same words first a b s t files h k =
-    (same_map (get files (map_name words)) a b h.map_there k.map_there, same_texts (names_from words first) s t files h.sources_there k.sources_there)
+inputs_same words first a b s t files h k = (
+  same_map (get files (map_name words)) a b h.map_there k.map_there,
+  same_texts
+      (names_from words first) s t files h.sources_there k.sources_there,
+)
 
 -- ---- no stop where the files are accepted
 
-pub no_map_stop : (words : Words) (first : ℕ) (map : List ℕ) (sources : List (List ℕ)) (disk : Disk) (read written received : ℕ) (new : StoreView) (stop : CommandError)
+pub no_map_stop : (words : Words) (first : ℕ) (map : List ℕ) (sources : List (List ℕ)) (disk : Disk) (read written received : ℕ)
+    (new : StoreView) (stop : CommandError)
     → AreInputs words first map sources disk.files → ¬ (Rose read new.read_faults)
     → StopsReading words 1 MapBytes (store_view (Some disk) read written received) new stop → commands.status_of stop ≡ 11
 no_map_stop words first map sources disk read written received new (CannotRead i) inputs calm h = absurd (calm h.1)
@@ -53,7 +62,8 @@ no_map_stop words first map sources disk read written received new (TooMany limi
 no_map_stop words first map sources disk read written received new NoMemory inputs calm h = refl
 no_map_stop words first map sources disk read written received new _ inputs calm h = absurd h
 
-pub no_source_stop : (words : Words) (first : ℕ) (P : Files → Type 0) (most : ℕ) (map : List ℕ) (sources : List (List ℕ)) (disk : Disk) (read written received : ℕ) (new : StoreView) (stop : CommandError)
+pub no_source_stop : (words : Words) (first : ℕ) (P : Files → Type 0) (most : ℕ) (map : List ℕ) (sources : List (List ℕ)) (disk : Disk)
+    (read written received : ℕ) (new : StoreView) (stop : CommandError)
     → AreInputs words first map sources disk.files → ¬ (Rose read new.read_faults)
     → StopsReadingSources words first P most (store_view (Some disk) read written received) new stop → commands.status_of stop ≡ 11
 no_source_stop words first P most map sources disk read written received new (CannotRead i) inputs calm h = absurd (calm h.1)
@@ -63,8 +73,10 @@ no_source_stop words first P most map sources disk read written received new (To
 no_source_stop words first P most map sources disk read written received new NoMemory inputs calm h = refl
 no_source_stop words first P most map sources disk read written received new _ inputs calm h = absurd h
 
-pub no_reading_stop : (words : Words) (disk : Option Disk) (read written received : ℕ) (new : StoreView) (stop : CommandError) → Accepts words 3 disk
-    → ¬ (Rose read new.read_faults) → StopsReadingBuild words (store_view disk read written received) new stop → commands.status_of stop ≡ 11
+pub no_reading_stop : (words : Words) (disk : Option Disk) (read written received : ℕ) (new : StoreView) (stop : CommandError)
+    → Accepts words 3 disk
+    → ¬ (Rose read new.read_faults) → StopsReadingBuild words (store_view disk read written received) new stop → commands.status_of stop
+    ≡ 11
 no_reading_stop words None read written received new stop accepted calm h = absurd accepted
 no_reading_stop words (Some disk) read written received new stop accepted calm (inl h) =
     no_map_stop words 3 accepted.map accepted.sources disk read written received new stop accepted.inputs calm h
@@ -98,8 +110,10 @@ built_from words first disk map sources (Ok b) inputs built =
     (λ files there. record { map = map; sources = sources; inputs = there; built = built })
 built_from words first disk map sources (Err stop) inputs built = tt
 
-pub refused_from : (words : Words) (old new : StoreView) (map : List ℕ) (sources : List (List ℕ)) (r : Result Built CompileStop) → IsBuild words
-    → KeepsAll old.disk new.disk → Told (AreInputs words 3 map sources) old.disk → IfErr r (RefusesBuild sources map) → IfErr r (BuildStops words old new)
+pub refused_from : (words : Words) (old new : StoreView) (map : List ℕ) (sources : List (List ℕ)) (r : Result Built CompileStop)
+    → IsBuild words
+    → KeepsAll old.disk new.disk → Told (AreInputs words 3 map sources) old.disk → IfErr r (RefusesBuild sources map)
+    → IfErr r (BuildStops words old new)
 refused_from words old new map sources (Ok b) is kept inputs refused = tt
 refused_from words old new map sources (Err (Command stop)) is kept inputs refused = absurd refused
 refused_from words old new map sources (Err (Build stop)) is kept inputs refused = record {

@@ -33,24 +33,29 @@ use Rattle.ec_compile.proofs.Reading.{within_here, inputs_same, no_map_stop, no_
 abbrev pub HoldsBoth : Words → (map lines : List ℕ) → Files → Type 0
 HoldsBoth words map lines files = (get files (word words 1) ≡ Some map) × (get files (word words 2) ≡ Some lines)
 
-pub both_told : (words : Words) (old mid : Option Disk) (map lines : List ℕ) → KeepsAll old mid → Told (λ files. get files (word words 1) ≡ Some map) old
+pub both_told : (words : Words) (old mid : Option Disk) (map lines : List ℕ) → KeepsAll old mid
+    → Told (λ files. get files (word words 1) ≡ Some map) old
     → Told (λ files. get files (word words 2) ≡ Some lines) mid → Told (HoldsBoth words map lines) old
 both_told words old mid map lines kept m l =
-    told_both (λ files. get files (word words 1) ≡ Some map) (λ files. get files (word words 2) ≡ Some lines) (HoldsBoth words map lines) old mid kept m l
+    told_both (λ files. get files (word words 1) ≡ Some map) (λ files. get files (word words 2) ≡ Some lines)
+    (HoldsBoth words map lines) old mid kept m l
     (λ files x y. (x, y))
 
 pub exec_told : (words : Words) (old mid : Option Disk) (map lines : List ℕ) (sources : List (List ℕ)) → KeepsAll old mid
     → Told (HoldsBoth words map lines) old → length map ≤ 16384 → length lines ≤ 65536
-    → Told (HoldTexts (names_from words 4) sources) mid → All (λ text. length text ≤ 65536) sources → Told (AreExecInputs words map lines sources) old
+    → Told (HoldTexts (names_from words 4) sources) mid → All (λ text. length text ≤ 65536) sources
+    → Told (AreExecInputs words map lines sources) old
 exec_told words old mid map lines sources kept both fits lines_fit held fit =
-    told_both (HoldsBoth words map lines) (HoldTexts (names_from words 4) sources) (AreExecInputs words map lines sources) old mid kept both held
+    told_both (HoldsBoth words map lines) (HoldTexts (names_from words 4) sources)
+    (AreExecInputs words map lines sources) old mid kept both held
     (λ files b s. record {
       inputs = record { map_there = b.0; map_fits = fits; sources_there = s; sources_fit = fit };
       script_there = b.1;
       script_fits = lines_fit;
     })
 
-pub has_script : (words : Words) (map lines : List ℕ) (files : Files) → length map ≤ 16384 → length lines ≤ 65536 → HoldsBoth words map lines files → HasScript words files
+pub has_script : (words : Words) (map lines : List ℕ) (files : Files) → length map ≤ 16384 → length lines ≤ 65536
+    → HoldsBoth words map lines files → HasScript words files
 has_script words map lines files fits lines_fit both = record {
   map = within_here files (word words 1) map 16384 both.0 fits;
   script = within_here files (word words 2) lines 65536 both.1 lines_fit;
@@ -64,11 +69,13 @@ pub script_behind : (words : Words) (map : List ℕ) (old mid new : StoreView) (
 script_behind words map old mid new (CannotRead i) kept there fits later came h = (
   h.0,
   omega (arith, h.1, later),
-  told_on (λ files. get files (word words 1) ≡ Some map) (HasMap words) old.disk there (λ files m. within_here files (word words 1) map 16384 m fits),
+  told_on (λ files. get files (word words 1) ≡ Some map) (HasMap words) old.disk there
+      (λ files m. within_here files (word words 1) map 16384 m fits),
 )
 script_behind words map old mid new (TooMany limit) kept there fits later came h =
     subst (λ l. StopsReadingScript words old new (TooMany l)) (sym h.0) (
-      told_both (λ files. get files (word words 1) ≡ Some map) (IsPast (script_name words) 65536) (λ files. HasMap words files × IsPast (script_name words) 65536 files)
+      told_both (λ files. get files (word words 1) ≡ Some map) (IsPast (script_name words) 65536)
+          (λ files. HasMap words files × IsPast (script_name words) 65536 files)
           old.disk mid.disk kept there h.1
           (λ files m p. (within_here files (word words 1) map 16384 m fits, p)),
       (
@@ -79,7 +86,8 @@ script_behind words map old mid new (TooMany limit) kept there fits later came h
 script_behind words map old mid new NoMemory kept there fits later came h = tt
 script_behind words map old mid new _ kept there fits later came h = absurd h
 
-pub reading_stops : (words : Words) (old new : StoreView) (stop : CommandError) → StopsReadingExec words old new stop → StopsLoadingExec words old new (Command stop)
+pub reading_stops : (words : Words) (old new : StoreView) (stop : CommandError) → StopsReadingExec words old new stop
+    → StopsLoadingExec words old new (Command stop)
 reading_stops words old new NoMemory h = tt
 reading_stops words old new (ScriptLine line rule) (inl h) = absurd h
 reading_stops words old new (ScriptLine line rule) (inr (inl h)) = absurd h
@@ -92,7 +100,8 @@ build_stops words old new map lines sources (Command stop) inputs h = absurd h
 build_stops words old new map lines sources (Build stop) inputs h =
     record { map = map; lines = lines; sources = sources; inputs = inputs; cause = h }
 
-pub script_stops : (words : Words) (old new : StoreView) (lines : List ℕ) (b : Built) (stop : CommandError) → IsExecBuilt words old.disk lines b
+pub script_stops : (words : Words) (old new : StoreView) (lines : List ℕ) (b : Built) (stop : CommandError)
+    → IsExecBuilt words old.disk lines b
     → (stop ≡ NoMemory) ⊎ HasScriptFault lines stop → StopsLoadingExec words old new (Command stop)
 script_stops words old new lines b stop from (inl e) = subst (λ s. StopsLoadingExec words old new (Command s)) (sym e) tt
 script_stops words old new lines b stop from (inr h) =
@@ -108,16 +117,20 @@ before_run words old new _ few h = (few, h)
 
 -- ---- no stop where the files are accepted
 
-no_script_stop : (words : Words) (map lines : List ℕ) (sources : List (List ℕ)) (disk : Disk) (read written received : ℕ) (new : StoreView) (stop : CommandError)
+no_script_stop : (words : Words) (map lines : List ℕ) (sources : List (List ℕ)) (disk : Disk) (read written received : ℕ) (new : StoreView)
+    (stop : CommandError)
     → AreExecInputs words map lines sources disk.files → ¬ (Rose read new.read_faults)
     → StopsReadingScript words (store_view (Some disk) read written received) new stop → commands.status_of stop ≡ 11
 no_script_stop words map lines sources disk read written received new (CannotRead i) inputs calm h = absurd (calm h.1)
 no_script_stop words map lines sources disk read written received new (TooMany ScriptBytes) inputs calm h =
-    absurd (not_past disk.files (script_name words) 65536 (within_here disk.files (script_name words) lines 65536 inputs.script_there inputs.script_fits) h.0.1)
+    absurd
+    (not_past disk.files (script_name words) 65536
+    (within_here disk.files (script_name words) lines 65536 inputs.script_there inputs.script_fits) h.0.1)
 no_script_stop words map lines sources disk read written received new NoMemory inputs calm h = refl
 no_script_stop words map lines sources disk read written received new _ inputs calm h = absurd h
 
-pub no_reading_stop : (words : Words) (disk : Option Disk) (read written received : ℕ) (new : StoreView) (stop : CommandError) → AcceptsExec words disk
+pub no_reading_stop : (words : Words) (disk : Option Disk) (read written received : ℕ) (new : StoreView) (stop : CommandError)
+    → AcceptsExec words disk
     → ¬ (Rose read new.read_faults) → StopsReadingExec words (store_view disk read written received) new stop → commands.status_of stop ≡ 11
 no_reading_stop words None read written received new stop accepted calm h = absurd accepted
 no_reading_stop words (Some disk) read written received new stop accepted calm (inl h) =
@@ -125,7 +138,8 @@ no_reading_stop words (Some disk) read written received new stop accepted calm (
 no_reading_stop words (Some disk) read written received new stop accepted calm (inr (inl h)) =
     no_script_stop words accepted.build.map accepted.lines accepted.build.sources disk read written received new stop accepted.inputs calm h
 no_reading_stop words (Some disk) read written received new stop accepted calm (inr (inr h)) =
-    no_source_stop words 4 (HasScript words) 81920 accepted.build.map accepted.build.sources disk read written received new stop accepted.inputs.inputs calm h
+    no_source_stop words 4
+    (HasScript words) 81920 accepted.build.map accepted.build.sources disk read written received new stop accepted.inputs.inputs calm h
 
 pub read_accepted : (words : Words) (disk : Option Disk) (map lines : List ℕ) (sources : List (List ℕ)) → AcceptsExec words disk
     → Told (AreExecInputs words map lines sources) disk → IsAccepted sources map
@@ -144,7 +158,8 @@ script_kept words (Some disk) map lines sources accepted inputs =
     subst (λ (t : List ℕ). AreKept (forms_of Small t))
     (same_text (get disk.files (script_name words)) accepted.lines lines accepted.inputs.script_there inputs.script_there) accepted.kept
 
-pub no_script_fault : (words : Words) (disk : Option Disk) (map lines : List ℕ) (sources : List (List ℕ)) (stop : CommandError) → AcceptsExec words disk
+pub no_script_fault : (words : Words) (disk : Option Disk) (map lines : List ℕ) (sources : List (List ℕ)) (stop : CommandError)
+    → AcceptsExec words disk
     → Told (AreExecInputs words map lines sources) disk → (stop ≡ NoMemory) ⊎ HasScriptFault lines stop → commands.status_of stop ≡ 11
 no_script_fault words disk map lines sources stop accepted inputs (inl e) = ap commands.status_of e
 no_script_fault words disk map lines sources stop accepted inputs (inr h) =

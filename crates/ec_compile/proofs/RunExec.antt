@@ -23,7 +23,8 @@ use Rattle.ec_compile.specs.declared.stop.CompileStop.TheVariants.{Command}
 
 pub executed : (words : Words) (steps : ℕ) (hooks : Gives) (disk : Option Disk) (out : SinkCall) (stop : Option CommandError)
     (machine after : State) (answers : List ScriptLine) (report : EmuReport) (trace : List Access) → IsExecLoaded words disk machine answers
-    → IsRunOf (IsScripted hooks answers) steps machine after report trace → Shows out.before out.after report.end trace stop → Executed words steps hooks disk out stop
+    → IsRunOf (IsScripted hooks answers) steps machine after report trace → Shows out.before out.after report.end trace stop
+    → Executed words steps hooks disk out stop
 executed words steps hooks disk out stop machine after answers report trace loaded runs shows = record {
   machine = machine;
   answers = answers;
@@ -33,17 +34,21 @@ executed words steps hooks disk out stop machine after answers report trace load
   trace = trace;
   runs = runs;
   shows = shows;
-  keeps = keeps_source loaded.from.sources loaded.from.map loaded.built (IsScripted hooks answers) steps machine after report trace loaded.from.built loaded.is_reset runs;
+  keeps = keeps_source loaded.from.sources loaded.from.map loaded.built
+      (IsScripted hooks answers) steps machine after report trace loaded.from.built loaded.is_reset runs;
 }
 
-pub exec_stops : (words : Words) (steps : ℕ) (hooks : Gives) (old new : StoreView) (out : SinkCall) (stop : CommandError) → words_from words 4 ≤ 16
+pub exec_stops : (words : Words) (steps : ℕ) (hooks : Gives) (old new : StoreView) (out : SinkCall) (stop : CommandError)
+    → words_from words 4 ≤ 16
     → Executed words steps hooks old.disk out (Some stop) → (stop ≡ CannotWrite → Rose out.faults_before out.faults_after)
     → ExecStops words steps hooks old new out (Command stop)
 exec_stops words steps hooks old new out stop few h rose = inr (few, h, rose)
 
 -- how a run that was made stops, where no write failed
-pub left_running : (words : Words) (steps : ℕ) (hooks : Gives) (disk : Option Disk) (out : SinkCall) (stop : CommandError) → ¬ (Rose out.faults_before out.faults_after)
-    → Executed words steps hooks disk out (Some stop) → (stop ≡ CannotWrite → Rose out.faults_before out.faults_after) → IsLeft (commands.status_of stop)
+pub left_running : (words : Words) (steps : ℕ) (hooks : Gives) (disk : Option Disk) (out : SinkCall) (stop : CommandError)
+    → ¬ (Rose out.faults_before out.faults_after)
+    → Executed words steps hooks disk out (Some stop) → (stop ≡ CannotWrite → Rose out.faults_before out.faults_after)
+    → IsLeft (commands.status_of stop)
 left_running words steps hooks disk out stop calm h rose = elim (shown_stop out.before out.after h.report.end h.trace stop h.shows) [
   | inl e ↦ absurd (calm (rose e))
   | inr left ↦ left

@@ -1,5 +1,5 @@
 -- A run of a generated program that was loaded and made.
-use Rattle.std.proofs.Common.{◌≡◌, ◌≤◌, ◌<◌, ℕ, zero, suc, List, [], Some, refl, sym, ap, subst, arith, inl, inr, ◌⊎◌}
+use Rattle.std.proofs.Common.{◌≡◌, ◌≤◌, ℕ, zero, suc, List, [], Some, refl, sym, ap, subst, arith, inl, inr, ◌⊎◌}
 use Rattle.std.specs.Prelude.{Option, All, length}
 use Rattle.ec_io.specs.Causes.{Rose}
 use Rattle.ec_io.specs.Views.{SinkCall}
@@ -25,17 +25,21 @@ use Rattle.ec_commands.specs.declared.stop.CommandError.TheVariants as stops
 use Rattle.ec_compile.proofs.Keeping.{keeps_source}
 use Rattle.ec_compile.specs.Builds.{RefusesBuild}
 use Rattle.ec_compile.proofs.Usage.{build_not}
-use Rattle.ec_compile.specs.Gens.{sources_for, most_steps, IsGenLoaded, Generated, FitsGen, StopsGenerating, GenStops, AcceptsGen}
+use Rattle.ec_compile.specs.Gens.{sources_for, most_steps, IsGenLoaded, Generated, FitsGen, StopsGenerating, GenStops}
+use Rattle.ec_compile.specs.Gens.{AcceptsGen}
 use Rattle.ec_compile.specs.Stops.{status_of, IsNamed}
 use Rattle.ec_compile.specs.declared.stop.CompileStop.{CompileStop}
 use Rattle.ec_compile.specs.declared.stop.CompileStop.TheVariants.{Command, Build}
 
 -- an empty script
-emptied : (hooks : Gives) (answers : List ScriptLine) (steps : ℕ) (machine after : State) (report : EmuReport) (trace : List Access) → answers ≡ []
+emptied : (hooks : Gives) (answers : List ScriptLine) (steps : ℕ) (machine after : State) (report : EmuReport) (trace : List Access)
+    → answers ≡ []
     → IsRunOf (IsScripted hooks answers) steps machine after report trace → IsRunOf (IsScripted hooks []) steps machine after report trace
-emptied hooks answers steps machine after report trace empty runs = subst (λ (a : List ScriptLine). IsRunOf (IsScripted hooks a) steps machine after report trace) empty runs
+emptied hooks answers steps machine after report trace empty runs =
+    subst (λ (a : List ScriptLine). IsRunOf (IsScripted hooks a) steps machine after report trace) empty runs
 
-pub was_generated : (n : ℕ) (hooks : Gives) (out : SinkCall) (stop : Option CommandError) (machine after : State) (answers : List ScriptLine) (report : EmuReport) (trace : List Access)
+pub was_generated : (n : ℕ) (hooks : Gives) (out : SinkCall) (stop : Option CommandError) (machine after : State)
+    (answers : List ScriptLine) (report : EmuReport) (trace : List Access)
     → IsGenLoaded n machine → answers ≡ [] → IsRunOf (IsScripted hooks answers) most_steps machine after report trace
     → ShowsCounts out.before out.after report.end report.writes stop → Generated n hooks out stop
 was_generated n hooks out stop machine after answers report trace loaded empty runs shows =
@@ -48,11 +52,14 @@ was_generated n hooks out stop machine after answers report trace loaded empty r
       trace = trace;
       runs = run;
       shows = shows;
-      keeps = keeps_source (sources_for n) map_text loaded.built (IsScripted hooks []) most_steps machine after report trace loaded.is loaded.is_reset run;
+      keeps = keeps_source (sources_for n) map_text loaded.built
+          (IsScripted hooks []) most_steps machine after report trace loaded.is loaded.is_reset run;
     }
 
-pub fits_generated : (n : ℕ) (hooks : Gives) (room : ℕ) (machine after : State) (answers : List ScriptLine) (report : EmuReport) (trace : List Access) → FitsGen n hooks room
-    → IsGenLoaded n machine → answers ≡ [] → IsRunOf (IsScripted hooks answers) most_steps machine after report trace → length (counts_of report.end report.writes) ≤ room
+pub fits_generated : (n : ℕ) (hooks : Gives) (room : ℕ) (machine after : State) (answers : List ScriptLine) (report : EmuReport)
+    (trace : List Access) → FitsGen n hooks room
+    → IsGenLoaded n machine → answers ≡ [] → IsRunOf (IsScripted hooks answers) most_steps machine after report trace
+    → length (counts_of report.end report.writes) ≤ room
 fits_generated n hooks room machine after answers report trace fits loaded empty runs =
     fits machine after report trace loaded (emptied hooks answers most_steps machine after report trace empty runs)
 
@@ -69,7 +76,8 @@ count_stop old new (ends.Fault kind pc) writes _ h = absurd h
 
 -- how a run that was made stops, where no write failed
 pub left_generated : (n : ℕ) (hooks : Gives) (out : SinkCall) (stop : CommandError) → ¬ (Rose out.faults_before out.faults_after)
-    → Generated n hooks out (Some stop) → (stop ≡ stops.CannotWrite → Rose out.faults_before out.faults_after) → IsLeft (commands.status_of stop)
+    → Generated n hooks out (Some stop) → (stop ≡ stops.CannotWrite → Rose out.faults_before out.faults_after)
+    → IsLeft (commands.status_of stop)
 left_generated n hooks out stop calm h rose =
     elim (count_stop out.before out.after h.report.end h.report.writes stop h.shows) [
       | inl e ↦ absurd (calm (rose e))
@@ -99,7 +107,8 @@ load_named n words (Build stop) h = tt
 load_named n words (Command stops.NoMemory) h = tt
 load_named n words (Command _) h = absurd h
 
-pub count_named : (words : Words) (old new : Option (List ℕ)) (end : EmuEnd) (writes : ℕ) (stop : CommandError) → ShowsCounts old new end writes (Some stop) → commands.IsNamed words stop
+pub count_named : (words : Words) (old new : Option (List ℕ)) (end : EmuEnd) (writes : ℕ) (stop : CommandError)
+    → ShowsCounts old new end writes (Some stop) → commands.IsNamed words stop
 count_named words old new (ends.Ended n) writes stops.CannotWrite h = tt
 count_named words old new (ends.Ended n) writes _ h = absurd h
 count_named words old new ends.WriteFault writes _ h = absurd h
@@ -121,12 +130,16 @@ by_stop : (n : ℕ) (stop : CompileStop) → RefusesBuild (sources_for n) map_te
 by_stop n (Build stop) h = h
 by_stop n (Command stop) h = absurd h
 
-pub refused : (n : ℕ) (all : List (List ℕ)) (map : List ℕ) (stop : CompileStop) → all ≡ sources_for n → map ≡ map_text → RefusesBuild all map stop → StopsGenerating n stop
+pub refused : (n : ℕ) (all : List (List ℕ)) (map : List ℕ) (stop : CompileStop) → all ≡ sources_for n → map ≡ map_text
+    → RefusesBuild all map stop → StopsGenerating n stop
 refused n all map stop e f h =
-    by_stop n stop (subst (λ (m : List ℕ). RefusesBuild (sources_for n) m stop) f (subst (λ (ts : List (List ℕ)). RefusesBuild ts map stop) e h))
+    by_stop n stop
+    (subst (λ (m : List ℕ). RefusesBuild (sources_for n) m stop) f (subst (λ (ts : List (List ℕ)). RefusesBuild ts map stop) e h))
 
 pub accepted_by : (n : ℕ) (all : List (List ℕ)) (map : List ℕ) → all ≡ sources_for n → map ≡ map_text → AcceptsGen n → IsAccepted all map
-accepted_by n all map e f h = subst (λ (ts : List (List ℕ)). IsAccepted ts map) (sym e) (subst (λ (m : List ℕ). IsAccepted (sources_for n) m) (sym f) h)
+accepted_by n all map e f h =
+    subst (λ (ts : List (List ℕ)). IsAccepted ts map) (sym e) (subst (λ (m : List ℕ). IsAccepted (sources_for n) m) (sym f) h)
 
-pub built_by : (n : ℕ) (all : List (List ℕ)) (map : List ℕ) (b : Built) → all ≡ sources_for n → map ≡ map_text → IsBuilt all map b → IsBuilt (sources_for n) map_text b
+pub built_by : (n : ℕ) (all : List (List ℕ)) (map : List ℕ) (b : Built) → all ≡ sources_for n → map ≡ map_text → IsBuilt all map b
+    → IsBuilt (sources_for n) map_text b
 built_by n all map b e f h = subst (λ (m : List ℕ). IsBuilt (sources_for n) m b) f (subst (λ (ts : List (List ℕ)). IsBuilt ts map b) e h)

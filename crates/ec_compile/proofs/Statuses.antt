@@ -15,7 +15,8 @@ use Rattle.ec_build.specs.declared.stop.BuildStop.TheVariants as building
 use Rattle.ec_commands.specs.declared.stop.CommandError.{CommandError}
 use Rattle.ec_commands.specs.declared.stop.CommandError.TheVariants as commands
 use Rattle.ec_commands.specs.Stops as command_stops
-use Rattle.ec_compile.specs.Stops.{status_of, build_status, map_status, lex_status, parse_status, check_status, place_status}
+use Rattle.ec_compile.specs.Stops.{status_of, build_status, map_status, lex_status, parse_status, check_status}
+use Rattle.ec_compile.specs.Stops.{place_status}
 use Rattle.ec_compile.specs.declared.stop.CompileStop.{CompileStop}
 use Rattle.ec_compile.specs.declared.stop.CompileStop.TheVariants.{Command, Build}
 
@@ -54,7 +55,6 @@ build_not : (stop : BuildStop) → build_status stop ≡ 0 → ⊥
 build_not (building.Map stop) e = map_not stop e
 build_not (building.Lex unit stop) e = lex_not stop e
 build_not (building.Parse unit stop) e = parse_not stop e
-build_not (building.Later later) e = omega (arith, e)
 build_not (building.Check stop) e = check_not stop e
 build_not (building.Place stop) e = place_not stop e
 build_not building.NoMemory e = omega (arith, e)

@@ -18,7 +18,8 @@ use Rattle.ec_commands.specs.Words.{Words}
 use Rattle.ec_commands.specs.declared.stop.CommandError.TheVariants as commands
 use Rattle.ec_commands.proofs.RunComplete.{shown_stop}
 use Rattle.ec_compile.specs.Execs.{ExecStops}
-use Rattle.ec_compile.specs.Stops.{status_of, build_status, map_status, lex_status, parse_status, check_status, place_status}
+use Rattle.ec_compile.specs.Stops.{status_of, build_status, map_status, lex_status, parse_status, check_status}
+use Rattle.ec_compile.specs.Stops.{place_status}
 use Rattle.ec_compile.specs.declared.stop.CompileStop.{CompileStop}
 use Rattle.ec_compile.specs.declared.stop.CompileStop.TheVariants.{Command, Build}
 
@@ -57,14 +58,15 @@ pub build_not : (stop : BuildStop) → build_status stop ≡ 2 → ⊥
 build_not (building.Map stop) e = map_not stop e
 build_not (building.Lex unit stop) e = lex_not stop e
 build_not (building.Parse unit stop) e = parse_not stop e
-build_not (building.Later later) e = omega (arith, e)
 build_not (building.Check stop) e = check_not stop e
 build_not (building.Place stop) e = place_not stop e
 build_not building.NoMemory e = omega (arith, e)
 
-pub no_usage : (words : Words) (steps : ℕ) (hooks : Gives) (old new : StoreView) (out : SinkCall) (stop : CompileStop) → ExecStops words steps hooks old new out stop
+pub no_usage : (words : Words) (steps : ℕ) (hooks : Gives) (old new : StoreView) (out : SinkCall) (stop : CompileStop)
+    → ExecStops words steps hooks old new out stop
     → status_of stop ≡ 2 → ⊥
-no_usage words steps hooks old new out (Command commands.Usage) (inl h) e = elim h.0.1 [ inl x ↦ x | inr y ↦ elim y [ inl x ↦ x | inr x ↦ x ] ]
+no_usage words steps hooks old new out (Command commands.Usage) (inl h) e =
+    elim h.0.1 [ inl x ↦ x | inr y ↦ elim y [ inl x ↦ x | inr x ↦ x ] ]
 no_usage words steps hooks old new out (Command commands.Usage) (inr h) e =
     elim (shown_stop out.before out.after h.1.report.end h.1.trace commands.Usage h.1.shows) [
       | inl same ↦ cc

@@ -13,14 +13,16 @@ use Rattle.ec_compile.specs.Builds.{IsBuiltFrom, Builds, LeavesPrefix, HasImage}
 
 pub built : (words : Words) (old mid new : Option Disk) (b : Built) → KeepsAll old mid → Told (IsBuiltFrom words 3 b) old
     → (let r : Result Unit Failed = Ok tt in WritesFile (out_name words) mid new r (image_text b.located.image))
-    → Denotes b.located.image.core (image_text b.located.image) b.located.image.bytes.items b.located.image.written.items → Builds words old new
+    → Denotes b.located.image.core (image_text b.located.image) b.located.image.bytes.items b.located.image.written.items
+    → Builds words old new
 built words None mid new b kept from wrote denotes = tt
 built words (Some old) None new b kept from wrote denotes = absurd kept
 built words (Some old) (Some mid) None b kept from wrote denotes = absurd wrote
 built words (Some old) (Some mid) (Some new) b kept from wrote denotes = record {
   built = b;
   from = from;
-  denotes = subst (λ t. Denotes b.located.image.core t b.located.image.bytes.items b.located.image.written.items) (sym wrote.content) denotes;
+  denotes = subst (λ t. Denotes b.located.image.core t b.located.image.bytes.items b.located.image.written.items)
+      (sym wrote.content) denotes;
   others = wrote.others ∙ ap (λ (files : Files). remove files (out_name words)) kept;
 }
 
@@ -29,7 +31,8 @@ same_before name bytes old mid new kept h =
     record { content = h.content; others = h.others ∙ ap (λ (files : Files). remove files name) kept }
 
 pub left_front : (words : Words) (old mid new : Option Disk) (b : Built) (e : Failed) → KeepsAll old mid → Told (IsBuiltFrom words 3 b) old
-    → (let r : Result Unit Failed = Err e in WritesFile (out_name words) mid new r (image_text b.located.image)) → LeavesPrefix words old new
+    → (let r : Result Unit Failed = Err e in WritesFile (out_name words) mid new r (image_text b.located.image))
+    → LeavesPrefix words old new
 left_front words None mid new b e kept from wrote = tt
 left_front words (Some old) None new b e kept from wrote = absurd kept
 left_front words (Some old) (Some mid) None b e kept from wrote = absurd wrote

@@ -12,7 +12,6 @@ use Rattle.ec_build.specs.Accepted.{IsAccepted}
 use Rattle.ec_build.specs.Builds.{IsBuilt}
 use Rattle.ec_build.specs.Causes.{HasCause}
 use Rattle.ec_build.specs.declared.building.Built.{Built}
-use Rattle.ec_build.specs.declared.stop.BuildStop.{BuildStop}
 use Rattle.ec_commands.specs.Counts.{counts_of, ShowsCounts}
 use Rattle.ec_commands.specs.Runs.{Gives}
 use Rattle.ec_commands.specs.declared.stop.CommandError.{CommandError}

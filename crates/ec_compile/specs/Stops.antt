@@ -60,7 +60,6 @@ abbrev pub build_status : BuildStop → ℕ
 build_status (building.Map stop) = map_status stop
 build_status (building.Lex unit stop) = lex_status stop
 build_status (building.Parse unit stop) = parse_status stop
-build_status (building.Later later) = 7
 build_status (building.Check stop) = check_status stop
 build_status (building.Place stop) = place_status stop
 build_status building.NoMemory = 11
@@ -126,12 +125,11 @@ place_line (placing.NoSuchObject name) = codes "no object " ++ name.items ++ cod
 place_line (placing.Clash name other) = codes "clash " ++ name.items ++ codes " " ++ other.items ++ codes "\n"
 place_line placing.NoMemory = memory_line
 
--- of a build whose sources are named from this word on; a form that is not compiled yet is told as rule 0
+-- of a build whose sources are named from this word on
 abbrev pub build_line : Words → ℕ → BuildStop → List ℕ
 build_line words first (building.Map stop) = map_line stop
 build_line words first (building.Lex unit stop) = lex_line (unit_name words first unit) stop
 build_line words first (building.Parse unit stop) = parse_line (unit_name words first unit) stop
-build_line words first (building.Later later) = constraint_line (unit_name words first later.unit) later.token 0
 build_line words first (building.Check stop) = check_line words first stop
 build_line words first (building.Place stop) = place_line stop
 build_line words first building.NoMemory = memory_line

@@ -220,10 +220,6 @@ fn tell_build<E: Sink>(err: &mut E, words: &Vec<String>, first: usize, stop: &Bu
             let name = name_at(words, first + *unit as usize);
             tell_parse(err, words, name, *stop)
         }
-        BuildStop::Later(later) => {
-            let name = name_at(words, first + later.unit as usize);
-            tell_constraint(err, name, later.token, 0)
-        }
         BuildStop::Check(stop) => tell_check(err, words, first, stop),
         BuildStop::Place(stop) => tell_place(err, words, stop),
         BuildStop::NoMemory => tell(err, words, CommandError::NoMemory),

@@ -78,7 +78,6 @@ fn build_status(stop: &BuildStop) -> u8
         BuildStop::Map(stop) => map_status(*stop),
         BuildStop::Lex { stop, .. } => lex_status(*stop),
         BuildStop::Parse { stop, .. } => parse_status(*stop),
-        BuildStop::Later(_) => 7,
         BuildStop::Check(stop) => check_status(stop),
         BuildStop::Place(stop) => place_status(stop),
         BuildStop::NoMemory => 11,

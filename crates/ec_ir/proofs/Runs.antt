@@ -21,7 +21,7 @@ use Rattle.ec_ir.specs.Costs.{op_steps}
 use Rattle.ec_ir.specs.Laws.{OperationsAreRuns, StepsNeverFall}
 use Rattle.ec_ir.specs.Meaning.{Mach, machine, held_as, pointer_in, held_pointer, number_in, held_number, object_access, pointer_access, accessed_type, put_leaf, put, Frame, Place, place, find, Go, jump_to, enter, returned, resulted, leave, element_of_port, in_ports, port_read, port_written, perform, exec_from, exec, start, pointer_at, run}
 use Rattle.ec_ir.specs.Operations.{PlainIr, constant, copy, address, field, load_at, store_at, load_object, store_object, binary_op, unary_op, conversion, label, jump, branch_zero, call_function, return_from, port_in, port_out, PlainIrFunction, PlainIrProgram, data_of}
-use Rattle.ec_ir.specs.Temporaries.{Content, bits, points, value_in, is_zero, Held, Temps, no_temps, with_content, with_temp, read_held, held}
+use Rattle.ec_ir.specs.Temporaries.{Content, bits, points, value_in, value_of_type, is_zero, Held, Temps, no_temps, with_content, with_temp, read_held, held}
 use Rattle.ec_ir.specs.declared.operations.Temp.{Temp}
 
 -- what comes of a state: its events begin with those of the state, and its work is no less
@@ -65,8 +65,8 @@ adds_held t temps s = at_place (temps t.at)
     at_place None = stays {A = Content} s (undefined Unset s) refl
     at_place (Some h) = if_bytes (h.bytes == t.bytes) h.content
 
-adds_held_as : (ty : PlainType) (t : Temp) (temps : Temps) (s : State) → Adds s (held_as ty t temps s)
-adds_held_as ty t temps s = adds_next s (held t temps s) _ (adds_held t temps s) (λ content s1. adds_given (value_in ty content) s1)
+adds_held_as : (program : PlainProgram) (ty : PlainType) (t : Temp) (temps : Temps) (s : State) → Adds s (held_as program ty t temps s)
+adds_held_as program ty t temps s = adds_next s (held t temps s) _ (adds_held t temps s) (λ content s1. adds_given (value_of_type program ty content) s1)
 
 adds_pointer_in : (content : Content) (s : State) → Adds s (pointer_in content s)
 adds_pointer_in (bits zero) s = stays s (got None s) refl
@@ -112,7 +112,7 @@ adds_put_leaf (Some a) v s = by_home (holds Flash a.declared.home)
     by_home false = let k = record_adds a.declared.storage _ v _ in record { events = k.events; work = k.work }
 
 adds_put : (program : PlainProgram) (a : Option Access) (t : Temp) (temps : Temps) (s : State) → Adds s (put program a t temps s)
-adds_put program a t temps s = adds_next s (held_as (accessed_type program a) t temps s) _ (adds_held_as (accessed_type program a) t temps s) (λ v s1. adds_put_leaf a v s1)
+adds_put program a t temps s = adds_next s (held_as program (accessed_type program a) t temps s) _ (adds_held_as program (accessed_type program a) t temps s) (λ v s1. adds_put_leaf a v s1)
 
 -- ---- returns and ports
 
@@ -175,19 +175,19 @@ module _ (functions : List PlainIrFunction) (program : PlainProgram) (inputs : I
     perform_adds (field ptr space offset) code stack rest temps s =
         adds_next s (held_pointer ptr temps s) _ (adds_pointer ptr temps s) (λ p s1. adds_next s1 (given (moved p (referent_of program p s1) (pos offset)) s1) _ (adds_given (moved p (referent_of program p s1) (pos offset)) s1) (λ q s2. h (machine (with_temp ptr (Pointer q) temps) s2)))
     perform_adds (load_at to ptr space) code stack rest temps s =
-        adds_next s (held_pointer ptr temps s) _ (adds_pointer ptr temps s) (λ p s1. adds_next s1 (read program (pointer_access program space p s1) s1) _ (adds_read program (pointer_access program space p s1) s1) (λ x s2. g (place code stack rest) (machine (with_temp to x temps) s2)))
+        adds_next s (held_pointer ptr temps s) _ (adds_pointer ptr temps s) (λ p s1. adds_next s1 (read program (pointer_access program space to.bytes p s1) s1) _ (adds_read program (pointer_access program space to.bytes p s1) s1) (λ x s2. g (place code stack rest) (machine (with_temp to x temps) s2)))
     perform_adds (store_at ptr space from) code stack rest temps s =
-        adds_next s (held_pointer ptr temps s) _ (adds_pointer ptr temps s) (λ p s1. adds_next s1 (put program (pointer_access program space p s1) from temps s1) _ (adds_put program (pointer_access program space p s1) from temps s1) (λ x s2. g (place code stack rest) (machine temps s2)))
+        adds_next s (held_pointer ptr temps s) _ (adds_pointer ptr temps s) (λ p s1. adds_next s1 (put program (pointer_access program space from.bytes p s1) from temps s1) _ (adds_put program (pointer_access program space from.bytes p s1) from temps s1) (λ x s2. g (place code stack rest) (machine temps s2)))
     perform_adds (load_object t o offset) code stack rest temps s =
         adds_next s (read program (object_access program None o offset s) s) _ (adds_read program (object_access program None o offset s) s) (λ x s1. g (place code stack rest) (machine (with_temp t x temps) s1))
     perform_adds (store_object o offset t) code stack rest temps s =
         adds_next s (put program (object_access program None o offset s) t temps s) _ (adds_put program (object_access program None o offset s) t temps s) (λ x s1. g (place code stack rest) (machine temps s1))
     perform_adds (binary_op op ty mode to a aty b bty) code stack rest temps s =
-        adds_next s (held_as aty a temps s) _ (adds_held_as aty a temps s) (λ x s1. adds_next s1 (held_as bty b temps s1) _ (adds_held_as bty b temps s1) (λ y s2. adds_next s2 (given (binary_result op ty mode (operand_of program aty x s2) (operand_of program bty y s2)) s2) _ (adds_given (binary_result op ty mode (operand_of program aty x s2) (operand_of program bty y s2)) s2) (λ v s3. h (machine (with_temp to v temps) s3))))
+        adds_next s (held_as program aty a temps s) _ (adds_held_as program aty a temps s) (λ x s1. adds_next s1 (held_as program bty b temps s1) _ (adds_held_as program bty b temps s1) (λ y s2. adds_next s2 (given (binary_result op ty mode (operand_of program aty x s2) (operand_of program bty y s2)) s2) _ (adds_given (binary_result op ty mode (operand_of program aty x s2) (operand_of program bty y s2)) s2) (λ v s3. h (machine (with_temp to v temps) s3))))
     perform_adds (unary_op op ty mode to a) code stack rest temps s =
-        adds_next s (held_as ty a temps s) _ (adds_held_as ty a temps s) (λ x s1. adds_next s1 (given (unary_result op ty mode x) s1) _ (adds_given (unary_result op ty mode x) s1) (λ v s2. h (machine (with_temp to v temps) s2)))
+        adds_next s (held_as program ty a temps s) _ (adds_held_as program ty a temps s) (λ x s1. adds_next s1 (given (unary_result op ty mode x) s1) _ (adds_given (unary_result op ty mode x) s1) (λ v s2. h (machine (with_temp to v temps) s2)))
     perform_adds (conversion to ty mode a aty) code stack rest temps s =
-        adds_next s (held_as aty a temps s) _ (adds_held_as aty a temps s) (λ x s1. adds_next s1 (given (conversion_result ty mode (operand_of program aty x s1)) s1) _ (adds_given (conversion_result ty mode (operand_of program aty x s1)) s1) (λ v s2. h (machine (with_temp to v temps) s2)))
+        adds_next s (held_as program aty a temps s) _ (adds_held_as program aty a temps s) (λ x s1. adds_next s1 (given (conversion_result ty mode (operand_of program aty x s1)) s1) _ (adds_given (conversion_result ty mode (operand_of program aty x s1)) s1) (λ v s2. h (machine (with_temp to v temps) s2)))
     perform_adds (label l) code stack rest temps s = h (machine temps s)
     perform_adds (jump l) code stack rest temps s = jump_adds (find l code) code stack (machine temps s)
     perform_adds (branch_zero t l) code stack rest temps s =
@@ -251,14 +251,14 @@ module _ (functions : List PlainIrFunction) (program : PlainProgram) (inputs : I
     perform_later (copy to from) code stack rest temps s = later_next (held from temps s) _ _ (λ content s1. k (machine (with_content to content temps) s1))
     perform_later (address t o offset) code stack rest temps s = k (machine (with_temp t (pointer_at o offset) temps) s)
     perform_later (field ptr space offset) code stack rest temps s = later_next (held_pointer ptr temps s) _ _ (λ p s1. later_next (given (moved p (referent_of program p s1) (pos offset)) s1) _ _ (λ q s2. k (machine (with_temp ptr (Pointer q) temps) s2)))
-    perform_later (load_at to ptr space) code stack rest temps s = later_next (held_pointer ptr temps s) _ _ (λ p s1. later_next (read program (pointer_access program space p s1) s1) _ _ (λ x s2. e (place code stack rest) (machine (with_temp to x temps) s2)))
-    perform_later (store_at ptr space from) code stack rest temps s = later_next (held_pointer ptr temps s) _ _ (λ p s1. later_next (put program (pointer_access program space p s1) from temps s1) _ _ (λ x s2. e (place code stack rest) (machine temps s2)))
+    perform_later (load_at to ptr space) code stack rest temps s = later_next (held_pointer ptr temps s) _ _ (λ p s1. later_next (read program (pointer_access program space to.bytes p s1) s1) _ _ (λ x s2. e (place code stack rest) (machine (with_temp to x temps) s2)))
+    perform_later (store_at ptr space from) code stack rest temps s = later_next (held_pointer ptr temps s) _ _ (λ p s1. later_next (put program (pointer_access program space from.bytes p s1) from temps s1) _ _ (λ x s2. e (place code stack rest) (machine temps s2)))
     perform_later (load_object t o offset) code stack rest temps s = later_next (read program (object_access program None o offset s) s) _ _ (λ x s1. e (place code stack rest) (machine (with_temp t x temps) s1))
     perform_later (store_object o offset t) code stack rest temps s = later_next (put program (object_access program None o offset s) t temps s) _ _ (λ x s1. e (place code stack rest) (machine temps s1))
     perform_later (binary_op op ty mode to a aty b bty) code stack rest temps s =
-        later_next (held_as aty a temps s) _ _ (λ x s1. later_next (held_as bty b temps s1) _ _ (λ y s2. later_next (given (binary_result op ty mode (operand_of program aty x s2) (operand_of program bty y s2)) s2) _ _ (λ v s3. k (machine (with_temp to v temps) s3))))
-    perform_later (unary_op op ty mode to a) code stack rest temps s = later_next (held_as ty a temps s) _ _ (λ x s1. later_next (given (unary_result op ty mode x) s1) _ _ (λ v s2. k (machine (with_temp to v temps) s2)))
-    perform_later (conversion to ty mode a aty) code stack rest temps s = later_next (held_as aty a temps s) _ _ (λ x s1. later_next (given (conversion_result ty mode (operand_of program aty x s1)) s1) _ _ (λ v s2. k (machine (with_temp to v temps) s2)))
+        later_next (held_as program aty a temps s) _ _ (λ x s1. later_next (held_as program bty b temps s1) _ _ (λ y s2. later_next (given (binary_result op ty mode (operand_of program aty x s2) (operand_of program bty y s2)) s2) _ _ (λ v s3. k (machine (with_temp to v temps) s3))))
+    perform_later (unary_op op ty mode to a) code stack rest temps s = later_next (held_as program ty a temps s) _ _ (λ x s1. later_next (given (unary_result op ty mode x) s1) _ _ (λ v s2. k (machine (with_temp to v temps) s2)))
+    perform_later (conversion to ty mode a aty) code stack rest temps s = later_next (held_as program aty a temps s) _ _ (λ x s1. later_next (given (conversion_result ty mode (operand_of program aty x s1)) s1) _ _ (λ v s2. k (machine (with_temp to v temps) s2)))
     perform_later (label l) code stack rest temps s = k (machine temps s)
     perform_later (jump l) code stack rest temps s = jump_later (find l code) code stack (machine temps s)
     perform_later (branch_zero t l) code stack rest temps s =

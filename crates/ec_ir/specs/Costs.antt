@@ -20,6 +20,10 @@ use Rattle.ec_ir.specs.declared.operations.Temp.{Temp}
 abbrev pub copy_words : ℕ → ℕ
 copy_words bytes = 5 * bytes
 
+-- an address in a work register, and so many bytes stored there
+abbrev pub store_words : ℕ → ℕ
+store_words bytes = 30 + 5 * bytes
+
 abbrev pub branch_zero_words : ℕ → ℕ
 branch_zero_words bytes = 6 + 3 * bytes
 
@@ -64,7 +68,7 @@ op_words (copy to from) = copy_words to.bytes
 op_words (address t o offset) = copy_words t.bytes
 op_words (field ptr space offset) = member_words
 op_words (load_at to ptr space) = simple_words (max to.bytes (width space))
-op_words (store_at ptr space from) = simple_words (max from.bytes (width space))
+op_words (store_at ptr space from) = store_words (max from.bytes (width space))
 op_words (load_object t o offset) = copy_words t.bytes
 op_words (store_object o offset t) = copy_words t.bytes
 op_words (binary_op op ty mode to a aty b bty) = binary_words op ty aty bty

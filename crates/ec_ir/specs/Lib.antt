@@ -1,6 +1,5 @@
 -- The definitions that the contracts of the intermediate program cite.
 pub mod Costs
-pub mod Integers
 pub mod Laws
 pub mod Meaning
 pub mod Operations

@@ -1,7 +1,8 @@
 -- What an intermediate program does. Its objects have one home each: they are those of a program's state, all live and
 -- in their only instance, and a pointer tells an object and an offset. Where an operation fails, the run has no
 -- meaning.
-use Rattle.std.specs.Prelude.{ℕ, zero, suc, ◌+◌, ◌*◌, ◌==◌, nat_le, true, if◌then◌else◌, ℤ, pos, List, [], ◌∷◌, map}
+use Rattle.std.specs.Prelude.{ℕ, zero, suc, ◌+◌, ◌*◌, ◌==◌, nat_le, Bool, true, ◌&&◌, if◌then◌else◌, ℤ, pos, List, []}
+use Rattle.std.specs.Prelude.{◌∷◌, map}
 use Rattle.std.specs.Prelude.{Option, Some, None, option_map, option_and_then, unwrap_or, slice_get}
 use Rattle.std.specs.List.{position_from}
 use Rattle.ec_runs.specs.Behaviours.{Behaviour}
@@ -13,7 +14,7 @@ use Rattle.ec_core.specs.declared.values.Undefined.TheVariants.{Access as NoAcce
 use Rattle.ec_core.specs.declared.values.Value.{Value}
 use Rattle.ec_core.specs.declared.values.Value.TheVariants.{Number, Pointer}
 use Rattle.ec_core.specs.Accesses.{referent_of, operand_of, leaf_count, Access, read, first_write}
-use Rattle.ec_core.specs.Layout.{leaves_of_type}
+use Rattle.ec_core.specs.Layout.{scalar_size, leaves_of_type}
 use Rattle.ec_core.specs.Meaning.{initial_object, behaviour_of, state_of}
 use Rattle.ec_core.specs.Operators.{unary_result, binary_result, conversion_result, unsuited}
 use Rattle.ec_core.specs.Plain.{PlainType, void, PlainObject, PlainProgram}
@@ -26,8 +27,8 @@ use Rattle.ec_ir.specs.Operations.{PlainIr, constant, copy, address, field, load
 use Rattle.ec_ir.specs.Operations.{store_object, binary_op, unary_op, conversion, label, jump, branch_zero}
 use Rattle.ec_ir.specs.Operations.{call_function, return_from, port_in, port_out, PlainIrFunction, PlainIrProgram}
 use Rattle.ec_ir.specs.Operations.{data_of}
-use Rattle.ec_ir.specs.Temporaries.{Content, bits, points, value_in, is_zero, Held, Temps, no_temps, with_held}
-use Rattle.ec_ir.specs.Temporaries.{with_content, with_temp, held}
+use Rattle.ec_ir.specs.Temporaries.{Content, bits, points, value_in, value_of_type, is_zero, Held, Temps, no_temps}
+use Rattle.ec_ir.specs.Temporaries.{with_held, with_content, with_temp, held}
 use Rattle.ec_ir.specs.declared.operations.Temp.{Temp}
 
 -- ---- machines: the temporaries of the active function, and a program's state, whose work counts steps
@@ -40,8 +41,8 @@ abbrev pub machine : Temps → State → Mach
 machine temps s = record { temps = temps; state = s }
 
 -- the value of a type that a temporary holds
-abbrev pub held_as : PlainType → Temp → Temps → State → Outcome Value
-held_as ty t temps s = next (held t temps s) (λ content s1. given (value_in ty content) s1)
+abbrev pub held_as : PlainProgram → PlainType → Temp → Temps → State → Outcome Value
+held_as program ty t temps s = next (held t temps s) (λ content s1. given (value_of_type program ty content) s1)
 
 -- the pointer that it holds
 abbrev pub pointer_in : Content → State → Outcome PointerValue
@@ -80,15 +81,21 @@ object_access program space o offset s =
     option_and_then (λ d. option_and_then (λ x. option_map (access_at space o d x) (leaf_from program d offset))
     (slice_get s.objects o)) (slice_get program.objects o)
 
-abbrev pub pointer_access : PlainProgram → SpaceId → PointerValue → State → Option Access
-pointer_access program space to s =
-    option_and_then (λ p. object_access program (Some space) p.object p.offset s) to
-
 -- the type of an accessed leaf
 abbrev pub accessed_type : PlainProgram → Option Access → PlainType
 accessed_type program a =
     unwrap_or (option_and_then (λ x. option_map (λ leaf. leaf.ty)
     (slice_get (leaves_of_type program.structs x.declared.ty) x.leaf)) a) void
+
+-- an access of so many bytes through a space, which the object's home is in
+abbrev pub is_access_of : PlainProgram → SpaceId → (bytes : ℕ) → Access → Bool
+is_access_of program space bytes a =
+    holds space a.declared.home && scalar_size (accessed_type program (Some a)) == bytes
+
+abbrev pub pointer_access : PlainProgram → SpaceId → (bytes : ℕ) → PointerValue → State → Option Access
+pointer_access program space bytes to s =
+    option_and_then (λ a. if is_access_of program space bytes a then Some a else None)
+    (option_and_then (λ p. object_access program (Some space) p.object p.offset s) to)
 
 -- a leaf gets a value: a const object's too, whose initialisation is a store, but none that is kept in flash
 abbrev pub put_leaf : Option Access → Value → State → Outcome Value
@@ -97,7 +104,7 @@ put_leaf (Some a) v s = if holds Flash a.declared.home then undefined ConstWrite
 
 -- the value of the leaf's type that a temporary holds
 abbrev pub put : PlainProgram → Option Access → Temp → Temps → State → Outcome Value
-put program a t temps s = next (held_as (accessed_type program a) t temps s) (λ v s1. put_leaf a v s1)
+put program a t temps s = next (held_as program (accessed_type program a) t temps s) (λ v s1. put_leaf a v s1)
 
 -- ---- places in the code
 
@@ -194,25 +201,25 @@ module _ (functions : List PlainIrFunction) (program : PlainProgram) (inputs : I
       (λ p s1. next (given (moved p (referent_of program p s1) (pos offset)) s1)
       (λ q s2. on (machine (with_temp ptr (Pointer q) temps) s2)))
   perform (binary_op op ty mode to a aty b bty) on go code stack rest temps s =
-      next (held_as aty a temps s)
-      (λ x s1. next (held_as bty b temps s1)
+      next (held_as program aty a temps s)
+      (λ x s1. next (held_as program bty b temps s1)
       (λ y s2. next (given (binary_result op ty mode (operand_of program aty x s2) (operand_of program bty y s2)) s2)
       (λ v s3. on (machine (with_temp to v temps) s3))))
   perform (unary_op op ty mode to a) on go code stack rest temps s =
-      next (held_as ty a temps s)
+      next (held_as program ty a temps s)
       (λ x s1. next (given (unary_result op ty mode x) s1) (λ v s2. on (machine (with_temp to v temps) s2)))
   perform (conversion to ty mode a aty) on go code stack rest temps s =
-      next (held_as aty a temps s)
+      next (held_as program aty a temps s)
       (λ x s1. next (given (conversion_result ty mode (operand_of program aty x s1)) s1)
       (λ v s2. on (machine (with_temp to v temps) s2)))
   perform (label l) on go code stack rest temps s = on (machine temps s)
   perform (load_at to ptr space) on go code stack rest temps s =
       next (held_pointer ptr temps s)
-      (λ p s1. next (read program (pointer_access program space p s1) s1)
+      (λ p s1. next (read program (pointer_access program space to.bytes p s1) s1)
       (λ x s2. go (place code stack rest) (machine (with_temp to x temps) s2)))
   perform (store_at ptr space from) on go code stack rest temps s =
       next (held_pointer ptr temps s)
-      (λ p s1. next (put program (pointer_access program space p s1) from temps s1)
+      (λ p s1. next (put program (pointer_access program space from.bytes p s1) from temps s1)
       (λ x s2. go (place code stack rest) (machine temps s2)))
   perform (load_object t o offset) on go code stack rest temps s =
       next (read program (object_access program None o offset s) s)

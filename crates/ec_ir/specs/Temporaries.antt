@@ -2,16 +2,18 @@
 -- object, which are not told. The bytes of null are 0. An operation that names a type sees the value of that type which
 -- the bytes stand for.
 use Rattle.std.specs.Prelude.{ℕ, zero, suc, ◌*◌, ◌/◌, ◌^◌, ◌==◌, nat_le, Bool, false, ◌&&◌, if◌then◌else◌, ℤ, pos}
-use Rattle.std.specs.Prelude.{◌-ℤ◌, unsigned_abs, Option, Some, None, Result, Ok}
+use Rattle.std.specs.Prelude.{◌-ℤ◌, unsigned_abs, Option, Some, None, option_map, unwrap_or, Result, Ok, slice_get}
 use Rattle.std.specs.Int.{int_rem_euclid}
 use Rattle.ec_fx.specs.Formats.{format_of}
+use Rattle.ec_space.specs.declared.space.SpaceId.{SpaceId}
+use Rattle.ec_space.specs.Spaces.{holds}
 use Rattle.ec_core.specs.declared.values.ObjectPointer.{ObjectPointer}
 use Rattle.ec_core.specs.declared.values.Undefined.{Undefined}
 use Rattle.ec_core.specs.declared.values.Undefined.TheVariants.{Unset}
 use Rattle.ec_core.specs.declared.values.Value.{Value}
 use Rattle.ec_core.specs.declared.values.Value.TheVariants.{Number, Pointer}
 use Rattle.ec_core.specs.Operators.{unsuited}
-use Rattle.ec_core.specs.Plain.{PlainType, integer, fixed, pointer}
+use Rattle.ec_core.specs.Plain.{PlainType, integer, fixed, pointer, PlainProgram}
 use Rattle.ec_core.specs.State.{State, Outcome, got, undefined}
 use Rattle.ec_ir.specs.declared.operations.Temp.{Temp}
 
@@ -46,6 +48,17 @@ value_in (pointer space const to) (bits zero) = Ok (Pointer None)
 value_in (pointer space const to) (bits (suc low)) = unsuited
 value_in (pointer space const to) (points p) = Ok (Pointer (Some p))
 value_in ty content = unsuited
+
+-- the home of a pointer's object is in a space
+abbrev pub is_in_space : PlainProgram → SpaceId → ObjectPointer → Bool
+is_in_space program space p =
+    unwrap_or (option_map (λ o. holds space o.home) (slice_get program.objects p.object)) false
+
+-- the same in a program, where a pointer is into the space of its type
+abbrev pub value_of_type : PlainProgram → PlainType → Content → Result Value Undefined
+value_of_type program (pointer space const to) (points p) =
+    if is_in_space program space p then Ok (Pointer (Some p)) else unsuited
+value_of_type program ty content = value_in ty content
 
 abbrev pub is_zero : Content → Bool
 is_zero (bits low) = low == 0

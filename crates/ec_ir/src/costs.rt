@@ -123,9 +123,8 @@ pub fn op_words(i: &Ir) -> u32
             * t.bytes as u32,
         Ir::Copy(to, _) => 5 * to.bytes as u32,
         Ir::Field { .. } => 30,
-        Ir::Load { to: t, space, .. } | Ir::Store { from: t, space, .. } => simple_words(
-            t.bytes.max(width(*space)),
-        ),
+        Ir::Load { to, space, .. } => simple_words(to.bytes.max(width(*space))),
+        Ir::Store { from, space, .. } => 30 + 5 * from.bytes.max(width(*space)) as u32,
         Ir::Bin {
             op,
             ty,

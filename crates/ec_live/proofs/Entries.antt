@@ -4,7 +4,7 @@ use Rattle.std.proofs.Common.{length, get_or, set, replicate, ⊎_elim, get_or-s
 use Rattle.std.proofs.Common.{true, false, ◌+◌, below_more}
 use Rattle.std.proofs.lemmas.List.{map-set, get_or-map, get_or_default}
 use Rattle.std.proofs.lemmas.Bool.{cases_eq}
-use Rattle.ec_select_functions.specs.Needs.{Need}
+use Rattle.ec_select_operations.specs.Needs.{Need}
 use Rattle.ec_live.specs.Tables.{need_of, needs_of, IsBounded, IsTable, NeedsNoMore, TellNoMore, row_room}
 use Rattle.ec_live.specs.Tables.{room}
 
@@ -50,7 +50,8 @@ raised_cases rows l place n k p P h here other =
     ⊎_elim
     (λ (again : p ≡ place).
     let e : needs_of (raised rows l place n) k p ≡ n =
-    ap (λ x. needs_of (raised rows l place n) x p) same ∙ ap (λ x. needs_of (raised rows l place n) l x) again ∙ raised_here rows l place n h in
+    ap (λ x. needs_of (raised rows l place n) x p) same ∙ ap (λ x. needs_of (raised rows l place n) l x) again
+    ∙ raised_here rows l place n h in
     subst P (sym e) (here same again))
     (λ (o : p ≡ place → ⊥).
     let e : needs_of (raised rows l place n) k p ≡ needs_of rows k p =

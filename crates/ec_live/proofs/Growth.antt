@@ -11,10 +11,11 @@ use Rattle.ec_ir.specs.Operations.{PlainIr, constant, copy, address, field, load
 use Rattle.ec_ir.specs.Operations.{store_object, binary_op, unary_op, conversion, label, jump, branch_zero}
 use Rattle.ec_ir.specs.Operations.{call_function, return_from, port_in, port_out}
 use Rattle.ec_ir.specs.Valid.{count}
-use Rattle.ec_select_functions.specs.Needs.{Need, everything, at_least, without, either, wanted, is_of_low_bytes}
-use Rattle.ec_select_functions.specs.Needs.{is_fixed, first_wanted, second_wanted, only_wanted}
-use Rattle.ec_select_functions.specs.Needs.{index_needed, all_or_none, operand_wanted, right_wanted, returned_need, before, needs}
-use Rattle.ec_select_functions.specs.Needs.{IsLive}
+use Rattle.ec_select_operations.specs.Needs.{Need, at_least, without, either, wanted, is_of_low_bytes}
+use Rattle.ec_select_operations.specs.Needs.{is_whole, first_wanted, second_wanted, only_wanted}
+use Rattle.ec_select_operations.specs.Needs.{index_needed, all_or_none, operand_wanted, right_wanted, returned_need}
+use Rattle.ec_select_operations.specs.Needs.{before, needs}
+use Rattle.ec_select_operations.specs.Needs.{IsLive}
 use Rattle.ec_live.specs.Least.{HasLabel, HaveLabels, IsLeast}
 use Rattle.ec_live.specs.Places.{HasPlace, HasPlaces}
 use Rattle.ec_live.specs.Tables.{need_of, needs_of, AreSame, IsJoined, NeedsNoMore, TellNoMore}
@@ -72,7 +73,8 @@ more_alone s whole to from a b l h =
 more_value : (s : ℕ) (to from : Temp) (a b : Need) → HasPlace s to → NeedsNoMore s a b
     → NeedsNoMore s (at_least from.at (wanted a to) (without to.at a)) (at_least from.at (wanted b to) (without to.at b))
 more_value s to from a b l h =
-    more_least s from.at (wanted a to) (wanted b to) (without to.at a) (without to.at b) (more_wanted s to a b l h) (more_without s to.at a b h)
+    more_least s from.at (wanted a to) (wanted b to) (without to.at a) (without to.at b) (more_wanted s to a b l h)
+    (more_without s to.at a b h)
 
 more_index : (s : ℕ) (index : Option Temp) (a b : Need) → NeedsNoMore s a b
     → NeedsNoMore s (index_needed index a) (index_needed index b)
@@ -89,27 +91,31 @@ before_more n s at other (copy to from) a b l k q h = more_value s to from a b l
 before_more n s at other (load_object t o offset) a b l k q h = more_without s t.at a b h
 before_more n s at other (store_object o offset t) a b l k q h = more_least s t.at t.bytes t.bytes a b (omega arith) h
 before_more n s at other (binary_op op ty mode to x xty y yty) a b l k q h =
-    let w = is_fixed xty || is_fixed yty in
+    let w = is_whole xty || is_whole yty in
     more_least s x.at (first_wanted w op x.bytes (wanted a to)) (first_wanted w op x.bytes (wanted b to))
     (at_least y.at (second_wanted w op y.bytes (wanted a to)) (without to.at a))
     (at_least y.at (second_wanted w op y.bytes (wanted b to)) (without to.at b))
     (more_first w op x.bytes (wanted a to) (wanted b to) (more_wanted s to a b l.0 h))
     (more_least s y.at (second_wanted w op y.bytes (wanted a to)) (second_wanted w op y.bytes (wanted b to)) (without to.at a)
     (without to.at b) (more_second w op y.bytes (wanted a to) (wanted b to) (more_wanted s to a b l.0 h)) (more_without s to.at a b h))
-before_more n s at other (unary_op op ty mode to x) a b l k q h = more_alone s (is_fixed ty) to x a b l.0 h
-before_more n s at other (conversion to ty mode x xty) a b l k q h = more_alone s (is_fixed ty || is_fixed xty) to x a b l.0 h
+before_more n s at other (unary_op op ty mode to x) a b l k q h = more_alone s (is_whole ty) to x a b l.0 h
+before_more n s at other (conversion to ty mode x xty) a b l k q h = more_alone s (is_whole ty || is_whole xty) to x a b l.0 h
 before_more n s at other (branch_zero t j) a b l k q h =
     more_least s t.at t.bytes t.bytes (either a (at j)) (either b (other j)) (omega arith) (more_either s a b (at j) (other j) h (q j k))
 before_more n s at other (return_from from) a b l k q h = same_needs s (returned_need from)
 before_more n s at other (label j) a b l k q h = q j k
 before_more n s at other (jump j) a b l k q h = q j k
-before_more n s at other (address t o offset) a b l k q h = same_needs s everything
-before_more n s at other (field ptr space offset) a b l k q h = same_needs s everything
-before_more n s at other (load_at to ptr space) a b l k q h = same_needs s everything
-before_more n s at other (store_at ptr space from) a b l k q h = same_needs s everything
+before_more n s at other (address t o offset) a b l k q h = more_without s t.at a b h
+before_more n s at other (field ptr space offset) a b l k q h = more_least s ptr.at ptr.bytes ptr.bytes a b (omega arith) h
+before_more n s at other (load_at to ptr space) a b l k q h =
+    more_least s ptr.at ptr.bytes ptr.bytes (without to.at a) (without to.at b) (omega arith) (more_without s to.at a b h)
+before_more n s at other (store_at ptr space from) a b l k q h =
+    more_least s from.at from.bytes from.bytes (at_least ptr.at ptr.bytes a) (at_least ptr.at ptr.bytes b) (omega arith)
+    (more_least s ptr.at ptr.bytes ptr.bytes a b (omega arith) h)
 before_more n s at other (call_function f None) a b l k q h = h
 before_more n s at other (call_function f (Some t)) a b l k q h = more_without s t.at a b h
-before_more n s at other (port_in to port index width) a b l k q h = more_index s index (without to.at a) (without to.at b) (more_without s to.at a b h)
+before_more n s at other (port_in to port index width) a b l k q h =
+    more_index s index (without to.at a) (without to.at b) (more_without s to.at a b h)
 before_more n s at other (port_out from port index width) a b l k q h =
     more_least s from.at width width (index_needed index a) (index_needed index b) (omega arith) (more_index s index a b h)
 

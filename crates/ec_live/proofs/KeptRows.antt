@@ -5,9 +5,9 @@ use Rattle.std.proofs.lemmas.List.{drop-set}
 use Rattle.ec_ir.specs.Operations.{PlainIr, constant, copy, address, field, load_at, store_at, load_object}
 use Rattle.ec_ir.specs.Operations.{store_object, binary_op, unary_op, conversion, label, jump, branch_zero}
 use Rattle.ec_ir.specs.Operations.{call_function, return_from, port_in, port_out}
-use Rattle.ec_select_functions.specs.Code.{register_places}
-use Rattle.ec_select_functions.specs.Needs.{Need, needs, without_result}
-use Rattle.ec_select_functions.specs.Written.{row_from, kept_row, kept_rows}
+use Rattle.ec_select_operations.specs.Code.{register_places}
+use Rattle.ec_select_operations.specs.Needs.{Need, needs, without_result}
+use Rattle.ec_select_operations.specs.Written.{row_from, kept_row, kept_rows}
 use Rattle.ec_live.specs.Tables.{need_of, AreSame}
 use Rattle.ec_live.proofs.Operations.{same_result}
 

@@ -9,11 +9,12 @@ use Rattle.ec_ir.specs.declared.operations.Temp.{Temp}
 use Rattle.ec_ir.specs.Operations.{PlainIr, constant, copy, address, field, load_at, store_at, load_object}
 use Rattle.ec_ir.specs.Operations.{store_object, binary_op, unary_op, conversion, label, jump, branch_zero}
 use Rattle.ec_ir.specs.Operations.{call_function, return_from, port_in, port_out}
-use Rattle.ec_select_functions.specs.Code.{result_wanted, wanted_behind}
-use Rattle.ec_select_functions.specs.Needs.{Need, nothing, at_least, without, either, wanted, is_of_low_bytes}
-use Rattle.ec_select_functions.specs.Needs.{all_or_none, is_fixed, first_wanted, second_wanted, only_wanted}
-use Rattle.ec_select_functions.specs.Needs.{index_needed, operand_wanted, right_wanted, returned_need, without_result, before}
-use Rattle.ec_select_functions.specs.Needs.{needs}
+use Rattle.ec_select_operations.specs.Code.{result_wanted, wanted_behind}
+use Rattle.ec_select_operations.specs.Needs.{Need, nothing, at_least, without, either, wanted, is_of_low_bytes}
+use Rattle.ec_select_operations.specs.Needs.{all_or_none, is_whole, first_wanted, second_wanted, only_wanted}
+use Rattle.ec_select_operations.specs.Needs.{index_needed, operand_wanted, right_wanted, returned_need, without_result}
+use Rattle.ec_select_operations.specs.Needs.{before}
+use Rattle.ec_select_operations.specs.Needs.{needs}
 use Rattle.ec_live.specs.Places.{HasPlace, MayHavePlace, HasPlaces, HavePlaces}
 use Rattle.ec_live.specs.Tables.{AreSame, IsBounded, AreBounded}
 
@@ -36,7 +37,8 @@ same_wanted s t a b l h = ap (λ x. min x t.bytes) (h t.at l.0)
 same_value : (s : ℕ) (to from : Temp) (a b : Need) → HasPlace s to → AreSame s a b
     → AreSame s (at_least from.at (wanted a to) (without to.at a)) (at_least from.at (wanted b to) (without to.at b))
 same_value s to from a b l h =
-    same_least s from.at (wanted a to) (wanted b to) (without to.at a) (without to.at b) (same_wanted s to a b l h) (same_without s to.at a b h)
+    same_least s from.at (wanted a to) (wanted b to) (without to.at a) (without to.at b) (same_wanted s to a b l h)
+    (same_without s to.at a b h)
 
 same_only : (s : ℕ) (whole : Bool) (to from : Temp) (a b : Need) → HasPlace s to → AreSame s a b
     → AreSame s (at_least from.at (only_wanted whole from.bytes (wanted a to)) (without to.at a))
@@ -61,24 +63,27 @@ before_same s at (copy to from) a b l h = same_value s to from a b l.0 h
 before_same s at (load_object t o offset) a b l h = same_without s t.at a b h
 before_same s at (store_object o offset t) a b l h = same_least s t.at t.bytes t.bytes a b refl h
 before_same s at (binary_op op ty mode to x xty y yty) a b l h =
-    let w = is_fixed xty || is_fixed yty in
+    let w = is_whole xty || is_whole yty in
     same_least s x.at (first_wanted w op x.bytes (wanted a to)) (first_wanted w op x.bytes (wanted b to))
     (at_least y.at (second_wanted w op y.bytes (wanted a to)) (without to.at a))
     (at_least y.at (second_wanted w op y.bytes (wanted b to)) (without to.at b))
     (ap (first_wanted w op x.bytes) (same_wanted s to a b l.0 h))
     (same_least s y.at (second_wanted w op y.bytes (wanted a to)) (second_wanted w op y.bytes (wanted b to)) (without to.at a)
     (without to.at b) (ap (second_wanted w op y.bytes) (same_wanted s to a b l.0 h)) (same_without s to.at a b h))
-before_same s at (unary_op op ty mode to x) a b l h = same_only s (is_fixed ty) to x a b l.0 h
-before_same s at (conversion to ty mode x xty) a b l h = same_only s (is_fixed ty || is_fixed xty) to x a b l.0 h
+before_same s at (unary_op op ty mode to x) a b l h = same_only s (is_whole ty) to x a b l.0 h
+before_same s at (conversion to ty mode x xty) a b l h = same_only s (is_whole ty || is_whole xty) to x a b l.0 h
 before_same s at (branch_zero t k) a b l h = same_least s t.at t.bytes t.bytes (either a (at k)) (either b (at k)) refl
     (same_either s a b (at k) h)
 before_same s at (return_from from) a b l h = λ place k. refl
 before_same s at (label k) a b l h = λ place q. refl
 before_same s at (jump k) a b l h = λ place q. refl
-before_same s at (address t o offset) a b l h = λ place q. refl
-before_same s at (field ptr space offset) a b l h = λ place q. refl
-before_same s at (load_at to ptr space) a b l h = λ place q. refl
-before_same s at (store_at ptr space from) a b l h = λ place q. refl
+before_same s at (address t o offset) a b l h = same_without s t.at a b h
+before_same s at (field ptr space offset) a b l h = same_least s ptr.at ptr.bytes ptr.bytes a b refl h
+before_same s at (load_at to ptr space) a b l h =
+    same_least s ptr.at ptr.bytes ptr.bytes (without to.at a) (without to.at b) refl (same_without s to.at a b h)
+before_same s at (store_at ptr space from) a b l h =
+    same_least s from.at from.bytes from.bytes (at_least ptr.at ptr.bytes a) (at_least ptr.at ptr.bytes b) refl
+    (same_least s ptr.at ptr.bytes ptr.bytes a b refl h)
 before_same s at (call_function f to) a b l h = same_result s to a b h
 before_same s at (port_in to port index width) a b l h = same_index s index (without to.at a) (without to.at b) (same_without s to.at a b h)
 before_same s at (port_out from port index width) a b l h =
@@ -97,7 +102,7 @@ result_same s (branch_zero t k) a b l h = refl
 result_same s (return_from from) a b l h = refl
 result_same s (label k) a b l h = refl
 result_same s (jump k) a b l h = refl
-result_same s (address t o offset) a b l h = refl
+result_same s (address t o offset) a b l h = same_wanted s t a b l h
 result_same s (field ptr space offset) a b l h = refl
 result_same s (load_at to ptr space) a b l h = refl
 result_same s (store_at ptr space from) a b l h = refl
@@ -180,22 +185,25 @@ before_bounded s at (copy to from) a l k h = bounded_value to from a l.0.1 h
 before_bounded s at (load_object t o offset) a l k h = bounded_without t.at a h
 before_bounded s at (store_object o offset t) a l k h = bounded_least t.at t.bytes a l.1 h
 before_bounded s at (binary_op op ty mode to x xty y yty) a l k h =
-    let w = is_fixed xty || is_fixed yty in
-    bounded_least x.at (first_wanted w op x.bytes (wanted a to)) (at_least y.at (second_wanted w op y.bytes (wanted a to)) (without to.at a))
+    let w = is_whole xty || is_whole yty in
+    bounded_least x.at (first_wanted w op x.bytes (wanted a to))
+    (at_least y.at (second_wanted w op y.bytes (wanted a to)) (without to.at a))
     (first_most w op x.bytes (wanted a to) l.1.1 (wanted_most a to l.0.1))
     (bounded_least y.at (second_wanted w op y.bytes (wanted a to)) (without to.at a)
     (second_most w op y.bytes (wanted a to) l.2.1 (wanted_most a to l.0.1)) (bounded_without to.at a h))
-before_bounded s at (unary_op op ty mode to x) a l k h = bounded_only (is_fixed ty) to x a l.0.1 l.1.1 h
-before_bounded s at (conversion to ty mode x xty) a l k h = bounded_only (is_fixed ty || is_fixed xty) to x a l.0.1 l.1.1 h
+before_bounded s at (unary_op op ty mode to x) a l k h = bounded_only (is_whole ty) to x a l.0.1 l.1.1 h
+before_bounded s at (conversion to ty mode x xty) a l k h = bounded_only (is_whole ty || is_whole xty) to x a l.0.1 l.1.1 h
 before_bounded s at (branch_zero t q) a l k h =
     bounded_least t.at t.bytes (either a (at q)) l.1 (bounded_either a (at q) h (k q))
 before_bounded s at (return_from from) a l k h = bounded_returned s from l
 before_bounded s at (label q) a l k h = k q
 before_bounded s at (jump q) a l k h = k q
-before_bounded s at (address t o offset) a l k h = λ place. omega arith
-before_bounded s at (field ptr space offset) a l k h = λ place. omega arith
-before_bounded s at (load_at to ptr space) a l k h = λ place. omega arith
-before_bounded s at (store_at ptr space from) a l k h = λ place. omega arith
+before_bounded s at (address t o offset) a l k h = bounded_without t.at a h
+before_bounded s at (field ptr space offset) a l k h = bounded_least ptr.at ptr.bytes a l.1 h
+before_bounded s at (load_at to ptr space) a l k h =
+    bounded_least ptr.at ptr.bytes (without to.at a) l.1.1 (bounded_without to.at a h)
+before_bounded s at (store_at ptr space from) a l k h =
+    bounded_least from.at from.bytes (at_least ptr.at ptr.bytes a) l.1.1 (bounded_least ptr.at ptr.bytes a l.0.1 h)
 before_bounded s at (call_function f None) a l k h = h
 before_bounded s at (call_function f (Some t)) a l k h = bounded_without t.at a h
 before_bounded s at (port_in to port index width) a l k h = bounded_index index (without to.at a) (bounded_without to.at a h)

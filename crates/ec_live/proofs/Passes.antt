@@ -6,8 +6,8 @@ use Rattle.std.proofs.lemmas.List.{drop_more, get_or-map, get_or_past, length-ma
 use Rattle.ec_ir.specs.Operations.{PlainIr, constant, copy, address, field, load_at, store_at, load_object}
 use Rattle.ec_ir.specs.Operations.{store_object, binary_op, unary_op, conversion, label, jump, branch_zero}
 use Rattle.ec_ir.specs.Operations.{call_function, return_from, port_in, port_out}
-use Rattle.ec_select_functions.specs.Code.{wanted_behind, wanted_bytes}
-use Rattle.ec_select_functions.specs.Needs.{Need, before, needs, IsLive}
+use Rattle.ec_select_operations.specs.Code.{wanted_behind, wanted_bytes}
+use Rattle.ec_select_operations.specs.Needs.{Need, before, needs, IsLive}
 use Rattle.ec_live.specs.Places.{HasPlaces, HavePlaces}
 use Rattle.ec_live.specs.Tables.{need_of, needs_of, AreSame, IsBounded, IsTable, IsJoined, room}
 use Rattle.ec_live.proofs.Operations.{before_same, before_bounded, needs_bounded, behind_same}

@@ -38,14 +38,15 @@ module _ (p : PlainIrProgram) (results : Results) (f s : ℕ) (all : List PlainI
   places_of (return_from from) h = place_of_result from h
   places_of (label l) h = tt
   places_of (jump l) h = tt
-  places_of (address t o offset) h = tt
-  places_of (field ptr space offset) h = tt
-  places_of (load_at to ptr space) h = tt
-  places_of (store_at ptr space from) h = tt
+  places_of (address t o offset) h = place_of s t h.0
+  places_of (field ptr space offset) h = place_of s ptr h.temp
+  places_of (load_at to ptr space) h = (place_of s to h.0, place_of s ptr h.1.temp)
+  places_of (store_at ptr space from) h = (place_of s ptr h.0.temp, place_of s from h.1)
   places_of (call_function g to) h = place_of_called g to h.1
   places_of (port_in to port index width) h = (place_of s to h.0.temp, place_of_index index h.1)
   places_of (port_out from port index width) h =
-      (let most = h.0.temp.most in let within = h.0.within in (place_of s from h.0.temp, place_of_index index h.1, omega (arith, most, within)))
+      (let most = h.0.temp.most in let within = h.0.within in
+      (place_of s from h.0.temp, place_of_index index h.1, omega (arith, most, within)))
 
   places_of_all : (code : List PlainIr) → AllByRecursion (ValidOperation p results f s all) code → HavePlaces s code
   places_of_all [] h = tt

@@ -3,7 +3,7 @@ use Rattle.std.specs.Prelude.{ℕ, ◌<◌, ◌≤◌, ⊤, List}
 use Rattle.std.specs.List.{AllByRecursion}
 use Rattle.ec_ir.specs.Operations.{PlainIr, label, jump, branch_zero}
 use Rattle.ec_ir.specs.Valid.{count}
-use Rattle.ec_select_functions.specs.Needs.{Need, IsLive}
+use Rattle.ec_select_operations.specs.Needs.{Need, IsLive}
 
 -- at the labels of the code, of the first places, no other table that tells all that is needed tells less
 abbrev pub IsLeast : ℕ → (ℕ → Need) → List PlainIr → Type 0

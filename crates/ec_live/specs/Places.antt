@@ -14,10 +14,14 @@ abbrev pub MayHavePlace : ℕ → Option Temp → Type 0
 MayHavePlace slots None = ⊤
 MayHavePlace slots (Some t) = HasPlace slots t
 
--- the temporaries of an operation that says which bytes of them it needs. The others need all bytes of all places
+-- the temporaries of an operation
 abbrev pub HasPlaces : ℕ → PlainIr → Type 0
 HasPlaces slots (constant t n) = HasPlace slots t
 HasPlaces slots (copy to from) = HasPlace slots to × HasPlace slots from
+HasPlaces slots (address t o offset) = HasPlace slots t
+HasPlaces slots (field ptr space offset) = HasPlace slots ptr
+HasPlaces slots (load_at to ptr space) = HasPlace slots to × HasPlace slots ptr
+HasPlaces slots (store_at ptr space from) = HasPlace slots ptr × HasPlace slots from
 HasPlaces slots (load_object t o offset) = HasPlace slots t
 HasPlaces slots (store_object o offset t) = HasPlace slots t
 HasPlaces slots (binary_op op ty mode to a aty b bty) = HasPlace slots to × HasPlace slots a × HasPlace slots b
@@ -27,10 +31,6 @@ HasPlaces slots (branch_zero t l) = HasPlace slots t
 HasPlaces slots (return_from from) = MayHavePlace slots from
 HasPlaces slots (label l) = ⊤
 HasPlaces slots (jump l) = ⊤
-HasPlaces slots (address t o offset) = ⊤
-HasPlaces slots (field ptr space offset) = ⊤
-HasPlaces slots (load_at to ptr space) = ⊤
-HasPlaces slots (store_at ptr space from) = ⊤
 HasPlaces slots (call_function f to) = MayHavePlace slots to
 HasPlaces slots (port_in to port index width) = HasPlace slots to × MayHavePlace slots index
 HasPlaces slots (port_out from port index width) = HasPlace slots from × MayHavePlace slots index × (width ≤ 16)

@@ -1,7 +1,7 @@
 -- The needs that rows of bytes tell.
 use Rattle.std.specs.Prelude.{◌≡◌, ℕ, ◌+◌, ◌-◌, ◌<◌, ◌≤◌, List, [], ◌∷◌, get_or, ⊤}
 use Rattle.ec_ir.specs.Operations.{PlainIr, label}
-use Rattle.ec_select_functions.specs.Needs.{Need}
+use Rattle.ec_select_operations.specs.Needs.{Need}
 
 -- a row tells how many bytes are needed of each of the first places. Of the others all are, as many as a place has
 abbrev pub need_of : List ℕ → Need

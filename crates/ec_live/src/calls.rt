@@ -1,9 +1,9 @@
 //! What calls keep of the places that have registers.
 ghost use Rattle.std.specs.Prelude.{◌≡◌, ◌<◌, ◌++◌, ◌∷◌, [], length, map, OnOk, IfOk};
 ghost use Rattle.ec_ir.specs.Operations.{plain_ir};
-ghost use Rattle.ec_select_functions.specs.Code.{register_places};
-ghost use Rattle.ec_select_functions.specs.Needs.{without_result};
-ghost use Rattle.ec_select_functions.specs.Written.{row_from, kept_row, kept_rows};
+ghost use Rattle.ec_select_operations.specs.Code.{register_places};
+ghost use Rattle.ec_select_operations.specs.Needs.{without_result};
+ghost use Rattle.ec_select_operations.specs.Written.{row_from, kept_row, kept_rows};
 ghost use Rattle.ec_live.specs.Places.{HasPlaces, HavePlaces};
 ghost use Rattle.ec_live.specs.Tables.{need_of, needs_of};
 

@@ -1,8 +1,8 @@
 //! What is needed at the labels of a function, and of the results of its operations.
 ghost use Rattle.std.specs.Prelude.{◌≡◌, ℕ, ◌<◌, length, map, IfOk, false, true};
 ghost use Rattle.ec_ir.specs.Operations.{plain_ir};
-ghost use Rattle.ec_select_functions.specs.Code.{wanted_behind, wanted_bytes};
-ghost use Rattle.ec_select_functions.specs.Needs.{Need, IsLive};
+ghost use Rattle.ec_select_operations.specs.Code.{wanted_behind, wanted_bytes};
+ghost use Rattle.ec_select_operations.specs.Needs.{Need, IsLive};
 ghost use Rattle.ec_live.specs.Places.{HasPlaces, HavePlaces};
 ghost use Rattle.ec_live.specs.Tables.{need_of, needs_of, IsBounded, IsTable, IsJoined, TellNoMore, room};
 ghost use Rattle.ec_live.specs.Least.{IsLeast, HasLabel, HaveLabels};
@@ -121,6 +121,7 @@ fn wanted_behind(table: &LabelNeeds, need: &[u8], i: &Ir) -> u8
     match i {
         Ir::Const(to, _)
         | Ir::Copy(to, _)
+        | Ir::Addr(to, _, _)
         | Ir::Bin { to, .. }
         | Ir::Un { to, .. }
         | Ir::Conv { to, .. }

@@ -1,17 +1,17 @@
 //! What is needed before operations.
 ghost use Rattle.std.specs.Prelude.{◌<◌, length};
 ghost use Rattle.ec_ir.specs.Operations.{plain_ir};
-ghost use Rattle.ec_select_functions.specs.Needs.{before, either, at_least, without, wanted, index_needed};
-ghost use Rattle.ec_select_functions.specs.Needs.{returned_need, without_result, first_wanted, second_wanted};
-ghost use Rattle.ec_select_functions.specs.Needs.{only_wanted};
+ghost use Rattle.ec_select_operations.specs.Needs.{before, either, at_least, without, wanted, index_needed};
+ghost use Rattle.ec_select_operations.specs.Needs.{returned_need, without_result, first_wanted, second_wanted};
+ghost use Rattle.ec_select_operations.specs.Needs.{only_wanted};
 ghost use Rattle.ec_live.specs.Places.{MayHavePlace, HasPlaces};
 ghost use Rattle.ec_live.specs.Tables.{need_of, needs_of, AreSame};
 
-use crate::rows::{clear, fill, first_wanted, forget, keep, only_wanted, second_wanted, wanted_of};
+use crate::rows::{clear, first_wanted, forget, keep, only_wanted, second_wanted, wanted_of};
 use crate::table::{LabelNeeds, zeros};
 use ec_core::BinOp;
 use ec_ir::{Ir, Temp};
-use ec_select_functions::is_fixed;
+use ec_select_operations::is_whole;
 use ec_space::{NoMemory, Seq};
 use std::alloc::Global;
 
@@ -83,6 +83,28 @@ fn at_call(need: &mut [u8], to: Option<Temp>)
     }
 }
 
+/// What is needed before a load through a pointer.
+fn at_load(need: &mut [u8], to: Temp, ptr: Temp)
+    requires to { to.at < length need.old }
+    requires pointer { ptr.at < length need.old }
+    ensures { AreSame (length need.old) (need_of need.new)
+        (at_least ptr.at ptr.bytes (without to.at (need_of need.old))) }
+{
+    forget(need, to);
+    keep(need, ptr, ptr.bytes);
+}
+
+/// What is needed before a store through a pointer.
+fn at_store(need: &mut [u8], ptr: Temp, from: Temp)
+    requires pointer { ptr.at < length need.old }
+    requires from { from.at < length need.old }
+    ensures { AreSame (length need.old) (need_of need.new)
+        (at_least from.at from.bytes (at_least ptr.at ptr.bytes (need_of need.old))) }
+{
+    keep(need, ptr, ptr.bytes);
+    keep(need, from, from.bytes);
+}
+
 /// What is needed before a branch to a label where a temporary is 0.
 fn at_branch(table: &LabelNeeds, t: Temp, l: u64, need: &mut [u8])
     requires { t.at < length need.old }
@@ -132,11 +154,14 @@ pub fn before(table: &LabelNeeds, i: &Ir, need: &mut [u8])
         (before (needs_of table.now) (plain_ir i.now) (need_of need.old)) }
 {
     match i {
-        Ir::Const(t, _) | Ir::LoadObj(t, _, _) => forget(need, *t),
+        Ir::Const(t, _) | Ir::Addr(t, _, _) | Ir::LoadObj(t, _, _) => forget(need, *t),
+        Ir::Field { ptr, .. } => keep(need, *ptr, ptr.bytes),
+        Ir::Load { to, ptr, .. } => at_load(need, *to, *ptr),
+        Ir::Store { ptr, from, .. } => at_store(need, *ptr, *from),
         Ir::StoreObj(_, _, t) => keep(need, *t, t.bytes),
         Ir::Copy(to, a) => pass_on(need, false, *to, *a),
-        Ir::Un { ty, to, a, .. } => pass_on(need, is_fixed(ty), *to, *a),
-        Ir::Conv { to, ty, a, aty, .. } => { pass_on(need, is_fixed(ty) || is_fixed(aty), *to, *a) }
+        Ir::Un { ty, to, a, .. } => pass_on(need, is_whole(ty), *to, *a),
+        Ir::Conv { to, ty, a, aty, .. } => { pass_on(need, is_whole(ty) || is_whole(aty), *to, *a) }
         Ir::Bin {
             op,
             to,
@@ -146,7 +171,7 @@ pub fn before(table: &LabelNeeds, i: &Ir, need: &mut [u8])
             bty,
             ..
         } => {
-            let whole = is_fixed(aty) || is_fixed(bty);
+            let whole = is_whole(aty) || is_whole(bty);
             pass_operands(need, whole, *op, *to, *a, *b)
         }
         Ir::Label(l) | Ir::Jump(l) => at_label(table, *l, need),
@@ -160,6 +185,5 @@ pub fn before(table: &LabelNeeds, i: &Ir, need: &mut [u8])
             width,
             ..
         } => at_write(need, *from, *index, *width),
-        _ => fill(need),
     }
 }

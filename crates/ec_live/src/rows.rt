@@ -1,8 +1,8 @@
 //! A row of bytes, which tells how many low bytes of each place are needed.
 ghost use Rattle.std.specs.Prelude.{◌≡◌, ◌<◌, length};
-ghost use Rattle.ec_select_functions.specs.Needs.{nothing, everything, at_least, without, wanted, all_or_none};
-ghost use Rattle.ec_select_functions.specs.Needs.{operand_wanted, first_wanted, second_wanted, only_wanted};
-ghost use Rattle.ec_select_functions.specs.Needs.{right_wanted, is_of_low_bytes};
+ghost use Rattle.ec_select_operations.specs.Needs.{nothing, at_least, without, wanted, all_or_none};
+ghost use Rattle.ec_select_operations.specs.Needs.{operand_wanted, first_wanted, second_wanted, only_wanted};
+ghost use Rattle.ec_select_operations.specs.Needs.{right_wanted, is_of_low_bytes};
 ghost use Rattle.ec_live.specs.Tables.{need_of, AreSame};
 
 use ec_core::BinOp;
@@ -39,15 +39,6 @@ pub fn clear(need: &mut [u8])
 {
     for x in need.iter_mut() {
         *x = 0;
-    }
-}
-
-/// Of each place all bytes are needed.
-pub fn fill(need: &mut [u8])
-    ensures { AreSame (length need.old) (need_of need.new) everything }
-{
-    for x in need.iter_mut() {
-        *x = 16;
     }
 }
 

@@ -1,7 +1,7 @@
 //! A table of the needs at labels.
 ghost use Rattle.std.specs.Prelude.{◌≡◌, ℕ, ◌<◌, ◌≤◌, [], length, get_or, replicate, slice_set, ◌++◌, ◌∷◌, IfOk};
 ghost use Rattle.std.specs.Prelude.{OnOk, false, true};
-ghost use Rattle.ec_select_functions.specs.Needs.{Need};
+ghost use Rattle.ec_select_operations.specs.Needs.{Need};
 ghost use Rattle.ec_live.specs.Tables.{need_of, needs_of, IsBounded, IsTable, NeedsNoMore, TellNoMore, room};
 
 use ec_space::NoMemory;

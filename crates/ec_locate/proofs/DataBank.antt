@@ -1,15 +1,14 @@
 -- What a placed program keeps in the data bank stands apart.
 use Rattle.std.proofs.Common.{◌≡◌, ◌≢◌, inl, inr, ⊎_elim, ◌+◌, ◌<◌, ◌≤◌, ℕ, zero, suc, List, [], ◌∷◌, length, take, get_or, add-zero, Option, Some, sym, ap, ◌∙◌, subst, arith}
 use Rattle.std.specs.Prelude.{slice_get, nat_le}
-use Rattle.std.specs.List.{AllByRecursion}
-use Rattle.std.proofs.lemmas.Bool.{and_parts, leb-true, cases_lt}
+use Rattle.std.proofs.lemmas.Bool.{and_parts, leb-true}
 use Rattle.std.proofs.lemmas.List.Sums.{sum_by-cons}
 use Rattle.std.proofs.lemmas.Option.{slice_get_within, get_or_from_slice_get}
 use Rattle.ec_space.specs.declared.space.Bank.TheVariants.{Data}
 use Rattle.ec_space.specs.declared.space.Place.{Place}
 use Rattle.ec_asm.specs.declared.items.AsmProgram.{AsmProgram}
 use Rattle.ec_core.specs.Plain.{PlainObject, register, PlainProgram}
-use Rattle.ec_core.specs.Valid.{Valid, IsObject, IsStored, AreApart, ShareNoRegister}
+use Rattle.ec_core.specs.Valid.{Valid, IsStored, AreApart, ShareNoRegister}
 use Rattle.ec_map.specs.Maps.{ValidMap}
 use Rattle.ec_map.specs.Regions.{end_of}
 use Rattle.ec_map.specs.declared.map.Map.{Map}
@@ -18,7 +17,8 @@ use Rattle.ec_locate.specs.Apart.{AreFree}
 use Rattle.ec_locate.specs.Entries.{data_size, data_sizes, frame_size, frame_sizes}
 use Rattle.ec_locate.specs.Fixed.{blocks}
 use Rattle.ec_locate.specs.Layout.{frames_from}
-use Rattle.ec_locate.proofs.Stood.{Clear, turned, es, size, entry, entry_there, block, Stood, both_stood}
+use Rattle.ec_locate.proofs.Objects.{is_object_at}
+use Rattle.ec_locate.proofs.Stood.{Clear, turned, by_order, es, size, entry, entry_there, block, Stood, both_stood}
 use Rattle.ec_locate.proofs.Where.{sum_until, sum_within, free_at, apart_where, clear_of}
 
 -- ---- where scratch memory stands
@@ -99,14 +99,9 @@ module _ (p : PlainProgram) (m : Map) (asm : AsmProgram) where
       pub from_there : 2 ≤ at
       pub ends : at + size ≤ 8
 
-    object_at : (os : List PlainObject) (i : ℕ) (o : PlainObject) → AllByRecursion (IsObject p) os → slice_get os i ≡ Some o → IsObject p o
-    object_at [] i o h q = cc
-    object_at (x ∷ os) zero o h q = let same : x ≡ o = cc in subst (IsObject p) same h.0
-    object_at (x ∷ os) (suc i) o h q = object_at os i o h.1 q
-
     pub registers : (n at : ℕ) (o : PlainObject) → slice_get p.objects n ≡ Some o → o.storage ≡ register at → InRegisters at (size p m o)
     registers n at o q s =
-        let stored : IsStored p o (register at) = subst (λ x. IsStored p o x) s (object_at p.objects n o valid.objects q).storage in
+        let stored : IsStored p o (register at) = subst (λ x. IsStored p o x) s (is_object_at p m.io valid n o q).storage in
         record { from_there = stored.low; ends = stored.high }
 
     -- ---- two of them
@@ -165,14 +160,6 @@ module _ (p : PlainProgram) (m : Map) (asm : AsmProgram) where
     frame_before i at to frame q e f =
         let w = sum_within frame_size frames i frame q in
         inl (omega (arith, w, e, f))
-
-    -- of two numbers one is the lesser
-    by_order : (n k at size to many : ℕ) → n ≢ k → (n < k → Clear at size to many) → (k < n → Clear to many at size) → Clear at size to many
-    by_order n k at size to many differ a b =
-        ⊎_elim a (λ most. ⊎_elim (λ less. turned to many at size (b less)) (λ least. let same : n ≡ k = omega (arith, most, least) in absurd (differ same)) (cases_lt k n)) (cases_lt n k)
-
-    pub few_objects : (n : ℕ) (o : PlainObject) → slice_get p.objects n ≡ Some o → n < 1024
-    few_objects n o q = let w = slice_get_within p.objects n o q in let c = valid.object_count in omega (arith, w, c)
 
     pub standing_apart : (n k at to s t : ℕ) → n ≢ k → Standing n at s → Standing k to t → Clear at s to t
     standing_apart n k at to s t d (packed _ _ o q a e) (packed _ _ x r b f) =

@@ -1,5 +1,6 @@
 -- What a placed program keeps in the data bank stands apart: the whole.
-use Rattle.std.proofs.Common.{◌≡◌, ◌≢◌, ◌⊎◌, inl, inr, ⊎_elim, ◌+◌, ◌-◌, ◌%◌, ◌≤◌, ℕ, Bool, true, false, length, take, Option, Some, None, refl, sym, ap, ◌∙◌, subst, arith}
+use Rattle.std.proofs.Common.{◌≡◌, ◌≢◌, ◌⊎◌, inl, inr, ⊎_elim, ◌+◌, ◌-◌, ◌≤◌, ℕ, Bool, true, false, length, take}
+use Rattle.std.proofs.Common.{Option, Some, None, refl, sym, ap, ◌∙◌, subst, arith}
 use Rattle.std.specs.Prelude.{slice_get, slice_index}
 use Rattle.std.proofs.lemmas.Bool.{lt-ltb, le-ltb}
 use Rattle.std.proofs.lemmas.Option.{slice_get_within, get_or_from_slice_get}
@@ -21,10 +22,13 @@ use Rattle.ec_locate.specs.Entries.{fixed_place, is_static, data_sizes, flash_si
 use Rattle.ec_locate.specs.Fixed.{blocks}
 use Rattle.ec_locate.specs.Layout.{LayoutView, place_by}
 use Rattle.ec_locate.specs.Placing.{IsLocated, layout_by, last_of, needs}
+use Rattle.ec_locate.proofs.Addresses.{object_start, address_from}
 use Rattle.ec_locate.proofs.InOrders.{vars_fit, places_free}
+use Rattle.ec_locate.proofs.Objects.{few_objects}
 use Rattle.ec_locate.proofs.Stood.{es, size, entry, entry_there, Stood, stood}
 use Rattle.ec_locate.proofs.Where.{place_at}
-use Rattle.ec_locate.proofs.DataBank.{frame_at, same_place, scratch_from, Standing, packed, of_frame, last, fixed, named, InVars, packed_in, frame_in, last_in, outside, registers, few_objects, standing_apart}
+use Rattle.ec_locate.proofs.DataBank.{frame_at, same_place, scratch_from, Standing, packed, of_frame, last, fixed}
+use Rattle.ec_locate.proofs.DataBank.{named, InVars, packed_in, frame_in, last_in, outside, registers, standing_apart}
 
 same_number : (z : Option ℕ) (a b : ℕ) → z ≡ Some a → z ≡ Some b → a ≡ b
 same_number z a b q r = let both : Some a ≡ Some b = sym q ∙ r in cc
@@ -156,14 +160,8 @@ module _ (p : PlainProgram) (m : Map) (asm : AsmProgram) (l : Located) (valid : 
 
   -- ---- addresses
 
-  no_wrap : (at s i : ℕ) → at + s ≤ 2304 → i ≤ s → (at + i) % 65536 ≡ at + i
-  no_wrap at s i b h = omega (arith, b, h)
-
   start_is : (n at s : ℕ) → Names p asm l n at s → start_of y (last_of m) n ≡ at
-  start_is n _ _ (an_object _ o q is home at) =
-      let less = few_objects p m asm valid map_valid few room free n o is in
-      let placed : slice_get y.places n ≡ Some q = subst (λ ps. slice_get ps n ≡ Some q) located.places at in
-      rw (lt-ltb n 1024 less, placed) refl
+  start_is n _ _ (an_object _ o q is home at) = object_start p m asm l valid located (last_of m) n o q is at
   start_is _ at _ (scratch f fr _ q r) =
       let within = slice_get_within asm.frames.items f fr q in
       let low = le-ltb (1024 + f) 1024 (omega arith) in
@@ -175,7 +173,8 @@ module _ (p : PlainProgram) (m : Map) (asm : AsmProgram) (l : Located) (valid : 
 
   address : (n at s i : ℕ) → Names p asm l n at s → i ≤ s → address_of y (last_of m) n i ≡ at + i
   address n at s i h small =
-      ap (λ a. (a + i) % 65536) (start_is n at s h) ∙ no_wrap at s i (below n at s (standing n at s h)) small
+      let low = below n at s (standing n at s h) in
+      address_from y (last_of m) n at i (start_is n at s h) (omega (arith, low, small))
 
   pub holds : DataStands p m asm l
   holds = record {
@@ -185,10 +184,10 @@ module _ (p : PlainProgram) (m : Map) (asm : AsmProgram) (l : Located) (valid : 
     frames = λ f fr at q r.
         let s = standing (1024 + f) at (frame_size fr) (scratch f fr at q r) in
         memory_unless (1024 + f) at (frame_size fr) s
-        (λ o first is t. let less = few_objects p m asm valid map_valid few room free (1024 + f) o is in absurd (omega (arith, less)));
+        (λ o first is t. let less = few_objects p m.io valid (1024 + f) o is in absurd (omega (arith, less)));
     work =
         memory_unless 1280 l.work 64 (standing 1280 l.work 64 work)
-        (λ o first is t. let less = few_objects p m asm valid map_valid few room free 1280 o is in absurd (omega (arith, less)));
+        (λ o first is t. let less = few_objects p m.io valid 1280 o is in absurd (omega (arith, less)));
     address = address;
   }
 

@@ -1,7 +1,7 @@
 -- The initial values of a placed program stand in its image, and nothing else is written there but the code.
-use Rattle.std.proofs.Common.{◌≡◌, inl, inr, ⊎_elim, ◌+◌, ◌-◌, ◌*◌, ◌<◌, ◌≤◌, ℕ, zero, suc, Bool, true, false, List, [], ◌∷◌, length, get_or, zero-add, add-zero, Some, sym, ap, ◌∙◌, subst, arith}
+use Rattle.std.proofs.Common.{◌≡◌, inl, inr, ⊎_elim, ◌+◌, ◌-◌, ◌*◌, ◌<◌, ◌≤◌, ℕ, Bool, true, false, List, length}
+use Rattle.std.proofs.Common.{get_or, zero-add, add-zero, Some, sym, ap, ◌∙◌, subst, arith}
 use Rattle.std.specs.Prelude.{slice_get}
-use Rattle.std.specs.List.{AllByRecursion}
 use Rattle.std.proofs.lemmas.Bool.{cases_lt}
 use Rattle.std.proofs.lemmas.List.{length-replicate, get_or-replicate}
 use Rattle.std.proofs.lemmas.Option.{slice_get-get_or}
@@ -28,16 +28,11 @@ use Rattle.ec_locate.specs.Layout.{LayoutView}
 use Rattle.ec_locate.specs.Placing.{IsLocated, entries_by, layout_by, last_of, needs}
 use Rattle.ec_locate.proofs.CodeStand.{code_fits}
 use Rattle.ec_locate.proofs.InOrders.{tables_fit, places_free}
+use Rattle.ec_locate.proofs.Objects.{is_object_at}
 use Rattle.ec_locate.proofs.Stood.{Clear}
 use Rattle.ec_locate.proofs.Spots.{spot, spots_apart, room_of}
 use Rattle.ec_locate.proofs.Stand.{length_image}
 use Rattle.ec_locate.proofs.Written.{at_index, leaf_length, leaf_stands, Misses, Avoids, IsByte, bytes_of, bytes_outside, bytes_inside, objects_length, objects_outside, objects_inside}
-
--- object i is an object of the program
-object_at : (P : PlainObject → Type 0) (os : List PlainObject) (i : ℕ) (o : PlainObject) → AllByRecursion P os → slice_get os i ≡ Some o → P o
-object_at P [] i o h q = cc
-object_at P (x ∷ os) zero o h q = let same : x ≡ o = cc in subst P same h.0
-object_at P (x ∷ os) (suc i) o h q = object_at P os i o h.1 q
 
 module _ (p : PlainProgram) (m : Map) (asm : AsmProgram) (l : Located) (laws : LeavesFillTheirTypes) (valid : Valid p m.io)
     (map_valid : ValidMap m) (located : IsLocated p m asm l) where
@@ -68,7 +63,7 @@ module _ (p : PlainProgram) (m : Map) (asm : AsmProgram) (l : Located) (laws : L
   -- ---- an object and its bytes
 
   is_object : (i : ℕ) (o : PlainObject) (inits : List LeafInit) → IsInitialised p i o inits → IsObject p o
-  is_object i o inits h = object_at (IsObject p) p.objects i o valid.objects h.is_object
+  is_object i o inits h = is_object_at p m.io valid i o h.is_object
 
   has_values : (i : ℕ) (o : PlainObject) (inits : List LeafInit) → IsInitialised p i o inits
       → AreInitialValues p (leaves_of_type p.structs o.ty) inits

@@ -15,5 +15,7 @@ pub mod Written
 pub mod Stood
 pub mod Spots
 pub mod Initial
+pub mod Addresses
 pub mod DataBank
 pub mod DataStand
+pub mod FlashStand

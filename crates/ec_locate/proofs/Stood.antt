@@ -24,6 +24,12 @@ Clear at size to many = (at + size ≤ to) ⊎ (to + many ≤ at)
 pub turned : (at size to many : ℕ) → Clear at size to many → Clear to many at size
 turned at size to many h = ⊎_elim (λ a. inr a) (λ a. inl a) h
 
+-- of two numbers one is the lesser
+pub by_order : (n k at size to many : ℕ) → n ≢ k → (n < k → Clear at size to many) → (k < n → Clear to many at size) → Clear at size to many
+by_order n k at size to many differ a b =
+    ⊎_elim a (λ most. ⊎_elim (λ less. turned to many at size (b less))
+    (λ least. let same : n ≡ k = omega (arith, most, least) in absurd (differ same)) (cases_lt k n)) (cases_lt n k)
+
 -- a bank is itself
 same_self : (b : Bank) → same_bank b b ≡ true
 same_self Flash = refl

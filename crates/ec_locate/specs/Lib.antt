@@ -10,3 +10,4 @@ pub mod Stands
 pub mod Apart
 pub mod Initial
 pub mod DataBank
+pub mod FlashBank

@@ -2,6 +2,7 @@
 ghost use Rattle.ec_locate.specs.Apart.{PlacedStandApart};
 ghost use Rattle.ec_locate.specs.Calls.{ChainsAreCounted};
 ghost use Rattle.ec_locate.specs.DataBank.{DataStandsApart};
+ghost use Rattle.ec_locate.specs.FlashBank.{FlashStandsApart};
 ghost use Rattle.ec_locate.specs.Initial.{InitialValuesStand};
 ghost use Rattle.ec_locate.specs.Placing.{StopsHaveCauses};
 ghost use Rattle.ec_locate.specs.Stands.{CodeStands};
@@ -33,6 +34,12 @@ pub fn placed_stand_apart()
 /// each function and the work bytes. The address of each byte is the one that the code has.
 pub fn data_stands_apart()
     ensures { DataStandsApart }
+{}
+
+/// The objects of the flash bank stand apart, and none at address 0. The address of each byte is the one that the code
+/// has.
+pub fn flash_stands_apart()
+    ensures { FlashStandsApart }
 {}
 
 /// The need of region `stack` counts the functions on the longest chain of calls from main: none is longer, and one is as

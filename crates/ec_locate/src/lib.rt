@@ -14,8 +14,8 @@ mod stop;
 
 pub use ec_map::{Fixed1, Map, MapStop, Region, read_map};
 pub use laws::{
-    chains_are_counted, code_stands, data_stands_apart, initial_values_stand, placed_stand_apart,
-    stops_have_causes,
+    chains_are_counted, code_stands, data_stands_apart, flash_stands_apart, initial_values_stand,
+    placed_stand_apart, stops_have_causes,
 };
 pub use placing::{Located, place};
 pub use stop::{PlaceStop, RegionName};

@@ -24,31 +24,45 @@ params_none (o ∷ os) t rest = refl
 pub params_out : (os : List ℕ) (es : List Expr) (t : ℕ) (rest : List PlainIr) → es ≡ [] → params_code os (plain_exprs es) t rest ≡ rest
 params_out os es t rest e = ap (λ xs. params_code os (plain_exprs xs) t rest) e ∙ params_none os t rest
 
-pub init_none : (program : PlainProgram) (table : PlainTable) (leaves : List PlainLeaf) (o l : ℕ) (rest : List PlainIr) → init_code program table leaves o last_expr l rest ≡ rest
+pub init_none : (program : PlainProgram) (table : PlainTable) (leaves : List PlainLeaf) (o l : ℕ) (rest : List PlainIr)
+    → init_code program table leaves o last_expr l rest ≡ rest
 init_none program table [] o l rest = refl
 init_none program table (leaf ∷ leaves) o l rest = refl
 
-pub init_out : (program : PlainProgram) (table : PlainTable) (leaves : List PlainLeaf) (o : ℕ) (es : List Expr) (l : ℕ) (rest : List PlainIr) → es ≡ [] → init_code program table leaves o (plain_exprs es) l rest ≡ rest
-init_out program table leaves o es l rest e = ap (λ xs. init_code program table leaves o (plain_exprs xs) l rest) e ∙ init_none program table leaves o l rest
+pub init_out : (program : PlainProgram) (table : PlainTable) (leaves : List PlainLeaf) (o : ℕ) (es : List Expr) (l : ℕ)
+    (rest : List PlainIr) → es ≡ [] → init_code program table leaves o (plain_exprs es) l rest ≡ rest
+init_out program table leaves o es l rest e =
+    ap (λ xs. init_code program table leaves o (plain_exprs xs) l rest) e ∙ init_none program table leaves o l rest
 
-pub init_step : (program : PlainProgram) (table : PlainTable) (leaves : List Leaf) (o i : ℕ) (es : List Expr) (leaf : Leaf) (e : Expr) (k : ℕ) (rest : List PlainIr) → drop i leaves ≡ leaf ∷ drop (i + 1) leaves → drop i es ≡ e ∷ drop (i + 1) es → init_code program table (map plain_leaf (drop i leaves)) o (plain_exprs (drop i es)) k rest ≡ expr_code program table (plain_expr e) k 0 (store_object o leaf.at (temp 0 (type_of_expr (plain_expr e))) ∷ init_code program table (map plain_leaf (drop (i + 1) leaves)) o (plain_exprs (drop (i + 1) es)) (k + expr_labels (plain_expr e)) rest)
-init_step program table leaves o i es leaf e k rest p q = ap (λ xs. init_code program table (map plain_leaf xs) o (plain_exprs (drop i es)) k rest) p ∙ ap (λ xs. init_code program table (plain_leaf leaf ∷ map plain_leaf (drop (i + 1) leaves)) o (plain_exprs xs) k rest) q
+pub init_step : (program : PlainProgram) (table : PlainTable) (leaves : List Leaf) (o i : ℕ) (es : List Expr) (leaf : Leaf) (e : Expr)
+    (k : ℕ) (rest : List PlainIr) → drop i leaves ≡ leaf ∷ drop (i + 1) leaves → drop i es ≡ e ∷ drop (i + 1) es
+    → init_code program table (map plain_leaf (drop i leaves)) o (plain_exprs (drop i es)) k rest
+    ≡ expr_code program table (plain_expr e) k 0 (store_object o leaf.at (temp 0 (type_of_expr (plain_expr e)))
+    ∷ init_code program table (map plain_leaf (drop (i + 1) leaves)) o (plain_exprs (drop (i + 1) es))
+    (k + expr_labels (plain_expr e)) rest)
+init_step program table leaves o i es leaf e k rest p q =
+    ap (λ xs. init_code program table (map plain_leaf xs) o (plain_exprs (drop i es)) k rest) p
+    ∙ ap (λ xs. init_code program table (plain_leaf leaf ∷ map plain_leaf (drop (i + 1) leaves)) o (plain_exprs xs) k rest) q
 
 -- the plain item that is read at i
 pub seen_at : {A B : Type 0} (f : A → B) (xs : List A) (i : ℕ) (x : Option A) → x ≡ slice_get xs i → slice_get (map f xs) i ≡ option_map f x
 seen_at f xs i x e = slice_get-map f xs i ∙ ap (option_map f) (sym e)
 
-pub params_some : (program : PlainProgram) (f : ℕ) (g : PlainFunction) → slice_get program.functions f ≡ Some g → params_of program f ≡ g.params
+pub params_some : (program : PlainProgram) (f : ℕ) (g : PlainFunction) → slice_get program.functions f ≡ Some g
+    → params_of program f ≡ g.params
 params_some program f g e = ap (λ (z : Option PlainFunction). unwrap_or (option_map (λ (h : PlainFunction). h.params) z) []) e
 
 pub params_absent : (program : PlainProgram) (f : ℕ) → slice_get program.functions f ≡ None → params_of program f ≡ []
 params_absent program f e = ap (λ (z : Option PlainFunction). unwrap_or (option_map (λ (h : PlainFunction). h.params) z) []) e
 
-pub leaves_some : (program : PlainProgram) (o : ℕ) (x : PlainObject) → slice_get program.objects o ≡ Some x → leaves_of_object program o ≡ leaves_of_type program.structs x.ty
-leaves_some program o x e = ap (λ (z : Option PlainObject). unwrap_or (option_map (λ (d : PlainObject). leaves_of_type program.structs d.ty) z) []) e
+pub leaves_some : (program : PlainProgram) (o : ℕ) (x : PlainObject) → slice_get program.objects o ≡ Some x
+    → leaves_of_object program o ≡ leaves_of_type program.structs x.ty
+leaves_some program o x e =
+    ap (λ (z : Option PlainObject). unwrap_or (option_map (λ (d : PlainObject). leaves_of_type program.structs d.ty) z) []) e
 
 pub leaves_absent : (program : PlainProgram) (o : ℕ) → slice_get program.objects o ≡ None → leaves_of_object program o ≡ []
-leaves_absent program o e = ap (λ (z : Option PlainObject). unwrap_or (option_map (λ (d : PlainObject). leaves_of_type program.structs d.ty) z) []) e
+leaves_absent program o e =
+    ap (λ (z : Option PlainObject). unwrap_or (option_map (λ (d : PlainObject). leaves_of_type program.structs d.ty) z) []) e
 
 pub list_end : {A : Type 0} (xs : List A) (i : ℕ) → length xs ≤ i → drop i xs ≡ []
 list_end [] zero h = refl

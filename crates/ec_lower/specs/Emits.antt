@@ -1,5 +1,5 @@
 -- What was appended to a list of operations.
-use Rattle.std.specs.Prelude.{◌≡◌, List, length, map, ◌++◌, Option, Some, None}
+use Rattle.std.specs.Prelude.{◌≡◌, ℕ, List, ◌∷◌, length, map, ◌++◌, Option, Some, None}
 use Rattle.std.specs.List.{AllByRecursion}
 use Rattle.ec_core.specs.Layout.{AreStructs, IsObjectType}
 use Rattle.ec_core.specs.declared.expressions.Expr.{Expr}
@@ -9,6 +9,9 @@ use Rattle.ec_core.specs.Plain.{plain_stmt, PlainProgram}
 use Rattle.ec_core.specs.PortOperations.{PortAction, reads, writes, updates}
 use Rattle.ec_ir.specs.declared.operations.Ir.{Ir}
 use Rattle.ec_ir.specs.Operations.{PlainIr, plain_ir}
+use Rattle.ec_lower.specs.declared.places.Site.{Site}
+use Rattle.ec_lower.specs.declared.places.Site.TheVariants.{Named, Pointed}
+use Rattle.ec_lower_code.specs.Code.{Site as PlainSite, named, pointed}
 use Rattle.ec_lower.specs.declared.ports.Action.{Action}
 use Rattle.ec_lower.specs.declared.ports.Action.TheVariants.{Reads, Writes, Updates}
 
@@ -26,6 +29,16 @@ abbrev pub plain_action : Action → PortAction
 plain_action Reads = reads
 plain_action Writes = writes
 plain_action Updates = updates
+
+-- where a place is
+abbrev pub plain_site : Site → PlainSite
+plain_site (Named o offset) = named o offset
+plain_site (Pointed ptr space) = pointed ptr space
+
+-- the places for temporaries that a pointer needs, where there is one, before those of what follows
+abbrev pub before : Option ℕ → List ℕ → List ℕ
+before None rest = rest
+before (Some n) rest = n ∷ rest
 
 -- a statement that may be absent
 abbrev pub plain_other : Option Stmt → OptionPlainStmt

@@ -2,7 +2,7 @@
 ghost use Rattle.std.specs.Prelude.{◌≡◌, ◌+◌, ◌∷◌, OnOk, IfOk};
 ghost use Rattle.ec_core.specs.Integers.{truth};
 ghost use Rattle.ec_core.specs.Plain.{plain_type};
-ghost use Rattle.ec_ir.specs.Operations.{plain_ir, constant, load_object, store_object, binary_op, unary_op, conversion, label, jump};
+ghost use Rattle.ec_ir.specs.Operations.{plain_ir, constant, store_object, binary_op, unary_op, conversion, label, jump};
 ghost use Rattle.ec_lower.specs.Emits.{Emits};
 ghost use Rattle.ec_lower_code.specs.Code.{temp, result_temp, truth_code};
 
@@ -161,15 +161,6 @@ pub fn put_number(code: &mut Seq<Ir>, n: &i128, ty: &CType, t: u16) -> Result<()
 {
     let op = number(temp(t, ty), n);
     put(code, op)?;
-    Ok(())
-}
-
-/// The value of a scalar object.
-pub fn put_load(code: &mut Seq<Ir>, ty: &CType, o: u16, t: u16) -> Result<(), NoMemory>
-    ensures { OnOk result (Emits code.old.items code.new.items (λ rest.
-        load_object (temp t (plain_type ty.now)) o 0 ∷ rest)) }
-{
-    put(code, Ir::LoadObj(temp(t, ty), o, 0))?;
     Ok(())
 }
 

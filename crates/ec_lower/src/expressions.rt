@@ -1,23 +1,27 @@
 //! The operations of expressions.
 ghost use Rattle.std.specs.Prelude.{◌≡◌, ◌+◌, ◌∷◌, pos, slice_get, OnOk, IfOk};
 ghost use Rattle.std.specs.Option.{option_copied};
-ghost use Rattle.ec_core.specs.Plain.{plain_type, plain_expr, plain_exprs, plain_node, plain_program};
+ghost use Rattle.ec_core.specs.Plain.{plain_type, plain_expr, plain_exprs, plain_node, plain_place, plain_program};
 ghost use Rattle.ec_core.specs.Operators.{step_operator};
 ghost use Rattle.ec_core.specs.Plain.{logical_or, conditional};
 ghost use Rattle.ec_core.specs.Typing.{int};
 ghost use Rattle.ec_core.specs.PortTable.{plain_table};
-ghost use Rattle.ec_ir.specs.Operations.{constant, load_object};
-ghost use Rattle.ec_lower.specs.Emits.{Emits, plain_operand};
+ghost use Rattle.ec_ir.specs.Operations.{constant};
+ghost use Rattle.ec_lower.specs.Emits.{Emits, IsLaidOut, plain_operand, plain_site};
 ghost use Rattle.ec_lower_code.specs.Code.{temp, place_behind, access_code, expr_labels, node_labels, option_labels};
+ghost use Rattle.ec_lower_code.specs.Code.{place_labels, load_from, value_place, settled_code, place_code};
 ghost use Rattle.ec_lower_code.specs.Code.{exprs_labels, expr_code, node_code, option_code, args_code};
 ghost use Rattle.ec_lower_code.specs.Code.{params_code, params_of, step_code};
 
 use crate::emit::{
-    above, behind, put, put_binary, put_conversion, put_load, put_number, put_unary, result_temp,
-    temp, truth,
+    above, behind, put, put_binary, put_conversion, put_number, put_unary, result_temp, temp, truth,
+};
+use crate::places::{
+    Site, offset_of, put_address, put_further, put_load, put_null, put_settled, put_store, site_of,
+    value_place,
 };
 use crate::ports::{place_behind, put_access, put_group};
-use crate::updates::{step, update};
+use crate::updates::{change, step};
 use ec_core::{CType, Expr, Node, PlaceExpr, Program};
 use ec_fx::Mode;
 use ec_iohw::{IoOp, IoTable};
@@ -37,6 +41,7 @@ pub fn lower_expr(
     l: u64,
     t: u16,
 ) -> Result<u64, NoMemory>
+    requires { IsLaidOut (plain_program program.now) }
     ensures next { IfOk result (λ m. m ≡ l + expr_labels (plain_expr e.now)) }
     ensures code { OnOk result (Emits code.old.items code.new.items
         (expr_code (plain_program program.now) (plain_table io.now) (plain_expr e.now) l t)) }
@@ -46,9 +51,21 @@ pub fn lower_expr(
             put_number(code, n, &e.ty, t)?;
             Ok(l)
         }
-        Node::Load(PlaceExpr::Object(o)) => {
-            put_load(code, &e.ty, *o, t)?;
+        Node::Null => {
+            put_null(code, &e.ty, t)?;
             Ok(l)
+        }
+        Node::Load(p) => {
+            let m = lower_place(code, alloc, program, io, p, l, t)?;
+            let site = site_of(program, p, t)?;
+            put_load(code, &e.ty, site, t)?;
+            Ok(m)
+        }
+        Node::AddressOf(p) => {
+            let m = lower_place(code, alloc, program, io, p, l, t)?;
+            let site = site_of(program, p, t)?;
+            put_address(code, site, &e.ty, t)?;
+            Ok(m)
         }
         Node::Unary(op, a) => {
             let m = lower_expr(code, alloc, program, io, a, l, t)?;
@@ -92,31 +109,38 @@ fn lower_effect(
     l: u64,
     t: u16,
 ) -> Result<u64, NoMemory>
+    requires { IsLaidOut (plain_program program.now) }
     ensures next { IfOk result (λ m. m ≡ l + node_labels (plain_node node.now)) }
     ensures code { OnOk result (Emits code.old.items code.new.items
         (node_code (plain_program program.now) (plain_table io.now) (plain_type ty.now) mode
         (plain_node node.now) l t)) }
 {
     match node {
-        Node::Assign(PlaceExpr::Object(o), a) => {
-            let m = lower_expr(code, alloc, program, io, a, l, t)?;
-            put(code, Ir::StoreObj(*o, 0, temp(t, ty)))?;
+        Node::Assign(p, a) => {
+            let k = lower_place(code, alloc, program, io, p, l, t)?;
+            let site = site_of(program, p, t)?;
+            let u = value_place(site, t)?;
+            let m = lower_expr(code, alloc, program, io, a, k, u)?;
+            put_store(code, ty, site, u)?;
+            put_settled(code, site, ty, t)?;
             Ok(m)
         }
-        Node::Compound(op, own, PlaceExpr::Object(o), a) => {
-            put(code, Ir::LoadObj(temp(t, ty), *o, 0))?;
-            let u = above(t)?;
-            let m = lower_expr(code, alloc, program, io, a, l, u)?;
-            update(code, alloc, *op, *own, mode, ty, *o, t, &a.ty)?;
+        Node::Compound(op, own, p, a) => {
+            let k = lower_place(code, alloc, program, io, p, l, t)?;
+            let site = site_of(program, p, t)?;
+            let u = value_place(site, t)?;
+            put_load(code, ty, site, u)?;
+            let up = above(u)?;
+            let m = lower_expr(code, alloc, program, io, a, k, up)?;
+            change(code, alloc, *op, *own, mode, ty, site, u, &a.ty)?;
+            put_settled(code, site, ty, t)?;
             Ok(m)
         }
-        Node::Step {
-            up,
-            prefix,
-            place: PlaceExpr::Object(o),
-        } => {
-            lower_step(code, alloc, *up, *prefix, ty, mode, *o, t)?;
-            Ok(l)
+        Node::Step { up, prefix, place } => {
+            let m = lower_place(code, alloc, program, io, place, l, t)?;
+            let site = site_of(program, place, t)?;
+            put_step(code, alloc, *up, *prefix, ty, mode, site, t)?;
+            Ok(m)
         }
         Node::Call(f, args) => {
             let m = lower_args(code, alloc, program, io, args.as_slice(), l, t)?;
@@ -131,26 +155,61 @@ fn lower_effect(
     }
 }
 
-/// Those of a step of an object.
-fn lower_step(
+/// Those of a step of a place, whose pointer, where there is one, stands at `t`.
+fn put_step(
     code: &mut Seq<Ir>,
     alloc: Global,
     up: bool,
     prefix: bool,
     ty: &CType,
     mode: Mode,
-    o: u16,
+    site: Site,
     t: u16,
 ) -> Result<(), NoMemory>
-    ensures { OnOk result (Emits code.old.items code.new.items (λ rest. load_object (temp t (plain_type ty.now)) o 0
-        ∷ constant (temp (t + 1) int) (pos 1) ∷ step_code prefix (step_operator up) mode
-        (plain_type ty.now) o t rest)) }
+    ensures { OnOk result (Emits code.old.items code.new.items (λ rest. let s = plain_site site in
+        let v = value_place s t in let ty = plain_type ty.now in
+        load_from (temp v ty) s ∷ constant (temp (v + 1) int) (pos 1)
+        ∷ step_code prefix (step_operator up) mode ty s v (settled_code s ty t rest))) }
 {
-    put(code, Ir::LoadObj(temp(t, ty), o, 0))?;
-    let at = above(t)?;
+    let v = value_place(site, t)?;
+    put_load(code, ty, site, v)?;
+    let at = above(v)?;
     put(code, Ir::Const(Temp { at, bytes: 2 }, 1))?;
-    step(code, alloc, prefix, up, mode, ty, o, t)?;
+    step(code, alloc, prefix, up, mode, ty, site, v)?;
+    put_settled(code, site, ty, t)?;
     Ok(())
+}
+
+/// Those of the pointer to a place, where there is one.
+#[cycle(lower)]
+fn lower_place(
+    code: &mut Seq<Ir>,
+    alloc: Global,
+    program: &Program,
+    io: &IoTable,
+    p: &PlaceExpr,
+    l: u64,
+    t: u16,
+) -> Result<u64, NoMemory>
+    requires { IsLaidOut (plain_program program.now) }
+    ensures next { IfOk result (λ m. m ≡ l + place_labels (plain_place p.now)) }
+    ensures code { OnOk result (Emits code.old.items code.new.items
+        (place_code (plain_program program.now) (plain_table io.now) (plain_place p.now) l t)) }
+{
+    match p {
+        PlaceExpr::Object(_) => Ok(l),
+        PlaceExpr::Deref(e) => {
+            let m = lower_expr(code, alloc, program, io, e, l, t)?;
+            Ok(m)
+        }
+        PlaceExpr::Member(q, i) => {
+            let m = lower_place(code, alloc, program, io, q, l, t)?;
+            let site = site_of(program, q, t)?;
+            let k = offset_of(program, q, *i)?;
+            put_further(code, k, site)?;
+            Ok(m)
+        }
+    }
 }
 
 /// Those of a truth value or a choice.
@@ -166,6 +225,7 @@ fn lower_choice(
     l: u64,
     t: u16,
 ) -> Result<u64, NoMemory>
+    requires { IsLaidOut (plain_program program.now) }
     ensures next { IfOk result (λ m. m ≡ l + node_labels (plain_node node.now)) }
     ensures code { OnOk result (Emits code.old.items code.new.items
         (node_code (plain_program program.now) (plain_table io.now) (plain_type ty.now) mode
@@ -203,7 +263,7 @@ fn lower_choice(
     }
 }
 
-/// Those of an operation on a port or a group. `lower` takes no other form.
+/// Those of an operation on a port or a group. There is no other form.
 #[cycle(lower)]
 fn lower_port(
     code: &mut Seq<Ir>,
@@ -216,6 +276,7 @@ fn lower_port(
     l: u64,
     t: u16,
 ) -> Result<u64, NoMemory>
+    requires { IsLaidOut (plain_program program.now) }
     ensures next { IfOk result (λ m. m ≡ l + node_labels (plain_node node.now)) }
     ensures code { OnOk result (Emits code.old.items code.new.items
         (node_code (plain_program program.now) (plain_table io.now) (plain_type ty.now) mode
@@ -296,6 +357,7 @@ fn lower_io(
     l: u64,
     t: u16,
 ) -> Result<u64, NoMemory>
+    requires { IsLaidOut (plain_program program.now) }
     ensures next { IfOk result (λ m. m ≡ l + (option_labels (plain_operand (option_copied index.entry))
         + option_labels (plain_operand (option_copied value.entry)))) }
     ensures code { OnOk result (Emits code.old.items code.new.items (λ rest.
@@ -322,6 +384,7 @@ fn lower_operand(
     l: u64,
     t: u16,
 ) -> Result<u64, NoMemory>
+    requires { IsLaidOut (plain_program program.now) }
     ensures next { IfOk result (λ m. m ≡ l + option_labels (plain_operand (option_copied e.entry))) }
     ensures code { OnOk result (Emits code.old.items code.new.items (option_code (plain_program program.now)
         (plain_table io.now) (plain_operand (option_copied e.entry)) l t)) }
@@ -349,6 +412,7 @@ fn lower_or(
     l: u64,
     t: u16,
 ) -> Result<u64, NoMemory>
+    requires { IsLaidOut (plain_program program.now) }
     ensures next { IfOk result (λ m. m ≡ l + 4 + expr_labels (plain_expr a.now) + expr_labels (plain_expr b.now)) }
     ensures code { OnOk result (Emits code.old.items code.new.items (node_code (plain_program program.now)
         (plain_table io.now)
@@ -383,6 +447,7 @@ fn lower_cond(
     l: u64,
     t: u16,
 ) -> Result<u64, NoMemory>
+    requires { IsLaidOut (plain_program program.now) }
     ensures next { IfOk result (λ m. m ≡ l + 2 + expr_labels (plain_expr c.now) + expr_labels (plain_expr a.now)
         + expr_labels (plain_expr b.now)) }
     ensures code { OnOk result (Emits code.old.items code.new.items (node_code (plain_program program.now)
@@ -412,6 +477,7 @@ fn lower_args(
     l: u64,
     t: u16,
 ) -> Result<u64, NoMemory>
+    requires { IsLaidOut (plain_program program.now) }
     ensures next { IfOk result (λ m. m ≡ l + exprs_labels (plain_exprs args.now)) }
     ensures code { OnOk result (Emits code.old.items code.new.items
         (args_code (plain_program program.now) (plain_table io.now) (plain_exprs args.now) l t)) }

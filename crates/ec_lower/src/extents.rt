@@ -1,14 +1,14 @@
 //! How many labels the operations of a part have, and how many places its temporaries take.
-ghost use Rattle.std.specs.Prelude.{◌≡◌, ◌+◌, max, if◌then◌else◌, [], ◌∷◌, option_map, IfOk};
+ghost use Rattle.std.specs.Prelude.{◌≡◌, ℕ, ◌+◌, max, if◌then◌else◌, List, [], ◌∷◌, option_map, IfOk};
 ghost use Rattle.std.specs.Option.{option_copied};
-ghost use Rattle.ec_core.specs.Needs.{greatest_from, expr_need, node_need, operand_needs, option_needs, exprs_needs};
+ghost use Rattle.ec_core.specs.Needs.{greatest_from, expr_need, place_needs, node_need, operand_needs, option_needs, exprs_needs};
 ghost use Rattle.ec_core.specs.Needs.{most, option_need};
 ghost use Rattle.ec_core.specs.PortOperations.{is_update, port_operation};
 ghost use Rattle.ec_core.specs.Needs.{stmt_need, stmts_need};
-ghost use Rattle.ec_core.specs.Plain.{branch, plain_expr, plain_exprs, plain_node, plain_stmt, plain_stmts};
-ghost use Rattle.ec_lower.specs.Emits.{plain_operand, plain_other};
+ghost use Rattle.ec_core.specs.Plain.{branch, plain_expr, plain_exprs, plain_node, plain_place, plain_stmt, plain_stmts};
+ghost use Rattle.ec_lower.specs.Emits.{before, plain_operand, plain_other};
 ghost use Rattle.ec_core.specs.Needs.{kind_need, option_stmt_need};
-ghost use Rattle.ec_lower_code.specs.Code.{expr_labels, node_labels, option_labels, exprs_labels, optional_labels};
+ghost use Rattle.ec_lower_code.specs.Code.{expr_labels, node_labels, place_labels, option_labels, exprs_labels, optional_labels};
 
 use crate::emit::{above, behind};
 use crate::ports::is_update;
@@ -64,6 +64,98 @@ fn between(a: Extent, b: Extent, c: Extent, own: u64) -> Result<Extent, NoMemory
     })
 }
 
+/// The labels of the pointer to a place, and how many places it takes, where there is a pointer.
+#[derive(Clone, Copy)]
+struct Reach {
+    labels: u64,
+    places: Option<u16>,
+}
+
+/// That of a node with a place and no operands.
+fn reached(x: Reach) -> Extent
+    ensures labels { result.labels ≡ x.labels }
+    ensures places { result.places ≡ node_need (before x.places []) }
+{
+    let places = match x.places {
+        None => 1,
+        Some(n) => n.max(1),
+    };
+    Extent {
+        labels: x.labels,
+        places,
+    }
+}
+
+/// That of an assignment of the value of an expression to a place.
+fn assigned(x: Reach, y: Extent) -> Result<Extent, NoMemory>
+    ensures labels { IfOk result (λ z. z.labels ≡ x.labels + y.labels) }
+    ensures places { IfOk result (λ z. z.places ≡ node_need (before x.places (y.places ∷ []))) }
+{
+    let labels = behind(x.labels, y.labels)?;
+    let second = above(y.places)?;
+    let places = match x.places {
+        None => y.places.max(1),
+        Some(n) => n.max(second),
+    };
+    Ok(Extent { labels, places })
+}
+
+/// That of a compound assignment, whose old value is kept too.
+fn updated(x: Reach, y: Extent) -> Result<Extent, NoMemory>
+    ensures labels { IfOk result (λ z. z.labels ≡ x.labels + y.labels) }
+    ensures places { IfOk result (λ z. z.places ≡ node_need (before x.places (1 ∷ y.places ∷ []))) }
+{
+    let labels = behind(x.labels, y.labels)?;
+    let second = above(y.places)?;
+    let third = above(second)?;
+    let places = match x.places {
+        None => second.max(1),
+        Some(n) => n.max(third).max(2),
+    };
+    Ok(Extent { labels, places })
+}
+
+/// That of a step, with its old value and the 1.
+fn stepped(x: Reach) -> Extent
+    ensures labels { result.labels ≡ x.labels }
+    ensures places { result.places ≡ node_need (before x.places (1 ∷ 1 ∷ [])) }
+{
+    let places = match x.places {
+        None => 2,
+        Some(n) => n.max(3),
+    };
+    Extent {
+        labels: x.labels,
+        places,
+    }
+}
+
+/// That of the pointer to a place.
+#[cycle(extents)]
+fn place_extent(p: &PlaceExpr) -> Result<Reach, NoMemory>
+    ensures labels { IfOk result (λ x. x.labels ≡ place_labels (plain_place p.now)) }
+    ensures places { IfOk result (λ x. (rest : List ℕ) → place_needs (plain_place p.now) rest
+        ≡ before x.places rest) }
+{
+    match p {
+        PlaceExpr::Object(_) => Ok(Reach {
+            labels: 0,
+            places: None,
+        }),
+        PlaceExpr::Deref(e) => {
+            let x = expr_extent(e)?;
+            Ok(Reach {
+                labels: x.labels,
+                places: Some(x.places),
+            })
+        }
+        PlaceExpr::Member(q, _) => {
+            let x = place_extent(q)?;
+            Ok(x)
+        }
+    }
+}
+
 /// That of an expression.
 #[cycle(extents)]
 pub fn expr_extent(e: &Expr) -> Result<Extent, NoMemory>
@@ -71,10 +163,18 @@ pub fn expr_extent(e: &Expr) -> Result<Extent, NoMemory>
     ensures places { IfOk result (λ x. x.places ≡ expr_need (plain_expr e.now)) }
 {
     match &e.node {
-        Node::Number(_) | Node::Load(PlaceExpr::Object(_)) => Ok(Extent {
+        Node::Number(_) | Node::Null => Ok(Extent {
             labels: 0,
             places: 1,
         }),
+        Node::Load(p) => {
+            let x = place_extent(p)?;
+            Ok(reached(x))
+        }
+        Node::AddressOf(p) => {
+            let x = place_extent(p)?;
+            Ok(reached(x))
+        }
         Node::Unary(_, a) => {
             let x = expr_extent(a)?;
             let whole = alone(x, 0)?;
@@ -85,27 +185,36 @@ pub fn expr_extent(e: &Expr) -> Result<Extent, NoMemory>
             let whole = alone(x, 0)?;
             Ok(whole)
         }
-        Node::Assign(PlaceExpr::Object(_), a) => {
-            let x = expr_extent(a)?;
-            let whole = alone(x, 0)?;
+        node => {
+            let x = change_extent(node)?;
+            Ok(x)
+        }
+    }
+}
+
+/// That of a node that changes a place.
+#[cycle(extents)]
+fn change_extent(node: &Node) -> Result<Extent, NoMemory>
+    ensures labels { IfOk result (λ x. x.labels ≡ node_labels (plain_node node.now)) }
+    ensures places { IfOk result (λ x. x.places ≡ node_need (operand_needs (plain_node node.now))) }
+{
+    match node {
+        Node::Assign(p, a) => {
+            let x = place_extent(p)?;
+            let y = expr_extent(a)?;
+            let whole = assigned(x, y)?;
             Ok(whole)
         }
-        Node::Compound(_, _, PlaceExpr::Object(_), a) => {
-            let x = expr_extent(a)?;
-            let old = Extent {
-                labels: 0,
-                places: 1,
-            };
-            let whole = beside(old, x, 0)?;
+        Node::Compound(_, _, p, a) => {
+            let x = place_extent(p)?;
+            let y = expr_extent(a)?;
+            let whole = updated(x, y)?;
             Ok(whole)
         }
-        Node::Step {
-            place: PlaceExpr::Object(_),
-            ..
-        } => Ok(Extent {
-            labels: 0,
-            places: 2,
-        }),
+        Node::Step { place, .. } => {
+            let x = place_extent(place)?;
+            Ok(stepped(x))
+        }
         node => {
             let x = choice_extent(node)?;
             Ok(x)
@@ -159,7 +268,7 @@ fn choice_extent(node: &Node) -> Result<Extent, NoMemory>
     }
 }
 
-/// That of an operation on a port or a group. `lower` takes no other form.
+/// That of an operation on a port or a group. There is no other form.
 #[cycle(extents)]
 fn port_extent(node: &Node) -> Result<Extent, NoMemory>
     ensures labels { IfOk result (λ x. x.labels ≡ node_labels (plain_node node.now)) }

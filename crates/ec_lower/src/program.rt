@@ -7,8 +7,7 @@ ghost use Rattle.ec_ir.specs.Operations.{plain_ir, label, plain_ir_function, pla
 ghost use Rattle.ec_ir.specs.Valid.{ValidIr};
 ghost use Rattle.ec_lower.specs.Emits.{IsLaidOut};
 ghost use Rattle.ec_lower_code.specs.Code.{stmt_code, end_code, lowered_function, lowered};
-ghost use Rattle.ec_lower_code.specs.Correct.{Follows, IsMadeOf, IsMadeOfNumbers};
-ghost use Rattle.ec_lower_code.specs.Parts.{IsLowered, IsCompiled};
+ghost use Rattle.ec_lower_code.specs.Correct.{Follows, IsMadeOf};
 
 use crate::copies::{copied_objects, copied_structs};
 use crate::emit::put;
@@ -18,7 +17,7 @@ use crate::statements::lower_stmt;
 use ec_core::{Func, Program, Stmt};
 use ec_iohw::IoTable;
 use ec_ir::{Ir, IrFunc, IrProgram};
-use ec_lower_code::{compiled_is_of_numbers, lowered_follows, lowered_is_made_of_its_program};
+use ec_lower_code::{lowered_follows, lowered_is_made_of_its_program};
 use ec_space::{NoMemory, Seq};
 use std::alloc::Global;
 
@@ -71,8 +70,7 @@ fn lower_functions(alloc: Global, program: &Program, io: &IoTable) -> Result<Seq
     Ok(funcs)
 }
 
-/// The operations of a program whose objects have types with leaves, be it valid or not. Of an expression or a statement
-/// that is not lowered they say nothing.
+/// The operations of a program whose objects have types with leaves, be it valid or not.
 pub fn operations(alloc: Global, program: &Program, io: &IoTable) -> Result<IrProgram, NoMemory>
     requires { IsLaidOut (plain_program program.now) }
     ensures { IfOk result (λ ir. plain_ir_program ir ≡ lowered (plain_program program.now) (plain_table io.now)) }
@@ -88,24 +86,19 @@ pub fn operations(alloc: Global, program: &Program, io: &IoTable) -> Result<IrPr
     })
 }
 
-/// The operations of a program that has no arrays, structs or pointers. They reach all events that the program shows,
-/// within its work, and show no others; they keep the rules of intermediate programs, and their words are within the
-/// program's weight. Where `is_compiled` tells no statement, they are operations on integers, on fixed-point numbers and
-/// on ports. Only running out of memory keeps it from an answer.
+/// The operations of a program. They reach all events that the program shows, within its work, and show no others;
+/// they keep the rules of intermediate programs, and their words are within the program's weight. Only running out of
+/// memory keeps it from an answer.
 pub fn lower(alloc: Global, program: &Program, io: &IoTable) -> Result<IrProgram, NoMemory>
     requires valid { Valid (plain_program program.now) io.now }
-    requires lowered { IsLowered (plain_program program.now) }
     ensures code { IfOk result (λ ir. plain_ir_program ir ≡ lowered (plain_program program.now) (plain_table io.now)) }
     ensures follows { IfOk result (λ ir. Follows (plain_program program.now) io.now (plain_ir_program ir)) }
     ensures made { IfOk result (λ ir. IsMadeOf (plain_program program.now) io.now (plain_ir_program ir)) }
     ensures valid { IfOk result (λ ir. ValidIr (plain_ir_program ir)) }
-    ensures compiled { IsCompiled (plain_program program.now)
-        → IfOk result (λ ir. IsMadeOfNumbers (plain_program program.now) (plain_ir_program ir)) }
 {
     read_groups(io);
     lowered_follows();
     lowered_is_made_of_its_program();
-    compiled_is_of_numbers();
     let ir = operations(alloc, program, io)?;
     Ok(ir)
 }

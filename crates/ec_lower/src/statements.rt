@@ -48,6 +48,7 @@ fn lower_values(
     values: &[Expr],
     l: u64,
 ) -> Result<u64, NoMemory>
+    requires { IsLaidOut (plain_program program.now) }
     ensures next { IfOk result (λ m. m ≡ l + exprs_labels (plain_exprs values.now)) }
     ensures code { OnOk result (Emits code.old.items code.new.items
         (init_code (plain_program program.now) (plain_table io.now) (map plain_leaf leaves.now.items) o
@@ -98,6 +99,7 @@ fn lower_return(
     out: u64,
     on: u64,
 ) -> Result<u64, NoMemory>
+    requires { IsLaidOut (plain_program program.now) }
     ensures next { IfOk result (λ m. m ≡ l + optional_labels (option_map plain_expr (option_copied e.entry))) }
     ensures code { OnOk result (Emits code.old.items code.new.items (kind_code (plain_program program.now)
         (plain_table io.now)
@@ -126,6 +128,7 @@ fn lower_test(
     out: u64,
     l: u64,
 ) -> Result<u64, NoMemory>
+    requires { IsLaidOut (plain_program program.now) }
     ensures next { IfOk result (λ m. m ≡ l + optional_labels (option_map plain_expr (option_copied c.entry))) }
     ensures code { OnOk result (Emits code.old.items code.new.items
         (test_code (plain_program program.now) (plain_table io.now) (option_map plain_expr
@@ -150,6 +153,7 @@ fn lower_last(
     last: Option<&Expr>,
     l: u64,
 ) -> Result<(), NoMemory>
+    requires { IsLaidOut (plain_program program.now) }
     ensures { OnOk result (Emits code.old.items code.new.items
         (last_code (plain_program program.now) (plain_table io.now) (option_map plain_expr
         (option_copied last.entry)) l)) }
@@ -172,6 +176,7 @@ fn begin_loop(
     c: Option<&Expr>,
     l: u64,
 ) -> Result<u64, NoMemory>
+    requires { IsLaidOut (plain_program program.now) }
     ensures next { IfOk result (λ m. m ≡ l + 4 + optional_labels (option_map plain_expr (option_copied c.entry))) }
     ensures code { OnOk result (Emits code.old.items code.new.items (λ rest. label l
         ∷ test_code (plain_program program.now) (plain_table io.now) (option_map plain_expr (option_copied c.entry))
@@ -197,6 +202,7 @@ fn end_loop(
     l: u64,
     k: u64,
 ) -> Result<(), NoMemory>
+    requires { IsLaidOut (plain_program program.now) }
     ensures { OnOk result (Emits code.old.items code.new.items (λ rest. label (l + 2)
         ∷ last_code (plain_program program.now) (plain_table io.now) (option_map plain_expr
         (option_copied last.entry)) k

@@ -3,12 +3,15 @@ ghost use Rattle.std.specs.Prelude.{◌≡◌, ◌∷◌, OnOk};
 ghost use Rattle.ec_core.specs.Operators.{number_type, converted_beside, promoted_type, step_operator};
 ghost use Rattle.ec_core.specs.Plain.{plain_type};
 ghost use Rattle.ec_core.specs.TypeLaws.{factor_beside};
-ghost use Rattle.ec_lower.specs.Emits.{Emits};
-ghost use Rattle.ec_ir.specs.Operations.{conversion, binary_op, store_object};
+ghost use Rattle.ec_core.specs.Typing.{int};
+ghost use Rattle.ec_lower.specs.Emits.{Emits, plain_site};
+ghost use Rattle.ec_ir.specs.Operations.{conversion, binary_op};
 ghost use Rattle.ec_core.specs.ArithmeticTypes.{type_of};
-ghost use Rattle.ec_lower_code.specs.Code.{temp, update_types, update_code, keeping_code, step_code};
+ghost use Rattle.ec_lower_code.specs.Code.{temp, store_to, update_types, update_code, keeping_code};
+ghost use Rattle.ec_lower_code.specs.Code.{moving_code, change_code, postfix_code, step_code};
 
-use crate::emit::{above, put, put_binary, put_conversion, temp};
+use crate::emit::{above, put_binary, put_conversion};
+use crate::places::{Site, put_store};
 use ec_core::{Arithmetic, BinOp, CType, FixedType, IntegerType, signed_kind};
 use ec_fx::Mode;
 use ec_ir::Ir;
@@ -163,51 +166,51 @@ fn operate(
     Ok(())
 }
 
-/// The result at `q` is brought to the object's type and stored to it.
+/// The result at `q` is brought to the place's type and stored to it.
 fn give(
     code: &mut Seq<Ir>,
     alloc: Global,
     op: BinOp,
     mode: Mode,
     ty: &CType,
-    o: u16,
+    site: Site,
     q: u16,
     right: &CType,
 ) -> Result<(), NoMemory>
     ensures { OnOk result (Emits code.old.items code.new.items (λ rest. let ty = plain_type ty.now in
         let right = plain_type right.now in let types = update_types op (number_type ty) (number_type right) in
         let z = type_of types.result in conversion (temp q ty) ty mode (temp q z) z
-        ∷ store_object o 0 (temp q ty) ∷ rest)) }
+        ∷ store_to (plain_site site) (temp q ty) ∷ rest)) }
 {
     let z = value_type(op, ty, right);
     put_conversion(code, alloc, q, ty, mode, &z)?;
-    put(code, Ir::StoreObj(o, 0, temp(q, ty)))?;
+    put_store(code, ty, site, q)?;
     Ok(())
 }
 
-/// A compound assignment to an object, from its old value at `t` and the right side above it.
-pub fn update(
+/// A compound assignment of numbers, from the old value at `t` and the right side above it.
+fn update(
     code: &mut Seq<Ir>,
     alloc: Global,
     op: BinOp,
     own: Mode,
     mode: Mode,
     ty: &CType,
-    o: u16,
+    site: Site,
     t: u16,
     right: &CType,
 ) -> Result<(), NoMemory>
     ensures { OnOk result (Emits code.old.items code.new.items (let ty = plain_type ty.now in
         let right = plain_type right.now in
-        update_code op (update_types op (number_type ty) (number_type right)) own mode ty o t right)) }
+        update_code op (update_types op (number_type ty) (number_type right)) own mode ty (plain_site site) t right)) }
 {
     let up = above(t)?;
     operate(code, alloc, op, own, t, t, ty, up, right)?;
-    give(code, alloc, op, mode, ty, o, t, right)?;
+    give(code, alloc, op, mode, ty, site, t, right)?;
     Ok(())
 }
 
-/// The old value is brought back to the object's type.
+/// The old value is brought back to the place's type.
 fn bring_back(
     code: &mut Seq<Ir>,
     alloc: Global,
@@ -232,22 +235,96 @@ fn keep(
     op: BinOp,
     mode: Mode,
     ty: &CType,
-    o: u16,
+    site: Site,
     t: u16,
     right: &CType,
 ) -> Result<(), NoMemory>
     ensures { OnOk result (Emits code.old.items code.new.items (let ty = plain_type ty.now in
         let right = plain_type right.now in
-        keeping_code op (update_types op (number_type ty) (number_type right)) mode ty o t right)) }
+        keeping_code op (update_types op (number_type ty) (number_type right)) mode ty (plain_site site) t right)) }
 {
     let up = above(t)?;
     operate(code, alloc, op, mode, up, t, ty, up, right)?;
-    give(code, alloc, op, mode, ty, o, up, right)?;
+    give(code, alloc, op, mode, ty, site, up, right)?;
     bring_back(code, alloc, op, mode, ty, t, right)?;
     Ok(())
 }
 
-/// A step of an object by the 1 above its old value at `t`.
+/// A pointer at `t` that is moved by the number of elements above it: the result goes to `q`, and is stored.
+fn advance(
+    code: &mut Seq<Ir>,
+    alloc: Global,
+    op: BinOp,
+    mode: Mode,
+    ty: &CType,
+    site: Site,
+    t: u16,
+    q: u16,
+    right: &CType,
+) -> Result<(), NoMemory>
+    ensures { OnOk result (Emits code.old.items code.new.items
+        (moving_code op mode (plain_type ty.now) (plain_site site) t q (plain_type right.now))) }
+{
+    let up = above(t)?;
+    put_binary(code, alloc, op, ty, mode, q, t, ty, up, right)?;
+    put_store(code, ty, site, q)?;
+    Ok(())
+}
+
+/// A compound assignment to a place of a type, from its old value at `t` and the right side above it.
+pub fn change(
+    code: &mut Seq<Ir>,
+    alloc: Global,
+    op: BinOp,
+    own: Mode,
+    mode: Mode,
+    ty: &CType,
+    site: Site,
+    t: u16,
+    right: &CType,
+) -> Result<(), NoMemory>
+    ensures { OnOk result (Emits code.old.items code.new.items
+        (change_code op own mode (plain_type ty.now) (plain_site site) t (plain_type right.now))) }
+{
+    match ty {
+        CType::Ptr { .. } => advance(code, alloc, op, own, ty, site, t, t, right),
+        CType::Void => update(code, alloc, op, own, mode, ty, site, t, right),
+        CType::Int { .. } => update(code, alloc, op, own, mode, ty, site, t, right),
+        CType::Fx { .. } => update(code, alloc, op, own, mode, ty, site, t, right),
+        CType::Array { .. } => update(code, alloc, op, own, mode, ty, site, t, right),
+        CType::Struct { .. } => update(code, alloc, op, own, mode, ty, site, t, right),
+    }
+}
+
+/// A postfix step by the 1 above the old value at `t`.
+fn postfix(
+    code: &mut Seq<Ir>,
+    alloc: Global,
+    op: BinOp,
+    mode: Mode,
+    ty: &CType,
+    site: Site,
+    t: u16,
+    one: &CType,
+) -> Result<(), NoMemory>
+    requires { plain_type one.now ≡ int }
+    ensures { OnOk result (Emits code.old.items code.new.items
+        (postfix_code op mode (plain_type ty.now) (plain_site site) t)) }
+{
+    match ty {
+        CType::Ptr { .. } => {
+            let up = above(t)?;
+            advance(code, alloc, op, mode, ty, site, t, up, one)
+        }
+        CType::Void => keep(code, alloc, op, mode, ty, site, t, one),
+        CType::Int { .. } => keep(code, alloc, op, mode, ty, site, t, one),
+        CType::Fx { .. } => keep(code, alloc, op, mode, ty, site, t, one),
+        CType::Array { .. } => keep(code, alloc, op, mode, ty, site, t, one),
+        CType::Struct { .. } => keep(code, alloc, op, mode, ty, site, t, one),
+    }
+}
+
+/// A step of a place by the 1 above its old value at `t`.
 pub fn step(
     code: &mut Seq<Ir>,
     alloc: Global,
@@ -255,11 +332,11 @@ pub fn step(
     up: bool,
     mode: Mode,
     ty: &CType,
-    o: u16,
+    site: Site,
     t: u16,
 ) -> Result<(), NoMemory>
     ensures { OnOk result (Emits code.old.items code.new.items
-        (step_code prefix (step_operator up) mode (plain_type ty.now) o t)) }
+        (step_code prefix (step_operator up) mode (plain_type ty.now) (plain_site site) t)) }
 {
     let op = if up { BinOp::Add } else { BinOp::Sub };
     let one = CType::Int {
@@ -267,8 +344,8 @@ pub fn step(
         bytes: 2,
     };
     if prefix {
-        update(code, alloc, op, mode, mode, ty, o, t, &one)
+        change(code, alloc, op, mode, mode, ty, site, t, &one)
     } else {
-        keep(code, alloc, op, mode, ty, o, t, &one)
+        postfix(code, alloc, op, mode, ty, site, t, &one)
     }
 }

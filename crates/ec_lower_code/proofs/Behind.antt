@@ -6,28 +6,91 @@ use Rattle.ec_core.specs.Layout.{PlainLeaf}
 use Rattle.ec_core.specs.Operators.{OperationTypes, number_type, step_operator}
 use Rattle.ec_core.specs.PortOperations.{PortAction, reads, writes, updates, port_operation}
 use Rattle.ec_core.specs.PortTable.{PlainPort, PlainGroup, PlainTable}
-use Rattle.ec_core.specs.Typing.{type_of_expr, port_value}
+use Rattle.ec_core.specs.Typing.{int, type_of_expr, port_value}
 use Rattle.ec_core.specs.PortAccesses.{pairs_of}
 use Rattle.ec_iohw.specs.declared.operations.IoOp.{IoOp}
 use Rattle.ec_iohw.specs.declared.table.Pair.{Pair}
 use Rattle.ec_ir.specs.declared.operations.Temp.{Temp}
-use Rattle.ec_core.specs.Plain.{PlainType, PlainExpr, expression, PlainNode, number, null, load, address_of, unary, binary, convert, assign, compound, step, logical_not, logical_and, logical_or, conditional, comma, call, io, group, object, deref, member, OptionPlainExpr, no_expr, an_expr, PlainExprs, last_expr, next_expr, PlainStmt, statement, PlainKind, empty, evaluate, block, declare, branch, while_loop, do_loop, for_loop, break_loop, continue_loop, return_value, OptionPlainStmt, no_stmt, a_stmt, PlainStmts, last_stmt, next_stmt, PlainProgram}
+use Rattle.ec_core.specs.Plain.{PlainType, void, integer, fixed, pointer, array, struct, PlainExpr, expression, PlainNode}
+use Rattle.ec_core.specs.Plain.{number, null, load, address_of, unary, binary, convert, assign, compound, step, logical_not}
+use Rattle.ec_core.specs.Plain.{logical_and, logical_or, conditional, comma, call, io, group, PlainPlace, object, deref, member}
+use Rattle.ec_core.specs.Plain.{OptionPlainExpr, no_expr, an_expr, PlainExprs, last_expr, next_expr, PlainStmt, statement}
+use Rattle.ec_core.specs.Plain.{PlainKind, empty, evaluate, block, declare, branch, while_loop, do_loop, for_loop, break_loop}
+use Rattle.ec_core.specs.Plain.{continue_loop, return_value, OptionPlainStmt, no_stmt, a_stmt, PlainStmts, last_stmt, next_stmt}
+use Rattle.ec_core.specs.Plain.{PlainProgram}
 use Rattle.ec_ir.specs.Operations.{PlainIr}
-use Rattle.ec_lower_code.specs.Code.{truth_code, update_types, update_code, step_code, params_code, params_of, port_operator, port_code, place_behind, operand_temp, access_code, pairs_code, group_code, option_labels, option_code, expr_labels, optional_labels, option_stmt_labels, expr_code, node_code, args_code, init_code, test_code, last_code, leaves_of_object, loop_code, stmt_code, kind_code, option_stmt_code, stmts_code}
+use Rattle.ec_lower_code.specs.Code.{truth_code, Site, named, pointed, further_code, value_place, settled_code, address_code}
+use Rattle.ec_lower_code.specs.Code.{update_types, update_code, keeping_code, change_code, postfix_code, step_code, params_code}
+use Rattle.ec_lower_code.specs.Code.{params_of, offset_of, site, port_operator, port_code, place_behind as value_behind}
+use Rattle.ec_lower_code.specs.Code.{operand_temp, access_code, pairs_code, group_code, option_code, expr_labels}
+use Rattle.ec_lower_code.specs.Code.{optional_labels, option_stmt_labels, expr_code, node_code, place_code, args_code}
+use Rattle.ec_lower_code.specs.Code.{init_code, test_code, last_code, leaves_of_object, loop_code, stmt_code, kind_code}
+use Rattle.ec_lower_code.specs.Code.{option_stmt_code, stmts_code}
 use Rattle.ec_lower_code.proofs.Steps.{Stands, behind}
 
 module _ (program : PlainProgram) (table : PlainTable) (code : List PlainIr) where
   pub truth_behind : (h : Bool) (ty : PlainType) (l t : ℕ) (rest : List PlainIr) → Stands code (truth_code h ty l t rest) → Stands code rest
   truth_behind h ty l t rest s = behind code _ rest (behind code _ _ (behind code _ _ (behind code _ _ (behind code _ _ s))))
 
-  pub update_behind : (op : BinOp) (ts : OperationTypes) (own mode : Mode) (ty : PlainType) (o t : ℕ) (right : PlainType) (rest : List PlainIr) → Stands code (update_code op ts own mode ty o t right rest) → Stands code rest
-  update_behind op ts own mode ty o t right rest s = behind code _ rest (behind code _ _ (behind code _ _ (behind code _ _ (behind code _ _ s))))
+  update_behind : (op : BinOp) (ts : OperationTypes) (own mode : Mode) (ty : PlainType) (site : Site) (t : ℕ) (right : PlainType)
+      (rest : List PlainIr) → Stands code (update_code op ts own mode ty site t right rest) → Stands code rest
+  update_behind op ts own mode ty site t right rest s = behind code _ rest
+      (behind code _ _ (behind code _ _ (behind code _ _ (behind code _ _ s))))
 
-  step_behind : (prefix : Bool) (op : BinOp) (mode : Mode) (ty : PlainType) (o t : ℕ) (rest : List PlainIr) → Stands code (step_code prefix op mode ty o t rest) → Stands code rest
-  step_behind true op mode ty o t rest s = behind code _ rest (behind code _ _ (behind code _ _ (behind code _ _ (behind code _ _ s))))
-  step_behind false op mode ty o t rest s = behind code _ rest (behind code _ _ (behind code _ _ (behind code _ _ (behind code _ _ (behind code _ _ s)))))
+  pub change_behind : (op : BinOp) (own mode : Mode) (ty : PlainType) (site : Site) (t : ℕ) (right : PlainType) (rest : List PlainIr)
+      → Stands code (change_code op own mode ty site t right rest) → Stands code rest
+  change_behind op own mode void site t right rest s = update_behind op (update_types op (number_type void) (number_type right)) own mode
+      void site t right rest s
+  change_behind op own mode (integer g b) site t right rest s = update_behind op (update_types op (number_type (integer g b))
+      (number_type right)) own mode (integer g b) site t right rest s
+  change_behind op own mode (fixed k g) site t right rest s = update_behind op (update_types op (number_type (fixed k g))
+      (number_type right)) own mode (fixed k g) site t right rest s
+  change_behind op own mode (pointer c k u) site t right rest s = behind code _ rest (behind code _ _ s)
+  change_behind op own mode (array u n) site t right rest s = update_behind op (update_types op (number_type (array u n))
+      (number_type right)) own mode (array u n) site t right rest s
+  change_behind op own mode (struct n) site t right rest s = update_behind op (update_types op (number_type (struct n)) (number_type right))
+      own mode (struct n) site t right rest s
 
-  pub params_behind : (os : List ℕ) (es : PlainExprs) (t : ℕ) (rest : List PlainIr) → Stands code (params_code os es t rest) → Stands code rest
+  keeping_behind : (op : BinOp) (ts : OperationTypes) (mode : Mode) (ty : PlainType) (site : Site) (t : ℕ) (rest : List PlainIr)
+      → Stands code (keeping_code op ts mode ty site t int rest) → Stands code rest
+  keeping_behind op ts mode ty site t rest s = behind code _ rest
+      (behind code _ _ (behind code _ _ (behind code _ _ (behind code _ _ (behind code _ _ s)))))
+
+  postfix_behind : (op : BinOp) (mode : Mode) (ty : PlainType) (site : Site) (t : ℕ) (rest : List PlainIr)
+      → Stands code (postfix_code op mode ty site t rest) → Stands code rest
+  postfix_behind op mode void site t rest s = keeping_behind op (update_types op (number_type void) (number_type int)) mode void site t rest
+      s
+  postfix_behind op mode (integer g b) site t rest s = keeping_behind op (update_types op (number_type (integer g b)) (number_type int))
+      mode (integer g b) site t rest s
+  postfix_behind op mode (fixed k g) site t rest s = keeping_behind op (update_types op (number_type (fixed k g)) (number_type int)) mode
+      (fixed k g) site t rest s
+  postfix_behind op mode (pointer c k u) site t rest s = behind code _ rest (behind code _ _ s)
+  postfix_behind op mode (array u n) site t rest s = keeping_behind op (update_types op (number_type (array u n)) (number_type int)) mode
+      (array u n) site t rest s
+  postfix_behind op mode (struct n) site t rest s = keeping_behind op (update_types op (number_type (struct n)) (number_type int)) mode
+      (struct n) site t rest s
+
+  step_behind : (prefix : Bool) (op : BinOp) (mode : Mode) (ty : PlainType) (site : Site) (t : ℕ) (rest : List PlainIr)
+      → Stands code (step_code prefix op mode ty site t rest) → Stands code rest
+  step_behind true op mode ty site t rest s = change_behind op mode mode ty site t int rest s
+  step_behind false op mode ty site t rest s = postfix_behind op mode ty site t rest s
+
+  further_behind : (k : ℕ) (site : Site) (rest : List PlainIr) → Stands code (further_code k site rest) → Stands code rest
+  further_behind k (named o offset) rest s = s
+  further_behind k (pointed ptr space) rest s = behind code _ rest s
+
+  settled_behind : (site : Site) (ty : PlainType) (t : ℕ) (rest : List PlainIr) → Stands code (settled_code site ty t rest)
+      → Stands code rest
+  settled_behind (named o offset) ty t rest s = s
+  settled_behind (pointed ptr space) ty t rest s = behind code _ rest s
+
+  address_behind : (site : Site) (ty : PlainType) (t : ℕ) (rest : List PlainIr) → Stands code (address_code site ty t rest)
+      → Stands code rest
+  address_behind (named o offset) ty t rest s = behind code _ rest s
+  address_behind (pointed ptr space) ty t rest s = s
+
+  pub params_behind : (os : List ℕ) (es : PlainExprs) (t : ℕ) (rest : List PlainIr) → Stands code (params_code os es t rest)
+      → Stands code rest
   params_behind [] es t rest h = h
   params_behind (o ∷ os) last_expr t rest h = h
   params_behind (o ∷ os) (next_expr e es) t rest h = params_behind os es (t + 1) rest (behind code _ _ h)
@@ -44,7 +107,7 @@ module _ (program : PlainProgram) (table : PlainTable) (code : List PlainIr) whe
   access_behind op mode None index t rest s = s
   access_behind op mode (Some port) index t rest s =
       port_behind (port_operation op).action (port_operator op) (port_value (port_operation op)) mode port (operand_temp index t) t
-      (place_behind index t) rest s
+      (value_behind index t) rest s
 
   pairs_behind : (pairs : List Pair) (t : ℕ) (rest : List PlainIr) → Stands code (pairs_code pairs t rest) → Stands code rest
   pairs_behind [] t rest s = s
@@ -59,34 +122,43 @@ module _ (program : PlainProgram) (table : PlainTable) (code : List PlainIr) whe
     pub expr_behind : (e : PlainExpr) (l t : ℕ) (rest : List PlainIr) → Stands code (expr_code program table e l t rest) → Stands code rest
     expr_behind (expression ty mode node) l t rest h = node_behind ty mode node l t rest h
 
-    node_behind : (ty : PlainType) (mode : Mode) (node : PlainNode) (l t : ℕ) (rest : List PlainIr) → Stands code (node_code program table ty mode node l t rest) → Stands code rest
+    node_behind : (ty : PlainType) (mode : Mode) (node : PlainNode) (l t : ℕ) (rest : List PlainIr)
+        → Stands code (node_code program table ty mode node l t rest) → Stands code rest
     node_behind ty mode (number n) l t rest h = behind code _ rest h
-    node_behind ty mode null l t rest h = h
-    node_behind ty mode (load (object o)) l t rest h = behind code _ rest h
-    node_behind ty mode (load (deref e)) l t rest h = h
-    node_behind ty mode (load (member q i)) l t rest h = h
-    node_behind ty mode (address_of q) l t rest h = h
+    node_behind ty mode null l t rest h = behind code _ rest h
+    node_behind ty mode (load p) l t rest h = behind code _ rest (place_behind p l t _ h)
+    node_behind ty mode (address_of p) l t rest h = address_behind (site program p t) ty t rest (place_behind p l t _ h)
     node_behind ty mode (unary op a) l t rest h = behind code _ rest (expr_behind a l t _ h)
     node_behind ty mode (binary op a b) l t rest h = behind code _ rest (expr_behind b _ (t + 1) _ (expr_behind a l t _ h))
     node_behind ty mode (convert a) l t rest h = behind code _ rest (expr_behind a l t _ h)
-    node_behind ty mode (assign (object o) a) l t rest h = behind code _ rest (expr_behind a l t _ h)
-    node_behind ty mode (assign (deref e) a) l t rest h = h
-    node_behind ty mode (assign (member q i) a) l t rest h = h
-    node_behind ty mode (compound op own (object o) a) l t rest h = update_behind op (update_types op (number_type ty) (number_type (type_of_expr a))) own mode ty o t (type_of_expr a) rest (expr_behind a l (t + 1) _ (behind code _ _ h))
-    node_behind ty mode (compound op own (deref e) a) l t rest h = h
-    node_behind ty mode (compound op own (member q i) a) l t rest h = h
-    node_behind ty mode (step up prefix (object o)) l t rest h = step_behind prefix (step_operator up) mode ty o t rest (behind code _ _ (behind code _ _ h))
-    node_behind ty mode (step up prefix (deref e)) l t rest h = h
-    node_behind ty mode (step up prefix (member q i)) l t rest h = h
+    node_behind ty mode (assign p a) l t rest h =
+        settled_behind (site program p t) ty t rest (behind code _ _ (expr_behind a _ _ _ (place_behind p l t _ h)))
+    node_behind ty mode (compound op own p a) l t rest h =
+        settled_behind (site program p t) ty t rest (change_behind op own mode ty (site program p t) (value_place (site program p t) t)
+        (type_of_expr a) _ (expr_behind a _ _ _ (behind code _ _ (place_behind p l t _ h))))
+    node_behind ty mode (step up prefix p) l t rest h =
+        settled_behind (site program p t) ty t rest (step_behind prefix (step_operator up) mode ty (site program p t)
+        (value_place (site program p t) t) _ (behind code _ _ (behind code _ _ (place_behind p l t _ h))))
     node_behind ty mode (logical_not a) l t rest h = truth_behind false ty l t rest (behind code _ _ (expr_behind a (l + 2) t _ h))
-    node_behind ty mode (logical_and a b) l t rest h = truth_behind true ty l t rest (behind code _ _ (expr_behind b _ t _ (behind code _ _ (expr_behind a (l + 2) t _ h))))
-    node_behind ty mode (logical_or a b) l t rest h = truth_behind true ty l t rest (behind code _ _ (behind code _ _ (expr_behind b _ t _ (behind code _ _ (behind code _ _ (behind code _ _ (expr_behind a (l + 4) t _ h)))))))
-    node_behind ty mode (conditional c a b) l t rest h = behind code _ rest (expr_behind b _ t _ (behind code _ _ (behind code _ _ (expr_behind a _ t _ (behind code _ _ (expr_behind c (l + 2) t _ h))))))
+    node_behind ty mode (logical_and a b) l t rest h = truth_behind true ty l t rest
+        (behind code _ _ (expr_behind b _ t _ (behind code _ _ (expr_behind a (l + 2) t _ h))))
+    node_behind ty mode (logical_or a b) l t rest h = truth_behind true ty l t rest
+        (behind code _ _ (behind code _ _ (expr_behind b _ t _ (behind code _ _
+        (behind code _ _ (behind code _ _ (expr_behind a (l + 4) t _ h)))))))
+    node_behind ty mode (conditional c a b) l t rest h = behind code _ rest
+        (expr_behind b _ t _ (behind code _ _ (behind code _ _ (expr_behind a _ t _ (behind code _ _ (expr_behind c (l + 2) t _ h))))))
     node_behind ty mode (comma a b) l t rest h = expr_behind b _ t rest (expr_behind a l t _ h)
-    node_behind ty mode (call f args) l t rest h = behind code _ rest (params_behind (params_of program f) args t _ (args_behind args l t _ h))
+    node_behind ty mode (call f args) l t rest h = behind code _ rest (params_behind (params_of program f) args t _
+        (args_behind args l t _ h))
     node_behind ty mode (io op port i v) l t rest h = access_behind op mode (slice_get table.ports port) i t rest
         (operand_behind v _ _ _ (operand_behind i l t _ h))
     node_behind ty mode (group acquire g) l t rest h = group_behind acquire (slice_get table.groups g) t rest h
+
+    pub place_behind : (p : PlainPlace) (l t : ℕ) (rest : List PlainIr) → Stands code (place_code program table p l t rest)
+        → Stands code rest
+    place_behind (object o) l t rest h = h
+    place_behind (deref e) l t rest h = expr_behind e l t rest h
+    place_behind (member p i) l t rest h = further_behind (offset_of program p i) (site program p t) rest (place_behind p l t _ h)
 
     -- an operand that may be absent
     pub operand_behind : (e : OptionPlainExpr) (l t : ℕ) (rest : List PlainIr) → Stands code (option_code program table e l t rest)
@@ -94,16 +166,19 @@ module _ (program : PlainProgram) (table : PlainTable) (code : List PlainIr) whe
     operand_behind no_expr l t rest h = h
     operand_behind (an_expr e) l t rest h = expr_behind e l t rest h
 
-    pub args_behind : (es : PlainExprs) (l t : ℕ) (rest : List PlainIr) → Stands code (args_code program table es l t rest) → Stands code rest
+    pub args_behind : (es : PlainExprs) (l t : ℕ) (rest : List PlainIr) → Stands code (args_code program table es l t rest)
+        → Stands code rest
     args_behind last_expr l t rest h = h
     args_behind (next_expr e es) l t rest h = args_behind es _ (t + 1) rest (expr_behind e l t _ h)
 
-  pub init_behind : (ls : List PlainLeaf) (o : ℕ) (es : PlainExprs) (l : ℕ) (rest : List PlainIr) → Stands code (init_code program table ls o es l rest) → Stands code rest
+  pub init_behind : (ls : List PlainLeaf) (o : ℕ) (es : PlainExprs) (l : ℕ) (rest : List PlainIr)
+      → Stands code (init_code program table ls o es l rest) → Stands code rest
   init_behind [] o es l rest h = h
   init_behind (leaf ∷ ls) o last_expr l rest h = h
   init_behind (leaf ∷ ls) o (next_expr e es) l rest h = init_behind ls o es _ rest (behind code _ _ (expr_behind e l 0 _ h))
 
-  pub test_behind : (c : Option PlainExpr) (out l : ℕ) (rest : List PlainIr) → Stands code (test_code program table c out l rest) → Stands code rest
+  pub test_behind : (c : Option PlainExpr) (out l : ℕ) (rest : List PlainIr) → Stands code (test_code program table c out l rest)
+      → Stands code rest
   test_behind None out l rest h = h
   test_behind (Some c) out l rest h = behind code _ rest (expr_behind c l 0 _ h)
 
@@ -111,35 +186,48 @@ module _ (program : PlainProgram) (table : PlainTable) (code : List PlainIr) whe
   last_behind None l rest h = h
   last_behind (Some e) l rest h = expr_behind e l 0 rest h
 
-  loop_behind : (c last : Option PlainExpr) (l : ℕ) (body : List PlainIr → List PlainIr) (rest : List PlainIr) → ((q : List PlainIr) → Stands code (body q) → Stands code q) → Stands code (loop_code program table c last l body rest) → Stands code rest
+  loop_behind : (c last : Option PlainExpr) (l : ℕ) (body : List PlainIr → List PlainIr) (rest : List PlainIr)
+      → ((q : List PlainIr) → Stands code (body q) → Stands code q) → Stands code (loop_code program table c last l body rest)
+      → Stands code rest
   loop_behind c last l body rest f h =
-      behind code _ rest (behind code _ _ (last_behind last _ _ (behind code _ _ (f _ (behind code _ _ (test_behind c _ _ _ (behind code _ _ h)))))))
+      behind code _ rest (behind code _ _ (last_behind last _ _
+      (behind code _ _ (f _ (behind code _ _ (test_behind c _ _ _ (behind code _ _ h)))))))
 
   mutual
-    pub stmt_behind : (a : PlainStmt) (l out on : ℕ) (rest : List PlainIr) → Stands code (stmt_code program table a l out on rest) → Stands code rest
+    pub stmt_behind : (a : PlainStmt) (l out on : ℕ) (rest : List PlainIr) → Stands code (stmt_code program table a l out on rest)
+        → Stands code rest
     stmt_behind (statement unit k kind) l out on rest h = kind_behind kind l out on rest h
 
-    kind_behind : (kind : PlainKind) (l out on : ℕ) (rest : List PlainIr) → Stands code (kind_code program table kind l out on rest) → Stands code rest
+    kind_behind : (kind : PlainKind) (l out on : ℕ) (rest : List PlainIr) → Stands code (kind_code program table kind l out on rest)
+        → Stands code rest
     kind_behind empty l out on rest h = h
     kind_behind (evaluate e) l out on rest h = expr_behind e l 0 rest h
     kind_behind (block ss) l out on rest h = stmts_behind ss l out on rest h
     kind_behind (declare o es) l out on rest h = init_behind (leaves_of_object program o) o es l rest h
-    kind_behind (branch c a no_stmt) l out on rest h = behind code _ rest (stmt_behind a _ out on _ (behind code _ _ (expr_behind c (l + 2) 0 _ h)))
-    kind_behind (branch c a (a_stmt b)) l out on rest h = behind code _ rest (stmt_behind b _ out on _ (behind code _ _ (behind code _ _ (stmt_behind a _ out on _ (behind code _ _ (expr_behind c (l + 2) 0 _ h))))))
-    kind_behind (while_loop c a) l out on rest h = loop_behind (Some c) None l (λ q. stmt_code program table a (l + 4 + expr_labels c) (l + 1) (l + 2) q) rest (λ q g. stmt_behind a (l + 4 + expr_labels c) (l + 1) (l + 2) q g) h
-    kind_behind (do_loop a c) l out on rest h = loop_behind (Some c) None l (λ q. stmt_code program table a (l + 4 + expr_labels c) (l + 1) (l + 2) q) rest (λ q g. stmt_behind a (l + 4 + expr_labels c) (l + 1) (l + 2) q g) (behind code _ _ h)
+    kind_behind (branch c a no_stmt) l out on rest h = behind code _ rest
+        (stmt_behind a _ out on _ (behind code _ _ (expr_behind c (l + 2) 0 _ h)))
+    kind_behind (branch c a (a_stmt b)) l out on rest h = behind code _ rest
+        (stmt_behind b _ out on _ (behind code _ _ (behind code _ _
+        (stmt_behind a _ out on _ (behind code _ _ (expr_behind c (l + 2) 0 _ h))))))
+    kind_behind (while_loop c a) l out on rest h = loop_behind (Some c) None l (λ q. stmt_code program table a (l + 4 + expr_labels c)
+        (l + 1) (l + 2) q) rest (λ q g. stmt_behind a (l + 4 + expr_labels c) (l + 1) (l + 2) q g) h
+    kind_behind (do_loop a c) l out on rest h = loop_behind (Some c) None l (λ q. stmt_code program table a (l + 4 + expr_labels c) (l + 1)
+        (l + 2) q) rest (λ q g. stmt_behind a (l + 4 + expr_labels c) (l + 1) (l + 2) q g) (behind code _ _ h)
     kind_behind (for_loop first c last a) l out on rest h =
         let m = l + option_stmt_labels first in
-        loop_behind c last m (λ q. stmt_code program table a (m + 4 + optional_labels c + optional_labels last) (m + 1) (m + 2) q) rest (λ q g. stmt_behind a (m + 4 + optional_labels c + optional_labels last) (m + 1) (m + 2) q g) (option_behind first l out on _ h)
+        loop_behind c last m (λ q. stmt_code program table a (m + 4 + optional_labels c + optional_labels last) (m + 1) (m + 2) q) rest
+        (λ q g. stmt_behind a (m + 4 + optional_labels c + optional_labels last) (m + 1) (m + 2) q g) (option_behind first l out on _ h)
     kind_behind break_loop l out on rest h = behind code _ rest h
     kind_behind continue_loop l out on rest h = behind code _ rest h
     kind_behind (return_value None) l out on rest h = behind code _ rest h
     kind_behind (return_value (Some e)) l out on rest h = behind code _ rest (expr_behind e l 0 _ h)
 
-    pub option_behind : (a : OptionPlainStmt) (l out on : ℕ) (rest : List PlainIr) → Stands code (option_stmt_code program table a l out on rest) → Stands code rest
+    pub option_behind : (a : OptionPlainStmt) (l out on : ℕ) (rest : List PlainIr)
+        → Stands code (option_stmt_code program table a l out on rest) → Stands code rest
     option_behind no_stmt l out on rest h = h
     option_behind (a_stmt a) l out on rest h = stmt_behind a l out on rest h
 
-    pub stmts_behind : (ss : PlainStmts) (l out on : ℕ) (rest : List PlainIr) → Stands code (stmts_code program table ss l out on rest) → Stands code rest
+    pub stmts_behind : (ss : PlainStmts) (l out on : ℕ) (rest : List PlainIr) → Stands code (stmts_code program table ss l out on rest)
+        → Stands code rest
     stmts_behind last_stmt l out on rest h = h
     stmts_behind (next_stmt a ss) l out on rest h = stmts_behind ss _ out on rest (stmt_behind a l out on _ h)

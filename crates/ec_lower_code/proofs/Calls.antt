@@ -1,5 +1,6 @@
 -- The operations of a call do what it does.
-use Rattle.std.proofs.Common.{◌≡◌, ◌≢◌, ℕ, zero, suc, ◌+◌, ◌*◌, ◌<◌, ◌≤◌, Bool, true, false, List, [], ◌∷◌, Option, Some, None, refl, sym, ap, ◌∙◌, subst, inr, arith, eqb-true}
+use Rattle.std.proofs.Common.{◌≡◌, ◌≢◌, ℕ, zero, suc, ◌+◌, ◌*◌, ◌<◌, ◌≤◌, Bool, true, false, List, [], ◌∷◌, Option, Some, None}
+use Rattle.std.proofs.Common.{refl, sym, ap, ◌∙◌, subst, inr, arith, eqb-true}
 use Rattle.std.specs.Prelude.{◌==◌, IsSomeAnd, slice_get, option_map}
 use Rattle.std.specs.List.{AllByRecursion}
 use Rattle.std.proofs.lemmas.Option.{slice_get-map}
@@ -8,10 +9,12 @@ use Rattle.ec_core.specs.Accesses.{begun, initialised, own_access, frame_ended}
 use Rattle.ec_space.specs.declared.space.SpaceId.TheVariants.{Flash}
 use Rattle.ec_space.specs.Spaces.{holds}
 use Rattle.ec_core.specs.Layout.{scalar_size, IsScalar, PlainLeaf, leaves_of_type}
-use Rattle.ec_core.specs.Plain.{PlainType, void, integer, fixed, pointer, array, struct, PlainExprs, last_expr, next_expr, param, PlainObject, PlainFunction}
+use Rattle.ec_core.specs.Plain.{PlainType, void, integer, fixed, pointer, array, struct, PlainExprs, last_expr, next_expr}
+use Rattle.ec_core.specs.Plain.{param, PlainObject, PlainFunction}
 use Rattle.ec_core.specs.PortAccesses.{no_value}
 use Rattle.ec_core.specs.State.{State, worked, Outcome, got, more, undefined, next}
-use Rattle.ec_core.specs.Statements.{Exit, at_end, by_break, by_continue, by_return, effect_of, parameters_written, unreturned, call_result, call_of}
+use Rattle.ec_core.specs.Statements.{Exit, at_end, by_break, by_continue, by_return, effect_of, parameters_written, unreturned}
+use Rattle.ec_core.specs.Statements.{call_result, call_of}
 use Rattle.ec_core.specs.Typing.{type_of_expr, AreArguments}
 use Rattle.ec_core.specs.Valid.{IsFunction}
 use Rattle.ec_core.specs.ValueTypes.{HasType, IsTypedState, IsSoundOutcome}
@@ -22,23 +25,26 @@ use Rattle.ec_ir.specs.Meaning.{Mach, machine, Frame, Place, place, enter, resul
 use Rattle.ec_ir.specs.Operations.{PlainIr, store_object, label, call_function, return_from}
 use Rattle.ec_ir.specs.Temporaries.{Temps, no_temps, with_held}
 use Rattle.ec_lower_code.specs.Code.{temp, result_temp, params_code, end_code, function_code, lowered_function}
-use Rattle.ec_lower_code.specs.Parts.{IsStmt}
-use Rattle.ec_lower_code.proofs.Callees.{IsOther, IsRun, run_parts}
+use Rattle.ec_lower_code.proofs.Callees.{IsOther, run_parts}
 use Rattle.ec_lower_code.proofs.Behind.{stmt_behind}
 use Rattle.ec_lower_code.proofs.Bodies.{stmt_runs}
 use Rattle.ec_lower_code.proofs.Expressions.{W}
-use Rattle.ec_lower_code.proofs.Facts.{all_at, param_home, scalar_leaf, result_scalar}
+use Rattle.ec_lower_code.proofs.Facts.{param_home, scalar_leaf, result_scalar}
 use Rattle.ec_lower_code.proofs.Labels.{function_resolves}
-use Rattle.ec_lower_code.proofs.Numbers.{value_of_type}
 use Rattle.ec_lower_code.proofs.Objects.{frame_one}
 use Rattle.ec_lower_code.proofs.Ops.{to_rest, Below, HasValue, label_comes}
 use Rattle.ec_lower_code.proofs.Scene.{World, ports, homes, set, calls_to, spot, law, AreHeld, Callee, Scene}
 use Rattle.ec_lower_code.proofs.Shown.{held_of, Match}
 use Rattle.ec_lower_code.proofs.Statements.{Returns, match_state, begun_match, own_store, Typed}
-use Rattle.ec_lower_code.proofs.Steps.{held_at, held_below, held_is, Target, at, over, Stands, Spot, here, goes, execs, Comes, Does, Runs, stays, counts, after, bind, credited, spent_on, less}
+use Rattle.ec_lower_code.proofs.Steps.{held_at, held_below, held_is, Target, at, over, Stands, Spot, here, goes, execs, Comes}
+use Rattle.ec_lower_code.proofs.Steps.{Does, Runs, stays, counts, after, bind, credited, spent_on, less}
 
 pub frame_match : (wd : World) (f d : ℕ) (s : State) (u : Mach) → Match (homes wd) d s u → Match (homes wd) d (frame_ended wd.program f s) u
-frame_match wd f d s u h = record { objects = frame_one (homes wd) f wd.program.objects s.objects u.state.objects h.objects; events = h.events; spent = h.spent }
+frame_match wd f d s u h = record {
+  objects = frame_one (homes wd) f wd.program.objects s.objects u.state.objects h.objects;
+  events = h.events;
+  spent = h.spent;
+}
 
 -- ---- parameters
 
@@ -49,11 +55,17 @@ module _ (wd : World) (code : List PlainIr) (stack : List Frame) where
     state : IsTypedState wd.program s
     kept : u.temps ≡ temps
 
-  param_store : (g d o t : ℕ) (x : PlainObject) (ty : PlainType) (v : Value) (s : State) (u : Mach) (rest : List PlainIr) → slice_get wd.program.objects o ≡ Some x → x.storage ≡ param g → x.ty ≡ ty → HasType wd.program ty v → (IsScalar ty → u.temps t ≡ Some (held_of ty v)) → Match (homes wd) (d + 5 * scalar_size ty) s u → IsTypedState wd.program s
-      → Runs (spot wd code stack) wd.n (store_object o 0 (temp t ty) ∷ rest) u (to_rest (spot wd code stack) rest) (Written d u.temps) (initialised wd.program o 0 v (begun wd.program o s))
+  param_store : (g d o t : ℕ) (x : PlainObject) (ty : PlainType) (v : Value) (s : State) (u : Mach) (rest : List PlainIr)
+      → slice_get wd.program.objects o ≡ Some x → x.storage ≡ param g → x.ty ≡ ty → HasType wd.program ty v
+      → (IsScalar ty → u.temps t ≡ Some (held_of ty v)) → Match (homes wd) (d + 5 * scalar_size ty) s u → IsTypedState wd.program s
+      → Runs (spot wd code stack) wd.n (store_object o 0 (temp t ty) ∷ rest) u (to_rest (spot wd code stack) rest) (Written d u.temps)
+      (initialised wd.program o 0 v (begun wd.program o s))
   param_store g d o t x ty v s u rest e st same typed at_t h ts =
-      sound (initialised wd.program o 0 v (begun wd.program o s)) ((law wd).states.initialised o 0 x leaf v (begun wd.program o s) e item (subst (λ (z : PlainType). HasType wd.program z v) (sym same) typed) ((law wd).states.begun o s ts))
-      (own_store wd code stack wd.n d (d + 5 * scalar_size ty) o 0 t x leaf ty v (begun wd.program o s) u rest e item same home.0 scalar (value_of_type wd.program ty v typed) (omega arith) (begun_match wd o (d + 5 * scalar_size ty) s u h) (at_t scalar) (own_access wd.program o 0 (begun wd.program o s)) refl)
+      sound (initialised wd.program o 0 v (begun wd.program o s)) ((law wd).states.initialised o 0 x leaf v (begun wd.program o s) e item
+      (subst (λ (z : PlainType). HasType wd.program z v) (sym same) typed) ((law wd).states.begun o s ts))
+      (own_store wd code stack wd.n d (d + 5 * scalar_size ty) o 0 t x leaf ty v (begun wd.program o s) u rest e item same home.0 scalar
+      typed (omega arith) (begun_match wd o (d + 5 * scalar_size ty) s u h) (at_t scalar) (own_access wd.program o 0 (begun wd.program o s))
+      refl)
     where
       leaf : PlainLeaf
       leaf = record { ty = x.ty; at = 0 }
@@ -67,7 +79,10 @@ module _ (wd : World) (code : List PlainIr) (stack : List Frame) where
       item : slice_get (leaves_of_type wd.program.structs x.ty) 0 ≡ Some (record { ty = x.ty; at = 0 })
       item = scalar_leaf wd.program x.ty home.1
 
-      sound : (z : Outcome Value) → IsSoundOutcome wd.program (HasType wd.program x.ty) z → Runs (spot wd code stack) wd.n (store_object o 0 (temp t ty) ∷ rest) u (to_rest (spot wd code stack) rest) (λ y s1 u1. Match (homes wd) d s1 u1 × (u1.temps ≡ u.temps)) z → Runs (spot wd code stack) wd.n (store_object o 0 (temp t ty) ∷ rest) u (to_rest (spot wd code stack) rest) (Written d u.temps) z
+      sound : (z : Outcome Value) → IsSoundOutcome wd.program (HasType wd.program x.ty) z → Runs (spot wd code stack) wd.n
+          (store_object o 0 (temp t ty) ∷ rest) u (to_rest (spot wd code stack) rest)
+          (λ y s1 u1. Match (homes wd) d s1 u1 × (u1.temps ≡ u.temps)) z → Runs (spot wd code stack) wd.n (store_object o 0 (temp t ty)
+          ∷ rest) u (to_rest (spot wd code stack) rest) (Written d u.temps) z
       sound (got y s1) q r = (r.0, record { match = r.1.0; state = q.1; kept = r.1.1 }, r.2)
       sound (more s1) q r = r
       sound (undefined point s1) q r = tt
@@ -75,9 +90,20 @@ module _ (wd : World) (code : List PlainIr) (stack : List Frame) where
   abbrev AreParams : ℕ → List ℕ → Type 0
   AreParams g os = AllByRecursion (λ o. IsSomeAnd (slice_get wd.program.objects o) (λ x. x.storage ≡ param g)) os
 
-  params_run : (g d : ℕ) (os : List ℕ) (es : PlainExprs) (vs : List Value) (t : ℕ) (s : State) (u : Mach) (rest : List PlainIr) → AreParams g os → AreArguments wd.program os es → AreHeld wd es vs t u.temps → Match (homes wd) (d + 5 * total_size es) s u → IsTypedState wd.program s
-      → Runs (spot wd code stack) wd.n (params_code os es t rest) u (to_rest (spot wd code stack) rest) (Written d u.temps) (parameters_written (set wd) os vs s)
-  params_run g d [] last_expr vs t s u rest ps args hd h st = (u, record { match = less (homes wd) (d + 5 * 0) d s u (omega arith) h; state = st; kept = refl }, stays_at)
+  params_run : (g d : ℕ) (os : List ℕ) (es : PlainExprs) (vs : List Value) (t : ℕ) (s : State) (u : Mach) (rest : List PlainIr)
+      → AreParams g os → AreArguments wd.program os es → AreHeld wd es vs t u.temps → Match (homes wd) (d + 5 * total_size es) s u
+      → IsTypedState wd.program s
+      → Runs (spot wd code stack) wd.n (params_code os es t rest) u (to_rest (spot wd code stack) rest) (Written d u.temps)
+      (parameters_written (set wd) os vs s)
+  params_run g d [] last_expr vs t s u rest ps args hd h st = (
+    u,
+    record {
+      match = less (homes wd) (d + 5 * 0) d s u (omega arith) h;
+      state = st;
+      kept = refl;
+    },
+    stays_at,
+  )
     where
       stays_at : Comes (spot wd code stack) (here (spot wd code stack) rest) u (at (here (spot wd code stack) rest)) u
       stays_at = stays (spot wd code stack) (here (spot wd code stack) rest) u
@@ -91,9 +117,13 @@ module _ (wd : World) (code : List PlainIr) (stack : List Frame) where
       let ty_is : x.0.ty ≡ type_of_expr e = cc in
       let d1 = d + 5 * total_size es in
       let more_code = params_code os es (t + 1) rest in
-      bind w wd.n (here w (params_code (o ∷ os) (next_expr e es) t rest)) u (to_rest w more_code) (Written d1 u.temps) (to_rest w rest) (Written d u.temps) (here w more_code) (initialised wd.program o 0 v (begun wd.program o s)) _ (λ z. refl)
-      (param_store g d1 o t x.0 (type_of_expr e) v s u more_code x.1 x.2 ty_is hd.1 hd.0 (less (homes wd) (d + 5 * (scalar_size (type_of_expr e) + total_size es)) (d1 + 5 * scalar_size (type_of_expr e)) s u (omega arith) h) st)
-      (λ y s1 u1 r. subst (λ (q : Temps). Runs w wd.n more_code u1 (to_rest w rest) (Written d q) (parameters_written (set wd) os vs s1)) r.kept
+      bind w wd.n (here w (params_code (o ∷ os) (next_expr e es) t rest)) u (to_rest w more_code) (Written d1 u.temps) (to_rest w rest)
+      (Written d u.temps) (here w more_code) (initialised wd.program o 0 v (begun wd.program o s)) _ (λ z. refl)
+      (param_store g d1 o t x.0 (type_of_expr e) v s u more_code x.1 x.2 ty_is hd.1 hd.0
+      (less (homes wd) (d + 5 * (scalar_size (type_of_expr e) + total_size es)) (d1 + 5 * scalar_size (type_of_expr e)) s u (omega arith) h)
+      st)
+      (λ y s1 u1 r. subst (λ (q : Temps). Runs w wd.n more_code u1 (to_rest w rest) (Written d q) (parameters_written (set wd) os vs s1))
+      r.kept
       (params_run g d os es vs (t + 1) s1 u1 rest ps.1 args.1 (subst (AreHeld wd es vs (t + 1)) (sym r.kept) hd.2) r.match r.state))
 
 -- ---- the called function
@@ -126,12 +156,20 @@ not_main a b h = by_test (a == b) refl
     by_test true e = absurd (h (eqb-true a b e))
     by_test false e = refl
 
-module _ (wd : World) (depth : ℕ) (callee : Callee wd depth) (g : ℕ) (f : PlainFunction) (is : slice_get wd.program.functions g ≡ Some f) (other : IsOther wd.program g) (code rest : List PlainIr) (temps : Temps) (t : ℕ) (stack : List Frame) where
+module _ (wd : World) (depth : ℕ) (callee : Callee wd depth) (g : ℕ) (f : PlainFunction) (is : slice_get wd.program.functions g ≡ Some f)
+    (other : IsOther wd.program g) (code rest : List PlainIr) (temps : Temps) (t : ℕ) (stack : List Frame) where
   abbrev body_code : List PlainIr
   body_code = function_code wd.program (ports wd) f
 
   abbrev inside : Scene wd
-  inside = record { depth = depth; f = g; code = body_code; resolves = function_resolves wd.program (ports wd) f; stack = frame_of code rest temps t f.returns ∷ stack; callee = callee }
+  inside = record {
+    depth = depth;
+    f = g;
+    code = body_code;
+    resolves = function_resolves wd.program (ports wd) f;
+    stack = frame_of code rest temps t f.returns ∷ stack;
+    callee = callee;
+  }
 
   abbrev w : Spot
   w = W wd inside
@@ -154,22 +192,39 @@ module _ (wd : World) (depth : ℕ) (callee : Callee wd depth) (g : ℕ) (f : Pl
     some = λ v i vt tail m h. some v i tail m h;
   }
     where
-      none_step : (tail : List PlainIr) (m : Mach) → f.returns ≡ void → (k : ℕ) → goes w (suc k) (return_from None ∷ tail) m ≡ execs w k (place code stack rest) (machine temps (worked (op_steps (return_from None)) m.state))
-      none_step tail m e k = ap (λ (z : PlainType). leave (frame_of code rest temps t z ∷ stack) None (λ q u. execs w k q u) (worked (op_steps (return_from None)) m.state)) e
+      none_step : (tail : List PlainIr) (m : Mach) → f.returns ≡ void → (k : ℕ) → goes w (suc k) (return_from None ∷ tail) m ≡ execs w k
+          (place code stack rest) (machine temps (worked (op_steps (return_from None)) m.state))
+      none_step tail m e k = ap (λ (z : PlainType). leave (frame_of code rest temps t z ∷ stack) None (λ q u. execs w k q u)
+          (worked (op_steps (return_from None)) m.state)) e
 
-      none : f.returns ≡ void → (tail : List PlainIr) (m : Mach) → (u : Mach) × (u.state ≡ worked (op_steps (return_from None)) m.state) × BackTo None u × Comes w (here w (return_from None ∷ tail)) m (at (place code stack rest)) u
-      none e tail m = let u : Mach = machine temps (worked (op_steps (return_from None)) m.state) in (u, refl, (λ i lt. refl), counts w (return_from None ∷ tail) (place code stack rest) m u (none_step tail m e))
+      none : f.returns ≡ void → (tail : List PlainIr) (m : Mach)
+          → (u : Mach) × (u.state ≡ worked (op_steps (return_from None)) m.state) × BackTo None u × Comes w
+          (here w (return_from None ∷ tail)) m (at (place code stack rest)) u
+      none e tail m = let u : Mach = machine temps (worked (op_steps (return_from None)) m.state) in
+          (u, refl, (λ i lt. refl), counts w (return_from None ∷ tail) (place code stack rest) m u (none_step tail m e))
 
-      some_step : (v : Value) (tail : List PlainIr) (m : Mach) → IsScalar f.returns → m.temps 0 ≡ Some (held_of f.returns v) → (k : ℕ) → goes w (suc k) (return_from (Some (temp 0 f.returns)) ∷ tail) m ≡ execs w k (place code stack rest) (machine (with_held t (held_of f.returns v) temps) (worked (op_steps (return_from (Some (temp 0 f.returns)))) m.state))
+      some_step : (v : Value) (tail : List PlainIr) (m : Mach) → IsScalar f.returns → m.temps 0 ≡ Some (held_of f.returns v) → (k : ℕ)
+          → goes w (suc k) (return_from (Some (temp 0 f.returns)) ∷ tail) m ≡ execs w k (place code stack rest)
+          (machine (with_held t (held_of f.returns v) temps) (worked (op_steps (return_from (Some (temp 0 f.returns)))) m.state))
       some_step v tail m i h k =
           let s1 : State = worked (op_steps (return_from (Some (temp 0 f.returns)))) m.state in
-          ap (λ z. next (next z (λ content s. got (Some (record { bytes = scalar_size f.returns; content = content })) s)) (λ result s2. leave (frame_of code rest temps t f.returns ∷ stack) result (λ q u. execs w k q u) s2)) (held_is f.returns 0 v m.temps s1 h)
-          ∙ ap (λ z. next (resulted z (Some (held_of f.returns v)) temps s1) (λ temps s2. execs w k (place code stack rest) (machine temps s2))) (scalar_temp t f.returns i)
+          ap (λ z. next (next z (λ content s. got (Some (record { bytes = scalar_size f.returns; content = content })) s))
+          (λ result s2. leave (frame_of code rest temps t f.returns ∷ stack) result (λ q u. execs w k q u) s2))
+          (held_is f.returns 0 v m.temps s1 h)
+          ∙ ap (λ z. next (resulted z (Some (held_of f.returns v)) temps s1) (λ temps s2. execs w k (place code stack rest)
+          (machine temps s2))) (scalar_temp t f.returns i)
 
-      some : (v : Value) → IsScalar f.returns → (tail : List PlainIr) (m : Mach) → m.temps 0 ≡ Some (held_of f.returns v) → (u : Mach) × (u.state ≡ worked (op_steps (return_from (Some (temp 0 f.returns)))) m.state) × BackTo (Some v) u × Comes w (here w (return_from (Some (temp 0 f.returns)) ∷ tail)) m (at (place code stack rest)) u
+      some : (v : Value) → IsScalar f.returns → (tail : List PlainIr) (m : Mach) → m.temps 0 ≡ Some (held_of f.returns v)
+          → (u : Mach) × (u.state ≡ worked (op_steps (return_from (Some (temp 0 f.returns)))) m.state) × BackTo (Some v) u × Comes w
+          (here w (return_from (Some (temp 0 f.returns)) ∷ tail)) m (at (place code stack rest)) u
       some v i tail m h =
-          let u : Mach = machine (with_held t (held_of f.returns v) temps) (worked (op_steps (return_from (Some (temp 0 f.returns)))) m.state) in
-          (u, refl, (held_at t (held_of f.returns v) temps, λ j lt. held_below t (held_of f.returns v) temps j lt), counts w (return_from (Some (temp 0 f.returns)) ∷ tail) (place code stack rest) m u (some_step v tail m i h))
+          let u : Mach = machine (with_held t (held_of f.returns v) temps)
+          (worked (op_steps (return_from (Some (temp 0 f.returns)))) m.state) in (
+            u,
+            refl,
+            (held_at t (held_of f.returns v) temps, λ j lt. held_below t (held_of f.returns v) temps j lt),
+            counts w (return_from (Some (temp 0 f.returns)) ∷ tail) (place code stack rest) m u (some_step v tail m i h),
+          )
 
   abbrev Result : ℕ → Value → State → Mach → Type 0
   Result d v s u = HasValue w f.returns t d temps v s u
@@ -182,11 +237,17 @@ module _ (wd : World) (depth : ℕ) (callee : Callee wd depth) (g : ℕ) (f : Pl
   void_result d s u e h b = record { match = h; value = λ i. absurd (subst IsScalar e i); same = b }
 
   -- the body ends without a return: only where there is no result
-  falls : (d : ℕ) (r : PlainType) → f.returns ≡ r → (s : State) (u : Mach) → Match (homes wd) (d + 40) s u → Ends d (here w end_code) u (unreturned r false (frame_ended wd.program g s))
+  falls : (d : ℕ) (r : PlainType) → f.returns ≡ r → (s : State) (u : Mach) → Match (homes wd) (d + 40) s u → Ends d (here w end_code) u
+      (unreturned r false (frame_ended wd.program g s))
   unfolding returns_to
   falls d void e s u h =
-      let x = returns_to.none e [] u in
-      (x.0, void_result d (frame_ended wd.program g s) x.0 e (frame_match wd g d s x.0 (match_state (homes wd) d s u.temps (worked (op_steps (return_from None)) u.state) x.0 x.1 (spent_on (homes wd) (d + 40) d (return_from None) u.temps s u (omega arith) h))) x.2, x.3)
+      let x = returns_to.none e [] u in (
+        x.0,
+        void_result d (frame_ended wd.program g s) x.0 e (frame_match wd g d s x.0
+            (match_state (homes wd) d s u.temps (worked (op_steps (return_from None)) u.state) x.0 x.1
+            (spent_on (homes wd) (d + 40) d (return_from None) u.temps s u (omega arith) h))) x.2,
+        x.3,
+      )
   falls d (integer s1 b) e s u h = tt
   falls d (fixed k s1) e s u h = tt
   falls d (pointer s1 c q) e s u h = tt
@@ -194,41 +255,67 @@ module _ (wd : World) (depth : ℕ) (callee : Callee wd depth) (g : ℕ) (f : Pl
   falls d (struct i) e s u h = tt
 
   -- a return without a value
-  bare : (d : ℕ) (r : PlainType) → f.returns ≡ r → (s : State) (q : Place) (m u : Mach) → Match (homes wd) (d + 40) s u → Below w t temps u → Comes w q m (at (place code stack rest)) u → Ends d q m (unreturned r false (frame_ended wd.program g s))
-  bare d void e s q m u h b c = (u, void_result d (frame_ended wd.program g s) u e (frame_match wd g d s u (less (homes wd) (d + 40) d s u (omega arith) h)) b, c)
+  bare : (d : ℕ) (r : PlainType) → f.returns ≡ r → (s : State) (q : Place) (m u : Mach) → Match (homes wd) (d + 40) s u → Below w t temps u
+      → Comes w q m (at (place code stack rest)) u → Ends d q m (unreturned r false (frame_ended wd.program g s))
+  bare d void e s q m u h b c = (
+    u,
+    void_result d (frame_ended wd.program g s) u e
+        (frame_match wd g d s u (less (homes wd) (d + 40) d s u (omega arith) h)) b,
+    c,
+  )
   bare d (integer s1 b1) e s q m u h b c = tt
   bare d (fixed k s1) e s q m u h b c = tt
   bare d (pointer s1 c1 r) e s q m u h b c = tt
   bare d (array r n) e s q m u h b c = tt
   bare d (struct i) e s q m u h b c = tt
 
-  finishes : (d : ℕ) (q : List PlainIr) (m : Mach) (o : Outcome Exit) → Typed wd inside returns_to wd.n q m (label 0 ∷ end_code) end_code end_code (d + 40) o → Ends d (here w q) m (next o (λ x s. call_result f.returns false x (frame_ended wd.program g s)))
+  finishes : (d : ℕ) (q : List PlainIr) (m : Mach) (o : Outcome Exit) → Typed wd inside returns_to wd.n q m (label 0 ∷ end_code) end_code
+      end_code (d + 40) o → Ends d (here w q) m (next o (λ x s. call_result f.returns false x (frame_ended wd.program g s)))
   unfolding returns_to
   finishes d q m (got at_end s) h =
-      after w (λ v. at (place code stack rest)) (Result d) wd.n (here w q) (here w (label 0 ∷ end_code)) m h.0 (unreturned f.returns false (frame_ended wd.program g s)) h.2
-      (after w (λ v. at (place code stack rest)) (Result d) wd.n (here w (label 0 ∷ end_code)) (here w end_code) h.0 h.0 (unreturned f.returns false (frame_ended wd.program g s)) (label_comes w 0 end_code h.0) (falls d f.returns refl s h.0 h.1.left.match))
-  finishes d q m (got by_break s) h = after w (λ v. at (place code stack rest)) (Result d) wd.n (here w q) (here w end_code) m h.0 (unreturned f.returns false (frame_ended wd.program g s)) h.2 (falls d f.returns refl s h.0 h.1.left.match)
-  finishes d q m (got by_continue s) h = after w (λ v. at (place code stack rest)) (Result d) wd.n (here w q) (here w end_code) m h.0 (unreturned f.returns false (frame_ended wd.program g s)) h.2 (falls d f.returns refl s h.0 h.1.left.match)
+      after w (λ v. at (place code stack rest)) (Result d) wd.n (here w q) (here w (label 0 ∷ end_code)) m h.0
+      (unreturned f.returns false (frame_ended wd.program g s)) h.2
+      (after w (λ v. at (place code stack rest)) (Result d) wd.n (here w (label 0 ∷ end_code)) (here w end_code) h.0 h.0
+      (unreturned f.returns false (frame_ended wd.program g s)) (label_comes w 0 end_code h.0)
+      (falls d f.returns refl s h.0 h.1.left.match))
+  finishes d q m (got by_break s) h = after w (λ v. at (place code stack rest)) (Result d) wd.n (here w q) (here w end_code) m h.0
+      (unreturned f.returns false (frame_ended wd.program g s)) h.2 (falls d f.returns refl s h.0 h.1.left.match)
+  finishes d q m (got by_continue s) h = after w (λ v. at (place code stack rest)) (Result d) wd.n (here w q) (here w end_code) m h.0
+      (unreturned f.returns false (frame_ended wd.program g s)) h.2 (falls d f.returns refl s h.0 h.1.left.match)
   finishes d q m (got (by_return None) s) h = bare d f.returns refl s (here w q) m h.0 h.1.left.match h.1.left.back h.2
-  finishes d q m (got (by_return (Some v)) s) h =
-      (h.0, record { match = frame_match wd g d s h.0 (less (homes wd) (d + 40) d s h.0 (omega arith) h.1.left.match); value = λ i. h.1.left.back.0; same = h.1.left.back.1 }, h.2)
+  finishes d q m (got (by_return (Some v)) s) h = (
+    h.0,
+    record {
+      match = frame_match wd g d s h.0 (less (homes wd) (d + 40) d s h.0 (omega arith) h.1.left.match);
+      value = λ i. h.1.left.back.0;
+      same = h.1.left.back.1;
+    },
+    h.2,
+  )
   finishes d q m (more s) h = h
   finishes d q m (undefined point s) h = tt
 
   -- the body, from the first operation on
-  body_runs : (d : ℕ) (s : State) (m : Mach) → Match (homes wd) (d + 40) s m → IsTypedState wd.program s → Ends d (here w body_code) m (next (effect_of (set wd) (calls_to wd depth) wd.n f.body s) (λ x s1. call_result f.returns false x (frame_ended wd.program g s1)))
+  body_runs : (d : ℕ) (s : State) (m : Mach) → Match (homes wd) (d + 40) s m → IsTypedState wd.program s → Ends d (here w body_code) m
+      (next (effect_of (set wd) (calls_to wd depth) wd.n f.body s) (λ x s1. call_result f.returns false x (frame_ended wd.program g s1)))
   unfolding returns_to
   body_runs d s m h st =
       let all : Stands body_code body_code = ([], refl) in
-      let end = function_resolves wd.program (ports wd) f 0 end_code (stmt_behind wd.program (ports wd) body_code f.body 1 0 0 (label 0 ∷ end_code) all) in
+      let end = function_resolves wd.program (ports wd) f 0 end_code (stmt_behind wd.program (ports wd) body_code f.body 1 0 0
+      (label 0 ∷ end_code) all) in
       finishes d body_code m (effect_of (set wd) (calls_to wd depth) wd.n f.body s)
-      (stmt_runs wd inside returns_to f.body false 1 0 0 (d + 40) (label 0 ∷ end_code) end_code end_code (run_parts wd.program wd.io wd.valid wd.parts g f is (inr other.1)) function_is.body all end end s m h st)
+      (stmt_runs wd inside returns_to f.body false 1 0 0 (d + 40) (label 0 ∷ end_code) end_code end_code
+      (run_parts wd.program wd.io wd.valid g f is (inr other.1)) function_is.body all end end s m h st)
 
 -- ---- calls
 
 -- what holds in a called function holds for its caller, above other temporaries
-elsewhere : (wd : World) (code1 : List PlainIr) (stack1 : List Frame) (code2 : List PlainIr) (stack2 : List Frame) (n : ℕ) (p : Place) (m : Mach) (to : Value → Target) (ty : PlainType) (t d : ℕ) (b c : Temps) → ((i : ℕ) → i < t → b i ≡ c i) → (o : Outcome Value) → Does (spot wd code1 stack1) n p m to (HasValue (spot wd code1 stack1) ty t d b) o → Does (spot wd code2 stack2) n p m to (HasValue (spot wd code2 stack2) ty t d c) o
-elsewhere wd code1 stack1 code2 stack2 n p m to ty t d b c e (got v s) r = (r.0, record { match = r.1.match; value = r.1.value; same = λ i lt. r.1.same i lt ∙ e i lt }, comes (to v) r.2)
+elsewhere : (wd : World) (code1 : List PlainIr) (stack1 : List Frame) (code2 : List PlainIr) (stack2 : List Frame) (n : ℕ) (p : Place)
+    (m : Mach) (to : Value → Target) (ty : PlainType) (t d : ℕ) (b c : Temps) → ((i : ℕ) → i < t → b i ≡ c i) → (o : Outcome Value)
+    → Does (spot wd code1 stack1) n p m to (HasValue (spot wd code1 stack1) ty t d b) o → Does (spot wd code2 stack2) n p m to
+    (HasValue (spot wd code2 stack2) ty t d c) o
+elsewhere wd code1 stack1 code2 stack2 n p m to ty t d b c e (got v s) r =
+    (r.0, record { match = r.1.match; value = r.1.value; same = λ i lt. r.1.same i lt ∙ e i lt }, comes (to v) r.2)
   where
     comes : (z : Target) → Comes (spot wd code1 stack1) p m z r.0 → Comes (spot wd code2 stack2) p m z r.0
     comes (at q) h = record { by = λ k. h.by k }
@@ -238,9 +325,13 @@ elsewhere wd code1 stack1 code2 stack2 n p m to ty t d b c e (undefined point s)
 
 called_runs : (wd : World) (depth : ℕ) → Callee wd depth → Callee wd (suc depth)
 called_runs wd depth callee g f is other code stack es vs t d b rest s m args hd h st below =
-    subst (λ (z : Option PlainFunction). Runs w0 wd.n (params_code f.params es t calling) m (to_rest w0 rest) (HasValue w0 f.returns t d b) (call_of (set wd) (calls_to wd depth) wd.n g z vs s)) (sym is)
-    (bind w0 wd.n (here w0 (params_code f.params es t calling)) m (to_rest w0 calling) (Written wd code stack d1 m.temps) (to_rest w0 rest) (HasValue w0 f.returns t d b) (here w0 calling) (parameters_written (set wd) f.params vs (worked function_words s)) _ (λ z. refl)
-    (params_run wd code stack g d1 f.params es vs t (worked function_words s) m calling function_is.params args hd (less (homes wd) (d + (60 + 10 * (total_size es + scalar_size f.returns)) + 40) (d1 + 5 * total_size es) (worked function_words s) m (omega arith) (credited (homes wd) function_words (d + (60 + 10 * (total_size es + scalar_size f.returns))) s m h)) st)
+    subst (λ (z : Option PlainFunction). Runs w0 wd.n (params_code f.params es t calling) m (to_rest w0 rest) (HasValue w0 f.returns t d b)
+    (call_of (set wd) (calls_to wd depth) wd.n g z vs s)) (sym is)
+    (bind w0 wd.n (here w0 (params_code f.params es t calling)) m (to_rest w0 calling) (Written wd code stack d1 m.temps) (to_rest w0 rest)
+    (HasValue w0 f.returns t d b) (here w0 calling) (parameters_written (set wd) f.params vs (worked function_words s)) _ (λ z. refl)
+    (params_run wd code stack g d1 f.params es vs t (worked function_words s) m calling function_is.params args hd
+    (less (homes wd) (d + (60 + 10 * (total_size es + scalar_size f.returns)) + 40) (d1 + 5 * total_size es) (worked function_words s) m
+    (omega arith) (credited (homes wd) function_words (d + (60 + 10 * (total_size es + scalar_size f.returns))) s m h)) st)
     (λ y s1 u r. entered y s1 u r))
   where
     w0 : Spot
@@ -256,28 +347,44 @@ called_runs wd depth callee g f is other code stack es vs t d b rest s m args hd
     function_is = (law wd).functions g f is
 
     o1 : State → Outcome Value
-    o1 s1 = next (effect_of (set wd) (calls_to wd depth) wd.n f.body s1) (λ x s2. call_result f.returns false x (frame_ended wd.program g s2))
+    o1 s1 = next (effect_of (set wd) (calls_to wd depth) wd.n f.body s1) (λ x s2. call_result f.returns false x
+        (frame_ended wd.program g s2))
 
     frames : List Frame
     frames = frame_of code rest m.temps t f.returns ∷ stack
 
-    entered_step : (u : Mach) → u.temps ≡ m.temps → (k : ℕ) → goes w0 (suc k) calling u ≡ execs w0 k (place (function_code wd.program (ports wd) f) frames (function_code wd.program (ports wd) f)) (machine no_temps (worked (op_steps (call_function g (result_temp t f.returns))) u.state))
+    entered_step : (u : Mach) → u.temps ≡ m.temps → (k : ℕ) → goes w0 (suc k) calling u ≡ execs w0 k
+        (place (function_code wd.program (ports wd) f) frames (function_code wd.program (ports wd) f))
+        (machine no_temps (worked (op_steps (call_function g (result_temp t f.returns))) u.state))
     entered_step u e k =
-        ap (λ z. enter z (λ q v. execs w0 k q v) (frame_of code rest u.temps t f.returns ∷ stack) (machine no_temps (worked (op_steps (call_function g (result_temp t f.returns))) u.state))) (slice_get-map (lowered_function wd.program (ports wd)) wd.program.functions g ∙ ap (option_map (lowered_function wd.program (ports wd))) is)
-        ∙ ap (λ (z : Temps). execs w0 k (place (function_code wd.program (ports wd) f) (frame_of code rest z t f.returns ∷ stack) (function_code wd.program (ports wd) f)) (machine no_temps (worked (op_steps (call_function g (result_temp t f.returns))) u.state))) e
+        ap (λ z. enter z (λ q v. execs w0 k q v) (frame_of code rest u.temps t f.returns ∷ stack)
+        (machine no_temps (worked (op_steps (call_function g (result_temp t f.returns))) u.state)))
+        (slice_get-map (lowered_function wd.program (ports wd)) wd.program.functions g
+        ∙ ap (option_map (lowered_function wd.program (ports wd))) is)
+        ∙ ap (λ (z : Temps). execs w0 k (place (function_code wd.program (ports wd) f) (frame_of code rest z t f.returns ∷ stack)
+        (function_code wd.program (ports wd) f)) (machine no_temps (worked (op_steps (call_function g (result_temp t f.returns))) u.state)))
+        e
 
-    entered : (y : Value) (s1 : State) (u : Mach) → Written wd code stack d1 m.temps y s1 u → Runs w0 wd.n calling u (to_rest w0 rest) (HasValue w0 f.returns t d b) (next (effect_of (set wd) (calls_to wd depth) wd.n f.body s1) (λ x s2. call_result f.returns (g == wd.program.main) x (frame_ended wd.program g s2)))
+    entered : (y : Value) (s1 : State) (u : Mach) → Written wd code stack d1 m.temps y s1 u → Runs w0 wd.n calling u (to_rest w0 rest)
+        (HasValue w0 f.returns t d b) (next (effect_of (set wd) (calls_to wd depth) wd.n f.body s1)
+        (λ x s2. call_result f.returns (g == wd.program.main) x (frame_ended wd.program g s2)))
     entered y s1 u r =
         let i = call_function g (result_temp t f.returns) in
         let u1 : Mach = machine no_temps (worked (op_steps i) u.state) in
         let size = call_bytes t f.returns in
         let paid = spent_on (homes wd) d1 (d + 40) i no_temps s1 u (omega (arith, size)) r.match in
-        subst (λ (z : Bool). Runs w0 wd.n calling u (to_rest w0 rest) (HasValue w0 f.returns t d b) (next (effect_of (set wd) (calls_to wd depth) wd.n f.body s1) (λ x s2. call_result f.returns z x (frame_ended wd.program g s2)))) (sym (not_main g wd.program.main other.0))
-        (after w0 (to_rest w0 rest) (HasValue w0 f.returns t d b) wd.n (here w0 calling) (place (function_code wd.program (ports wd) f) frames (function_code wd.program (ports wd) f)) u u1 (o1 s1)
-        (counts w0 calling (place (function_code wd.program (ports wd) f) frames (function_code wd.program (ports wd) f)) u u1 (entered_step u r.kept))
-        (elsewhere wd (function_code wd.program (ports wd) f) frames code stack wd.n (place (function_code wd.program (ports wd) f) frames (function_code wd.program (ports wd) f)) u1 (λ v. at (place code stack rest)) f.returns t d m.temps b below (o1 s1)
+        subst (λ (z : Bool). Runs w0 wd.n calling u (to_rest w0 rest) (HasValue w0 f.returns t d b)
+        (next (effect_of (set wd) (calls_to wd depth) wd.n f.body s1) (λ x s2. call_result f.returns z x (frame_ended wd.program g s2))))
+        (sym (not_main g wd.program.main other.0))
+        (after w0 (to_rest w0 rest) (HasValue w0 f.returns t d b) wd.n (here w0 calling)
+        (place (function_code wd.program (ports wd) f) frames (function_code wd.program (ports wd) f)) u u1 (o1 s1)
+        (counts w0 calling (place (function_code wd.program (ports wd) f) frames (function_code wd.program (ports wd) f)) u u1
+        (entered_step u r.kept))
+        (elsewhere wd (function_code wd.program (ports wd) f) frames code stack wd.n (place (function_code wd.program (ports wd) f) frames
+        (function_code wd.program (ports wd) f)) u1 (λ v. at (place code stack rest)) f.returns t d m.temps b below (o1 s1)
         (body_runs wd depth callee g f is other code rest m.temps t stack d s1 u1 paid r.state)))
 
 pub callee_runs : (wd : World) (depth : ℕ) → Callee wd depth
 callee_runs wd zero g f is other code stack es vs t d b rest s m args hd h st below = tt
-callee_runs wd (suc depth) g f is other code stack es vs t d b rest s m args hd h st below = called_runs wd depth (callee_runs wd depth) g f is other code stack es vs t d b rest s m args hd h st below
+callee_runs wd (suc depth) g f is other code stack es vs t d b rest s m args hd h st below = called_runs wd depth (callee_runs wd depth) g f
+    is other code stack es vs t d b rest s m args hd h st below

@@ -17,10 +17,13 @@ all_at P [] i x h e = cc
 all_at P (y ∷ ys) zero x h e = let g : y ≡ x = cc in subst P g h.0
 all_at P (y ∷ ys) (suc i) x h e = all_at P ys i x h.1 e
 
-pub each_at : {A : Type 0} (P : ℕ → A → Type 0) (n : ℕ) (xs : List A) (i : ℕ) (x : A) → EachFrom n P xs → slice_get xs i ≡ Some x → P (n + i) x
+pub each_at : {A : Type 0} (P : ℕ → A → Type 0) (n : ℕ) (xs : List A) (i : ℕ) (x : A) → EachFrom n P xs → slice_get xs i ≡ Some x
+    → P (n + i) x
 each_at P n [] i x h e = cc
-each_at P n (y ∷ ys) zero x h e = let g : y ≡ x = cc in subst (P (n + 0)) g (subst (λ (k : ℕ). P k y) (let z : n ≡ n + 0 = omega arith in z) h.0)
-each_at P n (y ∷ ys) (suc i) x h e = subst (λ (k : ℕ). P k x) (let z : n + 1 + i ≡ n + suc i = omega arith in z) (each_at P (n + 1) ys i x h.1 e)
+each_at P n (y ∷ ys) zero x h e = let g : y ≡ x = cc in subst (P (n + 0)) g (subst (λ (k : ℕ). P k y) (let z : n ≡ n + 0 = omega arith in
+    z) h.0)
+each_at P n (y ∷ ys) (suc i) x h e = subst (λ (k : ℕ). P k x) (let z : n + 1 + i ≡ n + suc i = omega arith in z)
+    (each_at P (n + 1) ys i x h.1 e)
 
 data_bank : (b : Bank) → b ≡ DataBank → holds Flash b ≡ false
 data_bank b e = ap (holds Flash) e
@@ -33,11 +36,13 @@ module _ (program : PlainProgram) (table : IoTable) (valid : Valid program table
   pub local_home : (o f : ℕ) (d : PlainObject) → slice_get program.objects o ≡ Some d → d.storage ≡ local f → holds Flash d.home ≡ false
   local_home o f d e s = let h = subst (IsStored program d) s (object_of o d e).storage in data_bank d.home h.1
 
-  pub param_home : (o f : ℕ) (d : PlainObject) → slice_get program.objects o ≡ Some d → d.storage ≡ param f → (holds Flash d.home ≡ false) × IsScalar d.ty
+  pub param_home : (o f : ℕ) (d : PlainObject) → slice_get program.objects o ≡ Some d → d.storage ≡ param f
+      → (holds Flash d.home ≡ false) × IsScalar d.ty
   param_home o f d e s = let h = subst (IsStored program d) s (object_of o d e).storage in (data_bank d.home h.1, h.2)
 
 -- the only leaf of a scalar
-pub scalar_leaf : (program : PlainProgram) (ty : PlainType) → IsScalar ty → slice_get (leaves_of_type program.structs ty) 0 ≡ Some (record { ty = ty; at = 0 })
+pub scalar_leaf : (program : PlainProgram) (ty : PlainType) → IsScalar ty → slice_get (leaves_of_type program.structs ty) 0 ≡ Some
+    (record { ty = ty; at = 0 })
 scalar_leaf program void i = absurd i
 scalar_leaf program (integer s b) i = refl
 scalar_leaf program (fixed k s) i = refl
@@ -45,7 +50,8 @@ scalar_leaf program (pointer s c t) i = refl
 scalar_leaf program (array t n) i = absurd i
 scalar_leaf program (struct k) i = absurd i
 
-pub leaves_are : (program : PlainProgram) (o : ℕ) (d : PlainObject) → slice_get program.objects o ≡ Some d → leaves_of_object program o ≡ leaves_of_type program.structs d.ty
+pub leaves_are : (program : PlainProgram) (o : ℕ) (d : PlainObject) → slice_get program.objects o ≡ Some d
+    → leaves_of_object program o ≡ leaves_of_type program.structs d.ty
 leaves_are program o d e = ap (λ z. unwrap_or (option_map (λ (y : PlainObject). leaves_of_type program.structs y.ty) z) []) e
 
 pub result_scalar : (ty : PlainType) → IsScalarOrVoid ty → ty ≢ void → IsScalar ty

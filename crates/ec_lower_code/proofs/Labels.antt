@@ -1,9 +1,11 @@
 -- Each label stands once: how often a label stands is a sum over the parts, whose labels lie in intervals one after another.
-use Rattle.std.proofs.Common.{◌≡◌, ℕ, zero, suc, ◌+◌, ◌<◌, ◌≤◌, Bool, true, false, List, [], ◌∷◌, ◌++◌, Option, Some, None, refl, ap, ◌∙◌, subst, arith, eq-eqb, eqb-true}
-use Rattle.std.specs.Prelude.{◌==◌, if◌then◌else◌, slice_get}
+use Rattle.std.proofs.Common.{◌≡◌, ℕ, zero, suc, ◌+◌, ◌<◌, ◌≤◌, Bool, true, false, List, [], ◌∷◌, ◌++◌, Option, Some, None}
+use Rattle.std.proofs.Common.{refl, ap, ◌∙◌, subst, arith, eq-eqb, eqb-true}
+use Rattle.std.specs.Prelude.{pos, ◌==◌, if◌then◌else◌, slice_get}
 use Rattle.std.proofs.lemmas.Grind.{common_steps}
 use Rattle.ec_fx.specs.declared.numbers.Mode.{Mode}
 use Rattle.ec_core.specs.declared.expressions.BinOp.{BinOp}
+use Rattle.ec_core.specs.ArithmeticTypes.{type_of}
 use Rattle.ec_core.specs.Layout.{PlainLeaf}
 use Rattle.ec_core.specs.Operators.{number_type, step_operator}
 use Rattle.ec_core.specs.PortAccesses.{pairs_of}
@@ -12,12 +14,27 @@ use Rattle.ec_core.specs.PortTable.{PlainPort, PlainGroup, PlainTable}
 use Rattle.ec_iohw.specs.declared.operations.IoOp.{IoOp}
 use Rattle.ec_iohw.specs.declared.table.Pair.{Pair}
 use Rattle.ec_ir.specs.declared.operations.Temp.{Temp}
-use Rattle.ec_core.specs.Plain.{PlainType, PlainExpr, expression, PlainNode, number, null, load, address_of, unary, binary, convert, assign, compound, step, logical_not, logical_and, logical_or, conditional, comma, call, io, group, object, deref, member, OptionPlainExpr, no_expr, an_expr, PlainExprs, last_expr, next_expr, PlainStmt, statement, PlainKind, empty, evaluate, block, declare, branch, while_loop, do_loop, for_loop, break_loop, continue_loop, return_value, OptionPlainStmt, no_stmt, a_stmt, PlainStmts, last_stmt, next_stmt, PlainFunction, PlainProgram}
-use Rattle.ec_core.specs.Typing.{type_of_expr, port_value}
+use Rattle.ec_core.specs.Plain.{PlainType, void, integer, fixed, pointer, array, struct, PlainExpr, expression, PlainNode}
+use Rattle.ec_core.specs.Plain.{number, null, load, address_of, unary, binary, convert, assign, compound, step, logical_not}
+use Rattle.ec_core.specs.Plain.{logical_and, logical_or, conditional, comma, call, io, group, PlainPlace, object, deref, member}
+use Rattle.ec_core.specs.Plain.{OptionPlainExpr, no_expr, an_expr, PlainExprs, last_expr, next_expr, PlainStmt, statement}
+use Rattle.ec_core.specs.Plain.{PlainKind, empty, evaluate, block, declare, branch, while_loop, do_loop, for_loop, break_loop}
+use Rattle.ec_core.specs.Plain.{continue_loop, return_value, OptionPlainStmt, no_stmt, a_stmt, PlainStmts, last_stmt, next_stmt}
+use Rattle.ec_core.specs.Plain.{PlainFunction, PlainProgram}
+use Rattle.ec_core.specs.Typing.{int, type_of_expr, port_value}
 use Rattle.ec_ir.specs.Meaning.{find}
-use Rattle.ec_ir.specs.Operations.{PlainIr, constant, copy, address, field, load_at, store_at, load_object, store_object, binary_op, unary_op, conversion, label, jump, branch_zero, call_function, return_from, port_in, port_out}
+use Rattle.ec_ir.specs.Operations.{PlainIr, constant, copy, address, field, load_at, store_at, load_object, store_object}
+use Rattle.ec_ir.specs.Operations.{binary_op, unary_op, conversion, label, jump, branch_zero, call_function, return_from}
+use Rattle.ec_ir.specs.Operations.{port_in, port_out}
 use Rattle.ec_ir.specs.Valid.{count}
-use Rattle.ec_lower_code.specs.Code.{temp, result_temp, truth_code, update_types, update_code, step_code, params_of, params_code, port_operator, port_code, place_behind, operand_temp, access_code, pairs_code, group_code, option_labels, option_code, expr_labels, node_labels, exprs_labels, optional_labels, stmt_labels, kind_labels, option_stmt_labels, stmts_labels, expr_code, node_code, args_code, init_code, test_code, last_code, leaves_of_object, stmt_code, kind_code, option_stmt_code, stmts_code, function_code}
+use Rattle.ec_lower_code.specs.Code.{temp, result_temp, truth_code, place_labels, Site, named, pointed, further_code, load_from}
+use Rattle.ec_lower_code.specs.Code.{store_to, value_place, settled_code, address_code, update_types, change_code, postfix_code}
+use Rattle.ec_lower_code.specs.Code.{step_code, offset_of, site, place_code, params_of, params_code, port_operator, port_code}
+use Rattle.ec_lower_code.specs.Code.{place_behind, operand_temp, access_code, pairs_code, group_code, option_labels}
+use Rattle.ec_lower_code.specs.Code.{option_code, expr_labels, node_labels, exprs_labels, optional_labels, stmt_labels}
+use Rattle.ec_lower_code.specs.Code.{kind_labels, option_stmt_labels, stmts_labels, expr_code, node_code, args_code, init_code}
+use Rattle.ec_lower_code.specs.Code.{test_code, last_code, leaves_of_object, stmt_code, kind_code, option_stmt_code, stmts_code}
+use Rattle.ec_lower_code.specs.Code.{function_code}
 use Rattle.ec_lower_code.proofs.Steps.{Resolves}
 
 abbrev is_at : (l j : ℕ) → ℕ
@@ -49,16 +66,20 @@ among_two zero b l j =
     let f : among b (l + 0) j ≡ among b l j = ap (λ m. among b m j) (let z : l + 0 ≡ l = omega arith in z) in
     omega (arith, e, f)
 among_two (suc a) b l j =
-    let e : among (suc a + b) l j ≡ is_at l j + among (a + b) (l + 1) j = ap (λ k. among k l j) (let z : suc a + b ≡ suc (a + b) = omega arith in z) in
+    let e : among (suc a + b) l j ≡ is_at l j + among (a + b) (l + 1) j = ap (λ k. among k l j) (let z : suc a + b ≡ suc (a + b) =
+    omega arith in z) in
     let f = among_two a b (l + 1) j in
     let g : among b (l + 1 + a) j ≡ among b (l + suc a) j = ap (λ m. among b m j) (omega arith) in
     omega (arith, e, f, g)
 
 among_three : (f a b l j : ℕ) → among (f + a + b) l j ≡ among f l j + among a (l + f) j + among b (l + f + a) j
-among_three f a b l j = let x = among_two (f + a) b l j in let y = among_two f a l j in let z : among b (l + (f + a)) j ≡ among b (l + f + a) j = ap (λ m. among b m j) (omega arith) in omega (arith, x, y, z)
+among_three f a b l j = let x = among_two (f + a) b l j in let y = among_two f a l j in let z : among b (l + (f + a)) j ≡ among b
+    (l + f + a) j = ap (λ m. among b m j) (omega arith) in omega (arith, x, y, z)
 
-among_four : (f a b c l j : ℕ) → among (f + a + b + c) l j ≡ among f l j + among a (l + f) j + among b (l + f + a) j + among c (l + f + a + b) j
-among_four f a b c l j = let x = among_two (f + a + b) c l j in let y = among_three f a b l j in let z : among c (l + (f + a + b)) j ≡ among c (l + f + a + b) j = ap (λ m. among c m j) (omega arith) in omega (arith, x, y, z)
+among_four : (f a b c l j : ℕ) → among (f + a + b + c) l j ≡ among f l j + among a (l + f) j + among b (l + f + a) j + among c
+    (l + f + a + b) j
+among_four f a b c l j = let x = among_two (f + a + b) c l j in let y = among_three f a b l j in
+    let z : among c (l + (f + a + b)) j ≡ among c (l + f + a + b) j = ap (λ m. among c m j) (omega arith) in omega (arith, x, y, z)
 
 two_labels : (l j : ℕ) → among 2 l j ≡ is_at l j + is_at (l + 1) j
 two_labels l j = omega arith
@@ -120,7 +141,8 @@ found_behind (return_from t) code j a b = refl
 found_behind (port_in t x i k) code j a b = refl
 found_behind (port_out t x i k) code j a b = refl
 
-found_at : (pre : List PlainIr) (j : ℕ) (rest : List PlainIr) → count j (pre ++ label j ∷ rest) ≤ 1 → find j (pre ++ label j ∷ rest) ≡ Some rest
+found_at : (pre : List PlainIr) (j : ℕ) (rest : List PlainIr) → count j (pre ++ label j ∷ rest) ≤ 1
+    → find j (pre ++ label j ∷ rest) ≡ Some rest
 found_at [] j rest h = ap (λ b. if b then Some rest else find j rest) (eq-eqb j j refl)
 found_at (i ∷ pre) j rest h =
     let a = op_count i (pre ++ label j ∷ rest) j in
@@ -132,9 +154,59 @@ counts_resolve code h l rest s =
 
 -- ---- the labels of parts
 
-step_counts : (j : ℕ) (prefix : Bool) (op : BinOp) (mode : Mode) (ty : PlainType) (o t : ℕ) (rest : List PlainIr) → count j (step_code prefix op mode ty o t rest) ≤ count j rest
-step_counts j true op mode ty o t rest = omega arith
-step_counts j false op mode ty o t rest = omega arith
+store_counts : (j : ℕ) (s : Site) (from : Temp) (rest : List PlainIr) → count j (store_to s from ∷ rest) ≤ count j rest
+store_counts j (named o offset) from rest = omega arith
+store_counts j (pointed ptr space) from rest = omega arith
+
+change_counts : (j : ℕ) (op : BinOp) (own mode : Mode) (ty : PlainType) (s : Site) (t : ℕ) (right : PlainType) (rest : List PlainIr)
+    → count j (change_code op own mode ty s t right rest) ≤ count j rest
+change_counts j op own mode void s t right rest = store_counts j s (temp t void) rest
+change_counts j op own mode (integer g b) s t right rest = store_counts j s (temp t (integer g b)) rest
+change_counts j op own mode (fixed k g) s t right rest = store_counts j s (temp t (fixed k g)) rest
+change_counts j op own mode (pointer c k u) s t right rest = store_counts j s (temp t (pointer c k u)) rest
+change_counts j op own mode (array u n) s t right rest = store_counts j s (temp t (array u n)) rest
+change_counts j op own mode (struct n) s t right rest = store_counts j s (temp t (struct n)) rest
+
+postfix_counts : (j : ℕ) (op : BinOp) (mode : Mode) (ty : PlainType) (s : Site) (t : ℕ) (rest : List PlainIr)
+    → count j (postfix_code op mode ty s t rest) ≤ count j rest
+postfix_counts j op mode void s t rest = store_counts j s (temp (t + 1) void)
+    (conversion (temp t void) void mode (temp t (type_of (update_types op (number_type void) (number_type int)).left))
+    (type_of (update_types op (number_type void) (number_type int)).left) ∷ rest)
+postfix_counts j op mode (integer g b) s t rest = store_counts j s (temp (t + 1) (integer g b))
+    (conversion (temp t (integer g b)) (integer g b) mode (temp t
+    (type_of (update_types op (number_type (integer g b)) (number_type int)).left))
+    (type_of (update_types op (number_type (integer g b)) (number_type int)).left) ∷ rest)
+postfix_counts j op mode (fixed k g) s t rest = store_counts j s (temp (t + 1) (fixed k g))
+    (conversion (temp t (fixed k g)) (fixed k g) mode (temp t (type_of (update_types op (number_type (fixed k g)) (number_type int)).left))
+    (type_of (update_types op (number_type (fixed k g)) (number_type int)).left) ∷ rest)
+postfix_counts j op mode (pointer c k u) s t rest = store_counts j s (temp (t + 1) (pointer c k u)) rest
+postfix_counts j op mode (array u n) s t rest = store_counts j s (temp (t + 1) (array u n))
+    (conversion (temp t (array u n)) (array u n) mode (temp t (type_of (update_types op (number_type (array u n)) (number_type int)).left))
+    (type_of (update_types op (number_type (array u n)) (number_type int)).left) ∷ rest)
+postfix_counts j op mode (struct n) s t rest = store_counts j s (temp (t + 1) (struct n)) (conversion (temp t (struct n)) (struct n) mode
+    (temp t (type_of (update_types op (number_type (struct n)) (number_type int)).left))
+    (type_of (update_types op (number_type (struct n)) (number_type int)).left) ∷ rest)
+
+step_counts : (j : ℕ) (prefix : Bool) (op : BinOp) (mode : Mode) (ty : PlainType) (s : Site) (t : ℕ) (rest : List PlainIr)
+    → count j (step_code prefix op mode ty s t rest) ≤ count j rest
+step_counts j true op mode ty s t rest = change_counts j op mode mode ty s t int rest
+step_counts j false op mode ty s t rest = postfix_counts j op mode ty s t rest
+
+further_counts : (j k : ℕ) (s : Site) (rest : List PlainIr) → count j (further_code k s rest) ≤ count j rest
+further_counts j k (named o offset) rest = omega arith
+further_counts j k (pointed ptr space) rest = omega arith
+
+settled_counts : (j : ℕ) (s : Site) (ty : PlainType) (t : ℕ) (rest : List PlainIr) → count j (settled_code s ty t rest) ≤ count j rest
+settled_counts j (named o offset) ty t rest = omega arith
+settled_counts j (pointed ptr space) ty t rest = omega arith
+
+address_counts : (j : ℕ) (s : Site) (ty : PlainType) (t : ℕ) (rest : List PlainIr) → count j (address_code s ty t rest) ≤ count j rest
+address_counts j (named o offset) ty t rest = omega arith
+address_counts j (pointed ptr space) ty t rest = omega arith
+
+load_counts : (j : ℕ) (s : Site) (to : Temp) (rest : List PlainIr) → count j (load_from to s ∷ rest) ≤ count j rest
+load_counts j (named o offset) to rest = omega arith
+load_counts j (pointed ptr space) to rest = omega arith
 
 params_counts : (j : ℕ) (os : List ℕ) (es : PlainExprs) (t : ℕ) (rest : List PlainIr) → count j (params_code os es t rest) ≤ count j rest
 params_counts j [] es t rest = omega arith
@@ -166,48 +238,87 @@ group_counts j acquire (Some x) t rest = pairs_counts j (pairs_of acquire x) t r
 
 module _ (program : PlainProgram) (table : PlainTable) where
   mutual
-    pub expr_counts : (j : ℕ) (e : PlainExpr) (l t : ℕ) (rest : List PlainIr) → count j (expr_code program table e l t rest) ≤ among (expr_labels e) l j + count j rest
+    pub expr_counts : (j : ℕ) (e : PlainExpr) (l t : ℕ) (rest : List PlainIr) → count j (expr_code program table e l t rest) ≤ among
+        (expr_labels e) l j + count j rest
     expr_counts j (expression ty mode node) l t rest = node_counts j ty mode node l t rest
 
-    node_counts : (j : ℕ) (ty : PlainType) (mode : Mode) (node : PlainNode) (l t : ℕ) (rest : List PlainIr) → count j (node_code program table ty mode node l t rest) ≤ among (node_labels node) l j + count j rest
+    node_counts : (j : ℕ) (ty : PlainType) (mode : Mode) (node : PlainNode) (l t : ℕ) (rest : List PlainIr)
+        → count j (node_code program table ty mode node l t rest) ≤ among (node_labels node) l j + count j rest
     node_counts j ty mode (number n) l t rest = omega arith
     node_counts j ty mode null l t rest = omega arith
-    node_counts j ty mode (load (object o)) l t rest = omega arith
-    node_counts j ty mode (load (deref e)) l t rest = omega arith
-    node_counts j ty mode (load (member q i)) l t rest = omega arith
-    node_counts j ty mode (address_of q) l t rest = omega arith
+    node_counts j ty mode (load p) l t rest =
+        let x = place_counts j p l t (load_from (temp t ty) (site program p t) ∷ rest) in let y = load_counts j (site program p t)
+        (temp t ty) rest in omega (arith, x, y)
+    node_counts j ty mode (address_of p) l t rest =
+        let x = place_counts j p l t (address_code (site program p t) ty t rest) in let y = address_counts j (site program p t) ty t rest in
+        omega (arith, x, y)
     node_counts j ty mode (unary op a) l t rest = expr_counts j a l t (unary_op op ty mode (temp t ty) (temp t ty) ∷ rest)
     node_counts j ty mode (binary op a b) l t rest =
-        let q : List PlainIr = binary_op op ty mode (temp t ty) (temp t (type_of_expr a)) (type_of_expr a) (temp (t + 1) (type_of_expr b)) (type_of_expr b) ∷ rest in
-        let x = expr_counts j a l t (expr_code program table b (l + expr_labels a) (t + 1) q) in let y = expr_counts j b (l + expr_labels a) (t + 1) q in let z = among_two (expr_labels a) (expr_labels b) l j in omega (arith, x, y, z)
-    node_counts j ty mode (convert a) l t rest = expr_counts j a l t (conversion (temp t ty) ty mode (temp t (type_of_expr a)) (type_of_expr a) ∷ rest)
-    node_counts j ty mode (assign (object o) a) l t rest = expr_counts j a l t (store_object o 0 (temp t ty) ∷ rest)
-    node_counts j ty mode (assign (deref e) a) l t rest = omega arith
-    node_counts j ty mode (assign (member q i) a) l t rest = omega arith
-    node_counts j ty mode (compound op own (object o) a) l t rest = expr_counts j a l (t + 1) (update_code op (update_types op (number_type ty) (number_type (type_of_expr a))) own mode ty o t (type_of_expr a) rest)
-    node_counts j ty mode (compound op own (deref e) a) l t rest = omega arith
-    node_counts j ty mode (compound op own (member q i) a) l t rest = omega arith
-    node_counts j ty mode (step up prefix (object o)) l t rest = let x = step_counts j prefix (step_operator up) mode ty o t rest in omega (arith, x)
-    node_counts j ty mode (step up prefix (deref e)) l t rest = omega arith
-    node_counts j ty mode (step up prefix (member q i)) l t rest = omega arith
+        let q : List PlainIr = binary_op op ty mode (temp t ty) (temp t (type_of_expr a)) (type_of_expr a) (temp (t + 1) (type_of_expr b))
+        (type_of_expr b) ∷ rest in
+        let x = expr_counts j a l t (expr_code program table b (l + expr_labels a) (t + 1) q) in let y = expr_counts j b (l + expr_labels a)
+        (t + 1) q in let z = among_two (expr_labels a) (expr_labels b) l j in omega (arith, x, y, z)
+    node_counts j ty mode (convert a) l t rest = expr_counts j a l t (conversion (temp t ty) ty mode (temp t (type_of_expr a))
+        (type_of_expr a) ∷ rest)
+    node_counts j ty mode (assign p a) l t rest =
+        let s = site program p t in
+        let r = settled_code s ty t rest in
+        let q : List PlainIr = store_to s (temp (value_place s t) ty) ∷ r in
+        let x = place_counts j p l t (expr_code program table a (l + place_labels p) (value_place s t) q) in
+        let y = expr_counts j a (l + place_labels p) (value_place s t) q in
+        let u = store_counts j s (temp (value_place s t) ty) r in
+        let k = settled_counts j s ty t rest in
+        let z = among_two (place_labels p) (expr_labels a) l j in omega (arith, x, y, u, k, z)
+    node_counts j ty mode (compound op own p a) l t rest =
+        let s = site program p t in
+        let v = value_place s t in
+        let r = settled_code s ty t rest in
+        let q = change_code op own mode ty s v (type_of_expr a) r in
+        let c = expr_code program table a (l + place_labels p) (v + 1) q in
+        let x = place_counts j p l t (load_from (temp v ty) s ∷ c) in
+        let y = load_counts j s (temp v ty) c in
+        let u = expr_counts j a (l + place_labels p) (v + 1) q in
+        let w = change_counts j op own mode ty s v (type_of_expr a) r in
+        let k = settled_counts j s ty t rest in
+        let z = among_two (place_labels p) (expr_labels a) l j in omega (arith, x, y, u, w, k, z)
+    node_counts j ty mode (step up prefix p) l t rest =
+        let s = site program p t in
+        let v = value_place s t in
+        let r = settled_code s ty t rest in
+        let q = step_code prefix (step_operator up) mode ty s v r in
+        let c : List PlainIr = constant (temp (v + 1) int) (pos 1) ∷ q in
+        let x = place_counts j p l t (load_from (temp v ty) s ∷ c) in
+        let y = load_counts j s (temp v ty) c in
+        let w = step_counts j prefix (step_operator up) mode ty s v r in
+        let k = settled_counts j s ty t rest in omega (arith, x, y, w, k)
     node_counts j ty mode (logical_not a) l t rest =
-        let x = expr_counts j a (l + 2) t (branch_zero (temp t (type_of_expr a)) l ∷ truth_code false ty l t rest) in let z = among_two 2 (expr_labels a) l j in let v = two_labels l j in omega (arith, x, z, v)
+        let x = expr_counts j a (l + 2) t (branch_zero (temp t (type_of_expr a)) l ∷ truth_code false ty l t rest) in
+        let z = among_two 2 (expr_labels a) l j in let v = two_labels l j in omega (arith, x, z, v)
     node_counts j ty mode (logical_and a b) l t rest =
         let q : List PlainIr = branch_zero (temp t (type_of_expr b)) l ∷ truth_code true ty l t rest in
-        let x = expr_counts j a (l + 2) t (branch_zero (temp t (type_of_expr a)) l ∷ expr_code program table b (l + 2 + expr_labels a) t q) in let y = expr_counts j b (l + 2 + expr_labels a) t q in let z = among_three 2 (expr_labels a) (expr_labels b) l j in let v = two_labels l j in omega (arith, x, y, z, v)
+        let x = expr_counts j a (l + 2) t (branch_zero (temp t (type_of_expr a)) l ∷ expr_code program table b (l + 2 + expr_labels a) t
+        q) in let y = expr_counts j b (l + 2 + expr_labels a) t q in let z = among_three 2 (expr_labels a) (expr_labels b) l j in
+        let v = two_labels l j in omega (arith, x, y, z, v)
     node_counts j ty mode (logical_or a b) l t rest =
         let q : List PlainIr = branch_zero (temp t (type_of_expr b)) l ∷ label (l + 3) ∷ truth_code true ty l t rest in
-        let x = expr_counts j a (l + 4) t (branch_zero (temp t (type_of_expr a)) (l + 2) ∷ jump (l + 3) ∷ label (l + 2) ∷ expr_code program table b (l + 4 + expr_labels a) t q) in let y = expr_counts j b (l + 4 + expr_labels a) t q in let z = among_three 4 (expr_labels a) (expr_labels b) l j in let v = four_labels l j in omega (arith, x, y, z, v)
+        let x = expr_counts j a (l + 4) t (branch_zero (temp t (type_of_expr a)) (l + 2) ∷ jump (l + 3) ∷ label (l + 2)
+        ∷ expr_code program table b (l + 4 + expr_labels a) t q) in let y = expr_counts j b (l + 4 + expr_labels a) t q in
+        let z = among_three 4 (expr_labels a) (expr_labels b) l j in let v = four_labels l j in omega (arith, x, y, z, v)
     node_counts j ty mode (conditional c a b) l t rest =
         let r : List PlainIr = label (l + 1) ∷ rest in
         let q : List PlainIr = jump (l + 1) ∷ label l ∷ expr_code program table b (l + 2 + expr_labels c + expr_labels a) t r in
-        let x = expr_counts j c (l + 2) t (branch_zero (temp t (type_of_expr c)) l ∷ expr_code program table a (l + 2 + expr_labels c) t q) in let y = expr_counts j a (l + 2 + expr_labels c) t q in let u = expr_counts j b (l + 2 + expr_labels c + expr_labels a) t r in
+        let x = expr_counts j c (l + 2) t (branch_zero (temp t (type_of_expr c)) l ∷ expr_code program table a (l + 2 + expr_labels c) t
+        q) in let y = expr_counts j a (l + 2 + expr_labels c) t q in let u = expr_counts j b (l + 2 + expr_labels c + expr_labels a) t
+        r in
         let z = among_four 2 (expr_labels c) (expr_labels a) (expr_labels b) l j in let v = two_labels l j in omega (arith, x, y, u, z, v)
     node_counts j ty mode (comma a b) l t rest =
-        let x = expr_counts j a l t (expr_code program table b (l + expr_labels a) t rest) in let y = expr_counts j b (l + expr_labels a) t rest in let z = among_two (expr_labels a) (expr_labels b) l j in omega (arith, x, y, z)
+        let x = expr_counts j a l t (expr_code program table b (l + expr_labels a) t rest) in
+        let y = expr_counts j b (l + expr_labels a) t rest in let z = among_two (expr_labels a) (expr_labels b) l j in
+        omega (arith, x, y, z)
     node_counts j ty mode (call f args) l t rest =
         let q : List PlainIr = call_function f (result_temp t ty) ∷ rest in
-        let x = args_counts j args l t (params_code (params_of program f) args t q) in let y = params_counts j (params_of program f) args t q in omega (arith, x, y)
+        let x = args_counts j args l t (params_code (params_of program f) args t q) in let y = params_counts j (params_of program f) args t
+        q in omega (arith, x, y)
     node_counts j ty mode (io op port i v) l t rest =
         let q = access_code op mode (slice_get table.ports port) i t rest in
         let x = operand_counts j i l t (option_code program table v (l + option_labels i) (place_behind i t) q) in
@@ -216,45 +327,66 @@ module _ (program : PlainProgram) (table : PlainTable) where
         let z = among_two (option_labels i) (option_labels v) l j in omega (arith, x, y, u, z)
     node_counts j ty mode (group acquire g) l t rest = let x = group_counts j acquire (slice_get table.groups g) t rest in omega (arith, x)
 
-    operand_counts : (j : ℕ) (e : OptionPlainExpr) (l t : ℕ) (rest : List PlainIr)
-        → count j (option_code program table e l t rest) ≤ among (option_labels e) l j + count j rest
+    place_counts : (j : ℕ) (p : PlainPlace) (l t : ℕ) (rest : List PlainIr) → count j (place_code program table p l t rest) ≤ among
+        (place_labels p) l j + count j rest
+    place_counts j (object o) l t rest = omega arith
+    place_counts j (deref e) l t rest = expr_counts j e l t rest
+    place_counts j (member p i) l t rest =
+        let x = place_counts j p l t (further_code (offset_of program p i) (site program p t) rest) in let y = further_counts j
+        (offset_of program p i) (site program p t) rest in omega (arith, x, y)
+
+    operand_counts : (j : ℕ) (e : OptionPlainExpr) (l t : ℕ) (rest : List PlainIr) → count j (option_code program table e l t rest) ≤ among
+        (option_labels e) l j + count j rest
     operand_counts j no_expr l t rest = omega arith
     operand_counts j (an_expr e) l t rest = expr_counts j e l t rest
 
-    args_counts : (j : ℕ) (es : PlainExprs) (l t : ℕ) (rest : List PlainIr) → count j (args_code program table es l t rest) ≤ among (exprs_labels es) l j + count j rest
+    args_counts : (j : ℕ) (es : PlainExprs) (l t : ℕ) (rest : List PlainIr) → count j (args_code program table es l t rest) ≤ among
+        (exprs_labels es) l j + count j rest
     args_counts j last_expr l t rest = omega arith
     args_counts j (next_expr e es) l t rest =
-        let x = expr_counts j e l t (args_code program table es (l + expr_labels e) (t + 1) rest) in let y = args_counts j es (l + expr_labels e) (t + 1) rest in let z = among_two (expr_labels e) (exprs_labels es) l j in omega (arith, x, y, z)
+        let x = expr_counts j e l t (args_code program table es (l + expr_labels e) (t + 1) rest) in let y = args_counts j es
+        (l + expr_labels e) (t + 1) rest in let z = among_two (expr_labels e) (exprs_labels es) l j in omega (arith, x, y, z)
 
-  init_counts : (j : ℕ) (ls : List PlainLeaf) (o : ℕ) (es : PlainExprs) (l : ℕ) (rest : List PlainIr) → count j (init_code program table ls o es l rest) ≤ among (exprs_labels es) l j + count j rest
+  init_counts : (j : ℕ) (ls : List PlainLeaf) (o : ℕ) (es : PlainExprs) (l : ℕ) (rest : List PlainIr)
+      → count j (init_code program table ls o es l rest) ≤ among (exprs_labels es) l j + count j rest
   init_counts j [] o es l rest = omega arith
   init_counts j (leaf ∷ ls) o last_expr l rest = omega arith
   init_counts j (leaf ∷ ls) o (next_expr e es) l rest =
-      let x = expr_counts j e l 0 (store_object o leaf.at (temp 0 (type_of_expr e)) ∷ init_code program table ls o es (l + expr_labels e) rest) in let y = init_counts j ls o es (l + expr_labels e) rest in let z = among_two (expr_labels e) (exprs_labels es) l j in omega (arith, x, y, z)
+      let x = expr_counts j e l 0 (store_object o leaf.at (temp 0 (type_of_expr e)) ∷ init_code program table ls o es
+      (l + expr_labels e) rest) in let y = init_counts j ls o es (l + expr_labels e) rest in let z = among_two (expr_labels e)
+      (exprs_labels es) l j in omega (arith, x, y, z)
 
-  test_counts : (j : ℕ) (c : Option PlainExpr) (out l : ℕ) (rest : List PlainIr) → count j (test_code program table c out l rest) ≤ among (optional_labels c) l j + count j rest
+  test_counts : (j : ℕ) (c : Option PlainExpr) (out l : ℕ) (rest : List PlainIr) → count j (test_code program table c out l rest) ≤ among
+      (optional_labels c) l j + count j rest
   test_counts j None out l rest = omega arith
   test_counts j (Some c) out l rest = expr_counts j c l 0 (branch_zero (temp 0 (type_of_expr c)) out ∷ rest)
 
-  last_counts : (j : ℕ) (e : Option PlainExpr) (l : ℕ) (rest : List PlainIr) → count j (last_code program table e l rest) ≤ among (optional_labels e) l j + count j rest
+  last_counts : (j : ℕ) (e : Option PlainExpr) (l : ℕ) (rest : List PlainIr) → count j (last_code program table e l rest) ≤ among
+      (optional_labels e) l j + count j rest
   last_counts j None l rest = omega arith
   last_counts j (Some e) l rest = expr_counts j e l 0 rest
 
   mutual
-    pub stmt_counts : (j : ℕ) (a : PlainStmt) (l out on : ℕ) (rest : List PlainIr) → count j (stmt_code program table a l out on rest) ≤ among (stmt_labels a) l j + count j rest
+    pub stmt_counts : (j : ℕ) (a : PlainStmt) (l out on : ℕ) (rest : List PlainIr)
+        → count j (stmt_code program table a l out on rest) ≤ among (stmt_labels a) l j + count j rest
     stmt_counts j (statement unit at kind) l out on rest = kind_counts j kind l out on rest
 
-    kind_counts : (j : ℕ) (kind : PlainKind) (l out on : ℕ) (rest : List PlainIr) → count j (kind_code program table kind l out on rest) ≤ among (kind_labels kind) l j + count j rest
+    kind_counts : (j : ℕ) (kind : PlainKind) (l out on : ℕ) (rest : List PlainIr)
+        → count j (kind_code program table kind l out on rest) ≤ among (kind_labels kind) l j + count j rest
     kind_counts j empty l out on rest = omega arith
     kind_counts j (evaluate e) l out on rest = expr_counts j e l 0 rest
     kind_counts j (block ss) l out on rest = stmts_counts j ss l out on rest
     kind_counts j (declare o es) l out on rest = init_counts j (leaves_of_object program o) o es l rest
     kind_counts j (branch c a no_stmt) l out on rest =
-        let x = expr_counts j c (l + 2) 0 (branch_zero (temp 0 (type_of_expr c)) l ∷ stmt_code program table a (l + 2 + expr_labels c) out on (label l ∷ rest)) in let y = stmt_counts j a (l + 2 + expr_labels c) out on (label l ∷ rest) in
+        let x = expr_counts j c (l + 2) 0 (branch_zero (temp 0 (type_of_expr c)) l ∷ stmt_code program table a (l + 2 + expr_labels c) out
+        on (label l ∷ rest)) in let y = stmt_counts j a (l + 2 + expr_labels c) out on (label l ∷ rest) in
         let z = among_four 2 (expr_labels c) (stmt_labels a) 0 l j in let v = two_labels l j in omega (arith, x, y, z, v)
     kind_counts j (branch c a (a_stmt b)) l out on rest =
-        let q : List PlainIr = jump (l + 1) ∷ label l ∷ stmt_code program table b (l + 2 + expr_labels c + stmt_labels a) out on (label (l + 1) ∷ rest) in
-        let x = expr_counts j c (l + 2) 0 (branch_zero (temp 0 (type_of_expr c)) l ∷ stmt_code program table a (l + 2 + expr_labels c) out on q) in let y = stmt_counts j a (l + 2 + expr_labels c) out on q in let u = stmt_counts j b (l + 2 + expr_labels c + stmt_labels a) out on (label (l + 1) ∷ rest) in
+        let q : List PlainIr = jump (l + 1) ∷ label l ∷ stmt_code program table b (l + 2 + expr_labels c + stmt_labels a) out on
+        (label (l + 1) ∷ rest) in
+        let x = expr_counts j c (l + 2) 0 (branch_zero (temp 0 (type_of_expr c)) l ∷ stmt_code program table a (l + 2 + expr_labels c) out
+        on q) in let y = stmt_counts j a (l + 2 + expr_labels c) out on q in
+        let u = stmt_counts j b (l + 2 + expr_labels c + stmt_labels a) out on (label (l + 1) ∷ rest) in
         let z = among_four 2 (expr_labels c) (stmt_labels a) (stmt_labels b) l j in let v = two_labels l j in omega (arith, x, y, u, z, v)
     kind_counts j (while_loop c a) l out on rest =
         let q : List PlainIr = label (l + 2) ∷ jump l ∷ label (l + 1) ∷ rest in
@@ -270,26 +402,31 @@ module _ (program : PlainProgram) (table : PlainTable) where
         let l = l0 + option_stmt_labels first in
         let e : List PlainIr = jump l ∷ label (l + 1) ∷ rest in
         let q : List PlainIr = label (l + 2) ∷ last_code program table last (l + 4 + optional_labels c) e in
-        let b : List PlainIr = label (l + 3) ∷ stmt_code program table a (l + 4 + optional_labels c + optional_labels last) (l + 1) (l + 2) q in
+        let b : List PlainIr = label (l + 3) ∷ stmt_code program table a (l + 4 + optional_labels c + optional_labels last) (l + 1)
+        (l + 2) q in
         let f = option_counts j first l0 out on (label l ∷ test_code program table c (l + 1) (l + 4) b) in
         let x = test_counts j c (l + 1) (l + 4) b in
         let y = stmt_counts j a (l + 4 + optional_labels c + optional_labels last) (l + 1) (l + 2) q in
         let u = last_counts j last (l + 4 + optional_labels c) e in
         let w = among_two (option_stmt_labels first) (4 + optional_labels c + optional_labels last + stmt_labels a) l0 j in
-        let z = among_four 4 (optional_labels c) (optional_labels last) (stmt_labels a) l j in let v = four_labels l j in omega (arith, f, x, y, u, w, z, v)
+        let z = among_four 4 (optional_labels c) (optional_labels last) (stmt_labels a) l j in let v = four_labels l j in
+        omega (arith, f, x, y, u, w, z, v)
     kind_counts j break_loop l out on rest = omega arith
     kind_counts j continue_loop l out on rest = omega arith
     kind_counts j (return_value None) l out on rest = omega arith
     kind_counts j (return_value (Some e)) l out on rest = expr_counts j e l 0 (return_from (Some (temp 0 (type_of_expr e))) ∷ rest)
 
-    option_counts : (j : ℕ) (a : OptionPlainStmt) (l out on : ℕ) (rest : List PlainIr) → count j (option_stmt_code program table a l out on rest) ≤ among (option_stmt_labels a) l j + count j rest
+    option_counts : (j : ℕ) (a : OptionPlainStmt) (l out on : ℕ) (rest : List PlainIr)
+        → count j (option_stmt_code program table a l out on rest) ≤ among (option_stmt_labels a) l j + count j rest
     option_counts j no_stmt l out on rest = omega arith
     option_counts j (a_stmt a) l out on rest = stmt_counts j a l out on rest
 
-    stmts_counts : (j : ℕ) (ss : PlainStmts) (l out on : ℕ) (rest : List PlainIr) → count j (stmts_code program table ss l out on rest) ≤ among (stmts_labels ss) l j + count j rest
+    stmts_counts : (j : ℕ) (ss : PlainStmts) (l out on : ℕ) (rest : List PlainIr)
+        → count j (stmts_code program table ss l out on rest) ≤ among (stmts_labels ss) l j + count j rest
     stmts_counts j last_stmt l out on rest = omega arith
     stmts_counts j (next_stmt a ss) l out on rest =
-        let x = stmt_counts j a l out on (stmts_code program table ss (l + stmt_labels a) out on rest) in let y = stmts_counts j ss (l + stmt_labels a) out on rest in let z = among_two (stmt_labels a) (stmts_labels ss) l j in omega (arith, x, y, z)
+        let x = stmt_counts j a l out on (stmts_code program table ss (l + stmt_labels a) out on rest) in let y = stmts_counts j ss
+        (l + stmt_labels a) out on rest in let z = among_two (stmt_labels a) (stmts_labels ss) l j in omega (arith, x, y, z)
 
   -- the label 0 stands behind the body, whose labels are from 1 on
   pub function_counts : (f : PlainFunction) (j : ℕ) → count j (function_code program table f) ≤ 1

@@ -1,3 +1,4 @@
+pub mod Numeric
 pub mod Numbers
 pub mod Objects
 pub mod Shown
@@ -8,6 +9,8 @@ pub mod Ops
 pub mod PortOperators
 pub mod Tables
 pub mod Pays
+pub mod Operations
+pub mod Places
 pub mod PortRuns
 pub mod Behind
 pub mod Callees
@@ -21,12 +24,12 @@ pub mod Bodies
 pub mod Labels
 pub mod Calls
 pub mod Whole
-pub mod Operations
 pub mod Updates
 pub mod Keeps
+pub mod Insides
 pub mod Fits
 pub mod Wellformed
 pub mod Reached
 pub mod Rules
 pub mod Made
-pub mod Compiled
+pub mod OnPorts

@@ -16,16 +16,18 @@ module _ (program : PlainProgram) (table : PlainTable) where
   of_function : (f : PlainFunction) → IsLoweredFunction f (lowered_function program table f)
   of_function f = record { labels = function_counts program table f; places = refl; calls = function_called program table f }
 
-  of_number : (n : ℕ) (f : PlainFunction) (g : PlainIrFunction) → slice_get program.functions n ≡ Some f → slice_get (lowered program table).functions n ≡ Some g → IsLoweredFunction f g
+  of_number : (n : ℕ) (f : PlainFunction) (g : PlainIrFunction) → slice_get program.functions n ≡ Some f
+      → slice_get (lowered program table).functions n ≡ Some g → IsLoweredFunction f g
   of_number n f g e h =
-      let same : Some (lowered_function program table f) ≡ Some g = sym (ap (option_map (lowered_function program table)) e) ∙ (sym (slice_get-map (lowered_function program table) program.functions n) ∙ h) in
+      let same : Some (lowered_function program table f) ≡ Some g = sym (ap (option_map (lowered_function program table)) e)
+      ∙ (sym (slice_get-map (lowered_function program table) program.functions n) ∙ h) in
       let is : lowered_function program table f ≡ g = cc in
       subst (IsLoweredFunction f) is (of_function f)
 
 pub made : LoweredIsMadeOf
-made program io valid pairs parts =
+made program io valid pairs =
     record {
-      valid = lowered_is_valid program io valid pairs parts;
+      valid = lowered_is_valid program io valid pairs;
       functions = of_number program (plain_table io);
-      words = words_fit program io valid parts;
+      words = words_fit program io valid;
     }

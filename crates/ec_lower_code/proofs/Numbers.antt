@@ -1,6 +1,7 @@
 -- A value of a type is read back from its bytes in a temporary.
-use Rattle.std.proofs.Common.{◌≡◌, ℕ, zero, suc, ◌-◌, ◌*◌, ◌/◌, ◌^◌, ◌<◌, ◌≤◌, Bool, true, false, not, ◌&&◌, ℤ, pos, negsuc, ◌-ℤ◌, unsigned_abs, Some, None, Result, Ok, refl, sym, ap, ◌∙◌, subst, inl, inr, arith, eqb-true}
-use Rattle.std.specs.Prelude.{if◌then◌else◌, ◌==◌, nat_le}
+use Rattle.std.proofs.Common.{◌≡◌, ℕ, zero, suc, ◌-◌, ◌*◌, ◌/◌, ◌^◌, ◌<◌, ◌≤◌, Bool, true, false, not, ◌&&◌, ℤ, pos, negsuc}
+use Rattle.std.proofs.Common.{◌-ℤ◌, unsigned_abs, Some, None, Result, Ok, refl, sym, ap, ◌∙◌, subst, inl, inr, arith, eqb-true}
+use Rattle.std.specs.Prelude.{if◌then◌else◌, ◌==◌, nat_le, slice_get, option_map, unwrap_or}
 use Rattle.std.specs.Int.{int_rem_euclid}
 use Rattle.std.specs.Ordering.{int_eq}
 use Rattle.std.proofs.lemmas.Int.{ints}
@@ -9,26 +10,30 @@ use Rattle.std.proofs.lemmas.Nat.{pow_pos}
 use Rattle.std.proofs.lemmas.Bool.{le-leb, lt-leb}
 use Rattle.std.proofs.lemmas.Bool.Decides.{Decides-int_eq}
 use Rattle.ec_fx.specs.declared.formats.FxKind.{FxKind}
-use Rattle.ec_fx.specs.declared.formats.FxKind.TheVariants.{ShortFract, Fract, LongFract, ShortAccum, Accum, LongAccum, UnsignedShortFract, UnsignedFract, UnsignedLongFract, UnsignedShortAccum, UnsignedAccum, UnsignedLongAccum}
+use Rattle.ec_fx.specs.declared.formats.FxKind.TheVariants.{ShortFract, Fract, LongFract, ShortAccum, Accum, LongAccum}
+use Rattle.ec_fx.specs.declared.formats.FxKind.TheVariants.{UnsignedShortFract, UnsignedFract, UnsignedLongFract}
+use Rattle.ec_fx.specs.declared.formats.FxKind.TheVariants.{UnsignedShortAccum, UnsignedAccum, UnsignedLongAccum}
 use Rattle.ec_fx.specs.Formats.{format_of}
 use Rattle.ec_fx.specs.Ranges.{IsWithin}
 use Rattle.ec_space.specs.declared.space.SpaceId.{SpaceId}
 use Rattle.ec_space.specs.declared.space.SpaceId.TheVariants.{Flash, Data, Generic}
-use Rattle.ec_space.specs.Spaces.{width}
+use Rattle.ec_space.specs.Spaces.{width, holds}
 use Rattle.ec_core.specs.declared.arithmetic_types.IntegerType.{IntegerType}
+use Rattle.ec_core.specs.declared.values.ObjectPointer.{ObjectPointer}
 use Rattle.ec_core.specs.declared.values.Undefined.{Undefined}
 use Rattle.ec_core.specs.declared.values.Value.{Value}
 use Rattle.ec_core.specs.declared.values.Value.TheVariants.{Number, Pointer}
 use Rattle.ec_core.specs.Accesses.{operand_of, referent_of}
 use Rattle.ec_core.specs.Integers.{wrapped, width_of, IsInteger, HoldsInteger}
 use Rattle.ec_core.specs.Layout.{scalar_size, IsScalar, IsIntegerSize}
-use Rattle.ec_core.specs.Operators.{truth_result}
+use Rattle.ec_core.specs.Operators.{truth_result, unsuited}
 use Rattle.ec_core.specs.Pointers.{used}
-use Rattle.ec_core.specs.Plain.{PlainType, void, integer, fixed, pointer, array, struct, PlainProgram}
+use Rattle.ec_core.specs.Plain.{PlainType, void, integer, fixed, pointer, array, struct, PlainObject, PlainProgram}
 use Rattle.ec_core.specs.State.{State}
-use Rattle.ec_core.specs.ValueTypes.{HasType}
-use Rattle.ec_ir.specs.Temporaries.{low_bytes, number_of_bytes, content_of, value_in, is_zero}
-use Rattle.ec_lower_code.proofs.Shown.{shown, IsValueOf}
+use Rattle.ec_core.specs.ValueTypes.{IsPointerInto, HasType}
+use Rattle.ec_core.proofs.TypedValues.{some_and}
+use Rattle.ec_ir.specs.Temporaries.{low_bytes, number_of_bytes, content_of, value_of_type, is_in_space, is_zero}
+use Rattle.ec_lower_code.proofs.Shown.{erased, shown}
 
 -- so many bits as a number, where the modulus is m
 abbrev number_of_bits : Bool → (m low : ℕ) → ℤ
@@ -56,9 +61,12 @@ half : (w : ℕ) → 1 ≤ w → 2 ^ w ≡ 2 * 2 ^ (w - 1)
 half zero h = absurd (omega arith)
 half (suc w) h = pow-suc 2 w ∙ omega (arith, ap (λ i. 2 ^ i) (let z : suc w - 1 ≡ w = omega arith in z))
 
-bits_back : (s : Bool) (w : ℕ) (n : ℤ) → 1 ≤ w → IsWithin s w n → number_of_bits s (2 ^ w) (unsigned_abs (int_rem_euclid n (pos (2 ^ w)))) ≡ n
-bits_back true w (pos a) h i = let high = i.high in low_back (2 ^ w) (2 ^ (w - 1)) (half w h) (pow_pos (w - 1)) a (omega (arith, ints, high, pow_pos (w - 1)))
-bits_back true w (negsuc a) h i = let low = i.low in high_back (2 ^ w) (2 ^ (w - 1)) (half w h) (pow_pos (w - 1)) a (omega (arith, ints, low, pow_pos (w - 1)))
+bits_back : (s : Bool) (w : ℕ) (n : ℤ) → 1 ≤ w → IsWithin s w n → number_of_bits s (2 ^ w)
+    (unsigned_abs (int_rem_euclid n (pos (2 ^ w)))) ≡ n
+bits_back true w (pos a) h i = let high = i.high in low_back (2 ^ w) (2 ^ (w - 1)) (half w h) (pow_pos (w - 1)) a
+    (omega (arith, ints, high, pow_pos (w - 1)))
+bits_back true w (negsuc a) h i = let low = i.low in high_back (2 ^ w) (2 ^ (w - 1)) (half w h) (pow_pos (w - 1)) a
+    (omega (arith, ints, low, pow_pos (w - 1)))
 bits_back false w (pos a) h i = let high = i.high in ap pos (mod-eq_of_lt (let z : a < 2 ^ w = omega (arith, ints, high, pow_pos w) in z))
 bits_back false w (negsuc a) h i = let low = i.low in absurd (omega (arith, ints, low))
 
@@ -78,7 +86,8 @@ bytes_are_bits b (inr (inl e)) = subst (λ (z : ℕ). 256 ^ z ≡ 2 ^ (8 * z)) (
 bytes_are_bits b (inr (inr e)) = subst (λ (z : ℕ). 256 ^ z ≡ 2 ^ (8 * z)) (sym e) refl
 
 abbrev HasBytes : FxKind → Type 0
-HasBytes kind = (256 ^ ((format_of kind).bits / 8) ≡ 2 ^ (format_of kind).bits) × (1 ≤ (format_of kind).bits) × (1 ≤ (format_of kind).bits / 8) × ((format_of kind).bits / 8 ≤ 8)
+HasBytes kind = (256 ^ ((format_of kind).bits / 8) ≡ 2 ^ (format_of kind).bits) × (1 ≤ (format_of kind).bits)
+    × (1 ≤ (format_of kind).bits / 8) × ((format_of kind).bits / 8 ≤ 8)
 
 pub kind_bytes : (kind : FxKind) → HasBytes kind
 kind_bytes ShortFract = (refl, omega arith, omega arith, omega arith)
@@ -96,7 +105,8 @@ kind_bytes UnsignedLongAccum = (refl, omega arith, omega arith, omega arith)
 
 -- m is the modulus of so many bytes, and of as many bits
 number_back : (s : Bool) (b w : ℕ) (n : ℤ) → 256 ^ b ≡ 2 ^ w → 1 ≤ w → IsWithin s w n → number_of_bytes s b (low_bytes b n) ≡ n
-number_back s b w n e h i = subst (λ (m : ℕ). number_of_bits s m (unsigned_abs (int_rem_euclid n (pos m))) ≡ n) (sym e) (bits_back s w n h i)
+number_back s b w n e h i = subst (λ (m : ℕ). number_of_bits s m (unsigned_abs (int_rem_euclid n (pos m))) ≡ n) (sym e)
+    (bits_back s w n h i)
 
 some_width : (b : ℕ) → IsIntegerSize b → 1 ≤ 8 * b
 some_width b (inl e) = omega (arith, e)
@@ -105,28 +115,30 @@ some_width b (inr (inr e)) = omega (arith, e)
 
 -- ---- values
 
-pub value_of_type : (program : PlainProgram) (ty : PlainType) (v : Value) → HasType program ty v → IsValueOf ty v
-value_of_type program void v h = tt
-value_of_type program (integer s b) (Number n) h = h
-value_of_type program (integer s b) (Pointer p) h = absurd h
-value_of_type program (fixed k s) (Number n) h = h
-value_of_type program (fixed k s) (Pointer p) h = absurd h
-value_of_type program (pointer s c t) (Number n) h = absurd h
-value_of_type program (pointer s c t) (Pointer p) h = tt
-value_of_type program (array t n) v h = absurd h
-value_of_type program (struct i) v h = absurd h
+-- the object of a pointer has its home in the space of the pointer's type
+pub into_space : (program : PlainProgram) (space : SpaceId) (p : ObjectPointer) → IsPointerInto program space (Some p)
+    → is_in_space program space (erased p) ≡ true
+into_space program space p h =
+    let d = some_and (slice_get program.objects p.object) _ h in
+    ap (λ z. unwrap_or (option_map (λ (o : PlainObject). holds space o.home) z) false) d.1 ∙ d.2.0
 
-pub typed_back : (ty : PlainType) (v : Value) → IsScalar ty → IsValueOf ty v → value_in ty (content_of (scalar_size ty) (shown v)) ≡ Ok (shown v)
-typed_back void v i h = absurd i
-typed_back (integer s b) (Number n) i h = ap (λ (z : ℤ). Ok (Number z)) (number_back s b (8 * b) n (bytes_are_bits b h.0) (some_width b h.0) h.1)
-typed_back (integer s b) (Pointer p) i h = absurd h
-typed_back (fixed k s) (Number n) i h = let z = kind_bytes k in ap (λ (z : ℤ). Ok (Number z)) (number_back (format_of k).signed ((format_of k).bits / 8) (format_of k).bits n z.0 z.1 h)
-typed_back (fixed k s) (Pointer p) i h = absurd h
-typed_back (pointer s c t) (Number n) i h = absurd h
-typed_back (pointer s c t) (Pointer None) i h = refl
-typed_back (pointer s c t) (Pointer (Some p)) i h = refl
-typed_back (array t n) v i h = absurd i
-typed_back (struct k) v i h = absurd i
+pub typed_back : (program : PlainProgram) (ty : PlainType) (v : Value) → IsScalar ty → HasType program ty v
+    → value_of_type program ty (content_of (scalar_size ty) (shown v)) ≡ Ok (shown v)
+typed_back program void v i h = absurd i
+typed_back program (integer s b) (Number n) i h =
+    ap (λ (z : ℤ). Ok (Number z)) (number_back s b (8 * b) n (bytes_are_bits b h.0) (some_width b h.0) h.1)
+typed_back program (integer s b) (Pointer p) i h = absurd h
+typed_back program (fixed k s) (Number n) i h =
+    let z = kind_bytes k in
+    ap (λ (z : ℤ). Ok (Number z))
+    (number_back (format_of k).signed ((format_of k).bits / 8) (format_of k).bits n z.0 z.1 h)
+typed_back program (fixed k s) (Pointer p) i h = absurd h
+typed_back program (pointer s c t) (Number n) i h = absurd h
+typed_back program (pointer s c t) (Pointer None) i h = refl
+typed_back program (pointer s c t) (Pointer (Some p)) i h =
+    ap (λ b. if b then Ok (Pointer (Some (erased p))) else unsuited) (into_space program s p h)
+typed_back program (array t n) v i h = absurd i
+typed_back program (struct k) v i h = absurd i
 
 -- the bytes of a scalar type
 pub scalar_bytes : (ty : PlainType) → IsScalar ty → (1 ≤ scalar_size ty) × (scalar_size ty ≤ 8)
@@ -150,7 +162,7 @@ pow_some : (b : ℕ) → 0 < 256 ^ b
 pow_some zero = omega arith
 pow_some (suc b) = let e = pow-suc 256 b in let h = pow_some b in omega (arith, e, h)
 
-none : (b : ℕ) → low_bytes b (pos 0) ≡ 0
+pub none : (b : ℕ) → low_bytes b (pos 0) ≡ 0
 none b = mod-eq_of_lt (pow_some b)
 
 no_bytes : (s : Bool) (b : ℕ) → number_of_bytes s b 0 ≡ pos 0
@@ -181,9 +193,11 @@ abbrev given_bool : Bool → Result Bool Undefined
 given_bool h = Ok h
 
 -- a condition holds where some byte of its value is not 0
-pub truth_zero : (program : PlainProgram) (ty : PlainType) (v : Value) (s : State) (h : Bool) → IsScalar ty → IsValueOf ty v → truth_result (operand_of program ty v s) ≡ Ok h → is_zero (content_of (scalar_size ty) (shown v)) ≡ not h
+pub truth_zero : (program : PlainProgram) (ty : PlainType) (v : Value) (s : State) (h : Bool) → IsScalar ty → HasType program ty v
+    → truth_result (operand_of program ty v s) ≡ Ok h → is_zero (content_of (scalar_size ty) (shown v)) ≡ not h
 truth_zero program void v s h i t e = absurd i
-truth_zero program (integer g b) (Number n) s h i t e = zero_bytes g b n (number_back g b (8 * b) n (bytes_are_bits b t.0) (some_width b t.0) t.1) ∙ decided n h e
+truth_zero program (integer g b) (Number n) s h i t e = zero_bytes g b n (number_back g b (8 * b) n (bytes_are_bits b t.0)
+    (some_width b t.0) t.1) ∙ decided n h e
   where
     decided : (n : ℤ) (h : Bool) → given_bool (not (int_eq n (pos 0))) ≡ Ok h → int_eq n (pos 0) ≡ not h
     decided n h e = number (int_eq n (pos 0)) e
@@ -192,7 +206,8 @@ truth_zero program (integer g b) (Number n) s h i t e = zero_bytes g b n (number
         number true f = let g : false ≡ h = cc in ap not g
         number false f = let g : true ≡ h = cc in ap not g
 truth_zero program (integer g b) (Pointer p) s h i t e = absurd t
-truth_zero program (fixed k g) (Number n) s h i t e = let z = kind_bytes k in zero_bytes (format_of k).signed ((format_of k).bits / 8) n (number_back (format_of k).signed ((format_of k).bits / 8) (format_of k).bits n z.0 z.1 t) ∙ number (int_eq n (pos 0)) e
+truth_zero program (fixed k g) (Number n) s h i t e = let z = kind_bytes k in zero_bytes (format_of k).signed ((format_of k).bits / 8) n
+    (number_back (format_of k).signed ((format_of k).bits / 8) (format_of k).bits n z.0 z.1 t) ∙ number (int_eq n (pos 0)) e
   where
     number : (b : Bool) → given_bool (not b) ≡ Ok h → b ≡ not h
     number true f = let g : false ≡ h = cc in ap not g

@@ -1,9 +1,12 @@
 -- The types and the costs of the operations of compound assignments and steps.
-use Rattle.std.proofs.Common.{◌≡◌, ◌⊎◌, ℕ, zero, suc, ◌+◌, ◌*◌, ◌/◌, ◌≤◌, Bool, true, false, ◌&&◌, ◌||◌, ℤ, [], ◌∷◌, refl, sym, ap, subst, inl, inr, arith}
+use Rattle.std.proofs.Common.{◌≡◌, ◌⊎◌, ℕ, zero, suc, ◌+◌, ◌*◌, ◌/◌, ◌≤◌, Bool, true, false, ◌&&◌, ◌||◌, ℤ, [], ◌∷◌, refl, sym}
+use Rattle.std.proofs.Common.{ap, subst, inl, inr, arith}
 use Rattle.std.specs.Prelude.{if◌then◌else◌, nat_lt, max}
 use Rattle.std.proofs.Math.Nat.{mul_comm, mul-le-mul_left}
 use Rattle.ec_fx.specs.declared.formats.FxKind.{FxKind}
-use Rattle.ec_fx.specs.declared.formats.FxKind.TheVariants.{ShortFract, Fract, LongFract, ShortAccum, Accum, LongAccum, UnsignedShortFract, UnsignedFract, UnsignedLongFract, UnsignedShortAccum, UnsignedAccum, UnsignedLongAccum}
+use Rattle.ec_fx.specs.declared.formats.FxKind.TheVariants.{ShortFract, Fract, LongFract, ShortAccum, Accum, LongAccum}
+use Rattle.ec_fx.specs.declared.formats.FxKind.TheVariants.{UnsignedShortFract, UnsignedFract, UnsignedLongFract}
+use Rattle.ec_fx.specs.declared.formats.FxKind.TheVariants.{UnsignedShortAccum, UnsignedAccum, UnsignedLongAccum}
 use Rattle.ec_fx.specs.declared.numbers.Mode.{Mode}
 use Rattle.ec_fx.specs.Formats.{format_of, rank_of}
 use Rattle.ec_core.specs.declared.arithmetic_types.Arithmetic.{Arithmetic}
@@ -14,11 +17,13 @@ use Rattle.ec_core.specs.declared.expressions.BinOp.{BinOp}
 use Rattle.ec_core.specs.declared.expressions.BinOp.TheVariants.{Add, Sub, Mul, Div, Rem, Shl, Shr, And, Or, Xor, Lt, Gt, Le, Ge, Eq, Ne}
 use Rattle.ec_core.specs.declared.values.Value.{Value}
 use Rattle.ec_core.specs.declared.values.Value.TheVariants.{Number, Pointer}
-use Rattle.ec_core.specs.ArithmeticTypes.{type_of, promoted, wider_or_unsigned, common_integer, signed_kind, higher_kind, common_fixed, common}
+use Rattle.ec_core.specs.ArithmeticTypes.{type_of, promoted, wider_or_unsigned, common_integer, signed_kind, higher_kind}
+use Rattle.ec_core.specs.ArithmeticTypes.{common_fixed, common}
 use Rattle.ec_core.specs.ArithmeticValues.{HoldsNumber, IsKnownType, operand, arithmetic_value}
 use Rattle.ec_core.specs.Layout.{scalar_size, IsScalar}
 use Rattle.ec_core.specs.Operators.{same_type, number_type, OperationTypes, converted_beside, promoted_type, step_operator}
-use Rattle.ec_core.specs.Plain.{PlainType, void, integer, fixed, pointer, array, struct}
+use Rattle.ec_core.specs.Plain.{PlainType, void, integer, fixed, pointer, array, struct, PlainProgram}
+use Rattle.ec_core.specs.ValueTypes.{HasType}
 use Rattle.ec_core.specs.TypeLaws.{factor_beside}
 use Rattle.ec_core.specs.Typing.{int, IsIntegerKind, HaveCompoundArithmetic, HaveArithmeticTypes}
 use Rattle.ec_core.specs.Words.{widest, update_words}
@@ -27,9 +32,8 @@ use Rattle.ec_core.proofs.HeldNumbers.{Held, arithmetic_held}
 use Rattle.ec_core.proofs.Sameness.{type_itself}
 use Rattle.ec_ir.specs.Costs.{is_integer, conversion_words, binary_words}
 use Rattle.ec_lower_code.specs.Code.{update_types}
-use Rattle.ec_lower_code.specs.Parts.{IsNumeric}
+use Rattle.ec_lower_code.proofs.Numeric.{IsNumeric}
 use Rattle.ec_lower_code.proofs.Pays.{binary_pays, within}
-use Rattle.ec_lower_code.proofs.Shown.{IsValueOf}
 
 -- ---- arithmetic types among all types
 
@@ -41,31 +45,29 @@ pub type_scalar : (z : Arithmetic) → IsKnownType z → IsScalar (type_of z)
 type_scalar (Integer t) k = k
 type_scalar (Fixed t) k = tt
 
-pub type_holds : (z : Arithmetic) (n : ℤ) → HoldsNumber z n → IsValueOf (type_of z) (Number n)
-type_holds (Integer t) n h = h
-type_holds (Fixed t) n h = h
+pub type_holds : (program : PlainProgram) (z : Arithmetic) (n : ℤ) → HoldsNumber z n → HasType program (type_of z) (Number n)
+type_holds program (Integer t) n h = h
+type_holds program (Fixed t) n h = h
 
-pub holds_known : (z : Arithmetic) (n : ℤ) → HoldsNumber z n → IsKnownType z
-holds_known (Integer t) n h = h.0
-holds_known (Fixed t) n h = tt
+pub value_number : (program : PlainProgram) (ty : PlainType) (n : ℤ) → IsNumeric ty → HoldsNumber (number_type ty) n
+    → HasType program ty (Number n)
+value_number program void n i h = absurd i
+value_number program (integer s b) n i h = h
+value_number program (fixed k s) n i h = h
+value_number program (pointer s c t) n i h = absurd i
+value_number program (array t m) n i h = absurd i
+value_number program (struct m) n i h = absurd i
 
-pub value_number : (ty : PlainType) (n : ℤ) → IsNumeric ty → HoldsNumber (number_type ty) n → IsValueOf ty (Number n)
-value_number void n i h = absurd i
-value_number (integer s b) n i h = h
-value_number (fixed k s) n i h = h
-value_number (pointer s c t) n i h = absurd i
-value_number (array t m) n i h = absurd i
-value_number (struct m) n i h = absurd i
-
-pub number_value : (ty : PlainType) (v : Value) → IsNumeric ty → IsValueOf ty v → (n : ℤ) × (v ≡ Number n) × HoldsNumber (number_type ty) n
-number_value void v i h = absurd i
-number_value (integer s b) (Number n) i h = (n, refl, h)
-number_value (integer s b) (Pointer p) i h = absurd h
-number_value (fixed k s) (Number n) i h = (n, refl, h)
-number_value (fixed k s) (Pointer p) i h = absurd h
-number_value (pointer s c t) v i h = absurd i
-number_value (array t m) v i h = absurd i
-number_value (struct m) v i h = absurd i
+pub number_value : (program : PlainProgram) (ty : PlainType) (v : Value) → IsNumeric ty → HasType program ty v
+    → (n : ℤ) × (v ≡ Number n) × HoldsNumber (number_type ty) n
+number_value program void v i h = absurd i
+number_value program (integer s b) (Number n) i h = (n, refl, h)
+number_value program (integer s b) (Pointer p) i h = absurd h
+number_value program (fixed k s) (Number n) i h = (n, refl, h)
+number_value program (fixed k s) (Pointer p) i h = absurd h
+number_value program (pointer s c t) v i h = absurd i
+number_value program (array t m) v i h = absurd i
+number_value program (struct m) v i h = absurd i
 
 pub type_back : (ty : PlainType) → IsNumeric ty → type_of (number_type ty) ≡ ty
 type_back void i = absurd i
@@ -77,7 +79,8 @@ type_back (struct m) i = absurd i
 
 -- ---- the types of the operation
 
-either_known : (c : Bool) (x y : IntegerType) → IsKnownType (Integer x) → IsKnownType (Integer y) → IsKnownType (Integer (if c then x else y))
+either_known : (c : Bool) (x y : IntegerType) → IsKnownType (Integer x) → IsKnownType (Integer y)
+    → IsKnownType (Integer (if c then x else y))
 either_known true x y p q = p
 either_known false x y p q = q
 
@@ -97,19 +100,29 @@ pub record AreUpdateTypes (op : BinOp) (own : Mode) (ts : OperationTypes) : Type
   pub held : (m n : ℤ) → Held ts.result (arithmetic_value op ts.result own (operand ts.left m) (operand ts.right n))
 
 module _ (own : Mode) (x y : Arithmetic) (kx : IsKnownType x) (ky : IsKnownType y) where
-  usual : (op : BinOp) → HaveArithmeticTypes op (common x y) (converted_beside x y) (converted_beside y x) → AreUpdateTypes op own (record { left = converted_beside x y; right = converted_beside y x; result = common x y })
+  usual : (op : BinOp) → HaveArithmeticTypes op (common x y) (converted_beside x y) (converted_beside y x)
+      → AreUpdateTypes op own (record { left = converted_beside x y; right = converted_beside y x; result = common x y })
   usual op h =
       let s = usual_conversions.suit x y kx ky in
       let r = usual_conversions.suit y x ky kx in
-      record { left = s.operand; right = r.operand; result = s.result; held = λ m n. arithmetic_held op (common x y) (converted_beside x y) (converted_beside y x) own m n h s.operand r.operand }
+      record {
+        left = s.operand;
+        right = r.operand;
+        result = s.result;
+        held = λ m n. arithmetic_held op (common x y) (converted_beside x y)
+            (converted_beside y x) own m n h s.operand r.operand;
+      }
 
   -- the count of a shift is a whole number in any integer type
-  shifted : (op : BinOp) (z : Arithmetic) → IsKnownType z → IsIntegerKind z → ((c : Arithmetic) → IsKnownType c → IsIntegerKind c → HaveArithmeticTypes op (promoted_type x) (promoted_type x) (promoted_type c)) → AreUpdateTypes op own (record { left = promoted_type x; right = z; result = promoted_type x })
+  shifted : (op : BinOp) (z : Arithmetic) → IsKnownType z → IsIntegerKind z → ((c : Arithmetic) → IsKnownType c → IsIntegerKind c
+      → HaveArithmeticTypes op (promoted_type x) (promoted_type x) (promoted_type c))
+      → AreUpdateTypes op own (record { left = promoted_type x; right = z; result = promoted_type x })
   shifted op (Integer c) kc i h = record {
     left = promoted_known x kx;
     right = kc;
     result = promoted_known x kx;
-    held = λ m n. arithmetic_held op (promoted_type x) (promoted_type x) (promoted_type (Integer c)) own m n (h (Integer c) kc i) (promoted_known x kx) (promoted_known (Integer c) kc);
+    held = λ m n. arithmetic_held op (promoted_type x) (promoted_type x) (promoted_type (Integer c)) own m n (h (Integer c) kc i)
+        (promoted_known x kx) (promoted_known (Integer c) kc);
   }
   shifted op (Fixed c) kc i h = absurd i
 
@@ -118,7 +131,13 @@ module _ (own : Mode) (x y : Arithmetic) (kx : IsKnownType x) (ky : IsKnownType 
   update_known Sub h = usual Sub (usual_conversions.suit x y kx ky).usual
   update_known Mul h =
       let s = usual_conversions.suit x y kx ky in
-      record { left = factor_known x y kx; right = factor_known y x ky; result = s.result; held = λ m n. arithmetic_held Mul (common x y) (factor_beside x y) (factor_beside y x) own m n (s.products h.0 h.1) (factor_known x y kx) (factor_known y x ky) }
+      record {
+        left = factor_known x y kx;
+        right = factor_known y x ky;
+        result = s.result;
+        held = λ m n. arithmetic_held Mul (common x y)
+            (factor_beside x y) (factor_beside y x) own m n (s.products h.0 h.1) (factor_known x y kx) (factor_known y x ky);
+      }
   update_known Div h = usual Div (usual_conversions.suit x y kx ky).usual
   update_known Rem h = usual Rem ((usual_conversions.suit x y kx ky).integers h.0 h.1)
   update_known Shl h = shifted Shl y ky h (λ c kc i. (usual_conversions.suit x c kx kc).shifted i)
@@ -139,10 +158,12 @@ abbrev pub size : Arithmetic → ℕ
 size z = scalar_size (type_of z)
 
 at_most : (a b : ℕ) → a ≤ b → a * a ≤ b * b
-at_most a b h = let x : a * a ≤ a * b = mul-le-mul_left a h in let y : b * a ≤ b * b = mul-le-mul_left b h in let c : a * b ≡ b * a = mul_comm a b in omega (arith, x, y, c)
+at_most a b h = let x : a * a ≤ a * b = mul-le-mul_left a h in let y : b * a ≤ b * b = mul-le-mul_left b h in let c : a * b ≡ b * a =
+    mul_comm a b in omega (arith, x, y, c)
 
 -- an operation within so many bytes
-binary_within : (op : BinOp) (ty a b : PlainType) (m : ℕ) → 1 ≤ m → scalar_size ty ≤ m → scalar_size a ≤ m → scalar_size b ≤ m → binary_words op ty a b ≤ 150 + 40 * m + 40 * (m * m)
+binary_within : (op : BinOp) (ty a b : PlainType) (m : ℕ) → 1 ≤ m → scalar_size ty ≤ m → scalar_size a ≤ m → scalar_size b ≤ m
+    → binary_words op ty a b ≤ 150 + 40 * m + 40 * (m * m)
 binary_within op ty a b m some x y z =
     let p = binary_pays op ty a b in
     let w = widest (ty ∷ a ∷ b ∷ []) in
@@ -151,9 +172,11 @@ binary_within op ty a b m some x y z =
     omega (arith, p, le, q)
 
 any_conversion : (ty a : PlainType) (m : ℕ) → 1 ≤ m → scalar_size ty ≤ m → scalar_size a ≤ m → conversion_words ty a ≤ 100 + 40 * m
-any_conversion ty a m some x y = within (same_type ty a || (is_integer ty && is_integer a)) _ _ _ (omega (arith, some, x, y)) (omega (arith, some, x, y))
+any_conversion ty a m some x y = within (same_type ty a || (is_integer ty && is_integer a)) _ _ _ (omega (arith, some, x, y))
+    (omega (arith, some, x, y))
 
-cheap_conversion : (ty a : PlainType) (m : ℕ) → (same_type ty a || (is_integer ty && is_integer a)) ≡ true → 1 ≤ m → scalar_size ty ≤ m → scalar_size a ≤ m → conversion_words ty a ≤ 10 * m
+cheap_conversion : (ty a : PlainType) (m : ℕ) → (same_type ty a || (is_integer ty && is_integer a)) ≡ true → 1 ≤ m → scalar_size ty ≤ m
+    → scalar_size a ≤ m → conversion_words ty a ≤ 10 * m
 cheap_conversion ty a m e some x y = by_test (same_type ty a || (is_integer ty && is_integer a)) e
   where
     by_test : (c : Bool) → c ≡ true → (if c then 10 * widest (ty ∷ a ∷ []) else 100 + 40 * widest (ty ∷ a ∷ [])) ≤ 10 * m
@@ -167,7 +190,8 @@ or_true false = refl
 same_cheap : (z : Arithmetic) → (same_type (type_of z) (type_of z) || (is_integer (type_of z) && is_integer (type_of z))) ≡ true
 same_cheap z = ap (λ b. b || (is_integer (type_of z) && is_integer (type_of z))) (type_itself (type_of z))
 
-integers_cheap : (s t : IntegerType) → (same_type (type_of (Integer s)) (type_of (Integer t)) || (is_integer (type_of (Integer s)) && is_integer (type_of (Integer t)))) ≡ true
+integers_cheap : (s t : IntegerType) → (same_type (type_of (Integer s)) (type_of (Integer t)) || (is_integer
+    (type_of (Integer s)) && is_integer (type_of (Integer t)))) ≡ true
 integers_cheap s t = or_true (same_type (type_of (Integer s)) (type_of (Integer t)))
 
 -- the sizes of the operation's types
@@ -214,7 +238,8 @@ signed_same UnsignedShortAccum e = cc
 signed_same UnsignedAccum e = cc
 signed_same UnsignedLongAccum e = cc
 
-kind_if : (c : Bool) (p q : FxKind) (m : ℕ) → (format_of p).bits / 8 ≤ m → (format_of q).bits / 8 ≤ m → (format_of (if c then p else q)).bits / 8 ≤ m
+kind_if : (c : Bool) (p q : FxKind) (m : ℕ) → (format_of p).bits / 8 ≤ m → (format_of q).bits / 8 ≤ m
+    → (format_of (if c then p else q)).bits / 8 ≤ m
 kind_if true p q m x y = x
 kind_if false p q m x y = y
 
@@ -223,8 +248,10 @@ higher_size p q m x y = kind_if (nat_lt (rank_of (format_of p)) (rank_of (format
 
 fixed_size : (s t : FixedType) (m : ℕ) → size (Fixed s) ≤ m → size (Fixed t) ≤ m → size (Fixed (common_fixed s t)) ≤ m
 fixed_size s t m x y =
-    kind_if ((format_of s.kind).signed || (format_of t.kind).signed) (higher_kind (signed_kind s.kind) (signed_kind t.kind)) (higher_kind s.kind t.kind) m
-    (higher_size (signed_kind s.kind) (signed_kind t.kind) m (let e = signed_size s.kind in omega (arith, e, x)) (let e = signed_size t.kind in omega (arith, e, y)))
+    kind_if ((format_of s.kind).signed || (format_of t.kind).signed) (higher_kind (signed_kind s.kind) (signed_kind t.kind))
+    (higher_kind s.kind t.kind) m
+    (higher_size (signed_kind s.kind) (signed_kind t.kind) m (let e = signed_size s.kind in omega (arith, e, x))
+    (let e = signed_size t.kind in omega (arith, e, y)))
     (higher_size s.kind t.kind m x y)
 
 beside_size : (s t : FixedType) → size (converted_beside (Fixed s) (Fixed t)) ≡ size (Fixed s)
@@ -238,30 +265,40 @@ beside_size s t = by_sign (format_of t.kind).signed
 abbrev is_cheap : Arithmetic → Arithmetic → Bool
 is_cheap z x = same_type (type_of z) (type_of x) || (is_integer (type_of z) && is_integer (type_of x))
 
-fixed_cheap : (s t : FixedType) → (is_cheap (converted_beside (Fixed s) (Fixed t)) (Fixed s) ≡ true) ⊎ (is_cheap (converted_beside (Fixed t) (Fixed s)) (Fixed t) ≡ true)
+fixed_cheap : (s t : FixedType) → (is_cheap (converted_beside (Fixed s) (Fixed t)) (Fixed s) ≡ true) ⊎ (is_cheap
+    (converted_beside (Fixed t) (Fixed s)) (Fixed t) ≡ true)
 fixed_cheap s t = by_sign (format_of t.kind).signed refl (format_of s.kind).signed refl
   where
     kept : (z : FixedType) (k : FxKind) → k ≡ z.kind → is_cheap (Fixed (record { kind = k; sat = z.sat })) (Fixed z) ≡ true
     kept z k e = subst (λ (q : FxKind). is_cheap (Fixed (record { kind = q; sat = z.sat })) (Fixed z) ≡ true) (sym e) (same_cheap (Fixed z))
 
-    if_kind : (c d : Bool) (z : FixedType) → c ≡ d → (if d then signed_kind z.kind else z.kind) ≡ z.kind → (if c then signed_kind z.kind else z.kind) ≡ z.kind
+    if_kind : (c d : Bool) (z : FixedType) → c ≡ d → (if d then signed_kind z.kind else z.kind) ≡ z.kind
+        → (if c then signed_kind z.kind else z.kind) ≡ z.kind
     if_kind c d z e f = subst (λ (b : Bool). (if b then signed_kind z.kind else z.kind) ≡ z.kind) (sym e) f
 
-    by_sign : (b : Bool) → (format_of t.kind).signed ≡ b → (c : Bool) → (format_of s.kind).signed ≡ c → (is_cheap (converted_beside (Fixed s) (Fixed t)) (Fixed s) ≡ true) ⊎ (is_cheap (converted_beside (Fixed t) (Fixed s)) (Fixed t) ≡ true)
-    by_sign false e c f = inl (kept s (if (format_of t.kind).signed then signed_kind s.kind else s.kind) (if_kind (format_of t.kind).signed false s e refl))
-    by_sign true e true f = inl (kept s (if (format_of t.kind).signed then signed_kind s.kind else s.kind) (if_kind (format_of t.kind).signed true s e (signed_same s.kind f)))
-    by_sign true e false f = inr (kept t (if (format_of s.kind).signed then signed_kind t.kind else t.kind) (if_kind (format_of s.kind).signed false t f refl))
+    by_sign : (b : Bool) → (format_of t.kind).signed ≡ b → (c : Bool) → (format_of s.kind).signed ≡ c
+        → (is_cheap (converted_beside (Fixed s) (Fixed t)) (Fixed s) ≡ true) ⊎ (is_cheap (converted_beside (Fixed t) (Fixed s))
+        (Fixed t) ≡ true)
+    by_sign false e c f = inl (kept s (if (format_of t.kind).signed then signed_kind s.kind else s.kind)
+        (if_kind (format_of t.kind).signed false s e refl))
+    by_sign true e true f = inl (kept s (if (format_of t.kind).signed then signed_kind s.kind else s.kind)
+        (if_kind (format_of t.kind).signed true s e (signed_same s.kind f)))
+    by_sign true e false f = inr (kept t (if (format_of s.kind).signed then signed_kind t.kind else t.kind)
+        (if_kind (format_of s.kind).signed false t f refl))
 
 -- the words of an update: both conversions, the operation, and the conversion back
 abbrev pub words_of : BinOp → OperationTypes → PlainType → PlainType → ℕ
-words_of op ts ty right = conversion_words (type_of ts.left) ty + (conversion_words (type_of ts.right) right + (binary_words op (type_of ts.result) (type_of ts.left) (type_of ts.right) + conversion_words ty (type_of ts.result)))
+words_of op ts ty right = conversion_words (type_of ts.left) ty + (conversion_words (type_of ts.right) right + (binary_words op
+    (type_of ts.result) (type_of ts.left) (type_of ts.right) + conversion_words ty (type_of ts.result)))
 
 -- the greatest number of bytes of two types, and at least 1
 abbrev most_of : Arithmetic → Arithmetic → ℕ
 most_of x y = max (size x) (max (size y) 1)
 
 module _ (op : BinOp) where
-  integer_words : (s t l r z : IntegerType) (m : ℕ) → 2 ≤ m → s.bytes ≤ m → t.bytes ≤ m → l.bytes ≤ m → r.bytes ≤ m → z.bytes ≤ m → words_of op (record { left = Integer l; right = Integer r; result = Integer z }) (type_of (Integer s)) (type_of (Integer t)) ≤ 30 * m + (150 + 40 * m + 40 * (m * m))
+  integer_words : (s t l r z : IntegerType) (m : ℕ) → 2 ≤ m → s.bytes ≤ m → t.bytes ≤ m → l.bytes ≤ m → r.bytes ≤ m → z.bytes ≤ m
+      → words_of op (record { left = Integer l; right = Integer r; result = Integer z }) (type_of (Integer s))
+      (type_of (Integer t)) ≤ 30 * m + (150 + 40 * m + 40 * (m * m))
   integer_words s t l r z m two hs ht hl hr hz =
       let a = cheap_conversion (type_of (Integer l)) (type_of (Integer s)) m (integers_cheap l s) (omega (arith, two)) hl hs in
       let b = cheap_conversion (type_of (Integer r)) (type_of (Integer t)) m (integers_cheap r t) (omega (arith, two)) hr ht in
@@ -270,7 +307,9 @@ module _ (op : BinOp) where
       omega (arith, a, b, c, d)
 
   -- where both operands stay as they are
-  kept_words : (x y z : Arithmetic) (m : ℕ) → 1 ≤ m → size x ≤ m → size y ≤ m → size z ≤ m → words_of op (record { left = x; right = y; result = z }) (type_of x) (type_of y) ≤ 20 * m + (150 + 40 * m + 40 * (m * m)) + (100 + 40 * m)
+  kept_words : (x y z : Arithmetic) (m : ℕ) → 1 ≤ m → size x ≤ m → size y ≤ m → size z ≤ m
+      → words_of op (record { left = x; right = y; result = z }) (type_of x) (type_of y) ≤ 20 * m + (150 + 40 * m + 40 * (m * m))
+      + (100 + 40 * m)
   kept_words x y z m some hx hy hz =
       let a = cheap_conversion (type_of x) (type_of x) m (same_cheap x) some hx hx in
       let b = cheap_conversion (type_of y) (type_of y) m (same_cheap y) some hy hy in
@@ -279,7 +318,9 @@ module _ (op : BinOp) where
       omega (arith, a, b, c, d)
 
   -- where one operand may be converted
-  one_words : (x y l r z : Arithmetic) (m : ℕ) → 1 ≤ m → size x ≤ m → size y ≤ m → size l ≤ m → size r ≤ m → size z ≤ m → (is_cheap l x ≡ true) ⊎ (is_cheap r y ≡ true) → words_of op (record { left = l; right = r; result = z }) (type_of x) (type_of y) ≤ 10 * m + (100 + 40 * m) + (150 + 40 * m + 40 * (m * m)) + (100 + 40 * m)
+  one_words : (x y l r z : Arithmetic) (m : ℕ) → 1 ≤ m → size x ≤ m → size y ≤ m → size l ≤ m → size r ≤ m → size z ≤ m
+      → (is_cheap l x ≡ true) ⊎ (is_cheap r y ≡ true) → words_of op (record { left = l; right = r; result = z }) (type_of x)
+      (type_of y) ≤ 10 * m + (100 + 40 * m) + (150 + 40 * m + 40 * (m * m)) + (100 + 40 * m)
   one_words x y l r z m some hx hy hl hr hz (inl e) =
       let a = cheap_conversion (type_of l) (type_of x) m e some hl hx in
       let b = any_conversion (type_of r) (type_of y) m some hr hy in
@@ -302,17 +343,23 @@ one_or_two (suc zero) h = inl refl
 one_or_two (suc (suc b)) h = inr (omega arith)
 
 -- the row pays for two integers, with both copies of the place
-integers_paid : (b w c : ℕ) → 1 ≤ b → c ≤ b → ((m : ℕ) → 2 ≤ m → b ≤ m → w ≤ 30 * m + (150 + 40 * m + 40 * (m * m))) → w + 10 * c ≤ update_words b
+integers_paid : (b w c : ℕ) → 1 ≤ b → c ≤ b → ((m : ℕ) → 2 ≤ m → b ≤ m → w ≤ 30 * m + (150 + 40 * m + 40 * (m * m)))
+    → w + 10 * c ≤ update_words b
 integers_paid b w c some le f = by_size (one_or_two b some)
   where
     by_size : (b ≡ 1) ⊎ (2 ≤ b) → w + 10 * c ≤ update_words b
-    by_size (inl e) = let x = f 2 (omega arith) (omega (arith, e)) in let q : b * b ≡ 1 = ap (λ (z : ℕ). z * z) e in omega (arith, x, e, q, le)
+    by_size (inl e) = let x = f 2 (omega arith) (omega (arith, e)) in let q : b * b ≡ 1 = ap (λ (z : ℕ). z * z) e in
+        omega (arith, x, e, q, le)
     by_size (inr h) = let x = f b h (omega arith) in omega (arith, x, h, le)
 
 module _ (op : BinOp) where
-  usual_pays : (x y : Arithmetic) → words_of op (record { left = converted_beside x y; right = converted_beside y x; result = common x y }) (type_of x) (type_of y) + 10 * size x ≤ update_words (most_of x y)
+  usual_pays : (x y : Arithmetic) → words_of op (record { left = converted_beside x y; right = converted_beside y x; result = common x y })
+      (type_of x) (type_of y) + 10 * size x ≤ update_words (most_of x y)
   usual_pays (Integer s) (Integer t) =
-      integers_paid (most_of (Integer s) (Integer t)) _ s.bytes (omega arith) (omega arith) (λ m two h. integer_words op s t (common_integer s t) (common_integer t s) (common_integer s t) m two (omega (arith, h)) (omega (arith, h)) (common_size s t m two (omega (arith, h)) (omega (arith, h))) (common_size t s m two (omega (arith, h)) (omega (arith, h))) (common_size s t m two (omega (arith, h)) (omega (arith, h))))
+      integers_paid (most_of (Integer s) (Integer t)) _ s.bytes (omega arith) (omega arith)
+      (λ m two h. integer_words op s t (common_integer s t) (common_integer t s) (common_integer s t) m two (omega (arith, h))
+      (omega (arith, h)) (common_size s t m two (omega (arith, h)) (omega (arith, h))) (common_size t s m two (omega (arith, h))
+      (omega (arith, h))) (common_size s t m two (omega (arith, h)) (omega (arith, h))))
   usual_pays (Integer s) (Fixed t) =
       let b = most_of (Integer s) (Fixed t) in
       let x = kept_words op (Integer s) (Fixed t) (Fixed t) b (omega arith) (omega arith) (omega arith) (omega arith) in
@@ -324,19 +371,27 @@ module _ (op : BinOp) where
   usual_pays (Fixed s) (Fixed t) =
       let b = most_of (Fixed s) (Fixed t) in
       let l = beside_size s t in let r = beside_size t s in
-      let x = one_words op (Fixed s) (Fixed t) (converted_beside (Fixed s) (Fixed t)) (converted_beside (Fixed t) (Fixed s)) (Fixed (common_fixed s t)) b (omega arith) (omega arith) (omega arith) (omega (arith, l)) (omega (arith, r)) (fixed_size s t b (omega arith) (omega arith)) (fixed_cheap s t) in
+      let x = one_words op (Fixed s) (Fixed t) (converted_beside (Fixed s) (Fixed t)) (converted_beside (Fixed t) (Fixed s))
+      (Fixed (common_fixed s t)) b (omega arith) (omega arith) (omega arith) (omega (arith, l)) (omega (arith, r))
+      (fixed_size s t b (omega arith) (omega arith)) (fixed_cheap s t) in
       let q = square b (omega arith) in omega (arith, x, q)
 
-  product_pays : (x y : Arithmetic) → words_of op (record { left = factor_beside x y; right = factor_beside y x; result = common x y }) (type_of x) (type_of y) + 10 * size x ≤ update_words (most_of x y)
+  product_pays : (x y : Arithmetic) → words_of op (record { left = factor_beside x y; right = factor_beside y x; result = common x y })
+      (type_of x) (type_of y) + 10 * size x ≤ update_words (most_of x y)
   product_pays (Integer s) (Integer t) =
-      integers_paid (most_of (Integer s) (Integer t)) _ s.bytes (omega arith) (omega arith) (λ m two h. integer_words op s t s t (common_integer s t) m two (omega (arith, h)) (omega (arith, h)) (omega (arith, h)) (omega (arith, h)) (common_size s t m two (omega (arith, h)) (omega (arith, h))))
+      integers_paid (most_of (Integer s) (Integer t)) _ s.bytes (omega arith) (omega arith) (λ m two h. integer_words op s t s t
+      (common_integer s t) m two (omega (arith, h)) (omega (arith, h)) (omega (arith, h)) (omega (arith, h))
+      (common_size s t m two (omega (arith, h)) (omega (arith, h))))
   product_pays (Integer s) (Fixed t) = usual_pays (Integer s) (Fixed t)
   product_pays (Fixed s) (Integer t) = usual_pays (Fixed s) (Integer t)
   product_pays (Fixed s) (Fixed t) = usual_pays (Fixed s) (Fixed t)
 
-  shift_pays : (x y : Arithmetic) → IsIntegerKind y → words_of op (record { left = promoted_type x; right = y; result = promoted_type x }) (type_of x) (type_of y) + 10 * size x ≤ update_words (most_of x y)
+  shift_pays : (x y : Arithmetic) → IsIntegerKind y → words_of op (record { left = promoted_type x; right = y; result = promoted_type x })
+      (type_of x) (type_of y) + 10 * size x ≤ update_words (most_of x y)
   shift_pays (Integer s) (Integer t) i =
-      integers_paid (most_of (Integer s) (Integer t)) _ s.bytes (omega arith) (omega arith) (λ m two h. integer_words op s t (promoted s) t (promoted s) m two (omega (arith, h)) (omega (arith, h)) (promoted_size s m two (omega (arith, h))) (omega (arith, h)) (promoted_size s m two (omega (arith, h))))
+      integers_paid (most_of (Integer s) (Integer t)) _ s.bytes (omega arith) (omega arith) (λ m two h. integer_words op s t (promoted s) t
+      (promoted s) m two (omega (arith, h)) (omega (arith, h)) (promoted_size s m two (omega (arith, h))) (omega (arith, h))
+      (promoted_size s m two (omega (arith, h))))
   shift_pays (Fixed s) (Integer t) i =
       let b = most_of (Fixed s) (Integer t) in
       let x = kept_words op (Fixed s) (Integer t) (Fixed s) b (omega arith) (omega arith) (omega arith) (omega arith) in
@@ -344,7 +399,8 @@ module _ (op : BinOp) where
   shift_pays x (Fixed t) i = absurd i
 
 -- the row of a compound assignment pays for it
-pub update_pays : (op : BinOp) (x y : Arithmetic) → HaveCompoundArithmetic op x y → words_of op (update_types op x y) (type_of x) (type_of y) + 10 * size x ≤ update_words (most_of x y)
+pub update_pays : (op : BinOp) (x y : Arithmetic) → HaveCompoundArithmetic op x y → words_of op (update_types op x y) (type_of x)
+    (type_of y) + 10 * size x ≤ update_words (most_of x y)
 update_pays Add x y h = usual_pays Add x y
 update_pays Sub x y h = usual_pays Sub x y
 update_pays Mul x y h = product_pays Mul x y
@@ -368,7 +424,11 @@ abbrev pub int_type : IntegerType
 int_type = record { signed = true; bytes = 2 }
 
 abbrev step_words : BinOp → Arithmetic → ℕ
-step_words op x = words_of op (record { left = converted_beside x (Integer int_type); right = converted_beside (Integer int_type) x; result = common x (Integer int_type) }) (type_of x) int + conversion_words (type_of x) (type_of (converted_beside x (Integer int_type)))
+step_words op x = words_of op (record {
+  left = converted_beside x (Integer int_type);
+  right = converted_beside (Integer int_type) x;
+  result = common x (Integer int_type);
+}) (type_of x) int + conversion_words (type_of x) (type_of (converted_beside x (Integer int_type)))
 
 -- the row of a step pays for it, with both copies of the place and the constant
 added_pays : (op : BinOp) (x : Arithmetic) → step_words op x + 10 * size x + 10 ≤ update_words (max (size x) 1)
@@ -378,12 +438,15 @@ added_pays op (Integer s) = by_size (one_or_two (max s.bytes 1) (omega arith))
     words m two h =
         let i = int_type in
         let c = common_size s i m two h two in
-        let a = integer_words op s i (common_integer s i) (common_integer i s) (common_integer s i) m two h two c (common_size i s m two two h) c in
-        let b = cheap_conversion (type_of (Integer s)) (type_of (Integer (common_integer s i))) m (integers_cheap s (common_integer s i)) (omega (arith, two)) h c in
+        let a = integer_words op s i (common_integer s i) (common_integer i s) (common_integer s i) m two h two c
+        (common_size i s m two two h) c in
+        let b = cheap_conversion (type_of (Integer s)) (type_of (Integer (common_integer s i))) m (integers_cheap s (common_integer s i))
+        (omega (arith, two)) h c in
         omega (arith, a, b)
 
     by_size : (max s.bytes 1 ≡ 1) ⊎ (2 ≤ max s.bytes 1) → step_words op (Integer s) + 10 * s.bytes + 10 ≤ update_words (max s.bytes 1)
-    by_size (inl e) = let x = words 2 (omega arith) (omega (arith, e)) in let q : max s.bytes 1 * max s.bytes 1 ≡ 1 = ap (λ (z : ℕ). z * z) e in omega (arith, x, e, q)
+    by_size (inl e) = let x = words 2 (omega arith) (omega (arith, e)) in let q : max s.bytes 1 * max s.bytes 1 ≡ 1 =
+        ap (λ (z : ℕ). z * z) e in omega (arith, x, e, q)
     by_size (inr h) = let x = words (max s.bytes 1) h (omega arith) in omega (arith, x, h)
 added_pays op (Fixed s) = by_size (one_or_two (max (size (Fixed s)) 1) (omega arith))
   where
@@ -395,21 +458,169 @@ added_pays op (Fixed s) = by_size (one_or_two (max (size (Fixed s)) 1) (omega ar
         let d = binary_within op (type_of (Fixed s)) (type_of (Fixed s)) int m (omega (arith, two)) h h two in
         omega (arith, a, c, d)
 
-    by_size : (max (size (Fixed s)) 1 ≡ 1) ⊎ (2 ≤ max (size (Fixed s)) 1) → step_words op (Fixed s) + 10 * size (Fixed s) + 10 ≤ update_words (max (size (Fixed s)) 1)
-    by_size (inl e) = let x = words 2 (omega arith) (omega (arith, e)) in let q : max (size (Fixed s)) 1 * max (size (Fixed s)) 1 ≡ 1 = ap (λ (z : ℕ). z * z) e in omega (arith, x, e, q)
+    by_size : (max (size (Fixed s)) 1 ≡ 1) ⊎ (2 ≤ max (size (Fixed s)) 1) → step_words op (Fixed s) + 10 * size
+        (Fixed s) + 10 ≤ update_words (max (size (Fixed s)) 1)
+    by_size (inl e) = let x = words 2 (omega arith) (omega (arith, e)) in let q : max (size (Fixed s)) 1 * max (size (Fixed s)) 1 ≡ 1 =
+        ap (λ (z : ℕ). z * z) e in omega (arith, x, e, q)
     by_size (inr h) = let x = words (max (size (Fixed s)) 1) h (omega arith) in omega (arith, x, h)
 
 abbrev pub step_cost : Bool → Arithmetic → ℕ
-step_cost up x = words_of (step_operator up) (update_types (step_operator up) x (Integer int_type)) (type_of x) int + conversion_words (type_of x) (type_of (update_types (step_operator up) x (Integer int_type)).left)
+step_cost up x = words_of (step_operator up) (update_types (step_operator up) x (Integer int_type)) (type_of x) int + conversion_words
+    (type_of x) (type_of (update_types (step_operator up) x (Integer int_type)).left)
 
 pub step_pays : (up : Bool) (x : Arithmetic) → step_cost up x + 10 * size x + 10 ≤ update_words (max (size x) 1)
 step_pays true x = added_pays Add x
 step_pays false x = added_pays Sub x
 
-pub step_known : (up : Bool) (own : Mode) (x : Arithmetic) → IsKnownType x → AreUpdateTypes (step_operator up) own (update_types (step_operator up) x (Integer int_type))
+pub step_known : (up : Bool) (own : Mode) (x : Arithmetic) → IsKnownType x → AreUpdateTypes (step_operator up) own
+    (update_types (step_operator up) x (Integer int_type))
 step_known true own x k = update_known own x (Integer int_type) k (inr (inl refl)) Add tt
 step_known false own x k = update_known own x (Integer int_type) k (inr (inl refl)) Sub tt
 
 pub step_arithmetic : (up : Bool) (x : Arithmetic) → HaveCompoundArithmetic (step_operator up) x (Integer int_type)
 step_arithmetic true x = tt
 step_arithmetic false x = tt
+
+-- ---- the same, where the place is reached through a pointer
+
+double : (m : ℕ) → 2 ≤ m → 2 * m ≤ m * m
+double m h = let x : m * 2 ≤ m * m = mul-le-mul_left m h in omega (arith, x)
+
+-- the row pays for the operation, for a load and a store through a pointer, and for a copy
+abbrev place_cost : ℕ → ℕ
+place_cost m = 60 + 25 * m
+
+module _ (op : BinOp) (m : ℕ) (two : 2 ≤ m) where
+  usual_more : (x y : Arithmetic) → size x ≤ m → size y ≤ m → words_of op
+      (record { left = converted_beside x y; right = converted_beside y x; result = common x y }) (type_of x) (type_of y) + place_cost
+      m ≤ update_words m
+  usual_more (Integer s) (Integer t) hx hy =
+      let x = integer_words op s t (common_integer s t) (common_integer t s) (common_integer s t) m two hx hy (common_size s t m two hx hy)
+      (common_size t s m two hy hx) (common_size s t m two hx hy) in omega (arith, x)
+  usual_more (Integer s) (Fixed t) hx hy =
+      let x = kept_words op (Integer s) (Fixed t) (Fixed t) m (omega (arith, two)) hx hy hy in
+      let q = double m two in omega (arith, x, q)
+  usual_more (Fixed s) (Integer t) hx hy =
+      let x = kept_words op (Fixed s) (Integer t) (Fixed s) m (omega (arith, two)) hx hy hx in
+      let q = double m two in omega (arith, x, q)
+  usual_more (Fixed s) (Fixed t) hx hy =
+      let l = beside_size s t in let r = beside_size t s in
+      let x = one_words op (Fixed s) (Fixed t) (converted_beside (Fixed s) (Fixed t)) (converted_beside (Fixed t) (Fixed s))
+      (Fixed (common_fixed s t)) m (omega (arith, two)) hx hy (omega (arith, l, hx)) (omega (arith, r, hy)) (fixed_size s t m hx hy)
+      (fixed_cheap s t) in
+      let q = double m two in omega (arith, x, q, two)
+
+  product_more : (x y : Arithmetic) → size x ≤ m → size y ≤ m → words_of op (record {
+    left = factor_beside x y;
+    right = factor_beside y x;
+    result = common x y;
+  }) (type_of x) (type_of y) + place_cost m ≤ update_words m
+  product_more (Integer s) (Integer t) hx hy =
+      let x = integer_words op s t s t (common_integer s t) m two hx hy hx hy (common_size s t m two hx hy) in omega (arith, x)
+  product_more (Integer s) (Fixed t) hx hy = usual_more (Integer s) (Fixed t) hx hy
+  product_more (Fixed s) (Integer t) hx hy = usual_more (Fixed s) (Integer t) hx hy
+  product_more (Fixed s) (Fixed t) hx hy = usual_more (Fixed s) (Fixed t) hx hy
+
+  shift_more : (x y : Arithmetic) → IsIntegerKind y → size x ≤ m → size y ≤ m
+      → words_of op (record { left = promoted_type x; right = y; result = promoted_type x }) (type_of x) (type_of y) + place_cost
+      m ≤ update_words m
+  shift_more (Integer s) (Integer t) i hx hy =
+      let x = integer_words op s t (promoted s) t (promoted s) m two hx hy (promoted_size s m two hx) hy (promoted_size s m two hx) in
+      omega (arith, x)
+  shift_more (Fixed s) (Integer t) i hx hy =
+      let x = kept_words op (Fixed s) (Integer t) (Fixed s) m (omega (arith, two)) hx hy hx in
+      let q = double m two in omega (arith, x, q)
+  shift_more x (Fixed t) i hx hy = absurd i
+
+change_more : (op : BinOp) (m : ℕ) (x y : Arithmetic) → 2 ≤ m → HaveCompoundArithmetic op x y → size x ≤ m → size y ≤ m
+    → words_of op (update_types op x y) (type_of x) (type_of y) + place_cost m ≤ update_words m
+change_more Add m x y two h p q = usual_more Add m two x y p q
+change_more Sub m x y two h p q = usual_more Sub m two x y p q
+change_more Mul m x y two h p q = product_more Mul m two x y p q
+change_more Div m x y two h p q = usual_more Div m two x y p q
+change_more Rem m x y two h p q = usual_more Rem m two x y p q
+change_more Shl m x y two h p q = shift_more Shl m two x y h p q
+change_more Shr m x y two h p q = shift_more Shr m two x y h p q
+change_more And m x y two h p q = usual_more And m two x y p q
+change_more Or m x y two h p q = usual_more Or m two x y p q
+change_more Xor m x y two h p q = usual_more Xor m two x y p q
+change_more Lt m x y two h p q = absurd h
+change_more Gt m x y two h p q = absurd h
+change_more Le m x y two h p q = absurd h
+change_more Ge m x y two h p q = absurd h
+change_more Eq m x y two h p q = absurd h
+change_more Ne m x y two h p q = absurd h
+
+-- a step, with the constant
+added_more : (op : BinOp) (m : ℕ) (x : Arithmetic) → 2 ≤ m → size x ≤ m → step_words op x + place_cost m + 10 ≤ update_words m
+added_more op m (Integer s) two h =
+    let i = int_type in
+    let c = common_size s i m two h two in
+    let a = integer_words op s i (common_integer s i) (common_integer i s) (common_integer s i) m two h two c (common_size i s m two two h)
+    c in
+    let b = cheap_conversion (type_of (Integer s)) (type_of (Integer (common_integer s i))) m (integers_cheap s (common_integer s i))
+    (omega (arith, two)) h c in
+    let q = double m two in omega (arith, a, b, q)
+added_more op m (Fixed s) two h =
+    let i = int_type in
+    let a = cheap_conversion (type_of (Fixed s)) (type_of (Fixed s)) m (same_cheap (Fixed s)) (omega (arith, two)) h h in
+    let c = cheap_conversion int int 2 (integers_cheap i i) (omega arith) (omega arith) (omega arith) in
+    let d = binary_within op (type_of (Fixed s)) (type_of (Fixed s)) int m (omega (arith, two)) h h two in
+    let q = double m two in omega (arith, a, c, d, q)
+
+pub moving_words : (op : BinOp) (ty right : PlainType) (m : ℕ) → 2 ≤ m → scalar_size ty ≤ m → scalar_size right ≤ m
+    → binary_words op ty ty right + place_cost m + 10 ≤ update_words m
+moving_words op ty right m two h k =
+    let x = binary_within op ty ty right m (omega (arith, two)) h h k in
+    let q = double m two in omega (arith, x, q)
+
+-- ---- rows in types as they stand
+
+pub update_row : (op : BinOp) (ty right : PlainType) → IsNumeric ty → IsNumeric right → HaveCompoundArithmetic op (number_type ty)
+    (number_type right) → words_of op (update_types op (number_type ty) (number_type right)) ty right + 10 * scalar_size ty ≤ update_words
+    (max (scalar_size ty) (max (scalar_size right) 1))
+update_row op ty right p q h =
+    subst (λ (z : PlainType). words_of op (update_types op (number_type ty) (number_type right)) z right + 10 * scalar_size z ≤ update_words
+    (max (scalar_size z) (max (scalar_size right) 1))) (type_back ty p)
+    (subst (λ (z : PlainType). words_of op (update_types op (number_type ty) (number_type right)) (type_of (number_type ty))
+    z + 10 * scalar_size (type_of (number_type ty)) ≤ update_words (max (scalar_size (type_of (number_type ty))) (max (scalar_size z) 1)))
+    (type_back right q)
+    (update_pays op (number_type ty) (number_type right) h))
+
+pub step_row : (up : Bool) (ty : PlainType) → IsNumeric ty → words_of (step_operator up) (update_types (step_operator up) (number_type ty)
+    (number_type int)) ty int + conversion_words ty (type_of (update_types (step_operator up) (number_type ty) (number_type int)).left) + 10
+    * scalar_size ty + 10 ≤ update_words (max (scalar_size ty) 1)
+step_row up ty p =
+    subst (λ (z : PlainType). words_of (step_operator up) (update_types (step_operator up) (number_type ty) (number_type int)) z
+    int + conversion_words z (type_of (update_types (step_operator up) (number_type ty) (number_type int)).left) + 10 * scalar_size
+    z + 10 ≤ update_words (max (scalar_size z) 1)) (type_back ty p)
+    (step_pays up (number_type ty))
+
+pub update_more : (op : BinOp) (ty right : PlainType) (m : ℕ) → IsNumeric ty → IsNumeric right → HaveCompoundArithmetic op (number_type ty)
+    (number_type right) → 2 ≤ m → scalar_size ty ≤ m → scalar_size right ≤ m
+    → words_of op (update_types op (number_type ty) (number_type right)) ty right + (60 + 25 * m) ≤ update_words m
+update_more op ty right m p q h two hx hy =
+    subst (λ (z : PlainType). words_of op (update_types op (number_type ty) (number_type right)) z right + (60 + 25 * m) ≤ update_words m)
+    (type_back ty p)
+    (subst (λ (z : PlainType). words_of op (update_types op (number_type ty) (number_type right)) (type_of (number_type ty))
+    z + (60 + 25 * m) ≤ update_words m) (type_back right q)
+    (change_more op m (number_type ty) (number_type right) two h (sized ty p hx) (sized right q hy)))
+  where
+    sized : (z : PlainType) → IsNumeric z → scalar_size z ≤ m → size (number_type z) ≤ m
+    sized z i le = subst (λ (y : PlainType). scalar_size y ≤ m) (sym (type_back z i)) le
+
+pub step_more : (up : Bool) (ty : PlainType) (m : ℕ) → IsNumeric ty → 2 ≤ m → scalar_size ty ≤ m → words_of (step_operator up)
+    (update_types (step_operator up) (number_type ty) (number_type int)) ty int + conversion_words ty
+    (type_of (update_types (step_operator up) (number_type ty) (number_type int)).left) + (60 + 25 * m) + 10 ≤ update_words m
+step_more up ty m p two h =
+    subst (λ (z : PlainType). words_of (step_operator up) (update_types (step_operator up) (number_type ty) (number_type int)) z
+    int + conversion_words z (type_of (update_types (step_operator up) (number_type ty) (number_type int)).left) + (60 + 25 * m) + 10
+    ≤ update_words m) (type_back ty p)
+    (by_operator up)
+  where
+    le : size (number_type ty) ≤ m
+    le = subst (λ (y : PlainType). scalar_size y ≤ m) (sym (type_back ty p)) h
+
+    by_operator : (up : Bool) → step_cost up (number_type ty) + (60 + 25 * m) + 10 ≤ update_words m
+    by_operator true = added_more Add m (number_type ty) two le
+    by_operator false = added_more Sub m (number_type ty) two le

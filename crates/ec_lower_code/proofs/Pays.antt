@@ -1,5 +1,5 @@
 -- The rows of the parts pay for their operations.
-use Rattle.std.proofs.Common.{◌≡◌, ℕ, ◌+◌, ◌*◌, ◌≤◌, Bool, true, false, [], ◌∷◌, Option, None, Some, refl, ap, ◌∙◌, arith}
+use Rattle.std.proofs.Common.{◌≡◌, ℕ, ◌+◌, ◌*◌, ◌≤◌, Bool, true, false, [], ◌∷◌, ap, ◌∙◌, arith}
 use Rattle.std.specs.Prelude.{◌&&◌, ◌||◌, if◌then◌else◌, max}
 use Rattle.ec_core.specs.declared.expressions.BinOp.{BinOp}
 use Rattle.ec_core.specs.Operators.{same_type}
@@ -37,7 +37,8 @@ binary_pays op ty aty bty =
 
 pub conversion_pays : (ty from : PlainType) → conversion_words ty from ≤ operation_words (widest (ty ∷ from ∷ []))
 conversion_pays ty from =
-    within (same_type ty from || (is_integer ty && is_integer from)) _ _ _ (operation_more (widest (ty ∷ from ∷ []))) (conversion_more (widest (ty ∷ from ∷ [])))
+    within (same_type ty from || (is_integer ty && is_integer from)) _ _ _ (operation_more (widest (ty ∷ from ∷ [])))
+    (conversion_more (widest (ty ∷ from ∷ [])))
 
 pub not_pays : (t a : ℕ) → t ≡ 2 → branch_zero_words a + (5 * t + 5) ≤ choice_words (max t (max a 1))
 not_pays t a e = omega (arith, e)

@@ -1,15 +1,15 @@
 -- Operations on ports of the table and on its groups do what the program does.
-use Rattle.std.proofs.Common.{◌≡◌, ℕ, ◌+◌, ◌*◌, ◌≤◌, Bool, true, false, not, List, Option, Some, None, refl, ap, subst, arith}
+use Rattle.std.proofs.Common.{◌≡◌, ℕ, ◌+◌, ◌*◌, ◌≤◌, Bool, true, false, not, List, Option, Some, None, refl, arith}
 use Rattle.std.specs.Prelude.{nat_lt, length, option_map, unwrap_or}
 use Rattle.std.proofs.lemmas.Bool.{ltb-true}
 use Rattle.ec_fx.specs.declared.numbers.Mode.{Mode}
 use Rattle.ec_iohw.specs.declared.operations.IoOp.{IoOp}
 use Rattle.ec_core.specs.declared.values.Value.{Value}
 use Rattle.ec_core.specs.Plain.{void, OptionPlainExpr, no_expr, an_expr}
-use Rattle.ec_core.specs.PortAccesses.{no_value, unsigned, is_open, within, opened, port_effect, pairs_written, pairs_of, group_effect}
+use Rattle.ec_core.specs.PortAccesses.{unsigned, is_open, within, opened, port_effect, pairs_of, group_effect}
 use Rattle.ec_core.specs.PortOperations.{PortAction, reads, writes, updates, is_read, takes_value, port_operation}
 use Rattle.ec_core.specs.PortTable.{PlainPort, PlainGroup}
-use Rattle.ec_core.specs.State.{State, with_group, Outcome, got}
+use Rattle.ec_core.specs.State.{State}
 use Rattle.ec_core.specs.Typing.{unsigned_int, IsOperandIf, port_value, port_result}
 use Rattle.ec_core.specs.Words.{port_words, group_words}
 use Rattle.ec_ir.specs.Meaning.{Mach, Frame}

@@ -1,5 +1,5 @@
 -- The operators of updates of ports.
-use Rattle.std.proofs.Common.{◌≡◌, ℕ, Bool, true, false, refl, inr, inl}
+use Rattle.std.proofs.Common.{◌≡◌, ℕ, Bool, true, false, refl}
 use Rattle.std.specs.Prelude.{bit_and, bit_or, bit_xor, if◌then◌else◌}
 use Rattle.ec_iohw.specs.declared.operations.IoOp.{IoOp}
 use Rattle.ec_iohw.specs.declared.operations.IoOp.TheVariants.{Read, ReadLong, ReadBuffer, ReadBufferLong, Write, WriteLong, WriteBuffer}

@@ -1,7 +1,7 @@
 -- Operations on ports, each beside what the program does.
 use Rattle.std.proofs.Common.{◌≡◌, ℕ, zero, suc, ◌+◌, ◌*◌, ◌/◌, ◌%◌, ◌^◌, ◌<◌, ◌≤◌, ◌⊎◌, Bool, true, false, ℤ, pos, negsuc, List, [], ◌∷◌}
 use Rattle.std.proofs.Common.{◌++◌, length, Option, Some, None, Result, Ok, refl, sym, ap, ◌∙◌, subst, inl, inr, arith}
-use Rattle.std.specs.Prelude.{⊤, IsTrue, if◌then◌else◌, nat_le, nat_lt, bit_and, bit_or, bit_xor, slice_index, unwrap_or, option_map}
+use Rattle.std.specs.Prelude.{⊤, IsTrue, if◌then◌else◌, bit_and, bit_or, bit_xor, slice_index}
 use Rattle.std.specs.List.{AllByRecursion}
 use Rattle.std.proofs.Math.Nat.{mod-eq_of_lt, pow-suc}
 use Rattle.std.proofs.lemmas.Bool.{le-leb}
@@ -11,9 +11,6 @@ use Rattle.ec_fx.specs.declared.numbers.Mode.{Mode}
 use Rattle.ec_fx.specs.Ranges.{IsWithin}
 use Rattle.ec_iohw.specs.declared.operations.IoOp.{IoOp}
 use Rattle.ec_iohw.specs.declared.table.Pair.{Pair}
-use Rattle.ec_core.specs.declared.expressions.BinOp.{BinOp}
-use Rattle.ec_core.specs.declared.expressions.BinOp.TheVariants.{And as AndOp, Or as OrOp, Xor as XorOp}
-use Rattle.ec_core.specs.declared.arithmetic_types.IntegerType.{IntegerType}
 use Rattle.ec_core.specs.declared.values.Undefined.{Undefined}
 use Rattle.ec_core.specs.declared.values.Undefined.TheVariants.{BufferIndex}
 use Rattle.ec_core.specs.declared.values.Value.{Value}
@@ -22,7 +19,7 @@ use Rattle.ec_core.specs.Accesses.{operand_of}
 use Rattle.ec_core.specs.Integers.{low_bits}
 use Rattle.ec_core.specs.Layout.{scalar_size, IsScalar}
 use Rattle.ec_core.specs.Operators.{binary_result}
-use Rattle.ec_core.specs.Plain.{PlainType, void, integer, OptionPlainExpr, no_expr, an_expr, PlainProgram}
+use Rattle.ec_core.specs.Plain.{PlainType, void, OptionPlainExpr, no_expr, an_expr, PlainProgram}
 use Rattle.ec_core.specs.PortAccesses.{next_byte, byte_read, bytes_read, number_read, bytes_written, updated, no_value, unsigned}
 use Rattle.ec_core.specs.PortAccesses.{port_accessed, pairs_written}
 use Rattle.ec_core.specs.PortOperations.{PortAction, reads, writes, updates}
@@ -32,18 +29,18 @@ use Rattle.ec_core.specs.Typing.{unsigned_int, unsigned_long, type_of_expr, IsOp
 use Rattle.ec_core.specs.ValueTypes.{HasType, GiveBytes}
 use Rattle.ec_core.specs.Words.{port_words}
 use Rattle.ec_ir.specs.declared.operations.Temp.{Temp}
-use Rattle.ec_ir.specs.Costs.{op_words, op_steps, index_words, binary_words}
+use Rattle.ec_ir.specs.Costs.{op_words, op_steps, binary_words}
 use Rattle.ec_ir.specs.Meaning.{Mach, machine, number_in, held_number, element_of_port, port_read, port_written}
-use Rattle.ec_ir.specs.Operations.{PlainIr, constant, binary_op, port_in, port_out}
+use Rattle.ec_ir.specs.Operations.{PlainIr, binary_op, port_in, port_out}
 use Rattle.ec_ir.specs.Temporaries.{low_bytes, Temps, with_temp}
 use Rattle.ec_lower_code.specs.Code.{temp, operand_temp, port_operator, port_code, byte_type, pairs_code}
 use Rattle.ec_lower_code.specs.Correct.{IsBytePair}
 use Rattle.ec_lower_code.proofs.Ops.{to_rest, Below, HasValue, constant_runs, binary_over}
 use Rattle.ec_lower_code.proofs.Pays.{update_words_are, index_pays, port_bytes}
 use Rattle.ec_lower_code.proofs.PortOperators.{by_operator}
-use Rattle.ec_lower_code.proofs.Shown.{held_of, IsValueOf, Match}
+use Rattle.ec_lower_code.proofs.Shown.{held_of, Match}
 use Rattle.ec_lower_code.proofs.Tables.{IsOperated}
-use Rattle.ec_lower_code.proofs.Steps.{held_at, held_below, held_is, Target, at, Spot, here, goes, Runs, stays, counts, after, bind, ends}
+use Rattle.ec_lower_code.proofs.Steps.{held_at, held_below, held_is, Spot, here, goes, Runs, stays, counts, after, ends}
 use Rattle.ec_lower_code.proofs.Steps.{spent_on, less}
 
 -- ---- the bytes of ports on both sides
@@ -386,6 +383,7 @@ module _ (w : Spot) where
         operator_words op true = let e = update_words_are op 4 in omega (arith, e)
         operator_words op false = let e = update_words_are op 2 in omega (arith, e)
 
-        number_typed : (long : Bool) (m : ℕ) → m < 256 ^ scalar_size (value_type long) → IsValueOf (value_type long) (Number (pos m))
+        number_typed : (long : Bool) (m : ℕ) → m < 256 ^ scalar_size (value_type long) → HasType w.program (value_type long)
+            (Number (pos m))
         number_typed true m lt = (inr (inr refl), record { low = omega (arith, ints); high = omega (arith, ints, lt) })
         number_typed false m lt = (inr (inl refl), record { low = omega (arith, ints); high = omega (arith, ints, lt) })

@@ -1,11 +1,13 @@
 -- The operations of a function call only functions that it calls.
-use Rattle.std.proofs.Common.{◌≡◌, ◌⊎◌, ℕ, zero, suc, ◌+◌, Bool, true, false, List, [], ◌∷◌, Option, Some, None, refl, sym, ◌∙◌, subst, inl, inr, arith}
-use Rattle.std.specs.Prelude.{Contains, slice_get, option_map}
+use Rattle.std.proofs.Common.{◌≡◌, ◌⊎◌, ℕ, zero, suc, ◌+◌, Bool, true, false, List, [], ◌∷◌, Option, Some, None, refl, sym, ◌∙◌}
+use Rattle.std.proofs.Common.{subst, inl, inr, arith}
+use Rattle.std.specs.Prelude.{pos, Contains, slice_get, option_map}
 use Rattle.std.proofs.lemmas.Option.{slice_get-map}
 use Rattle.ec_fx.specs.declared.numbers.Mode.{Mode}
 use Rattle.ec_core.specs.declared.expressions.BinOp.{BinOp}
 use Rattle.ec_core.specs.Layout.{PlainLeaf}
-use Rattle.ec_core.specs.Needs.{expr_calls, node_calls, place_calls, option_calls, exprs_calls, optional_calls, stmt_calls, kind_calls, option_stmt_calls, stmts_calls}
+use Rattle.ec_core.specs.Needs.{expr_calls, node_calls, place_calls, option_calls, exprs_calls, optional_calls, stmt_calls}
+use Rattle.ec_core.specs.Needs.{kind_calls, option_stmt_calls, stmts_calls}
 use Rattle.ec_core.specs.Operators.{step_operator}
 use Rattle.ec_core.specs.PortAccesses.{pairs_of}
 use Rattle.ec_core.specs.PortOperations.{PortAction, reads, writes, updates, port_operation}
@@ -13,12 +15,23 @@ use Rattle.ec_core.specs.PortTable.{PlainPort, PlainGroup, PlainTable}
 use Rattle.ec_iohw.specs.declared.operations.IoOp.{IoOp}
 use Rattle.ec_iohw.specs.declared.table.Pair.{Pair}
 use Rattle.ec_ir.specs.declared.operations.Temp.{Temp}
-use Rattle.ec_core.specs.Typing.{port_value}
-use Rattle.ec_core.specs.Plain.{PlainType, PlainExpr, expression, PlainNode, number, null, load, address_of, unary, binary, convert, assign, compound, step, logical_not, logical_and, logical_or, conditional, comma, call, io, group, PlainPlace, object, deref, member, OptionPlainExpr, no_expr, an_expr, PlainExprs, last_expr, next_expr, PlainStmt, statement, PlainKind, empty, evaluate, block, declare, branch, while_loop, do_loop, for_loop, break_loop, continue_loop, return_value, OptionPlainStmt, no_stmt, a_stmt, PlainStmts, last_stmt, next_stmt, PlainFunction, PlainProgram}
+use Rattle.ec_core.specs.Typing.{int, type_of_expr, port_value}
+use Rattle.ec_core.specs.Plain.{PlainType, void, integer, fixed, pointer, array, struct, PlainExpr, expression, PlainNode}
+use Rattle.ec_core.specs.Plain.{number, null, load, address_of, unary, binary, convert, assign, compound, step, logical_not}
+use Rattle.ec_core.specs.Plain.{logical_and, logical_or, conditional, comma, call, io, group, PlainPlace, object, deref, member}
+use Rattle.ec_core.specs.Plain.{OptionPlainExpr, no_expr, an_expr, PlainExprs, last_expr, next_expr, PlainStmt, statement}
+use Rattle.ec_core.specs.Plain.{PlainKind, empty, evaluate, block, declare, branch, while_loop, do_loop, for_loop, break_loop}
+use Rattle.ec_core.specs.Plain.{continue_loop, return_value, OptionPlainStmt, no_stmt, a_stmt, PlainStmts, last_stmt, next_stmt}
+use Rattle.ec_core.specs.Plain.{PlainFunction, PlainProgram}
 use Rattle.ec_core.specs.Valid.{Reaches, calls, calls_through}
-use Rattle.ec_ir.specs.Operations.{PlainIr, PlainIrFunction}
+use Rattle.ec_ir.specs.Operations.{PlainIr, constant, PlainIrFunction}
 use Rattle.ec_ir.specs.Valid.{called_in, CallsTo, calls as calls_at, calls_through as calls_by}
-use Rattle.ec_lower_code.specs.Code.{step_code, params_of, params_code, port_operator, port_code, place_behind, operand_temp, access_code, pairs_code, group_code, option_code, expr_code, node_code, args_code, init_code, test_code, last_code, leaves_of_object, stmt_code, kind_code, option_stmt_code, stmts_code, function_code, lowered_function, lowered}
+use Rattle.ec_lower_code.specs.Code.{temp, place_labels, Site, named, pointed, further_code, load_from, store_to, value_place}
+use Rattle.ec_lower_code.specs.Code.{settled_code, address_code, change_code, postfix_code, step_code, offset_of, site}
+use Rattle.ec_lower_code.specs.Code.{place_code, params_of, params_code, port_operator, port_code, place_behind, operand_temp}
+use Rattle.ec_lower_code.specs.Code.{access_code, pairs_code, group_code, option_code, expr_code, node_code, args_code}
+use Rattle.ec_lower_code.specs.Code.{init_code, test_code, last_code, leaves_of_object, stmt_code, kind_code, option_stmt_code}
+use Rattle.ec_lower_code.specs.Code.{stmts_code, function_code, lowered_function, lowered}
 
 -- a member of a list
 abbrev pub In : List ℕ → ℕ → Type 0
@@ -39,11 +52,53 @@ either : {A B C : Type 0} → A ⊎ B → (A → C) → (B → C) → C
 either (inl a) f h = f a
 either (inr b) f h = h b
 
-step_calls : (prefix : Bool) (op : BinOp) (mode : Mode) (ty : PlainType) (o t : ℕ) (rest : List PlainIr) (g : ℕ) → In (called_in (step_code prefix op mode ty o t rest)) g → In (called_in rest) g
-step_calls true op mode ty o t rest g h = h
-step_calls false op mode ty o t rest g h = h
+store_calls : (s : Site) (from : Temp) (rest : List PlainIr) (g : ℕ) → In (called_in (store_to s from ∷ rest)) g → In (called_in rest) g
+store_calls (named o offset) from rest g h = h
+store_calls (pointed ptr space) from rest g h = h
 
-params_calls : (os : List ℕ) (es : PlainExprs) (t : ℕ) (rest : List PlainIr) (g : ℕ) → In (called_in (params_code os es t rest)) g → In (called_in rest) g
+load_calls : (s : Site) (to : Temp) (rest : List PlainIr) (g : ℕ) → In (called_in (load_from to s ∷ rest)) g → In (called_in rest) g
+load_calls (named o offset) to rest g h = h
+load_calls (pointed ptr space) to rest g h = h
+
+change_calls : (op : BinOp) (own mode : Mode) (ty : PlainType) (s : Site) (t : ℕ) (right : PlainType) (rest : List PlainIr) (g : ℕ)
+    → In (called_in (change_code op own mode ty s t right rest)) g → In (called_in rest) g
+change_calls op own mode void s t right rest g h = store_calls s _ rest g h
+change_calls op own mode (integer x b) s t right rest g h = store_calls s _ rest g h
+change_calls op own mode (fixed k x) s t right rest g h = store_calls s _ rest g h
+change_calls op own mode (pointer c k u) s t right rest g h = store_calls s _ rest g h
+change_calls op own mode (array u n) s t right rest g h = store_calls s _ rest g h
+change_calls op own mode (struct n) s t right rest g h = store_calls s _ rest g h
+
+postfix_calls : (op : BinOp) (mode : Mode) (ty : PlainType) (s : Site) (t : ℕ) (rest : List PlainIr) (g : ℕ)
+    → In (called_in (postfix_code op mode ty s t rest)) g → In (called_in rest) g
+postfix_calls op mode void s t rest g h = store_calls s _ _ g h
+postfix_calls op mode (integer x b) s t rest g h = store_calls s _ _ g h
+postfix_calls op mode (fixed k x) s t rest g h = store_calls s _ _ g h
+postfix_calls op mode (pointer c k u) s t rest g h = store_calls s _ rest g h
+postfix_calls op mode (array u n) s t rest g h = store_calls s _ _ g h
+postfix_calls op mode (struct n) s t rest g h = store_calls s _ _ g h
+
+step_calls : (prefix : Bool) (op : BinOp) (mode : Mode) (ty : PlainType) (s : Site) (t : ℕ) (rest : List PlainIr) (g : ℕ)
+    → In (called_in (step_code prefix op mode ty s t rest)) g → In (called_in rest) g
+step_calls true op mode ty s t rest g h = change_calls op mode mode ty s t int rest g h
+step_calls false op mode ty s t rest g h = postfix_calls op mode ty s t rest g h
+
+further_calls : (k : ℕ) (s : Site) (rest : List PlainIr) (g : ℕ) → In (called_in (further_code k s rest)) g → In (called_in rest) g
+further_calls k (named o offset) rest g h = h
+further_calls k (pointed ptr space) rest g h = h
+
+settled_calls : (s : Site) (ty : PlainType) (t : ℕ) (rest : List PlainIr) (g : ℕ) → In (called_in (settled_code s ty t rest)) g
+    → In (called_in rest) g
+settled_calls (named o offset) ty t rest g h = h
+settled_calls (pointed ptr space) ty t rest g h = h
+
+address_calls : (s : Site) (ty : PlainType) (t : ℕ) (rest : List PlainIr) (g : ℕ) → In (called_in (address_code s ty t rest)) g
+    → In (called_in rest) g
+address_calls (named o offset) ty t rest g h = h
+address_calls (pointed ptr space) ty t rest g h = h
+
+params_calls : (os : List ℕ) (es : PlainExprs) (t : ℕ) (rest : List PlainIr) (g : ℕ) → In (called_in (params_code os es t rest)) g
+    → In (called_in rest) g
 params_calls [] es t rest g h = h
 params_calls (o ∷ os) last_expr t rest g h = h
 params_calls (o ∷ os) (next_expr e es) t rest g h = params_calls os es (t + 1) rest g h
@@ -68,7 +123,8 @@ mutual
   node_more (logical_not a) cs g h = expr_more a cs g h
   node_more (logical_and a b) cs g h = expr_more a (expr_calls b cs) g (expr_more b cs g h)
   node_more (logical_or a b) cs g h = expr_more a (expr_calls b cs) g (expr_more b cs g h)
-  node_more (conditional c a b) cs g h = expr_more c (expr_calls a (expr_calls b cs)) g (expr_more a (expr_calls b cs) g (expr_more b cs g h))
+  node_more (conditional c a b) cs g h = expr_more c (expr_calls a (expr_calls b cs)) g
+      (expr_more a (expr_calls b cs) g (expr_more b cs g h))
   node_more (comma a b) cs g h = expr_more a (expr_calls b cs) g (expr_more b cs g h)
   node_more (call f args) cs g h = inr (exprs_more args cs g h)
   node_more (io op port i v) cs g h = option_more i (option_calls v cs) g (option_more v cs g h)
@@ -100,10 +156,12 @@ mutual
   kind_more (evaluate e) cs g h = expr_more e cs g h
   kind_more (block ss) cs g h = stmts_more ss cs g h
   kind_more (declare o es) cs g h = exprs_more es cs g h
-  kind_more (branch c a b) cs g h = expr_more c (stmt_calls a (option_stmt_calls b cs)) g (stmt_more a (option_stmt_calls b cs) g (option_stmt_more b cs g h))
+  kind_more (branch c a b) cs g h = expr_more c (stmt_calls a (option_stmt_calls b cs)) g (stmt_more a (option_stmt_calls b cs) g
+      (option_stmt_more b cs g h))
   kind_more (while_loop c a) cs g h = expr_more c (stmt_calls a cs) g (stmt_more a cs g h)
   kind_more (do_loop a c) cs g h = stmt_more a (expr_calls c cs) g (expr_more c cs g h)
-  kind_more (for_loop i c n a) cs g h = option_stmt_more i (optional_calls c (optional_calls n (stmt_calls a cs))) g (optional_more c (optional_calls n (stmt_calls a cs)) g (optional_more n (stmt_calls a cs) g (stmt_more a cs g h)))
+  kind_more (for_loop i c n a) cs g h = option_stmt_more i (optional_calls c (optional_calls n (stmt_calls a cs))) g
+      (optional_more c (optional_calls n (stmt_calls a cs)) g (optional_more n (stmt_calls a cs) g (stmt_more a cs g h)))
   kind_more break_loop cs g h = h
   kind_more continue_loop cs g h = h
   kind_more (return_value e) cs g h = optional_more e cs g h
@@ -117,7 +175,8 @@ mutual
   stmts_more (next_stmt a ss) cs g h = stmt_more a (stmts_calls ss cs) g (stmts_more ss cs g h)
 
 -- two parts, one behind the other
-behind_two : (a b : PlainExpr) (cs ds : List ℕ) (g : ℕ) → {R : Type 0} → In (expr_calls a (expr_calls b cs)) g ⊎ R → (R → In (expr_calls b cs) g ⊎ In ds g) → In (expr_calls a (expr_calls b cs)) g ⊎ In ds g
+behind_two : (a b : PlainExpr) (cs ds : List ℕ) (g : ℕ) → {R : Type 0} → In (expr_calls a (expr_calls b cs)) g ⊎ R
+    → (R → In (expr_calls b cs) g ⊎ In ds g) → In (expr_calls a (expr_calls b cs)) g ⊎ In ds g
 behind_two a b cs ds g first second =
     either first (λ x. inl x)
     (λ y. either (second y) (λ z. inl (expr_more a (expr_calls b cs) g z)) (λ z. inr z))
@@ -150,35 +209,53 @@ group_called acquire (Some x) t rest g h = pairs_called (pairs_of acquire x) t r
 
 module _ (program : PlainProgram) (table : PlainTable) where
   mutual
-    expr_called : (e : PlainExpr) (l t : ℕ) (rest : List PlainIr) (cs : List ℕ) (g : ℕ) → In (called_in (expr_code program table e l t rest)) g → In (expr_calls e cs) g ⊎ In (called_in rest) g
+    expr_called : (e : PlainExpr) (l t : ℕ) (rest : List PlainIr) (cs : List ℕ) (g : ℕ)
+        → In (called_in (expr_code program table e l t rest)) g → In (expr_calls e cs) g ⊎ In (called_in rest) g
     expr_called (expression ty mode node) l t rest cs g h = node_called ty mode node l t rest cs g h
 
-    node_called : (ty : PlainType) (mode : Mode) (node : PlainNode) (l t : ℕ) (rest : List PlainIr) (cs : List ℕ) (g : ℕ) → In (called_in (node_code program table ty mode node l t rest)) g → In (node_calls node cs) g ⊎ In (called_in rest) g
+    node_called : (ty : PlainType) (mode : Mode) (node : PlainNode) (l t : ℕ) (rest : List PlainIr) (cs : List ℕ) (g : ℕ)
+        → In (called_in (node_code program table ty mode node l t rest)) g → In (node_calls node cs) g ⊎ In (called_in rest) g
     node_called ty mode (number n) l t rest cs g h = inr h
     node_called ty mode null l t rest cs g h = inr h
-    node_called ty mode (load (object o)) l t rest cs g h = inr h
-    node_called ty mode (load (deref e)) l t rest cs g h = inr h
-    node_called ty mode (load (member q i)) l t rest cs g h = inr h
-    node_called ty mode (address_of q) l t rest cs g h = inr h
+    node_called ty mode (load p) l t rest cs g h = either (place_called p l t _ cs g h) (λ x. inl x)
+        (λ y. inr (load_calls (site program p t) (temp t ty) rest g y))
+    node_called ty mode (address_of p) l t rest cs g h = either (place_called p l t _ cs g h) (λ x. inl x)
+        (λ y. inr (address_calls (site program p t) ty t rest g y))
     node_called ty mode (unary op a) l t rest cs g h = expr_called a l t _ cs g h
-    node_called ty mode (binary op a b) l t rest cs g h = behind_two a b cs (called_in rest) g (expr_called a _ _ _ (expr_calls b cs) g h) (λ y. expr_called b _ _ _ cs g y)
+    node_called ty mode (binary op a b) l t rest cs g h = behind_two a b cs (called_in rest) g (expr_called a _ _ _ (expr_calls b cs) g h)
+        (λ y. expr_called b _ _ _ cs g y)
     node_called ty mode (convert a) l t rest cs g h = expr_called a l t _ cs g h
-    node_called ty mode (assign (object o) a) l t rest cs g h = expr_called a l t _ cs g h
-    node_called ty mode (assign (deref e) a) l t rest cs g h = inr h
-    node_called ty mode (assign (member q i) a) l t rest cs g h = inr h
-    node_called ty mode (compound op own (object o) a) l t rest cs g h = expr_called a l (t + 1) _ cs g h
-    node_called ty mode (compound op own (deref e) a) l t rest cs g h = inr h
-    node_called ty mode (compound op own (member q i) a) l t rest cs g h = inr h
-    node_called ty mode (step up prefix (object o)) l t rest cs g h = inr (step_calls prefix (step_operator up) mode ty o t rest g h)
-    node_called ty mode (step up prefix (deref e)) l t rest cs g h = inr h
-    node_called ty mode (step up prefix (member q i)) l t rest cs g h = inr h
+    node_called ty mode (assign p a) l t rest cs g h =
+        let s = site program p t in
+        let r = settled_code s ty t rest in
+        either (place_called p l t _ (expr_calls a cs) g h) (λ x. inl x)
+        (λ y. either (expr_called a _ _ _ cs g y) (λ z. inl (place_more p (expr_calls a cs) g z))
+        (λ z. inr (settled_calls s ty t rest g (store_calls s _ r g z))))
+    node_called ty mode (compound op own p a) l t rest cs g h =
+        let s = site program p t in
+        let r = settled_code s ty t rest in
+        either (place_called p l t _ (expr_calls a cs) g h) (λ x. inl x)
+        (λ y. either (expr_called a _ _ _ cs g (load_calls s _ (expr_code program table a (l + place_labels p) (value_place s t + 1)
+        (change_code op own mode ty s (value_place s t) (type_of_expr a) r)) g y)) (λ z. inl (place_more p (expr_calls a cs) g z))
+        (λ z. inr (settled_calls s ty t rest g (change_calls op own mode ty s (value_place s t) (type_of_expr a) r g z))))
+    node_called ty mode (step up prefix p) l t rest cs g h =
+        let s = site program p t in
+        let r = settled_code s ty t rest in
+        either (place_called p l t _ cs g h) (λ x. inl x)
+        (λ y. inr (settled_calls s ty t rest g (step_calls prefix (step_operator up) mode ty s (value_place s t) r g
+        (load_calls s _ (constant (temp (value_place s t + 1) int) (pos 1) ∷ step_code prefix (step_operator up) mode ty s
+        (value_place s t) r) g y))))
     node_called ty mode (logical_not a) l t rest cs g h = expr_called a _ t _ cs g h
-    node_called ty mode (logical_and a b) l t rest cs g h = behind_two a b cs (called_in rest) g (expr_called a _ _ _ (expr_calls b cs) g h) (λ y. expr_called b _ _ _ cs g y)
-    node_called ty mode (logical_or a b) l t rest cs g h = behind_two a b cs (called_in rest) g (expr_called a _ _ _ (expr_calls b cs) g h) (λ y. expr_called b _ _ _ cs g y)
+    node_called ty mode (logical_and a b) l t rest cs g h = behind_two a b cs (called_in rest) g (expr_called a _ _ _ (expr_calls b cs) g h)
+        (λ y. expr_called b _ _ _ cs g y)
+    node_called ty mode (logical_or a b) l t rest cs g h = behind_two a b cs (called_in rest) g (expr_called a _ _ _ (expr_calls b cs) g h)
+        (λ y. expr_called b _ _ _ cs g y)
     node_called ty mode (conditional c a b) l t rest cs g h =
         either (expr_called c _ t _ (expr_calls a (expr_calls b cs)) g h) (λ x. inl x)
-        (λ y. either (behind_two a b cs (called_in rest) g (expr_called a _ _ _ (expr_calls b cs) g y) (λ z. expr_called b _ _ _ cs g z)) (λ z. inl (expr_more c (expr_calls a (expr_calls b cs)) g z)) (λ z. inr z))
-    node_called ty mode (comma a b) l t rest cs g h = behind_two a b cs (called_in rest) g (expr_called a _ _ _ (expr_calls b cs) g h) (λ y. expr_called b _ _ _ cs g y)
+        (λ y. either (behind_two a b cs (called_in rest) g (expr_called a _ _ _ (expr_calls b cs) g y) (λ z. expr_called b _ _ _ cs g z))
+        (λ z. inl (expr_more c (expr_calls a (expr_calls b cs)) g z)) (λ z. inr z))
+    node_called ty mode (comma a b) l t rest cs g h = behind_two a b cs (called_in rest) g (expr_called a _ _ _ (expr_calls b cs) g h)
+        (λ y. expr_called b _ _ _ cs g y)
     node_called ty mode (call f args) l t rest cs g h =
         either (args_called args l t _ cs g h) (λ x. inl (inr x))
         (λ y. either (params_calls (params_of program f) args t _ g y) (λ z. inl (inl z)) (λ z. inr z))
@@ -188,37 +265,50 @@ module _ (program : PlainProgram) (table : PlainTable) where
         (λ z. inr (access_called op mode (slice_get table.ports port) i t rest g z)))
     node_called ty mode (group acquire k) l t rest cs g h = inr (group_called acquire (slice_get table.groups k) t rest g h)
 
+    place_called : (p : PlainPlace) (l t : ℕ) (rest : List PlainIr) (cs : List ℕ) (g : ℕ)
+        → In (called_in (place_code program table p l t rest)) g → In (place_calls p cs) g ⊎ In (called_in rest) g
+    place_called (object o) l t rest cs g h = inr h
+    place_called (deref e) l t rest cs g h = expr_called e l t rest cs g h
+    place_called (member p i) l t rest cs g h = either (place_called p l t _ cs g h) (λ x. inl x)
+        (λ y. inr (further_calls (offset_of program p i) (site program p t) rest g y))
+
     operand_called : (e : OptionPlainExpr) (l t : ℕ) (rest : List PlainIr) (cs : List ℕ) (g : ℕ)
         → In (called_in (option_code program table e l t rest)) g → In (option_calls e cs) g ⊎ In (called_in rest) g
     operand_called no_expr l t rest cs g h = inr h
     operand_called (an_expr e) l t rest cs g h = expr_called e l t rest cs g h
 
-    args_called : (es : PlainExprs) (l t : ℕ) (rest : List PlainIr) (cs : List ℕ) (g : ℕ) → In (called_in (args_code program table es l t rest)) g → In (exprs_calls es cs) g ⊎ In (called_in rest) g
+    args_called : (es : PlainExprs) (l t : ℕ) (rest : List PlainIr) (cs : List ℕ) (g : ℕ)
+        → In (called_in (args_code program table es l t rest)) g → In (exprs_calls es cs) g ⊎ In (called_in rest) g
     args_called last_expr l t rest cs g h = inr h
     args_called (next_expr e es) l t rest cs g h =
         either (expr_called e l t _ (exprs_calls es cs) g h) (λ x. inl x)
         (λ y. either (args_called es _ (t + 1) rest cs g y) (λ z. inl (expr_more e (exprs_calls es cs) g z)) (λ z. inr z))
 
-  init_called : (ls : List PlainLeaf) (o : ℕ) (es : PlainExprs) (l : ℕ) (rest : List PlainIr) (cs : List ℕ) (g : ℕ) → In (called_in (init_code program table ls o es l rest)) g → In (exprs_calls es cs) g ⊎ In (called_in rest) g
+  init_called : (ls : List PlainLeaf) (o : ℕ) (es : PlainExprs) (l : ℕ) (rest : List PlainIr) (cs : List ℕ) (g : ℕ)
+      → In (called_in (init_code program table ls o es l rest)) g → In (exprs_calls es cs) g ⊎ In (called_in rest) g
   init_called [] o es l rest cs g h = inr h
   init_called (leaf ∷ ls) o last_expr l rest cs g h = inr h
   init_called (leaf ∷ ls) o (next_expr e es) l rest cs g h =
       either (expr_called e l 0 _ (exprs_calls es cs) g h) (λ x. inl x)
       (λ y. either (init_called ls o es _ rest cs g y) (λ z. inl (expr_more e (exprs_calls es cs) g z)) (λ z. inr z))
 
-  test_called : (c : Option PlainExpr) (out l : ℕ) (rest : List PlainIr) (cs : List ℕ) (g : ℕ) → In (called_in (test_code program table c out l rest)) g → In (optional_calls c cs) g ⊎ In (called_in rest) g
+  test_called : (c : Option PlainExpr) (out l : ℕ) (rest : List PlainIr) (cs : List ℕ) (g : ℕ)
+      → In (called_in (test_code program table c out l rest)) g → In (optional_calls c cs) g ⊎ In (called_in rest) g
   test_called None out l rest cs g h = inr h
   test_called (Some c) out l rest cs g h = expr_called c l 0 _ cs g h
 
-  last_called : (e : Option PlainExpr) (l : ℕ) (rest : List PlainIr) (cs : List ℕ) (g : ℕ) → In (called_in (last_code program table e l rest)) g → In (optional_calls e cs) g ⊎ In (called_in rest) g
+  last_called : (e : Option PlainExpr) (l : ℕ) (rest : List PlainIr) (cs : List ℕ) (g : ℕ)
+      → In (called_in (last_code program table e l rest)) g → In (optional_calls e cs) g ⊎ In (called_in rest) g
   last_called None l rest cs g h = inr h
   last_called (Some e) l rest cs g h = expr_called e l 0 rest cs g h
 
   mutual
-    stmt_called : (a : PlainStmt) (l out on : ℕ) (rest : List PlainIr) (cs : List ℕ) (g : ℕ) → In (called_in (stmt_code program table a l out on rest)) g → In (stmt_calls a cs) g ⊎ In (called_in rest) g
+    stmt_called : (a : PlainStmt) (l out on : ℕ) (rest : List PlainIr) (cs : List ℕ) (g : ℕ)
+        → In (called_in (stmt_code program table a l out on rest)) g → In (stmt_calls a cs) g ⊎ In (called_in rest) g
     stmt_called (statement unit at kind) l out on rest cs g h = kind_called kind l out on rest cs g h
 
-    kind_called : (kind : PlainKind) (l out on : ℕ) (rest : List PlainIr) (cs : List ℕ) (g : ℕ) → In (called_in (kind_code program table kind l out on rest)) g → In (kind_calls kind cs) g ⊎ In (called_in rest) g
+    kind_called : (kind : PlainKind) (l out on : ℕ) (rest : List PlainIr) (cs : List ℕ) (g : ℕ)
+        → In (called_in (kind_code program table kind l out on rest)) g → In (kind_calls kind cs) g ⊎ In (called_in rest) g
     kind_called empty l out on rest cs g h = inr h
     kind_called (evaluate e) l out on rest cs g h = expr_called e l 0 rest cs g h
     kind_called (block ss) l out on rest cs g h = stmts_called ss l out on rest cs g h
@@ -229,7 +319,8 @@ module _ (program : PlainProgram) (table : PlainTable) where
     kind_called (branch c a (a_stmt b)) l out on rest cs g h =
         either (expr_called c (l + 2) 0 _ (stmt_calls a (stmt_calls b cs)) g h) (λ x. inl x)
         (λ y. either (stmt_called a _ out on _ (stmt_calls b cs) g y) (λ z. inl (expr_more c (stmt_calls a (stmt_calls b cs)) g z))
-        (λ z. either (stmt_called b _ out on _ cs g z) (λ u. inl (expr_more c (stmt_calls a (stmt_calls b cs)) g (stmt_more a (stmt_calls b cs) g u))) (λ u. inr u)))
+        (λ z. either (stmt_called b _ out on _ cs g z) (λ u. inl (expr_more c (stmt_calls a (stmt_calls b cs)) g
+        (stmt_more a (stmt_calls b cs) g u))) (λ u. inr u)))
     kind_called (while_loop c a) l out on rest cs g h =
         either (test_called (Some c) _ _ _ (stmt_calls a cs) g h) (λ x. inl x)
         (λ y. either (stmt_called a _ _ _ _ cs g y) (λ z. inl (expr_more c (stmt_calls a cs) g z)) (λ z. inr z))
@@ -241,37 +332,51 @@ module _ (program : PlainProgram) (table : PlainTable) where
         let in_test = optional_calls c in_last in
         either (option_called first l out on _ in_test g h) (λ x. inl x)
         (λ y. either (test_called c _ _ _ in_last g y) (λ z. inl (option_stmt_more first in_test g z))
-        (λ z. either (stmt_called a _ _ _ _ cs g z) (λ u. inl (option_stmt_more first in_test g (optional_more c in_last g (optional_more last (stmt_calls a cs) g u))))
-        (λ u. either (last_called last _ _ (stmt_calls a cs) g u) (λ x. inl (option_stmt_more first in_test g (optional_more c in_last g x))) (λ x. inr x))))
+        (λ z. either (stmt_called a _ _ _ _ cs g z) (λ u. inl (option_stmt_more first in_test g
+        (optional_more c in_last g (optional_more last (stmt_calls a cs) g u))))
+        (λ u. either (last_called last _ _ (stmt_calls a cs) g u)
+        (λ x. inl (option_stmt_more first in_test g (optional_more c in_last g x))) (λ x. inr x))))
     kind_called break_loop l out on rest cs g h = inr h
     kind_called continue_loop l out on rest cs g h = inr h
     kind_called (return_value None) l out on rest cs g h = inr h
     kind_called (return_value (Some e)) l out on rest cs g h = expr_called e l 0 _ cs g h
 
-    option_called : (a : OptionPlainStmt) (l out on : ℕ) (rest : List PlainIr) (cs : List ℕ) (g : ℕ) → In (called_in (option_stmt_code program table a l out on rest)) g → In (option_stmt_calls a cs) g ⊎ In (called_in rest) g
+    option_called : (a : OptionPlainStmt) (l out on : ℕ) (rest : List PlainIr) (cs : List ℕ) (g : ℕ)
+        → In (called_in (option_stmt_code program table a l out on rest)) g → In (option_stmt_calls a cs) g ⊎ In (called_in rest) g
     option_called no_stmt l out on rest cs g h = inr h
     option_called (a_stmt a) l out on rest cs g h = stmt_called a l out on rest cs g h
 
-    stmts_called : (ss : PlainStmts) (l out on : ℕ) (rest : List PlainIr) (cs : List ℕ) (g : ℕ) → In (called_in (stmts_code program table ss l out on rest)) g → In (stmts_calls ss cs) g ⊎ In (called_in rest) g
+    stmts_called : (ss : PlainStmts) (l out on : ℕ) (rest : List PlainIr) (cs : List ℕ) (g : ℕ)
+        → In (called_in (stmts_code program table ss l out on rest)) g → In (stmts_calls ss cs) g ⊎ In (called_in rest) g
     stmts_called last_stmt l out on rest cs g h = inr h
     stmts_called (next_stmt a ss) l out on rest cs g h =
         either (stmt_called a l out on _ (stmts_calls ss cs) g h) (λ x. inl x)
         (λ y. either (stmts_called ss _ out on rest cs g y) (λ z. inl (stmt_more a (stmts_calls ss cs) g z)) (λ z. inr z))
 
   -- a function's operations call only what its body calls
-  pub function_called : (f : PlainFunction) (g : ℕ) → Contains (called_in (function_code program table f)) g → Contains (stmt_calls f.body []) g
-  function_called f g h = in_contains (stmt_calls f.body []) g (either (stmt_called f.body 1 0 0 _ [] g (contains_in (called_in (function_code program table f)) g h)) (λ x. x) (λ y. absurd y))
+  pub function_called : (f : PlainFunction) (g : ℕ) → Contains (called_in (function_code program table f)) g
+      → Contains (stmt_calls f.body []) g
+  function_called f g h = in_contains (stmt_calls f.body []) g (either
+      (stmt_called f.body 1 0 0 _ [] g (contains_in (called_in (function_code program table f)) g h)) (λ x. x) (λ y. absurd y))
 
   -- so no function reaches itself
-  found_function : (f : ℕ) (x : PlainIrFunction) → slice_get (lowered program table).functions f ≡ Some x → (h : PlainFunction) × (slice_get program.functions f ≡ Some h) × (lowered_function program table h ≡ x)
-  found_function f x e = by_source (slice_get program.functions f) refl (sym (slice_get-map (lowered_function program table) program.functions f) ∙ e)
+  found_function : (f : ℕ) (x : PlainIrFunction) → slice_get (lowered program table).functions f ≡ Some x
+      → (h : PlainFunction) × (slice_get program.functions f ≡ Some h) × (lowered_function program table h ≡ x)
+  found_function f x e = by_source (slice_get program.functions f) refl
+      (sym (slice_get-map (lowered_function program table) program.functions f) ∙ e)
     where
-      by_source : (z : Option PlainFunction) → slice_get program.functions f ≡ z → option_map (lowered_function program table) z ≡ Some x → (h : PlainFunction) × (slice_get program.functions f ≡ Some h) × (lowered_function program table h ≡ x)
+      by_source : (z : Option PlainFunction) → slice_get program.functions f ≡ z → option_map (lowered_function program table) z ≡ Some x
+          → (h : PlainFunction) × (slice_get program.functions f ≡ Some h) × (lowered_function program table h ≡ x)
       by_source None g k = cc
       by_source (Some h) g k = (h, g, cc)
 
-  called_source : (f g : ℕ) (x : PlainIrFunction) → slice_get (lowered program table).functions f ≡ Some x → Contains (called_in x.code) g → (h : PlainFunction) × (slice_get program.functions f ≡ Some h) × Contains (stmt_calls h.body []) g
-  called_source f g x e c = let h = found_function f x e in (h.0, h.1, function_called h.0 g (subst (λ (z : PlainIrFunction). Contains (called_in z.code) g) (sym h.2) c))
+  called_source : (f g : ℕ) (x : PlainIrFunction) → slice_get (lowered program table).functions f ≡ Some x → Contains (called_in x.code) g
+      → (h : PlainFunction) × (slice_get program.functions f ≡ Some h) × Contains (stmt_calls h.body []) g
+  called_source f g x e c = let h = found_function f x e in (
+    h.0,
+    h.1,
+    function_called h.0 g (subst (λ (z : PlainIrFunction). Contains (called_in z.code) g) (sym h.2) c),
+  )
 
   pub reached_source : (g f : ℕ) → CallsTo (lowered program table) g f → Reaches program g f
   reached_source g f (calls_at _ x e c) = let h = called_source f g x e c in calls f h.0 h.1 h.2

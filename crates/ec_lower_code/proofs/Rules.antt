@@ -1,5 +1,6 @@
 -- The operations of a valid program keep the rules of operations.
-use Rattle.std.proofs.Common.{◌≡◌, ◌≢◌, ◌⊎◌, ℕ, suc, ◌+◌, ◌<◌, ◌≤◌, Bool, true, false, List, [], ◌∷◌, length, map, Option, Some, None, refl, sym, ap, ◌∙◌, subst, inl, inr, arith}
+use Rattle.std.proofs.Common.{◌≡◌, ◌≢◌, ◌⊎◌, ℕ, suc, ◌+◌, ◌<◌, ◌≤◌, Bool, true, false, List, [], ◌∷◌, length, map, Option, Some}
+use Rattle.std.proofs.Common.{None, refl, sym, ap, ◌∙◌, subst, inl, inr, arith}
 use Rattle.std.specs.Prelude.{IsSomeAnd, slice_get, option_map, unwrap_or}
 use Rattle.std.specs.List.{AllByRecursion}
 use Rattle.std.proofs.lemmas.List.{length-map}
@@ -9,16 +10,22 @@ use Rattle.ec_core.specs.declared.programs.LeafInit.{LeafInit}
 use Rattle.ec_core.specs.Layout.{PlainLeaf, IsScalar, leaves_of_type, scalar_size}
 use Rattle.ec_core.specs.Needs.{expr_need, exprs_needs, most, option_need, stmt_need, kind_need, option_stmt_need, stmts_need}
 use Rattle.ec_core.specs.PortTable.{plain_table}
-use Rattle.ec_core.specs.Plain.{PlainType, void, PlainExpr, PlainExprs, last_expr, next_expr, PlainStmt, statement, PlainKind, empty, evaluate, block, declare, branch, while_loop, do_loop, for_loop, break_loop, continue_loop, return_value, OptionPlainStmt, no_stmt, a_stmt, PlainStmts, last_stmt, next_stmt, PlainStorage, static, local, param, register, PlainObject, PlainFunction, PlainProgram}
+use Rattle.ec_core.specs.Plain.{PlainType, void, PlainExpr, PlainExprs, last_expr, next_expr, PlainStmt, statement, PlainKind}
+use Rattle.ec_core.specs.Plain.{empty, evaluate, block, declare, branch, while_loop, do_loop, for_loop, break_loop}
+use Rattle.ec_core.specs.Plain.{continue_loop, return_value, OptionPlainStmt, no_stmt, a_stmt, PlainStmts, last_stmt, next_stmt}
+use Rattle.ec_core.specs.Plain.{PlainStorage, static, local, param, register, PlainObject, PlainFunction, PlainProgram}
 use Rattle.ec_core.specs.Typing.{int, type_of_expr}
-use Rattle.ec_core.specs.Valid.{EachFrom, IsObject, IsStored, IsInitialValue, AreInitialValues, IsNamedIn, ValidExpr, ValidExprs, ValidCondition, ValidOptional, IsDeclared, ValidStmt, ValidKind, ValidOptionStmt, ValidStmts, IsFunction, AreLeafValues, Valid}
+use Rattle.ec_core.specs.Valid.{EachFrom, IsObject, IsStored, IsInitialValue, AreInitialValues, IsNamedIn, ValidExpr}
+use Rattle.ec_core.specs.Valid.{ValidExprs, ValidCondition, ValidOptional, IsDeclared, ValidStmt, ValidKind, ValidOptionStmt}
+use Rattle.ec_core.specs.Valid.{ValidStmts, IsFunction, AreLeafValues, Valid}
 use Rattle.ec_core.proofs.Filled.{leaves_fill_their_types}
 use Rattle.ec_core.proofs.TypedValues.{some_and}
 use Rattle.ec_ir.specs.Operations.{PlainIr, store_object, label, jump, branch_zero, return_from, idle_function, data_of}
 use Rattle.ec_ir.specs.Valid.{count, called_in, HasLeafOf, IsParameterOf, ValidOperation, ValidIrFunction, ValidIr}
-use Rattle.ec_lower_code.specs.Code.{temp, expr_labels, optional_labels, option_stmt_labels, stmt_labels, expr_code, init_code, test_code, last_code, leaves_of_object, loop_code, stmt_code, kind_code, option_stmt_code, stmts_code, end_code, function_code, lowered_function, lowered}
+use Rattle.ec_lower_code.specs.Code.{temp, expr_labels, optional_labels, option_stmt_labels, stmt_labels, expr_code, init_code}
+use Rattle.ec_lower_code.specs.Code.{test_code, last_code, leaves_of_object, loop_code, stmt_code, kind_code, option_stmt_code}
+use Rattle.ec_lower_code.specs.Code.{stmts_code, end_code, function_code, lowered_function, lowered}
 use Rattle.ec_lower_code.specs.Correct.{GroupsHaveBytes}
-use Rattle.ec_lower_code.specs.Parts.{IsNumericOrVoid, IsAnyFunction, IsExpr, AreExprs, IsOptional, IsStmt, IsKind, IsOptionStmt, AreStmts, IsLowered}
 use Rattle.ec_lower_code.proofs.Behind.{expr_behind, test_behind, last_behind, stmt_behind, option_behind}
 use Rattle.ec_lower_code.proofs.Facts.{result_scalar, leaves_are}
 use Rattle.ec_lower_code.proofs.Labels.{function_counts}
@@ -26,41 +33,55 @@ use Rattle.ec_lower_code.proofs.Reached.{reached_source}
 use Rattle.ec_lower_code.proofs.Steps.{Stands, behind}
 use Rattle.ec_lower_code.proofs.Wellformed.{result_bytes, some_is, some_need, label_once, temp_ok, expr_ok}
 
-module _ (program : PlainProgram) (table : IoTable) (valid : Valid program table) (pairs : GroupsHaveBytes table) (f : ℕ) (slots : ℕ) (all : List PlainIr) (once : (j : ℕ) → count j all ≤ 1) where
+module _ (program : PlainProgram) (table : IoTable) (valid : Valid program table) (pairs : GroupsHaveBytes table) (f : ℕ) (slots : ℕ)
+    (all : List PlainIr) (once : (j : ℕ) → count j all ≤ 1) where
   abbrev Good : List PlainIr → Type 0
   Good code = AllByRecursion (ValidOperation (lowered program (plain_table table)) (result_bytes program) f slots all) code
 
   one : (l : ℕ) (rest : List PlainIr) → Stands all (label l ∷ rest) → count l all ≡ 1
   one l rest s = label_once program table valid pairs f slots all once l rest s
 
-  good : (e : PlainExpr) (l : ℕ) (rest : List PlainIr) → IsExpr IsNumericOrVoid IsAnyFunction e → ValidExpr program table f e → expr_need e ≤ slots → Stands all (expr_code program (plain_table table) e l 0 rest) → Good rest → Good (expr_code program (plain_table table) e l 0 rest)
-  good e l rest p v le s r = expr_ok program table valid pairs f slots all once e l 0 rest p v (omega (arith, le)) s r
+  good : (e : PlainExpr) (l : ℕ) (rest : List PlainIr) → ValidExpr program table f e → expr_need e ≤ slots
+      → Stands all (expr_code program (plain_table table) e l 0 rest) → Good rest → Good (expr_code program (plain_table table) e l 0 rest)
+  good e l rest v le s r = expr_ok program table valid pairs f slots all once e l 0 rest v (omega (arith, le)) s r
 
   -- the leaves from number i on
-  init_ok : (ls : List PlainLeaf) (o i : ℕ) (x : PlainObject) (es : PlainExprs) (l : ℕ) (rest : List PlainIr) → slice_get program.objects o ≡ Some x → x.storage ≡ local f → ((j : ℕ) (leaf : PlainLeaf) → slice_get ls j ≡ Some leaf → slice_get (leaves_of_type program.structs x.ty) (i + j) ≡ Some leaf)
-      → AreLeafValues program table f ls es → AreExprs IsNumericOrVoid IsAnyFunction es → ValidExprs program table f es → most (exprs_needs es) ≤ slots → Stands all (init_code program (plain_table table) ls o es l rest) → Good rest → Good (init_code program (plain_table table) ls o es l rest)
-  init_ok [] o i x last_expr l rest e st at ty p v le s r = r
-  init_ok (leaf ∷ ls) o i x last_expr l rest e st at ty p v le s r = absurd ty
-  init_ok [] o i x (next_expr a es) l rest e st at ty p v le s r = absurd ty
-  init_ok (leaf ∷ ls) o i x (next_expr a es) l rest e st at ty p v le s r =
+  init_ok : (ls : List PlainLeaf) (o i : ℕ) (x : PlainObject) (es : PlainExprs) (l : ℕ) (rest : List PlainIr)
+      → slice_get program.objects o ≡ Some x → x.storage ≡ local f → ((j : ℕ) (leaf : PlainLeaf) → slice_get ls j ≡ Some leaf
+      → slice_get (leaves_of_type program.structs x.ty) (i + j) ≡ Some leaf)
+      → AreLeafValues program table f ls es → ValidExprs program table f es → most (exprs_needs es) ≤ slots
+      → Stands all (init_code program (plain_table table) ls o es l rest) → Good rest
+      → Good (init_code program (plain_table table) ls o es l rest)
+  init_ok [] o i x last_expr l rest e st at ty v le s r = r
+  init_ok (leaf ∷ ls) o i x last_expr l rest e st at ty v le s r = absurd ty
+  init_ok [] o i x (next_expr a es) l rest e st at ty v le s r = absurd ty
+  init_ok (leaf ∷ ls) o i x (next_expr a es) l rest e st at ty v le s r =
       let q = init_code program (plain_table table) ls o es (l + expr_labels a) rest in
       let op = store_object o leaf.at (temp 0 (type_of_expr a)) in
-      let item : slice_get (leaves_of_type program.structs x.ty) i ≡ Some leaf = ap (slice_get (leaves_of_type program.structs x.ty)) (let z : i ≡ i + 0 = omega arith in z) ∙ at 0 leaf refl in
-      let scalar : IsScalar (type_of_expr a) = subst IsScalar (sym ty.0) ((leaves_fill_their_types.objects program table o x valid e).each i leaf item).scalar.scalar in
+      let item : slice_get (leaves_of_type program.structs x.ty) i ≡ Some leaf = ap (slice_get (leaves_of_type program.structs x.ty))
+      (let z : i ≡ i + 0 = omega arith in z) ∙ at 0 leaf refl in
+      let scalar : IsScalar (type_of_expr a) = subst IsScalar (sym ty.0) ((leaves_fill_their_types.objects program table o x valid e).each i
+      leaf item).scalar.scalar in
       let need = some_need a in
       let s1 = behind all op q (expr_behind program (plain_table table) all a l 0 (op ∷ q) s) in
       let named : IsNamedIn f x.storage = subst (IsNamedIn f) (sym st) refl in
-      let has : HasLeafOf (data_of (lowered program (plain_table table))) x leaf.at (scalar_size (type_of_expr a)) = record { k = i; leaf = leaf; is = item; at = refl; size = ap scalar_size (sym ty.0) } in
-      good a l (op ∷ q) p.0 v.0 (omega (arith, le)) s (
+      let has : HasLeafOf (data_of (lowered program (plain_table table))) x leaf.at (scalar_size (type_of_expr a)) =
+      record { k = i; leaf = leaf; is = item; at = refl; size = ap scalar_size (sym ty.0) } in
+      good a l (op ∷ q) v.0 (omega (arith, le)) s (
         (
           temp_ok program table valid pairs f slots all once 0 (type_of_expr a) (omega (arith, le, need)) scalar,
-          some_is (slice_get program.objects o) (λ x. (IsNamedIn f x.storage ⊎ IsParameterOf (called_in all) x.storage) × HasLeafOf (data_of (lowered program (plain_table table))) x leaf.at (scalar_size (type_of_expr a))) x e (inl named, has),
+          some_is (slice_get program.objects o) (λ x. (IsNamedIn f x.storage ⊎ IsParameterOf (called_in all) x.storage) × HasLeafOf
+              (data_of (lowered program (plain_table table))) x leaf.at (scalar_size (type_of_expr a))) x e (inl named, has),
         ),
-        init_ok ls o (i + 1) x es (l + expr_labels a) rest e st (λ j z q. ap (slice_get (leaves_of_type program.structs x.ty)) (let a : i + 1 + j ≡ i + suc j = omega arith in a) ∙ at (suc j) z q) ty.1 p.1 v.1 (omega (arith, le)) s1 r,
+        init_ok ls o (i + 1) x es (l + expr_labels a) rest e st (λ j z q. ap (slice_get (leaves_of_type program.structs x.ty))
+            (let a : i + 1 + j ≡ i + suc j = omega arith in a) ∙ at (suc j) z q) ty.1 v.1 (omega (arith, le)) s1 r,
       )
 
-  declared_ok : (o : ℕ) (es : PlainExprs) (l : ℕ) (rest : List PlainIr) → AreExprs IsNumericOrVoid IsAnyFunction es → IsSomeAnd (slice_get program.objects o) (IsDeclared program table f es) → ValidExprs program table f es → most (exprs_needs es) ≤ slots → Stands all (init_code program (plain_table table) (leaves_of_object program o) o es l rest) → Good rest → Good (init_code program (plain_table table) (leaves_of_object program o) o es l rest)
-  declared_ok o es l rest p d v le s r =
+  declared_ok : (o : ℕ) (es : PlainExprs) (l : ℕ) (rest : List PlainIr) → IsSomeAnd (slice_get program.objects o)
+      (IsDeclared program table f es) → ValidExprs program table f es → most (exprs_needs es) ≤ slots
+      → Stands all (init_code program (plain_table table) (leaves_of_object program o) o es l rest) → Good rest
+      → Good (init_code program (plain_table table) (leaves_of_object program o) o es l rest)
+  declared_ok o es l rest d v le s r =
       let x = some_and (slice_get program.objects o) (IsDeclared program table f es) d in
       by_values x.0 x.1 x.2.0 x.2.1 (leaves_are program o x.0 x.1)
     where
@@ -68,32 +89,47 @@ module _ (program : PlainProgram) (table : IoTable) (valid : Valid program table
       none [] = r
       none (leaf ∷ ls) = r
 
-      by_values : (x : PlainObject) → slice_get program.objects o ≡ Some x → x.storage ≡ local f → (es ≡ last_expr) ⊎ AreLeafValues program table f (leaves_of_type program.structs x.ty) es → leaves_of_object program o ≡ leaves_of_type program.structs x.ty → Good (init_code program (plain_table table) (leaves_of_object program o) o es l rest)
-      by_values x e t (inl z) g = subst (λ (q : PlainExprs). Good (init_code program (plain_table table) (leaves_of_object program o) o q l rest)) (sym z) (none (leaves_of_object program o))
+      by_values : (x : PlainObject) → slice_get program.objects o ≡ Some x → x.storage ≡ local f
+          → (es ≡ last_expr) ⊎ AreLeafValues program table f (leaves_of_type program.structs x.ty) es
+          → leaves_of_object program o ≡ leaves_of_type program.structs x.ty
+          → Good (init_code program (plain_table table) (leaves_of_object program o) o es l rest)
+      by_values x e t (inl z) g = subst (λ (q : PlainExprs). Good (init_code program (plain_table table) (leaves_of_object program o) o q l
+          rest)) (sym z) (none (leaves_of_object program o))
       by_values x e t (inr z) g =
           subst (λ (q : List PlainLeaf). Good (init_code program (plain_table table) q o es l rest)) (sym g)
-          (init_ok (leaves_of_type program.structs x.ty) o 0 x es l rest e t (λ j leaf q. ap (slice_get (leaves_of_type program.structs x.ty)) (let a : 0 + j ≡ j = omega arith in a) ∙ q) z p v le
+          (init_ok (leaves_of_type program.structs x.ty) o 0 x es l rest e t
+          (λ j leaf q. ap (slice_get (leaves_of_type program.structs x.ty)) (let a : 0 + j ≡ j = omega arith in a) ∙ q) z v le
           (subst (λ (q : List PlainLeaf). Stands all (init_code program (plain_table table) q o es l rest)) g s) r)
 
   -- a branch on a condition
-  condition_ok : (c : PlainExpr) (l out : ℕ) (rest : List PlainIr) → IsExpr IsNumericOrVoid IsAnyFunction c → ValidCondition program table f (Some c) → expr_need c ≤ slots → count out all ≡ 1 → Stands all (expr_code program (plain_table table) c l 0 (branch_zero (temp 0 (type_of_expr c)) out ∷ rest)) → Good rest → Good (expr_code program (plain_table table) c l 0 (branch_zero (temp 0 (type_of_expr c)) out ∷ rest))
-  condition_ok c l out rest p v le h s r =
+  condition_ok : (c : PlainExpr) (l out : ℕ) (rest : List PlainIr) → ValidCondition program table f (Some c) → expr_need c ≤ slots
+      → count out all ≡ 1 → Stands all (expr_code program (plain_table table) c l 0 (branch_zero (temp 0 (type_of_expr c)) out ∷ rest))
+      → Good rest → Good (expr_code program (plain_table table) c l 0 (branch_zero (temp 0 (type_of_expr c)) out ∷ rest))
+  condition_ok c l out rest v le h s r =
       let need = some_need c in
-      good c l (branch_zero (temp 0 (type_of_expr c)) out ∷ rest) p v.0 le s ((temp_ok program table valid pairs f slots all once 0 (type_of_expr c) (omega (arith, le, need)) v.1, h), r)
+      good c l (branch_zero (temp 0 (type_of_expr c)) out ∷ rest) v.0 le s
+      ((temp_ok program table valid pairs f slots all once 0 (type_of_expr c) (omega (arith, le, need)) v.1, h), r)
 
-  test_ok : (c : Option PlainExpr) (out l : ℕ) (rest : List PlainIr) → IsOptional IsNumericOrVoid IsAnyFunction c → ValidCondition program table f c → option_need c ≤ slots → count out all ≡ 1 → Stands all (test_code program (plain_table table) c out l rest) → Good rest → Good (test_code program (plain_table table) c out l rest)
-  test_ok None out l rest p v le h s r = r
-  test_ok (Some c) out l rest p v le h s r = condition_ok c l out rest p v le h s r
+  test_ok : (c : Option PlainExpr) (out l : ℕ) (rest : List PlainIr) → ValidCondition program table f c → option_need c ≤ slots
+      → count out all ≡ 1 → Stands all (test_code program (plain_table table) c out l rest) → Good rest
+      → Good (test_code program (plain_table table) c out l rest)
+  test_ok None out l rest v le h s r = r
+  test_ok (Some c) out l rest v le h s r = condition_ok c l out rest v le h s r
 
-  last_ok : (e : Option PlainExpr) (l : ℕ) (rest : List PlainIr) → IsOptional IsNumericOrVoid IsAnyFunction e → ValidOptional program table f e → option_need e ≤ slots → Stands all (last_code program (plain_table table) e l rest) → Good rest → Good (last_code program (plain_table table) e l rest)
-  last_ok None l rest p v le s r = r
-  last_ok (Some e) l rest p v le s r = good e l rest p v le s r
+  last_ok : (e : Option PlainExpr) (l : ℕ) (rest : List PlainIr) → ValidOptional program table f e → option_need e ≤ slots
+      → Stands all (last_code program (plain_table table) e l rest) → Good rest → Good (last_code program (plain_table table) e l rest)
+  last_ok None l rest v le s r = r
+  last_ok (Some e) l rest v le s r = good e l rest v le s r
 
   module _ (returns : PlainType) (scalar : returns ≢ void → IsScalar returns) (bytes : result_bytes program f ≡ scalar_size returns) where
     -- a loop, of whose body this is known
-    loop_ok : (c last : Option PlainExpr) (l : ℕ) (body : List PlainIr → List PlainIr) (rest : List PlainIr) → ((q : List PlainIr) → Stands all (body q) → Stands all q) → ((q : List PlainIr) → count (l + 1) all ≡ 1 → count (l + 2) all ≡ 1 → Stands all (body q) → Good q → Good (body q))
-        → IsOptional IsNumericOrVoid IsAnyFunction c → ValidCondition program table f c → option_need c ≤ slots → IsOptional IsNumericOrVoid IsAnyFunction last → ValidOptional program table f last → option_need last ≤ slots → Stands all (loop_code program (plain_table table) c last l body rest) → Good rest → (count (l + 3) all ≡ 1) × Good (loop_code program (plain_table table) c last l body rest)
-    loop_ok c last l body rest behind_body body_ok pc vc lc pl vl ll s r =
+    loop_ok : (c last : Option PlainExpr) (l : ℕ) (body : List PlainIr → List PlainIr) (rest : List PlainIr)
+        → ((q : List PlainIr) → Stands all (body q) → Stands all q) → ((q : List PlainIr) → count (l + 1) all ≡ 1 → count (l + 2) all ≡ 1
+        → Stands all (body q) → Good q → Good (body q))
+        → ValidCondition program table f c → option_need c ≤ slots → ValidOptional program table f last → option_need last ≤ slots
+        → Stands all (loop_code program (plain_table table) c last l body rest) → Good rest → (count (l + 3) all ≡ 1) × Good
+        (loop_code program (plain_table table) c last l body rest)
+    loop_ok c last l body rest behind_body body_ok vc lc vl ll s r =
         let end : List PlainIr = jump l ∷ label (l + 1) ∷ rest in
         let q : List PlainIr = label (l + 2) ∷ last_code program (plain_table table) last (l + 4 + optional_labels c) end in
         let t = test_code program (plain_table table) c (l + 1) (l + 4) (label (l + 3) ∷ body q) in
@@ -102,117 +138,157 @@ module _ (program : PlainProgram) (table : IoTable) (valid : Valid program table
         let s3 = behind all (label (l + 3)) (body q) s2 in
         let s4 = behind_body q s3 in
         let s5 = behind all (label (l + 2)) (last_code program (plain_table table) last (l + 4 + optional_labels c) end) s4 in
-        let s6 = behind all (jump l) (label (l + 1) ∷ rest) (last_behind program (plain_table table) all last (l + 4 + optional_labels c) end s5) in
+        let s6 = behind all (jump l) (label (l + 1) ∷ rest) (last_behind program (plain_table table) all last (l + 4 + optional_labels c)
+        end s5) in
         let at_end = one (l + 1) rest s6 in
         let on = one (l + 2) (last_code program (plain_table table) last (l + 4 + optional_labels c) end) s4 in (
           one (l + 3) (body q) s2,
           (
             tt,
-            test_ok c (l + 1) (l + 4) (label (l + 3) ∷ body q) pc vc lc at_end s1
-                (tt, body_ok q at_end on s3 (tt, last_ok last (l + 4 + optional_labels c) end pl vl ll s5 (one l t s, (tt, r)))),
+            test_ok c (l + 1) (l + 4) (label (l + 3) ∷ body q) vc lc at_end s1
+                (tt, body_ok q at_end on s3 (tt, last_ok last (l + 4 + optional_labels c) end vl ll s5 (one l t s, (tt, r)))),
           ),
         )
 
     mutual
-      stmt_ok : (a : PlainStmt) (in_loop : Bool) (l lo lc : ℕ) (rest : List PlainIr) → IsStmt IsNumericOrVoid IsAnyFunction a → ValidStmt program table f returns in_loop a → stmt_need a ≤ slots → count lo all ≡ 1 → count lc all ≡ 1 → Stands all (stmt_code program (plain_table table) a l lo lc rest) → Good rest → Good (stmt_code program (plain_table table) a l lo lc rest)
-      stmt_ok (statement unit at kind) in_loop l lo lc rest p v le go gc s r = kind_ok kind in_loop l lo lc rest p v le go gc s r
+      stmt_ok : (a : PlainStmt) (in_loop : Bool) (l lo lc : ℕ) (rest : List PlainIr) → ValidStmt program table f returns in_loop a
+          → stmt_need a ≤ slots → count lo all ≡ 1 → count lc all ≡ 1 → Stands all (stmt_code program (plain_table table) a l lo lc rest)
+          → Good rest → Good (stmt_code program (plain_table table) a l lo lc rest)
+      stmt_ok (statement unit at kind) in_loop l lo lc rest v le go gc s r = kind_ok kind in_loop l lo lc rest v le go gc s r
 
-      kind_ok : (kind : PlainKind) (in_loop : Bool) (l lo lc : ℕ) (rest : List PlainIr) → IsKind IsNumericOrVoid IsAnyFunction kind → ValidKind program table f returns in_loop kind → kind_need kind ≤ slots → count lo all ≡ 1 → count lc all ≡ 1 → Stands all (kind_code program (plain_table table) kind l lo lc rest) → Good rest → Good (kind_code program (plain_table table) kind l lo lc rest)
-      kind_ok empty in_loop l lo lc rest p v le go gc s r = r
-      kind_ok (evaluate e) in_loop l lo lc rest p v le go gc s r = good e l rest p v le s r
-      kind_ok (block ss) in_loop l lo lc rest p v le go gc s r = stmts_ok ss in_loop l lo lc rest p v le go gc s r
-      kind_ok (declare o es) in_loop l lo lc rest p v le go gc s r = declared_ok o es l rest p v.0 v.1 le s r
-      kind_ok (branch c a no_stmt) in_loop l lo lc rest p v le go gc s r =
+      kind_ok : (kind : PlainKind) (in_loop : Bool) (l lo lc : ℕ) (rest : List PlainIr) → ValidKind program table f returns in_loop kind
+          → kind_need kind ≤ slots → count lo all ≡ 1 → count lc all ≡ 1
+          → Stands all (kind_code program (plain_table table) kind l lo lc rest) → Good rest
+          → Good (kind_code program (plain_table table) kind l lo lc rest)
+      kind_ok empty in_loop l lo lc rest v le go gc s r = r
+      kind_ok (evaluate e) in_loop l lo lc rest v le go gc s r = good e l rest v le s r
+      kind_ok (block ss) in_loop l lo lc rest v le go gc s r = stmts_ok ss in_loop l lo lc rest v le go gc s r
+      kind_ok (declare o es) in_loop l lo lc rest v le go gc s r = declared_ok o es l rest v.0 v.1 le s r
+      kind_ok (branch c a no_stmt) in_loop l lo lc rest v le go gc s r =
           let ac = stmt_code program (plain_table table) a (l + 2 + expr_labels c) lo lc (label l ∷ rest) in
-          let s1 = behind all (branch_zero (temp 0 (type_of_expr c)) l) ac (expr_behind program (plain_table table) all c (l + 2) 0 (branch_zero (temp 0 (type_of_expr c)) l ∷ ac) s) in
+          let s1 = behind all (branch_zero (temp 0 (type_of_expr c)) l) ac (expr_behind program (plain_table table) all c (l + 2) 0
+          (branch_zero (temp 0 (type_of_expr c)) l ∷ ac) s) in
           let s2 = stmt_behind program (plain_table table) all a (l + 2 + expr_labels c) lo lc (label l ∷ rest) s1 in
-          condition_ok c (l + 2) l ac p.0 v.0 (omega (arith, le)) (one l rest s2) s
-          (stmt_ok a in_loop (l + 2 + expr_labels c) lo lc (label l ∷ rest) p.1 v.1 (omega (arith, le)) go gc s1 (tt, r))
-      kind_ok (branch c a (a_stmt b)) in_loop l lo lc rest p v le go gc s r =
+          condition_ok c (l + 2) l ac v.0 (omega (arith, le)) (one l rest s2) s
+          (stmt_ok a in_loop (l + 2 + expr_labels c) lo lc (label l ∷ rest) v.1 (omega (arith, le)) go gc s1 (tt, r))
+      kind_ok (branch c a (a_stmt b)) in_loop l lo lc rest v le go gc s r =
           let lb = l + 2 + expr_labels c + stmt_labels a in
           let bc = stmt_code program (plain_table table) b lb lo lc (label (l + 1) ∷ rest) in
           let q : List PlainIr = jump (l + 1) ∷ label l ∷ bc in
           let ac = stmt_code program (plain_table table) a (l + 2 + expr_labels c) lo lc q in
-          let s1 = behind all (branch_zero (temp 0 (type_of_expr c)) l) ac (expr_behind program (plain_table table) all c (l + 2) 0 (branch_zero (temp 0 (type_of_expr c)) l ∷ ac) s) in
-          let s2 = behind all (jump (l + 1)) (label l ∷ bc) (stmt_behind program (plain_table table) all a (l + 2 + expr_labels c) lo lc q s1) in
+          let s1 = behind all (branch_zero (temp 0 (type_of_expr c)) l) ac (expr_behind program (plain_table table) all c (l + 2) 0
+          (branch_zero (temp 0 (type_of_expr c)) l ∷ ac) s) in
+          let s2 = behind all (jump (l + 1)) (label l ∷ bc) (stmt_behind program (plain_table table) all a (l + 2 + expr_labels c) lo lc q
+          s1) in
           let s3 = behind all (label l) bc s2 in
           let s4 = stmt_behind program (plain_table table) all b lb lo lc (label (l + 1) ∷ rest) s3 in
-          condition_ok c (l + 2) l ac p.0 v.0 (omega (arith, le)) (one l bc s2) s
-          (stmt_ok a in_loop (l + 2 + expr_labels c) lo lc q p.1 v.1 (omega (arith, le)) go gc s1
-          (one (l + 1) rest s4, (tt, stmt_ok b in_loop lb lo lc (label (l + 1) ∷ rest) p.2 v.2 (omega (arith, le)) go gc s3 (tt, r))))
-      kind_ok (while_loop c a) in_loop l lo lc rest p v le go gc s r =
-          (loop_ok (Some c) None l (λ q. stmt_code program (plain_table table) a (l + 4 + expr_labels c) (l + 1) (l + 2) q) rest (λ q h. stmt_behind program (plain_table table) all a (l + 4 + expr_labels c) (l + 1) (l + 2) q h)
-          (λ q x y h g. stmt_ok a true (l + 4 + expr_labels c) (l + 1) (l + 2) q p.1 v.1 (omega (arith, le)) x y h g) p.0 v.0 (omega (arith, le)) tt tt (omega arith) s r).1
-      kind_ok (do_loop a c) in_loop l lo lc rest p v le go gc s r =
-          let h = loop_ok (Some c) None l (λ q. stmt_code program (plain_table table) a (l + 4 + expr_labels c) (l + 1) (l + 2) q) rest (λ q h. stmt_behind program (plain_table table) all a (l + 4 + expr_labels c) (l + 1) (l + 2) q h)
-          (λ q x y h g. stmt_ok a true (l + 4 + expr_labels c) (l + 1) (l + 2) q p.0 v.0 (omega (arith, le)) x y h g) p.1 v.1 (omega (arith, le)) tt tt (omega arith) (behind all (jump (l + 3)) _ s) r in
+          condition_ok c (l + 2) l ac v.0 (omega (arith, le)) (one l bc s2) s
+          (stmt_ok a in_loop (l + 2 + expr_labels c) lo lc q v.1 (omega (arith, le)) go gc s1
+          (one (l + 1) rest s4, (tt, stmt_ok b in_loop lb lo lc (label (l + 1) ∷ rest) v.2 (omega (arith, le)) go gc s3 (tt, r))))
+      kind_ok (while_loop c a) in_loop l lo lc rest v le go gc s r =
+          (loop_ok (Some c) None l (λ q. stmt_code program (plain_table table) a (l + 4 + expr_labels c) (l + 1) (l + 2) q) rest
+          (λ q h. stmt_behind program (plain_table table) all a (l + 4 + expr_labels c) (l + 1) (l + 2) q h)
+          (λ q x y h g. stmt_ok a true (l + 4 + expr_labels c) (l + 1) (l + 2) q v.1 (omega (arith, le)) x y h g) v.0 (omega (arith, le)) tt
+          (omega arith) s r).1
+      kind_ok (do_loop a c) in_loop l lo lc rest v le go gc s r =
+          let h = loop_ok (Some c) None l (λ q. stmt_code program (plain_table table) a (l + 4 + expr_labels c) (l + 1) (l + 2) q) rest
+          (λ q h. stmt_behind program (plain_table table) all a (l + 4 + expr_labels c) (l + 1) (l + 2) q h)
+          (λ q x y h g. stmt_ok a true (l + 4 + expr_labels c) (l + 1) (l + 2) q v.0 (omega (arith, le)) x y h g) v.1 (omega (arith, le)) tt
+          (omega arith) (behind all (jump (l + 3)) _ s) r in
           (h.0, h.1)
-      kind_ok (for_loop first c last a) in_loop l lo lc rest p v le go gc s r =
+      kind_ok (for_loop first c last a) in_loop l lo lc rest v le go gc s r =
           let k = l + option_stmt_labels first in
-          let body : List PlainIr → List PlainIr = λ q. stmt_code program (plain_table table) a (k + 4 + optional_labels c + optional_labels last) (k + 1) (k + 2) q in
+          let body : List PlainIr → List PlainIr = λ q. stmt_code program (plain_table table) a
+          (k + 4 + optional_labels c + optional_labels last) (k + 1) (k + 2) q in
           let loop = loop_code program (plain_table table) c last k body rest in
           let s1 = option_behind program (plain_table table) all first l lo lc loop s in
-          option_ok first in_loop l lo lc loop p.0 v.0 (omega (arith, le)) go gc s
-          (loop_ok c last k body rest (λ q h. stmt_behind program (plain_table table) all a (k + 4 + optional_labels c + optional_labels last) (k + 1) (k + 2) q h)
-          (λ q x y h g. stmt_ok a true (k + 4 + optional_labels c + optional_labels last) (k + 1) (k + 2) q p.3 v.3 (omega (arith, le)) x y h g) p.1 v.1 (omega (arith, le)) p.2 v.2 (omega (arith, le)) s1 r).1
-      kind_ok break_loop in_loop l lo lc rest p v le go gc s r = (go, r)
-      kind_ok continue_loop in_loop l lo lc rest p v le go gc s r = (gc, r)
-      kind_ok (return_value None) in_loop l lo lc rest p v le go gc s r = (tt, r)
-      kind_ok (return_value (Some e)) in_loop l lo lc rest p v le go gc s r =
+          option_ok first in_loop l lo lc loop v.0 (omega (arith, le)) go gc s
+          (loop_ok c last k body rest (λ q h. stmt_behind program (plain_table table) all a
+          (k + 4 + optional_labels c + optional_labels last) (k + 1) (k + 2) q h)
+          (λ q x y h g. stmt_ok a true (k + 4 + optional_labels c + optional_labels last) (k + 1) (k + 2) q v.3 (omega (arith, le)) x y h g)
+          v.1 (omega (arith, le)) v.2 (omega (arith, le)) s1 r).1
+      kind_ok break_loop in_loop l lo lc rest v le go gc s r = (go, r)
+      kind_ok continue_loop in_loop l lo lc rest v le go gc s r = (gc, r)
+      kind_ok (return_value None) in_loop l lo lc rest v le go gc s r = (tt, r)
+      kind_ok (return_value (Some e)) in_loop l lo lc rest v le go gc s r =
           let is : IsScalar (type_of_expr e) = subst IsScalar (sym v.0.1) (scalar v.0.0) in
           let need = some_need e in
-          good e l (return_from (Some (temp 0 (type_of_expr e))) ∷ rest) p v.1 (omega (arith, le)) s
-          ((temp_ok program table valid pairs f slots all once 0 (type_of_expr e) (omega (arith, le, need)) is, ap scalar_size v.0.1 ∙ sym bytes), r)
+          good e l (return_from (Some (temp 0 (type_of_expr e))) ∷ rest) v.1 (omega (arith, le)) s (
+            (
+              temp_ok program table valid pairs f slots all once 0 (type_of_expr e) (omega (arith, le, need)) is,
+              ap scalar_size v.0.1
+                  ∙ sym bytes,
+            ),
+            r,
+          )
 
-      option_ok : (a : OptionPlainStmt) (in_loop : Bool) (l lo lc : ℕ) (rest : List PlainIr) → IsOptionStmt IsNumericOrVoid IsAnyFunction a → ValidOptionStmt program table f returns in_loop a → option_stmt_need a ≤ slots → count lo all ≡ 1 → count lc all ≡ 1 → Stands all (option_stmt_code program (plain_table table) a l lo lc rest) → Good rest → Good (option_stmt_code program (plain_table table) a l lo lc rest)
-      option_ok no_stmt in_loop l lo lc rest p v le go gc s r = r
-      option_ok (a_stmt a) in_loop l lo lc rest p v le go gc s r = stmt_ok a in_loop l lo lc rest p v le go gc s r
+      option_ok : (a : OptionPlainStmt) (in_loop : Bool) (l lo lc : ℕ) (rest : List PlainIr)
+          → ValidOptionStmt program table f returns in_loop a → option_stmt_need a ≤ slots → count lo all ≡ 1 → count lc all ≡ 1
+          → Stands all (option_stmt_code program (plain_table table) a l lo lc rest) → Good rest
+          → Good (option_stmt_code program (plain_table table) a l lo lc rest)
+      option_ok no_stmt in_loop l lo lc rest v le go gc s r = r
+      option_ok (a_stmt a) in_loop l lo lc rest v le go gc s r = stmt_ok a in_loop l lo lc rest v le go gc s r
 
-      stmts_ok : (ss : PlainStmts) (in_loop : Bool) (l lo lc : ℕ) (rest : List PlainIr) → AreStmts IsNumericOrVoid IsAnyFunction ss → ValidStmts program table f returns in_loop ss → stmts_need ss ≤ slots → count lo all ≡ 1 → count lc all ≡ 1 → Stands all (stmts_code program (plain_table table) ss l lo lc rest) → Good rest → Good (stmts_code program (plain_table table) ss l lo lc rest)
-      stmts_ok last_stmt in_loop l lo lc rest p v le go gc s r = r
-      stmts_ok (next_stmt a ss) in_loop l lo lc rest p v le go gc s r =
+      stmts_ok : (ss : PlainStmts) (in_loop : Bool) (l lo lc : ℕ) (rest : List PlainIr) → ValidStmts program table f returns in_loop ss
+          → stmts_need ss ≤ slots → count lo all ≡ 1 → count lc all ≡ 1
+          → Stands all (stmts_code program (plain_table table) ss l lo lc rest) → Good rest
+          → Good (stmts_code program (plain_table table) ss l lo lc rest)
+      stmts_ok last_stmt in_loop l lo lc rest v le go gc s r = r
+      stmts_ok (next_stmt a ss) in_loop l lo lc rest v le go gc s r =
           let q = stmts_code program (plain_table table) ss (l + stmt_labels a) lo lc rest in
-          stmt_ok a in_loop l lo lc q p.0 v.0 (omega (arith, le)) go gc s
-          (stmts_ok ss in_loop (l + stmt_labels a) lo lc rest p.1 v.1 (omega (arith, le)) go gc (stmt_behind program (plain_table table) all a l lo lc q s) r)
+          stmt_ok a in_loop l lo lc q v.0 (omega (arith, le)) go gc s
+          (stmts_ok ss in_loop (l + stmt_labels a) lo lc rest v.1 (omega (arith, le)) go gc
+          (stmt_behind program (plain_table table) all a l lo lc q s) r)
 
 -- ---- functions and the program
 
 module _ (program : PlainProgram) (table : IoTable) (valid : Valid program table) (pairs : GroupsHaveBytes table) where
-  function_ok : (f : ℕ) (h : PlainFunction) → slice_get program.functions f ≡ Some h → IsStmt IsNumericOrVoid IsAnyFunction h.body → IsFunction program table f h → ValidIrFunction (lowered program (plain_table table)) (result_bytes program) f (lowered_function program (plain_table table) h)
-  function_ok f h e p g =
+  function_ok : (f : ℕ) (h : PlainFunction) → slice_get program.functions f ≡ Some h → IsFunction program table f h
+      → ValidIrFunction (lowered program (plain_table table)) (result_bytes program) f (lowered_function program (plain_table table) h)
+  function_ok f h e g =
       record {
         slots = g.need;
-        code = stmt_ok program table valid pairs f (stmt_need h.body) (function_code program (plain_table table) h) (function_counts program (plain_table table) h) h.returns (result_scalar h.returns g.returns) bytes h.body false 1 0 0 (label 0 ∷ end_code) p g.body (omega arith) last last whole (tt, (tt, tt));
+        code = stmt_ok program table valid pairs f (stmt_need h.body) (function_code program (plain_table table) h)
+            (function_counts program (plain_table table) h) h.returns (result_scalar h.returns g.returns) bytes h.body false 1 0 0
+            (label 0 ∷ end_code) g.body (omega arith) last last whole (tt, (tt, tt));
       }
     where
       whole : Stands (function_code program (plain_table table) h) (stmt_code program (plain_table table) h.body 1 0 0 (label 0 ∷ end_code))
       whole = ([], refl)
 
       last : count 0 (function_code program (plain_table table) h) ≡ 1
-      last = one program table valid pairs f (stmt_need h.body) (function_code program (plain_table table) h) (function_counts program (plain_table table) h) 0 end_code (stmt_behind program (plain_table table) (function_code program (plain_table table) h) h.body 1 0 0 (label 0 ∷ end_code) whole)
+      last = one program table valid pairs f (stmt_need h.body) (function_code program (plain_table table) h)
+          (function_counts program (plain_table table) h) 0 end_code (stmt_behind program (plain_table table)
+          (function_code program (plain_table table) h) h.body 1 0 0 (label 0 ∷ end_code) whole)
 
       bytes : result_bytes program f ≡ scalar_size h.returns
       bytes = ap (λ z. unwrap_or (option_map (λ (h : PlainFunction). scalar_size h.returns) z) 0) e
 
-  functions_ok : (n : ℕ) (hs : List PlainFunction) → ((i : ℕ) (h : PlainFunction) → slice_get hs i ≡ Some h → slice_get program.functions (n + i) ≡ Some h) → AllByRecursion (λ h. IsStmt IsNumericOrVoid IsAnyFunction h.body) hs → EachFrom n (IsFunction program table) hs → EachFrom n (ValidIrFunction (lowered program (plain_table table)) (result_bytes program)) (map (lowered_function program (plain_table table)) hs)
-  functions_ok n [] at p v = tt
-  functions_ok n (h ∷ hs) at p v = (
-    function_ok n h (ap (slice_get program.functions) (let z : n ≡ n + 0 = omega arith in z) ∙ at 0 h refl) p.0 v.0,
-    functions_ok (n + 1) hs (λ i x e. ap (slice_get program.functions) (let z : n + 1 + i ≡ n + suc i = omega arith in z) ∙ at (suc i) x e) p.1 v.1,
+  functions_ok : (n : ℕ) (hs : List PlainFunction) → ((i : ℕ) (h : PlainFunction) → slice_get hs i ≡ Some h → slice_get program.functions
+      (n + i) ≡ Some h) → EachFrom n (IsFunction program table) hs → EachFrom n (ValidIrFunction (lowered program (plain_table table))
+      (result_bytes program)) (map (lowered_function program (plain_table table)) hs)
+  functions_ok n [] at v = tt
+  functions_ok n (h ∷ hs) at v = (
+    function_ok n h (ap (slice_get program.functions) (let z : n ≡ n + 0 = omega arith in z) ∙ at 0 h refl) v.0,
+    functions_ok (n + 1) hs (λ i x e. ap (slice_get program.functions) (let z : n + 1 + i ≡ n + suc i = omega arith in z) ∙ at (suc i) x e)
+        v.1,
   )
 
   -- the objects are those of a program whose functions do nothing
-  initial_values : (ls : List PlainLeaf) (inits : List LeafInit) → AreInitialValues program ls inits → AreInitialValues (data_of (lowered program (plain_table table))) ls inits
+  initial_values : (ls : List PlainLeaf) (inits : List LeafInit) → AreInitialValues program ls inits
+      → AreInitialValues (data_of (lowered program (plain_table table))) ls inits
   initial_values [] [] h = h
   initial_values [] (i ∷ is) h = absurd h
   initial_values (leaf ∷ ls) [] h = absurd h
   initial_values (leaf ∷ ls) (i ∷ is) h = (initial leaf.ty i h.0, initial_values ls is h.1)
     where
-      initial : (ty : PlainType) (i : LeafInit) → IsInitialValue program ty i → IsInitialValue (data_of (lowered program (plain_table table))) ty i
+      initial : (ty : PlainType) (i : LeafInit) → IsInitialValue program ty i
+          → IsInitialValue (data_of (lowered program (plain_table table))) ty i
       initial ty i h = h
 
   lengths : length (data_of (lowered program (plain_table table))).functions ≡ length program.functions
-  lengths = length-map (map (lowered_function program (plain_table table)) program.functions) idle_function ∙ length-map program.functions (lowered_function program (plain_table table))
+  lengths = length-map (map (lowered_function program (plain_table table)) program.functions) idle_function ∙ length-map program.functions
+      (lowered_function program (plain_table table))
 
   storage_ok : (o : PlainObject) (st : PlainStorage) → IsStored program o st → IsStored (data_of (lowered program (plain_table table))) o st
   storage_ok o (static inits) h = initial_values (leaves_of_type program.structs o.ty) inits h
@@ -220,19 +296,30 @@ module _ (program : PlainProgram) (table : IoTable) (valid : Valid program table
   storage_ok o (param g) h = let n = lengths in let lt = h.0 in (omega (arith, lt, n), h.1, h.2)
   storage_ok o (register r) h = record { arithmetic = h.arithmetic; low = h.low; high = h.high; home = h.home }
 
-  objects_ok : (os : List PlainObject) → AllByRecursion (IsObject program) os → AllByRecursion (IsObject (data_of (lowered program (plain_table table)))) os
+  objects_ok : (os : List PlainObject) → AllByRecursion (IsObject program) os
+      → AllByRecursion (IsObject (data_of (lowered program (plain_table table)))) os
   objects_ok [] h = tt
-  objects_ok (o ∷ os) h = (record { ty = h.0.ty; some = h.0.some; small = h.0.small; home = h.0.home; storage = storage_ok o o.storage h.0.storage }, objects_ok os h.1)
+  objects_ok (o ∷ os) h = (
+    record {
+      ty = h.0.ty;
+      some = h.0.some;
+      small = h.0.small;
+      home = h.0.home;
+      storage = storage_ok o o.storage h.0.storage;
+    },
+    objects_ok os h.1,
+  )
 
-  pub lowered_is_valid : IsLowered program → ValidIr (lowered program (plain_table table))
-  lowered_is_valid p =
+  pub lowered_is_valid : ValidIr (lowered program (plain_table table))
+  lowered_is_valid =
       record {
         structs = valid.structs;
         objects = objects_ok program.objects valid.objects;
         registers = valid.registers;
         externals = valid.externals;
         results = result_bytes program;
-        functions = functions_ok 0 program.functions (λ i h e. ap (slice_get program.functions) (let z : 0 + i ≡ i = omega arith in z) ∙ e) p valid.functions;
+        functions = functions_ok 0 program.functions (λ i h e. ap (slice_get program.functions) (let z : 0 + i ≡ i = omega arith in z)
+            ∙ e) valid.functions;
         main = omega (arith, within, same);
         main_result = ap (λ z. unwrap_or (option_map (λ (h : PlainFunction). scalar_size h.returns) z) 0) main.1 ∙ ap scalar_size main.2.1;
         no_recursion = λ f c. valid.no_recursion f (reached_source program (plain_table table) f f c);

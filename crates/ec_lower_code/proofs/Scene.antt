@@ -1,6 +1,6 @@
 -- A program beside its operations: what is the same throughout a run, and what is the same throughout a call.
 use Rattle.std.proofs.Common.{◌≡◌, ℕ, ◌+◌, ◌*◌, List, [], ◌∷◌, Some}
-use Rattle.std.specs.Prelude.{⊤, ◌≢◌, slice_get}
+use Rattle.std.specs.Prelude.{⊤, slice_get}
 use Rattle.ec_iohw.specs.declared.table.IoTable.{IoTable}
 use Rattle.ec_core.specs.declared.values.Value.{Value}
 use Rattle.ec_core.specs.Expressions.{Calls}
@@ -21,7 +21,6 @@ use Rattle.ec_ir.specs.Operations.{PlainIr, call_function, data_of}
 use Rattle.ec_ir.specs.Temporaries.{Temps}
 use Rattle.ec_lower_code.specs.Code.{result_temp, params_code, lowered}
 use Rattle.ec_lower_code.specs.Correct.{GroupsHaveBytes}
-use Rattle.ec_lower_code.specs.Parts.{IsLowered}
 use Rattle.ec_lower_code.proofs.Callees.{IsOther}
 use Rattle.ec_lower_code.proofs.Homes.{AreApart}
 use Rattle.ec_lower_code.proofs.Ops.{to_rest, HasValue, Below}
@@ -35,7 +34,6 @@ pub record World : Type 0 where
   pub valid : Valid program io
   pub pairs : GroupsHaveBytes io
   pub bytes : GiveBytes inputs
-  pub parts : IsLowered program
   pub n : ℕ
 
 module _ (x : World) where
@@ -72,15 +70,19 @@ module _ (x : World) where
   AreHeld last_expr [] t temps = ⊤
   AreHeld last_expr (v ∷ vs) t temps = ⊥
   AreHeld (next_expr e es) [] t temps = ⊥
-  AreHeld (next_expr e es) (v ∷ vs) t temps = (IsScalar (type_of_expr e) → temps t ≡ Some (held_of (type_of_expr e) v)) × HasType x.program (type_of_expr e) v × AreHeld es vs (t + 1) temps
+  AreHeld (next_expr e es) (v ∷ vs) t temps = (IsScalar (type_of_expr e) → temps t ≡ Some (held_of (type_of_expr e) v)) × HasType x.program
+      (type_of_expr e) v × AreHeld es vs (t + 1) temps
 
   -- The operations of a call of a function other than main, from the arguments on, do what it does. It is paid by its row
   abbrev pub Callee : ℕ → Type 0
   Callee depth =
       (g : ℕ) (f : PlainFunction) → slice_get x.program.functions g ≡ Some f → IsOther x.program g
-      → (code : List PlainIr) (stack : List Frame) (es : PlainExprs) (vs : List Value) (t d : ℕ) (b : Temps) (rest : List PlainIr) (s : State) (m : Mach)
-      → AreArguments x.program f.params es → AreHeld es vs t m.temps → Match homes (d + (60 + 10 * (total_size es + scalar_size f.returns))) s m → IsTypedState x.program s → Below (spot code stack) t b m
-      → Runs (spot code stack) x.n (params_code f.params es t (call_function g (result_temp t f.returns) ∷ rest)) m (to_rest (spot code stack) rest) (HasValue (spot code stack) f.returns t d b) (calls_to depth g vs s)
+      → (code : List PlainIr) (stack : List Frame) (es : PlainExprs) (vs : List Value) (t d : ℕ) (b : Temps) (rest : List PlainIr)
+      (s : State) (m : Mach)
+      → AreArguments x.program f.params es → AreHeld es vs t m.temps → Match homes (d + (60 + 10 * (total_size es + scalar_size f.returns)))
+      s m → IsTypedState x.program s → Below (spot code stack) t b m
+      → Runs (spot code stack) x.n (params_code f.params es t (call_function g (result_temp t f.returns) ∷ rest)) m
+      (to_rest (spot code stack) rest) (HasValue (spot code stack) f.returns t d b) (calls_to depth g vs s)
 
   pub record Scene : Type 0 where
     pub depth : ℕ

@@ -3,11 +3,9 @@ use Rattle.std.specs.Prelude.{⊤, ◌≡◌, ℕ, ◌+◌, ◌*◌, ◌≤◌, 
 use Rattle.ec_core.specs.declared.values.ObjectPointer.{ObjectPointer}
 use Rattle.ec_core.specs.declared.values.Value.{Value}
 use Rattle.ec_core.specs.declared.values.Value.TheVariants.{Number, Pointer}
-use Rattle.ec_core.specs.declared.arithmetic_types.Arithmetic.TheVariants.{Integer, Fixed}
 use Rattle.ec_core.specs.Accesses.{leaf_count, leaf_of}
-use Rattle.ec_core.specs.ArithmeticValues.{HoldsNumber}
 use Rattle.ec_core.specs.Layout.{scalar_size}
-use Rattle.ec_core.specs.Plain.{PlainType, void, integer, fixed, pointer, array, struct, PlainObject, PlainProgram}
+use Rattle.ec_core.specs.Plain.{PlainType, PlainObject, PlainProgram}
 use Rattle.ec_core.specs.State.{ObjectState, State}
 use Rattle.ec_ir.specs.Meaning.{Mach}
 use Rattle.ec_ir.specs.Temporaries.{Held, content_of}
@@ -22,18 +20,6 @@ shown (Pointer p) = Pointer (option_map erased p)
 -- a value of a type in a temporary
 abbrev pub held_of : PlainType → Value → Held
 held_of ty v = record { bytes = scalar_size ty; content = content_of (scalar_size ty) (shown v) }
-
--- a number of the type, or any pointer where it is that of pointers
-abbrev pub IsValueOf : PlainType → Value → Type 0
-IsValueOf void v = ⊤
-IsValueOf (integer signed bytes) (Number n) = HoldsNumber (Integer (record { signed = signed; bytes = bytes })) n
-IsValueOf (integer signed bytes) (Pointer p) = ⊥
-IsValueOf (fixed kind saturates) (Number n) = HoldsNumber (Fixed (record { kind = kind; sat = saturates })) n
-IsValueOf (fixed kind saturates) (Pointer p) = ⊥
-IsValueOf (pointer space const to) (Number n) = ⊥
-IsValueOf (pointer space const to) (Pointer p) = ⊤
-IsValueOf (array of len) v = ⊥
-IsValueOf (struct index) v = ⊥
 
 -- the home of an object beside its newest instance: it has each value that is set there
 pub record IsShown (leaves : ℕ) (x y : ObjectState) : Type 0 where

@@ -1,5 +1,6 @@
 -- How statements are left, and the initialisation of objects.
-use Rattle.std.proofs.Common.{◌≡◌, ◌≢◌, ℕ, suc, ◌+◌, ◌*◌, ◌≤◌, false, ◌&&◌, List, [], ◌∷◌, Option, Some, None, refl, sym, ap, ◌∙◌, subst, arith}
+use Rattle.std.proofs.Common.{◌≡◌, ◌≢◌, ℕ, suc, ◌+◌, ◌*◌, ◌≤◌, false, ◌&&◌, List, [], ◌∷◌, Option, Some, None, refl, sym, ap}
+use Rattle.std.proofs.Common.{◌∙◌, subst, arith}
 use Rattle.std.specs.Prelude.{⊤, slice_get, option_map, unwrap_or}
 use Rattle.ec_space.specs.declared.space.SpaceId.TheVariants.{Flash}
 use Rattle.ec_space.specs.Spaces.{holds}
@@ -20,17 +21,15 @@ use Rattle.ec_ir.specs.Meaning.{Mach, machine, Frame, access_at}
 use Rattle.ec_ir.specs.Operations.{PlainIr, store_object, return_from}
 use Rattle.ec_ir.specs.Temporaries.{Temps}
 use Rattle.ec_lower_code.specs.Code.{temp, expr_labels, expr_code, init_code}
-use Rattle.ec_lower_code.specs.Parts.{IsNumericOrVoid, IsExpr, AreExprs}
-use Rattle.ec_lower_code.proofs.Callees.{IsOther}
+use Rattle.ec_lower_code.proofs.Callees.{IsOther, CallsOfExpr, CallsOfExprs}
 use Rattle.ec_lower_code.proofs.Behind.{expr_behind}
 use Rattle.ec_lower_code.proofs.Expressions.{W, value, Has, expr_runs}
 use Rattle.ec_lower_code.proofs.Homes.{HasLeaf}
-use Rattle.ec_lower_code.proofs.Numbers.{value_of_type}
 use Rattle.ec_lower_code.proofs.Objects.{change_one, renew_one, end_one}
 use Rattle.ec_lower_code.proofs.Ops.{to_rest, store_match, store_comes}
 use Rattle.ec_lower_code.proofs.Pays.{simple_pays}
 use Rattle.ec_lower_code.proofs.Scene.{World, ports, homes, set, calls_to, spot, law, apart, Scene}
-use Rattle.ec_lower_code.proofs.Shown.{held_of, IsValueOf, Match}
+use Rattle.ec_lower_code.proofs.Shown.{held_of, Match}
 use Rattle.ec_lower_code.proofs.Steps.{Target, at, Stands, behind, here, Comes, Does, stays, after, bind, ends, credited, less}
 
 -- where the function returns to, and what holds there
@@ -40,12 +39,17 @@ pub record Returns (wd : World) (sc : Scene wd) : Type 1 where
   pub back : Option Value → Target
   pub Back : Option Value → Mach → Type 0
   pub none : returns ≡ void → (rest : List PlainIr) (m : Mach)
-      → (u : Mach) × (u.state ≡ worked (op_steps (return_from None)) m.state) × Back None u × Comes (W wd sc) (here (W wd sc) (return_from None ∷ rest)) m (back None) u
-  pub some : (v : Value) → IsScalar returns → IsValueOf returns v → (rest : List PlainIr) (m : Mach) → m.temps 0 ≡ Some (held_of returns v)
-      → (u : Mach) × (u.state ≡ worked (op_steps (return_from (Some (temp 0 returns)))) m.state) × Back (Some v) u × Comes (W wd sc) (here (W wd sc) (return_from (Some (temp 0 returns)) ∷ rest)) m (back (Some v)) u
+      → (u : Mach) × (u.state ≡ worked (op_steps (return_from None)) m.state) × Back None u × Comes (W wd sc)
+      (here (W wd sc) (return_from None ∷ rest)) m (back None) u
+  pub some : (v : Value) → IsScalar returns → HasType (homes wd) returns v → (rest : List PlainIr) (m : Mach)
+      → m.temps 0 ≡ Some (held_of returns v)
+      → (u : Mach) × (u.state ≡ worked (op_steps (return_from (Some (temp 0 returns)))) m.state) × Back (Some v) u × Comes (W wd sc)
+      (here (W wd sc) (return_from (Some (temp 0 returns)) ∷ rest)) m (back (Some v)) u
 
-pub match_state : (program : PlainProgram) (d : ℕ) (s : State) (temps : Temps) (t : State) (u : Mach) → u.state ≡ t → Match program d s (machine temps t) → Match program d s u
-match_state program d s temps t u e h = subst (λ (z : State). Match program d s (machine u.temps z)) (sym e) (record { objects = h.objects; events = h.events; spent = h.spent })
+pub match_state : (program : PlainProgram) (d : ℕ) (s : State) (temps : Temps) (t : State) (u : Mach) → u.state ≡ t
+    → Match program d s (machine temps t) → Match program d s u
+match_state program d s temps t u e h = subst (λ (z : State). Match program d s (machine u.temps z)) (sym e)
+    (record { objects = h.objects; events = h.events; spent = h.spent })
 
 module _ (wd : World) (sc : Scene wd) (ret : Returns wd sc) where
   abbrev pub Back : Exit → Mach → Type 0
@@ -76,31 +80,44 @@ module _ (wd : World) (sc : Scene wd) (ret : Returns wd sc) where
   abbrev pub Typed : ℕ → List PlainIr → Mach → (rest out on : List PlainIr) → ℕ → Outcome Exit → Type 0
   Typed k p m rest out on d o = Does (W wd sc) k (here (W wd sc) p) m (left_to rest out on) (Kept d) o
 
-  pub typed_way : (P : Exit → Type 0) (k : ℕ) (p : List PlainIr) (m : Mach) (rest out on : List PlainIr) (d : ℕ) (o : Outcome Exit) → IsSoundOutcome wd.program P o → Way k p m rest out on d o → Typed k p m rest out on d o
+  pub typed_way : (P : Exit → Type 0) (k : ℕ) (p : List PlainIr) (m : Mach) (rest out on : List PlainIr) (d : ℕ) (o : Outcome Exit)
+      → IsSoundOutcome wd.program P o → Way k p m rest out on d o → Typed k p m rest out on d o
   typed_way P k p m rest out on d (got e s) h r = (r.0, record { left = r.1; state = h.1 }, r.2)
   typed_way P k p m rest out on d (more s) h r = r
   typed_way P k p m rest out on d (undefined point s) h r = tt
 
   -- left at its end
-  pub at_rest : (d : ℕ) (rest out on : List PlainIr) (k : ℕ) (s : State) (m : Mach) → Match (homes wd) d s m → Way k rest m rest out on d (got at_end s)
+  pub at_rest : (d : ℕ) (rest out on : List PlainIr) (k : ℕ) (s : State) (m : Mach) → Match (homes wd) d s m → Way k rest m rest out on d
+      (got at_end s)
   at_rest d rest out on k s m h = (m, record { match = h; back = tt }, stays (W wd sc) (here (W wd sc) rest) m)
 
   less_left : (d e : ℕ) (x : Exit) (s : State) (u : Mach) → d ≤ e → Left e x s u → Left d x s u
   less_left d e x s u le h = record { match = less (homes wd) e d s u le h.match; back = h.back }
 
   -- from where a statement was left
-  pub bind_exit : (k e d : ℕ) (p : List PlainIr) (m : Mach) (r1 o1 c1 r2 o2 c2 : List PlainIr) (o : Outcome Exit) (go : Exit → State → Outcome Exit) → d ≤ e → ((v : Option Value) (s : State) → go (by_return v) s ≡ got (by_return v) s) → Typed k p m r1 o1 c1 e o
-      → ((s : State) (u : Mach) → Match (homes wd) e s u → IsTypedState wd.program s → Way k r1 u r2 o2 c2 d (go at_end s)) → ((s : State) (u : Mach) → Match (homes wd) e s u → IsTypedState wd.program s → Way k o1 u r2 o2 c2 d (go by_break s)) → ((s : State) (u : Mach) → Match (homes wd) e s u → IsTypedState wd.program s → Way k c1 u r2 o2 c2 d (go by_continue s)) → Way k p m r2 o2 c2 d (next o go)
-  bind_exit k e d p m r1 o1 c1 r2 o2 c2 (got at_end s) go le ret2 h f g i = after (W wd sc) (left_to r2 o2 c2) (Left d) k (here (W wd sc) p) (here (W wd sc) r1) m h.0 (go at_end s) h.2 (f s h.0 h.1.left.match h.1.state)
-  bind_exit k e d p m r1 o1 c1 r2 o2 c2 (got by_break s) go le ret2 h f g i = after (W wd sc) (left_to r2 o2 c2) (Left d) k (here (W wd sc) p) (here (W wd sc) o1) m h.0 (go by_break s) h.2 (g s h.0 h.1.left.match h.1.state)
-  bind_exit k e d p m r1 o1 c1 r2 o2 c2 (got by_continue s) go le ret2 h f g i = after (W wd sc) (left_to r2 o2 c2) (Left d) k (here (W wd sc) p) (here (W wd sc) c1) m h.0 (go by_continue s) h.2 (i s h.0 h.1.left.match h.1.state)
-  bind_exit k e d p m r1 o1 c1 r2 o2 c2 (got (by_return v) s) go le ret2 h f g i = subst (Way k p m r2 o2 c2 d) (sym (ret2 v s)) (h.0, less_left d e (by_return v) s h.0 le h.1.left, h.2)
+  pub bind_exit : (k e d : ℕ) (p : List PlainIr) (m : Mach) (r1 o1 c1 r2 o2 c2 : List PlainIr) (o : Outcome Exit) (go : Exit → State
+      → Outcome Exit) → d ≤ e → ((v : Option Value) (s : State) → go (by_return v) s ≡ got (by_return v) s) → Typed k p m r1 o1 c1 e o
+      → ((s : State) (u : Mach) → Match (homes wd) e s u → IsTypedState wd.program s → Way k r1 u r2 o2 c2 d (go at_end s))
+      → ((s : State) (u : Mach) → Match (homes wd) e s u → IsTypedState wd.program s → Way k o1 u r2 o2 c2 d (go by_break s))
+      → ((s : State) (u : Mach) → Match (homes wd) e s u → IsTypedState wd.program s → Way k c1 u r2 o2 c2 d (go by_continue s))
+      → Way k p m r2 o2 c2 d (next o go)
+  bind_exit k e d p m r1 o1 c1 r2 o2 c2 (got at_end s) go le ret2 h f g i = after (W wd sc) (left_to r2 o2 c2) (Left d) k (here (W wd sc) p)
+      (here (W wd sc) r1) m h.0 (go at_end s) h.2 (f s h.0 h.1.left.match h.1.state)
+  bind_exit k e d p m r1 o1 c1 r2 o2 c2 (got by_break s) go le ret2 h f g i = after (W wd sc) (left_to r2 o2 c2) (Left d) k
+      (here (W wd sc) p) (here (W wd sc) o1) m h.0 (go by_break s) h.2 (g s h.0 h.1.left.match h.1.state)
+  bind_exit k e d p m r1 o1 c1 r2 o2 c2 (got by_continue s) go le ret2 h f g i = after (W wd sc) (left_to r2 o2 c2) (Left d) k
+      (here (W wd sc) p) (here (W wd sc) c1) m h.0 (go by_continue s) h.2 (i s h.0 h.1.left.match h.1.state)
+  bind_exit k e d p m r1 o1 c1 r2 o2 c2 (got (by_return v) s) go le ret2 h f g i = subst (Way k p m r2 o2 c2 d) (sym (ret2 v s))
+      (h.0, less_left d e (by_return v) s h.0 le h.1.left, h.2)
   bind_exit k e d p m r1 o1 c1 r2 o2 c2 (more s) go le ret2 h f g i = h
   bind_exit k e d p m r1 o1 c1 r2 o2 c2 (undefined point s) go le ret2 h f g i = tt
 
   -- a statement whose end leads on to another place
-  pub joins : (k e d : ℕ) (p : List PlainIr) (m : Mach) (mid rest out on : List PlainIr) (o : Outcome Exit) → d ≤ e → Typed k p m mid out on e o → ((s : State) (u : Mach) → Match (homes wd) e s u → Way k mid u rest out on d (got at_end s)) → Way k p m rest out on d o
-  joins k e d p m mid rest out on (got at_end s) le h f = after (W wd sc) (left_to rest out on) (Left d) k (here (W wd sc) p) (here (W wd sc) mid) m h.0 (got at_end s) h.2 (f s h.0 h.1.left.match)
+  pub joins : (k e d : ℕ) (p : List PlainIr) (m : Mach) (mid rest out on : List PlainIr) (o : Outcome Exit) → d ≤ e
+      → Typed k p m mid out on e o → ((s : State) (u : Mach) → Match (homes wd) e s u → Way k mid u rest out on d (got at_end s))
+      → Way k p m rest out on d o
+  joins k e d p m mid rest out on (got at_end s) le h f = after (W wd sc) (left_to rest out on) (Left d) k (here (W wd sc) p)
+      (here (W wd sc) mid) m h.0 (got at_end s) h.2 (f s h.0 h.1.left.match)
   joins k e d p m mid rest out on (got by_break s) le h f = (h.0, less_left d e by_break s h.0 le h.1.left, h.2)
   joins k e d p m mid rest out on (got by_continue s) le h f = (h.0, less_left d e by_continue s h.0 le h.1.left, h.2)
   joins k e d p m mid rest out on (got (by_return v) s) le h f = (h.0, less_left d e (by_return v) s h.0 le h.1.left, h.2)
@@ -111,30 +128,49 @@ module _ (wd : World) (sc : Scene wd) (ret : Returns wd sc) where
 
   pub ended_match : (os : List ℕ) (d : ℕ) (s : State) (u : Mach) → Match (homes wd) d s u → Match (homes wd) d (all_ended os s) u
   ended_match [] d s u h = h
-  ended_match (o ∷ os) d s u h = ended_match os d (with_object o ended s) u (record { objects = change_one (homes wd) (homes wd).objects s.objects u.state.objects o ended (end_one (homes wd)) h.objects; events = h.events; spent = h.spent })
+  ended_match (o ∷ os) d s u h = ended_match os d (with_object o ended s) u
+      (record {
+        objects = change_one (homes wd) (homes wd).objects s.objects u.state.objects o ended (end_one (homes wd)) h.objects;
+        events = h.events;
+        spent = h.spent;
+      })
 
-  pub ending_runs : (k d : ℕ) (p : List PlainIr) (m : Mach) (rest out on : List PlainIr) (os : List ℕ) (o : Outcome Exit) → Way k p m rest out on d o → Way k p m rest out on d (ending os o)
+  pub ending_runs : (k d : ℕ) (p : List PlainIr) (m : Mach) (rest out on : List PlainIr) (os : List ℕ) (o : Outcome Exit)
+      → Way k p m rest out on d o → Way k p m rest out on d (ending os o)
   ending_runs k d p m rest out on os (got x s) h = (h.0, record { match = ended_match os d s h.0 h.1.match; back = h.1.back }, h.2)
   ending_runs k d p m rest out on os (more s) h = h
   ending_runs k d p m rest out on os (undefined point s) h = tt
 
   -- an expression at the bottom of the temporaries
-  pub whole_runs : (k : ℕ) (e : PlainExpr) (l d : ℕ) (s : State) (m : Mach) (rest : List PlainIr) → k ≤ wd.n → IsExpr IsNumericOrVoid (IsOther wd.program) e → ValidExpr wd.program wd.io sc.f e → IsTypedState wd.program s → Stands sc.code (expr_code wd.program (ports wd) e l 0 rest) → Match (homes wd) d s m
-      → Does (W wd sc) k (here (W wd sc) (expr_code wd.program (ports wd) e l 0 rest)) m (to_rest (W wd sc) rest) (Has wd sc (type_of_expr e) 0 d m.temps) (value wd sc e s)
+  pub whole_runs : (k : ℕ) (e : PlainExpr) (l d : ℕ) (s : State) (m : Mach) (rest : List PlainIr) → k ≤ wd.n
+      → CallsOfExpr (IsOther wd.program) e → ValidExpr wd.program wd.io sc.f e → IsTypedState wd.program s
+      → Stands sc.code (expr_code wd.program (ports wd) e l 0 rest) → Match (homes wd) d s m
+      → Does (W wd sc) k (here (W wd sc) (expr_code wd.program (ports wd) e l 0 rest)) m (to_rest (W wd sc) rest)
+      (Has wd sc (type_of_expr e) 0 d m.temps) (value wd sc e s)
   whole_runs k e l d s m rest le p v st stands h = expr_runs wd sc k e l 0 d m.temps s m rest le p v st stands h (λ i lt. refl)
 
-  pub done_runs : (k : ℕ) (e : PlainExpr) (l d : ℕ) (s : State) (m : Mach) (rest out on : List PlainIr) → k ≤ wd.n → IsExpr IsNumericOrVoid (IsOther wd.program) e → ValidExpr wd.program wd.io sc.f e → IsTypedState wd.program s → Stands sc.code (expr_code wd.program (ports wd) e l 0 rest) → Match (homes wd) d s m
+  pub done_runs : (k : ℕ) (e : PlainExpr) (l d : ℕ) (s : State) (m : Mach) (rest out on : List PlainIr) → k ≤ wd.n
+      → CallsOfExpr (IsOther wd.program) e → ValidExpr wd.program wd.io sc.f e → IsTypedState wd.program s
+      → Stands sc.code (expr_code wd.program (ports wd) e l 0 rest) → Match (homes wd) d s m
       → Way k (expr_code wd.program (ports wd) e l 0 rest) m rest out on d (evaluated (set wd) (calls_to wd sc.depth) (Some e) s)
   done_runs k e l d s m rest out on le p v st stands h =
-      bind (W wd sc) k (here (W wd sc) (expr_code wd.program (ports wd) e l 0 rest)) m (to_rest (W wd sc) rest) (Has wd sc (type_of_expr e) 0 d m.temps) (left_to rest out on) (Left d) (here (W wd sc) rest) (value wd sc e s) _ (λ z. refl)
+      bind (W wd sc) k (here (W wd sc) (expr_code wd.program (ports wd) e l 0 rest)) m (to_rest (W wd sc) rest)
+      (Has wd sc (type_of_expr e) 0 d m.temps) (left_to rest out on) (Left d) (here (W wd sc) rest) (value wd sc e s) _ (λ z. refl)
       (whole_runs k e l d s m rest le p v st stands h) (λ x s1 u r. at_rest d rest out on k s1 u r.has.match)
 
 pub begun_match : (wd : World) (o d : ℕ) (s : State) (u : Mach) → Match (homes wd) d s u → Match (homes wd) d (begun wd.program o s) u
-begun_match wd o d s u h = record { objects = change_one (homes wd) (homes wd).objects s.objects u.state.objects o _ (renew_one (homes wd) (unwrap_or (option_map (λ x. leaf_count wd.program x.ty) (slice_get wd.program.objects o)) 0)) h.objects; events = h.events; spent = h.spent }
+begun_match wd o d s u h = record {
+  objects = change_one (homes wd) (homes wd).objects s.objects u.state.objects o _
+      (renew_one (homes wd) (unwrap_or (option_map (λ x. leaf_count wd.program x.ty) (slice_get wd.program.objects o)) 0)) h.objects;
+  events = h.events;
+  spent = h.spent;
+}
 
 -- ---- the first write of a leaf
 
-own_found : (wd : World) (o k : ℕ) (d : PlainObject) (leaf : PlainLeaf) (ty : PlainType) (s : State) (a : Access) → slice_get wd.program.objects o ≡ Some d → slice_get (leaves_of_type wd.program.structs d.ty) k ≡ Some leaf → leaf.ty ≡ ty → own_access wd.program o k s ≡ Some a → (l : HasLeaf (homes wd) (apart wd) o leaf.at ty s a) × (l.d ≡ d)
+own_found : (wd : World) (o k : ℕ) (d : PlainObject) (leaf : PlainLeaf) (ty : PlainType) (s : State) (a : Access)
+    → slice_get wd.program.objects o ≡ Some d → slice_get (leaves_of_type wd.program.structs d.ty) k ≡ Some leaf → leaf.ty ≡ ty
+    → own_access wd.program o k s ≡ Some a → (l : HasLeaf (homes wd) (apart wd) None o leaf.at ty s a) × (l.d ≡ d)
 own_found wd o k d leaf ty s a e i t h =
     let d1 = some_then (slice_get wd.program.objects o) _ a h in
     let x = some_then (slice_get s.objects o) _ a d1.2 in
@@ -142,54 +178,92 @@ own_found wd o k d leaf ty s a e i t h =
     let is : access_at None o d1.0 x.0 k ≡ a = cc in
     let f : Some d ≡ Some d1.0 = sym e ∙ d1.1 in
     let g : d ≡ d1.0 = cc in
-    let item : slice_get (leaves_of_type wd.program.structs d1.0.ty) k ≡ Some leaf = subst (λ (z : PlainObject). slice_get (leaves_of_type wd.program.structs z.ty) k ≡ Some leaf) g i in
-    (record { d = d1.0; x = x.0; k = k; leaf = leaf; declared = d1.1; state = x.1; item = item; begins = apart wd o d1.0 k leaf d1.1 item; typed = t; is = is }, sym g)
+    let item : slice_get (leaves_of_type wd.program.structs d1.0.ty) k ≡ Some leaf =
+    subst (λ (z : PlainObject). slice_get (leaves_of_type wd.program.structs z.ty) k ≡ Some leaf) g i in (
+      record {
+        d = d1.0;
+        x = x.0;
+        k = k;
+        leaf = leaf;
+        declared = d1.1;
+        state = x.1;
+        item = item;
+        begins = apart wd o d1.0 k leaf d1.1 item;
+        typed = t;
+        is = is;
+        within = λ space f. cc;
+      },
+      sym g,
+    )
 
 abbrev leaf_cost : PlainType → ℕ
 leaf_cost ty = 5 * scalar_size ty
 
 -- a leaf that is not kept in flash gets its first value
-pub own_store : (wd : World) (code : List PlainIr) (stack : List Frame) (n d e o k t : ℕ) (x : PlainObject) (leaf : PlainLeaf) (ty : PlainType) (v : Value) (s : State) (u : Mach) (rest : List PlainIr) → slice_get wd.program.objects o ≡ Some x → slice_get (leaves_of_type wd.program.structs x.ty) k ≡ Some leaf → leaf.ty ≡ ty → holds Flash x.home ≡ false → IsScalar ty → IsValueOf ty v → 5 * scalar_size ty + d ≤ e → Match (homes wd) e s u → u.temps t ≡ Some (held_of ty v) → (a : Option Access) → own_access wd.program o k s ≡ a
-    → Does (spot wd code stack) n (here (spot wd code stack) (store_object o leaf.at (temp t ty) ∷ rest)) u (to_rest (spot wd code stack) rest) (λ y s1 u1. Match (homes wd) d s1 u1 × (u1.temps ≡ u.temps)) (first_write a v s)
+pub own_store : (wd : World) (code : List PlainIr) (stack : List Frame) (n d e o k t : ℕ) (x : PlainObject) (leaf : PlainLeaf)
+    (ty : PlainType) (v : Value) (s : State) (u : Mach) (rest : List PlainIr) → slice_get wd.program.objects o ≡ Some x
+    → slice_get (leaves_of_type wd.program.structs x.ty) k ≡ Some leaf → leaf.ty ≡ ty → holds Flash x.home ≡ false → IsScalar ty
+    → HasType (homes wd) ty v → 5 * scalar_size ty + d ≤ e → Match (homes wd) e s u → u.temps t ≡ Some (held_of ty v) → (a : Option Access)
+    → own_access wd.program o k s ≡ a
+    → Does (spot wd code stack) n (here (spot wd code stack) (store_object o leaf.at (temp t ty) ∷ rest)) u
+    (to_rest (spot wd code stack) rest) (λ y s1 u1. Match (homes wd) d s1 u1 × (u1.temps ≡ u.temps)) (first_write a v s)
 own_store wd code stack n d e o k t x leaf ty v s u rest f i g home sc vt le h held None q = tt
 own_store wd code stack n d e o k t x leaf ty v s u rest f i g home sc vt le h held (Some a) q =
     let w = spot wd code stack in
     let l = own_found wd o k x leaf ty s a f i g q in
     let at_home : holds Flash l.0.d.home ≡ false = subst (λ (z : PlainObject). holds Flash z.home ≡ false) (sym l.1) home in
-    ends w (to_rest w rest) (λ y s1 u1. Match (homes wd) d s1 u1 × (u1.temps ≡ u.temps)) n (here w (store_object o leaf.at (temp t ty) ∷ rest)) (here w rest) u _ v (stored a v s) refl
+    ends w (to_rest w rest) (λ y s1 u1. Match (homes wd) d s1 u1 × (u1.temps ≡ u.temps)) n
+    (here w (store_object o leaf.at (temp t ty) ∷ rest)) (here w rest) u _ v (stored a v s) refl
     (store_comes w (apart wd) o leaf.at ty t s a u v rest l.0 sc vt at_home h.objects held)
-    (store_match w (apart wd) d e u.temps (store_object o leaf.at (temp t ty)) o leaf.at ty s a u v l.0 le h, refl)
+    (store_match w (apart wd) None d e u.temps (store_object o leaf.at (temp t ty)) o leaf.at ty s a u v l.0 le h, refl)
 
 -- ---- the initialisation of a declared object
 
 module _ (wd : World) (sc : Scene wd) (ret : Returns wd sc) where
   -- from the value of a leaf on
-  init_store : (n d o k : ℕ) (x : PlainObject) (leaf : PlainLeaf) (ty : PlainType) (b : Temps) (v : Value) (s : State) (u : Mach) (more_code rest out on : List PlainIr) (go : Value → State → Outcome Exit) → slice_get wd.program.objects o ≡ Some x → slice_get (leaves_of_type wd.program.structs x.ty) k ≡ Some leaf → ty ≡ leaf.ty → holds Flash x.home ≡ false → Has wd sc ty 0 (d + leaf_cost ty) b v s u
-      → ((s1 : State) (u1 : Mach) → Match (homes wd) d s1 u1 → IsTypedState wd.program s1 → Way wd sc ret n more_code u1 rest out on d (go v s1))
+  init_store : (n d o k : ℕ) (x : PlainObject) (leaf : PlainLeaf) (ty : PlainType) (b : Temps) (v : Value) (s : State) (u : Mach)
+      (more_code rest out on : List PlainIr) (go : Value → State → Outcome Exit) → slice_get wd.program.objects o ≡ Some x
+      → slice_get (leaves_of_type wd.program.structs x.ty) k ≡ Some leaf → ty ≡ leaf.ty → holds Flash x.home ≡ false
+      → Has wd sc ty 0 (d + leaf_cost ty) b v s u
+      → ((s1 : State) (u1 : Mach) → Match (homes wd) d s1 u1 → IsTypedState wd.program s1 → Way wd sc ret n more_code u1 rest out on d
+      (go v s1))
       → Way wd sc ret n (store_object o leaf.at (temp 0 ty) ∷ more_code) u rest out on d (next (initialised wd.program o k v s) go)
-  init_store n d o k x leaf ty b v s u more_code rest out on go f i t home h after_store = by_outcome (initialised wd.program o k v s) ((law wd).states.initialised o k x leaf v s f i (subst (λ (z : PlainType). HasType wd.program z v) t h.typed) h.state) stores (λ y s1 e. written (own_access wd.program o k s) y s1 e)
+  init_store n d o k x leaf ty b v s u more_code rest out on go f i t home h after_store = by_outcome (initialised wd.program o k v s)
+      ((law wd).states.initialised o k x leaf v s f i (subst (λ (z : PlainType). HasType wd.program z v) t h.typed) h.state) stores
+      (λ y s1 e. written (own_access wd.program o k s) y s1 e)
     where
       scalar : IsScalar ty
       scalar = subst IsScalar (sym t) ((leaves_fill_their_types.objects wd.program wd.io o x wd.valid f).each k leaf i).scalar.scalar
 
-      stores : Does (W wd sc) n (here (W wd sc) (store_object o leaf.at (temp 0 ty) ∷ more_code)) u (to_rest (W wd sc) more_code) (λ y s1 u1. Match (homes wd) d s1 u1 × (u1.temps ≡ u.temps)) (initialised wd.program o k v s)
-      stores = own_store wd sc.code sc.stack n d (d + leaf_cost ty) o k 0 x leaf ty v s u more_code f i (sym t) home scalar (value_of_type wd.program ty v h.typed) (omega arith) h.has.match (h.has.value scalar) (own_access wd.program o k s) refl
+      stores : Does (W wd sc) n (here (W wd sc) (store_object o leaf.at (temp 0 ty) ∷ more_code)) u (to_rest (W wd sc) more_code)
+          (λ y s1 u1. Match (homes wd) d s1 u1 × (u1.temps ≡ u.temps)) (initialised wd.program o k v s)
+      stores = own_store wd sc.code sc.stack n d (d + leaf_cost ty) o k 0 x leaf ty v s u more_code f i (sym t) home scalar h.typed
+          (omega arith) h.has.match (h.has.value scalar) (own_access wd.program o k s) refl
 
       written : (a : Option Access) (y : Value) (s1 : State) → first_write a v s ≡ got y s1 → y ≡ v
       written None y s1 e = cc
       written (Some a) y s1 e = cc
 
-      by_outcome : (z : Outcome Value) → IsSoundOutcome wd.program (HasType wd.program leaf.ty) z → Does (W wd sc) n (here (W wd sc) (store_object o leaf.at (temp 0 ty) ∷ more_code)) u (to_rest (W wd sc) more_code) (λ y s1 u1. Match (homes wd) d s1 u1 × (u1.temps ≡ u.temps)) z → ((y : Value) (s1 : State) → z ≡ got y s1 → y ≡ v)
+      by_outcome : (z : Outcome Value) → IsSoundOutcome wd.program (HasType wd.program leaf.ty) z
+          → Does (W wd sc) n (here (W wd sc) (store_object o leaf.at (temp 0 ty) ∷ more_code)) u (to_rest (W wd sc) more_code)
+          (λ y s1 u1. Match (homes wd) d s1 u1 × (u1.temps ≡ u.temps)) z → ((y : Value) (s1 : State) → z ≡ got y s1 → y ≡ v)
           → Way wd sc ret n (store_object o leaf.at (temp 0 ty) ∷ more_code) u rest out on d (next z go)
       by_outcome (got y s1) ts g e =
-          after (W wd sc) (left_to wd sc ret rest out on) (Left wd sc ret d) n (here (W wd sc) (store_object o leaf.at (temp 0 ty) ∷ more_code)) (here (W wd sc) more_code) u g.0 (go y s1) g.2
+          after (W wd sc) (left_to wd sc ret rest out on) (Left wd sc ret d) n (here (W wd sc) (store_object o leaf.at (temp 0 ty)
+          ∷ more_code)) (here (W wd sc) more_code) u g.0 (go y s1) g.2
           (subst (λ (z : Value). Way wd sc ret n more_code g.0 rest out on d (go z s1)) (sym (e y s1 refl)) (after_store s1 g.0 g.1.0 ts.1))
       by_outcome (more s1) ts g e = g
       by_outcome (undefined point s1) ts g e = tt
 
   -- the leaves from number i on
-  pub init_runs : (d o i : ℕ) (x : PlainObject) (ls : List PlainLeaf) (es : PlainExprs) (l : ℕ) (rest out on : List PlainIr) → slice_get wd.program.objects o ≡ Some x → ((j : ℕ) (leaf : PlainLeaf) → slice_get ls j ≡ Some leaf → slice_get (leaves_of_type wd.program.structs x.ty) (i + j) ≡ Some leaf) → holds Flash x.home ≡ false → AreLeafValues wd.program wd.io sc.f ls es → AreExprs IsNumericOrVoid (IsOther wd.program) es → ValidExprs wd.program wd.io sc.f es → Stands sc.code (init_code wd.program (ports wd) ls o es l rest)
-      → (s : State) (m : Mach) → Match (homes wd) d s m → IsTypedState wd.program s → Way wd sc ret wd.n (init_code wd.program (ports wd) ls o es l rest) m rest out on d (initialising (set wd) (calls_to wd sc.depth) o i es s)
+  pub init_runs : (d o i : ℕ) (x : PlainObject) (ls : List PlainLeaf) (es : PlainExprs) (l : ℕ) (rest out on : List PlainIr)
+      → slice_get wd.program.objects o ≡ Some x → ((j : ℕ) (leaf : PlainLeaf) → slice_get ls j ≡ Some leaf
+      → slice_get (leaves_of_type wd.program.structs x.ty) (i + j) ≡ Some leaf) → holds Flash x.home ≡ false
+      → AreLeafValues wd.program wd.io sc.f ls es → CallsOfExprs (IsOther wd.program) es → ValidExprs wd.program wd.io sc.f es
+      → Stands sc.code (init_code wd.program (ports wd) ls o es l rest)
+      → (s : State) (m : Mach) → Match (homes wd) d s m → IsTypedState wd.program s
+      → Way wd sc ret wd.n (init_code wd.program (ports wd) ls o es l rest) m rest out on d
+      (initialising (set wd) (calls_to wd sc.depth) o i es s)
   init_runs d o i x [] last_expr l rest out on f g home ty p v stands s m h st = at_rest wd sc ret d rest out on wd.n s m h
   init_runs d o i x (leaf ∷ ls) last_expr l rest out on f g home ty p v stands s m h st = absurd ty
   init_runs d o i x [] (next_expr e es) l rest out on f g home ty p v stands s m h st = absurd ty
@@ -199,9 +273,24 @@ module _ (wd : World) (sc : Scene wd) (ret : Returns wd sc) where
       let op = store_object o leaf.at (temp 0 (type_of_expr e)) in
       let pays = simple_pays (scalar_size (type_of_expr e)) 1 in
       let after_value = expr_behind wd.program (ports wd) sc.code e l 0 (op ∷ more_code) stands in
-      let item : slice_get (leaves_of_type wd.program.structs x.ty) i ≡ Some leaf = ap (slice_get (leaves_of_type wd.program.structs x.ty)) (let z : i ≡ i + 0 = omega arith in z) ∙ g 0 leaf refl in
-      bind (W wd sc) wd.n (here (W wd sc) (expr_code wd.program (ports wd) e l 0 (op ∷ more_code))) m (to_rest (W wd sc) (op ∷ more_code)) (Has wd sc (type_of_expr e) 0 c m.temps) (left_to wd sc ret rest out on) (Left wd sc ret d) (here (W wd sc) (op ∷ more_code)) (value wd sc e (worked (leaf_words e) s)) _ (λ z. refl)
-      (whole_runs wd sc ret wd.n e l c (worked (leaf_words e) s) m (op ∷ more_code) (omega arith) p.0 v.0 st stands (credited (homes wd) (leaf_words e) d s m h))
-      (λ y s1 u r. init_store wd.n d o i x leaf (type_of_expr e) m.temps y s1 u more_code rest out on (λ z s2. initialising (set wd) (calls_to wd sc.depth) o (i + 1) es s2) f item ty.0 home
-      (record { has = record { match = less (homes wd) c (d + leaf_cost (type_of_expr e)) s1 u (omega (arith, pays)) r.has.match; value = r.has.value; same = r.has.same }; typed = r.typed; state = r.state })
-      (λ s2 u2 h2 st2. init_runs d o (i + 1) x ls es (l + expr_labels e) rest out on f (λ j z q. ap (slice_get (leaves_of_type wd.program.structs x.ty)) (let a : i + 1 + j ≡ i + suc j = omega arith in a) ∙ g (suc j) z q) home ty.1 p.1 v.1 (behind sc.code op more_code after_value) s2 u2 h2 st2))
+      let item : slice_get (leaves_of_type wd.program.structs x.ty) i ≡ Some leaf = ap (slice_get (leaves_of_type wd.program.structs x.ty))
+      (let z : i ≡ i + 0 = omega arith in z) ∙ g 0 leaf refl in
+      bind (W wd sc) wd.n (here (W wd sc) (expr_code wd.program (ports wd) e l 0 (op ∷ more_code))) m (to_rest (W wd sc) (op ∷ more_code))
+      (Has wd sc (type_of_expr e) 0 c m.temps) (left_to wd sc ret rest out on) (Left wd sc ret d) (here (W wd sc) (op ∷ more_code))
+      (value wd sc e (worked (leaf_words e) s)) _ (λ z. refl)
+      (whole_runs wd sc ret wd.n e l c (worked (leaf_words e) s) m (op ∷ more_code) (omega arith) p.0 v.0 st stands
+      (credited (homes wd) (leaf_words e) d s m h))
+      (λ y s1 u r. init_store wd.n d o i x leaf (type_of_expr e) m.temps y s1 u more_code rest out on
+      (λ z s2. initialising (set wd) (calls_to wd sc.depth) o (i + 1) es s2) f item ty.0 home
+      (record {
+        has = record {
+          match = less (homes wd) c (d + leaf_cost (type_of_expr e)) s1 u (omega (arith, pays)) r.has.match;
+          value = r.has.value;
+          same = r.has.same;
+        };
+        typed = r.typed;
+        state = r.state;
+      })
+      (λ s2 u2 h2 st2. init_runs d o (i + 1) x ls es (l + expr_labels e) rest out on f
+      (λ j z q. ap (slice_get (leaves_of_type wd.program.structs x.ty)) (let a : i + 1 + j ≡ i + suc j = omega arith in a) ∙ g (suc j) z q)
+      home ty.1 p.1 v.1 (behind sc.code op more_code after_value) s2 u2 h2 st2))

@@ -1,5 +1,6 @@
 -- What operations come to, one by one and after one another.
-use Rattle.std.proofs.Common.{◌≡◌, ℕ, zero, suc, ◌+◌, ◌<◌, ◌≤◌, false, List, [], ◌∷◌, ◌++◌, Some, refl, sym, ap, ◌∙◌, subst, arith, eq-eqb, append_assoc}
+use Rattle.std.proofs.Common.{◌≡◌, ℕ, zero, suc, ◌+◌, ◌<◌, ◌≤◌, false, List, [], ◌∷◌, ◌++◌, Some, refl, sym, ap, ◌∙◌, subst}
+use Rattle.std.proofs.Common.{arith, eq-eqb, append_assoc}
 use Rattle.std.specs.Prelude.{⊤, ◌==◌, if◌then◌else◌}
 use Rattle.std.proofs.lemmas.Grind.{common_steps}
 use Rattle.ec_core.specs.declared.values.Undefined.TheVariants.{Unset}
@@ -8,13 +9,14 @@ use Rattle.ec_core.specs.Accesses.{recorded}
 use Rattle.ec_core.specs.Layout.{scalar_size, IsScalar}
 use Rattle.ec_core.specs.Plain.{PlainType, PlainStorage, static, local, param, register, PlainProgram}
 use Rattle.ec_core.specs.State.{Inputs, Event, ObjectState, State, worked, Outcome, got, more, undefined, next, given}
+use Rattle.ec_core.specs.ValueTypes.{HasType}
 use Rattle.ec_ir.specs.Costs.{op_words, op_steps}
 use Rattle.ec_ir.specs.Meaning.{Mach, machine, held_as, Frame, Place, place, find, exec_from, exec}
 use Rattle.ec_ir.specs.Operations.{PlainIr, label, PlainIrFunction}
-use Rattle.ec_ir.specs.Temporaries.{content_of, value_in, Held, Temps, with_held, read_held, held}
+use Rattle.ec_ir.specs.Temporaries.{content_of, value_of_type, Held, Temps, with_held, read_held, held}
 use Rattle.ec_lower_code.specs.Code.{temp}
 use Rattle.ec_lower_code.proofs.Numbers.{typed_back}
-use Rattle.ec_lower_code.proofs.Shown.{shown, held_of, IsValueOf, AreShown, Match}
+use Rattle.ec_lower_code.proofs.Shown.{shown, held_of, AreShown, Match}
 
 -- ---- temporaries
 
@@ -28,15 +30,18 @@ pub held_above : (t : ℕ) (h : Held) (temps : Temps) → with_held t h temps (t
 held_above t h temps = let e : (t + 1 == t) ≡ false = grind (arith, common_steps) in ap (λ b. if b then Some h else temps (t + 1)) e
 
 -- a temporary is read as it was written
-pub held_is : (ty : PlainType) (t : ℕ) (v : Value) (temps : Temps) (s : State) → temps t ≡ Some (held_of ty v) → held (temp t ty) temps s ≡ got (content_of (scalar_size ty) (shown v)) s
+pub held_is : (ty : PlainType) (t : ℕ) (v : Value) (temps : Temps) (s : State) → temps t ≡ Some (held_of ty v)
+    → held (temp t ty) temps s ≡ got (content_of (scalar_size ty) (shown v)) s
 held_is ty t v temps s e =
     ap (λ z. read_held (scalar_size ty) z s) e
-    ∙ ap (λ b. if b then got (content_of (scalar_size ty) (shown v)) s else undefined Unset s) (eq-eqb (scalar_size ty) (scalar_size ty) refl)
+    ∙ ap (λ b. if b then got (content_of (scalar_size ty) (shown v)) s else undefined Unset s)
+    (eq-eqb (scalar_size ty) (scalar_size ty) refl)
 
-pub held_as_is : (ty : PlainType) (t : ℕ) (v : Value) (temps : Temps) (s : State) → IsScalar ty → IsValueOf ty v → temps t ≡ Some (held_of ty v) → held_as ty (temp t ty) temps s ≡ got (shown v) s
-held_as_is ty t v temps s i h e =
-    ap (λ z. next z (λ content s1. given (value_in ty content) s1)) (held_is ty t v temps s e)
-    ∙ ap (λ r. given r s) (typed_back ty v i h)
+pub held_as_is : (program : PlainProgram) (ty : PlainType) (t : ℕ) (v : Value) (temps : Temps) (s : State) → IsScalar ty
+    → HasType program ty v → temps t ≡ Some (held_of ty v) → held_as program ty (temp t ty) temps s ≡ got (shown v) s
+held_as_is program ty t v temps s i h e =
+    ap (λ z. next z (λ content s1. given (value_of_type program ty content) s1)) (held_is ty t v temps s e)
+    ∙ ap (λ r. given r s) (typed_back program ty v i h)
 
 -- ---- places
 
@@ -116,10 +121,15 @@ module _ (w : Spot) where
   stays p m = record { by = λ k. (k, omega arith, same refl) }
 
   pub comes_on : (p q : Place) (m u v : Mach) (to : Target) → Comes p m (at q) u → Comes q u to v → Comes p m to v
-  comes_on p q m u v to a b = record { by = λ k. let y = b.by k in let x = a.by y.0 in (x.0, omega (arith, x.1, y.1), stops_on _ _ _ x.2 y.2) }
+  comes_on p q m u v to a b = record {
+    by = λ k. let y = b.by k in let x = a.by y.0 in
+        (x.0, omega (arith, x.1, y.1), stops_on _ _ _ x.2 y.2);
+  }
 
   -- an operation that computes, or a label
-  pub computes : (i : PlainIr) (rest : List PlainIr) (m u : Mach) → ((k : ℕ) → goes (suc k) (i ∷ rest) m ≡ goes (suc k) rest u) → m.state.objects ≡ u.state.objects → m.state.events ≡ u.state.events → m.state.work ≤ u.state.work → Comes (here (i ∷ rest)) m (at (here rest)) u
+  pub computes : (i : PlainIr) (rest : List PlainIr) (m u : Mach) → ((k : ℕ) → goes (suc k) (i ∷ rest) m ≡ goes (suc k) rest u)
+      → m.state.objects ≡ u.state.objects → m.state.events ≡ u.state.events → m.state.work ≤ u.state.work → Comes (here (i ∷ rest)) m
+      (at (here rest)) u
   computes i rest m u c o e h = record { by = λ k. by_fuel k }
     where
       by_fuel : (k : ℕ) → (j : ℕ) × (k ≤ j) × Stops (execs j (here (i ∷ rest)) m) (execs k (here rest) u)
@@ -130,18 +140,21 @@ module _ (w : Spot) where
   pub counts : (rest : List PlainIr) (q : Place) (m u : Mach) → ((k : ℕ) → goes (suc k) rest m ≡ execs k q u) → Comes (here rest) m (at q) u
   counts rest q m u c = record { by = λ k. (suc k, omega arith, same (c k)) }
 
-  sooner_match : (s : State) (u : Mach) (t r : State) → stop u.state ≡ stop r → t.objects ≡ r.objects → t.events ≡ r.events → t.work ≤ r.work → Match w.program 0 s u → Match w.program 0 s (machine u.temps t)
+  sooner_match : (s : State) (u : Mach) (t r : State) → stop u.state ≡ stop r → t.objects ≡ r.objects → t.events ≡ r.events
+      → t.work ≤ r.work → Match w.program 0 s u → Match w.program 0 s (machine u.temps t)
   sooner_match s u t r e o v h m =
       let g : u.state ≡ r = state_same u.state r e in
       record {
-        objects = subst (λ (q : List ObjectState). AreShown w.program w.program.objects s.objects q) (ap (λ (q : State). q.objects) g ∙ sym o) m.objects;
+        objects = subst (λ (q : List ObjectState). AreShown w.program w.program.objects s.objects q) (ap (λ (q : State). q.objects) g
+            ∙ sym o) m.objects;
         events = v ∙ sym (ap (λ (q : State). q.events) g) ∙ m.events;
         spent = let x = ap (λ (q : State). q.work) g in let y = m.spent in omega (arith, x, y, h);
       }
 
   module _ {A : Type 0} (to : A → Target) (R : A → State → Mach → Type 0) where
     -- where a run stops behind a step, it can be stopped before it
-    stopped : (n : ℕ) (p : Place) (m : Mach) (s : State) (u : Mach) (i : ℕ) (o : Outcome Value) → n ≤ i → Match w.program 0 s u → Stops (execs i p m) o → o ≡ more u.state → (j : ℕ) × (u : Mach) × (n ≤ j) × Match w.program 0 s u × (execs j p m ≡ more u.state)
+    stopped : (n : ℕ) (p : Place) (m : Mach) (s : State) (u : Mach) (i : ℕ) (o : Outcome Value) → n ≤ i → Match w.program 0 s u
+        → Stops (execs i p m) o → o ≡ more u.state → (j : ℕ) × (u : Mach) × (n ≤ j) × Match w.program 0 s u × (execs j p m ≡ more u.state)
     stopped n p m s u i o le h (same e) f = (i, u, le, h, e ∙ f)
     stopped n p m s u i o le h (sooner t r e f2 ob ev wk) f = (i, machine u.temps t, le, sooner_match s u t r (sym f ∙ f2) ob ev wk h, e)
 
@@ -151,7 +164,8 @@ module _ (w : Spot) where
     after n p q m u (undefined point s) c d = tt
 
     -- one operation that counts
-    pub after_step : (n : ℕ) (rest : List PlainIr) (q : Place) (m u : Mach) (o : Outcome A) → ((k : ℕ) → goes (suc k) rest m ≡ execs k q u) → Does n q u to R o → Does (suc n) (here rest) m to R o
+    pub after_step : (n : ℕ) (rest : List PlainIr) (q : Place) (m u : Mach) (o : Outcome A) → ((k : ℕ) → goes (suc k) rest m ≡ execs k q u)
+        → Does n q u to R o → Does (suc n) (here rest) m to R o
     after_step n rest q m u (got a s) c d = (d.0, d.1, comes_on (here rest) q m u d.0 (to a) (counts rest q m u c) d.2)
     after_step n rest q m u (more s) c d = (suc d.0, d.1, omega (arith, d.2), d.3, c d.0 ∙ d.4)
     after_step n rest q m u (undefined point s) c d = tt
@@ -161,22 +175,29 @@ module _ (w : Spot) where
     fewer n k p m (more s) le d = (d.0, d.1, omega (arith, le, d.2), d.3, d.4)
     fewer n k p m (undefined point s) le d = tt
 
-    pub ends : (n : ℕ) (p q : Place) (m u : Mach) (a : A) (s : State) → to a ≡ at q → Comes p m (at q) u → R a s u → Does n p m to R (got a s)
+    pub ends : (n : ℕ) (p q : Place) (m u : Mach) (a : A) (s : State) → to a ≡ at q → Comes p m (at q) u → R a s u
+        → Does n p m to R (got a s)
     ends n p q m u a s e c r = (u, r, subst (λ z. Comes p m z u) (sym e) c)
 
     -- what is known of an outcome besides
-    pub strengthened : (S : A → State → Mach → Type 0) (n : ℕ) (p : Place) (m : Mach) (o : Outcome A) → ((a : A) (s : State) (u : Mach) → o ≡ got a s → R a s u → S a s u) → Does n p m to R o → Does n p m to S o
+    pub strengthened : (S : A → State → Mach → Type 0) (n : ℕ) (p : Place) (m : Mach) (o : Outcome A)
+        → ((a : A) (s : State) (u : Mach) → o ≡ got a s → R a s u → S a s u) → Does n p m to R o → Does n p m to S o
     strengthened S n p m (got a s) f d = (d.0, f a s d.0 refl d.1, d.2)
     strengthened S n p m (more s) f d = d
     strengthened S n p m (undefined point s) f d = tt
 
-  pub bind : {A B : Type 0} (n : ℕ) (p : Place) (m : Mach) (via : A → Target) (R : A → State → Mach → Type 0) (to : B → Target) (Q : B → State → Mach → Type 0) (q : Place) (o : Outcome A) (go : A → State → Outcome B) → ((a : A) → via a ≡ at q) → Does n p m via R o → ((a : A) (s : State) (u : Mach) → R a s u → Does n q u to Q (go a s)) → Does n p m to Q (next o go)
-  bind {A} {B} n p m via R to Q q (got a s) go e d f = after to Q n p q m d.0 (go a s) (subst (λ z. Comes p m z d.0) (e a) d.2) (f a s d.0 d.1)
+  pub bind : {A B : Type 0} (n : ℕ) (p : Place) (m : Mach) (via : A → Target) (R : A → State → Mach → Type 0) (to : B → Target)
+      (Q : B → State → Mach → Type 0) (q : Place) (o : Outcome A) (go : A → State → Outcome B) → ((a : A) → via a ≡ at q)
+      → Does n p m via R o → ((a : A) (s : State) (u : Mach) → R a s u → Does n q u to Q (go a s)) → Does n p m to Q (next o go)
+  bind {A} {B} n p m via R to Q q (got a s) go e d f = after to Q n p q m d.0 (go a s) (subst (λ z. Comes p m z d.0) (e a) d.2)
+      (f a s d.0 d.1)
   bind n p m via R to Q q (more s) go e d f = d
   bind n p m via R to Q q (undefined point s) go e d f = tt
 
   -- from where a value is on to another place
-  pub onward : {A : Type 0} (n : ℕ) (p q : Place) (m : Mach) (via : A → Target) (R : A → State → Mach → Type 0) (to : A → Target) (Q : A → State → Mach → Type 0) (o : Outcome A) → ((a : A) → via a ≡ at q) → Does n p m via R o → ((a : A) (s : State) (u : Mach) → R a s u → Does n q u to Q (got a s)) → Does n p m to Q o
+  pub onward : {A : Type 0} (n : ℕ) (p q : Place) (m : Mach) (via : A → Target) (R : A → State → Mach → Type 0) (to : A → Target)
+      (Q : A → State → Mach → Type 0) (o : Outcome A) → ((a : A) → via a ≡ at q) → Does n p m via R o
+      → ((a : A) (s : State) (u : Mach) → R a s u → Does n q u to Q (got a s)) → Does n p m to Q o
   onward {A} n p q m via R to Q (got a s) e d f = after to Q n p q m d.0 (got a s) (subst (λ z. Comes p m z d.0) (e a) d.2) (f a s d.0 d.1)
   onward n p q m via R to Q (more s) e d f = d
   onward n p q m via R to Q (undefined point s) e d f = tt
@@ -189,18 +210,17 @@ module _ (program : PlainProgram) where
   credited w d s m h = record { objects = h.objects; events = h.events; spent = let e = h.spent in omega (arith, e) }
 
   -- an operation within it
-  pub spent_on : (d e : ℕ) (i : PlainIr) (temps : Temps) (s : State) (m : Mach) → op_words i + e ≤ d → Match program d s m → Match program e s (machine temps (worked (op_steps i) m.state))
+  pub spent_on : (d e : ℕ) (i : PlainIr) (temps : Temps) (s : State) (m : Mach) → op_words i + e ≤ d → Match program d s m
+      → Match program e s (machine temps (worked (op_steps i) m.state))
   spent_on d e i temps s m le h = record { objects = h.objects; events = h.events; spent = let k = h.spent in omega (arith, k, le) }
 
   pub less : (d e : ℕ) (s : State) (m : Mach) → e ≤ d → Match program d s m → Match program e s m
   less d e s m le h = record { objects = h.objects; events = h.events; spent = let k = h.spent in omega (arith, k, le) }
 
   -- the same event on both sides
-  pub record_match : (storage : PlainStorage) (e : Event) (d : ℕ) (s : State) (temps : Temps) (t : State) → Match program d s (machine temps t) → Match program d (recorded storage e s) (machine temps (recorded storage e t))
+  pub record_match : (storage : PlainStorage) (e : Event) (d : ℕ) (s : State) (temps : Temps) (t : State)
+      → Match program d s (machine temps t) → Match program d (recorded storage e s) (machine temps (recorded storage e t))
   record_match (static inits) e d s temps t h = record { objects = h.objects; events = ap (λ es. es ++ e ∷ []) h.events; spent = h.spent }
   record_match (local f) e d s temps t h = record { objects = h.objects; events = ap (λ es. es ++ e ∷ []) h.events; spent = h.spent }
   record_match (param f) e d s temps t h = record { objects = h.objects; events = ap (λ es. es ++ e ∷ []) h.events; spent = h.spent }
   record_match (register r) e d s temps t h = h
-
-  pub temps_match : (d : ℕ) (s : State) (m : Mach) (temps : Temps) → Match program d s m → Match program d s (machine temps m.state)
-  temps_match d s m temps h = record { objects = h.objects; events = h.events; spent = h.spent }

@@ -1,15 +1,13 @@
 -- The ports and groups of a valid table, as operations name them.
-use Rattle.std.proofs.Common.{◌≡◌, ◌⊎◌, ℕ, zero, suc, ◌+◌, ◌*◌, ◌<◌, ◌≤◌, Bool, true, false, List, [], ◌∷◌, length, map, Option, Some, None}
+use Rattle.std.proofs.Common.{◌≡◌, ◌⊎◌, ℕ, ◌+◌, ◌*◌, ◌<◌, ◌≤◌, Bool, true, false, length, Option, Some, None}
 use Rattle.std.proofs.Common.{refl, sym, ap, ◌∙◌, subst, inl, inr, arith}
 use Rattle.std.specs.Prelude.{IsTrue, IsSomeAnd, slice_get, option_map, if◌then◌else◌}
 use Rattle.std.specs.List.{AllByRecursion}
 use Rattle.std.proofs.lemmas.Option.{slice_get-map, slice_get_within, get_or_from_slice_get}
 use Rattle.ec_iohw.specs.declared.table.IoTable.{IoTable}
-use Rattle.ec_iohw.specs.declared.table.Port.{Port}
 use Rattle.ec_iohw.specs.declared.table.PortGroup.{PortGroup}
 use Rattle.ec_iohw.specs.Valid.{IsPort, ValidIo}
 use Rattle.ec_core.specs.Layout.{scalar_size}
-use Rattle.ec_core.specs.Plain.{PlainType}
 use Rattle.ec_core.specs.PortAccesses.{pairs_of}
 use Rattle.ec_core.specs.PortTable.{PlainPort, PlainGroup, plain_port, plain_group, plain_table}
 use Rattle.ec_core.specs.Typing.{unsigned_int, unsigned_long}

@@ -1,6 +1,7 @@
 -- The operations of a valid program are well formed.
-use Rattle.std.proofs.Common.{◌≡◌, ◌⊎◌, ℕ, zero, suc, ◌+◌, ◌-◌, ◌*◌, ◌/◌, ◌^◌, ◌<◌, ◌≤◌, Bool, true, false, not, ℤ, List, [], ◌∷◌, ◌++◌, length, Option, Some, None, refl, sym, ap, ◌∙◌, subst, inl, inr, arith}
-use Rattle.std.specs.Prelude.{max, pos, if◌then◌else◌, IsSomeAnd, Contains, slice_get, option_map, unwrap_or}
+use Rattle.std.proofs.Common.{◌≡◌, ◌⊎◌, ℕ, zero, suc, ◌+◌, ◌-◌, ◌*◌, ◌/◌, ◌^◌, ◌<◌, ◌≤◌, Bool, true, false, not, ℤ, List, []}
+use Rattle.std.proofs.Common.{◌∷◌, ◌++◌, length, Option, Some, None, refl, sym, ap, ◌∙◌, subst, inl, inr, arith}
+use Rattle.std.specs.Prelude.{⊤, IsTrue, max, pos, if◌then◌else◌, IsSomeAnd, Contains, slice_get, option_map, unwrap_or}
 use Rattle.std.specs.List.{AllByRecursion}
 use Rattle.std.proofs.lemmas.Int.{ints}
 use Rattle.std.proofs.lemmas.Nat.{pow_pos}
@@ -12,9 +13,13 @@ use Rattle.ec_iohw.specs.declared.table.IoTable.{IoTable}
 use Rattle.ec_iohw.specs.declared.table.Pair.{Pair}
 use Rattle.ec_fx.specs.declared.numbers.Mode.{Mode}
 use Rattle.ec_fx.specs.declared.formats.FxKind.{FxKind}
-use Rattle.ec_fx.specs.declared.formats.FxKind.TheVariants.{ShortFract, Fract, LongFract, ShortAccum, Accum, LongAccum, UnsignedShortFract, UnsignedFract, UnsignedLongFract, UnsignedShortAccum, UnsignedAccum, UnsignedLongAccum}
+use Rattle.ec_fx.specs.declared.formats.FxKind.TheVariants.{ShortFract, Fract, LongFract, ShortAccum, Accum, LongAccum}
+use Rattle.ec_fx.specs.declared.formats.FxKind.TheVariants.{UnsignedShortFract, UnsignedFract, UnsignedLongFract}
+use Rattle.ec_fx.specs.declared.formats.FxKind.TheVariants.{UnsignedShortAccum, UnsignedAccum, UnsignedLongAccum}
 use Rattle.ec_fx.specs.Formats.{format_of}
 use Rattle.ec_fx.specs.Ranges.{IsWithin}
+use Rattle.ec_space.specs.declared.space.SpaceId.{SpaceId}
+use Rattle.ec_space.specs.Spaces.{holds}
 use Rattle.ec_core.specs.declared.arithmetic_types.Arithmetic.{Arithmetic}
 use Rattle.ec_core.specs.declared.arithmetic_types.Arithmetic.TheVariants.{Integer, Fixed}
 use Rattle.ec_core.specs.declared.expressions.BinOp.{BinOp}
@@ -22,28 +27,48 @@ use Rattle.ec_core.specs.declared.expressions.BinOp.TheVariants.{Add, Sub, Mul, 
 use Rattle.ec_core.specs.ArithmeticTypes.{arithmetic_of, type_of, common}
 use Rattle.ec_core.specs.ArithmeticValues.{HoldsNumber, IsKnownType}
 use Rattle.ec_core.specs.Integers.{truth}
-use Rattle.ec_core.specs.Layout.{scalar_size, IsScalar}
+use Rattle.ec_core.specs.Layout.{PlainLeaf, Layout, scalar_size, type_layout, struct_layouts, size_of_type, leaves_of_type, IsScalar}
 use Rattle.ec_core.specs.Needs.{expr_need, option_needs, exprs_needs, greatest_from}
 use Rattle.ec_core.specs.Operators.{number_type, converted_beside, promoted_type, step_operator}
 use Rattle.ec_core.specs.PortAccesses.{pairs_of}
 use Rattle.ec_core.specs.PortOperations.{PortAction, reads, writes, updates, is_read, is_update, port_operation}
 use Rattle.ec_core.specs.PortTable.{PlainPort, PlainGroup, plain_table}
-use Rattle.ec_core.specs.Plain.{PlainType, void, integer, fixed, pointer, array, struct, PlainExpr, expression, PlainNode, number, null, load, address_of, unary, binary, convert, assign, compound, step, logical_not, logical_and, logical_or, conditional, comma, call, io, group, object, deref, member, OptionPlainExpr, no_expr, an_expr, PlainExprs, last_expr, next_expr, param, PlainObject, PlainFunction, PlainProgram}
+use Rattle.ec_core.specs.Plain.{PlainType, void, integer, fixed, pointer, array, struct, PlainExpr, expression, PlainNode}
+use Rattle.ec_core.specs.Plain.{number, null, load, address_of, unary, binary, convert, assign, compound, step, logical_not}
+use Rattle.ec_core.specs.Plain.{logical_and, logical_or, conditional, comma, call, io, group, PlainPlace, object, deref, member}
+use Rattle.ec_core.specs.Plain.{OptionPlainExpr, no_expr, an_expr, PlainExprs, last_expr, next_expr, param, PlainObject}
+use Rattle.ec_core.specs.Plain.{PlainFunction, PlainProgram}
 use Rattle.ec_core.specs.TypeLaws.{factor_beside}
-use Rattle.ec_core.specs.Typing.{int, unsigned_int, unsigned_long, IsOperandIf, port_value, type_of_expr, IsIntegerKind, IsPromoted, HaveArithmeticTypes, HaveBinaryTypes, HaveCompoundArithmetic, AreConvertible, IsScalarPlace, IsTyped, AreArguments}
-use Rattle.ec_core.specs.Valid.{IsExprType, IsNamedIn, ValidExpr, ValidParts, ValidPlace, ValidOption, ValidExprs, IsFunction, Valid}
+use Rattle.ec_core.specs.Typing.{int, unsigned_int, unsigned_long, IsOperandIf, port_value, type_of_expr, IsIntegerKind}
+use Rattle.ec_core.specs.Typing.{IsPromoted, HaveArithmeticTypes, HavePointerTypes, HaveOffsetTypes, HaveBinaryTypes}
+use Rattle.ec_core.specs.Typing.{HaveCompoundArithmetic, HaveCompoundTypes, AreConvertible, pointee, place_type, place_space}
+use Rattle.ec_core.specs.Typing.{IsAddressType, IsTyped, AreArguments}
+use Rattle.ec_core.specs.Valid.{IsExprType, IsObject, IsAddressable, HasAddress, IsNamedIn, ValidExpr, ValidParts, ValidPlace}
+use Rattle.ec_core.specs.Valid.{ValidOption, ValidExprs, IsFunction, Valid}
 use Rattle.ec_core.proofs.Conversions.{usual_conversions}
 use Rattle.ec_core.proofs.HeldNumbers.{truth_number}
+use Rattle.ec_core.proofs.Growth.{some_then}
 use Rattle.ec_core.proofs.TypedValues.{some_and}
 use Rattle.ec_ir.specs.declared.operations.Temp.{Temp}
-use Rattle.ec_ir.specs.Operations.{PlainIr, constant, copy, address, field, load_at, store_at, load_object, store_object, binary_op, unary_op, conversion, label, jump, branch_zero, call_function, return_from, port_in, port_out, data_of}
-use Rattle.ec_ir.specs.Valid.{count, called_in, IsResult, HaveOperationTypes, IsTemp, IsTempOf, IsIndex, IsPortWidth, IsNumberOf, HasLeafOf, IsParameterOf, ValidOperation}
-use Rattle.ec_lower_code.specs.Code.{temp, result_temp, truth_code, update_types, update_code, keeping_code, step_code, params_of, params_code, port_operator, port_code, place_behind, operand_temp, access_code, byte_type, pairs_code, group_code, option_labels, option_code, expr_labels, expr_code, node_code, args_code, lowered_function, lowered}
+use Rattle.ec_ir.specs.Operations.{PlainIr, constant, copy, address, field, load_at, store_at, load_object, store_object}
+use Rattle.ec_ir.specs.Operations.{binary_op, unary_op, conversion, label, jump, branch_zero, call_function, return_from}
+use Rattle.ec_ir.specs.Operations.{port_in, port_out, data_of}
+use Rattle.ec_ir.specs.Valid.{count, called_in, IsResult, HaveOperationTypes, IsTemp, IsTempOf, IsPointerTemp, HasPointersOf}
+use Rattle.ec_ir.specs.Valid.{IsIndex, IsPortWidth, IsNumberOf, HasLeafOf, IsParameterOf, ValidOperation}
+use Rattle.ec_lower_code.specs.Code.{temp, result_temp, truth_code, place_labels, Site, further_code, load_from, store_to}
+use Rattle.ec_lower_code.specs.Code.{value_place, settled_code, address_code, update_types, update_code, keeping_code}
+use Rattle.ec_lower_code.specs.Code.{change_code, postfix_code, step_code, offset_of, site, place_code, params_of, params_code}
+use Rattle.ec_lower_code.specs.Code.{port_operator, port_code, place_behind as value_behind, operand_temp, access_code}
+use Rattle.ec_lower_code.specs.Code.{byte_type, pairs_code, group_code, option_labels, option_code, expr_labels, expr_code}
+use Rattle.ec_lower_code.specs.Code.{node_code, args_code, lowered_function, lowered}
 use Rattle.ec_lower_code.specs.Correct.{IsBytePair, GroupsHaveBytes}
-use Rattle.ec_lower_code.specs.Parts.{IsAnyFunction, IsNumeric, IsNumericOrVoid, IsExpr, IsNode, IsOptionExpr, AreExprs}
-use Rattle.ec_lower_code.proofs.Behind.{expr_behind, operand_behind, args_behind, params_behind}
-use Rattle.ec_lower_code.proofs.Expressions.{arithmetic_scalar, binary_scalars, converted_scalar, type_kind, type_known, compound_facts, numeric_scalar}
-use Rattle.ec_lower_code.proofs.Facts.{each_at, param_home, scalar_leaf}
+use Rattle.ec_lower_code.proofs.Numeric.{IsNumeric}
+use Rattle.ec_lower_code.proofs.Behind.{expr_behind, place_behind, operand_behind, args_behind, params_behind}
+use Rattle.ec_lower_code.proofs.Expressions.{arithmetic_scalar, offset_integer, binary_scalars, converted_scalar}
+use Rattle.ec_lower_code.proofs.Expressions.{pointer_scalar, type_known, compound_facts, compound_right, address_typed}
+use Rattle.ec_lower_code.proofs.Expressions.{step_types, stepped_place}
+use Rattle.ec_lower_code.proofs.Insides.{place_need, layout_of, Part, of_object, of_pointer, part, room}
+use Rattle.ec_lower_code.proofs.Facts.{all_at, each_at, param_home, scalar_leaf}
 use Rattle.ec_lower_code.proofs.Labels.{counted}
 use Rattle.ec_lower_code.proofs.Numbers.{scalar_bytes}
 use Rattle.ec_lower_code.proofs.Operations.{update_known, step_arithmetic, type_scalar}
@@ -102,17 +127,29 @@ promoted_of (Integer t) h = h
 promoted_of (Fixed t) h = tt
 
 -- the types of the operation of a compound assignment
-update_typed : (op : BinOp) (x y : Arithmetic) → IsKnownType x → IsKnownType y → HaveCompoundArithmetic op x y → HaveOperationTypes op (type_of (update_types op x y).result) (type_of (update_types op x y).left) (type_of (update_types op x y).right)
-update_typed Add x y kx ky h = inl (arithmetic_types Add (common x y) (converted_beside x y) (converted_beside y x) (usual_conversions.suit x y kx ky).usual)
-update_typed Sub x y kx ky h = inl (arithmetic_types Sub (common x y) (converted_beside x y) (converted_beside y x) (usual_conversions.suit x y kx ky).usual)
-update_typed Mul x y kx ky h = inl (arithmetic_types Mul (common x y) (factor_beside x y) (factor_beside y x) ((usual_conversions.suit x y kx ky).products h.0 h.1))
-update_typed Div x y kx ky h = inl (arithmetic_types Div (common x y) (converted_beside x y) (converted_beside y x) (usual_conversions.suit x y kx ky).usual)
-update_typed Rem x y kx ky h = inl (arithmetic_types Rem (common x y) (converted_beside x y) (converted_beside y x) ((usual_conversions.suit x y kx ky).integers h.0 h.1))
-update_typed Shl x y kx ky h = let s = (usual_conversions.suit x y kx ky).shifted h in inr (record { shift = tt; value = refl; left = promoted_of (promoted_type x) s.left; count = count_of y h })
-update_typed Shr x y kx ky h = let s = (usual_conversions.suit x y kx ky).shifted h in inr (record { shift = tt; value = refl; left = promoted_of (promoted_type x) s.left; count = count_of y h })
-update_typed And x y kx ky h = inl (arithmetic_types And (common x y) (converted_beside x y) (converted_beside y x) ((usual_conversions.suit x y kx ky).integers h.0 h.1))
-update_typed Or x y kx ky h = inl (arithmetic_types Or (common x y) (converted_beside x y) (converted_beside y x) ((usual_conversions.suit x y kx ky).integers h.0 h.1))
-update_typed Xor x y kx ky h = inl (arithmetic_types Xor (common x y) (converted_beside x y) (converted_beside y x) ((usual_conversions.suit x y kx ky).integers h.0 h.1))
+update_typed : (op : BinOp) (x y : Arithmetic) → IsKnownType x → IsKnownType y → HaveCompoundArithmetic op x y
+    → HaveOperationTypes op (type_of (update_types op x y).result) (type_of (update_types op x y).left)
+    (type_of (update_types op x y).right)
+update_typed Add x y kx ky h = inl (arithmetic_types Add (common x y) (converted_beside x y) (converted_beside y x)
+    (usual_conversions.suit x y kx ky).usual)
+update_typed Sub x y kx ky h = inl (arithmetic_types Sub (common x y) (converted_beside x y) (converted_beside y x)
+    (usual_conversions.suit x y kx ky).usual)
+update_typed Mul x y kx ky h = inl (arithmetic_types Mul (common x y) (factor_beside x y) (factor_beside y x)
+    ((usual_conversions.suit x y kx ky).products h.0 h.1))
+update_typed Div x y kx ky h = inl (arithmetic_types Div (common x y) (converted_beside x y) (converted_beside y x)
+    (usual_conversions.suit x y kx ky).usual)
+update_typed Rem x y kx ky h = inl (arithmetic_types Rem (common x y) (converted_beside x y) (converted_beside y x)
+    ((usual_conversions.suit x y kx ky).integers h.0 h.1))
+update_typed Shl x y kx ky h = let s = (usual_conversions.suit x y kx ky).shifted h in
+    inr (record { shift = tt; value = refl; left = promoted_of (promoted_type x) s.left; count = count_of y h })
+update_typed Shr x y kx ky h = let s = (usual_conversions.suit x y kx ky).shifted h in
+    inr (record { shift = tt; value = refl; left = promoted_of (promoted_type x) s.left; count = count_of y h })
+update_typed And x y kx ky h = inl (arithmetic_types And (common x y) (converted_beside x y) (converted_beside y x)
+    ((usual_conversions.suit x y kx ky).integers h.0 h.1))
+update_typed Or x y kx ky h = inl (arithmetic_types Or (common x y) (converted_beside x y) (converted_beside y x)
+    ((usual_conversions.suit x y kx ky).integers h.0 h.1))
+update_typed Xor x y kx ky h = inl (arithmetic_types Xor (common x y) (converted_beside x y) (converted_beside y x)
+    ((usual_conversions.suit x y kx ky).integers h.0 h.1))
 update_typed Lt x y kx ky h = absurd h
 update_typed Gt x y kx ky h = absurd h
 update_typed Le x y kx ky h = absurd h
@@ -120,8 +157,28 @@ update_typed Ge x y kx ky h = absurd h
 update_typed Eq x y kx ky h = absurd h
 update_typed Ne x y kx ky h = absurd h
 
--- the result of an operation on numbers is a number
-pub binary_result_scalar : (program : PlainProgram) (op : BinOp) (ty a b : PlainType) → IsNumericOrVoid a → IsNumericOrVoid b → IsExprType program ty → HaveBinaryTypes op ty a b → IsScalar ty
+-- the difference or comparison of pointers is an int
+pointers_int : (op : BinOp) (P : Type 0) → HavePointerTypes op P → P
+pointers_int Sub P h = h
+pointers_int Lt P h = h
+pointers_int Gt P h = h
+pointers_int Le P h = h
+pointers_int Ge P h = h
+pointers_int Eq P h = h
+pointers_int Ne P h = h
+pointers_int Add P h = absurd h
+pointers_int Mul P h = absurd h
+pointers_int Div P h = absurd h
+pointers_int Rem P h = absurd h
+pointers_int Shl P h = absurd h
+pointers_int Shr P h = absurd h
+pointers_int And P h = absurd h
+pointers_int Or P h = absurd h
+pointers_int Xor P h = absurd h
+
+-- the result of an operation is scalar
+pub binary_result_scalar : (program : PlainProgram) (op : BinOp) (ty a b : PlainType) → IsExprType program a → IsExprType program b
+    → IsExprType program ty → HaveBinaryTypes op ty a b → IsScalar ty
 binary_result_scalar program op ty (integer s m) (integer t n) p q k h = arithmetic_scalar program ty _ k h
 binary_result_scalar program op ty (integer s m) (fixed f t) p q k h = arithmetic_scalar program ty _ k h
 binary_result_scalar program op ty (fixed e s) (integer t n) p q k h = arithmetic_scalar program ty _ k h
@@ -131,18 +188,28 @@ binary_result_scalar program op ty void (integer t n) p q k h = arithmetic_scala
 binary_result_scalar program op ty void (fixed f t) p q k h = arithmetic_scalar program ty _ k h
 binary_result_scalar program op ty (integer s m) void p q k h = arithmetic_scalar program ty _ k h
 binary_result_scalar program op ty (fixed e s) void p q k h = arithmetic_scalar program ty _ k h
-binary_result_scalar program op ty void (pointer s c t) p q k h = absurd q
-binary_result_scalar program op ty void (array t n) p q k h = absurd q
-binary_result_scalar program op ty void (struct i) p q k h = absurd q
-binary_result_scalar program op ty (integer s m) (pointer t c u) p q k h = absurd q
-binary_result_scalar program op ty (integer s m) (array t n) p q k h = absurd q
-binary_result_scalar program op ty (integer s m) (struct i) p q k h = absurd q
-binary_result_scalar program op ty (fixed e s) (pointer t c u) p q k h = absurd q
-binary_result_scalar program op ty (fixed e s) (array t n) p q k h = absurd q
-binary_result_scalar program op ty (fixed e s) (struct i) p q k h = absurd q
-binary_result_scalar program op ty (pointer s c t) b p q k h = absurd p
+binary_result_scalar program op ty void (pointer s c t) p q k h = subst IsScalar (sym h.2) tt
+binary_result_scalar program op ty (integer s m) (pointer t c u) p q k h = subst IsScalar (sym h.2) tt
+binary_result_scalar program op ty (fixed e s) (pointer t c u) p q k h = subst IsScalar (sym h.2) tt
+binary_result_scalar program op ty (pointer s c t) void p q k h = subst IsScalar (sym h.1) tt
+binary_result_scalar program op ty (pointer s c t) (integer r n) p q k h = subst IsScalar (sym h.1) tt
+binary_result_scalar program op ty (pointer s c t) (fixed f r) p q k h = subst IsScalar (sym h.1) tt
+binary_result_scalar program op ty (pointer s c t) (pointer r d u) p q k h = let x = pointers_int op _ h in subst IsScalar (sym x.2)
+    (inr (inl refl))
+binary_result_scalar program op ty a (array t n) p q k h = absurd q
+binary_result_scalar program op ty a (struct i) p q k h = absurd q
 binary_result_scalar program op ty (array t n) b p q k h = absurd p
 binary_result_scalar program op ty (struct i) b p q k h = absurd p
+
+-- a pointer that is moved by a number of elements
+moved_types : (op : BinOp) (s : SpaceId) (c : Bool) (t right : PlainType) → HaveOffsetTypes op right → HaveBinaryTypes op (pointer s c t)
+    (pointer s c t) right
+moved_types op s c t void h = absurd (offset_integer op void h)
+moved_types op s c t (integer r n) h = (h, refl)
+moved_types op s c t (fixed f r) h = absurd (offset_integer op (fixed f r) h)
+moved_types op s c t (pointer r d u) h = absurd (offset_integer op (pointer r d u) h)
+moved_types op s c t (array u n) h = absurd (offset_integer op (array u n) h)
+moved_types op s c t (struct n) h = absurd (offset_integer op (struct n) h)
 
 -- ---- constants
 
@@ -173,13 +240,31 @@ kind_eight UnsignedLongAccum = refl
 number_ok : (ty : PlainType) (n : ℤ) → IsScalar ty → IsSomeAnd (arithmetic_of ty) (λ t. HoldsNumber t n) → IsNumberOf (scalar_size ty) n
 number_ok void n i h = absurd h
 number_ok (integer s b) n i h = bits_number s b n (scalar_bytes (integer s b) i).0 h.1
-number_ok (fixed k s) n i h = bits_number (format_of k).signed ((format_of k).bits / 8) n (scalar_bytes (fixed k s) tt).0 (subst (λ (w : ℕ). IsWithin (format_of k).signed w n) (kind_eight k) h)
+number_ok (fixed k s) n i h = bits_number (format_of k).signed ((format_of k).bits / 8) n (scalar_bytes (fixed k s) tt).0
+    (subst (λ (w : ℕ). IsWithin (format_of k).signed w n) (kind_eight k) h)
 number_ok (pointer s c t) n i h = absurd h
 number_ok (array t m) n i h = absurd h
 number_ok (struct m) n i h = absurd h
 
 truth_ok : (ty : PlainType) (h : Bool) → ty ≡ int → IsNumberOf (scalar_size ty) (truth h)
-truth_ok ty h e = subst (λ (z : PlainType). IsNumberOf (scalar_size z) (truth h)) (sym e) (number_ok int (truth h) (inr (inl refl)) (truth_number h))
+truth_ok ty h e = subst (λ (z : PlainType). IsNumberOf (scalar_size z) (truth h)) (sym e) (number_ok int (truth h) (inr (inl refl))
+    (truth_number h))
+
+zero_ok : (b : ℕ) → 1 ≤ b → IsNumberOf b (pos 0)
+zero_ok b some = let p = pow_pos (8 * b - 1) in let q = pow_pos (8 * b) in record {
+  low = omega (arith, ints, p);
+  high = omega (arith, ints, q);
+}
+
+-- the leaf of a scalar, wherever it stands
+scalar_at : (structs : ℕ → Layout) (ty : PlainType) (at : ℕ) → IsScalar ty → slice_get ((type_layout structs ty).leaves_at at) 0 ≡ Some
+    (record { ty = ty; at = at })
+scalar_at structs void at i = absurd i
+scalar_at structs (integer s b) at i = refl
+scalar_at structs (fixed k s) at i = refl
+scalar_at structs (pointer s c t) at i = refl
+scalar_at structs (array t n) at i = absurd i
+scalar_at structs (struct k) at i = absurd i
 
 pub some_need : (e : PlainExpr) → 1 ≤ expr_need e
 some_need (expression ty mode node) = omega arith
@@ -197,7 +282,7 @@ first_place no_expr w more t slots le = omega (arith, le)
 first_place (an_expr e) w more t slots le = omega (arith, le)
 
 second_place : (i w : OptionPlainExpr) (more : List ℕ) (t slots : ℕ)
-    → t + max 1 (greatest_from 0 (option_needs i (option_needs w more))) ≤ slots → place_behind i t + operand_need w ≤ slots
+    → t + max 1 (greatest_from 0 (option_needs i (option_needs w more))) ≤ slots → value_behind i t + operand_need w ≤ slots
 second_place no_expr no_expr more t slots le = omega (arith, le)
 second_place no_expr (an_expr e) more t slots le = omega (arith, le)
 second_place (an_expr e) no_expr more t slots le = let need = some_need e in omega (arith, le, need)
@@ -211,7 +296,7 @@ HasPlaces updates slots t v = v + 1 < slots
 
 port_places : (action : PortAction) (ty : PlainType) (i w : OptionPlainExpr) (t slots : ℕ) → IsOperandIf (not (is_read action)) ty w
     → t + max 1 (greatest_from 0 (option_needs i (option_needs w (if is_update action then 1 ∷ [] else [])))) ≤ slots
-    → HasPlaces action slots t (place_behind i t)
+    → HasPlaces action slots t (value_behind i t)
 port_places reads ty i w t slots h le = omega (arith, le)
 port_places writes ty i no_expr t slots h le = absurd h
 port_places writes ty no_expr (an_expr e) t slots h le = omega (arith, le)
@@ -242,13 +327,22 @@ op_calls (return_from t) code g h = h
 op_calls (port_in t a i k) code g h = h
 op_calls (port_out t a i k) code g h = h
 
-called_at : (pre : List PlainIr) (g : ℕ) (to : Option Temp) (rest : List PlainIr) → Contains (called_in (pre ++ call_function g to ∷ rest)) g
+called_at : (pre : List PlainIr) (g : ℕ) (to : Option Temp) (rest : List PlainIr) → Contains (called_in (pre ++ call_function g to ∷ rest))
+    g
 called_at [] g to rest = (0, omega arith, refl)
 called_at (i ∷ pre) g to rest = op_calls i (pre ++ call_function g to ∷ rest) g (called_at pre g to rest)
 
 -- the bytes of the result of a function
 abbrev pub result_bytes : PlainProgram → ℕ → ℕ
 result_bytes program g = unwrap_or (option_map (λ (h : PlainFunction). scalar_size h.returns) (slice_get program.functions g)) 0
+
+address_scalar : (program : PlainProgram) (ty : PlainType) (q : PlainPlace) → IsAddressType program ty q → IsScalar ty
+address_scalar program void q h = absurd h
+address_scalar program (integer s b) q h = absurd h
+address_scalar program (fixed k s) q h = tt
+address_scalar program (pointer s k t) q h = tt
+address_scalar program (array t n) q h = absurd h
+address_scalar program (struct n) q h = absurd h
 
 -- ---- the operations of a function
 
@@ -264,87 +358,261 @@ module _ (program : PlainProgram) (table : IoTable) (valid : Valid program table
   AllGood code = AllByRecursion Good code
 
   pub label_once : (l : ℕ) (rest : List PlainIr) → Stands all (label l ∷ rest) → count l all ≡ 1
-  label_once l rest s = let x = once l in let y : 1 ≤ count l all = subst (λ (c : List PlainIr). 1 ≤ count l c) (sym s.1) (counted s.0 l rest) in omega (arith, x, y)
+  label_once l rest s = let x = once l in let y : 1 ≤ count l all = subst (λ (c : List PlainIr). 1 ≤ count l c) (sym s.1)
+      (counted s.0 l rest) in omega (arith, x, y)
 
   pub temp_ok : (t : ℕ) (ty : PlainType) → t < slots → IsScalar ty → IsTemp slots (temp t ty)
   temp_ok t ty lt i = let b = scalar_bytes ty i in record { within = lt; some = b.0; most = omega (arith, b) }
 
-  of_ok : (t : ℕ) (ty : PlainType) → t < slots → IsScalar ty → IsExprType program ty → IsTempOf (data_of (lowered program (plain_table table))) slots ty (temp t ty)
+  of_ok : (t : ℕ) (ty : PlainType) → t < slots → IsScalar ty → IsExprType program ty
+      → IsTempOf (data_of (lowered program (plain_table table))) slots ty (temp t ty)
   of_ok t ty lt i k = record { temp = temp_ok t ty lt i; scalar = i; known = k; bytes = refl }
 
-  arithmetic_ok : (t : ℕ) (z : Arithmetic) → t < slots → IsKnownType z → IsTempOf (data_of (lowered program (plain_table table))) slots (type_of z) (temp t (type_of z))
+  arithmetic_ok : (t : ℕ) (z : Arithmetic) → t < slots → IsKnownType z → IsTempOf (data_of (lowered program (plain_table table))) slots
+      (type_of z) (temp t (type_of z))
   arithmetic_ok t z lt k = of_ok t (type_of z) lt (type_scalar z k) (type_is_known program z k)
 
-  -- a named object has a leaf of its type
-  leaf_ok : (o : ℕ) (ty : PlainType) (x : PlainObject) → slice_get program.objects o ≡ Some x → IsScalarPlace program ty (object o) → HasLeafOf (data_of (lowered program (plain_table table))) x 0 (scalar_size ty)
-  leaf_ok o ty x e h =
-      let f : Some x.ty ≡ Some ty = sym (ap (option_map (λ (q : PlainObject). q.ty)) e) ∙ h.1 in
-      let g : x.ty ≡ ty = cc in
-      record { k = 0; leaf = record { ty = x.ty; at = 0 }; is = scalar_leaf program x.ty (subst IsScalar (sym g) h.0); at = refl; size = ap scalar_size g }
+  abbrev dataset : PlainProgram
+  dataset = data_of (lowered program (plain_table table))
 
-  load_ok : (t o : ℕ) (ty : PlainType) → t < slots → ValidPlace program table f (object o) → IsScalarPlace program ty (object o) → Good (load_object (temp t ty) o 0)
-  load_ok t o ty lt v h =
-      let x = some_and (slice_get program.objects o) (λ x. IsNamedIn f x.storage) v in
-      (temp_ok t ty lt h.0, some_is (slice_get program.objects o) (λ x. IsNamedIn f x.storage × HasLeafOf (data_of (lowered program (plain_table table))) x 0 (scalar_size ty)) x.0 x.1 (x.2, leaf_ok o ty x.0 x.1 h))
+  pointer_ok : (t : ℕ) (space : SpaceId) (const : Bool) (to : PlainType) → t < slots → IsPointerTemp slots space
+      (temp t (pointer space const to))
+  pointer_ok t space const to lt = record { temp = temp_ok t (pointer space const to) lt tt; bytes = refl }
 
-  store_ok : (t o : ℕ) (ty : PlainType) → t < slots → ValidPlace program table f (object o) → IsScalarPlace program ty (object o) → Good (store_object o 0 (temp t ty))
-  store_ok t o ty lt v h =
-      let x = some_and (slice_get program.objects o) (λ x. IsNamedIn f x.storage) v in
-      (temp_ok t ty lt h.0, some_is (slice_get program.objects o) (λ x. (IsNamedIn f x.storage ⊎ IsParameterOf (called_in all) x.storage) × HasLeafOf (data_of (lowered program (plain_table table))) x 0 (scalar_size ty)) x.0 x.1 (inl x.2, leaf_ok o ty x.0 x.1 h))
+  -- a part of an object has a leaf of its type
+  leaf_ok : (ty : PlainType) (offset : ℕ) (x : PlainObject) → IsScalar ty
+      → ((k : ℕ) (leaf : PlainLeaf) → slice_get ((layout_of program table valid f ty).leaves_at (0 + offset)) k ≡ Some leaf
+      → (j : ℕ) × (slice_get (leaves_of_type program.structs x.ty) j ≡ Some leaf)) → HasLeafOf dataset x offset (scalar_size ty)
+  leaf_ok ty offset x i leaves =
+      let j = leaves 0 (record { ty = ty; at = 0 + offset }) (scalar_at (struct_layouts program.structs) ty (0 + offset) i) in
+      record { k = j.0; leaf = record { ty = ty; at = 0 + offset }; is = j.1; at = omega arith; size = refl }
 
-  truths_ok : (h : Bool) (ty : PlainType) (l t : ℕ) (rest : List PlainIr) → ty ≡ int → t < slots → Stands all (truth_code h ty l t rest) → AllGood rest → AllGood (truth_code h ty l t rest)
+  load_ok : (q : PlainPlace) (t v : ℕ) (ty : PlainType) → v < slots → t < slots → IsScalar ty → Part program table valid f q t ty
+      → Good (load_from (temp v ty) (site program q t))
+  load_ok q t v ty lv lt i (of_object o offset x is found mine space free needs none bytes leaves) =
+      subst (λ z. Good (load_from (temp v ty) z)) (sym is) (
+        temp_ok v ty lv i,
+        some_is (slice_get program.objects o) (λ x. IsNamedIn f x.storage × HasLeafOf dataset x offset (scalar_size ty)) x
+            found (mine, leaf_ok ty offset x i leaves),
+      )
+  load_ok q t v ty lv lt i (of_pointer space const to is needs some home) = subst (λ z. Good (load_from (temp v ty) z)) (sym is)
+      (temp_ok v ty lv i, pointer_ok t space const to lt)
+
+  store_ok : (q : PlainPlace) (t v : ℕ) (ty : PlainType) → v < slots → t < slots → IsScalar ty → Part program table valid f q t ty
+      → Good (store_to (site program q t) (temp v ty))
+  store_ok q t v ty lv lt i (of_object o offset x is found mine space free needs none bytes leaves) =
+      subst (λ z. Good (store_to z (temp v ty))) (sym is) (
+        temp_ok v ty lv i,
+        some_is (slice_get program.objects o)
+            (λ x. (IsNamedIn f x.storage ⊎ IsParameterOf (called_in all) x.storage) × HasLeafOf dataset x offset (scalar_size ty)) x found
+            (inl mine, leaf_ok ty offset x i leaves),
+      )
+  store_ok q t v ty lv lt i (of_pointer space const to is needs some home) = subst (λ z. Good (store_to z (temp v ty))) (sym is)
+      (pointer_ok t space const to lt, temp_ok v ty lv i)
+
+  further_ok : (q : PlainPlace) (k t : ℕ) (ty : PlainType) (rest : List PlainIr) → t + place_need q ≤ slots
+      → Part program table valid f q t ty → AllGood rest → AllGood (further_code k (site program q t) rest)
+  further_ok q k t ty rest le (of_object o offset x is found mine space free needs none bytes leaves) r =
+      subst (λ z. AllGood (further_code k z rest)) (sym is) r
+  further_ok q k t ty rest le (of_pointer space const to is needs some home) r = subst (λ z. AllGood (further_code k z rest)) (sym is)
+      (pointer_ok t space const to (omega (arith, le, some)), r)
+
+  settled_ok : (q : PlainPlace) (t : ℕ) (ty at_ty : PlainType) (rest : List PlainIr) → value_place (site program q t) t < slots
+      → IsScalar ty → Part program table valid f q t at_ty → AllGood rest → AllGood (settled_code (site program q t) ty t rest)
+  settled_ok q t ty at_ty rest lt i (of_object o offset x is found mine space free needs none bytes leaves) r =
+      subst (λ z. AllGood (settled_code z ty t rest)) (sym is) r
+  settled_ok q t ty at_ty rest lt i (of_pointer space const to is needs some home) r =
+      let v : value_place (site program q t) t ≡ t + 1 = ap (λ z. value_place z t) is in
+      subst (λ z. AllGood (settled_code z ty t rest)) (sym is) (
+        (
+          temp_ok t ty (omega (arith, lt, v)) i,
+          temp_ok (t + 1) ty (omega (arith, lt, v)) i,
+          refl,
+        ),
+        r,
+      )
+
+  -- an address of an object, in a space that its home is in
+  home_ok : (o : ℕ) (x : PlainObject) (q : PlainPlace) (ty : PlainType) → slice_get program.objects o ≡ Some x
+      → place_space program q ≡ Some x.space → IsAddressType program ty q → HasPointersOf x (scalar_size ty)
+  home_ok o x q void found space h = absurd h
+  home_ok o x q (integer s b) found space h = absurd h
+  home_ok o x q (fixed k s) found space h = absurd h
+  home_ok o x q (pointer s k t) found space h =
+      let e : Some x.space ≡ Some s = sym space ∙ h.0 in
+      let g : x.space ≡ s = cc in
+      record {
+        space = s;
+        home = subst (λ (z : SpaceId). IsTrue (holds z x.home)) g
+            (all_at (IsObject program) program.objects o x valid.objects found).home;
+        bytes = refl;
+      }
+  home_ok o x q (array t n) found space h = absurd h
+  home_ok o x q (struct n) found space h = absurd h
+
+  address_ok : (q : PlainPlace) (t : ℕ) (ty to : PlainType) (rest : List PlainIr) → t < slots → IsScalar ty → IsAddressType program ty q
+      → HasAddress program q → Part program table valid f q t to → AllGood rest → AllGood (address_code (site program q t) ty t rest)
+  address_ok q t ty to rest lt i tp h (of_object o offset x is found mine space free needs none bytes leaves) r =
+      subst (λ z. AllGood (address_code z ty t rest)) (sym is) (
+        (
+          temp_ok t ty lt i,
+          some_is (slice_get program.objects o)
+              (λ x. IsNamedIn f x.storage × IsAddressable x.storage × (offset ≤ size_of_type program.structs x.ty) × HasPointersOf x
+              (scalar_size ty)) x found (mine, free h, omega (arith, bytes), home_ok o x q ty found space tp),
+        ),
+        r,
+      )
+  address_ok q t ty to rest lt i tp h (of_pointer space const u is needs some home) r = subst (λ z. AllGood (address_code z ty t rest))
+      (sym is) r
+
+  truths_ok : (h : Bool) (ty : PlainType) (l t : ℕ) (rest : List PlainIr) → ty ≡ int → t < slots → Stands all (truth_code h ty l t rest)
+      → AllGood rest → AllGood (truth_code h ty l t rest)
   truths_ok h ty l t rest e lt s r =
       let i = subst IsScalar (sym e) (inr (inl refl)) in
       let end = label_once (l + 1) rest (behind all _ _ (behind all _ _ (behind all _ _ (behind all _ _ s)))) in
       ((temp_ok t ty lt i, truth_ok ty h e), (end, (tt, ((temp_ok t ty lt i, truth_ok ty (not h) e), (tt, r)))))
 
-  updates_ok : (op : BinOp) (own mode : Mode) (ty right : PlainType) (o t : ℕ) (rest : List PlainIr) → IsNumeric ty → IsScalar ty → IsExprType program ty → IsNumeric right → IsScalar right → IsExprType program right → HaveCompoundArithmetic op (number_type ty) (number_type right) → t + 1 < slots → ValidPlace program table f (object o) → IsScalarPlace program ty (object o) → AllGood rest
-      → AllGood (update_code op (update_types op (number_type ty) (number_type right)) own mode ty o t right rest)
-  updates_ok op own mode ty right o t rest num i k rnum ri rk h lt v place r =
+  updates_ok : (op : BinOp) (own mode : Mode) (ty right : PlainType) (to : Site) (t : ℕ) (rest : List PlainIr) → IsNumeric ty → IsScalar ty
+      → IsExprType program ty → IsNumeric right → IsScalar right → IsExprType program right → HaveCompoundArithmetic op (number_type ty)
+      (number_type right) → t + 1 < slots → Good (store_to to (temp t ty)) → AllGood rest
+      → AllGood (update_code op (update_types op (number_type ty) (number_type right)) own mode ty to t right rest)
+  updates_ok op own mode ty right to t rest num i k rnum ri rk h lt store r =
       let ts = update_types op (number_type ty) (number_type right) in
       let known = update_known own (number_type ty) (number_type right) (place_known ty num i) (place_known right rnum ri) op h in
       let typed = update_typed op (number_type ty) (number_type right) (place_known ty num i) (place_known right rnum ri) h in (
-        (arithmetic_ok t ts.left (omega (arith, lt)) known.left, of_ok t ty (omega (arith, lt)) i k, numbers_convert (type_of ts.left) ty (type_numeric ts.left) num),
         (
-          (arithmetic_ok (t + 1) ts.right lt known.right, of_ok (t + 1) right lt ri rk, numbers_convert (type_of ts.right) right (type_numeric ts.right) rnum),
+          arithmetic_ok t ts.left (omega (arith, lt)) known.left,
+          of_ok t ty (omega (arith, lt)) i k,
+          numbers_convert (type_of ts.left) ty
+              (type_numeric ts.left) num,
+        ),
+        (
           (
-            (arithmetic_ok t ts.result (omega (arith, lt)) known.result, arithmetic_ok t ts.left (omega (arith, lt)) known.left, arithmetic_ok (t + 1) ts.right lt known.right, typed),
+            arithmetic_ok (t + 1) ts.right lt known.right,
+            of_ok (t + 1) right lt ri rk,
+            numbers_convert (type_of ts.right) right
+                (type_numeric ts.right) rnum,
+          ),
+          (
             (
-              (of_ok t ty (omega (arith, lt)) i k, arithmetic_ok t ts.result (omega (arith, lt)) known.result, numbers_convert ty (type_of ts.result) num (type_numeric ts.result)),
-              (store_ok t o ty (omega (arith, lt)) v place, r),
+              arithmetic_ok t ts.result (omega (arith, lt)) known.result,
+              arithmetic_ok t ts.left (omega (arith, lt)) known.left,
+              arithmetic_ok (t + 1) ts.right lt known.right,
+              typed,
+            ),
+            (
+              (
+                of_ok t ty (omega (arith, lt)) i k,
+                arithmetic_ok t ts.result (omega (arith, lt)) known.result,
+                numbers_convert ty (type_of ts.result) num (type_numeric ts.result),
+              ),
+              (store, r),
             ),
           ),
         ),
       )
 
-  keeping_ok : (op : BinOp) (mode : Mode) (ty : PlainType) (o t : ℕ) (rest : List PlainIr) → IsNumeric ty → IsScalar ty → IsExprType program ty → HaveCompoundArithmetic op (number_type ty) (number_type int) → t + 1 < slots → ValidPlace program table f (object o) → IsScalarPlace program ty (object o) → AllGood rest
-      → AllGood (keeping_code op (update_types op (number_type ty) (number_type int)) mode ty o t int rest)
-  keeping_ok op mode ty o t rest num i k h lt v place r =
+  keeping_ok : (op : BinOp) (mode : Mode) (ty : PlainType) (to : Site) (t : ℕ) (rest : List PlainIr) → IsNumeric ty → IsScalar ty
+      → IsExprType program ty → HaveCompoundArithmetic op (number_type ty) (number_type int) → t + 1 < slots
+      → Good (store_to to (temp (t + 1) ty)) → AllGood rest
+      → AllGood (keeping_code op (update_types op (number_type ty) (number_type int)) mode ty to t int rest)
+  keeping_ok op mode ty to t rest num i k h lt store r =
       let ts = update_types op (number_type ty) (number_type int) in
       let known = update_known mode (number_type ty) (number_type int) (place_known ty num i) (inr (inl refl)) op h in
       let typed = update_typed op (number_type ty) (number_type int) (place_known ty num i) (inr (inl refl)) h in (
-        (arithmetic_ok t ts.left (omega (arith, lt)) known.left, of_ok t ty (omega (arith, lt)) i k, numbers_convert (type_of ts.left) ty (type_numeric ts.left) num),
         (
-          (arithmetic_ok (t + 1) ts.right lt known.right, of_ok (t + 1) int lt (inr (inl refl)) (inr (inl refl)), numbers_convert (type_of ts.right) int (type_numeric ts.right) tt),
+          arithmetic_ok t ts.left (omega (arith, lt)) known.left,
+          of_ok t ty (omega (arith, lt)) i k,
+          numbers_convert (type_of ts.left) ty
+              (type_numeric ts.left) num,
+        ),
+        (
           (
-            (arithmetic_ok (t + 1) ts.result lt known.result, arithmetic_ok t ts.left (omega (arith, lt)) known.left, arithmetic_ok (t + 1) ts.right lt known.right, typed),
+            arithmetic_ok (t + 1) ts.right lt known.right,
+            of_ok (t + 1) int lt (inr (inl refl)) (inr (inl refl)),
+            numbers_convert (type_of ts.right) int (type_numeric ts.right) tt,
+          ),
+          (
             (
-              (of_ok (t + 1) ty lt i k, arithmetic_ok (t + 1) ts.result lt known.result, numbers_convert ty (type_of ts.result) num (type_numeric ts.result)),
+              arithmetic_ok (t + 1) ts.result lt known.result,
+              arithmetic_ok t ts.left (omega (arith, lt)) known.left,
+              arithmetic_ok (t + 1) ts.right lt known.right,
+              typed,
+            ),
+            (
               (
-                store_ok (t + 1) o ty lt v place,
-                ((of_ok t ty (omega (arith, lt)) i k, arithmetic_ok t ts.left (omega (arith, lt)) known.left, numbers_convert ty (type_of ts.left) num (type_numeric ts.left)), r),
+                of_ok (t + 1) ty lt i k,
+                arithmetic_ok (t + 1) ts.result lt known.result,
+                numbers_convert ty (type_of ts.result) num
+                    (type_numeric ts.result),
+              ),
+              (
+                store,
+                (
+                  (
+                    of_ok t ty (omega (arith, lt)) i k,
+                    arithmetic_ok t ts.left (omega (arith, lt)) known.left,
+                    numbers_convert ty (type_of ts.left) num (type_numeric ts.left),
+                  ),
+                  r,
+                ),
               ),
             ),
           ),
         ),
       )
 
-  steps_ok : (prefix up : Bool) (mode : Mode) (ty : PlainType) (o t : ℕ) (rest : List PlainIr) → IsNumeric ty → IsScalar ty → IsExprType program ty → t + 1 < slots → ValidPlace program table f (object o) → IsScalarPlace program ty (object o) → AllGood rest → AllGood (step_code prefix (step_operator up) mode ty o t rest)
-  steps_ok true up mode ty o t rest num i k lt v place r = updates_ok (step_operator up) mode mode ty int o t rest num i k tt (inr (inl refl)) (inr (inl refl)) (step_arithmetic up (number_type ty)) lt v place r
-  steps_ok false up mode ty o t rest num i k lt v place r = keeping_ok (step_operator up) mode ty o t rest num i k (step_arithmetic up (number_type ty)) lt v place r
+  change_ok : (op : BinOp) (own mode : Mode) (ty right : PlainType) (to : Site) (t : ℕ) (rest : List PlainIr) → IsScalar ty
+      → IsExprType program ty → IsExprType program right → HaveCompoundTypes op ty right → t + 1 < slots → Good (store_to to (temp t ty))
+      → AllGood rest → AllGood (change_code op own mode ty to t right rest)
+  change_ok op own mode void right to t rest i k rk h lt store r = absurd i
+  change_ok op own mode (integer g w) right to t rest i k rk h lt store r = let x = compound_facts program op (integer g w) right tt rk h in
+      updates_ok op own mode (integer g w) right to t rest tt i k x.0 x.1 rk x.2 lt store r
+  change_ok op own mode (fixed z g) right to t rest i k rk h lt store r = let x = compound_facts program op (fixed z g) right tt rk h in
+      updates_ok op own mode (fixed z g) right to t rest tt i k x.0 x.1 rk x.2 lt store r
+  change_ok op own mode (pointer s c u) right to t rest i k rk h lt store r =
+      let ty = pointer s c u in
+      let at_t = of_ok t ty (omega (arith, lt)) tt k in
+      ((at_t, at_t, of_ok (t + 1) right lt (compound_right program op ty right tt rk h) rk, inl (moved_types op s c u right h)), (store, r))
+  change_ok op own mode (array u n) right to t rest i k rk h lt store r = absurd i
+  change_ok op own mode (struct n) right to t rest i k rk h lt store r = absurd i
+
+  postfix_ok : (up : Bool) (mode : Mode) (ty : PlainType) (to : Site) (t : ℕ) (rest : List PlainIr) → IsScalar ty → IsExprType program ty
+      → t + 1 < slots → Good (store_to to (temp (t + 1) ty)) → AllGood rest → AllGood (postfix_code (step_operator up) mode ty to t rest)
+  postfix_ok up mode void to t rest i k lt store r = absurd i
+  postfix_ok up mode (integer g w) to t rest i k lt store r = keeping_ok (step_operator up) mode (integer g w) to t rest tt i k
+      (step_arithmetic up (number_type (integer g w))) lt store r
+  postfix_ok up mode (fixed z g) to t rest i k lt store r = keeping_ok (step_operator up) mode (fixed z g) to t rest tt i k
+      (step_arithmetic up (number_type (fixed z g))) lt store r
+  postfix_ok up mode (pointer s c u) to t rest i k lt store r =
+      let ty = pointer s c u in (
+        (
+          of_ok (t + 1) ty lt tt k,
+          of_ok t ty (omega (arith, lt)) tt k,
+          of_ok (t + 1) int lt (inr (inl refl)) (inr (inl refl)),
+          inl (moved_types (step_operator up) s c u int (step_types up ty tt)),
+        ),
+        (store, r),
+      )
+  postfix_ok up mode (array u n) to t rest i k lt store r = absurd i
+  postfix_ok up mode (struct n) to t rest i k lt store r = absurd i
+
+  steps_ok : (prefix up : Bool) (mode : Mode) (ty : PlainType) (to : Site) (t : ℕ) (rest : List PlainIr) → IsScalar ty
+      → IsExprType program ty → t + 1 < slots → Good (store_to to (temp (stepped_place prefix t) ty)) → AllGood rest
+      → AllGood (step_code prefix (step_operator up) mode ty to t rest)
+  steps_ok true up mode ty to t rest i k lt store r = change_ok (step_operator up) mode mode ty int to t rest i k (inr (inl refl))
+      (step_types up ty i) lt store r
+  steps_ok false up mode ty to t rest i k lt store r = postfix_ok up mode ty to t rest i k lt store r
+
+  stepped_within : (prefix : Bool) (v : ℕ) → v + 1 < slots → stepped_place prefix v < slots
+  stepped_within true v lt = omega (arith, lt)
+  stepped_within false v lt = lt
 
   -- arguments are stored to the parameters of the function that is called
-  params_ok : (g : ℕ) (os : List ℕ) (es : PlainExprs) (t k : ℕ) (rest : List PlainIr) → Contains (called_in all) g → AllByRecursion (λ o. IsSomeAnd (slice_get program.objects o) (λ x. x.storage ≡ param g)) os → AreArguments program os es → ((o : ℕ) (x : PlainObject) → slice_get program.objects o ≡ Some x → x.storage ≡ param g → IsScalar x.ty) → t + greatest_from k (exprs_needs es) ≤ slots → AllGood rest → AllGood (params_code os es (t + k) rest)
+  params_ok : (g : ℕ) (os : List ℕ) (es : PlainExprs) (t k : ℕ) (rest : List PlainIr) → Contains (called_in all) g
+      → AllByRecursion (λ o. IsSomeAnd (slice_get program.objects o) (λ x. x.storage ≡ param g)) os → AreArguments program os es
+      → ((o : ℕ) (x : PlainObject) → slice_get program.objects o ≡ Some x → x.storage ≡ param g → IsScalar x.ty)
+      → t + greatest_from k (exprs_needs es) ≤ slots → AllGood rest → AllGood (params_code os es (t + k) rest)
   params_ok g [] es t k rest c ps args sc le r = r
   params_ok g (o ∷ os) last_expr t k rest c ps args sc le r = r
   params_ok g (o ∷ os) (next_expr e es) t k rest c ps args sc le r =
@@ -353,12 +621,22 @@ module _ (program : PlainProgram) (table : IoTable) (valid : Valid program table
       let is : x.0.ty ≡ type_of_expr e = cc in
       let scalar = sc o x.0 x.1 x.2 in
       let need = some_need e in
-      let leaf : HasLeafOf (data_of (lowered program (plain_table table))) x.0 0 (scalar_size (type_of_expr e)) = record { k = 0; leaf = record { ty = x.0.ty; at = 0 }; is = scalar_leaf program x.0.ty scalar; at = refl; size = ap scalar_size is } in (
+      let leaf : HasLeafOf (data_of (lowered program (plain_table table))) x.0 0 (scalar_size (type_of_expr e)) =
+      record {
+        k = 0;
+        leaf = record { ty = x.0.ty; at = 0 };
+        is = scalar_leaf program x.0.ty scalar;
+        at = refl;
+        size = ap scalar_size is;
+      } in (
         (
           temp_ok (t + k) (type_of_expr e) (omega (arith, need, le)) (subst IsScalar is scalar),
-          some_is (slice_get program.objects o) (λ x. (IsNamedIn f x.storage ⊎ IsParameterOf (called_in all) x.storage) × HasLeafOf (data_of (lowered program (plain_table table))) x 0 (scalar_size (type_of_expr e))) x.0 x.1 (inr (record { function = g; is = x.2; named = c }), leaf),
+          some_is (slice_get program.objects o) (λ x. (IsNamedIn f x.storage ⊎ IsParameterOf (called_in all) x.storage) × HasLeafOf
+              (data_of (lowered program (plain_table table))) x 0 (scalar_size (type_of_expr e))) x.0 x.1
+              (inr (record { function = g; is = x.2; named = c }), leaf),
         ),
-        subst (λ (u : ℕ). AllGood (params_code os es u rest)) (let z : t + (k + 1) ≡ t + k + 1 = omega arith in z) (params_ok g os es t (k + 1) rest c ps.1 args.1 sc (omega (arith, le)) r),
+        subst (λ (u : ℕ). AllGood (params_code os es u rest)) (let z : t + (k + 1) ≡ t + k + 1 = omega arith in z)
+            (params_ok g os es t (k + 1) rest c ps.1 args.1 sc (omega (arith, le)) r),
       )
 
   -- ---- ports
@@ -398,13 +676,13 @@ module _ (program : PlainProgram) (table : IoTable) (valid : Valid program table
       ((w, x), ((above, above, at_v, inl (operator_typed op long)), ((w, x), r)))
 
   access_ok : (op : IoOp) (mode : Mode) (port : Option PlainPort) (i : OptionPlainExpr) (t : ℕ) (rest : List PlainIr)
-      → AreOperated (port_operation op).long port → IsIndex slots (operand_temp i t)
-      → HasPlaces (port_operation op).action slots t (place_behind i t) → AllGood rest
+      → AreOperated (port_operation op).long port → IsIndex slots (operand_temp i t) → HasPlaces (port_operation op).action slots t
+      (value_behind i t) → AllGood rest
       → AllGood (access_code op mode port i t rest)
   access_ok op mode None i t rest h x lt r = r
   access_ok op mode (Some port) i t rest h x lt r =
-      port_ok (port_operation op).action op (port_operation op).long mode port (operand_temp i t) t (place_behind i t) rest (h port refl)
-      x lt r
+      port_ok (port_operation op).action op (port_operation op).long mode port (operand_temp i t) t (value_behind i t) rest
+      (h port refl) x lt r
 
   pairs_ok : (ps : List Pair) (t : ℕ) (rest : List PlainIr) → AllByRecursion IsBytePair ps → t < slots → AllGood rest
       → AllGood (pairs_code ps t rest)
@@ -421,163 +699,258 @@ module _ (program : PlainProgram) (table : IoTable) (valid : Valid program table
   group_ok acquire (Some x) t rest h lt r = pairs_ok (pairs_of acquire x) t rest (h x refl acquire) lt r
 
   -- the result of a call has the bytes of the function's
-  result_ok : (g t : ℕ) (ty : PlainType) (h : PlainFunction) → slice_get program.functions g ≡ Some h → ty ≡ h.returns → IsExprType program ty → IsNumericOrVoid ty → t < slots → (g < length (lowered program (plain_table table)).functions) × IsResult (lowered program (plain_table table)) results f slots all g (result_temp t ty)
-  result_ok g t ty h e same k num lt = (within, by_type ty k num same)
+  result_ok : (g t : ℕ) (ty : PlainType) (h : PlainFunction) → slice_get program.functions g ≡ Some h → ty ≡ h.returns
+      → IsExprType program ty → t < slots → (g < length (lowered program (plain_table table)).functions) × IsResult
+      (lowered program (plain_table table)) results f slots all g (result_temp t ty)
+  result_ok g t ty h e same k lt = (within, by_type ty k same)
     where
       within : g < length (lowered program (plain_table table)).functions
-      within = let x = slice_get_within program.functions g h e in let y = length-map program.functions (lowered_function program (plain_table table)) in omega (arith, x, y)
+      within = let x = slice_get_within program.functions g h e in let y = length-map program.functions
+          (lowered_function program (plain_table table)) in omega (arith, x, y)
 
       bytes : results g ≡ scalar_size h.returns
       bytes = ap (λ z. unwrap_or (option_map (λ (h : PlainFunction). scalar_size h.returns) z) 0) e
 
-      by_type : (ty : PlainType) → IsExprType program ty → IsNumericOrVoid ty → ty ≡ h.returns → IsResult (lowered program (plain_table table)) results f slots all g (result_temp t ty)
-      by_type void k num same = tt
-      by_type (integer s b) k num same = (temp_ok t (integer s b) lt k, ap scalar_size same ∙ sym bytes)
-      by_type (fixed q s) k num same = (temp_ok t (fixed q s) lt tt, ap scalar_size same ∙ sym bytes)
-      by_type (pointer s c q) k num same = absurd num
-      by_type (array q n) k num same = absurd num
-      by_type (struct i) k num same = absurd num
+      by_type : (ty : PlainType) → IsExprType program ty → ty ≡ h.returns → IsResult (lowered program (plain_table table)) results f slots
+          all g (result_temp t ty)
+      by_type void k same = tt
+      by_type (integer s b) k same = (temp_ok t (integer s b) lt k, ap scalar_size same ∙ sym bytes)
+      by_type (fixed q s) k same = (temp_ok t (fixed q s) lt tt, ap scalar_size same ∙ sym bytes)
+      by_type (pointer s c q) k same = (temp_ok t (pointer s c q) lt tt, ap scalar_size same ∙ sym bytes)
+      by_type (array q n) k same = absurd k
+      by_type (struct i) k same = absurd k
 
-  parameters : (g : ℕ) (h : PlainFunction) → slice_get program.functions g ≡ Some h → AllByRecursion (λ o. IsSomeAnd (slice_get program.objects o) (λ x. x.storage ≡ param g)) h.params
-  parameters g h e = (subst (λ (k : ℕ). IsFunction program table k h) (let z : 0 + g ≡ g = omega arith in z) (each_at (IsFunction program table) 0 program.functions g h valid.functions e)).params
+  parameters : (g : ℕ) (h : PlainFunction) → slice_get program.functions g ≡ Some h
+      → AllByRecursion (λ o. IsSomeAnd (slice_get program.objects o) (λ x. x.storage ≡ param g)) h.params
+  parameters g h e = (subst (λ (k : ℕ). IsFunction program table k h) (let z : 0 + g ≡ g = omega arith in z)
+      (each_at (IsFunction program table) 0 program.functions g h valid.functions e)).params
 
   mutual
-    pub expr_ok : (e : PlainExpr) (l t : ℕ) (rest : List PlainIr) → IsExpr IsNumericOrVoid IsAnyFunction e → ValidExpr program table f e → t + expr_need e ≤ slots → Stands all (expr_code program (plain_table table) e l t rest) → AllGood rest → AllGood (expr_code program (plain_table table) e l t rest)
-    expr_ok (expression ty mode node) l t rest p v le s r = node_ok ty mode node l t rest p.0 p.1 v.0 v.1 v.2 le s r
+    pub expr_ok : (e : PlainExpr) (l t : ℕ) (rest : List PlainIr) → ValidExpr program table f e → t + expr_need e ≤ slots
+        → Stands all (expr_code program (plain_table table) e l t rest) → AllGood rest
+        → AllGood (expr_code program (plain_table table) e l t rest)
+    expr_ok (expression ty mode node) l t rest v le s r = node_ok ty mode node l t rest v.0 v.1 v.2 le s r
 
-    node_ok : (ty : PlainType) (mode : Mode) (node : PlainNode) (l t : ℕ) (rest : List PlainIr) → IsNumericOrVoid ty → IsNode IsNumericOrVoid IsAnyFunction node → IsExprType program ty → IsTyped program table ty node → ValidParts program table f node → t + expr_need (expression ty mode node) ≤ slots → Stands all (node_code program (plain_table table) ty mode node l t rest) → AllGood rest → AllGood (node_code program (plain_table table) ty mode node l t rest)
-    node_ok ty mode (number n) l t rest num p k tp v le s r = let i = arithmetic_scalar program ty _ k tp in ((temp_ok t ty (omega (arith, le)) i, number_ok ty n i tp), r)
-    node_ok ty mode null l t rest num p k tp v le s r = absurd p
-    node_ok ty mode (load (object o)) l t rest num p k tp v le s r = (load_ok t o ty (omega (arith, le)) v tp, r)
-    node_ok ty mode (load (deref e)) l t rest num p k tp v le s r = absurd p
-    node_ok ty mode (load (member q i)) l t rest num p k tp v le s r = absurd p
-    node_ok ty mode (address_of q) l t rest num p k tp v le s r = absurd p
-    node_ok ty mode (unary op a) l t rest num p k tp v le s r =
+    node_ok : (ty : PlainType) (mode : Mode) (node : PlainNode) (l t : ℕ) (rest : List PlainIr) → IsExprType program ty
+        → IsTyped program table ty node → ValidParts program table f node → t + expr_need (expression ty mode node) ≤ slots
+        → Stands all (node_code program (plain_table table) ty mode node l t rest) → AllGood rest
+        → AllGood (node_code program (plain_table table) ty mode node l t rest)
+    node_ok ty mode (number n) l t rest k tp v le s r = let i = arithmetic_scalar program ty _ k tp in
+        ((temp_ok t ty (omega (arith, le)) i, number_ok ty n i tp), r)
+    node_ok ty mode null l t rest k tp v le s r =
+        let i = pointer_scalar ty _ (some_and (pointee ty) (λ t. ⊤) tp).1 in
+        ((temp_ok t ty (omega (arith, le)) i, zero_ok (scalar_size ty) (scalar_bytes ty i).0), r)
+    node_ok ty mode (load q) l t rest k tp v le s r =
+        let pt = part program table valid f q t ty tp.1 v in
+        let rm = room program table valid f q t ty [] slots pt le in
+        place_ok q l t (load_from (temp t ty) (site program q t) ∷ rest) ty tp.1 v rm.pointer s (load_ok q t t ty rm.one rm.one tp.0 pt, r)
+    node_ok ty mode (address_of q) l t rest k tp v le s r =
+        let g = address_typed program ty q tp in
+        let pt = part program table valid f q t g.0 g.1 v.0 in
+        let rm = room program table valid f q t g.0 [] slots pt le in
+        place_ok q l t (address_code (site program q t) ty t rest) g.0 g.1 v.0 rm.pointer s
+        (address_ok q t ty g.0 rest rm.one (address_scalar program ty q tp) tp v.1 pt r)
+    node_ok ty mode (unary op a) l t rest k tp v le s r =
         let i = arithmetic_scalar program ty _ k tp.1 in let o = of_ok t ty (omega (arith, le)) i k in
-        expr_ok a l t (unary_op op ty mode (temp t ty) (temp t ty) ∷ rest) p v (omega (arith, le)) s ((o, o, tp.1), r)
-    node_ok ty mode (binary op a b) l t rest num p k tp v le s r =
-        let q : List PlainIr = binary_op op ty mode (temp t ty) (temp t (type_of_expr a)) (type_of_expr a) (temp (t + 1) (type_of_expr b)) (type_of_expr b) ∷ rest in
+        expr_ok a l t (unary_op op ty mode (temp t ty) (temp t ty) ∷ rest) v (omega (arith, le)) s ((o, o, tp.1), r)
+    node_ok ty mode (binary op a b) l t rest k tp v le s r =
+        let q : List PlainIr = binary_op op ty mode (temp t ty) (temp t (type_of_expr a)) (type_of_expr a) (temp (t + 1) (type_of_expr b))
+        (type_of_expr b) ∷ rest in
         let ka = type_known program table f a v.0 in let kb = type_known program table f b v.1 in
-        let na = type_kind IsAnyFunction a p.0 in let nb = type_kind IsAnyFunction b p.1 in
-        let sides = binary_scalars program op ty (type_of_expr a) (type_of_expr b) na nb ka kb tp in
-        let i = binary_result_scalar program op ty (type_of_expr a) (type_of_expr b) na nb k tp in
+        let sides = binary_scalars program op ty (type_of_expr a) (type_of_expr b) ka kb tp in
+        let i = binary_result_scalar program op ty (type_of_expr a) (type_of_expr b) ka kb k tp in
         let need = some_need b in
-        expr_ok a l t (expr_code program (plain_table table) b (l + expr_labels a) (t + 1) q) p.0 v.0 (omega (arith, le)) s
-        (expr_ok b (l + expr_labels a) (t + 1) q p.1 v.1 (omega (arith, le)) (expr_behind program (plain_table table) all a l t (expr_code program (plain_table table) b (l + expr_labels a) (t + 1) q) s)
-        ((of_ok t ty (omega (arith, le)) i k, of_ok t (type_of_expr a) (omega (arith, le)) sides.0 ka, of_ok (t + 1) (type_of_expr b) (omega (arith, le, need)) sides.1 kb, inl tp), r))
-    node_ok ty mode (convert a) l t rest num p k tp v le s r =
+        expr_ok a l t (expr_code program (plain_table table) b (l + expr_labels a) (t + 1) q) v.0 (omega (arith, le)) s
+        (expr_ok b (l + expr_labels a) (t + 1) q v.1 (omega (arith, le)) (expr_behind program (plain_table table) all a l t
+        (expr_code program (plain_table table) b (l + expr_labels a) (t + 1) q) s) (
+          (
+            of_ok t ty (omega (arith, le)) i k,
+            of_ok t (type_of_expr a) (omega (arith, le)) sides.0 ka,
+            of_ok (t + 1) (type_of_expr b)
+                (omega (arith, le, need)) sides.1 kb,
+            inl tp,
+          ),
+          r,
+        ))
+    node_ok ty mode (convert a) l t rest k tp v le s r =
         let ka = type_known program table f a v in
-        let i = converted_scalar program ty (type_of_expr a) (type_kind IsAnyFunction a p) ka tp.0 tp.1 in
-        expr_ok a l t (conversion (temp t ty) ty mode (temp t (type_of_expr a)) (type_of_expr a) ∷ rest) p v (omega (arith, le)) s
+        let i = converted_scalar program ty (type_of_expr a) ka tp.0 tp.1 in
+        expr_ok a l t (conversion (temp t ty) ty mode (temp t (type_of_expr a)) (type_of_expr a) ∷ rest) v (omega (arith, le)) s
         ((of_ok t ty (omega (arith, le)) tp.0 k, of_ok t (type_of_expr a) (omega (arith, le)) i ka, tp.1), r)
-    node_ok ty mode (assign (object o) a) l t rest num p k tp v le s r =
-        expr_ok a l t (store_object o 0 (temp t ty) ∷ rest) p.1 v.1 (omega (arith, le)) s (store_ok t o ty (omega (arith, le)) v.0 tp.0, r)
-    node_ok ty mode (assign (deref e) a) l t rest num p k tp v le s r = absurd p.0
-    node_ok ty mode (assign (member q i) a) l t rest num p k tp v le s r = absurd p.0
-    node_ok ty mode (compound op own (object o) a) l t rest num p k tp v le s r =
-        let ka = type_known program table f a v.1 in
-        let facts = compound_facts program op ty (type_of_expr a) num (type_kind IsAnyFunction a p.1) tp.0.0 ka tp.1 in
+    node_ok ty mode (assign q a) l t rest k tp v le s r =
+        let st = site program q t in
+        let u = value_place st t in
+        let pt = part program table valid f q t ty tp.0.1 v.0 in
+        let rm = room program table valid f q t ty (expr_need a ∷ []) slots pt le in
         let need = some_need a in
-        let q = update_code op (update_types op (number_type ty) (number_type (type_of_expr a))) own mode ty o t (type_of_expr a) rest in (
-          load_ok t o ty (omega (arith, le)) v.0 tp.0,
-          expr_ok a l (t + 1) q p.1 v.1 (omega (arith, le)) (behind all (load_object (temp t ty) o 0) (expr_code program (plain_table table) a l (t + 1) q) s)
-              (updates_ok op own mode ty (type_of_expr a) o t rest facts.0 tp.0.0 k facts.1 facts.2 ka facts.3 (omega (arith, le, need)) v.0 tp.0 r),
+        let others = rm.others in
+        let c : List PlainIr = store_to st (temp u ty) ∷ settled_code st ty t rest in
+        let d = expr_code program (plain_table table) a (l + place_labels q) u c in
+        place_ok q l t d ty tp.0.1 v.0 rm.pointer s
+        (expr_ok a (l + place_labels q) u c v.1 (omega (arith, others)) (place_behind program (plain_table table) all q l t d s) (
+          store_ok q t u ty (omega (arith, others, need)) rm.one tp.0.0 pt,
+          settled_ok q t ty ty rest (omega (arith, others, need)) tp.0.0 pt r,
+        ))
+    node_ok ty mode (compound op own q a) l t rest k tp v le s r =
+        let st = site program q t in
+        let u = value_place st t in
+        let pt = part program table valid f q t ty tp.0.1 v.0 in
+        let rm = room program table valid f q t ty (1 ∷ expr_need a ∷ []) slots pt le in
+        let need = some_need a in
+        let others = rm.others in
+        let ka = type_known program table f a v.1 in
+        let e = settled_code st ty t rest in
+        let c = change_code op own mode ty st u (type_of_expr a) e in
+        let ac = expr_code program (plain_table table) a (l + place_labels q) (u + 1) c in
+        let d : List PlainIr = load_from (temp u ty) st ∷ ac in
+        place_ok q l t d ty tp.0.1 v.0 rm.pointer s (
+          load_ok q t u ty (omega (arith, others)) rm.one tp.0.0 pt,
+          expr_ok a (l + place_labels q) (u + 1) c v.1 (omega (arith, others)) (behind all (load_from (temp u ty) st) ac
+              (place_behind program (plain_table table) all q l t d s))
+              (change_ok op own mode ty (type_of_expr a) st u e tp.0.0 k ka tp.1 (omega (arith, others, need))
+              (store_ok q t u ty (omega (arith, others)) rm.one tp.0.0 pt)
+              (settled_ok q t ty ty rest (omega (arith, others)) tp.0.0 pt r)),
         )
-    node_ok ty mode (compound op own (deref e) a) l t rest num p k tp v le s r = absurd p.0
-    node_ok ty mode (compound op own (member q i) a) l t rest num p k tp v le s r = absurd p.0
-    node_ok ty mode (step up prefix (object o)) l t rest num p k tp v le s r =
-        (load_ok t o ty (omega (arith, le)) v tp, ((temp_ok (t + 1) int (omega (arith, le)) (inr (inl refl)), truth_ok int true refl), steps_ok prefix up mode ty o t rest (numeric_scalar ty num tp.0) tp.0 k (omega (arith, le)) v tp r))
-    node_ok ty mode (step up prefix (deref e)) l t rest num p k tp v le s r = absurd p
-    node_ok ty mode (step up prefix (member q i)) l t rest num p k tp v le s r = absurd p
-    node_ok ty mode (logical_not a) l t rest num p k tp v le s r =
+    node_ok ty mode (step up prefix q) l t rest k tp v le s r =
+        let st = site program q t in
+        let u = value_place st t in
+        let pt = part program table valid f q t ty tp.1 v in
+        let rm = room program table valid f q t ty (1 ∷ 1 ∷ []) slots pt le in
+        let others = rm.others in
+        let above : u + 1 < slots = omega (arith, others) in
+        let e = settled_code st ty t rest in
+        let c = step_code prefix (step_operator up) mode ty st u e in
+        place_ok q l t (load_from (temp u ty) st ∷ constant (temp (u + 1) int) (pos 1) ∷ c) ty tp.1 v rm.pointer s (
+          load_ok q t u ty (omega (arith, above)) rm.one tp.0 pt,
+          (
+            (temp_ok (u + 1) int above (inr (inl refl)), truth_ok int true refl),
+            steps_ok prefix up mode ty st u e tp.0 k above (store_ok q t (stepped_place prefix u) ty (stepped_within prefix u above) rm.one
+                tp.0
+                pt) (settled_ok q t ty ty rest (omega (arith, above)) tp.0 pt r),
+          ),
+        )
+    node_ok ty mode (logical_not a) l t rest k tp v le s r =
         let q = truth_code false ty l t rest in
-        let s1 = behind all (branch_zero (temp t (type_of_expr a)) l) q (expr_behind program (plain_table table) all a (l + 2) t (branch_zero (temp t (type_of_expr a)) l ∷ q) s) in
-        expr_ok a (l + 2) t (branch_zero (temp t (type_of_expr a)) l ∷ q) p v (omega (arith, le)) s
-        ((temp_ok t (type_of_expr a) (omega (arith, le)) tp.0, label_once l _ (behind all _ _ (behind all _ _ s1))), truths_ok false ty l t rest tp.1 (omega (arith, le)) s1 r)
-    node_ok ty mode (logical_and a b) l t rest num p k tp v le s r =
+        let s1 = behind all (branch_zero (temp t (type_of_expr a)) l) q (expr_behind program (plain_table table) all a (l + 2) t
+        (branch_zero (temp t (type_of_expr a)) l ∷ q) s) in
+        expr_ok a (l + 2) t (branch_zero (temp t (type_of_expr a)) l ∷ q) v (omega (arith, le)) s (
+          (temp_ok t (type_of_expr a) (omega (arith, le)) tp.0, label_once l _ (behind all _ _ (behind all _ _ s1))),
+          truths_ok false ty l t rest tp.1 (omega (arith, le)) s1 r,
+        )
+    node_ok ty mode (logical_and a b) l t rest k tp v le s r =
         let q = truth_code true ty l t rest in
         let bc = expr_code program (plain_table table) b (l + 2 + expr_labels a) t (branch_zero (temp t (type_of_expr b)) l ∷ q) in
-        let s1 = behind all (branch_zero (temp t (type_of_expr a)) l) bc (expr_behind program (plain_table table) all a (l + 2) t (branch_zero (temp t (type_of_expr a)) l ∷ bc) s) in
-        let s2 = behind all (branch_zero (temp t (type_of_expr b)) l) q (expr_behind program (plain_table table) all b (l + 2 + expr_labels a) t (branch_zero (temp t (type_of_expr b)) l ∷ q) s1) in
+        let s1 = behind all (branch_zero (temp t (type_of_expr a)) l) bc (expr_behind program (plain_table table) all a (l + 2) t
+        (branch_zero (temp t (type_of_expr a)) l ∷ bc) s) in
+        let s2 = behind all (branch_zero (temp t (type_of_expr b)) l) q (expr_behind program (plain_table table) all b
+        (l + 2 + expr_labels a) t (branch_zero (temp t (type_of_expr b)) l ∷ q) s1) in
         let one = label_once l _ (behind all _ _ (behind all _ _ s2)) in
-        expr_ok a (l + 2) t (branch_zero (temp t (type_of_expr a)) l ∷ bc) p.0 v.0 (omega (arith, le)) s (
+        expr_ok a (l + 2) t (branch_zero (temp t (type_of_expr a)) l ∷ bc) v.0 (omega (arith, le)) s (
           (temp_ok t (type_of_expr a) (omega (arith, le)) tp.0, one),
-          expr_ok b (l + 2 + expr_labels a) t (branch_zero (temp t (type_of_expr b)) l ∷ q) p.1 v.1 (omega (arith, le)) s1 ((temp_ok t (type_of_expr b) (omega (arith, le)) tp.1, one), truths_ok true ty l t rest tp.2 (omega (arith, le)) s2 r),
+          expr_ok b (l + 2 + expr_labels a) t (branch_zero (temp t (type_of_expr b)) l ∷ q) v.1 (omega (arith, le)) s1
+              ((temp_ok t (type_of_expr b) (omega (arith, le)) tp.1, one), truths_ok true ty l t rest tp.2 (omega (arith, le)) s2 r),
         )
-    node_ok ty mode (logical_or a b) l t rest num p k tp v le s r =
+    node_ok ty mode (logical_or a b) l t rest k tp v le s r =
         let q = truth_code true ty l t rest in
-        let bc = expr_code program (plain_table table) b (l + 4 + expr_labels a) t (branch_zero (temp t (type_of_expr b)) l ∷ label (l + 3) ∷ q) in
-        let s1 = behind all (branch_zero (temp t (type_of_expr a)) (l + 2)) _ (expr_behind program (plain_table table) all a (l + 4) t (branch_zero (temp t (type_of_expr a)) (l + 2) ∷ jump (l + 3) ∷ label (l + 2) ∷ bc) s) in
+        let bc = expr_code program (plain_table table) b (l + 4 + expr_labels a) t (branch_zero (temp t (type_of_expr b)) l ∷ label (l + 3)
+        ∷ q) in
+        let s1 = behind all (branch_zero (temp t (type_of_expr a)) (l + 2)) _ (expr_behind program (plain_table table) all a (l + 4) t
+        (branch_zero (temp t (type_of_expr a)) (l + 2) ∷ jump (l + 3) ∷ label (l + 2) ∷ bc) s) in
         let s2 = behind all (jump (l + 3)) (label (l + 2) ∷ bc) s1 in
         let s3 = behind all (label (l + 2)) bc s2 in
-        let s4 = behind all (branch_zero (temp t (type_of_expr b)) l) (label (l + 3) ∷ q) (expr_behind program (plain_table table) all b (l + 4 + expr_labels a) t (branch_zero (temp t (type_of_expr b)) l ∷ label (l + 3) ∷ q) s3) in
+        let s4 = behind all (branch_zero (temp t (type_of_expr b)) l) (label (l + 3) ∷ q) (expr_behind program (plain_table table) all b
+        (l + 4 + expr_labels a) t (branch_zero (temp t (type_of_expr b)) l ∷ label (l + 3) ∷ q) s3) in
         let s5 = behind all (label (l + 3)) q s4 in
         let one = label_once l _ (behind all _ _ (behind all _ _ s5)) in
-        expr_ok a (l + 4) t (branch_zero (temp t (type_of_expr a)) (l + 2) ∷ jump (l + 3) ∷ label (l + 2) ∷ bc) p.0 v.0 (omega (arith, le)) s (
+        expr_ok a (l + 4) t (branch_zero (temp t (type_of_expr a)) (l + 2) ∷ jump (l + 3) ∷ label (l + 2) ∷ bc) v.0 (omega (arith, le)) s (
           (temp_ok t (type_of_expr a) (omega (arith, le)) tp.0, label_once (l + 2) bc s2),
           (
             label_once (l + 3) q s4,
             (
               tt,
-              expr_ok b (l + 4 + expr_labels a) t (branch_zero (temp t (type_of_expr b)) l ∷ label (l + 3) ∷ q) p.1 v.1 (omega (arith, le)) s3 ((temp_ok t (type_of_expr b) (omega (arith, le)) tp.1, one), (tt, truths_ok true ty l t rest tp.2 (omega (arith, le)) s5 r)),
+              expr_ok b (l + 4 + expr_labels a) t (branch_zero (temp t (type_of_expr b)) l ∷ label (l + 3) ∷ q) v.1 (omega (arith, le)) s3 (
+                (temp_ok t (type_of_expr b) (omega (arith, le)) tp.1, one),
+                (
+                  tt,
+                  truths_ok true ty l t rest tp.2
+                      (omega (arith, le)) s5 r,
+                ),
+              ),
             ),
           ),
         )
-    node_ok ty mode (conditional c a b) l t rest num p k tp v le s r =
+    node_ok ty mode (conditional c a b) l t rest k tp v le s r =
         let bc = expr_code program (plain_table table) b (l + 2 + expr_labels c + expr_labels a) t (label (l + 1) ∷ rest) in
         let ac = expr_code program (plain_table table) a (l + 2 + expr_labels c) t (jump (l + 1) ∷ label l ∷ bc) in
-        let s1 = behind all (branch_zero (temp t (type_of_expr c)) l) ac (expr_behind program (plain_table table) all c (l + 2) t (branch_zero (temp t (type_of_expr c)) l ∷ ac) s) in
-        let s2 = behind all (jump (l + 1)) (label l ∷ bc) (expr_behind program (plain_table table) all a (l + 2 + expr_labels c) t (jump (l + 1) ∷ label l ∷ bc) s1) in
+        let s1 = behind all (branch_zero (temp t (type_of_expr c)) l) ac (expr_behind program (plain_table table) all c (l + 2) t
+        (branch_zero (temp t (type_of_expr c)) l ∷ ac) s) in
+        let s2 = behind all (jump (l + 1)) (label l ∷ bc) (expr_behind program (plain_table table) all a (l + 2 + expr_labels c) t
+        (jump (l + 1) ∷ label l ∷ bc) s1) in
         let s3 = behind all (label l) bc s2 in
         let s4 = expr_behind program (plain_table table) all b (l + 2 + expr_labels c + expr_labels a) t (label (l + 1) ∷ rest) s3 in
-        expr_ok c (l + 2) t (branch_zero (temp t (type_of_expr c)) l ∷ ac) p.0 v.0 (omega (arith, le)) s (
+        expr_ok c (l + 2) t (branch_zero (temp t (type_of_expr c)) l ∷ ac) v.0 (omega (arith, le)) s (
           (temp_ok t (type_of_expr c) (omega (arith, le)) tp.0, label_once l bc s2),
-          expr_ok a (l + 2 + expr_labels c) t (jump (l + 1) ∷ label l ∷ bc) p.1 v.1 (omega (arith, le)) s1 (
+          expr_ok a (l + 2 + expr_labels c) t (jump (l + 1) ∷ label l ∷ bc) v.1 (omega (arith, le)) s1 (
             label_once (l + 1) rest s4,
             (
               tt,
-              expr_ok b (l + 2 + expr_labels c + expr_labels a) t (label (l + 1) ∷ rest) p.2 v.2 (omega (arith, le)) s3 (tt, r),
+              expr_ok b (l + 2 + expr_labels c + expr_labels a) t (label (l + 1) ∷ rest) v.2 (omega (arith, le)) s3 (tt, r),
             ),
           ),
         )
-    node_ok ty mode (comma a b) l t rest num p k tp v le s r =
+    node_ok ty mode (comma a b) l t rest k tp v le s r =
         let bc = expr_code program (plain_table table) b (l + expr_labels a) t rest in
-        expr_ok a l t bc p.0 v.0 (omega (arith, le)) s (expr_ok b (l + expr_labels a) t rest p.1 v.1 (omega (arith, le)) (expr_behind program (plain_table table) all a l t bc s) r)
-    node_ok ty mode (call g args) l t rest num p k tp v le s r =
+        expr_ok a l t bc v.0 (omega (arith, le)) s (expr_ok b (l + expr_labels a) t rest v.1 (omega (arith, le))
+        (expr_behind program (plain_table table) all a l t bc s) r)
+    node_ok ty mode (call g args) l t rest k tp v le s r =
         let h = some_and (slice_get program.functions g) (λ h. (ty ≡ h.returns) × AreArguments program h.params args) tp in
         let q : List PlainIr = call_function g (result_temp t ty) ∷ rest in
         let is : h.0.params ≡ params_of program g = sym (ap (λ z. unwrap_or (option_map (λ (y : PlainFunction). y.params) z) []) h.1) in
         let s1 = args_behind program (plain_table table) all args l t (params_code (params_of program g) args t q) s in
         let s2 = params_behind program (plain_table table) all (params_of program g) args t q s1 in
-        let c : Contains (called_in all) g = subst (λ (x : List PlainIr). Contains (called_in x) g) (sym s2.1) (called_at s2.0 g (result_temp t ty) rest) in
+        let c : Contains (called_in all) g = subst (λ (x : List PlainIr). Contains (called_in x) g) (sym s2.1)
+        (called_at s2.0 g (result_temp t ty) rest) in
         let z : t + 0 ≡ t = omega arith in
-        let calls_good : AllGood q = (result_ok g t ty h.0 h.1 h.2.0 k num (omega (arith, le)), r) in
-        args_ok args l t 0 (params_code (params_of program g) args t q) t (omega arith) p.1 v (omega (arith, le)) s
+        let calls_good : AllGood q = (result_ok g t ty h.0 h.1 h.2.0 k (omega (arith, le)), r) in
+        args_ok args l t 0 (params_code (params_of program g) args t q) t (omega arith) v (omega (arith, le)) s
         (subst (λ (os : List ℕ). AllGood (params_code os args t q)) is (subst (λ (u : ℕ). AllGood (params_code h.0.params args u q)) z
-        (params_ok g h.0.params args t 0 q c (parameters g h.0 h.1) h.2.1 (λ o x e st. (param_home program table valid o g x e st).1) (omega (arith, le)) calls_good)))
-    node_ok ty mode (io op port i w) l t rest num p k tp v le s r =
+        (params_ok g h.0.params args t 0 q c (parameters g h.0 h.1) h.2.1 (λ o x e st. (param_home program table valid o g x e st).1)
+        (omega (arith, le)) calls_good)))
+    node_ok ty mode (io op port i w) l t rest k tp v le s r =
         let more : List ℕ = if is_update (port_operation op).action then 1 ∷ [] else [] in
         let q = access_code op mode (slice_get (plain_table table).ports port) i t rest in
-        let wc = option_code program (plain_table table) w (l + option_labels i) (place_behind i t) q in
-        operand_ok i l t wc p.0 v.0 (first_place i w more t slots le) s
-        (operand_ok w (l + option_labels i) (place_behind i t) q p.1 v.1 (second_place i w more t slots le)
+        let wc = option_code program (plain_table table) w (l + option_labels i) (value_behind i t) q in
+        operand_ok i l t wc v.0 (first_place i w more t slots le) s
+        (operand_ok w (l + option_labels i) (value_behind i t) q v.1 (second_place i w more t slots le)
         (operand_behind program (plain_table table) all i l t wc s)
-        (access_ok op mode (slice_get (plain_table table).ports port) i t rest
-        (port_operated table valid.ports port (port_operation op).long tp.port)
+        (access_ok op mode (slice_get (plain_table table).ports port) i t rest (port_operated table valid.ports port
+        (port_operation op).long tp.port)
         (index_ok (port_operation op).indexed i t tp.index (omega (arith, le)))
         (port_places (port_operation op).action (port_value (port_operation op)) i w t slots tp.value le) r))
-    node_ok ty mode (group acquire g) l t rest num p k tp v le s r = group_ok acquire (slice_get (plain_table table).groups g) t rest
+    node_ok ty mode (group acquire g) l t rest k tp v le s r = group_ok acquire (slice_get (plain_table table).groups g) t rest
         (group_pairs table pairs g) (omega (arith, le)) r
 
-    operand_ok : (e : OptionPlainExpr) (l t : ℕ) (rest : List PlainIr) → IsOptionExpr IsNumericOrVoid IsAnyFunction e
-        → ValidOption program table f e → t + operand_need e ≤ slots → Stands all (option_code program (plain_table table) e l t rest)
-        → AllGood rest
-        → AllGood (option_code program (plain_table table) e l t rest)
-    operand_ok no_expr l t rest p v le s r = r
-    operand_ok (an_expr e) l t rest p v le s r = expr_ok e l t rest p v le s r
+    place_ok : (q : PlainPlace) (l t : ℕ) (rest : List PlainIr) (ty : PlainType) → place_type program q ≡ Some ty
+        → ValidPlace program table f q → t + place_need q ≤ slots → Stands all (place_code program (plain_table table) q l t rest)
+        → AllGood rest → AllGood (place_code program (plain_table table) q l t rest)
+    place_ok (object o) l t rest ty e v le s r = r
+    place_ok (deref a) l t rest ty e v le s r = expr_ok a l t rest v le s r
+    place_ok (member q i) l t rest ty e v le s r =
+        let g = some_then (place_type program q) _ ty e in
+        place_ok q l t (further_code (offset_of program q i) (site program q t) rest) g.0 g.1 v le s
+        (further_ok q (offset_of program q i) t g.0 rest le (part program table valid f q t g.0 g.1 v) r)
 
-    args_ok : (es : PlainExprs) (l base k : ℕ) (rest : List PlainIr) (t : ℕ) → t ≡ base + k → AreExprs IsNumericOrVoid IsAnyFunction es → ValidExprs program table f es → base + greatest_from k (exprs_needs es) ≤ slots → Stands all (args_code program (plain_table table) es l t rest) → AllGood rest → AllGood (args_code program (plain_table table) es l t rest)
-    args_ok last_expr l base k rest t e p v le s r = r
-    args_ok (next_expr a es) l base k rest t e p v le s r =
+    operand_ok : (e : OptionPlainExpr) (l t : ℕ) (rest : List PlainIr) → ValidOption program table f e → t + operand_need e ≤ slots
+        → Stands all (option_code program (plain_table table) e l t rest) → AllGood rest
+        → AllGood (option_code program (plain_table table) e l t rest)
+    operand_ok no_expr l t rest v le s r = r
+    operand_ok (an_expr e) l t rest v le s r = expr_ok e l t rest v le s r
+
+    args_ok : (es : PlainExprs) (l base k : ℕ) (rest : List PlainIr) (t : ℕ) → t ≡ base + k → ValidExprs program table f es
+        → base + greatest_from k (exprs_needs es) ≤ slots → Stands all (args_code program (plain_table table) es l t rest) → AllGood rest
+        → AllGood (args_code program (plain_table table) es l t rest)
+    args_ok last_expr l base k rest t e v le s r = r
+    args_ok (next_expr a es) l base k rest t e v le s r =
         let q = args_code program (plain_table table) es (l + expr_labels a) (t + 1) rest in
-        expr_ok a l t q p.0 v.0 (omega (arith, e, le)) s (args_ok es (l + expr_labels a) base (k + 1) rest (t + 1) (omega (arith, e)) p.1 v.1 (omega (arith, le)) (expr_behind program (plain_table table) all a l t q s) r)
+        expr_ok a l t q v.0 (omega (arith, e, le)) s (args_ok es (l + expr_labels a) base (k + 1) rest (t + 1) (omega (arith, e)) v.1
+        (omega (arith, le)) (expr_behind program (plain_table table) all a l t q s) r)

@@ -1,5 +1,6 @@
 -- Whole programs.
-use Rattle.std.proofs.Common.{◌≡◌, ℕ, zero, suc, ◌+◌, ◌*◌, Bool, true, false, ℤ, pos, List, [], ◌∷◌, length, map, Option, Some, None, refl, sym, ap, ◌∙◌, subst, inl, inr, arith, eq-eqb}
+use Rattle.std.proofs.Common.{◌≡◌, ℕ, zero, suc, ◌+◌, ◌*◌, Bool, true, false, ℤ, pos, List, [], ◌∷◌, length, map, Option, Some}
+use Rattle.std.proofs.Common.{None, refl, sym, ap, ◌∙◌, subst, inl, inr, arith, eq-eqb}
 use Rattle.std.specs.Prelude.{⊤, ◌==◌, IsTrue, nat_le, slice_get, replicate, option_map, option_and_then}
 use Rattle.std.specs.List.{AllByRecursion}
 use Rattle.std.proofs.lemmas.Option.{slice_get-map}
@@ -13,14 +14,16 @@ use Rattle.ec_core.specs.declared.values.Value.{Value}
 use Rattle.ec_core.specs.declared.values.Value.TheVariants.{Number, Pointer}
 use Rattle.ec_core.specs.Accesses.{leaf_count, frame_ended}
 use Rattle.ec_core.specs.Layout.{IsScalar, PlainLeaf, leaves_of_type}
-use Rattle.ec_core.specs.Meaning.{initial_value, initial_object, initial_state, run as source_run, number_of, behaviour_of, source, state_of}
+use Rattle.ec_core.specs.Meaning.{initial_value, initial_object, initial_state, run as source_run, number_of, behaviour_of}
+use Rattle.ec_core.specs.Meaning.{source, state_of}
 use Rattle.ec_core.specs.Plain.{PlainType, void, PlainStorage, static, local, param, register, PlainObject, PlainFunction, PlainProgram}
 use Rattle.ec_core.specs.PortTable.{plain_table}
 use Rattle.ec_core.specs.State.{Inputs, Event, State, worked, Outcome, got, more, undefined, next, given}
-use Rattle.ec_core.specs.Statements.{Exit, at_end, by_break, by_continue, by_return, effect_of, parameters_written, call_result, call_of, calls_within}
+use Rattle.ec_core.specs.Statements.{Exit, at_end, by_break, by_continue, by_return, effect_of, parameters_written, call_result}
+use Rattle.ec_core.specs.Statements.{call_of, calls_within}
 use Rattle.ec_core.specs.Typing.{int}
 use Rattle.ec_core.specs.Valid.{AreInitialValues, IsStored, IsObject, IsFunction, ValidStmt}
-use Rattle.ec_core.specs.ValueTypes.{IsTypedState, GiveBytes}
+use Rattle.ec_core.specs.ValueTypes.{HasType, IsTypedState, GiveBytes}
 use Rattle.ec_core.specs.Words.{function_words}
 use Rattle.ec_core.proofs.TypedValues.{some_and}
 use Rattle.ec_ir.specs.Costs.{op_steps}
@@ -29,20 +32,19 @@ use Rattle.ec_ir.specs.Operations.{PlainIr, label, return_from}
 use Rattle.ec_ir.proofs.Runs.{operations_are_runs}
 use Rattle.ec_lower_code.specs.Code.{temp, end_code, function_code, lowered_function, lowered}
 use Rattle.ec_lower_code.specs.Correct.{is_paid, LoweredFollows}
-use Rattle.ec_lower_code.specs.Parts.{IsStmt}
-use Rattle.ec_lower_code.proofs.Callees.{IsOther, IsRun, run_parts}
+use Rattle.ec_lower_code.proofs.Callees.{run_parts}
 use Rattle.ec_lower_code.proofs.Behind.{stmt_behind}
 use Rattle.ec_lower_code.proofs.Bodies.{stmt_runs}
 use Rattle.ec_lower_code.proofs.Calls.{frame_match, callee_runs}
 use Rattle.ec_lower_code.proofs.Expressions.{W}
-use Rattle.ec_lower_code.proofs.Facts.{all_at}
 use Rattle.ec_lower_code.proofs.Labels.{function_resolves}
 use Rattle.ec_lower_code.proofs.Numbers.{typed_back}
 use Rattle.ec_lower_code.proofs.Ops.{label_comes}
 use Rattle.ec_lower_code.proofs.Scene.{World, ports, homes, set, calls_to, law, Scene}
-use Rattle.ec_lower_code.proofs.Shown.{shown, held_of, IsValueOf, IsShown, AreShown, Match}
+use Rattle.ec_lower_code.proofs.Shown.{shown, held_of, IsShown, AreShown, Match}
 use Rattle.ec_lower_code.proofs.Statements.{Returns, Typed}
-use Rattle.ec_lower_code.proofs.Steps.{held_is, Target, over, same, sooner, Stops, Stands, Spot, here, execs, Comes, Does, after, credited, spent_on, less}
+use Rattle.ec_lower_code.proofs.Steps.{held_is, Target, over, same, sooner, Stops, Stands, Spot, here, execs, Comes, Does}
+use Rattle.ec_lower_code.proofs.Steps.{after, credited, spent_on, less}
 
 -- ---- the beginning
 
@@ -51,17 +53,21 @@ initial_shown (TheNumber n) = refl
 initial_shown TheNull = refl
 initial_shown (Address o offset) = refl
 
-static_shown : (inits : List LeafInit) (k : ℕ) (v : Value) → option_and_then (λ x. x) (slice_get (map (λ init. Some (initial_value init)) inits) k) ≡ Some v → option_and_then (λ x. x) (slice_get (map (λ init. Some (initial_value init)) inits) k) ≡ Some (shown v)
+static_shown : (inits : List LeafInit) (k : ℕ) (v : Value) → option_and_then (λ x. x)
+    (slice_get (map (λ init. Some (initial_value init)) inits) k) ≡ Some v → option_and_then (λ x. x)
+    (slice_get (map (λ init. Some (initial_value init)) inits) k) ≡ Some (shown v)
 static_shown [] k v e = cc
 static_shown (i ∷ inits) zero v e = let f : initial_value i ≡ v = cc in ap Some (sym (initial_shown i) ∙ ap shown f)
 static_shown (i ∷ inits) (suc k) v e = static_shown inits k v e
 
-unset_shown : (n k : ℕ) (v : Value) → option_and_then (λ x. x) (slice_get (replicate n None) k) ≡ Some v → option_and_then (λ x. x) (slice_get (replicate n None) k) ≡ Some (shown v)
+unset_shown : (n k : ℕ) (v : Value) → option_and_then (λ x. x) (slice_get (replicate n None) k) ≡ Some v → option_and_then (λ x. x)
+    (slice_get (replicate n None) k) ≡ Some (shown v)
 unset_shown zero k v e = cc
 unset_shown (suc n) zero v e = cc
 unset_shown (suc n) (suc k) v e = unset_shown n k v e
 
-map_count : (program : PlainProgram) (leaves : List PlainLeaf) (inits : List LeafInit) → AreInitialValues program leaves inits → length (map (λ init. Some (initial_value init)) inits) ≡ length leaves
+map_count : (program : PlainProgram) (leaves : List PlainLeaf) (inits : List LeafInit) → AreInitialValues program leaves inits
+    → length (map (λ init. Some (initial_value init)) inits) ≡ length leaves
 map_count program [] [] h = refl
 map_count program [] (i ∷ inits) h = absurd h
 map_count program (leaf ∷ leaves) [] h = absurd h
@@ -72,13 +78,37 @@ unset_count zero = refl
 unset_count (suc n) = ap suc (unset_count n)
 
 module _ (program : PlainProgram) where
-  object_starts : (o : PlainObject) (storage : PlainStorage) → IsStored program o storage → IsShown (leaf_count program o.ty) (initial_object (leaf_count program o.ty) storage) (standing (initial_object (leaf_count program o.ty) storage))
-  object_starts o (static inits) h = record { serial = refl; live = refl; count = map_count program (leaves_of_type program.structs o.ty) inits h; values = λ k v e. static_shown inits k v e }
-  object_starts o (local f) h = record { serial = refl; live = refl; count = unset_count (leaf_count program o.ty); values = λ k v e. unset_shown (leaf_count program o.ty) k v e }
-  object_starts o (param f) h = record { serial = refl; live = refl; count = unset_count (leaf_count program o.ty); values = λ k v e. unset_shown (leaf_count program o.ty) k v e }
-  object_starts o (register r) h = record { serial = refl; live = refl; count = unset_count (leaf_count program o.ty); values = λ k v e. unset_shown (leaf_count program o.ty) k v e }
+  object_starts : (o : PlainObject) (storage : PlainStorage) → IsStored program o storage → IsShown (leaf_count program o.ty)
+      (initial_object (leaf_count program o.ty) storage) (standing (initial_object (leaf_count program o.ty) storage))
+  object_starts o (static inits) h = record {
+    serial = refl;
+    live = refl;
+    count = map_count program (leaves_of_type program.structs o.ty)
+        inits h;
+    values = λ k v e. static_shown inits k v e;
+  }
+  object_starts o (local f) h = record {
+    serial = refl;
+    live = refl;
+    count = unset_count (leaf_count program o.ty);
+    values = λ k v e. unset_shown (leaf_count program o.ty) k v e;
+  }
+  object_starts o (param f) h = record {
+    serial = refl;
+    live = refl;
+    count = unset_count (leaf_count program o.ty);
+    values = λ k v e. unset_shown (leaf_count program o.ty) k v e;
+  }
+  object_starts o (register r) h = record {
+    serial = refl;
+    live = refl;
+    count = unset_count (leaf_count program o.ty);
+    values = λ k v e. unset_shown (leaf_count program o.ty) k v e;
+  }
 
-  objects_start : (os : List PlainObject) → AllByRecursion (IsObject program) os → AreShown program os (map (λ o. initial_object (leaf_count program o.ty) o.storage) os) (map (λ o. standing (initial_object (leaf_count program o.ty) o.storage)) os)
+  objects_start : (os : List PlainObject) → AllByRecursion (IsObject program) os
+      → AreShown program os (map (λ o. initial_object (leaf_count program o.ty) o.storage) os)
+      (map (λ o. standing (initial_object (leaf_count program o.ty) o.storage)) os)
   objects_start [] h = tt
   objects_start (o ∷ os) h = (object_starts o o.storage h.0.storage, objects_start os h.1)
 
@@ -88,7 +118,8 @@ number_shown : (v : Value) → number_of (shown v) ≡ number_of v
 number_shown (Number n) = refl
 number_shown (Pointer p) = refl
 
-module _ (wd : World) (main : PlainFunction) (is : slice_get wd.program.functions wd.program.main ≡ Some main) (params : main.params ≡ []) (returns : main.returns ≡ int) where
+module _ (wd : World) (main : PlainFunction) (is : slice_get wd.program.functions wd.program.main ≡ Some main) (params : main.params ≡ [])
+    (returns : main.returns ≡ int) where
   abbrev depth : ℕ
   depth = length wd.program.functions
 
@@ -97,7 +128,14 @@ module _ (wd : World) (main : PlainFunction) (is : slice_get wd.program.function
 
   module _ (deep : ℕ) where
     abbrev inside : Scene wd
-    inside = record { depth = deep; f = wd.program.main; code = code; resolves = function_resolves wd.program (ports wd) main; stack = []; callee = callee_runs wd deep }
+    inside = record {
+      depth = deep;
+      f = wd.program.main;
+      code = code;
+      resolves = function_resolves wd.program (ports wd) main;
+      stack = [];
+      callee = callee_runs wd deep;
+    }
 
     abbrev w : Spot
     w = W wd inside
@@ -119,7 +157,9 @@ module _ (wd : World) (main : PlainFunction) (is : slice_get wd.program.function
         int_is : int ≡ void → ⊥
         int_is e = cc
 
-        some : (v : Value) → IsScalar int → IsValueOf int v → (tail : List PlainIr) (m : Mach) → m.temps 0 ≡ Some (held_of int v) → (u : Mach) × (u.state ≡ worked (op_steps (return_from (Some (temp 0 int)))) m.state) × ⊤ × Comes w (here w (return_from (Some (temp 0 int)) ∷ tail)) m (over (shown v)) u
+        some : (v : Value) → IsScalar int → HasType (homes wd) int v → (tail : List PlainIr) (m : Mach) → m.temps 0 ≡ Some (held_of int v)
+            → (u : Mach) × (u.state ≡ worked (op_steps (return_from (Some (temp 0 int)))) m.state) × ⊤ × Comes w
+            (here w (return_from (Some (temp 0 int)) ∷ tail)) m (over (shown v)) u
         some v i vt tail m h =
             let s1 : State = worked (op_steps (return_from (Some (temp 0 int)))) m.state in (
               machine m.temps s1,
@@ -130,8 +170,9 @@ module _ (wd : World) (main : PlainFunction) (is : slice_get wd.program.function
                   suc k,
                   omega arith,
                   same (
-                      ap (λ z. next (next z (λ content s. got (Some (record { bytes = 2; content = content })) s)) (λ result s2. leave [] result (λ q u. execs w k q u) s2)) (held_is int 0 v m.temps s1 h)
-                      ∙ ap (λ r. given r s1) (typed_back int v i vt)),
+                      ap (λ z. next (next z (λ content s. got (Some (record { bytes = 2; content = content })) s))
+                      (λ result s2. leave [] result (λ q u. execs w k q u) s2)) (held_is int 0 v m.temps s1 h)
+                      ∙ ap (λ r. given r s1) (typed_back (homes wd) int v i vt)),
                 );
               },
             )
@@ -140,35 +181,64 @@ module _ (wd : World) (main : PlainFunction) (is : slice_get wd.program.function
     Ends q m o = Does w wd.n q m (λ v. over (shown v)) (λ v s u. Match (homes wd) 0 s u) o
 
     -- a return without a value, where the body is left at its end
-    falls : (s : State) (u : Mach) → Match (homes wd) 40 s u → Ends (here w end_code) u (got (Number (pos 0)) (frame_ended wd.program wd.program.main s))
+    falls : (s : State) (u : Mach) → Match (homes wd) 40 s u → Ends (here w end_code) u
+        (got (Number (pos 0)) (frame_ended wd.program wd.program.main s))
     falls s u h =
-        let v : Mach = machine u.temps (worked (op_steps (return_from None)) u.state) in
-        (v, frame_match wd wd.program.main 0 s v (spent_on (homes wd) 40 0 (return_from None) u.temps s u (omega arith) h), record { by = λ k. (suc k, omega arith, same refl) })
+        let v : Mach = machine u.temps (worked (op_steps (return_from None)) u.state) in (
+          v,
+          frame_match wd wd.program.main 0 s v (spent_on (homes wd) 40 0 (return_from None) u.temps s u (omega arith) h),
+          record { by = λ k. (suc k, omega arith, same refl) },
+        )
 
-    finishes : (q : List PlainIr) (m : Mach) (o : Outcome Exit) → Typed wd inside returns_to wd.n q m (label 0 ∷ end_code) end_code end_code 40 o → Ends (here w q) m (next o (λ x s. call_result int true x (frame_ended wd.program wd.program.main s)))
+    finishes : (q : List PlainIr) (m : Mach) (o : Outcome Exit) → Typed wd inside returns_to wd.n q m (label 0 ∷ end_code) end_code end_code
+        40 o → Ends (here w q) m (next o (λ x s. call_result int true x (frame_ended wd.program wd.program.main s)))
     unfolding returns_to
     finishes q m (got at_end s) d =
-        after w (λ v. over (shown v)) (λ v s u. Match (homes wd) 0 s u) wd.n (here w q) (here w (label 0 ∷ end_code)) m d.0 (got (Number (pos 0)) (frame_ended wd.program wd.program.main s)) d.2
-        (after w (λ v. over (shown v)) (λ v s u. Match (homes wd) 0 s u) wd.n (here w (label 0 ∷ end_code)) (here w end_code) d.0 d.0 (got (Number (pos 0)) (frame_ended wd.program wd.program.main s)) (label_comes w 0 end_code d.0) (falls s d.0 d.1.left.match))
-    finishes q m (got by_break s) d = after w (λ v. over (shown v)) (λ v s u. Match (homes wd) 0 s u) wd.n (here w q) (here w end_code) m d.0 (got (Number (pos 0)) (frame_ended wd.program wd.program.main s)) d.2 (falls s d.0 d.1.left.match)
-    finishes q m (got by_continue s) d = after w (λ v. over (shown v)) (λ v s u. Match (homes wd) 0 s u) wd.n (here w q) (here w end_code) m d.0 (got (Number (pos 0)) (frame_ended wd.program wd.program.main s)) d.2 (falls s d.0 d.1.left.match)
-    finishes q m (got (by_return None) s) d = (d.0, less (homes wd) 40 0 (frame_ended wd.program wd.program.main s) d.0 (omega arith) (frame_match wd wd.program.main 40 s d.0 d.1.left.match), d.2)
-    finishes q m (got (by_return (Some v)) s) d = (d.0, less (homes wd) 40 0 (frame_ended wd.program wd.program.main s) d.0 (omega arith) (frame_match wd wd.program.main 40 s d.0 d.1.left.match), d.2)
+        after w (λ v. over (shown v)) (λ v s u. Match (homes wd) 0 s u) wd.n (here w q) (here w (label 0 ∷ end_code)) m d.0
+        (got (Number (pos 0)) (frame_ended wd.program wd.program.main s)) d.2
+        (after w (λ v. over (shown v)) (λ v s u. Match (homes wd) 0 s u) wd.n (here w (label 0 ∷ end_code)) (here w end_code) d.0 d.0
+        (got (Number (pos 0)) (frame_ended wd.program wd.program.main s)) (label_comes w 0 end_code d.0) (falls s d.0 d.1.left.match))
+    finishes q m (got by_break s) d = after w (λ v. over (shown v)) (λ v s u. Match (homes wd) 0 s u) wd.n (here w q)
+        (here w end_code) m d.0 (got (Number (pos 0)) (frame_ended wd.program wd.program.main s)) d.2 (falls s d.0 d.1.left.match)
+    finishes q m (got by_continue s) d = after w (λ v. over (shown v)) (λ v s u. Match (homes wd) 0 s u) wd.n (here w q)
+        (here w end_code) m d.0 (got (Number (pos 0)) (frame_ended wd.program wd.program.main s)) d.2 (falls s d.0 d.1.left.match)
+    finishes q m (got (by_return None) s) d = (
+      d.0,
+      less (homes wd) 40 0 (frame_ended wd.program wd.program.main s) d.0 (omega arith)
+          (frame_match wd wd.program.main 40 s d.0 d.1.left.match),
+      d.2,
+    )
+    finishes q m (got (by_return (Some v)) s) d = (
+      d.0,
+      less (homes wd) 40 0 (frame_ended wd.program wd.program.main s) d.0 (omega arith)
+          (frame_match wd wd.program.main 40 s d.0 d.1.left.match),
+      d.2,
+    )
     finishes q m (more s) d = d
     finishes q m (undefined point s) d = tt
 
-    main_runs : (s : State) (m : Mach) → Match (homes wd) 0 s m → IsTypedState wd.program s → Ends (here w code) m (call_of (set wd) (calls_to wd deep) wd.n wd.program.main (Some main) [] s)
+    main_runs : (s : State) (m : Mach) → Match (homes wd) 0 s m → IsTypedState wd.program s
+        → Ends (here w code) m (call_of (set wd) (calls_to wd deep) wd.n wd.program.main (Some main) [] s)
     unfolding returns_to
     main_runs s m h st =
         let all : Stands code code = ([], refl) in
-        let end = function_resolves wd.program (ports wd) main 0 end_code (stmt_behind wd.program (ports wd) code main.body 1 0 0 (label 0 ∷ end_code) all) in
+        let end = function_resolves wd.program (ports wd) main 0 end_code (stmt_behind wd.program (ports wd) code main.body 1 0 0
+        (label 0 ∷ end_code) all) in
         let function_is : IsFunction wd.program wd.io wd.program.main main = (law wd).functions wd.program.main main is in
-        subst (λ (ps : List ℕ). Ends (here w code) m (next (parameters_written (set wd) ps [] (worked function_words s)) (λ y s1. next (effect_of (set wd) (calls_to wd deep) wd.n main.body s1) (λ x s2. call_result main.returns (wd.program.main == wd.program.main) x (frame_ended wd.program wd.program.main s2))))) (sym params)
-        (subst (λ (ty : PlainType). Ends (here w code) m (next (effect_of (set wd) (calls_to wd deep) wd.n main.body (worked function_words s)) (λ x s2. call_result ty (wd.program.main == wd.program.main) x (frame_ended wd.program wd.program.main s2)))) (sym returns)
-        (subst (λ (b : Bool). Ends (here w code) m (next (effect_of (set wd) (calls_to wd deep) wd.n main.body (worked function_words s)) (λ x s2. call_result int b x (frame_ended wd.program wd.program.main s2)))) (sym (eq-eqb wd.program.main wd.program.main refl))
+        subst (λ (ps : List ℕ). Ends (here w code) m (next (parameters_written (set wd) ps [] (worked function_words s))
+        (λ y s1. next (effect_of (set wd) (calls_to wd deep) wd.n main.body s1)
+        (λ x s2. call_result main.returns (wd.program.main == wd.program.main) x (frame_ended wd.program wd.program.main s2)))))
+        (sym params)
+        (subst (λ (ty : PlainType). Ends (here w code) m (next (effect_of (set wd) (calls_to wd deep) wd.n main.body
+        (worked function_words s)) (λ x s2. call_result ty (wd.program.main == wd.program.main) x
+        (frame_ended wd.program wd.program.main s2)))) (sym returns)
+        (subst (λ (b : Bool). Ends (here w code) m (next (effect_of (set wd) (calls_to wd deep) wd.n main.body (worked function_words s))
+        (λ x s2. call_result int b x (frame_ended wd.program wd.program.main s2)))) (sym (eq-eqb wd.program.main wd.program.main refl))
         (finishes code m (effect_of (set wd) (calls_to wd deep) wd.n main.body (worked function_words s))
-        (stmt_runs wd inside returns_to main.body false 1 0 0 40 (label 0 ∷ end_code) end_code end_code (run_parts wd.program wd.io wd.valid wd.parts wd.program.main main is (inl refl))
-        (subst (λ (ty : PlainType). ValidStmt wd.program wd.io wd.program.main ty false main.body) returns function_is.body) all end end (worked function_words s) m (credited (homes wd) 40 0 s m h) st))))
+        (stmt_runs wd inside returns_to main.body false 1 0 0 40 (label 0 ∷ end_code) end_code end_code
+        (run_parts wd.program wd.io wd.valid wd.program.main main is (inl refl))
+        (subst (λ (ty : PlainType). ValidStmt wd.program wd.io wd.program.main ty false main.body) returns function_is.body) all end end
+        (worked function_words s) m (credited (homes wd) 40 0 s m h) st))))
 
   abbrev w0 : Spot
   w0 = w 0
@@ -191,41 +261,65 @@ module _ (wd : World) (main : PlainFunction) (is : slice_get wd.program.function
   called : (deep : ℕ) → EndsAll (calls_within (set wd) wd.n deep wd.program.main [] (initial_state wd.program (plain_table wd.io)))
   called zero = tt
   called (suc deep) =
-      subst (λ (f : Option PlainFunction). EndsAll (call_of (set wd) (calls_to wd deep) wd.n wd.program.main f [] (initial_state wd.program (plain_table wd.io)))) (sym is)
-      (any_depth deep (call_of (set wd) (calls_to wd deep) wd.n wd.program.main (Some main) [] (initial_state wd.program (plain_table wd.io))) (main_runs deep (initial_state wd.program (plain_table wd.io)) (start (homes wd)) starts (law wd).initial))
+      subst (λ (f : Option PlainFunction). EndsAll (call_of (set wd) (calls_to wd deep) wd.n wd.program.main f []
+      (initial_state wd.program (plain_table wd.io)))) (sym is)
+      (any_depth deep (call_of (set wd) (calls_to wd deep) wd.n wd.program.main (Some main) []
+      (initial_state wd.program (plain_table wd.io))) (main_runs deep (initial_state wd.program (plain_table wd.io))
+      (start (homes wd)) starts (law wd).initial))
 
   runs : EndsAll (source_run wd.program (plain_table wd.io) wd.inputs wd.n)
   runs = called depth
 
   -- the run of the operations is that of main's
   entered : (m : ℕ) → run (lowered wd.program (ports wd)) wd.inputs m ≡ execs w0 m first (start (homes wd))
-  entered m = ap (λ f. enter f (λ q u. execs w0 m q u) [] (start (homes wd))) (slice_get-map (lowered_function wd.program (ports wd)) wd.program.functions wd.program.main ∙ ap (option_map (lowered_function wd.program (ports wd))) is)
+  entered m = ap (λ f. enter f (λ q u. execs w0 m q u) [] (start (homes wd)))
+      (slice_get-map (lowered_function wd.program (ports wd)) wd.program.functions wd.program.main
+      ∙ ap (option_map (lowered_function wd.program (ports wd))) is)
 
-  paid : (m : ℕ) (s : State) (o : Outcome Value) (u : Mach) → execs w0 m first (start (homes wd)) ≡ o → u.state ≡ state_of o → Match (homes wd) 0 s u → IsTrue (nat_le ((state_of (run (lowered wd.program (ports wd)) wd.inputs m)).work + 12_800) (64 * s.work))
+  paid : (m : ℕ) (s : State) (o : Outcome Value) (u : Mach) → execs w0 m first (start (homes wd)) ≡ o → u.state ≡ state_of o
+      → Match (homes wd) 0 s u → IsTrue (nat_le ((state_of (run (lowered wd.program (ports wd)) wd.inputs m)).work + 12_800) (64 * s.work))
   paid m s o u e f h =
-      let a : (state_of (run (lowered wd.program (ports wd)) wd.inputs m)).work ≡ u.state.work = ap (λ z. (state_of z).work) (entered m ∙ e) ∙ ap (λ (z : State). z.work) (sym f) in
+      let a : (state_of (run (lowered wd.program (ports wd)) wd.inputs m)).work ≡ u.state.work = ap (λ z. (state_of z).work) (entered m ∙ e)
+      ∙ ap (λ (z : State). z.work) (sym f) in
       let b = h.spent in le-leb _ _ (omega (arith, a, b))
 
-  over_is : (m : ℕ) (v : Value) (s : State) → Stops (execs w0 m first (start (homes wd))) (got v s) → execs w0 m first (start (homes wd)) ≡ got v s
+  over_is : (m : ℕ) (v : Value) (s : State) → Stops (execs w0 m first (start (homes wd))) (got v s)
+      → execs w0 m first (start (homes wd)) ≡ got v s
   over_is m v s (same e) = e
   over_is m v s (sooner t r e f o ev wk) = cc
 
-  reached_of : (o : Outcome Value) → EndsAll o → Reached (λ m. nat_le ((state_of (run (lowered wd.program (ports wd)) wd.inputs m)).work + 12_800) (64 * (state_of o).work)) (meaning (lowered wd.program (ports wd)) wd.inputs) wd.n (behaviour_of o)
+  reached_of : (o : Outcome Value) → EndsAll o → Reached (λ m. nat_le
+      ((state_of (run (lowered wd.program (ports wd)) wd.inputs m)).work + 12_800) (64 * (state_of o).work))
+      (meaning (lowered wd.program (ports wd)) wd.inputs) wd.n (behaviour_of o)
   reached_of (got x s) d =
       let c = d.2.by 0 in
-      let e = over_is c.0 (shown x) d.0.state c.2 in
-      (c.0, paid c.0 s (got (shown x) d.0.state) d.0 e refl d.1, ap behaviour_of (entered c.0 ∙ e) ∙ ap (λ es. Ended es (number_of (shown x))) d.1.events ∙ ap (Ended s.events) (number_shown x))
-  reached_of (more s) d = (d.0, paid d.0 s (more d.1.state) d.1 d.4 refl d.3, d.2, ap behaviour_of (entered d.0 ∙ d.4) ∙ ap Running d.3.events)
+      let e = over_is c.0 (shown x) d.0.state c.2 in (
+        c.0,
+        paid c.0 s (got (shown x) d.0.state) d.0 e refl d.1,
+        ap behaviour_of (entered c.0 ∙ e)
+            ∙ ap (λ es. Ended es (number_of (shown x))) d.1.events ∙ ap (Ended s.events) (number_shown x),
+      )
+  reached_of (more s) d = (
+    d.0,
+    paid d.0 s (more d.1.state) d.1 d.4 refl d.3,
+    d.2,
+    ap behaviour_of (entered d.0 ∙ d.4)
+        ∙ ap Running d.3.events,
+  )
   reached_of (undefined point s) d = tt
 
 pub follows : LoweredFollows
-follows program table valid pairs parts = record {
+follows program table valid pairs = record {
   reaches = λ inputs bytes. reaches inputs bytes;
-  within = λ inputs bytes m. what_reaches_stays_within Event ℤ Undefined Undefined (is_paid program table (lowered program (plain_table table)) inputs) (source program (plain_table table) inputs) (meaning (lowered program (plain_table table)) inputs) (operations_are_runs (lowered program (plain_table table)) inputs) (reaches inputs bytes) m;
+  within = λ inputs bytes m. what_reaches_stays_within Event ℤ Undefined Undefined
+      (is_paid program table (lowered program (plain_table table)) inputs) (source program (plain_table table) inputs)
+      (meaning (lowered program (plain_table table)) inputs) (operations_are_runs (lowered program (plain_table table)) inputs)
+      (reaches inputs bytes) m;
 }
   where
-    reaches : (inputs : Inputs) → GiveBytes inputs → Reaches (is_paid program table (lowered program (plain_table table)) inputs) (source program (plain_table table) inputs) (meaning (lowered program (plain_table table)) inputs)
+    reaches : (inputs : Inputs) → GiveBytes inputs → Reaches (is_paid program table (lowered program (plain_table table)) inputs)
+        (source program (plain_table table) inputs) (meaning (lowered program (plain_table table)) inputs)
     reaches inputs bytes n =
-        let wd : World = record { program = program; io = table; inputs = inputs; valid = valid; pairs = pairs; bytes = bytes; parts = parts; n = n } in
+        let wd : World = record { program = program; io = table; inputs = inputs; valid = valid; pairs = pairs; bytes = bytes; n = n } in
         let g = some_and (slice_get program.functions program.main) (λ g. (g.params ≡ []) × (g.returns ≡ int)) valid.main in
         reached_of wd g.0 g.1 g.2.0 g.2.1 (source_run program (plain_table table) inputs n) (runs wd g.0 g.1 g.2.0 g.2.1)

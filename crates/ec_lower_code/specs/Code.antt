@@ -1,5 +1,6 @@
 -- The operations of a program. Each part's are written before what follows them. The value of an expression goes to the
 -- temporary at place t, with what is worked out while it is kept at t + 1 and on; labels are numbers from l on.
+-- A place is an object with an offset in it, or what the pointer at t points to.
 use Rattle.std.specs.Prelude.{ℕ, ◌+◌, Bool, true, false, not, pos, List, [], ◌∷◌, map, Option, Some, None, option_map}
 use Rattle.std.specs.Prelude.{unwrap_or, slice_get}
 use Rattle.ec_fx.specs.declared.numbers.Mode.{Mode}
@@ -7,18 +8,21 @@ use Rattle.ec_iohw.specs.declared.operations.IoOp.{IoOp}
 use Rattle.ec_iohw.specs.declared.operations.IoOp.TheVariants.{Or, OrLong, OrBuffer, OrBufferLong, And, AndLong}
 use Rattle.ec_iohw.specs.declared.operations.IoOp.TheVariants.{AndBuffer, AndBufferLong}
 use Rattle.ec_iohw.specs.declared.table.Pair.{Pair}
+use Rattle.ec_space.specs.declared.space.SpaceId.{SpaceId}
+use Rattle.ec_space.specs.declared.space.SpaceId.TheVariants.{Data}
 use Rattle.ec_core.specs.declared.arithmetic_types.Arithmetic.{Arithmetic}
 use Rattle.ec_core.specs.declared.expressions.BinOp.{BinOp}
 use Rattle.ec_core.specs.declared.expressions.BinOp.TheVariants.{Mul, And as AndOp, Or as OrOp, Xor as XorOp}
+use Rattle.ec_core.specs.Accesses.{member_offset}
 use Rattle.ec_core.specs.ArithmeticTypes.{type_of, common}
 use Rattle.ec_core.specs.Integers.{truth}
 use Rattle.ec_core.specs.Layout.{scalar_size, PlainLeaf, leaves_of_type}
 use Rattle.ec_core.specs.Needs.{stmt_need}
 use Rattle.ec_core.specs.Operators.{number_type, OperationTypes, operation_types, step_operator}
-use Rattle.ec_core.specs.Plain.{PlainType, void, integer, PlainExpr, expression, PlainNode, number, null, load}
+use Rattle.ec_core.specs.Plain.{PlainType, void, integer, pointer, PlainExpr, expression, PlainNode, number, null, load}
 use Rattle.ec_core.specs.Plain.{address_of, unary, binary, convert, assign, compound, step, logical_not, logical_and}
-use Rattle.ec_core.specs.Plain.{logical_or, conditional, comma, call, io, group, object, OptionPlainExpr, no_expr}
-use Rattle.ec_core.specs.Plain.{an_expr, PlainExprs}
+use Rattle.ec_core.specs.Plain.{logical_or, conditional, comma, call, io, group, PlainPlace, object, deref, member}
+use Rattle.ec_core.specs.Plain.{OptionPlainExpr, no_expr, an_expr, PlainExprs}
 use Rattle.ec_core.specs.Plain.{last_expr, next_expr, PlainStmt, statement, PlainKind, empty, evaluate, block, declare}
 use Rattle.ec_core.specs.Plain.{branch, while_loop, do_loop, for_loop, break_loop, continue_loop, return_value}
 use Rattle.ec_core.specs.Plain.{OptionPlainStmt, no_stmt, a_stmt, PlainStmts, last_stmt, next_stmt, PlainFunction}
@@ -27,10 +31,10 @@ use Rattle.ec_core.specs.PortAccesses.{pairs_of}
 use Rattle.ec_core.specs.PortOperations.{PortAction, reads, writes, updates, port_operation}
 use Rattle.ec_core.specs.PortTable.{PlainPort, PlainGroup, PlainTable}
 use Rattle.ec_core.specs.TypeLaws.{factor_beside}
-use Rattle.ec_core.specs.Typing.{int, type_of_expr, port_value}
-use Rattle.ec_ir.specs.Operations.{PlainIr, constant, load_object, store_object, binary_op, unary_op, conversion, label}
-use Rattle.ec_ir.specs.Operations.{jump, branch_zero, call_function, return_from, port_in, port_out, PlainIrFunction}
-use Rattle.ec_ir.specs.Operations.{PlainIrProgram}
+use Rattle.ec_core.specs.Typing.{int, type_of_expr, pointer_space, place_type, port_value}
+use Rattle.ec_ir.specs.Operations.{PlainIr, constant, copy, address, field, load_at, store_at, load_object}
+use Rattle.ec_ir.specs.Operations.{store_object, binary_op, unary_op, conversion, label, jump, branch_zero}
+use Rattle.ec_ir.specs.Operations.{call_function, return_from, port_in, port_out, PlainIrFunction, PlainIrProgram}
 use Rattle.ec_ir.specs.declared.operations.Temp.{Temp}
 
 -- ---- temporaries
@@ -52,14 +56,14 @@ abbrev mutual
   pub node_labels : PlainNode → ℕ
   node_labels (number n) = 0
   node_labels null = 0
-  node_labels (load p) = 0
-  node_labels (address_of p) = 0
+  node_labels (load p) = place_labels p
+  node_labels (address_of p) = place_labels p
   node_labels (unary op a) = expr_labels a
   node_labels (binary op a b) = expr_labels a + expr_labels b
   node_labels (convert a) = expr_labels a
-  node_labels (assign p a) = expr_labels a
-  node_labels (compound op own p a) = expr_labels a
-  node_labels (step up prefix p) = 0
+  node_labels (assign p a) = place_labels p + expr_labels a
+  node_labels (compound op own p a) = place_labels p + expr_labels a
+  node_labels (step up prefix p) = place_labels p
   node_labels (logical_not a) = 2 + expr_labels a
   node_labels (logical_and a b) = 2 + expr_labels a + expr_labels b
   node_labels (logical_or a b) = 4 + expr_labels a + expr_labels b
@@ -68,6 +72,11 @@ abbrev mutual
   node_labels (call f args) = exprs_labels args
   node_labels (io op port index value) = option_labels index + option_labels value
   node_labels (group acquire g) = 0
+
+  pub place_labels : PlainPlace → ℕ
+  place_labels (object o) = 0
+  place_labels (deref e) = expr_labels e
+  place_labels (member p i) = place_labels p
 
   pub option_labels : OptionPlainExpr → ℕ
   option_labels no_expr = 0
@@ -107,6 +116,50 @@ abbrev mutual
   stmts_labels last_stmt = 0
   stmts_labels (next_stmt a ss) = stmt_labels a + stmts_labels ss
 
+-- ---- places
+
+-- where a place is: in an object, at an offset; or where a pointer into a space points to, which a temporary holds
+pub data Site : Type 0 where
+  named : (o offset : ℕ) → Site
+  pointed : (ptr : Temp) → SpaceId → Site
+
+-- the space of a pointer's type
+abbrev pub space_of : PlainType → SpaceId
+space_of ty = unwrap_or (pointer_space ty) Data
+
+-- so many bytes further
+abbrev pub further : ℕ → Site → Site
+further k (named o offset) = named o (offset + k)
+further k (pointed ptr space) = pointed ptr space
+
+-- a pointer is moved for that, and an object's offset is known
+abbrev pub further_code : ℕ → Site → List PlainIr → List PlainIr
+further_code k (named o offset) rest = rest
+further_code k (pointed ptr space) rest = field ptr space k ∷ rest
+
+abbrev pub load_from : Temp → Site → PlainIr
+load_from to (named o offset) = load_object to o offset
+load_from to (pointed ptr space) = load_at to ptr space
+
+abbrev pub store_to : Site → Temp → PlainIr
+store_to (named o offset) from = store_object o offset from
+store_to (pointed ptr space) from = store_at ptr space from
+
+-- what is worked out while a pointer at t is kept stands behind it
+abbrev pub value_place : Site → ℕ → ℕ
+value_place (named o offset) t = t
+value_place (pointed ptr space) t = t + 1
+
+-- a value that stands there is brought to t
+abbrev pub settled_code : Site → PlainType → (t : ℕ) → List PlainIr → List PlainIr
+settled_code (named o offset) ty t rest = rest
+settled_code (pointed ptr space) ty t rest = copy (temp t ty) (temp (t + 1) ty) ∷ rest
+
+-- the address of a place: the pointer to it, where there is one
+abbrev pub address_code : Site → PlainType → (t : ℕ) → List PlainIr → List PlainIr
+address_code (named o offset) ty t rest = address (temp t ty) o offset ∷ rest
+address_code (pointed ptr space) ty t rest = rest
+
 -- ---- parts of expressions
 
 -- one truth value where the branch to l was not taken, and the other where it was
@@ -123,34 +176,53 @@ update_types op x y = operation_types op x y
 -- the old value at t and the right side at t + 1: both are brought to the operation's types; then the operation; its
 -- result, brought to the place's type, is stored
 abbrev pub update_code :
-    BinOp → OperationTypes → (own mode : Mode) → PlainType → (o t : ℕ) → PlainType → List PlainIr → List PlainIr
-update_code op ts own mode ty o t right rest =
+    BinOp → OperationTypes → (own mode : Mode) → PlainType → Site → (t : ℕ) → PlainType → List PlainIr → List PlainIr
+update_code op ts own mode ty site t right rest =
     conversion (temp t (type_of ts.left)) (type_of ts.left) own (temp t ty) ty
     ∷ conversion (temp (t + 1) (type_of ts.right)) (type_of ts.right) own (temp (t + 1) right) right
     ∷ binary_op op (type_of ts.result) own (temp t (type_of ts.result)) (temp t (type_of ts.left)) (type_of ts.left)
     (temp (t + 1) (type_of ts.right)) (type_of ts.right)
     ∷ conversion (temp t ty) ty mode (temp t (type_of ts.result)) (type_of ts.result)
-    ∷ store_object o 0 (temp t ty) ∷ rest
+    ∷ store_to site (temp t ty) ∷ rest
 
 -- the same, where the old value is kept at t: the operation's result goes to t + 1, and the old value is brought back
 -- to its type
 abbrev pub keeping_code :
-    BinOp → OperationTypes → Mode → PlainType → (o t : ℕ) → PlainType → List PlainIr → List PlainIr
-keeping_code op ts mode ty o t right rest =
+    BinOp → OperationTypes → Mode → PlainType → Site → (t : ℕ) → PlainType → List PlainIr → List PlainIr
+keeping_code op ts mode ty site t right rest =
     conversion (temp t (type_of ts.left)) (type_of ts.left) mode (temp t ty) ty
     ∷ conversion (temp (t + 1) (type_of ts.right)) (type_of ts.right) mode (temp (t + 1) right) right
     ∷ binary_op op (type_of ts.result) mode (temp (t + 1) (type_of ts.result)) (temp t (type_of ts.left))
     (type_of ts.left) (temp (t + 1) (type_of ts.right)) (type_of ts.right)
     ∷ conversion (temp (t + 1) ty) ty mode (temp (t + 1) (type_of ts.result)) (type_of ts.result)
-    ∷ store_object o 0 (temp (t + 1) ty)
+    ∷ store_to site (temp (t + 1) ty)
     ∷ conversion (temp t ty) ty mode (temp t (type_of ts.left)) (type_of ts.left) ∷ rest
 
--- a step, by the 1 of type int at t + 1
-abbrev pub step_code : Bool → BinOp → Mode → PlainType → (o t : ℕ) → List PlainIr → List PlainIr
-step_code true op mode ty o t rest =
-    update_code op (update_types op (number_type ty) (number_type int)) mode mode ty o t int rest
-step_code false op mode ty o t rest =
-    keeping_code op (update_types op (number_type ty) (number_type int)) mode ty o t int rest
+-- a pointer at t and a number at t + 1, which are not converted: the pointer that many elements further goes to q, and
+-- is stored
+abbrev pub moving_code :
+    BinOp → Mode → PlainType → Site → (t q : ℕ) → PlainType → List PlainIr → List PlainIr
+moving_code op mode ty site t q right rest =
+    binary_op op ty mode (temp q ty) (temp t ty) ty (temp (t + 1) right) right ∷ store_to site (temp q ty) ∷ rest
+
+-- a compound assignment to a place of this type
+abbrev pub change_code :
+    BinOp → (own mode : Mode) → PlainType → Site → (t : ℕ) → PlainType → List PlainIr → List PlainIr
+change_code op own mode (pointer space const to) site t right rest =
+    moving_code op own (pointer space const to) site t t right rest
+change_code op own mode ty site t right rest =
+    update_code op (update_types op (number_type ty) (number_type right)) own mode ty site t right rest
+
+-- a postfix step, by the 1 of type int at t + 1
+abbrev pub postfix_code : BinOp → Mode → PlainType → Site → (t : ℕ) → List PlainIr → List PlainIr
+postfix_code op mode (pointer space const to) site t rest =
+    moving_code op mode (pointer space const to) site t (t + 1) int rest
+postfix_code op mode ty site t rest =
+    keeping_code op (update_types op (number_type ty) (number_type int)) mode ty site t int rest
+
+abbrev pub step_code : Bool → BinOp → Mode → PlainType → Site → (t : ℕ) → List PlainIr → List PlainIr
+step_code true op mode ty site t rest = change_code op mode mode ty site t int rest
+step_code false op mode ty site t rest = postfix_code op mode ty site t rest
 
 -- arguments from t on are stored to the parameters
 abbrev pub params_code : List ℕ → PlainExprs → (t : ℕ) → List PlainIr → List PlainIr
@@ -228,6 +300,16 @@ module _ (program : PlainProgram) where
   leaves_of_object o =
       unwrap_or (option_map (λ d. leaves_of_type program.structs d.ty) (slice_get program.objects o)) []
 
+  -- where a member begins in a place
+  abbrev pub offset_of : PlainPlace → ℕ → ℕ
+  offset_of p i = member_offset program (unwrap_or (place_type program p) void) i
+
+  -- where a place is, where its pointer stands at t
+  abbrev pub site : PlainPlace → ℕ → Site
+  site (object o) t = named o 0
+  site (deref e) t = pointed (temp t (type_of_expr e)) (space_of (type_of_expr e))
+  site (member p i) t = further (offset_of p i) (site p t)
+
 module _ (program : PlainProgram) (table : PlainTable) where
   -- ---- expressions
 
@@ -237,7 +319,9 @@ module _ (program : PlainProgram) (table : PlainTable) where
 
     pub node_code : PlainType → Mode → PlainNode → (l t : ℕ) → List PlainIr → List PlainIr
     node_code ty mode (number n) l t rest = constant (temp t ty) n ∷ rest
-    node_code ty mode (load (object o)) l t rest = load_object (temp t ty) o 0 ∷ rest
+    node_code ty mode null l t rest = constant (temp t ty) (pos 0) ∷ rest
+    node_code ty mode (load p) l t rest = place_code p l t (load_from (temp t ty) (site program p t) ∷ rest)
+    node_code ty mode (address_of p) l t rest = place_code p l t (address_code (site program p t) ty t rest)
     node_code ty mode (unary op a) l t rest =
         expr_code a l t (unary_op op ty mode (temp t ty) (temp t ty) ∷ rest)
     node_code ty mode (binary op a b) l t rest =
@@ -246,14 +330,20 @@ module _ (program : PlainProgram) (table : PlainTable) where
         (type_of_expr b) ∷ rest))
     node_code ty mode (convert a) l t rest =
         expr_code a l t (conversion (temp t ty) ty mode (temp t (type_of_expr a)) (type_of_expr a) ∷ rest)
-    node_code ty mode (assign (object o) a) l t rest = expr_code a l t (store_object o 0 (temp t ty) ∷ rest)
-    node_code ty mode (compound op own (object o) a) l t rest =
-        load_object (temp t ty) o 0
-        ∷ expr_code a l (t + 1) (update_code op (update_types op (number_type ty) (number_type (type_of_expr a)))
-        own mode ty o t (type_of_expr a) rest)
-    node_code ty mode (step up prefix (object o)) l t rest =
-        load_object (temp t ty) o 0 ∷ constant (temp (t + 1) int) (pos 1)
-        ∷ step_code prefix (step_operator up) mode ty o t rest
+    node_code ty mode (assign p a) l t rest =
+        place_code p l t (expr_code a (l + place_labels p) (value_place (site program p t) t)
+        (store_to (site program p t) (temp (value_place (site program p t) t) ty)
+        ∷ settled_code (site program p t) ty t rest))
+    node_code ty mode (compound op own p a) l t rest =
+        place_code p l t (load_from (temp (value_place (site program p t) t) ty) (site program p t)
+        ∷ expr_code a (l + place_labels p) (value_place (site program p t) t + 1)
+        (change_code op own mode ty (site program p t) (value_place (site program p t) t) (type_of_expr a)
+        (settled_code (site program p t) ty t rest)))
+    node_code ty mode (step up prefix p) l t rest =
+        place_code p l t (load_from (temp (value_place (site program p t) t) ty) (site program p t)
+        ∷ constant (temp (value_place (site program p t) t + 1) int) (pos 1)
+        ∷ step_code prefix (step_operator up) mode ty (site program p t) (value_place (site program p t) t)
+        (settled_code (site program p t) ty t rest))
     node_code ty mode (logical_not a) l t rest =
         expr_code a (l + 2) t (branch_zero (temp t (type_of_expr a)) l ∷ truth_code false ty l t rest)
     node_code ty mode (logical_and a b) l t rest =
@@ -276,7 +366,12 @@ module _ (program : PlainProgram) (table : PlainTable) where
         option_code index l t (option_code value (l + option_labels index) (place_behind index t)
         (access_code op mode (slice_get table.ports port) index t rest))
     node_code ty mode (group acquire g) l t rest = group_code acquire (slice_get table.groups g) t rest
-    node_code ty mode node l t rest = rest
+
+    -- the pointer to a place, where it is not in an object that is named
+    pub place_code : PlainPlace → (l t : ℕ) → List PlainIr → List PlainIr
+    place_code (object o) l t rest = rest
+    place_code (deref e) l t rest = expr_code e l t rest
+    place_code (member p i) l t rest = place_code p l t (further_code (offset_of program p i) (site program p t) rest)
 
     pub option_code : OptionPlainExpr → (l t : ℕ) → List PlainIr → List PlainIr
     option_code no_expr l t rest = rest

@@ -16,12 +16,10 @@ use Rattle.ec_core.specs.Weight.{objects_weight, weight}
 use Rattle.ec_core.specs.Words.{program_words}
 use Rattle.ec_ir.specs.Costs.{functions_words}
 use Rattle.ec_ir.specs.Meaning.{meaning, steps_of}
-use Rattle.ec_ir.specs.Operations.{PlainIr, constant, copy, address, field, load_at, store_at, load_object}
-use Rattle.ec_ir.specs.Operations.{store_object, binary_op, unary_op, conversion, label, jump, branch_zero}
-use Rattle.ec_ir.specs.Operations.{call_function, return_from, port_in, port_out, PlainIrFunction, PlainIrProgram}
+use Rattle.ec_ir.specs.Operations.{PlainIr}
+use Rattle.ec_ir.specs.Operations.{port_in, port_out, PlainIrFunction, PlainIrProgram}
 use Rattle.ec_ir.specs.Valid.{count, called_in, ValidIr}
 use Rattle.ec_lower_code.specs.Code.{lowered}
-use Rattle.ec_lower_code.specs.Parts.{IsNumeric, IsLowered, IsCompiled}
 
 -- the numbers of pairs are bytes, as their types say: no law knows the ranges of types
 abbrev pub IsBytePair : Pair → Type 0
@@ -47,7 +45,7 @@ pub record Follows (program : PlainProgram) (io : IoTable) (ir : PlainIrProgram)
 
 abbrev pub LoweredFollows : Type 0
 LoweredFollows =
-    (program : PlainProgram) (io : IoTable) → Valid program io → GroupsHaveBytes io → IsLowered program
+    (program : PlainProgram) (io : IoTable) → Valid program io → GroupsHaveBytes io
     → Follows program io (lowered program (plain_table io))
 
 -- A function of the program and that of the operations with its number: labels stand once, there are as many places for
@@ -67,42 +65,17 @@ pub record IsMadeOf (program : PlainProgram) (io : IoTable) (ir : PlainIrProgram
 
 abbrev pub LoweredIsMadeOf : Type 0
 LoweredIsMadeOf =
-    (program : PlainProgram) (io : IoTable) → Valid program io → GroupsHaveBytes io → IsLowered program
+    (program : PlainProgram) (io : IoTable) → Valid program io → GroupsHaveBytes io
     → IsMadeOf program io (lowered program (plain_table io))
 
--- an operation on integers and fixed-point numbers: those on pointers and ports are none of them
-abbrev pub IsNumberOperation : PlainIr → Type 0
-IsNumberOperation (constant t n) = ⊤
-IsNumberOperation (copy to from) = ⊤
-IsNumberOperation (address t o offset) = ⊥
-IsNumberOperation (field ptr space offset) = ⊥
-IsNumberOperation (load_at to ptr space) = ⊥
-IsNumberOperation (store_at ptr space from) = ⊥
-IsNumberOperation (load_object t o offset) = ⊤
-IsNumberOperation (store_object o offset t) = ⊤
-IsNumberOperation (binary_op op ty mode to a aty b bty) = IsNumeric ty × IsNumeric aty × IsNumeric bty
-IsNumberOperation (unary_op op ty mode to a) = IsNumeric ty
-IsNumberOperation (conversion to ty mode a aty) = IsNumeric ty × IsNumeric aty
-IsNumberOperation (label l) = ⊤
-IsNumberOperation (jump l) = ⊤
-IsNumberOperation (branch_zero t l) = ⊤
-IsNumberOperation (call_function f to) = ⊤
-IsNumberOperation (return_from from) = ⊤
-IsNumberOperation (port_in to port index width) = ⊥
-IsNumberOperation (port_out from port index width) = ⊥
+-- an operation that reads or writes a port has all bytes of the port at 0xFF or below
+abbrev pub IsOnPorts : PlainIr → Type 0
+IsOnPorts (port_in to port index width) = port + width ≤ 0x100
+IsOnPorts (port_out from port index width) = port + width ≤ 0x100
+IsOnPorts i = ⊤
 
--- an operation on numbers, or one on a port whose bytes are at 0xFF or below
-abbrev pub IsNumberOrPort : PlainIr → Type 0
-IsNumberOrPort (port_in to port index width) = port + width ≤ 0x100
-IsNumberOrPort (port_out from port index width) = port + width ≤ 0x100
-IsNumberOrPort i = IsNumberOperation i
-
--- the operations of a compiled program are those on numbers and ports, and such a program is lowered
-pub record IsMadeOfNumbers (program : PlainProgram) (ir : PlainIrProgram) : Type 0 where
-  pub lowered : IsLowered program
-  pub operations : AllByRecursion (λ g. AllByRecursion IsNumberOrPort g.code) ir.functions
-
-abbrev pub CompiledIsOfNumbers : Type 0
-CompiledIsOfNumbers =
-    (program : PlainProgram) (io : IoTable) → Valid program io → GroupsHaveBytes io → IsCompiled program
-    → IsMadeOfNumbers program (lowered program (plain_table io))
+-- no operation leaves the ports
+abbrev pub OperationsStayOnPorts : Type 0
+OperationsStayOnPorts =
+    (program : PlainProgram) (io : IoTable) → Valid program io → GroupsHaveBytes io
+    → AllByRecursion (λ g. AllByRecursion IsOnPorts g.code) (lowered program (plain_table io)).functions

@@ -1,4 +1,3 @@
 -- The definitions that the contracts of the lowering cite.
 pub mod Code
 pub mod Correct
-pub mod Parts

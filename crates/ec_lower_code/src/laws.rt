@@ -1,5 +1,5 @@
 //! The laws of the lowering: each function proves one, and does nothing.
-ghost use Rattle.ec_lower_code.specs.Correct.{LoweredFollows, LoweredIsMadeOf, CompiledIsOfNumbers};
+ghost use Rattle.ec_lower_code.specs.Correct.{LoweredFollows, LoweredIsMadeOf, OperationsStayOnPorts};
 
 /// The operations of a program reach all that it shows, within its work, and stay within it.
 pub fn lowered_follows()
@@ -12,8 +12,7 @@ pub fn lowered_is_made_of_its_program()
     ensures { LoweredIsMadeOf }
 {}
 
-/// The operations of a program whose expressions are integers and fixed-point numbers, or void, are operations on such
-/// numbers and on ports, those that code stands for.
-pub fn compiled_is_of_numbers()
-    ensures { CompiledIsOfNumbers }
+/// The operations of a program that read and write ports have all bytes of these at 0xFF or below.
+pub fn operations_stay_on_ports()
+    ensures { OperationsStayOnPorts }
 {}

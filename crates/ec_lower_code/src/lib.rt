@@ -3,4 +3,4 @@
 
 mod laws;
 
-pub use laws::{compiled_is_of_numbers, lowered_follows, lowered_is_made_of_its_program};
+pub use laws::{lowered_follows, lowered_is_made_of_its_program, operations_stay_on_ports};

@@ -1,2 +1,1 @@
 pub mod Suited
-pub mod InData

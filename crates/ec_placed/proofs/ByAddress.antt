@@ -52,7 +52,8 @@ same_told Data Data h = refl
 
 -- ---- objects
 
-pub object_there : (bank : Bank) (structs : List PlainStruct) (os : List PlainObject) (qs : List Place) (a i : ℕ) (o : PlainObject) (q : Place)
+pub object_there : (bank : Bank) (structs : List PlainStruct) (os : List PlainObject) (qs : List Place) (a i : ℕ) (o : PlainObject)
+    (q : Place)
     → slice_get os i ≡ Some o → slice_get qs i ≡ Some q → o.home ≡ bank → q.offset ≤ a → a < q.offset + size_of_type structs o.ty
     → is_of_objects bank structs os qs a ≡ true
 object_there bank structs [] qs a i o q is at home from below = absurd cc
@@ -62,9 +63,12 @@ object_there bank structs (x ∷ os) (y ∷ qs) a zero o q is at home from below
     let t : y ≡ q = cc in
     let h : x.home ≡ bank = ap (λ z. z.home) s ∙ home in
     let f : y.offset ≤ a = subst (λ z. z.offset ≤ a) (sym t) from in
-    let b : a < y.offset + size_of_type structs x.ty = subst (λ z. a < z.offset + size_of_type structs x.ty) (sym t) (subst (λ z. a < q.offset + size_of_type structs z.ty) (sym s) below) in
+    let b : a < y.offset + size_of_type structs x.ty =
+    subst (λ z. a < z.offset + size_of_type structs x.ty) (sym t)
+    (subst (λ z. a < q.offset + size_of_type structs z.ty) (sym s) below) in
     or_left (same_bank x.home bank && is_byte_of y.offset (size_of_type structs x.ty) a) (is_of_objects bank structs os qs a)
-    (and_from (same_bank x.home bank) (is_byte_of y.offset (size_of_type structs x.ty) a) (rw h (same_itself bank)) (byte_there y.offset (size_of_type structs x.ty) a f b))
+    (and_from (same_bank x.home bank) (is_byte_of y.offset (size_of_type structs x.ty) a) (rw h (same_itself bank))
+    (byte_there y.offset (size_of_type structs x.ty) a f b))
 object_there bank structs (x ∷ os) (y ∷ qs) a (suc i) o q is at home from below =
     or_right (same_bank x.home bank && is_byte_of y.offset (size_of_type structs x.ty) a) (is_of_objects bank structs os qs a)
     (object_there bank structs os qs a i o q is at home from below)
@@ -80,7 +84,8 @@ record Found (bank : Bank) (structs : List PlainStruct) (os : List PlainObject) 
   from_there : q.offset ≤ a
   below : a < q.offset + size_of_type structs o.ty
 
-object_told : (bank : Bank) (structs : List PlainStruct) (os : List PlainObject) (qs : List Place) (a : ℕ) → is_of_objects bank structs os qs a ≡ true
+object_told : (bank : Bank) (structs : List PlainStruct) (os : List PlainObject) (qs : List Place) (a : ℕ)
+    → is_of_objects bank structs os qs a ≡ true
     → Found bank structs os qs a
 object_told bank structs [] qs a h = absurd (false≢true h)
 object_told bank structs (x ∷ os) [] a h = absurd (false≢true h)
@@ -104,7 +109,8 @@ scratch_there (x ∷ frames) [] a f frame at is there from below = absurd cc
 scratch_there (x ∷ frames) (y ∷ ats) a zero frame at is there from below =
     let s : x ≡ frame = cc in
     let t : y ≡ at = cc in
-    or_left (is_byte_of y (frame_size x) a) (is_of_scratch frames ats a) (byte_there y (frame_size x) a (omega (arith, t, from)) (omega (arith, t, s, below)))
+    or_left (is_byte_of y (frame_size x) a) (is_of_scratch frames ats a)
+    (byte_there y (frame_size x) a (omega (arith, t, from)) (omega (arith, t, s, below)))
 scratch_there (x ∷ frames) (y ∷ ats) a (suc f) frame at is there from below =
     or_right (is_byte_of y (frame_size x) a) (is_of_scratch frames ats a) (scratch_there frames ats a f frame at is there from below)
 
@@ -133,7 +139,8 @@ scratch_told (x ∷ frames) (y ∷ ats) a h =
 low_kind : (p : PlainProgram) (m : Map) (asm : AsmProgram) (l : Located) (a : ℕ) → a < 256 → kinds p m asm l a ≡ register_kind a
 low_kind p m asm l a h = rw (lt-ltb a 256 h) refl
 
-high_kind : (p : PlainProgram) (m : Map) (asm : AsmProgram) (l : Located) (a : ℕ) → 256 ≤ a → a < 2304 → kinds p m asm l a ≡ memory_kind p m asm l a
+high_kind : (p : PlainProgram) (m : Map) (asm : AsmProgram) (l : Located) (a : ℕ) → 256 ≤ a → a < 2304 → kinds p m asm l a
+    ≡ memory_kind p m asm l a
 high_kind p m asm l a h k = rw (le-ltb a 256 h, lt-ltb a 2304 k) refl
 
 pub core_is_low : (a : ℕ) → is_core_register a ≡ true → a < 256
@@ -171,7 +178,8 @@ module _ (p : PlainProgram) (m : Map) (asm : AsmProgram) (l : Located) (map_vali
       ∙ rw (object_there Data p.structs p.objects l.places.items a i o q h.object h.place h.home from below) refl
 
   -- what has another number is no byte of an object
-  no_object : (n at s a : ℕ) → Names p asm l n at s → at ≤ a → a < at + s → ((i : ℕ) (o : PlainObject) → slice_get p.objects i ≡ Some o → n ≢ i)
+  no_object : (n at s a : ℕ) → Names p asm l n at s → at ≤ a → a < at + s
+      → ((i : ℕ) (o : PlainObject) → slice_get p.objects i ≡ Some o → n ≢ i)
       → is_of_objects Data p.structs p.objects l.places.items a ≡ false
   no_object n at s a names from below other =
       false_from_ne_true (is_of_objects Data p.structs p.objects l.places.items a)
@@ -195,8 +203,10 @@ module _ (p : PlainProgram) (m : Map) (asm : AsmProgram) (l : Located) (map_vali
     scratch_kind f frame at a is there from below =
         let here = apart.frames f frame at is there in
         own_kind a (omega (arith, here.0, from)) (omega (arith, here.1, below))
-        (no_object (1024 + f) at (frame_size frame) a (scratch f frame at is there) from below (λ i o q e. let b = few i o count q in omega (arith, b, e)))
-        (or_left (is_of_scratch asm.frames.items l.frames.items a) (is_byte_of l.work 64 a) (scratch_there asm.frames.items l.frames.items a f frame at is there from below))
+        (no_object (1024 + f) at (frame_size frame) a (scratch f frame at is there) from below
+        (λ i o q e. let b = few i o count q in omega (arith, b, e)))
+        (or_left (is_of_scratch asm.frames.items l.frames.items a) (is_byte_of l.work 64 a)
+        (scratch_there asm.frames.items l.frames.items a f frame at is there from below))
 
     work_kind : (a : ℕ) → l.work ≤ a → a < l.work + 64 → kinds p m asm l a ≡ Own
     work_kind a from below =
@@ -253,12 +263,20 @@ module _ (p : PlainProgram) (m : Map) (asm : AsmProgram) (l : Located) (map_vali
         (λ u. let w = byte_told l.work 64 a u in of_work a w.0 w.1)
         (or_cases (is_of_scratch asm.frames.items l.frames.items a) (is_byte_of l.work 64 a) h)
 
-    register_tells : (a : ℕ) → a < 256 → (b c : Bool) → (a == 0x5F) ≡ b → is_core_register a ≡ c → Tells a (if b then Barred else if c then Own else Port)
-    register_tells a low true c q r = record { object = λ h. absurd cc; own = λ h. absurd cc; port = λ h. absurd cc; stacked = λ h. absurd cc }
+    register_tells : (a : ℕ) → a < 256 → (b c : Bool) → (a == 0x5F) ≡ b → is_core_register a ≡ c
+        → Tells a (if b then Barred else if c then Own else Port)
+    register_tells a low true c q r =
+        record { object = λ h. absurd cc; own = λ h. absurd cc; port = λ h. absurd cc; stacked = λ h. absurd cc }
     register_tells a low false true q r =
         record { object = λ h. absurd cc; own = λ h. of_register a r (eqb-false a 0x5F q); port = λ h. absurd cc; stacked = λ h. absurd cc }
     register_tells a low false false q r =
-        record { object = λ h. absurd cc; own = λ h. absurd cc; port = λ h. and_from (nat_lt a 256) (not (is_core_register a)) (lt-ltb a 256 low) (ap not r); stacked = λ h. absurd cc }
+        record {
+          object = λ h. absurd cc;
+          own = λ h. absurd cc;
+          port = λ h. and_from (nat_lt a 256) (not (is_core_register a))
+              (lt-ltb a 256 low) (ap not r);
+          stacked = λ h. absurd cc;
+        }
 
     memory_tells : (a : ℕ) (b c d : Bool) → is_of_objects Data p.structs p.objects l.places.items a ≡ b
         → (is_of_scratch asm.frames.items l.frames.items a || is_byte_of l.work 64 a) ≡ c → is_byte_of m.stack.first m.stack.size a ≡ d
@@ -277,7 +295,8 @@ module _ (p : PlainProgram) (m : Map) (asm : AsmProgram) (l : Located) (map_vali
       by_tests true c q = register_tells a (ltb-true a 256 q) (a == 0x5F) (is_core_register a) refl refl
       by_tests false true q =
           memory_tells a (is_of_objects Data p.structs p.objects l.places.items a)
-          (is_of_scratch asm.frames.items l.frames.items a || is_byte_of l.work 64 a) (is_byte_of m.stack.first m.stack.size a) refl refl refl
+          (is_of_scratch asm.frames.items l.frames.items a || is_byte_of l.work 64 a)
+          (is_byte_of m.stack.first m.stack.size a) refl refl refl
       by_tests false false q = record { object = λ h. absurd cc; own = λ h. absurd cc; port = λ h. absurd cc; stacked = λ h. absurd cc }
 
     pub are_kinds : AreKinds p m asm l
@@ -335,7 +354,8 @@ kinds_may_be p m asm l a = by_tests (nat_lt a 256) (nat_lt a 2304) refl refl whe
       (ltb-false a 256 q) (ltb-true a 2304 r)
   by_tests false false q r = refl
 
-tables_in_flash : (p : PlainProgram) (m : Map) (asm : AsmProgram) (l : Located) (n a : ℕ) → n ≡ 32768 → in_flash (tables p m asm l a) n a ≡ true
+tables_in_flash : (p : PlainProgram) (m : Map) (asm : AsmProgram) (l : Located) (n a : ℕ) → n ≡ 32768 → in_flash (tables p m asm l a) n a
+    ≡ true
 tables_in_flash p m asm l n a size = by_test (nat_lt a 32768) refl where
   within : (k : Kind) → nat_lt a n ≡ true → in_flash k n a ≡ true
   within Own h = h
@@ -349,9 +369,13 @@ tables_in_flash p m asm l n a size = by_test (nat_lt a 32768) refl where
   by_test false q = rw q refl
 
 -- what is told to be an object's in flash is one of an object that is kept there
-pub flash_object : (p : PlainProgram) (m : Map) (asm : AsmProgram) (l : Located) (a : ℕ) → tables p m asm l a ≡ Object → IsObjectByte p l Flash a
+pub flash_object : (p : PlainProgram) (m : Map) (asm : AsmProgram) (l : Located) (a : ℕ) → tables p m asm l a ≡ Object
+    → IsObjectByte p l Flash a
 flash_object p m asm l a h =
-    let f = object_told Flash p.structs p.objects l.places.items a (by_tests (nat_lt a 32768) (is_of_objects Flash p.structs p.objects l.places.items a) (is_of_initials p.structs p.objects (layout_by p m asm).initials a) h) in
+    let f =
+    object_told Flash p.structs p.objects l.places.items a
+    (by_tests (nat_lt a 32768) (is_of_objects Flash p.structs p.objects l.places.items a)
+    (is_of_initials p.structs p.objects (layout_by p m asm).initials a) h) in
     record { number = f.i; object = f.o; place = f.q; is = record { object = f.object; home = f.home; place = f.place; from_there = f.from_there; within = f.below } } where
       by_tests : (b c d : Bool) → (if b then (if c then Object else if d then Own else Barred) else Barred) ≡ Object → c ≡ true
       by_tests true true d h = refl

@@ -1,5 +1,6 @@
 -- Before main the initial bytes are copied.
-use Rattle.std.proofs.Common.{◌≡◌, ℕ, zero, suc, ◌+◌, ◌<◌, Bool, true, false, List, [], ◌∷◌, ◌++◌, Some, append_assoc, zero-add, refl, sym, ap, ◌∙◌, subst, arith}
+use Rattle.std.proofs.Common.{◌≡◌, ℕ, zero, suc, ◌+◌, ◌<◌, Bool, true, false, List, [], ◌∷◌, ◌++◌, Some, append_assoc}
+use Rattle.std.proofs.Common.{zero-add, refl, sym, ap, ◌∙◌, subst, arith}
 use Rattle.std.specs.Prelude.{if◌then◌else◌, slice_get, slice_index}
 use Rattle.std.proofs.lemmas.Bool.{lt-ltb}
 use Rattle.std.proofs.lemmas.Option.{get_or_from_slice_get}
@@ -44,8 +45,11 @@ noted_copying : (e : Env) (from to n : ℕ) → AreNoted e from to n → noted_a
 noted_copying e from to zero h = refl
 noted_copying e from to (suc n) h =
     let byte = slice_index e.flash (from + n) in
-    let before = noted_copying e from to n (record { tables = λ k less. h.tables k (omega (arith, less)); kinds = λ k less. h.kinds k (omega (arith, less)) }) in
-    let last : noted_all e (Read FlashBank (from + n) byte ∷ Write (to + n) byte ∷ []) ≡ Read FlashBank (from + n) byte ∷ Write (to + n) byte ∷ [] =
+    let before =
+    noted_copying e from to n
+    (record { tables = λ k less. h.tables k (omega (arith, less)); kinds = λ k less. h.kinds k (omega (arith, less)) }) in
+    let last : noted_all e (Read FlashBank (from + n) byte ∷ Write (to + n) byte ∷ [])
+    ≡ Read FlashBank (from + n) byte ∷ Write (to + n) byte ∷ [] =
     rw (h.tables n (omega arith), h.kinds n (omega arith)) refl in
     noted-append e (accesses e from to n) (Read FlashBank (from + n) byte ∷ Write (to + n) byte ∷ [])
     ∙ ap (λ z. z ++ noted_all e (Read FlashBank (from + n) byte ∷ Write (to + n) byte ∷ [])) before
@@ -75,18 +79,29 @@ module _ (e : Env) (structs : List PlainStruct) where
       by_kind (has_initial_bytes d.storage d.home) refl
       (all_noted (o + 1) ds ats qs
       (λ j x is. let f = each (suc j) x is in let n : o + suc j ≡ o + 1 + j = omega arith in
-      record { at = f.at; is_at = f.is_at; place = f.place; is_place = f.is_place; copied = λ has. subst (λ k. IsFrom k x f.at f.place) n (f.copied has) })) where
+      record {
+        at = f.at;
+        is_at = f.is_at;
+        place = f.place;
+        is_place = f.is_place;
+        copied = λ has. subst (λ k. IsFrom k x f.at f.place) n
+            (f.copied has);
+      })) where
         here : has_initial_bytes d.storage d.home ≡ true → IsFrom o d at q
         here has =
             let f = each 0 d refl in
             let at_is : f.at ≡ at = let a = f.is_at in cc in
             let place_is : f.place ≡ q = let a = f.is_place in cc in
             let n : o + 0 ≡ o = omega arith in
-            subst (λ k. IsFrom k d at q) n (subst (λ y. IsFrom (o + 0) d at y) place_is (subst (λ k. IsFrom (o + 0) d k f.place) at_is (f.copied has)))
+            subst (λ k. IsFrom k d at q) n
+            (subst (λ y. IsFrom (o + 0) d at y) place_is (subst (λ k. IsFrom (o + 0) d k f.place) at_is (f.copied has)))
 
         by_kind : (kept : Bool) → has_initial_bytes d.storage d.home ≡ kept
             → noted_all e (all_accesses e (spans_from structs (o + 1) ds)) ≡ copying_objects e.flash structs ds ats qs
-            → noted_all e (all_accesses e ((if kept then record { from = 2048 + o; to = o; bytes = size_of_type structs d.ty } ∷ [] else []) ++ spans_from structs (o + 1) ds))
+            → noted_all e
+            (all_accesses e
+            ((if kept then record { from = 2048 + o; to = o; bytes = size_of_type structs d.ty } ∷ [] else []) ++ spans_from structs
+            (o + 1) ds))
             ≡ (if kept then copying e.flash at q.offset (size_of_type structs d.ty) else []) ++ copying_objects e.flash structs ds ats qs
         by_kind false has rest = rest
         by_kind true has rest =
@@ -94,12 +109,14 @@ module _ (e : Env) (structs : List PlainStruct) where
             let size = size_of_type structs d.ty in
             noted-append e (accesses e (e.address_of (2048 + o) 0) (e.address_of o 0) size) (all_accesses e (spans_from structs (o + 1) ds))
             ∙ ap (λ z. z ++ noted_all e (all_accesses e (spans_from structs (o + 1) ds)))
-            (ap (λ k. noted_all e (accesses e k (e.address_of o 0) size)) c.from ∙ ap (λ k. noted_all e (accesses e at k size)) c.to ∙ noted_copying e at q.offset size c.noted)
+            (ap (λ k. noted_all e (accesses e k (e.address_of o 0) size)) c.from ∙ ap (λ k. noted_all e (accesses e at k size)) c.to
+            ∙ noted_copying e at q.offset size c.noted)
             ∙ ap (λ z. copying e.flash at q.offset size ++ z) rest
 
 -- ---- the whole
 
-module _ (laws : PlacedLaws) (p : PlainProgram) (m : Map) (asm : AsmProgram) (l : Located) (h : IsTranslated p m asm l) (are : AreKinds p m asm l) where
+module _ (laws : PlacedLaws) (p : PlainProgram) (m : Map) (asm : AsmProgram) (l : Located) (h : IsTranslated p m asm l)
+    (are : AreKinds p m asm l) where
   abbrev w : Env
   w = watched p m asm l
 
@@ -109,9 +126,12 @@ module _ (laws : PlacedLaws) (p : PlainProgram) (m : Map) (asm : AsmProgram) (l 
   stands_from : (j : ℕ) (d : PlainObject) → slice_get p.objects j ≡ Some d
       → StandsFrom w p.structs (0 + j) j d (layout_by p m asm).initials l.places.items
   stands_from j d is =
-      let first = initial_there p.structs m.places.items p.objects m.tables.first (m.tables.first + flash_sizes (entries m.places.items p)) j d is in
+      let first =
+      initial_there p.structs m.places.items p.objects m.tables.first
+      (m.tables.first + flash_sizes (entries m.places.items p)) j d is in
       let there = place_there p.structs m.places.items p.objects m.tables.first m.vars.first j d is in
-      let placed_there : slice_get l.places.items j ≡ Some there.0 = subst (λ ps. slice_get ps j ≡ Some there.0) (sym h.located.places) there.1 in
+      let placed_there : slice_get l.places.items j ≡ Some there.0 =
+      subst (λ ps. slice_get ps j ≡ Some there.0) (sym h.located.places) there.1 in
       let at_is = get_or_from_slice_get (layout_by p m asm).initials j first.0 0 first.1 in
       let place_is : place_of l j ≡ there.0.offset = rw placed_there refl in
       let of = λ (has : has_initial_bytes d.storage d.home ≡ true).

@@ -45,10 +45,12 @@ use Rattle.ec_placed.specs.Shown.{ImagesShowTheirSources}
 
 -- ---- lists of accesses
 
-accesses-append : (p : PlainProgram) (place : ℕ → ℕ) (a b : List Event) → accesses p place (a ++ b) ≡ accesses p place a ++ accesses p place b
+accesses-append : (p : PlainProgram) (place : ℕ → ℕ) (a b : List Event) → accesses p place (a ++ b)
+    ≡ accesses p place a ++ accesses p place b
 accesses-append p place [] b = refl
 accesses-append p place (x ∷ a) b =
-    ap (λ z. event_accesses p place x ++ z) (accesses-append p place a b) ∙ sym (append_assoc (event_accesses p place x) (accesses p place a) (accesses p place b))
+    ap (λ z. event_accesses p place x ++ z) (accesses-append p place a b)
+    ∙ sym (append_assoc (event_accesses p place x) (accesses p place a) (accesses p place b))
 
 keeps : (p : PlainProgram) (place : ℕ → ℕ) (es fs : List Event) → BeginWith es fs → BeginWith (accesses p place es) (accesses p place fs)
 keeps p place es fs h = record { added = accesses p place h.added; is = ap (accesses p place) h.is ∙ accesses-append p place es h.added }
@@ -88,9 +90,11 @@ ports_noted e (Silent ∷ trace) = ports_noted e trace
 ports_noted e (In port byte ∷ trace) = ap (λ z. In port byte ∷ z) (ports_noted e trace)
 ports_noted e (Out port byte ∷ trace) = ap (λ z. Out port byte ∷ z) (ports_noted e trace)
 ports_noted e (Read DataBank at byte ∷ trace) =
-    behind_none (if_object (e.kind at) (Read DataBank at byte)) (noted_all e trace) trace (read_is_none (e.kind at) at byte DataBank) (ports_noted e trace)
+    behind_none (if_object (e.kind at) (Read DataBank at byte)) (noted_all e trace) trace (read_is_none (e.kind at) at byte DataBank)
+    (ports_noted e trace)
 ports_noted e (Read FlashBank at byte ∷ trace) =
-    behind_none (if_object (e.table at) (Read FlashBank at byte)) (noted_all e trace) trace (read_is_none (e.table at) at byte FlashBank) (ports_noted e trace)
+    behind_none (if_object (e.table at) (Read FlashBank at byte)) (noted_all e trace) trace (read_is_none (e.table at) at byte FlashBank)
+    (ports_noted e trace)
 ports_noted e (Write at byte ∷ trace) =
     behind_none (if_object (e.kind at) (Write at byte)) (noted_all e trace) trace (write_is_none (e.kind at) at byte) (ports_noted e trace)
 ports_noted e (Stack ∷ trace) = ports_noted e trace
@@ -99,7 +103,8 @@ ports_noted e (Stack ∷ trace) = ports_noted e trace
 copies_are_none : (e : Env) (from to n : ℕ) → ports_of (copies_of e from to n) ≡ []
 copies_are_none e from to zero = refl
 copies_are_none e from to (suc n) =
-    ports-append (copies_of e from to n) (Read FlashBank (from + n) (slice_index e.flash (from + n)) ∷ Write (to + n) (slice_index e.flash (from + n)) ∷ [])
+    ports-append (copies_of e from to n)
+    (Read FlashBank (from + n) (slice_index e.flash (from + n)) ∷ Write (to + n) (slice_index e.flash (from + n)) ∷ [])
     ∙ ap (λ z. z ++ []) (copies_are_none e from to n)
 
 all_are_none : (e : Env) (spans : List Span) → ports_of (all_accesses e spans) ≡ []
@@ -108,7 +113,8 @@ all_are_none e (s ∷ spans) =
     ports-append (copies_of e (source_of e s) (target e s) s.bytes) (all_accesses e spans)
     ∙ ap (λ z. z ++ ports_of (all_accesses e spans)) (copies_are_none e (source_of e s) (target e s) s.bytes) ∙ all_are_none e spans
 
-pub quiet : (e : Env) (trace : List Access) (spans : List Span) → noted_all e trace ≡ noted_all e (all_accesses e spans) → ports_of trace ≡ []
+pub quiet : (e : Env) (trace : List Access) (spans : List Span) → noted_all e trace ≡ noted_all e (all_accesses e spans) → ports_of trace
+    ≡ []
 quiet e trace spans h =
     sym (ports_noted e trace) ∙ ap ports_of h ∙ ports_noted e (all_accesses e spans) ∙ all_are_none e spans
 
@@ -128,7 +134,8 @@ before_ended (a ∷ start) trace result = ap (preceded a) (before_ended start tr
 abbrev pub HasMeaning : PlainProgram → Map → Inputs → ℕ → Type 0
 HasMeaning p m inputs n = (point : Undefined) → source p (plain_table m.io) inputs n ≢ Failed point
 
-pub meaning_before : MoreTurnsOnlyAdd → (p : PlainProgram) (m : Map) (inputs : Inputs) (j k : ℕ) → j ≤ k → HasMeaning p m inputs k → HasMeaning p m inputs j
+pub meaning_before : MoreTurnsOnlyAdd → (p : PlainProgram) (m : Map) (inputs : Inputs) (j k : ℕ) → j ≤ k → HasMeaning p m inputs k
+    → HasMeaning p m inputs j
 meaning_before turns p m inputs j k less later point failed =
     later point (by_shown (source p (plain_table m.io) inputs j) failed (turns p (plain_table m.io) inputs j k less)) where
       by_shown : (b : Behaviour Event ℤ Undefined) → b ≡ Failed point → Continues b (source p (plain_table m.io) inputs k)
@@ -138,7 +145,8 @@ meaning_before turns p m inputs j k less later point failed =
       by_shown (Ends es result) q c = absurd cc
 
 -- a run is seen in one way as in another where its trace is
-seen_alike : (f g : List Access → List Access) (run : Run) → f (trace_of run) ≡ g (trace_of run) → seen_as f (behaviour_of run) ≡ seen_as g (behaviour_of run)
+seen_alike : (f g : List Access → List Access) (run : Run) → f (trace_of run) ≡ g (trace_of run) → seen_as f (behaviour_of run)
+    ≡ seen_as g (behaviour_of run)
 seen_alike f g (Running trace t) h = ap GoesOn h
 seen_alike f g (EndedWith trace result) h = ap (λ es. Ends es result) h
 seen_alike f g (FaultedAt trace kind pc) h = refl
@@ -169,19 +177,28 @@ module _ (p : PlainProgram) (m : Map) (l : Located) (e : Env) (s : State) (input
       → seen_as left (behaviour_of run) ≡ GoesOn (acc es) → Comes p l left s inputs r.trace n (most n) (GoesOn es)
   comes_on n k es (Running trace t) q w least h =
       let same : left trace ≡ acc es = cc in
-      let there : machine (r.steps + k) inputs s ≡ Running (r.trace ++ trace) t = r.on k ∙ ap (preceded_by r.trace) q ∙ before_running r.trace trace t in
+      let there : machine (r.steps + k) inputs s ≡ Running (r.trace ++ trace) t =
+      r.on k ∙ ap (preceded_by r.trace) q ∙ before_running r.trace trace t in
       (r.steps + k, r.trace ++ trace, t, bound n k w, omega (arith, least), there, record { after = trace; is = refl; shown = same })
   comes_on n k es (EndedWith trace result) q w least h = absurd cc
   comes_on n k es (FaultedAt trace kind pc) q w least h = absurd cc
 
-  comes_to_end : (n k : ℕ) (es : List Event) (result : ℤ) (run : Run) → machine k inputs r.main ≡ run → IsTrue (is_within_work p m.io inputs n k)
+  comes_to_end : (n k : ℕ) (es : List Event) (result : ℤ) (run : Run) → machine k inputs r.main ≡ run
+      → IsTrue (is_within_work p m.io inputs n k)
       → seen_as left (behaviour_of run) ≡ Ends (acc es) result → Comes p l left s inputs r.trace n (most n) (Ends es result)
   comes_to_end n k es result (Running trace t) q w h = absurd cc
   comes_to_end n k es result (EndedWith trace other) q w h =
       let same : left trace ≡ acc es = cc in
       let told : other ≡ result = cc in
-      let there : machine (r.steps + k) inputs s ≡ EndedWith (r.trace ++ trace) other = r.on k ∙ ap (preceded_by r.trace) q ∙ before_ended r.trace trace other in
-      (r.steps + k, r.trace ++ trace, bound n k w, there ∙ ap (λ z. EndedWith (r.trace ++ trace) z) told, record { after = trace; is = refl; shown = same })
+      let there : machine (r.steps + k) inputs s ≡ EndedWith (r.trace ++ trace) other =
+      r.on k ∙ ap (preceded_by r.trace) q ∙ before_ended r.trace trace other in (
+        r.steps + k,
+        r.trace ++ trace,
+        bound n k w,
+        there
+            ∙ ap (λ z. EndedWith (r.trace ++ trace) z) told,
+        record { after = trace; is = refl; shown = same },
+      )
   comes_to_end n k es result (FaultedAt trace kind pc) q w h = absurd cc
 
   seen_left : (k : ℕ) → known k → noted_run e inputs r.main k ≡ seen_as left (behaviour_of (machine k inputs r.main))
@@ -189,7 +206,8 @@ module _ (p : PlainProgram) (m : Map) (l : Located) (e : Env) (s : State) (input
 
   pub reached : ((k : ℕ) → known k) → (n : ℕ) → Comes p l left s inputs r.trace n (most n) (shown n)
   reached all n = by_shown (shown n) (r.reaches n) where
-    by_shown : (b : Behaviour Event ℤ Undefined) → Reached (is_within_work p m.io inputs n) (noted_run e inputs r.main) n (seen_as (accesses p (place_of l)) b)
+    by_shown : (b : Behaviour Event ℤ Undefined)
+        → Reached (is_within_work p m.io inputs n) (noted_run e inputs r.main) n (seen_as (accesses p (place_of l)) b)
         → Comes p l left s inputs r.trace n (most n) b
     by_shown (GoesOn es) x = comes_on n x.0 es (machine x.0 inputs r.main) refl x.1 x.2 (sym (seen_left x.0 (all x.0)) ∙ x.3)
     by_shown (Ends es result) x = comes_to_end n x.0 es result (machine x.0 inputs r.main) refl x.1 (sym (seen_left x.0 (all x.0)) ∙ x.2)
@@ -208,19 +226,23 @@ module _ (p : PlainProgram) (m : Map) (l : Located) (e : Env) (s : State) (input
   same_events : (es : List Event) → BeginWith es es
   same_events es = record { added = []; is = sym (append-nil es) }
 
-  in_main : (b c : Behaviour Event ℤ Undefined) (run : Run) → Continues b c → IsWithin (seen_as (accesses p (place_of l)) b) (seen_as left (behaviour_of run))
+  in_main : (b c : Behaviour Event ℤ Undefined) (run : Run) → Continues b c
+      → IsWithin (seen_as (accesses p (place_of l)) b) (seen_as left (behaviour_of run))
       → Within c (preceded_by r.trace run)
   in_main b (Failed point) run more w = tt
-  in_main (GoesOn es) (GoesOn fs) (Running trace t) more w = subst (λ z. Within (GoesOn fs) z) (sym (before_running r.trace trace t)) (first es fs trace t more w)
+  in_main (GoesOn es) (GoesOn fs) (Running trace t) more w =
+      subst (λ z. Within (GoesOn fs) z) (sym (before_running r.trace trace t)) (first es fs trace t more w)
   in_main (GoesOn es) (GoesOn fs) (EndedWith trace result) more w = absurd w
   in_main (GoesOn es) (GoesOn fs) (FaultedAt trace kind pc) more w = absurd w
-  in_main (GoesOn es) (Ends fs other) (Running trace t) more w = subst (λ z. Within (Ends fs other) z) (sym (before_running r.trace trace t)) (first es fs trace t more w)
+  in_main (GoesOn es) (Ends fs other) (Running trace t) more w =
+      subst (λ z. Within (Ends fs other) z) (sym (before_running r.trace trace t)) (first es fs trace t more w)
   in_main (GoesOn es) (Ends fs other) (EndedWith trace result) more w = absurd w
   in_main (GoesOn es) (Ends fs other) (FaultedAt trace kind pc) more w = absurd w
   in_main (Ends es result) (GoesOn fs) run more w = absurd cc
   in_main (Ends es result) (Ends fs other) (Running trace t) more w =
       let same : fs ≡ es = cc in
-      subst (λ z. Within (Ends fs other) z) (sym (before_running r.trace trace t)) (first es fs trace t (subst (λ z. BeginWith es z) (sym same) (same_events es)) w)
+      subst (λ z. Within (Ends fs other) z) (sym (before_running r.trace trace t))
+      (first es fs trace t (subst (λ z. BeginWith es z) (sym same) (same_events es)) w)
   in_main (Ends es result) (Ends fs other) (EndedWith trace told) more w =
       let same : fs ≡ es = cc in
       let number : other ≡ result = cc in
@@ -249,10 +271,12 @@ module _ (p : PlainProgram) (m : Map) (l : Located) (e : Env) (s : State) (input
       let more = turns p (plain_table m.io) inputs (in_time k) k (omega arith) in
       let stays : IsWithin (seen_as acc (shown (in_time k))) (seen_as left (behaviour_of (machine (in_time k) inputs r.main))) =
       subst (λ b. IsWithin (seen_as acc (shown (in_time k))) b) (seen_left (in_time k) ok) (r.within (in_time k)) in
-      let at : machine k inputs s ≡ preceded_by r.trace (machine (in_time k) inputs r.main) = ap (λ n. machine n inputs s) (sym sum) ∙ r.on (in_time k) in
+      let at : machine k inputs s ≡ preceded_by r.trace (machine (in_time k) inputs r.main) =
+      ap (λ n. machine n inputs s) (sym sum) ∙ r.on (in_time k) in
       subst (λ z. Within (shown k) z) (sym at) (in_main (shown (in_time k)) (shown k) (machine (in_time k) inputs r.main) more stays)
 
-  late_steps : MoreTurnsOnlyAdd → (k : ℕ) → r.steps ≤ k → (HasMeaning p m inputs k → known (in_time k)) → (b : Behaviour Event ℤ Undefined) → shown k ≡ b
+  late_steps : MoreTurnsOnlyAdd → (k : ℕ) → r.steps ≤ k → (HasMeaning p m inputs k → known (in_time k)) → (b : Behaviour Event ℤ Undefined)
+      → shown k ≡ b
       → Within (shown k) (machine k inputs s)
   late_steps turns k late told (Failed point) q = subst (λ b. Within b (machine k inputs s)) (sym q) tt
   late_steps turns k late told (GoesOn es) q =
@@ -260,7 +284,8 @@ module _ (p : PlainProgram) (m : Map) (l : Located) (e : Env) (s : State) (input
   late_steps turns k late told (Ends es result) q =
       main_steps turns k late (told (λ point z. let no : Ends es result ≡ Failed point = sym q ∙ z in cc))
 
-  pub within : MachineIsRun → MoreTurnsOnlyAdd → ((j k : ℕ) → j ≤ k → HasMeaning p m inputs k → known j) → (k : ℕ) → Within (shown k) (machine k inputs s)
+  pub within : MachineIsRun → MoreTurnsOnlyAdd → ((j k : ℕ) → j ≤ k → HasMeaning p m inputs k → known j) → (k : ℕ)
+      → Within (shown k) (machine k inputs s)
   within is_run turns told k =
       ⊎_elim
       (λ early.
@@ -276,12 +301,15 @@ module _ (p : PlainProgram) (m : Map) (l : Located) (e : Env) (s : State) (input
       → (k : ℕ) (trace : List Access) (t : State) → machine k inputs r.main ≡ Running trace t
       → PushesInRegion m (source p (plain_table m.io) inputs (k + 1)) t
   pushes inside fit told k trace t ran = by_shown (source p (plain_table m.io) inputs (k + 1)) (r.safe (k + 1)) where
-    in_region : is_safe (run e (k + 1) (AtWord r.main.pc r.view)) ≡ true → All (λ at. (m.stack.first ≤ at) × (at < end_of m.stack)) (stack_bytes t)
+    in_region : is_safe (run e (k + 1) (AtWord r.main.pc r.view)) ≡ true
+        → All (λ at. (m.stack.first ≤ at) × (at < end_of m.stack)) (stack_bytes t)
     in_region safe =
         All-weaker (λ at. e.kind at ≡ Stacked) (λ at. (m.stack.first ≤ at) × (at < end_of m.stack)) told (stack_bytes t)
-        (inside e 2304 (k + 1) k r.main t r.view trace fit r.shown safe (omega arith) (subst (λ f. machine k f r.main ≡ Running trace t) (sym r.given) ran))
+        (inside e 2304 (k + 1) k r.main t r.view trace fit r.shown safe (omega arith)
+        (subst (λ f. machine k f r.main ≡ Running trace t) (sym r.given) ran))
 
-    by_shown : (b : Behaviour Event ℤ Undefined) → HoldsUnlessFailed b (is_safe (run e (k + 1) (AtWord r.main.pc r.view))) → PushesInRegion m b t
+    by_shown : (b : Behaviour Event ℤ Undefined) → HoldsUnlessFailed b (is_safe (run e (k + 1) (AtWord r.main.pc r.view)))
+        → PushesInRegion m b t
     by_shown (Failed point) h = tt
     by_shown (GoesOn es) h = in_region h
     by_shown (Ends es result) h = in_region h

@@ -20,6 +20,7 @@ use Rattle.ec_ir.specs.Temporaries.{low_bytes}
 use Rattle.ec_lower_code.specs.Correct.{LoweredIsMadeOf}
 use Rattle.ec_map.specs.declared.map.Map.{Map}
 use Rattle.ec_locate.specs.declared.placing.Located.{Located}
+use Rattle.ec_select_operations.specs.Pointers.{home_of}
 use Rattle.ec_select_functions.specs.Relation.{byte_accesses, number_told, leaf_accesses, object_accesses}
 use Rattle.ec_select_functions.specs.Relation.{event_accesses}
 use Rattle.ec_select.specs.Laws.{SelectionsAreValid}
@@ -38,7 +39,8 @@ pub record GuardLaws : Type 0 where
 
 pub are_kinds : GuardLaws → (p : PlainProgram) (m : Map) (asm : AsmProgram) (l : Located) → IsTranslated p m asm l → AreKinds p m asm l
 are_kinds laws p m asm l h =
-    laws.told p m asm l h.valid h.map (laws.selections (lowered p (plain_table m.io)) asm (laws.made p m.io h.valid h.groups h.lowered_whole).valid h.code h.selection) h.located
+    laws.told p m asm l h.valid h.map
+    (laws.selections (lowered p (plain_table m.io)) asm (laws.made p m.io h.valid h.groups).valid h.code h.selection) h.located
 
 -- ---- what is noted of the machine
 
@@ -59,9 +61,12 @@ noted_are_of_objects laws p m asm l trace h = all trace where
   one Silent = tt
   one (PortIn port byte) = (tt, tt)
   one (PortOut port byte) = (tt, tt)
-  one (ByteRead DataBank at byte) = if_noted (IsOfObjects p l) (kinds p m asm l at) (ByteRead DataBank at byte) (λ k. (are_kinds laws p m asm l h).object_told at k)
-  one (ByteRead FlashBank at byte) = if_noted (IsOfObjects p l) (tables p m asm l at) (ByteRead FlashBank at byte) (λ k. flash_object p m asm l at k)
-  one (ByteWrite at byte) = if_noted (IsOfObjects p l) (kinds p m asm l at) (ByteWrite at byte) (λ k. (are_kinds laws p m asm l h).object_told at k)
+  one (ByteRead DataBank at byte) =
+      if_noted (IsOfObjects p l) (kinds p m asm l at) (ByteRead DataBank at byte) (λ k. (are_kinds laws p m asm l h).object_told at k)
+  one (ByteRead FlashBank at byte) =
+      if_noted (IsOfObjects p l) (tables p m asm l at) (ByteRead FlashBank at byte) (λ k. flash_object p m asm l at k)
+  one (ByteWrite at byte) =
+      if_noted (IsOfObjects p l) (kinds p m asm l at) (ByteWrite at byte) (λ k. (are_kinds laws p m asm l h).object_told at k)
   one Stack = tt
 
   all : (trace : List Access) → AllByRecursion (IsOfObjects p l) (noted_all (placed p m asm l) trace)
@@ -81,19 +86,20 @@ bytes_of_number P make at number (suc n) h =
 module _ (p : PlainProgram) (l : Located) (P : Access → Type 0) (make : ℕ → ℕ → Access) (o k : ℕ) (told : LeafInit)
     (each : (at byte : ℕ) → IsLeafByte p l o k at → P (make at byte)) where
   of_leaf : (d : PlainObject) (leaf : PlainLeaf) → slice_get p.objects o ≡ Some d → slice_get (leaves_of_type p.structs d.ty) k ≡ Some leaf
-      → AllByRecursion P (leaf_accesses make (place_of l o) (number_told (place_of l) told) leaf)
+      → AllByRecursion P (leaf_accesses p (place_of l) make (place_of l o) told leaf)
   of_leaf d leaf is has =
-      bytes_of_number P make (place_of l o + leaf.at) (low_bytes (scalar_size leaf.ty) (number_told (place_of l) told)) (scalar_size leaf.ty)
+      bytes_of_number P make (place_of l o + leaf.at)
+      (low_bytes (scalar_size leaf.ty) (number_told p (place_of l) (scalar_size leaf.ty) told)) (scalar_size leaf.ty)
       (λ i byte less. each (place_of l o + leaf.at + i) byte
       (record { object = d; leaf = leaf; is_object = is; is_leaf = has; from_there = omega arith; within = omega (arith, less) }))
 
   of_found : (d : PlainObject) → slice_get p.objects o ≡ Some d → (z : Option PlainLeaf) → slice_get (leaves_of_type p.structs d.ty) k ≡ z
-      → AllByRecursion P (unwrap_or (option_map (leaf_accesses make (place_of l o) (number_told (place_of l) told)) z) [])
+      → AllByRecursion P (unwrap_or (option_map (leaf_accesses p (place_of l) make (place_of l o) told) z) [])
   of_found d is None has = tt
   of_found d is (Some leaf) has = of_leaf d leaf is has
 
   of_object : (z : Option PlainObject) → slice_get p.objects o ≡ z
-      → AllByRecursion P (unwrap_or (option_map (leaf_accesses make (place_of l o) (number_told (place_of l) told))
+      → AllByRecursion P (unwrap_or (option_map (leaf_accesses p (place_of l) make (place_of l o) told)
       (option_and_then (λ d. slice_get (leaves_of_type p.structs d.ty) k) z)) [])
   of_object None is = tt
   of_object (Some d) is = of_found d is (slice_get (leaves_of_type p.structs d.ty) k) refl
@@ -104,7 +110,8 @@ module _ (p : PlainProgram) (l : Located) (P : Access → Type 0) (make : ℕ �
 event_bytes : (p : PlainProgram) (l : Located) (event : Event) → AllByRecursion (IsOfEvent p l event) (event_accesses p (place_of l) event)
 event_bytes p l (In port byte) = (refl, tt)
 event_bytes p l (Out port byte) = (refl, tt)
-event_bytes p l (Read o k space v) = all_of p l (IsOfEvent p l (Read o k space v)) (ByteRead DataBank) o k v (λ at byte b. (at, byte, refl, b))
+event_bytes p l (Read o k space v) =
+    all_of p l (IsOfEvent p l (Read o k space v)) (ByteRead (home_of p o)) o k v (λ at byte b. (at, byte, refl, b))
 event_bytes p l (Write o k space v) = all_of p l (IsOfEvent p l (Write o k space v)) ByteWrite o k v (λ at byte b. (at, byte, refl, b))
 
 pub events_stay_in_spaces : EventsAreAtHome → EventsStayInSpaces

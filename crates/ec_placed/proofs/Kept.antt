@@ -1,5 +1,6 @@
 -- What is kept of a trace whose accesses are allowed is what is noted of it.
-use Rattle.std.proofs.Common.{◌≡◌, ⊎_elim, ℕ, ◌≤◌, Bool, true, false, List, [], ◌∷◌, ◌++◌, map, refl, sym, ap, ◌∙◌, subst, arith}
+use Rattle.std.proofs.Common.{◌≡◌, ⊎_elim, ℕ, ◌≤◌, Bool, true, false, List, [], ◌∷◌, ◌++◌, map, refl, sym, ap, ◌∙◌}
+use Rattle.std.proofs.Common.{subst, arith}
 use Rattle.std.specs.Prelude.{nat_lt, if◌then◌else◌}
 use Rattle.std.specs.List.{AllByRecursion}
 use Rattle.std.proofs.lemmas.Bool.{or_cases, or_left, or_right, false_from_ne_true, false≢true}
@@ -28,14 +29,17 @@ use Rattle.ec_placed.proofs.Watched.{watched_kinds, watched_tables, watched, wat
 
 -- the scratch memory that code has is what its functions need
 needs_are : (p : PlainProgram) (m : Map) (fs : List PlainFunction)
-    → map (λ (g : PlainIrFunction). g.slots) (map (lowered_function p (plain_table m.io)) fs) ≡ map (λ (f : PlainFunction). stmt_need f.body) fs
+    → map (λ (g : PlainIrFunction). g.slots) (map (lowered_function p (plain_table m.io)) fs)
+    ≡ map (λ (f : PlainFunction). stmt_need f.body) fs
 needs_are p m [] = refl
 needs_are p m (f ∷ fs) = ap (λ ns. stmt_need f.body ∷ ns) (needs_are p m fs)
 
-pub frames_are_needs : (p : PlainProgram) (m : Map) (asm : AsmProgram) (l : Located) → IsTranslated p m asm l → asm.frames.items ≡ scratch_needs p
+pub frames_are_needs : (p : PlainProgram) (m : Map) (asm : AsmProgram) (l : Located) → IsTranslated p m asm l → asm.frames.items
+    ≡ scratch_needs p
 frames_are_needs p m asm l h = h.selection.frames ∙ needs_are p m p.functions
 
-module _ (p : PlainProgram) (m : Map) (asm : AsmProgram) (l : Located) (are : AreKinds p m asm l) (frames : asm.frames.items ≡ scratch_needs p) where
+module _ (p : PlainProgram) (m : Map) (asm : AsmProgram) (l : Located) (are : AreKinds p m asm l)
+    (frames : asm.frames.items ≡ scratch_needs p) where
   abbrev scratch : ℕ → Bool
   scratch a = is_of_scratch (scratch_needs p) l.frames.items a
 
@@ -48,13 +52,15 @@ module _ (p : PlainProgram) (m : Map) (asm : AsmProgram) (l : Located) (are : Ar
   is_own a high (of_register b core other) = let low = core_is_low a core in absurd (omega (arith, low, high))
   is_own a high (of_scratch b f frame at is there from below) =
       or_left (scratch a) (work a)
-      (subst (λ ns. is_of_scratch ns l.frames.items a ≡ true) frames (scratch_there asm.frames.items l.frames.items a f frame at is there from below))
+      (subst (λ ns. is_of_scratch ns l.frames.items a ≡ true) frames
+      (scratch_there asm.frames.items l.frames.items a f frame at is there from below))
   is_own a high (of_work b from below) = or_right (scratch a) (work a) (byte_there l.work 64 a from below)
 
   pub own_is : (a : ℕ) → is_own_byte p l a ≡ true → kinds p m asm l a ≡ Own
   own_is a h =
       ⊎_elim
-      (λ u. let f = scratch_told asm.frames.items l.frames.items a (subst (λ ns. is_of_scratch ns l.frames.items a ≡ true) (sym frames) u) in
+      (λ u. let f = scratch_told asm.frames.items l.frames.items a
+      (subst (λ ns. is_of_scratch ns l.frames.items a ≡ true) (sym frames) u) in
       are.scratch f.f f.frame f.at a f.is f.there f.from_there f.below)
       (λ u. let w = byte_told l.work 64 a u in are.work a w.0 w.1)
       (or_cases (scratch a) (work a) h)
@@ -83,7 +89,8 @@ module _ (p : PlainProgram) (m : Map) (asm : AsmProgram) (l : Located) (are : Ar
 
   in_flash : (x : Access) (a : ℕ) → is_held (watched_tables a) ≡ true → if_object (watched_tables a) x ≡ x ∷ []
   in_flash x a held = by_test (nat_lt a 32768) held where
-    by_test : (b : Bool) → (let k : Kind = if b then Object else Barred in is_held k) ≡ true → if_object (if b then Object else Barred) x ≡ x ∷ []
+    by_test : (b : Bool) → (let k : Kind = if b then Object else Barred in is_held k) ≡ true → if_object (if b then Object else Barred) x
+        ≡ x ∷ []
     by_test true h = refl
     by_test false h = absurd (false≢true h)
 

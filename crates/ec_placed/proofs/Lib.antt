@@ -1,5 +1,6 @@
 pub mod ByAddress
 pub mod Numbers
+pub mod Pointers
 pub mod Rows
 pub mod Laid
 pub mod Ports
@@ -9,5 +10,5 @@ pub mod Guarded
 pub mod Watched
 pub mod Kept
 pub mod Copied
-pub mod DataEvents
+pub mod Writes
 pub mod Whole

@@ -1,14 +1,20 @@
 -- Numbers and their bytes.
-use Rattle.std.proofs.Common.{◌≡◌, inl, inr, ℕ, ◌+◌, ◌*◌, ◌/◌, ◌%◌, ◌<◌, ℤ, pos, negsuc, Bool, true, false, refl, sym}
+use Rattle.std.proofs.Common.{◌≡◌, inl, inr, ℕ, ◌+◌, ◌*◌, ◌/◌, ◌%◌, ◌^◌, ◌<◌, ℤ, pos, negsuc, Bool, true, false, refl}
+use Rattle.std.proofs.Common.{sym}
 use Rattle.std.proofs.Common.{◌∙◌, subst, arith, get_or}
 use Rattle.std.specs.Prelude.{IsSomeAnd}
 use Rattle.std.specs.Int.{cast_unsigned, w128}
 use Rattle.ec_space.specs.Bytes.{little_endian}
+use Rattle.ec_space.specs.Spaces.{width}
+use Rattle.ec_space.specs.declared.space.SpaceId.{SpaceId}
+use Rattle.ec_space.specs.declared.space.SpaceId.TheVariants.{Flash, Data, Generic}
 use Rattle.ec_fx.specs.Formats.{format_of}
 use Rattle.ec_fx.specs.Ranges.{IsWithin}
 use Rattle.ec_fx.specs.declared.formats.FxKind.{FxKind}
-use Rattle.ec_fx.specs.declared.formats.FxKind.TheVariants.{ShortFract, Fract, LongFract, ShortAccum, Accum, LongAccum, UnsignedShortFract}
-use Rattle.ec_fx.specs.declared.formats.FxKind.TheVariants.{UnsignedFract, UnsignedLongFract, UnsignedShortAccum, UnsignedAccum}
+use Rattle.ec_fx.specs.declared.formats.FxKind.TheVariants.{ShortFract, Fract, LongFract, ShortAccum, Accum, LongAccum}
+use Rattle.ec_fx.specs.declared.formats.FxKind.TheVariants.{UnsignedShortFract}
+use Rattle.ec_fx.specs.declared.formats.FxKind.TheVariants.{UnsignedFract, UnsignedLongFract, UnsignedShortAccum}
+use Rattle.ec_fx.specs.declared.formats.FxKind.TheVariants.{UnsignedAccum}
 use Rattle.ec_fx.specs.declared.formats.FxKind.TheVariants.{UnsignedLongAccum}
 use Rattle.ec_asm.specs.Pieces.{value}
 use Rattle.ec_core.specs.ArithmeticTypes.{arithmetic_of}
@@ -16,9 +22,8 @@ use Rattle.ec_core.specs.ArithmeticValues.{HoldsNumber}
 use Rattle.ec_core.specs.Layout.{IsIntegerSize, scalar_size}
 use Rattle.ec_core.specs.Plain.{PlainType, void, integer, fixed, pointer, array, struct}
 use Rattle.ec_ir.specs.Temporaries.{low_bytes}
-use Rattle.ec_select_functions.specs.Places.{IsNumeric}
 
--- the bytes of a number of 1, 2, 4 or 8 bytes
+-- the bytes of a number of so many bytes
 abbrev pub AreBytesOf : (ℕ → ℕ) → (a n x : ℕ) → Type 0
 AreBytesOf f a n x = (k : ℕ) → k < n → f (a + k) ≡ get_or (little_endian n x) k 0
 
@@ -32,6 +37,13 @@ two f a x h =
     let b0 : f (a + 0) ≡ x % 256 = h 0 (omega arith) in
     let b1 : f (a + 1) ≡ x / 256 % 256 = h 1 (omega arith) in
     omega (arith, b0, b1)
+
+three : (f : ℕ → ℕ) (a x : ℕ) → AreBytesOf f a 3 x → value f a 3 ≡ x % 16777216
+three f a x h =
+    let b0 : f (a + 0) ≡ x % 256 = h 0 (omega arith) in
+    let b1 : f (a + 1) ≡ x / 256 % 256 = h 1 (omega arith) in
+    let b2 : f (a + 2) ≡ x / 256 / 256 % 256 = h 2 (omega arith) in
+    omega (arith, b0, b1, b2)
 
 four : (f : ℕ → ℕ) (a x : ℕ) → AreBytesOf f a 4 x → value f a 4 ≡ x % 4294967296
 four f a x h =
@@ -139,12 +151,18 @@ of_bits UnsignedAccum = refl
 of_bits UnsignedLongAccum = refl
 
 -- the bytes of a number of a type are its low bytes
-pub bytes_are_low : (ty : PlainType) (f : ℕ → ℕ) (a : ℕ) (n : ℤ) → IsNumeric ty → IsSomeAnd (arithmetic_of ty) (λ t. HoldsNumber t n)
+pub bytes_are_low : (ty : PlainType) (f : ℕ → ℕ) (a : ℕ) (n : ℤ) → IsSomeAnd (arithmetic_of ty) (λ t. HoldsNumber t n)
     → AreBytesOf f a (scalar_size ty) (cast_unsigned w128 n) → value f a (scalar_size ty) ≡ low_bytes (scalar_size ty) n
-bytes_are_low void f a n is holds bytes = absurd is
-bytes_are_low (integer signed b) f a n is holds bytes = of_integer signed b holds.0 f a n holds.1 bytes
-bytes_are_low (fixed kind sat) f a n is holds bytes =
+bytes_are_low void f a n holds bytes = absurd holds
+bytes_are_low (integer signed b) f a n holds bytes = of_integer signed b holds.0 f a n holds.1 bytes
+bytes_are_low (fixed kind sat) f a n holds bytes =
     of_kind kind f a n (subst (λ b. IsWithin (format_of kind).signed b n) (of_bits kind) holds) bytes
-bytes_are_low (pointer space const to) f a n is holds bytes = absurd is
-bytes_are_low (array of len) f a n is holds bytes = absurd is
-bytes_are_low (struct index) f a n is holds bytes = absurd is
+bytes_are_low (pointer space const to) f a n holds bytes = absurd holds
+bytes_are_low (array of len) f a n holds bytes = absurd holds
+bytes_are_low (struct index) f a n holds bytes = absurd holds
+
+-- the bytes of a pointer into a space
+pub of_pointer : (space : SpaceId) (f : ℕ → ℕ) (a x : ℕ) → AreBytesOf f a (width space) x → value f a (width space) ≡ x % 256 ^ width space
+of_pointer Flash f a x h = two f a x h
+of_pointer Data f a x h = two f a x h
+of_pointer Generic f a x h = three f a x h

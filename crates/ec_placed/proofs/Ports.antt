@@ -52,7 +52,8 @@ module _ (e : Env) (table : PlainTable) (stand : StandAsPorts e table) where
   pub reaches_on : (allowed : ℕ → ℕ → Bool) (source meaning : ℕ → Behaviour Event ℤ Undefined) → ((n : ℕ) → ShowsPorts table (source n))
       → Reaches allowed source meaning → Reaches allowed source (λ n. on_ports e (meaning n))
   reaches_on allowed source meaning shows reaches n = by_shown (source n) (shows n) (reaches n) where
-    by_shown : (b : Behaviour Event ℤ Undefined) → ShowsPorts table b → Reached (allowed n) meaning n b → Reached (allowed n) (λ n. on_ports e (meaning n)) n b
+    by_shown : (b : Behaviour Event ℤ Undefined) → ShowsPorts table b → Reached (allowed n) meaning n b
+        → Reached (allowed n) (λ n. on_ports e (meaning n)) n b
     by_shown (GoesOn es) h r = (r.0, r.1, r.2, ap (on_ports e) r.3 ∙ running es h)
     by_shown (Ends es result) h r = (r.0, r.1, ap (on_ports e) r.2 ∙ ended es result h)
     by_shown (Failed point) h r = tt
@@ -61,11 +62,13 @@ module _ (e : Env) (table : PlainTable) (stand : StandAsPorts e table) where
   pub within_on : (b c : Behaviour Event ℤ Undefined) → ShowsPorts table b → IsWithin b c → IsWithin b (on_ports e c)
   within_on (Failed point) c h w = tt
   within_on (GoesOn es) (GoesOn fs) h w =
-      subst (Within (GoesOn es)) (sym (running fs (front (AccessesPorts table) fs w.added (subst (AllByRecursion (AccessesPorts table)) w.is h)))) w
+      subst (Within (GoesOn es))
+      (sym (running fs (front (AccessesPorts table) fs w.added (subst (AllByRecursion (AccessesPorts table)) w.is h)))) w
   within_on (GoesOn es) (Ends fs result) h w = absurd w
   within_on (GoesOn es) (Failed point) h w = absurd w
   within_on (Ends es result) (GoesOn fs) h w =
-      subst (Within (Ends es result)) (sym (running fs (front (AccessesPorts table) fs w.added (subst (AllByRecursion (AccessesPorts table)) w.is h)))) w
+      subst (Within (Ends es result))
+      (sym (running fs (front (AccessesPorts table) fs w.added (subst (AllByRecursion (AccessesPorts table)) w.is h)))) w
   within_on (Ends es result) (Ends fs other) h w =
       subst (Within (Ends es result)) (sym (ended fs other (subst (AllByRecursion (AccessesPorts table)) (sym w.0) h))) w
   within_on (Ends es result) (Failed point) h w = absurd w

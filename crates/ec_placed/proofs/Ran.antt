@@ -45,7 +45,8 @@ pub record ImageLaws : Type 0 where
   pub made : LoweredIsMadeOf
   pub run : SelectionsRun
 
-pub reset_shows : (p : PlainProgram) (m : Map) (asm : AsmProgram) (l : Located) (e : Env) (s : State) (inputs : Inputs) → IsTranslated p m asm l
+pub reset_shows : (p : PlainProgram) (m : Map) (asm : AsmProgram) (l : Located) (e : Env) (s : State) (inputs : Inputs)
+    → IsTranslated p m asm l
     → l.image.bytes.items ≡ e.flash → IsReset l.image.core l.image.bytes.items s → GiveBytes inputs → Shows e 2304 s.mem (view_of s inputs)
 reset_shows p m asm l e s inputs h flash reset give = record {
   flash = reset.flash ∙ flash;
@@ -57,13 +58,15 @@ reset_shows p m asm l e s inputs h flash reset give = record {
 }
 
 -- wherever code and data stand, in an environment with the flash of the image
-pub runs_as_operations : LoweredIsMadeOf → SelectionsRun → (p : PlainProgram) (m : Map) (asm : AsmProgram) (l : Located) (e : Env) (s : State)
-    (inputs : Inputs) → IsTranslated p m asm l → IsReset l.image.core l.image.bytes.items s → GiveBytes inputs → l.image.bytes.items ≡ e.flash
+pub runs_as_operations : LoweredIsMadeOf → SelectionsRun
+    → (p : PlainProgram) (m : Map) (asm : AsmProgram) (l : Located) (e : Env) (s : State)
+    (inputs : Inputs) → IsTranslated p m asm l → IsReset l.image.core l.image.bytes.items s → GiveBytes inputs → l.image.bytes.items
+    ≡ e.flash
     → Fits e 2304 → IsLaidOut (lowered p (plain_table m.io)) asm e (place_of l) (scratch_of asm l) m.stack.first
     → RunsAsOperations (lowered p (plain_table m.io)) (place_of l) e (view_of s inputs) s inputs
 runs_as_operations made selections p m asm l e s inputs h reset give flash fit laid =
     selections (lowered p (plain_table m.io)) asm e (place_of l) (scratch_of asm l) 2304 m.stack.first s (view_of s inputs) inputs
-    (made p m.io h.valid h.groups h.lowered_whole).valid h.code h.selection fit (omega arith)
+    (made p m.io h.valid h.groups).valid h.code h.selection fit (omega arith)
     (reset_shows p m asm l e s inputs h flash reset give) (λ port. refl) reset.begin laid
 
 pub images_run : ImageLaws → ImagesRun
@@ -92,19 +95,23 @@ holds_within (Ends es result) (Ends fs other) t w h = h
 holds_within (Ends es result) (Failed point) t w h = absurd w
 
 -- from what a machine shows of the operations, whatever is noted of it
-pub runs_as_source : LoweredFollows → MachineIsRun → SourcesAccessPorts → (p : PlainProgram) (m : Map) (asm : AsmProgram) (l : Located) (e : Env)
+pub runs_as_source : LoweredFollows → MachineIsRun → SourcesAccessPorts
+    → (p : PlainProgram) (m : Map) (asm : AsmProgram) (l : Located) (e : Env)
     (s : State) (inputs : Inputs) → IsTranslated p m asm l → IsReset l.image.core l.image.bytes.items s → GiveBytes inputs
     → StandAsPorts e (plain_table m.io)
     → RunsAsOperations (lowered p (plain_table m.io)) (place_of l) e (view_of s inputs) s inputs → RunsAsSource p m l e s inputs
 runs_as_source follows is_run on_ports p m asm l e s inputs h reset give stand r =
     let table = plain_table m.io in
     let ir = lowered p table in
-    let f = follows p m.io h.valid h.groups h.lowered_whole in
-    let operations = reaches_on e table stand (is_paid p m.io ir inputs) (source p table inputs) (meaning ir inputs) (on_ports p table inputs) (f.reaches inputs give) in
+    let f = follows p m.io h.valid h.groups in
+    let operations =
+    reaches_on e table stand (is_paid p m.io ir inputs) (source p table inputs) (meaning ir inputs) (on_ports p table inputs)
+    (f.reaches inputs give) in
     let source_seen = reaches_as_seen Event Access ℤ Undefined Undefined (accesses p (place_of l)) (is_paid p m.io ir inputs)
     (source p table inputs) (meaning_on e ir inputs) operations in
     let reached : Reaches (is_within_work p m.io inputs) (seen_source p m.io l inputs) (noted_run e inputs r.shows.main) =
-    reaches_through Access ℤ Undefined Undefined MachineFault (is_paid p m.io ir inputs) (within_steps ir inputs) (is_within_work p m.io inputs)
+    reaches_through Access ℤ Undefined Undefined MachineFault (is_paid p m.io ir inputs) (within_steps ir inputs)
+    (is_within_work p m.io inputs)
     (paid_twice p m inputs) (seen_source p m.io l inputs) (λ n. seen_as (accesses p (place_of l)) (meaning_on e ir inputs n))
     (noted_run e inputs r.shows.main) source_seen r.shows.reaches in
     record {
@@ -121,8 +128,10 @@ runs_as_source follows is_run on_ports p m asm l e s inputs h reset give stand r
       shown = subst (λ n. Shows e n r.shows.main.mem r.shows.view) (reset.size ∙ ap data_size h.located.core) r.shows.shown;
       given = r.shows.given;
       initials = r.shows.initials;
-      safe = λ k. holds_within (source p table inputs k) (meaning_on e ir inputs k) (is_safe (run e k (AtWord r.shows.main.pc r.shows.view)))
-          (within_on e table stand (source p table inputs k) (meaning ir inputs k) (on_ports p table inputs k) (f.within inputs give k)) (r.shows.safe k);
+      safe =
+          λ k. holds_within (source p table inputs k) (meaning_on e ir inputs k) (is_safe (run e k (AtWord r.shows.main.pc r.shows.view)))
+          (within_on e table stand (source p table inputs k) (meaning ir inputs k) (on_ports p table inputs k) (f.within inputs give k))
+          (r.shows.safe k);
       within = stays_within is_run e inputs r.shows.main (is_within_work p m.io inputs) (seen_source p m.io l inputs) reached;
     }
 

@@ -11,7 +11,8 @@ use Rattle.ec_map.specs.declared.map.Map.{Map}
 use Rattle.ec_locate.specs.declared.placing.Located.{Located}
 use Rattle.ec_select.specs.LaidOut.{IsLaidOut}
 use Rattle.ec_lower_code.specs.Code.{lowered}
-use Rattle.ec_placed.specs.Kinds.{is_byte_of, is_of_objects, is_of_scratch, register_kind, memory_kind, kinds, place_of, scratch_of}
+use Rattle.ec_placed.specs.Kinds.{is_byte_of, is_of_objects, is_of_scratch, register_kind, memory_kind, kinds, place_of}
+use Rattle.ec_placed.specs.Kinds.{scratch_of}
 use Rattle.ec_space.specs.declared.space.Bank.TheVariants.{Data}
 use Rattle.ec_space.specs.Bytes.{AreBytes}
 use Rattle.ec_locate.specs.Placing.{IsLocated}
@@ -130,6 +131,7 @@ module _ (p : PlainProgram) (m : Map) (asm : AsmProgram) (l : Located) where
     work = λ a from below. watched_as a Own (are.work a from below) (λ q. cc);
     stack = λ a low high. watched_as a Stacked (are.stack a low high) (λ q. cc);
     initials = λ a low told. rw (lt-ltb a 32768 low) refl;
+    tables = λ a i o q low b. rw (lt-ltb a 32768 low) refl;
   }
 
 pub watched_are_laid_out : PlacedLaws → (p : PlainProgram) (m : Map) (asm : AsmProgram) (l : Located) → IsTranslated p m asm l

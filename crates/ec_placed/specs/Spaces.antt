@@ -15,6 +15,7 @@ use Rattle.ec_core.specs.PortTable.{PlainTable}
 use Rattle.ec_core.specs.State.{Inputs, Event, In, Out, Read, Write}
 use Rattle.ec_map.specs.declared.map.Map.{Map}
 use Rattle.ec_locate.specs.declared.placing.Located.{Located}
+use Rattle.ec_select_operations.specs.Pointers.{home_of}
 use Rattle.ec_select_functions.specs.Relation.{event_accesses}
 use Rattle.ec_placed.specs.Kinds.{placed, place_of}
 use Rattle.ec_placed.specs.Laws.{IsObjectByte}
@@ -52,7 +53,8 @@ pub record IsLeafByte (p : PlainProgram) (l : Located) (o k at : ℕ) : Type 0 w
 abbrev pub IsOfEvent : PlainProgram → Located → Event → Access → Type 0
 IsOfEvent p l (In port byte) a = a ≡ PortIn port byte
 IsOfEvent p l (Out port byte) a = a ≡ PortOut port byte
-IsOfEvent p l (Read o k space v) a = (at : ℕ) × (byte : ℕ) × (a ≡ ByteRead DataBank at byte) × IsLeafByte p l o k at
+IsOfEvent p l (Read o k space v) a =
+    (at : ℕ) × (byte : ℕ) × (a ≡ ByteRead (home_of p o) at byte) × IsLeafByte p l o k at
 IsOfEvent p l (Write o k space v) a = (at : ℕ) × (byte : ℕ) × (a ≡ ByteWrite at byte) × IsLeafByte p l o k at
 
 -- each access of an event is one of these, and the home of the event's object is in the space of the event

@@ -6,7 +6,6 @@ use Rattle.ec_core.specs.PortTable.{plain_table}
 use Rattle.ec_core.specs.Valid.{Valid}
 use Rattle.ec_lower_code.specs.Code.{lowered}
 use Rattle.ec_lower_code.specs.Correct.{GroupsHaveBytes}
-use Rattle.ec_lower_code.specs.Parts.{IsLowered}
 use Rattle.ec_map.specs.Maps.{ValidMap}
 use Rattle.ec_map.specs.declared.map.Map.{Map}
 use Rattle.ec_locate.specs.Placing.{IsLocated}
@@ -19,7 +18,6 @@ pub record IsTranslated (p : PlainProgram) (m : Map) (asm : AsmProgram) (l : Loc
   pub valid : Valid p m.io
   pub map : ValidMap m
   pub groups : GroupsHaveBytes m.io
-  pub lowered_whole : IsLowered p
   pub code : HasCode (lowered p (plain_table m.io))
   pub selection : IsSelection (lowered p (plain_table m.io)) asm
   pub located : IsLocated p m asm l

@@ -16,21 +16,21 @@ use Rattle.ec_avr.specs.State.{byte_at}
 use Rattle.ec_asm.specs.Pieces.{value}
 use Rattle.ec_asm.specs.declared.items.AsmProgram.{AsmProgram}
 use Rattle.ec_core.specs.Layout.{PlainLeaf, scalar_size, size_of_type, leaves_of_type}
-use Rattle.ec_core.specs.Meaning.{source, work, Defined}
+use Rattle.ec_core.specs.Laws.{Leads}
+use Rattle.ec_core.specs.Meaning.{setting, initial_state, run, state_of, source, work, Defined}
 use Rattle.ec_core.specs.Plain.{static, PlainStruct, PlainObject, PlainProgram}
 use Rattle.ec_core.specs.PortTable.{plain_table}
 use Rattle.ec_core.specs.State.{Event, In, Out, Read, Write}
 use Rattle.ec_core.specs.ValueTypes.{GiveBytes}
 use Rattle.ec_core.specs.declared.programs.LeafInit.{LeafInit}
-use Rattle.ec_core.specs.declared.programs.LeafInit.TheVariants.{Number}
 use Rattle.ec_core.specs.declared.values.Undefined.{Undefined}
 use Rattle.ec_ir.specs.Temporaries.{low_bytes}
 use Rattle.ec_map.specs.declared.map.Map.{Map}
 use Rattle.ec_locate.specs.Layout.{layout}
 use Rattle.ec_locate.specs.Placing.{entries_by, scratch_needs}
 use Rattle.ec_locate.specs.declared.placing.Located.{Located}
-use Rattle.ec_select_functions.specs.Places.{NumberLeaf}
-use Rattle.ec_select_functions.specs.Relation.{event_accesses}
+use Rattle.ec_select_operations.specs.Places.{ObjectLeaf}
+use Rattle.ec_select_functions.specs.Relation.{event_accesses, number_told}
 use Rattle.ec_select.specs.Program.{has_initial_bytes}
 use Rattle.ec_placed.specs.Kinds.{is_byte_of, is_of_scratch, place_of}
 use Rattle.ec_placed.specs.Runs.{start_steps}
@@ -93,6 +93,12 @@ StaysAtHome p l (GoesOn es) = AreForEvents p l es
 StaysAtHome p l (Ends es result) = AreForEvents p l es
 StaysAtHome p l (Failed point) = ⊤
 
+-- the run of the source goes by steps, and each step that accesses an object does so where the object is live
+abbrev pub GoesBySteps : PlainProgram → Map → Inputs → ℕ → Type 0
+GoesBySteps p m inputs n =
+    Leads (setting p (plain_table m.io) inputs) (initial_state p (plain_table m.io))
+    (state_of (run p (plain_table m.io) inputs n))
+
 -- ---- before main
 
 -- n bytes are copied from an address of flash to one of data memory: each is read and written, by rising address
@@ -117,20 +123,22 @@ abbrev pub copies : PlainProgram → Map → Located → List Access
 copies p m l =
     copying_objects l.image.bytes.items p.structs p.objects (layout m (entries_by m p) []).initials l.places.items
 
--- the bytes of each number of a static object of the data bank are those of its initial value
+-- the bytes of each leaf of a static object of the data bank are those of its initial value
 abbrev pub AreInitial : PlainProgram → Located → State → Type 0
 AreInitial p l t =
-    (leaf : NumberLeaf p) (inits : List LeafInit) (n : ℤ) → leaf.declared.storage ≡ static inits
-    → slice_get inits leaf.number ≡ Some (Number n)
-    → value (byte_at t) (place_of l leaf.object + leaf.at) leaf.bytes ≡ low_bytes leaf.bytes n
+    (leaf : ObjectLeaf p DataBank) (inits : List LeafInit) (init : LeafInit) → leaf.declared.storage ≡ static inits
+    → slice_get inits leaf.number ≡ Some init
+    → value (byte_at t) (place_of l leaf.object + leaf.at) leaf.bytes
+    ≡ low_bytes leaf.bytes (number_told p (place_of l) leaf.bytes init)
 
 -- ---- the whole
 
 -- Before main the machine makes at most so many steps and no access of a port. All that is kept of its accesses there
--- are those that copy the initial bytes; then the numbers of static objects have their initial values.
+-- are those that copy the initial bytes; then the static objects of the data bank have their initial values.
 -- From there on all that is kept of its accesses is what the source shows. Where the source has a meaning for all
 -- turns, each part of it is reached within its work. Each step stays within the source, and never faults where that has
--- a meaning. Each access is of a byte of its event, in the home of the event's object, and the stack stays in its region
+-- a meaning. Each access is of a byte of its event, in the home of the event's object, which is live there, and the stack
+-- stays in its region
 pub record ShowsWhole (p : PlainProgram) (m : Map) (l : Located) (s : State) (inputs : Inputs) : Type 0 where
   pub steps : ℕ
   pub few : steps ≤ start_steps p
@@ -146,6 +154,7 @@ pub record ShowsWhole (p : PlainProgram) (m : Map) (l : Located) (s : State) (in
   pub within : (k : ℕ)
       → IsWithinSource p l (kept p l) s inputs start (source p (plain_table m.io) inputs k) (machine k inputs s)
   pub spaces : (n : ℕ) → StaysAtHome p l (source p (plain_table m.io) inputs n)
+  pub live : (n : ℕ) → GoesBySteps p m inputs n
   pub stack : (k : ℕ) (trace : List Access) (t : State) → machine k inputs main ≡ Running trace t
       → PushesInRegion m (source p (plain_table m.io) inputs (k + 1)) t
 

@@ -7,9 +7,11 @@ ghost use Rattle.ec_placed.specs.Whole.{ProgramsShowTheirSources};
 
 use ec_asm::laws::{placed_items_stand, stack_stays_inside};
 use ec_avr::runs_are_steps;
-use ec_core::{events_are_at_home, more_turns_only_add};
+use ec_core::{events_are_at_home, more_turns_only_add, runs_by_steps};
 use ec_guarded::accesses_are_allowed;
-use ec_locate::{code_stands, data_stands_apart, initial_values_stand, placed_stand_apart};
+use ec_locate::{
+    code_stands, data_stands_apart, flash_stands_apart, initial_values_stand, placed_stand_apart,
+};
 use ec_lower_code::{lowered_follows, lowered_is_made_of_its_program};
 use ec_port_events::{port_bytes_pass, sources_access_ports};
 use ec_select::{selections_are_valid, selections_run};
@@ -30,6 +32,7 @@ pub fn placed_are_laid_out()
 {
     code_stands();
     data_stands_apart();
+    flash_stands_apart();
     initial_values_stand();
     lowered_is_made_of_its_program();
     placed_items_stand();
@@ -94,7 +97,8 @@ pub fn accesses_stay_in_spaces()
 /// From every reset state the machine of a placed program makes a few steps before `main`, which copy the initial bytes
 /// and access no port. From there on all that is kept of its trace, where code's scratch memory and work bytes and what
 /// is pushed and popped count for nothing, is what the source shows: each part of it is reached within its work, and
-/// each step stays within it. Each of these accesses is of a byte of its event's object, in the bank that is its home.
+/// each step stays within it. Each of these accesses is of a byte of its event's object, in the bank that is its home,
+/// and the object is live there.
 pub fn programs_show_their_sources()
     ensures { ProgramsShowTheirSources }
 {
@@ -102,6 +106,7 @@ pub fn programs_show_their_sources()
     code_stands();
     data_stands_apart();
     events_are_at_home();
+    flash_stands_apart();
     initial_values_stand();
     lowered_follows();
     lowered_is_made_of_its_program();
@@ -110,6 +115,7 @@ pub fn programs_show_their_sources()
     placed_stand_apart();
     port_bytes_pass();
     runs_are_steps();
+    runs_by_steps();
     selections_are_valid();
     selections_run();
     sources_access_ports();

@@ -65,7 +65,10 @@ shown_numbers e size s v h k u =
     by_test true = omega arith
     by_test false = h.bytes k
 
-module _ (laws : StartLaws) (p : PlainIrProgram) (place entry_of : ℕ → ℕ) (e : Env) (spans : List Span) (size low : ℕ) (s : State) (v : View) (inputs : Inputs) (valid : ValidIr p) (fit : Fits e size) (shows : Shows e size s.mem v) (feeds : (port : ℕ) → v.inputs port ≡ inputs port) (selected : AreSelected p e place entry_of) (c : CanStart p e place entry_of spans low s.pc) where
+module _ (laws : StartLaws) (p : PlainIrProgram) (place entry_of : ℕ → ℕ) (e : Env) (spans : List Span) (size low : ℕ) (s : State)
+    (v : View) (inputs : Inputs) (valid : ValidIr p) (fit : Fits e size) (shows : Shows e size s.mem v)
+    (feeds : (port : ℕ) → v.inputs port ≡ inputs port) (selected : AreSelected p e place entry_of)
+    (c : CanStart p e place entry_of spans low s.pc) where
   -- nothing was noted before
   abbrev v0 : View
   v0 = record { at = v.at; flags = v.flags; inputs = v.inputs; seen = []; safe = true }
@@ -181,7 +184,8 @@ module _ (laws : StartLaws) (p : PlainIrProgram) (place entry_of : ℕ → ℕ) 
 
   shown : ShowsOperations p place e w0 goes_on.state inputs
   shown =
-      laws.follows p place entry_of e size low goes_on.state w0 inputs valid fit shows_w (λ port. ap (λ f. f port) same_inputs ∙ feeds port) begin selected entered
+      laws.follows p place entry_of e size low goes_on.state w0 inputs valid fit shows_w
+      (λ port. ap (λ f. f port) same_inputs ∙ feeds port) begin selected entered
 
   pub whole : ShowsProgram p place e spans v s inputs
   whole =
@@ -195,7 +199,8 @@ module _ (laws : StartLaws) (p : PlainIrProgram) (place entry_of : ℕ → ℕ) 
         on = λ k. goes_on.on k ∙ ap (λ i. preceded_by goes_on.trace (machine k i goes_on.state)) same_inputs;
         seen = sym goes_on.seen ∙ starts.seen;
         started = ap is_safe goes.by ∙ starts.safe;
-        reaches = subst (λ i. Reaches (within_steps p inputs) (seen_meaning e p place inputs) (noted_run e i goes_on.state)) same_inputs shown.reaches;
+        reaches = subst
+            (λ i. Reaches (within_steps p inputs) (seen_meaning e p place inputs) (noted_run e i goes_on.state)) same_inputs shown.reaches;
         within = λ m. subst (λ i. IsWithin (seen_meaning e p place inputs m) (noted_run e i goes_on.state m)) same_inputs (shown.within m);
         view = w0;
         shown = subst (λ n. Shows e n goes_on.state.mem w0) (sym shows.sized) shows_w;

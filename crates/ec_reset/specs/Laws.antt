@@ -1,6 +1,7 @@
 -- What a machine shows that begins at the startup code of a program.
 use Rattle.std.specs.Prelude.{◌≡◌, ℕ, ◌+◌, ◌*◌, ◌≤◌, true, List, [], All, Some, slice_get, length}
 use Rattle.std.specs.List.{AllPairs}
+use Rattle.ec_space.specs.declared.space.Bank.TheVariants.{Data as DataBank}
 use Rattle.ec_runs.specs.Behaviours.{Reaches, IsWithin}
 use Rattle.ec_avr.specs.declared.machine.Access.{Access}
 use Rattle.ec_avr.specs.Machine.{State, Running, machine}
@@ -20,17 +21,17 @@ use Rattle.ec_ir.specs.Operations.{PlainIrProgram, data_of}
 use Rattle.ec_ir.specs.Valid.{ValidIr}
 use Rattle.ec_select_functions.specs.Kept.{meaning_on}
 use Rattle.ec_select_functions.specs.Laws.{AreSelected, CallsOn, within_steps, seen_meaning, HoldsUnlessFailed}
-use Rattle.ec_select_functions.specs.Places.{NumberLeaf}
+use Rattle.ec_select_operations.specs.Places.{ObjectLeaf}
 use Rattle.ec_select_functions.specs.Relation.{HoldsLeaf}
 use Rattle.ec_startup.specs.declared.spans.Span.{Span}
 use Rattle.ec_startup.specs.Laws.{CanBeSet, IsBeside, IsSet, HasStack, all_accesses, most_steps}
 use Rattle.ec_startup.specs.Startup.{startup_code}
 
--- the leaves of the objects have their initial values
+-- the leaves of the objects of the data bank have their initial values
 abbrev pub HasInitials : PlainProgram → (ℕ → ℕ) → View → Type 0
 HasInitials p place v =
-    (l : NumberLeaf p) (x : ObjectState) (u : Value) → slice_get (start_state p).objects l.object ≡ Some x
-    → leaf_of x l.number ≡ Some u → HoldsLeaf v.at (place l.object + l.at) l.bytes u
+    (l : ObjectLeaf p DataBank) (x : ObjectState) (u : Value) → slice_get (start_state p).objects l.object ≡ Some x
+    → leaf_of x l.number ≡ Some u → HoldsLeaf p place v.at (place l.object + l.at) l.bytes u
 
 -- The startup code stands from a word on, with the label of main. The bytes of all spans can be set, and once they are
 -- the objects have their initial values. From an address on up to the last byte of the stack all bytes are the stack's:

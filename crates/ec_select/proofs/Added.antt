@@ -8,15 +8,15 @@ use Rattle.ec_asm.specs.declared.items.AsmItem.{AsmItem}
 use Rattle.ec_asm.specs.declared.items.AsmItem.TheVariants.{Label}
 use Rattle.ec_asm.specs.declared.items.AsmProgram.{AsmProgram}
 use Rattle.ec_ir.specs.declared.operations.IrFunc.{IrFunc}
-use Rattle.ec_ir.specs.Operations.{PlainIrFunction, PlainIrProgram, plain_ir_function}
+use Rattle.ec_ir.specs.Operations.{PlainIrFunction, PlainIrProgram, plain_ir_function, data_of}
 use Rattle.ec_live.specs.Least.{IsLeast}
 use Rattle.ec_near.specs.Near.{near_items}
-use Rattle.ec_select_functions.specs.Needs.{Need, IsLive}
-use Rattle.ec_select_functions.specs.declared.calls.Linking.{Linking}
-use Rattle.ec_select_functions.specs.Code.{Linkage, wanted_bytes, function_code}
-use Rattle.ec_select_functions.specs.Emitted.{linkage}
+use Rattle.ec_select_operations.specs.Needs.{Need, IsLive}
+use Rattle.ec_select_operations.specs.declared.calls.Linking.{Linking}
+use Rattle.ec_select_operations.specs.Code.{Linkage, wanted_bytes, function_code}
+use Rattle.ec_select_operations.specs.Emitted.{linkage}
 use Rattle.ec_select_functions.specs.Laws.{linkage_of}
-use Rattle.ec_select_functions.specs.Written.{written_function, kept_rows, NeededFunctionsAreWritten}
+use Rattle.ec_select_operations.specs.Written.{written_function, kept_rows, NeededFunctionsAreWritten}
 use Rattle.ec_startup.specs.Startup.{startup_code}
 use Rattle.ec_select.specs.Labels.{homes_of, label_count, labels_in, entry_label, first_label, function_label}
 use Rattle.ec_select.specs.Program.{spans_of, made_with, code_of, functions_code}
@@ -108,15 +108,15 @@ pub added : (p : PlainIrProgram) (f first : ℕ) (g : PlainIrFunction) (k : Link
       slots = g.slots;
       is_main = f == p.main;
     }
-    → written_function p.objects (linkage k) f (wanted_bytes at g.code) (kept_rows g.slots at g.code) g.code
+    → written_function (data_of p) (linkage k) f (wanted_bytes at g.code) (kept_rows g.slots at g.code) g.code
     ≡ code_of p at f (Some g)
 added p f first g k at written e q =
-    let w = written p.objects (linkage k) f at g.code in
+    let w = written (data_of p) (linkage k) f at g.code in
     let slots : k.slots ≡ g.slots = ap (λ (x : Linking). x.slots) q in
     let link : linkage k ≡ linkage_of p function_label f g.slots (made_with p at f g) = ap linkage q ∙ rw e refl in
-    subst (λ (s : ℕ). written_function p.objects (linkage k) f (wanted_bytes at g.code) (kept_rows s at g.code) g.code
-    ≡ function_code p.objects (linkage k) f at g.code) slots w
-    ∙ ap (λ (l : Linkage). function_code p.objects l f at g.code) link
+    subst (λ (s : ℕ). written_function (data_of p) (linkage k) f (wanted_bytes at g.code) (kept_rows s at g.code) g.code
+    ≡ function_code (data_of p) (linkage k) f at g.code) slots w
+    ∙ ap (λ (l : Linkage). function_code (data_of p) l f at g.code) link
 
 -- ---- the whole program
 

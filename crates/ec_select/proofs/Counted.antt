@@ -18,19 +18,18 @@ use Rattle.ec_ir.specs.Operations.{store_object, binary_op, unary_op, conversion
 use Rattle.ec_ir.specs.Operations.{call_function, return_from, port_in, port_out, PlainIrFunction, PlainIrProgram}
 use Rattle.ec_ir.specs.Operations.{data_of}
 use Rattle.ec_ir.specs.Valid.{ValidIr, count}
-use Rattle.ec_select_functions.specs.declared.families.Told.{Told}
-use Rattle.ec_select_functions.specs.Code.{Linkage, op_code, tells_next, ops_code}
+use Rattle.ec_select_operations.specs.declared.families.Told.{Told}
+use Rattle.ec_select_operations.specs.Code.{Linkage, op_code, tells_next, ops_code}
 use Rattle.ec_select_functions.specs.Covered.{IsCovered, AreCovered}
-use Rattle.ec_select_functions.specs.Homes.{home}
+use Rattle.ec_select_operations.specs.Homes.{home}
 use Rattle.ec_select_functions.specs.Laws.{linkage_of}
-use Rattle.ec_select_functions.specs.Needs.{Need, needs}
+use Rattle.ec_select_operations.specs.Needs.{Need, needs}
 use Rattle.ec_select.specs.Labels.{label_count, function_label, first_label}
 use Rattle.ec_select.specs.Program.{made_with, code_of, functions_code}
 use Rattle.ec_select.specs.Selected.{HasCode}
 use Rattle.ec_select.proofs.Fitting.{fits, no_label}
-use Rattle.ec_select.proofs.FixedItems.{FixedItemLaws}
-use Rattle.ec_select.proofs.OneOperation.{operation_passes, AcceptsLabels}
-use Rattle.ec_select.proofs.Setting.{own_sizes, has_room, object_stands}
+use Rattle.ec_select.proofs.OneOperation.{ItemLaws, operation_passes, AcceptsLabels}
+use Rattle.ec_select.proofs.Setting.{own_sizes, has_room, objects_fit}
 
 -- ---- labels of operations
 
@@ -171,7 +170,7 @@ first_label_above functions (suc k) = let r = first_label_above functions k in o
 -- ---- the functions of a program
 
 module _ (p : PlainIrProgram) (valid : ValidIr p) (has : HasCode p) (leaves : LeavesFillTheirTypes)
-    (plain : FixedItemLaws) (tables : ℕ → ℕ → Need) where
+    (pieces : ItemLaws) (tables : ℕ → ℕ → Need) where
   abbrev pub link : ℕ → PlainIrFunction → Linkage
   link f g = linkage_of p function_label f g.slots (made_with p (tables f) f g)
 
@@ -191,55 +190,65 @@ module _ (p : PlainIrProgram) (valid : ValidIr p) (has : HasCode p) (leaves : Le
   others_pass : (x f : ℕ) (g : PlainIrFunction) → slice_get p.functions f ≡ Some g → (told telling : Option Told) (need : Need)
       (i : PlainIr)
       → IsCovered (data_of p) has.results f g.slots i → AcceptsLabels (is_other x) (link f g) i
-      → count_by (is_label x) (op_code p.objects (home (link f g).homes) (link f g) told telling need i) ≡ 0
+      → count_by (is_label x) (op_code (data_of p) (home (link f g).homes) (link f g) told telling need i) ≡ 0
   others_pass x f g e told telling need i h a =
-      none_there x (op_code p.objects (home (link f g).homes) (link f g) told telling need i)
-      (operation_passes (own_sizes p valid) (data_of p) (link f g) (has_room p valid f g e) (object_stands p valid leaves) plain
+      none_there x (op_code (data_of p) (home (link f g).homes) (link f g) told telling need i)
+      (operation_passes (own_sizes p valid) (data_of p) (link f g) (has_room p valid f g e) (objects_fit p valid leaves) pieces
       (is_other x) (fits_other x) has.results f told telling need i h a)
 
   operation_places : (x f : ℕ) (g : PlainIrFunction) → slice_get p.functions f ≡ Some g → (told telling : Option Told) (need : Need)
       (i : PlainIr)
       → IsCovered (data_of p) has.results f g.slots i
-      → count_by (is_label x) (op_code p.objects (home (link f g).homes) (link f g) told telling need i)
+      → count_by (is_label x) (op_code (data_of p) (home (link f g).homes) (link f g) told telling need i)
       ≡ placed_by x (link f g).label_of i
   unfolding is_other
   operation_places x f g e told telling need (label l) h = omega arith
   operation_places x f g e told telling need (constant t n) h = others_pass x f g e told telling need (constant t n) h tt
   operation_places x f g e told telling need (copy to from) h = others_pass x f g e told telling need (copy to from) h tt
-  operation_places x f g e told telling need (load_object t o offset) h = others_pass x f g e told telling need (load_object t o offset) h tt
-  operation_places x f g e told telling need (store_object o offset t) h = others_pass x f g e told telling need (store_object o offset t) h tt
-  operation_places x f g e told telling need (binary_op op ty mode to a aty b bty) h = others_pass x f g e told telling need (binary_op op ty mode to a aty b bty) h tt
-  operation_places x f g e told telling need (unary_op op ty mode to a) h = others_pass x f g e told telling need (unary_op op ty mode to a) h tt
-  operation_places x f g e told telling need (conversion to ty mode a aty) h = others_pass x f g e told telling need (conversion to ty mode a aty) h tt
+  operation_places x f g e told telling need (load_object t o offset) h =
+      others_pass x f g e told telling need (load_object t o offset) h tt
+  operation_places x f g e told telling need (store_object o offset t) h =
+      others_pass x f g e told telling need (store_object o offset t) h tt
+  operation_places x f g e told telling need (binary_op op ty mode to a aty b bty) h =
+      others_pass x f g e told telling need (binary_op op ty mode to a aty b bty) h tt
+  operation_places x f g e told telling need (unary_op op ty mode to a) h =
+      others_pass x f g e told telling need (unary_op op ty mode to a) h tt
+  operation_places x f g e told telling need (conversion to ty mode a aty) h =
+      others_pass x f g e told telling need (conversion to ty mode a aty) h tt
   operation_places x f g e told telling need (return_from from) h = others_pass x f g e told telling need (return_from from) h tt
   operation_places x f g e told telling need (jump l) h = others_pass x f g e told telling need (jump l) h refl
-  operation_places x f g e told telling need (branch_zero t l) h = others_pass x f g e told telling need (branch_zero t l) h (λ set flag w. refl)
+  operation_places x f g e told telling need (branch_zero t l) h =
+      others_pass x f g e told telling need (branch_zero t l) h (λ set flag w. refl)
   operation_places x f g e told telling need (call_function c to) h = others_pass x f g e told telling need (call_function c to) h refl
-  operation_places x f g e told telling need (address t o offset) h = absurd h
-  operation_places x f g e told telling need (field ptr space offset) h = absurd h
-  operation_places x f g e told telling need (load_at to ptr space) h = absurd h
-  operation_places x f g e told telling need (store_at ptr space from) h = absurd h
-  operation_places x f g e told telling need (port_in to port index width) h = others_pass x f g e told telling need (port_in to port index width) h tt
-  operation_places x f g e told telling need (port_out from port index width) h = others_pass x f g e told telling need (port_out from port index width) h tt
+  operation_places x f g e told telling need (address t o offset) h = others_pass x f g e told telling need (address t o offset) h tt
+  operation_places x f g e told telling need (field ptr space offset) h =
+      others_pass x f g e told telling need (field ptr space offset) h tt
+  operation_places x f g e told telling need (load_at to ptr space) h = others_pass x f g e told telling need (load_at to ptr space) h tt
+  operation_places x f g e told telling need (store_at ptr space from) h =
+      others_pass x f g e told telling need (store_at ptr space from) h tt
+  operation_places x f g e told telling need (port_in to port index width) h =
+      others_pass x f g e told telling need (port_in to port index width) h tt
+  operation_places x f g e told telling need (port_out from port index width) h =
+      others_pass x f g e told telling need (port_out from port index width) h tt
 
   code_places : (x f : ℕ) (g : PlainIrFunction) → slice_get p.functions f ≡ Some g → (told : Option Told)
       (code : List PlainIr) → AreCovered (data_of p) has.results f g.slots code
-      → count_by (is_label x) (ops_code p.objects (home (link f g).homes) (link f g) (tables f) told code)
+      → count_by (is_label x) (ops_code (data_of p) (home (link f g).homes) (link f g) (tables f) told code)
       ≡ placed_in x (link f g).label_of code
   code_places x f g e told [] h = refl
   code_places x f g e told (i ∷ code) h =
       let next = tells_next (tables f) i code in
       let here = operation_places x f g e told next (needs (tables f) code) i h.0 in
       let rest = code_places x f g e next code h.1 in
-      joined_count x (op_code p.objects (home (link f g).homes) (link f g) told next (needs (tables f) code) i)
-      (ops_code p.objects (home (link f g).homes) (link f g) (tables f) next code) ∙ rw (here, rest) refl
+      joined_count x (op_code (data_of p) (home (link f g).homes) (link f g) told next (needs (tables f) code) i)
+      (ops_code (data_of p) (home (link f g).homes) (link f g) (tables f) next code) ∙ rw (here, rest) refl
 
   function_places : (x f : ℕ) (g : PlainIrFunction) → slice_get p.functions f ≡ Some g
       → count_by (is_label x) (code_of p (tables f) f (Some g))
       ≡ cond (1 + f == x) 1 0 + placed_in x (link f g).label_of g.code
   function_places x f g e =
       let rest = code_places x f g e None g.code (has.functions f g e) in
-      let ops = ops_code p.objects (home (link f g).homes) (link f g) (tables f) None g.code in
+      let ops = ops_code (data_of p) (home (link f g).homes) (link f g) (tables f) None g.code in
       let parts = joined_count x (Label (1 + f) ∷ []) ops in
       omega (arith, parts, rest)
 

@@ -17,7 +17,7 @@ use Rattle.ec_asm.specs.Valid.{Sizes, is_offset, is_valid_item, used_label, is_l
 use Rattle.ec_fxcode.specs.ClampLaws.{HasPlaces}
 use Rattle.ec_select_fixed.specs.FixedLaws.{HasPlainItems, FixedBinariesArePlain, FixedUnariesArePlain}
 use Rattle.ec_select_fixed.specs.FixedLaws.{FixedConversionsArePlain}
-use Rattle.ec_select_functions.specs.Code.{answer_location, answer_code, by_kind}
+use Rattle.ec_select_operations.specs.Code.{answer_location, answer_code, by_kind}
 use Rattle.ec_select.proofs.Fitting.{fits, Fit, joined, and_first, and_second, BytesFit}
 use Rattle.ec_select.proofs.Pieces.{copy_fits}
 use Rattle.ec_select.proofs.Words.{joined_words, copy_words_most}
@@ -52,7 +52,7 @@ count_first : (l : ℕ) (i : AsmItem) (is : List AsmItem)
 count_first l i is =
     let r = sum_by-append (λ (x : AsmItem). cond (is_label l x) 1 0) (i ∷ []) is in omega (arith, r)
 
-all_fit : (sizes : Sizes) (code : List AsmItem) → list_all (is_valid_item sizes) code ≡ true
+pub all_fit : (sizes : Sizes) (code : List AsmItem) → list_all (is_valid_item sizes) code ≡ true
     → list_all (λ i. is_placed [] (used_label i)) code ≡ true → ((l : ℕ) → count_by (is_label l) code ≡ 0)
     → Fit sizes code
 all_fit sizes [] h u p = refl
@@ -81,11 +81,11 @@ answer_fits sizes work code to n few h z = by_count (n == 0) where
       joined (fits sizes) code (copy_code answer_location to n) h
       (copy_fits sizes answer_location to n (λ i l. work (40 + i) (omega arith)) z)
 
-pub fixed_fits : (sizes : Sizes) (k : Bool) (a b : List AsmItem) → k ≡ true → Fit sizes a → Fit sizes (by_kind k a b)
-fixed_fits sizes k a b e h = rw e h
+pub own_fits : (sizes : Sizes) (k : Bool) (a b : List AsmItem) → k ≡ true → Fit sizes a → Fit sizes (by_kind k a b)
+own_fits sizes k a b e h = rw e h
 
-pub integers_fit : (sizes : Sizes) (k : Bool) (a b : List AsmItem) → k ≡ false → Fit sizes b → Fit sizes (by_kind k a b)
-integers_fit sizes k a b e h = rw e h
+pub others_fit : (sizes : Sizes) (k : Bool) (a b : List AsmItem) → k ≡ false → Fit sizes b → Fit sizes (by_kind k a b)
+others_fit sizes k a b e h = rw e h
 
 -- ---- words
 
@@ -98,10 +98,10 @@ answer_words code to n w most l h = by_count (n == 0) where
       let x = copy_words_most answer_location to n in
       omega (arith, joined_words code (copy_code answer_location to n), x, h)
 
-pub fixed_words : (k : Bool) (a b : List AsmItem) (most : ℕ) → k ≡ true → code_words a ≤ most
+pub own_words : (k : Bool) (a b : List AsmItem) (most : ℕ) → k ≡ true → code_words a ≤ most
     → code_words (by_kind k a b) ≤ most
-fixed_words k a b most e h = rw e h
+own_words k a b most e h = rw e h
 
-pub integers_words : (k : Bool) (a b : List AsmItem) (most : ℕ) → k ≡ false → code_words b ≤ most
+pub others_words : (k : Bool) (a b : List AsmItem) (most : ℕ) → k ≡ false → code_words b ≤ most
     → code_words (by_kind k a b) ≤ most
-integers_words k a b most e h = rw e h
+others_words k a b most e h = rw e h

@@ -14,11 +14,11 @@ use Rattle.ec_space.specs.declared.space.SpaceId.{SpaceId}
 use Rattle.ec_space.specs.declared.space.SpaceId.TheVariants.{Flash, Data, Generic}
 use Rattle.ec_space.specs.Spaces.{width}
 use Rattle.ec_select_fixed.specs.Types.{IsFixedType}
-use Rattle.ec_select_functions.specs.declared.families.Family.{Family}
-use Rattle.ec_select_functions.specs.declared.families.Family.TheVariants.{Combined, Compared, Multiplied, Shifted}
-use Rattle.ec_select_functions.specs.declared.families.Family.TheVariants.{Divided}
+use Rattle.ec_select_operations.specs.declared.families.Family.{Family}
+use Rattle.ec_select_operations.specs.declared.families.Family.TheVariants.{Combined, Compared, Multiplied, Shifted}
+use Rattle.ec_select_operations.specs.declared.families.Family.TheVariants.{Divided}
 use Rattle.ec_select_functions.specs.Covered.{IsBinary, IsUnary, AreConverted}
-use Rattle.ec_select_functions.specs.Needs.{is_fixed}
+use Rattle.ec_select_operations.specs.Needs.{is_fixed}
 
 -- ---- whether a type is fixed-point
 

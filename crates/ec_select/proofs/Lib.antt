@@ -3,6 +3,8 @@ pub mod Pieces
 pub mod Loops
 pub mod FixedTypes
 pub mod FixedItems
+pub mod PointerTypes
+pub mod PointerItems
 pub mod PortItems
 pub mod OneOperation
 pub mod Setting
@@ -16,4 +18,4 @@ pub mod ProgramWords
 pub mod Emits
 pub mod Added
 pub mod Runs
-pub mod IntegerCode
+pub mod OperationCode

@@ -105,7 +105,8 @@ module _ (sizes : Sizes) where
       let compared = compare_fits sizes divisor_row remainder_row (suc n) (registers_fit sizes 8 (suc n) (omega arith))
       (registers_fit sizes 26 (suc n) (omega arith)) in
       joined (fits sizes) (operate_code Sum p p n) (rows_code (suc n)) (operate_fits sizes Sum p p n x x)
-      (joined (fits sizes) (rotate_code (suc n)) (compare_code divisor_row remainder_row (suc n)) (rotate_fits (suc n) (omega arith)) compared)
+      (joined (fits sizes) (rotate_code (suc n)) (compare_code divisor_row remainder_row (suc n))
+      (rotate_fits (suc n) (omega arith)) compared)
 
   mark_fits : (p : Location) → ByteFits sizes p 0 → Fit sizes (mark_code p)
   mark_fits (InRegisters r) x = rw (reg (r + 0) x) refl
@@ -190,6 +191,7 @@ module _ (sizes : Sizes) where
   quotient_fits r signed p q top l x y =
       let row = copy_fits sizes q divisor_row (suc top) y (registers_fit sizes 8 (suc top) (omega arith)) in
       joined (fits sizes) (copy_code q divisor_row (suc top)) (divided_code r signed p top) row
-      (joined (fits sizes) (signs_code r signed p top) (start_code (suc top) ++ finish_code r signed p (suc top)) (signs_fit r signed p top l x)
+      (joined (fits sizes) (signs_code r signed p top) (start_code (suc top) ++ finish_code r signed p (suc top))
+      (signs_fit r signed p top l x)
       (joined (fits sizes) (start_code (suc top)) (finish_code r signed p (suc top)) (start_fits (suc top) (omega arith))
       (finish_fits r signed p (suc top) (omega arith) (omega arith) x)))

@@ -1,7 +1,9 @@
 -- What the items of an operation's code pass.
-use Rattle.std.proofs.Common.{◌≡◌, ◌⊎◌, ℕ, suc, ◌+◌, ◌-◌, ◌*◌, ◌<◌, ◌≤◌, ◌==◌, Bool, true, false, not, List, [], ◌∷◌, ◌++◌}
-use Rattle.std.proofs.Common.{refl, subst, arith, inl, inr}
+use Rattle.std.proofs.Common.{◌≡◌, ◌⊎◌, ℕ, suc, ◌+◌, ◌-◌, ◌*◌, ◌%◌, ◌<◌, ◌≤◌, ◌==◌, Bool, true, false, not, List, []}
+use Rattle.std.proofs.Common.{◌∷◌, ◌++◌}
+use Rattle.std.proofs.Common.{refl, sym, ap, subst, arith, leb-true, eqb-true, inl, inr}
 use Rattle.std.specs.Prelude.{⊤, min, nat_le, nat_lt, ◌&&◌, ◌||◌, if◌then◌else◌, Option, Some, None, option_map}
+use Rattle.std.specs.Prelude.{slice_get}
 use Rattle.std.specs.List.{list_all}
 use Rattle.ec_isa.specs.declared.instructions.Instr.TheVariants.{Ret}
 use Rattle.ec_asm.specs.declared.items.AsmItem.{AsmItem}
@@ -16,8 +18,9 @@ use Rattle.ec_asm.specs.Valid.{Sizes, is_offset}
 use Rattle.ec_core.specs.declared.expressions.BinOp.{BinOp}
 use Rattle.ec_core.specs.declared.expressions.UnOp.{UnOp}
 use Rattle.ec_core.specs.declared.expressions.UnOp.TheVariants.{Minus, Invert}
-use Rattle.ec_core.specs.Layout.{scalar_size}
-use Rattle.ec_core.specs.Plain.{PlainType, PlainProgram}
+use Rattle.ec_core.specs.Accesses.{element_size}
+use Rattle.ec_core.specs.Layout.{scalar_size, size_of_type}
+use Rattle.ec_core.specs.Plain.{PlainType, PlainObject, PlainProgram}
 use Rattle.ec_fx.specs.declared.numbers.Mode.{Mode}
 use Rattle.ec_fxcode.specs.ClampLaws.{HasPlaces}
 use Rattle.ec_select_fixed.specs.Codes.{fixed_binary_code, fixed_unary_code, fixed_conversion_code}
@@ -27,41 +30,60 @@ use Rattle.ec_ir.specs.Operations.{store_object, binary_op, unary_op, conversion
 use Rattle.ec_ir.specs.Operations.{call_function, return_from, port_in, port_out}
 use Rattle.ec_ir.specs.Temporaries.{low_bytes}
 use Rattle.ec_select_bytes.specs.Values.{constant_code, test_code, extend_code}
+use Rattle.ec_select_places.specs.Conversions.{embed_code}
+use Rattle.ec_select_places.specs.Distances.{elements_code}
+use Rattle.ec_select_places.specs.Steps.{scale_index_code, advance_code, compared_bytes}
+use Rattle.ec_select_pointers.specs.Accesses.{store_data_code}
+use Rattle.ec_select_pointers.specs.Addresses.{field_code}
+use Rattle.ec_select_pointers.specs.Form.{HasPlaces as HasPointerPlaces}
+use Rattle.ec_space.specs.Spaces.{width}
+use Rattle.ec_space.specs.declared.space.Bank.{Bank}
+use Rattle.ec_space.specs.declared.space.Bank.TheVariants.{Flash as FlashBank, Data as DataBank}
 use Rattle.ec_select_order.specs.declared.relations.Relation.{Relation}
 use Rattle.ec_select_order.specs.declared.relations.Relation.TheVariants.{Less, NotLess, Equal, NotEqual}
 use Rattle.ec_select_order.specs.Relations.{relation_code, flag_of, is_set}
 use Rattle.ec_select_products.specs.Products.{product_code}
 use Rattle.ec_select_quotients.specs.Signs.{quotient_code}
 use Rattle.ec_select_shifts.specs.Shifts.{shift_code}
-use Rattle.ec_select_functions.specs.declared.families.Family.{Family}
-use Rattle.ec_select_functions.specs.declared.families.Family.TheVariants.{Combined, Compared, Multiplied, Shifted}
-use Rattle.ec_select_functions.specs.declared.families.Family.TheVariants.{Divided}
-use Rattle.ec_select_functions.specs.declared.families.Told.{Told}
-use Rattle.ec_select_functions.specs.declared.homes.Homes.{Homes}
-use Rattle.ec_select_functions.specs.Code.{same_location, move_code, reversed_code, family_of, is_signed}
-use Rattle.ec_select_functions.specs.Code.{conversion_code, combined_code}
-use Rattle.ec_select_functions.specs.Code.{compared_code, multiplied_code, shift_of, shifted_bytes, turned_code}
-use Rattle.ec_select_functions.specs.Code.{shifted_code, long_code}
-use Rattle.ec_select_functions.specs.Code.{divided_code, binary_code, turn_code, unary_code, branch_code, Linkage}
-use Rattle.ec_select_functions.specs.Code.{place_register}
-use Rattle.ec_select_functions.specs.Code.{kept_bytes, waiting_location, save_place, restore_place, register_places}
-use Rattle.ec_select_functions.specs.Code.{save_code}
-use Rattle.ec_select_functions.specs.Code.{restore_code, taken_code, call_code, result_code, return_code}
-use Rattle.ec_select_functions.specs.Code.{flag_code, operator_code, tested_code, kept_need, op_code, tells_next, ops_code}
-use Rattle.ec_select_functions.specs.Code.{work_location, answer_location, by_kind, fixed_binary, fixed_unary}
-use Rattle.ec_select_functions.specs.Code.{fixed_conversion}
-use Rattle.ec_select_functions.specs.Covered.{HasIndex, HasNumberAt, IsBinary, IsFixedBinary, IsFixedUnary}
-use Rattle.ec_select_functions.specs.Covered.{AreConverted, IsFixedConversion}
+use Rattle.ec_select_operations.specs.declared.families.Family.{Family}
+use Rattle.ec_select_operations.specs.declared.families.Family.TheVariants.{Combined, Compared, Multiplied, Shifted}
+use Rattle.ec_select_operations.specs.declared.families.Family.TheVariants.{Divided}
+use Rattle.ec_select_operations.specs.declared.families.Told.{Told}
+use Rattle.ec_select_operations.specs.declared.homes.Homes.{Homes}
+use Rattle.ec_select_operations.specs.Code.{same_location, move_code, reversed_code, family_of, is_signed}
+use Rattle.ec_select_operations.specs.Code.{conversion_code, combined_code}
+use Rattle.ec_select_operations.specs.Code.{compared_code, multiplied_code, shift_of, shifted_bytes, turned_code}
+use Rattle.ec_select_operations.specs.Code.{shifted_code, long_code}
+use Rattle.ec_select_operations.specs.Code.{divided_code, binary_code, turn_code, unary_code, branch_code, Linkage}
+use Rattle.ec_select_operations.specs.Code.{place_register}
+use Rattle.ec_select_operations.specs.Code.{kept_bytes, waiting_location, save_place, restore_place, register_places}
+use Rattle.ec_select_operations.specs.Code.{save_code}
+use Rattle.ec_select_operations.specs.Code.{restore_code, taken_code, call_code, result_code, return_code}
+use Rattle.ec_select_operations.specs.Code.{flag_code, operator_code, tested_code, kept_need, op_code, tells_next}
+use Rattle.ec_select_operations.specs.Code.{ops_code}
+use Rattle.ec_select_operations.specs.Code.{work_location, answer_location, by_kind, fixed_binary, fixed_unary}
+use Rattle.ec_select_operations.specs.Code.{fixed_conversion, addressed_code, load_code, banked_code, offset_code}
+use Rattle.ec_select_operations.specs.Code.{pointers_code, is_difference, pointer_binary, pointer_conversion}
+use Rattle.ec_select_functions.specs.Covered.{HasIndex, HasScalarAt, IsBinary, IsFixedBinary, IsFixedUnary}
+use Rattle.ec_select_functions.specs.Covered.{AreConverted, IsFixedConversion, IsPointerBinary, IsPointerConversion}
 use Rattle.ec_select_functions.specs.Covered.{IsUnary, IsResult, IsCovered, AreCovered}
-use Rattle.ec_select_functions.specs.Homes.{HasHome, depth, home, result_location}
-use Rattle.ec_select_functions.specs.Needs.{Need, wanted, wanted_result, needs, is_fixed}
-use Rattle.ec_select_functions.specs.Places.{object_location}
-use Rattle.ec_select_functions.specs.Ports.{in_code, out_code}
-use Rattle.ec_select.proofs.FixedItems.{FixedItemLaws, plain_fits, has_places, answer_fits, fixed_fits, integers_fit}
+use Rattle.ec_select_operations.specs.Homes.{HasHome, depth, home, result_location}
+use Rattle.ec_select_operations.specs.Needs.{Need, wanted, wanted_result, needs, is_fixed}
+use Rattle.ec_select_operations.specs.Places.{object_location}
+use Rattle.ec_select_operations.specs.Pointers.{is_pointer, is_into_data, home_of, IsPointerSize}
+use Rattle.ec_select_operations.specs.Ports.{in_code, out_code}
+use Rattle.ec_select.proofs.FixedItems.{FixedItemLaws, plain_fits, has_places, answer_fits, own_fits, others_fit}
 use Rattle.ec_select.proofs.FixedTypes.{type_fixed, either_fixed, no_fixed, no_fixed_operand, none_converted}
-use Rattle.ec_select.proofs.Fitting.{fits, Fit, joined, chained, passing, BytesFit, registers_fit, fewer_fit}
-use Rattle.ec_select.proofs.Pieces.{copy_fits, operate_fits, compare_fits, relation_fits, constant_fits, test_fits, extend_fits}
+use Rattle.ec_select.proofs.Fitting.{fits, Fit, joined, chained, passing, and_first, and_second, BytesFit}
+use Rattle.ec_select.proofs.Fitting.{registers_fit, fewer_fit}
+use Rattle.ec_select.proofs.Pieces.{copy_fits, operate_fits, compare_fits, relation_fits, constant_fits, test_fits}
+use Rattle.ec_select.proofs.Pieces.{extend_fits}
 use Rattle.ec_select.proofs.Pieces.{complement_fits, negation_fits}
+use Rattle.ec_select.proofs.PointerItems.{PointerItemLaws, fewer_places, few_compared, addressed_fits, field_fits}
+use Rattle.ec_select.proofs.PointerItems.{load_fits}
+use Rattle.ec_select.proofs.PointerItems.{store_fits, table_fits, scale_fits, advance_fits, elements_fit, embed_fits}
+use Rattle.ec_select.proofs.PointerTypes.{some_width, two_pointers, first_pointer, second_pointer, pointers_only}
+use Rattle.ec_select.proofs.PointerTypes.{pointer_converted, stays_within, at_least_two, no_pointer, none_pointed}
 use Rattle.ec_select.proofs.PortItems.{IndexFits, in_fits, out_fits}
 use Rattle.ec_select.proofs.Loops.{shift_fits, product_fits, quotient_fits}
 
@@ -78,6 +100,19 @@ pub record HasRoom (sizes : Sizes) (h : Homes) (slots : ℕ) : Type 0 where
   pub width : (h.width ≡ 2) ⊎ (h.width ≡ 4)
   pub scratch : (k : ℕ) → k ≤ 16 * slots → is_offset sizes h.scratch k ≡ true
   pub work : (k : ℕ) → k ≤ 64 → is_offset sizes 1280 k ≡ true
+
+-- what the items of operations on fixed-point numbers and on pointers are, by the crates below
+pub record ItemLaws : Type 0 where
+  pub fixed : FixedItemLaws
+  pub pointers : PointerItemLaws
+
+-- the offsets of objects up to their ends are in range, and so are the bytes of their scalars
+pub record ObjectsFit (sizes : Sizes) (p : PlainProgram) : Type 0 where
+  pub offsets : (o offset : ℕ) (d : PlainObject) → slice_get p.objects o ≡ Some d
+      → offset ≤ size_of_type p.structs d.ty → is_offset sizes o offset ≡ true
+  pub begins : (o offset bytes : ℕ) → HasScalarAt p o offset bytes → is_offset sizes o offset ≡ true
+  pub scalars : (o offset bytes : ℕ) → HasScalarAt p o offset bytes
+      → BytesFit sizes (object_location p.objects o offset) bytes
 
 -- what is asked of a test for the items that name labels
 abbrev pub AcceptsLabels : (AsmItem → Bool) → Linkage → PlainIr → Type 0
@@ -118,7 +153,8 @@ module _ (sizes : Sizes) where
       → BytesFit sizes q n → Fit sizes (conversion_code signed p q bytes n)
   convert_fits signed p q bytes n some x y =
       joined (fits sizes) (move_code p q (min n bytes)) (extend_code signed q bytes n)
-      (move_fits p q (min n bytes) (fewer_fit sizes p (min n bytes) bytes (omega arith) x) (fewer_fit sizes q (min n bytes) n (omega arith) y))
+      (move_fits p q (min n bytes) (fewer_fit sizes p (min n bytes) bytes (omega arith) x)
+      (fewer_fit sizes q (min n bytes) n (omega arith) y))
       (extend_fits sizes signed q bytes n some y)
 
   unless_none : (n : ℕ) (code : List AsmItem) → Fit sizes code → Fit sizes (if n == 0 then [] else code)
@@ -198,12 +234,26 @@ module _ (sizes : Sizes) where
     by_depth true i l = let m = k.most in grind arith
     by_depth false i l = let m = k.most in let w = k.within in room.scratch (16 * t.at + i) (omega arith)
 
+  -- the registers of a home end below R30
+  pub home_leaves : (h : Homes) (slots : ℕ) → HasRoom sizes h slots → (t : Temp) → HasHome slots t
+      → HasPointerPlaces sizes (home h t) t.bytes
+  home_leaves h slots room t k = by_depth (nat_le t.bytes h.width && nat_le (depth h t) 12) refl where
+    in_row : h.width * (t.at + 1) ≡ depth h t → t.bytes ≤ h.width → (h.width ≡ 2) ⊎ (h.width ≡ 4) → 26 - depth h t + t.bytes ≤ 30
+    in_row e few (inl w) =
+        let d : h.width * (t.at + 1) ≡ 2 * (t.at + 1) = ap (λ (x : ℕ). x * (t.at + 1)) w in omega (arith, d, w, few, e)
+    in_row e few (inr w) =
+        let d : h.width * (t.at + 1) ≡ 4 * (t.at + 1) = ap (λ (x : ℕ). x * (t.at + 1)) w in omega (arith, d, w, few, e)
+
+    by_depth : (near : Bool) → (nat_le t.bytes h.width && nat_le (depth h t) 12) ≡ near
+        → HasPointerPlaces sizes (if near then InRegisters (26 - depth h t) else InMemory h.scratch (16 * t.at)) t.bytes
+    by_depth true e =
+        in_row refl (leb-true t.bytes h.width (and_first (nat_le t.bytes h.width) (nat_le (depth h t) 12) e)) room.width
+    by_depth false e = λ i l. let m = k.most in let w = k.within in room.scratch (16 * t.at + i) (omega arith)
+
   -- ---- operations of a function
 
-  module _ (p : PlainProgram) (k : Linkage) (room : HasRoom sizes k.homes k.slots)
-      (stands : (o offset bytes : ℕ) → HasNumberAt p o offset bytes
-      → BytesFit sizes (object_location p.objects o offset) bytes)
-      (plain : FixedItemLaws) where
+  module _ (p : PlainProgram) (k : Linkage) (room : HasRoom sizes k.homes k.slots) (objects : ObjectsFit sizes p)
+      (laws : ItemLaws) where
     at_home : (t : Temp) → HasHome k.slots t → BytesFit sizes (home k.homes t) t.bytes
     at_home t h = home_fits k.homes k.slots room t h
 
@@ -287,7 +337,7 @@ module _ (sizes : Sizes) where
         let code = fixed_binary_code op ty aty bty mode (home k.homes a) (home k.homes b) answer_location work_location in
         answer_fits sizes room.work code (home k.homes to) n (omega arith)
         (plain_fits sizes code
-        (plain.binaries sizes op ty aty bty mode (home k.homes a) (home k.homes b) answer_location work_location h.types
+        (laws.fixed.binaries sizes op ty aty bty mode (home k.homes a) (home k.homes b) answer_location work_location h.types
         (places a (scalar_size aty) h.left h.left_bytes) (places b (scalar_size bty) h.right h.right_bytes)
         (answer_places (scalar_size ty) (omega arith)) work_places))
         (low_home to n h.result l)
@@ -299,7 +349,7 @@ module _ (sizes : Sizes) where
         let code = fixed_unary_code op ty mode (home k.homes a) answer_location work_location in
         answer_fits sizes room.work code (home k.homes to) n (omega arith)
         (plain_fits sizes code
-        (plain.unaries sizes op ty mode (home k.homes a) answer_location work_location h.types
+        (laws.fixed.unaries sizes op ty mode (home k.homes a) answer_location work_location h.types
         (places a (scalar_size ty) h.operand h.operand_bytes) (answer_places (scalar_size ty) (omega arith)) work_places))
         (low_home to n h.result l)
 
@@ -310,58 +360,189 @@ module _ (sizes : Sizes) where
         let code = fixed_conversion_code ty aty mode (home k.homes a) answer_location work_location in
         answer_fits sizes room.work code (home k.homes to) n (omega arith)
         (plain_fits sizes code
-        (plain.conversions sizes ty aty mode (home k.homes a) answer_location work_location h.types
+        (laws.fixed.conversions sizes ty aty mode (home k.homes a) answer_location work_location h.types
         (places a (scalar_size aty) h.from h.from_bytes) (answer_places (scalar_size ty) (omega arith)) work_places))
         (low_home to n h.result l)
 
-    -- an operation on integers, or one with a fixed-point type
+    -- ---- operations on pointers
+
+    -- the first n bytes
+    low_leaves : (t : Temp) (n : ℕ) → HasHome k.slots t → n ≤ t.bytes → HasPointerPlaces sizes (home k.homes t) n
+    low_leaves t n h l = fewer_places sizes (home k.homes t) n t.bytes l (home_leaves k.homes k.slots room t h)
+
+    -- a pointer comes to the place of the result, and goes on there
+    offset_fits : (minus signed : Bool) (from index to : Temp) (size n : ℕ) → HasHome k.slots from → HasHome k.slots index
+        → HasHome k.slots to → 2 ≤ from.bytes → to.bytes ≡ from.bytes
+        → Fit sizes (offset_code minus signed (home k.homes from) (home k.homes index) (home k.homes to) from.bytes index.bytes size n)
+    offset_fits minus signed from index to size n x y z some same =
+        let a = home k.homes from in let b = home k.homes index in let c = home k.homes to in
+        let pair = low_leaves to 2 z (omega (arith, some, same)) in
+        unless_none n (scale_index_code b signed index.bytes (size % 65536) ++ (move_code a c from.bytes ++ advance_code minus c))
+        (joined (fits sizes) (scale_index_code b signed index.bytes (size % 65536)) (move_code a c from.bytes ++ advance_code minus c)
+        (scale_fits sizes laws.pointers b c signed index.bytes (size % 65536) y.some (omega arith)
+        (home_leaves k.homes k.slots room index y) pair)
+        (joined (fits sizes) (move_code a c from.bytes) (advance_code minus c)
+        (move_fits a c from.bytes (at_home from x) (low_home to from.bytes z (omega (arith, same))))
+        (advance_fits sizes laws.pointers a c minus 2 (omega arith) (low_leaves from 2 x some) pair)))
+
+    pointers_fit : (family : Family) (a b to : Temp) (size n : ℕ) → HasHome k.slots a → HasHome k.slots b
+        → HasHome k.slots to → 2 ≤ a.bytes → b.bytes ≡ a.bytes → to.bytes ≡ 2 → n ≤ to.bytes
+        → Fit sizes (pointers_code family (home k.homes a) (home k.homes b) (home k.homes to) a.bytes size n)
+    pointers_fit (Combined op) a b to size n x y z some same two l =
+        unless_none n (elements_code (home k.homes a) (home k.homes b) (home k.homes to) size)
+        (elements_fit sizes laws.pointers (home k.homes a) (home k.homes b) (home k.homes to) size (low_leaves a 2 x some)
+        (low_leaves b 2 y (omega (arith, some, same))) (low_leaves to 2 z (omega (arith, two))))
+    pointers_fit (Compared r false) a b to size n x y z some same two l =
+        let few = few_compared r a.bytes some in
+        compared_fit r false (home k.homes a) (home k.homes b) (home k.homes to) (compared_bytes r a.bytes) n
+        (low_home a (compared_bytes r a.bytes) x few) (low_home b (compared_bytes r a.bytes) y (omega (arith, few, same)))
+        (low_home to n z l)
+    pointers_fit (Compared r true) a b to size n x y z some same two l =
+        let few = few_compared r a.bytes some in
+        compared_fit r false (home k.homes b) (home k.homes a) (home k.homes to) (compared_bytes r a.bytes) n
+        (low_home b (compared_bytes r a.bytes) y (omega (arith, few, same))) (low_home a (compared_bytes r a.bytes) x few)
+        (low_home to n z l)
+    pointers_fit Multiplied a b to size n x y z some same two l = refl
+    pointers_fit (Shifted up) a b to size n x y z some same two l = refl
+    pointers_fit (Divided r) a b to size n x y z some same two l = refl
+
+    pointer_binary_fits : (op : BinOp) (to a b : Temp) (ty aty bty : PlainType) (n : ℕ)
+        → IsPointerBinary p k.slots op to a b ty aty bty → n ≤ to.bytes
+        → Fit sizes (pointer_binary (is_pointer aty) (is_pointer bty) p op aty bty (home k.homes a) (home k.homes b)
+        (home k.homes to) a.bytes b.bytes n)
+    pointer_binary_fits op to a b ty aty bty n h l = by_kinds (is_pointer aty) (is_pointer bty) refl refl where
+      by_kinds : (x y : Bool) → is_pointer aty ≡ x → is_pointer bty ≡ y
+          → Fit sizes (pointer_binary x y p op aty bty (home k.homes a) (home k.homes b) (home k.homes to) a.bytes b.bytes n)
+      by_kinds true true d e =
+          let t = two_pointers op ty aty bty d e h.types in
+          let s = t.some in let m = t.same in let r = t.result in
+          let i = h.left_bytes in let j = h.right_bytes in let w = h.result_bytes in
+          pointers_fit (family_of op) a b to (element_size p aty) n h.left h.right h.result (omega (arith, s, i))
+          (omega (arith, m, i, j)) (omega (arith, r, w)) l
+      by_kinds true false d e =
+          let t = first_pointer op ty aty bty d e h.types in
+          let s = t.some in let r = t.result in let i = h.left_bytes in let w = h.result_bytes in
+          offset_fits (is_difference op) (is_signed bty) a b to (element_size p aty) n h.left h.right h.result
+          (omega (arith, s, i)) (omega (arith, r, i, w))
+      by_kinds false true d e =
+          let t = second_pointer op ty aty bty d e h.types in
+          let s = t.some in let r = t.result in let j = h.right_bytes in let w = h.result_bytes in
+          offset_fits false (is_signed aty) b a to (element_size p bty) n h.right h.left h.result
+          (omega (arith, s, j)) (omega (arith, r, j, w))
+      by_kinds false false d e = refl
+
+    pointer_conversion_fits : (to a : Temp) (ty aty : PlainType) (n : ℕ) → IsPointerConversion k.slots to a ty aty
+        → n ≤ to.bytes
+        → Fit sizes (pointer_conversion aty (home k.homes a) (home k.homes to) a.bytes to.bytes n)
+    pointer_conversion_fits to a ty aty n h l = by_bytes (a.bytes == 2 && to.bytes == 3) refl where
+      size : IsPointerSize to.bytes
+      size = subst (λ (m : ℕ). IsPointerSize m) (sym h.result_bytes) (pointer_converted ty aty h.pointer h.types).size
+
+      from_size : IsPointerSize a.bytes
+      from_size = subst (λ (m : ℕ). IsPointerSize m) (sym h.from_bytes) (pointer_converted ty aty h.pointer h.types).size_from
+
+      by_bytes : (more : Bool) → (a.bytes == 2 && to.bytes == 3) ≡ more
+          → Fit sizes (if more then (if n == 0 then [] else embed_code (is_into_data aty) (home k.homes a) (home k.homes to))
+          else move_code (home k.homes a) (home k.homes to) n)
+      by_bytes true e =
+          let three : to.bytes ≡ 3 = eqb-true to.bytes 3 (and_second (a.bytes == 2) (to.bytes == 3) e) in
+          unless_none n (embed_code (is_into_data aty) (home k.homes a) (home k.homes to))
+          (embed_fits sizes laws.pointers (is_into_data aty) (home k.homes a) (home k.homes to)
+          (low_leaves a 2 h.from (at_least_two a.bytes from_size))
+          (low_leaves to 3 h.result (omega (arith, three))))
+      by_bytes false e =
+          let few = stays_within a.bytes to.bytes from_size size e in
+          move_fits (home k.homes a) (home k.homes to) n (low_home a n h.from (omega (arith, few, l))) (low_home to n h.result l)
+
+    -- an operation on integers, one with a fixed-point type, or one on pointers
     of_binary : (telling : Option Told) (op : BinOp) (ty aty bty : PlainType) (mode : Mode) (to a b : Temp) (n : ℕ)
-        → IsBinary (family_of op) k.slots to a b ty aty bty ⊎ IsFixedBinary k.slots op to a b ty aty bty → n ≤ to.bytes
+        → IsBinary (family_of op) k.slots to a b ty aty bty
+        ⊎ (IsFixedBinary k.slots op to a b ty aty bty ⊎ IsPointerBinary p k.slots op to a b ty aty bty) → n ≤ to.bytes
         → Fit sizes (by_kind (is_fixed aty || is_fixed bty)
         (fixed_binary op ty aty bty mode (home k.homes a) (home k.homes b) (home k.homes to) n)
+        (by_kind (is_pointer aty || is_pointer bty)
+        (pointer_binary (is_pointer aty) (is_pointer bty) p op aty bty (home k.homes a) (home k.homes b) (home k.homes to)
+        a.bytes b.bytes n)
         (operator_code telling (family_of op) (is_signed aty) (is_signed bty) (home k.homes a) (home k.homes b)
-        (home k.homes to) a.bytes n))
+        (home k.homes to) a.bytes n)))
     of_binary telling op ty aty bty mode to a b n (inl h) l =
-        integers_fit sizes (is_fixed aty || is_fixed bty)
-        (fixed_binary op ty aty bty mode (home k.homes a) (home k.homes b) (home k.homes to) n)
-        (operator_code telling (family_of op) (is_signed aty) (is_signed bty) (home k.homes a) (home k.homes b)
-        (home k.homes to) a.bytes n)
+        let own = fixed_binary op ty aty bty mode (home k.homes a) (home k.homes b) (home k.homes to) n in
+        let pointed = pointer_binary (is_pointer aty) (is_pointer bty) p op aty bty (home k.homes a) (home k.homes b)
+        (home k.homes to) a.bytes b.bytes n in
+        let usual = operator_code telling (family_of op) (is_signed aty) (is_signed bty) (home k.homes a) (home k.homes b)
+        (home k.homes to) a.bytes n in
+        others_fit sizes (is_fixed aty || is_fixed bty) own (by_kind (is_pointer aty || is_pointer bty) pointed usual)
         (no_fixed (family_of op) k.slots to a b ty aty bty h)
-        (operator_fits telling (family_of op) to a b ty aty bty (is_signed aty) (is_signed bty) n h l)
-    of_binary telling op ty aty bty mode to a b n (inr h) l =
-        fixed_fits sizes (is_fixed aty || is_fixed bty)
-        (fixed_binary op ty aty bty mode (home k.homes a) (home k.homes b) (home k.homes to) n)
-        (operator_code telling (family_of op) (is_signed aty) (is_signed bty) (home k.homes a) (home k.homes b)
-        (home k.homes to) a.bytes n)
+        (others_fit sizes (is_pointer aty || is_pointer bty) pointed usual
+        (no_pointer (family_of op) k.slots to a b ty aty bty h)
+        (operator_fits telling (family_of op) to a b ty aty bty (is_signed aty) (is_signed bty) n h l))
+    of_binary telling op ty aty bty mode to a b n (inr (inl h)) l =
+        let own = fixed_binary op ty aty bty mode (home k.homes a) (home k.homes b) (home k.homes to) n in
+        let pointed = pointer_binary (is_pointer aty) (is_pointer bty) p op aty bty (home k.homes a) (home k.homes b)
+        (home k.homes to) a.bytes b.bytes n in
+        let usual = operator_code telling (family_of op) (is_signed aty) (is_signed bty) (home k.homes a) (home k.homes b)
+        (home k.homes to) a.bytes n in
+        own_fits sizes (is_fixed aty || is_fixed bty) own (by_kind (is_pointer aty || is_pointer bty) pointed usual)
         (either_fixed aty bty h.types.fixed) (fixed_binary_fits op ty aty bty mode to a b n h l)
+    of_binary telling op ty aty bty mode to a b n (inr (inr h)) l =
+        let own = fixed_binary op ty aty bty mode (home k.homes a) (home k.homes b) (home k.homes to) n in
+        let pointed = pointer_binary (is_pointer aty) (is_pointer bty) p op aty bty (home k.homes a) (home k.homes b)
+        (home k.homes to) a.bytes b.bytes n in
+        let usual = operator_code telling (family_of op) (is_signed aty) (is_signed bty) (home k.homes a) (home k.homes b)
+        (home k.homes to) a.bytes n in
+        others_fit sizes (is_fixed aty || is_fixed bty) own (by_kind (is_pointer aty || is_pointer bty) pointed usual)
+        (pointers_only op ty aty bty h.pointer h.types).0
+        (own_fits sizes (is_pointer aty || is_pointer bty) pointed usual h.pointer
+        (pointer_binary_fits op to a b ty aty bty n h l))
 
     of_unary : (op : UnOp) (ty : PlainType) (mode : Mode) (to a : Temp) (n : ℕ)
         → IsUnary k.slots to a ty ⊎ IsFixedUnary k.slots op to a ty → n ≤ to.bytes
         → Fit sizes (by_kind (is_fixed ty) (fixed_unary op ty mode (home k.homes a) (home k.homes to) n)
         (unary_code op (home k.homes a) (home k.homes to) n))
     of_unary op ty mode to a n (inl h) l =
-        integers_fit sizes (is_fixed ty) (fixed_unary op ty mode (home k.homes a) (home k.homes to) n)
+        others_fit sizes (is_fixed ty) (fixed_unary op ty mode (home k.homes a) (home k.homes to) n)
         (unary_code op (home k.homes a) (home k.homes to) n) (no_fixed_operand k.slots to a ty h) (unary_fits op to a ty n h l)
     of_unary op ty mode to a n (inr h) l =
-        fixed_fits sizes (is_fixed ty) (fixed_unary op ty mode (home k.homes a) (home k.homes to) n)
+        own_fits sizes (is_fixed ty) (fixed_unary op ty mode (home k.homes a) (home k.homes to) n)
         (unary_code op (home k.homes a) (home k.homes to) n) (type_fixed ty h.types.fixed) (fixed_unary_fits op ty mode to a n h l)
 
     of_conversion : (ty aty : PlainType) (mode : Mode) (to a : Temp) (n : ℕ)
-        → AreConverted k.slots to a ty aty ⊎ IsFixedConversion k.slots to a ty aty → n ≤ to.bytes
+        → AreConverted k.slots to a ty aty ⊎ (IsFixedConversion k.slots to a ty aty ⊎ IsPointerConversion k.slots to a ty aty)
+        → n ≤ to.bytes
         → Fit sizes (by_kind (is_fixed ty || is_fixed aty) (fixed_conversion ty aty mode (home k.homes a) (home k.homes to) n)
-        (conversion_code (is_signed aty) (home k.homes a) (home k.homes to) a.bytes n))
+        (by_kind (is_pointer aty) (pointer_conversion aty (home k.homes a) (home k.homes to) a.bytes to.bytes n)
+        (conversion_code (is_signed aty) (home k.homes a) (home k.homes to) a.bytes n)))
     of_conversion ty aty mode to a n (inl h) l =
-        integers_fit sizes (is_fixed ty || is_fixed aty)
-        (fixed_conversion ty aty mode (home k.homes a) (home k.homes to) n)
-        (conversion_code (is_signed aty) (home k.homes a) (home k.homes to) a.bytes n)
+        let own = fixed_conversion ty aty mode (home k.homes a) (home k.homes to) n in
+        let pointed = pointer_conversion aty (home k.homes a) (home k.homes to) a.bytes to.bytes n in
+        let usual = conversion_code (is_signed aty) (home k.homes a) (home k.homes to) a.bytes n in
+        others_fit sizes (is_fixed ty || is_fixed aty) own (by_kind (is_pointer aty) pointed usual)
         (none_converted k.slots to a ty aty h)
+        (others_fit sizes (is_pointer aty) pointed usual (none_pointed k.slots to a ty aty h)
         (convert_fits (is_signed aty) (home k.homes a) (home k.homes to) a.bytes n h.from.some (at_home a h.from)
-        (low_home to n h.result l))
-    of_conversion ty aty mode to a n (inr h) l =
-        fixed_fits sizes (is_fixed ty || is_fixed aty)
-        (fixed_conversion ty aty mode (home k.homes a) (home k.homes to) n)
-        (conversion_code (is_signed aty) (home k.homes a) (home k.homes to) a.bytes n)
+        (low_home to n h.result l)))
+    of_conversion ty aty mode to a n (inr (inl h)) l =
+        let own = fixed_conversion ty aty mode (home k.homes a) (home k.homes to) n in
+        let pointed = pointer_conversion aty (home k.homes a) (home k.homes to) a.bytes to.bytes n in
+        let usual = conversion_code (is_signed aty) (home k.homes a) (home k.homes to) a.bytes n in
+        own_fits sizes (is_fixed ty || is_fixed aty) own (by_kind (is_pointer aty) pointed usual)
         (either_fixed ty aty h.types.fixed) (fixed_conversion_fits ty aty mode to a n h l)
+    of_conversion ty aty mode to a n (inr (inr h)) l =
+        let own = fixed_conversion ty aty mode (home k.homes a) (home k.homes to) n in
+        let pointed = pointer_conversion aty (home k.homes a) (home k.homes to) a.bytes to.bytes n in
+        let usual = conversion_code (is_signed aty) (home k.homes a) (home k.homes to) a.bytes n in
+        others_fit sizes (is_fixed ty || is_fixed aty) own (by_kind (is_pointer aty) pointed usual)
+        (pointer_converted ty aty h.pointer h.types).no_fixed
+        (own_fits sizes (is_pointer aty) pointed usual h.pointer (pointer_conversion_fits to a ty aty n h l))
+
+    -- loads from an object of a bank
+    bank_fits : (bank : Bank) (o offset : ℕ) (t : Temp) → HasHome k.slots t → HasScalarAt p o offset t.bytes
+        → Fit sizes (banked_code bank p.objects o offset (home k.homes t) t.bytes)
+    bank_fits FlashBank o offset t h s =
+        table_fits sizes laws.pointers o offset (home k.homes t) t.bytes (home_leaves k.homes k.slots room t h)
+        (objects.begins o offset t.bytes s)
+    bank_fits DataBank o offset t h s =
+        copy_fits sizes (object_location p.objects o offset) (home k.homes t) t.bytes (objects.scalars o offset t.bytes s) (at_home t h)
 
     -- ---- calls and returns
 
@@ -447,8 +628,14 @@ module _ (sizes : Sizes) where
           → ((t : Temp) → to ≡ Some t → n ≤ t.bytes) → q (CallTo (k.entry_of g)) ≡ true
           → list_all q (call_code (home k.homes) k g to n kept) ≡ true
       call_passes results g to n kept h l a =
-          let saved = by_fit (save_code k kept) (chained (fits sizes) (λ place. save_place k.homes place (kept place)) (register_places k.slots) (λ i b. save_fits i (kept i) b)) in
-          let loaded = by_fit (restore_code k kept) (chained (fits sizes) (λ place. restore_place k.homes place (kept place)) (register_places k.slots) (λ i b. restore_fits i (kept i) b)) in
+          let saved =
+          by_fit (save_code k kept)
+          (chained (fits sizes) (λ place. save_place k.homes place (kept place)) (register_places k.slots)
+          (λ i b. save_fits i (kept i) b)) in
+          let loaded =
+          by_fit (restore_code k kept)
+          (chained (fits sizes) (λ place. restore_place k.homes place (kept place)) (register_places k.slots)
+          (λ i b. restore_fits i (kept i) b)) in
           let taken = by_fit (taken_code (home k.homes) to n) (taken_fits results g to n h l) in
           let rest = joined q (taken_code (home k.homes) to n) (restore_code k kept) taken loaded in
           joined q (save_code k kept) (CallTo (k.entry_of g) ∷ (taken_code (home k.homes) to n ++ restore_code k kept)) saved
@@ -465,7 +652,7 @@ module _ (sizes : Sizes) where
 
       pub operation_passes : (results : ℕ → ℕ) (f : ℕ) (told telling : Option Told) (need : Need) (i : PlainIr)
           → IsCovered p results f k.slots i → AcceptsLabels q k i
-          → list_all q (op_code p.objects (home k.homes) k told telling need i) ≡ true
+          → list_all q (op_code p (home k.homes) k told telling need i) ≡ true
       operation_passes results f told telling need (constant t n) h a =
           by_fit (constant_code (home k.homes t) (low_bytes 16 n) (wanted need t))
           (constant_fits sizes (home k.homes t) (low_bytes 16 n) (wanted need t) (low_home t (wanted need t) h (omega arith)))
@@ -475,19 +662,19 @@ module _ (sizes : Sizes) where
           (move_fits (home k.homes from) (home k.homes to) (wanted need to) (low_home from (wanted need to) h.1 (omega arith))
           (low_home to (wanted need to) h.0 (omega arith)))
       operation_passes results f told telling need (load_object t o offset) h a =
-          by_fit (copy_code (object_location p.objects o offset) (home k.homes t) t.bytes)
-          (copy_fits sizes (object_location p.objects o offset) (home k.homes t) t.bytes (stands o offset t.bytes h.1) (at_home t h.0))
+          by_fit (banked_code (home_of p o) p.objects o offset (home k.homes t) t.bytes) (bank_fits (home_of p o) o offset t h.0 h.1)
       operation_passes results f told telling need (store_object o offset t) h a =
           by_fit (copy_code (home k.homes t) (object_location p.objects o offset) t.bytes)
-          (copy_fits sizes (home k.homes t) (object_location p.objects o offset) t.bytes (at_home t h.0) (stands o offset t.bytes h.1))
+          (copy_fits sizes (home k.homes t) (object_location p.objects o offset) t.bytes (at_home t h.0)
+          (objects.scalars o offset t.bytes h.1))
       operation_passes results f told telling need (binary_op op ty mode to x aty y bty) h a =
-          by_fit (op_code p.objects (home k.homes) k told telling need (binary_op op ty mode to x aty y bty))
+          by_fit (op_code p (home k.homes) k told telling need (binary_op op ty mode to x aty y bty))
           (of_binary telling op ty aty bty mode to x y (wanted need to) h (omega arith))
       operation_passes results f told telling need (unary_op op ty mode to x) h a =
-          by_fit (op_code p.objects (home k.homes) k told telling need (unary_op op ty mode to x))
+          by_fit (op_code p (home k.homes) k told telling need (unary_op op ty mode to x))
           (of_unary op ty mode to x (wanted need to) h (omega arith))
       operation_passes results f told telling need (conversion to ty mode x aty) h a =
-          by_fit (op_code p.objects (home k.homes) k told telling need (conversion to ty mode x aty))
+          by_fit (op_code p (home k.homes) k told telling need (conversion to ty mode x aty))
           (of_conversion ty aty mode to x (wanted need to) h (omega arith))
       operation_passes results f told telling need (label l) h a = rw a refl
       operation_passes results f told telling need (jump l) h a = rw a refl
@@ -495,27 +682,43 @@ module _ (sizes : Sizes) where
       operation_passes results f told telling need (call_function g to) h a =
           call_passes results g to (wanted_result need to) (kept_need need (call_function g to)) h (wanted_few need to) a
       operation_passes results f told telling need (return_from from) h a = return_passes results f k.is_main from h
-      operation_passes results f told telling need (address t o offset) h a = absurd h
-      operation_passes results f told telling need (field ptr space offset) h a = absurd h
-      operation_passes results f told telling need (load_at to ptr space) h a = absurd h
-      operation_passes results f told telling need (store_at ptr space from) h a = absurd h
+      operation_passes results f told telling need (address t o offset) h a =
+          by_fit (addressed_code p o offset (home k.homes t) t.bytes (wanted need t))
+          (addressed_fits sizes laws.pointers p o offset (home k.homes t) t.bytes (wanted need t) h.size
+          (home_leaves k.homes k.slots room t h.result) (objects.offsets o offset h.declared h.is_object h.within))
+      operation_passes results f told telling need (field ptr space offset) h a =
+          let two = some_width space in let e = h.1 in
+          by_fit (field_code (home k.homes ptr) offset)
+          (field_fits sizes laws.pointers (home k.homes ptr) offset (low_home ptr 2 h.0 (omega (arith, two, e))))
+      operation_passes results f told telling need (load_at to ptr space) h a =
+          let few = h.0.most in let e = h.1.1 in
+          by_fit (load_code space (home k.homes ptr) (home k.homes to) to.bytes)
+          (load_fits sizes laws.pointers space (home k.homes ptr) (home k.homes to) to.bytes (omega (arith, few))
+          (low_leaves ptr (width space) h.1.0 (omega (arith, e))) (home_leaves k.homes k.slots room to h.0))
+      operation_passes results f told telling need (store_at ptr space from) h a =
+          let few = h.0.most in let two = some_width space in let e = h.1.1 in
+          by_fit (store_data_code (home k.homes from) (home k.homes ptr) from.bytes)
+          (store_fits sizes laws.pointers (home k.homes from) (home k.homes ptr) from.bytes (omega (arith, few))
+          (low_leaves ptr 2 h.1.0 (omega (arith, two, e))) (home_leaves k.homes k.slots room from h.0))
       operation_passes results f told telling need (port_in to port index width) h a =
           let there = option_map (home k.homes) index in
           by_fit (in_code there (home k.homes to) port width (wanted need to))
-          (in_fits sizes there (home k.homes to) port width h.address h.one_two_four (index_fits index h.index_has) (low_home to width h.number h.within) (wanted need to) (low_home to (wanted need to) h.number (omega arith)))
+          (in_fits sizes there (home k.homes to) port width h.address h.one_two_four (index_fits index h.index_has)
+          (low_home to width h.number h.within) (wanted need to) (low_home to (wanted need to) h.number (omega arith)))
       operation_passes results f told telling need (port_out from port index width) h a =
           let there = option_map (home k.homes) index in
           by_fit (out_code there (home k.homes from) port width)
-          (out_fits sizes there (home k.homes from) port width h.address h.one_two_four (index_fits index h.index_has) (low_home from width h.number h.within))
+          (out_fits sizes there (home k.homes from) port width h.address h.one_two_four (index_fits index h.index_has)
+          (low_home from width h.number h.within))
 
       -- all operations
 
       pub operations_pass : (results : ℕ → ℕ) (f : ℕ) (at : ℕ → Need) (told : Option Told) (code : List PlainIr)
           → AreCovered p results f k.slots code → AllAccepted q k code
-          → list_all q (ops_code p.objects (home k.homes) k at told code) ≡ true
+          → list_all q (ops_code p (home k.homes) k at told code) ≡ true
       operations_pass results f at told [] h a = refl
       operations_pass results f at told (i ∷ code) h a =
-          joined q (op_code p.objects (home k.homes) k told (tells_next at i code) (needs at code) i)
-          (ops_code p.objects (home k.homes) k at (tells_next at i code) code)
+          joined q (op_code p (home k.homes) k told (tells_next at i code) (needs at code) i)
+          (ops_code p (home k.homes) k at (tells_next at i code) code)
           (operation_passes results f told (tells_next at i code) (needs at code) i h.0 a.0)
           (operations_pass results f at (tells_next at i code) code h.1 a.1)

@@ -1,7 +1,7 @@
 -- The words of operations' code.
 use Rattle.std.proofs.Common.{◌≡◌, ◌⊎◌, ℕ, zero, suc, ◌+◌, ◌-◌, ◌*◌, ◌≤◌, ◌==◌, Bool, true, false, List, [], ◌∷◌, ◌++◌}
-use Rattle.std.proofs.Common.{refl, subst, arith, leb-true, inl, inr}
-use Rattle.std.specs.Prelude.{⊤, min, nat_le, ◌||◌, if◌then◌else◌, Option, Some, None, option_map}
+use Rattle.std.proofs.Common.{◌%◌, refl, ap, subst, arith, leb-true, eqb-true, inl, inr}
+use Rattle.std.specs.Prelude.{⊤, min, nat_le, ◌&&◌, ◌||◌, if◌then◌else◌, Option, Some, None, option_map}
 use Rattle.std.specs.List.{AllByRecursion}
 use Rattle.std.proofs.Math.Nat.{mul-le-mul_left}
 use Rattle.std.proofs.lemmas.Bool.{le-leb, false≢true}
@@ -22,12 +22,15 @@ use Rattle.ec_core.specs.declared.expressions.BinOp.TheVariants.{Add, Sub, Mul, 
 use Rattle.ec_core.specs.declared.expressions.BinOp.TheVariants.{Eq, Ne, Shl, Shr}
 use Rattle.ec_core.specs.declared.expressions.UnOp.{UnOp}
 use Rattle.ec_core.specs.declared.expressions.UnOp.TheVariants.{Minus, Invert}
+use Rattle.ec_core.specs.Accesses.{element_size}
 use Rattle.ec_core.specs.Layout.{scalar_size}
 use Rattle.ec_core.specs.Operators.{same_type}
-use Rattle.ec_core.specs.Plain.{PlainType, integer, PlainProgram}
+use Rattle.ec_core.specs.Plain.{PlainType, integer, PlainObject, PlainProgram}
 use Rattle.ec_core.specs.Words.{widest, operation_words}
 use Rattle.ec_ir.specs.declared.operations.Temp.{Temp}
-use Rattle.ec_ir.specs.Costs.{op_words, index_words, is_bitwise, binary_words, unary_words, conversion_words, temp_bytes}
+use Rattle.ec_ir.specs.Costs.{op_words, index_words, is_integer, is_bitwise, binary_words, unary_words}
+use Rattle.ec_ir.specs.Costs.{conversion_words}
+use Rattle.ec_ir.specs.Costs.{temp_bytes}
 use Rattle.ec_ir.specs.Costs.{code_words as operations_words}
 use Rattle.ec_ir.specs.Operations.{PlainIr, constant, copy, address, field, load_at, store_at, load_object}
 use Rattle.ec_ir.specs.Operations.{store_object, binary_op, unary_op, conversion, label, jump, branch_zero}
@@ -43,6 +46,16 @@ use Rattle.ec_select_bytes.specs.Values.{test_code, extend_code}
 use Rattle.ec_select_order.specs.declared.relations.Relation.{Relation}
 use Rattle.ec_select_order.specs.Laws.{RelationsHaveWords}
 use Rattle.ec_select_order.specs.Relations.{relation_code, truth_code}
+use Rattle.ec_select_places.specs.Conversions.{embed_code}
+use Rattle.ec_select_places.specs.Distances.{elements_code}
+use Rattle.ec_select_places.specs.Form.{StepsAreShort, ConversionsAreShort, ElementsAreShort}
+use Rattle.ec_select_places.specs.Steps.{scale_index_code, advance_code, compared_bytes}
+use Rattle.ec_select_pointers.specs.Addresses.{address_code}
+use Rattle.ec_select_pointers.specs.Form.{PointersHave, TablesAreShort}
+use Rattle.ec_space.specs.declared.space.Bank.{Bank}
+use Rattle.ec_space.specs.declared.space.Bank.TheVariants.{Flash as FlashBank, Data as DataBank}
+use Rattle.ec_space.specs.declared.space.SpaceId.{SpaceId}
+use Rattle.ec_space.specs.declared.space.SpaceId.TheVariants.{Flash, Data, Generic}
 use Rattle.ec_select_products.specs.Laws.{ProductsHaveWords}
 use Rattle.ec_select_products.specs.Products.{product_code}
 use Rattle.ec_select_quotients.specs.Signs.{quotient_code}
@@ -50,31 +63,39 @@ use Rattle.ec_select_shifts.specs.declared.shifts.Direction.{Direction}
 use Rattle.ec_select_shifts.specs.declared.shifts.Direction.TheVariants.{Left, Right}
 use Rattle.ec_select_shifts.specs.Laws.{ShiftsHaveWords}
 use Rattle.ec_select_shifts.specs.Shifts.{shift_code, turn_words}
-use Rattle.ec_select_functions.specs.declared.families.Family.{Family}
-use Rattle.ec_select_functions.specs.declared.families.Family.TheVariants.{Combined, Compared, Multiplied, Shifted}
-use Rattle.ec_select_functions.specs.declared.families.Family.TheVariants.{Divided}
-use Rattle.ec_select_functions.specs.declared.families.Told.{Told}
-use Rattle.ec_select_functions.specs.declared.homes.Homes.{Homes}
-use Rattle.ec_select_functions.specs.Code.{same_location, move_code, reversed_code, family_of, is_signed}
-use Rattle.ec_select_functions.specs.Code.{conversion_code, combined_code}
-use Rattle.ec_select_functions.specs.Code.{compared_code, multiplied_code, shift_of, shifted_bytes, turned_code}
-use Rattle.ec_select_functions.specs.Code.{shifted_code, long_code}
-use Rattle.ec_select_functions.specs.Code.{divided_code, binary_code, turn_code, unary_code, branch_code, Linkage}
-use Rattle.ec_select_functions.specs.Code.{place_register}
-use Rattle.ec_select_functions.specs.Code.{kept_bytes, save_place, restore_place, register_places, save_code}
-use Rattle.ec_select_functions.specs.Code.{restore_code, taken_code, call_code, result_code, return_code}
-use Rattle.ec_select_functions.specs.Code.{flag_code, operator_code, tested_code, kept_need, op_code, tells_next, ops_code}
-use Rattle.ec_select_functions.specs.Code.{work_location, answer_location, by_kind, fixed_binary, fixed_unary}
-use Rattle.ec_select_functions.specs.Code.{fixed_conversion}
+use Rattle.ec_select_operations.specs.declared.families.Family.{Family}
+use Rattle.ec_select_operations.specs.declared.families.Family.TheVariants.{Combined, Compared, Multiplied, Shifted}
+use Rattle.ec_select_operations.specs.declared.families.Family.TheVariants.{Divided}
+use Rattle.ec_select_operations.specs.declared.families.Told.{Told}
+use Rattle.ec_select_operations.specs.declared.homes.Homes.{Homes}
+use Rattle.ec_select_operations.specs.Code.{same_location, move_code, reversed_code, family_of, is_signed}
+use Rattle.ec_select_operations.specs.Code.{conversion_code, combined_code}
+use Rattle.ec_select_operations.specs.Code.{compared_code, multiplied_code, shift_of, shifted_bytes, turned_code}
+use Rattle.ec_select_operations.specs.Code.{shifted_code, long_code}
+use Rattle.ec_select_operations.specs.Code.{divided_code, binary_code, turn_code, unary_code, branch_code, Linkage}
+use Rattle.ec_select_operations.specs.Code.{place_register}
+use Rattle.ec_select_operations.specs.Code.{kept_bytes, save_place, restore_place, register_places, save_code}
+use Rattle.ec_select_operations.specs.Code.{restore_code, taken_code, call_code, result_code, return_code}
+use Rattle.ec_select_operations.specs.Code.{flag_code, operator_code, tested_code, kept_need, op_code, tells_next}
+use Rattle.ec_select_operations.specs.Code.{ops_code}
+use Rattle.ec_select_operations.specs.Code.{work_location, answer_location, by_kind, fixed_binary, fixed_unary}
+use Rattle.ec_select_operations.specs.Code.{fixed_conversion, addressed_code, load_code, banked_code, offset_code}
+use Rattle.ec_select_operations.specs.Code.{pointers_code}
+use Rattle.ec_select_operations.specs.Code.{is_difference, pointer_binary, pointer_conversion}
 use Rattle.ec_select_functions.specs.Covered.{IsBinary, IsUnary, IsCovered, AreCovered}
 use Rattle.ec_select_functions.specs.Covered.{IsFixedBinary, IsFixedUnary, AreConverted, IsFixedConversion}
-use Rattle.ec_select_functions.specs.Emitted.{OfKind}
-use Rattle.ec_select_functions.specs.Homes.{home, result_location}
-use Rattle.ec_select_functions.specs.Needs.{Need, wanted, wanted_result, needs, is_fixed}
-use Rattle.ec_select_functions.specs.Places.{object_location}
+use Rattle.ec_select_functions.specs.Covered.{IsPointerBinary, IsPointerConversion}
+use Rattle.ec_select_operations.specs.Emitted.{OfKind}
+use Rattle.ec_select_operations.specs.Homes.{home, result_location}
+use Rattle.ec_select_operations.specs.Needs.{Need, wanted, wanted_result, needs, is_fixed}
+use Rattle.ec_select_operations.specs.Places.{object_location}
+use Rattle.ec_select_operations.specs.Pointers.{is_pointer, is_into_data, home_of, tag_in, IsPointerSize}
 use Rattle.ec_select.specs.InPlace.{IsInPlace}
-use Rattle.ec_select.proofs.FixedItems.{answer_words, fixed_words, integers_words}
+use Rattle.ec_select.proofs.FixedItems.{answer_words, own_words, others_words}
 use Rattle.ec_select.proofs.FixedTypes.{type_fixed, either_fixed, no_fixed, no_fixed_operand, none_converted}
+use Rattle.ec_select.proofs.Fitting.{and_second}
+use Rattle.ec_select.proofs.PointerItems.{tagged, few_compared}
+use Rattle.ec_select.proofs.PointerTypes.{two_pointers, pointers_only, pointer_converted, no_pointer, none_pointed}
 use Rattle.ec_select.proofs.Words.{joined_words, chained_words, copy_words_most, save_words_most, load_words_most}
 use Rattle.ec_select.proofs.PortItems.{point_words, in_words_most, out_words_most}
 use Rattle.ec_select.proofs.Words.{operate_words_most, quotient_words}
@@ -89,6 +110,11 @@ pub record WordLaws : Type 0 where
   pub fixed_binaries : FixedBinariesHave
   pub fixed_unaries : FixedUnariesHave
   pub fixed_conversions : FixedConversionsHave
+  pub pointers : PointersHave
+  pub tables : TablesAreShort
+  pub steps : StepsAreShort
+  pub conversions : ConversionsAreShort
+  pub elements : ElementsAreShort
 
 move_words : (p q : Location) (n : ℕ) → code_words (move_code p q n) ≤ 4 * n
 move_words p q n = by_place (same_location p q) where
@@ -98,7 +124,8 @@ move_words p q n = by_place (same_location p q) where
 
 same_place : (p : Location) → same_location p p ≡ true
 same_place (InRegisters r) = grind (arith, nat_tests)
-same_place (InMemory o k) = let a : (o == o) ≡ true = grind (arith, nat_tests) in let b : (k == k) ≡ true = grind (arith, nat_tests) in rw (a, b) refl
+same_place (InMemory o k) =
+    let a : (o == o) ≡ true = grind (arith, nat_tests) in let b : (k == k) ≡ true = grind (arith, nat_tests) in rw (a, b) refl
 
 -- a number that stands there already
 kept_words : (p q : Location) (n : ℕ) → p ≡ q → code_words (move_code p q n) ≡ 0
@@ -218,12 +245,14 @@ module _ (laws : WordLaws) where
       let x = second_within ty aty bty h.signed a.bytes h.left_type in
       let few = h.result.most in
       let y = compared_most rel left p q r a.bytes n (omega arith) in
-      within (code_words (compared_code rel left p q r a.bytes n)) (widest (ty ∷ aty ∷ bty ∷ [])) (omega (arith, x, y)) (some_within ty aty bty)
+      within (code_words (compared_code rel left p q r a.bytes n)) (widest (ty ∷ aty ∷ bty ∷ [])) (omega (arith, x, y))
+      (some_within ty aty bty)
   within_row (Compared rel true) slots to a b ty aty bty left right p q r n h l =
       let x = second_within ty aty bty h.signed a.bytes h.left_type in
       let few = h.result.most in
       let y = compared_most rel left q p r a.bytes n (omega arith) in
-      within (code_words (compared_code rel left q p r a.bytes n)) (widest (ty ∷ aty ∷ bty ∷ [])) (omega (arith, x, y)) (some_within ty aty bty)
+      within (code_words (compared_code rel left q p r a.bytes n)) (widest (ty ∷ aty ∷ bty ∷ [])) (omega (arith, x, y))
+      (some_within ty aty bty)
   within_row Multiplied slots to a b ty aty bty left right p q r n h l =
       let few = h.result_bytes in
       let x = laws.products left right p q r n in
@@ -236,7 +265,8 @@ module _ (laws : WordLaws) where
       let few = fewer_bytes up a.bytes n (omega arith) in
       let y = shift_most (shift_of up left) p q r m in
       let z = unless_none n (11 * m + 7) (turned_code (shift_of up left) p q r m) y in
-      within (code_words (shifted_code up left p q r a.bytes n)) (widest (ty ∷ aty ∷ bty ∷ [])) (omega (arith, x, few, z)) (some_within ty aty bty)
+      within (code_words (shifted_code up left p q r a.bytes n)) (widest (ty ∷ aty ∷ bty ∷ [])) (omega (arith, x, few, z))
+      (some_within ty aty bty)
   within_row (Divided rem) slots to a b ty aty bty left right p q r n h l =
       let i = h.0 in let same = i.left_bytes in let some = i.left.some in
       let x = first_within ty aty bty i.signed to.bytes i.result_type in
@@ -247,7 +277,8 @@ module _ (laws : WordLaws) where
       let w : code_words (long_code rem left p q r top) ≤ 63 * suc top + 40 =
       omega (arith, joined_words (move_code p r (suc top)) (quotient_code rem left r q top), y, z) in
       let v = unless_none n (63 * suc top + 40) (long_code rem left p q r top) w in
-      within (code_words (divided_code rem left p q r a.bytes n)) (widest (ty ∷ aty ∷ bty ∷ [])) (omega (arith, x, whole, v)) (some_within ty aty bty)
+      within (code_words (divided_code rem left p q r a.bytes n)) (widest (ty ∷ aty ∷ bty ∷ [])) (omega (arith, x, whole, v))
+      (some_within ty aty bty)
 
   -- a bitwise operator whose result comes to the place of its first operand
   bitwise_words : (op : Operator) → is_bitwise_operator op ≡ true → (h : Homes) (to a : Temp) (q : Location) (n : ℕ)
@@ -368,71 +399,215 @@ module _ (laws : WordLaws) where
       let z : 60 + 40 * to.bytes ≤ unary_words ty = rw h.result_type (omega arith) in
       omega (arith, joined_words (move_code p q n) (turn_code op q n), x, y, z)
 
-  conversion_row : (ty aty : PlainType) (s t : Bool) (m n : ℕ) → ty ≡ integer s m → aty ≡ integer t n
-      → 10 * m ≤ conversion_words ty aty
-  conversion_row ty aty s t m n e d = rw (e, d) (by_type (same_type (integer s m) (integer t n))) where
-    by_type : (same : Bool) → 10 * m ≤ (if same || true then 10 * widest (integer s m ∷ integer t n ∷ [])
-        else 100 + 40 * widest (integer s m ∷ integer t n ∷ []))
+  conversion_row : (ty aty : PlainType) → 10 * scalar_size ty ≤ conversion_words ty aty
+  conversion_row ty aty = by_type (same_type ty aty || (is_integer ty && is_integer aty)) where
+    by_type : (few : Bool) → 10 * scalar_size ty ≤ (if few then 10 * widest (ty ∷ aty ∷ [])
+        else 100 + 40 * widest (ty ∷ aty ∷ []))
     by_type true = omega arith
     by_type false = omega arith
 
-  -- ---- operations on integers, or with a fixed-point type
+  -- ---- operations on pointers
 
-  one_binary : (telling : Option Told) (op : BinOp) (ty aty bty : PlainType) (mode : Mode) (slots : ℕ) (h : Homes)
-      (to a b : Temp) (n : ℕ) → IsBinary (family_of op) slots to a b ty aty bty ⊎ IsFixedBinary slots op to a b ty aty bty
+  addressed_most : (p : PlainProgram) (o offset : ℕ) (q : Location) (bytes n : ℕ) → IsPointerSize bytes
+      → code_words (addressed_code p o offset q bytes n) ≤ 5 * bytes
+  addressed_most p o offset q bytes n size =
+      let tag = tag_in bytes (home_of p o) in
+      let x = (laws.pointers o offset tag q q 0).0 in let y = (tagged bytes (home_of p o) size).bytes_are in
+      unless_none n (5 * bytes) (address_code o offset tag q) (omega (arith, x, y))
+
+  load_most : (space : SpaceId) (p q : Location) (n : ℕ) → code_words (load_code space p q n) ≤ 9 + 6 * n
+  load_most Flash p q n = let x = (laws.pointers 0 0 None p q n).3 in omega (arith, x)
+  load_most Data p q n = let x = (laws.pointers 0 0 None p q n).2 in omega (arith, x)
+  load_most Generic p q n = (laws.pointers 0 0 None p q n).4
+
+  bank_most : (bank : Bank) (objects : List PlainObject) (o offset : ℕ) (q : Location) (n : ℕ) → 1 ≤ n
+      → code_words (banked_code bank objects o offset q n) ≤ 5 * n
+  bank_most FlashBank objects o offset q n some = let x = (laws.tables o offset q n).2 in omega (arith, x, some)
+  bank_most DataBank objects o offset q n some =
+      let x = copy_words_most (object_location objects o offset) q n in omega (arith, x)
+
+  offset_most : (minus signed : Bool) (a b c : Location) (bytes index_bytes size n : ℕ)
+      → code_words (offset_code minus signed a b c bytes index_bytes size n) ≤ 4 * bytes + 38
+  offset_most minus signed a b c bytes index_bytes size n =
+      let scale = scale_index_code b signed index_bytes (size % 65536) in
+      let x = (laws.steps b c signed minus index_bytes (size % 65536)).0.words_are in
+      let y = move_words a c bytes in
+      let z = (laws.steps b c signed minus index_bytes (size % 65536)).1.words_are in
+      unless_none n (4 * bytes + 38) (scale ++ (move_code a c bytes ++ advance_code minus c))
+      (omega (
+        arith,
+        joined_words scale (move_code a c bytes ++ advance_code minus c),
+        joined_words (move_code a c bytes) (advance_code minus c),
+        x,
+        y,
+        z,
+      ))
+
+  pointers_most : (family : Family) (a b c : Location) (bytes size n : ℕ) → 2 ≤ bytes → n ≤ 8
+      → code_words (pointers_code family a b c bytes size n) ≤ 5 * bytes + 64
+  pointers_most (Combined op) a b c bytes size n some l =
+      let x = (laws.elements a b c size).words_are in
+      unless_none n (5 * bytes + 64) (elements_code a b c size) (omega (arith, x))
+  pointers_most (Compared r false) a b c bytes size n some l =
+      let x = compared_most r false a b c (compared_bytes r bytes) n l in
+      let y = few_compared r bytes some in omega (arith, x, y)
+  pointers_most (Compared r true) a b c bytes size n some l =
+      let x = compared_most r false b a c (compared_bytes r bytes) n l in
+      let y = few_compared r bytes some in omega (arith, x, y)
+  pointers_most Multiplied a b c bytes size n some l = omega arith
+  pointers_most (Shifted up) a b c bytes size n some l = omega arith
+  pointers_most (Divided r) a b c bytes size n some l = omega arith
+
+  pointer_binary_most : (p : PlainProgram) (op : BinOp) (slots : ℕ) (h : Homes) (to a b : Temp) (ty aty bty : PlainType)
+      (n : ℕ) → IsPointerBinary p slots op to a b ty aty bty → n ≤ to.bytes
+      → code_words (pointer_binary (is_pointer aty) (is_pointer bty) p op aty bty (home h a) (home h b) (home h to)
+      a.bytes b.bytes n) ≤ binary_words op ty aty bty
+  pointer_binary_most p op slots h to a b ty aty bty n i l = by_kinds (is_pointer aty) (is_pointer bty) refl refl where
+    left_within : a.bytes ≤ widest (ty ∷ aty ∷ bty ∷ [])
+    left_within = let e = i.left_bytes in omega (arith, e)
+
+    right_within : b.bytes ≤ widest (ty ∷ aty ∷ bty ∷ [])
+    right_within = let e = i.right_bytes in omega (arith, e)
+
+    in_row : (code : List AsmItem) → code_words code ≤ 80 * widest (ty ∷ aty ∷ bty ∷ []) + 110
+        → code_words code ≤ binary_words op ty aty bty
+    in_row code m =
+        let x = within (code_words code) (widest (ty ∷ aty ∷ bty ∷ [])) m (some_within ty aty bty) in
+        let y = other_row op ty aty bty (pointers_only op ty aty bty i.pointer i.types).1 in
+        omega (arith, x, y)
+
+    by_kinds : (x y : Bool) → is_pointer aty ≡ x → is_pointer bty ≡ y
+        → code_words (pointer_binary x y p op aty bty (home h a) (home h b) (home h to) a.bytes b.bytes n)
+        ≤ binary_words op ty aty bty
+    by_kinds true true d e =
+        let t = (two_pointers op ty aty bty d e i.types).some in let u = i.left_bytes in let few = i.result.most in
+        let m = pointers_most (family_of op) (home h a) (home h b) (home h to) a.bytes (element_size p aty) n
+        (omega (arith, t, u)) (omega (arith, few, l)) in
+        in_row (pointers_code (family_of op) (home h a) (home h b) (home h to) a.bytes (element_size p aty) n)
+        (let w = left_within in omega (arith, m, w))
+    by_kinds true false d e =
+        let m = offset_most (is_difference op) (is_signed bty) (home h a) (home h b) (home h to) a.bytes b.bytes
+        (element_size p aty) n in
+        in_row (offset_code (is_difference op) (is_signed bty) (home h a) (home h b) (home h to) a.bytes b.bytes (element_size p aty) n)
+        (let w = left_within in omega (arith, m, w))
+    by_kinds false true d e =
+        let m = offset_most false (is_signed aty) (home h b) (home h a) (home h to) b.bytes a.bytes (element_size p bty) n in
+        in_row (offset_code false (is_signed aty) (home h b) (home h a) (home h to) b.bytes a.bytes (element_size p bty) n)
+        (let w = right_within in omega (arith, m, w))
+    by_kinds false false d e = omega arith
+
+  pointer_conversion_most : (slots : ℕ) (h : Homes) (to a : Temp) (ty aty : PlainType) (n : ℕ)
+      → IsPointerConversion slots to a ty aty → n ≤ to.bytes
+      → code_words (pointer_conversion aty (home h a) (home h to) a.bytes to.bytes n) ≤ conversion_words ty aty
+  pointer_conversion_most slots h to a ty aty n i l = by_bytes (a.bytes == 2 && to.bytes == 3) refl where
+    by_bytes : (more : Bool) → (a.bytes == 2 && to.bytes == 3) ≡ more
+        → code_words (if more then (if n == 0 then [] else embed_code (is_into_data aty) (home h a) (home h to))
+        else move_code (home h a) (home h to) n) ≤ conversion_words ty aty
+    by_bytes true e =
+        let three : to.bytes ≡ 3 = eqb-true to.bytes 3 (and_second (a.bytes == 2) (to.bytes == 3) e) in
+        let x = (laws.conversions (is_into_data aty) (home h a) (home h to)).0.words_are in
+        let y = conversion_row ty aty in let w = i.result_bytes in
+        unless_none n (conversion_words ty aty) (embed_code (is_into_data aty) (home h a) (home h to))
+        (omega (arith, three, x, y, w))
+    by_bytes false e =
+        let x = move_words (home h a) (home h to) n in let y = conversion_row ty aty in let w = i.result_bytes in
+        omega (arith, x, y, w, l)
+
+  -- ---- operations on integers, with a fixed-point type, or on pointers
+
+  one_binary : (p : PlainProgram) (telling : Option Told) (op : BinOp) (ty aty bty : PlainType) (mode : Mode) (slots : ℕ)
+      (h : Homes) (to a b : Temp) (n : ℕ)
+      → IsBinary (family_of op) slots to a b ty aty bty
+      ⊎ (IsFixedBinary slots op to a b ty aty bty ⊎ IsPointerBinary p slots op to a b ty aty bty)
       → n ≤ to.bytes → OfKind (is_fixed aty || is_fixed bty) ⊤ (is_bitwise op ≡ true → to.at ≡ a.at)
       → code_words (by_kind (is_fixed aty || is_fixed bty) (fixed_binary op ty aty bty mode (home h a) (home h b) (home h to) n)
-      (operator_code telling (family_of op) (is_signed aty) (is_signed bty) (home h a) (home h b) (home h to) a.bytes n))
+      (by_kind (is_pointer aty || is_pointer bty)
+      (pointer_binary (is_pointer aty) (is_pointer bty) p op aty bty (home h a) (home h b) (home h to) a.bytes b.bytes n)
+      (operator_code telling (family_of op) (is_signed aty) (is_signed bty) (home h a) (home h b) (home h to) a.bytes n)))
       ≤ binary_words op ty aty bty
-  one_binary telling op ty aty bty mode slots h to a b n (inl i) l q =
+  one_binary p telling op ty aty bty mode slots h to a b n (inl i) l q =
+      let own = fixed_binary op ty aty bty mode (home h a) (home h b) (home h to) n in
+      let pointed = pointer_binary (is_pointer aty) (is_pointer bty) p op aty bty (home h a) (home h b) (home h to)
+      a.bytes b.bytes n in
+      let usual = operator_code telling (family_of op) (is_signed aty) (is_signed bty) (home h a) (home h b) (home h to) a.bytes n in
+      let most = binary_words op ty aty bty in
       let e = no_fixed (family_of op) slots to a b ty aty bty i in
       let same = subst (λ (k : Bool). OfKind k ⊤ (is_bitwise op ≡ true → to.at ≡ a.at)) e q in
-      integers_words (is_fixed aty || is_fixed bty) (fixed_binary op ty aty bty mode (home h a) (home h b) (home h to) n)
-      (operator_code telling (family_of op) (is_signed aty) (is_signed bty) (home h a) (home h b) (home h to) a.bytes n)
-      (binary_words op ty aty bty) e
-      (operator_most telling op slots h to a b ty aty bty (is_signed aty) (is_signed bty) n i l same)
-  one_binary telling op ty aty bty mode slots h to a b n (inr i) l q =
+      others_words (is_fixed aty || is_fixed bty) own (by_kind (is_pointer aty || is_pointer bty) pointed usual) most e
+      (others_words (is_pointer aty || is_pointer bty) pointed usual most (no_pointer (family_of op) slots to a b ty aty bty i)
+      (operator_most telling op slots h to a b ty aty bty (is_signed aty) (is_signed bty) n i l same))
+  one_binary p telling op ty aty bty mode slots h to a b n (inr (inl i)) l q =
+      let own = fixed_binary op ty aty bty mode (home h a) (home h b) (home h to) n in
+      let pointed = pointer_binary (is_pointer aty) (is_pointer bty) p op aty bty (home h a) (home h b) (home h to)
+      a.bytes b.bytes n in
+      let usual = operator_code telling (family_of op) (is_signed aty) (is_signed bty) (home h a) (home h b) (home h to) a.bytes n in
+      let most = binary_words op ty aty bty in
       let bytes = i.result_bytes in
       let code = fixed_binary_code op ty aty bty mode (home h a) (home h b) answer_location work_location in
-      let most = laws.fixed_binaries op ty aty bty mode (home h a) (home h b) answer_location work_location i.types in
-      fixed_words (is_fixed aty || is_fixed bty) (fixed_binary op ty aty bty mode (home h a) (home h b) (home h to) n)
-      (operator_code telling (family_of op) (is_signed aty) (is_signed bty) (home h a) (home h b) (home h to) a.bytes n)
-      (binary_words op ty aty bty) (either_fixed aty bty i.types.fixed)
-      (answer_words code (home h to) n (scalar_size ty) (binary_words op ty aty bty) (omega arith) most)
+      let few = laws.fixed_binaries op ty aty bty mode (home h a) (home h b) answer_location work_location i.types in
+      own_words (is_fixed aty || is_fixed bty) own (by_kind (is_pointer aty || is_pointer bty) pointed usual) most
+      (either_fixed aty bty i.types.fixed) (answer_words code (home h to) n (scalar_size ty) most (omega arith) few)
+  one_binary p telling op ty aty bty mode slots h to a b n (inr (inr i)) l q =
+      let own = fixed_binary op ty aty bty mode (home h a) (home h b) (home h to) n in
+      let pointed = pointer_binary (is_pointer aty) (is_pointer bty) p op aty bty (home h a) (home h b) (home h to)
+      a.bytes b.bytes n in
+      let usual = operator_code telling (family_of op) (is_signed aty) (is_signed bty) (home h a) (home h b) (home h to) a.bytes n in
+      let most = binary_words op ty aty bty in
+      others_words (is_fixed aty || is_fixed bty) own (by_kind (is_pointer aty || is_pointer bty) pointed usual) most
+      (pointers_only op ty aty bty i.pointer i.types).0
+      (own_words (is_pointer aty || is_pointer bty) pointed usual most i.pointer
+      (pointer_binary_most p op slots h to a b ty aty bty n i l))
 
   one_unary : (op : UnOp) (ty : PlainType) (mode : Mode) (slots : ℕ) (h : Homes) (to a : Temp) (n : ℕ)
       → IsUnary slots to a ty ⊎ IsFixedUnary slots op to a ty → n ≤ to.bytes
       → code_words (by_kind (is_fixed ty) (fixed_unary op ty mode (home h a) (home h to) n) (unary_code op (home h a) (home h to) n))
       ≤ unary_words ty
   one_unary op ty mode slots h to a n (inl i) l =
-      integers_words (is_fixed ty) (fixed_unary op ty mode (home h a) (home h to) n) (unary_code op (home h a) (home h to) n)
+      others_words (is_fixed ty) (fixed_unary op ty mode (home h a) (home h to) n) (unary_code op (home h a) (home h to) n)
       (unary_words ty) (no_fixed_operand slots to a ty i) (unary_most op slots (home h a) (home h to) to a ty n i l)
   one_unary op ty mode slots h to a n (inr i) l =
       let bytes = i.result_bytes in
       let code = fixed_unary_code op ty mode (home h a) answer_location work_location in
       let most = laws.fixed_unaries op ty mode (home h a) answer_location work_location i.types in
-      fixed_words (is_fixed ty) (fixed_unary op ty mode (home h a) (home h to) n) (unary_code op (home h a) (home h to) n)
+      own_words (is_fixed ty) (fixed_unary op ty mode (home h a) (home h to) n) (unary_code op (home h a) (home h to) n)
       (unary_words ty) (type_fixed ty i.types.fixed)
       (answer_words code (home h to) n (scalar_size ty) (unary_words ty) (omega arith) most)
 
   one_conversion : (ty aty : PlainType) (mode : Mode) (slots : ℕ) (h : Homes) (to a : Temp) (n : ℕ)
-      → AreConverted slots to a ty aty ⊎ IsFixedConversion slots to a ty aty → n ≤ to.bytes
+      → AreConverted slots to a ty aty ⊎ (IsFixedConversion slots to a ty aty ⊎ IsPointerConversion slots to a ty aty)
+      → n ≤ to.bytes
       → code_words (by_kind (is_fixed ty || is_fixed aty) (fixed_conversion ty aty mode (home h a) (home h to) n)
-      (conversion_code (is_signed aty) (home h a) (home h to) a.bytes n)) ≤ conversion_words ty aty
+      (by_kind (is_pointer aty) (pointer_conversion aty (home h a) (home h to) a.bytes to.bytes n)
+      (conversion_code (is_signed aty) (home h a) (home h to) a.bytes n))) ≤ conversion_words ty aty
   one_conversion ty aty mode slots h to a n (inl i) l =
+      let own = fixed_conversion ty aty mode (home h a) (home h to) n in
+      let pointed = pointer_conversion aty (home h a) (home h to) a.bytes to.bytes n in
+      let usual = conversion_code (is_signed aty) (home h a) (home h to) a.bytes n in
+      let most = conversion_words ty aty in
       let x = conversion_few (is_signed aty) (home h a) (home h to) a.bytes n to.bytes l in
-      let y = conversion_row ty aty i.signed i.from_signed to.bytes a.bytes i.result_type i.from_type in
-      integers_words (is_fixed ty || is_fixed aty) (fixed_conversion ty aty mode (home h a) (home h to) n)
-      (conversion_code (is_signed aty) (home h a) (home h to) a.bytes n) (conversion_words ty aty)
-      (none_converted slots to a ty aty i) (omega (arith, x, y))
-  one_conversion ty aty mode slots h to a n (inr i) l =
+      let y = conversion_row ty aty in
+      let w : scalar_size ty ≡ to.bytes = ap scalar_size i.result_type in
+      others_words (is_fixed ty || is_fixed aty) own (by_kind (is_pointer aty) pointed usual) most
+      (none_converted slots to a ty aty i)
+      (others_words (is_pointer aty) pointed usual most (none_pointed slots to a ty aty i) (omega (arith, x, y, w)))
+  one_conversion ty aty mode slots h to a n (inr (inl i)) l =
+      let own = fixed_conversion ty aty mode (home h a) (home h to) n in
+      let pointed = pointer_conversion aty (home h a) (home h to) a.bytes to.bytes n in
+      let usual = conversion_code (is_signed aty) (home h a) (home h to) a.bytes n in
+      let most = conversion_words ty aty in
       let bytes = i.result_bytes in
       let code = fixed_conversion_code ty aty mode (home h a) answer_location work_location in
-      let most = laws.fixed_conversions ty aty mode (home h a) answer_location work_location i.types in
-      fixed_words (is_fixed ty || is_fixed aty) (fixed_conversion ty aty mode (home h a) (home h to) n)
-      (conversion_code (is_signed aty) (home h a) (home h to) a.bytes n) (conversion_words ty aty)
-      (either_fixed ty aty i.types.fixed)
-      (answer_words code (home h to) n (scalar_size ty) (conversion_words ty aty) (omega arith) most)
+      let few = laws.fixed_conversions ty aty mode (home h a) answer_location work_location i.types in
+      own_words (is_fixed ty || is_fixed aty) own (by_kind (is_pointer aty) pointed usual) most
+      (either_fixed ty aty i.types.fixed) (answer_words code (home h to) n (scalar_size ty) most (omega arith) few)
+  one_conversion ty aty mode slots h to a n (inr (inr i)) l =
+      let own = fixed_conversion ty aty mode (home h a) (home h to) n in
+      let pointed = pointer_conversion aty (home h a) (home h to) a.bytes to.bytes n in
+      let usual = conversion_code (is_signed aty) (home h a) (home h to) a.bytes n in
+      let most = conversion_words ty aty in
+      others_words (is_fixed ty || is_fixed aty) own (by_kind (is_pointer aty) pointed usual) most
+      (pointer_converted ty aty i.pointer i.types).no_fixed
+      (own_words (is_pointer aty) pointed usual most i.pointer (pointer_conversion_most slots h to a ty aty n i l))
 
   branch_most : (p : Location) (bytes l : ℕ) → code_words (branch_code p bytes l) ≤ 6 + 3 * bytes
   branch_most p bytes l =
@@ -533,17 +708,17 @@ module _ (laws : WordLaws) where
     index_row h (Some t) = omega arith
 
     operation_most : (told telling : Option Told) (need : Need) (i : PlainIr) → IsCovered p results f k.slots i
-        → IsInPlace i → code_words (op_code p.objects (home k.homes) k told telling need i) ≤ op_words i
+        → IsInPlace i → code_words (op_code p (home k.homes) k told telling need i) ≤ op_words i
     operation_most told telling need (constant t n) h q =
         let a = (laws.values (home k.homes t) (low_bytes 16 n) (wanted need t) (wanted need t)).0 in omega (arith, a)
     operation_most told telling need (copy to from) h q =
         let a = move_words (home k.homes from) (home k.homes to) (wanted need to) in omega (arith, a)
     operation_most told telling need (load_object t o offset) h q =
-        let a = copy_words_most (object_location p.objects o offset) (home k.homes t) t.bytes in omega (arith, a)
+        bank_most (home_of p o) p.objects o offset (home k.homes t) t.bytes h.0.some
     operation_most told telling need (store_object o offset t) h q =
         let a = copy_words_most (home k.homes t) (object_location p.objects o offset) t.bytes in omega (arith, a)
     operation_most told telling need (binary_op op ty mode to a aty b bty) h q =
-        one_binary telling op ty aty bty mode k.slots k.homes to a b (wanted need to) h (omega arith) q
+        one_binary p telling op ty aty bty mode k.slots k.homes to a b (wanted need to) h (omega arith) q
     operation_most told telling need (unary_op op ty mode to a) h q =
         one_unary op ty mode k.slots k.homes to a (wanted need to) h (omega arith)
     operation_most told telling need (conversion to ty mode a aty) h q =
@@ -554,12 +729,18 @@ module _ (laws : WordLaws) where
     operation_most told telling need (call_function g to) h q =
         call_most (home k.homes) k g to need (kept_need need (call_function g to)) width
     operation_most told telling need (return_from from) h q = return_most (home k.homes) k.is_main from
-    operation_most told telling need (address t o offset) h q = absurd h
-    operation_most told telling need (field ptr space offset) h q = absurd h
-    operation_most told telling need (load_at to ptr space) h q = absurd h
-    operation_most told telling need (store_at ptr space from) h q = absurd h
+    operation_most told telling need (address t o offset) h q =
+        addressed_most p o offset (home k.homes t) t.bytes (wanted need t) h.size
+    operation_most told telling need (field ptr space offset) h q =
+        let a = (laws.pointers 0 offset None (home k.homes ptr) (home k.homes ptr) 0).1 in omega (arith, a)
+    operation_most told telling need (load_at to ptr space) h q =
+        let a = load_most space (home k.homes ptr) (home k.homes to) to.bytes in omega (arith, a)
+    operation_most told telling need (store_at ptr space from) h q =
+        let a = (laws.pointers 0 0 None (home k.homes from) (home k.homes ptr) from.bytes).5 in omega (arith, a)
     operation_most told telling need (port_in to port index width) h q =
-        let x = in_words_most laws.values (option_map (home k.homes) index) (home k.homes to) port width (wanted need to) to.bytes h.one_two_four (omega arith) in
+        let x =
+        in_words_most laws.values (option_map (home k.homes) index) (home k.homes to) port width
+        (wanted need to) to.bytes h.one_two_four (omega arith) in
         let y = index_row k.homes index in omega (arith, x, y)
     operation_most told telling need (port_out from port index width) h q =
         let x = out_words_most (option_map (home k.homes) index) (home k.homes from) port width in
@@ -567,9 +748,10 @@ module _ (laws : WordLaws) where
 
     pub operations_most : (at : ℕ → Need) (told : Option Told) (code : List PlainIr) → AreCovered p results f k.slots code
         → AllByRecursion IsInPlace code
-        → code_words (ops_code p.objects (home k.homes) k at told code) ≤ operations_words code
+        → code_words (ops_code p (home k.homes) k at told code) ≤ operations_words code
     operations_most at told [] h q = omega arith
     operations_most at told (i ∷ code) h q =
         let next = tells_next at i code in
         let a = operation_most told next (needs at code) i h.0 q.0 in let b = operations_most at next code h.1 q.1 in
-        omega (arith, joined_words (op_code p.objects (home k.homes) k told next (needs at code) i) (ops_code p.objects (home k.homes) k at next code), a, b)
+        omega
+        (arith, joined_words (op_code p (home k.homes) k told next (needs at code) i) (ops_code p (home k.homes) k at next code), a, b)

@@ -142,7 +142,8 @@ module _ (sizes : Sizes) where
     by_bytes true q = refl
     by_bytes false q =
         joined (fits sizes) (fill_code signed p m) (puts_code p m (n - m))
-        (fill_fits signed p m (x (m - 1) (grind (arith, le-leb n m)))) (puts_fits p m (n - m) (fewer_fit sizes p (m + (n - m)) n (grind (arith, le-leb n m)) x))
+        (fill_fits signed p m (x (m - 1) (grind (arith, le-leb n m))))
+        (puts_fits p m (n - m) (fewer_fit sizes p (m + (n - m)) n (grind (arith, le-leb n m)) x))
 
   -- ---- complements and negations
 

@@ -1,5 +1,6 @@
 -- The items of the code of port operations, and their words.
-use Rattle.std.proofs.Common.{◌≡◌, ◌⊎◌, ⊎_elim, ℕ, zero, suc, ◌+◌, ◌-◌, ◌*◌, ◌<◌, ◌≤◌, ◌==◌, Bool, true, false, [], ◌∷◌, ◌++◌}
+use Rattle.std.proofs.Common.{◌≡◌, ◌⊎◌, ⊎_elim, ℕ, zero, suc, ◌+◌, ◌-◌, ◌*◌, ◌<◌, ◌≤◌, ◌==◌, Bool, true, false, [], ◌∷◌}
+use Rattle.std.proofs.Common.{◌++◌}
 use Rattle.std.proofs.Common.{Option, Some, None, refl, arith, leb-true}
 use Rattle.std.specs.Prelude.{⊤, nat_le, if◌then◌else◌}
 use Rattle.std.proofs.lemmas.Bool.{lt-ltb, and_parts}
@@ -14,9 +15,9 @@ use Rattle.ec_asm.specs.Pieces.{copy_code}
 use Rattle.ec_asm.specs.Valid.{Sizes}
 use Rattle.ec_select_bytes.specs.Laws.{ValuesHave}
 use Rattle.ec_select_bytes.specs.Values.{extend_code}
-use Rattle.ec_select_functions.specs.Ports.{has_io_number, read_instruction}
-use Rattle.ec_select_functions.specs.Ports.{write_instruction, read_byte, write_byte, write_code, scale_code}
-use Rattle.ec_select_functions.specs.Ports.{point_code, in_code, out_code}
+use Rattle.ec_select_operations.specs.Ports.{has_io_number, read_instruction}
+use Rattle.ec_select_operations.specs.Ports.{write_instruction, read_byte, write_byte, write_code, scale_code}
+use Rattle.ec_select_operations.specs.Ports.{point_code, in_code, out_code}
 use Rattle.ec_select.proofs.Fitting.{fits, Fit, joined, chained, ByteFits, BytesFit, registers_fit, reg}
 use Rattle.ec_select.proofs.Pieces.{copy_fits, extend_fits}
 use Rattle.ec_select.proofs.Words.{joined_words, chained_words, copy_words_most}
@@ -83,7 +84,8 @@ scale_fits sizes width = by_one (width == 1)
     by_two true = refl
     by_two false = refl
 
-    by_one : (b : Bool) → Fit sizes (if b then [] else if width == 2 then Plain (Add 30 30) ∷ [] else Plain (Add 30 30) ∷ Plain (Add 30 30) ∷ [])
+    by_one : (b : Bool)
+        → Fit sizes (if b then [] else if width == 2 then Plain (Add 30 30) ∷ [] else Plain (Add 30 30) ∷ Plain (Add 30 30) ∷ [])
     by_one true = refl
     by_one false = by_two (width == 2)
 
@@ -94,7 +96,8 @@ scale_words width = by_one (width == 1)
     by_two true = omega arith
     by_two false = omega arith
 
-    by_one : (b : Bool) → code_words (if b then [] else if width == 2 then Plain (Add 30 30) ∷ [] else Plain (Add 30 30) ∷ Plain (Add 30 30) ∷ []) ≤ 2
+    by_one : (b : Bool)
+        → code_words (if b then [] else if width == 2 then Plain (Add 30 30) ∷ [] else Plain (Add 30 30) ∷ Plain (Add 30 30) ∷ []) ≤ 2
     by_one true = omega arith
     by_one false = by_two (width == 2)
 
@@ -102,9 +105,11 @@ point_fits : (sizes : Sizes) (index : Option Location) (port width : ℕ) → po
     → Fit sizes (point_code index port width)
 point_fits sizes None port width l h = refl
 point_fits sizes (Some at) port width l h =
-    joined (fits sizes) (copy_code at (InRegisters 30) 1) (scale_code width ++ Plain (Ldi 31 port) ∷ Plain (Add 30 31) ∷ Plain (Ldi 31 0) ∷ [])
+    joined (fits sizes) (copy_code at (InRegisters 30) 1)
+    (scale_code width ++ Plain (Ldi 31 port) ∷ Plain (Add 30 31) ∷ Plain (Ldi 31 0) ∷ [])
     (copy_fits sizes at (InRegisters 30) 1 h (registers_fit sizes 30 1 (omega arith)))
-    (joined (fits sizes) (scale_code width) (Plain (Ldi 31 port) ∷ Plain (Add 30 31) ∷ Plain (Ldi 31 0) ∷ []) (scale_fits sizes width) (rw (lt-ltb port 256 l) refl))
+    (joined (fits sizes) (scale_code width) (Plain (Ldi 31 port) ∷ Plain (Add 30 31) ∷ Plain (Ldi 31 0) ∷ []) (scale_fits sizes width)
+    (rw (lt-ltb port 256 l) refl))
 
 -- the words that an index takes
 abbrev pub point_words : Option Location → ℕ
@@ -136,7 +141,8 @@ write_code_fits : (sizes : Sizes) (index : Option Location) (port : ℕ) (q : Lo
 write_code_fits sizes index port q i zero l j h = refl
 write_code_fits sizes index port q i (suc n) l j h =
     joined (fits sizes) (write_code index port q (suc i) n) (write_byte index port q i)
-    (write_code_fits sizes index port q (suc i) n l (omega arith) (λ k m. h k (omega arith))) (write_byte_fits sizes index port q i l (omega arith) (h i (omega arith)))
+    (write_code_fits sizes index port q (suc i) n l (omega arith) (λ k m. h k (omega arith)))
+    (write_byte_fits sizes index port q i l (omega arith) (h i (omega arith)))
 
 read_byte_words : (index : Option Location) (port : ℕ) (q : Location) (i : ℕ) → code_words (read_byte index port q i) ≤ 4
 read_byte_words index port (InRegisters r) i = let a = read_words index port (r + i) i in omega (arith, a)
@@ -156,11 +162,13 @@ write_code_words index port q i (suc n) =
 
 -- ---- operations
 
-module _ (sizes : Sizes) (index : Option Location) (q : Location) (port width : ℕ) (l : port < 256) (cases : (width ≡ 1) ⊎ ((width ≡ 2) ⊎ (width ≡ 4))) (point : IndexFits sizes index) (bytes : BytesFit sizes q width) where
+module _ (sizes : Sizes) (index : Option Location) (q : Location) (port width : ℕ) (l : port < 256)
+    (cases : (width ≡ 1) ⊎ ((width ≡ 2) ⊎ (width ≡ 4))) (point : IndexFits sizes index) (bytes : BytesFit sizes q width) where
   pub in_fits : (n : ℕ) → BytesFit sizes q n → Fit sizes (in_code index q port width n)
   in_fits n h =
       let w = small_width width cases in
-      joined (fits sizes) (point_code index port width) (chain (read_byte index port q) width ++ extend_code false q width n) (point_fits sizes index port width l point)
+      joined (fits sizes) (point_code index port width) (chain (read_byte index port q) width ++ extend_code false q width n)
+      (point_fits sizes index port width l point)
       (joined (fits sizes) (chain (read_byte index port q) width) (extend_code false q width n)
       (chained (fits sizes) (read_byte index port q) width (λ i m. read_byte_fits sizes index port q i l (omega (arith, w.1)) (bytes i m)))
       (extend_fits sizes false q width n w.0 h))
@@ -179,7 +187,17 @@ in_words_most values index q port width n bytes cases most =
     let a = point_words_most index port width in
     let b = chained_words (read_byte index port q) width 4 (λ i. read_byte_words index port q i) in
     let c = (values q 0 width n).2 false in
-    omega (arith, joined_words (point_code index port width) (chain (read_byte index port q) width ++ extend_code false q width n), joined_words (chain (read_byte index port q) width) (extend_code false q width n), w.0, a, b, c, most)
+    omega (
+      arith,
+      joined_words (point_code index port width) (chain (read_byte index port q) width ++ extend_code false q width n),
+      joined_words
+          (chain (read_byte index port q) width) (extend_code false q width n),
+      w.0,
+      a,
+      b,
+      c,
+      most,
+    )
 
 pub out_words_most : (index : Option Location) (q : Location) (port width : ℕ)
     → code_words (out_code index q port width) ≤ point_words index + 5 * width

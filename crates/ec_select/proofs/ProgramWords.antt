@@ -17,10 +17,10 @@ use Rattle.ec_ir.specs.Costs.{code_words as operations_words}
 use Rattle.ec_ir.specs.Operations.{PlainIrFunction, PlainIrProgram, data_of}
 use Rattle.ec_ir.specs.Valid.{ValidIr}
 use Rattle.ec_near.specs.Laws.{NoMoreWords}
-use Rattle.ec_select_functions.specs.Code.{ops_code}
-use Rattle.ec_select_functions.specs.Homes.{home}
+use Rattle.ec_select_operations.specs.Code.{ops_code}
+use Rattle.ec_select_operations.specs.Homes.{home}
 use Rattle.ec_select_functions.specs.Laws.{linkage_of}
-use Rattle.ec_select_functions.specs.Needs.{Need}
+use Rattle.ec_select_operations.specs.Needs.{Need}
 use Rattle.ec_startup.specs.Laws.{StartupHasWords}
 use Rattle.ec_startup.specs.Startup.{startup_code}
 use Rattle.ec_startup.specs.declared.spans.Span.{Span}
@@ -86,7 +86,7 @@ module _ (laws : WordLaws) (startup : StartupHasWords) (p : PlainIrProgram) (val
       let room = has_room p valid f g e in
       let a = operations_most laws (data_of p) has.results f k room.width (tables f) None g.code (has.functions f g e)
       (all_at (λ h. AllByRecursion IsInPlace h.code) p.functions f g in_place e) in
-      omega (arith, joined_words (Label (function_label f) ∷ []) (ops_code p.objects (home k.homes) k (tables f) None g.code), a)
+      omega (arith, joined_words (Label (function_label f) ∷ []) (ops_code (data_of p) (home k.homes) k (tables f) None g.code), a)
 
   functions_few : (n : ℕ) → code_words (functions_code p tables n) ≤ functions_words (take n p.functions)
   functions_few zero = omega arith

@@ -25,7 +25,7 @@ use Rattle.ec_core.specs.declared.values.Value.TheVariants.{Number, Pointer}
 use Rattle.ec_core.specs.Accesses.{leaf_of, leaf_count}
 use Rattle.ec_core.specs.Layout.{size_of_type}
 use Rattle.ec_core.specs.Meaning.{initial_object}
-use Rattle.ec_core.specs.Plain.{PlainStorage, static, local, param, register, PlainObject, PlainStruct}
+use Rattle.ec_core.specs.Plain.{PlainStorage, static, local, param, register, PlainObject, PlainProgram, PlainStruct}
 use Rattle.ec_core.specs.State.{Inputs, ObjectState}
 use Rattle.ec_core.specs.Valid.{IsObject}
 use Rattle.ec_ir.specs.Meaning.{start_state, standing}
@@ -35,9 +35,9 @@ use Rattle.ec_near.specs.Laws.{NearCodeStands, UsedLabelsHaveWords}
 use Rattle.ec_near.specs.Near.{near_items}
 use Rattle.ec_reset.specs.Laws.{HasInitials, CanStart, ProgramsShowTheirOperations}
 use Rattle.ec_select_functions.specs.Laws.{Made, IsSelected, AreSelected}
-use Rattle.ec_select_functions.specs.Places.{NumberLeaf}
+use Rattle.ec_select_operations.specs.Places.{ObjectLeaf}
 use Rattle.ec_select_functions.specs.Relation.{HoldsLeaf}
-use Rattle.ec_select_functions.specs.Standing.{ObjectStands, ObjectsStand}
+use Rattle.ec_select_functions.specs.Standing.{StandsInMemory, ObjectStands, ObjectsStand}
 use Rattle.ec_startup.specs.declared.spans.Span.{Span}
 use Rattle.ec_startup.specs.Laws.{CanBeSet, IsBeside, IsSet}
 use Rattle.ec_startup.specs.Startup.{startup_code}
@@ -68,10 +68,11 @@ values_same f g a b zero h = refl
 values_same f g a b (suc n) h =
     let r = values_same f g a b n (λ i l. h i (omega arith)) in let q = h n (omega arith) in rw (r, q) refl
 
-leaf_same : (f g : ℕ → ℕ) (a b n : ℕ) (u : Value) → ((i : ℕ) → i < n → f (a + i) ≡ g (b + i)) → HoldsLeaf g b n u
-    → HoldsLeaf f a n u
-leaf_same f g a b n (Number i) h k = values_same f g a b n h ∙ k
-leaf_same f g a b n (Pointer q) h k = k
+leaf_same : (p : PlainProgram) (place f g : ℕ → ℕ) (a b n : ℕ) (u : Value) → ((i : ℕ) → i < n → f (a + i) ≡ g (b + i))
+    → HoldsLeaf p place g b n u → HoldsLeaf p place f a n u
+leaf_same p place f g a b n (Number i) h k = values_same f g a b n h ∙ k
+leaf_same p place f g a b n (Pointer None) h k = values_same f g a b n h ∙ k
+leaf_same p place f g a b n (Pointer (Some q)) h k = (values_same f g a b n h ∙ k.0, k.1)
 
 none_set : (n k : ℕ) → option_and_then (λ (v : Option Value). v) (slice_get (replicate n None) k) ≡ None
 none_set zero k = refl
@@ -100,12 +101,8 @@ static_home (local f) home h = absurd (false≢true h)
 static_home (param f) home h = absurd (false≢true h)
 static_home (register r) home h = absurd (false≢true h)
 
-abbrev StandsOut : Env → (object n at : ℕ) → Type 0
-StandsOut e o n at =
-    (256 ≤ at) × ((i : ℕ) → i < n → (e.address_of o i ≡ at + i) × (e.kind (at + i) ≡ Object))
-
 static_stands : (e : Env) (o n at : ℕ) (s : PlainStorage) (home : Bank) → has_initial_bytes s home ≡ true
-    → ObjectStands e o n at s → StandsOut e o n at
+    → ObjectStands e o n at s → StandsInMemory e o n at
 static_stands e o n at (static inits) home h k = k
 static_stands e o n at (local f) home h k = absurd (false≢true h)
 static_stands e o n at (param f) home h k = absurd (false≢true h)
@@ -200,6 +197,7 @@ module _ (laws : RunLaws) (p : PlainIrProgram) (asm : AsmProgram) (e : Env) (pla
     main_result = has.main_result;
     each = is_selected;
     apart = laid.memory.apart;
+    tables = laid.tables;
     work = laid.work.work;
     work_stands = laid.work.stands;
     work_apart = laid.work.apart;
@@ -216,7 +214,7 @@ module _ (laws : RunLaws) (p : PlainIrProgram) (asm : AsmProgram) (e : Env) (pla
   objects = let g = there p.functions p.main valid.main in (g.0, laid.memory.objects p.main g.0 g.1)
 
   stands_out : (o : ℕ) (d : PlainObject) → slice_get p.objects o ≡ Some d → IsInitial d
-      → StandsOut e o (size_of_type p.structs d.ty) (place o)
+      → StandsInMemory e o (size_of_type p.structs d.ty) (place o)
   stands_out o d q i =
       static_stands e o (size_of_type p.structs d.ty) (place o) d.storage d.home i
       (objects.1.each o d q (static_home d.storage d.home i))
@@ -226,7 +224,7 @@ module _ (laws : RunLaws) (p : PlainIrProgram) (asm : AsmProgram) (e : Env) (pla
 
   target_is : (o : ℕ) (d : PlainObject) → slice_get p.objects o ≡ Some d → IsInitial d → e.address_of o 0 ≡ place o
   target_is o d q i =
-      let s = some_bytes o d q in let k = (stands_out o d q i).1 0 (omega arith) in let z = k.0 in omega arith
+      let s = some_bytes o d q in let z = (stands_out o d q i).at 0 (omega arith) in omega arith
 
   can_be_set : (o : ℕ) (d : PlainObject) → slice_get p.objects o ≡ Some d → IsInitial d
       → CanBeSet e (the_span p.structs o d)
@@ -235,8 +233,8 @@ module _ (laws : RunLaws) (p : PlainIrProgram) (asm : AsmProgram) (e : Env) (pla
       let n = size_of_type p.structs d.ty in
       let out = stands_out o d q i in
       let t = target_is o d q i in
-      let high = out.0 in
-      let last = (out.1 (n - 1) (omega arith)).1 in
+      let high = out.high in
+      let last = out.kind (n - 1) (omega arith) in
       let may : may_be Object size (place o + (n - 1)) ≡ true =
       subst (λ (k : Kind). may_be k size (place o + (n - 1)) ≡ true) last (fits.kinds (place o + (n - 1))) in
       let below : place o + (n - 1) < size =
@@ -246,7 +244,7 @@ module _ (laws : RunLaws) (p : PlainIrProgram) (asm : AsmProgram) (e : Env) (pla
         target_room = omega arith;
         above = omega arith;
         table = laid.initials.table o d q i;
-        kind = λ k l. rw t (rw ((out.1 k l).1) refl);
+        kind = λ k l. rw t (rw (out.kind k l) refl);
       }
 
   are_beside : (o k : ℕ) (d x : PlainObject) → o < k → slice_get p.objects o ≡ Some d → slice_get p.objects k ≡ Some x
@@ -254,11 +252,13 @@ module _ (laws : RunLaws) (p : PlainIrProgram) (asm : AsmProgram) (e : Env) (pla
   are_beside o k d x l q r i m =
       let t = target_is o d q i in
       let u = target_is k x r m in
-      let apart = objects.1.apart o k d x q (static_home d.storage d.home i) r (static_home x.storage x.home m) (λ s. absurd (omega arith)) in
+      let apart =
+      objects.1.apart o k d x q (static_home d.storage d.home i) r (static_home x.storage x.home m) (λ s. absurd (omega arith)) in
       let left = apart.left in
       let right = apart.right in
       λ j below above.
-      apart_at (place o) (place k) (size_of_type p.structs d.ty) (size_of_type p.structs x.ty) (e.address_of o 0) (e.address_of k 0) j t u left right below above
+      apart_at (place o) (place k) (size_of_type p.structs d.ty) (size_of_type p.structs x.ty) (e.address_of o 0)
+      (e.address_of k 0) j t u left right below above
 
   shifted : (o : ℕ) (d : PlainObject) → slice_get p.objects o ≡ Some d → slice_get p.objects (0 + o) ≡ Some d
   shifted o d q = let z : o ≡ 0 + o = omega arith in subst (λ (n : ℕ). slice_get p.objects n ≡ Some d) z q
@@ -273,7 +273,7 @@ module _ (laws : RunLaws) (p : PlainIrProgram) (asm : AsmProgram) (e : Env) (pla
 
   -- ---- initial values
 
-  is_initial : (l : NumberLeaf (data_of p)) (x : ObjectState) (u : Value)
+  is_initial : (l : ObjectLeaf (data_of p) DataBank) (x : ObjectState) (u : Value)
       → slice_get (start_state (data_of p)).objects l.object ≡ Some x → leaf_of x l.number ≡ Some u
       → IsInitial l.declared
   is_initial l x u q r =
@@ -283,7 +283,7 @@ module _ (laws : RunLaws) (p : PlainIrProgram) (asm : AsmProgram) (e : Env) (pla
       let is : standing (initial_object (leaf_count (data_of p) l.declared.ty) l.declared.storage) ≡ x = cc in
       let set : leaf_of (standing (initial_object (leaf_count (data_of p) l.declared.ty) l.declared.storage)) l.number ≡ Some u =
       subst (λ (y : ObjectState). leaf_of y l.number ≡ Some u) (sym is) r in
-      by_storage l.declared.storage l.declared.home l.in_data set where
+      by_storage l.declared.storage l.declared.home l.home set where
         by_storage : (s : PlainStorage) (home : Bank) → home ≡ DataBank
             → leaf_of (standing (initial_object (leaf_count (data_of p) l.declared.ty) s)) l.number ≡ Some u
             → has_initial_bytes s home ≡ true
@@ -295,7 +295,7 @@ module _ (laws : RunLaws) (p : PlainIrProgram) (asm : AsmProgram) (e : Env) (pla
         by_storage (register f) home d set =
             let none = none_set (leaf_count (data_of p) l.declared.ty) l.number in absurd (cc)
 
-  inside : (l : NumberLeaf (data_of p)) → l.at + l.bytes ≤ size_of_type p.structs l.declared.ty
+  inside : (l : ObjectLeaf (data_of p) DataBank) → l.at + l.bytes ≤ size_of_type p.structs l.declared.ty
   inside l =
       let d = all_at (IsObject (data_of p)) p.objects l.object l.declared valid.objects l.is_object in
       let all = laws.code.leaves.types p.structs l.declared.ty valid.structs d.ty in
@@ -310,7 +310,7 @@ module _ (laws : RunLaws) (p : PlainIrProgram) (asm : AsmProgram) (e : Env) (pla
       (span_holds p.structs (IsSet e v) 0 p.objects l.object l.declared sets l.is_object i) in
       let t = target_is l.object l.declared l.is_object i in
       let within = inside l in
-      leaf_same v.at (slice_index e.flash) (place l.object + l.at) (initial_at e l.object + l.at) l.bytes u
+      leaf_same (data_of p) place v.at (slice_index e.flash) (place l.object + l.at) (initial_at e l.object + l.at) l.bytes u
       (λ k b.
       let here = set (l.at + k) (omega arith) in
       let a : place l.object + l.at + k ≡ e.address_of l.object 0 + (l.at + k) = omega arith in

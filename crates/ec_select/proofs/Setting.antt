@@ -14,14 +14,14 @@ use Rattle.ec_core.specs.TypeLaws.{LeavesFillTheirTypes}
 use Rattle.ec_core.specs.Valid.{EachFrom, IsObject, IsStored}
 use Rattle.ec_ir.specs.Operations.{PlainIrFunction, PlainIrProgram, data_of}
 use Rattle.ec_ir.specs.Valid.{ValidIr, ValidIrFunction}
-use Rattle.ec_select_functions.specs.Covered.{HasNumberAt}
-use Rattle.ec_select_functions.specs.Places.{location_in, object_location}
+use Rattle.ec_select_functions.specs.Covered.{HasScalarAt}
+use Rattle.ec_select_operations.specs.Places.{location_in, object_location}
 use Rattle.ec_startup.specs.Laws.{IsValidSpan}
 use Rattle.ec_select.specs.Labels.{widest_temps, homes_of}
 use Rattle.ec_select.specs.Laws.{object_sizes}
 use Rattle.ec_select.specs.Program.{has_initial_bytes, span_of, spans_from, spans_of}
 use Rattle.ec_select.proofs.Fitting.{BytesFit}
-use Rattle.ec_select.proofs.OneOperation.{HasRoom}
+use Rattle.ec_select.proofs.OneOperation.{HasRoom, ObjectsFit}
 
 -- ---- lists
 
@@ -131,18 +131,31 @@ module _ (p : PlainIrProgram) (valid : ValidIr p) where
       object_offset own_sizes o (offset + i) (size_of_type p.structs d.ty) (object_few o d e) (object_size o d e) (omega arith)
   by_storage o offset bytes d (register first) e k inside i l = let h = k.high in omega arith
 
-  pub leaf_inside : LeavesFillTheirTypes → (o offset bytes : ℕ) → (h : HasNumberAt (data_of p) o offset bytes)
+  pub leaf_inside : LeavesFillTheirTypes → (o offset bytes : ℕ) → (h : HasScalarAt (data_of p) o offset bytes)
       → offset + bytes ≤ size_of_type p.structs h.declared.ty
   leaf_inside leaves o offset bytes h =
       let d = all_at (IsObject (data_of p)) p.objects o h.declared valid.objects h.is_object in
       let all = leaves.types p.structs h.declared.ty valid.structs d.ty in
       subst (λ (n : ℕ). offset + n ≤ size_of_type p.structs h.declared.ty) h.size (all.each h.number _ h.is_leaf).inside
 
-  pub object_stands : LeavesFillTheirTypes → (o offset bytes : ℕ) → HasNumberAt (data_of p) o offset bytes
+  inside_object : (o offset : ℕ) (d : PlainObject) → slice_get p.objects o ≡ Some d → offset ≤ size_of_type p.structs d.ty
+      → is_offset own_sizes o offset ≡ true
+  inside_object o offset d e l =
+      object_offset own_sizes o offset (size_of_type p.structs d.ty) (object_few o d e) (object_size o d e) l
+
+  scalar_stands : LeavesFillTheirTypes → (o offset bytes : ℕ) → HasScalarAt (data_of p) o offset bytes
       → BytesFit own_sizes (object_location p.objects o offset) bytes
-  object_stands leaves o offset bytes h =
+  scalar_stands leaves o offset bytes h =
       let d = all_at (IsObject (data_of p)) p.objects o h.declared valid.objects h.is_object in
       rw h.is_object (by_storage o offset bytes h.declared h.declared.storage h.is_object d.storage (leaf_inside leaves o offset bytes h))
+
+  pub objects_fit : LeavesFillTheirTypes → ObjectsFit own_sizes (data_of p)
+  objects_fit leaves = record {
+    offsets = inside_object;
+    begins = λ o offset bytes h.
+        let l = leaf_inside leaves o offset bytes h in inside_object o offset h.declared h.is_object (omega (arith, l));
+    scalars = scalar_stands leaves;
+  }
 
   -- ---- spans
 
@@ -161,7 +174,9 @@ module _ (p : PlainIrProgram) (valid : ValidIr p) where
 
     by_kind : (kept : Bool) → All (IsValidSpan own_sizes) (if kept
         then record { from = 2048 + o; to = o; bytes = size_of_type p.structs d.ty } ∷ [] else [])
-    by_kind true = All-cons (IsValidSpan own_sizes) (record { from = 2048 + o; to = o; bytes = size_of_type p.structs d.ty }) [] is_valid (All-nil (IsValidSpan own_sizes))
+    by_kind true =
+        All-cons (IsValidSpan own_sizes) (record { from = 2048 + o; to = o; bytes = size_of_type p.structs d.ty }) [] is_valid
+        (All-nil (IsValidSpan own_sizes))
     by_kind false = All-nil (IsValidSpan own_sizes)
 
   spans_valid_from : (o : ℕ) (ds : List PlainObject)

@@ -46,12 +46,14 @@ module _ (structs : List PlainStruct) (P : Span → Type 0) where
   each_from o [] h = All-nil P
   each_from o (d ∷ ds) h =
       by_kind (has_initial_bytes d.storage d.home) refl
-      (each_from (o + 1) ds (λ j x e i. let q : o + suc j ≡ o + 1 + j = omega arith in subst (λ (n : ℕ). P (the_span structs n x)) q (h (suc j) x e i))) where
+      (each_from (o + 1) ds
+      (λ j x e i. let q : o + suc j ≡ o + 1 + j = omega arith in subst (λ (n : ℕ). P (the_span structs n x)) q (h (suc j) x e i))) where
         by_kind : (kept : Bool) → has_initial_bytes d.storage d.home ≡ kept → All P (spans_from structs (o + 1) ds)
             → All P ((if kept then the_span structs o d ∷ [] else []) ++ spans_from structs (o + 1) ds)
         by_kind true q rest =
             let z : o + 0 ≡ o = omega arith in
-            All-cons P (the_span structs o d) (spans_from structs (o + 1) ds) (subst (λ (n : ℕ). P (the_span structs n d)) z (h 0 d refl q)) rest
+            All-cons P (the_span structs o d) (spans_from structs (o + 1) ds)
+            (subst (λ (n : ℕ). P (the_span structs n d)) z (h 0 d refl q)) rest
         by_kind false q rest = rest
 
   pub span_holds : (o : ℕ) (ds : List PlainObject) (j : ℕ) (d : PlainObject) → All P (spans_from structs o ds)

@@ -16,8 +16,8 @@ use Rattle.ec_ir.specs.Operations.{call_function, return_from, port_in, port_out
 use Rattle.ec_ir.specs.Operations.{data_of}
 use Rattle.ec_ir.specs.Valid.{ValidIr, ValidOperation, count}
 use Rattle.ec_near.specs.Laws.{ProgramsStayValid}
-use Rattle.ec_select_functions.specs.Code.{Linkage}
-use Rattle.ec_select_functions.specs.Needs.{Need}
+use Rattle.ec_select_operations.specs.Code.{Linkage}
+use Rattle.ec_select_operations.specs.Needs.{Need}
 use Rattle.ec_startup.specs.Laws.{StartupIsValid, StartupUsesMain, StartupPlacesNoLabel}
 use Rattle.ec_startup.specs.Startup.{startup_code}
 use Rattle.ec_select.specs.Labels.{entry_label, function_label, first_label}
@@ -25,16 +25,15 @@ use Rattle.ec_select.specs.Laws.{object_sizes, SelectionsAreValid}
 use Rattle.ec_select.specs.Program.{spans_of, code_of, functions_code, program_code}
 use Rattle.ec_select.specs.Selected.{HasCode, IsSelection}
 use Rattle.ec_select.proofs.Fitting.{fits, joined, chained, valid_item, placed_item}
-use Rattle.ec_select.proofs.FixedItems.{FixedItemLaws}
-use Rattle.ec_select.proofs.OneOperation.{AcceptsLabels, AllAccepted, operations_pass}
-use Rattle.ec_select.proofs.Setting.{function_valid, own_sizes, has_room, object_stands, spans_valid}
+use Rattle.ec_select.proofs.OneOperation.{ItemLaws, AcceptsLabels, AllAccepted, operations_pass}
+use Rattle.ec_select.proofs.Setting.{function_valid, own_sizes, has_room, objects_fit, spans_valid}
 use Rattle.ec_select.proofs.Counted.{joined_count, first_label_above, link, entry_is_apart, function_stands}
 use Rattle.ec_select.proofs.Counted.{label_stands}
 
 -- what code needs of the crates below
 pub record CodeLaws : Type 0 where
   pub leaves : LeavesFillTheirTypes
-  pub plain : FixedItemLaws
+  pub pieces : ItemLaws
   pub items : StartupIsValid
   pub used : StartupUsesMain
   pub placed : StartupPlacesNoLabel
@@ -50,16 +49,20 @@ module _ (laws : CodeLaws) (p : PlainIrProgram) (valid : ValidIr p) (has : HasCo
   -- what the items of all functions pass
   by_functions : (q : AsmItem → Bool) → ((i : AsmItem) → fits (own_sizes p valid) i ≡ true → q i ≡ true)
       → ((l : ℕ) → q (Label l) ≡ true)
-      → ((f : ℕ) (g : PlainIrFunction) → slice_get p.functions f ≡ Some g → AllAccepted q (link p valid has laws.leaves laws.plain tables f g) g.code)
+      →
+      ((f : ℕ) (g : PlainIrFunction) → slice_get p.functions f ≡ Some g
+      → AllAccepted q (link p valid has laws.leaves laws.pieces tables f g) g.code)
       → list_all q (functions_code p tables (length p.functions)) ≡ true
   by_functions q passes labels accepts =
-      chained q (λ f. code_of p (tables f) f (slice_get p.functions f)) (length p.functions) (λ f l. by_function f (slice_get p.functions f) refl) where
+      chained q (λ f. code_of p (tables f) f (slice_get p.functions f)) (length p.functions)
+      (λ f l. by_function f (slice_get p.functions f) refl) where
         by_function : (f : ℕ) (o : Option PlainIrFunction) → slice_get p.functions f ≡ o
             → list_all q (code_of p (tables f) f o) ≡ true
         by_function f None e = refl
         by_function f (Some g) e =
-            let k = link p valid has laws.leaves laws.plain tables f g in
-            let rest = operations_pass (own_sizes p valid) (data_of p) k (has_room p valid f g e) (object_stands p valid laws.leaves) laws.plain
+            let k = link p valid has laws.leaves laws.pieces tables f g in
+            let rest =
+            operations_pass (own_sizes p valid) (data_of p) k (has_room p valid f g e) (objects_fit p valid laws.leaves) laws.pieces
             q passes has.results f (tables f) None g.code (has.functions f g e) (accepts f g e) in
             rw (labels (function_label f), rest) refl
 
@@ -98,7 +101,8 @@ module _ (laws : CodeLaws) (p : PlainIrProgram) (valid : ValidIr p) (has : HasCo
   items_are_right =
       joined is_right start (functions_code p tables (length p.functions))
       (laws.items (own_sizes p valid) (spans_of p) (function_label p.main) (spans_valid p valid))
-      (by_functions is_right (valid_item (own_sizes p valid)) (λ l. refl) (λ f g e. all_right (link p valid has laws.leaves laws.plain tables f g) g.code))
+      (by_functions is_right (valid_item (own_sizes p valid)) (λ l. refl)
+      (λ f g e. all_right (link p valid has laws.leaves laws.pieces tables f g) g.code))
 
   -- ---- labels
 
@@ -111,7 +115,7 @@ module _ (laws : CodeLaws) (p : PlainIrProgram) (valid : ValidIr p) (has : HasCo
       omega (arith, none, parts, first)
 
   entry_once : stands_once code entry_label ≡ true
-  entry_once = rw (counted 0, entry_is_apart p valid has laws.leaves laws.plain tables) refl
+  entry_once = rw (counted 0, entry_is_apart p valid has laws.leaves laws.pieces tables) refl
 
   once : (l : ℕ) → 0 < l → count_by (is_label l) (functions_code p tables (length p.functions)) ≡ 1
       → stands_once code l ≡ true
@@ -126,20 +130,20 @@ module _ (laws : CodeLaws) (p : PlainIrProgram) (valid : ValidIr p) (has : HasCo
   function_once : (c : ℕ) → c < length p.functions → stands_once code (function_label c) ≡ true
   function_once c l =
       let g = there p.functions c l in
-      once (function_label c) (omega arith) (function_stands p valid has laws.leaves laws.plain tables c g.0 g.1)
+      once (function_label c) (omega arith) (function_stands p valid has laws.leaves laws.pieces tables c g.0 g.1)
 
   label_once : (f m : ℕ) (g : PlainIrFunction) → slice_get p.functions f ≡ Some g → count m g.code ≡ 1
       → stands_once code (first_label p.functions f + m) ≡ true
   label_once f m g e one =
       let above = first_label_above p.functions f in
-      once (first_label p.functions f + m) (omega arith) (label_stands p valid has laws.leaves laws.plain tables f m g e one)
+      once (first_label p.functions f + m) (omega arith) (label_stands p valid has laws.leaves laws.pieces tables f m g e one)
 
   is_put : AsmItem → Bool
   is_put i = is_placed code (used_label i)
 
   put_labels : (f : ℕ) (g : PlainIrFunction) → slice_get p.functions f ≡ Some g → (i : PlainIr)
       → ValidOperation p valid.results f g.slots g.code i
-      → AcceptsLabels is_put (link p valid has laws.leaves laws.plain tables f g) i
+      → AcceptsLabels is_put (link p valid has laws.leaves laws.pieces tables f g) i
   unfolding is_put
   put_labels f g e (label l) h = refl
   put_labels f g e (jump l) h = label_once f l g e h
@@ -162,7 +166,7 @@ module _ (laws : CodeLaws) (p : PlainIrProgram) (valid : ValidIr p) (has : HasCo
 
   all_put : (f : ℕ) (g : PlainIrFunction) → slice_get p.functions f ≡ Some g → (is : List PlainIr)
       → AllByRecursion (ValidOperation p valid.results f g.slots g.code) is
-      → AllAccepted is_put (link p valid has laws.leaves laws.plain tables f g) is
+      → AllAccepted is_put (link p valid has laws.leaves laws.pieces tables f g) is
   all_put f g e [] h = tt
   all_put f g e (i ∷ is) h = (put_labels f g e i h.0, all_put f g e is h.1)
 

@@ -4,8 +4,8 @@ use Rattle.std.specs.Prelude.{◌≡◌, true, ◌||◌, ⊤}
 use Rattle.std.specs.List.{AllByRecursion}
 use Rattle.ec_ir.specs.Costs.{is_bitwise}
 use Rattle.ec_ir.specs.Operations.{PlainIr, binary_op, PlainIrProgram}
-use Rattle.ec_select_functions.specs.Emitted.{OfKind}
-use Rattle.ec_select_functions.specs.Needs.{is_fixed}
+use Rattle.ec_select_operations.specs.Emitted.{OfKind}
+use Rattle.ec_select_operations.specs.Needs.{is_fixed}
 
 abbrev pub IsInPlace : PlainIr → Type 0
 IsInPlace (binary_op op ty mode to a aty b bty) =

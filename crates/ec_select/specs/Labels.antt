@@ -6,7 +6,7 @@ use Rattle.ec_ir.specs.Costs.{temp_bytes}
 use Rattle.ec_ir.specs.Operations.{PlainIr, constant, copy, address, field, load_at, store_at, load_object}
 use Rattle.ec_ir.specs.Operations.{store_object, binary_op, unary_op, conversion, label, jump, branch_zero}
 use Rattle.ec_ir.specs.Operations.{call_function, return_from, port_in, port_out, PlainIrFunction}
-use Rattle.ec_select_functions.specs.declared.homes.Homes.{Homes}
+use Rattle.ec_select_operations.specs.declared.homes.Homes.{Homes}
 
 -- ---- homes
 

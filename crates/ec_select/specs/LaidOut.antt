@@ -1,6 +1,7 @@
 -- Where the code of a program, its objects and its stack stand.
 use Rattle.std.specs.Prelude.{◌≡◌, ℕ, ◌+◌, ◌*◌, ◌<◌, ◌≤◌, true, if◌then◌else◌, List, Some, slice_get, slice_index}
 use Rattle.std.specs.Prelude.{length, sum_by, IsTrue}
+use Rattle.ec_space.specs.declared.space.Bank.TheVariants.{Data as DataBank}
 use Rattle.ec_asm.specs.declared.items.AsmProgram.{AsmProgram}
 use Rattle.ec_asm.specs.Change.{Env, Stacked}
 use Rattle.ec_asm.specs.Items.{HasAt, code_words}
@@ -15,9 +16,9 @@ use Rattle.ec_ir.specs.Meaning.{start_state}
 use Rattle.ec_ir.specs.Operations.{PlainIrFunction, PlainIrProgram, data_of}
 use Rattle.ec_ir.specs.Valid.{CallsTo}
 use Rattle.ec_select_functions.specs.Laws.{CallsOn}
-use Rattle.ec_select_functions.specs.Places.{NumberLeaf, Apart}
+use Rattle.ec_select_operations.specs.Places.{ObjectLeaf, Apart}
 use Rattle.ec_select_functions.specs.Relation.{HoldsLeaf}
-use Rattle.ec_select_functions.specs.Standing.{ScratchStands, ObjectsStand, WorkStands}
+use Rattle.ec_select_functions.specs.Standing.{ScratchStands, ObjectsStand, TablesStand, WorkStands}
 use Rattle.ec_startup.specs.Laws.{HasStack}
 use Rattle.ec_select.specs.Labels.{homes_of}
 use Rattle.ec_select.specs.Program.{has_initial_bytes}
@@ -43,14 +44,14 @@ abbrev pub initial_at : Env → ℕ → ℕ
 initial_at e o = e.address_of (2048 + o) 0
 
 -- the initial bytes of each static object of the data bank stand in flash, with the initial value of each leaf
-pub record InitialsStand (p : PlainIrProgram) (e : Env) : Type 0 where
+pub record InitialsStand (p : PlainIrProgram) (e : Env) (place : ℕ → ℕ) : Type 0 where
   pub room : (o : ℕ) (d : PlainObject) → slice_get p.objects o ≡ Some d → has_initial_bytes d.storage d.home ≡ true
       → initial_at e o + size_of_type p.structs d.ty < 65536
   pub table : (o : ℕ) (d : PlainObject) → slice_get p.objects o ≡ Some d → has_initial_bytes d.storage d.home ≡ true
       → (k : ℕ) → k < size_of_type p.structs d.ty → is_held (e.table (initial_at e o + k)) ≡ true
-  pub values : (l : NumberLeaf (data_of p)) (x : ObjectState) (u : Value)
+  pub values : (l : ObjectLeaf (data_of p) DataBank) (x : ObjectState) (u : Value)
       → slice_get (start_state (data_of p)).objects l.object ≡ Some x → leaf_of x l.number ≡ Some u
-      → HoldsLeaf (slice_index e.flash) (initial_at e l.object + l.at) l.bytes u
+      → HoldsLeaf (data_of p) place (slice_index e.flash) (initial_at e l.object + l.at) l.bytes u
 
 -- the stack, from an address up to its last byte: two bytes for each function that is called on any way from main, two
 -- for main, and one more
@@ -71,7 +72,8 @@ pub record IsLaidOut (p : PlainIrProgram) (asm : AsmProgram) (e : Env) (place sc
   pub code : CodeStands asm e
   pub memory : ScratchIsLaidOut p e place scratch
   pub work : WorkIsLaidOut p e place scratch
-  pub initials : InitialsStand p e
+  pub initials : InitialsStand p e place
+  pub tables : TablesStand (data_of p) e place
   pub stack : StackStands p e low
 
 -- ---- the steps before main

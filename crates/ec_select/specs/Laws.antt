@@ -16,7 +16,7 @@ use Rattle.ec_ir.specs.Operations.{PlainIrProgram}
 use Rattle.ec_ir.specs.Valid.{ValidIr}
 use Rattle.ec_reset.specs.Laws.{ShowsProgram}
 use Rattle.ec_select.specs.InPlace.{AreInPlace}
-use Rattle.ec_select.specs.Integers.{AreCompiledOperations, AreSuited}
+use Rattle.ec_select.specs.Suited.{AreOnPorts, AreSuited}
 use Rattle.ec_select.specs.LaidOut.{IsLaidOut, start_steps}
 use Rattle.ec_select.specs.Program.{spans_of}
 use Rattle.ec_select.specs.Selected.{HasCode, IsSelection}
@@ -36,10 +36,9 @@ SelectionsHaveWords =
     (p : PlainIrProgram) (asm : AsmProgram) → ValidIr p → HasCode p → AreInPlace p → IsSelection p asm
     → code_words asm.items.items ≤ program_words + objects_weight p.objects + functions_words p.functions
 
--- valid operations on integers, on fixed-point numbers and on ports have code
-abbrev pub IntegersHaveCode : Type 0
-IntegersHaveCode =
-    (p : PlainIrProgram) → ValidIr p → AreCompiledOperations p → AreSuited p → HasCode p × AreInPlace p
+-- valid operations have code, where their temporaries suit it and their ports have addresses
+abbrev pub OperationsHaveCode : Type 0
+OperationsHaveCode = (p : PlainIrProgram) → ValidIr p → AreOnPorts p → AreSuited p → HasCode p × AreInPlace p
 
 -- ---- what the code does
 

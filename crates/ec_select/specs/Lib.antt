@@ -1,6 +1,6 @@
 pub mod Labels
 pub mod InPlace
-pub mod Integers
+pub mod Suited
 pub mod Program
 pub mod Selected
 pub mod LaidOut

@@ -8,10 +8,10 @@ use Rattle.ec_asm.specs.declared.items.AsmItem.TheVariants.{Label}
 use Rattle.ec_asm.specs.Items.{chain}
 use Rattle.ec_core.specs.Layout.{size_of_type}
 use Rattle.ec_core.specs.Plain.{PlainStorage, static, PlainObject, PlainStruct}
-use Rattle.ec_ir.specs.Operations.{PlainIrFunction, PlainIrProgram}
-use Rattle.ec_select_functions.specs.Code.{function_code}
+use Rattle.ec_ir.specs.Operations.{PlainIrFunction, PlainIrProgram, data_of}
+use Rattle.ec_select_operations.specs.Code.{function_code}
 use Rattle.ec_select_functions.specs.Laws.{Made, linkage_of}
-use Rattle.ec_select_functions.specs.Needs.{Need}
+use Rattle.ec_select_operations.specs.Needs.{Need}
 use Rattle.ec_startup.specs.Startup.{startup_code}
 use Rattle.ec_startup.specs.declared.spans.Span.{Span}
 use Rattle.ec_select.specs.Labels.{homes_of, entry_label, function_label, first_label}
@@ -50,7 +50,7 @@ made_with p labels f g = record {
 abbrev pub code_of : PlainIrProgram → (ℕ → Need) → ℕ → Option PlainIrFunction → List AsmItem
 code_of p labels f None = []
 code_of p labels f (Some g) =
-    function_code p.objects (linkage_of p function_label f g.slots (made_with p labels f g)) f labels g.code
+    function_code (data_of p) (linkage_of p function_label f g.slots (made_with p labels f g)) f labels g.code
 
 -- the code of the first n functions, for each of which a table tells what is needed at its labels
 abbrev pub functions_code : PlainIrProgram → (ℕ → ℕ → Need) → ℕ → List AsmItem

@@ -6,7 +6,7 @@ use Rattle.ec_ir.specs.Operations.{PlainIrFunction, PlainIrProgram, data_of}
 use Rattle.ec_live.specs.Least.{IsLeast}
 use Rattle.ec_near.specs.Near.{near_items}
 use Rattle.ec_select_functions.specs.Covered.{AreCovered}
-use Rattle.ec_select_functions.specs.Needs.{Need, IsLive}
+use Rattle.ec_select_operations.specs.Needs.{Need, IsLive}
 use Rattle.ec_select.specs.Labels.{entry_label}
 use Rattle.ec_select.specs.Program.{code_of, functions_code, program_code}
 

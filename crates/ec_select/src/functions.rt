@@ -10,7 +10,7 @@ use ec_asm::AsmItem;
 use ec_core::leaves_fill_their_types;
 use ec_ir::{IrFunc, IrProgram};
 use ec_live::{kept, live, valid_operations_have_places, wanted};
-use ec_select_functions::{Linking, function, needed_functions_are_written};
+use ec_select_operations::{Linking, function, needed_functions_are_written};
 use ec_space::{NoMemory, Seq};
 use std::alloc::Global;
 
@@ -58,15 +58,7 @@ fn add_function(
     let table = live(alloc, &g.code, g.slots)?;
     let bytes = wanted(alloc, &table, &g.code, g.slots)?;
     let rows = kept(alloc, &table, &g.code, g.slots)?;
-    function(
-        out,
-        ir.objs.as_slice(),
-        of,
-        f,
-        g.code.as_slice(),
-        &bytes,
-        &rows,
-    )?;
+    function(out, ir, of, f, g.code.as_slice(), &bytes, &rows)?;
     Ok(())
 }
 

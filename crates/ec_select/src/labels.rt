@@ -5,7 +5,7 @@ ghost use Rattle.ec_ir.specs.Operations.{plain_ir};
 ghost use Rattle.ec_select.specs.Labels.{widest_temp, widest_temps, homes_of, label_bound, label_count};
 
 use ec_ir::{Ir, Temp};
-use ec_select_functions::Homes;
+use ec_select_operations::Homes;
 use ec_space::NoMemory;
 
 fn temp_bytes(t: Option<Temp>) -> u8

@@ -1,5 +1,5 @@
 //! The laws of the code of programs: each function proves one, and does nothing.
-ghost use Rattle.ec_select.specs.Laws.{IntegersHaveCode, SelectionsAreValid, SelectionsHaveWords};
+ghost use Rattle.ec_select.specs.Laws.{OperationsHaveCode, SelectionsAreValid, SelectionsHaveWords};
 ghost use Rattle.ec_select.specs.Laws.{SelectionsRun};
 
 use ec_asm::laws::parts_stand;
@@ -12,15 +12,17 @@ use ec_select_fixed::laws::{
     fixed_conversions_are_short, fixed_unaries_are_plain, fixed_unaries_are_short,
 };
 use ec_select_order::laws::relations_have_words;
+use ec_select_places::laws::{elements_are_formed, places_are_short, places_are_valid};
+use ec_select_pointers::laws::{pointers_are_straight, pointers_are_valid, tables_are_formed};
 use ec_select_products::laws::products_have_words;
 use ec_select_shifts::laws::shifts_have_words;
 use ec_startup::laws::{startup_has_words, startup_is_valid};
 
-/// The operations of a valid program have code where they are operations on integers and on fixed-point numbers, which
-/// load and store such numbers of the data bank, and put the result of an operator on integers to the place of its
-/// first operand, and operations on ports. Then `select` can be called.
-pub fn integers_have_code()
-    ensures { IntegersHaveCode }
+/// The operations of a valid program have code where no temporary has more than 8 bytes, the result of an operator on
+/// integers is put to the place of its first operand, fixed-point operands have two places, and the bytes of ports are
+/// at 0xFF or below. Then `select` can be called.
+pub fn operations_have_code()
+    ensures { OperationsHaveCode }
 {
     leaves_fill_their_types();
 }
@@ -35,6 +37,10 @@ pub fn selections_are_valid()
     fixed_binaries_are_plain();
     fixed_unaries_are_plain();
     fixed_conversions_are_plain();
+    pointers_are_valid();
+    tables_are_formed();
+    places_are_valid();
+    elements_are_formed();
 }
 
 /// The code of a program whose operators have their results in place has at most the words that its operations may
@@ -50,6 +56,10 @@ pub fn selections_have_words()
     fixed_binaries_are_short();
     fixed_unaries_are_short();
     fixed_conversions_are_short();
+    pointers_are_straight();
+    tables_are_formed();
+    places_are_short();
+    elements_are_formed();
     startup_has_words();
     near_items_are_short();
 }
@@ -66,6 +76,10 @@ pub fn selections_run()
     fixed_binaries_are_plain();
     fixed_unaries_are_plain();
     fixed_conversions_are_plain();
+    pointers_are_valid();
+    tables_are_formed();
+    places_are_valid();
+    elements_are_formed();
     near_code_stands();
     near_items_are_valid();
     parts_stand();

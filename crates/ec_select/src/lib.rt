@@ -11,5 +11,5 @@ mod laws;
 mod program;
 mod spans;
 
-pub use laws::{integers_have_code, selections_are_valid, selections_have_words, selections_run};
+pub use laws::{operations_have_code, selections_are_valid, selections_have_words, selections_run};
 pub use program::select;

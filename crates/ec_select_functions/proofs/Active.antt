@@ -3,6 +3,7 @@ use Rattle.std.proofs.Common.{◌≡◌, ℕ, ◌+◌, ◌-◌, ◌*◌, ◌<◌
 use Rattle.std.proofs.Common.{Some, length, subst, arith, leb-true, ltb-true, Contains}
 use Rattle.std.specs.Prelude.{nat_le, nat_lt, slice_get, slice_index}
 use Rattle.std.proofs.lemmas.Bool.{and_parts, and_from, or_cases, or_left, or_right, lt-ltb, le-leb, cases_lt}
+use Rattle.ec_space.specs.declared.space.Bank.TheVariants.{Data as DataBank}
 use Rattle.ec_asm.specs.View.{View, pair}
 use Rattle.ec_asm.specs.Change.{Env, Kind, Own, Object, Stacked, sp}
 use Rattle.ec_asm.specs.Pieces.{Outside}
@@ -14,13 +15,13 @@ use Rattle.ec_core.specs.TypeLaws.{LeavesFillTheirTypes}
 use Rattle.ec_ir.specs.declared.operations.Temp.{Temp}
 use Rattle.ec_ir.specs.Operations.{PlainIrFunction, PlainIrProgram, data_of}
 use Rattle.ec_ir.specs.Valid.{ValidIr, CallsTo, calls, calls_through, called_in}
-use Rattle.ec_select_functions.specs.declared.homes.Homes.{Homes}
-use Rattle.ec_select_functions.specs.Homes.{home, HasHome}
+use Rattle.ec_select_operations.specs.declared.homes.Homes.{Homes}
+use Rattle.ec_select_operations.specs.Homes.{home, HasHome}
 use Rattle.ec_select_functions.specs.Laws.{AreSelected, IsSelected, CallsOn}
-use Rattle.ec_select_functions.specs.Places.{NumberLeaf, Apart, Layout}
+use Rattle.ec_select_operations.specs.Places.{ObjectLeaf, Apart, Layout}
 use Rattle.ec_select_functions.specs.Standing.{home_address, ObjectStands}
 use Rattle.ec_select_functions.proofs.Moves.{outside_row}
-use Rattle.ec_select_functions.proofs.Setting.{Setting, FixedLaws}
+use Rattle.ec_select_functions.proofs.Setting.{Setting, FixedLaws, PointerLaws}
 use Rattle.ec_select_functions.proofs.Standing.{InRegister, InScratch, kinds, ends_low, homes_are_laid_out}
 use Rattle.ec_select_functions.proofs.Standing.{leaf_where, lies}
 
@@ -33,6 +34,7 @@ pub record World (p : PlainIrProgram) (e : Env) (place entry_of : ℕ → ℕ) :
   pub feeds : (port k : ℕ) → slice_index (inputs port) k < 256
   pub taken : BytesAreTakenInOrder
   pub fixed : FixedLaws
+  pub pointers : PointerLaws
   pub low : ℕ
   pub top : ℕ
   pub high : 256 ≤ low
@@ -60,12 +62,14 @@ aside_before aside scratch size s k h = or_left (aside k) (in_row scratch size k
 pub aside_scratch : (aside : ℕ → Bool) (scratch size s k : ℕ) → scratch ≤ k → k < scratch + size
     → aside_by aside scratch size s k ≡ true
 aside_scratch aside scratch size s k l m =
-    or_right (aside k) (in_row scratch size k || in_row (s - 1) 2 k) (or_left (in_row scratch size k) (in_row (s - 1) 2 k) (row_from scratch size k l m))
+    or_right (aside k) (in_row scratch size k || in_row (s - 1) 2 k)
+    (or_left (in_row scratch size k) (in_row (s - 1) 2 k) (row_from scratch size k l m))
 
 pub aside_stack : (aside : ℕ → Bool) (scratch size s k : ℕ) → s - 1 ≤ k → k < s - 1 + 2
     → aside_by aside scratch size s k ≡ true
 aside_stack aside scratch size s k l m =
-    or_right (aside k) (in_row scratch size k || in_row (s - 1) 2 k) (or_right (in_row scratch size k) (in_row (s - 1) 2 k) (row_from (s - 1) 2 k l m))
+    or_right (aside k) (in_row scratch size k || in_row (s - 1) 2 k)
+    (or_right (in_row scratch size k) (in_row (s - 1) 2 k) (row_from (s - 1) 2 k l m))
 
 -- one of the three
 aside_cases : (aside : ℕ → Bool) (scratch size s k : ℕ) (P : Type 0) → aside_by aside scratch size s k ≡ true
@@ -96,7 +100,7 @@ module _ (p : PlainIrProgram) (e : Env) (place entry_of : ℕ → ℕ) (w : Worl
   abbrev pub base_of : ℕ → Temp → ℕ
   base_of f t = home_address (homes_of f) (scratch_of f) t
 
-  abbrev pub leaf_at : NumberLeaf (data_of p) → ℕ
+  abbrev pub leaf_at : ObjectLeaf (data_of p) DataBank → ℕ
   leaf_at l = place l.object + l.at
 
   -- The function f runs with the stack pointer s. What is set aside stands apart from its own scratch memory and that of
@@ -104,7 +108,7 @@ module _ (p : PlainIrProgram) (e : Env) (place entry_of : ℕ → ℕ) (w : Worl
   pub record Active (f : ℕ) (g : PlainIrFunction) (s : ℕ) (aside : ℕ → Bool) (was : ℕ → ℕ) : Type 0 where
     pub is : slice_get p.functions f ≡ Some g
     pub high : (k : ℕ) → aside k ≡ true → 32 ≤ k
-    pub leaves : (l : NumberLeaf (data_of p)) (k : ℕ) → aside k ≡ true → Outside (leaf_at l) l.bytes k
+    pub leaves : (l : ObjectLeaf (data_of p) DataBank) (k : ℕ) → aside k ≡ true → Outside (leaf_at l) l.bytes k
     pub own : (k : ℕ) → aside k ≡ true → Outside (scratch_of f) (16 * g.slots) k
     pub others : (b : ℕ) (h : PlainIrFunction) → CallsTo p b f → slice_get p.functions b ≡ Some h → (k : ℕ)
         → aside k ≡ true → Outside (scratch_of b) (16 * h.slots) k
@@ -126,7 +130,7 @@ module _ (p : PlainIrProgram) (e : Env) (place entry_of : ℕ → ℕ) (w : Worl
       let x = selected_of f g q in
       homes_are_laid_out w.fill p w.valid e g.slots (homes_of f) (scratch_of f) place x.scratch_stands x.objects_stand
 
-  pub leaf_is : (f : ℕ) (g : PlainIrFunction) → slice_get p.functions f ≡ Some g → (l : NumberLeaf (data_of p))
+  pub leaf_is : (f : ℕ) (g : PlainIrFunction) → slice_get p.functions f ≡ Some g → (l : ObjectLeaf (data_of p) DataBank)
       → (leaf_at l + l.bytes ≤ 8) ⊎ (256 ≤ leaf_at l)
   leaf_is f g q l =
       let x = selected_of f g q in
@@ -140,7 +144,8 @@ module _ (p : PlainIrProgram) (e : Env) (place entry_of : ℕ → ℕ) (w : Worl
       let within = it.within in
       let most = it.most in
       ⊎_elim
-      (λ (r : InRegister (homes_of f) (scratch_of f) t). let z = ends_low e g.slots (homes_of f) (scratch_of f) x.scratch_stands t r in (λ l. omega arith))
+      (λ (r : InRegister (homes_of f) (scratch_of f) t). let z = ends_low e g.slots (homes_of f) (scratch_of f) x.scratch_stands t r in
+      (λ l. omega arith))
       (λ (r : InScratch (homes_of f) (scratch_of f) t). rw (r.address) (λ l. let z = own (omega arith) in omega arith))
       (kinds (homes_of f) (scratch_of f) t)
 
@@ -154,21 +159,24 @@ module _ (p : PlainIrProgram) (e : Env) (place entry_of : ℕ → ℕ) (w : Worl
       let high = w.selected.work_stands.high in
       let far = w.selected.work_apart f g q in
       ⊎_elim
-      (λ (r : InRegister (homes_of f) (scratch_of f) t). let z = ends_low e g.slots (homes_of f) (scratch_of f) x.scratch_stands t r in record { left = λ l. omega arith; right = λ l. absurd (omega arith) })
+      (λ (r : InRegister (homes_of f) (scratch_of f) t). let z = ends_low e g.slots (homes_of f)
+      (scratch_of f) x.scratch_stands t r in record { left = λ l. omega arith; right = λ l. absurd (omega arith) })
       (λ (r : InScratch (homes_of f) (scratch_of f) t).
       rw (r.address) (record {
-        left = λ l. ⊎_elim (λ (z : scratch_of f < w.selected.work). let y = far.left z in omega arith) (λ (z : w.selected.work ≤ scratch_of f). let y = far.right z in absurd (omega arith)) (cases_lt (scratch_of f) w.selected.work);
-        right = λ l. ⊎_elim (λ (z : scratch_of f < w.selected.work). let y = far.left z in absurd (omega arith)) (λ (z : w.selected.work ≤ scratch_of f). let y = far.right z in omega arith) (cases_lt (scratch_of f) w.selected.work);
+        left = λ l. ⊎_elim (λ (z : scratch_of f < w.selected.work). let y = far.left z in omega arith)
+            (λ (z : w.selected.work ≤ scratch_of f). let y = far.right z in absurd (omega arith)) (cases_lt (scratch_of f) w.selected.work);
+        right = λ l. ⊎_elim (λ (z : scratch_of f < w.selected.work). let y = far.left z in absurd (omega arith))
+            (λ (z : w.selected.work ≤ scratch_of f). let y = far.right z in omega arith) (cases_lt (scratch_of f) w.selected.work);
       }))
       (kinds (homes_of f) (scratch_of f) t)
 
-  pub leaf_outside_work : (f : ℕ) (g : PlainIrFunction) → slice_get p.functions f ≡ Some g → (l : NumberLeaf (data_of p))
+  pub leaf_outside_work : (f : ℕ) (g : PlainIrFunction) → slice_get p.functions f ≡ Some g → (l : ObjectLeaf (data_of p) DataBank)
       (i : ℕ) → i < l.bytes → Outside w.selected.work 64 (leaf_at l + i)
   leaf_outside_work f g q l i m u =
       let x = selected_of f g q in
       let n = size_of_type p.structs l.declared.ty in
       let inside = (lies w.fill p w.valid e g.slots (homes_of f) (scratch_of f) place x.scratch_stands x.objects_stand l).inside in
-      let r = w.selected.work_stands.objects_apart l.object l.declared l.is_object l.in_data in
+      let r = w.selected.work_stands.objects_apart l.object l.declared l.is_object l.home in
       ⊎_elim
       (λ (z : place l.object < w.selected.work). let y = r.left z in absurd (omega arith))
       (λ (z : w.selected.work ≤ place l.object). let y = r.right z in omega arith)
@@ -199,6 +207,12 @@ module _ (p : PlainIrProgram) (e : Env) (place entry_of : ℕ → ℕ) (w : Worl
     leaves_work = λ l j m. leaf_outside_work f g a.is l j m;
     work_aside = a.work;
     fixed = w.fixed;
+    pointers = w.pointers;
+    scratch = scratch_of f;
+    objects_stand = (selected_of f g a.is).objects_stand;
+    tables_stand = w.selected.tables;
+    valid = w.valid.objects;
+    structs = w.valid.structs;
     high = a.high;
     temps_aside = λ t k it q. temp_aside f g k t a.is (a.high k q) (a.own k q) it;
     leaves_aside = a.leaves;
@@ -221,14 +235,15 @@ module _ (p : PlainIrProgram) (e : Env) (place entry_of : ℕ → ℕ) (w : Worl
       (λ (m : scratch_of f + 16 * g.slots ≤ k). m)
       (cases_lt k (scratch_of f + 16 * g.slots))
 
-  pub stack_leaf : (f : ℕ) (g : PlainIrFunction) → slice_get p.functions f ≡ Some g → (l : NumberLeaf (data_of p)) (k : ℕ)
+  pub stack_leaf : (f : ℕ) (g : PlainIrFunction) → slice_get p.functions f ≡ Some g → (l : ObjectLeaf (data_of p) DataBank) (k : ℕ)
       → 256 ≤ k → e.kind k ≡ Stacked → Outside (leaf_at l) l.bytes k
   stack_leaf f g q l k high stacked u =
       let x = selected_of f g q in
       let n = size_of_type p.structs l.declared.ty in
       let inside = (lies w.fill p w.valid e g.slots (homes_of f) (scratch_of f) place x.scratch_stands x.objects_stand l).inside in
       ⊎_elim
-      (λ (m : k < leaf_at l + l.bytes). absurd (by_storage l.declared.storage n inside (x.objects_stand.each l.object l.declared l.is_object l.in_data) m))
+      (λ (m : k < leaf_at l + l.bytes). absurd (by_storage l.declared.storage n inside
+      (x.objects_stand.each l.object l.declared l.is_object l.home) m))
       (λ (m : leaf_at l + l.bytes ≤ k). m)
       (cases_lt k (leaf_at l + l.bytes))
     where
@@ -240,26 +255,26 @@ module _ (p : PlainIrProgram) (e : Env) (place entry_of : ℕ → ℕ) (w : Worl
 
       by_storage : (storage : PlainStorage) (n : ℕ) → l.at + l.bytes ≤ n → ObjectStands e l.object n (place l.object) storage
           → k < leaf_at l + l.bytes → ⊥
-      by_storage (static inits) n inside x m = in_object n inside (λ i q. (x.1 i q).1) m
-      by_storage (local j) n inside x m = in_object n inside (λ i q. (x.1 i q).1) m
-      by_storage (param j) n inside x m = in_object n inside (λ i q. (x.1 i q).1) m
+      by_storage (static inits) n inside x m = in_object n inside x.kind m
+      by_storage (local j) n inside x m = in_object n inside x.kind m
+      by_storage (param j) n inside x m = in_object n inside x.kind m
       by_storage (register first) n inside x m = let z = x.0 in let y = x.2 in absurd (omega arith)
 
   -- no byte of a leaf is the stack's
-  pub leaf_not_stacked : (f : ℕ) (g : PlainIrFunction) → slice_get p.functions f ≡ Some g → (l : NumberLeaf (data_of p))
+  pub leaf_not_stacked : (f : ℕ) (g : PlainIrFunction) → slice_get p.functions f ≡ Some g → (l : ObjectLeaf (data_of p) DataBank)
       (i : ℕ) → i < l.bytes → e.kind (leaf_at l + i) ≡ Stacked → 256 ≤ leaf_at l + i → ⊥
   leaf_not_stacked f g q l i m stacked high =
       let z = stack_leaf f g q l (leaf_at l + i) high stacked (omega arith) in
       absurd (omega arith)
 
   -- nor one of scratch memory
-  pub leaf_outside_scratch : (f : ℕ) (g : PlainIrFunction) → slice_get p.functions f ≡ Some g → (l : NumberLeaf (data_of p))
+  pub leaf_outside_scratch : (f : ℕ) (g : PlainIrFunction) → slice_get p.functions f ≡ Some g → (l : ObjectLeaf (data_of p) DataBank)
       (i : ℕ) → i < l.bytes → Outside (scratch_of f) (16 * g.slots) (leaf_at l + i)
   leaf_outside_scratch f g q l i m u =
       let x = selected_of f g q in
       let n = size_of_type p.structs l.declared.ty in
       let inside = (lies w.fill p w.valid e g.slots (homes_of f) (scratch_of f) place x.scratch_stands x.objects_stand l).inside in
-      let r = x.objects_stand.scratch_apart l.object l.declared l.is_object l.in_data in
+      let r = x.objects_stand.scratch_apart l.object l.declared l.is_object l.home in
       ⊎_elim
       (λ (z : place l.object < scratch_of f). let y = r.left z in absurd (omega arith))
       (λ (z : scratch_of f ≤ place l.object). let y = r.right z in omega arith)
@@ -300,12 +315,22 @@ module _ (p : PlainIrProgram) (e : Env) (place entry_of : ℕ → ℕ) (w : Worl
       let to : CallsTo p b f = calls f g a.is there in
       record {
         is = is;
-        high = λ k q. aside_cases aside (scratch_of f) (16 * g.slots) s k (32 ≤ k) q (λ r. a.high k r) (λ l m. omega arith) (λ l m. omega arith);
-        leaves = λ l k q. aside_cases aside (scratch_of f) (16 * g.slots) s k (Outside (leaf_at l) l.bytes k) q (λ r. a.leaves l k r) (λ i m. leaf_scratch l k i m) (λ i m. stack_leaf f g a.is l k (omega arith) (w.stacked k (omega arith) (omega arith)));
-        own = λ k q. aside_cases aside (scratch_of f) (16 * g.slots) s k (Outside (scratch_of b) (16 * h.slots) k) q (λ r. a.others b h to is k r) (λ l m. row_outside_back (scratch_of b) (16 * h.slots) (scratch_of f) (16 * g.slots) k (w.selected.apart f b g h to a.is is) l m) (λ l m. stack_scratch b h is k (w.stacked k (omega arith) (omega arith)));
+        high = λ k q. aside_cases aside (scratch_of f) (16 * g.slots) s k (32 ≤ k) q (λ r. a.high k r) (λ l m. omega arith)
+            (λ l m. omega arith);
+        leaves = λ l k q. aside_cases aside (scratch_of f) (16 * g.slots) s k (Outside (leaf_at l) l.bytes k) q (λ r. a.leaves l k r)
+            (λ i m. leaf_scratch l k i m) (λ i m. stack_leaf f g a.is l k (omega arith) (w.stacked k (omega arith) (omega arith)));
+        own = λ k q. aside_cases aside (scratch_of f) (16 * g.slots) s k (Outside (scratch_of b) (16 * h.slots) k) q
+            (λ r. a.others b h to is k r)
+            (λ l m. row_outside_back (scratch_of b) (16 * h.slots) (scratch_of f) (16 * g.slots) k
+            (w.selected.apart f b g h to a.is is) l m)
+            (λ l m. stack_scratch b h is k (w.stacked k (omega arith) (omega arith)));
         others = λ c i r z k q. (let through : CallsTo p c f = calls_through f b g a.is there r in
-            aside_cases aside (scratch_of f) (16 * g.slots) s k (Outside (scratch_of c) (16 * i.slots) k) q (λ r. a.others c i through z k r) (λ l m. row_outside_back (scratch_of c) (16 * i.slots) (scratch_of f) (16 * g.slots) k (w.selected.apart f c g i through a.is z) l m) (λ l m. stack_scratch c i z k (w.stacked k (omega arith) (omega arith))));
-        free = λ k q l. aside_cases aside (scratch_of f) (16 * g.slots) s k (s - 2 < k) q (λ r. let z = a.free k r l in omega arith) (λ i m. scratch_free k l i m) (λ i m. omega arith);
+            aside_cases aside (scratch_of f) (16 * g.slots) s k (Outside (scratch_of c) (16 * i.slots) k) q
+            (λ r. a.others c i through z k r)
+            (λ l m. row_outside_back (scratch_of c) (16 * i.slots) (scratch_of f) (16 * g.slots) k
+            (w.selected.apart f c g i through a.is z) l m) (λ l m. stack_scratch c i z k (w.stacked k (omega arith) (omega arith))));
+        free = λ k q l. aside_cases aside (scratch_of f) (16 * g.slots) s k (s - 2 < k) q (λ r. let z = a.free k r l in omega arith)
+            (λ i m. scratch_free k l i m) (λ i m. omega arith);
         work = λ k q. aside_cases aside (scratch_of f) (16 * g.slots) s k (Outside w.selected.work 64 k) q (λ r. a.work k r)
             (λ l m. row_outside_back w.selected.work 64 (scratch_of f) (16 * g.slots) k (w.selected.work_apart f g a.is) l m)
             (λ l m. stack_work k (w.stacked k (omega arith) (omega arith)));
@@ -316,12 +341,13 @@ module _ (p : PlainIrProgram) (e : Env) (place entry_of : ℕ → ℕ) (w : Worl
         below = omega arith;
       }
     where
-      leaf_scratch : (l : NumberLeaf (data_of p)) (k : ℕ) → scratch_of f ≤ k → k < scratch_of f + 16 * g.slots
+      leaf_scratch : (l : ObjectLeaf (data_of p) DataBank) (k : ℕ) → scratch_of f ≤ k → k < scratch_of f + 16 * g.slots
           → Outside (leaf_at l) l.bytes k
       leaf_scratch l k i m q =
           let x = selected_of f g a.is in
           let inside = (lies w.fill p w.valid e g.slots (homes_of f) (scratch_of f) place x.scratch_stands x.objects_stand l).inside in
-          let z = row_outside (place l.object) (size_of_type p.structs l.declared.ty) (scratch_of f) (16 * g.slots) k (x.objects_stand.scratch_apart l.object l.declared l.is_object l.in_data) i m in
+          let z = row_outside (place l.object) (size_of_type p.structs l.declared.ty) (scratch_of f) (16 * g.slots) k
+          (x.objects_stand.scratch_apart l.object l.declared l.is_object l.home) i m in
           let y = z (omega arith) in
           omega arith
 

@@ -6,6 +6,7 @@ use Rattle.std.proofs.lemmas.Bool.{cases_eq, eq-eqb, ne_eqb}
 use Rattle.std.proofs.lemmas.List.Elements.{Contains-append_right}
 use Rattle.ec_avr.specs.State.{lowered}
 use Rattle.ec_asm.specs.declared.items.AsmItem.TheVariants.{CallTo}
+use Rattle.ec_space.specs.declared.space.Bank.TheVariants.{Data as DataBank}
 use Rattle.ec_asm.specs.declared.pieces.Location.{Location}
 use Rattle.ec_asm.specs.View.{View}
 use Rattle.ec_asm.specs.Change.{Env, Own, Stacked, sp}
@@ -25,31 +26,33 @@ use Rattle.ec_ir.specs.declared.operations.Temp.{Temp}
 use Rattle.ec_ir.specs.Costs.{op_steps}
 use Rattle.ec_ir.specs.Meaning.{Mach, machine, Frame as Call, enter, resulted, leave}
 use Rattle.ec_ir.specs.Operations.{PlainIr, call_function, PlainIrFunction, PlainIrProgram, data_of}
-use Rattle.ec_ir.specs.Temporaries.{Content, bits, points, Held, Temps, no_temps, with_held}
+use Rattle.ec_ir.specs.Temporaries.{Content, Held, Temps, no_temps, with_held}
 use Rattle.ec_ir.specs.Valid.{called_in}
-use Rattle.ec_select_functions.specs.declared.homes.Homes.{Homes}
-use Rattle.ec_select_functions.specs.Code.{Linkage, ops_code, call_code, save_code, restore_code, taken_code}
-use Rattle.ec_select_functions.specs.Code.{move_code, register_places}
+use Rattle.ec_select_operations.specs.declared.homes.Homes.{Homes}
+use Rattle.ec_select_operations.specs.Code.{Linkage, ops_code, call_code, save_code, restore_code, taken_code}
+use Rattle.ec_select_operations.specs.Code.{move_code, register_places}
 use Rattle.ec_select_functions.specs.Covered.{IsResult}
-use Rattle.ec_select_functions.specs.Homes.{home, HasHome, result_register, result_location}
+use Rattle.ec_select_operations.specs.Homes.{home, HasHome, result_register, result_location}
 use Rattle.ec_select_functions.specs.Laws.{IsSelected, linkage_of}
-use Rattle.ec_select_functions.specs.Needs.{Need, needs, wanted, wanted_result, without_result}
-use Rattle.ec_select_functions.specs.Places.{NumberLeaf}
+use Rattle.ec_select_operations.specs.Needs.{Need, needs, wanted, wanted_result, without_result}
+use Rattle.ec_select_operations.specs.Places.{ObjectLeaf}
 use Rattle.ec_select_functions.specs.Relation.{accesses, HoldsContent, Matches}
 use Rattle.ec_select_functions.proofs.Active.{World, Active, homes_of, scratch_of, base_of, leaf_at, leaf_is}
 use Rattle.ec_select_functions.proofs.Active.{layout_of, setting_of, selected_of, aside_by, aside_stack, called}
 use Rattle.ec_select_functions.proofs.Active.{has_room, leaf_outside_scratch, leaf_not_stacked}
 use Rattle.ec_select_functions.proofs.Computed.{moved_numbers}
 use Rattle.ec_select_functions.proofs.Follow.{Follows, after}
-use Rattle.ec_select_functions.proofs.Match.{kept_left, same_content, same_leaf, less_content, held_row, same_temp, wanted_most}
-use Rattle.ec_select_functions.proofs.Moves.{narrower, stands_less, move_holds, move_straight, move_steps, row_value}
+use Rattle.ec_select_functions.proofs.Match.{kept_left, same_content, same_leaf, less_content, held_row, same_temp}
+use Rattle.ec_select_functions.proofs.Match.{wanted_most}
+use Rattle.ec_select_functions.proofs.Moves.{narrower, stands_less, move_holds, move_straight, move_steps}
 use Rattle.ec_select_functions.proofs.Resumed.{IsAt, IsElsewhere, Took, HasPlace, resumes}
-use Rattle.ec_select_functions.proofs.Returned.{HandsOn, Left, Returns, go_on, pointer_is}
+use Rattle.ec_select_functions.proofs.Returned.{HandsOn, Left, Returns, go_on, moved_row, pointer_is}
 use Rattle.ec_select_functions.proofs.Saved.{kept, are_kept, Saves, saves, save_form, restore_form}
 use Rattle.ec_select_functions.proofs.Stacked.{pushed_same, popped_same, pushed_numbers, pushed_pointer, back_is}
 use Rattle.ec_select_functions.proofs.Stacked.{popped_numbers}
 use Rattle.ec_select_functions.proofs.Standing.{result_bounds, result_ends}
-use Rattle.ec_select_functions.proofs.Steps.{Ready, Onward, CallCase}
+use Rattle.ec_select_functions.proofs.Going.{Ready}
+use Rattle.ec_select_functions.proofs.Steps.{Onward, CallCase}
 
 module _ (p : PlainIrProgram) (e : Env) (place entry_of : ℕ → ℕ) (w : World p e place entry_of) where
   abbrev D : PlainProgram
@@ -64,7 +67,8 @@ module _ (p : PlainIrProgram) (e : Env) (place entry_of : ℕ → ℕ) (w : Worl
       at
 
   -- what the code of a function shows that runs, from any of its operations on
-  abbrev pub Runs : (n f : ℕ) (g : PlainIrFunction) (s : ℕ) (aside : ℕ → Bool) (was : ℕ → ℕ) → Active p e place entry_of w f g s aside was → List Call → Type 0
+  abbrev pub Runs : (n f : ℕ) (g : PlainIrFunction) (s : ℕ) (aside : ℕ → Bool) (was : ℕ → ℕ) → Active p e place entry_of w f g s aside was
+      → List Call → Type 0
   Runs n f g s aside was a stack =
       Onward D p.functions e g.slots (home (homes_of p e place entry_of w f)) (base_of p e place entry_of w f) place
       (setting_of p e place entry_of w f g s aside was a) (w.selected.made f).labels g.code
@@ -78,7 +82,8 @@ module _ (p : PlainIrProgram) (e : Env) (place entry_of : ℕ → ℕ) (w : Worl
       (stack : List Call) → ((j : ℕ) → j ≤ n → Returns p e place entry_of w f g aside was stack j) → Runs n f g s aside was a stack
 
   -- the first operation of a function
-  begins : (b : ℕ) (gb : PlainIrFunction) (s : ℕ) (aside : ℕ → Bool) (was : ℕ → ℕ) (a : Active p e place entry_of w b gb s aside was) (stack : List Call)
+  begins : (b : ℕ) (gb : PlainIrFunction) (s : ℕ) (aside : ℕ → Bool) (was : ℕ → ℕ) (a : Active p e place entry_of w b gb s aside was)
+      (stack : List Call)
       → e.word_of (entry_of b) < 65536
       → Ready D p.functions e gb.slots (home (homes_of p e place entry_of w b)) (base_of p e place entry_of w b) place
       (setting_of p e place entry_of w b gb s aside was a) (w.selected.made b).labels gb.code
@@ -93,10 +98,12 @@ module _ (p : PlainIrProgram) (e : Env) (place entry_of : ℕ → ℕ) (w : Worl
         covered = x.covered;
         live = x.live;
         inside = λ c q. q;
-        stands = subst (λ i. HasAt e (ops_code p.objects (home (homes_of p e place entry_of w b)) (linkage_of p entry_of b gb.slots (w.selected.made b)) (w.selected.made b).labels None gb.code) i x.end) mid stands.2;
+        stands = subst (λ i. HasAt e (ops_code D (home (homes_of p e place entry_of w b))
+            (linkage_of p entry_of b gb.slots (w.selected.made b)) (w.selected.made b).labels None gb.code) i x.end) mid stands.2;
       }
 
-  module _ (f : ℕ) (g : PlainIrFunction) (s : ℕ) (aside : ℕ → Bool) (was : ℕ → ℕ) (a : Active p e place entry_of w f g s aside was) (stack : List Call) where
+  module _ (f : ℕ) (g : PlainIrFunction) (s : ℕ) (aside : ℕ → Bool) (was : ℕ → ℕ) (a : Active p e place entry_of w f g s aside was)
+      (stack : List Call) where
     abbrev slots : ℕ
     slots = g.slots
 
@@ -125,7 +132,7 @@ module _ (p : PlainIrProgram) (e : Env) (place entry_of : ℕ → ℕ) (w : Worl
     T to v v1 = Took p e place entry_of w f g s aside was a to v v1
 
     abbrev MM : Need → Mach → View → Type 0
-    MM need m v = Matches D w.inputs slots bs place aside was need m v
+    MM need m v = Matches D e w.inputs slots bs place aside was need m v
 
     -- ---- the result is taken
 
@@ -133,42 +140,47 @@ module _ (p : PlainIrProgram) (e : Env) (place entry_of : ℕ → ℕ) (w : Worl
     result_stands n m = record { at = λ i l. refl; kind = λ i l. refl; clear = (let z = (result_bounds n).0 in omega arith) }
 
     took_nothing : (v : View) → HoldsNumbers v → T None v v
-    took_nothing v numbers = record { same = λ k q r z o. refl; numbers = numbers; quiet = record { inputs = refl; safe = refl; seen = refl } }
+    took_nothing v numbers =
+        record { same = λ k q r z o. refl; numbers = numbers; quiet = record { inputs = refl; safe = refl; seen = refl } }
 
     pub record TookAt (t : Temp) (n : ℕ) (c : Content) (v v1 : View) : Type 0 where
       pub took : T (Some t) v v1
-      pub content : HoldsContent v1.at (bs t) n t.bytes c
+      pub content : HoldsContent D place v1.at (bs t) n t.bytes c
 
     took_result : (t : Temp) (n : ℕ) (c : Content) (v : View) → HasHome slots t → n ≤ t.bytes → HoldsNumbers v
-        → HoldsContent v.at (result_register t.bytes) t.bytes t.bytes c
+        → HoldsContent D place v.at (result_register t.bytes) t.bytes t.bytes c
         → TookAt t n c v (block e (move_code (result_location t.bytes) (hs t) n) v)
-    took_result t n (points q) v it l numbers content = absurd content
-    took_result t n (bits low) v it l numbers content =
+    took_result t n c v it l numbers content =
         let y = layout_of p e place entry_of w f g a.is in
         let r = result_register t.bytes in
         let v1 = block e (move_code (result_location t.bytes) (hs t) n) v in
         let far : IsReadFirst r (bs t) n = λ q. let z = y.temps_taken t it q in omega arith in
         let some = (result_bounds t.bytes).0 in
-        let k = move_holds e (result_location t.bytes) (hs t) n r (bs t) v (result_stands t.bytes n) (stands_less e (hs t) t.bytes n (bs t) Own l (y.temps_at t it)) far numbers in
-        let fewer = less_content v.at r t.bytes n t.bytes (bits low) l (held_row v r t.bytes (omega arith) numbers) content in
+        let k =
+        move_holds e (result_location t.bytes) (hs t) n r (bs t) v (result_stands t.bytes n)
+        (stands_less e (hs t) t.bytes n (bs t) Own l (y.temps_at t it)) far numbers in
+        let fewer = less_content D place v.at r t.bytes n t.bytes c l (held_row v r t.bytes (omega arith) numbers) content in
         record {
           took = record {
             same = λ i q z o u. k.frame i q z o (narrower (bs t) t.bytes n i l u);
-            numbers = moved_numbers D e slots hs bs place (setting_of p e place entry_of w f g s aside was a) v v1 r (bs t) n (omega arith) numbers k;
+            numbers = moved_numbers D e slots hs bs place (setting_of p e place entry_of w f g s aside was a) v v1 r (bs t) n
+                (omega arith) numbers k;
             quiet = k.quiet;
           };
-          content = (row_value v1.at v.at r (bs t) n k.there ∙ fewer.0, content.1);
+          content = moved_row p e place entry_of w v v1 r (bs t) n t.bytes c k.there fewer;
         }
 
     -- ---- the caller goes on
 
-    module _ (n : ℕ) (below : (j : ℕ) → j ≤ n → Statement j) (returns : (j : ℕ) → j ≤ n → Returns p e place entry_of w f g aside was stack j)
+    module _ (n : ℕ) (below : (j : ℕ) → j ≤ n → Statement j)
+        (returns : (j : ℕ) → j ≤ n → Returns p e place entry_of w f g aside was stack j)
         (b : ℕ) (gb : PlainIrFunction) (is : slice_get p.functions b ≡ Some gb) (there : Contains (called_in g.code) b)
         (to : Option Temp) (result_is : IsResult w.selected.results b slots to) (rest : List PlainIr) (m : Mach) (v : View)
         (before : MM (without_result to (needs labels rest)) m v) (back end0 mid3 : ℕ) (room : back < 65536)
         (taken_at : HasAt e (taken_code hs to (wanted_result (needs labels rest) to)) back mid3)
         (restore_at : HasAt e (restore_code link (without_result to (needs labels rest))) mid3 end0)
-        (ready : Ready D p.functions e slots hs bs place (setting_of p e place entry_of w f g s aside was a) labels g.code x.end w.selected.results f link stack end0 rest) where
+        (ready : Ready D p.functions e slots hs bs place
+        (setting_of p e place entry_of w f g s aside was a) labels g.code x.end w.selected.results f link stack end0 rest) where
       abbrev need : Need
       need = needs labels rest
 
@@ -242,54 +254,77 @@ module _ (p : PlainIrProgram) (e : Env) (place entry_of : ℕ → ℕ) (w : Worl
         goes_on : (j spent : ℕ) → j ≤ n → spent + 64 ≤ s1.work → (temps : Temps) (v4 : View) (steps : ℕ) → steps ≤ 16
             → Goes e steps back (popped u) mid3 v4 → (it : HasPlace p e place entry_of w f g s aside was a to) → T to (popped u) v4
             → ((t : Temp) (c : Held) → HasHome slots t → temps t.at ≡ Some c → c.bytes ≡ t.bytes
-            → (IsAt to t × HoldsContent v4.at (bs t) (wanted need t) t.bytes c.content) ⊎ (IsElsewhere to t × (m.temps t.at ≡ Some c)))
-            → Follows D place e j spent back (popped u) (go_on p e place entry_of w j (record { code = g.code; rest = rest; stack = stack }) (machine temps s1))
+            → (IsAt to t × HoldsContent D place v4.at (bs t) (wanted need t) t.bytes c.content)
+            ⊎ (IsElsewhere to t × (m.temps t.at ≡ Some c)))
+            → Follows D place e j spent back (popped u)
+            (go_on p e place entry_of w j (record { code = g.code; rest = rest; stack = stack }) (machine temps s1))
         goes_on j spent l credit temps v4 steps some goes it took held =
             let form = restore_form e slots h scratch x.scratch_stands need0 (register_places slots) few in
             let v5 = block e (restore_code link need0) v4 in
             let second = block_goes e (restore_code link need0) mid3 end0 v4 form.0 restore_at in
             let most = form.1 in
-            let matches = resumes p e place entry_of w f g s aside was a need to it m temps s1 back v v1 u v4 before pointer0 saved pointer first b gb left pointer_u took held in
-            after D place e (steps + code_steps (restore_code link need0)) j j spent s1.work back end0 (popped u) v5 (go_on p e place entry_of w j (record { code = g.code; rest = rest; stack = stack }) (machine temps s1))
-            (goes_on_to e steps (code_steps (restore_code link need0)) back mid3 end0 (popped u) v4 v5 goes second) (omega arith) (omega (arith, most, some, credit))
+            let matches =
+            resumes p e place entry_of w f g s aside was a need to it m temps s1 back v v1 u v4
+            before pointer0 saved pointer first b gb left pointer_u took held in
+            after D place e (steps + code_steps (restore_code link need0)) j j spent s1.work back end0 (popped u) v5
+            (go_on p e place entry_of w j (record { code = g.code; rest = rest; stack = stack }) (machine temps s1))
+            (goes_on_to e steps (code_steps (restore_code link need0)) back mid3 end0 (popped u) v4 v5 goes second) (omega arith)
+            (omega (arith, most, some, credit))
             (below j l f g s aside was a stack (λ i r. returns i (omega (arith, r, l))) end0 rest (machine temps s1) v5 ready matches)
 
-      back_with : (j : ℕ) → j ≤ n → (to1 : Option Temp) → to ≡ to1 → (result : Option Held) (s1 : State) (u : View) (spent : ℕ) → spent + 64 ≤ s1.work
+      back_with : (j : ℕ) → j ≤ n → (to1 : Option Temp) → to ≡ to1 → (result : Option Held) (s1 : State) (u : View) (spent : ℕ)
+          → spent + 64 ≤ s1.work
           → HandsOn p e place entry_of w b result u → Left p e place entry_of w gb b aside_b (pushed back v1).at s1 u
-          → Follows D place e j spent back (popped u) (next (resulted to1 result m.temps s1) (λ temps s2. go_on p e place entry_of w j (record { code = g.code; rest = rest; stack = stack }) (machine temps s2)))
+          → Follows D place e j spent back (popped u)
+          (next (resulted to1 result m.temps s1)
+          (λ temps s2. go_on p e place entry_of w j (record { code = g.code; rest = rest; stack = stack }) (machine temps s2)))
       back_with j l None q result s1 u spent credit hands left =
-          let at : HasAt e (taken_code hs None (wanted_result need None)) back mid3 = subst (λ o. HasAt e (taken_code hs o (wanted_result need o)) back mid3) q taken_at in
-          let none : HasPlace p e place entry_of w f g s aside was a to = subst (λ o. HasPlace p e place entry_of w f g s aside was a o) (sym q) tt in
-          let took : T to (popped u) (popped u) = subst (λ o. T o (popped u) (popped u)) (sym q) (took_nothing (popped u) (popped_u s1 u left)) in
-          goes_on s1 u left j spent l credit m.temps (popped u) 0 (omega arith) (subst (λ i. Goes e 0 back (popped u) i (popped u)) (sym at) (record { by = refl })) none took
+          let at : HasAt e (taken_code hs None (wanted_result need None)) back mid3 =
+          subst (λ o. HasAt e (taken_code hs o (wanted_result need o)) back mid3) q taken_at in
+          let none : HasPlace p e place entry_of w f g s aside was a to =
+          subst (λ o. HasPlace p e place entry_of w f g s aside was a o) (sym q) tt in
+          let took : T to (popped u) (popped u) =
+          subst (λ o. T o (popped u) (popped u)) (sym q) (took_nothing (popped u) (popped_u s1 u left)) in
+          goes_on s1 u left j spent l credit m.temps (popped u) 0 (omega arith)
+          (subst (λ i. Goes e 0 back (popped u) i (popped u)) (sym at) (record { by = refl })) none took
           (λ t c home_it r z. inr (subst (λ o. IsElsewhere o t) (sym q) tt, r))
       back_with j l (Some t) q None s1 u spent credit hands left = tt
       back_with j l (Some t) q (Some c) s1 u spent credit hands left =
           let number = wanted_result need (Some t) in
-          let at : HasAt e (move_code (result_location t.bytes) (hs t) number) back mid3 = subst (λ o. HasAt e (taken_code hs o (wanted_result need o)) back mid3) q taken_at in
+          let at : HasAt e (move_code (result_location t.bytes) (hs t) number) back mid3 =
+          subst (λ o. HasAt e (taken_code hs o (wanted_result need o)) back mid3) q taken_at in
           let it : HasHome slots t × (t.bytes ≡ w.selected.results b) = subst (λ o. IsResult w.selected.results b slots o) q result_is in
           let bytes : c.bytes ≡ t.bytes = hands.0 ∙ sym it.1 in
           let most = wanted_most need t in
           let room8 = it.0.most in
-          let content : HoldsContent (popped u).at (result_register t.bytes) t.bytes t.bytes c.content = subst (λ k. HoldsContent (popped u).at (result_register k) k k c.content) bytes (still c.content c.bytes hands.1 hands.2) in
+          let content : HoldsContent D place (popped u).at (result_register t.bytes) t.bytes t.bytes c.content = subst
+          (λ k. HoldsContent D place (popped u).at (result_register k) k k c.content) bytes
+          (still c.content c.bytes hands.1 hands.2) in
           let taken = took_result t number c.content (popped u) it.0 most (popped_u s1 u left) content in
           let v4 = block e (move_code (result_location t.bytes) (hs t) number) (popped u) in
           let form = move_steps (result_location t.bytes) (hs t) number in
-          let run = block_goes e (move_code (result_location t.bytes) (hs t) number) back mid3 (popped u) (move_straight (result_location t.bytes) (hs t) number) at in
-          goes_on s1 u left j spent l credit (with_held t.at c m.temps) v4 (code_steps (move_code (result_location t.bytes) (hs t) number)) (omega (arith, form, most, room8)) run
+          let run =
+          block_goes e (move_code (result_location t.bytes) (hs t) number) back mid3 (popped u)
+          (move_straight (result_location t.bytes) (hs t) number) at in
+          goes_on s1 u left j spent l credit (with_held t.at c m.temps) v4 (code_steps (move_code (result_location t.bytes) (hs t) number))
+          (omega (arith, form, most, room8)) run
           (subst (λ o. HasPlace p e place entry_of w f g s aside was a o) (sym q) it.0) (subst (λ o. T o (popped u) v4) (sym q) taken.took)
-          (λ t1 c1 home_it r z. subst (λ o. (IsAt o t1 × HoldsContent v4.at (bs t1) (wanted need t1) t1.bytes c1.content) ⊎ (IsElsewhere o t1 × (m.temps t1.at ≡ Some c1))) (sym q) (held_at t1 c1 r z bytes v4 taken.content))
+          (λ t1 c1 home_it r z. subst (λ o. (IsAt o t1 × HoldsContent D place v4.at (bs t1) (wanted need t1) t1.bytes c1.content)
+          ⊎ (IsElsewhere o t1 × (m.temps t1.at ≡ Some c1))) (sym q) (held_at t1 c1 r z bytes v4 taken.content))
         where
           -- the bytes of a result are no bytes of the stack pointer
-          still : (content : Content) (k : ℕ) → k ≤ 8 → HoldsContent u.at (result_register k) k k content
-              → HoldsContent (popped u).at (result_register k) k k content
+          still : (content : Content) (k : ℕ) → k ≤ 8 → HoldsContent D place u.at (result_register k) k k content
+              → HoldsContent D place (popped u).at (result_register k) k k content
           still content k few8 hold =
               let ends = result_ends k few8 in
-              same_content u.at (popped u).at (result_register k) k k content (λ i r. popped_same u (result_register k + i) (omega (arith, ends)) (omega (arith, ends))) hold
+              same_content D place u.at (popped u).at (result_register k) k k content
+              (λ i r. popped_same u (result_register k + i) (omega (arith, ends)) (omega (arith, ends))) hold
 
-          held_at : (t1 : Temp) (c1 : Held) → with_held t.at c m.temps t1.at ≡ Some c1 → c1.bytes ≡ t1.bytes → c.bytes ≡ t.bytes → (v4 : View)
-              → HoldsContent v4.at (bs t) (wanted need t) t.bytes c.content
-              → ((t1.at ≡ t.at) × HoldsContent v4.at (bs t1) (wanted need t1) t1.bytes c1.content) ⊎ ((t1.at ≢ t.at) × (m.temps t1.at ≡ Some c1))
+          held_at : (t1 : Temp) (c1 : Held) → with_held t.at c m.temps t1.at ≡ Some c1 → c1.bytes ≡ t1.bytes → c.bytes ≡ t.bytes
+              → (v4 : View)
+              → HoldsContent D place v4.at (bs t) (wanted need t) t.bytes c.content
+              → ((t1.at ≡ t.at) × HoldsContent D place v4.at (bs t1) (wanted need t1) t1.bytes c1.content)
+              ⊎ ((t1.at ≢ t.at) × (m.temps t1.at ≡ Some c1))
           held_at t1 c1 r z bytes v4 content =
               ⊎_elim
               (λ (same : t1.at ≡ t.at).
@@ -299,7 +334,11 @@ module _ (p : PlainIrProgram) (e : Env) (place entry_of : ℕ → ℕ) (w : Worl
               let o : c ≡ c1 = cc in
               let k : t.bytes ≡ t1.bytes = sym bytes ∙ ap (λ (y : Held). y.bytes) o ∙ z in
               let i : t ≡ t1 = same_temp t t1 (sym same) k in
-              inl (same, subst (λ (y : Temp). HoldsContent v4.at (bs y) (wanted need y) y.bytes c1.content) i (subst (λ (y : Held). HoldsContent v4.at (bs t) (wanted need t) t.bytes y.content) o content)))
+              inl (
+                same,
+                subst (λ (y : Temp). HoldsContent D place v4.at (bs y) (wanted need y) y.bytes c1.content) i
+                    (subst (λ (y : Held). HoldsContent D place v4.at (bs t) (wanted need t) t.bytes y.content) o content),
+              ))
               (λ (other : t1.at ≢ t.at).
               let eqb = ne_eqb t1.at t.at other in
               let r0 : (if t1.at == t.at then Some c else m.temps t1.at) ≡ Some c1 = r in
@@ -310,42 +349,64 @@ module _ (p : PlainIrProgram) (e : Env) (place entry_of : ℕ → ℕ) (w : Worl
       -- what waits for the called function
       returns_b : (j : ℕ) → j ≤ n → Returns p e place entry_of w b gb aside_b (pushed back v1).at (waits ∷ stack) j
       returns_b j l result s1 u spent credit hands left =
-          subst (λ i. Follows D place e j spent i (popped u) (leave (waits ∷ stack) result (go_on p e place entry_of w j) s1)) (sym (goes_back s1 u left))
+          subst (λ i. Follows D place e j spent i (popped u) (leave (waits ∷ stack) result (go_on p e place entry_of w j) s1))
+          (sym (goes_back s1 u left))
           (back_with j l to refl result s1 u spent credit hands left)
 
       -- it begins with the caller's objects
       entered : MM need0 m v → (st : State) → st.objects ≡ m.state.objects → st.events ≡ m.state.events
-          → Matches D w.inputs gb.slots (base_of p e place entry_of w b) place aside_b (pushed back v1).at (needs (w.selected.made b).labels gb.code) (machine no_temps st) (pushed back v1)
+          → Matches D e w.inputs gb.slots (base_of p e place entry_of w b) place aside_b (pushed back v1).at
+          (needs (w.selected.made b).labels gb.code) (machine no_temps st) (pushed back v1)
       entered z st objects events = record {
         temps_hold = λ t c it q r. absurd cc;
-        leaves_hold = λ l y o q k. same_leaf v.at (pushed back v1).at (place l.object + l.at) l.bytes o (λ i r. leaf_kept l i r) (z.leaves_hold l y o (ap (λ i. slice_get i l.object) (sym objects) ∙ q) k);
+        leaves_hold = λ l y o q k. same_leaf D place v.at (pushed back v1).at (place l.object + l.at) l.bytes o (λ i r. leaf_kept l i r)
+            (z.leaves_hold l y o (ap (λ i. slice_get i l.object) (sym objects) ∙ q) k);
+        tables_hold = λ l y o q k. z.tables_hold l y o (ap (λ i. slice_get i l.object) (sym objects) ∙ q) k;
         kept = λ k q. refl;
         bytes = pushed_numbers back v1 saved.numbers;
-        left = λ port. kept_left w.inputs m.state v v1 saved.quiet.inputs z.left port ∙ ap (λ es. drop (reads_of port es) (w.inputs port)) (sym events);
+        left = λ port. kept_left w.inputs m.state v v1 saved.quiet.inputs z.left port
+            ∙ ap (λ es. drop (reads_of port es) (w.inputs port)) (sym events);
         seen = saved.quiet.seen ∙ z.seen ∙ ap (λ i. accesses D place i) (sym events);
         safe = saved.quiet.safe ∙ z.safe;
       }
         where
-          leaf_kept : (l : NumberLeaf D) (i : ℕ) → i < l.bytes → (pushed back v1).at (place l.object + l.at + i) ≡ v.at (place l.object + l.at + i)
+          leaf_kept : (l : ObjectLeaf D DataBank) (i : ℕ) → i < l.bytes → (pushed back v1).at (place l.object + l.at + i)
+              ≡ v.at (place l.object + l.at + i)
           leaf_kept l i r =
               let some = ((layout_of p e place entry_of w f g a.is).leaves_at l).clear in
               let k = place l.object + l.at + i in
               let one = deep.0 in
               let outside_scratch = leaf_outside_scratch p e place entry_of w f g a.is l i r in
-              let outside_spare : (j : ℕ) → j < register_places slots → Outside (scratch + (16 * j + 8)) (kept e slots h scratch x.scratch_stands need0 j) k = λ j z y. (let few4 = (are_kept e slots h scratch x.scratch_stands need0 j).most in let o = outside_scratch (omega arith) in omega (arith, few4, o)) in
-              let not_top : k ≢ s = λ q. leaf_not_stacked p e place entry_of w f g a.is l i r (subst (λ j. e.kind j ≡ Stacked) (sym q) (w.stacked s (let z = first in omega arith) (let last = a.below in omega arith))) (let y = w.high in let z = first in omega (arith, q)) in
-              let not_next : k ≢ s - 1 = λ q. leaf_not_stacked p e place entry_of w f g a.is l i r (subst (λ j. e.kind j ≡ Stacked) (sym q) (w.stacked (s - 1) (let z = first in omega arith) (let last = a.below in omega arith))) (let y = w.high in let z = first in omega (arith, q)) in
+              let outside_spare : (j : ℕ) → j < register_places slots
+              → Outside (scratch + (16 * j + 8)) (kept e slots h scratch x.scratch_stands need0 j) k = λ j z y.
+              (let few4 = (are_kept e slots h scratch x.scratch_stands need0 j).most in let o = outside_scratch (omega arith) in omega
+              (arith, few4, o)) in
+              let not_top : k ≢ s =
+              λ q. leaf_not_stacked p e place entry_of w f g a.is l i r
+              (subst (λ j. e.kind j ≡ Stacked) (sym q)
+              (w.stacked s (let z = first in omega arith) (let last = a.below in omega arith)))
+              (let y = w.high in let z = first in omega (arith, q)) in
+              let not_next : k ≢ s - 1 =
+              λ q. leaf_not_stacked p e place entry_of w f g a.is l i r
+              (subst (λ j. e.kind j ≡ Stacked) (sym q)
+              (w.stacked (s - 1) (let z = first in omega arith) (let last = a.below in omega arith)))
+              (let y = w.high in let z = first in omega (arith, q)) in
               let down : lowered (sp v1) ≡ s - 1 = rw pointer (omega (arith, one, deep.1)) in
               let where_it_is = leaf_is p e place entry_of w f g a.is l in
-              let not_low : k ≢ 93 = ⊎_elim (λ (z : leaf_at p e place entry_of w l + l.bytes ≤ 8). omega arith) (λ (z : 256 ≤ leaf_at p e place entry_of w l). omega arith) where_it_is in
-              let not_high : k ≢ 94 = ⊎_elim (λ (z : leaf_at p e place entry_of w l + l.bytes ≤ 8). omega arith) (λ (z : 256 ≤ leaf_at p e place entry_of w l). omega arith) where_it_is in
+              let not_low : k ≢ 93 =
+              ⊎_elim (λ (z : leaf_at p e place entry_of w l + l.bytes ≤ 8). omega arith)
+              (λ (z : 256 ≤ leaf_at p e place entry_of w l). omega arith) where_it_is in
+              let not_high : k ≢ 94 =
+              ⊎_elim (λ (z : leaf_at p e place entry_of w l + l.bytes ≤ 8). omega arith)
+              (λ (z : 256 ≤ leaf_at p e place entry_of w l). omega arith) where_it_is in
               pushed_same back v1 k (λ q. not_top (q ∙ pointer)) (λ q. not_next (q ∙ down)) not_low not_high
               ∙ saved.same k (omega arith) outside_spare
 
     -- ---- the call
 
     pub call_follows : (n : ℕ) → ((j : ℕ) → j ≤ n → Statement j) → ((j : ℕ) → j ≤ n → Returns p e place entry_of w f g aside was stack j)
-        → CallCase D p.functions e slots hs bs place (setting_of p e place entry_of w f g s aside was a) labels g.code x.end w.selected.results f link stack n
+        → CallCase D p.functions e slots hs bs place
+        (setting_of p e place entry_of w f g s aside was a) labels g.code x.end w.selected.results f link stack n
     call_follows n below returns b to pc rest m v r z = by_function (slice_get p.functions b) refl
       where
         st : State
@@ -358,7 +419,9 @@ module _ (p : PlainIrProgram) (e : Env) (place entry_of : ℕ → ℕ) (w : Worl
         there = r.inside b (0, omega arith, refl)
 
         by_function : (o : Option PlainIrFunction) → slice_get p.functions b ≡ o
-            → Follows D place e (suc n) m.state.work pc v (enter o (go_on p e place entry_of w n) (record { code = g.code; rest = rest; temps = m.temps; to = to } ∷ stack) (machine no_temps st))
+            → Follows D place e (suc n) m.state.work pc v
+            (enter o (go_on p e place entry_of w n) (record { code = g.code; rest = rest; temps = m.temps; to = to } ∷ stack)
+            (machine no_temps st))
         by_function None is = tt
         by_function (Some gb) is =
             let need0 = without_result to need in
@@ -366,12 +429,20 @@ module _ (p : PlainIrProgram) (e : Env) (place entry_of : ℕ → ℕ) (w : Worl
             let taken = taken_code hs to (wanted_result need to) in
             let restore = restore_code link need0 in
             let code = call_code hs link b to (wanted_result need to) need0 in
-            let s0 = has_parts e code (ops_code p.objects hs link labels None rest) pc x.end r.stands in
+            let s0 = has_parts e code (ops_code D hs link labels None rest) pc x.end r.stands in
             let s1 = has_parts e save (CallTo (entry_of b) ∷ (taken ++ restore)) pc s0.0 s0.1 in
             let back = s1.2.0 in
             let s2 = has_parts e taken restore back s0.0 s1.2.2 in
             let room : back < 65536 = call_ends (entry_of b) s1.0 back s1.2.1 in
-            let ready : Ready D p.functions e slots hs bs place (setting_of p e place entry_of w f g s aside was a) labels g.code x.end w.selected.results f link stack s0.0 rest = record { covered = r.covered.1; live = r.live; inside = λ c q. r.inside c (Contains-append_right (b ∷ []) (called_in rest) c q); stands = s0.2 } in
+            let ready : Ready D p.functions e slots hs bs place
+            (setting_of p e place entry_of w f g s aside was a) labels g.code x.end w.selected.results f link stack s0.0 rest =
+            record {
+              covered = r.covered.1;
+              live = r.live;
+              inside = λ c q. r.inside c
+                  (Contains-append_right (b ∷ []) (called_in rest) c q);
+              stands = s0.2;
+            } in
             let v1 = block e save v in
             let form = save_form e slots h scratch x.scratch_stands need0 (register_places slots) (omega arith) in
             let saving = block_goes e save pc s1.0 v form.0 s1.1 in
@@ -391,7 +462,10 @@ module _ (p : PlainIrProgram) (e : Env) (place entry_of : ℕ → ℕ) (w : Worl
             let frame : Call = record { code = g.code; rest = rest; temps = m.temps; to = to } in
             let waiting = returns_b n below returns b gb is there to r.covered.0 rest m v z back s0.0 s2.0 room s2.1 s2.2 ready in
             let start = begins b gb (s - 2) (aside_by aside scratch (16 * slots) s) v2.at active1 (frame ∷ stack) word in
-            let matches = entered n below returns b gb is there to r.covered.0 rest m v z back s0.0 s2.0 room s2.1 s2.2 ready z st refl refl in
-            after D place e (code_steps save + 1) n (suc n) m.state.work st.work pc (e.word_of (entry_of b)) v v2 (enter (Some gb) (go_on p e place entry_of w n) (frame ∷ stack) (machine no_temps st))
+            let matches =
+            entered n below returns b gb is there to r.covered.0 rest m v z back s0.0 s2.0 room s2.1 s2.2 ready z st refl refl in
+            after D place e (code_steps save + 1) n (suc n) m.state.work st.work pc (e.word_of (entry_of b)) v v2
+            (enter (Some gb) (go_on p e place entry_of w n) (frame ∷ stack) (machine no_temps st))
             (goes_on_to e (code_steps save) 1 pc s1.0 (e.word_of (entry_of b)) v v1 v2 saving calling) (omega arith) (omega (arith, most))
-            (below n (omega arith) b gb (s - 2) (aside_by aside scratch (16 * slots) s) v2.at active1 (frame ∷ stack) waiting (e.word_of (entry_of b)) gb.code (machine no_temps st) v2 start matches)
+            (below n (omega arith) b gb (s - 2) (aside_by aside scratch (16 * slots) s) v2.at active1 (frame ∷ stack) waiting
+            (e.word_of (entry_of b)) gb.code (machine no_temps st) v2 start matches)

@@ -27,13 +27,13 @@ use Rattle.ec_core.specs.State.{worked}
 use Rattle.ec_ir.specs.declared.operations.Temp.{Temp}
 use Rattle.ec_ir.specs.Meaning.{Mach, machine}
 use Rattle.ec_ir.specs.Temporaries.{Content, bits, points, Held, with_content, low_bytes}
-use Rattle.ec_select_functions.specs.Homes.{HasHome}
+use Rattle.ec_select_operations.specs.Homes.{HasHome}
 use Rattle.ec_select_bytes.specs.Values.{byte_of, constant_code}
 use Rattle.ec_select_bytes.proofs.Constants.{constants_are_right}
 use Rattle.ec_select_bytes.specs.Complements.{negation_code}
 use Rattle.ec_select_bytes.proofs.Turned.{negations_are_right}
-use Rattle.ec_select_functions.specs.Code.{same_location, move_code, reversed_code, combined_code}
-use Rattle.ec_select_functions.specs.Needs.{Need, at_least, without, wanted}
+use Rattle.ec_select_operations.specs.Code.{same_location, move_code, reversed_code, combined_code}
+use Rattle.ec_select_operations.specs.Needs.{Need, at_least, without, wanted}
 use Rattle.ec_select_functions.proofs.Setting.{Setting}
 use Rattle.ec_select_functions.specs.Relation.{HoldsContent, Matches}
 use Rattle.ec_select_functions.proofs.Match.{kept_left, wanted_most, least_here, least_other, without_other, at_width}
@@ -98,8 +98,13 @@ bits_combine op is e p q n a b v sa sb far h =
     let x = value v.at b n in
     let z = value v.at a n in
     let digits : (j : ℕ) → j < n → (block e (operate_code op p q n) v).at (b + j) ≡ byte_of (bitwise op x z) j =
-    λ j l. t.there j l ∙ ap (λ k. bitwise op k (v.at (a + j))) (digit_is v b n j sb.clear h l) ∙ ap (bitwise op (byte_of x j)) (digit_is v a n j sa.clear h l) ∙ sym (byte_of_bitwise op x z j) in
-    (value_of_bytes (block e (operate_code op p q n) v).at b n (bitwise op x z) digits, λ j l. rw (digits j l) (byte_below (bitwise op x z) j), t.keeps)
+    λ j l. t.there j l ∙ ap (λ k. bitwise op k (v.at (a + j))) (digit_is v b n j sb.clear h l)
+    ∙ ap (bitwise op (byte_of x j)) (digit_is v a n j sa.clear h l) ∙ sym (byte_of_bitwise op x z j) in (
+      value_of_bytes (block e (operate_code op p q n) v).at b n (bitwise op x z) digits,
+      λ j l. rw (digits j l)
+          (byte_below (bitwise op x z) j),
+      t.keeps,
+    )
 
 combined : (op : Operator) (e : Env) (p q : Location) (n a b : ℕ) (v : View) → StandsFrom e p n a Own
     → StandsFrom e q n b Own → IsReadFirst a b n → HoldsNumbers v
@@ -218,7 +223,8 @@ mod_difference x z m k h l =
     let r = mod_below z m h in
     ⊎_elim
     (λ (g : z / m < k).
-    let e : x + k * m - z ≡ (x / m + (k - z / m - 1)) * m + (x % m + m - z % m) = difference (x / m) (x % m) (z / m) (z % m) m k x z d c r g in
+    let e : x + k * m - z ≡ (x / m + (k - z / m - 1)) * m + (x % m + m - z % m) =
+    difference (x / m) (x % m) (z / m) (z % m) m k x z d c r g in
     sym (ap (λ t. t % m) e ∙ mod_beside (x / m + (k - z / m - 1)) m (x % m + m - z % m) h))
     (λ (g : k ≤ z / m).
     let low : k * m ≤ z / m * m = mul-le k m (z / m) m g (omega arith) in
@@ -254,7 +260,8 @@ results Sum n b x z l k = mod_sum x z (256 ^ n) (pow_pos n) ∙ sym (mod_less (x
 results Difference n b x z l k =
     let s = power_of n b l in
     let g : z ≤ 256 ^ (b - n) * 256 ^ n = omega (arith, k, s) in
-    mod_difference x z (256 ^ n) (256 ^ (b - n)) (pow_pos n) g ∙ ap (λ t. (x + t - z) % 256 ^ n) (sym s) ∙ sym (mod_less (x + 256 ^ b - z) n b l)
+    mod_difference x z (256 ^ n) (256 ^ (b - n)) (pow_pos n) g ∙ ap (λ t. (x + t - z) % 256 ^ n) (sym s)
+    ∙ sym (mod_less (x + 256 ^ b - z) n b l)
 results BitAnd n b x z l k = bits_power bit_and and_mod n b x z l
 results BitOr n b x z l k = bits_power bit_or or_mod n b x z l
 results BitXor n b x z l k = bits_power bit_xor xor_mod n b x z l
@@ -272,9 +279,10 @@ work_after v1 v2 b n h f there =
     (cases_lt 30 (b + n)))
     (cases_lt 30 b)
 
-module _ (p : PlainProgram) (e : Env) (slots : ℕ) (home : Temp → Location) (base : Temp → ℕ) (place : ℕ → ℕ) (y : Setting p e slots home base place) where
+module _ (p : PlainProgram) (e : Env) (slots : ℕ) (home : Temp → Location) (base : Temp → ℕ) (place : ℕ → ℕ)
+    (y : Setting p e slots home base place) where
   abbrev N : Need → Mach → View → Type 0
-  N need m v = Matches p y.inputs slots base place y.aside y.was need m v
+  N need m v = Matches p e y.inputs slots base place y.aside y.was need m v
 
   -- the low bytes of a temporary stand at its base
   pub stand : (t : Temp) (n : ℕ) → HasHome slots t → n ≤ t.bytes → StandsFrom e (home t) n (base t) Own
@@ -290,16 +298,25 @@ module _ (p : PlainProgram) (e : Env) (slots : ℕ) (home : Temp → Location) (
       let own = low_bytes t.bytes n in
       let most = wanted_most need t in
       let v1 = block e (constant_code (home t) low w) v in
-      let k = constants_are_right e (home t) w (base t) low v (stand t w it most) (narrower (base t) t.bytes w 30 most (work_outside (base t) t.bytes (y.layout.temps_work t it))) in
+      let k =
+      constants_are_right e (home t) w (base t) low v (stand t w it most)
+      (narrower (base t) t.bytes w 30 most (work_outside (base t) t.bytes (y.layout.temps_work t it))) in
       let frame : Frame v v1 (base t) w = λ i a b d o. k.same i d o in
-      let numbers = numbers_kept v v1 (base t) w z.bytes frame (λ j l. rw (k.there j l) (byte_below low j)) (k.work (z.bytes 30 (omega arith))) in
-      written p e slots home base place y t (bits own) need (without t.at need) m (worked c m.state) v v1 it z (λ u q. without_other t.at u need q) (wider_frame v v1 (base t) t.bytes w most frame) (value_of_bytes v1.at (base t) w low k.there ∙ low_part n w 16 (let room = it.most in omega arith) ∙ sym (low_part n w t.bytes most), low_below t.bytes n) numbers refl (k.seen ∙ z.seen) (kept_left y.inputs m.state v v1 (k.inputs) z.left) (k.safe ∙ z.safe)
+      let numbers =
+      numbers_kept v v1 (base t) w z.bytes frame (λ j l. rw (k.there j l) (byte_below low j)) (k.work (z.bytes 30 (omega arith))) in
+      written p e slots home base place y t (bits own) need (without t.at need) m (worked c m.state) v v1 it z
+      (λ u q. without_other t.at u need q) (wider_frame v v1 (base t) t.bytes w most frame) (
+        value_of_bytes v1.at (base t) w low k.there ∙ low_part n w 16 (let room = it.most in omega arith)
+            ∙ sym (low_part n w t.bytes most),
+        low_below t.bytes n,
+      ) numbers refl (k.seen ∙ z.seen)
+      (kept_left y.inputs m.state v v1 (k.inputs) z.left) (k.safe ∙ z.safe)
 
   -- a temporary that was moved holds the content
-  moved_content : (v v1 : View) (a b n bytes : ℕ) (c : Content) → Moves v v1 a b n → HoldsContent v.at a n bytes c
-      → HoldsContent v1.at b n bytes c
+  moved_content : (v v1 : View) (a b n bytes : ℕ) (c : Content) → Moves v v1 a b n
+      → HoldsContent p place v.at a n bytes c → HoldsContent p place v1.at b n bytes c
   moved_content v v1 a b n bytes (bits low) k h = (row_value v1.at v.at a b n k.there ∙ h.0, h.1)
-  moved_content v v1 a b n bytes (points q) k h = h
+  moved_content v v1 a b n bytes (points q) k h = (row_value v1.at v.at a b n k.there ∙ h.0, h.1)
 
   pub moved_numbers : (v v1 : View) (a b n : ℕ) → 2 ≤ a → HoldsNumbers v → Moves v v1 a b n → HoldsNumbers v1
   moved_numbers v v1 a b n some h k =
@@ -317,12 +334,17 @@ module _ (p : PlainProgram) (e : Env) (slots : ℕ) (home : Temp → Location) (
       let less : n ≤ u.bytes = omega arith in
       let v1 = block e (move_code (home u) (home t) n) v in
       let some = (y.layout.temps_at u iu).clear in
-      let k = move_holds e (home u) (home t) n (base u) (base t) v (stand u n iu less) (stand t n it most) (read_first p e slots home base place y t u n it iu less) z.bytes in
+      let k =
+      move_holds e (home u) (home t) n (base u) (base t) v (stand u n iu less) (stand t n it most)
+      (read_first p e slots home base place y t u n it iu less) z.bytes in
       let there = least_here u.at n (without t.at need) in
       let wide : n ≤ wanted need0 u = omega (arith, there, less) in
       let content = at_width p e slots home base place y need0 m v u h n z iu q w wide in
       let here = moved_content v v1 (base u) (base t) n u.bytes h.content k content in
-      written p e slots home base place y t h.content need need0 m (worked c m.state) v v1 it z (λ i r. still i r) (wider_frame v v1 (base t) t.bytes n most k.frame) (subst (λ b. HoldsContent v1.at (base t) n b h.content) (sym same) here) (moved_numbers v v1 (base u) (base t) n some z.bytes k) refl (k.quiet.seen ∙ z.seen) (kept_left y.inputs m.state v v1 (k.quiet.inputs) z.left) (k.quiet.safe ∙ z.safe)
+      written p e slots home base place y t h.content need need0 m (worked c m.state) v v1 it z (λ i r. still i r)
+      (wider_frame v v1 (base t) t.bytes n most k.frame) (subst (λ b. HoldsContent p place v1.at (base t) n b h.content) (sym same)
+      here) (moved_numbers v v1 (base u) (base t) n some z.bytes k) refl (k.quiet.seen ∙ z.seen)
+      (kept_left y.inputs m.state v v1 (k.quiet.inputs) z.left) (k.quiet.safe ∙ z.safe)
     where
       still : (i : ℕ) → i ≢ t.at → need i ≤ at_least u.at (wanted need t) (without t.at need) i
       still i r =
@@ -354,21 +376,33 @@ module _ (p : PlainProgram) (e : Env) (slots : ℕ) (home : Temp → Location) (
       let xa = at_width p e slots home base place y need0 m v a _ n h ia qa refl wide_a in
       let xb = at_width p e slots home base place y need0 m v b _ n h ib qb refl wide_b in
       let v1 = block e (move_code (home a) (home t) n) v in
-      let k = move_holds e (home a) (home t) n (base a) (base t) v (stand a n ia less_a) (stand t n it most) (read_first p e slots home base place y t a n it ia less_a) h.bytes in
+      let k =
+      move_holds e (home a) (home t) n (base a) (base t) v (stand a n ia less_a) (stand t n it most)
+      (read_first p e slots home base place y t a n it ia less_a) h.bytes in
       let numbers1 = moved_numbers v v1 (base a) (base t) n some_a h.bytes k in
       let frame1 = wider_frame v v1 (base t) t.bytes n most k.frame in
       let v2 = block e (operate_code op (home b) (home t) n) v1 in
-      let o = combined op e (home b) (home t) n (base b) (base t) v1 (stand b n ib less_b) (stand t n it most) (read_first p e slots home base place y t b n it ib less_b) numbers1 in
+      let o =
+      combined op e (home b) (home t) n (base b) (base t) v1 (stand b n ib less_b) (stand t n it most)
+      (read_first p e slots home base place y t b n it ib less_b) numbers1 in
       let left : value v1.at (base t) n ≡ x % 256 ^ n = row_value v1.at v.at (base a) (base t) n k.there ∙ xa.0 in
-      let row : (j : ℕ) → j < n → v1.at (base b + j) ≡ v.at (base b + j) = λ j l. row_kept v v1 (base t) t.bytes (base b) b.bytes some_b (work_outside (base b) b.bytes (y.layout.temps_work b ib)) (y.layout.temps_apart t b it ib other) frame1 j (omega arith) in
+      let row : (j : ℕ) → j < n → v1.at (base b + j) ≡ v.at (base b + j) =
+      λ j l. row_kept v v1 (base t) t.bytes (base b) b.bytes some_b (work_outside (base b) b.bytes (y.layout.temps_work b ib))
+      (y.layout.temps_apart t b it ib other) frame1 j (omega arith) in
       let right : value v1.at (base b) n ≡ z % 256 ^ n = value-same v1.at v.at (base b) n row ∙ xb.0 in
-      let result : value v2.at (base t) n ≡ result_of op t.bytes x z % 256 ^ n = o.result ∙ ap (λ i. result_of op n i (value v1.at (base b) n)) left ∙ ap (result_of op n (x % 256 ^ n)) right ∙ results op n t.bytes x z most (let l = xb.1 in let s : 256 ^ b.bytes ≡ 256 ^ t.bytes = ap (λ i. 256 ^ i) sb in omega (arith, l, s)) in
+      let result : value v2.at (base t) n ≡ result_of op t.bytes x z % 256 ^ n =
+      o.result ∙ ap (λ i. result_of op n i (value v1.at (base b) n)) left ∙ ap (result_of op n (x % 256 ^ n)) right
+      ∙ results op n t.bytes x z most
+      (let l = xb.1 in let s : 256 ^ b.bytes ≡ 256 ^ t.bytes = ap (λ i. 256 ^ i) sb in omega (arith, l, s)) in
       let frame2 : Frame v1 v2 (base t) n = λ i d f g r. o.keeps.same i d f r in
-      let frame : Frame v v2 (base t) t.bytes = λ i d f g r. wider_frame v1 v2 (base t) t.bytes n most frame2 i d f g r ∙ frame1 i d f g r in
+      let frame : Frame v v2 (base t) t.bytes =
+      λ i d f g r. wider_frame v1 v2 (base t) t.bytes n most frame2 i d f g r ∙ frame1 i d f g r in
       let work : v2.at 30 < 256 = work_after v1 v2 (base t) n numbers1 o.keeps.same o.numbers in
       let numbers2 = numbers_kept v1 v2 (base t) n numbers1 frame2 o.numbers work in
       rw (block-append e (move_code (home a) (home t) n) (operate_code op (home b) (home t) n) v)
-      (written p e slots home base place y t (bits (result_of op t.bytes x z)) need need0 m (worked c m.state) v v2 it h (λ i r. still i r) frame (result, result_below op t.bytes x z) numbers2 refl (o.keeps.seen ∙ k.quiet.seen ∙ h.seen) (kept_left y.inputs m.state v v2 (o.keeps.inputs ∙ k.quiet.inputs) h.left) (o.keeps.safe ∙ k.quiet.safe ∙ h.safe))
+      (written p e slots home base place y t (bits (result_of op t.bytes x z)) need need0 m (worked c m.state) v v2 it h
+      (λ i r. still i r) frame (result, result_below op t.bytes x z) numbers2 refl (o.keeps.seen ∙ k.quiet.seen ∙ h.seen)
+      (kept_left y.inputs m.state v v2 (o.keeps.inputs ∙ k.quiet.inputs) h.left) (o.keeps.safe ∙ k.quiet.safe ∙ h.safe))
     where
       still : (i : ℕ) → i ≢ t.at → need i ≤ at_least a.at (wanted need t) (at_least b.at (wanted need t) (without t.at need)) i
       still i r =
@@ -404,13 +438,20 @@ module _ (p : PlainProgram) (e : Env) (slots : ℕ) (home : Temp → Location) (
       let la : value v.at (base a) n < 256 ^ n = rw left (mod_below_power x n) in
       let lb : value v.at (base t) n < 256 ^ n = rw right (mod_below_power z n) in
       let v1 = block e (reversed_code op (home a) (home t) n) v in
-      let o = reversed op e (home a) (home t) n (base a) (base t) v (stand a n ia less_a) (stand t n it most) (read_first p e slots home base place y t a n it ia less_a) h.bytes la lb in
-      let result : value v1.at (base t) n ≡ result_of op t.bytes x z % 256 ^ n = o.result ∙ ap (λ i. result_of op n i (value v.at (base t) n)) left ∙ ap (result_of op n (x % 256 ^ n)) right ∙ results op n t.bytes x z most (let l = xb.1 in let s : 256 ^ b.bytes ≡ 256 ^ t.bytes = ap (λ i. 256 ^ i) sb in omega (arith, l, s)) in
+      let o =
+      reversed op e (home a) (home t) n (base a) (base t) v (stand a n ia less_a) (stand t n it most)
+      (read_first p e slots home base place y t a n it ia less_a) h.bytes la lb in
+      let result : value v1.at (base t) n ≡ result_of op t.bytes x z % 256 ^ n =
+      o.result ∙ ap (λ i. result_of op n i (value v.at (base t) n)) left ∙ ap (result_of op n (x % 256 ^ n)) right
+      ∙ results op n t.bytes x z most
+      (let l = xb.1 in let s : 256 ^ b.bytes ≡ 256 ^ t.bytes = ap (λ i. 256 ^ i) sb in omega (arith, l, s)) in
       let frame1 : Frame v v1 (base t) n = λ i d f g r. o.keeps.same i d f r in
       let frame = wider_frame v v1 (base t) t.bytes n most frame1 in
       let work : v1.at 30 < 256 = work_after v v1 (base t) n h.bytes o.keeps.same o.numbers in
       let numbers1 = numbers_kept v v1 (base t) n h.bytes frame1 o.numbers work in
-      written p e slots home base place y t (bits (result_of op t.bytes x z)) need need0 m (worked c m.state) v v1 it h (λ i r. still i r) frame (result, result_below op t.bytes x z) numbers1 refl (o.keeps.seen ∙ h.seen) (kept_left y.inputs m.state v v1 (o.keeps.inputs) h.left) (o.keeps.safe ∙ h.safe)
+      written p e slots home base place y t (bits (result_of op t.bytes x z)) need need0 m (worked c m.state) v v1 it h
+      (λ i r. still i r) frame (result, result_below op t.bytes x z) numbers1 refl (o.keeps.seen ∙ h.seen)
+      (kept_left y.inputs m.state v v1 (o.keeps.inputs) h.left) (o.keeps.safe ∙ h.safe)
     where
       still : (i : ℕ) → i ≢ t.at → need i ≤ at_least a.at (wanted need t) (at_least b.at (wanted need t) (without t.at need)) i
       still i r =

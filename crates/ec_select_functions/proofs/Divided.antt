@@ -60,15 +60,18 @@ signed_is top x l =
 
     small : (t p x : ℕ) → x < p * 256 → t * p + x % p ≡ x → t < 256
     small t p x l d =
-        ⊎_elim (λ (g : t < 256). g) (λ (g : 256 ≤ t). let m : 256 * p ≤ t * p = mul-le 256 p t p g (omega arith) in absurd (omega (arith, m, l, d))) (cases_lt t 256)
+        ⊎_elim (λ (g : t < 256). g)
+        (λ (g : 256 ≤ t). let m : 256 * p ≤ t * p = mul-le 256 p t p g (omega arith) in absurd (omega (arith, m, l, d))) (cases_lt t 256)
 
     above : (t p r : ℕ) → r < p → p * 256 ≤ 2 * (t * p + r) → 128 ≤ t
     above t p r l g =
-        ⊎_elim (λ (q : t < 128). let m : t * p ≤ 127 * p = mul-le t p 127 p (omega arith) (omega arith) in absurd (omega (arith, m, l, g))) (λ (q : 128 ≤ t). q) (cases_lt t 128)
+        ⊎_elim (λ (q : t < 128). let m : t * p ≤ 127 * p = mul-le t p 127 p (omega arith) (omega arith) in absurd (omega (arith, m, l, g)))
+        (λ (q : 128 ≤ t). q) (cases_lt t 128)
 
     under : (t p r : ℕ) → 2 * (t * p + r) < p * 256 → t < 128
     under t p r g =
-        ⊎_elim (λ (q : t < 128). q) (λ (q : 128 ≤ t). let m : 128 * p ≤ t * p = mul-le 128 p t p q (omega arith) in absurd (omega (arith, m, g))) (cases_lt t 128)
+        ⊎_elim (λ (q : t < 128). q)
+        (λ (q : 128 ≤ t). let m : 128 * p ≤ t * p = mul-le 128 p t p q (omega arith) in absurd (omega (arith, m, g))) (cases_lt t 128)
 
 -- what a quotient or a remainder of integers is
 abbrev pub int_part : Bool → ℤ → ℤ → ℤ
@@ -108,7 +111,8 @@ plus_minus x z = (refl, refl)
 minus_plus : (x z : ℕ) → (int_div (negsuc x) (pos z) ≡ neg_ℤ (pos (suc x / z))) × (int_rem (negsuc x) (pos z) ≡ neg_ℤ (pos (suc x % z)))
 minus_plus x z = (refl, refl)
 
-minus_minus : (x z : ℕ) → (int_div (negsuc x) (negsuc z) ≡ pos (suc x / suc z)) × (int_rem (negsuc x) (negsuc z) ≡ neg_ℤ (pos (suc x % suc z)))
+minus_minus : (x z : ℕ)
+    → (int_div (negsuc x) (negsuc z) ≡ pos (suc x / suc z)) × (int_rem (negsuc x) (negsuc z) ≡ neg_ℤ (pos (suc x % suc z)))
 minus_minus x z = (refl, refl)
 
 -- a result by its sign and its magnitude
@@ -118,7 +122,10 @@ assembled : (r s : Bool) (top x z mx mz sign : ℕ) (n : ℤ) → negated_if (to
     → low_bytes (suc top) (wrapped (of_type s (suc top)) n) ≡ quotient_of r true top x z
 assembled r s top x z mx mz sign n ex ez es en l =
     ap (λ t. low_bytes (suc top) (wrapped (of_type s (suc top)) t)) en ∙ low_signed s sign (suc top) (part_of r mx mz) l
-    ∙ sym (ap (λ t. negated_if t (suc top) (part_of r (negated_if (top_byte top x / 128) (suc top) x) (negated_if (top_byte top z / 128) (suc top) z))) es
+    ∙ sym
+    (ap
+    (λ t. negated_if t (suc top)
+    (part_of r (negated_if (top_byte top x / 128) (suc top) x) (negated_if (top_byte top z / 128) (suc top) z))) es
     ∙ ap (λ t. negated_if sign (suc top) (part_of r t (negated_if (top_byte top z / 128) (suc top) z))) ex
     ∙ ap (λ t. negated_if sign (suc top) (part_of r mx t)) ez)
 
@@ -136,49 +143,66 @@ signed_part : (r s : Bool) (top x z : ℕ) (m n : ℤ) → x < 256 ^ suc top →
     → (Plus top x m ⊎ Minus top x m) → (Plus top z n ⊎ Minus top z n)
     → low_bytes (suc top) (wrapped (of_type s (suc top)) (int_part r m n)) ≡ quotient_of r true top x z
 signed_part true s top x z m n l k some (inl p) (inl q) =
-    assembled true s top x z x z 0 (int_part true m n) (rw (p.clear) refl) (rw (q.clear) refl) (p.clear) (rw (p.number, q.number) refl) (part_below true x z (256 ^ suc top) l some k)
+    assembled true s top x z x z 0 (int_part true m n) (rw (p.clear) refl) (rw (q.clear) refl) (p.clear) (rw (p.number, q.number) refl)
+    (part_below true x z (256 ^ suc top) l some k)
 signed_part false s top x z m n l k some (inl p) (inl q) =
-    assembled false s top x z x z 0 (int_part false m n) (rw (p.clear) refl) (rw (q.clear) refl) (crossed top x z 0 0 p.clear q.clear) (rw (p.number, q.number) refl) (part_below false x z (256 ^ suc top) l some k)
+    assembled false s top x z x z 0 (int_part false m n) (rw (p.clear) refl) (rw (q.clear) refl) (crossed top x z 0 0 p.clear q.clear)
+    (rw (p.number, q.number) refl) (part_below false x z (256 ^ suc top) l some k)
 signed_part true s top x z m n l k some (inl p) (inr q) =
     let e = q.whole in
     let mz = suc q.rest in
-    assembled true s top x z x mz 0 (int_part true m n) (rw (p.clear) refl) (ap (λ t. negated_if t (suc top) z) q.set ∙ magnitude top z q.rest q.whole some) (p.clear) (rw (p.number, q.number) refl) (part_below true x mz (256 ^ suc top) l (omega arith) (omega (arith, e, some)))
+    assembled true s top x z x mz 0 (int_part true m n) (rw (p.clear) refl)
+    (ap (λ t. negated_if t (suc top) z) q.set ∙ magnitude top z q.rest q.whole some) (p.clear) (rw (p.number, q.number) refl)
+    (part_below true x mz (256 ^ suc top) l (omega arith) (omega (arith, e, some)))
 signed_part false s top x z m n l k some (inl p) (inr q) =
     let e = q.whole in
     let mz = suc q.rest in
-    assembled false s top x z x mz 1 (int_part false m n) (rw (p.clear) refl) (ap (λ t. negated_if t (suc top) z) q.set ∙ magnitude top z q.rest q.whole some) (crossed top x z 0 1 p.clear q.set) (rw (p.number, q.number) refl) (part_below false x mz (256 ^ suc top) l (omega arith) (omega (arith, e, some)))
+    assembled false s top x z x mz 1 (int_part false m n) (rw (p.clear) refl)
+    (ap (λ t. negated_if t (suc top) z) q.set ∙ magnitude top z q.rest q.whole some) (crossed top x z 0 1 p.clear q.set)
+    (rw (p.number, q.number) refl) (part_below false x mz (256 ^ suc top) l (omega arith) (omega (arith, e, some)))
 signed_part true s top x z m n l k some (inr p) (inl q) =
     let e = p.whole in
     let i = p.some in
     let mx = suc p.rest in
-    assembled true s top x z mx z 1 (int_part true m n) (ap (λ t. negated_if t (suc top) x) p.set ∙ magnitude top x p.rest p.whole p.some) (rw (q.clear) refl) (p.set) (rw (p.number, q.number) refl) (part_below true mx z (256 ^ suc top) (omega (arith, e, i)) some k)
+    assembled true s top x z mx z 1 (int_part true m n) (ap (λ t. negated_if t (suc top) x) p.set ∙ magnitude top x p.rest p.whole p.some)
+    (rw (q.clear) refl) (p.set) (rw (p.number, q.number) refl) (part_below true mx z (256 ^ suc top) (omega (arith, e, i)) some k)
 signed_part false s top x z m n l k some (inr p) (inl q) =
     let e = p.whole in
     let i = p.some in
     let mx = suc p.rest in
-    assembled false s top x z mx z 1 (int_part false m n) (ap (λ t. negated_if t (suc top) x) p.set ∙ magnitude top x p.rest p.whole p.some) (rw (q.clear) refl) (crossed top x z 1 0 p.set q.clear) (rw (p.number, q.number) refl) (part_below false mx z (256 ^ suc top) (omega (arith, e, i)) some k)
+    assembled false s top x z mx z 1 (int_part false m n)
+    (ap (λ t. negated_if t (suc top) x) p.set ∙ magnitude top x p.rest p.whole p.some) (rw (q.clear) refl)
+    (crossed top x z 1 0 p.set q.clear) (rw (p.number, q.number) refl) (part_below false mx z (256 ^ suc top) (omega (arith, e, i)) some k)
 signed_part true s top x z m n l k some (inr p) (inr q) =
     let e = p.whole in
     let i = p.some in
     let f = q.whole in
     let mx = suc p.rest in
     let mz = suc q.rest in
-    assembled true s top x z mx mz 1 (int_part true m n) (ap (λ t. negated_if t (suc top) x) p.set ∙ magnitude top x p.rest p.whole p.some) (ap (λ t. negated_if t (suc top) z) q.set ∙ magnitude top z q.rest q.whole some) (p.set) (rw (p.number, q.number) refl) (part_below true mx mz (256 ^ suc top) (omega (arith, e, i)) (omega arith) (omega (arith, f, some)))
+    assembled true s top x z mx mz 1 (int_part true m n) (ap (λ t. negated_if t (suc top) x) p.set ∙ magnitude top x p.rest p.whole p.some)
+    (ap (λ t. negated_if t (suc top) z) q.set ∙ magnitude top z q.rest q.whole some) (p.set) (rw (p.number, q.number) refl)
+    (part_below true mx mz (256 ^ suc top) (omega (arith, e, i)) (omega arith) (omega (arith, f, some)))
 signed_part false s top x z m n l k some (inr p) (inr q) =
     let e = p.whole in
     let i = p.some in
     let f = q.whole in
     let mx = suc p.rest in
     let mz = suc q.rest in
-    assembled false s top x z mx mz 0 (int_part false m n) (ap (λ t. negated_if t (suc top) x) p.set ∙ magnitude top x p.rest p.whole p.some) (ap (λ t. negated_if t (suc top) z) q.set ∙ magnitude top z q.rest q.whole some) (crossed top x z 1 1 p.set q.set) (rw (p.number, q.number) refl) (part_below false mx mz (256 ^ suc top) (omega (arith, e, i)) (omega arith) (omega (arith, f, some)))
+    assembled false s top x z mx mz 0 (int_part false m n)
+    (ap (λ t. negated_if t (suc top) x) p.set ∙ magnitude top x p.rest p.whole p.some)
+    (ap (λ t. negated_if t (suc top) z) q.set ∙ magnitude top z q.rest q.whole some) (crossed top x z 1 1 p.set q.set)
+    (rw (p.number, q.number) refl) (part_below false mx mz (256 ^ suc top) (omega (arith, e, i)) (omega arith) (omega (arith, f, some)))
 
 pub quotient_low : (r signed s : Bool) (top x z : ℕ) → x < 256 ^ suc top → z < 256 ^ suc top → 1 ≤ z
-    → low_bytes (suc top) (wrapped (of_type s (suc top)) (int_part r (number_of_bytes signed (suc top) x) (number_of_bytes signed (suc top) z)))
+    → low_bytes (suc top)
+    (wrapped (of_type s (suc top)) (int_part r (number_of_bytes signed (suc top) x) (number_of_bytes signed (suc top) z)))
     ≡ quotient_of r signed top x z
 quotient_low r false s top x z l k some =
-    ap (λ t. low_bytes (suc top) (wrapped (of_type s (suc top)) t)) (plus_plus r x z) ∙ low_signed s 0 (suc top) (part_of r x z) (part_below r x z (256 ^ suc top) l some k)
+    ap (λ t. low_bytes (suc top) (wrapped (of_type s (suc top)) t)) (plus_plus r x z)
+    ∙ low_signed s 0 (suc top) (part_of r x z) (part_below r x z (256 ^ suc top) l some k)
 quotient_low r true s top x z l k some =
-    signed_part r s top x z (number_of_bytes true (suc top) x) (number_of_bytes true (suc top) z) l k some (signed_is top x l) (signed_is top z k)
+    signed_part r s top x z (number_of_bytes true (suc top) x) (number_of_bytes true (suc top) z) l k some (signed_is top x l)
+    (signed_is top z k)
 
 negated_below : (sign n q : ℕ) → q < 256 ^ n → negated_if sign n q < 256 ^ n
 negated_below zero n q l = l

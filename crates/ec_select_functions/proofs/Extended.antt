@@ -22,11 +22,11 @@ use Rattle.ec_core.specs.State.{worked}
 use Rattle.ec_ir.specs.declared.operations.Temp.{Temp}
 use Rattle.ec_ir.specs.Meaning.{Mach, machine}
 use Rattle.ec_ir.specs.Temporaries.{bits, with_content, low_bytes, number_of_bytes}
-use Rattle.ec_select_functions.specs.Homes.{HasHome}
+use Rattle.ec_select_operations.specs.Homes.{HasHome}
 use Rattle.ec_select_bytes.specs.Values.{extend_code, fill_of}
 use Rattle.ec_select_bytes.proofs.Extensions.{extensions_are_right}
-use Rattle.ec_select_functions.specs.Code.{move_code, conversion_code}
-use Rattle.ec_select_functions.specs.Needs.{Need, at_least, without, wanted}
+use Rattle.ec_select_operations.specs.Code.{move_code, conversion_code}
+use Rattle.ec_select_operations.specs.Needs.{Need, at_least, without, wanted}
 use Rattle.ec_select_functions.proofs.Setting.{Setting}
 use Rattle.ec_select_functions.specs.Relation.{Matches}
 use Rattle.ec_select_functions.proofs.Computed.{work_after}
@@ -95,7 +95,8 @@ filled signed f a m w low l here small there =
     let parts : r + top * p ≡ low = here in
     by_sign signed d e r top p s below under grows parts there
   where
-    plain : (d : ℕ) → suc m + d ≡ w → low < 256 ^ suc m → 256 ^ suc m ≤ 256 ^ w → ((j : ℕ) → suc m ≤ j → j < w → f (a + j) ≡ 0) → value f a w ≡ low_bytes w (pos low)
+    plain : (d : ℕ) → suc m + d ≡ w → low < 256 ^ suc m → 256 ^ suc m ≤ 256 ^ w → ((j : ℕ) → suc m ≤ j → j < w → f (a + j) ≡ 0)
+        → value f a w ≡ low_bytes w (pos low)
     plain d e under grows k =
         let x = no_bytes f a (suc m) d low here (λ j q i. k j q (omega arith)) in
         let lift : Lifts (pos low) w low = record { k = 0; is = omega (arith, ints) } in
@@ -111,7 +112,8 @@ filled signed f a m w low l here small there =
         let at : value f a w ≡ far = omega (arith, x1, under, grows) in
         at ∙ sym (low_of (pos low -ℤ pos (256 ^ suc m)) w far lift ∙ kept_below far (256 ^ w) (omega (arith, under, grows)))
 
-    by_sign : (signed : Bool) (d : ℕ) → suc m + d ≡ w → (r top p : ℕ) → 256 ^ suc m ≡ p * 256 → r < p → low < 256 ^ suc m → 256 ^ suc m ≤ 256 ^ w → r + top * p ≡ low
+    by_sign : (signed : Bool) (d : ℕ) → suc m + d ≡ w → (r top p : ℕ) → 256 ^ suc m ≡ p * 256 → r < p → low < 256 ^ suc m
+        → 256 ^ suc m ≤ 256 ^ w → r + top * p ≡ low
         → ((j : ℕ) → suc m ≤ j → j < w → f (a + j) ≡ fill_of signed top)
         → value f a w ≡ low_bytes w (number_of_bytes signed (suc m) low)
     by_sign false d e r top p s below under grows parts k = plain d e under grows k
@@ -134,7 +136,8 @@ filled signed f a m w low l here small there =
         top_bound r top p u q s =
             ⊎_elim
             (λ (g : top < 256). g)
-            (λ (g : 256 ≤ top). let x : 256 * p ≤ top * p = mul-le 256 p top p (omega arith) (omega arith) in absurd (omega (arith, x, u, q, s)))
+            (λ (g : 256 ≤ top). let x : 256 * p ≤ top * p = mul-le 256 p top p (omega arith) (omega arith) in absurd
+            (omega (arith, x, u, q, s)))
             (cases_lt top 256)
 
 -- the low bytes of a number of n bytes
@@ -143,9 +146,10 @@ shortened signed n w low l =
     let z = number_of_bytes signed n low in
     sym (mod_less low w n l) ∙ ap (λ t. t % 256 ^ w) (sym (low_of z n low (lifts_number signed n low))) ∙ low_part z w n l
 
-module _ (p : PlainProgram) (e : Env) (slots : ℕ) (home : Temp → Location) (base : Temp → ℕ) (place : ℕ → ℕ) (y : Setting p e slots home base place) where
+module _ (p : PlainProgram) (e : Env) (slots : ℕ) (home : Temp → Location) (base : Temp → ℕ) (place : ℕ → ℕ)
+    (y : Setting p e slots home base place) where
   abbrev C : Need → Mach → View → Type 0
-  C need m v = Matches p y.inputs slots base place y.aside y.was need m v
+  C need m v = Matches p e y.inputs slots base place y.aside y.was need m v
 
   -- what a conversion leaves
   pub record Converted (signed : Bool) (t : Temp) (bytes n low : ℕ) (v w : View) : Type 0 where
@@ -164,7 +168,9 @@ module _ (p : PlainProgram) (e : Env) (slots : ℕ) (home : Temp → Location) (
       → value v.at c n ≡ low % 256 ^ n → Converted signed t m n low v (block e (move_code q (home t) n) v)
   shorter signed t q c m n low v it sq far lt la h is =
       let v1 = block e (move_code q (home t) n) v in
-      let k = move_holds e q (home t) n c (base t) v (stands_less e q m n c Own la sq) (stands_less e (home t) t.bytes n (base t) Own lt (y.layout.temps_at t it)) far h in
+      let k =
+      move_holds e q (home t) n c (base t) v (stands_less e q m n c Own la sq)
+      (stands_less e (home t) t.bytes n (base t) Own lt (y.layout.temps_at t it)) far h in
       record {
         result = row_value v1.at v.at c (base t) n k.there ∙ is ∙ shortened signed m n low la;
         frame = k.frame;
@@ -182,17 +188,26 @@ module _ (p : PlainProgram) (e : Env) (slots : ℕ) (home : Temp → Location) (
       let v1 = block e (move_code q (home t) (suc m)) v in
       let v2 = block e (extend_code signed (home t) (suc m) n) v1 in
       let st = (y.layout.temps_at t it).clear in
-      let k = move_holds e q (home t) (suc m) c (base t) v sq (stands_less e (home t) t.bytes (suc m) (base t) Own (omega arith) (y.layout.temps_at t it)) far h in
+      let k =
+      move_holds e q (home t) (suc m) c (base t) v sq
+      (stands_less e (home t) t.bytes (suc m) (base t) Own (omega arith) (y.layout.temps_at t it)) far h in
       let numbers1 = moved_numbers v v1 c (base t) (suc m) sq.clear h k in
-      let x = extensions_are_right signed e (home t) m n (base t) v1 (stands_less e (home t) t.bytes n (base t) Own lt (y.layout.temps_at t it)) l numbers1 in
-      let kept : (j : ℕ) → j < suc m → v2.at (base t + j) ≡ v1.at (base t + j) = λ j q. x.keeps.same (base t + j) (omega arith) (omega arith) (λ i. absurd (omega arith)) in
+      let x =
+      extensions_are_right signed e (home t) m n (base t) v1
+      (stands_less e (home t) t.bytes n (base t) Own lt (y.layout.temps_at t it)) l numbers1 in
+      let kept : (j : ℕ) → j < suc m → v2.at (base t + j) ≡ v1.at (base t + j) =
+      λ j q. x.keeps.same (base t + j) (omega arith) (omega arith) (λ i. absurd (omega arith)) in
       let low1 : value v1.at (base t) (suc m) ≡ low = row_value v1.at v.at c (base t) (suc m) k.there ∙ is in
       let low2 : value v2.at (base t) (suc m) ≡ low = value-same v2.at v1.at (base t) (suc m) kept ∙ low1 in
       let small : (j : ℕ) → j < suc m → v2.at (base t + j) < 256 = λ j q. rw (kept j q) (numbers1 (base t + j) (omega arith)) in
       let top = kept m (omega arith) in
-      let there : (j : ℕ) → suc m ≤ j → j < n → v2.at (base t + j) ≡ fill_of signed (v2.at (base t + m)) = λ j q i. x.there j q i ∙ ap (fill_of signed) (sym top) in
-      let frame2 : (i : ℕ) → i ≢ 0 → i ≢ 1 → Outside (base t) n i → v2.at i ≡ v1.at i = λ i d f o. x.keeps.same i d f (inner (base t) (suc m) n i l o) in
-      let bytes : (j : ℕ) → j < n → v2.at (base t + j) < 256 = λ j q. ⊎_elim (λ (i : j < suc m). small j i) (λ (i : suc m ≤ j). rw (there j i q) (fill_small signed (v2.at (base t + m)) (small m (omega arith)))) (cases_lt j (suc m)) in
+      let there : (j : ℕ) → suc m ≤ j → j < n → v2.at (base t + j) ≡ fill_of signed (v2.at (base t + m)) =
+      λ j q i. x.there j q i ∙ ap (fill_of signed) (sym top) in
+      let frame2 : (i : ℕ) → i ≢ 0 → i ≢ 1 → Outside (base t) n i → v2.at i ≡ v1.at i =
+      λ i d f o. x.keeps.same i d f (inner (base t) (suc m) n i l o) in
+      let bytes : (j : ℕ) → j < n → v2.at (base t + j) < 256 =
+      λ j q. ⊎_elim (λ (i : j < suc m). small j i)
+      (λ (i : suc m ≤ j). rw (there j i q) (fill_small signed (v2.at (base t + m)) (small m (omega arith)))) (cases_lt j (suc m)) in
       let work = work_after v1 v2 (base t) n numbers1 frame2 bytes in
       record {
         result = filled signed v2.at (base t) m n low l low2 small there;
@@ -212,7 +227,8 @@ module _ (p : PlainProgram) (e : Env) (slots : ℕ) (home : Temp → Location) (
       → Converted signed t (suc m) n low v (block e (extend_code signed (home t) (suc m) n) (block e (move_code q (home t) (suc m)) v))
       → Converted signed t (suc m) n low v (block e (move_code q (home t) (suc m) ++ extend_code signed (home t) (suc m) n) v)
   rw_block signed t q m n low v x =
-      subst (λ w. Converted signed t (suc m) n low v w) (sym (block-append e (move_code q (home t) (suc m)) (extend_code signed (home t) (suc m) n) v)) x
+      subst (λ w. Converted signed t (suc m) n low v w)
+      (sym (block-append e (move_code q (home t) (suc m)) (extend_code signed (home t) (suc m) n) v)) x
 
   -- a number of some bytes at a location, of which no byte is overwritten before it is read
   pub converted : (signed : Bool) (t : Temp) (q : Location) (c bytes n low : ℕ) (v : View) → HasHome slots t → 1 ≤ bytes
@@ -237,7 +253,9 @@ module _ (p : PlainProgram) (e : Env) (slots : ℕ) (home : Temp → Location) (
       let sq1 : StandsFrom e q (suc m) c Own = subst (λ j. StandsFrom e q j c Own) s sq in
       let x0 = longer signed t q c m n low v it sq1 (far (suc m) (omega arith)) lt (omega arith) h whole_low in
       let x1 = rw_block signed t q m n low v x0 in
-      let x2 : Converted signed t bytes n low v (block e (move_code q (home t) (suc m) ++ extend_code signed (home t) bytes n) v) = subst (λ j. Converted signed t j n low v (block e (move_code q (home t) (suc m) ++ extend_code signed (home t) j n) v)) (sym s) x1 in
+      let x2 : Converted signed t bytes n low v (block e (move_code q (home t) (suc m) ++ extend_code signed (home t) bytes n) v) =
+      subst (λ j. Converted signed t j n low v (block e (move_code q (home t) (suc m) ++ extend_code signed (home t) j n) v))
+      (sym s) x1 in
       subst (λ j. Converted signed t bytes n low v (block e (move_code q (home t) j ++ extend_code signed (home t) bytes n) v)) (sym k) x2)
       (cases_Bool (nat_le n bytes))
 
@@ -254,10 +272,14 @@ module _ (p : PlainProgram) (e : Env) (slots : ℕ) (home : Temp → Location) (
       let here = least_here a.at n (without t.at need) in
       let wide : min n a.bytes ≤ wanted need0 a = omega (arith, here) in
       let content = at_width p e slots home base place y need0 m v a _ (min n a.bytes) z ia q refl wide in
-      let k = converted signed t (home a) (base a) a.bytes n low v it ia.some (y.layout.temps_at a ia) (λ j l. read_first p e slots home base place y t a j it ia l) most content.1 z.bytes content.0 in
+      let k =
+      converted signed t (home a) (base a) a.bytes n low v it ia.some (y.layout.temps_at a ia)
+      (λ j l. read_first p e slots home base place y t a j it ia l) most content.1 z.bytes content.0 in
       let number = number_of_bytes signed a.bytes low in
       let result : value w.at (base t) n ≡ low_bytes t.bytes number % 256 ^ n = k.result ∙ sym (low_part number n t.bytes most) in
-      written p e slots home base place y t (bits (low_bytes t.bytes number)) need need0 m (worked c m.state) v w it z (λ i r. still i r) (wider_frame v w (base t) t.bytes n most k.frame) (result, low_below t.bytes number) k.numbers refl (k.quiet.seen ∙ z.seen) (kept_left y.inputs m.state v w (k.quiet.inputs) z.left) (k.quiet.safe ∙ z.safe)
+      written p e slots home base place y t (bits (low_bytes t.bytes number)) need need0 m (worked c m.state) v w it z (λ i r. still i r)
+      (wider_frame v w (base t) t.bytes n most k.frame) (result, low_below t.bytes number) k.numbers refl (k.quiet.seen ∙ z.seen)
+      (kept_left y.inputs m.state v w (k.quiet.inputs) z.left) (k.quiet.safe ∙ z.safe)
     where
       still : (i : ℕ) → i ≢ t.at → need i ≤ at_least a.at (wanted need t) (without t.at need) i
       still i r =

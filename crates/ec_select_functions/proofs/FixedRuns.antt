@@ -1,7 +1,10 @@
 -- Code that works in the work bytes, and then brings its result to a temporary.
-use Rattle.std.proofs.Common.{◌≡◌, ◌≢◌, ℕ, zero, suc, ◌+◌, ◌-◌, ◌*◌, ◌%◌, ◌^◌, ◌<◌, ◌≤◌, ◌==◌, ⊎_elim, Bool, true, false, List, [], ◌++◌, refl, sym, ap, ◌∙◌, subst, arith, append-nil}
+use Rattle.std.proofs.Common.{◌≡◌, ◌≢◌, ℕ, ◌+◌, ◌*◌, ◌%◌, ◌^◌, ◌<◌, ◌≤◌, ◌==◌, ⊎_elim, Bool, false, List, [], ◌++◌}
+use Rattle.std.proofs.Common.{refl, sym}
+use Rattle.std.proofs.Common.{ap, ◌∙◌, subst, arith, append-nil}
 use Rattle.std.specs.Prelude.{if◌then◌else◌}
 use Rattle.std.proofs.lemmas.Bool.{cases_lt}
+use Rattle.ec_space.specs.declared.space.Bank.TheVariants.{Data as DataBank}
 use Rattle.ec_asm.specs.declared.items.AsmItem.{AsmItem}
 use Rattle.ec_asm.specs.declared.pieces.Location.{Location}
 use Rattle.ec_asm.specs.declared.pieces.Operator.TheVariants.{Sum}
@@ -19,16 +22,16 @@ use Rattle.ec_core.specs.State.{Outcome, worked}
 use Rattle.ec_core.specs.declared.values.Value.{Value}
 use Rattle.ec_ir.specs.declared.operations.Temp.{Temp}
 use Rattle.ec_ir.specs.Meaning.{Mach, machine}
-use Rattle.ec_ir.specs.Temporaries.{Content, bits, with_content}
+use Rattle.ec_ir.specs.Temporaries.{bits, with_content}
 use Rattle.ec_fxcode.specs.ClampLaws.{IsClearOfEnds, AreApart}
 use Rattle.ec_fxcode.proofs.Moves.{part_stands, no_log}
 use Rattle.ec_fxcode_quotients.specs.QuotientLaws.{AreSlots}
 use Rattle.ec_fxcode_scales.specs.ScaleLaws.{Computes}
 use Rattle.ec_select_fixed.specs.FixedLaws.{AreOperandSlots}
-use Rattle.ec_select_functions.specs.Code.{work_location, answer_location, answer_code}
-use Rattle.ec_select_functions.specs.Homes.{HasHome}
-use Rattle.ec_select_functions.specs.Needs.{Need, wanted}
-use Rattle.ec_select_functions.specs.Places.{IsClear, Apart, NumberLeaf}
+use Rattle.ec_select_operations.specs.Code.{work_location, answer_location, answer_code}
+use Rattle.ec_select_operations.specs.Homes.{HasHome}
+use Rattle.ec_select_operations.specs.Needs.{Need, wanted}
+use Rattle.ec_select_operations.specs.Places.{IsClear, Apart, ObjectLeaf}
 use Rattle.ec_select_functions.specs.Relation.{accesses, Matches}
 use Rattle.ec_select_functions.proofs.Follow.{Follows, after}
 use Rattle.ec_select_functions.proofs.Match.{kept_left, wanted_most, same_content, same_leaf, written}
@@ -67,16 +70,22 @@ apart_from_part a n w i k some many l x =
     (λ (z : w ≤ a). let y = x.right z in record { first = λ q. absurd (omega arith); second = λ q. omega arith })
     (cases_lt a w)
 
-module _ (p : PlainProgram) (e : Env) (slots : ℕ) (home : Temp → Location) (base : Temp → ℕ) (place : ℕ → ℕ) (y : Setting p e slots home base place) where
+module _ (p : PlainProgram) (e : Env) (slots : ℕ) (home : Temp → Location) (base : Temp → ℕ) (place : ℕ → ℕ)
+    (y : Setting p e slots home base place) where
   abbrev M : Need → Mach → View → Type 0
-  M need m v = Matches p y.inputs slots base place y.aside y.was need m v
+  M need m v = Matches p e y.inputs slots base place y.aside y.was need m v
 
   -- the work bytes, and the result behind them
   work_there : StandsFrom e work_location 40 y.work Own
   work_there =
       let w = y.work_stands in
       let high = w.high in
-      record { at = λ i l. (let r : 0 + i ≡ i = omega arith in ap (e.address_of 1280) r ∙ w.at i (omega arith)); kind = λ i l. w.kind i (omega arith); clear = omega arith }
+      record {
+        at = λ i l. (let r : 0 + i ≡ i = omega arith in ap (e.address_of 1280) r ∙ w.at i (omega arith));
+        kind = λ i l. w.kind i
+            (omega arith);
+        clear = omega arith;
+      }
 
   answer_there : (k : ℕ) → k ≤ 24 → StandsFrom e answer_location k (y.work + 40) Own
   answer_there k l =
@@ -84,7 +93,8 @@ module _ (p : PlainProgram) (e : Env) (slots : ℕ) (home : Temp → Location) (
       let high = w.high in
       record {
         at = λ i m. w.at (40 + i) (omega arith) ∙ omega arith;
-        kind = λ i m. (let r : y.work + (40 + i) ≡ y.work + 40 + i = omega arith in subst (λ j. e.kind j ≡ Own) r (w.kind (40 + i) (omega arith)));
+        kind = λ i m.
+            (let r : y.work + (40 + i) ≡ y.work + 40 + i = omega arith in subst (λ j. e.kind j ≡ Own) r (w.kind (40 + i) (omega arith)));
         clear = omega arith;
       }
 
@@ -97,8 +107,11 @@ module _ (p : PlainProgram) (e : Env) (slots : ℕ) (home : Temp → Location) (
       → ((k : ℕ) → k ≢ 0 → k ≢ 1 → k ≢ 30 → k ≢ 31 → Outside y.work 64 k → v1.at k ≡ v.at k)
       → HoldsNumbers v1 → v1.inputs ≡ v.inputs → v1.safe ≡ v.safe → v1.seen ≡ v.seen → M need m v1
   undisturbed need m v v1 h same numbers inputs safe seen = record {
-    temps_hold = λ t c it q w. (let most = wanted_most need t in same_content v.at v1.at (base t) (wanted need t) t.bytes c.content (λ j l. temp_row t it j (omega arith)) (h.temps_hold t c it q w));
-    leaves_hold = λ l x u q w. same_leaf v.at v1.at (place l.object + l.at) l.bytes u (λ j m. leaf_row l j m) (h.leaves_hold l x u q w);
+    temps_hold = λ t c it q w. (let most = wanted_most need t in same_content p place v.at v1.at (base t) (wanted need t) t.bytes
+        c.content (λ j l. temp_row t it j (omega arith)) (h.temps_hold t c it q w));
+    leaves_hold = λ l x u q w. same_leaf p place v.at v1.at (place l.object + l.at) l.bytes u (λ j m. leaf_row l j m)
+        (h.leaves_hold l x u q w);
+    tables_hold = h.tables_hold;
     kept = λ k q. (let high = y.high k q in same k (omega arith) (omega arith) (omega arith) (omega arith) (y.work_aside k q)) ∙ h.kept k q;
     bytes = numbers;
     left = λ port. kept_left y.inputs m.state v v1 inputs h.left port;
@@ -112,7 +125,7 @@ module _ (p : PlainProgram) (e : Env) (slots : ℕ) (home : Temp → Location) (
           let ends = off_ends (base t) t.bytes j (y.layout.temps_work t it) l in
           same (base t + j) (omega arith) (omega arith) ends.0 ends.1 (apart_outside (base t) t.bytes y.work 64 j (y.temps_work t it) l)
 
-      leaf_row : (l : NumberLeaf p) (j : ℕ) → j < l.bytes → v1.at (place l.object + l.at + j) ≡ v.at (place l.object + l.at + j)
+      leaf_row : (l : ObjectLeaf p DataBank) (j : ℕ) → j < l.bytes → v1.at (place l.object + l.at + j) ≡ v.at (place l.object + l.at + j)
       leaf_row l j m =
           let two = (y.layout.leaves_at l).clear in
           let ends = off_ends (place l.object + l.at) l.bytes j (y.layout.leaves_work l) m in
@@ -122,7 +135,8 @@ module _ (p : PlainProgram) (e : Env) (slots : ℕ) (home : Temp → Location) (
 
   answer_matches : (t : Temp) (size z c : ℕ) (need need0 : Need) (m : Mach) (v1 : View) → HasHome slots t → size ≡ t.bytes
       → M need0 m v1 → ((u : ℕ) → u ≢ t.at → need u ≤ need0 u) → value v1.at (y.work + 40) size ≡ z
-      → M need (machine (with_content t (bits z) m.temps) (worked c m.state)) (block e (copy_code answer_location (home t) (wanted need t)) v1)
+      → M need (machine (with_content t (bits z) m.temps) (worked c m.state))
+      (block e (copy_code answer_location (home t) (wanted need t)) v1)
   answer_matches t size z c need need0 m v1 it same h more is =
       let k = wanted need t in
       let most = wanted_most need t in
@@ -131,33 +145,49 @@ module _ (p : PlainProgram) (e : Env) (slots : ℕ) (home : Temp → Location) (
       let v2 = block e (copy_code answer_location (home t) k) v1 in
       let from = answer_there k (omega arith) in
       let to = part_stands e (home t) t.bytes k (base t) most (y.layout.temps_at t it) in
-      let far = λ (q : y.work + 40 < base t). (let x = y.temps_work t it in let r : y.work + 40 + k ≤ base t = ⊎_elim (λ (u : base t < y.work). absurd (omega arith)) (λ (u : y.work ≤ base t). let w = x.right u in omega arith) (cases_lt (base t) y.work) in r) in
+      let far =
+      λ (q : y.work + 40 < base t).
+      (let x = y.temps_work t it in let r : y.work + 40 + k ≤ base t = ⊎_elim (λ (u : base t < y.work). absurd (omega arith))
+      (λ (u : y.work ≤ base t). let w = x.right u in omega arith) (cases_lt (base t) y.work) in r) in
       let d = copy_holds e answer_location (home t) k (y.work + 40) (base t) Own Own v1 from to refl refl far in
       let held = λ (j : ℕ) (l : j < size). (let r : v1.at (y.work + 40 + j) < 256 = h.bytes (y.work + 40 + j) (omega arith) in r) in
-      let below : z < 256 ^ t.bytes = subst (λ (n : ℕ). z < 256 ^ n) same (subst (λ (n : ℕ). n < 256 ^ size) is (value_below v1.at (y.work + 40) size held)) in
-      let low : value v1.at (y.work + 40) k ≡ z % 256 ^ k = sym (value_mod v1.at (y.work + 40) k size (omega arith) held) ∙ ap (λ n. n % 256 ^ k) is in
+      let below : z < 256 ^ t.bytes =
+      subst (λ (n : ℕ). z < 256 ^ n) same (subst (λ (n : ℕ). n < 256 ^ size) is (value_below v1.at (y.work + 40) size held)) in
+      let low : value v1.at (y.work + 40) k ≡ z % 256 ^ k =
+      sym (value_mod v1.at (y.work + 40) k size (omega arith) held) ∙ ap (λ n. n % 256 ^ k) is in
       let here : value v2.at (base t) k ≡ z % 256 ^ k = row_value v2.at v1.at (y.work + 40) (base t) k d.there ∙ low in
       let frame : Frame v1 v2 (base t) k = λ b f g q r. d.same b f r in
-      let thirty : v2.at 30 < 256 = subst (λ (n : ℕ). n < 256) (sym (d.same 30 (omega arith) (λ q. let r = work_outside (base t) t.bytes (y.layout.temps_work t it) q in omega arith))) (h.bytes 30 (omega arith)) in
-      let numbers = numbers_kept v1 v2 (base t) k h.bytes frame (λ j l. subst (λ (n : ℕ). n < 256) (sym (d.there j l)) (held j (omega arith))) thirty in
-      let seen : v2.seen ≡ accesses p place m.state.events = d.seen ∙ ap (λ l. v1.seen ++ l) (no_log (y.work + 40) (base t) v1.at k) ∙ append-nil v1.seen ∙ h.seen in
-      written p e slots home base place y t (bits z) need need0 m (worked c m.state) v1 v2 it h more (wider_frame v1 v2 (base t) t.bytes k most frame) (here, below)
+      let thirty : v2.at 30 < 256 =
+      subst (λ (n : ℕ). n < 256)
+      (sym (d.same 30 (omega arith) (λ q. let r = work_outside (base t) t.bytes (y.layout.temps_work t it) q in omega arith)))
+      (h.bytes 30 (omega arith)) in
+      let numbers =
+      numbers_kept v1 v2 (base t) k h.bytes frame
+      (λ j l. subst (λ (n : ℕ). n < 256) (sym (d.there j l)) (held j (omega arith))) thirty in
+      let seen : v2.seen ≡ accesses p place m.state.events =
+      d.seen ∙ ap (λ l. v1.seen ++ l) (no_log (y.work + 40) (base t) v1.at k) ∙ append-nil v1.seen ∙ h.seen in
+      written p e slots home base place y t (bits z) need need0 m (worked c m.state) v1 v2 it h more
+      (wider_frame v1 v2 (base t) t.bytes k most frame) (here, below)
       numbers refl seen (λ port. kept_left y.inputs m.state v1 v2 d.inputs h.left port) (d.safe ∙ h.safe)
 
   -- ---- the run
 
   -- all but the work bytes is kept by code that computes there
-  kept_by : (most pc mid size : ℕ) (v : View) (Holds : ℕ → Type 0) → size ≤ 24 → (r : Computes e most pc v mid (y.work + 40) size y.work Holds)
+  kept_by : (most pc mid size : ℕ) (v : View) (Holds : ℕ → Type 0) → size ≤ 24
+      → (r : Computes e most pc v mid (y.work + 40) size y.work Holds)
       → (k : ℕ) → k ≢ 0 → k ≢ 1 → k ≢ 30 → k ≢ 31 → Outside y.work 64 k → r.last.at k ≡ v.at k
   kept_by most pc mid size v Holds l r k a b c d o =
       r.same k a b c d (λ q. let w = o (omega arith) in omega arith) (λ q. let w = o q in omega arith)
 
-  pub answer_passes : (code : List AsmItem) (most size c n pc end : ℕ) (t : Temp) (need need0 : Need) (m : Mach) (v : View) (o : Outcome Value) (Holds : ℕ → Type 0)
+  pub answer_passes : (code : List AsmItem) (most size c n pc end : ℕ) (t : Temp) (need need0 : Need) (m : Mach) (v : View)
+      (o : Outcome Value) (Holds : ℕ → Type 0)
       → HasHome slots t → size ≡ t.bytes → M need0 m v → ((u : ℕ) → u ≢ t.at → need u ≤ need0 u) → (wanted need t == 0) ≡ false
       → HasAt e (answer_code code (home t) (wanted need t)) pc end
       → ((mid : ℕ) → HasAt e code pc mid → Computes e most pc v mid (y.work + 40) size y.work Holds)
       → most + 2 * t.bytes ≤ c
-      → ((z : ℕ) (v2 : View) → Holds z → M need (machine (with_content t (bits z) m.temps) (worked c m.state)) v2 → Follows p place e n (m.state.work + c) end v2 o)
+      →
+      ((z : ℕ) (v2 : View) → Holds z → M need (machine (with_content t (bits z) m.temps) (worked c m.state)) v2
+      → Follows p place e n (m.state.work + c) end v2 o)
       → Follows p place e n m.state.work pc v o
   answer_passes code most size c n pc end t need need0 m v o Holds it same h more some stands run room onward =
       let k = wanted need t in
@@ -175,7 +205,8 @@ module _ (p : PlainProgram) (e : Env) (slots : ℕ) (home : Temp → Location) (
       let second = block_goes e copy parts.0 end v1 (pieces_are_straight Sum answer_location (home t) k).0 parts.2 in
       let steps = (pieces_take Sum answer_location (home t) k).0.1 in
       let goes = goes_on_to e r.steps (code_steps copy) pc parts.0 end v v1 (block e copy v1) r.goes second in
-      after p place e (r.steps + code_steps copy) n n m.state.work (m.state.work + c) pc end v (block e copy v1) o goes (omega arith) (omega (arith, few, steps, wide, room))
+      after p place e (r.steps + code_steps copy) n n m.state.work (m.state.work + c) pc end v (block e copy v1) o goes (omega arith)
+      (omega (arith, few, steps, wide, room))
       (onward z (block e copy v1) r.holds matches)
 
   -- ---- slots
@@ -187,9 +218,25 @@ module _ (p : PlainProgram) (e : Env) (slots : ℕ) (home : Temp → Location) (
     divisor = y.layout.temps_at b ib;
     result = answer_there k (omega arith);
     work = work_there;
-    clear = (clear_of_ends (base a) a.bytes (y.layout.temps_work a ia), clear_of_ends (base b) b.bytes (y.layout.temps_work b ib), far_from_ends 40 k, work_clear);
-    apart = (as_apart (base a) a.bytes (base b) b.bytes (y.layout.temps_apart a b ia ib other), apart_from_part (base a) a.bytes y.work 40 k ia.some some (omega arith) (y.temps_work a ia), from_work a ia);
-    others = (apart_from_part (base b) b.bytes y.work 40 k ib.some some (omega arith) (y.temps_work b ib), from_work b ib, record { first = λ q. absurd (omega arith); second = λ q. omega arith });
+    clear = (
+      clear_of_ends (base a) a.bytes (y.layout.temps_work a ia),
+      clear_of_ends (base b) b.bytes
+          (y.layout.temps_work b ib),
+      far_from_ends 40 k,
+      work_clear,
+    );
+    apart = (
+      as_apart (base a) a.bytes (base b) b.bytes (y.layout.temps_apart a b ia ib other),
+      apart_from_part
+          (base a) a.bytes y.work 40 k ia.some some (omega arith) (y.temps_work a ia),
+      from_work a ia,
+    );
+    others = (
+      apart_from_part (base b) b.bytes y.work 40 k ib.some some (omega arith)
+          (y.temps_work b ib),
+      from_work b ib,
+      record { first = λ q. absurd (omega arith); second = λ q. omega arith },
+    );
   }
     where
       work_clear : IsClearOfEnds y.work 40
@@ -208,7 +255,12 @@ module _ (p : PlainProgram) (e : Env) (slots : ℕ) (home : Temp → Location) (
     result = answer_there k (omega arith);
     work = work_there;
     clear = (clear_of_ends (base a) a.bytes (y.layout.temps_work a ia), far_from_ends 40 k, work_clear);
-    apart = (apart_from_part (base a) a.bytes y.work 40 k ia.some some (omega arith) (y.temps_work a ia), from_work, record { first = λ q. absurd (omega arith); second = λ q. omega arith });
+    apart = (
+      apart_from_part (base a) a.bytes y.work 40 k ia.some some (omega arith)
+          (y.temps_work a ia),
+      from_work,
+      record { first = λ q. absurd (omega arith); second = λ q. omega arith },
+    );
   }
     where
       work_clear : IsClearOfEnds y.work 40

@@ -17,7 +17,7 @@ use Rattle.ec_core.specs.Plain.{integer, void, PlainProgram}
 use Rattle.ec_core.specs.State.{State, Outcome, got, more, undefined, next, given}
 use Rattle.ec_ir.specs.declared.operations.Temp.{Temp}
 use Rattle.ec_ir.specs.Meaning.{held_as}
-use Rattle.ec_ir.specs.Temporaries.{Content, bits, points, value_in, Held, Temps, read_held, held, number_of_bytes}
+use Rattle.ec_ir.specs.Temporaries.{Content, bits, points, value_of_type, Held, Temps, read_held, held, number_of_bytes}
 use Rattle.ec_select_functions.specs.Kept.{are_on_ports}
 use Rattle.ec_select_functions.specs.Relation.{accesses}
 
@@ -73,18 +73,47 @@ module _ (p : PlainProgram) (place : ℕ → ℕ) (e : Env) where
       let f = h ports in
       let l = f.least in
       let m = f.most in
-      record { steps = k + f.steps; to = f.to; last = f.last; least = omega arith; most = omega arith; goes = goes_on_to e k f.steps pc pc1 f.to v v1 f.last g f.goes; seen = f.seen; safe = f.safe }
+      record {
+        steps = k + f.steps;
+        to = f.to;
+        last = f.last;
+        least = omega arith;
+        most = omega arith;
+        goes = goes_on_to e k f.steps pc pc1 f.to v v1 f.last g f.goes;
+        seen = f.seen;
+        safe = f.safe;
+      }
   after k n n1 w w1 pc pc1 v v1 (got x s) g a b h =
       λ ports.
       let f = h ports in
       let m = f.most in
-      record { steps = k + f.steps; to = f.to; last = f.last; most = omega arith; goes = goes_on_to e k f.steps pc pc1 f.to v v1 f.last g f.goes; stop = f.stop; seen = f.seen; safe = f.safe; result = f.result }
+      record {
+        steps = k + f.steps;
+        to = f.to;
+        last = f.last;
+        most = omega arith;
+        goes = goes_on_to e k f.steps pc pc1 f.to v v1 f.last g f.goes;
+        stop = f.stop;
+        seen = f.seen;
+        safe = f.safe;
+        result = f.result;
+      }
   after k n n1 w w1 pc pc1 v v1 (undefined point s) g a b f = tt
 
   -- nothing has been done
   pub stay : (pc : ℕ) (v : View) (s : State) → v.seen ≡ accesses p place s.events → v.safe ≡ true
       → F 0 s.work pc v (more s)
-  stay pc v s seen safe ports = record { steps = 0; to = pc; last = v; least = omega arith; most = omega arith; goes = record { by = refl }; seen = seen; safe = safe }
+  stay pc v s seen safe ports =
+      record {
+        steps = 0;
+        to = pc;
+        last = v;
+        least = omega arith;
+        most = omega arith;
+        goes = record { by = refl };
+        seen = seen;
+        safe = safe;
+      }
 
   -- where ports of the machine alone are accessed
   pub with_ports : (n w pc : ℕ) (v : View) (o : Outcome Value) → (are_on_ports e (state_of o).events ≡ true → F n w pc v o)
@@ -118,23 +147,24 @@ module _ (p : PlainProgram) (place : ℕ → ℕ) (e : Env) where
   pub from_number : (signed : Bool) (t : Temp) (temps : Temps) (s : State) (go : Value → State → Outcome Value)
       (n w pc : ℕ) (v : View) → ((low : ℕ) → temps t.at ≡ Some (record { bytes = t.bytes; content = bits low })
       → F n w pc v (go (Number (number_of_bytes signed t.bytes low)) s))
-      → F n w pc v (next (held_as (integer signed t.bytes) t temps s) go)
+      → F n w pc v (next (held_as p (integer signed t.bytes) t temps s) go)
   from_number signed t temps s go n w pc v f =
       subst (λ o. F n w pc v o) (sym (next_next (held t temps s) _ go))
-      (from_held t temps s (λ content s1. next (given (value_in (integer signed t.bytes) content) s1) go) n w pc v (λ h q r. by_content h q r h.content refl))
+      (from_held t temps s (λ content s1. next (given (value_of_type p (integer signed t.bytes) content) s1) go) n w pc v
+      (λ h q r. by_content h q r h.content refl))
     where
       by_content : (h : Held) → temps t.at ≡ Some h → h.bytes ≡ t.bytes → (c : Content) → h.content ≡ c
-          → F n w pc v (next (given (value_in (integer signed t.bytes) c) s) go)
+          → F n w pc v (next (given (value_of_type p (integer signed t.bytes) c) s) go)
       by_content h q r (bits low) i = f low (q ∙ ap Some (held_is h t.bytes (bits low) r i))
       by_content h q r (points x) i = tt
 
   -- one that holds nothing that an operation can use
   pub from_nothing : (t : Temp) (temps : Temps) (s : State) (go : Value → State → Outcome Value) (n w pc : ℕ) (v : View)
-      → F n w pc v (next (held_as void t temps s) go)
+      → F n w pc v (next (held_as p void t temps s) go)
   from_nothing t temps s go n w pc v =
       subst (λ o. F n w pc v o) (sym (next_next (held t temps s) _ go))
-      (from_held t temps s (λ content s1. next (given (value_in void content) s1) go) n w pc v (λ h q r. by_content h.content))
+      (from_held t temps s (λ content s1. next (given (value_of_type p void content) s1) go) n w pc v (λ h q r. by_content h.content))
     where
-      by_content : (c : Content) → F n w pc v (next (given (value_in void c) s) go)
+      by_content : (c : Content) → F n w pc v (next (given (value_of_type p void c) s) go)
       by_content (bits low) = tt
       by_content (points x) = tt

@@ -14,11 +14,15 @@ pub mod PortMatch
 pub mod Fronts
 pub mod Numbers
 pub mod Numeric
+pub mod Going
+pub mod Pointed
+pub mod Reached
+pub mod PointerNumbers
+pub mod MemorySteps
+pub mod PointerSteps
 pub mod Steps
 pub mod Extended
-pub mod Emits
 pub mod Standing
-pub mod Written
 pub mod Orders
 pub mod Truth
 pub mod Related

@@ -1,11 +1,14 @@
 -- What an operation leaves matches what it means.
-use Rattle.std.proofs.Common.{◌≡◌, ◌≢◌, ℕ, ◌+◌, ◌%◌, ◌^◌, ◌<◌, ◌≤◌, ⊎_elim, true, Some, sym, ap, ◌∙◌, subst, arith}
+use Rattle.std.proofs.Common.{◌≡◌, ◌≢◌, ℕ, ◌+◌, ◌%◌, ◌^◌, ◌<◌, ◌≤◌, ⊎_elim, true, Some, None, sym, ap, ◌∙◌, subst}
+use Rattle.std.proofs.Common.{arith}
 use Rattle.std.specs.Prelude.{◌==◌, if◌then◌else◌, slice_get}
 use Rattle.std.proofs.lemmas.Bool.{cases_eq, eq-eqb, ne_eqb}
 use Rattle.std.proofs.lemmas.Bool.Decides.{nat_tests}
+use Rattle.ec_space.specs.declared.space.Bank.TheVariants.{Data as DataBank}
 use Rattle.ec_asm.specs.declared.pieces.Location.{Location}
 use Rattle.ec_asm.specs.View.{View}
 use Rattle.ec_asm.specs.Change.{Env}
+use Rattle.ec_asm.specs.Pieces.{value}
 use Rattle.ec_asm.specs.PieceLaws.{HoldsNumbers, IsReadFirst, AreHeld}
 use Rattle.ec_asm.proofs.Numbers.{value_mod, mod_less}
 use Rattle.ec_asm.proofs.Sum.{value-same}
@@ -16,30 +19,36 @@ use Rattle.ec_core.specs.State.{Inputs, State}
 use Rattle.ec_ir.specs.declared.operations.Temp.{Temp}
 use Rattle.ec_ir.specs.Meaning.{Mach, machine}
 use Rattle.ec_ir.specs.Temporaries.{Content, bits, points, Held, with_content}
-use Rattle.ec_select_functions.specs.Homes.{HasHome}
-use Rattle.ec_select_functions.specs.Needs.{Need, at_least, without, wanted}
-use Rattle.ec_select_functions.specs.Places.{NumberLeaf, Apart}
+use Rattle.ec_select_operations.specs.Homes.{HasHome}
+use Rattle.ec_select_operations.specs.Needs.{Need, at_least, without, wanted}
+use Rattle.ec_select_operations.specs.Places.{ObjectLeaf, Apart}
+use Rattle.ec_select_operations.specs.Pointers.{address_number}
 use Rattle.ec_select_functions.proofs.Setting.{Setting}
 use Rattle.ec_select_functions.specs.Relation.{accesses, AreLeft, HoldsContent, HoldsLeaf, Matches}
 use Rattle.ec_select_functions.proofs.Moves.{Frame, Wide, widened, row_kept_wide}
 
 -- ---- contents
 
-pub less_content : (f : ℕ → ℕ) (a n m bytes : ℕ) (c : Content) → m ≤ n → AreHeld f a n → HoldsContent f a n bytes c
-    → HoldsContent f a m bytes c
-less_content f a n m bytes (bits low) l held h =
-    (sym (value_mod f a m n l held) ∙ ap (λ t. t % 256 ^ m) h.0 ∙ mod_less low m n l, h.1)
-less_content f a n m bytes (points q) l held h = h
+-- fewer low bytes
+pub less_value : (f : ℕ → ℕ) (a n m x : ℕ) → m ≤ n → AreHeld f a n → value f a n ≡ x % 256 ^ n → value f a m ≡ x % 256 ^ m
+less_value f a n m x l held h = sym (value_mod f a m n l held) ∙ ap (λ t. t % 256 ^ m) h ∙ mod_less x m n l
 
-pub same_content : (f g : ℕ → ℕ) (a n bytes : ℕ) (c : Content) → ((j : ℕ) → j < n → g (a + j) ≡ f (a + j))
-    → HoldsContent f a n bytes c → HoldsContent g a n bytes c
-same_content f g a n bytes (bits low) s h = (value-same g f a n s ∙ h.0, h.1)
-same_content f g a n bytes (points q) s h = h
+pub less_content : (p : PlainProgram) (place : ℕ → ℕ) (f : ℕ → ℕ) (a n m bytes : ℕ) (c : Content) → m ≤ n → AreHeld f a n
+    → HoldsContent p place f a n bytes c → HoldsContent p place f a m bytes c
+less_content p place f a n m bytes (bits low) l held h = (less_value f a n m low l held h.0, h.1)
+less_content p place f a n m bytes (points q) l held h =
+    (less_value f a n m (address_number p place bytes q.object q.offset) l held h.0, h.1)
 
-pub same_leaf : (f g : ℕ → ℕ) (a n : ℕ) (u : Value) → ((j : ℕ) → j < n → g (a + j) ≡ f (a + j)) → HoldsLeaf f a n u
-    → HoldsLeaf g a n u
-same_leaf f g a n (Number i) s h = value-same g f a n s ∙ h
-same_leaf f g a n (Pointer q) s h = h
+pub same_content : (p : PlainProgram) (place : ℕ → ℕ) (f g : ℕ → ℕ) (a n bytes : ℕ) (c : Content)
+    → ((j : ℕ) → j < n → g (a + j) ≡ f (a + j)) → HoldsContent p place f a n bytes c → HoldsContent p place g a n bytes c
+same_content p place f g a n bytes (bits low) s h = (value-same g f a n s ∙ h.0, h.1)
+same_content p place f g a n bytes (points q) s h = (value-same g f a n s ∙ h.0, h.1)
+
+pub same_leaf : (p : PlainProgram) (place : ℕ → ℕ) (f g : ℕ → ℕ) (a n : ℕ) (u : Value)
+    → ((j : ℕ) → j < n → g (a + j) ≡ f (a + j)) → HoldsLeaf p place f a n u → HoldsLeaf p place g a n u
+same_leaf p place f g a n (Number i) s h = value-same g f a n s ∙ h
+same_leaf p place f g a n (Pointer None) s h = value-same g f a n s ∙ h
+same_leaf p place f g a n (Pointer (Some q)) s h = (value-same g f a n s ∙ h.0, h.1)
 
 abbrev temp_of : ℕ → ℕ → Temp
 temp_of at bytes = record { at = at; bytes = bytes }
@@ -72,20 +81,22 @@ pub kept_left : (inputs : Inputs) (s : State) (v v1 : View) → v1.inputs ≡ v.
     → AreLeft inputs s v1
 kept_left inputs s v v1 q h port = ap (λ f. f port) q ∙ h port
 
-module _ (p : PlainProgram) (e : Env) (slots : ℕ) (home : Temp → Location) (base : Temp → ℕ) (place : ℕ → ℕ) (y : Setting p e slots home base place) where
+module _ (p : PlainProgram) (e : Env) (slots : ℕ) (home : Temp → Location) (base : Temp → ℕ) (place : ℕ → ℕ)
+    (y : Setting p e slots home base place) where
   abbrev pub M : Need → Mach → View → Type 0
-  M need m v = Matches p y.inputs slots base place y.aside y.was need m v
+  M need m v = Matches p e y.inputs slots base place y.aside y.was need m v
 
   -- fewer bytes of a temporary that is read
   pub at_width : (need : Need) (m : Mach) (v : View) (t : Temp) (h : Held) (n : ℕ) → M need m v → HasHome slots t
       → m.temps t.at ≡ Some h → h.bytes ≡ t.bytes → n ≤ wanted need t
-      → HoldsContent v.at (base t) n t.bytes h.content
+      → HoldsContent p place v.at (base t) n t.bytes h.content
   at_width need m v t h n z it q w l =
-      less_content v.at (base t) (wanted need t) n t.bytes h.content l (held_row v (base t) (wanted need t) (y.layout.temps_at t it).clear z.bytes) (z.temps_hold t h it q w)
+      less_content p place v.at (base t) (wanted need t) n t.bytes h.content l
+      (held_row v (base t) (wanted need t) (y.layout.temps_at t it).clear z.bytes) (z.temps_hold t h it q w)
 
   -- the whole of it
   pub whole : (need : Need) (m : Mach) (v : View) (t : Temp) (h : Held) → M (at_least t.at t.bytes need) m v
-      → HasHome slots t → m.temps t.at ≡ Some h → h.bytes ≡ t.bytes → HoldsContent v.at (base t) t.bytes t.bytes h.content
+      → HasHome slots t → m.temps t.at ≡ Some h → h.bytes ≡ t.bytes → HoldsContent p place v.at (base t) t.bytes t.bytes h.content
   whole need m v t h z it q w =
       at_width (at_least t.at t.bytes need) m v t h t.bytes z it q w (let l = least_here t.at t.bytes need in omega (arith, l))
 
@@ -93,6 +104,7 @@ module _ (p : PlainProgram) (e : Env) (slots : ℕ) (home : Temp → Location) (
   weaker a b m v z l = record {
     temps_hold = λ t h it q w. at_width a m v t h (wanted b t) z it q w (wanted_more b a t (l t.at));
     leaves_hold = z.leaves_hold;
+    tables_hold = z.tables_hold;
     kept = z.kept;
     bytes = z.bytes;
     left = z.left;
@@ -115,12 +127,14 @@ module _ (p : PlainProgram) (e : Env) (slots : ℕ) (home : Temp → Location) (
   pub temp_row : (t u : Temp) (v v1 : View) → HasHome slots t → HasHome slots u → t.at ≢ u.at
       → Wide v v1 (base t) t.bytes → (j : ℕ) → j < u.bytes → v1.at (base u + j) ≡ v.at (base u + j)
   temp_row t u v v1 it iu other f j l =
-      row_kept_wide v v1 (base t) t.bytes (base u) u.bytes (y.layout.temps_at u iu).clear (y.layout.temps_work u iu) (y.layout.temps_apart t u it iu other) f j l
+      row_kept_wide v v1 (base t) t.bytes (base u) u.bytes (y.layout.temps_at u iu).clear (y.layout.temps_work u iu)
+      (y.layout.temps_apart t u it iu other) f j l
 
-  pub leaf_row : (t : Temp) (k : NumberLeaf p) (v v1 : View) → HasHome slots t → Wide v v1 (base t) t.bytes → (j : ℕ)
+  pub leaf_row : (t : Temp) (k : ObjectLeaf p DataBank) (v v1 : View) → HasHome slots t → Wide v v1 (base t) t.bytes → (j : ℕ)
       → j < k.bytes → v1.at (place k.object + k.at + j) ≡ v.at (place k.object + k.at + j)
   leaf_row t k v v1 it f j l =
-      row_kept_wide v v1 (base t) t.bytes (place k.object + k.at) k.bytes (y.layout.leaves_at k).clear (y.layout.leaves_work k) (y.layout.temp_leaf t k it) f j l
+      row_kept_wide v v1 (base t) t.bytes (place k.object + k.at) k.bytes (y.layout.leaves_at k).clear (y.layout.leaves_work k)
+      (y.layout.temp_leaf t k it) f j l
 
   -- bytes that are set aside
   aside_kept : (t : Temp) (v v1 : View) → HasHome slots t → Wide v v1 (base t) t.bytes → (k : ℕ) → y.aside k ≡ true
@@ -132,9 +146,9 @@ module _ (p : PlainProgram) (e : Env) (slots : ℕ) (home : Temp → Location) (
   -- what came of the temporaries: t was written, and of the others no more is needed than before
   written_temp : (t : Temp) (c : Content) (need need0 : Need) (m : Mach) (v v1 : View) → HasHome slots t → M need0 m v
       → ((u : ℕ) → u ≢ t.at → need u ≤ need0 u) → Wide v v1 (base t) t.bytes
-      → HoldsContent v1.at (base t) (wanted need t) t.bytes c → (u : Temp) (h : Held) → HasHome slots u
+      → HoldsContent p place v1.at (base t) (wanted need t) t.bytes c → (u : Temp) (h : Held) → HasHome slots u
       → with_content t c m.temps u.at ≡ Some h → h.bytes ≡ u.bytes
-      → HoldsContent v1.at (base u) (wanted need u) u.bytes h.content
+      → HoldsContent p place v1.at (base u) (wanted need u) u.bytes h.content
   written_temp t c need need0 m v v1 it z more frame here u h iu q w =
       ⊎_elim
       (λ same.
@@ -145,8 +159,8 @@ module _ (p : PlainProgram) (e : Env) (slots : ℕ) (home : Temp → Location) (
       let o : held ≡ h = cc in
       let s : t.bytes ≡ u.bytes = ap (λ (x : Held). x.bytes) o ∙ w in
       let i : t ≡ u = same_temp t u (sym same) s in
-      subst (λ (x : Temp). HoldsContent v1.at (base x) (wanted need x) x.bytes h.content) i
-      (subst (λ (x : Held). HoldsContent v1.at (base t) (wanted need t) t.bytes x.content) o here))
+      subst (λ (x : Temp). HoldsContent p place v1.at (base x) (wanted need x) x.bytes h.content) i
+      (subst (λ (x : Held). HoldsContent p place v1.at (base t) (wanted need t) t.bytes x.content) o here))
       (λ other.
       let b = ne_eqb u.at t.at other in
       let held : Held = record { bytes = t.bytes; content = c } in
@@ -154,17 +168,20 @@ module _ (p : PlainProgram) (e : Env) (slots : ℕ) (home : Temp → Location) (
       let g1 : m.temps u.at ≡ Some h = (rw b at g) in
       let k = at_width need0 m v u h (wanted need u) z iu g1 w (wanted_more need need0 u (more u.at other)) in
       let most = wanted_most need u in
-      same_content v.at v1.at (base u) (wanted need u) u.bytes h.content (λ j l. temp_row t u v v1 it iu (λ r. other (sym r)) frame j (omega arith)) k)
+      same_content p place v.at v1.at (base u) (wanted need u) u.bytes h.content
+      (λ j l. temp_row t u v v1 it iu (λ r. other (sym r)) frame j (omega arith)) k)
       (cases_eq u.at t.at)
 
   -- a temporary was written
   pub written_wide : (t : Temp) (c : Content) (need need0 : Need) (m : Mach) (s1 : State) (v v1 : View) → HasHome slots t
       → M need0 m v → ((u : ℕ) → u ≢ t.at → need u ≤ need0 u) → Wide v v1 (base t) t.bytes
-      → HoldsContent v1.at (base t) (wanted need t) t.bytes c → HoldsNumbers v1 → s1.objects ≡ m.state.objects
+      → HoldsContent p place v1.at (base t) (wanted need t) t.bytes c → HoldsNumbers v1 → s1.objects ≡ m.state.objects
       → v1.seen ≡ accesses p place s1.events → AreLeft y.inputs s1 v1 → v1.safe ≡ true → M need (machine (with_content t c m.temps) s1) v1
   written_wide t c need need0 m s1 v v1 it z more frame here numbers objects seen left safe = record {
     temps_hold = written_temp t c need need0 m v v1 it z more frame here;
-    leaves_hold = λ l x u q w. same_leaf v.at v1.at (place l.object + l.at) l.bytes u (leaf_row t l v v1 it frame) (z.leaves_hold l x u (ap (λ o. slice_get o l.object) (sym objects) ∙ q) w);
+    leaves_hold = λ l x u q w. same_leaf p place v.at v1.at (place l.object + l.at) l.bytes u (leaf_row t l v v1 it frame)
+        (z.leaves_hold l x u (ap (λ o. slice_get o l.object) (sym objects) ∙ q) w);
+    tables_hold = λ l x u q w. z.tables_hold l x u (ap (λ o. slice_get o l.object) (sym objects) ∙ q) w;
     kept = λ k q. aside_kept t v v1 it frame k q ∙ z.kept k q;
     bytes = numbers;
     left = left;
@@ -175,7 +192,7 @@ module _ (p : PlainProgram) (e : Env) (slots : ℕ) (home : Temp → Location) (
   -- the same where of the work registers R30 alone has changed
   pub written : (t : Temp) (c : Content) (need need0 : Need) (m : Mach) (s1 : State) (v v1 : View) → HasHome slots t
       → M need0 m v → ((u : ℕ) → u ≢ t.at → need u ≤ need0 u) → Frame v v1 (base t) t.bytes
-      → HoldsContent v1.at (base t) (wanted need t) t.bytes c → HoldsNumbers v1 → s1.objects ≡ m.state.objects
+      → HoldsContent p place v1.at (base t) (wanted need t) t.bytes c → HoldsNumbers v1 → s1.objects ≡ m.state.objects
       → v1.seen ≡ accesses p place s1.events → AreLeft y.inputs s1 v1 → v1.safe ≡ true → M need (machine (with_content t c m.temps) s1) v1
   written t c need need0 m s1 v v1 it z more frame here numbers objects seen left safe =
       written_wide t c need need0 m s1 v v1 it z more (widened v v1 (base t) t.bytes frame) here numbers objects seen left safe

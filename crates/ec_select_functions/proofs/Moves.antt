@@ -13,8 +13,8 @@ use Rattle.ec_asm.specs.PieceLaws.{HoldsNumbers, IsReadFirst}
 use Rattle.ec_asm.specs.declared.pieces.Operator.TheVariants.{Sum}
 use Rattle.ec_asm.proofs.Compared.{copy_holds}
 use Rattle.ec_asm.proofs.Results.{pieces_are_straight, pieces_take}
-use Rattle.ec_select_functions.specs.Code.{same_location, move_code}
-use Rattle.ec_select_functions.specs.Places.{Apart, IsClear}
+use Rattle.ec_select_operations.specs.Code.{same_location, move_code}
+use Rattle.ec_select_operations.specs.Places.{Apart, IsClear}
 
 -- all is kept but n bytes from b, R0, R1 and R30
 abbrev pub Frame : View → View → ℕ → ℕ → Type 0
@@ -32,7 +32,8 @@ widened v v1 b n f k x y w z o = f k x y (not_work k z) o
 
 pub work_outside : (a n : ℕ) → IsClear a n → Outside a n 30
 work_outside a n x l =
-    ⊎_elim (λ (q : a < 26). let z = x.high.left q in omega arith) (λ (q : 26 ≤ a). let z = x.high.right q in absurd (omega arith)) (cases_lt a 26)
+    ⊎_elim (λ (q : a < 26). let z = x.high.left q in omega arith) (λ (q : 26 ≤ a). let z = x.high.right q in absurd (omega arith))
+    (cases_lt a 26)
 
 -- nothing was seen
 pub record Quiet (v v1 : View) : Type 0 where
@@ -69,11 +70,13 @@ row_kept_wide v v1 b n a m some work x f j l =
   where
     outside_low : (a m j : ℕ) → IsClear a m → j < m → Outside 8 6 (a + j)
     outside_low a m j w l le =
-        ⊎_elim (λ (q : a < 8). let z = w.low.left q in absurd (omega arith)) (λ (q : 8 ≤ a). let z = w.low.right q in omega arith) (cases_lt a 8)
+        ⊎_elim (λ (q : a < 8). let z = w.low.left q in absurd (omega arith)) (λ (q : 8 ≤ a). let z = w.low.right q in omega arith)
+        (cases_lt a 8)
 
     outside_work : (a m j : ℕ) → IsClear a m → j < m → Outside 26 6 (a + j)
     outside_work a m j w l le =
-        ⊎_elim (λ (q : a < 26). let z = w.high.left q in absurd (omega arith)) (λ (q : 26 ≤ a). let z = w.high.right q in omega arith) (cases_lt a 26)
+        ⊎_elim (λ (q : a < 26). let z = w.high.left q in absurd (omega arith)) (λ (q : 26 ≤ a). let z = w.high.right q in omega arith)
+        (cases_lt a 26)
 
 -- n bytes from b and R30 are numbers, and all else is kept
 pub numbers_kept : (v v1 : View) (b n : ℕ) → HoldsNumbers v → Frame v v1 b n → ((j : ℕ) → j < n → v1.at (b + j) < 256)

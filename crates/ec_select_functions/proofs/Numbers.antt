@@ -17,15 +17,16 @@ use Rattle.ec_core.specs.Operators.{binary_result}
 use Rattle.ec_core.specs.Plain.{integer, PlainProgram}
 use Rattle.ec_core.specs.State.{State}
 use Rattle.ec_ir.specs.Temporaries.{low_bytes, number_of_bytes}
-use Rattle.ec_select_functions.specs.declared.families.Family.TheVariants.{Combined}
-use Rattle.ec_select_functions.specs.Code.{family_of}
+use Rattle.ec_select_operations.specs.declared.families.Family.TheVariants.{Combined}
+use Rattle.ec_select_operations.specs.Code.{family_of}
 use Rattle.ec_select_functions.proofs.Computed.{result_of}
 use Rattle.ec_select_functions.proofs.Wrapped.{low_of_sum, low_of_difference, low_of_bits}
 
 -- the number that an operator gives for two numbers of b bytes
 pub record Gives (op : BinOp) (f : Operator) (p : PlainProgram) (mode : Mode) (s s1 s2 : Bool) (b x z : ℕ) (st st1 : State) : Type 0 where
   pub number : ℤ
-  pub is : binary_result op (integer s b) mode (operand_of p (integer s1 b) (Number (number_of_bytes s1 b x)) st) (operand_of p (integer s2 b) (Number (number_of_bytes s2 b z)) st1) ≡ Ok (Number number)
+  pub is : binary_result op (integer s b) mode (operand_of p (integer s1 b) (Number (number_of_bytes s1 b x)) st)
+      (operand_of p (integer s2 b) (Number (number_of_bytes s2 b z)) st1) ≡ Ok (Number number)
   pub low : low_bytes b number ≡ result_of f b x z
 
 pub gives : (op : BinOp) (f : Operator) → family_of op ≡ Combined f → (p : PlainProgram) (mode : Mode) (s s1 s2 : Bool)
@@ -72,9 +73,11 @@ gives Eq f h p mode s s1 s2 b x z st st1 l k = absurd cc
 gives Ne f h p mode s s1 s2 b x z st st1 l k = absurd cc
 
 -- the same where the operands' bytes are as many
-pub record GivesOf (op : BinOp) (f : Operator) (p : PlainProgram) (mode : Mode) (s s1 s2 : Bool) (b b1 b2 x z : ℕ) (st st1 : State) : Type 0 where
+pub record GivesOf (op : BinOp) (f : Operator) (p : PlainProgram) (mode : Mode) (s s1 s2 : Bool) (b b1 b2 x z : ℕ)
+    (st st1 : State) : Type 0 where
   pub number : ℤ
-  pub is : binary_result op (integer s b) mode (operand_of p (integer s1 b1) (Number (number_of_bytes s1 b1 x)) st) (operand_of p (integer s2 b2) (Number (number_of_bytes s2 b2 z)) st1) ≡ Ok (Number number)
+  pub is : binary_result op (integer s b) mode (operand_of p (integer s1 b1) (Number (number_of_bytes s1 b1 x)) st)
+      (operand_of p (integer s2 b2) (Number (number_of_bytes s2 b2 z)) st1) ≡ Ok (Number number)
   pub low : low_bytes b number ≡ result_of f b x z
 
 pub gives_of : (op : BinOp) (f : Operator) → family_of op ≡ Combined f → (p : PlainProgram) (mode : Mode)

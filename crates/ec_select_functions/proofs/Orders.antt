@@ -28,8 +28,8 @@ use Rattle.ec_select_order.specs.declared.relations.Relation.{Relation}
 use Rattle.ec_select_order.specs.declared.relations.Relation.TheVariants.{Less as IsBelow, NotLess, Equal as IsSame}
 use Rattle.ec_select_order.specs.declared.relations.Relation.TheVariants.{NotEqual}
 use Rattle.ec_select_order.specs.Relations.{is_less, stand_so}
-use Rattle.ec_select_functions.specs.declared.families.Family.TheVariants.{Compared}
-use Rattle.ec_select_functions.specs.Code.{family_of}
+use Rattle.ec_select_operations.specs.declared.families.Family.TheVariants.{Compared}
+use Rattle.ec_select_operations.specs.Code.{family_of}
 use Rattle.ec_select_functions.proofs.Wrapped.{kept_below}
 
 -- ---- a number moved up
@@ -178,7 +178,9 @@ signed_ordered b x z some k l =
     let nz : number_of_bytes true b z ≡ signed_number h z = ap (λ p. if nat_le p (2 * z) then pos z -ℤ pos p else pos z) q in
     let rx = signed_rises x h k1 in
     let rz = signed_rises z h l1 in
-    sides true b x z h (moved (number_of_bytes true b x) (signed_number h x) h (moved_up b x) ((x + h) % (2 * h)) nx kx rx) (moved (number_of_bytes true b z) (signed_number h z) h (moved_up b z) ((z + h) % (2 * h)) nz kz rz) (λ e. up_once x z h k1 l1 (sym kx ∙ e ∙ kz))
+    sides true b x z h (moved (number_of_bytes true b x) (signed_number h x) h (moved_up b x) ((x + h) % (2 * h)) nx kx rx)
+    (moved (number_of_bytes true b z) (signed_number h z) h (moved_up b z) ((z + h) % (2 * h)) nz kz rz)
+    (λ e. up_once x z h k1 l1 (sym kx ∙ e ∙ kz))
   where
     half : (p h : ℕ) → p ≡ 2 * h → p / 2 ≡ h → 2 * h / 2 ≡ h
     half p h q r = omega arith
@@ -241,7 +243,8 @@ is_compared op r exchanged h = absurd cc
 pub decided : (op : BinOp) (r : Relation) (exchanged : Bool) → family_of op ≡ Compared r exchanged
     → (p : PlainProgram) (ty : PlainType) (mode : Mode) (s : Bool) (b x z : ℕ) (st st1 : State) → 1 ≤ b → x < 256 ^ b
     → z < 256 ^ b
-    → binary_result op ty mode (operand_of p (integer s b) (Number (number_of_bytes s b x)) st) (operand_of p (integer s b) (Number (number_of_bytes s b z)) st1)
+    → binary_result op ty mode (operand_of p (integer s b) (Number (number_of_bytes s b x)) st)
+    (operand_of p (integer s b) (Number (number_of_bytes s b z)) st1)
     ≡ Ok (Number (pos (from_bool (stand_so r s b (first_of_two exchanged x z) (first_of_two exchanged z x)))))
 decided op r exchanged h p ty mode s b x z st st1 some k l =
     let m = number_of_bytes s b x in

@@ -12,8 +12,8 @@ use Rattle.ec_asm.specs.Change.{Env, Own, Port, change, load_by, store_by, given
 use Rattle.ec_asm.specs.Items.{block}
 use Rattle.ec_asm.specs.Pieces.{address, KindIs}
 use Rattle.ec_asm.proofs.Bytes.{put_here, put_other}
-use Rattle.ec_select_functions.specs.Ports.{has_io_number, in_instruction, out_instruction, read_instruction}
-use Rattle.ec_select_functions.specs.Ports.{write_instruction, read_byte, write_byte}
+use Rattle.ec_select_operations.specs.Ports.{has_io_number, in_instruction, out_instruction, read_instruction}
+use Rattle.ec_select_operations.specs.Ports.{write_instruction, read_byte, write_byte}
 
 -- where the bytes of a port begin: an address that is known, or where there is an index that in Z
 abbrev pub PointsTo : Option Location → (port at : ℕ) → View → Type 0

@@ -1,5 +1,6 @@
 -- The form of the code of port operations.
-use Rattle.std.proofs.Common.{◌≡◌, ℕ, zero, suc, ◌+◌, ◌-◌, ◌*◌, ◌≤◌, Bool, true, false, [], ◌∷◌, ◌++◌, Option, Some, None, refl, arith}
+use Rattle.std.proofs.Common.{◌≡◌, ℕ, zero, suc, ◌+◌, ◌-◌, ◌*◌, ◌≤◌, Bool, true, false, [], ◌∷◌, ◌++◌, Option, Some}
+use Rattle.std.proofs.Common.{None, refl, arith}
 use Rattle.std.specs.Prelude.{◌==◌, if◌then◌else◌}
 use Rattle.ec_isa.specs.declared.instructions.Instr.TheVariants.{In, Out, Lds, Sts, Ldi, Add}
 use Rattle.ec_asm.specs.declared.items.AsmItem.TheVariants.{Plain}
@@ -11,9 +12,9 @@ use Rattle.ec_asm.specs.Pieces.{copy_code}
 use Rattle.ec_asm.proofs.Hoare.{steps-append, straight-append}
 use Rattle.ec_select_bytes.specs.Values.{extend_code}
 use Rattle.ec_select_bytes.proofs.Straight.{values_are_straight, values_take}
-use Rattle.ec_select_functions.specs.Ports.{has_io_number, read_instruction}
-use Rattle.ec_select_functions.specs.Ports.{write_instruction, read_byte, write_byte, write_code, scale_code}
-use Rattle.ec_select_functions.specs.Ports.{point_code, in_code, out_code}
+use Rattle.ec_select_operations.specs.Ports.{has_io_number, read_instruction}
+use Rattle.ec_select_operations.specs.Ports.{write_instruction, read_byte, write_byte, write_code, scale_code}
+use Rattle.ec_select_operations.specs.Ports.{point_code, in_code, out_code}
 use Rattle.ec_select_functions.proofs.Moves.{copy_straight, copy_steps}
 
 -- ---- bytes
@@ -59,7 +60,8 @@ reads_straight : (index : Option Location) (port : ℕ) (q : Location) (n : ℕ)
     → all_straight (chain (read_byte index port q) n) ≡ true
 reads_straight index port q zero = refl
 reads_straight index port q (suc n) =
-    straight-append (chain (read_byte index port q) n) (read_byte index port q n) (reads_straight index port q n) (read_straight index port q n)
+    straight-append (chain (read_byte index port q) n) (read_byte index port q n) (reads_straight index port q n)
+    (read_straight index port q n)
 
 reads_steps : (index : Option Location) (port : ℕ) (q : Location) (n : ℕ)
     → (n ≤ code_steps (chain (read_byte index port q) n)) × (code_steps (chain (read_byte index port q) n) ≤ 2 * n)
@@ -74,7 +76,8 @@ writes_straight : (index : Option Location) (port : ℕ) (q : Location) (i n : �
     → all_straight (write_code index port q i n) ≡ true
 writes_straight index port q i zero = refl
 writes_straight index port q i (suc n) =
-    straight-append (write_code index port q (suc i) n) (write_byte index port q i) (writes_straight index port q (suc i) n) (write_straight index port q i)
+    straight-append (write_code index port q (suc i) n) (write_byte index port q i) (writes_straight index port q (suc i) n)
+    (write_straight index port q i)
 
 writes_steps : (index : Option Location) (port : ℕ) (q : Location) (i n : ℕ)
     → (n ≤ code_steps (write_code index port q i n)) × (code_steps (write_code index port q i n) ≤ 2 * n)
@@ -94,7 +97,8 @@ scale_straight width = by_one (width == 1)
     by_two true = refl
     by_two false = refl
 
-    by_one : (b : Bool) → all_straight (if b then [] else if width == 2 then Plain (Add 30 30) ∷ [] else Plain (Add 30 30) ∷ Plain (Add 30 30) ∷ []) ≡ true
+    by_one : (b : Bool)
+        → all_straight (if b then [] else if width == 2 then Plain (Add 30 30) ∷ [] else Plain (Add 30 30) ∷ Plain (Add 30 30) ∷ []) ≡ true
     by_one true = refl
     by_one false = by_two (width == 2)
 
@@ -105,14 +109,16 @@ scale_steps width = by_one (width == 1)
     by_two true = omega arith
     by_two false = omega arith
 
-    by_one : (b : Bool) → code_steps (if b then [] else if width == 2 then Plain (Add 30 30) ∷ [] else Plain (Add 30 30) ∷ Plain (Add 30 30) ∷ []) ≤ 2
+    by_one : (b : Bool)
+        → code_steps (if b then [] else if width == 2 then Plain (Add 30 30) ∷ [] else Plain (Add 30 30) ∷ Plain (Add 30 30) ∷ []) ≤ 2
     by_one true = omega arith
     by_one false = by_two (width == 2)
 
 point_straight : (index : Option Location) (port width : ℕ) → all_straight (point_code index port width) ≡ true
 point_straight None port width = refl
 point_straight (Some l) port width =
-    straight-append (copy_code l (InRegisters 30) 1) (scale_code width ++ Plain (Ldi 31 port) ∷ Plain (Add 30 31) ∷ Plain (Ldi 31 0) ∷ []) (copy_straight l (InRegisters 30) 1)
+    straight-append (copy_code l (InRegisters 30) 1) (scale_code width ++ Plain (Ldi 31 port) ∷ Plain (Add 30 31) ∷ Plain (Ldi 31 0) ∷ [])
+    (copy_straight l (InRegisters 30) 1)
     (straight-append (scale_code width) (Plain (Ldi 31 port) ∷ Plain (Add 30 31) ∷ Plain (Ldi 31 0) ∷ []) (scale_straight width) refl)
 
 point_steps : (index : Option Location) (port width : ℕ) → code_steps (point_code index port width) ≤ 7
@@ -120,7 +126,9 @@ point_steps None port width = omega arith
 point_steps (Some l) port width =
     let x = (copy_steps l (InRegisters 30) 1).1 in
     let z = scale_steps width in
-    let s = steps-append (copy_code l (InRegisters 30) 1) (scale_code width ++ Plain (Ldi 31 port) ∷ Plain (Add 30 31) ∷ Plain (Ldi 31 0) ∷ []) in
+    let s =
+    steps-append (copy_code l (InRegisters 30) 1)
+    (scale_code width ++ Plain (Ldi 31 port) ∷ Plain (Add 30 31) ∷ Plain (Ldi 31 0) ∷ []) in
     let t = steps-append (scale_code width) (Plain (Ldi 31 port) ∷ Plain (Add 30 31) ∷ Plain (Ldi 31 0) ∷ []) in
     omega (arith, x, z, s, t)
 
@@ -129,8 +137,10 @@ point_steps (Some l) port width =
 pub in_straight : (index : Option Location) (q : Location) (port width n : ℕ)
     → all_straight (in_code index q port width n) ≡ true
 in_straight index q port width n =
-    straight-append (point_code index port width) (chain (read_byte index port q) width ++ extend_code false q width n) (point_straight index port width)
-    (straight-append (chain (read_byte index port q) width) (extend_code false q width n) (reads_straight index port q width) ((values_are_straight q 0 width n).2 false))
+    straight-append (point_code index port width) (chain (read_byte index port q) width ++ extend_code false q width n)
+    (point_straight index port width)
+    (straight-append (chain (read_byte index port q) width) (extend_code false q width n) (reads_straight index port q width)
+    ((values_are_straight q 0 width n).2 false))
 
 pub in_steps : (index : Option Location) (q : Location) (port width n : ℕ)
     → (width ≤ code_steps (in_code index q port width n)) × (code_steps (in_code index q port width n) ≤ 10 + 2 * width + n)
@@ -145,7 +155,8 @@ in_steps index q port width n =
 pub out_straight : (index : Option Location) (q : Location) (port width : ℕ)
     → all_straight (out_code index q port width) ≡ true
 out_straight index q port width =
-    straight-append (point_code index port width) (write_code index port q 0 width) (point_straight index port width) (writes_straight index port q 0 width)
+    straight-append (point_code index port width) (write_code index port q 0 width) (point_straight index port width)
+    (writes_straight index port q 0 width)
 
 pub out_steps : (index : Option Location) (q : Location) (port width : ℕ)
     → (width ≤ code_steps (out_code index q port width)) × (code_steps (out_code index q port width) ≤ 7 + 2 * width)

@@ -19,7 +19,7 @@ use Rattle.ec_core.specs.Plain.{PlainProgram}
 use Rattle.ec_ir.specs.declared.operations.Temp.{Temp}
 use Rattle.ec_ir.specs.Meaning.{machine, number_in, held_number, element_of_port}
 use Rattle.ec_ir.specs.Temporaries.{Content, bits, points, Held, Temps, held}
-use Rattle.ec_select_functions.specs.Ports.{scale_code, point_code}
+use Rattle.ec_select_operations.specs.Ports.{scale_code, point_code}
 use Rattle.ec_select_functions.proofs.Follow.{Follows, from_held, next_next}
 use Rattle.ec_select_functions.proofs.Moves.{Moves, Quiet, copied, quiet_then}
 use Rattle.ec_select_functions.proofs.PortBytes.{PointsTo}
@@ -82,10 +82,18 @@ module _ (e : Env) where
       → Scales width v (block e (scale_code width) v)
   scales width v small cases =
       ⊎_elim
-      (λ (q : width ≡ 1). rw q (record { low = omega arith; same = λ k z. refl; quiet = record { inputs = refl; safe = refl; seen = refl } }))
+      (λ (q : width ≡ 1). rw q
+      (record { low = omega arith; same = λ k z. refl; quiet = record { inputs = refl; safe = refl; seen = refl } }))
       (λ (r : (width ≡ 2) ⊎ (width ≡ 4)). ⊎_elim
-      (λ (q : width ≡ 2). rw q (record { low = omega arith; same = λ k z. put_other v.at 30 _ k z; quiet = record { inputs = refl; safe = refl; seen = refl } }))
-      (λ (q : width ≡ 4). rw q (record { low = omega arith; same = λ k z. put_other (change e (Add 30 30) v).at 30 _ k z ∙ put_other v.at 30 _ k z; quiet = record { inputs = refl; safe = refl; seen = refl } }))
+      (λ (q : width ≡ 2). rw q
+      (record { low = omega arith; same = λ k z. put_other v.at 30 _ k z; quiet = record { inputs = refl; safe = refl; seen = refl } }))
+      (λ (q : width ≡ 4). rw q
+      (record {
+        low = omega arith;
+        same = λ k z. put_other (change e (Add 30 30) v).at 30 _ k z
+            ∙ put_other v.at 30 _ k z;
+        quiet = record { inputs = refl; safe = refl; seen = refl };
+      }))
       r)
       cases
 
@@ -99,7 +107,8 @@ module _ (e : Env) where
       let w = change e (Ldi 31 0) v2 in
       let low : w.at 30 ≡ (v.at 30 + port + 0) % 256 = refl in
       let top : w.at 31 ≡ 0 = refl in
-      let same : (k : ℕ) → k ≢ 30 → k ≢ 31 → w.at k ≡ v.at k = λ k y z. put_other v2.at 31 0 k z ∙ put_other v1.at 30 _ k y ∙ put_other v.at 31 port k z in (
+      let same : (k : ℕ) → k ≢ 30 → k ≢ 31 → w.at k ≡ v.at k =
+      λ k y z. put_other v2.at 31 0 k z ∙ put_other v1.at 30 _ k y ∙ put_other v.at 31 port k z in (
         omega (arith, low, top, here, below),
         record {
           same = λ k u x y z. same k y z;
@@ -120,7 +129,12 @@ module _ (e : Env) where
       → (width ≡ 1) ⊎ ((width ≡ 2) ⊎ (width ≡ 4)) → v.at c ≡ low → port + low * width ≡ at → at < 256 → HoldsNumbers v
       → Pointed (Some l) port at v (block e (point_code (Some l) port width) v)
   pointed l c low port width at v stands cases here is below numbers =
-      rw (block-append e (copy_code l (InRegisters 30) 1) (scale_code width ++ Plain (Ldi 31 port) ∷ Plain (Add 30 31) ∷ Plain (Ldi 31 0) ∷ []) v, block-append e (scale_code width) (Plain (Ldi 31 port) ∷ Plain (Add 30 31) ∷ Plain (Ldi 31 0) ∷ []) (block e (copy_code l (InRegisters 30) 1) v))
+      rw (
+        block-append e (copy_code l (InRegisters 30) 1)
+            (scale_code width ++ Plain (Ldi 31 port) ∷ Plain (Add 30 31) ∷ Plain (Ldi 31 0) ∷ []) v,
+        block-append e (scale_code width)
+            (Plain (Ldi 31 port) ∷ Plain (Add 30 31) ∷ Plain (Ldi 31 0) ∷ []) (block e (copy_code l (InRegisters 30) 1) v),
+      )
       (record {
         points = z.0 ∙ is;
         changes = record {
@@ -165,4 +179,7 @@ module _ (e : Env) where
       product_below n q = omega arith
 
       z : (pair w.at 30 ≡ port + low * width) × Changes v2 w
-      z = added port (low * width) v2 (x.low ∙ ap (λ a. a * width % 256) byte ∙ kept_below (low * width) 256 (product_below (low * width) is)) (subst (λ a. a < 256) (sym is) below) numbers2
+      z =
+          added port (low * width) v2
+          (x.low ∙ ap (λ a. a * width % 256) byte ∙ kept_below (low * width) 256 (product_below (low * width) is))
+          (subst (λ a. a < 256) (sym is) below) numbers2

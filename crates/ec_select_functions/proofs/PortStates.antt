@@ -1,5 +1,6 @@
 -- What reads and writes of ports do to a state.
-use Rattle.std.proofs.Common.{◌≡◌, ℕ, zero, suc, ◌+◌, ◌*◌, ◌/◌, ◌%◌, ◌^◌, ◌<◌, ◌≤◌, true, List, [], ◌∷◌, ◌++◌, refl, sym}
+use Rattle.std.proofs.Common.{◌≡◌, ℕ, zero, suc, ◌+◌, ◌*◌, ◌/◌, ◌%◌, ◌^◌, ◌<◌, ◌≤◌, true, List, [], ◌∷◌, ◌++◌, refl}
+use Rattle.std.proofs.Common.{sym}
 use Rattle.std.proofs.Common.{ap, ◌∙◌, subst, arith, ⊎_elim}
 use Rattle.std.proofs.lemmas.Bool.{and_parts, cases_lt}
 use native.Mathlib.Nat.{pow-suc}
@@ -35,7 +36,8 @@ module _ (inputs : Inputs) where
       let front = number_read inputs n (port + 1) t in
       let last = next_byte inputs (port + 1 + n) (bytes_read inputs n (port + 1) t) in
       let q : port + 1 + n ≡ port + suc n = omega arith in
-      let same : next_byte inputs (port + suc n) (bytes_read inputs (suc n) port s) ≡ last = ap (λ a. next_byte inputs a (bytes_read inputs n (port + 1) t)) (sym q) in
+      let same : next_byte inputs (port + suc n) (bytes_read inputs (suc n) port s) ≡ last =
+      ap (λ a. next_byte inputs a (bytes_read inputs n (port + 1) t)) (sym q) in
       rw (same, number_last n (port + 1) t, pow-suc 256 n) (assembled first front last (256 ^ n))
     where
       assembled : (a b c x : ℕ) → a + 256 * (b + c * x) ≡ a + 256 * b + c * (x * 256)
@@ -97,7 +99,8 @@ module _ (e : Env) where
   kinds_read inputs (suc n) port s q j l =
       let t = bytes_read inputs n port s in
       let x = In (port + n) (next_byte inputs (port + n) t) in
-      let r : are_on_ports e (t.events ++ x ∷ []) ≡ true = subst (λ (u : State). are_on_ports e u.events ≡ true) (read_last inputs n port s) q in
+      let r : are_on_ports e (t.events ++ x ∷ []) ≡ true =
+      subst (λ (u : State). are_on_ports e u.events ≡ true) (read_last inputs n port s) q in
       ⊎_elim
       (λ (m : j < n). kinds_read inputs n port s (ports_front t.events (x ∷ []) r) j m)
       (λ (m : n ≤ j).

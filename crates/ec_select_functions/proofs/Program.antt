@@ -1,5 +1,6 @@
 -- Programs of several functions: the machine reaches all that the operations show, and stays within it.
-use Rattle.std.proofs.Common.{◌≡◌, ℕ, zero, suc, ◌+◌, ◌-◌, ◌*◌, ◌%◌, ◌<◌, ◌≤◌, ⊎_elim, Bool, true, false, ◌||◌, List, []}
+use Rattle.std.proofs.Common.{◌≡◌, ℕ, zero, suc, ◌+◌, ◌-◌, ◌*◌, ◌%◌, ◌<◌, ◌≤◌, ⊎_elim, Bool, true, false, ◌||◌, List}
+use Rattle.std.proofs.Common.{[]}
 use Rattle.std.proofs.Common.{refl, sym, ap, ◌∙◌, subst, arith, Option, Some, None, ℤ, eqb-true}
 use Rattle.std.specs.Prelude.{◌==◌, nat_le, if◌then◌else◌, slice_get, slice_index}
 use Rattle.std.specs.Int.{cast_signed, w16}
@@ -11,6 +12,7 @@ use Rattle.ec_avr.specs.declared.machine.Access.{Access}
 use Rattle.ec_avr.specs.Machine.{State as MachineState}
 use Rattle.ec_avr.specs.Runs.{MachineFault}
 use Rattle.ec_avr.specs.State.{raised}
+use Rattle.ec_space.specs.declared.space.Bank.TheVariants.{Data as DataBank}
 use Rattle.ec_asm.specs.View.{View, pair}
 use Rattle.ec_asm.specs.Change.{Env, sp}
 use Rattle.ec_asm.specs.Items.{HasAt}
@@ -34,16 +36,17 @@ use Rattle.ec_ir.specs.Meaning.{start, enter, exec, leave, run as ir_run}
 use Rattle.ec_ir.specs.Operations.{PlainIrFunction, PlainIrProgram, data_of}
 use Rattle.ec_ir.specs.Temporaries.{Content, bits, points, Held}
 use Rattle.ec_ir.specs.Valid.{ValidIr}
-use Rattle.ec_select_functions.specs.Code.{ops_code}
-use Rattle.ec_select_functions.specs.Homes.{home, result_register}
+use Rattle.ec_select_operations.specs.Code.{ops_code}
+use Rattle.ec_select_operations.specs.Homes.{home, result_register}
 use Rattle.ec_select_functions.specs.Laws.{HoldsStart, AreSelected, IsEntered, linkage_of, within_steps}
 use Rattle.ec_select_functions.specs.Laws.{HoldsUnlessFailed, ShowsOperations, CodeFollowsOperations}
 use Rattle.ec_select_functions.specs.Kept.{are_on_ports, on_ports, meaning_on}
-use Rattle.ec_select_functions.specs.Needs.{needs}
-use Rattle.ec_select_functions.specs.Places.{NumberLeaf}
+use Rattle.ec_select_operations.specs.Needs.{needs}
+use Rattle.ec_select_operations.specs.Places.{ObjectLeaf}
 use Rattle.ec_select_functions.specs.Relation.{accesses, HoldsContent, Matches}
-use Rattle.ec_select_functions.proofs.Setting.{FixedLaws}
-use Rattle.ec_select_functions.proofs.Active.{World, Active, in_row, row_parts, row_from, homes_of, scratch_of, stack_work}
+use Rattle.ec_select_functions.proofs.Setting.{FixedLaws, PointerLaws}
+use Rattle.ec_select_functions.proofs.Active.{World, Active, in_row, row_parts, row_from, homes_of, scratch_of}
+use Rattle.ec_select_functions.proofs.Active.{stack_work}
 use Rattle.ec_select_functions.proofs.Active.{base_of, leaf_at, leaf_is, setting_of, selected_of, stack_scratch}
 use Rattle.ec_select_functions.proofs.Active.{stack_leaf}
 use Rattle.ec_select_functions.proofs.Called.{Statement, call_follows}
@@ -51,7 +54,8 @@ use Rattle.ec_select_functions.proofs.Follow.{Follows, stay}
 use Rattle.ec_select_functions.proofs.Numbers.{signed_word}
 use Rattle.ec_select_functions.proofs.Returned.{HandsOn, Left, Returns, go_on, pointer_is, return_follows}
 use Rattle.ec_select_functions.proofs.Safe.{safe_earlier}
-use Rattle.ec_select_functions.proofs.Steps.{Ready, follows}
+use Rattle.ec_select_functions.proofs.Going.{Ready}
+use Rattle.ec_select_functions.proofs.Steps.{follows}
 
 -- what this rests on of the layers below
 pub record CodeLaws : Type 0 where
@@ -60,6 +64,7 @@ pub record CodeLaws : Type 0 where
   pub fill : LeavesFillTheirTypes
   pub taken : BytesAreTakenInOrder
   pub fixed : FixedLaws
+  pub pointers : PointerLaws
 
 -- ---- all functions, by the operations that count
 
@@ -79,7 +84,8 @@ module _ (p : PlainIrProgram) (e : Env) (place entry_of : ℕ → ℕ) (w : Worl
       let bs = base_of p e place entry_of w f in
       let setting = setting_of p e place entry_of w f g s aside was a in
       let stands = x.stands in
-      let ready : Ready D p.functions e g.slots hs bs place setting labels g.code x.end w.selected.results f link stack stands.0 g.code = record { covered = x.covered; live = x.live; inside = λ b q. q; stands = stands.2 } in
+      let ready : Ready D p.functions e g.slots hs bs place setting labels g.code x.end w.selected.results f link stack stands.0 g.code =
+      record { covered = x.covered; live = x.live; inside = λ b q. q; stands = stands.2 } in
       follows D p.functions e g.slots hs bs place setting labels g.code x.end w.selected.results f link stack stands.0 ready n
       (below n (omega arith) f g s aside was a stack (λ j l. returns j (omega arith)))
       (call_follows p e place entry_of w f g s aside was a stack n below (λ j l. returns j (omega arith)))
@@ -111,7 +117,10 @@ module _ (s k : ℕ) (P : Type 0) where
       (λ q. let z = row_parts (s + 1) 2 k q in i z.0 z.1)
       (or_cases (k == 93 || k == 94) (in_row (s + 1) 2 k) h)
 
-module _ (laws : CodeLaws) (p : PlainIrProgram) (place entry_of : ℕ → ℕ) (e : Env) (size low : ℕ) (s : MachineState) (v : View) (inputs : Inputs) (valid : ValidIr p) (fit : Fits e size) (shows : Shows e size s.mem v) (feeds : (port : ℕ) → v.inputs port ≡ inputs port) (begin : HoldsStart (data_of p) place v) (selected : AreSelected p e place entry_of) (enters : IsEntered p e low (entry_of p.main) s.pc v) where
+module _ (laws : CodeLaws) (p : PlainIrProgram) (place entry_of : ℕ → ℕ) (e : Env) (size low : ℕ) (s : MachineState) (v : View)
+    (inputs : Inputs) (valid : ValidIr p) (fit : Fits e size) (shows : Shows e size s.mem v)
+    (feeds : (port : ℕ) → v.inputs port ≡ inputs port) (begin : HoldsStart (data_of p) place v) (selected : AreSelected p e place entry_of)
+    (enters : IsEntered p e low (entry_of p.main) s.pc v) where
   abbrev w : World p e place entry_of
   w = record {
     selected = selected;
@@ -121,6 +130,7 @@ module _ (laws : CodeLaws) (p : PlainIrProgram) (place entry_of : ℕ → ℕ) (
     feeds = λ port k. subst (λ (bytes : List ℕ). slice_index bytes k < 256) (feeds port) (shows.feeds port k);
     taken = laws.taken;
     fixed = laws.fixed;
+    pointers = laws.pointers;
     low = low;
     top = sp v + 2;
     high = enters.high;
@@ -134,7 +144,8 @@ module _ (laws : CodeLaws) (p : PlainIrProgram) (place entry_of : ℕ → ℕ) (
   low_room : low ≤ sp v + 1
   low_room = let r : low + 2 * 0 ≤ sp v + 1 = enters.room [] tt in omega arith
 
-  active : (g : PlainIrFunction) → slice_get p.functions p.main ≡ Some g → Active p e place entry_of w p.main g (sp v) (first_aside (sp v)) v.at
+  active : (g : PlainIrFunction) → slice_get p.functions p.main ≡ Some g
+      → Active p e place entry_of w p.main g (sp v) (first_aside (sp v)) v.at
   active g is =
       let high = enters.high in
       let room = low_room in
@@ -142,11 +153,16 @@ module _ (laws : CodeLaws) (p : PlainIrProgram) (place entry_of : ℕ → ℕ) (
       record {
         is = is;
         high = λ k q. first_cases (sp v) k (32 ≤ k) q (λ r. omega arith) (λ r. omega arith) (λ l m. omega arith);
-        leaves = λ l k q. first_cases (sp v) k (Outside (leaf_at p e place entry_of w l) l.bytes k) q (λ r. low_leaf l k (omega arith) (omega arith)) (λ r. low_leaf l k (omega arith) (omega arith)) (λ i m. stack_leaf p e place entry_of w p.main g is l k (omega arith) (enters.stacked k (omega arith) (omega arith)));
+        leaves = λ l k q. first_cases (sp v) k (Outside (leaf_at p e place entry_of w l) l.bytes k) q
+            (λ r. low_leaf l k (omega arith) (omega arith)) (λ r. low_leaf l k (omega arith) (omega arith))
+            (λ i m. stack_leaf p e place entry_of w p.main g is l k (omega arith) (enters.stacked k (omega arith) (omega arith)));
         own = λ k q. other p.main g is k q;
         others = λ b h to is1 k q. other b h is1 k q;
         free = λ k q l. first_cases (sp v) k (sp v < k) q (λ r. absurd (omega arith)) (λ r. absurd (omega arith)) (λ i m. omega arith);
-        work = λ k q. (let above = selected.work_stands.high in first_cases (sp v) k (Outside selected.work 64 k) q (λ r z. absurd (omega arith)) (λ r z. absurd (omega arith))
+        work =
+            λ k q.
+            (let above = selected.work_stands.high in first_cases (sp v) k (Outside selected.work 64 k) q (λ r z. absurd (omega arith))
+            (λ r z. absurd (omega arith))
             (λ l m. stack_work p e place entry_of w k (enters.stacked k (omega arith) (omega arith))));
         pointer_low = refl;
         pointer_high = refl;
@@ -155,7 +171,7 @@ module _ (laws : CodeLaws) (p : PlainIrProgram) (place entry_of : ℕ → ℕ) (
         below = omega arith;
       }
     where
-      low_leaf : (l : NumberLeaf program_data) (k : ℕ) → 32 ≤ k → k < 256 → Outside (leaf_at p e place entry_of w l) l.bytes k
+      low_leaf : (l : ObjectLeaf program_data DataBank) (k : ℕ) → 32 ≤ k → k < 256 → Outside (leaf_at p e place entry_of w l) l.bytes k
       low_leaf l k a b q =
           ⊎_elim
           (λ (z : leaf_at p e place entry_of w l + l.bytes ≤ 8). omega arith)
@@ -168,10 +184,12 @@ module _ (laws : CodeLaws) (p : PlainIrProgram) (place entry_of : ℕ → ℕ) (
           let above = (selected_of p e place entry_of w b h is1).scratch_stands.high in
           let high = enters.high in
           let room = low_room in
-          first_cases (sp v) k (Outside (scratch_of p e place entry_of w b) (16 * h.slots) k) q (λ r z. absurd (omega arith)) (λ r z. absurd (omega arith)) (λ l m. stack_scratch p e place entry_of w b h is1 k (enters.stacked k (omega arith) (omega arith)))
+          first_cases (sp v) k (Outside (scratch_of p e place entry_of w b) (16 * h.slots) k) q (λ r z. absurd (omega arith))
+          (λ r z. absurd (omega arith)) (λ l m. stack_scratch p e place entry_of w b h is1 k (enters.stacked k (omega arith) (omega arith)))
 
   -- it returns to the BREAK
-  module _ (g : PlainIrFunction) (is : slice_get p.functions p.main ≡ Some g) (j : ℕ) (st : State) (u : View) (spent : ℕ) (credit : spent + 64 ≤ st.work) (left : Left p e place entry_of w g p.main (first_aside (sp v)) v.at st u) where
+  module _ (g : PlainIrFunction) (is : slice_get p.functions p.main ≡ Some g) (j : ℕ) (st : State) (u : View) (spent : ℕ)
+      (credit : spent + 64 ≤ st.work) (left : Left p e place entry_of w g p.main (first_aside (sp v)) v.at st u) where
     pointer_u : sp u ≡ sp v
     pointer_u = pointer_is p e place entry_of w p.main g (sp v) (first_aside (sp v)) v.at (active g is) [] _ _ u left
 
@@ -183,8 +201,11 @@ module _ (laws : CodeLaws) (p : PlainIrProgram) (place entry_of : ℕ → ℕ) (
         let top = enters.top in
         let one : raised (sp v) ≡ sp v + 1 = omega arith in
         let two : raised (raised (sp v)) ≡ sp v + 2 = omega arith in
-        let a : u.at (raised (sp u)) ≡ v.at (raised (sp v)) = ap (λ n. u.at (raised n)) pointer_u ∙ ap u.at one ∙ stack_kept (sp v + 1) (omega arith) (omega arith) ∙ ap v.at (sym one) in
-        let b : u.at (raised (raised (sp u))) ≡ v.at (raised (raised (sp v))) = ap (λ n. u.at (raised (raised n))) pointer_u ∙ ap u.at two ∙ stack_kept (sp v + 2) (omega arith) (omega arith) ∙ ap v.at (sym two) in
+        let a : u.at (raised (sp u)) ≡ v.at (raised (sp v)) =
+        ap (λ n. u.at (raised n)) pointer_u ∙ ap u.at one ∙ stack_kept (sp v + 1) (omega arith) (omega arith) ∙ ap v.at (sym one) in
+        let b : u.at (raised (raised (sp u))) ≡ v.at (raised (raised (sp v))) =
+        ap (λ n. u.at (raised (raised n))) pointer_u ∙ ap u.at two ∙ stack_kept (sp v + 2) (omega arith) (omega arith)
+        ∙ ap v.at (sym two) in
         rw (a, b) refl
 
     stops : fetch e (back_at u % 65536) ≡ Some Break
@@ -211,12 +232,14 @@ module _ (laws : CodeLaws) (p : PlainIrProgram) (place entry_of : ℕ → ℕ) (
         two : c.bytes ≡ 2
         two = hands.0 ∙ selected.main_result
 
-        by_content : (x : Content) → HoldsContent u.at (result_register c.bytes) c.bytes c.bytes x
-            → Follows program_data place e j spent (back_at u % 65536) (popped u) (leave [] (Some (record { bytes = c.bytes; content = x })) (go_on p e place entry_of w j) st)
-        by_content (points q) content = absurd content
+        by_content : (x : Content) → HoldsContent program_data place u.at (result_register c.bytes) c.bytes c.bytes x
+            → Follows program_data place e j spent (back_at u % 65536) (popped u)
+            (leave [] (Some (record { bytes = c.bytes; content = x })) (go_on p e place entry_of w j) st)
+        by_content (points q) content = tt
         by_content (bits number) content =
             λ ports.
-            let content2 : HoldsContent u.at (result_register 2) 2 2 (bits number) = subst (λ n. HoldsContent u.at (result_register n) n n (bits number)) two content in
+            let content2 : HoldsContent program_data place u.at (result_register 2) 2 2 (bits number) = subst
+            (λ n. HoldsContent program_data place u.at (result_register n) n n (bits number)) two content in
             let below : number < 65536 = content2.1 in
             let moved : value u.at 24 2 ≡ number % 65536 = content2.0 in
             let word : pair u.at 24 ≡ number = omega (arith, moved, below) in
@@ -236,10 +259,12 @@ module _ (laws : CodeLaws) (p : PlainIrProgram) (place entry_of : ℕ → ℕ) (
       → Returns p e place entry_of w p.main g (first_aside (sp v)) v.at [] j
   returns g is j result st u spent credit hands left = bottom g is j st u spent credit left result hands
 
-  begun : (g : PlainIrFunction) → Matches program_data inputs g.slots (base_of p e place entry_of w p.main) place (first_aside (sp v)) v.at (needs (selected.made p.main).labels g.code) (start program_data) v
+  begun : (g : PlainIrFunction) → Matches program_data e inputs g.slots (base_of p e place entry_of w p.main) place (first_aside (sp v))
+      v.at (needs (selected.made p.main).labels g.code) (start program_data) v
   begun g = record {
     temps_hold = λ t h it q z. absurd cc;
     leaves_hold = begin.leaves;
+    tables_hold = selected.tables.values;
     kept = λ k q. refl;
     bytes = begin.bytes;
     left = feeds;
@@ -262,8 +287,17 @@ module _ (laws : CodeLaws) (p : PlainIrProgram) (place entry_of : ℕ → ℕ) (
           let hs = home (homes_of p e place entry_of w p.main) in
           let here : x.pc ≡ s.pc = sym (stands.1.0 enters.word) ∙ sym enters.at in
           let mid : stands.0 ≡ s.pc = stands.1.1 ∙ here in
-          let ready : Ready program_data p.functions e g.slots hs (base_of p e place entry_of w p.main) place (setting_of p e place entry_of w p.main g (sp v) (first_aside (sp v)) v.at a) labels g.code x.end selected.results p.main link [] s.pc g.code = record { covered = x.covered; live = x.live; inside = λ b q. q; stands = subst (λ i. HasAt e (ops_code p.objects hs link labels None g.code) i x.end) mid stands.2 } in
-          all_functions p e place entry_of w n p.main g (sp v) (first_aside (sp v)) v.at a [] (λ j l. returns g is j) s.pc g.code (start program_data) v ready (begun g)
+          let ready : Ready program_data p.functions e g.slots hs (base_of p e place entry_of w p.main) place
+          (setting_of p e place entry_of w p.main g (sp v) (first_aside (sp v)) v.at a) labels g.code x.end selected.results p.main
+          link [] s.pc g.code = record {
+            covered = x.covered;
+            live = x.live;
+            inside = λ b q. q;
+            stands = subst
+                (λ i. HasAt e (ops_code program_data hs link labels None g.code) i x.end) mid stands.2;
+          } in
+          all_functions p e place entry_of w n p.main g (sp v) (first_aside (sp v)) v.at a [] (λ j l. returns g is j) s.pc g.code
+          (start program_data) v ready (begun g)
 
   -- ---- the machine
 
@@ -284,10 +318,13 @@ module _ (laws : CodeLaws) (p : PlainIrProgram) (place entry_of : ℕ → ℕ) (
 
   -- where the operations accessed a port that the machine lacks, nothing is owed
   reached : (n : ℕ) (o : Outcome Value) → Follows program_data place e n 0 s.pc v o
-      → Reached (λ m. nat_le m ((state_of o).work + 1)) (noted_run e v.inputs s) n (seen_as (accesses program_data place) (on_ports e (behaviour_of o)))
+      → Reached (λ m. nat_le m ((state_of o).work + 1)) (noted_run e v.inputs s) n
+      (seen_as (accesses program_data place) (on_ports e (behaviour_of o)))
   reached n (more r) f = by_ports (are_on_ports e r.events) refl
     where
-      by_ports : (b : Bool) → are_on_ports e r.events ≡ b → Reached (λ m. nat_le m (r.work + 1)) (noted_run e v.inputs s) n (seen_as (accesses program_data place) (if b then Running r.events else Failed NoAccess))
+      by_ports : (b : Bool) → are_on_ports e r.events ≡ b
+          → Reached (λ m. nat_le m (r.work + 1)) (noted_run e v.inputs s) n
+          (seen_as (accesses program_data place) (if b then Running r.events else Failed NoAccess))
       by_ports false q = tt
       by_ports true q =
           let g = f q in
@@ -295,12 +332,19 @@ module _ (laws : CodeLaws) (p : PlainIrProgram) (place entry_of : ℕ → ℕ) (
           (g.steps, le-leb g.steps (r.work + 1) (omega arith), g.least, goes_noted g.steps g.to g.last g.goes g.safe ∙ ap Running g.seen)
   reached n (got x r) f = by_ports (are_on_ports e r.events) refl
     where
-      by_ports : (b : Bool) → are_on_ports e r.events ≡ b → Reached (λ m. nat_le m (r.work + 1)) (noted_run e v.inputs s) n (seen_as (accesses program_data place) (if b then Ended r.events (number_of x) else Failed NoAccess))
+      by_ports : (b : Bool) → are_on_ports e r.events ≡ b
+          → Reached (λ m. nat_le m (r.work + 1)) (noted_run e v.inputs s) n
+          (seen_as (accesses program_data place) (if b then Ended r.events (number_of x) else Failed NoAccess))
       by_ports false q = tt
       by_ports true q =
           let g = f q in
-          let most = g.most in
-          (g.steps + 1, le-leb (g.steps + 1) (r.work + 1) (omega arith), ends_at g.steps g.to g.last g.goes g.stop g.safe ∙ ends_same g.last.seen (accesses program_data place r.events) (cast_signed w16 (pair g.last.at 24)) (number_of x) g.seen g.result)
+          let most = g.most in (
+            g.steps + 1,
+            le-leb (g.steps + 1) (r.work + 1) (omega arith),
+            ends_at g.steps g.to g.last g.goes g.stop g.safe
+                ∙ ends_same g.last.seen (accesses program_data place r.events) (cast_signed w16 (pair g.last.at 24))
+                (number_of x) g.seen g.result,
+          )
   reached n (undefined point r) f = tt
 
   reaches : Reaches (within_steps p inputs) (λ n. seen_as (accesses program_data place) (meaning_on e p inputs n)) (noted_run e v.inputs s)
@@ -308,19 +352,23 @@ module _ (laws : CodeLaws) (p : PlainIrProgram) (place entry_of : ℕ → ℕ) (
 
   -- ---- no barred access
 
-  safe_upto : (k steps to : ℕ) (u : View) → k ≤ steps → Goes e steps s.pc v to u → u.safe ≡ true → is_safe (run e k (VRunning s.pc v)) ≡ true
+  safe_upto : (k steps to : ℕ) (u : View) → k ≤ steps → Goes e steps s.pc v to u → u.safe ≡ true → is_safe (run e k (VRunning s.pc v))
+      ≡ true
   safe_upto k steps to u l g safe =
       let q : k + (steps - k) ≡ steps = omega (arith, l) in
-      safe_earlier e k (steps - k) (VRunning s.pc v) (subst (λ st. is_safe st ≡ true) (sym (ap (λ n. run e n (VRunning s.pc v)) q ∙ g.by)) safe)
+      safe_earlier e k (steps - k) (VRunning s.pc v)
+      (subst (λ st. is_safe st ≡ true) (sym (ap (λ n. run e n (VRunning s.pc v)) q ∙ g.by)) safe)
 
   safe_past : (k steps to : ℕ) (u : View) → steps ≤ k → Goes e steps s.pc v to u → fetch e to ≡ Some Break → u.safe ≡ true
       → is_safe (run e k (VRunning s.pc v)) ≡ true
   safe_past k steps to u l g stop safe =
       let q : k + 1 ≡ steps + suc (k - steps) = omega (arith, l) in
-      let b : run e (k + 1) (VRunning s.pc v) ≡ VEnded u = ap (λ n. run e n (VRunning s.pc v)) q ∙ runs_end e steps (k - steps) s.pc to v u g stop in
+      let b : run e (k + 1) (VRunning s.pc v) ≡ VEnded u =
+      ap (λ n. run e n (VRunning s.pc v)) q ∙ runs_end e steps (k - steps) s.pc to v u g stop in
       safe_earlier e k 1 (VRunning s.pc v) (subst (λ st. is_safe st ≡ true) (sym b) safe)
 
-  safe_at : (k : ℕ) (o : Outcome Value) → Follows program_data place e k 0 s.pc v o → HoldsUnlessFailed (on_ports e (behaviour_of o)) (is_safe (run e k (VRunning s.pc v)))
+  safe_at : (k : ℕ) (o : Outcome Value) → Follows program_data place e k 0 s.pc v o
+      → HoldsUnlessFailed (on_ports e (behaviour_of o)) (is_safe (run e k (VRunning s.pc v)))
   safe_at k (more r) f = by_ports (are_on_ports e r.events) refl
     where
       by_ports : (b : Bool) → are_on_ports e r.events ≡ b
@@ -341,7 +389,8 @@ module _ (laws : CodeLaws) (p : PlainIrProgram) (place entry_of : ℕ → ℕ) (
   pub whole : ShowsOperations p place e v s inputs
   whole = record {
     reaches = reaches;
-    within = what_reaches_stays_within Access ℤ Undefined MachineFault (within_steps p inputs) (λ n. seen_as (accesses program_data place) (meaning_on e p inputs n)) (noted_run e v.inputs s) (laws.runs e v.inputs s) reaches;
+    within = what_reaches_stays_within Access ℤ Undefined MachineFault (within_steps p inputs)
+        (λ n. seen_as (accesses program_data place) (meaning_on e p inputs n)) (noted_run e v.inputs s) (laws.runs e v.inputs s) reaches;
     safe = λ k. safe_at k (ir_run p inputs k) (entered k);
   }
 

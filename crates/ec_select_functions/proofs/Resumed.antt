@@ -5,6 +5,7 @@ use Rattle.std.specs.Prelude.{nat_le, if◌then◌else◌, ⊤}
 use Rattle.std.proofs.lemmas.Bool.{cases_eq, cases_lt, eq-eqb, ne_eqb}
 use Rattle.std.proofs.lemmas.Nat.{mul-le}
 use Rattle.ec_avr.specs.State.{lowered}
+use Rattle.ec_space.specs.declared.space.Bank.TheVariants.{Data as DataBank}
 use Rattle.ec_asm.specs.View.{View}
 use Rattle.ec_asm.specs.Change.{Env, sp}
 use Rattle.ec_asm.specs.Items.{block, chain}
@@ -17,12 +18,12 @@ use Rattle.ec_ir.specs.declared.operations.Temp.{Temp}
 use Rattle.ec_ir.specs.Meaning.{Mach, machine}
 use Rattle.ec_ir.specs.Operations.{PlainIrFunction, PlainIrProgram, data_of}
 use Rattle.ec_ir.specs.Temporaries.{Held, Temps, no_temps}
-use Rattle.ec_select_functions.specs.declared.homes.Homes.{Homes}
-use Rattle.ec_select_functions.specs.Code.{restore_place, register_places}
-use Rattle.ec_select_functions.specs.Homes.{HasHome}
+use Rattle.ec_select_operations.specs.declared.homes.Homes.{Homes}
+use Rattle.ec_select_operations.specs.Code.{restore_place, register_places}
+use Rattle.ec_select_operations.specs.Homes.{HasHome}
 use Rattle.ec_select_functions.specs.Laws.{IsSelected}
-use Rattle.ec_select_functions.specs.Needs.{Need, nothing, without_result, wanted}
-use Rattle.ec_select_functions.specs.Places.{NumberLeaf}
+use Rattle.ec_select_operations.specs.Needs.{Need, nothing, without_result, wanted}
+use Rattle.ec_select_operations.specs.Places.{ObjectLeaf}
 use Rattle.ec_select_functions.specs.Relation.{HoldsContent, Matches}
 use Rattle.ec_select_functions.proofs.Active.{World, Active, homes_of, scratch_of, base_of, leaf_at, leaf_is}
 use Rattle.ec_select_functions.proofs.Active.{layout_of, setting_of, selected_of, aside_by, aside_before}
@@ -51,7 +52,8 @@ needs_none : (to : Option Temp) (t : Temp) (need : Need) → IsAt to t → witho
 needs_none None t need q = absurd q
 needs_none (Some x) t need q = rw (eq-eqb t.at x.at q) refl
 
-module _ (p : PlainIrProgram) (e : Env) (place entry_of : ℕ → ℕ) (w : World p e place entry_of) (f : ℕ) (g : PlainIrFunction) (s : ℕ) (aside : ℕ → Bool) (was : ℕ → ℕ) (a : Active p e place entry_of w f g s aside was) where
+module _ (p : PlainIrProgram) (e : Env) (place entry_of : ℕ → ℕ) (w : World p e place entry_of) (f : ℕ) (g : PlainIrFunction) (s : ℕ)
+    (aside : ℕ → Bool) (was : ℕ → ℕ) (a : Active p e place entry_of w f g s aside was) where
   abbrev D : PlainProgram
   D = data_of p
 
@@ -102,7 +104,8 @@ module _ (p : PlainIrProgram) (e : Env) (place entry_of : ℕ → ℕ) (w : Worl
   outside_below need j k l q =
       ⊎_elim
       (λ (z : kept e slots h scratch x.scratch_stands need j ≡ 0). omega arith)
-      (λ (z : kept e slots h scratch x.scratch_stands need j ≢ 0). let r = (register_ends e slots h scratch x.scratch_stands need j (omega arith)).1 in absurd (omega arith))
+      (λ (z : kept e slots h scratch x.scratch_stands need j ≢ 0). let r =
+      (register_ends e slots h scratch x.scratch_stands need j (omega arith)).1 in absurd (omega arith))
       (cases_eq (kept e slots h scratch x.scratch_stands need j) 0)
 
   -- the registers of a place are none of a temporary's at another place
@@ -155,9 +158,10 @@ module _ (p : PlainIrProgram) (e : Env) (place entry_of : ℕ → ℕ) (w : Worl
       → OutsideResult to (bs t + i)
   outside_other None t i to_it it other l = tt
   outside_other (Some z) t i to_it it other l =
-      outside_row (bs z) z.bytes (bs t) t.bytes i ((layout_of p e place entry_of w f g a.is).temps_apart z t to_it it (λ q. other (sym q))) l
+      outside_row (bs z) z.bytes (bs t) t.bytes i
+      ((layout_of p e place entry_of w f g a.is).temps_apart z t to_it it (λ q. other (sym q))) l
 
-  outside_leaf : (to : Option Temp) (l : NumberLeaf D) (i : ℕ) → HasPlace to → i < l.bytes
+  outside_leaf : (to : Option Temp) (l : ObjectLeaf D DataBank) (i : ℕ) → HasPlace to → i < l.bytes
       → OutsideResult to (place l.object + l.at + i)
   outside_leaf None l i it q = tt
   outside_leaf (Some t) l i it q =
@@ -192,7 +196,8 @@ module _ (p : PlainIrProgram) (e : Env) (place entry_of : ℕ → ℕ) (w : Worl
 
   -- ---- what the called function left
 
-  module _ (back : ℕ) (v1 u : View) (pointer : sp v1 ≡ s) (first : w.low + 1 ≤ s) (left : (k : ℕ) → aside_by aside scratch (16 * slots) s k ≡ true → u.at k ≡ (pushed back v1).at k) where
+  module _ (back : ℕ) (v1 u : View) (pointer : sp v1 ≡ s) (first : w.low + 1 ≤ s)
+      (left : (k : ℕ) → aside_by aside scratch (16 * slots) s k ≡ true → u.at k ≡ (pushed back v1).at k) where
     -- none of the two bytes that the call pushed
     not_pushed : (k : ℕ) → k ≢ s → k ≢ s - 1 → k ≢ 93 → k ≢ 94 → (pushed back v1).at k ≡ v1.at k
     not_pushed k one two low high =
@@ -208,17 +213,19 @@ module _ (p : PlainIrProgram) (e : Env) (place entry_of : ℕ → ℕ) (w : Worl
         let last = a.below in
         let own = scratch_kind p e place entry_of w f g a.is k l m in
         popped_same u k (omega arith) (omega arith) ∙ left k (aside_scratch aside scratch (16 * slots) s k l m)
-        ∙ not_pushed k (λ q. own_is_not_stacked (e.kind k) own (w.stacked k (omega arith) (omega arith))) (λ q. own_is_not_stacked (e.kind k) own (w.stacked k (omega arith) (omega arith))) (omega arith) (omega arith)
+        ∙ not_pushed k (λ q. own_is_not_stacked (e.kind k) own (w.stacked k (omega arith) (omega arith)))
+        (λ q. own_is_not_stacked (e.kind k) own (w.stacked k (omega arith) (omega arith))) (omega arith) (omega arith)
 
     aside_left : (k : ℕ) → aside k ≡ true → k ≢ 93 → k ≢ 94 → (popped u).at k ≡ v1.at k
     aside_left k q low high =
         popped_same u k low high ∙ left k (aside_before aside scratch (16 * slots) s k q)
-        ∙ not_pushed k (λ z. let y = a.free k q (omega arith) in omega arith) (λ z. let y = a.free k q (omega arith) in omega arith) low high
+        ∙ not_pushed k (λ z. let y = a.free k q (omega arith) in omega arith)
+        (λ z. let y = a.free k q (omega arith) in omega arith) low high
 
   -- ---- the whole
 
   abbrev MM : Need → Mach → View → Type 0
-  MM need m v = Matches D w.inputs slots bs place aside was need m v
+  MM need m v = Matches D e w.inputs slots bs place aside was need m v
 
   module _ (need : Need) (to : Option Temp) (it : HasPlace to) (m : Mach) (temps : Temps) (s1 : State) (back : ℕ) (v v1 u v4 : View)
       (before : MM (without_result to need) m v)
@@ -226,11 +233,13 @@ module _ (p : PlainIrProgram) (e : Env) (place entry_of : ℕ → ℕ) (w : Worl
       (saved : Saves e slots h scratch x.scratch_stands (without_result to need) v v1 (register_places slots))
       (pointer : sp v1 ≡ s) (first : w.low + 1 ≤ s)
       (b : ℕ) (gb : PlainIrFunction)
-      (left : Matches D w.inputs gb.slots (base_of p e place entry_of w b) place (aside_by aside scratch (16 * slots) s) (pushed back v1).at nothing (machine no_temps s1) u)
+      (left : Matches D e w.inputs gb.slots (base_of p e place entry_of w b) place (aside_by aside scratch (16 * slots) s)
+      (pushed back v1).at nothing (machine no_temps s1) u)
       (pointer1 : sp u ≡ s - 2)
       (took : Took to (popped u) v4)
       (held : (t : Temp) (c : Held) → HasHome slots t → temps t.at ≡ Some c → c.bytes ≡ t.bytes
-      → (IsAt to t × HoldsContent v4.at (bs t) (wanted need t) t.bytes c.content) ⊎ (IsElsewhere to t × (m.temps t.at ≡ Some c))) where
+      → (IsAt to t × HoldsContent D place v4.at (bs t) (wanted need t) t.bytes c.content)
+      ⊎ (IsElsewhere to t × (m.temps t.at ≡ Some c))) where
     abbrev need0 : Need
     need0 = without_result to need
 
@@ -250,7 +259,9 @@ module _ (p : PlainIrProgram) (e : Env) (place entry_of : ℕ → ℕ) (w : Worl
     result_kept : (t : Temp) (i : ℕ) → HasHome slots t → IsAt to t → i < t.bytes → v5.at (bs t + i) ≡ v4.at (bs t + i)
     result_kept t i home_it q l =
         let some = ((layout_of p e place entry_of w f g a.is).temps_at t home_it).clear in
-        loaded.same (bs t + i) (omega arith) (λ j z. outside_home need0 t j i home_it l (⊎_elim (λ (r : j ≡ t.at). inr (kept_none need0 j (ap need0 r ∙ needs_none to t need q))) (λ r. inl r) (cases_eq j t.at)))
+        loaded.same (bs t + i) (omega arith)
+        (λ j z. outside_home need0 t j i home_it l
+        (⊎_elim (λ (r : j ≡ t.at). inr (kept_none need0 j (ap need0 r ∙ needs_none to t need q))) (λ r. inl r) (cases_eq j t.at)))
 
     -- a byte that waited for the call
     register_back : (t : Temp) (i : ℕ) → HasHome slots t → IsElsewhere to t → InRegister h scratch t → i < wanted need0 t
@@ -290,27 +301,30 @@ module _ (p : PlainIrProgram) (e : Env) (place entry_of : ℕ → ℕ) (w : Worl
         ⊎_elim (λ r. register_back t i home_it q r l) (λ r. scratch_back t i home_it q r (omega arith)) (kinds h scratch t)
 
     temp_holds : (t : Temp) (c : Held) → HasHome slots t → temps t.at ≡ Some c → c.bytes ≡ t.bytes
-        → HoldsContent v5.at (bs t) (wanted need t) t.bytes c.content
+        → HoldsContent D place v5.at (bs t) (wanted need t) t.bytes c.content
     temp_holds t c home_it q z =
         ⊎_elim
-        (λ (r : IsAt to t × HoldsContent v4.at (bs t) (wanted need t) t.bytes c.content).
+        (λ (r : IsAt to t × HoldsContent D place v4.at (bs t) (wanted need t) t.bytes c.content).
         let most = wanted_most need t in
-        same_content v4.at v5.at (bs t) (wanted need t) t.bytes c.content (λ i l. result_kept t i home_it r.0 (omega arith)) r.1)
+        same_content D place v4.at v5.at (bs t) (wanted need t) t.bytes c.content (λ i l. result_kept t i home_it r.0 (omega arith)) r.1)
         (λ (r : IsElsewhere to t × (m.temps t.at ≡ Some c)).
         let same : wanted need0 t ≡ wanted need t = ap (λ n. min n t.bytes) (needs_elsewhere to t need r.0) in
-        subst (λ n. HoldsContent v5.at (bs t) n t.bytes c.content) same
-        (same_content v.at v5.at (bs t) (wanted need0 t) t.bytes c.content (λ i l. temp_back t i home_it r.0 l) (before.temps_hold t c home_it r.1 z)))
+        subst (λ n. HoldsContent D place v5.at (bs t) n t.bytes c.content) same
+        (same_content D place v.at v5.at (bs t) (wanted need0 t) t.bytes c.content (λ i l. temp_back t i home_it r.0 l)
+        (before.temps_hold t c home_it r.1 z)))
         (held t c home_it q z)
 
-    leaf_back : (l : NumberLeaf D) (i : ℕ) → i < l.bytes → v5.at (place l.object + l.at + i) ≡ u.at (place l.object + l.at + i)
+    leaf_back : (l : ObjectLeaf D DataBank) (i : ℕ) → i < l.bytes → v5.at (place l.object + l.at + i) ≡ u.at (place l.object + l.at + i)
     leaf_back l i q =
         let some = ((layout_of p e place entry_of w f g a.is).leaves_at l).clear in
         let k = place l.object + l.at + i in
         ⊎_elim
         (λ (z : leaf_at p e place entry_of w l + l.bytes ≤ 8).
-        loaded.same k (omega arith) (λ j y. outside_below need0 j k (omega arith)) ∙ took.same k (omega arith) (omega arith) (omega arith) (outside_leaf to l i it q) ∙ popped_same u k (omega arith) (omega arith))
+        loaded.same k (omega arith) (λ j y. outside_below need0 j k (omega arith))
+        ∙ took.same k (omega arith) (omega arith) (omega arith) (outside_leaf to l i it q) ∙ popped_same u k (omega arith) (omega arith))
         (λ (z : 256 ≤ leaf_at p e place entry_of w l).
-        loaded.same k (omega arith) (λ j y. outside_above need0 j k (omega arith)) ∙ took.same k (omega arith) (omega arith) (omega arith) (outside_leaf to l i it q) ∙ popped_same u k (omega arith) (omega arith))
+        loaded.same k (omega arith) (λ j y. outside_above need0 j k (omega arith))
+        ∙ took.same k (omega arith) (omega arith) (omega arith) (outside_leaf to l i it q) ∙ popped_same u k (omega arith) (omega arith))
         (leaf_is p e place entry_of w f g a.is l)
 
     -- the bytes of the stack pointer, and what else is set aside
@@ -320,7 +334,8 @@ module _ (p : PlainIrProgram) (e : Env) (place entry_of : ℕ → ℕ) (w : Worl
         let top = w.below in
         let begin = w.high in
         let z : s - 2 + 2 ≡ s = omega arith in
-        (popped_pointer u (s - 2) pointer1 (omega arith)).0 ∙ ap (λ n. n % 256) z ∙ sym (pointer_low v s pointer0 before.bytes) ∙ before.kept 93 a.pointer_low
+        (popped_pointer u (s - 2) pointer1 (omega arith)).0 ∙ ap (λ n. n % 256) z ∙ sym (pointer_low v s pointer0 before.bytes)
+        ∙ before.kept 93 a.pointer_low
 
     high_back : (popped u).at 94 ≡ was 94
     high_back =
@@ -328,14 +343,16 @@ module _ (p : PlainIrProgram) (e : Env) (place entry_of : ℕ → ℕ) (w : Worl
         let top = w.below in
         let begin = w.high in
         let z : s - 2 + 2 ≡ s = omega arith in
-        (popped_pointer u (s - 2) pointer1 (omega arith)).1 ∙ ap (λ n. n / 256) z ∙ sym (pointer_high v s pointer0 before.bytes) ∙ before.kept 94 a.pointer_high
+        (popped_pointer u (s - 2) pointer1 (omega arith)).1 ∙ ap (λ n. n / 256) z ∙ sym (pointer_high v s pointer0 before.bytes)
+        ∙ before.kept 94 a.pointer_high
 
     other_back : (k : ℕ) → aside k ≡ true → k ≢ 93 → k ≢ 94 → (popped u).at k ≡ was k
     other_back k q low high =
         let own = a.own k q in
         let above = a.high k q in
         aside_left back v1 u pointer first left.kept k q low high
-        ∙ saved.same k (omega arith) (λ j z y. let few4 = below_work need0 j in let o = own (omega arith) in omega (arith, few4, o)) ∙ before.kept k q
+        ∙ saved.same k (omega arith) (λ j z y. let few4 = below_work need0 j in let o = own (omega arith) in omega (arith, few4, o))
+        ∙ before.kept k q
 
     aside_back : (k : ℕ) → aside k ≡ true → (popped u).at k ≡ was k
     aside_back k q =
@@ -351,8 +368,12 @@ module _ (p : PlainIrProgram) (e : Env) (place entry_of : ℕ → ℕ) (w : Worl
     pub resumes : MM need (machine temps s1) v5
     resumes = record {
       temps_hold = temp_holds;
-      leaves_hold = λ l z y q k. same_leaf u.at v5.at (place l.object + l.at) l.bytes y (λ i r. leaf_back l i r) (left.leaves_hold l z y q k);
-      kept = λ k q. (let above = a.high k q in loaded.same k (omega arith) (λ j y. outside_above need0 j k above) ∙ took.same k (omega arith) (omega arith) (omega arith) (outside_aside to k it q)) ∙ aside_back k q;
+      leaves_hold = λ l z y q k. same_leaf D place u.at v5.at (place l.object + l.at) l.bytes y (λ i r. leaf_back l i r)
+          (left.leaves_hold l z y q k);
+      tables_hold = left.tables_hold;
+      kept = λ k q.
+          (let above = a.high k q in loaded.same k (omega arith) (λ j y. outside_above need0 j k above)
+          ∙ took.same k (omega arith) (omega arith) (omega arith) (outside_aside to k it q)) ∙ aside_back k q;
       bytes = loaded.numbers;
       left = kept_left w.inputs s1 u v5 (loaded.quiet.inputs ∙ took.quiet.inputs) left.left;
       seen = loaded.quiet.seen ∙ took.quiet.seen ∙ left.seen;

@@ -13,9 +13,9 @@ use Rattle.ec_asm.specs.Pieces.{StandsFrom, Outside, CopiesTo}
 use Rattle.ec_asm.specs.PieceLaws.{HoldsNumbers}
 use Rattle.ec_asm.proofs.Compared.{copy_holds}
 use Rattle.ec_asm.proofs.Hoare.{block-append, straight-append, steps-append}
-use Rattle.ec_select_functions.specs.declared.homes.Homes.{Homes}
-use Rattle.ec_select_functions.specs.Code.{place_register, kept_bytes, waiting_location, save_place, restore_place}
-use Rattle.ec_select_functions.specs.Needs.{Need}
+use Rattle.ec_select_operations.specs.declared.homes.Homes.{Homes}
+use Rattle.ec_select_operations.specs.Code.{place_register, kept_bytes, waiting_location, save_place, restore_place}
+use Rattle.ec_select_operations.specs.Needs.{Need}
 use Rattle.ec_select_functions.specs.Standing.{ScratchStands}
 use Rattle.ec_select_functions.proofs.Moves.{Quiet, quiet_then, copy_straight, copy_steps, no_log}
 
@@ -44,7 +44,9 @@ number_of_row v w a b n h some there same k u =
     (λ (l : k < b). rw (same k (omega arith) (λ x. absurd (omega arith))) (h k u))
     (λ (l : b ≤ k).
     ⊎_elim
-    (λ (m : k < b + n). let e : b + (k - b) ≡ k = omega arith in let z = h (a + (k - b)) (omega arith) in let t = there (k - b) (omega arith) in subst (λ i. w.at i < 256) e (rw t z))
+    (λ (m : k < b + n). let e : b + (k - b)
+    ≡ k = omega arith in let z = h (a + (k - b)) (omega arith) in let t = there (k - b) (omega arith) in subst (λ i. w.at i < 256) e
+    (rw t z))
     (λ (m : b + n ≤ k). rw (same k (omega arith) (λ x. m)) (h k u))
     (cases_lt k (b + n)))
     (cases_lt k b)
@@ -146,7 +148,9 @@ module _ (e : Env) (slots : ℕ) (h : Homes) (scratch : ℕ) (s : ScratchStands 
       let most = (are_kept n).most in
       let low = register_low n (omega arith) in
       let below : register n ≤ 26 = omega arith in
-      let c = copy_holds e (InRegisters (register n)) (waiting_location h n) (kept n) (register n) (spare n) Own Own before (in_registers n (omega arith)) (in_scratch n (omega arith)) refl refl (λ q. omega (arith, below, most, high)) in
+      let c =
+      copy_holds e (InRegisters (register n)) (waiting_location h n) (kept n) (register n) (spare n) Own Own before
+      (in_registers n (omega arith)) (in_scratch n (omega arith)) refl refl (λ q. omega (arith, below, most, high)) in
       rw (block-append e (chain saving n) (saving n) v)
       (joined before after ih c low high most below)
     where
@@ -161,12 +165,19 @@ module _ (e : Env) (slots : ℕ) (h : Homes) (scratch : ℕ) (s : ScratchStands 
             (λ (x : n ≤ place).
             let z : place ≡ n = omega arith in
             let r1 : i < kept n = subst (λ j. i < kept j) z r in
-            let reg : before.at (register n + i) ≡ v.at (register n + i) = ih.same (register n + i) (omega arith) (λ j y u. absurd (omega (arith, below, most, high))) in
+            let reg : before.at (register n + i) ≡ v.at (register n + i) =
+            ih.same (register n + i) (omega arith) (λ j y u. absurd (omega (arith, below, most, high))) in
             subst (λ j. after.at (spare j + i) ≡ v.at (register j + i)) (sym z) (c.there i r1 ∙ reg))
             (cases_lt place n);
         same = λ k q r. c.same k q (r n (omega arith)) ∙ ih.same k q (λ place x. r place (omega arith));
         numbers = number_of_row before after (register n) (spare n) (kept n) ih.numbers low c.there (λ k q r. c.same k q r);
-        quiet = quiet_then v before after ih.quiet (record { inputs = c.inputs; safe = c.safe; seen = c.seen ∙ rw (no_log (register n) (spare n) before.at (kept n)) (append-nil before.seen) });
+        quiet = quiet_then v before after ih.quiet
+            (record {
+              inputs = c.inputs;
+              safe = c.safe;
+              seen = c.seen
+                  ∙ rw (no_log (register n) (spare n) before.at (kept n)) (append-nil before.seen);
+            });
       }
 
   -- ---- after it
@@ -192,7 +203,9 @@ module _ (e : Env) (slots : ℕ) (h : Homes) (scratch : ℕ) (s : ScratchStands 
       let high = s.high in
       let low = register_low n (omega arith) in
       let below : register n ≤ 26 = omega arith in
-      let c = copy_holds e (waiting_location h n) (InRegisters (register n)) (kept n) (spare n) (register n) Own Own before (in_scratch n (omega arith)) (in_registers n (omega arith)) refl refl (λ q. absurd (omega (arith, below, high))) in
+      let c =
+      copy_holds e (waiting_location h n) (InRegisters (register n)) (kept n) (spare n) (register n) Own Own before
+      (in_scratch n (omega arith)) (in_registers n (omega arith)) refl refl (λ q. absurd (omega (arith, below, high))) in
       rw (block-append e (chain loading n) (loading n) v)
       (joined before after ih c low high)
     where
@@ -218,12 +231,19 @@ module _ (e : Env) (slots : ℕ) (h : Homes) (scratch : ℕ) (s : ScratchStands 
             (λ (x : n ≤ place).
             let z : place ≡ n = omega arith in
             let r1 : i < kept n = subst (λ j. i < kept j) z r in
-            let reg : before.at (spare n + i) ≡ v.at (spare n + i) = ih.same (spare n + i) (omega arith) (λ j y. none_high j (spare n + i) (omega arith)) in
+            let reg : before.at (spare n + i) ≡ v.at (spare n + i) =
+            ih.same (spare n + i) (omega arith) (λ j y. none_high j (spare n + i) (omega arith)) in
             subst (λ j. after.at (register j + i) ≡ v.at (spare j + i)) (sym z) (c.there i r1 ∙ reg))
             (cases_lt place n);
         same = λ k q r. c.same k q (r n (omega arith)) ∙ ih.same k q (λ place x. r place (omega arith));
         numbers = number_of_row before after (spare n) (register n) (kept n) ih.numbers (omega arith) c.there (λ k q r. c.same k q r);
-        quiet = quiet_then v before after ih.quiet (record { inputs = c.inputs; safe = c.safe; seen = c.seen ∙ rw (no_log (spare n) (register n) before.at (kept n)) (append-nil before.seen) });
+        quiet = quiet_then v before after ih.quiet
+            (record {
+              inputs = c.inputs;
+              safe = c.safe;
+              seen = c.seen
+                  ∙ rw (no_log (spare n) (register n) before.at (kept n)) (append-nil before.seen);
+            });
       }
 
   -- ---- the form of the code
@@ -231,11 +251,17 @@ module _ (e : Env) (slots : ℕ) (h : Homes) (scratch : ℕ) (s : ScratchStands 
   pub save_form : (n : ℕ) → n ≤ 6
       → (all_straight (chain saving n) ≡ true) × (code_steps (chain saving n) ≤ 48)
   save_form n l =
-      let x = chain_most saving n 8 (λ k. let z = (copy_steps (InRegisters (register k)) (waiting_location h k) (kept k)).1 in let most = (are_kept k).most in omega (arith, z, most)) in
+      let x =
+      chain_most saving n 8
+      (λ k. let z = (copy_steps (InRegisters (register k)) (waiting_location h k) (kept k)).1 in let most = (are_kept k).most in omega
+      (arith, z, most)) in
       (chain_straight saving n (λ k. copy_straight (InRegisters (register k)) (waiting_location h k) (kept k)), omega (arith, x))
 
   pub restore_form : (n : ℕ) → n ≤ 6
       → (all_straight (chain loading n) ≡ true) × (code_steps (chain loading n) ≤ 48)
   restore_form n l =
-      let x = chain_most loading n 8 (λ k. let z = (copy_steps (waiting_location h k) (InRegisters (register k)) (kept k)).1 in let most = (are_kept k).most in omega (arith, z, most)) in
+      let x =
+      chain_most loading n 8
+      (λ k. let z = (copy_steps (waiting_location h k) (InRegisters (register k)) (kept k)).1 in let most = (are_kept k).most in omega
+      (arith, z, most)) in
       (chain_straight loading n (λ k. copy_straight (waiting_location h k) (InRegisters (register k)) (kept k)), omega (arith, x))

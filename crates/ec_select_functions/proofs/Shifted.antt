@@ -20,7 +20,7 @@ use Rattle.ec_asm.proofs.Numbers.{mod_beside, pow_pos, mod_less, value_mod}
 use Rattle.ec_asm.proofs.Sum.{value-same}
 use Rattle.ec_core.specs.Plain.{PlainProgram}
 use Rattle.ec_ir.specs.declared.operations.Temp.{Temp}
-use Rattle.ec_select_functions.specs.Homes.{HasHome}
+use Rattle.ec_select_operations.specs.Homes.{HasHome}
 use Rattle.ec_core.specs.Integers.{wrapped, is_count}
 use Rattle.ec_ir.specs.Temporaries.{low_bytes, number_of_bytes}
 use Rattle.ec_select_shifts.specs.declared.shifts.Direction.{Direction}
@@ -28,7 +28,7 @@ use Rattle.ec_select_shifts.specs.declared.shifts.Direction.TheVariants.{Left, R
 use Rattle.ec_select_shifts.specs.Shifts.{shifted_by, shift_code}
 use Rattle.ec_select_shifts.specs.Laws.{Leads}
 use Rattle.ec_select_shifts.proofs.Loops.{shifts_are_right}
-use Rattle.ec_select_functions.specs.Code.{move_code, turned_code, shift_of, shifted_bytes}
+use Rattle.ec_select_operations.specs.Code.{move_code, turned_code, shift_of, shifted_bytes}
 use Rattle.ec_select_functions.proofs.Setting.{Setting}
 use Rattle.ec_select_functions.proofs.Computed.{stand, moved_numbers}
 use Rattle.ec_select_functions.proofs.Match.{read_first}
@@ -115,7 +115,8 @@ right_low_negative s b x c l =
     let k : y < p = quotient_below (p - 1 - x) (2 ^ c) p (omega (arith, l)) in
     let f : Lifts (negsuc y) b (p - 1 - y) = record { k = 1; is = negative_lifts y p k } in
     let e : int_div_euclid (pos x -ℤ pos p) (pos (2 ^ c)) ≡ negsuc y = ap (λ z. int_div_euclid z (pos (2 ^ c))) (negative_is x p l) in
-    ap (λ z. low_bytes b (wrapped (of_type s b) z)) e ∙ low_of_wrapped s b (negsuc y) ∙ low_of (negsuc y) b (p - 1 - y) f ∙ kept_below (p - 1 - y) p (omega (arith, l))
+    ap (λ z. low_bytes b (wrapped (of_type s b) z)) e ∙ low_of_wrapped s b (negsuc y) ∙ low_of (negsuc y) b (p - 1 - y) f
+    ∙ kept_below (p - 1 - y) p (omega (arith, l))
 
 pub right_low : (s1 s : Bool) (b x c : ℕ) → x < 256 ^ b
     → low_bytes b (wrapped (of_type s b) (int_div_euclid (number_of_bytes s1 b x) (pos (2 ^ c)))) ≡ shifted_by (Right s1) b x c
@@ -152,7 +153,8 @@ shifted_below (Right true) b x c l =
     let p = pow_pos b in
     ⊎_elim (λ t. rw t (omega (arith, p))) (λ t. rw t (quotient_below x (2 ^ c) (256 ^ b) l)) (cases_Bool (nat_le (256 ^ b) (2 * x)))
 
-module _ (p : PlainProgram) (e : Env) (slots : ℕ) (home : Temp → Location) (base : Temp → ℕ) (place : ℕ → ℕ) (y : Setting p e slots home base place) where
+module _ (p : PlainProgram) (e : Env) (slots : ℕ) (home : Temp → Location) (base : Temp → ℕ) (place : ℕ → ℕ)
+    (y : Setting p e slots home base place) where
   -- the number and the count are brought to their places, and the number is shifted
   pub turned_leads : (sh : Direction) (t a b : Temp) (w x c pc end : ℕ) (v : View) → HasHome slots t → HasHome slots a
       → HasHome slots b → t.at ≢ b.at → suc w ≤ t.bytes → suc w ≤ a.bytes
@@ -170,18 +172,24 @@ module _ (p : PlainProgram) (e : Env) (slots : ℕ) (home : Temp → Location) (
       let s2 = has_parts e second (shift_code sh (home t) n) s1.0 end s1.2 in
       let v1 = block e first v in
       let v2 = block e second v1 in
-      let k1 = move_holds e (home a) (home t) n (base a) (base t) v (stand p e slots home base place y a n ia la) (stand p e slots home base place y t n it lt) (read_first p e slots home base place y t a n it ia la) h in
+      let k1 =
+      move_holds e (home a) (home t) n (base a) (base t) v (stand p e slots home base place y a n ia la)
+      (stand p e slots home base place y t n it lt) (read_first p e slots home base place y t a n it ia la) h in
       let h1 = moved_numbers p e slots home base place y v v1 (base a) (base t) n (y.layout.temps_at a ia).clear h k1 in
       let frame1 = wider_frame v v1 (base t) t.bytes n lt k1.frame in
       let sb = stand p e slots home base place y b 1 ib some_b in
       let k2 = move_holds e (home b) (InRegisters 30) 1 (base b) 30 v1 sb (work_stands e) (λ l. omega arith) h1 in
       let h2 = moved_numbers p e slots home base place y v1 v2 (base b) 30 1 clear_b h1 k2 in
       let zb : base b + 0 ≡ base b = omega arith in
-      let row = row_kept v v1 (base t) t.bytes (base b) b.bytes clear_b (work_outside (base b) b.bytes (y.layout.temps_work b ib)) (y.layout.temps_apart t b it ib other) frame1 0 (omega arith) in
+      let row =
+      row_kept v v1 (base t) t.bytes (base b) b.bytes clear_b (work_outside (base b) b.bytes (y.layout.temps_work b ib))
+      (y.layout.temps_apart t b it ib other) frame1 0 (omega arith) in
       let count : v2.at 30 ≡ c = k2.there 0 (omega arith) ∙ row ∙ ap v.at zb ∙ xb in
       let far : Outside (base t) n 30 = narrower (base t) t.bytes n 30 lt (work_outside (base t) t.bytes (y.layout.temps_work t it)) in
-      let same2 : (j : ℕ) → j < n → v2.at (base t + j) ≡ v1.at (base t + j) = λ j l. k2.frame (base t + j) (omega arith) (omega arith) (not_work (base t) n j far l) (beside (base t) n j far l) in
-      let number : value v2.at (base t) n ≡ x = value-same v2.at v1.at (base t) n same2 ∙ row_value v1.at v.at (base a) (base t) n k1.there ∙ xa in
+      let same2 : (j : ℕ) → j < n → v2.at (base t + j) ≡ v1.at (base t + j) =
+      λ j l. k2.frame (base t + j) (omega arith) (omega arith) (not_work (base t) n j far l) (beside (base t) n j far l) in
+      let number : value v2.at (base t) n ≡ x =
+      value-same v2.at v1.at (base t) n same2 ∙ row_value v1.at v.at (base a) (base t) n k1.there ∙ xa in
       let below : v2.at 30 < 128 = rw count small in
       let g0 = shifts_are_right sh e (home t) w (base t) s2.0 end v2 (stand p e slots home base place y t n it lt) far h2 below s2.2 in
       let g = subst (λ i. Leads e (3 + i * (2 + 4 * n)) s2.0 v2 end (base t) n (shifted_by sh n (value v2.at (base t) n) i)) count g0 in
@@ -194,7 +202,8 @@ module _ (p : PlainProgram) (e : Env) (slots : ℕ) (home : Temp → Location) (
         steps = code_steps first + code_steps second + g.steps;
         at_most = bound (code_steps first) (code_steps second) g.steps (n * 2) (3 + c * (2 + 4 * n)) take1 take2 take3;
         last = g.last;
-        goes = goes_on_to e (code_steps first + code_steps second) g.steps pc s2.0 end v v2 g.last (goes_on_to e (code_steps first) (code_steps second) pc s1.0 s2.0 v v1 v2 go1 go2) g.goes;
+        goes = goes_on_to e (code_steps first + code_steps second) g.steps pc s2.0 end v v2 g.last
+            (goes_on_to e (code_steps first) (code_steps second) pc s1.0 s2.0 v v1 v2 go1 go2) g.goes;
         number_is = g.number_is ∙ ap (λ i. shifted_by sh n i c) number;
         numbers = g.numbers;
         same = λ i d f r o. g.same i d f r o ∙ k2.frame i d f r (λ l. grind arith) ∙ k1.frame i d f r o;

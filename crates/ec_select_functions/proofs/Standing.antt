@@ -5,21 +5,22 @@ use Rattle.std.specs.Prelude.{nat_le, if◌then◌else◌, slice_get}
 use Rattle.std.specs.List.{AllByRecursion}
 use Rattle.std.proofs.lemmas.Bool.{cases_Bool, cases_eq, cases_lt, and_parts}
 use Rattle.std.proofs.lemmas.Nat.{mul-le}
+use Rattle.ec_space.specs.declared.space.Bank.TheVariants.{Data as DataBank}
 use Rattle.ec_asm.specs.declared.pieces.Location.TheVariants.{InRegisters, InMemory}
 use Rattle.ec_asm.specs.Change.{Env, Own, Object}
 use Rattle.ec_asm.specs.Pieces.{StandsFrom}
 use Rattle.ec_asm.specs.PieceLaws.{IsReadFirst}
 use Rattle.ec_core.specs.Layout.{PlainLeaf, size_of_type, leaves_of_type}
-use Rattle.ec_core.specs.Plain.{integer, PlainStorage, static, local, param, register, PlainObject}
+use Rattle.ec_core.specs.Plain.{PlainStorage, static, local, param, register, PlainObject}
 use Rattle.ec_core.specs.TypeLaws.{LeavesFillTheirTypes}
 use Rattle.ec_core.specs.Valid.{IsObject}
 use Rattle.ec_ir.specs.declared.operations.Temp.{Temp}
 use Rattle.ec_ir.specs.Operations.{PlainIrProgram, data_of}
 use Rattle.ec_ir.specs.Valid.{ValidIr}
-use Rattle.ec_select_functions.specs.declared.homes.Homes.{Homes}
-use Rattle.ec_select_functions.specs.Homes.{depth, home, HasHome, result_register}
-use Rattle.ec_select_functions.specs.Places.{location_in, kind_in, NumberLeaf, Apart, IsClear, AreDifferent, Layout}
-use Rattle.ec_select_functions.specs.Standing.{home_address, ScratchStands, ObjectStands, ObjectsStand}
+use Rattle.ec_select_operations.specs.declared.homes.Homes.{Homes}
+use Rattle.ec_select_operations.specs.Homes.{depth, home, HasHome, result_register}
+use Rattle.ec_select_operations.specs.Places.{location_in, kind_in, ObjectLeaf, Apart, IsClear, AreDifferent, Layout}
+use Rattle.ec_select_functions.specs.Standing.{home_address, ScratchStands, StandsInMemory, ObjectStands, ObjectsStand}
 
 -- ---- a home is in registers or in scratch memory
 
@@ -38,17 +39,20 @@ kinds h scratch t =
     ⊎_elim
     (λ q.
     let r = and_parts (nat_le t.bytes h.width) (nat_le (depth h t) 12) q in
-    inl (record { location = rw q refl; address = rw q refl; narrow = leb-true t.bytes h.width r.0; shallow = leb-true (depth h t) 12 r.1 }))
+    inl
+    (record { location = rw q refl; address = rw q refl; narrow = leb-true t.bytes h.width r.0; shallow = leb-true (depth h t) 12 r.1 }))
     (λ q. inr (record { location = rw q refl; address = rw q refl }))
     (cases_Bool (nat_le t.bytes h.width && nat_le (depth h t) 12))
 
 -- the depth of a place takes at least its own bytes
 depth_some : (h : Homes) (t : Temp) → h.width ≤ depth h t
-depth_some h t = let m : h.width * 1 ≤ h.width * (t.at + 1) = mul-le h.width 1 h.width (t.at + 1) (omega arith) (omega arith) in omega (arith, m)
+depth_some h t =
+    let m : h.width * 1 ≤ h.width * (t.at + 1) = mul-le h.width 1 h.width (t.at + 1) (omega arith) (omega arith) in omega (arith, m)
 
 depth_more : (h : Homes) (t u : Temp) → t.at < u.at → depth h t + h.width ≤ depth h u
 depth_more h t u l =
-    let m : h.width * (t.at + 1 + 1) ≤ h.width * (u.at + 1) = mul-le h.width (t.at + 1 + 1) h.width (u.at + 1) (omega arith) (omega arith) in
+    let m : h.width * (t.at + 1 + 1) ≤ h.width * (u.at + 1) =
+    mul-le h.width (t.at + 1 + 1) h.width (u.at + 1) (omega arith) (omega arith) in
     omega (arith, m)
 
 row_in : (t u : Temp) → t.at < u.at → 16 * t.at + 16 ≤ 16 * u.at
@@ -152,10 +156,18 @@ module _ (e : Env) (slots : ℕ) (h : Homes) (scratch : ℕ) (s : ScratchStands 
       let z = ends_low t r in
       let shallow = r.shallow in
       let starts : 14 ≤ home_address h scratch t = rw (r.address) (omega arith) in
-      record { low = above_apart (home_address h scratch t) t.bytes 8 6 (omega arith) starts; high = below_apart (home_address h scratch t) t.bytes 26 6 it.some z })
+      record {
+        low = above_apart (home_address h scratch t) t.bytes 8 6 (omega arith) starts;
+        high = below_apart
+            (home_address h scratch t) t.bytes 26 6 it.some z;
+      })
       (λ (r : InScratch h scratch t).
       let z = starts_high t r in
-      record { low = above_apart (home_address h scratch t) t.bytes 8 6 (omega arith) (omega arith); high = above_apart (home_address h scratch t) t.bytes 26 6 (omega arith) (omega arith) })
+      record {
+        low = above_apart (home_address h scratch t) t.bytes 8 6 (omega arith) (omega arith);
+        high = above_apart
+            (home_address h scratch t) t.bytes 26 6 (omega arith) (omega arith);
+      })
       (kinds h scratch t)
 
   -- registers and scratch memory are apart
@@ -202,7 +214,8 @@ module _ (e : Env) (slots : ℕ) (h : Homes) (scratch : ℕ) (s : ScratchStands 
   apart_homes t u it iu other =
       ⊎_elim
       (λ (l : t.at < u.at). ordered t u it iu l)
-      (λ (l : u.at ≤ t.at). turned (home_address h scratch u) u.bytes (home_address h scratch t) t.bytes iu.some it.some (ordered u t iu it (omega arith)))
+      (λ (l : u.at ≤ t.at). turned (home_address h scratch u) u.bytes (home_address h scratch t) t.bytes iu.some it.some
+      (ordered u t iu it (omega arith)))
       (cases_lt t.at u.at)
 
   again_homes : (t u : Temp) → HasHome slots t → HasHome slots u → t.at ≡ u.at
@@ -233,7 +246,8 @@ module _ (e : Env) (slots : ℕ) (h : Homes) (scratch : ℕ) (s : ScratchStands 
   taken_home t it =
       ⊎_elim
       (λ (r : InRegister h scratch t). rw (r.address) (in_order h.width t.at t.bytes s.width it.some r.narrow r.shallow).1)
-      (λ (r : InScratch h scratch t). (λ l. let z = starts_high t r in let most = (result_bounds t.bytes).1 in let few = it.most in omega arith))
+      (λ (r : InScratch h scratch t).
+      (λ l. let z = starts_high t r in let most = (result_bounds t.bytes).1 in let few = it.most in omega arith))
       (kinds h scratch t)
 
 -- ---- objects
@@ -244,15 +258,16 @@ item_of P [] (suc k) x all q = absurd (cc)
 item_of P (z ∷ xs) zero x all q = (let g : Some z ≡ Some x = q in let i : z ≡ x = cc in subst P i all.0)
 item_of P (z ∷ xs) (suc k) x all q = item_of P xs k x all.1 q
 
-module _ (fill : LeavesFillTheirTypes) (p : PlainIrProgram) (valid : ValidIr p) (e : Env) (slots : ℕ) (h : Homes) (scratch : ℕ) (place : ℕ → ℕ) (s : ScratchStands e slots h scratch) (o : ObjectsStand (data_of p) e slots scratch place) where
+module _ (fill : LeavesFillTheirTypes) (p : PlainIrProgram) (valid : ValidIr p) (e : Env) (slots : ℕ) (h : Homes) (scratch : ℕ)
+    (place : ℕ → ℕ) (s : ScratchStands e slots h scratch) (o : ObjectsStand (data_of p) e slots scratch place) where
   -- a leaf lies in its object
-  pub record Lies (l : NumberLeaf (data_of p)) : Type 0 where
+  pub record Lies (l : ObjectLeaf (data_of p) DataBank) : Type 0 where
     pub some : 1 ≤ l.bytes
     pub inside : l.at + l.bytes ≤ size_of_type p.structs l.declared.ty
     pub next : (j : ℕ) (after : PlainLeaf) → l.number < j → slice_get (leaves_of_type p.structs l.declared.ty) j ≡ Some after
         → l.at + l.bytes ≤ after.at
 
-  pub lies : (l : NumberLeaf (data_of p)) → Lies l
+  pub lies : (l : ObjectLeaf (data_of p) DataBank) → Lies l
   lies l =
       let d : IsObject (data_of p) l.declared = item_of (IsObject (data_of p)) p.objects l.object l.declared valid.objects l.is_object in
       let f = fill.types p.structs l.declared.ty valid.structs d.ty in
@@ -263,23 +278,24 @@ module _ (fill : LeavesFillTheirTypes) (p : PlainIrProgram) (valid : ValidIr p) 
         next = λ j after x y. subst (λ (n : ℕ). l.at + n ≤ after.at) l.size (k.apart j after x y);
       }
 
-  in_memory : (object n at bytes a : ℕ) → at + bytes ≤ n → 256 ≤ a
-      → ((i : ℕ) → i < n → (e.address_of object i ≡ a + i) × (e.kind (a + i) ≡ Object))
+  in_memory : (object n at bytes a : ℕ) → at + bytes ≤ n → StandsInMemory e object n a
       → StandsFrom e (InMemory object at) bytes (a + at) Object
-  in_memory object n at bytes a l high f = record {
-    at = λ i q. (f (at + i) (omega arith)).0 ∙ sym (joined i);
-    kind = λ i q. subst (λ b. e.kind b ≡ Object) (sym (joined i)) (f (at + i) (omega arith)).1;
-    clear = omega arith;
-  }
+  in_memory object n at bytes a l x =
+      let high = x.high in
+      record {
+        at = λ i q. x.at (at + i) (omega arith) ∙ sym (joined i);
+        kind = λ i q. subst (λ b. e.kind b ≡ Object) (sym (joined i)) (x.kind (at + i) (omega arith));
+        clear = omega arith;
+      }
     where
       joined : (i : ℕ) → a + at + i ≡ a + (at + i)
       joined i = omega arith
 
   stands : (storage : PlainStorage) (object n at bytes a : ℕ) → at + bytes ≤ n → ObjectStands e object n a storage
       → StandsFrom e (location_in storage object at) bytes (a + at) (kind_in storage)
-  stands (static inits) object n at bytes a l x = in_memory object n at bytes a l x.0 x.1
-  stands (local g) object n at bytes a l x = in_memory object n at bytes a l x.0 x.1
-  stands (param g) object n at bytes a l x = in_memory object n at bytes a l x.0 x.1
+  stands (static inits) object n at bytes a l x = in_memory object n at bytes a l x
+  stands (local g) object n at bytes a l x = in_memory object n at bytes a l x
+  stands (param g) object n at bytes a l x = in_memory object n at bytes a l x
   stands (register first) object n at bytes a l x =
       let q : a ≡ first = x.0 in
       let low = x.1 in
@@ -287,28 +303,39 @@ module _ (fill : LeavesFillTheirTypes) (p : PlainIrProgram) (valid : ValidIr p) 
 
   -- an object in registers ends below R8, and any other is high
   in_place : (storage : PlainStorage) (object n a : ℕ) → ObjectStands e object n a storage → (a + n ≤ 8) ⊎ (256 ≤ a)
-  in_place (static inits) object n a x = inr x.0
-  in_place (local g) object n a x = inr x.0
-  in_place (param g) object n a x = inr x.0
+  in_place (static inits) object n a x = inr x.high
+  in_place (local g) object n a x = inr x.high
+  in_place (param g) object n a x = inr x.high
   in_place (register first) object n a x = let q = x.0 in let l = x.2 in inl (omega arith)
 
-  abbrev pub leaf_address : NumberLeaf (data_of p) → ℕ
+  abbrev pub leaf_address : ObjectLeaf (data_of p) DataBank → ℕ
   leaf_address l = place l.object + l.at
 
-  object_of : (l : NumberLeaf (data_of p)) → ObjectStands e l.object (size_of_type p.structs l.declared.ty) (place l.object) l.declared.storage
-  object_of l = o.each l.object l.declared l.is_object l.in_data
+  object_of : (l : ObjectLeaf (data_of p) DataBank) → ObjectStands e l.object (size_of_type p.structs l.declared.ty) (place l.object)
+      l.declared.storage
+  object_of l = o.each l.object l.declared l.is_object l.home
 
-  work_leaf : (l : NumberLeaf (data_of p)) → IsClear (leaf_address l) l.bytes
+  work_leaf : (l : ObjectLeaf (data_of p) DataBank) → IsClear (leaf_address l) l.bytes
   work_leaf l =
       let inside = (lies l).inside in
       let some = (lies l).some in
       ⊎_elim
-      (λ (x : place l.object + size_of_type p.structs l.declared.ty ≤ 8). record { low = below_apart (leaf_address l) l.bytes 8 6 some (omega arith); high = below_apart (leaf_address l) l.bytes 26 6 some (omega arith) })
-      (λ (x : 256 ≤ place l.object). record { low = above_apart (leaf_address l) l.bytes 8 6 (omega arith) (omega arith); high = above_apart (leaf_address l) l.bytes 26 6 (omega arith) (omega arith) })
+      (λ
+      (x : place l.object + size_of_type p.structs l.declared.ty ≤ 8). record {
+        low = below_apart (leaf_address l) l.bytes 8 6 some
+            (omega arith);
+        high = below_apart (leaf_address l) l.bytes 26 6 some (omega arith);
+      })
+      (λ
+      (x : 256 ≤ place l.object). record {
+        low = above_apart (leaf_address l) l.bytes 8 6 (omega arith) (omega arith);
+        high = above_apart
+            (leaf_address l) l.bytes 26 6 (omega arith) (omega arith);
+      })
       (in_place l.declared.storage l.object _ (place l.object) (object_of l))
 
   -- a leaf stands in the registers of named objects, or outside registers and ports
-  pub leaf_where : (l : NumberLeaf (data_of p)) → (leaf_address l + l.bytes ≤ 8) ⊎ (256 ≤ leaf_address l)
+  pub leaf_where : (l : ObjectLeaf (data_of p) DataBank) → (leaf_address l + l.bytes ≤ 8) ⊎ (256 ≤ leaf_address l)
   leaf_where l =
       let inside = (lies l).inside in
       ⊎_elim
@@ -316,7 +343,7 @@ module _ (fill : LeavesFillTheirTypes) (p : PlainIrProgram) (valid : ValidIr p) 
       (λ (x : 256 ≤ place l.object). inr (omega arith))
       (in_place l.declared.storage l.object _ (place l.object) (object_of l))
 
-  leaf_home : (l : NumberLeaf (data_of p)) (t : Temp) → HasHome slots t
+  leaf_home : (l : ObjectLeaf (data_of p) DataBank) (t : Temp) → HasHome slots t
       → Apart (leaf_address l) l.bytes (home_address h scratch t) t.bytes
   leaf_home l t it =
       let inside = (lies l).inside in
@@ -333,15 +360,18 @@ module _ (fill : LeavesFillTheirTypes) (p : PlainIrProgram) (valid : ValidIr p) 
       (λ (r : InScratch h scratch t).
       let within = it.within in
       let most = it.most in
-      rw (r.address) (inner_apart (place l.object) size scratch (16 * slots) l.at l.bytes (16 * t.at) t.bytes some it.some inside (omega arith) (o.scratch_apart l.object l.declared l.is_object l.in_data)))
+      rw (r.address) (inner_apart (place l.object) size scratch (16 * slots) l.at l.bytes (16 * t.at) t.bytes some it.some inside
+      (omega arith) (o.scratch_apart l.object l.declared l.is_object l.home)))
       (kinds h scratch t)
 
-  leaves_apart : (l k : NumberLeaf (data_of p)) → AreDifferent (data_of p) l k
+  leaves_apart : (l k : ObjectLeaf (data_of p) DataBank) → AreDifferent (data_of p) l k
       → Apart (leaf_address l) l.bytes (leaf_address k) k.bytes
   leaves_apart l k different =
       ⊎_elim
       (λ (same : l.object ≡ k.object). ⊎_elim (λ q. absurd (q same)) (λ q. in_one same q) different)
-      (λ (other : l.object ≢ k.object). inner_apart (place l.object) (size_of_type p.structs l.declared.ty) (place k.object) (size_of_type p.structs k.declared.ty) l.at l.bytes k.at k.bytes (lies l).some (lies k).some (lies l).inside (lies k).inside (o.apart l.object k.object l.declared k.declared l.is_object l.in_data k.is_object k.in_data other))
+      (λ (other : l.object ≢ k.object). inner_apart (place l.object) (size_of_type p.structs l.declared.ty) (place k.object)
+      (size_of_type p.structs k.declared.ty) l.at l.bytes k.at k.bytes (lies l).some (lies k).some (lies l).inside (lies k).inside
+      (o.apart l.object k.object l.declared k.declared l.is_object l.home k.is_object k.home other))
       (cases_eq l.object k.object)
     where
       in_one : l.object ≡ k.object → l.number ≢ k.number → Apart (leaf_address l) l.bytes (leaf_address k) k.bytes
@@ -354,11 +384,13 @@ module _ (fill : LeavesFillTheirTypes) (p : PlainIrProgram) (valid : ValidIr p) 
           let places : place l.object ≡ place k.object = ap place same in
           ⊎_elim
           (λ (z : l.number < k.number).
-          let there : slice_get (leaves_of_type p.structs l.declared.ty) k.number ≡ Some second = subst (λ (i : PlainObject). slice_get (leaves_of_type p.structs i.ty) k.number ≡ Some second) (sym d) k.is_leaf in
+          let there : slice_get (leaves_of_type p.structs l.declared.ty) k.number ≡ Some second =
+          subst (λ (i : PlainObject). slice_get (leaves_of_type p.structs i.ty) k.number ≡ Some second) (sym d) k.is_leaf in
           let x : l.at + l.bytes ≤ k.at = (lies l).next k.number second z there in
           below_apart (leaf_address l) l.bytes (leaf_address k) k.bytes (lies l).some (omega arith))
           (λ (z : k.number ≤ l.number).
-          let there : slice_get (leaves_of_type p.structs k.declared.ty) l.number ≡ Some first = subst (λ (i : PlainObject). slice_get (leaves_of_type p.structs i.ty) l.number ≡ Some first) d l.is_leaf in
+          let there : slice_get (leaves_of_type p.structs k.declared.ty) l.number ≡ Some first =
+          subst (λ (i : PlainObject). slice_get (leaves_of_type p.structs i.ty) l.number ≡ Some first) d l.is_leaf in
           let x : k.at + k.bytes ≤ l.at = (lies k).next l.number first (omega arith) there in
           above_apart (leaf_address l) l.bytes (leaf_address k) k.bytes (lies k).some (omega arith))
           (cases_lt l.number k.number)
@@ -371,7 +403,8 @@ module _ (fill : LeavesFillTheirTypes) (p : PlainIrProgram) (valid : ValidIr p) 
     temps_again = again_homes e slots h scratch s;
     temps_result = result_home e slots h scratch s;
     temps_taken = taken_home e slots h scratch s;
-    leaves_at = λ l. stands l.declared.storage l.object (size_of_type p.structs l.declared.ty) l.at l.bytes (place l.object) (lies l).inside (object_of l);
+    leaves_at = λ l. stands l.declared.storage l.object (size_of_type p.structs l.declared.ty) l.at l.bytes (place l.object)
+        (lies l).inside (object_of l);
     leaves_work = work_leaf;
     leaves_apart = leaves_apart;
     temp_leaf = λ t l it. turned (leaf_address l) l.bytes (home_address h scratch t) t.bytes (lies l).some it.some (leaf_home l t it);

@@ -33,29 +33,32 @@ use Rattle.ec_core.specs.declared.expressions.BinOp.TheVariants.{Add, Sub, Mul, 
 use Rattle.ec_core.specs.declared.expressions.BinOp.TheVariants.{Gt, Le, Ge, Eq, Ne}
 use Rattle.ec_core.specs.declared.expressions.UnOp.{UnOp}
 use Rattle.ec_core.specs.declared.expressions.UnOp.TheVariants.{Minus, Invert}
+use Rattle.ec_core.specs.declared.values.ObjectPointer.{ObjectPointer}
 use Rattle.ec_core.specs.declared.values.Value.{Value}
-use Rattle.ec_core.specs.declared.values.Value.TheVariants.{Number, Pointer}
-use Rattle.ec_core.specs.Accesses.{Access, read, read_value, leaf_of, stored, operand_of}
+use Rattle.ec_core.specs.declared.values.Value.TheVariants.{Number}
+use Rattle.ec_core.specs.Accesses.{operand_of}
 use Rattle.ec_core.specs.Layout.{scalar_size}
 use Rattle.ec_core.specs.declared.values.Undefined.TheVariants.{ShiftCount, ZeroDivisor, BufferIndex}
 use Rattle.ec_core.specs.Integers.{wrapped, is_count}
 use Rattle.ec_core.specs.declared.values.Undefined.{Undefined}
 use Rattle.ec_core.specs.ArithmeticValues.{arithmetic_value, unary_value, conversion_value}
-use Rattle.ec_core.specs.Operators.{Operand, same_type, unary_result, binary_result, conversion_result, as_number, number_type}
+use Rattle.ec_core.specs.Operators.{Operand, same_type, unary_result, binary_result, conversion_result, as_number}
+use Rattle.ec_core.specs.Operators.{number_type}
 use Rattle.ec_core.specs.Words.{widest, operation_words}
 use Rattle.ec_core.specs.Plain.{PlainType, integer, fixed, pointer, array, struct, void, PlainProgram}
 use Rattle.ec_core.specs.Meaning.{state_of}
 use Rattle.ec_core.specs.PortAccesses.{number_read, bytes_read, bytes_written}
-use Rattle.ec_core.specs.State.{State, ObjectState, worked, Outcome, got, undefined, next, given}
+use Rattle.ec_core.specs.State.{State, worked, Outcome, got, undefined, next, given}
 use Rattle.ec_ir.specs.declared.operations.Temp.{Temp}
 use Rattle.ec_ir.specs.Costs.{op_steps, binary_words, conversion_words, is_bitwise, is_integer}
-use Rattle.ec_ir.specs.Meaning.{Mach, machine, held_as, exec_from, object_access, accessed_type, put, put_leaf, find}
+use Rattle.ec_ir.specs.Meaning.{Mach, machine, held_as, exec_from, find}
 use Rattle.ec_ir.specs.Meaning.{jump_to, held_number, port_read, port_written, Frame as Call}
 use Rattle.ec_ir.specs.Operations.{PlainIr, constant, copy, load_object, store_object, binary_op, conversion, label}
 use Rattle.ec_ir.specs.Operations.{jump, branch_zero, return_from, address, field, load_at, store_at, unary_op}
 use Rattle.ec_ir.specs.Operations.{call_function, port_in, port_out, PlainIrFunction}
-use Rattle.ec_ir.specs.Temporaries.{Content, bits, points, number_of_bytes, low_bytes, Temps, content_of, value_in, with_content, with_temp, is_zero}
-use Rattle.ec_select_functions.specs.Homes.{HasHome}
+use Rattle.ec_ir.specs.Temporaries.{Content, bits, points, number_of_bytes, low_bytes, Temps, content_of, value_in}
+use Rattle.ec_ir.specs.Temporaries.{with_content, with_temp, is_zero}
+use Rattle.ec_select_operations.specs.Homes.{HasHome}
 use Rattle.ec_select_bytes.specs.Values.{test_code, extend_code}
 use Rattle.ec_select_bytes.proofs.Tests.{tests_keep, tests_tell_zero}
 use Rattle.ec_select_bytes.specs.Complements.{negation_code}
@@ -65,6 +68,7 @@ use Rattle.ec_select_order.specs.declared.relations.Relation.{Relation}
 use Rattle.ec_select_order.specs.Relations.{stand_so, relation_code, flag_of, is_set, unless_code}
 use Rattle.ec_select_order.specs.Laws.{Tells}
 use Rattle.ec_select_order.proofs.Truths.{relations_are_told, flag_is, fails_in_flag, holds_in_flag}
+use Rattle.ec_select_places.specs.Numbers.{number_of}
 use Rattle.ec_select_products.specs.Products.{product_of, product_code}
 use Rattle.ec_select_products.specs.Laws.{Leads}
 use Rattle.ec_select_products.proofs.Multiplied.{products_are_right}
@@ -72,21 +76,24 @@ use Rattle.ec_select_shifts.specs.Shifts.{shifted_by}
 use Rattle.ec_select_quotients.specs.Signs.{quotient_of, quotient_code}
 use Rattle.ec_select_quotients.specs.SignLaws.{IsClearOf}
 use Rattle.ec_select_quotients.proofs.Signed.{quotients_are_right}
-use Rattle.ec_select_functions.specs.declared.families.Family.{Family}
-use Rattle.ec_select_functions.specs.declared.families.Family.TheVariants.{Combined, Compared, Multiplied, Shifted}
-use Rattle.ec_select_functions.specs.declared.families.Family.TheVariants.{Divided}
-use Rattle.ec_select_functions.specs.declared.families.Told.{Told}
-use Rattle.ec_select_functions.specs.Code.{Linkage, told_of, is_only_tested, tells_next, flag_code, is_signed}
-use Rattle.ec_select_functions.specs.Code.{op_code, ops_code, family_of, same_location, reversed_code}
-use Rattle.ec_select_functions.specs.Code.{combined_code, binary_code, turn_code, unary_code, move_code}
-use Rattle.ec_select_functions.specs.Code.{conversion_code, turned_code, shift_of, shifted_bytes, long_code}
-use Rattle.ec_select_functions.specs.Covered.{IsCovered, IsBinary, IsUnary, AreConverted, IsPort, AreCovered, HasNumberAt}
+use Rattle.ec_select_operations.specs.declared.families.Family.{Family}
+use Rattle.ec_select_operations.specs.declared.families.Family.TheVariants.{Combined, Compared, Multiplied, Shifted}
+use Rattle.ec_select_operations.specs.declared.families.Family.TheVariants.{Divided}
+use Rattle.ec_select_operations.specs.declared.families.Told.{Told}
+use Rattle.ec_select_operations.specs.Code.{Linkage, told_of, is_only_tested, tells_next, flag_code, is_signed}
+use Rattle.ec_select_operations.specs.Code.{op_code, ops_code, family_of, same_location, reversed_code}
+use Rattle.ec_select_operations.specs.Code.{combined_code, binary_code, turn_code, unary_code, move_code}
+use Rattle.ec_select_operations.specs.Code.{conversion_code, turned_code, shift_of, shifted_bytes, long_code}
+use Rattle.ec_select_functions.specs.Covered.{IsCovered, IsBinary, IsUnary, AreConverted, IsPort, AreCovered}
 use Rattle.ec_select_functions.specs.Covered.{IsFixedBinary, IsFixedUnary, IsFixedConversion}
+use Rattle.ec_select_functions.specs.Covered.{IsPointerBinary, IsPointerConversion}
 use Rattle.ec_select_fixed.specs.Types.{IsFixedType, IsNumberType}
 use Rattle.ec_select_fixed.proofs.Suits.{AreSuited, operands_suit}
-use Rattle.ec_select_functions.specs.Code.{told_by, by_kind as code_by_kind, fixed_binary, fixed_unary, fixed_conversion, answer_code, answer_location, work_location, wanted_bytes}
+use Rattle.ec_select_operations.specs.Code.{told_by, by_kind as code_by_kind, fixed_binary, answer_code, answer_location}
+use Rattle.ec_select_operations.specs.Code.{work_location, wanted_bytes}
 use Rattle.ec_select_fixed.specs.Codes.{fixed_binary_code, fixed_unary_code, fixed_conversion_code}
-use Rattle.ec_select_fixed.specs.FixedLaws.{IsBinaryResult, IsUnaryResult, IsConversionResult, binary_room, unary_room, conversion_room}
+use Rattle.ec_select_fixed.specs.FixedLaws.{IsBinaryResult, IsUnaryResult, IsConversionResult, binary_room, unary_room}
+use Rattle.ec_select_fixed.specs.FixedLaws.{conversion_room}
 use Rattle.ec_fxcode_quotients.specs.QuotientLaws.{AreSlots, operand_in as fixed_operand_in}
 use Rattle.ec_select_fixed.specs.Types.{format_in}
 use Rattle.ec_select_fixed.proofs.Conversions.{AreConverted as AreNumberTypes, converted_types}
@@ -94,22 +101,29 @@ use Rattle.ec_select_fixed.proofs.Converted.{conversion_told}
 use Rattle.ec_select_fixed.proofs.Formats.{fixed_number_type}
 use Rattle.ec_select_fixed.proofs.Operators.{IsNumber, as_told, binary_told}
 use Rattle.ec_select_fixed.specs.FixedLaws.{AreOperandSlots, HasOperandBytes}
-use Rattle.ec_select_functions.specs.Needs.{is_fixed, first_wanted, second_wanted, only_wanted}
-use Rattle.ec_select_functions.specs.Places.{IsNumeric}
+use Rattle.ec_select_operations.specs.Needs.{is_fixed, is_whole, first_wanted, second_wanted, only_wanted}
+use Rattle.ec_select_operations.specs.Pointers.{is_pointer, address_number, IsPointerIn}
+use Rattle.ec_select_operations.specs.Code.{pointer_binary, pointer_conversion}
+use Rattle.ec_select_operations.specs.Places.{IsNumeric}
 use Rattle.ec_select_functions.specs.Kept.{are_on_ports}
-use Rattle.ec_select_functions.specs.Needs.{Need, needs, IsLive, wanted, at_least, without, either, returned_need}
-use Rattle.ec_select_functions.specs.Needs.{index_needed, all_or_none, operand_wanted, right_wanted}
-use Rattle.ec_select_functions.specs.Places.{IsClear, object_location}
+use Rattle.ec_select_operations.specs.Needs.{Need, needs, IsLive, wanted, at_least, without, either, returned_need}
+use Rattle.ec_select_operations.specs.Needs.{index_needed, all_or_none, operand_wanted, right_wanted}
+use Rattle.ec_select_operations.specs.Places.{IsClear}
 use Rattle.ec_select_functions.proofs.Setting.{Setting}
-use Rattle.ec_select_functions.specs.Relation.{Matches, HoldsLeaf, HoldsContent}
-use Rattle.ec_select_functions.proofs.Accesses.{load_matches, store_matches, leaf_with, after_read, after_write}
-use Rattle.ec_select_functions.proofs.Accesses.{recorded_work}
+use Rattle.ec_select_functions.specs.Relation.{Matches, HoldsContent}
+use Rattle.ec_select_functions.proofs.Going.{Ready as IsReady, passes as code_passes}
+use Rattle.ec_select_functions.proofs.MemorySteps.{address_follows, field_follows, load_at_follows, store_at_follows}
+use Rattle.ec_select_functions.proofs.MemorySteps.{load_follows, store_follows}
+use Rattle.ec_select_functions.proofs.PointerNumbers.{place_of, objects_have_places, address_is, address_low}
+use Rattle.ec_select_functions.proofs.PointerNumbers.{number_below}
+use Rattle.ec_select_functions.proofs.PointerSteps.{pointer_binary_follows, pointer_conversion_follows}
 use Rattle.ec_select_functions.proofs.Computed.{constant_matches, copy_matches, binary_matches, moved_numbers}
 use Rattle.ec_select_functions.proofs.Computed.{result_of}
 use Rattle.ec_select_functions.proofs.Extended.{conversion_matches}
 use Rattle.ec_select_functions.proofs.FixedRuns.{answer_passes, slots_of, operand_slots_of}
-use Rattle.ec_select_functions.proofs.Follow.{with_ports, Follows, after, from_held, from_number, from_nothing, next_next}
-use Rattle.ec_select_functions.proofs.Match.{kept_left, wanted_most, read_first, whole, at_width, weaker, written, written_wide}
+use Rattle.ec_select_functions.proofs.Follow.{with_ports, Follows, after, from_held, from_number}
+use Rattle.ec_select_functions.proofs.Match.{kept_left, wanted_most, read_first, whole, at_width, weaker, written}
+use Rattle.ec_select_functions.proofs.Match.{written_wide}
 use Rattle.ec_select_functions.proofs.Match.{same_content, same_leaf, least_here, least_other, without_other}
 use Rattle.ec_select_functions.proofs.Fronts.{exec_adds}
 use Rattle.ec_select_functions.proofs.PortForms.{in_straight, in_steps, out_straight, out_steps}
@@ -118,10 +132,10 @@ use Rattle.ec_select_functions.proofs.PortMatch.{points as points_at}
 use Rattle.ec_select_functions.proofs.PortPoints.{IsElement, from_bytes, from_element}
 use Rattle.ec_select_functions.proofs.PortStates.{ports_before, kinds_read, kinds_written, read_work, written_work}
 use Rattle.ec_select_functions.proofs.Moves.{Frame, Wide, widened, wider_frame, work_outside, row_kept, narrower}
-use Rattle.ec_select_functions.proofs.Moves.{stands_less, copy_straight, copy_steps, move_straight, move_steps}
+use Rattle.ec_select_functions.proofs.Moves.{stands_less, move_straight, move_steps}
 use Rattle.ec_select_functions.proofs.Moves.{move_holds, row_value}
 use Rattle.ec_select_functions.proofs.Numbers.{gives_of}
-use Rattle.ec_select_functions.proofs.Numeric.{sign_in, number_in, value_is, from_numeric, from_typed}
+use Rattle.ec_select_functions.proofs.Numeric.{sign_in, number_in, value_is, from_typed}
 use Rattle.ec_select_functions.proofs.Orders.{first_of_two, decided}
 use Rattle.ec_select_functions.proofs.Related.{told_matches}
 use Rattle.ec_select_functions.proofs.Truth.{bit_is, not_not, truth_low, held_at, content_of_held, same_temp}
@@ -130,50 +144,51 @@ use Rattle.ec_select_functions.proofs.Shifted.{count_is, shift_number, shift_low
 use Rattle.ec_select_functions.proofs.Shifted.{turned_leads}
 use Rattle.ec_select_functions.proofs.Divided.{int_part, quotient_low, not_zero}
 use Rattle.ec_select_functions.proofs.Turned.{turned, turns, unary_matches}
-use Rattle.ec_select_functions.proofs.Wrapped.{low_of_number, low_of_wrapped, low_below, kept_below}
+use Rattle.ec_select_functions.proofs.Wrapped.{low_of_wrapped, low_below, kept_below}
 
-module _ (p : PlainProgram) (functions : List PlainIrFunction) (e : Env) (slots : ℕ) (home : Temp → Location) (base : Temp → ℕ) (place : ℕ → ℕ) (y : Setting p e slots home base place) (at : ℕ → Need) (all : List PlainIr) (end : ℕ) (results : ℕ → ℕ) (me : ℕ) (link : Linkage) (stack : List Call) where
+module _ (p : PlainProgram) (functions : List PlainIrFunction) (e : Env) (slots : ℕ) (home : Temp → Location)
+    (base : Temp → ℕ) (place : ℕ → ℕ) (y : Setting p e slots home base place) (at : ℕ → Need) (all : List PlainIr)
+    (end : ℕ) (results : ℕ → ℕ) (me : ℕ) (link : Linkage) (stack : List Call) where
   abbrev pub M : Need → Mach → View → Type 0
-  M need m v = Matches p y.inputs slots base place y.aside y.was need m v
+  M need m v = Matches p e y.inputs slots base place y.aside y.was need m v
 
   abbrev pub G : (n w pc : ℕ) → View → Outcome Value → Type 0
   G n w pc v o = Follows p place e n w pc v o
 
   -- the code of operations, of which the first one has been told so much
   abbrev pub items_told : Option Told → List PlainIr → List AsmItem
-  items_told told code = ops_code p.objects home link at told code
+  items_told told code = ops_code p home link at told code
 
   abbrev pub items : List PlainIr → List AsmItem
   items code = items_told None code
 
   -- that of one which has been told nothing, and tells nothing
   abbrev pub code_of : PlainIr → List PlainIr → List AsmItem
-  code_of i rest = op_code p.objects home link None None (needs at rest) i
+  code_of i rest = op_code p home link None None (needs at rest) i
 
-  -- the operations that are left have their code from this word on
-  pub record Ready (pc : ℕ) (rest : List PlainIr) : Type 0 where
-    pub covered : AreCovered p results me slots rest
-    pub live : IsLive at rest
-    pub inside : (b : ℕ) → Contains (called_in rest) b → Contains (called_in all) b
-    pub stands : HasAt e (items rest) pc end
+  abbrev pub Ready : (pc : ℕ) (rest : List PlainIr) → Type 0
+  Ready pc rest = IsReady p functions e slots home base place y at all end results me link stack pc rest
 
   -- the run of operations from here on
   abbrev pub R : ℕ → List PlainIr → Mach → Outcome Value
   R n rest m = exec_from functions p y.inputs n all stack rest m
 
-  -- straight code of an operation, and what comes after it
-  passes : (i : PlainIr) (rest : List PlainIr) (n n1 w w1 pc : ℕ) (v : View) (o : Outcome Value)
-      → HasAt e (code_of i rest ++ items rest) pc end → all_straight (code_of i rest) ≡ true → n1 ≤ code_steps (code_of i rest) + n
-      → w + code_steps (code_of i rest) ≤ w1
-      → ((mid : ℕ) → HasAt e (items rest) mid end → G n w1 mid (block e (code_of i rest) v) o) → G n1 w pc v o
-  passes i rest n n1 w w1 pc v o stands straight least most f =
-      let s = has_parts e (code_of i rest) (items rest) pc end stands in
-      after p place e (code_steps (code_of i rest)) n n1 w w1 pc s.0 v (block e (code_of i rest) v) o (block_goes e (code_of i rest) pc s.0 v straight s.1) least most (f s.0 s.2)
-
   -- what is shown of the rest
   abbrev pub Rest : ℕ → List PlainIr → Type 0
   Rest n rest = (pc : ℕ) (m : Mach) (v : View) → HasAt e (items rest) pc end → M (needs at rest) m v
       → G n m.state.work pc v (R n rest m)
+
+  -- the state once the steps of an operation are counted
+  abbrev begun : PlainIr → Mach → State
+  begun i m = worked (op_steps i) m.state
+
+  passes : (i : PlainIr) (rest : List PlainIr) (n n1 w w1 pc : ℕ) (v : View) (o : Outcome Value)
+      → HasAt e (code_of i rest ++ items rest) pc end → all_straight (code_of i rest) ≡ true
+      → n1 ≤ code_steps (code_of i rest) + n → w + code_steps (code_of i rest) ≤ w1
+      → ((mid : ℕ) → HasAt e (items rest) mid end → G n w1 mid (block e (code_of i rest) v) o) → G n1 w pc v o
+  passes i rest n n1 w w1 pc v o stands straight least most f =
+      code_passes p functions e slots home base place y at all end results me link stack i rest n n1 w w1 pc v o stands straight
+      least most f
 
   pub constant_follows : (t : Temp) (k : ℤ) (rest : List PlainIr) (n pc : ℕ) (m : Mach) (v : View) → HasHome slots t
       → HasAt e (items (constant t k ∷ rest)) pc end → M (without t.at (needs at rest)) m v → Rest (suc n) rest
@@ -186,7 +201,8 @@ module _ (p : PlainProgram) (functions : List PlainIrFunction) (e : Env) (slots 
       let take = (values_take (home t) (low_bytes 16 k) 0 (wanted need t)).0 in
       let most = wanted_most need t in
       let small : code_steps (code_of (constant t k) rest) ≤ 64 * (5 * t.bytes) = omega (arith, take, most) in
-      passes (constant t k) rest (suc n) (suc n) m.state.work m1.state.work pc v (R (suc n) rest m1) stands (values_are_straight (home t) (low_bytes 16 k) 0 (wanted need t)).0 (omega arith) (omega (arith, small))
+      passes (constant t k) rest (suc n) (suc n) m.state.work m1.state.work pc v (R (suc n) rest m1) stands
+      (values_are_straight (home t) (low_bytes 16 k) 0 (wanted need t)).0 (omega arith) (omega (arith, small))
       (λ mid s. f mid m1 _ s (constant_matches p e slots home base place y t need m v k c it h))
 
   pub copy_follows : (t u : Temp) (rest : List PlainIr) (n pc : ℕ) (m : Mach) (v : View) → HasHome slots t → HasHome slots u
@@ -202,7 +218,8 @@ module _ (p : PlainProgram) (functions : List PlainIrFunction) (e : Env) (slots 
       from_held p place e u m.temps (worked c m.state) _ (suc n) m.state.work pc v
       (λ x q w.
       let m1 = machine (with_content t x.content m.temps) (worked c m.state) in
-      passes (copy t u) rest (suc n) (suc n) m.state.work m1.state.work pc v (R (suc n) rest m1) stands (move_straight (home u) (home t) (wanted need t)) (omega arith) (omega (arith, small))
+      passes (copy t u) rest (suc n) (suc n) m.state.work m1.state.work pc v (R (suc n) rest m1) stands
+      (move_straight (home u) (home t) (wanted need t)) (omega arith) (omega (arith, small))
       (λ mid s. f mid m1 _ s (copy_matches p e slots home base place y t u need m v x c it iu same q w h)))
 
   -- ---- operators
@@ -213,7 +230,8 @@ module _ (p : PlainProgram) (functions : List PlainIrFunction) (e : Env) (slots 
   reversed_straight BitOr a t n = (pieces_are_straight BitOr a t n).1
   reversed_straight BitXor a t n = (pieces_are_straight BitXor a t n).1
   reversed_straight Difference a t n =
-      straight-append (operate_code Difference a t n) (negation_code t n) (pieces_are_straight Difference a t n).1 (complements_are_straight t n).1
+      straight-append (operate_code Difference a t n) (negation_code t n) (pieces_are_straight Difference a t n).1
+      (complements_are_straight t n).1
 
   reversed_steps : (op : Operator) (a t : Location) (n : ℕ) → code_steps (reversed_code op a t n) ≤ 10 * n + 1
   reversed_steps Sum a t n = let z = (pieces_take Sum a t n).1.1 in omega (arith, z)
@@ -247,7 +265,8 @@ module _ (p : PlainProgram) (functions : List PlainIrFunction) (e : Env) (slots 
       wide : n ≤ widest (ty ∷ aty ∷ bty ∷ [])
       wide = omega (arith, l)
 
-      by_kind : (x : Bool) → 10 * n + 1 ≤ 64 * (if x then 10 * widest (ty ∷ aty ∷ bty ∷ []) else operation_words (widest (ty ∷ aty ∷ bty ∷ [])))
+      by_kind : (x : Bool)
+          → 10 * n + 1 ≤ 64 * (if x then 10 * widest (ty ∷ aty ∷ bty ∷ []) else operation_words (widest (ty ∷ aty ∷ bty ∷ [])))
       by_kind true = omega (arith, wide)
       by_kind false = omega (arith, wide)
 
@@ -284,7 +303,8 @@ module _ (p : PlainProgram) (functions : List PlainIrFunction) (e : Env) (slots 
       → HasAt e (code_of (binary_op op (integer s t.bytes) mode t a (integer s1 a.bytes) b (integer s2 b.bytes)) rest ++ items rest) pc end
       → M (operands_needed op t a b (wanted (needs at rest) t) (wanted (needs at rest) t) (needs at rest)) m v
       → Rest (suc n) rest
-      → G (suc n) m.state.work pc v (R (suc n) (binary_op op (integer s t.bytes) mode t a (integer s1 a.bytes) b (integer s2 b.bytes) ∷ rest) m)
+      → G (suc n) m.state.work pc v
+      (R (suc n) (binary_op op (integer s t.bytes) mode t a (integer s1 a.bytes) b (integer s2 b.bytes) ∷ rest) m)
   combined_follows op o is s s1 s2 mode t a b rest n pc m v it ia ib sa sb stands h f =
       let need = needs at rest in
       let i = binary_op op (integer s t.bytes) mode t a (integer s1 a.bytes) b (integer s2 b.bytes) in
@@ -293,8 +313,12 @@ module _ (p : PlainProgram) (functions : List PlainIrFunction) (e : Env) (slots 
       let k = wanted need t in
       let most = wanted_most need t in
       let big : 10 * k + 1 ≤ c = operator_big op (integer s t.bytes) (integer s1 a.bytes) (integer s2 b.bytes) k most in
-      let take : code_steps (code_of i rest) ≤ 10 * k + 1 = subst (λ x. code_steps (binary_code x s1 s2 (home a) (home b) (home t) a.bytes k) ≤ 10 * k + 1) (sym is) (combined_steps o (home a) (home b) (home t) k) in
-      let straight : all_straight (code_of i rest) ≡ true = subst (λ x. all_straight (binary_code x s1 s2 (home a) (home b) (home t) a.bytes k) ≡ true) (sym is) (combined_straight o (home a) (home b) (home t) k) in
+      let take : code_steps (code_of i rest) ≤ 10 * k + 1 =
+      subst (λ x. code_steps (binary_code x s1 s2 (home a) (home b) (home t) a.bytes k) ≤ 10 * k + 1) (sym is)
+      (combined_steps o (home a) (home b) (home t) k) in
+      let straight : all_straight (code_of i rest) ≡ true =
+      subst (λ x. all_straight (binary_code x s1 s2 (home a) (home b) (home t) a.bytes k) ≡ true) (sym is)
+      (combined_straight o (home a) (home b) (home t) k) in
       from_number p place e s1 a m.temps st _ (suc n) m.state.work pc v
       (λ low1 qa. from_number p place e s2 b m.temps st _ (suc n) m.state.work pc v
       (λ low2 qb.
@@ -302,18 +326,25 @@ module _ (p : PlainProgram) (functions : List PlainIrFunction) (e : Env) (slots 
       let below2 : low2 < 256 ^ t.bytes = subst (λ x. low2 < 256 ^ x) sb (h.temps_hold b _ ib qb refl).1 in
       let g = gives_of op o is p mode s s1 s2 t.bytes a.bytes b.bytes low1 low2 st st sa sb below1 below2 in
       let m1 = after_operator t (low_bytes t.bytes g.number) c m in
-      let matches : M need (after_operator t (result_of o t.bytes low1 low2) c m) (block e (combined_code o (home a) (home b) (home t) k) v) = binary_matches p e slots home base place y o t a b need m v c low1 low2 it ia ib sa sb qa qb h in
-      let matches1 : M need m1 (block e (combined_code o (home a) (home b) (home t) k) v) = subst (λ r. M need (after_operator t r c m) (block e (combined_code o (home a) (home b) (home t) k) v)) (sym g.low) matches in
-      let matches2 : M need m1 (block e (code_of i rest) v) = subst (λ x. M need m1 (block e (binary_code x s1 s2 (home a) (home b) (home t) a.bytes k) v)) (sym is) matches1 in
+      let matches : M need (after_operator t (result_of o t.bytes low1 low2) c m)
+      (block e
+      (combined_code o (home a) (home b)
+      (home t) k) v) = binary_matches p e slots home base place y o t a b need m v c low1 low2 it ia ib sa sb qa qb h in
+      let matches1 : M need m1 (block e (combined_code o (home a) (home b) (home t) k) v) =
+      subst (λ r. M need (after_operator t r c m) (block e (combined_code o (home a) (home b) (home t) k) v)) (sym g.low) matches in
+      let matches2 : M need m1 (block e (code_of i rest) v) =
+      subst (λ x. M need m1 (block e (binary_code x s1 s2 (home a) (home b) (home t) a.bytes k) v)) (sym is) matches1 in
       subst (λ r. G (suc n) m.state.work pc v (next (given r st) (λ u s3. R (suc n) rest (machine (with_temp t u m.temps) s3)))) (sym g.is)
-      (passes i rest (suc n) (suc n) m.state.work m1.state.work pc v (R (suc n) rest m1) stands straight (omega arith) (omega (arith, take, big))
+      (passes i rest (suc n) (suc n) m.state.work m1.state.work pc v (R (suc n) rest m1) stands straight (omega arith)
+      (omega (arith, take, big))
       (λ mid u. f mid m1 _ u matches2))))
 
   -- ---- comparisons
 
   conversion_straight : (signed : Bool) (a t : Location) (bytes n : ℕ) → all_straight (conversion_code signed a t bytes n) ≡ true
   conversion_straight signed a t bytes n =
-      straight-append (move_code a t (min n bytes)) (extend_code signed t bytes n) (move_straight a t (min n bytes)) ((values_are_straight t 0 bytes n).2 signed)
+      straight-append (move_code a t (min n bytes)) (extend_code signed t bytes n) (move_straight a t (min n bytes))
+      ((values_are_straight t 0 bytes n).2 signed)
 
   conversion_steps : (signed : Bool) (a t : Location) (bytes n : ℕ) → code_steps (conversion_code signed a t bytes n) ≤ 3 + 3 * n
   conversion_steps signed a t bytes n =
@@ -362,7 +393,8 @@ module _ (p : PlainProgram) (functions : List PlainIrFunction) (e : Env) (slots 
       → low < 256 ^ t.bytes → ((u : ℕ) → u ≢ t.at → need u ≤ need0 u) → M need0 m v → M need (after_operator t low c m) v
   not_needed t low c need need0 m v it none below more h =
       let empty : value v.at (base t) 0 ≡ low % 256 ^ 0 = omega arith in
-      written p e slots home base place y t (bits low) need need0 m (worked c m.state) v v it h more (λ i d f g o. refl) (subst (λ j. value v.at (base t) j ≡ low % 256 ^ j) (sym none) empty, below) h.bytes refl h.seen h.left h.safe
+      written p e slots home base place y t (bits low) need need0 m (worked c m.state) v v it h more (λ i d f g o. refl)
+      (subst (λ j. value v.at (base t) j ≡ low % 256 ^ j) (sym none) empty, below) h.bytes refl h.seen h.left h.safe
 
   -- nor is there code
   nothing_passes : (i : PlainIr) (t : Temp) (low c : ℕ) (rest : List PlainIr) (n pc : ℕ) (need0 : Need) (m : Mach) (v : View)
@@ -373,7 +405,8 @@ module _ (p : PlainProgram) (functions : List PlainIrFunction) (e : Env) (slots 
       let matches = not_needed t low c (needs at rest) need0 m v it none below more h in
       let m1 = after_operator t low c m in
       let steps : code_steps (code_of i rest) ≡ 0 = ap code_steps empty in
-      passes i rest (suc n) (suc n) m.state.work m1.state.work pc v (R (suc n) rest m1) stands (ap all_straight empty) (omega arith) (omega (arith, steps))
+      passes i rest (suc n) (suc n) m.state.work m1.state.work pc v (R (suc n) rest m1) stands (ap all_straight empty) (omega arith)
+      (omega (arith, steps))
       (λ mid u. f mid m1 _ u (subst (λ w. M (needs at rest) m1 (block e w v)) (sym empty) matches))
 
   -- of other places no less is needed before an operator
@@ -405,10 +438,13 @@ module _ (p : PlainProgram) (functions : List PlainIrFunction) (e : Env) (slots 
   told_machine t truth c m = after_operator t (low_bytes t.bytes (pos (from_bool truth))) c m
 
   -- the code of a relation of two temporaries, and what comes after it
-  related_passes : (r : Relation) (s : Bool) (t l u : Temp) (bytes x z c : ℕ) (rest : List PlainIr) (n pc : ℕ) (need0 : Need) (m : Mach) (v : View)
+  related_passes : (r : Relation) (s : Bool) (t l u : Temp) (bytes x z c : ℕ) (rest : List PlainIr) (n pc : ℕ) (need0 : Need) (m : Mach)
+      (v : View)
       → HasHome slots t → HasHome slots l → HasHome slots u → l.bytes ≡ suc bytes → u.bytes ≡ suc bytes → suc bytes ≤ 16
       → value v.at (base l) (suc bytes) ≡ x → value v.at (base u) (suc bytes) ≡ z → 102 ≤ c
-      → HasAt e ((relation_code r s (home l) (home u) (suc bytes) ++ conversion_code false (InRegisters 30) (home t) 1 (wanted (needs at rest) t)) ++ items rest) pc end
+      → HasAt e
+      ((relation_code r s (home l) (home u) (suc bytes) ++ conversion_code false (InRegisters 30) (home t) 1
+      (wanted (needs at rest) t)) ++ items rest) pc end
       → ((k : ℕ) → k ≢ t.at → needs at rest k ≤ need0 k) → M need0 m v → Rest (suc n) rest
       → G (suc n) m.state.work pc v (R (suc n) rest (told_machine t (stand_so r s (suc bytes) x z) c m))
   related_passes r s t l u bytes x z c rest n pc need0 m v it il iu ql qu most xl zu big stands more h f =
@@ -417,11 +453,15 @@ module _ (p : PlainProgram) (functions : List PlainIrFunction) (e : Env) (slots 
       let conversion = conversion_code false (InRegisters 30) (home t) 1 k in
       let s1 = has_parts e (relation ++ conversion) (items rest) pc end stands in
       let s2 = has_parts e relation conversion pc s1.0 s1.1 in
-      let left : StandsFrom e (home l) (suc bytes) (base l) Own = subst (λ j. StandsFrom e (home l) j (base l) Own) ql (y.layout.temps_at l il) in
-      let right : StandsFrom e (home u) (suc bytes) (base u) Own = subst (λ j. StandsFrom e (home u) j (base u) Own) qu (y.layout.temps_at u iu) in
+      let left : StandsFrom e (home l) (suc bytes) (base l) Own =
+      subst (λ j. StandsFrom e (home l) j (base l) Own) ql (y.layout.temps_at l il) in
+      let right : StandsFrom e (home u) (suc bytes) (base u) Own =
+      subst (λ j. StandsFrom e (home u) j (base u) Own) qu (y.layout.temps_at u iu) in
       let told0 = relations_are_told r s e (home l) (home u) bytes (base l) (base u) pc s2.0 v left right h.bytes s2.1 in
-      let truth : stand_so r s (suc bytes) (value v.at (base l) (suc bytes)) (value v.at (base u) (suc bytes)) ≡ stand_so r s (suc bytes) x z = rw (xl, zu) refl in
-      let told : Tells e (3 + 3 * suc bytes) pc v s2.0 (stand_so r s (suc bytes) x z) = subst (λ w. Tells e (3 + 3 * suc bytes) pc v s2.0 w) truth told0 in
+      let truth : stand_so r s (suc bytes) (value v.at (base l) (suc bytes)) (value v.at (base u) (suc bytes))
+      ≡ stand_so r s (suc bytes) x z = rw (xl, zu) refl in
+      let told : Tells e (3 + 3 * suc bytes) pc v s2.0 (stand_so r s (suc bytes) x z) =
+      subst (λ w. Tells e (3 + 3 * suc bytes) pc v s2.0 w) truth told0 in
       let m1 = told_machine t (stand_so r s (suc bytes) x z) c m in
       let second = block_goes e conversion s2.0 s1.0 told.last (conversion_straight false (InRegisters 30) (home t) 1 k) s2.2 in
       let steps = told.steps + code_steps conversion in
@@ -430,8 +470,11 @@ module _ (p : PlainProgram) (functions : List PlainIrFunction) (e : Env) (slots 
       let kmost = wanted_most (needs at rest) t in
       let room = it.most in
       let goes = goes_on_to e told.steps (code_steps conversion) pc s2.0 s1.0 v told.last (block e conversion told.last) told.goes second in
-      let matches = told_matches p e slots home base place y (stand_so r s (suc bytes) x z) (3 + 3 * suc bytes) pc s2.0 t (needs at rest) need0 m v c it told more h in
-      after p place e steps (suc n) (suc n) m.state.work m1.state.work pc s1.0 v (block e conversion told.last) (R (suc n) rest m1) goes (omega arith) (omega (arith, take, take1, kmost, room, most, big)) (f s1.0 m1 (block e conversion told.last) s1.2 matches)
+      let matches =
+      told_matches p e slots home base place y (stand_so r s (suc bytes) x z) (3 + 3 * suc bytes) pc s2.0 t
+      (needs at rest) need0 m v c it told more h in
+      after p place e steps (suc n) (suc n) m.state.work m1.state.work pc s1.0 v (block e conversion told.last) (R (suc n) rest m1) goes
+      (omega arith) (omega (arith, take, take1, kmost, room, most, big)) (f s1.0 m1 (block e conversion told.last) s1.2 matches)
 
   -- what a comparison of two numbers gives
   compared_numbers : (op : BinOp) (r : Relation) (exchanged : Bool) → family_of op ≡ Compared r exchanged
@@ -439,17 +482,36 @@ module _ (p : PlainProgram) (functions : List PlainIrFunction) (e : Env) (slots 
       (v : View) → HasHome slots a → HasHome slots b → b.bytes ≡ a.bytes → M need0 m v
       → ((low1 low2 : ℕ) → m.temps a.at ≡ Some (record { bytes = a.bytes; content = bits low1 })
       → m.temps b.at ≡ Some (record { bytes = b.bytes; content = bits low2 }) → low1 < 256 ^ a.bytes → low2 < 256 ^ a.bytes
-      → G (suc n) m.state.work pc v (R (suc n) rest (told_machine t (stand_so r s a.bytes (first_of_two exchanged low1 low2) (first_of_two exchanged low2 low1)) (op_steps (binary_op op ty mode t a (integer s a.bytes) b (integer s b.bytes))) m)))
+      → G (suc n) m.state.work pc v
+      (R (suc n) rest
+      (told_machine t (stand_so r s a.bytes (first_of_two exchanged low1 low2) (first_of_two exchanged low2 low1))
+      (op_steps (binary_op op ty mode t a (integer s a.bytes) b (integer s b.bytes))) m)))
       → G (suc n) m.state.work pc v (R (suc n) (binary_op op ty mode t a (integer s a.bytes) b (integer s b.bytes) ∷ rest) m)
   compared_numbers op r exchanged is s ty mode t a b rest n pc need0 m v ia ib same h f =
-      from_number p place e s a m.temps (worked (op_steps (binary_op op ty mode t a (integer s a.bytes) b (integer s b.bytes))) m.state) _ (suc n) m.state.work pc v
-      (λ low1 qa. from_number p place e s b m.temps (worked (op_steps (binary_op op ty mode t a (integer s a.bytes) b (integer s b.bytes))) m.state) _ (suc n) m.state.work pc v
+      from_number p place e s a m.temps (worked (op_steps (binary_op op ty mode t a (integer s a.bytes) b (integer s b.bytes))) m.state) _
+      (suc n) m.state.work pc v
+      (λ low1 qa. from_number p place e s b m.temps
+      (worked (op_steps (binary_op op ty mode t a (integer s a.bytes) b (integer s b.bytes))) m.state) _ (suc n) m.state.work pc v
       (λ low2 qb.
       let below1 : low1 < 256 ^ a.bytes = (h.temps_hold a _ ia qa refl).1 in
       let below2 : low2 < 256 ^ a.bytes = subst (λ x. low2 < 256 ^ x) same (h.temps_hold b _ ib qb refl).1 in
-      let g0 = decided op r exchanged is p ty mode s a.bytes low1 low2 (worked (op_steps (binary_op op ty mode t a (integer s a.bytes) b (integer s b.bytes))) m.state) (worked (op_steps (binary_op op ty mode t a (integer s a.bytes) b (integer s b.bytes))) m.state) ia.some below1 below2 in
-      let g = subst (λ j. binary_result op ty mode (operand_of p (integer s a.bytes) (Number (number_of_bytes s a.bytes low1)) (worked (op_steps (binary_op op ty mode t a (integer s a.bytes) b (integer s b.bytes))) m.state)) (operand_of p (integer s j) (Number (number_of_bytes s j low2)) (worked (op_steps (binary_op op ty mode t a (integer s a.bytes) b (integer s b.bytes))) m.state)) ≡ Ok (Number (pos (from_bool (stand_so r s a.bytes (first_of_two exchanged low1 low2) (first_of_two exchanged low2 low1)))))) (sym same) g0 in
-      subst (λ o. G (suc n) m.state.work pc v (next (given o (worked (op_steps (binary_op op ty mode t a (integer s a.bytes) b (integer s b.bytes))) m.state)) (λ u s3. R (suc n) rest (machine (with_temp t u m.temps) s3)))) (sym g)
+      let g0 =
+      decided op r exchanged is p ty mode s a.bytes low1 low2
+      (worked (op_steps (binary_op op ty mode t a (integer s a.bytes) b (integer s b.bytes))) m.state)
+      (worked (op_steps (binary_op op ty mode t a (integer s a.bytes) b (integer s b.bytes))) m.state) ia.some below1 below2 in
+      let g =
+      subst
+      (λ j. binary_result op ty mode
+      (operand_of p (integer s a.bytes) (Number (number_of_bytes s a.bytes low1))
+      (worked (op_steps (binary_op op ty mode t a (integer s a.bytes) b (integer s b.bytes))) m.state))
+      (operand_of p (integer s j) (Number (number_of_bytes s j low2))
+      (worked (op_steps (binary_op op ty mode t a (integer s a.bytes) b (integer s b.bytes))) m.state))
+      ≡ Ok (Number (pos (from_bool (stand_so r s a.bytes (first_of_two exchanged low1 low2) (first_of_two exchanged low2 low1))))))
+      (sym same) g0 in
+      subst
+      (λ o. G (suc n) m.state.work pc v
+      (next (given o (worked (op_steps (binary_op op ty mode t a (integer s a.bytes) b (integer s b.bytes))) m.state))
+      (λ u s3. R (suc n) rest (machine (with_temp t u m.temps) s3)))) (sym g)
       (f low1 low2 qa qb below1 below2)))
 
   -- where some of its result is needed, all bytes of both numbers are there
@@ -466,16 +528,21 @@ module _ (p : PlainProgram) (functions : List PlainIrFunction) (e : Env) (slots 
     where
       all_needed : M (operands_needed op t a b a.bytes b.bytes (needs at rest)) m v
       all_needed =
-          subst (λ x. M (operands_needed op t a b x b.bytes (needs at rest)) m v) (all_wanted op r exchanged is a.bytes (wanted (needs at rest) t) q)
-          (subst (λ x. M (operands_needed op t a b (operand_wanted op a.bytes (wanted (needs at rest) t)) x (needs at rest)) m v) (all_right_wanted op r exchanged is b.bytes (wanted (needs at rest) t) q) h)
+          subst (λ x. M (operands_needed op t a b x b.bytes (needs at rest)) m v)
+          (all_wanted op r exchanged is a.bytes (wanted (needs at rest) t) q)
+          (subst (λ x. M (operands_needed op t a b (operand_wanted op a.bytes (wanted (needs at rest) t)) x (needs at rest)) m v)
+          (all_right_wanted op r exchanged is b.bytes (wanted (needs at rest) t) q) h)
 
       left_is : value v.at (base a) a.bytes ≡ low1
       left_is =
-          left_holds op t a b a.bytes b.bytes low1 (needs at rest) m v ia (omega arith) qa all_needed ∙ kept_below low1 (256 ^ a.bytes) below1
+          left_holds op t a b a.bytes b.bytes low1 (needs at rest) m v ia (omega arith) qa all_needed
+          ∙ kept_below low1 (256 ^ a.bytes) below1
 
       right_is : value v.at (base b) a.bytes ≡ low2
       right_is =
-          subst (λ j. value v.at (base b) j ≡ low2 % 256 ^ j) same (right_holds op t a b a.bytes b.bytes low2 (needs at rest) m v ib (omega arith) qb all_needed) ∙ kept_below low2 (256 ^ a.bytes) below2
+          subst (λ j. value v.at (base b) j ≡ low2 % 256 ^ j) same
+          (right_holds op t a b a.bytes b.bytes low2 (needs at rest) m v ib (omega arith) qb all_needed)
+          ∙ kept_below low2 (256 ^ a.bytes) below2
 
   pub related_follows : (op : BinOp) (r : Relation) (exchanged : Bool) → family_of op ≡ Compared r exchanged
       → (s : Bool) (ty : PlainType) (mode : Mode) (t a b : Temp) (rest : List PlainIr) (n pc : ℕ) (m : Mach) (v : View)
@@ -485,22 +552,39 @@ module _ (p : PlainProgram) (functions : List PlainIrFunction) (e : Env) (slots 
       → Rest (suc n) rest
       → G (suc n) m.state.work pc v (R (suc n) (binary_op op ty mode t a (integer s a.bytes) b (integer s b.bytes) ∷ rest) m)
   related_follows op r exchanged is s ty mode t a b rest n pc m v it ia ib same stands h f =
-      compared_numbers op r exchanged is s ty mode t a b rest n pc (needs at (binary_op op ty mode t a (integer s a.bytes) b (integer s b.bytes) ∷ rest)) m v ia ib same h
-      (λ low1 low2 qa qb below1 below2. ⊎_elim (λ q. dead q low1 low2) (λ q. alive q low1 low2 qa qb below1 below2) (cases_Bool ((wanted (needs at rest) t) == 0)))
+      compared_numbers op r exchanged is s ty mode t a b rest n pc
+      (needs at (binary_op op ty mode t a (integer s a.bytes) b (integer s b.bytes) ∷ rest)) m v ia ib same h
+      (λ low1 low2 qa qb below1 below2. ⊎_elim (λ q. dead q low1 low2) (λ q. alive q low1 low2 qa qb below1 below2)
+      (cases_Bool ((wanted (needs at rest) t) == 0)))
     where
-      dead : ((wanted (needs at rest) t) == 0) ≡ true → (low1 low2 : ℕ) → G (suc n) m.state.work pc v (R (suc n) rest (told_machine t (stand_so r s a.bytes (first_of_two exchanged low1 low2) (first_of_two exchanged low2 low1)) (op_steps (binary_op op ty mode t a (integer s a.bytes) b (integer s b.bytes))) m))
+      dead : ((wanted (needs at rest) t) == 0) ≡ true → (low1 low2 : ℕ)
+          → G (suc n) m.state.work pc v
+          (R (suc n) rest
+          (told_machine t (stand_so r s a.bytes (first_of_two exchanged low1 low2) (first_of_two exchanged low2 low1))
+          (op_steps (binary_op op ty mode t a (integer s a.bytes) b (integer s b.bytes))) m))
       dead q low1 low2 =
           let truth = stand_so r s a.bytes (first_of_two exchanged low1 low2) (first_of_two exchanged low2 low1) in
-          let empty : code_of (binary_op op ty mode t a (integer s a.bytes) b (integer s b.bytes)) rest ≡ [] = ap (λ x. binary_code x s s (home a) (home b) (home t) a.bytes (wanted (needs at rest) t)) is ∙ none exchanged in
-          nothing_passes (binary_op op ty mode t a (integer s a.bytes) b (integer s b.bytes)) t (low_bytes t.bytes (pos (from_bool truth))) (op_steps (binary_op op ty mode t a (integer s a.bytes) b (integer s b.bytes))) rest n pc (needs at ((binary_op op ty mode t a (integer s a.bytes) b (integer s b.bytes)) ∷ rest)) m v it empty (eqb-true (wanted (needs at rest) t) 0 q) (low_below t.bytes (pos (from_bool truth))) stands (other_needed op t a b (operand_wanted op a.bytes (wanted (needs at rest) t)) (right_wanted op b.bytes (wanted (needs at rest) t)) (needs at rest)) h f
+          let empty : code_of (binary_op op ty mode t a (integer s a.bytes) b (integer s b.bytes)) rest ≡ [] =
+          ap (λ x. binary_code x s s (home a) (home b) (home t) a.bytes (wanted (needs at rest) t)) is ∙ none exchanged in
+          nothing_passes (binary_op op ty mode t a (integer s a.bytes) b (integer s b.bytes)) t (low_bytes t.bytes (pos (from_bool truth)))
+          (op_steps (binary_op op ty mode t a (integer s a.bytes) b (integer s b.bytes))) rest n pc
+          (needs at ((binary_op op ty mode t a (integer s a.bytes) b (integer s b.bytes)) ∷ rest)) m v it empty
+          (eqb-true (wanted (needs at rest) t) 0 q) (low_below t.bytes (pos (from_bool truth))) stands
+          (other_needed op t a b (operand_wanted op a.bytes (wanted (needs at rest) t))
+          (right_wanted op b.bytes (wanted (needs at rest) t)) (needs at rest)) h f
         where
           none : (x : Bool) → binary_code (Compared r x) s s (home a) (home b) (home t) a.bytes (wanted (needs at rest) t) ≡ []
           none false = rw q refl
           none true = rw q refl
 
-      alive : ((wanted (needs at rest) t) == 0) ≡ false → (low1 low2 : ℕ) → m.temps a.at ≡ Some (record { bytes = a.bytes; content = bits low1 })
+      alive : ((wanted (needs at rest) t) == 0) ≡ false → (low1 low2 : ℕ) → m.temps a.at
+          ≡ Some (record { bytes = a.bytes; content = bits low1 })
           → m.temps b.at ≡ Some (record { bytes = b.bytes; content = bits low2 }) → low1 < 256 ^ a.bytes
-          → low2 < 256 ^ a.bytes → G (suc n) m.state.work pc v (R (suc n) rest (told_machine t (stand_so r s a.bytes (first_of_two exchanged low1 low2) (first_of_two exchanged low2 low1)) (op_steps (binary_op op ty mode t a (integer s a.bytes) b (integer s b.bytes))) m))
+          → low2 < 256 ^ a.bytes
+          → G (suc n) m.state.work pc v
+          (R (suc n) rest
+          (told_machine t (stand_so r s a.bytes (first_of_two exchanged low1 low2) (first_of_two exchanged low2 low1))
+          (op_steps (binary_op op ty mode t a (integer s a.bytes) b (integer s b.bytes))) m))
       alive q low1 low2 qa qb below1 below2 =
           let some = ia.some in
           let hold = compared_hold op r exchanged is s ty mode t a b rest m v low1 low2 ia ib same q qa qb below1 below2 h in
@@ -508,23 +592,54 @@ module _ (p : PlainProgram) (functions : List PlainIrFunction) (e : Env) (slots 
         where
           by_side : M (operands_needed op t a b a.bytes b.bytes (needs at rest)) m v → value v.at (base a) a.bytes ≡ low1
               → value v.at (base b) a.bytes ≡ low2 → (x : Bool) (bytes : ℕ) → a.bytes ≡ suc bytes → family_of op ≡ Compared r x
-              → G (suc n) m.state.work pc v (R (suc n) rest (told_machine t (stand_so r s a.bytes (first_of_two x low1 low2) (first_of_two x low2 low1)) (op_steps (binary_op op ty mode t a (integer s a.bytes) b (integer s b.bytes))) m))
+              → G (suc n) m.state.work pc v
+              (R (suc n) rest
+              (told_machine t (stand_so r s a.bytes (first_of_two x low1 low2) (first_of_two x low2 low1))
+              (op_steps (binary_op op ty mode t a (integer s a.bytes) b (integer s b.bytes))) m))
           by_side all_needed left_is right_is false bytes size w =
-              let code : code_of (binary_op op ty mode t a (integer s a.bytes) b (integer s b.bytes)) rest ≡ relation_code r s (home a) (home b) (suc bytes) ++ conversion_code false (InRegisters 30) (home t) 1 (wanted (needs at rest) t) = ap (λ x. binary_code x s s (home a) (home b) (home t) a.bytes (wanted (needs at rest) t)) w ∙ rw q refl ∙ ap (λ j. relation_code r s (home a) (home b) j ++ conversion_code false (InRegisters 30) (home t) 1 (wanted (needs at rest) t)) size in
+              let code : code_of (binary_op op ty mode t a (integer s a.bytes) b (integer s b.bytes)) rest
+              ≡ relation_code r s (home a) (home b) (suc bytes) ++ conversion_code false (InRegisters 30) (home t) 1
+              (wanted (needs at rest) t) = ap (λ x. binary_code x s s (home a) (home b) (home t) a.bytes (wanted (needs at rest) t)) w
+              ∙ rw q refl
+              ∙ ap
+              (λ j. relation_code r s (home a) (home b) j ++ conversion_code false (InRegisters 30) (home t) 1
+              (wanted (needs at rest) t)) size in
               let stand = subst (λ x. HasAt e (x ++ items rest) pc end) code stands in
               let la = subst (λ j. value v.at (base a) j ≡ low1) size left_is in
               let lb = subst (λ j. value v.at (base b) j ≡ low2) size right_is in
               let most = ia.most in
-              subst (λ j. G (suc n) m.state.work pc v (R (suc n) rest (told_machine t (stand_so r s j low1 low2) (op_steps (binary_op op ty mode t a (integer s a.bytes) b (integer s b.bytes))) m))) (sym size)
-              (related_passes r s t a b bytes low1 low2 (op_steps (binary_op op ty mode t a (integer s a.bytes) b (integer s b.bytes))) rest n pc (operands_needed op t a b a.bytes b.bytes (needs at rest)) m v it ia ib size (same ∙ size) (omega arith) la lb (relation_big op ty (integer s a.bytes) (integer s b.bytes)) stand (other_needed op t a b a.bytes b.bytes (needs at rest)) all_needed f)
+              subst
+              (λ j. G (suc n) m.state.work pc v
+              (R (suc n) rest
+              (told_machine t (stand_so r s j low1 low2)
+              (op_steps (binary_op op ty mode t a (integer s a.bytes) b (integer s b.bytes))) m))) (sym size)
+              (related_passes r s t a b bytes low1 low2
+              (op_steps (binary_op op ty mode t a (integer s a.bytes) b (integer s b.bytes))) rest n pc
+              (operands_needed op t a b a.bytes b.bytes (needs at rest)) m v it ia ib size (same ∙ size) (omega arith) la lb
+              (relation_big op ty (integer s a.bytes) (integer s b.bytes)) stand
+              (other_needed op t a b a.bytes b.bytes (needs at rest)) all_needed f)
           by_side all_needed left_is right_is true bytes size w =
-              let code : code_of (binary_op op ty mode t a (integer s a.bytes) b (integer s b.bytes)) rest ≡ relation_code r s (home b) (home a) (suc bytes) ++ conversion_code false (InRegisters 30) (home t) 1 (wanted (needs at rest) t) = ap (λ x. binary_code x s s (home a) (home b) (home t) a.bytes (wanted (needs at rest) t)) w ∙ rw q refl ∙ ap (λ j. relation_code r s (home b) (home a) j ++ conversion_code false (InRegisters 30) (home t) 1 (wanted (needs at rest) t)) size in
+              let code : code_of (binary_op op ty mode t a (integer s a.bytes) b (integer s b.bytes)) rest
+              ≡ relation_code r s (home b) (home a) (suc bytes) ++ conversion_code false (InRegisters 30) (home t) 1
+              (wanted (needs at rest) t) = ap (λ x. binary_code x s s (home a) (home b) (home t) a.bytes (wanted (needs at rest) t)) w
+              ∙ rw q refl
+              ∙ ap
+              (λ j. relation_code r s (home b) (home a) j ++ conversion_code false (InRegisters 30) (home t) 1
+              (wanted (needs at rest) t)) size in
               let stand = subst (λ x. HasAt e (x ++ items rest) pc end) code stands in
               let la = subst (λ j. value v.at (base a) j ≡ low1) size left_is in
               let lb = subst (λ j. value v.at (base b) j ≡ low2) size right_is in
               let most = ia.most in
-              subst (λ j. G (suc n) m.state.work pc v (R (suc n) rest (told_machine t (stand_so r s j low2 low1) (op_steps (binary_op op ty mode t a (integer s a.bytes) b (integer s b.bytes))) m))) (sym size)
-              (related_passes r s t b a bytes low2 low1 (op_steps (binary_op op ty mode t a (integer s a.bytes) b (integer s b.bytes))) rest n pc (operands_needed op t a b a.bytes b.bytes (needs at rest)) m v it ib ia (same ∙ size) size (omega arith) lb la (relation_big op ty (integer s a.bytes) (integer s b.bytes)) stand (other_needed op t a b a.bytes b.bytes (needs at rest)) all_needed f)
+              subst
+              (λ j. G (suc n) m.state.work pc v
+              (R (suc n) rest
+              (told_machine t (stand_so r s j low2 low1)
+              (op_steps (binary_op op ty mode t a (integer s a.bytes) b (integer s b.bytes))) m))) (sym size)
+              (related_passes r s t b a bytes low2 low1
+              (op_steps (binary_op op ty mode t a (integer s a.bytes) b (integer s b.bytes))) rest n pc
+              (operands_needed op t a b a.bytes b.bytes (needs at rest)) m v it ib ia (same ∙ size) size (omega arith) lb la
+              (relation_big op ty (integer s a.bytes) (integer s b.bytes)) stand
+              (other_needed op t a b a.bytes b.bytes (needs at rest)) all_needed f)
 
   -- ---- products
 
@@ -539,11 +654,15 @@ module _ (p : PlainProgram) (functions : List PlainIrFunction) (e : Env) (slots 
       → ((u : ℕ) → u ≢ t.at → need u ≤ need0 u) → M need0 m v → M need (after_operator t low c m) g.last
   led_matches t low most pc to k need need0 m v c it g q below more h =
       let room = wanted_most need t in
-      let frame : Wide v g.last (base t) t.bytes = λ i a b u d o. g.same i a b (λ l. let z = d (omega arith) in omega arith) (narrower (base t) t.bytes k i (omega arith) o) in
-      written_wide p e slots home base place y t (bits low) need need0 m (worked c m.state) v g.last it h more frame (subst (λ j. value g.last.at (base t) j ≡ low % 256 ^ j) q g.number_is, below) g.numbers refl (g.seen ∙ h.seen) (kept_left y.inputs m.state v g.last (g.inputs) h.left) (g.safe ∙ h.safe)
+      let frame : Wide v g.last (base t) t.bytes =
+      λ i a b u d o. g.same i a b (λ l. let z = d (omega arith) in omega arith) (narrower (base t) t.bytes k i (omega arith) o) in
+      written_wide p e slots home base place y t (bits low) need need0 m (worked c m.state) v g.last it h more frame
+      (subst (λ j. value g.last.at (base t) j ≡ low % 256 ^ j) q g.number_is, below) g.numbers refl (g.seen ∙ h.seen)
+      (kept_left y.inputs m.state v g.last (g.inputs) h.left) (g.safe ∙ h.safe)
 
   product_value : (op : BinOp) → family_of op ≡ Multiplied → (mode : Mode) (s s1 s2 : Bool) (x z : ℕ) (st st1 : State)
-      → binary_result op (integer s 2) mode (operand_of p (integer s1 1) (Number (number_of_bytes s1 1 x)) st) (operand_of p (integer s2 1) (Number (number_of_bytes s2 1 z)) st1)
+      → binary_result op (integer s 2) mode (operand_of p (integer s1 1) (Number (number_of_bytes s1 1 x)) st)
+      (operand_of p (integer s2 1) (Number (number_of_bytes s2 1 z)) st1)
       ≡ Ok (Number (wrapped (record { signed = s; bytes = 2 }) (number_of_bytes s1 1 x *ℤ number_of_bytes s2 1 z)))
   product_value Mul h mode s s1 s2 x z st st1 = refl
   product_value op h mode s s1 s2 x z st st1 = absurd cc
@@ -555,51 +674,118 @@ module _ (p : PlainProgram) (functions : List PlainIrFunction) (e : Env) (slots 
       → M (needs at (binary_op op (integer s 2) mode t a (integer s1 1) b (integer s2 1) ∷ rest)) m v → Rest (suc n) rest
       → G (suc n) m.state.work pc v (R (suc n) (binary_op op (integer s 2) mode t a (integer s1 1) b (integer s2 1) ∷ rest) m)
   multiplied_follows op is s s1 s2 mode t a b rest n pc m v it ia ib two one_a one_b stands h f =
-      subst (λ j. G (suc n) m.state.work pc v (next (held_as (integer s1 j) a m.temps (worked (op_steps (binary_op op (integer s 2) mode t a (integer s1 1) b (integer s2 1))) m.state)) (λ x st1. next (held_as (integer s2 1) b m.temps st1) (λ z st2. next (given (binary_result op (integer s 2) mode (operand_of p (integer s1 1) x st2) (operand_of p (integer s2 1) z st2)) st2) (λ u st3. R (suc n) rest (machine (with_temp t u m.temps) st3)))))) one_a
-      (from_number p place e s1 a m.temps (worked (op_steps (binary_op op (integer s 2) mode t a (integer s1 1) b (integer s2 1))) m.state) _ (suc n) m.state.work pc v
+      subst (λ j. G (suc n) m.state.work pc v (next (held_as p (integer s1 j) a m.temps (worked
+      (op_steps (binary_op op (integer s 2) mode t a (integer s1 1) b (integer s2 1))) m.state))
+      (λ x st1. next (held_as p (integer s2 1) b m.temps st1) (λ z st2. next (given (binary_result op (integer s 2) mode
+      (operand_of p (integer s1 1) x st2) (operand_of p (integer s2 1) z st2)) st2)
+      (λ u st3. R (suc n) rest (machine (with_temp t u m.temps) st3)))))) one_a
+      (from_number p place e s1 a m.temps
+      (worked (op_steps (binary_op op (integer s 2) mode t a (integer s1 1) b (integer s2 1))) m.state) _ (suc n) m.state.work pc v
       (λ low1 qa.
-      subst (λ j. G (suc n) m.state.work pc v (next (held_as (integer s2 j) b m.temps (worked (op_steps (binary_op op (integer s 2) mode t a (integer s1 1) b (integer s2 1))) m.state)) (λ z st2. next (given (binary_result op (integer s 2) mode (operand_of p (integer s1 1) (Number (number_of_bytes s1 a.bytes low1)) st2) (operand_of p (integer s2 1) z st2)) st2) (λ u st3. R (suc n) rest (machine (with_temp t u m.temps) st3))))) one_b
-      (from_number p place e s2 b m.temps (worked (op_steps (binary_op op (integer s 2) mode t a (integer s1 1) b (integer s2 1))) m.state) _ (suc n) m.state.work pc v
+      subst (λ j. G (suc n) m.state.work pc v (next (held_as p (integer s2 j) b m.temps (worked
+      (op_steps (binary_op op (integer s 2) mode t a (integer s1 1) b (integer s2 1))) m.state))
+      (λ z st2. next (given (binary_result op (integer s 2) mode (operand_of p (integer s1 1)
+      (Number (number_of_bytes s1 a.bytes low1)) st2) (operand_of p (integer s2 1) z st2)) st2)
+      (λ u st3. R (suc n) rest (machine (with_temp t u m.temps) st3))))) one_b
+      (from_number p place e s2 b m.temps
+      (worked (op_steps (binary_op op (integer s 2) mode t a (integer s1 1) b (integer s2 1))) m.state) _ (suc n) m.state.work pc v
       (λ low2 qb.
       let below1 : low1 < 256 = subst (λ x. low1 < 256 ^ x) one_a (h.temps_hold a _ ia qa refl).1 in
       let below2 : low2 < 256 = subst (λ x. low2 < 256 ^ x) one_b (h.temps_hold b _ ib qb refl).1 in
       let z = wrapped (record { signed = s; bytes = 2 }) (number_of_bytes s1 1 low1 *ℤ number_of_bytes s2 1 low2) in
-      let g : binary_result op (integer s 2) mode (operand_of p (integer s1 1) (Number (number_of_bytes s1 a.bytes low1)) (worked (op_steps (binary_op op (integer s 2) mode t a (integer s1 1) b (integer s2 1))) m.state)) (operand_of p (integer s2 1) (Number (number_of_bytes s2 b.bytes low2)) (worked (op_steps (binary_op op (integer s 2) mode t a (integer s1 1) b (integer s2 1))) m.state)) ≡ Ok (Number z) = rw (one_a, one_b) (product_value op is mode s s1 s2 low1 low2 (worked (op_steps (binary_op op (integer s 2) mode t a (integer s1 1) b (integer s2 1))) m.state) (worked (op_steps (binary_op op (integer s 2) mode t a (integer s1 1) b (integer s2 1))) m.state)) in
+      let g : binary_result op (integer s 2) mode
+      (operand_of p (integer s1 1) (Number (number_of_bytes s1 a.bytes low1))
+      (worked (op_steps (binary_op op (integer s 2) mode t a (integer s1 1) b (integer s2 1))) m.state))
+      (operand_of p (integer s2 1) (Number (number_of_bytes s2 b.bytes low2))
+      (worked (op_steps (binary_op op (integer s 2) mode t a (integer s1 1) b (integer s2 1))) m.state))
+      ≡ Ok (Number z) = rw (one_a, one_b)
+      (product_value op is mode s s1 s2 low1 low2
+      (worked (op_steps (binary_op op (integer s 2) mode t a (integer s1 1) b (integer s2 1))) m.state)
+      (worked (op_steps (binary_op op (integer s 2) mode t a (integer s1 1) b (integer s2 1))) m.state)) in
       let number : low_bytes t.bytes z ≡ product_of s1 s2 low1 low2 = rw two (product_low s1 s2 s low1 low2 below1 below2) in
-      subst (λ o. G (suc n) m.state.work pc v (next (given o (worked (op_steps (binary_op op (integer s 2) mode t a (integer s1 1) b (integer s2 1))) m.state)) (λ u st3. R (suc n) rest (machine (with_temp t u m.temps) st3)))) (sym g)
-      (subst (λ w. G (suc n) m.state.work pc v (R (suc n) rest (after_operator t w (op_steps (binary_op op (integer s 2) mode t a (integer s1 1) b (integer s2 1))) m))) (sym number)
+      subst
+      (λ o. G (suc n) m.state.work pc v
+      (next (given o (worked (op_steps (binary_op op (integer s 2) mode t a (integer s1 1) b (integer s2 1))) m.state))
+      (λ u st3. R (suc n) rest (machine (with_temp t u m.temps) st3)))) (sym g)
+      (subst
+      (λ w. G (suc n) m.state.work pc v
+      (R (suc n) rest (after_operator t w (op_steps (binary_op op (integer s 2) mode t a (integer s1 1) b (integer s2 1))) m))) (sym number)
       (⊎_elim (λ q. dead q low1 low2) (λ q. alive q low1 low2 qa qb below1 below2) (cases_Bool ((wanted (needs at rest) t) == 0))))))))
     where
       below : (low1 low2 : ℕ) → product_of s1 s2 low1 low2 < 256 ^ t.bytes
       below low1 low2 = rw two (mod_below _ 65536 (omega arith))
 
-      dead : ((wanted (needs at rest) t) == 0) ≡ true → (low1 low2 : ℕ) → G (suc n) m.state.work pc v (R (suc n) rest (after_operator t (product_of s1 s2 low1 low2) (op_steps (binary_op op (integer s 2) mode t a (integer s1 1) b (integer s2 1))) m))
+      dead : ((wanted (needs at rest) t) == 0) ≡ true → (low1 low2 : ℕ)
+          → G (suc n) m.state.work pc v
+          (R (suc n) rest
+          (after_operator t (product_of s1 s2 low1 low2)
+          (op_steps (binary_op op (integer s 2) mode t a (integer s1 1) b (integer s2 1))) m))
       dead q low1 low2 =
-          let empty : code_of (binary_op op (integer s 2) mode t a (integer s1 1) b (integer s2 1)) rest ≡ [] = ap (λ x. binary_code x s1 s2 (home a) (home b) (home t) a.bytes (wanted (needs at rest) t)) is ∙ rw q refl in
-          nothing_passes (binary_op op (integer s 2) mode t a (integer s1 1) b (integer s2 1)) t (product_of s1 s2 low1 low2) (op_steps (binary_op op (integer s 2) mode t a (integer s1 1) b (integer s2 1))) rest n pc (needs at ((binary_op op (integer s 2) mode t a (integer s1 1) b (integer s2 1)) ∷ rest)) m v it empty (eqb-true (wanted (needs at rest) t) 0 q) (below low1 low2) stands (other_needed op t a b (operand_wanted op a.bytes (wanted (needs at rest) t)) (right_wanted op b.bytes (wanted (needs at rest) t)) (needs at rest)) h f
+          let empty : code_of (binary_op op (integer s 2) mode t a (integer s1 1) b (integer s2 1)) rest ≡ [] =
+          ap (λ x. binary_code x s1 s2 (home a) (home b) (home t) a.bytes (wanted (needs at rest) t)) is ∙ rw q refl in
+          nothing_passes (binary_op op (integer s 2) mode t a (integer s1 1) b (integer s2 1)) t (product_of s1 s2 low1 low2)
+          (op_steps (binary_op op (integer s 2) mode t a (integer s1 1) b (integer s2 1))) rest n pc
+          (needs at ((binary_op op (integer s 2) mode t a (integer s1 1) b (integer s2 1)) ∷ rest)) m v it empty
+          (eqb-true (wanted (needs at rest) t) 0 q) (below low1 low2) stands
+          (other_needed op t a b (operand_wanted op a.bytes (wanted (needs at rest) t))
+          (right_wanted op b.bytes (wanted (needs at rest) t)) (needs at rest)) h f
 
-      alive : ((wanted (needs at rest) t) == 0) ≡ false → (low1 low2 : ℕ) → m.temps a.at ≡ Some (record { bytes = a.bytes; content = bits low1 })
+      alive : ((wanted (needs at rest) t) == 0) ≡ false → (low1 low2 : ℕ) → m.temps a.at
+          ≡ Some (record { bytes = a.bytes; content = bits low1 })
           → m.temps b.at ≡ Some (record { bytes = b.bytes; content = bits low2 }) → low1 < 256 → low2 < 256
-          → G (suc n) m.state.work pc v (R (suc n) rest (after_operator t (product_of s1 s2 low1 low2) (op_steps (binary_op op (integer s 2) mode t a (integer s1 1) b (integer s2 1))) m))
+          → G (suc n) m.state.work pc v
+          (R (suc n) rest
+          (after_operator t (product_of s1 s2 low1 low2)
+          (op_steps (binary_op op (integer s 2) mode t a (integer s1 1) b (integer s2 1))) m))
       alive q low1 low2 qa qb below1 below2 =
           let need1 = operands_needed op t a b a.bytes b.bytes (needs at rest) in
-          let h1 : M need1 m v = subst (λ x. M (operands_needed op t a b x b.bytes (needs at rest)) m v) (factor_wanted op is a.bytes (wanted (needs at rest) t) q).0 (subst (λ x. M (operands_needed op t a b (operand_wanted op a.bytes (wanted (needs at rest) t)) x (needs at rest)) m v) (factor_wanted op is b.bytes (wanted (needs at rest) t) q).1 h) in
-          let code : code_of (binary_op op (integer s 2) mode t a (integer s1 1) b (integer s2 1)) rest ≡ product_code s1 s2 (home a) (home b) (home t) (wanted (needs at rest) t) = ap (λ x. binary_code x s1 s2 (home a) (home b) (home t) a.bytes (wanted (needs at rest) t)) is ∙ rw q refl in
-          let stand : HasAt e (product_code s1 s2 (home a) (home b) (home t) (wanted (needs at rest) t) ++ items rest) pc end = subst (λ x. HasAt e (x ++ items rest) pc end) code stands in
+          let h1 : M need1 m v =
+          subst (λ x. M (operands_needed op t a b x b.bytes (needs at rest)) m v)
+          (factor_wanted op is a.bytes (wanted (needs at rest) t) q).0
+          (subst (λ x. M (operands_needed op t a b (operand_wanted op a.bytes (wanted (needs at rest) t)) x (needs at rest)) m v)
+          (factor_wanted op is b.bytes (wanted (needs at rest) t) q).1 h) in
+          let code : code_of (binary_op op (integer s 2) mode t a (integer s1 1) b (integer s2 1)) rest
+          ≡ product_code s1 s2 (home a) (home b) (home t) (wanted (needs at rest) t) = ap
+          (λ x. binary_code x s1 s2 (home a) (home b) (home t) a.bytes (wanted (needs at rest) t)) is ∙ rw q refl in
+          let stand : HasAt e (product_code s1 s2 (home a) (home b) (home t) (wanted (needs at rest) t) ++ items rest) pc end =
+          subst (λ x. HasAt e (x ++ items rest) pc end) code stands in
           let parts = has_parts e (product_code s1 s2 (home a) (home b) (home t) (wanted (needs at rest) t)) (items rest) pc end stand in
-          let sa : StandsFrom e (home a) 1 (base a) Own = subst (λ j. StandsFrom e (home a) j (base a) Own) one_a (y.layout.temps_at a ia) in
-          let sb : StandsFrom e (home b) 1 (base b) Own = subst (λ j. StandsFrom e (home b) j (base b) Own) one_b (y.layout.temps_at b ib) in
+          let sa : StandsFrom e (home a) 1 (base a) Own =
+          subst (λ j. StandsFrom e (home a) j (base a) Own) one_a (y.layout.temps_at a ia) in
+          let sb : StandsFrom e (home b) 1 (base b) Own =
+          subst (λ j. StandsFrom e (home b) j (base b) Own) one_b (y.layout.temps_at b ib) in
           let most = wanted_most (needs at rest) t in
-          let st1 : StandsFrom e (home t) (wanted (needs at rest) t) (base t) Own = stands_less e (home t) t.bytes (wanted (needs at rest) t) (base t) Own most (y.layout.temps_at t it) in
-          let x1 : v.at (base a) ≡ low1 = byte_at (base a) a.bytes low1 one_a below1 (left_holds op t a b a.bytes b.bytes low1 (needs at rest) m v ia (omega arith) qa h1) in
-          let x2 : v.at (base b) ≡ low2 = byte_at (base b) b.bytes low2 one_b below2 (right_holds op t a b a.bytes b.bytes low2 (needs at rest) m v ib (omega arith) qb h1) in
-          let g0 = products_are_right s1 s2 e (home a) (home b) (home t) (wanted (needs at rest) t) (base a) (base b) (base t) pc parts.0 v sa sb st1 (omega (arith, most, two)) (clear_of (base a) a.bytes (omega (arith, one_a)) (y.layout.temps_work a ia)) (clear_of (base b) b.bytes (omega (arith, one_b)) (y.layout.temps_work b ib)) h1.bytes parts.1 in
-          let g : Leads e (9 + (wanted (needs at rest) t)) pc v parts.0 (base t) (wanted (needs at rest) t) (product_of s1 s2 low1 low2 % 256 ^ (wanted (needs at rest) t)) = subst (λ j. Leads e (9 + (wanted (needs at rest) t)) pc v parts.0 (base t) (wanted (needs at rest) t) (product_of s1 s2 j low2 % 256 ^ (wanted (needs at rest) t))) x1 (subst (λ j. Leads e (9 + (wanted (needs at rest) t)) pc v parts.0 (base t) (wanted (needs at rest) t) (product_of s1 s2 (v.at (base a)) j % 256 ^ (wanted (needs at rest) t))) x2 g0) in
-          let m1 = after_operator t (product_of s1 s2 low1 low2) (op_steps (binary_op op (integer s 2) mode t a (integer s1 1) b (integer s2 1))) m in
-          let matches = led_matches t (product_of s1 s2 low1 low2) (9 + (wanted (needs at rest) t)) pc parts.0 (wanted (needs at rest) t) (needs at rest) need1 m v (op_steps (binary_op op (integer s 2) mode t a (integer s1 1) b (integer s2 1))) it g refl (below low1 low2) (other_needed op t a b a.bytes b.bytes (needs at rest)) h1 in
+          let st1 : StandsFrom e (home t) (wanted (needs at rest) t) (base t) Own =
+          stands_less e (home t) t.bytes (wanted (needs at rest) t) (base t) Own most (y.layout.temps_at t it) in
+          let x1 : v.at (base a) ≡ low1 =
+          byte_at (base a) a.bytes low1 one_a below1
+          (left_holds op t a b a.bytes b.bytes low1 (needs at rest) m v ia (omega arith) qa h1) in
+          let x2 : v.at (base b) ≡ low2 =
+          byte_at (base b) b.bytes low2 one_b below2
+          (right_holds op t a b a.bytes b.bytes low2 (needs at rest) m v ib (omega arith) qb h1) in
+          let g0 =
+          products_are_right s1 s2 e (home a) (home b) (home t) (wanted (needs at rest) t) (base a) (base b)
+          (base t) pc parts.0 v sa sb st1 (omega (arith, most, two))
+          (clear_of (base a) a.bytes (omega (arith, one_a)) (y.layout.temps_work a ia))
+          (clear_of (base b) b.bytes (omega (arith, one_b)) (y.layout.temps_work b ib)) h1.bytes parts.1 in
+          let g : Leads e (9 + (wanted (needs at rest) t)) pc v parts.0 (base t) (wanted (needs at rest) t)
+          (product_of s1 s2 low1 low2 % 256 ^ (wanted (needs at rest) t)) = subst
+          (λ j. Leads e (9 + (wanted (needs at rest) t)) pc v parts.0 (base t) (wanted (needs at rest) t)
+          (product_of s1 s2 j low2 % 256 ^ (wanted (needs at rest) t))) x1
+          (subst
+          (λ j. Leads e (9 + (wanted (needs at rest) t)) pc v parts.0 (base t) (wanted (needs at rest) t)
+          (product_of s1 s2 (v.at (base a)) j % 256 ^ (wanted (needs at rest) t))) x2 g0) in
+          let m1 =
+          after_operator t (product_of s1 s2 low1 low2)
+          (op_steps (binary_op op (integer s 2) mode t a (integer s1 1) b (integer s2 1))) m in
+          let matches =
+          led_matches t (product_of s1 s2 low1 low2) (9 + (wanted (needs at rest) t)) pc parts.0 (wanted (needs at rest) t)
+          (needs at rest) need1 m v (op_steps (binary_op op (integer s 2) mode t a (integer s1 1) b (integer s2 1))) it g refl
+          (below low1 low2) (other_needed op t a b a.bytes b.bytes (needs at rest)) h1 in
           let take = g.at_most in
           let big = relation_big op (integer s 2) (integer s1 1) (integer s2 1) in
-          after p place e g.steps (suc n) (suc n) m.state.work m1.state.work pc parts.0 v g.last (R (suc n) rest m1) g.goes (omega arith) (omega (arith, take, big, most, two)) (f parts.0 m1 g.last parts.2 matches)
+          after p place e g.steps (suc n) (suc n) m.state.work m1.state.work pc parts.0 v g.last (R (suc n) rest m1) g.goes (omega arith)
+          (omega (arith, take, big, most, two)) (f parts.0 m1 g.last parts.2 matches)
         where
           byte_at : (c bytes x : ℕ) → bytes ≡ 1 → x < 256 → value v.at c bytes ≡ x % 256 ^ bytes → v.at c ≡ x
           byte_at c bytes x one l w =
@@ -610,7 +796,8 @@ module _ (p : PlainProgram) (functions : List PlainIrFunction) (e : Env) (slots 
 
           clear_of : (c bytes : ℕ) → 1 ≤ bytes → IsClear c bytes → Outside 30 2 c
           clear_of c bytes some w l =
-              ⊎_elim (λ (z : c < 26). let d = w.high.left z in absurd (omega arith)) (λ (z : 26 ≤ c). let d = w.high.right z in omega arith) (cases_lt c 26)
+              ⊎_elim (λ (z : c < 26). let d = w.high.left z in absurd (omega arith))
+              (λ (z : 26 ≤ c). let d = w.high.right z in omega arith) (cases_lt c 26)
 
   -- ---- shifts
 
@@ -622,8 +809,12 @@ module _ (p : PlainProgram) (functions : List PlainIrFunction) (e : Env) (slots 
 
   shift_value : (op : BinOp) (up : Bool) → family_of op ≡ Shifted up → (mode : Mode) (s s2 : Bool) (b bb x z : ℕ)
       (st st1 : State)
-      → binary_result op (integer s b) mode (operand_of p (integer s b) (Number (number_of_bytes s b x)) st) (operand_of p (integer s2 bb) (Number (number_of_bytes s2 bb z)) st1)
-      ≡ as_number (if is_count (8 * b) (number_of_bytes s2 bb z) then Ok (wrapped (record { signed = s; bytes = b }) (shift_number up (number_of_bytes s b x) (unsigned_abs (number_of_bytes s2 bb z)))) else Err ShiftCount)
+      → binary_result op (integer s b) mode (operand_of p (integer s b) (Number (number_of_bytes s b x)) st)
+      (operand_of p (integer s2 bb) (Number (number_of_bytes s2 bb z)) st1)
+      ≡ as_number
+      (if is_count (8 * b) (number_of_bytes s2 bb z) then Ok
+      (wrapped (record { signed = s; bytes = b })
+      (shift_number up (number_of_bytes s b x) (unsigned_abs (number_of_bytes s2 bb z)))) else Err ShiftCount)
   shift_value Shl true h mode s s2 b bb x z st st1 = refl
   shift_value Shr false h mode s s2 b bb x z st st1 = refl
   shift_value op up h mode s s2 b bb x z st st1 = absurd cc
@@ -652,22 +843,50 @@ module _ (p : PlainProgram) (functions : List PlainIrFunction) (e : Env) (slots 
       → HasAt e (code_of (binary_op op (integer s a.bytes) mode t a (integer s a.bytes) b (integer s2 b.bytes)) rest ++ items rest) pc end
       → M (needs at (binary_op op (integer s a.bytes) mode t a (integer s a.bytes) b (integer s2 b.bytes) ∷ rest)) m v
       → Rest (suc n) rest
-      → G (suc n) m.state.work pc v (R (suc n) (binary_op op (integer s a.bytes) mode t a (integer s a.bytes) b (integer s2 b.bytes) ∷ rest) m)
+      → G (suc n) m.state.work pc v
+      (R (suc n) (binary_op op (integer s a.bytes) mode t a (integer s a.bytes) b (integer s2 b.bytes) ∷ rest) m)
   shifted_follows op up is s s2 mode t a b rest n pc m v it ia ib same other stands h f =
-      from_number p place e s a m.temps (worked (op_steps (binary_op op (integer s a.bytes) mode t a (integer s a.bytes) b (integer s2 b.bytes))) m.state) _ (suc n) m.state.work pc v
-      (λ low1 qa. from_number p place e s2 b m.temps (worked (op_steps (binary_op op (integer s a.bytes) mode t a (integer s a.bytes) b (integer s2 b.bytes))) m.state) _ (suc n) m.state.work pc v
+      from_number p place e s a m.temps
+      (worked (op_steps (binary_op op (integer s a.bytes) mode t a (integer s a.bytes) b (integer s2 b.bytes))) m.state) _
+      (suc n) m.state.work pc v
+      (λ low1 qa. from_number p place e s2 b m.temps
+      (worked (op_steps (binary_op op (integer s a.bytes) mode t a (integer s a.bytes) b (integer s2 b.bytes))) m.state) _
+      (suc n) m.state.work pc v
       (λ low2 qb.
-      subst (λ o. G (suc n) m.state.work pc v (next (given o (worked (op_steps (binary_op op (integer s a.bytes) mode t a (integer s a.bytes) b (integer s2 b.bytes))) m.state)) (λ u st3. R (suc n) rest (machine (with_temp t u m.temps) st3)))) (sym (shift_value op up is mode s s2 a.bytes b.bytes low1 low2 (worked (op_steps (binary_op op (integer s a.bytes) mode t a (integer s a.bytes) b (integer s2 b.bytes))) m.state) (worked (op_steps (binary_op op (integer s a.bytes) mode t a (integer s a.bytes) b (integer s2 b.bytes))) m.state)))
-      (by_count low1 low2 qa qb (h.temps_hold a _ ia qa refl).1 (h.temps_hold b _ ib qb refl).1 (is_count (8 * a.bytes) (number_of_bytes s2 b.bytes low2)) refl)))
+      subst
+      (λ o. G (suc n) m.state.work pc v
+      (next (given o (worked (op_steps (binary_op op (integer s a.bytes) mode t a (integer s a.bytes) b (integer s2 b.bytes))) m.state))
+      (λ u st3. R (suc n) rest (machine (with_temp t u m.temps) st3))))
+      (sym
+      (shift_value op up is mode s s2 a.bytes b.bytes low1 low2
+      (worked (op_steps (binary_op op (integer s a.bytes) mode t a (integer s a.bytes) b (integer s2 b.bytes))) m.state)
+      (worked (op_steps (binary_op op (integer s a.bytes) mode t a (integer s a.bytes) b (integer s2 b.bytes))) m.state)))
+      (by_count low1 low2 qa qb (h.temps_hold a _ ia qa refl).1 (h.temps_hold b _ ib qb refl).1
+      (is_count (8 * a.bytes) (number_of_bytes s2 b.bytes low2)) refl)))
     where
-      dead : ((wanted (needs at rest) t) == 0) ≡ true → (low1 c : ℕ) → low1 < 256 ^ t.bytes → G (suc n) m.state.work pc v (R (suc n) rest (after_operator t (shifted_by (shift_of up s) t.bytes low1 c) (op_steps (binary_op op (integer s a.bytes) mode t a (integer s a.bytes) b (integer s2 b.bytes))) m))
+      dead : ((wanted (needs at rest) t) == 0) ≡ true → (low1 c : ℕ) → low1 < 256 ^ t.bytes
+          → G (suc n) m.state.work pc v
+          (R (suc n) rest
+          (after_operator t (shifted_by (shift_of up s) t.bytes low1 c)
+          (op_steps (binary_op op (integer s a.bytes) mode t a (integer s a.bytes) b (integer s2 b.bytes))) m))
       dead q low1 c below =
-          let empty : code_of (binary_op op (integer s a.bytes) mode t a (integer s a.bytes) b (integer s2 b.bytes)) rest ≡ [] = ap (λ x. binary_code x s s2 (home a) (home b) (home t) a.bytes (wanted (needs at rest) t)) is ∙ rw q refl in
-          nothing_passes (binary_op op (integer s a.bytes) mode t a (integer s a.bytes) b (integer s2 b.bytes)) t (shifted_by (shift_of up s) t.bytes low1 c) (op_steps (binary_op op (integer s a.bytes) mode t a (integer s a.bytes) b (integer s2 b.bytes))) rest n pc (needs at ((binary_op op (integer s a.bytes) mode t a (integer s a.bytes) b (integer s2 b.bytes)) ∷ rest)) m v it empty (eqb-true (wanted (needs at rest) t) 0 q) (shifted_below (shift_of up s) t.bytes low1 c below) stands (other_needed op t a b (operand_wanted op a.bytes (wanted (needs at rest) t)) (right_wanted op b.bytes (wanted (needs at rest) t)) (needs at rest)) h f
+          let empty : code_of (binary_op op (integer s a.bytes) mode t a (integer s a.bytes) b (integer s2 b.bytes)) rest ≡ [] =
+          ap (λ x. binary_code x s s2 (home a) (home b) (home t) a.bytes (wanted (needs at rest) t)) is ∙ rw q refl in
+          nothing_passes (binary_op op (integer s a.bytes) mode t a (integer s a.bytes) b (integer s2 b.bytes)) t
+          (shifted_by (shift_of up s) t.bytes low1 c)
+          (op_steps (binary_op op (integer s a.bytes) mode t a (integer s a.bytes) b (integer s2 b.bytes))) rest n pc
+          (needs at ((binary_op op (integer s a.bytes) mode t a (integer s a.bytes) b (integer s2 b.bytes)) ∷ rest)) m v it empty
+          (eqb-true (wanted (needs at rest) t) 0 q) (shifted_below (shift_of up s) t.bytes low1 c below) stands
+          (other_needed op t a b (operand_wanted op a.bytes (wanted (needs at rest) t))
+          (right_wanted op b.bytes (wanted (needs at rest) t)) (needs at rest)) h f
 
-      alive : ((wanted (needs at rest) t) == 0) ≡ false → (low1 c : ℕ) → m.temps a.at ≡ Some (record { bytes = a.bytes; content = bits low1 })
+      alive : ((wanted (needs at rest) t) == 0) ≡ false → (low1 c : ℕ) → m.temps a.at
+          ≡ Some (record { bytes = a.bytes; content = bits low1 })
           → m.temps b.at ≡ Some (record { bytes = b.bytes; content = bits c }) → low1 < 256 ^ t.bytes → c < 128
-          → G (suc n) m.state.work pc v (R (suc n) rest (after_operator t (shifted_by (shift_of up s) t.bytes low1 c) (op_steps (binary_op op (integer s a.bytes) mode t a (integer s a.bytes) b (integer s2 b.bytes))) m))
+          → G (suc n) m.state.work pc v
+          (R (suc n) rest
+          (after_operator t (shifted_by (shift_of up s) t.bytes low1 c)
+          (op_steps (binary_op op (integer s a.bytes) mode t a (integer s a.bytes) b (integer s2 b.bytes))) m))
       alive q low1 c qa qb below small =
           let most = wanted_most (needs at rest) t in
           let part = shifted_some up a.bytes (wanted (needs at rest) t) ia.some q (omega (arith, most, same)) in
@@ -675,42 +894,90 @@ module _ (p : PlainProgram) (functions : List PlainIrFunction) (e : Env) (slots 
         where
           h1 : M (operands_needed op t a b (shifted_bytes up a.bytes (wanted (needs at rest) t)) 1 (needs at rest)) m v
           h1 =
-              subst (λ x. M (operands_needed op t a b x 1 (needs at rest)) m v) (shift_wanted op up is a.bytes b.bytes (wanted (needs at rest) t) q).0
-              (subst (λ x. M (operands_needed op t a b (operand_wanted op a.bytes (wanted (needs at rest) t)) x (needs at rest)) m v) (shift_wanted op up is a.bytes b.bytes (wanted (needs at rest) t) q).1 h)
+              subst (λ x. M (operands_needed op t a b x 1 (needs at rest)) m v)
+              (shift_wanted op up is a.bytes b.bytes (wanted (needs at rest) t) q).0
+              (subst (λ x. M (operands_needed op t a b (operand_wanted op a.bytes (wanted (needs at rest) t)) x (needs at rest)) m v)
+              (shift_wanted op up is a.bytes b.bytes (wanted (needs at rest) t) q).1 h)
 
           count_at : v.at (base b) ≡ c
           count_at =
-              let r : value v.at (base b) 1 ≡ c % 256 ^ 1 = right_holds op t a b (shifted_bytes up a.bytes (wanted (needs at rest) t)) 1 c (needs at rest) m v ib ib.some qb h1 in
+              let r : value v.at (base b) 1 ≡ c % 256 ^ 1 =
+              right_holds op t a b (shifted_bytes up a.bytes (wanted (needs at rest) t)) 1 c (needs at rest) m v ib ib.some qb h1 in
               let z : base b + 0 ≡ base b = omega arith in
               let r1 : v.at (base b + 0) * 1 ≡ c % 256 = omega (arith, r) in
               sym (ap v.at z) ∙ omega (arith, r1, small)
 
-          by_width : (j : ℕ) → (shifted_bytes up a.bytes (wanted (needs at rest) t)) ≡ suc j → (shifted_bytes up a.bytes (wanted (needs at rest) t)) ≤ a.bytes → G (suc n) m.state.work pc v (R (suc n) rest (after_operator t (shifted_by (shift_of up s) t.bytes low1 c) (op_steps (binary_op op (integer s a.bytes) mode t a (integer s a.bytes) b (integer s2 b.bytes))) m))
+          by_width : (j : ℕ) → (shifted_bytes up a.bytes (wanted (needs at rest) t)) ≡ suc j
+              → (shifted_bytes up a.bytes (wanted (needs at rest) t)) ≤ a.bytes
+              → G (suc n) m.state.work pc v
+              (R (suc n) rest
+              (after_operator t (shifted_by (shift_of up s) t.bytes low1 c)
+              (op_steps (binary_op op (integer s a.bytes) mode t a (integer s a.bytes) b (integer s2 b.bytes))) m))
           by_width j q1 less =
-              let code : code_of (binary_op op (integer s a.bytes) mode t a (integer s a.bytes) b (integer s2 b.bytes)) rest ≡ turned_code (shift_of up s) (home a) (home b) (home t) (suc j) = ap (λ x. binary_code x s s2 (home a) (home b) (home t) a.bytes (wanted (needs at rest) t)) is ∙ rw q refl ∙ ap (λ x. turned_code (shift_of up s) (home a) (home b) (home t) x) q1 in
-              let stand : HasAt e (turned_code (shift_of up s) (home a) (home b) (home t) (suc j) ++ items rest) pc end = subst (λ x. HasAt e (x ++ items rest) pc end) code stands in
+              let code : code_of (binary_op op (integer s a.bytes) mode t a (integer s a.bytes) b (integer s2 b.bytes)) rest
+              ≡ turned_code (shift_of up s) (home a) (home b) (home t) (suc j) = ap
+              (λ x. binary_code x s s2 (home a) (home b) (home t) a.bytes (wanted (needs at rest) t)) is ∙ rw q refl
+              ∙ ap (λ x. turned_code (shift_of up s) (home a) (home b) (home t) x) q1 in
+              let stand : HasAt e (turned_code (shift_of up s) (home a) (home b) (home t) (suc j) ++ items rest) pc end =
+              subst (λ x. HasAt e (x ++ items rest) pc end) code stands in
               let parts = has_parts e (turned_code (shift_of up s) (home a) (home b) (home t) (suc j)) (items rest) pc end stand in
-              let left0 : value v.at (base a) (shifted_bytes up a.bytes (wanted (needs at rest) t)) ≡ low1 % 256 ^ (shifted_bytes up a.bytes (wanted (needs at rest) t)) = left_holds op t a b (shifted_bytes up a.bytes (wanted (needs at rest) t)) 1 low1 (needs at rest) m v ia less qa h1 in
-              let left : value v.at (base a) (suc j) ≡ low1 % 256 ^ (shifted_bytes up a.bytes (wanted (needs at rest) t)) = subst (λ x. value v.at (base a) x ≡ low1 % 256 ^ (shifted_bytes up a.bytes (wanted (needs at rest) t))) q1 left0 in
-              let g = turned_leads p e slots home base place y (shift_of up s) t a b j (low1 % 256 ^ (shifted_bytes up a.bytes (wanted (needs at rest) t))) c pc parts.0 v it ia ib other (omega (arith, q1, less, same)) (omega (arith, q1, less)) left count_at small h1.bytes parts.1 in
-              let number : value g.last.at (base t) (shifted_bytes up a.bytes (wanted (needs at rest) t)) ≡ shifted_by (shift_of up s) (shifted_bytes up a.bytes (wanted (needs at rest) t)) (low1 % 256 ^ (shifted_bytes up a.bytes (wanted (needs at rest) t))) c = subst (λ x. value g.last.at (base t) x ≡ shifted_by (shift_of up s) x (low1 % 256 ^ (shifted_bytes up a.bytes (wanted (needs at rest) t))) c) (sym q1) g.number_is in
-              let number1 : value g.last.at (base t) (shifted_bytes up t.bytes (wanted (needs at rest) t)) ≡ shifted_by (shift_of up s) (shifted_bytes up t.bytes (wanted (needs at rest) t)) (low1 % 256 ^ shifted_bytes up t.bytes (wanted (needs at rest) t)) c = subst (λ x. value g.last.at (base t) (shifted_bytes up x (wanted (needs at rest) t)) ≡ shifted_by (shift_of up s) (shifted_bytes up x (wanted (needs at rest) t)) (low1 % 256 ^ shifted_bytes up x (wanted (needs at rest) t)) c) same number in
+              let left0 : value v.at (base a) (shifted_bytes up a.bytes (wanted (needs at rest) t))
+              ≡ low1 % 256 ^ (shifted_bytes up a.bytes (wanted (needs at rest) t)) = left_holds op t a b
+              (shifted_bytes up a.bytes (wanted (needs at rest) t)) 1 low1 (needs at rest) m v ia less qa h1 in
+              let left : value v.at (base a) (suc j) ≡ low1 % 256 ^ (shifted_bytes up a.bytes (wanted (needs at rest) t)) =
+              subst (λ x. value v.at (base a) x ≡ low1 % 256 ^ (shifted_bytes up a.bytes (wanted (needs at rest) t))) q1 left0 in
+              let g =
+              turned_leads p e slots home base place y (shift_of up s) t a b j
+              (low1 % 256 ^ (shifted_bytes up a.bytes (wanted (needs at rest) t))) c pc parts.0 v it ia ib other
+              (omega (arith, q1, less, same)) (omega (arith, q1, less)) left count_at small h1.bytes parts.1 in
+              let number : value g.last.at (base t) (shifted_bytes up a.bytes (wanted (needs at rest) t))
+              ≡ shifted_by (shift_of up s) (shifted_bytes up a.bytes (wanted (needs at rest) t))
+              (low1 % 256 ^ (shifted_bytes up a.bytes (wanted (needs at rest) t))) c = subst
+              (λ x. value g.last.at (base t) x
+              ≡ shifted_by (shift_of up s) x (low1 % 256 ^ (shifted_bytes up a.bytes (wanted (needs at rest) t))) c) (sym q1) g.number_is in
+              let number1 : value g.last.at (base t) (shifted_bytes up t.bytes (wanted (needs at rest) t))
+              ≡ shifted_by (shift_of up s) (shifted_bytes up t.bytes (wanted (needs at rest) t))
+              (low1 % 256 ^ shifted_bytes up t.bytes (wanted (needs at rest) t)) c = subst
+              (λ x. value g.last.at (base t) (shifted_bytes up x (wanted (needs at rest) t))
+              ≡ shifted_by (shift_of up s) (shifted_bytes up x (wanted (needs at rest) t))
+              (low1 % 256 ^ shifted_bytes up x (wanted (needs at rest) t)) c) same number in
               let most = wanted_most (needs at rest) t in
               let clear = (y.layout.temps_at t it).clear in
-              let here = shift_part up s g.last.at (base t) (wanted (needs at rest) t) t.bytes low1 c most below (λ x l. g.numbers (base t + x) (omega arith)) number1 in
-              let m1 = after_operator t (shifted_by (shift_of up s) t.bytes low1 c) (op_steps (binary_op op (integer s a.bytes) mode t a (integer s a.bytes) b (integer s2 b.bytes))) m in
-              let frame : Frame v g.last (base t) t.bytes = λ x d r u o. g.same x d r u (narrower (base t) t.bytes (suc j) x (omega (arith, q1, less, same)) o) in
-              let matches = written p e slots home base place y t (bits (shifted_by (shift_of up s) t.bytes low1 c)) (needs at rest) (operands_needed op t a b (shifted_bytes up a.bytes (wanted (needs at rest) t)) 1 (needs at rest)) m (worked (op_steps (binary_op op (integer s a.bytes) mode t a (integer s a.bytes) b (integer s2 b.bytes))) m.state) v g.last it h1 (other_needed op t a b (shifted_bytes up a.bytes (wanted (needs at rest) t)) 1 (needs at rest)) frame (here, shifted_below (shift_of up s) t.bytes low1 c below) g.numbers refl (g.seen ∙ h1.seen) (kept_left y.inputs m.state v g.last (g.inputs) h1.left) (g.safe ∙ h1.safe) in
+              let here =
+              shift_part up s g.last.at (base t) (wanted (needs at rest) t) t.bytes low1 c most below
+              (λ x l. g.numbers (base t + x) (omega arith)) number1 in
+              let m1 =
+              after_operator t (shifted_by (shift_of up s) t.bytes low1 c)
+              (op_steps (binary_op op (integer s a.bytes) mode t a (integer s a.bytes) b (integer s2 b.bytes))) m in
+              let frame : Frame v g.last (base t) t.bytes =
+              λ x d r u o. g.same x d r u (narrower (base t) t.bytes (suc j) x (omega (arith, q1, less, same)) o) in
+              let matches =
+              written p e slots home base place y t (bits (shifted_by (shift_of up s) t.bytes low1 c)) (needs at rest)
+              (operands_needed op t a b (shifted_bytes up a.bytes (wanted (needs at rest) t)) 1 (needs at rest)) m
+              (worked
+              (op_steps (binary_op op (integer s a.bytes) mode t a (integer s a.bytes) b (integer s2 b.bytes))) m.state) v g.last it h1
+              (other_needed op t a b (shifted_bytes up a.bytes (wanted (needs at rest) t)) 1 (needs at rest)) frame
+              (here, shifted_below (shift_of up s) t.bytes low1 c below) g.numbers refl (g.seen ∙ h1.seen)
+              (kept_left y.inputs m.state v g.last (g.inputs) h1.left) (g.safe ∙ h1.safe) in
               let take = g.at_most in
               let room = ia.most in
               let fits = shift_room (suc j) c (omega (arith, q1, less, room)) small in
               let big = shift_big op up is (integer s a.bytes) (integer s a.bytes) (integer s2 b.bytes) in
-              after p place e g.steps (suc n) (suc n) m.state.work m1.state.work pc parts.0 v g.last (R (suc n) rest m1) g.goes (omega arith) (omega (arith, take, fits, big)) (f parts.0 m1 g.last parts.2 matches)
+              after p place e g.steps (suc n) (suc n) m.state.work m1.state.work pc parts.0 v g.last (R (suc n) rest m1) g.goes
+              (omega arith) (omega (arith, take, fits, big)) (f parts.0 m1 g.last parts.2 matches)
 
       by_count : (low1 low2 : ℕ) → m.temps a.at ≡ Some (record { bytes = a.bytes; content = bits low1 })
           → m.temps b.at ≡ Some (record { bytes = b.bytes; content = bits low2 }) → low1 < 256 ^ a.bytes → low2 < 256 ^ b.bytes
           → (x : Bool) → is_count (8 * a.bytes) (number_of_bytes s2 b.bytes low2) ≡ x
-          → G (suc n) m.state.work pc v (next (given (as_number (if x then Ok (wrapped (record { signed = s; bytes = a.bytes }) (shift_number up (number_of_bytes s a.bytes low1) (unsigned_abs (number_of_bytes s2 b.bytes low2)))) else Err ShiftCount)) (worked (op_steps (binary_op op (integer s a.bytes) mode t a (integer s a.bytes) b (integer s2 b.bytes))) m.state)) (λ u st3. R (suc n) rest (machine (with_temp t u m.temps) st3)))
+          → G (suc n) m.state.work pc v
+          (next
+          (given
+          (as_number
+          (if x then Ok
+          (wrapped (record { signed = s; bytes = a.bytes })
+          (shift_number up (number_of_bytes s a.bytes low1) (unsigned_abs (number_of_bytes s2 b.bytes low2)))) else Err ShiftCount))
+          (worked (op_steps (binary_op op (integer s a.bytes) mode t a (integer s a.bytes) b (integer s2 b.bytes))) m.state))
+          (λ u st3. R (suc n) rest (machine (with_temp t u m.temps) st3)))
       by_count low1 low2 qa qb below1 below2 false q = tt
       by_count low1 low2 qa qb below1 below2 true q =
           let c = count_is s2 b.bytes low2 (8 * a.bytes) below2 q in
@@ -718,10 +985,17 @@ module _ (p : PlainProgram) (functions : List PlainIrFunction) (e : Env) (slots 
           let room = ia.most in
           let z = wrapped (record { signed = s; bytes = a.bytes }) (shift_number up (number_of_bytes s a.bytes low1) count) in
           let below : low1 < 256 ^ t.bytes = subst (λ x. low1 < 256 ^ x) same below1 in
-          let number0 : low_bytes a.bytes z ≡ shifted_by (shift_of up s) a.bytes low1 low2 = shift_low up s a.bytes low1 count below1 ∙ ap (shifted_by (shift_of up s) a.bytes low1) c.0 in
-          let number : low_bytes t.bytes z ≡ shifted_by (shift_of up s) t.bytes low1 low2 = subst (λ x. low_bytes x z ≡ shifted_by (shift_of up s) x low1 low2) same number0 in
-          subst (λ x. G (suc n) m.state.work pc v (R (suc n) rest (after_operator t x (op_steps (binary_op op (integer s a.bytes) mode t a (integer s a.bytes) b (integer s2 b.bytes))) m))) (sym number)
-          (⊎_elim (λ r. dead r low1 low2 below) (λ r. alive r low1 low2 qa qb below (omega (arith, c.1, room))) (cases_Bool ((wanted (needs at rest) t) == 0)))
+          let number0 : low_bytes a.bytes z ≡ shifted_by (shift_of up s) a.bytes low1 low2 =
+          shift_low up s a.bytes low1 count below1 ∙ ap (shifted_by (shift_of up s) a.bytes low1) c.0 in
+          let number : low_bytes t.bytes z ≡ shifted_by (shift_of up s) t.bytes low1 low2 =
+          subst (λ x. low_bytes x z ≡ shifted_by (shift_of up s) x low1 low2) same number0 in
+          subst
+          (λ x. G (suc n) m.state.work pc v
+          (R (suc n) rest
+          (after_operator t x (op_steps (binary_op op (integer s a.bytes) mode t a (integer s a.bytes) b (integer s2 b.bytes))) m)))
+          (sym number)
+          (⊎_elim (λ r. dead r low1 low2 below) (λ r. alive r low1 low2 qa qb below (omega (arith, c.1, room)))
+          (cases_Bool ((wanted (needs at rest) t) == 0)))
 
   -- ---- quotients and remainders
 
@@ -732,8 +1006,11 @@ module _ (p : PlainProgram) (functions : List PlainIrFunction) (e : Env) (slots 
   divided_wanted op r h bytes k q = absurd cc
 
   divided_value : (op : BinOp) (r : Bool) → family_of op ≡ Divided r → (mode : Mode) (s : Bool) (b x z : ℕ) (st st1 : State)
-      → binary_result op (integer s b) mode (operand_of p (integer s b) (Number (number_of_bytes s b x)) st) (operand_of p (integer s b) (Number (number_of_bytes s b z)) st1)
-      ≡ as_number (if int_eq (number_of_bytes s b z) (pos 0) then Err ZeroDivisor else Ok (wrapped (record { signed = s; bytes = b }) (int_part r (number_of_bytes s b x) (number_of_bytes s b z))))
+      → binary_result op (integer s b) mode (operand_of p (integer s b) (Number (number_of_bytes s b x)) st)
+      (operand_of p (integer s b) (Number (number_of_bytes s b z)) st1)
+      ≡ as_number
+      (if int_eq (number_of_bytes s b z) (pos 0) then Err ZeroDivisor else Ok
+      (wrapped (record { signed = s; bytes = b }) (int_part r (number_of_bytes s b x) (number_of_bytes s b z))))
   divided_value Div false h mode s b x z st st1 = refl
   divided_value Rem true h mode s b x z st st1 = refl
   divided_value op r h mode s b x z st st1 = absurd cc
@@ -770,26 +1047,44 @@ module _ (p : PlainProgram) (functions : List PlainIrFunction) (e : Env) (slots 
       let aa : StandsFrom e (home a) w (base a) Own = subst (λ j. StandsFrom e (home a) j (base a) Own) qa (y.layout.temps_at a ia) in
       let ba : StandsFrom e (home b) w (base b) Own = subst (λ j. StandsFrom e (home b) j (base b) Own) qb (y.layout.temps_at b ib) in
       let v1 = block e first v in
-      let k = move_holds e (home a) (home t) w (base a) (base t) v aa ta (read_first p e slots home base place y t a w it ia (omega (arith, qa))) h.bytes in
+      let k =
+      move_holds e (home a) (home t) w (base a) (base t) v aa ta
+      (read_first p e slots home base place y t a w it ia (omega (arith, qa))) h.bytes in
       let h1 = moved_numbers p e slots home base place y v v1 (base a) (base t) w (y.layout.temps_at a ia).clear h.bytes k in
       let frame1 = wider_frame v v1 (base t) t.bytes w (omega (arith, qt)) k.frame in
-      let row : (j : ℕ) → j < w → v1.at (base b + j) ≡ v.at (base b + j) = λ j l. row_kept v v1 (base t) t.bytes (base b) b.bytes (y.layout.temps_at b ib).clear (work_outside (base b) b.bytes (y.layout.temps_work b ib)) (y.layout.temps_apart t b it ib other) frame1 j (omega (arith, qb, l)) in
+      let row : (j : ℕ) → j < w → v1.at (base b + j) ≡ v.at (base b + j) =
+      λ j l. row_kept v v1 (base t) t.bytes (base b) b.bytes (y.layout.temps_at b ib).clear
+      (work_outside (base b) b.bytes (y.layout.temps_work b ib)) (y.layout.temps_apart t b it ib other) frame1 j
+      (omega (arith, qb, l)) in
       let left : value v1.at (base t) w ≡ x = row_value v1.at v.at (base a) (base t) w k.there ∙ xa in
       let right : value v1.at (base b) w ≡ z = value-same v1.at v.at (base b) w row ∙ zb in
       let ct : IsClearOf (base t) w = clear_row (base t) w (subst (λ j. IsClear (base t) j) qt (y.layout.temps_work t it)) in
       let cb : IsClearOf (base b) w = clear_row (base b) w (subst (λ j. IsClear (base b) j) qb (y.layout.temps_work b ib)) in
-      let g = quotients_are_right r s e (home t) (home b) top (base t) (base b) s2.0 s1.0 v1 ta ba most ct cb h1 (subst (λ j. 1 ≤ j) (sym right) some) s2.2 in
+      let g =
+      quotients_are_right r s e (home t) (home b) top (base t) (base b) s2.0 s1.0 v1 ta ba most ct cb h1
+      (subst (λ j. 1 ≤ j) (sym right) some) s2.2 in
       let go = block_goes e first pc s2.0 v (move_straight (home a) (home t) w) s2.1 in
       let take1 = move_steps (home a) (home t) w in
       let take2 = g.at_most in
-      let number : value g.last.at (base t) w ≡ quotient_of r s top x z = g.number_is ∙ ap (λ j. quotient_of r s top j (value v1.at (base b) w)) left ∙ ap (quotient_of r s top x) right in
+      let number : value g.last.at (base t) w ≡ quotient_of r s top x z =
+      g.number_is ∙ ap (λ j. quotient_of r s top j (value v1.at (base b) w)) left ∙ ap (quotient_of r s top x) right in
       let clear = (y.layout.temps_at t it).clear in
       let kmost = wanted_most (needs at rest) t in
-      let here : value g.last.at (base t) (wanted (needs at rest) t) ≡ quotient_of r s top x z % 256 ^ wanted (needs at rest) t = sym (value_mod g.last.at (base t) (wanted (needs at rest) t) w (omega (arith, kmost, qt)) (λ j l. g.numbers (base t + j) (omega arith))) ∙ ap (λ j. j % 256 ^ wanted (needs at rest) t) number in
+      let here : value g.last.at (base t) (wanted (needs at rest) t) ≡ quotient_of r s top x z % 256 ^ wanted (needs at rest) t =
+      sym
+      (value_mod g.last.at (base t) (wanted (needs at rest) t) w (omega (arith, kmost, qt))
+      (λ j l. g.numbers (base t + j) (omega arith))) ∙ ap (λ j. j % 256 ^ wanted (needs at rest) t) number in
       let m1 = after_operator t (quotient_of r s top x z) c m in
-      let frame : Wide v g.last (base t) t.bytes = λ i d u low high o. g.same i d u low high (narrower (base t) t.bytes w i (omega (arith, qt)) o) ∙ widened v v1 (base t) t.bytes frame1 i d u low high o in
-      let matches = written_wide p e slots home base place y t (bits (quotient_of r s top x z)) (needs at rest) need0 m (worked c m.state) v g.last it h more frame (here, below) g.numbers refl (g.seen ∙ k.quiet.seen ∙ h.seen) (kept_left y.inputs m.state v g.last (g.inputs ∙ k.quiet.inputs) h.left) (g.safe ∙ k.quiet.safe ∙ h.safe) in
-      after p place e (code_steps first + g.steps) (suc n) (suc n) m.state.work m1.state.work pc s1.0 v g.last (R (suc n) rest m1) (goes_on_to e (code_steps first) g.steps pc s2.0 s1.0 v v1 g.last go g.goes) (omega arith) (omega (arith, take1, take2, big, most)) (f s1.0 m1 g.last s1.2 matches)
+      let frame : Wide v g.last (base t) t.bytes =
+      λ i d u low high o. g.same i d u low high (narrower (base t) t.bytes w i (omega (arith, qt)) o)
+      ∙ widened v v1 (base t) t.bytes frame1 i d u low high o in
+      let matches =
+      written_wide p e slots home base place y t (bits (quotient_of r s top x z)) (needs at rest) need0 m
+      (worked c m.state) v g.last it h more frame (here, below) g.numbers refl (g.seen ∙ k.quiet.seen ∙ h.seen)
+      (kept_left y.inputs m.state v g.last (g.inputs ∙ k.quiet.inputs) h.left) (g.safe ∙ k.quiet.safe ∙ h.safe) in
+      after p place e (code_steps first + g.steps) (suc n) (suc n) m.state.work m1.state.work pc s1.0 v g.last (R (suc n) rest m1)
+      (goes_on_to e (code_steps first) g.steps pc s2.0 s1.0 v v1 g.last go g.goes) (omega arith) (omega (arith, take1, take2, big, most))
+      (f s1.0 m1 g.last s1.2 matches)
 
   pub divided_follows : (op : BinOp) (r : Bool) → family_of op ≡ Divided r → (s : Bool) (mode : Mode)
       (t a b : Temp) (top : ℕ) (rest : List PlainIr) (n pc : ℕ) (m : Mach) (v : View) → HasHome slots t → HasHome slots a
@@ -797,54 +1092,118 @@ module _ (p : PlainProgram) (functions : List PlainIrFunction) (e : Env) (slots 
       → HasAt e (code_of (binary_op op (integer s (suc top)) mode t a (integer s a.bytes) b (integer s b.bytes)) rest ++ items rest) pc end
       → M (needs at (binary_op op (integer s (suc top)) mode t a (integer s a.bytes) b (integer s b.bytes) ∷ rest)) m v
       → Rest (suc n) rest
-      → G (suc n) m.state.work pc v (R (suc n) (binary_op op (integer s (suc top)) mode t a (integer s a.bytes) b (integer s b.bytes) ∷ rest) m)
+      → G (suc n) m.state.work pc v
+      (R (suc n) (binary_op op (integer s (suc top)) mode t a (integer s a.bytes) b (integer s b.bytes) ∷ rest) m)
   divided_follows op r is s mode t a b top rest n pc m v it ia ib qt qa qb most other stands h f =
-      from_number p place e s a m.temps (worked (op_steps (binary_op op (integer s (suc top)) mode t a (integer s a.bytes) b (integer s b.bytes))) m.state) _ (suc n) m.state.work pc v
-      (λ low1 ha. from_number p place e s b m.temps (worked (op_steps (binary_op op (integer s (suc top)) mode t a (integer s a.bytes) b (integer s b.bytes))) m.state) _ (suc n) m.state.work pc v
+      from_number p place e s a m.temps
+      (worked (op_steps (binary_op op (integer s (suc top)) mode t a (integer s a.bytes) b (integer s b.bytes))) m.state) _
+      (suc n) m.state.work pc v
+      (λ low1 ha. from_number p place e s b m.temps
+      (worked (op_steps (binary_op op (integer s (suc top)) mode t a (integer s a.bytes) b (integer s b.bytes))) m.state) _
+      (suc n) m.state.work pc v
       (λ low2 hb.
       let st = worked (op_steps (binary_op op (integer s (suc top)) mode t a (integer s a.bytes) b (integer s b.bytes))) m.state in
       let below1 : low1 < 256 ^ suc top = subst (λ x. low1 < 256 ^ x) qa (h.temps_hold a _ ia ha refl).1 in
       let below2 : low2 < 256 ^ suc top = subst (λ x. low2 < 256 ^ x) qb (h.temps_hold b _ ib hb refl).1 in
       let v0 = divided_value op r is mode s (suc top) low1 low2 st st in
-      let v1 = subst (λ j. binary_result op (integer s (suc top)) mode (operand_of p (integer s j) (Number (number_of_bytes s j low1)) st) (operand_of p (integer s (suc top)) (Number (number_of_bytes s (suc top) low2)) st) ≡ as_number (if int_eq (number_of_bytes s (suc top) low2) (pos 0) then Err ZeroDivisor else Ok (wrapped (record { signed = s; bytes = suc top }) (int_part r (number_of_bytes s (suc top) low1) (number_of_bytes s (suc top) low2))))) (sym qa) v0 in
-      let v2 = subst (λ j. binary_result op (integer s (suc top)) mode (operand_of p (integer s a.bytes) (Number (number_of_bytes s a.bytes low1)) st) (operand_of p (integer s j) (Number (number_of_bytes s j low2)) st) ≡ as_number (if int_eq (number_of_bytes s (suc top) low2) (pos 0) then Err ZeroDivisor else Ok (wrapped (record { signed = s; bytes = suc top }) (int_part r (number_of_bytes s (suc top) low1) (number_of_bytes s (suc top) low2))))) (sym qb) v1 in
+      let v1 =
+      subst
+      (λ j. binary_result op (integer s (suc top)) mode (operand_of p (integer s j) (Number (number_of_bytes s j low1)) st)
+      (operand_of p (integer s (suc top)) (Number (number_of_bytes s (suc top) low2)) st)
+      ≡ as_number
+      (if int_eq (number_of_bytes s (suc top) low2) (pos 0) then Err ZeroDivisor else Ok
+      (wrapped (record { signed = s; bytes = suc top })
+      (int_part r (number_of_bytes s (suc top) low1) (number_of_bytes s (suc top) low2))))) (sym qa) v0 in
+      let v2 =
+      subst
+      (λ j. binary_result op (integer s (suc top)) mode (operand_of p (integer s a.bytes) (Number (number_of_bytes s a.bytes low1)) st)
+      (operand_of p (integer s j) (Number (number_of_bytes s j low2)) st)
+      ≡ as_number
+      (if int_eq (number_of_bytes s (suc top) low2) (pos 0) then Err ZeroDivisor else Ok
+      (wrapped (record { signed = s; bytes = suc top })
+      (int_part r (number_of_bytes s (suc top) low1) (number_of_bytes s (suc top) low2))))) (sym qb) v1 in
       subst (λ o. G (suc n) m.state.work pc v (next (given o st) (λ u st3. R (suc n) rest (machine (with_temp t u m.temps) st3)))) (sym v2)
       (by_divisor low1 low2 ha hb below1 below2 (int_eq (number_of_bytes s (suc top) low2) (pos 0)) refl)))
     where
-      below_result : (low1 low2 : ℕ) → low1 < 256 ^ suc top → low2 < 256 ^ suc top → 1 ≤ low2 → quotient_of r s top low1 low2 < 256 ^ t.bytes
+      below_result : (low1 low2 : ℕ) → low1 < 256 ^ suc top → low2 < 256 ^ suc top → 1 ≤ low2
+          → quotient_of r s top low1 low2 < 256 ^ t.bytes
       below_result low1 low2 l k some =
           let q = quotient_low r s s top low1 low2 l k some in
           let u : quotient_of r s top low1 low2 < 256 ^ suc top = subst (λ j. j < 256 ^ suc top) q (low_below (suc top) _) in
           subst (λ j. quotient_of r s top low1 low2 < 256 ^ j) (sym qt) u
 
       dead : (wanted (needs at rest) t == 0) ≡ true → (low1 low2 : ℕ) → low1 < 256 ^ suc top → low2 < 256 ^ suc top → 1 ≤ low2
-          → G (suc n) m.state.work pc v (R (suc n) rest (after_operator t (quotient_of r s top low1 low2) (op_steps (binary_op op (integer s (suc top)) mode t a (integer s a.bytes) b (integer s b.bytes))) m))
+          → G (suc n) m.state.work pc v
+          (R (suc n) rest
+          (after_operator t (quotient_of r s top low1 low2)
+          (op_steps (binary_op op (integer s (suc top)) mode t a (integer s a.bytes) b (integer s b.bytes))) m))
       dead q low1 low2 l k some =
-          let empty : code_of (binary_op op (integer s (suc top)) mode t a (integer s a.bytes) b (integer s b.bytes)) rest ≡ [] = ap (λ x. binary_code x s s (home a) (home b) (home t) a.bytes (wanted (needs at rest) t)) is ∙ rw q refl in
-          nothing_passes (binary_op op (integer s (suc top)) mode t a (integer s a.bytes) b (integer s b.bytes)) t (quotient_of r s top low1 low2) (op_steps (binary_op op (integer s (suc top)) mode t a (integer s a.bytes) b (integer s b.bytes))) rest n pc (needs at (binary_op op (integer s (suc top)) mode t a (integer s a.bytes) b (integer s b.bytes) ∷ rest)) m v it empty (eqb-true (wanted (needs at rest) t) 0 q) (below_result low1 low2 l k some) stands (other_needed op t a b (operand_wanted op a.bytes (wanted (needs at rest) t)) (right_wanted op b.bytes (wanted (needs at rest) t)) (needs at rest)) h f
+          let empty : code_of (binary_op op (integer s (suc top)) mode t a (integer s a.bytes) b (integer s b.bytes)) rest ≡ [] =
+          ap (λ x. binary_code x s s (home a) (home b) (home t) a.bytes (wanted (needs at rest) t)) is ∙ rw q refl in
+          nothing_passes (binary_op op (integer s (suc top)) mode t a (integer s a.bytes) b (integer s b.bytes)) t
+          (quotient_of r s top low1 low2)
+          (op_steps (binary_op op (integer s (suc top)) mode t a (integer s a.bytes) b (integer s b.bytes))) rest n pc
+          (needs at (binary_op op (integer s (suc top)) mode t a (integer s a.bytes) b (integer s b.bytes) ∷ rest)) m v it empty
+          (eqb-true (wanted (needs at rest) t) 0 q) (below_result low1 low2 l k some) stands
+          (other_needed op t a b (operand_wanted op a.bytes (wanted (needs at rest) t))
+          (right_wanted op b.bytes (wanted (needs at rest) t)) (needs at rest)) h f
 
-      alive : (wanted (needs at rest) t == 0) ≡ false → (low1 low2 : ℕ) → m.temps a.at ≡ Some (record { bytes = a.bytes; content = bits low1 })
+      alive : (wanted (needs at rest) t == 0) ≡ false → (low1 low2 : ℕ) → m.temps a.at
+          ≡ Some (record { bytes = a.bytes; content = bits low1 })
           → m.temps b.at ≡ Some (record { bytes = b.bytes; content = bits low2 }) → low1 < 256 ^ suc top → low2 < 256 ^ suc top → 1 ≤ low2
-          → G (suc n) m.state.work pc v (R (suc n) rest (after_operator t (quotient_of r s top low1 low2) (op_steps (binary_op op (integer s (suc top)) mode t a (integer s a.bytes) b (integer s b.bytes))) m))
+          → G (suc n) m.state.work pc v
+          (R (suc n) rest
+          (after_operator t (quotient_of r s top low1 low2)
+          (op_steps (binary_op op (integer s (suc top)) mode t a (integer s a.bytes) b (integer s b.bytes))) m))
       alive q low1 low2 ha hb l k some =
-          let h1 : M (operands_needed op t a b a.bytes b.bytes (needs at rest)) m v = subst (λ x. M (operands_needed op t a b x b.bytes (needs at rest)) m v) (divided_wanted op r is a.bytes (wanted (needs at rest) t) q).0 (subst (λ x. M (operands_needed op t a b (operand_wanted op a.bytes (wanted (needs at rest) t)) x (needs at rest)) m v) (divided_wanted op r is b.bytes (wanted (needs at rest) t) q).1 h) in
+          let h1 : M (operands_needed op t a b a.bytes b.bytes (needs at rest)) m v =
+          subst (λ x. M (operands_needed op t a b x b.bytes (needs at rest)) m v)
+          (divided_wanted op r is a.bytes (wanted (needs at rest) t) q).0
+          (subst (λ x. M (operands_needed op t a b (operand_wanted op a.bytes (wanted (needs at rest) t)) x (needs at rest)) m v)
+          (divided_wanted op r is b.bytes (wanted (needs at rest) t) q).1 h) in
           let size : a.bytes - 1 ≡ top = omega (arith, qa) in
-          let code : code_of (binary_op op (integer s (suc top)) mode t a (integer s a.bytes) b (integer s b.bytes)) rest ≡ long_code r s (home a) (home b) (home t) top = ap (λ x. binary_code x s s (home a) (home b) (home t) a.bytes (wanted (needs at rest) t)) is ∙ rw q refl ∙ ap (long_code r s (home a) (home b) (home t)) size in
+          let code : code_of (binary_op op (integer s (suc top)) mode t a (integer s a.bytes) b (integer s b.bytes)) rest
+          ≡ long_code r s (home a) (home b) (home t) top = ap
+          (λ x. binary_code x s s (home a) (home b) (home t) a.bytes (wanted (needs at rest) t)) is ∙ rw q refl
+          ∙ ap (long_code r s (home a) (home b) (home t)) size in
           let stand = subst (λ x. HasAt e (x ++ items rest) pc end) code stands in
-          let x1 : value v.at (base a) (suc top) ≡ low1 = subst (λ j. value v.at (base a) j ≡ low1 % 256 ^ j) qa (left_holds op t a b a.bytes b.bytes low1 (needs at rest) m v ia (omega arith) ha h1) ∙ kept_below low1 (256 ^ suc top) l in
-          let x2 : value v.at (base b) (suc top) ≡ low2 = subst (λ j. value v.at (base b) j ≡ low2 % 256 ^ j) qb (right_holds op t a b a.bytes b.bytes low2 (needs at rest) m v ib (omega arith) hb h1) ∙ kept_below low2 (256 ^ suc top) k in
-          divided_passes r s t a b top low1 low2 (op_steps (binary_op op (integer s (suc top)) mode t a (integer s a.bytes) b (integer s b.bytes))) rest n pc (operands_needed op t a b a.bytes b.bytes (needs at rest)) m v it ia ib qt qa qb most other x1 x2 some (below_result low1 low2 l k some) (divided_big op r is (integer s (suc top)) (integer s a.bytes) (integer s b.bytes)) stand (other_needed op t a b a.bytes b.bytes (needs at rest)) h1 f
+          let x1 : value v.at (base a) (suc top) ≡ low1 =
+          subst (λ j. value v.at (base a) j ≡ low1 % 256 ^ j) qa
+          (left_holds op t a b a.bytes b.bytes low1 (needs at rest) m v ia (omega arith) ha h1) ∙ kept_below low1 (256 ^ suc top) l in
+          let x2 : value v.at (base b) (suc top) ≡ low2 =
+          subst (λ j. value v.at (base b) j ≡ low2 % 256 ^ j) qb
+          (right_holds op t a b a.bytes b.bytes low2 (needs at rest) m v ib (omega arith) hb h1) ∙ kept_below low2 (256 ^ suc top) k in
+          divided_passes r s t a b top low1 low2
+          (op_steps (binary_op op (integer s (suc top)) mode t a (integer s a.bytes) b (integer s b.bytes))) rest n pc
+          (operands_needed op t a b a.bytes b.bytes (needs at rest)) m v it ia ib qt qa qb most other x1 x2 some
+          (below_result low1 low2 l k some) (divided_big op r is (integer s (suc top)) (integer s a.bytes) (integer s b.bytes)) stand
+          (other_needed op t a b a.bytes b.bytes (needs at rest)) h1 f
 
       by_divisor : (low1 low2 : ℕ) → m.temps a.at ≡ Some (record { bytes = a.bytes; content = bits low1 })
           → m.temps b.at ≡ Some (record { bytes = b.bytes; content = bits low2 }) → low1 < 256 ^ suc top → low2 < 256 ^ suc top
           → (x : Bool) → int_eq (number_of_bytes s (suc top) low2) (pos 0) ≡ x
-          → G (suc n) m.state.work pc v (next (given (as_number (if x then Err ZeroDivisor else Ok (wrapped (record { signed = s; bytes = suc top }) (int_part r (number_of_bytes s (suc top) low1) (number_of_bytes s (suc top) low2))))) (worked (op_steps (binary_op op (integer s (suc top)) mode t a (integer s a.bytes) b (integer s b.bytes))) m.state)) (λ u st3. R (suc n) rest (machine (with_temp t u m.temps) st3)))
+          → G (suc n) m.state.work pc v
+          (next
+          (given
+          (as_number
+          (if x then Err ZeroDivisor else Ok
+          (wrapped (record { signed = s; bytes = suc top })
+          (int_part r (number_of_bytes s (suc top) low1) (number_of_bytes s (suc top) low2)))))
+          (worked (op_steps (binary_op op (integer s (suc top)) mode t a (integer s a.bytes) b (integer s b.bytes))) m.state))
+          (λ u st3. R (suc n) rest (machine (with_temp t u m.temps) st3)))
       by_divisor low1 low2 ha hb l k true q = tt
       by_divisor low1 low2 ha hb l k false q =
           let some = not_zero s (suc top) low2 q in
-          let z = wrapped (record { signed = s; bytes = suc top }) (int_part r (number_of_bytes s (suc top) low1) (number_of_bytes s (suc top) low2)) in
-          let number : low_bytes t.bytes z ≡ quotient_of r s top low1 low2 = ap (λ j. low_bytes j z) qt ∙ quotient_low r s s top low1 low2 l k some in
-          subst (λ x. G (suc n) m.state.work pc v (R (suc n) rest (after_operator t x (op_steps (binary_op op (integer s (suc top)) mode t a (integer s a.bytes) b (integer s b.bytes))) m))) (sym number)
+          let z =
+          wrapped (record { signed = s; bytes = suc top })
+          (int_part r (number_of_bytes s (suc top) low1) (number_of_bytes s (suc top) low2)) in
+          let number : low_bytes t.bytes z ≡ quotient_of r s top low1 low2 =
+          ap (λ j. low_bytes j z) qt ∙ quotient_low r s s top low1 low2 l k some in
+          subst
+          (λ x. G (suc n) m.state.work pc v
+          (R (suc n) rest
+          (after_operator t x (op_steps (binary_op op (integer s (suc top)) mode t a (integer s a.bytes) b (integer s b.bytes))) m)))
+          (sym number)
           (⊎_elim (λ u. dead u low1 low2 l k some) (λ u. alive u low1 low2 ha hb l k some) (cases_Bool (wanted (needs at rest) t == 0)))
 
   -- ---- all operators
@@ -859,7 +1218,9 @@ module _ (p : PlainProgram) (functions : List PlainIrFunction) (e : Env) (slots 
       (bty : PlainType) (rest : List PlainIr) (n pc : ℕ) (m : Mach) (v : View)
       → IsBinary (family_of op) slots t a b ty aty bty
       → HasAt e (code_of (binary_op op ty mode t a aty b bty) rest ++ items rest) pc end
-      → M (operands_needed op t a b (operand_wanted op a.bytes (wanted (needs at rest) t)) (right_wanted op b.bytes (wanted (needs at rest) t)) (needs at rest)) m v
+      → M
+      (operands_needed op t a b (operand_wanted op a.bytes (wanted (needs at rest) t)) (right_wanted op b.bytes (wanted (needs at rest) t))
+      (needs at rest)) m v
       → Rest (suc n) rest → G (suc n) m.state.work pc v (R (suc n) (binary_op op ty mode t a aty b bty ∷ rest) m)
   operator_follows op ty mode t a aty b bty rest n pc m v i stands h f = by_family (family_of op) refl i
     where
@@ -869,20 +1230,25 @@ module _ (p : PlainProgram) (functions : List PlainIrFunction) (e : Env) (slots 
           let w = wanted (needs at rest) t in
           let la = low_bytes_wanted op o q a.bytes w in
           let lb = low_right_wanted op o q b.bytes w in
-          let h1 = subst (λ x. M (operands_needed op t a b x w (needs at rest)) m v) la (subst (λ x. M (operands_needed op t a b (operand_wanted op a.bytes w) x (needs at rest)) m v) lb h) in
+          let h1 =
+          subst (λ x. M (operands_needed op t a b x w (needs at rest)) m v) la
+          (subst (λ x. M (operands_needed op t a b (operand_wanted op a.bytes w) x (needs at rest)) m v) lb h) in
           (subst (λ x. Done op x aty bty mode t a b rest n pc m v) (sym k.result_type)
           (subst (λ x. Done op (integer k.signed t.bytes) x bty mode t a b rest n pc m v) (sym k.left_type)
           (subst (λ x. Done op (integer k.signed t.bytes) (integer k.left_signed a.bytes) x mode t a b rest n pc m v) (sym k.right_type)
-          (λ stand. combined_follows op o q k.signed k.left_signed k.right_signed mode t a b rest n pc m v k.result k.left k.right k.left_bytes k.right_bytes stand h1 f)))) stands
+          (λ stand. combined_follows op o q k.signed k.left_signed k.right_signed mode t a b rest n pc m v
+          k.result k.left k.right k.left_bytes k.right_bytes stand h1 f)))) stands
       by_family (Compared r exchanged) q k =
           (subst (λ x. Done op ty x bty mode t a b rest n pc m v) (sym k.left_type)
           (subst (λ x. Done op ty (integer k.signed a.bytes) x mode t a b rest n pc m v) (sym k.right_type)
-          (λ stand. related_follows op r exchanged q k.signed ty mode t a b rest n pc m v k.result k.left k.right k.same_bytes stand h f))) stands
+          (λ stand. related_follows op r exchanged q k.signed ty mode t a b rest n pc m v
+          k.result k.left k.right k.same_bytes stand h f))) stands
       by_family Multiplied q k =
           (subst (λ x. Done op x aty bty mode t a b rest n pc m v) (sym k.result_type)
           (subst (λ x. Done op (integer k.signed 2) x bty mode t a b rest n pc m v) (sym k.left_type)
           (subst (λ x. Done op (integer k.signed 2) (integer k.left_signed 1) x mode t a b rest n pc m v) (sym k.right_type)
-          (λ stand. multiplied_follows op q k.signed k.left_signed k.right_signed mode t a b rest n pc m v k.result k.left k.right k.result_bytes k.left_bytes k.right_bytes stand h f)))) stands
+          (λ stand. multiplied_follows op q k.signed k.left_signed k.right_signed mode t a b rest n pc m v
+          k.result k.left k.right k.result_bytes k.left_bytes k.right_bytes stand h f)))) stands
       by_family (Shifted up) q i =
           let k = i.0 in
           let same = k.same_bytes in
@@ -890,7 +1256,8 @@ module _ (p : PlainProgram) (functions : List PlainIrFunction) (e : Env) (slots 
           (subst (λ x. Done op x aty bty mode t a b rest n pc m v) (sym type)
           (subst (λ x. Done op (integer k.signed a.bytes) x bty mode t a b rest n pc m v) (sym k.left_type)
           (subst (λ x. Done op (integer k.signed a.bytes) (integer k.signed a.bytes) x mode t a b rest n pc m v) (sym k.count_type)
-          (λ stand. shifted_follows op up q k.signed k.count_signed mode t a b rest n pc m v k.result k.left k.count same i.1 stand h f)))) stands
+          (λ stand. shifted_follows op up q k.signed k.count_signed mode t a b rest n pc m v
+          k.result k.left k.count same i.1 stand h f)))) stands
       by_family (Divided r) q i =
           let k = i.0 in
           let some = k.result.some in
@@ -900,7 +1267,8 @@ module _ (p : PlainProgram) (functions : List PlainIrFunction) (e : Env) (slots 
           (subst (λ x. Done op x aty bty mode t a b rest n pc m v) (sym type)
           (subst (λ x. Done op (integer k.signed (suc top)) x bty mode t a b rest n pc m v) (sym k.left_type)
           (subst (λ x. Done op (integer k.signed (suc top)) (integer k.signed a.bytes) x mode t a b rest n pc m v) (sym k.right_type)
-          (λ stand. divided_follows op r q k.signed mode t a b top rest n pc m v k.result k.left k.right qt (k.left_bytes ∙ qt) (k.right_bytes ∙ qt) (subst (λ j. j ≤ 4) qt k.most) i.1 stand h f)))) stands
+          (λ stand. divided_follows op r q k.signed mode t a b top rest n pc m v k.result k.left k.right qt (k.left_bytes ∙ qt)
+          (k.right_bytes ∙ qt) (subst (λ j. j ≤ 4) qt k.most) i.1 stand h f)))) stands
 
   -- ---- operations with a fixed-point type
 
@@ -912,11 +1280,21 @@ module _ (p : PlainProgram) (functions : List PlainIrFunction) (e : Env) (slots 
   type_fixed (array of n) h = absurd h
   type_fixed (struct n) h = absurd h
 
-  either_fixed : (x z : PlainType) → IsFixedType x ⊎ IsFixedType z → (is_fixed x || is_fixed z) ≡ true
-  either_fixed x z f =
+  type_whole : (x : PlainType) → IsFixedType x → is_whole x ≡ true
+  type_whole (fixed k s) h = refl
+  type_whole (integer s n) h = absurd h
+  type_whole void h = absurd h
+  type_whole (pointer s k z) h = refl
+  type_whole (array of n) h = absurd h
+  type_whole (struct n) h = absurd h
+
+  -- what holds of fixed-point types holds of one of two
+  either_fixed : (is : PlainType → Bool) → ((x : PlainType) → IsFixedType x → is x ≡ true) → (x z : PlainType)
+      → IsFixedType x ⊎ IsFixedType z → (is x || is z) ≡ true
+  either_fixed is all x z f =
       ⊎_elim
-      (λ (q : IsFixedType x). ap (λ b. b || is_fixed z) (type_fixed x q))
-      (λ (q : IsFixedType z). ap (λ b. is_fixed x || b) (type_fixed z q) ∙ or_true (is_fixed x))
+      (λ (q : IsFixedType x). ap (λ b. b || is z) (all x q))
+      (λ (q : IsFixedType z). ap (λ b. is x || b) (all z q) ∙ or_true (is x))
       f
     where
       or_true : (b : Bool) → (b || true) ≡ true
@@ -938,7 +1316,8 @@ module _ (p : PlainProgram) (functions : List PlainIrFunction) (e : Env) (slots 
       wide : scalar_size ty ≤ widest (ty ∷ aty ∷ bty ∷ [])
       wide = omega arith
 
-      by_kind : (x : Bool) → 4 * scalar_size ty ≤ (if x then 10 * widest (ty ∷ aty ∷ bty ∷ []) else operation_words (widest (ty ∷ aty ∷ bty ∷ [])))
+      by_kind : (x : Bool)
+          → 4 * scalar_size ty ≤ (if x then 10 * widest (ty ∷ aty ∷ bty ∷ []) else operation_words (widest (ty ∷ aty ∷ bty ∷ [])))
       by_kind true = omega (arith, wide)
       by_kind false = omega (arith, wide)
 
@@ -999,26 +1378,34 @@ module _ (p : PlainProgram) (functions : List PlainIrFunction) (e : Env) (slots 
       by_result low1 low2 qa qb (Ok r) q = by_need (w == 0) refl
         where
           ka : ℕ
-          ka = first_wanted (is_fixed aty || is_fixed bty) op a.bytes w
+          ka = first_wanted (is_whole aty || is_whole bty) op a.bytes w
 
           kb : ℕ
-          kb = second_wanted (is_fixed aty || is_fixed bty) op b.bytes w
+          kb = second_wanted (is_whole aty || is_whole bty) op b.bytes w
 
           fx : (is_fixed aty || is_fixed bty) ≡ true
-          fx = either_fixed aty bty k.types.fixed
+          fx = either_fixed is_fixed type_fixed aty bty k.types.fixed
 
-          none_told : (x : Bool) → (if x then told_by (is_fixed aty || is_fixed bty) (family_of op) (is_signed aty) else None) ≡ None
-          none_told true = ap (λ z. told_by z (family_of op) (is_signed aty)) fx
+          wx : (is_whole aty || is_whole bty) ≡ true
+          wx = either_fixed is_whole type_whole aty bty k.types.fixed
+
+          none_told : (x : Bool)
+              → (if x then told_by (is_whole aty || is_whole bty) (family_of op) (is_signed aty) else None) ≡ None
+          none_told true = ap (λ z. told_by z (family_of op) (is_signed aty)) wx
           none_told false = refl
 
           code : List AsmItem
           code = fixed_binary_code op ty aty bty mode (home a) (home b) answer_location work_location
 
           code_is : code_of i rest ≡ answer_code code (home t) w
-          code_is = ap (λ z. code_by_kind z (answer_code code (home t) w) (binary_code (family_of op) (is_signed aty) (is_signed bty) (home a) (home b) (home t) a.bytes w)) fx
+          code_is =
+              ap (λ z. code_by_kind z (answer_code code (home t) w) (code_by_kind (is_pointer aty || is_pointer bty)
+              (pointer_binary (is_pointer aty) (is_pointer bty) p op aty bty (home a) (home b) (home t) a.bytes b.bytes w)
+              (binary_code (family_of op) (is_signed aty) (is_signed bty) (home a) (home b) (home t) a.bytes w))) fx
 
           stand : HasAt e (code_of i rest ++ items rest) pc end
-          stand = subst (λ x. HasAt e (op_code p.objects home link None x need i ++ items_told x rest) pc end) (none_told (is_only_tested t (slice_get rest 0) (slice_index (wanted_bytes at rest) 0))) stands
+          stand = subst (λ x. HasAt e (op_code p home link None x need i ++ items_told x rest) pc end)
+              (none_told (is_only_tested t (slice_get rest 0) (slice_index (wanted_bytes at rest) 0))) stands
 
           more : (u : ℕ) → u ≢ t.at → need u ≤ needs at (i ∷ rest) u
           more u d = other_needed op t a b ka kb need u d
@@ -1026,15 +1413,21 @@ module _ (p : PlainProgram) (functions : List PlainIrFunction) (e : Env) (slots 
           m1 : Mach
           m1 = machine (with_temp t r m.temps) st
 
-          number : IsNumber (arithmetic_value op (number_type ty) mode (fixed_operand_in (format_in aty) (scalar_size aty) low1) (fixed_operand_in (format_in bty) (scalar_size bty) low2)) r
+          number : IsNumber
+              (arithmetic_value op (number_type ty) mode (fixed_operand_in (format_in aty) (scalar_size aty) low1)
+              (fixed_operand_in (format_in bty) (scalar_size bty) low2)) r
           number = binary_told op ty aty bty mode low1 low2 (left low1) (right low2) r suited.first suited.second
-              (record { type_is = refl; value_is = value_is aty low1 (fixed_numeric aty suited.first) }) (record { type_is = refl; value_is = value_is bty low2 (fixed_numeric bty suited.second) }) q
+              (record { type_is = refl; value_is = value_is aty low1 (fixed_numeric aty suited.first) })
+              (record { type_is = refl; value_is = value_is bty low2 (fixed_numeric bty suited.second) }) q
 
           by_need : (x : Bool) → (w == 0) ≡ x → G (suc n) m.state.work pc v (R (suc n) rest m1)
           by_need true z =
               let empty : code_of i rest ≡ [] = code_is ∙ ap (λ x. if x then [] else code ++ copy_code answer_location (home t) w) z in
-              let go = nothing_passes i t (low_bytes t.bytes number.number) c rest n pc (needs at (i ∷ rest)) m v k.result empty (eqb-true w 0 z) (low_below t.bytes number.number) stand more h f in
-              subst (λ (x : Value). G (suc n) m.state.work pc v (R (suc n) rest (machine (with_temp t x m.temps) st))) (sym number.result) go
+              let go =
+              nothing_passes i t (low_bytes t.bytes number.number) c rest n pc (needs at (i ∷ rest)) m v k.result empty
+              (eqb-true w 0 z) (low_below t.bytes number.number) stand more h f in
+              subst (λ (x : Value). G (suc n) m.state.work pc v (R (suc n) rest (machine (with_temp t x m.temps) st)))
+              (sym number.result) go
           by_need false z =
               let parts = has_parts e (code_of i rest) (items rest) pc end stand in
               let there : HasAt e (answer_code code (home t) w) pc parts.0 = subst (λ x. HasAt e x pc parts.0) code_is parts.1 in
@@ -1043,28 +1436,51 @@ module _ (p : PlainProgram) (functions : List PlainIrFunction) (e : Env) (slots 
               let some = k.result.some in
               let most = k.result.most in
               let need0 = needs at (i ∷ rest) in
-              let least_a : all_or_none a.bytes w ≤ need0 a.at = subst (λ (x : Bool). first_wanted x op a.bytes w ≤ need0 a.at) fx (least_here a.at ka (at_least b.at kb (without t.at need))) in
+              let least_a : all_or_none a.bytes w ≤ need0 a.at = subst (λ (x : Bool). first_wanted x op a.bytes w ≤ need0 a.at) wx
+              (least_here a.at ka (at_least b.at kb (without t.at need))) in
               let inner = least_here b.at kb (without t.at need) in
               let outer = least_other a.at ka b.at (at_least b.at kb (without t.at need)) in
-              let least_b : all_or_none b.bytes w ≤ need0 b.at = subst (λ (x : Bool). second_wanted x op b.bytes w ≤ need0 b.at) fx (omega arith) in
-              let x_is : value v.at (base a) (scalar_size aty) ≡ low1 = all_there a w low1 (scalar_size aty) need0 m v k.left k.left_bytes z least_a qa h in
-              let y_is : value v.at (base b) (scalar_size bty) ≡ low2 = all_there b w low2 (scalar_size bty) need0 m v k.right k.right_bytes z least_b qb h in
+              let least_b : all_or_none b.bytes w ≤ need0 b.at = subst (λ (x : Bool). second_wanted x op b.bytes w ≤ need0 b.at) wx
+              (omega arith) in
+              let x_is : value v.at (base a) (scalar_size aty) ≡ low1 =
+              all_there a w low1 (scalar_size aty) need0 m v k.left k.left_bytes z least_a qa h in
+              let y_is : value v.at (base b) (scalar_size bty) ≡ low2 =
+              all_there b w low2 (scalar_size bty) need0 m v k.right k.right_bytes z least_b qb h in
               let slots0 = slots_of p e slots home base place y a b size k.left k.right k.different (omega arith) (omega arith) in
-              let slots1 = subst (λ (x : ℕ). AreSlots e (home a) (home b) answer_location work_location x b.bytes size (base a) (base b) (y.work + 40) y.work) k.left_bytes slots0 in
-              let slots2 = subst (λ (x : ℕ). AreSlots e (home a) (home b) answer_location work_location (scalar_size aty) x size (base a) (base b) (y.work + 40) y.work) k.right_bytes slots1 in
-              let holds = IsBinaryResult op ty mode aty bty (value v.at (base a) (scalar_size aty)) (value v.at (base b) (scalar_size bty)) in
-              let run = λ (mid : ℕ) (u : HasAt e code pc mid). y.fixed.binaries op ty aty bty mode e (home a) (home b) answer_location work_location (base a) (base b) (y.work + 40) y.work pc mid v k.types slots2 h.bytes u in
+              let slots1 =
+              subst
+              (λ (x : ℕ). AreSlots e (home a) (home b) answer_location work_location x b.bytes size (base a) (base b)
+              (y.work + 40) y.work) k.left_bytes slots0 in
+              let slots2 =
+              subst
+              (λ (x : ℕ). AreSlots e (home a) (home b) answer_location work_location (scalar_size aty) x size (base a) (base b)
+              (y.work + 40) y.work) k.right_bytes slots1 in
+              let holds =
+              IsBinaryResult op ty mode aty bty (value v.at (base a) (scalar_size aty)) (value v.at (base b) (scalar_size bty)) in
+              let run =
+              λ (mid : ℕ) (u : HasAt e code pc mid). y.fixed.binaries op ty aty bty mode e (home a)
+              (home b) answer_location work_location (base a) (base b) (y.work + 40) y.work pc mid v k.types slots2 h.bytes u in
               let room = binary_roomy op ty aty bty in
-              answer_passes p e slots home base place y code (64 * binary_room op ty aty bty) size c (suc n) pc parts.0 t need need0 m v (R (suc n) rest m1) holds k.result same h more z there run (omega (arith, room, same))
+              answer_passes p e slots home base place y code (64 * binary_room op ty aty bty) size c (suc n) pc parts.0 t need need0 m v
+              (R (suc n) rest m1) holds k.result same h more z there run (omega (arith, room, same))
               (λ number v2 g matches.
               let content : content_of t.bytes r ≡ bits number =
               ap (λ s. content_of s r) k.result_bytes ∙ g (left low1) (right low2) r
-              (record { type_is = refl; value_is = ap (λ x. value_in aty (bits x)) x_is ∙ value_is aty low1 (fixed_numeric aty suited.first) })
-              (record { type_is = refl; value_is = ap (λ x. value_in bty (bits x)) y_is ∙ value_is bty low2 (fixed_numeric bty suited.second) }) q in
+              (record {
+                type_is = refl;
+                value_is = ap (λ x. value_in aty (bits x)) x_is
+                    ∙ value_is aty low1 (fixed_numeric aty suited.first);
+              })
+              (record {
+                type_is = refl;
+                value_is = ap (λ x. value_in bty (bits x)) y_is
+                    ∙ value_is bty low2 (fixed_numeric bty suited.second);
+              }) q in
               f parts.0 m1 v2 parts.2 (subst (λ (x : Content). M need (machine (with_content t x m.temps) st) v2) (sym content) matches))
 
   pub fixed_unary_follows : (op : UnOp) (ty : PlainType) (mode : Mode) (t a : Temp) (rest : List PlainIr) (n pc : ℕ) (m : Mach) (v : View)
-      → IsFixedUnary slots op t a ty → HasAt e (items (unary_op op ty mode t a ∷ rest)) pc end → M (needs at (unary_op op ty mode t a ∷ rest)) m v
+      → IsFixedUnary slots op t a ty → HasAt e (items (unary_op op ty mode t a ∷ rest)) pc end
+      → M (needs at (unary_op op ty mode t a ∷ rest)) m v
       → Rest (suc n) rest → G (suc n) m.state.work pc v (R (suc n) (unary_op op ty mode t a ∷ rest) m)
   fixed_unary_follows op ty mode t a rest n pc m v k stands h f =
       from_typed p place e ty a m.temps st _ (suc n) m.state.work pc v (fixed_numeric ty known)
@@ -1089,15 +1505,19 @@ module _ (p : PlainProgram) (functions : List PlainIrFunction) (e : Env) (slots 
       known = fixed_number_type ty k.types.fixed
 
       by_result : (low : ℕ) → m.temps a.at ≡ Some (record { bytes = a.bytes; content = bits low }) → (z : Result Value Undefined)
-          → unary_result op ty mode (number_in ty low) ≡ z → G (suc n) m.state.work pc v (next (given z st) (λ u s3. R (suc n) rest (machine (with_temp t u m.temps) s3)))
+          → unary_result op ty mode (number_in ty low) ≡ z
+          → G (suc n) m.state.work pc v (next (given z st) (λ u s3. R (suc n) rest (machine (with_temp t u m.temps) s3)))
       by_result low qa (Err point) q = tt
       by_result low qa (Ok r) q = by_need (w == 0) refl
         where
           ka : ℕ
-          ka = only_wanted (is_fixed ty) a.bytes w
+          ka = only_wanted (is_whole ty) a.bytes w
 
           fx : is_fixed ty ≡ true
           fx = type_fixed ty k.types.fixed
+
+          wx : is_whole ty ≡ true
+          wx = type_whole ty k.types.fixed
 
           code : List AsmItem
           code = fixed_unary_code op ty mode (home a) answer_location work_location
@@ -1117,8 +1537,11 @@ module _ (p : PlainProgram) (functions : List PlainIrFunction) (e : Env) (slots 
           by_need : (x : Bool) → (w == 0) ≡ x → G (suc n) m.state.work pc v (R (suc n) rest m1)
           by_need true z =
               let empty : code_of i rest ≡ [] = code_is ∙ ap (λ x. if x then [] else code ++ copy_code answer_location (home t) w) z in
-              let go = nothing_passes i t (low_bytes t.bytes number.number) c rest n pc (needs at (i ∷ rest)) m v k.result empty (eqb-true w 0 z) (low_below t.bytes number.number) stands more h f in
-              subst (λ (x : Value). G (suc n) m.state.work pc v (R (suc n) rest (machine (with_temp t x m.temps) st))) (sym number.result) go
+              let go =
+              nothing_passes i t (low_bytes t.bytes number.number) c rest n pc (needs at (i ∷ rest)) m v k.result empty
+              (eqb-true w 0 z) (low_below t.bytes number.number) stands more h f in
+              subst (λ (x : Value). G (suc n) m.state.work pc v (R (suc n) rest (machine (with_temp t x m.temps) st)))
+              (sym number.result) go
           by_need false z =
               let parts = has_parts e (code_of i rest) (items rest) pc end stands in
               let there : HasAt e (answer_code code (home t) w) pc parts.0 = subst (λ x. HasAt e x pc parts.0) code_is parts.1 in
@@ -1127,19 +1550,30 @@ module _ (p : PlainProgram) (functions : List PlainIrFunction) (e : Env) (slots 
               let some = k.result.some in
               let most = k.result.most in
               let need0 = needs at (i ∷ rest) in
-              let least_a : all_or_none a.bytes w ≤ need0 a.at = subst (λ (x : Bool). only_wanted x a.bytes w ≤ need0 a.at) fx (least_here a.at ka (without t.at need)) in
+              let least_a : all_or_none a.bytes w ≤ need0 a.at = subst (λ (x : Bool). only_wanted x a.bytes w ≤ need0 a.at) wx
+              (least_here a.at ka (without t.at need)) in
               let x_is : value v.at (base a) size ≡ low = all_there a w low size need0 m v k.operand k.operand_bytes z least_a qa h in
-              let slots1 = subst (λ (x : ℕ). AreOperandSlots e (home a) answer_location work_location x size (base a) (y.work + 40) y.work) k.operand_bytes (operand_slots_of p e slots home base place y a size k.operand (omega arith) (omega arith)) in
+              let slots1 =
+              subst
+              (λ (x : ℕ). AreOperandSlots e (home a) answer_location work_location x size (base a)
+              (y.work + 40) y.work) k.operand_bytes
+              (operand_slots_of p e slots home base place y a size k.operand (omega arith) (omega arith)) in
               let holds = IsUnaryResult op ty mode (value v.at (base a) size) in
-              let run = λ (mid : ℕ) (u : HasAt e code pc mid). y.fixed.unaries op ty mode e (home a) answer_location work_location (base a) (y.work + 40) y.work pc mid v k.types slots1 h.bytes u in
-              answer_passes p e slots home base place y code (64 * unary_room ty) size c (suc n) pc parts.0 t need need0 m v (R (suc n) rest m1) holds k.result same h more z there run (omega (arith, same))
+              let run =
+              λ (mid : ℕ) (u : HasAt e code pc mid). y.fixed.unaries op ty mode e (home a) answer_location work_location (base a)
+              (y.work + 40) y.work pc mid v k.types slots1 h.bytes u in
+              answer_passes p e slots home base place y code (64 * unary_room ty) size c (suc n) pc parts.0 t need need0 m v
+              (R (suc n) rest m1) holds k.result same h more z there run (omega (arith, same))
               (λ result v2 g matches.
               let content : content_of t.bytes r ≡ bits result =
-              ap (λ s. content_of s r) k.result_bytes ∙ g (number_in ty low) r (ap (λ x. value_in ty (bits x)) x_is ∙ value_is ty low (fixed_numeric ty known)) q in
+              ap (λ s. content_of s r) k.result_bytes
+              ∙ g (number_in ty low) r (ap (λ x. value_in ty (bits x)) x_is ∙ value_is ty low (fixed_numeric ty known)) q in
               f parts.0 m1 v2 parts.2 (subst (λ (x : Content). M need (machine (with_content t x m.temps) st) v2) (sym content) matches))
 
-  pub fixed_conversion_follows : (t : Temp) (ty : PlainType) (mode : Mode) (a : Temp) (aty : PlainType) (rest : List PlainIr) (n pc : ℕ) (m : Mach) (v : View)
-      → IsFixedConversion slots t a ty aty → HasAt e (items (conversion t ty mode a aty ∷ rest)) pc end → M (needs at (conversion t ty mode a aty ∷ rest)) m v
+  pub fixed_conversion_follows : (t : Temp) (ty : PlainType) (mode : Mode) (a : Temp) (aty : PlainType) (rest : List PlainIr) (n pc : ℕ)
+      (m : Mach) (v : View)
+      → IsFixedConversion slots t a ty aty → HasAt e (items (conversion t ty mode a aty ∷ rest)) pc end
+      → M (needs at (conversion t ty mode a aty ∷ rest)) m v
       → Rest (suc n) rest → G (suc n) m.state.work pc v (R (suc n) (conversion t ty mode a aty ∷ rest) m)
   fixed_conversion_follows t ty mode a aty rest n pc m v k stands h f =
       from_typed p place e aty a m.temps st _ (suc n) m.state.work pc v (fixed_numeric aty known.operand)
@@ -1167,21 +1601,28 @@ module _ (p : PlainProgram) (functions : List PlainIrFunction) (e : Env) (slots 
       operand low = operand_of p aty (number_in aty low) st
 
       by_result : (low : ℕ) → m.temps a.at ≡ Some (record { bytes = a.bytes; content = bits low }) → (z : Result Value Undefined)
-          → conversion_result ty mode (operand low) ≡ z → G (suc n) m.state.work pc v (next (given z st) (λ u s3. R (suc n) rest (machine (with_temp t u m.temps) s3)))
+          → conversion_result ty mode (operand low) ≡ z
+          → G (suc n) m.state.work pc v (next (given z st) (λ u s3. R (suc n) rest (machine (with_temp t u m.temps) s3)))
       by_result low qa (Err point) q = tt
       by_result low qa (Ok r) q = by_need (w == 0) refl
         where
           ka : ℕ
-          ka = only_wanted (is_fixed ty || is_fixed aty) a.bytes w
+          ka = only_wanted (is_whole ty || is_whole aty) a.bytes w
 
           fx : (is_fixed ty || is_fixed aty) ≡ true
-          fx = either_fixed ty aty k.types.fixed
+          fx = either_fixed is_fixed type_fixed ty aty k.types.fixed
+
+          wx : (is_whole ty || is_whole aty) ≡ true
+          wx = either_fixed is_whole type_whole ty aty k.types.fixed
 
           code : List AsmItem
           code = fixed_conversion_code ty aty mode (home a) answer_location work_location
 
           code_is : code_of i rest ≡ answer_code code (home t) w
-          code_is = ap (λ z. code_by_kind z (answer_code code (home t) w) (conversion_code (is_signed aty) (home a) (home t) a.bytes w)) fx
+          code_is =
+              ap (λ z. code_by_kind z (answer_code code (home t) w) (code_by_kind (is_pointer aty)
+              (pointer_conversion aty (home a) (home t) a.bytes t.bytes w)
+              (conversion_code (is_signed aty) (home a) (home t) a.bytes w))) fx
 
           more : (u : ℕ) → u ≢ t.at → need u ≤ needs at (i ∷ rest) u
           more u d = let x = without_other t.at u need d in let z = least_other a.at ka u (without t.at need) in omega arith
@@ -1198,8 +1639,11 @@ module _ (p : PlainProgram) (functions : List PlainIrFunction) (e : Env) (slots 
           by_need : (x : Bool) → (w == 0) ≡ x → G (suc n) m.state.work pc v (R (suc n) rest m1)
           by_need true z =
               let empty : code_of i rest ≡ [] = code_is ∙ ap (λ x. if x then [] else code ++ copy_code answer_location (home t) w) z in
-              let go = nothing_passes i t (low_bytes t.bytes number.number) c rest n pc (needs at (i ∷ rest)) m v k.result empty (eqb-true w 0 z) (low_below t.bytes number.number) stands more h f in
-              subst (λ (x : Value). G (suc n) m.state.work pc v (R (suc n) rest (machine (with_temp t x m.temps) st))) (sym number.result) go
+              let go =
+              nothing_passes i t (low_bytes t.bytes number.number) c rest n pc (needs at (i ∷ rest)) m v k.result empty
+              (eqb-true w 0 z) (low_below t.bytes number.number) stands more h f in
+              subst (λ (x : Value). G (suc n) m.state.work pc v (R (suc n) rest (machine (with_temp t x m.temps) st)))
+              (sym number.result) go
           by_need false z =
               let parts = has_parts e (code_of i rest) (items rest) pc end stands in
               let there : HasAt e (answer_code code (home t) w) pc parts.0 = subst (λ x. HasAt e x pc parts.0) code_is parts.1 in
@@ -1208,16 +1652,30 @@ module _ (p : PlainProgram) (functions : List PlainIrFunction) (e : Env) (slots 
               let some = k.result.some in
               let most = k.result.most in
               let need0 = needs at (i ∷ rest) in
-              let least_a : all_or_none a.bytes w ≤ need0 a.at = subst (λ (x : Bool). only_wanted x a.bytes w ≤ need0 a.at) fx (least_here a.at ka (without t.at need)) in
-              let x_is : value v.at (base a) (scalar_size aty) ≡ low = all_there a w low (scalar_size aty) need0 m v k.from k.from_bytes z least_a qa h in
-              let slots1 = subst (λ (x : ℕ). AreOperandSlots e (home a) answer_location work_location x size (base a) (y.work + 40) y.work) k.from_bytes (operand_slots_of p e slots home base place y a size k.from (omega arith) (omega arith)) in
+              let least_a : all_or_none a.bytes w ≤ need0 a.at = subst (λ (x : Bool). only_wanted x a.bytes w ≤ need0 a.at) wx
+              (least_here a.at ka (without t.at need)) in
+              let x_is : value v.at (base a) (scalar_size aty) ≡ low =
+              all_there a w low (scalar_size aty) need0 m v k.from k.from_bytes z least_a qa h in
+              let slots1 =
+              subst
+              (λ (x : ℕ). AreOperandSlots e (home a) answer_location work_location x size (base a) (y.work + 40) y.work) k.from_bytes
+              (operand_slots_of p e slots home base place y a size k.from (omega arith) (omega arith)) in
               let holds = IsConversionResult ty mode aty (value v.at (base a) (scalar_size aty)) in
-              let run = λ (mid : ℕ) (u : HasAt e code pc mid). y.fixed.conversions ty aty mode e (home a) answer_location work_location (base a) (y.work + 40) y.work pc mid v k.types slots1 h.bytes u in
+              let run =
+              λ (mid : ℕ) (u : HasAt e code pc mid). y.fixed.conversions ty aty mode e (home a) answer_location work_location (base a)
+              (y.work + 40) y.work pc mid v k.types slots1 h.bytes u in
               let room = conversion_roomy ty aty in
-              answer_passes p e slots home base place y code (64 * conversion_room ty aty) size c (suc n) pc parts.0 t need need0 m v (R (suc n) rest m1) holds k.result same h more z there run (omega (arith, room, same))
+              answer_passes p e slots home base place y code (64 * conversion_room ty aty) size c (suc n) pc parts.0 t need need0 m v
+              (R (suc n) rest m1) holds k.result same h more z there run (omega (arith, room, same))
               (λ result v2 g matches.
               let content : content_of t.bytes r ≡ bits result =
-              ap (λ s. content_of s r) k.result_bytes ∙ g (operand low) r (record { type_is = refl; value_is = ap (λ x. value_in aty (bits x)) x_is ∙ value_is aty low (fixed_numeric aty known.operand) }) q in
+              ap (λ s. content_of s r) k.result_bytes
+              ∙ g (operand low) r
+              (record {
+                type_is = refl;
+                value_is = ap (λ x. value_in aty (bits x)) x_is
+                    ∙ value_is aty low (fixed_numeric aty known.operand);
+              }) q in
               f parts.0 m1 v2 parts.2 (subst (λ (x : Content). M need (machine (with_content t x m.temps) st) v2) (sym content) matches))
 
   -- ---- unary operators
@@ -1259,11 +1717,14 @@ module _ (p : PlainProgram) (functions : List PlainIrFunction) (e : Env) (slots 
       let below : low < 256 ^ a.bytes = (h.temps_hold a _ ia q refl).1 in
       let g = turns op mode s a.bytes low below in
       let m1 = after_operator t (low_bytes t.bytes g.number) c m in
-      let matches : M need (after_operator t (turned op t.bytes low) c m) (block e (code_of i rest) v) = unary_matches p e slots home base place y op t a need m v c low it ia same q h in
+      let matches : M need (after_operator t (turned op t.bytes low) c m) (block e (code_of i rest) v) =
+      unary_matches p e slots home base place y op t a need m v c low it ia same q h in
       let number : low_bytes t.bytes g.number ≡ turned op t.bytes low = subst (λ b. low_bytes b g.number ≡ turned op b low) same g.low in
-      let matches1 : M need m1 (block e (code_of i rest) v) = subst (λ r. M need (after_operator t r c m) (block e (code_of i rest) v)) (sym number) matches in
+      let matches1 : M need m1 (block e (code_of i rest) v) =
+      subst (λ r. M need (after_operator t r c m) (block e (code_of i rest) v)) (sym number) matches in
       subst (λ r. G (suc n) m.state.work pc v (next (given r st) (λ u s3. R (suc n) rest (machine (with_temp t u m.temps) s3)))) (sym g.is)
-      (passes i rest (suc n) (suc n) m.state.work m1.state.work pc v (R (suc n) rest m1) stands (unary_straight op (home a) (home t) k) (omega arith) (omega (arith, take, big))
+      (passes i rest (suc n) (suc n) m.state.work m1.state.work pc v (R (suc n) rest m1) stands (unary_straight op (home a) (home t) k)
+      (omega arith) (omega (arith, take, big))
       (λ mid u. f mid m1 _ u matches1)))
 
   pub unary_follows : (op : UnOp) (ty : PlainType) (mode : Mode) (t a : Temp) (rest : List PlainIr) (n pc : ℕ) (m : Mach)
@@ -1276,8 +1737,11 @@ module _ (p : PlainProgram) (functions : List PlainIrFunction) (e : Env) (slots 
       (λ (k : IsUnary slots t a ty).
       let same = k.same_bytes in
       let type : ty ≡ integer k.signed a.bytes = k.result_type ∙ ap (integer k.signed) (sym same) in
-      let done = λ (x : PlainType). HasAt e (items (unary_op op x mode t a ∷ rest)) pc end → M (needs at (unary_op op x mode t a ∷ rest)) m v → G (suc n) m.state.work pc v (R (suc n) (unary_op op x mode t a ∷ rest) m) in
-      subst done (sym type) (λ stand needed. unary_of_numbers op k.signed mode t a rest n pc m v k.result k.operand same stand needed f) stands h)
+      let done =
+      λ (x : PlainType). HasAt e (items (unary_op op x mode t a ∷ rest)) pc end → M (needs at (unary_op op x mode t a ∷ rest)) m v
+      → G (suc n) m.state.work pc v (R (suc n) (unary_op op x mode t a ∷ rest) m) in
+      subst done (sym type)
+      (λ stand needed. unary_of_numbers op k.signed mode t a rest n pc m v k.result k.operand same stand needed f) stands h)
       (λ (k : IsFixedUnary slots op t a ty). fixed_unary_follows op ty mode t a rest n pc m v k stands h f)
       covered
 
@@ -1291,7 +1755,10 @@ module _ (p : PlainProgram) (functions : List PlainIrFunction) (e : Env) (slots 
       wide : bytes ≤ widest (integer signed bytes ∷ integer from other ∷ [])
       wide = omega arith
 
-      by_kind : (x : Bool) → 3 + 3 * n ≤ 64 * (if x || true then 10 * widest (integer signed bytes ∷ integer from other ∷ []) else 100 + 40 * widest (integer signed bytes ∷ integer from other ∷ []))
+      by_kind : (x : Bool)
+          → 3 + 3 * n ≤ 64 *
+          (if x || true then 10 * widest (integer signed bytes ∷ integer from other ∷ []) else 100 + 40 * widest
+          (integer signed bytes ∷ integer from other ∷ []))
       by_kind true = omega (arith, wide, some, l)
       by_kind false = omega (arith, wide, some, l)
 
@@ -1315,8 +1782,10 @@ module _ (p : PlainProgram) (functions : List PlainIrFunction) (e : Env) (slots 
       let z = number_of_bytes s1 a.bytes low in
       let m1 = after_operator t (low_bytes t.bytes (wrapped (record { signed = s; bytes = t.bytes }) z)) c m in
       let matches = conversion_matches p e slots home base place y s1 t a need m v c low it ia q h in
-      let matches1 : M need m1 (block e (code_of i rest) v) = subst (λ r. M need (after_operator t r c m) (block e (code_of i rest) v)) (sym (low_of_wrapped s t.bytes z)) matches in
-      passes i rest (suc n) (suc n) m.state.work m1.state.work pc v (R (suc n) rest m1) stands (conversion_straight s1 (home a) (home t) a.bytes k) (omega arith) (omega (arith, take, big))
+      let matches1 : M need m1 (block e (code_of i rest) v) =
+      subst (λ r. M need (after_operator t r c m) (block e (code_of i rest) v)) (sym (low_of_wrapped s t.bytes z)) matches in
+      passes i rest (suc n) (suc n) m.state.work m1.state.work pc v (R (suc n) rest m1) stands
+      (conversion_straight s1 (home a) (home t) a.bytes k) (omega arith) (omega (arith, take, big))
       (λ mid u. f mid m1 _ u matches1))
 
   pub conversion_follows : (t : Temp) (ty : PlainType) (mode : Mode) (a : Temp) (aty : PlainType) (rest : List PlainIr)
@@ -1327,110 +1796,25 @@ module _ (p : PlainProgram) (functions : List PlainIrFunction) (e : Env) (slots 
   conversion_follows t ty mode a aty rest n pc m v covered stands h f =
       ⊎_elim
       (λ (k : AreConverted slots t a ty aty).
-      let done = λ (x z : PlainType). HasAt e (items (conversion t x mode a z ∷ rest)) pc end → M (needs at (conversion t x mode a z ∷ rest)) m v → G (suc n) m.state.work pc v (R (suc n) (conversion t x mode a z ∷ rest) m) in
+      let done =
+      λ (x z : PlainType). HasAt e (items (conversion t x mode a z ∷ rest)) pc end → M (needs at (conversion t x mode a z ∷ rest)) m v
+      → G (suc n) m.state.work pc v (R (suc n) (conversion t x mode a z ∷ rest) m) in
       subst (λ x. done x aty) (sym k.result_type)
       (subst (λ x. done (integer k.signed t.bytes) x) (sym k.from_type)
       (λ stand needed. conversion_of_numbers k.signed k.from_signed mode t a rest n pc m v k.result k.from stand needed f)) stands h)
+      (λ i. ⊎_elim
       (λ (k : IsFixedConversion slots t a ty aty). fixed_conversion_follows t ty mode a aty rest n pc m v k stands h f)
+      (λ (k : IsPointerConversion slots t a ty aty).
+      pointer_conversion_follows p functions e slots home base place y at all end results me link stack t ty mode a aty rest n
+      pc m v k stands h f)
+      i)
       covered
-
-  -- ---- accesses
-
-  -- the state when an operation begins, whose steps are counted
-  abbrev begun : PlainIr → Mach → State
-  begun i m = worked (op_steps i) m.state
-
-  abbrev access_in : (o offset bytes : ℕ) → HasNumberAt p o offset bytes → ObjectState → Access
-  access_in o offset bytes l x =
-      record { object = o; leaf = l.number; space = l.declared.space; declared = l.declared; state = x }
-
-  -- how a load and a store go on
-  abbrev load_on : ℕ → List PlainIr → Temp → Mach → Value → State → Outcome Value
-  load_on n rest t m x s1 = R n rest (machine (with_temp t x m.temps) s1)
-
-  abbrev store_on : ℕ → List PlainIr → Mach → Value → State → Outcome Value
-  store_on n rest m x s1 = R n rest (machine m.temps s1)
-
-  pub load_follows : (t : Temp) (o offset : ℕ) (l : HasNumberAt p o offset t.bytes) (rest : List PlainIr) (n pc : ℕ)
-      (m : Mach) (v : View) → HasHome slots t → HasAt e (items (load_object t o offset ∷ rest)) pc end
-      → M (without t.at (needs at rest)) m v → Rest n rest
-      → G (suc n) m.state.work pc v (R (suc n) (load_object t o offset ∷ rest) m)
-  load_follows t o offset l rest n pc m v it stands h f = at_object (slice_get m.state.objects o) refl
-    where
-      at_value : (x : ObjectState) → slice_get m.state.objects o ≡ Some x → (u : Value) → leaf_of x l.number ≡ Some u
-          → HoldsLeaf v.at (place o + offset) t.bytes u
-          → G (suc n) m.state.work pc v (next (read_value p (access_in o offset t.bytes l x) (Some u) (begun (load_object t o offset) m)) (load_on n rest t m))
-      at_value x q (Number i) w k =
-          let copies = copy_steps (object_location p.objects o offset) (home t) t.bytes in
-          let some = it.some in
-          let s1 = after_read p e slots home base place y o offset t.bytes l i (begun (load_object t o offset) m) in
-          let m1 = machine (with_content t (bits (low_bytes t.bytes i)) m.temps) s1 in
-          let work : s1.work ≡ m.state.work + op_steps (load_object t o offset) = recorded_work l.declared.storage _ (begun (load_object t o offset) m) in
-          let small : code_steps (code_of (load_object t o offset) rest) ≤ 64 * (5 * t.bytes) = omega (arith, copies.1) in
-          passes (load_object t o offset) rest n (suc n) m.state.work m1.state.work pc v (R n rest m1) stands (copy_straight (object_location p.objects o offset) (home t) t.bytes) (omega (arith, copies.0, some)) (omega (arith, small, work))
-          (λ mid u. f mid m1 _ u (load_matches p e slots home base place y t o offset l (needs at rest) m v (op_steps (load_object t o offset)) i x it q w h))
-      at_value x q (Pointer z) w k = absurd k
-
-      at_leaf : (x : ObjectState) → slice_get m.state.objects o ≡ Some x → (z : Option Value) → leaf_of x l.number ≡ z
-          → G (suc n) m.state.work pc v (next (read_value p (access_in o offset t.bytes l x) z (begun (load_object t o offset) m)) (load_on n rest t m))
-      at_leaf x q None w = tt
-      at_leaf x q (Some u) w = at_value x q u w (h.leaves_hold (leaf_with p o offset t.bytes l) x u q w)
-
-      at_object : (z : Option ObjectState) → slice_get m.state.objects o ≡ z
-          → G (suc n) m.state.work pc v (next (read p (object_access p None o offset (begun (load_object t o offset) m)) (begun (load_object t o offset) m)) (load_on n rest t m))
-      at_object None q =
-          let a : object_access p None o offset (begun (load_object t o offset) m) ≡ None = rw (l.is_object, q) refl in
-          subst (λ z. G (suc n) m.state.work pc v (next (read p z (begun (load_object t o offset) m)) (load_on n rest t m))) (sym a) tt
-      at_object (Some x) q =
-          let a : object_access p None o offset (begun (load_object t o offset) m) ≡ Some (access_in o offset t.bytes l x) = rw (l.is_object, q, l.found) refl in
-          subst (λ z. G (suc n) m.state.work pc v (next (read p z (begun (load_object t o offset) m)) (load_on n rest t m))) (sym a) (at_leaf x q (leaf_of x l.number) refl)
-
-  pub store_follows : (t : Temp) (o offset : ℕ) (l : HasNumberAt p o offset t.bytes) (rest : List PlainIr) (n pc : ℕ)
-      (m : Mach) (v : View) → HasHome slots t → HasAt e (items (store_object o offset t ∷ rest)) pc end
-      → M (at_least t.at t.bytes (needs at rest)) m v → Rest n rest
-      → G (suc n) m.state.work pc v (R (suc n) (store_object o offset t ∷ rest) m)
-  store_follows t o offset l rest n pc m v it stands h f = at_object (slice_get m.state.objects o) refl
-    where
-      put_is : (x : ObjectState) (u : Value) → put_leaf (Some (access_in o offset t.bytes l x)) u (begun (store_object o offset t) m) ≡ got u (stored (access_in o offset t.bytes l x) u (begun (store_object o offset t) m))
-      put_is x u = rw (l.in_data) refl
-
-      at_number : (x : ObjectState) (low : ℕ) → m.temps t.at ≡ Some (record { bytes = t.bytes; content = bits low })
-          → G (suc n) m.state.work pc v (next (put_leaf (Some (access_in o offset t.bytes l x)) (Number (number_of_bytes (sign_in l.ty) t.bytes low)) (begun (store_object o offset t) m)) (store_on n rest m))
-      at_number x low q =
-          let i = number_of_bytes (sign_in l.ty) t.bytes low in
-          let copies = copy_steps (home t) (object_location p.objects o offset) t.bytes in
-          let some = it.some in
-          let s1 = after_write p e slots home base place y o offset t.bytes l i (begun (store_object o offset t) m) in
-          let m1 = machine m.temps s1 in
-          let work : s1.work ≡ m.state.work + op_steps (store_object o offset t) = recorded_work l.declared.storage _ _ in
-          let small : code_steps (code_of (store_object o offset t) rest) ≤ 64 * (5 * t.bytes) = omega (arith, copies.1) in
-          let below : low < 256 ^ t.bytes = (h.temps_hold t _ it q refl).1 in
-          subst (λ z. G (suc n) m.state.work pc v (next z (store_on n rest m))) (sym (put_is x (Number i)))
-          (passes (store_object o offset t) rest n (suc n) m.state.work m1.state.work pc v (R n rest m1) stands (copy_straight (home t) (object_location p.objects o offset) t.bytes) (omega (arith, copies.0, some)) (omega (arith, small, work))
-          (λ mid u. f mid m1 _ u (store_matches p e slots home base place y t o offset l (needs at rest) m v (op_steps (store_object o offset t)) low i it q (low_of_number (sign_in l.ty) t.bytes low below) h)))
-
-      at_access : (x : ObjectState) → G (suc n) m.state.work pc v (next (put p (Some (access_in o offset t.bytes l x)) t m.temps (begun (store_object o offset t) m)) (store_on n rest m))
-      at_access x =
-          let ty : accessed_type p (Some (access_in o offset t.bytes l x)) ≡ l.ty = rw (l.is_leaf) refl in
-          subst (λ z. G (suc n) m.state.work pc v (next (next (held_as z t m.temps (begun (store_object o offset t) m)) (λ u s1. put_leaf (Some (access_in o offset t.bytes l x)) u s1)) (store_on n rest m))) (sym ty)
-          (subst (λ z. G (suc n) m.state.work pc v z) (sym (next_next (held_as l.ty t m.temps (begun (store_object o offset t) m)) (λ u s1. put_leaf (Some (access_in o offset t.bytes l x)) u s1) (store_on n rest m)))
-          (from_numeric p place e l.ty t m.temps (begun (store_object o offset t) m) (λ u s1. next (put_leaf (Some (access_in o offset t.bytes l x)) u s1) (store_on n rest m)) (suc n) m.state.work pc v l.is_number l.size (at_number x)))
-
-      at_object : (z : Option ObjectState) → slice_get m.state.objects o ≡ z
-          → G (suc n) m.state.work pc v (next (put p (object_access p None o offset (begun (store_object o offset t) m)) t m.temps (begun (store_object o offset t) m)) (store_on n rest m))
-      at_object None q =
-          let a : object_access p None o offset (begun (store_object o offset t) m) ≡ None = rw (l.is_object, q) refl in
-          subst (λ z. G (suc n) m.state.work pc v (next (put p z t m.temps (begun (store_object o offset t) m)) (store_on n rest m))) (sym a)
-          (subst (λ z. G (suc n) m.state.work pc v z) (sym (next_next (held_as void t m.temps (begun (store_object o offset t) m)) (λ u s1. put_leaf None u s1) (store_on n rest m)))
-          (from_nothing p place e t m.temps (begun (store_object o offset t) m) (λ u s1. next (put_leaf None u s1) (store_on n rest m)) (suc n) m.state.work pc v))
-      at_object (Some x) q =
-          let a : object_access p None o offset (begun (store_object o offset t) m) ≡ Some (access_in o offset t.bytes l x) = rw (l.is_object, q, l.found) refl in
-          subst (λ z. G (suc n) m.state.work pc v (next (put p z t m.temps (begun (store_object o offset t) m)) (store_on n rest m))) (sym a) (at_access x)
 
   -- ---- ports
 
   -- the bytes of a port have been accessed where the run goes on, so they are ports of the machine
-  on_machine : (n : ℕ) (rest : List PlainIr) (temps : Temps) (s : State) → are_on_ports e (state_of (R n rest (machine temps s))).events ≡ true
+  on_machine : (n : ℕ) (rest : List PlainIr) (temps : Temps) (s : State) → are_on_ports e (state_of (R n rest (machine temps s))).events
+      ≡ true
       → are_on_ports e s.events ≡ true
   on_machine n rest temps s q =
       ports_before e s (state_of (R n rest (machine temps s))) (exec_adds functions p y.inputs n all stack rest (machine temps s)).events q
@@ -1449,7 +1833,8 @@ module _ (p : PlainProgram) (functions : List PlainIrFunction) (e : Env) (slots 
       → M (index_needed index (without t.at (needs at rest))) m v → Rest n rest
       → G (suc n) m.state.work pc v (R (suc n) (port_in t port index width ∷ rest) m)
   in_follows t port index width rest n pc m v is stands h f =
-      from_element p place e index port width m.temps s (λ a s1. next (port_read y.inputs a width s1) (in_on n rest t m)) (suc n) m.state.work pc v
+      from_element p place e index port width m.temps s (λ a s1. next (port_read y.inputs a width s1) (in_on n rest t m))
+      (suc n) m.state.work pc v
       (λ a element. by_place a element (nat_le (a + width) 256) refl)
     where
       s : State
@@ -1459,7 +1844,8 @@ module _ (p : PlainProgram) (functions : List PlainIrFunction) (e : Env) (slots 
       some = some_width width is.one_two_four
 
       m1 : ℕ → Mach
-      m1 a = machine (with_content t (bits (low_bytes t.bytes (pos (number_read y.inputs width a s)))) m.temps) (bytes_read y.inputs width a s)
+      m1 a =
+          machine (with_content t (bits (low_bytes t.bytes (pos (number_read y.inputs width a s)))) m.temps) (bytes_read y.inputs width a s)
 
       found : (a : ℕ) → IsElement index port width a m.temps → a + width ≤ 256
           → G (suc n) m.state.work pc v (R n rest (m1 a))
@@ -1467,18 +1853,30 @@ module _ (p : PlainProgram) (functions : List PlainIrFunction) (e : Env) (slots 
           with_ports p place e (suc n) m.state.work pc v (R n rest (m1 a))
           (λ ports.
           let need0 = index_needed index (without t.at (needs at rest)) in
-          let point = points_at p e slots home base place y index port width a need0 m v is.index_has (needs_index p e slots home base place y index (without t.at (needs at rest))) is.one_two_four below some element h in
+          let point =
+          points_at p e slots home base place y index port width a need0 m v is.index_has
+          (needs_index p e slots home base place y index (without t.at (needs at rest))) is.one_two_four below some element h in
           let kinds = kinds_read e y.inputs width a s (on_machine n rest (m1 a).temps (m1 a).state ports) in
-          let more : (u : ℕ) → u ≢ t.at → needs at rest u ≤ need0 u = λ u d. (let x = without_other t.at u (needs at rest) d in let z = index_other p e slots home base place y index (without t.at (needs at rest)) u in omega (arith, x, z)) in
-          let matches = in_matches p e slots home base place y index t port width a (op_steps (port_in t port index width)) (needs at rest) need0 m v is.number is.within some below kinds more h point in
+          let more : (u : ℕ) → u ≢ t.at → needs at rest u ≤ need0 u =
+          λ u d.
+          (let x = without_other t.at u (needs at rest) d in let z = index_other p e slots home base place y index
+          (without t.at (needs at rest)) u in omega (arith, x, z)) in
+          let matches =
+          in_matches p e slots home base place y index t port width a (op_steps (port_in t port index width))
+          (needs at rest) need0 m v is.number is.within some below kinds more h point in
           let take = in_steps (option_map home index) (home t) port width (wanted (needs at rest) t) in
           let most = wanted_most (needs at rest) t in
           let work = read_work y.inputs width a s in
-          passes (port_in t port index width) rest n (suc n) m.state.work (m1 a).state.work pc v (R n rest (m1 a)) stands (in_straight (option_map home index) (home t) port width (wanted (needs at rest) t)) (omega (arith, take.0, some)) (omega (arith, take.1, most, some, work))
+          passes (port_in t port index width) rest n (suc n) m.state.work (m1 a).state.work pc v (R n rest (m1 a)) stands
+          (in_straight (option_map home index) (home t) port width (wanted (needs at rest) t)) (omega (arith, take.0, some))
+          (omega (arith, take.1, most, some, work))
           (λ mid u. f mid (m1 a) _ u matches))
 
       by_place : (a : ℕ) → IsElement index port width a m.temps → (b : Bool) → nat_le (a + width) 256 ≡ b
-          → G (suc n) m.state.work pc v (next (if b then got (Number (pos (number_read y.inputs width a s))) (bytes_read y.inputs width a s) else undefined BufferIndex s) (in_on n rest t m))
+          → G (suc n) m.state.work pc v
+          (next
+          (if b then got (Number (pos (number_read y.inputs width a s))) (bytes_read y.inputs width a s) else undefined BufferIndex s)
+          (in_on n rest t m))
       by_place a element true q = found a element (leb-true (a + width) 256 q)
       by_place a element false q = tt
 
@@ -1490,8 +1888,10 @@ module _ (p : PlainProgram) (functions : List PlainIrFunction) (e : Env) (slots 
       → M (at_least t.at width (index_needed index (needs at rest))) m v → Rest n rest
       → G (suc n) m.state.work pc v (R (suc n) (port_out t port index width ∷ rest) m)
   out_follows t port index width rest n pc m v is stands h f =
-      from_element p place e index port width m.temps s (λ a s1. next (held_number t m.temps s1) (λ low s2. next (port_written a width low s2) (out_on n rest m))) (suc n) m.state.work pc v
-      (λ a element. from_bytes p place e t m.temps s (λ low s2. next (port_written a width low s2) (out_on n rest m)) (suc n) m.state.work pc v
+      from_element p place e index port width m.temps s
+      (λ a s1. next (held_number t m.temps s1) (λ low s2. next (port_written a width low s2) (out_on n rest m))) (suc n) m.state.work pc v
+      (λ a element. from_bytes p place e t m.temps s (λ low s2. next (port_written a width low s2) (out_on n rest m))
+      (suc n) m.state.work pc v
       (λ low holds. by_place a element low holds (nat_le (a + width) 256) refl))
     where
       s : State
@@ -1510,19 +1910,31 @@ module _ (p : PlainProgram) (functions : List PlainIrFunction) (e : Env) (slots 
           with_ports p place e (suc n) m.state.work pc v (R n rest (m1 a low))
           (λ ports.
           let need0 = at_least t.at width (index_needed index (needs at rest)) in
-          let needed = needs_index_too p e slots home base place y index t.at width (index_needed index (needs at rest)) (needs_index p e slots home base place y index (needs at rest)) in
-          let point = points_at p e slots home base place y index port width a need0 m v is.index_has needed is.one_two_four below some element h in
+          let needed =
+          needs_index_too p e slots home base place y index t.at width (index_needed index (needs at rest))
+          (needs_index p e slots home base place y index (needs at rest)) in
+          let point =
+          points_at p e slots home base place y index port width a need0 m v is.index_has needed is.one_two_four below some element h in
           let kinds = kinds_written e width a low s (on_machine n rest m.temps (m1 a low).state ports) in
-          let less : (u : ℕ) → needs at rest u ≤ need0 u = λ u. (let x = least_other t.at width u (index_needed index (needs at rest)) in let z = index_other p e slots home base place y index (needs at rest) u in omega (arith, x, z)) in
-          let matches = out_matches p e slots home base place y index t port width a (op_steps (port_out t port index width)) low (needs at rest) need0 m v is.number is.within below kinds (least_here t.at width (index_needed index (needs at rest))) less holds h point in
+          let less : (u : ℕ) → needs at rest u ≤ need0 u =
+          λ u.
+          (let x = least_other t.at width u
+          (index_needed index (needs at rest)) in let z = index_other p e slots home base place y index (needs at rest) u in omega
+          (arith, x, z)) in
+          let matches =
+          out_matches p e slots home base place y index t port width a (op_steps (port_out t port index width)) low
+          (needs at rest) need0 m v is.number is.within below kinds
+          (least_here t.at width (index_needed index (needs at rest))) less holds h point in
           let take = out_steps (option_map home index) (home t) port width in
           let work = written_work width a low s in
-          passes (port_out t port index width) rest n (suc n) m.state.work (m1 a low).state.work pc v (R n rest (m1 a low)) stands (out_straight (option_map home index) (home t) port width) (omega (arith, take.0, some)) (omega (arith, take.1, some, work))
+          passes (port_out t port index width) rest n (suc n) m.state.work (m1 a low).state.work pc v (R n rest (m1 a low)) stands
+          (out_straight (option_map home index) (home t) port width) (omega (arith, take.0, some)) (omega (arith, take.1, some, work))
           (λ mid u. f mid (m1 a low) _ u matches))
 
       by_place : (a : ℕ) → IsElement index port width a m.temps → (low : ℕ)
           → m.temps t.at ≡ Some (record { bytes = t.bytes; content = bits low }) → (b : Bool) → nat_le (a + width) 256 ≡ b
-          → G (suc n) m.state.work pc v (next (if b then got (Number (pos low)) (bytes_written width a low s) else undefined BufferIndex s) (out_on n rest m))
+          → G (suc n) m.state.work pc v
+          (next (if b then got (Number (pos low)) (bytes_written width a low s) else undefined BufferIndex s) (out_on n rest m))
       by_place a element low holds true q = found a element low holds (leb-true (a + width) 256 q)
       by_place a element low holds false q = tt
 
@@ -1537,7 +1949,8 @@ module _ (p : PlainProgram) (functions : List PlainIrFunction) (e : Env) (slots 
   onward : (told : Option Told) (i : PlainIr) (ops : List PlainIr) (pc : ℕ) → HasAt e (items_told told (i ∷ ops)) pc end
       → (mid : ℕ) × HasAt e (items_told (tells_next at i ops) ops) mid end
   onward told i ops pc stands =
-      let s = has_parts e (op_code p.objects home link told (tells_next at i ops) (needs at ops) i) (items_told (tells_next at i ops) ops) pc end stands in
+      let s = has_parts e (op_code p home link told (tells_next at i ops) (needs at ops) i) (items_told (tells_next at i ops) ops) pc
+      end stands in
       (s.0, s.2)
 
   -- operations of which the first one may have been told something
@@ -1547,7 +1960,8 @@ module _ (p : PlainProgram) (functions : List PlainIrFunction) (e : Env) (slots 
     inside : (b : ℕ) → Contains (called_in rest) b → Contains (called_in all) b
     stands : HasAt e (items_told told rest) pc end
 
-  found : (told : Option Told) (ops : List PlainIr) (pc l : ℕ) (rest : List PlainIr) → Walked told pc ops → find l ops ≡ Some rest → Target l rest
+  found : (told : Option Told) (ops : List PlainIr) (pc l : ℕ) (rest : List PlainIr) → Walked told pc ops → find l ops ≡ Some rest
+      → Target l rest
   found told [] pc l rest r f = absurd (cc)
   found told (label k ∷ ops) pc l rest r f =
       let s = r.stands in
@@ -1557,32 +1971,89 @@ module _ (p : PlainProgram) (functions : List PlainIrFunction) (e : Env) (slots 
       let h : Some ops ≡ Some rest = (rw q at g) in
       let o : ops ≡ rest = cc in
       let i = eqb-true k l q in
-      let here : e.word_of (link.label_of l) < 65536 → e.word_of (link.label_of k) ≡ pc = λ w. s.1.0 (subst (λ n. e.word_of (link.label_of n) < 65536) (sym i) w) in
-      let stands : e.word_of (link.label_of l) < 65536 → HasAt e (items ops) (e.word_of (link.label_of l)) end = λ w. subst (λ n. HasAt e (items ops) n end) (s.1.1 ∙ sym (here w) ∙ ap (λ n. e.word_of (link.label_of n)) i) s.2 in
+      let here : e.word_of (link.label_of l) < 65536 → e.word_of (link.label_of k) ≡ pc =
+      λ w. s.1.0 (subst (λ n. e.word_of (link.label_of n) < 65536) (sym i) w) in
+      let stands : e.word_of (link.label_of l) < 65536 → HasAt e (items ops) (e.word_of (link.label_of l)) end =
+      λ w. subst (λ n. HasAt e (items ops) n end) (s.1.1 ∙ sym (here w) ∙ ap (λ n. e.word_of (link.label_of n)) i) s.2 in
       let needed : (u : ℕ) → needs at ops u ≤ at l u = λ u. subst (λ n. needs at ops u ≤ at n u) i (r.live.0 u) in
-      subst (λ x. Target l x) o (record { ready = λ w. record { covered = r.covered.1; live = r.live.1; inside = r.inside; stands = stands w }; needed = needed }))
+      subst (λ x. Target l x) o
+      (record { ready = λ w. record { covered = r.covered.1; live = r.live.1; inside = r.inside; stands = stands w }; needed = needed }))
       (λ q.
       let g : (if k == l then Some ops else find l ops) ≡ Some rest = f in
       let h : find l ops ≡ Some rest = (rw q at g) in
       found None ops s.0 l rest (record { covered = r.covered.1; live = r.live.1; inside = r.inside; stands = s.2 }) h)
       (cases_Bool (k == l))
-  found told (constant t k ∷ ops) pc l rest r f = let s = onward told (constant t k) ops pc r.stands in found None ops s.0 l rest (record { covered = r.covered.1; live = r.live; inside = r.inside; stands = s.1 }) f
-  found told (copy t u ∷ ops) pc l rest r f = let s = onward told (copy t u) ops pc r.stands in found None ops s.0 l rest (record { covered = r.covered.1; live = r.live; inside = r.inside; stands = s.1 }) f
-  found told (load_object t o offset ∷ ops) pc l rest r f = let s = onward told (load_object t o offset) ops pc r.stands in found None ops s.0 l rest (record { covered = r.covered.1; live = r.live; inside = r.inside; stands = s.1 }) f
-  found told (store_object o offset t ∷ ops) pc l rest r f = let s = onward told (store_object o offset t) ops pc r.stands in found None ops s.0 l rest (record { covered = r.covered.1; live = r.live; inside = r.inside; stands = s.1 }) f
-  found told (binary_op op ty mode t a aty b bty ∷ ops) pc l rest r f = let s = onward told (binary_op op ty mode t a aty b bty) ops pc r.stands in found (tells_next at (binary_op op ty mode t a aty b bty) ops) ops s.0 l rest (record { covered = r.covered.1; live = r.live; inside = r.inside; stands = s.1 }) f
-  found told (conversion t ty mode a aty ∷ ops) pc l rest r f = let s = onward told (conversion t ty mode a aty) ops pc r.stands in found None ops s.0 l rest (record { covered = r.covered.1; live = r.live; inside = r.inside; stands = s.1 }) f
-  found told (jump k ∷ ops) pc l rest r f = let s = onward told (jump k) ops pc r.stands in found None ops s.0 l rest (record { covered = r.covered.1; live = r.live; inside = r.inside; stands = s.1 }) f
-  found told (branch_zero t k ∷ ops) pc l rest r f = let s = onward told (branch_zero t k) ops pc r.stands in found None ops s.0 l rest (record { covered = r.covered.1; live = r.live; inside = r.inside; stands = s.1 }) f
-  found told (return_from t ∷ ops) pc l rest r f = let s = onward told (return_from t) ops pc r.stands in found None ops s.0 l rest (record { covered = r.covered.1; live = r.live; inside = r.inside; stands = s.1 }) f
-  found told (address t o offset ∷ ops) pc l rest r f = absurd r.covered.0
-  found told (field t space offset ∷ ops) pc l rest r f = absurd r.covered.0
-  found told (load_at t u space ∷ ops) pc l rest r f = absurd r.covered.0
-  found told (store_at t space u ∷ ops) pc l rest r f = absurd r.covered.0
-  found told (unary_op op ty mode t a ∷ ops) pc l rest r f = let s = onward told (unary_op op ty mode t a) ops pc r.stands in found None ops s.0 l rest (record { covered = r.covered.1; live = r.live; inside = r.inside; stands = s.1 }) f
-  found told (call_function g t ∷ ops) pc l rest r f = let s = onward told (call_function g t) ops pc r.stands in found None ops s.0 l rest (record { covered = r.covered.1; live = r.live; inside = λ b c. r.inside b (Contains-append_right (g ∷ []) (called_in ops) b c); stands = s.1 }) f
-  found told (port_in t port index width ∷ ops) pc l rest r f = let s = onward told (port_in t port index width) ops pc r.stands in found None ops s.0 l rest (record { covered = r.covered.1; live = r.live; inside = r.inside; stands = s.1 }) f
-  found told (port_out t port index width ∷ ops) pc l rest r f = let s = onward told (port_out t port index width) ops pc r.stands in found None ops s.0 l rest (record { covered = r.covered.1; live = r.live; inside = r.inside; stands = s.1 }) f
+  found told (constant t k ∷ ops) pc l rest r f =
+      let s =
+      onward told (constant t k) ops pc r.stands in found None ops s.0 l rest
+      (record { covered = r.covered.1; live = r.live; inside = r.inside; stands = s.1 }) f
+  found told (copy t u ∷ ops) pc l rest r f =
+      let s =
+      onward told (copy t u) ops pc r.stands in found None ops s.0 l rest
+      (record { covered = r.covered.1; live = r.live; inside = r.inside; stands = s.1 }) f
+  found told (load_object t o offset ∷ ops) pc l rest r f =
+      let s =
+      onward told (load_object t o offset) ops pc r.stands in found None ops s.0 l rest
+      (record { covered = r.covered.1; live = r.live; inside = r.inside; stands = s.1 }) f
+  found told (store_object o offset t ∷ ops) pc l rest r f =
+      let s =
+      onward told (store_object o offset t) ops pc r.stands in found None ops s.0 l rest
+      (record { covered = r.covered.1; live = r.live; inside = r.inside; stands = s.1 }) f
+  found told (binary_op op ty mode t a aty b bty ∷ ops) pc l rest r f =
+      let s =
+      onward told (binary_op op ty mode t a aty b bty) ops pc r.stands in found
+      (tells_next at (binary_op op ty mode t a aty b bty) ops) ops s.0 l rest
+      (record { covered = r.covered.1; live = r.live; inside = r.inside; stands = s.1 }) f
+  found told (conversion t ty mode a aty ∷ ops) pc l rest r f =
+      let s =
+      onward told (conversion t ty mode a aty) ops pc r.stands in found None ops s.0 l rest
+      (record { covered = r.covered.1; live = r.live; inside = r.inside; stands = s.1 }) f
+  found told (jump k ∷ ops) pc l rest r f =
+      let s =
+      onward told (jump k) ops pc r.stands in found None ops s.0 l rest
+      (record { covered = r.covered.1; live = r.live; inside = r.inside; stands = s.1 }) f
+  found told (branch_zero t k ∷ ops) pc l rest r f =
+      let s =
+      onward told (branch_zero t k) ops pc r.stands in found None ops s.0 l rest
+      (record { covered = r.covered.1; live = r.live; inside = r.inside; stands = s.1 }) f
+  found told (return_from t ∷ ops) pc l rest r f =
+      let s =
+      onward told (return_from t) ops pc r.stands in found None ops s.0 l rest
+      (record { covered = r.covered.1; live = r.live; inside = r.inside; stands = s.1 }) f
+  found told (address t o offset ∷ ops) pc l rest r f =
+      let s = onward told (address t o offset) ops pc r.stands in
+      found None ops s.0 l rest (record { covered = r.covered.1; live = r.live; inside = r.inside; stands = s.1 }) f
+  found told (field t space offset ∷ ops) pc l rest r f =
+      let s = onward told (field t space offset) ops pc r.stands in
+      found None ops s.0 l rest (record { covered = r.covered.1; live = r.live; inside = r.inside; stands = s.1 }) f
+  found told (load_at t u space ∷ ops) pc l rest r f =
+      let s = onward told (load_at t u space) ops pc r.stands in
+      found None ops s.0 l rest (record { covered = r.covered.1; live = r.live; inside = r.inside; stands = s.1 }) f
+  found told (store_at t space u ∷ ops) pc l rest r f =
+      let s = onward told (store_at t space u) ops pc r.stands in
+      found None ops s.0 l rest (record { covered = r.covered.1; live = r.live; inside = r.inside; stands = s.1 }) f
+  found told (unary_op op ty mode t a ∷ ops) pc l rest r f =
+      let s =
+      onward told (unary_op op ty mode t a) ops pc r.stands in found None ops s.0 l rest
+      (record { covered = r.covered.1; live = r.live; inside = r.inside; stands = s.1 }) f
+  found told (call_function g t ∷ ops) pc l rest r f =
+      let s =
+      onward told (call_function g t) ops pc r.stands in found None ops s.0 l rest
+      (record {
+        covered = r.covered.1;
+        live = r.live;
+        inside = λ b c. r.inside b
+            (Contains-append_right (g ∷ []) (called_in ops) b c);
+        stands = s.1;
+      }) f
+  found told (port_in t port index width ∷ ops) pc l rest r f =
+      let s =
+      onward told (port_in t port index width) ops pc r.stands in found None ops s.0 l rest
+      (record { covered = r.covered.1; live = r.live; inside = r.inside; stands = s.1 }) f
+  found told (port_out t port index width ∷ ops) pc l rest r f =
+      let s =
+      onward told (port_out t port index width) ops pc r.stands in found None ops s.0 l rest
+      (record { covered = r.covered.1; live = r.live; inside = r.inside; stands = s.1 }) f
 
   -- what is shown from any operation on
   abbrev pub Onward : ℕ → Type 0
@@ -1592,29 +2063,54 @@ module _ (p : PlainProgram) (functions : List PlainIrFunction) (e : Env) (slots 
   -- to a label
   jumps : (start l n c k pc : ℕ) (m : Mach) (v v1 : View) → Ready start all → e.word_of (link.label_of l) < 65536
       → Goes e k pc v (e.word_of (link.label_of l)) v1 → 1 ≤ k → k ≤ c → M (at l) m v1 → Onward n
-      → G (suc n) m.state.work pc v (jump_to (find l all) (λ q u. exec_from functions p y.inputs n q.code q.stack q.rest u) all stack (machine m.temps (worked c m.state)))
+      → G (suc n) m.state.work pc v
+      (jump_to (find l all) (λ q u. exec_from functions p y.inputs n q.code q.stack q.rest u) all stack
+      (machine m.temps (worked c m.state)))
   jumps start l n c k pc m v v1 ready w goes some most h f = by_label (find l all) refl
     where
       by_label : (o : Option (List PlainIr)) → find l all ≡ o
-          → G (suc n) m.state.work pc v (jump_to o (λ q u. exec_from functions p y.inputs n q.code q.stack q.rest u) all stack (machine m.temps (worked c m.state)))
+          → G (suc n) m.state.work pc v
+          (jump_to o (λ q u. exec_from functions p y.inputs n q.code q.stack q.rest u) all stack (machine m.temps (worked c m.state)))
       by_label None q = tt
       by_label (Some rest) q =
-          let g = found None all start l rest (record { covered = ready.covered; live = ready.live; inside = ready.inside; stands = ready.stands }) q in
+          let g =
+          found None all start l rest
+          (record { covered = ready.covered; live = ready.live; inside = ready.inside; stands = ready.stands }) q in
           let m1 = machine m.temps (worked c m.state) in
           let z = weaker p e slots home base place y (at l) (needs at rest) m v1 h g.needed in
-          let matches : M (needs at rest) m1 v1 = record { temps_hold = z.temps_hold; leaves_hold = z.leaves_hold; kept = z.kept; bytes = z.bytes; left = z.left; seen = z.seen; safe = z.safe } in
-          after p place e k n (suc n) m.state.work m1.state.work pc (e.word_of (link.label_of l)) v v1 (R n rest m1) goes (omega arith) (omega arith) (f (e.word_of (link.label_of l)) rest m1 v1 (g.ready w) matches)
+          let matches : M (needs at rest) m1 v1 = record {
+            temps_hold = z.temps_hold;
+            leaves_hold = z.leaves_hold;
+            tables_hold = z.tables_hold;
+            kept = z.kept;
+            bytes = z.bytes;
+            left = z.left;
+            seen = z.seen;
+            safe = z.safe;
+          } in
+          after p place e k n (suc n) m.state.work m1.state.work pc (e.word_of (link.label_of l)) v v1 (R n rest m1) goes (omega arith)
+          (omega arith) (f (e.word_of (link.label_of l)) rest m1 v1 (g.ready w) matches)
 
   pub jump_follows : (start l : ℕ) (rest : List PlainIr) (n pc : ℕ) (m : Mach) (v : View) → Ready start all
       → HasAt e (items (jump l ∷ rest)) pc end → M (at l) m v → Onward n
       → G (suc n) m.state.work pc v (R (suc n) (jump l ∷ rest) m)
   jump_follows start l rest n pc m v ready stands h f =
-      jumps start l n (op_steps (jump l)) 1 pc m v v ready (jump_has_word e (link.label_of l) pc stands.0 stands.1) (jump_goes e (link.label_of l) pc stands.0 v stands.1) (omega arith) (omega arith) h f
+      jumps start l n (op_steps (jump l)) 1 pc m v v ready (jump_has_word e (link.label_of l) pc stands.0 stands.1)
+      (jump_goes e (link.label_of l) pc stands.0 v stands.1) (omega arith) (omega arith) h f
 
   -- the same after an operation that changes neither temporaries nor objects
   again : (need : Need) (m : Mach) (v : View) (c : ℕ) → M need m v → M need (machine m.temps (worked c m.state)) v
   again need m v c z =
-      record { temps_hold = z.temps_hold; leaves_hold = z.leaves_hold; kept = z.kept; bytes = z.bytes; left = z.left; seen = z.seen; safe = z.safe }
+      record {
+        temps_hold = z.temps_hold;
+        leaves_hold = z.leaves_hold;
+        tables_hold = z.tables_hold;
+        kept = z.kept;
+        bytes = z.bytes;
+        left = z.left;
+        seen = z.seen;
+        safe = z.safe;
+      }
 
   -- ---- branches
 
@@ -1622,8 +2118,11 @@ module _ (p : PlainProgram) (functions : List PlainIrFunction) (e : Env) (slots 
   kept_matches : (need : Need) (m : Mach) (v w : View) → KeepsAll v w → M need m v → M need m w
   kept_matches need m v w k h =
       record {
-        temps_hold = λ u x iu q z. (let some = (y.layout.temps_at u iu).clear in same_content v.at w.at (base u) (wanted need u) u.bytes x.content (λ j l. k.same (base u + j) (omega arith) (omega arith)) (h.temps_hold u x iu q z));
-        leaves_hold = λ l x u q z. (let some = (y.layout.leaves_at l).clear in same_leaf v.at w.at (place l.object + l.at) l.bytes u (λ j r. k.same (place l.object + l.at + j) (omega arith) (omega arith)) (h.leaves_hold l x u q z));
+        temps_hold = λ u x iu q z. (let some = (y.layout.temps_at u iu).clear in same_content p place v.at w.at (base u) (wanted need u)
+            u.bytes x.content (λ j l. k.same (base u + j) (omega arith) (omega arith)) (h.temps_hold u x iu q z));
+        leaves_hold = λ l x u q z. (let some = (y.layout.leaves_at l).clear in same_leaf p place v.at w.at (place l.object + l.at)
+            l.bytes u (λ j r. k.same (place l.object + l.at + j) (omega arith) (omega arith)) (h.leaves_hold l x u q z));
+        tables_hold = h.tables_hold;
         kept = λ i q. (let u = y.high i q in k.same i (omega arith) (omega arith)) ∙ h.kept i q;
         bytes = λ i u. rw (k.same i (omega arith) (omega arith)) (h.bytes i u);
         left = kept_left y.inputs m.state v w k.inputs h.left;
@@ -1635,7 +2134,8 @@ module _ (p : PlainProgram) (functions : List PlainIrFunction) (e : Env) (slots 
   tested : (need : Need) (m : Mach) (v : View) (t : Temp) → HasHome slots t → M need m v
       → M need m (block e (test_code (home t) t.bytes) v)
   tested need m v t it h =
-      kept_matches need m v (block e (test_code (home t) t.bytes) v) (tests_keep e (home t) t.bytes (base t) v (y.layout.temps_at t it) h.bytes) h
+      kept_matches need m v (block e (test_code (home t) t.bytes) v)
+      (tests_keep e (home t) t.bytes (base t) v (y.layout.temps_at t it) h.bytes) h
 
   zero_flag : (n : ℕ) → 1 ≤ n → (q : Location) (a : ℕ) (v : View) → StandsFrom e q n a Own → HoldsNumbers v
       → (block e (test_code q n) v).flags.z ≡ from_bool (value v.at a n == 0)
@@ -1647,6 +2147,25 @@ module _ (p : PlainProgram) (functions : List PlainIrFunction) (e : Env) (slots 
 
   either_right : (a b : Need) (u : ℕ) → b u ≤ either a b u
   either_right a b u = omega arith
+
+  -- how a branch goes on
+  abbrev branched : (n l : ℕ) (t : Temp) (rest : List PlainIr) → Mach → Bool → Outcome Value
+  branched n l t rest m is_none =
+      if is_none then jump_to (find l all) (λ q u. exec_from functions p y.inputs n q.code q.stack q.rest u) all stack
+      (machine m.temps (worked (op_steps (branch_zero t l)) m.state))
+      else R n rest (machine m.temps (worked (op_steps (branch_zero t l)) m.state))
+
+  -- the number of a pointer is not 0
+  not_null : (bytes x : ℕ) (q : ObjectPointer) → x ≡ address_number p place bytes q.object q.offset % 256 ^ bytes
+      → IsPointerIn p bytes q → (x == 0) ≡ false
+  not_null bytes x q is known =
+      let places = objects_have_places p e slots y.scratch place y.objects_stand y.tables_stand y.valid in
+      let number = address_is p place places bytes q known.pointed in
+      let below = number_below p place places bytes (Some q) known.size known in
+      let low = address_low p place places q known.pointed in
+      let whole : x ≡ number_of (place_of p place bytes (Some q)) =
+      is ∙ ap (λ k. k % 256 ^ bytes) number ∙ kept_below (number_of (place_of p place bytes (Some q))) (256 ^ bytes) below in
+      ne_eqb x 0 (λ z. absurd (omega (arith, whole, low, z)))
 
   pub branch_follows : (start l : ℕ) (t : Temp) (rest : List PlainIr) (n pc : ℕ) (m : Mach) (v : View)
       → Ready start all → AreCovered p results me slots rest → IsLive at rest
@@ -1670,49 +2189,60 @@ module _ (p : PlainProgram) (functions : List PlainIrFunction) (e : Env) (slots 
       let goes = block_goes e test pc s1.0 v straight s1.1 in
       let take : code_steps test ≤ 1 + 2 * t.bytes = (values_take (home t) 0 0 t.bytes).1 in
       let kept = tested need0 m v t it h in
-      let here : M need m v1 = weaker p e slots home base place y need0 need m v1 kept (λ u. let a = either_left need (at l) u in let b = least_other t.at t.bytes u both in omega (arith, a, b)) in
-      let there : M (at l) m v1 = weaker p e slots home base place y need0 (at l) m v1 kept (λ u. let a = either_right need (at l) u in let b = least_other t.at t.bytes u both in omega (arith, a, b)) in
+      let here : M need m v1 =
+      weaker p e slots home base place y need0 need m v1 kept
+      (λ u. let a = either_left need (at l) u in let b = least_other t.at t.bytes u both in omega (arith, a, b)) in
+      let there : M (at l) m v1 =
+      weaker p e slots home base place y need0 (at l) m v1 kept
+      (λ u. let a = either_right need (at l) u in let b = least_other t.at t.bytes u both in omega (arith, a, b)) in
       from_held p place e t m.temps st _ (suc n) m.state.work pc v
       (λ x q w.
       let content = whole p e slots home base place y both m v t x h it q w in
       by_content s1.0 s1.2.0 goes take s1.2.1 to_end here there x.content content)
     where
-      by_content : (mid to : ℕ)
-          → Goes e (code_steps (test_code (home t) t.bytes)) pc v mid (block e (test_code (home t) t.bytes) v)
-          → code_steps (test_code (home t) t.bytes) ≤ 1 + 2 * t.bytes
-          → BranchesAt e true 1 (link.label_of l) mid to → HasAt e (items rest) to end
-          → M (needs at rest) m (block e (test_code (home t) t.bytes) v)
-          → M (at l) m (block e (test_code (home t) t.bytes) v) → (x : Content)
-          → HoldsContent v.at (base t) t.bytes t.bytes x
-          → G (suc n) m.state.work pc v (if is_zero x then jump_to (find l all) (λ q u. exec_from functions p y.inputs n q.code q.stack q.rest u) all stack (machine m.temps (worked (op_steps (branch_zero t l)) m.state)) else R n rest (machine m.temps (worked (op_steps (branch_zero t l)) m.state)))
-      by_content mid to goes take branch to_end here there (points x) content = absurd content
-      by_content mid to goes take branch to_end here there (bits low) content =
+      test : List AsmItem
+      test = test_code (home t) t.bytes
+
+      by_flag : (mid to : ℕ) → Goes e (code_steps test) pc v mid (block e test v) → code_steps test ≤ 1 + 2 * t.bytes
+          → BranchesAt e true 1 (link.label_of l) mid to → HasAt e (items rest) to end → M (needs at rest) m (block e test v)
+          → M (at l) m (block e test v) → (b : Bool) → (block e test v).flags.z ≡ from_bool b
+          → G (suc n) m.state.work pc v (branched n l t rest m b)
+      by_flag mid to goes take branch to_end here there true set =
           let c = op_steps (branch_zero t l) in
-          let k = code_steps (test_code (home t) t.bytes) in
-          let v1 = block e (test_code (home t) t.bytes) v in
-          let m1 = machine m.temps (worked c m.state) in
-          let number : value v.at (base t) t.bytes ≡ low = content.0 ∙ kept_below low (256 ^ t.bytes) content.1 in
-          let flag : v1.flags.z ≡ from_bool (low == 0) = zero_flag t.bytes it.some (home t) (base t) v (y.layout.temps_at t it) h.bytes ∙ ap (λ x. from_bool (x == 0)) number in
-          ⊎_elim
-          (λ (q : (low == 0) ≡ true).
-          let set : v1.flags.z ≡ 1 = flag ∙ ap from_bool q in
+          let k = code_steps test in
+          let v1 = block e test v in
           let b = branch_taken e true 1 (link.label_of l) mid to v1 refl set branch in
           let least = b.at_least in
           let most = b.at_most in
-          rw q (jumps start l n c (k + b.steps) pc m v v1 ready (branch_has_word e true 1 (link.label_of l) mid to branch) (goes_on_to e k b.steps pc mid (e.word_of (link.label_of l)) v v1 v1 goes b.goes) (omega arith) (omega (arith, take, most)) there f))
-          (λ (q : (low == 0) ≡ false).
-          let clear : v1.flags.z ≡ 0 = flag ∙ ap from_bool q in
+          let all_goes = goes_on_to e k b.steps pc mid (e.word_of (link.label_of l)) v v1 v1 goes b.goes in
+          jumps start l n c (k + b.steps) pc m v v1 ready (branch_has_word e true 1 (link.label_of l) mid to branch) all_goes
+          (omega arith) (omega (arith, take, most)) there f
+      by_flag mid to goes take branch to_end here there false clear =
+          let c = op_steps (branch_zero t l) in
+          let k = code_steps test in
+          let v1 = block e test v in
+          let m1 = machine m.temps (worked c m.state) in
           let b = branch_passed e true 1 (link.label_of l) mid to v1 refl clear branch in
-          rw q (after p place e (k + 1) n (suc n) m.state.work m1.state.work pc to v v1 (R n rest m1) (goes_on_to e k 1 pc mid to v v1 v1 goes b) (omega arith) (omega (arith, take)) (f to rest m1 v1 (record { covered = covered; live = live; inside = inside; stands = to_end }) (again (needs at rest) m v1 c here))))
-          (cases_Bool (low == 0))
+          after p place e (k + 1) n (suc n) m.state.work m1.state.work pc to v v1 (R n rest m1)
+          (goes_on_to e k 1 pc mid to v v1 v1 goes b) (omega arith) (omega (arith, take))
+          (f to rest m1 v1 (record { covered = covered; live = live; inside = inside; stands = to_end })
+          (again (needs at rest) m v1 c here))
+
+      told_by_flag : (block e test v).flags.z ≡ from_bool (value v.at (base t) t.bytes == 0)
+      told_by_flag = zero_flag t.bytes it.some (home t) (base t) v (y.layout.temps_at t it) h.bytes
+
+      by_content : (mid to : ℕ) → Goes e (code_steps test) pc v mid (block e test v) → code_steps test ≤ 1 + 2 * t.bytes
+          → BranchesAt e true 1 (link.label_of l) mid to → HasAt e (items rest) to end → M (needs at rest) m (block e test v)
+          → M (at l) m (block e test v) → (x : Content) → HoldsContent p place v.at (base t) t.bytes t.bytes x
+          → G (suc n) m.state.work pc v (branched n l t rest m (is_zero x))
+      by_content mid to goes take branch to_end here there (points q) content =
+          let some = not_null t.bytes (value v.at (base t) t.bytes) q content.0 content.1 in
+          by_flag mid to goes take branch to_end here there false (told_by_flag ∙ ap from_bool some)
+      by_content mid to goes take branch to_end here there (bits low) content =
+          let number : value v.at (base t) t.bytes ≡ low = content.0 ∙ kept_below low (256 ^ t.bytes) content.1 in
+          by_flag mid to goes take branch to_end here there (low == 0) (told_by_flag ∙ ap (λ x. from_bool (x == 0)) number)
 
   -- ---- a comparison that only the next operation tests
-
-  -- how a branch goes on
-  abbrev branched : (n l : ℕ) (t : Temp) (rest : List PlainIr) → Mach → Bool → Outcome Value
-  branched n l t rest m is_none =
-      if is_none then jump_to (find l all) (λ q u. exec_from functions p y.inputs n q.code q.stack q.rest u) all stack (machine m.temps (worked (op_steps (branch_zero t l)) m.state))
-      else R n rest (machine m.temps (worked (op_steps (branch_zero t l)) m.state))
 
   -- the branch on a truth value that a flag tells: it is taken where the flag is `set`
   told_branch_follows : (start l : ℕ) (t : Temp) (truth set : Bool) (flag : ℕ) (rest : List PlainIr) (n pc to : ℕ) (m : Mach)
@@ -1726,7 +2256,8 @@ module _ (p : PlainProgram) (functions : List PlainIrFunction) (e : Env) (slots 
       from_held p place e t m.temps (worked (op_steps (branch_zero t l)) m.state) _ (suc n) m.state.work pc v
       (λ x q w.
       let same : x.content ≡ bits (low_bytes t.bytes (pos (from_bool truth))) = content_of_held x _ (sym q ∙ holds) in
-      subst (λ c. G (suc n) m.state.work pc v (branched n l t rest m (is_zero c))) (sym (same ∙ ap bits (truth_low t.bytes it.some truth))) (by_truth truth fails stays))
+      subst (λ c. G (suc n) m.state.work pc v (branched n l t rest m (is_zero c))) (sym (same ∙ ap bits (truth_low t.bytes it.some truth)))
+      (by_truth truth fails stays))
     where
       by_truth : (b : Bool) → (b ≡ false → flag_at v.flags flag ≡ if_bit set)
           → (b ≡ true → flag_at v.flags flag ≡ if_bit (not set))
@@ -1736,12 +2267,14 @@ module _ (p : PlainProgram) (functions : List PlainIrFunction) (e : Env) (slots 
           let b = branch_taken e set flag (link.label_of l) pc to v is (fails refl) branch in
           let least = b.at_least in
           let most = b.at_most in
-          jumps start l n c b.steps pc m v v ready (branch_has_word e set flag (link.label_of l) pc to branch) b.goes (omega arith) (omega (arith, most)) there f
+          jumps start l n c b.steps pc m v v ready (branch_has_word e set flag (link.label_of l) pc to branch) b.goes (omega arith)
+          (omega (arith, most)) there f
       by_truth true fails stays =
           let c = op_steps (branch_zero t l) in
           let m1 = machine m.temps (worked c m.state) in
           let b = branch_passed e set flag (link.label_of l) pc to v is (stays refl) branch in
-          after p place e 1 n (suc n) m.state.work m1.state.work pc to v v (R n rest m1) b (omega arith) (omega arith) (f to rest m1 v ready1 (again (needs at rest) m v c here))
+          after p place e 1 n (suc n) m.state.work m1.state.work pc to v v (R n rest m1) b (omega arith) (omega arith)
+          (f to rest m1 v ready1 (again (needs at rest) m v c here))
 
   -- the comparison of two temporaries, and the branch behind it
   told_passes : (start l : ℕ) (r : Relation) (s : Bool) (t x1 x2 : Temp) (bytes x z c : ℕ) (rest : List PlainIr) (n pc : ℕ)
@@ -1753,27 +2286,38 @@ module _ (p : PlainProgram) (functions : List PlainIrFunction) (e : Env) (slots 
       → HasAt e (compare_code (home x2) (home x1) (suc bytes) ++ (unless_code r s (link.label_of l) ++ items rest)) pc end
       → ((k : ℕ) → k ≢ t.at → either (needs at rest) (at l) k ≤ need0 k) → M need0 m v → Onward n
       → G (suc n) m.state.work pc v (R (suc n) (branch_zero t l ∷ rest) (told_machine t (stand_so r s (suc bytes) x z) c m))
-  told_passes start l r s t x1 x2 bytes x z c rest n pc need0 m v ready covered live inside it i1 i2 q1 q2 most xl zu big none stands more h f =
+  told_passes start l r s t x1 x2 bytes x z c rest n pc need0 m v ready covered live inside it i1 i2 q1 q2
+      most xl zu big none stands more h f =
       let both = either (needs at rest) (at l) in
       let truth = stand_so r s (suc bytes) x z in
       let compared = compare_code (home x2) (home x1) (suc bytes) in
       let v1 = block e compared v in
       let m1 = told_machine t truth c m in
       let s1 = has_parts e compared (unless_code r s (link.label_of l) ++ items rest) pc end stands in
-      let sa : StandsFrom e (home x1) (suc bytes) (base x1) Own = subst (λ j. StandsFrom e (home x1) j (base x1) Own) q1 (y.layout.temps_at x1 i1) in
-      let sb : StandsFrom e (home x2) (suc bytes) (base x2) Own = subst (λ j. StandsFrom e (home x2) j (base x2) Own) q2 (y.layout.temps_at x2 i2) in
+      let sa : StandsFrom e (home x1) (suc bytes) (base x1) Own =
+      subst (λ j. StandsFrom e (home x1) j (base x1) Own) q1 (y.layout.temps_at x1 i1) in
+      let sb : StandsFrom e (home x2) (suc bytes) (base x2) Own =
+      subst (λ j. StandsFrom e (home x2) j (base x2) Own) q2 (y.layout.temps_at x2 i2) in
       let kept : KeepsAll v v1 = comparisons_keep e (home x2) (home x1) (suc bytes) (base x2) (base x1) v sb sa h.bytes in
-      let matches : M both m1 v1 = kept_matches both m1 v v1 kept (not_needed t (low_bytes t.bytes (pos (from_bool truth))) c both need0 m v it none (low_below t.bytes (pos (from_bool truth))) more h) in
-      let here : M (needs at rest) m1 v1 = weaker p e slots home base place y both (needs at rest) m1 v1 matches (either_left (needs at rest) (at l)) in
+      let matches : M both m1 v1 =
+      kept_matches both m1 v v1 kept
+      (not_needed t (low_bytes t.bytes (pos (from_bool truth))) c both need0 m v it none
+      (low_below t.bytes (pos (from_bool truth))) more h) in
+      let here : M (needs at rest) m1 v1 =
+      weaker p e slots home base place y both (needs at rest) m1 v1 matches (either_left (needs at rest) (at l)) in
       let there : M (at l) m1 v1 = weaker p e slots home base place y both (at l) m1 v1 matches (either_right (needs at rest) (at l)) in
       let straight = (pieces_are_straight Sum (home x2) (home x1) (suc bytes)).2 in
       let take = (pieces_take Sum (home x2) (home x1) (suc bytes)).2.1 in
-      let told : stand_so r s (suc bytes) (value v.at (base x1) (suc bytes)) (value v.at (base x2) (suc bytes)) ≡ truth = rw (xl, zu) refl in
+      let told : stand_so r s (suc bytes) (value v.at (base x1) (suc bytes)) (value v.at (base x2) (suc bytes)) ≡ truth =
+      rw (xl, zu) refl in
       let goes = block_goes e compared pc s1.0 v straight s1.1 in
-      after p place e (code_steps compared) (suc n) (suc n) m.state.work m1.state.work pc s1.0 v v1 (R (suc n) (branch_zero t l ∷ rest) m1) goes (omega arith) (omega (arith, take, most, big))
-      (told_branch_follows start l t truth (not (is_set r)) (flag_of r s) rest n s1.0 s1.2.0 m1 v1 ready (record { covered = covered; live = live; inside = inside; stands = s1.2.2 }) it (held_at t _ m.temps) (flag_is r s)
+      after p place e (code_steps compared) (suc n) (suc n) m.state.work m1.state.work pc s1.0 v v1
+      (R (suc n) (branch_zero t l ∷ rest) m1) goes (omega arith) (omega (arith, take, most, big))
+      (told_branch_follows start l t truth (not (is_set r)) (flag_of r s) rest n s1.0 s1.2.0 m1 v1 ready
+      (record { covered = covered; live = live; inside = inside; stands = s1.2.2 }) it (held_at t _ m.temps) (flag_is r s)
       (λ q. fails_in_flag r s e (home x1) (home x2) bytes (base x1) (base x2) v sa sb h.bytes (told ∙ q) ∙ bit_is (not (is_set r)))
-      (λ q. holds_in_flag r s e (home x1) (home x2) bytes (base x1) (base x2) v sa sb h.bytes (told ∙ q) ∙ bit_is (is_set r) ∙ ap if_bit (sym (not_not (is_set r)))) s1.2.1 here there f)
+      (λ q. holds_in_flag r s e (home x1) (home x2) bytes (base x1) (base x2) v sa sb h.bytes (told ∙ q) ∙ bit_is (is_set r)
+      ∙ ap if_bit (sym (not_not (is_set r)))) s1.2.1 here there f)
 
   pub told_follows : (start l : ℕ) (op : BinOp) (r : Relation) (exchanged : Bool) → family_of op ≡ Compared r exchanged
       → (s : Bool) (ty : PlainType) (mode : Mode) (t a b : Temp) (rest : List PlainIr) (n pc : ℕ) (m : Mach) (v : View)
@@ -1783,11 +2327,15 @@ module _ (p : PlainProgram) (functions : List PlainIrFunction) (e : Env) (slots 
       → HasAt e (flag_code (Compared r exchanged) (home a) (home b) a.bytes ++ (unless_code r s (link.label_of l) ++ items rest)) pc end
       → M (needs at (binary_op op ty mode t a (integer s a.bytes) b (integer s b.bytes) ∷ branch_zero t l ∷ rest)) m v
       → Onward n
-      → G (suc n) m.state.work pc v (R (suc n) (binary_op op ty mode t a (integer s a.bytes) b (integer s b.bytes) ∷ branch_zero t l ∷ rest) m)
+      → G (suc n) m.state.work pc v
+      (R (suc n) (binary_op op ty mode t a (integer s a.bytes) b (integer s b.bytes) ∷ branch_zero t l ∷ rest) m)
   told_follows start l op r exchanged is s ty mode t a b rest n pc m v ready covered live inside it ia ib same none stands h f =
-      compared_numbers op r exchanged is s ty mode t a b (branch_zero t l ∷ rest) n pc (needs at (binary_op op ty mode t a (integer s a.bytes) b (integer s b.bytes) ∷ branch_zero t l ∷ rest)) m v ia ib same h
+      compared_numbers op r exchanged is s ty mode t a b (branch_zero t l ∷ rest) n pc
+      (needs at (binary_op op ty mode t a (integer s a.bytes) b (integer s b.bytes) ∷ branch_zero t l ∷ rest)) m v ia ib same h
       (λ low1 low2 qa qb below1 below2.
-      let hold = compared_hold op r exchanged is s ty mode t a b (branch_zero t l ∷ rest) m v low1 low2 ia ib same tested_needed qa qb below1 below2 h in
+      let hold =
+      compared_hold op r exchanged is s ty mode t a b
+      (branch_zero t l ∷ rest) m v low1 low2 ia ib same tested_needed qa qb below1 below2 h in
       let some = ia.some in
       by_side low1 low2 hold.0 hold.1 hold.2 exchanged (a.bytes - 1) (omega arith) stands)
     where
@@ -1800,7 +2348,8 @@ module _ (p : PlainProgram) (functions : List PlainIrFunction) (e : Env) (slots 
           let some = it.some in
           ne_eqb (wanted (needs at (branch_zero t l ∷ rest)) t) 0 (λ q. absurd (omega (arith, here, some, q)))
 
-      more : (k : ℕ) → k ≢ t.at → either (needs at rest) (at l) k ≤ operands_needed op t a b a.bytes b.bytes (needs at (branch_zero t l ∷ rest)) k
+      more : (k : ℕ) → k ≢ t.at
+          → either (needs at rest) (at l) k ≤ operands_needed op t a b a.bytes b.bytes (needs at (branch_zero t l ∷ rest)) k
       more k d =
           let x = other_needed op t a b a.bytes b.bytes (needs at (branch_zero t l ∷ rest)) k d in
           let z = least_other t.at t.bytes k (either (needs at rest) (at l)) in
@@ -1810,19 +2359,42 @@ module _ (p : PlainProgram) (functions : List PlainIrFunction) (e : Env) (slots 
           → value v.at (base a) a.bytes ≡ low1 → value v.at (base b) a.bytes ≡ low2 → (x : Bool) (bytes : ℕ)
           → a.bytes ≡ suc bytes
           → HasAt e (flag_code (Compared r x) (home a) (home b) a.bytes ++ (unless_code r s (link.label_of l) ++ items rest)) pc end
-          → G (suc n) m.state.work pc v (R (suc n) (branch_zero t l ∷ rest) (told_machine t (stand_so r s a.bytes (first_of_two x low1 low2) (first_of_two x low2 low1)) (op_steps (binary_op op ty mode t a (integer s a.bytes) b (integer s b.bytes))) m))
+          → G (suc n) m.state.work pc v
+          (R (suc n) (branch_zero t l ∷ rest)
+          (told_machine t (stand_so r s a.bytes (first_of_two x low1 low2) (first_of_two x low2 low1))
+          (op_steps (binary_op op ty mode t a (integer s a.bytes) b (integer s b.bytes))) m))
       by_side low1 low2 needed left_is right_is false bytes size stand =
           let most = ia.most in
           let la = subst (λ j. value v.at (base a) j ≡ low1) size left_is in
           let lb = subst (λ j. value v.at (base b) j ≡ low2) size right_is in
-          subst (λ j. G (suc n) m.state.work pc v (R (suc n) (branch_zero t l ∷ rest) (told_machine t (stand_so r s j low1 low2) (op_steps (binary_op op ty mode t a (integer s a.bytes) b (integer s b.bytes))) m))) (sym size)
-          (told_passes start l r s t a b bytes low1 low2 (op_steps (binary_op op ty mode t a (integer s a.bytes) b (integer s b.bytes))) rest n pc (operands_needed op t a b a.bytes b.bytes (needs at (branch_zero t l ∷ rest))) m v ready covered live inside it ia ib size (same ∙ size) (omega arith) la lb (relation_big op ty (integer s a.bytes) (integer s b.bytes)) none (subst (λ j. HasAt e (compare_code (home b) (home a) j ++ (unless_code r s (link.label_of l) ++ items rest)) pc end) size stand) more needed f)
+          subst
+          (λ j. G (suc n) m.state.work pc v
+          (R (suc n) (branch_zero t l ∷ rest)
+          (told_machine t (stand_so r s j low1 low2) (op_steps (binary_op op ty mode t a (integer s a.bytes) b (integer s b.bytes))) m)))
+          (sym size)
+          (told_passes start l r s t a b bytes low1 low2
+          (op_steps (binary_op op ty mode t a (integer s a.bytes) b (integer s b.bytes))) rest n pc
+          (operands_needed op t a b a.bytes b.bytes (needs at (branch_zero t l ∷ rest))) m v ready covered live inside it ia ib size
+          (same ∙ size) (omega arith) la lb (relation_big op ty (integer s a.bytes) (integer s b.bytes)) none
+          (subst
+          (λ j. HasAt e
+          (compare_code (home b) (home a) j ++ (unless_code r s (link.label_of l) ++ items rest)) pc end) size stand) more needed f)
       by_side low1 low2 needed left_is right_is true bytes size stand =
           let most = ia.most in
           let la = subst (λ j. value v.at (base a) j ≡ low1) size left_is in
           let lb = subst (λ j. value v.at (base b) j ≡ low2) size right_is in
-          subst (λ j. G (suc n) m.state.work pc v (R (suc n) (branch_zero t l ∷ rest) (told_machine t (stand_so r s j low2 low1) (op_steps (binary_op op ty mode t a (integer s a.bytes) b (integer s b.bytes))) m))) (sym size)
-          (told_passes start l r s t b a bytes low2 low1 (op_steps (binary_op op ty mode t a (integer s a.bytes) b (integer s b.bytes))) rest n pc (operands_needed op t a b a.bytes b.bytes (needs at (branch_zero t l ∷ rest))) m v ready covered live inside it ib ia (same ∙ size) size (omega arith) lb la (relation_big op ty (integer s a.bytes) (integer s b.bytes)) none (subst (λ j. HasAt e (compare_code (home a) (home b) j ++ (unless_code r s (link.label_of l) ++ items rest)) pc end) size stand) more needed f)
+          subst
+          (λ j. G (suc n) m.state.work pc v
+          (R (suc n) (branch_zero t l ∷ rest)
+          (told_machine t (stand_so r s j low2 low1) (op_steps (binary_op op ty mode t a (integer s a.bytes) b (integer s b.bytes))) m)))
+          (sym size)
+          (told_passes start l r s t b a bytes low2 low1
+          (op_steps (binary_op op ty mode t a (integer s a.bytes) b (integer s b.bytes))) rest n pc
+          (operands_needed op t a b a.bytes b.bytes (needs at (branch_zero t l ∷ rest))) m v ready covered live inside it ib ia
+          (same ∙ size) size (omega arith) lb la (relation_big op ty (integer s a.bytes) (integer s b.bytes)) none
+          (subst
+          (λ j. HasAt e
+          (compare_code (home a) (home b) j ++ (unless_code r s (link.label_of l) ++ items rest)) pc end) size stand) more needed f)
 
   -- ---- labels
 
@@ -1853,18 +2425,50 @@ module _ (p : PlainProgram) (functions : List PlainIrFunction) (e : Env) (slots 
   abbrev StandsTelling : BinOp → PlainType → Mode → (t a : Temp) → PlainType → Temp → PlainType → ℕ → Option Told
       → List PlainIr → Type 0
   StandsTelling op ty mode t a aty b bty pc told ops =
-      HasAt e (op_code p.objects home link None told (needs at ops) (binary_op op ty mode t a aty b bty) ++ items_told told ops) pc end
+      HasAt e (op_code p home link None told (needs at ops) (binary_op op ty mode t a aty b bty) ++ items_told told ops) pc end
+
+  -- what holds of no integer type holds of no operand of an integer operator
+  no_kind : (is : PlainType → Bool) → ((s : Bool) (n : ℕ) → is (integer s n) ≡ false) → (x : Family) (t a b : Temp)
+      (ty aty bty : PlainType) → IsBinary x slots t a b ty aty bty → (is aty || is bty) ≡ false
+  no_kind is none x t a b ty aty bty k = by_family x k
+    where
+      neither : (s1 s2 : Bool) (n1 n2 : ℕ) → aty ≡ integer s1 n1 → bty ≡ integer s2 n2 → (is aty || is bty) ≡ false
+      neither s1 s2 n1 n2 q r =
+          let left : is aty ≡ false = ap is q ∙ none s1 n1 in
+          let right : is bty ≡ false = ap is r ∙ none s2 n2 in
+          rw (left, right) refl
+
+      by_family : (x : Family) → IsBinary x slots t a b ty aty bty → (is aty || is bty) ≡ false
+      by_family (Combined o) k = neither k.left_signed k.right_signed a.bytes b.bytes k.left_type k.right_type
+      by_family (Compared r exchanged) k = neither k.signed k.signed a.bytes b.bytes k.left_type k.right_type
+      by_family Multiplied k = neither k.left_signed k.right_signed 1 1 k.left_type k.right_type
+      by_family (Shifted up) k = neither k.0.signed k.0.count_signed a.bytes b.bytes k.0.left_type k.0.count_type
+      by_family (Divided r) k = neither k.0.signed k.0.signed a.bytes b.bytes k.0.left_type k.0.right_type
 
   -- a binary operator, and where it is a comparison that only the branch behind it tests, this branch too
   integers_follow : (start : ℕ) → Ready start all → (n : ℕ) → Onward n → (op : BinOp) (ty : PlainType) (mode : Mode)
       (t a : Temp) (aty : PlainType) (b : Temp) (bty : PlainType) (pc : ℕ) (rest : List PlainIr) (m : Mach) (v : View)
-      → IsBinary (family_of op) slots t a b ty aty bty → (is_fixed aty || is_fixed bty) ≡ false → Ready pc (binary_op op ty mode t a aty b bty ∷ rest) → M (needs at (binary_op op ty mode t a aty b bty ∷ rest)) m v
+      → IsBinary (family_of op) slots t a b ty aty bty → Ready pc (binary_op op ty mode t a aty b bty ∷ rest)
+      → M (needs at (binary_op op ty mode t a aty b bty ∷ rest)) m v
       → Rest (suc n) rest → G (suc n) m.state.work pc v (R (suc n) (binary_op op ty mode t a aty b bty ∷ rest) m)
-  integers_follow start ready n go op ty mode t a aty b bty pc rest m v integers fx r h f = by_told (tells_next at (binary_op op ty mode t a aty b bty) rest) refl
+  integers_follow start ready n go op ty mode t a aty b bty pc rest m v integers r h f =
+      by_told (tells_next at (binary_op op ty mode t a aty b bty) rest) refl
     where
+      fx : (is_fixed aty || is_fixed bty) ≡ false
+      fx = no_kind is_fixed (λ s n. refl) (family_of op) t a b ty aty bty integers
+
+      px : (is_pointer aty || is_pointer bty) ≡ false
+      px = no_kind is_pointer (λ s n. refl) (family_of op) t a b ty aty bty integers
+
+      wx : (is_whole aty || is_whole bty) ≡ false
+      wx = no_kind is_whole (λ s n. refl) (family_of op) t a b ty aty bty integers
+
       needed : (ops : List PlainIr) → M (needs at (binary_op op ty mode t a aty b bty ∷ ops)) m v
-          → M (operands_needed op t a b (operand_wanted op a.bytes (wanted (needs at ops) t)) (right_wanted op b.bytes (wanted (needs at ops) t)) (needs at ops)) m v
-      needed ops h = subst (λ x. M (operands_needed op t a b (first_wanted x op a.bytes (wanted (needs at ops) t)) (second_wanted x op b.bytes (wanted (needs at ops) t)) (needs at ops)) m v) fx h
+          → M
+          (operands_needed op t a b (operand_wanted op a.bytes (wanted (needs at ops) t))
+          (right_wanted op b.bytes (wanted (needs at ops) t)) (needs at ops)) m v
+      needed ops h = subst (λ x. M (operands_needed op t a b (first_wanted x op a.bytes (wanted (needs at ops) t))
+          (second_wanted x op b.bytes (wanted (needs at ops) t)) (needs at ops)) m v) wx h
 
       by_family : (x : Family) → family_of op ≡ x → (told : Told) → told_of x (is_signed aty) ≡ Some told → (l : ℕ) (ops : List PlainIr)
           → IsBinary x slots t a b ty aty bty → AreCovered p results me slots ops → IsLive at ops
@@ -1873,17 +2477,33 @@ module _ (p : PlainProgram) (functions : List PlainIrFunction) (e : Env) (slots 
           → M (needs at (binary_op op ty mode t a aty b bty ∷ branch_zero t l ∷ ops)) m v
           → G (suc n) m.state.work pc v (R (suc n) (binary_op op ty mode t a aty b bty ∷ branch_zero t l ∷ ops) m)
       by_family (Compared r exchanged) q told w l ops k covered live inside none stands h =
-          let relation : r ≡ told.relation = (let c : record { relation = r; signed = is_signed aty } ≡ told = cc in ap (λ x. x.relation) c) in
-          let signs : k.signed ≡ told.signed = ap is_signed (sym k.left_type) ∙ (let c : record { relation = r; signed = is_signed aty } ≡ told = cc in ap (λ x. x.signed) c) in
-          let stand : HasAt e (flag_code (Compared r exchanged) (home a) (home b) a.bytes ++ (unless_code r k.signed (link.label_of l) ++ items ops)) pc end = subst (λ x. HasAt e (flag_code (Compared r exchanged) (home a) (home b) a.bytes ++ (unless_code x k.signed (link.label_of l) ++ items ops)) pc end) (sym relation) (subst (λ x. HasAt e (flag_code (Compared r exchanged) (home a) (home b) a.bytes ++ (unless_code told.relation x (link.label_of l) ++ items ops)) pc end) (sym signs) stands) in
-          subst (λ x. G (suc n) m.state.work pc v (R (suc n) (binary_op op ty mode t a x b bty ∷ branch_zero t l ∷ ops) m)) (sym k.left_type)
-          (subst (λ x. G (suc n) m.state.work pc v (R (suc n) (binary_op op ty mode t a (integer k.signed a.bytes) b x ∷ branch_zero t l ∷ ops) m)) (sym k.right_type)
-          (told_follows start l op r exchanged q k.signed ty mode t a b ops n pc m v ready covered live inside k.result k.left k.right k.same_bytes none stand (needed (branch_zero t l ∷ ops) h) go))
+          let relation : r ≡ told.relation =
+          (let c : record { relation = r; signed = is_signed aty } ≡ told = cc in ap (λ x. x.relation) c) in
+          let signs : k.signed ≡ told.signed =
+          ap is_signed (sym k.left_type)
+          ∙ (let c : record { relation = r; signed = is_signed aty } ≡ told = cc in ap (λ x. x.signed) c) in
+          let stand : HasAt e
+          (flag_code (Compared r exchanged) (home a) (home b) a.bytes ++
+          (unless_code r k.signed (link.label_of l) ++ items ops)) pc end = subst
+          (λ x. HasAt e
+          (flag_code (Compared r exchanged) (home a) (home b) a.bytes ++ (unless_code x k.signed (link.label_of l) ++ items ops)) pc end)
+          (sym relation)
+          (subst
+          (λ x. HasAt e
+          (flag_code (Compared r exchanged) (home a) (home b) a.bytes ++
+          (unless_code told.relation x (link.label_of l) ++ items ops)) pc end) (sym signs) stands) in
+          subst (λ x. G (suc n) m.state.work pc v (R (suc n) (binary_op op ty mode t a x b bty ∷ branch_zero t l ∷ ops) m))
+          (sym k.left_type)
+          (subst
+          (λ x. G (suc n) m.state.work pc v
+          (R (suc n) (binary_op op ty mode t a (integer k.signed a.bytes) b x ∷ branch_zero t l ∷ ops) m)) (sym k.right_type)
+          (told_follows start l op r exchanged q k.signed ty mode t a b ops n pc m v ready covered live inside
+          k.result k.left k.right k.same_bytes none stand (needed (branch_zero t l ∷ ops) h) go))
       by_family x q told w l ops k covered live inside none stands h = absurd (cc)
 
       at_branch : (u : Temp) (l : ℕ) (ops : List PlainIr) (told : Told) → (only : Bool)
           → is_only_tested t (Some (branch_zero u l)) (wanted (either (needs at ops) (at l)) u) ≡ only
-          → (if only then told_by (is_fixed aty || is_fixed bty) (family_of op) (is_signed aty) else None) ≡ Some told
+          → (if only then told_by (is_whole aty || is_whole bty) (family_of op) (is_signed aty) else None) ≡ Some told
           → Ready pc (binary_op op ty mode t a aty b bty ∷ branch_zero u l ∷ ops)
           → M (needs at (binary_op op ty mode t a aty b bty ∷ branch_zero u l ∷ ops)) m v
           → StandsTelling op ty mode t a aty b bty pc (Some told) (branch_zero u l ∷ ops)
@@ -1893,32 +2513,41 @@ module _ (p : PlainProgram) (functions : List PlainIrFunction) (e : Env) (slots 
           let parts = and_parts (wanted (either (needs at ops) (at l)) u == 0) (u.at == t.at && u.bytes == t.bytes) o in
           let both = and_parts (u.at == t.at) (u.bytes == t.bytes) parts.1 in
           let same : u ≡ t = same_temp t u (eqb-true u.at t.at both.0) (eqb-true u.bytes t.bytes both.1) in
-          let none : wanted (either (needs at ops) (at l)) t ≡ 0 = subst (λ x. wanted (either (needs at ops) (at l)) x ≡ 0) same (eqb-true (wanted (either (needs at ops) (at l)) u) 0 parts.0) in
+          let none : wanted (either (needs at ops) (at l)) t ≡ 0 =
+          subst (λ x. wanted (either (needs at ops) (at l)) x ≡ 0) same
+          (eqb-true (wanted (either (needs at ops) (at l)) u) 0 parts.0) in
           let h1 = subst (λ x. M (needs at (binary_op op ty mode t a aty b bty ∷ branch_zero x l ∷ ops)) m v) same h in
+          let own = flag_code (family_of op) (home a) (home b) a.bytes in
+          let after = items_told (Some told) (branch_zero t l ∷ ops) in
+          let w = wanted (needs at (branch_zero t l ∷ ops)) t in
+          let stand = subst (λ x. StandsTelling op ty mode t a aty b bty pc (Some told) (branch_zero x l ∷ ops)) same stands in
+          let flags : HasAt e (own ++ after) pc end =
+          subst (λ x. HasAt e (code_by_kind x
+          (pointer_binary (is_pointer aty) (is_pointer bty) p op aty bty (home a) (home b) (home t) a.bytes b.bytes w) own
+          ++ after) pc end) px
+          (subst (λ x. HasAt e (code_by_kind x (fixed_binary op ty aty bty mode (home a) (home b) (home t) w)
+          (code_by_kind (is_pointer aty || is_pointer bty)
+          (pointer_binary (is_pointer aty) (is_pointer bty) p op aty bty (home a) (home b) (home t) a.bytes b.bytes w) own)
+          ++ after) pc end) fx stand) in
           subst (λ x. G (suc n) m.state.work pc v (R (suc n) (binary_op op ty mode t a aty b bty ∷ branch_zero x l ∷ ops) m)) (sym same)
-          (by_family (family_of op) refl told (subst (λ x. told_by x (family_of op) (is_signed aty) ≡ Some told) fx q) l ops integers r.covered.1.1 r.live r.inside none (subst (λ x. HasAt e (code_by_kind x (fixed_binary op ty aty bty mode (home a) (home b) (home t) (wanted (needs at (branch_zero t l ∷ ops)) t)) (flag_code (family_of op) (home a) (home b) a.bytes) ++ items_told (Some told) (branch_zero t l ∷ ops)) pc end) fx (subst (λ x. StandsTelling op ty mode t a aty b bty pc (Some told) (branch_zero x l ∷ ops)) same stands)) h1)
+          (by_family (family_of op) refl told (subst (λ x. told_by x (family_of op) (is_signed aty) ≡ Some told) wx q) l ops integers
+          r.covered.1.1 r.live r.inside none flags h1)
 
       at_next : (ops : List PlainIr) (told : Told) → tells_next at (binary_op op ty mode t a aty b bty) ops ≡ Some told
           → Ready pc (binary_op op ty mode t a aty b bty ∷ ops) → M (needs at (binary_op op ty mode t a aty b bty ∷ ops)) m v
           → G (suc n) m.state.work pc v (R (suc n) (binary_op op ty mode t a aty b bty ∷ ops) m)
       at_next (branch_zero u l ∷ ops) told q r h =
-          at_branch u l ops told (is_only_tested t (Some (branch_zero u l)) (wanted (either (needs at ops) (at l)) u)) refl q r h (subst (λ x. StandsTelling op ty mode t a aty b bty pc x (branch_zero u l ∷ ops)) q r.stands)
+          at_branch u l ops told (is_only_tested t (Some (branch_zero u l)) (wanted (either (needs at ops) (at l)) u)) refl q r h
+          (subst (λ x. StandsTelling op ty mode t a aty b bty pc x (branch_zero u l ∷ ops)) q r.stands)
       at_next [] told q r h = absurd (cc)
       at_next (i ∷ ops) told q r h = absurd (cc)
 
       by_told : (told : Option Told) → tells_next at (binary_op op ty mode t a aty b bty) rest ≡ told
           → G (suc n) m.state.work pc v (R (suc n) (binary_op op ty mode t a aty b bty ∷ rest) m)
       by_told None q =
-          operator_follows op ty mode t a aty b bty rest n pc m v integers (subst (λ x. StandsTelling op ty mode t a aty b bty pc x rest) q r.stands) (needed rest h) f
+          operator_follows op ty mode t a aty b bty rest n pc m v integers
+          (subst (λ x. StandsTelling op ty mode t a aty b bty pc x rest) q r.stands) (needed rest h) f
       by_told (Some told) q = at_next rest told q r h
-
-  -- the types of integer operators are no fixed-point ones
-  no_fixed : (x : Family) (t a b : Temp) (ty aty bty : PlainType) → IsBinary x slots t a b ty aty bty → (is_fixed aty || is_fixed bty) ≡ false
-  no_fixed (Combined o) t a b ty aty bty k = ap (λ z. is_fixed z || is_fixed bty) k.left_type ∙ ap is_fixed k.right_type
-  no_fixed (Compared r exchanged) t a b ty aty bty k = ap (λ z. is_fixed z || is_fixed bty) k.left_type ∙ ap is_fixed k.right_type
-  no_fixed Multiplied t a b ty aty bty k = ap (λ z. is_fixed z || is_fixed bty) k.left_type ∙ ap is_fixed k.right_type
-  no_fixed (Shifted up) t a b ty aty bty k = ap (λ z. is_fixed z || is_fixed bty) k.0.left_type ∙ ap is_fixed k.0.count_type
-  no_fixed (Divided r) t a b ty aty bty k = ap (λ z. is_fixed z || is_fixed bty) k.0.left_type ∙ ap is_fixed k.0.right_type
 
   binary_follows : (start : ℕ) → Ready start all → (n : ℕ) → Onward n → (op : BinOp) (ty : PlainType) (mode : Mode)
       (t a : Temp) (aty : PlainType) (b : Temp) (bty : PlainType) (pc : ℕ) (rest : List PlainIr) (m : Mach) (v : View)
@@ -1926,32 +2555,54 @@ module _ (p : PlainProgram) (functions : List PlainIrFunction) (e : Env) (slots 
       → Rest (suc n) rest → G (suc n) m.state.work pc v (R (suc n) (binary_op op ty mode t a aty b bty ∷ rest) m)
   binary_follows start ready n go op ty mode t a aty b bty pc rest m v r h f =
       ⊎_elim
-      (λ (k : IsBinary (family_of op) slots t a b ty aty bty). integers_follow start ready n go op ty mode t a aty b bty pc rest m v k (no_fixed (family_of op) t a b ty aty bty k) r h f)
-      (λ (k : IsFixedBinary slots op t a b ty aty bty). fixed_binary_follows op ty mode t a aty b bty rest n pc m v k r.stands h f)
+      (λ (k : IsBinary (family_of op) slots t a b ty aty bty). integers_follow start ready n go op ty mode t a aty b bty pc rest m v k r
+      h f)
+      (λ i. ⊎_elim
+      (λ (k : IsFixedBinary slots op t a b ty aty bty).
+      fixed_binary_follows op ty mode t a aty b bty rest n pc m v k r.stands h f)
+      (λ (k : IsPointerBinary p slots op t a b ty aty bty).
+      pointer_binary_follows p functions e slots home base place y at all end results me link stack op ty mode t a aty b bty
+      rest n pc m v k r.stands h f)
+      i)
       r.covered.0
 
   pub follows : (start : ℕ) → Ready start all → (n : ℕ) → Onward n → CallCase n → ReturnCase n → Onward (suc n)
   follows start ready n go calls returns pc [] m v r h = tt
   follows start ready n go calls returns pc (constant t k ∷ rest) m v r h =
-      constant_follows t k rest n pc m v r.covered.0 r.stands h (λ pc1 m1 v1 s z. follows start ready n go calls returns pc1 rest m1 v1 (record { covered = r.covered.1; live = r.live; inside = r.inside; stands = s }) z)
+      constant_follows t k rest n pc m v r.covered.0 r.stands h
+      (λ pc1 m1 v1 s z. follows start ready n go calls returns pc1 rest m1 v1
+      (record { covered = r.covered.1; live = r.live; inside = r.inside; stands = s }) z)
   follows start ready n go calls returns pc (copy t u ∷ rest) m v r h =
       let i = r.covered.0 in
-      copy_follows t u rest n pc m v i.0 i.1 i.2 r.stands h (λ pc1 m1 v1 s z. follows start ready n go calls returns pc1 rest m1 v1 (record { covered = r.covered.1; live = r.live; inside = r.inside; stands = s }) z)
+      copy_follows t u rest n pc m v i.0 i.1 i.2 r.stands h
+      (λ pc1 m1 v1 s z. follows start ready n go calls returns pc1 rest m1 v1
+      (record { covered = r.covered.1; live = r.live; inside = r.inside; stands = s }) z)
   follows start ready n go calls returns pc (load_object t o offset ∷ rest) m v r h =
       let i = r.covered.0 in
-      load_follows t o offset i.1 rest n pc m v i.0 r.stands h (λ pc1 m1 v1 s z. go pc1 rest m1 v1 (record { covered = r.covered.1; live = r.live; inside = r.inside; stands = s }) z)
+      load_follows p functions e slots home base place y at all end results me link stack t o offset rest n pc m v i.0 i.1
+      r.stands h
+      (λ pc1 m1 v1 s z. go pc1 rest m1 v1
+      (record { covered = r.covered.1; live = r.live; inside = r.inside; stands = s }) z)
   follows start ready n go calls returns pc (store_object o offset t ∷ rest) m v r h =
       let i = r.covered.0 in
-      store_follows t o offset i.1 rest n pc m v i.0 r.stands h (λ pc1 m1 v1 s z. go pc1 rest m1 v1 (record { covered = r.covered.1; live = r.live; inside = r.inside; stands = s }) z)
+      store_follows p functions e slots home base place y at all end results me link stack o offset t rest n pc m v i.0 i.1
+      r.stands h
+      (λ pc1 m1 v1 s z. go pc1 rest m1 v1
+      (record { covered = r.covered.1; live = r.live; inside = r.inside; stands = s }) z)
   follows start ready n go calls returns pc (binary_op op ty mode t a aty b bty ∷ rest) m v r h =
-      binary_follows start ready n go op ty mode t a aty b bty pc rest m v r h (λ pc1 m1 v1 s z. follows start ready n go calls returns pc1 rest m1 v1 (record { covered = r.covered.1; live = r.live; inside = r.inside; stands = s }) z)
+      binary_follows start ready n go op ty mode t a aty b bty pc rest m v r h
+      (λ pc1 m1 v1 s z. follows start ready n go calls returns pc1 rest m1 v1
+      (record { covered = r.covered.1; live = r.live; inside = r.inside; stands = s }) z)
   follows start ready n go calls returns pc (label l ∷ rest) m v r h =
       let s = r.stands in
       let need = needs at rest in
       let z = weaker p e slots home base place y (at l) need m v h r.live.0 in
       let stands : HasAt e (items rest) pc end = subst (λ i. HasAt e (items rest) i end) s.1.1 s.2 in
-      after p place e 0 (suc n) (suc n) m.state.work m.state.work pc pc v v (R (suc n) (label l ∷ rest) m) (record { by = refl }) (omega arith) (omega arith)
-      (label_follows l rest n pc m v (follows start ready n go calls returns pc rest (machine m.temps (worked (op_steps (label l)) m.state)) v (record { covered = r.covered.1; live = r.live.1; inside = r.inside; stands = stands }) (again need m v (op_steps (label l)) z)))
+      after p place e 0 (suc n) (suc n) m.state.work m.state.work pc pc v v (R (suc n) (label l ∷ rest) m) (record { by = refl })
+      (omega arith) (omega arith)
+      (label_follows l rest n pc m v
+      (follows start ready n go calls returns pc rest (machine m.temps (worked (op_steps (label l)) m.state)) v
+      (record { covered = r.covered.1; live = r.live.1; inside = r.inside; stands = stands }) (again need m v (op_steps (label l)) z)))
   follows start ready n go calls returns pc (jump l ∷ rest) m v r h =
       jump_follows start l rest n pc m v ready r.stands h go
   follows start ready n go calls returns pc (branch_zero t l ∷ rest) m v r h =
@@ -1959,15 +2610,39 @@ module _ (p : PlainProgram) (functions : List PlainIrFunction) (e : Env) (slots 
   follows start ready n go calls returns pc (return_from from ∷ rest) m v r h =
       returns from pc rest m v r h
   follows start ready n go calls returns pc (conversion t ty mode a aty ∷ rest) m v r h =
-      conversion_follows t ty mode a aty rest n pc m v r.covered.0 r.stands h (λ pc1 m1 v1 s z. follows start ready n go calls returns pc1 rest m1 v1 (record { covered = r.covered.1; live = r.live; inside = r.inside; stands = s }) z)
+      conversion_follows t ty mode a aty rest n pc m v r.covered.0 r.stands h
+      (λ pc1 m1 v1 s z. follows start ready n go calls returns pc1 rest m1 v1
+      (record { covered = r.covered.1; live = r.live; inside = r.inside; stands = s }) z)
   follows start ready n go calls returns pc (unary_op op ty mode t a ∷ rest) m v r h =
-      unary_follows op ty mode t a rest n pc m v r.covered.0 r.stands h (λ pc1 m1 v1 s z. follows start ready n go calls returns pc1 rest m1 v1 (record { covered = r.covered.1; live = r.live; inside = r.inside; stands = s }) z)
-  follows start ready n go calls returns pc (address t o offset ∷ rest) m v r h = absurd r.covered.0
-  follows start ready n go calls returns pc (field t space offset ∷ rest) m v r h = absurd r.covered.0
-  follows start ready n go calls returns pc (load_at t u space ∷ rest) m v r h = absurd r.covered.0
-  follows start ready n go calls returns pc (store_at t space u ∷ rest) m v r h = absurd r.covered.0
+      unary_follows op ty mode t a rest n pc m v r.covered.0 r.stands h
+      (λ pc1 m1 v1 s z. follows start ready n go calls returns pc1 rest m1 v1
+      (record { covered = r.covered.1; live = r.live; inside = r.inside; stands = s }) z)
+  follows start ready n go calls returns pc (address t o offset ∷ rest) m v r h =
+      address_follows p functions e slots home base place y at all end results me link stack t o offset rest n pc m v
+      r.covered.0 r.stands h
+      (λ pc1 m1 v1 s z. follows start ready n go calls returns pc1 rest m1 v1
+      (record { covered = r.covered.1; live = r.live; inside = r.inside; stands = s }) z)
+  follows start ready n go calls returns pc (field t space offset ∷ rest) m v r h =
+      field_follows p functions e slots home base place y at all end results me link stack t space offset rest n pc m v
+      r.covered.0 r.stands h
+      (λ pc1 m1 v1 s z. follows start ready n go calls returns pc1 rest m1 v1
+      (record { covered = r.covered.1; live = r.live; inside = r.inside; stands = s }) z)
+  follows start ready n go calls returns pc (load_at t u space ∷ rest) m v r h =
+      let i = r.covered.0 in
+      load_at_follows p functions e slots home base place y at all end results me link stack t u space rest n pc m v i.0 i.1
+      r.stands h
+      (λ pc1 m1 v1 s z. go pc1 rest m1 v1
+      (record { covered = r.covered.1; live = r.live; inside = r.inside; stands = s }) z)
+  follows start ready n go calls returns pc (store_at t space u ∷ rest) m v r h =
+      let i = r.covered.0 in
+      store_at_follows p functions e slots home base place y at all end results me link stack t space u rest n pc m v i.0 i.1
+      r.stands h
+      (λ pc1 m1 v1 s z. go pc1 rest m1 v1
+      (record { covered = r.covered.1; live = r.live; inside = r.inside; stands = s }) z)
   follows start ready n go calls returns pc (call_function g t ∷ rest) m v r h = calls g t pc rest m v r h
   follows start ready n go calls returns pc (port_in t port index width ∷ rest) m v r h =
-      in_follows t port index width rest n pc m v r.covered.0 r.stands h (λ pc1 m1 v1 s z. go pc1 rest m1 v1 (record { covered = r.covered.1; live = r.live; inside = r.inside; stands = s }) z)
+      in_follows t port index width rest n pc m v r.covered.0 r.stands h
+      (λ pc1 m1 v1 s z. go pc1 rest m1 v1 (record { covered = r.covered.1; live = r.live; inside = r.inside; stands = s }) z)
   follows start ready n go calls returns pc (port_out t port index width ∷ rest) m v r h =
-      out_follows t port index width rest n pc m v r.covered.0 r.stands h (λ pc1 m1 v1 s z. go pc1 rest m1 v1 (record { covered = r.covered.1; live = r.live; inside = r.inside; stands = s }) z)
+      out_follows t port index width rest n pc m v r.covered.0 r.stands h
+      (λ pc1 m1 v1 s z. go pc1 rest m1 v1 (record { covered = r.covered.1; live = r.live; inside = r.inside; stands = s }) z)

@@ -23,11 +23,11 @@ use Rattle.ec_core.specs.State.{worked}
 use Rattle.ec_ir.specs.declared.operations.Temp.{Temp}
 use Rattle.ec_ir.specs.Meaning.{Mach, machine}
 use Rattle.ec_ir.specs.Temporaries.{bits, with_content, low_bytes, number_of_bytes}
-use Rattle.ec_select_functions.specs.Homes.{HasHome}
+use Rattle.ec_select_operations.specs.Homes.{HasHome}
 use Rattle.ec_select_bytes.specs.ComplementLaws.{Leaves}
 use Rattle.ec_select_bytes.proofs.Turned.{complements_are_right, negations_are_right}
-use Rattle.ec_select_functions.specs.Code.{move_code, turn_code, unary_code}
-use Rattle.ec_select_functions.specs.Needs.{Need, at_least, without, wanted}
+use Rattle.ec_select_operations.specs.Code.{move_code, turn_code, unary_code}
+use Rattle.ec_select_operations.specs.Needs.{Need, at_least, without, wanted}
 use Rattle.ec_select_functions.proofs.Setting.{Setting}
 use Rattle.ec_select_functions.specs.Relation.{Matches}
 use Rattle.ec_select_functions.proofs.Computed.{results, work_after, power_of, stand, moved_numbers}
@@ -103,7 +103,8 @@ turns Invert mode s b x l =
     record {
       number = _;
       is = refl;
-      low = low_of_wrapped s b (negsuc 0 -ℤ z) ∙ low_of (negsuc 0 -ℤ z) b _ d ∙ mod_beside r.k p (p - 1 + p - x) some ∙ ap (λ t. t % p) e ∙ mod-mul-add 1 p (p - 1 - x) (omega (arith, some));
+      low = low_of_wrapped s b (negsuc 0 -ℤ z) ∙ low_of (negsuc 0 -ℤ z) b _ d ∙ mod_beside r.k p (p - 1 + p - x) some ∙ ap (λ t. t % p) e
+          ∙ mod-mul-add 1 p (p - 1 - x) (omega (arith, some));
     }
 
 -- ---- code
@@ -113,9 +114,10 @@ left_by : (op : UnOp) (e : Env) (p : Location) (n a : ℕ) (v : View) → Stands
 left_by Minus e p n a v s h = negations_are_right e p n a v s h
 left_by Invert e p n a v s h = complements_are_right e p n a v s h
 
-module _ (p : PlainProgram) (e : Env) (slots : ℕ) (home : Temp → Location) (base : Temp → ℕ) (place : ℕ → ℕ) (y : Setting p e slots home base place) where
+module _ (p : PlainProgram) (e : Env) (slots : ℕ) (home : Temp → Location) (base : Temp → ℕ) (place : ℕ → ℕ)
+    (y : Setting p e slots home base place) where
   abbrev U : Need → Mach → View → Type 0
-  U need m v = Matches p y.inputs slots base place y.aside y.was need m v
+  U need m v = Matches p e y.inputs slots base place y.aside y.was need m v
 
   pub unary_matches : (op : UnOp) (t a : Temp) (need : Need) (m : Mach) (v : View) (c x : ℕ) → HasHome slots t
       → HasHome slots a → a.bytes ≡ t.bytes → m.temps a.at ≡ Some (record { bytes = a.bytes; content = bits x })
@@ -133,19 +135,25 @@ module _ (p : PlainProgram) (e : Env) (slots : ℕ) (home : Temp → Location) (
       let xa = at_width p e slots home base place y need0 m v a _ n h ia qa refl wide_a in
       let below : x < 256 ^ t.bytes = subst (λ j. x < 256 ^ j) same xa.1 in
       let v1 = block e (move_code (home a) (home t) n) v in
-      let k = move_holds e (home a) (home t) n (base a) (base t) v (stand p e slots home base place y a n ia less) (stand p e slots home base place y t n it most) (read_first p e slots home base place y t a n it ia less) h.bytes in
+      let k =
+      move_holds e (home a) (home t) n (base a) (base t) v (stand p e slots home base place y a n ia less)
+      (stand p e slots home base place y t n it most) (read_first p e slots home base place y t a n it ia less) h.bytes in
       let numbers1 = moved_numbers p e slots home base place y v v1 (base a) (base t) n some_a h.bytes k in
       let frame1 = wider_frame v v1 (base t) t.bytes n most k.frame in
       let v2 = block e (turn_code op (home t) n) v1 in
       let o = left_by op e (home t) n (base t) v1 (stand p e slots home base place y t n it most) numbers1 in
       let left : value v1.at (base t) n ≡ x % 256 ^ n = row_value v1.at v.at (base a) (base t) n k.there ∙ xa.0 in
-      let result : value v2.at (base t) n ≡ turned op t.bytes x % 256 ^ n = o.number_is ∙ ap (turned op n) left ∙ turned_low op n t.bytes x most below in
+      let result : value v2.at (base t) n ≡ turned op t.bytes x % 256 ^ n =
+      o.number_is ∙ ap (turned op n) left ∙ turned_low op n t.bytes x most below in
       let frame2 : Frame v1 v2 (base t) n = λ i d f g r. o.keeps.same i d f r in
-      let frame : Frame v v2 (base t) t.bytes = λ i d f g r. wider_frame v1 v2 (base t) t.bytes n most frame2 i d f g r ∙ frame1 i d f g r in
+      let frame : Frame v v2 (base t) t.bytes =
+      λ i d f g r. wider_frame v1 v2 (base t) t.bytes n most frame2 i d f g r ∙ frame1 i d f g r in
       let work : v2.at 30 < 256 = work_after v1 v2 (base t) n numbers1 o.keeps.same o.numbers in
       let numbers2 = numbers_kept v1 v2 (base t) n numbers1 frame2 o.numbers work in
       rw (block-append e (move_code (home a) (home t) n) (turn_code op (home t) n) v)
-      (written p e slots home base place y t (bits (turned op t.bytes x)) need need0 m (worked c m.state) v v2 it h (λ i r. still i r) frame (result, turned_below op t.bytes x) numbers2 refl (o.keeps.seen ∙ k.quiet.seen ∙ h.seen) (kept_left y.inputs m.state v v2 (o.keeps.inputs ∙ k.quiet.inputs) h.left) (o.keeps.safe ∙ k.quiet.safe ∙ h.safe))
+      (written p e slots home base place y t (bits (turned op t.bytes x)) need need0 m (worked c m.state) v v2 it h
+      (λ i r. still i r) frame (result, turned_below op t.bytes x) numbers2 refl (o.keeps.seen ∙ k.quiet.seen ∙ h.seen)
+      (kept_left y.inputs m.state v v2 (o.keeps.inputs ∙ k.quiet.inputs) h.left) (o.keeps.safe ∙ k.quiet.safe ∙ h.safe))
     where
       still : (i : ℕ) → i ≢ t.at → need i ≤ at_least a.at (wanted need t) (without t.at need) i
       still i r =

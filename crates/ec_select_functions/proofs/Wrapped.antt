@@ -77,7 +77,8 @@ low_part z n b l =
     let u = lifted z b in
     let m = u.0 in
     let r = u.1 in
-    let p : r.k * 256 ^ b ≡ r.k * 256 ^ (b - n) * 256 ^ n = (let q : r.k * 256 ^ b ≡ r.k * (256 ^ (b - n) * 256 ^ n) = ap (λ t. r.k * t) (power_of n b l) in omega (arith, q)) in
+    let p : r.k * 256 ^ b ≡ r.k * 256 ^ (b - n) * 256 ^ n =
+    (let q : r.k * 256 ^ b ≡ r.k * (256 ^ (b - n) * 256 ^ n) = ap (λ t. r.k * t) (power_of n b l) in omega (arith, q)) in
     let s : Lifts z n m = record { k = r.k * 256 ^ (b - n); is = ap (λ t. z +ℤ pos t) (sym p) ∙ r.is } in
     ap (λ t. t % 256 ^ n) (low_of z b m r) ∙ mod_less m n b l ∙ sym (low_of z n m s)
 
@@ -107,7 +108,8 @@ low_of_number signed b low h =
 
 pub low_of_wrapped : (signed : Bool) (b : ℕ) (z : ℤ) → low_bytes b (wrapped (of_type signed b) z) ≡ low_bytes b z
 low_of_wrapped signed b z =
-    ap (low_bytes b) (from_bits_is signed b (low_bits (of_type signed b) z) ∙ ap (number_of_bytes signed b) (low_bits_is signed b z)) ∙ low_of_number signed b (low_bytes b z) (low_below b z)
+    ap (low_bytes b) (from_bits_is signed b (low_bits (of_type signed b) z) ∙ ap (number_of_bytes signed b) (low_bits_is signed b z))
+    ∙ low_of_number signed b (low_bytes b z) (low_below b z)
 
 pub low_of_sum : (s1 s2 s : Bool) (b m n : ℕ)
     → low_bytes b (wrapped (of_type s b) (number_of_bytes s1 b m +ℤ number_of_bytes s2 b n)) ≡ (m + n) % 256 ^ b
@@ -120,7 +122,8 @@ pub low_of_difference : (s1 s2 s : Bool) (b m n : ℕ) → n ≤ 256 ^ b
 low_of_difference s1 s2 s b m n l =
     let z = number_of_bytes s1 b m -ℤ number_of_bytes s2 b n in
     let r = lifts_number s2 b n in
-    low_of_wrapped s b z ∙ low_of z b _ (lifts_difference _ _ b m n (lifts_number s1 b m) r l) ∙ mod_beside r.k (256 ^ b) (m + 256 ^ b - n) (pow_pos b)
+    low_of_wrapped s b z ∙ low_of z b _ (lifts_difference _ _ b m n (lifts_number s1 b m) r l)
+    ∙ mod_beside r.k (256 ^ b) (m + 256 ^ b - n) (pow_pos b)
 
 pub low_of_bits : (f : ℕ → ℕ → ℕ) (s1 s2 s : Bool) (b m n : ℕ) → m < 256 ^ b → n < 256 ^ b
     → low_bytes b (bitwise_value f (of_type s b) (number_of_bytes s1 b m) (number_of_bytes s2 b n)) ≡ f m n % 256 ^ b
@@ -129,7 +132,8 @@ low_of_bits f s1 s2 s b m n l k =
     let q = low_bits_is s b (number_of_bytes s2 b n) ∙ low_of_number s2 b n k in
     let x = f (low_bits (of_type s b) (number_of_bytes s1 b m)) (low_bits (of_type s b) (number_of_bytes s2 b n)) in
     let e : x ≡ f m n = ap (λ t. f t (low_bits (of_type s b) (number_of_bytes s2 b n))) p ∙ ap (f m) q in
-    ap (low_bytes b) (from_bits_is s b x ∙ ap (number_of_bytes s b) e) ∙ low_of (number_of_bytes s b (f m n)) b (f m n) (lifts_number s b (f m n))
+    ap (low_bytes b) (from_bits_is s b x ∙ ap (number_of_bytes s b) e)
+    ∙ low_of (number_of_bytes s b (f m n)) b (f m n) (lifts_number s b (f m n))
 
 -- ---- bytes of results
 

@@ -1,36 +1,37 @@
--- The operations that have code: for each its temporaries, types and objects. The other operations have none yet, so no
--- program with one of them is covered.
-use Rattle.std.specs.Prelude.{◌≡◌, ◌≢◌, ◌⊎◌, ℕ, ◌<◌, ◌≤◌, ◌==◌, ⊤, Bool, List, [], ◌∷◌, Option, Some, None}
+-- The operations that have code: for each its temporaries, types and objects.
+use Rattle.std.specs.Prelude.{◌≡◌, ◌≢◌, ◌⊎◌, ℕ, ◌<◌, ◌≤◌, ◌==◌, ◌||◌, ⊤, Bool, true, List, [], ◌∷◌, Option, Some}
+use Rattle.std.specs.Prelude.{None}
 use Rattle.std.specs.Prelude.{slice_get}
 use Rattle.std.specs.List.{position_from}
-use Rattle.ec_space.specs.declared.space.Bank.TheVariants.{Data as DataBank}
-use Rattle.ec_core.specs.Layout.{scalar_size, leaves_of_type}
+use Rattle.ec_space.specs.declared.space.SpaceId.{SpaceId}
+use Rattle.ec_space.specs.Spaces.{width}
+use Rattle.ec_core.specs.Layout.{AreStructs, scalar_size, size_of_type, leaves_of_type}
 use Rattle.ec_core.specs.Plain.{PlainType, integer, PlainObject}
 use Rattle.ec_core.specs.Plain.{PlainProgram}
+use Rattle.ec_core.specs.Typing.{HaveBinaryTypes, AreConvertible}
+use Rattle.ec_core.specs.Valid.{IsAddressable, IsExprType}
 use Rattle.ec_core.specs.declared.expressions.BinOp.{BinOp}
 use Rattle.ec_core.specs.declared.expressions.UnOp.{UnOp}
 use Rattle.ec_ir.specs.declared.operations.Temp.{Temp}
 use Rattle.ec_ir.specs.Operations.{PlainIr, constant, copy, address, field, load_at, store_at, load_object}
 use Rattle.ec_ir.specs.Operations.{store_object, binary_op, unary_op, conversion, label, jump, branch_zero}
 use Rattle.ec_ir.specs.Operations.{call_function, return_from, port_in, port_out}
-use Rattle.ec_select_functions.specs.declared.families.Family.{Family}
-use Rattle.ec_select_functions.specs.declared.families.Family.TheVariants.{Combined, Compared, Multiplied, Shifted}
-use Rattle.ec_select_functions.specs.declared.families.Family.TheVariants.{Divided}
+use Rattle.ec_select_operations.specs.declared.families.Family.{Family}
+use Rattle.ec_select_operations.specs.declared.families.Family.TheVariants.{Combined, Compared, Multiplied, Shifted}
+use Rattle.ec_select_operations.specs.declared.families.Family.TheVariants.{Divided}
 use Rattle.ec_select_fixed.specs.Types.{AreFixedOperands, IsFixedOperand, AreFixedConverted}
-use Rattle.ec_select_functions.specs.Code.{family_of}
-use Rattle.ec_select_functions.specs.Homes.{HasHome}
-use Rattle.ec_select_functions.specs.Places.{IsNumeric}
+use Rattle.ec_select_operations.specs.Code.{family_of}
+use Rattle.ec_select_operations.specs.Homes.{HasHome}
+use Rattle.ec_select_operations.specs.Pointers.{is_pointer, IsPointerSize}
 
--- a number of so many bytes begins at an offset in an object that is kept in the data bank
-pub record HasNumberAt (p : PlainProgram) (o offset bytes : ℕ) : Type 0 where
+-- a scalar of so many bytes begins at an offset in an object
+pub record HasScalarAt (p : PlainProgram) (o offset bytes : ℕ) : Type 0 where
   pub number : ℕ
   pub declared : PlainObject
   pub ty : PlainType
   pub is_object : slice_get p.objects o ≡ Some declared
   pub is_leaf : slice_get (leaves_of_type p.structs declared.ty) number ≡ Some (record { ty = ty; at = offset })
-  pub is_number : IsNumeric ty
   pub size : scalar_size ty ≡ bytes
-  pub in_data : declared.home ≡ DataBank
   pub found : position_from (λ x. x.at == offset) 0 (leaves_of_type p.structs declared.ty) ≡ Some number
 
 -- operands and result have integer types of as many bytes as their temporaries, all the same
@@ -133,6 +134,43 @@ pub record IsFixedConversion (slots : ℕ) (to a : Temp) (ty aty : PlainType) : 
   pub result_bytes : to.bytes ≡ scalar_size ty
   pub from_bytes : a.bytes ≡ scalar_size aty
 
+-- a pointer to an offset in an object that has an address
+pub record IsAddress (p : PlainProgram) (slots : ℕ) (t : Temp) (o offset : ℕ) : Type 0 where
+  pub result : HasHome slots t
+  pub size : IsPointerSize t.bytes
+  pub declared : PlainObject
+  pub is_object : slice_get p.objects o ≡ Some declared
+  pub addressable : IsAddressable declared.storage
+  pub within : offset ≤ size_of_type p.structs declared.ty
+
+-- a pointer into a space
+abbrev pub IsInto : (slots : ℕ) → SpaceId → Temp → Type 0
+IsInto slots space ptr = HasHome slots ptr × (ptr.bytes ≡ width space)
+
+-- an operator on operands of which one is a pointer at least, to what has a size
+pub record IsPointerBinary (p : PlainProgram) (slots : ℕ) (op : BinOp) (to a b : Temp) (ty aty bty : PlainType)
+    : Type 0 where
+  pub pointer : (is_pointer aty || is_pointer bty) ≡ true
+  pub types : HaveBinaryTypes op ty aty bty
+  pub structs : AreStructs p.structs
+  pub left_known : IsExprType p aty
+  pub right_known : IsExprType p bty
+  pub result : HasHome slots to
+  pub left : HasHome slots a
+  pub right : HasHome slots b
+  pub result_bytes : to.bytes ≡ scalar_size ty
+  pub left_bytes : a.bytes ≡ scalar_size aty
+  pub right_bytes : b.bytes ≡ scalar_size bty
+
+-- a conversion of a pointer
+pub record IsPointerConversion (slots : ℕ) (to a : Temp) (ty aty : PlainType) : Type 0 where
+  pub pointer : is_pointer aty ≡ true
+  pub types : AreConvertible ty aty
+  pub result : HasHome slots to
+  pub from : HasHome slots a
+  pub result_bytes : to.bytes ≡ scalar_size ty
+  pub from_bytes : a.bytes ≡ scalar_size aty
+
 -- operand and result have one integer type, of as many bytes as their temporaries
 pub record IsUnary (slots : ℕ) (to a : Temp) (ty : PlainType) : Type 0 where
   pub signed : Bool
@@ -172,21 +210,22 @@ pub record IsPort (slots : ℕ) (t : Temp) (port : ℕ) (index : Option Temp) (w
 abbrev pub IsCovered : PlainProgram → (results : ℕ → ℕ) (f slots : ℕ) → PlainIr → Type 0
 IsCovered p results f slots (constant t n) = HasHome slots t
 IsCovered p results f slots (copy to from) = HasHome slots to × HasHome slots from × (to.bytes ≡ from.bytes)
-IsCovered p results f slots (load_object t o offset) = HasHome slots t × HasNumberAt p o offset t.bytes
-IsCovered p results f slots (store_object o offset t) = HasHome slots t × HasNumberAt p o offset t.bytes
+IsCovered p results f slots (load_object t o offset) = HasHome slots t × HasScalarAt p o offset t.bytes
+IsCovered p results f slots (store_object o offset t) = HasHome slots t × HasScalarAt p o offset t.bytes
 IsCovered p results f slots (binary_op op ty mode to a aty b bty) =
-    IsBinary (family_of op) slots to a b ty aty bty ⊎ IsFixedBinary slots op to a b ty aty bty
+    IsBinary (family_of op) slots to a b ty aty bty
+    ⊎ (IsFixedBinary slots op to a b ty aty bty ⊎ IsPointerBinary p slots op to a b ty aty bty)
 IsCovered p results f slots (unary_op op ty mode to a) = IsUnary slots to a ty ⊎ IsFixedUnary slots op to a ty
 IsCovered p results f slots (label l) = ⊤
 IsCovered p results f slots (jump l) = ⊤
 IsCovered p results f slots (branch_zero t l) = HasHome slots t
 IsCovered p results f slots (return_from from) = IsResult results f slots from
 IsCovered p results f slots (conversion to ty mode a aty) =
-    AreConverted slots to a ty aty ⊎ IsFixedConversion slots to a ty aty
-IsCovered p results f slots (address t o offset) = ⊥
-IsCovered p results f slots (field ptr space offset) = ⊥
-IsCovered p results f slots (load_at to ptr space) = ⊥
-IsCovered p results f slots (store_at ptr space from) = ⊥
+    AreConverted slots to a ty aty ⊎ (IsFixedConversion slots to a ty aty ⊎ IsPointerConversion slots to a ty aty)
+IsCovered p results f slots (address t o offset) = IsAddress p slots t o offset
+IsCovered p results f slots (field ptr space offset) = IsInto slots space ptr
+IsCovered p results f slots (load_at to ptr space) = HasHome slots to × IsInto slots space ptr
+IsCovered p results f slots (store_at ptr space from) = HasHome slots from × IsInto slots space ptr
 IsCovered p results f slots (call_function g to) = IsResult results g slots to
 IsCovered p results f slots (port_in to port index width) = IsPort slots to port index width
 IsCovered p results f slots (port_out from port index width) = IsPort slots from port index width

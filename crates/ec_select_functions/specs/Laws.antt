@@ -1,6 +1,7 @@
 -- The laws of the code of operations.
 use Rattle.std.specs.Prelude.{◌≡◌, ℕ, ◌+◌, ◌*◌, ◌%◌, ◌<◌, ◌≤◌, ◌==◌, nat_le, Bool, true, List, [], ◌∷◌, ⊤, Some}
 use Rattle.std.specs.Prelude.{slice_get, ℤ, Contains, IsSomeAnd, IsTrue, length}
+use Rattle.ec_space.specs.declared.space.Bank.TheVariants.{Data as DataBank}
 use Rattle.ec_runs.specs.Behaviours.{Behaviour, Running, Ended, Failed, Reaches, IsWithin, seen_as}
 use Rattle.ec_isa.specs.declared.instructions.Instr.TheVariants.{Break}
 use Rattle.ec_avr.specs.declared.machine.Access.{Access}
@@ -20,15 +21,15 @@ use Rattle.ec_core.specs.State.{Inputs, ObjectState}
 use Rattle.ec_ir.specs.Meaning.{steps_of, start_state}
 use Rattle.ec_ir.specs.Operations.{PlainIrFunction, PlainIrProgram, data_of}
 use Rattle.ec_ir.specs.Valid.{ValidIr, CallsTo, called_in}
-use Rattle.ec_select_functions.specs.declared.homes.Homes.{Homes}
-use Rattle.ec_select_functions.specs.Code.{Linkage, function_code}
+use Rattle.ec_select_operations.specs.declared.homes.Homes.{Homes}
+use Rattle.ec_select_operations.specs.Code.{Linkage, function_code}
 use Rattle.ec_select_functions.specs.Covered.{AreCovered}
-use Rattle.ec_select_functions.specs.Homes.{home}
+use Rattle.ec_select_operations.specs.Homes.{home}
 use Rattle.ec_select_functions.specs.Kept.{meaning_on}
-use Rattle.ec_select_functions.specs.Needs.{Need, IsLive}
-use Rattle.ec_select_functions.specs.Places.{NumberLeaf, Apart, Layout}
+use Rattle.ec_select_operations.specs.Needs.{Need, IsLive}
+use Rattle.ec_select_operations.specs.Places.{ObjectLeaf, Apart, Layout}
 use Rattle.ec_select_functions.specs.Relation.{accesses, HoldsLeaf}
-use Rattle.ec_select_functions.specs.Standing.{home_address, ScratchStands, ObjectsStand, WorkStands}
+use Rattle.ec_select_functions.specs.Standing.{home_address, ScratchStands, ObjectsStand, TablesStand, WorkStands}
 
 -- ---- where code and data stand
 
@@ -58,11 +59,11 @@ pub record IsSelected (p : PlainIrProgram) (e : Env) (place : ℕ → ℕ) (entr
   pub live : IsLive made.labels g.code
   pub scratch_stands : ScratchStands e g.slots made.homes scratch
   pub objects_stand : ObjectsStand (data_of p) e g.slots scratch place
-  pub stands : HasAt e (function_code p.objects (linkage_of p entry_of f g.slots made) f made.labels g.code) pc end
+  pub stands : HasAt e (function_code (data_of p) (linkage_of p entry_of f g.slots made) f made.labels g.code) pc end
 
 -- All functions are selected, each with its scratch memory at an address. That of a function stands apart from that of
 -- any other which it calls, itself or through others. `results` are the bytes of the results, and `entry_of` are the
--- labels at which functions begin
+-- labels at which functions begin. The objects of the flash bank stand there with their initial values
 pub record AreSelected (p : PlainIrProgram) (e : Env) (place : ℕ → ℕ) (entry_of : ℕ → ℕ) : Type 0 where
   pub results : ℕ → ℕ
   pub made : ℕ → Made
@@ -72,6 +73,7 @@ pub record AreSelected (p : PlainIrProgram) (e : Env) (place : ℕ → ℕ) (ent
       → IsSelected p e place entry_of results f g (made f) (scratch f)
   pub apart : (f h : ℕ) (a b : PlainIrFunction) → CallsTo p h f → slice_get p.functions f ≡ Some a
       → slice_get p.functions h ≡ Some b → Apart (scratch f) (16 * a.slots) (scratch h) (16 * b.slots)
+  pub tables : TablesStand (data_of p) e place
   pub work : ℕ
   pub work_stands : WorkStands (data_of p) e place work
   pub work_apart : (f : ℕ) (g : PlainIrFunction) → slice_get p.functions f ≡ Some g
@@ -100,8 +102,9 @@ pub record IsEntered (p : PlainIrProgram) (e : Env) (low entry pc : ℕ) (v : Vi
 
 -- the view shows the initial values of the objects, and nothing has been seen
 pub record HoldsStart (p : PlainProgram) (place : ℕ → ℕ) (v : View) : Type 0 where
-  pub leaves : (l : NumberLeaf p) (x : ObjectState) (u : Value) → slice_get (start_state p).objects l.object ≡ Some x
-      → leaf_of x l.number ≡ Some u → HoldsLeaf v.at (place l.object + l.at) l.bytes u
+  pub leaves : (l : ObjectLeaf p DataBank) (x : ObjectState) (u : Value)
+      → slice_get (start_state p).objects l.object ≡ Some x → leaf_of x l.number ≡ Some u
+      → HoldsLeaf p place v.at (place l.object + l.at) l.bytes u
   pub bytes : HoldsNumbers v
   pub seen : v.seen ≡ []
   pub safe : v.safe ≡ true

@@ -1,11 +1,4 @@
-pub mod Homes
-pub mod Needs
-pub mod Places
 pub mod Standing
-pub mod Ports
-pub mod Code
-pub mod Emitted
-pub mod Written
 pub mod Covered
 pub mod Relation
 pub mod Kept

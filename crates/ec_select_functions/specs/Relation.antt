@@ -1,10 +1,11 @@
 -- When the machine shows the state of an intermediate program.
 use Rattle.std.specs.Prelude.{◌≡◌, ℕ, zero, suc, ◌+◌, ◌/◌, ◌%◌, ◌^◌, ◌<◌, Bool, true, ℤ, pos, List, [], ◌∷◌, ◌++◌, Some}
-use Rattle.std.specs.Prelude.{option_map, option_and_then, unwrap_or, slice_get}
-use Rattle.ec_space.specs.declared.space.Bank.TheVariants.{Data as DataBank}
+use Rattle.std.specs.Prelude.{None, option_map, option_and_then, unwrap_or, slice_get, slice_index}
+use Rattle.ec_space.specs.declared.space.Bank.TheVariants.{Flash as FlashBank, Data as DataBank}
 use Rattle.ec_avr.specs.declared.machine.Access.{Access}
 use Rattle.ec_avr.specs.declared.machine.Access.TheVariants.{In as PortIn, Out as PortOut, Read as ByteRead}
 use Rattle.ec_avr.specs.declared.machine.Access.TheVariants.{Write as ByteWrite}
+use Rattle.ec_asm.specs.Change.{Env}
 use Rattle.ec_asm.specs.View.{View}
 use Rattle.ec_asm.specs.Pieces.{value}
 use Rattle.ec_asm.specs.PieceLaws.{HoldsNumbers}
@@ -20,9 +21,10 @@ use Rattle.ec_core.specs.State.{Inputs, State, Event, In, Out, Read, Write, Obje
 use Rattle.ec_ir.specs.declared.operations.Temp.{Temp}
 use Rattle.ec_ir.specs.Meaning.{Mach}
 use Rattle.ec_ir.specs.Temporaries.{Content, bits, points, Held, low_bytes}
-use Rattle.ec_select_functions.specs.Homes.{HasHome}
-use Rattle.ec_select_functions.specs.Needs.{Need, wanted}
-use Rattle.ec_select_functions.specs.Places.{NumberLeaf}
+use Rattle.ec_select_operations.specs.Homes.{HasHome}
+use Rattle.ec_select_operations.specs.Needs.{Need, wanted}
+use Rattle.ec_select_operations.specs.Places.{ObjectLeaf}
+use Rattle.ec_select_operations.specs.Pointers.{home_of, address_number, IsPointerIn}
 
 -- ---- what is seen of events: the bytes of an access by rising address
 
@@ -31,25 +33,27 @@ abbrev pub byte_accesses : (ℕ → ℕ → Access) → (at number n : ℕ) → 
 byte_accesses make at number zero = []
 byte_accesses make at number (suc n) = byte_accesses make at number n ++ make (at + n) (number / 256 ^ n % 256) ∷ []
 
--- the number that stands for a value: that of a pointer is an address
-abbrev pub number_told : (ℕ → ℕ) → LeafInit → ℤ
-number_told place (TheNumber n) = n
-number_told place TheNull = pos 0
-number_told place (Address o offset) = pos (place o + offset)
+-- the number that stands for a value in so many bytes: that of a pointer is an address, with a tag
+abbrev pub number_told : PlainProgram → (ℕ → ℕ) → (bytes : ℕ) → LeafInit → ℤ
+number_told p place bytes (TheNumber n) = n
+number_told p place bytes TheNull = pos 0
+number_told p place bytes (Address o offset) = pos (address_number p place bytes o offset)
 
-abbrev pub leaf_accesses : (ℕ → ℕ → Access) → (base : ℕ) → ℤ → PlainLeaf → List Access
-leaf_accesses make base n leaf =
-    byte_accesses make (base + leaf.at) (low_bytes (scalar_size leaf.ty) n) (scalar_size leaf.ty)
+abbrev pub leaf_accesses :
+    PlainProgram → (ℕ → ℕ) → (ℕ → ℕ → Access) → (base : ℕ) → LeafInit → PlainLeaf → List Access
+leaf_accesses p place make base told leaf =
+    byte_accesses make (base + leaf.at)
+    (low_bytes (scalar_size leaf.ty) (number_told p place (scalar_size leaf.ty) told)) (scalar_size leaf.ty)
 
 abbrev pub object_accesses : PlainProgram → (ℕ → ℕ) → (ℕ → ℕ → Access) → (object leaf : ℕ) → LeafInit → List Access
 object_accesses p place make o k told =
-    unwrap_or (option_map (leaf_accesses make (place o) (number_told place told)) (option_and_then
+    unwrap_or (option_map (leaf_accesses p place make (place o) told) (option_and_then
     (λ d. slice_get (leaves_of_type p.structs d.ty) k) (slice_get p.objects o))) []
 
 abbrev pub event_accesses : PlainProgram → (ℕ → ℕ) → Event → List Access
 event_accesses p place (In port byte) = PortIn port byte ∷ []
 event_accesses p place (Out port byte) = PortOut port byte ∷ []
-event_accesses p place (Read o k space told) = object_accesses p place (ByteRead DataBank) o k told
+event_accesses p place (Read o k space told) = object_accesses p place (ByteRead (home_of p o)) o k told
 event_accesses p place (Write o k space told) = object_accesses p place ByteWrite o k told
 
 abbrev pub accesses : PlainProgram → (ℕ → ℕ) → List Event → List Access
@@ -58,28 +62,35 @@ accesses p place (x ∷ xs) = event_accesses p place x ++ accesses p place xs
 
 -- ---- the relation
 
--- the low n bytes of a content of so many bytes, which is a number, stand at an address
-abbrev pub HoldsContent : (ℕ → ℕ) → (base n bytes : ℕ) → Content → Type 0
-HoldsContent f a n bytes (bits low) = (value f a n ≡ low % 256 ^ n) × (low < 256 ^ bytes)
-HoldsContent f a n bytes (points q) = ⊥
+-- the low n bytes of a content of so many bytes stand at an address
+abbrev pub HoldsContent : PlainProgram → (place : ℕ → ℕ) → (ℕ → ℕ) → (base n bytes : ℕ) → Content → Type 0
+HoldsContent p place f a n bytes (bits low) = (value f a n ≡ low % 256 ^ n) × (low < 256 ^ bytes)
+HoldsContent p place f a n bytes (points q) =
+    (value f a n ≡ address_number p place bytes q.object q.offset % 256 ^ n) × IsPointerIn p bytes q
 
--- the value of a leaf of n bytes, which is a number
-abbrev pub HoldsLeaf : (ℕ → ℕ) → (base n : ℕ) → Value → Type 0
-HoldsLeaf f a n (Number i) = value f a n ≡ low_bytes n i
-HoldsLeaf f a n (Pointer q) = ⊥
+-- the value of a leaf of n bytes
+abbrev pub HoldsLeaf : PlainProgram → (place : ℕ → ℕ) → (ℕ → ℕ) → (base n : ℕ) → Value → Type 0
+HoldsLeaf p place f a n (Number i) = value f a n ≡ low_bytes n i
+HoldsLeaf p place f a n (Pointer None) = value f a n ≡ 0
+HoldsLeaf p place f a n (Pointer (Some q)) =
+    (value f a n ≡ address_number p place n q.object q.offset) × IsPointerIn p n q
 
 -- each port is going to give what the operations have left of its bytes
 abbrev pub AreLeft : Inputs → State → View → Type 0
 AreLeft inputs s v = (port : ℕ) → v.inputs port ≡ left_of inputs port s
 
--- what is needed of each temporary stands at its address, and each number of an object at its own. The bytes that are
--- set aside, for functions that wait, are as they were
-pub record Matches (p : PlainProgram) (inputs : Inputs) (slots : ℕ) (base : Temp → ℕ) (place : ℕ → ℕ)
+-- what is needed of each temporary stands at its address, and each leaf of an object at its own, in the object's bank.
+-- The bytes that are set aside, for functions that wait, are as they were
+pub record Matches (p : PlainProgram) (e : Env) (inputs : Inputs) (slots : ℕ) (base : Temp → ℕ) (place : ℕ → ℕ)
     (aside : ℕ → Bool) (was : ℕ → ℕ) (need : Need) (m : Mach) (v : View) : Type 0 where
   pub temps_hold : (t : Temp) (h : Held) → HasHome slots t → m.temps t.at ≡ Some h → h.bytes ≡ t.bytes
-      → HoldsContent v.at (base t) (wanted need t) t.bytes h.content
-  pub leaves_hold : (l : NumberLeaf p) (x : ObjectState) (u : Value) → slice_get m.state.objects l.object ≡ Some x
-      → leaf_of x l.number ≡ Some u → HoldsLeaf v.at (place l.object + l.at) l.bytes u
+      → HoldsContent p place v.at (base t) (wanted need t) t.bytes h.content
+  pub leaves_hold : (l : ObjectLeaf p DataBank) (x : ObjectState) (u : Value)
+      → slice_get m.state.objects l.object ≡ Some x → leaf_of x l.number ≡ Some u
+      → HoldsLeaf p place v.at (place l.object + l.at) l.bytes u
+  pub tables_hold : (l : ObjectLeaf p FlashBank) (x : ObjectState) (u : Value)
+      → slice_get m.state.objects l.object ≡ Some x → leaf_of x l.number ≡ Some u
+      → HoldsLeaf p place (slice_index e.flash) (place l.object + l.at) l.bytes u
   pub kept : (k : ℕ) → aside k ≡ true → v.at k ≡ was k
   pub bytes : HoldsNumbers v
   pub left : AreLeft inputs m.state v

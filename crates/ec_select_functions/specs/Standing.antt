@@ -1,13 +1,19 @@
 -- The homes of `home` and the objects, wherever scratch memory and objects stand.
 use Rattle.std.specs.Prelude.{◌≡◌, ◌≢◌, ◌⊎◌, ℕ, ◌+◌, ◌-◌, ◌*◌, ◌<◌, ◌≤◌, nat_le, ◌&&◌, if◌then◌else◌, Some, slice_get}
-use Rattle.ec_space.specs.declared.space.Bank.TheVariants.{Data as DataBank}
+use Rattle.std.specs.Prelude.{slice_index}
+use Rattle.ec_space.specs.declared.space.Bank.TheVariants.{Flash as FlashBank, Data as DataBank}
 use Rattle.ec_asm.specs.Change.{Env, Own, Object}
+use Rattle.ec_core.specs.declared.values.Value.{Value}
+use Rattle.ec_core.specs.Accesses.{leaf_of}
 use Rattle.ec_core.specs.Layout.{size_of_type}
 use Rattle.ec_core.specs.Plain.{PlainStorage, static, local, param, register, PlainObject, PlainProgram}
+use Rattle.ec_core.specs.State.{ObjectState}
 use Rattle.ec_ir.specs.declared.operations.Temp.{Temp}
-use Rattle.ec_select_functions.specs.declared.homes.Homes.{Homes}
-use Rattle.ec_select_functions.specs.Homes.{depth}
-use Rattle.ec_select_functions.specs.Places.{Apart}
+use Rattle.ec_ir.specs.Meaning.{start_state}
+use Rattle.ec_select_operations.specs.declared.homes.Homes.{Homes}
+use Rattle.ec_select_operations.specs.Homes.{depth}
+use Rattle.ec_select_operations.specs.Places.{ObjectLeaf, Apart}
+use Rattle.ec_select_functions.specs.Relation.{HoldsLeaf}
 
 -- the address of a home, where scratch memory stands at an address
 abbrev pub home_address : Homes → ℕ → Temp → ℕ
@@ -30,16 +36,19 @@ pub record WorkStands (p : PlainProgram) (e : Env) (place : ℕ → ℕ) (work :
   pub objects_apart : (o : ℕ) (d : PlainObject) → slice_get p.objects o ≡ Some d → d.home ≡ DataBank
       → Apart (place o) (size_of_type p.structs d.ty) work 64
 
--- n bytes of an object stand at an address: a named register at its number, and any other object in memory, where its
--- accesses are noted
+-- n bytes of an object stand in memory, where its accesses are noted, and its end has an address too
+pub record StandsInMemory (e : Env) (o n place : ℕ) : Type 0 where
+  pub high : 256 ≤ place
+  pub end : place + n < 65536
+  pub at : (i : ℕ) → i ≤ n → e.address_of o i ≡ place + i
+  pub kind : (i : ℕ) → i < n → e.kind (place + i) ≡ Object
+
+-- a named register stands at its number, and any other object in memory
 abbrev pub ObjectStands : Env → (object n place : ℕ) → PlainStorage → Type 0
 ObjectStands e o n place (register first) = (place ≡ first) × (2 ≤ first) × (first + n ≤ 8)
-ObjectStands e o n place (static inits) =
-    (256 ≤ place) × ((i : ℕ) → i < n → (e.address_of o i ≡ place + i) × (e.kind (place + i) ≡ Object))
-ObjectStands e o n place (local f) =
-    (256 ≤ place) × ((i : ℕ) → i < n → (e.address_of o i ≡ place + i) × (e.kind (place + i) ≡ Object))
-ObjectStands e o n place (param f) =
-    (256 ≤ place) × ((i : ℕ) → i < n → (e.address_of o i ≡ place + i) × (e.kind (place + i) ≡ Object))
+ObjectStands e o n place (static inits) = StandsInMemory e o n place
+ObjectStands e o n place (local f) = StandsInMemory e o n place
+ObjectStands e o n place (param f) = StandsInMemory e o n place
 
 -- the objects of the data bank stand apart from one another and from the scratch memory
 pub record ObjectsStand (p : PlainProgram) (e : Env) (slots scratch : ℕ) (place : ℕ → ℕ) : Type 0 where
@@ -50,3 +59,22 @@ pub record ObjectsStand (p : PlainProgram) (e : Env) (slots scratch : ℕ) (plac
       → Apart (place o) (size_of_type p.structs d.ty) (place k) (size_of_type p.structs f.ty)
   pub scratch_apart : (o : ℕ) (d : PlainObject) → slice_get p.objects o ≡ Some d → d.home ≡ DataBank
       → Apart (place o) (size_of_type p.structs d.ty) scratch (16 * slots)
+
+-- n bytes of an object stand in flash, but not at address 0, and its end has an address too
+pub record StandsInFlash (e : Env) (o n place : ℕ) : Type 0 where
+  pub some : 0 < place
+  pub end : place + n < 65536
+  pub at : (i : ℕ) → i ≤ n → e.address_of o i ≡ place + i
+  pub kind : (i : ℕ) → i < n → e.table (place + i) ≡ Object
+
+-- the objects of the flash bank stand apart from one another, with their initial values, and the flash holds bytes
+pub record TablesStand (p : PlainProgram) (e : Env) (place : ℕ → ℕ) : Type 0 where
+  pub bytes : (k : ℕ) → slice_index e.flash k < 256
+  pub each : (o : ℕ) (d : PlainObject) → slice_get p.objects o ≡ Some d → d.home ≡ FlashBank
+      → StandsInFlash e o (size_of_type p.structs d.ty) (place o)
+  pub apart : (o k : ℕ) (d f : PlainObject) → slice_get p.objects o ≡ Some d → d.home ≡ FlashBank
+      → slice_get p.objects k ≡ Some f → f.home ≡ FlashBank → o ≢ k
+      → Apart (place o) (size_of_type p.structs d.ty) (place k) (size_of_type p.structs f.ty)
+  pub values : (l : ObjectLeaf p FlashBank) (x : ObjectState) (u : Value)
+      → slice_get (start_state p).objects l.object ≡ Some x → leaf_of x l.number ≡ Some u
+      → HoldsLeaf p place (slice_index e.flash) (place l.object + l.at) l.bytes u

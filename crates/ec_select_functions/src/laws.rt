@@ -1,11 +1,18 @@
 //! The laws of the code of operations: each function proves one, and does nothing.
 ghost use Rattle.ec_select_functions.specs.Laws.{CodeFollowsOperations, HomesAreLaidOut};
-ghost use Rattle.ec_select_functions.specs.Written.{NeededCodeIsWritten, NeededFunctionsAreWritten};
 
 use ec_asm::laws::{machine_runs_as_view, noted_runs_are_runs};
 use ec_core::{bytes_are_taken_in_order, leaves_fill_their_types};
 use ec_select_fixed::laws::{
     fixed_binaries_are_right, fixed_conversions_are_right, fixed_unaries_are_right,
+};
+use ec_select_places::laws::{
+    elements_are_formed, elements_are_right, indexes_are_scaled, places_are_short,
+    pointers_are_advanced, pointers_are_compared, pointers_are_converted,
+};
+use ec_select_pointers::laws::{
+    addresses_are_right, fields_are_right, loads_are_right, loads_by_tag_are_right,
+    pointers_are_straight, stores_are_right, tables_are_formed, tables_are_loaded,
 };
 
 /// A machine that stands where `main` begins, called from before a BREAK, with the objects' initial values in its
@@ -22,6 +29,21 @@ pub fn code_follows_operations()
     fixed_binaries_are_right();
     fixed_unaries_are_right();
     fixed_conversions_are_right();
+    addresses_are_right();
+    fields_are_right();
+    loads_are_right();
+    loads_by_tag_are_right();
+    tables_are_loaded();
+    tables_are_formed();
+    stores_are_right();
+    pointers_are_straight();
+    indexes_are_scaled();
+    pointers_are_advanced();
+    elements_are_right();
+    elements_are_formed();
+    pointers_are_compared();
+    pointers_are_converted();
+    places_are_short();
 }
 
 /// In a valid program the homes of temporaries and the leaves of objects stand apart, wherever scratch memory and
@@ -30,16 +52,4 @@ pub fn homes_are_laid_out()
     ensures { HomesAreLaidOut }
 {
     leaves_fill_their_types();
-}
-
-/// Code that is written with the bytes that are needed of each result is the code of the operations.
-pub fn needed_code_is_written()
-    ensures { NeededCodeIsWritten }
-{}
-
-/// So is that of a function, with its label.
-pub fn needed_functions_are_written()
-    ensures { NeededFunctionsAreWritten }
-{
-    needed_code_is_written();
 }

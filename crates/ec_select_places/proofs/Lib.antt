@@ -7,3 +7,4 @@ pub mod Short
 pub mod Valid
 pub mod Apart
 pub mod Inverted
+pub mod Sized

@@ -51,7 +51,7 @@ by_test : (b : Bool) (a c : List AsmItem) (j k l : ℕ) → IsShort a j k l → 
 by_test true a c j k l p q = p
 by_test false a c j k l p q = q
 
-within : (code : List AsmItem) (i j k m l n : ℕ) → i ≤ j → k ≤ m → l ≤ n → IsShort code j k l → IsShort code i m n
+pub within : (code : List AsmItem) (i j k m l n : ℕ) → i ≤ j → k ≤ m → l ≤ n → IsShort code j k l → IsShort code i m n
 within code i j k m l n a b c h =
     let x = h.at_least in
     let y = h.at_most in

@@ -1,23 +1,21 @@
 -- The items of the code are valid, and have no labels.
-use Rattle.std.proofs.Common.{◌≡◌, ℕ, zero, suc, ◌+◌, ◌/◌, ◌%◌, ◌<◌, ◌≤◌, ◌==◌, Bool, true, false, List, [], ◌∷◌}
+use Rattle.std.proofs.Common.{◌≡◌, ℕ, zero, suc, ◌+◌, ◌/◌, ◌%◌, ◌<◌, ◌≤◌, ◌==◌, Bool, true, false, List, []}
 use Rattle.std.proofs.Common.{◌++◌, refl, ◌∙◌, arith}
 use Rattle.std.specs.Prelude.{count_by, cond, if◌then◌else◌}
 use Rattle.std.specs.List.{list_all}
-use Rattle.std.proofs.lemmas.Bool.{lt-ltb, eqb-true, eqb-false, false≢true, and_parts}
-use Rattle.std.proofs.lemmas.List.Folds.{list_all-append, sum_by-zero}
+use Rattle.std.proofs.lemmas.Bool.{lt-ltb, eqb-true, eqb-false}
+use Rattle.std.proofs.lemmas.List.Folds.{sum_by-zero}
 use Rattle.ec_asm.specs.declared.items.AsmItem.{AsmItem}
-use Rattle.ec_asm.specs.declared.items.AsmItem.TheVariants.{Plain, Label, JumpTo, CallTo, BranchTo, LoadPart, LoadObj}
-use Rattle.ec_asm.specs.declared.items.AsmItem.TheVariants.{StoreObj}
 use Rattle.ec_asm.specs.declared.pieces.Location.{Location}
 use Rattle.ec_asm.specs.declared.pieces.Location.TheVariants.{InRegisters, InMemory}
 use Rattle.ec_asm.specs.declared.pieces.Operator.TheVariants.{Difference}
-use Rattle.ec_asm.specs.Items.{chain}
 use Rattle.ec_asm.specs.Pieces.{copy_code, operate_code, compare_byte, compare_code}
 use Rattle.ec_asm.specs.Valid.{Sizes, is_valid_item, used_label, is_label, is_placed}
 use Rattle.ec_select_bytes.specs.Values.{extend_code}
 use Rattle.ec_select_order.specs.declared.relations.Relation.{Relation}
 use Rattle.ec_select_order.specs.declared.relations.Relation.TheVariants.{Less, NotLess, Equal, NotEqual}
 use Rattle.ec_select_order.specs.Relations.{truth_code, relation_code}
+use Rattle.ec_select_pointers.proofs.Valid.{both, all_pass, is_plain, no_use, no_place, passing}
 use Rattle.ec_select_places.specs.Steps.{z_pair, index_code, product_code, scale_code, scale_index_code, advance_code}
 use Rattle.ec_select_places.specs.Steps.{order_code, compared_bytes}
 use Rattle.ec_select_places.specs.Conversions.{tag_code, put_tag, embed_code, narrow_code}
@@ -26,15 +24,6 @@ use Rattle.ec_select_places.specs.Distances.{halve_z, halvings_code, distance_co
 use Rattle.ec_select_places.specs.Form.{PlacesHaveNoLabel, DistancesAreValid, DistancesHaveNoLabel}
 
 -- ---- lists of items
-
-both : (t : AsmItem → Bool) (a b : List AsmItem) → list_all t a ≡ true → list_all t b ≡ true → list_all t (a ++ b) ≡ true
-both t a b h k = list_all-append t a b ∙ rw (h, k) refl
-
-all_pass : (t : AsmItem → Bool) (body : ℕ → List AsmItem) (n : ℕ) → ((i : ℕ) → i < n → list_all t (body i) ≡ true)
-    → list_all t (chain body n) ≡ true
-all_pass t body zero h = refl
-all_pass t body (suc n) h =
-    both t (chain body n) (body n) (all_pass t body n (λ i l. h i (omega arith))) (h n (omega arith))
 
 by_test : (t : AsmItem → Bool) (b : Bool) (a c : List AsmItem) → list_all t a ≡ true → list_all t c ≡ true
     → list_all t (if b then a else c) ≡ true
@@ -186,45 +175,6 @@ distances_are_valid sizes p c q twos inverse hp hc hq l =
     (difference_valid sizes c hc) refl (product_valid sizes inverse l) (from_z_valid sizes q 2 (omega arith) hq)
 
 -- ---- labels
-
--- an item with no label
-abbrev is_plain : AsmItem → Bool
-is_plain (Plain i) = true
-is_plain (Label l) = false
-is_plain (JumpTo l) = false
-is_plain (CallTo l) = false
-is_plain (BranchTo set flag l) = false
-is_plain (LoadPart d o k part) = true
-is_plain (LoadObj d o k) = true
-is_plain (StoreObj o k r) = true
-
-no_use : (items : List AsmItem) (i : AsmItem) → is_plain i ≡ true → is_placed items (used_label i) ≡ true
-no_use items (Plain i) h = refl
-no_use items (Label l) h = refl
-no_use items (JumpTo l) h = absurd (false≢true h)
-no_use items (CallTo l) h = absurd (false≢true h)
-no_use items (BranchTo set flag l) h = absurd (false≢true h)
-no_use items (LoadPart d o k part) h = refl
-no_use items (LoadObj d o k) h = refl
-no_use items (StoreObj o k r) h = refl
-
-no_place : (l : ℕ) (i : AsmItem) → is_plain i ≡ true → (cond (is_label l i) 1 0 == 0) ≡ true
-no_place l (Plain i) h = refl
-no_place l (Label k) h = absurd (false≢true h)
-no_place l (JumpTo k) h = refl
-no_place l (CallTo k) h = refl
-no_place l (BranchTo set flag k) h = refl
-no_place l (LoadPart d o k part) h = refl
-no_place l (LoadObj d o k) h = refl
-no_place l (StoreObj o k r) h = refl
-
--- what each of some items passes, all pass
-passing : (t u : AsmItem → Bool) → ((i : AsmItem) → t i ≡ true → u i ≡ true) → (items : List AsmItem)
-    → list_all t items ≡ true → list_all u items ≡ true
-passing t u h [] f = refl
-passing t u h (i ∷ is) f =
-    let p = and_parts (t i) (list_all t is) f in
-    rw (h i p.0, passing t u h is p.1) refl
 
 has_no_label : (code : List AsmItem) → list_all is_plain code ≡ true → HasNoLabel code
 has_no_label code h =

@@ -7,7 +7,7 @@ use Rattle.ec_asm.specs.Items.{block}
 use Rattle.ec_asm.specs.Pieces.{StandsFrom, Outside, value}
 use Rattle.ec_asm.specs.PieceLaws.{HoldsNumbers}
 use Rattle.ec_select_places.specs.StepLaws.{LeavesZ}
-use Rattle.ec_select_places.specs.Distances.{distance_code}
+use Rattle.ec_select_places.specs.Distances.{distance_code, elements_code}
 
 -- a number or its negation in two's complement of two bytes
 abbrev pub signed_number : (negative : Bool) → ℕ → ℕ
@@ -36,3 +36,11 @@ DistancesAreRight =
     → odd * inverse % 65536 ≡ 1 → inverse < 65536
     → IsFrom negative (value v.at a 2) (value v.at b 2) (k * odd * 2 ^ twos)
     → Differs v d (signed_number negative k) (block e (distance_code p c q twos inverse) v)
+
+-- Two offsets that are k elements apart, each of which has so many bytes
+abbrev pub ElementsAreRight : Type 0
+ElementsAreRight =
+    (negative : Bool) (e : Env) (p c q : Location) (a b d size k : ℕ) (v : View) → StandsFrom e p 2 a Own → LeavesZ a 2
+    → StandsFrom e c 2 b Own → LeavesZ b 2 → StandsFrom e q 2 d Own → LeavesZ d 2 → HoldsNumbers v → 1 ≤ size
+    → IsFrom negative (value v.at a 2) (value v.at b 2) (k * size)
+    → Differs v d (signed_number negative k) (block e (elements_code p c q size) v)

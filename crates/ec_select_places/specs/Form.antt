@@ -8,7 +8,7 @@ use Rattle.ec_asm.specs.Items.{all_straight, code_steps, code_words}
 use Rattle.ec_asm.specs.Valid.{Sizes, is_offset, is_valid_item, used_label, is_label, is_placed}
 use Rattle.ec_select_order.specs.declared.relations.Relation.{Relation}
 use Rattle.ec_select_places.specs.Steps.{scale_index_code, advance_code, order_code, compared_bytes}
-use Rattle.ec_select_places.specs.Distances.{distance_code}
+use Rattle.ec_select_places.specs.Distances.{distance_code, elements_code}
 use Rattle.ec_select_places.specs.Conversions.{embed_code, narrow_code}
 
 -- ---- straight code
@@ -33,6 +33,9 @@ abbrev pub DistancesAreShort : Type 0
 DistancesAreShort =
     (p c q : Location) (twos inverse : ℕ)
     → IsShort (distance_code p c q twos inverse) (6 + 2 * twos) (22 + 2 * twos) (32 + 2 * twos)
+
+abbrev pub ElementsAreShort : Type 0
+ElementsAreShort = (p c q : Location) (size : ℕ) → IsShort (elements_code p c q size) 6 52 64
 
 -- the code of comparisons has a branch
 abbrev pub OrdersHaveWords : Type 0
@@ -73,6 +76,11 @@ DistancesAreValid =
     (sizes : Sizes) (p c q : Location) (twos inverse : ℕ) → HasPlaces sizes p 2 → HasPlaces sizes c 2
     → HasPlaces sizes q 2 → inverse < 65536 → ItemsAreValid sizes (distance_code p c q twos inverse)
 
+abbrev pub ElementsAreValid : Type 0
+ElementsAreValid =
+    (sizes : Sizes) (p c q : Location) (size : ℕ) → HasPlaces sizes p 2 → HasPlaces sizes c 2 → HasPlaces sizes q 2
+    → ItemsAreValid sizes (elements_code p c q size)
+
 -- ---- labels
 
 -- items refer to no label, and are the place of none
@@ -88,3 +96,6 @@ PlacesHaveNoLabel =
 
 abbrev pub DistancesHaveNoLabel : Type 0
 DistancesHaveNoLabel = (p c q : Location) (twos inverse : ℕ) → HasNoLabel (distance_code p c q twos inverse)
+
+abbrev pub ElementsHaveNoLabel : Type 0
+ElementsHaveNoLabel = (p c q : Location) (size : ℕ) → HasNoLabel (elements_code p c q size)

@@ -1,10 +1,12 @@
 //! The difference of two pointers in elements.
-ghost use Rattle.std.specs.Prelude.{◌≡◌, ◌++◌, OnOk, OnErr};
+ghost use Rattle.std.specs.Prelude.{◌≡◌, ◌<◌, ◌++◌, OnOk, OnErr};
 ghost use Rattle.ec_runs.specs.Behaviours.{BeginWith};
 ghost use Rattle.ec_asm.specs.Pieces.{HasBytes, copy_code};
 ghost use Rattle.ec_select_places.specs.Steps.{z_pair, scale_code};
 ghost use Rattle.ec_select_places.specs.Distances.{halve_z, halvings_code, distance_code};
+ghost use Rattle.ec_select_places.specs.Distances.{divisor_of, elements_code};
 
+use crate::inverses::{inverse, odd_part};
 use crate::steps::{scale, z_pair};
 use ec_asm::{AsmItem, Location, Operator, copy, operate};
 use ec_isa::Instr;
@@ -64,4 +66,37 @@ pub fn distance(
     copy(out, from, z_pair(), 2)?;
     operate(out, Operator::Difference, other, z_pair(), 2)?;
     divide(out, to, twos, inverse)
+}
+
+/// The size that is divided by. 1 serves for 65,536 or more, as offsets within 32,768 of one
+/// another that are a multiple of such a size apart are equal.
+fn divisor(size: u32) -> u16
+    ensures value { result ≡ divisor_of size }
+    ensures some { 0 < result }
+{
+    if 0 < size && size < 65536 {
+        size as u16
+    } else {
+        1
+    }
+}
+
+/// Appends code that puts the elements of so many bytes between two offsets to two bytes, in two's
+/// complement: the offset at `left` less that at `right`. Where memory runs out, a part of the code
+/// is appended.
+pub fn elements(
+    out: &mut Seq<AsmItem>,
+    left: Location,
+    right: Location,
+    to: Location,
+    size: u32,
+) -> Result<(), NoMemory>
+    requires left { HasBytes left 2 }
+    requires right { HasBytes right 2 }
+    requires to { HasBytes to 2 }
+    ensures ok { OnOk result (out.new.items ≡ out.old.items ++ elements_code left right to size) }
+    ensures err { OnErr result (BeginWith out.old.items out.new.items) }
+{
+    let part = odd_part(divisor(size));
+    distance(out, left, right, to, part.twos, inverse(part.odd))
 }

@@ -1,46 +1,25 @@
-//! The inverse of an odd number modulo 65,536.
+//! The odd part of a number, and its inverse modulo 65,536.
 ghost use Rattle.std.specs.Prelude.{◌≡◌, ◌+◌, ◌*◌, ◌%◌, ◌^◌, ◌<◌, ◌≤◌};
+ghost use Rattle.ec_select_places.specs.Distances.{twos_of, odd_of, refined, inverse_of};
 
-/// An inverse with one more bit, from one modulo a power of two.
-fn lift(odd: u64, found: u64, power: u64) -> u64
-    requires odd { odd % 2 ≡ 1 }
-    requires low { odd < 65536 }
-    requires some { 1 < power }
-    requires most { power ≤ 65536 }
-    requires below { found < power }
-    requires inverse { odd * found % power ≡ 1 }
-    ensures below { result < 2 * power }
-    ensures inverse { odd * result % (2 * power) ≡ 1 }
+/// Newton's step: an inverse modulo twice as many bits, at most 16.
+fn refine(odd: u64, found: u64) -> u64
+    requires odd { odd < 65536 }
+    requires found { found < 65536 }
+    ensures { result ≡ refined odd found }
 {
-    if odd * found / power % 2 == 1 {
-        found + power
-    } else {
-        found
-    }
-}
-
-/// The inverse modulo 2 to the power of `bits`.
-fn inverse_below(odd: u64, bits: u8) -> u64
-    requires odd { odd % 2 ≡ 1 }
-    requires low { odd < 65536 }
-    requires some { 1 ≤ bits }
-    requires most { bits ≤ 16 }
-    ensures below { result < 2 ^ bits }
-    ensures inverse { odd * result % 2 ^ bits ≡ 1 }
-{
-    if bits == 1 {
-        1
-    } else {
-        lift(odd, inverse_below(odd, bits - 1), 1 << (bits - 1))
-    }
+    found * (2 + 65535 * (odd * found)) % 65536
 }
 
 /// The number whose product with an odd number is 1 modulo 65,536.
 pub fn inverse(odd: u16) -> u16
     requires { odd % 2 ≡ 1 }
-    ensures { odd * result % 65536 ≡ 1 }
+    ensures value { result ≡ inverse_of odd }
+    ensures product { odd * result % 65536 ≡ 1 }
 {
-    inverse_below(u64::from(odd), 16) as u16
+    // An odd number is its own inverse modulo 8.
+    let odd = u64::from(odd);
+    refine(odd, refine(odd, refine(odd, odd))) as u16
 }
 
 /// A number as an odd number times a power of two.
@@ -56,6 +35,8 @@ pub fn odd_part(size: u16) -> OddPart
     requires { 0 < size }
     ensures odd { result.odd % 2 ≡ 1 }
     ensures product { result.odd * 2 ^ result.twos ≡ size }
+    ensures value { result.odd ≡ odd_of size }
+    ensures twos { result.twos ≡ twos_of size }
 {
     if size % 2 == 1 {
         return OddPart { odd: size, twos: 0 };

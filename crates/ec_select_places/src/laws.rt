@@ -4,8 +4,10 @@ ghost use Rattle.ec_select_places.specs.StepLaws.{IndexesAreScaled, PointersAreA
 ghost use Rattle.ec_select_places.specs.ConversionLaws.{PointersAreEmbedded, PointersAreNarrowed, EmbeddingsKeepPlaces};
 ghost use Rattle.ec_select_places.specs.Form.{StepsAreShort, ConversionsAreShort, OrdersHaveWords};
 ghost use Rattle.ec_select_places.specs.Form.{StepsAreValid, OrdersAreValid, ConversionsAreValid, PlacesHaveNoLabel};
-ghost use Rattle.ec_select_places.specs.DistanceLaws.{DistancesAreRight};
+ghost use Rattle.ec_select_places.specs.DistanceLaws.{DistancesAreRight, ElementsAreRight};
 ghost use Rattle.ec_select_places.specs.Form.{DistancesAreShort, DistancesAreValid, DistancesHaveNoLabel};
+ghost use Rattle.ec_select_places.specs.Form.{ElementsAreShort, ElementsAreValid};
+ghost use Rattle.ec_select_places.specs.Form.{ElementsHaveNoLabel};
 
 use ec_asm::laws::{
     bytes_are_right, copies_are_right, numbers_are_their_bytes, operators_are_right,
@@ -54,6 +56,21 @@ pub fn distances_are_formed()
     ensures short { DistancesAreShort }
     ensures valid { DistancesAreValid }
     ensures labels { DistancesHaveNoLabel }
+{}
+
+/// The code of `elements` puts the elements between two offsets to two bytes, in two's complement,
+/// for elements of any size. All else is kept but R0, R1, R8 to R11, R30, R31 and the flags.
+pub fn elements_are_right()
+    ensures { ElementsAreRight }
+{
+    distances_are_right();
+}
+
+/// Its items are straight and can be placed, and have no labels.
+pub fn elements_are_formed()
+    ensures short { ElementsAreShort }
+    ensures valid { ElementsAreValid }
+    ensures labels { ElementsHaveNoLabel }
 {}
 
 /// From its first word to its end the code of `order` takes at most so many steps, and leaves in R30 whether the

@@ -15,6 +15,6 @@ pub mod laws;
 mod steps;
 
 pub use conversions::{embed, narrow};
-pub use distances::distance;
+pub use distances::{distance, elements};
 pub use inverses::{OddPart, inverse, odd_part};
 pub use steps::{advance, order, scale_index};

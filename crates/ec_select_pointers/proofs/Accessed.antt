@@ -7,18 +7,19 @@ use Rattle.ec_space.specs.declared.space.Bank.TheVariants.{Flash as FlashBank, D
 use Rattle.ec_isa.specs.declared.instructions.Instr.TheVariants.{Movw}
 use Rattle.ec_avr.specs.declared.machine.Access.TheVariants.{Read, Write}
 use Rattle.ec_avr.specs.State.{raised}
-use Rattle.ec_asm.specs.declared.items.AsmItem.TheVariants.{Plain}
+use Rattle.ec_asm.specs.declared.items.AsmItem.TheVariants.{Plain, LoadPart}
 use Rattle.ec_asm.specs.declared.pieces.Location.{Location}
 use Rattle.ec_asm.specs.declared.pieces.Location.TheVariants.{InRegisters, InMemory}
 use Rattle.ec_asm.specs.View.{View, put, pair}
 use Rattle.ec_asm.specs.Change.{Env, Own, change}
-use Rattle.ec_asm.specs.Items.{block}
+use Rattle.ec_asm.specs.Items.{block, part_of}
 use Rattle.ec_asm.specs.Pieces.{StandsFrom, Outside, copy_code}
 use Rattle.ec_asm.specs.PieceLaws.{IsReadFirst, CopiesAreRight}
 use Rattle.ec_select_pointers.specs.Accesses.{point_code, data_byte, data_bytes, flash_byte, flash_bytes, store_byte}
 use Rattle.ec_select_pointers.specs.Accesses.{store_bytes}
 use Rattle.ec_select_pointers.specs.AccessLaws.{each, Brings, LeavesZ, AreData, AreFlash, data_at}
-use Rattle.ec_select_pointers.specs.AccessLaws.{flash_at, address_in, DataIsLoaded, FlashIsLoaded, DataIsStored}
+use Rattle.ec_select_pointers.specs.AccessLaws.{flash_at, address_in, DataIsLoaded, FlashIsLoaded, TableIsLoaded}
+use Rattle.ec_select_pointers.specs.AccessLaws.{DataIsStored}
 use Rattle.ec_select_pointers.proofs.Blocks.{put_other, block-append, chain_holds, outside_ne, not_yet}
 use Rattle.ec_select_pointers.proofs.Brought.{BringsByte, BringsTo, one_brought, data_is_brought, flash_is_brought}
 use Rattle.ec_select_pointers.proofs.Brought.{byte_is_stored}
@@ -220,3 +221,40 @@ data_is_stored copies e p q n a b v has held first =
     let v1 = block e (point_code q) v in
     let r = data_stored e p n a z v v1 has.number has.number_leaves held first (record { pointer = at.pointer; brings = at.brings }) in
     rw (block-append e (point_code q) (store_bytes p n) v) r.brings
+
+-- ---- from a place in the flash bank
+
+-- Z is set to an address, byte by byte
+parts_set : (e : Env) (o k b : ℕ) (byte : ℕ → ℕ) (v : View)
+    → Brings v b 0 byte [] (block e (LoadPart 30 o k 0 ∷ LoadPart 31 o k 1 ∷ []) v)
+parts_set e o k b byte v =
+    let a = e.address_of o k in
+    let g = put v.at 30 (part_of a 0) in
+    let other : (i : ℕ) → i ≢ 30 → i ≢ 31 → put g 31 (part_of a 1) i ≡ v.at i =
+    λ i n30 n31. put_other g 31 (part_of a 1) i n31 ∙ put_other v.at 30 (part_of a 0) i n30 in
+    record {
+      there = λ j l. absurd (omega arith);
+      numbers = λ h l i u.
+          ⊎_elim
+          (λ (q : i ≡ 30). rw q (omega arith))
+          (λ (q : i ≢ 30).
+          ⊎_elim
+          (λ (r : i ≡ 31). rw r (omega arith))
+          (λ (r : i ≢ 31). rw (other i q r) (h i u))
+          (cases_eq i 31))
+          (cases_eq i 30);
+      same = λ i n0 n30 n31 o. other i n30 n31;
+      flags = refl;
+      inputs = refl;
+      safe = refl;
+      seen = sym (append-nil v.seen);
+    }
+
+pub table_is_loaded : TableIsLoaded
+table_is_loaded e q o k zero b v s leaves flash = parts_set e o k b (flash_at e (e.address_of o k)) v
+table_is_loaded e q o k (suc n) b v s leaves flash =
+    let z = e.address_of o k in
+    let v1 = block e (LoadPart 30 o k 0 ∷ LoadPart 31 o k 1 ∷ []) v in
+    let room = flash.room in
+    let at : pair v1.at 30 ≡ z = omega (arith, room) in
+    flash_follows e q (suc n) b z v v1 s leaves flash at (parts_set e o k b (flash_at e z) v)

@@ -17,8 +17,9 @@ use Rattle.ec_select_pointers.specs.Addresses.{pointer_bytes, part_byte, tag_cod
 use Rattle.ec_select_pointers.specs.Addresses.{subtract_byte, field_code}
 use Rattle.ec_select_pointers.specs.Accesses.{point_code, data_byte, data_bytes, flash_byte, flash_bytes, bytes_words}
 use Rattle.ec_select_pointers.specs.Accesses.{tag_test, over, either_bytes, load_data_code, load_flash_code}
-use Rattle.ec_select_pointers.specs.Accesses.{load_any_code, store_byte, store_bytes, store_data_code}
-use Rattle.ec_select_pointers.specs.Form.{Takes, PointersAreStraight, PointersTake, PointersHave}
+use Rattle.ec_select_pointers.specs.Accesses.{load_table_code, load_any_code, store_byte, store_bytes}
+use Rattle.ec_select_pointers.specs.Accesses.{store_data_code}
+use Rattle.ec_select_pointers.specs.Form.{Takes, PointersAreStraight, PointersTake, PointersHave, TablesAreShort}
 
 -- ---- lists of items
 
@@ -223,6 +224,13 @@ pointers_have o k tag p q n = (
   any_words p q n,
   (store_data_short p q n).words_are,
 )
+
+pub tables_are_short : TablesAreShort
+tables_are_short o k q n =
+    let parts : IsShort (LoadPart 30 o k 0 ∷ LoadPart 31 o k 1 ∷ []) 2 2 2 =
+    record { straight = refl; at_least = omega arith; steps_are = omega arith; words_are = omega arith } in
+    let j = joined (LoadPart 30 o k 0 ∷ LoadPart 31 o k 1 ∷ []) (flash_bytes q n) 2 n 2 (2 * n) 2 (3 * n) parts (all_flash_short q n) in
+    (j.straight, takes (load_table_code o k q n) _ _ _ j, j.words_are)
 
 -- ---- where code ends
 

@@ -1,5 +1,5 @@
 -- The items of the code are valid, and have no labels.
-use Rattle.std.proofs.Common.{◌≡◌, ℕ, zero, suc, ◌+◌, ◌-◌, ◌/◌, ◌%◌, ◌<◌, ◌≤◌, ◌==◌, Bool, true, false, List, [], ◌∷◌}
+use Rattle.std.proofs.Common.{◌≡◌, ℕ, zero, suc, ◌+◌, ◌/◌, ◌%◌, ◌<◌, ◌≤◌, ◌==◌, Bool, true, false, List, [], ◌∷◌}
 use Rattle.std.proofs.Common.{◌++◌, Option, Some, None, refl, ◌∙◌, arith}
 use Rattle.std.specs.Prelude.{nat_le, count_by, cond, if◌then◌else◌}
 use Rattle.std.specs.List.{list_all}
@@ -18,17 +18,18 @@ use Rattle.ec_select_pointers.specs.Addresses.{pointer_bytes, part_byte, tag_cod
 use Rattle.ec_select_pointers.specs.Addresses.{subtracts, subtract_byte, field_code}
 use Rattle.ec_select_pointers.specs.Accesses.{point_code, data_byte, data_bytes, flash_byte, flash_bytes, bytes_words}
 use Rattle.ec_select_pointers.specs.Accesses.{tag_test, over, either_bytes, load_data_code, load_flash_code}
-use Rattle.ec_select_pointers.specs.Accesses.{load_any_code, store_byte, store_bytes, store_data_code}
+use Rattle.ec_select_pointers.specs.Accesses.{load_table_code, load_any_code, store_byte, store_bytes}
+use Rattle.ec_select_pointers.specs.Accesses.{store_data_code}
 use Rattle.ec_select_pointers.specs.AddressLaws.{IsTag}
 use Rattle.ec_select_pointers.specs.Form.{HasPlaces, HasNoLabel, AddressesAreValid, AccessesAreValid}
-use Rattle.ec_select_pointers.specs.Form.{PointersHaveNoLabel}
+use Rattle.ec_select_pointers.specs.Form.{PointersHaveNoLabel, TablesAreValid, TablesHaveNoLabel}
 
 -- ---- lists of items
 
-both : (t : AsmItem → Bool) (a b : List AsmItem) → list_all t a ≡ true → list_all t b ≡ true → list_all t (a ++ b) ≡ true
+pub both : (t : AsmItem → Bool) (a b : List AsmItem) → list_all t a ≡ true → list_all t b ≡ true → list_all t (a ++ b) ≡ true
 both t a b h k = list_all-append t a b ∙ rw (h, k) refl
 
-all_pass : (t : AsmItem → Bool) (body : ℕ → List AsmItem) (n : ℕ) → ((i : ℕ) → i < n → list_all t (body i) ≡ true)
+pub all_pass : (t : AsmItem → Bool) (body : ℕ → List AsmItem) (n : ℕ) → ((i : ℕ) → i < n → list_all t (body i) ≡ true)
     → list_all t (chain body n) ≡ true
 all_pass t body zero h = refl
 all_pass t body (suc n) h =
@@ -200,10 +201,16 @@ accesses_are_valid sizes p q n m a b =
           (over_valid sizes (bytes_words q n + 1) (omega (arith, w))) (over_valid sizes (bytes_words q n) (omega (arith, w))),
     )
 
+pub tables_are_valid : TablesAreValid
+tables_are_valid sizes o k q n h s =
+    let t = is_valid_item sizes in
+    both t (LoadPart 30 o k 0 ∷ LoadPart 31 o k 1 ∷ []) (flash_bytes q n) (rw s refl)
+    (all_pass t (flash_byte q) n (λ i l. flash_valid sizes q n i h l))
+
 -- ---- labels
 
 -- an item with no label
-abbrev is_plain : AsmItem → Bool
+abbrev pub is_plain : AsmItem → Bool
 is_plain (Plain i) = true
 is_plain (Label l) = false
 is_plain (JumpTo l) = false
@@ -213,7 +220,7 @@ is_plain (LoadPart d o k part) = true
 is_plain (LoadObj d o k) = true
 is_plain (StoreObj o k r) = true
 
-no_use : (items : List AsmItem) (i : AsmItem) → is_plain i ≡ true → is_placed items (used_label i) ≡ true
+pub no_use : (items : List AsmItem) (i : AsmItem) → is_plain i ≡ true → is_placed items (used_label i) ≡ true
 no_use items (Plain i) h = refl
 no_use items (Label l) h = refl
 no_use items (JumpTo l) h = absurd (false≢true h)
@@ -223,7 +230,7 @@ no_use items (LoadPart d o k part) h = refl
 no_use items (LoadObj d o k) h = refl
 no_use items (StoreObj o k r) h = refl
 
-no_place : (l : ℕ) (i : AsmItem) → is_plain i ≡ true → (cond (is_label l i) 1 0 == 0) ≡ true
+pub no_place : (l : ℕ) (i : AsmItem) → is_plain i ≡ true → (cond (is_label l i) 1 0 == 0) ≡ true
 no_place l (Plain i) h = refl
 no_place l (Label k) h = absurd (false≢true h)
 no_place l (JumpTo k) h = refl
@@ -234,7 +241,7 @@ no_place l (LoadObj d o k) h = refl
 no_place l (StoreObj o k r) h = refl
 
 -- what each of some items passes, all pass
-passing : (t u : AsmItem → Bool) → ((i : AsmItem) → t i ≡ true → u i ≡ true) → (items : List AsmItem)
+pub passing : (t u : AsmItem → Bool) → ((i : AsmItem) → t i ≡ true → u i ≡ true) → (items : List AsmItem)
     → list_all t items ≡ true → list_all u items ≡ true
 passing t u h [] f = refl
 passing t u h (i ∷ is) f =
@@ -307,3 +314,7 @@ pointers_have_no_label o k tag p q n =
       has_no_label (load_any_code p q n) (load_any_passes is_plain p q n h (test_plain p) refl refl),
       has_no_label (store_data_code p q n) (store_data_passes is_plain q p n back),
     )
+
+pub tables_have_no_label : TablesHaveNoLabel
+tables_have_no_label o k q n =
+    has_no_label (load_table_code o k q n) (all_pass is_plain (flash_byte q) n (λ i l. flash_plain q i))

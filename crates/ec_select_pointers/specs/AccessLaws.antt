@@ -11,7 +11,8 @@ use Rattle.ec_asm.specs.Pieces.{StandsFrom, Outside, value}
 use Rattle.ec_asm.specs.PieceLaws.{HoldsNumbers, IsReadFirst}
 use Rattle.ec_asm.specs.Takes.{Goes}
 use Rattle.ec_select_pointers.specs.Addresses.{flash_tag, data_tag}
-use Rattle.ec_select_pointers.specs.Accesses.{load_data_code, load_flash_code, load_any_code, store_data_code}
+use Rattle.ec_select_pointers.specs.Accesses.{load_data_code, load_flash_code, load_table_code, load_any_code}
+use Rattle.ec_select_pointers.specs.Accesses.{store_data_code}
 
 -- ---- what is done
 
@@ -93,6 +94,14 @@ FlashIsLoaded =
     → let z = address_in v a in
     AreFlash e z n
     → Brings v b n (flash_at e z) (each (Read FlashBank) z (flash_at e z) n) (block e (load_flash_code p q n) v)
+
+-- n bytes of a place in the flash bank, whose address is known when the code is placed, are brought to q
+abbrev pub TableIsLoaded : Type 0
+TableIsLoaded =
+    (e : Env) (q : Location) (object offset n b : ℕ) (v : View) → StandsFrom e q n b Own → LeavesZ b n
+    → let z = e.address_of object offset in
+    AreFlash e z n
+    → Brings v b n (flash_at e z) (each (Read FlashBank) z (flash_at e z) n) (block e (load_table_code object offset q n) v)
 
 -- a pointer with a tag: from the bank that the tag tells
 abbrev pub DataIsLoadedByTag : Type 0

@@ -1,8 +1,9 @@
--- Pieces of code for loads and stores through pointers. Z is R31:R30, and it and R0 are work registers.
+-- Pieces of code for loads and stores through pointers, and for loads from places in the flash bank. Z is R31:R30, and
+-- it and R0 are work registers.
 use Rattle.std.specs.Prelude.{ℕ, ◌+◌, ◌*◌, ◌%◌, ◌==◌, if◌then◌else◌, pos, List, [], ◌∷◌, ◌++◌}
 use Rattle.ec_isa.specs.declared.instructions.Instr.TheVariants.{Movw, LddZ, StdZ, LpmZPlus, Rjmp, Sbrs}
 use Rattle.ec_asm.specs.declared.items.AsmItem.{AsmItem}
-use Rattle.ec_asm.specs.declared.items.AsmItem.TheVariants.{Plain, LoadObj, StoreObj}
+use Rattle.ec_asm.specs.declared.items.AsmItem.TheVariants.{Plain, LoadPart, LoadObj, StoreObj}
 use Rattle.ec_asm.specs.declared.pieces.Location.{Location}
 use Rattle.ec_asm.specs.declared.pieces.Location.TheVariants.{InRegisters, InMemory}
 use Rattle.ec_asm.specs.Items.{chain}
@@ -39,6 +40,10 @@ load_data_code p q n = point_code p ++ data_bytes q n
 
 abbrev pub load_flash_code : (p q : Location) → ℕ → List AsmItem
 load_flash_code p q n = point_code p ++ flash_bytes q n
+
+-- n bytes from a place in the flash bank, put to q: Z is set to its address
+abbrev pub load_table_code : (object offset : ℕ) → (q : Location) → ℕ → List AsmItem
+load_table_code object offset q n = LoadPart 30 object offset 0 ∷ LoadPart 31 object offset 1 ∷ flash_bytes q n
 
 -- ---- loads by the tag of a pointer
 

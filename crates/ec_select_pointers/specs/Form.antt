@@ -7,7 +7,8 @@ use Rattle.ec_asm.specs.declared.pieces.Location.TheVariants.{InRegisters, InMem
 use Rattle.ec_asm.specs.Items.{all_straight, code_steps, code_words}
 use Rattle.ec_asm.specs.Valid.{Sizes, is_offset, is_valid_item, used_label, is_label, is_placed}
 use Rattle.ec_select_pointers.specs.Addresses.{pointer_bytes, address_code, field_code}
-use Rattle.ec_select_pointers.specs.Accesses.{load_data_code, load_flash_code, load_any_code, store_data_code}
+use Rattle.ec_select_pointers.specs.Accesses.{load_data_code, load_flash_code, load_table_code, load_any_code}
+use Rattle.ec_select_pointers.specs.Accesses.{store_data_code}
 use Rattle.ec_select_pointers.specs.AddressLaws.{IsTag}
 
 -- ---- straight code
@@ -78,3 +79,22 @@ PointersHaveNoLabel =
     → HasNoLabel (address_code object offset tag q) × HasNoLabel (field_code q offset)
     × HasNoLabel (load_data_code p q n) × HasNoLabel (load_flash_code p q n) × HasNoLabel (load_any_code p q n)
     × HasNoLabel (store_data_code p q n)
+
+-- ---- a load from a place in the flash bank
+
+-- straight code, with at least and at most so many steps, and at most so many words
+abbrev pub TablesAreShort : Type 0
+TablesAreShort =
+    (object offset : ℕ) (q : Location) (n : ℕ)
+    → (all_straight (load_table_code object offset q n) ≡ true)
+    × Takes (2 + n) (2 + 2 * n) (load_table_code object offset q n)
+    × (code_words (load_table_code object offset q n) ≤ 2 + 3 * n)
+
+-- its items can be placed where the bytes can, and the place has an offset
+abbrev pub TablesAreValid : Type 0
+TablesAreValid =
+    (sizes : Sizes) (object offset : ℕ) (q : Location) (n : ℕ) → HasPlaces sizes q n
+    → IsTrue (is_offset sizes object offset) → ItemsAreValid sizes (load_table_code object offset q n)
+
+abbrev pub TablesHaveNoLabel : Type 0
+TablesHaveNoLabel = (object offset : ℕ) (q : Location) (n : ℕ) → HasNoLabel (load_table_code object offset q n)

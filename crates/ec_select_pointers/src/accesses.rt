@@ -1,11 +1,11 @@
-//! Loads and stores through pointers.
+//! Loads and stores through pointers, and loads from places in the flash bank.
 ghost use Rattle.std.specs.Prelude.{◌≡◌, ◌<◌, ◌^◌, ◌++◌, OnOk, OnErr};
 ghost use Rattle.ec_runs.specs.Behaviours.{BeginWith};
 ghost use Rattle.ec_asm.specs.Pieces.{HasByte, HasBytes};
 ghost use Rattle.ec_select_pointers.specs.Accesses.{point_code, data_byte, flash_byte, data_bytes, flash_bytes};
 ghost use Rattle.ec_select_pointers.specs.Accesses.{load_data_code, load_flash_code, bytes_words, tag_test, over};
 ghost use Rattle.ec_select_pointers.specs.Accesses.{either_bytes, load_any_code, store_byte, store_bytes};
-ghost use Rattle.ec_select_pointers.specs.Accesses.{store_data_code};
+ghost use Rattle.ec_select_pointers.specs.Accesses.{store_data_code, load_table_code};
 
 use crate::memory::{load, store};
 use ec_asm::{AsmItem, Location, copy};
@@ -113,6 +113,37 @@ pub fn load_flash(
     ensures err { OnErr result (BeginWith out.old.items out.new.items) }
 {
     point(out, pointer)?;
+    flash_bytes(out, to, bytes)
+}
+
+/// Appends code that loads a number of so many bytes from a place in the flash bank, whose address
+/// is known when the code is placed. Where memory runs out, a part of the code is appended.
+pub fn load_table(
+    out: &mut Seq<AsmItem>,
+    object: u16,
+    offset: u32,
+    to: Location,
+    bytes: u8,
+) -> Result<(), NoMemory>
+    requires { HasBytes to bytes }
+    ensures ok { OnOk result (out.new.items
+        ≡ out.old.items ++ load_table_code object offset to bytes) }
+    ensures err { OnErr result (BeginWith out.old.items out.new.items) }
+{
+    out.extend_from_slice(&[
+        AsmItem::LoadPart {
+            d: 30,
+            object,
+            offset,
+            part: 0,
+        },
+        AsmItem::LoadPart {
+            d: 31,
+            object,
+            offset,
+            part: 1,
+        },
+    ])?;
     flash_bytes(out, to, bytes)
 }
 

@@ -2,8 +2,10 @@
 ghost use Rattle.ec_select_pointers.specs.AddressLaws.{AddressesAreRight, FieldsAreRight};
 ghost use Rattle.ec_select_pointers.specs.AccessLaws.{DataIsLoaded, FlashIsLoaded, DataIsStored};
 ghost use Rattle.ec_select_pointers.specs.AccessLaws.{DataIsLoadedByTag, FlashIsLoadedByTag};
+ghost use Rattle.ec_select_pointers.specs.AccessLaws.{TableIsLoaded};
 ghost use Rattle.ec_select_pointers.specs.Form.{PointersAreStraight, PointersTake, PointersHave};
 ghost use Rattle.ec_select_pointers.specs.Form.{AddressesAreValid, AccessesAreValid, PointersHaveNoLabel};
+ghost use Rattle.ec_select_pointers.specs.Form.{TablesAreShort, TablesAreValid, TablesHaveNoLabel};
 
 use ec_asm::laws::{copies_are_right, jumps_go, parts_stand, runs_join, straight_code_goes};
 
@@ -25,6 +27,20 @@ pub fn loads_are_right()
 {
     copies_are_right();
 }
+
+/// The code of `load_table` brings the bytes of a place in the flash bank, each by one read, by
+/// rising address. All else is kept but R0, R30 and R31.
+pub fn tables_are_loaded()
+    ensures { TableIsLoaded }
+{}
+
+/// It is straight, takes at least and at most so many steps and has at most so many words. Its
+/// items can be placed, and have no labels.
+pub fn tables_are_formed()
+    ensures short { TablesAreShort }
+    ensures valid { TablesAreValid }
+    ensures labels { TablesHaveNoLabel }
+{}
 
 /// From its first word to its end the code of `load_any` does so from the bank that the pointer's third byte tells, in
 /// at least and at most so many steps.

@@ -1,5 +1,6 @@
-//! Pieces of code for pointers: the address of a place put to a pointer, a pointer moved by an offset, and loads and
-//! stores of numbers of several bytes through pointers.
+//! Pieces of code for pointers: the address of a place put to a pointer, a pointer moved by an
+//! offset, loads and stores of numbers of several bytes through pointers, and loads from places in
+//! the flash bank.
 //!
 //! A pointer has its address in two bytes, the low one first, and that of the unnamed space has a third byte, which
 //! tells the bank: 0x00 is flash, and 0x80 is data. `specs/Addresses.antt` and `specs/Accesses.antt` have the pieces,
@@ -12,5 +13,5 @@ mod addresses;
 pub mod laws;
 mod memory;
 
-pub use accesses::{load_any, load_data, load_flash, store_data};
+pub use accesses::{load_any, load_data, load_flash, load_table, store_data};
 pub use addresses::{address, field};

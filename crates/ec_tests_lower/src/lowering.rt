@@ -11,7 +11,7 @@ use std::process::Abort;
 use std::test::Fail;
 
 /// What stands in C, the same in words, and the result of `main`.
-static PROGRAMS: [(&str, &str, i128); 21] = [
+static PROGRAMS: [(&str, &str, i128); 24] = [
     ("return 3 - 5 - 4;", "3 5 - 4 - return fn", -6),
     (
         "; { ; } { int b = 7; a = b; } return a;",
@@ -108,6 +108,21 @@ static PROGRAMS: [(&str, &str, i128); 21] = [
         "iogroup_acquire(G); ioxorbuf(B, a = 1, iord(P)); return a;",
         "acquire ; a 1 = iord ioxorbuf ; a get return fn",
         1,
+    ),
+    (
+        "int v[3] = {5, 7, 9}; for (int b = 0; b < 3; b++) a += v[b]; return a;",
+        "v 5 7 9 array b get 3 < b _++ b 0 var a v & b get + * get += ; for a get return fn",
+        21,
+    ),
+    (
+        "struct s s = {3, 1000}; struct s *q = &s; q->n += q->m; a = q->m++; return s.n + a + q->m;",
+        "s 3 1000 pair q s & var q get * .n q get * .m get += ; a q get * .m _++ = ; s .n get a get + q get * .m get + return fn",
+        1010,
+    ),
+    (
+        "int v[3] = {1, 1, 1}; int *p = v; *p++ = 4; a = *p++ = 6; *p = a + *v; return *v + v[1] + *p;",
+        "v 1 1 1 array p v & var p _++ * 4 = ; a p _++ * 6 = = ; p get * a get v & * get + = ; v & * get v & 1 + * get + p get * get + return fn",
+        20,
     ),
 ];
 

@@ -1,12 +1,13 @@
-//! A run of operations, made one by one, of programs whose objects are numbers, and whose ports have inputs.
+//! A run of operations, made one by one, of programs whose leaves are ints and pointers, and whose ports have inputs.
 ghost use Rattle.std.specs.Prelude.{IfOk};
 ghost use Rattle.ec_core.specs.Integers.{IsInteger};
 ghost use Rattle.ec_fx.specs.Numbers.{IsWhole};
 
+use crate::words::LEAVES;
 use ec_core::{BinOp, CType, IntegerType, integer_operation};
 use ec_interp::{Event, PortInput, Told};
 use ec_ir::{Ir, IrProgram, Temp};
-use ec_space::Seq;
+use ec_space::{Seq, SpaceId};
 use std::alloc::Global;
 use std::mem;
 use std::process::Abort;
@@ -32,7 +33,7 @@ const UNSIGNED_LONG: IntegerType = IntegerType {
 struct Caller {
     function: usize,
     at: usize,
-    numbers: Vec<i128>,
+    values: Vec<Told>,
     to: Option<Temp>,
 }
 
@@ -51,8 +52,9 @@ struct Stepper<'a> {
     function: usize,
     at: usize,
     /// What stands at each place of temporaries.
-    numbers: Vec<i128>,
-    objects: Vec<i128>,
+    values: Vec<Told>,
+    /// What stands in each leaf.
+    leaves: Vec<Told>,
     callers: Vec<Caller>,
     events: Seq<Event>,
 }
@@ -91,63 +93,124 @@ fn computed(op: BinOp, t: IntegerType, a: i128, b: i128) -> Result<i128, Fail>
 }
 
 impl Stepper<'_> {
+    fn value(&self, t: Temp) -> Result<Told, Fail> {
+        let value = self
+            .values
+            .get(usize::from(t.at))
+            .ok_or("no such temporary")?;
+        Ok(*value)
+    }
+
     /// The number of a type at a temporary.
     fn number(&self, t: Temp, ty: IntegerType) -> Result<i128, Fail>
         requires { IsInteger ty }
     {
-        let n = self
-            .numbers
-            .get(usize::from(t.at))
-            .ok_or("no such temporary")?;
-        Ok(ty.wrapped(*n))
+        match self.value(t)? {
+            Told::Number(n) => Ok(ty.wrapped(n)),
+            _ => Err("no number")?,
+        }
     }
 
-    fn put(&mut self, t: Temp, n: i128) -> Result<(), Fail> {
-        let at = usize::from(t.at);
-        for _ in self.numbers.len()..at + 1 {
-            self.numbers.push(0)?;
+    /// The object and the offset that a pointer at a temporary tells.
+    fn pointer(&self, t: Temp) -> Result<(u16, u32), Fail> {
+        match self.value(t)? {
+            Told::Address { object, offset } => Ok((object, offset)),
+            _ => Err("no pointer")?,
         }
-        match self.numbers.get_mut(at) {
+    }
+
+    fn put(&mut self, t: Temp, value: Told) -> Result<(), Fail> {
+        let at = usize::from(t.at);
+        for _ in self.values.len()..at + 1 {
+            self.values.push(Told::Null)?;
+        }
+        match self.values.get_mut(at) {
             None => Err("no such temporary")?,
-            Some(number) => *number = n,
+            Some(place) => *place = value,
         }
         Ok(())
     }
 
-    fn load(&mut self, t: Temp, object: u16) -> Result<(), Fail> {
+    /// The space of an object's declaration.
+    fn space(&self, object: u16) -> Result<SpaceId, Fail> {
         let o = self
             .program
             .objs
             .get(usize::from(object))
             .ok_or("no object")?;
-        let n = *self.objects.get(usize::from(object)).ok_or("no object")?;
+        Ok(o.space)
+    }
+
+    /// The place in the list of the leaf of so many bytes that begins there.
+    fn leaf(&self, object: u16, offset: u32, bytes: u8) -> Result<usize, Fail> {
+        for (i, (o, _, from, count)) in LEAVES.iter().enumerate() {
+            if *o == object && *from == offset && *count == bytes {
+                return Ok(i);
+            }
+        }
+        Err("no such leaf")?
+    }
+
+    fn load(&mut self, t: Temp, object: u16, offset: u32, space: SpaceId) -> Result<(), Fail> {
+        let i = self.leaf(object, offset, t.bytes)?;
+        let value = *self.leaves.get(i).ok_or("no such leaf")?;
+        let (_, leaf, _, _) = *LEAVES.get(i).ok_or("no such leaf")?;
         self.events.push(Event::Read {
             object,
-            leaf: 0,
-            space: o.space,
-            value: Told::Number(n),
+            leaf,
+            space,
+            value,
         })?;
-        self.put(t, n)
+        self.put(t, value)
     }
 
-    fn store(&mut self, object: u16, t: Temp) -> Result<(), Fail> {
-        let o = self
-            .program
-            .objs
-            .get(usize::from(object))
-            .ok_or("no object")?;
-        let n = self.number(t, type_of(&o.ty)?)?;
+    fn store(&mut self, object: u16, offset: u32, space: SpaceId, t: Temp) -> Result<(), Fail> {
+        let i = self.leaf(object, offset, t.bytes)?;
+        let value = match self.value(t)? {
+            Told::Number(n) => Told::Number(INT.wrapped(n)),
+            value => value,
+        };
+        let (_, leaf, _, _) = *LEAVES.get(i).ok_or("no such leaf")?;
         self.events.push(Event::Write {
             object,
-            leaf: 0,
-            space: o.space,
-            value: Told::Number(n),
+            leaf,
+            space,
+            value,
         })?;
-        match self.objects.get_mut(usize::from(object)) {
-            None => Err("no object")?,
-            Some(number) => *number = n,
+        match self.leaves.get_mut(i) {
+            None => Err("no such leaf")?,
+            Some(place) => *place = value,
         }
         Ok(())
+    }
+
+    /// A pointer so many bytes further.
+    fn moved(&self, a: Temp, bytes: i128) -> Result<Told, Fail> {
+        let (object, offset) = self.pointer(a)?;
+        let offset = i128::from(offset).saturating_add(bytes);
+        let offset = u32::try_from(offset).ok().ok_or("no offset")?;
+        Ok(Told::Address { object, offset })
+    }
+
+    /// A sum of two ints, or another value of two, or a pointer to ints that is moved.
+    fn binary(
+        &mut self,
+        op: BinOp,
+        to: Temp,
+        a: Temp,
+        aty: &CType,
+        b: Temp,
+        bty: &CType,
+    ) -> Result<(), Fail> {
+        let y = self.number(b, type_of(bty)?)?;
+        let value = match aty.pointee() {
+            Some(_) => self.moved(a, y.saturating_mul(2))?,
+            None => {
+                let t = type_of(aty)?;
+                Told::Number(computed(op, t, self.number(a, t)?, y)?)
+            }
+        };
+        self.put(to, value)
     }
 
     /// The next byte that a port address gives.
@@ -189,7 +252,7 @@ impl Stepper<'_> {
             number = number.saturating_add(scale.saturating_mul(i128::from(byte)));
             scale = scale.saturating_mul(256);
         }
-        self.put(to, number)
+        self.put(to, Told::Number(number))
     }
 
     /// The lowest bytes of a number are written by falling addresses.
@@ -221,11 +284,11 @@ impl Stepper<'_> {
     }
 
     fn call(&mut self, function: u16, to: Option<Temp>) -> Result<(), Fail> {
-        let numbers = mem::replace(&mut self.numbers, Vec::new(self.alloc));
+        let values = mem::replace(&mut self.values, Vec::new(self.alloc));
         self.callers.push(Caller {
             function: self.function,
             at: self.at,
-            numbers,
+            values,
             to,
         })?;
         self.function = usize::from(function);
@@ -244,9 +307,9 @@ impl Stepper<'_> {
         };
         self.function = caller.function;
         self.at = caller.at;
-        self.numbers = caller.numbers;
+        self.values = caller.values;
         if let Some(t) = caller.to {
-            self.put(t, n)?;
+            self.put(t, Told::Number(n))?;
         }
         Ok(None)
     }
@@ -254,13 +317,32 @@ impl Stepper<'_> {
     /// What an operation does, or the result of `main` where it ends.
     fn perform(&mut self, op: &Ir) -> Result<Option<i128>, Fail> {
         match op {
-            Ir::Const(t, n) => self.put(*t, *n)?,
+            Ir::Const(t, n) => self.put(*t, Told::Number(*n))?,
             Ir::Copy(to, from) => {
-                let n = self.number(*from, INT)?;
-                self.put(*to, n)?;
+                let value = self.value(*from)?;
+                self.put(*to, value)?;
             }
-            Ir::LoadObj(t, o, 0) => self.load(*t, *o)?,
-            Ir::StoreObj(o, 0, t) => self.store(*o, *t)?,
+            Ir::Addr(t, object, offset) => {
+                let value = Told::Address {
+                    object: *object,
+                    offset: *offset,
+                };
+                self.put(*t, value)?;
+            }
+            Ir::Field { ptr, offset, .. } => {
+                let value = self.moved(*ptr, i128::from(*offset))?;
+                self.put(*ptr, value)?;
+            }
+            Ir::Load { to, ptr, space } => {
+                let (object, offset) = self.pointer(*ptr)?;
+                self.load(*to, object, offset, *space)?;
+            }
+            Ir::Store { ptr, space, from } => {
+                let (object, offset) = self.pointer(*ptr)?;
+                self.store(object, offset, *space, *from)?;
+            }
+            Ir::LoadObj(t, o, offset) => self.load(*t, *o, *offset, self.space(*o)?)?,
+            Ir::StoreObj(o, offset, t) => self.store(*o, *offset, self.space(*o)?, *t)?,
             Ir::Bin {
                 op,
                 to,
@@ -269,17 +351,11 @@ impl Stepper<'_> {
                 b,
                 bty,
                 ..
-            } => {
-                let t = type_of(aty)?;
-                let x = self.number(*a, t)?;
-                let y = self.number(*b, type_of(bty)?)?;
-                let n = computed(*op, t, x, y)?;
-                self.put(*to, n)?;
-            }
+            } => self.binary(*op, *to, *a, aty, *b, bty)?,
             Ir::Conv { to, ty, a, aty, .. } => {
                 let n = self.number(*a, type_of(aty)?)?;
                 let n = type_of(ty)?.wrapped(n);
-                self.put(*to, n)?;
+                self.put(*to, Told::Number(n))?;
             }
             Ir::PortIn {
                 to,
@@ -324,9 +400,14 @@ impl Stepper<'_> {
 
 /// The run of a program that ends within 10,000 operations.
 pub fn run(alloc: Global, program: &IrProgram, inputs: &Seq<PortInput>) -> Result<Shown, Fail> {
-    let mut objects = Vec::new(alloc);
-    for _ in program.objs.as_slice() {
-        objects.push(0)?;
+    let mut leaves = Vec::new(alloc);
+    for (_, _, _, bytes) in &LEAVES {
+        let value = if *bytes == 2 {
+            Told::Number(0)
+        } else {
+            Told::Null
+        };
+        leaves.push(value)?;
     }
     let mut stepper = Stepper {
         alloc,
@@ -334,8 +415,8 @@ pub fn run(alloc: Global, program: &IrProgram, inputs: &Seq<PortInput>) -> Resul
         inputs,
         function: usize::from(program.main),
         at: 0,
-        numbers: Vec::new(alloc),
-        objects,
+        values: Vec::new(alloc),
+        leaves,
         callers: Vec::new(alloc),
         events: Seq::new(alloc),
     };

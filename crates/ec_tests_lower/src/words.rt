@@ -1,17 +1,19 @@
 //! Typed programs of int from words, each behind what it takes: `b 1 = ; b get return fn` is
 //! `int main(void) { b = 1; return b; }`.
 //!
-//! Each program has the static object a, the objects b and c of `main`, and the parameters d and e of the function 1.
+//! Each program has the static object a, the objects b and c of `main`, and the parameters d and e of the function 1; and
+//! in `main` the array v, the struct s, the pointer p to an int and the pointer q to such a struct.
 ghost use Rattle.std.specs.List.{AllByRecursion};
-ghost use Rattle.std.specs.Prelude.{◌≡◌, map, IfOk};
-ghost use Rattle.ec_core.specs.Layout.{IsObjectType};
-ghost use Rattle.ec_core.specs.Plain.{plain_type, plain_object, plain_program};
+ghost use Rattle.std.specs.Prelude.{◌≡◌, length, map, IfOk};
+ghost use Rattle.ec_core.specs.Layout.{AreStructs, IsObjectType, NamesBelow};
+ghost use Rattle.ec_core.specs.Plain.{plain_type, plain_object, plain_struct, plain_program};
 ghost use Rattle.ec_core.specs.Typing.{int};
 ghost use Rattle.ec_lower.specs.Emits.{IsLaidOut};
 ghost use Rattle.ec_interp.specs.Views.{HasLayouts};
 
 use ec_core::{
-    BinOp, CType, Expr, Func, LeafInit, Node, Obj, PlaceExpr, Program, Stmt, StmtKind, Storage,
+    BinOp, CType, Expr, Func, LeafInit, Member, Node, Obj, PlaceExpr, Program, Stmt, StmtKind,
+    Storage, StructDef,
 };
 use ec_fx::Mode;
 use ec_iohw::{IoOp, IoTable, Pair, Port, PortGroup};
@@ -23,6 +25,8 @@ use std::test::Fail;
 #[derive(Clone, Copy)]
 enum Form {
     Get,
+    /// The pointer to a place, or to the first element of an array.
+    Address,
     Binary(BinOp),
     Compound(BinOp),
     Assign,
@@ -42,8 +46,9 @@ enum Form {
     Group(bool),
 }
 
-static FORMS: [(&str, Form); 28] = [
+static FORMS: [(&str, Form); 29] = [
     ("get", Form::Get),
+    ("&", Form::Address),
     ("+", Form::Binary(BinOp::Add)),
     ("-", Form::Binary(BinOp::Sub)),
     ("/", Form::Binary(BinOp::Div)),
@@ -95,7 +100,8 @@ static FORMS: [(&str, Form); 28] = [
 #[derive(Clone, Copy)]
 enum Part {
     Evaluate,
-    Declare,
+    /// A declaration with so many initial values.
+    Declare(usize),
     Empty,
     If,
     Else,
@@ -111,9 +117,11 @@ enum Part {
     Block,
 }
 
-static PARTS: [(&str, Part); 13] = [
+static PARTS: [(&str, Part); 15] = [
     (";", Part::Evaluate),
-    ("var", Part::Declare),
+    ("var", Part::Declare(1)),
+    ("pair", Part::Declare(2)),
+    ("array", Part::Declare(3)),
     ("empty", Part::Empty),
     ("if", Part::If),
     ("else", Part::Else),
@@ -127,7 +135,37 @@ static PARTS: [(&str, Part); 13] = [
     ("}", Part::Block),
 ];
 
-static OBJECTS: [(&str, u16); 5] = [("a", 0), ("b", 1), ("c", 2), ("d", 3), ("e", 4)];
+static OBJECTS: [(&str, u16); 9] = [
+    ("a", 0),
+    ("b", 1),
+    ("c", 2),
+    ("d", 3),
+    ("e", 4),
+    ("v", 5),
+    ("s", 6),
+    ("p", 7),
+    ("q", 8),
+];
+
+/// The members of the struct.
+static MEMBERS: [(&str, u16); 2] = [(".m", 0), (".n", 1)];
+
+/// All leaves, as they lie without padding: the object, the number of the leaf in it, the offset in bytes, and the bytes.
+/// A pointer into the generic space has 3 bytes.
+pub static LEAVES: [(u16, usize, u32, u8); 12] = [
+    (0, 0, 0, 2),
+    (1, 0, 0, 2),
+    (2, 0, 0, 2),
+    (3, 0, 0, 2),
+    (4, 0, 0, 2),
+    (5, 0, 0, 2),
+    (5, 1, 2, 2),
+    (5, 2, 4, 2),
+    (6, 0, 0, 2),
+    (6, 1, 2, 2),
+    (7, 0, 0, 3),
+    (8, 0, 0, 3),
+];
 
 fn look_up<K: Copy>(word: &str, table: &[(&str, K)]) -> Option<K> {
     for (text, kind) in table {
@@ -141,7 +179,7 @@ fn look_up<K: Copy>(word: &str, table: &[(&str, K)]) -> Option<K> {
 #[derive(Drop)]
 struct Builder {
     alloc: Global,
-    objects: Vec<u16>,
+    places: Vec<PlaceExpr>,
     exprs: Vec<Expr>,
     stmts: Vec<Stmt>,
     /// How many statements stood before each `{` that is open.
@@ -156,6 +194,78 @@ fn int_type() -> CType
     CType::Int {
         signed: true,
         bytes: 2,
+    }
+}
+
+fn boxed(alloc: Global, ty: CType) -> Result<Box<CType>, NoMemory>
+    ensures { IfOk result (λ b. b.value ≡ ty) }
+{
+    match Box::new(alloc, ty) {
+        Ok(b) => Ok(b),
+        Err(_) => Err(NoMemory),
+    }
+}
+
+fn pointer_type(alloc: Global, to: CType) -> Result<CType, NoMemory>
+    requires { NamesBelow 1 (plain_type to) }
+    ensures { IfOk result (λ ty. IsObjectType 1 (plain_type ty)) }
+{
+    let to = boxed(alloc, to)?;
+    Ok(CType::Ptr {
+        space: SpaceId::Generic,
+        konst: false,
+        to,
+    })
+}
+
+/// The type of an object.
+fn object_type(alloc: Global, o: u16) -> Result<CType, NoMemory>
+    ensures { IfOk result (λ ty. IsObjectType 1 (plain_type ty)) }
+{
+    match o {
+        5 => {
+            let of = boxed(alloc, int_type())?;
+            Ok(CType::Array { of, len: 3 })
+        }
+        6 => Ok(CType::Struct { index: 0 }),
+        7 => pointer_type(alloc, int_type()),
+        8 => pointer_type(alloc, CType::Struct { index: 0 }),
+        _ => Ok(int_type()),
+    }
+}
+
+/// The type of a place. The members are ints.
+fn place_type(alloc: Global, p: &PlaceExpr) -> Result<CType, Fail> {
+    match p {
+        PlaceExpr::Object(o) => Ok(object_type(alloc, *o)?),
+        PlaceExpr::Deref(e) => Ok(e.ty.pointee().ok_or("no pointer")?.copied(alloc)?),
+        PlaceExpr::Member(..) => Ok(int_type()),
+    }
+}
+
+/// The type of the pointer to a place, or to the first element of an array.
+fn address_type(alloc: Global, p: &PlaceExpr) -> Result<CType, Fail> {
+    let to = match place_type(alloc, p)? {
+        CType::Array { of, .. } => of.copied(alloc)?,
+        ty => ty,
+    };
+    Ok(CType::Ptr {
+        space: SpaceId::Generic,
+        konst: false,
+        to: boxed(alloc, to)?,
+    })
+}
+
+/// The type of a node: a sum of a pointer and a number is a pointer.
+fn node_type(alloc: Global, node: &Node) -> Result<CType, Fail> {
+    match node {
+        Node::Load(p)
+        | Node::Assign(p, _)
+        | Node::Compound(_, _, p, _)
+        | Node::Step { place: p, .. } => place_type(alloc, p),
+        Node::AddressOf(p) => address_type(alloc, p),
+        Node::Binary(_, a, _) => Ok(a.ty.copied(alloc)?),
+        _ => Ok(int_type()),
     }
 }
 
@@ -204,7 +314,7 @@ impl Builder {
     fn new(alloc: Global) -> Builder {
         Builder {
             alloc,
-            objects: Vec::new(alloc),
+            places: Vec::new(alloc),
             exprs: Vec::new(alloc),
             stmts: Vec::new(alloc),
             open: Vec::new(alloc),
@@ -212,14 +322,16 @@ impl Builder {
         }
     }
 
-    fn object(&mut self) -> Result<u16, Fail> {
-        let o = self.objects.pop().ok_or("no object")?;
-        Ok(o)
+    fn place(&mut self) -> Result<PlaceExpr, Fail> {
+        let p = self.places.pop().ok_or("no place")?;
+        Ok(p)
     }
 
-    fn place(&mut self) -> Result<PlaceExpr, Fail> {
-        let o = self.object()?;
-        Ok(PlaceExpr::Object(o))
+    fn object(&mut self) -> Result<u16, Fail> {
+        match self.place()? {
+            PlaceExpr::Object(o) => Ok(o),
+            _ => Err("no object")?,
+        }
     }
 
     fn expr(&mut self) -> Result<Expr, Fail> {
@@ -271,6 +383,7 @@ impl Builder {
     fn node(&mut self, form: Form) -> Result<Node, Fail> {
         match form {
             Form::Get => Ok(Node::Load(self.place()?)),
+            Form::Address => Ok(Node::AddressOf(self.place()?)),
             Form::Step { up, prefix } => Ok(Node::Step {
                 up,
                 prefix,
@@ -324,7 +437,8 @@ impl Builder {
             Form::Group(acquire) => Ok(typed(CType::Void, Node::Group { acquire, group: 0 })),
             _ => {
                 let node = self.node(form)?;
-                Ok(value(node))
+                let ty = node_type(self.alloc, &node)?;
+                Ok(typed(ty, node))
             }
         }
     }
@@ -355,8 +469,8 @@ impl Builder {
     fn kind(&mut self, part: Part) -> Result<StmtKind, Fail> {
         match part {
             Part::Evaluate => Ok(StmtKind::Do1(self.expr()?)),
-            Part::Declare => {
-                let values = taken(self.alloc, &mut self.exprs, 1)?;
+            Part::Declare(count) => {
+                let values = taken(self.alloc, &mut self.exprs, count)?;
                 Ok(StmtKind::Local(self.object()?, values))
             }
             Part::Empty => Ok(StmtKind::Empty),
@@ -386,9 +500,27 @@ impl Builder {
         Ok(())
     }
 
+    /// What an expression points to.
+    fn pointed(&mut self) -> Result<PlaceExpr, Fail> {
+        let e = self.operand()?;
+        Ok(PlaceExpr::Deref(e))
+    }
+
+    fn member(&mut self, i: u16) -> Result<PlaceExpr, Fail> {
+        let p = self.place()?;
+        let p = Box::new(self.alloc, p)?;
+        Ok(PlaceExpr::Member(p, i))
+    }
+
     fn add(&mut self, word: &str) -> Result<(), Fail> {
         if let Some(o) = look_up(word, &OBJECTS) {
-            self.objects.push(o)?;
+            self.places.push(PlaceExpr::Object(o))?;
+        } else if let Some(i) = look_up(word, &MEMBERS) {
+            let p = self.member(i)?;
+            self.places.push(p)?;
+        } else if word == "*" {
+            let p = self.pointed()?;
+            self.places.push(p)?;
         } else if let Some(form) = look_up(word, &FORMS) {
             let e = self.formed(form)?;
             self.exprs.push(e)?;
@@ -409,19 +541,20 @@ impl Builder {
 
 // ---- programs
 
-fn object(alloc: Global, storage: Storage) -> Obj
-    ensures { (plain_object result).ty ≡ int }
+fn object(alloc: Global, o: u16, storage: Storage) -> Result<Obj, NoMemory>
+    ensures { IfOk result (λ x. IsObjectType 1 (plain_object x).ty) }
 {
-    Obj {
+    let ty = object_type(alloc, o)?;
+    Ok(Obj {
         name: Seq::new(alloc),
         unit: 0,
         external: false,
-        ty: int_type(),
+        ty,
         space: SpaceId::Generic,
         home: Bank::Data,
         konst: false,
         storage,
-    }
+    })
 }
 
 fn zero(alloc: Global) -> Result<Storage, NoMemory> {
@@ -431,16 +564,53 @@ fn zero(alloc: Global) -> Result<Storage, NoMemory> {
 }
 
 fn objects(alloc: Global) -> Result<Seq<Obj>, NoMemory>
-    ensures { IfOk result (λ objs. AllByRecursion (λ o. IsObjectType 0 o.ty) (map plain_object objs.items)) }
+    ensures { IfOk result (λ objs. AllByRecursion (λ o. IsObjectType 1 o.ty) (map plain_object objs.items)) }
 {
     let mut objs = Seq::new(alloc);
-    let a = object(alloc, zero(alloc)?);
+    let a = object(alloc, 0, zero(alloc)?)?;
     objs.push(a)?;
-    objs.push(object(alloc, Storage::Local(0)))?;
-    objs.push(object(alloc, Storage::Local(0)))?;
-    objs.push(object(alloc, Storage::Param(1)))?;
-    objs.push(object(alloc, Storage::Param(1)))?;
+    let b = object(alloc, 1, Storage::Local(0))?;
+    objs.push(b)?;
+    let c = object(alloc, 2, Storage::Local(0))?;
+    objs.push(c)?;
+    let d = object(alloc, 3, Storage::Param(1))?;
+    objs.push(d)?;
+    let e = object(alloc, 4, Storage::Param(1))?;
+    objs.push(e)?;
+    let v = object(alloc, 5, Storage::Local(0))?;
+    objs.push(v)?;
+    let s = object(alloc, 6, Storage::Local(0))?;
+    objs.push(s)?;
+    let p = object(alloc, 7, Storage::Local(0))?;
+    objs.push(p)?;
+    let q = object(alloc, 8, Storage::Local(0))?;
+    objs.push(q)?;
     Ok(objs)
+}
+
+fn member(alloc: Global) -> Member
+    ensures { plain_type result.ty ≡ int }
+{
+    Member {
+        name: Seq::new(alloc),
+        ty: int_type(),
+    }
+}
+
+/// The struct of two ints, m and n.
+fn structs(alloc: Global) -> Result<Seq<StructDef>, NoMemory>
+    ensures layouts { IfOk result (λ list. AreStructs (map plain_struct list.items)) }
+    ensures count { IfOk result (λ list. length list.items ≡ 1) }
+{
+    let mut members = Seq::new(alloc);
+    members.push(member(alloc))?;
+    members.push(member(alloc))?;
+    let mut list = Seq::new(alloc);
+    list.push(StructDef {
+        tag: Seq::new(alloc),
+        members,
+    })?;
+    Ok(list)
 }
 
 fn function(alloc: Global, params: &[u16], body: Stmt) -> Result<Func, Fail> {
@@ -511,8 +681,9 @@ pub fn program(alloc: Global, words: &str) -> Result<Program, Fail>
 {
     let funcs = functions(alloc, words)?;
     let objs = objects(alloc)?;
+    let structs = structs(alloc)?;
     Ok(Program {
-        structs: Seq::new(alloc),
+        structs,
         objs,
         funcs,
         main: 0,

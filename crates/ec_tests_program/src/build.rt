@@ -153,8 +153,27 @@ const QUARTERS: &str =
 const ORDERED: &str =
     "static _Fract g = 0.5r; int main(void){return (g > -0.25r) + (g < 0.75hr) + (g == 0.49r);}";
 
+const MEMBERS: &str = "struct s {char a; int b;}; int main(void){struct s x; struct s *p = &x; \
+    x.a = 3; p->b = 500; return x.a + p->b;}";
+
+const ELEMENTS: &str =
+    "int main(void){int a[3] = {1, 2}; return (a[0] << 8) + (a[1] << 4) + a[2];}";
+
+// Null stays null, without a tag.
+const NO_PLACE: &str = "int main(void){__data int *p = 0; int *g = p; return g == 0;}";
+
+// 22 stands in flash, and 5 in the data bank.
+const BOTH_BANKS: &str = "const __flash int t[2] = {11, 22}; int get(const int *p){return *p;} \
+    int main(void){int v = 5; return get(&t[1]) - get(&v);}";
+
+// A pointer to a table of structs is kept in flash, and its last element's member is read by a difference of pointers.
+const TABLE: &str =
+    "struct s {char a; int b[2];}; const __flash struct s t[3] = {{1, {2, 3}}, {4, {5, 6}}, {7, {8, 9}}}; \
+    const __flash struct s *const __flash end = &t[3]; \
+    int main(void){const __flash struct s *p = t; int n = (int)(end - p); return (n << 8) + p[n - 1].b[1];}";
+
 // A source, and what comes of its run with `b.c` behind it, within 10,000 steps.
-static EXECS: [(&str, &str); 13] = [
+static EXECS: [(&str, &str); 18] = [
     ("int main(void){return 0;}", "0 result 0\n/ "),
     (
         "int main(void){int a = -7; return a / 2 + a % 2;}",
@@ -176,6 +195,11 @@ static EXECS: [(&str, &str); 13] = [
     (QUARTERS, "0 result 96\n/ "),
     (ORDERED, "0 result 2\n/ "),
     (TWENTY_ONE, "0 result 42\n/ "),
+    (MEMBERS, "0 result 503\n/ "),
+    (ELEMENTS, "0 result 288\n/ "),
+    (NO_PLACE, "0 result 1\n/ "),
+    (BOTH_BANKS, "0 result 17\n/ "),
+    (TABLE, "0 result 777\n/ "),
     (ENDLESS, "14 / steps out\n"),
 ];
 
@@ -254,14 +278,34 @@ const HOOKED: &str = "#include <iohw.h>\nint main(void){iowr(LED, 9); return (in
 
 const SET: &str = "#include <iohw.h>\nint main(void){ioor(LED, 1); return 0;}";
 
-const SUM: &str =
-    "#include <iohw.h>\nint main(void){int n, s = 0; iogroup_acquire(ADC); for (n = 0; n < 3; n++) s = s + (int)iord(SAMPLE); iogroup_release(ADC); iowr(LED, s); return s;}";
+const SUM: &str = "#include <iohw.h>\nint main(void){int n, s = 0; iogroup_acquire(ADC); \
+    for (n = 0; n < 3; n++) s = s + (int)iord(SAMPLE); iogroup_release(ADC); iowr(LED, s); return s;}";
 
 const BUFFER: &str =
-    "#include <iohw.h>\nint main(void){int i; for (i = 2; i >= 0; i--) ioxorbuf(B, i, 0x0110); iowrbufl(L, 1, iordbuf(B, 1)); return 0;}";
+    "#include <iohw.h>\nint main(void){int i; for (i = 2; i >= 0; i--) ioxorbuf(B, i, 0x0110); \
+    iowrbufl(L, 1, iordbuf(B, 1)); return 0;}";
+
+// A filter with its coefficients in flash.
+const FILTER: &str = "#include <iohw.h>
+const __flash short _Fract c[4] = {0.5hr, 0.25hr, 0.125hr, 0.125hr};
+__data short _Fract x[4];
+int main(void) {
+  int n; int k;
+  iogroup_acquire(ADC);
+  for (n = 0; n < 8; n = n + 1) {
+    _Sat short _Fract y = 0.0hr;
+    for (k = 3; k > 0; k = k - 1) x[k] = x[k - 1];
+    x[0] = (unsigned short _Accum)iord(SAMPLE) >> 8;
+    for (k = 0; k < 4; k = k + 1) y = y + c[k] * x[k];
+    iowr(LED, (unsigned int)((short _Accum)y << 8));
+  }
+  iogroup_release(ADC);
+  return 0;
+}
+";
 
 // A script, a source, and what comes of its run with ports.
-static ACCESSES: [(&str, &str, &str); 5] = [
+static ACCESSES: [(&str, &str, &str); 6] = [
     (
         "84: 34\n85: 12 01\n",
         COUNTED,
@@ -277,7 +321,16 @@ static ACCESSES: [(&str, &str, &str); 5] = [
     (
         "62: 1F 05\n63: 01 02\n64: 30\n",
         BUFFER,
-        "0 in 64 30\nin 65 00\nout 65 01\nout 64 20\nin 62 1F\nin 63 01\nout 63 00\nout 62 0F\nin 60 00\nin 61 00\nout 61 01\nout 60 10\nin 62 05\nin 63 02\nout 97 00\nout 96 00\nout 95 02\nout 94 05\nresult 0\n/ ",
+        "0 in 64 30\nin 65 00\nout 65 01\nout 64 20\nin 62 1F\nin 63 01\nout 63 00\nout 62 0F\n\
+        in 60 00\nin 61 00\nout 61 01\nout 60 10\nin 62 05\nin 63 02\n\
+        out 97 00\nout 96 00\nout 95 02\nout 94 05\nresult 0\n/ ",
+    ),
+    (
+        "79: 80 00 00 00 FF FF FF FF\n",
+        FILTER,
+        "0 out 7A 80\nin 79 80\nout 25 40\n\
+        in 79 00\nout 25 20\nin 79 00\nout 25 10\nin 79 00\nout 25 10\n\
+        in 79 FF\nout 25 7E\nin 79 FF\nout 25 BC\nin 79 FF\nout 25 DA\nin 79 FF\nout 25 F8\nout 7A 00\nresult 0\n/ ",
     ),
 ];
 
@@ -319,10 +372,7 @@ static BUILDS: [(&str, &str); 12] = [
     ),
     ("int main(void){break;}", "7 / a.c token 6: constraint 38\n"),
     (TWENTY_ONE, "7 / a.c token 14: constraint 19\n"),
-    (
-        "int *p; int main(void){return 0;}",
-        "7 / a.c token 1: constraint 0\n",
-    ),
+    ("int *p; int main(void){return 0;}", "0 / "),
     (MUTUAL, "7 / recursion f\n"),
 ];
 

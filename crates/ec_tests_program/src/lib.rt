@@ -5,3 +5,5 @@
 mod build;
 #[cfg(test)]
 mod commands;
+#[cfg(test)]
+mod generated;

@@ -3,9 +3,9 @@
 ghost use Rattle.std.specs.Prelude.{ℕ, OnSome, IfSome};
 ghost use Rattle.ec_where.specs.Line.{IsByteFault, IsTokenFault, Writes};
 
-/// What each constraint of the language asks, by its number. 0 is no rule of the language.
+/// What each constraint of the language asks, by its number. There is no constraint 0.
 static CONSTRAINTS: [&str; 41] = [
-    "this form is not compiled yet: address spaces, arrays, structs, pointers and `sizeof` are still to come",
+    "",
     "these words name no type: one set of type words, at most one of `extern` and `static`, and neither in a \
     parameter, a member, a register declaration or a type name (C99 6.7.1, 6.7.2)",
     "one list of qualifiers names at most one address space (Embedded C 5.1.2)",

@@ -9,4 +9,5 @@ pub returns-clause-complete : goal.returns-clause-complete
 returns-clause-complete c accepted =
     let texts = map (λ s. s.items) c.args.sources.now.items in
     let text = c.args.map.now.items in
-    IfErr-weaker c.answer.result (HasCause texts text) (λ stop. stop ≡ NoMemory) (λ stop why. accepted_has_none texts text stop accepted why) c.answer.ensures.stopped
+    IfErr-weaker c.answer.result (HasCause texts text) (λ stop. stop ≡ NoMemory)
+    (λ stop why. accepted_has_none texts text stop accepted why) c.answer.ensures.stopped

@@ -9,4 +9,6 @@ returns-clause-code c =
     let within = c.if-len-gt-MOST_ITEMS.false in
     let many = c.len.ensures in
     let few : length c.in_ok-asm.asm.items.items < 2 ^ 32 = omega (arith, within, many) in
-    code_made (plain_program c.args.program.now) c.args.map.now.io c.in_ok-asm.asm (plain_ir_program c.in_ok-ir.ir) c.in_ok-ir.ensures.code c.compiled_is_of_numbers.ensures c.lowered_programs_have_code.ensures c.requires.valid c.read_groups.ensures c.requires.compiled c.requires.in_data c.in_ok-ir.ensures.made c.in_ok-asm.ensures.code c.in_ok-asm.ensures.valid c.in_ok-asm.ensures.words few
+    code_made (plain_program c.args.program.now) c.args.map.now.io c.in_ok-asm.asm (plain_ir_program c.in_ok-ir.ir) c.in_ok-ir.ensures.code
+    c.lowered_programs_have_code.ensures c.requires.valid c.read_groups.ensures c.in_ok-ir.ensures.made c.in_ok-asm.ensures.code
+    c.in_ok-asm.ensures.valid c.in_ok-asm.ensures.words few

@@ -18,7 +18,9 @@ parse_units-requires-clause-few c =
 pub parse_units-requires-clause-readable : goal.parse_units-requires-clause-readable
 parse_units-requires-clause-readable c =
     let has = subst (λ s. HaveTokens s c.in_ok-lists.lists.items) c.as_slice.ensures c.in_ok-lists.ensures.lexed in
-    let all = All-from_recursion (λ l. AreReadable (view_tokens l.items)) c.in_ok-lists.lists.items (all_readable c.args.sources.now.items c.in_ok-lists.lists.items has) in
+    let all =
+    All-from_recursion (λ l. AreReadable (view_tokens l.items)) c.in_ok-lists.lists.items
+    (all_readable c.args.sources.now.items c.in_ok-lists.lists.items has) in
     All-same (λ l. AreReadable (view_tokens l.items)) c.as_slice-2.result.now c.in_ok-lists.lists.items c.as_slice-2.ensures all
 
 pub returns-in_err-trees-clause-stopped : goal.returns-in_err-trees-clause-stopped

@@ -17,13 +17,20 @@ pub returns-in-Ok-write_file-clause-calm : goal.returns-in-Ok-write_file-clause-
 returns-in-Ok-write_file-clause-calm g c = λ room calm fits.
     let read = c.in-Ok.ensures.calm (out_name c.args.words.now.items) room calm in
     let written =
-    c.write_file.ensures.calm _ room (subst (λ made. g.S.Store.calm c.read_and_build.new.store (build_inputs c.args.words.now.items) made room) (sym c.word_at.ensures) read.1)
+    c.write_file.ensures.calm _ room
+    (subst (λ made. g.S.Store.calm c.read_and_build.new.store (build_inputs c.args.words.now.items) made room)
+    (sym c.word_at.ensures) read.1)
     (fits c.in-Ok.built c.in-Ok.ensures.found) in
     (c.write_file.ensures.read_faults ∙ read.0, written ∙ c.read_and_build.ensures.write_faults)
 
 pub returns-clause-stopped : goal.returns-clause-stopped
 returns-clause-stopped g c = record {
-  cause = (c.requires, omega (arith, c.in-Err-write_file.ensures.cause.failed), has_image c.args.words.now.items _ c.in-Ok.built c.in-Ok.ensures.found);
+  cause = (
+    c.requires,
+    omega
+        (arith, c.in-Err-write_file.ensures.cause.failed),
+    has_image c.args.words.now.items _ c.in-Ok.built c.in-Ok.ensures.found,
+  );
   files = left_front c.args.words.now.items _ _ _ c.in-Ok.built _ c.in-Ok.ensures.files c.in-Ok.ensures.found
       (rw c.word_at.ensures at c.in-Err-write_file.ensures.written);
 }
@@ -32,6 +39,8 @@ pub returns-clause-calm : goal.returns-clause-calm
 returns-clause-calm g c = λ room calm fits.
     let read = c.in-Ok.ensures.calm (out_name c.args.words.now.items) room calm in
     let written =
-    c.write_file.ensures.calm _ room (subst (λ made. g.S.Store.calm c.read_and_build.new.store (build_inputs c.args.words.now.items) made room) (sym c.word_at.ensures) read.1)
+    c.write_file.ensures.calm _ room
+    (subst (λ made. g.S.Store.calm c.read_and_build.new.store (build_inputs c.args.words.now.items) made room)
+    (sym c.word_at.ensures) read.1)
     (fits c.in-Ok.built c.in-Ok.ensures.found) in
     (c.write_file.ensures.read_faults ∙ read.0, written ∙ c.read_and_build.ensures.write_faults)

@@ -12,7 +12,8 @@ pub returns-in-Ok-read_sources-clause-calm : goal.returns-in-Ok-read_sources-cla
 returns-in-Ok-read_sources-clause-calm g c = λ made room calm.
     let words = c.args.words.now.items in
     let map = c.in-Ok.ensures.calm _ made room calm (0, omega arith, refl) in
-    let sources = c.in-Ok-read_sources.ensures.calm _ made room map.1 (λ name has. contains_behind (map_name words) (names_from words 3) name has) in
+    let sources =
+    c.in-Ok-read_sources.ensures.calm _ made room map.1 (λ name has. contains_behind (map_name words) (names_from words 3) name has) in
     (sources.0 ∙ map.0, sources.1)
 
 pub returns-in-Err-read_sources-clause-stopped : goal.returns-in-Err-read_sources-clause-stopped
@@ -20,9 +21,12 @@ returns-in-Err-read_sources-clause-stopped g c =
     let words = c.args.words.now.items in
     let map = c.in-Ok.map.items in
     inr (stops_behind words 3 (λ files. get files (word words 1) ≡ Some map) (λ _. ⊤) (HasMap words) 16384 0 (length map)
-    (store_view (g.S.Store.disk c.args.store.now) (g.S.Store.read_faults c.args.store.now) (g.S.Store.write_faults c.args.store.now) (g.S.Store.received c.args.store.now))
-    (store_view (g.S.Store.disk c.read.new.store) (g.S.Store.read_faults c.read.new.store) (g.S.Store.write_faults c.read.new.store) (g.S.Store.received c.read.new.store))
-    (store_view (g.S.Store.disk c.read_sources.new.store) (g.S.Store.read_faults c.read_sources.new.store) (g.S.Store.write_faults c.read_sources.new.store) (g.S.Store.received c.read_sources.new.store))
+    (store_view (g.S.Store.disk c.args.store.now) (g.S.Store.read_faults c.args.store.now) (g.S.Store.write_faults c.args.store.now)
+    (g.S.Store.received c.args.store.now))
+    (store_view (g.S.Store.disk c.read.new.store) (g.S.Store.read_faults c.read.new.store) (g.S.Store.write_faults c.read.new.store)
+    (g.S.Store.received c.read.new.store))
+    (store_view (g.S.Store.disk c.read_sources.new.store) (g.S.Store.read_faults c.read_sources.new.store)
+    (g.S.Store.write_faults c.read_sources.new.store) (g.S.Store.received c.read_sources.new.store))
     c.in-Err-read_sources.stop c.in-Ok.ensures.files c.in-Ok.ensures.found.told
     (λ files there any. within_here files (word words 1) map 16384 there c.in-Ok.ensures.found.within)
     c.in-Ok.ensures.later c.in-Ok.ensures.found.received c.in-Ok.ensures.found.within c.in-Err-read_sources.ensures.stopped)
@@ -31,5 +35,6 @@ pub returns-in-Err-read_sources-clause-calm : goal.returns-in-Err-read_sources-c
 returns-in-Err-read_sources-clause-calm g c = λ made room calm.
     let words = c.args.words.now.items in
     let map = c.in-Ok.ensures.calm _ made room calm (0, omega arith, refl) in
-    let sources = c.in-Err-read_sources.ensures.calm _ made room map.1 (λ name has. contains_behind (map_name words) (names_from words 3) name has) in
+    let sources =
+    c.in-Err-read_sources.ensures.calm _ made room map.1 (λ name has. contains_behind (map_name words) (names_from words 3) name has) in
     (sources.0 ∙ map.0, sources.1)

@@ -1,33 +1,42 @@
 use Rattle.ec_io.specs.Views.{store_view}
 use Rattle.ec_commands.specs.Sources.{texts}
-use Rattle.ec_compile.proofs.ReadingExec.{reading_stops, build_stops, script_stops, no_reading_stop, read_accepted, no_script_fault}
+use Rattle.ec_compile.proofs.ReadingExec.{reading_stops, build_stops, script_stops, no_reading_stop, read_accepted}
+use Rattle.ec_compile.proofs.ReadingExec.{no_script_fault}
 use Rattle.ec_compile.proofs.executing.load.Goals as goal
 
 pub returns-in-Err-clause-stopped : goal.returns-in-Err-clause-stopped
 returns-in-Err-clause-stopped g c =
     reading_stops c.args.words.now.items
-    (store_view (g.S.Store.disk c.args.store.now) (g.S.Store.read_faults c.args.store.now) (g.S.Store.write_faults c.args.store.now) (g.S.Store.received c.args.store.now))
-    (store_view (g.S.Store.disk c.read_inputs.new.store) (g.S.Store.read_faults c.read_inputs.new.store) (g.S.Store.write_faults c.read_inputs.new.store) (g.S.Store.received c.read_inputs.new.store))
+    (store_view (g.S.Store.disk c.args.store.now) (g.S.Store.read_faults c.args.store.now) (g.S.Store.write_faults c.args.store.now)
+    (g.S.Store.received c.args.store.now))
+    (store_view (g.S.Store.disk c.read_inputs.new.store) (g.S.Store.read_faults c.read_inputs.new.store)
+    (g.S.Store.write_faults c.read_inputs.new.store) (g.S.Store.received c.read_inputs.new.store))
     c.in-Err.stop c.in-Err.ensures.stopped
 
 pub returns-in-Err-clause-complete : goal.returns-in-Err-clause-complete
 returns-in-Err-clause-complete g c = λ accepted calm.
-    no_reading_stop c.args.words.now.items (g.S.Store.disk c.args.store.now) (g.S.Store.read_faults c.args.store.now) (g.S.Store.write_faults c.args.store.now)
+    no_reading_stop c.args.words.now.items (g.S.Store.disk c.args.store.now) (g.S.Store.read_faults c.args.store.now)
+    (g.S.Store.write_faults c.args.store.now)
     (g.S.Store.received c.args.store.now)
-    (store_view (g.S.Store.disk c.read_inputs.new.store) (g.S.Store.read_faults c.read_inputs.new.store) (g.S.Store.write_faults c.read_inputs.new.store) (g.S.Store.received c.read_inputs.new.store))
+    (store_view (g.S.Store.disk c.read_inputs.new.store) (g.S.Store.read_faults c.read_inputs.new.store)
+    (g.S.Store.write_faults c.read_inputs.new.store) (g.S.Store.received c.read_inputs.new.store))
     c.in-Err.stop accepted calm c.in-Err.ensures.stopped
 
 pub returns-in-Err-compile-clause-stopped : goal.returns-in-Err-compile-clause-stopped
 returns-in-Err-compile-clause-stopped g c =
     build_stops c.args.words.now.items
-    (store_view (g.S.Store.disk c.args.store.now) (g.S.Store.read_faults c.args.store.now) (g.S.Store.write_faults c.args.store.now) (g.S.Store.received c.args.store.now))
-    (store_view (g.S.Store.disk c.read_inputs.new.store) (g.S.Store.read_faults c.read_inputs.new.store) (g.S.Store.write_faults c.read_inputs.new.store) (g.S.Store.received c.read_inputs.new.store))
-    c.in-Ok.inputs.inputs.map.items c.in-Ok.inputs.script.items (texts c.in-Ok.inputs.inputs.sources.items) c.in-Err-compile.stop c.in-Ok.ensures.found
+    (store_view (g.S.Store.disk c.args.store.now) (g.S.Store.read_faults c.args.store.now) (g.S.Store.write_faults c.args.store.now)
+    (g.S.Store.received c.args.store.now))
+    (store_view (g.S.Store.disk c.read_inputs.new.store) (g.S.Store.read_faults c.read_inputs.new.store)
+    (g.S.Store.write_faults c.read_inputs.new.store) (g.S.Store.received c.read_inputs.new.store))
+    c.in-Ok.inputs.inputs.map.items c.in-Ok.inputs.script.items
+    (texts c.in-Ok.inputs.inputs.sources.items) c.in-Err-compile.stop c.in-Ok.ensures.found
     c.in-Err-compile.ensures.stopped
 
 pub returns-in-Err-compile-clause-complete : goal.returns-in-Err-compile-clause-complete
 returns-in-Err-compile-clause-complete g c = λ accepted calm.
-    c.in-Err-compile.ensures.complete (read_accepted c.args.words.now.items (g.S.Store.disk c.args.store.now) c.in-Ok.inputs.inputs.map.items c.in-Ok.inputs.script.items
+    c.in-Err-compile.ensures.complete
+    (read_accepted c.args.words.now.items (g.S.Store.disk c.args.store.now) c.in-Ok.inputs.inputs.map.items c.in-Ok.inputs.script.items
     (texts c.in-Ok.inputs.inputs.sources.items) accepted c.in-Ok.ensures.found)
 
 pub returns-in-Ok-load_built-clause-found : goal.returns-in-Ok-load_built-clause-found
@@ -49,8 +58,10 @@ returns-in-Ok-load_built-clause-found g c = record {
 pub returns-clause-stopped : goal.returns-clause-stopped
 returns-clause-stopped g c =
     script_stops c.args.words.now.items
-    (store_view (g.S.Store.disk c.args.store.now) (g.S.Store.read_faults c.args.store.now) (g.S.Store.write_faults c.args.store.now) (g.S.Store.received c.args.store.now))
-    (store_view (g.S.Store.disk c.read_inputs.new.store) (g.S.Store.read_faults c.read_inputs.new.store) (g.S.Store.write_faults c.read_inputs.new.store) (g.S.Store.received c.read_inputs.new.store))
+    (store_view (g.S.Store.disk c.args.store.now) (g.S.Store.read_faults c.args.store.now) (g.S.Store.write_faults c.args.store.now)
+    (g.S.Store.received c.args.store.now))
+    (store_view (g.S.Store.disk c.read_inputs.new.store) (g.S.Store.read_faults c.read_inputs.new.store)
+    (g.S.Store.write_faults c.read_inputs.new.store) (g.S.Store.received c.read_inputs.new.store))
     c.in-Ok.inputs.script.items c.in-Ok-compile.built c.in-Err-load_built.stop
     (record {
       map = c.in-Ok.inputs.inputs.map.items;

@@ -25,15 +25,18 @@ returns-in-Ok-print_counts-clause-out_calm g c = λ room calm fits.
 pub returns-clause-stopped : goal.returns-clause-stopped
 returns-clause-stopped g c =
     let made = c.in-Err-print_counts.ensures.shown in
-    inr (was_generated _ _ _ _ _ _ _ made.0 made.1.0 c.in-Ok.ensures.found c.in-Ok.ensures.script made.1.1.0 made.1.1.1.0, λ e. c.in-Err-print_counts.ensures.failed (ap Err e))
+    inr
+    (was_generated _ _ _ _ _ _ _ made.0 made.1.0 c.in-Ok.ensures.found c.in-Ok.ensures.script made.1.1.0 made.1.1.1.0, λ e. c.in-Err-print_counts.ensures.failed (ap Err e))
 
 pub returns-clause-complete : goal.returns-clause-complete
 returns-clause-complete g c = λ accepted out_calm.
     let made = c.in-Err-print_counts.ensures.shown in
     left_generated _ _
-    (sink_call (g.O.Sink.written c.args.out.now) (g.O.Sink.written c.print_counts.new.out) (g.O.Sink.faults c.args.out.now) (g.O.Sink.faults c.print_counts.new.out))
+    (sink_call (g.O.Sink.written c.args.out.now) (g.O.Sink.written c.print_counts.new.out) (g.O.Sink.faults c.args.out.now)
+    (g.O.Sink.faults c.print_counts.new.out))
     c.in-Err-print_counts.stop out_calm
-    (was_generated _ _ _ _ _ _ _ made.0 made.1.0 c.in-Ok.ensures.found c.in-Ok.ensures.script made.1.1.0 made.1.1.1.0) (λ e. c.in-Err-print_counts.ensures.failed (ap Err e))
+    (was_generated _ _ _ _ _ _ _ made.0 made.1.0 c.in-Ok.ensures.found c.in-Ok.ensures.script made.1.1.0 made.1.1.1.0)
+    (λ e. c.in-Err-print_counts.ensures.failed (ap Err e))
 
 pub returns-clause-named : goal.returns-clause-named
 returns-clause-named g c = λ words.

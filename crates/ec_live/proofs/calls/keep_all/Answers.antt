@@ -1,8 +1,8 @@
 use Rattle.std.proofs.Common.{◌≡◌, ◌-◌, ◌≤◌, ℕ, sym, ◌∙◌, ap, subst, arith, map, length, drop, set}
 use Rattle.std.proofs.lemmas.List.{map-set, length-map}
 use Rattle.ec_ir.specs.Operations.{plain_ir}
-use Rattle.ec_select_functions.specs.Needs.{needs}
-use Rattle.ec_select_functions.specs.Written.{kept_rows}
+use Rattle.ec_select_operations.specs.Needs.{needs}
+use Rattle.ec_select_operations.specs.Written.{kept_rows}
 use Rattle.ec_live.specs.Places.{HasPlaces}
 use Rattle.ec_live.specs.Tables.{need_of, needs_of, AreSame}
 use Rattle.ec_live.proofs.KeptRows.{rows_more}
@@ -29,11 +29,17 @@ loop-k-preserved c =
     let code = drop (c.loop-k.k - 1) (map plain_ir c.args.code.now) in
     let at = needs_of c.args.table.now in
     let k = c.loop-k.k in
-    let few : c.loop-k.k ≤ length (map (λ row. row.items) c.loop-k.rows) = omega (arith, length-map c.loop-k.rows (λ row. row.items), c.loop-k.auto.rows, c.loop-k.auto.k, c.requires.lengths) in
+    let few : c.loop-k.k ≤ length (map (λ row. row.items) c.loop-k.rows) =
+    omega (arith, length-map c.loop-k.rows (λ row. row.items), c.loop-k.auto.rows, c.loop-k.auto.k, c.requires.lengths) in
     record {
       need = subst (λ (s : ℕ). AreSame s (need_of c.before-in-loop-k.new.need) (needs at code)) (sym c.before-in-loop-k.auto.need)
-          (need_more (length c.loop-k.need) at code rest (plain_ir c.index-code-k.result) c.loop-k.need c.before-in-loop-k.new.need p is c.loop-k.invariant.need c.before-in-loop-k.ensures);
-      written = subst (λ (s : ℕ). drop (k - 1) (map (λ row. row.items) (set c.loop-k.rows (k - 1) c.in_ok-rows.field-0)) ≡ kept_rows s at code) (sym c.before-in-loop-k.auto.need)
+          (need_more (length c.loop-k.need) at code rest
+          (plain_ir c.index-code-k.result) c.loop-k.need c.before-in-loop-k.new.need p is c.loop-k.invariant.need c.before-in-loop-k.ensures);
+      written =
+          subst (λ (s : ℕ). drop (k - 1) (map (λ row. row.items) (set c.loop-k.rows (k - 1) c.in_ok-rows.field-0)) ≡ kept_rows s at code)
+          (sym c.before-in-loop-k.auto.need)
           (ap (drop (k - 1)) (map-set (λ row. row.items) c.loop-k.rows (k - 1) c.in_ok-rows.field-0)
-          ∙ rows_more (length c.loop-k.need) at code rest (plain_ir c.index-code-k.result) c.loop-k.need (map (λ row. row.items) c.loop-k.rows) k c.in_ok-rows.field-0.items is c.loop-k.invariant.need c.in_ok-rows.ensures c.loop-k-test.true few c.loop-k.invariant.written);
+          ∙ rows_more (length c.loop-k.need) at code rest (plain_ir c.index-code-k.result) c.loop-k.need
+          (map
+          (λ row. row.items) c.loop-k.rows) k c.in_ok-rows.field-0.items is c.loop-k.invariant.need c.in_ok-rows.ensures c.loop-k-test.true few c.loop-k.invariant.written);
     }

@@ -1,7 +1,7 @@
 use Rattle.std.proofs.Common.{◌≡◌, map, length, drop}
 use Rattle.ec_ir.specs.Operations.{plain_ir}
-use Rattle.ec_select_functions.specs.Needs.{needs}
-use Rattle.ec_select_functions.specs.Written.{kept_rows}
+use Rattle.ec_select_operations.specs.Needs.{needs}
+use Rattle.ec_select_operations.specs.Written.{kept_rows}
 use Rattle.ec_live.specs.Tables.{need_of, needs_of, AreSame}
 use Rattle.ec_live.proofs.calls.keep_all.Given as goal
 

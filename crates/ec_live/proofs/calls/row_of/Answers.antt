@@ -1,7 +1,7 @@
 use Rattle.std.proofs.Common.{◌≡◌, ℕ, suc, ◌+◌, [], ◌∷◌, ◌++◌, ap, ◌∙◌, arith}
-use Rattle.ec_select_functions.specs.Needs.{Need, without_result}
-use Rattle.ec_select_functions.specs.Written.{row_from}
-use Rattle.ec_select_functions.proofs.Written.{row_more}
+use Rattle.ec_select_operations.specs.Needs.{Need, without_result}
+use Rattle.ec_select_operations.specs.Written.{row_from}
+use Rattle.ec_select_operations.proofs.Written.{row_more}
 use Rattle.ec_live.specs.Tables.{need_of}
 use Rattle.ec_live.proofs.calls.row_of.Goals as goal
 

@@ -1,6 +1,6 @@
 use Rattle.std.proofs.Common.{◌≡◌}
-use Rattle.ec_select_functions.specs.Needs.{without_result}
-use Rattle.ec_select_functions.specs.Written.{row_from}
+use Rattle.ec_select_operations.specs.Needs.{without_result}
+use Rattle.ec_select_operations.specs.Written.{row_from}
 use Rattle.ec_live.specs.Tables.{need_of}
 use Rattle.ec_live.proofs.calls.row_of.Given as goal
 

@@ -1,6 +1,6 @@
 use Rattle.std.proofs.Common.{◌≡◌, ℕ, ◌+◌, map, length, false, if◌then◌else◌}
 use Rattle.ec_ir.specs.Operations.{plain_ir}
-use Rattle.ec_select_functions.specs.Needs.{Need, IsLive}
+use Rattle.ec_select_operations.specs.Needs.{Need, IsLive}
 use Rattle.ec_live.specs.Least.{HaveLabels}
 use Rattle.ec_live.specs.Tables.{needs_of, IsTable, TellNoMore, room}
 use Rattle.ec_live.proofs.labels.settle.Given as goal

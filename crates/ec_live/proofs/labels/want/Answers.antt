@@ -1,6 +1,6 @@
 use Rattle.std.proofs.Common.{◌≡◌, ◌-◌, ℕ, sym, ◌∙◌, subst, arith, map, length, drop}
 use Rattle.ec_ir.specs.Operations.{plain_ir}
-use Rattle.ec_select_functions.specs.Needs.{needs}
+use Rattle.ec_select_operations.specs.Needs.{needs}
 use Rattle.ec_live.specs.Places.{HasPlaces}
 use Rattle.ec_live.specs.Tables.{need_of, needs_of, AreSame}
 use Rattle.ec_live.proofs.Passes.{places_at, drop_back, need_more, wanted_more}

@@ -1,10 +1,10 @@
 use Rattle.std.proofs.Common.{◌≡◌, ◌+◌, ◌*◌, ◌++◌, List, drop, map}
 use Rattle.ec_core.specs.PortTable.{plain_table}
-use Rattle.ec_core.specs.Plain.{plain_expr, plain_exprs, plain_node, plain_program}
+use Rattle.ec_core.specs.Plain.{plain_expr, plain_exprs, plain_node, plain_place, plain_program}
 use Rattle.ec_ir.specs.Operations.{PlainIr, plain_ir}
 use Rattle.std.specs.Option.{option_copied}
 use Rattle.ec_lower.specs.Emits.{plain_operand}
-use Rattle.ec_lower.specs.Sizes.{expr_size, node_size, option_size, exprs_size}
+use Rattle.ec_lower.specs.Sizes.{expr_size, node_size, place_size, option_size, exprs_size}
 use Rattle.ec_lower_code.specs.Code.{exprs_labels, args_code}
 use Rattle.ec_lower.proofs.expressions.+lower.Given as goal
 
@@ -13,6 +13,9 @@ decreases-lower_expr l = 4 * expr_size (plain_expr l.e.now)
 
 abbrev pub decreases-lower_effect : goal.decreases-lower_effect
 decreases-lower_effect l = 4 * node_size (plain_node l.node.now) + 2
+
+abbrev pub decreases-lower_place : goal.decreases-lower_place
+decreases-lower_place l = 4 * place_size (plain_place l.p.now)
 
 abbrev pub decreases-lower_choice : goal.decreases-lower_choice
 decreases-lower_choice l = 4 * node_size (plain_node l.node.now) + 1
@@ -39,4 +42,6 @@ abbrev pub invariant-lower_args-loop-e : goal.invariant-lower_args-loop-e
 invariant-lower_args-loop-e l =
     let program = plain_program l.program in
     (l.k + exprs_labels (plain_exprs (drop l.e-index l.args)) ≡ l.fn.l + exprs_labels (plain_exprs l.args))
-    × ((rest : List PlainIr) → map plain_ir l.code.items ++ args_code program (plain_table l.io) (plain_exprs (drop l.e-index l.args)) l.k l.u rest ≡ map plain_ir l.fn.code.items ++ args_code program (plain_table l.io) (plain_exprs l.args) l.fn.l l.fn.t rest)
+    × ((rest : List PlainIr) → map plain_ir l.code.items ++ args_code program (plain_table l.io)
+    (plain_exprs (drop l.e-index l.args)) l.k l.u rest
+    ≡ map plain_ir l.fn.code.items ++ args_code program (plain_table l.io) (plain_exprs l.args) l.fn.l l.fn.t rest)

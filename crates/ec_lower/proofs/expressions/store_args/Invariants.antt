@@ -6,4 +6,5 @@ use Rattle.ec_lower.proofs.expressions.store_args.Given as goal
 
 abbrev pub invariant-loop-i : goal.invariant-loop-i
 invariant-loop-i l =
-    (rest : List PlainIr) → map plain_ir l.code.items ++ params_code (drop l.i l.params) (plain_exprs (drop l.i l.args)) l.u rest ≡ map plain_ir l.fn.code.items ++ params_code l.params (plain_exprs l.args) l.fn.t rest
+    (rest : List PlainIr) → map plain_ir l.code.items ++ params_code (drop l.i l.params) (plain_exprs (drop l.i l.args)) l.u rest
+    ≡ map plain_ir l.fn.code.items ++ params_code l.params (plain_exprs l.args) l.fn.t rest

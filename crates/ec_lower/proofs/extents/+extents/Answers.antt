@@ -20,10 +20,12 @@ choice_extent-args_extent-requires t c =
 
 pub choice_extent-returns-in_ok-x-in-Call-clause-labels : goal.choice_extent-returns-in_ok-x-in-Call-clause-labels
 choice_extent-returns-in_ok-x-in-Call-clause-labels t c =
-    let is : plain_node c.args.node.now ≡ call c.in-Call.field-0 (plain_exprs c.as_slice.result.now) = ap plain_node c.in-Call.is ∙ (plain_call c.in-Call.field-0 c.in-Call.args ∙ ap (λ es. call c.in-Call.field-0 (plain_exprs es)) (sym c.as_slice.ensures)) in
+    let is : plain_node c.args.node.now ≡ call c.in-Call.field-0 (plain_exprs c.as_slice.result.now) = ap plain_node c.in-Call.is
+    ∙ (plain_call c.in-Call.field-0 c.in-Call.args ∙ ap (λ es. call c.in-Call.field-0 (plain_exprs es)) (sym c.as_slice.ensures)) in
     c.in_ok-x-in-Call.ensures.labels ∙ ap node_labels (sym is)
 
 pub choice_extent-returns-in_ok-x-in-Call-clause-places : goal.choice_extent-returns-in_ok-x-in-Call-clause-places
 choice_extent-returns-in_ok-x-in-Call-clause-places t c =
-    let is : plain_node c.args.node.now ≡ call c.in-Call.field-0 (plain_exprs c.as_slice.result.now) = ap plain_node c.in-Call.is ∙ (plain_call c.in-Call.field-0 c.in-Call.args ∙ ap (λ es. call c.in-Call.field-0 (plain_exprs es)) (sym c.as_slice.ensures)) in
+    let is : plain_node c.args.node.now ≡ call c.in-Call.field-0 (plain_exprs c.as_slice.result.now) = ap plain_node c.in-Call.is
+    ∙ (plain_call c.in-Call.field-0 c.in-Call.args ∙ ap (λ es. call c.in-Call.field-0 (plain_exprs es)) (sym c.as_slice.ensures)) in
     c.in_ok-x-in-Call.ensures.places ∙ ap (λ node. node_need (operand_needs node)) (sym is)

@@ -19,5 +19,6 @@ stmt_places-stmts_places-requires t c =
 
 pub stmt_places-returns-in_ok-x-in-Block : goal.stmt_places-returns-in_ok-x-in-Block
 stmt_places-returns-in_ok-x-in-Block t c =
-    let is : plain_kind c.args.s.now.kind ≡ block (plain_stmts c.as_slice.result.now) = ap plain_kind c.in-Block.is ∙ (plain_block c.in-Block.ss ∙ ap (λ ss. block (plain_stmts ss)) (sym c.as_slice.ensures)) in
+    let is : plain_kind c.args.s.now.kind ≡ block (plain_stmts c.as_slice.result.now) = ap plain_kind c.in-Block.is
+    ∙ (plain_block c.in-Block.ss ∙ ap (λ ss. block (plain_stmts ss)) (sym c.as_slice.ensures)) in
     c.in_ok-x-in-Block.ensures ∙ ap kind_need (sym is)

@@ -5,4 +5,5 @@ use Rattle.ec_lower.proofs.ports.put_pairs.Given as goal
 
 abbrev pub invariant-loop-pair : goal.invariant-loop-pair
 invariant-loop-pair l =
-    (rest : List PlainIr) → map plain_ir l.code.items ++ pairs_code (drop l.pair-index l.pairs) l.t rest ≡ map plain_ir l.fn.code.items ++ pairs_code l.pairs l.t rest
+    (rest : List PlainIr) → map plain_ir l.code.items ++ pairs_code (drop l.pair-index l.pairs) l.t rest
+    ≡ map plain_ir l.fn.code.items ++ pairs_code l.pairs l.t rest

@@ -5,13 +5,12 @@ pub operations-requires : goal.operations-requires
 operations-requires c = record { structs = c.requires.valid.structs; objects = with_types _ _ c.requires.valid.objects }
 
 pub returns-clause-follows : goal.returns-clause-follows
-returns-clause-follows c = rw (c.in_ok-ir.ensures) (c.lowered_follows.ensures _ _ c.requires.valid c.read_groups.ensures c.requires.lowered)
+returns-clause-follows c = rw (c.in_ok-ir.ensures) (c.lowered_follows.ensures _ _ c.requires.valid c.read_groups.ensures)
 
 pub returns-clause-made : goal.returns-clause-made
-returns-clause-made c = rw (c.in_ok-ir.ensures) (c.lowered_is_made_of_its_program.ensures _ _ c.requires.valid c.read_groups.ensures c.requires.lowered)
+returns-clause-made c =
+    rw (c.in_ok-ir.ensures) (c.lowered_is_made_of_its_program.ensures _ _ c.requires.valid c.read_groups.ensures)
 
 pub returns-clause-valid : goal.returns-clause-valid
-returns-clause-valid c = rw (c.in_ok-ir.ensures) (c.lowered_is_made_of_its_program.ensures _ _ c.requires.valid c.read_groups.ensures c.requires.lowered).valid
-
-pub returns-clause-compiled : goal.returns-clause-compiled
-returns-clause-compiled c = λ parts. rw (c.in_ok-ir.ensures) (c.compiled_is_of_numbers.ensures _ _ c.requires.valid c.read_groups.ensures parts)
+returns-clause-valid c =
+    rw (c.in_ok-ir.ensures) (c.lowered_is_made_of_its_program.ensures _ _ c.requires.valid c.read_groups.ensures).valid

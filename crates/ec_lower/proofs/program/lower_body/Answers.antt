@@ -5,4 +5,5 @@ use Rattle.ec_lower.proofs.program.lower_body.Goals as goal
 
 pub returns : goal.returns
 returns c =
-    sym (append-nil (map plain_ir c.put-2.new.code.items)) ∙ (c.in_ok-put-2.ensures [] ∙ (c.in_ok-put.ensures _ ∙ c.in_ok-lower_stmt.ensures.code _))
+    sym (append-nil (map plain_ir c.put-2.new.code.items))
+    ∙ (c.in_ok-put-2.ensures [] ∙ (c.in_ok-put.ensures _ ∙ c.in_ok-lower_stmt.ensures.code _))

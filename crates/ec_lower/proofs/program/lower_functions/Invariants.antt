@@ -6,4 +6,6 @@ use Rattle.ec_lower_code.specs.Code.{lowered_function}
 use Rattle.ec_lower.proofs.program.lower_functions.Given as goal
 
 abbrev pub invariant-loop-f : goal.invariant-loop-f
-invariant-loop-f l = map plain_ir_function l.funcs.items ≡ map (lowered_function (plain_program l.program) (plain_table l.io)) (map plain_function (take l.f-index l.program.funcs.items))
+invariant-loop-f l =
+    map plain_ir_function l.funcs.items ≡ map (lowered_function (plain_program l.program) (plain_table l.io))
+    (map plain_function (take l.f-index l.program.funcs.items))

@@ -28,7 +28,9 @@ abbrev pub invariant-lower_stmts-loop-s : goal.invariant-lower_stmts-loop-s
 invariant-lower_stmts-loop-s l =
     let program = plain_program l.program in
     (l.k + stmts_labels (plain_stmts (drop l.s-index l.ss)) ≡ l.fn.l + stmts_labels (plain_stmts l.ss))
-    × ((rest : List PlainIr) → map plain_ir l.code.items ++ stmts_code program (plain_table l.io) (plain_stmts (drop l.s-index l.ss)) l.k l.out l.on rest ≡ map plain_ir l.fn.code.items ++ stmts_code program (plain_table l.io) (plain_stmts l.ss) l.fn.l l.out l.on rest)
+    × ((rest : List PlainIr) → map plain_ir l.code.items ++ stmts_code program (plain_table l.io)
+    (plain_stmts (drop l.s-index l.ss)) l.k l.out l.on rest
+    ≡ map plain_ir l.fn.code.items ++ stmts_code program (plain_table l.io) (plain_stmts l.ss) l.fn.l l.out l.on rest)
 
 abbrev pub decreases-lower_for : goal.decreases-lower_for
 decreases-lower_for l = stmt_size (plain_stmt l.first.now) + stmt_size (plain_stmt l.body.now) + 2

@@ -7,6 +7,7 @@ returns c = programs_show_their_sources (record {
     items = c.placed_items_stand.ensures;
     code = c.code_stands.ensures;
     apart = c.data_stands_apart.ensures;
+    flash = c.flash_stands_apart.ensures;
     separate = c.placed_stand_apart.ensures;
     initials = c.initial_values_stand.ensures;
     made = c.lowered_is_made_of_its_program.ensures;
@@ -21,4 +22,5 @@ returns c = programs_show_their_sources (record {
   home = c.events_are_at_home.ensures;
   on_ports = c.sources_access_ports.ensures;
   port_bytes = c.port_bytes_pass.ensures;
+  steps = c.runs_by_steps.ensures;
 })

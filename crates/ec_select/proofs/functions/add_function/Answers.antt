@@ -2,15 +2,13 @@ use Rattle.std.proofs.Common.{◌≡◌, ◌+◌, ◌^◌, ◌<◌, ℕ, List, m
 use Rattle.std.proofs.Common.{Global}
 use Rattle.std.proofs.lemmas.List.{length-map}
 use Rattle.ec_asm.specs.declared.items.AsmItem.{AsmItem}
-use Rattle.ec_core.specs.declared.programs.Obj.{Obj}
-use Rattle.ec_core.specs.Plain.{plain_object}
 use Rattle.ec_ir.specs.declared.operations.Ir.{Ir}
-use Rattle.ec_ir.specs.Operations.{plain_ir, plain_ir_function, plain_ir_program}
+use Rattle.ec_ir.specs.Operations.{plain_ir, plain_ir_function, plain_ir_program, data_of}
 use Rattle.ec_live.specs.Tables.{needs_of}
-use Rattle.ec_select_functions.specs.declared.calls.Linking.{Linking}
-use Rattle.ec_select_functions.specs.Code.{wanted_bytes}
-use Rattle.ec_select_functions.specs.Emitted.{linkage}
-use Rattle.ec_select_functions.specs.Written.{CanBeWritten, kept_rows, written_function}
+use Rattle.ec_select_operations.specs.declared.calls.Linking.{Linking}
+use Rattle.ec_select_operations.specs.Code.{wanted_bytes}
+use Rattle.ec_select_operations.specs.Emitted.{linkage}
+use Rattle.ec_select_operations.specs.Written.{CanBeWritten, kept_rows, written_function}
 use Rattle.ec_select.specs.Labels.{label_count}
 use Rattle.ec_select.proofs.Added.{added}
 use Rattle.ec_select.proofs.Emits.{wanted_length, kept_length, all_emitted}
@@ -21,34 +19,38 @@ pub live-requires : goal.live-requires
 live-requires c =
     let p = plain_ir_program c.args.ir.now in
     let g = plain_ir_function c.args.g.now in
-    c.valid_operations_have_places.ensures p c.requires.valid.results c.args.f g (function_valid p c.requires.valid c.args.f g c.requires.is)
+    c.valid_operations_have_places.ensures p c.requires.valid.results c.args.f g
+    (function_valid p c.requires.valid c.args.f g c.requires.is)
 
 pub wanted-requires : goal.wanted-requires
 wanted-requires c =
     let p = plain_ir_program c.args.ir.now in
     let g = plain_ir_function c.args.g.now in
-    c.valid_operations_have_places.ensures p c.requires.valid.results c.args.f g (function_valid p c.requires.valid c.args.f g c.requires.is)
+    c.valid_operations_have_places.ensures p c.requires.valid.results c.args.f g
+    (function_valid p c.requires.valid c.args.f g c.requires.is)
 
 pub kept-requires : goal.kept-requires
 kept-requires c =
     let p = plain_ir_program c.args.ir.now in
     let g = plain_ir_function c.args.g.now in
-    c.valid_operations_have_places.ensures p c.requires.valid.results c.args.f g (function_valid p c.requires.valid c.args.f g c.requires.is)
+    c.valid_operations_have_places.ensures p c.requires.valid.results c.args.f g
+    (function_valid p c.requires.valid c.args.f g c.requires.is)
 
 pub function-requires-clause-numbers : goal.function-requires-clause-numbers
 function-requires-clause-numbers c =
     let code = c.args.g.now.code.items in
     let at = needs_of c.in_ok-table.table in
     let bytes : c.in_ok-bytes.bytes.items ≡ wanted_bytes at (map plain_ir code) = c.in_ok-bytes.ensures in
-    ap length c.as_slice-2.ensures
+    ap length c.as_slice.ensures
     ∙ sym (ap length c.deref.ensures.value ∙ ap length bytes ∙ wanted_length at (map plain_ir code) ∙ length-map code plain_ir)
 
 pub function-requires-clause-rows : goal.function-requires-clause-rows
 function-requires-clause-rows c =
     let code = c.args.g.now.code.items in
     let at = needs_of c.in_ok-table.table in
-    let rows : map (λ row. row.items) c.in_ok-rows.rows.items ≡ kept_rows c.args.g.now.slots at (map plain_ir code) = c.in_ok-rows.ensures in
-    ap length c.as_slice-2.ensures
+    let rows : map (λ row. row.items) c.in_ok-rows.rows.items ≡ kept_rows c.args.g.now.slots at (map plain_ir code) =
+    c.in_ok-rows.ensures in
+    ap length c.as_slice.ensures
     ∙ sym (ap length c.deref-2.ensures.value ∙ sym (length-map c.in_ok-rows.rows.items (λ row. row.items)) ∙ ap length rows
     ∙ kept_length c.args.g.now.slots at (map plain_ir code) ∙ length-map code plain_ir)
 
@@ -66,11 +68,8 @@ function-requires-clause-each c =
     (label_count g.code) room entries at g.code (c.requires.code.functions c.args.f g c.requires.is)
     (function_valid p c.requires.valid c.args.f g c.requires.is).code (omega arith) in
     let bytes : c.deref.result.now ≡ wanted_bytes at g.code = c.deref.ensures.value ∙ c.in_ok-bytes.ensures in
-    let by_bytes = subst (λ (x : List ℕ). CanBeWritten p.objects k x g.code) (sym bytes) each in
-    let by_code : CanBeWritten p.objects k c.deref.result.now (map plain_ir c.as_slice-2.result.now) =
-    subst (λ (x : List Ir). CanBeWritten p.objects k c.deref.result.now (map plain_ir x)) (sym c.as_slice-2.ensures) by_bytes in
-    let objects : c.as_slice.result.now ≡ c.args.ir.now.objs.items = c.as_slice.ensures in
-    subst (λ (x : List Obj). CanBeWritten (map plain_object x) k c.deref.result.now (map plain_ir c.as_slice-2.result.now)) (sym objects) by_code
+    let by_bytes = subst (λ (x : List ℕ). CanBeWritten (data_of p) k x g.code) (sym bytes) each in
+    subst (λ (x : List Ir). CanBeWritten (data_of p) k c.deref.result.now (map plain_ir x)) (sym c.as_slice.ensures) by_bytes
 
 pub returns : goal.returns
 returns c =
@@ -82,13 +81,11 @@ returns c =
     let kept : map (λ row. row.items) c.in_ok-rows.rows.items ≡ kept_rows g.slots at g.code = c.in_ok-rows.ensures in
     let rows : map (λ row. row.items) c.deref-2.result.now ≡ kept_rows g.slots at g.code =
     subst (λ (x : List (Vec ℕ Global)). map (λ row. row.items) x ≡ kept_rows g.slots at g.code) (sym c.deref-2.ensures.value) kept in
-    let code : map plain_ir c.as_slice-2.result.now ≡ g.code = ap (λ (x : List Ir). map plain_ir x) c.as_slice-2.ensures in
-    let objects : map plain_object c.as_slice.result.now ≡ p.objects =
-    ap (λ (x : List Obj). map plain_object x) (let e : c.as_slice.result.now ≡ c.args.ir.now.objs.items = c.as_slice.ensures in e) in
-    let written : c.function.new.out.items ≡ c.args.out.now.items ++ written_function (map plain_object c.as_slice.result.now) (linkage k) c.args.f
-    c.deref.result.now (map (λ row. row.items) c.deref-2.result.now) (map plain_ir c.as_slice-2.result.now) = c.in_ok-function.ensures.ok in
-    let here : c.function.new.out.items ≡ c.args.out.now.items ++ written_function p.objects (linkage k) c.args.f
-    (wanted_bytes at g.code) (kept_rows g.slots at g.code) g.code = written ∙ rw (objects, bytes, rows, code) refl in
+    let code : map plain_ir c.as_slice.result.now ≡ g.code = ap (λ (x : List Ir). map plain_ir x) c.as_slice.ensures in
+    let written : c.function.new.out.items ≡ c.args.out.now.items ++ written_function (data_of p) (linkage k) c.args.f
+    c.deref.result.now (map (λ row. row.items) c.deref-2.result.now) (map plain_ir c.as_slice.result.now) = c.in_ok-function.ensures.ok in
+    let here : c.function.new.out.items ≡ c.args.out.now.items ++ written_function (data_of p) (linkage k) c.args.f
+    (wanted_bytes at g.code) (kept_rows g.slots at g.code) g.code = written ∙ rw (bytes, rows, code) refl in
     record {
       labels = at;
       live = c.in_ok-table.ensures.live;

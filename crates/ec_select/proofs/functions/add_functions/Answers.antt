@@ -29,7 +29,8 @@ pub loop-f-preserved : goal.loop-f-preserved
 loop-f-preserved c =
     let p = plain_ir_program c.args.ir.now in
     let g = plain_ir_function c.g-item.result in
-    let is : slice_get p.functions c.loop-f.f ≡ Some g = there c.args.ir.now.funcs.items c.as_slice-g-items.result.now c.loop-f.f c.g-item.result
+    let is : slice_get p.functions c.loop-f.f ≡ Some g =
+    there c.args.ir.now.funcs.items c.as_slice-g-items.result.now c.loop-f.f c.g-item.result
     c.as_slice-g-items.ensures c.loop-f-test.true c.g-item.is in
     let next : c.in_ok-next.next ≡ c.loop-f.first + label_count g.code = c.in_ok-next.ensures in
     record {

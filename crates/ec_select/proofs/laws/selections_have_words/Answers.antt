@@ -11,4 +11,9 @@ returns c = selections_have_words (record {
   fixed_binaries = c.fixed_binaries_are_short.ensures;
   fixed_unaries = c.fixed_unaries_are_short.ensures;
   fixed_conversions = c.fixed_conversions_are_short.ensures;
+  pointers = c.pointers_are_straight.ensures.words;
+  tables = c.tables_are_formed.ensures.short;
+  steps = c.places_are_short.ensures.steps;
+  conversions = c.places_are_short.ensures.conversions;
+  elements = c.elements_are_formed.ensures.short;
 }) c.startup_has_words.ensures c.near_items_are_short.ensures.less

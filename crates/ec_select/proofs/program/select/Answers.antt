@@ -21,7 +21,8 @@ is_selection c =
     let spans : c.as_slice.result.now ≡ spans_of p = c.as_slice.ensures ∙ c.in_ok-spans.ensures in
     let begins : c.startup.new.out.items ≡ Label entry_label ∷ startup_code (spans_of p) (function_label p.main) =
     c.in_ok-startup.ensures.ok ∙ rw (c.in_ok-push.ensures.ok, c.new-items.ensures, spans, c.from.ensures) refl in
-    selected p (asm_of c) (length c.args.ir.now.funcs.items) c.startup.new.out.items c.add_functions.new.out.items (sym (length-map c.args.ir.now.funcs.items plain_ir_function))
+    selected p (asm_of c) (length c.args.ir.now.funcs.items) c.startup.new.out.items c.add_functions.new.out.items
+    (sym (length-map c.args.ir.now.funcs.items plain_ir_function))
     begins c.in_ok-add_functions.ensures c.in_ok-short.ensures c.in_ok-frames.ensures refl
 
 pub returns-clause-code : goal.returns-clause-code

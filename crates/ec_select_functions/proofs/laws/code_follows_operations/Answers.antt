@@ -13,4 +13,25 @@ returns c =
         unaries = c.fixed_unaries_are_right.ensures;
         conversions = c.fixed_conversions_are_right.ensures;
       };
+      pointers = record {
+        addresses = c.addresses_are_right.ensures;
+        fields = c.fields_are_right.ensures;
+        from_data = c.loads_are_right.ensures.from_data;
+        from_flash = c.loads_are_right.ensures.from_flash;
+        from_data_by_tag = c.loads_by_tag_are_right.ensures.from_data;
+        from_flash_by_tag = c.loads_by_tag_are_right.ensures.from_flash;
+        from_tables = c.tables_are_loaded.ensures;
+        stored = c.stores_are_right.ensures;
+        straight = c.pointers_are_straight.ensures.straight;
+        take = c.pointers_are_straight.ensures.steps;
+        tables_short = c.tables_are_formed.ensures.short;
+        scaled = c.indexes_are_scaled.ensures;
+        advanced = c.pointers_are_advanced.ensures;
+        steps_short = c.places_are_short.ensures.steps;
+        elements = c.elements_are_right.ensures;
+        elements_short = c.elements_are_formed.ensures.short;
+        compared = c.pointers_are_compared.ensures;
+        embedded = c.pointers_are_converted.ensures.embedded;
+        embeddings_short = c.places_are_short.ensures.conversions;
+      };
     })

@@ -1,3 +1,0 @@
-pub mod Selected
-pub mod SelectedUnits
-pub mod Rising

@@ -1,0 +1,353 @@
+-- The operations of a program that read and write ports stay on these.
+use Rattle.std.proofs.Common.{ℕ, ◌+◌, Bool, true, false, List, [], ◌∷◌, map, Option, Some, None, refl, arith, pos}
+use Rattle.std.specs.Prelude.{slice_get, if◌then◌else◌}
+use Rattle.std.specs.List.{AllByRecursion}
+use Rattle.ec_fx.specs.declared.numbers.Mode.{Mode}
+use Rattle.ec_iohw.specs.declared.operations.IoOp.{IoOp}
+use Rattle.ec_iohw.specs.declared.table.IoTable.{IoTable}
+use Rattle.ec_iohw.specs.declared.table.Pair.{Pair}
+use Rattle.ec_iohw.specs.Valid.{ValidIo}
+use Rattle.ec_core.specs.declared.expressions.BinOp.{BinOp}
+use Rattle.ec_core.specs.Layout.{PlainLeaf}
+use Rattle.ec_core.specs.Operators.{OperationTypes, number_type, step_operator}
+use Rattle.ec_core.specs.Plain.{PlainType, void, integer, fixed, pointer, array, struct, PlainExpr, expression, PlainNode, number, null}
+use Rattle.ec_core.specs.Plain.{load, address_of, unary, binary, convert, assign, compound, step, logical_not, logical_and, logical_or}
+use Rattle.ec_core.specs.Plain.{conditional, comma, call, io, group, PlainPlace, object, deref, member, OptionPlainExpr, no_expr, an_expr}
+use Rattle.ec_core.specs.Plain.{PlainExprs, last_expr, next_expr, PlainStmt, statement, PlainKind, empty, evaluate, block, declare, branch}
+use Rattle.ec_core.specs.Plain.{while_loop, do_loop, for_loop, break_loop, continue_loop, return_value, OptionPlainStmt, no_stmt, a_stmt}
+use Rattle.ec_core.specs.Plain.{PlainStmts, last_stmt, next_stmt, PlainFunction, PlainProgram}
+use Rattle.ec_core.specs.PortAccesses.{pairs_of}
+use Rattle.ec_core.specs.PortOperations.{PortAction, reads, writes, updates, port_operation}
+use Rattle.ec_core.specs.PortTable.{PlainPort, PlainGroup, plain_table}
+use Rattle.ec_core.specs.Typing.{int, unsigned_int, unsigned_long, type_of_expr, IsTyped}
+use Rattle.ec_core.specs.Valid.{EachFrom, ValidExpr, ValidParts, ValidPlace, ValidOption, ValidExprs, ValidCondition, ValidOptional}
+use Rattle.ec_core.specs.Valid.{ValidStmt, ValidKind, ValidOptionStmt, ValidStmts, IsFunction}
+use Rattle.ec_ir.specs.Operations.{PlainIr, constant, store_object, binary_op, unary_op, conversion, label, jump, branch_zero}
+use Rattle.ec_ir.specs.Operations.{call_function}
+use Rattle.ec_ir.specs.Operations.{return_from}
+use Rattle.ec_ir.specs.declared.operations.Temp.{Temp}
+use Rattle.ec_lower_code.specs.Code.{temp, result_temp, truth_code, place_labels, Site, named, pointed, further_code, load_from, store_to}
+use Rattle.ec_lower_code.specs.Code.{value_place, settled_code, address_code, update_types, update_code, keeping_code, moving_code}
+use Rattle.ec_lower_code.specs.Code.{change_code, postfix_code, step_code, offset_of, site, params_of, params_code}
+use Rattle.ec_lower_code.specs.Code.{port_operator, port_code}
+use Rattle.ec_lower_code.specs.Code.{place_behind, operand_temp, access_code, pairs_code, group_code, option_labels}
+use Rattle.ec_lower_code.specs.Code.{option_code, expr_labels}
+use Rattle.ec_lower_code.specs.Code.{optional_labels, option_stmt_labels, stmt_labels, expr_code, node_code, place_code}
+use Rattle.ec_lower_code.specs.Code.{args_code, init_code}
+use Rattle.ec_lower_code.specs.Code.{test_code, last_code, leaves_of_object, stmt_code, kind_code, option_stmt_code, stmts_code}
+use Rattle.ec_lower_code.specs.Code.{lowered_function}
+use Rattle.ec_lower_code.specs.Correct.{IsBytePair, GroupsHaveBytes, IsOnPorts, OperationsStayOnPorts}
+use Rattle.ec_lower_code.proofs.Tables.{IsOperated, AreOperated, ArePairs, port_operated, group_pairs, first_within}
+
+abbrev AllOn : List PlainIr → Type 0
+AllOn code = AllByRecursion IsOnPorts code
+
+-- ---- places
+
+load_on : (to : Temp) (s : Site) → IsOnPorts (load_from to s)
+load_on to (named o offset) = tt
+load_on to (pointed ptr space) = tt
+
+store_on : (s : Site) (from : Temp) → IsOnPorts (store_to s from)
+store_on (named o offset) from = tt
+store_on (pointed ptr space) from = tt
+
+further_on : (k : ℕ) (s : Site) (rest : List PlainIr) → AllOn rest → AllOn (further_code k s rest)
+further_on k (named o offset) rest r = r
+further_on k (pointed ptr space) rest r = (tt, r)
+
+settled_on : (s : Site) (ty : PlainType) (t : ℕ) (rest : List PlainIr) → AllOn rest → AllOn (settled_code s ty t rest)
+settled_on (named o offset) ty t rest r = r
+settled_on (pointed ptr space) ty t rest r = (tt, r)
+
+address_on : (s : Site) (ty : PlainType) (t : ℕ) (rest : List PlainIr) → AllOn rest → AllOn (address_code s ty t rest)
+address_on (named o offset) ty t rest r = (tt, r)
+address_on (pointed ptr space) ty t rest r = r
+
+-- ---- updates
+
+update_on : (op : BinOp) (ts : OperationTypes) (own mode : Mode) (ty : PlainType) (s : Site) (t : ℕ) (right : PlainType)
+    (rest : List PlainIr)
+    → AllOn rest → AllOn (update_code op ts own mode ty s t right rest)
+update_on op ts own mode ty s t right rest r = (tt, (tt, (tt, (tt, (store_on s (temp t ty), r)))))
+
+keeping_on : (op : BinOp) (ts : OperationTypes) (mode : Mode) (ty : PlainType) (s : Site) (t : ℕ) (right : PlainType) (rest : List PlainIr)
+    → AllOn rest → AllOn (keeping_code op ts mode ty s t right rest)
+keeping_on op ts mode ty s t right rest r = (tt, (tt, (tt, (tt, (store_on s (temp (t + 1) ty), (tt, r))))))
+
+moving_on : (op : BinOp) (mode : Mode) (ty : PlainType) (s : Site) (t q : ℕ) (right : PlainType) (rest : List PlainIr)
+    → AllOn rest → AllOn (moving_code op mode ty s t q right rest)
+moving_on op mode ty s t q right rest r = (tt, (store_on s (temp q ty), r))
+
+change_on : (op : BinOp) (own mode : Mode) (ty : PlainType) (s : Site) (t : ℕ) (right : PlainType) (rest : List PlainIr)
+    → AllOn rest → AllOn (change_code op own mode ty s t right rest)
+change_on op own mode void s t right rest r = update_on op (update_types op (number_type void) (number_type right)) own mode void s t right
+    rest r
+change_on op own mode (integer g b) s t right rest r =
+    update_on op (update_types op (number_type (integer g b)) (number_type right)) own mode (integer g b) s t right rest r
+change_on op own mode (fixed k g) s t right rest r =
+    update_on op (update_types op (number_type (fixed k g)) (number_type right)) own mode (fixed k g) s t right rest r
+change_on op own mode (pointer g c u) s t right rest r = moving_on op own (pointer g c u) s t t right rest r
+change_on op own mode (array u n) s t right rest r =
+    update_on op (update_types op (number_type (array u n)) (number_type right)) own mode (array u n) s t right rest r
+change_on op own mode (struct n) s t right rest r =
+    update_on op (update_types op (number_type (struct n)) (number_type right)) own mode (struct n) s t right rest r
+
+postfix_on : (op : BinOp) (mode : Mode) (ty : PlainType) (s : Site) (t : ℕ) (rest : List PlainIr)
+    → AllOn rest → AllOn (postfix_code op mode ty s t rest)
+postfix_on op mode void s t rest r = keeping_on op (update_types op (number_type void) (number_type int)) mode void s t int rest r
+postfix_on op mode (integer g b) s t rest r =
+    keeping_on op (update_types op (number_type (integer g b)) (number_type int)) mode (integer g b) s t int rest r
+postfix_on op mode (fixed k g) s t rest r =
+    keeping_on op (update_types op (number_type (fixed k g)) (number_type int)) mode (fixed k g) s t int rest r
+postfix_on op mode (pointer g c u) s t rest r = moving_on op mode (pointer g c u) s t (t + 1) int rest r
+postfix_on op mode (array u n) s t rest r =
+    keeping_on op (update_types op (number_type (array u n)) (number_type int)) mode (array u n) s t int rest r
+postfix_on op mode (struct n) s t rest r =
+    keeping_on op (update_types op (number_type (struct n)) (number_type int)) mode (struct n) s t int rest r
+
+step_on : (prefix : Bool) (op : BinOp) (mode : Mode) (ty : PlainType) (s : Site) (t : ℕ) (rest : List PlainIr)
+    → AllOn rest → AllOn (step_code prefix op mode ty s t rest)
+step_on true op mode ty s t rest r = change_on op mode mode ty s t int rest r
+step_on false op mode ty s t rest r = postfix_on op mode ty s t rest r
+
+-- ---- calls and ports
+
+params_on : (os : List ℕ) (es : PlainExprs) (t : ℕ) (rest : List PlainIr) → AllOn rest → AllOn (params_code os es t rest)
+params_on [] es t rest r = r
+params_on (o ∷ os) last_expr t rest r = r
+params_on (o ∷ os) (next_expr e es) t rest r = (tt, params_on os es (t + 1) rest r)
+
+port_on : (action : PortAction) (op : IoOp) (long : Bool) (mode : Mode) (port : PlainPort) (index : Option Temp) (t v : ℕ)
+    (rest : List PlainIr)
+    → IsOperated long port → AllOn rest
+    → AllOn (port_code action (port_operator op) (if long then unsigned_long else unsigned_int) mode port index t v rest)
+port_on reads op long mode port index t v rest i r = (first_within long port i, r)
+port_on writes op long mode port index t v rest i r = (first_within long port i, r)
+port_on updates op long mode port index t v rest i r = (first_within long port i, (tt, (first_within long port i, r)))
+
+access_on : (op : IoOp) (mode : Mode) (port : Option PlainPort) (index : OptionPlainExpr) (t : ℕ) (rest : List PlainIr)
+    → AreOperated (port_operation op).long port → AllOn rest → AllOn (access_code op mode port index t rest)
+access_on op mode None index t rest i r = r
+access_on op mode (Some port) index t rest i r =
+    port_on (port_operation op).action op (port_operation op).long mode port (operand_temp index t) t (place_behind index t) rest
+    (i port refl) r
+
+pairs_on : (pairs : List Pair) (t : ℕ) (rest : List PlainIr) → AllByRecursion IsBytePair pairs → AllOn rest
+    → AllOn (pairs_code pairs t rest)
+pairs_on [] t rest h r = r
+pairs_on (pair ∷ pairs) t rest h r = let lt = h.0.0 in (tt, (omega (arith, lt), pairs_on pairs t rest h.1 r))
+
+group_on : (acquire : Bool) (x : Option PlainGroup) (t : ℕ) (rest : List PlainIr) → ArePairs x → AllOn rest
+    → AllOn (group_code acquire x t rest)
+group_on acquire None t rest h r = r
+group_on acquire (Some x) t rest h r = pairs_on (pairs_of acquire x) t rest (h x refl acquire) r
+
+truth_on : (h : Bool) (ty : PlainType) (l t : ℕ) (rest : List PlainIr) → AllOn rest → AllOn (truth_code h ty l t rest)
+truth_on h ty l t rest r = (tt, (tt, (tt, (tt, (tt, r)))))
+
+module _ (program : PlainProgram) (table : IoTable) (valid : ValidIo table) (bytes : GroupsHaveBytes table) (f : ℕ) where
+  -- ---- expressions
+
+  mutual
+    expr_on : (e : PlainExpr) (l t : ℕ) (rest : List PlainIr) → ValidExpr program table f e → AllOn rest
+        → AllOn (expr_code program (plain_table table) e l t rest)
+    expr_on (expression ty mode node) l t rest v r = node_on ty mode node l t rest v.1 v.2 r
+
+    node_on : (ty : PlainType) (mode : Mode) (node : PlainNode) (l t : ℕ) (rest : List PlainIr) → IsTyped program table ty node
+        → ValidParts program table f node → AllOn rest → AllOn (node_code program (plain_table table) ty mode node l t rest)
+    node_on ty mode (number n) l t rest tp v r = (tt, r)
+    node_on ty mode null l t rest tp v r = (tt, r)
+    node_on ty mode (load q) l t rest tp v r =
+        let s = site program q t in place_on q l t (load_from (temp t ty) s ∷ rest) v (load_on (temp t ty) s, r)
+    node_on ty mode (address_of q) l t rest tp v r =
+        let s = site program q t in place_on q l t (address_code s ty t rest) v.0 (address_on s ty t rest r)
+    node_on ty mode (unary op a) l t rest tp v r = expr_on a l t (unary_op op ty mode (temp t ty) (temp t ty) ∷ rest) v (tt, r)
+    node_on ty mode (binary op a b) l t rest tp v r =
+        let q : List PlainIr = binary_op op ty mode (temp t ty) (temp t (type_of_expr a)) (type_of_expr a)
+        (temp (t + 1) (type_of_expr b)) (type_of_expr b) ∷ rest in
+        expr_on a l t (expr_code program (plain_table table) b (l + expr_labels a) (t + 1) q) v.0
+        (expr_on b (l + expr_labels a) (t + 1) q v.1 (tt, r))
+    node_on ty mode (convert a) l t rest tp v r =
+        expr_on a l t (conversion (temp t ty) ty mode (temp t (type_of_expr a)) (type_of_expr a) ∷ rest) v (tt, r)
+    node_on ty mode (assign q a) l t rest tp v r =
+        let s = site program q t in
+        let u = value_place s t in
+        let c : List PlainIr = store_to s (temp u ty) ∷ settled_code s ty t rest in
+        place_on q l t (expr_code program (plain_table table) a (l + place_labels q) u c) v.0
+        (expr_on a (l + place_labels q) u c v.1 (store_on s (temp u ty), settled_on s ty t rest r))
+    node_on ty mode (compound op own q a) l t rest tp v r =
+        let s = site program q t in
+        let u = value_place s t in
+        let e = settled_code s ty t rest in
+        let c = change_code op own mode ty s u (type_of_expr a) e in
+        place_on q l t (load_from (temp u ty) s ∷ expr_code program (plain_table table) a (l + place_labels q) (u + 1) c) v.0 (
+          load_on (temp u ty) s,
+          expr_on a (l + place_labels q) (u + 1) c v.1
+              (change_on op own mode ty s u (type_of_expr a) e (settled_on s ty t rest r)),
+        )
+    node_on ty mode (step up prefix q) l t rest tp v r =
+        let s = site program q t in
+        let u = value_place s t in
+        let e = settled_code s ty t rest in
+        let c : List PlainIr = constant (temp (u + 1) int) (pos 1) ∷ step_code prefix (step_operator up) mode ty s u e in
+        place_on q l t (load_from (temp u ty) s ∷ c) v
+        (load_on (temp u ty) s, (tt, step_on prefix (step_operator up) mode ty s u e (settled_on s ty t rest r)))
+    node_on ty mode (logical_not a) l t rest tp v r =
+        expr_on a (l + 2) t (branch_zero (temp t (type_of_expr a)) l ∷ truth_code false ty l t rest) v (tt, truth_on false ty l t rest r)
+    node_on ty mode (logical_and a b) l t rest tp v r =
+        let q : List PlainIr = branch_zero (temp t (type_of_expr b)) l ∷ truth_code true ty l t rest in
+        expr_on a (l + 2) t (branch_zero (temp t (type_of_expr a)) l
+        ∷ expr_code program (plain_table table) b (l + 2 + expr_labels a) t q) v.0
+        (tt, expr_on b (l + 2 + expr_labels a) t q v.1 (tt, truth_on true ty l t rest r))
+    node_on ty mode (logical_or a b) l t rest tp v r =
+        let q : List PlainIr = branch_zero (temp t (type_of_expr b)) l ∷ label (l + 3) ∷ truth_code true ty l t rest in
+        expr_on a (l + 4) t (branch_zero (temp t (type_of_expr a)) (l + 2) ∷ jump (l + 3) ∷ label (l + 2)
+        ∷ expr_code program (plain_table table) b (l + 4 + expr_labels a) t q) v.0
+        (tt, (tt, (tt, expr_on b (l + 4 + expr_labels a) t q v.1 (tt, (tt, truth_on true ty l t rest r)))))
+    node_on ty mode (conditional c a b) l t rest tp v r =
+        let u : List PlainIr = label (l + 1) ∷ rest in
+        let q : List PlainIr = jump (l + 1) ∷ label l ∷ expr_code program (plain_table table) b (l + 2 + expr_labels c + expr_labels a) t
+        u in
+        expr_on c (l + 2) t (branch_zero (temp t (type_of_expr c)) l
+        ∷ expr_code program (plain_table table) a (l + 2 + expr_labels c) t q) v.0 (
+          tt,
+          expr_on a (l + 2 + expr_labels c) t q v.1
+              (tt, (tt, expr_on b (l + 2 + expr_labels c + expr_labels a) t u v.2 (tt, r))),
+        )
+    node_on ty mode (comma a b) l t rest tp v r =
+        expr_on a l t (expr_code program (plain_table table) b (l + expr_labels a) t rest) v.0 (expr_on b (l + expr_labels a) t rest v.1 r)
+    node_on ty mode (call g args) l t rest tp v r =
+        let q : List PlainIr = call_function g (result_temp t ty) ∷ rest in
+        args_on args l t (params_code (params_of program g) args t q) v (params_on (params_of program g) args t q (tt, r))
+    node_on ty mode (io op port i w) l t rest tp v r =
+        let q = access_code op mode (slice_get (plain_table table).ports port) i t rest in
+        operand_on i l t (option_code program (plain_table table) w (l + option_labels i) (place_behind i t) q) v.0
+        (operand_on w (l + option_labels i) (place_behind i t) q v.1
+        (access_on op mode (slice_get (plain_table table).ports port) i t rest
+        (port_operated table valid port (port_operation op).long tp.port) r))
+    node_on ty mode (group acquire g) l t rest tp v r =
+        group_on acquire (slice_get (plain_table table).groups g) t rest (group_pairs table bytes g) r
+
+    place_on : (q : PlainPlace) (l t : ℕ) (rest : List PlainIr) → ValidPlace program table f q → AllOn rest
+        → AllOn (place_code program (plain_table table) q l t rest)
+    place_on (object o) l t rest v r = r
+    place_on (deref e) l t rest v r = expr_on e l t rest v r
+    place_on (member q i) l t rest v r =
+        let k = offset_of program q i in
+        let s = site program q t in
+        place_on q l t (further_code k s rest) v (further_on k s rest r)
+
+    operand_on : (e : OptionPlainExpr) (l t : ℕ) (rest : List PlainIr) → ValidOption program table f e → AllOn rest
+        → AllOn (option_code program (plain_table table) e l t rest)
+    operand_on no_expr l t rest v r = r
+    operand_on (an_expr e) l t rest v r = expr_on e l t rest v r
+
+    args_on : (es : PlainExprs) (l t : ℕ) (rest : List PlainIr) → ValidExprs program table f es → AllOn rest
+        → AllOn (args_code program (plain_table table) es l t rest)
+    args_on last_expr l t rest v r = r
+    args_on (next_expr e es) l t rest v r =
+        expr_on e l t (args_code program (plain_table table) es (l + expr_labels e) (t + 1) rest) v.0
+        (args_on es (l + expr_labels e) (t + 1) rest v.1 r)
+
+  -- ---- statements
+
+  init_on : (ls : List PlainLeaf) (o : ℕ) (es : PlainExprs) (l : ℕ) (rest : List PlainIr) → ValidExprs program table f es → AllOn rest
+      → AllOn (init_code program (plain_table table) ls o es l rest)
+  init_on [] o es l rest v r = r
+  init_on (leaf ∷ ls) o last_expr l rest v r = r
+  init_on (leaf ∷ ls) o (next_expr e es) l rest v r =
+      expr_on e l 0 (store_object o leaf.at (temp 0 (type_of_expr e))
+      ∷ init_code program (plain_table table) ls o es (l + expr_labels e) rest) v.0
+      (tt, init_on ls o es (l + expr_labels e) rest v.1 r)
+
+  test_on : (c : Option PlainExpr) (out l : ℕ) (rest : List PlainIr) → ValidCondition program table f c → AllOn rest
+      → AllOn (test_code program (plain_table table) c out l rest)
+  test_on None out l rest v r = r
+  test_on (Some c) out l rest v r = expr_on c l 0 (branch_zero (temp 0 (type_of_expr c)) out ∷ rest) v.0 (tt, r)
+
+  last_on : (e : Option PlainExpr) (l : ℕ) (rest : List PlainIr) → ValidOptional program table f e → AllOn rest
+      → AllOn (last_code program (plain_table table) e l rest)
+  last_on None l rest v r = r
+  last_on (Some e) l rest v r = expr_on e l 0 rest v r
+
+  module _ (returns : PlainType) where
+    mutual
+      stmt_on : (a : PlainStmt) (k : Bool) (l out on : ℕ) (rest : List PlainIr) → ValidStmt program table f returns k a → AllOn rest
+          → AllOn (stmt_code program (plain_table table) a l out on rest)
+      stmt_on (statement unit at kind) k l out on rest v r = kind_on kind k l out on rest v r
+
+      kind_on : (kind : PlainKind) (k : Bool) (l out on : ℕ) (rest : List PlainIr) → ValidKind program table f returns k kind → AllOn rest
+          → AllOn (kind_code program (plain_table table) kind l out on rest)
+      kind_on empty k l out on rest v r = r
+      kind_on (evaluate e) k l out on rest v r = expr_on e l 0 rest v r
+      kind_on (block ss) k l out on rest v r = stmts_on ss k l out on rest v r
+      kind_on (declare o es) k l out on rest v r = init_on (leaves_of_object program o) o es l rest v.1 r
+      kind_on (branch c a no_stmt) k l out on rest v r =
+          test_on (Some c) l (l + 2) (stmt_code program (plain_table table) a (l + 2 + expr_labels c) out on (label l ∷ rest)) v.0
+          (stmt_on a k (l + 2 + expr_labels c) out on (label l ∷ rest) v.1 (tt, r))
+      kind_on (branch c a (a_stmt b)) k l out on rest v r =
+          let q : List PlainIr = jump (l + 1) ∷ label l
+          ∷ stmt_code program (plain_table table) b (l + 2 + expr_labels c + stmt_labels a) out on (label (l + 1) ∷ rest) in
+          test_on (Some c) l (l + 2) (stmt_code program (plain_table table) a (l + 2 + expr_labels c) out on q) v.0
+          (stmt_on a k (l + 2 + expr_labels c) out on q v.1
+          (tt, (tt, stmt_on b k (l + 2 + expr_labels c + stmt_labels a) out on (label (l + 1) ∷ rest) v.2 (tt, r))))
+      kind_on (while_loop c a) k l out on rest v r =
+          let q : List PlainIr = label (l + 2) ∷ jump l ∷ label (l + 1) ∷ rest in
+          let b : List PlainIr = label (l + 3) ∷ stmt_code program (plain_table table) a (l + 4 + expr_labels c) (l + 1) (l + 2) q in (
+            tt,
+            test_on (Some c) (l + 1) (l + 4) b v.0
+                (tt, stmt_on a true (l + 4 + expr_labels c) (l + 1) (l + 2) q v.1 (tt, (tt, (tt, r)))),
+          )
+      kind_on (do_loop a c) k l out on rest v r =
+          let q : List PlainIr = label (l + 2) ∷ jump l ∷ label (l + 1) ∷ rest in
+          let b : List PlainIr = label (l + 3) ∷ stmt_code program (plain_table table) a (l + 4 + expr_labels c) (l + 1) (l + 2) q in (
+            tt,
+            (
+              tt,
+              test_on (Some c) (l + 1) (l + 4) b v.1
+                  (tt, stmt_on a true (l + 4 + expr_labels c) (l + 1) (l + 2) q v.0 (tt, (tt, (tt, r)))),
+            ),
+          )
+      kind_on (for_loop first c last a) k l0 out on rest v r =
+          let l = l0 + option_stmt_labels first in
+          let e : List PlainIr = jump l ∷ label (l + 1) ∷ rest in
+          let q : List PlainIr = label (l + 2) ∷ last_code program (plain_table table) last (l + 4 + optional_labels c) e in
+          let b : List PlainIr = label (l + 3)
+          ∷ stmt_code program (plain_table table) a (l + 4 + optional_labels c + optional_labels last) (l + 1) (l + 2) q in
+          option_on first k l0 out on (label l ∷ test_code program (plain_table table) c (l + 1) (l + 4) b) v.0 (
+            tt,
+            test_on c (l + 1) (l + 4) b v.1 (
+              tt,
+              stmt_on a true (l + 4 + optional_labels c + optional_labels last) (l + 1) (l + 2) q v.3
+                  (tt, last_on last (l + 4 + optional_labels c) e v.2 (tt, (tt, r))),
+            ),
+          )
+      kind_on break_loop k l out on rest v r = (tt, r)
+      kind_on continue_loop k l out on rest v r = (tt, r)
+      kind_on (return_value None) k l out on rest v r = (tt, r)
+      kind_on (return_value (Some e)) k l out on rest v r =
+          expr_on e l 0 (return_from (Some (temp 0 (type_of_expr e))) ∷ rest) v.1 (tt, r)
+
+      option_on : (a : OptionPlainStmt) (k : Bool) (l out on : ℕ) (rest : List PlainIr) → ValidOptionStmt program table f returns k a
+          → AllOn rest → AllOn (option_stmt_code program (plain_table table) a l out on rest)
+      option_on no_stmt k l out on rest v r = r
+      option_on (a_stmt a) k l out on rest v r = stmt_on a k l out on rest v r
+
+      stmts_on : (ss : PlainStmts) (k : Bool) (l out on : ℕ) (rest : List PlainIr) → ValidStmts program table f returns k ss → AllOn rest
+          → AllOn (stmts_code program (plain_table table) ss l out on rest)
+      stmts_on last_stmt k l out on rest v r = r
+      stmts_on (next_stmt a ss) k l out on rest v r =
+          stmt_on a k l out on (stmts_code program (plain_table table) ss (l + stmt_labels a) out on rest) v.0
+          (stmts_on ss k (l + stmt_labels a) out on rest v.1 r)
+
+functions_on : (program : PlainProgram) (table : IoTable) → ValidIo table → GroupsHaveBytes table → (n : ℕ) (fs : List PlainFunction)
+    → EachFrom n (IsFunction program table) fs → AllByRecursion (λ g. AllOn g.code) (map (lowered_function program (plain_table table)) fs)
+functions_on program table valid bytes n [] v = tt
+functions_on program table valid bytes n (g ∷ fs) v = (
+  stmt_on program table valid bytes n g.returns g.body false 1 0 0 (label 0 ∷ return_from None ∷ []) v.0.body (tt, (tt, tt)),
+  functions_on program table valid bytes (n + 1) fs v.1,
+)
+
+pub on_ports : OperationsStayOnPorts
+on_ports program table valid bytes = functions_on program table valid.ports bytes 0 program.functions valid.functions

@@ -1,0 +1,191 @@
+-- The items of operations on pointers.
+use Rattle.std.proofs.Common.{◌≡◌, ⊎_elim, ℕ, zero, suc, ◌+◌, ◌/◌, ◌%◌, ◌<◌, ◌≤◌, ◌==◌, Bool, true, false, List}
+use Rattle.std.proofs.Common.{[], ◌∷◌, ◌++◌, refl, sym, subst, arith, leb-true}
+use Rattle.std.specs.Prelude.{nat_le, if◌then◌else◌, Option, Some, None}
+use Rattle.std.proofs.lemmas.Bool.Decides.{nat_tests}
+use Rattle.ec_isa.specs.declared.instructions.Instr.TheVariants.{Mov}
+use Rattle.ec_isa.specs.Table.{in_table}
+use Rattle.ec_asm.specs.declared.items.AsmItem.{AsmItem}
+use Rattle.ec_asm.specs.declared.items.AsmItem.TheVariants.{Plain}
+use Rattle.ec_asm.specs.declared.pieces.Location.{Location}
+use Rattle.ec_asm.specs.declared.pieces.Location.TheVariants.{InRegisters, InMemory}
+use Rattle.ec_asm.specs.Valid.{Sizes, is_offset}
+use Rattle.ec_core.specs.Plain.{PlainProgram}
+use Rattle.ec_space.specs.declared.space.Bank.{Bank}
+use Rattle.ec_space.specs.declared.space.Bank.TheVariants.{Flash as FlashBank, Data as DataBank}
+use Rattle.ec_space.specs.declared.space.SpaceId.{SpaceId}
+use Rattle.ec_space.specs.declared.space.SpaceId.TheVariants.{Flash, Data, Generic}
+use Rattle.ec_space.specs.Spaces.{width}
+use Rattle.ec_select_order.specs.declared.relations.Relation.{Relation}
+use Rattle.ec_select_order.specs.declared.relations.Relation.TheVariants.{Less, NotLess, Equal, NotEqual}
+use Rattle.ec_select_places.specs.Conversions.{embed_code}
+use Rattle.ec_select_places.specs.Distances.{elements_code}
+use Rattle.ec_select_places.specs.Form.{StepsAreValid, ConversionsAreValid, PlacesHaveNoLabel, ElementsAreValid}
+use Rattle.ec_select_places.specs.Form.{HasPlaces as HasStepPlaces, HasNoLabel as StepsHaveNoLabel}
+use Rattle.ec_select_places.specs.Form.{ElementsHaveNoLabel, ItemsAreValid as StepItemsAreValid}
+use Rattle.ec_select_places.specs.Steps.{scale_index_code, advance_code, compared_bytes}
+use Rattle.ec_select_pointers.specs.Accesses.{load_data_code, load_flash_code, load_any_code, load_table_code}
+use Rattle.ec_select_pointers.specs.Accesses.{store_data_code}
+use Rattle.ec_select_pointers.specs.Addresses.{pointer_bytes, address_code, rest_of, subtracts, subtract_byte}
+use Rattle.ec_select_pointers.specs.Addresses.{field_code}
+use Rattle.ec_select_pointers.specs.AddressLaws.{IsTag}
+use Rattle.ec_select_pointers.specs.Form.{AddressesAreValid, AccessesAreValid, PointersHaveNoLabel, TablesAreValid}
+use Rattle.ec_select_pointers.specs.Form.{TablesHaveNoLabel, HasPlaces, HasNoLabel, ItemsAreValid}
+use Rattle.ec_select_operations.specs.Code.{addressed_code, load_code}
+use Rattle.ec_select_operations.specs.Pointers.{home_of, tag_of, tag_in, IsPointerSize}
+use Rattle.ec_select.proofs.Fitting.{fits, Fit, joined, ByteFits, BytesFit, reg}
+use Rattle.ec_select.proofs.FixedItems.{all_fit}
+
+-- what their items are, by the crates below
+pub record PointerItemLaws : Type 0 where
+  pub addresses : AddressesAreValid
+  pub accesses : AccessesAreValid
+  pub labels : PointersHaveNoLabel
+  pub tables : TablesAreValid
+  pub table_labels : TablesHaveNoLabel
+  pub steps : StepsAreValid
+  pub conversions : ConversionsAreValid
+  pub step_labels : PlacesHaveNoLabel
+  pub elements : ElementsAreValid
+  pub element_labels : ElementsHaveNoLabel
+
+-- ---- places
+
+pub step_places : (sizes : Sizes) (p : Location) (n : ℕ) → HasPlaces sizes p n → HasStepPlaces sizes p n
+step_places sizes (InRegisters r) n h = h
+step_places sizes (InMemory o k) n h = h
+
+pub fewer_places : (sizes : Sizes) (p : Location) (m n : ℕ) → m ≤ n → HasPlaces sizes p n → HasPlaces sizes p m
+fewer_places sizes (InRegisters r) m n l h = omega arith
+fewer_places sizes (InMemory o k) m n l h = λ i b. h i (omega arith)
+
+-- a pointer has all bytes that are compared
+pub few_compared : (r : Relation) (bytes : ℕ) → 2 ≤ bytes → compared_bytes r bytes ≤ bytes
+few_compared Less bytes h = h
+few_compared NotLess bytes h = h
+few_compared Equal bytes h = omega arith
+few_compared NotEqual bytes h = omega arith
+
+-- ---- tags
+
+tag_is_small : (bank : Bank) → tag_of bank < 256
+tag_is_small FlashBank = omega arith
+tag_is_small DataBank = omega arith
+
+pub no_tag : (bytes : ℕ) (bank : Bank) → bytes ≡ 2 → tag_in bytes bank ≡ None
+no_tag bytes bank e = rw e refl
+
+pub has_tag : (bytes : ℕ) (bank : Bank) → bytes ≡ 3 → tag_in bytes bank ≡ Some (tag_of bank)
+has_tag bytes bank e = rw e refl
+
+-- a tag and the bytes of a pointer with it
+pub record IsTagged (bytes : ℕ) (tag : Option ℕ) : Type 0 where
+  pub small : IsTag tag
+  pub bytes_are : pointer_bytes tag ≡ bytes
+
+pub tagged : (bytes : ℕ) (bank : Bank) → IsPointerSize bytes → IsTagged bytes (tag_in bytes bank)
+tagged bytes bank size =
+    ⊎_elim
+    (λ (e : bytes ≡ 2). subst (λ (t : Option ℕ). IsTagged bytes t) (sym (no_tag bytes bank e))
+    (record { small = tt; bytes_are = sym e }))
+    (λ (e : bytes ≡ 3). subst (λ (t : Option ℕ). IsTagged bytes t) (sym (has_tag bytes bank e))
+    (record { small = tag_is_small bank; bytes_are = sym e }))
+    size
+
+-- ---- items
+
+module _ (sizes : Sizes) (laws : PointerItemLaws) where
+  access_fits : (code : List AsmItem) → ItemsAreValid sizes code → HasNoLabel code → Fit sizes code
+  access_fits code h k = all_fit sizes code h (k.uses []) k.places
+
+  step_fits : (code : List AsmItem) → StepItemsAreValid sizes code → StepsHaveNoLabel code → Fit sizes code
+  step_fits code h k = all_fit sizes code h (k.uses []) k.places
+
+  address_fits : (o offset : ℕ) (q : Location) (bytes : ℕ) (tag : Option ℕ) → IsTagged bytes tag → HasPlaces sizes q bytes
+      → is_offset sizes o offset ≡ true → Fit sizes (address_code o offset tag q)
+  address_fits o offset q bytes tag t there inside =
+      let places = subst (λ (n : ℕ). HasPlaces sizes q n) (sym t.bytes_are) there in
+      access_fits (address_code o offset tag q) (laws.addresses sizes o offset tag q places inside t.small).0
+      (laws.labels o offset tag q q 0).0
+
+  pub addressed_fits : (p : PlainProgram) (o offset : ℕ) (q : Location) (bytes n : ℕ) → IsPointerSize bytes
+      → HasPlaces sizes q bytes → is_offset sizes o offset ≡ true → Fit sizes (addressed_code p o offset q bytes n)
+  addressed_fits p o offset q bytes n size there inside = by_count (n == 0) where
+    by_count : (none : Bool)
+        → Fit sizes (if none then [] else address_code o offset (tag_in bytes (home_of p o)) q)
+    by_count true = refl
+    by_count false =
+        address_fits o offset q bytes (tag_in bytes (home_of p o)) (tagged bytes (home_of p o) size) there inside
+
+  -- a constant is subtracted from a byte of a register from R16 up
+  subtracts_fit : (i d k : ℕ) → 16 ≤ d → d < 32 → k < 256 → in_table (subtracts i d k) ≡ true
+  subtracts_fit zero d k a b c = grind (arith, nat_tests)
+  subtracts_fit (suc i) d k a b c = grind (arith, nat_tests)
+
+  subtract_fits : (k : ℕ) (q : Location) (i : ℕ) → k < 256 → ByteFits sizes q i → Fit sizes (subtract_byte k q i)
+  subtract_fits k (InMemory o j) i c x = rw (x, subtracts_fit i 30 k (omega arith) (omega arith) c) refl
+  subtract_fits k (InRegisters r) i c x = by_register (nat_le 16 (r + i)) refl where
+    by_register : (high : Bool) → nat_le 16 (r + i) ≡ high
+        → Fit sizes (if high then Plain (subtracts i (r + i) k) ∷ []
+        else Plain (Mov 30 (r + i)) ∷ Plain (subtracts i 30 k) ∷ Plain (Mov (r + i) 30) ∷ [])
+    by_register true e = rw (subtracts_fit i (r + i) k (leb-true 16 (r + i) e) x c) refl
+    by_register false e = rw (reg (r + i) x, subtracts_fit i 30 k (omega arith) (omega arith) c) refl
+
+  pub field_fits : (q : Location) (offset : ℕ) → BytesFit sizes q 2 → Fit sizes (field_code q offset)
+  field_fits q offset x = by_rest (offset % 65536 == 0) refl where
+    by_rest : (none : Bool) → (offset % 65536 == 0) ≡ none
+        → Fit sizes (if none then [] else subtract_byte (rest_of offset % 256) q 0 ++ subtract_byte (rest_of offset / 256) q 1)
+    by_rest true e = refl
+    by_rest false e =
+        let some : 1 ≤ offset % 65536 = grind (arith, nat_tests) in
+        joined (fits sizes) (subtract_byte (rest_of offset % 256) q 0) (subtract_byte (rest_of offset / 256) q 1)
+        (subtract_fits (rest_of offset % 256) q 0 (omega arith) (x 0 (omega arith)))
+        (subtract_fits (rest_of offset / 256) q 1 (omega (arith, some)) (x 1 (omega arith)))
+
+  pub load_fits : (space : SpaceId) (p q : Location) (n : ℕ) → n ≤ 64 → HasPlaces sizes p (width space)
+      → HasPlaces sizes q n → Fit sizes (load_code space p q n)
+  load_fits Flash p q n few x y =
+      access_fits (load_flash_code p q n) (laws.accesses sizes p q n few x y).1 (laws.labels 0 0 None p q n).3
+  load_fits Data p q n few x y =
+      access_fits (load_data_code p q n) (laws.accesses sizes p q n few x y).0 (laws.labels 0 0 None p q n).2
+  load_fits Generic p q n few x y =
+      access_fits (load_any_code p q n)
+      ((laws.accesses sizes p q n few (fewer_places sizes p 2 3 (omega arith) x) y).3 x) (laws.labels 0 0 None p q n).4
+
+  pub store_fits : (from ptr : Location) (n : ℕ) → n ≤ 64 → HasPlaces sizes ptr 2 → HasPlaces sizes from n
+      → Fit sizes (store_data_code from ptr n)
+  store_fits from ptr n few x y =
+      access_fits (store_data_code from ptr n) (laws.accesses sizes ptr from n few x y).2 (laws.labels 0 0 None from ptr n).5
+
+  pub table_fits : (o offset : ℕ) (q : Location) (n : ℕ) → HasPlaces sizes q n → is_offset sizes o offset ≡ true
+      → Fit sizes (load_table_code o offset q n)
+  table_fits o offset q n x inside =
+      access_fits (load_table_code o offset q n) (laws.tables sizes o offset q n x inside) (laws.table_labels o offset q n)
+
+  pub scale_fits : (p q : Location) (signed : Bool) (n size : ℕ) → 1 ≤ n → size < 65536 → HasPlaces sizes p n
+      → HasPlaces sizes q 2 → Fit sizes (scale_index_code p signed n size)
+  scale_fits p q signed n size some small x y =
+      step_fits (scale_index_code p signed n size)
+      (laws.steps sizes p q signed true n size (step_places sizes p n x) some small (step_places sizes q 2 y)).0
+      (laws.step_labels p q signed true true Less n size).0
+
+  pub advance_fits : (p q : Location) (minus : Bool) (n : ℕ) → 1 ≤ n → HasPlaces sizes p n → HasPlaces sizes q 2
+      → Fit sizes (advance_code minus q)
+  advance_fits p q minus n some x y =
+      step_fits (advance_code minus q)
+      (laws.steps sizes p q true minus n 0 (step_places sizes p n x) some (omega arith) (step_places sizes q 2 y)).1
+      (laws.step_labels p q true minus true Less n 0).1
+
+  pub elements_fit : (a b q : Location) (size : ℕ) → HasPlaces sizes a 2 → HasPlaces sizes b 2 → HasPlaces sizes q 2
+      → Fit sizes (elements_code a b q size)
+  elements_fit a b q size x y z =
+      step_fits (elements_code a b q size)
+      (laws.elements sizes a b q size (step_places sizes a 2 x) (step_places sizes b 2 y) (step_places sizes q 2 z))
+      (laws.element_labels a b q size)
+
+  pub embed_fits : (to_data : Bool) (p q : Location) → HasPlaces sizes p 2 → HasPlaces sizes q 3
+      → Fit sizes (embed_code to_data p q)
+  embed_fits to_data p q x y =
+      step_fits (embed_code to_data p q)
+      ((laws.conversions sizes to_data p q (step_places sizes p 2 x)).0 (step_places sizes q 3 y))
+      (laws.step_labels p q true true to_data Less 0 0).3

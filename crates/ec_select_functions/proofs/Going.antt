@@ -1,0 +1,75 @@
+-- Operations that are left, and what is shown of a run of them.
+use Rattle.std.proofs.Common.{◌≡◌, ℕ, ◌+◌, ◌≤◌, true, List, ◌++◌, None, Option}
+use Rattle.std.specs.Prelude.{Contains}
+use Rattle.ec_asm.specs.declared.items.AsmItem.{AsmItem}
+use Rattle.ec_asm.specs.declared.pieces.Location.{Location}
+use Rattle.ec_asm.specs.View.{View}
+use Rattle.ec_asm.specs.Change.{Env}
+use Rattle.ec_asm.specs.Items.{HasAt, block, code_steps, all_straight}
+use Rattle.ec_asm.proofs.Hoare.{has_parts, block_goes}
+use Rattle.ec_core.specs.declared.values.Value.{Value}
+use Rattle.ec_core.specs.Plain.{PlainProgram}
+use Rattle.ec_core.specs.State.{State, worked, Outcome}
+use Rattle.ec_ir.specs.declared.operations.Temp.{Temp}
+use Rattle.ec_ir.specs.Costs.{op_steps}
+use Rattle.ec_ir.specs.Meaning.{Mach, exec_from, Frame as Call}
+use Rattle.ec_ir.specs.Operations.{PlainIr, PlainIrFunction}
+use Rattle.ec_ir.specs.Valid.{called_in}
+use Rattle.ec_select_operations.specs.declared.families.Told.{Told}
+use Rattle.ec_select_operations.specs.Code.{Linkage, op_code, ops_code}
+use Rattle.ec_select_functions.specs.Covered.{AreCovered}
+use Rattle.ec_select_operations.specs.Needs.{Need, needs, IsLive}
+use Rattle.ec_select_functions.specs.Relation.{Matches}
+use Rattle.ec_select_functions.proofs.Follow.{Follows, after}
+use Rattle.ec_select_functions.proofs.Setting.{Setting}
+
+module _ (p : PlainProgram) (functions : List PlainIrFunction) (e : Env) (slots : ℕ) (home : Temp → Location)
+    (base : Temp → ℕ) (place : ℕ → ℕ) (y : Setting p e slots home base place) (at : ℕ → Need) (all : List PlainIr)
+    (end : ℕ) (results : ℕ → ℕ) (me : ℕ) (link : Linkage) (stack : List Call) where
+  abbrev pub M : Need → Mach → View → Type 0
+  M need m v = Matches p e y.inputs slots base place y.aside y.was need m v
+
+  abbrev pub G : (n w pc : ℕ) → View → Outcome Value → Type 0
+  G n w pc v o = Follows p place e n w pc v o
+
+  -- the code of operations, of which the first one has been told so much
+  abbrev pub items_told : Option Told → List PlainIr → List AsmItem
+  items_told told code = ops_code p home link at told code
+
+  abbrev pub items : List PlainIr → List AsmItem
+  items code = items_told None code
+
+  -- that of one which has been told nothing, and tells nothing
+  abbrev pub code_of : PlainIr → List PlainIr → List AsmItem
+  code_of i rest = op_code p home link None None (needs at rest) i
+
+  -- the operations that are left have their code from this word on
+  pub record Ready (pc : ℕ) (rest : List PlainIr) : Type 0 where
+    pub covered : AreCovered p results me slots rest
+    pub live : IsLive at rest
+    pub inside : (b : ℕ) → Contains (called_in rest) b → Contains (called_in all) b
+    pub stands : HasAt e (items rest) pc end
+
+  -- the run of operations from here on
+  abbrev pub R : ℕ → List PlainIr → Mach → Outcome Value
+  R n rest m = exec_from functions p y.inputs n all stack rest m
+
+  -- straight code of an operation, and what comes after it
+  pub passes : (i : PlainIr) (rest : List PlainIr) (n n1 w w1 pc : ℕ) (v : View) (o : Outcome Value)
+      → HasAt e (code_of i rest ++ items rest) pc end → all_straight (code_of i rest) ≡ true
+      → n1 ≤ code_steps (code_of i rest) + n → w + code_steps (code_of i rest) ≤ w1
+      → ((mid : ℕ) → HasAt e (items rest) mid end → G n w1 mid (block e (code_of i rest) v) o) → G n1 w pc v o
+  passes i rest n n1 w w1 pc v o stands straight least most f =
+      let s = has_parts e (code_of i rest) (items rest) pc end stands in
+      let goes = block_goes e (code_of i rest) pc s.0 v straight s.1 in
+      after p place e (code_steps (code_of i rest)) n n1 w w1 pc s.0 v (block e (code_of i rest) v) o goes least most
+      (f s.0 s.2)
+
+  -- what is shown of the rest
+  abbrev pub Rest : ℕ → List PlainIr → Type 0
+  Rest n rest = (pc : ℕ) (m : Mach) (v : View) → HasAt e (items rest) pc end → M (needs at rest) m v
+      → G n m.state.work pc v (R n rest m)
+
+  -- the state once the steps of an operation are counted
+  abbrev pub begun : PlainIr → Mach → State
+  begun i m = worked (op_steps i) m.state

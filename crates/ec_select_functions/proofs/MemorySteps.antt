@@ -1,0 +1,656 @@
+-- What the code of addresses, loads and stores does for its operation.
+use Rattle.std.proofs.Common.{◌≡◌, ◌≢◌, ℕ, suc, ◌+◌, ◌*◌, ◌%◌, ◌^◌, ◌<◌, ◌≤◌, Bool, true, false, pos, Ok, Err}
+use Rattle.std.proofs.Common.{List, [], ◌∷◌, ◌++◌, ◌&&◌, ⊎_elim, inl, inr, refl, sym, ap, ◌∙◌, subst, arith, Some, None}
+use Rattle.std.proofs.Common.{Option}
+use Rattle.std.specs.Prelude.{Result, ◌==◌, if◌then◌else◌, slice_get, unwrap_or, option_map}
+use Rattle.std.specs.Prelude.{int_le, ◌+ℤ◌}
+use Rattle.std.proofs.lemmas.Bool.{eqb-true, leb-true, and_parts}
+use Rattle.ec_space.specs.declared.space.Bank.{Bank}
+use Rattle.ec_space.specs.declared.space.Bank.TheVariants.{Flash as FlashBank, Data as DataBank}
+use Rattle.ec_space.specs.declared.space.SpaceId.{SpaceId}
+use Rattle.ec_space.specs.declared.space.SpaceId.TheVariants.{Flash, Data, Generic}
+use Rattle.ec_space.specs.Spaces.{width}
+use Rattle.ec_asm.specs.declared.items.AsmItem.{AsmItem}
+use Rattle.ec_asm.specs.declared.pieces.Location.{Location}
+use Rattle.ec_asm.specs.View.{View}
+use Rattle.ec_asm.specs.Change.{Env, Own, Object}
+use Rattle.ec_asm.specs.Items.{HasAt, block, code_steps, all_straight}
+use Rattle.ec_asm.specs.Pieces.{StandsFrom, Outside, value, copy_code}
+use Rattle.ec_asm.specs.PieceLaws.{HoldsNumbers}
+use Rattle.ec_asm.proofs.Hoare.{has_parts}
+use Rattle.ec_asm.proofs.Numbers.{value_mod}
+use Rattle.ec_core.specs.declared.values.ObjectPointer.{ObjectPointer}
+use Rattle.ec_core.specs.declared.values.Undefined.TheVariants.{PointerRange}
+use Rattle.ec_core.specs.declared.values.Referent.{Referent}
+use Rattle.ec_core.specs.declared.values.Undefined.{Undefined}
+use Rattle.ec_core.specs.declared.values.Value.{Value}
+use Rattle.ec_core.specs.declared.values.Value.TheVariants.{Pointer}
+use Rattle.ec_core.specs.Accesses.{read, leaf_of, is_live_in, nothing_known, referent_of}
+use Rattle.ec_core.specs.Layout.{size_of_type}
+use Rattle.ec_core.specs.Plain.{PlainStorage, static, local, param, register, PlainObject, PlainProgram}
+use Rattle.ec_core.specs.Pointers.{Pointer as PointerValue, moved, displaced, used}
+use Rattle.ec_core.specs.State.{State, ObjectState, Outcome, next, given}
+use Rattle.ec_core.specs.Valid.{IsAddressable}
+use Rattle.ec_ir.specs.declared.operations.Temp.{Temp}
+use Rattle.ec_ir.specs.Costs.{op_steps}
+use Rattle.ec_ir.specs.Meaning.{Mach, machine, object_access}
+use Rattle.ec_ir.specs.Meaning.{put, Frame as Call}
+use Rattle.ec_ir.specs.Operations.{PlainIr, address, field, load_at, store_at, load_object, store_object}
+use Rattle.ec_ir.specs.Operations.{PlainIrFunction}
+use Rattle.ec_ir.specs.Temporaries.{Content, points, value_of_type, held, with_temp, with_content}
+use Rattle.ec_select_pointers.specs.Addresses.{pointer_bytes, address_code, field_code}
+use Rattle.ec_select_pointers.specs.AddressLaws.{HasPut, IsTag, pointer_number}
+use Rattle.ec_select_operations.specs.Code.{Linkage, banked_code}
+use Rattle.ec_select_functions.specs.Covered.{HasScalarAt, IsAddress, IsInto}
+use Rattle.ec_select_operations.specs.Homes.{HasHome}
+use Rattle.ec_select_operations.specs.Needs.{Need, needs, wanted, at_least, without}
+use Rattle.ec_select_operations.specs.Places.{location_in, kind_in, object_location, ObjectLeaf}
+use Rattle.ec_select_operations.specs.Pointers.{home_of, tag_of, tag_in, address_number, IsPointerSize, IsPointed}
+use Rattle.ec_select_operations.specs.Pointers.{IsPointerIn}
+use Rattle.ec_select_functions.specs.Relation.{Matches, HoldsLeaf, HoldsContent}
+use Rattle.ec_select_functions.proofs.Accesses.{leaf_with, home_is, recorded_work, table_kind, leaf_stands}
+use Rattle.ec_select_functions.proofs.Accesses.{after_read, after_write, load_matches, load_brings, store_matches}
+use Rattle.ec_select_functions.proofs.Accesses.{store_brings}
+use Rattle.ec_select_functions.proofs.Follow.{Follows, after}
+use Rattle.ec_select_functions.proofs.Going.{passes as passes_of, items as items_of, code_of as code_from, R as run_of}
+use Rattle.ec_select_functions.proofs.Going.{Rest as ShownOf, begun as begun_of}
+use Rattle.ec_select_functions.proofs.Match.{wanted_most, whole, at_width, least_here, least_other, without_other}
+use Rattle.ec_select_functions.proofs.Match.{written}
+use Rattle.ec_select_functions.proofs.Match.{kept_left, held_row}
+use Rattle.ec_select_functions.proofs.Moves.{narrower, stands_less, copy_straight, copy_steps}
+use Rattle.ec_select_functions.proofs.Pointed.{IsAddressedBy, addressable_kind, typed_leaf, room_of}
+use Rattle.ec_select_functions.proofs.Pointed.{address_held, home_of_object}
+use Rattle.ec_select_functions.proofs.Reached.{loads, leaf_there, loads_table, stores, access_to, Reaches, from_access}
+use Rattle.ec_select_functions.proofs.Reached.{from_pointer, from_read, from_put, from_no_access, leaves_z}
+use Rattle.ec_select_functions.proofs.Setting.{Setting}
+
+-- ---- pointers
+
+-- a pointer's bytes from its address and its tag
+pointer_made : (f : ℕ → ℕ) (a n at : ℕ) (bank : Bank) → IsPointerSize n → value f a 2 ≡ at % 65536
+    → (n ≡ 3 → f (a + 2) ≡ tag_of bank) → value f a n ≡ pointer_number at (tag_in n bank)
+pointer_made f a n at bank size low tag =
+    ⊎_elim
+    (λ (q : n ≡ 2). subst (λ (b : ℕ). value f a b ≡ pointer_number at (tag_in b bank)) (sym q) low)
+    (λ (q : n ≡ 3).
+    let top : f (a + 2) ≡ tag_of bank = tag q in
+    let three : value f a 2 + f (a + 2) * 65536 ≡ at % 65536 + tag_of bank * 65536 = rw (low, top) refl in
+    subst (λ (b : ℕ). value f a b ≡ pointer_number at (tag_in b bank)) (sym q) three)
+    size
+
+-- the bytes of a pointer with a tag or without one
+tag_bytes : (n : ℕ) (bank : Bank) → IsPointerSize n → pointer_bytes (tag_in n bank) ≡ n
+tag_bytes n bank size =
+    ⊎_elim
+    (λ (q : n ≡ 2). subst (λ (b : ℕ). pointer_bytes (tag_in b bank) ≡ b) (sym q) refl)
+    (λ (q : n ≡ 3). subst (λ (b : ℕ). pointer_bytes (tag_in b bank) ≡ b) (sym q) refl)
+    size
+
+is_tag : (n : ℕ) (bank : Bank) → IsTag (tag_in n bank)
+is_tag n bank = by_test (n == 3)
+  where
+    fits : (bank : Bank) → tag_of bank < 256
+    fits FlashBank = omega arith
+    fits DataBank = omega arith
+
+    by_test : (b : Bool) → IsTag (if b then Some (tag_of bank) else None)
+    by_test true = fits bank
+    by_test false = tt
+
+width_is : (space : SpaceId) → IsPointerSize (width space)
+width_is Flash = inl refl
+width_is Data = inl refl
+width_is Generic = inr refl
+
+pointer_size : (space : SpaceId) (n : ℕ) → n ≡ width space → IsPointerSize n
+pointer_size space n q = subst IsPointerSize (sym q) (width_is space)
+
+some_bytes : (n : ℕ) → IsPointerSize n → (2 ≤ n) × (n ≤ 3)
+some_bytes n size = ⊎_elim (λ (q : n ≡ 2). (omega arith, omega arith)) (λ (q : n ≡ 3). (omega arith, omega arith)) size
+
+module _ (p : PlainProgram) (functions : List PlainIrFunction) (e : Env) (slots : ℕ) (home : Temp → Location)
+    (base : Temp → ℕ) (place : ℕ → ℕ) (y : Setting p e slots home base place) (at : ℕ → Need) (all : List PlainIr)
+    (end : ℕ) (results : ℕ → ℕ) (me : ℕ) (link : Linkage) (stack : List Call) where
+  abbrev M : Need → Mach → View → Type 0
+  M need m v = Matches p e y.inputs slots base place y.aside y.was need m v
+
+  abbrev G : (n w pc : ℕ) → View → Outcome Value → Type 0
+  G n w pc v o = Follows p place e n w pc v o
+
+  abbrev items : List PlainIr → List AsmItem
+  items code = items_of p functions e slots home base place y at all end results me link stack code
+
+  abbrev code_of : PlainIr → List PlainIr → List AsmItem
+  code_of i rest = code_from p functions e slots home base place y at all end results me link stack i rest
+
+  abbrev R : ℕ → List PlainIr → Mach → Outcome Value
+  R n rest m = run_of p functions e slots home base place y at all end results me link stack n rest m
+
+  abbrev Rest : ℕ → List PlainIr → Type 0
+  Rest n rest = ShownOf p functions e slots home base place y at all end results me link stack n rest
+
+  abbrev begun : PlainIr → Mach → State
+  begun i m = begun_of p functions e slots home base place y at all end results me link stack i m
+
+  passes : (i : PlainIr) (rest : List PlainIr) (n n1 w w1 pc : ℕ) (v : View) (o : Outcome Value)
+      → HasAt e (code_of i rest ++ items rest) pc end → all_straight (code_of i rest) ≡ true
+      → n1 ≤ code_steps (code_of i rest) + n → w + code_steps (code_of i rest) ≤ w1
+      → ((mid : ℕ) → HasAt e (items rest) mid end → G n w1 mid (block e (code_of i rest) v) o) → G n1 w pc v o
+  passes = passes_of p functions e slots home base place y at all end results me link stack
+
+  -- ---- addresses
+
+  pub address_follows : (t : Temp) (o offset : ℕ) (rest : List PlainIr) (n pc : ℕ) (m : Mach) (v : View)
+      → IsAddress p slots t o offset → HasAt e (items (address t o offset ∷ rest)) pc end
+      → M (needs at (address t o offset ∷ rest)) m v → Rest (suc n) rest
+      → G (suc n) m.state.work pc v (R (suc n) (address t o offset ∷ rest) m)
+  address_follows t o offset rest n pc m v is stands h f =
+      passes i rest (suc n) (suc n) m.state.work m1.state.work pc v (R (suc n) rest m1) stands (straight (k == 0)) (omega arith)
+      (let few = steps (k == 0) in let some = it.some in omega (arith, few, some))
+      (λ mid s. f mid m1 _ s (matches (k == 0) refl))
+    where
+      i : PlainIr
+      i = address t o offset
+
+      it : HasHome slots t
+      it = is.result
+
+      need : Need
+      need = needs at rest
+
+      k : ℕ
+      k = wanted need t
+
+      q : ObjectPointer
+      q = record { object = o; instance = 0; offset = offset }
+
+      tag : Option ℕ
+      tag = tag_in t.bytes (home_of p o)
+
+      code : List AsmItem
+      code = address_code o offset tag (home t)
+
+      m1 : Mach
+      m1 = machine (with_content t (points q) m.temps) (begun i m)
+
+      size : pointer_bytes tag ≡ t.bytes
+      size = tag_bytes t.bytes (home_of p o) is.size
+
+      straight : (b : Bool) → all_straight (if b then [] else code) ≡ true
+      straight true = refl
+      straight false = (y.pointers.straight o offset tag (home t) (home t) 0).0
+
+      steps : (b : Bool) → code_steps (if b then [] else code) ≤ 6
+      steps true = omega arith
+      steps false =
+          let take = (y.pointers.take o offset tag (home t) (home t) 0).0.1 in
+          let few = (some_bytes t.bytes is.size).1 in
+          omega (arith, take, size, few)
+
+      pointed : IsPointerIn p t.bytes q
+      pointed = record {
+        pointed = record {
+          declared = is.declared;
+          is_object = is.is_object;
+          addressable = is.addressable;
+          instance = refl;
+          within = is.within;
+        };
+        size = is.size;
+      }
+
+      stays : (b : ℕ) → b ≢ t.at → need b ≤ without t.at need b
+      stays b d = without_other t.at b need d
+
+      matches : (b : Bool) → (k == 0) ≡ b → M need m1 (block e (if b then [] else code) v)
+      matches true none =
+          let zero_wanted : k ≡ 0 = eqb-true k 0 none in
+          let number = address_number p place t.bytes o offset in
+          let nothing : value v.at (base t) k ≡ number % 256 ^ k =
+          subst (λ (b : ℕ). value v.at (base t) b ≡ number % 256 ^ b) (sym zero_wanted) (omega arith) in
+          written p e slots home base place y t (points q) need (without t.at need) m (begun i m) v v it h stays (λ j a b c d. refl)
+          (nothing, pointed) h.bytes refl h.seen h.left h.safe
+      matches false some =
+          let stand : StandsFrom e (home t) (pointer_bytes tag) (base t) Own =
+          subst (λ (b : ℕ). StandsFrom e (home t) b (base t) Own) (sym size) (y.layout.temps_at t it) in
+          let clear : Outside (base t) (pointer_bytes tag) 30 =
+          subst (λ (b : ℕ). Outside (base t) b 30) (sym size)
+          (leaves_z (base t) t.bytes t.bytes (omega arith) (y.layout.temps_work t it)).low in
+          let v1 = block e code v in
+          let done = (y.pointers.addresses e (home t) o offset (base t) tag v (is_tag t.bytes (home_of p o)) stand clear).0 in
+          let put : HasPut v (base t) t.bytes (pointer_number (e.address_of o offset) tag) v1 =
+          subst (λ (b : ℕ). HasPut v (base t) b (pointer_number (e.address_of o offset) tag) v1) size done in
+          let there = (room_of p e slots home base place y o is.declared is.is_object is.addressable).at offset is.within in
+          let full : value v1.at (base t) t.bytes ≡ address_number p place t.bytes o offset =
+          put.number_is ∙ ap (λ (b : ℕ). pointer_number b tag) there in
+          let numbers = put.numbers h.bytes in
+          let held = held_row v1 (base t) t.bytes (y.layout.temps_at t it).clear numbers in
+          let here : value v1.at (base t) k ≡ address_number p place t.bytes o offset % 256 ^ k =
+          sym (value_mod v1.at (base t) k t.bytes (wanted_most need t) held) ∙ ap (λ b. b % 256 ^ k) full in
+          written p e slots home base place y t (points q) need (without t.at need) m (begun i m) v v1 it h stays
+          (λ j a b c d. put.same j c d) (here, pointed) numbers refl (put.seen ∙ h.seen)
+          (kept_left y.inputs m.state v v1 put.inputs h.left) (put.safe ∙ h.safe)
+
+  -- ---- fields
+
+  -- what is known of a displaced pointer
+  pub record IsFurther (q : ObjectPointer) (size offset : ℕ) (r : PointerValue) : Type 0 where
+    pub is : r ≡ Some (record { object = q.object; instance = q.instance; offset = q.offset + offset })
+    pub within : q.offset + offset ≤ size
+
+  further : (q : ObjectPointer) (size offset : ℕ) (r : PointerValue)
+      → displaced q size (pos q.offset +ℤ pos offset) ≡ Ok r → IsFurther q size offset r
+  further q size offset r is =
+      by_test (int_le (pos 0) (pos (q.offset + offset)) && int_le (pos (q.offset + offset)) (pos size)) refl is
+    where
+      to : ObjectPointer
+      to = record { object = q.object; instance = q.instance; offset = q.offset + offset }
+
+      by_test : (b : Bool) → (int_le (pos 0) (pos (q.offset + offset)) && int_le (pos (q.offset + offset)) (pos size)) ≡ b
+          → (if b then Ok (Some to) else Err PointerRange) ≡ Ok r → IsFurther q size offset r
+      by_test true t is =
+          let parts = and_parts (int_le (pos 0) (pos (q.offset + offset))) (int_le (pos (q.offset + offset)) (pos size)) t in
+          record { is = (let z : Ok (Some to) ≡ Ok r = is in cc); within = leb-true (q.offset + offset) size parts.1 }
+      by_test false t is = absurd (cc)
+
+  moved_further : (q : ObjectPointer) (k : IsPointed p q) (s : State) (offset : ℕ) (r : PointerValue)
+      → moved (Some q) (referent_of p (Some q) s) (pos offset) ≡ Ok r
+      → IsFurther q (size_of_type p.structs k.declared.ty) offset r
+  moved_further q k s offset r h = at_object (slice_get s.objects q.object) (sym known ∙ h)
+    where
+      size : ℕ
+      size = size_of_type p.structs k.declared.ty
+
+      of : Option ObjectState → Referent
+      of z = unwrap_or (option_map (λ x. record { live = is_live_in q x; size = size; home = k.declared.home }) z) nothing_known
+
+      known : moved (Some q) (referent_of p (Some q) s) (pos offset) ≡ moved (Some q) (of (slice_get s.objects q.object)) (pos offset)
+      known = rw (k.is_object) refl
+
+      by_live : (b : Bool) → used b (displaced q size (pos q.offset +ℤ pos offset)) ≡ Ok r → IsFurther q size offset r
+      by_live true h = further q size offset r h
+      by_live false h = absurd (cc)
+
+      at_object : (z : Option ObjectState) → moved (Some q) (of z) (pos offset) ≡ Ok r → IsFurther q size offset r
+      at_object None h = absurd (cc)
+      at_object (Some x) h = by_live (is_live_in q x) h
+
+  pub field_follows : (ptr : Temp) (space : SpaceId) (offset : ℕ) (rest : List PlainIr) (n pc : ℕ) (m : Mach) (v : View)
+      → IsInto slots space ptr → HasAt e (items (field ptr space offset ∷ rest)) pc end
+      → M (needs at (field ptr space offset ∷ rest)) m v → Rest (suc n) rest
+      → G (suc n) m.state.work pc v (R (suc n) (field ptr space offset ∷ rest) m)
+  field_follows ptr space offset rest n pc m v into stands h f =
+      from_pointer p e slots home base place y ptr m.temps s _ (suc n) m.state.work pc v tt
+      (λ q i. let k = whole p e slots home base place y need m v ptr _ h into.0 i refl in by_moved q k
+      (moved (Some q) (referent_of p (Some q) s) (pos offset)) refl)
+    where
+      s : State
+      s = begun (field ptr space offset) m
+
+      need : Need
+      need = needs at rest
+
+      a : ℕ
+      a = base ptr
+
+      two : 2 ≤ ptr.bytes
+      two = (some_bytes ptr.bytes (pointer_size space ptr.bytes into.1)).0
+
+      w : View
+      w = block e (field_code (home ptr) offset) v
+
+      put : HasPut v a 2 ((value v.at a 2 + offset) % 65536) w
+      put =
+          let stand = stands_less e (home ptr) ptr.bytes 2 a Own two (y.layout.temps_at ptr into.0) in
+          y.pointers.fields e (home ptr) offset a v stand (leaves_z a ptr.bytes 2 two (y.layout.temps_work ptr into.0)).low h.bytes
+
+      stays : (b : ℕ) → b ≢ ptr.at → need b ≤ at_least ptr.at ptr.bytes need b
+      stays b d = least_other ptr.at ptr.bytes b need
+
+      -- the temporary holds the pointer further on
+      matches : (q : ObjectPointer) (k : HoldsContent p place v.at a ptr.bytes ptr.bytes (points q)) (z : PointerValue)
+          → IsFurther q (size_of_type p.structs k.1.pointed.declared.ty) offset z
+          → M need (machine (with_temp ptr (Pointer z) m.temps) s) w
+      matches q k z further =
+          let to : ObjectPointer = record { object = q.object; instance = q.instance; offset = q.offset + offset } in
+          let bank = home_of p q.object in
+          let was = address_held p e slots home base place y v ptr q h.bytes into.0 k in
+          let low : value w.at a 2 ≡ (place q.object + (q.offset + offset)) % 65536 =
+          put.number_is ∙ ap (λ (b : ℕ). (b + offset) % 65536) was.low ∙ ap (λ (b : ℕ). b % 65536) (omega arith) in
+          let far : ptr.bytes ≡ 3 → a + 2 ≢ 30 =
+          λ q r.
+          (let clear = leaves_z a ptr.bytes 3 (omega (arith, q)) (y.layout.temps_work ptr into.0) in
+          let o = clear.low (omega (arith, r)) in
+          omega (arith, o, r)) in
+          let tag : ptr.bytes ≡ 3 → w.at (a + 2) ≡ tag_of bank = λ q. put.same (a + 2) (far q) (λ l. omega arith) ∙ was.tag q in
+          let full : value w.at a ptr.bytes ≡ address_number p place ptr.bytes q.object (q.offset + offset) =
+          pointer_made w.at a ptr.bytes (place q.object + (q.offset + offset)) bank k.1.size low tag in
+          let numbers = put.numbers h.bytes in
+          let held = held_row w a ptr.bytes (y.layout.temps_at ptr into.0).clear numbers in
+          let b = wanted need ptr in
+          let here : value w.at a b ≡ address_number p place ptr.bytes to.object to.offset % 256 ^ b =
+          sym (value_mod w.at a b ptr.bytes (wanted_most need ptr) held) ∙ ap (λ x. x % 256 ^ b) full in
+          let is = k.1.pointed in
+          let pointed : IsPointerIn p ptr.bytes to = record {
+            pointed = record {
+              declared = is.declared;
+              is_object = is.is_object;
+              addressable = is.addressable;
+              instance = is.instance;
+              within = further.within;
+            };
+            size = k.1.size;
+          } in
+          let done =
+          written p e slots home base place y ptr (points to) need (at_least ptr.at ptr.bytes need) m s v w into.0 h stays
+          (λ j x0 x1 x30 o. put.same j x30 (narrower a ptr.bytes 2 j two o)) (here, pointed) numbers refl (put.seen ∙ h.seen)
+          (kept_left y.inputs m.state v w put.inputs h.left) (put.safe ∙ h.safe) in
+          subst (λ (x : PointerValue). M need (machine (with_temp ptr (Pointer x) m.temps) s) w) (sym further.is) done
+
+      by_moved : (q : ObjectPointer) → HoldsContent p place v.at a ptr.bytes ptr.bytes (points q) → (r : Result PointerValue Undefined)
+          → moved (Some q) (referent_of p (Some q) s) (pos offset) ≡ r
+          → G (suc n) m.state.work pc v (next (given r s) (λ z s2. R (suc n) rest (machine (with_temp ptr (Pointer z) m.temps) s2)))
+      by_moved q k (Ok z) i =
+          let m1 = machine (with_temp ptr (Pointer z) m.temps) s in
+          let take = (y.pointers.take 0 offset None (home ptr) (home ptr) 0).1.1 in
+          passes (field ptr space offset) rest (suc n) (suc n) m.state.work m1.state.work pc v (R (suc n) rest m1) stands
+          (y.pointers.straight 0 offset None (home ptr) (home ptr) 0).1 (omega arith) (omega (arith, take))
+          (λ mid u. f mid m1 w u (matches q k z (moved_further q k.1.pointed s offset z i)))
+      by_moved q k (Err point) i = tt
+
+  -- ---- loads and stores through pointers
+
+  -- what a pointer's bytes tell of the leaf that it gives access to
+  addressed : (ptr : Temp) (space : SpaceId) (bytes : ℕ) (q : ObjectPointer) (s : State) (v : View) → HoldsNumbers v
+      → HasHome slots ptr → HoldsContent p place v.at (base ptr) ptr.bytes ptr.bytes (points q)
+      → (r : Reaches p e slots home base place y space bytes q s)
+      → IsAddressedBy v.at (base ptr) ptr.bytes (place r.leaf.object + r.leaf.at) r.bank
+  addressed ptr space bytes q s v numbers ip k r =
+      let a = address_held p e slots home base place y v ptr q numbers ip k in
+      let low : place q.object + q.offset ≡ place r.leaf.object + r.leaf.at =
+      ap (λ o. place o + q.offset) (sym r.object) ∙ ap (λ b. place r.leaf.object + b) (sym r.begins) in
+      let bank : home_of p q.object ≡ r.bank = ap (home_of p) (sym r.object) ∙ home_is p r.bank r.leaf in
+      subst (λ b. IsAddressedBy v.at (base ptr) ptr.bytes b r.bank) low
+      (subst (λ b. IsAddressedBy v.at (base ptr) ptr.bytes (place q.object + q.offset) b) bank a)
+
+  -- how a load and a store go on
+  abbrev load_on : ℕ → List PlainIr → Temp → Mach → Value → State → Outcome Value
+  load_on n rest t m x s1 = R n rest (machine (with_temp t x m.temps) s1)
+
+  abbrev store_on : ℕ → List PlainIr → Mach → Value → State → Outcome Value
+  store_on n rest m x s1 = R n rest (machine m.temps s1)
+
+  pub load_at_follows : (to ptr : Temp) (space : SpaceId) (rest : List PlainIr) (n pc : ℕ) (m : Mach) (v : View)
+      → HasHome slots to → IsInto slots space ptr → HasAt e (items (load_at to ptr space ∷ rest)) pc end
+      → M (needs at (load_at to ptr space ∷ rest)) m v → Rest n rest
+      → G (suc n) m.state.work pc v (R (suc n) (load_at to ptr space ∷ rest) m)
+  load_at_follows to ptr space rest n pc m v it into stands h f =
+      from_pointer p e slots home base place y ptr m.temps s _ (suc n) m.state.work pc v tt
+      (λ q i. let k = whole p e slots home base place y (without to.at need) m v ptr _ h into.0 i refl in
+      from_access p e slots home base place y space to.bytes q s (λ a. next (read p a s) (load_on n rest to m))
+      (suc n) m.state.work pc v k.1.pointed tt
+      (λ r. from_read p e slots home base place y r.bank r.leaf space r.state s (load_on n rest to m) (suc n) m.state.work pc v
+      (λ u j. loaded q k r u j)))
+    where
+      i : PlainIr
+      i = load_at to ptr space
+
+      s : State
+      s = begun i m
+
+      need : Need
+      need = needs at rest
+
+      stays : (b : ℕ) → b ≢ to.at → need b ≤ at_least ptr.at ptr.bytes (without to.at need) b
+      stays b d =
+          let x = without_other to.at b need d in
+          let z = least_other ptr.at ptr.bytes b (without to.at need) in
+          omega (arith, x, z)
+
+      loaded : (q : ObjectPointer) → HoldsContent p place v.at (base ptr) ptr.bytes ptr.bytes (points q)
+          → (r : Reaches p e slots home base place y space to.bytes q s) (u : Value) → leaf_of r.state r.leaf.number ≡ Some u
+          → G (suc n) m.state.work pc v
+          (R n rest (machine (with_temp to u m.temps) (after_read p e slots home base place y r.bank r.leaf space u s)))
+      loaded q k r u j =
+          let l = r.leaf in
+          let parts = has_parts e (code_of i rest) (items rest) pc end stands in
+          let a = addressed ptr space to.bytes q s v h.bytes into.0 k r in
+          let there = leaf_there p e slots home base place y r.bank l to r.addressable it r.size in
+          let run =
+          loads p e slots home base place y space r.bank ptr to (place l.object + l.at) pc parts.0 v r.within into it a there parts.1 in
+          let holds = leaf_stands p e slots home base place y r.bank l _ m v r.state u h r.is_state j in
+          let kind = addressable_kind l.declared.storage r.addressable in
+          let m1 = machine (with_temp to u m.temps) (after_read p e slots home base place y r.bank l space u s) in
+          let matches : M need m1 run.last =
+          load_brings p e slots home base place y r.bank l space to need (at_least ptr.at ptr.bytes (without to.at need)) m v run.last
+          (op_steps i) u it r.size kind h stays holds run.brings in
+          let work : m1.state.work ≡ m.state.work + op_steps i = recorded_work l.declared.storage _ s in
+          let few = run.at_most in
+          let some = run.at_least in
+          after p place e run.steps n (suc n) m.state.work m1.state.work pc parts.0 v run.last (R n rest m1) run.goes (omega (arith, some))
+          (omega (arith, few, work))
+          (f parts.0 m1 run.last parts.2 matches)
+
+  pub store_at_follows : (ptr : Temp) (space : SpaceId) (from : Temp) (rest : List PlainIr) (n pc : ℕ) (m : Mach) (v : View)
+      → HasHome slots from → IsInto slots space ptr → HasAt e (items (store_at ptr space from ∷ rest)) pc end
+      → M (needs at (store_at ptr space from ∷ rest)) m v → Rest n rest
+      → G (suc n) m.state.work pc v (R (suc n) (store_at ptr space from ∷ rest) m)
+  store_at_follows ptr space from rest n pc m v it into stands h f =
+      from_pointer p e slots home base place y ptr m.temps s _ (suc n) m.state.work pc v
+      (from_no_access p e slots home base place y from m.temps s (store_on n rest m) (suc n) m.state.work pc v)
+      (λ q j. let k = pointer_held q j in
+      from_access p e slots home base place y space from.bytes q s (λ a. next (put p a from m.temps s) (store_on n rest m))
+      (suc n) m.state.work pc v k.1.pointed
+      (from_no_access p e slots home base place y from m.temps s (store_on n rest m) (suc n) m.state.work pc v)
+      (λ r. from_put p e slots home base place y r.bank r.leaf space r.state from m.temps s (store_on n rest m) (suc n) m.state.work pc v
+      (λ l c u object begins size declared held typed. stored q k r l c u object begins size declared held typed)))
+    where
+      i : PlainIr
+      i = store_at ptr space from
+
+      s : State
+      s = begun i m
+
+      need : Need
+      need = needs at rest
+
+      need1 : Need
+      need1 = at_least ptr.at ptr.bytes need
+
+      need0 : Need
+      need0 = at_least from.at from.bytes need1
+
+      two : 2 ≤ ptr.bytes
+      two = (some_bytes ptr.bytes (pointer_size space ptr.bytes into.1)).0
+
+      pointer_held : (q : ObjectPointer) → m.temps ptr.at ≡ Some (record { bytes = ptr.bytes; content = points q })
+          → HoldsContent p place v.at (base ptr) ptr.bytes ptr.bytes (points q)
+      pointer_held q j =
+          at_width p e slots home base place y need0 m v ptr _ ptr.bytes h into.0 j refl
+          (let x = least_here ptr.at ptr.bytes need in let z = least_other from.at from.bytes ptr.at need1 in omega (arith, x, z))
+
+      stays : (b : ℕ) → need b ≤ need0 b
+      stays b =
+          let x = least_other ptr.at ptr.bytes b need in
+          let z = least_other from.at from.bytes b need1 in
+          omega (arith, x, z)
+
+      stored : (q : ObjectPointer) → HoldsContent p place v.at (base ptr) ptr.bytes ptr.bytes (points q)
+          → (r : Reaches p e slots home base place y space from.bytes q s) (l : ObjectLeaf p DataBank) (c : Content) (u : Value)
+          → l.object ≡ r.leaf.object → l.at ≡ r.leaf.at → l.bytes ≡ r.leaf.bytes → l.declared ≡ r.leaf.declared
+          → m.temps from.at ≡ Some (record { bytes = from.bytes; content = c }) → value_of_type p l.ty c ≡ Ok u
+          → G (suc n) m.state.work pc v (R n rest (machine m.temps (after_write p e slots home base place y l space u s)))
+      stored q k r l c u object begins size declared held typed =
+          let a = addressed ptr space from.bytes q s v h.bytes into.0 k r in
+          let wide : l.bytes ≡ from.bytes = size ∙ r.size in
+          let addressable : IsAddressable l.declared.storage =
+          subst (λ (d : PlainObject). IsAddressable d.storage) (sym declared) r.addressable in
+          let low : value v.at (base ptr) 2 ≡ place l.object + l.at =
+          a.low ∙ ap (λ o. place o + r.leaf.at) (sym object) ∙ ap (λ b. place l.object + b) (sym begins) in
+          let brings = stores p e slots home base place y ptr from l v into.0 it two addressable wide low in
+          let content = whole p e slots home base place y need1 m v from _ h it held refl in
+          let value_there : HoldsLeaf p place v.at (base from) from.bytes u =
+          typed_leaf p place v.at (base from) from.bytes l.ty c u (l.size ∙ wide) typed content in
+          let holds : HoldsLeaf p place v.at (base from) l.bytes u =
+          subst (λ b. HoldsLeaf p place v.at (base from) b u) (sym wide) value_there in
+          let kind = addressable_kind l.declared.storage addressable in
+          let m1 = machine m.temps (after_write p e slots home base place y l space u s) in
+          let matches : M need m1 (block e (code_of i rest) v) =
+          store_brings p e slots home base place y l space from need need0 m v _ (op_steps i) u it wide kind h stays holds brings in
+          let work : m1.state.work ≡ m.state.work + op_steps i = recorded_work l.declared.storage _ _ in
+          let straight = (y.pointers.straight 0 0 None (home from) (home ptr) from.bytes).4 in
+          let take = (y.pointers.take 0 0 None (home from) (home ptr) from.bytes).4 in
+          passes i rest n (suc n) m.state.work m1.state.work pc v (R n rest m1) stands straight (omega (arith, take.0))
+          (omega (arith, take.1, work))
+          (λ mid t. f mid m1 _ t matches)
+
+  -- ---- loads and stores of objects
+
+  location_is : (bank : Bank) (l : ObjectLeaf p bank) → object_location p.objects l.object l.at
+      ≡ location_in l.declared.storage l.object l.at
+  location_is bank l = rw (l.is_object) refl
+
+  kind_addressable : (storage : PlainStorage) → kind_in storage ≡ Object → IsAddressable storage
+  kind_addressable (static inits) q = tt
+  kind_addressable (local g) q = tt
+  kind_addressable (param g) q = tt
+  kind_addressable (register first) q = absurd (cc)
+
+  pub load_follows : (t : Temp) (o offset : ℕ) (rest : List PlainIr) (n pc : ℕ) (m : Mach) (v : View) → HasHome slots t
+      → HasScalarAt p o offset t.bytes → HasAt e (items (load_object t o offset ∷ rest)) pc end
+      → M (needs at (load_object t o offset ∷ rest)) m v → Rest n rest
+      → G (suc n) m.state.work pc v (R (suc n) (load_object t o offset ∷ rest) m)
+  load_follows t o offset rest n pc m v it has stands h f = at_object (slice_get m.state.objects o) refl
+    where
+      i : PlainIr
+      i = load_object t o offset
+
+      s : State
+      s = begun i m
+
+      need : Need
+      need = needs at rest
+
+      space : SpaceId
+      space = has.declared.space
+
+      leaf : (bank : Bank) → has.declared.home ≡ bank → ObjectLeaf p bank
+      leaf bank q = leaf_with p bank o offset t.bytes has q
+
+      code : Bank → List AsmItem
+      code bank = banked_code bank p.objects o offset (home t) t.bytes
+
+      straight : (bank : Bank) → all_straight (code bank) ≡ true
+      straight FlashBank = (y.pointers.tables_short o offset (home t) t.bytes).0
+      straight DataBank = copy_straight (object_location p.objects o offset) (home t) t.bytes
+
+      steps : (bank : Bank) → (t.bytes ≤ code_steps (code bank)) × (code_steps (code bank) ≤ 2 + 2 * t.bytes)
+      steps FlashBank = let take = (y.pointers.tables_short o offset (home t) t.bytes).1 in (omega (arith, take.0), omega (arith, take.1))
+      steps DataBank =
+          let take = copy_steps (object_location p.objects o offset) (home t) t.bytes in (omega (arith, take.0), omega (arith, take.1))
+
+      stays : (b : ℕ) → b ≢ t.at → need b ≤ without t.at need b
+      stays b d = without_other t.at b need d
+
+      matches : (bank : Bank) (q : has.declared.home ≡ bank) (x : ObjectState) (u : Value) → slice_get m.state.objects o ≡ Some x
+          → leaf_of x has.number ≡ Some u
+          → M need (machine (with_temp t u m.temps) (after_read p e slots home base place y bank (leaf bank q) space u s))
+          (block e (code bank) v)
+      matches FlashBank q x u w j =
+          let l = leaf FlashBank q in
+          let kind = table_kind p e slots home base place y l in
+          let brings = loads_table p e slots home base place y l t v (kind_addressable has.declared.storage kind) it refl in
+          load_brings p e slots home base place y FlashBank l space t need (without t.at need) m v _ (op_steps i) u it refl kind h stays
+          (h.tables_hold l x u w j) brings
+      matches DataBank q x u w j =
+          let l = leaf DataBank q in
+          subst
+          (λ (z : Location). M need (machine (with_temp t u m.temps) (after_read p e slots home base place y DataBank l space u s))
+          (block e (copy_code z (home t) t.bytes) v)) (sym (location_is DataBank l))
+          (load_matches p e slots home base place y l space t need (without t.at need) m v (op_steps i) u it refl h stays
+          (h.leaves_hold l x u w j))
+
+      at_value : (bank : Bank) (q : has.declared.home ≡ bank) (x : ObjectState) (u : Value) → slice_get m.state.objects o ≡ Some x
+          → leaf_of x has.number ≡ Some u
+          → G (suc n) m.state.work pc v (load_on n rest t m u (after_read p e slots home base place y bank (leaf bank q) space u s))
+      at_value bank q x u w j =
+          let m1 = machine (with_temp t u m.temps) (after_read p e slots home base place y bank (leaf bank q) space u s) in
+          let work : m1.state.work ≡ m.state.work + op_steps i = recorded_work has.declared.storage _ s in
+          let same : home_of p o ≡ bank = home_of_object p o has.declared has.is_object ∙ q in
+          let take = steps (home_of p o) in
+          let some = it.some in
+          passes i rest n (suc n) m.state.work m1.state.work pc v (R n rest m1) stands (straight (home_of p o))
+          (omega (arith, take.0, some)) (omega (arith, take.1, some, work))
+          (λ mid z. f mid m1 _ z (subst (λ (b : Bank). M need m1 (block e (code b) v)) (sym same) (matches bank q x u w j)))
+
+      at_object : (z : Option ObjectState) → slice_get m.state.objects o ≡ z
+          → G (suc n) m.state.work pc v (next (read p (object_access p None o offset s) s) (load_on n rest t m))
+      at_object None q =
+          let a : object_access p None o offset s ≡ None = rw (has.is_object, q) refl in
+          subst (λ z. G (suc n) m.state.work pc v (next (read p z s) (load_on n rest t m))) (sym a) tt
+      at_object (Some x) q =
+          let l = leaf has.declared.home refl in
+          let a : object_access p None o offset s ≡ Some (access_to p e slots home base place y has.declared.home l space x) =
+          rw (has.is_object, q, has.found) refl in
+          subst (λ z. G (suc n) m.state.work pc v (next (read p z s) (load_on n rest t m))) (sym a)
+          (from_read p e slots home base place y has.declared.home l space x s (load_on n rest t m) (suc n) m.state.work pc v
+          (λ u j. at_value has.declared.home refl x u q j))
+
+  pub store_follows : (o offset : ℕ) (t : Temp) (rest : List PlainIr) (n pc : ℕ) (m : Mach) (v : View) → HasHome slots t
+      → HasScalarAt p o offset t.bytes → HasAt e (items (store_object o offset t ∷ rest)) pc end
+      → M (needs at (store_object o offset t ∷ rest)) m v → Rest n rest
+      → G (suc n) m.state.work pc v (R (suc n) (store_object o offset t ∷ rest) m)
+  store_follows o offset t rest n pc m v it has stands h f = at_object (slice_get m.state.objects o) refl
+    where
+      i : PlainIr
+      i = store_object o offset t
+
+      s : State
+      s = begun i m
+
+      need : Need
+      need = needs at rest
+
+      space : SpaceId
+      space = has.declared.space
+
+      stays : (b : ℕ) → need b ≤ at_least t.at t.bytes need b
+      stays b = least_other t.at t.bytes b need
+
+      stored : (l : ObjectLeaf p DataBank) (c : Content) (u : Value) → l.object ≡ o → l.at ≡ offset → l.bytes ≡ t.bytes
+          → m.temps t.at ≡ Some (record { bytes = t.bytes; content = c }) → value_of_type p l.ty c ≡ Ok u
+          → G (suc n) m.state.work pc v (store_on n rest m u (after_write p e slots home base place y l space u s))
+      stored l c u object begins size held typed =
+          let content = whole p e slots home base place y need m v t _ h it held refl in
+          let value_there : HoldsLeaf p place v.at (base t) t.bytes u =
+          typed_leaf p place v.at (base t) t.bytes l.ty c u (l.size ∙ size) typed content in
+          let holds : HoldsLeaf p place v.at (base t) l.bytes u = subst (λ b. HoldsLeaf p place v.at (base t) b u) (sym size) value_there in
+          let m1 = machine m.temps (after_write p e slots home base place y l space u s) in
+          let to : location_in l.declared.storage l.object l.at ≡ object_location p.objects o offset =
+          sym (location_is DataBank l) ∙ ap (λ b. object_location p.objects b l.at) object
+          ∙ ap (λ b. object_location p.objects o b) begins in
+          let matches : M need m1 (block e (code_of i rest) v) =
+          subst (λ (z : Location). M need m1 (block e (copy_code (home t) z t.bytes) v)) to
+          (store_matches p e slots home base place y l space t need (at_least t.at t.bytes need) m v
+          (op_steps i) u it size h stays holds) in
+          let work : m1.state.work ≡ m.state.work + op_steps i = recorded_work l.declared.storage _ _ in
+          let take = copy_steps (home t) (object_location p.objects o offset) t.bytes in
+          let some = it.some in
+          passes i rest n (suc n) m.state.work m1.state.work pc v (R n rest m1) stands
+          (copy_straight (home t) (object_location p.objects o offset) t.bytes) (omega (arith, take.0, some)) (omega (arith, take.1, work))
+          (λ mid z. f mid m1 _ z matches)
+
+      at_object : (z : Option ObjectState) → slice_get m.state.objects o ≡ z
+          → G (suc n) m.state.work pc v (next (put p (object_access p None o offset s) t m.temps s) (store_on n rest m))
+      at_object None q =
+          let a : object_access p None o offset s ≡ None = rw (has.is_object, q) refl in
+          subst (λ z. G (suc n) m.state.work pc v (next (put p z t m.temps s) (store_on n rest m))) (sym a)
+          (from_no_access p e slots home base place y t m.temps s (store_on n rest m) (suc n) m.state.work pc v)
+      at_object (Some x) q =
+          let bank = has.declared.home in
+          let l = leaf_with p bank o offset t.bytes has refl in
+          let a : object_access p None o offset s ≡ Some (access_to p e slots home base place y bank l space x) =
+          rw (has.is_object, q, has.found) refl in
+          subst (λ z. G (suc n) m.state.work pc v (next (put p z t m.temps s) (store_on n rest m))) (sym a)
+          (from_put p e slots home base place y bank l space x t m.temps s (store_on n rest m) (suc n) m.state.work pc v
+          (λ k c u object begins size declared held typed. stored k c u object begins size held typed))

@@ -1,0 +1,1315 @@
+-- Operators and conversions of pointers: what their code does for them.
+use Rattle.std.proofs.Common.{◌≡◌, ◌≢◌, ℕ, zero, suc, ◌+◌, ◌*◌, ◌%◌, ◌^◌, ◌<◌, ◌≤◌, inl, inr, ⊎_elim}
+use Rattle.std.proofs.Common.{Bool, true, false, ◌&&◌, ◌||◌, ℤ, pos, ◌*ℤ◌, List, [], ◌∷◌, ◌++◌, Option, Some, None}
+use Rattle.std.proofs.Common.{Result, Ok, Err}
+use Rattle.std.proofs.Common.{refl, sym, ap, ◌∙◌, subst, arith}
+use Rattle.std.specs.Prelude.{◌==◌, if◌then◌else◌, slice_get, slice_index}
+use Rattle.std.specs.Int.{from_bool}
+use Rattle.std.proofs.lemmas.Bool.{cases_lt, eqb-true, eq-eqb, and_parts}
+use Rattle.std.proofs.lemmas.Nat.{mod_below}
+use Rattle.ec_fx.specs.declared.numbers.Mode.{Mode}
+use Rattle.ec_space.specs.declared.space.SpaceId.{SpaceId}
+use Rattle.ec_space.specs.declared.space.SpaceId.TheVariants.{Flash, Data, Generic}
+use Rattle.ec_space.specs.Spaces.{width}
+use Rattle.ec_asm.specs.declared.items.AsmItem.{AsmItem}
+use Rattle.ec_asm.specs.declared.pieces.Location.{Location}
+use Rattle.ec_asm.specs.declared.pieces.Location.TheVariants.{InRegisters, InMemory}
+use Rattle.ec_asm.specs.View.{View}
+use Rattle.ec_asm.specs.Change.{Env, Own}
+use Rattle.ec_asm.specs.Items.{HasAt, block, all_straight, code_steps}
+use Rattle.ec_asm.specs.Pieces.{StandsFrom, Outside, Keeps, value, address, copy_code}
+use Rattle.ec_asm.specs.PieceLaws.{HoldsNumbers, IsReadFirst}
+use Rattle.ec_asm.proofs.Compared.{copy_holds}
+use Rattle.ec_asm.proofs.Hoare.{has_parts, block_goes, goes_on_to, block-append, straight-append, steps-append}
+use Rattle.ec_asm.proofs.Numbers.{pow_pos}
+use Rattle.std.proofs.Common.{append-nil, min}
+use Rattle.ec_core.specs.declared.expressions.BinOp.{BinOp}
+use Rattle.ec_core.specs.declared.expressions.BinOp.TheVariants.{Add, Sub, Lt}
+use Rattle.ec_core.specs.declared.expressions.BinOp.TheVariants.{Gt, Le, Ge, Eq, Ne}
+use Rattle.ec_core.specs.declared.values.ObjectPointer.{ObjectPointer}
+use Rattle.ec_core.specs.declared.values.Undefined.{Undefined}
+use Rattle.ec_core.specs.declared.values.Value.{Value}
+use Rattle.ec_core.specs.declared.values.Value.TheVariants.{Pointer}
+use Rattle.ec_core.specs.Accesses.{referent_of, operand_of}
+use Rattle.ec_core.specs.ArithmeticValues.{is_comparison}
+use Rattle.ec_core.specs.Layout.{scalar_size, size_of_type, IsIntegerSize}
+use Rattle.ec_core.specs.Operators.{Operand, offset_result, same_type, as_number, as_pointer, unsuited}
+use Rattle.ec_core.specs.Plain.{PlainType, void, integer, fixed, pointer, array, struct, PlainProgram}
+use Rattle.ec_core.specs.Pointers.{Pointer as PointerValue, sum_of_pointer, difference_of_pointers}
+use Rattle.ec_core.specs.Pointers.{comparison_of_pointers, pointer_in_space}
+use Rattle.ec_core.specs.State.{State, worked, Outcome, next, given}
+use Rattle.ec_core.specs.Typing.{IsIntegerType, HaveOffsetTypes}
+use Rattle.ec_ir.specs.declared.operations.Temp.{Temp}
+use Rattle.ec_core.specs.Words.{widest, operation_words}
+use Rattle.ec_ir.specs.Costs.{op_steps, binary_words, conversion_words, is_bitwise, is_integer}
+use Rattle.ec_ir.specs.Meaning.{Mach, machine, held_as, exec_from, Frame as Call}
+use Rattle.ec_ir.specs.Operations.{PlainIr, binary_op, conversion, PlainIrFunction}
+use Rattle.ec_ir.specs.Temporaries.{Content, bits, points, content_of, value_of_type, is_in_space, Held, Temps, held}
+use Rattle.ec_ir.specs.Temporaries.{with_temp, with_content}
+use Rattle.ec_ir.specs.Temporaries.{low_bytes, number_of_bytes}
+use Rattle.ec_select_bytes.specs.Values.{extend_code}
+use Rattle.ec_select_bytes.proofs.Straight.{values_are_straight, values_take}
+use Rattle.ec_select_order.specs.declared.relations.Relation.{Relation}
+use Rattle.ec_select_order.specs.declared.relations.Relation.TheVariants.{Less as IsBelow, NotLess, Equal as IsSame}
+use Rattle.ec_select_order.specs.declared.relations.Relation.TheVariants.{NotEqual}
+use Rattle.ec_select_places.specs.Numbers.{Place, number_of, IsPlace, places_stand, offset_of}
+use Rattle.ec_select_places.specs.Steps.{scale_index_code, advance_code, order_code}
+use Rattle.ec_select_places.specs.StepLaws.{LeavesZ, Scales, Advances, index_of, moved_by}
+use Rattle.ec_select_places.specs.DistanceLaws.{signed_number, IsFrom, Differs}
+use Rattle.ec_select_places.specs.ConversionLaws.{HasPut}
+use Rattle.ec_select_places.specs.Distances.{elements_code}
+use Rattle.ec_select_places.specs.Conversions.{embedded, embed_code}
+use Rattle.ec_select_operations.specs.declared.families.Told.{Told}
+use Rattle.ec_select_operations.specs.declared.families.Family.{Family}
+use Rattle.ec_select_operations.specs.declared.families.Family.TheVariants.{Compared}
+use Rattle.ec_select_operations.specs.Code.{Linkage, op_code, ops_code, told_by, family_of, is_signed, is_only_tested}
+use Rattle.ec_select_operations.specs.Code.{wanted_bytes}
+use Rattle.ec_select_operations.specs.Code.{same_location, move_code, conversion_code, offset_code, is_difference}
+use Rattle.ec_select_operations.specs.Code.{pointers_code}
+use Rattle.ec_select_functions.specs.Covered.{IsPointerBinary, IsPointerConversion}
+use Rattle.ec_select_operations.specs.Homes.{HasHome}
+use Rattle.ec_select_operations.specs.Needs.{Need, needs, wanted, at_least, without, all_or_none, is_whole}
+use Rattle.ec_select_operations.specs.Places.{IsClear}
+use Rattle.ec_select_operations.specs.Pointers.{is_into_data, IsPointerIn, IsPointerSize, home_of}
+use Rattle.ec_select_functions.specs.Relation.{Matches, HoldsContent}
+use Rattle.ec_select_functions.proofs.Follow.{Follows, after, from_held, next_next, held_is}
+use Rattle.ec_select_functions.proofs.Going.{passes}
+use Rattle.ec_select_functions.proofs.Match.{kept_left, wanted_most, read_first, at_width, written_wide, least_here}
+use Rattle.ec_select_functions.proofs.Match.{less_value}
+use Rattle.ec_select_functions.proofs.Match.{least_other}
+use Rattle.ec_select_functions.proofs.Match.{without_other, held_row}
+use Rattle.ec_select_functions.proofs.Moves.{Frame, Wide, numbers_kept, row_value, narrower, stands_less}
+use Rattle.ec_select_functions.proofs.Moves.{move_straight, move_steps}
+use Rattle.ec_select_functions.proofs.Moves.{no_log}
+use Rattle.ec_select_functions.proofs.Numeric.{from_numeric}
+use Rattle.ec_select_functions.proofs.PointerNumbers.{HavePlaces, objects_have_places, place_of, tag_byte}
+use Rattle.ec_select_functions.proofs.PointerNumbers.{IsAddressed, IsIntoSpace}
+use Rattle.ec_select_functions.proofs.PointerNumbers.{address_high, is_place, address_is, number_below}
+use Rattle.ec_select_functions.proofs.PointerNumbers.{places_compare, comparison_is}
+use Rattle.ec_select_functions.proofs.PointerNumbers.{Distance, difference_is, IsMoved, moved_is, IsIndex, index_is}
+use Rattle.ec_select_functions.proofs.PointerNumbers.{moved_elements}
+use Rattle.ec_select_functions.proofs.PointerNumbers.{advanced_is, in_space_is, low_numbers, low_is_offset, embedded_is}
+use Rattle.ec_select_functions.proofs.Related.{told_matches}
+use Rattle.ec_select_functions.proofs.Setting.{Setting}
+use Rattle.ec_select_functions.proofs.Wrapped.{low_below, kept_below}
+
+-- ---- bytes
+
+-- n bytes that stand apart from the work registers are no work registers
+off_work : (a n j : ℕ) → IsClear a n → j < n → Outside 8 6 (a + j) × Outside 26 6 (a + j)
+off_work a n j c l = (low, high)
+  where
+    low : Outside 8 6 (a + j)
+    low q = ⊎_elim (λ (x : a < 8). let z = c.low.left x in absurd (omega arith))
+        (λ (x : 8 ≤ a). let z = c.low.right x in omega arith) (cases_lt a 8)
+
+    high : Outside 26 6 (a + j)
+    high q = ⊎_elim (λ (x : a < 26). let z = c.high.left x in absurd (omega arith))
+        (λ (x : 26 ≤ a). let z = c.high.right x in omega arith) (cases_lt a 26)
+
+-- nor are those of them R30 and R31
+leaves_z : (a n m : ℕ) → m ≤ n → IsClear a n → LeavesZ a m
+leaves_z a n m l c = record { low = below 30 (omega arith) (omega arith); high = below 31 (omega arith) (omega arith) }
+  where
+    below : (k : ℕ) → 30 ≤ k → k < 32 → Outside a m k
+    below k u w q = ⊎_elim (λ (x : a < 26). let z = c.high.left x in omega arith)
+        (λ (x : 26 ≤ a). let z = c.high.right x in absurd (omega arith)) (cases_lt a 26)
+
+-- ---- copies that leave R30 and R31 alone
+
+-- n bytes were brought from a to b, and all else is kept but R0
+record Brings (v w : View) (a b n : ℕ) : Type 0 where
+  there : (j : ℕ) → j < n → w.at (b + j) ≡ v.at (a + j)
+  same : (k : ℕ) → k ≢ 0 → Outside b n k → w.at k ≡ v.at k
+  inputs : w.inputs ≡ v.inputs
+  safe : w.safe ≡ v.safe
+  seen : w.seen ≡ v.seen
+
+same_is : (p q : Location) → same_location p q ≡ true → p ≡ q
+same_is (InRegisters a) (InRegisters b) h = ap InRegisters (eqb-true a b h)
+same_is (InRegisters a) (InMemory o k) h = cc
+same_is (InMemory o k) (InRegisters b) h = cc
+same_is (InMemory o k) (InMemory p j) h =
+    let r = and_parts (o == p) (k == j) h in
+    ap (λ x. InMemory x k) (eqb-true o p r.0) ∙ ap (InMemory p) (eqb-true k j r.1)
+
+brings : (e : Env) (p q : Location) (n a b : ℕ) (v : View) → StandsFrom e p n a Own → StandsFrom e q n b Own
+    → IsReadFirst a b n → Brings v (block e (move_code p q n) v) a b n
+brings e p q n a b v sa sb far = by_same (same_location p q) refl
+  where
+    by_same : (x : Bool) → same_location p q ≡ x → Brings v (block e (if x then [] else copy_code p q n) v) a b n
+    by_same true s = record {
+      there = λ j l. let x = sa.at j l in let y = sb.at j l in let z =
+          ap (λ r. address e r j) (same_is p q s) in ap v.at (sym y ∙ sym z ∙ x);
+      same = λ k x o. refl;
+      inputs = refl;
+      safe = refl;
+      seen = refl;
+    }
+    by_same false s =
+        let c = copy_holds e p q n a b Own Own v sa sb refl refl far in
+        record {
+          there = c.there;
+          same = c.same;
+          inputs = c.inputs;
+          safe = c.safe;
+          seen = c.seen
+              ∙ rw (no_log a b v.at n) (append-nil v.seen);
+        }
+
+-- ---- operands
+
+module _ (p : PlainProgram) (place : ℕ → ℕ) (e : Env) where
+  -- a temporary that holds a pointer into a space
+  pub from_pointer : (space : SpaceId) (const : Bool) (to : PlainType) (t : Temp) (temps : Temps) (s : State)
+      (go : Value → State → Outcome Value) (n w pc : ℕ) (v : View)
+      → ((x : PointerValue) → temps t.at ≡ Some (record { bytes = t.bytes; content = content_of t.bytes (Pointer x) })
+      → IsIntoSpace p space x → Follows p place e n w pc v (go (Pointer x) s))
+      → Follows p place e n w pc v (next (held_as p (pointer space const to) t temps s) go)
+  from_pointer space const to t temps s go n w pc v f =
+      subst (λ o. Follows p place e n w pc v o) (sym (next_next (held t temps s) _ go))
+      (from_held p place e t temps s (λ content s1. next (given (value_of_type p (pointer space const to) content)
+      s1) go) n w pc v (λ h q r. by_content h q r h.content refl))
+    where
+      by_content : (h : Held) → temps t.at ≡ Some h → h.bytes ≡ t.bytes → (c : Content) → h.content ≡ c
+          → Follows p place e n w pc v (next (given (value_of_type p (pointer space const to) c) s) go)
+      by_content h q r (bits zero) i = f None (q ∙ ap Some (held_is p place e h t.bytes (bits 0) r i)) tt
+      by_content h q r (bits (suc low)) i = tt
+      by_content h q r (points x) i = by_space (is_in_space p space x) refl
+        where
+          by_space : (b : Bool) → is_in_space p space x ≡ b
+              → Follows p place e n w pc v (next (given (if b then Ok (Pointer (Some x)) else unsuited) s) go)
+          by_space true k = f (Some x) (q ∙ ap Some (held_is p place e h t.bytes (points x) r i)) k
+          by_space false k = tt
+
+module _ (p : PlainProgram) (e : Env) (slots : ℕ) (home : Temp → Location) (base : Temp → ℕ) (place : ℕ → ℕ)
+    (y : Setting p e slots home base place) where
+  abbrev Shown : Need → Mach → View → Type 0
+  Shown need m v = Matches p e y.inputs slots base place y.aside y.was need m v
+
+  -- the objects have places
+  pub have : HavePlaces p place
+  have = objects_have_places p e slots y.scratch place y.objects_stand y.tables_stand y.valid
+
+  -- the low bytes of a pointer that a temporary holds
+  pub pointer_low : (need : Need) (m : Mach) (v : View) (a : Temp) (x : PointerValue) (n : ℕ) → Shown need m v → HasHome slots a
+      → m.temps a.at ≡ Some (record { bytes = a.bytes; content = content_of a.bytes (Pointer x) }) → n ≤ wanted need a
+      → (value v.at (base a) n ≡ number_of (place_of p place a.bytes x) % 256 ^ n) × IsAddressed p a.bytes x
+  pointer_low need m v a None n h ia q l = ((at_width p e slots home base place y need m v a _ n h ia q refl l).0, tt)
+  pointer_low need m v a (Some x) n h ia q l =
+      let g = at_width p e slots home base place y need m v a _ n h ia q refl l in
+      (g.0 ∙ ap (λ k. k % 256 ^ n) (address_is p place have a.bytes x g.1.pointed), g.1)
+
+  -- a pointer as the content of a temporary
+  pub holds_pointer : (f : ℕ → ℕ) (a n bytes : ℕ) (x : PointerValue) → IsAddressed p bytes x
+      → value f a n ≡ number_of (place_of p place bytes x) % 256 ^ n
+      → HoldsContent p place f a n bytes (content_of bytes (Pointer x))
+  holds_pointer f a n bytes None i q = (q, pow_pos bytes)
+  holds_pointer f a n bytes (Some x) i q = (q ∙ ap (λ k. k % 256 ^ n) (sym (address_is p place have bytes x i.pointed)), i)
+
+  -- ---- pointers that are moved
+
+  -- the code moves a pointer by so many elements
+  pub offset_matches : (minus signed : Bool) (t a b : Temp) (size c low : ℕ) (k : ℤ) (q : ObjectPointer) (z : PointerValue)
+      (need need0 : Need) (m : Mach) (v : View) → HasHome slots t → HasHome slots a → HasHome slots b → t.bytes ≡ a.bytes
+      → IsPointerIn p a.bytes q → value v.at (base a) a.bytes ≡ number_of (place_of p place a.bytes (Some q))
+      → value v.at (base b) b.bytes ≡ low → IsIndex k (index_of signed b.bytes low)
+      → IsMoved p q (moved_elements minus k *ℤ pos size) z → ((u : ℕ) → u ≢ t.at → need u ≤ need0 u) → Shown need0 m v
+      → Shown need (machine (with_content t (content_of t.bytes (Pointer z)) m.temps) (worked c m.state))
+      (block e (scale_index_code (home b) signed b.bytes (size % 65536)
+      ++ (move_code (home a) (home t) a.bytes ++ advance_code minus (home t))) v)
+  offset_matches minus signed t a b size c low k q z need need0 m v it ia ib same i number index ix moves more h =
+      subst (λ (x : PointerValue). Shown need (machine (with_content t (content_of t.bytes (Pointer x)) m.temps)
+      (worked c m.state)) (block e (scale ++ (move ++ advance)) v)) (sym moves.is)
+      (subst (λ (x : View). Shown need (machine (with_content t (points moves.to) m.temps) (worked c m.state)) x) (sym whole_block)
+      (written_wide p e slots home base place y t (points moves.to) need need0 m (worked c m.state) v v3 it h more
+      frame held advances.numbers refl
+      (ad.seen ∙ mv.seen ∙ sc.seen ∙ h.seen) (kept_left y.inputs m.state v v3 (ad.inputs ∙ mv.inputs ∙ sc.inputs)
+      h.left) (ad.safe ∙ mv.safe ∙ sc.safe ∙ h.safe)))
+    where
+      scale : List AsmItem
+      scale = scale_index_code (home b) signed b.bytes (size % 65536)
+
+      move : List AsmItem
+      move = move_code (home a) (home t) a.bytes
+
+      advance : List AsmItem
+      advance = advance_code minus (home t)
+
+      v1 : View
+      v1 = block e scale v
+
+      v2 : View
+      v2 = block e move v1
+
+      v3 : View
+      v3 = block e advance v2
+
+      whole_block : block e (scale ++ (move ++ advance)) v ≡ v3
+      whole_block = block-append e scale (move ++ advance) v ∙ block-append e move advance v1
+
+      two : 2 ≤ a.bytes
+      two = ⊎_elim (λ (r : a.bytes ≡ 2). omega arith) (λ (r : a.bytes ≡ 3). omega arith) i.size
+
+      clear_a : IsClear (base a) a.bytes
+      clear_a = y.layout.temps_work a ia
+
+      clear_t : IsClear (base t) t.bytes
+      clear_t = y.layout.temps_work t it
+
+      some_a : 2 ≤ base a
+      some_a = (y.layout.temps_at a ia).clear
+
+      some_t : 2 ≤ base t
+      some_t = (y.layout.temps_at t it).clear
+
+      to_stands : StandsFrom e (home t) a.bytes (base t) Own
+      to_stands = subst (λ (n : ℕ). StandsFrom e (home t) n (base t) Own) same (y.layout.temps_at t it)
+
+      sc : Scales v (index_of signed b.bytes (value v.at (base b) b.bytes) * (size % 65536) % 65536) v1
+      sc = y.pointers.scaled e (home b) signed b.bytes (size % 65536) (base b) v (y.layout.temps_at b ib)
+          (leaves_z (base b) b.bytes b.bytes (omega arith) (y.layout.temps_work b ib)) ib.some (mod_below size 65536 (omega arith)) h.bytes
+
+      mv : Brings v1 v2 (base a) (base t) a.bytes
+      mv = brings e (home a) (home t) a.bytes (base a) (base t) v1 (y.layout.temps_at a ia) to_stands
+          (read_first p e slots home base place y t a a.bytes it ia (omega arith))
+
+      -- the pointer is there until it is brought to its place
+      pointer_kept : (j : ℕ) → j < a.bytes → v1.at (base a + j) ≡ v.at (base a + j)
+      pointer_kept j l =
+          let w = off_work (base a) a.bytes j clear_a l in
+          sc.same (base a + j) (omega (arith, some_a)) (omega (arith, some_a)) (λ u. let z = w.0 u in omega arith)
+          (λ u. let z = w.1 (omega arith) in omega arith)
+
+      brought : (j : ℕ) → j < a.bytes → v2.at (base t + j) ≡ v.at (base a + j)
+      brought j l = mv.there j l ∙ pointer_kept j l
+
+      -- R30 and R31 are kept meanwhile
+      off_target : (k : ℕ) → 30 ≤ k → k < 32 → Outside (base t) a.bytes k
+      off_target k u w = subst (λ (n : ℕ). Outside (base t) n k) same (off k u w)
+        where
+          off : (k : ℕ) → 30 ≤ k → k < 32 → Outside (base t) t.bytes k
+          off k u w o = ⊎_elim (λ (x : base t < 26). let z = clear_t.high.left x in omega arith)
+              (λ (x : 26 ≤ base t). let z = clear_t.high.right x in absurd (omega arith)) (cases_lt (base t) 26)
+
+      z_kept : (j : ℕ) → j < 2 → v2.at (30 + j) ≡ v1.at (30 + j)
+      z_kept j l = mv.same (30 + j) (omega arith) (off_target (30 + j) (omega arith) (omega arith))
+
+      frame2 : Frame v1 v2 (base t) a.bytes
+      frame2 k x z w o = mv.same k x o
+
+      numbers2 : HoldsNumbers v2
+      numbers2 = numbers_kept v1 v2 (base t) a.bytes sc.numbers frame2
+          (λ j l. subst (λ (n : ℕ). n < 256) (sym (brought j l)) (held_row v (base a) a.bytes some_a h.bytes j l))
+          (subst (λ (n : ℕ). n < 256) (sym (z_kept 0 (omega arith))) (sc.numbers 30 (omega arith)))
+
+      advances : Advances v2 (base t) (moved_by minus (value v2.at (base t) 2) (value v2.at 30 2)) v3
+      advances = y.pointers.advanced minus e (home t) (base t) v2 (stands_less e (home t) a.bytes 2 (base t) Own two to_stands)
+          (leaves_z (base t) t.bytes 2 (omega (arith, two, same)) clear_t) numbers2
+
+      ad : Keeps v2 v3 (base t) 2
+      ad = advances.keeps
+
+      place_from : ℕ
+      place_from = place q.object + q.offset
+
+      -- the address before, the index, and the address behind
+      address_before : value v2.at (base t) 2 ≡ place_from
+      address_before =
+          row_value v2.at v.at (base a) (base t) 2 (λ j l. brought j (omega (arith, l, two)))
+          ∙ less_value v.at (base a) a.bytes 2 (number_of (place_of p place a.bytes (Some q))) two
+          (held_row v (base a) a.bytes some_a h.bytes)
+          (number ∙ sym (kept_below (number_of (place_of p place a.bytes (Some q))) (256 ^ a.bytes)
+          (number_below p place have a.bytes (Some q) i.size i)))
+          ∙ low_is_offset p place have a.bytes (Some q) i
+
+      index_there : value v2.at 30 2 ≡ index_of signed b.bytes low * (size % 65536) % 65536
+      index_there =
+          row_value v2.at v1.at 30 30 2 z_kept ∙ sc.number_is ∙ ap (λ (n : ℕ). index_of signed b.bytes n * (size % 65536) % 65536) index
+
+      address_behind : value v3.at (base t) 2 ≡ place q.object + moves.to.offset
+      address_behind =
+          advances.number_is ∙ ap (λ (n : ℕ). moved_by minus n (value v2.at 30 2)) address_before
+          ∙ ap (moved_by minus place_from) index_there
+          ∙ advanced_is minus k (index_of signed b.bytes low) (place q.object) q.offset moves.to.offset size ix moves.offset
+          (address_high p place have q i.pointed) (subst (λ (o : ℕ). place o + moves.to.offset < 65536) moves.object
+          (address_high p place have moves.to moves.pointed))
+
+      third : (x y z w a b t : ℕ) → x ≡ b → y ≡ w → z ≡ a → z + w * 65536 ≡ a + t * 65536 → x + y * 65536 ≡ b + t * 65536
+      third x y z w a b t p q r s = omega (arith, p, q, r, s)
+
+      -- with a third byte, which is kept
+      new_number : value v3.at (base t) t.bytes ≡ number_of (place_of p place t.bytes (Some moves.to))
+      new_number = ⊎_elim without_tag with_tag i.size
+        where
+          without_tag : a.bytes ≡ 2 → value v3.at (base t) t.bytes ≡ number_of (place_of p place t.bytes (Some moves.to))
+          without_tag r =
+              let s : t.bytes ≡ 2 = same ∙ r in
+              subst (λ (n : ℕ). value v3.at (base t) n ≡ number_of (place_of p place n (Some moves.to))) (sym s)
+              (address_behind ∙ ap (λ (o : ℕ). place o + moves.to.offset) (sym moves.object) ∙ omega arith)
+
+          with_tag : a.bytes ≡ 3 → value v3.at (base t) t.bytes ≡ number_of (place_of p place t.bytes (Some moves.to))
+          with_tag r =
+              let s : t.bytes ≡ 3 = same ∙ r in
+              let last : v3.at (base t + 2) ≡ v.at (base a + 2) =
+              ad.same (base t + 2) (omega (arith, some_t)) (omega (arith, some_t)) (λ o. omega arith)
+              ∙ brought 2 (omega (arith, r)) in
+              let full : value v.at (base a) 3 ≡ number_of (place_of p place 3 (Some q)) =
+              subst (λ (n : ℕ). value v.at (base a) n ≡ number_of (place_of p place n (Some q))) r number in
+              let first : value v.at (base a) 2 ≡ place_from =
+              sym (row_value v2.at v.at (base a) (base t) 2 (λ j l. brought j (omega (arith, l, two))))
+              ∙ address_before in
+              let object : place moves.to.object ≡ place q.object = ap place moves.object in
+              let tag : tag_byte 3 (home_of p moves.to.object) ≡ tag_byte 3 (home_of p q.object) =
+              ap (λ (o : ℕ). tag_byte 3 (home_of p o)) moves.object in
+              subst (λ (n : ℕ). value v3.at (base t) n ≡ number_of (place_of p place n (Some moves.to))) (sym s)
+              (third (value v3.at (base t) 2) (v3.at (base t + 2)) (value v.at (base a) 2) (v.at (base a + 2))
+              place_from (place q.object + moves.to.offset) (tag_byte 3 (home_of p q.object))
+              address_behind last first full ∙ (rw (object, tag) refl))
+
+      target : IsPointerIn p t.bytes moves.to
+      target = record { pointed = moves.pointed; size = subst IsPointerSize (sym same) i.size }
+
+      held : HoldsContent p place v3.at (base t) (wanted need t) t.bytes (points moves.to)
+      held = holds_pointer v3.at (base t) (wanted need t) t.bytes (Some moves.to) target
+          (less_value v3.at (base t) t.bytes (wanted need t) (number_of (place_of p place t.bytes (Some moves.to)))
+          (wanted_most need t) (held_row v3 (base t) t.bytes some_t advances.numbers)
+          (new_number ∙ sym (kept_below (number_of (place_of p place t.bytes (Some moves.to))) (256 ^ t.bytes)
+          (number_below p place have t.bytes (Some moves.to) target.size target))))
+
+      frame : Wide v v3 (base t) t.bytes
+      frame k r0 r1 low_off high_off o =
+          ad.same k r0 r1 (narrower (base t) t.bytes 2 k (omega (arith, two, same)) o)
+          ∙ mv.same k r0 (subst (λ (n : ℕ). Outside (base t) n k) same o)
+          ∙ sc.same k r0 r1 (λ u. let z = low_off u in omega arith) (λ u. let z = high_off (omega arith) in omega arith)
+
+  -- ---- differences
+
+  -- the code counts the elements between two pointers
+  pub difference_matches : (t a b : Temp) (size c : ℕ) (x z : PointerValue) (k : ℤ) (need need0 : Need) (m : Mach) (v : View)
+      → HasHome slots t → HasHome slots a → HasHome slots b → t.bytes ≡ 2 → 2 ≤ a.bytes → 2 ≤ b.bytes → 1 ≤ size
+      → value v.at (base a) 2 ≡ offset_of (place_of p place a.bytes x) → value v.at (base b) 2 ≡ offset_of (place_of p place b.bytes z)
+      → Distance size (offset_of (place_of p place a.bytes x)) (offset_of (place_of p place b.bytes z)) k
+      → ((u : ℕ) → u ≢ t.at → need u ≤ need0 u) → Shown need0 m v
+      → Shown need (machine (with_content t (bits (low_bytes t.bytes k)) m.temps) (worked c m.state))
+      (block e (elements_code (home a) (home b) (home t) size) v)
+  difference_matches t a b size c x z k need need0 m v it ia ib two two_a two_b some left right d more h =
+      written_wide p e slots home base place y t (bits (low_bytes t.bytes k)) need need0 m (worked c m.state) v v1
+      it h more frame (low, low_below t.bytes k) dif.numbers refl
+      (dif.seen ∙ h.seen) (kept_left y.inputs m.state v v1 dif.inputs h.left) (dif.safe ∙ h.safe)
+    where
+      v1 : View
+      v1 = block e (elements_code (home a) (home b) (home t) size) v
+
+      stands : (u : Temp) → HasHome slots u → 2 ≤ u.bytes → StandsFrom e (home u) 2 (base u) Own
+      stands u iu l = stands_less e (home u) u.bytes 2 (base u) Own l (y.layout.temps_at u iu)
+
+      clear : (u : Temp) → HasHome slots u → 2 ≤ u.bytes → LeavesZ (base u) 2
+      clear u iu l = leaves_z (base u) u.bytes 2 l (y.layout.temps_work u iu)
+
+      two_t : 2 ≤ t.bytes
+      two_t = omega (arith, two)
+
+      is_from : IsFrom d.negative (value v.at (base a) 2) (value v.at (base b) 2) (d.k * size)
+      is_from = subst (λ (n : ℕ). IsFrom d.negative n (value v.at (base b) 2) (d.k * size)) (sym left)
+          (subst (λ (n : ℕ). IsFrom d.negative (offset_of (place_of p place a.bytes x)) n (d.k * size)) (sym right) d.is)
+
+      dif : Differs v (base t) (signed_number d.negative d.k) v1
+      dif = y.pointers.elements d.negative e (home a) (home b) (home t) (base a) (base b) (base t) size d.k v
+          (stands a ia two_a) (clear a ia two_a)
+          (stands b ib two_b) (clear b ib two_b) (stands t it two_t) (clear t it two_t) h.bytes some is_from
+
+      whole : value v1.at (base t) t.bytes ≡ low_bytes t.bytes k
+      whole = subst (λ (n : ℕ). value v1.at (base t) n ≡ low_bytes n k) (sym two) (dif.number_is ∙ sym d.number)
+
+      low : value v1.at (base t) (wanted need t) ≡ low_bytes t.bytes k % 256 ^ wanted need t
+      low = less_value v1.at (base t) t.bytes (wanted need t) (low_bytes t.bytes k) (wanted_most need t)
+          (held_row v1 (base t) t.bytes (y.layout.temps_at t it).clear dif.numbers)
+          (whole ∙ sym (kept_below (low_bytes t.bytes k) (256 ^ t.bytes) (low_below t.bytes k)))
+
+      frame : Wide v v1 (base t) t.bytes
+      frame i r0 r1 low_off high_off o =
+          dif.same i r0 r1 (λ u. let w = low_off u in omega arith)
+          (λ u. let w = high_off (omega arith) in omega arith) (narrower (base t) t.bytes 2 i two_t o)
+
+  -- ---- conversions
+
+  -- the code brings a pointer of as many bytes or more to its place
+  pub moved_matches : (t a : Temp) (c : ℕ) (x : PointerValue) (need need0 : Need) (m : Mach) (v : View) → HasHome slots t → HasHome slots a
+      → t.bytes ≤ a.bytes → IsPointerSize a.bytes → IsPointerSize t.bytes → IsAddressed p t.bytes x
+      → value v.at (base a) (wanted need t) ≡ number_of (place_of p place a.bytes x) % 256 ^ wanted need t
+      → ((u : ℕ) → u ≢ t.at → need u ≤ need0 u) → Shown need0 m v
+      → Shown need (machine (with_content t (content_of t.bytes (Pointer x)) m.temps) (worked c m.state))
+      (block e (move_code (home a) (home t) (wanted need t)) v)
+  moved_matches t a c x need need0 m v it ia less size_a size_t i number more h =
+      written_wide p e slots home base place y t (content_of t.bytes (Pointer x)) need need0 m (worked c m.state) v v1 it h more frame
+      (holds_pointer v1.at (base t) w t.bytes x i (row_value v1.at v.at (base a) (base t) w mv.there ∙ number ∙ same_number))
+      numbers refl (mv.seen ∙ h.seen) (kept_left y.inputs m.state v v1 mv.inputs h.left) (mv.safe ∙ h.safe)
+    where
+      w : ℕ
+      w = wanted need t
+
+      most : w ≤ t.bytes
+      most = wanted_most need t
+
+      v1 : View
+      v1 = block e (move_code (home a) (home t) w) v
+
+      mv : Brings v v1 (base a) (base t) w
+      mv = brings e (home a) (home t) w (base a) (base t) v (stands_less e (home a) a.bytes w (base a) Own
+          (omega (arith, most, less)) (y.layout.temps_at a ia))
+          (stands_less e (home t) t.bytes w (base t) Own most (y.layout.temps_at t it))
+          (read_first p e slots home base place y t a w it ia (omega (arith, most, less)))
+
+      same_number : number_of (place_of p place a.bytes x) % 256 ^ w ≡ number_of (place_of p place t.bytes x) % 256 ^ w
+      same_number =
+          ⊎_elim
+          (λ (r : t.bytes ≡ 2). low_numbers p place have a.bytes t.bytes w x (omega (arith, most, r)))
+          (λ (r : t.bytes ≡ 3).
+          let s : a.bytes ≡ t.bytes = ⊎_elim (λ (u : a.bytes ≡ 2). absurd (omega (arith, u, r, less)))
+          (λ (u : a.bytes ≡ 3). u ∙ sym r) size_a in
+          ap (λ (n : ℕ). number_of (place_of p place n x) % 256 ^ w) s)
+          size_t
+
+      narrow : Frame v v1 (base t) w
+      narrow k r0 r1 r30 o = mv.same k r0 o
+
+      numbers : HoldsNumbers v1
+      numbers = numbers_kept v v1 (base t) w h.bytes narrow
+          (λ j l. subst (λ (n : ℕ). n < 256) (sym (mv.there j l))
+          (held_row v (base a) a.bytes (y.layout.temps_at a ia).clear h.bytes j (omega (arith, l, most, less))))
+          (subst (λ (n : ℕ). n < 256) (sym (mv.same 30 (omega arith)
+          (thirty (base t) t.bytes w most (y.layout.temps_work t it)))) (h.bytes 30 (omega arith)))
+        where
+          thirty : (d n j : ℕ) → j ≤ n → IsClear d n → Outside d j 30
+          thirty d n j l z = (leaves_z d n j l z).low
+
+      frame : Wide v v1 (base t) t.bytes
+      frame k r0 r1 low_off high_off o = mv.same k r0 (narrower (base t) t.bytes w k most o)
+
+  -- the code gives a pointer of two bytes its third one
+  pub embedded_matches : (space : SpaceId) (const : Bool) (to : PlainType) (t a : Temp) (c : ℕ) (x : PointerValue)
+      (need need0 : Need) (m : Mach) (v : View)
+      → HasHome slots t → HasHome slots a → a.bytes ≡ 2 → t.bytes ≡ 3 → width space ≡ 2 → IsAddressed p a.bytes x → IsAddressed p t.bytes x
+      → IsIntoSpace p space x → value v.at (base a) a.bytes ≡ number_of (place_of p place a.bytes x)
+      → ((u : ℕ) → u ≢ t.at → need u ≤ need0 u) → Shown need0 m v
+      → Shown need (machine (with_content t (content_of t.bytes (Pointer x)) m.temps) (worked c m.state))
+      (block e (embed_code (is_into_data (pointer space const to)) (home a) (home t)) v)
+  embedded_matches space const to t a c x need need0 m v it ia two three narrow i j into number more h =
+      written_wide p e slots home base place y t (content_of t.bytes (Pointer x)) need need0 m (worked c m.state) v v1 it h more frame
+      (holds_pointer v1.at (base t) (wanted need t) t.bytes x j low) put.numbers refl (put.seen ∙ h.seen)
+      (kept_left y.inputs m.state v v1 put.inputs h.left) (put.safe ∙ h.safe)
+    where
+      data_too : Bool
+      data_too = is_into_data (pointer space const to)
+
+      v1 : View
+      v1 = block e (embed_code data_too (home a) (home t)) v
+
+      put : HasPut v (base t) 3 (embedded data_too (value v.at (base a) 2)) v1
+      put = y.pointers.embedded data_too e (home a) (home t) (base a) (base t) v
+          (subst (λ (n : ℕ). StandsFrom e (home a) n (base a) Own) two (y.layout.temps_at a ia))
+          (leaves_z (base a) a.bytes 2 (omega (arith, two)) (y.layout.temps_work a ia))
+          (subst (λ (n : ℕ). StandsFrom e (home t) n (base t) Own) three (y.layout.temps_at t it))
+          (leaves_z (base t) t.bytes 3 (omega (arith, three)) (y.layout.temps_work t it)) h.bytes
+
+      before : value v.at (base a) 2 ≡ number_of (place_of p place 2 x)
+      before = subst (λ (n : ℕ). value v.at (base a) n ≡ number_of (place_of p place n x)) two number
+
+      behind : value v1.at (base t) t.bytes ≡ number_of (place_of p place t.bytes x)
+      behind = subst (λ (n : ℕ). value v1.at (base t) n ≡ number_of (place_of p place n x)) (sym three)
+          (put.number_is ∙ ap (embedded data_too) before ∙ embedded_is p place have space const to x narrow
+          (subst (λ (n : ℕ). IsAddressed p n x) two i) into)
+
+      low : value v1.at (base t) (wanted need t) ≡ number_of (place_of p place t.bytes x) % 256 ^ wanted need t
+      low = less_value v1.at (base t) t.bytes (wanted need t) (number_of (place_of p place t.bytes x))
+          (wanted_most need t) (held_row v1 (base t) t.bytes (y.layout.temps_at t it).clear put.numbers)
+          (behind ∙ sym (kept_below (number_of (place_of p place t.bytes x)) (256 ^ t.bytes)
+          (number_below p place have t.bytes x (inr three) j)))
+
+      frame : Wide v v1 (base t) t.bytes
+      frame k r0 r1 low_off high_off o =
+          put.same k r0 r1 (λ u. let w = high_off (omega arith) in omega arith) (subst (λ (n : ℕ). Outside (base t) n k) three o)
+
+-- ---- operations
+
+-- where some bytes are wanted, all are
+all_when : (bytes k : ℕ) → (k == 0) ≡ false → all_or_none bytes k ≡ bytes
+all_when bytes zero q = absurd cc
+all_when bytes (suc k) q = refl
+
+-- no less than are wanted
+all_or_more : (bytes k : ℕ) → k ≤ bytes → k ≤ all_or_none bytes k
+all_or_more bytes zero l = omega arith
+all_or_more bytes (suc k) l = l
+
+width_size : (space : SpaceId) → IsPointerSize (width space)
+width_size Flash = inl refl
+width_size Data = inl refl
+width_size Generic = inr refl
+
+pointer_size : (bytes : ℕ) (space : SpaceId) → bytes ≡ width space → IsPointerSize bytes
+pointer_size bytes space q = subst IsPointerSize (sym q) (width_size space)
+
+-- an operator of pointers tells the next operation nothing
+none_told : (f : Family) (s x : Bool) → (if x then told_by true f s else None) ≡ None
+none_told f s true = refl
+none_told f s false = refl
+
+binary_room : (op : BinOp) (ty aty bty : PlainType) → 640 ≤ 64 * binary_words op ty aty bty
+binary_room op ty aty bty = by_kind (is_bitwise op && is_integer ty)
+  where
+    by_kind : (x : Bool) → 640 ≤ 64 * (if x then 10 * widest (ty ∷ aty ∷ bty ∷ []) else operation_words (widest (ty ∷ aty ∷ bty ∷ [])))
+    by_kind true = omega arith
+    by_kind false = omega arith
+
+conversion_room : (ty aty : PlainType) → 640 ≤ 64 * conversion_words ty aty
+conversion_room ty aty = by_kind (same_type ty aty || (is_integer ty && is_integer aty))
+  where
+    by_kind : (x : Bool) → 640 ≤ 64 * (if x then 10 * widest (ty ∷ aty ∷ []) else 100 + 40 * widest (ty ∷ aty ∷ []))
+    by_kind true = omega arith
+    by_kind false = omega arith
+
+tell_straight : (a t : Location) (n : ℕ) → all_straight (conversion_code false a t 1 n) ≡ true
+tell_straight a t n = straight-append (move_code a t (min n 1)) (extend_code false t 1 n)
+    (move_straight a t (min n 1)) ((values_are_straight t 0 1 n).2 false)
+
+tell_steps : (a t : Location) (n : ℕ) → code_steps (conversion_code false a t 1 n) ≤ 3 + 3 * n
+tell_steps a t n =
+    let x = move_steps a t (min n 1) in
+    let z = (values_take t 0 1 n).2 false in
+    omega (arith, steps-append (move_code a t (min n 1)) (extend_code false t 1 n), x, z)
+
+-- a pointer of other bytes
+resized : (p : PlainProgram) (bytes other : ℕ) (x : PointerValue) → IsPointerSize other → IsAddressed p bytes x → IsAddressed p other x
+resized p bytes other None s i = tt
+resized p bytes other (Some q) s i = record { pointed = i.pointed; size = s }
+
+-- what is no integer is no number of elements
+no_count : (op : BinOp) (count : PlainType) → (IsIntegerType count → ⊥) → HaveOffsetTypes op count → ⊥
+no_count Add count none h = none h
+no_count Sub count none h = none h
+no_count op count none h = h
+
+module _ (p : PlainProgram) (functions : List PlainIrFunction) (e : Env) (slots : ℕ) (home : Temp → Location)
+    (base : Temp → ℕ) (place : ℕ → ℕ) (y : Setting p e slots home base place) (at : ℕ → Need) (all : List PlainIr)
+    (end : ℕ) (results : ℕ → ℕ) (me : ℕ) (link : Linkage) (stack : List Call) where
+  abbrev M : Need → Mach → View → Type 0
+  M need m v = Matches p e y.inputs slots base place y.aside y.was need m v
+
+  abbrev G : (n w pc : ℕ) → View → Outcome Value → Type 0
+  G n w pc v o = Follows p place e n w pc v o
+
+  abbrev items : List PlainIr → List AsmItem
+  items code = ops_code p home link at None code
+
+  -- the code of an operation that has been told nothing, and tells nothing
+  abbrev code_of : PlainIr → List PlainIr → List AsmItem
+  code_of i rest = op_code p home link None None (needs at rest) i
+
+  abbrev R : ℕ → List PlainIr → Mach → Outcome Value
+  R n rest m = exec_from functions p y.inputs n all stack rest m
+
+  abbrev Rest : ℕ → List PlainIr → Type 0
+  Rest n rest = (pc : ℕ) (m : Mach) (v : View) → HasAt e (items rest) pc end → M (needs at rest) m v
+      → G n m.state.work pc v (R n rest m)
+
+  -- the machine of a result
+  abbrev resulted : Temp → Content → ℕ → Mach → Mach
+  resulted t content c m = machine (with_content t content m.temps) (worked c m.state)
+
+  -- what a temporary of so many bytes can hold
+  abbrev IsContent : ℕ → Content → Type 0
+  IsContent bytes (bits low) = low < 256 ^ bytes
+  IsContent bytes (points q) = IsPointerIn p bytes q
+
+  none_holds : (f : ℕ → ℕ) (a bytes : ℕ) (content : Content) → IsContent bytes content → HoldsContent p place f a 0 bytes content
+  none_holds f a bytes (bits low) i = (omega arith, i)
+  none_holds f a bytes (points q) i = (omega arith, i)
+
+  pointer_content : (bytes : ℕ) (x : PointerValue) → IsAddressed p bytes x → IsContent bytes (content_of bytes (Pointer x))
+  pointer_content bytes None i = pow_pos bytes
+  pointer_content bytes (Some q) i = i
+
+  -- straight code that leaves the result, and what comes after it
+  straight_passes : (i : PlainIr) (code : List AsmItem) (t : Temp) (content : Content) (rest : List PlainIr)
+      (n pc : ℕ) (m : Mach) (v : View)
+      → code_of i rest ≡ code → all_straight code ≡ true → code_steps code ≤ 640 → 640 ≤ op_steps i
+      → HasAt e (code_of i rest ++ items rest) pc end
+      → M (needs at rest) (resulted t content (op_steps i) m) (block e code v) → Rest (suc n) rest
+      → G (suc n) m.state.work pc v (R (suc n) rest (resulted t content (op_steps i) m))
+  straight_passes i code t content rest n pc m v is straight few room stands matches f =
+      let m1 = resulted t content (op_steps i) m in
+      let steps : code_steps (code_of i rest) ≡ code_steps code = ap code_steps is in
+      passes p functions e slots home base place y at all end results me link stack i rest (suc n) (suc n)
+      m.state.work m1.state.work pc v (R (suc n) rest m1) stands
+      (ap all_straight is ∙ straight) (omega arith) (omega (arith, steps, few, room))
+      (λ mid u. f mid m1 _ u (subst (λ (w : List AsmItem). M (needs at rest) m1 (block e w v)) (sym is) matches))
+
+  -- no code where no byte of the result is needed
+  nothing_passes : (i : PlainIr) (t : Temp) (content : Content) (rest : List PlainIr) (n pc : ℕ) (need0 : Need) (m : Mach) (v : View)
+      → HasHome slots t → code_of i rest ≡ [] → (wanted (needs at rest) t == 0) ≡ true → IsContent t.bytes content
+      → HasAt e (code_of i rest ++ items rest) pc end → ((u : ℕ) → u ≢ t.at → needs at rest u ≤ need0 u) → M need0 m v
+      → 640 ≤ op_steps i → Rest (suc n) rest → G (suc n) m.state.work pc v (R (suc n) rest (resulted t content (op_steps i) m))
+  nothing_passes i t content rest n pc need0 m v it empty none fits stands more h room f =
+      let zero_wanted : wanted (needs at rest) t ≡ 0 = eqb-true (wanted (needs at rest) t) 0 none in
+      let here = subst (λ (k : ℕ). HoldsContent p place v.at (base t) k t.bytes content) (sym zero_wanted)
+      (none_holds v.at (base t) t.bytes content fits) in
+      straight_passes i [] t content rest n pc m v empty refl (omega arith) room stands
+      (written_wide p e slots home base place y t content (needs at rest) need0 m (worked (op_steps i) m.state) v v
+      it h more (λ k a b c d o. refl) here h.bytes refl h.seen h.left h.safe) f
+
+  -- what is needed before an operator
+  abbrev operands_needed : (t a b : Temp) → ℕ → Need → Need
+  operands_needed t a b w need = at_least a.at (all_or_none a.bytes w) (at_least b.at (all_or_none b.bytes w) (without t.at need))
+
+  other_needed : (t a b : Temp) (w : ℕ) (need : Need) (u : ℕ) → u ≢ t.at → need u ≤ operands_needed t a b w need u
+  other_needed t a b w need u d =
+      let i = without_other t.at u need d in
+      let j = least_other b.at (all_or_none b.bytes w) u (without t.at need) in
+      let k = least_other a.at (all_or_none a.bytes w) u (at_least b.at (all_or_none b.bytes w) (without t.at need)) in
+      omega arith
+
+  first_there : (t a b : Temp) (w : ℕ) (need : Need) → (w == 0) ≡ false → a.bytes ≤ wanted (operands_needed t a b w need) a
+  first_there t a b w need some =
+      let all_bytes = all_when a.bytes w some in
+      let l = least_here a.at (all_or_none a.bytes w) (at_least b.at (all_or_none b.bytes w) (without t.at need)) in
+      omega (arith, all_bytes, l)
+
+  second_there : (t a b : Temp) (w : ℕ) (need : Need) → (w == 0) ≡ false → b.bytes ≤ wanted (operands_needed t a b w need) b
+  second_there t a b w need some =
+      let all_bytes = all_when b.bytes w some in
+      let l = least_here b.at (all_or_none b.bytes w) (without t.at need) in
+      let k = least_other a.at (all_or_none a.bytes w) b.at (at_least b.at (all_or_none b.bytes w) (without t.at need)) in
+      omega (arith, all_bytes, l, k)
+
+  -- a pointer that a temporary holds
+  abbrev HoldsPointer : Mach → Temp → PointerValue → Type 0
+  HoldsPointer m a x = m.temps a.at ≡ Some (record { bytes = a.bytes; content = content_of a.bytes (Pointer x) })
+
+  addressed : (need : Need) (m : Mach) (v : View) (a : Temp) (x : PointerValue) → M need m v → HasHome slots a → HoldsPointer m a x
+      → IsAddressed p a.bytes x
+  addressed need m v a x h ia q = (pointer_low p e slots home base place y need m v a x 0 h ia q (omega arith)).1
+
+  -- all its bytes
+  whole_number : (need : Need) (m : Mach) (v : View) (a : Temp) (x : PointerValue) → M need m v → HasHome slots a → HoldsPointer m a x
+      → IsPointerSize a.bytes → a.bytes ≤ wanted need a → value v.at (base a) a.bytes ≡ number_of (place_of p place a.bytes x)
+  whole_number need m v a x h ia q s l =
+      let g = pointer_low p e slots home base place y need m v a x a.bytes h ia q l in
+      g.0 ∙ kept_below (number_of (place_of p place a.bytes x)) (256 ^ a.bytes)
+      (number_below p place (have p e slots home base place y) a.bytes x s g.1)
+
+  -- its address
+  low_number : (need : Need) (m : Mach) (v : View) (a : Temp) (x : PointerValue) → M need m v → HasHome slots a → HoldsPointer m a x
+      → 2 ≤ a.bytes → a.bytes ≤ wanted need a → value v.at (base a) 2 ≡ offset_of (place_of p place a.bytes x)
+  low_number need m v a x h ia q two l =
+      let g = pointer_low p e slots home base place y need m v a x 2 h ia q (omega (arith, two, l)) in
+      g.0 ∙ low_is_offset p place (have p e slots home base place y) a.bytes x g.1
+
+  -- how a result goes on
+  abbrev Onward : ℕ → List PlainIr → Temp → Mach → State → Result Value Undefined → Outcome Value
+  Onward n rest t m st r = next (given r st) (λ u s3. R (suc n) rest (machine (with_temp t u m.temps) s3))
+
+  -- ---- a pointer and a number of elements
+
+  offset_passes : (i : PlainIr) (minus signed : Bool) (t a b : Temp) (size low : ℕ) (x : PointerValue) (rest : List PlainIr) (n pc : ℕ)
+      (need0 : Need) (m : Mach) (v : View) → HasHome slots t → HasHome slots a → HasHome slots b → t.bytes ≡ a.bytes
+      → IsPointerSize a.bytes → IsIntegerSize b.bytes
+      → code_of i rest ≡ offset_code minus signed (home a) (home b) (home t) a.bytes b.bytes size (wanted (needs at rest) t)
+      → 640 ≤ op_steps i → HoldsPointer m a x → m.temps b.at ≡ Some (record { bytes = b.bytes; content = bits low })
+      → ((wanted (needs at rest) t == 0) ≡ false → (a.bytes ≤ wanted need0 a) × (b.bytes ≤ wanted need0 b))
+      → HasAt e (code_of i rest ++ items rest) pc end → ((u : ℕ) → u ≢ t.at → needs at rest u ≤ need0 u) → M need0 m v → Rest (suc n) rest
+      → G (suc n) m.state.work pc v (Onward n rest t m (worked (op_steps i) m.state)
+      (as_pointer (sum_of_pointer x (referent_of p x (worked (op_steps i) m.state))
+      (moved_elements minus (number_of_bytes signed b.bytes low)) size)))
+  offset_passes i minus signed t a b size low x rest n pc need0 m v it ia ib same sa sb code_is room qa qb there stands more h f =
+      by_pointer x qa (sum_of_pointer x (referent_of p x st) elements size) refl
+    where
+      st : State
+      st = worked (op_steps i) m.state
+
+      w : ℕ
+      w = wanted (needs at rest) t
+
+      elements : ℤ
+      elements = moved_elements minus (number_of_bytes signed b.bytes low)
+
+      scale : List AsmItem
+      scale = scale_index_code (home b) signed b.bytes (size % 65536)
+
+      code : List AsmItem
+      code = scale ++ (move_code (home a) (home t) a.bytes ++ advance_code minus (home t))
+
+      by_pointer : (x : PointerValue) → HoldsPointer m a x → (r : Result PointerValue Undefined)
+          → sum_of_pointer x (referent_of p x st) elements size ≡ r
+          → G (suc n) m.state.work pc v (Onward n rest t m st (as_pointer r))
+      by_pointer x q (Err point) u = tt
+      by_pointer None q (Ok z) u = absurd cc
+      by_pointer (Some o) q (Ok z) u = by_need (w == 0) refl
+        where
+          into : IsPointerIn p a.bytes o
+          into = addressed need0 m v a (Some o) h ia q
+
+          moves : IsMoved p o (elements *ℤ pos size) z
+          moves = moved_is p o st (elements *ℤ pos size) z into.pointed u
+
+          fits : IsContent t.bytes (content_of t.bytes (Pointer z))
+          fits = subst (λ (k : PointerValue). IsContent t.bytes (content_of t.bytes (Pointer k))) (sym moves.is)
+              (record { pointed = moves.pointed; size = subst IsPointerSize (sym same) sa })
+
+          by_need : (k : Bool) → (w == 0) ≡ k → G (suc n) m.state.work pc v
+              (R (suc n) rest (resulted t (content_of t.bytes (Pointer z)) (op_steps i) m))
+          by_need true k =
+              nothing_passes i t (content_of t.bytes (Pointer z)) rest n pc need0 m v it
+              (code_is ∙ ap (λ j. if j then [] else code) k) k fits stands more h room f
+          by_need false k =
+              let l = there k in
+              let number = whole_number need0 m v a (Some o) h ia q sa l.0 in
+              let g = at_width p e slots home base place y need0 m v b _ b.bytes h ib qb refl l.1 in
+              let index : value v.at (base b) b.bytes ≡ low = g.0 ∙ kept_below low (256 ^ b.bytes) g.1 in
+              let short = y.pointers.steps_short (home b) (home t) signed minus b.bytes (size % 65536) in
+              let behind = straight-append (move_code (home a) (home t) a.bytes) (advance_code minus (home t))
+              (move_straight (home a) (home t) a.bytes) short.1.straight in
+              let steps = steps-append scale (move_code (home a) (home t) a.bytes ++ advance_code minus (home t)) in
+              let steps1 = steps-append (move_code (home a) (home t) a.bytes) (advance_code minus (home t)) in
+              let steps2 = move_steps (home a) (home t) a.bytes in
+              let most_scale = short.0.at_most in
+              let most_advance = short.1.at_most in
+              let most = ia.most in
+              straight_passes i code t (content_of t.bytes (Pointer z)) rest n pc m v (code_is ∙ ap (λ j. if j then [] else code) k)
+              (straight-append scale (move_code (home a) (home t) a.bytes ++ advance_code minus (home t)) short.0.straight behind)
+              (omega (arith, steps, steps1, steps2, most_scale, most_advance, most)) room stands
+              (offset_matches p e slots home base place y minus signed t a b size (op_steps i) low
+              (number_of_bytes signed b.bytes low) o z (needs at rest) need0 m v
+              it ia ib same into number index (index_is signed b.bytes low sb g.1) moves more h) f
+
+  offset_is : (op : BinOp) (count : PlainType) → HaveOffsetTypes op count → (a : Operand) (x : PointerValue) (k : ℤ)
+      → offset_result op a x k ≡ as_pointer (sum_of_pointer x a.of (moved_elements (is_difference op) k) a.element)
+  offset_is Add count h a x k = refl
+  offset_is Sub count h a x k = refl
+  offset_is op count h a x k = absurd h
+
+  pointer_first : (op : BinOp) (ty : PlainType) (mode : Mode) (t a : Temp) (space : SpaceId) (const : Bool)
+      (to : PlainType) (b : Temp) (signed : Bool) (bytes : ℕ)
+      (rest : List PlainIr) (n pc : ℕ) (m : Mach) (v : View)
+      → IsPointerBinary p slots op t a b ty (pointer space const to) (integer signed bytes)
+      → HasAt e (code_of (binary_op op ty mode t a (pointer space const to) b (integer signed bytes)) rest ++ items rest) pc end
+      → M (operands_needed t a b (wanted (needs at rest) t) (needs at rest)) m v
+      → Rest (suc n) rest → G (suc n) m.state.work pc v (R (suc n)
+      (binary_op op ty mode t a (pointer space const to) b (integer signed bytes) ∷ rest) m)
+  pointer_first op ty mode t a space const to b signed bytes rest n pc m v k stands h f =
+      from_pointer p place e space const to a m.temps st _ (suc n) m.state.work pc v
+      (λ x qa into. from_numeric p place e (integer signed bytes) b m.temps st _ (suc n) m.state.work pc v tt (sym k.right_bytes)
+      (λ low qb.
+      subst (λ r. G (suc n) m.state.work pc v (Onward n rest t m st r))
+      (sym (offset_is op (integer signed bytes) k.types.0 (operand_of p (pointer space const to) (Pointer x) st)
+      x (number_of_bytes signed b.bytes low)))
+      (offset_passes i (is_difference op) signed t a b (size_of_type p.structs to) low x rest n pc
+      (operands_needed t a b w (needs at rest)) m v k.result k.left k.right
+      same (pointer_size a.bytes space k.left_bytes) (subst IsIntegerSize (sym k.right_bytes) k.right_known) refl
+      (binary_room op ty (pointer space const to) (integer signed bytes)) qa qb
+      (λ some. (first_there t a b w (needs at rest) some, second_there t a b w (needs at rest) some)) stands
+      (other_needed t a b w (needs at rest)) h f)))
+    where
+      i : PlainIr
+      i = binary_op op ty mode t a (pointer space const to) b (integer signed bytes)
+
+      st : State
+      st = worked (op_steps i) m.state
+
+      w : ℕ
+      w = wanted (needs at rest) t
+
+      same : t.bytes ≡ a.bytes
+      same = k.result_bytes ∙ ap scalar_size k.types.1 ∙ sym k.left_bytes
+
+  pointer_second : (ty : PlainType) (mode : Mode) (t a : Temp) (signed : Bool) (bytes : ℕ) (b : Temp)
+      (space : SpaceId) (const : Bool) (to : PlainType)
+      (rest : List PlainIr) (n pc : ℕ) (m : Mach) (v : View)
+      → IsPointerBinary p slots Add t a b ty (integer signed bytes) (pointer space const to)
+      → HasAt e (code_of (binary_op Add ty mode t a (integer signed bytes) b (pointer space const to)) rest ++ items rest) pc end
+      → M (operands_needed t a b (wanted (needs at rest) t) (needs at rest)) m v
+      → Rest (suc n) rest → G (suc n) m.state.work pc v (R (suc n)
+      (binary_op Add ty mode t a (integer signed bytes) b (pointer space const to) ∷ rest) m)
+  pointer_second ty mode t a signed bytes b space const to rest n pc m v k stands h f =
+      from_numeric p place e (integer signed bytes) a m.temps st _ (suc n) m.state.work pc v tt (sym k.left_bytes)
+      (λ low qa. from_pointer p place e space const to b m.temps st _ (suc n) m.state.work pc v
+      (λ x qb into.
+      offset_passes i false signed t b a (size_of_type p.structs to) low x rest n pc
+      (operands_needed t a b w (needs at rest)) m v k.result k.right k.left
+      same (pointer_size b.bytes space k.right_bytes) (subst IsIntegerSize (sym k.left_bytes) k.left_known) refl
+      (binary_room Add ty (integer signed bytes) (pointer space const to)) qb qa
+      (λ some. (second_there t a b w (needs at rest) some, first_there t a b w (needs at rest) some)) stands
+      (other_needed t a b w (needs at rest)) h f))
+    where
+      i : PlainIr
+      i = binary_op Add ty mode t a (integer signed bytes) b (pointer space const to)
+
+      st : State
+      st = worked (op_steps i) m.state
+
+      w : ℕ
+      w = wanted (needs at rest) t
+
+      same : t.bytes ≡ b.bytes
+      same = k.result_bytes ∙ ap scalar_size k.types.2 ∙ sym k.right_bytes
+
+  -- ---- two pointers
+
+  difference_follows : (ty : PlainType) (mode : Mode) (t a : Temp) (space : SpaceId) (const : Bool) (to : PlainType)
+      (b : Temp) (space2 : SpaceId) (const2 : Bool) (to2 : PlainType)
+      (rest : List PlainIr) (n pc : ℕ) (m : Mach) (v : View)
+      → IsPointerBinary p slots Sub t a b ty (pointer space const to) (pointer space2 const2 to2)
+      → HasAt e (code_of (binary_op Sub ty mode t a (pointer space const to) b (pointer space2 const2 to2)) rest ++ items rest) pc end
+      → M (operands_needed t a b (wanted (needs at rest) t) (needs at rest)) m v
+      → Rest (suc n) rest → G (suc n) m.state.work pc v (R (suc n)
+      (binary_op Sub ty mode t a (pointer space const to) b (pointer space2 const2 to2) ∷ rest) m)
+  difference_follows ty mode t a space const to b space2 const2 to2 rest n pc m v k stands h f =
+      from_pointer p place e space const to a m.temps st _ (suc n) m.state.work pc v
+      (λ x qa into. from_pointer p place e space2 const2 to2 b m.temps st _ (suc n) m.state.work pc v
+      (λ z qb also. by_result x z qa qb (difference_of_pointers size x (referent_of p x st) z (referent_of p z st)) refl))
+    where
+      i : PlainIr
+      i = binary_op Sub ty mode t a (pointer space const to) b (pointer space2 const2 to2)
+
+      st : State
+      st = worked (op_steps i) m.state
+
+      w : ℕ
+      w = wanted (needs at rest) t
+
+      need0 : Need
+      need0 = operands_needed t a b w (needs at rest)
+
+      size : ℕ
+      size = size_of_type p.structs to
+
+      same : b.bytes ≡ a.bytes
+      same = k.right_bytes ∙ ap width (sym k.types.0) ∙ sym k.left_bytes
+
+      size_a : IsPointerSize a.bytes
+      size_a = pointer_size a.bytes space k.left_bytes
+
+      two_a : 2 ≤ a.bytes
+      two_a = ⊎_elim (λ (r : a.bytes ≡ 2). omega arith) (λ (r : a.bytes ≡ 3). omega arith) size_a
+
+      two_b : 2 ≤ b.bytes
+      two_b = omega (arith, same, two_a)
+
+      room : 640 ≤ op_steps i
+      room = binary_room Sub ty (pointer space const to) (pointer space2 const2 to2)
+
+      by_result : (x z : PointerValue) → HoldsPointer m a x → HoldsPointer m b z → (r : Result ℤ Undefined)
+          → difference_of_pointers size x (referent_of p x st) z (referent_of p z st) ≡ r
+          → G (suc n) m.state.work pc v (Onward n rest t m st (as_number r))
+      by_result x z qa qb (Err point) u = tt
+      by_result x z qa qb (Ok number) u = by_need (w == 0) refl
+        where
+          content : Content
+          content = bits (low_bytes t.bytes number)
+
+          by_need : (j : Bool) → (w == 0) ≡ j → G (suc n) m.state.work pc v (R (suc n) rest (resulted t content (op_steps i) m))
+          by_need true j =
+              nothing_passes i t content rest n pc need0 m v k.result
+              (ap (λ d. if d then [] else elements_code (home a) (home b) (home t) size) j) j
+              (low_below t.bytes number) stands
+              (other_needed t a b w (needs at rest)) h room f
+          by_need false j =
+              let ia = addressed need0 m v a x h k.left qa in
+              let ib = addressed need0 m v b z h k.right qb in
+              let far = difference_is p place (have p e slots home base place y) a.bytes size x z
+              (referent_of p x st) (referent_of p z st) number k.left_known.1 ia
+              (subst (λ (d : ℕ). IsAddressed p d z) same ib) u in
+              let far1 = subst (λ (d : ℕ). Distance size (offset_of (place_of p place a.bytes x))
+              (offset_of (place_of p place d z)) number) (sym same) far in
+              let left = low_number need0 m v a x h k.left qa two_a (first_there t a b w (needs at rest) j) in
+              let right = low_number need0 m v b z h k.right qb two_b (second_there t a b w (needs at rest) j) in
+              let short = y.pointers.elements_short (home a) (home b) (home t) size in
+              let most = short.at_most in
+              straight_passes i (elements_code (home a) (home b) (home t) size) t content rest n pc m v
+              (ap (λ d. if d then [] else elements_code (home a) (home b) (home t) size) j)
+              short.straight (omega (arith, most)) room stands
+              (difference_matches p e slots home base place y t a b size (op_steps i) x z number (needs at rest)
+              need0 m v k.result k.left k.right (k.result_bytes ∙ ap scalar_size k.types.2)
+              two_a two_b k.left_known.1 left right far1 (other_needed t a b w (needs at rest)) h) f
+
+  -- the code of a relation of two pointers, and what comes after it
+  related_passes : (r : Relation) (t l u : Temp) (bytes c : ℕ) (X Z : Place) (rest : List PlainIr) (n pc : ℕ)
+      (need0 : Need) (m : Mach) (v : View)
+      → HasHome slots t → HasHome slots l → HasHome slots u → l.bytes ≡ bytes → u.bytes ≡ bytes
+      → IsPointerSize bytes → IsPlace X → IsPlace Z
+      → value v.at (base l) bytes ≡ number_of X → value v.at (base u) bytes ≡ number_of Z → 640 ≤ c
+      → HasAt e ((order_code r (home l) (home u) bytes ++ conversion_code false (InRegisters 30) (home t) 1
+      (wanted (needs at rest) t)) ++ items rest) pc end
+      → ((k : ℕ) → k ≢ t.at → needs at rest k ≤ need0 k) → M need0 m v → Rest (suc n) rest
+      → G (suc n) m.state.work pc v (R (suc n) rest (resulted t (bits (low_bytes t.bytes (pos (from_bool (places_stand r X Z))))) c m))
+  related_passes r t l u bytes c X Z rest n pc need0 m v it il iu ql qu size place_x place_z xl zu room stands more h f =
+      let k = wanted (needs at rest) t in
+      let relation = order_code r (home l) (home u) bytes in
+      let conversion = conversion_code false (InRegisters 30) (home t) 1 k in
+      let s1 = has_parts e (relation ++ conversion) (items rest) pc end stands in
+      let s2 = has_parts e relation conversion pc s1.0 s1.1 in
+      let two : 2 ≤ bytes = ⊎_elim (λ (q : bytes ≡ 2). omega arith) (λ (q : bytes ≡ 3). omega arith) size in
+      let few : bytes ≤ 3 = ⊎_elim (λ (q : bytes ≡ 2). omega arith) (λ (q : bytes ≡ 3). omega arith) size in
+      let left : StandsFrom e (home l) bytes (base l) Own = subst (λ (j : ℕ). StandsFrom e (home l) j (base l) Own)
+      ql (y.layout.temps_at l il) in
+      let right : StandsFrom e (home u) bytes (base u) Own =
+      subst (λ (j : ℕ). StandsFrom e (home u) j (base u) Own) qu (y.layout.temps_at u iu) in
+      let told = y.pointers.compared r e (home l) (home u) bytes (base l) (base u) pc s2.0 X Z v two left right
+      h.bytes place_x place_z xl zu s2.1 in
+      let m1 = resulted t (bits (low_bytes t.bytes (pos (from_bool (places_stand r X Z))))) c m in
+      let second = block_goes e conversion s2.0 s1.0 told.last (tell_straight (InRegisters 30) (home t) k) s2.2 in
+      let take = tell_steps (InRegisters 30) (home t) k in
+      let take1 = told.at_most in
+      let most = wanted_most (needs at rest) t in
+      let eight = it.most in
+      let goes = goes_on_to e told.steps (code_steps conversion) pc s2.0 s1.0 v told.last (block e conversion told.last) told.goes second in
+      let matches = told_matches p e slots home base place y (places_stand r X Z) (3 + 3 * bytes) pc s2.0 t
+      (needs at rest) need0 m v c it told more h in
+      after p place e (told.steps + code_steps conversion) (suc n) (suc n) m.state.work m1.state.work pc s1.0 v
+      (block e conversion told.last) (R (suc n) rest m1) goes (omega arith)
+      (omega (arith, take, take1, most, eight, few, room)) (f s1.0 m1 (block e conversion told.last) s1.2 matches)
+
+  -- the places that a relation of an operator is of
+  abbrev first_of : {A : Type 0} → (exchanged : Bool) → A → A → A
+  first_of true x z = z
+  first_of false x z = x
+
+  comparison_follows : (op : BinOp) (r : Relation) (exchanged : Bool) → family_of op ≡ Compared r exchanged → is_comparison op ≡ true
+      → ((X Z : Place) → places_compare op X Z ≡ places_stand r (first_of exchanged X Z) (first_of exchanged Z X))
+      → (ty : PlainType) (mode : Mode) (t a : Temp) (space : SpaceId) (const : Bool) (to : PlainType) (b : Temp)
+      (space2 : SpaceId) (const2 : Bool) (to2 : PlainType)
+      (rest : List PlainIr) (n pc : ℕ) (m : Mach) (v : View) → space ≡ space2
+      → IsPointerBinary p slots op t a b ty (pointer space const to) (pointer space2 const2 to2)
+      → HasAt e (code_of (binary_op op ty mode t a (pointer space const to) b (pointer space2 const2 to2)) rest ++ items rest) pc end
+      → M (operands_needed t a b (wanted (needs at rest) t) (needs at rest)) m v
+      → Rest (suc n) rest → G (suc n) m.state.work pc v (R (suc n)
+      (binary_op op ty mode t a (pointer space const to) b (pointer space2 const2 to2) ∷ rest) m)
+  comparison_follows op r exchanged is compares relates ty mode t a space const to b space2 const2 to2 rest n pc m v
+      one_space k stands h f =
+      from_pointer p place e space const to a m.temps st _ (suc n) m.state.work pc v
+      (λ x qa into. from_pointer p place e space2 const2 to2 b m.temps st _ (suc n) m.state.work pc v
+      (λ z qb also.
+      subst (λ (d : Bool). G (suc n) m.state.work pc v (Onward n rest t m st
+      (as_number (if d then comparison_of_pointers op x (referent_of p x st) z (referent_of p z st) else
+      difference_of_pointers (size_of_type p.structs to) x (referent_of p x st) z (referent_of p z st)))))
+      (sym compares)
+      (by_result x z qa qb into (subst (λ (s : SpaceId). IsIntoSpace p s z) (sym one_space) also)
+      (comparison_of_pointers op x (referent_of p x st) z (referent_of p z st)) refl)))
+    where
+      i : PlainIr
+      i = binary_op op ty mode t a (pointer space const to) b (pointer space2 const2 to2)
+
+      st : State
+      st = worked (op_steps i) m.state
+
+      w : ℕ
+      w = wanted (needs at rest) t
+
+      need0 : Need
+      need0 = operands_needed t a b w (needs at rest)
+
+      same : b.bytes ≡ a.bytes
+      same = k.right_bytes ∙ ap width (sym one_space) ∙ sym k.left_bytes
+
+      size_a : IsPointerSize a.bytes
+      size_a = pointer_size a.bytes space k.left_bytes
+
+      room : 640 ≤ op_steps i
+      room = binary_room op ty (pointer space const to) (pointer space2 const2 to2)
+
+      code_is : code_of i rest ≡ pointers_code (Compared r exchanged) (home a) (home b) (home t) a.bytes (size_of_type p.structs to) w
+      code_is = ap (λ (d : Family). pointers_code d (home a) (home b) (home t) a.bytes (size_of_type p.structs to) w) is
+
+      by_result : (x z : PointerValue) → HoldsPointer m a x → HoldsPointer m b z → IsIntoSpace p space x
+          → IsIntoSpace p space z → (d : Result ℤ Undefined)
+          → comparison_of_pointers op x (referent_of p x st) z (referent_of p z st) ≡ d
+          → G (suc n) m.state.work pc v (Onward n rest t m st (as_number d))
+      by_result x z qa qb into also (Err point) u = tt
+      by_result x z qa qb into also (Ok number) u =
+          subst (λ (d : ℤ). G (suc n) m.state.work pc v (R (suc n) rest
+          (resulted t (bits (low_bytes t.bytes d)) (op_steps i) m))) (sym number_is) (by_need (w == 0) refl)
+        where
+          X : Place
+          X = place_of p place a.bytes x
+
+          Z : Place
+          Z = place_of p place a.bytes z
+
+          ix : IsAddressed p a.bytes x
+          ix = addressed need0 m v a x h k.left qa
+
+          iz : IsAddressed p a.bytes z
+          iz = subst (λ (d : ℕ). IsAddressed p d z) same (addressed need0 m v b z h k.right qb)
+
+          truth : Bool
+          truth = places_stand r (first_of exchanged X Z) (first_of exchanged Z X)
+
+          number_is : number ≡ pos (from_bool truth)
+          number_is =
+              subst (λ (d : ℕ). IsAddressed p d x → IsAddressed p d z
+              → number ≡ pos (from_bool (places_compare op (place_of p place d x) (place_of p place d z))))
+              (sym k.left_bytes)
+              (λ c d. comparison_is p place (have p e slots home base place y) op compares space x z st number c d into also u) ix iz
+              ∙ ap (λ (d : Bool). pos (from_bool d)) (relates X Z)
+
+          by_need : (j : Bool) → (w == 0) ≡ j → G (suc n) m.state.work pc v
+              (R (suc n) rest (resulted t (bits (low_bytes t.bytes (pos (from_bool truth)))) (op_steps i) m))
+          by_need true j =
+              nothing_passes i t (bits (low_bytes t.bytes (pos (from_bool truth)))) rest n pc need0 m v k.result
+              (code_is ∙ none exchanged) j (low_below t.bytes (pos (from_bool truth))) stands
+              (other_needed t a b w (needs at rest)) h room f
+            where
+              none : (d : Bool) → pointers_code (Compared r d) (home a) (home b) (home t) a.bytes (size_of_type p.structs to) w ≡ []
+              none false = rw j refl
+              none true = rw j refl
+          by_need false j = by_side exchanged code_is
+            where
+              left : value v.at (base a) a.bytes ≡ number_of X
+              left = whole_number need0 m v a x h k.left qa size_a (first_there t a b w (needs at rest) j)
+
+              right : value v.at (base b) a.bytes ≡ number_of Z
+              right = subst (λ (d : ℕ). value v.at (base b) d ≡ number_of (place_of p place d z)) same
+                  (whole_number need0 m v b z h k.right qb (subst IsPointerSize (sym same) size_a) (second_there t a b w (needs at rest) j))
+
+              place_x : IsPlace X
+              place_x = is_place p place (have p e slots home base place y) a.bytes x ix
+
+              place_z : IsPlace Z
+              place_z = is_place p place (have p e slots home base place y) a.bytes z iz
+
+              by_side : (d : Bool) → code_of i rest ≡ pointers_code (Compared r d) (home a) (home b) (home t)
+                  a.bytes (size_of_type p.structs to) w
+                  → G (suc n) m.state.work pc v (R (suc n) rest
+                  (resulted t (bits (low_bytes t.bytes (pos
+                  (from_bool (places_stand r (first_of d X Z) (first_of d Z X)))))) (op_steps i) m))
+              by_side false c =
+                  let code : code_of i rest ≡ order_code r (home a) (home b) a.bytes ++ conversion_code false
+                  (InRegisters 30) (home t) 1 w = c ∙ rw j refl in
+                  related_passes r t a b a.bytes (op_steps i) X Z rest n pc need0 m v k.result k.left k.right refl
+                  same size_a place_x place_z left right room
+                  (subst (λ (d : List AsmItem). HasAt e (d ++ items rest) pc end) code stands) (other_needed t a b w (needs at rest)) h f
+              by_side true c =
+                  let code : code_of i rest ≡ order_code r (home b) (home a) a.bytes ++ conversion_code false
+                  (InRegisters 30) (home t) 1 w = c ∙ rw j refl in
+                  related_passes r t b a a.bytes (op_steps i) Z X rest n pc need0 m v k.result k.right k.left same
+                  refl size_a place_z place_x right left room
+                  (subst (λ (d : List AsmItem). HasAt e (d ++ items rest) pc end) code stands) (other_needed t a b w (needs at rest)) h f
+
+  two_pointers : (op : BinOp) (ty : PlainType) (mode : Mode) (t a : Temp) (space : SpaceId) (const : Bool)
+      (to : PlainType) (b : Temp) (space2 : SpaceId) (const2 : Bool) (to2 : PlainType)
+      (rest : List PlainIr) (n pc : ℕ) (m : Mach) (v : View)
+      → IsPointerBinary p slots op t a b ty (pointer space const to) (pointer space2 const2 to2)
+      → HasAt e (code_of (binary_op op ty mode t a (pointer space const to) b (pointer space2 const2 to2)) rest ++ items rest) pc end
+      → M (operands_needed t a b (wanted (needs at rest) t) (needs at rest)) m v
+      → Rest (suc n) rest → G (suc n) m.state.work pc v (R (suc n)
+      (binary_op op ty mode t a (pointer space const to) b (pointer space2 const2 to2) ∷ rest) m)
+  two_pointers Sub ty mode t a space const to b space2 const2 to2 rest n pc m v k stands h f =
+      difference_follows ty mode t a space const to b space2 const2 to2 rest n pc m v k stands h f
+  two_pointers Lt ty mode t a space const to b space2 const2 to2 rest n pc m v k stands h f =
+      comparison_follows Lt IsBelow false refl refl (λ X Z. refl) ty mode t a space const to b space2 const2 to2
+      rest n pc m v k.types.0 k stands h f
+  two_pointers Gt ty mode t a space const to b space2 const2 to2 rest n pc m v k stands h f =
+      comparison_follows Gt IsBelow true refl refl (λ X Z. refl) ty mode t a space const to b space2 const2 to2 rest
+      n pc m v k.types.0 k stands h f
+  two_pointers Le ty mode t a space const to b space2 const2 to2 rest n pc m v k stands h f =
+      comparison_follows Le NotLess true refl refl (λ X Z. refl) ty mode t a space const to b space2 const2 to2 rest
+      n pc m v k.types.0 k stands h f
+  two_pointers Ge ty mode t a space const to b space2 const2 to2 rest n pc m v k stands h f =
+      comparison_follows Ge NotLess false refl refl (λ X Z. refl) ty mode t a space const to b space2 const2 to2
+      rest n pc m v k.types.0 k stands h f
+  two_pointers Eq ty mode t a space const to b space2 const2 to2 rest n pc m v k stands h f =
+      comparison_follows Eq IsSame false refl refl (λ X Z. refl) ty mode t a space const to b space2 const2 to2 rest
+      n pc m v k.types.0 k stands h f
+  two_pointers Ne ty mode t a space const to b space2 const2 to2 rest n pc m v k stands h f =
+      comparison_follows Ne NotEqual false refl refl (λ X Z. refl) ty mode t a space const to b space2 const2 to2
+      rest n pc m v k.types.0 k stands h f
+  two_pointers op ty mode t a space const to b space2 const2 to2 rest n pc m v k stands h f = absurd k.types
+
+  -- ---- all of them
+
+  -- what is shown of a binary operator
+  abbrev IsShown : (op : BinOp) (ty : PlainType) (mode : Mode) (t a : Temp) (aty : PlainType) (b : Temp) (bty : PlainType)
+      (rest : List PlainIr) (n pc : ℕ) (m : Mach) (v : View) → Type 0
+  IsShown op ty mode t a aty b bty rest n pc m v =
+      IsPointerBinary p slots op t a b ty aty bty
+      → HasAt e (items (binary_op op ty mode t a aty b bty ∷ rest)) pc end → M (needs at (binary_op op ty mode t a aty b bty ∷ rest)) m v
+      → Rest (suc n) rest → G (suc n) m.state.work pc v (R (suc n) (binary_op op ty mode t a aty b bty ∷ rest) m)
+
+  -- where an operand is a pointer, nothing is told
+  untold : (op : BinOp) (ty : PlainType) (mode : Mode) (t a : Temp) (aty : PlainType) (b : Temp) (bty : PlainType)
+      (rest : List PlainIr) (pc : ℕ)
+      → (is_whole aty || is_whole bty) ≡ true → HasAt e (items (binary_op op ty mode t a aty b bty ∷ rest)) pc end
+      → HasAt e (code_of (binary_op op ty mode t a aty b bty) rest ++ items rest) pc end
+  untold op ty mode t a aty b bty rest pc whole stands =
+      subst (λ (x : Option Told). HasAt e (op_code p home link None x (needs at rest)
+      (binary_op op ty mode t a aty b bty) ++ ops_code p home link at x rest) pc end)
+      (none (is_only_tested t (slice_get rest 0) (slice_index (wanted_bytes at rest) 0))) stands
+    where
+      none : (x : Bool) → (if x then told_by (is_whole aty || is_whole bty) (family_of op) (is_signed aty) else None) ≡ None
+      none true = ap (λ z. told_by z (family_of op) (is_signed aty)) whole
+      none false = refl
+
+  pub pointer_binary_follows : (op : BinOp) (ty : PlainType) (mode : Mode) (t a : Temp) (aty : PlainType) (b : Temp) (bty : PlainType)
+      (rest : List PlainIr) (n pc : ℕ) (m : Mach) (v : View) → IsPointerBinary p slots op t a b ty aty bty
+      → HasAt e (items (binary_op op ty mode t a aty b bty ∷ rest)) pc end → M (needs at (binary_op op ty mode t a aty b bty ∷ rest)) m v
+      → Rest (suc n) rest → G (suc n) m.state.work pc v (R (suc n) (binary_op op ty mode t a aty b bty ∷ rest) m)
+  pointer_binary_follows op ty mode t a aty b bty rest n pc m v = by_types aty bty
+    where
+      first : (space : SpaceId) (const : Bool) (to z : PlainType) → IsShown op ty mode t a (pointer space const to) b z rest n pc m v
+      first space const to (pointer space2 const2 to2) k stands h f =
+          two_pointers op ty mode t a space const to b space2 const2 to2 rest n pc m v k
+          (untold op ty mode t a (pointer space const to) b (pointer space2 const2 to2) rest pc refl stands) h f
+      first space const to (integer signed bytes) k stands h f =
+          pointer_first op ty mode t a space const to b signed bytes rest n pc m v k
+          (untold op ty mode t a (pointer space const to) b (integer signed bytes) rest pc refl stands) h f
+      first space const to (fixed kind saturates) k stands h f = absurd (no_count op (fixed kind saturates) (λ i. i) k.types.0)
+      first space const to void k stands h f = absurd (no_count op void (λ i. i) k.types.0)
+      first space const to (array of len) k stands h f = absurd (no_count op (array of len) (λ i. i) k.types.0)
+      first space const to (struct index) k stands h f = absurd (no_count op (struct index) (λ i. i) k.types.0)
+
+      second : (op : BinOp) (signed : Bool) (bytes : ℕ) (space : SpaceId) (const : Bool) (to : PlainType)
+          → IsShown op ty mode t a (integer signed bytes) b (pointer space const to) rest n pc m v
+      second Add signed bytes space const to k stands h f =
+          pointer_second ty mode t a signed bytes b space const to rest n pc m v k
+          (untold Add ty mode t a (integer signed bytes) b (pointer space const to) rest pc refl stands) h f
+      second op signed bytes space const to k stands h f = absurd k.types.0
+
+      by_types : (x z : PlainType) → IsShown op ty mode t a x b z rest n pc m v
+      by_types (pointer space const to) z k stands h f = first space const to z k stands h f
+      by_types (integer signed bytes) (pointer space const to) k stands h f = second op signed bytes space const to k stands h f
+      by_types (fixed kind saturates) (pointer space const to) k stands h f = absurd k.types.1
+      by_types void (pointer space const to) k stands h f = absurd k.types.1
+      by_types (array of len) (pointer space const to) k stands h f = absurd k.types.1
+      by_types (struct index) (pointer space const to) k stands h f = absurd k.types.1
+      by_types x z k stands h f = absurd (let g = k.pointer in cc)
+
+  -- ---- conversions
+
+  pointer_converted : (t : Temp) (space : SpaceId) (const : Bool) (to : PlainType) (mode : Mode) (a : Temp)
+      (from : SpaceId) (const2 : Bool) (to2 : PlainType)
+      (rest : List PlainIr) (n pc : ℕ) (m : Mach) (v : View)
+      → IsPointerConversion slots t a (pointer space const to) (pointer from const2 to2)
+      → HasAt e (items (conversion t (pointer space const to) mode a (pointer from const2 to2) ∷ rest)) pc end
+      → M (at_least a.at (all_or_none a.bytes (wanted (needs at rest) t)) (without t.at (needs at rest))) m v
+      → Rest (suc n) rest → G (suc n) m.state.work pc v (R (suc n)
+      (conversion t (pointer space const to) mode a (pointer from const2 to2) ∷ rest) m)
+  pointer_converted t space const to mode a from const2 to2 rest n pc m v k stands h f =
+      from_pointer p place e from const2 to2 a m.temps st _ (suc n) m.state.work pc v
+      (λ x q into. by_result x q into (pointer_in_space space x (referent_of p x st)) refl)
+    where
+      i : PlainIr
+      i = conversion t (pointer space const to) mode a (pointer from const2 to2)
+
+      st : State
+      st = worked (op_steps i) m.state
+
+      w : ℕ
+      w = wanted (needs at rest) t
+
+      need0 : Need
+      need0 = at_least a.at (all_or_none a.bytes w) (without t.at (needs at rest))
+
+      more : (u : ℕ) → u ≢ t.at → needs at rest u ≤ need0 u
+      more u d =
+          let r = without_other t.at u (needs at rest) d in
+          let s = least_other a.at (all_or_none a.bytes w) u (without t.at (needs at rest)) in
+          omega arith
+
+      there : all_or_none a.bytes w ≤ need0 a.at
+      there = least_here a.at (all_or_none a.bytes w) (without t.at (needs at rest))
+
+      room : 640 ≤ op_steps i
+      room = conversion_room (pointer space const to) (pointer from const2 to2)
+
+      size_a : IsPointerSize a.bytes
+      size_a = pointer_size a.bytes from k.from_bytes
+
+      size_t : IsPointerSize t.bytes
+      size_t = pointer_size t.bytes space k.result_bytes
+
+      embed : List AsmItem
+      embed = embed_code (is_into_data (pointer from const2 to2)) (home a) (home t)
+
+      by_result : (x : PointerValue) → HoldsPointer m a x → IsIntoSpace p from x → (r : Result PointerValue Undefined)
+          → pointer_in_space space x (referent_of p x st) ≡ r → G (suc n) m.state.work pc v (Onward n rest t m st (as_pointer r))
+      by_result x q into (Err point) u = tt
+      by_result x q into (Ok z) u =
+          subst (λ (d : PointerValue). G (suc n) m.state.work pc v
+          (R (suc n) rest (resulted t (content_of t.bytes (Pointer d)) (op_steps i) m)))
+          (sym (in_space_is space x (referent_of p x st) z u))
+          (by_sizes (a.bytes == 2 && t.bytes == 3) refl)
+        where
+          content : Content
+          content = content_of t.bytes (Pointer x)
+
+          ix : IsAddressed p a.bytes x
+          ix = addressed need0 m v a x h k.from q
+
+          target : IsAddressed p t.bytes x
+          target = resized p a.bytes t.bytes x size_t ix
+
+          by_sizes : (b : Bool) → (a.bytes == 2 && t.bytes == 3) ≡ b
+              → G (suc n) m.state.work pc v (R (suc n) rest (resulted t content (op_steps i) m))
+          by_sizes true b = by_need (w == 0) refl
+            where
+              sizes : (a.bytes ≡ 2) × (t.bytes ≡ 3)
+              sizes = (let parts = and_parts (a.bytes == 2) (t.bytes == 3) b in (eqb-true a.bytes 2 parts.0, eqb-true t.bytes 3 parts.1))
+
+              code_is : code_of i rest ≡ (if w == 0 then [] else embed)
+              code_is = ap (λ (d : Bool). if d then (if w == 0 then [] else embed) else move_code (home a) (home t) w) b
+
+              by_need : (j : Bool) → (w == 0) ≡ j → G (suc n) m.state.work pc v (R (suc n) rest (resulted t content (op_steps i) m))
+              by_need true j =
+                  nothing_passes i t content rest n pc need0 m v k.result
+                  (code_is ∙ ap (λ d. if d then [] else embed) j) j (pointer_content t.bytes x target) stands
+                  more h room f
+              by_need false j =
+                  let all_bytes = all_when a.bytes w j in
+                  let number = whole_number need0 m v a x h k.from q size_a (omega (arith, all_bytes, there)) in
+                  let short = (y.pointers.embeddings_short (is_into_data (pointer from const2 to2)) (home a) (home t)).0 in
+                  let few = short.at_most in
+                  straight_passes i embed t content rest n pc m v (code_is ∙ ap (λ d. if d then [] else embed) j)
+                  short.straight (omega (arith, few)) room stands
+                  (embedded_matches p e slots home base place y from const2 to2 t a (op_steps i) x (needs at rest)
+                  need0 m v k.result k.from sizes.0 sizes.1
+                  (sym k.from_bytes ∙ sizes.0) ix target into number more h) f
+          by_sizes false b =
+              let less : t.bytes ≤ a.bytes = narrower_size b in
+              let most = wanted_most (needs at rest) t in
+              let enough = all_or_more a.bytes w (omega (arith, most, less)) in
+              let number = (pointer_low p e slots home base place y need0 m v a x w h k.from q
+              (omega (arith, enough, there, most, less))).0 in
+              let steps = move_steps (home a) (home t) w in
+              let eight = k.result.most in
+              straight_passes i (move_code (home a) (home t) w) t content rest n pc m v
+              (ap (λ (d : Bool). if d then (if w == 0 then [] else embed) else move_code (home a) (home t) w) b)
+              (move_straight (home a) (home t) w) (omega (arith, steps, most, eight)) room stands
+              (moved_matches p e slots home base place y t a (op_steps i) x (needs at rest) need0 m v k.result
+              k.from less size_a size_t target number more h) f
+            where
+              narrower_size : (a.bytes == 2 && t.bytes == 3) ≡ false → t.bytes ≤ a.bytes
+              narrower_size g =
+                  ⊎_elim
+                  (λ (r : a.bytes ≡ 2).
+                  ⊎_elim
+                  (λ (s : t.bytes ≡ 2). omega (arith, r, s))
+                  (λ (s : t.bytes ≡ 3). let c = eq-eqb a.bytes 2 r in let d =
+                  eq-eqb t.bytes 3 s in let both : (a.bytes == 2 && t.bytes == 3) ≡ true =
+                  rw (c, d) refl in absurd cc)
+                  size_t)
+                  (λ (r : a.bytes ≡ 3). ⊎_elim (λ (s : t.bytes ≡ 2). omega (arith, r, s)) (λ (s : t.bytes ≡ 3). omega (arith, r, s)) size_t)
+                  size_a
+
+  pub pointer_conversion_follows : (t : Temp) (ty : PlainType) (mode : Mode) (a : Temp) (aty : PlainType) (rest : List PlainIr)
+      (n pc : ℕ) (m : Mach) (v : View) → IsPointerConversion slots t a ty aty
+      → HasAt e (items (conversion t ty mode a aty ∷ rest)) pc end → M (needs at (conversion t ty mode a aty ∷ rest)) m v
+      → Rest (suc n) rest → G (suc n) m.state.work pc v (R (suc n) (conversion t ty mode a aty ∷ rest) m)
+  pointer_conversion_follows t (pointer space const to) mode a (pointer from const2 to2) rest n pc m v k stands h f =
+      pointer_converted t space const to mode a from const2 to2 rest n pc m v k stands h f
+  pointer_conversion_follows t (integer signed bytes) mode a (pointer from const2 to2) rest n pc m v k stands h f = absurd k.types
+  pointer_conversion_follows t (fixed kind saturates) mode a (pointer from const2 to2) rest n pc m v k stands h f = absurd k.types
+  pointer_conversion_follows t void mode a (pointer from const2 to2) rest n pc m v k stands h f = absurd k.types
+  pointer_conversion_follows t (array of len) mode a (pointer from const2 to2) rest n pc m v k stands h f = absurd k.types
+  pointer_conversion_follows t (struct index) mode a (pointer from const2 to2) rest n pc m v k stands h f = absurd k.types
+  pointer_conversion_follows t ty mode a aty rest n pc m v k stands h f = absurd (let g = k.pointer in cc)

@@ -1,9 +1,0 @@
-use Rattle.std.proofs.Common.{◌≡◌, ◌++◌}
-use Rattle.ec_asm.specs.Items.{chain}
-use Rattle.ec_select_functions.specs.Code.{restore_place}
-use Rattle.ec_select_functions.specs.Written.{need_in}
-use Rattle.ec_select_functions.proofs.calls.restore.Given as goal
-
-abbrev pub invariant-loop-place : goal.invariant-loop-place
-invariant-loop-place l =
-    l.out.items ≡ l.fn.out.items ++ chain (λ place. restore_place l.fn.of.homes place (need_in l.fn.kept place)) l.place

@@ -1,5 +1,0 @@
-use Rattle.ec_select_functions.proofs.Written.{needed_code_is_written}
-use Rattle.ec_select_functions.proofs.laws.needed_code_is_written.Goals as goal
-
-pub returns : goal.returns
-returns c = needed_code_is_written

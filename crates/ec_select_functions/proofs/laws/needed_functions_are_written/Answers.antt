@@ -1,7 +1,0 @@
-use Rattle.std.proofs.Common.{◌∷◌, ap}
-use Rattle.ec_asm.specs.declared.items.AsmItem.TheVariants.{Label}
-use Rattle.ec_select_functions.specs.Homes.{home}
-use Rattle.ec_select_functions.proofs.laws.needed_functions_are_written.Goals as goal
-
-pub returns : goal.returns
-returns c = λ objects k f at code. ap (λ items. Label (k.entry_of f) ∷ items) (c.needed_code_is_written.ensures objects (home k.homes) k at code)

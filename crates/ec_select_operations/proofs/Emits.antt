@@ -1,0 +1,32 @@
+-- Lemmas of the emitters.
+use Rattle.std.proofs.Common.{ℕ, ◌<◌, ◌≤◌, inl, inr, subst, arith}
+use Rattle.ec_space.specs.declared.space.Bank.{Bank}
+use Rattle.ec_asm.specs.declared.pieces.Location.{Location}
+use Rattle.ec_asm.specs.declared.pieces.Location.TheVariants.{InRegisters, InMemory}
+use Rattle.ec_asm.specs.Pieces.{HasBytes, HasByte}
+use Rattle.ec_select_order.specs.declared.relations.Relation.{Relation}
+use Rattle.ec_select_order.specs.declared.relations.Relation.TheVariants.{Less, NotLess, Equal, NotEqual}
+use Rattle.ec_select_places.specs.Steps.{compared_bytes}
+use Rattle.ec_select_pointers.specs.Addresses.{pointer_bytes}
+use Rattle.ec_select_operations.specs.Pointers.{tag_in, IsPointerSize}
+
+pub fewer_bytes : (p : Location) (n m : ℕ) → m ≤ n → HasBytes p n → HasBytes p m
+fewer_bytes (InRegisters r) n m l h = omega arith
+fewer_bytes (InMemory o k) n m l h = omega arith
+
+pub byte_there : (p : Location) (n i : ℕ) → HasBytes p n → i < n → HasByte p i
+byte_there (InRegisters r) n i h l = omega arith
+byte_there (InMemory o k) n i h l = omega arith
+
+-- a pointer has room for its tag
+pub tag_there : (p : Location) (bytes : ℕ) (bank : Bank) → IsPointerSize bytes → HasBytes p bytes
+    → HasBytes p (pointer_bytes (tag_in bytes bank))
+tag_there p bytes bank (inl q) h = rw q (subst (HasBytes p) q h)
+tag_there p bytes bank (inr q) h = rw q (subst (HasBytes p) q h)
+
+-- what is compared of a pointer
+pub fewer_compared : (r : Relation) (p : Location) (n : ℕ) → 2 ≤ n → HasBytes p n → HasBytes p (compared_bytes r n)
+fewer_compared Less p n l h = fewer_bytes p n 2 l h
+fewer_compared NotLess p n l h = fewer_bytes p n 2 l h
+fewer_compared Equal p n l h = h
+fewer_compared NotEqual p n l h = h

@@ -1,0 +1,154 @@
+-- Code that is written operation by operation.
+use Rattle.std.proofs.Common.{◌≡◌, ℕ, zero, suc, ◌+◌, ◌-◌, ◌<◌, List, [], ◌∷◌, ◌++◌, Some, length, refl, sym, ap, ◌∙◌}
+use Rattle.std.proofs.Common.{subst, arith, append_assoc, append-nil}
+use Rattle.std.specs.Prelude.{slice_get, slice_index, get_or, Option, None}
+use Rattle.ec_asm.specs.declared.items.AsmItem.{AsmItem}
+use Rattle.ec_asm.specs.declared.pieces.Location.{Location}
+use Rattle.ec_asm.specs.Items.{chain}
+use Rattle.ec_core.specs.Plain.{PlainProgram}
+use Rattle.ec_ir.specs.declared.operations.Temp.{Temp}
+use Rattle.ec_ir.specs.Operations.{PlainIr, constant, copy, address, field, load_at, store_at, load_object}
+use Rattle.ec_ir.specs.Operations.{store_object, binary_op, unary_op, conversion, label, jump, branch_zero}
+use Rattle.ec_ir.specs.Operations.{call_function, return_from, port_in, port_out}
+use Rattle.ec_select_operations.specs.Code.{Linkage, register_places, save_place, restore_place, save_code}
+use Rattle.ec_select_operations.specs.declared.families.Told.{Told}
+use Rattle.ec_select_operations.specs.Code.{restore_code, operation_code, tells, wanted_behind, wanted_bytes, op_code}
+use Rattle.ec_select_operations.specs.Code.{tells_next, ops_code}
+use Rattle.ec_select_operations.specs.Needs.{Need, without_result, needs}
+use Rattle.ec_select_operations.specs.Written.{need_in, operation_at, told_from, told_at, written_code, row_from}
+use Rattle.ec_select_operations.specs.Written.{kept_row}
+use Rattle.ec_select_operations.specs.Written.{kept_rows, NeededCodeIsWritten}
+
+-- the first piece, and the others
+chain_front : (f : ℕ → List AsmItem) (n : ℕ) → chain f (suc n) ≡ f 0 ++ chain (λ k. f (suc k)) n
+chain_front f zero = sym (append-nil (f 0))
+chain_front f (suc n) =
+    ap (λ l. l ++ f (suc n)) (chain_front f n) ∙ append_assoc (f 0) (chain (λ k. f (suc k)) n) (f (suc n))
+
+-- ---- what calls keep
+
+chain_same : (f g : ℕ → List AsmItem) (n : ℕ) → ((j : ℕ) → j < n → f j ≡ g j) → chain f n ≡ chain g n
+chain_same f g zero h = refl
+chain_same f g (suc n) h =
+    let a = chain_same f g n (λ j l. h j (omega arith)) in
+    let b = h n (omega arith) in
+    rw (a, b) refl
+
+row_needs : (count place : ℕ) (need : Need) (j : ℕ) → j < count → need_in (row_from count place need) j ≡ need (place + j)
+row_needs zero place need j l = absurd (omega arith)
+row_needs (suc count) place need zero l = let e : place ≡ place + 0 = omega arith in ap need e
+row_needs (suc count) place need (suc j) l =
+    let e : suc place + j ≡ place + suc j = omega arith in
+    row_needs count (suc place) need j (omega arith) ∙ ap need e
+
+-- the row of one place more
+pub row_more : (count place : ℕ) (need : Need) → row_from count place need ++ need (place + count) ∷ [] ≡ row_from (suc count) place need
+row_more zero place need = let e : place + 0 ≡ place = omega arith in ap (λ j. need j ∷ []) e
+row_more (suc count) place need =
+    let e : suc place + count ≡ place + suc count = omega arith in
+    ap (λ l. need place ∷ l) (ap (λ j. row_from count (suc place) need ++ need j ∷ []) (sym e) ∙ row_more count (suc place) need)
+
+module _ (p : PlainProgram) (home : Temp → Location) (k : Linkage) where
+  kept_here : (need : Need) (j : ℕ) → j < register_places k.slots → need_in (row_from (register_places k.slots) 0 need) j ≡ need j
+  kept_here need j l = let e : 0 + j ≡ j = omega arith in row_needs (register_places k.slots) 0 need j l ∙ ap need e
+
+  same_save : (need : Need) → save_code k (need_in (row_from (register_places k.slots) 0 need)) ≡ save_code k need
+  same_save need =
+      chain_same (λ j. save_place k.homes j (need_in (row_from (register_places k.slots) 0 need) j)) (λ j. save_place k.homes j (need j))
+      (register_places k.slots)
+      (λ j l. ap (save_place k.homes j) (kept_here need j l))
+
+  same_restore : (need : Need) → restore_code k (need_in (row_from (register_places k.slots) 0 need)) ≡ restore_code k need
+  same_restore need =
+      chain_same (λ j. restore_place k.homes j (need_in (row_from (register_places k.slots) 0 need) j))
+      (λ j. restore_place k.homes j (need j)) (register_places k.slots)
+      (λ j l. ap (restore_place k.homes j) (kept_here need j l))
+
+  same_code : (at : ℕ → Need) (told telling : Option Told) (need : Need) (i : PlainIr)
+      → operation_code p home k told telling (wanted_behind at need i) (need_in (kept_row k.slots need i)) i
+      ≡ op_code p home k told telling need i
+  same_code at told telling need (call_function f to) =
+      let a = same_save (without_result to need) in
+      let b = same_restore (without_result to need) in
+      rw (a, b) refl
+  same_code at told telling need (constant t n) = refl
+  same_code at told telling need (copy to from) = refl
+  same_code at told telling need (address t o offset) = refl
+  same_code at told telling need (field ptr space offset) = refl
+  same_code at told telling need (load_at to ptr space) = refl
+  same_code at told telling need (store_at ptr space from) = refl
+  same_code at told telling need (load_object t o offset) = refl
+  same_code at told telling need (store_object o offset t) = refl
+  same_code at told telling need (binary_op op ty mode to a aty b bty) = refl
+  same_code at told telling need (unary_op op ty mode to a) = refl
+  same_code at told telling need (conversion to ty mode a aty) = refl
+  same_code at told telling need (label l) = refl
+  same_code at told telling need (jump l) = refl
+  same_code at told telling need (branch_zero t l) = refl
+  same_code at told telling need (return_from from) = refl
+  same_code at told telling need (port_in to port index width) = refl
+  same_code at told telling need (port_out from port index width) = refl
+
+  -- the pieces of a list of operations, of which the first one has been told so much
+  abbrev piece : (at : ℕ → Need) → Option Told → List PlainIr → ℕ → List AsmItem
+  piece at first code j =
+      operation_at p home k (told_from first (wanted_bytes at code) code j) (told_from first (wanted_bytes at code) code (suc j))
+      (slice_index (wanted_bytes at code) j) (get_or (kept_rows k.slots at code) j []) (slice_get code j)
+
+  -- those behind the first operation are those of the other ones
+  piece_behind : (at : ℕ → Need) (first : Option Told) (i : PlainIr) (code : List PlainIr) (j : ℕ)
+      → piece at first (i ∷ code) (suc j) ≡ piece at (tells_next at i code) code j
+  piece_behind at first i code zero = refl
+  piece_behind at first i code (suc j) = refl
+
+  pieces_are : (at : ℕ → Need) (first : Option Told) (code : List PlainIr)
+      → chain (piece at first code) (length code) ≡ ops_code p home k at first code
+  pieces_are at first [] = refl
+  pieces_are at first (i ∷ code) =
+      let behind =
+      chain_same (λ j. piece at first (i ∷ code) (suc j)) (piece at (tells_next at i code) code) (length code)
+      (λ j l. piece_behind at first i code j) in
+      chain_front (piece at first (i ∷ code)) (length code)
+      ∙ ap (λ l. piece at first (i ∷ code) 0 ++ l) (behind ∙ pieces_are at (tells_next at i code) code)
+      ∙ ap (λ l. l ++ ops_code p home k at (tells_next at i code) code) (same_code at first (tells_next at i code) (needs at code) i)
+
+pub needed_code_is_written : NeededCodeIsWritten
+needed_code_is_written p home k at code = pieces_are p home k at None code
+
+-- one piece more
+pub chain_more : (f : ℕ → List AsmItem) (j : ℕ) (first before after : List AsmItem) → before ≡ first ++ chain f j
+    → after ≡ before ++ f j → after ≡ first ++ chain f (j + 1)
+chain_more f j first before after p q =
+    let e : suc j ≡ j + 1 = omega arith in
+    subst (λ n. after ≡ first ++ chain f n) e (q ∙ ap (λ l. l ++ f j) p ∙ append_assoc first (chain f j) (f j))
+
+-- one operation more
+pub one_more : (p : PlainProgram) (home : Temp → Location) (k : Linkage) (wanted : List ℕ) (kept : List (List ℕ))
+    (code : List PlainIr) (j : ℕ) (i : PlainIr) (told telling : Option Told) (row : List ℕ) (first before after : List AsmItem)
+    → slice_get code j ≡ Some i → told ≡ told_at wanted code j → telling ≡ told_at wanted code (j + 1)
+    → get_or kept j [] ≡ row → before ≡ first ++ written_code p home k wanted kept code j
+    → after ≡ before ++ operation_code p home k told telling (slice_index wanted j) (need_in row) i
+    → after ≡ first ++ written_code p home k wanted kept code (j + 1)
+one_more p home k wanted kept code j i told telling row first before after is told_is telling_is row_is start q =
+    let e : j + 1 ≡ suc j = omega arith in
+    let next : telling ≡ told_at wanted code (suc j) = telling_is ∙ ap (told_at wanted code) e in
+    let here : operation_at p home k (told_at wanted code j) (told_at wanted code (suc j)) (slice_index wanted j) (get_or kept j [])
+    (slice_get code j) ≡ operation_code p home k told telling (slice_index wanted j) (need_in row) i = rw
+    (told_is, next, is, row_is) refl in
+    chain_more (λ j. operation_at p home k (told_at wanted code j) (told_at wanted code (suc j)) (slice_index wanted j)
+    (get_or kept j []) (slice_get code j)) j first before after start (q ∙ ap (λ l. before ++ l) (sym here))
+
+-- an item of a list
+pub item_there : {A : Type 0} (xs : List A) (k : ℕ) (x : A) → k < length xs → x ≡ get_or xs k x
+    → slice_get xs k ≡ Some x
+item_there [] k x l q = absurd (omega arith)
+item_there (z ∷ xs) zero x l q = (let g : x ≡ z = q in ap Some (sym g))
+item_there (z ∷ xs) (suc k) x l q = item_there xs k x (omega arith) q
+
+-- what an operation behind another one has been told
+pub told_here : (code : List PlainIr) (wanted : List ℕ) (k : ℕ) (i next : PlainIr) → 0 < k → slice_get code (k - 1) ≡ Some i
+    → slice_get code k ≡ Some next → tells i (Some next) (slice_index wanted k) ≡ told_at wanted code k
+told_here code wanted zero i next z p q = absurd (omega arith)
+told_here code wanted (suc k) i next z p q = let e : suc k - 1 ≡ k = omega arith in
+    let here : slice_get code k ≡ Some i = subst (λ (j : ℕ). slice_get code j ≡ Some i) e p in
+    rw (here, q) refl

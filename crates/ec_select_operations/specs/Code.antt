@@ -1,0 +1,441 @@
+-- The code of operations.
+use Rattle.std.specs.Prelude.{◌≤◌, ⊤, ℕ, suc, ◌+◌, ◌-◌, ◌*◌, ◌%◌, ◌==◌, nat_le, Bool, true, false, ◌&&◌, ◌||◌}
+use Rattle.std.specs.Prelude.{if◌then◌else◌}
+use Rattle.std.specs.Prelude.{min, List, [], ◌∷◌, ◌++◌, Option, Some, None, option_map, slice_get, slice_index}
+use Rattle.ec_fx.specs.declared.numbers.Mode.{Mode}
+use Rattle.ec_space.specs.declared.space.Bank.{Bank}
+use Rattle.ec_space.specs.declared.space.Bank.TheVariants.{Flash as FlashBank, Data as DataBank}
+use Rattle.ec_space.specs.declared.space.SpaceId.{SpaceId}
+use Rattle.ec_space.specs.declared.space.SpaceId.TheVariants.{Flash, Data, Generic}
+use Rattle.ec_isa.specs.declared.instructions.Instr.TheVariants.{Ret}
+use Rattle.ec_asm.specs.declared.items.AsmItem.{AsmItem}
+use Rattle.ec_asm.specs.declared.items.AsmItem.TheVariants.{Plain, Label, JumpTo, CallTo, BranchTo}
+use Rattle.ec_asm.specs.Items.{chain}
+use Rattle.ec_asm.specs.declared.pieces.Location.{Location}
+use Rattle.ec_asm.specs.declared.pieces.Location.TheVariants.{InRegisters, InMemory}
+use Rattle.ec_asm.specs.declared.pieces.Operator.{Operator}
+use Rattle.ec_asm.specs.declared.pieces.Operator.TheVariants.{Sum, Difference, BitAnd, BitOr, BitXor}
+use Rattle.ec_asm.specs.Pieces.{copy_code, operate_code, compare_code}
+use Rattle.ec_core.specs.declared.expressions.BinOp.{BinOp}
+use Rattle.ec_core.specs.declared.expressions.BinOp.TheVariants.{Add, Sub, Mul, Div, Rem, And, Or, Xor, Lt, Gt, Le, Ge}
+use Rattle.ec_core.specs.declared.expressions.BinOp.TheVariants.{Eq, Ne, Shl, Shr}
+use Rattle.ec_core.specs.declared.expressions.UnOp.{UnOp}
+use Rattle.ec_core.specs.declared.expressions.UnOp.TheVariants.{Minus, Invert}
+use Rattle.ec_core.specs.Accesses.{element_size}
+use Rattle.ec_core.specs.Plain.{PlainType, integer, PlainObject, PlainProgram}
+use Rattle.ec_ir.specs.declared.operations.Temp.{Temp}
+use Rattle.ec_ir.specs.Operations.{PlainIr, constant, copy, address, field, load_at, store_at, load_object}
+use Rattle.ec_ir.specs.Operations.{store_object, binary_op, unary_op, conversion, label, jump, branch_zero}
+use Rattle.ec_ir.specs.Operations.{call_function, return_from, port_in, port_out}
+use Rattle.ec_ir.specs.Temporaries.{low_bytes}
+use Rattle.ec_select_bytes.specs.Values.{constant_code, test_code, extend_code}
+use Rattle.ec_select_bytes.specs.Complements.{complement_code, negation_code}
+use Rattle.ec_select_order.specs.declared.relations.Relation.{Relation}
+use Rattle.ec_select_order.specs.declared.relations.Relation.TheVariants.{Less, NotLess, Equal, NotEqual}
+use Rattle.ec_select_order.specs.Relations.{relation_code, unless_code}
+use Rattle.ec_select_places.specs.Conversions.{embed_code}
+use Rattle.ec_select_places.specs.Distances.{elements_code}
+use Rattle.ec_select_places.specs.Steps.{scale_index_code, advance_code, compared_bytes}
+use Rattle.ec_select_pointers.specs.Accesses.{load_data_code, load_flash_code, load_any_code, load_table_code}
+use Rattle.ec_select_pointers.specs.Accesses.{store_data_code}
+use Rattle.ec_select_pointers.specs.Addresses.{address_code, field_code}
+use Rattle.ec_select_products.specs.Products.{product_code}
+use Rattle.ec_select_quotients.specs.Signs.{quotient_code}
+use Rattle.ec_select_shifts.specs.declared.shifts.Direction.{Direction}
+use Rattle.ec_select_shifts.specs.declared.shifts.Direction.TheVariants.{Left, Right}
+use Rattle.ec_select_shifts.specs.Shifts.{shift_code}
+use Rattle.ec_select_operations.specs.declared.families.Family.{Family}
+use Rattle.ec_select_operations.specs.declared.families.Family.TheVariants.{Combined, Compared, Multiplied, Shifted}
+use Rattle.ec_select_operations.specs.declared.families.Family.TheVariants.{Divided}
+use Rattle.ec_select_operations.specs.declared.families.Told.{Told}
+use Rattle.ec_select_operations.specs.declared.homes.Homes.{Homes}
+use Rattle.ec_select_operations.specs.Homes.{home, result_location}
+use Rattle.ec_select_fixed.specs.Codes.{fixed_binary_code, fixed_unary_code, fixed_conversion_code}
+use Rattle.ec_select_operations.specs.Needs.{is_fixed, is_whole}
+use Rattle.ec_select_operations.specs.Needs.{Need, nothing, wanted, wanted_result, without_result, either, needs}
+use Rattle.ec_select_operations.specs.Places.{object_location}
+use Rattle.ec_select_operations.specs.Pointers.{is_pointer, is_into_data, home_of, tag_in}
+use Rattle.ec_select_operations.specs.Ports.{in_code, out_code}
+
+abbrev pub same_location : Location → Location → Bool
+same_location (InRegisters a) (InRegisters b) = a == b
+same_location (InRegisters a) (InMemory p j) = false
+same_location (InMemory o k) (InRegisters b) = false
+same_location (InMemory o k) (InMemory p j) = o == p && k == j
+
+-- a copy to where the number stands already is no code
+abbrev pub move_code : Location → Location → ℕ → List AsmItem
+move_code p q n = if same_location p q then [] else copy_code p q n
+
+-- ---- families
+
+abbrev pub family_of : BinOp → Family
+family_of Add = Combined Sum
+family_of Sub = Combined Difference
+family_of And = Combined BitAnd
+family_of Or = Combined BitOr
+family_of Xor = Combined BitXor
+family_of Lt = Compared Less false
+family_of Gt = Compared Less true
+family_of Le = Compared NotLess true
+family_of Ge = Compared NotLess false
+family_of Eq = Compared Equal false
+family_of Ne = Compared NotEqual false
+family_of Mul = Multiplied
+family_of Div = Divided false
+family_of Rem = Divided true
+family_of Shl = Shifted true
+family_of Shr = Shifted false
+
+abbrev pub is_signed : PlainType → Bool
+is_signed (integer signed bytes) = signed
+is_signed ty = false
+
+-- the low bytes, and where more are needed the sign or 0
+abbrev pub conversion_code : Bool → (from to : Location) → (bytes n : ℕ) → List AsmItem
+conversion_code signed from to bytes n = move_code from to (min n bytes) ++ extend_code signed to bytes n
+
+-- where the second operand stands at the result's place, the first one is combined with it there the other way round
+abbrev pub reversed_code : Operator → (a to : Location) → ℕ → List AsmItem
+reversed_code Sum a to n = operate_code Sum a to n
+reversed_code Difference a to n = operate_code Difference a to n ++ negation_code to n
+reversed_code BitAnd a to n = operate_code BitAnd a to n
+reversed_code BitOr a to n = operate_code BitOr a to n
+reversed_code BitXor a to n = operate_code BitXor a to n
+
+-- else the first operand is brought there, and the second one is combined with it
+abbrev pub combined_code : Operator → (a b to : Location) → ℕ → List AsmItem
+combined_code op a b to n =
+    if same_location b to then reversed_code op a to n else move_code a to n ++ operate_code op b to n
+
+-- a truth value, which is an unsigned number of one byte in R30, where some of its bytes are needed
+abbrev pub compared_code : Relation → (signed : Bool) → (left right to : Location) → (bytes n : ℕ) → List AsmItem
+compared_code r signed left right to bytes n =
+    if n == 0 then []
+    else relation_code r signed left right bytes ++ conversion_code false (InRegisters 30) to 1 n
+
+-- the product of two bytes
+abbrev pub multiplied_code : (left right : Bool) → (a b to : Location) → ℕ → List AsmItem
+multiplied_code left right a b to n = if n == 0 then [] else product_code left right a b to n
+
+abbrev pub shift_of : (left signed : Bool) → Direction
+shift_of true signed = Left
+shift_of false signed = Right signed
+
+-- the bytes that are shifted: to the right all
+abbrev pub shifted_bytes : (left : Bool) → (bytes n : ℕ) → ℕ
+shifted_bytes true bytes n = n
+shifted_bytes false bytes n = bytes
+
+-- the number is brought to the result's place and the lowest byte of the count to R30, and the number is shifted there
+abbrev pub turned_code : Direction → (a b to : Location) → ℕ → List AsmItem
+turned_code s a b to n = move_code a to n ++ (move_code b (InRegisters 30) 1 ++ shift_code s to n)
+
+abbrev pub shifted_code : (left signed : Bool) → (a b to : Location) → (bytes n : ℕ) → List AsmItem
+shifted_code left signed a b to bytes n =
+    if n == 0 then [] else turned_code (shift_of left signed) a b to (shifted_bytes left bytes n)
+
+-- the number is brought to the result's place, and divided there with all its bytes, which are top + 1
+abbrev pub long_code : (remainder signed : Bool) → (a b to : Location) → (top : ℕ) → List AsmItem
+long_code r signed a b to top = move_code a to (suc top) ++ quotient_code r signed to b top
+
+abbrev pub divided_code : (remainder signed : Bool) → (a b to : Location) → (bytes n : ℕ) → List AsmItem
+divided_code r signed a b to bytes n = if n == 0 then [] else long_code r signed a b to (bytes - 1)
+
+-- the signs of both operands, and the bytes of the first one. Of the result n bytes are needed
+abbrev pub binary_code : Family → (left right : Bool) → (a b to : Location) → (bytes n : ℕ) → List AsmItem
+binary_code (Combined op) left right a b to bytes n = combined_code op a b to n
+binary_code (Compared r false) left right a b to bytes n = compared_code r left a b to bytes n
+binary_code (Compared r true) left right a b to bytes n = compared_code r left b a to bytes n
+binary_code Multiplied left right a b to bytes n = multiplied_code left right a b to n
+binary_code (Shifted up) left right a b to bytes n = shifted_code up left a b to bytes n
+binary_code (Divided r) left right a b to bytes n = divided_code r left a b to bytes n
+
+-- the operand is brought to the result's place, and negated or complemented there
+abbrev pub turn_code : UnOp → Location → ℕ → List AsmItem
+turn_code Minus p n = negation_code p n
+turn_code Invert p n = complement_code p n
+
+abbrev pub unary_code : UnOp → (from to : Location) → ℕ → List AsmItem
+unary_code op from to n = move_code from to n ++ turn_code op to n
+
+abbrev pub branch_code : Location → ℕ → ℕ → List AsmItem
+branch_code p bytes l = test_code p bytes ++ BranchTo true 1 l ∷ []
+
+-- ---- a comparison, and a branch on what it tells by a flag
+
+-- how operands stand, where the operator is a comparison
+abbrev pub told_of : Family → (signed : Bool) → Option Told
+told_of (Compared r exchanged) signed = Some (record { relation = r; signed = signed })
+told_of f signed = None
+
+-- a comparison with a fixed-point operand or a pointer leaves none
+abbrev pub told_by : (is_whole : Bool) → Family → (signed : Bool) → Option Told
+told_by true f signed = None
+told_by false f signed = told_of f signed
+
+-- the next operation branches on the result, of which nothing is needed afterwards
+abbrev pub is_only_tested : (to : Temp) → (next : Option PlainIr) → (needed : ℕ) → Bool
+is_only_tested to (Some (branch_zero t l)) needed = needed == 0 && (t.at == to.at && t.bytes == to.bytes)
+is_only_tested to next needed = false
+
+-- what an operation tells the next one by a flag, in place of its result
+abbrev pub tells : PlainIr → (next : Option PlainIr) → (needed : ℕ) → Option Told
+tells (binary_op op ty mode to a aty b bty) next needed =
+    if is_only_tested to next needed
+    then told_by (is_whole aty || is_whole bty) (family_of op) (is_signed aty) else None
+tells i next needed = None
+
+-- the comparison alone
+abbrev pub flag_code : Family → (a b : Location) → (bytes : ℕ) → List AsmItem
+flag_code (Compared r false) a b bytes = compare_code b a bytes
+flag_code (Compared r true) a b bytes = compare_code a b bytes
+flag_code f a b bytes = []
+
+abbrev pub operator_code : (telling : Option Told) → Family → (left right : Bool) → (a b to : Location)
+    → (bytes n : ℕ) → List AsmItem
+operator_code None f left right a b to bytes n = binary_code f left right a b to bytes n
+operator_code (Some told) f left right a b to bytes n = flag_code f a b bytes
+
+-- it branches where the operands of the comparison before it do not stand so, or where a number is 0
+abbrev pub tested_code : Option Told → Location → (bytes l : ℕ) → List AsmItem
+tested_code None p bytes l = branch_code p bytes l
+tested_code (Some told) p bytes l = unless_code told.relation told.signed l
+
+-- ---- calls
+
+-- How the code of a function is put together with that of the others: the label of items for each of its own, and the
+-- one at which each function begins; where its temporaries stand, at so many places; and whether it is main
+pub record Linkage : Type 0 where
+  pub label_of : ℕ → ℕ
+  pub entry_of : ℕ → ℕ
+  pub homes : Homes
+  pub slots : ℕ
+  pub is_main : Bool
+
+-- the first register of a place
+abbrev pub place_register : Homes → ℕ → ℕ
+place_register h place = 26 - h.width * (place + 1)
+
+-- the bytes of its registers that a call keeps, where so many bytes of the place are needed after it
+abbrev pub kept_bytes : Homes → (place n : ℕ) → ℕ
+kept_bytes h place n = if nat_le (h.width * (place + 1)) 12 then min n h.width else 0
+
+-- they wait in the scratch memory of the place, behind its temporaries there
+abbrev pub waiting_location : Homes → ℕ → Location
+waiting_location h place = InMemory h.scratch (16 * place + 8)
+
+abbrev pub save_place : Homes → (place n : ℕ) → List AsmItem
+save_place h place n =
+    copy_code (InRegisters (place_register h place)) (waiting_location h place) (kept_bytes h place n)
+
+abbrev pub restore_place : Homes → (place n : ℕ) → List AsmItem
+restore_place h place n =
+    copy_code (waiting_location h place) (InRegisters (place_register h place)) (kept_bytes h place n)
+
+-- the places that may have registers: at most the first six
+abbrev pub register_places : ℕ → ℕ
+register_places slots = min slots 6
+
+abbrev pub save_code : Linkage → Need → List AsmItem
+save_code k need = chain (λ place. save_place k.homes place (need place)) (register_places k.slots)
+
+abbrev pub restore_code : Linkage → Need → List AsmItem
+restore_code k need = chain (λ place. restore_place k.homes place (need place)) (register_places k.slots)
+
+-- of the result so many bytes are wanted
+abbrev pub taken_code : (Temp → Location) → Option Temp → ℕ → List AsmItem
+taken_code home None bytes = []
+taken_code home (Some t) bytes = move_code (result_location t.bytes) (home t) bytes
+
+-- what is needed of other places waits in memory while the function runs
+abbrev pub call_code : (Temp → Location) → Linkage → (f : ℕ) → (to : Option Temp) → (bytes : ℕ) → (kept : Need)
+    → List AsmItem
+call_code home k f to bytes kept =
+    save_code k kept ++ (CallTo (k.entry_of f) ∷ (taken_code home to bytes ++ restore_code k kept))
+
+-- ---- returns
+
+-- a result has at most 8 bytes
+abbrev pub HasResult : Option Temp → Type 0
+HasResult None = ⊤
+HasResult (Some t) = t.bytes ≤ 8
+
+-- main's result is 0 where it gives none
+abbrev pub result_code : (Temp → Location) → (is_main : Bool) → Option Temp → List AsmItem
+result_code home is_main None = if is_main then constant_code (InRegisters 24) 0 2 else []
+result_code home is_main (Some t) = move_code (home t) (result_location t.bytes) t.bytes
+
+abbrev pub return_code : (Temp → Location) → (is_main : Bool) → Option Temp → List AsmItem
+return_code home is_main from = result_code home is_main from ++ Plain Ret ∷ []
+
+-- ---- operations with a fixed-point type
+
+-- the work bytes: 40 that operations work in, and behind them a result
+abbrev pub work_location : Location
+work_location = InMemory 1280 0
+
+abbrev pub answer_location : Location
+answer_location = InMemory 1280 40
+
+-- code that leaves a result there, of which so many bytes are brought to their place; none where none is needed
+abbrev pub answer_code : List AsmItem → Location → (n : ℕ) → List AsmItem
+answer_code code to n = if n == 0 then [] else code ++ copy_code answer_location to n
+
+-- the code for an operation of a kind, or that for one of another kind
+abbrev pub by_kind : Bool → (own others : List AsmItem) → List AsmItem
+by_kind true own others = own
+by_kind false own others = others
+
+abbrev pub fixed_binary : BinOp → (ty aty bty : PlainType) → Mode → (a b to : Location) → (n : ℕ) → List AsmItem
+fixed_binary op ty aty bty mode a b to n =
+    answer_code (fixed_binary_code op ty aty bty mode a b answer_location work_location) to n
+
+abbrev pub fixed_unary : UnOp → PlainType → Mode → (a to : Location) → (n : ℕ) → List AsmItem
+fixed_unary op ty mode a to n = answer_code (fixed_unary_code op ty mode a answer_location work_location) to n
+
+abbrev pub fixed_conversion : (ty aty : PlainType) → Mode → (a to : Location) → (n : ℕ) → List AsmItem
+fixed_conversion ty aty mode a to n =
+    answer_code (fixed_conversion_code ty aty mode a answer_location work_location) to n
+
+-- ---- pointers
+
+-- the address of a place is put to a pointer of so many bytes, where some of them are needed
+abbrev pub addressed_code : PlainProgram → (o offset : ℕ) → Location → (bytes n : ℕ) → List AsmItem
+addressed_code p o offset to bytes n =
+    if n == 0 then [] else address_code o offset (tag_in bytes (home_of p o)) to
+
+-- n bytes through a pointer into a space, which stands at p
+abbrev pub load_code : SpaceId → (p to : Location) → ℕ → List AsmItem
+load_code Flash p to n = load_flash_code p to n
+load_code Data p to n = load_data_code p to n
+load_code Generic p to n = load_any_code p to n
+
+-- n bytes of an object from an offset on, which is kept in a bank
+abbrev pub banked_code : Bank → List PlainObject → (o offset : ℕ) → (to : Location) → ℕ → List AsmItem
+banked_code FlashBank objects o offset to n = load_table_code o offset to n
+banked_code DataBank objects o offset to n = copy_code (object_location objects o offset) to n
+
+-- A pointer so many elements further, or back: the number of elements becomes one of bytes in R31:R30, then the pointer
+-- is brought to the result's place and moved there
+abbrev pub offset_code : (minus signed : Bool) → (from index to : Location) → (bytes index_bytes size n : ℕ)
+    → List AsmItem
+offset_code minus signed from index to bytes index_bytes size n =
+    if n == 0 then []
+    else scale_index_code index signed index_bytes (size % 65536) ++ (move_code from to bytes ++ advance_code minus to)
+
+-- the elements of so many bytes between two pointers
+abbrev pub difference_code : (a b to : Location) → (size n : ℕ) → List AsmItem
+difference_code a b to size n = if n == 0 then [] else elements_code a b to size
+
+-- two pointers of so many bytes: what is compared of them is told by the relation
+abbrev pub pointers_code : Family → (a b to : Location) → (bytes size n : ℕ) → List AsmItem
+pointers_code (Combined op) a b to bytes size n = difference_code a b to size n
+pointers_code (Compared r false) a b to bytes size n = compared_code r false a b to (compared_bytes r bytes) n
+pointers_code (Compared r true) a b to bytes size n = compared_code r false b a to (compared_bytes r bytes) n
+pointers_code f a b to bytes size n = []
+
+abbrev pub is_difference : BinOp → Bool
+is_difference Sub = true
+is_difference op = false
+
+-- two pointers, or a pointer and a number of elements, in either order
+abbrev pub pointer_binary : (left right : Bool) → PlainProgram → BinOp → (aty bty : PlainType) → (a b to : Location)
+    → (bytes index_bytes n : ℕ) → List AsmItem
+pointer_binary true true p op aty bty a b to m k n = pointers_code (family_of op) a b to m (element_size p aty) n
+pointer_binary true false p op aty bty a b to m k n =
+    offset_code (is_difference op) (is_signed bty) a b to m k (element_size p aty) n
+pointer_binary false true p op aty bty a b to m k n = offset_code false (is_signed aty) b a to k m (element_size p bty) n
+pointer_binary false false p op aty bty a b to m k n = []
+
+-- a pointer of two bytes gets a third one, which tells its bank, and one of three bytes loses it
+abbrev pub pointer_conversion : PlainType → (from to : Location) → (from_bytes to_bytes n : ℕ) → List AsmItem
+pointer_conversion aty from to m k n =
+    if m == 2 && k == 3 then (if n == 0 then [] else embed_code (is_into_data aty) from to) else move_code from to n
+
+-- ---- operations
+
+-- An operation, of whose result so many bytes are needed, and after a call so many of other places; what the one before
+-- it told, and what it tells itself. A constant is taken in two's complement of 16 bytes, since no temporary has more
+abbrev pub operation_code : PlainProgram → (Temp → Location) → Linkage → (told telling : Option Told) → ℕ → Need
+    → PlainIr → List AsmItem
+operation_code p home k told telling bytes kept (constant t n) = constant_code (home t) (low_bytes 16 n) bytes
+operation_code p home k told telling bytes kept (copy to from) = move_code (home from) (home to) bytes
+operation_code p home k told telling bytes kept (address t o offset) =
+    addressed_code p o offset (home t) t.bytes bytes
+operation_code p home k told telling bytes kept (field ptr space offset) = field_code (home ptr) offset
+operation_code p home k told telling bytes kept (load_at to ptr space) = load_code space (home ptr) (home to) to.bytes
+operation_code p home k told telling bytes kept (store_at ptr space from) =
+    store_data_code (home from) (home ptr) from.bytes
+operation_code p home k told telling bytes kept (load_object t o offset) =
+    banked_code (home_of p o) p.objects o offset (home t) t.bytes
+operation_code p home k told telling bytes kept (store_object o offset t) =
+    copy_code (home t) (object_location p.objects o offset) t.bytes
+operation_code p home k told telling bytes kept (binary_op op ty mode to a aty b bty) =
+    by_kind (is_fixed aty || is_fixed bty) (fixed_binary op ty aty bty mode (home a) (home b) (home to) bytes)
+    (by_kind (is_pointer aty || is_pointer bty)
+    (pointer_binary (is_pointer aty) (is_pointer bty) p op aty bty (home a) (home b) (home to) a.bytes b.bytes bytes)
+    (operator_code telling (family_of op) (is_signed aty) (is_signed bty) (home a) (home b) (home to) a.bytes bytes))
+operation_code p home k told telling bytes kept (unary_op op ty mode to a) =
+    by_kind (is_fixed ty) (fixed_unary op ty mode (home a) (home to) bytes) (unary_code op (home a) (home to) bytes)
+operation_code p home k told telling bytes kept (conversion to ty mode a aty) =
+    by_kind (is_fixed ty || is_fixed aty) (fixed_conversion ty aty mode (home a) (home to) bytes)
+    (by_kind (is_pointer aty) (pointer_conversion aty (home a) (home to) a.bytes to.bytes bytes)
+    (conversion_code (is_signed aty) (home a) (home to) a.bytes bytes))
+operation_code p home k told telling bytes kept (label l) = Label (k.label_of l) ∷ []
+operation_code p home k told telling bytes kept (jump l) = JumpTo (k.label_of l) ∷ []
+operation_code p home k told telling bytes kept (branch_zero t l) =
+    tested_code told (home t) t.bytes (k.label_of l)
+operation_code p home k told telling bytes kept (call_function f to) = call_code home k f to bytes kept
+operation_code p home k told telling bytes kept (return_from from) = return_code home k.is_main from
+operation_code p home k told telling bytes kept (port_in to port index width) =
+    in_code (option_map home index) (home to) port width bytes
+operation_code p home k told telling bytes kept (port_out from port index width) =
+    out_code (option_map home index) (home from) port width
+
+-- the bytes that are needed of an operation's result
+abbrev pub result_wanted : Need → PlainIr → ℕ
+result_wanted need (constant t n) = wanted need t
+result_wanted need (copy to from) = wanted need to
+result_wanted need (address t o offset) = wanted need t
+result_wanted need (binary_op op ty mode to a aty b bty) = wanted need to
+result_wanted need (unary_op op ty mode to a) = wanted need to
+result_wanted need (conversion to ty mode a aty) = wanted need to
+result_wanted need (call_function f to) = wanted_result need to
+result_wanted need (port_in to port index width) = wanted need to
+result_wanted need i = 0
+
+-- the bytes that are needed behind an operation: of its result, or of what a branch has tested
+abbrev pub wanted_behind : (ℕ → Need) → Need → PlainIr → ℕ
+wanted_behind at need (branch_zero t l) = wanted (either need (at l)) t
+wanted_behind at need i = result_wanted need i
+
+abbrev pub wanted_bytes : (ℕ → Need) → List PlainIr → List ℕ
+wanted_bytes at [] = []
+wanted_bytes at (i ∷ code) = wanted_behind at (needs at code) i ∷ wanted_bytes at code
+
+-- what a call keeps
+abbrev pub kept_need : Need → PlainIr → Need
+kept_need need (call_function f to) = without_result to need
+kept_need need i = nothing
+
+-- an operation, where so much is needed after it
+abbrev pub op_code : PlainProgram → (Temp → Location) → Linkage → (told telling : Option Told) → Need → PlainIr
+    → List AsmItem
+op_code p home k told telling need i =
+    operation_code p home k told telling (result_wanted need i) (kept_need need i) i
+
+-- what an operation tells those behind it
+abbrev pub tells_next : (ℕ → Need) → PlainIr → List PlainIr → Option Told
+tells_next at i code = tells i (slice_get code 0) (slice_index (wanted_bytes at code) 0)
+
+abbrev pub ops_code : PlainProgram → (Temp → Location) → Linkage → (ℕ → Need) → (told : Option Told)
+    → List PlainIr → List AsmItem
+ops_code p home k at told [] = []
+ops_code p home k at told (i ∷ code) =
+    op_code p home k told (tells_next at i code) (needs at code) i
+    ++ ops_code p home k at (tells_next at i code) code
+
+-- the code of a function, which begins with its label
+abbrev pub function_code : PlainProgram → Linkage → (f : ℕ) → (ℕ → Need) → List PlainIr → List AsmItem
+function_code p k f at code = Label (k.entry_of f) ∷ ops_code p (home k.homes) k at None code

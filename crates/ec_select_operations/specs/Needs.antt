@@ -1,0 +1,136 @@
+-- How many low bytes of what each place of temporaries holds are still needed. Code computes only these bytes.
+use Rattle.std.specs.Prelude.{ℕ, zero, suc, ◌≤◌, ◌==◌, ⊤, Bool, true, false, ◌||◌, if◌then◌else◌, min, max, List, []}
+use Rattle.std.specs.Prelude.{◌∷◌}
+use Rattle.std.specs.Prelude.{Option, Some, None}
+use Rattle.ec_core.specs.declared.expressions.BinOp.{BinOp}
+use Rattle.ec_core.specs.declared.expressions.BinOp.TheVariants.{Add, Sub, And, Or, Xor, Shl, Shr}
+use Rattle.ec_core.specs.Plain.{PlainType, fixed, pointer}
+use Rattle.ec_ir.specs.declared.operations.Temp.{Temp}
+use Rattle.ec_ir.specs.Operations.{PlainIr, constant, copy, address, field, load_at, store_at, load_object}
+use Rattle.ec_ir.specs.Operations.{store_object, binary_op, unary_op, conversion, label, jump, branch_zero}
+use Rattle.ec_ir.specs.Operations.{call_function, return_from, port_in, port_out}
+
+-- for each place the number of its low bytes that are needed
+abbrev pub Need : Type 0
+Need = ℕ → ℕ
+
+abbrev pub nothing : Need
+nothing place = 0
+
+abbrev pub at_least : ℕ → ℕ → Need → Need
+at_least at n need place = if place == at then max (need place) n else need place
+
+abbrev pub without : ℕ → Need → Need
+without at need place = if place == at then 0 else need place
+
+-- of the place that gets a call's result nothing is needed
+abbrev pub without_result : Option Temp → Need → Need
+without_result None need = need
+without_result (Some t) need = without t.at need
+
+abbrev pub either : Need → Need → Need
+either a b place = max (a place) (b place)
+
+-- the bytes of a temporary that are needed
+abbrev pub wanted : Need → Temp → ℕ
+wanted need t = min (need t.at) t.bytes
+
+abbrev pub wanted_result : Need → Option Temp → ℕ
+wanted_result need None = 0
+wanted_result need (Some t) = wanted need t
+
+-- what is needed of the temporary that is returned
+abbrev pub returned_need : Option Temp → Need
+returned_need None = nothing
+returned_need (Some t) = at_least t.at t.bytes nothing
+
+-- the low bytes of the result depend on as many low bytes of the first operand alone, and but for a shift of the second
+-- one too
+abbrev pub is_of_low_bytes : BinOp → Bool
+is_of_low_bytes Add = true
+is_of_low_bytes Sub = true
+is_of_low_bytes And = true
+is_of_low_bytes Or = true
+is_of_low_bytes Xor = true
+is_of_low_bytes Shl = true
+is_of_low_bytes op = false
+
+-- all bytes, or none where none of the result is needed
+abbrev pub all_or_none : (bytes n : ℕ) → ℕ
+all_or_none bytes zero = 0
+all_or_none bytes (suc n) = bytes
+
+-- the bytes of the first operand that n bytes of an operator's result take, and those of the second one: a count is
+-- less than 256
+abbrev pub operand_wanted : BinOp → (bytes n : ℕ) → ℕ
+operand_wanted op bytes n = if is_of_low_bytes op then n else all_or_none bytes n
+
+abbrev pub right_wanted : BinOp → (bytes n : ℕ) → ℕ
+right_wanted Shl bytes n = all_or_none 1 n
+right_wanted Shr bytes n = all_or_none 1 n
+right_wanted op bytes n = operand_wanted op bytes n
+
+-- of the index of a port the low byte is needed: an element stands below 0x100
+abbrev pub index_needed : Option Temp → Need → Need
+index_needed None need = need
+index_needed (Some t) need = at_least t.at 1 need
+
+-- ---- operations with a fixed-point type or a pointer take all bytes of their operands
+
+abbrev pub is_fixed : PlainType → Bool
+is_fixed (fixed kind saturates) = true
+is_fixed ty = false
+
+abbrev pub is_whole : PlainType → Bool
+is_whole (fixed kind saturates) = true
+is_whole (pointer space const to) = true
+is_whole ty = false
+
+abbrev pub first_wanted : (whole : Bool) → BinOp → (bytes n : ℕ) → ℕ
+first_wanted true op bytes n = all_or_none bytes n
+first_wanted false op bytes n = operand_wanted op bytes n
+
+abbrev pub second_wanted : (whole : Bool) → BinOp → (bytes n : ℕ) → ℕ
+second_wanted true op bytes n = all_or_none bytes n
+second_wanted false op bytes n = right_wanted op bytes n
+
+-- of the only operand
+abbrev pub only_wanted : (whole : Bool) → (bytes n : ℕ) → ℕ
+only_wanted true bytes n = all_or_none bytes n
+only_wanted false bytes n = n
+
+-- what is needed before an operation, where `at` tells what is needed at each label, and `need` what is after the
+-- operation
+abbrev pub before : (ℕ → Need) → PlainIr → Need → Need
+before at (constant t n) need = without t.at need
+before at (copy to from) need = at_least from.at (wanted need to) (without to.at need)
+before at (address t o offset) need = without t.at need
+before at (field ptr space offset) need = at_least ptr.at ptr.bytes need
+before at (load_at to ptr space) need = at_least ptr.at ptr.bytes (without to.at need)
+before at (store_at ptr space from) need = at_least from.at from.bytes (at_least ptr.at ptr.bytes need)
+before at (load_object t o offset) need = without t.at need
+before at (store_object o offset t) need = at_least t.at t.bytes need
+before at (binary_op op ty mode to a aty b bty) need =
+    at_least a.at (first_wanted (is_whole aty || is_whole bty) op a.bytes (wanted need to))
+    (at_least b.at (second_wanted (is_whole aty || is_whole bty) op b.bytes (wanted need to)) (without to.at need))
+before at (unary_op op ty mode to a) need =
+    at_least a.at (only_wanted (is_whole ty) a.bytes (wanted need to)) (without to.at need)
+before at (conversion to ty mode a aty) need =
+    at_least a.at (only_wanted (is_whole ty || is_whole aty) a.bytes (wanted need to)) (without to.at need)
+before at (label l) need = at l
+before at (jump l) need = at l
+before at (branch_zero t l) need = at_least t.at t.bytes (either need (at l))
+before at (call_function f to) need = without_result to need
+before at (return_from from) need = returned_need from
+before at (port_in to port index width) need = index_needed index (without to.at need)
+before at (port_out from port index width) need = at_least from.at width (index_needed index need)
+
+abbrev pub needs : (ℕ → Need) → List PlainIr → Need
+needs at [] place = 0
+needs at (i ∷ code) place = before at i (needs at code) place
+
+-- the table of labels tells at least what the code after each label needs
+abbrev pub IsLive : (ℕ → Need) → List PlainIr → Type 0
+IsLive at [] = ⊤
+IsLive at (label l ∷ code) = ((place : ℕ) → needs at code place ≤ at l place) × IsLive at code
+IsLive at (i ∷ code) = IsLive at code

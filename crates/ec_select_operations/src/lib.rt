@@ -1,0 +1,33 @@
+//! The code of a program's operations: numbers, pointers, objects of both banks, ports, jumps, calls and returns.
+//!
+//! `specs/Code.antt` has the code of each operation, `specs/Needs.antt` how many bytes of each temporary it computes,
+//! `specs/Homes.antt` and `specs/Places.antt` where temporaries and objects stand, `specs/Pointers.antt` pointers as
+//! bytes, and `specs/Written.antt` the code of a list of operations. The laws in `laws` tell that the code which is
+//! written with the bytes that are needed is the code of the operations.
+#![tactic(auto)]
+
+mod calls;
+mod families;
+mod fixed;
+mod homes;
+mod laws;
+mod operations;
+mod pointers;
+mod ports;
+mod types;
+
+pub use calls::{Linking, call, finish};
+pub use families::{
+    BinaryOperation, Family, Operands, Told, binary, branch, branch_on, combine, convert,
+    divide_numbers, move_number, multiply_bytes, operator, shift_by_count, tell, unary,
+};
+pub use fixed::{fixed_binary, fixed_conversion, fixed_unary};
+pub use homes::{Homes, home};
+pub use laws::{needed_code_is_written, needed_functions_are_written};
+pub use operations::{Flags, all_operations, function, operation};
+pub use pointers::{
+    Offset, Pointers, combine_pointers, load_object, load_through, move_pointer, pointer_binary,
+    pointer_conversion, put_address,
+};
+pub use ports::{PortAccess, index_place, read_port, write_port};
+pub use types::{is_fixed, is_pointer, is_whole};

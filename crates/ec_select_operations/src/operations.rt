@@ -1,0 +1,290 @@
+//! The code of operations, one after another.
+ghost use Rattle.std.specs.Prelude.{◌≡◌, ◌≤◌, ◌++◌, ◌+◌, ◌^◌, ◌<◌, OnOk, OnErr, Some, map, length};
+ghost use Rattle.ec_runs.specs.Behaviours.{BeginWith};
+ghost use Rattle.ec_ir.specs.Operations.{plain_ir};
+ghost use Rattle.ec_ir.specs.Temporaries.{low_bytes};
+ghost use Rattle.ec_select_operations.specs.Code.{operation_code, is_only_tested, tells};
+ghost use Rattle.ec_select_operations.specs.Emitted.{declarations, linkage, IsLabel, CanBeEmitted};
+ghost use Rattle.ec_select_operations.specs.Homes.{home};
+ghost use Rattle.ec_select_operations.specs.Written.{need_in, CanBeWritten, told_at, written_code};
+ghost use Rattle.ec_select_operations.specs.Written.{written_function};
+
+use crate::calls::{Linking, call, finish};
+use crate::families::{
+    BinaryOperation, Told, branch_on, convert, family_of, move_number, operator, told_by, unary,
+};
+use crate::fixed::{fixed_binary, fixed_conversion, fixed_unary};
+use crate::homes::home;
+use crate::pointers::{
+    load_object, load_through, object_location, pointer_binary, pointer_conversion, put_address,
+};
+use crate::ports::{PortAccess, index_place, read_port, write_port};
+use crate::types::{is_fixed, is_pointer, is_signed, is_whole};
+use ec_asm::{AsmItem, Location, copy};
+use ec_ir::{Ir, IrProgram, Temp};
+use ec_select_bytes::constant;
+use ec_select_pointers::{field, store_data};
+use ec_space::{NoMemory, Seq};
+
+/// What an operation has been told by the one before it, and what it tells the next one.
+#[derive(Clone, Copy)]
+pub struct Flags {
+    pub told: Option<Told>,
+    pub telling: Option<Told>,
+}
+
+/// A number in two's complement of 16 bytes.
+fn bits_of(n: i128) -> u128
+    ensures { result ≡ low_bytes 16 n }
+{
+    let size = n.unsigned_abs();
+    if n >= 0 { size } else { u128::MAX - (size - 1) }
+}
+
+/// Whether the next operation branches on the result, of which nothing is needed afterwards.
+fn is_only_tested(to: Temp, next: &Ir, needed: u8) -> bool
+    ensures { result ≡ is_only_tested to (Some (plain_ir next.now)) needed }
+{
+    match next {
+        Ir::BranchZero(t, _) => needed == 0 && t.at == to.at && t.bytes == to.bytes,
+        _ => false,
+    }
+}
+
+/// What an operation tells the next one by a flag, in place of its result.
+fn tells(i: &Ir, next: &Ir, needed: u8) -> Option<Told>
+    ensures { result ≡ tells (plain_ir i.now) (Some (plain_ir next.now)) needed }
+{
+    match i {
+        Ir::Bin {
+            op,
+            to,
+            aty,
+            bty,
+            ..
+        } => {
+            if is_only_tested(*to, next, needed) {
+                told_by(
+                    is_whole(aty) || is_whole(bty),
+                    family_of(*op),
+                    is_signed(aty),
+                )
+            } else {
+                None
+            }
+        }
+        _ => None,
+    }
+}
+
+/// What the operation at a place has been told by the one before it.
+fn told_at(wanted: &[u8], code: &[Ir], k: usize) -> Option<Told>
+    requires { length code.now ≡ length wanted.now }
+    ensures { result ≡ told_at wanted.now (map plain_ir code.now) k }
+{
+    if k == 0 || k >= code.len() {
+        return None;
+    }
+    tells(&code[k - 1], &code[k], wanted[k])
+}
+
+/// Appends the code of an operation of a function. Of its result so many bytes are wanted, and no more than its
+/// temporary has; after a call so many of the first places, as a row tells. It has been told something by the operation
+/// before it, and is telling the next one something. Where memory runs out, a part of the code is appended.
+#[tactic(auto, using(crate::proofs::Emits::fewer_bytes))]
+pub fn operation(
+    out: &mut Seq<AsmItem>,
+    program: &IrProgram,
+    of: Linking,
+    flags: Flags,
+    wanted: u8,
+    kept: &[u8],
+    i: &Ir,
+) -> Result<(), NoMemory>
+    requires { CanBeEmitted (declarations program.now) of wanted (plain_ir i.now) }
+    ensures ok { OnOk result (out.new.items ≡ out.old.items
+        ++ operation_code (declarations program.now) (home of.homes) (linkage of) flags.told flags.telling wanted
+        (need_in kept.now) (plain_ir i.now)) }
+    ensures err { OnErr result (BeginWith out.old.items out.new.items) }
+{
+    let homes = of.homes;
+    match i {
+        Ir::Const(t, n) => constant(out, bits_of(*n), home(homes, *t), wanted),
+        Ir::Copy(to, from) => move_number(out, home(homes, *from), home(homes, *to), wanted),
+        Ir::Addr(t, o, offset) => {
+            put_address(out, program, *o, *offset, home(homes, *t), t.bytes, wanted)
+        }
+        Ir::Field { ptr, offset, .. } => field(out, home(homes, *ptr), *offset),
+        Ir::Load { to, ptr, space } => {
+            load_through(out, *space, home(homes, *ptr), home(homes, *to), to.bytes)
+        }
+        Ir::Store { ptr, from, .. } => {
+            store_data(out, home(homes, *from), home(homes, *ptr), from.bytes)
+        }
+        Ir::LoadObj(t, o, offset) => {
+            load_object(out, program, *o, *offset, home(homes, *t), t.bytes)
+        }
+        Ir::StoreObj(o, offset, t) => copy(
+            out,
+            home(homes, *t),
+            object_location(program.objs.as_slice(), *o, *offset, t.bytes),
+            t.bytes,
+        ),
+        Ir::Bin {
+            op,
+            ty,
+            mode,
+            to,
+            a,
+            aty,
+            b,
+            bty,
+        } => {
+            if is_fixed(aty) || is_fixed(bty) {
+                return fixed_binary(out, homes, *op, ty, *mode, *to, *a, aty, *b, bty, wanted);
+            }
+            if is_pointer(aty) || is_pointer(bty) {
+                return pointer_binary(out, homes, program, *op, ty, *to, *a, aty, *b, bty, wanted);
+            }
+            let binary_operation = BinaryOperation {
+                to: *to,
+                a: *a,
+                b: *b,
+                left_signed: is_signed(aty),
+                right_signed: is_signed(bty),
+            };
+            operator(out, homes, flags.telling, *op, binary_operation, wanted)
+        }
+        Ir::Un {
+            op,
+            ty,
+            mode,
+            to,
+            a,
+        } => {
+            if is_fixed(ty) {
+                return fixed_unary(out, homes, *op, ty, *mode, *to, *a, wanted);
+            }
+            unary(out, *op, home(homes, *a), home(homes, *to), wanted)
+        }
+        Ir::Conv {
+            to,
+            ty,
+            mode,
+            a,
+            aty,
+        } => {
+            if is_fixed(ty) || is_fixed(aty) {
+                return fixed_conversion(out, homes, *to, ty, *mode, *a, aty, wanted);
+            }
+            if is_pointer(aty) {
+                return pointer_conversion(out, homes, *to, ty, *a, aty, wanted);
+            }
+            convert(
+                out,
+                is_signed(aty),
+                home(homes, *a),
+                home(homes, *to),
+                a.bytes,
+                wanted,
+            )
+        }
+        Ir::Label(l) => out.extend_from_slice(&[AsmItem::Label(of.first_label + *l)]),
+        Ir::Jump(l) => out.extend_from_slice(&[AsmItem::JumpTo(of.first_label + *l)]),
+        Ir::BranchZero(t, l) => branch_on(
+            out,
+            flags.told,
+            home(homes, *t),
+            t.bytes,
+            of.first_label + *l,
+        ),
+        Ir::Call(f, to) => call(out, of, *f, *to, wanted, kept),
+        Ir::Return(from) => finish(out, homes, of.is_main, *from),
+        Ir::PortIn {
+            to,
+            address,
+            index,
+            width,
+        } => {
+            let of = PortAccess {
+                port: *address,
+                width: *width,
+                index: index_place(homes, *index),
+            };
+            read_port(out, of, home(homes, *to), wanted)
+        }
+        Ir::PortOut {
+            from,
+            address,
+            index,
+            width,
+        } => {
+            let of = PortAccess {
+                port: *address,
+                width: *width,
+                index: index_place(homes, *index),
+            };
+            write_port(out, of, home(homes, *from))
+        }
+    }
+}
+
+/// Appends the code of a function's operations, one after another: behind each so many bytes are needed as the number
+/// at its place tells, of its result or of what it has tested, and a call keeps what the row at its place tells. Where
+/// memory runs out, a part of the code is appended.
+pub fn all_operations(
+    out: &mut Seq<AsmItem>,
+    program: &IrProgram,
+    of: Linking,
+    code: &[Ir],
+    wanted: &[u8],
+    kept: &[Vec<u8>],
+) -> Result<(), NoMemory>
+    requires numbers { length code.now ≡ length wanted.now }
+    requires rows { length code.now ≡ length kept.now }
+    requires each { CanBeWritten (declarations program.now) of wanted.now (map plain_ir code.now) }
+    ensures ok { OnOk result (out.new.items ≡ out.old.items
+        ++ written_code (declarations program.now) (home of.homes) (linkage of) wanted.now
+        (map (λ row. row.items) kept.now) (map plain_ir code.now) (length code.now)) }
+    ensures err { OnErr result (BeginWith out.old.items out.new.items) }
+{
+    for k in 0..code.len() {
+        let told = told_at(wanted, code, k);
+        let telling = told_at(wanted, code, k + 1);
+        let flags = Flags { told, telling };
+        operation(
+            out,
+            program,
+            of,
+            flags,
+            wanted[k],
+            kept[k].as_slice(),
+            &code[k],
+        )?;
+    }
+    Ok(())
+}
+
+/// Appends the code of the function with a number: the label at which it begins, and that of its operations. Where
+/// memory runs out, a part of the code is appended.
+pub fn function(
+    out: &mut Seq<AsmItem>,
+    program: &IrProgram,
+    of: Linking,
+    f: u16,
+    code: &[Ir],
+    wanted: &[u8],
+    kept: &[Vec<u8>],
+) -> Result<(), NoMemory>
+    requires label { IsLabel (of.first_entry + f) }
+    requires numbers { length code.now ≡ length wanted.now }
+    requires rows { length code.now ≡ length kept.now }
+    requires each { CanBeWritten (declarations program.now) of wanted.now (map plain_ir code.now) }
+    ensures ok { OnOk result (out.new.items ≡ out.old.items
+        ++ written_function (declarations program.now) (linkage of) f wanted.now
+        (map (λ row. row.items) kept.now) (map plain_ir code.now)) }
+    ensures err { OnErr result (BeginWith out.old.items out.new.items) }
+{
+    out.extend_from_slice(&[AsmItem::Label(of.first_entry + u64::from(f))])?;
+    all_operations(out, program, of, code, wanted, kept)
+}

@@ -1,0 +1,429 @@
+//! The code of operations with pointers, and of accesses to objects by the bank where they are kept.
+ghost use Rattle.std.specs.Prelude.{◌≡◌, ◌≤◌, ◌++◌, true, false, OnOk, OnErr, map};
+ghost use Rattle.ec_runs.specs.Behaviours.{BeginWith};
+ghost use Rattle.ec_asm.specs.Pieces.{HasBytes};
+ghost use Rattle.ec_space.specs.Spaces.{width};
+ghost use Rattle.ec_core.specs.Accesses.{element_size};
+ghost use Rattle.ec_core.specs.Layout.{AreStructs};
+ghost use Rattle.ec_core.specs.Plain.{plain_object, plain_type};
+ghost use Rattle.ec_core.specs.Valid.{IsExprType};
+ghost use Rattle.ec_select_places.specs.Steps.{compared_bytes};
+ghost use Rattle.ec_select_operations.specs.Code.{family_of, is_signed};
+ghost use Rattle.ec_select_operations.specs.Code.{addressed_code, load_code, banked_code, offset_code, is_difference};
+ghost use Rattle.ec_select_operations.specs.Code.{difference_code, pointers_code, pointer_binary, pointer_conversion};
+ghost use Rattle.ec_select_operations.specs.Emitted.{declarations, PointersHaveBytes, PointerHasBytes};
+ghost use Rattle.ec_select_operations.specs.Homes.{home};
+ghost use Rattle.ec_select_operations.specs.Places.{object_location};
+ghost use Rattle.ec_select_operations.specs.Pointers.{is_pointer, home_of, tag_of, tag_in, IsPointerSize};
+
+use crate::families::{Family, Operands, family_of, move_number, tell};
+use crate::homes::{Homes, home};
+use crate::types::{is_into_data, is_pointer, is_signed};
+use ec_asm::{AsmItem, Location, copy};
+use ec_core::{BinOp, CType, Obj, Storage, size_of};
+use ec_ir::{IrProgram, Temp};
+use ec_select_order::Relation;
+use ec_select_places::{advance, elements, embed, scale_index};
+use ec_select_pointers::{address, load_any, load_data, load_flash, load_table};
+use ec_space::{Bank, NoMemory, Seq, SpaceId};
+
+/// The bank where an object is kept.
+fn home_of(program: &IrProgram, o: u16) -> Bank
+    ensures { result ≡ home_of (declarations program.now) o }
+{
+    match program.objs.get(usize::from(o)) {
+        None => Bank::Data,
+        Some(d) => d.home,
+    }
+}
+
+/// The third byte of a pointer into a bank.
+fn tag_of(bank: Bank) -> u8
+    ensures { result ≡ tag_of bank }
+{
+    match bank {
+        Bank::Flash => 0x00,
+        Bank::Data => 0x80,
+    }
+}
+
+/// The tag in a pointer of so many bytes.
+fn tag_in(bytes: u8, bank: Bank) -> Option<u8>
+    ensures { result ≡ tag_in bytes bank }
+{
+    if bytes == 3 { Some(tag_of(bank)) } else { None }
+}
+
+/// Appends code that puts the address of a place to a pointer of so many bytes, where some of them are wanted. Where
+/// memory runs out, a part of the code is appended.
+#[tactic(auto, using(crate::proofs::Emits::tag_there))]
+pub fn put_address(
+    out: &mut Seq<AsmItem>,
+    program: &IrProgram,
+    o: u16,
+    offset: u32,
+    to: Location,
+    bytes: u8,
+    wanted: u8,
+) -> Result<(), NoMemory>
+    requires size { IsPointerSize bytes }
+    requires to { HasBytes to bytes }
+    ensures ok { OnOk result (out.new.items ≡ out.old.items
+        ++ addressed_code (declarations program.now) o offset to bytes wanted) }
+    ensures err { OnErr result (BeginWith out.old.items out.new.items) }
+{
+    if wanted == 0 {
+        return Ok(());
+    }
+    address(out, o, offset, tag_in(bytes, home_of(program, o)), to)
+}
+
+/// Appends code that loads a number of so many bytes through a pointer into a space. Where memory runs out, a part of
+/// the code is appended.
+pub fn load_through(
+    out: &mut Seq<AsmItem>,
+    space: SpaceId,
+    pointer: Location,
+    to: Location,
+    bytes: u8,
+) -> Result<(), NoMemory>
+    requires pointer { HasBytes pointer (width space) }
+    requires to { HasBytes to bytes }
+    ensures ok { OnOk result (out.new.items ≡ out.old.items ++ load_code space pointer to bytes) }
+    ensures err { OnErr result (BeginWith out.old.items out.new.items) }
+{
+    match space {
+        SpaceId::Flash => load_flash(out, pointer, to, bytes),
+        SpaceId::Data => load_data(out, pointer, to, bytes),
+        SpaceId::Generic => load_any(out, pointer, to, bytes),
+    }
+}
+
+/// Where the bytes of an object from an offset on stand, if it is kept in the data bank.
+pub(crate) fn object_location(objects: &[Obj], o: u16, offset: u32, bytes: u8) -> Location
+    requires { HasBytes (object_location (map plain_object objects.now) o offset) bytes }
+    ensures { result ≡ object_location (map plain_object objects.now) o offset }
+{
+    match objects.get(usize::from(o)) {
+        None => Location::InMemory { object: o, offset },
+        Some(d) => match &d.storage {
+            Storage::Register(first) => Location::InRegisters(*first + offset as u8),
+            _ => Location::InMemory { object: o, offset },
+        },
+    }
+}
+
+/// Appends code that loads a number of so many bytes from an offset in an object, from the bank where it is kept. Where
+/// memory runs out, a part of the code is appended.
+pub fn load_object(
+    out: &mut Seq<AsmItem>,
+    program: &IrProgram,
+    o: u16,
+    offset: u32,
+    to: Location,
+    bytes: u8,
+) -> Result<(), NoMemory>
+    requires from { HasBytes (object_location (map plain_object program.now.objs.items) o offset) bytes }
+    requires to { HasBytes to bytes }
+    ensures ok { OnOk result (out.new.items ≡ out.old.items
+        ++ banked_code (home_of (declarations program.now) o) (map plain_object program.now.objs.items) o offset to
+        bytes) }
+    ensures err { OnErr result (BeginWith out.old.items out.new.items) }
+{
+    match home_of(program, o) {
+        Bank::Flash => load_table(out, o, offset, to, bytes),
+        Bank::Data => {
+            let from = object_location(program.objs.as_slice(), o, offset, bytes);
+            copy(out, from, to, bytes)
+        }
+    }
+}
+
+/// The bytes of what a pointer points to.
+fn element_size(program: &IrProgram, ty: &CType) -> u32
+    requires structs { AreStructs (declarations program.now).structs }
+    requires known { IsExprType (declarations program.now) (plain_type ty.now) }
+    ensures { result ≡ element_size (declarations program.now) (plain_type ty.now) }
+{
+    match ty {
+        CType::Ptr { to, .. } => size_of(&program.structs, to),
+        _ => 0,
+    }
+}
+
+/// A pointer, and a number of elements by which it is moved, further or back.
+#[derive(Clone, Copy)]
+pub struct Offset {
+    pub minus: bool,
+    pub from: Location,
+    pub bytes: u8,
+    pub signed: bool,
+    pub index: Location,
+    pub index_bytes: u8,
+}
+
+/// Appends code that puts the pointer at `of.from` so many elements further, or back, to `to`. Where memory runs out, a
+/// part of the code is appended.
+#[tactic(auto, using(crate::proofs::Emits::fewer_bytes))]
+pub fn move_pointer(
+    out: &mut Seq<AsmItem>,
+    of: Offset,
+    to: Location,
+    size: u32,
+    wanted: u8,
+) -> Result<(), NoMemory>
+    requires from { HasBytes of.from of.bytes }
+    requires index { HasBytes of.index of.index_bytes }
+    requires to { HasBytes to of.bytes }
+    requires two { 2 ≤ of.bytes }
+    requires some { 1 ≤ of.index_bytes }
+    ensures ok { OnOk result (out.new.items ≡ out.old.items
+        ++ offset_code of.minus of.signed of.from of.index to of.bytes of.index_bytes size wanted) }
+    ensures err { OnErr result (BeginWith out.old.items out.new.items) }
+{
+    if wanted == 0 {
+        return Ok(());
+    }
+    scale_index(
+        out,
+        of.index,
+        of.signed,
+        of.index_bytes,
+        (size % 65536) as u16,
+    )?;
+    move_number(out, of.from, to, of.bytes)?;
+    advance(out, of.minus, to)
+}
+
+/// Appends code that puts the elements of so many bytes between two pointers to `to`.
+fn subtract_pointers(
+    out: &mut Seq<AsmItem>,
+    a: Location,
+    b: Location,
+    to: Location,
+    size: u32,
+    wanted: u8,
+) -> Result<(), NoMemory>
+    requires a { HasBytes a 2 }
+    requires b { HasBytes b 2 }
+    requires to { HasBytes to 2 }
+    ensures ok { OnOk result (out.new.items ≡ out.old.items ++ difference_code a b to size wanted) }
+    ensures err { OnErr result (BeginWith out.old.items out.new.items) }
+{
+    if wanted == 0 {
+        return Ok(());
+    }
+    elements(out, a, b, to, size)
+}
+
+/// The bytes of pointers that tell a relation: all for equality, and those of the address for order.
+fn compared_bytes(relation: Relation, bytes: u8) -> u8
+    ensures { result ≡ compared_bytes relation bytes }
+{
+    match relation {
+        Relation::Less | Relation::NotLess => 2,
+        Relation::Equal | Relation::NotEqual => bytes,
+    }
+}
+
+/// Two pointers of so many bytes, and the bytes of what they point to.
+#[derive(Clone, Copy)]
+pub struct Pointers {
+    pub left: Location,
+    pub right: Location,
+    pub bytes: u8,
+    pub size: u32,
+}
+
+/// Two pointers, or where they are exchanged the other way round, as operands of a relation.
+fn operands_of(relation: Relation, exchanged: bool, of: Pointers) -> Operands
+    ensures signed { result.signed ≡ false }
+    ensures bytes { result.bytes ≡ compared_bytes relation of.bytes }
+    ensures straight { exchanged ≡ false → (result.left ≡ of.left) × (result.right ≡ of.right) }
+    ensures turned { exchanged ≡ true → (result.left ≡ of.right) × (result.right ≡ of.left) }
+{
+    let (left, right) = if exchanged {
+        (of.right, of.left)
+    } else {
+        (of.left, of.right)
+    };
+    Operands {
+        signed: false,
+        bytes: compared_bytes(relation, of.bytes),
+        left,
+        right,
+    }
+}
+
+/// Appends the code of an operator on two pointers: their difference in elements, or a comparison. Where memory runs
+/// out, a part of the code is appended.
+#[tactic(auto, using(crate::proofs::Emits::fewer_bytes, crate::proofs::Emits::fewer_compared))]
+pub fn combine_pointers(
+    out: &mut Seq<AsmItem>,
+    family: Family,
+    of: Pointers,
+    to: Location,
+    wanted: u8,
+) -> Result<(), NoMemory>
+    requires left { HasBytes of.left of.bytes }
+    requires right { HasBytes of.right of.bytes }
+    requires two { 2 ≤ of.bytes }
+    requires to { HasBytes to 2 }
+    requires most { wanted ≤ 2 }
+    ensures ok { OnOk result (out.new.items ≡ out.old.items
+        ++ pointers_code family of.left of.right to of.bytes of.size wanted) }
+    ensures err { OnErr result (BeginWith out.old.items out.new.items) }
+{
+    match family {
+        Family::Combined(_) => subtract_pointers(out, of.left, of.right, to, of.size, wanted),
+        Family::Compared {
+            relation,
+            exchanged,
+        } => tell(
+            out,
+            relation,
+            operands_of(relation, exchanged, of),
+            to,
+            wanted,
+        ),
+        _ => Ok(()),
+    }
+}
+
+fn is_difference(op: BinOp) -> bool
+    ensures { result ≡ is_difference op }
+{
+    matches!(op, BinOp::Sub)
+}
+
+/// Appends the code of a difference or a comparison of the pointers in two temporaries.
+#[tactic(auto, using(crate::proofs::Emits::fewer_bytes))]
+fn two_pointers(
+    out: &mut Seq<AsmItem>,
+    homes: Homes,
+    program: &IrProgram,
+    op: BinOp,
+    to: Temp,
+    a: Temp,
+    aty: &CType,
+    b: Temp,
+    wanted: u8,
+) -> Result<(), NoMemory>
+    requires structs { AreStructs (declarations program.now).structs }
+    requires known { IsExprType (declarations program.now) (plain_type aty.now) }
+    requires two { 2 ≤ a.bytes }
+    requires same { b.bytes ≡ a.bytes }
+    requires result { to.bytes ≡ 2 }
+    requires most { wanted ≤ to.bytes }
+    ensures ok { OnOk result (out.new.items ≡ out.old.items
+        ++ pointers_code (family_of op) (home homes a) (home homes b) (home homes to) a.bytes
+        (element_size (declarations program.now) (plain_type aty.now)) wanted) }
+    ensures err { OnErr result (BeginWith out.old.items out.new.items) }
+{
+    let of = Pointers {
+        left: home(homes, a),
+        right: home(homes, b),
+        bytes: a.bytes,
+        size: element_size(program, aty),
+    };
+    combine_pointers(out, family_of(op), of, home(homes, to), wanted)
+}
+
+/// Appends the code of a pointer in a temporary plus a number of elements in another one, or less it.
+#[tactic(auto, using(crate::proofs::Emits::fewer_bytes))]
+fn pointer_and_number(
+    out: &mut Seq<AsmItem>,
+    homes: Homes,
+    program: &IrProgram,
+    minus: bool,
+    to: Temp,
+    pointer: Temp,
+    pty: &CType,
+    number: Temp,
+    nty: &CType,
+    wanted: u8,
+) -> Result<(), NoMemory>
+    requires structs { AreStructs (declarations program.now).structs }
+    requires known { IsExprType (declarations program.now) (plain_type pty.now) }
+    requires two { 2 ≤ pointer.bytes }
+    requires some { 1 ≤ number.bytes }
+    requires result { to.bytes ≡ pointer.bytes }
+    ensures ok { OnOk result (out.new.items ≡ out.old.items
+        ++ offset_code minus (is_signed (plain_type nty.now)) (home homes pointer) (home homes number) (home homes to)
+        pointer.bytes number.bytes (element_size (declarations program.now) (plain_type pty.now)) wanted) }
+    ensures err { OnErr result (BeginWith out.old.items out.new.items) }
+{
+    let of = Offset {
+        minus,
+        from: home(homes, pointer),
+        bytes: pointer.bytes,
+        signed: is_signed(nty),
+        index: home(homes, number),
+        index_bytes: number.bytes,
+    };
+    let size = element_size(program, pty);
+    move_pointer(out, of, home(homes, to), size, wanted)
+}
+
+/// Appends the code of a binary operator on operands of which one is a pointer at least, of whose result so many bytes
+/// are wanted. Where memory runs out, a part of the code is appended.
+pub fn pointer_binary(
+    out: &mut Seq<AsmItem>,
+    homes: Homes,
+    program: &IrProgram,
+    op: BinOp,
+    ty: &CType,
+    to: Temp,
+    a: Temp,
+    aty: &CType,
+    b: Temp,
+    bty: &CType,
+    wanted: u8,
+) -> Result<(), NoMemory>
+    requires { PointersHaveBytes (declarations program.now) op wanted to a b (plain_type ty.now) (plain_type aty.now)
+        (plain_type bty.now) }
+    ensures ok { OnOk result (out.new.items ≡ out.old.items
+        ++ pointer_binary (is_pointer (plain_type aty.now)) (is_pointer (plain_type bty.now)) (declarations program.now)
+        op (plain_type aty.now) (plain_type bty.now) (home homes a) (home homes b) (home homes to) a.bytes b.bytes
+        wanted) }
+    ensures err { OnErr result (BeginWith out.old.items out.new.items) }
+{
+    match (is_pointer(aty), is_pointer(bty)) {
+        (true, true) => two_pointers(out, homes, program, op, to, a, aty, b, wanted),
+        (true, false) => {
+            let minus = is_difference(op);
+            pointer_and_number(out, homes, program, minus, to, a, aty, b, bty, wanted)
+        }
+        (false, true) => {
+            pointer_and_number(out, homes, program, false, to, b, bty, a, aty, wanted)
+        }
+        (false, false) => Ok(()),
+    }
+}
+
+/// Appends the code of a conversion of a pointer, of whose result so many bytes are wanted: to a pointer of three bytes
+/// with its tag, or without one. Where memory runs out, a part of the code is appended.
+#[tactic(auto, using(crate::proofs::Emits::fewer_bytes))]
+pub fn pointer_conversion(
+    out: &mut Seq<AsmItem>,
+    homes: Homes,
+    to: Temp,
+    ty: &CType,
+    a: Temp,
+    aty: &CType,
+    wanted: u8,
+) -> Result<(), NoMemory>
+    requires pointer { is_pointer (plain_type aty.now) ≡ true }
+    requires bytes { PointerHasBytes wanted to a (plain_type ty.now) (plain_type aty.now) }
+    ensures ok { OnOk result (out.new.items ≡ out.old.items
+        ++ pointer_conversion (plain_type aty.now) (home homes a) (home homes to) a.bytes to.bytes wanted) }
+    ensures err { OnErr result (BeginWith out.old.items out.new.items) }
+{
+    if a.bytes == 2 && to.bytes == 3 {
+        if wanted == 0 {
+            return Ok(());
+        }
+        return embed(out, is_into_data(aty), home(homes, a), home(homes, to));
+    }
+    move_number(out, home(homes, a), home(homes, to), wanted)
+}
