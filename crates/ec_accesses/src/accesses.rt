@@ -48,13 +48,13 @@ fn element(alloc: Global, modes: Modes, a: Operand, i: Operand) -> Result<Option
     ensures { IfOk result (λ x. option_map plain_operand x ≡ indexed modes (plain_operand a) (plain_operand i)) }
 {
     if !sort_of(&i).is_integer() {
+        drop((a, i));
         return Ok(None);
     }
+    let i = boxed(alloc, as_value(modes, i));
     let a = boxed(alloc, as_value(modes, a))?;
-    let i = boxed(alloc, as_value(modes, i))?;
     let ty = a.ty.copied(alloc)?;
-    let x = pointed(alloc, made(modes, ty, Node::Binary(BinOp::Add, a, i)))?;
-    Ok(x)
+    pointed(alloc, made(modes, ty, Node::Binary(BinOp::Add, a, i?)))
 }
 
 /// What a subscript makes of its operands, or None where one has no type or they break a rule.
@@ -68,13 +68,14 @@ pub fn index(
         ≡ with_both (option_map plain_operand x) (option_map plain_operand y) (indexed modes)) }
 {
     let Some(x) = x else {
+        drop(y);
         return Ok(None);
     };
     let Some(y) = y else {
+        drop(x);
         return Ok(None);
     };
-    let z = element(alloc, modes, x, y)?;
-    Ok(z)
+    element(alloc, modes, x, y)
 }
 
 // ---- members
@@ -213,8 +214,7 @@ fn reached(
     ensures { IfOk result (λ y. option_map plain_operand y ≡ reached modes arrow (plain_operand x)) }
 {
     if arrow {
-        let y = pointed(alloc, as_value(modes, x))?;
-        Ok(y)
+        pointed(alloc, as_value(modes, x))
     } else {
         Ok(Some(x))
     }
@@ -224,7 +224,10 @@ fn part_of(alloc: Global, ty: CType, k: u16, x: Operand) -> Result<Option<Operan
     ensures { IfOk result (λ y. option_map plain_operand y ≡ part_of (plain_type ty) k (plain_operand x)) }
 {
     match x {
-        Operand::Value { .. } => Ok(None),
+        Operand::Value { value, .. } => {
+            drop((value, ty));
+            Ok(None)
+        }
         Operand::Place {
             konst,
             space,
@@ -244,6 +247,23 @@ fn part_of(alloc: Global, ty: CType, k: u16, x: Operand) -> Result<Option<Operan
     }
 }
 
+fn part_reached(
+    alloc: Global,
+    modes: Modes,
+    arrow: bool,
+    ty: CType,
+    k: u16,
+    x: Operand,
+) -> Result<Option<Operand>, NoMemory>
+    ensures { IfOk result (λ y. option_map plain_operand y
+        ≡ with_one (reached modes arrow (plain_operand x)) (part_of (plain_type ty) k)) }
+{
+    let Some(base) = reached(alloc, modes, arrow, x)? else {
+        return Ok(None);
+    };
+    part_of(alloc, ty, k, base)
+}
+
 fn member_at(
     alloc: Global,
     modes: Modes,
@@ -257,19 +277,24 @@ fn member_at(
         ≡ member_of modes (map plain_struct structs.now.items) name.now.items arrow (plain_operand x)) }
 {
     let Some(index) = base_of(arrow, sort_of(&x)) else {
+        drop(x);
         return Ok(None);
     };
     let Some(k) = member_number(structs, name, index) else {
+        drop(x);
         return Ok(None);
     };
-    let Some(ty) = member_type(alloc, structs, index, k)? else {
-        return Ok(None);
-    };
-    let Some(base) = reached(alloc, modes, arrow, x)? else {
-        return Ok(None);
-    };
-    let y = part_of(alloc, ty, k as u16, base)?;
-    Ok(y)
+    match member_type(alloc, structs, index, k) {
+        Ok(Some(ty)) => part_reached(alloc, modes, arrow, ty, k as u16, x),
+        Ok(None) => {
+            drop(x);
+            Ok(None)
+        }
+        Err(fault) => {
+            drop(x);
+            Err(fault)
+        }
+    }
 }
 
 /// What `->`, where `arrow` holds, or `.` makes of its operand, or None where that has no type or a rule is broken.
@@ -289,6 +314,5 @@ pub fn member(
     let Some(x) = x else {
         return Ok(None);
     };
-    let y = member_at(alloc, modes, structs, name, arrow, x)?;
-    Ok(y)
+    member_at(alloc, modes, structs, name, arrow, x)
 }

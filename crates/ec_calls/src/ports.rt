@@ -1,13 +1,13 @@
 //! Operations on ports and groups (ISO/IEC TR 18037:2008, 6.2).
 ghost use Rattle.std.specs.Prelude.{◌≡◌, IfOk, option_map};
-ghost use Rattle.ec_core.specs.Plain.{void, group as group_of, plain_type, plain_expr};
+ghost use Rattle.ec_core.specs.Plain.{void, group as group_of, io as io_of, plain_type, plain_expr};
 ghost use Rattle.ec_core.specs.PortOperations.{port_operation, takes_value};
 ghost use Rattle.ec_core.specs.Typing.{port_value, port_result};
 ghost use Rattle.ec_faults.specs.Faults.{all_judged};
 ghost use Rattle.ec_iohw.specs.Valid.{ValidIo};
 ghost use Rattle.ec_operands.specs.Operands.{plain_operand, valued as valued_of, made as made_of, with_one};
 ghost use Rattle.ec_calls.specs.Calls.{port_named, operand_count, operand_type, is_too_wide, too_wide, port_rules};
-ghost use Rattle.ec_calls.specs.Calls.{fits, accessed, group_named, is_map, group_rules, grouped, group_operation};
+ghost use Rattle.ec_calls.specs.Calls.{fits, accessed, optional, group_named, is_map, group_rules, grouped, group_operation};
 
 use ec_core::{CType, Expr, Node};
 use ec_faults::Faults;
@@ -235,10 +235,33 @@ fn boxed_if(alloc: Global, e: Option<Expr>) -> Result<Option<Box<Expr>>, NoMemor
     match e {
         None => Ok(None),
         Some(e) => {
-            let b = boxed(alloc, e)?;
-            Ok(Some(b))
+            let e = boxed(alloc, e)?;
+            Ok(Some(e))
         }
     }
+}
+
+fn operation_on(
+    alloc: Global,
+    modes: Modes,
+    op: IoOp,
+    port: u16,
+    index: Option<Expr>,
+    value: Option<Expr>,
+) -> Result<Option<Operand>, NoMemory>
+    ensures { let form = port_operation op in IfOk result (λ x. option_map plain_operand x
+        ≡ valued_of (made_of modes (port_result form.action (port_value form))
+        (io_of op port (optional (option_map plain_expr index)) (optional (option_map plain_expr value))))) }
+{
+    let index = boxed_if(alloc, index);
+    let value = boxed_if(alloc, value)?;
+    let node = Node::Io {
+        op,
+        port,
+        index: index?,
+        value,
+    };
+    Ok(valued(Some(made(modes, result_type(op), node))))
 }
 
 /// What an operation on a port makes of operands that were brought to their types, or None where there is no such port,
@@ -255,20 +278,14 @@ pub fn access(
         ≡ with_one port (accessed modes op (option_map plain_expr index) (option_map plain_expr value))) }
 {
     let Some(port) = port else {
+        drop((index, value));
         return Ok(None);
     };
     if is_too_wide(op, port) || !(fits(is_indexed(op), &index) && fits(takes_value(op), &value)) {
+        drop((index, value));
         return Ok(None);
     }
-    let index = boxed_if(alloc, index)?;
-    let value = boxed_if(alloc, value)?;
-    let node = Node::Io {
-        op,
-        port: port.number,
-        index,
-        value,
-    };
-    Ok(valued(Some(made(modes, result_type(op), node))))
+    operation_on(alloc, modes, op, port.number, index, value)
 }
 
 // ---- groups

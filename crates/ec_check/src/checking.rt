@@ -17,7 +17,7 @@ use crate::counts::has_too_many_structs;
 use crate::laws::{programs_are_valid, programs_exist, structs_are_few};
 use crate::units::{main_of, unit};
 use ec_core::Program;
-use ec_declare::copied_name;
+use ec_declare::{Scope, copied_name};
 use ec_faults::Fault;
 use ec_file_scope::{Setting, State};
 use ec_grammar::Tree;
@@ -107,24 +107,27 @@ fn program_by(main: Option<u16>, state: State) -> Option<Program>
     ensures value { option_map plain_program result ≡ program_by main (plain_state state) }
     ensures few { IfSome result (λ p. length p.funcs.items ≤ 65_536) }
 {
+    let whole = state.whole && state.functions.len() <= 65_536;
+    let Some(main) = main.filter(|_| whole) else {
+        drop(state);
+        return None;
+    };
     let State {
         scope,
+        tags,
         structs,
         functions,
-        whole,
+        declared,
         ..
     } = state;
-    let main = main?;
-    if whole && functions.len() <= 65_536 {
-        Some(Program {
-            structs,
-            objs: scope.objects,
-            funcs: functions,
-            main,
-        })
-    } else {
-        None
-    }
+    let Scope { names, objects } = scope;
+    drop((names, tags, declared));
+    Some(Program {
+        structs,
+        objs: objects,
+        funcs: functions,
+        main,
+    })
 }
 
 /// The program of the units, or None where not all of it has a meaning.
@@ -140,12 +143,18 @@ fn program_of(
     ensures few { IfOk result (λ r. HasFewFunctions r) }
     ensures structs { IfOk result (λ r. HasStructs r) }
 {
-    let mut state = State::new(alloc);
     let main = main_of(alloc, definitions)?;
-    let found = walk_units(alloc, definitions, ports, main.is_some(), units, &mut state)?;
-    match found {
-        Some(f) => Ok(Err(f)),
-        None => Ok(Ok(program_by(main, state))),
+    let mut state = State::new(alloc);
+    match walk_units(alloc, definitions, ports, main.is_some(), units, &mut state) {
+        Ok(None) => Ok(Ok(program_by(main, state))),
+        Ok(Some(f)) => {
+            drop(state);
+            Ok(Err(f))
+        }
+        Err(e) => {
+            drop(state);
+            Err(e)
+        }
     }
 }
 
@@ -157,7 +166,10 @@ fn recursion(alloc: Global, p: Program) -> Result<Program, CheckStop>
 {
     let found = match first_recursive(alloc, &p) {
         Ok(found) => found,
-        Err(_) => return Err(CheckStop::NoMemory),
+        Err(_) => {
+            drop(p);
+            return Err(CheckStop::NoMemory);
+        }
     };
     let Some(f) = found else {
         return Ok(p);
@@ -165,7 +177,9 @@ fn recursion(alloc: Global, p: Program) -> Result<Program, CheckStop>
     let Some(function) = p.funcs.get(f as usize) else {
         unreachable!();
     };
-    match copied_name(alloc, &function.name) {
+    let name = copied_name(alloc, &function.name);
+    drop(p);
+    match name {
         Ok(name) => Err(CheckStop::Recursion(name)),
         Err(_) => Err(CheckStop::NoMemory),
     }

@@ -43,8 +43,7 @@ fn declare_param(
         None => Ok(None),
         Some(name) => {
             let storage = Storage::Param(function);
-            let n = scope.declare_inner(alloc, unit, name, &p.ty, p.konst, storage)?;
-            Ok(n)
+            scope.declare_inner(alloc, unit, name, &p.ty, p.konst, storage)
         }
     }
 }
@@ -107,16 +106,13 @@ fn function_made(
     ensures { IfOk result (λ f. option_map plain_function f ≡ function_made unit name.now.items
         (option_map plain_type returns) (option_map (λ ns. ns.items) params) (option_map plain_stmt body)) }
 {
-    let Some(returns) = returns else {
+    let Some(((returns, params), body)) = returns.zip(params).zip(body) else {
         return Ok(None);
     };
-    let Some(params) = params else {
-        return Ok(None);
+    let Ok(name) = copied_name(alloc, name) else {
+        drop(((returns, params), body));
+        return Err(NoMemory);
     };
-    let Some(body) = body else {
-        return Ok(None);
-    };
-    let name = copied_name(alloc, name)?;
     Ok(Some(Func {
         name,
         unit,
@@ -139,6 +135,7 @@ fn add_function(state: &mut State, f: Option<Func>) -> Result<(), NoMemory>
     if state.functions.len() < 65_536 {
         state.functions.push(f)
     } else {
+        drop(f);
         state.whole = false;
         Ok(())
     }
@@ -164,7 +161,11 @@ fn define(
 {
     let function = number_in(&state.functions);
     let first = state.scope.names.names_inside();
-    let numbers = declare_params(alloc, setting.unit, function, &mut state.scope, &f.params)?;
+    let numbers = declare_params(alloc, setting.unit, function, &mut state.scope, &f.params);
+    let Ok(numbers) = numbers else {
+        drop(f);
+        return Err(NoMemory);
+    };
     let context = Context {
         tags: &state.tags,
         structs: &state.structs,
@@ -178,10 +179,14 @@ fn define(
         result: &f.returns,
         first,
     };
-    let stmt = body(alloc, &context, &around, &mut state.scope, faults, c)?;
-    let made = function_made(alloc, setting.unit, name, f.returns, numbers, stmt)?;
-    add_function(state, made)?;
-    Ok(())
+    let Ok(stmt) = body(alloc, &context, &around, &mut state.scope, faults, c) else {
+        drop((f, numbers));
+        return Err(NoMemory);
+    };
+    let FunctionDeclared { returns, params } = f;
+    drop(params);
+    let made = function_made(alloc, setting.unit, name, returns, numbers, stmt)?;
+    add_function(state, made)
 }
 
 /// What the head of a definition declares.
@@ -196,7 +201,7 @@ fn declared(
         (plain_declared_function d) (definition_declared t s)) }
 {
     let said = judge_specs(faults, &state.tags, true, &f.result.specs);
-    let d = declared_function(
+    declared_function(
         alloc,
         faults,
         &state.tags,
@@ -206,8 +211,7 @@ fn declared(
         &f.result.stars,
         f.name.spot.index,
         &f.params,
-    )?;
-    Ok(d)
+    )
 }
 
 fn word_of_definition(f: &Function) -> Option<StorageWord>
@@ -234,9 +238,13 @@ fn add_definition(
     ensures sound { OnOk result (IsSoundState (plain_state state.new)) }
 {
     let word = word_of_definition(f);
-    name_function(
+    let named = name_function(
         alloc, setting, state, faults, word, &f.name, true, false, &d,
-    )?;
+    );
+    if let Err(e) = named {
+        drop(d);
+        return Err(e);
+    }
     define(alloc, setting, state, faults, &f.name.name, d, &f.body)?;
     Ok(())
 }
@@ -259,6 +267,5 @@ pub(crate) fn definition(
     ensures sound { OnOk result (IsSoundState (plain_state state.new)) }
 {
     let d = declared(alloc, state, faults, f)?;
-    add_definition(alloc, setting, state, faults, f, d)?;
-    Ok(())
+    add_definition(alloc, setting, state, faults, f, d)
 }

@@ -38,22 +38,10 @@ fn external(
             state.modes = with_pragma(state.modes, *p);
             Ok(())
         }
-        External::Structure(d) => {
-            file_structure(alloc, setting, state, faults, d)?;
-            Ok(())
-        }
-        External::Register(d) => {
-            file_register(alloc, setting, state, faults, d)?;
-            Ok(())
-        }
-        External::Declaration(d) => {
-            file_declaration(alloc, setting, state, faults, d)?;
-            Ok(())
-        }
-        External::Function(f) => {
-            definition(alloc, setting, state, faults, f)?;
-            Ok(())
-        }
+        External::Structure(d) => file_structure(alloc, setting, state, faults, d),
+        External::Register(d) => file_register(alloc, setting, state, faults, d),
+        External::Declaration(d) => file_declaration(alloc, setting, state, faults, d),
+        External::Function(f) => definition(alloc, setting, state, faults, f),
     }
 }
 

@@ -34,32 +34,6 @@ pub fn judge_logical(faults: &mut Faults, x: &Option<Operand>, y: &Option<Operan
     faults.judge(25, is_no_scalar(y), at);
 }
 
-fn logical_of(
-    alloc: Global,
-    modes: Modes,
-    both: bool,
-    x: Option<Expr>,
-    y: Option<Expr>,
-) -> Result<Option<Operand>, NoMemory>
-    ensures { IfOk result (λ z. option_map plain_operand z
-        ≡ logical modes both (option_map plain_expr x) (option_map plain_expr y)) }
-{
-    let Some(x) = x else {
-        return Ok(None);
-    };
-    let Some(y) = y else {
-        return Ok(None);
-    };
-    let x = boxed(alloc, x)?;
-    let y = boxed(alloc, y)?;
-    let node = if both {
-        Node::And(x, y)
-    } else {
-        Node::Or(x, y)
-    };
-    Ok(valued(Some(made(modes, int(), node))))
-}
-
 /// What `&&`, where `both` holds, or `||` makes of its operands, or None where one has no type or is not scalar.
 pub fn logical(
     alloc: Global,
@@ -72,10 +46,19 @@ pub fn logical(
         ≡ logical modes both (condition_of modes (option_map plain_operand x))
         (condition_of modes (option_map plain_operand y))) }
 {
-    let x = condition(modes, x);
-    let y = condition(modes, y);
-    let z = logical_of(alloc, modes, both, x, y)?;
-    Ok(z)
+    match condition(modes, x).zip(condition(modes, y)) {
+        None => Ok(None),
+        Some((x, y)) => {
+            let x = boxed(alloc, x);
+            let y = boxed(alloc, y);
+            let node = if both {
+                Node::And(x?, y?)
+            } else {
+                Node::Or(x?, y?)
+            };
+            Ok(valued(Some(made(modes, int(), node))))
+        }
+    }
 }
 
 // ---- the comma
@@ -90,16 +73,15 @@ pub fn sequence(
     ensures { IfOk result (λ z. option_map plain_operand z
         ≡ with_both (option_map plain_operand x) (option_map plain_operand y) (sequence modes)) }
 {
-    let Some(x) = x else {
-        return Ok(None);
-    };
-    let Some(y) = y else {
-        return Ok(None);
-    };
-    let x = boxed(alloc, as_value(modes, x))?;
-    let y = boxed(alloc, as_value(modes, y))?;
-    let ty = y.ty.copied(alloc)?;
-    Ok(valued(Some(made(modes, ty, Node::Comma(x, y)))))
+    match x.zip(y) {
+        None => Ok(None),
+        Some((x, y)) => {
+            let x = boxed(alloc, as_value(modes, x));
+            let y = boxed(alloc, as_value(modes, y))?;
+            let ty = y.ty.copied(alloc)?;
+            Ok(valued(Some(made(modes, ty, Node::Comma(x?, y)))))
+        }
+    }
 }
 
 // ---- `?:`
@@ -211,10 +193,7 @@ fn type_between(
 {
     match how {
         Meeting::Pointers(None) | Meeting::Nothing => Ok(None),
-        Meeting::Pointers(Some(s)) => {
-            let ty = pointer_between(alloc, s, a, b)?;
-            Ok(ty)
-        }
+        Meeting::Pointers(Some(s)) => pointer_between(alloc, s, a, b),
         Meeting::Mixed(true) => {
             let ty = kept(alloc, a)?;
             Ok(Some(ty))
@@ -239,59 +218,65 @@ fn choice_type(alloc: Global, x: &Operand, y: &Operand) -> Result<Option<CType>,
     if a.is_void() {
         return Ok(Some(CType::Void));
     }
-    let ty = type_between(alloc, meeting_of(a, b), a, b)?;
-    Ok(ty)
+    type_between(alloc, meeting_of(a, b), a, b)
 }
 
-fn choice_with(
+/// Both operands in a type, in boxes.
+fn alternatives_in(
     alloc: Global,
     modes: Modes,
-    ty: CType,
-    c: Box<Expr>,
-    x: Box<Expr>,
+    ty: &CType,
+    x: Operand,
     y: Operand,
-) -> Result<Expr, NoMemory>
-    ensures { IfOk result (λ e. plain_expr e
-        ≡ choice_made modes (plain_type ty) (plain_expr c.value) (plain_expr x.value)
-        (in_type_of modes (plain_type ty) (plain_operand y))) }
+) -> Result<(Box<Expr>, Box<Expr>), NoMemory>
+    ensures left { IfOk result (λ es. plain_expr es.0.value ≡ in_type_of modes (plain_type ty.now) (plain_operand x)) }
+    ensures right { IfOk result (λ es. plain_expr es.1.value ≡ in_type_of modes (plain_type ty.now) (plain_operand y)) }
 {
-    let y = boxed_in_type(alloc, modes, &ty, y)?;
-    Ok(made(modes, ty, Node::Cond(c, x, y)))
+    let x = boxed_in_type(alloc, modes, ty, x);
+    let y = boxed_in_type(alloc, modes, ty, y)?;
+    Ok((x?, y))
 }
 
 fn choice_in(
     alloc: Global,
     modes: Modes,
     ty: CType,
-    c: Box<Expr>,
+    c: Expr,
     x: Operand,
     y: Operand,
 ) -> Result<Expr, NoMemory>
     ensures { IfOk result (λ e. plain_expr e
-        ≡ choice_made modes (plain_type ty) (plain_expr c.value)
+        ≡ choice_made modes (plain_type ty) (plain_expr c)
         (in_type_of modes (plain_type ty) (plain_operand x))
         (in_type_of modes (plain_type ty) (plain_operand y))) }
 {
-    let x = boxed_in_type(alloc, modes, &ty, x)?;
-    let e = choice_with(alloc, modes, ty, c, x, y)?;
-    Ok(e)
+    let c = boxed(alloc, c);
+    let (x, y) = alternatives_in(alloc, modes, &ty, x, y)?;
+    Ok(made(modes, ty, Node::Cond(c?, x, y)))
 }
 
 fn choice(
     alloc: Global,
     modes: Modes,
-    c: Box<Expr>,
+    c: Expr,
     x: Operand,
     y: Operand,
 ) -> Result<Option<Operand>, NoMemory>
     ensures { IfOk result (λ z. option_map plain_operand z
-        ≡ chosen modes (plain_expr c.value) (plain_operand x) (plain_operand y)) }
+        ≡ chosen modes (plain_expr c) (plain_operand x) (plain_operand y)) }
 {
-    match choice_type(alloc, &x, &y)? {
-        None => Ok(None),
-        Some(ty) => {
+    match choice_type(alloc, &x, &y) {
+        Ok(Some(ty)) => {
             let e = choice_in(alloc, modes, ty, c, x, y)?;
             Ok(valued(Some(e)))
+        }
+        Ok(None) => {
+            drop((c, x, y));
+            Ok(None)
+        }
+        Err(fault) => {
+            drop((c, x, y));
+            Err(fault)
         }
     }
 }
@@ -306,12 +291,13 @@ fn choice_on(
     ensures { IfOk result (λ z. option_map plain_operand z
         ≡ with_one (option_map plain_expr c) (λ c. chosen modes c (plain_operand x) (plain_operand y))) }
 {
-    let Some(c) = c else {
-        return Ok(None);
-    };
-    let c = boxed(alloc, c)?;
-    let z = choice(alloc, modes, c, x, y)?;
-    Ok(z)
+    match c {
+        None => {
+            drop((x, y));
+            Ok(None)
+        }
+        Some(c) => choice(alloc, modes, c, x, y),
+    }
 }
 
 /// What `?:` makes of its operands, or None where one has no type or they break a rule.
@@ -327,9 +313,11 @@ pub fn choose(
         with_one (condition_of modes (option_map plain_operand c)) (λ c. chosen modes c a b))) }
 {
     let Some(x) = x else {
+        drop((c, y));
         return Ok(None);
     };
     let Some(y) = y else {
+        drop((c, x));
         return Ok(None);
     };
     let z = choice_on(alloc, modes, condition(modes, c), x, y)?;
@@ -363,6 +351,18 @@ pub fn judge_cast(faults: &mut Faults, to: &Option<CType>, x: &Option<Operand>, 
     faults.judge(31, is_no_cast(to, x), at);
 }
 
+fn cast_to(alloc: Global, modes: Modes, to: &CType, x: Operand) -> Result<Option<Operand>, NoMemory>
+    ensures { IfOk result (λ y. option_map plain_operand y ≡ cast modes (plain_type to.now) (plain_operand x)) }
+{
+    if castable(sort_of(&x), is_null(&x), type_sort(to)) {
+        let e = in_type(alloc, modes, to, x)?;
+        Ok(valued(Some(e)))
+    } else {
+        drop(x);
+        Ok(None)
+    }
+}
+
 /// What a cast makes of an operand, or None where the type or the operand is unknown or the cast breaks a rule.
 pub fn cast(
     alloc: Global,
@@ -374,14 +374,11 @@ pub fn cast(
         ≡ with_both (option_map plain_type to.now) (option_map plain_operand x) (cast modes)) }
 {
     let Some(to) = to else {
+        drop(x);
         return Ok(None);
     };
     let Some(x) = x else {
         return Ok(None);
     };
-    if !castable(sort_of(&x), is_null(&x), type_sort(to)) {
-        return Ok(None);
-    }
-    let e = in_type(alloc, modes, to, x)?;
-    Ok(valued(Some(e)))
+    cast_to(alloc, modes, to, x)
 }

@@ -42,12 +42,9 @@ fn is_no_result(ty: &Option<CType>) -> bool
 fn result_type(structs: usize, ty: Option<CType>) -> Option<CType>
     ensures { option_map plain_type result ≡ result_type structs (option_map plain_type ty) }
 {
-    let ty = ty?;
-    if type_sort(&ty).is_void() || type_sort(&ty).is_scalar() && is_object_type(structs, &ty) {
-        Some(ty)
-    } else {
-        None
-    }
+    ty.filter(|ty| {
+        type_sort(ty).is_void() || type_sort(ty).is_scalar() && is_object_type(structs, ty)
+    })
 }
 
 /// The type of the result. Judges the rules of its stars, of its space and of `void`, and rule 17 at the name.

@@ -19,10 +19,8 @@ use std::alloc::Global;
 pub(crate) fn meant_type(misused: Option<u32>, ty: Option<CType>) -> Option<CType>
     ensures { option_map plain_type result ≡ meant_type misused (option_map plain_type ty) }
 {
-    match misused {
-        None => ty,
-        Some(_) => None,
-    }
+    let void = misused.is_some();
+    ty.filter(|_| !void)
 }
 
 /// Where the word `void` is misused in the type of a result.

@@ -77,5 +77,5 @@ pub(crate) fn small_type(large: bool, ty: Option<CType>) -> Option<CType>
     ensures object { (n : ℕ) → IfSome (option_map plain_type ty) (IsObjectType n)
         → IfSome (option_map plain_type result) (IsObjectType n) }
 {
-    if large { None } else { ty }
+    ty.filter(|_| !large)
 }

@@ -110,10 +110,7 @@ fn declared_size(
             faults.judge(8, n.is_none(), at);
             Ok(n)
         }
-        Some(c) => {
-            let n = written_size(alloc, known, faults, c, at)?;
-            Ok(n)
-        }
+        Some(c) => written_size(alloc, known, faults, c, at),
     }
 }
 
@@ -131,10 +128,7 @@ fn shape_size(
 {
     match shape {
         Shape::Object | Shape::Function(_, _, _) => Ok(None),
-        Shape::Array(l, size, _) => {
-            let n = declared_size(alloc, known, faults, size, start, l.index)?;
-            Ok(n)
-        }
+        Shape::Array(l, size, _) => declared_size(alloc, known, faults, size, start, l.index),
     }
 }
 
@@ -144,10 +138,7 @@ fn array_of(alloc: Global, ty: Option<CType>, size: Option<u16>) -> Result<Optio
     ensures { IfOk result (λ a. option_map plain_type a
         ≡ with_both (option_map plain_type ty) size (λ of n. Some (array of n))) }
 {
-    let Some(of) = ty else {
-        return Ok(None);
-    };
-    let Some(len) = size else {
+    let Some((of, len)) = ty.zip(size) else {
         return Ok(None);
     };
     let of = boxed(alloc, of)?;
@@ -165,10 +156,7 @@ fn shaped(
 {
     match shape {
         Shape::Object => Ok(ty),
-        Shape::Array(_, _, _) => {
-            let x = array_of(alloc, ty, size)?;
-            Ok(x)
-        }
+        Shape::Array(_, _, _) => array_of(alloc, ty, size),
         Shape::Function(_, _, _) => Ok(None),
     }
 }
@@ -189,8 +177,7 @@ fn head_of_object(
         said (map view_star d.now.stars.items))) }
 {
     let misused = misused_in(&d.shape, said.types.void_at(), &d.stars);
-    let h = head(alloc, faults, may_have_space, misused, said, &d.stars)?;
-    Ok(h)
+    head(alloc, faults, may_have_space, misused, said, &d.stars)
 }
 
 /// The type that is declared, if an object can have it.
@@ -262,6 +249,5 @@ pub fn declared_object(
         (IsObjectType (length known.now.structs.now.items))) }
 {
     let size = shape_size(alloc, known, faults, &d.shape, start)?;
-    let o = sized_object(alloc, known.structs, faults, may_have_space, said, d, size)?;
-    Ok(o)
+    sized_object(alloc, known.structs, faults, may_have_space, said, d, size)
 }

@@ -11,7 +11,7 @@ ghost use Rattle.ec_declare.specs.Sites.{Walked};
 
 use crate::heads::{head, meant_type};
 use crate::object_types::is_object_type;
-use crate::scopes::copied_name;
+use crate::scopes::{copied_name, push};
 use ec_core::CType;
 use ec_faults::Faults;
 use ec_grammar::tree::{Identifier, NextParam, Param, Params};
@@ -92,12 +92,7 @@ fn is_no_scalar(ty: &Option<CType>) -> bool
 fn scalar_type(structs: usize, ty: Option<CType>) -> Option<CType>
     ensures { option_map plain_type result ≡ scalar_type structs (option_map plain_type ty) }
 {
-    let ty = ty?;
-    if type_sort(&ty).is_scalar() && is_object_type(structs, &ty) {
-        Some(ty)
-    } else {
-        None
-    }
+    ty.filter(|ty| type_sort(ty).is_scalar() && is_object_type(structs, ty))
 }
 
 // ---- parameters
@@ -136,15 +131,6 @@ fn declared_param(
     Ok(ParamDeclared { name, ty, konst })
 }
 
-fn push(params: &mut Vec<ParamDeclared>, p: ParamDeclared) -> Result<(), NoMemory>
-    ensures { OnOk result (params.new.items ≡ params.old.items ++ p ∷ []) }
-{
-    match params.push(p) {
-        Ok(()) => Ok(()),
-        Err(_) => Err(NoMemory),
-    }
-}
-
 fn add_param(
     alloc: Global,
     faults: &mut Faults,
@@ -159,8 +145,7 @@ fn add_param(
         (map plain_param params.new.items) (map plain_param params.old.items ++ param_declared ts structs t ∷ [])) }
 {
     let d = declared_param(alloc, faults, tags, structs, misnamed, p)?;
-    push(params, d)?;
-    Ok(())
+    push(params, d)
 }
 
 /// The parameters behind the first one.

@@ -58,12 +58,7 @@ fn number_type(ty: Option<CType>) -> Option<CType>
     ensures object { (n : ℕ) → IfSome (option_map plain_type ty) (IsObjectType n)
         → IfSome (option_map plain_type result) (IsObjectType n) }
 {
-    let ty = ty?;
-    if type_sort(&ty).is_arithmetic() {
-        Some(ty)
-    } else {
-        None
-    }
+    ty.filter(|ty| type_sort(ty).is_arithmetic())
 }
 
 /// What is declared. Judges the rules of the specifiers, rule 3 of a space, rule 7 of `void`, and rule 12 at the

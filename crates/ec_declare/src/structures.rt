@@ -18,7 +18,7 @@ ghost use Rattle.ec_declare.specs.Sites.{Walked};
 
 use crate::object_types::is_object_type;
 use crate::objects::declared_object;
-use crate::scopes::copied_name;
+use crate::scopes::{copied_name, push};
 use ec_core::{CType, Member, StructDef, size_of, structs_are_laid_out};
 use ec_expr::Known;
 use ec_faults::Faults;
@@ -48,15 +48,6 @@ fn is_member(name: &Name, members: &[MemberDeclared]) -> bool
     false
 }
 
-fn push(members: &mut Vec<MemberDeclared>, m: MemberDeclared) -> Result<(), NoMemory>
-    ensures { OnOk result (members.new.items ≡ members.old.items ++ m ∷ []) }
-{
-    match members.push(m) {
-        Ok(()) => Ok(()),
-        Err(_) => Err(NoMemory),
-    }
-}
-
 fn push_named(
     alloc: Global,
     members: &mut Vec<MemberDeclared>,
@@ -67,8 +58,7 @@ fn push_named(
         ++ record { name = name.now.items; ty = option_map plain_type ty } ∷ []) }
 {
     let name = copied_name(alloc, name)?;
-    push(members, MemberDeclared { name, ty })?;
-    Ok(())
+    push(members, MemberDeclared { name, ty })
 }
 
 fn add_member(
@@ -90,8 +80,7 @@ fn add_member(
     let again = is_member(&d.name.name, members);
     faults.judge(5, again, at);
     faults.judge(11, o.konst || is_function(&d.shape), at);
-    push_named(alloc, members, &d.name.name, o.ty)?;
-    Ok(())
+    push_named(alloc, members, &d.name.name, o.ty)
 }
 
 fn add_more(
@@ -129,8 +118,7 @@ fn add_declared(
 {
     let said = judge_specs(faults, known.tags, false, &m.specs);
     add_member(alloc, known, faults, said, &m.first, members)?;
-    add_more(alloc, known, faults, said, &m.more, members)?;
-    Ok(())
+    add_more(alloc, known, faults, said, &m.more, members)
 }
 
 fn add_all_declared(
@@ -280,8 +268,7 @@ fn all_members(
     let mut members = Vec::new(alloc);
     add_declared(alloc, known, faults, &s.first, &mut members)?;
     add_all_declared(alloc, known, faults, &s.more, &mut members)?;
-    let all = known_members(alloc, &members)?;
-    Ok(all)
+    known_members(alloc, &members)
 }
 
 /// The struct that is defined, or None where the definition breaks a rule of types or sizes. Judges at the tag rule 10,
@@ -306,8 +293,7 @@ pub fn defined_struct(
     let members = all_members(alloc, known, faults, s)?;
     let large = is_too_large_together(known.structs, &members);
     faults.judge(9, large, at);
-    let d = struct_of(alloc, known.structs, &s.tag.name, members)?;
-    Ok(d)
+    struct_of(alloc, known.structs, &s.tag.name, members)
 }
 
 fn place_struct(structs: &mut Seq<StructDef>, def: StructDef) -> Result<u32, NoMemory>

@@ -20,11 +20,9 @@ then {A} {B} {f} {g} {h} {first} {x} {v} {z} second form a b =
     record { meant = c.meant; noted = λ rest. c.noted rest ∙ a.noted (second v rest) }
 
 -- a cast, whose type name was judged before
-pub cast_walked : {f g h : Option Fault} (tags : Tags) (name : t.TypeName) (at : ℕ) (m : Modes) {ty : Option PlainType} {at_void : Option ℕ} {a b z : Option Operand} → ty ≡ said_type tags name → at_void ≡ void_said tags name → ((rest : List Site) → told g rest ≡ told f (a_type_name tags name ∷ rest)) → h ≡ all_judged g (cast_rules ty b at) → z ≡ with_both (meant_type at_void ty) b (cast m) → b ≡ a → Walked f h (λ rest. a_type_name tags name ∷ on (a_cast (said_type tags name) a at) ∷ rest) z (with_both (meant_type (void_said tags name) (said_type tags name)) a (cast m))
-cast_walked {f} {g} {h} tags name at m {ty} {at_void} {a} {b} {z} typed void judged noted meant same =
-    let n1 = subst (λ (u : Option PlainType). h ≡ all_judged g (cast_rules u b at)) typed noted in
-    let n2 = subst (λ (u : Option Operand). h ≡ all_judged g (cast_rules (said_type tags name) u at)) same n1 in
-    let m1 = subst (λ (u : Option ℕ). z ≡ with_both (meant_type u ty) b (cast m)) void meant in
-    let m2 = subst (λ (u : Option PlainType). z ≡ with_both (meant_type (void_said tags name) u) b (cast m)) typed m1 in
-    let m3 = subst (λ (u : Option Operand). z ≡ with_both (meant_type (void_said tags name) (said_type tags name)) u (cast m)) same m2 in
-    record { meant = m3; noted = λ rest. ap (λ u. told u rest) n2 ∙ judged (on (a_cast (said_type tags name) a at) ∷ rest) }
+pub cast_walked : {f g h : Option Fault} (tags : Tags) (name : t.TypeName) (at : ℕ) (m : Modes) {ty : Option PlainType} {at_void : Option ℕ} {a z : Option Operand} → ty ≡ said_type tags name → at_void ≡ void_said tags name → ((rest : List Site) → told g rest ≡ told f (a_type_name tags name ∷ rest)) → h ≡ all_judged g (cast_rules ty a at) → z ≡ with_both (meant_type at_void ty) a (cast m) → Walked f h (λ rest. a_type_name tags name ∷ on (a_cast (said_type tags name) a at) ∷ rest) z (with_both (meant_type (void_said tags name) (said_type tags name)) a (cast m))
+cast_walked {f} {g} {h} tags name at m {ty} {at_void} {a} {z} typed void judged noted meant =
+    let n = subst (λ (u : Option PlainType). h ≡ all_judged g (cast_rules u a at)) typed noted in
+    let m1 = subst (λ (u : Option ℕ). z ≡ with_both (meant_type u ty) a (cast m)) void meant in
+    let m2 = subst (λ (u : Option PlainType). z ≡ with_both (meant_type (void_said tags name) u) a (cast m)) typed m1 in
+    record { meant = m2; noted = λ rest. ap (λ u. told u rest) n ∙ judged (on (a_cast (said_type tags name) a at) ∷ rest) }

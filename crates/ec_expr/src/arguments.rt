@@ -1,4 +1,6 @@
 //! Arguments of calls, and operands of operations on ports.
+//!
+//! Trees that are not used are dropped by a call: a drop in place at each exit would cost the proof its variants.
 ghost use Rattle.std.specs.Prelude.{◌≡◌, IfOk, OnOk, [], ◌∷◌, None, Some, map, option_map, slice_get};
 ghost use Rattle.ec_core.specs.Plain.{plain_type, plain_expr};
 ghost use Rattle.ec_calls.specs.Calls.{port_named, group_named, group_operation};
@@ -15,7 +17,6 @@ ghost use Rattle.ec_expr.specs.Known.{IsSound, plain_known};
 ghost use Rattle.ec_expr.specs.Sites.{on, Walked};
 
 use crate::known::Known;
-use crate::nodes::kept;
 use ec_calls::{
     GroupAction, NamedPort, access, group_named, group_operation, is_indexed, judge_group,
     judge_port, operand_count, operand_type, port_named,
@@ -25,7 +26,7 @@ use ec_faults::Faults;
 use ec_forms::take;
 use ec_grammar::tree::{Identifier, Operation};
 use ec_grammar::{GroupOp, IoOp};
-use ec_operands::{Modes, Operand, judge_passing, pass};
+use ec_operands::{Modes, Operand, boxed, judge_passing, pass};
 use ec_space::{NoMemory, Seq};
 use std::alloc::Global;
 
@@ -64,10 +65,7 @@ fn wanted_type(alloc: Global, wanted: &Wanted, i: usize) -> Result<Option<CType>
 {
     match wanted {
         Wanted::Nothing => Ok(None),
-        Wanted::Parameters(types) => {
-            let ty = type_at(alloc, types, i)?;
-            Ok(ty)
-        }
+        Wanted::Parameters(types) => type_at(alloc, types, i),
         Wanted::PortOperands(op) => Ok(operand_type(*op, i.saturating_sub(1))),
     }
 }
@@ -107,7 +105,10 @@ impl Passed {
     {
         match self {
             Passed::Arguments(es) => es,
-            Passed::Operands { .. } => None,
+            Passed::Operands { index, contents } => {
+                drop((index, contents));
+                None
+            }
         }
     }
 }
@@ -130,9 +131,18 @@ fn append(args: &mut Option<Seq<Expr>>, e: Option<Expr>) -> Result<(), NoMemory>
         return Ok(());
     };
     match args {
-        None => Ok(()),
+        None => {
+            drop(e);
+            Ok(())
+        }
         Some(es) => es.push(e),
     }
+}
+
+fn set<T: Drop>(place: &mut T, x: T)
+    ensures { place.new ≡ x }
+{
+    *place = x;
 }
 
 fn put(wanted: &Wanted, i: usize, args: &mut Passed, e: Option<Expr>) -> Result<(), NoMemory>
@@ -143,9 +153,9 @@ fn put(wanted: &Wanted, i: usize, args: &mut Passed, e: Option<Expr>) -> Result<
         Passed::Arguments(es) => append(es, e),
         Passed::Operands { index, contents } => {
             if is_index(wanted, i) {
-                *index = e;
+                set(index, e);
             } else {
-                *contents = e;
+                set(contents, e);
             }
             Ok(())
         }
@@ -169,12 +179,13 @@ pub(crate) fn passing(
         (plain_passed args.new) (with_argument w i (plain_passed args.old) (passed_to modes to (used a)))) }
 {
     let x = take(faults, x, first);
-    let x = kept(alloc, x)?;
+    let x = boxed(alloc, x)?;
     let to = wanted_type(alloc, wanted, i)?;
     let x = Box::into_inner(x);
     judge_passing(faults, &x, &to, first);
-    let e = pass(alloc, modes, to.as_ref(), x)?;
-    put(wanted, i, args, e)
+    let e = pass(alloc, modes, to.as_ref(), x);
+    drop(to);
+    put(wanted, i, args, e?)
 }
 
 // ---- operations on ports and groups
@@ -190,14 +201,15 @@ fn access_of(
     ensures { IfOk result (λ x. option_map plain_operand x ≡ access_of modes op port count (plain_passed args)) }
 {
     if count != operand_count(op) {
+        drop(args);
         return Ok(None);
     }
     match args {
-        Passed::Arguments(_) => Ok(None),
-        Passed::Operands { index, contents } => {
-            let x = access(alloc, modes, op, port, index, contents)?;
-            Ok(x)
+        Passed::Arguments(es) => {
+            drop(es);
+            Ok(None)
         }
+        Passed::Operands { index, contents } => access(alloc, modes, op, port, index, contents),
     }
 }
 
@@ -219,8 +231,7 @@ pub(crate) fn accessing(
 {
     let port = port_named(known.ports, &name.name);
     judge_port(faults, op, port, count, at);
-    let x = access_of(alloc, known.modes, op, port, count, args)?;
-    Ok(x)
+    access_of(alloc, known.modes, op, port, count, args)
 }
 
 /// What an operation on a group makes, with so many operands behind the group.
@@ -279,10 +290,10 @@ pub(crate) fn operating(
         (option_map plain_operand x) (operation_of k op n count (plain_passed args))) }
 {
     match op {
-        Operation::Port(op) => {
-            let x = accessing(alloc, known, faults, op, name, count, args, at)?;
-            Ok(x)
+        Operation::Port(op) => accessing(alloc, known, faults, op, name, count, args, at),
+        Operation::Group(op) => {
+            drop(args);
+            Ok(grouping(known, faults, op, name, count, at))
         }
-        Operation::Group(op) => Ok(grouping(known, faults, op, name, count, at)),
     }
 }

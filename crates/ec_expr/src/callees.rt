@@ -1,4 +1,6 @@
 //! What is called.
+//!
+//! Operands that are not used are dropped by a call: a drop in place at each exit would cost the proof its variants.
 ghost use Rattle.std.specs.Prelude.{◌≡◌, ◌+◌, IfOk, List, ◌∷◌, map, option_map};
 ghost use Rattle.std.specs.Option.{option_copied};
 ghost use Rattle.ec_grammar.specs.Views.{view_expression, view_assignment, view_conditional, view_binary, view_cast};
@@ -233,15 +235,11 @@ pub(crate) fn call_of(
     ensures { IfOk result (λ x. option_map plain_operand x
         ≡ call_of modes (plain_called f.now) count (plain_arguments args)) }
 {
-    let Some(number) = f.number else {
+    let called = f.number.zip(f.returns.as_ref());
+    let Some((number, returns)) = called.filter(|_| takes(f.params, count)) else {
+        drop(args);
         return Ok(None);
     };
-    let Some(returns) = f.returns else {
-        return Ok(None);
-    };
-    if !takes(f.params, count) {
-        return Ok(None);
-    }
     let returns = returns.copied(alloc)?;
     Ok(made_call(modes, number, returns, args))
 }
@@ -252,4 +250,5 @@ pub(crate) fn refuse(faults: &mut Faults, x: Option<Operand>, at: u32)
         (on (a_callee (option_map plain_operand x) at) ∷ rest) }
 {
     judge_callee(faults, &x, at);
+    drop(x);
 }

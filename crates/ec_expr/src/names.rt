@@ -87,10 +87,7 @@ pub fn named(alloc: Global, what: Option<&Named>) -> Result<Option<Operand>, NoM
                 space,
                 register,
             },
-        ) => {
-            let x = object_place(alloc, *number, ty, *konst, *space, *register)?;
-            Ok(x)
-        }
+        ) => object_place(alloc, *number, ty, *konst, *space, *register),
     }
 }
 
@@ -122,6 +119,5 @@ pub(crate) fn naming(
 {
     let what = known.names.find(&n.name);
     judge_named(faults, what, n.spot.index);
-    let x = named(alloc, what)?;
-    Ok(x)
+    named(alloc, what)
 }

@@ -1,6 +1,7 @@
 //! Forms of expressions whose operands were walked: they are judged, and what the form means is made.
 //!
 //! Each function takes the last of its operands as the walk gives it, before it is used.
+//! Operands that are not used are dropped by a call: a drop in place at each exit would cost the proof its variants.
 ghost use Rattle.std.specs.Prelude.{◌≡◌, IfOk, OnOk, List, ◌∷◌, option_map};
 ghost use Rattle.ec_core.specs.Plain.{plain_type};
 ghost use Rattle.ec_grammar.specs.Views.{view_type_name};
@@ -120,52 +121,25 @@ fn is_arrow(op: PunctKind) -> bool
     }
 }
 
-// ---- operands that are kept while others are walked
+// ---- operands before the last
 
-/// An operand that is kept while others are walked.
-pub(crate) type Kept = Box<Option<Operand>>;
-
-pub(crate) fn kept(alloc: Global, x: Option<Operand>) -> Result<Kept, NoMemory>
-    ensures { IfOk result (λ b. b.value ≡ x) }
+/// Takes an operand for use (rule 40).
+pub(crate) fn take_first(faults: &mut Faults, x: Option<Operand>, at: u32) -> Option<Operand>
+    ensures { let v = option_map plain_operand x in
+        Walked faults.old.least faults.new.least (λ rest. on (a_use v at) ∷ rest)
+        (option_map plain_operand result) (used v) }
 {
-    match Box::new(alloc, x) {
-        Ok(b) => Ok(b),
-        Err(_) => Err(NoMemory),
-    }
+    take(faults, x, at)
 }
 
-/// Takes an operand for use (rule 40), and keeps it.
-pub(crate) fn take_first(
-    alloc: Global,
-    faults: &mut Faults,
-    x: Option<Operand>,
-    at: u32,
-) -> Result<Kept, NoMemory>
+/// Takes the first operand of a comma (rule 40).
+pub(crate) fn take_first_part(faults: &mut Faults, x: Option<Operand>, at: u32) -> Option<Operand>
     ensures { let v = option_map plain_operand x in
-        IfOk result (λ b. Walked faults.old.least faults.new.least (λ rest. on (a_use v at) ∷ rest)
-        (option_map plain_operand b.value) (used v)) }
+        Walked faults.old.least faults.new.least (λ rest. on (a_use v at) ∷ on (a_part (used v) at) ∷ rest)
+        (option_map plain_operand result) (used_part (used v)) }
 {
     let x = take(faults, x, at);
-    let b = kept(alloc, x)?;
-    Ok(b)
-}
-
-/// Takes the first operand of a comma (rule 40), and keeps it.
-pub(crate) fn take_first_part(
-    alloc: Global,
-    faults: &mut Faults,
-    x: Option<Operand>,
-    at: u32,
-) -> Result<Kept, NoMemory>
-    ensures { let v = option_map plain_operand x in
-        IfOk result (λ b. Walked faults.old.least faults.new.least
-        (λ rest. on (a_use v at) ∷ on (a_part (used v) at) ∷ rest)
-        (option_map plain_operand b.value) (used_part (used v))) }
-{
-    let x = take(faults, x, at);
-    let x = take_part(faults, x, at);
-    let b = kept(alloc, x)?;
-    Ok(b)
+    take_part(faults, x, at)
 }
 
 // ---- forms of two operands
@@ -175,19 +149,18 @@ pub(crate) fn sequenced(
     alloc: Global,
     modes: Modes,
     faults: &mut Faults,
-    x: Kept,
+    x: Option<Operand>,
     y: Option<Operand>,
     second: u32,
 ) -> Result<Option<Operand>, NoMemory>
-    ensures { let a = option_map plain_operand x.value in let b = option_map plain_operand y in
+    ensures { let a = option_map plain_operand x in let b = option_map plain_operand y in
         IfOk result (λ z. Walked faults.old.least faults.new.least
         (λ rest. on (a_use b second) ∷ on (a_part (used b) second) ∷ rest)
         (option_map plain_operand z) (with_both a (used_part (used b)) (sequence modes))) }
 {
     let y = take(faults, y, second);
     let y = take_part(faults, y, second);
-    let z = sequence(alloc, modes, Box::into_inner(x), y)?;
-    Ok(z)
+    sequence(alloc, modes, x, y)
 }
 
 fn store(
@@ -201,14 +174,8 @@ fn store(
         ≡ stored modes op (option_map plain_operand x) (option_map plain_operand y)) }
 {
     match compound_operator(op) {
-        Some(op) => {
-            let z = compound(alloc, modes, op, x, y)?;
-            Ok(z)
-        }
-        None => {
-            let z = assign(alloc, modes, x, y)?;
-            Ok(z)
-        }
+        Some(op) => compound(alloc, modes, op, x, y),
+        None => assign(alloc, modes, x, y),
     }
 }
 
@@ -234,21 +201,19 @@ pub(crate) fn storing(
     modes: Modes,
     faults: &mut Faults,
     op: PunctKind,
-    x: Kept,
+    x: Option<Operand>,
     y: Option<Operand>,
     second: u32,
     at: u32,
 ) -> Result<Option<Operand>, NoMemory>
-    ensures { let a = option_map plain_operand x.value in let b = option_map plain_operand y in
+    ensures { let a = option_map plain_operand x in let b = option_map plain_operand y in
         IfOk result (λ z. Walked faults.old.least faults.new.least
         (λ rest. on (a_use b second) ∷ a_storing op a (used b) at ∷ rest)
         (option_map plain_operand z) (stored modes op a (used b))) }
 {
-    let x = Box::into_inner(x);
     let y = take(faults, y, second);
     judge_storing(faults, op, &x, &y, at);
-    let z = store(alloc, modes, op, x, y)?;
-    Ok(z)
+    store(alloc, modes, op, x, y)
 }
 
 fn join(
@@ -262,14 +227,8 @@ fn join(
         ≡ joined modes op (option_map plain_operand x) (option_map plain_operand y)) }
 {
     match operator_of(op) {
-        Some(op) => {
-            let z = operate(alloc, modes, op, x, y)?;
-            Ok(z)
-        }
-        None => {
-            let z = logical(alloc, modes, is_and(op), x, y)?;
-            Ok(z)
-        }
+        Some(op) => operate(alloc, modes, op, x, y),
+        None => logical(alloc, modes, is_and(op), x, y),
     }
 }
 
@@ -289,21 +248,19 @@ pub(crate) fn joining(
     modes: Modes,
     faults: &mut Faults,
     op: PunctKind,
-    x: Kept,
+    x: Option<Operand>,
     y: Option<Operand>,
     second: u32,
     at: u32,
 ) -> Result<Option<Operand>, NoMemory>
-    ensures { let a = option_map plain_operand x.value in let b = option_map plain_operand y in
+    ensures { let a = option_map plain_operand x in let b = option_map plain_operand y in
         IfOk result (λ z. Walked faults.old.least faults.new.least
         (λ rest. on (a_use b second) ∷ a_join op a (used b) at ∷ rest)
         (option_map plain_operand z) (joined modes op a (used b))) }
 {
-    let x = Box::into_inner(x);
     let y = take(faults, y, second);
     judge_join(faults, op, &x, &y, at);
-    let z = join(alloc, modes, op, x, y)?;
-    Ok(z)
+    join(alloc, modes, op, x, y)
 }
 
 /// A subscript.
@@ -311,21 +268,19 @@ pub(crate) fn indexing(
     alloc: Global,
     modes: Modes,
     faults: &mut Faults,
-    x: Kept,
+    x: Option<Operand>,
     y: Option<Operand>,
     second: u32,
     at: u32,
 ) -> Result<Option<Operand>, NoMemory>
-    ensures { let a = option_map plain_operand x.value in let b = option_map plain_operand y in
+    ensures { let a = option_map plain_operand x in let b = option_map plain_operand y in
         IfOk result (λ z. Walked faults.old.least faults.new.least
         (λ rest. on (a_use b second) ∷ on (an_index a (used b) at) ∷ rest)
         (option_map plain_operand z) (with_both a (used b) (indexed modes))) }
 {
-    let x = Box::into_inner(x);
     let y = take(faults, y, second);
     judge_index(faults, &x, &y, at);
-    let z = index(alloc, modes, x, y)?;
-    Ok(z)
+    index(alloc, modes, x, y)
 }
 
 /// The operator `?:`, whose second and third operands may be void.
@@ -333,19 +288,17 @@ pub(crate) fn choosing(
     alloc: Global,
     modes: Modes,
     faults: &mut Faults,
-    c: Kept,
-    x: Kept,
+    c: Option<Operand>,
+    x: Option<Operand>,
     y: Option<Operand>,
     at: u32,
 ) -> Result<Option<Operand>, NoMemory>
-    ensures { let w = option_map plain_operand c.value in let a = option_map plain_operand x.value in
+    ensures { let w = option_map plain_operand c in let a = option_map plain_operand x in
         let b = option_map plain_operand y in
         IfOk result (λ z. Walked faults.old.least faults.new.least (λ rest. on (a_choice w a b at) ∷ rest)
         (option_map plain_operand z)
         (with_both a b (λ p q. with_one (condition modes w) (λ e. chosen modes e p q)))) }
 {
-    let c = Box::into_inner(c);
-    let x = Box::into_inner(x);
     judge_choice(faults, &c, &x, &y, at);
     let z = choose(alloc, modes, c, x, y)?;
     Ok(z)
@@ -371,8 +324,7 @@ pub(crate) fn prefixing(
     let x = take(faults, x, first);
     let op = prefix_operator(op);
     judge_prefix(faults, op, &x, at);
-    let z = prefix(alloc, modes, op, x)?;
-    Ok(z)
+    prefix(alloc, modes, op, x)
 }
 
 /// `++` or `--`, before its operand where `before` holds.
@@ -425,8 +377,7 @@ pub(crate) fn reaching(
         at,
         name.spot.index,
     );
-    let z = member(alloc, known.modes, known.structs, &name.name, arrow, x)?;
-    Ok(z)
+    member(alloc, known.modes, known.structs, &name.name, arrow, x)
 }
 
 // ---- forms with a type name
@@ -443,17 +394,14 @@ fn judged_type(
     ensures judged { OnOk result ((rest : List Site) → told faults.new.least rest
         ≡ told faults.old.least (a_type_name (plain_tags tags.now) (view_type_name name.now) ∷ rest)) }
 {
-    let n = type_named(alloc, faults, tags, name)?;
-    Ok(n)
+    type_named(alloc, faults, tags, name)
 }
 
 fn meant_type(n: TypeNamed) -> Option<CType>
     ensures { option_map plain_type result ≡ meant_type n.void_at (option_map plain_type n.ty) }
 {
-    match n.void_at {
-        None => n.ty,
-        Some(_) => None,
-    }
+    let void = n.void_at.is_some();
+    n.ty.filter(|_| !void)
 }
 
 fn cast_as(
@@ -466,8 +414,7 @@ fn cast_as(
         ≡ with_both (meant_type n.void_at (option_map plain_type n.ty)) (option_map plain_operand x) (cast modes)) }
 {
     let to = meant_type(n);
-    let z = cast(alloc, modes, &to, x)?;
-    Ok(z)
+    cast(alloc, modes, &to, x)
 }
 
 /// A cast.
@@ -476,18 +423,23 @@ pub(crate) fn casting(
     known: &Known,
     faults: &mut Faults,
     name: &TypeName,
-    x: Kept,
+    x: Option<Operand>,
     at: u32,
 ) -> Result<Option<Operand>, NoMemory>
     ensures { let k = plain_known known.now in let n = view_type_name name.now in
-        let a = option_map plain_operand x.value in
+        let a = option_map plain_operand x in
         IfOk result (λ z. Walked faults.old.least faults.new.least
         (λ rest. a_type_name k.tags n ∷ on (a_cast (said_type k.tags n) a at) ∷ rest)
         (option_map plain_operand z)
         (with_both (meant_type (void_said k.tags n) (said_type k.tags n)) a (cast k.modes))) }
 {
-    let n = judged_type(alloc, faults, known.tags, name)?;
-    let x = Box::into_inner(x);
+    let n = match judged_type(alloc, faults, known.tags, name) {
+        Ok(n) => n,
+        Err(error) => {
+            drop(x);
+            return Err(error);
+        }
+    };
     judge_cast(faults, &n.ty, &x, at);
     let z = cast_as(alloc, known.modes, n, x)?;
     Ok(z)

@@ -1,4 +1,6 @@
 //! The walk over the trees of expressions.
+//!
+//! Operands that are not used are dropped by a call: a drop in place at each exit would cost the proof its variants.
 ghost use Rattle.std.specs.Prelude.{◌≡◌, IfOk, OnOk, Some, None, List, [], ◌∷◌, option_map};
 ghost use Rattle.ec_grammar.specs.Views.{view_expression, view_assignment, view_conditional, view_binary, view_cast};
 ghost use Rattle.ec_grammar.specs.Views.{view_unary, view_postfix, view_primary, view_arguments, views_further};
@@ -21,7 +23,7 @@ use crate::callees::{
 use crate::known::Known;
 use crate::names::{constant, naming};
 use crate::nodes::{
-    casting, choosing, indexing, joining, kept, prefixing, reaching, sequenced, sizing, stepping,
+    casting, choosing, indexing, joining, prefixing, reaching, sequenced, sizing, stepping,
     storing, take_first, take_first_part,
 };
 use ec_faults::Faults;
@@ -53,10 +55,14 @@ pub fn expression(
         Expression::Single(a) => assignment(alloc, known, faults, a),
         Expression::Comma(e, _, a) => {
             let x = expression(alloc, known, faults, e)?;
-            let p = take_first_part(alloc, faults, x, first_expression(e))?;
-            let y = assignment(alloc, known, faults, a)?;
-            let z = sequenced(alloc, known.modes, faults, p, y, first_assignment(a))?;
-            Ok(z)
+            let p = take_first_part(faults, x, first_expression(e));
+            match assignment(alloc, known, faults, a) {
+                Ok(y) => sequenced(alloc, known.modes, faults, p, y, first_assignment(a)),
+                Err(error) => {
+                    drop(p);
+                    Err(error)
+                }
+            }
         }
     }
 }
@@ -77,19 +83,15 @@ pub fn assignment(
         Assignment::Value(c) => conditional(alloc, known, faults, c),
         Assignment::Assign(u, s, op, a) => {
             let x = unary(alloc, known, faults, u)?;
-            let p = take_first(alloc, faults, x, first_unary(u))?;
-            let y = assignment(alloc, known, faults, a)?;
-            let z = storing(
-                alloc,
-                known.modes,
-                faults,
-                *op,
-                p,
-                y,
-                first_assignment(a),
-                s.index,
-            )?;
-            Ok(z)
+            let p = take_first(faults, x, first_unary(u));
+            let second = first_assignment(a);
+            match assignment(alloc, known, faults, a) {
+                Ok(y) => storing(alloc, known.modes, faults, *op, p, y, second, s.index),
+                Err(error) => {
+                    drop(p);
+                    Err(error)
+                }
+            }
         }
     }
 }
@@ -110,11 +112,22 @@ pub fn conditional(
         Conditional::Plain(b) => binary(alloc, known, faults, b),
         Conditional::Choose(b, q, e, _, c) => {
             let w = binary(alloc, known, faults, b)?;
-            let p = take_first(alloc, faults, w, first_binary(b))?;
-            let x = expression(alloc, known, faults, e)?;
-            let r = kept(alloc, x)?;
-            let y = conditional(alloc, known, faults, c)?;
-            let z = choosing(alloc, known.modes, faults, p, r, y, q.index)?;
+            let p = take_first(faults, w, first_binary(b));
+            let x = match expression(alloc, known, faults, e) {
+                Ok(x) => x,
+                Err(error) => {
+                    drop(p);
+                    return Err(error);
+                }
+            };
+            let y = match conditional(alloc, known, faults, c) {
+                Ok(y) => y,
+                Err(error) => {
+                    drop((p, x));
+                    return Err(error);
+                }
+            };
+            let z = choosing(alloc, known.modes, faults, p, x, y, q.index)?;
             Ok(z)
         }
     }
@@ -136,19 +149,15 @@ pub fn binary(
         Binary::Operand(c) => cast(alloc, known, faults, c),
         Binary::Join(a, s, op, b) => {
             let x = binary(alloc, known, faults, a)?;
-            let p = take_first(alloc, faults, x, first_binary(a))?;
-            let y = binary(alloc, known, faults, b)?;
-            let z = joining(
-                alloc,
-                known.modes,
-                faults,
-                *op,
-                p,
-                y,
-                first_binary(b),
-                s.index,
-            )?;
-            Ok(z)
+            let p = take_first(faults, x, first_binary(a));
+            let second = first_binary(b);
+            match binary(alloc, known, faults, b) {
+                Ok(y) => joining(alloc, known.modes, faults, *op, p, y, second, s.index),
+                Err(error) => {
+                    drop(p);
+                    Err(error)
+                }
+            }
         }
     }
 }
@@ -169,7 +178,7 @@ pub fn cast(
         Cast::Uncast(u) => unary(alloc, known, faults, u),
         Cast::Convert(l, n, _, c) => {
             let x = cast(alloc, known, faults, c)?;
-            let p = take_first(alloc, faults, x, first_cast(c))?;
+            let p = take_first(faults, x, first_cast(c));
             let z = casting(alloc, known, faults, n, p, l.index)?;
             Ok(z)
         }
@@ -197,8 +206,7 @@ pub fn unary(
         }
         Unary::Prefix(s, op, c) => {
             let x = cast(alloc, known, faults, c)?;
-            let z = prefixing(alloc, known.modes, faults, *op, x, first_cast(c), s.index)?;
-            Ok(z)
+            prefixing(alloc, known.modes, faults, *op, x, first_cast(c), s.index)
         }
         Unary::Size(_, _, n, _) => sizing(alloc, known, faults, n),
     }
@@ -220,18 +228,15 @@ pub fn postfix(
         Postfix::Primary(p) => primary(alloc, known, faults, p),
         Postfix::Index(p, l, e, _) => {
             let x = postfix(alloc, known, faults, p)?;
-            let r = take_first(alloc, faults, x, first_postfix(p))?;
-            let y = expression(alloc, known, faults, e)?;
-            let z = indexing(
-                alloc,
-                known.modes,
-                faults,
-                r,
-                y,
-                first_expression(e),
-                l.index,
-            )?;
-            Ok(z)
+            let r = take_first(faults, x, first_postfix(p));
+            let second = first_expression(e);
+            match expression(alloc, known, faults, e) {
+                Ok(y) => indexing(alloc, known.modes, faults, r, y, second, l.index),
+                Err(error) => {
+                    drop(r);
+                    Err(error)
+                }
+            }
         }
         Postfix::Call(p, l, a, _) => match callee(known, p) {
             None => {
@@ -244,8 +249,7 @@ pub fn postfix(
         },
         Postfix::Member(p, s, op, n) => {
             let x = postfix(alloc, known, faults, p)?;
-            let z = reaching(alloc, known, faults, *op, n, x, first_postfix(p), s.index)?;
-            Ok(z)
+            reaching(alloc, known, faults, *op, n, x, first_postfix(p), s.index)
         }
         Postfix::Stepped(p, s, op) => {
             let x = postfix(alloc, known, faults, p)?;
@@ -284,9 +288,13 @@ fn call(
     let count = argument_count(a);
     judge_called(faults, f, count, at);
     let mut args = Passed::no_arguments(alloc);
-    arguments(alloc, known, faults, &wanted_of(f.params), &mut args, a)?;
-    let z = call_of(alloc, known.modes, f, count, args.arguments())?;
-    Ok(z)
+    match arguments(alloc, known, faults, &wanted_of(f.params), &mut args, a) {
+        Ok(()) => call_of(alloc, known.modes, f, count, args.arguments()),
+        Err(e) => {
+            drop(args);
+            Err(e)
+        }
+    }
 }
 
 /// The arguments of what is no function's name.
@@ -302,7 +310,9 @@ fn unwanted(
         (arguments_sites (plain_known known.now) nothing (view_arguments a.now) rest)) }
 {
     let mut args = Passed::no_operands();
-    arguments(alloc, known, faults, &Wanted::Nothing, &mut args, a)
+    let walked = arguments(alloc, known, faults, &Wanted::Nothing, &mut args, a);
+    drop(args);
+    walked
 }
 
 /// Arguments, each of which is put to those before it.
@@ -412,7 +422,11 @@ fn operation(
         (passed_further k w (no_operands None None) 1 u))) }
 {
     let mut args = Passed::no_operands();
-    further(alloc, known, faults, &wanted_for(op), &mut args, more)?;
-    let z = operating(alloc, known, faults, op, n, further_count(more), args, at)?;
-    Ok(z)
+    match further(alloc, known, faults, &wanted_for(op), &mut args, more) {
+        Ok(()) => operating(alloc, known, faults, op, n, further_count(more), args, at),
+        Err(e) => {
+            drop(args);
+            Err(e)
+        }
+    }
 }

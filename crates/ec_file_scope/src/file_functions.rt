@@ -152,9 +152,11 @@ pub fn name_function(
         is_other_main(word, f),
         name.spot.index,
     );
-    let what = function_named(alloc, setting, &name.name, linkage, f)?;
-    state.declare(alloc, &name.name, what, d)?;
-    Ok(())
+    let Ok(what) = function_named(alloc, setting, &name.name, linkage, f) else {
+        drop(d);
+        return Err(NoMemory);
+    };
+    state.declare(alloc, &name.name, what, d)
 }
 
 fn declared(
@@ -170,7 +172,7 @@ fn declared(
         IfOk result (λ f. Walked faults.old.least faults.new.least (function_sites s.tags false said ss at ps)
         (plain_declared_function f) (function_declared s.tags (length s.structs) said ss ps)) }
 {
-    let f = declared_function(
+    declared_function(
         alloc,
         faults,
         &state.tags,
@@ -180,8 +182,7 @@ fn declared(
         &d.declarator.stars,
         d.declarator.name.spot.index,
         params,
-    )?;
-    Ok(f)
+    )
 }
 
 /// A declarator of a function at file scope, where its specifiers say so much and have this storage word.
@@ -205,7 +206,7 @@ pub(crate) fn file_function(
     let f = declared(alloc, state, faults, said, d, params)?;
     let started = is_started(&d.start);
     let name = &d.declarator.name;
-    name_function(
+    let named = name_function(
         alloc,
         setting,
         state,
@@ -215,6 +216,7 @@ pub(crate) fn file_function(
         false,
         started,
         &f,
-    )?;
-    Ok(())
+    );
+    drop(f);
+    named
 }

@@ -132,9 +132,11 @@ fn name_object(
 {
     let d = object_name(alloc, setting, &name.name, linkage, defined, o)?;
     judge_name(faults, &d, state.declared.as_slice(), name.spot.index);
-    let what = object_named(alloc, setting, &name.name, linkage, o)?;
-    state.declare(alloc, &name.name, what, d)?;
-    Ok(())
+    let Ok(what) = object_named(alloc, setting, &name.name, linkage, o) else {
+        drop(d);
+        return Err(NoMemory);
+    };
+    state.declare(alloc, &name.name, what, d)
 }
 
 // ---- initial values
@@ -154,8 +156,7 @@ fn given_leaves(
         IfOk result (λ all. Walked faults.old.least faults.new.least (initialiser_in (static_sites k i t []))
         (option_map (λ v. v.items) all) (static_leaves k i t)) }
 {
-    let all = static_values(alloc, known, faults, &start.value, ty)?;
-    Ok(all)
+    static_values(alloc, known, faults, &start.value, ty)
 }
 
 fn initial_leaves(
@@ -174,10 +175,7 @@ fn initial_leaves(
         (option_map (λ v. v.items) all) (initial_leaves k i t)) }
 {
     match start {
-        Some(start) => {
-            let all = given_leaves(alloc, known, faults, start, ty)?;
-            Ok(all)
-        }
+        Some(start) => given_leaves(alloc, known, faults, start, ty),
         None => match ty {
             None => Ok(None),
             Some(ty) => {
@@ -209,13 +207,13 @@ fn object_made(
         linkage (plain_declared_object o) (option_map plain_type o.ty) (option_map (λ v. v.items) leaves)) }
 {
     let ObjectDeclared { ty, konst, space } = o;
-    let Some(ty) = ty else {
+    let Some((ty, leaves)) = ty.zip(leaves) else {
         return Ok(None);
     };
-    let Some(leaves) = leaves else {
-        return Ok(None);
+    let Ok(name) = copied_name(alloc, name) else {
+        drop((ty, leaves));
+        return Err(NoMemory);
     };
-    let name = copied_name(alloc, name)?;
     Ok(Some(Obj {
         name,
         unit: setting.unit,
@@ -273,12 +271,17 @@ fn initialise(
 {
     let ports = setting.ports;
     let known = known_of(ports, state);
-    let leaves = initial_leaves(alloc, &known, faults, start, &o.ty)?;
+    let Ok(leaves) = initial_leaves(alloc, &known, faults, start, &o.ty) else {
+        drop(o);
+        return Err(NoMemory);
+    };
     if defined {
         let object = object_made(alloc, setting, name, linkage, o, leaves)?;
-        state.add_object(object)?;
+        state.add_object(object)
+    } else {
+        drop((o, leaves));
+        Ok(())
     }
-    Ok(())
 }
 
 /// What the declarator of an object declares.
@@ -301,8 +304,7 @@ fn object_of(
 {
     let ports = setting.ports;
     let known = known_of(ports, state);
-    let o = declared_object(alloc, &known, faults, true, said, &d.declarator, &d.start)?;
-    Ok(o)
+    declared_object(alloc, &known, faults, true, said, &d.declarator, &d.start)
 }
 
 /// The name and the initial values of an object, where its declarator declares so much.
@@ -330,7 +332,11 @@ fn add_declared(
     let linkage = linkage_of(word, false, earlier);
     let defined = is_defined(word, false);
     judge_extern(faults, is_started(&d.start), storage);
-    name_object(alloc, setting, state, faults, name, linkage, defined, &o)?;
+    let named = name_object(alloc, setting, state, faults, name, linkage, defined, &o);
+    if let Err(e) = named {
+        drop(o);
+        return Err(e);
+    }
     initialise(
         alloc, setting, state, faults, &name.name, linkage, defined, o, &d.start,
     )?;
@@ -358,8 +364,7 @@ pub(crate) fn file_object(
     ensures sound { OnOk result (IsSoundState (plain_state state.new)) }
 {
     let o = object_of(alloc, setting, state, faults, said, d)?;
-    add_declared(alloc, setting, state, faults, storage, d, o)?;
-    Ok(())
+    add_declared(alloc, setting, state, faults, storage, d, o)
 }
 
 // ---- named registers
@@ -502,13 +507,13 @@ fn register_made(
         (plain_declared_register o) o.first (option_map plain_type o.ty)) }
 {
     let RegisterDeclared { first, ty, konst } = o;
-    let Some(first) = first else {
+    let Some((first, ty)) = first.zip(ty) else {
         return Ok(None);
     };
-    let Some(ty) = ty else {
-        return Ok(None);
+    let Ok(name) = copied_name(alloc, name) else {
+        drop(ty);
+        return Err(NoMemory);
     };
-    let name = copied_name(alloc, name)?;
     Ok(Some(Obj {
         name,
         unit: setting.unit,
@@ -546,9 +551,11 @@ fn name_register(
     let shared = shares_register(&d, state.declared.as_slice());
     faults.judge(13, shared, r.register.spot.index);
     judge_name(faults, &d, state.declared.as_slice(), r.name.spot.index);
-    let what = register_named(alloc, setting, name, o)?;
-    state.declare(alloc, name, what, d)?;
-    Ok(())
+    let Ok(what) = register_named(alloc, setting, name, o) else {
+        drop(d);
+        return Err(NoMemory);
+    };
+    state.declare(alloc, name, what, d)
 }
 
 /// What the declaration of an object in a named register declares.
@@ -570,8 +577,7 @@ fn register_of(
 {
     let ports = setting.ports;
     let known = known_of(ports, state);
-    let o = declared_register(alloc, &known, faults, r)?;
-    Ok(o)
+    declared_register(alloc, &known, faults, r)
 }
 
 /// The name of an object in a named register, and the object, where its declaration declares so much.
@@ -592,12 +598,17 @@ fn add_register(
     ensures sound { OnOk result (IsSoundState (plain_state state.new)) }
 {
     let before = is_registered(&r.name.name, state.declared.as_slice());
-    name_register(alloc, setting, state, faults, r, &o)?;
-    if !before {
-        let object = register_made(alloc, setting, &r.name.name, o)?;
-        state.add_object(object)?;
+    let named = name_register(alloc, setting, state, faults, r, &o);
+    if let Err(e) = named {
+        drop(o);
+        return Err(e);
     }
-    Ok(())
+    if before {
+        drop(o);
+        return Ok(());
+    }
+    let object = register_made(alloc, setting, &r.name.name, o)?;
+    state.add_object(object)
 }
 
 /// A declaration of an object in a named register. The object stands once, however many units declare it.
@@ -617,6 +628,5 @@ pub fn file_register(
     ensures sound { OnOk result (IsSoundState (plain_state state.new)) }
 {
     let o = register_of(alloc, setting, state, faults, r)?;
-    add_register(alloc, setting, state, faults, r, o)?;
-    Ok(())
+    add_register(alloc, setting, state, faults, r, o)
 }

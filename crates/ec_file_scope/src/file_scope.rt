@@ -40,12 +40,10 @@ fn declarator(
 {
     match &d.declarator.shape {
         Shape::Object | Shape::Array(_, _, _) => {
-            file_object(alloc, setting, state, faults, said, storage, d)?;
-            Ok(())
+            file_object(alloc, setting, state, faults, said, storage, d)
         }
         Shape::Function(_, params, _) => {
-            file_function(alloc, setting, state, faults, said, storage, d, params)?;
-            Ok(())
+            file_function(alloc, setting, state, faults, said, storage, d, params)
         }
     }
 }
@@ -93,8 +91,7 @@ pub fn file_declaration(
     let said = judge_specs(faults, &state.tags, true, &d.specs);
     let storage = storages_of(&d.specs).first;
     declarator(alloc, setting, state, faults, said, storage, &d.first)?;
-    more_declarators(alloc, setting, state, faults, said, storage, &d.more)?;
-    Ok(())
+    more_declarators(alloc, setting, state, faults, said, storage, &d.more)
 }
 
 fn struct_of(
@@ -115,8 +112,7 @@ fn struct_of(
 {
     let ports = setting.ports;
     let known = known_of(ports, state);
-    let def = defined_struct(alloc, &known, faults, d)?;
-    Ok(def)
+    defined_struct(alloc, &known, faults, d)
 }
 
 /// A definition of a struct. Judges the rules of its members, and rules 9 and 10 at the tag.

@@ -1,5 +1,7 @@
 //! Declarations at file scope: what they declare in the program and in the names of a unit, and the rules that they
 //! break (ISO/IEC 9899:1999, 6.2.2, 6.7 and 6.9; ISO/IEC TR 18037:2008, 5.2).
+//!
+//! Trees that are not used are dropped by a call: a drop in place at each exit would cost the proof its variants.
 #![tactic(auto)]
 
 mod file_functions;

@@ -124,10 +124,13 @@ impl State {
             ≡ with_name name.now.items (plain_named what) (plain_file_name d) (plain_state self.old)) }
         ensures sound { OnOk result (IsSoundState (plain_state self.new)) }
     {
-        let name = copied_name(alloc, name)?;
-        self.scope.names.declare_outside(name, what)?;
+        let Ok(name) = copied_name(alloc, name) else {
+            drop((what, d));
+            return Err(NoMemory);
+        };
+        let named = self.scope.names.declare_outside(name, what);
         self.declared.push(d)?;
-        Ok(())
+        named
     }
 
     /// One object more of the program, if it is known, and a number of 16 bits is left for it.
@@ -144,6 +147,7 @@ impl State {
         if self.scope.objects.len() < 65_536 {
             self.scope.objects.push(object)
         } else {
+            drop(object);
             self.whole = false;
             Ok(())
         }

@@ -9,7 +9,7 @@ use Rattle.ec_core.specs.declared.expressions.BinOp.{BinOp}
 use Rattle.ec_core.specs.declared.expressions.UnOp.{UnOp}
 use Rattle.ec_core.specs.ArithmeticTypes.{arithmetic_of, type_of}
 use Rattle.ec_core.specs.Operators.{promoted_type, operation_types}
-use Rattle.ec_core.specs.Plain.{PlainType, void, pointer, array, struct}
+use Rattle.ec_core.specs.Plain.{PlainType, PlainPlace, void, pointer, array, struct}
 use Rattle.ec_core.specs.Plain.{PlainExpr, expression, address_of, unary, assign, compound, step}
 use Rattle.ec_core.specs.Plain.{logical_not, comma, deref}
 use Rattle.ec_core.specs.Typing.{int, type_of_expr}
@@ -139,9 +139,11 @@ abbrev pub assignment_rules : Option Operand → Option Operand → ℕ → List
 assignment_rules x y at =
     rule 26 (unassigned x) at ∷ rule 27 (const_assigned x) at ∷ passing_rules y (type_of_place x) at
 
+abbrev pub assigned_at : Modes → PlainType → PlainPlace → Operand → Option Operand
+assigned_at m ty q y = with_one (brought m ty y) (λ e. valued (made m ty (assign q e)))
+
 abbrev pub assigned : Modes → Operand → Operand → Option Operand
-assigned m (place ty konst space register q) y =
-    if konst || is_aggregate ty then None else with_one (brought m ty y) (λ e. valued (made m ty (assign q e)))
+assigned m (place ty konst space register q) y = if konst || is_aggregate ty then None else assigned_at m ty q y
 assigned m (value e zero) y = None
 
 -- 28: the result of a compound assignment with a pointer on the right cannot be brought to its place
@@ -160,11 +162,15 @@ operation_mode m op (Some s) (Some t) = mode_of m (type_of (operation_types op s
 operation_mode m op s t = record { saturate = false }
 
 -- the right side is not converted
+abbrev pub compounded_at : Modes → BinOp → PlainType → PlainPlace → Operand → Option Operand
+compounded_at m op ty q y =
+    valued (made m ty
+    (compound op (operation_mode m op (arithmetic_of ty) (arithmetic_of (value_type y))) q (as_value m y)))
+
 abbrev pub compounded : Modes → BinOp → Operand → Operand → Option Operand
 compounded m op (place ty konst space register q) y =
     if konst || is_aggregate ty || is_pointer (value_type y) || not (suits op ty (value_type y)) then None
-    else valued (made m ty
-    (compound op (operation_mode m op (arithmetic_of ty) (arithmetic_of (value_type y))) q (as_value m y)))
+    else compounded_at m op ty q y
 compounded m op (value e zero) y = None
 
 abbrev pub step_rules : Option Operand → ℕ → List Judgement

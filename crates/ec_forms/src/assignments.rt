@@ -2,15 +2,15 @@
 ghost use Rattle.std.specs.Prelude.{◌≡◌, IfOk, option_map};
 ghost use Rattle.std.specs.Option.{option_copied};
 ghost use Rattle.ec_core.specs.Operators.{operation_types};
-ghost use Rattle.ec_core.specs.Plain.{plain_type};
+ghost use Rattle.ec_core.specs.Plain.{plain_type, plain_place};
 ghost use Rattle.ec_faults.specs.Faults.{all_judged};
 ghost use Rattle.ec_operands.specs.Operands.{plain_operand, with_one, with_both};
-ghost use Rattle.ec_forms.specs.Nodes.{unassigned, const_assigned, type_of_place, assignment_rules, assigned};
-ghost use Rattle.ec_forms.specs.Nodes.{pointer_added, compound_rules, operation_mode, compounded, step_rules};
+ghost use Rattle.ec_forms.specs.Nodes.{unassigned, const_assigned, type_of_place, assignment_rules, assigned, assigned_at};
+ghost use Rattle.ec_forms.specs.Nodes.{pointer_added, compound_rules, operation_mode, compounded, compounded_at, step_rules};
 ghost use Rattle.ec_forms.specs.Nodes.{stepped};
 
 use crate::uses::is_no_scalar;
-use ec_core::{Arithmetic, BinOp, CType, Expr, Node};
+use ec_core::{Arithmetic, BinOp, CType, Expr, Node, PlaceExpr};
 use ec_faults::Faults;
 use ec_fx::Mode;
 use ec_operands::{
@@ -62,11 +62,31 @@ pub fn judge_assignment(faults: &mut Faults, x: &Option<Operand>, y: &Option<Ope
     judge_conversion(faults, y, place_type(x), at);
 }
 
+/// The assignment to a place of a type.
+fn stored(
+    alloc: Global,
+    modes: Modes,
+    ty: CType,
+    place: PlaceExpr,
+    y: Operand,
+) -> Result<Option<Operand>, NoMemory>
+    ensures { IfOk result (λ z. option_map plain_operand z ≡ assigned_at modes (plain_type ty) (plain_place place) (plain_operand y)) }
+{
+    let Some(e) = brought(alloc, modes, &ty, y)? else {
+        return Ok(None);
+    };
+    let e = boxed(alloc, e)?;
+    Ok(valued(Some(made(modes, ty, Node::Assign(place, e)))))
+}
+
 fn store(alloc: Global, modes: Modes, x: Operand, y: Operand) -> Result<Option<Operand>, NoMemory>
     ensures { IfOk result (λ z. option_map plain_operand z ≡ assigned modes (plain_operand x) (plain_operand y)) }
 {
     match x {
-        Operand::Value { .. } => Ok(None),
+        Operand::Value { value, .. } => {
+            drop((value, y));
+            Ok(None)
+        }
         Operand::Place {
             ty,
             konst,
@@ -74,13 +94,11 @@ fn store(alloc: Global, modes: Modes, x: Operand, y: Operand) -> Result<Option<O
             ..
         } => {
             if konst || is_aggregate(&ty) {
-                return Ok(None);
+                drop((ty, place, y));
+                Ok(None)
+            } else {
+                stored(alloc, modes, ty, place, y)
             }
-            let Some(e) = brought(alloc, modes, &ty, y)? else {
-                return Ok(None);
-            };
-            let e = boxed(alloc, e)?;
-            Ok(valued(Some(made(modes, ty, Node::Assign(place, e)))))
         }
     }
 }
@@ -95,14 +113,10 @@ pub fn assign(
     ensures { IfOk result (λ z. option_map plain_operand z
         ≡ with_both (option_map plain_operand x) (option_map plain_operand y) (assigned modes)) }
 {
-    let Some(x) = x else {
-        return Ok(None);
-    };
-    let Some(y) = y else {
-        return Ok(None);
-    };
-    let z = store(alloc, modes, x, y)?;
-    Ok(z)
+    match x.zip(y) {
+        None => Ok(None),
+        Some((x, y)) => store(alloc, modes, x, y),
+    }
 }
 
 // ---- compound assignments
@@ -151,6 +165,23 @@ fn operation_mode(modes: Modes, op: BinOp, s: Option<Arithmetic>, t: Option<Arit
     }
 }
 
+fn changed(
+    alloc: Global,
+    modes: Modes,
+    op: BinOp,
+    ty: CType,
+    place: PlaceExpr,
+    y: Operand,
+) -> Result<Option<Operand>, NoMemory>
+    ensures { IfOk result (λ z. option_map plain_operand z
+        ≡ compounded_at modes op (plain_type ty) (plain_place place) (plain_operand y)) }
+{
+    let other = sort_of(&y).arithmetic();
+    let mode = operation_mode(modes, op, ty.arithmetic(), other);
+    let e = boxed(alloc, as_value(modes, y))?;
+    Ok(valued(Some(made(modes, ty, Node::Compound(op, mode, place, e)))))
+}
+
 fn change(
     alloc: Global,
     modes: Modes,
@@ -162,9 +193,11 @@ fn change(
         ≡ compounded modes op (plain_operand x) (plain_operand y)) }
 {
     let right = sort_of(&y);
-    let other = right.arithmetic();
     match x {
-        Operand::Value { .. } => Ok(None),
+        Operand::Value { value, .. } => {
+            drop((value, y));
+            Ok(None)
+        }
         Operand::Place {
             ty,
             konst,
@@ -176,11 +209,11 @@ fn change(
                 || right.is_pointer()
                 || !suits(op, type_sort(&ty), right)
             {
-                return Ok(None);
+                drop((ty, place, y));
+                Ok(None)
+            } else {
+                changed(alloc, modes, op, ty, place, y)
             }
-            let mode = operation_mode(modes, op, ty.arithmetic(), other);
-            let e = boxed(alloc, as_value(modes, y))?;
-            Ok(valued(Some(made(modes, ty, Node::Compound(op, mode, place, e)))))
         }
     }
 }
@@ -196,14 +229,10 @@ pub fn compound(
     ensures { IfOk result (λ z. option_map plain_operand z
         ≡ with_both (option_map plain_operand x) (option_map plain_operand y) (compounded modes op)) }
 {
-    let Some(x) = x else {
-        return Ok(None);
-    };
-    let Some(y) = y else {
-        return Ok(None);
-    };
-    let z = change(alloc, modes, op, x, y)?;
-    Ok(z)
+    match x.zip(y) {
+        None => Ok(None),
+        Some((x, y)) => change(alloc, modes, op, x, y),
+    }
 }
 
 // ---- steps
@@ -224,7 +253,11 @@ pub fn step(modes: Modes, up: bool, prefix: bool, x: Option<Operand>) -> Option<
         ≡ with_one (option_map plain_operand x) (stepped modes up prefix) }
 {
     match x {
-        None | Some(Operand::Value { .. }) => None,
+        None => None,
+        Some(Operand::Value { value, .. }) => {
+            drop(value);
+            None
+        }
         Some(
             Operand::Place {
                 ty,
@@ -236,6 +269,7 @@ pub fn step(modes: Modes, up: bool, prefix: bool, x: Option<Operand>) -> Option<
             if type_sort(&ty).is_scalar() && !konst {
                 valued(Some(made(modes, ty, Node::Step { up, prefix, place })))
             } else {
+                drop((ty, place));
                 None
             }
         }

@@ -87,7 +87,10 @@ fn address(alloc: Global, modes: Modes, x: Operand) -> Result<Option<Operand>, N
     ensures { IfOk result (λ y. option_map plain_operand y ≡ address modes (plain_operand x)) }
 {
     match x {
-        Operand::Value { .. } => Ok(None),
+        Operand::Value { value, .. } => {
+            drop(value);
+            Ok(None)
+        }
         Operand::Place {
             ty,
             konst,
@@ -96,6 +99,7 @@ fn address(alloc: Global, modes: Modes, x: Operand) -> Result<Option<Operand>, N
             place,
         } => {
             if register {
+                drop((ty, place));
                 return Ok(None);
             }
             let to = boxed(alloc, ty)?;
@@ -115,12 +119,12 @@ fn address(alloc: Global, modes: Modes, x: Operand) -> Result<Option<Operand>, N
 pub fn pointed(alloc: Global, e: Expr) -> Result<Option<Operand>, NoMemory>
     ensures { IfOk result (λ x. option_map plain_operand x ≡ pointed (plain_expr e)) }
 {
+    let e = boxed(alloc, e)?;
     match &e.ty {
         CType::Ptr { space, konst, to } => {
             let ty = to.copied(alloc)?;
             let space = *space;
             let konst = *konst;
-            let e = boxed(alloc, e)?;
             Ok(Some(Operand::Place {
                 ty,
                 konst,
@@ -147,6 +151,7 @@ fn plus(alloc: Global, modes: Modes, e: Expr) -> Result<Option<Operand>, NoMemor
     ensures { IfOk result (λ x. option_map plain_operand x ≡ plus modes (plain_expr e)) }
 {
     let Some(t) = e.ty.arithmetic() else {
+        drop(e);
         return Ok(None);
     };
     let e = convert(alloc, modes, &promoted(t), e)?;
@@ -173,12 +178,10 @@ fn unary_operation(
 ) -> Result<Option<Operand>, NoMemory>
     ensures { IfOk result (λ x. option_map plain_operand x ≡ unary_operation modes op (plain_expr e)) }
 {
-    let Some(t) = e.ty.arithmetic() else {
+    let Some(t) = e.ty.arithmetic().filter(|t| suits_unary(op, *t)) else {
+        drop(e);
         return Ok(None);
     };
-    if !suits_unary(op, t) {
-        return Ok(None);
-    }
     let ty = promoted(t);
     let e = boxed_in(alloc, modes, &ty, e)?;
     Ok(valued(Some(made(modes, ty, Node::Unary(op, e)))))
@@ -203,30 +206,12 @@ fn prefix_one(
     ensures { IfOk result (λ y. option_map plain_operand y ≡ prefixed modes op (plain_operand x)) }
 {
     match op {
-        PrefixOp::Address => {
-            let y = address(alloc, modes, x)?;
-            Ok(y)
-        }
-        PrefixOp::Deref => {
-            let y = pointed(alloc, as_value(modes, x))?;
-            Ok(y)
-        }
-        PrefixOp::Plus => {
-            let y = plus(alloc, modes, as_value(modes, x))?;
-            Ok(y)
-        }
-        PrefixOp::Minus => {
-            let y = unary_operation(alloc, modes, UnOp::Minus, as_value(modes, x))?;
-            Ok(y)
-        }
-        PrefixOp::Invert => {
-            let y = unary_operation(alloc, modes, UnOp::Invert, as_value(modes, x))?;
-            Ok(y)
-        }
-        PrefixOp::Not => {
-            let y = negated(alloc, modes, condition(modes, Some(x)))?;
-            Ok(y)
-        }
+        PrefixOp::Address => address(alloc, modes, x),
+        PrefixOp::Deref => pointed(alloc, as_value(modes, x)),
+        PrefixOp::Plus => plus(alloc, modes, as_value(modes, x)),
+        PrefixOp::Minus => unary_operation(alloc, modes, UnOp::Minus, as_value(modes, x)),
+        PrefixOp::Invert => unary_operation(alloc, modes, UnOp::Invert, as_value(modes, x)),
+        PrefixOp::Not => negated(alloc, modes, condition(modes, Some(x))),
     }
 }
 
@@ -243,6 +228,5 @@ pub fn prefix(
     let Some(x) = x else {
         return Ok(None);
     };
-    let y = prefix_one(alloc, modes, op, x)?;
-    Ok(y)
+    prefix_one(alloc, modes, op, x)
 }

@@ -21,7 +21,7 @@ pub fn take(faults: &mut Faults, x: Option<Operand>, at: u32) -> Option<Operand>
     };
     let void = sort_of(&x).is_void();
     faults.judge(40, void, at);
-    if void { None } else { Some(x) }
+    Some(x).filter(|_| !void)
 }
 
 /// Takes a part of a comma, of an expression statement, or the first or last part of a `for`. A struct is told at `at`,
@@ -36,21 +36,15 @@ pub fn take_part(faults: &mut Faults, x: Option<Operand>, at: u32) -> Option<Ope
     };
     let whole = sort_of(&x).is_struct();
     faults.judge(40, whole, at);
-    if whole { None } else { Some(x) }
+    Some(x).filter(|_| !whole)
 }
 
 /// A value as a condition, or None where it has no type or is not scalar.
 pub fn condition(modes: Modes, x: Option<Operand>) -> Option<Expr>
     ensures { option_map plain_expr result ≡ condition modes (option_map plain_operand x) }
 {
-    let Some(x) = x else {
-        return None;
-    };
-    if sort_of(&x).is_scalar() {
-        Some(as_value(modes, x))
-    } else {
-        None
-    }
+    let x = x.filter(|x| sort_of(x).is_scalar())?;
+    Some(as_value(modes, x))
 }
 
 /// Whether an operand has a type that is not scalar.

@@ -1,4 +1,6 @@
 //! Items of initialisers of static objects.
+//!
+//! Trees that are not used are dropped by a call: a drop in place at each exit would cost the proof its variants.
 ghost use Rattle.std.specs.Prelude.{◌≡◌, ◌∷◌, [], IfOk, ◌&&◌, false, is_none, is_some, None, option_map};
 ghost use Rattle.std.specs.Option.{option_copied};
 ghost use Rattle.ec_core.specs.Plain.{plain_type, plain_expr};
@@ -159,7 +161,9 @@ fn walked_leaf(
     judge_bare(faults, ty, at);
     let null = becomes_null(scalar_of(ty), &x);
     let e = pass(alloc, known.modes, scalar_of(ty), x)?;
-    Ok(judged_leaf(faults, form, null, &e, at))
+    let leaf = judged_leaf(faults, form, null, &e, at);
+    drop(e);
+    Ok(leaf)
 }
 
 /// Judges an item that has no form of an initial value: rule 14 by the type alone, and rule 15.
@@ -189,8 +193,7 @@ pub(crate) fn item_leaf(
     let form = form_of(alloc, known, a)?;
     match form {
         ItemForm::Constant | ItemForm::Address(_) => {
-            let leaf = walked_leaf(alloc, known, faults, form, a, ty)?;
-            Ok(leaf)
+            walked_leaf(alloc, known, faults, form, a, ty)
         }
         ItemForm::Other => {
             refuse(faults, ty, first_assignment(a));

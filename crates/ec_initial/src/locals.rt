@@ -103,8 +103,7 @@ fn whole_values(
     let Some(es) = es else {
         return Ok(None);
     };
-    let all = filled(alloc, modes, structs, ty, es)?;
-    Ok(all)
+    filled(alloc, modes, structs, ty, es)
 }
 
 // ---- initialisers
@@ -159,8 +158,7 @@ fn scalar_value(
         ≡ scalar_value modes (option_map plain_type ty.now) (option_map plain_operand x)) }
 {
     let e = pass(alloc, modes, scalar_of(ty), x)?;
-    let es = one_value(alloc, e)?;
-    Ok(es)
+    one_value(alloc, e)
 }
 
 /// An initialiser without braces.
@@ -179,8 +177,7 @@ fn bare_value(
 {
     let x = walked_value(alloc, known, faults, a, ty)?;
     judge_bare(faults, ty, first_assignment(a));
-    let es = scalar_value(alloc, known.modes, ty, x)?;
-    Ok(es)
+    scalar_value(alloc, known.modes, ty, x)
 }
 
 /// The values of all leaves of a local of a type, brought to their types, or None where an item breaks a rule or the type
@@ -207,8 +204,7 @@ pub fn local_values(
             let mut es = Some(Vec::new(alloc));
             local_item(alloc, known, faults, first, ty, 0, &mut es)?;
             local_items(alloc, known, faults, more, ty, &mut es)?;
-            let all = whole_values(alloc, known.modes, known.structs, ty, es)?;
-            Ok(all)
+            whole_values(alloc, known.modes, known.structs, ty, es)
         }
     }
 }
@@ -234,8 +230,7 @@ fn local_item(
 {
     let part = part_of(alloc, known.structs, ty, i)?;
     let fs = local_values(alloc, known, faults, x, &part)?;
-    append(es, fs)?;
-    Ok(())
+    append(es, fs)
 }
 
 /// The items behind the first one.

@@ -12,7 +12,7 @@ ghost use Rattle.ec_initial.specs.Parts.{bare_rules, has_no_place, braces_rules,
 
 use ec_core::{CType, Expr, Leaf, Node, StructDef, leaves, structs_are_laid_out};
 use ec_faults::Faults;
-use ec_operands::{Modes, made, type_sort};
+use ec_operands::{Modes, boxed, made, type_sort};
 use ec_space::{NoMemory, Seq};
 use std::alloc::Global;
 
@@ -56,14 +56,8 @@ fn part_type(
         ≡ part_type (map plain_struct structs.now.items) (plain_type ty.now) i) }
 {
     match ty {
-        CType::Array { of, len } => {
-            let part = element_type(alloc, of, *len, i)?;
-            Ok(part)
-        }
-        CType::Struct { index } => {
-            let part = member_type(alloc, structs, *index, i)?;
-            Ok(part)
-        }
+        CType::Array { of, len } => element_type(alloc, of, *len, i),
+        CType::Struct { index } => member_type(alloc, structs, *index, i),
         CType::Void | CType::Int { .. } | CType::Fx { .. } | CType::Ptr { .. } => Ok(None),
     }
 }
@@ -79,24 +73,12 @@ fn part_in(
 {
     match ty {
         None => Ok(None),
-        Some(ty) => {
-            let part = part_type(alloc, structs, ty, i)?;
-            Ok(part)
-        }
+        Some(ty) => part_type(alloc, structs, ty, i),
     }
 }
 
 /// A type that is known or not, in a box.
 pub(crate) type Part = Box<Option<CType>>;
-
-fn boxed(alloc: Global, part: Option<CType>) -> Result<Part, NoMemory>
-    ensures { IfOk result (λ b. b.value ≡ part) }
-{
-    match Box::new(alloc, part) {
-        Ok(b) => Ok(b),
-        Err(_) => Err(NoMemory),
-    }
-}
 
 /// The type of the part with a number, counted from 0, or None where there is none.
 pub(crate) fn part_of(
@@ -208,11 +190,11 @@ fn zero_of(alloc: Global, modes: Modes, ty: &CType) -> Result<Expr, NoMemory>
     }
 }
 
-/// One value behind others.
-pub(crate) fn push(es: &mut Vec<Expr>, e: Expr) -> Result<(), NoMemory>
-    ensures { OnOk result (es.new.items ≡ es.old.items ++ e ∷ []) }
+/// One item behind others.
+pub(crate) fn push<T: Drop>(xs: &mut Vec<T>, x: T) -> Result<(), NoMemory>
+    ensures { OnOk result (xs.new.items ≡ xs.old.items ++ x ∷ []) }
 {
-    match es.push(e) {
+    match xs.push(x) {
         Ok(()) => Ok(()),
         Err(_) => Err(NoMemory),
     }

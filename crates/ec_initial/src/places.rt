@@ -1,4 +1,6 @@
 //! Static places and their addresses.
+//!
+//! Trees that are not used are dropped by a call: a drop in place at each exit would cost the proof its variants.
 ghost use Rattle.std.specs.Prelude.{◌≡◌, ◌+◌, ◌*◌, ◌^◌, ◌<◌, ◌∷◌, [], map, length, position, slice_get, if◌then◌else◌};
 ghost use Rattle.std.specs.Prelude.{IfOk, IfSome, Some, None, option_map, take};
 ghost use Rattle.std.specs.List.{AllByRecursion};
@@ -229,7 +231,9 @@ fn index_value(alloc: Global, known: &Known, e: &Expression) -> Result<Option<u1
     let mut untold = Faults::new();
     let x = expression(alloc, known, &mut untold, e)?;
     let x = take(&mut untold, x, first_expression(e));
-    Ok(index_of_used(&x))
+    let i = index_of_used(&x);
+    drop(x);
+    Ok(i)
 }
 
 fn element_type(ty: &CType) -> Option<&CType>
@@ -404,19 +408,19 @@ fn member_of<'a>(
 
 // ---- what an expression names
 
-fn address_of<'a>(d: &Option<Designated<'a>>) -> Option<Designated<'a>>
+fn address_of(d: Option<Designated<'_>>) -> Option<Designated<'_>>
     ensures { option_map plain_designated result
-        ≡ option_map address_at (place_in (option_map plain_designated d.now)) }
+        ≡ option_map address_at (place_in (option_map plain_designated d.entry)) }
 {
     match d {
-        Some(Designated::Place(s)) => Some(Designated::Address(*s)),
+        Some(Designated::Place(s)) => Some(Designated::Address(s)),
         None | Some(Designated::Address(_)) => None,
     }
 }
 
 /// What a prefix operator makes of what stands behind it: `&` of a place is its address.
-fn address_designated<'a>(op: PunctKind, d: &Option<Designated<'a>>) -> Option<Designated<'a>>
-    ensures { option_map plain_designated result ≡ address_designated op (option_map plain_designated d.now) }
+fn address_designated(op: PunctKind, d: Option<Designated<'_>>) -> Option<Designated<'_>>
+    ensures { option_map plain_designated result ≡ address_designated op (option_map plain_designated d.entry) }
 {
     match op {
         PunctKind::Ampersand => address_of(d),
@@ -446,19 +450,19 @@ fn part_designated<'a>(
     structs: &'a Seq<StructDef>,
     arrow: bool,
     name: &Name,
-    d: &Option<Designated<'a>>,
+    d: Option<Designated<'a>>,
 ) -> Option<Designated<'a>>
     requires { AreStructs (map plain_struct structs.now.items) }
     ensures value { option_map plain_designated result
         ≡ part_designated (map plain_struct structs.now.items) arrow name.now.items
-        (option_map plain_designated d.now) }
+        (option_map plain_designated d.entry) }
     ensures object { IsObjectPlace (length structs.now.items) (option_map plain_designated result) }
 {
     if arrow {
         return None;
     }
     match d {
-        Some(Designated::Place(s)) => as_place(member_of(structs, name, s)),
+        Some(Designated::Place(s)) => as_place(member_of(structs, name, &s)),
         None | Some(Designated::Address(_)) => None,
     }
 }
@@ -466,16 +470,16 @@ fn part_designated<'a>(
 fn element_designated<'a>(
     structs: &Seq<StructDef>,
     i: Option<u16>,
-    d: &Option<Designated<'a>>,
+    d: Option<Designated<'a>>,
 ) -> Option<Designated<'a>>
     requires structs { AreStructs (map plain_struct structs.now.items) }
-    requires object { IsObjectPlace (length structs.now.items) (option_map plain_designated d.now) }
+    requires object { IsObjectPlace (length structs.now.items) (option_map plain_designated d) }
     ensures value { option_map plain_designated result
-        ≡ element_designated (map plain_struct structs.now.items) i (option_map plain_designated d.now) }
+        ≡ element_designated (map plain_struct structs.now.items) i (option_map plain_designated d.entry) }
     ensures object { IsObjectPlace (length structs.now.items) (option_map plain_designated result) }
 {
     match d {
-        Some(Designated::Place(s)) => as_place(element_of(structs, i, s)),
+        Some(Designated::Place(s)) => as_place(element_of(structs, i, &s)),
         None | Some(Designated::Address(_)) => None,
     }
 }
@@ -492,13 +496,13 @@ fn is_constant_index(e: &Expression) -> bool
 fn indexed<'a>(
     alloc: Global,
     known: &Known,
-    d: &Option<Designated<'a>>,
+    d: Option<Designated<'a>>,
     e: &Expression,
 ) -> Result<Option<Designated<'a>>, NoMemory>
     requires sound { IsSound (plain_known known.now) }
-    requires object { IsObjectPlace (length known.now.structs.now.items) (option_map plain_designated d.now) }
+    requires object { IsObjectPlace (length known.now.structs.now.items) (option_map plain_designated d) }
     ensures value { IfOk result (λ x. option_map plain_designated x
-        ≡ indexed (plain_known known.now) (option_map plain_designated d.now) (view_expression e.now)) }
+        ≡ indexed (plain_known known.now) (option_map plain_designated d.entry) (view_expression e.now)) }
     ensures object { IfOk result (λ x. IsObjectPlace (length known.now.structs.now.items)
         (option_map plain_designated x)) }
 {
@@ -633,7 +637,7 @@ fn in_unary<'a>(
         Unary::Postfix(p) => in_postfix(alloc, known, p),
         Unary::Prefix(_, op, c) => {
             let d = in_cast(alloc, known, c)?;
-            Ok(address_designated(*op, &d))
+            Ok(address_designated(*op, d))
         }
         Unary::Step(_, _, _) | Unary::Size(_, _, _, _) => Ok(None),
     }
@@ -656,12 +660,11 @@ fn in_postfix<'a>(
         Postfix::Primary(p) => in_primary(alloc, known, p),
         Postfix::Index(p, _, e, _) => {
             let d = in_postfix(alloc, known, p)?;
-            let x = indexed(alloc, known, &d, e)?;
-            Ok(x)
+            indexed(alloc, known, d, e)
         }
         Postfix::Member(p, _, op, n) => {
             let d = in_postfix(alloc, known, p)?;
-            Ok(part_designated(known.structs, is_arrow(*op), &n.name, &d))
+            Ok(part_designated(known.structs, is_arrow(*op), &n.name, d))
         }
         Postfix::Call(_, _, _, _) | Postfix::Stepped(_, _, _) => Ok(None),
     }
@@ -699,13 +702,13 @@ fn array_place<'a>(s: &StaticPlace<'a>) -> Option<StaticPlace<'a>>
     }
 }
 
-fn address_constant<'a>(d: &Option<Designated<'a>>) -> Option<StaticPlace<'a>>
-    ensures { option_map plain_place result ≡ address_constant (option_map plain_designated d.now) }
+fn address_constant(d: Option<Designated<'_>>) -> Option<StaticPlace<'_>>
+    ensures { option_map plain_place result ≡ address_constant (option_map plain_designated d.entry) }
 {
     match d {
         None => None,
-        Some(Designated::Place(s)) => array_place(s),
-        Some(Designated::Address(s)) => Some(*s),
+        Some(Designated::Place(s)) => array_place(&s),
+        Some(Designated::Address(s)) => Some(s),
     }
 }
 
@@ -728,6 +731,6 @@ pub(crate) fn form_of(alloc: Global, known: &Known, a: &Assignment) -> Result<It
         Ok(ItemForm::Constant)
     } else {
         let d = in_assignment(alloc, known, a)?;
-        Ok(address_form(address_constant(&d)))
+        Ok(address_form(address_constant(d)))
     }
 }

@@ -1,4 +1,6 @@
 //! Sizes of arrays.
+//!
+//! Trees that are not used are dropped by a call: a drop in place at each exit would cost the proof its variants.
 ghost use Rattle.std.specs.Prelude.{◌≡◌, IfOk, Option, ◌∷◌, [], option_map};
 ghost use Rattle.ec_core.specs.Plain.{plain_expr};
 ghost use Rattle.ec_faults.specs.Faults.{all_judged};
@@ -127,7 +129,9 @@ pub fn array_size(
     if is_constant_conditional(c) {
         let x = walked_size(alloc, known, faults, c)?;
         judge_size(faults, true, &x, at);
-        Ok(size_of_used(&x))
+        let n = size_of_used(&x);
+        drop(x);
+        Ok(n)
     } else {
         judge_size(faults, false, &None, at);
         Ok(None)

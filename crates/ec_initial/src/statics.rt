@@ -13,7 +13,7 @@ ghost use Rattle.ec_initial.specs.Statics.{static_leaves, with_static_items, sta
 
 use crate::items::item_leaf;
 use crate::locals::items_count;
-use crate::parts::{is_aggregate, judge_braces, part_of, rest_of};
+use crate::parts::{is_aggregate, judge_braces, part_of, push, rest_of};
 use ec_core::{CType, Leaf, LeafInit, StructDef, leaves};
 use ec_expr::Known;
 use ec_faults::Faults;
@@ -26,15 +26,6 @@ use std::alloc::Global;
 type Leaves = Option<Vec<LeafInit>>;
 
 // ---- lists of leaves
-
-fn push(es: &mut Vec<LeafInit>, e: LeafInit) -> Result<(), NoMemory>
-    ensures { OnOk result (es.new.items ≡ es.old.items ++ e ∷ []) }
-{
-    match es.push(e) {
-        Ok(()) => Ok(()),
-        Err(_) => Err(NoMemory),
-    }
-}
 
 fn one_leaf(alloc: Global, e: Option<LeafInit>) -> Result<Leaves, NoMemory>
     ensures { IfOk result (λ es. option_map (λ v. v.items) es ≡ option_map (λ leaf. leaf ∷ []) e) }
@@ -173,8 +164,7 @@ fn whole_leaves(
     let Some(es) = es else {
         return Ok(None);
     };
-    let all = filled(alloc, structs, ty, es)?;
-    Ok(all)
+    filled(alloc, structs, ty, es)
 }
 
 /// The initial values of all leaves of a static object without an initialiser: zero, or the null pointer.
@@ -190,8 +180,7 @@ pub fn zero_values(
 {
     let mut es = Vec::new(alloc);
     fill(alloc, structs, ty, &mut es)?;
-    let all = listed(alloc, es.as_slice())?;
-    Ok(all)
+    listed(alloc, es.as_slice())
 }
 
 // ---- initialisers
@@ -212,8 +201,7 @@ fn bare_leaves(
         (option_map (λ v. v.items) es) (static_leaves k i t)) }
 {
     let leaf = item_leaf(alloc, known, faults, a, ty)?;
-    let es = one_leaf(alloc, leaf)?;
-    Ok(es)
+    one_leaf(alloc, leaf)
 }
 
 /// The initial values of all leaves of an object of a type, as a list that grows.
@@ -240,8 +228,7 @@ fn static_leaves(
             let mut es = Some(Vec::new(alloc));
             static_item(alloc, known, faults, first, ty, 0, &mut es)?;
             static_items(alloc, known, faults, more, ty, &mut es)?;
-            let all = whole_leaves(alloc, known.structs, ty, es)?;
-            Ok(all)
+            whole_leaves(alloc, known.structs, ty, es)
         }
     }
 }
@@ -268,8 +255,7 @@ fn static_item(
 {
     let part = part_of(alloc, known.structs, ty, i)?;
     let fs = static_leaves(alloc, known, faults, x, &part)?;
-    append(es, fs)?;
-    Ok(())
+    append(es, fs)
 }
 
 /// The items behind the first one.

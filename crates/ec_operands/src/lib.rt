@@ -3,6 +3,8 @@
 //!
 //! A form is made by a function of its operands, None standing for one that broke a rule and has no type, and is judged
 //! by another one, which tells the rules that it breaks. Nothing here speaks of the trees of a text.
+//!
+//! Trees that are not used are dropped by a call: a drop in place at each exit would cost the proof its variants.
 #![tactic(auto)]
 
 mod operands;

@@ -127,18 +127,33 @@ pub fn convert(alloc: Global, modes: Modes, ty: &CType, e: Expr) -> Result<Expr,
     if e.ty.is_same(ty) {
         return Ok(e);
     }
-    let to = ty.copied(alloc)?;
     let e = boxed(alloc, e)?;
+    let to = ty.copied(alloc)?;
     Ok(made(modes, to, Node::Convert(e)))
+}
+
+/// The same, of a value that is in a box.
+pub(crate) fn convert_boxed(
+    alloc: Global,
+    modes: Modes,
+    ty: &CType,
+    e: Box<Expr>,
+) -> Result<Box<Expr>, NoMemory>
+    ensures { IfOk result (λ b. plain_expr b.value ≡ converted modes (plain_type ty.now) (plain_expr e.value)) }
+{
+    if e.ty.is_same(ty) {
+        return Ok(e);
+    }
+    let to = ty.copied(alloc)?;
+    boxed(alloc, made(modes, to, Node::Convert(e)))
 }
 
 /// The same, in a box.
 pub fn boxed_in(alloc: Global, modes: Modes, ty: &CType, e: Expr) -> Result<Box<Expr>, NoMemory>
     ensures { IfOk result (λ b. plain_expr b.value ≡ converted modes (plain_type ty.now) (plain_expr e)) }
 {
-    let e = convert(alloc, modes, ty, e)?;
     let e = boxed(alloc, e)?;
-    Ok(e)
+    convert_boxed(alloc, modes, ty, e)
 }
 
 /// Whether it is the null pointer constant.

@@ -13,7 +13,7 @@ ghost use Rattle.ec_operands.specs.Operators.{comparison_types, binary_types, nu
 ghost use Rattle.ec_operands.specs.Operators.{pointer_operation, beside, null_compared, moved, mixed, mixed_operation};
 ghost use Rattle.ec_operands.specs.Operators.{numbers_meet, meeting_by, meeting, operation_by, operated};
 
-use crate::operands::{Modes, Operand, as_value, boxed, boxed_in, is_null, made, valued};
+use crate::operands::{Modes, Operand, as_value, boxed, convert_boxed, is_null, made, valued};
 use crate::types::{Sort, nest, same_pointee, sort_of};
 use ec_core::{
     Arithmetic, BinOp, CType, Expr, FixedType, IntegerType, Node, is_comparison, signed_kind,
@@ -289,42 +289,38 @@ fn number_operation(
     modes: Modes,
     op: BinOp,
     t: Operation,
-    x: Expr,
-    y: Expr,
+    x: Box<Expr>,
+    y: Box<Expr>,
 ) -> Result<Expr, NoMemory>
     ensures { IfOk result (λ e. plain_expr e
-        ≡ number_operation modes op (plain_operation t) (plain_expr x) (plain_expr y)) }
+        ≡ number_operation modes op (plain_operation t) (plain_expr x.value) (plain_expr y.value)) }
 {
-    let x = boxed_in(alloc, modes, &t.left.to_type(), x)?;
-    let y = boxed_in(alloc, modes, &t.right.to_type(), y)?;
+    let x = convert_boxed(alloc, modes, &t.left.to_type(), x)?;
+    let y = convert_boxed(alloc, modes, &t.right.to_type(), y)?;
     Ok(made(modes, t.outcome.to_type(), Node::Binary(op, x, y)))
 }
 
 // ---- pointers
 
-fn in_space(alloc: Global, modes: Modes, s: SpaceId, e: Expr) -> Result<Box<Expr>, NoMemory>
-    ensures { IfOk result (λ x. plain_expr x.value ≡ in_space modes s (plain_expr e)) }
+fn in_space(alloc: Global, modes: Modes, s: SpaceId, e: Box<Expr>) -> Result<Box<Expr>, NoMemory>
+    ensures { IfOk result (λ x. plain_expr x.value ≡ in_space modes s (plain_expr e.value)) }
 {
-    let to = match &e.ty {
+    match &e.ty {
         CType::Ptr { konst, to, .. } => {
             let to = boxed(alloc, to.copied(alloc)?)?;
-            CType::Ptr {
+            let to = CType::Ptr {
                 space: s,
                 konst: *konst,
                 to,
-            }
+            };
+            convert_boxed(alloc, modes, &to, e)
         }
         CType::Void
         | CType::Int { .. }
         | CType::Fx { .. }
         | CType::Array { .. }
-        | CType::Struct { .. } => {
-            let x = boxed(alloc, e)?;
-            return Ok(x);
-        }
-    };
-    let x = boxed_in(alloc, modes, &to, e)?;
-    Ok(x)
+        | CType::Struct { .. } => Ok(e),
+    }
 }
 
 fn pointer_operation(
@@ -332,11 +328,11 @@ fn pointer_operation(
     modes: Modes,
     op: BinOp,
     space: Option<SpaceId>,
-    x: Expr,
-    y: Expr,
+    x: Box<Expr>,
+    y: Box<Expr>,
 ) -> Result<Option<Expr>, NoMemory>
     ensures { IfOk result (λ e. option_map plain_expr e
-        ≡ pointer_operation modes op space (plain_expr x) (plain_expr y)) }
+        ≡ pointer_operation modes op space (plain_expr x.value) (plain_expr y.value)) }
 {
     let Some(space) = space else {
         return Ok(None);
@@ -396,11 +392,9 @@ fn mixed(
     ensures { IfOk result (λ e. plain_expr e ≡ mixed modes op left (plain_expr p.value) (plain_expr other.value)) }
 {
     if is_comparison(op) {
-        let e = null_compared(alloc, modes, op, left, p)?;
-        Ok(e)
+        null_compared(alloc, modes, op, left, p)
     } else {
-        let e = moved(alloc, modes, op, left, p, other)?;
-        Ok(e)
+        moved(alloc, modes, op, left, p, other)
     }
 }
 
@@ -409,19 +403,16 @@ fn mixed_operation(
     modes: Modes,
     op: BinOp,
     left: bool,
-    x: Expr,
-    y: Expr,
+    x: Box<Expr>,
+    y: Box<Expr>,
 ) -> Result<Expr, NoMemory>
-    ensures { IfOk result (λ e. plain_expr e ≡ mixed_operation modes op left (plain_expr x) (plain_expr y)) }
+    ensures { IfOk result (λ e. plain_expr e
+        ≡ mixed_operation modes op left (plain_expr x.value) (plain_expr y.value)) }
 {
-    let x = boxed(alloc, x)?;
-    let y = boxed(alloc, y)?;
     if left {
-        let e = mixed(alloc, modes, op, left, x, y)?;
-        Ok(e)
+        mixed(alloc, modes, op, left, x, y)
     } else {
-        let e = mixed(alloc, modes, op, left, y, x)?;
-        Ok(e)
+        mixed(alloc, modes, op, left, y, x)
     }
 }
 
@@ -473,17 +464,14 @@ fn operation_by(
     modes: Modes,
     op: BinOp,
     how: Meeting,
-    x: Expr,
-    y: Expr,
+    x: Box<Expr>,
+    y: Box<Expr>,
 ) -> Result<Option<Expr>, NoMemory>
     ensures { IfOk result (λ e. option_map plain_expr e
-        ≡ operation_by modes op how (plain_expr x) (plain_expr y)) }
+        ≡ operation_by modes op how (plain_expr x.value) (plain_expr y.value)) }
 {
     match how {
-        Meeting::Pointers(space) => {
-            let e = pointer_operation(alloc, modes, op, space, x, y)?;
-            Ok(e)
-        }
+        Meeting::Pointers(space) => pointer_operation(alloc, modes, op, space, x, y),
         Meeting::Mixed(left) => {
             let e = mixed_operation(alloc, modes, op, left, x, y)?;
             Ok(Some(e))
@@ -508,23 +496,14 @@ pub fn operate(
         ≡ operated modes op (option_map plain_operand x) (option_map plain_operand y)) }
 {
     let broken = is_unsuited(op, &x, &y) || is_incomparable(op, &x, &y) || meet_apart(op, &x, &y);
-    let Some(x) = x else {
-        return Ok(None);
-    };
-    let Some(y) = y else {
-        return Ok(None);
-    };
-    if broken {
-        return Ok(None);
+    match x.zip(y).filter(|_| !broken) {
+        None => Ok(None),
+        Some((x, y)) => {
+            let how = meeting_of(sort_of(&x), sort_of(&y));
+            let x = boxed(alloc, as_value(modes, x));
+            let y = boxed(alloc, as_value(modes, y));
+            let e = operation_by(alloc, modes, op, how, x?, y?)?;
+            Ok(valued(e))
+        }
     }
-    let how = meeting_of(sort_of(&x), sort_of(&y));
-    let e = operation_by(
-        alloc,
-        modes,
-        op,
-        how,
-        as_value(modes, x),
-        as_value(modes, y),
-    )?;
-    Ok(valued(e))
 }

@@ -24,11 +24,11 @@ pub fn in_type(alloc: Global, modes: Modes, to: &CType, x: Operand) -> Result<Ex
     ensures { IfOk result (λ e. plain_expr e ≡ in_type_of modes (plain_type to.now) (plain_operand x)) }
 {
     if is_null(&x) && type_sort(to).is_pointer() {
+        drop(x);
         let to = to.copied(alloc)?;
         return Ok(made(modes, to, Node::Null));
     }
-    let e = convert(alloc, modes, to, as_value(modes, x))?;
-    Ok(e)
+    convert(alloc, modes, to, as_value(modes, x))
 }
 
 /// The same, in a box.
@@ -41,8 +41,7 @@ pub fn boxed_in_type(
     ensures { IfOk result (λ e. plain_expr e.value ≡ in_type_of modes (plain_type to.now) (plain_operand x)) }
 {
     let e = in_type(alloc, modes, to, x)?;
-    let e = boxed(alloc, e)?;
-    Ok(e)
+    boxed(alloc, e)
 }
 
 /// The operand in a type, or None where no implicit conversion leads there.
@@ -60,6 +59,7 @@ pub fn brought(
         let e = in_type(alloc, modes, to, x)?;
         Ok(Some(e))
     } else {
+        drop(x);
         Ok(None)
     }
 }
@@ -75,14 +75,10 @@ pub fn pass(
     ensures { IfOk result (λ e. option_map plain_expr e
         ≡ passed modes (option_map plain_type (option_copied to.entry)) (option_map plain_operand x)) }
 {
-    let Some(to) = to else {
-        return Ok(None);
-    };
-    let Some(x) = x else {
-        return Ok(None);
-    };
-    let e = brought(alloc, modes, to, x)?;
-    Ok(e)
+    match to.zip(x) {
+        None => Ok(None),
+        Some((to, x)) => brought(alloc, modes, to, x),
+    }
 }
 
 /// Judges the conversion of an operand to a type, which is told at `at`: at the first token of an argument or an

@@ -76,8 +76,7 @@ fn declared_alone(
         (option_map plain_stmt x) (declared_first c r t s) (plain_scope scope.new) (after_declaration c r t s)) }
 {
     let said = judge_specifiers(faults, context, d);
-    let x = local(alloc, context, around, scope, faults, said, &d.first)?;
-    Ok(x)
+    local(alloc, context, around, scope, faults, said, &d.first)
 }
 
 #[tactic(auto, unfolding(crate::specs::Headings::declared_first))]
@@ -96,14 +95,8 @@ fn declared_first(
         (option_map plain_stmt x) (declared_first c r t s) (plain_scope scope.new) (after_declaration c r t s)) }
 {
     match d.more.as_slice() {
-        [] => {
-            let x = declared_alone(alloc, context, around, scope, faults, d)?;
-            Ok(x)
-        }
-        [_, ..] => {
-            let x = declared_block(alloc, context, around, scope, faults, d)?;
-            Ok(x)
-        }
+        [] => declared_alone(alloc, context, around, scope, faults, d),
+        [_, ..] => declared_block(alloc, context, around, scope, faults, d),
     }
 }
 
@@ -173,14 +166,12 @@ fn first_part(
     match first {
         First::Declared(d) => {
             let s = declared_first(alloc, context, around, scope, faults, d)?;
-            let x = some_stmt(alloc, s)?;
-            Ok(x)
+            some_stmt(alloc, s)
         }
         First::Evaluated(None, _) => Ok(Some(None)),
         First::Evaluated(Some(x), _) => {
             let s = evaluated_first(alloc, context, around, &scope.names, faults, x)?;
-            let x = some_stmt(alloc, s)?;
-            Ok(x)
+            some_stmt(alloc, s)
         }
     }
 }
@@ -245,6 +236,5 @@ pub(crate) fn heading(
     let first = first_part(alloc, context, around, scope, faults, &h.first)?;
     let condition = optional_test(alloc, context, &scope.names, faults, &h.condition, at)?;
     let last = optional_evaluation(alloc, context, &scope.names, faults, &h.last)?;
-    let x = heading_of(alloc, first, condition, last)?;
-    Ok(x)
+    heading_of(alloc, first, condition, last)
 }

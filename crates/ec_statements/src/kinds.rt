@@ -57,15 +57,20 @@ pub(crate) fn keep(stmts: &mut Stmts, s: Option<Stmt>) -> Result<(), NoMemory>
     ensures { OnOk result ((rest : Option PlainStmts) → before (plain_kept stmts.new) rest
         ≡ before (plain_kept stmts.old) (followed (option_map plain_stmt s) rest)) }
 {
-    let Some(all) = stmts else {
-        return Ok(());
-    };
     let Some(s) = s else {
         *stmts = None;
         return Ok(());
     };
-    all.push(s)?;
-    Ok(())
+    match stmts {
+        None => {
+            drop(s);
+            Ok(())
+        }
+        Some(all) => {
+            all.push(s)?;
+            Ok(())
+        }
+    }
 }
 
 /// A block of statements.

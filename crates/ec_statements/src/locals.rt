@@ -33,7 +33,7 @@ use std::alloc::Global;
 
 // ---- initialisers
 
-fn listed(alloc: Global, es: Vec<Expr>) -> Result<Seq<Expr>, NoMemory>
+fn listed<T: Drop>(alloc: Global, es: Vec<T>) -> Result<Seq<T>, NoMemory>
     ensures { IfOk result (λ all. all.items ≡ es.items) }
 {
     let mut all = Seq::new(alloc);
@@ -77,8 +77,7 @@ fn initial_values(
     };
     let known = known_in(context, names);
     let es = local_values(alloc, &known, faults, &start.value, ty)?;
-    let es = listed_values(alloc, es)?;
-    Ok(es)
+    listed_values(alloc, es)
 }
 
 // ---- one declarator
@@ -217,8 +216,9 @@ pub(crate) fn local(
         (option_map plain_stmt x) (local_statement c r said t s) (plain_scope scope.new) (with_local c r said t s)) }
 {
     let o = declare(alloc, context, around, scope, faults, said, d)?;
-    let x = started(alloc, context, around, &scope.names, faults, d, &o)?;
-    Ok(x)
+    let x = started(alloc, context, around, &scope.names, faults, d, &o);
+    drop(o);
+    x
 }
 
 // ---- all declarators
@@ -242,8 +242,7 @@ fn keep_local(
         (plain_scope scope.new) (with_local c r said t s)) }
 {
     let x = local(alloc, context, around, scope, faults, said, d)?;
-    keep(stmts, x)?;
-    Ok(())
+    keep(stmts, x)
 }
 
 fn keep_locals(
@@ -319,6 +318,5 @@ pub(crate) fn keep_declaration(
 {
     let said = judge_specifiers(faults, context, d);
     keep_local(alloc, context, around, scope, faults, said, &d.first, stmts)?;
-    keep_locals(alloc, context, around, scope, faults, said, &d.more, stmts)?;
-    Ok(())
+    keep_locals(alloc, context, around, scope, faults, said, &d.more, stmts)
 }

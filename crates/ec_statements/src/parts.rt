@@ -54,8 +54,7 @@ pub(crate) fn test(
     let first = first_expression(x);
     let v = take(faults, v, first);
     judge_condition(faults, &v, at);
-    let e = kept_expr(alloc, condition(context.modes, v))?;
-    Ok(e)
+    kept_expr(alloc, condition(context.modes, v))
 }
 
 /// The same, where it may be left out.
@@ -112,8 +111,7 @@ pub(crate) fn evaluated(
     let v = expression(alloc, &known, faults, x)?;
     let first = first_expression(x);
     let v = take_part(faults, v, first);
-    let e = kept_expr(alloc, unused(context.modes, v))?;
-    Ok(e)
+    kept_expr(alloc, unused(context.modes, v))
 }
 
 /// The same, where it may be left out.
@@ -197,8 +195,7 @@ fn returned_value(
     faults.judge(39, has_no_result(around.result), at);
     let to = returned_type(around.result);
     judge_conversion(faults, &v, to, at);
-    let e = pass(alloc, context.modes, to, v)?;
-    Ok(e)
+    pass(alloc, context.modes, to, v)
 }
 
 fn returning(e: Option<Expr>) -> Option<StmtKind>

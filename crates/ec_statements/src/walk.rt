@@ -69,8 +69,9 @@ fn left(faults: &mut Faults, around: &Around, kind: StmtKind, at: u32) -> Option
     ensures noted { (rest : List Site) → told faults.new.least rest
         ≡ told faults.old.least (left_sites (plain_around around.now) at rest) }
 {
-    faults.judge(38, !around.in_loop, at);
-    if around.in_loop { Some(kind) } else { None }
+    let inside = around.in_loop;
+    faults.judge(38, !inside, at);
+    Some(kind).filter(|_| inside)
 }
 
 // ---- all statements
@@ -149,8 +150,7 @@ fn part(
 {
     let k = kind(alloc, context, around, scope, faults, x)?;
     let s = stated(around.unit, first_statement(x), k);
-    let b = kept_stmt(alloc, s)?;
-    Ok(b)
+    kept_stmt(alloc, s)
 }
 
 /// A `for`, which stands at `at`, in the scope that begins with its first part.
@@ -250,8 +250,7 @@ fn item(
         Item::Declaration(d) => keep_declaration(alloc, context, around, scope, faults, d, stmts),
         Item::Statement(x) => {
             let k = kind(alloc, context, around, scope, faults, x)?;
-            keep(stmts, stated(around.unit, first_statement(x), k))?;
-            Ok(())
+            keep(stmts, stated(around.unit, first_statement(x), k))
         }
     }
 }

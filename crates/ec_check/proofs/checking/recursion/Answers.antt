@@ -5,15 +5,15 @@ use Rattle.ec_core.specs.Plain.{PlainFunction, plain_function, PlainProgram, pla
 use Rattle.ec_core.specs.Valid.{Reaches, calls, calls_through}
 use Rattle.ec_check.proofs.checking.recursion.Goals as goal
 
-pub returns-in-Ok-copied_name-clause-recurs : goal.returns-in-Ok-copied_name-clause-recurs
-returns-in-Ok-copied_name-clause-recurs c =
-    let name = c.in-Ok-copied_name.name.items in
+pub returns-in-Ok-name-clause-recurs : goal.returns-in-Ok-name-clause-recurs
+returns-in-Ok-name-clause-recurs c =
+    let name = c.in-Ok-name.name.items in
     let f = c.in-Some.f in
     let found = slice_get-map plain_function c.args.p.funcs.items f ∙ ap (option_map plain_function) (sym c.in-Some-get.ensures) in
     record {
       function = f;
       first = (c.in-Ok.ensures.found f).0 c.in-Some.is;
-      named = subst (λ (o : Option PlainFunction). IsSomeAnd o (λ g. g.name ≡ name)) (sym found) (sym c.in-Ok-copied_name.ensures);
+      named = subst (λ (o : Option PlainFunction). IsSomeAnd o (λ g. g.name ≡ name)) (sym found) (sym c.in-Ok-name.ensures);
     }
 
 -- what calls a function is a function

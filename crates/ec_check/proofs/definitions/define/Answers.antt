@@ -13,8 +13,8 @@ pub add_function-requires : goal.add_function-requires
 add_function-requires c =
     let s = plain_state c.args.state.now in
     let ps = map plain_param c.deref.result.now in
-    let params = params_keep c.args.setting.now.unit c.number_in-function.result ps s.scope (plain_scope c.declare_params.new.scope) c.in_ok-numbers.ensures.scope in
-    let body = body_keeps _ _ _ _ _ c.in_ok-stmt.ensures.scope in
+    let params = params_keep c.args.setting.now.unit c.number_in-function.result ps s.scope (plain_scope c.declare_params-numbers.new.scope) c.in-Ok.ensures.scope in
+    let body = body_keeps _ _ _ _ _ c.in-Ok-body.ensures.scope in
     record {
       structs = c.requires.sound.structs;
       counted = c.requires.sound.counted;

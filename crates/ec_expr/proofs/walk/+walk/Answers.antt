@@ -40,7 +40,7 @@ cast-returns-in_ok-z-in-Convert t c =
     let n = view_type_name c.in-Convert.n in
     let x = option_map plain_operand c.in_ok-x-in-Convert.x in
     let first = c.first_cast.ensures ∙ ap (λ u. first_cast (view_cast u)) (c.deref-in-Convert.ensures ∙ sym c.deref.ensures) in
-    let taken = subst (λ (at : ℕ). Walked c.cast.new.faults.least c.take_first.new.faults.least (λ rest. on (a_use x at) ∷ rest) (option_map plain_operand c.in_ok-p-in-Convert.p.value) (used x)) first c.in_ok-p-in-Convert.ensures in
+    let taken = subst (λ (at : ℕ). Walked c.cast.new.faults.least c.take_first-p.new.faults.least (λ rest. on (a_use x at) ∷ rest) (option_map plain_operand c.take_first-p.result) (used x)) first c.take_first-p.ensures in
     rw (c.in-Convert.is, ← c.deref.ensures) (then (λ v rest. a_type_name k.tags n ∷ on (a_cast (said_type k.tags n) v c.in-Convert.l.index) ∷ rest) (λ v. with_both (meant_type (void_said k.tags n) (said_type k.tags n)) v (cast k.modes)) (then (λ v rest. on (a_use v (first_cast (view_cast c.deref.result.now))) ∷ rest) used c.in_ok-x-in-Convert.ensures taken) c.in_ok-z-in-Convert.ensures)
 
 pub primary-operation-requires : goal.primary-operation-requires

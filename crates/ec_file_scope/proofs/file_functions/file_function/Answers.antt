@@ -1,4 +1,5 @@
 use Rattle.std.proofs.Common.{subst, Bool, false, Option}
+use Rattle.std.proofs.lemmas.Result.{on_ok_weaker}
 use Rattle.ec_grammar.specs.Views.{view_option, view_start}
 use Rattle.ec_names.specs.declared.specifiers.StorageWord.{StorageWord}
 use Rattle.ec_declare.specs.Functions.{plain_declared_function}
@@ -20,14 +21,15 @@ returns-clause-walked c =
     let started = is_started (view_option view_start c.args.d.now.start) in
     let f = plain_declared_function c.in_ok-f.f in
     let g = c.declared.new.faults.least in
-    let h = c.name_function.new.faults.least in
-    let z = plain_state c.name_function.new.state in
+    let h = c.name_function-named.new.faults.least in
+    let z = plain_state c.name_function-named.new.state in
+    on_ok_weaker c.name_function-named.result (λ walked.
     let b =
     subst (λ (w : Option StorageWord). Walked g h (named_function_sites r w n false f c.is_started-started.result at s) z (with_function_name r n (function_link r w n s) false f s))
-    c.word_of.ensures c.in_ok-name_function.ensures.walked
+    c.word_of.ensures walked
     in
     let e =
     subst (λ (x : Bool). Walked g h (named_function_sites r word n false f x at s) z (with_function_name r n (function_link r word n s) false f s))
     c.is_started-started.ensures b
     in
-    then (λ o. named_function_sites r word n false o started at s) (λ o. with_function_name r n (function_link r word n s) false o s) c.in_ok-f.ensures e
+    then (λ o. named_function_sites r word n false o started at s) (λ o. with_function_name r n (function_link r word n s) false o s) c.in_ok-f.ensures e) c.name_function-named.ensures.walked

@@ -1,3 +1,4 @@
+use Rattle.std.proofs.lemmas.Result.{on_ok_weaker}
 use Rattle.ec_grammar.specs.Views.{view_init_declarator}
 use Rattle.ec_file_scope.specs.FileObjects.{declared_sites, with_declared}
 use Rattle.ec_file_scope.specs.States.{plain_setting, plain_state}
@@ -9,4 +10,4 @@ returns-clause-walked c =
     let r = plain_setting c.args.setting.now in
     let s = plain_state c.args.state.now in
     let t = view_init_declarator c.args.d.now in
-    then (declared_sites r c.args.storage t s) (with_declared r c.args.storage t s) c.in_ok-o.ensures.walked c.in_ok-add_declared.ensures.walked
+    on_ok_weaker c.add_declared.result (λ walked. then (declared_sites r c.args.storage t s) (with_declared r c.args.storage t s) c.in_ok-o.ensures.walked walked) c.add_declared.ensures.walked

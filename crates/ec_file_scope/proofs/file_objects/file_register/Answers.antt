@@ -1,3 +1,4 @@
+use Rattle.std.proofs.lemmas.Result.{on_ok_weaker}
 use Rattle.ec_grammar.specs.Views.{view_register_object}
 use Rattle.ec_file_scope.specs.FileObjects.{register_name_sites, with_register}
 use Rattle.ec_file_scope.specs.States.{plain_setting, plain_state}
@@ -9,4 +10,4 @@ returns-clause-walked c =
     let r = plain_setting c.args.setting.now in
     let s = plain_state c.args.state.now in
     let t = view_register_object c.args.r.now in
-    then (register_name_sites r t s) (with_register r t s) c.in_ok-o.ensures.walked c.in_ok-add_register.ensures.walked
+    on_ok_weaker c.add_register.result (λ walked. then (register_name_sites r t s) (with_register r t s) c.in_ok-o.ensures.walked walked) c.add_register.ensures.walked

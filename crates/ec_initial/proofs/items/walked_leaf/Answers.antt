@@ -31,11 +31,11 @@ returns c =
     let value : option_map plain_expr c.in_ok-e.e ≡ item_value k ty u =
     c.in_ok-e.ensures ∙ ap (λ s. passed k.modes s x) c.scalar_of-2.ensures ∙ ap (passed k.modes (scalar_of ty)) walked.meant in
     record {
-      meant = c.judged_leaf.ensures.value
+      meant = c.judged_leaf-leaf.ensures.value
           ∙ ap (λ e. with_one e (leaf_of c.args.form c.becomes_null-null.result)) value
           ∙ ap (λ z. with_one (item_value k ty u) (leaf_of c.args.form z)) null;
-      noted = told_leaf c.args.faults.now.least c.walked_value.new.faults.least c.judge_bare.new.faults.least c.judged_leaf.new.faults.least
+      noted = told_leaf c.args.faults.now.least c.walked_value.new.faults.least c.judge_bare.new.faults.least c.judged_leaf-leaf.new.faults.least
           (sites_in (assignment_sites k u (on (a_use (of_assignment k u) first) ∷ on (a_passing v (scalar_of ty) first) ∷ []))) ty c.args.form
           c.becomes_null-null.result (item_is_null k ty u) (option_map plain_expr c.in_ok-e.e) (item_value k ty u) c.first_assignment-at.result first
-          walked.noted c.judge_bare.ensures c.judged_leaf.ensures.faults null value c.first_assignment-at.ensures;
+          walked.noted c.judge_bare.ensures c.judged_leaf-leaf.ensures.faults null value c.first_assignment-at.ensures;
     }

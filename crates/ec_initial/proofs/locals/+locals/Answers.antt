@@ -11,5 +11,5 @@ local_values-local_items-requires t c =
     let same : c.deref-in-Braces-2.result.now ≡ row.more.items = c.deref-in-Braces-2.ensures.value in
     (rw same (omega (arith, deep, c.decreases)), (c.requires.sound, c.requires.object))
 
-pub local_values-returns-in_ok-all-in-Braces : goal.local_values-returns-in_ok-all-in-Braces
-local_values-returns-in_ok-all-in-Braces t c = search (rules, the_lemmas, initialisers_row)
+pub local_values-returns-in_ok-local_items-in-Braces : goal.local_values-returns-in_ok-local_items-in-Braces
+local_values-returns-in_ok-local_items-in-Braces t c = search (rules, the_lemmas, initialisers_row)

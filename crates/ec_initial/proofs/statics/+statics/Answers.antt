@@ -11,5 +11,5 @@ static_leaves-static_items-requires t c =
     let same : c.deref-in-Braces-2.result.now ≡ row.more.items = c.deref-in-Braces-2.ensures.value in
     (rw same (omega (arith, deep, c.decreases)), (c.requires.sound, (c.requires.named, c.requires.object)))
 
-pub static_leaves-returns-in_ok-all-in-Braces : goal.static_leaves-returns-in_ok-all-in-Braces
-static_leaves-returns-in_ok-all-in-Braces t c = search (rules, the_lemmas, initialisers_row)
+pub static_leaves-returns-in_ok-static_items-in-Braces : goal.static_leaves-returns-in_ok-static_items-in-Braces
+static_leaves-returns-in_ok-static_items-in-Braces t c = search (rules, the_lemmas, initialisers_row)

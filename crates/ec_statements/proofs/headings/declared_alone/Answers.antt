@@ -1,6 +1,7 @@
 use Rattle.std.proofs.Common.{subst, true}
 use Rattle.std.specs.Prelude.{option_map}
 use Rattle.ec_core.specs.Plain.{plain_stmt}
+use Rattle.std.proofs.lemmas.Result.{IfOk-weaker}
 use Rattle.ec_grammar.specs.Views.{view_init_declarator, view_specs}
 use Rattle.ec_names.specs.declared.specifiers.Specified.{Specified}
 use Rattle.ec_names.specs.Specifiers.{specs_rules, storages_of}
@@ -21,5 +22,5 @@ returns c =
     let ss = view_specs c.args.d.now.specs in
     let first = view_init_declarator c.args.d.now.first in
     rw c.requires.alone
-    (judged_and_through (specs_rules k.tags true ss (storage_rules (storages_of ss).first)) c.judge_specifiers-said.ensures.noted
-    (subst (λ (said : Specified). WalkedThrough c.judge_specifiers-said.new.faults.least c.local.new.faults.least (local_sites k r said first s) (option_map plain_stmt c.in_ok-x.x) (local_statement k r said first s) (plain_scope c.local.new.scope) (with_local k r said first s)) c.judge_specifiers-said.ensures.value c.in_ok-x.ensures))
+    (IfOk-weaker c.local.result _ _ (λ x e. judged_and_through (specs_rules k.tags true ss (storage_rules (storages_of ss).first)) c.judge_specifiers-said.ensures.noted
+    (subst (λ (said : Specified). WalkedThrough c.judge_specifiers-said.new.faults.least c.local.new.faults.least (local_sites k r said first s) (option_map plain_stmt x) (local_statement k r said first s) (plain_scope c.local.new.scope) (with_local k r said first s)) c.judge_specifiers-said.ensures.value e)) c.local.ensures)

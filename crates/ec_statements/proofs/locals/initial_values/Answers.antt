@@ -1,5 +1,6 @@
 use Rattle.std.proofs.Common.{◌∙◌, ap}
 use Rattle.std.specs.Prelude.{option_map}
+use Rattle.std.proofs.lemmas.Result.{IfOk-weaker}
 use Rattle.ec_core.specs.Plain.{plain_type}
 use Rattle.ec_grammar.specs.Views.{view_initialiser}
 use Rattle.ec_expr.specs.Callees.{exprs_of}
@@ -13,7 +14,7 @@ returns c =
     let i = view_initialiser c.in-Some.start.value in
     let walked = known_as_initialiser i (option_map plain_type c.args.ty.now) c.known_in-known.ensures.known c.in_ok-es.ensures in
     rw c.in-Some.is
-    (record {
-      meant = c.in_ok-es-2.ensures ∙ ap (option_map exprs_of) walked.meant;
+    (IfOk-weaker c.listed_values.result _ _ (λ es listed. record {
+      meant = listed ∙ ap (option_map exprs_of) walked.meant;
       noted = walked_initialiser walked;
-    })
+    }) c.listed_values.ensures)

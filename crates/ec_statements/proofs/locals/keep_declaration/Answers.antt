@@ -1,4 +1,5 @@
 use Rattle.std.proofs.Common.{subst, map, true}
+use Rattle.std.proofs.lemmas.Result.{on_ok_weaker}
 use Rattle.ec_grammar.specs.Views.{view_init_declarator, view_next_init_declarator, view_specs}
 use Rattle.ec_names.specs.declared.specifiers.Specified.{Specified}
 use Rattle.ec_names.specs.Specifiers.{specs_rules, storages_of}
@@ -19,7 +20,6 @@ returns c =
     let first = view_init_declarator c.args.d.now.first in
     let more = map view_next_init_declarator c.deref.result.now in
     let said = c.judge_specifiers-said.result in
-    let both = on_and_on (locals_sites k r said more) (locals_before k r said more) (with_locals k r said more) c.in_ok-keep_local.ensures c.in_ok-keep_locals.ensures in
     rw (← c.deref.ensures.value)
-    (judged_and_on (specs_rules k.tags true ss (storage_rules (storages_of ss).first)) c.judge_specifiers-said.ensures.noted
-    (subst (λ (said : Specified). WalkedOn c.judge_specifiers-said.new.faults.least c.keep_locals.new.faults.least (λ rest. local_sites k r said first s (locals_sites k r said more (with_local k r said first s) rest)) (plain_kept c.args.stmts.now) (plain_kept c.keep_locals.new.stmts) (λ rest. followed (local_statement k r said first s) (locals_before k r said more (with_local k r said first s) rest)) (plain_scope c.keep_locals.new.scope) (with_locals k r said more (with_local k r said first s))) c.judge_specifiers-said.ensures.value both))
+    (on_ok_weaker c.keep_locals.result (λ kept. judged_and_on (specs_rules k.tags true ss (storage_rules (storages_of ss).first)) c.judge_specifiers-said.ensures.noted
+    (subst (λ (said : Specified). WalkedOn c.judge_specifiers-said.new.faults.least c.keep_locals.new.faults.least (λ rest. local_sites k r said first s (locals_sites k r said more (with_local k r said first s) rest)) (plain_kept c.args.stmts.now) (plain_kept c.keep_locals.new.stmts) (λ rest. followed (local_statement k r said first s) (locals_before k r said more (with_local k r said first s) rest)) (plain_scope c.keep_locals.new.scope) (with_locals k r said more (with_local k r said first s))) c.judge_specifiers-said.ensures.value (on_and_on (locals_sites k r said more) (locals_before k r said more) (with_locals k r said more) c.in_ok-keep_local.ensures kept))) c.keep_locals.ensures)

@@ -3,4 +3,4 @@ use Rattle.std.specs.Vec.Iter.{into_iter_items}
 use Rattle.ec_statements.proofs.locals.listed.Given as goal
 
 abbrev pub invariant-loop-e : goal.invariant-loop-e
-invariant-loop-e l = (l.all.items ≡ l.yielded) × (l.fn.es.items ≡ l.yielded ++ into_iter_items l.e-iterator)
+invariant-loop-e g l = (l.all.items ≡ l.yielded) × (l.fn.es.items ≡ l.yielded ++ into_iter_items l.e-iterator)

@@ -1,3 +1,4 @@
+use Rattle.std.proofs.lemmas.Result.{IfOk-weaker}
 use Rattle.ec_grammar.specs.Views.{view_init_declarator}
 use Rattle.ec_declare.specs.Scopes.{plain_context}
 use Rattle.ec_statements.specs.Around.{plain_around}
@@ -10,4 +11,4 @@ unfolding local_statement local_sites
 returns c =
     let k = plain_context c.args.context.now in
     let d = view_init_declarator c.args.d.now in
-    then (λ o s. started_sites k d o s.names) (λ o s. started k (plain_around c.args.around.now) d o s.names) c.in_ok-o.ensures.walked c.in_ok-x.ensures
+    IfOk-weaker c.started-x.result _ _ (λ x e. then (λ o s. started_sites k d o s.names) (λ o s. started k (plain_around c.args.around.now) d o s.names) c.in_ok-o.ensures.walked e) c.started-x.ensures

@@ -1,5 +1,6 @@
 use Rattle.std.proofs.Common.{◌∙◌, ap, ◌∷◌, []}
 use Rattle.std.specs.Prelude.{option_map}
+use Rattle.std.proofs.lemmas.Result.{IfOk-weaker}
 use Rattle.ec_grammar.specs.Views.{view_expression}
 use Rattle.ec_names.specs.Firsts.{first_expression}
 use Rattle.ec_names.specs.Names.{plain_names}
@@ -21,7 +22,7 @@ returns c =
     let first = first_expression x in
     let walked = known_as x c.known_in-known.ensures.known c.in_ok-v.ensures in
     let judged = unused_and_judged c.expression.new.faults.least c.take_part-v.new.faults.least (option_map plain_operand c.in_ok-v.v) v c.first_expression-first.result first c.take_part-v.ensures.faults walked.meant c.first_expression-first.ensures in
-    record {
-      meant = c.in_ok-e.ensures ∙ c.unused.ensures ∙ ap (option_map (as_value c.args.context.now.modes)) (c.take_part-v.ensures.value ∙ ap used_part walked.meant);
+    IfOk-weaker c.kept_expr.result _ _ (λ e made. record {
+      meant = made ∙ c.unused.ensures ∙ ap (option_map (as_value c.args.context.now.modes)) (c.take_part-v.ensures.value ∙ ap used_part walked.meant);
       noted = walked_in (in_operands (a_part v first) ∷ []) walked judged;
-    }
+    }) c.kept_expr.ensures

@@ -1,6 +1,7 @@
 use Rattle.std.proofs.Common.{◌∙◌, ap, ◌∷◌}
 use Rattle.std.specs.Prelude.{option_map}
 use Rattle.std.specs.Option.{option_copied}
+use Rattle.std.proofs.lemmas.Result.{IfOk-weaker}
 use Rattle.ec_core.specs.Plain.{plain_type}
 use Rattle.ec_faults.specs.Faults.{rule}
 use Rattle.ec_grammar.specs.Views.{view_expression}
@@ -21,10 +22,10 @@ returns c =
     let v = of_expression (known_in (plain_context c.args.context.now) (plain_names c.args.names.now)) x in
     let walked = known_as x c.known_in-known.ensures.known c.in_ok-v.ensures in
     let judged = returned_and_judged c.expression.new.faults.least c.judge.new.self.least c.judge_conversion.new.faults.least (option_map plain_operand c.in_ok-v.v) v (option_map plain_type (option_copied c.returned_type-to.result)) ty c.has_no_result.result c.args.at c.judge.ensures c.judge_conversion.ensures c.has_no_result.ensures walked.meant c.returned_type-to.ensures in
-    record {
+    IfOk-weaker c.pass.result _ _ (λ e made. record {
       meant =
-          c.in_ok-e.ensures
+          made
           ∙ ap (λ to. passed c.args.context.now.modes to (option_map plain_operand c.in_ok-v.v)) c.returned_type-to.ensures
           ∙ ap (passed c.args.context.now.modes (returned_type ty)) walked.meant;
       noted = walked_and_judged (rule 39 (has_no_result ty) c.args.at ∷ passing_rules v (returned_type ty) c.args.at) walked judged;
-    }
+    }) c.pass.ensures

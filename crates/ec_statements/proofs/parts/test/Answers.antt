@@ -1,5 +1,6 @@
 use Rattle.std.proofs.Common.{◌∙◌, ap, ◌∷◌, []}
 use Rattle.std.specs.Prelude.{option_map}
+use Rattle.std.proofs.lemmas.Result.{IfOk-weaker}
 use Rattle.ec_grammar.specs.Views.{view_expression}
 use Rattle.ec_names.specs.Firsts.{first_expression}
 use Rattle.ec_names.specs.Names.{plain_names}
@@ -21,7 +22,7 @@ returns c =
     let first = first_expression x in
     let walked = known_as x c.known_in-known.ensures.known c.in_ok-v.ensures in
     let judged = used_and_tested c.expression.new.faults.least c.take-v.new.faults.least c.judge_condition.new.faults.least (option_map plain_operand c.in_ok-v.v) v (option_map plain_operand c.take-v.result) c.first_expression-first.result first c.args.at c.take-v.ensures.faults c.judge_condition.ensures walked.meant c.take-v.ensures.value c.first_expression-first.ensures in
-    record {
-      meant = c.in_ok-e.ensures ∙ c.condition.ensures ∙ ap (condition c.args.context.now.modes) (c.take-v.ensures.value ∙ ap used walked.meant);
+    IfOk-weaker c.kept_expr.result _ _ (λ e made. record {
+      meant = made ∙ c.condition.ensures ∙ ap (condition c.args.context.now.modes) (c.take-v.ensures.value ∙ ap used walked.meant);
       noted = walked_in (in_operands (a_use v first) ∷ in_operands (a_condition (used v) c.args.at) ∷ []) walked judged;
-    }
+    }) c.kept_expr.ensures

@@ -1,4 +1,5 @@
 use Rattle.std.proofs.Common.{ap, sym, subst, length}
+use Rattle.std.proofs.lemmas.Result.{on_ok_weaker}
 use Rattle.std.specs.List.{AllByRecursion}
 use Rattle.ec_names.specs.Names.{Named, Names, plain_named}
 use Rattle.ec_names.specs.Tables.{Table}
@@ -11,11 +12,12 @@ pub returns-clause-sound : goal.returns-clause-sound
 returns-clause-sound c =
     let s = plain_state c.args.self.now in
     let n = length s.structs in
-    let outside = ap (λ (ns : Names). ns.outside) c.in_ok-declare_outside.ensures in
+    on_ok_weaker c.declare_outside-named.result (λ names.
+    let outside = ap (λ (ns : Names). ns.outside) names in
     record {
       structs = c.requires.sound.structs;
       counted = c.requires.sound.counted;
       named =
           subst (λ (es : Table Named). AllByRecursion (λ e. IsNamedObject n e.1) es) (sym outside)
-          (named_with (IsNamedObject n) c.in_ok-name.name.items (plain_named c.args.what) s.scope.names.outside c.requires.named c.requires.sound.named);
-    }
+          (named_with (IsNamedObject n) c.in-Ok.name.items (plain_named c.args.what) s.scope.names.outside c.requires.named c.requires.sound.named);
+    }) c.declare_outside-named.ensures
