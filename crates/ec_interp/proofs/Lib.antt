@@ -4,3 +4,4 @@ pub mod Parts
 pub mod Operands
 pub mod Steps
 pub mod Passing
+pub mod Rows

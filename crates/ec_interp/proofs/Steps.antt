@@ -28,7 +28,7 @@ use Rattle.ec_interp.specs.Suits.{IsGiven, Runs, RunsNode, RunsExpr, RunsPlace, 
 use Rattle.ec_interp.specs.Views.{setting_of, inputs_of}
 use Rattle.ec_interp.proofs.Operands.{some_and}
 
-list_next : {A : Type 0} (xs : List A) (i : ℕ) (x : A) → i < length xs → x ≡ get_or xs i x → drop i xs ≡ x ∷ drop (i + 1) xs
+pub list_next : {A : Type 0} (xs : List A) (i : ℕ) (x : A) → i < length xs → x ≡ get_or xs i x → drop i xs ≡ x ∷ drop (i + 1) xs
 list_next xs i x l r = let n : suc i ≡ i + 1 = omega arith in drop-cons xs i x l ∙ (ap (λ y. y ∷ drop (suc i) xs) (sym r) ∙ ap (λ j. x ∷ drop j xs) n)
 
 module _ (f : Context) where

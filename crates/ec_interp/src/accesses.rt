@@ -98,10 +98,7 @@ fn record_access(s: &mut State, storage: &Storage, event: Event) -> Result<(), N
 {
     match storage {
         Storage::Register(_) => Ok(()),
-        Storage::Static(_) | Storage::Local(_) | Storage::Param(_) => {
-            s.record(event)?;
-            Ok(())
-        }
+        Storage::Static(_) | Storage::Local(_) | Storage::Param(_) => s.record(event),
     }
 }
 
@@ -177,10 +174,7 @@ pub fn read(
 {
     let space = place_space(f.program, p);
     match access(f, s, ty, space, to)? {
-        Some(a) => {
-            let v = read_at(f, s, a)?;
-            Ok(v)
-        }
+        Some(a) => read_at(f, s, a),
         None => Err(RunError::Undefined(Undefined::Access)),
     }
 }
@@ -198,8 +192,7 @@ fn store(s: &mut State, o: &Obj, a: Found, v: Value) -> Result<(), NoMemory>
         space: a.space,
         value: told(v),
     };
-    record_access(s, &o.storage, event)?;
-    Ok(())
+    record_access(s, &o.storage, event)
 }
 
 /// Const objects and those kept in flash are not written.
@@ -244,10 +237,7 @@ pub fn write(
 {
     let space = place_space(f.program, p);
     match access(f, s, ty, space, to)? {
-        Some(a) => {
-            let v = write_at(f, s, a, v)?;
-            Ok(v)
-        }
+        Some(a) => write_at(f, s, a, v),
         None => Err(RunError::Undefined(Undefined::Access)),
     }
 }

@@ -86,18 +86,8 @@ fn initial_object(f: &Context, o: &Obj) -> Result<ObjectState, Unanswered>
                 leaves,
             })
         }
-        Storage::Local(_) => {
-            let x = unset_object(f, o, false)?;
-            Ok(x)
-        }
-        Storage::Param(_) => {
-            let x = unset_object(f, o, false)?;
-            Ok(x)
-        }
-        Storage::Register(_) => {
-            let x = unset_object(f, o, true)?;
-            Ok(x)
-        }
+        Storage::Local(_) | Storage::Param(_) => unset_object(f, o, false),
+        Storage::Register(_) => unset_object(f, o, true),
     }
 }
 
@@ -129,8 +119,7 @@ fn closed(alloc: Global, count: usize) -> Result<Vec<bool>, NoMemory>
 fn none_acquired(f: &Context) -> Result<Vec<bool>, NoMemory>
     ensures { IfOk result (λ acquired. acquired.items ≡ map (λ g. false) (plain_table f.now.io.now).groups) }
 {
-    let acquired = closed(f.alloc, f.io.groups.len())?;
-    Ok(acquired)
+    closed(f.alloc, f.io.groups.len())
 }
 
 fn initial_state(f: &Context) -> Result<State, Unanswered>

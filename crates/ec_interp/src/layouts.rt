@@ -103,10 +103,7 @@ pub fn element_size(f: &Context, ty: &CType) -> Result<u32, Unanswered>
     ensures answered { IsExprType (plain_program f.now.program.now) (plain_type ty.now) → IfErr result IsMemory }
 {
     match ty.pointee() {
-        Some(to) => {
-            let bytes = size(f, to)?;
-            Ok(bytes)
-        }
+        Some(to) => size(f, to),
         None => Ok(0),
     }
 }
@@ -178,10 +175,7 @@ pub fn member_offset(f: &Context, ty: Option<&CType>, i: u16) -> Result<u32, Una
 {
     match ty {
         Some(CType::Struct { index }) => match struct_at(f.program, *index) {
-            Some(def) => {
-                let bytes = members_size(f, def.members.as_slice(), i as usize)?;
-                Ok(bytes)
-            }
+            Some(def) => members_size(f, def.members.as_slice(), i as usize),
             None => Ok(0),
         },
         _ => Ok(0),

@@ -63,10 +63,7 @@ fn own_leaf_count(f: &Context, o: u16) -> Result<usize, Unanswered>
     ensures answered { IsGiven f.now → IfErr result IsMemory }
 {
     match object(f.program, o) {
-        Some(x) => {
-            let count = leaf_count(f, &x.ty)?;
-            Ok(count)
-        }
+        Some(x) => leaf_count(f, &x.ty),
         None => Ok(0),
     }
 }

@@ -295,20 +295,11 @@ pub fn binary_value(
                 let r = operation(op, number_type(ty), mode, x, y)?;
                 Ok(Value::Number(r))
             }
-            Value::Pointer(q) => {
-                let r = offset_pointer(f, s, op, b, q, m)?;
-                Ok(r)
-            }
+            Value::Pointer(q) => offset_pointer(f, s, op, b, q, m),
         },
         Value::Pointer(p) => match b.value {
-            Value::Number(n) => {
-                let r = offset_pointer(f, s, op, a, p, n)?;
-                Ok(r)
-            }
-            Value::Pointer(q) => {
-                let r = pointers(f, s, op, a, p, b, q)?;
-                Ok(r)
-            }
+            Value::Number(n) => offset_pointer(f, s, op, a, p, n),
+            Value::Pointer(q) => pointers(f, s, op, a, p, b, q),
         },
     }
 }
@@ -399,10 +390,7 @@ pub fn compound_value(
                 let r = compound(op, operation_mode, mode, typed(a.ty, m), typed(b.ty, n))?;
                 Ok(Value::Number(r))
             }
-            Value::Pointer(p) => {
-                let r = offset_pointer(f, s, op, a, p, n)?;
-                Ok(r)
-            }
+            Value::Pointer(p) => offset_pointer(f, s, op, a, p, n),
         },
         Value::Pointer(_) => Err(RunError::Undefined(Undefined::Invalid)),
     }

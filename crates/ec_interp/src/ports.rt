@@ -139,8 +139,7 @@ fn read_number(f: &Context, s: &mut State, width: u8, port: u32) -> Result<u64, 
 fn write_byte(s: &mut State, port: u32, byte: u8) -> Result<(), NoMemory>
     ensures { OnOk result (seen s.new ≡ with_event (OutOf port byte) (seen s.old)) }
 {
-    s.record(Event::Out { port, byte })?;
-    Ok(())
+    s.record(Event::Out { port, byte })
 }
 
 /// The lowest bytes of a number are written from an address on, the highest address first.
@@ -152,8 +151,7 @@ fn write_number(s: &mut State, width: u8, port: u32, v: u128) -> Result<(), NoMe
         return Ok(());
     }
     write_number(s, width - 1, port + 1, v / 256)?;
-    write_byte(s, port, (v % 256) as u8)?;
-    Ok(())
+    write_byte(s, port, (v % 256) as u8)
 }
 
 // ---- operations
@@ -272,10 +270,7 @@ pub fn operate(
 {
     match port_at(f.io, port) {
         None => Err(RunError::Undefined(Undefined::Invalid)),
-        Some(p) => {
-            let x = open_port(f, s, op, p, unsigned(i), unsigned(v))?;
-            Ok(x)
-        }
+        Some(p) => open_port(f, s, op, p, unsigned(i), unsigned(v)),
     }
 }
 

@@ -601,8 +601,7 @@ fn call_with(
     ensures { DoesTypeless f.now depth (call g (plain_exprs args.now)) result (seen s.old) (seen s.new) }
 {
     let xs = values_of(f, depth, s, args)?;
-    let x = call_function(f, depth, s, g, xs.as_slice())?;
-    Ok(x)
+    call_function(f, depth, s, g, xs.as_slice())
 }
 
 #[cycle(run)]
@@ -1025,8 +1024,7 @@ fn bind_one(f: &Context, s: &mut State, o: u16, x: Value) -> Result<Value, RunEr
     ensures answered { IsGiven f.now → IsAnswered result }
 {
     begin(f, s, o)?;
-    let v = initialise(f, s, o, 0, x)?;
-    Ok(v)
+    initialise(f, s, o, 0, x)
 }
 
 /// The parameters are new objects with the arguments as their values.

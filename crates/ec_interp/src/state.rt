@@ -42,7 +42,7 @@ pub struct State {
 }
 
 /// Why a part of a run gives no value.
-#[derive(Clone, Copy, Debug, PartialEq, Eq)]
+#[derive(Clone, Copy)]
 pub enum RunError {
     Unanswered(Unanswered),
     OutOfTurns,
@@ -50,7 +50,7 @@ pub enum RunError {
 }
 
 /// How a statement was left.
-#[derive(Clone, Copy, Debug, PartialEq, Eq)]
+#[derive(Clone, Copy)]
 pub enum Exit {
     AtEnd,
     ByBreak,

@@ -180,15 +180,9 @@ pub fn node_words(io: &IoTable, ty: &CType, node: &Node) -> Result<u64, NoMemory
             wider(&c.ty, wider(&a.ty, wider(&b.ty, 1))),
         ))),
         Node::Comma(_, _) => Ok(0),
-        Node::Call(_, args) => {
-            let words = call_words(args.as_slice(), ty)?;
-            Ok(words)
-        }
+        Node::Call(_, args) => call_words(args.as_slice(), ty),
         Node::Io { op, port, .. } => Ok(port_words(action_of(*op), port_width(io, *port))),
-        Node::Group { acquire, group } => {
-            let words = group_words(pair_count(io, *acquire, *group) as u64)?;
-            Ok(words)
-        }
+        Node::Group { acquire, group } => group_words(pair_count(io, *acquire, *group) as u64),
     }
 }
 

@@ -1,7 +1,8 @@
 -- The operations of parameters and of initial values, one item after another.
 use Rattle.std.proofs.Common.{◌≡◌, ◌≤◌, ◌+◌, ℕ, length, zero, suc, List, [], ◌∷◌, drop, map, Option, Some, None, refl, ap, sym, ◌∙◌, arith}
 use Rattle.std.proofs.lemmas.Option.{slice_get-map}
-use Rattle.std.specs.Prelude.{slice_get, option_map, unwrap_or}
+use Rattle.std.proofs.lemmas.Result.{on_ok_weaker}
+use Rattle.std.specs.Prelude.{slice_get, option_map, unwrap_or, Result, OnOk}
 use Rattle.ec_core.specs.declared.expressions.Expr.{Expr}
 use Rattle.ec_core.specs.declared.layout.Leaf.{Leaf}
 use Rattle.ec_core.specs.Layout.{PlainLeaf, plain_leaf, leaves_of_type}
@@ -10,6 +11,10 @@ use Rattle.ec_core.specs.PortTable.{PlainTable}
 use Rattle.ec_core.specs.Typing.{type_of_expr}
 use Rattle.ec_ir.specs.Operations.{PlainIr, store_object}
 use Rattle.ec_lower_code.specs.Code.{temp, expr_labels, expr_code, params_of, params_code, leaves_of_object, init_code}
+
+-- what a call says of its answer, said of a larger part
+pub so : {T E P Q : Type 0} (r : Result T E) → OnOk r P → (P → Q) → OnOk r Q
+so r h f = on_ok_weaker r f h
 
 -- the item that is read at i, and the rest behind it
 pub list_got : {A : Type 0} (xs : List A) (i : ℕ) (x : A) → Some x ≡ slice_get xs i → drop i xs ≡ x ∷ drop (i + 1) xs

@@ -159,9 +159,7 @@ pub fn put_number(code: &mut Seq<Ir>, n: &i128, ty: &CType, t: u16) -> Result<()
     ensures { OnOk result (Emits code.old.items code.new.items (λ rest.
         constant (temp t (plain_type ty.now)) n.now ∷ rest)) }
 {
-    let op = number(temp(t, ty), n);
-    put(code, op)?;
-    Ok(())
+    put(code, number(temp(t, ty), n))
 }
 
 /// A store to the part of an object at an offset in bytes.
@@ -175,8 +173,7 @@ pub fn put_store(
     ensures { OnOk result (Emits code.old.items code.new.items (λ rest.
         store_object o offset (temp t (plain_type ty.now)) ∷ rest)) }
 {
-    put(code, Ir::StoreObj(o, offset, temp(t, ty)))?;
-    Ok(())
+    put(code, Ir::StoreObj(o, offset, temp(t, ty)))
 }
 
 /// A truth value to a temporary.
@@ -190,23 +187,12 @@ fn truth_constant(to: Temp, holds: bool) -> Ir
     }
 }
 
-/// A number, a jump over what follows, and the label of that.
-fn first_truth(
-    code: &mut Seq<Ir>,
-    holds: bool,
-    ty: &CType,
-    l: u64,
-    end: u64,
-    t: u16,
-) -> Result<(), NoMemory>
-    ensures { OnOk result (Emits code.old.items code.new.items (λ rest.
-        constant (temp t (plain_type ty.now)) (truth holds) ∷ jump end ∷ label l ∷ rest)) }
+/// A jump over what follows, and the label of that.
+pub fn put_turn(code: &mut Seq<Ir>, end: u64, l: u64) -> Result<(), NoMemory>
+    ensures { OnOk result (Emits code.old.items code.new.items (λ rest. jump end ∷ label l ∷ rest)) }
 {
-    let op = truth_constant(temp(t, ty), holds);
-    put(code, op)?;
     put(code, Ir::Jump(end))?;
-    put(code, Ir::Label(l))?;
-    Ok(())
+    put(code, Ir::Label(l))
 }
 
 /// One truth value where the branch to `l` was not taken, and the other where it was.
@@ -214,9 +200,8 @@ pub fn truth(code: &mut Seq<Ir>, holds: bool, ty: &CType, l: u64, t: u16) -> Res
     ensures { OnOk result (Emits code.old.items code.new.items (truth_code holds (plain_type ty.now) l t)) }
 {
     let end = behind(l, 1)?;
-    first_truth(code, holds, ty, l, end, t)?;
-    let op = truth_constant(temp(t, ty), !holds);
-    put(code, op)?;
-    put(code, Ir::Label(end))?;
-    Ok(())
+    put(code, truth_constant(temp(t, ty), holds))?;
+    put_turn(code, end, l)?;
+    put(code, truth_constant(temp(t, ty), !holds))?;
+    put(code, Ir::Label(end))
 }

@@ -4,21 +4,22 @@ ghost use Rattle.std.specs.Option.{option_copied};
 ghost use Rattle.ec_core.specs.Plain.{plain_type, plain_expr, plain_exprs, plain_node, plain_place, plain_program};
 ghost use Rattle.ec_core.specs.Operators.{step_operator};
 ghost use Rattle.ec_core.specs.Plain.{logical_or, conditional};
-ghost use Rattle.ec_core.specs.Typing.{int};
+ghost use Rattle.ec_core.specs.Typing.{int, type_of_expr};
 ghost use Rattle.ec_core.specs.PortTable.{plain_table};
-ghost use Rattle.ec_ir.specs.Operations.{constant};
+ghost use Rattle.ec_ir.specs.Operations.{constant, branch_zero};
 ghost use Rattle.ec_lower.specs.Emits.{Emits, IsLaidOut, plain_operand, plain_site};
 ghost use Rattle.ec_lower_code.specs.Code.{temp, place_behind, access_code, expr_labels, node_labels, option_labels};
-ghost use Rattle.ec_lower_code.specs.Code.{place_labels, load_from, value_place, settled_code, place_code};
+ghost use Rattle.ec_lower_code.specs.Code.{place_labels, load_from, site, value_place, settled_code, place_code};
 ghost use Rattle.ec_lower_code.specs.Code.{exprs_labels, expr_code, node_code, option_code, args_code};
 ghost use Rattle.ec_lower_code.specs.Code.{params_code, params_of, step_code};
 
 use crate::emit::{
-    above, behind, put, put_binary, put_conversion, put_number, put_unary, result_temp, temp, truth,
+    above, behind, put, put_binary, put_conversion, put_number, put_turn, put_unary, result_temp,
+    temp, truth,
 };
 use crate::places::{
-    Site, offset_of, put_address, put_further, put_load, put_null, put_settled, put_store, site_of,
-    value_place,
+    Site, further, offset_of, pointed, put_address, put_further, put_load, put_null, put_settled,
+    put_store, value_place,
 };
 use crate::ports::{place_behind, put_access, put_group};
 use crate::updates::{change, step};
@@ -56,14 +57,12 @@ pub fn lower_expr(
             Ok(l)
         }
         Node::Load(p) => {
-            let m = lower_place(code, alloc, program, io, p, l, t)?;
-            let site = site_of(program, p, t)?;
+            let (m, site) = lower_place(code, alloc, program, io, p, l, t)?;
             put_load(code, &e.ty, site, t)?;
             Ok(m)
         }
         Node::AddressOf(p) => {
-            let m = lower_place(code, alloc, program, io, p, l, t)?;
-            let site = site_of(program, p, t)?;
+            let (m, site) = lower_place(code, alloc, program, io, p, l, t)?;
             put_address(code, site, &e.ty, t)?;
             Ok(m)
         }
@@ -86,13 +85,9 @@ pub fn lower_expr(
         }
         Node::Comma(a, b) => {
             let k = lower_expr(code, alloc, program, io, a, l, t)?;
-            let m = lower_expr(code, alloc, program, io, b, k, t)?;
-            Ok(m)
+            lower_expr(code, alloc, program, io, b, k, t)
         }
-        node => {
-            let m = lower_effect(code, alloc, program, io, &e.ty, e.mode, node, l, t)?;
-            Ok(m)
-        }
+        node => lower_effect(code, alloc, program, io, &e.ty, e.mode, node, l, t),
     }
 }
 
@@ -117,8 +112,7 @@ fn lower_effect(
 {
     match node {
         Node::Assign(p, a) => {
-            let k = lower_place(code, alloc, program, io, p, l, t)?;
-            let site = site_of(program, p, t)?;
+            let (k, site) = lower_place(code, alloc, program, io, p, l, t)?;
             let u = value_place(site, t)?;
             let m = lower_expr(code, alloc, program, io, a, k, u)?;
             put_store(code, ty, site, u)?;
@@ -126,8 +120,7 @@ fn lower_effect(
             Ok(m)
         }
         Node::Compound(op, own, p, a) => {
-            let k = lower_place(code, alloc, program, io, p, l, t)?;
-            let site = site_of(program, p, t)?;
+            let (k, site) = lower_place(code, alloc, program, io, p, l, t)?;
             let u = value_place(site, t)?;
             put_load(code, ty, site, u)?;
             let up = above(u)?;
@@ -137,8 +130,7 @@ fn lower_effect(
             Ok(m)
         }
         Node::Step { up, prefix, place } => {
-            let m = lower_place(code, alloc, program, io, place, l, t)?;
-            let site = site_of(program, place, t)?;
+            let (m, site) = lower_place(code, alloc, program, io, place, l, t)?;
             put_step(code, alloc, *up, *prefix, ty, mode, site, t)?;
             Ok(m)
         }
@@ -148,10 +140,7 @@ fn lower_effect(
             put(code, Ir::Call(*f, result_temp(t, ty)))?;
             Ok(m)
         }
-        node => {
-            let m = lower_choice(code, alloc, program, io, ty, mode, node, l, t)?;
-            Ok(m)
-        }
+        node => lower_choice(code, alloc, program, io, ty, mode, node, l, t),
     }
 }
 
@@ -176,11 +165,10 @@ fn put_step(
     let at = above(v)?;
     put(code, Ir::Const(Temp { at, bytes: 2 }, 1))?;
     step(code, alloc, prefix, up, mode, ty, site, v)?;
-    put_settled(code, site, ty, t)?;
-    Ok(())
+    put_settled(code, site, ty, t)
 }
 
-/// Those of the pointer to a place, where there is one.
+/// Those of the pointer to a place, where there is one; and where the place is, when that stands at `t`.
 #[cycle(lower)]
 fn lower_place(
     code: &mut Seq<Ir>,
@@ -190,24 +178,25 @@ fn lower_place(
     p: &PlaceExpr,
     l: u64,
     t: u16,
-) -> Result<u64, NoMemory>
+) -> Result<(u64, Site), NoMemory>
     requires { IsLaidOut (plain_program program.now) }
-    ensures next { IfOk result (λ m. m ≡ l + place_labels (plain_place p.now)) }
+    ensures next { IfOk result (λ x. x.0 ≡ l + place_labels (plain_place p.now)) }
+    ensures site { IfOk result (λ x. plain_site x.1 ≡ site (plain_program program.now) (plain_place p.now) t) }
     ensures code { OnOk result (Emits code.old.items code.new.items
         (place_code (plain_program program.now) (plain_table io.now) (plain_place p.now) l t)) }
 {
     match p {
-        PlaceExpr::Object(_) => Ok(l),
+        PlaceExpr::Object(o) => Ok((l, Site::Named(*o, 0))),
         PlaceExpr::Deref(e) => {
             let m = lower_expr(code, alloc, program, io, e, l, t)?;
-            Ok(m)
+            Ok((m, pointed(&e.ty, t)))
         }
         PlaceExpr::Member(q, i) => {
-            let m = lower_place(code, alloc, program, io, q, l, t)?;
-            let site = site_of(program, q, t)?;
+            let (m, site) = lower_place(code, alloc, program, io, q, l, t)?;
             let k = offset_of(program, q, *i)?;
             put_further(code, k, site)?;
-            Ok(m)
+            let site = further(k, site)?;
+            Ok((m, site))
         }
     }
 }
@@ -234,33 +223,44 @@ fn lower_choice(
     match node {
         Node::Not(a) => {
             let k = behind(l, 2)?;
-            let m = lower_expr(code, alloc, program, io, a, k, t)?;
-            put(code, Ir::BranchZero(temp(t, &a.ty), l))?;
+            let m = lower_branch(code, alloc, program, io, a, k, t, l)?;
             truth(code, false, ty, l, t)?;
             Ok(m)
         }
         Node::And(a, b) => {
             let k = behind(l, 2)?;
-            let k = lower_expr(code, alloc, program, io, a, k, t)?;
-            put(code, Ir::BranchZero(temp(t, &a.ty), l))?;
-            let m = lower_expr(code, alloc, program, io, b, k, t)?;
-            put(code, Ir::BranchZero(temp(t, &b.ty), l))?;
+            let k = lower_branch(code, alloc, program, io, a, k, t, l)?;
+            let m = lower_branch(code, alloc, program, io, b, k, t, l)?;
             truth(code, true, ty, l, t)?;
             Ok(m)
         }
-        Node::Or(a, b) => {
-            let m = lower_or(code, alloc, program, io, ty, mode, a, b, l, t)?;
-            Ok(m)
-        }
-        Node::Cond(c, a, b) => {
-            let m = lower_cond(code, alloc, program, io, ty, mode, c, a, b, l, t)?;
-            Ok(m)
-        }
-        node => {
-            let m = lower_port(code, alloc, program, io, ty, mode, node, l, t)?;
-            Ok(m)
-        }
+        Node::Or(a, b) => lower_or(code, alloc, program, io, ty, mode, a, b, l, t),
+        Node::Cond(c, a, b) => lower_cond(code, alloc, program, io, ty, mode, c, a, b, l, t),
+        node => lower_port(code, alloc, program, io, ty, mode, node, l, t),
     }
+}
+
+/// Those of an expression at `t`, and a branch to the label `out` where it is 0.
+#[cycle(lower)]
+pub fn lower_branch(
+    code: &mut Seq<Ir>,
+    alloc: Global,
+    program: &Program,
+    io: &IoTable,
+    e: &Expr,
+    l: u64,
+    t: u16,
+    out: u64,
+) -> Result<u64, NoMemory>
+    requires { IsLaidOut (plain_program program.now) }
+    ensures next { IfOk result (λ m. m ≡ l + expr_labels (plain_expr e.now)) }
+    ensures code { OnOk result (Emits code.old.items code.new.items (λ rest.
+        expr_code (plain_program program.now) (plain_table io.now) (plain_expr e.now) l t
+        (branch_zero (temp t (type_of_expr (plain_expr e.now))) out ∷ rest))) }
+{
+    let m = lower_expr(code, alloc, program, io, e, l, t)?;
+    put(code, Ir::BranchZero(temp(t, &e.ty), out))?;
+    Ok(m)
 }
 
 /// Those of an operation on a port or a group. There is no other form.
@@ -391,10 +391,7 @@ fn lower_operand(
 {
     match e {
         None => Ok(l),
-        Some(e) => {
-            let m = lower_expr(code, alloc, program, io, e, l, t)?;
-            Ok(m)
-        }
+        Some(e) => lower_expr(code, alloc, program, io, e, l, t),
     }
 }
 
@@ -418,16 +415,11 @@ fn lower_or(
         (plain_table io.now)
         (plain_type ty.now) mode (logical_or (plain_expr a.now) (plain_expr b.now)) l t)) }
 {
-    let right = behind(l, 2)?;
-    let end = behind(l, 3)?;
     let k = behind(l, 4)?;
-    let k = lower_expr(code, alloc, program, io, a, k, t)?;
-    put(code, Ir::BranchZero(temp(t, &a.ty), right))?;
-    put(code, Ir::Jump(end))?;
-    put(code, Ir::Label(right))?;
-    let m = lower_expr(code, alloc, program, io, b, k, t)?;
-    put(code, Ir::BranchZero(temp(t, &b.ty), l))?;
-    put(code, Ir::Label(end))?;
+    let k = lower_branch(code, alloc, program, io, a, k, t, l + 2)?;
+    put_turn(code, l + 3, l + 2)?;
+    let m = lower_branch(code, alloc, program, io, b, k, t, l)?;
+    put(code, Ir::Label(l + 3))?;
     truth(code, true, ty, l, t)?;
     Ok(m)
 }
@@ -454,15 +446,12 @@ fn lower_cond(
         (plain_table io.now)
         (plain_type ty.now) mode (conditional (plain_expr c.now) (plain_expr a.now) (plain_expr b.now)) l t)) }
 {
-    let end = behind(l, 1)?;
     let k = behind(l, 2)?;
-    let k = lower_expr(code, alloc, program, io, c, k, t)?;
-    put(code, Ir::BranchZero(temp(t, &c.ty), l))?;
+    let k = lower_branch(code, alloc, program, io, c, k, t, l)?;
     let k = lower_expr(code, alloc, program, io, a, k, t)?;
-    put(code, Ir::Jump(end))?;
-    put(code, Ir::Label(l))?;
+    put_turn(code, l + 1, l)?;
     let m = lower_expr(code, alloc, program, io, b, k, t)?;
-    put(code, Ir::Label(end))?;
+    put(code, Ir::Label(l + 1))?;
     Ok(m)
 }
 
@@ -521,9 +510,6 @@ fn store_call(
 {
     match program.funcs.get(f as usize) {
         None => Ok(()),
-        Some(g) => {
-            store_args(code, g.params.as_slice(), args, t)?;
-            Ok(())
-        }
+        Some(g) => store_args(code, g.params.as_slice(), args, t),
     }
 }

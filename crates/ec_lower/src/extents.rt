@@ -149,10 +149,7 @@ fn place_extent(p: &PlaceExpr) -> Result<Reach, NoMemory>
                 places: Some(x.places),
             })
         }
-        PlaceExpr::Member(q, _) => {
-            let x = place_extent(q)?;
-            Ok(x)
-        }
+        PlaceExpr::Member(q, _) => place_extent(q),
     }
 }
 
@@ -177,18 +174,13 @@ pub fn expr_extent(e: &Expr) -> Result<Extent, NoMemory>
         }
         Node::Unary(_, a) => {
             let x = expr_extent(a)?;
-            let whole = alone(x, 0)?;
-            Ok(whole)
+            alone(x, 0)
         }
         Node::Convert(a) => {
             let x = expr_extent(a)?;
-            let whole = alone(x, 0)?;
-            Ok(whole)
+            alone(x, 0)
         }
-        node => {
-            let x = change_extent(node)?;
-            Ok(x)
-        }
+        node => change_extent(node),
     }
 }
 
@@ -202,23 +194,18 @@ fn change_extent(node: &Node) -> Result<Extent, NoMemory>
         Node::Assign(p, a) => {
             let x = place_extent(p)?;
             let y = expr_extent(a)?;
-            let whole = assigned(x, y)?;
-            Ok(whole)
+            assigned(x, y)
         }
         Node::Compound(_, _, p, a) => {
             let x = place_extent(p)?;
             let y = expr_extent(a)?;
-            let whole = updated(x, y)?;
-            Ok(whole)
+            updated(x, y)
         }
         Node::Step { place, .. } => {
             let x = place_extent(place)?;
             Ok(stepped(x))
         }
-        node => {
-            let x = choice_extent(node)?;
-            Ok(x)
-        }
+        node => choice_extent(node),
     }
 }
 
@@ -231,40 +218,20 @@ fn choice_extent(node: &Node) -> Result<Extent, NoMemory>
     match node {
         Node::Not(a) => {
             let x = expr_extent(a)?;
-            let whole = alone(x, 2)?;
-            Ok(whole)
+            alone(x, 2)
         }
-        Node::Binary(_, a, b) => {
-            let x = pair_extent(a, b, 0)?;
-            Ok(x)
-        }
-        Node::And(a, b) => {
-            let x = pair_extent(a, b, 2)?;
-            Ok(x)
-        }
-        Node::Or(a, b) => {
-            let x = pair_extent(a, b, 4)?;
-            Ok(x)
-        }
-        Node::Comma(a, b) => {
-            let x = pair_extent(a, b, 0)?;
-            Ok(x)
-        }
+        Node::Binary(_, a, b) => pair_extent(a, b, 0),
+        Node::And(a, b) => pair_extent(a, b, 2),
+        Node::Or(a, b) => pair_extent(a, b, 4),
+        Node::Comma(a, b) => pair_extent(a, b, 0),
         Node::Cond(c, a, b) => {
             let x = expr_extent(c)?;
             let y = expr_extent(a)?;
             let z = expr_extent(b)?;
-            let whole = between(x, y, z, 2)?;
-            Ok(whole)
+            between(x, y, z, 2)
         }
-        Node::Call(_, args) => {
-            let x = args_extent(args.as_slice())?;
-            Ok(x)
-        }
-        node => {
-            let x = port_extent(node)?;
-            Ok(x)
-        }
+        Node::Call(_, args) => args_extent(args.as_slice()),
+        node => port_extent(node),
     }
 }
 
@@ -370,8 +337,7 @@ fn pair_extent(a: &Expr, b: &Expr, own: u64) -> Result<Extent, NoMemory>
 {
     let x = expr_extent(a)?;
     let y = expr_extent(b)?;
-    let z = beside(x, y, own)?;
-    Ok(z)
+    beside(x, y, own)
 }
 
 /// That of arguments, which are kept while the next ones are worked out.
@@ -427,10 +393,7 @@ fn optional_places(e: Option<&Expr>) -> Result<u16, NoMemory>
 {
     match e {
         None => Ok(0),
-        Some(e) => {
-            let n = expr_places(e)?;
-            Ok(n)
-        }
+        Some(e) => expr_places(e),
     }
 }
 
@@ -454,46 +417,19 @@ pub fn stmt_places(s: &Stmt) -> Result<u16, NoMemory>
     match &s.kind {
         StmtKind::Empty | StmtKind::Break | StmtKind::Continue => Ok(0),
         StmtKind::Do1(e) => expr_places(e),
-        StmtKind::Block(ss) => {
-            let x = stmts_places(ss.as_slice())?;
-            Ok(x)
-        }
-        StmtKind::Local(_, values) => {
-            let x = most_places(values.as_slice())?;
-            Ok(x)
-        }
+        StmtKind::Block(ss) => stmts_places(ss.as_slice()),
+        StmtKind::Local(_, values) => most_places(values.as_slice()),
         StmtKind::If(c, a, b) => match b {
-            None => {
-                let x = branch_places(c, a, None)?;
-                Ok(x)
-            }
-            Some(b) => {
-                let x = branch_places(c, a, Some(b))?;
-                Ok(x)
-            }
+            None => branch_places(c, a, None),
+            Some(b) => branch_places(c, a, Some(b)),
         },
-        StmtKind::While(c, body) => {
-            let x = loop_places(Some(c), None, body)?;
-            Ok(x)
-        }
-        StmtKind::DoWhile(body, c) => {
-            let x = loop_places(Some(c), None, body)?;
-            Ok(x)
-        }
+        StmtKind::While(c, body) => loop_places(Some(c), None, body),
+        StmtKind::DoWhile(body, c) => loop_places(Some(c), None, body),
         StmtKind::For(first, c, last, body) => match first {
-            None => {
-                let x = loop_places(c.as_ref(), last.as_ref(), body)?;
-                Ok(x)
-            }
-            Some(first) => {
-                let x = for_places(first, c.as_ref(), last.as_ref(), body)?;
-                Ok(x)
-            }
+            None => loop_places(c.as_ref(), last.as_ref(), body),
+            Some(first) => for_places(first, c.as_ref(), last.as_ref(), body),
         },
-        StmtKind::Return(e) => {
-            let x = optional_places(e.as_ref())?;
-            Ok(x)
-        }
+        StmtKind::Return(e) => optional_places(e.as_ref()),
     }
 }
 
@@ -544,10 +480,7 @@ fn other_places(s: Option<&Stmt>) -> Result<u16, NoMemory>
 {
     match s {
         None => Ok(0),
-        Some(s) => {
-            let x = stmt_places(s)?;
-            Ok(x)
-        }
+        Some(s) => stmt_places(s),
     }
 }
 

@@ -8,8 +8,8 @@ ghost use Rattle.ec_core.specs.Plain.{void, plain_type, plain_member, plain_stru
 ghost use Rattle.ec_core.specs.Typing.{member_type, place_type};
 ghost use Rattle.ec_ir.specs.Operations.{constant};
 ghost use Rattle.ec_lower.specs.Emits.{Emits, IsLaidOut, plain_site};
-ghost use Rattle.ec_lower_code.specs.Code.{temp, space_of, further, further_code, load_from, store_to, value_place};
-ghost use Rattle.ec_lower_code.specs.Code.{settled_code, address_code, offset_of, site};
+ghost use Rattle.ec_lower_code.specs.Code.{temp, space_of, pointed, further, further_code, load_from, store_to, value_place};
+ghost use Rattle.ec_lower_code.specs.Code.{settled_code, address_code, offset_of};
 
 use crate::emit::{above, put, temp};
 use ec_core::{CType, Member, PlaceExpr, Program, StructDef, size_of, structs_are_laid_out};
@@ -106,8 +106,7 @@ fn members_size(program: &Program, members: &[Member], count: usize) -> Result<u
         [first, rest @ ..] => {
             let bytes = size_of(&program.structs, &first.ty);
             let more = members_size(program, rest, count - 1)?;
-            let whole = sum(bytes, more)?;
-            Ok(whole)
+            sum(bytes, more)
         }
     }
 }
@@ -121,10 +120,7 @@ fn member_offset(program: &Program, ty: Option<&CType>, i: u16) -> Result<u32, N
     structs_are_laid_out();
     match ty {
         Some(CType::Struct { index }) => match struct_at(program, *index) {
-            Some(def) => {
-                let bytes = members_size(program, def.members.as_slice(), i as usize)?;
-                Ok(bytes)
-            }
+            Some(def) => members_size(program, def.members.as_slice(), i as usize),
             None => Ok(0),
         },
         _ => Ok(0),
@@ -137,8 +133,7 @@ pub fn offset_of(program: &Program, p: &PlaceExpr, i: u16) -> Result<u32, NoMemo
     ensures { IfOk result (λ bytes. bytes ≡ offset_of (plain_program program.now) (plain_place p.now) i) }
 {
     let ty = place_type(program, p);
-    let bytes = member_offset(program, ty, i)?;
-    Ok(bytes)
+    member_offset(program, ty, i)
 }
 
 // ---- sites
@@ -153,7 +148,7 @@ fn space_of(ty: &CType) -> SpaceId
 }
 
 /// So many bytes further.
-fn further(k: u32, site: Site) -> Result<Site, NoMemory>
+pub fn further(k: u32, site: Site) -> Result<Site, NoMemory>
     ensures { IfOk result (λ s. plain_site s ≡ further k (plain_site site)) }
 {
     match site {
@@ -165,21 +160,11 @@ fn further(k: u32, site: Site) -> Result<Site, NoMemory>
     }
 }
 
-/// Where a place is, whose pointer, where there is one, stands at `t`.
-pub fn site_of(program: &Program, p: &PlaceExpr, t: u16) -> Result<Site, NoMemory>
-    requires { IsLaidOut (plain_program program.now) }
-    ensures { IfOk result (λ s. plain_site s ≡ site (plain_program program.now) (plain_place p.now) t) }
+/// Where a pointer of a type that stands at `t` points to.
+pub fn pointed(ty: &CType, t: u16) -> Site
+    ensures { plain_site result ≡ pointed (temp t (plain_type ty.now)) (space_of (plain_type ty.now)) }
 {
-    match p {
-        PlaceExpr::Object(o) => Ok(Site::Named(*o, 0)),
-        PlaceExpr::Deref(e) => Ok(Site::Pointed(temp(t, &e.ty), space_of(&e.ty))),
-        PlaceExpr::Member(q, i) => {
-            let s = site_of(program, q, t)?;
-            let k = offset_of(program, q, *i)?;
-            let whole = further(k, s)?;
-            Ok(whole)
-        }
-    }
+    Site::Pointed(temp(t, ty), space_of(ty))
 }
 
 /// The place for what is worked out while the pointer is kept.

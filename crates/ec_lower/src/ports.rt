@@ -146,8 +146,7 @@ fn put_update(
             index,
             width,
         },
-    )?;
-    Ok(())
+    )
 }
 
 /// An access of a port's bytes, with the index in its temporary, and the value at `v`.
@@ -206,9 +205,9 @@ pub fn put_access(
     match io.ports.get(port as usize) {
         None => Ok(()),
         Some(p) => {
-            let ty = value_type(op);
             let v = place_behind(index, t)?;
             let at = operand_temp(index, t);
+            let ty = value_type(op);
             put_port(
                 code,
                 alloc,
@@ -220,8 +219,7 @@ pub fn put_access(
                 at,
                 t,
                 v,
-            )?;
-            Ok(())
+            )
         }
     }
 }
@@ -281,10 +279,7 @@ pub fn put_group(
 {
     match io.groups.get(group as usize) {
         None => Ok(()),
-        Some(g) => {
-            put_pairs(code, pairs(acquire, g), t)?;
-            Ok(())
-        }
+        Some(g) => put_pairs(code, pairs(acquire, g), t),
     }
 }
 

@@ -36,8 +36,7 @@ fn lower_body(
 {
     lower_stmt(code, alloc, program, io, body, 1, 0, 0)?;
     put(code, Ir::Label(0))?;
-    put(code, Ir::Return(None))?;
-    Ok(())
+    put(code, Ir::Return(None))
 }
 
 fn lower_function(

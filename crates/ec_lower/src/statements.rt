@@ -11,8 +11,8 @@ ghost use Rattle.ec_lower_code.specs.Code.{stmts_labels, kind_labels, leaves_of_
 ghost use Rattle.ec_lower_code.specs.Code.{loop_code, stmt_code, kind_code, stmts_code, temp};
 ghost use Rattle.ec_core.specs.Layout.{plain_leaf};
 
-use crate::emit::{behind, put, put_store, temp};
-use crate::expressions::lower_expr;
+use crate::emit::{behind, put, put_store, put_turn, temp};
+use crate::expressions::{lower_branch, lower_expr};
 use crate::extents::optional_labels;
 use ec_core::{Expr, Leaf, Program, Stmt, StmtKind, leaves};
 use ec_iohw::IoTable;
@@ -30,10 +30,7 @@ fn leaves_of_object(alloc: Global, program: &Program, o: u16) -> Result<Seq<Leaf
 {
     match program.objs.get(o as usize) {
         None => Ok(Seq::new(alloc)),
-        Some(object) => {
-            let leaves = leaves(alloc, &program.structs, &object.ty)?;
-            Ok(leaves)
-        }
+        Some(object) => leaves(alloc, &program.structs, &object.ty),
     }
 }
 
@@ -84,8 +81,7 @@ fn lower_local(
         (leaves_of_object (plain_program program.now) o) o (plain_exprs values.now) l)) }
 {
     let leaves = leaves_of_object(alloc, program, o)?;
-    let m = lower_values(code, alloc, program, io, &leaves, o, values, l)?;
-    Ok(m)
+    lower_values(code, alloc, program, io, &leaves, o, values, l)
 }
 
 /// Those of a return.
@@ -136,11 +132,7 @@ fn lower_test(
 {
     match c {
         None => Ok(l),
-        Some(c) => {
-            let m = lower_expr(code, alloc, program, io, c, l, 0)?;
-            put(code, Ir::BranchZero(temp(0, &c.ty), out))?;
-            Ok(m)
-        }
+        Some(c) => lower_branch(code, alloc, program, io, c, l, 0, out),
     }
 }
 
@@ -183,12 +175,10 @@ fn begin_loop(
         (l + 1) (l + 4)
         (label (l + 3) ∷ rest))) }
 {
-    let out = behind(l, 1)?;
-    let body = behind(l, 3)?;
     let k = behind(l, 4)?;
     put(code, Ir::Label(l))?;
-    let m = lower_test(code, alloc, program, io, c, out, k)?;
-    put(code, Ir::Label(body))?;
+    let m = lower_test(code, alloc, program, io, c, l + 1, k)?;
+    put(code, Ir::Label(l + 3))?;
     Ok(m)
 }
 
@@ -208,13 +198,10 @@ fn end_loop(
         (option_copied last.entry)) k
         (jump l ∷ label (l + 1) ∷ rest))) }
 {
-    let out = behind(l, 1)?;
     let on = behind(l, 2)?;
     put(code, Ir::Label(on))?;
     lower_last(code, alloc, program, io, last, k)?;
-    put(code, Ir::Jump(l))?;
-    put(code, Ir::Label(out))?;
-    Ok(())
+    put_turn(code, l, l + 1)
 }
 
 // ---- statements
@@ -239,57 +226,38 @@ pub fn lower_stmt(
 {
     match &s.kind {
         StmtKind::Empty => Ok(l),
-        StmtKind::Do1(e) => {
-            let m = lower_expr(code, alloc, program, io, e, l, 0)?;
-            Ok(m)
-        }
-        StmtKind::Block(ss) => {
-            let m = lower_stmts(code, alloc, program, io, ss.as_slice(), l, out, on)?;
-            Ok(m)
-        }
-        StmtKind::Local(o, values) => {
-            let m = lower_local(code, alloc, program, io, *o, values.as_slice(), l)?;
-            Ok(m)
-        }
+        StmtKind::Do1(e) => lower_expr(code, alloc, program, io, e, l, 0),
+        StmtKind::Block(ss) => lower_stmts(code, alloc, program, io, ss.as_slice(), l, out, on),
+        StmtKind::Local(o, values) => lower_local(
+            code,
+            alloc,
+            program,
+            io,
+            *o,
+            values.as_slice(),
+            l,
+        ),
         StmtKind::If(c, a, b) => match b {
-            None => {
-                let m = lower_if(code, alloc, program, io, c, a, l, out, on)?;
-                Ok(m)
-            }
-            Some(b) => {
-                let m = lower_if_else(code, alloc, program, io, c, a, b, l, out, on)?;
-                Ok(m)
-            }
+            None => lower_if(code, alloc, program, io, c, a, l, out, on),
+            Some(b) => lower_if_else(code, alloc, program, io, c, a, b, l, out, on),
         },
-        StmtKind::While(c, body) => {
-            let m = lower_loop(code, alloc, program, io, Some(c), None, body, l)?;
-            Ok(m)
-        }
-        StmtKind::DoWhile(body, c) => {
-            let m = lower_do(code, alloc, program, io, c, body, l)?;
-            Ok(m)
-        }
+        StmtKind::While(c, body) => lower_loop(code, alloc, program, io, Some(c), None, body, l),
+        StmtKind::DoWhile(body, c) => lower_do(code, alloc, program, io, c, body, l),
         StmtKind::For(first, c, last, body) => match first {
-            None => {
-                let m = lower_loop(code, alloc, program, io, c.as_ref(), last.as_ref(), body, l)?;
-                Ok(m)
-            }
-            Some(first) => {
-                let m = lower_for(
-                    code,
-                    alloc,
-                    program,
-                    io,
-                    first,
-                    c.as_ref(),
-                    last.as_ref(),
-                    body,
-                    l,
-                    out,
-                    on,
-                )?;
-                Ok(m)
-            }
+            None => lower_loop(code, alloc, program, io, c.as_ref(), last.as_ref(), body, l),
+            Some(first) => lower_for(
+                code,
+                alloc,
+                program,
+                io,
+                first,
+                c.as_ref(),
+                last.as_ref(),
+                body,
+                l,
+                out,
+                on,
+            ),
         },
         StmtKind::Break => {
             put(code, Ir::Jump(out))?;
@@ -299,10 +267,7 @@ pub fn lower_stmt(
             put(code, Ir::Jump(on))?;
             Ok(l)
         }
-        StmtKind::Return(e) => {
-            let m = lower_return(code, alloc, program, io, e.as_ref(), l, out, on)?;
-            Ok(m)
-        }
+        StmtKind::Return(e) => lower_return(code, alloc, program, io, e.as_ref(), l, out, on),
     }
 }
 
@@ -350,8 +315,7 @@ fn lower_if(
         (branch (plain_expr c.now) (plain_stmt a.now) no_stmt) l out on)) }
 {
     let k = behind(l, 2)?;
-    let k = lower_expr(code, alloc, program, io, c, k, 0)?;
-    put(code, Ir::BranchZero(temp(0, &c.ty), l))?;
+    let k = lower_branch(code, alloc, program, io, c, k, 0, l)?;
     let m = lower_stmt(code, alloc, program, io, a, k, out, on)?;
     put(code, Ir::Label(l))?;
     Ok(m)
@@ -378,15 +342,12 @@ fn lower_if_else(
         (plain_table io.now)
         (branch (plain_expr c.now) (plain_stmt a.now) (a_stmt (plain_stmt b.now))) l out on)) }
 {
-    let end = behind(l, 1)?;
     let k = behind(l, 2)?;
-    let k = lower_expr(code, alloc, program, io, c, k, 0)?;
-    put(code, Ir::BranchZero(temp(0, &c.ty), l))?;
+    let k = lower_branch(code, alloc, program, io, c, k, 0, l)?;
     let k = lower_stmt(code, alloc, program, io, a, k, out, on)?;
-    put(code, Ir::Jump(end))?;
-    put(code, Ir::Label(l))?;
+    put_turn(code, l + 1, l)?;
     let m = lower_stmt(code, alloc, program, io, b, k, out, on)?;
-    put(code, Ir::Label(end))?;
+    put(code, Ir::Label(l + 1))?;
     Ok(m)
 }
 
@@ -411,8 +372,7 @@ fn lower_do(
 {
     let first = behind(l, 3)?;
     put(code, Ir::Jump(first))?;
-    let m = lower_loop(code, alloc, program, io, Some(c), None, body, l)?;
-    Ok(m)
+    lower_loop(code, alloc, program, io, Some(c), None, body, l)
 }
 
 /// Those of a loop.
@@ -437,12 +397,10 @@ fn lower_loop(
         loop_code program table c last l (stmt_code program table (plain_stmt body.now)
         (l + 4 + optional_labels c + optional_labels last) (l + 1) (l + 2)))) }
 {
-    let out = behind(l, 1)?;
-    let on = behind(l, 2)?;
     let k = begin_loop(code, alloc, program, io, c, l)?;
     let count = optional_labels(last)?;
     let first = behind(k, count)?;
-    let m = lower_stmt(code, alloc, program, io, body, first, out, on)?;
+    let m = lower_stmt(code, alloc, program, io, body, first, l + 1, l + 2)?;
     end_loop(code, alloc, program, io, last, l, k)?;
     Ok(m)
 }
@@ -472,6 +430,5 @@ fn lower_for(
         (option_map plain_expr (option_copied last.entry)) (plain_stmt body.now)) l out on)) }
 {
     let k = lower_stmt(code, alloc, program, io, first, l, out, on)?;
-    let m = lower_loop(code, alloc, program, io, c, last, body, k)?;
-    Ok(m)
+    lower_loop(code, alloc, program, io, c, last, body, k)
 }

@@ -112,31 +112,57 @@ fn update_types(op: BinOp, x: Arithmetic, y: Arithmetic) -> Types
     }
 }
 
-/// The type that the old value is brought to.
-fn left_type(op: BinOp, ty: &CType, right: &CType) -> CType
-    ensures { plain_type result ≡ type_of (update_types op (number_type (plain_type ty.now))
-        (number_type (plain_type right.now))).left }
+/// What stands at `t` is brought to a type of numbers.
+fn bring(
+    code: &mut Seq<Ir>,
+    alloc: Global,
+    t: u16,
+    to: Arithmetic,
+    mode: Mode,
+    from: &CType,
+) -> Result<(), NoMemory>
+    ensures { OnOk result (Emits code.old.items code.new.items (λ rest. let from = plain_type from.now in
+        let to = type_of to in conversion (temp t to) to mode (temp t from) from ∷ rest)) }
 {
-    let types = update_types(op, number_type(ty), number_type(right));
-    types.left.to_type()
+    let to = to.to_type();
+    put_conversion(code, alloc, t, &to, mode, from)
 }
 
-/// The type that the right side is brought to.
-fn right_type(op: BinOp, ty: &CType, right: &CType) -> CType
-    ensures { plain_type result ≡ type_of (update_types op (number_type (plain_type ty.now))
-        (number_type (plain_type right.now))).right }
+/// The number at `t` is brought back to the place's type.
+fn bring_back(
+    code: &mut Seq<Ir>,
+    alloc: Global,
+    t: u16,
+    ty: &CType,
+    mode: Mode,
+    from: Arithmetic,
+) -> Result<(), NoMemory>
+    ensures { OnOk result (Emits code.old.items code.new.items (λ rest. let ty = plain_type ty.now in
+        let from = type_of from in conversion (temp t ty) ty mode (temp t from) from ∷ rest)) }
 {
-    let types = update_types(op, number_type(ty), number_type(right));
-    types.right.to_type()
+    let from = from.to_type();
+    put_conversion(code, alloc, t, ty, mode, &from)
 }
 
-/// The type of the operation's result.
-fn value_type(op: BinOp, ty: &CType, right: &CType) -> CType
-    ensures { plain_type result ≡ type_of (update_types op (number_type (plain_type ty.now))
-        (number_type (plain_type right.now))).result }
+/// An operation on what stands at `t` and `up` in an operation's types, whose result goes to `q`.
+fn put_operation(
+    code: &mut Seq<Ir>,
+    alloc: Global,
+    op: BinOp,
+    types: Types,
+    own: Mode,
+    q: u16,
+    t: u16,
+    up: u16,
+) -> Result<(), NoMemory>
+    ensures { OnOk result (Emits code.old.items code.new.items (λ rest.
+        let x = type_of types.left in let y = type_of types.right in let z = type_of types.result in
+        binary_op op z own (temp q z) (temp t x) x (temp up y) y ∷ rest)) }
 {
-    let types = update_types(op, number_type(ty), number_type(right));
-    types.result.to_type()
+    let x = types.left.to_type();
+    let y = types.right.to_type();
+    let z = types.result.to_type();
+    put_binary(code, alloc, op, &z, own, q, t, &x, up, &y)
 }
 
 /// The operands at `t` and `up` are brought to an operation's types, and its result goes to `q`.
@@ -157,13 +183,10 @@ fn operate(
         conversion (temp t x) x own (temp t ty) ty ∷ conversion (temp up y) y own (temp up right) right
         ∷ binary_op op z own (temp q z) (temp t x) x (temp up y) y ∷ rest)) }
 {
-    let x = left_type(op, ty, right);
-    let y = right_type(op, ty, right);
-    let z = value_type(op, ty, right);
-    put_conversion(code, alloc, t, &x, own, ty)?;
-    put_conversion(code, alloc, up, &y, own, right)?;
-    put_binary(code, alloc, op, &z, own, q, t, &x, up, &y)?;
-    Ok(())
+    let types = update_types(op, number_type(ty), number_type(right));
+    bring(code, alloc, t, types.left, own, ty)?;
+    bring(code, alloc, up, types.right, own, right)?;
+    put_operation(code, alloc, op, types, own, q, t, up)
 }
 
 /// The result at `q` is brought to the place's type and stored to it.
@@ -182,10 +205,9 @@ fn give(
         let z = type_of types.result in conversion (temp q ty) ty mode (temp q z) z
         ∷ store_to (plain_site site) (temp q ty) ∷ rest)) }
 {
-    let z = value_type(op, ty, right);
-    put_conversion(code, alloc, q, ty, mode, &z)?;
-    put_store(code, ty, site, q)?;
-    Ok(())
+    let types = update_types(op, number_type(ty), number_type(right));
+    bring_back(code, alloc, q, ty, mode, types.result)?;
+    put_store(code, ty, site, q)
 }
 
 /// A compound assignment of numbers, from the old value at `t` and the right side above it.
@@ -206,26 +228,7 @@ fn update(
 {
     let up = above(t)?;
     operate(code, alloc, op, own, t, t, ty, up, right)?;
-    give(code, alloc, op, mode, ty, site, t, right)?;
-    Ok(())
-}
-
-/// The old value is brought back to the place's type.
-fn bring_back(
-    code: &mut Seq<Ir>,
-    alloc: Global,
-    op: BinOp,
-    mode: Mode,
-    ty: &CType,
-    t: u16,
-    right: &CType,
-) -> Result<(), NoMemory>
-    ensures { OnOk result (Emits code.old.items code.new.items (λ rest. let ty = plain_type ty.now in
-        let right = plain_type right.now in let types = update_types op (number_type ty) (number_type right) in
-        let x = type_of types.left in conversion (temp t ty) ty mode (temp t x) x ∷ rest)) }
-{
-    let x = left_type(op, ty, right);
-    put_conversion(code, alloc, t, ty, mode, &x)
+    give(code, alloc, op, mode, ty, site, t, right)
 }
 
 /// The same, where the old value is kept at `t`.
@@ -246,8 +249,8 @@ fn keep(
     let up = above(t)?;
     operate(code, alloc, op, mode, up, t, ty, up, right)?;
     give(code, alloc, op, mode, ty, site, up, right)?;
-    bring_back(code, alloc, op, mode, ty, t, right)?;
-    Ok(())
+    let types = update_types(op, number_type(ty), number_type(right));
+    bring_back(code, alloc, t, ty, mode, types.left)
 }
 
 /// A pointer at `t` that is moved by the number of elements above it: the result goes to `q`, and is stored.
@@ -267,8 +270,7 @@ fn advance(
 {
     let up = above(t)?;
     put_binary(code, alloc, op, ty, mode, q, t, ty, up, right)?;
-    put_store(code, ty, site, q)?;
-    Ok(())
+    put_store(code, ty, site, q)
 }
 
 /// A compound assignment to a place of a type, from its old value at `t` and the right side above it.

@@ -1,4 +1,5 @@
 use Rattle.std.proofs.Common.{◌≡◌, ◌∙◌, Bool, false, List, [], ◌∷◌, length, map, ap, refl}
+use Rattle.std.proofs.lemmas.Result.{IfOk-weaker}
 use Rattle.std.specs.Prelude.{replicate}
 use Rattle.ec_iohw.specs.declared.table.PortGroup.{PortGroup}
 use Rattle.ec_core.specs.PortTable.{PlainGroup, plain_group}
@@ -9,4 +10,5 @@ none [] = refl
 none (g ∷ groups) = ap (λ (bs : List Bool). false ∷ bs) (none groups)
 
 pub returns : goal.returns
-returns c = c.in_ok-acquired.ensures ∙ (ap (λ n. replicate n false) c.len.ensures ∙ none c.args.f.now.io.now.groups.items)
+returns c = IfOk-weaker c.closed.result _ _
+    (λ acquired h. h ∙ (ap (λ n. replicate n false) c.len.ensures ∙ none c.args.f.now.io.now.groups.items)) c.closed.ensures

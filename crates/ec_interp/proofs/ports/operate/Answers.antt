@@ -1,4 +1,4 @@
-use Rattle.std.proofs.Common.{◌≡◌, ◌≤◌, ◌∙◌, ◌⊎◌, ℕ, map, length, Option, Some, None, refl, sym, inl, inr, subst, rules, arith, ap}
+use Rattle.std.proofs.Common.{◌≡◌, ◌≤◌, ◌∙◌, ◌⊎◌, ℕ, map, length, Option, Some, None, refl, sym, inl, inr, subst, arith, ap}
 use Rattle.std.specs.Prelude.{slice_get, option_map}
 use Rattle.std.proofs.lemmas.Option.{slice_get-map, slice_get_within, get_or_from_slice_get}
 use Rattle.ec_iohw.specs.declared.table.Port.{Port}
@@ -28,8 +28,7 @@ small_port f n p g h = by_port (slice_get f.io.now.ports.items n) refl (sym (sli
         let l = few q.width i.width in
         omega (arith, w, l)
 
-pub returns-in_err-x-in-Some-clause-answered : goal.returns-in_err-x-in-Some-clause-answered
-returns-in_err-x-in-Some-clause-answered c = λ g.
+pub returns-in-Some-clause-answered : goal.returns-in-Some-clause-answered
+returns-in-Some-clause-answered c = λ g.
     let small = small_port c.args.f.now c.args.port (plain_port c.in-Some.p.now) g (sym c.in-Some.ensures) in
-    let a = c.in_err-x-in-Some.ensures.answered small in
-    search rules
+    c.open_port.ensures.answered small

@@ -259,12 +259,9 @@ pub call_with-returns-in_err-xs : goal.call_with-returns-in_err-xs
 call_with-returns-in_err-xs t c =
     passes (λ x. x) c.from_residual.result c.in_err-xs.field-0.0 _ _ _ c.from_residual.ensures.1 (λ j. (let h = j.1 in record { given = h.given; typed = h.typed; function = h.function; keeps = h.parts })) c.in_err-xs.ensures
 
-pub call_with-returns-in_err-x : goal.call_with-returns-in_err-x
-call_with-returns-in_err-x t c =
-    rw (c.in_ok-xs.ensures, ← c.as_slice.ensures) (let p = err_from_is_err_and c.from_residual-in_err-x.result c.from_residual-in_err-x.ensures.1 in rw (p.1, p.2) (stopped c.in_err-x.field-0.0 _ _ (λ j. (let h = j.1 in let r = call_arguments c.args.f.now c.args.f.now.turns c.args.depth c.args.g j.0 (plain_exprs c.args.args.now) c.in_ok-xs.xs.items _ _ h c.in_ok-xs.ensures in record { given = h.given; typed = r.typed; arguments = subst (λ (xs : List Value). AreArgumentsOf c.args.f.now c.args.g xs) (sym c.as_slice.ensures) r.value })) c.in_err-x.ensures))
-
 pub call_with-returns : goal.call_with-returns
-call_with-returns t c = rw (c.in_ok-xs.ensures, ← c.as_slice.ensures) c.in_ok-x.ensures
+call_with-returns t c =
+    rw (c.in_ok-xs.ensures, ← c.as_slice.ensures) (suited (λ x. x) c.call_function.result _ _ (λ j. (let h = j.1 in let r = call_arguments c.args.f.now c.args.f.now.turns c.args.depth c.args.g j.0 (plain_exprs c.args.args.now) c.in_ok-xs.xs.items _ _ h c.in_ok-xs.ensures in record { given = h.given; typed = r.typed; arguments = subst (λ (xs : List Value). AreArgumentsOf c.args.f.now c.args.g xs) (sym c.as_slice.ensures) r.value })) c.call_function.ensures)
 
 pub place_of-returns-in-Object : goal.place_of-returns-in-Object
 place_of-returns-in-Object t c =

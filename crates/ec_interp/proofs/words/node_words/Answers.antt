@@ -19,6 +19,6 @@ returns-in-Compound c = rw (c.in-Compound.is, widest_pointers) (search rules)
 pub returns-in-Step : goal.returns-in-Step
 returns-in-Step c = rw (c.in-Step.is, widest_pointers) (search rules)
 
-pub returns-in_ok-words-in-Call : goal.returns-in_ok-words-in-Call
-returns-in_ok-words-in-Call c =
-    rw (c.in-Call.is, words_call (plain_table c.args.io.now) (plain_type c.args.ty.now) c.in-Call.field-0 c.in-Call.args, ← c.as_slice.ensures) c.in_ok-words-in-Call.ensures
+pub returns-in-Call : goal.returns-in-Call
+returns-in-Call c =
+    rw (c.in-Call.is, words_call (plain_table c.args.io.now) (plain_type c.args.ty.now) c.in-Call.field-0 c.in-Call.args, ← c.as_slice.ensures) c.call_words.ensures

@@ -1,4 +1,5 @@
+use Rattle.ec_lower.proofs.Steps.{so}
 use Rattle.ec_lower.proofs.emit.put_number.Goals as goal
 
 pub returns : goal.returns
-returns c = λ rest. rw (c.number-op.ensures, c.temp.ensures) at (c.in_ok-put.ensures rest)
+returns c = so c.put.result c.put.ensures (λ h rest. rw (c.number.ensures, c.temp.ensures) at (h rest))

@@ -7,7 +7,7 @@ use Rattle.ec_ir.specs.Operations.{plain_ir}
 use Rattle.ec_lower.specs.Sizes.{node_size, exprs_size}
 use Rattle.ec_lower_code.specs.Code.{exprs_labels, args_code, node_code, node_labels}
 use Rattle.ec_lower.proofs.Lists.{plain_call, list_next, smaller_expr}
-use Rattle.ec_lower.proofs.Steps.{list_end}
+use Rattle.ec_lower.proofs.Steps.{list_end, so}
 use Rattle.ec_lower.proofs.expressions.+lower.Goals as goal
 
 pub lower_args-lower_expr-requires : goal.lower_args-lower_expr-requires
@@ -53,13 +53,10 @@ lower_expr-returns-in_ok-put_conversion-in-Convert-clause-code t c = λ rest.
     rw (c.in-Convert.is) (rw (c.deref-in-Convert.ensures, c.deref-in-Convert-2.ensures) at (c.in_ok-put_conversion-in-Convert.ensures rest
     ∙ c.in_ok-m-in-Convert.ensures.code _))
 
-pub lower_expr-returns-in_ok-m-in-Comma-clause-code : goal.lower_expr-returns-in_ok-m-in-Comma-clause-code
-lower_expr-returns-in_ok-m-in-Comma-clause-code t c = λ rest.
-    rw (c.in-Comma.is) (rw (
-      c.in_ok-k-in-Comma.ensures.next,
-      c.deref-in-Comma.ensures,
-      c.deref-in-Comma-2.ensures,
-    ) at (c.in_ok-m-in-Comma.ensures.code rest ∙ c.in_ok-k-in-Comma.ensures.code _))
+pub lower_expr-returns-in_ok-k-in-Comma-clause-code : goal.lower_expr-returns-in_ok-k-in-Comma-clause-code
+lower_expr-returns-in_ok-k-in-Comma-clause-code t c = so c.lower_expr-in-Comma-2.result c.lower_expr-in-Comma-2.ensures.code (λ h rest.
+    rw (c.in-Comma.is) (rw (c.in_ok-k-in-Comma.ensures.next, c.deref-in-Comma.ensures, c.deref-in-Comma-2.ensures) at (h rest
+    ∙ c.in_ok-k-in-Comma.ensures.code _)))
 
 pub lower_effect-returns-in_ok-put-in-Call-clause-next : goal.lower_effect-returns-in_ok-put-in-Call-clause-next
 lower_effect-returns-in_ok-put-in-Call-clause-next t c =
@@ -78,65 +75,38 @@ lower_effect-returns-in_ok-put-in-Call-clause-code t c = λ rest.
 
 pub lower_choice-returns-in_ok-truth-in-Not-clause-code : goal.lower_choice-returns-in_ok-truth-in-Not-clause-code
 lower_choice-returns-in_ok-truth-in-Not-clause-code t c = λ rest.
-    rw (c.in-Not.is) (rw (
-      c.in_ok-k-in-Not.ensures,
-      c.temp.ensures,
-      c.deref.ensures,
-      c.deref-in-Not.ensures,
-    ) at (c.in_ok-truth-in-Not.ensures rest ∙ (c.in_ok-put-in-Not.ensures _ ∙ c.in_ok-m-in-Not.ensures.code _)))
+    rw (c.in-Not.is) (rw (c.in_ok-k-in-Not.ensures, c.deref.ensures) at (c.in_ok-truth-in-Not.ensures rest
+    ∙ c.in_ok-m-in-Not.ensures.code _))
 
 pub lower_choice-returns-in_ok-truth-in-And-clause-code : goal.lower_choice-returns-in_ok-truth-in-And-clause-code
 lower_choice-returns-in_ok-truth-in-And-clause-code t c = λ rest.
     rw (c.in-And.is) (rw (
       c.in_ok-k-in-And-2.ensures.next,
       c.in_ok-k-in-And.ensures,
-      c.temp-in-And.ensures,
-      c.temp-in-And-2.ensures,
       c.deref-in-And.ensures,
       c.deref-in-And-2.ensures,
-      c.deref-in-And-3.ensures,
-      c.deref-in-And-4.ensures,
-    ) at (c.in_ok-truth-in-And.ensures rest
-    ∙ (c.in_ok-put-in-And-2.ensures _ ∙ (c.in_ok-m-in-And.ensures.code _
-    ∙ (c.in_ok-put-in-And.ensures _ ∙ c.in_ok-k-in-And-2.ensures.code _)))))
+    ) at (c.in_ok-truth-in-And.ensures rest ∙ (c.in_ok-m-in-And.ensures.code _ ∙ c.in_ok-k-in-And-2.ensures.code _)))
 
-pub lower_choice-returns-in_ok-m-in-Or-clause-code : goal.lower_choice-returns-in_ok-m-in-Or-clause-code
-lower_choice-returns-in_ok-m-in-Or-clause-code t c = λ rest.
-    rw (c.in-Or.is) (rw (c.deref-in-Or.ensures, c.deref-in-Or-2.ensures) at (c.in_ok-m-in-Or.ensures.code rest))
+pub lower_choice-returns-in-Or-clause-code : goal.lower_choice-returns-in-Or-clause-code
+lower_choice-returns-in-Or-clause-code t c = so c.lower_or.result c.lower_or.ensures.code (λ h rest.
+    rw (c.in-Or.is) (rw (c.deref-in-Or.ensures, c.deref-in-Or-2.ensures) at (h rest)))
 
-pub lower_choice-returns-in_ok-m-in-Cond-clause-code : goal.lower_choice-returns-in_ok-m-in-Cond-clause-code
-lower_choice-returns-in_ok-m-in-Cond-clause-code t c = λ rest.
-    rw (c.in-Cond.is) (rw (
-      c.deref-in-Cond.ensures,
-      c.deref-in-Cond-2.ensures,
-      c.deref-in-Cond-3.ensures,
-    ) at (c.in_ok-m-in-Cond.ensures.code rest))
+pub lower_choice-returns-in-Cond-clause-code : goal.lower_choice-returns-in-Cond-clause-code
+lower_choice-returns-in-Cond-clause-code t c = so c.lower_cond.result c.lower_cond.ensures.code (λ h rest.
+    rw (c.in-Cond.is) (rw (c.deref-in-Cond.ensures, c.deref-in-Cond-2.ensures, c.deref-in-Cond-3.ensures) at (h rest)))
 
 pub lower_or-returns-clause-code : goal.lower_or-returns-clause-code
 lower_or-returns-clause-code t c = λ rest.
-    rw (
-      c.in_ok-k-2.ensures.next,
-      c.in_ok-k.ensures,
-      c.in_ok-right.ensures,
-      c.in_ok-end.ensures,
-      c.temp.ensures,
-      c.temp-2.ensures,
-    ) at (c.in_ok-truth.ensures rest
-    ∙ (c.in_ok-put-5.ensures _ ∙ (c.in_ok-put-4.ensures _
-    ∙ (c.in_ok-m.ensures.code _ ∙ (c.in_ok-put-3.ensures _
-    ∙ (c.in_ok-put-2.ensures _ ∙ (c.in_ok-put.ensures _ ∙ c.in_ok-k-2.ensures.code _)))))))
+    rw (c.in_ok-k-2.ensures.next, c.in_ok-k.ensures) at (c.in_ok-truth.ensures rest
+    ∙ (c.in_ok-put.ensures _ ∙ (c.in_ok-m.ensures.code _ ∙ (c.in_ok-put_turn.ensures _ ∙ c.in_ok-k-2.ensures.code _))))
 
 pub lower_cond-returns-clause-code : goal.lower_cond-returns-clause-code
 lower_cond-returns-clause-code t c = λ rest.
-    rw (
-      c.in_ok-k-3.ensures.next,
-      c.in_ok-k-2.ensures.next,
-      c.in_ok-k.ensures,
-      c.in_ok-end.ensures,
-      c.temp.ensures,
-    ) at (c.in_ok-put-4.ensures rest
-    ∙ (c.in_ok-m.ensures.code _ ∙ (c.in_ok-put-3.ensures _
-    ∙ (c.in_ok-put-2.ensures _ ∙ (c.in_ok-k-3.ensures.code _ ∙ (c.in_ok-put.ensures _ ∙ c.in_ok-k-2.ensures.code _))))))
+    rw (c.in_ok-k-3.ensures.next, c.in_ok-k-2.ensures.next, c.in_ok-k.ensures) at (c.in_ok-put.ensures rest
+    ∙ (c.in_ok-m.ensures.code _ ∙ (c.in_ok-put_turn.ensures _ ∙ (c.in_ok-k-3.ensures.code _ ∙ c.in_ok-k-2.ensures.code _))))
+
+pub lower_branch-returns-clause-code : goal.lower_branch-returns-clause-code
+lower_branch-returns-clause-code t c = λ rest. rw (c.temp.ensures) at (c.in_ok-put.ensures rest ∙ c.in_ok-m.ensures.code _)
 
 pub lower_expr-returns-in_ok-put_number-in-Number-clause-code : goal.lower_expr-returns-in_ok-put_number-in-Number-clause-code
 lower_expr-returns-in_ok-put_number-in-Number-clause-code t c = λ rest. rw (c.in-Number.is) (c.in_ok-put_number-in-Number.ensures rest)
@@ -149,11 +119,12 @@ lower_args-returns-clause-code t c = λ rest.
 
 pub lower_expr-returns-in_ok-put_load-in-Load-clause-code : goal.lower_expr-returns-in_ok-put_load-in-Load-clause-code
 lower_expr-returns-in_ok-put_load-in-Load-clause-code t c = λ rest.
-    rw (c.in-Load.is) (rw (c.in_ok-site-in-Load.ensures) at (c.in_ok-put_load-in-Load.ensures rest ∙ c.in_ok-m-in-Load.ensures.code _))
+    rw (c.in-Load.is) (rw (c.in_ok-m-in-Load.ensures.site) at (c.in_ok-put_load-in-Load.ensures rest
+    ∙ c.in_ok-m-in-Load.ensures.code _))
 
 pub lower_expr-returns-in_ok-put_address-in-AddressOf-clause-code : goal.lower_expr-returns-in_ok-put_address-in-AddressOf-clause-code
 lower_expr-returns-in_ok-put_address-in-AddressOf-clause-code t c = λ rest.
-    rw (c.in-AddressOf.is) (rw (c.in_ok-site-in-AddressOf.ensures) at (c.in_ok-put_address-in-AddressOf.ensures rest
+    rw (c.in-AddressOf.is) (rw (c.in_ok-m-in-AddressOf.ensures.site) at (c.in_ok-put_address-in-AddressOf.ensures rest
     ∙ c.in_ok-m-in-AddressOf.ensures.code _))
 
 pub lower_effect-returns-in_ok-put_settled-in-Assign-clause-code : goal.lower_effect-returns-in_ok-put_settled-in-Assign-clause-code
@@ -161,7 +132,7 @@ lower_effect-returns-in_ok-put_settled-in-Assign-clause-code t c = λ rest.
     rw (c.in-Assign.is) (rw (
       c.in_ok-k-in-Assign.ensures.next,
       c.in_ok-u-in-Assign.ensures,
-      c.in_ok-site-in-Assign.ensures,
+      c.in_ok-k-in-Assign.ensures.site,
       c.deref.ensures,
     ) at (c.in_ok-put_settled-in-Assign.ensures rest
     ∙ (c.in_ok-put_store-in-Assign.ensures _ ∙ (c.in_ok-m-in-Assign.ensures.code _ ∙ c.in_ok-k-in-Assign.ensures.code _))))
@@ -172,7 +143,7 @@ lower_effect-returns-in_ok-put_settled-in-Compound-clause-code t c = λ rest.
       c.in_ok-up-in-Compound.ensures,
       c.in_ok-k-in-Compound.ensures.next,
       c.in_ok-u-in-Compound.ensures,
-      c.in_ok-site-in-Compound.ensures,
+      c.in_ok-k-in-Compound.ensures.site,
       c.deref-in-Compound.ensures,
       c.deref-in-Compound-2.ensures,
     ) at (c.in_ok-put_settled-in-Compound.ensures rest
@@ -181,15 +152,14 @@ lower_effect-returns-in_ok-put_settled-in-Compound-clause-code t c = λ rest.
 
 pub lower_effect-returns-in_ok-put_step-in-Step-clause-code : goal.lower_effect-returns-in_ok-put_step-in-Step-clause-code
 lower_effect-returns-in_ok-put_step-in-Step-clause-code t c = λ rest.
-    rw (c.in-Step.is) (rw (c.in_ok-site-in-Step.ensures) at (c.in_ok-put_step-in-Step.ensures rest ∙ c.in_ok-m-in-Step.ensures.code _))
+    rw (c.in-Step.is) (rw (c.in_ok-m-in-Step.ensures.site) at (c.in_ok-put_step-in-Step.ensures rest
+    ∙ c.in_ok-m-in-Step.ensures.code _))
 
-pub lower_place-returns-in_ok-put_further-in-Member-clause-code : goal.lower_place-returns-in_ok-put_further-in-Member-clause-code
-lower_place-returns-in_ok-put_further-in-Member-clause-code t c = λ rest.
+pub lower_place-returns-in_ok-site-in-Member-clause-code : goal.lower_place-returns-in_ok-site-in-Member-clause-code
+lower_place-returns-in_ok-site-in-Member-clause-code t c = λ rest.
     rw (c.in-Member.is) (rw (
       c.in_ok-k-in-Member.ensures,
-      c.in_ok-site-in-Member.ensures,
+      c.in_ok-m-in-Member.ensures.site,
       c.deref-in-Member.ensures,
       c.deref-in-Member-2.ensures,
-      c.deref-in-Member-3.ensures,
-    ) at (c.in_ok-put_further-in-Member.ensures rest
-    ∙ c.in_ok-m-in-Member.ensures.code _))
+    ) at (c.in_ok-put_further-in-Member.ensures rest ∙ c.in_ok-m-in-Member.ensures.code _))

@@ -20,6 +20,9 @@ decreases-lower_place l = 4 * place_size (plain_place l.p.now)
 abbrev pub decreases-lower_choice : goal.decreases-lower_choice
 decreases-lower_choice l = 4 * node_size (plain_node l.node.now) + 1
 
+abbrev pub decreases-lower_branch : goal.decreases-lower_branch
+decreases-lower_branch l = 4 * expr_size (plain_expr l.e.now) + 1
+
 abbrev pub decreases-lower_port : goal.decreases-lower_port
 decreases-lower_port l = 4 * node_size (plain_node l.node.now)
 

@@ -1,5 +1,6 @@
 use Rattle.std.proofs.Common.{◌≡◌, ◌∙◌, ap, sym, arith, rules}
 use Rattle.std.proofs.lemmas.Grind.{common_steps}
+use Rattle.std.proofs.lemmas.Result.{IfOk-weaker}
 use Rattle.ec_core.specs.Needs.{operand_needs, node_need}
 use Rattle.ec_core.specs.Plain.{call, plain_exprs, plain_node}
 use Rattle.ec_lower.specs.Sizes.{node_size, exprs_size}
@@ -18,14 +19,14 @@ choice_extent-args_extent-requires t c =
     let d = c.decreases in
     omega (arith, e, i, a, d)
 
-pub choice_extent-returns-in_ok-x-in-Call-clause-labels : goal.choice_extent-returns-in_ok-x-in-Call-clause-labels
-choice_extent-returns-in_ok-x-in-Call-clause-labels t c =
+pub choice_extent-returns-in-Call-clause-labels : goal.choice_extent-returns-in-Call-clause-labels
+choice_extent-returns-in-Call-clause-labels t c =
     let is : plain_node c.args.node.now ≡ call c.in-Call.field-0 (plain_exprs c.as_slice.result.now) = ap plain_node c.in-Call.is
     ∙ (plain_call c.in-Call.field-0 c.in-Call.args ∙ ap (λ es. call c.in-Call.field-0 (plain_exprs es)) (sym c.as_slice.ensures)) in
-    c.in_ok-x-in-Call.ensures.labels ∙ ap node_labels (sym is)
+    IfOk-weaker c.args_extent.result _ _ (λ x h. h ∙ ap node_labels (sym is)) c.args_extent.ensures.labels
 
-pub choice_extent-returns-in_ok-x-in-Call-clause-places : goal.choice_extent-returns-in_ok-x-in-Call-clause-places
-choice_extent-returns-in_ok-x-in-Call-clause-places t c =
+pub choice_extent-returns-in-Call-clause-places : goal.choice_extent-returns-in-Call-clause-places
+choice_extent-returns-in-Call-clause-places t c =
     let is : plain_node c.args.node.now ≡ call c.in-Call.field-0 (plain_exprs c.as_slice.result.now) = ap plain_node c.in-Call.is
     ∙ (plain_call c.in-Call.field-0 c.in-Call.args ∙ ap (λ es. call c.in-Call.field-0 (plain_exprs es)) (sym c.as_slice.ensures)) in
-    c.in_ok-x-in-Call.ensures.places ∙ ap (λ node. node_need (operand_needs node)) (sym is)
+    IfOk-weaker c.args_extent.result _ _ (λ x h. h ∙ ap (λ node. node_need (operand_needs node)) (sym is)) c.args_extent.ensures.places

@@ -1,5 +1,6 @@
 use Rattle.std.proofs.Common.{◌≡◌, ◌∙◌, ap, sym, arith, rules}
 use Rattle.std.proofs.lemmas.Grind.{common_steps}
+use Rattle.std.proofs.lemmas.Result.{IfOk-weaker}
 use Rattle.ec_core.specs.Needs.{kind_need}
 use Rattle.ec_core.specs.Plain.{block, plain_kind, plain_stmts}
 use Rattle.ec_lower.specs.Sizes.{kind_size, stmts_size}
@@ -17,8 +18,8 @@ stmt_places-stmts_places-requires t c =
     let d = c.decreases in
     omega (arith, e, i, a, d)
 
-pub stmt_places-returns-in_ok-x-in-Block : goal.stmt_places-returns-in_ok-x-in-Block
-stmt_places-returns-in_ok-x-in-Block t c =
+pub stmt_places-returns-in-Block : goal.stmt_places-returns-in-Block
+stmt_places-returns-in-Block t c =
     let is : plain_kind c.args.s.now.kind ≡ block (plain_stmts c.as_slice.result.now) = ap plain_kind c.in-Block.is
     ∙ (plain_block c.in-Block.ss ∙ ap (λ ss. block (plain_stmts ss)) (sym c.as_slice.ensures)) in
-    c.in_ok-x-in-Block.ensures ∙ ap kind_need (sym is)
+    IfOk-weaker c.stmts_places.result _ _ (λ n h. h ∙ ap kind_need (sym is)) c.stmts_places.ensures

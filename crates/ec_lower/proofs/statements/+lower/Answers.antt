@@ -7,7 +7,7 @@ use Rattle.ec_ir.specs.Operations.{plain_ir}
 use Rattle.ec_lower.specs.Sizes.{kind_size, stmts_size}
 use Rattle.ec_lower_code.specs.Code.{expr_labels, stmts_labels, kind_labels, stmts_code, kind_code}
 use Rattle.ec_lower.proofs.Lists.{plain_block, list_next, smaller_stmt}
-use Rattle.ec_lower.proofs.Steps.{list_end}
+use Rattle.ec_lower.proofs.Steps.{list_end, so}
 use Rattle.ec_lower.proofs.statements.+lower.Goals as goal
 
 pub lower_stmts-lower_stmt-requires : goal.lower_stmts-lower_stmt-requires
@@ -32,48 +32,48 @@ lower_stmts-loop-s-preserved t c =
           (plain_stmts ss) c.loop-s.k c.args.out c.args.on rest) next) ∙ c.loop-s.invariant.1 rest)),
     )
 
-pub lower_stmt-returns-in_ok-m-in-Do1-clause-code : goal.lower_stmt-returns-in_ok-m-in-Do1-clause-code
-lower_stmt-returns-in_ok-m-in-Do1-clause-code t c = λ rest. rw (c.in-Do1.is) (c.in_ok-m-in-Do1.ensures.code rest)
+pub lower_stmt-returns-in-Do1-clause-code : goal.lower_stmt-returns-in-Do1-clause-code
+lower_stmt-returns-in-Do1-clause-code t c = so c.lower_expr.result c.lower_expr.ensures.code (λ h rest. rw (c.in-Do1.is) (h rest))
 
-pub lower_stmt-returns-in_ok-m-in-Block-clause-next : goal.lower_stmt-returns-in_ok-m-in-Block-clause-next
-lower_stmt-returns-in_ok-m-in-Block-clause-next t c =
+pub lower_stmt-returns-in-Block-clause-next : goal.lower_stmt-returns-in-Block-clause-next
+lower_stmt-returns-in-Block-clause-next t c =
     let is : plain_kind c.args.s.now.kind ≡ block (plain_stmts c.as_slice.result.now) = ap plain_kind c.in-Block.is
     ∙ (plain_block c.in-Block.ss ∙ ap (λ ss. block (plain_stmts ss)) (sym c.as_slice.ensures)) in
-    omega (arith, ap kind_labels is, c.in_ok-m-in-Block.ensures.next)
+    rw (is) c.lower_stmts.ensures.next
 
-pub lower_stmt-returns-in_ok-m-in-Block-clause-code : goal.lower_stmt-returns-in_ok-m-in-Block-clause-code
-lower_stmt-returns-in_ok-m-in-Block-clause-code t c = λ rest.
-    (let is : plain_kind c.args.s.now.kind ≡ block (plain_stmts c.as_slice.result.now) = ap plain_kind c.in-Block.is
+pub lower_stmt-returns-in-Block-clause-code : goal.lower_stmt-returns-in-Block-clause-code
+lower_stmt-returns-in-Block-clause-code t c =
+    let is : plain_kind c.args.s.now.kind ≡ block (plain_stmts c.as_slice.result.now) = ap plain_kind c.in-Block.is
     ∙ (plain_block c.in-Block.ss ∙ ap (λ ss. block (plain_stmts ss)) (sym c.as_slice.ensures)) in
-    c.in_ok-m-in-Block.ensures.code rest
+    so c.lower_stmts.result c.lower_stmts.ensures.code (λ h rest. h rest
     ∙ ap (λ (kind : PlainKind). map plain_ir c.args.code.now.items
     ++ kind_code (plain_program c.args.program.now) (plain_table c.args.io.now) kind c.args.l c.args.out c.args.on rest) (sym is))
 
-pub lower_stmt-returns-in_ok-m-in-Local-clause-code : goal.lower_stmt-returns-in_ok-m-in-Local-clause-code
-lower_stmt-returns-in_ok-m-in-Local-clause-code t c =
-    λ rest. rw (c.in-Local.is, ← c.as_slice-in-Local.ensures) (c.in_ok-m-in-Local.ensures.code rest)
+pub lower_stmt-returns-in-Local-clause-code : goal.lower_stmt-returns-in-Local-clause-code
+lower_stmt-returns-in-Local-clause-code t c = so c.lower_local.result c.lower_local.ensures.code (λ h rest.
+    rw (c.in-Local.is, ← c.as_slice-in-Local.ensures) (h rest))
 
-pub lower_stmt-returns-in_ok-m-in-None-clause-code : goal.lower_stmt-returns-in_ok-m-in-None-clause-code
-lower_stmt-returns-in_ok-m-in-None-clause-code t c =
-    λ rest. rw (c.in-If.is, c.in-None.is, ← c.deref.ensures) (c.in_ok-m-in-None.ensures.code rest)
+pub lower_stmt-returns-in-None-clause-code : goal.lower_stmt-returns-in-None-clause-code
+lower_stmt-returns-in-None-clause-code t c = so c.lower_if.result c.lower_if.ensures.code (λ h rest.
+    rw (c.in-If.is, c.in-None.is, ← c.deref.ensures) (h rest))
 
-pub lower_stmt-returns-in_ok-m-in-Some-clause-code : goal.lower_stmt-returns-in_ok-m-in-Some-clause-code
-lower_stmt-returns-in_ok-m-in-Some-clause-code t c =
-    λ rest. rw (c.in-If.is, c.in-Some.is, ← c.deref-in-Some.ensures, ← c.deref-in-Some-2.ensures) (c.in_ok-m-in-Some.ensures.code rest)
+pub lower_stmt-returns-in-Some-clause-code : goal.lower_stmt-returns-in-Some-clause-code
+lower_stmt-returns-in-Some-clause-code t c = so c.lower_if_else.result c.lower_if_else.ensures.code (λ h rest.
+    rw (c.in-If.is, c.in-Some.is, ← c.deref-in-Some.ensures, ← c.deref-in-Some-2.ensures) (h rest))
 
-pub lower_stmt-returns-in_ok-m-in-While-clause-code : goal.lower_stmt-returns-in_ok-m-in-While-clause-code
-lower_stmt-returns-in_ok-m-in-While-clause-code t c = λ rest.
-    (let z : c.args.l + 4 + expr_labels (plain_expr c.in-While.c) + 0 ≡ c.args.l + 4 + expr_labels (plain_expr c.in-While.c) =
+pub lower_stmt-returns-in-While-clause-code : goal.lower_stmt-returns-in-While-clause-code
+lower_stmt-returns-in-While-clause-code t c = so c.lower_loop.result c.lower_loop.ensures.code (λ h rest.
+    let z : c.args.l + 4 + expr_labels (plain_expr c.in-While.c) + 0 ≡ c.args.l + 4 + expr_labels (plain_expr c.in-While.c) =
     omega arith in
-    rw (c.in-While.is, ← c.deref-in-While.ensures, ← z) (c.in_ok-m-in-While.ensures.code rest))
+    rw (c.in-While.is, ← c.deref-in-While.ensures, ← z) (h rest))
 
-pub lower_stmt-returns-in_ok-m-in-DoWhile-clause-code : goal.lower_stmt-returns-in_ok-m-in-DoWhile-clause-code
-lower_stmt-returns-in_ok-m-in-DoWhile-clause-code t c =
-    λ rest. rw (c.in-DoWhile.is, ← c.deref-in-DoWhile.ensures) (c.in_ok-m-in-DoWhile.ensures.code rest)
+pub lower_stmt-returns-in-DoWhile-clause-code : goal.lower_stmt-returns-in-DoWhile-clause-code
+lower_stmt-returns-in-DoWhile-clause-code t c = so c.lower_do.result c.lower_do.ensures.code (λ h rest.
+    rw (c.in-DoWhile.is, ← c.deref-in-DoWhile.ensures) (h rest))
 
-pub lower_stmt-returns-in_ok-m-in-None-first-clause-code : goal.lower_stmt-returns-in_ok-m-in-None-first-clause-code
-lower_stmt-returns-in_ok-m-in-None-first-clause-code t c = λ rest.
-    (let z : c.args.l + 0 ≡ c.args.l = omega arith in
+pub lower_stmt-returns-in-None-first-clause-code : goal.lower_stmt-returns-in-None-first-clause-code
+lower_stmt-returns-in-None-first-clause-code t c = so c.lower_loop-in-None-first.result c.lower_loop-in-None-first.ensures.code (λ h rest.
+    let z : c.args.l + 0 ≡ c.args.l = omega arith in
     rw (
       c.in-For.is,
       c.in-None-first.is,
@@ -81,10 +81,10 @@ lower_stmt-returns-in_ok-m-in-None-first-clause-code t c = λ rest.
       ← c.as_ref-in-None-first.ensures.value,
       ← c.deref-in-None-first.ensures,
       z,
-    ) (c.in_ok-m-in-None-first.ensures.code rest))
+    ) (h rest))
 
-pub lower_stmt-returns-in_ok-m-in-Some-first-clause-code : goal.lower_stmt-returns-in_ok-m-in-Some-first-clause-code
-lower_stmt-returns-in_ok-m-in-Some-first-clause-code t c = λ rest.
+pub lower_stmt-returns-in-Some-first-clause-code : goal.lower_stmt-returns-in-Some-first-clause-code
+lower_stmt-returns-in-Some-first-clause-code t c = so c.lower_for.result c.lower_for.ensures.code (λ h rest.
     rw (
       c.in-For.is,
       c.in-Some-first.is,
@@ -92,7 +92,7 @@ lower_stmt-returns-in_ok-m-in-Some-first-clause-code t c = λ rest.
       ← c.as_ref-in-Some-first-2.ensures.value,
       ← c.deref-in-Some-first.ensures,
       ← c.deref-in-Some-first-2.ensures,
-    ) (c.in_ok-m-in-Some-first.ensures.code rest)
+    ) (h rest))
 
 pub lower_stmt-returns-in_ok-put-in-Break-clause-code : goal.lower_stmt-returns-in_ok-put-in-Break-clause-code
 lower_stmt-returns-in_ok-put-in-Break-clause-code t c = λ rest. rw (c.in-Break.is) (c.in_ok-put-in-Break.ensures rest)
@@ -100,46 +100,34 @@ lower_stmt-returns-in_ok-put-in-Break-clause-code t c = λ rest. rw (c.in-Break.
 pub lower_stmt-returns-in_ok-put-in-Continue-clause-code : goal.lower_stmt-returns-in_ok-put-in-Continue-clause-code
 lower_stmt-returns-in_ok-put-in-Continue-clause-code t c = λ rest. rw (c.in-Continue.is) (c.in_ok-put-in-Continue.ensures rest)
 
-pub lower_stmt-returns-in_ok-m-in-Return-clause-code : goal.lower_stmt-returns-in_ok-m-in-Return-clause-code
-lower_stmt-returns-in_ok-m-in-Return-clause-code t c =
-    λ rest. rw (c.in-Return.is, ← c.as_ref-in-Return.ensures.value) (c.in_ok-m-in-Return.ensures.code rest)
+pub lower_stmt-returns-in-Return-clause-code : goal.lower_stmt-returns-in-Return-clause-code
+lower_stmt-returns-in-Return-clause-code t c = so c.lower_return.result c.lower_return.ensures.code (λ h rest.
+    rw (c.in-Return.is, ← c.as_ref-in-Return.ensures.value) (h rest))
 
 pub lower_if-returns-clause-code : goal.lower_if-returns-clause-code
 lower_if-returns-clause-code t c = λ rest.
-    rw (c.in_ok-k-2.ensures.next, c.in_ok-k.ensures, c.temp.ensures) at (c.in_ok-put-2.ensures rest
-    ∙ (c.in_ok-m.ensures.code _ ∙ (c.in_ok-put.ensures _ ∙ c.in_ok-k-2.ensures.code _)))
+    rw (c.in_ok-k-2.ensures.next, c.in_ok-k.ensures) at (c.in_ok-put.ensures rest ∙ (c.in_ok-m.ensures.code _ ∙ c.in_ok-k-2.ensures.code _))
 
 pub lower_if_else-returns-clause-code : goal.lower_if_else-returns-clause-code
 lower_if_else-returns-clause-code t c = λ rest.
-    rw (
-      c.in_ok-k-3.ensures.next,
-      c.in_ok-k-2.ensures.next,
-      c.in_ok-k.ensures,
-      c.in_ok-end.ensures,
-      c.temp.ensures,
-    ) at (c.in_ok-put-4.ensures rest
-    ∙ (c.in_ok-m.ensures.code _ ∙ (c.in_ok-put-3.ensures _
-    ∙ (c.in_ok-put-2.ensures _ ∙ (c.in_ok-k-3.ensures.code _ ∙ (c.in_ok-put.ensures _ ∙ c.in_ok-k-2.ensures.code _))))))
+    rw (c.in_ok-k-3.ensures.next, c.in_ok-k-2.ensures.next, c.in_ok-k.ensures) at (c.in_ok-put.ensures rest
+    ∙ (c.in_ok-m.ensures.code _ ∙ (c.in_ok-put_turn.ensures _ ∙ (c.in_ok-k-3.ensures.code _ ∙ c.in_ok-k-2.ensures.code _))))
 
 pub lower_do-returns-clause-code : goal.lower_do-returns-clause-code
-lower_do-returns-clause-code t c = λ rest.
-    (let z : c.args.l + 4 + expr_labels (plain_expr c.args.c.now) + 0 ≡ c.args.l + 4 + expr_labels (plain_expr c.args.c.now) =
+lower_do-returns-clause-code t c =
+    let z : c.args.l + 4 + expr_labels (plain_expr c.args.c.now) + 0 ≡ c.args.l + 4 + expr_labels (plain_expr c.args.c.now) =
     omega arith in
-    rw (← z) (rw (c.in_ok-first.ensures) at (c.in_ok-m.ensures.code rest ∙ c.in_ok-put.ensures _)))
+    so c.lower_loop.result c.lower_loop.ensures.code (λ h rest.
+    rw (← z) (rw (c.in_ok-first.ensures) at (h rest ∙ c.in_ok-put.ensures _)))
 
 pub lower_loop-returns-clause-code : goal.lower_loop-returns-clause-code
 lower_loop-returns-clause-code t c = λ rest.
-    rw (
-      c.in_ok-first.ensures,
-      c.in_ok-count.ensures,
-      c.in_ok-k.ensures.next,
-      c.in_ok-out.ensures,
-      c.in_ok-on.ensures,
-    ) at (c.in_ok-end_loop.ensures rest ∙ (c.in_ok-m.ensures.code _ ∙ c.in_ok-k.ensures.code _))
+    rw (c.in_ok-first.ensures, c.in_ok-count.ensures, c.in_ok-k.ensures.next) at (c.in_ok-end_loop.ensures rest
+    ∙ (c.in_ok-m.ensures.code _ ∙ c.in_ok-k.ensures.code _))
 
 pub lower_for-returns-clause-code : goal.lower_for-returns-clause-code
-lower_for-returns-clause-code t c = λ rest.
-    rw (c.in_ok-k.ensures.next) at (c.in_ok-m.ensures.code rest ∙ c.in_ok-k.ensures.code _)
+lower_for-returns-clause-code t c = so c.lower_loop.result c.lower_loop.ensures.code (λ h rest.
+    rw (c.in_ok-k.ensures.next) at (h rest ∙ c.in_ok-k.ensures.code _))
 
 pub lower_stmts-returns-clause-code : goal.lower_stmts-returns-clause-code
 lower_stmts-returns-clause-code t c = λ rest.

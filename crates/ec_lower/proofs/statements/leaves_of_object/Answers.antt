@@ -1,5 +1,6 @@
 use Rattle.std.proofs.Common.{◌∙◌, sym, subst, ℕ, length}
 use Rattle.std.proofs.lemmas.List.{length-map}
+use Rattle.std.proofs.lemmas.Result.{IfOk-weaker}
 use Rattle.ec_core.specs.Layout.{IsObjectType}
 use Rattle.ec_core.specs.Plain.{plain_object, plain_program, plain_struct}
 use Rattle.ec_lower.proofs.Lists.{object_at}
@@ -19,8 +20,8 @@ returns-in-None c =
     (seen_at plain_object c.args.program.now.objs.items c.args.o _ c.in-None.ensures) in
     rw (c.new.ensures) (sym e)
 
-pub returns-in_ok-leaves-in-Some : goal.returns-in_ok-leaves-in-Some
-returns-in_ok-leaves-in-Some c =
+pub returns-in-Some : goal.returns-in-Some
+returns-in-Some c =
     let e = leaves_some (plain_program c.args.program.now) c.args.o (plain_object c.in-Some.object.now)
     (seen_at plain_object c.args.program.now.objs.items c.args.o _ c.in-Some.ensures) in
-    c.in_ok-leaves-in-Some.ensures ∙ sym e
+    IfOk-weaker c.leaves.result _ _ (λ leaves h. h ∙ sym e) c.leaves.ensures

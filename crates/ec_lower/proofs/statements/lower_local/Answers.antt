@@ -1,4 +1,6 @@
+use Rattle.ec_lower.proofs.Steps.{so}
 use Rattle.ec_lower.proofs.statements.lower_local.Goals as goal
 
 pub returns-clause-code : goal.returns-clause-code
-returns-clause-code c = λ rest. rw (c.in_ok-leaves.ensures) at (c.in_ok-m.ensures.code rest)
+returns-clause-code c = so c.lower_values.result c.lower_values.ensures.code (λ h rest.
+    rw (c.in_ok-leaves.ensures) at (h rest))

@@ -1,5 +1,6 @@
 use Rattle.std.proofs.Common.{◌∙◌}
+use Rattle.ec_lower.proofs.Steps.{so}
 use Rattle.ec_lower.proofs.updates.update.Goals as goal
 
 pub returns : goal.returns
-returns c = λ rest. rw (c.in_ok-up.ensures) at (c.in_ok-give.ensures rest ∙ c.in_ok-operate.ensures _)
+returns c = so c.give.result c.give.ensures (λ h rest. rw (c.in_ok-up.ensures) at (h rest ∙ c.in_ok-operate.ensures _))
