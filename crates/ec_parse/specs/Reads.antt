@@ -21,6 +21,8 @@ use Rattle.ec_parse.specs.declared.stop.ReadError.{ReadError}
 use Rattle.ec_parse.specs.declared.stop.ReadError.TheVariants as errors
 use Rattle.ec_parse.specs.declared.tokens.Keyword.{Keyword}
 use Rattle.ec_parse.specs.declared.tokens.Keyword.TheVariants as keywords
+use Rattle.ec_parse.specs.declared.tokens.Jump.{Jump}
+use Rattle.ec_parse.specs.declared.tokens.Jump.TheVariants as jumps
 
 -- the leaves that the last tokens of a list of so many are
 abbrev pub leaves_of : ℕ → List Token → List Leaf
@@ -86,6 +88,14 @@ HasRoomAbove room height h = (h ≡ height) × (suc h ≤ room) × (room ≤ 64)
 abbrev pub IsHeight : ℕ → ℕ → ℕ → Type 0
 IsHeight room height h = (h ≡ height) × (h ≤ room)
 
+-- It is this height, and that of what was made.
+abbrev pub IsKnownHeight : ℕ → ℕ → ℕ → Type 0
+IsKnownHeight known height h = (h ≡ height) × (h ≡ known)
+
+-- A node of this height has parts of that one.
+abbrev pub HasHeightAbove : ℕ → ℕ → Type 0
+HasHeightAbove height below = (height ≡ suc below) × (below ≤ 64)
+
 -- It is the height of a node, and within the room.
 abbrev pub IsNodeHeight : ℕ → ℕ → ℕ → Type 0
 IsNodeHeight room height h = (h ≡ height) × (0 < h) × (h ≤ room)
@@ -112,22 +122,19 @@ IsUnexpected stop ts = stop ≡ errors.Syntax (length ts)
 abbrev pub IsTooLong : ReadError → List Leaf → Type 0
 IsTooLong stop ts = stop ≡ errors.TooDeep (length ts)
 
--- a fact of what was read, where an item is there
-abbrev pub IfThere : {X : Type 0} → Result (Option X) ReadError → (X → Type 0) → Type 0
-IfThere (Ok None) P = Unit {0}
-IfThere (Ok (Some x)) P = P x
-IfThere (Err e) P = Unit {0}
-
 -- ---- tokens
+
+abbrev pub view_jump : Jump → reading.Keyword
+view_jump jumps.Break = reading.break_word
+view_jump jumps.Continue = reading.continue_word
+view_jump jumps.Return = reading.return_word
 
 abbrev pub view_keyword : Keyword → reading.Keyword
 view_keyword keywords.If = reading.if_word
 view_keyword keywords.While = reading.while_word
 view_keyword keywords.Do = reading.do_word
 view_keyword keywords.For = reading.for_word
-view_keyword keywords.Break = reading.break_word
-view_keyword keywords.Continue = reading.continue_word
-view_keyword keywords.Return = reading.return_word
+view_keyword (keywords.Jump j) = view_jump j
 
 abbrev pub pragma_at_spot : PragmaKind → PragmaState → Spot → Pragma
 pragma_at_spot which state = λ s. record { spot = s; which = which; state = state }

@@ -2,7 +2,7 @@
 //!
 //! Where a part has a height, it is answered behind the tree: the greatest of its sizes and initialisers.
 
-ghost use Rattle.std.specs.Prelude.{◌≡◌, ◌<◌, ◌≤◌, map, max, Ok, IfOk};
+ghost use Rattle.std.specs.Prelude.{◌≡◌, ◌≤◌, map, max, Ok};
 ghost use Rattle.ec_grammar.specs.Grammar.{is_void, lone_void};
 ghost use Rattle.ec_grammar.specs.Nesting.{height_list, height_option, height_shape, height_declarator};
 ghost use Rattle.ec_grammar.specs.Nesting.{height_initialiser, height_initialisers, height_start};
@@ -18,10 +18,10 @@ ghost use Rattle.ec_reading.specs.Reading.{shape_by, declarator_by, initialisers
 ghost use Rattle.ec_reading.specs.Reading.{braces_by, initialiser_by, start_by, init_declarator_by, declared_by};
 ghost use Rattle.ec_reading.specs.Reading.{declaration_by, members_by, members_at};
 ghost use Rattle.ec_parse.specs.Parts.{is_void_spec, view_next_initialiser, braces_after};
-ghost use Rattle.ec_parse.specs.Reads.{leaves_of, inner_at, Gives, GivesAt, IfThere, Reads, ReadsAt, IsHeight};
+ghost use Rattle.ec_parse.specs.Reads.{leaves_of, inner_at, Gives, GivesAt, Reads, ReadsAt, IsHeight};
 ghost use Rattle.ec_parse.specs.Reads.{IsNodeHeight};
 
-use crate::boxes::boxed;
+use crate::boxes::{add, boxed};
 use crate::depth::{LIMIT, ended, higher, opened};
 use crate::expressions::{assignment, conditional};
 use crate::stop::ReadError;
@@ -140,10 +140,9 @@ fn array(
     opening: Spot,
     tokens: &[Token],
 ) -> Result<(Shape, u8, &[Token]), ReadError>
-    ensures read { Gives (λ x. (view_shape x.0, leaves_of source.count x.2.now)) result
+    ensures { Reads (λ x. (view_shape x.0, leaves_of source.count x.2.now))
+        (λ x. IsHeight 64 (height_shape (view_shape x.0)) x.1) result
         (array_by (inner_at left) opening (leaves_of source.count tokens.now)) }
-    ensures height { IfOk result (λ x. x.1 ≡ height_shape (view_shape x.0)) }
-    ensures within { IfOk result (λ x. x.1 ≤ 64) }
 {
     if let Some((closing, rest)) = take(source, tokens, PunctKind::RightBracket) {
         return Ok((Shape::Array(opening, None, closing), 0, rest));
@@ -160,10 +159,9 @@ fn array(
 
 #[tactic(auto, unfolding(ec_reading::specs::Reading::shape_by))]
 fn shape(source: Source, left: u8, tokens: &[Token]) -> Result<(Shape, u8, &[Token]), ReadError>
-    ensures read { Gives (λ x. (view_shape x.0, leaves_of source.count x.2.now)) result
+    ensures { Reads (λ x. (view_shape x.0, leaves_of source.count x.2.now))
+        (λ x. IsHeight 64 (height_shape (view_shape x.0)) x.1) result
         (shape_by (within 64 left) (leaves_of source.count tokens.now)) }
-    ensures height { IfOk result (λ x. x.1 ≡ height_shape (view_shape x.0)) }
-    ensures within { IfOk result (λ x. x.1 ≤ 64) }
 {
     if let Some((opening, rest)) = take(source, tokens, PunctKind::LeftBracket) {
         let left = opened(source, left, rest)?;
@@ -190,10 +188,9 @@ pub fn declarator(
     left: u8,
     tokens: &[Token],
 ) -> Result<(Box<Declarator>, u8, &[Token]), ReadError>
-    ensures read { Gives (λ x. (view_declarator x.0.value, leaves_of source.count x.2.now)) result
+    ensures { Reads (λ x. (view_declarator x.0.value, leaves_of source.count x.2.now))
+        (λ x. IsHeight 64 (height_declarator (view_declarator x.0.value)) x.1) result
         (declarator_by (within 64 left) (leaves_of source.count tokens.now)) }
-    ensures height { IfOk result (λ x. x.1 ≡ height_declarator (view_declarator x.0.value)) }
-    ensures within { IfOk result (λ x. x.1 ≤ 64) }
 {
     let (stars, rest) = stars(source, tokens)?;
     let (name, rest) = expect_name(source, rest)?;
@@ -335,10 +332,9 @@ fn start(
     left: u8,
     tokens: &[Token],
 ) -> Result<(Option<Start>, u8, &[Token]), ReadError>
-    ensures read { Gives (λ x. (view_option view_start x.0, leaves_of source.count x.2.now)) result
+    ensures { Reads (λ x. (view_option view_start x.0, leaves_of source.count x.2.now))
+        (λ x. IsHeight 64 (height_option height_start (view_option view_start x.0)) x.1) result
         (start_by (within 64 left) (leaves_of source.count tokens.now)) }
-    ensures height { IfOk result (λ x. x.1 ≡ height_option height_start (view_option view_start x.0)) }
-    ensures within { IfOk result (λ x. x.1 ≤ 64) }
 {
     let Some((equals, rest)) = take(source, tokens, PunctKind::Assign) else {
         return Ok((None, 0, tokens));
@@ -349,41 +345,56 @@ fn start(
 
 // Declarations.
 
+/// A declarator with the initialiser that follows it, if one does.
+fn initialised(
+    source: Source,
+    left: u8,
+    declarator: Box<Declarator>,
+    declarator_height: u8,
+    tokens: &[Token],
+) -> Result<(Box<InitDeclarator>, u8, &[Token]), ReadError>
+    requires { IsHeight 64 (height_declarator (view_declarator declarator.value)) declarator_height }
+    ensures { Reads (λ x. (view_option view_start x.0.value.start, leaves_of source.count x.2.now))
+        (λ x. (view_declarator x.0.value.declarator ≡ view_declarator declarator.value)
+        × IsHeight 64 (height_init_declarator (view_init_declarator x.0.value)) x.1) result
+        (start_by (within 64 left) (leaves_of source.count tokens.now)) }
+{
+    let (start, height, rest) = start(source, left, tokens)?;
+    let declarator = Box::into_inner(declarator);
+    let tree = boxed(source, InitDeclarator { declarator, start })?;
+    Ok((tree, higher(declarator_height, height), rest))
+}
+
 #[tactic(auto, unfolding(ec_reading::specs::Reading::init_declarator_by))]
 fn init_declarator(
     source: Source,
     left: u8,
     tokens: &[Token],
-) -> Result<(InitDeclarator, u8, &[Token]), ReadError>
-    ensures read { Gives (λ x. (view_init_declarator x.0, leaves_of source.count x.2.now)) result
+) -> Result<(Box<InitDeclarator>, u8, &[Token]), ReadError>
+    ensures { Reads (λ x. (view_init_declarator x.0.value, leaves_of source.count x.2.now))
+        (λ x. IsHeight 64 (height_init_declarator (view_init_declarator x.0.value)) x.1) result
         (init_declarator_by (within 64 left) (leaves_of source.count tokens.now)) }
-    ensures height { IfOk result (λ x. x.1 ≡ height_init_declarator (view_init_declarator x.0)) }
-    ensures within { IfOk result (λ x. x.1 ≤ 64) }
 {
     let (declarator, height, rest) = declarator(source, left, tokens)?;
-    let (start, start_height, rest) = start(source, left, rest)?;
-    let tree = InitDeclarator {
-        declarator: Box::into_inner(declarator),
-        start,
-    };
-    Ok((tree, higher(height, start_height), rest))
+    initialised(source, left, declarator, height, rest)
 }
 
 fn another_init_declarator(
     source: Source,
     left: u8,
     tokens: &[Token],
-) -> Result<Option<(NextInitDeclarator, u8, &[Token])>, ReadError>
-    ensures read { GivesAt (λ x. (view_next_init_declarator x.0, leaves_of source.count x.2.now)) result
+) -> Result<Option<(Box<NextInitDeclarator>, u8, &[Token])>, ReadError>
+    ensures { ReadsAt (λ x. (view_next_init_declarator x.0.value, leaves_of source.count x.2.now))
+        (λ x. IsHeight 64 (height_next_init_declarator (view_next_init_declarator x.0.value)) x.1) result
         (behind_comma next_init_declarator (init_declarator_by (within 64 left)) (leaves_of source.count tokens.now)) }
-    ensures height { IfThere result (λ x. x.1 ≡ height_next_init_declarator (view_next_init_declarator x.0)) }
-    ensures within { IfThere result (λ x. x.1 ≤ 64) }
 {
     let Some((comma, rest)) = take(source, tokens, PunctKind::Comma) else {
         return Ok(None);
     };
     let (declarator, height, rest) = init_declarator(source, left, rest)?;
-    Ok(Some((NextInitDeclarator { comma, declarator }, height, rest)))
+    let declarator = Box::into_inner(declarator);
+    let tree = boxed(source, NextInitDeclarator { comma, declarator })?;
+    Ok(Some((tree, height, rest)))
 }
 
 fn more_init_declarators(
@@ -391,12 +402,11 @@ fn more_init_declarators(
     left: u8,
     tokens: &[Token],
 ) -> Result<(Vec<NextInitDeclarator>, u8, &[Token]), ReadError>
-    ensures read { Gives (λ x. (map view_next_init_declarator x.0.items, leaves_of source.count x.2.now)) result
+    ensures { Reads (λ x. (map view_next_init_declarator x.0.items, leaves_of source.count x.2.now))
+        (λ x. IsHeight 64 (height_list height_next_init_declarator (map view_next_init_declarator x.0.items)) x.1)
+        result
         (many (behind_comma next_init_declarator (init_declarator_by (within 64 left)))
         (leaves_of source.count tokens.now)) }
-    ensures height { IfOk result (λ x. x.1
-        ≡ height_list height_next_init_declarator (map view_next_init_declarator x.0.items)) }
-    ensures within { IfOk result (λ x. x.1 ≤ 64) }
 {
     let mut all = Vec::new(source.alloc);
     let mut height = 0;
@@ -405,7 +415,7 @@ fn more_init_declarators(
         let Some((item, tall, after)) = another_init_declarator(source, left, rest)? else {
             return Ok((all, height, rest));
         };
-        all.push(item)?;
+        add(&mut all, item)?;
         height = higher(height, tall);
         rest = after;
     }
@@ -421,31 +431,24 @@ pub fn declared(
     declarator: Box<Declarator>,
     declarator_height: u8,
     tokens: &[Token],
-) -> Result<(Declaration, u8, &[Token]), ReadError>
-    requires height { declarator_height ≡ height_declarator (view_declarator declarator.value) }
-    requires within { declarator_height ≤ 64 }
-    ensures read { Gives (λ x. (view_declaration x.0, leaves_of source.count x.2.now)) result
+) -> Result<(Box<Declaration>, u8, &[Token]), ReadError>
+    requires { IsHeight 64 (height_declarator (view_declarator declarator.value)) declarator_height }
+    ensures { Reads (λ x. (view_declaration x.0.value, leaves_of source.count x.2.now))
+        (λ x. IsHeight 64 (height_declaration (view_declaration x.0.value)) x.1) result
         (declared_by (within 64 left) (view_specs specs.value) (view_declarator declarator.value)
         (leaves_of source.count tokens.now)) }
-    ensures height { IfOk result (λ x. x.1 ≡ height_declaration (view_declaration x.0)) }
-    ensures within { IfOk result (λ x. x.1 ≤ 64) }
 {
-    let (start, start_height, rest) = start(source, left, tokens)?;
-    let start = boxed(source, start)?;
+    let (first, height, rest) = initialised(source, left, declarator, declarator_height, tokens)?;
     let (more, more_height, rest) = more_init_declarators(source, left, rest)?;
     let (semicolon, rest) = expect(source, rest, PunctKind::Semicolon)?;
-    let height = higher(higher(declarator_height, start_height), more_height);
-    let first = InitDeclarator {
-        declarator: Box::into_inner(declarator),
-        start: Box::into_inner(start),
-    };
     let tree = Declaration {
         specs: Box::into_inner(specs),
-        first,
+        first: Box::into_inner(first),
         more,
         semicolon,
     };
-    Ok((tree, height, rest))
+    let tree = boxed(source, tree)?;
+    Ok((tree, higher(height, more_height), rest))
 }
 
 /// A declaration (6.7).
@@ -454,11 +457,10 @@ pub fn declaration(
     source: Source,
     left: u8,
     tokens: &[Token],
-) -> Result<(Declaration, u8, &[Token]), ReadError>
-    ensures read { Gives (λ x. (view_declaration x.0, leaves_of source.count x.2.now)) result
+) -> Result<(Box<Declaration>, u8, &[Token]), ReadError>
+    ensures { Reads (λ x. (view_declaration x.0.value, leaves_of source.count x.2.now))
+        (λ x. IsHeight 64 (height_declaration (view_declaration x.0.value)) x.1) result
         (declaration_by (within 64 left) (leaves_of source.count tokens.now)) }
-    ensures height { IfOk result (λ x. x.1 ≡ height_declaration (view_declaration x.0)) }
-    ensures within { IfOk result (λ x. x.1 ≤ 64) }
 {
     let (specs, rest) = specs(source, tokens)?;
     let (declarator, height, rest) = declarator(source, left, rest)?;
@@ -533,15 +535,15 @@ fn another_member(
     source: Source,
     left: u8,
     tokens: &[Token],
-) -> Result<Option<(Member, &[Token])>, ReadError>
-    ensures { GivesAt (λ x. (view_member x.0, leaves_of source.count x.1.now)) result
+) -> Result<Option<(Box<Member>, &[Token])>, ReadError>
+    ensures { GivesAt (λ x. (view_member x.0.value, leaves_of source.count x.1.now)) result
         (members_at (within 64 left) (leaves_of source.count tokens.now)) }
 {
     if !begins_specs(source, tokens) {
         return Ok(None);
     }
-    let (member, rest) = member(source, left, tokens)?;
-    Ok(Some((Box::into_inner(member), rest)))
+    let member = member(source, left, tokens)?;
+    Ok(Some(member))
 }
 
 /// Declarations of members that follow another one.
@@ -560,7 +562,7 @@ pub fn more_members(
         let Some((item, after)) = another_member(source, left, rest)? else {
             return Ok((all, rest));
         };
-        all.push(item)?;
+        add(&mut all, item)?;
         rest = after;
     }
     Ok((all, rest))

@@ -2,7 +2,7 @@
 //!
 //! A function answers the tree, its height and the tokens after it, as those of expressions do.
 
-ghost use Rattle.std.specs.Prelude.{◌≡◌, ◌<◌, ◌≤◌, suc, max, map, Ok, IfOk, option_map};
+ghost use Rattle.std.specs.Prelude.{◌≡◌, ◌<◌, ◌≤◌, max, map, Some, option_map};
 ghost use Rattle.ec_grammar.specs.Nesting.{height_option, height_expression, height_condition, height_first};
 ghost use Rattle.ec_grammar.specs.Nesting.{height_heading, height_compound, height_items, height_item};
 ghost use Rattle.ec_grammar.specs.Nesting.{height_statement};
@@ -14,17 +14,17 @@ ghost use Rattle.ec_reading.specs.Reading.{optional_by, first_by, heading_by, su
 ghost use Rattle.ec_reading.specs.Reading.{pragma_at, compound_by, else_by, if_by, while_by, do_by, for_by, return_by};
 ghost use Rattle.ec_reading.specs.Reading.{worded_by, simple_by, statement_by};
 ghost use Rattle.ec_parse.specs.Reads.{leaves_of, inner_at, made, Gives, GivesAt, Reads, ReadsAt, IsHeight};
-ghost use Rattle.ec_parse.specs.Reads.{IsNodeHeight, HasRoomAbove, view_keyword};
-ghost use Rattle.ec_parse.specs.Statements.{HasLast, compound_after, else_after, while_after, do_after, for_after};
-ghost use Rattle.ec_parse.specs.Statements.{break_by, continue_by};
+ghost use Rattle.ec_parse.specs.Reads.{IsNodeHeight, IsKnownHeight, HasHeightAbove, view_keyword, view_jump};
+ghost use Rattle.ec_parse.specs.Statements.{compound_after, do_after, again_by, declared_item_by, block_by};
 
-use crate::boxes::boxed;
+use crate::boxes::{add, boxed};
 use crate::declarations::declaration;
 use crate::depth::{LIMIT, begun_statement, ended, higher, opened, room_behind};
 use crate::expressions::expression;
 use crate::stop::ReadError;
 use crate::tokens::{
-    Keyword, Source, begins_specs, expect, expect_word, take, take_keyword, take_pragma, take_word,
+    Jump, Keyword, Source, begins_specs, expect, expect_word, take, take_keyword, take_pragma,
+    take_word,
 };
 use ec_grammar::tree::{
     Compound, Condition, Expression, First, Heading, Item, Pragma, Spot, Statement,
@@ -40,10 +40,9 @@ fn condition(
     left: u8,
     tokens: &[Token],
 ) -> Result<(Box<Condition>, u8, &[Token]), ReadError>
-    ensures read { Gives (λ x. (view_condition x.0.value, leaves_of source.count x.2.now)) result
+    ensures { Reads (λ x. (view_condition x.0.value, leaves_of source.count x.2.now))
+        (λ x. IsHeight 64 (height_condition (view_condition x.0.value)) x.1) result
         (condition_by (within 64 left) (leaves_of source.count tokens.now)) }
-    ensures height { IfOk result (λ x. x.1 ≡ height_condition (view_condition x.0.value)) }
-    ensures within { IfOk result (λ x. x.1 ≤ 64) }
 {
     let (opening, rest) = expect(source, tokens, PunctKind::LeftParenthesis)?;
     let left = opened(source, left, rest)?;
@@ -69,12 +68,9 @@ fn optional(
     end: PunctKind,
     tokens: &[Token],
 ) -> Result<(Option<Box<Expression>>, Spot, u8, &[Token]), ReadError>
-    ensures read { Gives
-        (λ x. ((view_option (λ e. view_expression e.value) x.0, x.1), leaves_of source.count x.3.now)) result
+    ensures { Reads (λ x. ((view_option (λ e. view_expression e.value) x.0, x.1), leaves_of source.count x.3.now))
+        (λ x. IsHeight 64 (height_option height_expression (view_option (λ e. view_expression e.value) x.0)) x.2) result
         (optional_by (expression_by (within 64 left) 64) end (leaves_of source.count tokens.now)) }
-    ensures height { IfOk result
-        (λ x. x.2 ≡ height_option height_expression (view_option (λ e. view_expression e.value) x.0)) }
-    ensures within { IfOk result (λ x. x.2 ≤ 64) }
 {
     if let Some((end, rest)) = take(source, tokens, end) {
         return Ok((None, end, 0, rest));
@@ -101,14 +97,13 @@ fn first(
     left: u8,
     tokens: &[Token],
 ) -> Result<(Box<First>, u8, &[Token]), ReadError>
-    ensures read { Gives (λ x. (view_first x.0.value, leaves_of source.count x.2.now)) result
+    ensures { Reads (λ x. (view_first x.0.value, leaves_of source.count x.2.now))
+        (λ x. IsHeight 64 (height_first (view_first x.0.value)) x.1) result
         (first_by (inner_at left) (leaves_of source.count tokens.now)) }
-    ensures height { IfOk result (λ x. x.1 ≡ height_first (view_first x.0.value)) }
-    ensures within { IfOk result (λ x. x.1 ≤ 64) }
 {
     if begins_specs(source, tokens) {
         let (declaration, height, rest) = declaration(source, left, tokens)?;
-        let tree = boxed(source, First::Declared(declaration))?;
+        let tree = boxed(source, First::Declared(Box::into_inner(declaration)))?;
         return Ok((tree, height, rest));
     }
     let (value, end, height, rest) = optional(source, left, PunctKind::Semicolon, tokens)?;
@@ -123,10 +118,9 @@ fn heading(
     left: u8,
     tokens: &[Token],
 ) -> Result<(Box<Heading>, u8, &[Token]), ReadError>
-    ensures read { Gives (λ x. (view_heading x.0.value, leaves_of source.count x.2.now)) result
+    ensures { Reads (λ x. (view_heading x.0.value, leaves_of source.count x.2.now))
+        (λ x. IsHeight 64 (height_heading (view_heading x.0.value)) x.1) result
         (heading_by (within 64 left) (leaves_of source.count tokens.now)) }
-    ensures height { IfOk result (λ x. x.1 ≡ height_heading (view_heading x.0.value)) }
-    ensures within { IfOk result (λ x. x.1 ≤ 64) }
 {
     let (opening, rest) = expect(source, tokens, PunctKind::LeftParenthesis)?;
     let left = opened(source, left, rest)?;
@@ -182,26 +176,65 @@ fn pragmas(source: Source, tokens: &[Token]) -> Result<(Vec<Pragma>, &[Token]), 
 
 // Compound statements.
 
+/// The item in a box of its own, with its height.
+fn listed(
+    source: Source,
+    tree: Item,
+    height: u8,
+    tokens: &[Token],
+) -> Result<Option<(Box<Item>, u8, &[Token])>, ReadError>
+    requires { IsHeight 64 (height_item (view_item tree)) height }
+    ensures { ReadsAt (λ x. (view_item x.0.value, leaves_of source.count x.2.now))
+        (λ x. IsHeight 64 (height_item (view_item x.0.value)) x.1) result
+        (Some (made (view_item tree) (leaves_of source.count tokens.now))) }
+{
+    let tree = boxed(source, tree)?;
+    Ok(Some((tree, height, tokens)))
+}
+
+/// A declaration as an item.
+fn declared_item(
+    source: Source,
+    left: u8,
+    tokens: &[Token],
+) -> Result<Option<(Box<Item>, u8, &[Token])>, ReadError>
+    ensures { ReadsAt (λ x. (view_item x.0.value, leaves_of source.count x.2.now))
+        (λ x. IsHeight 64 (height_item (view_item x.0.value)) x.1) result
+        (Some (declared_item_by (within 64 left) (leaves_of source.count tokens.now))) }
+{
+    let (declaration, height, rest) = declaration(source, left, tokens)?;
+    listed(
+        source,
+        Item::Declaration(Box::into_inner(declaration)),
+        height,
+        rest,
+    )
+}
+
 #[cycle(statements)]
 #[tactic(auto, unfolding(ec_reading::specs::Reading::item_at))]
 fn item(
     source: Source,
     left: u8,
     tokens: &[Token],
-) -> Result<Option<(Item, u8, &[Token])>, ReadError>
-    ensures { ReadsAt (λ x. (view_item x.0, leaves_of source.count x.2.now))
-        (λ x. IsHeight 64 (height_item (view_item x.0)) x.1) result
+) -> Result<Option<(Box<Item>, u8, &[Token])>, ReadError>
+    ensures { ReadsAt (λ x. (view_item x.0.value, leaves_of source.count x.2.now))
+        (λ x. IsHeight 64 (height_item (view_item x.0.value)) x.1) result
         (item_at (within 64 left) (leaves_of source.count tokens.now)) }
 {
     if begins_specs(source, tokens) {
-        let (declaration, height, rest) = declaration(source, left, tokens)?;
-        return Ok(Some((Item::Declaration(declaration), height, rest)));
+        return declared_item(source, left, tokens);
     }
-    if let Some(_) = take(source, tokens, PunctKind::RightBrace) {
+    if take(source, tokens, PunctKind::RightBrace).is_some() {
         return Ok(None);
     }
     let (statement, height, rest) = substatement(source, left, LIMIT, tokens)?;
-    Ok(Some((Item::Statement(Box::into_inner(statement)), height, rest)))
+    listed(
+        source,
+        Item::Statement(Box::into_inner(statement)),
+        height,
+        rest,
+    )
 }
 
 /// Declarations and statements, and their height.
@@ -218,7 +251,7 @@ fn items(source: Source, left: u8, tokens: &[Token]) -> Result<(Vec<Item>, u8, &
         let Some((item, tall, after)) = item(source, left, rest)? else {
             return Ok((all, height, rest));
         };
-        all.push(item)?;
+        add(&mut all, item)?;
         height = higher(height, tall);
         rest = after;
     }
@@ -275,6 +308,40 @@ pub fn compound(
 
 // Statements.
 
+/// The statement in a box of its own, with its height.
+fn stated(
+    source: Source,
+    tree: Statement,
+    height: u8,
+    tokens: &[Token],
+) -> Result<(Box<Statement>, u8, &[Token]), ReadError>
+    requires { height ≡ height_statement (view_statement tree) }
+    ensures { Reads (λ x. (view_statement x.0.value, leaves_of source.count x.2.now))
+        (λ x. IsKnownHeight height (height_statement (view_statement x.0.value)) x.1) result
+        (made (view_statement tree) (leaves_of source.count tokens.now)) }
+{
+    let tree = boxed(source, tree)?;
+    Ok((tree, height, tokens))
+}
+
+/// The same, where the parts have such a height, and the statement may end before these tokens.
+fn finished(
+    source: Source,
+    room: u8,
+    below: u8,
+    tree: Statement,
+    tokens: &[Token],
+) -> Result<(Box<Statement>, u8, &[Token]), ReadError>
+    requires { HasHeightAbove (height_statement (view_statement tree)) below }
+    ensures { Reads (λ x. (view_statement x.0.value, leaves_of source.count x.2.now))
+        (λ x. IsNodeHeight room (height_statement (view_statement x.0.value)) x.1) result
+        (ends room (height_statement (view_statement tree)) (view_statement tree)
+        (leaves_of source.count tokens.now)) }
+{
+    let height = ended(source, room, below, tokens)?;
+    stated(source, tree, height, tokens)
+}
+
 /// A statement inside another one.
 #[cycle(statements)]
 fn substatement(
@@ -300,89 +367,9 @@ fn take_else(source: Source, tokens: &[Token]) -> Option<(Spot, &[Token])>
     take_word(source, tokens, WordKind::Else)
 }
 
-fn if_alone(
-    source: Source,
-    room: u8,
-    word: Spot,
-    test: Box<Condition>,
-    first: Box<Statement>,
-    below: u8,
-    tokens: &[Token],
-) -> Result<(Box<Statement>, u8, &[Token]), ReadError>
-    requires { HasRoomAbove room (max (height_condition (view_condition test.value))
-        (height_statement (view_statement first.value))) below }
-    ensures { Reads (λ x. (view_statement x.0.value, leaves_of source.count x.2.now))
-        (λ x. IsNodeHeight room (height_statement (view_statement x.0.value)) x.1) result
-        (made (t.if_then word (view_condition test.value) (view_statement first.value))
-        (leaves_of source.count tokens.now)) }
-{
-    let tree = boxed(source, Statement::If(word, Box::into_inner(test), first))?;
-    Ok((tree, below + 1, tokens))
-}
-
-/// An `if` with an `else` whose statement was read, with that much room, from these tokens.
-fn if_else<'a>(
-    source: Source,
-    left: u8,
-    room: u8,
-    word: Spot,
-    test: Box<Condition>,
-    first: Box<Statement>,
-    below: u8,
-    other: Spot,
-    last: u8,
-    tokens: &[Token],
-    second: Result<(Box<Statement>, u8, &'a [Token]), ReadError>,
-) -> Result<(Box<Statement>, u8, &'a [Token]), ReadError>
-    requires room { HasLast room (max (height_condition (view_condition test.value))
-        (height_statement (view_statement first.value))) below last }
-    requires second { Reads (λ x. (view_statement x.0.value, leaves_of source.count x.2.now))
-        (λ x. IsNodeHeight last (height_statement (view_statement x.0.value)) x.1) second
-        (substatement (within 64 left) last (leaves_of source.count tokens.now)) }
-    ensures { Reads (λ x. (view_statement x.0.value, leaves_of source.count x.2.now))
-        (λ x. IsNodeHeight room (height_statement (view_statement x.0.value)) x.1) result
-        (else_after (within 64 left) room word (view_condition test.value) (view_statement first.value) other
-        (leaves_of source.count tokens.now)) }
-{
-    let (second, height, rest) = second?;
-    let test = Box::into_inner(test);
-    let tree = boxed(source, Statement::IfElse(word, test, first, other, second))?;
-    Ok((tree, higher(below, height) + 1, rest))
-}
-
-/// What follows the first statement of an `if`: an `else` that follows belongs to it.
+/// A selection statement (6.8.4.1): an `else` belongs to the `if` right before it.
 #[cycle(statements)]
-#[tactic(auto, unfolding(ec_reading::specs::Reading::else_by))]
-fn otherwise(
-    source: Source,
-    left: u8,
-    room: u8,
-    word: Spot,
-    test: Box<Condition>,
-    first: Box<Statement>,
-    below: u8,
-    tokens: &[Token],
-) -> Result<(Box<Statement>, u8, &[Token]), ReadError>
-    requires { HasRoomAbove room (max (height_condition (view_condition test.value))
-        (height_statement (view_statement first.value))) below }
-    ensures { Reads (λ x. (view_statement x.0.value, leaves_of source.count x.2.now))
-        (λ x. IsNodeHeight room (height_statement (view_statement x.0.value)) x.1) result
-        (else_by (within 64 left) room word (view_condition test.value) (view_statement first.value)
-        (leaves_of source.count tokens.now)) }
-{
-    let Some((other, rest)) = take_else(source, tokens) else {
-        return if_alone(source, room, word, test, first, below, tokens);
-    };
-    let last = room_behind(room, below);
-    let second = substatement(source, left, last, rest);
-    if_else(
-        source, left, room, word, test, first, below, other, last, rest, second,
-    )
-}
-
-/// A selection statement (6.8.4.1).
-#[cycle(statements)]
-#[tactic(auto, unfolding(ec_reading::specs::Reading::if_by))]
+#[tactic(auto, unfolding(ec_reading::specs::Reading::if_by, ec_reading::specs::Reading::else_by))]
 fn selection(
     source: Source,
     left: u8,
@@ -399,32 +386,14 @@ fn selection(
     let last = room_behind(room, test_height);
     let (first, height, rest) = substatement(source, left, last, rest)?;
     let below = higher(test_height, height);
-    otherwise(source, left, room, word, test, first, below, rest)
-}
-
-/// A `while` whose body was read, with that much room, from these tokens.
-fn while_end<'a>(
-    source: Source,
-    left: u8,
-    room: u8,
-    word: Spot,
-    test: Box<Condition>,
-    below: u8,
-    last: u8,
-    tokens: &[Token],
-    body: Result<(Box<Statement>, u8, &'a [Token]), ReadError>,
-) -> Result<(Box<Statement>, u8, &'a [Token]), ReadError>
-    requires room { HasLast room (height_condition (view_condition test.value)) below last }
-    requires body { Reads (λ x. (view_statement x.0.value, leaves_of source.count x.2.now))
-        (λ x. IsNodeHeight last (height_statement (view_statement x.0.value)) x.1) body
-        (substatement (within 64 left) last (leaves_of source.count tokens.now)) }
-    ensures { Reads (λ x. (view_statement x.0.value, leaves_of source.count x.2.now))
-        (λ x. IsNodeHeight room (height_statement (view_statement x.0.value)) x.1) result
-        (while_after (within 64 left) room word (view_condition test.value) (leaves_of source.count tokens.now)) }
-{
-    let (body, height, rest) = body?;
-    let tree = boxed(source, Statement::While(word, Box::into_inner(test), body))?;
-    Ok((tree, higher(below, height) + 1, rest))
+    let Some((other, rest)) = take_else(source, rest) else {
+        let tree = Statement::If(word, Box::into_inner(test), first);
+        return stated(source, tree, below + 1, rest);
+    };
+    let last = room_behind(room, below);
+    let (second, height, rest) = substatement(source, left, last, rest)?;
+    let tree = Statement::IfElse(word, Box::into_inner(test), first, other, second);
+    stated(source, tree, higher(below, height) + 1, rest)
 }
 
 /// A `while` (6.8.5.1).
@@ -444,33 +413,9 @@ fn loop_while(
 {
     let (test, below, rest) = condition(source, left, tokens)?;
     let last = room_behind(room, below);
-    let body = substatement(source, left, last, rest);
-    while_end(source, left, room, word, test, below, last, rest, body)
-}
-
-/// A `for` whose body was read, with that much room, from these tokens.
-fn for_end<'a>(
-    source: Source,
-    left: u8,
-    room: u8,
-    word: Spot,
-    heading: Box<Heading>,
-    below: u8,
-    last: u8,
-    tokens: &[Token],
-    body: Result<(Box<Statement>, u8, &'a [Token]), ReadError>,
-) -> Result<(Box<Statement>, u8, &'a [Token]), ReadError>
-    requires room { HasLast room (height_heading (view_heading heading.value)) below last }
-    requires body { Reads (λ x. (view_statement x.0.value, leaves_of source.count x.2.now))
-        (λ x. IsNodeHeight last (height_statement (view_statement x.0.value)) x.1) body
-        (substatement (within 64 left) last (leaves_of source.count tokens.now)) }
-    ensures { Reads (λ x. (view_statement x.0.value, leaves_of source.count x.2.now))
-        (λ x. IsNodeHeight room (height_statement (view_statement x.0.value)) x.1) result
-        (for_after (within 64 left) room word (view_heading heading.value) (leaves_of source.count tokens.now)) }
-{
-    let (body, height, rest) = body?;
-    let tree = boxed(source, Statement::For(word, Box::into_inner(heading), body))?;
-    Ok((tree, higher(below, height) + 1, rest))
+    let (body, height, rest) = substatement(source, left, last, rest)?;
+    let tree = Statement::While(word, Box::into_inner(test), body);
+    stated(source, tree, higher(below, height) + 1, rest)
 }
 
 /// A `for` (6.8.5.3).
@@ -490,11 +435,28 @@ fn loop_for(
 {
     let (heading, below, rest) = heading(source, left, tokens)?;
     let last = room_behind(room, below);
-    let body = substatement(source, left, last, rest);
-    for_end(source, left, room, word, heading, below, last, rest, body)
+    let (body, height, rest) = substatement(source, left, last, rest)?;
+    let tree = Statement::For(word, Box::into_inner(heading), body);
+    stated(source, tree, higher(below, height) + 1, rest)
 }
 
-/// What follows the body of a `do`.
+/// What follows the body of a `do`: the word, the condition, the semicolon and the condition's height.
+fn again(
+    source: Source,
+    left: u8,
+    tokens: &[Token],
+) -> Result<(Spot, Box<Condition>, Spot, u8, &[Token]), ReadError>
+    ensures { Reads (λ x. ((x.0, view_condition x.1.value, x.2), leaves_of source.count x.4.now))
+        (λ x. IsHeight 64 (height_condition (view_condition x.1.value)) x.3) result
+        (again_by (within 64 left) (leaves_of source.count tokens.now)) }
+{
+    let (word, rest) = expect_word(source, tokens, WordKind::While)?;
+    let (test, height, rest) = condition(source, left, rest)?;
+    let (semicolon, rest) = expect(source, rest, PunctKind::Semicolon)?;
+    Ok((word, test, semicolon, height, rest))
+}
+
+/// A `do` whose body stands before the tokens.
 fn do_end(
     source: Source,
     left: u8,
@@ -509,13 +471,10 @@ fn do_end(
         (λ x. IsNodeHeight room (height_statement (view_statement x.0.value)) x.1) result
         (do_after (within 64 left) room word (view_statement body.value) (leaves_of source.count tokens.now)) }
 {
-    let (again, rest) = expect_word(source, tokens, WordKind::While)?;
-    let (test, test_height, rest) = condition(source, left, rest)?;
-    let (semicolon, rest) = expect(source, rest, PunctKind::Semicolon)?;
-    let height = ended(source, room, higher(body_height, test_height), rest)?;
+    let (again, test, semicolon, test_height, rest) = again(source, left, tokens)?;
     let test = Box::into_inner(test);
-    let tree = boxed(source, Statement::Do(word, body, again, test, semicolon))?;
-    Ok((tree, height, rest))
+    let tree = Statement::Do(word, body, again, test, semicolon);
+    finished(source, room, higher(body_height, test_height), tree, rest)
 }
 
 /// A `do` (6.8.5.2).
@@ -537,58 +496,41 @@ fn loop_do(
     do_end(source, left, room, word, body, height, rest)
 }
 
-/// A `break` (6.8.6.3).
-fn break_loop(
-    source: Source,
-    room: u8,
-    word: Spot,
-    tokens: &[Token],
-) -> Result<(Box<Statement>, u8, &[Token]), ReadError>
-    ensures { Reads (λ x. (view_statement x.0.value, leaves_of source.count x.2.now))
-        (λ x. IsNodeHeight room (height_statement (view_statement x.0.value)) x.1) result
-        (break_by room word (leaves_of source.count tokens.now)) }
-{
-    let (semicolon, rest) = expect(source, tokens, PunctKind::Semicolon)?;
-    let height = ended(source, room, 0, rest)?;
-    let tree = boxed(source, Statement::Break(word, semicolon))?;
-    Ok((tree, height, rest))
-}
-
-/// A `continue` (6.8.6.2).
-fn continue_loop(
-    source: Source,
-    room: u8,
-    word: Spot,
-    tokens: &[Token],
-) -> Result<(Box<Statement>, u8, &[Token]), ReadError>
-    ensures { Reads (λ x. (view_statement x.0.value, leaves_of source.count x.2.now))
-        (λ x. IsNodeHeight room (height_statement (view_statement x.0.value)) x.1) result
-        (continue_by room word (leaves_of source.count tokens.now)) }
-{
-    let (semicolon, rest) = expect(source, tokens, PunctKind::Semicolon)?;
-    let height = ended(source, room, 0, rest)?;
-    let tree = boxed(source, Statement::Continue(word, semicolon))?;
-    Ok((tree, height, rest))
-}
-
-/// A `return` (6.8.6.4).
+/// A `break`, a `continue` or a `return` (6.8.6).
 #[tactic(auto, unfolding(ec_reading::specs::Reading::return_by))]
-fn returned(
+fn jumped(
     source: Source,
     left: u8,
     room: u8,
     word: Spot,
+    jump: Jump,
     tokens: &[Token],
 ) -> Result<(Box<Statement>, u8, &[Token]), ReadError>
     requires { room ≤ 64 }
     ensures { Reads (λ x. (view_statement x.0.value, leaves_of source.count x.2.now))
         (λ x. IsNodeHeight room (height_statement (view_statement x.0.value)) x.1) result
-        (return_by (within 64 left) room word (leaves_of source.count tokens.now)) }
+        (worded_by (within 64 left) room word (view_jump jump) (leaves_of source.count tokens.now)) }
 {
-    let (value, semicolon, below, rest) = optional(source, left, PunctKind::Semicolon, tokens)?;
-    let height = ended(source, room, below, rest)?;
-    let tree = boxed(source, Statement::Return(word, unboxed(value), semicolon))?;
-    Ok((tree, height, rest))
+    match jump {
+        Jump::Break => {
+            let (semicolon, rest) = expect(source, tokens, PunctKind::Semicolon)?;
+            finished(source, room, 0, Statement::Break(word, semicolon), rest)
+        }
+        Jump::Continue => {
+            let (semicolon, rest) = expect(source, tokens, PunctKind::Semicolon)?;
+            finished(source, room, 0, Statement::Continue(word, semicolon), rest)
+        }
+        Jump::Return => {
+            let (value, semicolon, below, rest) = optional(
+                source,
+                left,
+                PunctKind::Semicolon,
+                tokens,
+            )?;
+            let tree = Statement::Return(word, unboxed(value), semicolon);
+            finished(source, room, below, tree, rest)
+        }
+    }
 }
 
 /// What follows the word that begins a statement.
@@ -611,9 +553,7 @@ fn worded(
         Keyword::While => loop_while(source, left, room, word, tokens),
         Keyword::Do => loop_do(source, left, room, word, tokens),
         Keyword::For => loop_for(source, left, room, word, tokens),
-        Keyword::Break => break_loop(source, room, word, tokens),
-        Keyword::Continue => continue_loop(source, room, word, tokens),
-        Keyword::Return => returned(source, left, room, word, tokens),
+        Keyword::Jump(jump) => jumped(source, left, room, word, jump, tokens),
     }
 }
 
@@ -631,15 +571,33 @@ fn simple(
         (simple_by (within 64 left) room (leaves_of source.count tokens.now)) }
 {
     let (value, semicolon, below, rest) = optional(source, left, PunctKind::Semicolon, tokens)?;
-    let height = ended(source, room, below, rest)?;
-    let tree = boxed(source, Statement::Simple(unboxed(value), semicolon))?;
-    Ok((tree, height, rest))
+    let tree = Statement::Simple(unboxed(value), semicolon);
+    finished(source, room, below, tree, rest)
 }
 
 fn block(compound: Compound) -> Statement
     ensures { view_statement result ≡ t.block (view_compound compound) }
 {
     Statement::Compound(compound)
+}
+
+/// A compound statement, read with that much room from these tokens, as a statement.
+fn blocked<'a>(
+    source: Source,
+    left: u8,
+    room: u8,
+    tokens: &[Token],
+    compound: Result<(Compound, u8, &'a [Token]), ReadError>,
+) -> Result<(Box<Statement>, u8, &'a [Token]), ReadError>
+    requires { Reads (λ x. (view_compound x.0, leaves_of source.count x.2.now))
+        (λ x. IsNodeHeight room (height_compound (view_compound x.0)) x.1) compound
+        (compound_by (within 64 left) room (leaves_of source.count tokens.now)) }
+    ensures { Reads (λ x. (view_statement x.0.value, leaves_of source.count x.2.now))
+        (λ x. IsNodeHeight room (height_statement (view_statement x.0.value)) x.1) result
+        (block_by (within 64 left) room (leaves_of source.count tokens.now)) }
+{
+    let (compound, height, rest) = compound?;
+    stated(source, block(compound), height, rest)
 }
 
 /// A statement that has begun (6.8).
@@ -659,10 +617,9 @@ fn statement(
     if let Some((word, keyword, rest)) = take_keyword(source, tokens) {
         return worded(source, left, room, word, keyword, rest);
     }
-    if let Some(_) = take(source, tokens, PunctKind::LeftBrace) {
-        let (compound, height, rest) = compound(source, left, room, tokens)?;
-        let tree = boxed(source, block(compound))?;
-        return Ok((tree, height, rest));
+    if take(source, tokens, PunctKind::LeftBrace).is_some() {
+        let compound = compound(source, left, room, tokens);
+        return blocked(source, left, room, tokens, compound);
     }
     simple(source, left, room, tokens)
 }

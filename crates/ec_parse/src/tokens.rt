@@ -398,6 +398,12 @@ pub enum Keyword {
     While,
     Do,
     For,
+    Jump(Jump),
+}
+
+/// The words of jump statements (6.8.6).
+#[derive(Clone, Copy)]
+pub enum Jump {
     Break,
     Continue,
     Return,
@@ -411,9 +417,9 @@ fn keyword_of(word: WordKind) -> Option<Keyword>
         WordKind::While => Some(Keyword::While),
         WordKind::Do => Some(Keyword::Do),
         WordKind::For => Some(Keyword::For),
-        WordKind::Break => Some(Keyword::Break),
-        WordKind::Continue => Some(Keyword::Continue),
-        WordKind::Return => Some(Keyword::Return),
+        WordKind::Break => Some(Keyword::Jump(Jump::Break)),
+        WordKind::Continue => Some(Keyword::Jump(Jump::Continue)),
+        WordKind::Return => Some(Keyword::Jump(Jump::Return)),
         _ => None,
     }
 }

@@ -1,15 +1,17 @@
 //! Units (ISO/IEC 9899:1999, 6.9; named registers: ISO/IEC TR 18037:2008, 5.2.2).
 
-ghost use Rattle.std.specs.Prelude.{map};
+ghost use Rattle.std.specs.Prelude.{◌≡◌, Some, map};
 ghost use Rattle.ec_grammar.specs.Trees.{function_item};
-ghost use Rattle.ec_grammar.specs.Views.{view_identifier, view_specs, view_declarator, view_structure};
-ghost use Rattle.ec_grammar.specs.Views.{view_register_object, view_function, view_external, view_tree};
-ghost use Rattle.ec_reading.specs.Reading.{within, many, structure_at, structure_by, register_by, function_at};
+ghost use Rattle.ec_grammar.specs.Views.{view_identifier, view_specs, view_declarator};
+ghost use Rattle.ec_grammar.specs.Views.{view_function, view_external, view_tree, view_compound};
+ghost use Rattle.ec_grammar.specs.Nesting.{height_declarator};
+ghost use Rattle.ec_reading.specs.Reading.{within, many, structure_at, function_at};
 ghost use Rattle.ec_reading.specs.Reading.{defined_by, external_at, unit_by, read};
-ghost use Rattle.ec_parse.specs.Reads.{leaves_of, Gives, GivesAt, GivesFirst};
-ghost use Rattle.ec_parse.specs.Units.{IsHead, view_head, function_by};
+ghost use Rattle.ec_parse.specs.Reads.{leaves_of, made, Gives, GivesAt, GivesFirst, IsHeight};
+ghost use Rattle.ec_parse.specs.Units.{IsHead, view_head, function_with, function_by, declared_item_by};
+ghost use Rattle.ec_parse.specs.Units.{structure_item_by, register_item_by};
 
-use crate::boxes::boxed;
+use crate::boxes::{add, boxed};
 use crate::declarations::{declarator, declared, member, more_members};
 use crate::depth::{LIMIT, begun_body};
 use crate::statements::compound;
@@ -20,11 +22,26 @@ use crate::tokens::{
 };
 use crate::types::specs;
 use ec_grammar::tree::{
-    Declarator, External, Function, Identifier, Params, RegisterObject, Shape, Specs, Spot,
-    Structure, Tree, TypeName,
+    Compound, Declarator, External, Function, Identifier, Params, RegisterObject, Shape, Specs,
+    Spot, Structure, Tree, TypeName,
 };
 use ec_grammar::{PunctKind, Token, WordKind};
 use ec_space::NoMemory;
+
+// Parts of units.
+
+/// The part of a unit in a box of its own.
+fn listed(
+    source: Source,
+    tree: External,
+    tokens: &[Token],
+) -> Result<Option<(Box<External>, &[Token])>, ReadError>
+    ensures { GivesAt (λ x. (view_external x.0.value, leaves_of source.count x.1.now)) result
+        (Some (made (view_external tree) (leaves_of source.count tokens.now))) }
+{
+    let tree = boxed(source, tree)?;
+    Ok(Some((tree, tokens)))
+}
 
 // Structs.
 
@@ -58,9 +75,9 @@ fn structure(
     tag: Identifier,
     opening: Spot,
     tokens: &[Token],
-) -> Result<(Structure, &[Token]), ReadError>
-    ensures { Gives (λ x. (view_structure x.0, leaves_of source.count x.1.now)) result
-        (structure_by (within 64 left) word (view_identifier tag) opening (leaves_of source.count tokens.now)) }
+) -> Result<Option<(Box<External>, &[Token])>, ReadError>
+    ensures { GivesAt (λ x. (view_external x.0.value, leaves_of source.count x.1.now)) result
+        (Some (structure_item_by (within 64 left) word (view_identifier tag) opening (leaves_of source.count tokens.now))) }
 {
     let (first, rest) = member(source, left, tokens)?;
     let (more, rest) = more_members(source, left, rest)?;
@@ -75,7 +92,7 @@ fn structure(
         closing,
         semicolon,
     };
-    Ok((tree, rest))
+    listed(source, External::Structure(tree), rest)
 }
 
 /// What follows the word `register`.
@@ -84,9 +101,9 @@ fn register(
     source: Source,
     word: Spot,
     tokens: &[Token],
-) -> Result<(RegisterObject, &[Token]), ReadError>
-    ensures { Gives (λ x. (view_register_object x.0, leaves_of source.count x.1.now)) result
-        (register_by word (leaves_of source.count tokens.now)) }
+) -> Result<Option<(Box<External>, &[Token])>, ReadError>
+    ensures { GivesAt (λ x. (view_external x.0.value, leaves_of source.count x.1.now)) result
+        (Some (register_item_by word (leaves_of source.count tokens.now))) }
 {
     let (register, rest) = expect_name(source, tokens)?;
     let (specs, rest) = specs(source, rest)?;
@@ -99,7 +116,7 @@ fn register(
         name,
         semicolon,
     };
-    Ok((tree, rest))
+    listed(source, External::Register(tree), rest)
 }
 
 // Functions and declarations.
@@ -148,51 +165,75 @@ fn head_of(
     }
 }
 
-/// The function whose body begins here.
-fn function(
-    source: Source,
-    left: u8,
-    head: Box<Head>,
-    tokens: &[Token],
-) -> Result<(Function, &[Token]), ReadError>
-    ensures { Gives (λ x. (function_item (view_function x.0), leaves_of source.count x.1.now)) result
-        (function_by (within 64 left) (view_head head.value) (leaves_of source.count tokens.now)) }
+/// The function of these parts, which has this body.
+fn function_of(head: Head, body: Compound) -> Function
+    ensures { function_item (view_function result) ≡ function_with (view_head head) (view_compound body) }
 {
-    let left = begun_body(source, left, tokens)?;
-    let (body, _, rest) = compound(source, left, LIMIT, tokens)?;
-    let head = Box::into_inner(head);
-    let tree = Function {
+    Function {
         result: head.result,
         name: head.name,
         opening: head.opening,
         params: head.params,
         closing: head.closing,
         body,
-    };
-    Ok((tree, rest))
+    }
+}
+
+/// The function whose body begins here.
+fn function(
+    source: Source,
+    left: u8,
+    head: Head,
+    tokens: &[Token],
+) -> Result<Option<(Box<External>, &[Token])>, ReadError>
+    ensures { GivesAt (λ x. (view_external x.0.value, leaves_of source.count x.1.now)) result
+        (Some (function_by (within 64 left) (view_head head) (leaves_of source.count tokens.now))) }
+{
+    let left = begun_body(source, left, tokens)?;
+    let (body, _, rest) = compound(source, left, LIMIT, tokens)?;
+    listed(source, External::Function(function_of(head, body)), rest)
+}
+
+/// The declaration whose specifiers and first declarator stand before the tokens.
+fn declared_item(
+    source: Source,
+    left: u8,
+    specs: Specs,
+    declarator: Declarator,
+    height: u8,
+    tokens: &[Token],
+) -> Result<Option<(Box<External>, &[Token])>, ReadError>
+    requires { IsHeight 64 (height_declarator (view_declarator declarator)) height }
+    ensures { GivesAt (λ x. (view_external x.0.value, leaves_of source.count x.1.now)) result
+        (Some (declared_item_by (within 64 left) (view_specs specs) (view_declarator declarator)
+        (leaves_of source.count tokens.now))) }
+{
+    let declarator = boxed(source, declarator)?;
+    let specs = boxed(source, specs)?;
+    let (tree, _, rest) = declared(source, left, specs, declarator, height, tokens)?;
+    listed(source, External::Declaration(Box::into_inner(tree)), rest)
 }
 
 /// A function, where the brace of a body follows a declarator of one; else a declaration.
 #[tactic(auto, unfolding(ec_reading::specs::Reading::defined_by))]
-fn defined(source: Source, left: u8, tokens: &[Token]) -> Result<(External, &[Token]), ReadError>
-    ensures { Gives (λ x. (view_external x.0, leaves_of source.count x.1.now)) result
-        (defined_by (within 64 left) (leaves_of source.count tokens.now)) }
+fn defined(
+    source: Source,
+    left: u8,
+    tokens: &[Token],
+) -> Result<Option<(Box<External>, &[Token])>, ReadError>
+    ensures { GivesAt (λ x. (view_external x.0.value, leaves_of source.count x.1.now)) result
+        (Some (defined_by (within 64 left) (leaves_of source.count tokens.now))) }
 {
     let (specs, rest) = specs(source, tokens)?;
     let (declarator, height, rest) = declarator(source, left, rest)?;
-    let (specs, declarator) = (Box::into_inner(specs), Box::into_inner(declarator));
-    match head_of(source, specs, declarator, rest) {
-        Ok(head) => {
-            let head = boxed(source, head)?;
-            let (function, rest) = function(source, left, head, rest)?;
-            Ok((External::Function(function), rest))
-        }
-        Err((specs, declarator)) => {
-            let declarator = boxed(source, declarator)?;
-            let specs = boxed(source, specs)?;
-            let (tree, _, rest) = declared(source, left, specs, declarator, height, rest)?;
-            Ok((External::Declaration(tree), rest))
-        }
+    match head_of(
+        source,
+        Box::into_inner(specs),
+        Box::into_inner(declarator),
+        rest,
+    ) {
+        Ok(head) => function(source, left, head, rest),
+        Err((specs, declarator)) => declared_item(source, left, specs, declarator, height, rest),
     }
 }
 
@@ -203,24 +244,21 @@ fn external(
     source: Source,
     left: u8,
     tokens: &[Token],
-) -> Result<Option<(External, &[Token])>, ReadError>
-    ensures { GivesAt (λ x. (view_external x.0, leaves_of source.count x.1.now)) result
+) -> Result<Option<(Box<External>, &[Token])>, ReadError>
+    ensures { GivesAt (λ x. (view_external x.0.value, leaves_of source.count x.1.now)) result
         (external_at (within 64 left) (leaves_of source.count tokens.now)) }
 {
     if let Some((pragma, rest)) = take_pragma(source, tokens) {
-        return Ok(Some((External::Pragma(pragma), rest)));
+        return listed(source, External::Pragma(pragma), rest);
     }
     if let Some((word, tag, opening, rest)) = structure_head(source, tokens)? {
-        let (tree, rest) = structure(source, left, word, tag, opening, rest)?;
-        return Ok(Some((External::Structure(tree), rest)));
+        return structure(source, left, word, tag, opening, rest);
     }
     if let Some((word, rest)) = take_word(source, tokens, WordKind::Register) {
-        let (tree, rest) = register(source, word, rest)?;
-        return Ok(Some((External::Register(tree), rest)));
+        return register(source, word, rest);
     }
     if begins_specs(source, tokens) {
-        let (tree, rest) = defined(source, left, tokens)?;
-        return Ok(Some((tree, rest)));
+        return defined(source, left, tokens);
     }
     Ok(None)
 }
@@ -240,7 +278,7 @@ fn externals(
         let Some((item, after)) = external(source, left, rest)? else {
             return Ok((all, rest));
         };
-        all.push(item)?;
+        add(&mut all, item)?;
         rest = after;
     }
     Ok((all, rest))

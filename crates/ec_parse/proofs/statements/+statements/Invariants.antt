@@ -24,9 +24,6 @@ decreases-loop_for l = 1000 * l.left + 3
 abbrev pub decreases-loop_while : goal.decreases-loop_while
 decreases-loop_while l = 1000 * l.left + 3
 
-abbrev pub decreases-otherwise : goal.decreases-otherwise
-decreases-otherwise l = 1000 * l.left + 2
-
 abbrev pub decreases-selection : goal.decreases-selection
 decreases-selection l = 1000 * l.left + 3
 

@@ -16,7 +16,7 @@ returns-in_default c = stops_at (external_at (within 64 c.args.left)) (map view_
 pub loop-preserved : goal.loop-preserved
 loop-preserved c =
     more (external_at (within 64 c.args.left)) (map view_external c.loop.all.items) _ _ c.loop.counter _ _ _ _ c.loop-test.true (rw c.in-Some.is at c.in_ok-item.ensures)
-    (ap (map view_external) c.in_ok-push.ensures.items ∙ map_push view_external c.loop.all.items c.in-Some.item) c.loop.invariant
+    (ap (map view_external) c.in_ok-add.ensures.items ∙ map_push view_external c.loop.all.items c.in-Some.item.value) c.loop.invariant
 
 pub returns : goal.returns
 returns c = is_done (external_at (within 64 c.args.left)) (map view_external c.loop.all.items) _ c.loop.counter _ _ c.loop-test.false c.loop.invariant
