@@ -56,8 +56,8 @@ fn check(rt: &impl Abort, to: Format, want: Want, plain: Fx, saturating: Fx) {
         Clamps(n) => (n, false),
     };
     let got = Fx::Got(Fixed { format: to, n });
-    assert_eq!(rt; saturating, got);
-    assert_eq!(rt; plain, if fits { got } else { Fx::Overflow });
+    let wanted = if fits { got } else { Fx::Overflow };
+    assert!(rt; saturating == got && plain == wanted, "{want:?}");
 }
 
 fn format(rt: &impl Abort, kind: Option<FxKind>) -> Format

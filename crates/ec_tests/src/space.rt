@@ -1,8 +1,10 @@
 //! Lists as keys, pointers as bytes, cells and memory, on values worked out by hand.
 
 use ec_space::{
-    Bank, Cell, Core, Data, Flash, Generic, Mem, Name, Place, Pointer, Seq, Space, SpaceId, Within,
+    Bank, Cell, Core, Data, Flash, Generic, Mem, Name, NoMemory, Place, Pointer, Seq, Space,
+    SpaceId, Within,
 };
+use std::alloc::Global;
 use std::collections::HashMap;
 use std::test::Fail;
 
@@ -53,34 +55,44 @@ fn is_kept_as<T: Cell + Copy + PartialEq + Drop>(v: T, b: [u8; 8]) -> bool {
     v.to_bytes() == b && T::from_bytes(b) == v
 }
 
-#[test]
-fn lays_out_each_type(rt: HostRuntime) -> Result<(), Fail> {
-    assert!(rt; is_kept_as(129u8, [0x81, 0, 0, 0, 0, 0, 0, 0]));
-    assert!(rt; is_kept_as(-127i8, [0x81, 0, 0, 0, 0, 0, 0, 0]));
-    assert!(rt; is_kept_as(32_767u16, [0xFF, 0x7F, 0, 0, 0, 0, 0, 0]));
-    assert!(rt; is_kept_as(-23_131i16, [0xA5, 0xA5, 0, 0, 0, 0, 0, 0]));
-    assert!(rt; is_kept_as(100_000u32, [0xA0, 0x86, 0x01, 0, 0, 0, 0, 0]));
-    assert!(rt; is_kept_as(-2i32, [0xFE, 0xFF, 0xFF, 0xFF, 0, 0, 0, 0]));
-    assert!(rt;
-        is_kept_as(
+fn bytes_are_laid_out() -> bool {
+    is_kept_as(129u8, [0x81, 0, 0, 0, 0, 0, 0, 0])
+        && is_kept_as(-127i8, [0x81, 0, 0, 0, 0, 0, 0, 0])
+        && is_kept_as(32_767u16, [0xFF, 0x7F, 0, 0, 0, 0, 0, 0])
+        && is_kept_as(-23_131i16, [0xA5, 0xA5, 0, 0, 0, 0, 0, 0])
+}
+
+fn wide_numbers_are_laid_out() -> bool {
+    is_kept_as(100_000u32, [0xA0, 0x86, 0x01, 0, 0, 0, 0, 0])
+        && is_kept_as(-2i32, [0xFE, 0xFF, 0xFF, 0xFF, 0, 0, 0, 0])
+        && is_kept_as(
             0x0123_4567_89AB_CDEFu64,
-            [0xEF, 0xCD, 0xAB, 0x89, 0x67, 0x45, 0x23, 0x01]
+            [0xEF, 0xCD, 0xAB, 0x89, 0x67, 0x45, 0x23, 0x01],
         )
-    );
-    assert!(rt; is_kept_as(i64::MIN, [0, 0, 0, 0, 0, 0, 0, 0x80]));
-    Ok(())
+        && is_kept_as(i64::MIN, [0, 0, 0, 0, 0, 0, 0, 0x80])
+}
+
+#[test]
+fn lays_out_each_type(rt: HostRuntime) {
+    assert!(rt; bytes_are_laid_out());
+    assert!(rt; wide_numbers_are_laid_out());
 }
 
 #[test]
 fn joins_nested_spaces(rt: HostRuntime) -> Result<(), Fail> {
-    assert!(rt; SpaceId::Generic.encloses(SpaceId::Data));
-    assert!(rt; !SpaceId::Data.encloses(SpaceId::Generic));
-    assert!(rt; SpaceId::Flash.encloses(SpaceId::Flash));
-    assert_eq!(rt;
-        SpaceId::Data.join(SpaceId::Generic),
-        Some(SpaceId::Generic)
-    );
-    assert_eq!(rt; SpaceId::Data.join(SpaceId::Flash), None);
+    for (outer, inner, want) in [
+        (SpaceId::Generic, SpaceId::Data, true),
+        (SpaceId::Data, SpaceId::Generic, false),
+        (SpaceId::Flash, SpaceId::Flash, true),
+    ] {
+        assert!(rt; outer.encloses(inner) == want);
+    }
+    for (a, b, want) in [
+        (SpaceId::Data, SpaceId::Generic, Some(SpaceId::Generic)),
+        (SpaceId::Data, SpaceId::Flash, None),
+    ] {
+        assert!(rt; a.join(b) == want);
+    }
     Ok(())
 }
 
@@ -110,43 +122,42 @@ fn are_outside<I: Within<O>, O: Space>(table: &[[u8; 3]]) -> bool {
     table.iter().all(|b| I::project(*b).is_none())
 }
 
-#[test]
-fn keeps_pointers_as_bytes(rt: HostRuntime) -> Result<(), Fail> {
-    assert!(rt; are_pointers::<Flash>(&[([0; 3], Pointer::Null), ([0x34, 0x12, 0x00], IN_FLASH)]));
-    assert!(rt; are_pointers::<Data>(&[([0; 3], Pointer::Null), ([0xFF, 0x08, 0x00], IN_DATA)]));
-    assert!(rt;
-        are_pointers::<Generic>(&[
+fn pointers_are_bytes() -> bool {
+    are_pointers::<Flash>(&[([0; 3], Pointer::Null), ([0x34, 0x12, 0x00], IN_FLASH)])
+        && are_pointers::<Data>(&[([0; 3], Pointer::Null), ([0xFF, 0x08, 0x00], IN_DATA)])
+        && are_pointers::<Generic>(&[
             ([0; 3], Pointer::Null),
             ([0x34, 0x12, 0x00], IN_FLASH),
             ([0xFF, 0x08, 0x80], IN_DATA),
         ])
-    );
-    assert!(rt; are_nothing::<Flash>(&[[0x34, 0x12, 0x80]]));
-    assert!(rt; are_nothing::<Data>(&[[0xFF, 0x08, 0x80], [0x00, 0x00, 0x01]]));
-    assert!(rt;
-        are_nothing::<Generic>(&[[0x00, 0x00, 0x80], [0x34, 0x12, 0x01], [0x34, 0x12, 0xFF]])
-    );
-    Ok(())
+}
+
+fn bytes_are_no_pointers() -> bool {
+    are_nothing::<Flash>(&[[0x34, 0x12, 0x80]])
+        && are_nothing::<Data>(&[[0xFF, 0x08, 0x80], [0x00, 0x00, 0x01]])
+        && are_nothing::<Generic>(&[[0x00, 0x00, 0x80], [0x34, 0x12, 0x01], [0x34, 0x12, 0xFF]])
 }
 
 #[test]
-fn converts_between_spaces(rt: HostRuntime) -> Result<(), Fail> {
-    assert!(rt;
-        are_converted::<Data, Generic>(&[
+fn keeps_pointers_as_bytes(rt: HostRuntime) {
+    assert!(rt; pointers_are_bytes());
+    assert!(rt; bytes_are_no_pointers());
+}
+
+fn pointers_are_converted() -> bool {
+    are_converted::<Data, Generic>(&[([0; 3], [0; 3]), ([0xFF, 0x08, 0x00], [0xFF, 0x08, 0x80])])
+        && are_converted::<Flash, Generic>(&[
             ([0; 3], [0; 3]),
-            ([0xFF, 0x08, 0x00], [0xFF, 0x08, 0x80])
+            ([0x34, 0x12, 0x00], [0x34, 0x12, 0x00]),
         ])
-    );
-    assert!(rt;
-        are_converted::<Flash, Generic>(&[
-            ([0; 3], [0; 3]),
-            ([0x34, 0x12, 0x00], [0x34, 0x12, 0x00])
-        ])
-    );
-    assert!(rt; are_converted::<Data, Data>(&[([0xFF, 0x08, 0x00], [0xFF, 0x08, 0x00])]));
+        && are_converted::<Data, Data>(&[([0xFF, 0x08, 0x00], [0xFF, 0x08, 0x00])])
+}
+
+#[test]
+fn converts_between_spaces(rt: HostRuntime) {
+    assert!(rt; pointers_are_converted());
     assert!(rt; are_outside::<Data, Generic>(&[[0x34, 0x12, 0x00], [0x00, 0x00, 0x80]]));
     assert!(rt; are_outside::<Flash, Generic>(&[[0xFF, 0x08, 0x80]]));
-    Ok(())
 }
 
 const fn in_data(offset: u32) -> Place {
@@ -163,41 +174,72 @@ const fn in_flash(offset: u32) -> Place {
     }
 }
 
+/// Whether new memory gives what a reset leaves at the last addresses of each bank, and nothing behind them.
+fn ends_are_empty(alloc: Global) -> Result<bool, NoMemory> {
+    let mem = Mem::new(alloc, Core::Small)?;
+    Ok(
+        mem.load::<Flash, u8>(in_flash(32_767)) == Some(0xFF)
+            && mem.load::<Flash, u8>(in_flash(32_768)).is_none()
+            && mem.load::<Data, u16>(in_data(0x08FE)) == Some(0)
+            && mem.load::<Data, u16>(in_data(0x08FF)).is_none(),
+    )
+}
+
 #[test]
 fn begins_empty(rt: HostRuntime) -> Result<(), Fail> {
-    let mem = Mem::new(rt.alloc(), Core::Small)?;
-    assert_eq!(rt; mem.load::<Flash, u8>(in_flash(32_767)), Some(0xFF));
-    assert_eq!(rt; mem.load::<Flash, u8>(in_flash(32_768)), None);
-    assert_eq!(rt; mem.load::<Data, u16>(in_data(0x08FE)), Some(0));
-    assert_eq!(rt; mem.load::<Data, u16>(in_data(0x08FF)), None);
+    let empty = ends_are_empty(rt.alloc())?;
+    assert!(rt; empty);
     Ok(())
+}
+
+/// Which stores are made, of two that overlap and of three outside.
+fn stores(mem: &mut Mem) -> [bool; 5] {
+    [
+        mem.store::<Data, i32>(in_data(0x0100), -2),
+        mem.store::<Generic, u16>(in_data(0x0102), 0x1234),
+        mem.store::<Generic, u8>(in_flash(0x0100), 1),
+        mem.store::<Flash, u8>(in_data(0x0100), 1),
+        mem.store::<Data, u64>(in_data(0x08F9), 1),
+    ]
+}
+
+/// Whether loads give what was stored.
+fn holds_what_is_stored(mem: &Mem) -> bool {
+    mem.load::<Generic, i16>(in_data(0x0100)) == Some(-2)
+        && mem.load::<Data, u32>(in_data(0x0100)) == Some(0x1234_FFFE)
+        && mem.load::<Flash, i16>(in_data(0x0100)).is_none()
+}
+
+fn stored(alloc: Global) -> Result<([bool; 5], bool), NoMemory> {
+    let mut mem = Mem::new(alloc, Core::Small)?;
+    let stores = stores(&mut mem);
+    Ok((stores, holds_what_is_stored(&mem)))
 }
 
 #[test]
 fn stores_and_loads(rt: HostRuntime) -> Result<(), Fail> {
-    let mut mem = Mem::new(rt.alloc(), Core::Small)?;
-    assert!(rt; mem.store::<Data, i32>(in_data(0x0100), -2));
-    assert!(rt; mem.store::<Generic, u16>(in_data(0x0102), 0x1234));
-    assert_eq!(rt; mem.load::<Generic, i16>(in_data(0x0100)), Some(-2));
-    assert_eq!(rt; mem.load::<Data, u32>(in_data(0x0100)), Some(0x1234_FFFE));
-    assert_eq!(rt; mem.load::<Flash, i16>(in_data(0x0100)), None);
-    assert!(rt; !mem.store::<Generic, u8>(in_flash(0x0100), 1));
-    assert!(rt; !mem.store::<Flash, u8>(in_data(0x0100), 1));
-    assert!(rt; !mem.store::<Data, u64>(in_data(0x08F9), 1));
+    let (stores, held) = stored(rt.alloc())?;
+    assert!(rt; stores == [true, true, false, false, false]);
+    assert!(rt; held);
     Ok(())
+}
+
+/// Whether what is written in windows stands in memory.
+fn windows_are_written(alloc: Global) -> Result<bool, NoMemory> {
+    let mut mem = Mem::new(alloc, Core::Small)?;
+    mem.window_mut(Bank::Flash, 2, 2)
+        .copy_from_slice(&[0x95, 0x98]);
+    mem.window_mut(Bank::Data, 0x005D, 2)
+        .copy_from_slice(&[0xFF, 0x08]);
+    Ok(
+        mem.window(Bank::Flash, 1, 4) == [0xFF, 0x95, 0x98, 0xFF].as_slice()
+            && mem.load::<Data, u16>(in_data(0x005D)) == Some(0x08FF),
+    )
 }
 
 #[test]
 fn lends_its_bytes(rt: HostRuntime) -> Result<(), Fail> {
-    let mut mem = Mem::new(rt.alloc(), Core::Small)?;
-    mem.window_mut(Bank::Flash, 2, 2)
-        .copy_from_slice(&[0x95, 0x98]);
-    assert_eq!(rt;
-        mem.window(Bank::Flash, 1, 4),
-        [0xFF, 0x95, 0x98, 0xFF].as_slice()
-    );
-    mem.window_mut(Bank::Data, 0x005D, 2)
-        .copy_from_slice(&[0xFF, 0x08]);
-    assert_eq!(rt; mem.load::<Data, u16>(in_data(0x005D)), Some(0x08FF));
+    let written = windows_are_written(rt.alloc())?;
+    assert!(rt; written);
     Ok(())
 }

@@ -3,7 +3,9 @@
 #![tactic(auto)]
 
 #[cfg(test)]
-mod limits;
+mod expressions;
+#[cfg(test)]
+mod rows;
 #[cfg(test)]
 mod runs;
 #[cfg(test)]

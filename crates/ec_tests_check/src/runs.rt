@@ -5,7 +5,8 @@
 ghost use Rattle.ec_interp.specs.Views.{HasLayouts};
 ghost use Rattle.ec_iohw.specs.Valid.{ValidIo};
 
-use crate::units::{map, program_of};
+use crate::rows::{Row, Shown, compare};
+use crate::units::{answered, map};
 use ec_core::Program;
 use ec_interp::{Behaviour, Event, PortInput, Run, Told, interpret};
 use ec_iohw::IoTable;
@@ -14,10 +15,8 @@ use std::alloc::Global;
 use std::process::Abort;
 use std::test::Fail;
 
-/// The text of a program, and what it does.
-type Row = (&'static str, &'static str);
-
-static NUMBERS: [Row; 14] = [
+/// Numbers; objects, pointers and spaces; calls and loops.
+static RUNS: [Row; 39] = [
     (
         "int main(void) { return ((12 & 10) << 4) + ((12 | 10) ^ 5) - (char)(~7 >> 1) * (char)(7 > 3) + (1 < 2) + ((2 <= 2) << 1) + ((1 >= 2) << 2) + ((3 != 4) << 3) + ((3 == 4) << 4); }",
         "ends 154",
@@ -74,9 +73,14 @@ static NUMBERS: [Row; 14] = [
         "int main(void) { int a[3] = {1, 2}; int *b = a; return (char)*++b * (char)10 + *--b; }",
         "a=1 a.1=2 a.2=0 b=&a+0 b:&a+0 b=&a+2 a.1:2 b:&a+2 b=&a+0 a:1 ends 21",
     ),
-];
-
-static OBJECTS: [Row; 7] = [
+    (
+        "static int a; int main(void) { int b = 300; a = (char)b; return a; }",
+        "b=300 b:300 a=44 a:44 ends 44",
+    ),
+    (
+        "int main(void) { int a = 4; int b = a++; return b - ++a; }",
+        "a=4 a:4 a=5 b=4 b:4 a:5 a=6 ends -2",
+    ),
     (
         "int main(void) { __data int *a = 0; int *b = a; return b == 0; }",
         "a=null a:null b=null b:null ends 1",
@@ -105,9 +109,31 @@ static OBJECTS: [Row; 7] = [
         "int main(void) { int a[3] = {1, 2}; return (a[0] << 8) + (a[1] << 4) + (&a[2] - &a[0]); }",
         "a=1 a.1=2 a.2=0 a:1 a.1:2 ends 290",
     ),
-];
-
-static FLOW: [Row; 5] = [
+    (
+        "static int a; int main(void) { int b[3] = {5, 7, 9}; for (int c = 0; c < 3; c++) a += b[c]; return a; }",
+        "b=5 b.1=7 b.2=9 c=0 c:0 a:0 c:0 b:5 a=5 c:0 c=1 c:1 a:5 c:1 b.1:7 a=12 c:1 c=2 c:2 a:12 c:2 b.2:9 a=21 c:2 c=3 c:3 a:21 ends 21",
+    ),
+    (
+        "struct s { int m; int n; }; static int a; int main(void) { struct s b = {3, 1000}; struct s *c = &b; c->n += c->m; a = c->m++; return b.n + a + c->m; }",
+        "b=3 b.1=1000 c=&b+0 c:&b+0 b.1:1000 c:&b+0 b:3 b.1=1003 c:&b+0 b:3 b=4 a=3 b.1:1003 a:3 c:&b+0 b:4 ends 1010",
+    ),
+    (
+        "static int a; int main(void) { int b[3] = {1, 1, 1}; int *c = b; *c++ = 4; a = *c++ = 6; *c = a + *b; return *b + b[1] + *c; }",
+        "b=1 b.1=1 b.2=1 c=&b+0 c:&b+0 c=&b+2 b=4 c:&b+2 c=&b+4 b.1=6 a=6 c:&b+4 a:6 b:4 b.2=10 b:4 b.1:6 c:&b+4 b.2:10 ends 20",
+    ),
+    ("char a = 300; int main(void) { return a; }", "a:44 ends 44"),
+    (
+        "_Fract a = 0.25r + 0.5r; int main(void) { return (int)((_Accum)a << 15); }",
+        "a:24576 ends 24576",
+    ),
+    (
+        "_Accum a = -1.5k; int main(void) { return (int)(a << 1); }",
+        "a:-49152 ends -3",
+    ),
+    (
+        "int a[3] = {7, 8}; int main(void) { return a[0] + a[1] + a[2]; }",
+        "a:7 a.1:8 a.2:0 ends 15",
+    ),
     (
         "static int a; int up(int b, int c); int main(void) { return up(2, 3) + up(4, 5); } int up(int b, int c) { a = a + b; return a + c; }",
         "b=2 c=3 a:0 b:2 a=2 a:2 c:3 b=4 c=5 a:2 b:4 a=6 a:6 c:5 ends 16",
@@ -128,8 +154,25 @@ static FLOW: [Row; 5] = [
         "int main(void) { int a = 1; for (;;) { if (a > 2) return a; else a += a; } }",
         "a=1 a:1 a:1 a:1 a=2 a:2 a:2 a:2 a=4 a:4 a:4 ends 4",
     ),
+    (
+        "static int a; int main(void) { ; { ; } { int b = 7; a = b; } return a; }",
+        "b=7 b:7 a=7 a:7 ends 7",
+    ),
+    (
+        "static int a; int main(void) { for (int b = 0; b < 5; b++) { if (b == 1) continue; if (b == 4) break; a += b; } return a; }",
+        "b=0 b:0 b:0 b:0 a:0 b:0 a=0 b:0 b=1 b:1 b:1 b:1 b=2 b:2 b:2 b:2 a:0 b:2 a=2 b:2 b=3 b:3 b:3 b:3 a:2 b:3 a=5 b:3 b=4 b:4 b:4 b:4 a:5 ends 5",
+    ),
+    (
+        "static int a; int f(int b, int c); int main(void) { return f(1, 2) - f(3, a = 9); } int f(int b, int c) { a += b; return a - c; }",
+        "b=1 c=2 a:0 b:1 a=1 a:1 c:2 a=9 b=3 c=9 a:9 b:3 a=12 a:12 c:9 ends -4",
+    ),
+    (
+        "static int a; int f(int b, int c); int main(void) { f(a, f(2, 3)); return a; } int f(int b, int c) { if (b < c) return a = c; a -= 1; return b; }",
+        "a:0 b=2 c=3 b:2 c:3 c:3 a=3 b=0 c=3 b:0 c:3 c:3 a=3 a:3 ends 3",
+    ),
 ];
 
+/// Undefined points.
 static UNDEFINED: [Row; 19] = [
     ("int main(void) { return 7 / 0; }", "meets ZeroDivisor"),
     ("int main(void) { return 1 << 16; }", "meets ShiftCount"),
@@ -191,19 +234,38 @@ static UNDEFINED: [Row; 19] = [
     ),
 ];
 
-/// A text, the bytes that port addresses give, and what is read and written.
-type PortRow = (&'static str, Inputs<'static>, &'static str);
+/// A text, the bytes that port addresses give, the turns that each loop gets, what is read and written, and the work
+/// in steps where that counts.
+type PortRow = (
+    &'static str,
+    Inputs<'static>,
+    u32,
+    &'static str,
+    Option<u64>,
+);
 
-static PORTS: [PortRow; 5] = [
+const FOREVER: &str = "#include <iohw.h>\nint main(void) { for (;;) iowr(LED, 1); }";
+
+const LEAVES: &str =
+    "#include <iohw.h>\nint main(void) { int a = 0; do { iowr(LED, a); if (a++ == 1) continue; if (a > 2) break; } while (iord(LED) < 9); return a; }";
+
+const TWICE: &str =
+    "#include <iohw.h>\nint main(void) { iowr(T, iord(T) + 1); return (int)iord(T); }";
+
+static PORTS: [PortRow; 12] = [
     (
-        "#include <iohw.h>\nint main(void) { iowr(T, iord(T) + 1); return (int)iord(T); }",
+        TWICE,
         &[(0x84, &[0x34]), (0x85, &[0x12, 1])],
+        20,
         "in:84:34 in:85:12 out:85:12 out:84:35 in:84:00 in:85:01 ends 256",
+        None,
     ),
     (
         "#include <iohw.h>\nint main(void) { ioor(LED, 1); ioand(LED, 15); ioxor(LED, 255); ioorl(LED, 1); ioandl(LED, 15); ioxorl(LED, 255); }",
         &[(0x25, &[0x80, 0x35, 0x0F, 0x40, 0x3A, 0x11])],
+        20,
         "in:25:80 out:25:81 in:25:35 out:25:05 in:25:0F out:25:F0 in:25:40 out:25:41 in:25:3A out:25:0A in:25:11 out:25:EE ends 0",
+        None,
     ),
     (
         "#include <iohw.h>\nint main(void) { iowrbuf(B, 2, 0x1234); iowrbuf(B, 0, iordbuf(B, 1)); ioorbuf(B, 0, 0x8001); ioandbuf(B, 1, 0xFF); ioxorbuf(B, 2, 0xFFFF); }",
@@ -215,7 +277,9 @@ static PORTS: [PortRow; 5] = [
             (0x64, &[0x0F]),
             (0x65, &[0xF0]),
         ],
+        20,
         "out:65:12 out:64:34 in:62:78 in:63:56 out:61:56 out:60:78 in:60:10 in:61:20 out:61:A0 out:60:11 in:62:AA in:63:BB out:63:00 out:62:AA in:64:0F in:65:F0 out:65:0F out:64:F0 ends 0",
+        None,
     ),
     (
         "#include <iohw.h>\nint main(void) { iowrl(L, iordl(L) + 1); iowrbufl(L, 0, iordbufl(L, 1)); ioorbufl(L, 1, 0x80000001); ioandbufl(L, 1, 0xFF); ioxorbufl(L, 1, 0xFFFFFFFF); }",
@@ -228,12 +292,62 @@ static PORTS: [PortRow; 5] = [
             (0x96, &[3]),
             (0x97, &[4]),
         ],
+        20,
         "in:90:FF in:91:FF in:92:00 in:93:80 out:93:80 out:92:01 out:91:00 out:90:00 in:94:01 in:95:02 in:96:03 in:97:04 out:93:04 out:92:03 out:91:02 out:90:01 in:94:10 in:95:20 in:96:00 in:97:00 out:97:80 out:96:00 out:95:20 out:94:11 in:94:AA in:95:BB in:96:00 in:97:00 out:97:00 out:96:00 out:95:00 out:94:AA in:94:0F in:95:00 in:96:00 in:97:00 out:97:FF out:96:FF out:95:FF out:94:F0 ends 0",
+        None,
     ),
     (
         "#include <iohw.h>\nconst __flash short _Fract a[4] = {0.5hr, 0.25hr, 0.125hr, 0.125hr}; __data short _Fract b[4]; int main(void) { int c; int d; iogroup_acquire(ADC); for (c = 0; c < 8; c = c + 1) { _Sat short _Fract e = 0.0hr; for (d = 3; d > 0; d = d - 1) b[d] = b[d - 1]; b[0] = (unsigned short _Accum)iord(SAMPLE) >> 8; for (d = 0; d < 4; d = d + 1) e = e + a[d] * b[d]; iowr(LED, (unsigned int)((short _Accum)e << 8)); } iogroup_release(ADC); return 0; }",
         &[(0x79, &[0x80, 0, 0, 0, 0xFF, 0xFF, 0xFF, 0xFF])],
+        20,
         "out:7A:80 in:79:80 out:25:40 in:79:00 out:25:20 in:79:00 out:25:10 in:79:00 out:25:10 in:79:FF out:25:7E in:79:FF out:25:BC in:79:FF out:25:DA in:79:FF out:25:F8 out:7A:00 ends 0",
+        None,
+    ),
+    (
+        "#include <iohw.h>\nstatic int a; int main(void) { iogroup_acquire(ADC); ioxorbuf(B, a = 1, iord(SAMPLE)); return a; }",
+        &[(0x79, &[200]), (0x62, &[0x0F]), (0x63, &[0xA5])],
+        20,
+        "out:7A:80 in:79:C8 in:62:0F in:63:A5 out:63:A5 out:62:C7 ends 1",
+        None,
+    ),
+    // A loop is out of turns before the turn that is one too many. The work in words is that of the parts: 200 of a
+    // program, 40 of a call, and for two bytes 50 of a number, 60 of a return, 160 of an access of a port and 390 of an
+    // operator.
+    (
+        "int main(void) { return 0; }",
+        &[],
+        0,
+        "ends 0",
+        Some(64 * (200 + 40 + 60 + 50)),
+    ),
+    (
+        TWICE,
+        &[],
+        0,
+        "in:84:00 in:85:00 out:85:00 out:84:01 in:84:00 in:85:00 ends 0",
+        Some(64 * (240 + 160 + 390 + 160 + 390 + 50 + 60 + 390 + 160)),
+    ),
+    (FOREVER, &[], 0, "runs on", Some(64 * 240)),
+    (
+        FOREVER,
+        &[],
+        3,
+        "out:25:01 out:25:01 out:25:01 runs on",
+        Some(64 * (240 + 3 * 620)),
+    ),
+    (
+        LEAVES,
+        &[],
+        2,
+        "out:25:00 in:25:00 out:25:01 in:25:00 runs on",
+        None,
+    ),
+    (
+        LEAVES,
+        &[],
+        3,
+        "out:25:00 in:25:00 out:25:01 in:25:00 out:25:02 ends 3",
+        None,
     ),
 ];
 
@@ -309,7 +423,7 @@ fn line(alloc: Global, events: &[Event], ports: bool, end: &str) -> Result<Strin
     Ok(out)
 }
 
-fn shown(alloc: Global, run: &Run, ports: bool) -> Result<String, Fail> {
+fn told_run(alloc: Global, run: &Run, ports: bool) -> Result<String, Fail> {
     match &run.behaviour {
         Behaviour::Ended { events, result } => {
             let end = format!(in alloc; "ends {result}")?;
@@ -347,123 +461,61 @@ fn run_program(
     Ok(run)
 }
 
-fn run_text(
+fn run(alloc: Global, text: &str, io: &IoTable, inputs: Inputs, turns: u32) -> Result<Run, Fail>
+    requires { ValidIo io.now }
+{
+    match &answered(alloc, &[text], io)? {
+        Ok(program) => run_program(alloc, program, io, inputs, turns),
+        Err(_) => Err("no program")?,
+    }
+}
+
+/// What a program does.
+pub fn shown(alloc: Global, text: &str, io: &IoTable) -> Result<String, Fail>
+    requires { ValidIo io.now }
+{
+    let run = run(alloc, text, io, &[], 20)?;
+    told_run(alloc, &run, false)
+}
+
+/// What a program does to ports, and its work.
+fn shown_ports(
     alloc: Global,
     text: &str,
     io: &IoTable,
     inputs: Inputs,
     turns: u32,
-) -> Result<Run, Fail>
+) -> Result<(String, u64), Fail>
     requires { ValidIo io.now }
 {
-    let program = program_of(alloc, text, io)?;
-    run_program(alloc, &program, io, inputs, turns)
-}
-
-fn run(alloc: Global, text: &str, inputs: Inputs, turns: u32) -> Result<Run, Fail> {
-    let map = map(alloc)?;
-    run_text(alloc, text, &map.io, inputs, turns)
-}
-
-/// What a program does, and its work.
-fn shown_run(
-    alloc: Global,
-    text: &str,
-    inputs: Inputs,
-    turns: u32,
-    ports: bool,
-) -> Result<(String, u64), Fail> {
-    let run = run(alloc, text, inputs, turns)?;
-    let shown = shown(alloc, &run, ports)?;
+    let run = run(alloc, text, io, inputs, turns)?;
+    let shown = told_run(alloc, &run, true)?;
     Ok((shown, run.work))
 }
 
-fn compare(rt: &impl Abort, alloc: Global, rows: &[Row]) -> Result<(), Fail> {
-    for (text, want) in rows {
-        let (shown, _) = shown_run(alloc, text, &[], 20, false)?;
-        assert_eq!(rt; shown.as_str(), *want, "{text}");
-    }
-    Ok(())
-}
-
-#[test]
-fn numbers(rt: HostRuntime) -> Result<(), Fail> {
-    compare(&rt, rt.alloc(), &NUMBERS)
-}
-
-#[test]
-fn objects(rt: HostRuntime) -> Result<(), Fail> {
-    compare(&rt, rt.alloc(), &OBJECTS)
-}
-
-#[test]
-fn functions_and_loops(rt: HostRuntime) -> Result<(), Fail> {
-    compare(&rt, rt.alloc(), &FLOW)
-}
-
-#[test]
-fn undefined_points(rt: HostRuntime) -> Result<(), Fail> {
-    compare(&rt, rt.alloc(), &UNDEFINED)
-}
-
-#[test]
-fn ports(rt: HostRuntime) -> Result<(), Fail> {
-    for (text, inputs, want) in &PORTS {
-        let (shown, _) = shown_run(rt.alloc(), text, inputs, 20, true)?;
-        assert_eq!(rt; shown.as_str(), *want, "{text}");
-    }
-    Ok(())
-}
-
-const FOREVER: &str = "#include <iohw.h>\nint main(void) { for (;;) iowr(LED, 1); }";
-
-const LEAVES: &str =
-    "int main(void) { int a = 0; do { if (a++ == 1) continue; if (a > 2) break; } while (a < 9); return a; }";
-
-const PORT: &str =
-    "#include <iohw.h>\nint main(void) { iowr(T, iord(T) + 1); return (int)iord(T); }";
-
-/// A text, the turns that it gets, what it does, and its work in steps where that counts.
-type TurnRow = (&'static str, u32, &'static str, Option<u64>);
-
-static TURNS: [TurnRow; 6] = [
-    (
-        "int main(void) { return 0; }",
-        0,
-        "ends 0",
-        Some(64 * (200 + 40 + 60 + 50)),
-    ),
-    (
-        PORT,
-        0,
-        "in:84:00 in:85:00 out:85:00 out:84:01 in:84:00 in:85:00 ends 0",
-        Some(64 * (240 + 160 + 390 + 160 + 390 + 50 + 60 + 390 + 160)),
-    ),
-    (FOREVER, 0, "runs on", Some(64 * 240)),
-    (
-        FOREVER,
-        3,
-        "out:25:01 out:25:01 out:25:01 runs on",
-        Some(64 * (240 + 3 * 620)),
-    ),
-    (LEAVES, 2, "a=0 a:0 a=1 a:1 a:1 a:1 a=2 a:2 runs on", None),
-    (
-        LEAVES,
-        3,
-        "a=0 a:0 a=1 a:1 a:1 a:1 a=2 a:2 a:2 a=3 a:3 a:3 ends 3",
-        None,
-    ),
-];
-
-/// A loop is out of turns before the turn that is one too many. The work in words is that of the parts: 200 of a
-/// program, 40 of a call, and for two bytes 50 of a number, 60 of a return, 160 of an access of a port and 390 of an
-/// operator.
-#[test]
-fn turns_and_work(rt: HostRuntime) -> Result<(), Fail> {
-    for (text, turns, want, steps) in &TURNS {
-        let (shown, work) = shown_run(rt.alloc(), text, &[], *turns, false)?;
+fn compare_ports(rt: &impl Abort, alloc: Global, rows: &[PortRow], io: &IoTable) -> Result<(), Fail>
+    requires { ValidIo io.now }
+{
+    for (text, inputs, turns, want, steps) in rows {
+        let (shown, work) = shown_ports(alloc, text, io, inputs, *turns)?;
         assert_eq!(rt; shown.as_str(), *want, "{text}");
         assert!(rt; steps.is_none() || *steps == Some(work), "{text}: {work}");
     }
     Ok(())
+}
+
+#[test]
+fn runs(rt: HostRuntime) -> Result<(), Fail> {
+    compare(&rt, rt.alloc(), Shown::Run, &RUNS)
+}
+
+#[test]
+fn undefined_points(rt: HostRuntime) -> Result<(), Fail> {
+    compare(&rt, rt.alloc(), Shown::Run, &UNDEFINED)
+}
+
+#[test]
+fn ports_turns_and_work(rt: HostRuntime) -> Result<(), Fail> {
+    let map = map(rt.alloc())?;
+    compare_ports(&rt, rt.alloc(), &PORTS, &map.io)
 }

@@ -1,15 +1,17 @@
 //! A text for each constraint, told at its unit and token by the reading of the rule; and programs.
+ghost use Rattle.ec_iohw.specs.Valid.{ValidIo};
 
-use crate::units::shown;
+use crate::rows::{Row, Shown, compare};
+use crate::units::{answered, map};
+use ec_check::CheckStop;
+use ec_core::Program;
+use ec_iohw::IoTable;
 use std::alloc::Global;
 use std::process::Abort;
 use std::test::Fail;
 
-/// A text, and what `check` tells of it.
-type Row = (&'static str, &'static str);
-
-/// Rules of specifiers and declarators.
-static DECLARATIONS: [Row; 16] = [
+/// Rules of specifiers and declarators, sizes, structs, named registers and initialisers.
+static DECLARATIONS: [Row; 39] = [
     (
         "char short g;int main(void){return 0;}",
         "unit 0 token 0 rule 1",
@@ -68,10 +70,6 @@ static DECLARATIONS: [Row; 16] = [
         "int main(void){int a;int a=x;return 0;}",
         "unit 0 token 10 rule 5",
     ),
-];
-
-/// Rules of sizes, structs, named registers and initialisers.
-static TYPES: [Row; 16] = [
     (
         "int g[16384];int main(void){return 0;}",
         "unit 0 token 1 rule 9",
@@ -136,10 +134,38 @@ static TYPES: [Row; 16] = [
         "_Fract g=0.75r+0.75r;int main(void){return 0;}",
         "unit 0 token 3 rule 15",
     ),
+    (
+        "_Fract g=1;int main(void){return 0;}",
+        "unit 0 token 3 rule 15",
+    ),
+    (
+        "int g=x;int main(void){return 0;}",
+        "unit 0 token 3 rule 15",
+    ),
+    (
+        "int g[3]={7,x};int main(void){return 0;}",
+        "unit 0 token 9 rule 15",
+    ),
+    (
+        "int g[3]={7,{8}};int main(void){return 0;}",
+        "unit 0 token 9 rule 14",
+    ),
+    (
+        "int g=1%1.0k;int main(void){return 0;}",
+        "unit 0 token 4 rule 23",
+    ),
+    (
+        "int *g=1;int main(void){return 0;}",
+        "unit 0 token 4 rule 28",
+    ),
+    (
+        "int *g=(int *)0;int main(void){return 0;}",
+        "unit 0 token 4 rule 15",
+    ),
 ];
 
-/// Rules of functions and names.
-static FUNCTIONS: [Row; 18] = [
+/// Rules of functions and names; programs, and such as recur.
+static FUNCTIONS: [Row; 30] = [
     (
         "extern int g=1;int main(void){return 0;}",
         "unit 0 token 0 rule 16",
@@ -194,10 +220,52 @@ static FUNCTIONS: [Row; 18] = [
         "unit 0 token 19 rule 22",
     ),
     ("int main(void){return x+y;}", "unit 0 token 7 rule 20"),
+    ("int main(void){return 0;}", "0 objects, 1 functions"),
+    (
+        "int a;static int b[3];int f(int x){int y=x;return y;}int main(void){return f(a)+b[0];}",
+        "4 objects, 2 functions",
+    ),
+    (
+        "#pragma STDC FX_FRACT_OVERFLOW SAT\n_Fract g=0.75r+0.75r;int main(void){return g==1.0r;}",
+        "1 objects, 1 functions",
+    ),
+    (
+        "int a;int main(void){int a=1;{int a=2;}return a;}",
+        "3 objects, 1 functions",
+    ),
+    (
+        "int g(void);int f(void){return g();}int g(void){return f();}int main(void){return f();}",
+        "recursion f",
+    ),
+    ("int main(void){return main();}", "recursion main"),
+    (
+        "int f(void);int main(void){return f();}int f(void){return f();}",
+        "recursion f",
+    ),
+    (
+        "int main(void){return 1;}int f(void){return 1+f();}",
+        "recursion f",
+    ),
+    (
+        "int f(void){{{f();}}return 1;}int main(void){return 1;}",
+        "recursion f",
+    ),
+    (
+        "int f(int a){return a;}int g(int a){while(f(g(a)));return a;}int main(void){return f(f(1));}",
+        "recursion g",
+    ),
+    (
+        "int h(void);int f(void){return h();}int g(void){return h();}int h(void){return g();}int main(void){return f();}",
+        "recursion g",
+    ),
+    (
+        "int f(int a){return a;}int g(int a){return f(a)+f(a);}int main(void){return g(f(1));}",
+        "2 objects, 3 functions",
+    ),
 ];
 
-/// Rules of operators and assignments.
-static OPERATORS: [Row; 16] = [
+/// Rules of operators, assignments, pointers, ports and statements.
+static OPERATORS: [Row; 39] = [
     (
         "int main(void){int a=2;return a * a;}",
         "unit 0 token 13 rule 23",
@@ -256,10 +324,6 @@ static OPERATORS: [Row; 16] = [
         "int main(void){int a=0;return &a;}",
         "unit 0 token 11 rule 28",
     ),
-];
-
-/// Rules of pointers, ports and statements.
-static POINTERS: [Row; 23] = [
     (
         "int main(void){__data int *p;int *g;p = g;return 0;}",
         "unit 0 token 16 rule 29",
@@ -348,111 +412,165 @@ static POINTERS: [Row; 23] = [
     ),
 ];
 
-/// Programs, and such as recur.
-static PROGRAMS: [Row; 6] = [
-    ("int main(void){return 0;}", "0 objects, 1 functions"),
-    (
-        "int a;static int b[3];int f(int x){int y=x;return y;}int main(void){return f(a)+b[0];}",
-        "4 objects, 2 functions",
-    ),
-    (
-        "#pragma STDC FX_FRACT_OVERFLOW SAT\n_Fract g=0.75r+0.75r;int main(void){return g==1.0r;}",
-        "1 objects, 1 functions",
-    ),
-    (
-        "int a;int main(void){int a=1;{int a=2;}return a;}",
-        "3 objects, 1 functions",
-    ),
-    (
-        "int g(void);int f(void){return g();}int g(void){return f();}int main(void){return f();}",
-        "recursion f",
-    ),
-    ("int main(void){return main();}", "recursion main"),
-];
+/// 68 objects of a unit.
+const OBJECTS: &str =
+    "static char a0,a1,a2,a3,a4,a5,a6,a7,a8,a9,a10,a11,a12,a13,a14,a15,a16,a17,a18,a19,a20,a21,a22,a23,a24,a25,a26,a27,a28,a29,a30,a31,a32,a33,a34,a35,a36,a37,a38,a39,a40,a41,a42,a43,a44,a45,a46,a47,a48,a49,a50,a51,a52,a53,a54,a55,a56,a57,a58,a59,a60,a61,a62,a63,a64,a65,a66,a67;";
 
-/// Programs of two units.
-static PAIRS: [(&str, &str, &str); 8] = [
+/// 17 functions of a unit.
+const FUNCTIONS_OF_A_UNIT: &str =
+    "static int f0(void){return 0;}static int f1(void){return 0;}static int f2(void){return 0;}static int f3(void){return 0;}static int f4(void){return 0;}static int f5(void){return 0;}static int f6(void){return 0;}static int f7(void){return 0;}static int f8(void){return 0;}static int f9(void){return 0;}static int f10(void){return 0;}static int f11(void){return 0;}static int f12(void){return 0;}static int f13(void){return 0;}static int f14(void){return 0;}static int f15(void){return 0;}static int f16(void){return 0;}";
+
+/// The text of the first unit, that of each other one, how many units there are, and what is told of them.
+type UnitsRow = (&'static str, &'static str, usize, &'static str);
+
+/// Programs of several units; and the greatest numbers of units, objects and functions, and one more.
+static UNITS: [UnitsRow; 13] = [
     (
         "int a;int main(void){return 0;}",
         "extern long a;",
+        2,
         "unit 1 token 2 rule 6",
     ),
     (
         "int f(void);int main(void){return 0;}",
         "int f(int x){return x;}",
+        2,
         "unit 1 token 1 rule 6",
     ),
-    ("", "", "unit 1 token 0 rule 18"),
+    ("", "", 2, "unit 1 token 0 rule 18"),
     (
         "int f(void){return x;}",
         "int main(void){break;}",
+        2,
         "unit 0 token 7 rule 20",
     ),
     (
         "int twice(int x);int main(void){return twice(21);}",
         "int twice(int x){return x+x;}",
+        2,
         "1 objects, 2 functions",
     ),
     (
         "register _R4 long acc;int main(void){return 0;}",
         "register _R4 long acc;",
+        2,
         "1 objects, 1 functions",
     ),
     (
         "static int a;int main(void){return a;}",
         "static int a;extern int b;int b=1;",
+        2,
         "3 objects, 1 functions",
     ),
     (
         "int h(void);int g(void){return h();}int main(void){return g();}",
         "int g(void);int h(void){return g();}",
+        2,
         "recursion g",
+    ),
+    (
+        "int a;int main(void){return a;}",
+        "extern int a;static int b;",
+        16,
+        "16 objects, 1 functions",
+    ),
+    (
+        "char a,b,c,d;int main(void){return 0;}",
+        OBJECTS,
+        16,
+        "1024 objects, 1 functions",
+    ),
+    (
+        "char a,b,c,d,e;int main(void){return 0;}",
+        OBJECTS,
+        16,
+        "too many objects",
+    ),
+    (
+        "int main(void){return 0;}",
+        FUNCTIONS_OF_A_UNIT,
+        16,
+        "0 objects, 256 functions",
+    ),
+    (
+        "int f(void){return 0;}int main(void){return 0;}",
+        FUNCTIONS_OF_A_UNIT,
+        16,
+        "too many functions",
     ),
 ];
 
-fn compare(rt: &impl Abort, alloc: Global, rows: &[Row]) -> Result<(), Fail> {
-    for (text, want) in rows {
-        let told = shown(alloc, &[*text])?;
-        assert_eq!(rt; told.as_str(), *want, "{text}");
+fn counted(alloc: Global, program: &Program) -> Result<String, Fail> {
+    let objects = program.objs.len();
+    let functions = program.funcs.len();
+    Ok(format!(in alloc; "{objects} objects, {functions} functions")?)
+}
+
+fn stopped(alloc: Global, stop: &CheckStop) -> Result<String, Fail> {
+    match stop {
+        CheckStop::NoMemory => Ok(format!(in alloc; "no memory")?),
+        CheckStop::TooManyObjects => Ok(format!(in alloc; "too many objects")?),
+        CheckStop::TooManyFunctions => Ok(format!(in alloc; "too many functions")?),
+        CheckStop::Constraint { unit, token, rule } => Ok(format!(in alloc;
+            "unit {unit} token {token} rule {rule}"
+        )?),
+        CheckStop::Recursion(name) => {
+            let name = str::from_utf8(name.as_slice()).ok().ok_or("no name")?;
+            Ok(format!(in alloc; "recursion {name}")?)
+        }
+    }
+}
+
+fn told(alloc: Global, answer: &Result<Program, CheckStop>) -> Result<String, Fail> {
+    match answer {
+        Ok(program) => counted(alloc, program),
+        Err(stop) => stopped(alloc, stop),
+    }
+}
+
+/// What `check` tells of the texts of units.
+pub fn shown(alloc: Global, texts: &[&str], io: &IoTable) -> Result<String, Fail>
+    requires { ValidIo io.now }
+{
+    let answer = answered(alloc, texts, io)?;
+    told(alloc, &answer)
+}
+
+fn compare_units(
+    rt: &impl Abort,
+    alloc: Global,
+    rows: &[UnitsRow],
+    io: &IoTable,
+) -> Result<(), Fail>
+    requires { ValidIo io.now }
+{
+    for (first, other, count, want) in rows {
+        let mut texts = [*other; 16];
+        texts[0] = *first;
+        let texts = texts.get(..*count).ok_or("too many units")?;
+        let shown = shown(alloc, texts, io)?;
+        assert_eq!(rt; shown.as_str(), *want, "{first}");
     }
     Ok(())
 }
 
 #[test]
 fn declarations(rt: HostRuntime) -> Result<(), Fail> {
-    compare(&rt, rt.alloc(), &DECLARATIONS)
-}
-
-#[test]
-fn types(rt: HostRuntime) -> Result<(), Fail> {
-    compare(&rt, rt.alloc(), &TYPES)
+    compare(&rt, rt.alloc(), Shown::Unit, &DECLARATIONS)
 }
 
 #[test]
 fn functions(rt: HostRuntime) -> Result<(), Fail> {
-    compare(&rt, rt.alloc(), &FUNCTIONS)
+    compare(&rt, rt.alloc(), Shown::Unit, &FUNCTIONS)
 }
 
 #[test]
 fn operators(rt: HostRuntime) -> Result<(), Fail> {
-    compare(&rt, rt.alloc(), &OPERATORS)
+    compare(&rt, rt.alloc(), Shown::Unit, &OPERATORS)
 }
 
 #[test]
-fn pointers(rt: HostRuntime) -> Result<(), Fail> {
-    compare(&rt, rt.alloc(), &POINTERS)
-}
-
-#[test]
-fn programs(rt: HostRuntime) -> Result<(), Fail> {
-    compare(&rt, rt.alloc(), &PROGRAMS)
-}
-
-#[test]
-fn pairs_of_units(rt: HostRuntime) -> Result<(), Fail> {
-    for (first, second, want) in &PAIRS {
-        let told = shown(rt.alloc(), &[*first, *second])?;
-        assert_eq!(rt; told.as_str(), *want, "{first} {second}");
-    }
-    Ok(())
+fn units(rt: HostRuntime) -> Result<(), Fail> {
+    let map = map(rt.alloc())?;
+    compare_units(&rt, rt.alloc(), &UNITS, &map.io)
 }

@@ -1,4 +1,4 @@
-//! From the texts of units to what `check` tells of them.
+//! From the texts of units to what `check` answers to them.
 ghost use Rattle.std.specs.Prelude.{IfOk};
 ghost use Rattle.ec_interp.specs.Views.{HasLayouts};
 ghost use Rattle.ec_iohw.specs.Valid.{ValidIo};
@@ -9,7 +9,7 @@ use ec_iohw::IoTable;
 use ec_lex::lex;
 use ec_map::{Map, read_map};
 use ec_parse::{Tree, parse};
-use ec_space::{Name, Seq};
+use ec_space::Seq;
 use std::alloc::Global;
 use std::test::Fail;
 
@@ -61,11 +61,11 @@ pub fn map(alloc: Global) -> Result<Map, Fail>
 
 /// The tree of a text.
 fn tree(alloc: Global, text: &str) -> Result<Tree, Fail> {
-    let mut bytes = Seq::new(alloc);
-    bytes.extend_from_slice(text.as_bytes())?;
-    if bytes.len() >= 100_000 {
+    if text.len() >= 100_000 {
         return Err("a long text")?;
     }
+    let mut bytes = Seq::new(alloc);
+    bytes.extend_from_slice(text.as_bytes())?;
     let tokens = lex(alloc, &bytes)?;
     let tree = parse(alloc, &tokens)?;
     Ok(tree)
@@ -80,68 +80,18 @@ fn units(alloc: Global, texts: &[&str]) -> Result<Seq<Tree>, Fail> {
     Ok(units)
 }
 
-fn counted(alloc: Global, program: &Program) -> Result<String, Fail> {
-    let objects = program.objs.len();
-    let functions = program.funcs.len();
-    Ok(format!(in alloc; "{objects} objects, {functions} functions")?)
-}
-
-fn recursion(alloc: Global, name: &Name) -> Result<String, Fail> {
-    let mut line = format!(in alloc; "recursion ")?;
-    for byte in name.as_slice() {
-        line.push(char::from(*byte))?;
-    }
-    Ok(line)
-}
-
-fn told(alloc: Global, stop: &CheckStop) -> Result<String, Fail> {
-    match stop {
-        CheckStop::NoMemory => Ok(format!(in alloc; "no memory")?),
-        CheckStop::TooManyObjects => Ok(format!(in alloc; "too many objects")?),
-        CheckStop::TooManyFunctions => Ok(format!(in alloc; "too many functions")?),
-        CheckStop::Constraint { unit, token, rule } => Ok(format!(in alloc;
-            "unit {unit} token {token} rule {rule}"
-        )?),
-        CheckStop::Recursion(name) => recursion(alloc, name),
-    }
-}
-
-fn checked(alloc: Global, units: &Seq<Tree>, io: &IoTable) -> Result<String, Fail>
+/// What `check` answers to the texts of units.
+pub fn answered(
+    alloc: Global,
+    texts: &[&str],
+    io: &IoTable,
+) -> Result<Result<Program, CheckStop>, Fail>
     requires { ValidIo io.now }
+    ensures { IfOk result (λ answer. IfOk answer HasLayouts) }
 {
+    let units = units(alloc, texts)?;
     if units.len() == 0 || units.len() > 16 {
         return Err("no units, or too many")?;
     }
-    match check(alloc, units, io) {
-        Ok(program) => counted(alloc, &program),
-        Err(stop) => told(alloc, &stop),
-    }
-}
-
-/// What `check` tells of the texts of units.
-pub fn shown(alloc: Global, texts: &[&str]) -> Result<String, Fail> {
-    let map = map(alloc)?;
-    shown_with(alloc, texts, &map.io)
-}
-
-fn shown_with(alloc: Global, texts: &[&str], io: &IoTable) -> Result<String, Fail>
-    requires { ValidIo io.now }
-{
-    let units = units(alloc, texts)?;
-    checked(alloc, &units, io)
-}
-
-/// The program of one text.
-pub fn program_of(alloc: Global, text: &str, io: &IoTable) -> Result<Program, Fail>
-    requires { ValidIo io.now }
-    ensures { IfOk result HasLayouts }
-{
-    let units = units(alloc, &[text])?;
-    if units.len() != 1 {
-        return Err("no unit")?;
-    }
-    match check(alloc, &units, io) {
-        Ok(program) => Ok(program),
-        Err(_) => Err("no program")?,
-    }
+    Ok(check(alloc, &units, io))
 }
