@@ -1,6 +1,6 @@
 //! How many low bytes of each temporary are needed: at the labels of a function, and of the result of each operation.
 //!
-//! `Needs.antt` of `ec_select_functions` has the meaning. A table has a row of bytes for each label, with a byte for
+//! `Needs.antt` of `ec_select_operations` has the meaning. A table has a row of bytes for each label, with a byte for
 //! each place of the function's temporaries. [`live`] goes over the operations from the last to the first until the
 //! table no longer grows, [`wanted`] tells what the code of each operation is to compute, and [`kept`] what calls keep.
 #![tactic(auto)]
