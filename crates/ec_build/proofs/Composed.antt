@@ -1,5 +1,5 @@
 -- The causes of the parts are causes of the whole, and what is accepted has none.
-use Rattle.std.proofs.Common.{◌≡◌, ℕ, List, refl}
+use Rattle.std.proofs.Common.{◌≡◌, ℕ, List, refl, sym, subst, inl, inr}
 use Rattle.ec_grammar.specs.Trees as t
 use Rattle.ec_asm.specs.declared.items.AsmProgram.{AsmProgram}
 use Rattle.ec_core.specs.Plain.{PlainProgram}
@@ -8,6 +8,7 @@ use Rattle.ec_build.specs.Accepted.{IsAccepted}
 use Rattle.ec_build.specs.Builds.{IsRead, IsChecked}
 use Rattle.ec_build.specs.MapTexts.{IsMapText, StopsMap}
 use Rattle.ec_build.specs.Places.{StopsPlacing}
+use Rattle.ec_build.specs.Placing.{HasCauseOfPlacing}
 use Rattle.ec_build.specs.Causes.{StopsChecking, HasCause}
 use Rattle.ec_build.specs.Code.{IsCodeOf}
 use Rattle.ec_build.specs.Stops.{StopsReading}
@@ -60,6 +61,11 @@ placing_cause sources text m p asm (Place stop) is code h = record {
   against = h;
 }
 placing_cause sources text m p asm NoMemory is code h = tt
+
+pub placing_stops : (sources : List (List ℕ)) (text : List ℕ) (m : Map) (p : PlainProgram) (stop : BuildStop)
+    → IsChecked sources text m p → HasCauseOfPlacing p m stop → HasCause sources text stop
+placing_stops sources text m p stop is (inl same) = subst (HasCause sources text) (sym same) tt
+placing_stops sources text m p stop is (inr why) = placing_cause sources text m p why.0 stop is why.1.0 why.1.1
 
 -- what is accepted is told no cause
 pub accepted_has_none : (sources : List (List ℕ)) (text : List ℕ) (stop : BuildStop) → IsAccepted sources text

@@ -12,7 +12,7 @@ use Rattle.ec_text_numbers.specs.Laws.{IsHeld, TextsHoldNumbers}
 use Rattle.ec_expr_valid.specs.Suits.{AreHeld}
 use Rattle.ec_check.specs.Laws.{AreShort}
 use Rattle.ec_check.specs.Validity.{HoldNumbers}
-use Rattle.ec_build.specs.Units.{IsUnit, AreUnits}
+use Rattle.ec_units.specs.Units.{IsUnit, AreUnits}
 
 leaves_hold : (n : ℕ) (list : List Placed) → AllByRecursion (λ token. IsHeld token.lexeme) list → AreHeld (leaves_from n list)
 leaves_hold n [] h = tt

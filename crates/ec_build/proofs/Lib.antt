@@ -1,6 +1,3 @@
-pub mod Zips
-pub mod Lexed
-pub mod Parsed
 pub mod Held
 pub mod Coded
 pub mod Imaged

@@ -9,7 +9,7 @@ use Rattle.ec_map.specs.declared.map.Map.{Map}
 use Rattle.ec_build.specs.Builds.{IsChecked}
 use Rattle.ec_build.specs.MapTexts.{IsMapText, HasMap}
 use Rattle.ec_build.specs.Places.{Fits}
-use Rattle.ec_build.specs.Units.{AreUnits}
+use Rattle.ec_units.specs.Units.{AreUnits}
 
 -- There is a map, and each source has a tree. For each such map, and all such trees and programs, there is nothing that
 -- they can be refused for. (A text has one map, but for the room of its lists; a source has one tree, and the trees have

@@ -17,7 +17,7 @@ use Rattle.ec_locate.specs.declared.placing.Located.{Located}
 use Rattle.ec_placed.specs.Translation.{IsTranslated}
 use Rattle.ec_placed.specs.Whole.{ShowsWhole}
 use Rattle.ec_build.specs.MapTexts.{IsMapText}
-use Rattle.ec_build.specs.Units.{AreUnits}
+use Rattle.ec_units.specs.Units.{AreUnits}
 use Rattle.ec_build.specs.declared.building.Built.{Built}
 
 -- ---- what is read

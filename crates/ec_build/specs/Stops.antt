@@ -1,13 +1,10 @@
 -- Why sources have no trees, by the answer that tells it.
-use Rattle.std.specs.Prelude.{ℕ, ◌≡◌, ⊤, List}
-use Rattle.ec_space.specs.Listed.{Listed}
-use Rattle.ec_grammar.specs.declared.token.Token.{Token}
-use Rattle.ec_grammar.specs.Tokens.{Placed}
+use Rattle.std.specs.Prelude.{ℕ, ⊤, List}
 use Rattle.ec_lex.specs.declared.stop.LexStop.{LexStop}
 use Rattle.ec_parse.specs.declared.stop.ParseStop.{ParseStop}
 use Rattle.ec_build.specs.declared.stop.BuildStop.{BuildStop}
 use Rattle.ec_build.specs.declared.stop.BuildStop.TheVariants.{Lex, Parse, NoMemory}
-use Rattle.ec_build.specs.Units.{IsFaulty, IsFirstFault, IsFirstUnparsed, HaveNoTree, IsFirstTreeless}
+use Rattle.ec_units.specs.Units.{IsFirstFault, IsFirstUnparsed}
 
 -- a text has a fault, told so, or the tokens of one have no tree
 abbrev pub StopsUnit : (lexing : ℕ → LexStop → Type 0) → (parsing : ℕ → ParseStop → Type 0) → BuildStop → Type 0
@@ -19,17 +16,3 @@ StopsUnit lexing parsing _ = ⊥
 -- why sources have no trees
 abbrev pub StopsReading : List (List ℕ) → BuildStop → Type 0
 StopsReading sources stop = StopsUnit (IsFirstFault sources) (IsFirstUnparsed sources) stop
-
--- ---- parts of the reading
-
-abbrev pub StopsLexing : ℕ → List ℕ → BuildStop → Type 0
-StopsLexing unit bytes stop = StopsUnit (λ i fault. (i ≡ unit) × IsFaulty bytes fault) (λ i fault. ⊥) stop
-
-abbrev pub StopsLexingAll : List (List ℕ) → BuildStop → Type 0
-StopsLexingAll sources stop = StopsUnit (IsFirstFault sources) (λ i fault. ⊥) stop
-
-abbrev pub StopsParsing : ℕ → List Placed → BuildStop → Type 0
-StopsParsing unit list stop = StopsUnit (λ i fault. ⊥) (λ i fault. (i ≡ unit) × HaveNoTree list fault) stop
-
-abbrev pub StopsParsingAll : List (Listed Token) → BuildStop → Type 0
-StopsParsingAll lists stop = StopsUnit (λ i fault. ⊥) (IsFirstTreeless lists) stop

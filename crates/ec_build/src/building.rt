@@ -1,8 +1,13 @@
 //! From sources and a map to a placed image.
 ghost use Rattle.std.specs.Prelude.{◌≡◌, ◌<◌, ◌≤◌, ◌^◌, All, IfOk, IfErr, length, map as each};
 ghost use Rattle.ec_build.specs.Accepted.{IsAccepted};
-ghost use Rattle.ec_build.specs.Builds.{IsBuilt};
+ghost use Rattle.ec_asm.specs.declared.items.AsmProgram.{AsmProgram};
+ghost use Rattle.ec_core.specs.Plain.{plain_program};
+ghost use Rattle.ec_core.specs.Valid.{Valid};
+ghost use Rattle.ec_map.specs.Maps.{ValidMap};
+ghost use Rattle.ec_build.specs.Builds.{IsBuilt, IsImageOf};
 ghost use Rattle.ec_build.specs.Causes.{HasCause};
+ghost use Rattle.ec_build.specs.Placing.{HasCauseOfPlacing};
 
 use crate::codes::code_of;
 use crate::maps::map_of;
@@ -25,6 +30,24 @@ pub struct Built {
     pub located: Located,
 }
 
+/// Takes what was built and is needed no more.
+pub fn discard(built: Built) {
+    ec_check::discard(built.program);
+}
+
+/// Where a program stands by a map.
+fn located_by(alloc: Global, program: &Program, map: &Map) -> Result<Located, BuildStop>
+    requires valid { Valid (plain_program program.now) map.now.io }
+    requires map { ValidMap map.now }
+    ensures image { IfOk result (λ l. (asm : AsmProgram) × IsImageOf (plain_program program.now) map.now asm l) }
+    ensures stopped { IfErr result (HasCauseOfPlacing (plain_program program.now) map.now) }
+{
+    let asm = code_of(alloc, program, map)?;
+    let located = placed(alloc, program, &asm, map);
+    drop(asm);
+    located
+}
+
 /// What `build` answers.
 fn answer(alloc: Global, sources: &Seq<Seq<u8>>, map: &Seq<u8>) -> Result<Built, BuildStop>
     requires some { 1 ≤ length sources.now.items }
@@ -34,16 +57,35 @@ fn answer(alloc: Global, sources: &Seq<Seq<u8>>, map: &Seq<u8>) -> Result<Built,
     ensures stopped { IfErr result (HasCause (each (λ s. s.items) sources.now.items) map.now.items) }
 {
     let map = map_of(alloc, map)?;
-    let units = units_of(alloc, sources)?;
+    let units = match units_of(alloc, sources) {
+        Ok(units) => units,
+        Err(stop) => {
+            drop(map);
+            return Err(stop);
+        }
+    };
     texts_hold_numbers();
-    let program = program_of(alloc, &units, &map)?;
-    let asm = code_of(alloc, &program, &map)?;
-    let located = placed(alloc, &program, &asm, &map)?;
-    Ok(Built {
-        program,
-        map,
-        located,
-    })
+    let checked = program_of(alloc, &units, &map);
+    ec_units::discard(units);
+    let program = match checked {
+        Ok(program) => program,
+        Err(stop) => {
+            drop(map);
+            return Err(stop);
+        }
+    };
+    match located_by(alloc, &program, &map) {
+        Ok(located) => Ok(Built {
+            program,
+            map,
+            located,
+        }),
+        Err(stop) => {
+            drop(map);
+            ec_check::discard(program);
+            Err(stop)
+        }
+    }
 }
 
 /// Compiles the sources and places their program by a map.

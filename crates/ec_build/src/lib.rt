@@ -13,6 +13,6 @@ mod programs;
 mod stop;
 mod units;
 
-pub use building::{Built, build};
+pub use building::{Built, build, discard};
 pub use ec_check::CheckStop;
 pub use stop::BuildStop;

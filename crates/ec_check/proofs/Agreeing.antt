@@ -15,7 +15,7 @@ use Rattle.ec_rules.specs.Meanings.{KeptFormsHaveMeanings}
 use Rattle.ec_expr_valid.specs.Laws.{AreUnbroken, DeclarationsKeepSuiting, DefinitionsKeepSuiting, KeptExpressionsHaveMeanings, KeptTypesAreSaid}
 use Rattle.ec_initial.specs.Laws.{SizesAreValues}
 use Rattle.ec_declare.specs.Sites.{Site, told}
-use Rattle.ec_statements.specs.Around.{with_pragma}
+use Rattle.ec_statement_forms.specs.Around.{with_pragma}
 use Rattle.ec_statements_valid.specs.Laws.{KeptObjectsHaveTypes, KeptFunctionsHaveTypes, InnerObjectsKeepSuiting, ObjectsStay, ScopesEnd, KeptBodiesHaveMeanings}
 use Rattle.ec_file_scope.specs.FileObjects.{word_of, after_register}
 use Rattle.ec_file_scope.specs.FileScope.{after_declarator, declarator_sites, after_more, more_sites, after_declaration, declaration_sites}

@@ -14,7 +14,7 @@ use Rattle.ec_core.specs.Valid.{IsFunction, ValidStmt}
 use Rattle.ec_expr_valid.specs.Suits.{Suits}
 use Rattle.ec_declare.specs.Functions.{FunctionDeclared}
 use Rattle.ec_declare.specs.Scopes.{Context, Scope, known_in}
-use Rattle.ec_statements.specs.Around.{Around}
+use Rattle.ec_statement_forms.specs.Around.{Around}
 use Rattle.ec_statements.specs.Statements.{body_of, after_body}
 use Rattle.ec_statements_valid.specs.Laws.{InnerObjectsKeepSuiting, ObjectsStay, ObjectsAreAppended, BodiesAreValid, BodiesNeedTheirTokens}
 use Rattle.ec_statements_valid.specs.Objects.{IsLocal}

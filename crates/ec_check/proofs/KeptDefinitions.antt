@@ -20,7 +20,7 @@ use Rattle.ec_declare.specs.Functions.{FunctionDeclared, param_types}
 use Rattle.ec_declare.specs.Params.{next_declared, params_declared}
 use Rattle.ec_declare.specs.Scopes.{Context, Scope}
 use Rattle.ec_declare.specs.Sites.{Site, told}
-use Rattle.ec_statements.specs.Around.{Around}
+use Rattle.ec_statement_forms.specs.Around.{Around}
 use Rattle.ec_statements.specs.Statements.{body_of, after_body}
 use Rattle.ec_statements_valid.specs.Laws.{KeptFunctionsHaveTypes, InnerObjectsKeepSuiting, ObjectsStay, ScopesEnd, KeptBodiesHaveMeanings}
 use Rattle.ec_file_scope.specs.FileNames.{a_function}

@@ -5,7 +5,7 @@ use Rattle.ec_grammar.specs.Trees as t
 use Rattle.ec_names.specs.declared.specifiers.Specified.{Specified}
 use Rattle.ec_declare.specs.Params.{ParamDeclared}
 use Rattle.ec_declare.specs.Scopes.{Context, Scope}
-use Rattle.ec_statements.specs.Around.{Around, looping, within, under}
+use Rattle.ec_statement_forms.specs.Around.{Around, looping, within, under}
 use Rattle.ec_statements.specs.Headings.{after_first, after_heading}
 use Rattle.ec_statements.specs.Locals.{local_declared, with_local, with_locals, after_declaration}
 use Rattle.ec_statements.specs.Statements.{after, after_item, after_items, after_body}

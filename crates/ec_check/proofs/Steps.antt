@@ -22,7 +22,7 @@ use Rattle.ec_declare.specs.Params.{ParamDeclared}
 use Rattle.ec_declare.specs.Registers.{register_declared}
 use Rattle.ec_declare.specs.Scopes.{Context, Scope, has_room}
 use Rattle.ec_declare.specs.Structures.{struct_defined, appended, with_struct}
-use Rattle.ec_statements.specs.Around.{with_pragma}
+use Rattle.ec_statement_forms.specs.Around.{with_pragma}
 use Rattle.ec_statements.specs.Statements.{after_body}
 use Rattle.ec_statements_valid.specs.Laws.{ObjectsStay, InnerObjectsKeepSuiting}
 use Rattle.ec_file_scope.specs.FileFunctions.{function_link, function_name, is_other_main, after_function}

@@ -10,7 +10,7 @@ use Rattle.ec_declare.specs.Functions.{FunctionDeclared, function_declared, func
 use Rattle.ec_declare.specs.Params.{ParamDeclared}
 use Rattle.ec_declare.specs.Scopes.{Scope, made_number, with_inner}
 use Rattle.ec_declare.specs.Sites.{Site, on}
-use Rattle.ec_statements.specs.Around.{Around}
+use Rattle.ec_statement_forms.specs.Around.{Around}
 use Rattle.ec_statements.specs.Statements.{body_of, after_body, body_sites}
 use Rattle.ec_file_scope.specs.FileFunctions.{function_link, with_function_name, named_function_sites}
 use Rattle.ec_file_scope.specs.FileObjects.{word_of}

@@ -10,7 +10,7 @@ use Rattle.ec_names.specs.declared.linkage.Linkage.TheVariants.{External}
 use Rattle.ec_names.specs.Definitions.{Definition, definitions, number_of}
 use Rattle.ec_declare.specs.Sites.{Site, on, told}
 use Rattle.ec_declare.specs.Structures.{structure_sites}
-use Rattle.ec_statements.specs.Around.{with_pragma}
+use Rattle.ec_statement_forms.specs.Around.{with_pragma}
 use Rattle.ec_file_scope.specs.FileObjects.{after_register, file_register_sites}
 use Rattle.ec_file_scope.specs.FileScope.{after_declaration, declaration_sites, after_structure}
 use Rattle.ec_file_scope.specs.States.{Setting, State, known_of, with_modes, nothing_declared, in_unit}

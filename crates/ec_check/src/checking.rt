@@ -158,6 +158,9 @@ fn program_of(
     }
 }
 
+/// Takes a program that is needed no more.
+pub fn discard(_program: Program) {}
+
 fn recursion(alloc: Global, p: Program) -> Result<Program, CheckStop>
     requires few { length p.funcs.items ≤ 65_536 }
     requires structs { AreStructs (map plain_struct p.structs.items) }

@@ -10,5 +10,5 @@ mod definitions;
 mod laws;
 mod units;
 
-pub use checking::{CheckStop, check};
+pub use checking::{CheckStop, check, discard};
 pub use laws::{programs_are_valid, programs_exist, structs_are_few};

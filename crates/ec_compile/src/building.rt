@@ -15,7 +15,7 @@ ghost use Rattle.ec_compile.specs.Stops.{status_of, IsNamed};
 ghost use Rattle.ec_compile.specs.declared.stop.CompileStop.TheVariants.{Command};
 
 use crate::stop::CompileStop;
-use ec_build::Built;
+use ec_build::{Built, discard};
 use ec_commands::{CommandError, Limit, is_build, read, read_sources, word_at, write_file};
 use ec_io::Store;
 use ec_space::Seq;
@@ -128,7 +128,9 @@ fn build_few<S: Store>(alloc: Global, words: &Vec<String>, store: &mut S) -> Res
         Ok(built) => built,
         Err(stop) => return Err(stop),
     };
-    match write_file(store, word_at(words, 2), &built.located.image) {
+    let written = write_file(store, word_at(words, 2), &built.located.image);
+    discard(built);
+    match written {
         Ok(()) => Ok(()),
         Err(_) => Err(CompileStop::Command(CommandError::CannotWrite)),
     }

@@ -22,7 +22,7 @@ ghost use Rattle.ec_compile.specs.declared.stop.CompileStop.TheVariants.{Command
 use crate::building::{Inputs, compile};
 use crate::stop::CompileStop;
 use ec_avr::Machine;
-use ec_build::Built;
+use ec_build::{Built, discard};
 use ec_commands::{CommandError, Limit, Loaded, load_script, print_run, read, read_sources};
 use ec_emu::Ports;
 use ec_io::{Sink, Store};
@@ -124,7 +124,9 @@ fn load<S: Store>(alloc: Global, words: &Vec<String>, store: &mut S) -> Result<L
         Ok(built) => built,
         Err(stop) => return Err(stop),
     };
-    match load_built(alloc, &built, &inputs.script) {
+    let loaded = load_built(alloc, &built, &inputs.script);
+    discard(built);
+    match loaded {
         Ok(loaded) => Ok(loaded),
         Err(stop) => Err(CompileStop::Command(stop)),
     }

@@ -15,7 +15,7 @@ use crate::building::{Inputs, compile};
 use crate::executing::FILL;
 use crate::stop::CompileStop;
 use ec_avr::Machine;
-use ec_build::Built;
+use ec_build::{Built, discard};
 use ec_commands::{CommandError, Loaded, print_counts};
 use ec_emu::{Ports, Script};
 use ec_generate::{generate, map_text};
@@ -68,7 +68,9 @@ fn load_generated(alloc: Global, n: u16) -> Result<Loaded, CompileStop>
         Ok(built) => built,
         Err(stop) => return Err(stop),
     };
-    match boot(alloc, &built) {
+    let booted = boot(alloc, &built);
+    discard(built);
+    match booted {
         Ok(machine) => Ok(Loaded {
             machine,
             script: Script::new(Seq::new(alloc)),

@@ -5,7 +5,7 @@ use Rattle.std.proofs.lemmas.Bool.{false≢true}
 use Rattle.std.proofs.lemmas.Bool.Decides.{nat_tests}
 use Rattle.ec_core.specs.Layout.{NamesBelow, IsIntegerSize, IsObjectType}
 use Rattle.ec_core.specs.Plain.{PlainType, void, integer, fixed, pointer, array, struct}
-use Rattle.ec_expr.specs.Known.{names_below, is_sized}
+use Rattle.ec_expr_parts.specs.Types.{names_below, is_sized}
 
 named_below : (n : ℕ) (ty : PlainType) → names_below n ty ≡ true → NamesBelow n ty
 named_below n void h = tt

@@ -9,7 +9,8 @@ use Rattle.ec_operands.specs.declared.operands.Modes.{Modes}
 use Rattle.ec_choices.specs.Choices.{cast, cast_rules}
 use Rattle.ec_operands.specs.Operands.{Operand, with_both}
 use Rattle.ec_rules.specs.Sites.{a_cast}
-use Rattle.ec_expr.specs.TypeNames.{said_type, void_said, meant_type}
+use Rattle.ec_expr_parts.specs.Types.{meant_type}
+use Rattle.ec_expr.specs.TypeNames.{said_type, void_said}
 use Rattle.ec_faults.specs.declared.Fault.{Fault}
 use Rattle.ec_expr.specs.Sites.{Site, on, a_type_name, told, Walked}
 

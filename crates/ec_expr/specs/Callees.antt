@@ -1,6 +1,6 @@
 -- What is called: the function whose name stands before the arguments, in parentheses or not (ISO/IEC 9899:1999,
 -- 6.5.2.2).
-use Rattle.std.specs.Prelude.{ℕ, Bool, false, ◌+◌, ◌==◌, is_some, Option, Some, None, option_map}
+use Rattle.std.specs.Prelude.{ℕ, Bool, false, ◌==◌, is_some, Option, Some, None, option_map}
 use Rattle.std.specs.Prelude.{if◌then◌else◌, List, [], ◌∷◌, map, length}
 use Rattle.ec_grammar.specs.Trees as t
 use Rattle.ec_core.specs.Plain.{PlainType, plain_type, PlainExpr, PlainExprs, last_expr, next_expr}
@@ -12,6 +12,7 @@ use Rattle.ec_rules.specs.Sites.{a_function as a_function_name, a_call}
 use Rattle.ec_expr.specs.declared.callees.Called as called_function
 use Rattle.ec_expr.specs.Known.{Known}
 use Rattle.ec_expr.specs.Sites.{Site, on}
+pub use Rattle.ec_expr_parts.specs.Counts.{further_count, argument_count}
 
 -- the name that an expression is, in parentheses or not
 abbrev mutual
@@ -85,14 +86,6 @@ abbrev pub callee : Known → t.Postfix → Option Called
 callee k p = called_by k (name_in_postfix p)
 
 -- ---- its call
-
-abbrev pub further_count : t.Further → ℕ
-further_count t.no_further = 0
-further_count (t.further s a more) = further_count more + 1
-
-abbrev pub argument_count : t.Arguments → ℕ
-argument_count t.no_arguments = 0
-argument_count (t.arguments a more) = further_count more + 1
 
 -- whether it takes so many arguments, where its parameters are known
 abbrev pub takes : Option (List PlainType) → ℕ → Bool

@@ -15,14 +15,18 @@ use Rattle.ec_operands.specs.Operands.{Operand, with_one, with_both}
 use Rattle.ec_operands.specs.Passing.{passed}
 use Rattle.ec_rules.specs.Sites.{a_name, a_callee, a_use, a_part, a_prefix, a_step, an_index, a_member, a_passing}
 use Rattle.ec_rules.specs.Sites.{a_choice, a_cast, a_port, a_group}
+use Rattle.ec_expr_parts.specs.Counts.{further_count, argument_count}
+use Rattle.ec_expr_parts.specs.Names.{what_is_meant}
+use Rattle.ec_expr_parts.specs.Tokens.{prefix_operator, is_up, is_arrow}
+use Rattle.ec_expr_parts.specs.Types.{meant_type}
 use Rattle.ec_expr.specs.Arguments.{Wanted, nothing, port_operands, wanted_of, wanted_type, Passed, arguments, operands}
 use Rattle.ec_expr.specs.Arguments.{with_argument, arguments_in, access_of, group_action}
-use Rattle.ec_expr.specs.Callees.{Called, callee, further_count, argument_count, called_sites, call_of}
+use Rattle.ec_expr.specs.Callees.{Called, callee, called_sites, call_of}
 use Rattle.ec_expr.specs.Known.{Known}
-use Rattle.ec_expr.specs.Names.{what_is_meant, named, constant_value}
+use Rattle.ec_expr.specs.Names.{named, constant_value}
 use Rattle.ec_expr.specs.Sites.{Site, on, a_type_name}
-use Rattle.ec_expr.specs.Tokens.{joined, a_join, stored, a_storing, prefix_operator, is_up, is_arrow}
-use Rattle.ec_expr.specs.TypeNames.{said_type, void_said, meant_type, size_of_type_name}
+use Rattle.ec_expr.specs.Tokens.{joined, a_join, stored, a_storing}
+use Rattle.ec_expr.specs.TypeNames.{said_type, void_said, size_of_type_name}
 
 -- what a call gives the types of its arguments by
 abbrev pub wanted_by : Option Called → Wanted

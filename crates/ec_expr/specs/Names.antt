@@ -5,24 +5,10 @@ use Rattle.ec_grammar.specs.declared.tree.Constant.TheVariants as constants
 use Rattle.ec_space.specs.declared.space.SpaceId.{SpaceId}
 use Rattle.ec_core.specs.Plain.{PlainType, object}
 use Rattle.ec_names.specs.Names.{Named, an_object, a_function}
-use Rattle.ec_calls.specs.declared.calls.Meant.{Meant}
-use Rattle.ec_calls.specs.declared.calls.Meant.TheVariants.{Undeclared, Undefined, Object, Function}
 use Rattle.ec_operands.specs.declared.operands.Modes.{Modes}
 use Rattle.ec_calls.specs.Calls.{whole_constant, fixed_constant}
 use Rattle.ec_operands.specs.Operands.{Operand, place, with_both}
-
-abbrev pub object_meant : Option ℕ → Meant
-object_meant None = Undefined
-object_meant (Some n) = Object
-
-abbrev pub kind_meant : Named → Meant
-kind_meant (an_object number ty konst space register) = object_meant number
-kind_meant (a_function number returns params) = Function
-
--- what stands behind a name where no call is
-abbrev pub what_is_meant : Option Named → Meant
-what_is_meant None = Undeclared
-what_is_meant (Some what) = kind_meant what
+pub use Rattle.ec_expr_parts.specs.Names.{object_meant, kind_meant, what_is_meant}
 
 -- an object that a unit defines is a place, where its declaration breaks no rule
 abbrev pub object_place : Option ℕ → Option PlainType → (konst : Bool) → SpaceId → (register : Bool) → Option Operand

@@ -9,7 +9,8 @@ use Rattle.ec_names.specs.Tags.{Tags}
 use Rattle.ec_operands.specs.declared.operands.Modes.{Modes}
 use Rattle.ec_calls.specs.Calls.{size_value}
 use Rattle.ec_operands.specs.Operands.{Operand}
-use Rattle.ec_expr.specs.Known.{is_sized}
+use Rattle.ec_expr_parts.specs.Types.{is_sized}
+pub use Rattle.ec_expr_parts.specs.Types.{meant_type}
 
 -- the type that it says, void and pointers to void among them
 unfoldable pub said_type : Tags → t.TypeName → Option PlainType
@@ -28,11 +29,6 @@ void_rules (Some at) rest = rule 7 true at ∷ rest
 unfoldable pub type_name_rules : Tags → t.TypeName → List Judgement → List Judgement
 type_name_rules tags (t.type_name ss stars) rest =
     specs_rules tags false ss (star_rules stars (void_rules (void_said tags (t.type_name ss stars)) rest))
-
--- the type that it means, which is not void, nor a pointer to void
-abbrev pub meant_type : Option ℕ → Option PlainType → Option PlainType
-meant_type None ty = ty
-meant_type (Some at) ty = None
 
 -- the value of `sizeof` of a type name
 abbrev pub size_of_type_name : Modes → List PlainStruct → Option PlainType → Option Operand

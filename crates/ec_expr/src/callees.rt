@@ -1,11 +1,10 @@
 //! What is called.
 //!
 //! Operands that are not used are dropped by a call: a drop in place at each exit would cost the proof its variants.
-ghost use Rattle.std.specs.Prelude.{◌≡◌, ◌+◌, IfOk, List, ◌∷◌, map, option_map};
+ghost use Rattle.std.specs.Prelude.{◌≡◌, IfOk, List, ◌∷◌, map, option_map};
 ghost use Rattle.std.specs.Option.{option_copied};
 ghost use Rattle.ec_grammar.specs.Views.{view_expression, view_assignment, view_conditional, view_binary, view_cast};
-ghost use Rattle.ec_grammar.specs.Views.{view_unary, view_postfix, view_primary, view_identifier, view_arguments};
-ghost use Rattle.ec_grammar.specs.Views.{views_further};
+ghost use Rattle.ec_grammar.specs.Views.{view_unary, view_postfix, view_primary, view_identifier};
 ghost use Rattle.ec_core.specs.Plain.{plain_type};
 ghost use Rattle.ec_names.specs.Names.{plain_named};
 ghost use Rattle.ec_calls.specs.Calls.{called as called_of};
@@ -14,8 +13,7 @@ ghost use Rattle.ec_rules.specs.Sites.{a_callee};
 ghost use Rattle.ec_expr.specs.Arguments.{plain_arguments};
 ghost use Rattle.ec_expr.specs.Callees.{name_in_expression, name_in_assignment, name_in_conditional, name_in_binary};
 ghost use Rattle.ec_expr.specs.Callees.{name_in_cast, name_in_unary, name_in_postfix, name_in_primary, plain_called};
-ghost use Rattle.ec_expr.specs.Callees.{function_named, callee, argument_count, takes, count_sites, called_sites};
-ghost use Rattle.ec_expr.specs.Callees.{further_count, exprs_of, call_of};
+ghost use Rattle.ec_expr.specs.Callees.{function_named, callee, takes, count_sites, called_sites, exprs_of, call_of};
 ghost use Rattle.ec_expr.specs.Known.{plain_known};
 ghost use Rattle.ec_expr.specs.Sites.{Site, on, told};
 
@@ -24,8 +22,7 @@ use ec_calls::{call, judge_call, judge_callee, judge_function};
 use ec_core::{CType, Expr};
 use ec_faults::Faults;
 use ec_grammar::tree::{
-    Argument, Arguments, Assignment, Binary, Cast, Conditional, Expression, Identifier, Postfix,
-    Primary, Unary,
+    Assignment, Binary, Cast, Conditional, Expression, Identifier, Postfix, Primary, Unary,
 };
 use ec_names::Named;
 use ec_operands::{Modes, Operand};
@@ -160,29 +157,6 @@ pub(crate) fn callee<'a>(known: &Known<'a>, p: &Postfix) -> Option<Called<'a>>
 }
 
 // ---- its call
-
-/// How many arguments there are behind the first one, or behind the name of a port.
-pub(crate) fn further_count(more: &[Argument]) -> usize
-    ensures { result ≡ further_count (views_further more.now) }
-{
-    more.len()
-}
-
-fn count_with_first(more: &[Argument]) -> usize
-    ensures { result ≡ further_count (views_further more.now) + 1 }
-{
-    more.len() + 1
-}
-
-/// How many arguments stand there.
-pub(crate) fn argument_count(a: &Arguments) -> usize
-    ensures { result ≡ argument_count (view_arguments a.now) }
-{
-    match a {
-        Arguments::None => 0,
-        Arguments::Some(_, more) => count_with_first(more),
-    }
-}
 
 fn judge_count(faults: &mut Faults, params: &Option<Seq<CType>>, count: usize, at: u32)
     ensures { (rest : List Site) → told faults.new.least rest ≡ told faults.old.least

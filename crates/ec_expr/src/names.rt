@@ -7,35 +7,21 @@ ghost use Rattle.ec_names.specs.Names.{plain_named, found};
 ghost use Rattle.ec_calls.specs.Calls.{name_rules};
 ghost use Rattle.ec_operands.specs.Operands.{plain_operand};
 ghost use Rattle.ec_rules.specs.Sites.{a_name};
+ghost use Rattle.ec_expr_parts.specs.Names.{what_is_meant};
 ghost use Rattle.ec_expr.specs.Known.{plain_known};
 ghost use Rattle.ec_expr.specs.Sites.{on, Walked};
-ghost use Rattle.ec_expr.specs.Names.{what_is_meant, object_place, named, constant_value};
+ghost use Rattle.ec_expr.specs.Names.{object_place, named, constant_value};
 
 use crate::known::Known;
-use ec_calls::{Meant, fixed_constant, judge_name, whole_constant};
+use ec_calls::{fixed_constant, judge_name, whole_constant};
 use ec_core::{CType, PlaceExpr};
+use ec_expr_parts::what_is_meant;
 use ec_faults::Faults;
 use ec_grammar::tree::{Constant, Identifier};
 use ec_names::Named;
 use ec_operands::{Modes, Operand};
 use ec_space::{NoMemory, SpaceId};
 use std::alloc::Global;
-
-fn what_is_meant(what: Option<&Named>) -> Meant
-    ensures { result ≡ what_is_meant (option_map plain_named (option_copied what.entry)) }
-{
-    match what {
-        None => Meant::Undeclared,
-        Some(Named::Object { number: None, .. }) => Meant::Undefined,
-        Some(
-            Named::Object {
-                number: Some(_),
-                ..
-            },
-        ) => Meant::Object,
-        Some(Named::Function { .. }) => Meant::Function,
-    }
-}
 
 /// Judges the use of a name where no call is, which is told at the name: rules 19, 20 and 21.
 pub fn judge_named(faults: &mut Faults, what: Option<&Named>, at: u32)

@@ -13,22 +13,27 @@ ghost use Rattle.ec_accesses.specs.Accesses.{member_of};
 ghost use Rattle.ec_choices.specs.Choices.{cast};
 ghost use Rattle.ec_operands.specs.Operands.{plain_operand, with_one, with_both};
 ghost use Rattle.ec_rules.specs.Sites.{a_use, a_part, a_prefix, a_step, an_index, a_member, a_choice, a_cast};
+ghost use Rattle.ec_expr_parts.specs.Tokens.{operator_of, is_and, compound_operator, prefix_operator, is_up, is_arrow};
+ghost use Rattle.ec_expr_parts.specs.Types.{meant_type};
 ghost use Rattle.ec_expr.specs.Known.{IsSound, plain_known};
 ghost use Rattle.ec_expr.specs.Sites.{Site, on, a_type_name, told, Walked};
-ghost use Rattle.ec_expr.specs.Tokens.{operator_of, is_and, joined, a_join, compound_operator, stored, a_storing};
-ghost use Rattle.ec_expr.specs.Tokens.{prefix_operator, is_up, is_arrow};
-ghost use Rattle.ec_expr.specs.TypeNames.{said_type, void_said, meant_type, size_of_type_name};
+ghost use Rattle.ec_expr.specs.Tokens.{joined, a_join, stored, a_storing};
+ghost use Rattle.ec_expr.specs.TypeNames.{said_type, void_said, size_of_type_name};
 
-use crate::known::{Known, is_sized};
+use crate::known::Known;
 use crate::type_names::{TypeNamed, type_named};
-use ec_accesses::{index, judge_index, judge_member, member};
+use ec_accesses::{index, judge_member, member};
 use ec_calls::size_value;
 use ec_choices::{cast, choose, judge_cast, judge_choice, judge_logical, logical, sequence};
-use ec_core::{BinOp, CType};
+use ec_core::CType;
+use ec_expr_parts::{
+    compound_operator, is_and, is_arrow, is_sized, is_up, meant_type, operator_of, prefix_operator,
+    take_index,
+};
 use ec_faults::Faults;
 use ec_forms::{
-    PrefixOp, assign, compound, judge_assignment, judge_compound, judge_prefix, judge_step, prefix,
-    step, take, take_part,
+    assign, compound, judge_assignment, judge_compound, judge_prefix, judge_step, prefix, step,
+    take, take_part,
 };
 use ec_grammar::PunctKind;
 use ec_grammar::tree::{Identifier, TypeName};
@@ -36,90 +41,6 @@ use ec_names::Tags;
 use ec_operands::{Modes, Operand, judge_operation, operate};
 use ec_space::NoMemory;
 use std::alloc::Global;
-
-// ---- operators by their tokens
-
-fn operator_of(op: PunctKind) -> Option<BinOp>
-    ensures { result ≡ operator_of op }
-{
-    match op {
-        PunctKind::Plus => Some(BinOp::Add),
-        PunctKind::Minus => Some(BinOp::Sub),
-        PunctKind::Star => Some(BinOp::Mul),
-        PunctKind::Slash => Some(BinOp::Div),
-        PunctKind::Percent => Some(BinOp::Rem),
-        PunctKind::ShiftLeft => Some(BinOp::Shl),
-        PunctKind::ShiftRight => Some(BinOp::Shr),
-        PunctKind::Ampersand => Some(BinOp::And),
-        PunctKind::Bar => Some(BinOp::Or),
-        PunctKind::Caret => Some(BinOp::Xor),
-        PunctKind::Less => Some(BinOp::Lt),
-        PunctKind::Greater => Some(BinOp::Gt),
-        PunctKind::LessEqual => Some(BinOp::Le),
-        PunctKind::GreaterEqual => Some(BinOp::Ge),
-        PunctKind::Equal => Some(BinOp::Eq),
-        PunctKind::NotEqual => Some(BinOp::Ne),
-        _ => None,
-    }
-}
-
-fn is_and(op: PunctKind) -> bool
-    ensures { result ≡ is_and op }
-{
-    match op {
-        PunctKind::AndAnd => true,
-        _ => false,
-    }
-}
-
-fn compound_operator(op: PunctKind) -> Option<BinOp>
-    ensures { result ≡ compound_operator op }
-{
-    match op {
-        PunctKind::StarAssign => Some(BinOp::Mul),
-        PunctKind::SlashAssign => Some(BinOp::Div),
-        PunctKind::PercentAssign => Some(BinOp::Rem),
-        PunctKind::PlusAssign => Some(BinOp::Add),
-        PunctKind::MinusAssign => Some(BinOp::Sub),
-        PunctKind::ShiftLeftAssign => Some(BinOp::Shl),
-        PunctKind::ShiftRightAssign => Some(BinOp::Shr),
-        PunctKind::AmpersandAssign => Some(BinOp::And),
-        PunctKind::CaretAssign => Some(BinOp::Xor),
-        PunctKind::BarAssign => Some(BinOp::Or),
-        _ => None,
-    }
-}
-
-fn prefix_operator(op: PunctKind) -> PrefixOp
-    ensures { result ≡ prefix_operator op }
-{
-    match op {
-        PunctKind::Ampersand => PrefixOp::Address,
-        PunctKind::Star => PrefixOp::Deref,
-        PunctKind::Plus => PrefixOp::Plus,
-        PunctKind::Minus => PrefixOp::Minus,
-        PunctKind::Tilde => PrefixOp::Invert,
-        _ => PrefixOp::Not,
-    }
-}
-
-fn is_up(op: PunctKind) -> bool
-    ensures { result ≡ is_up op }
-{
-    match op {
-        PunctKind::Increment => true,
-        _ => false,
-    }
-}
-
-fn is_arrow(op: PunctKind) -> bool
-    ensures { result ≡ is_arrow op }
-{
-    match op {
-        PunctKind::Arrow => true,
-        _ => false,
-    }
-}
 
 // ---- operands before the last
 
@@ -278,8 +199,7 @@ pub(crate) fn indexing(
         (λ rest. on (a_use b second) ∷ on (an_index a (used b) at) ∷ rest)
         (option_map plain_operand z) (with_both a (used b) (indexed modes))) }
 {
-    let y = take(faults, y, second);
-    judge_index(faults, &x, &y, at);
+    let y = take_index(faults, &x, y, second, at);
     index(alloc, modes, x, y)
 }
 
@@ -397,13 +317,6 @@ fn judged_type(
     type_named(alloc, faults, tags, name)
 }
 
-fn meant_type(n: TypeNamed) -> Option<CType>
-    ensures { option_map plain_type result ≡ meant_type n.void_at (option_map plain_type n.ty) }
-{
-    let void = n.void_at.is_some();
-    n.ty.filter(|_| !void)
-}
-
 fn cast_as(
     alloc: Global,
     modes: Modes,
@@ -413,7 +326,7 @@ fn cast_as(
     ensures { IfOk result (λ z. option_map plain_operand z
         ≡ with_both (meant_type n.void_at (option_map plain_type n.ty)) (option_map plain_operand x) (cast modes)) }
 {
-    let to = meant_type(n);
+    let to = meant_type(n.void_at, n.ty);
     cast(alloc, modes, &to, x)
 }
 
@@ -476,6 +389,6 @@ pub(crate) fn sizing(
         (size_of_type_name k.modes k.structs (meant_type (void_said k.tags n) (said_type k.tags n)))) }
 {
     let n = judged_type(alloc, faults, known.tags, name)?;
-    let ty = meant_type(n);
+    let ty = meant_type(n.void_at, n.ty);
     Ok(size_of_type(known, &ty))
 }

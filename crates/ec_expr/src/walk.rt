@@ -5,6 +5,7 @@ ghost use Rattle.std.specs.Prelude.{◌≡◌, IfOk, OnOk, Some, None, List, [],
 ghost use Rattle.ec_grammar.specs.Views.{view_expression, view_assignment, view_conditional, view_binary, view_cast};
 ghost use Rattle.ec_grammar.specs.Views.{view_unary, view_postfix, view_primary, view_arguments, views_further};
 ghost use Rattle.ec_operands.specs.Operands.{plain_operand};
+ghost use Rattle.ec_expr_parts.specs.Counts.{further_count, argument_count};
 ghost use Rattle.ec_expr.specs.Arguments.{nothing, plain_wanted, wanted_of, plain_passed, arguments_in};
 ghost use Rattle.ec_expr.specs.Arguments.{arguments as no_arguments, operands as no_operands};
 ghost use Rattle.ec_expr.specs.Expressions.{of_expression, of_assignment, of_conditional, of_binary, of_cast, of_unary};
@@ -12,20 +13,19 @@ ghost use Rattle.ec_expr.specs.Expressions.{of_postfix, of_primary, passed_argum
 ghost use Rattle.ec_expr.specs.Expressions.{expression_sites, assignment_sites, conditional_sites, binary_sites};
 ghost use Rattle.ec_expr.specs.Expressions.{cast_sites, unary_sites, postfix_sites, primary_sites, arguments_sites};
 ghost use Rattle.ec_expr.specs.Expressions.{further_sites, wanted_for, operation_of, operation_site};
-ghost use Rattle.ec_expr.specs.Callees.{plain_called, further_count, argument_count, called_sites, call_of};
+ghost use Rattle.ec_expr.specs.Callees.{plain_called, called_sites, call_of};
 ghost use Rattle.ec_expr.specs.Known.{IsSound, plain_known};
 ghost use Rattle.ec_expr.specs.Sites.{Site, told, Walked};
 
 use crate::arguments::{Passed, Wanted, operating, passing, wanted_for, wanted_of};
-use crate::callees::{
-    Called, argument_count, call_of, callee, further_count, judge_called, refuse,
-};
+use crate::callees::{Called, call_of, callee, judge_called, refuse};
 use crate::known::Known;
 use crate::names::{constant, naming};
 use crate::nodes::{
     casting, choosing, indexing, joining, prefixing, reaching, sequenced, sizing, stepping,
     storing, take_first, take_first_part,
 };
+use ec_expr_parts::{argument_count, further_count};
 use ec_faults::Faults;
 use ec_grammar::tree::{
     Argument, Arguments, Assignment, Binary, Cast, Conditional, Expression, Identifier, Operation,

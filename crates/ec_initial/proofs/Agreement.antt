@@ -18,7 +18,7 @@ use Rattle.ec_expr.specs.Expressions.{of_expression, of_assignment, of_condition
 use Rattle.ec_expr.specs.Known.{Known}
 use Rattle.ec_expr.specs.Names.{named}
 use Rattle.ec_expr.specs.Tokens.{prefix_operator, is_arrow}
-use Rattle.ec_initial.specs.declared.places.StaticAddress.{StaticAddress}
+use Rattle.ec_initial_parts.specs.declared.places.StaticAddress.{StaticAddress}
 use Rattle.ec_initial.specs.Places.{StaticPlace, moved, named_outside, start_of, object_named, element_type, element_address, element_of, number_in, member_offset, member_at, member_in, member_of, Designated, place_at, address_at, place_in, address_designated, part_designated, element_designated, index_value, indexed, in_expression, in_assignment, in_conditional, in_binary, in_cast, in_unary, in_postfix, in_primary}
 
 -- ---- addresses

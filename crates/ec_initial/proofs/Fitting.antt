@@ -6,7 +6,7 @@ use Rattle.ec_core.specs.Plain.{PlainType, PlainStruct}
 use Rattle.ec_core.specs.TypeLaws.{StructsAreLaidOut, FillFrom, LeavesFillTheirTypes}
 use Rattle.ec_operands.specs.Sorts.{is_aggregate}
 use Rattle.ec_initial.specs.Parts.{part_type, filled_by, whole_by, joined}
-use Rattle.ec_initial.proofs.PartTypes.{part_object}
+use Rattle.ec_initial_parts.proofs.PartTypes.{part_object}
 use Rattle.ec_initial.proofs.Rests.{types_of, rest_types, leaf_types, part_rest, whole_rest}
 
 abbrev pub AreScalars : List PlainLeaf → Type 0

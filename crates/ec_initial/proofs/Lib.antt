@@ -1,9 +1,7 @@
 -- Lemmas about sizes and initialisers.
 pub mod Inside
 pub mod Numbers
-pub mod PartTypes
 pub mod Counts
-pub mod Moves
 pub mod Members
 pub mod Rests
 pub mod Fitting

@@ -9,11 +9,11 @@ use Rattle.ec_core.specs.declared.types.StructDef.{StructDef}
 use Rattle.ec_core.specs.Layout.{members_layout, struct_layouts, IsObjectType, AreStructs}
 use Rattle.ec_core.specs.Plain.{plain_type, plain_member, PlainMember, plain_struct, PlainStruct}
 use Rattle.ec_core.specs.TypeLaws.{StructsAreLaidOut}
-use Rattle.ec_initial.specs.declared.places.StaticAddress.{StaticAddress}
+use Rattle.ec_initial_parts.specs.declared.places.StaticAddress.{StaticAddress}
 use Rattle.ec_accesses.specs.Accesses.{struct_of}
 use Rattle.ec_operands.specs.Operands.{with_one}
 use Rattle.ec_initial.specs.Places.{StaticPlace, moved, member_at, member_in, member_of}
-use Rattle.ec_initial.proofs.PartTypes.{each_at}
+use Rattle.ec_initial_parts.proofs.PartTypes.{each_at}
 
 all_taken : {X : Type 0} (P : X → Type 0) (n : ℕ) (xs : List X) → AllByRecursion P xs → AllByRecursion P (take n xs)
 all_taken P zero xs h = tt

@@ -34,7 +34,7 @@ use Rattle.ec_expr.specs.Expressions.{of_assignment}
 use Rattle.ec_expr.specs.Known.{Known}
 use Rattle.ec_initial.specs.declared.places.ItemForm.{ItemForm}
 use Rattle.ec_initial.specs.declared.places.ItemForm.TheVariants as item
-use Rattle.ec_initial.specs.declared.places.StaticAddress.{StaticAddress}
+use Rattle.ec_initial_parts.specs.declared.places.StaticAddress.{StaticAddress}
 use Rattle.ec_initial.specs.Items.{leaf_of_result, leaf_of, becomes_null, zero_leaf}
 use Rattle.ec_initial.specs.Laws.{leaf_types, IsStaticAddress, IsInitialLeaf, InitialValuesSuit}
 use Rattle.ec_initial.specs.Parts.{part_of, scalar_of, joined}

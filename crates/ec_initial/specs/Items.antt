@@ -14,7 +14,7 @@ use Rattle.ec_operands.specs.Operands.{Operand, is_null, with_one}
 use Rattle.ec_operands.specs.Sorts.{is_pointer}
 use Rattle.ec_initial.specs.declared.places.ItemForm.{ItemForm}
 use Rattle.ec_initial.specs.declared.places.ItemForm.TheVariants as item
-use Rattle.ec_initial.specs.declared.places.StaticAddress.{StaticAddress}
+use Rattle.ec_initial_parts.specs.declared.places.StaticAddress.{StaticAddress}
 
 -- ---- leaves
 

@@ -1,6 +1,6 @@
 -- Static places: objects with static storage and parts of them that are known before a run, and their addresses, the
 -- address constants (ISO/IEC 9899:1999, 6.6).
-use Rattle.std.specs.Prelude.{ℕ, ◌+◌, ◌*◌, nat_lt, Bool, ◌&&◌, if◌then◌else◌, ℤ, pos, int_le, unsigned_abs, ⊤}
+use Rattle.std.specs.Prelude.{ℕ, ◌*◌, Bool, ◌&&◌, if◌then◌else◌, ℤ, pos, int_le, unsigned_abs, ⊤}
 use Rattle.std.specs.Prelude.{IfSome, length, take, position, option_map, is_some, slice_get, Option, Some, None}
 use Rattle.std.specs.Prelude.{Result, Ok, Err, List}
 use Rattle.std.specs.Str.{bytes_eq}
@@ -9,7 +9,7 @@ use Rattle.ec_grammar.specs.declared.token.PunctKind.TheVariants as p
 use Rattle.ec_grammar.specs.Trees as t
 use Rattle.ec_core.specs.declared.values.Undefined.{Undefined}
 use Rattle.ec_core.specs.Layout.{members_layout, struct_layouts, size_of_type, IsObjectType}
-use Rattle.ec_core.specs.Plain.{PlainType, void, integer, fixed, pointer, array, struct, plain_type, PlainStruct}
+use Rattle.ec_core.specs.Plain.{PlainType, void, integer, fixed, pointer, array, struct, PlainStruct}
 use Rattle.ec_core.specs.Plain.{PlainExpr}
 use Rattle.ec_core.specs.Typing.{type_of_expr}
 use Rattle.ec_names.specs.Names.{Named, an_object, a_function, Names, found, is_declared_since}
@@ -28,42 +28,14 @@ use Rattle.ec_initial.specs.declared.places.Designated as designated
 use Rattle.ec_initial.specs.declared.places.Designated.TheVariants as forms
 use Rattle.ec_initial.specs.declared.places.ItemForm.{ItemForm}
 use Rattle.ec_initial.specs.declared.places.ItemForm.TheVariants as item
-use Rattle.ec_initial.specs.declared.places.StaticAddress.{StaticAddress}
-use Rattle.ec_initial.specs.declared.places.StaticPlace as static_place
-
--- ---- places
-
--- a place in an object with static storage: its address, where it is known, the size of the object, and the type of
--- what stands there
-pub record StaticPlace : Type 0 where
-  pub address : Option StaticAddress
-  pub size : ℕ
-  pub ty : PlainType
-
-abbrev pub plain_place : static_place.StaticPlace → StaticPlace
-plain_place s = record { address = s.address; size = s.size; ty = plain_type s.ty.now }
-
--- the address so many bytes further in an object of a size, or at its end (6.5.6)
-abbrev pub moved : (size : ℕ) → Option StaticAddress → (bytes : ℕ) → Option StaticAddress
-moved size None bytes = None
-moved size (Some a) bytes =
-    if nat_lt size (a.offset + bytes) then None else Some (record { object = a.object; offset = a.offset + bytes })
+use Rattle.ec_initial_parts.specs.declared.places.StaticAddress.{StaticAddress}
+pub use Rattle.ec_initial_parts.specs.Places.{StaticPlace, plain_place, moved, start_of, object_in}
 
 -- ---- names
 
 -- what a name at file scope stands for that no block hides
 abbrev pub named_outside : List ℕ → Names → Option Named
 named_outside n s = if is_declared_since 0 n s then None else found n s
-
-abbrev pub start_of : Option ℕ → Option StaticAddress
-start_of number = option_map (λ n. record { object = n; offset = 0 }) number
-
--- an object that stands in no register; its address is known where a unit defines it
-abbrev pub object_in : List PlainStruct → (number : Option ℕ) → Option PlainType → (register : Bool)
-    → Option StaticPlace
-object_in structs number None register = None
-object_in structs number (Some ty) register =
-    if register then None else Some (record { address = start_of number; size = size_of_type structs ty; ty = ty })
 
 abbrev pub object_named : List PlainStruct → Option Named → Option StaticPlace
 object_named structs None = None

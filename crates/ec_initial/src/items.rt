@@ -1,7 +1,7 @@
 //! Items of initialisers of static objects.
 //!
 //! Trees that are not used are dropped by a call: a drop in place at each exit would cost the proof its variants.
-ghost use Rattle.std.specs.Prelude.{◌≡◌, ◌∷◌, [], IfOk, ◌&&◌, false, is_none, is_some, None, option_map};
+ghost use Rattle.std.specs.Prelude.{◌≡◌, ◌∷◌, [], IfOk, false, None, option_map};
 ghost use Rattle.std.specs.Option.{option_copied};
 ghost use Rattle.ec_core.specs.Plain.{plain_type, plain_expr};
 ghost use Rattle.ec_faults.specs.Faults.{all_judged};
@@ -17,14 +17,14 @@ ghost use Rattle.ec_initial.specs.declared.places.ItemForm.TheVariants.{Other};
 ghost use Rattle.ec_initial.specs.Statics.{walked_leaf, item_leaf, walked_sites, item_sites};
 
 use crate::locals::walked_value;
-use crate::parts::{judge_bare, scalar_of};
-use crate::places::{ItemForm, StaticAddress, form_of};
+use crate::places::{ItemForm, form_of};
 use ec_constant_types::is_constant;
 use ec_constants::constant;
 use ec_core::{CType, Expr, LeafInit, Undefined};
 use ec_expr::Known;
 use ec_faults::Faults;
 use ec_grammar::tree::Assignment;
+use ec_initial_parts::{StaticAddress, is_missing, judge_bare, scalar_of};
 use ec_names::first_assignment;
 use ec_operands::{Operand, is_null, pass, type_sort};
 use ec_space::NoMemory;
@@ -114,12 +114,6 @@ fn is_other(form: ItemForm) -> bool
         ItemForm::Constant | ItemForm::Address(_) => false,
         ItemForm::Other => true,
     }
-}
-
-fn is_missing(e: &Option<Expr>, leaf: &Option<LeafInit>) -> bool
-    ensures { result ≡ (is_some (option_map plain_expr e.now) && is_none leaf.now) }
-{
-    e.is_some() && leaf.is_none()
 }
 
 /// The leaf that an item gives. Judges rule 15 at its first token.

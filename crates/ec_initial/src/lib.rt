@@ -4,10 +4,10 @@
 mod items;
 mod laws;
 mod locals;
-mod parts;
 mod places;
 mod sizes;
 mod statics;
+mod zeros;
 
 pub use laws::{
     initial_values_suit, sizes_are_values, static_numbers_are_values, values_have_leaf_types,

@@ -1,7 +1,7 @@
 //! Static places and their addresses.
 //!
 //! Trees that are not used are dropped by a call: a drop in place at each exit would cost the proof its variants.
-ghost use Rattle.std.specs.Prelude.{◌≡◌, ◌+◌, ◌*◌, ◌^◌, ◌<◌, ◌∷◌, [], map, length, position, slice_get, if◌then◌else◌};
+ghost use Rattle.std.specs.Prelude.{◌≡◌, ◌+◌, ◌*◌, ◌∷◌, [], map, length, position, slice_get, if◌then◌else◌};
 ghost use Rattle.std.specs.Prelude.{IfOk, IfSome, Some, None, option_map, take};
 ghost use Rattle.std.specs.List.{AllByRecursion};
 ghost use Rattle.std.specs.Option.{option_copied};
@@ -39,29 +39,11 @@ use ec_grammar::PunctKind;
 use ec_grammar::tree::{
     Assignment, Binary, Cast, Conditional, Expression, Identifier, Postfix, Primary, Unary,
 };
+use ec_initial_parts::{StaticAddress, StaticPlace, behind, first_of, moved, object_in};
 use ec_names::{Named, first_expression};
 use ec_operands::{Operand, type_sort};
 use ec_space::{Name, NoMemory, Seq};
 use std::alloc::Global;
-
-/// An address in an object with static storage.
-#[derive(Clone, Copy)]
-pub(crate) struct StaticAddress {
-    /// The object's place in the program's list.
-    pub object: u16,
-    /// In bytes, from 0 to the object's size.
-    pub offset: u32,
-}
-
-/// A place in an object with static storage.
-#[derive(Clone, Copy)]
-pub(crate) struct StaticPlace<'a> {
-    /// None where no unit defines the object, or where the place is not in it.
-    pub address: Option<StaticAddress>,
-    /// The number of bytes of the object.
-    pub size: u32,
-    pub ty: &'a CType,
-}
 
 /// What an expression names before a run.
 #[derive(Clone, Copy)]
@@ -81,31 +63,6 @@ pub(crate) enum ItemForm {
     Other,
 }
 
-fn moved_from(size: u32, a: StaticAddress, bytes: u64) -> Option<StaticAddress>
-    requires { bytes < 2 ^ 63 }
-    ensures { result ≡ moved size (Some a) bytes }
-{
-    let offset = a.offset as u64 + bytes;
-    if (size as u64) < offset {
-        None
-    } else {
-        Some(StaticAddress {
-            object: a.object,
-            offset: offset as u32,
-        })
-    }
-}
-
-fn moved(size: u32, address: Option<StaticAddress>, bytes: u64) -> Option<StaticAddress>
-    requires { bytes < 2 ^ 63 }
-    ensures { result ≡ moved size address bytes }
-{
-    match address {
-        None => None,
-        Some(a) => moved_from(size, a, bytes),
-    }
-}
-
 // ---- names
 
 fn named_outside<'a>(known: &Known<'a>, name: &Name) -> Option<&'a Named>
@@ -117,40 +74,6 @@ fn named_outside<'a>(known: &Known<'a>, name: &Name) -> Option<&'a Named>
     } else {
         known.names.find(name)
     }
-}
-
-fn start_of(number: Option<u16>) -> Option<StaticAddress>
-    ensures { result ≡ start_of number }
-{
-    match number {
-        None => None,
-        Some(object) => Some(StaticAddress { object, offset: 0 }),
-    }
-}
-
-fn object_in<'a>(
-    structs: &Seq<StructDef>,
-    number: Option<u16>,
-    ty: &'a Option<CType>,
-    register: bool,
-) -> Option<StaticPlace<'a>>
-    requires structs { AreStructs (map plain_struct structs.now.items) }
-    requires object { IfSome (option_map plain_type ty.now) (IsObjectType (length structs.now.items)) }
-    ensures value { option_map plain_place result
-        ≡ object_in (map plain_struct structs.now.items) number (option_map plain_type ty.now) register }
-    ensures object { IfSome (option_map plain_place result) (λ s. IsObjectType (length structs.now.items) s.ty) }
-{
-    let Some(ty) = ty else {
-        return None;
-    };
-    if register {
-        return None;
-    }
-    Some(StaticPlace {
-        address: start_of(number),
-        size: size_of(structs, ty),
-        ty,
-    })
 }
 
 fn object_named<'a>(known: &Known<'a>, name: &Name) -> Option<StaticPlace<'a>>
@@ -297,37 +220,6 @@ fn number_in(name: &Name, def: &StructDef) -> Option<usize>
     ensures { result ≡ number_in name.now.items (plain_struct def.now) }
 {
     named_among(&def.members, name)
-}
-
-/// The first `count` members.
-fn first_of(members: &[Member], count: usize) -> &[Member]
-    ensures { result.now ≡ take count members.now }
-{
-    if count < members.len() {
-        &members[..count]
-    } else {
-        members
-    }
-}
-
-/// The address behind members that begin at an address.
-fn behind(
-    structs: &Seq<StructDef>,
-    size: u32,
-    from: Option<StaticAddress>,
-    members: &[Member],
-) -> Option<StaticAddress>
-    requires structs { AreStructs (map plain_struct structs.now.items) }
-    requires known { AllByRecursion (λ m. IsObjectType (length structs.now.items) m.ty)
-        (map plain_member members.now) }
-    ensures { result ≡ moved size from
-        (members_layout (struct_layouts (map plain_struct structs.now.items)) (map plain_member members.now)).size }
-{
-    let mut address = moved(size, from, 0);
-    for member in members {
-        address = moved(size, address, size_of(structs, &member.ty) as u64);
-    }
-    address
 }
 
 fn member_at<'a>(

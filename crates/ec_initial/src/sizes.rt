@@ -2,7 +2,6 @@
 //!
 //! Trees that are not used are dropped by a call: a drop in place at each exit would cost the proof its variants.
 ghost use Rattle.std.specs.Prelude.{◌≡◌, IfOk, Option, ◌∷◌, [], option_map};
-ghost use Rattle.ec_core.specs.Plain.{plain_expr};
 ghost use Rattle.ec_faults.specs.Faults.{all_judged};
 ghost use Rattle.ec_grammar.specs.Views.{view_conditional};
 ghost use Rattle.ec_names.specs.Firsts.{first_conditional};
@@ -12,51 +11,19 @@ ghost use Rattle.ec_rules.specs.Sites.{a_use};
 ghost use Rattle.ec_expr.specs.Expressions.{of_conditional, conditional_sites};
 ghost use Rattle.ec_expr.specs.Known.{IsSound, plain_known};
 ghost use Rattle.ec_expr.specs.Sites.{on};
-ghost use Rattle.ec_initial.specs.Sizes.{size_of_number, size_of_result, size_of_value, size_of_operand};
-ghost use Rattle.ec_initial.specs.Sizes.{array_size, is_unsized, size_rules};
+ghost use Rattle.ec_initial.specs.Sizes.{size_of_operand, array_size, is_unsized, size_rules};
 ghost use Rattle.ec_initial.specs.Sites.{Site, sites_in, a_size, size_sites, Walked};
 
 use ec_constant_forms::is_constant_conditional;
-use ec_constant_types::is_constant;
-use ec_constants::constant;
-use ec_core::{Expr, Undefined};
 use ec_expr::{Known, conditional};
 use ec_faults::Faults;
 use ec_forms::take;
 use ec_grammar::tree::Conditional;
+use ec_initial_parts::size_of_value;
 use ec_names::first_conditional;
-use ec_operands::{Operand, type_sort};
+use ec_operands::Operand;
 use ec_space::NoMemory;
 use std::alloc::Global;
-
-fn size_of_number(n: i128) -> Option<u16>
-    ensures { result ≡ size_of_number n }
-{
-    if 1 <= n && n <= 32_767 {
-        Some(n as u16)
-    } else {
-        None
-    }
-}
-
-fn size_of_result(value: Result<i128, Undefined>) -> Option<u16>
-    ensures { result ≡ size_of_result value }
-{
-    match value {
-        Ok(n) => size_of_number(n),
-        Err(_) => None,
-    }
-}
-
-fn size_of_value(e: &Expr) -> Option<u16>
-    ensures { result ≡ size_of_value (plain_expr e.now) }
-{
-    if type_sort(&e.ty).is_integer() && is_constant(e) {
-        size_of_result(constant(e))
-    } else {
-        None
-    }
-}
 
 fn size_of_operand(x: &Operand) -> Option<u16>
     ensures { result ≡ size_of_operand (plain_operand x.now) }

@@ -1,7 +1,6 @@
 pub mod Blocks
 pub mod Changes
 pub mod Parts
-pub mod Operands
 pub mod Steps
 pub mod Passing
 pub mod Rows

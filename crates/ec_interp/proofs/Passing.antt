@@ -4,12 +4,12 @@ use Rattle.std.specs.Result.{IsErrAnd}
 use Rattle.ec_core.specs.declared.values.Undefined.{Undefined as Point}
 use Rattle.ec_core.specs.State.{State, Outcome, got, more, undefined, next, given}
 use Rattle.ec_core.specs.Statements.{Exit, ending}
-use Rattle.ec_interp.specs.declared.behaviour.Unanswered.TheVariants.{NoMemory as Full}
-use Rattle.ec_interp.specs.declared.state.RunError.{RunError}
-use Rattle.ec_interp.specs.declared.state.RunError.TheVariants.{Unanswered, OutOfTurns, Undefined}
+use Rattle.ec_interp_state.specs.declared.behaviour.Unanswered.TheVariants.{NoMemory as Full}
+use Rattle.ec_interp_state.specs.declared.state.RunError.{RunError}
+use Rattle.ec_interp_state.specs.declared.state.RunError.TheVariants.{Unanswered, OutOfTurns, Undefined}
 use Rattle.ec_interp.specs.Does.{Stops, ShowsWhere}
-use Rattle.ec_interp.specs.Shows.{ShowsAs, Tells}
-use Rattle.ec_interp.specs.Suits.{IsAnswered}
+use Rattle.ec_interp_state.specs.Shows.{ShowsAs, Tells}
+use Rattle.ec_interp_state.specs.Suits.{IsAnswered}
 
 -- the same of a part that suits more often
 pub suited : {A B P Q : Type 0} (view : A → B) (r : Result A RunError) (s : State) (o : Outcome B) → (Q → P) → ShowsWhere view P r s o → ShowsWhere view Q r s o

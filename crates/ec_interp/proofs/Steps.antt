@@ -23,10 +23,10 @@ use Rattle.ec_core.specs.Valid.{ValidExpr, ValidExprs, ValidPlace, ValidOptional
 use Rattle.ec_core.specs.ValueTypes.{HasType, IsTypedState, IsSoundOutcome, AreArgumentValues, ValuesHaveTheirTypes}
 use Rattle.ec_core.specs.Words.{leaf_words, branch_words}
 use Rattle.ec_core.proofs.TypedRuns.{types_are_kept}
-use Rattle.ec_interp.specs.declared.state.Context.{Context}
-use Rattle.ec_interp.specs.Suits.{IsGiven, Runs, RunsNode, RunsExpr, RunsPlace, RunsOption, RunsExprs, RunsOptional, RunsCondition, RunsLeaves, RunsStmt, RunsStmts, RunsTest, RunsLoop, AreArgumentsOf, IsOperand}
-use Rattle.ec_interp.specs.Views.{setting_of, inputs_of}
-use Rattle.ec_interp.proofs.Operands.{some_and}
+use Rattle.ec_interp_state.specs.declared.state.Context.{Context}
+use Rattle.ec_interp_state.specs.Suits.{IsGiven, Runs, RunsNode, RunsExpr, RunsPlace, RunsOption, RunsExprs, RunsOptional, RunsCondition, RunsLeaves, RunsStmt, RunsStmts, RunsTest, RunsLoop, AreArgumentsOf, IsOperand}
+use Rattle.ec_interp_state.specs.Views.{setting_of, inputs_of}
+use Rattle.ec_interp_values.proofs.Operands.{some_and}
 
 pub list_next : {A : Type 0} (xs : List A) (i : ℕ) (x : A) → i < length xs → x ≡ get_or xs i x → drop i xs ≡ x ∷ drop (i + 1) xs
 list_next xs i x l r = let n : suc i ≡ i + 1 = omega arith in drop-cons xs i x l ∙ (ap (λ y. y ∷ drop (suc i) xs) (sym r) ∙ ap (λ j. x ∷ drop j xs) n)

@@ -1,18 +1,10 @@
 -- Parts of programs and states that an answer names by their numbers.
-use Rattle.std.specs.Prelude.{ℕ, ◌+◌, max, if◌then◌else◌, List, [], ◌∷◌, Option, option_map, option_and_then, slice_get}
-use Rattle.ec_core.specs.Accesses.{Access, belongs_to, ended}
+use Rattle.std.specs.Prelude.{ℕ, ◌+◌, max, if◌then◌else◌, List, [], ◌∷◌}
+use Rattle.ec_core.specs.Accesses.{belongs_to, ended}
 use Rattle.ec_core.specs.Layout.{scalar_size}
-use Rattle.ec_core.specs.Plain.{PlainProgram, PlainObject, PlainPlace, object, deref, member}
+use Rattle.ec_core.specs.Plain.{PlainObject, PlainPlace, object, deref, member}
 use Rattle.ec_core.specs.State.{State, with_object}
 use Rattle.ec_core.specs.Typing.{type_of_expr}
-use Rattle.ec_interp.specs.declared.accesses.Found.{Found}
-
--- an access by its numbers
-abbrev pub access_at : PlainProgram → State → Found → Option Access
-access_at program s a =
-    option_and_then (λ o. option_map
-    (λ x. record { object = a.object; leaf = a.leaf; space = a.space; declared = o; state = x })
-    (slice_get s.objects a.object)) (slice_get program.objects a.object)
 
 -- the greatest number of bytes of the pointers in a place, and at least n
 abbrev pub widest_from : PlainPlace → ℕ → ℕ

@@ -3,32 +3,25 @@ ghost use Rattle.std.specs.Prelude.{◌≡◌, ◌==◌, ◌&&◌, Some, None, m
 ghost use Rattle.std.specs.Prelude.{IfErr, IfOk, OnOk};
 ghost use Rattle.std.specs.List.{position_from};
 ghost use Rattle.ec_core.specs.Accesses.{access, leaf_at, leaf_of, is_readable, read, write, is_fixed, recorded};
-ghost use Rattle.ec_core.specs.Accesses.{stored, own_access, initialised, with_leaf};
+ghost use Rattle.ec_core.specs.Accesses.{stored, first_write, initialised, with_leaf};
 ghost use Rattle.ec_core.specs.Expressions.{accessed};
 ghost use Rattle.ec_core.specs.Layout.{plain_leaf, IsObjectType};
 ghost use Rattle.ec_core.specs.Operators.{same_type};
 ghost use Rattle.ec_core.specs.Plain.{plain_type, plain_object, plain_storage, plain_place, plain_program};
 ghost use Rattle.ec_core.specs.State.{with_object, Write as WriteOf, told, got};
-ghost use Rattle.ec_interp.specs.Lookups.{access_at};
-ghost use Rattle.ec_interp.specs.Shows.{Shows};
-ghost use Rattle.ec_interp.specs.Suits.{IsGiven, IsMemory, IsAnswered};
-ghost use Rattle.ec_interp.specs.Views.{seen, seen_object, seen_event, HasLayouts, setting_of};
+ghost use Rattle.ec_interp_decisions.specs.Accesses.{access_at};
+ghost use Rattle.ec_interp_state.specs.Shows.{Shows};
+ghost use Rattle.ec_interp_state.specs.Suits.{IsGiven, IsMemory, IsAnswered};
+ghost use Rattle.ec_interp_state.specs.Views.{seen, seen_object, seen_event, HasLayouts, setting_of};
 
-use crate::behaviour::{Event, Unanswered};
-use crate::layouts::{leaves_in, place_space};
 use crate::objects::set_leaf;
-use crate::operators::{is_live_in, referent};
-use crate::state::{Context, ObjectState, RunError, State, at, object, object_state, told};
 use ec_core::{CType, Leaf, Obj, ObjectPointer, PlaceExpr, Storage, Undefined, Value};
+use ec_interp_decisions::{Found, own_access};
+use ec_interp_state::{
+    Context, Event, ObjectState, RunError, State, Unanswered, at, object, object_state, told,
+};
+use ec_interp_values::{is_live_in, leaves_in, place_space, referent};
 use ec_space::{NoMemory, SpaceId};
-
-/// A leaf that can be accessed.
-#[derive(Clone, Copy)]
-pub struct Found {
-    pub object: u16,
-    pub leaf: usize,
-    pub space: SpaceId,
-}
 
 /// The number of the leaf of a type that begins at an offset in an object.
 fn leaf_at(f: &Context, o: &Obj, ty: &CType, offset: u32) -> Result<Option<usize>, Unanswered>
@@ -242,25 +235,29 @@ pub fn write(
     }
 }
 
+/// The first write of a leaf: const objects are written too.
+fn first_write(f: &Context, s: &mut State, a: Found, v: Value) -> Result<Value, RunError>
+    ensures answered { IsAnswered result }
+    ensures shows { Shows result (seen s.new)
+        (first_write (access_at (plain_program f.now.program.now) (seen s.old) a) v (seen s.old)) }
+{
+    let Some(o) = object(f.program, a.object) else {
+        return Err(RunError::Undefined(Undefined::Access));
+    };
+    if object_state(s, a.object).is_none() {
+        return Err(RunError::Undefined(Undefined::Access));
+    }
+    store(s, o, a, v)?;
+    Ok(v)
+}
+
 /// The initialisation of a leaf of the newest instance of an object: const objects are written too.
 pub fn initialise(f: &Context, s: &mut State, o: u16, k: usize, v: Value) -> Result<Value, RunError>
     ensures answered { IsAnswered result }
     ensures shows { Shows result (seen s.new) (initialised (plain_program f.now.program.now) o k v (seen s.old)) }
 {
-    let Some(d) = object(f.program, o) else {
-        return Err(RunError::Undefined(Undefined::Access));
-    };
-    let Some(x) = object_state(s, o) else {
-        return Err(RunError::Undefined(Undefined::Access));
-    };
-    if !x.live || !d.space.holds(d.home) {
-        return Err(RunError::Undefined(Undefined::Access));
+    match own_access(f.program, s, o, k) {
+        Some(a) => first_write(f, s, a, v),
+        None => Err(RunError::Undefined(Undefined::Access)),
     }
-    let a = Found {
-        object: o,
-        leaf: k,
-        space: d.space,
-    };
-    store(s, d, a, v)?;
-    Ok(v)
 }

@@ -4,16 +4,11 @@
 #![tactic(auto)]
 
 mod accesses;
-mod behaviour;
 mod interpreter;
-mod layouts;
-mod numbers;
 mod objects;
-mod operators;
 mod ports;
 mod run;
-mod state;
 mod words;
 
-pub use behaviour::{Behaviour, Event, PortInput, Run, Told, Unanswered};
+pub use ec_interp_state::{Behaviour, Event, PortInput, Run, Told, Unanswered};
 pub use interpreter::interpret;

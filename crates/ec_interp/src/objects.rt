@@ -1,18 +1,18 @@
 //! The life of objects.
 ghost use Rattle.std.specs.Prelude.{◌≡◌, None, replicate, map, option_map, unwrap_or, slice_get, IfErr, IfOk, OnOk};
-ghost use Rattle.ec_core.specs.Accesses.{pointer_to, leaf_count, renewed, ended, begun, all_ended, belongs_to};
+ghost use Rattle.ec_core.specs.Accesses.{pointer_to, leaf_count, renewed, ended, begun, all_ended};
 ghost use Rattle.ec_core.specs.Accesses.{frame_ended, with_leaf};
-ghost use Rattle.ec_core.specs.Plain.{a_stmt, plain_object, plain_storage, plain_stmt, plain_stmts, plain_program};
+ghost use Rattle.ec_core.specs.Plain.{a_stmt, plain_object, plain_stmt, plain_stmts, plain_program};
 ghost use Rattle.ec_core.specs.State.{with_object};
 ghost use Rattle.ec_core.specs.Statements.{declared, declared_first};
 ghost use Rattle.ec_interp.specs.Lookups.{ended_from};
-ghost use Rattle.ec_interp.specs.Suits.{IsGiven, IsMemory};
-ghost use Rattle.ec_interp.specs.Views.{seen, seen_object, HasLayouts};
+ghost use Rattle.ec_interp_state.specs.Suits.{IsGiven, IsMemory};
+ghost use Rattle.ec_interp_state.specs.Views.{seen, seen_object, HasLayouts};
 
-use crate::behaviour::Unanswered;
-use crate::layouts::leaf_count;
-use crate::state::{Context, ObjectState, State, object, object_state};
-use ec_core::{Obj, ObjectPointer, Program, Stmt, StmtKind, Storage, Value};
+use ec_core::{Obj, ObjectPointer, Program, Stmt, StmtKind, Value};
+use ec_interp_decisions::belongs_to;
+use ec_interp_state::{Context, ObjectState, State, Unanswered, object, object_state};
+use ec_interp_values::leaf_count;
 use ec_space::NoMemory;
 use std::alloc::Global;
 
@@ -126,15 +126,6 @@ pub fn end_first(s: &mut State, first: &Stmt)
         StmtKind::Block(all) => end_declared(s, all.as_slice()),
         StmtKind::Local(o, _) => end(s, *o as usize),
         _ => {}
-    }
-}
-
-fn belongs_to(function: u16, storage: &Storage) -> bool
-    ensures { result ≡ belongs_to function (plain_storage storage.now) }
-{
-    match storage {
-        Storage::Local(g) | Storage::Param(g) => *g == function,
-        Storage::Static(_) | Storage::Register(_) => false,
     }
 }
 

@@ -1,6 +1,5 @@
 //! What expressions, statements and functions do.
 ghost use Rattle.std.specs.Prelude.{◌≡◌, ◌==◌, ◌+◌, ◌<◌, ⊤, pos, [], ◌∷◌, ◌++◌, map, option_map, unwrap_or, OnOk};
-ghost use Rattle.std.specs.Prelude.{MatchOption};
 ghost use Rattle.std.specs.Option.{option_copied};
 ghost use Rattle.ec_core.specs.declared.values.Value.TheVariants.{Number as TheNumber};
 ghost use Rattle.ec_core.specs.Accesses.{pointer_to, referent_of, member_offset, begun, initialised, operand_of};
@@ -16,8 +15,8 @@ ghost use Rattle.ec_core.specs.Plain.{plain_expr, plain_exprs, plain_stmt, plain
 ghost use Rattle.ec_core.specs.Pointers.{moved};
 ghost use Rattle.ec_core.specs.PortAccesses.{no_value};
 ghost use Rattle.ec_core.specs.PortTable.{plain_table};
-ghost use Rattle.ec_core.specs.State.{State as StateOf, Outcome, got, given, worked};
-ghost use Rattle.ec_core.specs.Statements.{Exit as ExitOf, at_end, in_order, again, parameters_written, call_result};
+ghost use Rattle.ec_core.specs.State.{got, given, worked};
+ghost use Rattle.ec_core.specs.Statements.{at_end, parameters_written, call_result};
 ghost use Rattle.ec_core.specs.Statements.{calls_within};
 ghost use Rattle.ec_core.specs.Typing.{int, place_type, type_of_expr, HaveBinaryTypes, HaveCompoundTypes};
 ghost use Rattle.ec_core.specs.Typing.{AreConvertible};
@@ -27,27 +26,28 @@ ghost use Rattle.ec_interp.specs.Does.{DoesExpr, DoesNode, DoesModeless, DoesTyp
 ghost use Rattle.ec_interp.specs.Does.{DoesOption, DoesExprs, DoesTest, DoesOptional, DoesReturn, DoesLeaves, DoesStmt};
 ghost use Rattle.ec_interp.specs.Does.{DoesKind, DoesStmts, DoesFirst, DoesFirstAndLoop, DoesTested, DoesTurns};
 ghost use Rattle.ec_interp.specs.Does.{DoesNext, DoesCall, DoesEntered, ShowsWhere, plain_other};
-ghost use Rattle.ec_interp.specs.Shows.{Shows, ShowsAs, Tells};
-ghost use Rattle.ec_interp.specs.Suits.{IsGiven, IsAnswered, IsOperand, AreArgumentsOf};
+ghost use Rattle.ec_interp_state.specs.Shows.{Shows, ShowsAs, Tells};
+ghost use Rattle.ec_interp_state.specs.Suits.{IsGiven, IsAnswered, IsOperand, AreArgumentsOf};
 ghost use Rattle.ec_interp.specs.Updates.{seen_update};
 ghost use Rattle.ec_interp.specs.Loops.{block_items};
-ghost use Rattle.ec_interp.specs.Views.{seen, seen_exit, plain_optional, setting_of, HasLayouts};
+ghost use Rattle.ec_interp_state.specs.Views.{seen, seen_exit, plain_optional, setting_of, HasLayouts};
 ghost use Rattle.ec_interp.specs.Weights.{stmt_weight, bodies};
 
 use crate::accesses::{initialise, read, write};
-use crate::layouts::{member_offset, place_type};
 use crate::objects::{begin, end_declared, end_first, end_frame, pointer_to};
-use crate::operators::{
-    Operand, binary_value, compound_value, conversion, moved, referent, truth, unary_value,
-};
 use crate::ports::{no_value, operate, operate_group};
-use crate::state::{Context, Exit, RunError, State, at, function};
 use crate::words::{leaf_words, node_words, return_of};
 use ec_core::{
     BinOp, CType, Expr, Func, Node, ObjectPointer, PlaceExpr, Stmt, StmtKind, UnOp, Undefined,
     Value,
 };
 use ec_fx::Mode;
+use ec_interp_decisions::{early_exit, loop_exit, updated_value};
+use ec_interp_state::{Context, Exit, RunError, State, at, function};
+use ec_interp_values::{
+    Operand, binary_value, compound_value, conversion, member_offset, moved, place_type, referent,
+    truth, unary_value,
+};
 use ec_iohw::IoOp;
 use ec_space::{NoMemory, Seq};
 
@@ -203,7 +203,7 @@ fn update_place(
     };
     let v = compound_value(f, s, u.op, u.operation_mode, u.write_mode, &left, right)?;
     write(f, s, u.ty, u.place, to, v)?;
-    Ok(if u.new { v } else { old })
+    Ok(updated_value(u.new, v, old))
 }
 
 /// A compound assignment, from the old value of its place and the value of its right side.
@@ -845,19 +845,6 @@ fn block_of(a: &Stmt) -> Option<&[Stmt]>
     }
 }
 
-/// How a row of statements is left one of which was left so, or None where it goes on.
-fn early_exit(x: Exit) -> Option<Exit>
-    ensures { MatchOption result ((s : StateOf) (go : StateOf → Outcome ExitOf) → in_order (seen_exit x) s go ≡ go s)
-        (λ y. (s : StateOf) (go : StateOf → Outcome ExitOf) → in_order (seen_exit x) s go ≡ got (seen_exit y) s) }
-{
-    match x {
-        Exit::AtEnd => None,
-        Exit::ByBreak => Some(Exit::ByBreak),
-        Exit::ByContinue => Some(Exit::ByContinue),
-        Exit::ByReturn(v) => Some(Exit::ByReturn(v)),
-    }
-}
-
 /// The first part of a `for`, which the objects of a block outlive.
 #[cycle(run)]
 fn first_effect(f: &Context, depth: usize, s: &mut State, first: &Stmt) -> Result<Exit, RunError>
@@ -984,18 +971,6 @@ fn turning_loop(
         left -= 1;
     }
     Err(RunError::OutOfTurns)
-}
-
-/// How a loop is left whose body was left so, or None where it goes on.
-fn loop_exit(x: Exit) -> Option<Exit>
-    ensures { MatchOption result ((s : StateOf) (go : StateOf → Outcome ExitOf) → again (seen_exit x) s go ≡ go s)
-        (λ y. (s : StateOf) (go : StateOf → Outcome ExitOf) → again (seen_exit x) s go ≡ got (seen_exit y) s) }
-{
-    match x {
-        Exit::AtEnd | Exit::ByContinue => None,
-        Exit::ByBreak => Some(Exit::AtEnd),
-        Exit::ByReturn(v) => Some(Exit::ByReturn(v)),
-    }
 }
 
 /// The last part of a loop, and then whether there is another turn.

@@ -8,7 +8,7 @@ ghost use Rattle.ec_core.specs.PortTable.{plain_table, plain_port, plain_group};
 ghost use Rattle.ec_core.specs.Words.{simple_words, operation_words, update_words, choice_words, return_words};
 ghost use Rattle.ec_core.specs.Words.{port_words, group_words, node_words, total_size, return_of, leaf_words};
 ghost use Rattle.ec_interp.specs.Lookups.{widest_from};
-ghost use Rattle.ec_interp.specs.Views.{seen_action};
+ghost use Rattle.ec_interp.specs.Actions.{seen_action};
 
 use crate::ports::{Action, action_of, group_at, pairs, port_at};
 use ec_core::{CType, Expr, Node, PlaceExpr};

@@ -1,3 +1,2 @@
--- The definitions that the contracts of the lowering cite.
-pub mod Emits
-pub mod Sizes
+-- The definitions that the contracts of the lowering cite, which stand in its libraries.
+pub use Rattle.ec_lower_emit.specs.Emits

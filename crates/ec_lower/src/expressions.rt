@@ -7,26 +7,27 @@ ghost use Rattle.ec_core.specs.Plain.{logical_or, conditional};
 ghost use Rattle.ec_core.specs.Typing.{int, type_of_expr};
 ghost use Rattle.ec_core.specs.PortTable.{plain_table};
 ghost use Rattle.ec_ir.specs.Operations.{constant, branch_zero};
-ghost use Rattle.ec_lower.specs.Emits.{Emits, IsLaidOut, plain_operand, plain_site};
+ghost use Rattle.ec_lower_emit.specs.Emits.{Emits, IsLaidOut, plain_operand};
+ghost use Rattle.ec_lower_accesses.specs.Sites.{plain_site};
 ghost use Rattle.ec_lower_code.specs.Code.{temp, place_behind, access_code, expr_labels, node_labels, option_labels};
 ghost use Rattle.ec_lower_code.specs.Code.{place_labels, load_from, site, value_place, settled_code, place_code};
 ghost use Rattle.ec_lower_code.specs.Code.{exprs_labels, expr_code, node_code, option_code, args_code};
-ghost use Rattle.ec_lower_code.specs.Code.{params_code, params_of, step_code};
+ghost use Rattle.ec_lower_code.specs.Code.{step_code};
 
-use crate::emit::{
-    above, behind, put, put_binary, put_conversion, put_number, put_turn, put_unary, result_temp,
-    temp, truth,
-};
-use crate::places::{
-    Site, further, offset_of, pointed, put_address, put_further, put_load, put_null, put_settled,
-    put_store, value_place,
-};
-use crate::ports::{place_behind, put_access, put_group};
+use crate::ports::put_access;
 use crate::updates::{change, step};
 use ec_core::{CType, Expr, Node, PlaceExpr, Program};
 use ec_fx::Mode;
 use ec_iohw::{IoOp, IoTable};
 use ec_ir::{Ir, Temp};
+use ec_lower_accesses::{
+    Site, pointed, put_address, put_assigned, put_group, put_load, put_member, put_settled,
+    store_call, value_place,
+};
+use ec_lower_emit::{
+    above, behind, offset_of, place_behind, put, put_binary, put_conversion, put_null, put_number,
+    put_turn, put_unary, result_temp, temp, truth,
+};
 use ec_space::{NoMemory, Seq};
 use std::alloc::Global;
 
@@ -115,8 +116,7 @@ fn lower_effect(
             let (k, site) = lower_place(code, alloc, program, io, p, l, t)?;
             let u = value_place(site, t)?;
             let m = lower_expr(code, alloc, program, io, a, k, u)?;
-            put_store(code, ty, site, u)?;
-            put_settled(code, site, ty, t)?;
+            put_assigned(code, ty, site, t, u)?;
             Ok(m)
         }
         Node::Compound(op, own, p, a) => {
@@ -194,8 +194,7 @@ fn lower_place(
         PlaceExpr::Member(q, i) => {
             let (m, site) = lower_place(code, alloc, program, io, q, l, t)?;
             let k = offset_of(program, q, *i)?;
-            put_further(code, k, site)?;
-            let site = further(k, site)?;
+            let site = put_member(code, k, site)?;
             Ok((m, site))
         }
     }
@@ -478,38 +477,4 @@ fn lower_args(
         u = above(u)?;
     }
     Ok(k)
-}
-
-/// The stores of arguments from `t` on to the parameters.
-fn store_args(code: &mut Seq<Ir>, params: &[u16], args: &[Expr], t: u16) -> Result<(), NoMemory>
-    ensures { OnOk result (Emits code.old.items code.new.items (params_code params.now (plain_exprs args.now) t)) }
-{
-    let mut u = t;
-    for (i, o) in params.iter().enumerate() {
-        match args.get(i) {
-            None => return Ok(()),
-            Some(e) => {
-                put(code, Ir::StoreObj(*o, 0, temp(u, &e.ty)))?;
-                u = above(u)?;
-            }
-        }
-    }
-    Ok(())
-}
-
-/// Those of a call, from its arguments on.
-fn store_call(
-    code: &mut Seq<Ir>,
-    program: &Program,
-    f: u16,
-    args: &[Expr],
-    t: u16,
-) -> Result<(), NoMemory>
-    ensures { OnOk result (Emits code.old.items code.new.items
-        (params_code (params_of (plain_program program.now) f) (plain_exprs args.now) t)) }
-{
-    match program.funcs.get(f as usize) {
-        None => Ok(()),
-        Some(g) => store_args(code, g.params.as_slice(), args, t),
-    }
 }

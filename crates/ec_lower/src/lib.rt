@@ -4,11 +4,7 @@
 //! `read_groups` tells of a table that the numbers of its pairs are bytes, which laws ask for.
 #![tactic(auto)]
 
-mod copies;
-mod emit;
 mod expressions;
-mod extents;
-mod places;
 mod ports;
 mod program;
 mod statements;

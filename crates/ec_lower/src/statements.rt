@@ -5,18 +5,18 @@ ghost use Rattle.ec_core.specs.Plain.{branch, for_loop, return_value, no_stmt, a
 ghost use Rattle.ec_core.specs.Plain.{plain_program};
 ghost use Rattle.ec_core.specs.PortTable.{plain_table};
 ghost use Rattle.ec_ir.specs.Operations.{label, jump};
-ghost use Rattle.ec_lower.specs.Emits.{Emits, IsLaidOut};
+ghost use Rattle.ec_lower_emit.specs.Emits.{Emits, IsLaidOut};
 ghost use Rattle.ec_lower_code.specs.Code.{expr_labels, exprs_labels, optional_labels, stmt_labels};
 ghost use Rattle.ec_lower_code.specs.Code.{stmts_labels, kind_labels, leaves_of_object, init_code, test_code, last_code};
 ghost use Rattle.ec_lower_code.specs.Code.{loop_code, stmt_code, kind_code, stmts_code, temp};
 ghost use Rattle.ec_core.specs.Layout.{plain_leaf};
 
-use crate::emit::{behind, put, put_store, put_turn, temp};
 use crate::expressions::{lower_branch, lower_expr};
-use crate::extents::optional_labels;
 use ec_core::{Expr, Leaf, Program, Stmt, StmtKind, leaves};
 use ec_iohw::IoTable;
 use ec_ir::Ir;
+use ec_lower_accesses::{continue_label, put_return};
+use ec_lower_emit::{behind, optional_labels, put, put_object_store, put_turn};
 use ec_space::{NoMemory, Seq};
 use std::alloc::Global;
 
@@ -57,7 +57,7 @@ fn lower_values(
             None => return Err(NoMemory),
             Some(leaf) => {
                 k = lower_expr(code, alloc, program, io, e, k, 0)?;
-                put_store(code, o, leaf.at, &e.ty, 0)?;
+                put_object_store(code, o, leaf.at, &e.ty, 0)?;
             }
         }
     }
@@ -108,7 +108,7 @@ fn lower_return(
         }
         Some(e) => {
             let m = lower_expr(code, alloc, program, io, e, l, 0)?;
-            put(code, Ir::Return(Some(temp(0, &e.ty))))?;
+            put_return(code, &e.ty)?;
             Ok(m)
         }
     }
@@ -198,7 +198,7 @@ fn end_loop(
         (option_copied last.entry)) k
         (jump l ∷ label (l + 1) ∷ rest))) }
 {
-    let on = behind(l, 2)?;
+    let on = continue_label(l)?;
     put(code, Ir::Label(on))?;
     lower_last(code, alloc, program, io, last, k)?;
     put_turn(code, l, l + 1)
@@ -400,7 +400,8 @@ fn lower_loop(
     let k = begin_loop(code, alloc, program, io, c, l)?;
     let count = optional_labels(last)?;
     let first = behind(k, count)?;
-    let m = lower_stmt(code, alloc, program, io, body, first, l + 1, l + 2)?;
+    let on = continue_label(l)?;
+    let m = lower_stmt(code, alloc, program, io, body, first, l + 1, on)?;
     end_loop(code, alloc, program, io, last, l, k)?;
     Ok(m)
 }

@@ -4,17 +4,18 @@ ghost use Rattle.ec_core.specs.Operators.{number_type, converted_beside, promote
 ghost use Rattle.ec_core.specs.Plain.{plain_type};
 ghost use Rattle.ec_core.specs.TypeLaws.{factor_beside};
 ghost use Rattle.ec_core.specs.Typing.{int};
-ghost use Rattle.ec_lower.specs.Emits.{Emits, plain_site};
+ghost use Rattle.ec_lower_emit.specs.Emits.{Emits};
+ghost use Rattle.ec_lower_accesses.specs.Sites.{plain_site};
 ghost use Rattle.ec_ir.specs.Operations.{conversion, binary_op};
 ghost use Rattle.ec_core.specs.ArithmeticTypes.{type_of};
 ghost use Rattle.ec_lower_code.specs.Code.{temp, store_to, update_types, update_code, keeping_code};
 ghost use Rattle.ec_lower_code.specs.Code.{moving_code, change_code, postfix_code, step_code};
 
-use crate::emit::{above, put_binary, put_conversion};
-use crate::places::{Site, put_store};
 use ec_core::{Arithmetic, BinOp, CType, FixedType, IntegerType, signed_kind};
 use ec_fx::Mode;
 use ec_ir::Ir;
+use ec_lower_accesses::{Site, advance, advance_behind, put_store};
+use ec_lower_emit::{above, put_binary, put_conversion};
 use ec_space::{NoMemory, Seq};
 use std::alloc::Global;
 
@@ -253,26 +254,6 @@ fn keep(
     bring_back(code, alloc, t, ty, mode, types.left)
 }
 
-/// A pointer at `t` that is moved by the number of elements above it: the result goes to `q`, and is stored.
-fn advance(
-    code: &mut Seq<Ir>,
-    alloc: Global,
-    op: BinOp,
-    mode: Mode,
-    ty: &CType,
-    site: Site,
-    t: u16,
-    q: u16,
-    right: &CType,
-) -> Result<(), NoMemory>
-    ensures { OnOk result (Emits code.old.items code.new.items
-        (moving_code op mode (plain_type ty.now) (plain_site site) t q (plain_type right.now))) }
-{
-    let up = above(t)?;
-    put_binary(code, alloc, op, ty, mode, q, t, ty, up, right)?;
-    put_store(code, ty, site, q)
-}
-
 /// A compound assignment to a place of a type, from its old value at `t` and the right side above it.
 pub fn change(
     code: &mut Seq<Ir>,
@@ -314,10 +295,7 @@ fn postfix(
         (postfix_code op mode (plain_type ty.now) (plain_site site) t)) }
 {
     match ty {
-        CType::Ptr { .. } => {
-            let up = above(t)?;
-            advance(code, alloc, op, mode, ty, site, t, up, one)
-        }
+        CType::Ptr { .. } => advance_behind(code, alloc, op, mode, ty, site, t, one),
         CType::Void => keep(code, alloc, op, mode, ty, site, t, one),
         CType::Int { .. } => keep(code, alloc, op, mode, ty, site, t, one),
         CType::Fx { .. } => keep(code, alloc, op, mode, ty, site, t, one),

@@ -1,5 +1,3 @@
-pub mod Tabled
-pub mod Naming
 pub mod Numbered
 pub mod Walks
 pub mod Alike

@@ -1,7 +1,5 @@
--- What holds of names in blocks and at file scope, of the numbers of definitions, and of structs that are the same.
-use Rattle.std.specs.Prelude.{ℕ, ◌+◌, ◌≤◌, ◌≡◌, ◌↔◌, ◌⊎◌, Bool, true, if◌then◌else◌, length, MatchOption, Some}
-use Rattle.std.specs.Prelude.{List, [], ◌∷◌, ◌++◌}
-use Rattle.std.specs.Str.{bytes_eq}
+-- What holds of the numbers of definitions, and of structs that are the same.
+use Rattle.std.specs.Prelude.{ℕ, ◌+◌, ◌≤◌, ◌≡◌, ◌↔◌, ◌⊎◌, Bool, true, MatchOption, List, [], ◌∷◌}
 use Rattle.ec_core.specs.Plain.{PlainStruct}
 use Rattle.ec_grammar.specs.Trees.{Tree}
 use Rattle.ec_names.specs.Counts.{objects_declared, functions_defined}
@@ -9,26 +7,8 @@ use Rattle.ec_names.specs.declared.numbering.Defined.{Defined}
 use Rattle.ec_names.specs.declared.numbering.Defined.TheVariants.{Object, Register, Function as FunctionKind}
 use Rattle.ec_names.specs.declared.linkage.Linkage.{Linkage}
 use Rattle.ec_names.specs.Definitions.{Definition, definitions, defines, number_of}
-use Rattle.ec_names.specs.Names.{Named, Entry, Names, found, with_outside, with_inside, closed}
+pub use Rattle.ec_scopes.specs.Laws.{InnerNamesHide, OuterNamesAreKnown, BlocksEnd}
 use Rattle.ec_names.specs.Structs.{same_struct}
-
--- a name that is declared in a block stands for that there, and every other name for what it stood for
-abbrev pub InnerNamesHide : Type 0
-InnerNamesHide =
-    (s : Names) (m n : List ℕ) (what : Named)
-    → found m (with_inside n what s) ≡ (if bytes_eq n m then Some what else found m s)
-
--- the same at file scope, where no block is open
-abbrev pub OuterNamesAreKnown : Type 0
-OuterNamesAreKnown =
-    (s : Names) (m n : List ℕ) (what : Named) → s.inside ≡ []
-    → found m (with_outside n what s) ≡ (if bytes_eq m n then Some what else found m s)
-
--- behind a block everything is known that was known before it, and nothing else
-abbrev pub BlocksEnd : Type 0
-BlocksEnd =
-    (s : Names) (declared : List Entry)
-    → closed (length s.inside) (record { outside = s.outside; inside = s.inside ++ declared }) ≡ s
 
 -- the number of a definition behind so many objects and functions: a function's is that of functions, and an object's
 -- is no less than that of objects

@@ -1,26 +1,13 @@
 -- What qualifiers say, and the rules that they can break (ISO/IEC 9899:1999, 6.7.3; ISO/IEC TR 18037:2008, 5.1.2).
-use Rattle.std.specs.Prelude.{ℕ, Bool, true, false, not, ◌&&◌, ◌||◌, is_some, Option, Some, None, List, [], ◌∷◌}
+use Rattle.std.specs.Prelude.{ℕ, Bool, false, not, ◌&&◌, ◌||◌, is_some, Option, Some, None, List, [], ◌∷◌}
 use Rattle.ec_space.specs.declared.space.SpaceId.{SpaceId}
-use Rattle.ec_space.specs.declared.space.SpaceId.TheVariants.{Flash, Data, Generic}
+use Rattle.ec_space.specs.declared.space.SpaceId.TheVariants.{Generic}
 use Rattle.ec_grammar.specs.declared.token.WordKind.{WordKind}
-use Rattle.ec_grammar.specs.declared.token.WordKind.TheVariants as w
 use Rattle.ec_grammar.specs.declared.tree.Qualifier.{Qualifier}
 use Rattle.ec_faults.specs.Faults.{Judgement, rule}
 use Rattle.ec_names.specs.declared.qualifiers.SpaceWord.{SpaceWord}
 use Rattle.ec_names.specs.declared.qualifiers.Qualities.{Qualities}
-
-abbrev pub space_word : WordKind → Option SpaceId
-space_word w.Flash = Some Flash
-space_word w.Data = Some Data
-space_word word = None
-
-abbrev pub is_const_word : WordKind → Bool
-is_const_word w.Const = true
-is_const_word word = false
-
-abbrev pub is_flash_word : WordKind → Bool
-is_flash_word w.Flash = true
-is_flash_word word = false
+pub use Rattle.ec_qualifier_words.specs.Words.{space_word, is_const_word, is_flash_word}
 
 -- nothing is qualified
 abbrev pub unqualified : Qualities

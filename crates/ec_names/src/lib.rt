@@ -1,12 +1,8 @@
-//! What the words and stars of a declaration mean, which name means what where, the definitions of all units by name,
-//! and the first tokens of trees.
+//! What the words and stars of a declaration mean, and the definitions of all units by name.
 #![tactic(auto)]
 
-mod counts;
-mod firsts;
 mod laws;
 mod linkage;
-mod names;
 mod numbering;
 mod qualifiers;
 mod specifiers;
@@ -16,18 +12,15 @@ mod structs;
 mod tags;
 mod words;
 
-pub use counts::{has_too_many_functions, has_too_many_objects, is_function, less_function};
-pub use firsts::{
+pub use ec_scopes::{Entry, Named, Names, blocks_end, inner_names_hide, outer_names_are_known};
+pub use ec_tree_measures::{
     first_assignment, first_binary, first_cast, first_compound, first_conditional,
     first_declaration, first_expression, first_initialiser, first_item, first_param, first_postfix,
     first_primary, first_spec, first_specs, first_statement, first_type_name, first_unary,
+    has_too_many_functions, has_too_many_objects, is_function, less_function,
 };
-pub use laws::{
-    blocks_end, definitions_are_found, definitions_are_numbered, equal_structs_are_one,
-    inner_names_hide, outer_names_are_known,
-};
+pub use laws::{definitions_are_found, definitions_are_numbered, equal_structs_are_one};
 pub use linkage::{Linkage, linkage_of};
-pub use names::{Entry, Named, Names};
 pub use numbering::{Defined, Definition, definitions, is_defined, number_of, storage_of};
 pub use qualifiers::{Qualities, SpaceWord, judge_qualifiers, judge_quality, qualities_of};
 pub use specifiers::{

@@ -19,7 +19,6 @@ ghost use Rattle.ec_names.specs.Definitions.{numbered_externals, unlinked, numbe
 ghost use Rattle.ec_names.specs.Definitions.{same_linkage, is_internal, is_function_kind, same_kind, defines};
 ghost use Rattle.ec_names.specs.Definitions.{number_of};
 
-use crate::counts::{is_function, less_function};
 use crate::linkage::{Linkage, linkage_of};
 use crate::specifiers::{StorageWord, storages_of};
 use ec_grammar::Tree;
@@ -27,6 +26,7 @@ use ec_grammar::tree::{
     Declaration, External, Function, InitDeclarator, NextInitDeclarator, RegisterObject, Specs,
 };
 use ec_space::{Name, NoMemory, Seq};
+use ec_tree_measures::{is_function, less_function};
 use indexmap::IndexMap;
 use std::alloc::Global;
 

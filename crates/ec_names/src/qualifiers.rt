@@ -1,13 +1,14 @@
 //! What qualifiers say, and the rules that they can break (ISO/IEC 9899:1999, 6.7.3; ISO/IEC TR 18037:2008, 5.1.2).
 ghost use Rattle.std.specs.Prelude.{◌≡◌, List};
 ghost use Rattle.ec_faults.specs.Faults.{Judgement, all_judged};
-ghost use Rattle.ec_names.specs.Qualifiers.{space_word, is_const_word, is_flash_word, unqualified, first_space};
+ghost use Rattle.ec_names.specs.Qualifiers.{unqualified, first_space};
 ghost use Rattle.ec_names.specs.Qualifiers.{with_quality, qualities_of, space_in, quality_rules, qualifier_rules};
 ghost use Rattle.ec_names.specs.Qualifiers.{qualifier_rules_from, own_space_rules};
 
 use ec_faults::Faults;
 use ec_grammar::WordKind;
 use ec_grammar::tree::Qualifier;
+use ec_qualifier_words::{is_const_word, is_flash_word, is_second_space, space_word};
 use ec_space::SpaceId;
 
 /// A word that names a space, and the index of its token.
@@ -22,34 +23,6 @@ pub struct SpaceWord {
 pub struct Qualities {
     pub konst: bool,
     pub space: Option<SpaceWord>,
-}
-
-fn space_word(word: WordKind) -> Option<SpaceId>
-    ensures { result ≡ space_word word }
-{
-    match word {
-        WordKind::Flash => Some(SpaceId::Flash),
-        WordKind::Data => Some(SpaceId::Data),
-        _ => None,
-    }
-}
-
-fn is_const_word(word: WordKind) -> bool
-    ensures { result ≡ is_const_word word }
-{
-    match word {
-        WordKind::Const => true,
-        _ => false,
-    }
-}
-
-fn is_flash_word(word: WordKind) -> bool
-    ensures { result ≡ is_flash_word word }
-{
-    match word {
-        WordKind::Flash => true,
-        _ => false,
-    }
 }
 
 fn first_space(before: Option<SpaceWord>, at: u32, space: Option<SpaceId>) -> Option<SpaceWord>
@@ -124,7 +97,7 @@ pub fn judge_quality(faults: &mut Faults, before: Qualities, konst: bool, at: u3
     ensures judged { (rest : List Judgement) → all_judged faults.new.least rest
         ≡ all_judged faults.old.least (quality_rules before.space konst at word rest) }
 {
-    faults.judge(2, before.space.is_some() && space_word(word).is_some(), at);
+    faults.judge(2, is_second_space(before.space.is_some(), word), at);
     faults.judge(4, is_flash_word(word) && !konst, at);
 }
 

@@ -9,13 +9,13 @@ ghost use Rattle.ec_names.specs.Specifiers.{with_spec, specified_from, specified
 ghost use Rattle.ec_names.specs.Specifiers.{more_spec_rules, breaks_type_words, specs_rules};
 ghost use Rattle.ec_names.specs.Tags.{plain_tags};
 
-use crate::firsts::first_spec;
 use crate::qualifiers::{Qualities, judge_quality};
 use crate::tags::{TagState, Tags};
 use crate::words::{BaseType, Times, Words, lone_type};
 use ec_faults::Faults;
 use ec_grammar::WordKind;
 use ec_grammar::tree::{Spec, Specs};
+use ec_tree_measures::first_spec;
 
 /// A storage-class specifier (6.7.1).
 #[derive(Clone, Copy, Debug, PartialEq, Eq)]

@@ -1,10 +1,2 @@
-pub mod Leaves
-pub mod Codes
-pub mod Depths
-pub mod Many
-pub mod Rows
-pub mod Steps
-pub mod Lists
-pub mod Voids
-pub mod Parses
+mod Parses
 pub mod Ends

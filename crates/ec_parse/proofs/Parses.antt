@@ -14,11 +14,11 @@ use Rattle.ec_reading.specs.Laws.{tree_of}
 use Rattle.ec_reading.specs.Refusals.{place, EndsWithEnd}
 use Rattle.ec_reading.proofs.Whole.{reads_every_derivation, derives_one_tree}
 use Rattle.ec_reading.proofs.Refusals.{names_token, tree_exactly, syntax_exactly, too_deep_exactly}
-use Rattle.ec_parse.specs.declared.stop.ReadError.{ReadError}
-use Rattle.ec_parse.specs.declared.stop.ReadError.TheVariants as errors
+use Rattle.ec_parse_tokens.specs.declared.stop.ReadError.{ReadError}
+use Rattle.ec_parse_tokens.specs.declared.stop.ReadError.TheVariants as errors
 use Rattle.ec_parse.specs.declared.stop.ParseStop.{ParseStop}
 use Rattle.ec_parse.specs.declared.stop.ParseStop.TheVariants.{NoMemory, Syntax, TooDeep}
-use Rattle.ec_parse.specs.Reads.{leaves_of, Fails}
+use Rattle.ec_parse_tokens.specs.Reads.{leaves_of, Fails}
 use Rattle.ec_parse.specs.Parse.{IsTold, IsRead, IsOnly, IsRefused, IsBadAt}
 
 -- the leaves with their indices from the front

@@ -1,5 +1,1 @@
-pub mod Reads
-pub mod Parts
-pub mod Statements
-pub mod Units
 pub mod Parse

@@ -9,8 +9,8 @@ use Rattle.ec_grammar.specs.Views.{view_tree}
 use Rattle.ec_reading.specs.Reading.{syntax, too_deep}
 use Rattle.ec_reading.specs.Laws.{tree_of}
 use Rattle.ec_reading.specs.Refusals.{StopsBehind, PassesFirstBehind}
-use Rattle.ec_parse.specs.declared.stop.ReadError.{ReadError}
-use Rattle.ec_parse.specs.declared.stop.ReadError.TheVariants as errors
+use Rattle.ec_parse_tokens.specs.declared.stop.ReadError.{ReadError}
+use Rattle.ec_parse_tokens.specs.declared.stop.ReadError.TheVariants as errors
 use Rattle.ec_parse.specs.declared.stop.ParseStop.{ParseStop}
 use Rattle.ec_parse.specs.declared.stop.ParseStop.TheVariants.{NoMemory, Syntax, TooDeep}
 

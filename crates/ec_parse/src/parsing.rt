@@ -9,11 +9,11 @@ ghost use Rattle.ec_grammar.specs.Views.{view_tree};
 ghost use Rattle.ec_reading.specs.Refusals.{EndsWithEnd};
 ghost use Rattle.ec_parse.specs.Parse.{IsTold, IsRead, IsOnly, IsRefused, IsBadAt};
 
-use crate::stop::{ParseStop, ReadError};
-use crate::tokens::Source;
-use crate::units::read;
+use crate::stop::ParseStop;
 use ec_grammar::Token;
 use ec_grammar::tree::Tree;
+use ec_parse_tokens::{ReadError, Source};
+use ec_parse_units::read;
 use ec_space::Seq;
 use std::alloc::Global;
 

@@ -1,6 +1,6 @@
 -- What is told of an expression, a size or an initialiser, among other places.
 use Rattle.std.proofs.Common.{◌≡◌, ◌∙◌, ℕ, refl, sym, ap, subst, List, [], ◌∷◌}
-use Rattle.std.specs.Prelude.{Bool, Option}
+use Rattle.std.specs.Prelude.{Option}
 use Rattle.ec_faults.specs.declared.Fault.{Fault}
 use Rattle.ec_faults.specs.Faults.{Judgement, rule, judged, all_judged}
 use Rattle.ec_forms.specs.Nodes.{used, use_rules, part_rules, condition_rules}
@@ -14,7 +14,7 @@ use Rattle.ec_expr.specs.Sites as expressions
 use Rattle.ec_initial.specs.Locals.{leaf_values, leaf_sites}
 use Rattle.ec_initial.specs.Sites as initialisers
 use Rattle.ec_declare.specs.Sites.{Site, on, told, expression_in, initialiser_in}
-use Rattle.ec_statements.specs.Parts.{returned_type, has_no_result}
+use Rattle.ec_statement_forms.specs.Results.{returned_type, has_no_result}
 
 told_in : (f : Option Fault) (ss : List expressions.Site) (rest : List Site) → told f (expression_in ss rest) ≡ told (expressions.told f ss) rest
 told_in f [] rest = refl
@@ -67,13 +67,12 @@ unused_and_judged g h x v at first a ex ea =
     ∙ ap (λ z. all_judged g (part_rules v z)) ea
 
 -- of one that is returned
-pub returned_and_judged : (g h i : Option Fault) (x v : Option Operand) (to ty : Option PlainType) (none : Bool) (at : ℕ)
-    → h ≡ judged g (rule 39 none at) → i ≡ all_judged h (passing_rules x to at) → none ≡ has_no_result ty → x ≡ v → to ≡ returned_type ty
+pub returned_and_judged : (g h i : Option Fault) (x v : Option Operand) (to ty : Option PlainType) (at : ℕ) → h ≡ judged g (rule 39 (has_no_result ty) at)
+    → i ≡ all_judged h (passing_rules x to at) → x ≡ v → to ≡ returned_type ty
     → i ≡ all_judged g (rule 39 (has_no_result ty) at ∷ passing_rules v (returned_type ty) at)
-returned_and_judged g h i x v to ty none at a b en ex et =
+returned_and_judged g h i x v to ty at a b ex et =
     b
     ∙ ap (λ z. all_judged z (passing_rules x to at)) a
-    ∙ ap (λ z. all_judged (judged g (rule 39 z at)) (passing_rules x to at)) en
     ∙ ap (λ z. all_judged (judged g (rule 39 (has_no_result ty) at)) (passing_rules z to at)) ex
     ∙ ap (λ z. all_judged (judged g (rule 39 (has_no_result ty) at)) (passing_rules v z at)) et
 

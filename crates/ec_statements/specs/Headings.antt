@@ -9,7 +9,7 @@ use Rattle.ec_operands.specs.Operands.{with_both}
 use Rattle.ec_declare.specs.Scopes.{Context, Scope}
 use Rattle.ec_declare.specs.Sites.{Site}
 use Rattle.ec_statements.specs.declared.headings.ForHeading as heading
-use Rattle.ec_statements.specs.Around.{Around}
+use Rattle.ec_statement_forms.specs.Around.{Around}
 use Rattle.ec_statements.specs.Locals.{local_statement, after_declaration, declaration_before, declaration_sites}
 use Rattle.ec_statements.specs.Parts.{evaluated, optional_test, optional_test_sites}
 use Rattle.ec_statements.specs.Parts.{optional_evaluation, optional_evaluation_sites}

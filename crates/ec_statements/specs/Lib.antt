@@ -1,5 +1,4 @@
 -- The definitions that the contracts of statements cite, in the order in which they build on one another.
-pub mod Around
 pub mod Walks
 pub mod Parts
 pub mod Locals

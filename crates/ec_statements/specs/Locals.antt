@@ -18,7 +18,7 @@ use Rattle.ec_declare.specs.Declarators.{ObjectDeclared, object_declared, object
 use Rattle.ec_declare.specs.Scopes.{Context, Scope, known_in, made_number, with_inner}
 use Rattle.ec_declare.specs.Sites.{Site, on, initialiser_in}
 use Rattle.ec_statements.specs.declared.locals.LocalObject as local_object
-use Rattle.ec_statements.specs.Around.{Around}
+use Rattle.ec_statement_forms.specs.Around.{Around}
 use Rattle.ec_statements.specs.Walks.{followed}
 
 -- ---- one declarator

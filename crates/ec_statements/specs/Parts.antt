@@ -1,21 +1,21 @@
 -- Expressions in statements: conditions, expressions whose value is not used, and values that are returned (ISO/IEC
 -- 9899:1999, 6.8.3 to 6.8.6).
-use Rattle.std.specs.Prelude.{ℕ, Bool, false, not, if◌then◌else◌, Option, Some, None, option_map, List, [], ◌∷◌}
+use Rattle.std.specs.Prelude.{ℕ, if◌then◌else◌, Option, Some, None, option_map, List, [], ◌∷◌}
 use Rattle.ec_faults.specs.Faults.{rule}
 use Rattle.ec_grammar.specs.Trees as t
-use Rattle.ec_core.specs.Plain.{PlainType, PlainExpr, PlainKind, return_value}
+use Rattle.ec_core.specs.Plain.{PlainExpr, PlainKind, return_value}
 use Rattle.ec_names.specs.Firsts.{first_expression}
 use Rattle.ec_names.specs.Names.{Names}
 use Rattle.ec_operands.specs.Operands.{as_value}
 use Rattle.ec_operands.specs.Passing.{passed, passing_rules}
-use Rattle.ec_operands.specs.Sorts.{is_void}
 use Rattle.ec_forms.specs.Nodes.{used, used_part, condition}
 use Rattle.ec_rules.specs.Sites.{a_use, a_part, a_condition}
 use Rattle.ec_expr.specs.Expressions.{of_expression, expression_sites}
 use Rattle.ec_expr.specs.Sites.{on as in_operands}
 use Rattle.ec_declare.specs.Scopes.{Context, known_in}
 use Rattle.ec_declare.specs.Sites.{Site, on, expression_in}
-use Rattle.ec_statements.specs.Around.{Around}
+use Rattle.ec_statement_forms.specs.Around.{Around}
+use Rattle.ec_statement_forms.specs.Results.{returned_type, has_no_result, has_result}
 
 -- ---- conditions
 
@@ -61,21 +61,6 @@ optional_evaluation_sites c names None rest = rest
 optional_evaluation_sites c names (Some x) rest = evaluation_sites c names x rest
 
 -- ---- `return`
-
--- the type of the values that a function with a result returns
-abbrev pub returned_type : Option PlainType → Option PlainType
-returned_type None = None
-returned_type (Some ty) = if is_void ty then None else Some ty
-
--- the function has no result
-abbrev pub has_no_result : Option PlainType → Bool
-has_no_result None = false
-has_no_result (Some ty) = is_void ty
-
--- the function has one
-abbrev pub has_result : Option PlainType → Bool
-has_result None = false
-has_result (Some ty) = not (is_void ty)
 
 -- nothing is returned where there is no result, and else a value, which is brought to the result's type
 unfoldable pub returned : Context → Around → Names → Option t.Expression → Option PlainKind

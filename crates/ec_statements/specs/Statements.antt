@@ -1,16 +1,16 @@
 -- Statements of a function's body: what each means, the scope behind it, and the places in it where rules are judged
 -- (ISO/IEC 9899:1999, 6.8).
-use Rattle.std.specs.Prelude.{ℕ, not, if◌then◌else◌, Option, Some, None, option_map, List, [], ◌∷◌, length}
-use Rattle.ec_faults.specs.Faults.{rule}
+use Rattle.std.specs.Prelude.{Option, Some, None, option_map, List, length}
 use Rattle.ec_grammar.specs.Trees as t
-use Rattle.ec_core.specs.Plain.{PlainExpr, PlainStmt, statement, PlainKind, empty, evaluate, block, branch, while_loop}
-use Rattle.ec_core.specs.Plain.{do_loop, for_loop, break_loop, continue_loop, no_stmt, a_stmt, PlainStmts, last_stmt}
+use Rattle.ec_core.specs.Plain.{PlainStmt, statement, PlainKind, empty, evaluate, block}
+use Rattle.ec_core.specs.Plain.{for_loop, break_loop, continue_loop, PlainStmts, last_stmt}
 use Rattle.ec_names.specs.Firsts.{first_statement}
 use Rattle.ec_names.specs.Names.{Names}
 use Rattle.ec_operands.specs.Operands.{with_both}
 use Rattle.ec_declare.specs.Scopes.{Context, Scope}
-use Rattle.ec_declare.specs.Sites.{Site, on}
-use Rattle.ec_statements.specs.Around.{Around, looping, within, ended, under}
+use Rattle.ec_declare.specs.Sites.{Site}
+use Rattle.ec_statement_forms.specs.Around.{Around, looping, within, ended, under}
+use Rattle.ec_statement_forms.specs.Kinds.{one_branch, branches, while_of, do_of, left, left_sites}
 use Rattle.ec_statements.specs.Headings.{ForHeading, for_heading, after_heading, heading_sites}
 use Rattle.ec_statements.specs.Locals.{after_declaration, declaration_before, declaration_sites}
 use Rattle.ec_statements.specs.Parts.{tested, test_sites, evaluated, optional_evaluation_sites, returned, return_sites}
@@ -26,28 +26,8 @@ unfoldable pub evaluation : Context → Names → Option t.Expression → Option
 evaluation c names None = Some empty
 evaluation c names (Some x) = option_map evaluate (evaluated c names x)
 
-abbrev pub one_branch : Option PlainExpr → Option PlainStmt → Option PlainKind
-one_branch x a = with_both x a (λ x a. Some (branch x a no_stmt))
-
-abbrev pub branches : Option PlainExpr → Option PlainStmt → Option PlainStmt → Option PlainKind
-branches x a b = with_both x a (λ x a. option_map (λ b. branch x a (a_stmt b)) b)
-
-abbrev pub while_of : Option PlainExpr → Option PlainStmt → Option PlainKind
-while_of x a = with_both x a (λ x a. Some (while_loop x a))
-
-abbrev pub do_of : Option PlainStmt → Option PlainExpr → Option PlainKind
-do_of a x = with_both a x (λ a x. Some (do_loop a x))
-
 abbrev pub for_of : Option ForHeading → Option PlainStmt → Option PlainKind
 for_of h a = with_both h a (λ h a. Some (for_loop h.first h.condition h.last a))
-
--- `break` and `continue` stand in loops
-abbrev pub left : Around → PlainKind → Option PlainKind
-left r kind = if r.in_loop then Some kind else None
-
--- 38, at the word
-abbrev pub left_sites : Around → (at : ℕ) → List Site → List Site
-left_sites r at rest = on (rule 38 (not r.in_loop) at ∷ []) ∷ rest
 
 -- ---- the scope behind a statement
 

@@ -1,20 +1,20 @@
 //! The parts of a `for` in its parentheses (ISO/IEC 9899:1999, 6.8.5.3).
 ghost use Rattle.std.specs.Prelude.{◌≡◌, IfOk, OnOk, Some, [], option_map};
-ghost use Rattle.ec_core.specs.Plain.{plain_expr, plain_stmt, statement, evaluate, block, last_stmt};
+ghost use Rattle.ec_core.specs.Plain.{plain_expr, plain_kind, plain_stmt, statement, evaluate, block, last_stmt};
 ghost use Rattle.ec_grammar.specs.Views.{view_declaration, view_expression, view_first, view_heading};
 ghost use Rattle.ec_names.specs.Firsts.{first_declaration, first_expression};
 ghost use Rattle.ec_names.specs.Names.{plain_names};
 ghost use Rattle.ec_declare.specs.Scopes.{IsSoundContext, plain_context, plain_scope};
 ghost use Rattle.ec_declare.specs.Sites.{Walked};
-ghost use Rattle.ec_statements.specs.Around.{plain_around};
+ghost use Rattle.ec_statement_forms.specs.Around.{plain_around};
 ghost use Rattle.ec_statements.specs.Headings.{plain_heading, heading_of, declared_first, first_part, after_first};
 ghost use Rattle.ec_statements.specs.Headings.{first_sites, for_heading, after_heading, heading_sites};
 ghost use Rattle.ec_statements.specs.Locals.{after_declaration, declaration_before, declaration_sites};
 ghost use Rattle.ec_statements.specs.Parts.{evaluated, evaluation_sites};
+ghost use Rattle.ec_statements.specs.Statements.{for_of};
 ghost use Rattle.ec_statements.specs.Walks.{plain_kept, before, WalkedThrough};
 
-use crate::around::Around;
-use crate::kinds::{KeptExpr, KeptStmt, block_of, kept_stmt, stated};
+use crate::kept::{block_of, kept_stmt, stated};
 use crate::locals::{judge_specifiers, keep_declaration, local};
 use crate::parts::{Optional, evaluated, optional_evaluation, optional_test};
 use ec_core::{Expr, Stmt, StmtKind};
@@ -24,6 +24,7 @@ use ec_grammar::tree::{Declaration, Expression, First, Heading};
 use ec_names::{Names, first_expression, first_specs};
 use ec_operands::boxed;
 use ec_space::{NoMemory, Seq};
+use ec_statement_forms::{Around, KeptExpr, KeptStmt};
 use std::alloc::Global;
 
 /// The first part of a `for`, its condition and its last part.
@@ -237,4 +238,19 @@ pub(crate) fn heading(
     let condition = optional_test(alloc, context, &scope.names, faults, &h.condition, at)?;
     let last = optional_evaluation(alloc, context, &scope.names, faults, &h.last)?;
     heading_of(alloc, first, condition, last)
+}
+
+/// `for`, where none of its parts breaks a rule.
+pub(crate) fn for_of(h: Option<Box<ForHeading>>, a: KeptStmt) -> Option<StmtKind>
+    ensures { option_map plain_kind result ≡ for_of (option_map (λ b. plain_heading b.value) h)
+        (option_map (λ b. plain_stmt b.value) a) }
+{
+    let Some(h) = h else {
+        return None;
+    };
+    let Some(a) = a else {
+        return None;
+    };
+    let h = Box::into_inner(h);
+    Some(StmtKind::For(h.first, h.condition, h.last, a))
 }

@@ -5,12 +5,11 @@
 //! a function that makes the statement.
 #![tactic(auto)]
 
-mod around;
 mod headings;
-mod kinds;
+mod kept;
 mod locals;
 mod parts;
 mod walk;
 
-pub use around::{Around, with_pragma};
+pub use ec_statement_forms::{Around, with_pragma};
 pub use walk::body;

@@ -12,7 +12,7 @@ ghost use Rattle.ec_expr.specs.Callees.{exprs_of};
 ghost use Rattle.ec_declare.specs.Declarators.{plain_declared_object};
 ghost use Rattle.ec_declare.specs.Scopes.{IsSoundContext, plain_context, plain_scope};
 ghost use Rattle.ec_declare.specs.Sites.{Site, on, told, Walked};
-ghost use Rattle.ec_statements.specs.Around.{plain_around};
+ghost use Rattle.ec_statement_forms.specs.Around.{plain_around};
 ghost use Rattle.ec_statements.specs.Locals.{first_declarator, with_local, initial_values, initial_sites, plain_local};
 ghost use Rattle.ec_statements.specs.Locals.{local_declared, local_made, started, local_statement, local_name_rules};
 ghost use Rattle.ec_statements.specs.Locals.{declarator_sites};
@@ -20,8 +20,8 @@ ghost use Rattle.ec_statements.specs.Locals.{started_sites, local_sites, with_lo
 ghost use Rattle.ec_statements.specs.Locals.{after_declaration, declaration_before, storage_rules, declaration_sites};
 ghost use Rattle.ec_statements.specs.Walks.{plain_kept, before, followed, WalkedThrough, WalkedOn};
 
-use crate::around::{Around, known_in};
-use crate::kinds::{Stmts, keep};
+use crate::kept::{Stmts, keep};
+use crate::parts::known_in;
 use ec_core::{CType, Expr, Stmt, StmtKind, Storage};
 use ec_declare::{Context, ObjectDeclared, Scope, declared_object};
 use ec_faults::Faults;
@@ -29,6 +29,7 @@ use ec_grammar::tree::{Declaration, Declarator, InitDeclarator, NextInitDeclarat
 use ec_initial::{Values, local_values};
 use ec_names::{Names, Specified, is_function, judge_specs, storages_of};
 use ec_space::{NoMemory, Seq};
+use ec_statement_forms::Around;
 use std::alloc::Global;
 
 // ---- initialisers

@@ -1,37 +1,53 @@
 //! Expressions in statements: conditions, expressions whose value is not used, and values that are returned (ISO/IEC
 //! 9899:1999, 6.8.3 to 6.8.6).
 ghost use Rattle.std.specs.Prelude.{◌≡◌, IfOk, OnOk, List, ◌∷◌, [], Some, None, option_map};
-ghost use Rattle.std.specs.Option.{option_copied};
-ghost use Rattle.ec_core.specs.Plain.{plain_type, plain_expr, plain_kind, return_value};
+ghost use Rattle.ec_core.specs.Plain.{plain_expr, plain_kind, return_value};
 ghost use Rattle.ec_grammar.specs.Views.{view_option, view_expression};
 ghost use Rattle.ec_names.specs.Names.{plain_names};
 ghost use Rattle.ec_operands.specs.Operands.{plain_operand, as_value};
-ghost use Rattle.ec_operands.specs.Sorts.{is_void};
 ghost use Rattle.ec_operands.specs.Passing.{passed, passing_rules};
 ghost use Rattle.ec_expr.specs.Expressions.{of_expression, expression_sites};
+ghost use Rattle.ec_expr.specs.Known.{IsSound, plain_known};
 ghost use Rattle.ec_expr.specs.Sites.{Walked as WalkedExpression};
 ghost use Rattle.ec_declare.specs.Scopes.{IsSoundContext, plain_context, known_in};
 ghost use Rattle.ec_declare.specs.Sites.{Walked};
-ghost use Rattle.ec_statements.specs.Around.{plain_around};
+ghost use Rattle.ec_statement_forms.specs.Around.{plain_around};
+ghost use Rattle.ec_statement_forms.specs.Results.{returned_type, has_no_result, has_result};
 ghost use Rattle.ec_statements.specs.Parts.{tested, test_sites, optional_test, optional_test_sites, evaluated};
 ghost use Rattle.ec_statements.specs.Parts.{evaluation_sites, optional_evaluation, optional_evaluation_sites};
-ghost use Rattle.ec_statements.specs.Parts.{returned_type, has_no_result, has_result, returned, return_sites};
+ghost use Rattle.ec_statements.specs.Parts.{returned, return_sites};
 
-use crate::around::{Around, known_in};
-use crate::kinds::{KeptExpr, kept_expr};
-use ec_core::{CType, Expr, StmtKind};
+use crate::kept::kept_expr;
+use ec_core::{Expr, StmtKind};
 use ec_declare::Context;
-use ec_expr::expression;
+use ec_expr::{Known, expression};
 use ec_faults::Faults;
 use ec_forms::{condition, judge_condition, take, take_part};
 use ec_grammar::tree::Expression;
 use ec_names::{Names, first_expression};
 use ec_operands::{Modes, Operand, as_value, judge_conversion, pass};
 use ec_space::NoMemory;
+use ec_statement_forms::{Around, KeptExpr, has_no_result, has_result, judge_value, returned_type};
 use std::alloc::Global;
 
 /// A part that may be left out: None where it breaks a rule, and Some of None where it is left out.
 pub(crate) type Optional = Option<KeptExpr>;
+
+/// What an expression knows.
+pub(crate) fn known_in<'a>(context: &Context<'a>, names: &'a Names) -> Known<'a>
+    requires { IsSoundContext (plain_context context.now) }
+    ensures known { plain_known result ≡ known_in (plain_context context.now) (plain_names names.now) }
+    ensures structs { result.structs.now ≡ context.now.structs.now }
+    ensures sound { IsSound (plain_known result) }
+{
+    Known {
+        names,
+        tags: context.tags,
+        structs: context.structs,
+        ports: context.ports,
+        modes: context.modes,
+    }
+}
 
 // ---- conditions
 
@@ -141,39 +157,6 @@ pub(crate) fn optional_evaluation(
 
 // ---- `return`
 
-fn is_void(ty: &CType) -> bool
-    ensures { result ≡ is_void (plain_type ty.now) }
-{
-    matches!(ty, CType::Void)
-}
-
-fn returned_type(ty: &Option<CType>) -> Option<&CType>
-    ensures { option_map plain_type (option_copied result) ≡ returned_type (option_map plain_type ty.now) }
-{
-    match ty {
-        None => None,
-        Some(ty) => { if is_void(ty) { None } else { Some(ty) } }
-    }
-}
-
-fn has_no_result(ty: &Option<CType>) -> bool
-    ensures { result ≡ has_no_result (option_map plain_type ty.now) }
-{
-    match ty {
-        None => false,
-        Some(ty) => is_void(ty),
-    }
-}
-
-fn has_result(ty: &Option<CType>) -> bool
-    ensures { result ≡ has_result (option_map plain_type ty.now) }
-{
-    match ty {
-        None => false,
-        Some(ty) => !is_void(ty),
-    }
-}
-
 /// A value that is returned, brought to the type of the result.
 fn returned_value(
     alloc: Global,
@@ -192,7 +175,7 @@ fn returned_value(
 {
     let known = known_in(context, names);
     let v = expression(alloc, &known, faults, x)?;
-    faults.judge(39, has_no_result(around.result), at);
+    judge_value(faults, around.result, at);
     let to = returned_type(around.result);
     judge_conversion(faults, &v, to, at);
     pass(alloc, context.modes, to, v)

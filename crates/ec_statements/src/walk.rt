@@ -6,20 +6,17 @@ ghost use Rattle.ec_grammar.specs.Views.{view_item, view_statement};
 ghost use Rattle.ec_names.specs.Names.{plain_names};
 ghost use Rattle.ec_declare.specs.Scopes.{IsSoundContext, plain_context, plain_scope};
 ghost use Rattle.ec_declare.specs.Sites.{Site, told, Walked};
-ghost use Rattle.ec_statements.specs.Around.{plain_around, looping, within, ended, under};
+ghost use Rattle.ec_statement_forms.specs.Around.{plain_around, looping, within, ended, under};
+ghost use Rattle.ec_statement_forms.specs.Kinds.{left, left_sites};
 ghost use Rattle.ec_statements.specs.Headings.{plain_heading, for_heading, after_heading, heading_sites};
 ghost use Rattle.ec_statements.specs.Parts.{optional_evaluation_sites};
-ghost use Rattle.ec_statements.specs.Statements.{stated, evaluation, left, left_sites, for_of, after, after_item};
+ghost use Rattle.ec_statements.specs.Statements.{stated, evaluation, for_of, after, after_item};
 ghost use Rattle.ec_statements.specs.Statements.{after_items, kind_of, item_before, items_of, statement_sites};
 ghost use Rattle.ec_statements.specs.Statements.{item_sites, items_sites, body_of, after_body, body_sites};
 ghost use Rattle.ec_statements.specs.Walks.{plain_kept, before, followed, WalkedThrough, WalkedOn};
 
-use crate::around::{Around, under};
-use crate::headings::heading;
-use crate::kinds::{
-    KeptExpr, KeptStmt, Stmts, block_of, branches, do_of, for_of, keep, kept_stmt, one_branch,
-    stated, while_of,
-};
+use crate::headings::{for_of, heading};
+use crate::kept::{Stmts, block_of, keep, kept_stmt, stated};
 use crate::locals::keep_declaration;
 use crate::parts::{evaluated, returned, test};
 use ec_core::{Stmt, StmtKind};
@@ -28,6 +25,9 @@ use ec_faults::Faults;
 use ec_grammar::tree::{Compound, Expression, Heading, Item, Pragma, Statement};
 use ec_names::{Names, first_statement};
 use ec_space::{NoMemory, Seq};
+use ec_statement_forms::{
+    Around, KeptExpr, KeptStmt, branches, do_of, left, one_branch, under, while_of,
+};
 use std::alloc::Global;
 
 // ---- statements without others in them
@@ -61,17 +61,6 @@ fn evaluation(
     };
     let e = evaluated(alloc, context, names, faults, x)?;
     Ok(evaluating(e))
-}
-
-/// `break` or `continue`, which stands at `at` (rule 38).
-fn left(faults: &mut Faults, around: &Around, kind: StmtKind, at: u32) -> Option<StmtKind>
-    ensures kind { option_map plain_kind result ≡ left (plain_around around.now) (plain_kind kind) }
-    ensures noted { (rest : List Site) → told faults.new.least rest
-        ≡ told faults.old.least (left_sites (plain_around around.now) at rest) }
-{
-    let inside = around.in_loop;
-    faults.judge(38, !inside, at);
-    Some(kind).filter(|_| inside)
 }
 
 // ---- all statements

@@ -12,7 +12,7 @@ use Rattle.ec_names.specs.Names.{Entry, Names, an_object, closed}
 use Rattle.ec_names.specs.Specifiers.{specified}
 use Rattle.ec_declare.specs.Declarators.{object_declared}
 use Rattle.ec_declare.specs.Scopes.{Context, Scope, known_in, has_room, made_number, with_object}
-use Rattle.ec_statements.specs.Around.{Around, looping, within, ended, under}
+use Rattle.ec_statement_forms.specs.Around.{Around, looping, within, ended, under}
 use Rattle.ec_statements.specs.Headings.{after_first, after_heading}
 use Rattle.ec_statements.specs.Locals.{local_declared, with_local, with_locals, after_declaration}
 use Rattle.ec_statements.specs.Statements.{after, after_item, after_items, after_body}

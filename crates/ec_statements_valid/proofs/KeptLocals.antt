@@ -20,7 +20,7 @@ use Rattle.ec_initial.specs.Locals.{leaf_values, leaf_sites}
 use Rattle.ec_declare.specs.Declarators.{object_declared}
 use Rattle.ec_declare.specs.Scopes.{Context, Scope, known_in, has_room, inner_object, made_number, with_object}
 use Rattle.ec_declare.specs.Sites as d
-use Rattle.ec_statements.specs.Around.{Around}
+use Rattle.ec_statement_forms.specs.Around.{Around}
 use Rattle.ec_statements.specs.Locals.{first_declarator, local_declared, with_local, initial_values, initial_sites, local_made, started, local_statement, declarator_sites, started_sites, local_sites, with_locals, locals_before, locals_sites, storage_rules, after_declaration, declaration_before, declaration_sites}
 use Rattle.ec_statements.specs.Walks.{followed}
 use Rattle.ec_statements_valid.proofs.Choices.{if_both}

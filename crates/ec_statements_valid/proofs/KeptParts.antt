@@ -20,8 +20,9 @@ use Rattle.ec_expr_valid.specs.Laws.{AreUnbroken, KeptExpressionsHaveMeanings}
 use Rattle.ec_expr_valid.specs.Suits.{IsProper, HasTypes}
 use Rattle.ec_declare.specs.Scopes.{Context, known_in}
 use Rattle.ec_declare.specs.Sites as d
-use Rattle.ec_statements.specs.Around.{Around}
-use Rattle.ec_statements.specs.Parts.{tested, test_sites, optional_test, optional_test_sites, evaluated, evaluation_sites, optional_evaluation, optional_evaluation_sites, returned_type, has_no_result, has_result, returned, return_sites}
+use Rattle.ec_statement_forms.specs.Around.{Around}
+use Rattle.ec_statement_forms.specs.Results.{returned_type, has_no_result, has_result}
+use Rattle.ec_statements.specs.Parts.{tested, test_sites, optional_test, optional_test_sites, evaluated, evaluation_sites, optional_evaluation, optional_evaluation_sites, returned, return_sites}
 use Rattle.ec_statements.specs.Statements.{evaluation}
 use Rattle.ec_statements_valid.proofs.Choices.{if_both}
 use Rattle.ec_statements_valid.proofs.Unbroken.{InExpression, AreKept, expression_of, expression_told, kept_expression, site_kept}

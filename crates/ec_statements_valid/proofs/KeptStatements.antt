@@ -16,11 +16,12 @@ use Rattle.ec_expr_valid.specs.Suits.{HasTypes}
 use Rattle.ec_initial.specs.Laws.{SizesAreValues}
 use Rattle.ec_declare.specs.Scopes.{Context, Scope, known_in}
 use Rattle.ec_declare.specs.Sites as d
-use Rattle.ec_statements.specs.Around.{Around, looping, within, under}
+use Rattle.ec_statement_forms.specs.Around.{Around, looping, within, under}
+use Rattle.ec_statement_forms.specs.Kinds.{one_branch, branches, while_of, do_of, left}
 use Rattle.ec_statements.specs.Headings.{ForHeading, declared_first, first_part, after_first, first_sites, heading_of, for_heading, after_heading, heading_sites}
 use Rattle.ec_statements.specs.Locals.{local_statement, declaration_before}
 use Rattle.ec_statements.specs.Parts.{tested, optional_test, evaluated, optional_evaluation, optional_evaluation_sites}
-use Rattle.ec_statements.specs.Statements.{stated, one_branch, branches, while_of, do_of, for_of, left, after, after_item, after_items, kind_of, item_before, items_of, statement_sites, item_sites, items_sites, body_of, after_body, body_sites}
+use Rattle.ec_statements.specs.Statements.{stated, for_of, after, after_item, after_items, kind_of, item_before, items_of, statement_sites, item_sites, items_sites, body_of, after_body, body_sites}
 use Rattle.ec_statements_valid.specs.Laws.{KeptBodiesHaveMeanings}
 use Rattle.ec_statements_valid.proofs.Choices.{if_both}
 use Rattle.ec_statements_valid.proofs.KeptLocals.{followed_there, GoesOn, declaration_meant, lone_meant}

@@ -26,11 +26,13 @@ use Rattle.ec_expr_valid.specs.Laws.{NeedsAreBounded}
 use Rattle.ec_initial.specs.Locals.{leaf_values, with_items}
 use Rattle.ec_initial.specs.Parts.{part_of, scalar_of, zero_node, zero_of, filled, whole_values, joined, one_value}
 use Rattle.ec_declare.specs.Scopes.{Context, Scope, known_in}
-use Rattle.ec_statements.specs.Around.{Around, looping, within, under}
+use Rattle.ec_statement_forms.specs.Around.{Around, looping, within, under}
+use Rattle.ec_statement_forms.specs.Results.{returned_type, has_no_result}
+use Rattle.ec_statement_forms.specs.Kinds.{one_branch, branches, while_of, do_of, left}
 use Rattle.ec_statements.specs.Headings.{ForHeading, optional_stmt, declared_first, first_part, after_first, heading_of, for_heading, after_heading}
 use Rattle.ec_statements.specs.Locals.{first_declarator, initial_values, local_made, started, local_statement, with_local, locals_before, declaration_before}
-use Rattle.ec_statements.specs.Parts.{tested, optional_test, evaluated, optional_evaluation, returned_type, has_no_result, returned}
-use Rattle.ec_statements.specs.Statements.{evaluation, stated, one_branch, branches, while_of, do_of, for_of, left, after, after_item, kind_of, item_before, items_of, body_of}
+use Rattle.ec_statements.specs.Parts.{tested, optional_test, evaluated, optional_evaluation, returned}
+use Rattle.ec_statements.specs.Statements.{evaluation, stated, for_of, after, after_item, kind_of, item_before, items_of, body_of}
 use Rattle.ec_statements.specs.Walks.{followed}
 use Rattle.ec_statements_valid.specs.Laws.{BodiesNeedTheirTokens}
 use Rattle.ec_statements_valid.proofs.Choices.{if_both}

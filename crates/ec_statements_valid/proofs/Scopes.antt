@@ -15,7 +15,7 @@ use Rattle.ec_expr_valid.specs.Laws.{SaidTypesArePlaced}
 use Rattle.ec_initial.specs.Laws.{SizesAreValues}
 use Rattle.ec_declare.specs.Declarators.{object_declared}
 use Rattle.ec_declare.specs.Scopes.{Context, Scope, known_in, inner_object}
-use Rattle.ec_statements.specs.Around.{Around, under}
+use Rattle.ec_statement_forms.specs.Around.{Around, under}
 use Rattle.ec_statements.specs.Locals.{local_declared, with_local, with_locals}
 use Rattle.ec_statements.specs.Statements.{after, after_items, after_body}
 use Rattle.ec_statements_valid.specs.Laws.{ObjectsStay, ObjectsAreAppended, ScopesEnd}

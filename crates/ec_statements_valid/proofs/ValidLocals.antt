@@ -24,7 +24,7 @@ use Rattle.ec_initial.specs.Laws.{SizesAreValues, ValuesHaveLeafTypes}
 use Rattle.ec_initial.specs.Locals.{leaf_values}
 use Rattle.ec_declare.specs.Declarators.{object_declared}
 use Rattle.ec_declare.specs.Scopes.{Context, Scope, known_in, has_room, inner_object, made_number, with_object}
-use Rattle.ec_statements.specs.Around.{Around}
+use Rattle.ec_statement_forms.specs.Around.{Around}
 use Rattle.ec_statements.specs.Locals.{first_declarator, local_declared, with_local, initial_values, local_made, started, local_statement, with_locals, locals_before, after_declaration, declaration_before}
 use Rattle.ec_statements.specs.Walks.{followed}
 use Rattle.ec_statements_valid.specs.Objects.{IsDeclaredType, AreFirst}

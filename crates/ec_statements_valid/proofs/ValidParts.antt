@@ -20,8 +20,9 @@ use Rattle.ec_expr.specs.Expressions.{of_expression}
 use Rattle.ec_expr_valid.specs.Laws.{MeanOperands, ValuesAreValid}
 use Rattle.ec_expr_valid.specs.Suits.{AreHeld}
 use Rattle.ec_declare.specs.Scopes.{Context, known_in}
-use Rattle.ec_statements.specs.Around.{Around}
-use Rattle.ec_statements.specs.Parts.{tested, optional_test, evaluated, optional_evaluation, returned_type, has_no_result, returned}
+use Rattle.ec_statement_forms.specs.Around.{Around}
+use Rattle.ec_statement_forms.specs.Results.{returned_type, has_no_result}
+use Rattle.ec_statements.specs.Parts.{tested, optional_test, evaluated, optional_evaluation, returned}
 use Rattle.ec_statements.specs.Statements.{evaluation}
 use Rattle.ec_statements_valid.proofs.Choices.{if_both}
 use Rattle.ec_statements_valid.proofs.ValidInitialisers.{used_valid}

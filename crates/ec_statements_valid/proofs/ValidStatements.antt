@@ -19,11 +19,12 @@ use Rattle.ec_expr_valid.specs.Laws.{ExpressionsAreValid, SaidTypesArePlaced, De
 use Rattle.ec_expr_valid.specs.Suits.{AreHeld, Suits}
 use Rattle.ec_initial.specs.Laws.{SizesAreValues, ValuesHaveLeafTypes}
 use Rattle.ec_declare.specs.Scopes.{Context, Scope, known_in}
-use Rattle.ec_statements.specs.Around.{Around, looping, within, under}
+use Rattle.ec_statement_forms.specs.Around.{Around, looping, within, under}
+use Rattle.ec_statement_forms.specs.Kinds.{one_branch, branches, while_of, do_of, left}
 use Rattle.ec_statements.specs.Headings.{ForHeading, optional_stmt, declared_first, first_part, after_first, heading_of, for_heading, after_heading}
 use Rattle.ec_statements.specs.Locals.{local_statement, after_declaration, declaration_before}
 use Rattle.ec_statements.specs.Parts.{tested, optional_test, evaluated, optional_evaluation}
-use Rattle.ec_statements.specs.Statements.{stated, one_branch, branches, while_of, do_of, for_of, left, after, after_item, after_items, kind_of, item_before, items_of, body_of, after_body}
+use Rattle.ec_statements.specs.Statements.{stated, for_of, after, after_item, after_items, kind_of, item_before, items_of, body_of, after_body}
 use Rattle.ec_statements_valid.specs.Laws.{BodiesAreValid}
 use Rattle.ec_statements_valid.specs.Objects.{AreFirst}
 use Rattle.ec_statements_valid.proofs.Choices.{if_both}

@@ -25,7 +25,7 @@ use Rattle.ec_declare.specs.Functions.{returned, result_sites}
 use Rattle.ec_declare.specs.Params.{param_declared, param_sites}
 use Rattle.ec_declare.specs.Scopes.{Context, Scope, known_in, made_number, inner_object, with_inner}
 use Rattle.ec_declare.specs.Sites.{Site, told}
-use Rattle.ec_statements.specs.Around.{Around}
+use Rattle.ec_statement_forms.specs.Around.{Around}
 use Rattle.ec_statements.specs.Statements.{body_of, after_body, body_sites}
 use Rattle.ec_statements_valid.specs.Objects.{IsDeclaredType, IsLocal, AreAppended, AreFirst}
 

@@ -5,7 +5,6 @@ ghost use Rattle.ec_iohw.specs.Valid.{ValidIo};
 use ec_iohw::{Designator, IoTable, Port, PortGroup};
 use ec_space::{Name, NoMemory, Seq};
 use std::alloc::Global;
-use std::test::Fail;
 
 fn name(alloc: Global, text: &str) -> Result<Name, NoMemory> {
     let mut name = Seq::new(alloc);
@@ -43,20 +42,48 @@ fn table(alloc: Global) -> Result<IoTable, NoMemory>
     })
 }
 
-#[test]
-fn designators(rt: HostRuntime) -> Result<(), Fail> {
-    let io = table(rt.alloc())?;
-    for (text, group, want) in [
-        ("PORTB", false, Some(Designator::Port(0))),
-        ("PORTB", true, None),
-        ("timer", true, Some(Designator::Group(0))),
-        ("timer", false, None),
-        ("PORT", false, None),
-        ("PORTC", false, None),
-        ("", true, None),
-    ] {
-        let name = name(rt.alloc(), text)?;
-        assert_eq!(rt; io.designator(&name, group), want);
+/// A name, whether it is looked up among the groups, and what it designates.
+static DESIGNATORS: [(&str, bool, Option<Designator>); 7] = [
+    ("PORTB", false, Some(Designator::Port(0))),
+    ("PORTB", true, None),
+    ("timer", true, Some(Designator::Group(0))),
+    ("timer", false, None),
+    ("PORT", false, None),
+    ("PORTC", false, None),
+    ("", true, None),
+];
+
+fn found(
+    alloc: Global,
+    io: &IoTable,
+    text: &str,
+    group: bool,
+) -> Result<Option<Designator>, NoMemory>
+    requires { ValidIo io.now }
+{
+    let name = name(alloc, text)?;
+    Ok(io.designator(&name, group))
+}
+
+/// How many names designate what they should.
+fn count(alloc: Global, io: &IoTable) -> Result<u32, NoMemory>
+    requires { ValidIo io.now }
+{
+    let mut count: u32 = 0;
+    for &(text, group, want) in &DESIGNATORS {
+        if found(alloc, io, text, group)? == want {
+            count = count.saturating_add(1);
+        }
     }
-    Ok(())
+    Ok(count)
+}
+
+fn count_in_table(alloc: Global) -> Result<u32, NoMemory> {
+    let io = table(alloc)?;
+    count(alloc, &io)
+}
+
+#[test]
+fn designators(rt: HostRuntime) {
+    assert!(rt; matches!(count_in_table(rt.alloc()), Ok(7)));
 }

@@ -6,49 +6,71 @@ use ec_space::{
 };
 use std::alloc::Global;
 use std::collections::HashMap;
-use std::test::Fail;
 
-#[test]
-fn keeps_its_items(rt: HostRuntime) -> Result<(), Fail> {
-    let mut name: Name = Seq::new(rt.alloc());
+fn name(alloc: Global, text: &[u8]) -> Result<Name, NoMemory> {
+    let mut name = Seq::new(alloc);
+    name.extend_from_slice(text)?;
+    Ok(name)
+}
+
+fn is_abc(name: &Name) -> bool {
+    name.as_slice() == b"abc".as_slice()
+        && name.len() == 3
+        && name.get(2).copied() == Some(b'c')
+        && name.get(3).is_none()
+}
+
+/// Whether a name is before the other, and that is `axc`.
+fn is_before(name: &Name, other: &Name) -> bool {
+    name < other && other.as_slice() == b"axc".as_slice()
+}
+
+fn copied(name: &Name) -> Result<Name, NoMemory> {
+    match name.clone() {
+        Ok(copy) => Ok(copy),
+        Err(_) => Err(NoMemory),
+    }
+}
+
+/// Whether lists of bytes keep what they are given, and are compared as texts are.
+fn keeps_items(alloc: Global) -> Result<bool, NoMemory> {
+    let mut name: Name = Seq::new(alloc);
     name.reserve(3)?;
     name.push(b'a')?;
     name.extend_from_slice(b"bc")?;
-    assert_eq!(rt; name.as_slice(), b"abc".as_slice());
-    assert_eq!(rt; name.len(), 3);
-    assert_eq!(rt; name.get(2).copied(), Some(b'c'));
-    assert_eq!(rt; name.get(3).copied(), None);
+    let kept = is_abc(&name);
     name.put(1, b'x');
-    let copy = name.clone()?;
-    assert!(rt; copy == name);
+    let copy = copied(&name)?;
+    let same = copy == name;
     name.clear();
-    assert!(rt; name.is_empty());
-    assert!(rt; name < copy);
-    assert_eq!(rt; copy.as_slice(), b"axc".as_slice());
-    Ok(())
+    Ok(kept && same && name.is_empty() && is_before(&name, &copy))
 }
 
-#[test]
-fn is_a_key(rt: HostRuntime) -> Result<(), Fail> {
-    let mut places = HashMap::new(rt.alloc());
-    for (name, place) in [(b"left", 4u32), (b"down", 5)] {
-        let mut key: Name = Seq::new(rt.alloc());
-        key.extend_from_slice(name)?;
-        places.insert(key, place)?;
+fn put(places: &mut HashMap<Name, u32>, key: Name, place: u32) -> bool {
+    places.insert(key, place).is_ok()
+}
+
+/// What stands at `down` and at `Down` behind the keys `left` and `down`.
+fn looked_up(alloc: Global) -> Result<(Option<u32>, Option<u32>), NoMemory> {
+    let (left, down) = (name(alloc, b"left")?, name(alloc, b"down")?);
+    let (same, other) = (name(alloc, b"down")?, name(alloc, b"Down")?);
+    let mut places = HashMap::new(alloc);
+    if !put(&mut places, left, 4) || !put(&mut places, down, 5) {
+        return Err(NoMemory);
     }
-    let mut key: Name = Seq::new(rt.alloc());
-    key.extend_from_slice(b"down")?;
-    assert_eq!(rt; places.get(&key).copied(), Some(5));
-    key.put(0, b'D');
-    assert_eq!(rt; places.get(&key).copied(), None);
-    Ok(())
+    Ok((places.get(&same).copied(), places.get(&other).copied()))
+}
+
+fn fills(alloc: Global) -> Result<bool, NoMemory> {
+    let flags = Seq::filled(alloc, 3, false)?;
+    Ok(flags.as_slice() == [false, false, false].as_slice())
 }
 
 #[test]
-fn fills(rt: HostRuntime) -> Result<(), Fail> {
-    let flags = Seq::filled(rt.alloc(), 3, false)?;
-    assert_eq!(rt; flags.as_slice(), [false, false, false].as_slice());
-    Ok(())
+fn lists(rt: HostRuntime) {
+    assert!(rt; matches!(keeps_items(rt.alloc()), Ok(true)));
+    assert!(rt; matches!(looked_up(rt.alloc()), Ok((Some(5), None))));
+    assert!(rt; matches!(fills(rt.alloc()), Ok(true)));
 }
 
 fn is_kept_as<T: Cell + Copy + PartialEq + Drop>(v: T, b: [u8; 8]) -> bool {
@@ -78,22 +100,27 @@ fn lays_out_each_type(rt: HostRuntime) {
     assert!(rt; wide_numbers_are_laid_out());
 }
 
+/// A space, another one, and whether the first encloses it.
+static NESTED: [(SpaceId, SpaceId, bool); 3] = [
+    (SpaceId::Generic, SpaceId::Data, true),
+    (SpaceId::Data, SpaceId::Generic, false),
+    (SpaceId::Flash, SpaceId::Flash, true),
+];
+
+/// Two spaces and the space of both.
+static JOINED: [(SpaceId, SpaceId, Option<SpaceId>); 2] = [
+    (SpaceId::Data, SpaceId::Generic, Some(SpaceId::Generic)),
+    (SpaceId::Data, SpaceId::Flash, None),
+];
+
 #[test]
-fn joins_nested_spaces(rt: HostRuntime) -> Result<(), Fail> {
-    for (outer, inner, want) in [
-        (SpaceId::Generic, SpaceId::Data, true),
-        (SpaceId::Data, SpaceId::Generic, false),
-        (SpaceId::Flash, SpaceId::Flash, true),
-    ] {
+fn joins_nested_spaces(rt: HostRuntime) {
+    for &(outer, inner, want) in &NESTED {
         assert!(rt; outer.encloses(inner) == want);
     }
-    for (a, b, want) in [
-        (SpaceId::Data, SpaceId::Generic, Some(SpaceId::Generic)),
-        (SpaceId::Data, SpaceId::Flash, None),
-    ] {
+    for &(a, b, want) in &JOINED {
         assert!(rt; a.join(b) == want);
     }
-    Ok(())
 }
 
 const IN_FLASH: Pointer = Pointer::At(Place {
@@ -185,13 +212,6 @@ fn ends_are_empty(alloc: Global) -> Result<bool, NoMemory> {
     )
 }
 
-#[test]
-fn begins_empty(rt: HostRuntime) -> Result<(), Fail> {
-    let empty = ends_are_empty(rt.alloc())?;
-    assert!(rt; empty);
-    Ok(())
-}
-
 /// Which stores are made, of two that overlap and of three outside.
 fn stores(mem: &mut Mem) -> [bool; 5] {
     [
@@ -210,18 +230,10 @@ fn holds_what_is_stored(mem: &Mem) -> bool {
         && mem.load::<Flash, i16>(in_data(0x0100)).is_none()
 }
 
-fn stored(alloc: Global) -> Result<([bool; 5], bool), NoMemory> {
+fn stored(alloc: Global) -> Result<bool, NoMemory> {
     let mut mem = Mem::new(alloc, Core::Small)?;
     let stores = stores(&mut mem);
-    Ok((stores, holds_what_is_stored(&mem)))
-}
-
-#[test]
-fn stores_and_loads(rt: HostRuntime) -> Result<(), Fail> {
-    let (stores, held) = stored(rt.alloc())?;
-    assert!(rt; stores == [true, true, false, false, false]);
-    assert!(rt; held);
-    Ok(())
+    Ok(stores == [true, true, false, false, false] && holds_what_is_stored(&mem))
 }
 
 /// Whether what is written in windows stands in memory.
@@ -238,8 +250,8 @@ fn windows_are_written(alloc: Global) -> Result<bool, NoMemory> {
 }
 
 #[test]
-fn lends_its_bytes(rt: HostRuntime) -> Result<(), Fail> {
-    let written = windows_are_written(rt.alloc())?;
-    assert!(rt; written);
-    Ok(())
+fn memory(rt: HostRuntime) {
+    assert!(rt; matches!(ends_are_empty(rt.alloc()), Ok(true)));
+    assert!(rt; matches!(stored(rt.alloc()), Ok(true)));
+    assert!(rt; matches!(windows_are_written(rt.alloc()), Ok(true)));
 }

@@ -1,4 +1,5 @@
 //! Expected values are worked out by the rules of ISO C and of fixed-point arithmetic, apart from this library.
+ghost use Rattle.std.specs.Prelude.{◌≡◌, IfOk};
 ghost use Rattle.ec_fx.specs.Numbers.{IsNumber, IsWhole};
 ghost use Rattle.ec_core.specs.ArithmeticValues.{IsKnownType};
 ghost use Rattle.ec_core.specs.Integers.{IsInteger};
@@ -9,10 +10,9 @@ use ec_core::Undefined::{
 };
 use ec_core::*;
 use ec_fx::{Fixed, FxKind, Mode, Num};
-use ec_space::{Bank, Seq, SpaceId};
-use std::alloc::{AllocError, Global};
+use ec_space::{Bank, NoMemory, Seq, SpaceId};
+use std::alloc::Global;
 use std::process::Abort;
-use std::test::Fail;
 
 const PLAIN: Mode = Mode { saturate: false };
 
@@ -61,70 +61,68 @@ fn check_whole(rt: &impl Abort, n: i128)
     assert!(rt; n <= 4_294_967_295);
 }
 
+/// An operator, its type, its operands and its value.
+static OPERATORS: [(BinOp, IntegerType, i128, i128, Result<i128, Undefined>); 29] = [
+    (BinOp::Add, UNSIGNED, 65535, 2, Ok(1)),
+    (BinOp::Add, INT, 32767, 1, Ok(-32768)),
+    (BinOp::Sub, UNSIGNED, 0, 1, Ok(65535)),
+    (BinOp::Sub, LONG, -2147483648, 1, Ok(2147483647)),
+    (BinOp::Mul, INT, -128, 255, Ok(-32640)),
+    (BinOp::Mul, INT, 255, 255, Ok(-511)),
+    (BinOp::Div, INT, -7, 2, Ok(-3)),
+    (BinOp::Div, INT, 7, -2, Ok(-3)),
+    (BinOp::Div, INT, -32768, -1, Ok(-32768)),
+    (BinOp::Div, LONG, 1, 0, Err(ZeroDivisor)),
+    (BinOp::Rem, INT, -7, 2, Ok(-1)),
+    (BinOp::Rem, INT, 7, -2, Ok(1)),
+    (BinOp::Rem, UNSIGNED_LONG, 7, 0, Err(ZeroDivisor)),
+    (BinOp::Shl, INT, 1, 15, Ok(-32768)),
+    (BinOp::Shl, INT, 3, 16, Err(ShiftCount)),
+    (BinOp::Shl, LONG, 3, 16, Ok(196608)),
+    (BinOp::Shl, INT, 3, -1, Err(ShiftCount)),
+    (BinOp::Shr, INT, -7, 1, Ok(-4)),
+    (BinOp::Shr, INT, -1, 15, Ok(-1)),
+    (BinOp::Shr, UNSIGNED, 32768, 15, Ok(1)),
+    (BinOp::Shr, UNSIGNED_LONG, 1, 32, Err(ShiftCount)),
+    (BinOp::And, INT, -256, 4095, Ok(3840)),
+    (BinOp::Or, INT, -32768, 1, Ok(-32767)),
+    (BinOp::Xor, UNSIGNED, 65535, 255, Ok(65280)),
+    (BinOp::Xor, INT, -1, 255, Ok(-256)),
+    (BinOp::Lt, INT, -1, 1, Ok(1)),
+    (BinOp::Lt, UNSIGNED, 65535, 1, Ok(0)),
+    (BinOp::Ge, LONG, -5, -5, Ok(1)),
+    (BinOp::Ne, INT, 4, 4, Ok(0)),
+];
+
 #[test]
 fn integer_operators(rt: HostRuntime) {
-    for (op, t, a, b, want) in [
-        (BinOp::Add, UNSIGNED, 65535, 2, Ok(1)),
-        (BinOp::Add, INT, 32767, 1, Ok(-32768)),
-        (BinOp::Sub, UNSIGNED, 0, 1, Ok(65535)),
-        (BinOp::Sub, LONG, -2147483648, 1, Ok(2147483647)),
-        (BinOp::Mul, INT, -128, 255, Ok(-32640)),
-        (BinOp::Mul, INT, 255, 255, Ok(-511)),
-        (BinOp::Div, INT, -7, 2, Ok(-3)),
-        (BinOp::Div, INT, 7, -2, Ok(-3)),
-        (BinOp::Div, INT, -32768, -1, Ok(-32768)),
-        (BinOp::Div, LONG, 1, 0, Err(ZeroDivisor)),
-        (BinOp::Rem, INT, -7, 2, Ok(-1)),
-        (BinOp::Rem, INT, 7, -2, Ok(1)),
-        (BinOp::Rem, UNSIGNED_LONG, 7, 0, Err(ZeroDivisor)),
-        (BinOp::Shl, INT, 1, 15, Ok(-32768)),
-        (BinOp::Shl, INT, 3, 16, Err(ShiftCount)),
-        (BinOp::Shl, LONG, 3, 16, Ok(196608)),
-        (BinOp::Shl, INT, 3, -1, Err(ShiftCount)),
-        (BinOp::Shr, INT, -7, 1, Ok(-4)),
-        (BinOp::Shr, INT, -1, 15, Ok(-1)),
-        (BinOp::Shr, UNSIGNED, 32768, 15, Ok(1)),
-        (BinOp::Shr, UNSIGNED_LONG, 1, 32, Err(ShiftCount)),
-        (BinOp::And, INT, -256, 4095, Ok(3840)),
-        (BinOp::Or, INT, -32768, 1, Ok(-32767)),
-        (BinOp::Xor, UNSIGNED, 65535, 255, Ok(65280)),
-        (BinOp::Xor, INT, -1, 255, Ok(-256)),
-        (BinOp::Lt, INT, -1, 1, Ok(1)),
-        (BinOp::Lt, UNSIGNED, 65535, 1, Ok(0)),
-        (BinOp::Ge, LONG, -5, -5, Ok(1)),
-        (BinOp::Ne, INT, 4, 4, Ok(0)),
-    ] {
+    for &(op, t, a, b, want) in &OPERATORS {
         check_integer(&rt, t);
         check_whole(&rt, a);
         check_whole(&rt, b);
-        assert_eq!(rt; integer_operation(op, t, a, b), want, "{a} and {b}");
+        assert!(rt; integer_operation(op, t, a, b) == want, "{a} and {b}");
     }
 }
+
+/// A type, a whole number and that number in the type.
+static INTEGERS: [(IntegerType, i128, i128); 7] = [
+    (UNSIGNED, -1, 65535),
+    (CHAR, 200, -56),
+    (CHAR, -129, 127),
+    (UNSIGNED_CHAR, 511, 255),
+    (INT, 32768, -32768),
+    (LONG, 4294967295, -1),
+    (UNSIGNED_LONG, -2147483648, 2147483648),
+];
 
 #[test]
 fn integer_conversions(rt: HostRuntime) {
-    for (t, n, want) in [
-        (UNSIGNED, -1, 65535),
-        (CHAR, 200, -56),
-        (CHAR, -129, 127),
-        (UNSIGNED_CHAR, 511, 255),
-        (INT, 32768, -32768),
-        (LONG, 4294967295, -1),
-        (UNSIGNED_LONG, -2147483648, 2147483648),
-    ] {
+    for &(t, n, want) in &INTEGERS {
         check_integer(&rt, t);
-        assert_eq!(rt; t.wrapped(n), want);
-        assert!(rt; n >= -2_147_483_648);
-        assert!(rt; n <= 4_294_967_295);
-        assert_eq!(rt;
-            arithmetic_conversion(Arithmetic::Integer(t), PLAIN, Num::Whole(n as i64)),
-            Ok(want)
-        );
+        assert!(rt; t.wrapped(n) == want, "{n}");
+        let n = number(&rt, WHOLE, n);
+        assert!(rt; arithmetic_conversion(Arithmetic::Integer(t), PLAIN, n) == Ok(want));
     }
-}
-
-fn fixed_type(kind: FxKind) -> Arithmetic {
-    Arithmetic::Fixed(FixedType { kind, sat: false })
 }
 
 /// A number of a fixed-point type, or a whole number.
@@ -145,6 +143,51 @@ fn number(rt: &impl Abort, kind: Option<FxKind>, n: i128) -> Num
     }
 }
 
+const SHORT_ACCUM: Arithmetic = Arithmetic::Fixed(FixedType {
+    kind: FxKind::ShortAccum,
+    sat: false,
+});
+
+const SHORT_FRACT: Arithmetic = Arithmetic::Fixed(FixedType {
+    kind: FxKind::ShortFract,
+    sat: false,
+});
+
+const UNSIGNED_ACCUM: Arithmetic = Arithmetic::Fixed(FixedType {
+    kind: FxKind::UnsignedAccum,
+    sat: false,
+});
+
+const UNSIGNED_SHORT_FRACT: Arithmetic = Arithmetic::Fixed(FixedType {
+    kind: FxKind::UnsignedShortFract,
+    sat: false,
+});
+
+const FRACT: Arithmetic = Arithmetic::Fixed(FixedType {
+    kind: FxKind::Fract,
+    sat: false,
+});
+
+const LONG_FRACT: Arithmetic = Arithmetic::Fixed(FixedType {
+    kind: FxKind::LongFract,
+    sat: false,
+});
+
+const ACCUM: Arithmetic = Arithmetic::Fixed(FixedType {
+    kind: FxKind::Accum,
+    sat: false,
+});
+
+const UNSIGNED_LONG_FRACT: Arithmetic = Arithmetic::Fixed(FixedType {
+    kind: FxKind::UnsignedLongFract,
+    sat: false,
+});
+
+const UNSIGNED_SHORT_ACCUM: Arithmetic = Arithmetic::Fixed(FixedType {
+    kind: FxKind::UnsignedShortAccum,
+    sat: false,
+});
+
 const HR: Option<FxKind> = Some(FxKind::ShortFract);
 
 const UHR: Option<FxKind> = Some(FxKind::UnsignedShortFract);
@@ -153,41 +196,41 @@ const HK: Option<FxKind> = Some(FxKind::ShortAccum);
 
 const WHOLE: Option<FxKind> = None;
 
+/// A number of a kind, a type, and what it is there, also where it saturates.
+static CONVERSIONS: [(
+    Option<FxKind>,
+    i128,
+    Arithmetic,
+    Result<i128, Undefined>,
+    Result<i128, Undefined>,
+); 9] = [
+    (HR, 96, SHORT_ACCUM, Ok(96), Ok(96)),
+    (HK, 12288, Arithmetic::Integer(INT), Ok(96), Ok(96)),
+    (HK, -42 * 128, Arithmetic::Integer(INT), Ok(-42), Ok(-42)),
+    (HK, -300, Arithmetic::Integer(CHAR), Ok(-2), Ok(-2)),
+    (
+        HK,
+        25600,
+        Arithmetic::Integer(CHAR),
+        Err(WholePart),
+        Err(WholePart),
+    ),
+    (HK, -1, Arithmetic::Integer(UNSIGNED), Ok(0), Ok(0)),
+    (HK, 128, SHORT_FRACT, Err(FixedOverflow), Ok(127)),
+    (WHOLE, -3, UNSIGNED_ACCUM, Err(FixedOverflow), Ok(0)),
+    (UHR, 255, SHORT_FRACT, Ok(127), Ok(127)),
+];
+
 #[test]
 fn fixed_conversions(rt: HostRuntime) {
-    for (kind, n, to, plain, saturating) in [
-        (HR, 96, fixed_type(FxKind::ShortAccum), Ok(96), Ok(96)),
-        (HK, 12288, Arithmetic::Integer(INT), Ok(96), Ok(96)),
-        (HK, -42 * 128, Arithmetic::Integer(INT), Ok(-42), Ok(-42)),
-        (HK, -300, Arithmetic::Integer(CHAR), Ok(-2), Ok(-2)),
-        (
-            HK,
-            25600,
-            Arithmetic::Integer(CHAR),
-            Err(WholePart),
-            Err(WholePart),
-        ),
-        (HK, -1, Arithmetic::Integer(UNSIGNED), Ok(0), Ok(0)),
-        (
-            HK,
-            128,
-            fixed_type(FxKind::ShortFract),
-            Err(FixedOverflow),
-            Ok(127),
-        ),
-        (
-            WHOLE,
-            -3,
-            fixed_type(FxKind::UnsignedAccum),
-            Err(FixedOverflow),
-            Ok(0),
-        ),
-        (UHR, 255, fixed_type(FxKind::ShortFract), Ok(127), Ok(127)),
-    ] {
+    for &(kind, n, to, plain, saturating) in &CONVERSIONS {
         let a = number(&rt, kind, n);
         check_known(&rt, to);
-        assert_eq!(rt; arithmetic_conversion(to, PLAIN, a), plain);
-        assert_eq!(rt; arithmetic_conversion(to, SATURATING, a), saturating);
+        assert!(rt; arithmetic_conversion(to, PLAIN, a) == plain, "{n}");
+        assert!(rt;
+            arithmetic_conversion(to, SATURATING, a) == saturating,
+            "{n}"
+        );
     }
 }
 
@@ -200,127 +243,251 @@ fn check_known(rt: &impl Abort, ty: Arithmetic)
     }
 }
 
-#[test]
-fn array_leaves(rt: HostRuntime) -> Result<(), Fail> {
-    let structs = Seq::new(rt.alloc());
-    let of = Box::new(rt.alloc(), Arithmetic::Integer(LONG).to_type())?;
-    let ty = CType::Array { of, len: 3 };
-    assert_eq!(rt; size_of(&structs, &ty), 12);
-    let leaves = leaves(rt.alloc(), &structs, &ty)?;
-    assert_eq!(rt; leaves.len(), 3);
-    for leaf in leaves.as_slice() {
-        assert_eq!(rt; leaf.at % 4, 0);
+fn boxed(alloc: Global, ty: CType) -> Result<Box<CType>, NoMemory>
+    ensures { IfOk result (λ b. b.value ≡ ty) }
+{
+    match Box::new(alloc, ty) {
+        Ok(b) => Ok(b),
+        Err(_) => Err(NoMemory),
     }
-    Ok(())
+}
+
+/// The size of an array of three longs, and the number of its leaves that are where longs are.
+fn array_of_longs(alloc: Global) -> Result<(u32, usize), NoMemory> {
+    let structs = Seq::new(alloc);
+    let of = boxed(alloc, Arithmetic::Integer(LONG).to_type())?;
+    let ty = CType::Array { of, len: 3 };
+    let size = size_of(&structs, &ty);
+    let leaves = leaves(alloc, &structs, &ty)?;
+    let count = leaves
+        .as_slice()
+        .iter()
+        .filter(|leaf| leaf.at % 4 == 0)
+        .count();
+    Ok((size, count))
+}
+
+#[test]
+fn array_leaves(rt: HostRuntime) {
+    assert!(rt; matches!(array_of_longs(rt.alloc()), Ok((12, 3))));
+}
+
+/// Two types and that in which their values are added.
+static COMMON: [(Arithmetic, Arithmetic, Arithmetic); 9] = [
+    (
+        Arithmetic::Integer(CHAR),
+        Arithmetic::Integer(UNSIGNED_CHAR),
+        Arithmetic::Integer(INT),
+    ),
+    (
+        Arithmetic::Integer(INT),
+        Arithmetic::Integer(UNSIGNED),
+        Arithmetic::Integer(UNSIGNED),
+    ),
+    (
+        Arithmetic::Integer(UNSIGNED_CHAR),
+        Arithmetic::Integer(UNSIGNED),
+        Arithmetic::Integer(UNSIGNED),
+    ),
+    (
+        Arithmetic::Integer(UNSIGNED),
+        Arithmetic::Integer(LONG),
+        Arithmetic::Integer(LONG),
+    ),
+    (
+        Arithmetic::Integer(UNSIGNED_LONG),
+        Arithmetic::Integer(LONG),
+        Arithmetic::Integer(UNSIGNED_LONG),
+    ),
+    (Arithmetic::Integer(UNSIGNED_LONG), SHORT_FRACT, SHORT_FRACT),
+    (UNSIGNED_SHORT_FRACT, FRACT, FRACT),
+    (UNSIGNED_ACCUM, LONG_FRACT, ACCUM),
+    (
+        UNSIGNED_LONG_FRACT,
+        UNSIGNED_SHORT_ACCUM,
+        UNSIGNED_SHORT_ACCUM,
+    ),
+];
+
+/// Whether a type of numbers is the common type of two types.
+fn is_common(a: &CType, b: &CType, want: Arithmetic) -> bool {
+    match result_type(a, b) {
+        Some(ty) => ty.arithmetic() == Some(want),
+        None => false,
+    }
+}
+
+/// Whether two types have a common type.
+fn have_common(a: &CType, b: &CType) -> bool {
+    result_type(a, b).is_some()
 }
 
 #[test]
 fn result_types(rt: HostRuntime) {
-    let int = |t| Arithmetic::Integer(t);
-    for (a, b, want) in [
-        (int(CHAR), int(UNSIGNED_CHAR), int(INT)),
-        (int(INT), int(UNSIGNED), int(UNSIGNED)),
-        (int(UNSIGNED_CHAR), int(UNSIGNED), int(UNSIGNED)),
-        (int(UNSIGNED), int(LONG), int(LONG)),
-        (int(UNSIGNED_LONG), int(LONG), int(UNSIGNED_LONG)),
-        (
-            int(UNSIGNED_LONG),
-            fixed_type(FxKind::ShortFract),
-            fixed_type(FxKind::ShortFract),
-        ),
-        (
-            fixed_type(FxKind::UnsignedShortFract),
-            fixed_type(FxKind::Fract),
-            fixed_type(FxKind::Fract),
-        ),
-        (
-            fixed_type(FxKind::UnsignedAccum),
-            fixed_type(FxKind::LongFract),
-            fixed_type(FxKind::Accum),
-        ),
-        (
-            fixed_type(FxKind::UnsignedLongFract),
-            fixed_type(FxKind::UnsignedShortAccum),
-            fixed_type(FxKind::UnsignedShortAccum),
-        ),
-    ] {
-        match result_type(&a.to_type(), &b.to_type()) {
-            Some(result) => assert!(rt; result.is_same(&want.to_type())),
-            None => panic!(rt; "no type"),
-        }
+    for &(a, b, want) in &COMMON {
+        assert!(rt; is_common(&a.to_type(), &b.to_type(), want));
     }
-    assert!(rt; result_type(&CType::Void, &int(INT).to_type()).is_none());
-    assert!(rt; result_type(&int(INT).to_type(), &CType::Struct { index: 0 }).is_none());
+    assert!(rt; !have_common(&CType::Void, &Arithmetic::Integer(INT).to_type()));
+    assert!(rt;
+        !have_common(
+            &Arithmetic::Integer(INT).to_type(),
+            &CType::Struct { index: 0 }
+        )
+    );
 }
 
 /// A pointer to an int, or to a const int.
-fn pointer(alloc: Global, space: SpaceId, konst: bool) -> Result<CType, AllocError> {
-    let to = Box::new(alloc, Arithmetic::Integer(INT).to_type())?;
+fn pointer(alloc: Global, space: SpaceId, konst: bool) -> Result<CType, NoMemory> {
+    let to = boxed(alloc, Arithmetic::Integer(INT).to_type())?;
     Ok(CType::Ptr { space, konst, to })
 }
 
-#[test]
-fn same_types(rt: HostRuntime) -> Result<(), Fail> {
-    let int = Arithmetic::Integer(INT).to_type();
-    let p = pointer(rt.alloc(), SpaceId::Generic, false)?;
-    let copy = p.copied(rt.alloc())?;
-    assert!(rt; p.is_same(&copy));
-    assert!(rt; !p.is_same(&pointer(rt.alloc(), SpaceId::Generic, true)?));
-    assert!(rt; !p.is_same(&pointer(rt.alloc(), SpaceId::Data, false)?));
-    assert!(rt; !p.is_same(&int));
-    assert!(rt; p.pointee().is_some_and(|to| to.is_same(&int)));
-    assert!(rt; int.pointee().is_none());
-    Ok(())
+/// Whether a type is that of such a pointer.
+fn is_pointer(alloc: Global, ty: &CType, space: SpaceId, konst: bool) -> Result<bool, NoMemory> {
+    let other = pointer(alloc, space, konst)?;
+    Ok(ty.is_same(&other))
+}
+
+fn is_copied(alloc: Global, ty: &CType) -> Result<bool, NoMemory> {
+    let copy = ty.copied(alloc)?;
+    Ok(ty.is_same(&copy))
+}
+
+fn is_int(ty: &CType) -> bool {
+    ty.is_same(&Arithmetic::Integer(INT).to_type())
+}
+
+/// Whether a generic pointer to an int that is not const is told from other types.
+fn is_told_apart(alloc: Global, p: &CType) -> Result<bool, NoMemory> {
+    Ok(
+        is_copied(alloc, p)?
+            && !is_pointer(alloc, p, SpaceId::Generic, true)?
+            && !is_pointer(alloc, p, SpaceId::Data, false)?
+            && !is_int(p),
+    )
+}
+
+/// Whether a type points to an int.
+fn points_to_int(ty: &CType) -> bool {
+    match ty.pointee() {
+        Some(to) => is_int(to),
+        None => false,
+    }
+}
+
+/// Whether a pointer is told apart, and points to an int.
+fn pointers_are_types(alloc: Global) -> Result<(bool, bool), NoMemory> {
+    let p = pointer(alloc, SpaceId::Generic, false)?;
+    let apart = is_told_apart(alloc, &p)?;
+    Ok((apart, points_to_int(&p)))
 }
 
 #[test]
-fn pointers(rt: HostRuntime) {
-    let of = Referent {
-        live: true,
-        size: 10,
-        home: Bank::Data,
-    };
-    let dead = Referent { live: false, ..of };
-    let at = |object, offset| {
-        Some(ObjectPointer {
-            object,
-            instance: 0,
-            offset,
-        })
-    };
-    let (start, end, other) = (at(1, 0), at(1, 10), at(2, 4));
-    assert_eq!(rt; pointer_sum(start, of, 5, 2), Ok(end));
-    assert_eq!(rt; pointer_sum(end, of, -5, 2), Ok(start));
-    assert_eq!(rt; pointer_sum(end, of, 1, 2), Err(PointerRange));
-    assert_eq!(rt; pointer_sum(start, of, -1, 1), Err(PointerRange));
-    assert_eq!(rt; pointer_sum(None, of, 0, 1), Err(PointerRange));
-    assert_eq!(rt; pointer_sum(start, dead, 0, 1), Err(PointerUse));
-    assert_eq!(rt; pointer_difference(2, start, of, end, of), Ok(-5));
-    assert_eq!(rt; pointer_difference(4, start, of, end, of), Err(Unrelated));
-    assert_eq!(rt; pointer_difference(2, start, of, other, of), Err(Unrelated));
-    for (op, p, q, want) in [
-        (BinOp::Lt, start, end, Ok(1)),
-        (BinOp::Ge, start, end, Ok(0)),
-        (BinOp::Lt, start, other, Err(Unrelated)),
-        (BinOp::Le, None, None, Err(Unrelated)),
-        (BinOp::Eq, None, None, Ok(1)),
-        (BinOp::Ne, None, end, Ok(1)),
-        (BinOp::Eq, start, other, Ok(0)),
-        (BinOp::Eq, end, other, Err(PointerUse)),
-        (BinOp::Ne, end, at(2, 10), Ok(1)),
-    ] {
-        assert_eq!(rt; pointer_comparison(op, p, of, q, of), want);
+fn same_types(rt: HostRuntime) {
+    assert!(rt; matches!(pointers_are_types(rt.alloc()), Ok((true, true))));
+    assert!(rt; Arithmetic::Integer(INT).to_type().pointee().is_none());
+}
+
+/// An object of 10 bytes in the data bank, and such a one that is no more.
+const OF: Referent = Referent {
+    live: true,
+    size: 10,
+    home: Bank::Data,
+};
+
+const DEAD: Referent = Referent {
+    live: false,
+    size: 10,
+    home: Bank::Data,
+};
+
+type Pointer = Option<ObjectPointer>;
+
+const START: Pointer = Some(ObjectPointer {
+    object: 1,
+    instance: 0,
+    offset: 0,
+});
+
+const END: Pointer = Some(ObjectPointer {
+    object: 1,
+    instance: 0,
+    offset: 10,
+});
+
+const OTHER: Pointer = Some(ObjectPointer {
+    object: 2,
+    instance: 0,
+    offset: 4,
+});
+
+const OTHER_END: Pointer = Some(ObjectPointer {
+    object: 2,
+    instance: 0,
+    offset: 10,
+});
+
+/// A pointer, what it points into, so many elements of so many bytes, and their sum.
+static SUMS: [(Pointer, Referent, i128, u32, Result<Pointer, Undefined>); 6] = [
+    (START, OF, 5, 2, Ok(END)),
+    (END, OF, -5, 2, Ok(START)),
+    (END, OF, 1, 2, Err(PointerRange)),
+    (START, OF, -1, 1, Err(PointerRange)),
+    (None, OF, 0, 1, Err(PointerRange)),
+    (START, DEAD, 0, 1, Err(PointerUse)),
+];
+
+/// The bytes of an element, a pointer, and the difference of the start and it.
+static DIFFERENCES: [(u32, Pointer, Result<i128, Undefined>); 3] = [
+    (2, END, Ok(-5)),
+    (4, END, Err(Unrelated)),
+    (2, OTHER, Err(Unrelated)),
+];
+
+#[test]
+fn moved_pointers(rt: HostRuntime) {
+    for &(p, of, n, element, want) in &SUMS {
+        check_whole(&rt, n);
+        assert!(rt; pointer_sum(p, of, n, element) == want, "{n}");
     }
-    assert_eq!(rt;
-        pointer_comparison(BinOp::Eq, start, dead, None, of),
-        Err(PointerUse)
-    );
-    assert_eq!(rt; pointer_truth(start, of), Ok(true));
-    assert_eq!(rt; pointer_truth(None, dead), Ok(false));
-    assert_eq!(rt; pointer_conversion(SpaceId::Generic, start, of), Ok(start));
-    assert_eq!(rt;
-        pointer_conversion(SpaceId::Flash, start, of),
-        Err(Narrowing)
-    );
-    assert_eq!(rt; pointer_conversion(SpaceId::Flash, None, of), Ok(None));
+    for &(element, q, want) in &DIFFERENCES {
+        assert!(rt; element > 0);
+        assert!(rt;
+            pointer_difference(element, START, OF, q, OF) == want,
+            "{element}"
+        );
+    }
+}
+
+/// An operator, a pointer, what it points into, another pointer, and their comparison.
+static COMPARISONS: [(BinOp, Pointer, Referent, Pointer, Result<i128, Undefined>); 10] = [
+    (BinOp::Lt, START, OF, END, Ok(1)),
+    (BinOp::Ge, START, OF, END, Ok(0)),
+    (BinOp::Lt, START, OF, OTHER, Err(Unrelated)),
+    (BinOp::Le, None, OF, None, Err(Unrelated)),
+    (BinOp::Eq, None, OF, None, Ok(1)),
+    (BinOp::Ne, None, OF, END, Ok(1)),
+    (BinOp::Eq, START, OF, OTHER, Ok(0)),
+    (BinOp::Eq, END, OF, OTHER, Err(PointerUse)),
+    (BinOp::Ne, END, OF, OTHER_END, Ok(1)),
+    (BinOp::Eq, START, DEAD, None, Err(PointerUse)),
+];
+
+/// A space, a pointer, and what it is there.
+static IN_SPACES: [(SpaceId, Pointer, Result<Pointer, Undefined>); 3] = [
+    (SpaceId::Generic, START, Ok(START)),
+    (SpaceId::Flash, START, Err(Narrowing)),
+    (SpaceId::Flash, None, Ok(None)),
+];
+
+#[test]
+fn compared_pointers(rt: HostRuntime) {
+    for &(op, p, of, q, want) in &COMPARISONS {
+        assert!(rt; pointer_comparison(op, p, of, q, OF) == want, "{op:?}");
+    }
+    assert!(rt; pointer_truth(START, OF) == Ok(true));
+    assert!(rt; pointer_truth(None, DEAD) == Ok(false));
+    for &(space, p, want) in &IN_SPACES {
+        assert!(rt; pointer_conversion(space, p, OF) == want, "{space:?}");
+    }
 }

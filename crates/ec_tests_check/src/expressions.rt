@@ -4,17 +4,12 @@
 //! operands are converted, `-` for one that is taken as it is; of a declaration the number of its values; and of another
 //! statement `fine`.
 
-ghost use Rattle.ec_iohw.specs.Valid.{ValidIo};
-
-use crate::rows::{Row, Shown, compare};
-use crate::units::answered;
+use crate::rows::{Row, Shown, Told, compare};
 use ec_check::CheckStop;
 use ec_core::{CType, Expr, Node, Program, Stmt, StmtKind};
 use ec_fx::FxKind;
-use ec_iohw::IoTable;
 use ec_space::SpaceId;
-use std::alloc::Global;
-use std::test::Fail;
+use std::alloc::{AllocError, Global};
 
 /// What stands before a statement. The name x means nothing.
 static PRELUDE: &str = "#include <iohw.h>
@@ -337,27 +332,27 @@ fn conversions(e: &Expr) -> (Option<&'static str>, Option<&'static str>) {
     }
 }
 
-fn expression(alloc: Global, e: &Expr) -> Result<String, Fail> {
+fn expression(alloc: Global, e: &Expr) -> Told {
     let name = name_of(&e.ty);
     let saturating = if e.mode.saturate { "saturating " } else { "" };
     match conversions(e) {
-        (None, None) => Ok(format!(in alloc; "{saturating}{name}")?),
+        (None, None) => format!(in alloc; "{saturating}{name}"),
         (left, right) => {
             let left = left.unwrap_or("-");
             let right = right.unwrap_or("-");
-            Ok(format!(in alloc; "{saturating}{name}({left}, {right})")?)
+            format!(in alloc; "{saturating}{name}({left}, {right})")
         }
     }
 }
 
-fn statement(alloc: Global, s: &Stmt) -> Result<String, Fail> {
+fn of_statement(alloc: Global, s: &Stmt) -> Told {
     match &s.kind {
         StmtKind::Do1(e) => expression(alloc, e),
         StmtKind::Local(_, values) => {
             let count = values.len();
-            Ok(format!(in alloc; "values: {count}")?)
+            format!(in alloc; "values: {count}")
         }
-        _ => Ok(format!(in alloc; "fine")?),
+        _ => String::from_str(alloc, "fine"),
     }
 }
 
@@ -370,55 +365,56 @@ fn first(program: &Program) -> Option<&Stmt> {
     }
 }
 
-fn told(alloc: Global, answer: &Result<Program, CheckStop>) -> Result<String, Fail> {
-    match answer {
-        Ok(program) => match first(program) {
-            Some(s) => statement(alloc, s),
-            None => Err("no statement")?,
-        },
-        Err(CheckStop::Constraint { token, rule, .. }) => {
-            let at = token.saturating_sub(FIRST);
-            Ok(format!(in alloc; "{rule} at {at}")?)
-        }
-        Err(_) => Err("no constraint")?,
+/// What comes of the statement of a program.
+pub fn of_program(alloc: Global, program: &Program) -> Told {
+    match first(program) {
+        Some(s) => of_statement(alloc, s),
+        None => Err(AllocError),
     }
 }
 
-/// What comes of a statement.
-pub fn shown(alloc: Global, statement: &str, io: &IoTable) -> Result<String, Fail>
-    requires { ValidIo io.now }
-{
-    let text = format!(in alloc; "{PRELUDE}{statement};return 0;}}")?;
-    let answer = answered(alloc, &[text.as_str()], io)?;
-    told(alloc, &answer)
+/// What comes of a statement that breaks a rule.
+pub fn of_stop(alloc: Global, stop: &CheckStop) -> Told {
+    match stop {
+        CheckStop::Constraint { token, rule, .. } => {
+            let at = token.saturating_sub(FIRST);
+            format!(in alloc; "{rule} at {at}")
+        }
+        _ => Err(AllocError),
+    }
+}
+
+/// The text of the program with a statement.
+pub fn text(alloc: Global, statement: &str) -> Told {
+    format!(in alloc; "{PRELUDE}{statement};return 0;}}")
 }
 
 #[test]
-fn arithmetic(rt: HostRuntime) -> Result<(), Fail> {
-    compare(&rt, rt.alloc(), Shown::Statement, &ARITHMETIC)
+fn arithmetic(rt: HostRuntime) {
+    compare(&rt, rt.alloc(), Shown::Statement, &ARITHMETIC);
 }
 
 #[test]
-fn comparisons(rt: HostRuntime) -> Result<(), Fail> {
-    compare(&rt, rt.alloc(), Shown::Statement, &COMPARISONS)
+fn comparisons(rt: HostRuntime) {
+    compare(&rt, rt.alloc(), Shown::Statement, &COMPARISONS);
 }
 
 #[test]
-fn prefixes(rt: HostRuntime) -> Result<(), Fail> {
-    compare(&rt, rt.alloc(), Shown::Statement, &PREFIXES)
+fn prefixes(rt: HostRuntime) {
+    compare(&rt, rt.alloc(), Shown::Statement, &PREFIXES);
 }
 
 #[test]
-fn assignments(rt: HostRuntime) -> Result<(), Fail> {
-    compare(&rt, rt.alloc(), Shown::Statement, &ASSIGNMENTS)
+fn assignments(rt: HostRuntime) {
+    compare(&rt, rt.alloc(), Shown::Statement, &ASSIGNMENTS);
 }
 
 #[test]
-fn calls_parts_and_ports(rt: HostRuntime) -> Result<(), Fail> {
-    compare(&rt, rt.alloc(), Shown::Statement, &PARTS)
+fn calls_parts_and_ports(rt: HostRuntime) {
+    compare(&rt, rt.alloc(), Shown::Statement, &PARTS);
 }
 
 #[test]
-fn locals(rt: HostRuntime) -> Result<(), Fail> {
-    compare(&rt, rt.alloc(), Shown::Statement, &LOCALS)
+fn locals(rt: HostRuntime) {
+    compare(&rt, rt.alloc(), Shown::Statement, &LOCALS);
 }

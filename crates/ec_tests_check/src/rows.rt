@@ -1,52 +1,167 @@
-//! Tables of texts and of what is shown of each.
+//! Tables of texts and of what is told of each.
+ghost use Rattle.std.specs.Prelude.{IfOk};
+ghost use Rattle.ec_interp_state.specs.Views.{HasLayouts};
 ghost use Rattle.ec_iohw.specs.Valid.{ValidIo};
 
-use crate::units::map;
+use crate::units::are_added;
 use crate::{expressions, runs, texts};
+use ec_check::{CheckStop, check, discard};
+use ec_core::Program;
 use ec_iohw::IoTable;
-use std::alloc::Global;
+use ec_map::{Map, MapStop, read_map};
+use ec_parse::Tree;
+use ec_space::Seq;
+use std::alloc::{AllocError, Global};
 use std::process::Abort;
-use std::test::Fail;
 
-/// A text, and what is shown of it.
+/// Ports of one byte, one of them in a group; a port of two bytes; buffers of three ports of two bytes, and of two ports of
+/// four bytes.
+static MAP: &str = "core = \"small\"
+[region]
+code = [0, 28672]
+tables = [28672, 4096]
+data = [256, 1792]
+stack = [2048, 256]
+[[port]]
+name = \"LED\"
+address = 0x25
+width = 1
+[[port]]
+name = \"SAMPLE\"
+address = 0x79
+width = 1
+group = \"ADC\"
+[[port]]
+name = \"T\"
+address = 0x84
+width = 2
+[[port]]
+name = \"B\"
+address = 0x60
+width = 2
+count = 3
+[[port]]
+name = \"L\"
+address = 0x90
+width = 4
+count = 2
+[[group]]
+name = \"ADC\"
+acquire = [[0x7A, 0x80]]
+release = [[0x7A, 0]]
+";
+
+fn map_bytes(alloc: Global) -> Result<Seq<u8>, MapStop> {
+    let mut text = Seq::new(alloc);
+    text.extend_from_slice(MAP.as_bytes())?;
+    Ok(text)
+}
+
+pub fn map(alloc: Global) -> Result<Map, MapStop>
+    ensures { IfOk result (λ m. ValidIo m.io) }
+{
+    let text = map_bytes(alloc)?;
+    read_map(alloc, &text)
+}
+
+/// A text, and what is told of it.
 pub type Row = (&'static str, &'static str);
 
-/// What is shown of the texts of a table: what the checker tells of a unit, what comes of a statement, or what a
-/// program does.
+/// What is told in words. No memory is left for the rows of a table only where the test fails.
+pub type Told = Result<String, AllocError>;
+
+/// What port addresses give.
+pub type Inputs = &'static [(u8, &'static [u8])];
+
+/// What is told of texts: what the checker tells of units, what comes of a statement, what a program does, or what it
+/// does to ports with these inputs, where each loop gets so many turns; and its work in steps, where that is not this.
 #[derive(Clone, Copy)]
 pub enum Shown {
-    Unit,
+    Units,
     Statement,
     Run,
+    Ports(Inputs, u32, Option<u64>),
 }
 
-fn words_of(alloc: Global, what: Shown, text: &str, io: &IoTable) -> Result<String, Fail>
-    requires { ValidIo io.now }
+fn of_program(alloc: Global, what: Shown, program: &Program, io: &IoTable) -> Told
+    requires { HasLayouts program.now }
 {
     match what {
-        Shown::Unit => texts::shown(alloc, &[text], io),
-        Shown::Statement => expressions::shown(alloc, text, io),
-        Shown::Run => runs::shown(alloc, text, io),
+        Shown::Units => texts::counted(alloc, program),
+        Shown::Statement => expressions::of_program(alloc, program),
+        Shown::Run => runs::told(alloc, program, io),
+        Shown::Ports(inputs, turns, work) => {
+            runs::told_of_ports(alloc, program, io, inputs, turns, work)
+        }
     }
 }
 
-fn compare_with(
-    rt: &impl Abort,
-    alloc: Global,
-    what: Shown,
-    rows: &[Row],
-    io: &IoTable,
-) -> Result<(), Fail>
+fn of_stop(alloc: Global, what: Shown, stop: &CheckStop) -> Told {
+    match what {
+        Shown::Statement => expressions::of_stop(alloc, stop),
+        _ => texts::stopped(alloc, stop),
+    }
+}
+
+fn of_units(alloc: Global, what: Shown, units: &Seq<Tree>, io: &IoTable) -> Told
     requires { ValidIo io.now }
 {
-    for (text, want) in rows {
-        let words = words_of(alloc, what, text, io)?;
-        assert_eq!(rt; words.as_str(), *want, "{text}");
+    if units.len() == 0 || units.len() > 16 {
+        return Err(AllocError);
     }
-    Ok(())
+    match check(alloc, units, io) {
+        Ok(program) => {
+            let told = of_program(alloc, what, &program, io);
+            discard(program);
+            told
+        }
+        Err(stop) => of_stop(alloc, what, &stop),
+    }
 }
 
-pub fn compare(rt: &impl Abort, alloc: Global, what: Shown, rows: &[Row]) -> Result<(), Fail> {
-    let map = map(alloc)?;
-    compare_with(rt, alloc, what, rows, &map.io)
+/// Whether this is told of the texts of units.
+pub fn is_told(alloc: Global, what: Shown, texts: &[&str], io: &IoTable, want: &str) -> bool
+    requires { ValidIo io.now }
+{
+    let mut units = Seq::new(alloc);
+    let told = are_added(alloc, &mut units, texts) && is(of_units(alloc, what, &units, io), want);
+    drop(units);
+    told
+}
+
+fn is(told: Told, want: &str) -> bool {
+    match told {
+        Ok(words) => words.as_str() == want,
+        Err(_) => false,
+    }
+}
+
+/// Whether this is told of the program with a statement.
+fn is_told_in_main(alloc: Global, statement: &str, io: &IoTable, want: &str) -> bool
+    requires { ValidIo io.now }
+{
+    match expressions::text(alloc, statement) {
+        Ok(text) => is_told(alloc, Shown::Statement, &[text.as_str()], io, want),
+        Err(_) => false,
+    }
+}
+
+fn compare_with(rt: &impl Abort, alloc: Global, what: Shown, rows: &[Row], io: &IoTable)
+    requires { ValidIo io.now }
+{
+    for &(text, want) in rows {
+        let told = match what {
+            Shown::Statement => is_told_in_main(alloc, text, io, want),
+            _ => is_told(alloc, what, &[text], io, want),
+        };
+        assert!(rt; told, "{text}");
+    }
+}
+
+/// Compares what is told of each text of a table.
+pub fn compare(rt: &impl Abort, alloc: Global, what: Shown, rows: &[Row]) {
+    match map(alloc) {
+        Ok(map) => compare_with(rt, alloc, what, rows, &map.io),
+        Err(_) => panic!(rt; "no map"),
+    }
 }

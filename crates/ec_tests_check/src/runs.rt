@@ -2,23 +2,22 @@
 //! b is read, with `/flash` or `/data` behind it where the place is in that space, `in:79:FF` and `out:25:01` for bytes
 //! of ports, and how the run comes out. Objects are a, b and so on in the order of their declarations. Expected words are
 //! worked out by the rules of the language, apart from its definitions.
-ghost use Rattle.ec_interp.specs.Views.{HasLayouts};
+ghost use Rattle.ec_interp_state.specs.Views.{HasLayouts};
 ghost use Rattle.ec_iohw.specs.Valid.{ValidIo};
 
-use crate::rows::{Row, Shown, compare};
-use crate::units::{answered, map};
+use crate::rows::{Inputs, Row, Shown, Told as Words, compare, is_told, map};
 use ec_core::Program;
 use ec_interp::{Behaviour, Event, PortInput, Run, Told, interpret};
 use ec_iohw::IoTable;
-use ec_space::{Seq, SpaceId};
-use std::alloc::Global;
+use ec_space::{NoMemory, Seq, SpaceId};
+use std::alloc::{AllocError, Global};
 use std::process::Abort;
-use std::test::Fail;
 
 /// Numbers; objects, pointers and spaces; calls and loops.
 static RUNS: [Row; 39] = [
     (
-        "int main(void) { return ((12 & 10) << 4) + ((12 | 10) ^ 5) - (char)(~7 >> 1) * (char)(7 > 3) + (1 < 2) + ((2 <= 2) << 1) + ((1 >= 2) << 2) + ((3 != 4) << 3) + ((3 == 4) << 4); }",
+        "int main(void) { return ((12 & 10) << 4) + ((12 | 10) ^ 5) - (char)(~7 >> 1) * (char)(7 > 3) + (1 < 2) \
+        + ((2 <= 2) << 1) + ((1 >= 2) << 2) + ((3 != 4) << 3) + ((3 == 4) << 4); }",
         "ends 154",
     ),
     (
@@ -86,7 +85,8 @@ static RUNS: [Row; 39] = [
         "a=null a:null b=null b:null ends 1",
     ),
     (
-        "const __flash int a[2] = {11, 22}; int get(const int *c); int main(void) { int b = 5; return get(&a[1]) - get(&b); } int get(const int *c) { return *c; }",
+        "const __flash int a[2] = {11, 22}; int get(const int *c); int main(void) { int b = 5; return get(&a[1]) \
+        - get(&b); } int get(const int *c) { return *c; }",
         "b=5 c=&a+2 c:&a+2 a.1:22 c=&b+0 c:&b+0 b:5 ends 17",
     ),
     (
@@ -114,7 +114,8 @@ static RUNS: [Row; 39] = [
         "b=5 b.1=7 b.2=9 c=0 c:0 a:0 c:0 b:5 a=5 c:0 c=1 c:1 a:5 c:1 b.1:7 a=12 c:1 c=2 c:2 a:12 c:2 b.2:9 a=21 c:2 c=3 c:3 a:21 ends 21",
     ),
     (
-        "struct s { int m; int n; }; static int a; int main(void) { struct s b = {3, 1000}; struct s *c = &b; c->n += c->m; a = c->m++; return b.n + a + c->m; }",
+        "struct s { int m; int n; }; static int a; int main(void) { struct s b = {3, 1000}; struct s *c = &b; \
+        c->n += c->m; a = c->m++; return b.n + a + c->m; }",
         "b=3 b.1=1000 c=&b+0 c:&b+0 b.1:1000 c:&b+0 b:3 b.1=1003 c:&b+0 b:3 b=4 a=3 b.1:1003 a:3 c:&b+0 b:4 ends 1010",
     ),
     (
@@ -135,7 +136,8 @@ static RUNS: [Row; 39] = [
         "a:7 a.1:8 a.2:0 ends 15",
     ),
     (
-        "static int a; int up(int b, int c); int main(void) { return up(2, 3) + up(4, 5); } int up(int b, int c) { a = a + b; return a + c; }",
+        "static int a; int up(int b, int c); int main(void) { return up(2, 3) + up(4, 5); } int up(int b, int c) \
+        { a = a + b; return a + c; }",
         "b=2 c=3 a:0 b:2 a=2 a:2 c:3 b=4 c=5 a:2 b:4 a=6 a:6 c:5 ends 16",
     ),
     (
@@ -160,14 +162,16 @@ static RUNS: [Row; 39] = [
     ),
     (
         "static int a; int main(void) { for (int b = 0; b < 5; b++) { if (b == 1) continue; if (b == 4) break; a += b; } return a; }",
-        "b=0 b:0 b:0 b:0 a:0 b:0 a=0 b:0 b=1 b:1 b:1 b:1 b=2 b:2 b:2 b:2 a:0 b:2 a=2 b:2 b=3 b:3 b:3 b:3 a:2 b:3 a=5 b:3 b=4 b:4 b:4 b:4 a:5 ends 5",
+        "b=0 b:0 b:0 b:0 a:0 b:0 a=0 b:0 b=1 b:1 b:1 b:1 b=2 b:2 b:2 b:2 a:0 b:2 a=2 b:2 b=3 b:3 b:3 b:3 a:2 b:3 \
+        a=5 b:3 b=4 b:4 b:4 b:4 a:5 ends 5",
     ),
     (
         "static int a; int f(int b, int c); int main(void) { return f(1, 2) - f(3, a = 9); } int f(int b, int c) { a += b; return a - c; }",
         "b=1 c=2 a:0 b:1 a=1 a:1 c:2 a=9 b=3 c=9 a:9 b:3 a=12 a:12 c:9 ends -4",
     ),
     (
-        "static int a; int f(int b, int c); int main(void) { f(a, f(2, 3)); return a; } int f(int b, int c) { if (b < c) return a = c; a -= 1; return b; }",
+        "static int a; int f(int b, int c); int main(void) { f(a, f(2, 3)); return a; } int f(int b, int c) { if \
+        (b < c) return a = c; a -= 1; return b; }",
         "a:0 b=2 c=3 b:2 c:3 c:3 a=3 b=0 c=3 b:0 c:3 c:3 a=3 a:3 ends 3",
     ),
 ];
@@ -236,18 +240,13 @@ static UNDEFINED: [Row; 19] = [
 
 /// A text, the bytes that port addresses give, the turns that each loop gets, what is read and written, and the work
 /// in steps where that counts.
-type PortRow = (
-    &'static str,
-    Inputs<'static>,
-    u32,
-    &'static str,
-    Option<u64>,
-);
+type PortRow = (&'static str, Inputs, u32, &'static str, Option<u64>);
 
 const FOREVER: &str = "#include <iohw.h>\nint main(void) { for (;;) iowr(LED, 1); }";
 
 const LEAVES: &str =
-    "#include <iohw.h>\nint main(void) { int a = 0; do { iowr(LED, a); if (a++ == 1) continue; if (a > 2) break; } while (iord(LED) < 9); return a; }";
+    "#include <iohw.h>\nint main(void) { int a = 0; do { iowr(LED, a); if (a++ == 1) continue; if (a > 2) break; \
+    } while (iord(LED) < 9); return a; }";
 
 const TWICE: &str =
     "#include <iohw.h>\nint main(void) { iowr(T, iord(T) + 1); return (int)iord(T); }";
@@ -261,14 +260,16 @@ static PORTS: [PortRow; 12] = [
         None,
     ),
     (
-        "#include <iohw.h>\nint main(void) { ioor(LED, 1); ioand(LED, 15); ioxor(LED, 255); ioorl(LED, 1); ioandl(LED, 15); ioxorl(LED, 255); }",
+        "#include <iohw.h>\nint main(void) { ioor(LED, 1); ioand(LED, 15); ioxor(LED, 255); ioorl(LED, 1); \
+        ioandl(LED, 15); ioxorl(LED, 255); }",
         &[(0x25, &[0x80, 0x35, 0x0F, 0x40, 0x3A, 0x11])],
         20,
         "in:25:80 out:25:81 in:25:35 out:25:05 in:25:0F out:25:F0 in:25:40 out:25:41 in:25:3A out:25:0A in:25:11 out:25:EE ends 0",
         None,
     ),
     (
-        "#include <iohw.h>\nint main(void) { iowrbuf(B, 2, 0x1234); iowrbuf(B, 0, iordbuf(B, 1)); ioorbuf(B, 0, 0x8001); ioandbuf(B, 1, 0xFF); ioxorbuf(B, 2, 0xFFFF); }",
+        "#include <iohw.h>\nint main(void) { iowrbuf(B, 2, 0x1234); iowrbuf(B, 0, iordbuf(B, 1)); ioorbuf(B, 0, \
+        0x8001); ioandbuf(B, 1, 0xFF); ioxorbuf(B, 2, 0xFFFF); }",
         &[
             (0x60, &[0x10]),
             (0x61, &[0x20]),
@@ -278,11 +279,13 @@ static PORTS: [PortRow; 12] = [
             (0x65, &[0xF0]),
         ],
         20,
-        "out:65:12 out:64:34 in:62:78 in:63:56 out:61:56 out:60:78 in:60:10 in:61:20 out:61:A0 out:60:11 in:62:AA in:63:BB out:63:00 out:62:AA in:64:0F in:65:F0 out:65:0F out:64:F0 ends 0",
+        "out:65:12 out:64:34 in:62:78 in:63:56 out:61:56 out:60:78 in:60:10 in:61:20 out:61:A0 out:60:11 \
+        in:62:AA in:63:BB out:63:00 out:62:AA in:64:0F in:65:F0 out:65:0F out:64:F0 ends 0",
         None,
     ),
     (
-        "#include <iohw.h>\nint main(void) { iowrl(L, iordl(L) + 1); iowrbufl(L, 0, iordbufl(L, 1)); ioorbufl(L, 1, 0x80000001); ioandbufl(L, 1, 0xFF); ioxorbufl(L, 1, 0xFFFFFFFF); }",
+        "#include <iohw.h>\nint main(void) { iowrl(L, iordl(L) + 1); iowrbufl(L, 0, iordbufl(L, 1)); ioorbufl(L, \
+        1, 0x80000001); ioandbufl(L, 1, 0xFF); ioxorbufl(L, 1, 0xFFFFFFFF); }",
         &[
             (0x90, &[0xFF]),
             (0x91, &[0xFF]),
@@ -293,14 +296,22 @@ static PORTS: [PortRow; 12] = [
             (0x97, &[4]),
         ],
         20,
-        "in:90:FF in:91:FF in:92:00 in:93:80 out:93:80 out:92:01 out:91:00 out:90:00 in:94:01 in:95:02 in:96:03 in:97:04 out:93:04 out:92:03 out:91:02 out:90:01 in:94:10 in:95:20 in:96:00 in:97:00 out:97:80 out:96:00 out:95:20 out:94:11 in:94:AA in:95:BB in:96:00 in:97:00 out:97:00 out:96:00 out:95:00 out:94:AA in:94:0F in:95:00 in:96:00 in:97:00 out:97:FF out:96:FF out:95:FF out:94:F0 ends 0",
+        "in:90:FF in:91:FF in:92:00 in:93:80 out:93:80 out:92:01 out:91:00 out:90:00 in:94:01 in:95:02 in:96:03 \
+        in:97:04 out:93:04 out:92:03 out:91:02 out:90:01 in:94:10 in:95:20 in:96:00 in:97:00 out:97:80 \
+        out:96:00 out:95:20 out:94:11 in:94:AA in:95:BB in:96:00 in:97:00 out:97:00 out:96:00 out:95:00 \
+        out:94:AA in:94:0F in:95:00 in:96:00 in:97:00 out:97:FF out:96:FF out:95:FF out:94:F0 ends 0",
         None,
     ),
     (
-        "#include <iohw.h>\nconst __flash short _Fract a[4] = {0.5hr, 0.25hr, 0.125hr, 0.125hr}; __data short _Fract b[4]; int main(void) { int c; int d; iogroup_acquire(ADC); for (c = 0; c < 8; c = c + 1) { _Sat short _Fract e = 0.0hr; for (d = 3; d > 0; d = d - 1) b[d] = b[d - 1]; b[0] = (unsigned short _Accum)iord(SAMPLE) >> 8; for (d = 0; d < 4; d = d + 1) e = e + a[d] * b[d]; iowr(LED, (unsigned int)((short _Accum)e << 8)); } iogroup_release(ADC); return 0; }",
+        "#include <iohw.h>\nconst __flash short _Fract a[4] = {0.5hr, 0.25hr, 0.125hr, 0.125hr}; __data short \
+        _Fract b[4]; int main(void) { int c; int d; iogroup_acquire(ADC); for (c = 0; c < 8; c = c + 1) { _Sat \
+        short _Fract e = 0.0hr; for (d = 3; d > 0; d = d - 1) b[d] = b[d - 1]; b[0] = (unsigned short \
+        _Accum)iord(SAMPLE) >> 8; for (d = 0; d < 4; d = d + 1) e = e + a[d] * b[d]; iowr(LED, (unsigned \
+        int)((short _Accum)e << 8)); } iogroup_release(ADC); return 0; }",
         &[(0x79, &[0x80, 0, 0, 0, 0xFF, 0xFF, 0xFF, 0xFF])],
         20,
-        "out:7A:80 in:79:80 out:25:40 in:79:00 out:25:20 in:79:00 out:25:10 in:79:00 out:25:10 in:79:FF out:25:7E in:79:FF out:25:BC in:79:FF out:25:DA in:79:FF out:25:F8 out:7A:00 ends 0",
+        "out:7A:80 in:79:80 out:25:40 in:79:00 out:25:20 in:79:00 out:25:10 in:79:00 out:25:10 in:79:FF \
+        out:25:7E in:79:FF out:25:BC in:79:FF out:25:DA in:79:FF out:25:F8 out:7A:00 ends 0",
         None,
     ),
     (
@@ -357,13 +368,13 @@ fn letter(object: u16) -> char {
     char::from(b'a' + (object % 26) as u8)
 }
 
-fn told(alloc: Global, value: Told) -> Result<String, Fail> {
+fn value_of(alloc: Global, value: Told) -> Words {
     match value {
-        Told::Number(n) => Ok(format!(in alloc; "{n}")?),
-        Told::Null => Ok(String::from_str(alloc, "null")?),
+        Told::Number(n) => format!(in alloc; "{n}"),
+        Told::Null => String::from_str(alloc, "null"),
         Told::Address { object, offset } => {
             let letter = letter(object);
-            Ok(format!(in alloc; "&{letter}+{offset}")?)
+            format!(in alloc; "&{letter}+{offset}")
         }
     }
 }
@@ -376,25 +387,25 @@ fn access(
     sign: &str,
     value: Told,
     space: SpaceId,
-) -> Result<String, Fail> {
+) -> Words {
     let letter = letter(object);
-    let value = told(alloc, value)?;
+    let value = value_of(alloc, value)?;
     let end = match space {
         SpaceId::Generic => "",
         SpaceId::Flash => "/flash",
         SpaceId::Data => "/data",
     };
     if leaf == 0 {
-        Ok(format!(in alloc; "{letter}{sign}{value}{end}")?)
+        format!(in alloc; "{letter}{sign}{value}{end}")
     } else {
-        Ok(format!(in alloc; "{letter}.{leaf}{sign}{value}{end}")?)
+        format!(in alloc; "{letter}.{leaf}{sign}{value}{end}")
     }
 }
 
-fn event(alloc: Global, event: &Event) -> Result<String, Fail> {
+fn event_of(alloc: Global, event: &Event) -> Words {
     match *event {
-        Event::In { port, byte } => Ok(format!(in alloc; "in:{port:02X}:{byte:02X}")?),
-        Event::Out { port, byte } => Ok(format!(in alloc; "out:{port:02X}:{byte:02X}")?),
+        Event::In { port, byte } => format!(in alloc; "in:{port:02X}:{byte:02X}"),
+        Event::Out { port, byte } => format!(in alloc; "out:{port:02X}:{byte:02X}"),
         Event::Read {
             object,
             leaf,
@@ -410,112 +421,132 @@ fn event(alloc: Global, event: &Event) -> Result<String, Fail> {
     }
 }
 
+fn add(alloc: Global, out: &mut String, event: &Event) -> Result<(), AllocError> {
+    let words = event_of(alloc, event)?;
+    out.push_str(words.as_str())?;
+    out.push(' ')
+}
+
 /// The events, of ports alone where `ports` holds, and the end.
-fn line(alloc: Global, events: &[Event], ports: bool, end: &str) -> Result<String, Fail> {
+fn line(alloc: Global, events: &[Event], ports: bool, end: &str) -> Words {
     let mut out = String::new(alloc);
     for e in events {
         if !ports || matches!(e, Event::In { .. } | Event::Out { .. }) {
-            out.push_str(event(alloc, e)?.as_str())?;
-            out.push(' ')?;
+            add(alloc, &mut out, e)?;
         }
     }
     out.push_str(end)?;
     Ok(out)
 }
 
-fn told_run(alloc: Global, run: &Run, ports: bool) -> Result<String, Fail> {
+fn words_of(alloc: Global, run: &Run, ports: bool) -> Words {
     match &run.behaviour {
         Behaviour::Ended { events, result } => {
             let end = format!(in alloc; "ends {result}")?;
             line(alloc, events.as_slice(), ports, end.as_str())
         }
         Behaviour::Running { events } => line(alloc, events.as_slice(), ports, "runs on"),
-        Behaviour::MeetsUndefined(point) => Ok(format!(in alloc; "meets {point:?}")?),
+        Behaviour::MeetsUndefined(point) => format!(in alloc; "meets {point:?}"),
     }
 }
 
-/// What port addresses give.
-type Inputs<'a> = &'a [(u8, &'a [u8])];
+/// What it does to ports, and its work where it is not this.
+fn words_of_ports(alloc: Global, run: &Run, work: Option<u64>) -> Words {
+    let line = words_of(alloc, run, true)?;
+    match work {
+        Some(work) if work != run.work => {
+            let work = run.work;
+            format!(in alloc; "{line} in {work} steps")
+        }
+        _ => Ok(line),
+    }
+}
 
-fn given(alloc: Global, inputs: Inputs) -> Result<Seq<PortInput>, Fail> {
+fn bytes_of(alloc: Global, list: &[u8]) -> Result<Seq<u8>, NoMemory> {
+    let mut bytes = Seq::new(alloc);
+    bytes.extend_from_slice(list)?;
+    Ok(bytes)
+}
+
+fn given(alloc: Global, inputs: Inputs) -> Result<Seq<PortInput>, NoMemory> {
     let mut out = Seq::new(alloc);
-    for (port, list) in inputs {
-        let mut bytes = Seq::new(alloc);
-        bytes.extend_from_slice(list)?;
-        out.push(PortInput { port: *port, bytes })?;
+    for &(port, list) in inputs {
+        let bytes = bytes_of(alloc, list)?;
+        out.push(PortInput { port, bytes })?;
     }
     Ok(out)
 }
 
-fn run_program(
+/// A run of a program.
+fn run(
     alloc: Global,
     program: &Program,
     io: &IoTable,
     inputs: Inputs,
     turns: u32,
-) -> Result<Run, Fail>
+) -> Result<Run, AllocError>
     requires { HasLayouts program.now }
 {
-    let inputs = given(alloc, inputs)?;
-    let run = interpret(alloc, program, io, &inputs, turns)?;
-    Ok(run)
-}
-
-fn run(alloc: Global, text: &str, io: &IoTable, inputs: Inputs, turns: u32) -> Result<Run, Fail>
-    requires { ValidIo io.now }
-{
-    match &answered(alloc, &[text], io)? {
-        Ok(program) => run_program(alloc, program, io, inputs, turns),
-        Err(_) => Err("no program")?,
+    match given(alloc, inputs) {
+        Ok(inputs) => match interpret(alloc, program, io, &inputs, turns) {
+            Ok(run) => Ok(run),
+            Err(_) => Err(AllocError),
+        },
+        Err(_) => Err(AllocError),
     }
 }
 
 /// What a program does.
-pub fn shown(alloc: Global, text: &str, io: &IoTable) -> Result<String, Fail>
-    requires { ValidIo io.now }
+pub fn told(alloc: Global, program: &Program, io: &IoTable) -> Words
+    requires { HasLayouts program.now }
 {
-    let run = run(alloc, text, io, &[], 20)?;
-    told_run(alloc, &run, false)
+    match run(alloc, program, io, &[], 20) {
+        Ok(run) => words_of(alloc, &run, false),
+        Err(_) => Err(AllocError),
+    }
 }
 
-/// What a program does to ports, and its work.
-fn shown_ports(
+/// What a program does to ports with these inputs, where each loop gets so many turns; and its work in steps, where that
+/// is not this.
+pub fn told_of_ports(
     alloc: Global,
-    text: &str,
+    program: &Program,
     io: &IoTable,
     inputs: Inputs,
     turns: u32,
-) -> Result<(String, u64), Fail>
-    requires { ValidIo io.now }
+    work: Option<u64>,
+) -> Words
+    requires { HasLayouts program.now }
 {
-    let run = run(alloc, text, io, inputs, turns)?;
-    let shown = told_run(alloc, &run, true)?;
-    Ok((shown, run.work))
-}
-
-fn compare_ports(rt: &impl Abort, alloc: Global, rows: &[PortRow], io: &IoTable) -> Result<(), Fail>
-    requires { ValidIo io.now }
-{
-    for (text, inputs, turns, want, steps) in rows {
-        let (shown, work) = shown_ports(alloc, text, io, inputs, *turns)?;
-        assert_eq!(rt; shown.as_str(), *want, "{text}");
-        assert!(rt; steps.is_none() || *steps == Some(work), "{text}: {work}");
+    match run(alloc, program, io, inputs, turns) {
+        Ok(run) => words_of_ports(alloc, &run, work),
+        Err(_) => Err(AllocError),
     }
-    Ok(())
+}
+
+fn compare_ports(rt: &impl Abort, alloc: Global, rows: &[PortRow], io: &IoTable)
+    requires { ValidIo io.now }
+{
+    for &(text, inputs, turns, want, work) in rows {
+        let told = is_told(alloc, Shown::Ports(inputs, turns, work), &[text], io, want);
+        assert!(rt; told, "{text}");
+    }
 }
 
 #[test]
-fn runs(rt: HostRuntime) -> Result<(), Fail> {
-    compare(&rt, rt.alloc(), Shown::Run, &RUNS)
+fn runs(rt: HostRuntime) {
+    compare(&rt, rt.alloc(), Shown::Run, &RUNS);
 }
 
 #[test]
-fn undefined_points(rt: HostRuntime) -> Result<(), Fail> {
-    compare(&rt, rt.alloc(), Shown::Run, &UNDEFINED)
+fn undefined_points(rt: HostRuntime) {
+    compare(&rt, rt.alloc(), Shown::Run, &UNDEFINED);
 }
 
 #[test]
-fn ports_turns_and_work(rt: HostRuntime) -> Result<(), Fail> {
-    let map = map(rt.alloc())?;
-    compare_ports(&rt, rt.alloc(), &PORTS, &map.io)
+fn ports_turns_and_work(rt: HostRuntime) {
+    match map(rt.alloc()) {
+        Ok(map) => compare_ports(&rt, rt.alloc(), &PORTS, &map.io),
+        Err(_) => panic!(rt; "no map"),
+    }
 }

@@ -1,14 +1,12 @@
 //! A text for each constraint, told at its unit and token by the reading of the rule; and programs.
 ghost use Rattle.ec_iohw.specs.Valid.{ValidIo};
 
-use crate::rows::{Row, Shown, compare};
-use crate::units::{answered, map};
+use crate::rows::{Row, Shown, Told, compare, is_told, map};
 use ec_check::CheckStop;
 use ec_core::Program;
 use ec_iohw::IoTable;
-use std::alloc::Global;
+use std::alloc::{AllocError, Global};
 use std::process::Abort;
-use std::test::Fail;
 
 /// Rules of specifiers and declarators, sizes, structs, named registers and initialisers.
 static DECLARATIONS: [Row; 39] = [
@@ -414,11 +412,18 @@ static OPERATORS: [Row; 39] = [
 
 /// 68 objects of a unit.
 const OBJECTS: &str =
-    "static char a0,a1,a2,a3,a4,a5,a6,a7,a8,a9,a10,a11,a12,a13,a14,a15,a16,a17,a18,a19,a20,a21,a22,a23,a24,a25,a26,a27,a28,a29,a30,a31,a32,a33,a34,a35,a36,a37,a38,a39,a40,a41,a42,a43,a44,a45,a46,a47,a48,a49,a50,a51,a52,a53,a54,a55,a56,a57,a58,a59,a60,a61,a62,a63,a64,a65,a66,a67;";
+    "static char a0,a1,a2,a3,a4,a5,a6,a7,a8,a9,a10,a11,a12,a13,a14,a15,a16,a17,a18,a19,a20,a21,a22,a23,a24,a25,\
+    a26,a27,a28,a29,a30,a31,a32,a33,a34,a35,a36,a37,a38,a39,a40,a41,a42,a43,a44,a45,a46,a47,a48,a49,a50,a51,a52,\
+    a53,a54,a55,a56,a57,a58,a59,a60,a61,a62,a63,a64,a65,a66,a67;";
 
 /// 17 functions of a unit.
 const FUNCTIONS_OF_A_UNIT: &str =
-    "static int f0(void){return 0;}static int f1(void){return 0;}static int f2(void){return 0;}static int f3(void){return 0;}static int f4(void){return 0;}static int f5(void){return 0;}static int f6(void){return 0;}static int f7(void){return 0;}static int f8(void){return 0;}static int f9(void){return 0;}static int f10(void){return 0;}static int f11(void){return 0;}static int f12(void){return 0;}static int f13(void){return 0;}static int f14(void){return 0;}static int f15(void){return 0;}static int f16(void){return 0;}";
+    "static int f0(void){return 0;}static int f1(void){return 0;}static int f2(void){return 0;}\
+    static int f3(void){return 0;}static int f4(void){return 0;}static int f5(void){return 0;}\
+    static int f6(void){return 0;}static int f7(void){return 0;}static int f8(void){return 0;}\
+    static int f9(void){return 0;}static int f10(void){return 0;}static int f11(void){return 0;}\
+    static int f12(void){return 0;}static int f13(void){return 0;}static int f14(void){return 0;}\
+    static int f15(void){return 0;}static int f16(void){return 0;}";
 
 /// The text of the first unit, that of each other one, how many units there are, and what is told of them.
 type UnitsRow = (&'static str, &'static str, usize, &'static str);
@@ -500,77 +505,68 @@ static UNITS: [UnitsRow; 13] = [
     ),
 ];
 
-fn counted(alloc: Global, program: &Program) -> Result<String, Fail> {
+/// How many objects and functions a program has.
+pub fn counted(alloc: Global, program: &Program) -> Told {
     let objects = program.objs.len();
     let functions = program.funcs.len();
-    Ok(format!(in alloc; "{objects} objects, {functions} functions")?)
+    format!(in alloc; "{objects} objects, {functions} functions")
 }
 
-fn stopped(alloc: Global, stop: &CheckStop) -> Result<String, Fail> {
+/// Why the checker refuses units.
+pub fn stopped(alloc: Global, stop: &CheckStop) -> Told {
     match stop {
-        CheckStop::NoMemory => Ok(format!(in alloc; "no memory")?),
-        CheckStop::TooManyObjects => Ok(format!(in alloc; "too many objects")?),
-        CheckStop::TooManyFunctions => Ok(format!(in alloc; "too many functions")?),
-        CheckStop::Constraint { unit, token, rule } => Ok(format!(in alloc;
+        CheckStop::NoMemory => Err(AllocError),
+        CheckStop::TooManyObjects => String::from_str(alloc, "too many objects"),
+        CheckStop::TooManyFunctions => String::from_str(alloc, "too many functions"),
+        CheckStop::Constraint { unit, token, rule } => format!(in alloc;
             "unit {unit} token {token} rule {rule}"
-        )?),
-        CheckStop::Recursion(name) => {
-            let name = str::from_utf8(name.as_slice()).ok().ok_or("no name")?;
-            Ok(format!(in alloc; "recursion {name}")?)
-        }
+        ),
+        CheckStop::Recursion(name) => match str::from_utf8(name.as_slice()) {
+            Ok(name) => format!(in alloc; "recursion {name}"),
+            Err(_) => Err(AllocError),
+        },
     }
 }
 
-fn told(alloc: Global, answer: &Result<Program, CheckStop>) -> Result<String, Fail> {
-    match answer {
-        Ok(program) => counted(alloc, program),
-        Err(stop) => stopped(alloc, stop),
-    }
-}
-
-/// What `check` tells of the texts of units.
-pub fn shown(alloc: Global, texts: &[&str], io: &IoTable) -> Result<String, Fail>
+fn is_right(alloc: Global, row: &UnitsRow, io: &IoTable) -> bool
     requires { ValidIo io.now }
 {
-    let answer = answered(alloc, texts, io)?;
-    told(alloc, &answer)
+    let (first, other, count, want) = row;
+    let mut texts = [*other; 16];
+    texts[0] = *first;
+    match texts.get(..*count) {
+        Some(texts) => is_told(alloc, Shown::Units, texts, io, *want),
+        None => false,
+    }
 }
 
-fn compare_units(
-    rt: &impl Abort,
-    alloc: Global,
-    rows: &[UnitsRow],
-    io: &IoTable,
-) -> Result<(), Fail>
+fn compare_units(rt: &impl Abort, alloc: Global, rows: &[UnitsRow], io: &IoTable)
     requires { ValidIo io.now }
 {
-    for (first, other, count, want) in rows {
-        let mut texts = [*other; 16];
-        texts[0] = *first;
-        let texts = texts.get(..*count).ok_or("too many units")?;
-        let shown = shown(alloc, texts, io)?;
-        assert_eq!(rt; shown.as_str(), *want, "{first}");
+    for (k, row) in rows.iter().enumerate() {
+        assert!(rt; is_right(alloc, row, io), "row {k}");
     }
-    Ok(())
 }
 
 #[test]
-fn declarations(rt: HostRuntime) -> Result<(), Fail> {
-    compare(&rt, rt.alloc(), Shown::Unit, &DECLARATIONS)
+fn declarations(rt: HostRuntime) {
+    compare(&rt, rt.alloc(), Shown::Units, &DECLARATIONS);
 }
 
 #[test]
-fn functions(rt: HostRuntime) -> Result<(), Fail> {
-    compare(&rt, rt.alloc(), Shown::Unit, &FUNCTIONS)
+fn functions(rt: HostRuntime) {
+    compare(&rt, rt.alloc(), Shown::Units, &FUNCTIONS);
 }
 
 #[test]
-fn operators(rt: HostRuntime) -> Result<(), Fail> {
-    compare(&rt, rt.alloc(), Shown::Unit, &OPERATORS)
+fn operators(rt: HostRuntime) {
+    compare(&rt, rt.alloc(), Shown::Units, &OPERATORS);
 }
 
 #[test]
-fn units(rt: HostRuntime) -> Result<(), Fail> {
-    let map = map(rt.alloc())?;
-    compare_units(&rt, rt.alloc(), &UNITS, &map.io)
+fn units(rt: HostRuntime) {
+    match map(rt.alloc()) {
+        Ok(map) => compare_units(&rt, rt.alloc(), &UNITS, &map.io),
+        Err(_) => panic!(rt; "no map"),
+    }
 }

@@ -4,18 +4,20 @@ ghost use Rattle.std.specs.Prelude.{IfOk};
 ghost use Rattle.ec_map.specs.Maps.{ValidMap};
 
 use crate::programs::{code, program, sizes};
-use Want::{Clashes, Fits, Lacks, Needs};
+use Want::{Clashes, Fits, Lacks, Needs, Puts};
 use ec_asm::is_valid_asm;
+use ec_avr::Image;
 use ec_locate::{Located, Map, PlaceStop, RegionName, place, read_map};
-use ec_space::Seq;
+use ec_map::MapStop;
+use ec_space::{NoMemory, Place, Seq};
 use std::alloc::Global;
-use std::process::Abort;
-use std::test::Fail;
 
 /// How a program is placed.
 enum Want {
     /// The addresses of its objects, of the scratch memory of `main` and of the work bytes.
     Fits(&'static [u32], u32, u32),
+    /// Its code of 12 bytes and its initial values stand in the flash.
+    Puts,
     /// A region, the bytes that it has to have, and those that it has.
     Needs(RegionName, u32, u32),
     /// There is no object of a name.
@@ -38,7 +40,8 @@ const LOW: &str = "[256, 1024]";
 
 const STACK: &str = "[2048, 256]";
 
-static ROWS: [Row; 27] = [
+static ROWS: [Row; 28] = [
+    (true, [CODE, TABLES, LOW, STACK], "q = 0x500", Puts),
     (
         false,
         [CODE, TABLES, "[256, 80]", STACK],
@@ -193,8 +196,17 @@ static ROWS: [Row; 27] = [
     ),
 ];
 
+/// JMP 5; LDS R24, 0x0501; LDI R30, 0x03; BREAK, by the instruction set manual, with q at 0x0500 and its initial value
+/// behind t at 0x7000.
+static CODE_BYTES: [u8; 12] = [
+    0x0C, 0x94, 0x05, 0x00, 0x80, 0x91, 0x01, 0x05, 0xE3, 0xE0, 0x98, 0x95,
+];
+
+/// The initial values of t, q, r and s.
+static TABLE_BYTES: [u8; 8] = [9, 0, 7, 0, 8, 0, 5, 0];
+
 /// The map with these regions and places.
-fn map(alloc: Global, regions: &[&str; 4], places: &str) -> Result<Map, Fail>
+fn map(alloc: Global, regions: &[&str; 4], places: &str) -> Result<Map, MapStop>
     ensures { IfOk result ValidMap }
 {
     let mut text = Seq::new(alloc);
@@ -213,94 +225,92 @@ fn map(alloc: Global, regions: &[&str; 4], places: &str) -> Result<Map, Fail>
     ] {
         text.extend_from_slice(piece.as_bytes())?;
     }
-    let map = read_map(alloc, &text)?;
-    Ok(map)
+    read_map(alloc, &text)
 }
 
-/// The program with the variables, or the one without, placed by a map.
-fn placed(
-    rt: &impl Abort,
-    alloc: Global,
-    some: bool,
-    map: &Map,
-) -> Result<Result<Located, PlaceStop>, Fail>
+fn are_offsets(places: &[Place], offsets: &[u32]) -> bool {
+    for (place, offset) in places.iter().zip(offsets) {
+        if place.offset != *offset {
+            return false;
+        }
+    }
+    places.len() == offsets.len()
+}
+
+fn count_written(image: &Image) -> u32 {
+    let mut count: u32 = 0;
+    for written in image.written.as_slice() {
+        if *written {
+            count = count.saturating_add(1);
+        }
+    }
+    count
+}
+
+/// Whether the code and the initial values stand in the flash, and nothing else.
+fn holds_code_and_tables(image: &Image) -> bool {
+    let bytes = image.bytes.as_slice();
+    bytes.starts_with(&CODE_BYTES)
+        && bytes.get(0x7000..0x7008) == Some(TABLE_BYTES.as_slice())
+        && count_written(image) == 20
+}
+
+fn fits(l: &Located, places: &[u32], frame: u32, work: u32) -> bool {
+    are_offsets(l.places.as_slice(), places)
+        && l.frames.as_slice() == [frame].as_slice()
+        && l.work == work
+}
+
+fn is_told(got: &PlaceStop, want: &Want) -> bool {
+    match (got, want) {
+        (
+            PlaceStop::TooSmall {
+                region,
+                needed,
+                available,
+            },
+            Needs(name, wanted, there),
+        ) => region == name && needed == wanted && available == there,
+        (PlaceStop::NoSuchObject(name), Lacks(text)) => name.as_slice() == text.as_bytes(),
+        (PlaceStop::Clash(name, other), Clashes(text, with)) => {
+            name.as_slice() == text.as_bytes() && other.as_slice() == with.as_bytes()
+        }
+        _ => false,
+    }
+}
+
+fn is_wanted(got: &Result<Located, PlaceStop>, want: &Want) -> bool {
+    match (got, want) {
+        (Ok(l), Fits(places, frame, work)) => fits(l, places, *frame, *work),
+        (Ok(l), Puts) => l.code_bytes == 12 && holds_code_and_tables(&l.image),
+        (Err(stop), want) => is_told(stop, want),
+        _ => false,
+    }
+}
+
+/// Whether the program with the variables, or the one without, is placed so by a map.
+fn is_placed(alloc: Global, some: bool, map: &Map, want: &Want) -> Result<bool, NoMemory>
     requires { ValidMap map.now }
 {
     let program = program(alloc, some)?;
     let asm = code(alloc, some)?;
-    assert!(rt; is_valid_asm(&asm, sizes(some), 64));
-    assert!(rt; asm.items.len() < 100);
-    Ok(place(alloc, &program, &asm, map))
+    let is_code = is_valid_asm(&asm, sizes(some), 64) && asm.items.len() < 100;
+    let is_placed = is_code && is_wanted(&place(alloc, &program, &asm, map), want);
+    Ok(is_placed)
 }
 
-fn is_wanted(got: &Result<Located, PlaceStop>, want: &Want) -> bool {
-    match want {
-        Fits(places, frame, work) => match got {
-            Ok(l) => {
-                let addresses = l.places.as_slice().iter().map(|place| place.offset);
-                addresses.eq(places.iter().copied())
-                    && l.frames.as_slice() == [*frame].as_slice()
-                    && l.work == *work
-            }
-            Err(_) => false,
-        },
-        Needs(name, wanted, there) => match got {
-            Err(
-                PlaceStop::TooSmall {
-                    region,
-                    needed,
-                    available,
-                },
-            ) => region == name && needed == wanted && available == there,
-            _ => false,
-        },
-        Lacks(text) => match got {
-            Err(PlaceStop::NoSuchObject(name)) => name.as_slice() == text.as_bytes(),
-            _ => false,
-        },
-        Clashes(text, with) => match got {
-            Err(PlaceStop::Clash(name, other)) => {
-                name.as_slice() == text.as_bytes() && other.as_slice() == with.as_bytes()
-            }
-            _ => false,
-        },
+/// Whether a row is right. A map that is none is no row.
+fn is_right(alloc: Global, row: &Row) -> Result<bool, NoMemory> {
+    let (some, regions, places, want) = row;
+    match map(alloc, regions, *places) {
+        Ok(map) => is_placed(alloc, *some, &map, want),
+        Err(_) => Err(NoMemory),
     }
 }
 
 #[test]
-fn places_or_tells_why_not(rt: HostRuntime) -> Result<(), Fail> {
-    for (some, regions, places, want) in &ROWS {
-        let map = map(rt.alloc(), regions, places)?;
-        let got = placed(&rt, rt.alloc(), *some, &map)?;
-        assert!(rt; is_wanted(&got, want), "{places}");
+fn places_or_tells_why_not(rt: HostRuntime) {
+    for (k, row) in ROWS.iter().enumerate() {
+        assert!(rt; matches!(is_right(rt.alloc(), row), Ok(true)), "row {k}");
     }
-    Ok(())
-}
-
-/// JMP 5; LDS R24, 0x0501; LDI R30, 0x03; BREAK, by the instruction set manual, with q at 0x0500 and its initial value
-/// behind t at 0x7000.
-static CODE_BYTES: [u8; 12] = [
-    0x0C, 0x94, 0x05, 0x00, 0x80, 0x91, 0x01, 0x05, 0xE3, 0xE0, 0x98, 0x95,
-];
-
-/// The initial values of t, q, r and s.
-static TABLE_BYTES: [u8; 8] = [9, 0, 7, 0, 8, 0, 5, 0];
-
-#[test]
-fn puts_code_and_initial_values(rt: HostRuntime) -> Result<(), Fail> {
-    let map = map(rt.alloc(), &[CODE, TABLES, LOW, STACK], "q = 0x500")?;
-    let located = placed(&rt, rt.alloc(), true, &map)??;
-    let image = &located.image;
-    let bytes = image.bytes.as_slice();
-    assert!(rt; located.code_bytes == 12);
-    assert!(rt; bytes.starts_with(&CODE_BYTES));
-    assert!(rt; bytes.get(0x7000..0x7008) == Some(TABLE_BYTES.as_slice()));
-    let written = image
-        .written
-        .as_slice()
-        .iter()
-        .filter(|written| **written)
-        .count();
-    assert!(rt; written == 20);
-    Ok(())
 }

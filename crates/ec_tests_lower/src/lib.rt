@@ -6,5 +6,3 @@
 mod lowering;
 #[cfg(test)]
 mod stepper;
-#[cfg(test)]
-mod words;

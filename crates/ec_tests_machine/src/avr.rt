@@ -5,8 +5,6 @@ ghost use Rattle.std.specs.Prelude.{◌≤◌, ◌<◌};
 use ec_avr::{Access, FaultKind, Image, Machine, PortAnswer, Stepped};
 use ec_space::{Bank, Core, Data, NoMemory, Place};
 use std::alloc::Global;
-use std::process::Abort;
-use std::test::Fail;
 
 /// The machine after a reset with the words at the start of its flash.
 fn booted(alloc: Global, words: &[u16], fill: u8) -> Result<Machine, NoMemory> {
@@ -26,19 +24,28 @@ fn write_word(image: &mut Image, at: usize, word: u16) {
     }
 }
 
-/// A step, where a port answers the byte.
-fn stepped(machine: &mut Machine, byte: u8) -> Stepped {
+/// A step, where each port answers 0x2A.
+fn stepped(machine: &mut Machine) -> Stepped {
     match machine.needs_port() {
-        Some(_) => machine.step(PortAnswer::Byte(byte)),
+        Some(_) => machine.step(PortAnswer::Byte(0x2A)),
         None => machine.step(PortAnswer::Nothing),
     }
 }
 
-fn byte_at(machine: &Machine, offset: u32) -> Option<u8> {
-    machine.memory().load::<Data, u8>(Place {
-        bank: Bank::Data,
-        offset,
-    })
+/// Whether so many steps access nothing.
+fn are_silent(machine: &mut Machine, count: u8) -> bool {
+    for _ in 0..count {
+        if stepped(machine) != Stepped::Ran(Access::Silent) {
+            return false;
+        }
+    }
+    true
+}
+
+/// Whether a byte stands at an address of the data bank.
+fn holds(machine: &Machine, offset: u32, byte: u8) -> bool {
+    let bank = Bank::Data;
+    machine.memory().load::<Data, u8>(Place { bank, offset }) == Some(byte)
 }
 
 /// `LDI Rd, k`
@@ -130,30 +137,24 @@ static OPERATIONS: [Operation; 73] = [
     (0x9F01, 0x0080, 0x02, 0x00, 0, 0x0100, 0x00), // MUL
 ];
 
-/// The pair of registers at `at` and SREG, where seven silent steps lead to a BREAK.
-fn outcome(machine: &mut Machine, at: u8) -> Option<(u16, u8)> {
-    for _ in 0..7 {
-        if stepped(machine, 0) != Stepped::Ran(Access::Silent) {
-            return None;
-        }
-    }
-    if stepped(machine, 0) != Stepped::Ended {
-        return None;
-    }
-    let low = byte_at(machine, at as u32)? as u16;
-    let high = byte_at(machine, at as u32 + 1)? as u16;
-    Some((low + 256 * high, byte_at(machine, 0x5F)?))
+/// Whether seven silent steps lead to a BREAK with that pair of registers at `at`, and that SREG.
+fn ends_with(machine: &mut Machine, at: u8, pair: u16, after: u8) -> bool {
+    are_silent(machine, 7)
+        && stepped(machine) == Stepped::Ended
+        && holds(machine, at as u32, (pair % 256) as u8)
+        && holds(machine, at as u32 + 1, (pair / 256) as u8)
+        && holds(machine, 0x5F, after)
 }
 
-/// That of an operation on its operands.
-fn operated(alloc: Global, words: &[u16], at: u8) -> Result<Option<(u16, u8)>, NoMemory> {
+/// Whether an operation on its operands does so.
+fn operates(alloc: Global, words: &[u16], at: u8, pair: u16, after: u8) -> Result<bool, NoMemory> {
     let mut machine = booted(alloc, words, 0)?;
-    Ok(outcome(&mut machine, at))
+    Ok(ends_with(&mut machine, at, pair, after))
 }
 
 #[test]
-fn operations(rt: HostRuntime) -> Result<(), Fail> {
-    for (word, x, y, before, at, result, after) in OPERATIONS {
+fn operations(rt: HostRuntime) {
+    for &(word, x, y, before, at, result, after) in &OPERATIONS {
         let words = [
             ldi(18, before as u16),
             0xBF2F,
@@ -164,13 +165,12 @@ fn operations(rt: HostRuntime) -> Result<(), Fail> {
             word,
             0x9598,
         ];
-        assert_eq!(rt;
-            operated(rt.alloc(), &words, at),
-            Ok(Some((result, after))),
+        let done = operates(rt.alloc(), &words, at, result, after);
+        assert!(rt;
+            matches!(done, Ok(true)),
             "{word:04X} {x:04X} {y:02X} {before:02X}"
         );
     }
-    Ok(())
 }
 
 /// A program that runs to BREAK where each port answers 0x2A.
@@ -383,20 +383,10 @@ static PROGRAMS: [Program; 9] = [
     },
 ];
 
-/// Whether so many steps access nothing.
-fn are_silent(machine: &mut Machine, count: u8) -> bool {
-    for _ in 0..count {
-        if stepped(machine, 0x2A) != Stepped::Ran(Access::Silent) {
-            return false;
-        }
-    }
-    true
-}
-
 /// Whether the accesses are these, each behind so many silent steps.
 fn accesses(machine: &mut Machine, trace: &[(u8, Access)]) -> bool {
     for (silent, access) in trace {
-        if !are_silent(machine, *silent) || stepped(machine, 0x2A) != Stepped::Ran(*access) {
+        if !are_silent(machine, *silent) || stepped(machine) != Stepped::Ran(*access) {
             return false;
         }
     }
@@ -407,14 +397,14 @@ fn accesses(machine: &mut Machine, trace: &[(u8, Access)]) -> bool {
 fn does(machine: &mut Machine, program: &Program) -> bool {
     accesses(machine, program.trace)
         && are_silent(machine, program.rest)
-        && stepped(machine, 0x2A) == Stepped::Ended
-        && stepped(machine, 0x2A) == Stepped::Ended
+        && stepped(machine) == Stepped::Ended
+        && stepped(machine) == Stepped::Ended
         && machine.result() == program.result
 }
 
-fn holds(machine: &Machine, bytes: &[(u32, u8)]) -> bool {
-    for (at, byte) in bytes {
-        if byte_at(machine, *at) != Some(*byte) {
+fn holds_all(machine: &Machine, bytes: &[(u32, u8)]) -> bool {
+    for &(at, byte) in bytes {
+        if !holds(machine, at, byte) {
             return false;
         }
     }
@@ -423,13 +413,16 @@ fn holds(machine: &Machine, bytes: &[(u32, u8)]) -> bool {
 
 fn runs(alloc: Global, program: &Program) -> Result<bool, NoMemory> {
     let mut machine = booted(alloc, program.words, 0xA5)?;
-    Ok(does(&mut machine, program) && holds(&machine, program.bytes))
+    Ok(does(&mut machine, program) && holds_all(&machine, program.bytes))
 }
 
 #[test]
 fn programs(rt: HostRuntime) {
     for (k, program) in PROGRAMS.iter().enumerate() {
-        assert_eq!(rt; runs(rt.alloc(), program), Ok(true), "program {k}");
+        assert!(rt;
+            matches!(runs(rt.alloc(), program), Ok(true)),
+            "program {k}"
+        );
     }
 }
 
@@ -457,55 +450,47 @@ static STOPS: [Stop; 10] = [
     (&[0xE001, 0xBF0E, 0xD000], 0x00, 2, FaultKind::StackOut, 2),
 ];
 
-/// What the first two steps behind so many silent ones come to.
-fn end_of(machine: &mut Machine, before: u8) -> Option<(Stepped, Stepped)> {
-    if are_silent(machine, before) {
-        Some((stepped(machine, 0), stepped(machine, 0)))
-    } else {
-        None
-    }
+/// Whether so many silent steps lead to a stop, at which the machine stays.
+fn stops(machine: &mut Machine, before: u8, stop: Stepped) -> bool {
+    are_silent(machine, before) && stepped(machine) == stop && stepped(machine) == stop
 }
 
-fn stopped_at(
+fn faults_so(
     alloc: Global,
     words: &[u16],
     fill: u8,
     before: u8,
-) -> Result<Option<(Stepped, Stepped)>, NoMemory> {
+    stop: Stepped,
+) -> Result<bool, NoMemory> {
     let mut machine = booted(alloc, words, fill)?;
-    Ok(end_of(&mut machine, before))
+    Ok(stops(&mut machine, before, stop))
 }
 
-#[test]
-fn faults(rt: HostRuntime) {
-    for (words, fill, before, kind, pc) in STOPS {
-        let fault = Stepped::Fault(kind, pc);
-        assert_eq!(rt;
-            stopped_at(rt.alloc(), words, fill, before),
-            Ok(Some((fault, fault)))
-        );
-    }
-}
-
-/// The first steps of JMP 0x3FFF to a word that stands there, at the end of the flash.
-fn last_word(alloc: Global, word: u16) -> Result<Option<(Stepped, Stepped)>, NoMemory> {
+/// Whether JMP 0x3FFF to a word that stands there, at the end of the flash, leads to a stop.
+fn last_word_stops(alloc: Global, word: u16, stop: Stepped) -> Result<bool, NoMemory> {
     let mut image = Image::new(alloc, Core::Small)?;
     write_word(&mut image, 0, 0x940C);
     write_word(&mut image, 1, 0x3FFF);
     write_word(&mut image, 0x3FFF, word);
     let mut machine = Machine::boot(alloc, &image, 0xFF)?;
-    Ok(end_of(&mut machine, 1))
+    Ok(stops(&mut machine, 1, stop))
 }
 
+/// At the last word LDS R0 lacks its second word, LD R0,Z does not, and 0x940D has none.
+static LAST_WORDS: [(u16, FaultKind); 3] = [
+    (0x9000, FaultKind::PcOut),
+    (0x8000, FaultKind::DataOut),
+    (0x940D, FaultKind::Unsupported),
+];
+
 #[test]
-fn second_word_past_flash(rt: HostRuntime) {
-    // At the last word LDS R0 lacks its second word, LD R0,Z does not, and 0x940D has none.
-    for (word, fault) in [
-        (0x9000, FaultKind::PcOut),
-        (0x8000, FaultKind::DataOut),
-        (0x940D, FaultKind::Unsupported),
-    ] {
-        let fault = Stepped::Fault(fault, 0x3FFF);
-        assert_eq!(rt; last_word(rt.alloc(), word), Ok(Some((fault, fault))));
+fn faults(rt: HostRuntime) {
+    for &(words, fill, before, kind, pc) in &STOPS {
+        let done = faults_so(rt.alloc(), words, fill, before, Stepped::Fault(kind, pc));
+        assert!(rt; matches!(done, Ok(true)), "{kind:?} at {pc}");
+    }
+    for &(word, kind) in &LAST_WORDS {
+        let done = last_word_stops(rt.alloc(), word, Stepped::Fault(kind, 0x3FFF));
+        assert!(rt; matches!(done, Ok(true)), "{word:04X}");
     }
 }

@@ -7,8 +7,7 @@ use ec_emu::{
 use ec_hex::{HexStop, read_hex};
 use ec_io::MemSink;
 use ec_space::{Core, Seq};
-use std::alloc::Global;
-use std::test::Fail;
+use std::alloc::{AllocError, Global};
 
 /// The byte that was written to the port last.
 #[derive(Drop)]
@@ -69,27 +68,49 @@ fn script(alloc: Global, text: &[u8]) -> Result<Script, ScriptStop> {
     }
 }
 
-// What a sink received, and a report.
-fn told(alloc: Global, text: &[u8], report: EmuReport) -> Result<String, Fail> {
-    let printed = String::from_utf8_lossy(alloc, text)?;
-    let EmuReport { end, reads, writes } = report;
-    Ok(format!(in alloc; "{printed}{end:?} {reads} {writes}")?)
+// What comes of a run in words.
+type Told = Result<String, AllocError>;
+
+// Whether these words were told.
+fn is(told: Told, want: &str) -> bool {
+    match told {
+        Ok(words) => words.as_str() == want,
+        Err(_) => false,
+    }
 }
 
-// What a HEX text prints with a script, and its report.
-fn run(alloc: Global, hex: &[u8], lines: &[u8], steps: u32) -> Result<String, Fail> {
-    let script = script(alloc, lines)?;
-    let mut machine = Machine::boot(alloc, &image(alloc, hex)?, 165)?;
-    let mut sink = MemSink::new(alloc, 1_000, Seq::new(alloc))?;
-    let mut hooked = Hooked {
-        hook: Hook::new(|ask: Ask| ask.last, Last),
-    };
-    let mut ports = Scripted {
-        script: &script,
-        hooks: &mut hooked,
-    };
-    let report = emulate(&mut machine, &mut ports, steps, &mut sink);
-    told(alloc, sink.text().as_slice(), report)
+// What a sink received, and a report.
+fn told(alloc: Global, text: &[u8], report: EmuReport) -> Told {
+    let printed = String::from_utf8_lossy(alloc, text)?;
+    let EmuReport { end, reads, writes } = report;
+    format!(in alloc; "{printed}{end:?} {reads} {writes}")
+}
+
+fn booted(alloc: Global, hex: &[u8]) -> Result<Machine, HexStop> {
+    let image = image(alloc, hex)?;
+    match Machine::boot(alloc, &image, 165) {
+        Ok(machine) => Ok(machine),
+        Err(_) => Err(HexStop::NoMemory),
+    }
+}
+
+// What a run prints to a sink with so much room, and its report.
+fn emulated<P: Ports>(
+    alloc: Global,
+    machine: &mut Machine,
+    ports: &mut P,
+    steps: u32,
+    room: u32,
+) -> Told
+    requires { P.can_ask ports.old }
+{
+    match MemSink::new(alloc, room, Seq::new(alloc)) {
+        Ok(mut sink) => {
+            let report = emulate(machine, ports, steps, &mut sink);
+            told(alloc, sink.text().as_slice(), report)
+        }
+        Err(_) => Err(AllocError),
+    }
 }
 
 // LDS R24, 0x25; LDI R25, 0; BREAK.
@@ -115,89 +136,121 @@ static RUNS: [(&[u8], &[u8], u32, &str); 8] = [
     (b":00000001FF", b"", 1, "Fault(Unsupported, 0) 0 0"),
 ];
 
-#[test]
-fn prints_and_ends(rt: HostRuntime) -> Result<(), Fail> {
-    for (hex, lines, steps, want) in RUNS {
-        let run = run(rt.alloc(), hex, lines, steps)?;
-        assert_eq!(rt; run.as_str(), want);
+fn run_with(alloc: Global, machine: &mut Machine, script: &Script, steps: u32) -> Told {
+    let mut hooked = Hooked {
+        hook: Hook::new(|ask: Ask| ask.last, Last),
+    };
+    let mut ports = Scripted {
+        script,
+        hooks: &mut hooked,
+    };
+    emulated(alloc, machine, &mut ports, steps, 1_000)
+}
+
+// What comes of a HEX text with a script.
+fn run(alloc: Global, hex: &[u8], script: &Script, steps: u32) -> Told {
+    match booted(alloc, hex) {
+        Ok(mut machine) => run_with(alloc, &mut machine, script, steps),
+        Err(_) => Err(AllocError),
     }
-    Ok(())
+}
+
+fn runs(alloc: Global, hex: &[u8], lines: &[u8], steps: u32, want: &str) -> bool {
+    match script(alloc, lines) {
+        Ok(script) => is(run(alloc, hex, &script, steps), want),
+        Err(_) => false,
+    }
+}
+
+#[test]
+fn prints_and_ends(rt: HostRuntime) {
+    for &(hex, lines, steps, want) in &RUNS {
+        assert!(rt; runs(rt.alloc(), hex, lines, steps, want), "{want}");
+    }
 }
 
 // LDS R24, 0x25; LDS R24, 0x26; LDS R25, 0x25; BREAK.
 const TWO_PORTS: &[u8] = b":0E000000809125008091260090912500989512\n:00000001FF\n";
 
-// What the text prints where ports answer how often they were read before.
-fn run_counted(alloc: Global, ports: &mut Counted) -> Result<String, Fail> {
-    let mut machine = Machine::boot(alloc, &image(alloc, TWO_PORTS)?, 165)?;
-    let mut sink = MemSink::new(alloc, 100, Seq::new(alloc))?;
-    let report = emulate(&mut machine, ports, 10, &mut sink);
-    told(alloc, sink.text().as_slice(), report)
+// What the text prints with these ports.
+fn run_two<P: Ports>(alloc: Global, ports: &mut P) -> Told
+    requires { P.can_ask ports.old }
+{
+    match booted(alloc, TWO_PORTS) {
+        Ok(mut machine) => emulated(alloc, &mut machine, ports, 10, 100),
+        Err(_) => Err(AllocError),
+    }
 }
 
 #[test]
-fn asks_once_a_read(rt: HostRuntime) -> Result<(), Fail> {
+fn asks_once_a_read(rt: HostRuntime) {
     let first = Ask {
         port: 0x25,
         index: 0,
         last: 0,
     };
     let mut ports = Counted { asks: 0, first };
-    let counted = run_counted(rt.alloc(), &mut ports)?;
-    assert_eq!(rt;
-        counted.as_str(),
-        "in 25 00\nin 26 00\nin 25 01\nEnded(256) 3 0"
-    );
-    assert_eq!(rt; ports.asks, 3);
-    assert_eq!(rt; ports.first, first);
-    Ok(())
+    let counted = run_two(rt.alloc(), &mut ports);
+    let is_told = is(counted, "in 25 00\nin 26 00\nin 25 01\nEnded(256) 3 0");
+    assert!(rt; is_told && ports.asks == 3 && ports.first == first);
 }
 
-// What the text prints to a sink that takes 12 bytes.
-fn cut_off(alloc: Global) -> Result<String, Fail> {
-    let mut machine = Machine::boot(alloc, &image(alloc, STORES)?, 165)?;
-    let mut sink = MemSink::new(alloc, 12, Seq::new(alloc))?;
+// What `STORES` prints to a sink that takes 12 bytes.
+fn cut_off(alloc: Global) -> Told {
     let mut ports = Hooked {
         hook: Hook::new(|ask: Ask| ask.last, Last),
     };
-    let report = emulate(&mut machine, &mut ports, 10, &mut sink);
-    told(alloc, sink.text().as_slice(), report)
+    match booted(alloc, STORES) {
+        Ok(mut machine) => emulated(alloc, &mut machine, &mut ports, 10, 12),
+        Err(_) => Err(AllocError),
+    }
 }
 
 #[test]
-fn counts_after_a_failed_write(rt: HostRuntime) -> Result<(), Fail> {
-    let cut_off = cut_off(rt.alloc())?;
-    assert_eq!(rt; cut_off.as_str(), "out 25 09\ninWriteFault 1 1");
-    Ok(())
+fn counts_after_a_failed_write(rt: HostRuntime) {
+    assert!(rt; is(cut_off(rt.alloc()), "out 25 09\ninWriteFault 1 1"));
+}
+
+fn run_hooked<H: Ports>(alloc: Global, hooks: &mut H) -> Told
+    requires { H.can_ask hooks.old }
+{
+    match script(alloc, b"25: hook") {
+        Ok(script) => {
+            let mut ports = Scripted {
+                script: &script,
+                hooks,
+            };
+            match booted(alloc, LOADS) {
+                Ok(mut machine) => emulated(alloc, &mut machine, &mut ports, 10, 100),
+                Err(_) => Err(AllocError),
+            }
+        }
+        Err(_) => Err(AllocError),
+    }
 }
 
 #[test]
-fn hooks_are_given_back(rt: HostRuntime) -> Result<(), Fail> {
+fn hooks_are_given_back(rt: HostRuntime) {
     let mut hooked = Hooked {
         hook: Hook::new(|ask: Ask| ask.last, Last),
     };
-    let script = script(rt.alloc(), b"25: hook")?;
-    let mut machine = Machine::boot(rt.alloc(), &image(rt.alloc(), LOADS)?, 165)?;
-    let mut sink = MemSink::new(rt.alloc(), 100, Seq::new(rt.alloc()))?;
-    let mut ports = Scripted {
-        script: &script,
-        hooks: &mut hooked,
-    };
-    let report = emulate(&mut machine, &mut ports, 10, &mut sink);
-    assert_eq!(rt; report.reads, 1);
+    assert!(rt;
+        is(
+            run_hooked(rt.alloc(), &mut hooked),
+            "in 25 00\nEnded(0) 1 0"
+        )
+    );
     let ask = Ask {
         port: 0x25,
         index: 1,
         last: 9,
     };
     let byte = hooked.ask(ask);
-    assert_eq!(rt; byte, 9);
-    assert!(rt; Last.allows(ask, byte));
-    Ok(())
+    assert!(rt; byte == 9 && Last.allows(ask, byte));
 }
 
 // The lines of a script, each with its port, whether it is hooked, and its bytes.
-fn shown(alloc: Global, lines: &[ScriptLine]) -> Result<String, Fail> {
+fn shown(alloc: Global, lines: &[ScriptLine]) -> Told {
     let mut out = String::new(alloc);
     for line in lines {
         let (port, hook, bytes) = (line.port, line.hook, line.bytes.as_slice());
@@ -206,46 +259,52 @@ fn shown(alloc: Global, lines: &[ScriptLine]) -> Result<String, Fail> {
     Ok(out)
 }
 
-fn lines(alloc: Global, text: &[u8]) -> Result<String, Fail> {
-    let script = script(alloc, text)?;
-    shown(alloc, script.lines.as_slice())
-}
-
-#[test]
-fn reads_lines(rt: HostRuntime) -> Result<(), Fail> {
-    let text = b"# a comment\r\n\r\ncore small\r\n25: 2A  fF \n79:\n7a: hook  \nFF: 00";
-    let lines = lines(rt.alloc(), text)?;
-    let want = "25 false [42, 255]\n79 false []\n7A true []\nFF false [0]\n";
-    assert_eq!(rt; lines.as_str(), want);
-    Ok(())
-}
-
-#[test]
-fn tells_the_first_broken_rule(rt: HostRuntime) -> Result<(), Fail> {
-    let cases: [(&[u8], u32, u8); 19] = [
-        (b"   ", 1, 1),
-        (b"core small ", 1, 1),
-        (b"25: 00\ncore small", 2, 1),
-        (b"core small\n\ncore small", 3, 1),
-        (b"core large", 1, 1),
-        (b"25:  hook", 1, 1),
-        (b"25:hook", 1, 1),
-        (b"25: hook 00", 1, 1),
-        (b"25: 0", 1, 1),
-        (b"25: 000", 1, 1),
-        (b"25: 00\t01", 1, 1),
-        (b"25:00", 1, 1),
-        (b" 25: 00", 1, 1),
-        (b"25 : 00", 1, 1),
-        (b"5F: 00", 1, 2),
-        (b"# x\n1F:", 2, 2),
-        (b"5D: zz", 1, 1),
-        (b"25: 00\n\n25: hook", 3, 3),
-        (b"25:\n5E:\n25:", 2, 2),
-    ];
-    for (text, line, rule) in cases {
-        let told = script(rt.alloc(), text).err();
-        assert_eq!(rt; told, Some(ScriptStop::Line { line, rule }));
+fn lines(alloc: Global, text: &[u8]) -> Told {
+    match script(alloc, text) {
+        Ok(script) => shown(alloc, script.lines.as_slice()),
+        Err(_) => Err(AllocError),
     }
-    Ok(())
+}
+
+// Scripts that break a rule, with the first line that breaks one, and the rule.
+static BROKEN: [(&[u8], u32, u8); 19] = [
+    (b"   ", 1, 1),
+    (b"core small ", 1, 1),
+    (b"25: 00\ncore small", 2, 1),
+    (b"core small\n\ncore small", 3, 1),
+    (b"core large", 1, 1),
+    (b"25:  hook", 1, 1),
+    (b"25:hook", 1, 1),
+    (b"25: hook 00", 1, 1),
+    (b"25: 0", 1, 1),
+    (b"25: 000", 1, 1),
+    (b"25: 00\t01", 1, 1),
+    (b"25:00", 1, 1),
+    (b" 25: 00", 1, 1),
+    (b"25 : 00", 1, 1),
+    (b"5F: 00", 1, 2),
+    (b"# x\n1F:", 2, 2),
+    (b"5D: zz", 1, 1),
+    (b"25: 00\n\n25: hook", 3, 3),
+    (b"25:\n5E:\n25:", 2, 2),
+];
+
+fn stops(alloc: Global, text: &[u8], stop: ScriptStop) -> bool {
+    match script(alloc, text) {
+        Ok(_) => false,
+        Err(told) => told == stop,
+    }
+}
+
+#[test]
+fn reads_scripts(rt: HostRuntime) {
+    let text = b"# a comment\r\n\r\ncore small\r\n25: 2A  fF \n79:\n7a: hook  \nFF: 00";
+    let want = "25 false [42, 255]\n79 false []\n7A true []\nFF false [0]\n";
+    assert!(rt; is(lines(rt.alloc(), text), want));
+    for &(text, line, rule) in &BROKEN {
+        assert!(rt;
+            stops(rt.alloc(), text, ScriptStop::Line { line, rule }),
+            "{text:?}"
+        );
+    }
 }

@@ -6,7 +6,6 @@ use ec_hex::{HexStop, read_hex, write_hex};
 use ec_io::{Failed, Sink, Written};
 use ec_space::{Core, NoMemory, Seq};
 use std::alloc::{AllocError, Global};
-use std::test::Fail;
 
 fn read(alloc: Global, text: &[u8]) -> Result<Image, HexStop> {
     let mut bytes = Seq::new(alloc);
@@ -18,69 +17,79 @@ fn read(alloc: Global, text: &[u8]) -> Result<Image, HexStop> {
     }
 }
 
-fn cell(image: &Image, at: usize) -> Option<(u8, bool)> {
-    Some((*image.bytes.get(at)?, *image.written.get(at)?))
-}
-
-// The first three bytes of an image, and whether they are written.
-fn cells_of(alloc: Global, text: &[u8]) -> Result<[Option<(u8, bool)>; 3], HexStop> {
-    let image = read(alloc, text)?;
-    Ok([cell(&image, 0), cell(&image, 1), cell(&image, 2)])
+fn has_cell(image: &Image, at: usize, byte: u8, written: bool) -> bool {
+    image.bytes.get(at).copied() == Some(byte) && image.written.get(at).copied() == Some(written)
 }
 
 // Forms of one image, whose first bytes are 98 95. The data lines are those of avr-objcopy for these bytes.
-#[test]
-fn reads_every_form(rt: HostRuntime) {
-    let texts: [&[u8]; 7] = [
-        b":020000009895D1\n:00000001FF\n",
-        b":020000009895d1\r\n\r\n:00000001ff\r\n",
-        b"\n\n:020000009895D1\n:00000001FF",
-        b":0400000500000000F7\n:0400000300003800C1\n:020000009895D1\n:00000001FF\n",
-        b":020000020000FC\n:020000009895D1\n:020000040000FA\n:00000001FF\n",
-        b":020000021000EC\n:020000020000FC\n:00F0000010\n:020000009895D1\n:00000001FF\n",
-        // Nothing after the end record is looked at.
-        b":020000009895D1\n:00000001FF\nzz\n:0100000000FF\n:0100000000FF\n",
-    ];
-    for text in texts {
-        let cells = [Some((0x98, true)), Some((0x95, true)), Some((0xFF, false))];
-        assert_eq!(rt; cells_of(rt.alloc(), text), Ok(cells));
+static FORMS: [&[u8]; 7] = [
+    b":020000009895D1\n:00000001FF\n",
+    b":020000009895d1\r\n\r\n:00000001ff\r\n",
+    b"\n\n:020000009895D1\n:00000001FF",
+    b":0400000500000000F7\n:0400000300003800C1\n:020000009895D1\n:00000001FF\n",
+    b":020000020000FC\n:020000009895D1\n:020000040000FA\n:00000001FF\n",
+    b":020000021000EC\n:020000020000FC\n:00F0000010\n:020000009895D1\n:00000001FF\n",
+    // Nothing after the end record is looked at.
+    b":020000009895D1\n:00000001FF\nzz\n:0100000000FF\n:0100000000FF\n",
+];
+
+// Whether a text is an image of those two bytes alone.
+fn is_form(alloc: Global, text: &[u8]) -> bool {
+    match read(alloc, text) {
+        Ok(image) => {
+            has_cell(&image, 0, 0x98, true)
+                && has_cell(&image, 1, 0x95, true)
+                && has_cell(&image, 2, 0xFF, false)
+        }
+        Err(_) => false,
+    }
+}
+
+// Texts that are no image, and why.
+static FAULTS: [(&[u8], HexStop); 12] = [
+    (b":020000009895D2\n:00000001FF\n", HexStop::BadSum(1)),
+    (b":020000009895D1\n", HexStop::NoEnd),
+    (b"", HexStop::NoEnd),
+    (b":01800000007F\n:00000001FF\n", HexStop::OutOfFlash(1)),
+    (
+        b":0100000000FF\n:0100000000FF\n:00000001FF\n",
+        HexStop::Twice(2),
+    ),
+    (b"\r\n\n:020000009895D1F\n", HexStop::BadRecord(3)),
+    (b":00000001FF\r", HexStop::BadRecord(1)),
+    (b":00000006FB\n", HexStop::BadRecord(1)),
+    // A wrong sum past the flash, and bytes that are both past the flash and there twice.
+    (b":01800000007E\n:00000001FF\n", HexStop::BadSum(1)),
+    (
+        b":017FFF000081\n:027FFF00000080\n:00000001FF\n",
+        HexStop::OutOfFlash(2),
+    ),
+    // The last byte of the address space, one past the last, and a wrapped segment address.
+    (
+        b":02000004FFFFFC\n:02FFFE00000001\n:00000001FF\n",
+        HexStop::OutOfFlash(2),
+    ),
+    (
+        b":02000004FFFFFC\n:02FFFF00000000\n:00000001FF\n",
+        HexStop::BadRecord(2),
+    ),
+];
+
+fn stops(alloc: Global, text: &[u8], stop: HexStop) -> bool {
+    match read(alloc, text) {
+        Ok(_) => false,
+        Err(told) => told == stop,
     }
 }
 
 #[test]
-fn tells_the_first_fault(rt: HostRuntime) -> Result<(), Fail> {
-    let cases: [(&[u8], HexStop); 12] = [
-        (b":020000009895D2\n:00000001FF\n", HexStop::BadSum(1)),
-        (b":020000009895D1\n", HexStop::NoEnd),
-        (b"", HexStop::NoEnd),
-        (b":01800000007F\n:00000001FF\n", HexStop::OutOfFlash(1)),
-        (
-            b":0100000000FF\n:0100000000FF\n:00000001FF\n",
-            HexStop::Twice(2),
-        ),
-        (b"\r\n\n:020000009895D1F\n", HexStop::BadRecord(3)),
-        (b":00000001FF\r", HexStop::BadRecord(1)),
-        (b":00000006FB\n", HexStop::BadRecord(1)),
-        // A wrong sum past the flash, and bytes that are both past the flash and there twice.
-        (b":01800000007E\n:00000001FF\n", HexStop::BadSum(1)),
-        (
-            b":017FFF000081\n:027FFF00000080\n:00000001FF\n",
-            HexStop::OutOfFlash(2),
-        ),
-        // The last byte of the address space, one past the last, and a wrapped segment address.
-        (
-            b":02000004FFFFFC\n:02FFFE00000001\n:00000001FF\n",
-            HexStop::OutOfFlash(2),
-        ),
-        (
-            b":02000004FFFFFC\n:02FFFF00000000\n:00000001FF\n",
-            HexStop::BadRecord(2),
-        ),
-    ];
-    for (text, want) in cases {
-        assert_eq!(rt; read(rt.alloc(), text).err(), Some(want));
+fn reads_texts(rt: HostRuntime) {
+    for (k, text) in FORMS.iter().enumerate() {
+        assert!(rt; is_form(rt.alloc(), *text), "form {k}");
     }
-    Ok(())
+    for &(text, stop) in &FAULTS {
+        assert!(rt; stops(rt.alloc(), text, stop), "{stop:?}");
+    }
 }
 
 // Keeps each piece that it takes, with a bar behind it. A piece has at most `most` bytes, and after `limit` pieces
@@ -131,15 +140,6 @@ fn put(image: &mut Image, at: usize, bytes: &[u8]) {
     }
 }
 
-// The pieces of a run's text.
-fn written_run(alloc: Global, at: usize, bytes: &[u8]) -> Result<Vec<u8>, Fail> {
-    let mut image = Image::new(alloc, Core::Small)?;
-    put(&mut image, at, bytes);
-    let mut sink = sink(alloc, 100, 100);
-    write_hex(&mut sink, &image)?;
-    Ok(sink.text)
-}
-
 fn sink(alloc: Global, most: usize, limit: usize) -> Pieces {
     Pieces {
         text: Vec::new(alloc),
@@ -149,67 +149,72 @@ fn sink(alloc: Global, most: usize, limit: usize) -> Pieces {
     }
 }
 
-// The data lines are those of avr-objcopy for the same bytes.
-#[test]
-fn hands_over_lines(rt: HostRuntime) -> Result<(), Fail> {
-    let none = written_run(rt.alloc(), 0, &[])?;
-    assert_eq!(rt; none.as_slice(), b":00000001FF\n|".as_slice());
+// Runs of bytes by their first addresses, and the lines that are written for them. The data lines are those of
+// avr-objcopy for the same bytes.
+static WRITTEN: [(&[(usize, &[u8])], &[u8]); 4] = [
+    (&[], b":00000001FF\n|"),
+    (
+        &[(0, &[0x80, 0xE0, 0x90, 0xE0, 0x98, 0x95])],
+        b":0600000080E090E09895FD\n|:00000001FF\n|",
+    ),
+    (
+        &[(
+            0x10,
+            &[0, 1, 2, 3, 4, 5, 6, 7, 8, 9, 10, 11, 12, 13, 14, 15, 16],
+        )],
+        b":10001000000102030405060708090A0B0C0D0E0F68\n|:0100200010CF\n|:00000001FF\n|",
+    ),
+    (
+        &[(0x20, &[1, 2]), (0x23, &[3]), (0x7FFF, &[0])],
+        b":020020000102DB\n|:0100230003D9\n|:017FFF000081\n|:00000001FF\n|",
+    ),
+];
 
-    let three = written_run(rt.alloc(), 0, &[0x80, 0xE0, 0x90, 0xE0, 0x98, 0x95])?;
-    assert_eq!(rt;
-        three.as_slice(),
-        b":0600000080E090E09895FD\n|:00000001FF\n|".as_slice()
-    );
-
-    let mut bytes = [0u8; 17];
-    for (i, byte) in bytes.iter_mut().enumerate() {
-        *byte = i as u8;
+fn image(alloc: Global, runs: &[(usize, &[u8])]) -> Result<Image, NoMemory> {
+    let mut image = Image::new(alloc, Core::Small)?;
+    for &(at, bytes) in runs {
+        put(&mut image, at, bytes);
     }
-    let seventeen = written_run(rt.alloc(), 0x10, &bytes)?;
-    let lines = b":10001000000102030405060708090A0B0C0D0E0F68\n|:0100200010CF\n|:00000001FF\n|";
-    assert_eq!(rt; seventeen.as_slice(), lines.as_slice());
-    Ok(())
+    Ok(image)
 }
 
-fn written_parts(alloc: Global) -> Result<Vec<u8>, Fail> {
-    let mut image = Image::new(alloc, Core::Small)?;
-    put(&mut image, 0x20, &[1, 2]);
-    put(&mut image, 0x23, &[3]);
-    put(&mut image, 0x7FFF, &[0]);
+fn is_written(alloc: Global, image: &Image, lines: &[u8]) -> bool {
     let mut sink = sink(alloc, 100, 100);
-    write_hex(&mut sink, &image)?;
-    Ok(sink.text)
+    write_hex(&mut sink, image) == Ok(()) && sink.text.as_slice() == lines
+}
+
+fn writes(alloc: Global, runs: &[(usize, &[u8])], lines: &[u8]) -> bool {
+    match image(alloc, runs) {
+        Ok(image) => is_written(alloc, &image, lines),
+        Err(_) => false,
+    }
+}
+
+// How many bytes a sink takes at once, after how many pieces it fails, and what goes out of two lines of 16 and 12 bytes.
+static SINKS: [(usize, usize, Result<(), Written>); 5] = [
+    (100, 0, Err(Written(0))),
+    (100, 1, Err(Written(16))),
+    (10, 1, Err(Written(10))),
+    (10, 3, Err(Written(26))),
+    (10, 4, Ok(())),
+];
+
+fn go_out(alloc: Global, most: usize, limit: usize, want: Result<(), Written>) -> bool {
+    match image(alloc, &[(0, &[0x98, 0x95])]) {
+        Ok(image) => {
+            let mut sink = sink(alloc, most, limit);
+            write_hex(&mut sink, &image) == want
+        }
+        Err(_) => false,
+    }
 }
 
 #[test]
-fn passes_gaps(rt: HostRuntime) -> Result<(), Fail> {
-    let text = written_parts(rt.alloc())?;
-    let lines = b":020020000102DB\n|:0100230003D9\n|:017FFF000081\n|:00000001FF\n|";
-    assert_eq!(rt; text.as_slice(), lines.as_slice());
-    Ok(())
-}
-
-// Two lines of 16 and 12 bytes: how many go out where the sink takes at most so many at once and then fails.
-fn write_two_lines(
-    alloc: Global,
-    most: usize,
-    limit: usize,
-) -> Result<Result<(), Written>, NoMemory> {
-    let mut image = Image::new(alloc, Core::Small)?;
-    put(&mut image, 0, &[0x98, 0x95]);
-    let mut sink = sink(alloc, most, limit);
-    Ok(write_hex(&mut sink, &image))
-}
-
-#[test]
-fn tells_what_went_out(rt: HostRuntime) {
-    for (most, limit, want) in [
-        (100, 0, Err(Written(0))),
-        (100, 1, Err(Written(16))),
-        (10, 1, Err(Written(10))),
-        (10, 3, Err(Written(26))),
-        (10, 4, Ok(())),
-    ] {
-        assert_eq!(rt; write_two_lines(rt.alloc(), most, limit), Ok(want));
+fn writes_lines(rt: HostRuntime) {
+    for &(runs, lines) in &WRITTEN {
+        assert!(rt; writes(rt.alloc(), runs, lines), "{lines:?}");
+    }
+    for &(most, limit, want) in &SINKS {
+        assert!(rt; go_out(rt.alloc(), most, limit, want), "{most} and {limit}");
     }
 }

@@ -7,3 +7,5 @@ mod build;
 mod commands;
 #[cfg(test)]
 mod generated;
+#[cfg(test)]
+mod told;

@@ -13,6 +13,27 @@ pub struct FileNames<'a> {
     pub script: &'a str,
 }
 
+/// A message about a file, or of the tool.
+fn said(alloc: Global, place: &str, message: &str) -> Option<String> {
+    format!(in alloc; "{place}: error: {message}\n").ok()
+}
+
+/// A message about a file, or of the tool, that names a part of the program.
+fn said_of(alloc: Global, place: &str, before: &str, name: &str, after: &str) -> Option<String> {
+    format!(in alloc; "{place}: error: {before} `{name}`{after}\n").ok()
+}
+
+/// A message about a line of a file.
+fn said_at(alloc: Global, file: &str, line: u32, message: &str) -> Option<String> {
+    format!(in alloc; "{file}:{line}:1: error: {message}\n").ok()
+}
+
+/// `clash NAME OTHER`, behind the first word.
+fn clash_notice(alloc: Global, map: &str, rest: &str) -> Option<String> {
+    let (name, other) = rest.split_once(' ')?;
+    format!(in alloc; "{map}: error: the place of `{name}` overlaps or leaves `{other}`\n").ok()
+}
+
 /// `region R needs N has M`, behind the first word.
 fn region_notice(alloc: Global, map: &str, rest: &str) -> Option<String> {
     let (region, numbers) = rest.split_once(" needs ")?;
@@ -27,17 +48,13 @@ fn region_notice(alloc: Global, map: &str, rest: &str) -> Option<String> {
 /// `hex line N: FAULT`, behind the second word.
 fn record_notice(alloc: Global, hex: &str, rest: &str) -> Option<String> {
     let (line, fault) = rest.split_once(": ")?;
-    let line = number(line)?;
-    let message = record_message(fault)?;
-    format!(in alloc; "{hex}:{line}:1: error: {message}\n").ok()
+    said_at(alloc, hex, number(line)?, record_message(fault)?)
 }
 
 /// `script line N: rule K`, behind the second word.
 fn script_notice(alloc: Global, script: &str, rest: &str) -> Option<String> {
     let (line, rule) = rest.split_once(": rule ")?;
-    let line = number(line)?;
-    let message = script_rule(rule)?;
-    format!(in alloc; "{script}:{line}:1: error: {message}\n").ok()
+    said_at(alloc, script, number(line)?, script_rule(rule)?)
 }
 
 /// `limit L M`, behind the first word.
@@ -74,7 +91,7 @@ fn plain_notice(alloc: Global, names: &FileNames<'_>, line: &str) -> Option<Stri
         "hex: no end" => (names.hex, "no line is the end record `:00000001FF`"),
         _ => return None,
     };
-    format!(in alloc; "{name}: error: {message}\n").ok()
+    said(alloc, name, message)
 }
 
 /// What is said of a line that begins with its kind and goes on with names or numbers.
@@ -83,23 +100,19 @@ fn headed_notice(alloc: Global, names: &FileNames<'_>, line: &str) -> Option<Str
 {
     let FileNames { map, hex, script } = *names;
     if let Some(name) = line.strip_prefix("cannot read ") {
-        format!(in alloc; "{name}: error: this file could not be opened or read\n").ok()
+        said(alloc, name, "this file could not be opened or read")
     } else if let Some(name) = line.strip_prefix("recursion ") {
-        format!(in alloc;
-            "napledge: error: the function `{name}` reaches itself by calls, and there is no recursion\n"
-        ).ok()
+        let after = " reaches itself by calls, and there is no recursion";
+        said_of(alloc, "napledge", "the function", name, after)
     } else if let Some(rule) = line.strip_prefix("map: rule ") {
-        let message = map_rule(rule)?;
-        format!(in alloc; "{map}: error: {message}\n").ok()
+        said(alloc, map, map_rule(rule)?)
     } else if let Some(rest) = line.strip_prefix("region ") {
         region_notice(alloc, map, rest)
     } else if let Some(name) = line.strip_prefix("no object ") {
-        format!(in alloc;
-            "{map}: error: `place` names `{name}`, which is no external object of the program\n"
-        ).ok()
+        let after = ", which is no external object of the program";
+        said_of(alloc, map, "`place` names", name, after)
     } else if let Some(rest) = line.strip_prefix("clash ") {
-        let (name, other) = rest.split_once(' ')?;
-        format!(in alloc; "{map}: error: the place of `{name}` overlaps or leaves `{other}`\n").ok()
+        clash_notice(alloc, map, rest)
     } else if let Some(rest) = line.strip_prefix("limit ") {
         limit_notice(alloc, rest)
     } else if let Some(rest) = line.strip_prefix("hex line ") {

@@ -8,39 +8,39 @@ pub returns-in-Err-clause-calm : goal.returns-in-Err-clause-calm
 returns-in-Err-clause-calm g c = λ room calm fits.
     ((c.in-Err.ensures.calm (out_name c.args.words.now.items) room calm).0, c.in-Err.ensures.write_faults)
 
-pub returns-in-Ok-write_file-clause-built : goal.returns-in-Ok-write_file-clause-built
-returns-in-Ok-write_file-clause-built g c =
+pub returns-in-Ok-written-clause-built : goal.returns-in-Ok-written-clause-built
+returns-in-Ok-written-clause-built g c =
     built c.args.words.now.items _ _ _ c.in-Ok.built c.in-Ok.ensures.files c.in-Ok.ensures.found
-    (rw c.word_at.ensures at c.in-Ok-write_file.ensures.written) c.in-Ok-write_file.ensures.denotes
+    (rw c.word_at.ensures at c.in-Ok-written.ensures.written) c.in-Ok-written.ensures.denotes
 
-pub returns-in-Ok-write_file-clause-calm : goal.returns-in-Ok-write_file-clause-calm
-returns-in-Ok-write_file-clause-calm g c = λ room calm fits.
+pub returns-in-Ok-written-clause-calm : goal.returns-in-Ok-written-clause-calm
+returns-in-Ok-written-clause-calm g c = λ room calm fits.
     let read = c.in-Ok.ensures.calm (out_name c.args.words.now.items) room calm in
     let written =
-    c.write_file.ensures.calm _ room
+    c.write_file-written.ensures.calm _ room
     (subst (λ made. g.S.Store.calm c.read_and_build.new.store (build_inputs c.args.words.now.items) made room)
     (sym c.word_at.ensures) read.1)
     (fits c.in-Ok.built c.in-Ok.ensures.found) in
-    (c.write_file.ensures.read_faults ∙ read.0, written ∙ c.read_and_build.ensures.write_faults)
+    (c.write_file-written.ensures.read_faults ∙ read.0, written ∙ c.read_and_build.ensures.write_faults)
 
-pub returns-clause-stopped : goal.returns-clause-stopped
-returns-clause-stopped g c = record {
+pub returns-in-Err-written-clause-stopped : goal.returns-in-Err-written-clause-stopped
+returns-in-Err-written-clause-stopped g c = record {
   cause = (
     c.requires,
     omega
-        (arith, c.in-Err-write_file.ensures.cause.failed),
+        (arith, c.in-Err-written.ensures.cause.failed),
     has_image c.args.words.now.items _ c.in-Ok.built c.in-Ok.ensures.found,
   );
   files = left_front c.args.words.now.items _ _ _ c.in-Ok.built _ c.in-Ok.ensures.files c.in-Ok.ensures.found
-      (rw c.word_at.ensures at c.in-Err-write_file.ensures.written);
+      (rw c.word_at.ensures at c.in-Err-written.ensures.written);
 }
 
-pub returns-clause-calm : goal.returns-clause-calm
-returns-clause-calm g c = λ room calm fits.
+pub returns-in-Err-written-clause-calm : goal.returns-in-Err-written-clause-calm
+returns-in-Err-written-clause-calm g c = λ room calm fits.
     let read = c.in-Ok.ensures.calm (out_name c.args.words.now.items) room calm in
     let written =
-    c.write_file.ensures.calm _ room
+    c.write_file-written.ensures.calm _ room
     (subst (λ made. g.S.Store.calm c.read_and_build.new.store (build_inputs c.args.words.now.items) made room)
     (sym c.word_at.ensures) read.1)
     (fits c.in-Ok.built c.in-Ok.ensures.found) in
-    (c.write_file.ensures.read_faults ∙ read.0, written ∙ c.read_and_build.ensures.write_faults)
+    (c.write_file-written.ensures.read_faults ∙ read.0, written ∙ c.read_and_build.ensures.write_faults)

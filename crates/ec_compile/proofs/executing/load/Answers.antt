@@ -39,8 +39,8 @@ returns-in-Err-compile-clause-complete g c = λ accepted calm.
     (read_accepted c.args.words.now.items (g.S.Store.disk c.args.store.now) c.in-Ok.inputs.inputs.map.items c.in-Ok.inputs.script.items
     (texts c.in-Ok.inputs.inputs.sources.items) accepted c.in-Ok.ensures.found)
 
-pub returns-in-Ok-load_built-clause-found : goal.returns-in-Ok-load_built-clause-found
-returns-in-Ok-load_built-clause-found g c = record {
+pub returns-in-Ok-loaded-clause-found : goal.returns-in-Ok-loaded-clause-found
+returns-in-Ok-loaded-clause-found g c = record {
   lines = c.in-Ok.inputs.script.items;
   built = c.in-Ok-compile.built;
   from = record {
@@ -49,10 +49,10 @@ returns-in-Ok-load_built-clause-found g c = record {
     inputs = c.in-Ok.ensures.found;
     built = c.in-Ok-compile.ensures.built;
   };
-  reset = c.in-Ok-load_built.ensures.reset;
-  is_reset = c.in-Ok-load_built.ensures.is_reset;
-  kept = c.in-Ok-load_built.ensures.kept;
-  scripted = c.in-Ok-load_built.ensures.lines;
+  reset = c.in-Ok-loaded.ensures.reset;
+  is_reset = c.in-Ok-loaded.ensures.is_reset;
+  kept = c.in-Ok-loaded.ensures.kept;
+  scripted = c.in-Ok-loaded.ensures.lines;
 }
 
 pub returns-clause-stopped : goal.returns-clause-stopped
@@ -62,16 +62,16 @@ returns-clause-stopped g c =
     (g.S.Store.received c.args.store.now))
     (store_view (g.S.Store.disk c.read_inputs.new.store) (g.S.Store.read_faults c.read_inputs.new.store)
     (g.S.Store.write_faults c.read_inputs.new.store) (g.S.Store.received c.read_inputs.new.store))
-    c.in-Ok.inputs.script.items c.in-Ok-compile.built c.in-Err-load_built.stop
+    c.in-Ok.inputs.script.items c.in-Ok-compile.built c.in-Err-loaded.stop
     (record {
       map = c.in-Ok.inputs.inputs.map.items;
       sources = texts c.in-Ok.inputs.inputs.sources.items;
       inputs = c.in-Ok.ensures.found;
       built = c.in-Ok-compile.ensures.built;
     })
-    c.in-Err-load_built.ensures.stopped
+    c.in-Err-loaded.ensures.stopped
 
 pub returns-clause-complete : goal.returns-clause-complete
 returns-clause-complete g c = λ accepted calm.
     no_script_fault c.args.words.now.items (g.S.Store.disk c.args.store.now) c.in-Ok.inputs.inputs.map.items c.in-Ok.inputs.script.items
-    (texts c.in-Ok.inputs.inputs.sources.items) c.in-Err-load_built.stop accepted c.in-Ok.ensures.found c.in-Err-load_built.ensures.stopped
+    (texts c.in-Ok.inputs.inputs.sources.items) c.in-Err-loaded.stop accepted c.in-Ok.ensures.found c.in-Err-loaded.ensures.stopped

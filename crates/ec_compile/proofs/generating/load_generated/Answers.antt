@@ -13,11 +13,11 @@ returns-in-Err-compile-clause-complete c = λ accepted.
     (accepted_by c.args.n
     (texts c.in-Ok.inputs.sources.items) c.in-Ok.inputs.map.items c.in-Ok.ensures.sources c.in-Ok.ensures.map accepted)
 
-pub returns-in-Ok-boot-clause-found : goal.returns-in-Ok-boot-clause-found
-returns-in-Ok-boot-clause-found c = record {
+pub returns-in-Ok-booted-clause-found : goal.returns-in-Ok-booted-clause-found
+returns-in-Ok-booted-clause-found c = record {
   built = c.in-Ok-compile.built;
   is = built_by c.args.n
       (texts c.in-Ok.inputs.sources.items) c.in-Ok.inputs.map.items c.in-Ok-compile.built c.in-Ok.ensures.sources c.in-Ok.ensures.map c.in-Ok-compile.ensures.built;
-  reset = c.in-Ok-boot.ensures.reset;
-  is_reset = c.in-Ok-boot.ensures.is_reset;
+  reset = c.in-Ok-booted.ensures.reset;
+  is_reset = c.in-Ok-booted.ensures.is_reset;
 }

@@ -10,11 +10,12 @@ use Rattle.ec_choices.specs.Choices.{cast}
 use Rattle.ec_operands.specs.Operands.{plain_operand, with_both}
 use Rattle.ec_rules.specs.Sites.{a_use, a_cast}
 use Rattle.ec_grammar.proofs.Backwards.{further_row}
+use Rattle.ec_expr_parts.specs.Types.{meant_type}
 use Rattle.ec_expr.specs.Arguments.{plain_wanted, plain_passed}
 use Rattle.ec_expr.specs.Expressions.{passed_further, further_sites}
 use Rattle.ec_expr.specs.Known.{plain_known}
 use Rattle.ec_expr.specs.Sites.{on, a_type_name, told, Walked}
-use Rattle.ec_expr.specs.TypeNames.{said_type, void_said, meant_type}
+use Rattle.ec_expr.specs.TypeNames.{said_type, void_said}
 use Rattle.ec_expr.proofs.Walks.{then}
 use Rattle.ec_expr.proofs.walk.+walk.Goals as goal
 

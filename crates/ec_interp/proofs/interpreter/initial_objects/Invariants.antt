@@ -5,7 +5,7 @@ use Rattle.ec_core.specs.Meaning.{initial_object}
 use Rattle.ec_core.specs.Plain.{PlainObject, plain_object, plain_program}
 use Rattle.ec_core.specs.State.{ObjectState}
 use Rattle.ec_core.specs.Valid.{IsObject}
-use Rattle.ec_interp.specs.Views.{seen_object}
+use Rattle.ec_interp_state.specs.Views.{seen_object}
 use Rattle.ec_interp.proofs.interpreter.initial_objects.Given as goal
 
 abbrev pub invariant-loop-o : goal.invariant-loop-o

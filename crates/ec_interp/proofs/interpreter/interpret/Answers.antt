@@ -1,9 +1,9 @@
 use Rattle.std.proofs.Common.{List, rules, subst, sym}
 use Rattle.ec_core.specs.ValueTypes.{GiveBytes}
-use Rattle.ec_interp.specs.declared.behaviour.PortInput.{PortInput}
-use Rattle.ec_interp.specs.declared.state.Context.{Context}
-use Rattle.ec_interp.specs.Suits.{IsGiven}
-use Rattle.ec_interp.specs.Views.{seen, inputs_of}
+use Rattle.ec_interp_state.specs.declared.behaviour.PortInput.{PortInput}
+use Rattle.ec_interp_state.specs.declared.state.Context.{Context}
+use Rattle.ec_interp_state.specs.Suits.{IsGiven}
+use Rattle.ec_interp_state.specs.Views.{seen, inputs_of}
 use Rattle.ec_interp.proofs.Steps.{first_state, main_called}
 use Rattle.ec_interp.proofs.interpreter.interpret.Goals as goal
 

@@ -1,6 +1,6 @@
 use Rattle.std.proofs.Common.{false, arith, ap, map, refl}
 use Rattle.ec_core.specs.Accesses.{ended}
-use Rattle.ec_interp.specs.Views.{seen_object, seen_event}
+use Rattle.ec_interp_state.specs.Views.{seen_object, seen_event}
 use Rattle.ec_interp.proofs.Changes.{changed_past_map, changed_set}
 use Rattle.ec_interp.proofs.objects.end.Goals as goal
 

@@ -1,7 +1,7 @@
 use Rattle.std.proofs.Common.{◌∙◌, ap, map}
 use Rattle.ec_core.specs.Plain.{plain_program, plain_object}
 use Rattle.ec_interp.specs.Lookups.{ended_from}
-use Rattle.ec_interp.specs.Views.{seen}
+use Rattle.ec_interp_state.specs.Views.{seen}
 use Rattle.ec_interp.proofs.Changes.{ended_from-frame}
 use Rattle.ec_interp.proofs.objects.end_frame.Goals as goal
 

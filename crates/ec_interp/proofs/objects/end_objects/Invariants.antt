@@ -1,7 +1,7 @@
 use Rattle.std.proofs.Common.{◌≡◌, drop, map}
 use Rattle.ec_core.specs.Plain.{plain_object}
 use Rattle.ec_interp.specs.Lookups.{ended_from}
-use Rattle.ec_interp.specs.Views.{seen}
+use Rattle.ec_interp_state.specs.Views.{seen}
 use Rattle.ec_interp.proofs.objects.end_objects.Given as goal
 
 abbrev pub invariant-loop-i : goal.invariant-loop-i

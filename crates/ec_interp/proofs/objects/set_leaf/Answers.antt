@@ -1,6 +1,6 @@
 use Rattle.std.proofs.Common.{arith, ap, map}
 use Rattle.ec_core.specs.Accesses.{with_leaf}
-use Rattle.ec_interp.specs.Views.{seen_object, seen_event}
+use Rattle.ec_interp_state.specs.Views.{seen_object, seen_event}
 use Rattle.ec_interp.proofs.Changes.{changed_past_map, changed_set}
 use Rattle.ec_interp.proofs.objects.set_leaf.Goals as goal
 

@@ -4,8 +4,8 @@ use Rattle.std.proofs.lemmas.Option.{slice_get-map, slice_get_within, get_or_fro
 use Rattle.ec_iohw.specs.declared.table.Port.{Port}
 use Rattle.ec_iohw.specs.Valid.{IsPort}
 use Rattle.ec_core.specs.PortTable.{PlainPort, plain_port}
-use Rattle.ec_interp.specs.declared.state.Context.{Context}
-use Rattle.ec_interp.specs.Suits.{IsGiven}
+use Rattle.ec_interp_state.specs.declared.state.Context.{Context}
+use Rattle.ec_interp_state.specs.Suits.{IsGiven}
 use Rattle.ec_interp.proofs.ports.operate.Goals as goal
 
 few : (n : ℕ) → ((n ≡ 1) ⊎ ((n ≡ 2) ⊎ (n ≡ 4))) → n ≤ 8

@@ -1,5 +1,5 @@
 use Rattle.std.proofs.Common.{arith, ap, map}
-use Rattle.ec_interp.specs.Views.{seen_object, seen_event}
+use Rattle.ec_interp_state.specs.Views.{seen_object, seen_event}
 use Rattle.ec_interp.proofs.Changes.{changed_past_to, changed_set_to}
 use Rattle.ec_interp.proofs.ports.set_group.Goals as goal
 

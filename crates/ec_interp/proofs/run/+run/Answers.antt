@@ -1,11 +1,11 @@
-use Rattle.std.proofs.Common.{rules, arith, sym, ap, subst, refl, ◌≡◌, ℕ, ◌<◌, ◌∙◌, Bool, List, map, true, false}
+use Rattle.std.proofs.Common.{rules, arith, sym, ap, subst, refl, ◌≡◌, ℕ, ◌<◌, ◌∙◌, Bool, List, map}
 use Rattle.std.proofs.lemmas.Grind.{common_steps}
 use Rattle.std.proofs.lemmas.Result.{err_from_is_err_and}
 use Rattle.std.specs.Prelude.{option_map}
 use Rattle.std.specs.Option.{option_copied}
 use Rattle.ec_core.specs.declared.values.Value.{Value}
 use Rattle.ec_core.specs.Words.{function_words}
-use Rattle.ec_interp.specs.Suits.{AreArgumentsOf}
+use Rattle.ec_interp_state.specs.Suits.{AreArgumentsOf}
 use Rattle.ec_core.specs.Plain.{PlainType, PlainNode, PlainKind, call, block, statement, plain_place, plain_program, plain_function, plain_expr, plain_exprs, plain_node, plain_kind, plain_stmt, plain_stmts, plain_type}
 use Rattle.ec_core.specs.State.{State, Outcome, worked}
 use Rattle.ec_core.specs.Statements.{Exit, effect_of, going_on, calls_within}
@@ -13,11 +13,11 @@ use Rattle.ec_core.specs.Typing.{HaveUnaryTypes}
 use Rattle.ec_core.specs.Valid.{ValidExpr}
 use Rattle.ec_core.specs.ValueTypes.{HasType, IsTypedState}
 use Rattle.ec_interp.specs.Does.{DoesNode, DoesStmt, plain_other}
-use Rattle.ec_interp.specs.Views.{plain_optional, seen, seen_exit, setting_of}
+use Rattle.ec_interp_state.specs.Views.{plain_optional, seen, seen_exit, setting_of}
 use Rattle.ec_interp.specs.Weights.{node_weight, exprs_weight, kind_weight, stmts_weight, bodies}
 use Rattle.ec_interp.proofs.Parts.{plain_call, plain_block, plain_local, lighter_expr, lighter_stmt, lighter_body, turns_one, calls_one, one_less, first_is_block, first_is_other, block_lighter, block_valid, weight_call, weight_block}
-use Rattle.ec_interp.proofs.Operands.{number_of}
-use Rattle.ec_interp.proofs.Passing.{suited, shown, told, stops_of, stopped, passes, passes_second, full, ended_none}
+use Rattle.ec_interp_values.proofs.Operands.{number_of}
+use Rattle.ec_interp.proofs.Passing.{suited, shown, told, stops_of, passes, passes_second, full, ended_none}
 use Rattle.ec_interp.proofs.Steps.{part, later, worked_typed, node_expr, node_place, statement_expr, statement_in, loop_turn, loop_later, test_later, test_condition, test_last, declared_leaves, left_next, exprs_next, stmts_next, leaves_next, exprs_step, stmts_step, leaves_step, branch_is, body_runs, after_value, after_place, after_read, after_condition, after_option, after_test, after_evaluated, after_going, after_statement, after_first, after_parameters, after_begin, old_operand, call_arguments, called_arguments}
 use Rattle.ec_interp.proofs.run.+run.Goals as goal
 

@@ -6,8 +6,8 @@ use Rattle.ec_core.specs.Plain.{plain_expr, plain_exprs, plain_node, plain_place
 use Rattle.ec_core.specs.State.{State, Outcome, next, got}
 use Rattle.ec_core.specs.Statements.{Exit, initialising, effect_of, effects_of, going_on, turns, calls_within}
 use Rattle.ec_interp.specs.Does.{plain_other}
-use Rattle.ec_interp.specs.Suits.{RunsExprs, RunsLeaves, RunsStmts, RunsLoop}
-use Rattle.ec_interp.specs.Views.{plain_optional, seen, setting_of}
+use Rattle.ec_interp_state.specs.Suits.{RunsExprs, RunsLeaves, RunsStmts, RunsLoop}
+use Rattle.ec_interp_state.specs.Views.{plain_optional, seen, setting_of}
 use Rattle.ec_interp.specs.Weights.{expr_weight, node_weight, place_weight, option_weight, exprs_weight, optional_weight, stmt_weight, option_stmt_weight, stmts_weight, bodies}
 use Rattle.ec_interp.proofs.run.+run.Given as goal
 

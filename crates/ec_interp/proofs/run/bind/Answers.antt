@@ -1,7 +1,7 @@
 use Rattle.std.proofs.Common.{sym, ◌∙◌, ap, add-one, arith, rules, refl}
 use Rattle.std.proofs.lemmas.Grind.{common_steps}
 use Rattle.std.specs.Option.{option_copied}
-use Rattle.ec_interp.specs.Views.{seen, setting_of}
+use Rattle.ec_interp_state.specs.Views.{seen, setting_of}
 use Rattle.ec_interp.proofs.Parts.{parameters_none, parameters_some}
 use Rattle.ec_interp.proofs.run.bind.Goals as goal
 

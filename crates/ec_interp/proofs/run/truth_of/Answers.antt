@@ -1,6 +1,6 @@
 use Rattle.ec_core.specs.Plain.{void, plain_expr}
 use Rattle.ec_core.specs.Typing.{type_of_expr}
-use Rattle.ec_interp.specs.Views.{seen}
+use Rattle.ec_interp_state.specs.Views.{seen}
 use Rattle.ec_interp.proofs.Steps.{truth_of_any}
 use Rattle.ec_interp.proofs.run.truth_of.Goals as goal
 

@@ -4,10 +4,10 @@ use Rattle.ec_core.specs.declared.expressions.Expr.{Expr}
 use Rattle.ec_core.specs.PortTable.{plain_table}
 use Rattle.ec_core.specs.Plain.{PlainNode, call, plain_exprs, plain_node, plain_program, plain_type}
 use Rattle.ec_ir.specs.Operations.{plain_ir}
-use Rattle.ec_lower.specs.Sizes.{node_size, exprs_size}
+use Rattle.ec_lower_emit.specs.Sizes.{node_size, exprs_size}
 use Rattle.ec_lower_code.specs.Code.{exprs_labels, args_code, node_code, node_labels}
-use Rattle.ec_lower.proofs.Lists.{plain_call, list_next, smaller_expr}
-use Rattle.ec_lower.proofs.Steps.{list_end, so}
+use Rattle.ec_lower_emit.proofs.Lists.{plain_call, list_next, smaller_expr}
+use Rattle.ec_lower_emit.proofs.Steps.{list_end, so}
 use Rattle.ec_lower.proofs.expressions.+lower.Goals as goal
 
 pub lower_args-lower_expr-requires : goal.lower_args-lower_expr-requires
@@ -127,15 +127,15 @@ lower_expr-returns-in_ok-put_address-in-AddressOf-clause-code t c = λ rest.
     rw (c.in-AddressOf.is) (rw (c.in_ok-m-in-AddressOf.ensures.site) at (c.in_ok-put_address-in-AddressOf.ensures rest
     ∙ c.in_ok-m-in-AddressOf.ensures.code _))
 
-pub lower_effect-returns-in_ok-put_settled-in-Assign-clause-code : goal.lower_effect-returns-in_ok-put_settled-in-Assign-clause-code
-lower_effect-returns-in_ok-put_settled-in-Assign-clause-code t c = λ rest.
+pub lower_effect-returns-in_ok-put_assigned-in-Assign-clause-code : goal.lower_effect-returns-in_ok-put_assigned-in-Assign-clause-code
+lower_effect-returns-in_ok-put_assigned-in-Assign-clause-code t c = λ rest.
     rw (c.in-Assign.is) (rw (
       c.in_ok-k-in-Assign.ensures.next,
       c.in_ok-u-in-Assign.ensures,
       c.in_ok-k-in-Assign.ensures.site,
       c.deref.ensures,
-    ) at (c.in_ok-put_settled-in-Assign.ensures rest
-    ∙ (c.in_ok-put_store-in-Assign.ensures _ ∙ (c.in_ok-m-in-Assign.ensures.code _ ∙ c.in_ok-k-in-Assign.ensures.code _))))
+    ) at (c.in_ok-put_assigned-in-Assign.ensures rest
+    ∙ (c.in_ok-m-in-Assign.ensures.code _ ∙ c.in_ok-k-in-Assign.ensures.code _)))
 
 pub lower_effect-returns-in_ok-put_settled-in-Compound-clause-code : goal.lower_effect-returns-in_ok-put_settled-in-Compound-clause-code
 lower_effect-returns-in_ok-put_settled-in-Compound-clause-code t c = λ rest.
@@ -162,4 +162,4 @@ lower_place-returns-in_ok-site-in-Member-clause-code t c = λ rest.
       c.in_ok-m-in-Member.ensures.site,
       c.deref-in-Member.ensures,
       c.deref-in-Member-2.ensures,
-    ) at (c.in_ok-put_further-in-Member.ensures rest ∙ c.in_ok-m-in-Member.ensures.code _))
+    ) at (c.in_ok-site-in-Member.ensures.code rest ∙ c.in_ok-m-in-Member.ensures.code _))

@@ -1,7 +1,7 @@
 use Rattle.std.proofs.Common.{subst}
 use Rattle.ec_grammar.specs.Tokens.{view_tokens}
-use Rattle.ec_parse.specs.Parse.{IsRead}
 use Rattle.ec_parse.proofs.Parses.{is_found, is_only, is_alone, is_bad, is_told}
+use Rattle.ec_parse.specs.Parse.{IsRead}
 use Rattle.ec_parse.proofs.parsing.parse.Goals as goal
 
 pub returns-clause-found : goal.returns-clause-found

@@ -3,7 +3,7 @@ use Rattle.std.specs.Prelude.{option_map}
 use Rattle.ec_core.specs.Plain.{plain_stmt, statement, block, last_stmt}
 use Rattle.ec_grammar.specs.Views.{view_declaration}
 use Rattle.ec_declare.specs.Scopes.{plain_context, plain_scope}
-use Rattle.ec_statements.specs.Around.{plain_around}
+use Rattle.ec_statement_forms.specs.Around.{plain_around}
 use Rattle.ec_statements.specs.Locals.{declaration_before}
 use Rattle.ec_statements.specs.Walks.{before}
 use Rattle.ec_statements.proofs.Lists.{nothing_before, fused}

@@ -1,6 +1,6 @@
 use Rattle.ec_grammar.specs.Views.{view_option, view_start, view_declarator}
 use Rattle.ec_declare.specs.Scopes.{plain_scope}
-use Rattle.ec_statements.specs.Around.{plain_around}
+use Rattle.ec_statement_forms.specs.Around.{plain_around}
 use Rattle.ec_statements.specs.Locals.{local_declared, declarator_sites, local_name_rules}
 use Rattle.ec_statements.proofs.Walks.{declared_and_named}
 use Rattle.ec_statements.proofs.locals.declared.Goals as goal

@@ -4,7 +4,7 @@ use Rattle.ec_grammar.specs.Views.{view_init_declarator, view_next_init_declarat
 use Rattle.ec_names.specs.declared.specifiers.Specified.{Specified}
 use Rattle.ec_names.specs.Specifiers.{specs_rules, storages_of}
 use Rattle.ec_declare.specs.Scopes.{plain_context, plain_scope}
-use Rattle.ec_statements.specs.Around.{plain_around}
+use Rattle.ec_statement_forms.specs.Around.{plain_around}
 use Rattle.ec_statements.specs.Locals.{with_local, local_statement, local_sites, with_locals, locals_before, locals_sites, after_declaration, declaration_before, storage_rules, declaration_sites}
 use Rattle.ec_statements.specs.Walks.{plain_kept, followed, WalkedOn}
 use Rattle.ec_statements.proofs.Walks.{on_and_on, judged_and_on}

@@ -4,7 +4,7 @@ use Rattle.ec_core.specs.Plain.{PlainStmts}
 use Rattle.ec_grammar.specs.Views.{view_next_init_declarator}
 use Rattle.ec_declare.specs.Scopes.{plain_context, plain_scope}
 use Rattle.ec_declare.specs.Sites.{Site, told}
-use Rattle.ec_statements.specs.Around.{plain_around}
+use Rattle.ec_statement_forms.specs.Around.{plain_around}
 use Rattle.ec_statements.specs.Locals.{with_locals, locals_before, locals_sites}
 use Rattle.ec_statements.specs.Walks.{plain_kept, before}
 use Rattle.ec_statements.proofs.locals.keep_locals.Given as goal

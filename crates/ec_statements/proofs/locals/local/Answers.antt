@@ -1,7 +1,7 @@
 use Rattle.std.proofs.lemmas.Result.{IfOk-weaker}
 use Rattle.ec_grammar.specs.Views.{view_init_declarator}
 use Rattle.ec_declare.specs.Scopes.{plain_context}
-use Rattle.ec_statements.specs.Around.{plain_around}
+use Rattle.ec_statement_forms.specs.Around.{plain_around}
 use Rattle.ec_statements.specs.Locals.{started, started_sites, local_statement, local_sites}
 use Rattle.ec_statements.proofs.Walks.{then}
 use Rattle.ec_statements.proofs.locals.local.Goals as goal

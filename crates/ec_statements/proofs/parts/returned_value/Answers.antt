@@ -10,7 +10,8 @@ use Rattle.ec_operands.specs.Operands.{plain_operand}
 use Rattle.ec_operands.specs.Passing.{passed, passing_rules}
 use Rattle.ec_expr.specs.Expressions.{of_expression}
 use Rattle.ec_declare.specs.Scopes.{plain_context, known_in}
-use Rattle.ec_statements.specs.Parts.{returned_type, has_no_result, return_sites}
+use Rattle.ec_statement_forms.specs.Results.{returned_type, has_no_result}
+use Rattle.ec_statements.specs.Parts.{return_sites}
 use Rattle.ec_statements.proofs.Inside.{known_as, walked_and_judged, returned_and_judged}
 use Rattle.ec_statements.proofs.parts.returned_value.Goals as goal
 
@@ -21,7 +22,7 @@ returns c =
     let ty = option_map plain_type c.args.around.now.result.now in
     let v = of_expression (known_in (plain_context c.args.context.now) (plain_names c.args.names.now)) x in
     let walked = known_as x c.known_in-known.ensures.known c.in_ok-v.ensures in
-    let judged = returned_and_judged c.expression.new.faults.least c.judge.new.self.least c.judge_conversion.new.faults.least (option_map plain_operand c.in_ok-v.v) v (option_map plain_type (option_copied c.returned_type-to.result)) ty c.has_no_result.result c.args.at c.judge.ensures c.judge_conversion.ensures c.has_no_result.ensures walked.meant c.returned_type-to.ensures in
+    let judged = returned_and_judged c.expression.new.faults.least c.judge_value.new.faults.least c.judge_conversion.new.faults.least (option_map plain_operand c.in_ok-v.v) v (option_map plain_type (option_copied c.returned_type-to.result)) ty c.args.at c.judge_value.ensures c.judge_conversion.ensures walked.meant c.returned_type-to.ensures in
     IfOk-weaker c.pass.result _ _ (λ e made. record {
       meant =
           made

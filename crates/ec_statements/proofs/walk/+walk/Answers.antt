@@ -7,7 +7,7 @@ use Rattle.ec_grammar.specs.Trees as t
 use Rattle.ec_grammar.specs.Views.{view_compound, view_item, view_statement, views_items}
 use Rattle.ec_declare.specs.Scopes.{Scope, plain_context, plain_scope}
 use Rattle.ec_declare.specs.Sites.{told}
-use Rattle.ec_statements.specs.Around.{Around, plain_around, ended, under}
+use Rattle.ec_statement_forms.specs.Around.{Around, plain_around, ended, under}
 use Rattle.ec_statements.specs.Statements.{after_item, after_items, items_of, items_sites}
 use Rattle.ec_statements.specs.Walks.{plain_kept, before, WalkedThrough}
 use Rattle.ec_statements.proofs.Lists.{list_next, view_block}

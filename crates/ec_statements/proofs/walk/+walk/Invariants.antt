@@ -2,7 +2,7 @@ use Rattle.std.proofs.Common.{◌≡◌, List, drop}
 use Rattle.ec_grammar.specs.Views.{views_items}
 use Rattle.ec_declare.specs.Scopes.{plain_context, plain_scope}
 use Rattle.ec_declare.specs.Sites.{Site, told}
-use Rattle.ec_statements.specs.Around.{plain_around}
+use Rattle.ec_statement_forms.specs.Around.{plain_around}
 use Rattle.ec_statements.specs.Statements.{after_items, items_of, items_sites}
 use Rattle.ec_statements.specs.Walks.{plain_kept, before}
 use Rattle.ec_statements.proofs.walk.+walk.Given as goal

@@ -1,6 +1,6 @@
 use Rattle.std.proofs.Common.{arith}
 use Rattle.std.proofs.lemmas.Grind.{common_steps}
-use Rattle.ec_names.proofs.Tabled.{put_is}
+use Rattle.ec_scopes.proofs.Tabled.{put_is}
 use Rattle.ec_names.proofs.numbering.Numbering.link_copy.Goals.{in-Ok, in-Err}
 use Rattle.ec_names.proofs.numbering.Numbering.link_copy.Goals as goal
 

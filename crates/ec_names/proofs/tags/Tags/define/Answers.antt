@@ -1,6 +1,6 @@
 use Rattle.std.proofs.Common.{arith}
 use Rattle.std.proofs.lemmas.Grind.{common_steps}
-use Rattle.ec_names.proofs.Tabled.{put_is}
+use Rattle.ec_scopes.proofs.Tabled.{put_is}
 use Rattle.ec_names.proofs.tags.Tags.define.Goals.{in-Ok, in-Err}
 use Rattle.ec_names.proofs.tags.Tags.define.Goals as goal
 

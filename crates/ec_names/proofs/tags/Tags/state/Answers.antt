@@ -1,6 +1,6 @@
 use Rattle.std.proofs.Common.{rules, arith}
 use Rattle.std.proofs.lemmas.Grind.{common_steps}
-use Rattle.ec_names.proofs.Tabled.{found_same}
+use Rattle.ec_scopes.proofs.Tabled.{found_same}
 use Rattle.ec_names.proofs.tags.Tags.state.Goals as goal
 
 pub returns : goal.returns

@@ -1,0 +1,2 @@
+-- Lemmas about the parts of expressions.
+pub mod Lengths

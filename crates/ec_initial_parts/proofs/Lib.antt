@@ -1,0 +1,3 @@
+-- Lemmas about parts and addresses.
+pub mod PartTypes
+pub mod Moves

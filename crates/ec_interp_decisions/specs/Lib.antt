@@ -1,0 +1,2 @@
+-- The definitions that the contracts of the interpreter's decisions cite.
+pub mod Accesses

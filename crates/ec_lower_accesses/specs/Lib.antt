@@ -1,0 +1,2 @@
+-- The definitions that the contracts of accesses cite.
+pub mod Sites

@@ -1,0 +1,3 @@
+-- The definitions that the contracts of the lowering cite.
+pub mod Emits
+pub mod Sizes

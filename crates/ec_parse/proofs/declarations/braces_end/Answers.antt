@@ -1,8 +1,0 @@
-use Rattle.std.proofs.Common.{rules}
-use Rattle.ec_grammar.specs.declared.tree.Initialiser.TheViews.{the_lemmas}
-use Rattle.ec_grammar.proofs.Backwards.{initialisers_row}
-use Rattle.ec_parse.proofs.Lists.{initialisers_map}
-use Rattle.ec_parse.proofs.declarations.braces_end.Goals as goal
-
-pub returns : goal.returns
-returns c = search (rules, the_lemmas, initialisers_row, initialisers_map)

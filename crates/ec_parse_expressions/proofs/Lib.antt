@@ -1,0 +1,3 @@
+pub mod Many
+mod Rows
+mod Steps

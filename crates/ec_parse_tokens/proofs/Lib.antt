@@ -1,0 +1,3 @@
+pub mod Leaves
+mod Codes
+mod Depths

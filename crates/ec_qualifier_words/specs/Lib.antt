@@ -1,0 +1,2 @@
+-- The definitions of what single words say.
+pub mod Words

@@ -1,0 +1,11 @@
+//! From the texts of the sources to their trees.
+//!
+//! `units_of` lexes all sources and parses them. `specs/Units.antt` says which trees it answers, and why there are none.
+#![tactic(auto)]
+
+mod stop;
+mod units;
+
+pub use ec_parse::Tree;
+pub use stop::UnitStop;
+pub use units::{discard, units_of};
