@@ -12,6 +12,7 @@ ghost use Rattle.ec_accesses.specs.Accesses.{member_of, AreCounted};
 use ec_core::{Arithmetic, BinOp, CType, Member, Node, PlaceExpr, StructDef};
 use ec_faults::Faults;
 use ec_forms::pointed;
+use ec_operand_types::member_named;
 use ec_operands::{Modes, Operand, Sort, as_value, boxed, made, sort_of};
 use ec_space::{Name, NoMemory, Seq};
 use std::alloc::Global;
@@ -105,16 +106,10 @@ fn base_of(arrow: bool, ty: Sort<'_>) -> Option<u32>
     }
 }
 
-fn named_in(members: &[Member], name: &[u8]) -> Option<usize>
-    ensures { result ≡ position (λ m. bytes_eq m.name.items name.now) members.now }
-{
-    members.iter().position(|m| m.name.as_slice() == name)
-}
-
 fn place_in(members: &Seq<Member>, name: &Name) -> Option<usize>
     ensures { result ≡ position (λ m. bytes_eq m.name.items name.now.items) members.now.items }
 {
-    named_in(members.as_slice(), name.as_slice())
+    member_named(members.as_slice(), name.as_slice())
 }
 
 fn number_in(def: &StructDef, name: &Name) -> Option<usize>

@@ -5,8 +5,8 @@ use Rattle.std.specs.Prelude.{[], ◌∷◌, ◌++◌, bit_and, bit_or, bit_xor,
 use Rattle.std.specs.Int.{from_bool}
 use Rattle.ec_space.specs.declared.space.Bank.TheVariants.{Data as DataBank}
 use Rattle.ec_isa.specs.declared.instructions.Instr.{Instr}
-use Rattle.ec_isa.specs.declared.instructions.Instr.TheVariants.{Add, Adc, Sub, Sbc, And, Or, Eor, Mov, Cp, Cpc, Asr}
-use Rattle.ec_isa.specs.declared.instructions.Instr.TheVariants.{Lsr, Ror}
+use Rattle.ec_isa.specs.declared.instructions.Instr.TheVariants.{Add, Adc, Sub, Sbc, And, Or, Eor, Mov, Asr, Lsr}
+use Rattle.ec_isa.specs.declared.instructions.Instr.TheVariants.{Ror}
 use Rattle.ec_avr.specs.declared.machine.Access.{Access}
 use Rattle.ec_avr.specs.declared.machine.Access.TheVariants.{Read, Write}
 use Rattle.ec_asm.specs.declared.items.AsmItem.{AsmItem}
@@ -19,6 +19,7 @@ use Rattle.ec_asm.specs.View.{Flags, View}
 use Rattle.ec_avr.specs.Flags.{byte_difference}
 use Rattle.ec_asm.specs.Change.{Env, Kind, Own, Object, change, goes_on, set_both, difference_flags}
 use Rattle.ec_asm.specs.Items.{chain}
+pub use Rattle.ec_asm_parts.specs.Bytes.{compares}
 
 -- ---- locations
 
@@ -198,10 +199,6 @@ is_held Object = true
 is_held _ = false
 
 -- ---- comparisons: CP, and then CPC
-
-abbrev pub compares : ℕ → (ℕ → ℕ → Instr)
-compares zero d r = Cp d r
-compares (suc i) d r = Cpc d r
 
 abbrev pub compare_byte : Location → Location → ℕ → List AsmItem
 compare_byte (InRegisters a) (InRegisters b) i = Plain (compares i (b + i) (a + i)) ∷ []

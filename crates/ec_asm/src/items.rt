@@ -1,8 +1,8 @@
 //! Items of code, and the programs that they make.
 ghost use Rattle.std.specs.Prelude.{◌≡◌, ◌<◌, ◌^◌, length};
-ghost use Rattle.ec_asm.specs.Change.{words};
 ghost use Rattle.ec_asm.specs.Items.{item_words, code_words};
 
+use ec_asm_parts::words;
 use ec_isa::Instr;
 use ec_space::Seq;
 
@@ -66,16 +66,6 @@ pub struct AsmProgram {
     pub frames: Seq<u16>,
     /// The label of the first instruction.
     pub entry: u64,
-}
-
-/// The words of an instruction, 1 or 2.
-pub fn words(instr: Instr) -> u8
-    ensures { result ≡ words instr }
-{
-    match instr {
-        Instr::Lds { .. } | Instr::Sts { .. } | Instr::Jmp { .. } | Instr::Call { .. } => 2,
-        _ => 1,
-    }
 }
 
 /// The words of an item, which do not depend on where it stands.

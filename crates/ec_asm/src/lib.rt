@@ -10,6 +10,7 @@ pub mod laws;
 mod pieces;
 mod valid;
 
-pub use items::{AsmItem, AsmProgram, Slot, code_words, item_words, words};
+pub use ec_asm_parts::words;
+pub use items::{AsmItem, AsmProgram, Slot, code_words, item_words};
 pub use pieces::{Location, Operator, compare, copy, halve, operate};
 pub use valid::{is_valid_asm, is_valid_item, size_of, stands_once, used_label};

@@ -2,9 +2,10 @@
 ghost use Rattle.std.specs.Prelude.{◌≡◌, ◌+◌, ◌<◌, ◌^◌, ◌++◌, OnOk, OnErr};
 ghost use Rattle.ec_runs.specs.Behaviours.{BeginWith};
 ghost use Rattle.ec_asm.specs.Pieces.{HasByte, HasBytes, instruction, copy_byte, copy_code, operate_byte, operate_code};
-ghost use Rattle.ec_asm.specs.Pieces.{compares, compare_byte, compare_code, halves, halve_byte, halve_code};
+ghost use Rattle.ec_asm.specs.Pieces.{compare_byte, compare_code, halves, halve_byte, halve_code};
 
 use crate::items::AsmItem;
+use ec_asm_parts::{compares, from_top, sums};
 use ec_isa::Instr;
 use ec_space::{NoMemory, Seq};
 
@@ -102,8 +103,7 @@ fn instruction(op: Operator, i: u8, d: u8, r: u8) -> Instr
     ensures { result ≡ instruction op i d r }
 {
     match op {
-        Operator::Sum if i == 0 => Instr::Add { d, r },
-        Operator::Sum => Instr::Adc { d, r },
+        Operator::Sum => sums(i, d, r),
         Operator::Difference if i == 0 => Instr::Sub { d, r },
         Operator::Difference => Instr::Sbc { d, r },
         Operator::BitAnd => Instr::And { d, r },
@@ -178,17 +178,6 @@ pub fn operate(
         operate_byte(out, op, from, to, i)?;
     }
     Ok(())
-}
-
-/// The comparison of byte `i`: the lowest byte takes no borrow.
-fn compares(i: u8, d: u8, r: u8) -> Instr
-    ensures { result ≡ compares i d r }
-{
-    if i == 0 {
-        Instr::Cp { d, r }
-    } else {
-        Instr::Cpc { d, r }
-    }
 }
 
 /// Appends code that compares byte `i`.
@@ -277,7 +266,7 @@ fn halve_byte(
     ensures ok { OnOk result (out.new.items ≡ out.old.items ++ halve_byte signed at bytes k) }
     ensures err { OnErr result (out.new.items ≡ out.old.items) }
 {
-    let i = bytes - 1 - k;
+    let i = from_top(bytes, k);
     match at {
         Location::InRegisters(r) => {
             out.extend_from_slice(&[AsmItem::Plain(halves(signed, k, r + i))])

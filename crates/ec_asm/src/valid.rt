@@ -5,6 +5,7 @@ ghost use Rattle.ec_asm.specs.Valid.{sizes_of, size_of, is_offset, is_valid_item
 ghost use Rattle.ec_asm.specs.Valid.{is_placed, ValidAsm};
 
 use crate::items::{AsmItem, AsmProgram};
+use ec_asm_parts::is_once;
 use ec_isa::is_in_table;
 
 /// The bytes of what the number of an object names, or None where it names nothing. `objects` has the bytes of each
@@ -90,7 +91,7 @@ fn is_label(label: u64, item: AsmItem) -> bool
 pub fn stands_once(items: &[AsmItem], label: u64) -> bool
     ensures { result ≡ stands_once items.now label }
 {
-    items.iter().filter(|item| is_label(label, **item)).count() == 1
+    is_once(items.iter().filter(|item| is_label(label, **item)).count())
 }
 
 /// Whether the label that an item refers to, if any, stands exactly once among items.

@@ -1,9 +1,10 @@
 -- The state of the machine and the places in it (Microchip AVR Instruction Set Manual and the data memory map of the
 -- ATmega328P).
-use Rattle.std.specs.Prelude.{◌≡◌, ℕ, ◌+◌, ◌*◌, ◌/◌, ◌%◌, ◌==◌, nat_lt, nat_le, Bool, not, ◌&&◌, ◌||◌, IsTrue, length}
+use Rattle.std.specs.Prelude.{◌≡◌, ℕ, ◌+◌, ◌*◌, ◌/◌, ◌%◌, nat_lt, nat_le, Bool, ◌&&◌, IsTrue, length}
 use Rattle.std.specs.Prelude.{slice_index, slice_set}
 use Rattle.std.specs.Int.{bit_at}
 use Rattle.ec_space.specs.Memory.{Memory}
+pub use Rattle.ec_avr_parts.specs.Addresses.{is_core_register, is_port, raised, lowered}
 
 -- both banks, and the program counter, which counts words. The registers are the first 32 data bytes
 pub record State : Type 0 where
@@ -67,24 +68,9 @@ with_sreg s byte = with_byte s 0x5F byte
 abbrev pub flag : State → ℕ → ℕ
 flag s number = bit_at (sreg s) number
 
--- R0 to R31, SPL, SPH or SREG: what the core keeps itself
-abbrev pub is_core_register : ℕ → Bool
-is_core_register at = nat_lt at 32 || at == 0x5D || at == 0x5E || at == 0x5F
-
--- every other address below 0x0100 is a port
-abbrev pub is_port : ℕ → Bool
-is_port at = nat_lt at 256 && not (is_core_register at)
-
 -- the SRAM goes from 0x0100 to the end of the data addresses
 abbrev pub is_sram : State → ℕ → Bool
 is_sram s at = nat_le 256 at && nat_lt at (length s.mem.data)
-
--- an address, and a pointer, is a number of 16 bits
-abbrev pub raised : ℕ → ℕ
-raised at = (at + 1) % 65536
-
-abbrev pub lowered : ℕ → ℕ
-lowered at = (at + 65535) % 65536
 
 abbrev pub with_pc : State → ℕ → State
 with_pc s to = record s { pc = to % 65536 }

@@ -11,10 +11,10 @@ mod table;
 mod transfers;
 
 use crate::Image;
+use ec_avr_parts::is_port;
 use ec_isa::Instr;
 use ec_space::{Bank, Core, Mem, NoMemory, Seq};
 pub(crate) use jumps::is_of_two_words;
-use places::is_port;
 use std::alloc::Global;
 use std::marker::Model;
 

@@ -10,10 +10,10 @@ use Rattle.ec_names.specs.Counts.{most_objects, most_functions, objects_declared
 use Rattle.ec_recursion.specs.Recursion.{IsFirstRecursive, NothingRecurs}
 use Rattle.ec_check.specs.declared.checking.CheckStop.{CheckStop}
 use Rattle.ec_check.specs.declared.checking.CheckStop.TheVariants as stops
-use Rattle.ec_check.specs.declared.checking.UnitFault as unit_fault_code
 use Rattle.ec_check.specs.Units.{program_of, least_fault, UnitFault, first_fault, after_units, main_of, program_by}
 use Rattle.ec_file_scope.specs.States.{nothing_declared}
 use Rattle.ec_names.specs.Definitions.{Definition}
+use Rattle.ec_unit_parts.specs.declared.UnitFault as unit_fault_code
 
 -- P is the program of the units
 abbrev pub IsTyped : List t.Tree → IoTable → PlainProgram → Type 0
@@ -52,7 +52,7 @@ Checked us io (Err (stops.Recursion name)) =
 -- ---- parts of the check
 
 abbrev pub plain_unit_fault : unit_fault_code.UnitFault → UnitFault
-plain_unit_fault f = record { unit = f.unit; fault = f.fault }
+plain_unit_fault f = record { unit = f.unit; fault = record { at = f.token; rule = f.rule } }
 
 -- what the walk over all units tells
 abbrev pub Walks : List Definition → IoTable → List t.Tree → Result (Option Program) unit_fault_code.UnitFault → Type 0

@@ -18,13 +18,13 @@ use crate::laws::{programs_are_valid, programs_exist, structs_are_few};
 use crate::units::{main_of, unit};
 use ec_core::Program;
 use ec_declare::{Scope, copied_name};
-use ec_faults::Fault;
 use ec_file_scope::{Setting, State};
 use ec_grammar::Tree;
 use ec_iohw::IoTable;
 use ec_names::{Definition, definitions, has_too_many_functions, has_too_many_objects};
 use ec_recursion::first_recursive;
 use ec_space::{Name, NoMemory, Seq};
+use ec_unit_parts::{UnitFault, told_of};
 use std::alloc::Global;
 use thiserror::Error;
 
@@ -46,13 +46,6 @@ pub enum CheckStop {
     /// The name of the function, first by place of definition, that reaches itself by calls.
     #[error("recursion")]
     Recursion(Name),
-}
-
-/// A fault of a unit.
-#[derive(Clone, Copy)]
-pub(crate) struct UnitFault {
-    pub(crate) unit: u8,
-    pub(crate) fault: Fault,
 }
 
 fn is_last(behind: &[Tree]) -> bool
@@ -92,10 +85,7 @@ fn walk_units(
         let last = is_last(&units[i + 1..]);
         let found = unit(alloc, &setting, state, has_main, last, u)?;
         if let Some(fault) = found {
-            return Ok(Some(UnitFault {
-                unit: i as u8,
-                fault,
-            }));
+            return Ok(Some(told_of(i as u8, fault)));
         }
     }
     Ok(None)
@@ -218,8 +208,8 @@ fn checked_program(alloc: Global, units: &Seq<Tree>, io: &IoTable) -> Result<Pro
     match walked {
         Err(f) => Err(CheckStop::Constraint {
             unit: f.unit,
-            token: f.fault.at,
-            rule: f.fault.rule,
+            token: f.token,
+            rule: f.rule,
         }),
         Ok(None) => unreachable!(),
         Ok(Some(p)) => recursion(alloc, p),

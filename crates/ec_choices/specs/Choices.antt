@@ -3,19 +3,16 @@
 use Rattle.std.specs.Prelude.{ℕ, Bool, true, false, not, ◌&&◌, ◌||◌, if◌then◌else◌, Option}
 use Rattle.std.specs.Prelude.{Some, None, List, [], ◌∷◌}
 use Rattle.ec_faults.specs.Faults.{Judgement, rule}
-use Rattle.ec_space.specs.declared.space.SpaceId.{SpaceId}
-use Rattle.ec_core.specs.ArithmeticTypes.{type_of, common}
-use Rattle.ec_core.specs.Plain.{PlainType, void, pointer}
+use Rattle.ec_core.specs.Plain.{PlainType, void}
 use Rattle.ec_core.specs.Plain.{PlainExpr}
 use Rattle.ec_core.specs.Plain.{logical_and, logical_or, conditional, comma}
-use Rattle.ec_core.specs.Typing.{int, type_of_expr, points_to_const}
+use Rattle.ec_core.specs.Typing.{int, type_of_expr}
 use Rattle.ec_operands.specs.declared.operands.Modes.{Modes}
-use Rattle.ec_operands.specs.declared.operators.Meeting.{Meeting}
-use Rattle.ec_operands.specs.declared.operators.Meeting.TheVariants.{Pointers, Mixed, Numbers, Nothing}
+pub use Rattle.ec_operand_types.specs.Meetings.{pointer_between, type_between}
 use Rattle.ec_operands.specs.Operands.{Operand, made, value_type, as_value, is_null}
 use Rattle.ec_operands.specs.Operands.{valued, with_one, with_both}
 use Rattle.ec_operands.specs.Operators.{is_beside_null, are_apart, meeting}
-use Rattle.ec_operands.specs.Passing.{in_type, brought}
+use Rattle.ec_operands.specs.Passing.{in_type}
 use Rattle.ec_operands.specs.Sorts.{is_void, is_arithmetic, is_pointer}
 use Rattle.ec_operands.specs.Sorts.{same_pointee, nest}
 use Rattle.ec_forms.specs.Nodes.{no_scalar}
@@ -52,18 +49,6 @@ chosen_apart x y = false
 abbrev pub choice_rules : Option Operand → Option Operand → Option Operand → ℕ → List Judgement
 choice_rules c x y at =
     rule 25 (no_scalar c) at ∷ rule 24 (no_alternatives x y) at ∷ rule 32 (chosen_apart x y) at ∷ []
-
--- a pointer in a space, to const where one of both is
-abbrev pub pointer_between : SpaceId → PlainType → PlainType → Option PlainType
-pointer_between s (pointer r k t) b = Some (pointer s (k || points_to_const b) t)
-pointer_between s a b = None
-
-abbrev pub type_between : Meeting → PlainType → PlainType → Option PlainType
-type_between (Pointers s) a b = with_one s (λ s. pointer_between s a b)
-type_between (Mixed true) a b = Some a
-type_between (Mixed false) a b = Some b
-type_between (Numbers s t) a b = Some (type_of (common s t))
-type_between Nothing a b = None
 
 -- the type to which both are brought
 abbrev pub choice_type : Operand → Operand → Option PlainType

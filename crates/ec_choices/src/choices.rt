@@ -6,21 +6,21 @@ ghost use Rattle.ec_faults.specs.Faults.{all_judged};
 ghost use Rattle.ec_operands.specs.Operands.{plain_operand, plain_sort, value_type, with_one, with_both};
 ghost use Rattle.ec_choices.specs.Choices.{logical, logical_rules, sequence, alternatives, no_alternatives};
 ghost use Rattle.ec_choices.specs.Choices.{chosen_apart};
-ghost use Rattle.ec_choices.specs.Choices.{choice_rules, pointer_between, type_between, choice_type, choice_made};
+ghost use Rattle.ec_choices.specs.Choices.{choice_rules, choice_type, choice_made};
 ghost use Rattle.ec_choices.specs.Choices.{chosen, castable};
 ghost use Rattle.ec_forms.specs.Nodes.{condition as condition_of};
 ghost use Rattle.ec_choices.specs.Choices.{no_cast, cast_rules, cast};
-ghost use Rattle.ec_core.specs.Typing.{points_to_const};
 ghost use Rattle.ec_operands.specs.Passing.{in_type as in_type_of};
 
-use ec_core::{Arithmetic, CType, Expr, Node};
+use ec_core::{CType, Expr, Node};
 use ec_faults::Faults;
 use ec_forms::{condition, int, is_no_scalar};
+use ec_operand_types::type_between;
 use ec_operands::{
-    Meeting, Modes, Operand, Sort, are_apart, as_value, boxed, boxed_in_type, in_type,
-    is_beside_null, is_null, made, meeting_of, nest, same_pointee, sort_of, type_sort, valued,
+    Modes, Operand, Sort, are_apart, as_value, boxed, boxed_in_type, in_type, is_beside_null,
+    is_null, kept, made, meeting_of, nest, same_pointee, sort_of, type_sort, valued,
 };
-use ec_space::{NoMemory, SpaceId};
+use ec_space::NoMemory;
 use std::alloc::Global;
 
 // ---- `&&`, `||`
@@ -130,82 +130,6 @@ pub fn judge_choice(
     faults.judge(32, are_chosen_apart(x, y), at);
 }
 
-/// A type that was looked at, to be kept.
-fn kept(alloc: Global, ty: Sort<'_>) -> Result<CType, NoMemory>
-    ensures { IfOk result (λ kept. plain_type kept ≡ plain_sort ty.entry) }
-{
-    match ty {
-        Sort::Void => Ok(CType::Void),
-        Sort::Number(t) => Ok(t.to_type()),
-        Sort::Pointer { space, konst, to } => {
-            let to = boxed(alloc, to.copied(alloc)?)?;
-            Ok(CType::Ptr { space, konst, to })
-        }
-        Sort::Array { of, len } => {
-            let of = boxed(alloc, of.copied(alloc)?)?;
-            Ok(CType::Array { of, len })
-        }
-        Sort::Struct { index } => Ok(CType::Struct { index }),
-    }
-}
-
-fn is_to_const(ty: Sort<'_>) -> bool
-    ensures { result ≡ points_to_const (plain_sort ty.entry) }
-{
-    match ty {
-        Sort::Pointer { konst, .. } => konst,
-        Sort::Number(Arithmetic::Integer(_)) | Sort::Number(Arithmetic::Fixed(_)) => false,
-        Sort::Void | Sort::Array { .. } | Sort::Struct { .. } => false,
-    }
-}
-
-fn pointer_between(
-    alloc: Global,
-    s: SpaceId,
-    a: Sort<'_>,
-    b: Sort<'_>,
-) -> Result<Option<CType>, NoMemory>
-    ensures { IfOk result (λ ty. option_map plain_type ty
-        ≡ pointer_between s (plain_sort a.entry) (plain_sort b.entry)) }
-{
-    match a {
-        Sort::Pointer { konst, to, .. } => {
-            let to = boxed(alloc, to.copied(alloc)?)?;
-            Ok(Some(CType::Ptr {
-                space: s,
-                konst: konst || is_to_const(b),
-                to,
-            }))
-        }
-        Sort::Number(Arithmetic::Integer(_)) | Sort::Number(Arithmetic::Fixed(_)) => Ok(None),
-        Sort::Void | Sort::Array { .. } | Sort::Struct { .. } => Ok(None),
-    }
-}
-
-fn type_between(
-    alloc: Global,
-    how: Meeting,
-    a: Sort<'_>,
-    b: Sort<'_>,
-) -> Result<Option<CType>, NoMemory>
-    ensures { IfOk result (λ ty. option_map plain_type ty
-        ≡ type_between how (plain_sort a.entry) (plain_sort b.entry)) }
-{
-    match how {
-        Meeting::Pointers(None) | Meeting::Nothing => Ok(None),
-        Meeting::Pointers(Some(s)) => pointer_between(alloc, s, a, b),
-        Meeting::Mixed(true) => {
-            let ty = kept(alloc, a)?;
-            Ok(Some(ty))
-        }
-        Meeting::Mixed(false) => {
-            let ty = kept(alloc, b)?;
-            Ok(Some(ty))
-        }
-        Meeting::Numbers(s, t) => Ok(Some(s.common(t).to_type())),
-    }
-}
-
 fn choice_type(alloc: Global, x: &Operand, y: &Operand) -> Result<Option<CType>, NoMemory>
     ensures { IfOk result (λ ty. option_map plain_type ty
         ≡ choice_type (plain_operand x.now) (plain_operand y.now)) }
@@ -218,7 +142,13 @@ fn choice_type(alloc: Global, x: &Operand, y: &Operand) -> Result<Option<CType>,
     if a.is_void() {
         return Ok(Some(CType::Void));
     }
-    type_between(alloc, meeting_of(a, b), a, b)
+    match type_between(meeting_of(a, b), a, b) {
+        None => Ok(None),
+        Some(ty) => {
+            let ty = kept(alloc, ty)?;
+            Ok(Some(ty))
+        }
+    }
 }
 
 /// Both operands in a type, in boxes.

@@ -1,7 +1,6 @@
 -- Sources that were read one behind the other.
-use Rattle.std.proofs.Common.{◌≡◌, ℕ, zero, suc, ◌+◌, ◌-◌, ◌*◌, ◌<◌, ◌≤◌, ◌∙◌, List, [], ◌∷◌, ◌++◌, map, length, take, drop, get_or, Some, None, refl, sym, ap, subst, arith, inl, inr, ◌⊎◌}
+use Rattle.std.proofs.Common.{◌≡◌, ℕ, zero, suc, ◌+◌, ◌-◌, ◌*◌, ◌<◌, ◌≤◌, ◌∙◌, List, [], ◌∷◌, ◌++◌, map, length, take, drop, get_or, Some, None, refl, sym, ap, subst, arith, inl, inr}
 use Rattle.std.specs.Prelude.{Option, All, Contains, string_bytes, IsSomeAnd, unwrap_or}
-use Rattle.std.specs.List.{AllZip}
 use Rattle.std.specs.FinMap.{get}
 use Rattle.std.proofs.lemmas.Bool.{cases_eq}
 use Rattle.std.proofs.lemmas.List.{length-append, length-drop, length-map, take_more, take_all}
@@ -12,9 +11,9 @@ use Rattle.ec_io.specs.Views.{StoreView}
 use Rattle.ec_io.proofs.Counting.{counted_more}
 use Rattle.ec_commands.specs.Shown.{IsWithin, IsPast, KeepsAll, Told}
 use Rattle.ec_commands.specs.Sources.{HoldTexts, AreWithin, StopsReadingSources}
-use Rattle.ec_commands.specs.declared.stop.Limit.TheVariants.{SourceBytes}
-use Rattle.ec_commands.specs.declared.stop.CommandError.{CommandError}
-use Rattle.ec_commands.specs.declared.stop.CommandError.TheVariants.{CannotRead, TooMany, NoMemory}
+use Rattle.ec_command_parts.specs.declared.stop.Limit.TheVariants.{SourceBytes}
+use Rattle.ec_command_parts.specs.declared.stop.CommandError.{CommandError}
+use Rattle.ec_command_parts.specs.declared.stop.CommandError.TheVariants.{CannotRead, TooMany, NoMemory}
 use Rattle.ec_commands.proofs.Files.{told_both}
 use Rattle.ec_commands.specs.Words.{Words, word, names_from}
 

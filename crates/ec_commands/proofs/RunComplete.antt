@@ -16,9 +16,9 @@ use Rattle.ec_commands.specs.Answers.{IsTold, IsLeft}
 use Rattle.ec_commands.specs.Runs.{Gives, AcceptsRun, CanRun, StopsReadingInputs, HasTextFault, StopsLoading, StopsRunning, RunStops, Shows}
 use Rattle.ec_commands.specs.Stops.{status_of}
 use Rattle.ec_commands.specs.Words.{Words, IsNumber, hex_name, script_name}
-use Rattle.ec_commands.specs.declared.stop.Limit.TheVariants.{HexBytes, ScriptBytes}
-use Rattle.ec_commands.specs.declared.stop.CommandError.{CommandError}
-use Rattle.ec_commands.specs.declared.stop.CommandError.TheVariants.{CannotRead, CannotWrite, TooMany, Fault, StepsOut}
+use Rattle.ec_command_parts.specs.declared.stop.Limit.TheVariants.{HexBytes, ScriptBytes}
+use Rattle.ec_command_parts.specs.declared.stop.CommandError.{CommandError}
+use Rattle.ec_command_parts.specs.declared.stop.CommandError.TheVariants.{CannotRead, CannotWrite, TooMany, Fault, StepsOut}
 
 pub same_number : (digits : List ℕ) (most n m : ℕ) → IsNumber digits most n → IsNumber digits most m → n ≡ m
 same_number digits most n m a b = sym a.value ∙ b.value

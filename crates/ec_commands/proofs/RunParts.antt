@@ -9,8 +9,8 @@ use Rattle.ec_emu.specs.declared.run.EmuReport.{EmuReport}
 use Rattle.ec_emu.specs.declared.script.ScriptLine.{ScriptLine}
 use Rattle.ec_emu.specs.Emulation.{IsRun as IsRunOf}
 use Rattle.ec_emu.specs.Scripted.{IsScripted}
-use Rattle.ec_commands.specs.declared.stop.CommandError.{CommandError}
-use Rattle.ec_commands.specs.declared.stop.CommandError.TheVariants.{CannotWrite}
+use Rattle.ec_command_parts.specs.declared.stop.CommandError.{CommandError}
+use Rattle.ec_command_parts.specs.declared.stop.CommandError.TheVariants.{CannotWrite}
 use Rattle.ec_io.specs.Views.{StoreView, SinkCall}
 use Rattle.ec_commands.specs.Runs.{Gives, AreInputs, IsLoaded, Shows, Ran, RunStops, stop_of}
 use Rattle.ec_commands.specs.Words.{Words}

@@ -8,11 +8,12 @@ ghost use Rattle.ec_commands.specs.Counts.{counts_of, WritesCounts};
 ghost use Rattle.ec_commands.specs.Stops.{line_of, fault_name, four_digits, IsNamed};
 ghost use Rattle.ec_commands.specs.Lines.{bytes_of, line};
 ghost use Rattle.ec_commands.specs.Tells.{WritesPrefix, Tells};
+ghost use Rattle.ec_command_parts.specs.Stops.{text_of};
 
 use crate::line::Part::{Hex, Number, Signed, Text};
-use crate::stop::CommandError;
 use crate::words::word_at;
 use ec_avr::FaultKind;
+use ec_command_parts::{CommandError, text_of};
 use ec_emu::EmuEnd;
 use ec_hex::digit_of;
 use ec_io::{Failed, Sink, Written, write_all};
@@ -165,6 +166,17 @@ fn write_numbers<'a, E: Sink>(err: &mut E, before: &'a [u8], n: u32, between: &'
     );
 }
 
+/// Writes the line of a stop that is told without a name or a number.
+fn tell_text<E: Sink>(err: &mut E, stop: CommandError)
+    ensures told { Tells (E.written err.old) (E.written err.new) (E.faults err.old) (E.faults err.new) (text_of stop) }
+    ensures rest { E.rest err.new ≡ E.rest err.old }
+    ensures calm { (room : ℕ) → E.calm err.old room → length (text_of stop) ≤ room
+        → E.faults err.new ≡ E.faults err.old }
+{
+    let text = text_of(stop);
+    write_line(err, &[Text(text)]);
+}
+
 /// Writes the line of a stop.
 pub fn tell<E: Sink>(err: &mut E, words: &Vec<String>, stop: CommandError)
     requires { IsNamed words.now.items stop }
@@ -175,12 +187,12 @@ pub fn tell<E: Sink>(err: &mut E, words: &Vec<String>, stop: CommandError)
         → E.faults err.new ≡ E.faults err.old }
 {
     match stop {
-        CommandError::Usage => write_line(err, &[Text(b"usage\n")]),
+        CommandError::Usage => tell_text(err, stop),
         CommandError::CannotRead(i) => {
             let name = word_at(words, i).as_bytes();
             write_line(err, &[Text(b"cannot read "), Text(name), Text(b"\n")])
         }
-        CommandError::CannotWrite => write_line(err, &[Text(b"cannot write\n")]),
+        CommandError::CannotWrite => tell_text(err, stop),
         CommandError::TooMany(limit) => write_numbers(
             err,
             b"limit ",
@@ -188,7 +200,7 @@ pub fn tell<E: Sink>(err: &mut E, words: &Vec<String>, stop: CommandError)
             b" ",
             limit.most(),
         ),
-        CommandError::NoMemory => write_line(err, &[Text(b"no memory\n")]),
+        CommandError::NoMemory => tell_text(err, stop),
         CommandError::BadRecord(line) => write_line(
             err,
             &[Text(b"hex line "), Number(line), Text(b": bad record\n")],
@@ -205,7 +217,7 @@ pub fn tell<E: Sink>(err: &mut E, words: &Vec<String>, stop: CommandError)
             err,
             &[Text(b"hex line "), Number(line), Text(b": twice\n")],
         ),
-        CommandError::NoEnd => write_line(err, &[Text(b"hex: no end\n")]),
+        CommandError::NoEnd => tell_text(err, stop),
         CommandError::ScriptLine(line, rule) => write_numbers(
             err,
             b"script line ",
@@ -226,6 +238,6 @@ pub fn tell<E: Sink>(err: &mut E, words: &Vec<String>, stop: CommandError)
                 ],
             )
         }
-        CommandError::StepsOut => write_line(err, &[Text(b"steps out\n")]),
+        CommandError::StepsOut => tell_text(err, stop),
     }
 }

@@ -5,4 +5,3 @@ mod RunExec
 mod Written
 pub mod Usage
 pub mod RunGen
-pub mod Statuses

@@ -11,9 +11,9 @@ use Rattle.ec_commands.specs.Shown.{KeepsAll, Told, IsWithin, StopsReading}
 use Rattle.ec_commands.specs.Sources.{texts, HoldTexts, StopsReadingSources}
 use Rattle.ec_commands.specs.Stops as commands
 use Rattle.ec_commands.specs.Words.{Words, word, names_from, map_name, IsBuild}
-use Rattle.ec_commands.specs.declared.stop.Limit.TheVariants.{MapBytes, SourceBytes}
-use Rattle.ec_commands.specs.declared.stop.CommandError.{CommandError}
-use Rattle.ec_commands.specs.declared.stop.CommandError.TheVariants.{CannotRead, TooMany, NoMemory}
+use Rattle.ec_command_parts.specs.declared.stop.Limit.TheVariants.{MapBytes, SourceBytes}
+use Rattle.ec_command_parts.specs.declared.stop.CommandError.{CommandError}
+use Rattle.ec_command_parts.specs.declared.stop.CommandError.TheVariants.{CannotRead, TooMany, NoMemory}
 use Rattle.ec_commands.proofs.Files.{told_both, told_on}
 use Rattle.ec_commands.proofs.Named.{same_texts, sources_within, not_past}
 use Rattle.ec_build.specs.Accepted.{IsAccepted}
@@ -21,8 +21,8 @@ use Rattle.ec_build.specs.Builds.{IsBuilt}
 use Rattle.ec_build.specs.declared.building.Built.{Built}
 use Rattle.ec_compile.specs.Inputs.{AreInputs, HasMap, StopsReadingBuild}
 use Rattle.ec_compile.specs.Builds.{Accepts, IsBuiltFrom, IsRefusedFor, RefusesBuild, BuildStops}
-use Rattle.ec_compile.specs.declared.stop.CompileStop.{CompileStop}
-use Rattle.ec_compile.specs.declared.stop.CompileStop.TheVariants.{Command, Build}
+use Rattle.ec_compile_stops.specs.declared.stop.CompileStop.{CompileStop}
+use Rattle.ec_compile_stops.specs.declared.stop.CompileStop.TheVariants.{Command, Build}
 
 pub within_here : (files : Files) (name bytes : List ℕ) (most : ℕ) → get files name ≡ Some bytes → length bytes ≤ most
     → IsWithin name most files

@@ -14,9 +14,9 @@ use Rattle.ec_commands.specs.Shown.{KeepsAll, Told, IsPast, StopsReading}
 use Rattle.ec_commands.specs.Sources.{HoldTexts}
 use Rattle.ec_commands.specs.Stops as commands
 use Rattle.ec_commands.specs.Words.{Words, word, names_from, script_name, words_from}
-use Rattle.ec_commands.specs.declared.stop.Limit.TheVariants.{ScriptBytes, Sources}
-use Rattle.ec_commands.specs.declared.stop.CommandError.{CommandError}
-use Rattle.ec_commands.specs.declared.stop.CommandError.TheVariants.{CannotRead, TooMany, NoMemory, ScriptLine}
+use Rattle.ec_command_parts.specs.declared.stop.Limit.TheVariants.{ScriptBytes, Sources}
+use Rattle.ec_command_parts.specs.declared.stop.CommandError.{CommandError}
+use Rattle.ec_command_parts.specs.declared.stop.CommandError.TheVariants.{CannotRead, TooMany, NoMemory, ScriptLine}
 use Rattle.ec_commands.proofs.Files.{told_both, told_on}
 use Rattle.ec_commands.proofs.Named.{not_past}
 use Rattle.ec_commands.proofs.RunComplete.{not_broken}
@@ -24,8 +24,8 @@ use Rattle.ec_build.specs.declared.building.Built.{Built}
 use Rattle.ec_compile.specs.Inputs.{AreExecInputs, HasMap, HasScript, StopsReadingScript, StopsReadingExec}
 use Rattle.ec_compile.specs.Builds.{RefusesBuild}
 use Rattle.ec_compile.specs.Execs.{IsExecBuilt, StopsLoadingExec, StopsBeforeRun, AcceptsExec}
-use Rattle.ec_compile.specs.declared.stop.CompileStop.{CompileStop}
-use Rattle.ec_compile.specs.declared.stop.CompileStop.TheVariants.{Command, Build}
+use Rattle.ec_compile_stops.specs.declared.stop.CompileStop.{CompileStop}
+use Rattle.ec_compile_stops.specs.declared.stop.CompileStop.TheVariants.{Command, Build}
 use Rattle.ec_compile.proofs.Reading.{within_here, inputs_same, no_map_stop, no_source_stop}
 
 -- ---- what was read

@@ -14,12 +14,12 @@ use Rattle.ec_commands.specs.Answers.{IsLeft}
 use Rattle.ec_commands.specs.Runs.{Gives, Shows}
 use Rattle.ec_commands.specs.Stops as commands
 use Rattle.ec_commands.specs.Words.{Words, words_from}
-use Rattle.ec_commands.specs.declared.stop.CommandError.{CommandError}
-use Rattle.ec_commands.specs.declared.stop.CommandError.TheVariants.{CannotWrite}
+use Rattle.ec_command_parts.specs.declared.stop.CommandError.{CommandError}
+use Rattle.ec_command_parts.specs.declared.stop.CommandError.TheVariants.{CannotWrite}
 use Rattle.ec_commands.proofs.RunComplete.{shown_stop}
 use Rattle.ec_compile.proofs.Keeping.{keeps_source}
 use Rattle.ec_compile.specs.Execs.{IsExecLoaded, Executed, ExecStops}
-use Rattle.ec_compile.specs.declared.stop.CompileStop.TheVariants.{Command}
+use Rattle.ec_compile_stops.specs.declared.stop.CompileStop.TheVariants.{Command}
 
 pub executed : (words : Words) (steps : ℕ) (hooks : Gives) (disk : Option Disk) (out : SinkCall) (stop : Option CommandError)
     (machine after : State) (answers : List ScriptLine) (report : EmuReport) (trace : List Access) → IsExecLoaded words disk machine answers

@@ -20,16 +20,16 @@ use Rattle.ec_commands.specs.Counts.{ShowsCounts, counts_of}
 use Rattle.ec_commands.specs.Runs.{Gives}
 use Rattle.ec_commands.specs.Stops as commands
 use Rattle.ec_commands.specs.Words.{Words}
-use Rattle.ec_commands.specs.declared.stop.CommandError.{CommandError}
-use Rattle.ec_commands.specs.declared.stop.CommandError.TheVariants as stops
+use Rattle.ec_command_parts.specs.declared.stop.CommandError.{CommandError}
+use Rattle.ec_command_parts.specs.declared.stop.CommandError.TheVariants as stops
 use Rattle.ec_compile.proofs.Keeping.{keeps_source}
 use Rattle.ec_compile.specs.Builds.{RefusesBuild}
 use Rattle.ec_compile.proofs.Usage.{build_not}
 use Rattle.ec_compile.specs.Gens.{sources_for, most_steps, IsGenLoaded, Generated, FitsGen, StopsGenerating, GenStops}
 use Rattle.ec_compile.specs.Gens.{AcceptsGen}
 use Rattle.ec_compile.specs.Stops.{status_of, IsNamed}
-use Rattle.ec_compile.specs.declared.stop.CompileStop.{CompileStop}
-use Rattle.ec_compile.specs.declared.stop.CompileStop.TheVariants.{Command, Build}
+use Rattle.ec_compile_stops.specs.declared.stop.CompileStop.{CompileStop}
+use Rattle.ec_compile_stops.specs.declared.stop.CompileStop.TheVariants.{Command, Build}
 
 -- an empty script
 emptied : (hooks : Gives) (answers : List ScriptLine) (steps : ℕ) (machine after : State) (report : EmuReport) (trace : List Access)

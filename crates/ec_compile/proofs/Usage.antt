@@ -15,13 +15,13 @@ use Rattle.ec_build.specs.declared.stop.BuildStop.{BuildStop}
 use Rattle.ec_build.specs.declared.stop.BuildStop.TheVariants as building
 use Rattle.ec_commands.specs.Runs.{Gives}
 use Rattle.ec_commands.specs.Words.{Words}
-use Rattle.ec_commands.specs.declared.stop.CommandError.TheVariants as commands
+use Rattle.ec_command_parts.specs.declared.stop.CommandError.TheVariants as commands
 use Rattle.ec_commands.proofs.RunComplete.{shown_stop}
 use Rattle.ec_compile.specs.Execs.{ExecStops}
 use Rattle.ec_compile.specs.Stops.{status_of, build_status, map_status, lex_status, parse_status, check_status}
 use Rattle.ec_compile.specs.Stops.{place_status}
-use Rattle.ec_compile.specs.declared.stop.CompileStop.{CompileStop}
-use Rattle.ec_compile.specs.declared.stop.CompileStop.TheVariants.{Command, Build}
+use Rattle.ec_compile_stops.specs.declared.stop.CompileStop.{CompileStop}
+use Rattle.ec_compile_stops.specs.declared.stop.CompileStop.TheVariants.{Command, Build}
 
 map_not : (stop : MapStop) → map_status stop ≡ 2 → ⊥
 map_not mapping.NotToml e = omega (arith, e)

@@ -13,11 +13,11 @@ use Rattle.ec_build.specs.declared.building.Built.{Built}
 use Rattle.ec_build.specs.declared.stop.BuildStop.{BuildStop}
 use Rattle.ec_commands.specs.Shown.{Told, KeepsAll, Holds}
 use Rattle.ec_commands.specs.Words.{Words, is_build, IsBuild, out_name, words_from}
-use Rattle.ec_commands.specs.declared.stop.Limit.TheVariants.{Sources}
-use Rattle.ec_commands.specs.declared.stop.CommandError.TheVariants.{Usage, CannotWrite, TooMany}
+use Rattle.ec_command_parts.specs.declared.stop.Limit.TheVariants.{Sources}
+use Rattle.ec_command_parts.specs.declared.stop.CommandError.TheVariants.{Usage, CannotWrite, TooMany}
 use Rattle.ec_compile.specs.Inputs.{AreInputs, StopsReadingBuild}
-use Rattle.ec_compile.specs.declared.stop.CompileStop.{CompileStop}
-use Rattle.ec_compile.specs.declared.stop.CompileStop.TheVariants.{Command, Build}
+use Rattle.ec_compile_stops.specs.declared.stop.CompileStop.{CompileStop}
+use Rattle.ec_compile_stops.specs.declared.stop.CompileStop.TheVariants.{Command, Build}
 
 -- ---- what is built
 

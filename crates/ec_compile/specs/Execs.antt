@@ -18,15 +18,15 @@ use Rattle.ec_build.specs.declared.stop.BuildStop.{BuildStop}
 use Rattle.ec_commands.specs.Runs.{Gives, Shows, printed, HasScriptFault}
 use Rattle.ec_commands.specs.Shown.{Told}
 use Rattle.ec_commands.specs.Words.{Words, words_from}
-use Rattle.ec_commands.specs.declared.stop.Limit.TheVariants.{Sources}
-use Rattle.ec_commands.specs.declared.stop.CommandError.{CommandError}
-use Rattle.ec_commands.specs.declared.stop.CommandError.TheVariants.{TooMany, NoMemory, CannotWrite}
-use Rattle.ec_commands.specs.declared.stop.CommandError.TheVariants.{ScriptLine as BadScriptLine}
+use Rattle.ec_command_parts.specs.declared.stop.Limit.TheVariants.{Sources}
+use Rattle.ec_command_parts.specs.declared.stop.CommandError.{CommandError}
+use Rattle.ec_command_parts.specs.declared.stop.CommandError.TheVariants.{TooMany, NoMemory, CannotWrite}
+use Rattle.ec_command_parts.specs.declared.stop.CommandError.TheVariants.{ScriptLine as BadScriptLine}
 use Rattle.ec_compile.specs.Inputs.{AreExecInputs, StopsReadingExec}
 use Rattle.ec_compile.specs.Builds.{AreAccepted}
 use Rattle.ec_compile.specs.Kept.{KeepsSourceOf}
-use Rattle.ec_compile.specs.declared.stop.CompileStop.{CompileStop}
-use Rattle.ec_compile.specs.declared.stop.CompileStop.TheVariants.{Command, Build}
+use Rattle.ec_compile_stops.specs.declared.stop.CompileStop.{CompileStop}
+use Rattle.ec_compile_stops.specs.declared.stop.CompileStop.TheVariants.{Command, Build}
 
 -- ---- the run
 

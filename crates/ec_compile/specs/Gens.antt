@@ -14,11 +14,11 @@ use Rattle.ec_build.specs.Causes.{HasCause}
 use Rattle.ec_build.specs.declared.building.Built.{Built}
 use Rattle.ec_commands.specs.Counts.{counts_of, ShowsCounts}
 use Rattle.ec_commands.specs.Runs.{Gives}
-use Rattle.ec_commands.specs.declared.stop.CommandError.{CommandError}
-use Rattle.ec_commands.specs.declared.stop.CommandError.TheVariants.{NoMemory, CannotWrite}
+use Rattle.ec_command_parts.specs.declared.stop.CommandError.{CommandError}
+use Rattle.ec_command_parts.specs.declared.stop.CommandError.TheVariants.{NoMemory, CannotWrite}
 use Rattle.ec_compile.specs.Kept.{KeepsSourceOf}
-use Rattle.ec_compile.specs.declared.stop.CompileStop.{CompileStop}
-use Rattle.ec_compile.specs.declared.stop.CompileStop.TheVariants.{Command, Build}
+use Rattle.ec_compile_stops.specs.declared.stop.CompileStop.{CompileStop}
+use Rattle.ec_compile_stops.specs.declared.stop.CompileStop.TheVariants.{Command, Build}
 
 -- the generated program for a number, which is its only source
 abbrev pub sources_for : ℕ → List (List ℕ)

@@ -7,9 +7,9 @@ use Rattle.ec_io.specs.Views.{StoreView}
 use Rattle.ec_commands.specs.Shown.{Told, IsWithin, IsPast, StopsReading}
 use Rattle.ec_commands.specs.Sources.{HoldTexts, StopsReadingSources}
 use Rattle.ec_commands.specs.Words.{Words, map_name, script_name, names_from}
-use Rattle.ec_commands.specs.declared.stop.Limit.TheVariants.{MapBytes, ScriptBytes}
-use Rattle.ec_commands.specs.declared.stop.CommandError.{CommandError}
-use Rattle.ec_commands.specs.declared.stop.CommandError.TheVariants.{CannotRead, TooMany, NoMemory}
+use Rattle.ec_command_parts.specs.declared.stop.Limit.TheVariants.{MapBytes, ScriptBytes}
+use Rattle.ec_command_parts.specs.declared.stop.CommandError.{CommandError}
+use Rattle.ec_command_parts.specs.declared.stop.CommandError.TheVariants.{CannotRead, TooMany, NoMemory}
 
 -- the named files hold this map and these sources, which are named from one word on, and are within their limits
 pub record AreInputs (words : Words) (first : ℕ) (map : List ℕ) (sources : List (List ℕ)) (files : Files) : Type 0 where

@@ -2,7 +2,7 @@
 ghost use Rattle.std.specs.Prelude.{◌≡◌, ◌≤◌, ◌↔◌, ℕ, [], None, IfOk, IfErr, OnOk, length};
 ghost use Rattle.ec_io.specs.Causes.{Rose};
 ghost use Rattle.ec_io.specs.Views.{sink_call};
-ghost use Rattle.ec_emu.specs.declared.ask.Ask.{Ask};
+ghost use Rattle.ec_emu_ports.specs.declared.ask.Ask.{Ask};
 ghost use Rattle.ec_avr.specs.Machine.{IsReset, reset_with};
 ghost use Rattle.ec_generate.specs.Generated.{generated, map_text};
 ghost use Rattle.ec_commands.specs.Answers.{IsLeft};
@@ -13,10 +13,10 @@ ghost use Rattle.ec_compile.specs.Stops.{status_of, IsNamed};
 
 use crate::building::{Inputs, compile};
 use crate::executing::FILL;
-use crate::stop::CompileStop;
 use ec_avr::Machine;
 use ec_build::{Built, discard};
 use ec_commands::{CommandError, Loaded, print_counts};
+use ec_compile_stops::CompileStop;
 use ec_emu::{Ports, Script};
 use ec_generate::{generate, map_text};
 use ec_io::Sink;

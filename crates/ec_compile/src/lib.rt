@@ -1,15 +1,11 @@
 //! The commands `build`, `exec` and `gen`: from the named files or a generated program to a HEX text, or to a run.
 #![tactic(auto)]
 
-mod answer;
 mod building;
 mod executing;
 mod generating;
-mod line;
-mod stop;
 
-pub use answer::conclude;
 pub use building::build;
+pub use ec_compile_stops::{CompileStop, conclude, status};
 pub use executing::exec;
 pub use generating::run_generated;
-pub use stop::{CompileStop, status};

@@ -4,6 +4,8 @@ ghost use Rattle.ec_fx.specs.Formats.{format_of, rank_of};
 ghost use Rattle.ec_core.specs.Plain.{plain_type};
 ghost use Rattle.ec_core.specs.ArithmeticTypes.{arithmetic_of, type_of, promoted, common_integer, signed_kind};
 ghost use Rattle.ec_core.specs.ArithmeticTypes.{higher_kind, common_fixed, common, result_type_of};
+ghost use Rattle.ec_core.specs.Operators.{promoted_type, converted_beside};
+ghost use Rattle.ec_core.specs.TypeLaws.{factor_beside};
 
 use crate::types::CType;
 use ec_fx::FxKind;
@@ -127,6 +129,50 @@ impl Arithmetic {
                 Arithmetic::Integer(_) => Arithmetic::Fixed(a),
                 Arithmetic::Fixed(b) => Arithmetic::Fixed(a.common(b)),
             },
+        }
+    }
+
+    /// The type after the integer promotions, which leave a fixed-point type as it is.
+    pub fn promoted(self) -> Arithmetic
+        ensures { result ≡ promoted_type self }
+    {
+        match self {
+            Arithmetic::Integer(a) => Arithmetic::Integer(a.promoted()),
+            Arithmetic::Fixed(_) => self,
+        }
+    }
+
+    /// The type that an operand of this type is brought to beside one of another type: beside an integer an integer
+    /// becomes their common type, and beside a signed fixed-point type an unsigned one its signed counterpart.
+    pub fn converted_beside(self, other: Arithmetic) -> Arithmetic
+        ensures { result ≡ converted_beside self other }
+    {
+        match self {
+            Arithmetic::Integer(a) => match other {
+                Arithmetic::Integer(b) => Arithmetic::Integer(a.common(b)),
+                Arithmetic::Fixed(_) => self,
+            },
+            Arithmetic::Fixed(a) => match other {
+                Arithmetic::Integer(_) => self,
+                Arithmetic::Fixed(b) => Arithmetic::Fixed(FixedType {
+                    kind: if b.kind.format().signed {
+                        signed_kind(a.kind)
+                    } else {
+                        a.kind
+                    },
+                    sat: a.sat,
+                }),
+            },
+        }
+    }
+
+    /// The type that a factor is brought to beside another one: an integer stays as it is.
+    pub fn factor_beside(self, other: Arithmetic) -> Arithmetic
+        ensures { result ≡ factor_beside self other }
+    {
+        match self {
+            Arithmetic::Integer(_) => self,
+            Arithmetic::Fixed(_) => self.converted_beside(other),
         }
     }
 

@@ -11,13 +11,13 @@ ghost use Rattle.ec_declare.specs.Sites.{Walked};
 
 use crate::heads::{head, meant_type};
 use crate::object_types::is_object_type;
-use crate::scopes::{copied_name, push};
+use crate::scopes::copied_name;
 use ec_core::CType;
 use ec_faults::Faults;
 use ec_grammar::tree::{Identifier, NextParam, Param, Params};
 use ec_names::{Tags, first_type_name, judge_specs};
 use ec_operands::type_sort;
-use ec_space::{Name, NoMemory};
+use ec_space::{Name, NoMemory, push};
 use std::alloc::Global;
 
 /// What a parameter declares.

@@ -1,5 +1,5 @@
 //! What is known at a place of a unit.
-ghost use Rattle.std.specs.Prelude.{◌≡◌, ◌∷◌, [], ◌++◌, IfOk, OnOk, Some, false, map, option_map};
+ghost use Rattle.std.specs.Prelude.{◌≡◌, IfOk, OnOk, Some, false, map, option_map};
 ghost use Rattle.ec_space.specs.declared.space.SpaceId.TheVariants.{Generic};
 ghost use Rattle.ec_core.specs.Plain.{plain_type, plain_object, plain_storage};
 ghost use Rattle.ec_names.specs.Names.{plain_names, an_object, with_inside, is_declared_since};
@@ -28,16 +28,6 @@ pub struct Scope {
     pub names: Names,
     /// The objects of the program so far.
     pub objects: Seq<Obj>,
-}
-
-/// One item behind others.
-pub(crate) fn push<T: Drop>(xs: &mut Vec<T>, x: T) -> Result<(), NoMemory>
-    ensures { OnOk result (xs.new.items ≡ xs.old.items ++ x ∷ []) }
-{
-    match xs.push(x) {
-        Ok(()) => Ok(()),
-        Err(_) => Err(NoMemory),
-    }
 }
 
 /// A name with the same bytes.

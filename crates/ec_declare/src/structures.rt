@@ -18,13 +18,13 @@ ghost use Rattle.ec_declare.specs.Sites.{Walked};
 
 use crate::object_types::is_object_type;
 use crate::objects::declared_object;
-use crate::scopes::{copied_name, push};
+use crate::scopes::copied_name;
 use ec_core::{CType, Member, StructDef, size_of, structs_are_laid_out};
 use ec_expr::Known;
 use ec_faults::Faults;
 use ec_grammar::tree::{self, Declarator, NextDeclarator, Structure};
 use ec_names::{Specified, Tags, is_function, judge_specs, struct_place};
-use ec_space::{Name, NoMemory, Seq};
+use ec_space::{Name, NoMemory, Seq, push};
 use std::alloc::Global;
 
 /// What a declarator of a member declares.

@@ -7,16 +7,16 @@ use Rattle.ec_commands.specs.Answers.{IsTold, Answers}
 use Rattle.ec_commands.specs.Runs.{Gives}
 use Rattle.ec_commands.specs.Stops as commands
 use Rattle.ec_commands.specs.Words.{Words, word, is_build, IsRun, IsExecRow, IsGen}
-use Rattle.ec_commands.specs.declared.stop.CommandError.{CommandError}
-use Rattle.ec_commands.specs.declared.stop.CommandError.TheVariants.{Usage}
+use Rattle.ec_command_parts.specs.declared.stop.CommandError.{CommandError}
+use Rattle.ec_command_parts.specs.declared.stop.CommandError.TheVariants.{Usage}
 use Rattle.ec_compile.specs.Execs.{ExecStops}
 use Rattle.ec_compile.specs.Gens.{GenStops}
 use Rattle.ec_compile.proofs.RunGen.{no_gen_usage}
-use Rattle.ec_compile.proofs.Statuses.{never_zero}
+use Rattle.ec_compile_stops.proofs.Statuses.{never_zero}
 use Rattle.ec_compile.proofs.Usage.{no_usage}
 use Rattle.ec_compile.specs.Stops as compiling
-use Rattle.ec_compile.specs.declared.stop.CompileStop.{CompileStop}
-use Rattle.ec_compile.specs.declared.stop.CompileStop.TheVariants.{Command}
+use Rattle.ec_compile_stops.specs.declared.stop.CompileStop.{CompileStop}
+use Rattle.ec_compile_stops.specs.declared.stop.CompileStop.TheVariants.{Command}
 
 second : (a b : Bool) → (a && b) ≡ true → b ≡ true
 second true b e = e

@@ -1,10 +1,11 @@
 //! The top call.
 ghost use Rattle.std.specs.Prelude.{◌≡◌, ◌≤◌, ◌<◌, ◌↔◌, ℕ, true};
 ghost use Rattle.ec_io.specs.Views.{store_view, sink_call};
-ghost use Rattle.ec_emu.specs.declared.ask.Ask.{Ask};
+ghost use Rattle.ec_emu_ports.specs.declared.ask.Ask.{Ask};
 ghost use Rattle.ec_commands.specs.Words.{is_build, IsRun, IsExecRow, IsGen, words_from};
 ghost use Rattle.ec_driver.specs.Commands.{IsNoCommand, Answered, Kept, Completed, KeptCalm};
 
+use ec_command_parts::{Compiling, first_source};
 use ec_commands::{conclude, exec_steps, gen_number, run, run_numbers};
 use ec_compile::{build, conclude as conclude_compiling, exec, run_generated};
 use ec_emu::Ports;
@@ -87,11 +88,11 @@ pub fn tool<S: Store, O: Sink, E: Sink, H: Ports>(
     match exec_steps(words) {
         Some(steps) => {
             let executed = exec(alloc, words, steps, store, out, hooks);
-            conclude_compiling(err, words, 4, executed)
+            conclude_compiling(err, words, first_source(Compiling::Exec), executed)
         }
         None => {
             let built = build(alloc, words, store);
-            conclude_compiling(err, words, 3, built)
+            conclude_compiling(err, words, first_source(Compiling::Build), built)
         }
     }
 }

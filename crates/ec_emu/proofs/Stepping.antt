@@ -14,7 +14,7 @@ use Rattle.ec_avr.specs.Runs.{answers, and_then, LeadsTo}
 use Rattle.ec_avr.specs.Laws.{IsAnswer}
 use Rattle.ec_avr.proofs.PortRead.{read_access-step}
 use Rattle.ec_avr.proofs.Runs.{leads_on, leads_to_its_end, leads_to_its_fault}
-use Rattle.ec_emu.specs.declared.ask.Ask.{Ask}
+use Rattle.ec_emu_ports.specs.declared.ask.Ask.{Ask}
 use Rattle.ec_emu.specs.declared.history.PortHistory.{PortHistory}
 use Rattle.ec_emu.specs.Answers.{Answered, answered, WereAsked, ask_after, asks_after, asks_of, AreGiven}
 use Rattle.ec_emu.specs.History.{IsHistory, ask_of, IsAnsweredBy}

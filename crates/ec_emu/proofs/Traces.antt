@@ -7,7 +7,7 @@ use Rattle.std.proofs.Common.{◌≡◌, ◌+◌, ◌≤◌, ◌<◌, ◌==◌, 
 use Rattle.ec_avr.specs.declared.machine.Access.{Access}
 use Rattle.ec_avr.specs.declared.machine.Access.TheVariants.{Silent, In, Out, Read, Write, Stack}
 use Rattle.ec_avr.specs.Inputs.{reads_of}
-use Rattle.ec_emu.specs.declared.ask.Ask.{Ask}
+use Rattle.ec_emu_ports.specs.declared.ask.Ask.{Ask}
 use Rattle.ec_emu.specs.Answers.{last_written, ask_after, AreGiven, reads_in, writes_in}
 use Rattle.ec_emu.specs.Lines.{port_line, port_lines}
 

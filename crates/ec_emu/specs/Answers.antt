@@ -1,16 +1,10 @@
 -- What the ports of a run are asked, and what they answer.
-use Rattle.std.specs.Prelude.{ℕ, ◌+◌, ◌<◌, ◌^◌, ◌≡◌, ◌⊎◌, ◌==◌, if◌then◌else◌, List, [], ◌∷◌, ◌++◌, Option, Some, None}
-use Rattle.std.specs.Prelude.{take, slice_get}
+use Rattle.std.specs.Prelude.{ℕ, ◌+◌, ◌≡◌, ◌==◌, if◌then◌else◌, List, [], ◌∷◌, ◌++◌, Some, take, slice_get}
 use Rattle.ec_avr.specs.declared.machine.Access.{Access}
 use Rattle.ec_avr.specs.declared.machine.Access.TheVariants.{In, Out}
 use Rattle.ec_avr.specs.Inputs.{reads_of}
-use Rattle.ec_emu.specs.declared.ask.Ask.{Ask}
-
--- an ask that can be made
-pub record IsAsk (ask : Ask) : Type 0 where
-  pub port : ask.port < 256
-  pub index : ask.index < 2 ^ 32
-  pub last : ask.last < 256
+use Rattle.ec_emu_ports.specs.declared.ask.Ask.{Ask}
+pub use Rattle.ec_emu_ports.specs.Answers.{IsAsk, Answered, answered, WereAsked}
 
 -- the byte that some accesses write to a port last, and another where they write none
 abbrev pub last_written : ℕ → ℕ → List Access → ℕ
@@ -27,14 +21,6 @@ abbrev pub AreGiven : (Ask → ℕ → Type 0) → List Access → Type 0
 AreGiven gives trace =
     (n port byte : ℕ) → slice_get trace n ≡ Some (In port byte) → gives (ask_after (take n trace) port) byte
 
--- an ask and the byte that was answered at it
-pub record Answered : Type 0 where
-  pub ask : Ask
-  pub byte : ℕ
-
-abbrev pub answered : Ask → ℕ → Answered
-answered ask byte = record { ask = ask; byte = byte }
-
 -- the asks of the reads among some accesses, one each and in order, where others came before
 abbrev pub asks_after : List Access → List Access → List Answered
 asks_after before [] = []
@@ -44,12 +30,6 @@ asks_after before (a ∷ trace) = asks_after (before ++ a ∷ []) trace
 
 abbrev pub asks_of : List Access → List Answered
 asks_of trace = asks_after [] trace
-
--- Ports that tell what they were asked were asked this besides, and nothing else, or they tell no more. Those that do
--- not tell never do again
-abbrev pub WereAsked : Option (List Answered) → Option (List Answered) → List Answered → Type 0
-WereAsked None new asks = new ≡ None
-WereAsked (Some old) new asks = (new ≡ None) ⊎ (new ≡ Some (old ++ asks))
 
 -- how many accesses read or write a port
 abbrev pub reads_in : List Access → ℕ

@@ -1,7 +1,7 @@
 //! What a run has read from each port and written to it.
 
-use crate::Ask;
 use ec_avr::Access;
+use ec_emu_ports::Ask;
 
 /// The reads and writes of a run so far.
 #[derive(Drop)]
@@ -17,7 +17,7 @@ pub struct PortHistory {
 }
 
 impl PortHistory {
-    ghost use Rattle.std.specs.Prelude.{◌≡◌, List, [], ◌∷◌, ◌++◌, ◌+◌, ◌<◌, ◌^◌, length};
+    ghost use Rattle.std.specs.Prelude.{◌≡◌, List, [], ◌∷◌, ◌++◌, ◌+◌, ◌<◌, ◌^◌, length, option_map};
     ghost use Rattle.ec_avr.specs.declared.machine.Access.{Access};
     ghost use Rattle.ec_emu.specs.History.{IsHistory, ask_of};
 
@@ -41,6 +41,16 @@ impl PortHistory {
             port,
             index: self.reads[usize::from(port)],
             last: self.last[usize::from(port)],
+        }
+    }
+
+    /// The ask of the next step, where it reads this port.
+    pub fn next_ask(&self, port: Option<u8>) -> Option<Ask>
+        ensures { result ≡ option_map (ask_of self.now) port }
+    {
+        match port {
+            Some(port) => Some(self.ask(port)),
+            None => None,
         }
     }
 

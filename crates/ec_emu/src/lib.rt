@@ -4,16 +4,13 @@
 //! `specs/Emulation.antt` what a run is, and `specs/Script.antt` what a script is.
 #![tactic(auto)]
 
-mod ask;
 mod history;
-mod hook;
 mod print;
 mod read;
 mod run;
 mod script;
 
-pub use ask::{Ask, Ports, Rule};
-pub use hook::{Hook, Hooked};
+pub use ec_emu_ports::{Ask, Hook, Hooked, Ports, Rule};
 pub use read::{ScriptStop, read_script};
 pub use run::{EmuEnd, EmuReport, emulate};
 pub use script::{Script, ScriptLine, Scripted};

@@ -1,17 +1,17 @@
 //! Running the machine.
-ghost use Rattle.std.specs.Prelude.{◌≡◌, ◌≤◌, ◌↔◌, ◌<◌, ℕ, List, length};
+ghost use Rattle.std.specs.Prelude.{◌≡◌, ◌≤◌, ◌↔◌, ◌<◌, ℕ, List, length, is_some, unwrap_or};
 ghost use Rattle.ec_avr.specs.declared.machine.Access.{Access};
-ghost use Rattle.ec_avr.specs.Machine.{step, needs_port, StaysUnlessRan};
-ghost use Rattle.ec_emu.specs.declared.ask.Ask.{Ask};
+ghost use Rattle.ec_avr.specs.Machine.{step, needs_port, StaysUnlessRan, is_byte, byte_of};
+ghost use Rattle.ec_emu_ports.specs.declared.ask.Ask.{Ask};
 ghost use Rattle.ec_emu.specs.Answers.{WereAsked, asks_of};
 ghost use Rattle.ec_emu.specs.Emulation.{IsRun, IsPrinted, SinkCalm, RunCause};
 ghost use Rattle.ec_emu.specs.Lines.{port_lines};
 ghost use Rattle.ec_emu.specs.History.{IsAnsweredBy};
 
-use crate::Ports;
 use crate::history::PortHistory;
 use crate::print::print;
 use ec_avr::{FaultKind, Machine, PortAnswer, Stepped};
+use ec_emu_ports::{Ports, answer};
 use ec_io::Sink;
 
 /// How a run ended.
@@ -50,11 +50,19 @@ fn make_step<P: Ports>(machine: &mut Machine, ports: &mut P, history: &PortHisto
     ensures passed_on { (ask : Ask) (byte : ℕ) → P.passed_on ports.new ask byte ↔ P.passed_on ports.old ask byte }
     ensures held { P.held ports.new ≡ P.held ports.old }
 {
-    let answer = match machine.needs_port() {
-        Some(port) => PortAnswer::Byte(ports.ask(history.ask(port))),
+    let byte = answer(ports, history.next_ask(machine.needs_port()));
+    machine.step(given(byte))
+}
+
+/// What a step is given, where ports answered a byte or were not asked.
+fn given(byte: Option<u8>) -> PortAnswer
+    ensures is { is_byte result ≡ is_some byte }
+    ensures value { byte_of result ≡ unwrap_or byte 0 }
+{
+    match byte {
+        Some(byte) => PortAnswer::Byte(byte),
         None => PortAnswer::Nothing,
-    };
-    machine.step(answer)
+    }
 }
 
 fn report(history: &PortHistory, end: EmuEnd) -> EmuReport

@@ -2,7 +2,7 @@
 ghost use Rattle.std.specs.Prelude.{◌≡◌, ◌==◌, EachIndex, Some, option_map, position, slice_index};
 ghost use Rattle.ec_emu.specs.Scripted.{ArePlaces, IsScripted, line_of, place_of};
 
-use crate::{Ask, Ports};
+use ec_emu_ports::{Ask, Ports, listed_byte};
 use ec_space::Seq;
 
 /// What a port answers.
@@ -87,13 +87,10 @@ impl<H: Ports> Ports for Scripted<'_, H> {
 
     fn ask(&mut self, ask: Ask) -> u8 {
         match self.script.line_of(ask.port) {
-            Some(line) => {
-                if line.hook {
-                    self.hooks.ask(ask)
-                } else {
-                    line.bytes.get(ask.index as usize).copied().unwrap_or(0)
-                }
-            }
+            Some(line) => match listed_byte(line.hook, line.bytes.as_slice(), ask.index) {
+                Some(byte) => byte,
+                None => self.hooks.ask(ask),
+            },
             None => 0,
         }
     }

@@ -1,15 +1,11 @@
 -- Declarations of functions at file scope (ISO/IEC 9899:1999, 6.7.5.3), and the rules that they can break.
-use Rattle.std.specs.Prelude.{ℕ, Bool, true, false, not, ◌&&◌, ◌||◌, Option, Some, None, List, [], ◌∷◌, length}
+use Rattle.std.specs.Prelude.{ℕ, Bool, true, false, ◌&&◌, ◌||◌, Option, List, [], ◌∷◌, length}
 use Rattle.ec_faults.specs.Faults.{Judgement, rule}
 use Rattle.ec_grammar.specs.Trees as t
-use Rattle.ec_core.specs.Operators.{same_type}
-use Rattle.ec_core.specs.Plain.{PlainType}
-use Rattle.ec_core.specs.Typing.{int}
 use Rattle.ec_names.specs.declared.linkage.Linkage.{Linkage}
 use Rattle.ec_names.specs.declared.specifiers.Specified.{Specified}
 use Rattle.ec_names.specs.declared.specifiers.Storage.{Storage}
 use Rattle.ec_names.specs.declared.specifiers.StorageWord.{StorageWord}
-use Rattle.ec_names.specs.declared.specifiers.StorageWord.TheVariants.{Extern, Static}
 use Rattle.ec_names.specs.Definitions.{number_of}
 use Rattle.ec_names.specs.Linkage.{linkage_of}
 use Rattle.ec_names.specs.Names as names
@@ -20,6 +16,7 @@ use Rattle.ec_declare.specs.Sites.{Site, on}
 use Rattle.ec_file_scope.specs.FileNames.{a_function, FileName, conflicts, earlier_link}
 use Rattle.ec_file_scope.specs.FileObjects.{word_of, is_started}
 use Rattle.ec_file_scope.specs.States.{Setting, State, with_name}
+pub use Rattle.ec_unit_parts.specs.Mains.{is_other_result, is_static}
 
 -- ---- names of functions
 
@@ -44,20 +41,11 @@ abbrev pub with_function_name : Setting → List ℕ → Linkage → (defined : 
 with_function_name r n linkage defined f s =
     with_name n (function_named r n linkage f) (function_name r n linkage defined f) s
 
--- 18: a result other than int, a parameter, or `static`
-abbrev pub is_other_result : Option PlainType → Bool
-is_other_result None = false
-is_other_result (Some ty) = not (same_type ty int)
-
 abbrev pub has_params : List ParamDeclared → Bool
 has_params [] = false
 has_params (p ∷ ps) = true
 
-abbrev pub is_static : Option StorageWord → Bool
-is_static None = false
-is_static (Some Extern) = false
-is_static (Some Static) = true
-
+-- 18: a result other than int, a parameter, or `static`
 abbrev pub is_other_main : Option StorageWord → FunctionDeclared → Bool
 is_other_main word f = is_other_result f.returns || has_params f.params || is_static word
 

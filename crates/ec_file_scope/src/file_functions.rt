@@ -1,6 +1,5 @@
 //! Declarations of functions at file scope (ISO/IEC 9899:1999, 6.7.5.3).
-ghost use Rattle.std.specs.Prelude.{◌≡◌, IfOk, OnOk, false, map, length, option_map};
-ghost use Rattle.ec_core.specs.Plain.{plain_type};
+ghost use Rattle.std.specs.Prelude.{◌≡◌, IfOk, OnOk, false, map, length};
 ghost use Rattle.ec_faults.specs.Faults.{all_judged};
 ghost use Rattle.ec_grammar.specs.Views.{view_star, view_params, view_init_declarator};
 ghost use Rattle.ec_names.specs.Names.{plain_named};
@@ -8,7 +7,7 @@ ghost use Rattle.ec_declare.specs.Functions.{plain_declared_function, function_d
 ghost use Rattle.ec_declare.specs.Params.{plain_param};
 ghost use Rattle.ec_declare.specs.Sites.{Walked};
 ghost use Rattle.ec_file_scope.specs.FileFunctions.{function_link, function_name, function_named, with_function_name};
-ghost use Rattle.ec_file_scope.specs.FileFunctions.{is_other_result, has_params, is_static, is_other_main};
+ghost use Rattle.ec_file_scope.specs.FileFunctions.{has_params, is_other_main};
 ghost use Rattle.ec_file_scope.specs.FileFunctions.{function_rules, named_function_sites, after_function};
 ghost use Rattle.ec_file_scope.specs.FileFunctions.{file_function_sites};
 ghost use Rattle.ec_file_scope.specs.FileNames.{plain_file_name};
@@ -17,15 +16,14 @@ ghost use Rattle.ec_file_scope.specs.States.{plain_setting, plain_state, IsSound
 use crate::file_names::{FileKind, FileName, conflicts, earlier_link};
 use crate::file_objects::{is_started, word_of};
 use crate::states::{Setting, State};
-use ec_core::CType;
 use ec_declare::{
     FunctionDeclared, ParamDeclared, copied_name, copied_type, declared_function, param_types,
 };
 use ec_faults::Faults;
-use ec_forms::int;
 use ec_grammar::tree::{Identifier, InitDeclarator, Params};
 use ec_names::{Linkage, Named, Specified, Storage, StorageWord, is_main, linkage_of, number_of};
 use ec_space::{Name, NoMemory};
+use ec_unit_parts::is_other_form;
 use std::alloc::Global;
 
 fn function_name(
@@ -70,15 +68,6 @@ fn function_named(
     })
 }
 
-fn is_other_result(ty: &Option<CType>) -> bool
-    ensures { result ≡ is_other_result (option_map plain_type ty.now) }
-{
-    match ty {
-        None => false,
-        Some(ty) => !ty.is_same(&int()),
-    }
-}
-
 fn has_params(params: &[ParamDeclared]) -> bool
     ensures { result ≡ has_params (map plain_param params.now) }
 {
@@ -88,19 +77,10 @@ fn has_params(params: &[ParamDeclared]) -> bool
     }
 }
 
-fn is_static(word: Option<StorageWord>) -> bool
-    ensures { result ≡ is_static word }
-{
-    match word {
-        None | Some(StorageWord::Extern) => false,
-        Some(StorageWord::Static) => true,
-    }
-}
-
 fn is_other_main(word: Option<StorageWord>, f: &FunctionDeclared) -> bool
     ensures { result ≡ is_other_main word (plain_declared_function f.now) }
 {
-    is_other_result(&f.returns) || has_params(&f.params) || is_static(word)
+    is_other_form(word, &f.returns, has_params(&f.params))
 }
 
 fn judge_function(

@@ -13,9 +13,10 @@ use crate::uses::is_no_scalar;
 use ec_core::{Arithmetic, BinOp, CType, Expr, Node, PlaceExpr};
 use ec_faults::Faults;
 use ec_fx::Mode;
+use ec_operand_types::can_be_stepped;
 use ec_operands::{
     Modes, Operand, as_value, boxed, brought, is_aggregate, is_unsuited, judge_conversion, made,
-    mode_of, promoted_type, sort_of, suits, type_sort, valued,
+    mode_of, sort_of, suits, type_sort, valued,
 };
 use ec_space::NoMemory;
 use std::alloc::Global;
@@ -151,7 +152,7 @@ fn outcome(op: BinOp, s: Arithmetic, t: Arithmetic) -> Arithmetic
     ensures { result ≡ (operation_types op s t).result }
 {
     match op {
-        BinOp::Shl | BinOp::Shr => promoted_type(s),
+        BinOp::Shl | BinOp::Shr => s.promoted(),
         _ => s.common(t),
     }
 }
@@ -266,7 +267,7 @@ pub fn step(modes: Modes, up: bool, prefix: bool, x: Option<Operand>) -> Option<
                 ..
             },
         ) => {
-            if type_sort(&ty).is_scalar() && !konst {
+            if can_be_stepped(type_sort(&ty), konst) {
                 valued(Some(made(modes, ty, Node::Step { up, prefix, place })))
             } else {
                 drop((ty, place));

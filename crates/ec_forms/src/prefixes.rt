@@ -12,9 +12,7 @@ ghost use Rattle.ec_forms.specs.Nodes.{unary_operation, negated, prefixed};
 use crate::uses::condition;
 use ec_core::{Arithmetic, CType, Expr, Node, PlaceExpr, UnOp};
 use ec_faults::Faults;
-use ec_operands::{
-    Modes, Operand, as_value, boxed, boxed_in, convert, made, promoted_type, sort_of, valued,
-};
+use ec_operands::{Modes, Operand, as_value, boxed, boxed_in, convert, made, sort_of, valued};
 use ec_space::NoMemory;
 use std::alloc::Global;
 
@@ -144,7 +142,7 @@ pub fn pointed(alloc: Global, e: Expr) -> Result<Option<Operand>, NoMemory>
 fn promoted(t: Arithmetic) -> CType
     ensures { plain_type result ≡ type_of (promoted_type t) }
 {
-    promoted_type(t).to_type()
+    t.promoted().to_type()
 }
 
 fn plus(alloc: Global, modes: Modes, e: Expr) -> Result<Option<Operand>, NoMemory>

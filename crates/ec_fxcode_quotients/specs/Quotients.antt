@@ -3,8 +3,8 @@
 -- remainder, each with a byte more than the divisor has, and above them the number that is divided, at the top of n
 -- bytes: the quotient takes its place bit by bit from below. R30 counts the bits, and R31 is 255 where the result is
 -- negative. R0, R1, R30 and R31 are work registers.
-use Rattle.std.specs.Prelude.{ℕ, suc, ◌+◌, ◌-◌, ◌*◌, ◌/◌, max, Bool, pos, negsuc, List, [], ◌∷◌, ◌++◌}
-use Rattle.ec_isa.specs.declared.instructions.Instr.TheVariants.{Adc, Mov, Ldi, Eor, Dec, Brbs, Brbc, Rjmp}
+use Rattle.std.specs.Prelude.{ℕ, suc, ◌+◌, ◌-◌, ◌*◌, ◌/◌, max, Bool, pos, List, [], ◌∷◌, ◌++◌}
+use Rattle.ec_isa.specs.declared.instructions.Instr.TheVariants.{Adc, Mov, Ldi, Eor, Brbc, Rjmp}
 use Rattle.ec_fx.specs.declared.formats.Format.{Format}
 use Rattle.ec_fx.specs.declared.numbers.Mode.{Mode}
 use Rattle.ec_asm.specs.declared.items.AsmItem.{AsmItem}
@@ -15,7 +15,9 @@ use Rattle.ec_asm.specs.declared.pieces.Operator.TheVariants.{Sum, Difference}
 use Rattle.ec_asm.specs.Items.{chain}
 use Rattle.ec_asm.specs.Pieces.{operate_code, compare_code}
 use Rattle.ec_select_quotients.specs.Quotients.{mark_code as lowest_code}
-use Rattle.ec_fxcode.specs.Clamps.{take_byte, put_byte, fills_code, clamp_code}
+use Rattle.ec_fxcode.specs.Clamps.{take_byte, put_byte}
+pub use Rattle.ec_fxcode_parts.specs.Quotients.{clear_code, finish_code}
+use Rattle.ec_fxcode_parts.specs.Quotients.{again_code}
 use Rattle.ec_fxcode_shifts.specs.Shifts.{mark_code, turned_code}
 
 -- ---- sizes
@@ -46,10 +48,6 @@ abbrev pub number_at : Location → (b : ℕ) → Location
 number_at w b = further w (2 * b + 2)
 
 -- ---- the operands
-
--- the byte above the divisor, the remainder, and the lowest z bytes of the number are 0
-abbrev pub clear_code : Location → (b z : ℕ) → List AsmItem
-clear_code w b z = Plain (Eor 31 31) ∷ fills_code w b (2 * b + 2 + z)
 
 -- the magnitude of the number, and the byte of its sign in R30
 abbrev pub number_code : (signed : Bool) → (p w : Location) → (a b z : ℕ) → List AsmItem
@@ -106,13 +104,7 @@ turn_words w b n = bring_words w (suc b) n + 2 + take_words w (suc b)
 
 -- as many bits as R30 tells
 abbrev pub turns_code : Location → (b n : ℕ) → List AsmItem
-turns_code w b n =
-    Plain (Rjmp (pos (turn_words w b n)))
-    ∷ (turn_code w b n ++ (Plain (Dec 30) ∷ Plain (Brbs 2 (pos 1)) ∷ Plain (Rjmp (negsuc (turn_words w b n + 2))) ∷ []))
-
--- the sign of the quotient of n bytes at x, and the clamp into a format of k bytes at q
-abbrev pub finish_code : Format → Mode → (x q : Location) → (n k : ℕ) → List AsmItem
-finish_code to mode x q n k = turned_code x x n ++ clamp_code to mode x q n k
+turns_code w b n = Plain (Rjmp (pos (turn_words w b n))) ∷ (turn_code w b n ++ again_code (turn_words w b n))
 
 -- the division of the numbers in the work bytes, which share n bytes with the quotient of m bytes
 abbrev pub solve_code : Format → Mode → (w q : Location) → (b n m k : ℕ) → List AsmItem

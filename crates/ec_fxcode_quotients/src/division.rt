@@ -1,5 +1,5 @@
 //! Long division of magnitudes in memory.
-ghost use Rattle.std.specs.Prelude.{◌≡◌, suc, ◌+◌, ◌*◌, ◌≤◌, ◌<◌, ◌^◌, ◌++◌, pos, negsuc, OnOk, OnErr};
+ghost use Rattle.std.specs.Prelude.{◌≡◌, suc, ◌+◌, ◌*◌, ◌≤◌, ◌<◌, ◌^◌, ◌++◌, pos, OnOk, OnErr};
 ghost use Rattle.ec_runs.specs.Behaviours.{BeginWith};
 ghost use Rattle.ec_asm.specs.Pieces.{HasBytes, HasByte};
 ghost use Rattle.ec_select_quotients.specs.Quotients.{mark_code as lowest_code};
@@ -10,6 +10,7 @@ ghost use Rattle.ec_fxcode_quotients.specs.Quotients.{turn_code, turn_words, tur
 
 use ec_asm::{AsmItem, Location, Operator, compare, operate};
 use ec_fxcode::{put_byte, take_byte};
+use ec_fxcode_parts::again;
 use ec_isa::Instr;
 use ec_space::{NoMemory, Seq};
 
@@ -140,16 +141,6 @@ fn over(words: u16) -> Instr
     Instr::Rjmp { k: words as i16 }
 }
 
-/// A jump back over so many words and the two words before it.
-fn back(words: u16) -> Instr
-    requires { words < 2 ^ 11 }
-    ensures { result ≡ Instr.Rjmp (negsuc (words + 2)) }
-{
-    Instr::Rjmp {
-        k: -3 - words as i16,
-    }
-}
-
 /// Appends code that passes over the taking where the remainder is less.
 fn skip(out: &mut Seq<AsmItem>, work: Location, rest: u8) -> Result<(), NoMemory>
     requires { rest ≤ 9 }
@@ -202,9 +193,5 @@ pub(crate) fn turns(
     let words = bring_words(work, rest, bytes) + 2 + take_words(work, rest);
     out.extend_from_slice(&[AsmItem::Plain(over(words))])?;
     turn(out, work, divisor_bytes, bytes)?;
-    out.extend_from_slice(&[
-        AsmItem::Plain(Instr::Dec { d: 30 }),
-        AsmItem::Plain(Instr::Brbs { s: 2, k: 1 }),
-        AsmItem::Plain(back(words)),
-    ])
+    again(out, words)
 }

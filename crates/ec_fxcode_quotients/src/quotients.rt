@@ -3,34 +3,22 @@ ghost use Rattle.std.specs.Prelude.{◌≡◌, ℕ, ◌+◌, ◌-◌, ◌*◌, �
 ghost use Rattle.ec_runs.specs.Behaviours.{BeginWith};
 ghost use Rattle.ec_asm.specs.Pieces.{HasBytes, HasByte};
 ghost use Rattle.ec_fx.specs.Formats.{IsFormat};
-ghost use Rattle.ec_fxcode.specs.Clamps.{fills_code};
 ghost use Rattle.ec_fxcode_shifts.specs.Shifts.{mark_code, turned_code};
 ghost use Rattle.ec_fxcode.specs.Slots.{IsSlot, ShareNoByte, place_of};
 ghost use Rattle.ec_fxcode_quotients.specs.Quotients.{bits_of, quotient_bytes, number_bytes, further, number_at};
-ghost use Rattle.ec_fxcode_quotients.specs.Quotients.{clear_code, number_code, divisor_code, ready_code, turns_code};
-ghost use Rattle.ec_fxcode_quotients.specs.Quotients.{finish_code, solve_code, quotient_code, divide_code};
+ghost use Rattle.ec_fxcode_quotients.specs.Quotients.{number_code, divisor_code, ready_code, turns_code};
+ghost use Rattle.ec_fxcode_quotients.specs.Quotients.{solve_code, quotient_code, divide_code};
 ghost use Rattle.ec_fxcode_quotients.specs.QuotientLaws.{IsOperandFormat};
 
 use crate::division::{further, turns};
 use ec_asm::{AsmItem, Location, Slot};
 use ec_fx::{Format, Mode};
-use ec_fxcode::{clamp, fills, place_of};
+use ec_fxcode::place_of;
+use ec_fxcode_parts::{clear_work, finish_quotient};
 use ec_fxcode_shifts::{mark, turned};
 use ec_isa::Instr;
 use ec_space::{NoMemory, Seq};
 use std::alloc::Global;
-
-/// Appends code that clears the byte above the divisor, the remainder, and the lowest bytes of the number.
-fn clear(out: &mut Seq<AsmItem>, work: Location, divisor_bytes: u8, low: u8) -> Result<(), NoMemory>
-    requires work { HasBytes work (2 * divisor_bytes + 2 + low) }
-    requires divisor { divisor_bytes ≤ 8 }
-    requires low { low ≤ 13 }
-    ensures ok { OnOk result (out.new.items ≡ out.old.items ++ clear_code work divisor_bytes low) }
-    ensures err { OnErr result (BeginWith out.old.items out.new.items) }
-{
-    out.extend_from_slice(&[AsmItem::Plain(Instr::Eor { d: 31, r: 31 })])?;
-    fills(out, work, divisor_bytes, 2 * divisor_bytes + 2 + low)
-}
 
 /// Appends code that brings the magnitude of the number to the work bytes, and its sign to R30.
 fn number(
@@ -111,7 +99,7 @@ fn ready(
         ++ ready_code of.signed of.divisor_signed of.number of.divisor work of.bytes of.divisor_bytes low bits) }
     ensures err { OnErr result (BeginWith out.old.items out.new.items) }
 {
-    clear(out, work, of.divisor_bytes, low)?;
+    clear_work(out, work, of.divisor_bytes, low)?;
     let at = further(work, 2 * of.divisor_bytes + 2 + low);
     number(out, of.signed, of.number, of.bytes, at)?;
     divisor(
@@ -122,30 +110,6 @@ fn ready(
         work,
         bits,
     )
-}
-
-/// Appends code that gives the quotient its sign, and brings it into the format of the result.
-fn finish(
-    out: &mut Seq<AsmItem>,
-    format: Format,
-    mode: Mode,
-    quotient: Location,
-    bytes: u8,
-    to: Location,
-    to_bytes: u8,
-) -> Result<(), NoMemory>
-    requires format { IsFormat format }
-    requires bits { to_bytes * 8 ≡ format.bits }
-    requires quotient { HasBytes quotient bytes }
-    requires quotient_byte { (i : ℕ) → i < bytes → HasByte quotient i }
-    requires to { HasBytes to to_bytes }
-    requires to_byte { (i : ℕ) → i < to_bytes → HasByte to i }
-    requires some { 1 ≤ bytes }
-    ensures ok { OnOk result (out.new.items ≡ out.old.items ++ finish_code format mode quotient to bytes to_bytes) }
-    ensures err { OnErr result (BeginWith out.old.items out.new.items) }
-{
-    turned(out, quotient, quotient, bytes)?;
-    clamp(out, quotient, bytes, to, format, mode)
 }
 
 /// Appends code that divides the numbers in the work bytes, and brings the quotient to its place.
@@ -176,7 +140,7 @@ fn solve(
 {
     turns(out, work, divisor_bytes, bytes)?;
     let quotient = further(work, 2 * divisor_bytes + 2);
-    finish(out, format, mode, quotient, quotient_bytes, to, to_bytes)
+    finish_quotient(out, format, mode, quotient, quotient_bytes, to, to_bytes)
 }
 
 /// Appends the code of a division with a quotient of so many bits.

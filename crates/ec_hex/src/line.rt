@@ -4,6 +4,7 @@ ghost use Rattle.ec_hex.specs.Bytes.{digits_of, total};
 ghost use Rattle.ec_hex.specs.Text.{checksum, code_of, record_line};
 
 use crate::text::digit_of;
+use ec_hex_parts::checksum_of;
 use std::marker::Model;
 
 /// The record types that are written, of those of the Intel HEX format.
@@ -96,7 +97,7 @@ pub fn sum(bytes: &[u8]) -> u8
 fn checksum(head: &[u8], bytes: &[u8]) -> u8
     ensures { result ≡ checksum (head.now ++ bytes.now) }
 {
-    0u8.wrapping_sub(sum(head).wrapping_add(sum(bytes)))
+    checksum_of(sum(head).wrapping_add(sum(bytes)))
 }
 
 /// The line of a record with up to 16 data bytes, with its LF.

@@ -10,6 +10,7 @@ ghost use Rattle.ec_hex.specs.Stops.{HasStop};
 use crate::record::{Reading, Record, bytes_of, reading_of};
 use crate::text::first_line;
 use ec_avr::Image;
+use ec_hex_parts::is_past;
 use ec_space::{Core, NoMemory, Seq};
 use std::alloc::Global;
 use thiserror::Error;
@@ -111,7 +112,7 @@ fn put_bytes(image: &mut Image, at: u64, bytes: &[u8], line: u32) -> Result<(), 
         (Misfit image.old.core (cells ++ addressed at bytes.now) line) }
 {
     let size = u64::from(image.core.flash_size());
-    if !bytes.is_empty() && size < at + bytes.len() as u64 {
+    if !bytes.is_empty() && is_past(at, bytes.len(), size) {
         return Err(HexStop::OutOfFlash(line));
     }
     for (i, byte) in bytes.iter().enumerate() {

@@ -6,6 +6,7 @@ ghost use Rattle.ec_hex.specs.Views.{record_view, reading_view};
 
 use crate::line::sum;
 use crate::text::digit_number;
+use ec_hex_parts::is_end;
 use ec_space::{NoMemory, Seq};
 use std::alloc::Global;
 
@@ -61,7 +62,7 @@ fn record_of<'a>(kind: u8, offset: u16, bytes: &'a [u8]) -> Option<Record<'a>>
 {
     match (kind, bytes) {
         (0, _) => Some(Record::Data { offset, bytes }),
-        (1, []) => Some(Record::EndOfFile),
+        _ if is_end(kind, bytes.len()) => Some(Record::EndOfFile),
         (2, [high, low]) => Some(Record::Base(16 * u32::from(word(*high, *low)))),
         (4, [high, low]) => Some(Record::Base(65_536 * u32::from(word(*high, *low)))),
         (3, [_, _, _, _]) | (5, [_, _, _, _]) => Some(Record::Start),

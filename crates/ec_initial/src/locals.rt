@@ -17,7 +17,7 @@ ghost use Rattle.ec_initial.specs.Parts.{part_of, scalar_of, scalar_value, whole
 ghost use Rattle.ec_initial.specs.Sites.{Site, sites_in, Walked};
 ghost use Rattle.ec_initial.specs.Locals.{leaf_values, with_items, leaf_sites, items_sites, items_count};
 
-use crate::zeros::{fill, push};
+use crate::zeros::fill;
 use ec_core::{CType, Expr, StructDef};
 use ec_expr::{Known, assignment};
 use ec_faults::Faults;
@@ -26,7 +26,7 @@ use ec_grammar::tree::{Assignment, Initialiser, NextInitialiser};
 use ec_initial_parts::{is_aggregate, is_bare, judge_bare, judge_braces, part_of, scalar_of};
 use ec_names::first_assignment;
 use ec_operands::{Modes, Operand, judge_passing, pass};
-use ec_space::{NoMemory, Seq};
+use ec_space::{NoMemory, Seq, push};
 use std::alloc::Global;
 
 /// The values of leaves, in order, or None where an item broke a rule.

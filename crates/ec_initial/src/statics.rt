@@ -13,14 +13,13 @@ ghost use Rattle.ec_initial.specs.Statics.{static_leaves, with_static_items, sta
 
 use crate::items::item_leaf;
 use crate::locals::items_count;
-use crate::zeros::push;
 use ec_core::{CType, Leaf, LeafInit, StructDef, leaves};
 use ec_expr::Known;
 use ec_faults::Faults;
 use ec_grammar::tree::{Assignment, Initialiser, NextInitialiser};
 use ec_initial_parts::{is_aggregate, judge_braces, part_of, rest_of};
 use ec_operands::type_sort;
-use ec_space::{NoMemory, Seq};
+use ec_space::{NoMemory, Seq, push};
 use std::alloc::Global;
 
 /// The initial values of leaves, in order, or None where an item broke a rule.

@@ -1,5 +1,5 @@
 //! What an initialiser leaves out: zeros.
-ghost use Rattle.std.specs.Prelude.{◌≡◌, ◌∷◌, [], ◌++◌, map, length, IfOk, OnOk};
+ghost use Rattle.std.specs.Prelude.{◌≡◌, ◌++◌, map, length, IfOk, OnOk};
 ghost use Rattle.ec_core.specs.Layout.{plain_leaf, IsObjectType, AreStructs};
 ghost use Rattle.ec_core.specs.Plain.{plain_type, plain_expr, plain_struct};
 ghost use Rattle.ec_initial.specs.Parts.{zero_of, filled};
@@ -7,7 +7,7 @@ ghost use Rattle.ec_initial.specs.Parts.{zero_of, filled};
 use ec_core::{CType, Expr, Leaf, Node, StructDef, leaves};
 use ec_initial_parts::rest_of;
 use ec_operands::{Modes, made, type_sort};
-use ec_space::{NoMemory, Seq};
+use ec_space::{NoMemory, Seq, push};
 use std::alloc::Global;
 
 fn zero_of(alloc: Global, modes: Modes, ty: &CType) -> Result<Expr, NoMemory>
@@ -18,16 +18,6 @@ fn zero_of(alloc: Global, modes: Modes, ty: &CType) -> Result<Expr, NoMemory>
         Ok(made(modes, to, Node::Null))
     } else {
         Ok(made(modes, to, Node::Number(0)))
-    }
-}
-
-/// One item behind others.
-pub(crate) fn push<T: Drop>(xs: &mut Vec<T>, x: T) -> Result<(), NoMemory>
-    ensures { OnOk result (xs.new.items ≡ xs.old.items ++ x ∷ []) }
-{
-    match xs.push(x) {
-        Ok(()) => Ok(()),
-        Err(_) => Err(NoMemory),
     }
 }
 

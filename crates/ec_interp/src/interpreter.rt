@@ -17,11 +17,11 @@ use crate::objects::unset_leaves;
 use crate::run::call;
 use ec_core::{LeafInit, Obj, ObjectPointer, Program, Storage, Value};
 use ec_interp_state::{
-    Behaviour, Context, Event, ObjectState, PortInput, Run, RunError, State, Unanswered, push,
+    Behaviour, Context, Event, ObjectState, PortInput, Run, RunError, State, Unanswered,
 };
 use ec_interp_values::leaf_count;
 use ec_iohw::IoTable;
-use ec_space::{NoMemory, Seq};
+use ec_space::{NoMemory, Seq, push};
 use std::alloc::Global;
 
 // ---- the beginning

@@ -6,5 +6,5 @@ mod state;
 
 pub use behaviour::{Behaviour, Event, PortInput, Run, Told, Unanswered};
 pub use state::{
-    Context, Exit, ObjectState, RunError, State, at, function, object, object_state, push, told,
+    Context, Exit, ObjectState, RunError, State, at, function, object, object_state, told,
 };

@@ -1,5 +1,5 @@
 //! The state of a run.
-ghost use Rattle.std.specs.Prelude.{◌≡◌, [], ◌∷◌, ◌++◌, map, option_map, slice_get, OnOk};
+ghost use Rattle.std.specs.Prelude.{◌≡◌, map, option_map, slice_get, OnOk};
 ghost use Rattle.std.specs.Option.{option_copied};
 ghost use Rattle.ec_core.specs.State.{told, with_event, worked};
 ghost use Rattle.ec_core.specs.Plain.{plain_object, plain_function};
@@ -8,7 +8,7 @@ ghost use Rattle.ec_interp_state.specs.Views.{seen, seen_told, seen_event, seen_
 use crate::behaviour::{Event, PortInput, Told, Unanswered};
 use ec_core::{Func, Obj, Program, Undefined, Value};
 use ec_iohw::IoTable;
-use ec_space::NoMemory;
+use ec_space::{NoMemory, push};
 use std::alloc::Global;
 
 /// What stays the same in a run.
@@ -97,16 +97,6 @@ pub fn at<T>(items: &[T], i: usize) -> Option<&T>
     ensures { option_copied result ≡ slice_get items.now i }
 {
     items.get(i)
-}
-
-/// A list with an item more.
-pub fn push<T: Drop>(items: &mut Vec<T>, x: T) -> Result<(), NoMemory>
-    ensures { OnOk result (items.new.items ≡ items.old.items ++ x ∷ []) }
-{
-    match items.push(x) {
-        Ok(()) => Ok(()),
-        Err(_) => Err(NoMemory),
-    }
 }
 
 /// The declared object with a number.

@@ -7,7 +7,7 @@ ghost use Rattle.ec_core.specs.ArithmeticValues.{HoldsNumber, operand, arithmeti
 ghost use Rattle.ec_core.specs.ArithmeticValues.{SuitsTyped, IsIntegerResult, IsWholeOperand, Suits, unary_value};
 ghost use Rattle.ec_core.specs.ArithmeticValues.{IsKnownType, conversion_value};
 ghost use Rattle.ec_core.specs.Integers.{IsInteger};
-ghost use Rattle.ec_core.specs.Operators.{number_type, converted_beside, promoted_type, operation_types};
+ghost use Rattle.ec_core.specs.Operators.{number_type, operation_types};
 ghost use Rattle.ec_core.specs.Operators.{operation_value, compound_value, brought};
 ghost use Rattle.ec_core.specs.Plain.{plain_type};
 ghost use Rattle.ec_core.specs.Typing.{HaveCompoundArithmetic};
@@ -15,8 +15,8 @@ ghost use Rattle.ec_interp_state.specs.Shows.{Tells};
 ghost use Rattle.ec_interp_state.specs.Suits.{IsMemory, IsAnswered};
 
 use ec_core::{
-    Arithmetic, BinOp, CType, FixedType, IntegerType, UnOp, arithmetic_conversion,
-    arithmetic_operation, is_comparison, signed_kind, unary_operation,
+    Arithmetic, BinOp, CType, IntegerType, UnOp, arithmetic_conversion, arithmetic_operation,
+    is_comparison, unary_operation,
 };
 use ec_fx::{Format, Mode, Num, greatest_number, least_number};
 use ec_interp_state::{RunError, Unanswered};
@@ -267,37 +267,6 @@ pub fn brought(to: Arithmetic, mode: Mode, a: Typed) -> Result<i128, RunError>
 
 // ---- compound assignments
 
-fn converted_beside(x: Arithmetic, y: Arithmetic) -> Arithmetic
-    ensures { result ≡ converted_beside x y }
-{
-    match x {
-        Arithmetic::Integer(s) => match y {
-            Arithmetic::Integer(t) => Arithmetic::Integer(s.common(t)),
-            Arithmetic::Fixed(_) => x,
-        },
-        Arithmetic::Fixed(s) => match y {
-            Arithmetic::Integer(_) => x,
-            Arithmetic::Fixed(t) => Arithmetic::Fixed(FixedType {
-                kind: if t.kind.format().signed {
-                    signed_kind(s.kind)
-                } else {
-                    s.kind
-                },
-                sat: s.sat,
-            }),
-        },
-    }
-}
-
-fn promoted_type(x: Arithmetic) -> Arithmetic
-    ensures { result ≡ promoted_type x }
-{
-    match x {
-        Arithmetic::Integer(t) => Arithmetic::Integer(t.promoted()),
-        Arithmetic::Fixed(_) => x,
-    }
-}
-
 /// The types that two operands are brought to, and that of the result.
 #[derive(Clone, Copy)]
 struct OperationTypes {
@@ -313,13 +282,13 @@ fn operation_types(op: BinOp, x: Arithmetic, y: Arithmetic) -> OperationTypes
 {
     match op {
         BinOp::Shl | BinOp::Shr => OperationTypes {
-            left: promoted_type(x),
+            left: x.promoted(),
             right: y,
-            outcome: promoted_type(x),
+            outcome: x.promoted(),
         },
         _ => OperationTypes {
-            left: converted_beside(x, y),
-            right: converted_beside(y, x),
+            left: x.converted_beside(y),
+            right: y.converted_beside(x),
             outcome: x.common(y),
         },
     }

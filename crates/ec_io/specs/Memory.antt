@@ -1,14 +1,11 @@
 -- Stores and sinks in memory, whose calls fail by their numbers and by the room that is left.
-use Rattle.std.specs.Prelude.{ℕ, ◌+◌, ◌≤◌, ◌<◌, ◌≡◌, ◌==◌, min, Bool, List, Option, None, IsSome, Contains, refl}
+use Rattle.std.specs.Prelude.{ℕ, ◌≤◌, ◌<◌, ◌≡◌, ◌==◌, Bool, List, Option, None, IsSome, Contains, refl}
 use Rattle.std.specs.List.{list_any}
 use Rattle.std.specs.Coded.{Coded, code_by, coded×, coded_ℕ, coded_list, coded_option}
 use Rattle.std.specs.FinMap.{get, code}
 use Rattle.ec_io.specs.Causes.{greatest}
 use Rattle.ec_io.specs.Disk.{Files, Disk}
-
--- the number after a number, which stays at the greatest
-abbrev pub next_call : ℕ → ℕ
-next_call calls = min (calls + 1) greatest
+pub use Rattle.ec_io_parts.specs.Counts.{next_call}
 
 -- the list has the number of the next call
 abbrev pub is_due : List ℕ → ℕ → Bool

@@ -4,6 +4,7 @@ ghost use Rattle.ec_io.specs.Causes.{Rose};
 ghost use Rattle.ec_io.specs.Read.{ReadsFile, Receives};
 
 use crate::Store;
+use ec_io_parts::is_too_long;
 use ec_space::Seq;
 use std::alloc::Global;
 use thiserror::Error;
@@ -50,7 +51,7 @@ pub fn read_file<S: Store>(
         match store.read(&mut buf[..room]) {
             Err(_) => return Err(ReadStop::ReadFault),
             Ok(0) => return Ok(bytes),
-            Ok(n) if bytes.len() + n == most => return Err(ReadStop::TooLong(limit)),
+            Ok(n) if is_too_long(bytes.len(), n, most) => return Err(ReadStop::TooLong(limit)),
             Ok(n) => match bytes.extend_from_slice(&buf[..n]) {
                 Ok(()) => {}
                 Err(_) => return Err(ReadStop::NoMemory),

@@ -1,18 +1,19 @@
 //! Which calls of a store or a sink in memory fail.
 ghost use Rattle.std.specs.Prelude.{◌≡◌, ◌+◌, ◌≤◌, min};
 ghost use Rattle.ec_io.specs.Causes.{Rose, greatest};
-ghost use Rattle.ec_io.specs.Memory.{next_call, is_due};
+ghost use Rattle.ec_io.specs.Memory.{next_call as call_after, is_due};
 
 use crate::Failed;
+use ec_io_parts::next_call;
 use ec_space::Seq;
 
 /// Counts a fault. The count stays at its greatest value once it is reached.
 pub fn fault(faults: &mut u64) -> Failed
-    ensures new { faults.new ≡ next_call faults.old }
+    ensures new { faults.new ≡ call_after faults.old }
     ensures later { faults.old ≤ faults.new }
     ensures rose { Rose faults.old faults.new }
 {
-    *faults = faults.saturating_add(1);
+    *faults = next_call(*faults);
     Failed
 }
 
@@ -34,9 +35,9 @@ impl Schedule {
     /// Counts a call, and tells whether it fails by the list.
     pub fn next(&mut self) -> bool
         ensures due { result ≡ is_due self.old.fail.items self.old.calls }
-        ensures new { self.new ≡ record self.old { calls = next_call self.old.calls } }
+        ensures new { self.new ≡ record self.old { calls = call_after self.old.calls } }
     {
-        self.calls = self.calls.saturating_add(1);
+        self.calls = next_call(self.calls);
         self.fail.as_slice().contains(&self.calls)
     }
 }

@@ -4,6 +4,7 @@ ghost use Rattle.ec_io.specs.Causes.{HasCause, Went};
 ghost use Rattle.ec_io.specs.Written.{WritesAll};
 
 use crate::Sink;
+use ec_io_parts::is_left;
 use thiserror::Error;
 
 /// A write failed after so many bytes went out.
@@ -20,7 +21,7 @@ pub fn write_all<O: Sink>(sink: &mut O, bytes: &[u8]) -> Result<(), Written>
         → Went (O.faults sink.old) (O.faults sink.new) result × O.calm sink.new (room - length bytes.now) }
 {
     let mut done = 0usize;
-    'left: while done < bytes.len() {
+    'left: while is_left(done, bytes.len()) {
         match sink.write(&bytes[done..]) {
             Ok(n) => done += n,
             Err(_) => return Err(Written(done as u64)),

@@ -15,6 +15,7 @@ ghost use Rattle.ec_isa.specs.Formats.{port as port_row, relative as relative_ro
 ghost use Rattle.ec_isa.specs.Formats.{register_bit as register_bit_row};
 
 use crate::instructions::Words;
+use ec_avr_parts::{is_apart, two_registers_word};
 
 /// No fields.
 pub fn bare(opcode: u16) -> Option<Words>
@@ -44,7 +45,7 @@ pub fn two_registers(opcode: u16, d: u8, r: u8) -> Option<Words>
     ensures { result ≡ words_of (two_registers_row opcode d r) }
 {
     if d < 32 && r < 32 {
-        bare(opcode + r as u16 / 16 * 512 + d as u16 * 16 + r as u16 % 16)
+        bare(two_registers_word(opcode, d, r))
     } else {
         None
     }
@@ -93,7 +94,7 @@ pub fn register_beside(pointer: u8, opcode: u16, d: u8) -> Option<Words>
     requires room { opcode ≤ 0x920E }
     ensures { result ≡ words_of (register_beside_row pointer opcode d) }
 {
-    if d < 32 && d != pointer && d != pointer + 1 {
+    if d < 32 && is_apart(pointer, d) {
         bare(opcode + d as u16 * 16)
     } else {
         None

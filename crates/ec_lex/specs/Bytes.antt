@@ -1,5 +1,6 @@
 -- The classes of bytes (ISO/IEC 9899:1999, 5.2.1 and 6.4). A byte is its ASCII code.
-use Rattle.std.specs.Prelude.{ℕ, ◌-◌, ◌==◌, ◌&&◌, ◌||◌, nat_le, not, List, [], ◌∷◌, Bool, false, if◌then◌else◌}
+use Rattle.std.specs.Prelude.{ℕ, ◌-◌, ◌==◌, ◌&&◌, ◌||◌, nat_le, not, Bool, if◌then◌else◌}
+pub use Rattle.ec_lex_pieces.specs.Comments.{begins}
 
 -- space, tab, LF, VT, FF and CR
 abbrev pub is_space : ℕ → Bool
@@ -35,8 +36,3 @@ is_hexadecimal b = is_digit b || ((nat_le 97 b && nat_le b 102) || (nat_le 65 b 
 -- the value of a digit of any base
 abbrev pub digit_value : ℕ → ℕ
 digit_value b = if nat_le b 57 then b - 48 else if nat_le b 70 then b - 55 else b - 87
-
--- whether the bytes begin with one that passes
-abbrev pub begins : (ℕ → Bool) → List ℕ → Bool
-begins test [] = false
-begins test (b ∷ bs) = test b

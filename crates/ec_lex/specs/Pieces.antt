@@ -1,6 +1,6 @@
 -- What the bytes of a text may form (ISO/IEC 9899:1999, 6.4).
-use Rattle.std.specs.Prelude.{ℕ, ◌+◌, ◌≤◌, ◌≡◌, ◌==◌, ◌&&◌, ◌⊎◌, nat_le, not, List, [], ◌∷◌, ◌++◌, length, Bool, true}
-use Rattle.std.specs.Prelude.{Option, Some, None, option_map, if◌then◌else◌, ⊤, codes}
+use Rattle.std.specs.Prelude.{ℕ, ◌≤◌, ◌≡◌, ◌==◌, ◌&&◌, ◌⊎◌, nat_le, not, List, [], ◌∷◌, ◌++◌, length, Bool, true}
+use Rattle.std.specs.Prelude.{Option, Some, None, if◌then◌else◌, ⊤, codes}
 use Rattle.ec_grammar.specs.declared.token.PunctKind.{PunctKind}
 use Rattle.ec_grammar.specs.declared.token.PunctKind.TheVariants.{LeftBrace, RightBrace, LeftParenthesis}
 use Rattle.ec_grammar.specs.declared.token.PunctKind.TheVariants.{RightParenthesis, LeftBracket, RightBracket}
@@ -15,7 +15,8 @@ use Rattle.ec_grammar.specs.declared.token.PunctKind.TheVariants.{CaretAssign, B
 use Rattle.ec_lex.specs.declared.pieces.Form.{Form}
 use Rattle.ec_lex.specs.declared.pieces.Form.TheVariants.{Space, LineComment, Comment, OpenComment, Identifier, Number}
 use Rattle.ec_lex.specs.declared.pieces.Form.TheVariants.{Character, Quote, Punctuator, Directive}
-use Rattle.ec_lex.specs.Bytes.{is_space, is_in_line, is_letter, is_digit, is_word, is_run, begins}
+use Rattle.ec_lex.specs.Bytes.{is_space, is_in_line, is_letter, is_digit, is_word, is_run}
+pub use Rattle.ec_lex_pieces.specs.Comments.{comment_end}
 
 -- the punctuators, longer ones first (6.4.6)
 abbrev pub punctuators : List (List ℕ × PunctKind)
@@ -36,12 +37,6 @@ punctuators =
     ∷ (codes "~", Tilde) ∷ (codes "!", Not) ∷ (codes "/", Slash) ∷ (codes "%", Percent)
     ∷ (codes "<", Less) ∷ (codes ">", Greater) ∷ (codes "^", Caret) ∷ (codes "|", Bar)
     ∷ (codes "?", Question) ∷ (codes ":", Colon) ∷ (codes "=", Assign) ∷ []
-
--- how many bytes there are up to the end of the first `*/`
-abbrev pub comment_end : List ℕ → Option ℕ
-comment_end [] = None
-comment_end (b ∷ bs) =
-    if (b == 42) && begins (λ c. c == 47) bs then Some 2 else option_map (λ n. n + 1) (comment_end bs)
 
 -- a byte that stands for itself in a character constant (6.4.4.4)
 abbrev pub is_plain : ℕ → Bool

@@ -7,11 +7,12 @@ ghost use Rattle.ec_lex.specs.Views.{view_constant, view_directed, view_scope};
 
 use crate::bytes::{is_letter, is_space, word_len};
 use crate::constants::{Constant, character_constant, read_constant};
-use crate::pieces::{Form, comment_end, first_prefix, piece};
+use crate::pieces::{Form, first_prefix, piece};
 use crate::scope::Scope;
 use crate::stop::Header;
 use crate::words::look_up;
 use ec_grammar::{PragmaKind, PragmaState};
+use ec_lex_pieces::{comment_end, is_taken};
 
 /// What a directive says.
 #[derive(Clone, Copy)]
@@ -192,7 +193,10 @@ fn define<'a>(scope: &Scope, bytes: &'a [u8]) -> Option<Directed<'a>>
     ensures { option_map view_directed result ≡ define_of (view_scope scope.now) bytes.now }
 {
     let (name, more) = identifier(skip(bytes))?;
-    if scope.known_word(name).is_some() || scope.defined(name).is_some() {
+    if is_taken(
+        scope.known_word(name).is_some(),
+        scope.defined(name).is_some(),
+    ) {
         return None;
     }
     let (constant, rest) = value(skip(more))?;

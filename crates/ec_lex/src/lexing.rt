@@ -16,6 +16,7 @@ use crate::pieces::{Form, piece};
 use crate::scope::{Define, Scope, name_of};
 use crate::stop::{Cause, Header, LexStop, Refusal};
 use ec_grammar::{Token, TokenKind};
+use ec_lex_pieces::offset;
 use ec_space::{NoMemory, Seq};
 use std::alloc::Global;
 
@@ -174,7 +175,7 @@ fn tokens_of(alloc: Global, text: &[u8]) -> Result<Seq<Token>, LexStop>
     let mut scope = Scope::new(alloc);
     let mut rest = text;
     while !rest.is_empty() {
-        let at = (text.len() - rest.len()) as u32;
+        let at = offset(text, rest);
         match step(&mut scope, alloc, rest) {
             Ok((kind, more)) => match note_token(&mut tokens, at, kind) {
                 Ok(()) => rest = more,

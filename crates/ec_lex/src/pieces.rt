@@ -1,10 +1,11 @@
 //! The pieces of a text: what stands at its front.
 ghost use Rattle.std.specs.Prelude.{◌≡◌, ◌<◌, ◌≤◌, length, map, option_map, IfSome};
-ghost use Rattle.ec_lex.specs.Pieces.{punctuators, comment_end, escaped, is_plain};
+ghost use Rattle.ec_lex.specs.Pieces.{punctuators, escaped, is_plain};
 ghost use Rattle.ec_lex.specs.Reading.{first_prefix, character_at, punctuator_at, piece_at};
 
 use crate::bytes::{is_digit, is_letter, is_space, line_len, run_len, word_len};
 use ec_grammar::PunctKind;
+use ec_lex_pieces::comment_end;
 
 /// What the bytes of a piece form.
 #[derive(Clone, Copy, Debug, PartialEq, Eq)]
@@ -97,21 +98,6 @@ fn punctuator(bytes: &[u8]) -> Option<(PunctKind, &[u8])>
     ensures bound { IfSome result (λ x. length x.1.now ≤ length bytes.now) }
 {
     first_prefix(bytes, &PUNCTUATORS)
-}
-
-/// How many bytes there are up to the end of the first `*/`.
-pub fn comment_end(bytes: &[u8]) -> Option<usize>
-    ensures value { result ≡ comment_end bytes.now }
-    ensures bound { IfSome result (λ n. n ≤ length bytes.now) }
-{
-    let mut rest = bytes;
-    loop {
-        match rest {
-            [b'*', b'/', ..] => return Some(bytes.len() - rest.len() + 2),
-            [_, more @ ..] => rest = more,
-            [] => return None,
-        }
-    }
 }
 
 fn escaped(letter: u8) -> Option<u8>

@@ -3,22 +3,16 @@ use Rattle.std.specs.Prelude.{ℕ, ◌+◌, ◌-◌, ◌%◌, ◌==◌, nat_le, 
 use Rattle.std.specs.Prelude.{slice_get, slice_index, slice_set, option_map, unwrap_or}
 use Rattle.ec_isa.specs.Table.{in_table}
 use Rattle.ec_asm.specs.Change.{Env, Barred}
-use Rattle.ec_asm.specs.Items.{item_words}
 use Rattle.ec_asm.specs.declared.items.AsmItem.{AsmItem}
 use Rattle.ec_asm.specs.declared.items.AsmItem.TheVariants.{Plain, Label, JumpTo, CallTo, BranchTo, LoadPart, LoadObj}
 use Rattle.ec_asm.specs.declared.items.AsmItem.TheVariants.{StoreObj}
+pub use Rattle.ec_place_values.specs.Labels.{label_word}
 use Rattle.ec_locate.specs.Layout.{LayoutView}
 use Rattle.ec_locate.specs.declared.layout.Layout.{Layout}
 
 -- a layout without the room of its lists
 abbrev pub layout_view : Layout → LayoutView
 layout_view y = record { places = y.places.items; initials = y.initials.items; frames = y.frames.items; work = y.work }
-
--- the word where a label stands first, where the items begin at word 0
-abbrev pub label_word : List AsmItem → ℕ → ℕ
-label_word [] l = 0
-label_word (Label k ∷ is) l = if k == l then 0 else label_word is l
-label_word (i ∷ is) l = item_words i + label_word is l
 
 -- the address of the first byte of what a number names; `last` is that of the last byte of the stack
 abbrev pub start_of : LayoutView → (last : ℕ) → ℕ → ℕ

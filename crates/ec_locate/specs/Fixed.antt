@@ -11,6 +11,7 @@ use Rattle.ec_core.specs.Plain.{PlainObject}
 use Rattle.ec_map.specs.declared.map.Fixed1.{Fixed1}
 use Rattle.ec_map.specs.declared.map.Map.{Map}
 use Rattle.ec_map.specs.declared.region.Region.{Region}
+use Rattle.ec_map_rules.specs.Rules.{first_met}
 use Rattle.ec_locate.specs.Entries.{is_static}
 use Rattle.ec_locate.specs.declared.entries.Entry.{Entry}
 use Rattle.ec_locate.specs.declared.fixed.Block.{Block}
@@ -71,8 +72,7 @@ is_in_bank b = lies_in_bank b.bank b.at (b.at + b.size)
 -- the first of two regions that a block meets
 abbrev pub first_of : Block → (here : Region) (this : RegionName) (there : Region) (that : RegionName)
     → Option RegionName
-first_of b here this there that =
-    if meets b here then Some this else (if meets b there then Some that else None)
+first_of b here this there that = first_met (meets b here) this (meets b there) that
 
 -- the first region of its bank that a block meets
 abbrev pub region_of_bank : Map → Block → Bank → Option RegionName

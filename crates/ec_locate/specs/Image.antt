@@ -3,11 +3,9 @@ use Rattle.std.specs.Prelude.{ℕ, ◌+◌, Bool, true, List, [], ◌∷◌, ◌
 use Rattle.std.specs.Prelude.{option_map, unwrap_or, slice_get, slice_index, false}
 use Rattle.std.specs.Int.{w128, cast_unsigned}
 use Rattle.ec_space.specs.Bytes.{little_endian}
-use Rattle.ec_space.specs.Spaces.{pointer_number}
 use Rattle.ec_space.specs.declared.space.Bank.{Bank}
 use Rattle.ec_space.specs.declared.space.Bank.TheVariants.{Flash, Data}
 use Rattle.ec_space.specs.declared.space.Place.{Place}
-use Rattle.ec_space.specs.declared.space.Pointer.TheVariants.{At}
 use Rattle.ec_space.specs.declared.space.SpaceId.{SpaceId}
 use Rattle.ec_space.specs.declared.space.SpaceId.TheVariants.{Generic}
 use Rattle.ec_avr.specs.declared.image.Image.{Image}
@@ -18,6 +16,7 @@ use Rattle.ec_core.specs.Plain.{PlainStruct, PlainType, pointer, PlainObject}
 use Rattle.ec_core.specs.Plain.{PlainStorage, static, local, param, register, PlainProgram}
 use Rattle.ec_core.specs.declared.programs.LeafInit.{LeafInit}
 use Rattle.ec_core.specs.declared.programs.LeafInit.TheVariants.{Number, Null, Address}
+pub use Rattle.ec_place_values.specs.Pointers.{pointer_to}
 use Rattle.ec_locate.specs.Code.{overwritten, resolved}
 use Rattle.ec_locate.specs.Layout.{LayoutView}
 
@@ -35,11 +34,6 @@ flash_of image = record { bytes = image.bytes.items; written = image.written.ite
 abbrev pub space_of : PlainType → SpaceId
 space_of (pointer space const to) = space
 space_of ty = Generic
-
--- the number of a pointer to a byte of an object
-abbrev pub pointer_to : SpaceId → Option Place → (offset : ℕ) → ℕ
-pointer_to space None offset = 0
-pointer_to space (Some p) offset = pointer_number space (At (record { bank = p.bank; offset = p.offset + offset }))
 
 -- the number that the bytes of an initial value make, in two's complement
 abbrev pub value_number : List Place → PlainType → LeafInit → ℕ

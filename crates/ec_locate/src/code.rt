@@ -10,30 +10,12 @@ ghost use Rattle.ec_asm.specs.Placed.{bytes_of_all, instructions, code_image};
 ghost use Rattle.ec_locate.specs.Code.{layout_view, label_word, start_of, address_of, resolved, has_words, overwritten};
 
 use crate::layout::Layout;
-use ec_asm::{AsmItem, item_words};
+use ec_asm::AsmItem;
 use ec_avr::Image;
 use ec_isa::{Instr, encode};
+use ec_place_values::label_word;
 use ec_space::{NoMemory, Seq};
 use std::alloc::Global;
-
-/// The word where a label stands first.
-fn label_word(items: &[AsmItem], label: u64) -> u16
-    requires { code_words items.now < 2 ^ 16 }
-    ensures { result ≡ label_word items.now label }
-{
-    let mut word = 0u16;
-    for item in items {
-        match item {
-            AsmItem::Label(placed) => {
-                if *placed == label {
-                    return word;
-                }
-            }
-            _ => word += u16::from(item_words(*item)),
-        }
-    }
-    word
-}
 
 /// The address of the first byte of what a number names.
 fn start_of(layout: &Layout, last: u32, object: u16) -> u32

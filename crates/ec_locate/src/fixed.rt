@@ -11,6 +11,7 @@ use crate::entries::{Entry, is_static};
 use crate::stop::RegionName;
 use ec_core::Obj;
 use ec_map::{Fixed1, Map, Region};
+use ec_map_rules::first_met;
 use ec_space::{Bank, Name, NoMemory, Seq};
 use std::alloc::Global;
 
@@ -151,13 +152,7 @@ fn first_of(
 ) -> Option<RegionName>
     ensures { result ≡ first_of block here this there that }
 {
-    if meets(block, here) {
-        Some(this)
-    } else if meets(block, there) {
-        Some(that)
-    } else {
-        None
-    }
+    first_met(meets(block, here), this, meets(block, there), that)
 }
 
 /// The first region of its bank that a block meets.

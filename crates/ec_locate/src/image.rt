@@ -1,6 +1,6 @@
 //! The contents of the flash: the initial values of static objects, and the code.
 ghost use Rattle.std.specs.Prelude.{◌≡◌, ◌<◌, ◌≤◌, ◌^◌, ◌++◌, IsTrue, All, IfOk, OnOk, length, map};
-ghost use Rattle.std.specs.Prelude.{slice_get, [], true};
+ghost use Rattle.std.specs.Prelude.{[], true};
 ghost use Rattle.std.specs.List.{AllByRecursion};
 ghost use Rattle.std.specs.Option.{option_copied};
 ghost use Rattle.ec_space.specs.Bytes.{little_endian};
@@ -8,7 +8,7 @@ ghost use Rattle.ec_asm.specs.Items.{code_words};
 ghost use Rattle.ec_core.specs.Layout.{AreStructs, IsObjectType, PlainLeaf, plain_leaf, scalar_size, leaves_of_type};
 ghost use Rattle.ec_core.specs.Plain.{plain_struct, plain_type, plain_object, plain_storage, plain_program};
 ghost use Rattle.ec_locate.specs.Code.{layout_view, has_words};
-ghost use Rattle.ec_locate.specs.Image.{flash_of, space_of, pointer_to, value_number, value_bytes, leaf_bytes};
+ghost use Rattle.ec_locate.specs.Image.{flash_of, space_of, value_number, value_bytes, leaf_bytes};
 ghost use Rattle.ec_locate.specs.Image.{object_bytes, with_bytes, values_at, with_values, with_objects};
 ghost use Rattle.ec_locate.specs.Image.{image as image_of};
 ghost use Rattle.ec_space.specs.declared.Core.TheVariants.{Small};
@@ -18,6 +18,7 @@ use crate::layout::Layout;
 use ec_asm::AsmItem;
 use ec_avr::Image;
 use ec_core::{CType, Leaf, LeafInit, Obj, Program, Storage, StructDef, leaves};
+use ec_place_values::{init_at, pointer_to};
 use ec_space::{Bank, Core, NoMemory, Place, Seq, SpaceId};
 use std::alloc::Global;
 
@@ -43,22 +44,6 @@ fn space_of(ty: &CType) -> SpaceId
     match ty {
         CType::Ptr { space, .. } => *space,
         _ => SpaceId::Generic,
-    }
-}
-
-/// The number of a pointer to a byte of an object.
-fn pointer_to(space: SpaceId, place: Option<Place>, offset: u32) -> u128
-    ensures { result ≡ pointer_to space place offset }
-{
-    match place {
-        None => 0,
-        Some(place) => {
-            let address = u128::from(place.offset) + u128::from(offset);
-            match (space, place.bank) {
-                (SpaceId::Generic, Bank::Data) => 0x80_0000 + address,
-                _ => address,
-            }
-        }
     }
 }
 
@@ -102,12 +87,6 @@ fn put_value(
         Some(init) => put_number(out, scalar_size(ty), value_number(places, ty, init)),
         None => Ok(()),
     }
-}
-
-fn init_at(inits: &[LeafInit], i: usize) -> Option<&LeafInit>
-    ensures { option_copied result ≡ slice_get inits.now i }
-{
-    inits.get(i)
 }
 
 /// The initial values of leaves, one after another.

@@ -1,8 +1,7 @@
 //! Compound assignments and steps.
 ghost use Rattle.std.specs.Prelude.{◌≡◌, ◌∷◌, OnOk};
-ghost use Rattle.ec_core.specs.Operators.{number_type, converted_beside, promoted_type, step_operator};
+ghost use Rattle.ec_core.specs.Operators.{number_type, step_operator};
 ghost use Rattle.ec_core.specs.Plain.{plain_type};
-ghost use Rattle.ec_core.specs.TypeLaws.{factor_beside};
 ghost use Rattle.ec_core.specs.Typing.{int};
 ghost use Rattle.ec_lower_emit.specs.Emits.{Emits};
 ghost use Rattle.ec_lower_accesses.specs.Sites.{plain_site};
@@ -11,7 +10,7 @@ ghost use Rattle.ec_core.specs.ArithmeticTypes.{type_of};
 ghost use Rattle.ec_lower_code.specs.Code.{temp, store_to, update_types, update_code, keeping_code};
 ghost use Rattle.ec_lower_code.specs.Code.{moving_code, change_code, postfix_code, step_code};
 
-use ec_core::{Arithmetic, BinOp, CType, FixedType, IntegerType, signed_kind};
+use ec_core::{Arithmetic, BinOp, CType, IntegerType};
 use ec_fx::Mode;
 use ec_ir::Ir;
 use ec_lower_accesses::{Site, advance, advance_behind, put_store};
@@ -31,56 +30,6 @@ fn number_type(ty: &CType) -> Arithmetic
     }
 }
 
-fn converted_beside(x: Arithmetic, y: Arithmetic) -> Arithmetic
-    ensures { result ≡ converted_beside x y }
-{
-    match x {
-        Arithmetic::Integer(a) => match y {
-            Arithmetic::Integer(b) => Arithmetic::Integer(a.common(b)),
-            Arithmetic::Fixed(_) => x,
-        },
-        Arithmetic::Fixed(a) => match y {
-            Arithmetic::Integer(_) => x,
-            Arithmetic::Fixed(b) => Arithmetic::Fixed(FixedType {
-                kind: if b.kind.format().signed {
-                    signed_kind(a.kind)
-                } else {
-                    a.kind
-                },
-                sat: a.sat,
-            }),
-        },
-    }
-}
-
-fn factor_beside(x: Arithmetic, y: Arithmetic) -> Arithmetic
-    ensures { result ≡ factor_beside x y }
-{
-    match x {
-        Arithmetic::Integer(_) => x,
-        Arithmetic::Fixed(a) => match y {
-            Arithmetic::Integer(_) => x,
-            Arithmetic::Fixed(b) => Arithmetic::Fixed(FixedType {
-                kind: if b.kind.format().signed {
-                    signed_kind(a.kind)
-                } else {
-                    a.kind
-                },
-                sat: a.sat,
-            }),
-        },
-    }
-}
-
-fn promoted_type(x: Arithmetic) -> Arithmetic
-    ensures { result ≡ promoted_type x }
-{
-    match x {
-        Arithmetic::Integer(a) => Arithmetic::Integer(a.promoted()),
-        Arithmetic::Fixed(_) => x,
-    }
-}
-
 /// The types of an operation: those that its operands are brought to, and that of its result.
 #[derive(Clone, Copy)]
 struct Types {
@@ -96,18 +45,18 @@ fn update_types(op: BinOp, x: Arithmetic, y: Arithmetic) -> Types
 {
     match op {
         BinOp::Mul => Types {
-            left: factor_beside(x, y),
-            right: factor_beside(y, x),
+            left: x.factor_beside(y),
+            right: y.factor_beside(x),
             result: x.common(y),
         },
         BinOp::Shl | BinOp::Shr => Types {
-            left: promoted_type(x),
+            left: x.promoted(),
             right: y,
-            result: promoted_type(x),
+            result: x.promoted(),
         },
         _ => Types {
-            left: converted_beside(x, y),
-            right: converted_beside(y, x),
+            left: x.converted_beside(y),
+            right: y.converted_beside(x),
             result: x.common(y),
         },
     }

@@ -2,6 +2,7 @@
 use Rattle.std.specs.Prelude.{ℕ, ◌+◌, ◌≡◌, ◌≤◌, ◌⊎◌, ◌==◌, ◌%◌, nat_le, Bool, ◌&&◌, ◌||◌, if◌then◌else◌, List, codes}
 use Rattle.std.specs.Prelude.{Option, Some, None, option_and_then}
 use Rattle.toml.specs.Data.{Data, Items, no_items, item, get, as_array}
+use Rattle.ec_map_rules.specs.Rules.{lie_in}
 use Rattle.ec_map.specs.Values.{number_of}
 use Rattle.ec_map.specs.declared.region.Region.{Region}
 use Rattle.ec_map.specs.declared.region.Regions.{Regions}
@@ -45,7 +46,7 @@ regions_of d = option_and_then regions_in (get (codes "region") d)
 
 -- the first address is at least so much, and the region ends by an address
 abbrev pub lies_in : (from to : ℕ) → Region → Bool
-lies_in from to region = nat_le from region.first && nat_le (end_of region) to
+lies_in from to region = lie_in region.first region.size from to
 
 -- flash and SRAM of the core `small`
 abbrev pub are_in_banks : Regions → Bool

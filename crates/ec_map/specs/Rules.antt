@@ -1,13 +1,14 @@
 -- What a map is: the eighteen rules that the table of a document keeps, each a test of the table. A rule looks at the
 -- table alone, and counts for something where all rules before it are kept.
-use Rattle.std.specs.Prelude.{ℕ, ◌+◌, ◌*◌, ◌==◌, nat_le, Bool, true, false, not, ◌&&◌, ◌||◌, List, [], ◌∷◌, ◌++◌}
+use Rattle.std.specs.Prelude.{ℕ, ◌*◌, ◌==◌, nat_le, Bool, true, false, not, ◌&&◌, ◌||◌, List, [], ◌∷◌, ◌++◌}
 use Rattle.std.specs.Prelude.{length, map, codes}
-use Rattle.std.specs.Prelude.{Option, Some, option_map, option_and_then, unwrap_or, is_some, position}
+use Rattle.std.specs.Prelude.{Option, Some, option_and_then, unwrap_or, is_some, position}
 use Rattle.std.specs.Option.{option_map_or}
 use Rattle.std.specs.List.{list_all, list_any, range_with_len}
 use Rattle.std.specs.Str.{bytes_eq}
 use Rattle.toml.specs.Data.{Data, Items, no_items, item, get, as_integer, as_array, as_table}
 use Rattle.ec_avr.specs.State.{is_port}
+use Rattle.ec_map_rules.specs.Rules.{first_broken}
 use Rattle.ec_map.specs.Values.{array_of, array_at, values_at, keys, entries_at, text_at, number_of, number_at}
 use Rattle.ec_map.specs.Regions.{regions_of, are_in_banks, is_code, are_apart}
 use Rattle.ec_map.specs.declared.keys.Kind.{Kind}
@@ -236,4 +237,4 @@ kept d =
 
 -- the first rule that a table breaks, by its number from 1
 abbrev pub broken : Data → Option ℕ
-broken d = option_map (λ n. n + 1) (position not (kept d))
+broken d = first_broken (kept d)

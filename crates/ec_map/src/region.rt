@@ -5,6 +5,7 @@ ghost use Rattle.ec_map.specs.Regions.{region_in, region_of, region_at, regions_
 ghost use Rattle.ec_map.specs.Regions.{lies_in, are_in_banks, is_code, share_no_byte, are_apart};
 
 use crate::values::number_of;
+use ec_map_rules::lie_in;
 use toml::Value;
 
 /// Bytes of a bank that follow one another.
@@ -108,7 +109,7 @@ impl Region {
     fn lies_in(self, from: u32, to: u32) -> bool
         ensures { result ≡ lies_in from to self }
     {
-        from <= self.first && u64::from(self.first) + u64::from(self.size) <= u64::from(to)
+        lie_in(self.first, self.size, from, to)
     }
 
     fn shares_no_byte(self, other: Region) -> bool

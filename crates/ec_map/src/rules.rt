@@ -1,5 +1,5 @@
 //! The rules of a map, over the table that its text is read as.
-ghost use Rattle.std.specs.Prelude.{◌≡◌, ◌<◌, map, not, length, position, IfSome};
+ghost use Rattle.std.specs.Prelude.{◌≡◌, map};
 ghost use Rattle.std.specs.List.{list_all};
 ghost use Rattle.std.specs.Map.{values_of};
 ghost use Rattle.toml.specs.View.{view};
@@ -14,6 +14,7 @@ use crate::keys::{Kind, is_array_of, is_table_of};
 use crate::ports::{are_named, has_group, has_ports, has_size};
 use crate::region::regions_of;
 use crate::values::{number_of, text_at, values_at};
+use ec_map_rules::first_broken;
 use toml::{Table, Value};
 
 /// The ports of a map, one table each.
@@ -245,20 +246,9 @@ fn kept(root: &Value) -> [bool; 18]
     ]
 }
 
-/// The place of the first rule that is not kept.
-fn first_broken(kept: &[bool]) -> Option<usize>
-    ensures value { result ≡ position not kept.now }
-    ensures within { IfSome result (λ at. at < length kept.now) }
-{
-    kept.iter().position(|kept| !*kept)
-}
-
 /// The first rule that a table breaks, by its number from 1.
 pub(crate) fn broken(root: &Value) -> Option<u8>
     ensures { result ≡ broken (view root.now) }
 {
-    match first_broken(&kept(root)) {
-        Some(at) => Some(at as u8 + 1),
-        None => None,
-    }
+    first_broken(&kept(root))
 }

@@ -48,8 +48,8 @@ plain_numbering n =
     record {
       definitions = plain_definitions n.definitions.items;
       links = table_of (λ linkage. linkage) n.links.entries;
-      objects = n.objects;
-      functions = n.functions;
+      objects = n.counts.objects;
+      functions = n.counts.functions;
     }
 
 abbrev pub nothing_numbered : Numbering

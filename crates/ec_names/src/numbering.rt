@@ -25,6 +25,7 @@ use ec_grammar::Tree;
 use ec_grammar::tree::{
     Declaration, External, Function, InitDeclarator, NextInitDeclarator, RegisterObject, Specs,
 };
+use ec_name_parts::{Counts, defines_object};
 use ec_space::{Name, NoMemory, Seq};
 use ec_tree_measures::{is_function, less_function};
 use indexmap::IndexMap;
@@ -57,10 +58,8 @@ pub struct Numbering {
     pub definitions: Seq<Definition>,
     /// The linkages of the names that the unit has declared so far.
     pub links: IndexMap<Name, Linkage>,
-    /// How many objects there are so far.
-    pub objects: usize,
-    /// How many functions there are so far.
-    pub functions: usize,
+    /// How many objects and functions there are so far.
+    pub counts: Counts,
 }
 
 fn copied(alloc: Global, name: &Name) -> Result<Name, NoMemory>
@@ -86,12 +85,9 @@ pub fn storage_of(specs: &Specs) -> Option<StorageWord>
 pub fn is_defined(storage: Option<StorageWord>, function: bool) -> bool
     ensures { result ≡ is_defined storage function }
 {
-    if function {
-        return false;
-    }
     match storage {
-        None | Some(StorageWord::Static) => true,
-        Some(StorageWord::Extern) => false,
+        None | Some(StorageWord::Static) => defines_object(function, false),
+        Some(StorageWord::Extern) => defines_object(function, true),
     }
 }
 
@@ -122,8 +118,7 @@ impl Numbering {
         Numbering {
             definitions: Seq::new(alloc),
             links: IndexMap::new(alloc),
-            objects: 0,
-            functions: 0,
+            counts: Counts::none(),
         }
     }
 
@@ -158,12 +153,12 @@ impl Numbering {
         linkage: Linkage,
         kind: Defined,
     ) -> Result<(), NoMemory>
-        requires { self.old.objects < most_objects }
+        requires { self.old.counts.objects < most_objects }
         ensures { OnOk result (plain_numbering self.new
             ≡ with_object unit name.now.items linkage kind (plain_numbering self.old)) }
     {
         let name = copied(alloc, name)?;
-        let number = self.objects as u16;
+        let number = self.counts.objects as u16;
         self.definitions.push(Definition {
             name,
             unit,
@@ -171,7 +166,7 @@ impl Numbering {
             kind,
             number,
         })?;
-        self.objects += 1;
+        self.counts = self.counts.with_object();
         Ok(())
     }
 
@@ -182,13 +177,13 @@ impl Numbering {
         linkage: Linkage,
         f: &Function,
     ) -> Result<(), NoMemory>
-        requires functions { self.old.functions < most_functions }
-        requires objects { self.old.objects + objects_in_function (view_function f.now) ≤ most_objects }
+        requires functions { self.old.counts.functions < most_functions }
+        requires objects { self.old.counts.objects + objects_in_function (view_function f.now) ≤ most_objects }
         ensures { OnOk result (plain_numbering self.new ≡ with_function unit f.now.name.name.items linkage
             (objects_in_function (view_function f.now)) (plain_numbering self.old)) }
     {
         let name = copied(alloc, &f.name.name)?;
-        let number = self.functions as u16;
+        let number = self.counts.functions as u16;
         self.definitions.push(Definition {
             name,
             unit,
@@ -196,8 +191,8 @@ impl Numbering {
             kind: Defined::Function,
             number,
         })?;
-        self.objects = 1_024 - less_function(1_024 - self.objects, f);
-        self.functions += 1;
+        let own = 1_024 - less_function(1_024, f);
+        self.counts = self.counts.with_function(own);
         Ok(())
     }
 
@@ -208,12 +203,12 @@ impl Numbering {
         storage: Option<StorageWord>,
         d: &InitDeclarator,
     ) -> Result<(), NoMemory>
-        requires { self.old.objects + objects_in_declarator (view_init_declarator d.now) ≤ most_objects }
+        requires { self.old.counts.objects + objects_in_declarator (view_init_declarator d.now) ≤ most_objects }
         ensures numbered { OnOk result (plain_numbering self.new
             ≡ numbered_declarator unit storage (view_init_declarator d.now) (plain_numbering self.old)) }
-        ensures objects { OnOk result (self.new.objects
-            ≤ self.old.objects + objects_in_declarator (view_init_declarator d.now)) }
-        ensures functions { OnOk result (self.new.functions ≡ self.old.functions) }
+        ensures objects { OnOk result (self.new.counts.objects
+            ≤ self.old.counts.objects + objects_in_declarator (view_init_declarator d.now)) }
+        ensures functions { OnOk result (self.new.counts.functions ≡ self.old.counts.functions) }
     {
         let name = &d.declarator.name.name;
         let function = is_function(&d.declarator.shape);
@@ -232,12 +227,12 @@ impl Numbering {
         storage: Option<StorageWord>,
         more: &[NextInitDeclarator],
     ) -> Result<(), NoMemory>
-        requires { self.old.objects + objects_in_more (map view_next_init_declarator more.now) ≤ most_objects }
+        requires { self.old.counts.objects + objects_in_more (map view_next_init_declarator more.now) ≤ most_objects }
         ensures numbered { OnOk result (plain_numbering self.new
             ≡ numbered_more unit storage (map view_next_init_declarator more.now) (plain_numbering self.old)) }
-        ensures objects { OnOk result (self.new.objects
-            ≤ self.old.objects + objects_in_more (map view_next_init_declarator more.now)) }
-        ensures functions { OnOk result (self.new.functions ≡ self.old.functions) }
+        ensures objects { OnOk result (self.new.counts.objects
+            ≤ self.old.counts.objects + objects_in_more (map view_next_init_declarator more.now)) }
+        ensures functions { OnOk result (self.new.counts.functions ≡ self.old.counts.functions) }
     {
         for d in more {
             self.number_declarator(alloc, unit, storage, &d.declarator)?;
@@ -251,12 +246,12 @@ impl Numbering {
         unit: u8,
         d: &Declaration,
     ) -> Result<(), NoMemory>
-        requires { self.old.objects + objects_in_declaration (view_declaration d.now) ≤ most_objects }
+        requires { self.old.counts.objects + objects_in_declaration (view_declaration d.now) ≤ most_objects }
         ensures numbered { OnOk result (plain_numbering self.new
             ≡ numbered_declaration unit (view_declaration d.now) (plain_numbering self.old)) }
-        ensures objects { OnOk result (self.new.objects
-            ≤ self.old.objects + objects_in_declaration (view_declaration d.now)) }
-        ensures functions { OnOk result (self.new.functions ≡ self.old.functions) }
+        ensures objects { OnOk result (self.new.counts.objects
+            ≤ self.old.counts.objects + objects_in_declaration (view_declaration d.now)) }
+        ensures functions { OnOk result (self.new.counts.functions ≡ self.old.counts.functions) }
     {
         let storage = storage_of(&d.specs);
         self.number_declarator(alloc, unit, storage, &d.first)?;
@@ -270,11 +265,11 @@ impl Numbering {
         unit: u8,
         r: &RegisterObject,
     ) -> Result<(), NoMemory>
-        requires { self.old.objects < most_objects }
+        requires { self.old.counts.objects < most_objects }
         ensures numbered { OnOk result (plain_numbering self.new
             ≡ numbered_register unit (view_register_object r.now) (plain_numbering self.old)) }
-        ensures objects { OnOk result (self.new.objects ≤ self.old.objects + 1) }
-        ensures functions { OnOk result (self.new.functions ≡ self.old.functions) }
+        ensures objects { OnOk result (self.new.counts.objects ≤ self.old.counts.objects + 1) }
+        ensures functions { OnOk result (self.new.counts.functions ≡ self.old.counts.functions) }
     {
         let name = &r.name.name;
         if is_registered(name, self.definitions.as_slice()) {
@@ -285,13 +280,13 @@ impl Numbering {
     }
 
     fn number_function(&mut self, alloc: Global, unit: u8, f: &Function) -> Result<(), NoMemory>
-        requires functions { self.old.functions < most_functions }
-        requires objects { self.old.objects + objects_in_function (view_function f.now) ≤ most_objects }
+        requires functions { self.old.counts.functions < most_functions }
+        requires objects { self.old.counts.objects + objects_in_function (view_function f.now) ≤ most_objects }
         ensures numbered { OnOk result (plain_numbering self.new
             ≡ numbered_function unit (view_function f.now) (plain_numbering self.old)) }
-        ensures objects { OnOk result (self.new.objects
-            ≡ self.old.objects + objects_in_function (view_function f.now)) }
-        ensures functions { OnOk result (self.new.functions ≡ self.old.functions + 1) }
+        ensures objects { OnOk result (self.new.counts.objects
+            ≡ self.old.counts.objects + objects_in_function (view_function f.now)) }
+        ensures functions { OnOk result (self.new.counts.functions ≡ self.old.counts.functions + 1) }
     {
         let name = &f.name.name;
         let linkage = self.link_in(storage_of(&f.result.specs), true, name);
@@ -306,14 +301,15 @@ impl Numbering {
         unit: u8,
         external: &External,
     ) -> Result<(), NoMemory>
-        requires functions { self.old.functions + functions_in_external (view_external external.now) ≤ most_functions }
-        requires objects { self.old.objects + objects_in_external (view_external external.now) ≤ most_objects }
+        requires functions { self.old.counts.functions + functions_in_external (view_external external.now)
+            ≤ most_functions }
+        requires objects { self.old.counts.objects + objects_in_external (view_external external.now) ≤ most_objects }
         ensures numbered { OnOk result (plain_numbering self.new
             ≡ numbered_external unit (view_external external.now) (plain_numbering self.old)) }
-        ensures objects { OnOk result (self.new.objects
-            ≤ self.old.objects + objects_in_external (view_external external.now)) }
-        ensures functions { OnOk result (self.new.functions
-            ≡ self.old.functions + functions_in_external (view_external external.now)) }
+        ensures objects { OnOk result (self.new.counts.objects
+            ≤ self.old.counts.objects + objects_in_external (view_external external.now)) }
+        ensures functions { OnOk result (self.new.counts.functions
+            ≡ self.old.counts.functions + functions_in_external (view_external external.now)) }
     {
         match external {
             External::Pragma(_) | External::Structure(_) => Ok(()),
@@ -338,15 +334,16 @@ impl Numbering {
         unit: u8,
         externals: &[External],
     ) -> Result<(), NoMemory>
-        requires functions { self.old.functions + functions_in_externals (map view_external externals.now)
+        requires functions { self.old.counts.functions + functions_in_externals (map view_external externals.now)
             ≤ most_functions }
-        requires objects { self.old.objects + objects_in_externals (map view_external externals.now) ≤ most_objects }
+        requires objects { self.old.counts.objects + objects_in_externals (map view_external externals.now)
+            ≤ most_objects }
         ensures numbered { OnOk result (plain_numbering self.new
             ≡ numbered_externals unit (map view_external externals.now) (plain_numbering self.old)) }
-        ensures objects { OnOk result (self.new.objects
-            ≤ self.old.objects + objects_in_externals (map view_external externals.now)) }
-        ensures functions { OnOk result (self.new.functions
-            ≡ self.old.functions + functions_in_externals (map view_external externals.now)) }
+        ensures objects { OnOk result (self.new.counts.objects
+            ≤ self.old.counts.objects + objects_in_externals (map view_external externals.now)) }
+        ensures functions { OnOk result (self.new.counts.functions
+            ≡ self.old.counts.functions + functions_in_externals (map view_external externals.now)) }
     {
         for external in externals {
             self.number_external(alloc, unit, external)?;
@@ -355,13 +352,14 @@ impl Numbering {
     }
 
     fn number_unit(&mut self, alloc: Global, unit: u8, tree: &Tree) -> Result<(), NoMemory>
-        requires functions { self.old.functions + functions_in_unit (view_tree tree.now) ≤ most_functions }
-        requires objects { self.old.objects + objects_in_unit (view_tree tree.now) ≤ most_objects }
+        requires functions { self.old.counts.functions + functions_in_unit (view_tree tree.now) ≤ most_functions }
+        requires objects { self.old.counts.objects + objects_in_unit (view_tree tree.now) ≤ most_objects }
         ensures numbered { OnOk result (plain_numbering self.new
             ≡ numbered_unit unit (view_tree tree.now) (plain_numbering self.old)) }
-        ensures objects { OnOk result (self.new.objects ≤ self.old.objects + objects_in_unit (view_tree tree.now)) }
-        ensures functions { OnOk result (self.new.functions
-            ≡ self.old.functions + functions_in_unit (view_tree tree.now)) }
+        ensures objects { OnOk result (self.new.counts.objects
+            ≤ self.old.counts.objects + objects_in_unit (view_tree tree.now)) }
+        ensures functions { OnOk result (self.new.counts.functions
+            ≡ self.old.counts.functions + functions_in_unit (view_tree tree.now)) }
     {
         self.links.clear();
         self.number_externals(alloc, unit, &tree.items)?;

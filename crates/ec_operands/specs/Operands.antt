@@ -1,18 +1,17 @@
 -- What an expression means before it is used: a place, with what is known of it, or a value.
-use Rattle.std.specs.Prelude.{ℕ, Bool, true, false, ◌||◌, if◌then◌else◌, Option, Some, None}
+use Rattle.std.specs.Prelude.{Bool, false, ◌||◌, if◌then◌else◌, Option, Some}
 use Rattle.ec_fx.specs.declared.numbers.Mode.{Mode}
 use Rattle.ec_fx.specs.Formats.{format_of, is_fract}
 use Rattle.ec_space.specs.declared.space.SpaceId.{SpaceId}
-use Rattle.ec_core.specs.ArithmeticTypes.{type_of}
 use Rattle.ec_core.specs.Operators.{same_type}
-use Rattle.ec_core.specs.Plain.{PlainType, void, integer, fixed, pointer, array, struct, plain_type, PlainExpr}
+use Rattle.ec_core.specs.Plain.{PlainType, fixed, pointer, array, plain_type, PlainExpr}
 use Rattle.ec_core.specs.Plain.{expression, PlainNode, load, address_of, convert, PlainPlace, plain_expr, plain_place}
 use Rattle.ec_core.specs.Typing.{type_of_expr}
 use Rattle.ec_operands.specs.declared.operands.Modes.{Modes}
 use Rattle.ec_operands.specs.declared.operands.Operand as operand
 use Rattle.ec_operands.specs.declared.operands.Operand.TheVariants as operands
-use Rattle.ec_operands.specs.declared.types.Sort.{Sort}
-use Rattle.ec_operands.specs.declared.types.Sort.TheVariants as sorts
+pub use Rattle.ec_operand_types.specs.Options.{with_one, with_both}
+pub use Rattle.ec_operand_types.specs.Sorts.{plain_sort}
 
 -- a place has a type, is const or not, stands in a space, and is a named register or not; a value is the null pointer
 -- constant or not
@@ -23,14 +22,6 @@ pub data Operand : Type 0 where
 abbrev pub plain_operand : operand.Operand → Operand
 plain_operand (operands.Place ty konst space register p) = place (plain_type ty) konst space register (plain_place p)
 plain_operand (operands.Value e zero) = value (plain_expr e) zero
-
--- a type, as the code sees it without its pointers
-abbrev pub plain_sort : Sort → PlainType
-plain_sort sorts.Void = void
-plain_sort (sorts.Number t) = type_of t
-plain_sort (sorts.Pointer space konst to) = pointer space konst (plain_type to.now)
-plain_sort (sorts.Array of len) = array (plain_type of.now) len
-plain_sort (sorts.Struct index) = struct index
 
 -- ---- expressions
 
@@ -68,11 +59,3 @@ is_null (value e zero) = zero
 -- what a form means that has a value, which is no null constant
 abbrev pub valued : PlainExpr → Option Operand
 valued e = Some (value e false)
-
--- where there is a value, what follows from it
-abbrev pub with_one : {A B : Type 0} → Option A → (A → Option B) → Option B
-with_one None f = None
-with_one (Some x) f = f x
-
-abbrev pub with_both : {A B C : Type 0} → Option A → Option B → (A → B → Option C) → Option C
-with_both x y f = with_one x (λ a. with_one y (λ b. f a b))

@@ -7,39 +7,24 @@ use Rattle.ec_space.specs.Spaces.{join}
 use Rattle.ec_core.specs.declared.arithmetic_types.Arithmetic.{Arithmetic}
 use Rattle.ec_core.specs.declared.arithmetic_types.Arithmetic.TheVariants.{Integer, Fixed}
 use Rattle.ec_core.specs.declared.expressions.BinOp.{BinOp}
-use Rattle.ec_core.specs.declared.expressions.BinOp.TheVariants.{Add, Sub, Mul, Div, Rem, Shl, Shr, And, Or, Xor}
+use Rattle.ec_core.specs.declared.expressions.BinOp.TheVariants.{Add, Sub, Mul, Shl, Shr}
 use Rattle.ec_core.specs.declared.expressions.BinOp.TheVariants.{Lt, Gt, Le, Ge, Eq, Ne}
 use Rattle.ec_core.specs.ArithmeticTypes.{arithmetic_of, type_of, common}
 use Rattle.ec_core.specs.ArithmeticValues.{is_comparison}
 use Rattle.ec_core.specs.Operators.{OperationTypes, converted_beside, promoted_type}
-use Rattle.ec_core.specs.Plain.{PlainType, void, integer, fixed, pointer, array, struct, PlainExpr, expression}
-use Rattle.ec_core.specs.Plain.{PlainNode, null, binary}
+use Rattle.ec_core.specs.Plain.{PlainType, pointer, PlainExpr, expression}
+use Rattle.ec_core.specs.Plain.{null, binary}
 use Rattle.ec_core.specs.TypeLaws.{factor_beside, compared_beside}
 use Rattle.ec_core.specs.Typing.{int, type_of_expr, pointer_space}
 use Rattle.ec_operands.specs.declared.operands.Modes.{Modes}
-use Rattle.ec_operands.specs.declared.operators.Meeting.{Meeting}
-use Rattle.ec_operands.specs.declared.operators.Meeting.TheVariants.{Pointers, Mixed, Numbers, Nothing}
+use Rattle.ec_operand_types.specs.declared.meetings.Meeting.{Meeting}
+use Rattle.ec_operand_types.specs.declared.meetings.Meeting.TheVariants.{Pointers, Mixed, Numbers, Nothing}
+pub use Rattle.ec_operand_types.specs.Operators.{suits_alone}
 use Rattle.ec_operands.specs.declared.operators.Operation.{Operation}
-use Rattle.ec_operands.specs.Operands.{Operand, value, made, value_type, as_value, is_null, converted, valued, with_one}
-use Rattle.ec_operands.specs.Sorts.{is_arithmetic, is_pointer, is_scalar, is_integer, is_one_byte, same_pointee, nest}
+use Rattle.ec_operands.specs.Operands.{Operand, made, value_type, as_value, is_null, converted, valued, with_one}
+use Rattle.ec_operands.specs.Sorts.{is_arithmetic, is_pointer, is_integer, same_pointee, nest}
 
 -- ---- rules
-
--- an operand of this type suits the operator whatever the other one is; the Bool says that it is the left one
-abbrev pub suits_alone : BinOp → (left : Bool) → PlainType → Bool
-suits_alone Add left ty = is_scalar ty
-suits_alone Sub left ty = is_scalar ty
-suits_alone Mul left ty = is_one_byte ty
-suits_alone Div left ty = is_arithmetic ty
-suits_alone Rem left ty = is_integer ty
-suits_alone Shl true ty = is_arithmetic ty
-suits_alone Shl false ty = is_integer ty
-suits_alone Shr true ty = is_arithmetic ty
-suits_alone Shr false ty = is_integer ty
-suits_alone And left ty = is_integer ty
-suits_alone Or left ty = is_integer ty
-suits_alone Xor left ty = is_integer ty
-suits_alone op left ty = true
 
 -- two types that suit `+` and `-` together; those of other operators suit them each alone
 abbrev pub suit_together : BinOp → PlainType → PlainType → Bool

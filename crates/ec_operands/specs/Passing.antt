@@ -1,15 +1,13 @@
 -- Implicit conversions: where an operand is brought to a type, by `=`, as an argument, by `return`, as an initialiser
 -- and as an operand of a port (ISO/IEC 9899:1999, 6.5.16.1; ISO/IEC TR 18037:2008, 5.1.3).
-use Rattle.std.specs.Prelude.{ℕ, Bool, not, ◌&&◌, ◌||◌, if◌then◌else◌, Option, Some, None, List, [], ◌∷◌}
-use Rattle.ec_faults.specs.Faults.{Judgement, rule}
+use Rattle.std.specs.Prelude.{ℕ, not, ◌&&◌, ◌||◌, if◌then◌else◌, Option, Some, None, List, []}
+use Rattle.ec_faults.specs.Faults.{Judgement}
 use Rattle.ec_core.specs.Plain.{PlainType, PlainExpr, null}
 use Rattle.ec_operands.specs.declared.operands.Modes.{Modes}
 use Rattle.ec_operands.specs.Operands.{Operand, made, value_type, as_value, is_null, converted, with_both}
-use Rattle.ec_operands.specs.Sorts.{is_arithmetic, is_pointer, same_pointee, narrows, drops_const}
-
--- between numbers, between pointers to one type, or from the null constant to a pointer
-abbrev pub passes : PlainType → Bool → PlainType → Bool
-passes from zero to = is_arithmetic from && is_arithmetic to || zero && is_pointer to || same_pointee from to
+use Rattle.ec_operands.specs.Sorts.{is_pointer, narrows, drops_const}
+use Rattle.ec_operand_types.specs.Conversions.{conversion_rules}
+pub use Rattle.ec_operand_types.specs.Conversions.{passes}
 
 -- an operand in a type to which a conversion leads
 abbrev pub in_type : Modes → PlainType → Operand → PlainExpr
@@ -26,8 +24,5 @@ abbrev pub passed : Modes → Option PlainType → Option Operand → Option Pla
 passed m to x = with_both to x (brought m)
 
 abbrev pub passing_rules : Option Operand → Option PlainType → ℕ → List Judgement
-passing_rules (Some x) (Some to) at =
-    rule 28 (not (passes (value_type x) (is_null x) to)) at
-    ∷ rule 29 (same_pointee (value_type x) to && narrows (value_type x) to) at
-    ∷ rule 30 (same_pointee (value_type x) to && drops_const (value_type x) to) at ∷ []
+passing_rules (Some x) (Some to) at = conversion_rules (value_type x) (is_null x) to at
 passing_rules x to at = []

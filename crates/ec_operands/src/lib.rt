@@ -12,12 +12,12 @@ mod operators;
 mod passing;
 mod types;
 
+pub use ec_operand_types::{Meeting, Sort, same_pointee, type_sort};
 pub use operands::{
     Modes, Operand, as_value, boxed, boxed_in, convert, is_null, made, mode_of, valued,
 };
 pub use operators::{
-    Meeting, are_apart, is_beside_null, is_unsuited, judge_operation, meeting_of, operate,
-    promoted_type, suits,
+    are_apart, is_beside_null, is_unsuited, judge_operation, meeting_of, operate, suits,
 };
 pub use passing::{boxed_in_type, brought, in_type, judge_conversion, judge_passing, pass};
-pub use types::{Sort, is_aggregate, nest, same_pointee, sort_of, type_sort};
+pub use types::{is_aggregate, kept, nest, sort_of};

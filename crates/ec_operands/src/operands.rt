@@ -7,6 +7,7 @@ ghost use Rattle.ec_operands.specs.Operands.{valued as valued_of, with_one};
 
 use ec_core::{CType, Expr, Node, PlaceExpr};
 use ec_fx::Mode;
+use ec_operand_types::{family_state, is_converted};
 use ec_space::{NoMemory, SpaceId};
 use std::alloc::Global;
 
@@ -52,16 +53,9 @@ pub fn mode_of(modes: Modes, ty: &CType) -> Mode
     ensures { result ≡ mode_of modes (plain_type ty.now) }
 {
     match ty {
-        CType::Fx { kind, sat } => {
-            let state = if kind.format().is_fract() {
-                modes.fract
-            } else {
-                modes.accum
-            };
-            Mode {
-                saturate: *sat || state,
-            }
-        }
+        CType::Fx { kind, sat } => Mode {
+            saturate: *sat || family_state(*kind, modes.fract, modes.accum),
+        },
         CType::Void
         | CType::Int { .. }
         | CType::Ptr { .. }
@@ -124,7 +118,7 @@ fn value_at(modes: Modes, ty: CType, konst: bool, space: SpaceId, place: PlaceEx
 pub fn convert(alloc: Global, modes: Modes, ty: &CType, e: Expr) -> Result<Expr, NoMemory>
     ensures { IfOk result (λ x. plain_expr x ≡ converted modes (plain_type ty.now) (plain_expr e)) }
 {
-    if e.ty.is_same(ty) {
+    if !is_converted(&e.ty, ty) {
         return Ok(e);
     }
     let e = boxed(alloc, e)?;
@@ -141,7 +135,7 @@ pub(crate) fn convert_boxed(
 ) -> Result<Box<Expr>, NoMemory>
     ensures { IfOk result (λ b. plain_expr b.value ≡ converted modes (plain_type ty.now) (plain_expr e.value)) }
 {
-    if e.ty.is_same(ty) {
+    if !is_converted(&e.ty, ty) {
         return Ok(e);
     }
     let to = ty.copied(alloc)?;

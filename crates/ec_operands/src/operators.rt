@@ -1,11 +1,10 @@
 //! Binary operators.
 ghost use Rattle.std.specs.Prelude.{◌≡◌, IfOk, option_map};
-ghost use Rattle.ec_core.specs.Operators.{converted_beside, promoted_type};
 ghost use Rattle.ec_core.specs.Plain.{plain_type, plain_expr};
-ghost use Rattle.ec_core.specs.TypeLaws.{factor_beside, compared_beside};
+ghost use Rattle.ec_core.specs.TypeLaws.{compared_beside};
 ghost use Rattle.ec_faults.specs.Faults.{all_judged};
 ghost use Rattle.ec_operands.specs.Operands.{plain_operand, plain_sort};
-ghost use Rattle.ec_operands.specs.Operators.{suits_alone, suit_together, suits, is_equality, is_beside_null};
+ghost use Rattle.ec_operands.specs.Operators.{suit_together, suits, is_equality, is_beside_null};
 ghost use Rattle.ec_operands.specs.Operators.{comparable};
 ghost use Rattle.ec_operands.specs.Operators.{meets, are_apart, unsuited, incomparable, meet_apart, operation_rules};
 ghost use Rattle.ec_operands.specs.Operators.{plain_operation, count_beside, usual_types, product_types, shift_types};
@@ -14,11 +13,10 @@ ghost use Rattle.ec_operands.specs.Operators.{pointer_operation, beside, null_co
 ghost use Rattle.ec_operands.specs.Operators.{numbers_meet, meeting_by, meeting, operation_by, operated};
 
 use crate::operands::{Modes, Operand, as_value, boxed, convert_boxed, is_null, made, valued};
-use crate::types::{Sort, nest, same_pointee, sort_of};
-use ec_core::{
-    Arithmetic, BinOp, CType, Expr, FixedType, IntegerType, Node, is_comparison, signed_kind,
-};
+use crate::types::{kept, nest, sort_of};
+use ec_core::{Arithmetic, BinOp, CType, Expr, IntegerType, Node, is_comparison};
 use ec_faults::Faults;
+use ec_operand_types::{Meeting, Sort, into_space, same_pointee, suits_alone, type_sort};
 use ec_space::{NoMemory, SpaceId};
 use std::alloc::Global;
 
@@ -28,25 +26,6 @@ const INT: Arithmetic = Arithmetic::Integer(IntegerType {
 });
 
 // ---- rules
-
-fn suits_alone(op: BinOp, left: bool, ty: Sort<'_>) -> bool
-    ensures { result ≡ suits_alone op left (plain_sort ty.entry) }
-{
-    match op {
-        BinOp::Add | BinOp::Sub => ty.is_scalar(),
-        BinOp::Mul => ty.is_one_byte(),
-        BinOp::Div => ty.is_arithmetic(),
-        BinOp::Shl | BinOp::Shr => {
-            if left {
-                ty.is_arithmetic()
-            } else {
-                ty.is_integer()
-            }
-        }
-        BinOp::Rem | BinOp::And | BinOp::Or | BinOp::Xor => ty.is_integer(),
-        BinOp::Lt | BinOp::Gt | BinOp::Le | BinOp::Ge | BinOp::Eq | BinOp::Ne => true,
-    }
-}
 
 fn suit_together(op: BinOp, a: Sort<'_>, b: Sort<'_>) -> bool
     ensures { result ≡ suit_together op (plain_sort a.entry) (plain_sort b.entry) }
@@ -171,52 +150,11 @@ pub struct Operation {
     pub outcome: Arithmetic,
 }
 
-fn converted_beside(x: Arithmetic, y: Arithmetic) -> Arithmetic
-    ensures { result ≡ converted_beside x y }
-{
-    match x {
-        Arithmetic::Integer(a) => match y {
-            Arithmetic::Integer(b) => Arithmetic::Integer(a.common(b)),
-            Arithmetic::Fixed(_) => x,
-        },
-        Arithmetic::Fixed(a) => match y {
-            Arithmetic::Integer(_) => x,
-            Arithmetic::Fixed(b) => {
-                let kind = if b.kind.format().signed {
-                    signed_kind(a.kind)
-                } else {
-                    a.kind
-                };
-                Arithmetic::Fixed(FixedType { kind, sat: a.sat })
-            }
-        },
-    }
-}
-
-fn factor_beside(x: Arithmetic, y: Arithmetic) -> Arithmetic
-    ensures { result ≡ factor_beside x y }
-{
-    match x {
-        Arithmetic::Integer(_) => x,
-        Arithmetic::Fixed(_) => converted_beside(x, y),
-    }
-}
-
 fn compared_beside(x: Arithmetic, y: Arithmetic) -> Arithmetic
     ensures { result ≡ compared_beside x y }
 {
     match x {
-        Arithmetic::Integer(_) => converted_beside(x, y),
-        Arithmetic::Fixed(_) => x,
-    }
-}
-
-/// The type after the integer promotions, which leave a fixed-point type as it is.
-pub fn promoted_type(x: Arithmetic) -> Arithmetic
-    ensures { result ≡ promoted_type x }
-{
-    match x {
-        Arithmetic::Integer(t) => Arithmetic::Integer(t.promoted()),
+        Arithmetic::Integer(_) => x.converted_beside(y),
         Arithmetic::Fixed(_) => x,
     }
 }
@@ -225,7 +163,7 @@ fn count_beside(x: Arithmetic, y: Arithmetic) -> Arithmetic
     ensures { result ≡ count_beside x y }
 {
     match x {
-        Arithmetic::Integer(_) => promoted_type(y),
+        Arithmetic::Integer(_) => y.promoted(),
         Arithmetic::Fixed(_) => y,
     }
 }
@@ -234,8 +172,8 @@ fn usual_types(x: Arithmetic, y: Arithmetic) -> Operation
     ensures { plain_operation result ≡ usual_types x y }
 {
     Operation {
-        left: converted_beside(x, y),
-        right: converted_beside(y, x),
+        left: x.converted_beside(y),
+        right: y.converted_beside(x),
         outcome: x.common(y),
     }
 }
@@ -244,8 +182,8 @@ fn product_types(x: Arithmetic, y: Arithmetic) -> Operation
     ensures { plain_operation result ≡ product_types x y }
 {
     Operation {
-        left: factor_beside(x, y),
-        right: factor_beside(y, x),
+        left: x.factor_beside(y),
+        right: y.factor_beside(x),
         outcome: x.common(y),
     }
 }
@@ -254,9 +192,9 @@ fn shift_types(x: Arithmetic, y: Arithmetic) -> Operation
     ensures { plain_operation result ≡ shift_types x y }
 {
     Operation {
-        left: promoted_type(x),
+        left: x.promoted(),
         right: count_beside(x, y),
-        outcome: promoted_type(x),
+        outcome: x.promoted(),
     }
 }
 
@@ -306,13 +244,8 @@ fn in_space(alloc: Global, modes: Modes, s: SpaceId, e: Box<Expr>) -> Result<Box
     ensures { IfOk result (λ x. plain_expr x.value ≡ in_space modes s (plain_expr e.value)) }
 {
     match &e.ty {
-        CType::Ptr { konst, to, .. } => {
-            let to = boxed(alloc, to.copied(alloc)?)?;
-            let to = CType::Ptr {
-                space: s,
-                konst: *konst,
-                to,
-            };
+        CType::Ptr { .. } => {
+            let to = kept(alloc, into_space(s, type_sort(&e.ty)))?;
             convert_boxed(alloc, modes, &to, e)
         }
         CType::Void
@@ -417,16 +350,6 @@ fn mixed_operation(
 }
 
 // ---- both
-
-/// How two operands meet: as pointers, in the one of their spaces that encloses the other if there is one; as a
-/// pointer, which is the left one or not, and no pointer; or as numbers.
-#[derive(Clone, Copy)]
-pub enum Meeting {
-    Pointers(Option<SpaceId>),
-    Mixed(bool),
-    Numbers(Arithmetic, Arithmetic),
-    Nothing,
-}
 
 fn numbers_meet(a: Option<Arithmetic>, b: Option<Arithmetic>) -> Meeting
     ensures { result ≡ numbers_meet a b }

@@ -3,27 +3,22 @@ ghost use Rattle.std.specs.Prelude.{◌≡◌, IfOk, option_map};
 ghost use Rattle.std.specs.Option.{option_copied};
 ghost use Rattle.ec_core.specs.Plain.{plain_type, plain_expr};
 ghost use Rattle.ec_faults.specs.Faults.{all_judged};
-ghost use Rattle.ec_operands.specs.Operands.{plain_operand, plain_sort};
-ghost use Rattle.ec_operands.specs.Passing.{passes, in_type as in_type_of, brought, passed, passing_rules};
+ghost use Rattle.ec_operands.specs.Operands.{plain_operand};
+ghost use Rattle.ec_operands.specs.Passing.{in_type as in_type_of, brought, passed, passing_rules};
 
 use crate::operands::{Modes, Operand, as_value, boxed, convert, is_null, made};
-use crate::types::{Sort, drops_const, narrows, same_pointee, sort_of, type_sort};
+use crate::types::sort_of;
 use ec_core::{CType, Expr, Node};
 use ec_faults::Faults;
+use ec_operand_types::{becomes_null, drops_const, judge_types, narrows, passes, type_sort};
 use ec_space::NoMemory;
 use std::alloc::Global;
-
-fn passes(from: Sort<'_>, null: bool, to: Sort<'_>) -> bool
-    ensures { result ≡ passes (plain_sort from.entry) null (plain_sort to.entry) }
-{
-    from.is_arithmetic() && to.is_arithmetic() || null && to.is_pointer() || same_pointee(from, to)
-}
 
 /// The operand in a type to which a conversion leads.
 pub fn in_type(alloc: Global, modes: Modes, to: &CType, x: Operand) -> Result<Expr, NoMemory>
     ensures { IfOk result (λ e. plain_expr e ≡ in_type_of modes (plain_type to.now) (plain_operand x)) }
 {
-    if is_null(&x) && type_sort(to).is_pointer() {
+    if becomes_null(is_null(&x), type_sort(to)) {
         drop(x);
         let to = to.copied(alloc)?;
         return Ok(made(modes, to, Node::Null));
@@ -101,13 +96,5 @@ pub fn judge_conversion(faults: &mut Faults, x: &Option<Operand>, to: Option<&CT
     let Some(to) = to else {
         return;
     };
-    let from = sort_of(x);
-    let target = type_sort(to);
-    faults.judge(28, !passes(from, is_null(x), target), at);
-    faults.judge(29, same_pointee(from, target) && narrows(from, target), at);
-    faults.judge(
-        30,
-        same_pointee(from, target) && drops_const(from, target),
-        at,
-    );
+    judge_types(faults, sort_of(x), is_null(x), type_sort(to), at);
 }

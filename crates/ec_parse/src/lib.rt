@@ -5,5 +5,6 @@ mod parsing;
 mod stop;
 
 pub use ec_grammar::Tree;
+pub use ec_parse_units::{append, discard, discard_tree};
 pub use parsing::parse;
 pub use stop::ParseStop;

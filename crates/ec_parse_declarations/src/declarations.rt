@@ -439,7 +439,13 @@ pub fn declared(
 {
     let (first, height, rest) = initialised(source, left, declarator, declarator_height, tokens)?;
     let (more, more_height, rest) = more_init_declarators(source, left, rest)?;
-    let (semicolon, rest) = expect(source, rest, PunctKind::Semicolon)?;
+    let (semicolon, rest) = match expect(source, rest, PunctKind::Semicolon) {
+        Ok(ended) => ended,
+        Err(stop) => {
+            drop((specs, first, more));
+            return Err(stop);
+        }
+    };
     let tree = Declaration {
         specs: Box::into_inner(specs),
         first: Box::into_inner(first),

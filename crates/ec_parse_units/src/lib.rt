@@ -5,6 +5,8 @@
 #![tactic(auto)]
 
 mod statements;
+mod trees;
 mod units;
 
+pub use trees::{append, discard, discard_tree};
 pub use units::read;

@@ -173,22 +173,6 @@ fn pragmas(source: Source, tokens: &[Token]) -> Result<(Vec<Pragma>, &[Token]), 
 
 // Compound statements.
 
-/// The item in a box of its own, with its height.
-fn listed(
-    source: Source,
-    tree: Item,
-    height: u8,
-    tokens: &[Token],
-) -> Result<Option<(Box<Item>, u8, &[Token])>, ReadError>
-    requires { IsHeight 64 (height_item (view_item tree)) height }
-    ensures { ReadsAt (λ x. (view_item x.0.value, leaves_of source.count x.2.now))
-        (λ x. IsHeight 64 (height_item (view_item x.0.value)) x.1) result
-        (Some (made (view_item tree) (leaves_of source.count tokens.now))) }
-{
-    let tree = boxed(source, tree)?;
-    Ok(Some((tree, height, tokens)))
-}
-
 #[cycle(statements)]
 #[tactic(auto, unfolding(ec_reading::specs::Reading::item_at))]
 fn item(
@@ -202,19 +186,15 @@ fn item(
 {
     if begins_specs(source, tokens) {
         let (declaration, height, rest) = declaration(source, left, tokens)?;
-        let tree = Item::Declaration(Box::into_inner(declaration));
-        return listed(source, tree, height, rest);
+        let tree = boxed(source, Item::Declaration(Box::into_inner(declaration)))?;
+        return Ok(Some((tree, height, rest)));
     }
     if take(source, tokens, PunctKind::RightBrace).is_some() {
         return Ok(None);
     }
     let (statement, height, rest) = substatement(source, left, LIMIT, tokens)?;
-    listed(
-        source,
-        Item::Statement(Box::into_inner(statement)),
-        height,
-        rest,
-    )
+    let tree = boxed(source, Item::Statement(Box::into_inner(statement)))?;
+    Ok(Some((tree, height, rest)))
 }
 
 /// Declarations and statements, and their height.

@@ -136,9 +136,20 @@ fn function(
     ensures { GivesAt (λ x. (view_external x.0.value, leaves_of source.count x.1.now)) result
         (Some (function_by (within 64 left) (view_head head) (leaves_of source.count tokens.now))) }
 {
-    let left = begun_body(source, left, tokens)?;
-    let (body, _, rest) = compound(source, left, LIMIT, tokens)?;
-    listed(source, External::Function(function_of(head, body)), rest)
+    let left = match begun_body(source, left, tokens) {
+        Ok(left) => left,
+        Err(stop) => {
+            drop(head);
+            return Err(stop);
+        }
+    };
+    match compound(source, left, LIMIT, tokens) {
+        Ok((body, _, rest)) => listed(source, External::Function(function_of(head, body)), rest),
+        Err(stop) => {
+            drop(head);
+            Err(stop)
+        }
+    }
 }
 
 /// The declaration whose specifiers and first declarator stand before the tokens.

@@ -2,20 +2,13 @@
 use Rattle.std.specs.Prelude.{◌≡◌, ℕ, ◌+◌, ◌<◌, ◌≤◌, ◌⊎◌, Bool, true, false, not, List, [], map, Contains}
 use Rattle.std.specs.Prelude.{slice_index_or, length}
 use Rattle.std.specs.List.{count_by}
-use Rattle.ec_space.specs.Listed.{Listed}
 use Rattle.ec_core.specs.Needs.{stmt_calls}
 use Rattle.ec_core.specs.Plain.{PlainProgram}
+pub use Rattle.ec_call_rows.specs.Rows.{plain_rows, row_at}
 
--- for each function, the numbers of those that it calls
-abbrev pub plain_rows : List (Listed ℕ) → List (List ℕ)
-plain_rows rows = map (λ row. row.items) rows
-
+-- the rows of a program
 abbrev pub rows_of_program : PlainProgram → List (List ℕ)
 rows_of_program p = map (λ f. stmt_calls f.body []) p.functions
-
--- what f calls, nothing where there is no such function
-abbrev pub row_at : List (List ℕ) → ℕ → List ℕ
-row_at rows f = slice_index_or rows f []
 
 -- f calls g, itself or through others
 pub data LeadsTo (rows : List (List ℕ)) (g : ℕ) : ℕ → Type 0 where

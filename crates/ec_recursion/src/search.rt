@@ -1,20 +1,11 @@
 //! Which functions a function reaches by calls.
 ghost use Rattle.std.specs.Prelude.{◌≡◌, ℕ, ◌<◌, ◌↔◌, false, [], ◌∷◌, IsTrue, OnOk, IfOk, IfSome, IfNone, length};
 ghost use Rattle.std.specs.Prelude.{replicate};
-ghost use Rattle.ec_recursion.specs.Rows.{plain_rows, row_at, LeadsTo, AreReached, AreNoted, IsSearch, IsFirst};
+ghost use Rattle.ec_recursion.specs.Rows.{plain_rows, LeadsTo, AreReached, AreNoted, IsSearch, IsFirst};
 
+use ec_call_rows::{calls_at, calls_by_number};
 use ec_space::{NoMemory, Seq};
 use std::alloc::Global;
-
-/// What a function calls; nothing where there is no such function.
-fn calls_at(rows: &[Seq<u16>], function: usize) -> &[u16]
-    ensures { result.now ≡ row_at (plain_rows rows.now) function }
-{
-    match rows.get(function) {
-        Some(row) => row.as_slice(),
-        None => &[],
-    }
-}
 
 /// Marks a function, and lets it wait where it was not marked.
 fn note(function: u16, marks: &mut [bool], waiting: &mut Vec<u16>) -> Result<(), NoMemory>
@@ -59,7 +50,7 @@ fn go_on(rows: &[Seq<u16>], marks: &mut [bool], waiting: &mut Vec<u16>) -> Resul
         → AreReached (plain_rows rows.now) f marks.new) }
 {
     while let Some(function) = waiting.pop() {
-        note_all(calls_at(rows, usize::from(function)), marks, waiting)?;
+        note_all(calls_by_number(rows, function), marks, waiting)?;
     }
     Ok(())
 }

@@ -5,6 +5,7 @@ ghost use Rattle.ec_scopes.specs.Names.{plain_named, plain_entry, plain_names, n
 ghost use Rattle.ec_scopes.specs.Names.{with_outside, with_inside, closed, is_declared_since};
 
 use ec_core::CType;
+use ec_name_parts::{keep_first, newer};
 use ec_space::{Name, NoMemory, Seq, SpaceId};
 use indexmap::IndexMap;
 use std::alloc::Global;
@@ -53,9 +54,7 @@ fn newest<'a>(entries: &'a [Entry], name: &Name) -> Option<&'a Named>
 {
     let mut best = None;
     for entry in entries {
-        if entry.name == *name {
-            best = Some(&entry.what);
-        }
+        best = newer(best, entry.name == *name, &entry.what);
     }
     best
 }
@@ -120,7 +119,7 @@ impl Names {
     pub fn close(&mut self, names: usize)
         ensures { plain_names self.new ≡ closed names (plain_names self.old) }
     {
-        self.inside.truncate(names);
+        keep_first(&mut self.inside, names);
     }
 
     /// Whether a name was declared in a block that began where blocks had so many names (rule 5).

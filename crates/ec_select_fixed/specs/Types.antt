@@ -1,5 +1,5 @@
 -- Operations with a fixed-point operand or result: the formats of their types, and which code an operator has.
-use Rattle.std.specs.Prelude.{◌≡◌, ◌⊎◌, ℕ, ◌*◌, ⊤, true, false, IsSomeAnd, Option, Some, None}
+use Rattle.std.specs.Prelude.{◌≡◌, ◌⊎◌, ℕ, ⊤, true, false, IsSomeAnd, Option, Some, None}
 use Rattle.ec_fx.specs.declared.formats.Format.{Format}
 use Rattle.ec_fx.specs.Formats.{IsFormat, format_of}
 use Rattle.ec_core.specs.declared.expressions.BinOp.{BinOp}
@@ -11,6 +11,7 @@ use Rattle.ec_core.specs.Layout.{IsScalar, IsIntegerSize}
 use Rattle.ec_core.specs.Plain.{PlainType, void, integer, fixed, pointer, array, struct}
 use Rattle.ec_core.specs.Typing.{HaveUnaryTypes, AreConvertible}
 use Rattle.ec_ir.specs.Valid.{HaveOperationTypes}
+use Rattle.ec_fxcode_parts.specs.Formats.{whole_format}
 use Rattle.ec_fxcode_shifts.specs.ShiftLaws.{IsWholeFormat}
 use Rattle.ec_fxcode_quotients.specs.QuotientLaws.{IsOperandFormat}
 use Rattle.ec_fxcode_sums.specs.SumLaws.{ArithmeticFormats}
@@ -34,7 +35,7 @@ IsNumberType ty = ⊥
 
 -- how the numbers of a type are kept: an integer has no bits behind the point
 abbrev pub format_in : PlainType → Format
-format_in (integer signed bytes) = record { signed = signed; bits = 8 * bytes; frac = 0 }
+format_in (integer signed bytes) = whole_format signed bytes
 format_in (fixed kind saturates) = format_of kind
 format_in ty = record { signed = false; bits = 0; frac = 0 }
 

@@ -21,6 +21,7 @@ use ec_asm::{AsmItem, Location, copy};
 use ec_core::{BinOp, CType, UnOp};
 use ec_fx::{Format, Mode};
 use ec_fxcode_conversions::{convert, multiply, whole};
+use ec_fxcode_parts::whole_format;
 use ec_fxcode_quotients::divide_numbers;
 use ec_fxcode_shifts::shift_number;
 use ec_fxcode_sums::{Operand, negate, order, sum};
@@ -52,11 +53,7 @@ fn format_in(ty: &CType) -> Format
     ensures bytes { result.bits / 8 ≡ scalar_size (plain_type ty.now) }
 {
     match ty {
-        CType::Int { signed, bytes } => Format {
-            signed: *signed,
-            bits: 8 * *bytes,
-            frac: 0,
-        },
+        CType::Int { signed, bytes } => whole_format(*signed, *bytes),
         CType::Fx { kind, .. } => kind.format(),
         _ => Format {
             signed: false,

@@ -1,11 +1,12 @@
 -- Lemmas of the emitters.
-use Rattle.std.proofs.Common.{ℕ, ◌<◌, ◌≤◌, inl, inr, subst, arith}
+use Rattle.std.proofs.Common.{ℕ, ◌≤◌, inl, inr, subst, arith}
 use Rattle.ec_space.specs.declared.space.Bank.{Bank}
 use Rattle.ec_asm.specs.declared.pieces.Location.{Location}
 use Rattle.ec_asm.specs.declared.pieces.Location.TheVariants.{InRegisters, InMemory}
-use Rattle.ec_asm.specs.Pieces.{HasBytes, HasByte}
+use Rattle.ec_asm.specs.Pieces.{HasBytes}
 use Rattle.ec_select_order.specs.declared.relations.Relation.{Relation}
 use Rattle.ec_select_order.specs.declared.relations.Relation.TheVariants.{Less, NotLess, Equal, NotEqual}
+pub use Rattle.ec_select_parts.proofs.Bytes.{byte_there}
 use Rattle.ec_select_places.specs.Steps.{compared_bytes}
 use Rattle.ec_select_pointers.specs.Addresses.{pointer_bytes}
 use Rattle.ec_select_operations.specs.Pointers.{tag_in, IsPointerSize}
@@ -13,10 +14,6 @@ use Rattle.ec_select_operations.specs.Pointers.{tag_in, IsPointerSize}
 pub fewer_bytes : (p : Location) (n m : ℕ) → m ≤ n → HasBytes p n → HasBytes p m
 fewer_bytes (InRegisters r) n m l h = omega arith
 fewer_bytes (InMemory o k) n m l h = omega arith
-
-pub byte_there : (p : Location) (n i : ℕ) → HasBytes p n → i < n → HasByte p i
-byte_there (InRegisters r) n i h l = omega arith
-byte_there (InMemory o k) n i h l = omega arith
 
 -- a pointer has room for its tag
 pub tag_there : (p : Location) (bytes : ℕ) (bank : Bank) → IsPointerSize bytes → HasBytes p bytes

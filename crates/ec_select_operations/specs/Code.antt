@@ -33,6 +33,7 @@ use Rattle.ec_select_bytes.specs.Complements.{complement_code, negation_code}
 use Rattle.ec_select_order.specs.declared.relations.Relation.{Relation}
 use Rattle.ec_select_order.specs.declared.relations.Relation.TheVariants.{Less, NotLess, Equal, NotEqual}
 use Rattle.ec_select_order.specs.Relations.{relation_code, unless_code}
+pub use Rattle.ec_select_parts.specs.Operators.{reversed_code}
 use Rattle.ec_select_places.specs.Conversions.{embed_code}
 use Rattle.ec_select_places.specs.Distances.{elements_code}
 use Rattle.ec_select_places.specs.Steps.{scale_index_code, advance_code, compared_bytes}
@@ -95,15 +96,8 @@ is_signed ty = false
 abbrev pub conversion_code : Bool → (from to : Location) → (bytes n : ℕ) → List AsmItem
 conversion_code signed from to bytes n = move_code from to (min n bytes) ++ extend_code signed to bytes n
 
--- where the second operand stands at the result's place, the first one is combined with it there the other way round
-abbrev pub reversed_code : Operator → (a to : Location) → ℕ → List AsmItem
-reversed_code Sum a to n = operate_code Sum a to n
-reversed_code Difference a to n = operate_code Difference a to n ++ negation_code to n
-reversed_code BitAnd a to n = operate_code BitAnd a to n
-reversed_code BitOr a to n = operate_code BitOr a to n
-reversed_code BitXor a to n = operate_code BitXor a to n
-
--- else the first operand is brought there, and the second one is combined with it
+-- where the second operand stands at the result's place, the first one is combined with it there the other way round,
+-- and else the first operand is brought there, and the second one is combined with it
 abbrev pub combined_code : Operator → (a b to : Location) → ℕ → List AsmItem
 combined_code op a b to n =
     if same_location b to then reversed_code op a to n else move_code a to n ++ operate_code op b to n

@@ -1,6 +1,5 @@
 -- What the emitters ask of an operation.
 use Rattle.std.specs.Prelude.{◌≡◌, ℕ, ◌+◌, ◌<◌, ◌≤◌, ⊤, Bool, true, false, ◌||◌, Option, Some, None}
-use Rattle.ec_asm.specs.declared.pieces.Location.{Location}
 use Rattle.ec_asm.specs.Pieces.{HasBytes}
 use Rattle.ec_space.specs.Spaces.{width}
 use Rattle.ec_core.specs.declared.expressions.BinOp.{BinOp}
@@ -23,6 +22,7 @@ use Rattle.ec_select_operations.specs.Code.{Linkage, HasResult, family_of}
 use Rattle.ec_select_operations.specs.Needs.{is_fixed}
 use Rattle.ec_select_operations.specs.Places.{object_location}
 use Rattle.ec_select_operations.specs.Pointers.{is_pointer, IsPointerSize}
+pub use Rattle.ec_select_parts.specs.Ports.{HasIndexByte}
 use Rattle.ec_select_fixed.specs.Types.{AreFixedOperands, IsFixedOperand, AreFixedConverted}
 
 -- the objects and structs of a program, which the emitters look at
@@ -101,14 +101,10 @@ abbrev pub CanBeTaken : ℕ → Option Temp → Type 0
 CanBeTaken wanted None = ⊤
 CanBeTaken wanted (Some t) = (wanted ≤ t.bytes) × (t.bytes ≤ 8)
 
--- the index of a port, if there is one, has a low byte, and so has its place
+-- the index of a port, if there is one, has a low byte
 abbrev pub IndexHasByte : Option Temp → Type 0
 IndexHasByte None = ⊤
 IndexHasByte (Some t) = 1 ≤ t.bytes
-
-abbrev pub HasIndexByte : Option Location → Type 0
-HasIndexByte None = ⊤
-HasIndexByte (Some at) = HasBytes at 1
 
 -- no more bytes are wanted than the temporaries have, and the bytes of an object and labels have numbers
 abbrev pub CanBeEmitted : PlainProgram → Linking → ℕ → PlainIr → Type 0

@@ -3,8 +3,7 @@ ghost use Rattle.std.specs.Prelude.{◌≡◌, ◌≤◌, ◌<◌, ◌++◌, suc
 ghost use Rattle.ec_runs.specs.Behaviours.{BeginWith};
 ghost use Rattle.ec_asm.specs.Pieces.{HasBytes};
 ghost use Rattle.ec_select_operations.specs.Code.{same_location, move_code, family_of, compared_code, binary_code};
-ghost use Rattle.ec_select_operations.specs.Code.{reversed_code, combined_code};
-ghost use Rattle.ec_select_operations.specs.Code.{conversion_code, turn_code, unary_code, multiplied_code};
+ghost use Rattle.ec_select_operations.specs.Code.{combined_code, conversion_code, turn_code, unary_code, multiplied_code};
 ghost use Rattle.ec_select_operations.specs.Code.{shift_of, turned_code, shifted_code, long_code, divided_code};
 ghost use Rattle.ec_select_operations.specs.Emitted.{BinaryHasBytes};
 ghost use Rattle.ec_select_operations.specs.Code.{told_by, branch_code, told_of, flag_code, operator_code, tested_code};
@@ -16,6 +15,7 @@ use ec_core::{BinOp, UnOp};
 use ec_ir::Temp;
 use ec_select_bytes::{complement, extend, negate, test};
 use ec_select_order::{Relation, branch_unless, relate};
+use ec_select_parts::combine_before;
 use ec_select_products::{Factor, multiply};
 use ec_select_quotients::{Division, quotient};
 use ec_select_shifts::{Direction, shift};
@@ -101,28 +101,6 @@ pub(crate) fn family_of(op: BinOp) -> Family
     }
 }
 
-/// Appends code that combines the number at `to` with the one at `a` before it.
-fn reverse(
-    out: &mut Seq<AsmItem>,
-    op: Operator,
-    a: Location,
-    to: Location,
-    bytes: u8,
-) -> Result<(), NoMemory>
-    requires a { HasBytes a bytes }
-    requires to { HasBytes to bytes }
-    ensures ok { OnOk result (out.new.items ≡ out.old.items ++ reversed_code op a to bytes) }
-    ensures err { OnErr result (BeginWith out.old.items out.new.items) }
-{
-    match op {
-        Operator::Difference => {
-            operate(out, op, a, to, bytes)?;
-            negate(out, to, bytes)
-        }
-        _ => operate(out, op, a, to, bytes),
-    }
-}
-
 /// Appends code for an operator: the low bytes of the result stand at `to`. Where memory runs out, a part of the code
 /// is appended.
 pub fn combine(
@@ -140,7 +118,7 @@ pub fn combine(
     ensures err { OnErr result (BeginWith out.old.items out.new.items) }
 {
     if is_same(b, to) {
-        return reverse(out, op, a, to, bytes);
+        return combine_before(out, op, a, to, bytes);
     }
     move_number(out, a, to, bytes)?;
     operate(out, op, b, to, bytes)

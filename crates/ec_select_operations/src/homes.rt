@@ -1,10 +1,12 @@
 //! Where the temporaries of a function stand.
-ghost use Rattle.std.specs.Prelude.{◌≡◌, ◌≤◌};
+ghost use Rattle.std.specs.Prelude.{◌≡◌, option_map};
 ghost use Rattle.ec_asm.specs.Pieces.{HasBytes};
+ghost use Rattle.ec_select_operations.specs.Emitted.{HasIndexByte, IndexHasByte};
 ghost use Rattle.ec_select_operations.specs.Homes.{home};
 
 use ec_asm::Location;
 use ec_ir::Temp;
+use ec_select_parts::home_of_place;
 
 /// The homes of a function's temporaries. The first places stand in registers, from R25 down, where a temporary has at
 /// most `width` bytes; all others stand in scratch memory.
@@ -21,13 +23,17 @@ pub fn home(homes: Homes, t: Temp) -> Location
     ensures value { result ≡ home homes t }
     ensures bytes { HasBytes result t.bytes }
 {
-    let depth = u32::from(homes.width) * (u32::from(t.at) + 1);
-    if t.bytes <= homes.width && depth <= 12 {
-        Location::InRegisters(26 - depth as u8)
-    } else {
-        Location::InMemory {
-            object: homes.scratch,
-            offset: 16 * u32::from(t.at),
-        }
+    home_of_place(homes.width, homes.scratch, t.at, t.bytes)
+}
+
+/// Where the index of a port stands, if there is one.
+pub fn index_place(homes: Homes, index: Option<Temp>) -> Option<Location>
+    requires { IndexHasByte index }
+    ensures value { result ≡ option_map (home homes) index }
+    ensures byte { HasIndexByte result }
+{
+    match index {
+        None => None,
+        Some(t) => Some(home(homes, t)),
     }
 }

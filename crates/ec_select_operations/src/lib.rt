@@ -13,21 +13,20 @@ mod homes;
 mod laws;
 mod operations;
 mod pointers;
-mod ports;
 mod types;
 
 pub use calls::{Linking, call, finish};
+pub use ec_select_parts::{PortAccess, read_port, write_port};
 pub use families::{
     BinaryOperation, Family, Operands, Told, binary, branch, branch_on, combine, convert,
     divide_numbers, move_number, multiply_bytes, operator, shift_by_count, tell, unary,
 };
 pub use fixed::{fixed_binary, fixed_conversion, fixed_unary};
-pub use homes::{Homes, home};
+pub use homes::{Homes, home, index_place};
 pub use laws::{needed_code_is_written, needed_functions_are_written};
 pub use operations::{Flags, all_operations, function, operation};
 pub use pointers::{
     Offset, Pointers, combine_pointers, load_object, load_through, move_pointer, pointer_binary,
     pointer_conversion, put_address,
 };
-pub use ports::{PortAccess, index_place, read_port, write_port};
 pub use types::{is_fixed, is_pointer, is_whole};

@@ -14,15 +14,15 @@ use crate::families::{
     BinaryOperation, Told, branch_on, convert, family_of, move_number, operator, told_by, unary,
 };
 use crate::fixed::{fixed_binary, fixed_conversion, fixed_unary};
-use crate::homes::home;
+use crate::homes::{home, index_place};
 use crate::pointers::{
     load_object, load_through, object_location, pointer_binary, pointer_conversion, put_address,
 };
-use crate::ports::{PortAccess, index_place, read_port, write_port};
 use crate::types::{is_fixed, is_pointer, is_signed, is_whole};
 use ec_asm::{AsmItem, Location, copy};
 use ec_ir::{Ir, IrProgram, Temp};
 use ec_select_bytes::constant;
+use ec_select_parts::{PortAccess, jump, read_port, write_port};
 use ec_select_pointers::{field, store_data};
 use ec_space::{NoMemory, Seq};
 
@@ -190,7 +190,7 @@ pub fn operation(
             )
         }
         Ir::Label(l) => out.extend_from_slice(&[AsmItem::Label(of.first_label + *l)]),
-        Ir::Jump(l) => out.extend_from_slice(&[AsmItem::JumpTo(of.first_label + *l)]),
+        Ir::Jump(l) => jump(out, of.first_label + *l),
         Ir::BranchZero(t, l) => branch_on(
             out,
             flags.told,

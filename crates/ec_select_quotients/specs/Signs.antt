@@ -1,16 +1,16 @@
 -- Quotients and remainders with signs: the magnitudes are divided, and the result is negated where it has to be. The
 -- quotient is truncated towards 0, and the remainder has the sign of the number that is divided. A number has top + 1
 -- bytes, and R31 holds the sign of the result.
-use Rattle.std.specs.Prelude.{ℕ, zero, suc, ◌+◌, ◌-◌, ◌*◌, ◌/◌, ◌%◌, ◌^◌, bit_xor, Bool, true, false, pos, List, [], ◌∷◌}
-use Rattle.std.specs.Prelude.{◌++◌}
-use Rattle.ec_isa.specs.declared.instructions.Instr.TheVariants.{Mov, Add, Eor, Ldi, Brbc}
+use Rattle.std.specs.Prelude.{ℕ, zero, suc, ◌+◌, ◌-◌, ◌/◌, ◌%◌, ◌^◌, bit_xor, Bool, true, false, List, [], ◌∷◌, ◌++◌}
+use Rattle.ec_isa.specs.declared.instructions.Instr.TheVariants.{Mov, Eor}
 use Rattle.ec_asm.specs.declared.items.AsmItem.{AsmItem}
 use Rattle.ec_asm.specs.declared.items.AsmItem.TheVariants.{Plain, LoadObj}
 use Rattle.ec_asm.specs.declared.pieces.Location.{Location}
 use Rattle.ec_asm.specs.declared.pieces.Location.TheVariants.{InRegisters, InMemory}
 use Rattle.ec_asm.specs.Items.{chain}
 use Rattle.ec_asm.specs.Pieces.{copy_code}
-use Rattle.ec_select_bytes.specs.Complements.{negation_code}
+pub use Rattle.ec_select_parts.specs.Signs.{negation_words, sign_test, sign_skip, negate_if_code, cross_code}
+use Rattle.ec_select_parts.specs.Signs.{registers_code}
 use Rattle.ec_select_quotients.specs.Quotients.{divisor_row, remainder_row, divide_code}
 
 -- ---- meaning
@@ -42,29 +42,10 @@ quotient_of r true top x z =
 
 -- ---- code
 
-abbrev pub negation_words : Location → ℕ → ℕ
-negation_words (InRegisters r) n = 1 * n + (1 + 1 * n)
-negation_words (InMemory o k) n = 5 * n + (1 + 5 * n)
-
--- the highest bit of a register into C
-abbrev pub sign_test : ℕ → List AsmItem
-sign_test r = Plain (Mov 0 r) ∷ Plain (Add 0 0) ∷ []
-
-abbrev pub sign_skip : Location → ℕ → List AsmItem
-sign_skip p n = Plain (Brbc 0 (pos (negation_words p n))) ∷ []
-
--- a number is negated where the highest bit of a register is 1
-abbrev pub negate_if_code : (register : ℕ) → Location → ℕ → List AsmItem
-negate_if_code r p n = sign_test r ++ (sign_skip p n ++ negation_code p n)
-
 -- the highest byte to R31
 abbrev pub top_code : Location → ℕ → List AsmItem
 top_code (InRegisters r) top = Plain (Mov 31 (r + top)) ∷ []
 top_code (InMemory o k) top = LoadObj 31 o (k + top) ∷ []
-
-abbrev pub cross_code : (remainder : Bool) → ℕ → List AsmItem
-cross_code true top = []
-cross_code false top = Plain (Eor 31 (8 + top)) ∷ []
 
 -- the magnitudes, and the sign of the result
 abbrev pub signs_code : (remainder signed : Bool) → Location → ℕ → List AsmItem
@@ -81,7 +62,7 @@ clear_code m = chain clear_byte m
 
 -- the count of bits in R13, a zero byte above the divisor, and no remainder
 abbrev pub start_code : ℕ → List AsmItem
-start_code n = Plain (Ldi 30 (8 * n)) ∷ Plain (Mov 13 30) ∷ Plain (Eor (8 + n) (8 + n)) ∷ clear_code (suc n)
+start_code n = registers_code n ++ clear_code (suc n)
 
 abbrev pub result_code : (remainder : Bool) → Location → ℕ → List AsmItem
 result_code true p n = copy_code remainder_row p n

@@ -1,17 +1,16 @@
 //! Quotients and remainders of numbers with and without signs.
-ghost use Rattle.std.specs.Prelude.{◌≡◌, ◌+◌, ◌≤◌, ◌<◌, ◌^◌, ◌++◌, suc, pos, OnOk, OnErr};
+ghost use Rattle.std.specs.Prelude.{◌≡◌, ◌+◌, ◌≤◌, ◌<◌, ◌++◌, suc, OnOk, OnErr};
 ghost use Rattle.ec_runs.specs.Behaviours.{BeginWith};
 ghost use Rattle.ec_asm.specs.Pieces.{HasBytes, HasByte};
 ghost use Rattle.ec_select_quotients.specs.Quotients.{divisor_row, remainder_row};
-ghost use Rattle.ec_select_quotients.specs.Signs.{negation_words, sign_test, sign_skip, negate_if_code, top_code};
-ghost use Rattle.ec_select_quotients.specs.Signs.{cross_code, signs_code, clear_byte, clear_code, start_code};
+ghost use Rattle.ec_select_quotients.specs.Signs.{top_code, signs_code, clear_byte, clear_code, start_code};
 ghost use Rattle.ec_select_quotients.specs.Signs.{result_code, sign_code, finish_code, divided_code};
 ghost use Rattle.ec_select_quotients.specs.Signs.{quotient_code};
 
 use crate::quotients::{divide, divisor, remainder};
 use ec_asm::{AsmItem, Location, copy};
 use ec_isa::Instr;
-use ec_select_bytes::negate;
+use ec_select_parts::{cross_signs, negate_if, set_registers};
 use ec_space::{NoMemory, Seq};
 
 /// What is computed of two numbers.
@@ -21,41 +20,6 @@ pub struct Division {
     pub remainder: bool,
     /// Both numbers are in two's complement.
     pub signed: bool,
-}
-
-fn negation_words(at: Location, bytes: u8) -> u16
-    ensures { result ≡ negation_words at bytes }
-{
-    let n = u16::from(bytes);
-    match at {
-        Location::InRegisters(_) => 1 * n + (1 + 1 * n),
-        Location::InMemory { .. } => 5 * n + (1 + 5 * n),
-    }
-}
-
-/// A branch over so many words, where the carry is 0.
-fn over_unless(words: u16) -> Instr
-    requires { words < 2 ^ 12 }
-    ensures { result ≡ Instr.Brbc 0 (pos words) }
-{
-    Instr::Brbc {
-        s: 0,
-        k: words as i16,
-    }
-}
-
-/// Appends code that negates a number where the highest bit of a register is 1.
-fn negate_if(out: &mut Seq<AsmItem>, register: u8, at: Location, bytes: u8) -> Result<(), NoMemory>
-    requires { HasBytes at bytes }
-    ensures ok { OnOk result (out.new.items ≡ out.old.items ++ negate_if_code register at bytes) }
-    ensures err { OnErr result (BeginWith out.old.items out.new.items) }
-{
-    out.extend_from_slice(&[
-        AsmItem::Plain(Instr::Mov { d: 0, r: register }),
-        AsmItem::Plain(Instr::Add { d: 0, r: 0 }),
-        AsmItem::Plain(over_unless(negation_words(at, bytes))),
-    ])?;
-    negate(out, at, bytes)
 }
 
 /// Appends code that takes the highest byte of a number to R31.
@@ -76,18 +40,6 @@ fn take_top(out: &mut Seq<AsmItem>, at: Location, top: u8) -> Result<(), NoMemor
     }
 }
 
-fn cross(out: &mut Seq<AsmItem>, remainder: bool, top: u8) -> Result<(), NoMemory>
-    requires { top < 4 }
-    ensures ok { OnOk result (out.new.items ≡ out.old.items ++ cross_code remainder top) }
-    ensures err { OnErr result (out.new.items ≡ out.old.items) }
-{
-    if remainder {
-        Ok(())
-    } else {
-        out.extend_from_slice(&[AsmItem::Plain(Instr::Eor { d: 31, r: 8 + top })])
-    }
-}
-
 /// Appends code that makes both numbers their magnitudes, and leaves the sign of the result in R31.
 fn signs(out: &mut Seq<AsmItem>, of: Division, at: Location, top: u8) -> Result<(), NoMemory>
     requires at { HasBytes at (suc top) }
@@ -101,7 +53,7 @@ fn signs(out: &mut Seq<AsmItem>, of: Division, at: Location, top: u8) -> Result<
     }
     take_top(out, at, top)?;
     negate_if(out, 31, at, top + 1)?;
-    cross(out, of.remainder, top)?;
+    cross_signs(out, of.remainder, top)?;
     negate_if(out, 8 + top, divisor(), top + 1)
 }
 
@@ -133,17 +85,7 @@ fn start(out: &mut Seq<AsmItem>, bytes: u8) -> Result<(), NoMemory>
     ensures ok { OnOk result (out.new.items ≡ out.old.items ++ start_code bytes) }
     ensures err { OnErr result (BeginWith out.old.items out.new.items) }
 {
-    out.extend_from_slice(&[
-        AsmItem::Plain(Instr::Ldi {
-            d: 30,
-            k: 8 * bytes,
-        }),
-        AsmItem::Plain(Instr::Mov { d: 13, r: 30 }),
-        AsmItem::Plain(Instr::Eor {
-            d: 8 + bytes,
-            r: 8 + bytes,
-        }),
-    ])?;
+    set_registers(out, bytes)?;
     clear(out, bytes + 1)
 }
 

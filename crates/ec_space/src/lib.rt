@@ -10,7 +10,7 @@ mod spaces;
 
 pub use cell::Cell;
 pub use memory::Mem;
-pub use seq::{Name, NoMemory, Seq};
+pub use seq::{Name, NoMemory, Seq, push};
 pub use space::{Bank, Place, Pointer, SpaceId};
 pub use spaces::{Data, Flash, Generic, Space, Within};
 

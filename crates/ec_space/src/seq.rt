@@ -97,6 +97,17 @@ impl<T> Seq<T> {
     }
 }
 
+/// Appends `x` to a vector. Where there is no memory the items stay, and `x` is dropped.
+pub fn push<T: Drop>(items: &mut Vec<T>, x: T) -> Result<(), NoMemory>
+    ensures ok { OnOk result (items.new.items ≡ items.old.items ++ x ∷ []) }
+    ensures err { OnErr result (items.new.items ≡ items.old.items) }
+{
+    match items.push(x) {
+        Ok(()) => Ok(()),
+        Err(_) => Err(NoMemory),
+    }
+}
+
 impl<T: Drop> Seq<T> {
     /// Appends `x`. It is refused only where no room is spare, and then drops `x`.
     pub fn push(&mut self, x: T) -> Result<(), NoMemory>

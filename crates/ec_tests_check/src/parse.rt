@@ -2,7 +2,7 @@
 
 use ec_fx::FxKind;
 use ec_grammar::{GroupOp, IoOp, PragmaKind, PragmaState, PunctKind, Token, TokenKind, WordKind};
-use ec_parse::{ParseStop, parse};
+use ec_parse::{ParseStop, discard_tree, parse};
 use ec_space::{NoMemory, Seq};
 use std::alloc::Global;
 
@@ -159,7 +159,7 @@ fn parsed(alloc: Global, tokens: &mut Seq<Token>) -> Result<Result<(), ParseStop
     }
     match parse(alloc, tokens) {
         Ok(tree) => {
-            drop(tree);
+            discard_tree(tree);
             Ok(Ok(()))
         }
         Err(stop) => Ok(Err(stop)),

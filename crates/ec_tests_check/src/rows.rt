@@ -1,16 +1,16 @@
 //! Tables of texts and of what is told of each.
-ghost use Rattle.std.specs.Prelude.{IfOk};
+ghost use Rattle.std.specs.Prelude.{◌<◌, ◌^◌, All, IfOk, length};
 ghost use Rattle.ec_interp_state.specs.Views.{HasLayouts};
 ghost use Rattle.ec_iohw.specs.Valid.{ValidIo};
 
-use crate::units::are_added;
+use crate::units::sources_of;
 use crate::{expressions, runs, texts};
 use ec_check::{CheckStop, check, discard};
 use ec_core::Program;
 use ec_iohw::IoTable;
 use ec_map::{Map, MapStop, read_map};
-use ec_parse::Tree;
 use ec_space::Seq;
+use ec_units::{Tree, units_of};
 use std::alloc::{AllocError, Global};
 use std::process::Abort;
 
@@ -119,14 +119,31 @@ fn of_units(alloc: Global, what: Shown, units: &Seq<Tree>, io: &IoTable) -> Told
     }
 }
 
+fn of_sources(alloc: Global, what: Shown, sources: &Seq<Seq<u8>>, io: &IoTable) -> Told
+    requires short { All (λ s. length s.items < 2 ^ 32) sources.now.items }
+    requires table { ValidIo io.now }
+{
+    if sources.len() > 16 {
+        return Err(AllocError);
+    }
+    match units_of(alloc, sources) {
+        Ok(units) => {
+            let told = of_units(alloc, what, &units, io);
+            ec_units::discard(units);
+            told
+        }
+        Err(_) => Err(AllocError),
+    }
+}
+
 /// Whether this is told of the texts of units.
 pub fn is_told(alloc: Global, what: Shown, texts: &[&str], io: &IoTable, want: &str) -> bool
     requires { ValidIo io.now }
 {
-    let mut units = Seq::new(alloc);
-    let told = are_added(alloc, &mut units, texts) && is(of_units(alloc, what, &units, io), want);
-    drop(units);
-    told
+    match sources_of(alloc, texts) {
+        Ok(sources) => is(of_sources(alloc, what, &sources, io), want),
+        Err(_) => false,
+    }
 }
 
 fn is(told: Told, want: &str) -> bool {

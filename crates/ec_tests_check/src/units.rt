@@ -1,57 +1,30 @@
-//! From the texts of units to their trees.
-ghost use Rattle.std.specs.Prelude.{◌<◌, ◌^◌, length};
+//! From texts to the bytes of units.
+ghost use Rattle.std.specs.Prelude.{◌<◌, ◌^◌, All, IfOk, length};
 
-use ec_lex::lex;
-use ec_parse::{Tree, parse};
 use ec_space::{NoMemory, Seq};
 use std::alloc::Global;
 
-fn bytes_of(alloc: Global, text: &str) -> Result<Seq<u8>, NoMemory> {
+/// The bytes of a text. One of 100,000 bytes or more is no test.
+fn bytes_of(alloc: Global, text: &str) -> Result<Seq<u8>, NoMemory>
+    ensures { IfOk result (λ bytes. length bytes.items < 2 ^ 32) }
+{
     let mut bytes = Seq::new(alloc);
     bytes.extend_from_slice(text.as_bytes())?;
-    Ok(bytes)
+    if bytes.len() < 100_000 {
+        Ok(bytes)
+    } else {
+        Err(NoMemory)
+    }
 }
 
-fn tree_of(alloc: Global, bytes: &Seq<u8>) -> Option<Tree>
-    requires { length bytes.now.items < 2 ^ 32 }
+/// The bytes of each text.
+pub fn sources_of(alloc: Global, texts: &[&str]) -> Result<Seq<Seq<u8>>, NoMemory>
+    ensures { IfOk result (λ sources. All (λ s. length s.items < 2 ^ 32) sources.items) }
 {
-    match lex(alloc, bytes) {
-        Ok(tokens) => match parse(alloc, &tokens) {
-            Ok(tree) => Some(tree),
-            Err(_) => None,
-        },
-        Err(_) => None,
-    }
-}
-
-/// The tree of a text.
-fn tree(alloc: Global, text: &str) -> Option<Tree> {
-    match bytes_of(alloc, text) {
-        Ok(bytes) => {
-            if bytes.len() < 100_000 {
-                tree_of(alloc, &bytes)
-            } else {
-                None
-            }
-        }
-        Err(_) => None,
-    }
-}
-
-/// Whether a text has a tree, which is appended.
-fn add(alloc: Global, units: &mut Seq<Tree>, text: &str) -> bool {
-    match tree(alloc, text) {
-        Some(tree) => units.push(tree).is_ok(),
-        None => false,
-    }
-}
-
-/// Whether all texts have trees, which are appended.
-pub fn are_added(alloc: Global, units: &mut Seq<Tree>, texts: &[&str]) -> bool {
+    let mut sources = Seq::new(alloc);
     for text in texts {
-        if !add(alloc, units, *text) {
-            return false;
-        }
+        let bytes = bytes_of(alloc, *text)?;
+        sources.push(bytes)?;
     }
-    true
+    Ok(sources)
 }

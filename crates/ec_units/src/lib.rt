@@ -6,6 +6,6 @@
 mod stop;
 mod units;
 
-pub use ec_parse::Tree;
+pub use ec_parse::{Tree, discard};
 pub use stop::UnitStop;
-pub use units::{discard, units_of};
+pub use units::units_of;

@@ -1,5 +1,5 @@
 //! The units of a build: texts, their tokens and their trees.
-ghost use Rattle.std.specs.Prelude.{◌≡◌, List, ◌≤◌, ◌<◌, ◌^◌, All, IfOk, IfErr, length, map};
+ghost use Rattle.std.specs.Prelude.{◌≡◌, List, [], ◌≤◌, ◌<◌, ◌^◌, All, IfOk, IfErr, length, map};
 ghost use Rattle.ec_grammar.specs.Trees as t;
 ghost use Rattle.ec_grammar.specs.Tokens.{view_tokens};
 ghost use Rattle.ec_grammar.specs.Views.{view_tree};
@@ -8,7 +8,7 @@ ghost use Rattle.ec_units.specs.Stops.{StopsReading, StopsLexing, StopsLexingAll
 
 use crate::stop::UnitStop;
 use ec_lex::{LexStop, Token, lex};
-use ec_parse::{ParseStop, Tree, parse};
+use ec_parse::{ParseStop, Tree, append, discard, parse};
 use ec_space::Seq;
 use std::alloc::Global;
 
@@ -53,6 +53,21 @@ fn tree_of(alloc: Global, unit: u8, tokens: &Seq<Token>) -> Result<Tree, UnitSto
     }
 }
 
+/// Appends the trees of the tokens of all texts to none, or tells the first that have none.
+fn append_units(alloc: Global, lists: &[Seq<Token>], trees: &mut Seq<Tree>) -> Result<(), UnitStop>
+    requires few { length lists.now ≤ 16 }
+    requires readable { All (λ l. AreReadable (view_tokens l.items)) lists.now }
+    requires empty { trees.old.items ≡ [] }
+    ensures parsed { IfOk result (λ _. HaveTrees lists.now trees.new.items) }
+    ensures stopped { IfErr result (StopsParsingAll lists.now) }
+{
+    for (i, tokens) in lists.iter().enumerate() {
+        let tree = tree_of(alloc, i as u8, tokens)?;
+        append(trees, tree)?;
+    }
+    Ok(())
+}
+
 /// The trees of the tokens of all texts, or the first that have none.
 fn parse_units(alloc: Global, lists: &[Seq<Token>]) -> Result<Seq<Tree>, UnitStop>
     requires few { length lists.now ≤ 16 }
@@ -61,11 +76,13 @@ fn parse_units(alloc: Global, lists: &[Seq<Token>]) -> Result<Seq<Tree>, UnitSto
     ensures stopped { IfErr result (StopsParsingAll lists.now) }
 {
     let mut trees = Seq::new(alloc);
-    for (i, tokens) in lists.iter().enumerate() {
-        let tree = tree_of(alloc, i as u8, tokens)?;
-        trees.push(tree)?;
+    match append_units(alloc, lists, &mut trees) {
+        Ok(()) => Ok(trees),
+        Err(stop) => {
+            discard(trees);
+            Err(stop)
+        }
     }
-    Ok(trees)
 }
 
 /// The trees of at most 16 sources, each shorter than 2^32 bytes: all are lexed before any is parsed. The sources have no
@@ -83,6 +100,3 @@ pub fn units_of(alloc: Global, sources: &Seq<Seq<u8>>) -> Result<Seq<Tree>, Unit
     let trees = parse_units(alloc, lists.as_slice())?;
     Ok(trees)
 }
-
-/// Takes trees that are needed no more.
-pub fn discard(_units: Seq<Tree>) {}

@@ -15,6 +15,8 @@ ghost use Rattle.ec_avr.specs.Flags.{pair_difference as difference_of_pair};
 ghost use Rattle.ec_avr.specs.Flags.{pair_difference_flags as flags_of_pair_difference};
 ghost use Rattle.ec_avr.specs.Flags.{product_flags as flags_of_product};
 
+use ec_avr_parts::{half_carry, zero_of_difference};
+
 /// Bit `n` of a byte: 0 or 1.
 pub fn bit(byte: u8, n: u8) -> u8
     requires { n < 8 }
@@ -96,7 +98,7 @@ pub fn sum_flags(sreg: u8, x: u8, y: u8, carry: u8) -> u8
     let r = byte_sum(x, y, carry);
     let c = ((x as u16 + y as u16 + carry as u16) / 256) as u8;
     let v = sum_overflow(128, x as u16, y as u16, r as u16);
-    let h = (x % 16 + y % 16 + carry) / 16;
+    let h = half_carry(x, y, carry);
     with_flags(sreg, c, u8::from(r == 0), r / 128, v, h)
 }
 
@@ -114,7 +116,7 @@ pub fn difference_flags(sreg: u8, x: u8, y: u8, borrow: u8, zero_before: u8) -> 
 {
     let r = byte_difference(x, y, borrow);
     let c = u8::from((x as u16) < y as u16 + borrow as u16);
-    let z = u8::from(r == 0) * zero_before;
+    let z = zero_of_difference(r, zero_before);
     let v = difference_overflow(128, x as u16, y as u16, r as u16);
     let h = u8::from(x % 16 < y % 16 + borrow);
     with_flags(sreg, c, z, r / 128, v, h)

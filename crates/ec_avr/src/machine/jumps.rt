@@ -4,6 +4,7 @@ ghost use Rattle.std.specs.Prelude.{◌≡◌};
 ghost use Rattle.ec_avr.specs.Effects.{relative as relative_of, has_two_words as has_two_words_of};
 
 use super::{Access, Machine, Stepped};
+use ec_avr_parts::skipped_words;
 use ec_isa::{Instr, decode};
 
 impl Machine {
@@ -57,12 +58,8 @@ impl Machine {
         ensures state { self.new ≡ (skip taken self.old).state }
     {
         let next = self.pc as u32 + 1;
-        let words = if is_of_two_words(self.instruction_at(next)) {
-            2
-        } else {
-            1
-        };
-        self.jump(next + if taken { words } else { 0 })
+        let two_words = is_of_two_words(self.instruction_at(next));
+        self.jump(next + skipped_words(taken, two_words))
     }
 }
 

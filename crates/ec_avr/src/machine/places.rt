@@ -1,10 +1,7 @@
 // The places of the machine: bytes, registers, pointers, flags and words of flash.
 
-ghost use Rattle.std.specs.Prelude.{◌≡◌};
-ghost use Rattle.ec_avr.specs.State.{is_core_register as is_core_register_at, is_port as is_port_at};
-ghost use Rattle.ec_avr.specs.State.{raised as raised_of, lowered as lowered_of};
-
 use super::Machine;
+use ec_avr_parts::is_past_ports;
 use ec_space::Bank;
 
 /// The lower register of the pointer X.
@@ -66,7 +63,7 @@ impl Machine {
     pub(super) fn is_sram(&self, at: u16) -> bool
         ensures { result ≡ is_sram self.now at }
     {
-        256 <= at && self.has_data(at)
+        is_past_ports(at) && self.has_data(at)
     }
 
     /// Whether the core has the flash address.
@@ -183,32 +180,4 @@ impl Machine {
     {
         self.set_pc(self.pc as u32 + words as u32);
     }
-}
-
-/// Whether a data address is that of R0 to R31, SPL, SPH or SREG.
-pub(super) fn is_core_register(at: u16) -> bool
-    ensures { result ≡ is_core_register_at at }
-{
-    at < 32 || at == 0x5D || at == 0x5E || at == 0x5F
-}
-
-/// Whether a data address is that of a port.
-pub(super) fn is_port(at: u16) -> bool
-    ensures { result ≡ is_port_at at }
-{
-    at < 256 && !is_core_register(at)
-}
-
-/// The next address.
-pub(super) fn raised(at: u16) -> u16
-    ensures { result ≡ raised_of at }
-{
-    at.wrapping_add(1)
-}
-
-/// The address before.
-pub(super) fn lowered(at: u16) -> u16
-    ensures { result ≡ lowered_of at }
-{
-    at.wrapping_sub(1)
 }

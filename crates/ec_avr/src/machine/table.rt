@@ -4,6 +4,7 @@ use super::flags::bit;
 use super::jumps::relative;
 use super::places::*;
 use super::{Machine, Stepped};
+use ec_avr_parts::lowered;
 use ec_isa::Instr;
 
 /// The flag C.

@@ -5,6 +5,9 @@ ghost use Rattle.ec_avr.specs.Effects.{load_access as access_of_load, store_acce
 
 use super::places::*;
 use super::{Access, FaultKind, Machine, Stepped};
+use ec_avr_parts::{
+    is_core_register, is_kept, is_port, lowered, post_increment, raised, return_address,
+};
 use ec_space::Bank;
 
 impl Machine {
@@ -37,7 +40,7 @@ impl Machine {
         requires { at < length self.old.mem.data }
         ensures { self.new ≡ stored self.old at byte }
     {
-        if !is_port(at) {
+        if is_kept(at) {
             self.set_byte(at, byte);
         }
     }
@@ -60,13 +63,13 @@ impl Machine {
         ensures stepped { result ≡ (load_and_raise d pointer answer self.old).stepped }
         ensures state { self.new ≡ (load_and_raise d pointer answer self.old).state }
     {
-        let at = self.pair(pointer);
+        let (at, next) = post_increment(self.pair(pointer));
         if !self.has_data(at) {
             return self.faulted(FaultKind::DataOut);
         }
         let byte = self.loaded(at, answer);
         self.set_register(d, byte);
-        self.set_pair(pointer, raised(at));
+        self.set_pair(pointer, next);
         self.pass(1);
         Stepped::Ran(load_access(at, byte))
     }
@@ -104,12 +107,12 @@ impl Machine {
         ensures stepped { result ≡ (store_and_raise pointer byte self.old).stepped }
         ensures state { self.new ≡ (store_and_raise pointer byte self.old).state }
     {
-        let at = self.pair(pointer);
+        let (at, next) = post_increment(self.pair(pointer));
         if !self.has_data(at) {
             return self.faulted(FaultKind::DataOut);
         }
         self.put(at, byte);
-        self.set_pair(pointer, raised(at));
+        self.set_pair(pointer, next);
         self.pass(1);
         Stepped::Ran(store_access(at, byte))
     }
@@ -147,14 +150,14 @@ impl Machine {
         ensures stepped { result ≡ (load_flash_and_raise d self.old).stepped }
         ensures state { self.new ≡ (load_flash_and_raise d self.old).state }
     {
-        let z = self.pair(Z);
-        let at = z as u32;
+        let (pointer, next) = post_increment(self.pair(Z));
+        let at = pointer as u32;
         if !self.has_flash(at) {
             return self.faulted(FaultKind::DataOut);
         }
         let byte = self.flash_byte(at);
         self.set_register(d, byte);
-        self.set_pair(Z, raised(z));
+        self.set_pair(Z, next);
         self.pass(1);
         Stepped::Ran(flash_access(at, byte))
     }
@@ -214,7 +217,7 @@ impl Machine {
         if !(self.is_sram(first) && self.is_sram(second)) {
             return self.faulted(FaultKind::StackOut);
         }
-        let to = 256 * self.byte_at(first) as u32 + self.byte_at(second) as u32;
+        let to = return_address(self.byte_at(first), self.byte_at(second));
         self.set_stack_pointer(second);
         self.set_pc(to);
         Stepped::Ran(Access::Stack)

@@ -152,7 +152,7 @@ returns-in-Some-exec_steps-clause-answered g c =
       exec = λ steps of.
           let same_steps = same_number (word c.args.words.now.items 3) 4294967295 steps c.in-Some-exec_steps.steps of.steps_word is.steps_word in
           rw same_steps (answer_of compiling.status_of (compiling.line_of c.args.words.now.items 4) _ _ _ _ _ c.exec-executed.result c.conclude-in-Some-exec_steps.result
-          c.conclude-in-Some-exec_steps.ensures.done c.conclude-in-Some-exec_steps.ensures.told c.exec-executed.ensures.ran c.exec-executed.ensures.stopped);
+          c.conclude-in-Some-exec_steps.ensures.done (rw c.first_source.ensures at c.conclude-in-Some-exec_steps.ensures.told) c.exec-executed.ensures.ran c.exec-executed.ensures.stopped);
       gen = λ n of. absurd (gen_not_exec _ n _ of is);
       none = λ no. absurd (no.no_exec _ is);
     }
@@ -163,7 +163,7 @@ returns-in-Some-exec_steps-clause-complete g c = record {
   run = λ steps fill of. absurd (c.in_default.ensures.none steps fill of);
   exec = λ steps is accepts calm out_calm.
       by_status compiling.status_of (compiling.line_of c.args.words.now.items 4) IsLeft _ _ _ c.exec-executed.result c.conclude-in-Some-exec_steps.result
-      c.conclude-in-Some-exec_steps.ensures.done c.conclude-in-Some-exec_steps.ensures.told (c.exec-executed.ensures.complete is.few accepts calm out_calm);
+      c.conclude-in-Some-exec_steps.ensures.done (rw c.first_source.ensures at c.conclude-in-Some-exec_steps.ensures.told) (c.exec-executed.ensures.complete is.few accepts calm out_calm);
   gen = λ n of. absurd (gen_not_exec _ n _ of c.in-Some-exec_steps.ensures.some);
 }
 
@@ -198,7 +198,7 @@ returns-in-Some-exec_steps-clause-usage g c = (
       (store_view (g.S.Store.disk c.args.store.now) (g.S.Store.read_faults c.args.store.now) (g.S.Store.write_faults c.args.store.now) (g.S.Store.received c.args.store.now))
       (store_view (g.S.Store.disk c.exec-executed.new.store) (g.S.Store.read_faults c.exec-executed.new.store) (g.S.Store.write_faults c.exec-executed.new.store) (g.S.Store.received c.exec-executed.new.store))
       (sink_call (g.O.Sink.written c.args.out.now) (g.O.Sink.written c.exec-executed.new.out) (g.O.Sink.faults c.args.out.now) (g.O.Sink.faults c.exec-executed.new.out))
-      _ _ _ c.exec-executed.result c.conclude-in-Some-exec_steps.result c.conclude-in-Some-exec_steps.ensures.done c.conclude-in-Some-exec_steps.ensures.told
+      _ _ _ c.exec-executed.result c.conclude-in-Some-exec_steps.result c.conclude-in-Some-exec_steps.ensures.done (rw c.first_source.ensures at c.conclude-in-Some-exec_steps.ensures.told)
       c.exec-executed.ensures.stopped e),
   λ no. absurd (no.no_exec _ c.in-Some-exec_steps.ensures.some),
 )
@@ -211,18 +211,18 @@ returns-in-Some-exec_steps-clause-sources g c = λ b several. absurd (not_exec _
 pub returns-in-None-clause-answered : goal.returns-in-None-clause-answered
 returns-in-None-clause-answered g c = record {
   build = λ b. answer_of compiling.status_of (compiling.line_of c.args.words.now.items 3) _ _ _ _ _ c.build-built.result c.conclude-in-None.result c.conclude-in-None.ensures.done
-      c.conclude-in-None.ensures.told c.build-built.ensures.built c.build-built.ensures.stopped;
+      (rw c.first_source-in-None.ensures at c.conclude-in-None.ensures.told) c.build-built.ensures.built c.build-built.ensures.stopped;
   run = λ steps fill of. absurd (c.in_default.ensures.none steps fill of);
   exec = λ steps of. absurd (c.in-None.ensures.none steps of);
   gen = λ n of. absurd (c.in_default-gen_number.ensures.none n of);
-  none = λ no. usage_of c.args.words.now.items _ _ c.build-built.result c.conclude-in-None.result (c.build-built.ensures.usage no.no_build).0 c.conclude-in-None.ensures.told;
+  none = λ no. usage_of c.args.words.now.items _ _ c.build-built.result c.conclude-in-None.result (c.build-built.ensures.usage no.no_build).0 (rw c.first_source-in-None.ensures at c.conclude-in-None.ensures.told);
 }
 
 pub returns-in-None-clause-complete : goal.returns-in-None-clause-complete
 returns-in-None-clause-complete g c = record {
   build = λ one accepted reads writes.
       by_status compiling.status_of (compiling.line_of c.args.words.now.items 3) (λ status. status ≡ 11) _ _ _ c.build-built.result c.conclude-in-None.result
-      c.conclude-in-None.ensures.done c.conclude-in-None.ensures.told (c.build-built.ensures.complete one accepted reads writes);
+      c.conclude-in-None.ensures.done (rw c.first_source-in-None.ensures at c.conclude-in-None.ensures.told) (c.build-built.ensures.complete one accepted reads writes);
   run = λ steps fill of. absurd (c.in_default.ensures.none steps fill of);
   exec = λ steps of. absurd (c.in-None.ensures.none steps of.row);
   gen = λ n of. absurd (c.in_default-gen_number.ensures.none n of);

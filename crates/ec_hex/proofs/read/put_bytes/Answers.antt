@@ -6,7 +6,7 @@ use Rattle.ec_hex.specs.Denotes.{addressed}
 use Rattle.ec_hex.specs.Reading.{Holds}
 use Rattle.ec_hex.proofs.Putting.{past_flash, within_flash, put_more, put_twice}
 use Rattle.ec_hex.proofs.read.put_bytes.Goals as goal
-use Rattle.ec_hex.proofs.read.put_bytes.Goals.{After-as_slice, else-not-is_empty-via-then-not-is_empty+else-size-at, else-not-is_empty-via-else-not-is_empty}
+use Rattle.ec_hex.proofs.read.put_bytes.Goals.{After-as_slice, else-not-is_empty-via-then-not-is_empty+else-is_past, else-not-is_empty-via-else-not-is_empty}
 
 some_of : (n : ℕ) → (n == 0) ≡ false → 0 < n
 some_of n e = grind (arith, e)
@@ -19,15 +19,15 @@ flag_at {read} {written} {flag} at same below is =
 -- while there is a byte, all lie in flash
 fits : (c : After-as_slice) → c.args.at + length c.args.bytes.now ≤ flash_size c.loop-i.image.core
 fits c = rw c.loop-i.invariant.core (elim c.else-not-is_empty.branch [
-  | else-not-is_empty-via-then-not-is_empty+else-size-at w ↦ omega (arith, w.if-size-at.false, c.from-size.ensures, c.flash_size.ensures)
+  | else-not-is_empty-via-then-not-is_empty+else-is_past w ↦ omega (arith, w.if-is_past.ensures, c.from-size.ensures, c.flash_size.ensures)
   | else-not-is_empty-via-else-not-is_empty w ↦ absurd (omega (arith, eqb-true (length c.args.bytes.now) 0 (sym c.is_empty.ensures ∙ w.if-not-is_empty.false), c.loop-i-test.true))
 ])
 
-pub returns-then-size-at-clause-puts : goal.returns-then-size-at-clause-puts
-returns-then-size-at-clause-puts c = λ cells holds. (
+pub returns-then-is_past-clause-puts : goal.returns-then-is_past-clause-puts
+returns-then-is_past-clause-puts c = λ cells holds. (
   refl,
   past_flash c.args.image.now.core cells c.args.at c.args.bytes.now (some_of (length c.args.bytes.now) (sym c.is_empty.ensures ∙ c.if-not-is_empty.true))
-      (omega (arith, c.if-size-at.true, c.from-size.ensures, c.flash_size.ensures)),
+      (omega (arith, c.if-is_past.ensures, c.from-size.ensures, c.flash_size.ensures)),
 )
 
 pub returns-then-as_slice-place-clause-puts : goal.returns-then-as_slice-place-clause-puts

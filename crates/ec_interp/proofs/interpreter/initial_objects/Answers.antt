@@ -20,7 +20,7 @@ loop-o-preserved c =
     let rest = map first (map plain_object (drop (c.loop-o.o-index + 1) c.args.objs.now)) in
     let next = list_next c.args.objs.now c.loop-o.o-index c.o-item.result (omega (arith, c.loop-o-test.true)) c.o-item.is in (
       λ h. (subst (λ (xs : List Obj). AllByRecursion (IsObject program) (map plain_object xs)) next (c.loop-o.invariant.0 h)).1,
-      one_more_seen seen_object c.loop-o.objects.items c.push.new.items.items c.in_ok-x.x _ rest c.in_ok-push.ensures
+      one_more_seen seen_object c.loop-o.objects.items c.push.new.items.items c.in_ok-x.x _ rest c.in_ok-push.ensures.ok
           (ap (λ xs. map first (map plain_object xs)) next
           ∙ ap (λ (x : ObjectState). x ∷ rest) (sym c.in_ok-x.ensures.object)) ∙ c.loop-o.invariant.1,
     )

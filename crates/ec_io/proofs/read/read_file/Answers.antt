@@ -14,7 +14,7 @@ more-preserved g c =
     let long : length c.extend_from_slice.new.self.items ≡ length c.more.bytes.items + c.in-Ok.n =
     ap length grown ∙ length-more c.more.bytes.items c.read.new.buf c.in-Ok.n fits in
     record {
-      within = omega arith;
+      within = omega (arith, c.if-is_too_long.ensures);
       told = subst (λ xs. ReadSoFar c.args.name.now (g.S.Store.disk c.args.store.now) (g.S.Store.disk c.read.new.self) xs) (sym grown)
           (read_more _ _ _ _ _ _ _ fits i.told c.in-Ok.ensures.disk);
       received = counted_more _ _ _ _ _ _ i.received c.in-Ok.ensures.received (sym long);
@@ -32,4 +32,4 @@ pub returns-in-Err-extend_from_slice-clause-received : goal.returns-in-Err-exten
 returns-in-Err-extend_from_slice-clause-received g c =
     let fits : c.in-Ok.n ≤ length c.read.new.buf = c.in-Ok.ensures.bound.0 in
     let room : length c.read.new.buf ≤ c.min-room.result = omega (arith, c.read.auto.buf, length-take c.min-room.result c.more.buf) in
-    (length c.more.bytes.items + c.in-Ok.n, (omega arith, counted_more _ _ _ _ _ _ c.more.invariant.received c.in-Ok.ensures.received refl))
+    (length c.more.bytes.items + c.in-Ok.n, (omega (arith, c.if-is_too_long.ensures), counted_more _ _ _ _ _ _ c.more.invariant.received c.in-Ok.ensures.received refl))

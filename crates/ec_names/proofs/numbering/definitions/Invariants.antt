@@ -10,6 +10,6 @@ invariant-loop-tree l =
     record {
       numbered : numbered_from l.unit left (plain_numbering l.numbering) ≡ numbered_from 0 (map view_tree l.units) nothing_numbered;
       unit : l.unit ≡ l.tree-index;
-      objects : l.numbering.objects + objects_declared left ≤ objects_declared (map view_tree l.units);
-      functions : l.numbering.functions + functions_defined left ≡ functions_defined (map view_tree l.units);
+      objects : l.numbering.counts.objects + objects_declared left ≤ objects_declared (map view_tree l.units);
+      functions : l.numbering.counts.functions + functions_defined left ≡ functions_defined (map view_tree l.units);
     }

@@ -1,5 +1,5 @@
-use Rattle.std.proofs.Common.{◌≡◌, [], ◌∙◌, ap}
-use Rattle.ec_recursion.specs.Rows.{plain_rows, row_at}
+use Rattle.std.proofs.Common.{◌≡◌, []}
+use Rattle.ec_recursion.specs.Rows.{plain_rows}
 use Rattle.ec_recursion.proofs.Marks.{search_goes_on, search_ends, none_popped}
 use Rattle.ec_recursion.proofs.search.go_on.Goals as goal
 
@@ -7,9 +7,8 @@ pub loop-function-preserved : goal.loop-function-preserved
 loop-function-preserved c f s =
     let rows = plain_rows c.args.rows.now in
     let h = c.in-Some.function in
-    let row : c.calls_at.result.now ≡ row_at rows h = c.calls_at.ensures ∙ ap (row_at rows) c.from.ensures in
     search_goes_on rows f h c.loop-function.marks c.note_all.new.marks c.pop.new.self.items c.note_all.new.waiting.items
-    (rw c.in-Some.ensures.items at (c.loop-function.invariant f s)) (rw row at c.in_ok-note_all.ensures)
+    (rw c.in-Some.ensures.items at (c.loop-function.invariant f s)) (rw c.calls_by_number.ensures at c.in_ok-note_all.ensures)
 
 pub returns : goal.returns
 returns c f s =

@@ -9,6 +9,6 @@ invariant-loop-external l =
     let left = map view_external (drop l.external-index l.externals) in
     record {
       numbered : numbered_externals l.unit left (plain_numbering l.self) ≡ numbered_externals l.unit (map view_external l.externals) (plain_numbering l.fn.self);
-      objects : l.self.objects + objects_in_externals left ≤ l.fn.self.objects + objects_in_externals (map view_external l.externals);
-      functions : l.self.functions + functions_in_externals left ≡ l.fn.self.functions + functions_in_externals (map view_external l.externals);
+      objects : l.self.counts.objects + objects_in_externals left ≤ l.fn.self.counts.objects + objects_in_externals (map view_external l.externals);
+      functions : l.self.counts.functions + functions_in_externals left ≡ l.fn.self.counts.functions + functions_in_externals (map view_external l.externals);
     }

@@ -9,6 +9,6 @@ invariant-loop-d l =
     let left = map view_next_init_declarator (drop l.d-index l.more) in
     record {
       numbered : numbered_more l.unit l.storage left (plain_numbering l.self) ≡ numbered_more l.unit l.storage (map view_next_init_declarator l.more) (plain_numbering l.fn.self);
-      objects : l.self.objects + objects_in_more left ≤ l.fn.self.objects + objects_in_more (map view_next_init_declarator l.more);
-      functions : l.self.functions ≡ l.fn.self.functions;
+      objects : l.self.counts.objects + objects_in_more left ≤ l.fn.self.counts.objects + objects_in_more (map view_next_init_declarator l.more);
+      functions : l.self.counts.functions ≡ l.fn.self.counts.functions;
     }

@@ -1,0 +1,2 @@
+-- The definitions of instructions for bytes of numbers.
+pub mod Bytes

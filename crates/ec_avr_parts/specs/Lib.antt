@@ -1,0 +1,2 @@
+-- The definitions of data addresses.
+pub mod Addresses

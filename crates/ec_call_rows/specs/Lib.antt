@@ -1,0 +1,2 @@
+-- The definition of rows of calls.
+pub mod Rows

@@ -1,0 +1,3 @@
+-- The definitions of asks, of hooks, and of what is answered.
+pub mod Answers
+pub mod Hooks

@@ -1,0 +1,2 @@
+-- The definitions of counts.
+pub mod Counts

@@ -1,0 +1,2 @@
+-- The definition of where comments end.
+pub mod Comments

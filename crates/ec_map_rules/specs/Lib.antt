@@ -1,0 +1,2 @@
+-- The definitions of what is judged of a map by numbers and answers.
+pub mod Rules

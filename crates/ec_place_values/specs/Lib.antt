@@ -1,0 +1,3 @@
+-- The definitions of what comes of places.
+pub mod Labels
+pub mod Pointers

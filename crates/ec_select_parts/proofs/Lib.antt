@@ -1,0 +1,2 @@
+-- Lemmas about the parts of operations.
+pub mod Bytes

@@ -1,0 +1,2 @@
+-- The definitions of what a `main` is.
+pub mod Mains
