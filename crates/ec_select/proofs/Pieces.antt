@@ -16,7 +16,7 @@ use Rattle.ec_asm.specs.Pieces.{compare_byte, compare_code}
 use Rattle.ec_asm.specs.Valid.{Sizes}
 use Rattle.ec_select_bytes.specs.Complements.{complement_byte, complement_code, carry_byte, carry_code, negation_code}
 use Rattle.ec_select_bytes.specs.Values.{byte_of, constant_byte, constant_code, test_byte, test_code, put_byte}
-use Rattle.ec_select_bytes.specs.Values.{take_byte, fill_code, puts_code, extend_code}
+use Rattle.ec_select_bytes.specs.Values.{take_byte, fill_code, puts_code, clear_byte, widen_code, extend_code}
 use Rattle.ec_select_order.specs.declared.relations.Relation.{Relation}
 use Rattle.ec_select_order.specs.declared.relations.Relation.TheVariants.{Less, NotLess, Equal, NotEqual}
 use Rattle.ec_select_order.specs.Relations.{truth_code, relation_code}
@@ -134,16 +134,27 @@ module _ (sizes : Sizes) where
   puts_fits p m count x =
       chained (fits sizes) (λ i. put_byte p (m + i)) count (λ i l. put_byte_fits p (m + i) (x (m + i) (omega arith)))
 
+  widen_fits : (signed : Bool) (p : Location) (m count : ℕ) → 1 ≤ m → BytesFit sizes p (m + count)
+      → Fit sizes (widen_code signed p m count)
+  widen_fits false (InRegisters r) m count some x =
+      chained (fits sizes) (λ i. clear_byte r (m + i)) count
+      (λ i l. rw (reg (r + (m + i)) (x (m + i) (omega arith))) refl)
+  widen_fits false (InMemory o k) m count some x =
+      joined (fits sizes) (fill_code false (InMemory o k) m) (puts_code (InMemory o k) m count)
+      (fill_fits false (InMemory o k) m (x (m - 1) (omega arith))) (puts_fits (InMemory o k) m count x)
+  widen_fits true p m count some x =
+      joined (fits sizes) (fill_code true p m) (puts_code p m count) (fill_fits true p m (x (m - 1) (omega arith)))
+      (puts_fits p m count x)
+
   pub extend_fits : (signed : Bool) (p : Location) (m n : ℕ) → 1 ≤ m → BytesFit sizes p n
       → Fit sizes (extend_code signed p m n)
   extend_fits signed p m n some x = by_bytes (nat_le n m) refl where
     by_bytes : (few : Bool) → nat_le n m ≡ few
-        → Fit sizes (if few then [] else fill_code signed p m ++ puts_code p m (n - m))
+        → Fit sizes (if few then [] else widen_code signed p m (n - m))
     by_bytes true q = refl
     by_bytes false q =
-        joined (fits sizes) (fill_code signed p m) (puts_code p m (n - m))
-        (fill_fits signed p m (x (m - 1) (grind (arith, le-leb n m))))
-        (puts_fits p m (n - m) (fewer_fit sizes p (m + (n - m)) n (grind (arith, le-leb n m)) x))
+        widen_fits signed p m (n - m) some
+        (fewer_fit sizes p (m + (n - m)) n (grind (arith, le-leb n m)) x)
 
   -- ---- complements and negations
 

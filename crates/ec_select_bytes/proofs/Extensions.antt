@@ -1,6 +1,7 @@
 -- The bytes above a number.
-use Rattle.std.proofs.Common.{◌≡◌, ◌≢◌, ℕ, suc, ◌+◌, ◌-◌, ◌*◌, ◌/◌, ◌<◌, ◌≤◌, ⊎_elim, Bool, true, false, refl, ap, ◌∙◌, subst, arith, leb-true, leb-false, ◌⊎◌, inl, inr}
-use Rattle.std.specs.Prelude.{nat_le, [], ◌∷◌}
+use Rattle.std.proofs.Common.{◌≡◌, ◌≢◌, ℕ, suc, ◌+◌, ◌-◌, ◌*◌, ◌/◌, ◌<◌, ◌≤◌, ⊎_elim, Bool, true, false, refl, ap, ◌∙◌}
+use Rattle.std.proofs.Common.{subst, arith, leb-true, leb-false}
+use Rattle.std.specs.Prelude.{nat_le, [], ◌∷◌, ◌++◌, bit_xor}
 use Rattle.std.specs.Int.Bits.{xor_self}
 use Rattle.std.proofs.lemmas.Bool.{cases_eq, cases_lt, cases_Bool}
 use Rattle.ec_isa.specs.declared.instructions.Instr.TheVariants.{Add, Sbc}
@@ -11,11 +12,13 @@ use Rattle.ec_asm.specs.declared.pieces.Location.TheVariants.{InRegisters, InMem
 use Rattle.ec_asm.specs.View.{View}
 use Rattle.ec_asm.specs.Change.{Env, Own, set, change}
 use Rattle.ec_asm.specs.Items.{block}
-use Rattle.ec_asm.specs.Pieces.{address, KindIs, StandsFrom}
+use Rattle.ec_asm.specs.Pieces.{address, KindIs, StandsFrom, Keeps}
+use Rattle.ec_asm.specs.PieceLaws.{HoldsNumbers}
 use Rattle.ec_asm.proofs.Hoare.{chain_holds, block-append}
 use Rattle.ec_asm.proofs.Bytes.{put_here, put_other}
 use Rattle.ec_asm.proofs.Sum.{not_here, fewer}
-use Rattle.ec_select_bytes.specs.Values.{put_byte, take_byte, fill_code, puts_code, fill_of, FillsTo}
+use Rattle.ec_select_bytes.specs.Values.{put_byte, take_byte, fill_code, puts_code, clear_byte, clears_code, widen_code}
+use Rattle.ec_select_bytes.specs.Values.{fill_of, FillsTo}
 use Rattle.ec_select_bytes.specs.Laws.{Extends, ExtensionsAreRight}
 
 byte_is_put : (e : Env) (p : Location) (i a : ℕ) (v : View) → address e p i ≡ a → KindIs e p a Own
@@ -110,19 +113,67 @@ none v signed a m n l = record {
   keeps = record { same = λ k x y o. refl; inputs = refl; safe = refl; seen = refl };
 }
 
-pub extensions_are_right : ExtensionsAreRight
-extensions_are_right signed e p m n a v s l bytes =
-    ⊎_elim
-    (λ x.
-    let g : suc m < n = leb-false n (suc m) x in
+-- ---- registers that become 0
+
+-- the first i bytes are 0
+record Clears (v0 : View) (a i : ℕ) (v : View) : Type 0 where
+  there : (j : ℕ) → j < i → v.at (a + j) ≡ 0
+  keeps : Keeps v0 v a i
+
+clear_step : (e : Env) (r n a m : ℕ) (v0 : View) → StandsFrom e (InRegisters r) n a Own → (i : ℕ) → m + i < n
+    → (v : View) → Clears v0 (a + m) i v → Clears v0 (a + m) (suc i) (block e (clear_byte r (m + i)) v)
+clear_step e r n a m v0 s i l v h =
+    let ua = s.clear in
+    let q : r + (m + i) ≡ a + m + i = (let x = s.at (m + i) l in let z : a + (m + i) ≡ a + m + i = omega arith in x ∙ z) in
+    let byte = bit_xor (v.at (a + m + i)) (v.at (a + m + i)) in
+    rw q (record {
+      there = λ j z. ⊎_elim
+          (λ (t : j ≡ i). put_here v.at (a + m + i) byte (a + m + j) (omega arith) ∙ xor_self (v.at (a + m + i)))
+          (λ (t : j ≢ i). put_other v.at (a + m + i) byte (a + m + j) (λ x. t (omega arith)) ∙ h.there j (omega arith))
+          (cases_eq j i);
+      keeps = record {
+        same = λ k y z o. put_other v.at (a + m + i) byte k (not_here k (a + m) i o) ∙ h.keeps.same k y z (fewer k (a + m) i o);
+        inputs = h.keeps.inputs;
+        safe = h.keeps.safe;
+        seen = h.keeps.seen;
+      };
+    })
+
+clears : (e : Env) (r n a m : ℕ) (v : View) → StandsFrom e (InRegisters r) n a Own → suc m ≤ n
+    → Extends v false a m n (block e (clears_code r (suc m) (n - suc m)) v)
+clears e r n a m v s l =
+    let c = chain_holds e (λ i. clear_byte r (suc m + i)) (Clears v (a + suc m)) (n - suc m)
+    (λ i k u h. clear_step e r n a (suc m) v s i (omega arith) u h) v
+    (record {
+      there = λ j z. absurd (omega arith);
+      keeps = record { same = λ k y z o. refl; inputs = refl; safe = refl; seen = refl };
+    }) in
+    record {
+      there = λ j x y. let q : a + suc m + (j - suc m) ≡ a + j = omega arith in
+          subst (λ k. (block e (clears_code r (suc m) (n - suc m)) v).at k ≡ 0) q (c.there (j - suc m) (omega arith));
+      keeps = c.keeps;
+    }
+
+-- ---- all of them
+
+filled : (signed : Bool) (e : Env) (p : Location) (m n a : ℕ) (v : View) → StandsFrom e p n a Own → suc m < n
+    → HoldsNumbers v → Extends v signed a m n (block e (fill_code signed p (suc m) ++ puts_code p (suc m) (n - suc m)) v)
+filled signed e p m n a v s g bytes =
     let ua = s.clear in
     let f = fills signed e p m (a + m) v (s.at m (omega arith)) (s.kind m (omega arith)) (bytes (a + m) (omega arith)) in
     let v1 = block e (fill_code signed p (suc m)) v in
     let j = block-append e (fill_code signed p (suc m)) (puts_code p (suc m) (n - suc m)) v in
-    rw (x, j) (shifted v _ signed a m n _ refl l (puts e p n a (suc m) v1 v (fill_of signed (v.at (a + m))) s l f)))
+    rw j (shifted v _ signed a m n _ refl (omega arith) (puts e p n a (suc m) v1 v (fill_of signed (v.at (a + m))) s (omega arith) f))
+
+widened : (signed : Bool) (e : Env) (p : Location) (m n a : ℕ) (v : View) → StandsFrom e p n a Own → suc m < n
+    → HoldsNumbers v → Extends v signed a m n (block e (widen_code signed p (suc m) (n - suc m)) v)
+widened false e (InRegisters r) m n a v s g bytes = clears e r n a m v s (omega arith)
+widened false e (InMemory o k) m n a v s g bytes = filled false e (InMemory o k) m n a v s g bytes
+widened true e p m n a v s g bytes = filled true e p m n a v s g bytes
+
+pub extensions_are_right : ExtensionsAreRight
+extensions_are_right signed e p m n a v s l bytes =
+    ⊎_elim
     (λ x. rw x (none v signed a m n (leb-true n (suc m) x)))
-    (⊎_swap (cases_Bool (nat_le n (suc m))))
-  where
-    ⊎_swap : {A B : Type 0} → A ⊎ B → B ⊎ A
-    ⊎_swap (inl a) = inr a
-    ⊎_swap (inr b) = inl b
+    (λ x. let g : suc m < n = leb-false n (suc m) x in rw x (widened signed e p m n a v s g bytes))
+    (cases_Bool (nat_le n (suc m)))

@@ -10,7 +10,8 @@ use Rattle.ec_asm.specs.declared.pieces.Location.{Location}
 use Rattle.ec_asm.specs.declared.pieces.Location.TheVariants.{InRegisters, InMemory}
 use Rattle.ec_asm.specs.Items.{all_straight, code_steps, code_words, item_words, chain}
 use Rattle.ec_asm.proofs.Hoare.{straight-append, steps-append}
-use Rattle.ec_select_bytes.specs.Values.{byte_of, constant_byte, constant_code, test_byte, tests_code, test_code, put_byte, fill_code, puts_code, extend_code}
+use Rattle.ec_select_bytes.specs.Values.{byte_of, constant_byte, constant_code, test_byte, tests_code, test_code, put_byte}
+use Rattle.ec_select_bytes.specs.Values.{fill_code, puts_code, clear_byte, clears_code, widen_code, extend_code}
 use Rattle.ec_select_bytes.specs.Laws.{ValuesAreStraight, ValuesTake, ValuesHave}
 use Rattle.ec_select_bytes.specs.Complements.{complement_byte, complement_code, carry_byte, carry_code, negation_code}
 use Rattle.ec_select_bytes.specs.ComplementLaws.{ComplementsAreStraight, ComplementsTake, ComplementsHave}
@@ -84,11 +85,26 @@ puts : (p : Location) (m n : ℕ) → IsShort (puts_code p m (n - m)) n (2 * n)
 puts p m n =
     weaker _ ((n - m) * 1) n ((n - m) * 2) (2 * n) (omega arith) (omega arith) (chained (λ i. put_byte p (m + i)) (n - m) 1 2 (λ i. put_short p (m + i)))
 
+clears : (r m count : ℕ) → IsShort (clears_code r m count) count count
+clears r m count =
+    weaker _ (count * 1) count (count * 1) count (omega arith) (omega arith)
+    (chained (λ i. clear_byte r (m + i)) count 1 1
+    (λ i. record { straight = refl; steps_are = omega arith; words_are = omega arith }))
+
+widens : (signed : Bool) (p : Location) (m n : ℕ) → IsShort (widen_code signed p m (n - m)) (3 + n) (4 + 2 * n)
+widens false (InRegisters r) m n =
+    weaker (clears_code r m (n - m)) (n - m) (3 + n) (n - m) (4 + 2 * n) (omega arith) (omega arith) (clears r m (n - m))
+widens false (InMemory o k) m n =
+    joined (fill_code false (InMemory o k) m) (puts_code (InMemory o k) m (n - m)) 3 n 4 (2 * n)
+    (fill_short false (InMemory o k) m) (puts (InMemory o k) m n)
+widens true p m n =
+    joined (fill_code true p m) (puts_code p m (n - m)) 3 n 4 (2 * n) (fill_short true p m) (puts p m n)
+
 extends : (signed : Bool) (p : Location) (m n : ℕ) → IsShort (extend_code signed p m n) (3 + n) (4 + 2 * n)
 extends signed p m n =
     ⊎_elim
     (λ x. rw x (record { straight = refl; steps_are = omega arith; words_are = omega arith }))
-    (λ x. rw x (joined (fill_code signed p m) (puts_code p m (n - m)) 3 n 4 (2 * n) (fill_short signed p m) (puts p m n)))
+    (λ x. rw x (widens signed p m n))
     (cases_Bool (nat_le n m))
 
 pub values_are_straight : ValuesAreStraight

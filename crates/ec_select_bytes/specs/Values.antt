@@ -69,9 +69,21 @@ fill_code false p m = Plain (Eor 0 0) ∷ []
 abbrev pub puts_code : Location → (m count : ℕ) → List AsmItem
 puts_code p m count = chain (λ i. put_byte p (m + i)) count
 
+-- registers from byte m on become 0
+abbrev pub clear_byte : (first i : ℕ) → List AsmItem
+clear_byte first i = Plain (Eor (first + i) (first + i)) ∷ []
+
+abbrev pub clears_code : (first m count : ℕ) → List AsmItem
+clears_code first m count = chain (λ i. clear_byte first (m + i)) count
+
+-- a number of m bytes gets so many bytes more
+abbrev pub widen_code : Bool → Location → (m count : ℕ) → List AsmItem
+widen_code false (InRegisters r) m count = clears_code r m count
+widen_code signed p m count = fill_code signed p m ++ puts_code p m count
+
 -- a number of m bytes gets n bytes
 abbrev pub extend_code : Bool → Location → (m n : ℕ) → List AsmItem
-extend_code signed p m n = if nat_le n m then [] else fill_code signed p m ++ puts_code p m (n - m)
+extend_code signed p m n = if nat_le n m then [] else widen_code signed p m (n - m)
 
 -- the byte above a number whose highest byte is this
 abbrev pub fill_of : Bool → ℕ → ℕ

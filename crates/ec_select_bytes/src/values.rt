@@ -4,7 +4,7 @@ ghost use Rattle.ec_runs.specs.Behaviours.{BeginWith};
 ghost use Rattle.ec_asm.specs.Pieces.{HasByte, HasBytes, compares};
 ghost use Rattle.ec_select_bytes.specs.Values.{byte_of, constant_byte, constant_code, test_byte, test_code, put_byte};
 ghost use Rattle.ec_select_bytes.specs.Values.{tests_code};
-ghost use Rattle.ec_select_bytes.specs.Values.{take_byte, fill_code, puts_code, extend_code};
+ghost use Rattle.ec_select_bytes.specs.Values.{take_byte, fill_code, puts_code, clears_code, widen_code, extend_code};
 
 use ec_asm::{AsmItem, Location};
 use ec_isa::Instr;
@@ -195,6 +195,42 @@ fn puts(out: &mut Seq<AsmItem>, at: Location, m: u8, count: u8) -> Result<(), No
     Ok(())
 }
 
+/// Appends code that makes so many registers 0, from byte `m` on.
+fn clears(out: &mut Seq<AsmItem>, first: u8, m: u8, count: u8) -> Result<(), NoMemory>
+    requires at { first + m + count ≤ 32 }
+    ensures ok { OnOk result (out.new.items ≡ out.old.items ++ clears_code first m count) }
+    ensures err { OnErr result (BeginWith out.old.items out.new.items) }
+{
+    for i in 0..count {
+        let d = first + (m + i);
+        out.extend_from_slice(&[AsmItem::Plain(Instr::Eor { d, r: d })])?;
+    }
+    Ok(())
+}
+
+/// Appends code that gives a number of `m` bytes so many bytes more.
+fn widen(
+    out: &mut Seq<AsmItem>,
+    signed: bool,
+    at: Location,
+    m: u8,
+    count: u8,
+) -> Result<(), NoMemory>
+    requires at { HasBytes at (m + count) }
+    requires some { 1 ≤ m }
+    requires most { m + count < 256 }
+    ensures ok { OnOk result (out.new.items ≡ out.old.items ++ widen_code signed at m count) }
+    ensures err { OnErr result (BeginWith out.old.items out.new.items) }
+{
+    match at {
+        Location::InRegisters(first) if !signed => clears(out, first, m, count),
+        _ => {
+            fill(out, signed, at, m)?;
+            puts(out, at, m, count)
+        }
+    }
+}
+
 /// Appends code that gives a number of `m` bytes the bytes above it, up to `n`: its sign, or 0. Where memory runs out,
 /// a part of the code is appended.
 pub fn extend(
@@ -212,6 +248,5 @@ pub fn extend(
     if n <= m {
         return Ok(());
     }
-    fill(out, signed, at, m)?;
-    puts(out, at, m, n - m)
+    widen(out, signed, at, m, n - m)
 }
