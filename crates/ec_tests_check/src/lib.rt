@@ -1,6 +1,6 @@
 //! Tests of the lexer and the parser, on texts whose tokens and trees were worked out apart; and of the checker and of
-//! the meaning of programs: texts of units, the program that they are or the first cause why they are none, and what a
-//! run of it does.
+//! the meaning of programs: statements, with their types or the first rule that they break, and what a run of a program
+//! does.
 #![tactic(auto)]
 
 #[cfg(test)]
@@ -13,7 +13,5 @@ mod parse;
 mod rows;
 #[cfg(test)]
 mod runs;
-#[cfg(test)]
-mod texts;
 #[cfg(test)]
 mod units;

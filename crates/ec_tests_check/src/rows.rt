@@ -4,7 +4,7 @@ ghost use Rattle.ec_interp_state.specs.Views.{HasLayouts};
 ghost use Rattle.ec_iohw.specs.Valid.{ValidIo};
 
 use crate::units::sources_of;
-use crate::{expressions, runs, texts};
+use crate::{expressions, runs};
 use ec_check::{CheckStop, check, discard};
 use ec_core::Program;
 use ec_iohw::IoTable;
@@ -73,11 +73,10 @@ pub type Told = Result<String, AllocError>;
 /// What port addresses give.
 pub type Inputs = &'static [(u8, &'static [u8])];
 
-/// What is told of texts: what the checker tells of units, what comes of a statement, what a program does, or what it
-/// does to ports with these inputs, where each loop gets so many turns; and its work in steps, where that is not this.
+/// What is told of texts: what comes of a statement, what a program does, or what it does to ports with these inputs,
+/// where each loop gets so many turns; and its work in steps, where that is not this.
 #[derive(Clone, Copy)]
 pub enum Shown {
-    Units,
     Statement,
     Run,
     Ports(Inputs, u32, Option<u64>),
@@ -87,7 +86,6 @@ fn of_program(alloc: Global, what: Shown, program: &Program, io: &IoTable) -> To
     requires { HasLayouts program.now }
 {
     match what {
-        Shown::Units => texts::counted(alloc, program),
         Shown::Statement => expressions::of_program(alloc, program),
         Shown::Run => runs::told(alloc, program, io),
         Shown::Ports(inputs, turns, work) => {
@@ -99,7 +97,7 @@ fn of_program(alloc: Global, what: Shown, program: &Program, io: &IoTable) -> To
 fn of_stop(alloc: Global, what: Shown, stop: &CheckStop) -> Told {
     match what {
         Shown::Statement => expressions::of_stop(alloc, stop),
-        _ => texts::stopped(alloc, stop),
+        Shown::Run | Shown::Ports(..) => Err(AllocError),
     }
 }
 

@@ -1,7 +1,7 @@
 //! Commands over memory: what is printed, the status and the line on `err`.
 
-use ec_commands::{CommandError, exec_steps, run, run_numbers, word_at};
-use ec_compile::{build, conclude, exec};
+use ec_commands::{CommandError, run, run_numbers, word_at};
+use ec_compile::{build, conclude};
 use ec_emu::{Ask, Hook, Hooked, Rule};
 use ec_io::{MemFile, MemSink, MemStore};
 use ec_space::{NoMemory, Seq};
@@ -21,7 +21,7 @@ impl Rule for Last {
     }
 }
 
-/// What comes of a command: the status, what is printed, and the line, as `7 / a.c token 13: constraint 23`.
+/// What comes of a command: the status, what is printed, and the line, as `4 in 25/ cannot write`.
 pub type Told = Result<String, AllocError>;
 
 /// Whether this is told.
@@ -38,7 +38,7 @@ fn seq(alloc: Global, text: &str) -> Result<Seq<u8>, NoMemory> {
     Ok(seq)
 }
 
-pub fn words(alloc: Global, texts: &[&str]) -> Result<Vec<String>, AllocError> {
+fn words(alloc: Global, texts: &[&str]) -> Result<Vec<String>, AllocError> {
     let mut words = Vec::new(alloc);
     for text in texts {
         words.push(String::from_str(alloc, text)?)?;
@@ -87,27 +87,10 @@ pub fn sink(alloc: Global, room: u32) -> Result<MemSink, AllocError> {
     }
 }
 
-/// The status of a command.
-fn performed(
-    alloc: Global,
-    words: &Vec<String>,
-    store: &mut MemStore,
-    out: &mut MemSink,
-    err: &mut MemSink,
-) -> u8 {
-    let mut hooks = Hooked {
-        hook: Hook::new(|ask: Ask| ask.last, Last),
-    };
-    match exec_steps(words) {
-        Some(steps) => {
-            let answer = exec(alloc, words, steps, store, out, &mut hooks);
-            conclude(err, words, 4, answer)
-        }
-        None => {
-            let answer = build(alloc, words, store);
-            conclude(err, words, 3, answer)
-        }
-    }
+/// The status of a build.
+fn built(alloc: Global, words: &Vec<String>, store: &mut MemStore, err: &mut MemSink) -> u8 {
+    let answer = build(alloc, words, store);
+    conclude(err, words, 3, answer)
 }
 
 /// The status of a run of an image.
@@ -147,7 +130,7 @@ fn told(
     let status = if !words.is_empty() && word_at(words, 0) == "run" {
         ran(alloc, words, store, out, err)
     } else {
-        performed(alloc, words, store, out, err)
+        built(alloc, words, store, err)
     };
     in_words(alloc, status, out, err)
 }

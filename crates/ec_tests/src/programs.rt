@@ -4,8 +4,8 @@ ghost use Rattle.std.specs.Prelude.{◌≡◌, [], ◌∷◌, map, IfOk};
 ghost use Rattle.ec_core.specs.Plain.{plain_type, plain_object, plain_function, plain_program};
 ghost use Rattle.ec_core.specs.Typing.{int};
 ghost use Rattle.ec_locate.specs.Placing.{object_sizes};
-ghost use Rattle.ec_tests_locate.specs.Samples.{variable as variable_of, variables as variables_of, main_function as main_of};
-ghost use Rattle.ec_tests_locate.specs.Samples.{sample};
+ghost use Rattle.ec_tests.specs.Samples.{variable as variable_of, variables as variables_of, main_function as main_of};
+ghost use Rattle.ec_tests.specs.Samples.{sample};
 
 use ec_asm::{AsmItem, AsmProgram};
 use ec_core::{CType, Expr, Func, LeafInit, Node, Obj, Program, Stmt, StmtKind, Storage};
