@@ -1,20 +1,23 @@
 #!/usr/bin/env python3
 """Compares the documents with the sources.
 
-Fails where docs/proved.md names a file, a function, a law or a clause that does not exist, and where a public
-definition of crates/*/specs does not stand in the index of docs/definitions.md. With --write it writes that index.
+Fails where docs/proved.md names a file, a function, a law or a clause that does not exist, has no row for a law, or has rows of a crate
+that their section does not begin with; where crates.txt does not list the crates of the repository, lowest first and each with its comment;
+where the table of crates in docs/architecture.md is not that of crates.txt, or docs/index.md not that of the sources; and where a crate
+uses lemmas of another that are not for it. With --write it writes that table and that page.
 """
-import pathlib
 import re
 import sys
 
-ROOT = pathlib.Path(__file__).resolve().parent.parent
+sys.dont_write_bytecode = True
+import lemmas
+import pages
+from pages import ROOT
+
 CLAIMS = ROOT / "docs/proved.md"
-DEFINITIONS = ROOT / "docs/definitions.md"
-INDEX = "\n## Index\n"
 WORD = re.compile(r"`([^`]+)`")
-DEFINITION = re.compile(r"^(?:abbrev |unfoldable )?pub (?:record |data )?([^\s:({]+)", re.MULTILINE)
-NO_DEFINITION = ("mod", "use", "record", "data")
+# A public function of no parameters and no result that ensures something.
+LAW = re.compile(r"^pub fn (\w+)(?:<[^(]*>)?\(\)\n(?:(?!\{|pub fn).*\n)*? *ensures", re.MULTILINE)
 
 
 def heads_of(source, name):
@@ -43,42 +46,62 @@ def faults_of_row(claim, clauses, file):
     return faults
 
 
+def rows_of_claims():
+    """The rows of the tables of docs/proved.md, each with the number of its line."""
+    for number, line in enumerate(CLAIMS.read_text().splitlines(), 1):
+        cells = re.split(r"(?<!\\)\|", line.strip().strip("|"))
+        if line.startswith("|") and cells[-1].strip() not in ("file", "---"):
+            yield number, cells
+
+
 def faults_of_claims():
     """The faults of docs/proved.md, each with its line."""
-    rows = 0
-    for number, line in enumerate(CLAIMS.read_text().splitlines(), 1):
-        cells = line.strip().strip("|").split("|")
-        if not line.startswith("|") or len(cells) != 3 or cells[2].strip() in ("file", "---"):
-            continue
-        rows += 1
-        yield from (f"{CLAIMS.relative_to(ROOT)}:{number}: {fault}" for fault in faults_of_row(*cells))
-    if rows == 0:
+    number = 0
+    for number, cells in rows_of_claims():
+        faults = faults_of_row(*cells) if len(cells) == 3 else ["not three cells"]
+        yield from (f"{CLAIMS.relative_to(ROOT)}:{number}: {fault}" for fault in faults)
+    if number == 0:
         yield f"{CLAIMS.relative_to(ROOT)}: no rows"
 
 
-def index():
-    """A line for each file of definitions, with the names that it defines."""
-    lines = []
-    for file in sorted(ROOT.glob("crates/*/specs/**/*.antt")):
-        names = [name for name in DEFINITION.findall(file.read_text()) if name not in NO_DEFINITION]
-        if names:
-            crate, *module = file.relative_to(ROOT / "crates").with_suffix("").parts
-            lines.append(f"- {crate}, {'.'.join(module[1:])}: " + ", ".join(f"`{name}`" for name in names))
-    return "\n" + "\n".join(lines) + "\n"
+def faults_of_sections():
+    """The rows of a crate that its section does not begin with, and the crates that no section begins with."""
+    named = set()
+    for section in CLAIMS.read_text().split("\n## ")[1:]:
+        found = re.match(r".*\n\nCrates: ([^.]*)\.\n", section)
+        own = set(re.split(r",\s+", found[1])) if found else set()
+        named |= own
+        for crate in sorted(set(re.findall(r"`crates/(\w+)/[^`]*` \|$", section, re.MULTILINE)) - own):
+            yield f"{CLAIMS.relative_to(ROOT)}: {crate} is not among the crates that {section.splitlines()[0]} begins with"
+    tested = {crate for crate in pages.crates() if not crate.startswith("ec_tests")}
+    yield from (f"{CLAIMS.relative_to(ROOT)}: no section begins with {crate}, or there is no such crate" for crate in sorted(named ^ tested))
 
 
-def faults_of_index():
-    """The lines of the index that are missing or no longer so."""
-    text, _, written = DEFINITIONS.read_text().partition(INDEX)
-    for line in sorted(set(index().splitlines()) ^ set(written.splitlines())):
-        yield f"{DEFINITIONS.relative_to(ROOT)}: not as the sources have it: {line[:100]}"
+def faults_of_laws():
+    """The laws that a library exports and that no row names."""
+    named = {(file, name) for _, cells in rows_of_claims() for file in WORD.findall(cells[-1]) for name in WORD.findall(cells[-2])}
+    for root in sorted(ROOT.glob("crates/*/src/lib.rt")):
+        text = root.read_text()
+        exported = {name for names in re.findall(r"^pub use ([^;]*);", text, re.MULTILINE) for name in re.findall(r"\w+", names)}
+        public = {f"{name}.rt" for name in re.findall(r"^pub mod (\w+);", text, re.MULTILINE)} | {root.name}
+        for path in sorted(root.parent.rglob("*.rt")):
+            file = str(path.relative_to(ROOT))
+            for name in LAW.findall(path.read_text()):
+                if (name in exported or path.name in public) and (file, name) not in named:
+                    yield f"{CLAIMS.relative_to(ROOT)}: no row for the law {name} of {file}"
 
 
 def main():
-    if sys.argv[1:] == ["--write"]:
-        text, _, _ = DEFINITIONS.read_text().partition(INDEX)
-        DEFINITIONS.write_text(text + INDEX + index())
-    faults = [*faults_of_claims(), *faults_of_index()]
+    is_written = sys.argv[1:] == ["--write"]
+    faults = [
+        *pages.faults_of_crates(),
+        *pages.faults_of_table(is_written),
+        *pages.faults_of_index(lemmas.public_modules(), is_written),
+        *lemmas.faults(),
+        *faults_of_claims(),
+        *faults_of_sections(),
+        *faults_of_laws(),
+    ]
     print("\n".join([*faults, f"documents: {len(faults)} faults"]))
     return 1 if faults else 0
 

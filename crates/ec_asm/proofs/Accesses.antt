@@ -1,5 +1,6 @@
 -- Loads and stores, pushes and pops, as the view shows them.
-use Rattle.std.proofs.Common.{◌≡◌, ◌≢◌, ℕ, ◌+◌, ◌/◌, ◌%◌, ◌<◌, ◌≤◌, ◌⊎◌, ⊎_elim, Bool, true, false, not, ◌&&◌, ◌||◌, ◌++◌, length, refl, sym, ◌∙◌, subst, arith, Option, None, append-nil, inl, inr, drop}
+use Rattle.std.proofs.Common.{◌≡◌, ◌≢◌, ℕ, ◌+◌, ◌/◌, ◌%◌, ◌<◌, ◌≤◌, ◌⊎◌, ⊎_elim, Bool, true, false, not, ◌&&◌, ◌||◌, ◌++◌, length, refl}
+use Rattle.std.proofs.Common.{sym, ◌∙◌, subst, arith, Option, None, append-nil, inl, inr, drop}
 use Rattle.std.specs.Prelude.{slice_index, if◌then◌else◌, nat_lt, nat_le, ◌==◌, IsTrue}
 use Rattle.std.proofs.lemmas.Bool.{and_parts, ltb-true, leb-true, lt-ltb, false≢true}
 use Rattle.std.proofs.lemmas.Bool.Decides.{nat_tests}
@@ -14,7 +15,8 @@ use Rattle.ec_avr.specs.Effects.{load, store, load_flash, push, pop, faulted}
 use Rattle.ec_avr.specs.Machine.{State, answer_of, port_at}
 use Rattle.ec_avr.specs.State.{is_core_register, is_port, is_sram, stack_pointer, raised, lowered, pair as m_pair, with_pair, passed}
 use Rattle.ec_asm.specs.View.{View, put, put_pair}
-use Rattle.ec_asm.specs.Change.{Env, Kind, Own, Object, Port, Stacked, Barred, load_by, store_by, flash_by, push_by, pop_by, set, given, taken, sp, move_to}
+use Rattle.ec_asm.specs.Change.{Env, Kind, Own, Object, Port, Stacked, Barred, load_by, store_by, flash_by, push_by, pop_by, set, given}
+use Rattle.ec_asm.specs.Change.{taken, sp, move_to}
 use Rattle.ec_asm.specs.Shows.{Shows, Fits, Does, may_be, in_flash, if_object}
 use Rattle.ec_asm.proofs.Shown.{with_data, shows_byte, reads}
 
@@ -97,7 +99,14 @@ module _ (e : Env) (size : ℕ) (fit : Fits e size) (s : State) (v : View) (h : 
         access = Read DataBank a (v.at a);
         ran = rw (y, q, sram_no_core a c1, high a c1, r) refl;
         pc = rw y refl;
-        shows = rw (y, q) (record { flash = k.flash; sized = k.sized; bytes = k.bytes; at = wa ∙ rw (sym r) k.at; flags = wf ∙ k.flags; feeds = λ p n. rw wi (h.feeds p n) });
+        shows = rw (y, q) (record {
+          flash = k.flash;
+          sized = k.sized;
+          bytes = k.bytes;
+          at = wa ∙ rw (sym r) k.at;
+          flags = wf ∙ k.flags;
+          feeds = λ p n. rw wi (h.feeds p n);
+        });
         seen = ws;
         inputs = rw q wi;
       }
@@ -121,7 +130,8 @@ module _ (e : Env) (size : ℕ) (fit : Fits e size) (s : State) (v : View) (h : 
         access = In a (given v a);
         ran = rw (y, p.1, low) refl;
         pc = rw y refl;
-        shows = rw (y, p.1, low) (record { flash = k.flash; sized = k.sized; bytes = k.bytes; at = k.at; flags = k.flags; feeds = feeds_later a });
+        shows = rw (y, p.1, low)
+            (record { flash = k.flash; sized = k.sized; bytes = k.bytes; at = k.at; flags = k.flags; feeds = feeds_later a });
         seen = refl;
         inputs = rw (p.1, low, y) refl;
       }
@@ -174,7 +184,14 @@ module _ (e : Env) (size : ℕ) (fit : Fits e size) (s : State) (v : View) (h : 
         access = Write a x;
         ran = rw (y, sram_no_core a c1, high a c1) refl;
         pc = rw (y, q) refl;
-        shows = rw (y, q) (record { flash = k.flash; sized = k.sized; bytes = k.bytes; at = wa ∙ k.at; flags = wf ∙ k.flags; feeds = λ p n. rw wi (h.feeds p n) });
+        shows = rw (y, q) (record {
+          flash = k.flash;
+          sized = k.sized;
+          bytes = k.bytes;
+          at = wa ∙ k.at;
+          flags = wf ∙ k.flags;
+          feeds = λ p n. rw wi (h.feeds p n);
+        });
         seen = ws;
         inputs = wi;
       }
@@ -190,7 +207,8 @@ module _ (e : Env) (size : ℕ) (fit : Fits e size) (s : State) (v : View) (h : 
         access = Out a x;
         ran = rw (y, p.1, low) refl;
         pc = rw (y, p.1, low) refl;
-        shows = rw (y, p.1, low) (record { flash = h.flash; sized = h.sized; bytes = h.bytes; at = h.at; flags = h.flags; feeds = h.feeds });
+        shows =
+            rw (y, p.1, low) (record { flash = h.flash; sized = h.sized; bytes = h.bytes; at = h.at; flags = h.flags; feeds = h.feeds });
         seen = refl;
         inputs = refl;
       }
@@ -226,7 +244,14 @@ module _ (e : Env) (size : ℕ) (fit : Fits e size) (s : State) (v : View) (h : 
         access = Read FlashBank a (slice_index e.flash a);
         ran = rw (sym q, h.flash, y) refl;
         pc = rw (sym q, h.flash, y) refl;
-        shows = rw (sym q, h.flash, y) (record { flash = refl; sized = k.sized; bytes = k.bytes; at = wa ∙ k.at; flags = wf ∙ k.flags; feeds = λ p n. rw wi (h.feeds p n) });
+        shows = rw (sym q, h.flash, y) (record {
+          flash = refl;
+          sized = k.sized;
+          bytes = k.bytes;
+          at = wa ∙ k.at;
+          flags = wf ∙ k.flags;
+          feeds = λ p n. rw wi (h.feeds p n);
+        });
         seen = ws;
         inputs = wi;
       }
@@ -262,7 +287,8 @@ module _ (e : Env) (size : ℕ) (fit : Fits e size) (s : State) (v : View) (h : 
       → Shows e size (with_data (with_data m 93 (n % 256)) 94 (n / 256)) (record w { at = put_pair w.at 93 n })
   sp_set m w n k l =
       let big = fit.ports in
-      shows_byte e size _ _ 94 (n / 256) (shows_byte e size m w 93 (n % 256) k (omega arith) (omega arith) (omega arith)) (omega arith) (omega arith) (omega arith)
+      shows_byte e size _ _ 94 (n / 256) (shows_byte e size m w 93 (n % 256) k (omega arith) (omega arith) (omega arith)) (omega arith)
+      (omega arith) (omega arith)
 
   pub push_does : (x : ℕ) (k : Kind) → e.kind (sp v) ≡ k → x < 256 → (push_by k x v).safe ≡ true
       → Does e size s v (push_by k x v) 1 None (push x s)
@@ -273,7 +299,8 @@ module _ (e : Env) (size : ℕ) (fit : Fits e size) (s : State) (v : View) (h : 
         access = Stack;
         ran = rw (p, a.2) refl;
         pc = rw (p, a.2) refl;
-        shows = rw (p, a.2) (sp_set _ _ (lowered (sp v)) (shows_byte e size s.mem v (sp v) x h a.1 (let g = a.0 in omega arith) l) (omega arith));
+        shows = rw (p, a.2)
+            (sp_set _ _ (lowered (sp v)) (shows_byte e size s.mem v (sp v) x h a.1 (let g = a.0 in omega arith) l) (omega arith));
         seen = sym (append-nil v.seen);
         inputs = refl;
       }
@@ -293,7 +320,8 @@ module _ (e : Env) (size : ℕ) (fit : Fits e size) (s : State) (v : View) (h : 
         access = Stack;
         ran = rw (p, a.2) refl;
         pc = rw (p, a.2) refl;
-        shows = rw (p, a.2, sym r) (sp_set _ _ (raised (sp v)) (shows_byte e size s.mem v d (slice_index s.mem.data (raised (sp v))) h (omega arith) (omega arith) (h.bytes _)) (omega arith));
+        shows = rw (p, a.2, sym r) (sp_set _ _ (raised (sp v))
+            (shows_byte e size s.mem v d (slice_index s.mem.data (raised (sp v))) h (omega arith) (omega arith) (h.bytes _)) (omega arith));
         seen = sym (append-nil v.seen);
         inputs = refl;
       }
@@ -308,14 +336,17 @@ module _ (e : Env) (size : ℕ) (fit : Fits e size) (s : State) (v : View) (h : 
   pub moved_does : (b : Bool) (a : Access) (t : State) (w : View) (port : Option ℕ) (pointer at : ℕ) → pointer < 31
       → at < 65536
       → Does e size s v w 1 port (if b then record { stepped = Ran a; state = passed t 1 } else faulted DataOut s)
-      → Does e size s v (move_to pointer at w) 1 port (if b then record { stepped = Ran a; state = passed (with_pair t pointer at) 1 } else faulted DataOut s)
+      → Does e size s v (move_to pointer at w) 1 port
+      (if b then record { stepped = Ran a; state = passed (with_pair t pointer at) 1 } else faulted DataOut s)
   moved_does true a t w port pointer at l k d =
       let big = fit.ports in
       record {
         access = d.access;
         ran = d.ran;
         pc = d.pc;
-        shows = shows_byte e size _ _ (pointer + 1) (at / 256) (shows_byte e size t.mem w pointer (at % 256) d.shows (omega arith) (omega arith) (omega arith)) (omega arith) (omega arith) (omega arith);
+        shows = shows_byte e size _ _ (pointer + 1) (at / 256)
+            (shows_byte e size t.mem w pointer (at % 256) d.shows (omega arith) (omega arith) (omega arith)) (omega arith)
+            (omega arith) (omega arith);
         seen = d.seen;
         inputs = d.inputs;
       }

@@ -25,7 +25,8 @@ noted_is_run is_run e inputs s =
     seen_runs_are_runs Access Access ℤ MachineFault (noted_all e) (keeps_order e) (λ m. behaviour_of (machine m inputs s)) (is_run inputs s)
 
 -- the second direction: what the machine does stays within what the upper level does
-pub stays_within : {F : Type 0} → MachineIsRun → (e : Env) (inputs : Inputs) (s : State) (allowed : ℕ → ℕ → Bool) (upper : ℕ → Behaviour Access ℤ F)
+pub stays_within : {F : Type 0} → MachineIsRun
+    → (e : Env) (inputs : Inputs) (s : State) (allowed : ℕ → ℕ → Bool) (upper : ℕ → Behaviour Access ℤ F)
     → Reaches allowed upper (noted_run e inputs s) → (m : ℕ) → IsWithin (upper m) (noted_run e inputs s m)
 stays_within {F} is_run e inputs s allowed upper r =
     what_reaches_stays_within Access ℤ F MachineFault allowed upper (noted_run e inputs s) (noted_is_run is_run e inputs s) r

@@ -16,15 +16,43 @@ pub put_other : (f : ℕ → ℕ) (a x k : ℕ) → k ≢ a → put f a x k ≡ 
 put_other f a x k h = rw (ne_eqb k a h) refl
 
 copies_load : (k : Kind) (a b : ℕ) (v : View) → is_held k ≡ true → Copies v (load_by k b a v) a b k Own
-copies_load Own a b v h = record { here = put_here v.at b (v.at a) b refl; same = λ k z n. put_other v.at b (v.at a) k n; flags = refl; inputs = refl; safe = refl; seen = sym (append-nil v.seen) }
-copies_load Object a b v h = record { here = put_here v.at b (v.at a) b refl; same = λ k z n. put_other v.at b (v.at a) k n; flags = refl; inputs = refl; safe = refl; seen = refl }
+copies_load Own a b v h = record {
+  here = put_here v.at b (v.at a) b refl;
+  same = λ k z n. put_other v.at b (v.at a) k n;
+  flags = refl;
+  inputs = refl;
+  safe = refl;
+  seen = sym (append-nil v.seen);
+}
+copies_load Object a b v h = record {
+  here = put_here v.at b (v.at a) b refl;
+  same = λ k z n. put_other v.at b (v.at a) k n;
+  flags = refl;
+  inputs = refl;
+  safe = refl;
+  seen = refl;
+}
 copies_load Port a b v h = cc
 copies_load Stacked a b v h = cc
 copies_load Barred a b v h = cc
 
 copies_store : (k : Kind) (a b : ℕ) (v : View) → is_held k ≡ true → Copies v (store_by k b (v.at a) v) a b Own k
-copies_store Own a b v h = record { here = put_here v.at b (v.at a) b refl; same = λ k z n. put_other v.at b (v.at a) k n; flags = refl; inputs = refl; safe = refl; seen = sym (append-nil v.seen) }
-copies_store Object a b v h = record { here = put_here v.at b (v.at a) b refl; same = λ k z n. put_other v.at b (v.at a) k n; flags = refl; inputs = refl; safe = refl; seen = refl }
+copies_store Own a b v h = record {
+  here = put_here v.at b (v.at a) b refl;
+  same = λ k z n. put_other v.at b (v.at a) k n;
+  flags = refl;
+  inputs = refl;
+  safe = refl;
+  seen = sym (append-nil v.seen);
+}
+copies_store Object a b v h = record {
+  here = put_here v.at b (v.at a) b refl;
+  same = λ k z n. put_other v.at b (v.at a) k n;
+  flags = refl;
+  inputs = refl;
+  safe = refl;
+  seen = refl;
+}
 copies_store Port a b v h = cc
 copies_store Stacked a b v h = cc
 copies_store Barred a b v h = cc
@@ -60,7 +88,9 @@ copy_byte_copies e (InMemory o k) (InMemory o' k') i a b ka kb v p q ja jb ha hb
 -- ---- operations
 
 -- through R0, where the place stands in memory
-through : (f : ℕ → ℕ → Flags → ℕ) (g : ℕ → ℕ → Flags → Flags) (v v2 : View) (a b y : ℕ) → v2.at 0 ≡ v.at b → v2.at y ≡ v.at a → v2.flags ≡ v.flags → v2.inputs ≡ v.inputs → v2.safe ≡ v.safe → v2.seen ≡ v.seen → ((k : ℕ) → k ≢ 0 → k ≢ 1 → v2.at k ≡ v.at k) → let v3 =
+through : (f : ℕ → ℕ → Flags → ℕ) (g : ℕ → ℕ → Flags → Flags) (v v2 : View) (a b y : ℕ) → v2.at 0 ≡ v.at b
+    → v2.at y ≡ v.at a → v2.flags ≡ v.flags → v2.inputs ≡ v.inputs → v2.safe ≡ v.safe → v2.seen ≡ v.seen
+    → ((k : ℕ) → k ≢ 0 → k ≢ 1 → v2.at k ≡ v.at k) → let v3 =
     set_both 0 (f (v2.at 0) (v2.at y) v2.flags) (g (v2.at 0) (v2.at y) v2.flags) v2 in Operates f g v (set b (v3.at 0) v3) a b
 through f g v v2 a b y h0 hy hf hi hs hn same =
     let x = f (v2.at 0) (v2.at y) v2.flags in
@@ -78,7 +108,14 @@ pub binary_operates : (op : ℕ → ℕ → Instr) (f : ℕ → ℕ → Flags �
     → (e : Env) (p q : Location) (i a b : ℕ) (v : View) → address e p i ≡ a → address e q i ≡ b → KindIs e p a Own
     → KindIs e q b Own → 2 ≤ a → 2 ≤ b → Operates f g v (block e (binary_byte op p q i) v) a b
 binary_operates op f g h e (InRegisters x) (InRegisters y) i a b v p q ka kb ua ub =
-    rw (h.is e (y + i) (x + i) v, p, q) (record { here = put_here v.at b (f (v.at b) (v.at a) v.flags) b refl; flags = refl; same = λ k z o n. put_other v.at b (f (v.at b) (v.at a) v.flags) k n; inputs = refl; safe = refl; seen = refl })
+    rw (h.is e (y + i) (x + i) v, p, q) (record {
+      here = put_here v.at b (f (v.at b) (v.at a) v.flags) b refl;
+      flags = refl;
+      same = λ k z o n. put_other v.at b (f (v.at b) (v.at a) v.flags) k n;
+      inputs = refl;
+      safe = refl;
+      seen = refl;
+    })
 binary_operates op f g h e (InMemory o k) (InRegisters y) i a b v p q ka kb ua ub =
     let v1 = set 0 (v.at a) v in
     let d = put_other v.at 0 (v.at a) b (omega arith) in
@@ -92,8 +129,10 @@ binary_operates op f g h e (InMemory o k) (InRegisters y) i a b v p q ka kb ua u
     })
 binary_operates op f g h e (InRegisters x) (InMemory o k) i a b v p q ka kb ua ub =
     let v1 = set 0 (v.at b) v in
-    rw (q, kb, h.is e 0 (x + i) v1, p) (through f g v v1 a b a refl (put_other v.at 0 (v.at b) a (omega arith)) refl refl refl refl (λ k z o. put_other v.at 0 (v.at b) k z))
+    rw (q, kb, h.is e 0 (x + i) v1, p)
+    (through f g v v1 a b a refl (put_other v.at 0 (v.at b) a (omega arith)) refl refl refl refl (λ k z o. put_other v.at 0 (v.at b) k z))
 binary_operates op f g h e (InMemory o k) (InMemory o' k') i a b v p q ka kb ua ub =
     let v1 = set 1 (v.at a) v in
     let v2 = set 0 (v1.at b) v1 in
-    rw (p, ka, q, kb, h.is e 0 1 v2) (through f g v v2 a b 1 (put_other v.at 1 (v.at a) b (omega arith)) refl refl refl refl refl (λ k z o. put_other v1.at 0 (v1.at b) k z ∙ put_other v.at 1 (v.at a) k o))
+    rw (p, ka, q, kb, h.is e 0 1 v2) (through f g v v2 a b 1 (put_other v.at 1 (v.at a) b (omega arith)) refl refl refl refl refl
+    (λ k z o. put_other v1.at 0 (v1.at b) k z ∙ put_other v.at 1 (v.at a) k o))

@@ -32,7 +32,9 @@ pushed_low back v l m =
   where
     low : (f : ℕ → ℕ) (p x z n q : ℕ) → 257 ≤ p → q ≢ p → put_pair (put (put f p x) q z) 93 n p ≡ x
     low f p x z n q l m =
-        put_other (put (put (put f p x) q z) 93 (n % 256)) 94 (n / 256) p (omega arith) ∙ put_other (put (put f p x) q z) 93 (n % 256) p (omega arith) ∙ put_other (put f p x) q z p (λ i. m (sym i)) ∙ put_here f p x p refl
+        put_other (put (put (put f p x) q z) 93 (n % 256)) 94 (n / 256) p (omega arith)
+        ∙ put_other (put (put f p x) q z) 93 (n % 256) p (omega arith) ∙ put_other (put f p x) q z p (λ i. m (sym i))
+        ∙ put_here f p x p refl
 
 pub pushed_high : (back : ℕ) (v : View) → 257 ≤ sp v → sp v < 65536
     → (pushed back v).at (lowered (sp v)) ≡ back / 256 % 256
@@ -41,7 +43,8 @@ pushed_high back v l m =
   where
     high : (f : ℕ → ℕ) (p x z n q : ℕ) → 256 ≤ q → put_pair (put (put f p x) q z) 93 n q ≡ z
     high f p x z n q l =
-        put_other (put (put (put f p x) q z) 93 (n % 256)) 94 (n / 256) q (omega arith) ∙ put_other (put (put f p x) q z) 93 (n % 256) q (omega arith) ∙ put_here (put f p x) q z q refl
+        put_other (put (put (put f p x) q z) 93 (n % 256)) 94 (n / 256) q (omega arith)
+        ∙ put_other (put (put f p x) q z) 93 (n % 256) q (omega arith) ∙ put_here (put f p x) q z q refl
 
 pub call_goes : (e : Env) (l pc end : ℕ) (v : View) → Stands e (CallTo l) pc end → e.kind (sp v) ≡ Stacked
     → e.kind (lowered (sp v)) ≡ Stacked → Goes e 1 pc v (e.word_of l) (pushed end v)
@@ -78,8 +81,10 @@ kept_back back v v2 l h b k =
     let p = sp-pushed back v in
     let x : raised (sp (pushed back v)) ≡ lowered (sp v) = rw p (omega arith) in
     let z : raised (raised (sp (pushed back v))) ≡ sp v = rw p (omega arith) in
-    let u : v2.at (raised (raised (sp v2))) ≡ back % 256 = ap (λ n. v2.at (raised (raised n))) k.pointer ∙ k.low ∙ ap (pushed back v).at z ∙ pushed_low back v l h in
-    let w : v2.at (raised (sp v2)) ≡ back / 256 % 256 = ap (λ n. v2.at (raised n)) k.pointer ∙ k.high ∙ ap (pushed back v).at x ∙ pushed_high back v l h in
+    let u : v2.at (raised (raised (sp v2))) ≡ back % 256 =
+    ap (λ n. v2.at (raised (raised n))) k.pointer ∙ k.low ∙ ap (pushed back v).at z ∙ pushed_low back v l h in
+    let w : v2.at (raised (sp v2)) ≡ back / 256 % 256 =
+    ap (λ n. v2.at (raised n)) k.pointer ∙ k.high ∙ ap (pushed back v).at x ∙ pushed_high back v l h in
     rw (u, w) (omega arith)
 
 -- a call of a routine that comes to a RET

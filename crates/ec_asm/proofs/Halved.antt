@@ -1,5 +1,6 @@
 -- A number of n bytes is halved, wherever it stands, from its top byte down.
-use Rattle.std.proofs.Common.{◌≡◌, ◌≢◌, ℕ, zero, suc, ◌+◌, ◌-◌, ◌*◌, ◌/◌, ◌%◌, ◌^◌, ◌<◌, ◌≤◌, ⊎_elim, Bool, true, false, refl, sym, ap, ◌∙◌, subst, arith}
+use Rattle.std.proofs.Common.{◌≡◌, ◌≢◌, ℕ, zero, suc, ◌+◌, ◌-◌, ◌*◌, ◌/◌, ◌%◌, ◌^◌, ◌<◌, ◌≤◌, ⊎_elim, Bool, true, false, refl, sym, ap, ◌∙◌}
+use Rattle.std.proofs.Common.{subst, arith}
 use Rattle.std.proofs.lemmas.Bool.{cases_eq}
 use native.Mathlib.Nat.{pow-suc}
 use Rattle.ec_avr.specs.Flags.{shifted}
@@ -41,7 +42,14 @@ halve_operates : (e : Env) (keep : Bool) (p : Location) (n k a : ℕ) (v : View)
     → KindIs e p a Own → Halves v (block e (halve_byte keep p n k) v) a (shift_in keep k (v.at a) v.flags)
 halve_operates e keep (InRegisters r) n k a v p ka =
     let y = shifted (v.at a) (shift_in keep k (v.at a) v.flags) in
-    rw (halves_change e keep k (r + (n - 1 - k)) v, p) (record { here = put_here v.at a y a refl; carry = refl; same = λ j z o. put_other v.at a y j o; inputs = refl; safe = refl; seen = refl })
+    rw (halves_change e keep k (r + (n - 1 - k)) v, p) (record {
+      here = put_here v.at a y a refl;
+      carry = refl;
+      same = λ j z o. put_other v.at a y j o;
+      inputs = refl;
+      safe = refl;
+      seen = refl;
+    })
 halve_operates e keep (InMemory o i) n k a v p ka =
     let v1 = set 0 (v.at a) v in
     let y = shifted (v.at a) (shift_in keep k (v.at a) v.flags) in
@@ -70,7 +78,8 @@ keeps_below v0 v w a k h same inputs safe seen = record {
   seen = seen ∙ h.seen;
 }
 
-module _ (e : Env) (keep : Bool) (p : Location) (n a s : ℕ) (v0 : View) (sa : StandsFrom e p n a Own) (top : s ≡ sign_of keep (v0.at (a + (n - 1)))) where
+module _ (e : Env) (keep : Bool) (p : Location) (n a s : ℕ) (v0 : View) (sa : StandsFrom e p n a Own)
+    (top : s ≡ sign_of keep (v0.at (a + (n - 1)))) where
   -- the bit that goes into the byte that is the k-th from the top
   shifted_in : (k x : ℕ) (f : Flags) → x ≡ v0.at (a + (n - 1 - k)) → shift_in keep k x f ≡ bit_into s k f
   shifted_in zero x f q =
@@ -94,14 +103,17 @@ module _ (e : Env) (keep : Bool) (p : Location) (n a s : ℕ) (v0 : View) (sa : 
       let here : w.at (a + m) ≡ shifted (v0.at (a + m)) t = o.here ∙ rw (in_there, x) refl in
       let carry : w.flags.c ≡ v0.at (a + m) % 2 = o.carry ∙ rw x refl in
       let above = value-same w.at v.at (a + m + 1) k (λ j q. o.same (a + m + 1 + j) (omega arith) (omega arith)) in
-      let halved : value v.at (a + m + 1) k * 2 + t ≡ value v0.at (a + m + 1) k + s * 256 ^ k = subst (λ i. value v.at i k * 2 + t ≡ value v0.at i k + s * 256 ^ k) upper h.halved in
+      let halved : value v.at (a + m + 1) k * 2 + t ≡ value v0.at (a + m + 1) k + s * 256 ^ k =
+      subst (λ i. value v.at i k * 2 + t ≡ value v0.at i k + s * 256 ^ k) upper h.halved in
       let b = h.bit in
       let old : v0.at (a + m) < 256 = subst (λ i. i < 256) x (h.bytes (a + m) (omega arith)) in
       let r : w.at (a + m) < 256 = rw here (omega arith) in
       let new = value_front w.at (a + m) k ∙ ap (λ i. w.at (a + m) + 256 * i) above in
-      let whole = halve_step (v0.at (a + m)) t (w.at (a + m)) w.flags.c (value v.at (a + m + 1) k) (value v0.at (a + m + 1) k) s (256 ^ k) here carry halved in
+      let whole = halve_step (v0.at (a + m)) t (w.at (a + m)) w.flags.c (value v.at (a + m + 1) k) (value v0.at (a + m + 1) k) s
+      (256 ^ k) here carry halved in
       let more : value w.at (a + m) (suc k) * 2 + w.flags.c ≡ value v0.at (a + m) (suc k) + s * 256 ^ suc k =
-      ap (λ i. i * 2 + w.flags.c) new ∙ whole ∙ ap (λ i. i + s * (256 ^ k * 256)) (sym (value_front v0.at (a + m) k)) ∙ ap (λ i. value v0.at (a + m) (suc k) + s * i) (sym (pow-suc 256 k)) in
+      ap (λ i. i * 2 + w.flags.c) new ∙ whole ∙ ap (λ i. i + s * (256 ^ k * 256)) (sym (value_front v0.at (a + m) k))
+      ∙ ap (λ i. value v0.at (a + m) (suc k) + s * i) (sym (pow-suc 256 k)) in
       record {
         halved = subst (λ i. value w.at i (suc k) * 2 + w.flags.c ≡ value v0.at i (suc k) + s * 256 ^ suc k) (sym lower) more;
         bit = rw carry (omega arith);
@@ -116,7 +128,13 @@ halve_holds e keep p n a v sa bytes =
     let q : suc n - 1 ≡ n = omega arith in
     let top : s ≡ sign_of keep (v.at (a + (suc n - 1))) = ap (λ i. sign_of keep (v.at (a + i))) (sym q) in
     let b = bytes (a + n) (let u = sa.clear in omega arith) in
-    chain_holds e (halve_byte keep p (suc n)) (HalvesTo v s a (suc n)) (suc n) (λ k l w h. at_byte e keep p (suc n) a s v sa top k (suc n - 1 - k) l refl w h) v (record { halved = omega arith; bit = sign_below keep (v.at (a + n)) b; bytes = bytes; keeps = record { same = λ k z o m. refl; inputs = refl; safe = refl; seen = refl } })
+    chain_holds e (halve_byte keep p (suc n)) (HalvesTo v s a (suc n)) (suc n)
+    (λ k l w h. at_byte e keep p (suc n) a s v sa top k (suc n - 1 - k) l refl w h) v (record {
+      halved = omega arith;
+      bit = sign_below keep (v.at (a + n)) b;
+      bytes = bytes;
+      keeps = record { same = λ k z o m. refl; inputs = refl; safe = refl; seen = refl };
+    })
   where
     sign_below : (keep : Bool) (x : ℕ) → x < 256 → sign_of keep x ≤ 1
     sign_below true x l = omega arith
@@ -129,8 +147,10 @@ halves_are_right keep e p n a v sa bytes =
     let h = halve_holds e keep p n a v sa bytes in
     let q : a + (suc n - suc n) ≡ a = omega arith in
     let k : Keeps v w a (suc n) = subst (λ i. Keeps v w i (suc n)) q h.keeps in
-    let g : value w.at a (suc n) * 2 + w.flags.c ≡ value v.at a (suc n) + s * 256 ^ suc n = subst (λ i. value w.at i (suc n) * 2 + w.flags.c ≡ value v.at i (suc n) + s * 256 ^ suc n) q h.halved in
-    let r = parts (value w.at a (suc n)) w.flags.c (value v.at a (suc n)) s (256 ^ n) (g ∙ ap (λ t. value v.at a (suc n) + s * t) (pow-suc 256 n)) h.bit in
+    let g : value w.at a (suc n) * 2 + w.flags.c ≡ value v.at a (suc n) + s * 256 ^ suc n =
+    subst (λ i. value w.at i (suc n) * 2 + w.flags.c ≡ value v.at i (suc n) + s * 256 ^ suc n) q h.halved in
+    let r = parts (value w.at a (suc n)) w.flags.c (value v.at a (suc n)) s (256 ^ n)
+    (g ∙ ap (λ t. value v.at a (suc n) + s * t) (pow-suc 256 n)) h.bit in
     (rw (pow-suc 256 n) r.0, r.1, k)
   where
     parts : (x c y s p : ℕ) → x * 2 + c ≡ y + s * (p * 256) → c ≤ 1 → (x ≡ (y + s * (p * 256)) / 2) × (c ≡ y % 2)

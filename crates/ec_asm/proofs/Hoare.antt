@@ -2,7 +2,8 @@
 use Rattle.std.proofs.Common.{◌≡◌, ℕ, zero, suc, ◌+◌, ◌*◌, ◌%◌, ◌<◌, ◌≤◌, true, List, [], ◌∷◌, ◌++◌, refl, sym, ap, ◌∙◌, arith, Some}
 use Rattle.std.proofs.lemmas.Bool.{and_parts, and_from, false≢true}
 use Rattle.ec_isa.specs.declared.instructions.Instr.{Instr}
-use Rattle.ec_isa.specs.declared.instructions.Instr.TheVariants.{Lds, Sts, Ldi, Jmp, Call, Ret, Break, Ijmp, Icall, Rjmp, Rcall, Brbs, Brbc, Cpse, Sbrc, Sbrs}
+use Rattle.ec_isa.specs.declared.instructions.Instr.TheVariants.{Lds, Sts, Ldi, Jmp, Call, Ret, Break, Ijmp, Icall, Rjmp, Rcall, Brbs, Brbc}
+use Rattle.ec_isa.specs.declared.instructions.Instr.TheVariants.{Cpse, Sbrc, Sbrs}
 use Rattle.ec_asm.specs.declared.items.AsmItem.{AsmItem}
 use Rattle.ec_asm.specs.declared.items.AsmItem.TheVariants.{Plain, Label, JumpTo, CallTo, BranchTo, LoadPart, LoadObj, StoreObj}
 use Rattle.ec_asm.specs.View.{View}
@@ -113,8 +114,11 @@ chain_reaches I e body n index view step i q zero l = (i, q, refl)
 chain_reaches I e body n index view step i q (suc m) l =
     let h = chain_reaches I e body n index view step i q m (omega arith) in
     let at = h.1 in
-    let s = step h.0 (omega arith) in
-    (s.0, s.1 ∙ ap suc at, s.2 ∙ ap (λ k. block e (body k) (view h.0)) at ∙ ap (block e (body m)) h.2 ∙ sym (block-append e (chain body m) (body m) (view i)))
+    let s = step h.0 (omega arith) in (
+      s.0,
+      s.1 ∙ ap suc at,
+      s.2 ∙ ap (λ k. block e (body k) (view h.0)) at ∙ ap (block e (body m)) h.2 ∙ sym (block-append e (chain body m) (body m) (view i)),
+    )
 
 pub chains_hold : (I : Type 0) → ChainsHold I
 chains_hold I e body n index view step i q = chain_reaches I e body n index view step i q n (omega arith)

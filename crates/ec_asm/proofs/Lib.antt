@@ -1,17 +1,8 @@
-pub mod Bits
-pub mod MachineLaws
-pub mod Known
+-- For all crates above.
 pub mod Hoare
-pub mod Shown
-pub mod Families
-pub mod Accesses
-pub mod Single
-pub mod Steps
-pub mod Machine
 pub mod Takes
 pub mod Behaves
 pub mod Calls
-pub mod Placed
 pub mod Numbers
 pub mod Bytes
 pub mod Sum
@@ -23,4 +14,14 @@ pub mod ItemWords
 pub mod Ending
 pub mod Stack
 pub mod Results
-pub mod Appended
+-- For this crate alone.
+mod MachineLaws
+mod Known
+mod Shown
+mod Families
+mod Accesses
+mod Single
+mod Steps
+mod Machine
+mod Placed
+mod Appended

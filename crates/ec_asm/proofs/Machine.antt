@@ -1,10 +1,16 @@
 -- The run of the view is that of the machine.
-use Rattle.std.proofs.Common.{◌≡◌, ℕ, zero, suc, ◌+◌, ◌/◌, ◌%◌, ◌<◌, Bool, true, false, ◌&&◌, [], ◌∷◌, refl, sym, ap, ◌∙◌, subst, arith, Option, Some, None, append-nil, append_assoc, zero-add, ℤ}
+use Rattle.std.proofs.Common.{◌≡◌, ℕ, zero, suc, ◌+◌, ◌/◌, ◌%◌, ◌<◌, Bool, true, false, ◌&&◌, [], ◌∷◌, refl, sym, ap, ◌∙◌, subst, arith}
+use Rattle.std.proofs.Common.{Option, Some, None, append-nil, append_assoc, zero-add, ℤ}
 use Rattle.std.specs.Prelude.{if◌then◌else◌, ◌==◌, IsTrue}
 use Rattle.std.specs.Int.{cast_signed, w16}
 use Rattle.std.proofs.lemmas.Bool.{and_parts, false≢true}
 use Rattle.ec_isa.specs.declared.instructions.Instr.{Instr}
-use Rattle.ec_isa.specs.declared.instructions.Instr.TheVariants.{Nop, Movw, Cpc, Sbc, Add, Cpse, Cp, Sub, Adc, And, Eor, Or, Mov, Mul, Cpi, Sbci, Subi, Ori, Andi, Ldi, LddZ, LddY, StdZ, StdY, Lds, Sts, LdX, StX, LpmZ, LdXPlus, LdZPlus, StXPlus, StZPlus, LpmZPlus, Pop, Push, Com, Neg, Swap, Inc, Asr, Lsr, Ror, Dec, Bset, Bclr, Adiw, Sbiw, In as InInstr, Out as OutInstr, Bst, Jmp, Call, Ret, Break, Rjmp, Rcall, Brbs, Brbc, Sbrc, Sbrs}
+use Rattle.ec_isa.specs.declared.instructions.Instr.TheVariants.{Nop, Movw, Cpc, Sbc, Add, Cpse, Cp, Sub, Adc, And, Eor, Or, Mov, Mul, Cpi}
+use Rattle.ec_isa.specs.declared.instructions.Instr.TheVariants.{Sbci, Subi, Ori, Andi, Ldi, LddZ, LddY, StdZ, StdY, Lds, Sts, LdX, StX}
+use Rattle.ec_isa.specs.declared.instructions.Instr.TheVariants.{LpmZ, LdXPlus, LdZPlus, StXPlus, StZPlus, LpmZPlus, Pop, Push, Com, Neg}
+use Rattle.ec_isa.specs.declared.instructions.Instr.TheVariants.{Swap, Inc, Asr, Lsr, Ror, Dec, Bset, Bclr, Adiw, Sbiw, In as InInstr}
+use Rattle.ec_isa.specs.declared.instructions.Instr.TheVariants.{Out as OutInstr, Bst, Jmp, Call, Ret, Break, Rjmp, Rcall, Brbs, Brbc, Sbrc}
+use Rattle.ec_isa.specs.declared.instructions.Instr.TheVariants.{Sbrs}
 use Rattle.ec_isa.specs.Table.{in_table}
 use Rattle.ec_avr.specs.declared.machine.Access.TheVariants.{Silent, Stack}
 use Rattle.ec_avr.specs.declared.machine.Stepped.TheVariants.{Ended as MEnded}
@@ -12,7 +18,8 @@ use Rattle.ec_avr.specs.Effects.{After, effect, relative, instruction_at, jump, 
 use Rattle.ec_avr.specs.Machine.{State, EndedWith, machine, step as m_step, needs_port, is_whole, answer_of, machine_result}
 use Rattle.ec_avr.specs.State.{raised, lowered, word_at, sreg, flag, register}
 use Rattle.ec_asm.specs.View.{View, pair}
-use Rattle.ec_asm.specs.Change.{Env, Kind, Own, Object, Port, Stacked, Barred, change, goes_on, words, sp, load_by, store_by, flash_by, push_by, pop_by, flag_at}
+use Rattle.ec_asm.specs.Change.{Env, Kind, Own, Object, Port, Stacked, Barred, change, goes_on, words, sp, load_by, store_by, flash_by}
+use Rattle.ec_asm.specs.Change.{push_by, pop_by, flag_at}
 use Rattle.ec_asm.specs.Run.{Status, Running, Ended, Stuck, act, run, fetch, pushed, popped, back_at, on_stack, is_flag, skip_to}
 use Rattle.ec_asm.specs.Shows.{Shows, Fits, Moves, after, port_of, noted, noted_all, RunsAs}
 use Rattle.ec_asm.proofs.Shown.{shows_byte, reads}
@@ -180,13 +187,15 @@ module _ (laws : StepLaws) (e : Env) (size : ℕ) (fit : Fits e size) (s : State
   flag_is b k = ap (λ f. flag_at f b) h.flags ∙ flag_seen (sreg s) b k
 
   branch_set : (b : ℕ) (k : ℤ) (u : Bool) → is_flag b ≡ u
-      → IsMove e size v None (effect (Some (Brbs b k)) 0 s) (if u then Running ((if flag_at v.flags b == 1 then relative s.pc k else s.pc + 1) % 65536) v else Stuck)
+      → IsMove e size v None (effect (Some (Brbs b k)) 0 s)
+      (if u then Running ((if flag_at v.flags b == 1 then relative s.pc k else s.pc + 1) % 65536) v else Stuck)
   unfolding effect
   branch_set b k true q = λ safe. rw (flag_is b q) (jumped _ _ refl)
   branch_set b k false q = tt
 
   branch_clear : (b : ℕ) (k : ℤ) (u : Bool) → is_flag b ≡ u
-      → IsMove e size v None (effect (Some (Brbc b k)) 0 s) (if u then Running ((if flag_at v.flags b == 0 then relative s.pc k else s.pc + 1) % 65536) v else Stuck)
+      → IsMove e size v None (effect (Some (Brbc b k)) 0 s)
+      (if u then Running ((if flag_at v.flags b == 0 then relative s.pc k else s.pc + 1) % 65536) v else Stuck)
   unfolding effect
   branch_clear b k true q = λ safe. rw (flag_is b q) (jumped _ _ refl)
   branch_clear b k false q = tt
@@ -203,7 +212,9 @@ module _ (laws : StepLaws) (e : Env) (size : ℕ) (fit : Fits e size) (s : State
         access = Stack;
         ran = rw (t, a.2, b.2) refl;
         pc = rw (t, a.2, b.2) refl;
-        shows = rw (t, a.2, b.2) (sp_set e size fit s v h _ _ (lowered (lowered (sp v))) (shows_byte e size _ _ (lowered (sp v)) (back / 256 % 256) (shows_byte e size s.mem v (sp v) (back % 256) h a.1 (let g = a.0 in omega arith) (omega arith)) b.1 (let g = b.0 in omega arith) (omega arith)) (omega arith));
+        shows = rw (t, a.2, b.2) (sp_set e size fit s v h _ _ (lowered (lowered (sp v))) (shows_byte e size _ _ (lowered (sp v))
+            (back / 256 % 256) (shows_byte e size s.mem v (sp v) (back % 256) h a.1 (let g = a.0 in omega arith) (omega arith)) b.1
+            (let g = b.0 in omega arith) (omega arith)) (omega arith));
         seen = sym (append-nil v.seen);
         inputs = refl;
       }
@@ -314,7 +325,8 @@ later e size m v w s x port pc (Ended u) k p n r = λ safe.
     }
 later e size m v w s x port pc Stuck k p n r = tt
 
-module _ (laws : StepLaws) (e : Env) (size : ℕ) (fit : Fits e size) (m : ℕ) (ih : (s : State) (v : View) → Shows e size s.mem v → RunsAs e size m v s (run e m (Running s.pc v))) (s : State) (v : View) (h : Shows e size s.mem v) where
+module _ (laws : StepLaws) (e : Env) (size : ℕ) (fit : Fits e size) (m : ℕ) (ih : (s : State) (v : View) → Shows e size s.mem v
+    → RunsAs e size m v s (run e m (Running s.pc v))) (s : State) (v : View) (h : Shows e size s.mem v) where
   by_safe : (i : Instr) (pc : ℕ) (w : View) (b : Bool) → w.safe ≡ b → fetch e s.pc ≡ Some i
       → (w.safe ≡ true → Moves e size v w pc (port_of i s) (after i s v))
       → RunsAs e size (suc m) v s (run e m (Running pc w))
@@ -322,7 +334,8 @@ module _ (laws : StepLaws) (e : Env) (size : ℕ) (fit : Fits e size) (m : ℕ) 
   by_safe i pc w true u f k =
       let g = k u in
       let q = step_is laws e size s v i h f in
-      later e size m v w s (after i s v) (port_of i s) pc _ g q.0 q.1 (subst (λ n. RunsAs e size m w (after i s v).state (run e m (Running n w))) g.pc (ih (after i s v).state w g.shows))
+      later e size m v w s (after i s v) (port_of i s) pc _ g q.0 q.1
+      (subst (λ n. RunsAs e size m w (after i s v).state (run e m (Running n w))) g.pc (ih (after i s v).state w g.shows))
 
   by_status : (i : Instr) (st : Status) → fetch e s.pc ≡ Some i → IsMove e size v (port_of i s) (after i s v) st
       → RunsAs e size (suc m) v s (run e m st)
@@ -339,7 +352,9 @@ module _ (laws : StepLaws) (e : Env) (size : ℕ) (fit : Fits e size) (m : ℕ) 
 
   by_fetch : (o : Option Instr) → fetch e s.pc ≡ o → RunsAs e size (suc m) v s (run e m (act e o s.pc v))
   by_fetch None f = subst (RunsAs e size (suc m) v s) (sym (run-stuck e m)) tt
-  by_fetch (Some i) f = let q = step_is laws e size s v i h f in by_status i (act e (Some i) s.pc v) f (act_moves laws e size fit s v h i q.2)
+  by_fetch (Some i) f =
+      let q = step_is laws e size s v i h f in
+      by_status i (act e (Some i) s.pc v) f (act_moves laws e size fit s v h i q.2)
 
 -- the run of the view is that of the machine, as long as it is safe
 pub runs_as : StepLaws → (e : Env) (size : ℕ) → Fits e size → (m : ℕ) (s : State) (v : View) → Shows e size s.mem v

@@ -34,7 +34,8 @@ mod_less x m n l =
     let k = 256 ^ (n - m) in
     let s = split m n l in
     let d = div-add-mod' x (256 ^ n) in
-    let e : x ≡ (x / 256 ^ n * k) * p + x % 256 ^ n = (let g : x / 256 ^ n * 256 ^ n ≡ x / 256 ^ n * (k * p) = ap (λ t. x / 256 ^ n * t) s in omega (arith, d)) in
+    let e : x ≡ (x / 256 ^ n * k) * p + x % 256 ^ n =
+    (let g : x / 256 ^ n * 256 ^ n ≡ x / 256 ^ n * (k * p) = ap (λ t. x / 256 ^ n * t) s in omega (arith, d)) in
     sym (ap (λ t. t % p) e ∙ mod_beside (x / 256 ^ n * k) p (x % 256 ^ n) (pow_pos m))
 
 small : (x m : ℕ) → x < m → x % m ≡ x
@@ -50,7 +51,8 @@ value_mod f a m (suc n) l h =
     let s = split m n (omega arith) in
     let g : f (a + n) * 256 ^ n ≡ f (a + n) * (256 ^ (n - m) * 256 ^ m) = ap (λ t. f (a + n) * t) s in
     let e : value f a n + f (a + n) * 256 ^ n ≡ f (a + n) * 256 ^ (n - m) * 256 ^ m + value f a n = omega arith in
-    ap (λ t. t % 256 ^ m) e ∙ mod_beside (f (a + n) * 256 ^ (n - m)) (256 ^ m) (value f a n) (pow_pos m) ∙ value_mod f a m n (omega arith) (λ j q. h j (omega arith)))
+    ap (λ t. t % 256 ^ m) e ∙ mod_beside (f (a + n) * 256 ^ (n - m)) (256 ^ m) (value f a n) (pow_pos m)
+    ∙ value_mod f a m n (omega arith) (λ j q. h j (omega arith)))
     (λ k.
     let e : m ≡ suc n = omega arith in
     let b = value_below f a (suc n) h in

@@ -12,7 +12,8 @@ use Rattle.ec_asm.specs.declared.pieces.Operator.TheVariants.{Sum, Difference, B
 use Rattle.ec_asm.specs.View.{View}
 use Rattle.ec_asm.specs.Change.{Env, Own, difference_flags, result_flags}
 use Rattle.ec_asm.specs.Items.{block}
-use Rattle.ec_asm.specs.Pieces.{StandsFrom, IsBinary, value, instruction, operate_byte, operate_code, carry_at, zero_at, DiffersTo, bitwise, is_bitwise, BitwiseTo}
+use Rattle.ec_asm.specs.Pieces.{StandsFrom, IsBinary, value, instruction, operate_byte, operate_code, carry_at, zero_at, DiffersTo, bitwise}
+use Rattle.ec_asm.specs.Pieces.{is_bitwise, BitwiseTo}
 use Rattle.ec_asm.proofs.Hoare.{chain_holds}
 use Rattle.ec_asm.proofs.Bytes.{binary_operates}
 use Rattle.ec_asm.proofs.Sum.{not_yet, value-same, keeps_more}
@@ -21,7 +22,8 @@ use Rattle.ec_asm.proofs.Compared.{byte_borrow, borrow_bit, borrow_step, below_s
 -- ---- the difference
 
 difference_binary : (i : ℕ)
-    → IsBinary (instruction Difference i) (λ x y f. byte_difference x y (carry_at i f)) (λ x y f. difference_flags f x y (carry_at i f) (zero_at i f))
+    → IsBinary (instruction Difference i) (λ x y f. byte_difference x y (carry_at i f))
+    (λ x y f. difference_flags f x y (carry_at i f) (zero_at i f))
 difference_binary zero = record { is = λ e d r v. refl; straight = λ d r. refl }
 difference_binary (suc i) = record { is = λ e d r v. refl; straight = λ d r. refl }
 
@@ -32,7 +34,9 @@ difference_step e p q n a b v0 sa sb far i l v h =
     let ua = sa.clear in
     let ub = sb.clear in
     let w = block e (operate_byte Difference p q i) v in
-    let o = binary_operates (instruction Difference i) (λ x y f. byte_difference x y (carry_at i f)) (λ x y f. difference_flags f x y (carry_at i f) (zero_at i f)) (difference_binary i) e p q i (a + i) (b + i) v (sa.at i l) (sb.at i l) (sa.kind i l) (sb.kind i l) (omega arith) (omega arith) in
+    let o = binary_operates (instruction Difference i) (λ x y f. byte_difference x y (carry_at i f))
+    (λ x y f. difference_flags f x y (carry_at i f) (zero_at i f)) (difference_binary i) e p q i (a + i) (b + i) v (sa.at i l) (sb.at i l)
+    (sa.kind i l) (sb.kind i l) (omega arith) (omega arith) in
     let x = v.at (a + i) in
     let y = v.at (b + i) in
     let c = carry_at i v.flags in
@@ -57,7 +61,13 @@ pub difference_holds : (e : Env) (p q : Location) (n a b : ℕ) (v0 : View) → 
     → StandsFrom e q n b Own → (a < b → a + n ≤ b) → ((k : ℕ) → 2 ≤ k → v0.at k < 256)
     → DiffersTo v0 a b n (block e (operate_code Difference p q n) v0)
 difference_holds e p q n a b v0 sa sb far bytes =
-    chain_holds e (operate_byte Difference p q) (DiffersTo v0 a b) n (difference_step e p q n a b v0 sa sb far) v0 (record { difference = refl; below = omega arith; borrow = omega arith; bytes = bytes; keeps = record { same = λ k z o m. refl; inputs = refl; safe = refl; seen = refl } })
+    chain_holds e (operate_byte Difference p q) (DiffersTo v0 a b) n (difference_step e p q n a b v0 sa sb far) v0 (record {
+      difference = refl;
+      below = omega arith;
+      borrow = omega arith;
+      bytes = bytes;
+      keeps = record { same = λ k z o m. refl; inputs = refl; safe = refl; seen = refl };
+    })
 
 -- ---- bitwise operators
 
@@ -76,12 +86,14 @@ bitwise_step op is e p q n a b v0 sa sb far i l v h =
     let ua = sa.clear in
     let ub = sb.clear in
     let w = block e (operate_byte op p q i) v in
-    let o = binary_operates (instruction op i) (λ x y f. bitwise op x y) (λ x y f. result_flags f (bitwise op x y) 0) (bitwise_binary op i is) e p q i (a + i) (b + i) v (sa.at i l) (sb.at i l) (sa.kind i l) (sb.kind i l) (omega arith) (omega arith) in
+    let o = binary_operates (instruction op i) (λ x y f. bitwise op x y) (λ x y f. result_flags f (bitwise op x y) 0)
+    (bitwise_binary op i is) e p q i (a + i) (b + i) v (sa.at i l) (sb.at i l) (sa.kind i l) (sb.kind i l) (omega arith) (omega arith) in
     let ex = h.keeps.same (a + i) (omega arith) (omega arith) (not_yet a b n i far l) in
     let ey = h.keeps.same (b + i) (omega arith) (omega arith) (λ m. omega arith) in
     let here : w.at (b + i) ≡ bitwise op (v0.at (b + i)) (v0.at (a + i)) = o.here ∙ rw (ex, ey) refl in
     record {
-      there = λ j m. ⊎_elim (λ (t : j ≡ i). rw t here) (λ (t : j ≢ i). o.same (b + j) (omega arith) (omega arith) (λ x. t (omega arith)) ∙ h.there j (omega arith)) (cases_eq j i);
+      there = λ j m. ⊎_elim (λ (t : j ≡ i). rw t here)
+          (λ (t : j ≢ i). o.same (b + j) (omega arith) (omega arith) (λ x. t (omega arith)) ∙ h.there j (omega arith)) (cases_eq j i);
       keeps = keeps_more v0 v w b i h.keeps o.same o.inputs o.safe o.seen;
     }
 
@@ -89,4 +101,5 @@ pub bitwise_holds : (op : Operator) → is_bitwise op ≡ true → (e : Env) (p 
     → StandsFrom e p n a Own → StandsFrom e q n b Own → (a < b → a + n ≤ b)
     → BitwiseTo op v0 a b n (block e (operate_code op p q n) v0)
 bitwise_holds op is e p q n a b v0 sa sb far =
-    chain_holds e (operate_byte op p q) (BitwiseTo op v0 a b) n (bitwise_step op is e p q n a b v0 sa sb far) v0 (record { there = λ j m. absurd (omega arith); keeps = record { same = λ k z o m. refl; inputs = refl; safe = refl; seen = refl } })
+    chain_holds e (operate_byte op p q) (BitwiseTo op v0 a b) n (bitwise_step op is e p q n a b v0 sa sb far) v0
+    (record { there = λ j m. absurd (omega arith); keeps = record { same = λ k z o m. refl; inputs = refl; safe = refl; seen = refl } })

@@ -1,5 +1,6 @@
 -- Items whose bytes stand in the flash stand there, and near jumps are jumps to their labels.
-use Rattle.std.proofs.Common.{◌≡◌, ℕ, ◌+◌, ◌-◌, ◌*◌, ◌%◌, ◌<◌, ⊎_elim, inl, inr, Bool, true, false, ◌&&◌, List, [], ◌∷◌, ◌++◌, length, refl, sym, ap, ◌∙◌, subst, arith, Option, Some, None, ℤ, pos, negsuc}
+use Rattle.std.proofs.Common.{◌≡◌, ℕ, ◌+◌, ◌-◌, ◌*◌, ◌%◌, ◌<◌, ⊎_elim, inl, inr, Bool, true, false, ◌&&◌, List, [], ◌∷◌, ◌++◌, length, refl}
+use Rattle.std.proofs.Common.{sym, ap, ◌∙◌, subst, arith, Option, Some, None, ℤ, pos, negsuc}
 use Rattle.std.specs.Prelude.{if◌then◌else◌, nat_lt, IsTrue, slice_index}
 use Rattle.std.specs.List.{list_all}
 use Rattle.std.proofs.lemmas.Bool.{lt-ltb, cases_lt, ltb-true, and_parts}
@@ -41,7 +42,11 @@ length_code _ = refl
 
 holds_at : FlashLaws → (e : Env) (i : Instr) (pc : ℕ) → IsTrue (in_table i) → HoldsFrom e.flash (2 * pc) (code_bytes i)
     → pc + words i < 65536 → At e i pc (pc + words i)
-holds_at laws e i pc t h r = record { is = fetch_stands laws e i pc (record { known = t; within = h.within; bytes = h.bytes_there }); ends = refl; room = r }
+holds_at laws e i pc t h r = record {
+  is = fetch_stands laws e i pc (record { known = t; within = h.within; bytes = h.bytes_there });
+  ends = refl;
+  room = r;
+}
 
 -- ---- bytes one after another
 
@@ -99,7 +104,8 @@ branch_stands laws e set flag l pc t h r =
     let n = length_code i in
     let first = holds_at laws e i pc a.0 (front_holds e.flash (2 * pc) (code_bytes i) (code_bytes j ++ []) h) (omega arith) in
     let more = rest_holds e.flash (2 * pc) (code_bytes i) (code_bytes j ++ []) h in
-    let second = one_stands laws e j (pc + 1) a.1 (at_index e.flash (2 * pc + length (code_bytes i)) (2 * (pc + 1)) (code_bytes j ++ []) (omega arith) more) (omega arith) in
+    let second = one_stands laws e j (pc + 1) a.1
+    (at_index e.flash (2 * pc + length (code_bytes i)) (2 * (pc + 1)) (code_bytes j ++ []) (omega arith) more) (omega arith) in
     let first' : At e i pc (pc + 1) = subst (λ x. At e i pc (pc + x)) w first in
     let q : pc + 1 + 2 ≡ pc + 3 = omega arith in
     let second' : At e j (pc + 1) (pc + 3) = subst (λ x. At e j (pc + 1) x) q second in
@@ -146,7 +152,8 @@ items_stand laws e (i ∷ is) pc h =
     let q : pc + code_words (i ∷ is) ≡ pc + item_words i + code_words is = omega arith in
     let first = item_stands laws e i pc h.known.0 h.labels.0 (front_holds e.flash (2 * pc) a b h.image) (omega arith) in
     let more = at_index e.flash (2 * pc + length a) (2 * (pc + item_words i)) b (omega arith) (rest_holds e.flash (2 * pc) a b h.image) in
-    let rest = items_stand laws e is (pc + item_words i) (record { known = h.known.1; labels = h.labels.1; image = more; room = omega arith }) in
+    let rest =
+    items_stand laws e is (pc + item_words i) (record { known = h.known.1; labels = h.labels.1; image = more; room = omega arith }) in
     (pc + item_words i, first, subst (λ x. HasAt e is (pc + item_words i) x) (sym q) rest)
 
 -- ---- near jumps
@@ -163,7 +170,10 @@ relative-distance pc to l m = by_case (nat_lt pc to) refl
 -- a near jump stands for a jump to its label
 pub near_jump : (e : Env) (l pc end : ℕ) → At e (Rjmp (distance pc (e.word_of l))) pc end → e.word_of l < 65536
     → Stands e (JumpTo l) pc end
-near_jump e l pc end a m = let r = a.room in let n = a.ends in inr (distance pc (e.word_of l), a, relative-distance pc (e.word_of l) (omega arith) m)
+near_jump e l pc end a m =
+    let r = a.room in
+    let n = a.ends in
+    inr (distance pc (e.word_of l), a, relative-distance pc (e.word_of l) (omega arith) m)
 
 pub near_branch : (e : Env) (set : Bool) (flag l pc end : ℕ)
     → At e (branch_if set flag (distance pc (e.word_of l))) pc end → pc < 65536 → e.word_of l < 65536
@@ -172,4 +182,7 @@ near_branch e set flag l pc end a r m = inr (distance pc (e.word_of l), a, relat
 
 pub near_call : (e : Env) (l pc end : ℕ) → At e (Rcall (distance pc (e.word_of l))) pc end → e.word_of l < 65536
     → Stands e (CallTo l) pc end
-near_call e l pc end a m = let r = a.room in let n = a.ends in inr (distance pc (e.word_of l), a, relative-distance pc (e.word_of l) (omega arith) m)
+near_call e l pc end a m =
+    let r = a.room in
+    let n = a.ends in
+    inr (distance pc (e.word_of l), a, relative-distance pc (e.word_of l) (omega arith) m)

@@ -10,7 +10,8 @@ use Rattle.ec_asm.specs.View.{View}
 use Rattle.ec_asm.specs.Change.{goes_on}
 use Rattle.ec_asm.specs.Items.{block, all_straight, code_steps, chain}
 use Rattle.ec_asm.specs.Pieces.{value, instruction, operate_byte, operate_code, copy_byte, compares, compare_byte, halves, halve_byte}
-use Rattle.ec_asm.specs.PieceLaws.{HoldsNumbers, SumsAreRight, DifferencesAreRight, ComparisonsTellLess, ComparisonsTellEqual, ComparisonsKeep, PiecesAreStraight, TakesEach, PiecesTake}
+use Rattle.ec_asm.specs.PieceLaws.{HoldsNumbers, SumsAreRight, DifferencesAreRight, ComparisonsTellLess, ComparisonsTellEqual}
+use Rattle.ec_asm.specs.PieceLaws.{ComparisonsKeep, PiecesAreStraight, TakesEach, PiecesTake}
 use Rattle.ec_asm.proofs.Hoare.{chain_straight, steps-append}
 use Rattle.ec_asm.proofs.Numbers.{value_below}
 use Rattle.ec_asm.proofs.Sum.{sum_holds, sum_is}
@@ -41,12 +42,14 @@ differences_are_right e p q n a b v sa sb far bytes =
 pub comparisons_tell_less : ComparisonsTellLess
 comparisons_tell_less e p q n a b v sa sb bytes =
     let h = compare_holds e p q (suc n) a b v sa sb bytes in
-    borrow_is h.rest (value v.at a (suc n)) (value v.at b (suc n)) _ (256 ^ suc n) h.difference h.below h.borrow (value_is_below v a (suc n) sa.clear bytes) (value_is_below v b (suc n) sb.clear bytes)
+    borrow_is h.rest (value v.at a (suc n)) (value v.at b (suc n)) _ (256 ^ suc n) h.difference h.below h.borrow
+    (value_is_below v a (suc n) sa.clear bytes) (value_is_below v b (suc n) sb.clear bytes)
 
 pub comparisons_tell_equal : ComparisonsTellEqual
 comparisons_tell_equal e p q n a b v sa sb bytes =
     let h = compare_holds e p q (suc n) a b v sa sb bytes in
-    h.equal ∙ equal_is h.rest (value v.at a (suc n)) (value v.at b (suc n)) _ (256 ^ suc n) h.difference h.below h.borrow (value_is_below v a (suc n) sa.clear bytes) (value_is_below v b (suc n) sb.clear bytes)
+    h.equal ∙ equal_is h.rest (value v.at a (suc n)) (value v.at b (suc n)) _ (256 ^ suc n) h.difference h.below h.borrow
+    (value_is_below v a (suc n) sa.clear bytes) (value_is_below v b (suc n) sb.clear bytes)
 
 pub comparisons_keep : ComparisonsKeep
 comparisons_keep e p q n a b v sa sb bytes = (compare_holds e p q n a b v sa sb bytes).keeps
@@ -95,8 +98,12 @@ halve_straight signed (InRegisters r) n k = rw (halves_go signed k (r + (n - 1 -
 halve_straight signed (InMemory o j) n k = rw (halves_go signed k 0) refl
 
 pub pieces_are_straight : PiecesAreStraight
-pieces_are_straight op p q n =
-    (chain_straight (copy_byte p q) n (copy_straight p q), chain_straight (operate_byte op p q) n (operate_straight op p q), chain_straight (compare_byte p q) n (compare_straight p q), λ signed. chain_straight (halve_byte signed p n) n (halve_straight signed p n))
+pieces_are_straight op p q n = (
+  chain_straight (copy_byte p q) n (copy_straight p q),
+  chain_straight (operate_byte op p q) n (operate_straight op p q),
+  chain_straight (compare_byte p q) n (compare_straight p q),
+  λ signed. chain_straight (halve_byte signed p n) n (halve_straight signed p n),
+)
 
 abbrev IsFrom1To : (most steps : ℕ) → Type 0
 IsFrom1To most steps = (1 ≤ steps) × (steps ≤ most)
@@ -133,5 +140,9 @@ chain_steps body (suc n) k h =
     (omega (arith, s, r.0, b.0), omega (arith, s, r.1, b.1))
 
 pub pieces_take : PiecesTake
-pieces_take op p q n =
-    (chain_steps (copy_byte p q) n 2 (copy_steps p q), chain_steps (operate_byte op p q) n 4 (operate_steps op p q), chain_steps (compare_byte p q) n 3 (compare_steps p q), λ signed. chain_steps (halve_byte signed p n) n 3 (halve_steps signed p n))
+pieces_take op p q n = (
+  chain_steps (copy_byte p q) n 2 (copy_steps p q),
+  chain_steps (operate_byte op p q) n 4 (operate_steps op p q),
+  chain_steps (compare_byte p q) n 3 (compare_steps p q),
+  λ signed. chain_steps (halve_byte signed p n) n 3 (halve_steps signed p n),
+)

@@ -6,10 +6,10 @@ use Rattle.std.proofs.lemmas.Bool.Decides.{nat_tests}
 use Rattle.std.proofs.lemmas.List.{get_or-set_same, get_or-set_other}
 use Rattle.std.proofs.lemmas.Grind.{get_or-set_at}
 use Rattle.std.proofs.Math.ListN.{length-set}
-pub use Rattle.ec_asm.proofs.Bits.{bit_below, bool_below, product_of_bits}
 use Rattle.ec_space.specs.Bytes.{AreBytes}
 use Rattle.ec_space.specs.Memory.{Memory}
 use Rattle.ec_avr.specs.Flags.{with_flags}
+pub use Rattle.ec_avr.proofs.Bits.{bit_below, bool_below, product_of_bits}
 use Rattle.ec_asm.specs.View.{Flags, View, put, bytes_of, flags_of}
 use Rattle.ec_asm.specs.Change.{Env, flags_with}
 use Rattle.ec_asm.specs.Shows.{Shows}

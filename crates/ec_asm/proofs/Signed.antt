@@ -47,7 +47,8 @@ less_with_borrow x y lx ly p a b =
     (λ h. let m : (x + 1) * p ≤ y * p = mul-le (x + 1) p y p (omega arith) (omega arith) in less_above x y lx ly p h m a b)
     (λ h. ⊎_elim
     (λ (i : x ≡ y). rw i (less_beside y lx ly p))
-    (λ (i : x ≢ y). let m : (y + 1) * p ≤ x * p = mul-le (y + 1) p x p (omega arith) (omega arith) in not_less x y lx ly p (omega arith) m a b)
+    (λ (i : x ≢ y). let m : (y + 1) * p ≤ x * p = mul-le (y + 1) p x p (omega arith) (omega arith) in
+    not_less x y lx ly p (omega arith) m a b)
     (cases_eq x y))
     (cases_lt x y)
 
@@ -72,7 +73,8 @@ moved low top p l h =
     (λ k.
     let no : nat_lt top 128 ≡ false = grind (arith, nat_tests) in
     let e : top ≡ top - 128 + 128 = omega arith in
-    rw no (subst (λ t. (low + t * p + p * 256 / 2) % (p * 256) ≡ (top - 128) * p + low) (sym e) (moved_high low (top - 128) p l (omega arith))))
+    rw no
+    (subst (λ t. (low + t * p + p * 256 / 2) % (p * 256) ≡ (top - 128) * p + low) (sym e) (moved_high low (top - 128) p l (omega arith))))
     (cases_lt top 128)
 
 fewer_stand : (e : Env) (p : Location) (n a : ℕ) (k : Kind) → StandsFrom e p (suc n) a k → StandsFrom e p n a k
@@ -92,18 +94,21 @@ sign_is e p q n a b v sa sb bytes =
     let la = value_below v.at a n (λ j m. bytes (a + j) (omega arith)) in
     let lb = value_below v.at b n (λ j m. bytes (b + j) (omega arith)) in
     let k = borrow_is h.rest (value v.at a n) (value v.at b n) c (256 ^ n) h.difference h.below h.borrow la lb in
-    let o = compare_operates e p q n (a + n) (b + n) w (sa.at n (omega arith)) (sb.at n (omega arith)) (sa.kind n (omega arith)) (sb.kind n (omega arith)) (omega arith) (omega arith) in
+    let o = compare_operates e p q n (a + n) (b + n) w (sa.at n (omega arith)) (sb.at n (omega arith)) (sa.kind n (omega arith))
+    (sb.kind n (omega arith)) (omega arith) (omega arith) in
     let ex = h.keeps.same (a + n) (omega arith) (omega arith) in
     let ey = h.keeps.same (b + n) (omega arith) (omega arith) in
     o.sign
-    ∙ rw (ex, ey) (signed_byte w.flags (v.at (b + n)) (v.at (a + n)) c (zero_at n w.flags) (bytes (b + n) (omega arith)) (bytes (a + n) (omega arith)) h.borrow)
+    ∙ rw (ex, ey) (signed_byte w.flags (v.at (b + n)) (v.at (a + n)) c (zero_at n w.flags) (bytes (b + n) (omega arith))
+    (bytes (a + n) (omega arith)) h.borrow)
     ∙ ap (λ t. from_bool (nat_lt (up (v.at (b + n))) (up (v.at (a + n)) + t))) k
     ∙ less_with_borrow (up (v.at (b + n))) (up (v.at (a + n))) (value v.at b n) (value v.at a n) (256 ^ n) lb la
 
 moved_is : (v : View) (a n : ℕ) → 2 ≤ a → HoldsNumbers v
     → moved_up (suc n) (value v.at a (suc n)) ≡ up (v.at (a + n)) * 256 ^ n + value v.at a n
 moved_is v a n l bytes =
-    rw (pow-suc 256 n) (moved (value v.at a n) (v.at (a + n)) (256 ^ n) (value_below v.at a n (λ j m. bytes (a + j) (omega arith))) (bytes (a + n) (omega arith)))
+    rw (pow-suc 256 n) (moved (value v.at a n) (v.at (a + n)) (256 ^ n) (value_below v.at a n (λ j m. bytes (a + j) (omega arith)))
+    (bytes (a + n) (omega arith)))
 
 pub comparisons_tell_signed : ComparisonsTellSigned
 comparisons_tell_signed e p q n a b v sa sb bytes =

@@ -23,7 +23,8 @@ parts : SetsOneBit → (w b x : ℕ) → b < 8 → x ≤ 1 → flags_of (with_bi
 }
 parts one w b x m k =
     let is = λ (j : ℕ) (l : j < 8). one w b x j m k l in
-    flags_are (with_bit w b x) _ _ _ _ _ _ (is 0 (omega arith)) (is 1 (omega arith)) (is 2 (omega arith)) (is 3 (omega arith)) (is 4 (omega arith)) (is 6 (omega arith))
+    flags_are (with_bit w b x) _ _ _ _ _ _ (is 0 (omega arith)) (is 1 (omega arith)) (is 2 (omega arith)) (is 3 (omega arith))
+    (is 4 (omega arith)) (is 6 (omega arith))
 
 pub flags-with_bit : SetsOneBit → (w b x : ℕ) → b < 8 → x ≤ 1 → flags_of (with_bit w b x) ≡ flag_put (flags_of w) b x
 flags-with_bit one w zero x m k = parts one w 0 x m k

@@ -1,5 +1,6 @@
 -- Every byte that is pushed or popped is one of the stack's.
-use Rattle.std.proofs.Common.{◌≡◌, ℕ, zero, suc, ◌+◌, ◌-◌, ◌<◌, Bool, true, false, ◌&&◌, List, [], ◌∷◌, refl, sym, ap, ◌∙◌, subst, arith, Option, Some, None}
+use Rattle.std.proofs.Common.{◌≡◌, ℕ, zero, suc, ◌+◌, ◌-◌, ◌<◌, Bool, true, false, ◌&&◌, List, [], ◌∷◌, refl, sym, ap, ◌∙◌, subst, arith}
+use Rattle.std.proofs.Common.{Option, Some, None}
 use Rattle.std.specs.Prelude.{if◌then◌else◌, IsTrue, All}
 use Rattle.std.proofs.lemmas.Bool.{and_parts, false≢true}
 use Rattle.ec_isa.specs.declared.instructions.Instr.{Instr}
@@ -101,7 +102,7 @@ is_unsafe (Running pc v) h = h
 is_unsafe (Ended v) h = h
 is_unsafe Stuck h = refl
 
-safe_before : (e : Env) (j : ℕ) (st : Status) → is_safe (run e j st) ≡ true → is_safe st ≡ true
+pub safe_before : (e : Env) (j : ℕ) (st : Status) → is_safe (run e j st) ≡ true → is_safe st ≡ true
 safe_before e j st h = by_case (is_safe st) refl
   where
     by_case : (b : Bool) → is_safe st ≡ b → b ≡ true
@@ -113,14 +114,16 @@ state_of (MRunning trace s) t = s
 state_of (EndedWith trace result) t = t
 state_of (FaultedAt trace kind pc) t = t
 
-module _ (e : Env) (size : ℕ) (fit : Fits e size) (k j : ℕ) (s t : State) (v : View) (trace : List Access) (ran : machine k v.inputs s ≡ MRunning trace t) where
+module _ (e : Env) (size : ℕ) (fit : Fits e size) (k j : ℕ) (s t : State) (v : View) (trace : List Access)
+    (ran : machine k v.inputs s ≡ MRunning trace t) where
   by_status : (st : Status) → RunsAs e size k v s st → is_safe (run e j (step e st)) ≡ true
       → AreStacked e (stack_bytes t)
   by_status (Running pc w) r safe =
       let one = safe_before e j (step e (Running pc w)) safe in
       let g = r (safe_before e 1 (Running pc w) one) in
       let same : g.state ≡ t = ap (λ x. state_of x s) (sym g.ran ∙ ran) in
-      subst (λ u. AreStacked e (stack_bytes u)) same (step_stacked e size fit g.state w g.shows (subst (λ n. is_safe (step e (Running n w)) ≡ true) (sym g.at) one))
+      subst (λ u. AreStacked e (stack_bytes u)) same
+      (step_stacked e size fit g.state w g.shows (subst (λ n. is_safe (step e (Running n w)) ≡ true) (sym g.at) one))
   by_status (Ended w) r safe = let g = r (safe_before e j (Ended w) safe) in let q = sym g.ran ∙ ran in cc
   by_status Stuck r safe = absurd (false≢true (safe_before e j Stuck safe))
 
@@ -130,4 +133,5 @@ pub stack_stays_inside : StepLaws → (e : Env) (size m k : ℕ) (s t : State) (
 stack_stays_inside laws e size m k s t v trace fit h safe l ran =
     let j = m - k - 1 in
     let q : m ≡ k + suc j = omega arith in
-    by_status e size fit k j s t v trace ran (run e k (Running s.pc v)) (runs_as laws e size fit k s v h) (subst (λ st. is_safe st ≡ true) (ap (λ n. run e n (Running s.pc v)) q ∙ run-add e k (suc j) (Running s.pc v)) safe)
+    by_status e size fit k j s t v trace ran (run e k (Running s.pc v)) (runs_as laws e size fit k s v h)
+    (subst (λ st. is_safe st ≡ true) (ap (λ n. run e n (Running s.pc v)) q ∙ run-add e k (suc j) (Running s.pc v)) safe)

@@ -10,7 +10,8 @@ use Rattle.ec_asm.specs.Items.{block}
 use Rattle.ec_asm.proofs.Hoare.{chain_holds}
 use Rattle.ec_asm.specs.declared.pieces.Location.{Location}
 use Rattle.ec_asm.specs.declared.pieces.Operator.TheVariants.{Sum}
-use Rattle.ec_asm.specs.Pieces.{StandsFrom, IsBinary, binary_byte, value, instruction, operate_byte, operate_code, carry_at, Outside, Keeps, SumsTo}
+use Rattle.ec_asm.specs.Pieces.{StandsFrom, IsBinary, binary_byte, value, instruction, operate_byte, operate_code, carry_at, Outside, Keeps}
+use Rattle.ec_asm.specs.Pieces.{SumsTo}
 use Rattle.ec_asm.proofs.Bytes.{binary_operates}
 
 pub value-same : (f g : ℕ → ℕ) (a n : ℕ) → ((j : ℕ) → j < n → f (a + j) ≡ g (a + j)) → value f a n ≡ value g a n
@@ -60,7 +61,8 @@ step e p q n a b v0 sa sb far i l v h =
     let ua = sa.clear in
     let ub = sb.clear in
     let w = block e (binary_byte (instruction Sum i) p q i) v in
-    let o = binary_operates (instruction Sum i) (λ x y f. byte_sum x y (carry_at i f)) (λ x y f. sum_flags f x y (carry_at i f)) (sum_binary i) e p q i (a + i) (b + i) v (sa.at i l) (sb.at i l) (sa.kind i l) (sb.kind i l) (omega arith) (omega arith) in
+    let o = binary_operates (instruction Sum i) (λ x y f. byte_sum x y (carry_at i f)) (λ x y f. sum_flags f x y (carry_at i f))
+    (sum_binary i) e p q i (a + i) (b + i) v (sa.at i l) (sb.at i l) (sa.kind i l) (sb.kind i l) (omega arith) (omega arith) in
     let x = v.at (a + i) in
     let y = v.at (b + i) in
     let c = carry_at i v.flags in
@@ -82,7 +84,12 @@ step e p q n a b v0 sa sb far i l v h =
 pub sum_holds : (e : Env) (p q : Location) (n a b : ℕ) (v0 : View) → StandsFrom e p n a Own → StandsFrom e q n b Own
     → (a < b → a + n ≤ b) → ((k : ℕ) → 2 ≤ k → v0.at k < 256) → SumsTo v0 a b n (block e (operate_code Sum p q n) v0)
 sum_holds e p q n a b v0 sa sb far bytes =
-    chain_holds e (operate_byte Sum p q) (SumsTo v0 a b) n (step e p q n a b v0 sa sb far) v0 (record { sum = refl; below = omega arith; bytes = bytes; keeps = record { same = λ k z o m. refl; inputs = refl; safe = refl; seen = refl } })
+    chain_holds e (operate_byte Sum p q) (SumsTo v0 a b) n (step e p q n a b v0 sa sb far) v0 (record {
+      sum = refl;
+      below = omega arith;
+      bytes = bytes;
+      keeps = record { same = λ k z o m. refl; inputs = refl; safe = refl; seen = refl };
+    })
 
 -- the low n bytes of the sum, whatever stands above them
 pub sum_is : (v0 : View) (a b n : ℕ) (v : View) → SumsTo v0 a b n v

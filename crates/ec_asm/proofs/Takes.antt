@@ -1,5 +1,6 @@
 -- Runs with a least and a greatest count of their steps, jumps, branches and loops.
-use Rattle.std.proofs.Common.{◌≡◌, ℕ, zero, suc, ◌+◌, ◌*◌, ◌%◌, ◌<◌, ◌≤◌, ⊎_elim, Bool, true, false, ◌==◌, refl, ap, ◌∙◌, subst, arith, Option, Some, None, ℤ, not}
+use Rattle.std.proofs.Common.{◌≡◌, ℕ, zero, suc, ◌+◌, ◌*◌, ◌%◌, ◌<◌, ◌≤◌, ⊎_elim, Bool, true, false, ◌==◌, refl, ap, ◌∙◌, subst, arith}
+use Rattle.std.proofs.Common.{Option, Some, None, ℤ, not}
 use Rattle.std.specs.Prelude.{if◌then◌else◌}
 use Rattle.std.specs.Int.{bit_at}
 use Rattle.ec_isa.specs.declared.instructions.Instr.{Instr}
@@ -24,7 +25,12 @@ takes_then e l m k n pc pc1 pc2 v v1 v2 t u =
     let a2 = u.at_least in
     let b1 = t.at_most in
     let b2 = u.at_most in
-    record { steps = t.steps + u.steps; at_least = omega arith; at_most = omega arith; goes = goes_on_to e _ _ pc pc1 pc2 v _ _ t.goes u.goes }
+    record {
+      steps = t.steps + u.steps;
+      at_least = omega arith;
+      at_most = omega arith;
+      goes = goes_on_to e _ _ pc pc1 pc2 v _ _ t.goes u.goes;
+    }
 
 pub takes_goes : (e : Env) (k pc pc1 : ℕ) (v v1 : View) → Goes e k pc v pc1 v1 → Takes e k k pc v pc1 v1
 takes_goes e k pc pc1 v v1 g = record { steps = k; at_least = omega arith; at_most = omega arith; goes = g }
@@ -42,7 +48,9 @@ pub jump_goes : (e : Env) (l pc end : ℕ) (v : View) → JumpsAt e l pc end →
 jump_goes e l pc end v j = ⊎_elim (λ a. far a.0 a.1) (λ a. near a.0 a.1 a.2) j
   where
     far : At e (Jmp (e.word_of l)) pc end → e.word_of l < 65536 → Goes e 1 pc v (e.word_of l) v
-    far a r = let q : e.word_of l % 65536 ≡ e.word_of l = omega arith in record { by = ap (λ o. act e o pc v) a.is ∙ ap (λ n. Running n v) q }
+    far a r =
+        let q : e.word_of l % 65536 ≡ e.word_of l = omega arith in
+        record { by = ap (λ o. act e o pc v) a.is ∙ ap (λ n. Running n v) q }
 
     near : (k : ℤ) → At e (Rjmp k) pc end → relative pc k % 65536 ≡ e.word_of l → Goes e 1 pc v (e.word_of l) v
     near k a q = record { by = ap (λ o. act e o pc v) a.is ∙ ap (λ n. Running n v) q }
@@ -104,9 +112,12 @@ branch_taken e set flag l pc end v f q b =
     let t = taken_by set flag v q in
     ⊎_elim
     (λ a.
-    let one = goes_at e 1 pc _ a.0 v (end_below_unless e set flag a.1 pc a.0 a.2) (branch_unless_goes e set flag a.1 pc a.0 v false f t.1 a.2) in
-    takes_within e 2 1 2 2 pc _ v v (omega arith) (omega arith) (takes_goes e 2 pc _ v v (goes_on_to e 1 1 pc a.0 _ v v v one (jump_goes e l a.0 end v a.3))))
-    (λ a. takes_within e 1 1 1 2 pc _ v v (omega arith) (omega arith) (takes_goes e 1 pc _ v v (goes_at e 1 pc _ _ v a.2 (branch_if_goes e set flag a.0 pc end v true f t.0 a.1))))
+    let one =
+    goes_at e 1 pc _ a.0 v (end_below_unless e set flag a.1 pc a.0 a.2) (branch_unless_goes e set flag a.1 pc a.0 v false f t.1 a.2) in
+    takes_within e 2 1 2 2 pc _ v v (omega arith) (omega arith)
+    (takes_goes e 2 pc _ v v (goes_on_to e 1 1 pc a.0 _ v v v one (jump_goes e l a.0 end v a.3))))
+    (λ a. takes_within e 1 1 1 2 pc _ v v (omega arith) (omega arith)
+    (takes_goes e 1 pc _ v v (goes_at e 1 pc _ _ v a.2 (branch_if_goes e set flag a.0 pc end v true f t.0 a.1))))
     b
 
 pub branch_passed : (e : Env) (set : Bool) (flag l pc end : ℕ) (v : View) → is_flag flag ≡ true
@@ -123,9 +134,11 @@ branch_passed e set flag l pc end v f q b = ⊎_elim (λ a. far set a.0 a.1 a.2 
     near : (set : Bool) (k : ℤ) → At e (branch_if set flag k) pc end → flag_at v.flags flag ≡ if_bit (not set)
         → Goes e 1 pc v end v
     near true k a q =
-        goes_at e 1 pc _ _ v (end_below e true flag k pc end a) (branch_if_goes e true flag k pc end v false f (taken_by false flag v q).1 a)
+        goes_at e 1 pc _ _ v (end_below e true flag k pc end a)
+        (branch_if_goes e true flag k pc end v false f (taken_by false flag v q).1 a)
     near false k a q =
-        goes_at e 1 pc _ _ v (end_below e false flag k pc end a) (branch_if_goes e false flag k pc end v false f (taken_by true flag v q).1 a)
+        goes_at e 1 pc _ _ v (end_below e false flag k pc end a)
+        (branch_if_goes e false flag k pc end v false f (taken_by true flag v q).1 a)
 
 -- a loop that counts down
 pub loop_takes : (I : Type 0) → LoopsTake I
@@ -134,8 +147,13 @@ loop_takes I e least most pc past turns view turn zero i q =
     (t.0, t.1, takes_within e least ((0 + 1) * least) most ((0 + 1) * most) pc past (view i) (view t.0) (omega arith) (omega arith) t.2)
 loop_takes I e least most pc past turns view turn (suc k) i q =
     let t = turn (suc k) i q in
-    let r = loop_takes I e least most pc past turns view turn k t.0 t.1 in
-    (r.0, r.1, takes_within e (least + (k + 1) * least) ((suc k + 1) * least) (most + (k + 1) * most) ((suc k + 1) * most) pc past (view i) (view r.0) (omega arith) (omega arith) (takes_then e least most ((k + 1) * least) ((k + 1) * most) pc pc past (view i) (view t.0) (view r.0) t.2 r.2))
+    let r = loop_takes I e least most pc past turns view turn k t.0 t.1 in (
+      r.0,
+      r.1,
+      takes_within e (least + (k + 1) * least) ((suc k + 1) * least) (most + (k + 1) * most)
+          ((suc k + 1) * most) pc past (view i) (view r.0) (omega arith) (omega arith)
+          (takes_then e least most ((k + 1) * least) ((k + 1) * most) pc pc past (view i) (view t.0) (view r.0) t.2 r.2),
+    )
 
 -- ---- skips
 
@@ -160,8 +178,10 @@ skip_goes : (e : Env) (i j : Instr) (pc mid end : ℕ) (v : View) (taken : Bool)
     → Goes e 1 pc v (if taken then end else mid) v
 skip_goes e i j pc mid end v taken w a at next =
     let m : mid ≡ pc + 1 = at.ends ∙ ap (λ n. pc + n) w in
-    let d : decoded (word_in e.flash (pc + 1)) (word_in e.flash (pc + 1 + 1)) ≡ Some j = fetched e (pc + 1) j (subst (λ n. fetch e n ≡ Some j) m next.is) in
-    let x : (if has_two_words (decoded (word_in e.flash (pc + 1)) (word_in e.flash (pc + 1 + 1))) then 2 else 1) ≡ words j = ap (λ o. if has_two_words o then 2 else 1) d ∙ words_of j in
+    let d : decoded (word_in e.flash (pc + 1)) (word_in e.flash (pc + 1 + 1)) ≡ Some j =
+    fetched e (pc + 1) j (subst (λ n. fetch e n ≡ Some j) m next.is) in
+    let x : (if has_two_words (decoded (word_in e.flash (pc + 1)) (word_in e.flash (pc + 1 + 1))) then 2 else 1) ≡ words j =
+    ap (λ o. if has_two_words o then 2 else 1) d ∙ words_of j in
     let t : skip_to e taken pc ≡ (if taken then end else mid) = ap (λ n. (pc + 1 + (if taken then n else 0)) % 65536) x ∙ arrives taken in
     record { by = ap (λ o. act e o pc v) at.is ∙ a ∙ ap (λ n. Running n v) t }
   where

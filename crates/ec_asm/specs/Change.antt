@@ -19,7 +19,7 @@ use Rattle.ec_avr.specs.Flags.{byte_sum, byte_difference, sum_overflow, differen
 use Rattle.ec_avr.specs.Flags.{shifted}
 use Rattle.ec_avr.specs.Machine.{Inputs}
 use Rattle.ec_asm.specs.View.{Flags, View, put, pair, put_pair}
-pub use Rattle.ec_asm_parts.specs.Bytes.{words}
+pub use Rattle.ec_asm.specs.Bytes.{words}
 
 -- what stands at a data address, for the code that is looked at: a place of its own, a byte of an object, a port, a
 -- byte of the stack, or what it must not touch

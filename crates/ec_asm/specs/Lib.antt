@@ -1,3 +1,4 @@
+pub mod Bytes
 pub mod View
 pub mod Change
 pub mod Run

@@ -19,7 +19,7 @@ use Rattle.ec_asm.specs.View.{Flags, View}
 use Rattle.ec_avr.specs.Flags.{byte_difference}
 use Rattle.ec_asm.specs.Change.{Env, Kind, Own, Object, change, goes_on, set_both, difference_flags}
 use Rattle.ec_asm.specs.Items.{chain}
-pub use Rattle.ec_asm_parts.specs.Bytes.{compares}
+pub use Rattle.ec_asm.specs.Bytes.{compares}
 
 -- ---- locations
 

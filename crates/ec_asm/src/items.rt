@@ -2,7 +2,7 @@
 ghost use Rattle.std.specs.Prelude.{◌≡◌, ◌<◌, ◌^◌, length};
 ghost use Rattle.ec_asm.specs.Items.{item_words, code_words};
 
-use ec_asm_parts::words;
+use crate::instructions::words;
 use ec_isa::Instr;
 use ec_space::Seq;
 

@@ -1,5 +1,4 @@
 //! What holds of the view, of items of code and of runs through them.
-
 ghost use Rattle.ec_asm.specs.Laws as law;
 ghost use Rattle.ec_asm.specs.PieceLaws as piece;
 

@@ -5,12 +5,13 @@
 //! the contracts of functions that do nothing, in `laws`, and the functions that make code have theirs.
 #![tactic(auto)]
 
+mod instructions;
 mod items;
 pub mod laws;
 mod pieces;
 mod valid;
 
-pub use ec_asm_parts::words;
+pub use instructions::words;
 pub use items::{AsmItem, AsmProgram, Slot, code_words, item_words};
 pub use pieces::{Location, Operator, compare, copy, halve, operate};
 pub use valid::{is_valid_asm, is_valid_item, size_of, stands_once, used_label};

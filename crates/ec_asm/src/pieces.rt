@@ -4,8 +4,8 @@ ghost use Rattle.ec_runs.specs.Behaviours.{BeginWith};
 ghost use Rattle.ec_asm.specs.Pieces.{HasByte, HasBytes, instruction, copy_byte, copy_code, operate_byte, operate_code};
 ghost use Rattle.ec_asm.specs.Pieces.{compare_byte, compare_code, halves, halve_byte, halve_code};
 
+use crate::instructions::{compares, from_top, sums};
 use crate::items::AsmItem;
-use ec_asm_parts::{compares, from_top, sums};
 use ec_isa::Instr;
 use ec_space::{NoMemory, Seq};
 

@@ -4,8 +4,8 @@ ghost use Rattle.std.specs.List.{list_all};
 ghost use Rattle.ec_asm.specs.Valid.{sizes_of, size_of, is_offset, is_valid_item, used_label, is_label, stands_once};
 ghost use Rattle.ec_asm.specs.Valid.{is_placed, ValidAsm};
 
+use crate::instructions::is_once;
 use crate::items::{AsmItem, AsmProgram};
-use ec_asm_parts::is_once;
 use ec_isa::is_in_table;
 
 /// The bytes of what the number of an object names, or None where it names nothing. `objects` has the bytes of each

@@ -116,7 +116,8 @@ bit_of_7 byte value (suc (suc (suc (suc (suc (suc (suc zero))))))) v l = omega a
 bit_of_7 byte value (suc (suc (suc (suc (suc (suc (suc (suc k)))))))) v l = absurd (omega arith)
 
 -- the bit that was set has the value, and every other bit stays
-pub bit_at-with_bit : (byte n value k : ℕ) → n < 8 → value ≤ 1 → k < 8 → bit_at (with_bit byte n value) k ≡ (if k == n then value else bit_at byte k)
+pub bit_at-with_bit : (byte n value k : ℕ) → n < 8 → value ≤ 1 → k < 8
+    → bit_at (with_bit byte n value) k ≡ (if k == n then value else bit_at byte k)
 bit_at-with_bit byte zero value k l v m = bit_of_0 byte value k v m
 bit_at-with_bit byte (suc zero) value k l v m = bit_of_1 byte value k v m
 bit_at-with_bit byte (suc (suc zero)) value k l v m = bit_of_2 byte value k v m

@@ -1,5 +1,6 @@
 -- Bytes stay bytes.
-use Rattle.std.proofs.Common.{◌≡◌, ℕ, zero, suc, ◌+◌, ◌-◌, ◌*◌, ◌/◌, ◌%◌, ◌<◌, ◌≤◌, Bool, true, false, ◌&&◌, ◌==◌, List, Option, Some, None, length, drop, refl, sym, subst, nat_lt, ⊎_elim, arith}
+use Rattle.std.proofs.Common.{◌≡◌, ℕ, zero, suc, ◌+◌, ◌-◌, ◌*◌, ◌/◌, ◌%◌, ◌<◌, ◌≤◌, Bool, true, false, ◌&&◌, ◌==◌, List, Option, Some, None}
+use Rattle.std.proofs.Common.{length, drop, refl, sym, subst, nat_lt, ⊎_elim, arith}
 use Rattle.std.specs.Prelude.{IsTrue, if◌then◌else◌, nat_le, slice_index, slice_set, bit_and, bit_or, bit_xor}
 use Rattle.std.specs.Int.{from_bool}
 use Rattle.std.proofs.lemmas.Bool.{and_parts, ltb-true, cases_eq, cases_lt}
@@ -8,18 +9,29 @@ use Rattle.std.proofs.lemmas.List.{get_or-set_other, get_or-drop, set_past}
 use Rattle.std.proofs.lemmas.Nat.{or_of_8, xor_of_8, and_le_l, mul-le}
 use Rattle.ec_space.specs.Bytes.{AreBytes}
 use Rattle.ec_isa.specs.declared.instructions.Instr.{Instr}
-use Rattle.ec_isa.specs.declared.instructions.Instr.TheVariants.{Nop, Movw, Cpc, Sbc, Add, Cpse, Cp, Sub, Adc, And, Eor, Or, Mov, Mul, Cpi, Sbci, Subi, Ori, Andi, Ldi, LddZ, LddY, StdZ, StdY, Lds, Sts, LdZPlus, LdMinusZ, LdYPlus, LdMinusY, LdX, LdXPlus, LdMinusX, StZPlus, StMinusZ, StYPlus, StMinusY, StX, StXPlus, StMinusX, LpmZ, LpmZPlus, Pop, Push, Com, Neg, Swap, Inc, Asr, Lsr, Ror, Dec, Bset, Bclr, Ijmp, Icall, Ret, Break, Jmp, Call, Adiw, Sbiw, In as InInstr, Out as OutInstr, Rjmp, Rcall, Brbs, Brbc, Bld, Bst, Sbrc, Sbrs}
+use Rattle.ec_isa.specs.declared.instructions.Instr.TheVariants.{Nop, Movw, Cpc, Sbc, Add, Cpse, Cp, Sub, Adc, And, Eor, Or, Mov, Mul, Cpi}
+use Rattle.ec_isa.specs.declared.instructions.Instr.TheVariants.{Sbci, Subi, Ori, Andi, Ldi, LddZ, LddY, StdZ, StdY, Lds, Sts, LdZPlus}
+use Rattle.ec_isa.specs.declared.instructions.Instr.TheVariants.{LdMinusZ, LdYPlus, LdMinusY, LdX, LdXPlus, LdMinusX, StZPlus, StMinusZ}
+use Rattle.ec_isa.specs.declared.instructions.Instr.TheVariants.{StYPlus, StMinusY, StX, StXPlus, StMinusX, LpmZ, LpmZPlus, Pop, Push, Com}
+use Rattle.ec_isa.specs.declared.instructions.Instr.TheVariants.{Neg, Swap, Inc, Asr, Lsr, Ror, Dec, Bset, Bclr, Ijmp, Icall, Ret, Break}
+use Rattle.ec_isa.specs.declared.instructions.Instr.TheVariants.{Jmp, Call, Adiw, Sbiw, In as InInstr, Out as OutInstr, Rjmp, Rcall, Brbs}
+use Rattle.ec_isa.specs.declared.instructions.Instr.TheVariants.{Brbc, Bld, Bst, Sbrc, Sbrs}
 use Rattle.ec_isa.specs.Formats.{is_register}
 use Rattle.ec_isa.specs.Table.{in_table}
 use Rattle.ec_isa.proofs.InstructionAt.{instruction_is}
 use Rattle.ec_avr.specs.declared.machine.FaultKind.{FaultKind}
 use Rattle.ec_avr.specs.declared.machine.FaultKind.TheVariants.{DataOut, StackOut, PcOut}
-use Rattle.ec_avr.specs.State.{State, word_at, byte_at, with_byte, register, with_register, pair, with_pair, pointer_x, pointer_y, pointer_z, stack_pointer, sreg, with_sreg, flag, is_port, is_sram, raised, lowered, with_pc, passed}
-use Rattle.ec_avr.specs.Flags.{with_flags, with_bit, byte_sum, sum_flags, byte_difference, difference_flags, logic_flags, complement_flags, count_flags, shifted, shift_flags, pair_sum, pair_sum_flags, pair_difference, pair_difference_flags, product_flags}
-use Rattle.ec_avr.specs.Effects.{After, faulted, loaded, stored, load, load_and_raise, lower_and_load, store, store_and_raise, lower_and_store, call, relative, effect, instruction_at}
+use Rattle.ec_avr.specs.State.{State, word_at, byte_at, with_byte, register, with_register, pair, with_pair, pointer_x, pointer_y}
+use Rattle.ec_avr.specs.State.{pointer_z, stack_pointer, sreg, with_sreg, flag, is_port, is_sram, raised, lowered, with_pc, passed}
+use Rattle.ec_avr.specs.Flags.{with_flags, with_bit, byte_sum, sum_flags, byte_difference, difference_flags, logic_flags, complement_flags}
+use Rattle.ec_avr.specs.Flags.{count_flags, shifted, shift_flags, pair_sum, pair_sum_flags, pair_difference, pair_difference_flags}
+use Rattle.ec_avr.specs.Flags.{product_flags}
+use Rattle.ec_avr.specs.Effects.{After, faulted, loaded, stored, load, load_and_raise, lower_and_load, store, store_and_raise}
+use Rattle.ec_avr.specs.Effects.{lower_and_store, call, relative, effect, instruction_at}
 use Rattle.ec_avr.specs.declared.machine.Stepped.{Stepped}
 use Rattle.ec_avr.specs.declared.machine.Stepped.TheVariants.{Ran, Ended, Fault}
-use Rattle.ec_avr.specs.Machine.{step, is_whole, Inputs, Run, Running, EndedWith, FaultedAt, machine, needs_port, answer_of, inputs_after, continued, preceded}
+use Rattle.ec_avr.specs.Machine.{step, is_whole, Inputs, Run, Running, EndedWith, FaultedAt, machine, needs_port, answer_of, inputs_after}
+use Rattle.ec_avr.specs.Machine.{continued, preceded}
 use Rattle.ec_avr.specs.Inputs.{reads_of}
 use Rattle.ec_avr.specs.Laws.{StepHoldsBytes, RunHoldsBytes, ResetHoldsBytes, LeftAreBytes}
 use Rattle.ec_avr.specs.declared.machine.Access.{Access}
@@ -32,7 +44,8 @@ use Rattle.ec_avr.proofs.Bits.{bit_below, bool_below, product_of_bits, with_bit_
 are_bytes-set : (l : List ℕ) (a x : ℕ) → AreBytes l → x < 256 → AreBytes (slice_set l a x)
 are_bytes-set l a x h small k =
     ⊎_elim
-    (λ inside. ⊎_elim (λ e. rw (get_or-set_at l a k x 0 e inside) small) (λ o. let q = get_or-set_other l a k x 0 o in rw q (h k)) (cases_eq k a))
+    (λ inside.
+    ⊎_elim (λ e. rw (get_or-set_at l a k x 0 e inside) small) (λ o. let q = get_or-set_other l a k x 0 o in rw q (h k)) (cases_eq k a))
     (λ past. rw (set_past l a x past) (h k))
     (cases_lt a (length l))
 
@@ -80,29 +93,36 @@ difference_flags_below old x y borrow zero_before b z =
     with_flags_below old _ _ _ _ _ b (bool_below _) (product_of_bits _ _ (bool_below _) z) (omega arith) (bool_below _) (bool_below _)
 
 logic_flags_below : (old r : ℕ) → old < 256 → r < 256 → logic_flags old r < 256
-logic_flags_below old r b p = with_flags_below old _ _ _ _ _ b (bit_below old 0) (bool_below _) (omega arith) (omega arith) (bit_below old 5)
+logic_flags_below old r b p =
+    with_flags_below old _ _ _ _ _ b (bit_below old 0) (bool_below _) (omega arith) (omega arith) (bit_below old 5)
 
 complement_flags_below : (old r : ℕ) → old < 256 → r < 256 → complement_flags old r < 256
-complement_flags_below old r b p = with_flags_below old _ _ _ _ _ b (omega arith) (bool_below _) (omega arith) (omega arith) (bit_below old 5)
+complement_flags_below old r b p =
+    with_flags_below old _ _ _ _ _ b (omega arith) (bool_below _) (omega arith) (omega arith) (bit_below old 5)
 
 count_flags_below : (old r past : ℕ) → old < 256 → r < 256 → count_flags old r past < 256
-count_flags_below old r past b p = with_flags_below old _ _ _ _ _ b (bit_below old 0) (bool_below _) (omega arith) (bool_below _) (bit_below old 5)
+count_flags_below old r past b p =
+    with_flags_below old _ _ _ _ _ b (bit_below old 0) (bool_below _) (omega arith) (bool_below _) (bit_below old 5)
 
 shift_flags_below : (old x top : ℕ) → old < 256 → x < 256 → top ≤ 1 → shift_flags old x top < 256
-shift_flags_below old x top b p t = with_flags_below old _ _ _ _ _ b (omega arith) (bool_below _) (omega arith) (omega arith) (bit_below old 5)
+shift_flags_below old x top b p t =
+    with_flags_below old _ _ _ _ _ b (omega arith) (bool_below _) (omega arith) (omega arith) (bit_below old 5)
 
 pair_sum_flags_below : (old x k : ℕ) → old < 256 → x < 65536 → k < 65536 → pair_sum_flags old x k < 256
-pair_sum_flags_below old x k b p q = with_flags_below old _ _ _ _ _ b (omega arith) (bool_below _) (omega arith) (bool_below _) (bit_below old 5)
+pair_sum_flags_below old x k b p q =
+    with_flags_below old _ _ _ _ _ b (omega arith) (bool_below _) (omega arith) (bool_below _) (bit_below old 5)
 
 pair_difference_flags_below : (old x k : ℕ) → old < 256 → pair_difference_flags old x k < 256
-pair_difference_flags_below old x k b = with_flags_below old _ _ _ _ _ b (bool_below _) (bool_below _) (omega arith) (bool_below _) (bit_below old 5)
+pair_difference_flags_below old x k b =
+    with_flags_below old _ _ _ _ _ b (bool_below _) (bool_below _) (omega arith) (bool_below _) (bit_below old 5)
 
 product_below : (x y : ℕ) → x < 256 → y < 256 → x * y < 65536
 product_below x y p q = omega (arith, mul-le x y 255 255 (omega arith) (omega arith))
 
 product_flags_below : (old p : ℕ) → old < 256 → p < 65536 → product_flags old p < 256
 product_flags_below old p b q =
-    with_bit_below (with_bit old 0 (p / 32768)) 1 (from_bool (p == 0)) (with_bit_below old 0 (p / 32768) b (omega arith) (omega arith)) (omega arith)
+    with_bit_below (with_bit old 0 (p / 32768)) 1 (from_bool (p == 0))
+    (with_bit_below old 0 (p / 32768) b (omega arith) (omega arith)) (omega arith)
     (bool_below _)
 
 -- ---- the fields of the table
@@ -134,14 +154,17 @@ module _ (s : State) (h : HoldsBytes s) where
   one : (at r : ℕ) → r < 256 → HoldsBytes (passed (with_byte s at r) 1)
   one at r p = holds_passed _ 1 (holds_byte s at r h p)
 
-  sum : (d y carry : ℕ) → y < 256 → carry ≤ 1 → HoldsBytes (passed (with_sreg (with_register s d (byte_sum (register s d) y carry)) (sum_flags (sreg s) (register s d) y carry)) 1)
+  sum : (d y carry : ℕ) → y < 256 → carry ≤ 1
+      → HoldsBytes (passed (with_sreg (with_register s d (byte_sum (register s d) y carry)) (sum_flags (sreg s) (register s d) y carry)) 1)
   sum d y carry p q = result d _ _ (omega arith) (sum_flags_below (sreg s) (register s d) y carry (byte 0x5F) (byte d) p q)
 
   difference : (d x y borrow zero_before : ℕ) → zero_before ≤ 1
-      → HoldsBytes (passed (with_sreg (with_register s d (byte_difference x y borrow)) (difference_flags (sreg s) x y borrow zero_before)) 1)
+      → HoldsBytes
+      (passed (with_sreg (with_register s d (byte_difference x y borrow)) (difference_flags (sreg s) x y borrow zero_before)) 1)
   difference d x y borrow zero_before z = result d _ _ (omega arith) (difference_flags_below (sreg s) x y borrow zero_before (byte 0x5F) z)
 
-  comparison : (x y borrow zero_before : ℕ) → zero_before ≤ 1 → HoldsBytes (passed (with_sreg s (difference_flags (sreg s) x y borrow zero_before)) 1)
+  comparison : (x y borrow zero_before : ℕ) → zero_before ≤ 1
+      → HoldsBytes (passed (with_sreg s (difference_flags (sreg s) x y borrow zero_before)) 1)
   comparison x y borrow zero_before z = one 0x5F _ (difference_flags_below (sreg s) x y borrow zero_before (byte 0x5F) z)
 
   logic : (d r : ℕ) → r < 256 → HoldsBytes (passed (with_sreg (with_register s d r) (logic_flags (sreg s) r)) 1)
@@ -150,7 +173,8 @@ module _ (s : State) (h : HoldsBytes s) where
   count : (d r past : ℕ) → r < 256 → HoldsBytes (passed (with_sreg (with_register s d r) (count_flags (sreg s) r past)) 1)
   count d r past p = result d r _ p (count_flags_below (sreg s) r past (byte 0x5F) p)
 
-  shift_of : (d top : ℕ) → top ≤ 1 → HoldsBytes (passed (with_sreg (with_register s d (shifted (register s d) top)) (shift_flags (sreg s) (register s d) top)) 1)
+  shift_of : (d top : ℕ) → top ≤ 1
+      → HoldsBytes (passed (with_sreg (with_register s d (shifted (register s d) top)) (shift_flags (sreg s) (register s d) top)) 1)
   shift_of d top t = let x = byte d in result d _ _ (omega arith) (shift_flags_below (sreg s) (register s d) top (byte 0x5F) (byte d) t)
 
   loaded_below : (at answer : ℕ) → answer < 256 → loaded s at answer < 256
@@ -160,7 +184,8 @@ module _ (s : State) (h : HoldsBytes s) where
       split true = a
       split false = byte at
 
-  at_data : (at : ℕ) (after : After) → HoldsBytes after.state → HoldsBytes (if nat_lt at (length s.mem.data) then after else faulted DataOut s).state
+  at_data : (at : ℕ) (after : After) → HoldsBytes after.state
+      → HoldsBytes (if nat_lt at (length s.mem.data) then after else faulted DataOut s).state
   at_data at after a = of_test (nat_lt at (length s.mem.data)) after DataOut s h a
 
   loads : (d at answer words : ℕ) → answer < 256 → HoldsBytes (load d at answer words s).state
@@ -169,7 +194,8 @@ module _ (s : State) (h : HoldsBytes s) where
   loads_and_raises : (d pointer answer : ℕ) → answer < 256 → HoldsBytes (load_and_raise d pointer answer s).state
   loads_and_raises d pointer answer a =
       let at = pair s pointer in
-      at_data at _ (holds_passed _ 1 (holds_pair _ pointer (raised at) (holds_byte s d (loaded s at answer) h (loaded_below at answer a)) (omega arith)))
+      at_data at _
+      (holds_passed _ 1 (holds_pair _ pointer (raised at) (holds_byte s d (loaded s at answer) h (loaded_below at answer a)) (omega arith)))
 
   stores : (at r words : ℕ) → r < 256 → HoldsBytes (store at r words s).state
   stores at r words p = at_data at _ (holds_passed _ words (holds_stored s at r h p))
@@ -199,7 +225,8 @@ lowers_and_loads s h d pointer answer a =
 
 -- ---- the table
 
-effect_holds : (i : Instr) → IsTrue (in_table i) → (answer : ℕ) → answer < 256 → (s : State) → HoldsBytes s → HoldsBytes (effect (Some i) answer s).state
+effect_holds : (i : Instr) → IsTrue (in_table i) → (answer : ℕ) → answer < 256 → (s : State) → HoldsBytes s
+    → HoldsBytes (effect (Some i) answer s).state
 unfolding effect
 effect_holds Nop t answer a s h = holds_passed s 1 h
 effect_holds (Movw d r) t answer a s h = holds_passed _ 1 (holds_pair s d (pair s r) h (two_bytes s h r))
@@ -215,8 +242,12 @@ effect_holds (Neg d) t answer a s h = difference s h d 0 (register s d) 0 1 (ome
 effect_holds (Cp d r) t answer a s h = comparison s h (register s d) (register s r) 0 1 (omega arith)
 effect_holds (Cpc d r) t answer a s h = comparison s h (register s d) (register s r) (flag s 0) (flag s 1) (bit_below (sreg s) 1)
 effect_holds (Cpi d k) t answer a s h = comparison s h (register s d) k 0 1 (omega arith)
-effect_holds (And d r) t answer a s h = let x = byte s h d in logic s h d (bit_and (register s d) (register s r)) (omega (arith, and_le_l (register s d) (register s r)))
-effect_holds (Andi d k) t answer a s h = let x = byte s h d in logic s h d (bit_and (register s d) k) (omega (arith, and_le_l (register s d) k))
+effect_holds (And d r) t answer a s h =
+    let x = byte s h d in
+    logic s h d (bit_and (register s d) (register s r)) (omega (arith, and_le_l (register s d) (register s r)))
+effect_holds (Andi d k) t answer a s h =
+    let x = byte s h d in
+    logic s h d (bit_and (register s d) k) (omega (arith, and_le_l (register s d) k))
 effect_holds (Or d r) t answer a s h = logic s h d (bit_or (register s d) (register s r)) (or_of_8 _ _ (byte s h d) (byte s h r))
 effect_holds (Ori d k) t answer a s h = logic s h d (bit_or (register s d) k) (or_of_8 _ _ (byte s h d) (constant_below d k t))
 effect_holds (Eor d r) t answer a s h = logic s h d (bit_xor (register s d) (register s r)) (xor_of_8 _ _ (byte s h d) (byte s h r))
@@ -235,11 +266,14 @@ effect_holds (Sbiw d k) t answer a s h =
     pair_result s h d (pair_difference (pair s d) k) _ (omega arith) (pair_difference_flags_below (sreg s) (pair s d) k (byte s h 0x5F))
 effect_holds (Mul d r) t answer a s h =
     let small = product_below (register s d) (register s r) (byte s h d) (byte s h r) in
-    pair_result s h 0 (register s d * register s r) _ small (product_flags_below (sreg s) (register s d * register s r) (byte s h 0x5F) small)
+    pair_result s h 0 (register s d * register s r) _ small
+    (product_flags_below (sreg s) (register s d * register s r) (byte s h 0x5F) small)
 effect_holds (Bset n) t answer a s h = one s h 0x5F _ (with_bit_below (sreg s) n 1 (byte s h 0x5F) (ltb-true n 8 t) (omega arith))
 effect_holds (Bclr n) t answer a s h = one s h 0x5F _ (with_bit_below (sreg s) n 0 (byte s h 0x5F) (ltb-true n 8 t) (omega arith))
-effect_holds (Bst d b) t answer a s h = one s h 0x5F _ (with_bit_below (sreg s) 6 _ (byte s h 0x5F) (omega arith) (bit_below (register s d) b))
-effect_holds (Bld d b) t answer a s h = one s h d _ (with_bit_below (register s d) b _ (byte s h d) (bit_number d b t) (bit_below (sreg s) 6))
+effect_holds (Bst d b) t answer a s h =
+    one s h 0x5F _ (with_bit_below (sreg s) 6 _ (byte s h 0x5F) (omega arith) (bit_below (register s d) b))
+effect_holds (Bld d b) t answer a s h =
+    one s h d _ (with_bit_below (register s d) b _ (byte s h d) (bit_number d b t) (bit_below (sreg s) 6))
 effect_holds (LddZ d q) t answer a s h = loads s h d ((pair s pointer_z + q) % 65536) answer 1 a
 effect_holds (LddY d q) t answer a s h = loads s h d ((pair s pointer_y + q) % 65536) answer 1 a
 effect_holds (LdX d) t answer a s h = loads s h d (pair s pointer_x) answer 1 a
@@ -271,10 +305,12 @@ effect_holds (LpmZPlus d) t answer a s h =
     (holds_passed _ 1 (holds_pair _ pointer_z (raised at) (holds_byte s d (slice_index s.mem.flash at) h (h.flash_bytes at)) (omega arith)))
 effect_holds (Push r) t answer a s h =
     let at = stack_pointer s in
-    of_test (is_sram s at) _ StackOut s h (holds_passed _ 1 (holds_pair _ 0x5D (lowered at) (holds_byte s at (register s r) h (byte s h r)) (omega arith)))
+    of_test (is_sram s at) _ StackOut s h
+    (holds_passed _ 1 (holds_pair _ 0x5D (lowered at) (holds_byte s at (register s r) h (byte s h r)) (omega arith)))
 effect_holds (Pop d) t answer a s h =
     let at = raised (stack_pointer s) in
-    of_test (is_sram s at) _ StackOut s h (holds_passed _ 1 (holds_pair _ 0x5D at (holds_byte s d (byte_at s at) h (byte s h at)) (omega arith)))
+    of_test (is_sram s at) _ StackOut s h
+    (holds_passed _ 1 (holds_pair _ 0x5D at (holds_byte s d (byte_at s at) h (byte s h at)) (omega arith)))
 effect_holds (Call k) t answer a s h = calls s h k (s.pc + 2)
 effect_holds (Rcall k) t answer a s h = calls s h (relative s.pc k) (s.pc + 1)
 effect_holds Icall t answer a s h = calls s h (pair s pointer_z) (s.pc + 1)
@@ -338,7 +374,8 @@ stands_before a (Running trace t) h = h
 stands_before a (EndedWith trace result) h = tt
 stands_before a (FaultedAt trace kind pc) h = tt
 
-first_stands : (m : ℕ) (left : Inputs) (t : State) → StandsOnBytes (machine m left t) → (x : Stepped) → StandsOnBytes (continued (machine m left) x t)
+first_stands : (m : ℕ) (left : Inputs) (t : State) → StandsOnBytes (machine m left t) → (x : Stepped)
+    → StandsOnBytes (continued (machine m left) x t)
 first_stands m left t h (Ran a) = stands_before a (machine m left t) h
 first_stands m left t h Ended = tt
 first_stands m left t h (Fault kind pc) = tt
@@ -350,7 +387,8 @@ stands (suc m) inputs s a h =
     let port = needs_port s in
     let next = step (answer_of inputs port) s in
     first_stands m (inputs_after inputs port) next.state
-    (stands m (inputs_after inputs port) next.state (after_are_bytes inputs port a) (step_holds (answer_of inputs port) s (answer_below inputs port a) h)) next.stepped
+    (stands m (inputs_after inputs port) next.state (after_are_bytes inputs port a)
+    (step_holds (answer_of inputs port) s (answer_below inputs port a) h)) next.stepped
 
 pub run_holds : RunHoldsBytes
 run_holds m inputs s t trace a h is = subst StandsOnBytes is (stands m inputs s a h)

@@ -1,5 +1,6 @@
 -- What stands in the flash, decoded ahead.
-use Rattle.std.proofs.Common.{◌≡◌, ◌∙◌, ℕ, zero, suc, List, [], ◌∷◌, ◌++◌, length, Option, Some, None, Result, Ok, Err, IsTrue, IfSome, OnOk, OnErr, sym}
+use Rattle.std.proofs.Common.{◌≡◌, ◌∙◌, ℕ, zero, suc, List, [], ◌∷◌, ◌++◌, length, Option, Some, None, Result, Ok, Err, IsTrue, IfSome}
+use Rattle.std.proofs.Common.{OnOk, OnErr, sym}
 use Rattle.std.specs.List.{slice_get}
 use Rattle.ec_avr.specs.Decoded.{decoded_at, AreDecoded}
 use Rattle.ec_isa.specs.declared.instructions.Instr.{Instr}
@@ -20,7 +21,9 @@ appended f (z ∷ zs) y known next zero x e = known zero x e
 appended f (z ∷ zs) y known next (suc at) x e = appended (λ n. f (suc n)) zs y (λ n. known (suc n)) next at x e
 
 -- one word more is decoded, or none
-pub decoded_on : {E : Type 0} → (flash : List ℕ) (entries later : List (Option Instr)) (found : Option Instr) (result : Result (Unit {0}) E) → AreDecoded flash entries
-    → found ≡ decoded_at flash (length entries) → OnOk result (later ≡ entries ++ found ∷ []) → OnErr result (later ≡ entries) → AreDecoded flash later
+pub decoded_on : {E : Type 0} → (flash : List ℕ) (entries later : List (Option Instr)) (found : Option Instr) (result : Result (Unit {0}) E)
+    → AreDecoded flash entries
+    → found ≡ decoded_at flash (length entries) → OnOk result (later ≡ entries ++ found ∷ []) → OnErr result (later ≡ entries)
+    → AreDecoded flash later
 decoded_on flash entries later found (Ok u) known next ok err = rw ok (appended (decoded_at flash) entries found known next)
 decoded_on flash entries later found (Err e) known next ok err = rw err known

@@ -1,16 +1,23 @@
 -- What no step changes.
-use Rattle.std.proofs.Common.{◌≡◌, ◌≢◌, ℕ, ◌+◌, ◌/◌, ◌%◌, ◌<◌, Bool, true, false, not, ◌&&◌, ◌==◌, Some, refl, sym, ◌∙◌, subst, length, nat_lt, arith}
+use Rattle.std.proofs.Common.{◌≡◌, ◌≢◌, ℕ, ◌+◌, ◌/◌, ◌%◌, ◌<◌, Bool, true, false, not, ◌&&◌, ◌==◌, Some, refl, sym, ◌∙◌, subst, length}
+use Rattle.std.proofs.Common.{nat_lt, arith}
 use Rattle.std.specs.Prelude.{IsTrue, if◌then◌else◌, nat_le}
 use Rattle.std.proofs.lemmas.Bool.{and_parts, ltb-true, leb-true, lt-ltb, eqb-true}
 use Rattle.std.proofs.lemmas.List.{get_or-set_other}
 use Rattle.std.proofs.Math.ListN.{length-set}
 use Rattle.ec_isa.specs.declared.instructions.Instr.{Instr}
-use Rattle.ec_isa.specs.declared.instructions.Instr.TheVariants.{Movw, Cpc, Sbc, Add, Cp, Sub, Adc, And, Eor, Or, Mov, Mul, Cpi, Sbci, Subi, Ori, Andi, Ldi, LddZ, LddY, StdZ, StdY, Lds, Sts, LdZPlus, LdMinusZ, LdYPlus, LdMinusY, LdX, LdXPlus, LdMinusX, StZPlus, StMinusZ, StYPlus, StMinusY, StX, StXPlus, StMinusX, LpmZ, LpmZPlus, Pop, Push, Com, Neg, Swap, Inc, Asr, Lsr, Ror, Dec, Bset, Bclr, Icall, Ret, Call, Adiw, Sbiw, In as InInstr, Out as OutInstr, Rcall, Bld, Bst}
+use Rattle.ec_isa.specs.declared.instructions.Instr.TheVariants.{Movw, Cpc, Sbc, Add, Cp, Sub, Adc, And, Eor, Or, Mov, Mul, Cpi, Sbci, Subi}
+use Rattle.ec_isa.specs.declared.instructions.Instr.TheVariants.{Ori, Andi, Ldi, LddZ, LddY, StdZ, StdY, Lds, Sts, LdZPlus, LdMinusZ}
+use Rattle.ec_isa.specs.declared.instructions.Instr.TheVariants.{LdYPlus, LdMinusY, LdX, LdXPlus, LdMinusX, StZPlus, StMinusZ, StYPlus}
+use Rattle.ec_isa.specs.declared.instructions.Instr.TheVariants.{StMinusY, StX, StXPlus, StMinusX, LpmZ, LpmZPlus, Pop, Push, Com, Neg}
+use Rattle.ec_isa.specs.declared.instructions.Instr.TheVariants.{Swap, Inc, Asr, Lsr, Ror, Dec, Bset, Bclr, Icall, Ret, Call, Adiw, Sbiw}
+use Rattle.ec_isa.specs.declared.instructions.Instr.TheVariants.{In as InInstr, Out as OutInstr, Rcall, Bld, Bst}
 use Rattle.ec_isa.specs.Formats.{is_register}
 use Rattle.ec_isa.specs.Table.{in_table}
 use Rattle.ec_avr.specs.declared.machine.FaultKind.{FaultKind}
 use Rattle.ec_avr.specs.declared.machine.FaultKind.TheVariants.{DataOut, StackOut}
-use Rattle.ec_avr.specs.State.{State, byte_at, with_byte, register, with_register, with_pair, with_sreg, is_port, is_sram, pair, pointer_x, pointer_y, pointer_z, stack_pointer, raised, lowered, Keeps}
+use Rattle.ec_avr.specs.State.{State, byte_at, with_byte, register, with_register, with_pair, with_sreg, is_port, is_sram, pair, pointer_x}
+use Rattle.ec_avr.specs.State.{pointer_y, pointer_z, stack_pointer, raised, lowered, Keeps}
 use Rattle.ec_space.specs.Memory.{Memory}
 use Rattle.ec_avr.specs.Effects.{After, faulted, stored, store, store_and_raise, lower_and_store, call, relative, effect}
 
@@ -69,7 +76,8 @@ keeps_result : (s : State) (d byte flags : ℕ) → IsTrue (is_register d) → K
 keeps_result s d byte flags h =
     followed (keeps_byte s d byte (register_is_none d h)) (keeps_byte (with_byte s d byte) 0x5F flags refl)
 
-keeps_pair_result : (s : State) (d n flags : ℕ) → is_port d ≡ false → is_port (d + 1) ≡ false → Keeps s.mem (with_sreg (with_pair s d n) flags).mem
+keeps_pair_result : (s : State) (d n flags : ℕ) → is_port d ≡ false → is_port (d + 1) ≡ false
+    → Keeps s.mem (with_sreg (with_pair s d n) flags).mem
 keeps_pair_result s d n flags low high =
     followed (keeps_pair s d n low high) (keeps_byte (with_pair s d n) 0x5F flags refl)
 

@@ -1,13 +1,15 @@
+-- For all crates above.
 pub mod Bits
-pub mod Bytes
-pub mod Keeps
-pub mod Placed
 pub mod PortRead
-pub mod Reset
 pub mod Runs
-pub mod SameRun
-pub mod Stack
-pub mod Stays
-pub mod TwoWords
-pub mod Window
-pub mod Decoded
+-- For this crate alone.
+mod Bytes
+mod Keeps
+mod Placed
+mod Reset
+mod SameRun
+mod Stack
+mod Stays
+mod TwoWords
+mod Window
+mod Decoded

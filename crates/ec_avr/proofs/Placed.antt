@@ -1,5 +1,6 @@
 -- Instructions that stand in a flash, and where the program counter goes.
-use Rattle.std.proofs.Common.{◌≡◌, ℕ, suc, ◌+◌, ◌*◌, ◌/◌, ◌%◌, ◌<◌, ◌≤◌, Bool, true, false, not, ◌&&◌, ◌||◌, Option, Some, None, List, length, refl, ap, ◌∙◌, nat_lt, arith}
+use Rattle.std.proofs.Common.{◌≡◌, ℕ, suc, ◌+◌, ◌*◌, ◌/◌, ◌%◌, ◌<◌, ◌≤◌, Bool, true, false, not, ◌&&◌, ◌||◌, Option, Some, None, List}
+use Rattle.std.proofs.Common.{length, refl, ap, ◌∙◌, nat_lt, arith}
 use Rattle.std.specs.Prelude.{IsTrue, if◌then◌else◌, slice_index, option_and_then}
 use Rattle.std.proofs.lemmas.Bool.{lt-ltb}
 use Rattle.ec_isa.specs.declared.instructions.Instr.{Instr}
@@ -11,7 +12,8 @@ use Rattle.ec_avr.specs.State.{word_at, Keeps}
 use Rattle.ec_avr.specs.Effects.{has_two_words, faulted}
 use Rattle.ec_avr.specs.Machine.{step, is_whole, effect, instruction_at, port_at, load_address}
 use Rattle.ec_avr.specs.Placed.{code_bytes, second_bytes}
-use Rattle.ec_avr.specs.Laws.{IsWhatStands, StandsWhole, StepsByInstruction, NeedsByInstruction, StepKeeps, JumpsInside, RelativeForward, RelativeBack}
+use Rattle.ec_avr.specs.Laws.{IsWhatStands, StandsWhole, StepsByInstruction, NeedsByInstruction, StepKeeps, JumpsInside, RelativeForward}
+use Rattle.ec_avr.specs.Laws.{RelativeBack}
 use Rattle.ec_avr.proofs.Keeps.{keeps, unchanged}
 
 -- ---- what stands at a word address
@@ -26,7 +28,8 @@ second_stands None flash pc h = tt
 second_stands (Some w) flash pc h =
     let low : 2 * pc + (2 + 0) ≡ 2 * (pc + 1) = omega arith in
     let high : 2 * pc + (2 + 1) ≡ 2 * (pc + 1) + 1 = omega arith in
-    two_parts w (slice_index flash (2 * (pc + 1))) (slice_index flash (2 * (pc + 1) + 1)) (rw low at (h 0 (omega arith))) (rw high at (h 1 (omega arith)))
+    two_parts w (slice_index flash (2 * (pc + 1))) (slice_index flash (2 * (pc + 1) + 1)) (rw low at (h 0 (omega arith)))
+    (rw high at (h 1 (omega arith)))
 
 pub is_what_stands : IsWhatStands
 is_what_stands s i pc h =
@@ -34,7 +37,8 @@ is_what_stands s i pc h =
     let none : 2 * pc + 0 ≡ 2 * pc = omega arith in
     (instruction_is i (word_at s pc) (word_at s (pc + 1))).1 (record {
       in_range = h.known;
-      first = two_parts (first_word i) (slice_index flash (2 * pc)) (slice_index flash (2 * pc + 1)) (rw none at (h.bytes 0 (omega arith))) (h.bytes 1 (omega arith));
+      first = two_parts (first_word i) (slice_index flash (2 * pc)) (slice_index flash (2 * pc + 1)) (rw none at (h.bytes 0 (omega arith)))
+          (h.bytes 1 (omega arith));
       second = second_stands (second_word i) flash pc (λ k l.
           let on : 2 + k ≡ suc (suc k) = omega arith in
           h.bytes (2 + k) (omega (arith, l)) ∙ ap (λ (n : ℕ). slice_index (code_bytes i) n) on);

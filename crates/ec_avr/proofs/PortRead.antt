@@ -3,21 +3,28 @@ use Rattle.std.proofs.Common.{◌≡◌, ℕ, ◌+◌, ◌%◌, Bool, true, fals
 use Rattle.std.specs.Prelude.{if◌then◌else◌, option_map, option_and_then}
 use Rattle.ec_space.specs.declared.space.Bank.TheVariants.{Data as DataBank}
 use Rattle.ec_isa.specs.declared.instructions.Instr.{Instr}
-use Rattle.ec_isa.specs.declared.instructions.Instr.TheVariants.{LddZ, LddY, StdZ, StdY, Lds, Sts, LdZPlus, LdMinusZ, LdYPlus, LdMinusY, LdX, LdXPlus, LdMinusX, StZPlus, StMinusZ, StYPlus, StMinusY, StX, StXPlus, StMinusX, LpmZ, LpmZPlus, Pop, Push, Icall, Ret, Call, In as InInstr, Out as OutInstr, Rcall}
+use Rattle.ec_isa.specs.declared.instructions.Instr.TheVariants.{LddZ, LddY, StdZ, StdY, Lds, Sts, LdZPlus, LdMinusZ, LdYPlus, LdMinusY}
+use Rattle.ec_isa.specs.declared.instructions.Instr.TheVariants.{LdX, LdXPlus, LdMinusX, StZPlus, StMinusZ, StYPlus, StMinusY, StX, StXPlus}
+use Rattle.ec_isa.specs.declared.instructions.Instr.TheVariants.{StMinusX, LpmZ, LpmZPlus, Pop, Push, Icall, Ret, Call, In as InInstr}
+use Rattle.ec_isa.specs.declared.instructions.Instr.TheVariants.{Out as OutInstr, Rcall}
 use Rattle.ec_avr.specs.declared.machine.Access.{Access}
 use Rattle.ec_avr.specs.declared.machine.Access.TheVariants.{Silent, In, Out, Read, Write, Stack}
 use Rattle.ec_avr.specs.declared.machine.FaultKind.{FaultKind}
 use Rattle.ec_avr.specs.declared.machine.FaultKind.TheVariants.{DataOut, PcOut, StackOut}
 use Rattle.ec_avr.specs.declared.machine.Stepped.{Stepped}
 use Rattle.ec_avr.specs.declared.machine.Stepped.TheVariants.{Ran, Ended, Fault}
-use Rattle.ec_avr.specs.State.{State, byte_at, is_core_register, is_sram, pair, with_pair, pointer_x, pointer_y, pointer_z, stack_pointer, raised, lowered, register, with_register, passed}
-use Rattle.ec_avr.specs.Effects.{After, faulted, loaded, stored, load, load_and_raise, lower_and_load, store, store_and_raise, lower_and_store, load_flash, load_flash_and_raise, push, pop, call, return_from_call, relative}
+use Rattle.ec_avr.specs.State.{State, byte_at, is_core_register, is_sram, pair, with_pair, pointer_x, pointer_y, pointer_z, stack_pointer}
+use Rattle.ec_avr.specs.State.{raised, lowered, register, with_register, passed}
+use Rattle.ec_avr.specs.Effects.{After, faulted, loaded, stored, load, load_and_raise, lower_and_load, store, store_and_raise}
+use Rattle.ec_avr.specs.Effects.{lower_and_store, load_flash, load_flash_and_raise, push, pop, call, return_from_call, relative}
 use Rattle.ec_avr.specs.Machine.{step, effect, instruction_at, load_address, port_at, port_read, read_access, needs_port, is_whole}
 
 -- a load reads the answer where its address is a port
 of_load : (core port has : Bool) (at answer old : ℕ) (moved s : State)
     → let byte : ℕ = if port && not core then answer else old in
-    let after : After = if has then record { stepped = Ran (if core then Silent else (if port then In at byte else Read DataBank at byte)); state = moved } else faulted DataOut s in
+    let after : After = if has
+    then record { stepped = Ran (if core then Silent else (if port then In at byte else Read DataBank at byte)); state = moved }
+    else faulted DataOut s in
     read_access after.stepped ≡ option_map (λ (p : ℕ). In p answer) (if (port && not core) && has then Some at else None)
 of_load true true true at answer old moved s = refl
 of_load true true false at answer old moved s = refl
@@ -29,7 +36,9 @@ of_load false false true at answer old moved s = refl
 of_load false false false at answer old moved s = refl
 
 of_store : (core port has : Bool) (at byte : ℕ) (moved s : State)
-    → let after : After = if has then record { stepped = Ran (if core then Silent else (if port then Out at byte else Write at byte)); state = moved } else faulted DataOut s in
+    → let after : After = if has
+    then record { stepped = Ran (if core then Silent else (if port then Out at byte else Write at byte)); state = moved }
+    else faulted DataOut s in
     read_access after.stepped ≡ None
 of_store true port true at byte moved s = refl
 of_store false true true at byte moved s = refl
@@ -164,4 +173,5 @@ port_of-needed answer None = refl
 port_of-needed answer (Some port) = refl
 
 pub port_read-step : (answer : ℕ) (s : State) → port_read (step answer s).stepped ≡ needs_port s
-port_read-step answer s = port_of-access (step answer s).stepped ∙ ap port_of (read_access-step answer s) ∙ port_of-needed answer (needs_port s)
+port_read-step answer s = port_of-access (step answer s).stepped ∙ ap port_of (read_access-step answer s)
+    ∙ port_of-needed answer (needs_port s)

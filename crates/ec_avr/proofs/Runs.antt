@@ -2,7 +2,8 @@
 use Rattle.std.specs.Prelude.{Option, if◌then◌else◌, option_map, MatchOption, ℤ}
 use Rattle.std.proofs.lemmas.Bool.{eqb-true, eq-eqb}
 use Rattle.std.proofs.Math.Seq.{drop-nil}
-use Rattle.std.proofs.Common.{◌≡◌, ◌+◌, ◌-◌, ◌<◌, ◌==◌, ℕ, zero, suc, Bool, true, false, List, [], ◌∷◌, ◌++◌, length, drop, Some, None, refl, sym, ap, ◌∙◌, subst, arith, append_assoc, length-append, zero-add, add-zero}
+use Rattle.std.proofs.Common.{◌≡◌, ◌+◌, ◌-◌, ◌<◌, ◌==◌, ℕ, zero, suc, Bool, true, false, List, [], ◌∷◌, ◌++◌, length, drop, Some, None}
+use Rattle.std.proofs.Common.{refl, sym, ap, ◌∙◌, subst, arith, append_assoc, length-append, zero-add, add-zero}
 use Rattle.ec_runs.specs.Behaviours.{On, steps, many, continued as continued_with, preceded as preceded_with, and_next, stepped_after}
 use Rattle.ec_runs.proofs.Runs.{steps_are_runs}
 use Rattle.ec_avr.specs.declared.machine.Access.{Access}
@@ -10,10 +11,13 @@ use Rattle.ec_avr.specs.declared.machine.Access.TheVariants.{Silent, In, Out, Re
 use Rattle.ec_avr.specs.declared.machine.FaultKind.{FaultKind}
 use Rattle.ec_avr.specs.declared.machine.Stepped.{Stepped}
 use Rattle.ec_avr.specs.declared.machine.Stepped.TheVariants.{Ran, Ended, Fault}
-use Rattle.ec_avr.specs.Machine.{State, Inputs, Run, Running, EndedWith, FaultedAt, machine, step, needs_port, read_access, answer_of, inputs_after, continued, preceded, machine_result}
+use Rattle.ec_avr.specs.Machine.{State, Inputs, Run, Running, EndedWith, FaultedAt, machine, step, needs_port, read_access, answer_of}
+use Rattle.ec_avr.specs.Machine.{inputs_after, continued, preceded, machine_result}
 use Rattle.ec_avr.specs.Inputs.{reads_of}
-use Rattle.ec_avr.specs.Runs.{answers, and_then, left_after, preceded_by, and_on, LeadsTo, Fed, MachineFault, fed, fed_after, fed_step, behaviour_of, steps_of}
-use Rattle.ec_avr.specs.Laws.{IsAnswer, MachineJoins, LeadsNowhere, LeadsOn, LeadsThrough, LeadsToWhereItStands, LeadsToItsEnd, LeadsToItsFault, RunsLead, MachineIsSteps, MachineIsMany, MachineIsRun}
+use Rattle.ec_avr.specs.Runs.{answers, and_then, left_after, preceded_by, and_on, LeadsTo, Fed, MachineFault, fed, fed_after, fed_step}
+use Rattle.ec_avr.specs.Runs.{behaviour_of, steps_of}
+use Rattle.ec_avr.specs.Laws.{IsAnswer, MachineJoins, LeadsNowhere, LeadsOn, LeadsThrough, LeadsToWhereItStands, LeadsToItsEnd}
+use Rattle.ec_avr.specs.Laws.{LeadsToItsFault, RunsLead, MachineIsSteps, MachineIsMany, MachineIsRun}
 use Rattle.ec_avr.proofs.PortRead.{read_access-step}
 
 -- ---- accesses before a run
@@ -39,7 +43,8 @@ before-faulted (a ∷ trace) kind pc = ap (preceded a) (before-faulted trace kin
 pub answers-append : (xs ys : List Access) (port : ℕ) → answers (xs ++ ys) port ≡ answers xs port ++ answers ys port
 answers-append [] ys port = refl
 answers-append (Silent ∷ xs) ys port = answers-append xs ys port
-answers-append (In p byte ∷ xs) ys port = more (p == port) (answers (xs ++ ys) port) (answers xs port) (answers ys port) (answers-append xs ys port)
+answers-append (In p byte ∷ xs) ys port =
+    more (p == port) (answers (xs ++ ys) port) (answers xs port) (answers ys port) (answers-append xs ys port)
   where
     more : (same : Bool) (n a b : List ℕ) → n ≡ a ++ b → (if same then byte ∷ n else n) ≡ (if same then byte ∷ a else a) ++ b
     more true n a b e = ap (λ (l : List ℕ). byte ∷ l) e
@@ -49,17 +54,20 @@ answers-append (Read bank at byte ∷ xs) ys port = answers-append xs ys port
 answers-append (Write at byte ∷ xs) ys port = answers-append xs ys port
 answers-append (Stack ∷ xs) ys port = answers-append xs ys port
 
-more_answers : (xs ys : List Access) (more : Inputs) → and_then (answers (xs ++ ys)) more ≡ and_then (answers xs) (and_then (answers ys) more)
+more_answers : (xs ys : List Access) (more : Inputs)
+    → and_then (answers (xs ++ ys)) more ≡ and_then (answers xs) (and_then (answers ys) more)
 more_answers xs ys more = λ i port. all port i
   where
     all : (port : ℕ) → answers (xs ++ ys) port ++ more port ≡ answers xs port ++ (answers ys port ++ more port)
-    all port = ap (λ (l : List ℕ). l ++ more port) (answers-append xs ys port) ∙ append_assoc (answers xs port) (answers ys port) (more port)
+    all port = ap (λ (l : List ℕ). l ++ more port) (answers-append xs ys port)
+        ∙ append_assoc (answers xs port) (answers ys port) (more port)
 
 -- the inputs after the one byte that was read, or none
 after_read : (port byte : ℕ) (more : Inputs) → inputs_after (and_then (answers (In port byte ∷ [])) more) (Some port) ≡ more
 after_read port byte more = λ i q. left q i
   where
-    left : (q : ℕ) → (if q == port then drop 1 ((if port == q then byte ∷ [] else []) ++ more q) else (if port == q then byte ∷ [] else []) ++ more q) ≡ more q
+    left : (q : ℕ) → (if q == port then drop 1 ((if port == q then byte ∷ [] else []) ++ more q)
+        else (if port == q then byte ∷ [] else []) ++ more q) ≡ more q
     left q = both (q == port) (port == q) refl refl
       where
         both : (a b : Bool) → (q == port) ≡ a → (port == q) ≡ b
@@ -87,7 +95,8 @@ no_port (Read bank at byte) e more = refl
 no_port (Write at byte) e more = refl
 no_port Stack e more = refl
 
-a_port : (s : State) (byte : ℕ) (a : Access) (port : ℕ) → read_access (Ran a) ≡ Some (In port byte) → needs_port s ≡ Some port → Reads s byte a
+a_port : (s : State) (byte : ℕ) (a : Access) (port : ℕ) → read_access (Ran a) ≡ Some (In port byte) → needs_port s ≡ Some port
+    → Reads s byte a
 a_port s byte Silent port e needs = cc
 a_port s byte (In p b) port e needs =
     let same : In port byte ≡ In p b = cc in
@@ -112,13 +121,16 @@ one_step : (m : ℕ) (s : State) (byte : ℕ) (a : Access) (more : Inputs) → (
 unfolding machine
 one_step m s byte a more ran (none _ needs zero_byte nothing) =
     ap (λ (inputs : Inputs). machine (suc m) inputs s) (nothing more)
-    ∙ ap (λ (port : Option ℕ). continued (machine m (inputs_after more port)) (step (answer_of more port) s).stepped (step (answer_of more port) s).state) needs
+    ∙ ap (λ (port : Option ℕ).
+    continued (machine m (inputs_after more port)) (step (answer_of more port) s).stepped (step (answer_of more port) s).state) needs
     ∙ ap (λ (b : ℕ). continued (machine m more) (step b s).stepped (step b s).state) (sym zero_byte)
     ∙ ap (λ (x : Stepped). continued (machine m more) x (step byte s).state) ran
 one_step m s byte _ more ran (one port needs) =
     let inputs : Inputs = and_then (answers (In port byte ∷ [])) more in
-    ap (λ (p : Option ℕ). continued (machine m (inputs_after inputs p)) (step (answer_of inputs p) s).stepped (step (answer_of inputs p) s).state) needs
-    ∙ ap (λ (b : ℕ). continued (machine m (inputs_after inputs (Some port))) (step b s).stepped (step b s).state) (first_answer port byte more)
+    ap (λ (p : Option ℕ).
+    continued (machine m (inputs_after inputs p)) (step (answer_of inputs p) s).stepped (step (answer_of inputs p) s).state) needs
+    ∙ ap (λ (b : ℕ). continued (machine m (inputs_after inputs (Some port))) (step b s).stepped (step b s).state)
+    (first_answer port byte more)
     ∙ ap (λ (left : Inputs). continued (machine m left) (step byte s).stepped (step byte s).state) (after_read port byte more)
     ∙ ap (λ (x : Stepped). continued (machine m more) x (step byte s).state) ran
 
@@ -151,14 +163,17 @@ leads_to_where_it_stands old new trace goes more =
     ap (λ (n : ℕ). machine n (and_then (answers trace) more) old) (sym (add-zero (length trace))) ∙ goes 0 more ∙ before-running trace new
 
 -- a step that does not run reads no port
-last_step : (m : ℕ) (s : State) (byte : ℕ) (more : Inputs) (x : Stepped) → (step byte s).stepped ≡ x → read_access x ≡ None → IsAnswer s byte
+last_step : (m : ℕ) (s : State) (byte : ℕ) (more : Inputs) (x : Stepped) → (step byte s).stepped ≡ x → read_access x ≡ None
+    → IsAnswer s byte
     → machine (suc m) more s ≡ continued (machine m more) x (step byte s).state
 unfolding machine
 last_step m s byte more x is unread answered = by_port (needs_port s) refl answered
   where
-    by_port : (port : Option ℕ) → needs_port s ≡ port → MatchOption port (byte ≡ 0) (λ _. Unit {0}) → machine (suc m) more s ≡ continued (machine m more) x (step byte s).state
+    by_port : (port : Option ℕ) → needs_port s ≡ port → MatchOption port (byte ≡ 0) (λ _. Unit {0})
+        → machine (suc m) more s ≡ continued (machine m more) x (step byte s).state
     by_port None needs zero_byte =
-        ap (λ (port : Option ℕ). continued (machine m (inputs_after more port)) (step (answer_of more port) s).stepped (step (answer_of more port) s).state) needs
+        ap (λ (port : Option ℕ).
+        continued (machine m (inputs_after more port)) (step (answer_of more port) s).stepped (step (answer_of more port) s).state) needs
         ∙ ap (λ (b : ℕ). continued (machine m more) (step b s).stepped (step b s).state) (sym zero_byte)
         ∙ ap (λ (y : Stepped). continued (machine m more) y (step byte s).state) is
     by_port (Some port) needs u =
@@ -208,11 +223,13 @@ is_answer inputs s = by_port (needs_port s)
 first_leads : (m : ℕ) (inputs : Inputs) (s t : State) (trace : List Access)
     → ((left : Inputs) (u : State) (rest : List Access) → machine m left u ≡ Running rest t → LeadsTo u rest t)
     → (x : Stepped) → (step (answer_of inputs (needs_port s)) s).stepped ≡ x
-    → continued (machine m (inputs_after inputs (needs_port s))) x (step (answer_of inputs (needs_port s)) s).state ≡ Running trace t → LeadsTo s trace t
+    → continued (machine m (inputs_after inputs (needs_port s))) x (step (answer_of inputs (needs_port s)) s).state ≡ Running trace t
+    → LeadsTo s trace t
 first_leads m inputs s t trace shorter (Ran a) ran e =
     on (before_first a (machine m (inputs_after inputs (needs_port s)) (step (answer_of inputs (needs_port s)) s).state) trace t e)
   where
-    on : Before a (machine m (inputs_after inputs (needs_port s)) (step (answer_of inputs (needs_port s)) s).state) trace t → LeadsTo s trace t
+    on : Before a (machine m (inputs_after inputs (needs_port s)) (step (answer_of inputs (needs_port s)) s).state) trace t
+        → LeadsTo s trace t
     on (before rest parts first) =
         let byte = answer_of inputs (needs_port s) in
         let next = (step byte s).state in
@@ -238,7 +255,8 @@ drop-suc n [] = drop-nil (1 + n) ∙ sym (drop-nil n)
 drop-suc n (x ∷ l) = let more : 1 + n ≡ suc n = omega arith in ap (λ (k : ℕ). drop k (x ∷ l)) more
 
 -- after one access more, by the port that its step read
-left_on : (byte : ℕ) (a : Access) (port : Option ℕ) → read_access (Ran a) ≡ option_map (λ (p : ℕ). In p byte) port → (trace : List Access) (inputs : Inputs)
+left_on : (byte : ℕ) (a : Access) (port : Option ℕ) → read_access (Ran a) ≡ option_map (λ (p : ℕ). In p byte) port
+    → (trace : List Access) (inputs : Inputs)
     → left_after (a ∷ trace) inputs ≡ left_after trace (inputs_after inputs port)
 left_on byte Silent None e trace inputs = refl
 left_on byte (Out p b) None e trace inputs = refl
@@ -260,7 +278,8 @@ left_on byte (In p b) (Some port) e trace inputs = λ i q. all q i
         same = cc
 
         both : (u v : Bool) → (p == q) ≡ u → (q == port) ≡ v
-            → drop (if u then 1 + reads_of q trace else reads_of q trace) (inputs q) ≡ drop (reads_of q trace) (if v then drop 1 (inputs q) else inputs q)
+            → drop (if u then 1 + reads_of q trace else reads_of q trace) (inputs q)
+            ≡ drop (reads_of q trace) (if v then drop 1 (inputs q) else inputs q)
         both true true f g = drop-suc (reads_of q trace) (inputs q)
         both false false f g = refl
         both true false f g = cc (eq-eqb q port (sym (eqb-true p q f) ∙ same), g)
@@ -269,12 +288,15 @@ left_on byte (In p b) (Some port) e trace inputs = λ i q. all q i
 step_left : (inputs : Inputs) (s : State) (a : Access) → (step (answer_of inputs (needs_port s)) s).stepped ≡ Ran a → (trace : List Access)
     → left_after (a ∷ trace) inputs ≡ left_after trace (inputs_after inputs (needs_port s))
 step_left inputs s a ran trace =
-    left_on (answer_of inputs (needs_port s)) a (needs_port s) (sym (ap read_access ran) ∙ read_access-step (answer_of inputs (needs_port s)) s) trace inputs
+    left_on (answer_of inputs (needs_port s)) a (needs_port s)
+    (sym (ap read_access ran) ∙ read_access-step (answer_of inputs (needs_port s)) s) trace inputs
 
 -- ---- j + k steps
 
-and_on-preceded : (k : ℕ) (inputs left : Inputs) (a : Access) (r : Run) → ((trace : List Access) → left_after (a ∷ trace) inputs ≡ left_after trace left)
-    → preceded a (and_on (λ trace t. machine k (left_after trace left) t) r) ≡ and_on (λ trace t. machine k (left_after trace inputs) t) (preceded a r)
+and_on-preceded : (k : ℕ) (inputs left : Inputs) (a : Access) (r : Run)
+    → ((trace : List Access) → left_after (a ∷ trace) inputs ≡ left_after trace left)
+    → preceded a (and_on (λ trace t. machine k (left_after trace left) t) r)
+    ≡ and_on (λ trace t. machine k (left_after trace inputs) t) (preceded a r)
 and_on-preceded k inputs left a (Running trace t) h =
     ap (λ (rest : Inputs). preceded a (preceded_by trace (machine k rest t))) (sym (h trace))
 and_on-preceded k inputs left a (EndedWith trace result) h = refl
@@ -285,7 +307,8 @@ first_joins : (j k : ℕ) (inputs : Inputs) (s : State)
     → ((left : Inputs) (t : State) → machine (j + k) left t ≡ and_on (λ trace u. machine k (left_after trace left) u) (machine j left t))
     → (x : Stepped) → (step (answer_of inputs (needs_port s)) s).stepped ≡ x
     → continued (machine (j + k) (inputs_after inputs (needs_port s))) x (step (answer_of inputs (needs_port s)) s).state
-    ≡ and_on (λ trace t. machine k (left_after trace inputs) t) (continued (machine j (inputs_after inputs (needs_port s))) x (step (answer_of inputs (needs_port s)) s).state)
+    ≡ and_on (λ trace t. machine k (left_after trace inputs) t)
+    (continued (machine j (inputs_after inputs (needs_port s))) x (step (answer_of inputs (needs_port s)) s).state)
 first_joins j k inputs s shorter (Ran a) ran =
     let left = inputs_after inputs (needs_port s) in
     let next = (step (answer_of inputs (needs_port s)) s).state in
@@ -298,7 +321,8 @@ unfolding machine
 machine_joins zero k inputs s = ap (λ (n : ℕ). machine n inputs s) (zero-add k)
 machine_joins (suc j) k inputs s =
     let more : suc j + k ≡ suc (j + k) = omega arith in
-    ap (λ (n : ℕ). machine n inputs s) more ∙ first_joins j k inputs s (machine_joins j k) (step (answer_of inputs (needs_port s)) s).stepped refl
+    ap (λ (n : ℕ). machine n inputs s) more
+    ∙ first_joins j k inputs s (machine_joins j k) (step (answer_of inputs (needs_port s)) s).stepped refl
 
 -- ---- as runs of a step function
 
@@ -307,7 +331,8 @@ seen-preceded a (Running trace s) = refl
 seen-preceded a (EndedWith trace result) = refl
 seen-preceded a (FaultedAt trace kind pc) = refl
 
-first_seen : (m : ℕ) (left : Inputs) (next : State) → ((inputs : Inputs) (t : State) → behaviour_of (machine m inputs t) ≡ steps fed_step (fed inputs t) m) → (x : Stepped)
+first_seen : (m : ℕ) (left : Inputs) (next : State)
+    → ((inputs : Inputs) (t : State) → behaviour_of (machine m inputs t) ≡ steps fed_step (fed inputs t) m) → (x : Stepped)
     → behaviour_of (continued (machine m left) x next) ≡ continued_with (λ (f : Fed). steps fed_step f m) (fed_after left x next)
 first_seen m left next shorter (Ran a) = seen-preceded a (machine m left next) ∙ ap (preceded_with (a ∷ [])) (shorter left next)
 first_seen m left next shorter Ended = refl
@@ -324,15 +349,18 @@ pub machine_is_run : MachineIsRun
 machine_is_run inputs s n k le =
     rw (machine_is_steps n inputs s, machine_is_steps k inputs s) (steps_are_runs Fed Access ℤ MachineFault fed_step (fed inputs s) n k le)
 
-steps_of-preceded : (inputs left : Inputs) (a : Access) (r : Run) → ((trace : List Access) → left_after (a ∷ trace) inputs ≡ left_after trace left)
+steps_of-preceded : (inputs left : Inputs) (a : Access) (r : Run)
+    → ((trace : List Access) → left_after (a ∷ trace) inputs ≡ left_after trace left)
     → stepped_after (a ∷ []) (steps_of left r) ≡ steps_of inputs (preceded a r)
 steps_of-preceded inputs left a (Running trace s) h = ap (λ (rest : Inputs). On (a ∷ trace) (fed rest s)) (sym (h trace))
 steps_of-preceded inputs left a (EndedWith trace result) h = refl
 steps_of-preceded inputs left a (FaultedAt trace kind pc) h = refl
 
-first_many : (m : ℕ) (inputs : Inputs) (s : State) → ((left : Inputs) (t : State) → many fed_step m (fed left t) ≡ steps_of left (machine m left t))
+first_many : (m : ℕ) (inputs : Inputs) (s : State)
+    → ((left : Inputs) (t : State) → many fed_step m (fed left t) ≡ steps_of left (machine m left t))
     → (x : Stepped) → (step (answer_of inputs (needs_port s)) s).stepped ≡ x
-    → and_next (λ (f : Fed). many fed_step m f) (fed_after (inputs_after inputs (needs_port s)) x (step (answer_of inputs (needs_port s)) s).state)
+    → and_next (λ (f : Fed). many fed_step m f)
+    (fed_after (inputs_after inputs (needs_port s)) x (step (answer_of inputs (needs_port s)) s).state)
     ≡ steps_of inputs (continued (machine m (inputs_after inputs (needs_port s))) x (step (answer_of inputs (needs_port s)) s).state)
 first_many m inputs s shorter (Ran a) ran =
     let left = inputs_after inputs (needs_port s) in

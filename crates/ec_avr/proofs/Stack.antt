@@ -1,10 +1,14 @@
 -- Which bytes of the stack a step pushes to or pops from.
-use Rattle.std.proofs.Common.{◌≡◌, ◌≢◌, ℕ, zero, suc, ◌+◌, ◌*◌, ◌%◌, ◌/◌, ◌<◌, ◌≤◌, Bool, true, false, ◌&&◌, List, [], ◌∷◌, Option, Some, None, length, refl, sym, ap, ◌∙◌, nat_lt, arith}
+use Rattle.std.proofs.Common.{◌≡◌, ◌≢◌, ℕ, zero, suc, ◌+◌, ◌*◌, ◌%◌, ◌/◌, ◌<◌, ◌≤◌, Bool, true, false, ◌&&◌, List, [], ◌∷◌, Option, Some}
+use Rattle.std.proofs.Common.{None, length, refl, sym, ap, ◌∙◌, nat_lt, arith}
 use Rattle.std.specs.Prelude.{IsTrue, if◌then◌else◌, All}
 use Rattle.std.proofs.lemmas.Bool.{and_parts, ltb-true}
 use Rattle.std.proofs.lemmas.List.{get_or-set_other}
 use Rattle.ec_isa.specs.declared.instructions.Instr.{Instr}
-use Rattle.ec_isa.specs.declared.instructions.Instr.TheVariants.{LddZ, LddY, StdZ, StdY, Lds, Sts, LdZPlus, LdMinusZ, LdYPlus, LdMinusY, LdX, LdXPlus, LdMinusX, StZPlus, StMinusZ, StYPlus, StMinusY, StX, StXPlus, StMinusX, LpmZ, LpmZPlus, Pop, Push, Icall, Ret, Call, In as InInstr, Out as OutInstr, Rcall}
+use Rattle.ec_isa.specs.declared.instructions.Instr.TheVariants.{LddZ, LddY, StdZ, StdY, Lds, Sts, LdZPlus, LdMinusZ, LdYPlus, LdMinusY}
+use Rattle.ec_isa.specs.declared.instructions.Instr.TheVariants.{LdX, LdXPlus, LdMinusX, StZPlus, StMinusZ, StYPlus, StMinusY, StX, StXPlus}
+use Rattle.ec_isa.specs.declared.instructions.Instr.TheVariants.{StMinusX, LpmZ, LpmZPlus, Pop, Push, Icall, Ret, Call, In as InInstr}
+use Rattle.ec_isa.specs.declared.instructions.Instr.TheVariants.{Out as OutInstr, Rcall}
 use Rattle.ec_isa.specs.Table.{in_table}
 use Rattle.ec_isa.proofs.InstructionAt.{instruction_is}
 use Rattle.ec_avr.specs.declared.machine.Access.{Access}
@@ -13,8 +17,11 @@ use Rattle.ec_avr.specs.declared.machine.FaultKind.TheVariants.{DataOut, PcOut, 
 use Rattle.ec_avr.specs.declared.machine.Stepped.{Stepped}
 use Rattle.ec_avr.specs.declared.machine.Stepped.TheVariants.{Ran}
 use Rattle.ec_space.specs.declared.space.Bank.TheVariants.{Flash as FlashBank, Data as DataBank}
-use Rattle.ec_avr.specs.State.{State, word_at, byte_at, with_byte, register, with_register, pair, with_pair, pointer_x, pointer_y, pointer_z, stack_pointer, with_stack_pointer, is_core_register, is_sram, raised, lowered, with_pc, passed}
-use Rattle.ec_avr.specs.Effects.{After, faulted, loaded, stored, load, load_and_raise, lower_and_load, store, store_and_raise, lower_and_store, load_flash, load_flash_and_raise, push, pop, call, return_from_call, relative, effect, instruction_at}
+use Rattle.ec_avr.specs.State.{State, word_at, byte_at, with_byte, register, with_register, pair, with_pair, pointer_x, pointer_y}
+use Rattle.ec_avr.specs.State.{pointer_z, stack_pointer, with_stack_pointer, is_core_register, is_sram, raised, lowered, with_pc, passed}
+use Rattle.ec_avr.specs.Effects.{After, faulted, loaded, stored, load, load_and_raise, lower_and_load, store, store_and_raise}
+use Rattle.ec_avr.specs.Effects.{lower_and_store, load_flash, load_flash_and_raise, push, pop, call, return_from_call, relative, effect}
+use Rattle.ec_avr.specs.Effects.{instruction_at}
 use Rattle.ec_avr.specs.Machine.{step, is_whole}
 use Rattle.ec_avr.specs.Placed.{stack_bytes, stack_bytes_of}
 use Rattle.ec_avr.specs.Laws.{StackIsInside, OthersLeaveTheStack, PushesThereAlone}
@@ -36,7 +43,9 @@ data StackStep (s : State) : After → List ℕ → Type 0 where
 -- ---- steps that access no stack
 
 of_load : (core port has : Bool) (at byte : ℕ) (moved s : State)
-    → let after : After = if has then record { stepped = Ran (if core then Silent else (if port then In at byte else Read DataBank at byte)); state = moved } else faulted DataOut s in
+    → let after : After = if has
+    then record { stepped = Ran (if core then Silent else (if port then In at byte else Read DataBank at byte)); state = moved }
+    else faulted DataOut s in
     is_stack after.stepped ≡ false
 of_load true port true at byte moved s = refl
 of_load false true true at byte moved s = refl
@@ -44,7 +53,9 @@ of_load false false true at byte moved s = refl
 of_load core port false at byte moved s = refl
 
 of_store : (core port has : Bool) (at byte : ℕ) (moved s : State)
-    → let after : After = if has then record { stepped = Ran (if core then Silent else (if port then Out at byte else Write at byte)); state = moved } else faulted DataOut s in
+    → let after : After = if has
+    then record { stepped = Ran (if core then Silent else (if port then Out at byte else Write at byte)); state = moved }
+    else faulted DataOut s in
     is_stack after.stepped ≡ false
 of_store true port true at byte moved s = refl
 of_store false true true at byte moved s = refl
@@ -122,14 +133,18 @@ module _ (s : State) where
   of_push : (byte : ℕ) → StackStep s (push byte s) (stack_pointer s ∷ [])
   of_push byte =
       let first = stack_pointer s in
-      there (is_sram s first) (passed (with_stack_pointer (with_byte s first byte) (lowered first)) 1) (first ∷ []) (λ can. all_one (λ at. IsTrue (is_sram s at)) first can)
-      (λ at high others. stays_at_pointer (with_byte s first byte) (lowered first) at high ∙ stays_at s first byte at (λ e. others 0 0 (omega arith) (sym e)))
+      there (is_sram s first) (passed (with_stack_pointer (with_byte s first byte) (lowered first)) 1) (first ∷ [])
+      (λ can. all_one (λ at. IsTrue (is_sram s at)) first can)
+      (λ at high others. stays_at_pointer (with_byte s first byte) (lowered first) at high
+      ∙ stays_at s first byte at (λ e. others 0 0 (omega arith) (sym e)))
 
   of_pop : (d : ℕ) → d < 32 → StackStep s (pop d s) (raised (stack_pointer s) ∷ [])
   of_pop d small =
       let first = raised (stack_pointer s) in
-      there (is_sram s first) (passed (with_stack_pointer (with_register s d (byte_at s first)) first) 1) (first ∷ []) (λ can. all_one (λ at. IsTrue (is_sram s at)) first can)
-      (λ at high others. stays_at_pointer (with_register s d (byte_at s first)) first at high ∙ stays_at s d (byte_at s first) at (omega arith))
+      there (is_sram s first) (passed (with_stack_pointer (with_register s d (byte_at s first)) first) 1) (first ∷ [])
+      (λ can. all_one (λ at. IsTrue (is_sram s at)) first can)
+      (λ at high others. stays_at_pointer (with_register s d (byte_at s first)) first at high
+      ∙ stays_at s d (byte_at s first) at (omega arith))
 
   of_call : (to back : ℕ) → StackStep s (call to back s) (stack_pointer s ∷ lowered (stack_pointer s) ∷ [])
   of_call to back =
@@ -147,13 +162,15 @@ module _ (s : State) where
   of_return =
       let first = raised (stack_pointer s) in
       let second = raised first in
-      there (is_sram s first && is_sram s second) (with_pc (with_stack_pointer s second) (256 * byte_at s first + byte_at s second)) (first ∷ second ∷ [])
+      there (is_sram s first && is_sram s second) (with_pc (with_stack_pointer s second) (256 * byte_at s first + byte_at s second))
+      (first ∷ second ∷ [])
       (λ can. let p = and_parts (is_sram s first) (is_sram s second) can in all_two (λ at. IsTrue (is_sram s at)) first second p.0 p.1)
       (λ at high others. stays_at_pointer s second at high)
 
 -- ---- the table
 
-of_effect : (i : Instr) → IsTrue (in_table i) → (answer : ℕ) (s : State) → StackStep s (effect (Some i) answer s) (stack_bytes_of (Some i) s)
+of_effect : (i : Instr) → IsTrue (in_table i) → (answer : ℕ) (s : State)
+    → StackStep s (effect (Some i) answer s) (stack_bytes_of (Some i) s)
 unfolding effect
 of_effect (LddZ d q) t answer s = of_load_at s d ((pair s pointer_z + q) % 65536) answer 1
 of_effect (LddY d q) t answer s = of_load_at s d ((pair s pointer_y + q) % 65536) answer 1
@@ -196,7 +213,8 @@ of_step answer s = by_test (is_whole s) (by_table (instruction_at s s.pc) refl)
     by_table (Some i) e = of_effect i ((instruction_is i (word_at s s.pc) (word_at s (s.pc + 1))).0 e).in_range answer s
 
     by_test : (b : Bool) → StackStep s (effect (instruction_at s s.pc) answer s) (stack_bytes_of (instruction_at s s.pc) s)
-        → StackStep s (if b then effect (instruction_at s s.pc) answer s else faulted PcOut s) (if b then stack_bytes_of (instruction_at s s.pc) s else [])
+        → StackStep s (if b then effect (instruction_at s s.pc) answer s else faulted PcOut s)
+        (if b then stack_bytes_of (instruction_at s s.pc) s else [])
     by_test true h = h
     by_test false h = apart _ refl
 

@@ -10,7 +10,8 @@ use Rattle.ec_isa.proofs.InstructionAt.{instruction_is}
 use Rattle.ec_avr.specs.Effects.{has_two_words}
 
 -- the table has these words with another second word too
-with_other : (w0 a b : ℕ) → b < 65536 → (i : Option Instr) → decoded w0 a ≡ i → IsTrue (has_two_words i) → IsTrue (has_two_words (decoded w0 b))
+with_other : (w0 a b : ℕ) → b < 65536 → (i : Option Instr) → decoded w0 a ≡ i → IsTrue (has_two_words i)
+    → IsTrue (has_two_words (decoded w0 b))
 with_other w0 a b small (Some (Lds d k)) e h =
     let d0 = (instruction_is (Lds d k) w0 a).0 e in
     let range = lt-ltb b 65536 small in

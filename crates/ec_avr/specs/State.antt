@@ -4,7 +4,7 @@ use Rattle.std.specs.Prelude.{◌≡◌, ℕ, ◌+◌, ◌*◌, ◌/◌, ◌%◌
 use Rattle.std.specs.Prelude.{slice_index, slice_set}
 use Rattle.std.specs.Int.{bit_at}
 use Rattle.ec_space.specs.Memory.{Memory}
-pub use Rattle.ec_avr_parts.specs.Addresses.{is_core_register, is_port, raised, lowered}
+pub use Rattle.ec_isa.specs.Addresses.{is_core_register, is_port, raised, lowered}
 
 -- both banks, and the program counter, which counts words. The registers are the first 32 data bytes
 pub record State : Type 0 where

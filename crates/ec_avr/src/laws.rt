@@ -1,5 +1,4 @@
 //! What holds of all runs of the machine, and of the length of instructions.
-
 ghost use Rattle.std.specs.Prelude.{◌≡◌, ℕ, ◌<◌};
 ghost use Rattle.ec_isa.specs.Reading.{instruction_at as decoded};
 ghost use Rattle.ec_avr.specs.Effects.{has_two_words};

@@ -1,5 +1,4 @@
 //! The machine, which makes the steps of the core.
-
 ghost use Rattle.std.specs.Prelude.{◌≡◌, EachIndex, slice_index, if◌then◌else◌};
 ghost use Rattle.ec_avr.specs.State.{is_port};
 
@@ -10,9 +9,8 @@ mod places;
 mod table;
 mod transfers;
 
-use crate::Image;
-use ec_avr_parts::is_port;
-use ec_isa::Instr;
+use crate::image::Image;
+use ec_isa::{Instr, is_port};
 use ec_space::{Bank, Core, Mem, NoMemory, Seq};
 pub(crate) use jumps::is_of_two_words;
 use std::alloc::Global;

@@ -14,7 +14,7 @@ use Rattle.ec_ir.specs.Costs.{functions_words}
 use Rattle.ec_ir.specs.Operations.{PlainIrProgram}
 use Rattle.ec_lower_code.specs.Code.{lowered, lowered_function}
 use Rattle.ec_lower_code.specs.Correct.{GroupsHaveBytes, IsMadeOf}
-use Rattle.ec_lower_suited.specs.Laws.{LoweredProgramsHaveCode}
+use Rattle.ec_build_laws.specs.Laws.{LoweredProgramsHaveCode}
 use Rattle.ec_select.specs.InPlace.{AreInPlace}
 use Rattle.ec_select.specs.Laws.{object_sizes}
 use Rattle.ec_select.specs.Selected.{IsSelection}

@@ -2,17 +2,17 @@
 use Rattle.std.proofs.Common.{◌≡◌, ◌≤◌, ℕ, suc, List, [], ◌∷◌, length, map, refl, ap, subst, arith}
 use Rattle.std.specs.List.{AllByRecursion}
 use Rattle.ec_space.specs.Listed.{Listed}
-use Rattle.ec_grammar.specs.declared.tree.Tree.{Tree}
+use Rattle.ec_grammar.specs.declared.Tree.{Tree}
 use Rattle.ec_grammar.specs.Grammar.{leaves_from}
 use Rattle.ec_grammar.specs.Spelling.{of_tree}
 use Rattle.ec_grammar.specs.Tokens.{Placed}
 use Rattle.ec_grammar.specs.Trees as t
 use Rattle.ec_grammar.specs.Views.{view_tree}
-use Rattle.ec_text_numbers.specs.Laws.{IsHeld, TextsHoldNumbers}
-use Rattle.ec_expr_valid.specs.Suits.{AreHeld}
+use Rattle.ec_lex_laws.specs.Laws.{IsHeld, TextsHoldNumbers}
+use Rattle.ec_check_expression_laws.specs.Suits.{AreHeld}
 use Rattle.ec_check.specs.Laws.{AreShort}
 use Rattle.ec_check.specs.Validity.{HoldNumbers}
-use Rattle.ec_units.specs.Units.{IsUnit, AreUnits}
+use Rattle.ec_parse_sources.specs.Units.{IsUnit, AreUnits}
 
 leaves_hold : (n : ℕ) (list : List Placed) → AllByRecursion (λ token. IsHeld token.lexeme) list → AreHeld (leaves_from n list)
 leaves_hold n [] h = tt

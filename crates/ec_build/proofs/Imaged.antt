@@ -8,8 +8,8 @@ use Rattle.ec_map.specs.Maps.{ValidMap}
 use Rattle.ec_map.specs.declared.map.Map.{Map}
 use Rattle.ec_locate.specs.Placing.{IsLocated}
 use Rattle.ec_locate.specs.declared.placing.Located.{Located}
-use Rattle.ec_placed.specs.Translation.{IsTranslated}
-use Rattle.ec_placed.specs.Whole.{ProgramsShowTheirSources}
+use Rattle.ec_build_laws.specs.Translation.{IsTranslated}
+use Rattle.ec_build_laws.specs.Whole.{ProgramsShowTheirSources}
 use Rattle.ec_build.specs.Builds.{IsImageOf}
 use Rattle.ec_build.specs.Code.{IsCodeOf}
 

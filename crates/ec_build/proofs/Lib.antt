@@ -1,7 +1,7 @@
-pub mod Held
-pub mod Coded
-pub mod Imaged
-pub mod Refused
-pub mod Unchecked
-pub mod Unplaced
-pub mod Composed
+mod Held
+mod Coded
+mod Imaged
+mod Refused
+mod Unchecked
+mod Unplaced
+mod Composed

@@ -10,7 +10,7 @@ use Rattle.ec_map.specs.declared.map.Map.{Map}
 use Rattle.ec_map.specs.declared.read.MapStop.{MapStop}
 use Rattle.ec_map.specs.declared.read.MapStop.TheVariants as map_stops
 use Rattle.ec_build.specs.MapTexts.{IsMapText, IsNoMap}
-use Rattle.ec_units.specs.Units.{IsUnit, AreUnits, IsFaulty, IsUnparsed}
+use Rattle.ec_parse_sources.specs.Units.{IsUnit, AreUnits, IsFaulty, IsUnparsed}
 
 -- ---- the map
 

@@ -3,7 +3,7 @@ use Rattle.std.proofs.Common.{◌≡◌, List, None, refl, arith}
 use Rattle.ec_iohw.specs.declared.table.IoTable.{IoTable}
 use Rattle.ec_grammar.specs.Trees as t
 use Rattle.ec_core.specs.Plain.{PlainProgram}
-use Rattle.ec_recursion.specs.Recursion.{NothingRecurs}
+use Rattle.ec_check_recursion.specs.Recursion.{NothingRecurs}
 use Rattle.ec_check.specs.Answers.{IsTyped, IsWithinLimits}
 use Rattle.ec_check.specs.Units.{least_fault}
 use Rattle.ec_check.specs.declared.checking.CheckStop.{CheckStop}

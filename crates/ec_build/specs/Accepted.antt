@@ -2,14 +2,14 @@
 use Rattle.std.specs.Prelude.{ℕ, ◌≡◌, List, None}
 use Rattle.ec_grammar.specs.Trees as t
 use Rattle.ec_core.specs.Plain.{PlainProgram}
-use Rattle.ec_recursion.specs.Recursion.{NothingRecurs}
+use Rattle.ec_check_recursion.specs.Recursion.{NothingRecurs}
 use Rattle.ec_check.specs.Answers.{IsTyped, IsWithinLimits}
 use Rattle.ec_check.specs.Units.{least_fault}
 use Rattle.ec_map.specs.declared.map.Map.{Map}
 use Rattle.ec_build.specs.Builds.{IsChecked}
 use Rattle.ec_build.specs.MapTexts.{IsMapText, HasMap}
 use Rattle.ec_build.specs.Places.{Fits}
-use Rattle.ec_units.specs.Units.{AreUnits}
+use Rattle.ec_parse_sources.specs.Units.{AreUnits}
 
 -- There is a map, and each source has a tree. For each such map, and all such trees and programs, there is nothing that
 -- they can be refused for. (A text has one map, but for the room of its lists; a source has one tree, and the trees have

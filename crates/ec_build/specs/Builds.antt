@@ -8,16 +8,16 @@ use Rattle.ec_core.specs.Plain.{PlainProgram, plain_program}
 use Rattle.ec_core.specs.PortTable.{plain_table}
 use Rattle.ec_core.specs.ValueTypes.{GiveBytes}
 use Rattle.ec_core.specs.Weight.{weight}
-use Rattle.ec_recursion.specs.Recursion.{NothingRecurs}
+use Rattle.ec_check_recursion.specs.Recursion.{NothingRecurs}
 use Rattle.ec_check.specs.Answers.{IsTyped, IsWithinLimits}
 use Rattle.ec_check.specs.Units.{least_fault}
 use Rattle.ec_map.specs.declared.map.Map.{Map}
 use Rattle.ec_locate.specs.Placing.{scratch_needs}
 use Rattle.ec_locate.specs.declared.placing.Located.{Located}
-use Rattle.ec_placed.specs.Translation.{IsTranslated}
-use Rattle.ec_placed.specs.Whole.{ShowsWhole}
+use Rattle.ec_build_laws.specs.Translation.{IsTranslated}
+use Rattle.ec_build_laws.specs.Whole.{ShowsWhole}
 use Rattle.ec_build.specs.MapTexts.{IsMapText}
-use Rattle.ec_units.specs.Units.{AreUnits}
+use Rattle.ec_parse_sources.specs.Units.{AreUnits}
 use Rattle.ec_build.specs.declared.building.Built.{Built}
 
 -- ---- what is read

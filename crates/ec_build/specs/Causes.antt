@@ -18,7 +18,7 @@ use Rattle.ec_select.specs.Selected.{IsSelection}
 use Rattle.ec_build.specs.Builds.{IsRead, IsChecked}
 use Rattle.ec_build.specs.MapTexts.{HasMap, IsNoMap}
 use Rattle.ec_build.specs.Places.{HasNoPlace}
-use Rattle.ec_units.specs.Units.{IsFirstFault, IsFirstUnparsed}
+use Rattle.ec_parse_sources.specs.Units.{IsFirstFault, IsFirstUnparsed}
 use Rattle.ec_build.specs.declared.stop.BuildStop.{BuildStop}
 use Rattle.ec_build.specs.declared.stop.BuildStop.TheVariants.{Map as MapFault, Lex, Parse, Check, Place}
 use Rattle.ec_build.specs.declared.stop.BuildStop.TheVariants.{NoMemory}

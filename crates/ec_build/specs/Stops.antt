@@ -4,7 +4,7 @@ use Rattle.ec_lex.specs.declared.stop.LexStop.{LexStop}
 use Rattle.ec_parse.specs.declared.stop.ParseStop.{ParseStop}
 use Rattle.ec_build.specs.declared.stop.BuildStop.{BuildStop}
 use Rattle.ec_build.specs.declared.stop.BuildStop.TheVariants.{Lex, Parse, NoMemory}
-use Rattle.ec_units.specs.Units.{IsFirstFault, IsFirstUnparsed}
+use Rattle.ec_parse_sources.specs.Units.{IsFirstFault, IsFirstUnparsed}
 
 -- a text has a fault, told so, or the tokens of one have no tree
 abbrev pub StopsUnit : (lexing : ℕ → LexStop → Type 0) → (parsing : ℕ → ParseStop → Type 0) → BuildStop → Type 0

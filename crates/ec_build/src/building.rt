@@ -16,10 +16,10 @@ use crate::programs::program_of;
 use crate::stop::BuildStop;
 use crate::units::units_of;
 use ec_core::Program;
+use ec_lex_laws::texts_hold_numbers;
 use ec_locate::Located;
 use ec_map::Map;
 use ec_space::Seq;
-use ec_text_numbers::texts_hold_numbers;
 use std::alloc::Global;
 
 /// A program, the map by which it was placed, and where it stands.
@@ -66,7 +66,7 @@ fn answer(alloc: Global, sources: &Seq<Seq<u8>>, map: &Seq<u8>) -> Result<Built,
     };
     texts_hold_numbers();
     let checked = program_of(alloc, &units, &map);
-    ec_units::discard(units);
+    ec_parse_sources::discard(units);
     let program = match checked {
         Ok(program) => program,
         Err(stop) => {

@@ -6,9 +6,9 @@ ghost use Rattle.ec_build.specs.Code.{IsCodeOf};
 
 use crate::stop::BuildStop;
 use ec_asm::AsmProgram;
+use ec_build_laws::lowered_programs_have_code;
 use ec_core::Program;
 use ec_lower::{lower, read_groups};
-use ec_lower_suited::lowered_programs_have_code;
 use ec_map::Map;
 use ec_select::select;
 use std::alloc::Global;

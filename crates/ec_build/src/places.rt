@@ -9,10 +9,10 @@ ghost use Rattle.ec_build.specs.Places.{StopsPlacing};
 
 use crate::stop::BuildStop;
 use ec_asm::AsmProgram;
+use ec_build_laws::{image_holds_bytes, programs_show_their_sources};
 use ec_core::Program;
 use ec_locate::{Located, PlaceStop, place};
 use ec_map::Map;
-use ec_placed::{image_holds_bytes, programs_show_their_sources};
 use std::alloc::Global;
 
 /// A program and its code, placed by a map.

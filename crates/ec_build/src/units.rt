@@ -2,12 +2,12 @@
 ghost use Rattle.std.specs.Prelude.{◌≡◌, List, ◌≤◌, ◌<◌, ◌^◌, All, IfOk, IfErr, length, map};
 ghost use Rattle.ec_grammar.specs.Trees as t;
 ghost use Rattle.ec_grammar.specs.Views.{view_tree};
-ghost use Rattle.ec_units.specs.Units.{AreUnits};
+ghost use Rattle.ec_parse_sources.specs.Units.{AreUnits};
 ghost use Rattle.ec_build.specs.Stops.{StopsReading};
 
 use crate::stop::BuildStop;
+use ec_parse_sources::{Tree, UnitStop};
 use ec_space::Seq;
-use ec_units::{Tree, UnitStop};
 use std::alloc::Global;
 
 /// The trees of the sources.
@@ -20,7 +20,7 @@ pub(crate) fn units_of(alloc: Global, sources: &Seq<Seq<u8>>) -> Result<Seq<Tree
         → AreUnits (map (λ s. s.items) sources.now.items) others → others ≡ map view_tree trees.items) }
     ensures stopped { IfErr result (StopsReading (map (λ s. s.items) sources.now.items)) }
 {
-    match ec_units::units_of(alloc, sources) {
+    match ec_parse_sources::units_of(alloc, sources) {
         Ok(units) => Ok(units),
         Err(UnitStop::Lex { unit, stop }) => Err(BuildStop::Lex { unit, stop }),
         Err(UnitStop::Parse { unit, stop }) => Err(BuildStop::Parse { unit, stop }),

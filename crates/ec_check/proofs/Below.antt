@@ -1,9 +1,10 @@
 -- The laws of the crates below that the validity of a checked program stands on.
 use Rattle.ec_core.specs.TypeLaws.{StructsAreLaidOut}
-use Rattle.ec_names.specs.Laws.{EqualStructsAreOne}
-use Rattle.ec_expr_valid.specs.Laws.{SaidTypesArePlaced}
-use Rattle.ec_initial.specs.Laws.{SizesAreValues, InitialValuesSuit}
-use Rattle.ec_statements_valid.specs.Laws.{FunctionTypesAreUsable, ObjectsStay, InnerObjectsKeepSuiting, ObjectsAreAppended, BodiesAreValid, BodiesNeedTheirTokens}
+use Rattle.ec_check_names.specs.Laws.{EqualStructsAreOne}
+use Rattle.ec_check_expression_laws.specs.Laws.{SaidTypesArePlaced}
+use Rattle.ec_check_initialisers.specs.Laws.{SizesAreValues, InitialValuesSuit}
+use Rattle.ec_check_statements.specs.Laws.{FunctionTypesAreUsable, ObjectsStay, InnerObjectsKeepSuiting, ObjectsAreAppended, BodiesAreValid}
+use Rattle.ec_check_statements.specs.Laws.{BodiesNeedTheirTokens}
 
 pub record Laws : Type 0 where
   pub layouts : StructsAreLaidOut

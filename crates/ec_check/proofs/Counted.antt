@@ -2,11 +2,12 @@
 use Rattle.std.proofs.Common.{◌≡◌, ◌≤◌, ◌+◌, ℕ, Bool, true, false, List, [], ◌∷◌, arith}
 use Rattle.std.specs.Prelude.{Option}
 use Rattle.ec_grammar.specs.Trees as t
-use Rattle.ec_names.specs.declared.linkage.Linkage.{Linkage}
-use Rattle.ec_names.specs.declared.specifiers.StorageWord.{StorageWord}
-use Rattle.ec_names.specs.Counts.{objects_in_declarator, objects_in_more, objects_in_declaration, objects_in_external, functions_in_external}
-use Rattle.ec_names.specs.Definitions.{Numbering, is_defined, declared_as, link_in, storage_of, is_registered, registered_as}
-use Rattle.ec_names.specs.Definitions.{numbered_declarator, numbered_more, numbered_declaration, numbered_external}
+use Rattle.ec_check_names.specs.declared.linkage.Linkage.{Linkage}
+use Rattle.ec_check_names.specs.declared.specifiers.StorageWord.{StorageWord}
+use Rattle.ec_check_names.specs.Counts.{objects_in_declarator, objects_in_more, objects_in_declaration, objects_in_external}
+use Rattle.ec_check_names.specs.Counts.{functions_in_external}
+use Rattle.ec_check_names.specs.Definitions.{Numbering, is_defined, declared_as, link_in, storage_of, is_registered, registered_as}
+use Rattle.ec_check_names.specs.Definitions.{numbered_declarator, numbered_more, numbered_declaration, numbered_external}
 
 -- from one numbering to another there are at most so many objects more, and so many functions more
 pub record Counts (before after : Numbering) (o f : ℕ) : Type 0 where
@@ -44,7 +45,8 @@ registered_counts : (b : Bool) (unit : ℕ) (name : List ℕ) (n : Numbering) �
 registered_counts true unit name n = record { objects = omega arith; functions = omega arith }
 registered_counts false unit name n = record { objects = omega arith; functions = omega arith }
 
-pub external_counts : (unit : ℕ) (x : t.External) (n : Numbering) → Counts n (numbered_external unit x n) (objects_in_external x) (functions_in_external x)
+pub external_counts : (unit : ℕ) (x : t.External) (n : Numbering)
+    → Counts n (numbered_external unit x n) (objects_in_external x) (functions_in_external x)
 external_counts unit (t.pragma_item p) n = record { objects = omega arith; functions = omega arith }
 external_counts unit (t.structure_item d) n = record { objects = omega arith; functions = omega arith }
 external_counts unit (t.register_item (t.register_object w reg ss (t.identifier at name) semicolon)) n =

@@ -1,5 +1,6 @@
 -- Lists that begin with others, and what holds of their elements.
-use Rattle.std.proofs.Common.{◌≡◌, ◌∙◌, ◌≤◌, ◌<◌, ◌+◌, ◌++◌, ℕ, zero, suc, List, [], ◌∷◌, length, append_assoc, refl, sym, ap, subst, inl, inr, arith}
+use Rattle.std.proofs.Common.{◌≡◌, ◌∙◌, ◌≤◌, ◌<◌, ◌+◌, ◌++◌, ℕ, zero, suc, List, [], ◌∷◌, length, append_assoc, refl, sym, ap, subst, inl}
+use Rattle.std.proofs.Common.{inr, arith}
 use Rattle.std.specs.Prelude.{◌⊎◌, Option, Some, None, slice_get, slice_index_or, AllPairs, Contains}
 use Rattle.std.specs.List.{AllByRecursion}
 use Rattle.std.proofs.lemmas.Bool.{cases_order}
@@ -50,7 +51,8 @@ module _ {X : Type 0} (P : X → Type 0) where
   all_weaker Q f [] h = tt
   all_weaker Q f (x ∷ xs) h = (f x h.0, all_weaker Q f xs h.1)
 
-pub each_and : {X : Type 0} (P : ℕ → X → Type 0) (n : ℕ) (xs : List X) (y : X) → EachFrom n P xs → P (n + length xs) y → EachFrom n P (xs ++ y ∷ [])
+pub each_and : {X : Type 0} (P : ℕ → X → Type 0) (n : ℕ) (xs : List X) (y : X) → EachFrom n P xs → P (n + length xs) y
+    → EachFrom n P (xs ++ y ∷ [])
 each_and P n [] y h k = (let e : n + 0 ≡ n = omega arith in subst (λ m. P m y) e k, tt)
 each_and P n (x ∷ xs) y h k =
     let e : n + suc (length xs) ≡ n + 1 + length xs = omega arith in (h.0, each_and P (n + 1) xs y h.1 (subst (λ m. P m y) e k))
@@ -74,7 +76,8 @@ module _ {X : Type 0} (R : X → X → Type 0) where
   anything P f (x ∷ xs) = (f x, anything P f xs)
 
   -- more elements, each of which may stand behind any other
-  pub pairs_both : (Q : X → Type 0) → ((x y : X) → Q y → R x y) → (xs ys : List X) → AllPairs R xs → AllByRecursion Q ys → AllPairs R (xs ++ ys)
+  pub pairs_both : (Q : X → Type 0) → ((x y : X) → Q y → R x y) → (xs ys : List X) → AllPairs R xs → AllByRecursion Q ys
+      → AllPairs R (xs ++ ys)
   pairs_both Q f xs [] h k = subst (AllPairs R) (sym (append_nothing xs)) h
   pairs_both Q f xs (y ∷ ys) h k =
       subst (AllPairs R) (append_assoc xs (y ∷ []) ys)
@@ -85,6 +88,8 @@ module _ {X : Type 0} (R : X → X → Type 0) where
   pair_of xs x y h (i, below, e) (j, lower, f) =
       elim (cases_order i j) as (λ z. (x ≡ y) ⊎ (R x y ⊎ R y x)) [
         | inl same ↦ inl (sym e ∙ ap (λ n. slice_index_or xs n x) same ∙ at_index xs j y x lower f)
-        | inr (inl less) ↦ inr (inl (subst (λ a. R a y) e (subst (R (slice_index_or xs i x)) (at_index xs j y x lower f) (h i j x less lower))))
-        | inr (inr more) ↦ inr (inr (subst (λ a. R a x) f (subst (R (slice_index_or xs j y)) (at_index xs i x y below e) (h j i y more below))))
+        | inr (inl less) ↦
+            inr (inl (subst (λ a. R a y) e (subst (R (slice_index_or xs i x)) (at_index xs j y x lower f) (h i j x less lower))))
+        | inr (inr more) ↦
+            inr (inr (subst (λ a. R a x) f (subst (R (slice_index_or xs j y)) (at_index xs i x y below e) (h j i y more below))))
       ]

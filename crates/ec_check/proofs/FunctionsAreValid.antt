@@ -9,16 +9,17 @@ use Rattle.ec_grammar.specs.Trees as t
 use Rattle.ec_grammar.specs.Trees.{Leaf}
 use Rattle.ec_core.specs.Layout.{NamesBelow, AreStructs}
 use Rattle.ec_core.specs.Needs.{stmt_need}
-use Rattle.ec_core.specs.Plain.{PlainType, void, integer, fixed, pointer, array, struct, PlainStruct, PlainStmt, PlainFunction, PlainProgram}
+use Rattle.ec_core.specs.Plain.{PlainType, void, integer, fixed, pointer, array, struct, PlainStruct, PlainStmt, PlainFunction}
+use Rattle.ec_core.specs.Plain.{PlainProgram}
 use Rattle.ec_core.specs.Valid.{IsFunction, ValidStmt}
-use Rattle.ec_expr_valid.specs.Suits.{Suits}
-use Rattle.ec_declare.specs.Functions.{FunctionDeclared}
-use Rattle.ec_declare.specs.Scopes.{Context, Scope, known_in}
-use Rattle.ec_statement_forms.specs.Around.{Around}
-use Rattle.ec_statements.specs.Statements.{body_of, after_body}
-use Rattle.ec_statements_valid.specs.Laws.{InnerObjectsKeepSuiting, ObjectsStay, ObjectsAreAppended, BodiesAreValid, BodiesNeedTheirTokens}
-use Rattle.ec_statements_valid.specs.Objects.{IsLocal}
-use Rattle.ec_file_scope.specs.States.{Setting, State, context_of, with_scope, broken}
+use Rattle.ec_check_expression_laws.specs.Suits.{Suits}
+use Rattle.ec_check_declarations.specs.Functions.{FunctionDeclared}
+use Rattle.ec_check_declarations.specs.Scopes.{Context, Scope, known_in}
+use Rattle.ec_check_statements.specs.Around.{Around}
+use Rattle.ec_check_statements.specs.Statements.{body_of, after_body}
+use Rattle.ec_check_statements.specs.Laws.{InnerObjectsKeepSuiting, ObjectsStay, ObjectsAreAppended, BodiesAreValid, BodiesNeedTheirTokens}
+use Rattle.ec_check_statements.specs.Objects.{IsLocal}
+use Rattle.ec_check_file_scope.specs.States.{Setting, State, context_of, with_scope, broken}
 use Rattle.ec_check.specs.Definitions.{has_number, number_in, function_made, with_function, params_in, numbers_in, body_in, defined_in}
 use Rattle.ec_check.proofs.Growing.{AreValid}
 use Rattle.ec_check.proofs.Inner.{IsParam, IsInner, param_inner, local_inner, valid_more, AreParamsOf, all_params, no_params}
@@ -29,7 +30,8 @@ use Rattle.ec_check.proofs.Steps.{HasTokens}
 
 -- ---- parts that have a meaning
 
-pub record IsMadeOf (unit : ℕ) (n : List ℕ) (returns : Option PlainType) (params : Option (List ℕ)) (body : Option PlainStmt) (g : PlainFunction) : Type 0 where
+pub record IsMadeOf (unit : ℕ) (n : List ℕ) (returns : Option PlainType) (params : Option (List ℕ)) (body : Option PlainStmt)
+    (g : PlainFunction) : Type 0 where
   pub returned : returns ≡ Some g.returns
   pub numbers : params ≡ Some g.params
   pub meant : body ≡ Some g.body
@@ -83,7 +85,8 @@ result_names structs (struct i) (inr h, k) = let z : ◌≡◌ {A = PlainType} (
 
 -- ---- definitions
 
-module _ (inner : InnerObjectsKeepSuiting) (stay : ObjectsStay) (append : ObjectsAreAppended) (bodies : BodiesAreValid) (needs : BodiesNeedTheirTokens)
+module _ (inner : InnerObjectsKeepSuiting) (stay : ObjectsStay) (append : ObjectsAreAppended) (bodies : BodiesAreValid)
+    (needs : BodiesNeedTheirTokens)
     (p : PlainProgram) (io : IoTable) (whole : AreStructs p.structs) (room : length p.objects < 65_536)
     (r : Setting) (n : List ℕ) (d : FunctionDeclared) (b : t.Compound) (rest : List Leaf) (m : State) where
   abbrev f : ℕ
@@ -104,8 +107,10 @@ module _ (inner : InnerObjectsKeepSuiting) (stay : ObjectsStay) (append : Object
   abbrev function : Option PlainFunction
   function = function_made r.unit n d.returns (numbers_in r d m) (body_of c around b start)
 
-  module _ (suits : Suits p io f (known_in c m.scope.names)) (fits : AreParams p.structs d.params) (result : IfSome d.returns (IsResult p.structs))
-      (tokens : HasTokens b rest) (objects : First v.objects p.objects) (functions : First (with_function function (with_scope v m)).functions p.functions)
+  module _ (suits : Suits p io f (known_in c m.scope.names)) (fits : AreParams p.structs d.params)
+      (result : IfSome d.returns (IsResult p.structs))
+      (tokens : HasTokens b rest) (objects : First v.objects p.objects)
+      (functions : First (with_function function (with_scope v m)).functions p.functions)
       (kept : (with_function function (with_scope v m)).whole ≡ true) where
     added : IsAdded function (with_scope v m)
     added = added_by function (with_scope v m) kept
@@ -154,7 +159,8 @@ module _ (inner : InnerObjectsKeepSuiting) (stay : ObjectsStay) (append : Object
 
     need : stmt_need g.body ≤ 65_535
     need =
-        let q = subst (λ o. IfSome o (λ body. stmt_need body + length rest ≤ length (of_compound b rest))) parts.meant (needs c around b start rest) in
+        let q = subst (λ o. IfSome o (λ body. stmt_need body + length rest ≤ length (of_compound b rest))) parts.meant
+        (needs c around b start rest) in
         let few = tokens.few in omega (arith, q, few)
 
     is_function : IsFunction p io f g

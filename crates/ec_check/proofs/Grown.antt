@@ -2,12 +2,12 @@
 use Rattle.std.proofs.Common.{◌≡◌, ◌∙◌, ℕ, List, [], ◌∷◌, map, drop, get_or, refl, sym, ap, subst}
 use Rattle.std.specs.Prelude.{Option, Some, None, IsSomeAnd, option_map, slice_get, Contains}
 use Rattle.ec_core.specs.Plain.{PlainType, PlainObject, PlainFunction}
-use Rattle.ec_names.specs.declared.numbering.Defined.{Defined}
-use Rattle.ec_names.specs.declared.numbering.Defined.TheVariants.{Object, Register, Function as FunctionKind}
-use Rattle.ec_names.specs.Definitions.{Definition}
-use Rattle.ec_statements_valid.specs.Objects.{AreFirst}
-use Rattle.ec_file_scope.specs.FileNames.{FileKind, an_object, a_register, a_function, FileName}
-use Rattle.ec_file_scope.specs.States.{State}
+use Rattle.ec_check_names.specs.declared.numbering.Defined.{Defined}
+use Rattle.ec_check_names.specs.declared.numbering.Defined.TheVariants.{Object, Register, Function as FunctionKind}
+use Rattle.ec_check_names.specs.Definitions.{Definition}
+use Rattle.ec_check_statements.specs.Objects.{AreFirst}
+use Rattle.ec_check_file_scope.specs.FileNames.{FileKind, an_object, a_register, a_function, FileName}
+use Rattle.ec_check_file_scope.specs.States.{State}
 use Rattle.ec_check.specs.Agreement.{IsFileObject, IsFileRegister, IsFileFunction, IsMade, IsDefined}
 
 -- the second state has what the first has, under the same numbers
@@ -16,7 +16,8 @@ pub record Grows (s v : State) : Type 0 where
   pub objects : AreFirst s.scope.objects v.scope.objects
   pub functions : (i : ℕ) (g : PlainFunction) → slice_get s.functions i ≡ Some g → slice_get v.functions i ≡ Some g
 
-still : {X : Type 0} → (P Q : X → Type 0) (a b : Option X) → ((x : X) → a ≡ Some x → b ≡ Some x) → ((x : X) → P x → Q x) → IsSomeAnd a P → IsSomeAnd b Q
+still : {X : Type 0} → (P Q : X → Type 0) (a b : Option X) → ((x : X) → a ≡ Some x → b ≡ Some x) → ((x : X) → P x → Q x)
+    → IsSomeAnd a P → IsSomeAnd b Q
 still P Q None b f g h = absurd h
 still {X} P Q (Some x) b f g h = subst (λ (o : Option X). IsSomeAnd o Q) (sym (f x refl)) (g x h)
 
@@ -53,7 +54,8 @@ module _ (s v : State) (g : Grows s v) (d : Definition) where
   made_kept : (kind : Defined) (k : FileKind) → IsMade s d kind k → IsMade v d kind k
   made_kept Object (an_object None konst space) h = absurd h
   made_kept Object (an_object (Some ty) konst space) h =
-      still (IsFileObject d ty konst space) (IsFileObject d ty konst space) (slice_get s.scope.objects d.number) (slice_get v.scope.objects d.number)
+      still (IsFileObject d ty konst space) (IsFileObject d ty konst space) (slice_get s.scope.objects d.number)
+      (slice_get v.scope.objects d.number)
       (g.objects d.number) (λ x p. p) h
   made_kept Object (a_register first ty konst) h = absurd h
   made_kept Object (a_function returns params) h = absurd h
@@ -61,7 +63,8 @@ module _ (s v : State) (g : Grows s v) (d : Definition) where
   made_kept Register (a_register None ty konst) h = absurd h
   made_kept Register (a_register (Some first) None konst) h = absurd h
   made_kept Register (a_register (Some first) (Some ty) konst) h =
-      still (IsFileRegister d first ty konst) (IsFileRegister d first ty konst) (slice_get s.scope.objects d.number) (slice_get v.scope.objects d.number)
+      still (IsFileRegister d first ty konst) (IsFileRegister d first ty konst) (slice_get s.scope.objects d.number)
+      (slice_get v.scope.objects d.number)
       (g.objects d.number) (λ x p. p) h
   made_kept Register (a_function returns params) h = absurd h
   made_kept FunctionKind (an_object ty konst space) h = absurd h
@@ -69,7 +72,8 @@ module _ (s v : State) (g : Grows s v) (d : Definition) where
   made_kept FunctionKind (a_function None params) h = absurd h
   made_kept FunctionKind (a_function (Some returns) None) h = absurd h
   made_kept FunctionKind (a_function (Some returns) (Some params)) h =
-      still (IsFileFunction s.scope.objects d returns params) (IsFileFunction v.scope.objects d returns params) (slice_get s.functions d.number)
+      still (IsFileFunction s.scope.objects d returns params) (IsFileFunction v.scope.objects d returns params)
+      (slice_get s.functions d.number)
       (slice_get v.functions d.number) (g.functions d.number) (function_kept returns params) h
 
   pub defined_kept : IsDefined s d → IsDefined v d

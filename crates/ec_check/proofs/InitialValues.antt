@@ -13,14 +13,14 @@ use Rattle.ec_core.specs.Layout.{PlainLeaf, size_of_type, leaves_of_type, IsObje
 use Rattle.ec_core.specs.Plain.{PlainType, void, integer, fixed, pointer, array, struct, PlainObject, PlainProgram}
 use Rattle.ec_core.specs.TypeLaws.{StructsAreLaidOut}
 use Rattle.ec_core.specs.Valid.{IsStatic, IsInitialValue, AreInitialValues}
-use Rattle.ec_names.specs.Names.{Named}
-use Rattle.ec_expr.specs.Known.{Known}
-use Rattle.ec_initial.specs.Items.{zero_leaves}
-use Rattle.ec_initial.specs.Laws.{IsStaticAddress, IsInitialLeaf, AreInitialLeaves, InitialValuesSuit}
-use Rattle.ec_initial.specs.Places.{IsNamedObject}
-use Rattle.ec_statements_valid.proofs.Layouts.{sizes_agree, leaves_agree}
-use Rattle.ec_file_scope.specs.FileObjects.{home_of, initial_leaves}
-use Rattle.ec_file_scope.proofs.Sound.{named_at}
+use Rattle.ec_check_names.specs.Names.{Named}
+use Rattle.ec_check_expressions.specs.Known.{Known}
+use Rattle.ec_check_initialisers.specs.Items.{zero_leaves}
+use Rattle.ec_check_initialisers.specs.Laws.{IsStaticAddress, IsInitialLeaf, AreInitialLeaves, InitialValuesSuit}
+use Rattle.ec_check_initialisers.specs.Places.{IsNamedObject}
+use Rattle.ec_check_statements.proofs.Layouts.{sizes_agree, leaves_agree}
+use Rattle.ec_check_file_scope.specs.FileObjects.{home_of, initial_leaves}
+use Rattle.ec_check_file_scope.proofs.Sound.{named_at}
 use Rattle.ec_check.proofs.Firsts.{First}
 use Rattle.ec_check.proofs.Meanings.{IsStaticObject, IsStaticName}
 
@@ -44,10 +44,14 @@ own_home Generic = refl
 
 -- ---- leaves
 
-module _ (law : StructsAreLaidOut) (p : PlainProgram) (k : Known) (whole : AreStructs p.structs) (small : AreStructs k.structs) (first : First k.structs p.structs)
-    (static : AllByRecursion (λ e. IsStaticName p e.1) k.names.outside) (typed : AllByRecursion (λ e. IsNamedObject (length k.structs) e.1) k.names.outside) where
-  of_object : (space home : SpaceId) (ty : PlainType) (offset : ℕ) → IsTrue (encloses space home) → offset ≤ size_of_type p.structs ty → (o : Option PlainObject)
-      → IsSomeAnd o (IsStaticObject ty home) → IsSomeAnd o (λ x. IsStatic x.storage × IsTrue (holds space x.home) × (offset ≤ size_of_type p.structs x.ty))
+module _ (law : StructsAreLaidOut) (p : PlainProgram) (k : Known) (whole : AreStructs p.structs) (small : AreStructs k.structs)
+    (first : First k.structs p.structs)
+    (static : AllByRecursion (λ e. IsStaticName p e.1) k.names.outside)
+    (typed : AllByRecursion (λ e. IsNamedObject (length k.structs) e.1) k.names.outside) where
+  of_object : (space home : SpaceId) (ty : PlainType) (offset : ℕ) → IsTrue (encloses space home) → offset ≤ size_of_type p.structs ty
+      → (o : Option PlainObject)
+      → IsSomeAnd o (IsStaticObject ty home)
+      → IsSomeAnd o (λ x. IsStatic x.storage × IsTrue (holds space x.home) × (offset ≤ size_of_type p.structs x.ty))
   of_object space home ty offset e n None h = absurd h
   of_object space home ty offset e n (Some x) h = (
     h.storage,
@@ -55,13 +59,16 @@ module _ (law : StructsAreLaidOut) (p : PlainProgram) (k : Known) (whole : AreSt
     subst (λ z. offset ≤ size_of_type p.structs z) (sym h.typed) n,
   )
 
-  inside : (ty : PlainType) (offset : ℕ) → IsObjectType (length k.structs) ty → offset ≤ size_of_type k.structs ty → offset ≤ size_of_type p.structs ty
+  inside : (ty : PlainType) (offset : ℕ) → IsObjectType (length k.structs) ty → offset ≤ size_of_type k.structs ty
+      → offset ≤ size_of_type p.structs ty
   inside ty offset o n = subst (λ m. offset ≤ m) (sizes_agree law k.structs p.structs small whole first ty o.names) n
 
   address_is : (space : SpaceId) (object offset : ℕ) → IsStaticAddress k space object offset
-      → IsSomeAnd (slice_get p.objects object) (λ x. IsStatic x.storage × IsTrue (holds space x.home) × (offset ≤ size_of_type p.structs x.ty))
+      → IsSomeAnd (slice_get p.objects object)
+      (λ x. IsStatic x.storage × IsTrue (holds space x.home) × (offset ≤ size_of_type p.structs x.ty))
   address_is space object offset h =
-      let known = subst (λ (o : Option Named). IfSome o (IsStaticName p)) h.named (named_at (IsStaticName p) k.names.outside static h.name) in
+      let known =
+      subst (λ (o : Option Named). IfSome o (IsStaticName p)) h.named (named_at (IsStaticName p) k.names.outside static h.name) in
       let type = subst (λ (o : Option Named). IfSome o (IsNamedObject (length k.structs))) h.named
       (named_at (IsNamedObject (length k.structs)) k.names.outside typed h.name) in
       of_object space h.home h.ty offset h.enclosed (inside h.ty offset type h.inside) (slice_get p.objects object) known
@@ -81,7 +88,8 @@ module _ (law : StructsAreLaidOut) (p : PlainProgram) (k : Known) (whole : AreSt
   leaf_is (struct i) Null h = absurd h
   leaf_is (struct i) (Address o offset) h = absurd h
 
-  leaves_are : (leaves : List PlainLeaf) (inits : List LeafInit) → AllZip (IsInitialLeaf k) (map (λ leaf. leaf.ty) leaves) inits → AreInitialValues p leaves inits
+  leaves_are : (leaves : List PlainLeaf) (inits : List LeafInit) → AllZip (IsInitialLeaf k) (map (λ leaf. leaf.ty) leaves) inits
+      → AreInitialValues p leaves inits
   leaves_are [] [] h = tt
   leaves_are [] (init ∷ inits) h = h
   leaves_are (leaf ∷ leaves) [] h = h
@@ -95,9 +103,12 @@ module _ (law : StructsAreLaidOut) (p : PlainProgram) (k : Known) (whole : AreSt
 
   by_start : InitialValuesSuit → (start : Option t.Start) (ty : PlainType) (inits : List LeafInit) → IsObjectType (length k.structs) ty
       → initial_leaves k start (Some ty) ≡ Some inits → AreInitialLeaves k ty inits
-  by_start suit None ty inits o e = let same : zero_leaves k.structs ty ≡ inits = cc in subst (AreInitialLeaves k ty) same (suit.zero k ty small o)
+  by_start suit None ty inits o e =
+      let same : zero_leaves k.structs ty ≡ inits = cc in
+      subst (AreInitialLeaves k ty) same (suit.zero k ty small o)
   by_start suit (Some (t.start equals i)) ty inits o e = suit.given k i ty inits small o e
 
-  pub initial_values : InitialValuesSuit → (start : Option t.Start) (ty : PlainType) (inits : List LeafInit) → IsObjectType (length k.structs) ty
+  pub initial_values : InitialValuesSuit → (start : Option t.Start) (ty : PlainType) (inits : List LeafInit)
+      → IsObjectType (length k.structs) ty
       → initial_leaves k start (Some ty) ≡ Some inits → AreInitialValues p (leaves_of_type p.structs ty) inits
   initial_values suit start ty inits o e = suited ty inits o (by_start suit start ty inits o e)

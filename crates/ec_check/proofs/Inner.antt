@@ -4,7 +4,9 @@ use Rattle.std.specs.Prelude.{◌/◌, ◌≢◌, Option, Some, None, IfSome, Is
 use Rattle.std.specs.List.{AllByRecursion}
 use Rattle.std.proofs.lemmas.Bool.{both_ways}
 use Rattle.ec_fx.specs.declared.formats.FxKind.{FxKind}
-use Rattle.ec_fx.specs.declared.formats.FxKind.TheVariants.{ShortFract, Fract, LongFract, ShortAccum, Accum, LongAccum, UnsignedShortFract, UnsignedFract, UnsignedLongFract, UnsignedShortAccum, UnsignedAccum, UnsignedLongAccum}
+use Rattle.ec_fx.specs.declared.formats.FxKind.TheVariants.{ShortFract, Fract, LongFract, ShortAccum, Accum, LongAccum, UnsignedShortFract}
+use Rattle.ec_fx.specs.declared.formats.FxKind.TheVariants.{UnsignedFract, UnsignedLongFract, UnsignedShortAccum, UnsignedAccum}
+use Rattle.ec_fx.specs.declared.formats.FxKind.TheVariants.{UnsignedLongAccum}
 use Rattle.ec_fx.specs.Formats.{format_of}
 use Rattle.ec_iohw.specs.declared.table.IoTable.{IoTable}
 use Rattle.ec_space.specs.declared.space.Bank.TheVariants.{Data}
@@ -12,16 +14,17 @@ use Rattle.ec_space.specs.declared.space.SpaceId.{SpaceId}
 use Rattle.ec_space.specs.declared.space.SpaceId.TheVariants.{Flash, Data as DataSpace, Generic}
 use Rattle.ec_space.specs.Spaces.{width, holds}
 use Rattle.ec_core.specs.Layout.{IsScalar, size_of_type}
-use Rattle.ec_core.specs.Plain.{PlainType, void, integer, fixed, pointer, array, struct, PlainStruct, PlainStorage, static, local, param, register, PlainObject, PlainProgram}
+use Rattle.ec_core.specs.Plain.{PlainType, void, integer, fixed, pointer, array, struct, PlainStruct, PlainStorage, static, local, param}
+use Rattle.ec_core.specs.Plain.{register, PlainObject, PlainProgram}
 use Rattle.ec_core.specs.Valid.{IsStored, IsObject, AreApart, ShareNoRegister, HaveOwnNames}
-use Rattle.ec_rules.specs.Validity.{IsPlaceType}
-use Rattle.ec_expr_valid.specs.Suits.{Suits}
-use Rattle.ec_declare.specs.Params.{ParamDeclared}
-use Rattle.ec_declare.specs.Scopes.{Context, Scope, known_in, made_number, inner_object, with_inner}
-use Rattle.ec_statements_valid.specs.Laws.{InnerObjectsKeepSuiting, ObjectsStay}
-use Rattle.ec_statements_valid.specs.Objects.{IsLocal, AreAppended}
-use Rattle.ec_statements_valid.proofs.Growth.{none_appended, appended_then, object_appended}
-use Rattle.ec_file_scope.specs.States.{State, with_scope}
+use Rattle.ec_check_forms.specs.Validity.{IsPlaceType}
+use Rattle.ec_check_expression_laws.specs.Suits.{Suits}
+use Rattle.ec_check_declarations.specs.Params.{ParamDeclared}
+use Rattle.ec_check_declarations.specs.Scopes.{Context, Scope, known_in, made_number, inner_object, with_inner}
+use Rattle.ec_check_statements.specs.Laws.{InnerObjectsKeepSuiting, ObjectsStay}
+use Rattle.ec_check_statements.specs.Objects.{IsLocal, AreAppended}
+use Rattle.ec_check_statements.proofs.Growth.{none_appended, appended_then, object_appended}
+use Rattle.ec_check_file_scope.specs.States.{State, with_scope}
 use Rattle.ec_check.specs.Definitions.{with_param, with_params, next_numbers, param_numbers}
 use Rattle.ec_check.proofs.Growing.{IsDeclaredObject, AreValid}
 use Rattle.ec_check.proofs.Firsts.{First, first_longer, all_both, all_and, all_weaker, pairs_and, pairs_both}
@@ -121,14 +124,18 @@ module _ (p : PlainProgram) (io : IoTable) where
   }
 
   -- the objects of a function stand behind those before them
-  pub valid_more : (s : State) (v : Scope) (more : List PlainObject) → v.objects ≡ s.scope.objects ++ more → AllByRecursion (IsInner p) more → AreValid p io s
+  pub valid_more : (s : State) (v : Scope) (more : List PlainObject) → v.objects ≡ s.scope.objects ++ more → AllByRecursion (IsInner p) more
+      → AreValid p io s
       → AreValid p io (with_scope v s)
   valid_more s v more e k h = record {
-    objects = subst (AllByRecursion (IsObject p)) (sym e) (all_both (IsObject p) s.scope.objects more h.objects (all_weaker (IsInner p) (IsObject p) (λ x q. q.object) more k));
+    objects = subst (AllByRecursion (IsObject p)) (sym e)
+        (all_both (IsObject p) s.scope.objects more h.objects (all_weaker (IsInner p) (IsObject p) (λ x q. q.object) more k));
     declared = subst (AllByRecursion (IsDeclaredObject s.declared)) (sym e)
-        (all_both (IsDeclaredObject s.declared) s.scope.objects more h.declared (all_weaker (IsInner p) (IsDeclaredObject s.declared) (inner_declared s) more k));
+        (all_both (IsDeclaredObject s.declared) s.scope.objects more h.declared
+        (all_weaker (IsInner p) (IsDeclaredObject s.declared) (inner_declared s) more k));
     registers = subst (AllPairs (ShareNoRegister p)) (sym e)
-        (pairs_both (ShareNoRegister p) (IsInner p) (λ x y q. apart_from x.storage y.storage (size_of_type p.structs x.ty) (size_of_type p.structs y.ty) q.unregistered)
+        (pairs_both (ShareNoRegister p) (IsInner p)
+        (λ x y q. apart_from x.storage y.storage (size_of_type p.structs x.ty) (size_of_type p.structs y.ty) q.unregistered)
         s.scope.objects more h.registers k);
     externals = subst (AllPairs HaveOwnNames) (sym e)
         (pairs_both HaveOwnNames (IsInner p) (λ x y q a b. absurd (both_ways y.external q.internal b)) s.scope.objects more h.externals k);
@@ -137,7 +144,8 @@ module _ (p : PlainProgram) (io : IoTable) where
 
 -- ---- parameters
 
-module _ (inner : InnerObjectsKeepSuiting) (stay : ObjectsStay) (p : PlainProgram) (io : IoTable) (c : Context) (unit f : ℕ) (room : length p.objects < 65_536)
+module _ (inner : InnerObjectsKeepSuiting) (stay : ObjectsStay) (p : PlainProgram) (io : IoTable) (c : Context) (unit f : ℕ)
+    (room : length p.objects < 65_536)
     (before : Scope) where
   -- what is known behind some parameters, with the numbers of their objects
   pub record AreParamsOf (v : Scope) (numbers : List ℕ) : Type 0 where
@@ -151,7 +159,8 @@ module _ (inner : InnerObjectsKeepSuiting) (stay : ObjectsStay) (p : PlainProgra
   no_numbers [] v = refl
   no_numbers (q ∷ ps) v = no_numbers ps (with_param unit f q.name q v)
 
-  stands : (o : ℕ) (x : PlainObject) → slice_get p.objects o ≡ Some x → x.storage ≡ param f → IsSomeAnd (slice_get p.objects o) (λ x. x.storage ≡ param f)
+  stands : (o : ℕ) (x : PlainObject) → slice_get p.objects o ≡ Some x → x.storage ≡ param f
+      → IsSomeAnd (slice_get p.objects o) (λ x. x.storage ≡ param f)
   stands o x e h = subst (λ z. IsSomeAnd z (λ x. x.storage ≡ param f)) (sym e) h
 
   module _ (n : List ℕ) (ty : PlainType) (konst : Bool) (v : Scope) (numbers : List ℕ) (k : IsParamType p.structs ty)
@@ -174,9 +183,11 @@ module _ (inner : InnerObjectsKeepSuiting) (stay : ObjectsStay) (p : PlainProgra
               (object_appended (IsParam p.structs f) (Some ty) (inner_object unit n konst (param f)) v.objects
               (record { kind = k.0; scalar = k.1; internal = refl; spaced = refl; home = refl; storage = refl }));
           stand = all_and (λ o. IsSomeAnd (slice_get p.objects o) (λ x. x.storage ≡ param f)) numbers (length v.objects) h.stand
-              (stands (length v.objects) (inner_object unit n konst (param f) ty) (first (length v.objects) (inner_object unit n konst (param f) ty) (q.stands few)) refl);
+              (stands (length v.objects) (inner_object unit n konst (param f) ty)
+              (first (length v.objects) (inner_object unit n konst (param f) ty) (q.stands few)) refl);
           below = all_and (λ o. o < length w.objects) numbers (length v.objects)
-              (all_weaker (λ o. o < length v.objects) (λ o. o < length w.objects) (λ o z. omega (arith, z, count)) numbers h.below) (omega (arith, count));
+              (all_weaker (λ o. o < length v.objects) (λ o. o < length w.objects) (λ o z. omega (arith, z, count)) numbers h.below)
+              (omega (arith, count));
           distinct = pairs_and (λ o q. o ≢ q) numbers (length v.objects) h.distinct
               (all_weaker (λ o. o < length v.objects) (λ o. o ≢ length v.objects) (λ o z e. omega (arith, z, e)) numbers h.below);
         }
@@ -186,10 +197,12 @@ module _ (inner : InnerObjectsKeepSuiting) (stay : ObjectsStay) (p : PlainProgra
 
   abbrev AreAll : List ParamDeclared → List ℕ → Type 0
   AreAll ps all =
-      (v : Scope) (numbers : List ℕ) → First (with_params unit f ps v).objects p.objects → param_numbers unit f ps v (Some numbers) ≡ Some all → AreParamsOf v numbers
+      (v : Scope) (numbers : List ℕ) → First (with_params unit f ps v).objects p.objects
+      → param_numbers unit f ps v (Some numbers) ≡ Some all → AreParamsOf v numbers
       → AreParamsOf (with_params unit f ps v) all
 
-  by_parts : (name : Option (List ℕ)) (ty : Option PlainType) (konst : Bool) (ps : List ParamDeclared) (all : List ℕ) → IfSome ty (IsParamType p.structs) → AreAll ps all
+  by_parts : (name : Option (List ℕ)) (ty : Option PlainType) (konst : Bool) (ps : List ParamDeclared) (all : List ℕ)
+      → IfSome ty (IsParamType p.structs) → AreAll ps all
       → AreAll (record { name = name; ty = ty; konst = konst } ∷ ps) all
   by_parts None ty konst ps all k rest v numbers first e h = let z = no_numbers ps v in cc
   by_parts (Some n) None konst ps all k rest v numbers first e h = let z = no_numbers ps (with_inner unit n None konst (param f) v) in cc

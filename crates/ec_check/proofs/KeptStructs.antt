@@ -1,5 +1,6 @@
 -- Definitions of structs agree with what is numbered: there is a struct where no rule is broken.
-use Rattle.std.proofs.Common.{◌≡◌, ◌<◌, ◌≤◌, ◌+◌, ◌++◌, ℕ, Bool, true, false, ◌&&◌, List, [], ◌∷◌, length, refl, sym, subst, inl, inr, arith}
+use Rattle.std.proofs.Common.{◌≡◌, ◌<◌, ◌≤◌, ◌+◌, ◌++◌, ℕ, Bool, true, false, ◌&&◌, List, [], ◌∷◌, length, refl, sym, subst, inl, inr}
+use Rattle.std.proofs.Common.{arith}
 use Rattle.std.specs.Prelude.{◌⊎◌, if◌then◌else◌, nat_lt, nat_le, Option, Some, None, IsSome, IsSomeAnd, IfSome}
 use Rattle.std.specs.List.{AllByRecursion}
 use Rattle.std.proofs.lemmas.Bool.{cases_eq, and_from, or_parts, false≢true, true≢false}
@@ -8,36 +9,42 @@ use Rattle.ec_grammar.specs.Trees as t
 use Rattle.ec_core.specs.Layout.{Layout, members_layout, struct_layouts, size_of_type}
 use Rattle.ec_core.specs.Plain.{PlainType, array, PlainMember, PlainStruct}
 use Rattle.ec_core.specs.TypeLaws.{IsAppended, StructsAreLaidOut}
-use Rattle.ec_names.specs.Counts.{is_function}
-use Rattle.ec_names.specs.Definitions.{Numbering}
-use Rattle.ec_names.specs.Specifiers.{specified, specs_rules, void_at}
-use Rattle.ec_names.specs.Structs.{struct_place}
-use Rattle.ec_names.specs.Tables.{with_name as with_tag}
-use Rattle.ec_operands.specs.Operands.{with_one, with_both}
-use Rattle.ec_expr.specs.Known.{Known, is_sized}
-use Rattle.ec_expr.specs.TypeNames.{meant_type}
-use Rattle.ec_expr_valid.specs.Laws.{AreUnbroken, DefinitionsKeepSuiting, KeptTypesAreSaid}
-use Rattle.ec_expr_valid.specs.Suits.{HasTypes}
-use Rattle.ec_initial.specs.Laws.{SizesAreValues}
-use Rattle.ec_initial.specs.Sites as i
-use Rattle.ec_declare.specs.Declarators.{head_of, declared_size, declared_size_sites, object_declared, object_sites}
-use Rattle.ec_declare.specs.ObjectTypes.{is_object_type}
-use Rattle.ec_declare.specs.Sites.{Site, on, told}
-use Rattle.ec_declare.specs.Structures.{MemberDeclared, member_rules, is_member, with_member, member_sites, with_more_members, more_member_sites, with_declared, declared_sites, with_all_declared, all_declared_sites}
-use Rattle.ec_declare.specs.Structures.{known_from, known_members, are_objects, size_together, is_over, is_within, is_too_large_together, may_follow, struct_of, struct_defined, structure_sites, place_of, struct_number, appended, with_struct}
-use Rattle.ec_statements_valid.specs.Laws.{KeptObjectsHaveTypes}
-use Rattle.ec_file_scope.specs.FileScope.{after_structure}
-use Rattle.ec_file_scope.specs.States.{Setting, State, known_of}
+use Rattle.ec_check_names.specs.Counts.{is_function}
+use Rattle.ec_check_names.specs.Definitions.{Numbering}
+use Rattle.ec_check_names.specs.Specifiers.{specified, specs_rules, void_at}
+use Rattle.ec_check_names.specs.Structs.{struct_place}
+use Rattle.ec_check_names.specs.Tables.{with_name as with_tag}
+use Rattle.ec_check_operands.specs.Operands.{with_one, with_both}
+use Rattle.ec_check_expressions.specs.Known.{Known, is_sized}
+use Rattle.ec_check_expressions.specs.TypeNames.{meant_type}
+use Rattle.ec_check_expression_laws.specs.Laws.{AreUnbroken, DefinitionsKeepSuiting, KeptTypesAreSaid}
+use Rattle.ec_check_expression_laws.specs.Suits.{HasTypes}
+use Rattle.ec_check_initialisers.specs.Laws.{SizesAreValues}
+use Rattle.ec_check_initialisers.specs.Sites as i
+use Rattle.ec_check_declarations.specs.Declarators.{head_of, declared_size, declared_size_sites, object_declared, object_sites}
+use Rattle.ec_check_declarations.specs.ObjectTypes.{is_object_type}
+use Rattle.ec_check_declarations.specs.Sites.{Site, on, told}
+use Rattle.ec_check_declarations.specs.Structures.{MemberDeclared, member_rules, is_member, with_member, member_sites, with_more_members}
+use Rattle.ec_check_declarations.specs.Structures.{more_member_sites, with_declared, declared_sites, with_all_declared, all_declared_sites}
+use Rattle.ec_check_declarations.specs.Structures.{known_from, known_members, are_objects, size_together, is_over, is_within}
+use Rattle.ec_check_declarations.specs.Structures.{is_too_large_together, may_follow, struct_of, struct_defined, structure_sites, place_of}
+use Rattle.ec_check_declarations.specs.Structures.{struct_number, appended, with_struct}
+use Rattle.ec_check_declarations.proofs.Structs.{follows, place_below}
+use Rattle.ec_check_statements.specs.Laws.{KeptObjectsHaveTypes}
+use Rattle.ec_check_statements.proofs.Unbroken.{AreKept, kept_of, told_of, kept_initialiser}
+use Rattle.ec_check_file_scope.specs.FileScope.{after_structure}
+use Rattle.ec_check_file_scope.specs.States.{Setting, State, known_of}
+use Rattle.ec_check_file_scope.proofs.Sound.{all_below, no_fewer_by}
 use Rattle.ec_check.specs.Agreement.{IsDefined, AreFilled, Agrees}
 use Rattle.ec_check.proofs.Grown.{Grows, defined_kept}
-use Rattle.ec_check.proofs.Kept.{AreKept, kept_of, told_of, kept_initialiser}
 use Rattle.ec_check.proofs.Lists.{if_true, one_longer, all_push, all_through}
 use Rattle.ec_check.proofs.Sizes.{IsPositive, unmisused, small_positive, plain_some, array_some, size_some}
-use Rattle.ec_check.proofs.Sound.{follows, place_below, more_sound, all_below, no_fewer}
+use Rattle.ec_check.proofs.Sound.{more_sound}
 
 -- ---- members
 
-behind_size : (k : Known) (c : Option t.Conditional) (at : ℕ) (rest : List Site) → AreKept (declared_size_sites k c None at rest) → AreKept rest
+behind_size : (k : Known) (c : Option t.Conditional) (at : ℕ) (rest : List Site)
+    → AreKept (declared_size_sites k c None at rest) → AreKept rest
 behind_size k None at rest u = u.1
 behind_size k (Some c) at rest u = (kept_initialiser (i.size_sites k c at []) rest u).1
 
@@ -45,7 +52,8 @@ both_of : {X : Type 0} → (P : X → Type 0) (o : Option X) → IsSome o → If
 both_of P None h k = absurd (false≢true h)
 both_of P (Some x) h k = k
 
-module _ (types : KeptObjectsHaveTypes) (said : KeptTypesAreSaid) (sizes : SizesAreValues) (k : Known) (h : HasTypes k) (filled : AreFilled k.structs) where
+module _ (types : KeptObjectsHaveTypes) (said : KeptTypesAreSaid) (sizes : SizesAreValues) (k : Known) (h : HasTypes k)
+    (filled : AreFilled k.structs) where
   abbrev IsMember : MemberDeclared → Type 0
   IsMember m = IsSomeAnd m.ty (IsPositive k.structs filled)
 
@@ -55,9 +63,11 @@ module _ (types : KeptObjectsHaveTypes) (said : KeptTypesAreSaid) (sizes : Sizes
 
   module _ (ss : t.Specs) (unbroken : AreUnbroken (specs_rules k.tags false ss [])) where
     sized : (stars : List t.Star) → void_at (specified k.tags ss).types ≡ None
-        → IsSomeAnd (meant_type (void_at (specified k.tags ss).types) (head_of (specified k.tags ss) stars).ty) (λ ty. is_sized (length k.structs) ty ≡ true)
+        → IsSomeAnd (meant_type (void_at (specified k.tags ss).types) (head_of (specified k.tags ss) stars).ty)
+        (λ ty. is_sized (length k.structs) ty ≡ true)
     sized stars none =
-        subst (λ (v : Option ℕ). IsSomeAnd (meant_type v (head_of (specified k.tags ss) stars).ty) (λ ty. is_sized (length k.structs) ty ≡ true)) (sym none)
+        subst (λ (v : Option ℕ).
+        IsSomeAnd (meant_type v (head_of (specified k.tags ss) stars).ty) (λ ty. is_sized (length k.structs) ty ≡ true)) (sym none)
         (said (length k.structs) k.tags h.tags false ss stars [] unbroken none)
 
     typed : (stars : List t.Star) (n : t.Identifier) (shape : t.Shape) (rest : List Site) → is_function shape ≡ false
@@ -69,7 +79,8 @@ module _ (types : KeptObjectsHaveTypes) (said : KeptTypesAreSaid) (sizes : Sizes
         (types k false false ss [] stars n shape None rest h unbroken object
         (told_of (object_sites k false (specified k.tags ss) (t.declarator stars n shape) None rest) u)).0 p
 
-    member_there : (d : t.Declarator) (ms : List MemberDeclared) (rest : List Site) → AreMembers ms → AreKept (member_sites k (specified k.tags ss) d ms rest)
+    member_there : (d : t.Declarator) (ms : List MemberDeclared) (rest : List Site) → AreMembers ms
+        → AreKept (member_sites k (specified k.tags ss) d ms rest)
         → AreMembers (with_member k (specified k.tags ss) d ms) × (1 ≤ length (with_member k (specified k.tags ss) d ms)) × AreKept rest
     member_there (t.declarator stars (t.identifier at name) t.object) ms rest all u =
         let d = t.declarator stars (t.identifier at name) t.object in
@@ -90,17 +101,20 @@ module _ (types : KeptObjectsHaveTypes) (said : KeptTypesAreSaid) (sizes : Sizes
         let v = behind_size k size l.index _ u in
         let none = unmisused s (void_at s.types) stars v.0 in
         let ty = with_both base (declared_size k size None) (λ ty n. Some (array ty n)) in
-        let p = small_positive k.structs filled ty (array_some k.structs filled base (declared_size k size None) (sized stars none) (size_some sizes k size)) in
+        let p = small_positive k.structs filled ty
+        (array_some k.structs filled base (declared_size k size None) (sized stars none) (size_some sizes k size)) in
         let m : MemberDeclared = record { name = name; ty = o.ty } in
         let long = one_longer ms m in
         let tail = on (member_rules (is_member name ms) o.konst false at.index) ∷ rest in
         (all_push IsMember ms m all (typed stars (t.identifier at name) (t.array l size e) tail refl u p), omega (arith, long), v.1.1.1)
     member_there (t.declarator stars (t.identifier at name) (t.function_shape l ps e)) ms rest all u =
-        absurd (true≢false (or_parts (object_declared k (specified k.tags ss) (t.declarator stars (t.identifier at name) (t.function_shape l ps e)) None).konst true u.1.1.0.1.0).1)
+        absurd (true≢false (or_parts (object_declared k (specified k.tags ss)
+        (t.declarator stars (t.identifier at name) (t.function_shape l ps e)) None).konst true u.1.1.0.1.0).1)
 
     more_there : (ds : List t.NextDeclarator) (ms : List MemberDeclared) (rest : List Site) → AreMembers ms → 1 ≤ length ms
         → AreKept (more_member_sites k (specified k.tags ss) ds ms rest)
-        → AreMembers (with_more_members k (specified k.tags ss) ds ms) × (1 ≤ length (with_more_members k (specified k.tags ss) ds ms)) × AreKept rest
+        → AreMembers (with_more_members k (specified k.tags ss) ds ms)
+        × (1 ≤ length (with_more_members k (specified k.tags ss) ds ms)) × AreKept rest
     more_there [] ms rest all long u = (all, long, u)
     more_there (t.next_declarator comma d ∷ ds) ms rest all long u =
         let a = member_there d ms _ all u in
@@ -112,7 +126,8 @@ module _ (types : KeptObjectsHaveTypes) (said : KeptTypesAreSaid) (sizes : Sizes
       let a = member_there ss u.0 first ms _ all u.1 in
       more_there ss u.0 more (with_member k (specified k.tags ss) first ms) rest a.0 a.1 a.2
 
-  all_there : (xs : List t.Member) (ms : List MemberDeclared) (rest : List Site) → AreMembers ms → 1 ≤ length ms → AreKept (all_declared_sites k xs ms rest)
+  all_there : (xs : List t.Member) (ms : List MemberDeclared) (rest : List Site) → AreMembers ms → 1 ≤ length ms
+      → AreKept (all_declared_sites k xs ms rest)
       → AreMembers (with_all_declared k xs ms) × (1 ≤ length (with_all_declared k xs ms)) × AreKept rest
   all_there [] ms rest all long u = (all, long, u)
   all_there (x ∷ xs) ms rest all long u =
@@ -128,7 +143,8 @@ module _ (types : KeptObjectsHaveTypes) (said : KeptTypesAreSaid) (sizes : Sizes
   abbrev AreKnown : ℕ → List PlainMember → Type 0
   AreKnown n ms = AllByRecursion IsKnownMember ms × (length ms ≡ n)
 
-  with_some : (o : Option PlainType) (f : PlainType → Option (List PlainMember)) (Q : List PlainMember → Type 0) → IsSomeAnd o (IsPositive k.structs filled)
+  with_some : (o : Option PlainType) (f : PlainType → Option (List PlainMember)) (Q : List PlainMember → Type 0)
+      → IsSomeAnd o (IsPositive k.structs filled)
       → ((ty : PlainType) → IsPositive k.structs filled ty → IsSomeAnd (f ty) Q) → IsSomeAnd (with_one o f) Q
   with_some None f Q p g = absurd p
   with_some (Some ty) f Q p g = g ty p
@@ -148,7 +164,8 @@ module _ (types : KeptObjectsHaveTypes) (said : KeptTypesAreSaid) (sizes : Sizes
 
   objects_told : (ms : List PlainMember) → AllByRecursion IsKnownMember ms → are_objects (length k.structs) ms ≡ true
   objects_told [] all = refl
-  objects_told (m ∷ ms) all = and_from (is_object_type (length k.structs) m.ty) (are_objects (length k.structs) ms) all.0.0 (objects_told ms all.1)
+  objects_told (m ∷ ms) all =
+      and_from (is_object_type (length k.structs) m.ty) (are_objects (length k.structs) ms) all.0.0 (objects_told ms all.1)
 
   abbrev size_of : List PlainMember → ℕ
   size_of ms = (members_layout (struct_layouts k.structs) ms).size
@@ -175,7 +192,8 @@ module _ (types : KeptObjectsHaveTypes) (said : KeptTypesAreSaid) (sizes : Sizes
   room_told : (n : ℕ) → n < 4_294_967_296 → nat_lt n 4_294_967_296 ≡ true
   room_told n q = grind (arith, nat_tests, q)
 
-  struct_there : (tag : List ℕ) (n : ℕ) (o : Option (List PlainMember)) → 1 ≤ n → IsSomeAnd o (AreKnown n) → is_too_large_together k.structs o ≡ false
+  struct_there : (tag : List ℕ) (n : ℕ) (o : Option (List PlainMember)) → 1 ≤ n → IsSomeAnd o (AreKnown n)
+      → is_too_large_together k.structs o ≡ false
       → length k.structs < 4_294_967_296 → IsSomeAnd (struct_of k.structs tag o) IsNext
   struct_there tag n None long known q room = absurd known
   struct_there tag n (Some ms) long known q room =
@@ -185,7 +203,8 @@ module _ (types : KeptObjectsHaveTypes) (said : KeptTypesAreSaid) (sizes : Sizes
       let size = within.1 in
       let follows : may_follow k.structs ms ≡ true =
       and_from (is_within (size_together k.structs ms) && nat_le (length ms) 65_536) (nat_lt (length k.structs) 4_294_967_296)
-      (and_from (is_within (size_together k.structs ms)) (nat_le (length ms) 65_536) within.0 (few_told (length ms) (omega (arith, least, size))))
+      (and_from (is_within (size_together k.structs ms)) (nat_le (length ms) 65_536) within.0
+      (few_told (length ms) (omega (arith, least, size))))
       (room_told (length k.structs) room) in
       if_true (λ o. IsSomeAnd o IsNext) (may_follow k.structs ms) (Some (record { tag = tag; members = ms })) None follows
       (follows, omega (arith, least, count, long))
@@ -200,14 +219,16 @@ module _ (types : KeptObjectsHaveTypes) (said : KeptTypesAreSaid) (sizes : Sizes
 
 -- ---- the state
 
-module _ (law : StructsAreLaidOut) (ends : DefinitionsKeepSuiting) (r : Setting) (n : Numbering) (s : State) (h : Agrees r.ports r.unit n s) (tag : List ℕ) where
+module _ (law : StructsAreLaidOut) (ends : DefinitionsKeepSuiting) (r : Setting) (n : Numbering) (s : State) (h : Agrees r.ports r.unit n s)
+    (tag : List ℕ) where
   abbrev IsNextStruct : PlainStruct → Type 0
   IsNextStruct x = (may_follow s.structs x.members ≡ true) × (1 ≤ (members_layout (struct_layouts s.structs) x.members).size)
 
   abbrev after_struct : Option PlainStruct → State
   after_struct d = record s { tags = with_tag tag (struct_number d s.structs) s.tags; structs = with_struct d s.structs }
 
-  number_below : (x : PlainStruct) (place : Option ℕ) → struct_place x s.structs ≡ place → place_of place (length s.structs) < length (appended place x s.structs)
+  number_below : (x : PlainStruct) (place : Option ℕ) → struct_place x s.structs ≡ place
+      → place_of place (length s.structs) < length (appended place x s.structs)
   number_below x None e = let long = one_longer s.structs x in omega (arith, long)
   number_below x (Some i) e = let low = place_below 0 x s.structs i e in omega (arith, low)
 
@@ -242,7 +263,7 @@ module _ (law : StructsAreLaidOut) (ends : DefinitionsKeepSuiting) (r : Setting)
       let v = after_struct (Some x) in
       let place = struct_place x s.structs in
       let sound = more_sound law place s.structs x (h.sound.structs, h.sound.counted) next.0 in
-      let more = no_fewer place x s.structs in (
+      let more = no_fewer_by place x s.structs in (
         record {
           whole = h.whole;
           objects = h.objects;
@@ -252,7 +273,8 @@ module _ (law : StructsAreLaidOut) (ends : DefinitionsKeepSuiting) (r : Setting)
           made = all_through (IsDefined s) (IsDefined v) n.definitions (λ d. defined_kept s v (same_grows (Some x)) d) h.made;
           clear = h.clear;
           units = h.units;
-          types = (ends (known_of r.ports s) tag (Some (place_of place (length s.structs))) (appended place x s.structs)).types h.types more (number_below x place refl);
+          types = (ends (known_of r.ports s) tag (Some (place_of place (length s.structs))) (appended place x s.structs)).types h.types more
+              (number_below x place refl);
           closed = h.closed;
           sound = record {
             structs = sound.0;
@@ -271,7 +293,8 @@ pub record StructGoesOn (r : Setting) (n : Numbering) (before after : State) (re
   pub kept : AreKept rest
 
 pub structure_goes_on : KeptObjectsHaveTypes → KeptTypesAreSaid → SizesAreValues → StructsAreLaidOut → DefinitionsKeepSuiting
-    → (r : Setting) (x : t.Structure) (n : Numbering) (s : State) (rest : List Site) → Agrees r.ports r.unit n s → length s.structs < 4_294_967_296
+    → (r : Setting) (x : t.Structure) (n : Numbering) (s : State) (rest : List Site) → Agrees r.ports r.unit n s
+    → length s.structs < 4_294_967_296
     → told None (structure_sites (known_of r.ports s) x rest) ≡ None → StructGoesOn r n s (after_structure r x s) rest
 structure_goes_on types said sizes law ends r (t.structure w (t.identifier at tag) l first more e semicolon) n s rest h room q =
     let k = known_of r.ports s in

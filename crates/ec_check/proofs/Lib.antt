@@ -1,41 +1,40 @@
 -- Lemmas about units, about what definitions of functions leave, that the walk agrees with what is numbered, and that a
 -- checked program is valid.
-pub mod After
-pub mod Outside
-pub mod Lists
-pub mod Kept
-pub mod KeptStatics
-pub mod Links
-pub mod Grown
-pub mod Sound
-pub mod Standing
-pub mod KeptObjects
-pub mod KeptRegisters
-pub mod Sizes
-pub mod KeptStructs
-pub mod KeptFunctions
-pub mod Made
-pub mod KeptDefinitions
-pub mod Counted
-pub mod Agreeing
-pub mod Programs
-pub mod Tokens
-pub mod Spelled
-pub mod Below
-pub mod Firsts
-pub mod SameKinds
-pub mod Meanings
-pub mod NamesAreOf
-pub mod Steps
-pub mod Placed
-pub mod PlacedSteps
-pub mod Growing
-pub mod Suiting
-pub mod InitialValues
-pub mod FileObjects
-pub mod Inner
-pub mod FunctionsAreValid
-pub mod ValidSteps
-pub mod Walked
-pub mod ProgramsAreValid
-pub mod ValidAnswers
+mod After
+mod Outside
+mod Lists
+mod KeptStatics
+mod Links
+mod Grown
+mod Sound
+mod Standing
+mod KeptObjects
+mod KeptRegisters
+mod Sizes
+mod KeptStructs
+mod KeptFunctions
+mod Made
+mod KeptDefinitions
+mod Counted
+mod Agreeing
+mod Programs
+mod Tokens
+mod Spelled
+mod Below
+mod Firsts
+mod SameKinds
+mod Meanings
+mod NamesAreOf
+mod Steps
+mod Placed
+mod PlacedSteps
+mod Growing
+mod Suiting
+mod InitialValues
+mod FileObjects
+mod Inner
+mod FunctionsAreValid
+mod ValidSteps
+mod Walked
+mod ProgramsAreValid
+mod ValidAnswers

@@ -1,5 +1,6 @@
 -- Names that were declared or defined, where one more is: linkages, registers and conflicts.
-use Rattle.std.proofs.Common.{◌≡◌, ◌∙◌, ◌<◌, ◌≤◌, ◌+◌, ◌++◌, ◌==◌, ℕ, zero, suc, Bool, true, false, not, ◌&&◌, ◌||◌, cond, List, [], ◌∷◌, length, get_or, refl, sym, ap, subst, inl, inr, arith}
+use Rattle.std.proofs.Common.{◌≡◌, ◌∙◌, ◌<◌, ◌≤◌, ◌+◌, ◌++◌, ◌==◌, ℕ, zero, suc, Bool, true, false, not, ◌&&◌, ◌||◌, List, [], ◌∷◌, length}
+use Rattle.std.proofs.Common.{get_or, refl, sym, ap, subst, inl, inr, arith}
 use Rattle.std.specs.Prelude.{◌⊎◌, if◌then◌else◌, Option, Some, None, AllPairs}
 use Rattle.std.specs.List.{AllByRecursion}
 use Rattle.std.specs.Str.{bytes_eq}
@@ -7,16 +8,16 @@ use Rattle.std.proofs.lemmas.Bool.{both_ways, and_parts, and_cases, and_from, or
 use Rattle.std.proofs.lemmas.Bool.Decides.{nat_tests}
 use Rattle.std.proofs.lemmas.List.Quantifiers.{all_pairs_push}
 use Rattle.std.proofs.lemmas.Slice.Eq.{bytes_eq-Decides}
-use Rattle.ec_names.specs.declared.linkage.Linkage.{Linkage}
-use Rattle.ec_names.specs.declared.linkage.Linkage.TheVariants.{Internal, External}
-use Rattle.ec_names.specs.declared.specifiers.StorageWord.{StorageWord}
-use Rattle.ec_names.specs.declared.specifiers.StorageWord.TheVariants.{Extern, Static}
-use Rattle.ec_names.specs.Definitions as numbering
-use Rattle.ec_names.specs.Definitions.{Definition, same_linkage}
-use Rattle.ec_names.specs.Linkage.{linkage_of}
-use Rattle.ec_names.specs.Tables.{Table, at_name, with_name}
-use Rattle.ec_file_scope.specs.FileNames.{FileName, is_register, other_kind, both_define, meet, is_external, conflict, conflicts, link_from, earlier_link, is_registered}
-use Rattle.ec_check.proofs.Lists.{if_both}
+use Rattle.ec_check_names.specs.declared.linkage.Linkage.{Linkage}
+use Rattle.ec_check_names.specs.declared.linkage.Linkage.TheVariants.{Internal, External}
+use Rattle.ec_check_names.specs.declared.specifiers.StorageWord.{StorageWord}
+use Rattle.ec_check_names.specs.declared.specifiers.StorageWord.TheVariants.{Extern, Static}
+use Rattle.ec_check_names.specs.Definitions as numbering
+use Rattle.ec_check_names.specs.Definitions.{Definition, same_linkage}
+use Rattle.ec_check_names.specs.Linkage.{linkage_of}
+use Rattle.ec_check_file_scope.specs.FileNames.{FileName, is_register, other_kind, both_define, meet, is_external, conflict, conflicts}
+use Rattle.ec_check_file_scope.specs.FileNames.{link_from, earlier_link, is_registered}
+use Rattle.ec_check_statements.proofs.Choices.{if_both}
 
 -- ---- names
 
@@ -40,38 +41,6 @@ turned a b = by (bytes_eq a b) (bytes_eq b a) refl refl
 
 pub same_number : (n : ℕ) → (n == n) ≡ true
 same_number n = grind (arith, nat_tests)
-
--- ---- tables
-
-same_test : (m n k : List ℕ) → bytes_eq n k ≡ true → bytes_eq m n ≡ bytes_eq m k
-same_test m n k e = ap (bytes_eq m) (same_name n k e)
-
-one_alone : (m n k : List ℕ) → bytes_eq n k ≡ false → bytes_eq m n ≡ true → bytes_eq m k ≡ false
-one_alone m n k e h = other (bytes_eq m k) refl
-  where
-    other : (b : Bool) → bytes_eq m k ≡ b → b ≡ false
-    other false q = refl
-    other true q = absurd (both_ways (bytes_eq n k) e ((bytes_eq-Decides n k).1 (sym (same_name m n h) ∙ same_name m k q)))
-
-twice : {Y : Type 0} (b : Bool) (y x : Option Y) (rest : Option Y) → cond b y rest ≡ cond b y (cond b x rest)
-twice true y x rest = refl
-twice false y x rest = refl
-
-apart : {Y : Type 0} (p q : Bool) (y x rest : Option Y) → (p ≡ true → q ≡ false) → cond q x (cond p y rest) ≡ cond p y (cond q x rest)
-apart false q y x rest h = refl
-apart true false y x rest h = refl
-apart true true y x rest h = absurd (both_ways true (h refl) refl)
-
-one_put : {Y : Type 0} (m n k : List ℕ) (y x : Y) (rest : Table Y) → at_name m (with_name n y rest) ≡ cond (bytes_eq m n) (Some y) (at_name m rest)
-    → (b : Bool) → bytes_eq n k ≡ b
-    → at_name m (cond b ((k, y) ∷ rest) ((k, x) ∷ with_name n y rest)) ≡ cond (bytes_eq m n) (Some y) (cond (bytes_eq m k) (Some x) (at_name m rest))
-one_put m n k y x rest h true e = rw (same_test m n k e) (twice (bytes_eq m k) (Some y) (Some x) (at_name m rest))
-one_put m n k y x rest h false e = rw h (apart (bytes_eq m n) (bytes_eq m k) (Some y) (Some x) (at_name m rest) (one_alone m n k e))
-
--- what a name stands for in a table with one more
-pub put_found : {Y : Type 0} (m n : List ℕ) (y : Y) (t : Table Y) → at_name m (with_name n y t) ≡ cond (bytes_eq m n) (Some y) (at_name m t)
-put_found m n y [] = refl
-put_found m n y (e ∷ es) = one_put m n e.0 y e.1 es (put_found m n y es) (bytes_eq n e.0) refl
 
 -- ---- earlier linkages
 
@@ -130,10 +99,12 @@ pub numbered_behind : (n : List ℕ) (ds : List Definition) (d : Definition)
 numbered_behind n [] d = or_nothing (numbering.is_register d.kind && bytes_eq d.name n)
 numbered_behind n (e ∷ es) d =
     ap (λ (b : Bool). numbering.is_register e.kind && bytes_eq e.name n || b) (numbered_behind n es d)
-    ∙ or_grouped (numbering.is_register e.kind && bytes_eq e.name n) (numbering.is_registered n es) (numbering.is_register d.kind && bytes_eq d.name n)
+    ∙ or_grouped (numbering.is_register e.kind && bytes_eq e.name n) (numbering.is_registered n es)
+    (numbering.is_register d.kind && bytes_eq d.name n)
 
 -- what is no register adds none
-pub as_registered : (n : List ℕ) (ds : List FileName) (d : FileName) → is_register d.kind ≡ false → is_registered n (ds ++ d ∷ []) ≡ is_registered n ds
+pub as_registered : (n : List ℕ) (ds : List FileName) (d : FileName) → is_register d.kind ≡ false
+    → is_registered n (ds ++ d ∷ []) ≡ is_registered n ds
 as_registered n ds d e =
     registered_behind n ds d
     ∙ ap (λ (b : Bool). is_registered n ds || b && bytes_eq d.name n) e
@@ -152,13 +123,15 @@ or_again true t h = refl
 or_again false true h = sym (h refl)
 or_again false false h = refl
 
-pub registered_again : (n m : List ℕ) (ds : List FileName) → is_registered m ds ≡ true → (is_registered n ds || bytes_eq m n) ≡ is_registered n ds
+pub registered_again : (n m : List ℕ) (ds : List FileName) → is_registered m ds ≡ true
+    → (is_registered n ds || bytes_eq m n) ≡ is_registered n ds
 registered_again n m ds h =
     or_again (is_registered n ds) (bytes_eq m n) (λ e. subst (λ (k : List ℕ). is_registered k ds ≡ true) (same_name m n e) h)
 
 -- ---- conflicts
 
-conflict_at : (d : FileName) (es : List FileName) → conflicts d es ≡ false → (k : ℕ) (x : FileName) → k < length es → conflict d (get_or es k x) ≡ false
+conflict_at : (d : FileName) (es : List FileName) → conflicts d es ≡ false → (k : ℕ) (x : FileName) → k < length es
+    → conflict d (get_or es k x) ≡ false
 conflict_at d [] h k x below = absurd (omega arith)
 conflict_at d (e ∷ es) h zero x below = (or_parts (conflict d e) (conflicts d es) h).0
 conflict_at d (e ∷ es) h (suc k) x below = conflict_at d es (or_parts (conflict d e) (conflicts d es) h).1 k x (omega arith)
@@ -188,20 +161,23 @@ same_link : (b : Bool) (l : Linkage) → b ≡ true → (b && not (same_linkage 
 same_link true l e h = external_from l h
 same_link false l e h = absurd (false≢true e)
 
-free_by : (d e : FileName) → d.linkage ≡ External → conflict d e ≡ false → (bytes_eq e.name d.name && e.unit == d.unit) ≡ true → Some e.linkage ≡ Some External
+free_by : (d e : FileName) → d.linkage ≡ External → conflict d e ≡ false → (bytes_eq e.name d.name && e.unit == d.unit) ≡ true
+    → Some e.linkage ≡ Some External
 free_by d e l h q =
     let n = and_parts (bytes_eq e.name d.name) (e.unit == d.unit) q in
     let m = met d e n.0 n.1 in
     let rest = other_kind d.kind e.kind || d.unit == e.unit && not (same_linkage d.linkage e.linkage) || both_define d e in
     by (and_cases (meet d e) rest h) m
   where
-    by : (meet d e ≡ false) ⊎ ((other_kind d.kind e.kind || d.unit == e.unit && not (same_linkage d.linkage e.linkage) || both_define d e) ≡ false)
+    by : (meet d e ≡ false)
+        ⊎ ((other_kind d.kind e.kind || d.unit == e.unit && not (same_linkage d.linkage e.linkage) || both_define d e) ≡ false)
         → (meet d e ≡ true) × ((d.unit == e.unit) ≡ true) → Some e.linkage ≡ Some External
     by (inl k) m = absurd (both_ways (meet d e) k m.0)
     by (inr k) m =
         let p = or_parts (other_kind d.kind e.kind || d.unit == e.unit && not (same_linkage d.linkage e.linkage)) (both_define d e) k in
         let q = or_parts (other_kind d.kind e.kind) (d.unit == e.unit && not (same_linkage d.linkage e.linkage)) p.0 in
-        same_link (d.unit == e.unit) e.linkage m.1 (subst (λ (x : Linkage). (d.unit == e.unit && not (same_linkage x e.linkage)) ≡ false) l q.1)
+        same_link (d.unit == e.unit) e.linkage m.1
+        (subst (λ (x : Linkage). (d.unit == e.unit && not (same_linkage x e.linkage)) ≡ false) l q.1)
 
 free_link : (d : FileName) → d.linkage ≡ External → (found : Option Linkage) → IsFree found → (es : List FileName) → conflicts d es ≡ false
     → IsFree (link_from found d.name d.unit es)
@@ -211,7 +187,8 @@ free_link d l found f (e ∷ es) c =
     free_link d l (if bytes_eq e.name d.name && e.unit == d.unit then Some e.linkage else found)
     (if_both IsFree (bytes_eq e.name d.name && e.unit == d.unit) (Some e.linkage) found (λ q. inr (free_by d e l p.0 q)) (λ q. f)) es p.1
 
-as_external : (storage : Option StorageWord) (callable : Bool) → linkage_of storage callable None ≡ linkage_of storage callable (Some External)
+as_external : (storage : Option StorageWord) (callable : Bool)
+    → linkage_of storage callable None ≡ linkage_of storage callable (Some External)
 as_external (Some Static) callable = refl
 as_external (Some Extern) callable = refl
 as_external None true = refl
@@ -223,13 +200,15 @@ as_free storage callable o (inl e) = ap (linkage_of storage callable) e ∙ as_e
 as_free storage callable o (inr e) = ap (linkage_of storage callable) e
 
 -- the next declaration of a name has the linkage that it has without a register that conflicts with no declaration
-pub register_link : (storage : Option StorageWord) (callable : Bool) (n : List ℕ) (ds : List FileName) (d : FileName) → d.linkage ≡ External → conflicts d ds ≡ false
+pub register_link : (storage : Option StorageWord) (callable : Bool) (n : List ℕ) (ds : List FileName) (d : FileName) → d.linkage ≡ External
+    → conflicts d ds ≡ false
     → linkage_of storage callable (earlier_link n d.unit ds) ≡ linkage_of storage callable (earlier_link n d.unit (ds ++ d ∷ []))
 register_link storage callable n ds d l c =
     by (bytes_eq n d.name) refl ∙ sym (ap (linkage_of storage callable) (linkage_behind n d.unit ds d refl))
   where
     by : (b : Bool) → bytes_eq n d.name ≡ b
-        → linkage_of storage callable (earlier_link n d.unit ds) ≡ linkage_of storage callable (if b then Some d.linkage else earlier_link n d.unit ds)
+        → linkage_of storage callable (earlier_link n d.unit ds)
+        ≡ linkage_of storage callable (if b then Some d.linkage else earlier_link n d.unit ds)
     by true e =
         ap (λ (k : List ℕ). linkage_of storage callable (earlier_link k d.unit ds)) (same_name n d.name e)
         ∙ as_free storage callable (earlier_link d.name d.unit ds) (free_link d l None (inl refl) ds c)

@@ -1,13 +1,9 @@
 -- Lists with one element more, and choices.
-use Rattle.std.proofs.Common.{◌≡◌, ◌<◌, ◌+◌, ◌++◌, ℕ, zero, suc, Bool, true, false, List, [], ◌∷◌, length, refl, arith}
-use Rattle.std.specs.Prelude.{if◌then◌else◌, Some, None, slice_get}
+use Rattle.std.proofs.Common.{◌≡◌, ◌+◌, ◌++◌, ℕ, zero, suc, Bool, true, false, List, [], ◌∷◌, length, refl, arith}
+use Rattle.std.specs.Prelude.{if◌then◌else◌, Some, slice_get}
 use Rattle.std.specs.List.{AllByRecursion}
 use Rattle.std.proofs.lemmas.Bool.{both_ways}
-
--- what holds of both cases of a choice holds of it
-pub if_both : {A : Type 0} → (P : A → Type 0) (b : Bool) (x y : A) → (b ≡ true → P x) → (b ≡ false → P y) → P (if b then x else y)
-if_both P true x y h k = h refl
-if_both P false x y h k = k refl
+use Rattle.ec_check_statements.proofs.Choices.{if_both}
 
 pub if_true : {A : Type 0} → (P : A → Type 0) (b : Bool) (x y : A) → b ≡ true → P x → P (if b then x else y)
 if_true P b x y e h = if_both P b x y (λ q. h) (λ q. absurd (both_ways b q e))
@@ -37,9 +33,3 @@ stands_before (o ∷ os) more (suc i) x e = stands_before os more i x e
 pub stands_last : {X : Type 0} → (xs : List X) (x : X) → slice_get (xs ++ x ∷ []) (length xs) ≡ Some x
 stands_last [] x = refl
 stands_last (o ∷ os) x = stands_last os x
-
--- there is something at a place in a list
-pub stands_at : {X : Type 0} → (xs : List X) (i : ℕ) → i < length xs → slice_get xs i ≡ None → ⊥
-stands_at [] i below e = omega (arith, below)
-stands_at (x ∷ xs) zero below e = cc
-stands_at (x ∷ xs) (suc i) below e = stands_at xs i (omega (arith, below)) e

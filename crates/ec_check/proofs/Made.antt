@@ -1,24 +1,25 @@
 -- The parameters of a function that is defined, and the function itself.
-use Rattle.std.proofs.Common.{◌≡◌, ◌∙◌, ◌<◌, ◌≤◌, ◌+◌, ◌++◌, ℕ, Bool, true, List, [], ◌∷◌, length, map, append_assoc, refl, sym, ap, subst, arith}
+use Rattle.std.proofs.Common.{◌≡◌, ◌∙◌, ◌<◌, ◌≤◌, ◌+◌, ◌++◌, ℕ, Bool, true, List, [], ◌∷◌, length, map, append_assoc, refl, sym, ap, subst}
+use Rattle.std.proofs.Common.{arith}
 use Rattle.std.specs.Prelude.{nat_lt, Option, Some, None, IsSome, option_map, slice_get}
 use Rattle.std.specs.List.{AllByRecursion}
 use Rattle.std.proofs.lemmas.Bool.{false≢true}
 use Rattle.std.proofs.lemmas.Bool.Decides.{nat_tests}
 use Rattle.ec_iohw.specs.declared.table.IoTable.{IoTable}
 use Rattle.ec_core.specs.Plain.{PlainType, PlainObject, param, PlainFunction}
-use Rattle.ec_names.specs.declared.linkage.Linkage.{Linkage}
-use Rattle.ec_names.specs.declared.numbering.Defined.TheVariants.{Function as FunctionKind}
-use Rattle.ec_names.specs.Definitions as numbering
-use Rattle.ec_names.specs.Definitions.{Definition, Numbering}
-use Rattle.ec_names.specs.Names.{Names}
-use Rattle.ec_expr_valid.specs.Suits.{HasTypes}
-use Rattle.ec_initial.specs.Places.{IsNamedObject}
-use Rattle.ec_declare.specs.Functions.{types_from}
-use Rattle.ec_declare.specs.Params.{ParamDeclared}
-use Rattle.ec_declare.specs.Scopes.{Context, Scope, known_in, inner_object, with_inner}
-use Rattle.ec_statements_valid.specs.Laws.{InnerObjectsKeepSuiting}
-use Rattle.ec_statements_valid.specs.Objects.{AreFirst}
-use Rattle.ec_file_scope.specs.States.{State, context_of, with_scope, broken}
+use Rattle.ec_check_names.specs.declared.linkage.Linkage.{Linkage}
+use Rattle.ec_check_names.specs.declared.numbering.Defined.TheVariants.{Function as FunctionKind}
+use Rattle.ec_check_names.specs.Definitions as numbering
+use Rattle.ec_check_names.specs.Definitions.{Definition, Numbering}
+use Rattle.ec_check_names.specs.Names.{Names}
+use Rattle.ec_check_expression_laws.specs.Suits.{HasTypes}
+use Rattle.ec_check_initialisers.specs.Places.{IsNamedObject}
+use Rattle.ec_check_declarations.specs.Functions.{types_from}
+use Rattle.ec_check_declarations.specs.Params.{ParamDeclared}
+use Rattle.ec_check_declarations.specs.Scopes.{Context, Scope, known_in, inner_object, with_inner}
+use Rattle.ec_check_statements.specs.Laws.{InnerObjectsKeepSuiting}
+use Rattle.ec_check_statements.specs.Objects.{AreFirst}
+use Rattle.ec_check_file_scope.specs.States.{State, context_of, with_scope, broken}
 use Rattle.ec_check.specs.Agreement.{IsDefined, Agrees}
 use Rattle.ec_check.specs.Definitions.{with_params, next_numbers, param_numbers, has_number, with_function}
 use Rattle.ec_check.proofs.Grown.{Grows, defined_kept}
@@ -48,8 +49,10 @@ module _ (inner : InnerObjectsKeepSuiting) (c : Context) (unit function : ℕ) w
   abbrev MakesMore : List ParamDeclared → Type 0
   MakesMore ps = (v : Scope) → HasTypes (known_in c v.names) → length v.objects + length ps ≤ 65_536 → AreMade c unit function ps v
 
-  one_made : (name : List ℕ) (ty : PlainType) (konst : Bool) (ps : List ParamDeclared) (s : Scope) → MakesMore ps → HasTypes (known_in c s.names)
-      → length s.objects + (length ps + 1) ≤ 65_536 → AreMade c unit function (record { name = Some name; ty = Some ty; konst = konst } ∷ ps) s
+  one_made : (name : List ℕ) (ty : PlainType) (konst : Bool) (ps : List ParamDeclared) (s : Scope) → MakesMore ps
+      → HasTypes (known_in c s.names)
+      → length s.objects + (length ps + 1) ≤ 65_536
+      → AreMade c unit function (record { name = Some name; ty = Some ty; konst = konst } ∷ ps) s
   one_made name ty konst ps s more h room =
       let v = with_inner unit name (Some ty) konst (param function) s in
       let g = inner c unit name (Some ty) konst (param function) s in
@@ -77,8 +80,10 @@ module _ (inner : InnerObjectsKeepSuiting) (c : Context) (unit function : ℕ) w
         stay = λ i x e. m.stay i x (g.stay i x e);
       }
 
-  either_made : (name : Option (List ℕ)) (ty : Option PlainType) (konst : Bool) (ps : List ParamDeclared) (s : Scope) → IsSome name → IsSome ty → MakesMore ps
-      → HasTypes (known_in c s.names) → length s.objects + (length ps + 1) ≤ 65_536 → AreMade c unit function (record { name = name; ty = ty; konst = konst } ∷ ps) s
+  either_made : (name : Option (List ℕ)) (ty : Option PlainType) (konst : Bool) (ps : List ParamDeclared) (s : Scope) → IsSome name
+      → IsSome ty → MakesMore ps
+      → HasTypes (known_in c s.names) → length s.objects + (length ps + 1) ≤ 65_536
+      → AreMade c unit function (record { name = name; ty = ty; konst = konst } ∷ ps) s
   either_made None ty konst ps s p q more h room = absurd (false≢true p)
   either_made (Some name) None konst ps s p q more h room = absurd (false≢true q)
   either_made (Some name) (Some ty) konst ps s p q more h room = one_made name ty konst ps s more h room
@@ -119,7 +124,8 @@ body_grows s w k g b = record {
   functions = λ i f e. stands_before s.functions (g ∷ []) i f e;
 }
 
-pub function_agrees : (io : IoTable) (unit : ℕ) (n : Numbering) (s : State) → Agrees io unit n s → (w : Scope) (k : ℕ) → IsBehind s.scope w k → n.functions < 65_536
+pub function_agrees : (io : IoTable) (unit : ℕ) (n : Numbering) (s : State) → Agrees io unit n s → (w : Scope) (k : ℕ)
+    → IsBehind s.scope w k → n.functions < 65_536
     → (g : PlainFunction) (name : List ℕ) (l : Linkage)
     → IsDefined (with_body g w s) (record { name = name; unit = unit; linkage = l; kind = FunctionKind; number = n.functions })
     → Agrees io unit (numbering.with_function unit name l k n) (with_function (Some g) (with_scope w s))
@@ -145,7 +151,8 @@ function_agrees io unit n s h w k b room g name l defined =
       sound = record {
         structs = h.sound.structs;
         counted = h.sound.counted;
-        named = subst (λ (names : Names). AllByRecursion (λ e. IsNamedObject (length s.structs) e.1) names.outside) (sym b.names) h.sound.named;
+        named =
+            subst (λ (names : Names). AllByRecursion (λ e. IsNamedObject (length s.structs) e.1) names.outside) (sym b.names) h.sound.named;
       };
       filled = h.filled;
     })

@@ -7,16 +7,16 @@ use Rattle.ec_core.specs.Layout.{size_of_type}
 use Rattle.ec_core.specs.Plain.{PlainType, struct, PlainStruct, PlainObject, PlainProgram}
 use Rattle.ec_core.specs.Typing.{int}
 use Rattle.ec_core.specs.Valid.{IsScalarOrVoid, IsStatic}
-use Rattle.ec_names.specs.Definitions.{Definition, number_of}
-use Rattle.ec_names.specs.Names as names
-use Rattle.ec_names.specs.Names.{Named}
-use Rattle.ec_names.specs.Spellings.{is_main}
-use Rattle.ec_rules.specs.Constraints.{IsArithmetic}
-use Rattle.ec_rules.specs.Validity.{IsUsable, IsPlaceType}
-use Rattle.ec_expr_valid.specs.Suits.{IsPassed}
-use Rattle.ec_file_scope.specs.FileNames.{FileKind, an_object, a_register, a_function, FileName}
-use Rattle.ec_file_scope.specs.FileObjects.{home_of}
-use Rattle.ec_file_scope.specs.States.{State}
+use Rattle.ec_check_names.specs.Definitions.{Definition, number_of}
+use Rattle.ec_check_names.specs.Names as names
+use Rattle.ec_check_names.specs.Names.{Named}
+use Rattle.ec_check_names.specs.Spellings.{is_main}
+use Rattle.ec_check_forms.specs.Constraints.{IsArithmetic}
+use Rattle.ec_check_forms.specs.Validity.{IsUsable, IsPlaceType}
+use Rattle.ec_check_expression_laws.specs.Suits.{IsPassed}
+use Rattle.ec_check_file_scope.specs.FileNames.{FileKind, an_object, a_register, a_function, FileName}
+use Rattle.ec_check_file_scope.specs.FileObjects.{home_of}
+use Rattle.ec_check_file_scope.specs.States.{State}
 
 -- ---- meanings
 

@@ -8,17 +8,17 @@ use Rattle.ec_space.specs.declared.space.SpaceId.{SpaceId}
 use Rattle.ec_space.specs.declared.space.SpaceId.TheVariants.{Generic}
 use Rattle.ec_core.specs.Plain.{PlainType, PlainObject, PlainFunction, PlainProgram, PlainStorage, static, local, param, register}
 use Rattle.ec_core.specs.Valid.{IsStatic, IsNamedIn, IsAddressable}
-use Rattle.ec_names.specs.declared.linkage.Linkage.{Linkage}
-use Rattle.ec_names.specs.declared.linkage.Linkage.TheVariants.{External}
-use Rattle.ec_names.specs.declared.numbering.Defined.{Defined}
-use Rattle.ec_names.specs.declared.numbering.Defined.TheVariants.{Object, Register, Function as FunctionKind}
-use Rattle.ec_names.specs.Definitions.{Definition, same_linkage, is_internal, same_kind, defines, number_of}
-use Rattle.ec_names.specs.Names as names
-use Rattle.ec_expr_valid.specs.Suits.{IsObjectKnown, IsFunctionKnown, IsOf}
-use Rattle.ec_file_scope.specs.FileNames.{FileKind, an_object, a_register, a_function, FileName, conflict}
-use Rattle.ec_file_scope.specs.States.{State}
+use Rattle.ec_check_names.specs.declared.linkage.Linkage.{Linkage}
+use Rattle.ec_check_names.specs.declared.linkage.Linkage.TheVariants.{External}
+use Rattle.ec_check_names.specs.declared.numbering.Defined.{Defined}
+use Rattle.ec_check_names.specs.declared.numbering.Defined.TheVariants.{Object, Register, Function as FunctionKind}
+use Rattle.ec_check_names.specs.Definitions.{Definition, same_linkage, is_internal, same_kind, defines, number_of}
+use Rattle.ec_check_names.specs.Names as names
+use Rattle.ec_check_expression_laws.specs.Suits.{IsObjectKnown, IsFunctionKnown, IsOf}
+use Rattle.ec_check_file_scope.specs.FileNames.{FileKind, an_object, a_register, a_function, FileName, conflict}
+use Rattle.ec_check_file_scope.specs.States.{State}
+use Rattle.ec_check_statements.proofs.Choices.{if_both}
 use Rattle.ec_check.specs.Agreement.{IsFileObject, IsFileRegister, IsFileFunction, IsMade, IsDefinedBy, IsDefined}
-use Rattle.ec_check.proofs.Lists.{if_both}
 use Rattle.ec_check.proofs.SameKinds.{four_true, AgreeKinds, kind_itself, kinds_back, linkages_agree, unit_agrees, do_meet, clear_of}
 use Rattle.ec_check.proofs.Firsts.{pair_of}
 use Rattle.ec_check.proofs.Meanings.{meaning_by, meaning, IsMeant, IsStaticObject, IsStaticName, IsPlacedKind, program_in}
@@ -36,10 +36,12 @@ module _ (s : State) where
     pub kind : same_kind callable d.kind ≡ true
     pub defined : IsDefined s d
 
-  is_numbered : (n : List ℕ) (unit : ℕ) (linkage : Linkage) (callable : Bool) (d : Definition) → defines n unit linkage callable d ≡ true → IsDefined s d
+  is_numbered : (n : List ℕ) (unit : ℕ) (linkage : Linkage) (callable : Bool) (d : Definition)
+      → defines n unit linkage callable d ≡ true → IsDefined s d
       → IsNumbered n unit linkage callable d.number
   is_numbered n unit linkage callable d e h =
-      let f = four_true (bytes_eq d.name n) (same_linkage d.linkage linkage) (same_kind callable d.kind) (not (is_internal linkage) || d.unit == unit) e in
+      let f = four_true (bytes_eq d.name n) (same_linkage d.linkage linkage) (same_kind callable d.kind)
+      (not (is_internal linkage) || d.unit == unit) e in
       record {
         d = d;
         numbered = refl;
@@ -54,21 +56,25 @@ module _ (s : State) where
       → (m : ℕ) → number_of n unit linkage callable ds ≡ Some m → IsNumbered n unit linkage callable m
   find_number n unit linkage callable [] all m e = cc
   find_number n unit linkage callable (d ∷ ds) all m e =
-      if_both (λ o. o ≡ Some m → IsNumbered n unit linkage callable m) (defines n unit linkage callable d) (Some d.number) (number_of n unit linkage callable ds)
-      (λ q z. let same : d.number ≡ m = cc in subst (IsNumbered n unit linkage callable) same (is_numbered n unit linkage callable d q all.0))
+      if_both (λ o. o ≡ Some m → IsNumbered n unit linkage callable m) (defines n unit linkage callable d) (Some d.number)
+      (number_of n unit linkage callable ds)
+      (λ q z. let same : d.number ≡ m = cc in
+      subst (IsNumbered n unit linkage callable) same (is_numbered n unit linkage callable d q all.0))
       (λ q z. find_number n unit linkage callable ds all.1 m z) e
 
 -- ---- what it made
 
 module _ (s : State) (d : Definition) where
-  object_by : (a b : PlainType) (c e : Bool) (f g : SpaceId) → a ≡ b → c ≡ e → f ≡ g → IsSomeAnd (slice_get s.scope.objects d.number) (IsFileObject d a c f)
+  object_by : (a b : PlainType) (c e : Bool) (f g : SpaceId) → a ≡ b → c ≡ e → f ≡ g
+      → IsSomeAnd (slice_get s.scope.objects d.number) (IsFileObject d a c f)
       → IsSomeAnd (slice_get s.scope.objects d.number) (IsFileObject d b e g)
   object_by a b c e f g p q r h =
       subst (λ z. IsSomeAnd (slice_get s.scope.objects d.number) (IsFileObject d b e z)) r
       (subst (λ z. IsSomeAnd (slice_get s.scope.objects d.number) (IsFileObject d b z f)) q
       (subst (λ z. IsSomeAnd (slice_get s.scope.objects d.number) (IsFileObject d z c f)) p h))
 
-  made_object : (k : Defined) (x : FileKind) (ty : PlainType) (konst : Bool) (space : SpaceId) → AgreeKinds x (an_object (Some ty) konst space)
+  made_object : (k : Defined) (x : FileKind) (ty : PlainType) (konst : Bool) (space : SpaceId)
+      → AgreeKinds x (an_object (Some ty) konst space)
       → IsMade s d k x → IsSomeAnd (slice_get s.scope.objects d.number) (IsFileObject d ty konst space)
   made_object Object (an_object (Some b) c r) ty konst space a m = object_by b ty c konst r space a.0 a.1 a.2 m
   made_object Object (an_object None c r) ty konst space a m = absurd m
@@ -82,7 +88,8 @@ module _ (s : State) (d : Definition) where
   made_object FunctionKind (a_function b q) ty konst space a m = absurd a
 
   -- in a register, which is known
-  register_by : (first : ℕ) (a b : PlainType) (c e : Bool) → a ≡ b → c ≡ e → IsSomeAnd (slice_get s.scope.objects d.number) (IsFileRegister d first a c)
+  register_by : (first : ℕ) (a b : PlainType) (c e : Bool) → a ≡ b → c ≡ e
+      → IsSomeAnd (slice_get s.scope.objects d.number) (IsFileRegister d first a c)
       → IsSomeAnd (slice_get s.scope.objects d.number) (IsFileRegister d first b e)
   register_by first a b c e p q h =
       subst (λ z. IsSomeAnd (slice_get s.scope.objects d.number) (IsFileRegister d first b z)) q
@@ -91,7 +98,8 @@ module _ (s : State) (d : Definition) where
   abbrev InRegister : PlainType → Bool → Type 0
   InRegister ty konst = (first : ℕ) × IsSomeAnd (slice_get s.scope.objects d.number) (IsFileRegister d first ty konst)
 
-  made_register : (k : Defined) (x : FileKind) (first : Option ℕ) (ty : PlainType) (konst : Bool) → AgreeKinds x (a_register first (Some ty) konst)
+  made_register : (k : Defined) (x : FileKind) (first : Option ℕ) (ty : PlainType) (konst : Bool)
+      → AgreeKinds x (a_register first (Some ty) konst)
       → IsMade s d k x → InRegister ty konst
   made_register Object (an_object b c r) first ty konst a m = absurd a
   made_register Object (a_register q b c) first ty konst a m = absurd m
@@ -105,13 +113,15 @@ module _ (s : State) (d : Definition) where
   made_register FunctionKind (a_register q b c) first ty konst a m = absurd m
   made_register FunctionKind (a_function b q) first ty konst a m = absurd a
 
-  function_by : (a b : PlainType) (p q : List PlainType) → a ≡ b → p ≡ q → IsSomeAnd (slice_get s.functions d.number) (IsFileFunction s.scope.objects d a p)
+  function_by : (a b : PlainType) (p q : List PlainType) → a ≡ b → p ≡ q
+      → IsSomeAnd (slice_get s.functions d.number) (IsFileFunction s.scope.objects d a p)
       → IsSomeAnd (slice_get s.functions d.number) (IsFileFunction s.scope.objects d b q)
   function_by a b p q e f h =
       subst (λ z. IsSomeAnd (slice_get s.functions d.number) (IsFileFunction s.scope.objects d b z)) f
       (subst (λ z. IsSomeAnd (slice_get s.functions d.number) (IsFileFunction s.scope.objects d z p)) e h)
 
-  made_function : (k : Defined) (x : FileKind) (returns : PlainType) (params : List PlainType) → AgreeKinds x (a_function (Some returns) (Some params))
+  made_function : (k : Defined) (x : FileKind) (returns : PlainType) (params : List PlainType)
+      → AgreeKinds x (a_function (Some returns) (Some params))
       → IsMade s d k x → IsSomeAnd (slice_get s.functions d.number) (IsFileFunction s.scope.objects d returns params)
   made_function Object (an_object b c r) returns params a m = absurd a
   made_function Object (a_register q b c) returns params a m = absurd a
@@ -127,7 +137,8 @@ module _ (s : State) (d : Definition) where
 
 -- ---- names
 
-module _ (s : State) (main : ℕ) (ds : List Definition) (made : AllByRecursion (IsDefined s) ds) (clear : AllPairs (λ e d. conflict d e ≡ false) s.declared) where
+module _ (s : State) (main : ℕ) (ds : List Definition) (made : AllByRecursion (IsDefined s) ds)
+    (clear : AllPairs (λ e d. conflict d e ≡ false) s.declared) where
   abbrev p : PlainProgram
   p = program_in s main
 
@@ -152,7 +163,8 @@ module _ (s : State) (main : ℕ) (ds : List Definition) (made : AllByRecursion 
     pub agrees : AgreeKinds kind e.kind
     pub stands : IsMade s d d.kind kind
 
-  definition_of : (e : FileName) → Contains s.declared e → (callable : Bool) (m : ℕ) → number_of e.name e.unit e.linkage callable ds ≡ Some m
+  definition_of : (e : FileName) → Contains s.declared e → (callable : Bool) (m : ℕ)
+      → number_of e.name e.unit e.linkage callable ds ≡ Some m
       → IsDefinition e callable m
   definition_of e h callable m q =
       let f = find_number s e.name e.unit e.linkage callable ds made m q in
@@ -161,10 +173,12 @@ module _ (s : State) (main : ℕ) (ds : List Definition) (made : AllByRecursion 
         d = f.d;
         numbered = f.numbered;
         kind = f.defined.0.kind;
-        agrees = agree f.defined.0 e f.defined.1.0 h (g.name ∙ f.name) (g.linkage ∙ f.linked) (met (f.defined.0) f.d g e f.linked f.unit_is);
+        agrees =
+            agree f.defined.0 e f.defined.1.0 h (g.name ∙ f.name) (g.linkage ∙ f.linked) (met (f.defined.0) f.d g e f.linked f.unit_is);
         stands = g.made;
       } where
-        met : (a : FileName) (d : Definition) → IsDefinedBy s d a → (e : FileName) → d.linkage ≡ e.linkage → (e.linkage ≡ External) ⊎ (d.unit ≡ e.unit)
+        met : (a : FileName) (d : Definition) → IsDefinedBy s d a → (e : FileName) → d.linkage ≡ e.linkage
+            → (e.linkage ≡ External) ⊎ (d.unit ≡ e.unit)
             → (a.linkage ≡ External) ⊎ (a.unit ≡ e.unit)
         met a d g e l (inl x) = inl (g.linkage ∙ l ∙ x)
         met a d g e l (inr u) = inr (g.unit ∙ u)
@@ -186,7 +200,8 @@ module _ (s : State) (main : ℕ) (ds : List Definition) (made : AllByRecursion 
   static_addressed (param g) h = absurd h
   static_addressed (register r) h = absurd h
 
-  known_object : (f : ℕ) (d : Definition) (ty : PlainType) (konst : Bool) (space : SpaceId) → IsPlacedKind p.structs (an_object (Some ty) konst space)
+  known_object : (f : ℕ) (d : Definition) (ty : PlainType) (konst : Bool) (space : SpaceId)
+      → IsPlacedKind p.structs (an_object (Some ty) konst space)
       → (o : Option PlainObject) → IsSomeAnd o (IsFileObject d ty konst space)
       → IsSomeAnd o (IsObjectKnown p f ty konst space false) × IsSomeAnd o (IsStaticObject ty space)
   known_object f d ty konst space k None h = absurd h
@@ -202,7 +217,8 @@ module _ (s : State) (main : ℕ) (ds : List Definition) (made : AllByRecursion 
     record { typed = h.typed; spaced = h.spaced; home = h.home; storage = h.storage },
   )
 
-  known_register : (f : ℕ) (d : Definition) (first : Option ℕ) (ty : PlainType) (konst : Bool) → IsPlacedKind p.structs (a_register first (Some ty) konst)
+  known_register : (f : ℕ) (d : Definition) (first : Option ℕ) (ty : PlainType) (konst : Bool)
+      → IsPlacedKind p.structs (a_register first (Some ty) konst)
       → (r : ℕ) (o : Option PlainObject) → IsSomeAnd o (IsFileRegister d r ty konst) → IsSomeAnd o (IsObjectKnown p f ty konst Generic true)
   known_register f d first ty konst k r None h = absurd h
   known_register f d first ty konst k r (Some x) h =
@@ -215,35 +231,45 @@ module _ (s : State) (main : ℕ) (ds : List Definition) (made : AllByRecursion 
         addressed = inr (refl, k.arithmetic);
       }
 
-  known_function : (d : Definition) (returns : PlainType) (params : List PlainType) → IsPlacedKind p.structs (a_function (Some returns) (Some params))
-      → (o : Option PlainFunction) → IsSomeAnd o (IsFileFunction s.scope.objects d returns params) → IsSomeAnd o (IsFunctionKnown p returns params)
+  known_function : (d : Definition) (returns : PlainType) (params : List PlainType)
+      → IsPlacedKind p.structs (a_function (Some returns) (Some params))
+      → (o : Option PlainFunction) → IsSomeAnd o (IsFileFunction s.scope.objects d returns params)
+      → IsSomeAnd o (IsFunctionKnown p returns params)
   known_function d returns params k None h = absurd h
   known_function d returns params k (Some g) h =
       record { returned = h.returned; scalar = k.0.0; usable = k.0.1; typed = h.typed; passed = k.1 }
 
-  object_is : (f : ℕ) (e : FileName) (ty : PlainType) (konst : Bool) (space : SpaceId) → IsPlacedKind p.structs (an_object (Some ty) konst space)
-      → e.kind ≡ an_object (Some ty) konst space → (m : ℕ) → IsDefinition e false m → IsProgrammed f (names.an_object (Some m) (Some ty) konst space false)
+  object_is : (f : ℕ) (e : FileName) (ty : PlainType) (konst : Bool) (space : SpaceId)
+      → IsPlacedKind p.structs (an_object (Some ty) konst space)
+      → e.kind ≡ an_object (Some ty) konst space → (m : ℕ) → IsDefinition e false m
+      → IsProgrammed f (names.an_object (Some m) (Some ty) konst space false)
   object_is f e ty konst space k q m h =
       let made = made_object s h.d h.d.kind h.kind ty konst space (subst (AgreeKinds h.kind) q h.agrees) h.stands in
       subst (λ n. IsProgrammed f (names.an_object (Some n) (Some ty) konst space false)) h.numbered
       (known_object f h.d ty konst space k (slice_get s.scope.objects h.d.number) made)
 
-  register_is : (f : ℕ) (e : FileName) (first : Option ℕ) (ty : PlainType) (konst : Bool) → IsPlacedKind p.structs (a_register first (Some ty) konst)
-      → e.kind ≡ a_register first (Some ty) konst → (m : ℕ) → IsDefinition e false m → IsOf p f (names.an_object (Some m) (Some ty) konst Generic true)
+  register_is : (f : ℕ) (e : FileName) (first : Option ℕ) (ty : PlainType) (konst : Bool)
+      → IsPlacedKind p.structs (a_register first (Some ty) konst)
+      → e.kind ≡ a_register first (Some ty) konst → (m : ℕ) → IsDefinition e false m
+      → IsOf p f (names.an_object (Some m) (Some ty) konst Generic true)
   register_is f e first ty konst k q m h =
       let made = made_register s h.d h.d.kind h.kind first ty konst (subst (AgreeKinds h.kind) q h.agrees) h.stands in
       subst (λ n. IsOf p f (names.an_object (Some n) (Some ty) konst Generic true)) h.numbered
       (known_register f h.d first ty konst k made.0 (slice_get s.scope.objects h.d.number) made.1)
 
-  function_is : (f : ℕ) (e : FileName) (returns : PlainType) (params : List PlainType) → IsPlacedKind p.structs (a_function (Some returns) (Some params))
-      → e.kind ≡ a_function (Some returns) (Some params) → (m : ℕ) → IsDefinition e true m → IsOf p f (names.a_function (Some m) (Some returns) (Some params))
+  function_is : (f : ℕ) (e : FileName) (returns : PlainType) (params : List PlainType)
+      → IsPlacedKind p.structs (a_function (Some returns) (Some params))
+      → e.kind ≡ a_function (Some returns) (Some params) → (m : ℕ) → IsDefinition e true m
+      → IsOf p f (names.a_function (Some m) (Some returns) (Some params))
   function_is f e returns params k q m h =
       let made = made_function s h.d h.d.kind h.kind returns params (subst (AgreeKinds h.kind) q h.agrees) h.stands in
       subst (λ n. IsOf p f (names.a_function (Some n) (Some returns) (Some params))) h.numbered
       (known_function h.d returns params k (slice_get s.functions h.d.number) made)
 
-  by_kind : (f : ℕ) (e : FileName) → Contains s.declared e → (kind : FileKind) → e.kind ≡ kind → IsPlacedKind p.structs kind → (o g : Option ℕ)
-      → number_of e.name e.unit e.linkage false ds ≡ o → number_of e.name e.unit e.linkage true ds ≡ g → IsProgrammed f (meaning_by o g kind)
+  by_kind : (f : ℕ) (e : FileName) → Contains s.declared e → (kind : FileKind) → e.kind ≡ kind → IsPlacedKind p.structs kind
+      → (o g : Option ℕ)
+      → number_of e.name e.unit e.linkage false ds ≡ o → number_of e.name e.unit e.linkage true ds ≡ g
+      → IsProgrammed f (meaning_by o g kind)
   by_kind f e h (an_object None konst space) q k None g a b = (tt, tt)
   by_kind f e h (an_object None konst space) q k (Some m) g a b = (tt, tt)
   by_kind f e h (an_object (Some ty) konst space) q k None g a b = (tt, tt)
@@ -251,16 +277,23 @@ module _ (s : State) (main : ℕ) (ds : List Definition) (made : AllByRecursion 
   by_kind f e h (a_register first None konst) q k None g a b = (tt, tt)
   by_kind f e h (a_register first None konst) q k (Some m) g a b = (tt, tt)
   by_kind f e h (a_register first (Some ty) konst) q k None g a b = (tt, tt)
-  by_kind f e h (a_register first (Some ty) konst) q k (Some m) g a b = (register_is f e first ty konst k q m (definition_of e h false m a), tt)
+  by_kind f e h (a_register first (Some ty) konst) q k (Some m) g a b = (
+    register_is f e first ty konst k q m (definition_of e h false m a),
+    tt,
+  )
   by_kind f e h (a_function returns params) q k o None a b = (tt, tt)
   by_kind f e h (a_function None params) q k o (Some m) a b = (tt, tt)
   by_kind f e h (a_function (Some returns) None) q k o (Some m) a b = (tt, tt)
-  by_kind f e h (a_function (Some returns) (Some params)) q k o (Some m) a b = (function_is f e returns params k q m (definition_of e h true m b), tt)
+  by_kind f e h (a_function (Some returns) (Some params)) q k o (Some m) a b = (
+    function_is f e returns params k q m (definition_of e h true m b),
+    tt,
+  )
 
   pub name_is_of : (f : ℕ) (e : FileName) → Contains s.declared e → IsPlacedKind s.structs e.kind → IsProgrammed f (meaning ds e)
   name_is_of f e h k =
       by_kind f e h e.kind refl k (number_of e.name e.unit e.linkage false ds) (number_of e.name e.unit e.linkage true ds) refl refl
 
-  pub meant_is_of : (f : ℕ) (what : names.Named) → ((e : FileName) → Contains s.declared e → IsPlacedKind s.structs e.kind) → IsMeant ds s.declared what
+  pub meant_is_of : (f : ℕ) (what : names.Named) → ((e : FileName) → Contains s.declared e → IsPlacedKind s.structs e.kind)
+      → IsMeant ds s.declared what
       → IsProgrammed f what
   meant_is_of f what k h = subst (IsProgrammed f) h.1.1 (name_is_of f h.0 h.1.0 (k h.0 h.1.0))

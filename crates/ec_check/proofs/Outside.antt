@@ -2,13 +2,13 @@
 use Rattle.std.proofs.Common.{◌≡◌, ◌∙◌, ℕ, refl, ap, List, [], ◌∷◌}
 use Rattle.std.specs.Prelude.{Option, Some, None}
 use Rattle.ec_grammar.specs.Trees as t
-use Rattle.ec_names.specs.declared.specifiers.Specified.{Specified}
-use Rattle.ec_declare.specs.Params.{ParamDeclared}
-use Rattle.ec_declare.specs.Scopes.{Context, Scope}
-use Rattle.ec_statement_forms.specs.Around.{Around, looping, within, under}
-use Rattle.ec_statements.specs.Headings.{after_first, after_heading}
-use Rattle.ec_statements.specs.Locals.{local_declared, with_local, with_locals, after_declaration}
-use Rattle.ec_statements.specs.Statements.{after, after_item, after_items, after_body}
+use Rattle.ec_check_names.specs.declared.specifiers.Specified.{Specified}
+use Rattle.ec_check_declarations.specs.Params.{ParamDeclared}
+use Rattle.ec_check_declarations.specs.Scopes.{Context, Scope}
+use Rattle.ec_check_statements.specs.Around.{Around, looping, within, under}
+use Rattle.ec_check_statements.specs.Headings.{after_first, after_heading}
+use Rattle.ec_check_statements.specs.Locals.{local_declared, with_local, with_locals, after_declaration}
+use Rattle.ec_check_statements.specs.Statements.{after, after_item, after_items, after_body}
 use Rattle.ec_check.specs.Definitions.{with_param, with_params}
 
 -- the second scope has the names of file scope that the first one has
@@ -17,7 +17,8 @@ SameOutside s v = v.names.outside ≡ s.names.outside
 
 -- ---- parameters
 
-with_param_keeps : (unit function : ℕ) (n : Option (List ℕ)) (p : ParamDeclared) (s : Scope) → SameOutside s (with_param unit function n p s)
+with_param_keeps : (unit function : ℕ) (n : Option (List ℕ)) (p : ParamDeclared) (s : Scope)
+    → SameOutside s (with_param unit function n p s)
 with_param_keeps unit function None p s = refl
 with_param_keeps unit function (Some n) p s = refl
 
@@ -35,7 +36,8 @@ local_keeps : (c : Context) (r : Around) (said : Specified) (d : t.InitDeclarato
 unfolding with_local local_declared
 local_keeps c r said (t.init_declarator (t.declarator stars (t.identifier at n) shape) start) s = refl
 
-locals_keep : (c : Context) (r : Around) (said : Specified) (ds : List t.NextInitDeclarator) (s : Scope) → SameOutside s (with_locals c r said ds s)
+locals_keep : (c : Context) (r : Around) (said : Specified) (ds : List t.NextInitDeclarator) (s : Scope)
+    → SameOutside s (with_locals c r said ds s)
 locals_keep c r said [] s = refl
 locals_keep c r said (t.next_init_declarator comma d ∷ ds) s =
     locals_keep c r said ds (with_local c r said d s) ∙ local_keeps c r said d s

@@ -1,5 +1,6 @@
 -- What each step declares is of types that fit the structs of the whole program.
-use Rattle.std.proofs.Common.{◌≡◌, ◌+◌, ◌-◌, ◌≤◌, ◌++◌, ℕ, suc, Bool, true, false, ◌&&◌, List, [], ◌∷◌, length, length-append, map, refl, sym, ap, subst, arith}
+use Rattle.std.proofs.Common.{◌≡◌, ◌+◌, ◌-◌, ◌≤◌, ◌++◌, ℕ, suc, Bool, true, false, ◌&&◌, List, [], ◌∷◌, length, length-append, map, refl}
+use Rattle.std.proofs.Common.{sym, ap, subst, arith}
 use Rattle.std.specs.Prelude.{◌==◌, nat_le, nat_lt, Option, Some, None, IfSome, slice_get}
 use Rattle.std.specs.List.{AllByRecursion}
 use Rattle.std.proofs.lemmas.Bool.{not-false, false≢true, true≢false}
@@ -14,40 +15,42 @@ use Rattle.ec_core.specs.Plain.{PlainType, void, integer, fixed, pointer, array,
 use Rattle.ec_core.specs.Typing.{int}
 use Rattle.ec_core.specs.TypeLaws.{StructsAreLaidOut}
 use Rattle.ec_core.proofs.Sameness.{type_true}
-use Rattle.ec_names.specs.declared.specifiers.Specified.{Specified}
-use Rattle.ec_names.specs.declared.specifiers.StorageWord.{StorageWord}
-use Rattle.ec_names.specs.declared.tags.TagState.{TagState}
-use Rattle.ec_names.specs.declared.tags.TagState.TheVariants.{Undefined, Broken, Struct}
-use Rattle.ec_names.specs.Definitions.{Definition}
-use Rattle.ec_names.specs.Laws.{EqualStructsAreOne}
-use Rattle.ec_names.specs.Names.{Named}
-use Rattle.ec_names.specs.Specifiers.{specified, void_at}
-use Rattle.ec_names.specs.Spellings.{register_number}
-use Rattle.ec_names.specs.Structs.{same_struct, place_from, struct_place}
-use Rattle.ec_names.specs.Tables.{at_name}
-use Rattle.ec_names.specs.Tags.{Tags, state_by, tag_state}
-use Rattle.ec_operands.specs.Operands.{with_one}
-use Rattle.ec_operands.specs.Sorts.{is_arithmetic}
-use Rattle.ec_rules.specs.Constraints.{IsArithmetic}
-use Rattle.ec_rules.specs.Validity.{IsPlaceType}
-use Rattle.ec_expr.specs.TypeNames.{said_type, void_said, meant_type}
-use Rattle.ec_expr_valid.specs.Suits.{IsPassed}
-use Rattle.ec_declare.specs.Declarators.{head_of, object_declared}
-use Rattle.ec_declare.specs.Functions.{FunctionDeclared, function_declared, types_from, param_types}
-use Rattle.ec_declare.specs.ObjectTypes.{is_object_type, object_type}
-use Rattle.ec_declare.specs.Params.{ParamDeclared, next_declared, params_declared}
-use Rattle.ec_declare.specs.Registers.{passes_last, register_type, number_type, type_in, register_declared}
-use Rattle.ec_declare.specs.Structures.{MemberDeclared, with_member, with_more_members, with_declared, with_all_declared, known_from, may_follow, struct_of, members_of, struct_defined, place_of, struct_number, appended, with_struct}
-use Rattle.ec_statements_valid.specs.Objects.{IsDeclaredType}
-use Rattle.ec_statements_valid.proofs.DeclaredTypes.{object_placed}
-use Rattle.ec_file_scope.specs.FileFunctions.{is_other_result, has_params, is_static, is_other_main}
-use Rattle.ec_file_scope.specs.FileNames.{FileName}
-use Rattle.ec_file_scope.specs.FileScope.{after_structure}
-use Rattle.ec_file_scope.specs.States.{State, known_of, with_name}
-use Rattle.ec_file_scope.proofs.Sound.{named_with, named_at}
+use Rattle.ec_check_names.specs.declared.specifiers.Specified.{Specified}
+use Rattle.ec_check_names.specs.declared.specifiers.StorageWord.{StorageWord}
+use Rattle.ec_check_names.specs.declared.tags.TagState.{TagState}
+use Rattle.ec_check_names.specs.declared.tags.TagState.TheVariants.{Undefined, Broken, Struct}
+use Rattle.ec_check_names.specs.Definitions.{Definition}
+use Rattle.ec_check_names.specs.Laws.{EqualStructsAreOne}
+use Rattle.ec_check_names.specs.Names.{Named}
+use Rattle.ec_check_names.specs.Specifiers.{specified, void_at}
+use Rattle.ec_check_names.specs.Spellings.{register_number}
+use Rattle.ec_check_names.specs.Structs.{same_struct, place_from, struct_place}
+use Rattle.ec_check_names.specs.Tables.{at_name}
+use Rattle.ec_check_names.specs.Tags.{Tags, state_by, tag_state}
+use Rattle.ec_check_operands.specs.Operands.{with_one}
+use Rattle.ec_check_operands.specs.Sorts.{is_arithmetic}
+use Rattle.ec_check_forms.specs.Constraints.{IsArithmetic}
+use Rattle.ec_check_forms.specs.Validity.{IsPlaceType}
+use Rattle.ec_check_expressions.specs.TypeNames.{said_type, void_said, meant_type}
+use Rattle.ec_check_expression_laws.specs.Suits.{IsPassed}
+use Rattle.ec_check_declarations.specs.Declarators.{head_of, object_declared}
+use Rattle.ec_check_declarations.specs.Functions.{FunctionDeclared, function_declared, types_from, param_types}
+use Rattle.ec_check_declarations.specs.ObjectTypes.{is_object_type, object_type}
+use Rattle.ec_check_declarations.specs.Params.{ParamDeclared, next_declared, params_declared}
+use Rattle.ec_check_declarations.specs.Registers.{passes_last, register_type, number_type, type_in, register_declared}
+use Rattle.ec_check_declarations.specs.Structures.{MemberDeclared, with_member, with_more_members, with_declared, with_all_declared}
+use Rattle.ec_check_declarations.specs.Structures.{known_from, may_follow, struct_of, members_of, struct_defined, place_of, struct_number}
+use Rattle.ec_check_declarations.specs.Structures.{appended, with_struct}
+use Rattle.ec_check_statements.specs.Objects.{IsDeclaredType}
+use Rattle.ec_check_statements.proofs.Choices.{if_both}
+use Rattle.ec_check_statements.proofs.DeclaredTypes.{object_placed}
+use Rattle.ec_check_file_scope.specs.FileFunctions.{is_other_result, has_params, is_static, is_other_main}
+use Rattle.ec_check_file_scope.specs.FileNames.{FileName}
+use Rattle.ec_check_file_scope.specs.FileScope.{after_structure}
+use Rattle.ec_check_file_scope.specs.States.{State, known_of, with_name}
+use Rattle.ec_check_file_scope.proofs.Sound.{named_with, named_at}
 use Rattle.ec_check.specs.Units.{setting_of}
 use Rattle.ec_check.proofs.Below.{Laws}
-use Rattle.ec_check.proofs.Lists.{if_both}
 use Rattle.ec_check.proofs.Firsts.{First, all_and, all_weaker, at_end}
 use Rattle.ec_check.proofs.Meanings.{meaning, IsMeant, IsFileType, IsRegisterType, IsResult, IsPlacedName, ArePlaced}
 use Rattle.ec_check.proofs.SameKinds.{three_false, four_true}
@@ -90,12 +93,14 @@ number_sizes some all (struct i) h = absurd h
 not_past : (n m k : ℕ) → nat_lt 8 (n + m) ≡ false → m ≡ k → n + k ≤ 8
 not_past n m k e q = let h : n + m ≤ 8 = grind (arith, nat_tests, e) in omega arith
 
-within_by : (some all : List PlainStruct) (ty : PlainType) (first : Option ℕ) → IfSome first (λ n. 2 ≤ n) → passes_last some first (Some ty) ≡ false
+within_by : (some all : List PlainStruct) (ty : PlainType) (first : Option ℕ) → IfSome first (λ n. 2 ≤ n)
+    → passes_last some first (Some ty) ≡ false
     → size_of_type some ty ≡ size_of_type all ty → IfSome first (λ n. (2 ≤ n) × (n + size_of_type all ty ≤ 8))
 within_by some all ty None h e q = tt
 within_by some all ty (Some n) h e q = (h, not_past n (size_of_type some ty) (size_of_type all ty) e q)
 
-in_registers : (some all : List PlainStruct) (first : Option ℕ) (o : Option PlainType) → IfSome first (λ n. 2 ≤ n) → IfSome o (IsPlaceType all)
+in_registers : (some all : List PlainStruct) (first : Option ℕ) (o : Option PlainType) → IfSome first (λ n. 2 ≤ n)
+    → IfSome o (IsPlaceType all)
     → IfSome (type_in some first o) (IsRegisterType all first)
 in_registers some all first None h k =
     if_both (λ o. IfSome o (IsRegisterType all first)) (passes_last some first None) None (number_type None) (λ e. tt) (λ e. tt)
@@ -108,7 +113,8 @@ in_registers some all first (Some ty) h k =
       within = within_by some all ty first h e (number_sizes some all ty (is_number ty q));
     }) (λ q. tt))
 
-typed_object : (all : List PlainStruct) (n : ℕ) (o : Option PlainType) → IfSome o (IsPlaceType all) → IfSome (object_type n o) (IsPlaceType all)
+typed_object : (all : List PlainStruct) (n : ℕ) (o : Option PlainType) → IfSome o (IsPlaceType all)
+    → IfSome (object_type n o) (IsPlaceType all)
 typed_object all n None h = tt
 typed_object all n (Some ty) h = if_both (λ o. IfSome o (IsPlaceType all)) (is_object_type n ty) (Some ty) None (λ e. h) (λ e. tt)
 
@@ -144,7 +150,8 @@ module _ (all : List PlainStruct) where
   with_type ts None ps f h = tt
   with_type ts (Some ty) ps f h = f ty h
 
-  types_pass : (ts : List PlainType) (ps : List ParamDeclared) → AllByRecursion (IsPassed all) ts → AreParams ps → IfSome (types_from ts ps) (AllByRecursion (IsPassed all))
+  types_pass : (ts : List PlainType) (ps : List ParamDeclared) → AllByRecursion (IsPassed all) ts → AreParams ps
+      → IfSome (types_from ts ps) (AllByRecursion (IsPassed all))
   types_pass ts [] h k = h
   types_pass ts (p ∷ ps) h k =
       with_type ts p.ty ps (λ ty q. types_pass (ts ++ ty ∷ []) ps (all_and (IsPassed all) ts ty h (q.1, q.0.usable)) k.1) k.0
@@ -174,14 +181,17 @@ module _ (law : StructsAreLaidOut) (all : List PlainStruct) (whole : AreStructs 
   }
 
   module _ (one : EqualStructsAreOne) where
-    place_by : (i : ℕ) (x y : PlainStruct) (ys : List PlainStruct) (j : ℕ) → ((j : ℕ) → place_from (i + 1) x ys ≡ Some j → (k : ℕ) × ((j ≡ i + 1 + k) × (slice_get ys k ≡ Some x)))
+    place_by : (i : ℕ) (x y : PlainStruct) (ys : List PlainStruct) (j : ℕ)
+        → ((j : ℕ) → place_from (i + 1) x ys ≡ Some j → (k : ℕ) × ((j ≡ i + 1 + k) × (slice_get ys k ≡ Some x)))
         → place_from i x (y ∷ ys) ≡ Some j → (k : ℕ) × ((j ≡ i + k) × (slice_get (y ∷ ys) k ≡ Some x))
     place_by i x y ys j later e =
-        if_both (λ o. o ≡ Some j → (k : ℕ) × ((j ≡ i + k) × (slice_get (y ∷ ys) k ≡ Some x))) (same_struct x y) (Some i) (place_from (i + 1) x ys)
+        if_both (λ o. o ≡ Some j → (k : ℕ) × ((j ≡ i + k) × (slice_get (y ∷ ys) k ≡ Some x))) (same_struct x y) (Some i)
+        (place_from (i + 1) x ys)
         (λ q z. let same : i ≡ j = cc in (0, (omega (arith, same), ap Some (sym ((one x y).0 q)))))
         (λ q z. let h = later j z in (suc h.0, (omega (arith, h.1.0), h.1.1))) e
 
-    place_found : (i : ℕ) (x : PlainStruct) (ys : List PlainStruct) (j : ℕ) → place_from i x ys ≡ Some j → (k : ℕ) × ((j ≡ i + k) × (slice_get ys k ≡ Some x))
+    place_found : (i : ℕ) (x : PlainStruct) (ys : List PlainStruct) (j : ℕ) → place_from i x ys ≡ Some j
+        → (k : ℕ) × ((j ≡ i + k) × (slice_get ys k ≡ Some x))
     place_found i x [] j e = cc
     place_found i x (y ∷ ys) j e = place_by i x y ys j (λ j q. place_found (i + 1) x ys j q) e
 
@@ -190,29 +200,34 @@ module _ (law : StructsAreLaidOut) (all : List PlainStruct) (whole : AreStructs 
         let h = place_found 0 x structs i e in
         let same : h.0 ≡ i = omega (arith, h.1.0) in subst (λ n. slice_get structs n ≡ Some x) same h.1.1
 
-    number_by : (x : PlainStruct) (structs : List PlainStruct) → ArePlacedMembers x → (o : Option ℕ) → struct_place x structs ≡ o → First (appended o x structs) all
+    number_by : (x : PlainStruct) (structs : List PlainStruct) → ArePlacedMembers x → (o : Option ℕ) → struct_place x structs ≡ o
+        → First (appended o x structs) all
         → IsPlaceType all (struct (place_of o (length structs)))
     number_by x structs h None e first = struct_placed (length structs) x (first (length structs) x (at_end structs x)) h
     number_by x structs h (Some i) e first = struct_placed i x (first i x (stands x structs i e)) h
 
-    pub number_placed : (d : Option PlainStruct) (structs : List PlainStruct) → IfSome d ArePlacedMembers → First (with_struct d structs) all
+    pub number_placed : (d : Option PlainStruct) (structs : List PlainStruct) → IfSome d ArePlacedMembers
+        → First (with_struct d structs) all
         → IfSome (struct_number d structs) (λ i. IsPlaceType all (struct i))
     number_placed None structs h first = tt
     number_placed (Some x) structs h first = number_by x structs h (struct_place x structs) refl first
 
-    members_by : (o : Option ℕ) (x : PlainStruct) (structs : List PlainStruct) → AllPlaced x.members → AllByRecursion (λ x. AllPlaced x.members) structs
+    members_by : (o : Option ℕ) (x : PlainStruct) (structs : List PlainStruct) → AllPlaced x.members
+        → AllByRecursion (λ x. AllPlaced x.members) structs
         → AllByRecursion (λ x. AllPlaced x.members) (appended o x structs)
     members_by None x structs h k = all_and (λ x. AllPlaced x.members) structs x k h
     members_by (Some i) x structs h k = k
 
-    pub members_placed : (d : Option PlainStruct) (structs : List PlainStruct) → IfSome d ArePlacedMembers → AllByRecursion (λ x. AllPlaced x.members) structs
+    pub members_placed : (d : Option PlainStruct) (structs : List PlainStruct) → IfSome d ArePlacedMembers
+        → AllByRecursion (λ x. AllPlaced x.members) structs
         → AllByRecursion (λ x. AllPlaced x.members) (with_struct d structs)
     members_placed None structs h k = k
     members_placed (Some x) structs h k = members_by (struct_place x structs) x structs h.0 k
 
 -- ---- tags
 
-tag_by : (all : List PlainStruct) (o : Option (Option ℕ)) (i : ℕ) → IfSome o (λ o. IfSome o (λ i. IsPlaceType all (struct i))) → state_by o ≡ Struct i → IsPlaceType all (struct i)
+tag_by : (all : List PlainStruct) (o : Option (Option ℕ)) (i : ℕ) → IfSome o (λ o. IfSome o (λ i. IsPlaceType all (struct i)))
+    → state_by o ≡ Struct i → IsPlaceType all (struct i)
 tag_by all None i h e = absurd (let q : ◌≡◌ {A = TagState} Undefined (Struct i) = e in cc)
 tag_by all (Some None) i h e = absurd (let q : ◌≡◌ {A = TagState} Broken (Struct i) = e in cc)
 tag_by all (Some (Some j)) i h e = let same : j ≡ i = cc in subst (λ n. IsPlaceType all (struct n)) same h
@@ -223,25 +238,31 @@ tag_placed all tags h n i e = tag_by all (at_name n tags) i (named_at (λ o. IfS
 
 -- ---- names
 
-meant_later : (ds : List Definition) (declared : List FileName) (d : FileName) (what : Named) → IsMeant ds declared what → IsMeant ds (declared ++ d ∷ []) what
+meant_later : (ds : List Definition) (declared : List FileName) (d : FileName) (what : Named) → IsMeant ds declared what
+    → IsMeant ds (declared ++ d ∷ []) what
 meant_later ds declared d what h = (h.0, (Contains-append_left declared (d ∷ []) h.0 h.1.0, h.1.1))
 
-pub name_placed : (all : List PlainStruct) (ds : List Definition) (n : List ℕ) (what : Named) (d : FileName) (s : State) → meaning ds d ≡ what → IsPlacedName all d
+pub name_placed : (all : List PlainStruct) (ds : List Definition) (n : List ℕ) (what : Named) (d : FileName) (s : State)
+    → meaning ds d ≡ what → IsPlacedName all d
     → ArePlaced all ds s → ArePlaced all ds (with_name n what d s)
 name_placed all ds n what d s e k h = record {
   tags = h.tags;
   members = h.members;
   declared = all_and (IsPlacedName all) s.declared d h.declared k;
   names = named_with (IsMeant ds (s.declared ++ d ∷ [])) n what s.scope.names.outside (d, (Contains-push s.declared d, e))
-      (all_weaker (λ x. IsMeant ds s.declared x.1) (λ x. IsMeant ds (s.declared ++ d ∷ []) x.1) (λ x q. meant_later ds s.declared d x.1 q) s.scope.names.outside h.names);
+      (all_weaker (λ x. IsMeant ds s.declared x.1) (λ x. IsMeant ds (s.declared ++ d ∷ []) x.1)
+      (λ x q. meant_later ds s.declared d x.1 q) s.scope.names.outside h.names);
 }
 
 -- ---- what a state declares
 
-module _ (laws : Laws) (all : List PlainStruct) (whole : AreStructs all) (ds : List Definition) (io : IoTable) (s : State) (clear : IsClear io s) (same : First s.structs all)
+module _ (laws : Laws) (all : List PlainStruct) (whole : AreStructs all) (ds : List Definition) (io : IoTable) (s : State)
+    (clear : IsClear io s) (same : First s.structs all)
     (h : ArePlaced all ds s) where
-  pub object_fits : (ss : t.Specs) (d : t.Declarator) (start : Option t.Start) → IfSome (object_declared (known_of io s) (specified s.tags ss) d start).ty (IsDeclaredType s.structs all)
-  object_fits ss d start = object_placed laws.layouts s.structs all clear.sound.structs whole same laws.said laws.sizes s.tags (tag_placed all s.tags h.tags) (known_of io s) refl ss d start
+  pub object_fits : (ss : t.Specs) (d : t.Declarator) (start : Option t.Start)
+      → IfSome (object_declared (known_of io s) (specified s.tags ss) d start).ty (IsDeclaredType s.structs all)
+  object_fits ss d start = object_placed laws.layouts s.structs all clear.sound.structs whole same laws.said laws.sizes s.tags
+      (tag_placed all s.tags h.tags) (known_of io s) refl ss d start
 
   declared_place : (x : PlainType) → IsDeclaredType s.structs all x → IsPlaceType all x
   declared_place x q = q.placed
@@ -253,18 +274,22 @@ module _ (laws : Laws) (all : List PlainStruct) (whole : AreStructs all) (ds : L
       → IfSome (object_declared (known_of io s) z d start).ty (IsFileType all)
   object_file ss z e d start =
       subst (λ (z : Specified). IfSome (object_declared (known_of io s) z d start).ty (IsFileType all)) (sym e)
-      (some_weaker (IsDeclaredType s.structs all) (IsFileType all) declared_file (object_declared (known_of io s) (specified s.tags ss) d start).ty (object_fits ss d start))
+      (some_weaker (IsDeclaredType s.structs all) (IsFileType all) declared_file
+      (object_declared (known_of io s) (specified s.tags ss) d start).ty (object_fits ss d start))
 
   -- members
   abbrev AreMembers : List MemberDeclared → Type 0
   AreMembers ms = AllByRecursion (λ m. IfSome m.ty (IsPlaceType all)) ms
 
-  one_member : (ss : t.Specs) (d : t.Declarator) (ms : List MemberDeclared) → AreMembers ms → AreMembers (with_member (known_of io s) (specified s.tags ss) d ms)
+  one_member : (ss : t.Specs) (d : t.Declarator) (ms : List MemberDeclared) → AreMembers ms
+      → AreMembers (with_member (known_of io s) (specified s.tags ss) d ms)
   one_member ss (t.declarator stars (t.identifier at n) shape) ms k =
       all_and (λ m. IfSome m.ty (IsPlaceType all)) ms _ k
-      (some_weaker (IsDeclaredType s.structs all) (IsPlaceType all) declared_place _ (object_fits ss (t.declarator stars (t.identifier at n) shape) None))
+      (some_weaker (IsDeclaredType s.structs all) (IsPlaceType all) declared_place _
+      (object_fits ss (t.declarator stars (t.identifier at n) shape) None))
 
-  more_members : (ss : t.Specs) (ds : List t.NextDeclarator) (ms : List MemberDeclared) → AreMembers ms → AreMembers (with_more_members (known_of io s) (specified s.tags ss) ds ms)
+  more_members : (ss : t.Specs) (ds : List t.NextDeclarator) (ms : List MemberDeclared) → AreMembers ms
+      → AreMembers (with_more_members (known_of io s) (specified s.tags ss) ds ms)
   more_members ss [] ms k = k
   more_members ss (t.next_declarator comma d ∷ ds) ms k =
       more_members ss ds (with_member (known_of io s) (specified s.tags ss) d ms) (one_member ss d ms k)
@@ -281,7 +306,8 @@ module _ (laws : Laws) (all : List PlainStruct) (whole : AreStructs all) (ds : L
   longer [] m = omega arith
   longer (x ∷ ms) m = omega arith
 
-  some_more : (said : Specified) (ds : List t.NextDeclarator) (ms : List MemberDeclared) → 1 ≤ length ms → 1 ≤ length (with_more_members (known_of io s) said ds ms)
+  some_more : (said : Specified) (ds : List t.NextDeclarator) (ms : List MemberDeclared) → 1 ≤ length ms
+      → 1 ≤ length (with_more_members (known_of io s) said ds ms)
   some_more said [] ms k = k
   some_more said (t.next_declarator comma (t.declarator stars (t.identifier at n) shape) ∷ ds) ms k =
       some_more said ds _ (longer ms _)
@@ -297,12 +323,14 @@ module _ (laws : Laws) (all : List PlainStruct) (whole : AreStructs all) (ds : L
   abbrev AreKnown : List PlainMember → Type 0
   AreKnown ms = AllByRecursion (λ m. IsPlaceType all m.ty) ms × (1 ≤ length ms)
 
-  with_member_type : (o : Option PlainType) (f : PlainType → Option (List PlainMember)) → ((ty : PlainType) → IsPlaceType all ty → IfSome (f ty) AreKnown)
+  with_member_type : (o : Option PlainType) (f : PlainType → Option (List PlainMember))
+      → ((ty : PlainType) → IsPlaceType all ty → IfSome (f ty) AreKnown)
       → IfSome o (IsPlaceType all) → IfSome (with_one o f) AreKnown
   with_member_type None f g k = tt
   with_member_type (Some ty) f g k = g ty k
 
-  known_placed : (ks : List PlainMember) (ms : List MemberDeclared) → 1 ≤ length ks + length ms → AllByRecursion (λ m. IsPlaceType all m.ty) ks → AreMembers ms
+  known_placed : (ks : List PlainMember) (ms : List MemberDeclared) → 1 ≤ length ks + length ms
+      → AllByRecursion (λ m. IsPlaceType all m.ty) ks → AreMembers ms
       → IfSome (known_from ks ms) AreKnown
   known_placed ks [] n k q = (k, omega (arith, n))
   known_placed ks (m ∷ ms) n k q =
@@ -311,10 +339,12 @@ module _ (laws : Laws) (all : List PlainStruct) (whole : AreStructs all) (ds : L
       (let l = length-append ks (record { name = m.name; ty = ty } ∷ []) in omega (arith, l))
       (all_and (λ (m : PlainMember). IsPlaceType all m.ty) ks (record { name = m.name; ty = ty }) k placed) q.1) q.0
 
-  struct_by : (tag : List ℕ) (ms : Option (List PlainMember)) → IfSome ms AreKnown → IfSome (struct_of s.structs tag ms) (ArePlacedMembers laws.layouts all whole)
+  struct_by : (tag : List ℕ) (ms : Option (List PlainMember)) → IfSome ms AreKnown
+      → IfSome (struct_of s.structs tag ms) (ArePlacedMembers laws.layouts all whole)
   struct_by tag None k = tt
   struct_by tag (Some ms) k =
-      if_both (λ o. IfSome o (ArePlacedMembers laws.layouts all whole)) (may_follow s.structs ms) (Some (record { tag = tag; members = ms })) None (λ e. k) (λ e. tt)
+      if_both (λ o. IfSome o (ArePlacedMembers laws.layouts all whole)) (may_follow s.structs ms)
+      (Some (record { tag = tag; members = ms })) None (λ e. k) (λ e. tt)
 
   struct_fits : (d : t.Structure) → IfSome (struct_defined (known_of io s) d) (ArePlacedMembers laws.layouts all whole)
   struct_fits (t.structure w (t.identifier at tag) l first more e semicolon) =
@@ -352,11 +382,14 @@ module _ (laws : Laws) (all : List PlainStruct) (whole : AreStructs all) (ds : L
       ((laws.usable all s.tags (tag_placed all s.tags h.tags) (length s.structs)).results ss stars)
 
   -- registers
-  said_placed : (ss : t.Specs) → IfSome (meant_type (void_at (specified s.tags ss).types) (head_of (specified s.tags ss) []).ty) (IsPlaceType all)
+  said_placed : (ss : t.Specs)
+      → IfSome (meant_type (void_at (specified s.tags ss).types) (head_of (specified s.tags ss) []).ty) (IsPlaceType all)
   unfolding said_type void_said
   said_placed ss = laws.said all s.tags (tag_placed all s.tags h.tags) (t.type_name ss [])
 
-  pub register_fits : (d : t.RegisterObject) → IfSome (register_declared (known_of io s) d).ty (IsRegisterType all (register_declared (known_of io s) d).first)
+  pub register_fits : (d : t.RegisterObject)
+      → IfSome (register_declared (known_of io s) d).ty (IsRegisterType all (register_declared (known_of io s) d).first)
   register_fits (t.register_object w (t.identifier at register) ss name semicolon) =
       in_registers s.structs all (register_number register) (register_type (length s.structs) (specified s.tags ss)) (register_low register)
-      (typed_object all (length s.structs) (meant_type (void_at (specified s.tags ss).types) (head_of (specified s.tags ss) []).ty) (said_placed ss))
+      (typed_object all (length s.structs) (meant_type (void_at (specified s.tags ss).types) (head_of (specified s.tags ss) []).ty)
+      (said_placed ss))

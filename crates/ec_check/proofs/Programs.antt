@@ -3,24 +3,24 @@ use Rattle.std.proofs.Common.{◌≡◌, ◌≤◌, ◌+◌, ℕ, Bool, true, fa
 use Rattle.std.specs.Prelude.{is_none, nat_le, Option, Some, None}
 use Rattle.std.proofs.lemmas.Bool.{and_from, true≢false}
 use Rattle.std.proofs.lemmas.Bool.Decides.{nat_tests}
-use Rattle.ec_faults.specs.declared.Fault.{Fault}
-use Rattle.ec_faults.specs.Faults.{rule}
+use Rattle.ec_check_operands.specs.declared.faults.Fault.{Fault}
+use Rattle.ec_check_operands.specs.Faults.{rule}
 use Rattle.ec_grammar.specs.Trees as t
 use Rattle.ec_iohw.specs.declared.table.IoTable.{IoTable}
 use Rattle.ec_core.specs.Plain.{PlainStruct, PlainProgram}
 use Rattle.ec_core.specs.TypeLaws.{StructsAreLaidOut}
-use Rattle.ec_names.specs.Counts.{objects_in_unit, objects_declared, functions_in_unit, functions_defined}
-use Rattle.ec_names.specs.Definitions.{Definition, definitions, Numbering, nothing_numbered, unlinked, numbered_unit, numbered_from}
-use Rattle.ec_names.specs.Linkage.{linkage_of}
-use Rattle.ec_declare.specs.Sites.{on}
-use Rattle.ec_file_scope.specs.States.{State, nothing_declared, in_unit}
+use Rattle.ec_check_names.specs.Counts.{objects_in_unit, objects_declared, functions_in_unit, functions_defined}
+use Rattle.ec_check_names.specs.Definitions.{Definition, definitions, Numbering, nothing_numbered, unlinked, numbered_unit, numbered_from}
+use Rattle.ec_check_names.specs.Linkage.{linkage_of}
+use Rattle.ec_check_declarations.specs.Sites.{on}
+use Rattle.ec_check_file_scope.specs.States.{State, nothing_declared, in_unit}
+use Rattle.ec_check_statements.proofs.Unbroken.{kept_of}
 use Rattle.ec_check.specs.Agreement.{IsDefined, Agrees}
 use Rattle.ec_check.specs.Laws.{structs_in_unit, structs_defined, ProgramsExist}
 use Rattle.ec_check.specs.Units.{main_of, after_unit, unit_fault, setting_of, after_units, UnitFault, or_later, first_fault, program_by}
 use Rattle.ec_check.proofs.Agreeing.{Laws, same_grows, externals_go_on}
 use Rattle.ec_check.proofs.Counted.{Counts}
 use Rattle.ec_check.proofs.Grown.{defined_kept}
-use Rattle.ec_check.proofs.Kept.{kept_of}
 use Rattle.ec_check.proofs.Links.{no_link}
 use Rattle.ec_check.proofs.Lists.{if_true, all_through}
 
@@ -81,7 +81,8 @@ pub record UnitsAgree (io : IoTable) (unit : ℕ) (n m : Numbering) (s : State) 
 module _ (laws : Laws) (ds : List Definition) (io : IoTable) where
   -- a unit: what it leaves, and rule 18 at its end
   pub unit_agrees : (u : t.Tree) (unit : ℕ) (last : Bool) (n : Numbering) (s : State) → Agrees io unit (unlinked n) (in_unit s)
-      → n.objects + objects_in_unit u ≤ 65_536 → n.functions + functions_in_unit u ≤ 65_536 → length s.structs + structs_in_unit u ≤ 4_294_967_296
+      → n.objects + objects_in_unit u ≤ 65_536 → n.functions + functions_in_unit u ≤ 65_536
+      → length s.structs + structs_in_unit u ≤ 4_294_967_296
       → unit_fault (setting_of ds io unit) last u s ≡ None
       → Agrees io unit (numbered_unit unit u n) (after_unit (setting_of ds io unit) u s)
       × Counts n (numbered_unit unit u n) (objects_in_unit u) (functions_in_unit u)
@@ -97,7 +98,8 @@ module _ (laws : Laws) (ds : List Definition) (io : IoTable) where
   pub units_agree : (u : t.Tree) (us : List t.Tree) (unit : ℕ) (n : Numbering) (s : State) → Agrees io unit (unlinked n) (in_unit s)
       → n.objects + objects_declared (u ∷ us) ≤ 65_536 → n.functions + functions_defined (u ∷ us) ≤ 65_536
       → length s.structs + structs_defined (u ∷ us) ≤ 4_294_967_296 → first_fault ds io unit (u ∷ us) s ≡ None
-      → UnitsAgree io (unit + length us) n (numbered_from unit (u ∷ us) n) (after_units ds io unit (u ∷ us) s) (objects_declared (u ∷ us)) (functions_defined (u ∷ us))
+      → UnitsAgree io (unit + length us) n (numbered_from unit (u ∷ us) n) (after_units ds io unit (u ∷ us) s) (objects_declared (u ∷ us))
+      (functions_defined (u ∷ us))
       × (is_none (main_of ds) ≡ false)
   units_agree u [] unit n s h room few small q =
       let e = later_none unit (unit_fault (setting_of ds io unit) true u s) None q in
@@ -119,13 +121,15 @@ module _ (laws : Laws) (ds : List Definition) (io : IoTable) where
       let objects = a.1.objects in
       let functions = a.1.functions in
       let structs = a.2 in
-      let b = units_agree v us (unit + 1) m next (unit_begins io unit m next a.0) (omega (arith, room, objects)) (omega (arith, few, functions))
+      let b =
+      units_agree v us (unit + 1) m next (unit_begins io unit m next a.0) (omega (arith, room, objects)) (omega (arith, few, functions))
       (omega (arith, small, structs)) e.1 in
       let more = b.0.counts.objects in
       let others = b.0.counts.functions in
       let same : unit + 1 + length us ≡ unit + length (v ∷ us) = omega arith in (
         record {
-          agrees = subst (λ (k : ℕ). Agrees io k (numbered_from (unit + 1) (v ∷ us) m) (after_units ds io (unit + 1) (v ∷ us) next)) same b.0.agrees;
+          agrees = subst
+              (λ (k : ℕ). Agrees io k (numbered_from (unit + 1) (v ∷ us) m) (after_units ds io (unit + 1) (v ∷ us) next)) same b.0.agrees;
           counts = record { objects = omega (arith, objects, more); functions = omega (arith, functions, others) };
         },
         b.1,
@@ -155,7 +159,8 @@ programs_exist laws (u ∷ us) io some limits small q =
     let s = after_units ds io 0 (u ∷ us) nothing_declared in
     let objects = limits.objects in
     let functions = limits.functions in
-    let a = units_agree laws ds io u us 0 nothing_numbered nothing_declared (nothing_agrees laws.laid_out io) (omega (arith, objects)) (omega (arith, functions))
+    let a = units_agree laws ds io u us 0 nothing_numbered nothing_declared (nothing_agrees laws.laid_out io) (omega (arith, objects))
+    (omega (arith, functions))
     (omega (arith, small)) q in
     let h = a.0.agrees in
     let numbered = h.objects in

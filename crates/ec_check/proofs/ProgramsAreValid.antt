@@ -9,14 +9,15 @@ use Rattle.ec_iohw.specs.Valid.{ValidIo}
 use Rattle.ec_core.specs.Plain.{PlainObject, PlainFunction, PlainProgram}
 use Rattle.ec_core.specs.Typing.{int}
 use Rattle.ec_core.specs.Valid.{Valid}
-use Rattle.ec_names.specs.declared.linkage.Linkage.TheVariants.{External}
-use Rattle.ec_names.specs.declared.numbering.Defined.{Defined}
-use Rattle.ec_names.specs.declared.numbering.Defined.TheVariants.{Object, Register, Function as FunctionKind}
-use Rattle.ec_names.specs.Definitions.{Definition, definitions, Numbering, nothing_numbered, numbered_from, same_kind}
-use Rattle.ec_names.specs.Spellings.{is_main}
-use Rattle.ec_file_scope.specs.FileNames.{FileKind, an_object, a_register, a_function}
-use Rattle.ec_file_scope.specs.States.{State, nothing_declared}
-use Rattle.ec_recursion.specs.Recursion.{NothingRecurs}
+use Rattle.ec_check_names.specs.declared.linkage.Linkage.TheVariants.{External}
+use Rattle.ec_check_names.specs.declared.numbering.Defined.{Defined}
+use Rattle.ec_check_names.specs.declared.numbering.Defined.TheVariants.{Object, Register, Function as FunctionKind}
+use Rattle.ec_check_names.specs.Definitions.{Definition, definitions, Numbering, nothing_numbered, numbered_from, same_kind}
+use Rattle.ec_check_names.specs.Spellings.{is_main}
+use Rattle.ec_check_file_scope.specs.FileNames.{FileKind, an_object, a_register, a_function}
+use Rattle.ec_check_file_scope.specs.States.{State, nothing_declared}
+use Rattle.ec_check_recursion.specs.Recursion.{NothingRecurs}
+use Rattle.ec_check_statements.proofs.Choices.{if_both}
 use Rattle.ec_check.specs.Agreement.{IsFileFunction, IsMade, IsDefined, Agrees}
 use Rattle.ec_check.specs.Units.{main_of, after_units, program_by, program_of}
 use Rattle.ec_check.specs.Validity.{ProgramsAreValid}
@@ -24,7 +25,6 @@ use Rattle.ec_check.proofs.Agreeing as agreeing
 use Rattle.ec_check.proofs.Below.{Laws}
 use Rattle.ec_check.proofs.Firsts.{all_containing}
 use Rattle.ec_check.proofs.Growing.{AreValid}
-use Rattle.ec_check.proofs.Lists.{if_both}
 use Rattle.ec_check.proofs.Meanings.{IsMainKind, IsPlacedName, ArePlaced, program_in}
 use Rattle.ec_check.proofs.NamesAreOf.{find_number, meant_is_of}
 use Rattle.ec_check.proofs.PlacedSteps.{placed_all}
@@ -69,13 +69,15 @@ module _ (s : State) (d : Definition) where
   main_by FunctionKind (an_object ty konst space) e m h = absurd h
   main_by FunctionKind (a_register first ty konst) e m h = absurd h
   main_by FunctionKind (a_function (Some returns) (Some params)) e m h = by (slice_get s.functions d.number) m where
-    by : (o : Option PlainFunction) → IsSomeAnd o (IsFileFunction s.scope.objects d returns params) → IsSomeAnd o (λ g. (g.params ≡ []) × (g.returns ≡ int))
+    by : (o : Option PlainFunction) → IsSomeAnd o (IsFileFunction s.scope.objects d returns params)
+        → IsSomeAnd o (λ g. (g.params ≡ []) × (g.returns ≡ int))
     by None m = absurd m
     by (Some g) m = (no_params s.scope.objects g.params (m.typed ∙ ap (λ ts. map Some ts) h.1), m.returned ∙ h.0)
   main_by FunctionKind (a_function (Some returns) None) e m h = absurd m
   main_by FunctionKind (a_function None params) e m h = absurd m
 
-main_valid : (s : State) (ds : List Definition) → AllByRecursion (IsDefined s) ds → (m : ℕ) → main_of ds ≡ Some m → AllByRecursion (IsPlacedName s.structs) s.declared
+main_valid : (s : State) (ds : List Definition) → AllByRecursion (IsDefined s) ds → (m : ℕ) → main_of ds ≡ Some m
+    → AllByRecursion (IsPlacedName s.structs) s.declared
     → IsSomeAnd (slice_get s.functions m) (λ g. (g.params ≡ []) × (g.returns ≡ int))
 main_valid s ds made m e placed =
     let f = find_number s (109 ∷ 97 ∷ 105 ∷ 110 ∷ []) 0 External true ds made m e in
@@ -87,15 +89,19 @@ main_valid s ds made m e placed =
 
 -- ---- the program
 
-program_is : (o : Option ℕ) (s : State) (p : PlainProgram) → program_by o s ≡ Some p → (m : ℕ) × ((o ≡ Some m) × ((s.whole ≡ true) × (program_in s m ≡ p)))
+program_is : (o : Option ℕ) (s : State) (p : PlainProgram) → program_by o s ≡ Some p
+    → (m : ℕ) × ((o ≡ Some m) × ((s.whole ≡ true) × (program_in s m ≡ p)))
 program_is None s p e = cc
 program_is (Some m) s p e =
-    if_both (λ o. o ≡ Some p → (n : ℕ) × ((Some m ≡ Some n) × ((s.whole ≡ true) × (program_in s n ≡ p)))) (s.whole && nat_le (length s.functions) 65_536)
+    if_both (λ o. o ≡ Some p → (n : ℕ) × ((Some m ≡ Some n) × ((s.whole ≡ true) × (program_in s n ≡ p))))
+    (s.whole && nat_le (length s.functions) 65_536)
     (Some (program_in s m)) None
-    (λ q z. let same : program_in s m ≡ p = cc in (m, (refl, ((and_parts s.whole (nat_le (length s.functions) 65_536) q).0, same)))) (λ q z. cc) e
+    (λ q z. let same : program_in s m ≡ p = cc in (m, (refl, ((and_parts s.whole (nat_le (length s.functions) 65_536) q).0, same))))
+    (λ q z. cc) e
 
 -- what the walk over all units leaves, as a program
-module _ (laws : Laws) (ds : List Definition) (io : IoTable) (s : State) (main unit : ℕ) (n : Numbering) (agrees : Agrees io unit n s) (same : n.definitions ≡ ds)
+module _ (laws : Laws) (ds : List Definition) (io : IoTable) (s : State) (main unit : ℕ) (n : Numbering) (agrees : Agrees io unit n s)
+    (same : n.definitions ≡ ds)
     (steps : Steps ds io nothing_declared s) where
   abbrev p : PlainProgram
   p = program_in s main
@@ -118,9 +124,11 @@ module _ (laws : Laws) (ds : List Definition) (io : IoTable) (s : State) (main u
 
   valid : length s.scope.objects < 65_536 → AreValid p io s
   valid few =
-      valid_all laws ds io s main finished few agrees.whole nothing_declared s steps (before_itself s) (nothing_placed s.structs ds) (nothing_valid p io)
+      valid_all laws ds io s main finished few agrees.whole nothing_declared s steps (before_itself s) (nothing_placed s.structs ds)
+      (nothing_valid p io)
 
-  whole_valid : ValidIo io → main_of ds ≡ Some main → length s.scope.objects ≤ 1_024 → length s.functions ≤ 256 → NothingRecurs p → Valid p io
+  whole_valid : ValidIo io → main_of ds ≡ Some main → length s.scope.objects ≤ 1_024 → length s.functions ≤ 256
+      → NothingRecurs p → Valid p io
   whole_valid ports is_main few_objects few_functions recurs =
       let v = valid (omega (arith, few_objects)) in
       record {
@@ -148,8 +156,10 @@ programs_are_valid walk laws (u ∷ us) io p ports limits small held short told 
     let objects = limits.objects in
     let functions = limits.functions in
     let start = nothing_agrees walk.laid_out io in
-    let a = units_agree walk ds io u us 0 nothing_numbered nothing_declared start (omega (arith, objects)) (omega (arith, functions)) (omega (arith, small)) told in
-    let steps = units_steps walk ds io (u ∷ us) 0 nothing_numbered nothing_declared (nothing_clear walk io) start (omega (arith, objects)) (omega (arith, functions))
+    let a = units_agree walk ds io u us 0 nothing_numbered nothing_declared start (omega (arith, objects)) (omega (arith, functions))
+    (omega (arith, small)) told in
+    let steps = units_steps walk ds io (u ∷ us) 0 nothing_numbered nothing_declared (nothing_clear walk io) start (omega (arith, objects))
+    (omega (arith, functions))
     (omega (arith, small)) told held short in
     let numbered = a.0.agrees.objects in
     let counted = a.0.counts.objects in
@@ -157,5 +167,6 @@ programs_are_valid walk laws (u ∷ us) io p ports limits small held short told 
     let count = a.0.counts.functions in
     let program = program_is (main_of ds) s p typed in
     subst (λ (q : PlainProgram). NothingRecurs q → Valid q io) program.1.1.1
-    (whole_valid laws ds io s program.0 _ n a.0.agrees refl steps ports program.1.0 (omega (arith, numbered, counted, objects)) (omega (arith, same, count, functions)))
+    (whole_valid laws ds io s program.0 _ n a.0.agrees refl steps ports program.1.0 (omega (arith, numbered, counted, objects))
+    (omega (arith, same, count, functions)))
     recurs

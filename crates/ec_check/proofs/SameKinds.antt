@@ -1,5 +1,6 @@
 -- Two names at file scope that meet, and do not conflict, were declared as the same.
-use Rattle.std.proofs.Common.{◌≡◌, ◌∙◌, ◌+◌, ℕ, zero, suc, Bool, true, false, not, ◌&&◌, ◌||◌, List, [], ◌∷◌, length, refl, sym, ap, subst, inl, inr, arith}
+use Rattle.std.proofs.Common.{◌≡◌, ◌∙◌, ◌+◌, ℕ, zero, suc, Bool, true, false, not, ◌&&◌, ◌||◌, List, [], ◌∷◌, length, refl, sym, ap, subst}
+use Rattle.std.proofs.Common.{inl, inr, arith}
 use Rattle.std.specs.Prelude.{◌⊎◌, ◌==◌, ⊤, Option, Some, None, slice_get}
 use Rattle.std.specs.Str.{bytes_eq}
 use Rattle.std.proofs.lemmas.Bool.{and_parts, not-false, false≢true, true≢false}
@@ -10,11 +11,13 @@ use Rattle.ec_space.specs.declared.space.SpaceId.TheVariants.{Flash, Data, Gener
 use Rattle.ec_core.specs.Operators.{same_type}
 use Rattle.ec_core.specs.Plain.{PlainType}
 use Rattle.ec_core.proofs.Sameness.{type_true}
-use Rattle.ec_names.specs.declared.linkage.Linkage.{Linkage}
-use Rattle.ec_names.specs.declared.linkage.Linkage.TheVariants.{Internal, External}
-use Rattle.ec_names.specs.Definitions.{same_linkage, is_internal}
-use Rattle.ec_file_scope.specs.FileNames.{FileKind, an_object, a_register, a_function, FileName, differ, same_space, same_bool, other_register}
-use Rattle.ec_file_scope.specs.FileNames.{same_at, same_from, same_types, other_params, other_kind, is_external, meet, both_define, conflict}
+use Rattle.ec_check_names.specs.declared.linkage.Linkage.{Linkage}
+use Rattle.ec_check_names.specs.declared.linkage.Linkage.TheVariants.{Internal, External}
+use Rattle.ec_check_names.specs.Definitions.{same_linkage, is_internal}
+use Rattle.ec_check_file_scope.specs.FileNames.{FileKind, an_object, a_register, a_function, FileName, differ, same_space, same_bool}
+use Rattle.ec_check_file_scope.specs.FileNames.{other_register}
+use Rattle.ec_check_file_scope.specs.FileNames.{same_at, same_from, same_types, other_params, other_kind, is_external, meet, both_define}
+use Rattle.ec_check_file_scope.specs.FileNames.{conflict}
 use Rattle.ec_check.proofs.Firsts.{First}
 
 -- ---- the same kind
@@ -96,11 +99,13 @@ is_at : (a : PlainType) (o : Option PlainType) → same_at a o ≡ true → o �
 is_at a None e = absurd (false≢true e)
 is_at a (Some b) e = ap Some (sym (type_true a b e))
 
-from_at : (i : ℕ) (xs bs : List PlainType) → same_from i xs bs ≡ true → (j : ℕ) (x : PlainType) → slice_get xs j ≡ Some x → slice_get bs (i + j) ≡ Some x
+from_at : (i : ℕ) (xs bs : List PlainType) → same_from i xs bs ≡ true → (j : ℕ) (x : PlainType) → slice_get xs j ≡ Some x
+    → slice_get bs (i + j) ≡ Some x
 from_at i [] bs e j x q = cc
 from_at i (a ∷ more) bs e zero x q =
     let z : i ≡ i + 0 = omega arith in
-    subst (λ n. slice_get bs n ≡ Some x) z (is_at a (slice_get bs i) (and_parts (same_at a (slice_get bs i)) (same_from (i + 1) more bs) e).0 ∙ q)
+    subst (λ n. slice_get bs n ≡ Some x) z
+    (is_at a (slice_get bs i) (and_parts (same_at a (slice_get bs i)) (same_from (i + 1) more bs) e).0 ∙ q)
 from_at i (a ∷ more) bs e (suc j) x q =
     let z : i + 1 + j ≡ i + suc j = omega arith in
     subst (λ n. slice_get bs n ≡ Some x) z
@@ -199,7 +204,8 @@ units_meet a b e (inr u) = left_true (a.unit == b.unit) (is_external a.linkage &
 
 pub do_meet : (a b : FileName) → a.name ≡ b.name → a.linkage ≡ b.linkage → (a.linkage ≡ External) ⊎ (a.unit ≡ b.unit) → meet a b ≡ true
 do_meet a b n e u =
-    both_true (bytes_eq a.name b.name) (a.unit == b.unit || is_external a.linkage && is_external b.linkage) ((bytes_eq-Decides a.name b.name).1 n)
+    both_true (bytes_eq a.name b.name) (a.unit == b.unit || is_external a.linkage && is_external b.linkage)
+    ((bytes_eq-Decides a.name b.name).1 n)
     (units_meet a b e u)
 
 cleared : (m x y z : Bool) → (m && (x || y || z)) ≡ false → m ≡ true → (x ≡ false) × (y ≡ false) × (z ≡ false)
@@ -213,5 +219,6 @@ pub record AreClear (a b : FileName) : Type 0 where
 
 pub clear_of : (a b : FileName) → conflict a b ≡ false → meet a b ≡ true → AreClear a b
 clear_of a b e m =
-    let h = cleared (meet a b) (other_kind a.kind b.kind) (a.unit == b.unit && not (same_linkage a.linkage b.linkage)) (both_define a b) e m in
+    let h = cleared (meet a b) (other_kind a.kind b.kind) (a.unit == b.unit && not (same_linkage a.linkage b.linkage))
+    (both_define a b) e m in
     record { kinds = kinds_agree a.kind b.kind h.0; once = h.2 }

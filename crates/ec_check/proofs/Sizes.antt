@@ -1,9 +1,8 @@
 -- The types of members have a byte at least.
-use Rattle.std.proofs.Common.{◌≡◌, ◌<◌, ◌≤◌, ℕ, zero, suc, Bool, true, false, List, [], ◌∷◌, length, refl, inl, inr, arith}
+use Rattle.std.proofs.Common.{◌≡◌, ◌<◌, ◌≤◌, ℕ, zero, suc, true, false, List, [], length, refl, inl, inr, arith}
 use Rattle.std.specs.Prelude.{nat_lt, Option, Some, None, IsSomeAnd, IfSome}
 use Rattle.std.proofs.lemmas.Bool.{false≢true}
 use Rattle.std.proofs.lemmas.Bool.Decides.{nat_tests}
-use Rattle.ec_faults.specs.Faults.{Judgement}
 use Rattle.ec_fx.specs.declared.formats.FxKind.{FxKind}
 use Rattle.ec_fx.specs.declared.formats.FxKind.TheVariants.{ShortFract, Fract, LongFract, ShortAccum, Accum, LongAccum}
 use Rattle.ec_fx.specs.declared.formats.FxKind.TheVariants.{UnsignedShortFract, UnsignedFract, UnsignedLongFract}
@@ -11,26 +10,24 @@ use Rattle.ec_fx.specs.declared.formats.FxKind.TheVariants.{UnsignedShortAccum, 
 use Rattle.ec_space.specs.declared.space.SpaceId.{SpaceId}
 use Rattle.ec_space.specs.declared.space.SpaceId.TheVariants.{Flash, Data, Generic}
 use Rattle.ec_space.specs.Spaces.{width}
-use Rattle.ec_grammar.specs.declared.tree.Qualifier.{Qualifier}
 use Rattle.ec_grammar.specs.Trees as t
 use Rattle.ec_core.specs.Layout.{IsIntegerSize, Layout, repeated, scalar_size, type_layout, struct_layouts, size_of_type}
 use Rattle.ec_core.specs.Plain.{PlainType, void, integer, fixed, pointer, array, struct, PlainStruct}
-use Rattle.ec_names.specs.declared.qualifiers.Qualities.{Qualities}
-use Rattle.ec_names.specs.declared.specifiers.Specified.{Specified}
-use Rattle.ec_names.specs.Qualifiers.{unqualified, with_quality, qualities_of, qualifier_rules_from, own_space_rules}
-use Rattle.ec_names.specs.Stars.{star_rules}
-use Rattle.ec_operands.specs.Operands.{with_both}
-use Rattle.ec_expr.specs.Known.{Known, is_sized}
-use Rattle.ec_expr.specs.TypeNames.{void_rules}
-use Rattle.ec_expr_valid.specs.Laws.{AreUnbroken}
-use Rattle.ec_initial.specs.Laws.{SizesAreValues}
-use Rattle.ec_initial.specs.Sizes.{array_size}
-use Rattle.ec_declare.specs.Declarators.{head_of, head_rules, declared_size}
-use Rattle.ec_declare.specs.ObjectTypes.{is_object_type, object_type, is_too_large, small_type}
+use Rattle.ec_check_names.specs.declared.specifiers.Specified.{Specified}
+use Rattle.ec_check_names.specs.Qualifiers.{own_space_rules}
+use Rattle.ec_check_operands.specs.Operands.{with_both}
+use Rattle.ec_check_expressions.specs.Known.{Known, is_sized}
+use Rattle.ec_check_expressions.specs.TypeNames.{void_rules}
+use Rattle.ec_check_expressions.proofs.Sizes.{one_of_three}
+use Rattle.ec_check_expression_laws.specs.Laws.{AreUnbroken}
+use Rattle.ec_check_expression_laws.proofs.KeptTypes.{no_void, behind_stars}
+use Rattle.ec_check_initialisers.specs.Laws.{SizesAreValues}
+use Rattle.ec_check_initialisers.specs.Sizes.{array_size}
+use Rattle.ec_check_declarations.specs.Declarators.{head_of, head_rules, declared_size}
+use Rattle.ec_check_declarations.specs.ObjectTypes.{is_object_type, object_type, is_too_large, small_type}
+use Rattle.ec_check_statements.proofs.Choices.{if_both}
+use Rattle.ec_check_statements.proofs.KeptTypes.{behind_space}
 use Rattle.ec_check.specs.Agreement.{AreFilled}
-use Rattle.ec_check.proofs.KeptRegisters.{behind_space, no_void}
-use Rattle.ec_check.proofs.Lists.{if_both}
-use Rattle.ec_check.proofs.Sound.{one_of_three}
 
 -- ---- types that specifiers and stars say
 
@@ -61,7 +58,8 @@ integer_some bytes (inr (inr e)) = omega (arith, e)
 index_below : (i n : ℕ) → nat_lt i n ≡ true → i < n
 index_below i n h = grind (arith, nat_tests, h)
 
-sized_some : (structs : List PlainStruct) → AreFilled structs → (ty : PlainType) → is_sized (length structs) ty ≡ true → 1 ≤ size_of_type structs ty
+sized_some : (structs : List PlainStruct) → AreFilled structs → (ty : PlainType) → is_sized (length structs) ty ≡ true
+    → 1 ≤ size_of_type structs ty
 sized_some structs filled void h = absurd (false≢true h)
 sized_some structs filled (integer signed bytes) h = integer_some bytes (one_of_three bytes _ _ _ refl refl refl h)
 sized_some structs filled (fixed kind sat) h = fixed_some kind
@@ -74,15 +72,6 @@ repeated_some zero a h k = absurd (omega (arith, h))
 repeated_some (suc n) a h k = omega (arith, k)
 
 -- ---- declarators
-
-behind_qualifiers : (konst : Bool) (q : Qualities) (xs : List Qualifier) (rest : List Judgement) → AreUnbroken (qualifier_rules_from konst q xs rest) → AreUnbroken rest
-behind_qualifiers konst q [] rest h = h
-behind_qualifiers konst q (x ∷ xs) rest h = behind_qualifiers konst (with_quality q x.spot.index x.word) xs rest h.1.1
-
-behind_stars : (stars : List t.Star) (rest : List Judgement) → AreUnbroken (star_rules stars rest) → AreUnbroken rest
-behind_stars [] rest h = h
-behind_stars (t.star spot qs ∷ more) rest h =
-    behind_stars more rest (behind_qualifiers (qualities_of qs).konst unqualified qs (star_rules more rest) h)
 
 -- where void is misused it is told
 pub unmisused : (s : Specified) (misused : Option ℕ) (stars : List t.Star) → AreUnbroken (head_rules false misused s stars) → misused ≡ None
@@ -106,9 +95,11 @@ module _ (structs : List PlainStruct) (filled : AreFilled structs) where
   tested_positive (Some ty) h =
       if_both (λ o. IfSome o IsPositive) (is_object_type (length structs) ty) (Some ty) None (λ q. (q, h q)) (λ q. tt)
 
-  pub small_positive : (o : Option PlainType) → IfSome o IsSomeObject → IfSome (small_type structs (object_type (length structs) o)) IsPositive
+  pub small_positive : (o : Option PlainType) → IfSome o IsSomeObject
+      → IfSome (small_type structs (object_type (length structs) o)) IsPositive
   small_positive o h =
-      if_both (λ o. IfSome o IsPositive) (is_too_large structs (object_type (length structs) o)) None (object_type (length structs) o) (λ q. tt)
+      if_both (λ o. IfSome o IsPositive) (is_too_large structs (object_type (length structs) o)) None
+      (object_type (length structs) o) (λ q. tt)
       (λ q. tested_positive o h)
 
   pub plain_some : (o : Option PlainType) → IsSomeAnd o IsSizedType → IfSome o IsSomeObject

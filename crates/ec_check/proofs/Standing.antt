@@ -7,26 +7,27 @@ use Rattle.std.proofs.lemmas.Bool.Decides.{nat_tests}
 use Rattle.std.proofs.lemmas.List.Elements.{Contains-append_left}
 use Rattle.ec_iohw.specs.declared.table.IoTable.{IoTable}
 use Rattle.ec_core.specs.Plain.{PlainObject}
-use Rattle.ec_names.specs.declared.linkage.Linkage.{Linkage}
-use Rattle.ec_names.specs.declared.specifiers.StorageWord.{StorageWord}
-use Rattle.ec_names.specs.Definitions as numbering
-use Rattle.ec_names.specs.Definitions.{Definition, Numbering, link_in, with_link}
-use Rattle.ec_names.specs.Linkage.{linkage_of}
-use Rattle.ec_names.specs.Names.{Named}
-use Rattle.ec_names.specs.Tables as tables
-use Rattle.ec_names.specs.Tables.{Table}
-use Rattle.ec_expr_valid.specs.Laws.{DeclarationsKeepSuiting}
-use Rattle.ec_expr_valid.specs.Suits.{IsWhole, HasTypes}
-use Rattle.ec_initial.specs.Places.{IsNamedObject}
-use Rattle.ec_declare.specs.Scopes.{has_room}
-use Rattle.ec_file_scope.specs.FileNames.{FileName, FileKind, is_register, conflict, conflicts, earlier_link, is_registered}
-use Rattle.ec_file_scope.specs.FileObjects.{with_object}
-use Rattle.ec_file_scope.specs.States.{State, known_of, with_scope, broken, with_name, IsSoundState}
+use Rattle.ec_check_names.specs.declared.linkage.Linkage.{Linkage}
+use Rattle.ec_check_names.specs.declared.specifiers.StorageWord.{StorageWord}
+use Rattle.ec_check_names.specs.Definitions as numbering
+use Rattle.ec_check_names.specs.Definitions.{Definition, Numbering, link_in, with_link}
+use Rattle.ec_check_names.specs.Linkage.{linkage_of}
+use Rattle.ec_check_names.specs.Names.{Named}
+use Rattle.ec_check_names.specs.Tables as tables
+use Rattle.ec_check_names.specs.Tables.{Table}
+use Rattle.ec_check_names.proofs.Naming.{put_found}
+use Rattle.ec_check_expression_laws.specs.Laws.{DeclarationsKeepSuiting}
+use Rattle.ec_check_expression_laws.specs.Suits.{IsWhole, HasTypes}
+use Rattle.ec_check_initialisers.specs.Places.{IsNamedObject}
+use Rattle.ec_check_declarations.specs.Scopes.{has_room}
+use Rattle.ec_check_file_scope.specs.FileNames.{FileName, FileKind, is_register, conflict, conflicts, earlier_link, is_registered}
+use Rattle.ec_check_file_scope.specs.FileObjects.{with_object}
+use Rattle.ec_check_file_scope.specs.States.{State, known_of, with_scope, broken, with_name, IsSoundState}
+use Rattle.ec_check_file_scope.proofs.Sound.{named_with}
 use Rattle.ec_check.specs.Agreement.{IsDefined, AreFilled, Agrees}
 use Rattle.ec_check.proofs.Grown.{Grows, defined_kept}
-use Rattle.ec_check.proofs.Links.{put_found, linkage_behind, as_registered, clear_behind}
+use Rattle.ec_check.proofs.Links.{linkage_behind, as_registered, clear_behind}
 use Rattle.ec_check.proofs.Lists.{if_true, one_longer, all_push, all_through, stands_before, stands_last}
-use Rattle.ec_check.proofs.Sound.{named_with}
 
 -- what agrees but for linkages and registers, with these definitions, and so many objects and functions
 pub record Stands (io : IoTable) (unit : ℕ) (ds : List Definition) (o f : ℕ) (s : State) : Type 0 where
@@ -41,7 +42,8 @@ pub record Stands (io : IoTable) (unit : ℕ) (ds : List Definition) (o f : ℕ)
   pub sound : IsSoundState s
   pub filled : AreFilled s.structs
 
-pub stands_of : (io : IoTable) (unit : ℕ) (n : Numbering) (s : State) → Agrees io unit n s → Stands io unit n.definitions n.objects n.functions s
+pub stands_of : (io : IoTable) (unit : ℕ) (n : Numbering) (s : State) → Agrees io unit n s
+    → Stands io unit n.definitions n.objects n.functions s
 stands_of io unit n s h = record {
   whole = h.whole;
   objects = h.objects;
@@ -64,7 +66,8 @@ AreLinked unit n s =
 abbrev pub AreRegistered : List Definition → State → Type 0
 AreRegistered ds s = (name : List ℕ) → numbering.is_registered name ds ≡ is_registered name s.declared
 
-pub agrees_of : (io : IoTable) (unit : ℕ) (n : Numbering) (s : State) → Stands io unit n.definitions n.objects n.functions s → AreLinked unit n s
+pub agrees_of : (io : IoTable) (unit : ℕ) (n : Numbering) (s : State) → Stands io unit n.definitions n.objects n.functions s
+    → AreLinked unit n s
     → AreRegistered n.definitions s → Agrees io unit n s
 agrees_of io unit n s h links registered = record {
   whole = h.whole;
@@ -100,7 +103,8 @@ name_grows s name what d = record {
 }
 
 module _ (keep : DeclarationsKeepSuiting) (io : IoTable) (unit : ℕ) where
-  pub named : (ds : List Definition) (o f : ℕ) (s : State) → Stands io unit ds o f s → (name : List ℕ) (what : Named) (linkage : Linkage) (defines : Bool)
+  pub named : (ds : List Definition) (o f : ℕ) (s : State) → Stands io unit ds o f s
+      → (name : List ℕ) (what : Named) (linkage : Linkage) (defines : Bool)
       (kind : FileKind) → IsFine s what (entry unit name linkage defines kind)
       → Stands io unit ds o f (with_name name what (entry unit name linkage defines kind) s)
   named ds o f s h name what linkage defines kind fine =
@@ -123,12 +127,14 @@ module _ (keep : DeclarationsKeepSuiting) (io : IoTable) (unit : ℕ) where
         filled = h.filled;
       }
 
-  either : (storage : Option StorageWord) (callable : Bool) (l : Linkage) (b : Bool) (x y : Option Linkage) → linkage_of storage callable x ≡ linkage_of storage callable y
+  either : (storage : Option StorageWord) (callable : Bool) (l : Linkage) (b : Bool) (x y : Option Linkage)
+      → linkage_of storage callable x ≡ linkage_of storage callable y
       → linkage_of storage callable (if b then Some l else x) ≡ linkage_of storage callable (if b then Some l else y)
   either storage callable l true x y e = refl
   either storage callable l false x y e = e
 
-  pub linked : (n : Numbering) (s : State) → AreLinked unit n s → (name : List ℕ) (what : Named) (linkage : Linkage) (defines : Bool) (kind : FileKind)
+  pub linked : (n : Numbering) (s : State) → AreLinked unit n s
+      → (name : List ℕ) (what : Named) (linkage : Linkage) (defines : Bool) (kind : FileKind)
       → AreLinked unit (with_link name linkage n) (with_name name what (entry unit name linkage defines kind) s)
   linked n s h name what linkage defines kind storage callable m =
       let d = entry unit name linkage defines kind in
@@ -137,7 +143,8 @@ module _ (keep : DeclarationsKeepSuiting) (io : IoTable) (unit : ℕ) where
       ∙ sym (ap (linkage_of storage callable) (linkage_behind m unit s.declared d refl))
 
   -- a name is declared that is no register's
-  pub name_agrees : (n : Numbering) (s : State) → Agrees io unit n s → (name : List ℕ) (what : Named) (linkage : Linkage) (defines : Bool) (kind : FileKind)
+  pub name_agrees : (n : Numbering) (s : State) → Agrees io unit n s
+      → (name : List ℕ) (what : Named) (linkage : Linkage) (defines : Bool) (kind : FileKind)
       → is_register kind ≡ false → IsFine s what (entry unit name linkage defines kind)
       → Agrees io unit (with_link name linkage n) (with_name name what (entry unit name linkage defines kind) s)
   name_agrees n s h name what linkage defines kind other fine =
@@ -170,10 +177,12 @@ pub at_last : {X : Type 0} → (P : X → Type 0) (xs : List X) (x : X) (i : ℕ
 at_last {X} P xs x i e h =
     subst (λ (i : ℕ). IsSomeAnd (slice_get (xs ++ x ∷ []) i) P) e (subst (λ (o : Option X). IsSomeAnd o P) (sym (stands_last xs x)) h)
 
-pub with_room : (P : State → Type 0) (s : State) (o : ℕ) (x : PlainObject) → length s.scope.objects ≡ o → o < 65_536 → P (with_one x s) → P (with_object (Some x) s)
+pub with_room : (P : State → Type 0) (s : State) (o : ℕ) (x : PlainObject) → length s.scope.objects ≡ o → o < 65_536 → P (with_one x s)
+    → P (with_object (Some x) s)
 with_room P s o x e room h = if_true P (has_room s.scope.objects) (with_one x s) (broken s) (room_in s.scope.objects o e room) h
 
-pub object_stands : (io : IoTable) (unit : ℕ) (ds : List Definition) (o f : ℕ) (s : State) → Stands io unit ds o f s → (x : PlainObject) (d : Definition)
+pub object_stands : (io : IoTable) (unit : ℕ) (ds : List Definition) (o f : ℕ) (s : State) → Stands io unit ds o f s
+    → (x : PlainObject) (d : Definition)
     → IsDefined (with_one x s) d → Stands io unit (ds ++ d ∷ []) (o + 1) f (with_one x s)
 object_stands io unit ds o f s h x d defined = record {
   whole = h.whole;

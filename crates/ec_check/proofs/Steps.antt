@@ -4,35 +4,38 @@ use Rattle.std.specs.Prelude.{Option, Some, None, Contains}
 use Rattle.std.proofs.lemmas.Bool.{false≢true}
 use Rattle.std.proofs.lemmas.List.Elements.{Contains-append_left}
 use Rattle.ec_iohw.specs.declared.table.IoTable.{IoTable}
-use Rattle.ec_grammar.specs.declared.tree.Pragma.{Pragma}
+use Rattle.ec_grammar.specs.declared.Pragma.{Pragma}
 use Rattle.ec_grammar.specs.Spelling.{of_compound}
 use Rattle.ec_grammar.specs.Trees as t
 use Rattle.ec_grammar.specs.Trees.{Leaf}
 use Rattle.ec_core.specs.Plain.{PlainStruct, PlainObject, PlainFunction}
-use Rattle.ec_names.specs.declared.specifiers.Specified.{Specified}
-use Rattle.ec_names.specs.declared.specifiers.Storage.{Storage}
-use Rattle.ec_names.specs.Definitions.{Definition, is_defined}
-use Rattle.ec_names.specs.Names.{Named}
-use Rattle.ec_names.specs.Specifiers.{specified}
-use Rattle.ec_names.specs.Spellings.{is_main}
-use Rattle.ec_names.specs.Structs.{struct_place}
-use Rattle.ec_expr_valid.specs.Suits.{AreHeld, HasTypes}
-use Rattle.ec_declare.specs.Functions.{FunctionDeclared, function_declared}
-use Rattle.ec_declare.specs.Params.{ParamDeclared}
-use Rattle.ec_declare.specs.Registers.{register_declared}
-use Rattle.ec_declare.specs.Scopes.{Context, Scope, has_room}
-use Rattle.ec_declare.specs.Structures.{struct_defined, appended, with_struct}
-use Rattle.ec_statement_forms.specs.Around.{with_pragma}
-use Rattle.ec_statements.specs.Statements.{after_body}
-use Rattle.ec_statements_valid.specs.Laws.{ObjectsStay, InnerObjectsKeepSuiting}
-use Rattle.ec_file_scope.specs.FileFunctions.{function_link, function_name, is_other_main, after_function}
-use Rattle.ec_file_scope.specs.FileNames.{FileName, conflicts}
-use Rattle.ec_file_scope.specs.FileObjects.{object_name, object_of, link_of, word_of, named_in, register_name, register_named, shares_register, with_object, with_defined, after_object, after_register}
-use Rattle.ec_file_scope.specs.FileScope.{after_structure}
-use Rattle.ec_file_scope.specs.States.{Setting, State, known_of, context_of, with_scope, broken, with_name, with_modes, in_unit, IsSoundState}
-use Rattle.ec_check.specs.Definitions.{has_number, with_param, with_params, with_function, params_in, body_in, definition_declared, definition_word, named_definition, after_definition}
+use Rattle.ec_check_names.specs.declared.specifiers.Specified.{Specified}
+use Rattle.ec_check_names.specs.declared.specifiers.Storage.{Storage}
+use Rattle.ec_check_names.specs.Definitions.{Definition, is_defined}
+use Rattle.ec_check_names.specs.Names.{Named}
+use Rattle.ec_check_names.specs.Specifiers.{specified}
+use Rattle.ec_check_names.specs.Spellings.{is_main}
+use Rattle.ec_check_names.specs.Structs.{struct_place}
+use Rattle.ec_check_expression_laws.specs.Suits.{AreHeld, HasTypes}
+use Rattle.ec_check_declarations.specs.Functions.{FunctionDeclared, function_declared}
+use Rattle.ec_check_declarations.specs.Params.{ParamDeclared}
+use Rattle.ec_check_declarations.specs.Registers.{register_declared}
+use Rattle.ec_check_declarations.specs.Scopes.{Context, Scope, has_room}
+use Rattle.ec_check_declarations.specs.Structures.{struct_defined, appended, with_struct}
+use Rattle.ec_check_statements.specs.Around.{with_pragma}
+use Rattle.ec_check_statements.specs.Statements.{after_body}
+use Rattle.ec_check_statements.specs.Laws.{ObjectsStay, InnerObjectsKeepSuiting}
+use Rattle.ec_check_statements.proofs.Choices.{if_both}
+use Rattle.ec_check_file_scope.specs.FileFunctions.{function_link, function_name, is_other_main, after_function}
+use Rattle.ec_check_file_scope.specs.FileNames.{FileName, conflicts}
+use Rattle.ec_check_file_scope.specs.FileObjects.{object_name, object_of, link_of, word_of, named_in, register_name, register_named}
+use Rattle.ec_check_file_scope.specs.FileObjects.{shares_register, with_object, with_defined, after_object, after_register}
+use Rattle.ec_check_file_scope.specs.FileScope.{after_structure}
+use Rattle.ec_check_file_scope.specs.States.{Setting, State, known_of, context_of, with_scope, broken, with_name, with_modes, in_unit}
+use Rattle.ec_check_file_scope.specs.States.{IsSoundState}
+use Rattle.ec_check.specs.Definitions.{has_number, with_param, with_params, with_function, params_in, body_in, definition_declared}
+use Rattle.ec_check.specs.Definitions.{definition_word, named_definition, after_definition}
 use Rattle.ec_check.specs.Units.{setting_of}
-use Rattle.ec_check.proofs.Lists.{if_both}
 use Rattle.ec_check.proofs.Firsts.{First, first_appended}
 
 -- ---- names that declarators declare
@@ -100,7 +103,8 @@ pub data Step (r : Setting) (s : State) : State → Type 0 where
       → shares_register (name_of_register r d s) s.declared ≡ false → Step r s (after_register r d s)
   object : (said : Specified) (ss : t.Specs) (storage : Option Storage) (d : t.InitDeclarator) → said ≡ specified s.tags ss
       → IsOwnName (name_of_object r said storage d s) s → Step r s (after_object r said storage d s)
-  function : (said : Specified) (ss : t.Specs) (storage : Option Storage) (d : t.InitDeclarator) (ps : t.Params) → said ≡ specified s.tags ss
+  function : (said : Specified) (ss : t.Specs) (storage : Option Storage) (d : t.InitDeclarator) (ps : t.Params)
+      → said ≡ specified s.tags ss
       → IsOwnFunction (name_of_function r said storage d ps s) (is_other_main (word_of storage) (declared_function said d ps s)) s
       → Step r s (after_function r said storage d ps s)
   definition : (f : t.Function) (rest : List Leaf)
@@ -177,7 +181,8 @@ before_scope v s h = record {
 before_object : (o : Option PlainObject) (s : State) → IsBefore s (with_object o s)
 before_object None s = before_broken s
 before_object (Some o) s =
-    if_both (IsBefore s) (has_room s.scope.objects) (with_scope (record { names = s.scope.names; objects = s.scope.objects ++ o ∷ [] }) s) (broken s)
+    if_both (IsBefore s) (has_room s.scope.objects)
+    (with_scope (record { names = s.scope.names; objects = s.scope.objects ++ o ∷ [] }) s) (broken s)
     (λ e. before_scope (record { names = s.scope.names; objects = s.scope.objects ++ o ∷ [] }) s (first_appended s.scope.objects (o ∷ [])))
     (λ e. before_broken s)
 
@@ -197,7 +202,8 @@ before_more f s = record {
 pub before_function : (f : Option PlainFunction) (s : State) → IsBefore s (with_function f s)
 before_function None s = before_broken s
 before_function (Some f) s =
-    if_both (IsBefore s) (has_number s.functions) (record s { functions = s.functions ++ f ∷ [] }) (broken s) (λ e. before_more f s) (λ e. before_broken s)
+    if_both (IsBefore s) (has_number s.functions) (record s { functions = s.functions ++ f ∷ [] }) (broken s) (λ e. before_more f s)
+    (λ e. before_broken s)
 
 -- ---- structs
 
@@ -221,7 +227,8 @@ before_structure r (t.structure w (t.identifier at tag) l first more e semicolon
 -- ---- bodies
 
 module _ (inner : InnerObjectsKeepSuiting) (stay : ObjectsStay) where
-  first_param : (c : Context) (unit f : ℕ) (n : Option (List ℕ)) (p : ParamDeclared) (v : Scope) → First v.objects (with_param unit f n p v).objects
+  first_param : (c : Context) (unit f : ℕ) (n : Option (List ℕ)) (p : ParamDeclared) (v : Scope)
+      → First v.objects (with_param unit f n p v).objects
   first_param c unit f None p v = λ i x e. e
   first_param c unit f (Some n) p v = (inner c unit n p.ty p.konst _ v).stay
 

@@ -5,14 +5,14 @@ use Rattle.std.specs.List.{AllByRecursion}
 use Rattle.ec_iohw.specs.declared.table.IoTable.{IoTable}
 use Rattle.ec_core.specs.Layout.{AreStructs}
 use Rattle.ec_core.specs.Plain.{PlainType, PlainMember, PlainStruct, PlainProgram}
-use Rattle.ec_names.specs.Definitions.{Definition}
-use Rattle.ec_names.specs.Names.{Named, Entry, Names, newest, or_else, found}
-use Rattle.ec_names.specs.Tables.{at_name}
-use Rattle.ec_rules.specs.Validity.{IsPlaceType, HaveMembers}
-use Rattle.ec_expr_valid.specs.Suits.{IsOf, Suits}
-use Rattle.ec_file_scope.specs.FileNames.{FileName}
-use Rattle.ec_file_scope.specs.States.{State, known_of}
-use Rattle.ec_file_scope.proofs.Sound.{named_at}
+use Rattle.ec_check_names.specs.Definitions.{Definition}
+use Rattle.ec_check_names.specs.Names.{Named, Entry, Names, newest, or_else, found}
+use Rattle.ec_check_names.specs.Tables.{at_name}
+use Rattle.ec_check_forms.specs.Validity.{IsPlaceType, HaveMembers}
+use Rattle.ec_check_expression_laws.specs.Suits.{IsOf, Suits}
+use Rattle.ec_check_file_scope.specs.FileNames.{FileName}
+use Rattle.ec_check_file_scope.specs.States.{State, known_of}
+use Rattle.ec_check_file_scope.proofs.Sound.{named_at}
 use Rattle.ec_check.proofs.Firsts.{First, all_at, all_weaker}
 use Rattle.ec_check.proofs.Meanings.{IsMeant, IsStaticName, ArePlaced}
 use Rattle.ec_check.proofs.Placed.{tag_placed}
@@ -20,7 +20,8 @@ use Rattle.ec_check.proofs.Placed.{tag_placed}
 -- ---- members
 
 module _ (all : List PlainStruct) (placed : AllByRecursion (λ x. AllByRecursion (λ m. IsPlaceType all m.ty) x.members) all) where
-  of_member : (ms : List PlainMember) → AllByRecursion (λ m. IsPlaceType all m.ty) ms → (k : ℕ) (o : Option PlainMember) → slice_get ms k ≡ o
+  of_member : (ms : List PlainMember) → AllByRecursion (λ m. IsPlaceType all m.ty) ms → (k : ℕ) (o : Option PlainMember)
+      → slice_get ms k ≡ o
       → (ty : PlainType) → option_map (λ m. m.ty) o ≡ Some ty → IsPlaceType all ty
   of_member ms h k None e ty q = cc
   of_member ms h k (Some m) e ty q =
@@ -30,7 +31,8 @@ module _ (all : List PlainStruct) (placed : AllByRecursion (λ x. AllByRecursion
       → option_and_then (λ s. option_map (λ m. m.ty) (slice_get s.members k)) o ≡ Some ty → IsPlaceType all ty
   of_struct i k None e ty q = cc
   of_struct i k (Some x) e ty q =
-      of_member x.members (all_at (λ (x : PlainStruct). AllByRecursion (λ m. IsPlaceType all m.ty) x.members) all i x placed e) k (slice_get x.members k) refl ty q
+      of_member x.members (all_at (λ (x : PlainStruct). AllByRecursion (λ m. IsPlaceType all m.ty) x.members) all i x placed e) k
+      (slice_get x.members k) refl ty q
 
   pub have_members : HaveMembers all
   have_members i k ty e = of_struct i k (slice_get all i) refl ty e
@@ -52,14 +54,18 @@ module _ (ds : List Definition) (declared : List FileName) (p : PlainProgram) (d
   there what m = (m.0, (same m.0 m.1.0, m.1.1))
 
   pub all_of : (f : ℕ) → AllByRecursion (λ e. IsOf p f e.1) s.scope.names.outside
-  all_of f = all_weaker (λ e. IsMeant ds s.declared e.1) (λ e. IsOf p f e.1) (λ e m. (done.names f e.1 (there e.1 m)).0) s.scope.names.outside h.names
+  all_of f = all_weaker (λ e. IsMeant ds s.declared e.1) (λ e. IsOf p f e.1)
+      (λ e m. (done.names f e.1 (there e.1 m)).0) s.scope.names.outside h.names
 
   pub all_static : AllByRecursion (λ e. IsStaticName p e.1) s.scope.names.outside
-  all_static = all_weaker (λ e. IsMeant ds s.declared e.1) (λ e. IsStaticName p e.1) (λ e m. (done.names 0 e.1 (there e.1 m)).1) s.scope.names.outside h.names
+  all_static = all_weaker (λ e. IsMeant ds s.declared e.1) (λ e. IsStaticName p e.1)
+      (λ e m. (done.names 0 e.1 (there e.1 m)).1) s.scope.names.outside h.names
 
-  pub suits_at : (io : IoTable) (f : ℕ) → s.scope.names.inside ≡ [] → AreStructs s.structs → First s.structs p.structs → Suits p io f (known_of io s)
+  pub suits_at : (io : IoTable) (f : ℕ) → s.scope.names.inside ≡ [] → AreStructs s.structs → First s.structs p.structs
+      → Suits p io f (known_of io s)
   suits_at io f closed small first = record {
-    names = λ n. subst (λ (o : Option Named). IfSome o (IsOf p f)) (sym (found_outside n s.scope.names closed)) (named_at (IsOf p f) s.scope.names.outside (all_of f) n);
+    names = λ n. subst (λ (o : Option Named). IfSome o (IsOf p f)) (sym (found_outside n s.scope.names closed))
+        (named_at (IsOf p f) s.scope.names.outside (all_of f) n);
     tags = tag_placed p.structs s.tags h.tags;
     structs = first;
     small = small;

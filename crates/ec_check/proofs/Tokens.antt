@@ -1,14 +1,16 @@
 -- What holds of all tokens of a part and of those behind it, and of what is left of such tokens, holds of those behind it.
 use Rattle.std.proofs.Common.{List, [], ◌∷◌}
 use Rattle.std.specs.Prelude.{Option, Some, None}
-use Rattle.ec_grammar.specs.declared.tree.Pragma.{Pragma}
-use Rattle.ec_grammar.specs.declared.tree.Qualifier.{Qualifier}
-use Rattle.ec_grammar.specs.declared.tree.Spot.{Spot}
+use Rattle.ec_grammar.specs.declared.Pragma.{Pragma}
+use Rattle.ec_grammar.specs.declared.Qualifier.{Qualifier}
+use Rattle.ec_grammar.specs.declared.Spot.{Spot}
 use Rattle.ec_grammar.specs.declared.token.PunctKind.TheVariants.{RightParenthesis}
-use Rattle.ec_grammar.specs.Spelling.{mark, of_list, of_option, of_identifier, of_pragma, of_qualifier, of_star, of_spec, of_specs, of_type_name}
+use Rattle.ec_grammar.specs.Spelling.{mark, of_list, of_option, of_identifier, of_pragma, of_qualifier, of_star, of_spec, of_specs}
+use Rattle.ec_grammar.specs.Spelling.{of_type_name}
 use Rattle.ec_grammar.specs.Spelling.{of_expression, of_assignment, of_conditional, of_binary, of_cast, of_unary, of_postfix, of_arguments}
 use Rattle.ec_grammar.specs.Spelling.{of_further, of_primary, of_param, of_next_param, of_params, of_shape, of_declarator, of_comma}
-use Rattle.ec_grammar.specs.Spelling.{of_initialiser, of_initialisers, of_start, of_init_declarator, of_next_init_declarator, of_declaration}
+use Rattle.ec_grammar.specs.Spelling.{of_initialiser, of_initialisers, of_start, of_init_declarator, of_next_init_declarator}
+use Rattle.ec_grammar.specs.Spelling.{of_declaration}
 use Rattle.ec_grammar.specs.Spelling.{of_next_declarator, of_member, of_structure, of_register_object, of_condition, of_first, of_heading}
 use Rattle.ec_grammar.specs.Spelling.{of_compound, of_items, of_item, of_statement, of_function, of_external}
 use Rattle.ec_grammar.specs.Trees as t

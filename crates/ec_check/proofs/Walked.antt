@@ -2,36 +2,40 @@
 use Rattle.std.proofs.Common.{◌≡◌, ◌∙◌, ◌≤◌, ◌+◌, ℕ, Bool, true, false, ◌&&◌, List, [], ◌∷◌, length, refl, subst, arith}
 use Rattle.std.specs.Prelude.{is_none, Option, None}
 use Rattle.std.specs.List.{AllByRecursion}
-use Rattle.ec_faults.specs.Faults.{rule}
+use Rattle.ec_check_operands.specs.Faults.{rule}
 use Rattle.ec_grammar.specs.declared.token.PunctKind.TheVariants.{RightParenthesis}
 use Rattle.ec_grammar.specs.Spelling.{mark, of_compound, of_list, of_external, of_tree}
 use Rattle.ec_grammar.specs.Trees as t
 use Rattle.ec_grammar.specs.Trees.{Leaf}
 use Rattle.ec_iohw.specs.declared.table.IoTable.{IoTable}
-use Rattle.ec_names.specs.declared.specifiers.Storage.{Storage}
-use Rattle.ec_names.specs.Counts.{objects_in_more, objects_in_declaration, objects_in_external, objects_in_externals, objects_in_unit, objects_declared}
-use Rattle.ec_names.specs.Counts.{functions_in_externals, functions_in_unit, functions_defined}
-use Rattle.ec_names.specs.Definitions.{Definition, Numbering, unlinked, numbered_declarator, numbered_external, numbered_unit}
-use Rattle.ec_names.specs.Specifiers.{specified, specs_rules, storages_of}
-use Rattle.ec_names.specs.Tags.{Tags}
-use Rattle.ec_expr_valid.specs.Laws.{AreUnbroken}
-use Rattle.ec_expr_valid.specs.Suits.{AreHeld}
-use Rattle.ec_declare.specs.Functions.{function_declared}
-use Rattle.ec_declare.specs.Sites.{Site, on, told}
-use Rattle.ec_file_scope.specs.FileFunctions.{named_function_sites, file_function_sites}
-use Rattle.ec_file_scope.specs.FileObjects.{word_of, is_started, object_of, declared_sites, file_register_sites}
-use Rattle.ec_file_scope.specs.FileScope.{after_declarator, declarator_sites, after_more, more_sites, after_declaration, declaration_sites}
-use Rattle.ec_file_scope.specs.States.{Setting, State, known_of, in_unit}
+use Rattle.ec_check_names.specs.declared.specifiers.Storage.{Storage}
+use Rattle.ec_check_names.specs.Counts.{objects_in_more, objects_in_declaration, objects_in_external, objects_in_externals, objects_in_unit}
+use Rattle.ec_check_names.specs.Counts.{objects_declared}
+use Rattle.ec_check_names.specs.Counts.{functions_in_externals, functions_in_unit, functions_defined}
+use Rattle.ec_check_names.specs.Definitions.{Definition, Numbering, unlinked, numbered_declarator, numbered_external, numbered_unit}
+use Rattle.ec_check_names.specs.Specifiers.{specified, specs_rules, storages_of}
+use Rattle.ec_check_names.specs.Tags.{Tags}
+use Rattle.ec_check_expression_laws.specs.Laws.{AreUnbroken}
+use Rattle.ec_check_expression_laws.specs.Suits.{AreHeld}
+use Rattle.ec_check_declarations.specs.Functions.{function_declared}
+use Rattle.ec_check_declarations.specs.Sites.{Site, on, told}
+use Rattle.ec_check_file_scope.specs.FileFunctions.{named_function_sites, file_function_sites}
+use Rattle.ec_check_file_scope.specs.FileObjects.{word_of, is_started, object_of, declared_sites, file_register_sites}
+use Rattle.ec_check_file_scope.specs.FileScope.{after_declarator, declarator_sites, after_more, more_sites, after_declaration}
+use Rattle.ec_check_file_scope.specs.FileScope.{declaration_sites}
+use Rattle.ec_check_file_scope.specs.States.{Setting, State, known_of, in_unit}
+use Rattle.ec_check_statements.proofs.Unbroken.{kept_of, told_of}
 use Rattle.ec_check.specs.Agreement.{Agrees}
 use Rattle.ec_check.specs.Definitions.{definition_declared, definition_body_sites, definition_sites}
 use Rattle.ec_check.specs.Laws.{structs_in_externals, structs_in_unit, most_structs, structs_defined, AreShort}
-use Rattle.ec_check.specs.Units.{after_external, external_sites, after_externals, externals_sites, main_of, after_unit, unit_fault, setting_of, is_last, after_units, first_fault}
+use Rattle.ec_check.specs.Units.{after_external, external_sites, after_externals, externals_sites, main_of, after_unit, unit_fault}
+use Rattle.ec_check.specs.Units.{setting_of, is_last, after_units, first_fault}
 use Rattle.ec_check.proofs.Agreeing.{Laws, declarator_goes_on, external_goes_on}
 use Rattle.ec_check.proofs.Counted.{declarator_counts, external_counts}
-use Rattle.ec_check.proofs.Kept.{kept_of, told_of}
 use Rattle.ec_check.proofs.KeptFunctions.{function_there}
 use Rattle.ec_check.proofs.Programs.{later_none, unit_begins, unit_agrees}
-use Rattle.ec_check.proofs.Steps.{Step, begins, pragma, structure, register, object, function, definition, Steps, done, onward, IsClear, HasTokens}
+use Rattle.ec_check.proofs.Steps.{Step, begins, pragma, structure, register, object, function, definition, Steps, done, onward, IsClear}
+use Rattle.ec_check.proofs.Steps.{HasTokens}
 use Rattle.ec_check.proofs.Tokens.{before_body, past_external}
 
 -- ---- tokens
@@ -55,7 +59,8 @@ module _ (laws : Laws) (ds : List Definition) (io : IoTable) (unit : ℕ) where
   abbrev r : Setting
   r = setting_of ds io unit
 
-  one_step : (ss : t.Specs) (storage : Option Storage) (d : t.InitDeclarator) (n : Numbering) (s : State) (rest : List Site) → Agrees io unit n s
+  one_step : (ss : t.Specs) (storage : Option Storage) (d : t.InitDeclarator) (n : Numbering) (s : State) (rest : List Site)
+      → Agrees io unit n s
       → AreUnbroken (specs_rules s.tags true ss []) → told None (declarator_sites r (specified s.tags ss) storage d s rest) ≡ None
       → Step r s (after_declarator r (specified s.tags ss) storage d s)
   one_step ss storage (t.init_declarator (t.declarator stars (t.identifier at n) t.object) start) num s rest h unbroken q =
@@ -67,7 +72,8 @@ module _ (laws : Laws) (ds : List Definition) (io : IoTable) (unit : ℕ) where
   one_step ss storage (t.init_declarator (t.declarator stars (t.identifier at n) (t.array l size e)) start) num s rest h unbroken q =
       let d = t.init_declarator (t.declarator stars (t.identifier at n) (t.array l size e)) start in
       let behind = declared_sites r storage d s (object_of r (specified s.tags ss) d s) rest in
-      let a = laws.objects (known_of io s) true true ss [] stars (t.identifier at n) (t.array l size e) start behind h.types unbroken refl q in
+      let a =
+      laws.objects (known_of io s) true true ss [] stars (t.identifier at n) (t.array l size e) start behind h.types unbroken refl q in
       let u = kept_of behind a.1 in
       object (specified s.tags ss) ss storage d refl (record { clear = u.1.0.0; other = u.1.0.1.0 })
   one_step ss storage (t.init_declarator (t.declarator stars (t.identifier at n) (t.function_shape l ps e)) start) num s rest h unbroken q =
@@ -79,15 +85,19 @@ module _ (laws : Laws) (ds : List Definition) (io : IoTable) (unit : ℕ) where
       function (specified s.tags ss) ss storage d ps refl (record { clear = a.1.0.0; main = a.1.0.1.1.0 })
 
   -- where the tags are those that the specifiers were read with
-  declarator_step : (ss : t.Specs) (storage : Option Storage) (d : t.InitDeclarator) (n : Numbering) (s : State) (rest : List Site) → Agrees io unit n s
-      → (tags : Tags) → s.tags ≡ tags → AreUnbroken (specs_rules tags true ss []) → told None (declarator_sites r (specified tags ss) storage d s rest) ≡ None
+  declarator_step : (ss : t.Specs) (storage : Option Storage) (d : t.InitDeclarator) (n : Numbering) (s : State) (rest : List Site)
+      → Agrees io unit n s
+      → (tags : Tags) → s.tags ≡ tags → AreUnbroken (specs_rules tags true ss [])
+      → told None (declarator_sites r (specified tags ss) storage d s rest) ≡ None
       → Step r s (after_declarator r (specified tags ss) storage d s)
   declarator_step ss storage d n s rest h tags e =
-      subst (λ (ts : Tags). AreUnbroken (specs_rules ts true ss []) → told None (declarator_sites r (specified ts ss) storage d s rest) ≡ None
+      subst
+      (λ (ts : Tags). AreUnbroken (specs_rules ts true ss []) → told None (declarator_sites r (specified ts ss) storage d s rest) ≡ None
       → Step r s (after_declarator r (specified ts ss) storage d s)) e
       (one_step ss storage d n s rest h)
 
-  more_steps : (ss : t.Specs) (storage : Option Storage) (xs : List t.NextInitDeclarator) (n : Numbering) (s : State) (rest : List Site) → Agrees io unit n s
+  more_steps : (ss : t.Specs) (storage : Option Storage) (xs : List t.NextInitDeclarator) (n : Numbering) (s : State) (rest : List Site)
+      → Agrees io unit n s
       → n.objects + objects_in_more xs ≤ 65_536 → (tags : Tags) → s.tags ≡ tags → AreUnbroken (specs_rules tags true ss [])
       → told None (more_sites r (specified tags ss) storage xs s rest) ≡ None
       → (z : State) → Steps ds io (after_more r (specified tags ss) storage xs s) z → Steps ds io s z
@@ -100,10 +110,12 @@ module _ (laws : Laws) (ds : List Definition) (io : IoTable) (unit : ℕ) where
       let count = declarator_counts unit (word_of storage) d n in
       let objects = count.objects in
       onward unit next z (clear_at io unit n s h) (declarator_step ss storage d n s behind h tags e unbroken q)
-      (more_steps ss storage xs (numbered_declarator unit (word_of storage) d n) next rest a.agrees (omega (arith, room, objects)) tags (a.tags ∙ e) unbroken
+      (more_steps ss storage xs (numbered_declarator unit (word_of storage) d n) next rest a.agrees (omega (arith, room, objects)) tags
+      (a.tags ∙ e) unbroken
       (told_of behind a.kept) z more)
 
-  declaration_steps : (d : t.Declaration) (n : Numbering) (s : State) (rest : List Site) → Agrees io unit n s → n.objects + objects_in_declaration d ≤ 65_536
+  declaration_steps : (d : t.Declaration) (n : Numbering) (s : State) (rest : List Site) → Agrees io unit n s
+      → n.objects + objects_in_declaration d ≤ 65_536
       → told None (declaration_sites r d s rest) ≡ None → (z : State) → Steps ds io (after_declaration r d s) z → Steps ds io s z
   declaration_steps (t.declaration ss first more semicolon) n s rest h room q z behind =
       let u = kept_of (declaration_sites r (t.declaration ss first more semicolon) s rest) q in
@@ -111,13 +123,15 @@ module _ (laws : Laws) (ds : List Definition) (io : IoTable) (unit : ℕ) where
       more_steps ss (storages_of ss).first all n s rest h (omega (arith, room)) s.tags refl u.0
       (told_of (more_sites r (specified s.tags ss) (storages_of ss).first all s rest) u.1) z behind
 
-  register_step : (d : t.RegisterObject) (s : State) (rest : List Site) → told None (file_register_sites r d s rest) ≡ None → Step r s (after_external r (t.register_item d) s)
+  register_step : (d : t.RegisterObject) (s : State) (rest : List Site) → told None (file_register_sites r d s rest) ≡ None
+      → Step r s (after_external r (t.register_item d) s)
   register_step (t.register_object w (t.identifier at reg) ss (t.identifier name_at n) semicolon) s rest q =
       let d = t.register_object w (t.identifier at reg) ss (t.identifier name_at n) semicolon in
       let u = kept_of (file_register_sites r d s rest) q in
       register d (record { clear = u.1.1.1.1.0.0; other = u.1.1.1.1.0.1.0 }) u.1.1.1.0.0
 
-  definition_step : (x : t.Function) (n : Numbering) (s : State) (rest : List Site) (leaves : List Leaf) → Agrees io unit n s → told None (definition_sites r x s rest) ≡ None
+  definition_step : (x : t.Function) (n : Numbering) (s : State) (rest : List Site) (leaves : List Leaf) → Agrees io unit n s
+      → told None (definition_sites r x s rest) ≡ None
       → AreFewHeld (of_external (t.function_item x) leaves) → Step r s (after_external r (t.function_item x) s)
   definition_step (t.function (t.type_name ss stars) (t.identifier at n) l ps e body) num s rest leaves h q tokens =
       let x = t.function (t.type_name ss stars) (t.identifier at n) l ps e body in
@@ -125,14 +139,16 @@ module _ (laws : Laws) (ds : List Definition) (io : IoTable) (unit : ℕ) where
       let u = kept_of (definition_sites r x s rest) q in
       let a = function_there laws.functions r num s h true ss stars at.index ps tail u.0 u.1 in
       definition x leaves (record { clear = a.1.0.0; main = a.1.0.1.1.0 })
-      (has_tokens (mark e RightParenthesis) body leaves (before_body AreFewHeld skip (t.type_name ss stars) (t.identifier at n) l e ps body leaves tokens))
+      (has_tokens (mark e RightParenthesis) body leaves
+      (before_body AreFewHeld skip (t.type_name ss stars) (t.identifier at n) l e ps body leaves tokens))
 
   external_steps : (x : t.External) (n : Numbering) (s : State) (rest : List Site) (leaves : List Leaf) → Agrees io unit n s
       → n.objects + objects_in_external x ≤ 65_536 → told None (external_sites r x s rest) ≡ None → AreFewHeld (of_external x leaves)
       → (z : State) → Steps ds io (after_external r x s) z → Steps ds io s z
   external_steps (t.pragma_item p) n s rest leaves h room q tokens z more = onward unit _ z (clear_at io unit n s h) (pragma p) more
   external_steps (t.structure_item d) n s rest leaves h room q tokens z more = onward unit _ z (clear_at io unit n s h) (structure d) more
-  external_steps (t.register_item d) n s rest leaves h room q tokens z more = onward unit _ z (clear_at io unit n s h) (register_step d s rest q) more
+  external_steps (t.register_item d) n s rest leaves h room q tokens z more =
+      onward unit _ z (clear_at io unit n s h) (register_step d s rest q) more
   external_steps (t.declaration_item d) n s rest leaves h room q tokens z more = declaration_steps d n s rest h room q z more
   external_steps (t.function_item x) n s rest leaves h room q tokens z more =
       onward unit _ z (clear_at io unit n s h) (definition_step x n s rest leaves h q tokens) more
@@ -152,23 +168,29 @@ module _ (laws : Laws) (ds : List Definition) (io : IoTable) (unit : ℕ) where
       let functions = count.functions in
       let structs = a.structs in
       external_steps x n s behind (of_list of_external xs leaves) h (omega (arith, room)) q tokens z
-      (externals_steps xs m next rest leaves a.agrees (omega (arith, room, objects)) (omega (arith, few, functions)) (omega (arith, small, structs)) a.told
+      (externals_steps xs m next rest leaves a.agrees (omega (arith, room, objects)) (omega (arith, few, functions))
+      (omega (arith, small, structs)) a.told
       (past_external AreFewHeld skip x (of_list of_external xs leaves) tokens) z more)
 
 -- ---- units
 
 module _ (laws : Laws) (ds : List Definition) (io : IoTable) where
   unit_steps : (u : t.Tree) (unit : ℕ) (last : Bool) (n : Numbering) (s : State) → Agrees io unit (unlinked n) (in_unit s)
-      → n.objects + objects_in_unit u ≤ 65_536 → n.functions + functions_in_unit u ≤ 65_536 → length s.structs + structs_in_unit u ≤ most_structs
-      → unit_fault (setting_of ds io unit) last u s ≡ None → AreHeld (of_tree u []) → length (of_tree u []) ≤ 65_536 → (z : State) → Steps ds io (after_unit (setting_of ds io unit) u s) z
+      → n.objects + objects_in_unit u ≤ 65_536 → n.functions + functions_in_unit u ≤ 65_536
+      → length s.structs + structs_in_unit u ≤ most_structs
+      → unit_fault (setting_of ds io unit) last u s ≡ None → AreHeld (of_tree u []) → length (of_tree u []) ≤ 65_536 → (z : State)
+      → Steps ds io (after_unit (setting_of ds io unit) u s) z
       → Steps ds io (in_unit s) z
   unit_steps (t.tree xs end) unit last n s h room few small q held short z more =
-      externals_steps laws ds io unit xs (unlinked n) (in_unit s) (on (rule 18 (last && is_none (main_of ds)) end.index ∷ []) ∷ []) _ h room few small q
+      externals_steps laws ds io unit xs (unlinked n) (in_unit s)
+      (on (rule 18 (last && is_none (main_of ds)) end.index ∷ []) ∷ []) _ h room few small q
       (held, short) z more
 
   pub units_steps : (us : List t.Tree) (unit : ℕ) (n : Numbering) (s : State) → IsClear io s → Agrees io unit (unlinked n) (in_unit s)
-      → n.objects + objects_declared us ≤ 65_536 → n.functions + functions_defined us ≤ 65_536 → length s.structs + structs_defined us ≤ most_structs
-      → first_fault ds io unit us s ≡ None → AllByRecursion (λ u. AreHeld (of_tree u [])) us → AreShort us → Steps ds io s (after_units ds io unit us s)
+      → n.objects + objects_declared us ≤ 65_536 → n.functions + functions_defined us ≤ 65_536
+      → length s.structs + structs_defined us ≤ most_structs
+      → first_fault ds io unit us s ≡ None → AllByRecursion (λ u. AreHeld (of_tree u [])) us → AreShort us
+      → Steps ds io s (after_units ds io unit us s)
   units_steps [] unit n s clear h room few small q held short = done
   units_steps (u ∷ us) unit n s clear h room few small q held short =
       let next = after_unit (setting_of ds io unit) u s in
@@ -179,6 +201,8 @@ module _ (laws : Laws) (ds : List Definition) (io : IoTable) where
       let functions = a.1.functions in
       let structs = a.2 in
       onward unit (in_unit s) (after_units ds io (unit + 1) us next) clear begins
-      (unit_steps u unit (is_last us) n s h (omega (arith, room)) (omega (arith, few)) (omega (arith, small)) e.0 held.0 short.0 (after_units ds io (unit + 1) us next)
-      (units_steps us (unit + 1) m next (clear_at io unit m next a.0) (unit_begins io unit m next a.0) (omega (arith, room, objects)) (omega (arith, few, functions))
+      (unit_steps u unit (is_last us) n s h (omega (arith, room)) (omega (arith, few)) (omega (arith, small)) e.0 held.0 short.0
+      (after_units ds io (unit + 1) us next)
+      (units_steps us (unit + 1) m next (clear_at io unit m next a.0) (unit_begins io unit m next a.0) (omega (arith, room, objects))
+      (omega (arith, few, functions))
       (omega (arith, small, structs)) e.1 held.1 short.1))

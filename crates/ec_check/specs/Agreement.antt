@@ -9,17 +9,17 @@ use Rattle.ec_space.specs.declared.space.SpaceId.TheVariants.{Generic}
 use Rattle.ec_core.specs.Layout.{struct_layouts}
 use Rattle.ec_core.specs.Plain.{PlainType, PlainStruct, PlainObject, PlainFunction, register}
 use Rattle.ec_core.specs.Valid.{IsStatic}
-use Rattle.ec_names.specs.declared.numbering.Defined.{Defined}
-use Rattle.ec_names.specs.declared.numbering.Defined.TheVariants.{Object, Register, Function as FunctionKind}
-use Rattle.ec_names.specs.declared.specifiers.StorageWord.{StorageWord}
-use Rattle.ec_names.specs.Definitions as numbering
-use Rattle.ec_names.specs.Definitions.{Definition, Numbering, link_in}
-use Rattle.ec_names.specs.Linkage.{linkage_of}
-use Rattle.ec_expr_valid.specs.Suits.{HasTypes}
-use Rattle.ec_file_scope.specs.FileNames.{FileKind, an_object, a_register, a_function, FileName, conflict, earlier_link}
-use Rattle.ec_file_scope.specs.FileNames.{is_external, is_registered}
-use Rattle.ec_file_scope.specs.FileObjects.{home_of}
-use Rattle.ec_file_scope.specs.States.{State, known_of, IsSoundState}
+use Rattle.ec_check_names.specs.declared.numbering.Defined.{Defined}
+use Rattle.ec_check_names.specs.declared.numbering.Defined.TheVariants.{Object, Register, Function as FunctionKind}
+use Rattle.ec_check_names.specs.declared.specifiers.StorageWord.{StorageWord}
+use Rattle.ec_check_names.specs.Definitions as numbering
+use Rattle.ec_check_names.specs.Definitions.{Definition, Numbering, link_in}
+use Rattle.ec_check_names.specs.Linkage.{linkage_of}
+use Rattle.ec_check_expression_laws.specs.Suits.{HasTypes}
+use Rattle.ec_check_file_scope.specs.FileNames.{FileKind, an_object, a_register, a_function, FileName, conflict, earlier_link}
+use Rattle.ec_check_file_scope.specs.FileNames.{is_external, is_registered}
+use Rattle.ec_check_file_scope.specs.FileObjects.{home_of}
+use Rattle.ec_check_file_scope.specs.States.{State, known_of, IsSoundState}
 
 -- ---- what definitions make
 

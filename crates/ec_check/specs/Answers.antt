@@ -6,14 +6,14 @@ use Rattle.ec_iohw.specs.declared.table.IoTable.{IoTable}
 use Rattle.ec_core.specs.Layout.{AreStructs}
 use Rattle.ec_core.specs.Plain.{PlainProgram, plain_program, plain_struct}
 use Rattle.ec_core.specs.declared.programs.Program.{Program}
-use Rattle.ec_names.specs.Counts.{most_objects, most_functions, objects_declared, functions_defined}
-use Rattle.ec_recursion.specs.Recursion.{IsFirstRecursive, NothingRecurs}
+use Rattle.ec_check_names.specs.Counts.{most_objects, most_functions, objects_declared, functions_defined}
+use Rattle.ec_check_recursion.specs.Recursion.{IsFirstRecursive, NothingRecurs}
 use Rattle.ec_check.specs.declared.checking.CheckStop.{CheckStop}
 use Rattle.ec_check.specs.declared.checking.CheckStop.TheVariants as stops
 use Rattle.ec_check.specs.Units.{program_of, least_fault, UnitFault, first_fault, after_units, main_of, program_by}
-use Rattle.ec_file_scope.specs.States.{nothing_declared}
-use Rattle.ec_names.specs.Definitions.{Definition}
-use Rattle.ec_unit_parts.specs.declared.UnitFault as unit_fault_code
+use Rattle.ec_check_file_scope.specs.States.{nothing_declared}
+use Rattle.ec_check_names.specs.Definitions.{Definition}
+use Rattle.ec_check_declarations.specs.declared.units.UnitFault as unit_fault_code
 
 -- P is the program of the units
 abbrev pub IsTyped : List t.Tree → IoTable → PlainProgram → Type 0

@@ -4,17 +4,17 @@ use Rattle.std.specs.Prelude.{ℕ, nat_lt, Bool, true, false, if◌then◌else�
 use Rattle.std.specs.Prelude.{length}
 use Rattle.ec_grammar.specs.Trees as t
 use Rattle.ec_core.specs.Plain.{PlainType, PlainStmt, PlainFunction, param}
-use Rattle.ec_names.specs.declared.specifiers.StorageWord.{StorageWord}
-use Rattle.ec_names.specs.Specifiers.{specified, specs_rules, storages_of}
-use Rattle.ec_declare.specs.Functions.{FunctionDeclared, function_declared, function_sites}
-use Rattle.ec_declare.specs.Params.{ParamDeclared}
-use Rattle.ec_declare.specs.Scopes.{Scope, made_number, with_inner}
-use Rattle.ec_declare.specs.Sites.{Site, on}
-use Rattle.ec_statement_forms.specs.Around.{Around}
-use Rattle.ec_statements.specs.Statements.{body_of, after_body, body_sites}
-use Rattle.ec_file_scope.specs.FileFunctions.{function_link, with_function_name, named_function_sites}
-use Rattle.ec_file_scope.specs.FileObjects.{word_of}
-use Rattle.ec_file_scope.specs.States.{Setting, State, context_of, with_scope, broken}
+use Rattle.ec_check_names.specs.declared.specifiers.StorageWord.{StorageWord}
+use Rattle.ec_check_names.specs.Specifiers.{specified, specs_rules, storages_of}
+use Rattle.ec_check_declarations.specs.Functions.{FunctionDeclared, function_declared, function_sites}
+use Rattle.ec_check_declarations.specs.Params.{ParamDeclared}
+use Rattle.ec_check_declarations.specs.Scopes.{Scope, made_number, with_inner}
+use Rattle.ec_check_declarations.specs.Sites.{Site, on}
+use Rattle.ec_check_statements.specs.Around.{Around}
+use Rattle.ec_check_statements.specs.Statements.{body_of, after_body, body_sites}
+use Rattle.ec_check_file_scope.specs.FileFunctions.{function_link, with_function_name, named_function_sites}
+use Rattle.ec_check_file_scope.specs.FileObjects.{word_of}
+use Rattle.ec_check_file_scope.specs.States.{Setting, State, context_of, with_scope, broken}
 
 -- ---- parameters
 

@@ -6,7 +6,7 @@ use Rattle.ec_grammar.specs.Trees.{External, pragma_item, structure_item, regist
 use Rattle.ec_grammar.specs.Trees.{function_item, Tree, tree}
 use Rattle.ec_iohw.specs.declared.table.IoTable.{IoTable}
 use Rattle.ec_core.specs.Plain.{PlainProgram}
-use Rattle.ec_names.specs.Counts.{objects_declared, functions_defined}
+use Rattle.ec_check_names.specs.Counts.{objects_declared, functions_defined}
 use Rattle.ec_check.specs.Answers.{IsTyped, IsWithinLimits}
 use Rattle.ec_check.specs.Units.{least_fault}
 

@@ -1,19 +1,19 @@
 -- Units (ISO/IEC 9899:1999, 6.9), and the program that all units make.
 use Rattle.std.specs.Prelude.{ℕ, ◌+◌, Bool, true, false, ◌&&◌, if◌then◌else◌, is_none, Option, Some, None}
 use Rattle.std.specs.Prelude.{List, [], ◌∷◌, length, nat_le}
-use Rattle.ec_faults.specs.declared.Fault.{Fault}
-use Rattle.ec_faults.specs.Faults.{rule}
+use Rattle.ec_check_operands.specs.declared.faults.Fault.{Fault}
+use Rattle.ec_check_operands.specs.Faults.{rule}
 use Rattle.ec_grammar.specs.Trees as t
 use Rattle.ec_iohw.specs.declared.table.IoTable.{IoTable}
 use Rattle.ec_core.specs.Plain.{PlainProgram}
-use Rattle.ec_names.specs.declared.linkage.Linkage.TheVariants.{External}
-use Rattle.ec_names.specs.Definitions.{Definition, definitions, number_of}
-use Rattle.ec_declare.specs.Sites.{Site, on, told}
-use Rattle.ec_declare.specs.Structures.{structure_sites}
-use Rattle.ec_statement_forms.specs.Around.{with_pragma}
-use Rattle.ec_file_scope.specs.FileObjects.{after_register, file_register_sites}
-use Rattle.ec_file_scope.specs.FileScope.{after_declaration, declaration_sites, after_structure}
-use Rattle.ec_file_scope.specs.States.{Setting, State, known_of, with_modes, nothing_declared, in_unit}
+use Rattle.ec_check_names.specs.declared.linkage.Linkage.TheVariants.{External}
+use Rattle.ec_check_names.specs.Definitions.{Definition, definitions, number_of}
+use Rattle.ec_check_declarations.specs.Sites.{Site, on, told}
+use Rattle.ec_check_declarations.specs.Structures.{structure_sites}
+use Rattle.ec_check_statements.specs.Around.{with_pragma}
+use Rattle.ec_check_file_scope.specs.FileObjects.{after_register, file_register_sites}
+use Rattle.ec_check_file_scope.specs.FileScope.{after_declaration, declaration_sites, after_structure}
+use Rattle.ec_check_file_scope.specs.States.{Setting, State, known_of, with_modes, nothing_declared, in_unit}
 use Rattle.ec_check.specs.Definitions.{after_definition, definition_sites}
 
 -- ---- external declarations

@@ -7,8 +7,8 @@ use Rattle.ec_iohw.specs.declared.table.IoTable.{IoTable}
 use Rattle.ec_iohw.specs.Valid.{ValidIo}
 use Rattle.ec_core.specs.Plain.{PlainProgram}
 use Rattle.ec_core.specs.Valid.{Valid}
-use Rattle.ec_expr_valid.specs.Suits.{AreHeld}
-use Rattle.ec_recursion.specs.Recursion.{NothingRecurs}
+use Rattle.ec_check_expression_laws.specs.Suits.{AreHeld}
+use Rattle.ec_check_recursion.specs.Recursion.{NothingRecurs}
 use Rattle.ec_check.specs.Answers.{IsTyped, IsWithinLimits}
 use Rattle.ec_check.specs.Laws.{most_structs, structs_defined, AreShort}
 use Rattle.ec_check.specs.Units.{least_fault}

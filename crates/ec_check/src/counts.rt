@@ -3,8 +3,7 @@ ghost use Rattle.std.specs.Prelude.{◌≡◌, ◌-◌, nat_lt, map};
 ghost use Rattle.ec_grammar.specs.Views.{view_external, view_tree};
 ghost use Rattle.ec_check.specs.Laws.{most_structs, structs_in_external, structs_in_externals, structs_defined};
 
-use ec_grammar::Tree;
-use ec_grammar::tree::External;
+use ec_grammar::{External, Tree};
 
 fn less_external(left: usize, external: &External) -> usize
     ensures { result ≡ left - structs_in_external (view_external external.now) }

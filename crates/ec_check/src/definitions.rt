@@ -3,25 +3,27 @@ ghost use Rattle.std.specs.Prelude.{◌≡◌, IfOk, OnOk, Some, [], map, option
 ghost use Rattle.ec_iohw.specs.Valid.{ValidIo};
 ghost use Rattle.ec_core.specs.Plain.{plain_type, plain_stmt, plain_function};
 ghost use Rattle.ec_grammar.specs.Views.{view_compound, view_function};
-ghost use Rattle.ec_declare.specs.Functions.{plain_declared_function};
-ghost use Rattle.ec_declare.specs.Params.{plain_param};
-ghost use Rattle.ec_declare.specs.Scopes.{plain_scope};
-ghost use Rattle.ec_declare.specs.Sites.{Walked};
-ghost use Rattle.ec_file_scope.specs.States.{plain_setting, plain_state, IsSoundState};
+ghost use Rattle.ec_check_declarations.specs.Functions.{plain_declared_function};
+ghost use Rattle.ec_check_declarations.specs.Params.{plain_param};
+ghost use Rattle.ec_check_declarations.specs.Scopes.{plain_scope};
+ghost use Rattle.ec_check_declarations.specs.Sites.{Walked};
+ghost use Rattle.ec_check_file_scope.specs.States.{plain_setting, plain_state, IsSoundState};
 ghost use Rattle.ec_check.specs.Definitions.{with_param, param_number, with_params, next_numbers, param_numbers};
 ghost use Rattle.ec_check.specs.Definitions.{has_number, number_in, function_made, with_function, defined_in};
 ghost use Rattle.ec_check.specs.Definitions.{after_definition, body_sites_in, definition_sites, definition_word};
 ghost use Rattle.ec_check.specs.Definitions.{definition_head_sites, definition_declared, definition_body_sites};
 ghost use Rattle.ec_check.specs.Definitions.{with_definition};
 
+use ec_check_declarations::{
+    Context, FunctionDeclared, ParamDeclared, Scope, copied_name, declared_function,
+};
+use ec_check_file_scope::{Setting, State, name_function, word_of};
+use ec_check_names::{StorageWord, judge_specs, storages_of};
+use ec_check_operands::Faults;
+use ec_check_statements::{Around, body};
 use ec_core::{CType, Func, Stmt, Storage};
-use ec_declare::{Context, FunctionDeclared, ParamDeclared, Scope, copied_name, declared_function};
-use ec_faults::Faults;
-use ec_file_scope::{Setting, State, name_function, word_of};
-use ec_grammar::tree::{Compound, Function};
-use ec_names::{StorageWord, judge_specs, storages_of};
+use ec_grammar::{Compound, Function};
 use ec_space::{Name, NoMemory, Seq};
-use ec_statements::{Around, body};
 use std::alloc::Global;
 
 // ---- parameters

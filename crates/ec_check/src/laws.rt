@@ -2,19 +2,19 @@
 ghost use Rattle.ec_check.specs.Laws.{ProgramsExist, StructsAreFew};
 ghost use Rattle.ec_check.specs.Validity.{ProgramsAreValid};
 
-use ec_core::structs_are_laid_out;
-use ec_expr_valid::{
+use ec_check_expression_laws::{
     declarations_keep_suiting, definitions_keep_suiting, kept_expressions_have_meanings,
     kept_types_are_said, said_types_are_placed,
 };
-use ec_initial::{initial_values_suit, sizes_are_values};
-use ec_names::equal_structs_are_one;
-use ec_rules::kept_forms_have_meanings;
-use ec_statements_valid::{
+use ec_check_forms::kept_forms_have_meanings;
+use ec_check_initialisers::{initial_values_suit, sizes_are_values};
+use ec_check_names::equal_structs_are_one;
+use ec_check_statements::{
     bodies_are_valid, bodies_need_their_tokens, function_types_are_usable,
     inner_objects_keep_suiting, kept_bodies_have_meanings, kept_functions_have_types,
     kept_objects_have_types, objects_are_appended, objects_stay, scopes_end,
 };
+use ec_core::structs_are_laid_out;
 
 /// Units that keep the limits and break no rule have a program, where they define no more structs than there are numbers
 /// of 32 bits.

@@ -2,20 +2,19 @@
 ghost use Rattle.std.specs.Prelude.{◌≡◌, IfOk, OnOk, is_some, map};
 ghost use Rattle.ec_iohw.specs.Valid.{ValidIo};
 ghost use Rattle.ec_grammar.specs.Views.{view_external, view_tree};
-ghost use Rattle.ec_names.specs.Definitions.{plain_definitions};
-ghost use Rattle.ec_declare.specs.Sites.{Walked};
-ghost use Rattle.ec_file_scope.specs.States.{plain_setting, plain_state, IsSoundState};
+ghost use Rattle.ec_check_names.specs.Definitions.{plain_definitions};
+ghost use Rattle.ec_check_declarations.specs.Sites.{Walked};
+ghost use Rattle.ec_check_file_scope.specs.States.{plain_setting, plain_state, IsSoundState};
 ghost use Rattle.ec_check.specs.Units.{after_external, external_sites, after_externals, externals_sites, main_of};
 ghost use Rattle.ec_check.specs.Units.{after_unit, unit_sites, unit_fault};
 
 use crate::definitions::definition;
-use ec_faults::{Fault, Faults};
-use ec_file_scope::{Setting, State, file_declaration, file_register, file_structure};
-use ec_grammar::Tree;
-use ec_grammar::tree::External;
-use ec_names::{Definition, Linkage, number_of};
+use ec_check_file_scope::{Setting, State, file_declaration, file_register, file_structure};
+use ec_check_names::{Definition, Linkage, number_of};
+use ec_check_operands::{Fault, Faults};
+use ec_check_statements::with_pragma;
+use ec_grammar::{External, Tree};
 use ec_space::{NoMemory, Seq};
-use ec_statements::with_pragma;
 use std::alloc::Global;
 
 fn external(

@@ -1,6 +1,8 @@
-mod Lines
-mod Outs
-mod RunParts
+-- For the crates of the family.
 pub mod RunComplete
 pub mod Files
 pub mod Named
+-- For this crate alone.
+mod Lines
+mod Outs
+mod RunParts

@@ -1,5 +1,6 @@
 -- A line that goes out in parts.
-use Rattle.std.proofs.Common.{◌≡◌, ◌+◌, ◌/◌, ◌%◌, ◌^◌, ◌<◌, ◌≤◌, ◌∙◌, ℕ, List, [], ◌∷◌, ◌++◌, length, take, min, Some, None, refl, sym, ap, subst, arith, append_assoc, append-nil, drop}
+use Rattle.std.proofs.Common.{◌≡◌, ◌+◌, ◌/◌, ◌%◌, ◌^◌, ◌<◌, ◌≤◌, ◌∙◌, ℕ, List, [], ◌∷◌, ◌++◌, length, take, min, Some, None, refl, sym, ap}
+use Rattle.std.proofs.Common.{subst, arith, append_assoc, append-nil, drop}
 use Rattle.std.specs.Prelude.{Option, flat_map, get_or}
 use Rattle.std.specs.Fmt.{decimal}
 use Rattle.std.proofs.lemmas.Fmt.{decimal_digit, decimal_step}

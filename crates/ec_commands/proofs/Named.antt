@@ -1,5 +1,6 @@
 -- Sources that were read one behind the other.
-use Rattle.std.proofs.Common.{◌≡◌, ℕ, zero, suc, ◌+◌, ◌-◌, ◌*◌, ◌<◌, ◌≤◌, ◌∙◌, List, [], ◌∷◌, ◌++◌, map, length, take, drop, get_or, Some, None, refl, sym, ap, subst, arith, inl, inr}
+use Rattle.std.proofs.Common.{◌≡◌, ℕ, zero, suc, ◌+◌, ◌-◌, ◌*◌, ◌<◌, ◌≤◌, ◌∙◌, List, [], ◌∷◌, ◌++◌, map, length, take, drop, get_or, Some}
+use Rattle.std.proofs.Common.{None, refl, sym, ap, subst, arith, inl, inr}
 use Rattle.std.specs.Prelude.{Option, All, Contains, string_bytes, IsSomeAnd, unwrap_or}
 use Rattle.std.specs.FinMap.{get}
 use Rattle.std.proofs.lemmas.Bool.{cases_eq}
@@ -11,9 +12,9 @@ use Rattle.ec_io.specs.Views.{StoreView}
 use Rattle.ec_io.proofs.Counting.{counted_more}
 use Rattle.ec_commands.specs.Shown.{IsWithin, IsPast, KeepsAll, Told}
 use Rattle.ec_commands.specs.Sources.{HoldTexts, AreWithin, StopsReadingSources}
-use Rattle.ec_command_parts.specs.declared.stop.Limit.TheVariants.{SourceBytes}
-use Rattle.ec_command_parts.specs.declared.stop.CommandError.{CommandError}
-use Rattle.ec_command_parts.specs.declared.stop.CommandError.TheVariants.{CannotRead, TooMany, NoMemory}
+use Rattle.ec_commands.specs.declared.stop.Limit.TheVariants.{SourceBytes}
+use Rattle.ec_commands.specs.declared.stop.CommandError.{CommandError}
+use Rattle.ec_commands.specs.declared.stop.CommandError.TheVariants.{CannotRead, TooMany, NoMemory}
 use Rattle.ec_commands.proofs.Files.{told_both}
 use Rattle.ec_commands.specs.Words.{Words, word, names_from}
 
@@ -22,7 +23,8 @@ word_of [] n d inside = absurd (omega arith)
 word_of (x ∷ words) zero d inside = refl
 word_of (x ∷ words) (suc n) d inside = word_of words n d (omega arith)
 
-pub name_at : (words : Words) (first n i : ℕ) (d : List ℕ) → i ≡ first + n → i < length words → get_or (names_from words first) n d ≡ word words i
+pub name_at : (words : Words) (first n i : ℕ) (d : List ℕ) → i ≡ first + n → i < length words
+    → get_or (names_from words first) n d ≡ word words i
 name_at words zero n i d is inside = let same : i ≡ n = omega arith in rw same (word_of words n d (omega arith))
 name_at [] (suc first) n i d is inside = absurd (omega arith)
 name_at (x ∷ words) (suc first) n zero d is inside = absurd (omega arith)
@@ -36,7 +38,8 @@ names_contain words first n i is inside =
     (n, omega (arith, length_names words first), name_at words first n i (word words i) is inside)
 
 -- one more source is read
-pub hold_more : (words : Words) (first i : ℕ) (sources : List (List ℕ)) (text : List ℕ) (files : Files) → i ≡ first + length sources → i < length words
+pub hold_more : (words : Words) (first i : ℕ) (sources : List (List ℕ)) (text : List ℕ) (files : Files) → i ≡ first + length sources
+    → i < length words
     → HoldTexts (take (length sources) (names_from words first)) sources files → get files (word words i) ≡ Some text
     → HoldTexts (take (length (sources ++ text ∷ [])) (names_from words first)) (sources ++ text ∷ []) files
 hold_more words first i sources text files is inside before here =
@@ -52,12 +55,15 @@ hold_more words first i sources text files is inside before here =
 pub hold_all : (words : Words) (first : ℕ) (sources : List (List ℕ)) (files : Files) → length words ≤ first + length sources
     → HoldTexts (take (length sources) (names_from words first)) sources files → HoldTexts (names_from words first) sources files
 hold_all words first sources files over h =
-    subst (λ ns. HoldTexts ns sources files) (take_all (length sources) (names_from words first) (omega (arith, length_names words first))) h
+    subst (λ ns. HoldTexts ns sources files)
+    (take_all (length sources) (names_from words first) (omega (arith, length_names words first))) h
 
-within_here : (files : Files) (name bytes : List ℕ) (most : ℕ) → get files name ≡ Some bytes → length bytes ≤ most → IsWithin name most files
+within_here : (files : Files) (name bytes : List ℕ) (most : ℕ) → get files name ≡ Some bytes → length bytes ≤ most
+    → IsWithin name most files
 within_here files name bytes most here fits = rw here fits
 
-pub within_more : (words : Words) (first i : ℕ) (text : List ℕ) (files : Files) → AreWithin words first i files → get files (word words i) ≡ Some text
+pub within_more : (words : Words) (first i : ℕ) (text : List ℕ) (files : Files) → AreWithin words first i files
+    → get files (word words i) ≡ Some text
     → length text ≤ 65536 → AreWithin words first (i + 1) files
 within_more words first i text files before here fits = λ j after below. elim (cases_eq j i) [
   | inl same ↦ rw same (within_here files (word words i) text 65536 here fits)
@@ -72,7 +78,8 @@ all_more sources text all fits = All-push (λ (bytes : List ℕ). length bytes �
 abbrev pub CameWithin : ℕ → ℕ → ℕ → Type 0
 CameWithin most before now = (n : ℕ) × ((n ≤ most) × Counted before now n)
 
-pub came_more : (a b c : ℕ) (sources : List (List ℕ)) (text : List ℕ) → CameWithin (65536 * length sources) a b → Counted b c (length text) → length text ≤ 65536
+pub came_more : (a b c : ℕ) (sources : List (List ℕ)) (text : List ℕ) → CameWithin (65536 * length sources) a b → Counted b c (length text)
+    → length text ≤ 65536
     → CameWithin (65536 * length (sources ++ text ∷ [])) a c
 came_more a b c sources text (n, (fits, counted)) then small =
     let one : length (sources ++ text ∷ []) ≡ length sources + 1 = length-append sources (text ∷ []) in
@@ -88,7 +95,8 @@ pub stops_behind : (words : Words) (first : ℕ) (P Q R : Files → Type 0) (a b
 stops_behind words first P Q R a b n old mid new (CannotRead i) kept told both later came fits h = (
   h.0,
   omega (arith, h.1, later),
-  told_both P (λ files. Q files × AreWithin words first i files) (λ files. R files × AreWithin words first i files) old.disk mid.disk kept told h.2
+  told_both P (λ files. Q files × AreWithin words first i files)
+      (λ files. R files × AreWithin words first i files) old.disk mid.disk kept told h.2
       (λ files p q. (both files p q.0, q.1)),
 )
 stops_behind words first P Q R a b n old mid new (TooMany SourceBytes) kept told both later came fits h = (
@@ -130,7 +138,8 @@ sources_within words first i sources files after there held fit =
     let here : get files (get_or names k []) ≡ Some (get_or sources k []) =
     AllZip-get_or (λ name bytes. get files name ≡ Some bytes) names sources k [] [] held inside in
     let name : get_or names k [] ≡ word words i = name_at words first k i [] (omega arith) there in
-    within_here files (word words i) (get_or sources k []) 65536 (ap (λ (n : List ℕ). get files n) (sym name) ∙ here) (fit k [] (omega arith))
+    within_here files (word words i) (get_or sources k []) 65536 (ap (λ (n : List ℕ). get files n) (sym name) ∙ here)
+    (fit k [] (omega arith))
 
 pub not_past : (files : Files) (name : List ℕ) (most : ℕ) → IsWithin name most files → IsPast name most files → ⊥
 not_past files name most within past = by (get files name) within past where

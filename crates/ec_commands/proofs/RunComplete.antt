@@ -16,17 +16,19 @@ use Rattle.ec_commands.specs.Answers.{IsTold, IsLeft}
 use Rattle.ec_commands.specs.Runs.{Gives, AcceptsRun, CanRun, StopsReadingInputs, HasTextFault, StopsLoading, StopsRunning, RunStops, Shows}
 use Rattle.ec_commands.specs.Stops.{status_of}
 use Rattle.ec_commands.specs.Words.{Words, IsNumber, hex_name, script_name}
-use Rattle.ec_command_parts.specs.declared.stop.Limit.TheVariants.{HexBytes, ScriptBytes}
-use Rattle.ec_command_parts.specs.declared.stop.CommandError.{CommandError}
-use Rattle.ec_command_parts.specs.declared.stop.CommandError.TheVariants.{CannotRead, CannotWrite, TooMany, Fault, StepsOut}
+use Rattle.ec_commands.specs.declared.stop.Limit.TheVariants.{HexBytes, ScriptBytes}
+use Rattle.ec_commands.specs.declared.stop.CommandError.{CommandError}
+use Rattle.ec_commands.specs.declared.stop.CommandError.TheVariants.{CannotRead, CannotWrite, TooMany, Fault, StepsOut}
 
 pub same_number : (digits : List ℕ) (most n m : ℕ) → IsNumber digits most n → IsNumber digits most m → n ≡ m
 same_number digits most n m a b = sym a.value ∙ b.value
 
 -- ---- answers by status
 
-pub by_status : {Stop : Type 0} (status_of : Stop → ℕ) (line_of : Stop → List ℕ) (P : ℕ → Type 0) (Q : Type 0) (err : SinkCall) (calm : ℕ → Type 0) (r : Result Unit Stop) (status : ℕ)
-    → OnOk r ((status ≡ 0) × Q) → IfErr r (λ stop. IsTold (status_of stop) (line_of stop) err calm status) → IfErr r (λ stop. P (status_of stop)) → (status ≡ 0) ⊎ P status
+pub by_status : {Stop : Type 0} (status_of : Stop → ℕ) (line_of : Stop → List ℕ) (P : ℕ → Type 0) (Q : Type 0) (err : SinkCall)
+    (calm : ℕ → Type 0) (r : Result Unit Stop) (status : ℕ)
+    → OnOk r ((status ≡ 0) × Q) → IfErr r (λ stop. IsTold (status_of stop) (line_of stop) err calm status)
+    → IfErr r (λ stop. P (status_of stop)) → (status ≡ 0) ⊎ P status
 by_status status_of line_of P Q err calm (Ok x) status zero told all = inl zero.0
 by_status status_of line_of P Q err calm (Err stop) status zero told all = inr (subst P (sym told.is) all)
 
@@ -35,29 +37,39 @@ by_status status_of line_of P Q err calm (Err stop) status zero told all = inr (
 one_text : {A : Type 0} (found : Option A) (x y : A) → found ≡ Some x → found ≡ Some y → x ≡ y
 one_text found x y a b = cc
 
-not_past : (found : Option (List ℕ)) (text : List ℕ) (most : ℕ) → found ≡ Some text → length text ≤ most → most < length (unwrap_or found []) → ⊥
+not_past : (found : Option (List ℕ)) (text : List ℕ) (most : ℕ) → found ≡ Some text → length text ≤ most
+    → most < length (unwrap_or found []) → ⊥
 not_past None text most here fits past = omega (arith, past)
-not_past (Some bytes) text most here fits past = let same : bytes ≡ text = cc in omega (arith, fits, past, ap (λ (b : List ℕ). length b) same)
+not_past (Some bytes) text most here fits past =
+    let same : bytes ≡ text = cc in
+    omega (arith, fits, past, ap (λ (b : List ℕ). length b) same)
 
-no_reading_stop : (words : Words) (disk : Disk) (read written received : ℕ) (new : StoreView) (stop : CommandError) → AcceptsRun words disk.files → ¬ (Rose read new.read_faults)
+no_reading_stop : (words : Words) (disk : Disk) (read written received : ℕ) (new : StoreView) (stop : CommandError)
+    → AcceptsRun words disk.files → ¬ (Rose read new.read_faults)
     → StopsReadingInputs words (store_view (Some disk) read written received) new stop → ⊥
 no_reading_stop words disk read written received new (CannotRead i) accepted calm h = calm h.0
-no_reading_stop words disk read written received new (TooMany HexBytes) accepted calm h = not_past (get disk.files (hex_name words)) accepted.text 1048576 accepted.hex accepted.hex_fits h.0
-no_reading_stop words disk read written received new (TooMany ScriptBytes) accepted calm h = not_past (get disk.files (script_name words)) accepted.lines 65536 accepted.script accepted.script_fits h.0.1
+no_reading_stop words disk read written received new (TooMany HexBytes) accepted calm h =
+    not_past (get disk.files (hex_name words)) accepted.text 1048576 accepted.hex accepted.hex_fits h.0
+no_reading_stop words disk read written received new (TooMany ScriptBytes) accepted calm h =
+    not_past (get disk.files (script_name words)) accepted.lines 65536 accepted.script accepted.script_fits h.0.1
 no_reading_stop words disk read written received new _ accepted calm h = h
 
 pub not_broken : (forms : List Form) (line rule : ℕ) → AreKept forms → BreaksAt forms line rule → ⊥
 not_broken forms line rule kept breaks = let e = sym (kept breaks.n breaks.form breaks.at) ∙ breaks.breaks in cc
 
-no_text_fault : (words : Words) (disk : Disk) (text lines : List ℕ) (stop : CommandError) → (accepted : AcceptsRun words disk.files) → text ≡ accepted.text → lines ≡ accepted.lines
+no_text_fault : (words : Words) (disk : Disk) (text lines : List ℕ) (stop : CommandError) → (accepted : AcceptsRun words disk.files)
+    → text ≡ accepted.text → lines ≡ accepted.lines
     → HasTextFault text lines stop → ⊥
 no_text_fault words disk text lines stop accepted hex script (inl h) =
-    h.none accepted.image.0 accepted.image.1.0 (subst (λ (t : List ℕ). Denotes Small t accepted.image.0 accepted.image.1.0) (sym hex) accepted.image.1.1)
+    h.none accepted.image.0 accepted.image.1.0
+    (subst (λ (t : List ℕ). Denotes Small t accepted.image.0 accepted.image.1.0) (sym hex) accepted.image.1.1)
 no_text_fault words disk text lines stop accepted hex script (inr h) =
-    not_broken (forms_of Small lines) h.1.line h.1.rule (subst (λ (t : List ℕ). AreKept (forms_of Small t)) (sym script) accepted.kept) h.1.fault
+    not_broken (forms_of Small lines) h.1.line h.1.rule
+    (subst (λ (t : List ℕ). AreKept (forms_of Small t)) (sym script) accepted.kept) h.1.fault
 
 -- a stop that tells how a run ended
-pub shown_stop : (old new : Option (List ℕ)) (end : EmuEnd) (trace : List Access) (stop : CommandError) → Shows old new end trace (Some stop)
+pub shown_stop : (old new : Option (List ℕ)) (end : EmuEnd) (trace : List Access) (stop : CommandError)
+    → Shows old new end trace (Some stop)
     → (stop ≡ CannotWrite) ⊎ IsLeft (status_of stop)
 shown_stop old new (ends.Ended n) trace CannotWrite h = inl refl
 shown_stop old new (ends.Ended n) trace _ h = absurd h
@@ -68,23 +80,31 @@ shown_stop old new ends.StepsOut trace _ h = absurd h
 shown_stop old new (ends.Fault kind pc) trace (Fault k p) h = inr (inr (inl refl))
 shown_stop old new (ends.Fault kind pc) trace _ h = absurd h
 
-left_loading : (words : Words) (disk : Disk) (read written received : ℕ) (new : StoreView) (stop : CommandError) → AcceptsRun words disk.files → ¬ (Rose read new.read_faults)
+left_loading : (words : Words) (disk : Disk) (read written received : ℕ) (new : StoreView) (stop : CommandError)
+    → AcceptsRun words disk.files → ¬ (Rose read new.read_faults)
     → StopsLoading words (store_view (Some disk) read written received) new stop → IsLeft (status_of stop)
 left_loading words disk read written received new stop accepted calm (inl e) = inl (ap status_of e)
-left_loading words disk read written received new stop accepted calm (inr (inl h)) = absurd (no_reading_stop words disk read written received new stop accepted calm h)
+left_loading words disk read written received new stop accepted calm (inr (inl h)) =
+    absurd (no_reading_stop words disk read written received new stop accepted calm h)
 left_loading words disk read written received new stop accepted calm (inr (inr h)) =
-    absurd (no_text_fault words disk h.0 h.1 stop accepted (one_text (get disk.files (hex_name words)) h.0 accepted.text h.2.0.hex accepted.hex)
+    absurd
+    (no_text_fault words disk h.0 h.1 stop accepted (one_text (get disk.files (hex_name words)) h.0 accepted.text h.2.0.hex accepted.hex)
     (one_text (get disk.files (script_name words)) h.1 accepted.lines h.2.0.script accepted.script) h.2.1)
 
-left_running : (words : Words) (steps fill : ℕ) (hooks : Gives) (disk : Option Disk) (out : SinkCall) (stop : CommandError) → ¬ (Rose out.faults_before out.faults_after)
+left_running : (words : Words) (steps fill : ℕ) (hooks : Gives) (disk : Option Disk) (out : SinkCall) (stop : CommandError)
+    → ¬ (Rose out.faults_before out.faults_after)
     → StopsRunning words steps fill hooks disk out stop → IsLeft (status_of stop)
 left_running words steps fill hooks disk out stop calm h = elim (shown_stop out.before out.after h.0.report.end h.0.trace stop h.0.shows) [
   | inl e ↦ absurd (calm (h.1 e))
   | inr left ↦ left
 ]
 
-pub left_of : (words : Words) (steps fill : ℕ) (hooks : Gives) (disk : Option Disk) (read written received : ℕ) (new : StoreView) (out : SinkCall) (stop : CommandError) → CanRun words disk
-    → ¬ (Rose read new.read_faults) → ¬ (Rose out.faults_before out.faults_after) → RunStops words steps fill hooks (store_view disk read written received) new out stop → IsLeft (status_of stop)
+pub left_of : (words : Words) (steps fill : ℕ) (hooks : Gives) (disk : Option Disk) (read written received : ℕ) (new : StoreView)
+    (out : SinkCall) (stop : CommandError) → CanRun words disk
+    → ¬ (Rose read new.read_faults) → ¬ (Rose out.faults_before out.faults_after)
+    → RunStops words steps fill hooks (store_view disk read written received) new out stop → IsLeft (status_of stop)
 left_of words steps fill hooks None read written received new out stop accepted calm out_calm h = absurd accepted
-left_of words steps fill hooks (Some disk) read written received new out stop accepted calm out_calm (inl h) = left_loading words disk read written received new stop accepted calm h.0
-left_of words steps fill hooks (Some disk) read written received new out stop accepted calm out_calm (inr h) = left_running words steps fill hooks (Some disk) out stop out_calm h
+left_of words steps fill hooks (Some disk) read written received new out stop accepted calm out_calm (inl h) =
+    left_loading words disk read written received new stop accepted calm h.0
+left_of words steps fill hooks (Some disk) read written received new out stop accepted calm out_calm (inr h) =
+    left_running words steps fill hooks (Some disk) out stop out_calm h

@@ -9,13 +9,14 @@ use Rattle.ec_emu.specs.declared.run.EmuReport.{EmuReport}
 use Rattle.ec_emu.specs.declared.script.ScriptLine.{ScriptLine}
 use Rattle.ec_emu.specs.Emulation.{IsRun as IsRunOf}
 use Rattle.ec_emu.specs.Scripted.{IsScripted}
-use Rattle.ec_command_parts.specs.declared.stop.CommandError.{CommandError}
-use Rattle.ec_command_parts.specs.declared.stop.CommandError.TheVariants.{CannotWrite}
+use Rattle.ec_commands.specs.declared.stop.CommandError.{CommandError}
+use Rattle.ec_commands.specs.declared.stop.CommandError.TheVariants.{CannotWrite}
 use Rattle.ec_io.specs.Views.{StoreView, SinkCall}
 use Rattle.ec_commands.specs.Runs.{Gives, AreInputs, IsLoaded, Shows, Ran, RunStops, stop_of}
 use Rattle.ec_commands.specs.Words.{Words}
 
-pub ran : (words : Words) (steps fill : ℕ) (hooks : Gives) (disk : Option Disk) (out : SinkCall) (stop : Option CommandError) (text lines : List ℕ)
+pub ran : (words : Words) (steps fill : ℕ) (hooks : Gives) (disk : Option Disk) (out : SinkCall) (stop : Option CommandError)
+    (text lines : List ℕ)
     (machine after : State) (answers : List ScriptLine) (report : EmuReport) (trace : List Access) → AreInputs words disk text lines
     → IsLoaded fill text lines machine answers → IsRunOf (IsScripted hooks answers) steps machine after report trace
     → Shows out.before out.after report.end trace stop → Ran words steps fill hooks disk out stop

@@ -6,8 +6,8 @@ use Rattle.ec_emu.specs.declared.run.EmuEnd.{EmuEnd}
 use Rattle.ec_emu.specs.declared.run.EmuEnd.TheVariants as ends
 use Rattle.ec_io.specs.declared.store.Failed.{Failed}
 use Rattle.std.specs.Prelude.{Result, Ok}
-use Rattle.ec_command_parts.specs.declared.stop.CommandError.{CommandError}
-use Rattle.ec_command_parts.specs.declared.stop.CommandError.TheVariants as stops
+use Rattle.ec_commands.specs.declared.stop.CommandError.{CommandError}
+use Rattle.ec_commands.specs.declared.stop.CommandError.TheVariants as stops
 use Rattle.ec_commands.specs.Tells.{WritesPrefix}
 
 -- `result` and `writes`, each with its number in decimal and LF

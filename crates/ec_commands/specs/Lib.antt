@@ -1,5 +1,5 @@
-pub mod Words
 pub mod Stops
+pub mod Words
 pub mod Lines
 pub mod Tells
 pub mod Shown

@@ -15,7 +15,7 @@ use Rattle.ec_hex.specs.Denotes.{Denotes}
 use Rattle.ec_hex.specs.Stops as hex
 use Rattle.ec_hex.specs.declared.read.HexStop.{HexStop}
 use Rattle.ec_hex.specs.declared.read.HexStop.TheVariants as hex_stops
-use Rattle.ec_emu_ports.specs.declared.ask.Ask.{Ask}
+use Rattle.ec_emu.specs.declared.ask.Ask.{Ask}
 use Rattle.ec_emu.specs.declared.run.EmuEnd.{EmuEnd}
 use Rattle.ec_emu.specs.declared.run.EmuEnd.TheVariants as ends
 use Rattle.ec_emu.specs.declared.run.EmuReport.{EmuReport}
@@ -26,9 +26,9 @@ use Rattle.ec_emu.specs.Lines.{port_lines}
 use Rattle.ec_emu.specs.Script as script
 use Rattle.ec_emu.specs.Script.{AreKept, entries, entry_of, forms_of}
 use Rattle.ec_emu.specs.Scripted.{IsScripted}
-use Rattle.ec_command_parts.specs.declared.stop.Limit.TheVariants.{HexBytes, ScriptBytes}
-use Rattle.ec_command_parts.specs.declared.stop.CommandError.{CommandError}
-use Rattle.ec_command_parts.specs.declared.stop.CommandError.TheVariants as stops
+use Rattle.ec_commands.specs.declared.stop.Limit.TheVariants.{HexBytes, ScriptBytes}
+use Rattle.ec_commands.specs.declared.stop.CommandError.{CommandError}
+use Rattle.ec_commands.specs.declared.stop.CommandError.TheVariants as stops
 use Rattle.ec_commands.specs.Shown.{Told, IsWithin, IsPast}
 use Rattle.ec_commands.specs.Tells.{WritesPrefix}
 use Rattle.ec_commands.specs.Words.{Words, hex_name, script_name}

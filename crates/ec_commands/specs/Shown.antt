@@ -6,9 +6,9 @@ use Rattle.ec_io.specs.Causes.{Rose, Counted}
 use Rattle.ec_io.specs.Disk.{Files, Disk, content}
 use Rattle.ec_io.specs.Views.{StoreView}
 use Rattle.ec_commands.specs.Words.{Words, word}
-use Rattle.ec_command_parts.specs.declared.stop.Limit.{Limit}
-use Rattle.ec_command_parts.specs.declared.stop.CommandError.{CommandError}
-use Rattle.ec_command_parts.specs.declared.stop.CommandError.TheVariants.{CannotRead, TooMany, NoMemory}
+use Rattle.ec_commands.specs.declared.stop.Limit.{Limit}
+use Rattle.ec_commands.specs.declared.stop.CommandError.{CommandError}
+use Rattle.ec_commands.specs.declared.stop.CommandError.TheVariants.{CannotRead, TooMany, NoMemory}
 use Rattle.ec_commands.specs.Stops.{most_of}
 
 -- P holds of the files, where the store tells them

@@ -8,9 +8,9 @@ use Rattle.ec_io.specs.Disk.{Files}
 use Rattle.ec_io.specs.Views.{StoreView}
 use Rattle.ec_commands.specs.Words.{Words, word, words_from, names_from}
 use Rattle.ec_commands.specs.Shown.{Told, IsWithin, IsPast}
-use Rattle.ec_command_parts.specs.declared.stop.Limit.TheVariants.{SourceBytes}
-use Rattle.ec_command_parts.specs.declared.stop.CommandError.{CommandError}
-use Rattle.ec_command_parts.specs.declared.stop.CommandError.TheVariants.{CannotRead, TooMany, NoMemory}
+use Rattle.ec_commands.specs.declared.stop.Limit.TheVariants.{SourceBytes}
+use Rattle.ec_commands.specs.declared.stop.CommandError.{CommandError}
+use Rattle.ec_commands.specs.declared.stop.CommandError.TheVariants.{CannotRead, TooMany, NoMemory}
 
 -- the bytes of each text
 abbrev pub texts : List (Listed ℕ) → List (List ℕ)

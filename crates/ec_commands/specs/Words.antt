@@ -1,9 +1,17 @@
 -- The words of a command line, without the program's name.
-use Rattle.std.specs.Prelude.{ℕ, ◌-◌, ◌≡◌, ◌≤◌, ◌&&◌, nat_le, Bool, true, List, [], length, map, drop, codes}
+use Rattle.std.specs.Prelude.{ℕ}
+use Rattle.ec_commands.specs.declared.words.Compiling.{Compiling}
+use Rattle.ec_commands.specs.declared.words.Compiling.TheVariants.{Build, Exec}
+use Rattle.std.specs.Prelude.{◌-◌, ◌≡◌, ◌≤◌, ◌&&◌, nat_le, Bool, true, List, [], length, map, drop, codes}
 use Rattle.std.specs.Prelude.{option_map}
 use Rattle.std.specs.Prelude.{unwrap_or, slice_get, String, string_bytes, bytes_eq}
 use Rattle.std.specs.Str.Parse.{IsNumeral, digits_value}
 use Rattle.std.specs.declared.alloc.Global.{Global}
+
+-- the place of the first source, behind `build MAP OUT` and `exec MAP SCRIPT STEPS`
+abbrev pub first_source : Compiling → ℕ
+first_source Build = 3
+first_source Exec = 4
 
 abbrev pub Words : Type 0
 Words = List (String Global)

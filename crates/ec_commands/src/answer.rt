@@ -5,7 +5,7 @@ ghost use Rattle.ec_commands.specs.Answers.{IsTold};
 ghost use Rattle.ec_commands.specs.Stops.{IsNamed, status_of, line_of};
 
 use crate::line::tell;
-use ec_command_parts::{CommandError, status};
+use crate::stop::{CommandError, status};
 use ec_io::Sink;
 
 /// The status of an answer. The line of a stop goes to `err`.

@@ -2,7 +2,7 @@
 ghost use Rattle.std.specs.Prelude.{◌≡◌, ◌≢◌, ◌≤◌, ◌↔◌, ℕ, List, length, IsErrOf};
 ghost use Rattle.ec_io.specs.Causes.{Rose};
 ghost use Rattle.ec_avr.specs.declared.machine.Access.{Access};
-ghost use Rattle.ec_emu_ports.specs.declared.ask.Ask.{Ask};
+ghost use Rattle.ec_emu.specs.declared.ask.Ask.{Ask};
 ghost use Rattle.ec_emu.specs.declared.run.EmuReport.{EmuReport};
 ghost use Rattle.ec_emu.specs.Emulation.{IsRun as IsRunOf};
 ghost use Rattle.ec_emu.specs.Scripted.{IsScripted};
@@ -12,7 +12,7 @@ ghost use Rattle.ec_commands.specs.Runs.{stop_of};
 use crate::line::write_counts;
 use crate::load::Loaded;
 use crate::running::answer;
-use ec_command_parts::CommandError;
+use crate::stop::CommandError;
 use ec_emu::{EmuEnd, EmuReport, Ports, Scripted, emulate};
 use ec_io::{Quiet, Sink};
 

@@ -4,8 +4,8 @@ ghost use Rattle.ec_io.specs.Views.{store_view};
 ghost use Rattle.ec_commands.specs.Shown.{KeepsAll, Reads, StopsReading};
 ghost use Rattle.ec_commands.specs.Words.{word};
 
+use crate::stop::{CommandError, Limit};
 use crate::words::word_at;
-use ec_command_parts::{CommandError, Limit};
 use ec_io::{ReadStop, Store, read_file};
 use ec_space::Seq;
 use std::alloc::Global;

@@ -10,15 +10,18 @@ mod load;
 mod output;
 mod running;
 mod sources;
+mod stop;
 mod words;
 
 pub use answer::conclude;
 pub use counting::print_counts;
-pub use ec_command_parts::{CommandError, Limit, status};
 pub use input::read;
 pub use line::{Part, tell, write_line};
 pub use load::{Loaded, load_script};
 pub use output::write_file;
 pub use running::{print_run, run};
 pub use sources::read_sources;
-pub use words::{RunNumbers, exec_steps, gen_number, is_build, run_numbers, word_at};
+pub use stop::{CommandError, Limit, status};
+pub use words::{
+    Compiling, RunNumbers, exec_steps, first_source, gen_number, is_build, run_numbers, word_at,
+};

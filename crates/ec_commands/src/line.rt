@@ -8,12 +8,12 @@ ghost use Rattle.ec_commands.specs.Counts.{counts_of, WritesCounts};
 ghost use Rattle.ec_commands.specs.Stops.{line_of, fault_name, four_digits, IsNamed};
 ghost use Rattle.ec_commands.specs.Lines.{bytes_of, line};
 ghost use Rattle.ec_commands.specs.Tells.{WritesPrefix, Tells};
-ghost use Rattle.ec_command_parts.specs.Stops.{text_of};
+ghost use Rattle.ec_commands.specs.Stops.{text_of};
 
 use crate::line::Part::{Hex, Number, Signed, Text};
+use crate::stop::{CommandError, text_of};
 use crate::words::word_at;
 use ec_avr::FaultKind;
-use ec_command_parts::{CommandError, text_of};
 use ec_emu::EmuEnd;
 use ec_hex::digit_of;
 use ec_io::{Failed, Sink, Written, write_all};

@@ -11,8 +11,8 @@ ghost use Rattle.ec_commands.specs.Shown.{KeepsAll};
 ghost use Rattle.ec_commands.specs.Words.{hex_name, script_name};
 
 use crate::input::read;
+use crate::stop::{CommandError, Limit};
 use ec_avr::Machine;
-use ec_command_parts::{CommandError, Limit};
 use ec_emu::{Script, ScriptStop, read_script};
 use ec_hex::{HexStop, read_hex};
 use ec_io::Store;

@@ -2,7 +2,7 @@
 ghost use Rattle.std.specs.Prelude.{◌≡◌, ◌≤◌, ◌↔◌, ◌∷◌, [], ℕ, List, length, None, IfErr, OnOk, IsErrOf};
 ghost use Rattle.ec_io.specs.Causes.{Rose};
 ghost use Rattle.ec_avr.specs.declared.machine.Access.{Access};
-ghost use Rattle.ec_emu_ports.specs.declared.ask.Ask.{Ask};
+ghost use Rattle.ec_emu.specs.declared.ask.Ask.{Ask};
 ghost use Rattle.ec_emu.specs.declared.run.EmuReport.{EmuReport};
 ghost use Rattle.ec_emu.specs.Emulation.{IsRun as IsRunOf};
 ghost use Rattle.ec_emu.specs.Scripted.{IsScripted};
@@ -13,8 +13,8 @@ ghost use Rattle.ec_commands.specs.Words.{hex_name, script_name};
 
 use crate::line::write_end;
 use crate::load::{Loaded, load};
+use crate::stop::CommandError;
 use crate::words::RunNumbers;
-use ec_command_parts::CommandError;
 use ec_emu::{EmuEnd, Ports, Scripted, emulate};
 use ec_io::{Sink, Store};
 use std::alloc::Global;

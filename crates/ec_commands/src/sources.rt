@@ -4,10 +4,10 @@ ghost use Rattle.ec_io.specs.Views.{store_view};
 ghost use Rattle.ec_commands.specs.Shown.{KeepsAll, Reads, StopsReading};
 ghost use Rattle.ec_commands.specs.Sources.{texts, ReadsSources, StopsReadingSources};
 ghost use Rattle.ec_commands.specs.Words.{word, names_from};
-ghost use Rattle.ec_command_parts.specs.declared.stop.Limit.TheVariants.{SourceBytes};
+ghost use Rattle.ec_commands.specs.declared.stop.Limit.TheVariants.{SourceBytes};
 
 use crate::input::read;
-use ec_command_parts::{CommandError, Limit};
+use crate::stop::{CommandError, Limit};
 use ec_io::Store;
 use ec_space::Seq;
 use std::alloc::Global;

@@ -1,6 +1,27 @@
 //! The words of a command line.
-ghost use Rattle.std.specs.Prelude.{◌≡◌, ◌<◌, ◌≤◌, ℕ, true, false, length, IfSome, IfNone};
+ghost use Rattle.std.specs.Prelude.{◌≡◌};
+ghost use Rattle.ec_commands.specs.Words.{first_source};
+ghost use Rattle.std.specs.Prelude.{◌<◌, ◌≤◌, ℕ, true, false, length, IfSome, IfNone};
 ghost use Rattle.ec_commands.specs.Words.{is_build as is_build_row, word, IsNumber, IsRun, IsExecRow, IsGen};
+
+/// A command that compiles the sources that its last words name.
+#[derive(Clone, Copy)]
+pub enum Compiling {
+    /// `build MAP OUT SRC...`
+    Build,
+    /// `exec MAP SCRIPT STEPS SRC...`
+    Exec,
+}
+
+/// The place of the first source among the words, from 0.
+pub fn first_source(command: Compiling) -> usize
+    ensures { result ≡ first_source command }
+{
+    match command {
+        Compiling::Build => 3,
+        Compiling::Exec => 4,
+    }
+}
 
 /// The steps that a run makes at most, and the byte that its registers and its memory hold at first.
 #[derive(Clone, Copy)]

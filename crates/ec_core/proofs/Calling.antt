@@ -1,11 +1,18 @@
 -- Which functions the parts of a body call, and how deep calls nest where no function calls itself through others.
-use Rattle.std.proofs.Common.{◌≡◌, ◌≢◌, ◌<◌, ◌≤◌, ◌+◌, ℕ, zero, suc, Bool, true, false, List, [], ◌∷◌, length, Option, Some, None, refl, sym, subst, arith, eqb-true, leb-true, leb-false}
+use Rattle.std.proofs.Common.{◌≡◌, ◌≢◌, ◌<◌, ◌≤◌, ◌+◌, ℕ, zero, suc, Bool, true, false, List, [], ◌∷◌, length, Option, Some, None, refl}
+use Rattle.std.proofs.Common.{sym, subst, arith, eqb-true, leb-true, leb-false}
 use Rattle.std.specs.Prelude.{⊤, ◌==◌, nat_le, if◌then◌else◌, slice_get, Contains}
 use Rattle.std.specs.List.{AllByRecursion}
 use Rattle.std.proofs.lemmas.Bool.{eqb-false}
 use Rattle.std.proofs.lemmas.Option.{slice_get_within}
-use Rattle.ec_core.specs.Needs.{expr_calls, node_calls, place_calls, option_calls, exprs_calls, optional_calls, stmt_calls, kind_calls, option_stmt_calls, stmts_calls}
-use Rattle.ec_core.specs.Plain.{PlainExpr, expression, PlainNode, number, null, load, address_of, unary, binary, convert, assign, compound, step, logical_not, logical_and, logical_or, conditional, comma, call, io, group, PlainPlace, object, deref, member, OptionPlainExpr, no_expr, an_expr, PlainExprs, last_expr, next_expr, PlainStmt, statement, PlainKind, empty, evaluate, block, declare, branch, while_loop, do_loop, for_loop, break_loop, continue_loop, return_value, OptionPlainStmt, no_stmt, a_stmt, PlainStmts, last_stmt, next_stmt, PlainFunction, PlainProgram}
+use Rattle.ec_core.specs.Needs.{expr_calls, node_calls, place_calls, option_calls, exprs_calls, optional_calls, stmt_calls, kind_calls}
+use Rattle.ec_core.specs.Needs.{option_stmt_calls, stmts_calls}
+use Rattle.ec_core.specs.Plain.{PlainExpr, expression, PlainNode, number, null, load, address_of, unary, binary, convert, assign, compound}
+use Rattle.ec_core.specs.Plain.{step, logical_not, logical_and, logical_or, conditional, comma, call, io, group, PlainPlace, object, deref}
+use Rattle.ec_core.specs.Plain.{member, OptionPlainExpr, no_expr, an_expr, PlainExprs, last_expr, next_expr, PlainStmt, statement}
+use Rattle.ec_core.specs.Plain.{PlainKind, empty, evaluate, block, declare, branch, while_loop, do_loop, for_loop, break_loop}
+use Rattle.ec_core.specs.Plain.{continue_loop, return_value, OptionPlainStmt, no_stmt, a_stmt, PlainStmts, last_stmt, next_stmt}
+use Rattle.ec_core.specs.Plain.{PlainFunction, PlainProgram}
 use Rattle.ec_core.specs.Valid.{Reaches, calls, calls_through}
 
 -- ---- parts that call some functions only
@@ -91,15 +98,25 @@ module _ (May : ℕ → Type 0) where
     all_node (binary op a b) rest h = let x0 = all_expr a (expr_calls b rest) h in let x1 = all_expr b rest x0.1 in ((x0.0, x1.0), x1.1)
     all_node (convert a) rest h = all_expr a rest h
     all_node (assign p a) rest h = let x0 = all_place p (expr_calls a rest) h in let x1 = all_expr a rest x0.1 in ((x0.0, x1.0), x1.1)
-    all_node (compound op mode p a) rest h = let x0 = all_place p (expr_calls a rest) h in let x1 = all_expr a rest x0.1 in ((x0.0, x1.0), x1.1)
+    all_node (compound op mode p a) rest h =
+        let x0 = all_place p (expr_calls a rest) h in
+        let x1 = all_expr a rest x0.1 in
+        ((x0.0, x1.0), x1.1)
     all_node (step up prefix p) rest h = all_place p rest h
     all_node (logical_not a) rest h = all_expr a rest h
     all_node (logical_and a b) rest h = let x0 = all_expr a (expr_calls b rest) h in let x1 = all_expr b rest x0.1 in ((x0.0, x1.0), x1.1)
     all_node (logical_or a b) rest h = let x0 = all_expr a (expr_calls b rest) h in let x1 = all_expr b rest x0.1 in ((x0.0, x1.0), x1.1)
-    all_node (conditional c a b) rest h = let x0 = all_expr c (expr_calls a (expr_calls b rest)) h in let x1 = all_expr a (expr_calls b rest) x0.1 in let x2 = all_expr b rest x1.1 in ((x0.0, x1.0, x2.0), x2.1)
+    all_node (conditional c a b) rest h =
+        let x0 = all_expr c (expr_calls a (expr_calls b rest)) h in
+        let x1 = all_expr a (expr_calls b rest) x0.1 in
+        let x2 = all_expr b rest x1.1 in
+        ((x0.0, x1.0, x2.0), x2.1)
     all_node (comma a b) rest h = let x0 = all_expr a (expr_calls b rest) h in let x1 = all_expr b rest x0.1 in ((x0.0, x1.0), x1.1)
     all_node (call f args) rest h = let x1 = all_row args rest h.1 in ((h.0, x1.0), x1.1)
-    all_node (io op port index value) rest h = let x0 = all_option index (option_calls value rest) h in let x1 = all_option value rest x0.1 in ((x0.0, x1.0), x1.1)
+    all_node (io op port index value) rest h =
+        let x0 = all_option index (option_calls value rest) h in
+        let x1 = all_option value rest x0.1 in
+        ((x0.0, x1.0), x1.1)
     all_node (group acquire g) rest h = (tt, h)
 
     all_place : (p : PlainPlace) (rest : List ℕ) → AllByRecursion May (place_calls p rest) → PlaceCalls p × AllByRecursion May rest
@@ -115,7 +132,8 @@ module _ (May : ℕ → Type 0) where
     all_row last_expr rest h = (tt, h)
     all_row (next_expr e es) rest h = let x0 = all_expr e (exprs_calls es rest) h in let x1 = all_row es rest x0.1 in ((x0.0, x1.0), x1.1)
 
-  all_optional : (e : Option PlainExpr) (rest : List ℕ) → AllByRecursion May (optional_calls e rest) → OptionalCalls e × AllByRecursion May rest
+  all_optional : (e : Option PlainExpr) (rest : List ℕ) → AllByRecursion May (optional_calls e rest)
+      → OptionalCalls e × AllByRecursion May rest
   all_optional None rest h = (tt, h)
   all_optional (Some e) rest h = all_expr e rest h
 
@@ -128,21 +146,34 @@ module _ (May : ℕ → Type 0) where
     all_kind (evaluate e) rest h = all_expr e rest h
     all_kind (block ss) rest h = all_stmt_row ss rest h
     all_kind (declare o es) rest h = all_row es rest h
-    all_kind (branch c a b) rest h = let x0 = all_expr c (stmt_calls a (option_stmt_calls b rest)) h in let x1 = all_stmt a (option_stmt_calls b rest) x0.1 in let x2 = all_option_stmt b rest x1.1 in ((x0.0, x1.0, x2.0), x2.1)
+    all_kind (branch c a b) rest h =
+        let x0 = all_expr c (stmt_calls a (option_stmt_calls b rest)) h in
+        let x1 = all_stmt a (option_stmt_calls b rest) x0.1 in
+        let x2 = all_option_stmt b rest x1.1 in
+        ((x0.0, x1.0, x2.0), x2.1)
     all_kind (while_loop c s) rest h = let x0 = all_expr c (stmt_calls s rest) h in let x1 = all_stmt s rest x0.1 in ((x0.0, x1.0), x1.1)
     all_kind (do_loop s c) rest h = let x0 = all_stmt s (expr_calls c rest) h in let x1 = all_expr c rest x0.1 in ((x0.0, x1.0), x1.1)
-    all_kind (for_loop i c n s) rest h = let x0 = all_option_stmt i (optional_calls c (optional_calls n (stmt_calls s rest))) h in let x1 = all_optional c (optional_calls n (stmt_calls s rest)) x0.1 in let x2 = all_optional n (stmt_calls s rest) x1.1 in let x3 = all_stmt s rest x2.1 in ((x0.0, x1.0, x2.0, x3.0), x3.1)
+    all_kind (for_loop i c n s) rest h =
+        let x0 = all_option_stmt i (optional_calls c (optional_calls n (stmt_calls s rest))) h in
+        let x1 = all_optional c (optional_calls n (stmt_calls s rest)) x0.1 in
+        let x2 = all_optional n (stmt_calls s rest) x1.1 in
+        let x3 = all_stmt s rest x2.1 in
+        ((x0.0, x1.0, x2.0, x3.0), x3.1)
     all_kind break_loop rest h = (tt, h)
     all_kind continue_loop rest h = (tt, h)
     all_kind (return_value e) rest h = all_optional e rest h
 
-    all_option_stmt : (s : OptionPlainStmt) (rest : List ℕ) → AllByRecursion May (option_stmt_calls s rest) → OptionStmtCalls s × AllByRecursion May rest
+    all_option_stmt : (s : OptionPlainStmt) (rest : List ℕ) → AllByRecursion May (option_stmt_calls s rest)
+        → OptionStmtCalls s × AllByRecursion May rest
     all_option_stmt no_stmt rest h = (tt, h)
     all_option_stmt (a_stmt s) rest h = all_stmt s rest h
 
     all_stmt_row : (ss : PlainStmts) (rest : List ℕ) → AllByRecursion May (stmts_calls ss rest) → StmtRowCalls ss × AllByRecursion May rest
     all_stmt_row last_stmt rest h = (tt, h)
-    all_stmt_row (next_stmt s ss) rest h = let x0 = all_stmt s (stmts_calls ss rest) h in let x1 = all_stmt_row ss rest x0.1 in ((x0.0, x1.0), x1.1)
+    all_stmt_row (next_stmt s ss) rest h =
+        let x0 = all_stmt s (stmts_calls ss rest) h in
+        let x1 = all_stmt_row ss rest x0.1 in
+        ((x0.0, x1.0), x1.1)
 
   -- where every function may be called, each part calls such functions only
   module _ (every : (g : ℕ) → May g) where
@@ -170,7 +201,8 @@ module _ (May : ℕ → Type 0) where
 -- calls from a function on nest at most so deep, unless what no valid program has may be met
 abbrev pub Fits : PlainProgram → Type 0 → ℕ → ℕ → Type 0
 Fits program invalid zero g = (function : PlainFunction) → slice_get program.functions g ≡ Some function → invalid
-Fits program invalid (suc depth) g = (function : PlainFunction) → slice_get program.functions g ≡ Some function → StmtCalls (Fits program invalid depth) function.body
+Fits program invalid (suc depth) g = (function : PlainFunction) → slice_get program.functions g ≡ Some function
+    → StmtCalls (Fits program invalid depth) function.body
 
 pub any_fits : (program : PlainProgram) (depth g : ℕ) → Fits program ⊤ depth g
 any_fits program zero g = λ function e. tt
@@ -216,10 +248,20 @@ removed n (x ∷ xs) d b = by_test (x == n) refl (removed n xs d.1 b.1)
     by_test : (c : Bool) → (x == n) ≡ c → IsWithout n xs (without n xs) → IsWithout n (x ∷ xs) (if c then xs else x ∷ without n xs)
     by_test true e r =
         let f : x ≡ n = eqb-true x n e in
-        record { short = omega arith; different = d.1; below = all_below n xs (subst (λ (m : ℕ). AllByRecursion (λ y. m ≢ y) xs) f d.0) b.1; kept = λ P h. h.1 }
+        record {
+          short = omega arith;
+          different = d.1;
+          below = all_below n xs (subst (λ (m : ℕ). AllByRecursion (λ y. m ≢ y) xs) f d.0) b.1;
+          kept = λ P h. h.1;
+        }
     by_test false e r =
         let s = r.short in
-        record { short = omega (arith, s); different = (r.kept (λ y. x ≢ y) d.0, r.different); below = (less_other x n (eqb-false x n e) b.0, r.below); kept = λ P h. (h.0, r.kept P h.1) }
+        record {
+          short = omega (arith, s);
+          different = (r.kept (λ y. x ≢ y) d.0, r.different);
+          below = (less_other x n (eqb-false x n e) b.0, r.below);
+          kept = λ P h. (h.0, r.kept P h.1);
+        }
 
 -- there are at most n different numbers below n
 fewer : (n : ℕ) (xs : List ℕ) → Different xs → AllByRecursion (λ y. y < n) xs → length xs ≤ n
@@ -235,11 +277,14 @@ fewer (suc n) xs d b =
 
 module _ (program : PlainProgram) (no_recursion : (f : ℕ) → ¬ Reaches program f f) where
   -- what reaches a function reaches those that it calls
-  extended : (g h v : ℕ) (function : PlainFunction) → slice_get program.functions g ≡ Some function → Contains (stmt_calls function.body []) h → Reaches program g v → Reaches program h v
+  extended : (g h v : ℕ) (function : PlainFunction) → slice_get program.functions g ≡ Some function
+      → Contains (stmt_calls function.body []) h → Reaches program g v → Reaches program h v
   extended g h v function e c (calls _ other i j) = calls_through v g other i j (calls g function e c)
   extended g h v function e c (calls_through _ m other i j r) = calls_through v m other i j (extended g h m function e c r)
 
-  all_extended : (g h : ℕ) (vs : List ℕ) (function : PlainFunction) → slice_get program.functions g ≡ Some function → Contains (stmt_calls function.body []) h → AllByRecursion (λ v. Reaches program g v) vs → AllByRecursion (λ v. Reaches program h v) vs
+  all_extended : (g h : ℕ) (vs : List ℕ) (function : PlainFunction) → slice_get program.functions g ≡ Some function
+      → Contains (stmt_calls function.body []) h → AllByRecursion (λ v. Reaches program g v) vs
+      → AllByRecursion (λ v. Reaches program h v) vs
   all_extended g h [] function e c r = tt
   all_extended g h (v ∷ vs) function e c r = (extended g h v function e c r.0, all_extended g h vs function e c r.1)
 
@@ -248,7 +293,8 @@ module _ (program : PlainProgram) (no_recursion : (f : ℕ) → ¬ Reaches progr
   all_other g (v ∷ vs) r = ((λ e. no_recursion v (subst (λ (z : ℕ). Reaches program z v) e r.0)), all_other g vs r.1)
 
   -- the functions that are being executed, each of which reaches the next, are different
-  fits_below : (depth : ℕ) (visited : List ℕ) (g : ℕ) → Different visited → AllByRecursion (λ v. v < length program.functions) visited → length program.functions ≤ length visited + depth → AllByRecursion (λ v. Reaches program g v) visited → Fits program ⊥ depth g
+  fits_below : (depth : ℕ) (visited : List ℕ) (g : ℕ) → Different visited → AllByRecursion (λ v. v < length program.functions) visited
+      → length program.functions ≤ length visited + depth → AllByRecursion (λ v. Reaches program g v) visited → Fits program ⊥ depth g
   fits_below zero visited g d b l r = λ function e.
       (let k : g < length program.functions = slice_get_within program.functions g function e in
       let f = fewer (length program.functions) (g ∷ visited) (all_other g visited r, d) (k, b) in
@@ -257,7 +303,8 @@ module _ (program : PlainProgram) (no_recursion : (f : ℕ) → ¬ Reaches progr
       (let k : g < length program.functions = slice_get_within program.functions g function e in
       (all_stmt (Fits program ⊥ depth) function.body []
       (of_items {P = Fits program ⊥ depth} (stmt_calls function.body []) (λ h c.
-      fits_below depth (g ∷ visited) h (all_other g visited r, d) (k, b) (omega (arith, l)) (calls g function e c, all_extended g h visited function e c r)))).0)
+      fits_below depth (g ∷ visited) h (all_other g visited r, d) (k, b) (omega (arith, l))
+      (calls g function e c, all_extended g h visited function e c r)))).0)
 
   pub all_fit : (g : ℕ) → Fits program ⊥ (length program.functions) g
   all_fit g = fits_below (length program.functions) [] g tt tt (omega arith) tt

@@ -2,7 +2,9 @@
 use Rattle.std.proofs.Common.{◌≡◌, ℕ, Bool, true, false, ◌||◌, refl, sym, ap, ◌∙◌, subst, inl, inr, ◌≤◌, arith}
 use Rattle.std.specs.Prelude.{if◌then◌else◌}
 use Rattle.ec_fx.specs.declared.formats.FxKind.{FxKind}
-use Rattle.ec_fx.specs.declared.formats.FxKind.TheVariants.{ShortFract, Fract, LongFract, ShortAccum, Accum, LongAccum, UnsignedShortFract, UnsignedFract, UnsignedLongFract, UnsignedShortAccum, UnsignedAccum, UnsignedLongAccum}
+use Rattle.ec_fx.specs.declared.formats.FxKind.TheVariants.{ShortFract, Fract, LongFract, ShortAccum, Accum, LongAccum, UnsignedShortFract}
+use Rattle.ec_fx.specs.declared.formats.FxKind.TheVariants.{UnsignedFract, UnsignedLongFract, UnsignedShortAccum, UnsignedAccum}
+use Rattle.ec_fx.specs.declared.formats.FxKind.TheVariants.{UnsignedLongAccum}
 use Rattle.ec_fx.specs.Formats.{format_of}
 use Rattle.ec_core.specs.declared.arithmetic_types.Arithmetic.{Arithmetic}
 use Rattle.ec_core.specs.declared.arithmetic_types.Arithmetic.TheVariants.{Integer, Fixed}
@@ -13,7 +15,8 @@ use Rattle.ec_core.specs.Integers.{IsInteger}
 use Rattle.ec_core.specs.Layout.{IsIntegerSize}
 use Rattle.ec_core.specs.Operators.{converted_beside, promoted_type}
 use Rattle.ec_core.specs.TypeLaws.{factor_beside, compared_beside, UsualConversions}
-use Rattle.ec_core.specs.Typing.{int, IsIntegerKind, IsOneByteType, HaveUsualTypes, HaveProductTypes, HaveIntegerTypes, HaveShiftTypes, HaveComparedTypes, AreConvertible, IsBranchType}
+use Rattle.ec_core.specs.Typing.{int, IsIntegerKind, IsOneByteType, HaveUsualTypes, HaveProductTypes, HaveIntegerTypes, HaveShiftTypes}
+use Rattle.ec_core.specs.Typing.{HaveComparedTypes, AreConvertible, IsBranchType}
 
 -- ---- integers
 
@@ -167,7 +170,8 @@ record KindsAlike (b c : Bool) (p q : FxKind) : Type 0 where
 by_signs : (b c : Bool) (p q : FxKind) → is_signed p ≡ b → is_signed q ≡ c → KindsAlike b c p q
 by_signs true true p q e f = record {
   signs = signed_signed p ∙ sym (signed_signed q);
-  again = sym ((λ i. common_kind (signed_signed p i) (signed_signed q i) (signed_kind p) (signed_kind q)) ∙ (λ i. higher_kind (signed_again p i) (signed_again q i)));
+  again = sym ((λ i. common_kind (signed_signed p i) (signed_signed q i) (signed_kind p) (signed_kind q))
+      ∙ (λ i. higher_kind (signed_again p i) (signed_again q i)));
 }
 by_signs true false p q e f = record {
   signs = e ∙ sym (signed_signed q);
@@ -203,12 +207,17 @@ convertible (Fixed a) (Integer b) = tt
 convertible (Fixed a) (Fixed b) = tt
 
 usual : (x y : Arithmetic) → IsKnownType x → IsKnownType y → HaveUsualTypes (common x y) (converted_beside x y) (converted_beside y x)
-usual (Integer a) (Integer b) i j = let k = alike a b i j in record { integers = (k.same, k.kept); signedness = tt; value = ap Integer k.again }
+usual (Integer a) (Integer b) i j =
+    let k = alike a b i j in
+    record { integers = (k.same, k.kept); signedness = tt; value = ap Integer k.again }
 usual (Integer a) (Fixed b) i j = record { integers = tt; signedness = tt; value = refl }
 usual (Fixed a) (Integer b) i j = record { integers = tt; signedness = tt; value = refl }
-usual (Fixed a) (Fixed b) i j = let k = kinds_alike a.kind b.kind in record { integers = tt; signedness = k.signs; value = ap (λ (z : FxKind). Fixed (record { kind = z; sat = a.sat || b.sat })) k.again }
+usual (Fixed a) (Fixed b) i j =
+    let k = kinds_alike a.kind b.kind in
+    record { integers = tt; signedness = k.signs; value = ap (λ (z : FxKind). Fixed (record { kind = z; sat = a.sat || b.sat })) k.again }
 
-integers : (x y : Arithmetic) → IsKnownType x → IsKnownType y → IsIntegerKind x → IsIntegerKind y → HaveIntegerTypes (common x y) (converted_beside x y) (converted_beside y x)
+integers : (x y : Arithmetic) → IsKnownType x → IsKnownType y → IsIntegerKind x → IsIntegerKind y
+    → HaveIntegerTypes (common x y) (converted_beside x y) (converted_beside y x)
 integers (Integer a) (Integer b) i j e f = record { left = tt; right = tt; usual = usual (Integer a) (Integer b) i j }
 integers (Integer a) (Fixed b) i j e f = absurd f
 integers (Fixed a) y i j e f = absurd e
@@ -224,13 +233,15 @@ products (Fixed a) (Fixed b) e f = let k = kinds_alike a.kind b.kind in record {
   value = ap (λ (z : FxKind). Fixed (record { kind = z; sat = a.sat || b.sat })) k.again;
 }
 
-compared : (x y : Arithmetic) → IsKnownType x → IsKnownType y → (ty : Arithmetic) → type_of ty ≡ int → HaveComparedTypes ty (compared_beside x y) (compared_beside y x)
+compared : (x y : Arithmetic) → IsKnownType x → IsKnownType y → (ty : Arithmetic) → type_of ty ≡ int
+    → HaveComparedTypes ty (compared_beside x y) (compared_beside y x)
 compared (Integer a) (Integer b) i j ty e = let k = alike a b i j in record { integers = (k.same, k.kept); value = e }
 compared (Integer a) (Fixed b) i j ty e = record { integers = tt; value = e }
 compared (Fixed a) (Integer b) i j ty e = record { integers = tt; value = e }
 compared (Fixed a) (Fixed b) i j ty e = record { integers = tt; value = e }
 
-shifted : (x y : Arithmetic) → IsKnownType x → IsKnownType y → IsIntegerKind y → HaveShiftTypes (promoted_type x) (promoted_type x) (promoted_type y)
+shifted : (x y : Arithmetic) → IsKnownType x → IsKnownType y → IsIntegerKind y
+    → HaveShiftTypes (promoted_type x) (promoted_type x) (promoted_type y)
 shifted (Integer a) (Integer b) i j e = record { left = promoted_again a i; count = (tt, promoted_again b j); value = refl }
 shifted (Fixed a) (Integer b) i j e = record { left = tt; count = tt; value = refl }
 shifted x (Fixed b) i j e = absurd e

@@ -1,5 +1,6 @@
 -- Whatever is evaluated leads on from its state by steps.
-use Rattle.std.proofs.Common.{◌≡◌, ◌≤◌, ℕ, zero, suc, ◌+◌, ◌*◌, ◌/◌, ◌%◌, Bool, true, false, ◌&&◌, List, [], ◌∷◌, Option, Some, None, Result, Ok, Err, refl, subst, arith}
+use Rattle.std.proofs.Common.{◌≡◌, ◌≤◌, ℕ, zero, suc, ◌+◌, ◌*◌, ◌/◌, ◌%◌, Bool, true, false, ◌&&◌, List, [], ◌∷◌, Option, Some, None}
+use Rattle.std.proofs.Common.{Result, Ok, Err, refl, subst, arith}
 use Rattle.std.specs.Prelude.{⊤, if◌then◌else◌, option_and_then, option_map, slice_get, nat_lt}
 use Rattle.ec_iohw.specs.declared.operations.IoOp.{IoOp}
 use Rattle.ec_iohw.specs.declared.table.Pair.{Pair}
@@ -10,18 +11,22 @@ use Rattle.ec_core.specs.declared.values.Undefined.{Undefined}
 use Rattle.ec_core.specs.declared.values.Undefined.TheVariants.{Unset, ConstWrite}
 use Rattle.ec_core.specs.declared.values.Value.{Value}
 use Rattle.ec_core.specs.declared.values.Value.TheVariants.{Number, Pointer}
-use Rattle.ec_core.specs.Accesses.{is_readable, begun, all_ended, frame_ended, is_live_in, Access, access_of, access, recorded, leaf_of, leaf_at, read_value, read, stored, is_fixed, write, own_access, first_write, initialised, operand_of}
+use Rattle.ec_core.specs.Accesses.{is_readable, begun, all_ended, frame_ended, is_live_in, Access, access_of, access, recorded, leaf_of}
+use Rattle.ec_core.specs.Accesses.{leaf_at, read_value, read, stored, is_fixed, write, own_access, first_write, initialised, operand_of}
 use Rattle.ec_core.specs.Expressions.{Update, pointed_to, object_place, condition, truth_value, updated_place}
-use Rattle.ec_core.specs.Laws.{IsMade, Step, takes_work, reads_port, writes_port, changes_group, reads_leaf, writes_leaf, begins_object, ends_object, ends_frame, Leads, here, onward}
+use Rattle.ec_core.specs.Laws.{IsMade, Step, takes_work, reads_port, writes_port, changes_group, reads_leaf, writes_leaf, begins_object}
+use Rattle.ec_core.specs.Laws.{ends_object, ends_frame, Leads, here, onward}
 use Rattle.ec_core.specs.Meaning.{state_of}
 use Rattle.ec_core.specs.Operators.{truth_result, compound_result}
 use Rattle.ec_core.specs.Plain.{PlainType, void, integer, fixed, pointer, array, struct, PlainExpr, PlainPlace, PlainObject, PlainProgram}
 use Rattle.ec_core.specs.Pointers.{Pointer as PointerValue}
-use Rattle.ec_core.specs.PortAccesses.{byte_read, bytes_read, bytes_written, port_accessed, is_open, within, opened, port_effect, pairs_written, pairs_of, group_effect}
+use Rattle.ec_core.specs.PortAccesses.{byte_read, bytes_read, bytes_written, port_accessed, is_open, within, opened, port_effect}
+use Rattle.ec_core.specs.PortAccesses.{pairs_written, pairs_of, group_effect}
 use Rattle.ec_core.specs.PortOperations.{PortAction, reads, writes, updates, port_operation}
 use Rattle.ec_core.specs.PortTable.{PlainPort, PlainGroup}
 use Rattle.ec_core.specs.State.{Setting, Read, told, ObjectState, State, worked, Outcome, got, more, undefined, next, given, choose}
-use Rattle.ec_core.specs.Statements.{Exit, at_end, by_break, by_continue, by_return, in_order, again, tested, turns, unreturned, call_result}
+use Rattle.ec_core.specs.Statements.{Exit, at_end, by_break, by_continue, by_return, in_order, again, tested, turns, unreturned}
+use Rattle.ec_core.specs.Statements.{call_result}
 use Rattle.ec_core.specs.Typing.{type_of_expr}
 use Rattle.ec_core.specs.Words.{loop_words}
 use Rattle.ec_core.proofs.Steps.{leads_on, by_step, itself, leads_add}
@@ -36,7 +41,8 @@ pub some_if : {A : Type 0} (b : Bool) (o : Option A) (x : A) → (if b then o el
 some_if true o x e = (refl, e)
 some_if false o x e = cc
 
-pub some_then : {A B : Type 0} (o : Option A) (f : A → Option B) (y : B) → option_and_then f o ≡ Some y → (x : A) × (o ≡ Some x) × (f x ≡ Some y)
+pub some_then : {A B : Type 0} (o : Option A) (f : A → Option B) (y : B) → option_and_then f o ≡ Some y
+    → (x : A) × (o ≡ Some x) × (f x ≡ Some y)
 some_then None f y e = cc
 some_then (Some x) f y e = (x, refl, e)
 
@@ -44,17 +50,22 @@ pub some_map : {A B : Type 0} (o : Option A) (f : A → B) (y : B) → option_ma
 some_map None f y e = cc
 some_map (Some x) f y e = (x, refl, cc)
 
-found_of : (program : PlainProgram) (s : State) (o : ℕ) (d : PlainObject) (x : ObjectState) (k : ℕ) (sp : SpaceId) → slice_get program.objects o ≡ Some d → slice_get s.objects o ≡ Some x → x.live ≡ true → holds sp d.home ≡ true → IsMade program s (record { object = o; leaf = k; space = sp; declared = d; state = x })
+found_of : (program : PlainProgram) (s : State) (o : ℕ) (d : PlainObject) (x : ObjectState) (k : ℕ) (sp : SpaceId)
+    → slice_get program.objects o ≡ Some d → slice_get s.objects o ≡ Some x → x.live ≡ true → holds sp d.home ≡ true
+    → IsMade program s (record { object = o; leaf = k; space = sp; declared = d; state = x })
 found_of program s o d x k sp e f l h = record { declared = e; state = f; live = l; home = h }
 
-found_access_of : (program : PlainProgram) (ty : PlainType) (s : State) (sp : SpaceId) (p : ObjectPointer) (d : PlainObject) (x : ObjectState) (a : Access) → slice_get program.objects p.object ≡ Some d → slice_get s.objects p.object ≡ Some x → access_of program ty sp p d x ≡ Some a → IsMade program s a
+found_access_of : (program : PlainProgram) (ty : PlainType) (s : State) (sp : SpaceId) (p : ObjectPointer) (d : PlainObject)
+    (x : ObjectState) (a : Access) → slice_get program.objects p.object ≡ Some d → slice_get s.objects p.object ≡ Some x
+    → access_of program ty sp p d x ≡ Some a → IsMade program s a
 found_access_of program ty s sp p d x a e f h =
     let c = some_if (is_live_in p x && holds sp d.home) _ a h in
     let b = and_true (is_live_in p x) (holds sp d.home) c.0 in
     let m = some_map (leaf_at program d ty p.offset) _ a c.1 in
     subst (IsMade program s) m.2 (found_of program s p.object d x m.0 sp e f (and_true x.live _ b.0).0 b.1)
 
-pub found_access : (program : PlainProgram) (ty : PlainType) (space : Option SpaceId) (to : PointerValue) (s : State) (a : Access) → access program ty space to s ≡ Some a → IsMade program s a
+pub found_access : (program : PlainProgram) (ty : PlainType) (space : Option SpaceId) (to : PointerValue) (s : State) (a : Access)
+    → access program ty space to s ≡ Some a → IsMade program s a
 found_access program ty space to s a h =
     let c = some_then space _ a h in
     let p = some_then to _ a c.2 in
@@ -92,13 +103,15 @@ module _ (w : Setting) (least : ℕ) where
   pub grows_after : {A : Type 0} {o : Outcome A} {s t : State} → Leads w s t → Grows t o → Grows s o
   grows_after a g = record { leads = leads_on a g.leads; spent = g.spent }
 
-  pub grows_next : {A B : Type 0} (s : State) (o : Outcome A) (go : A → State → Outcome B) → Grows s o → ((x : A) (t : State) → Grows t (go x t)) → Grows s (next o go)
+  pub grows_next : {A B : Type 0} (s : State) (o : Outcome A) (go : A → State → Outcome B) → Grows s o
+      → ((x : A) (t : State) → Grows t (go x t)) → Grows s (next o go)
   grows_next s (got x t) go g h = grows_after g.leads (h x t)
   grows_next s (more t) go g h = record { leads = g.leads; spent = g.spent }
   grows_next s (undefined point t) go g h = record { leads = g.leads; spent = tt }
 
   -- what goes on begins in a state that this one leads to
-  grows_along : {A B : Type 0} (s : State) (o : Outcome A) (go : A → State → Outcome B) → Grows s o → ((x : A) (t : State) → Leads w s t → Grows t (go x t)) → Grows s (next o go)
+  grows_along : {A B : Type 0} (s : State) (o : Outcome A) (go : A → State → Outcome B) → Grows s o
+      → ((x : A) (t : State) → Leads w s t → Grows t (go x t)) → Grows s (next o go)
   grows_along s (got x t) go g h = grows_after g.leads (h x t g.leads)
   grows_along s (more t) go g h = record { leads = g.leads; spent = g.spent }
   grows_along s (undefined point t) go g h = record { leads = g.leads; spent = tt }
@@ -107,7 +120,8 @@ module _ (w : Setting) (least : ℕ) where
   grows_given (Ok x) s = still s refl tt
   grows_given (Err point) s = still s refl tt
 
-  pub grows_choose : {A : Type 0} (h : Bool) (a b : State → Outcome A) (s : State) → Grows s (a s) → Grows s (b s) → Grows s (choose h a b s)
+  pub grows_choose : {A : Type 0} (h : Bool) (a b : State → Outcome A) (s : State) → Grows s (a s) → Grows s (b s)
+      → Grows s (choose h a b s)
   grows_choose true a b s f g = f
   grows_choose false a b s f g = g
 
@@ -116,11 +130,13 @@ module _ (w : Setting) (least : ℕ) where
 
   -- ---- reads and writes
 
-  read_value_grows : (a : Access) (v : Option Value) (s : State) → leaf_of a.state a.leaf ≡ v → IsMade w.program s a → Grows s (read_value w.program a v s)
+  read_value_grows : (a : Access) (v : Option Value) (s : State) → leaf_of a.state a.leaf ≡ v → IsMade w.program s a
+      → Grows s (read_value w.program a v s)
   read_value_grows a None s e f = still s refl tt
   read_value_grows a (Some v) s e f = readable (is_readable w.program v s)
     where
-      readable : (b : Bool) → Grows s (if b then got v (recorded a.declared.storage (Read a.object a.leaf a.space (told v)) s) else undefined Unset s)
+      readable : (b : Bool)
+          → Grows s (if b then got v (recorded a.declared.storage (Read a.object a.leaf a.space (told v)) s) else undefined Unset s)
       readable true = grown (by_step (reads_leaf a v f e refl)) tt
       readable false = still s refl tt
 
@@ -128,7 +144,8 @@ module _ (w : Setting) (least : ℕ) where
   read_of_grows None s f = still s refl tt
   read_of_grows (Some a) s f = read_value_grows a (leaf_of a.state a.leaf) s refl (f a refl)
 
-  pub read_grows : (ty : PlainType) (space : Option SpaceId) (to : PointerValue) (s : State) → Grows s (read w.program (access w.program ty space to s) s)
+  pub read_grows : (ty : PlainType) (space : Option SpaceId) (to : PointerValue) (s : State)
+      → Grows s (read w.program (access w.program ty space to s) s)
   read_grows ty space to s = read_of_grows _ s (λ a h. found_access w.program ty space to s a h)
 
   stored_leads : (a : Access) (v : Value) (s : State) → IsMade w.program s a → Leads w s (stored a v s)
@@ -142,10 +159,12 @@ module _ (w : Setting) (least : ℕ) where
       fixed_or true = still s refl tt
       fixed_or false = grown (stored_leads a v s (f a refl)) tt
 
-  pub write_grows : (ty : PlainType) (space : Option SpaceId) (to : PointerValue) (v : Value) (s : State) → Grows s (write (access w.program ty space to s) v s)
+  pub write_grows : (ty : PlainType) (space : Option SpaceId) (to : PointerValue) (v : Value) (s : State)
+      → Grows s (write (access w.program ty space to s) v s)
   write_grows ty space to v s = write_of_grows _ v s (λ a h. found_access w.program ty space to s a h)
 
-  first_write_grows : (o : Option Access) (v : Value) (s : State) → ((a : Access) → o ≡ Some a → IsMade w.program s a) → Grows s (first_write o v s)
+  first_write_grows : (o : Option Access) (v : Value) (s : State) → ((a : Access) → o ≡ Some a → IsMade w.program s a)
+      → Grows s (first_write o v s)
   first_write_grows None v s f = still s refl tt
   first_write_grows (Some a) v s f = grown (stored_leads a v s (f a refl)) tt
 
@@ -162,7 +181,8 @@ module _ (w : Setting) (least : ℕ) where
   bytes_written_leads zero port v s = itself s
   bytes_written_leads (suc n) port v s = leads_on (bytes_written_leads n (port + 1) (v / 256) s) (by_step (writes_port port (v % 256) refl))
 
-  pub port_accessed_grows : (action : PortAction) (op : IoOp) (width port v : ℕ) (s : State) → Grows s (port_accessed w.inputs action op width port v s)
+  pub port_accessed_grows : (action : PortAction) (op : IoOp) (width port v : ℕ) (s : State)
+      → Grows s (port_accessed w.inputs action op width port v s)
   port_accessed_grows reads op width port v s = grown (bytes_read_leads width port s) tt
   port_accessed_grows writes op width port v s = grown (bytes_written_leads width port v s) tt
   port_accessed_grows updates op width port v s = grown (leads_on (bytes_read_leads width port s) (bytes_written_leads width port _ _)) tt
@@ -185,7 +205,8 @@ module _ (w : Setting) (least : ℕ) where
 
   pub group_effect_grows : (acquire : Bool) (g : ℕ) (x : Option PlainGroup) (s : State) → Grows s (group_effect acquire g x s)
   group_effect_grows acquire g None s = still s refl tt
-  group_effect_grows acquire g (Some x) s = grown (leads_on (pairs_written_leads (pairs_of acquire x) s) (by_step (changes_group g acquire refl))) tt
+  group_effect_grows acquire g (Some x) s =
+      grown (leads_on (pairs_written_leads (pairs_of acquire x) s) (by_step (changes_group g acquire refl))) tt
 
   -- ---- expressions
 
@@ -203,9 +224,11 @@ module _ (w : Setting) (least : ℕ) where
   object_place_grows None s = still s refl tt
   object_place_grows (Some p) s = still s refl tt
 
-  pub updated_place_grows : (u : Update) (at : PointerValue) (old : Value) (right : PlainType) (x : Value) (s : State) → Grows s (updated_place w u at old right x s)
+  pub updated_place_grows : (u : Update) (at : PointerValue) (old : Value) (right : PlainType) (x : Value) (s : State)
+      → Grows s (updated_place w u at old right x s)
   updated_place_grows u at old right x s =
-      grows_next s _ _ (grows_given (compound_result u.op u.operation_mode u.write_mode (operand_of w.program u.ty old s) (operand_of w.program right x s)) s)
+      grows_next s _ _ (grows_given
+      (compound_result u.op u.operation_mode u.write_mode (operand_of w.program u.ty old s) (operand_of w.program right x s)) s)
       (λ v t. grows_next t _ _ (write_grows u.ty _ at v t) (λ y z. still z refl tt))
 
   -- ---- statements and functions
@@ -222,11 +245,13 @@ module _ (w : Setting) (least : ℕ) where
   again_grows by_continue s go g = g
   again_grows (by_return v) s go g = still s refl tt
 
-  tested_along : (s : State) (o : Outcome Bool) (go : State → Outcome Exit) → Grows s o → ((t : State) → Leads w s t → Grows t (go t)) → Grows s (tested o go)
+  tested_along : (s : State) (o : Outcome Bool) (go : State → Outcome Exit) → Grows s o → ((t : State) → Leads w s t → Grows t (go t))
+      → Grows s (tested o go)
   tested_along s o go g h = grows_along s o _ g (λ b t l. grows_choose b _ _ t (h t l) (grown (worked_leads _ t) tt))
 
   -- a loop that is out of n turns has done the work of n turns
-  pub turns_grow : (n : ℕ) (body : State → Outcome Exit) (test : State → Outcome Bool) → ((s : State) → Grows s (body s)) → ((s : State) → Grows s (test s)) → (s : State) → least ≤ s.work + loop_words * n → Grows s (turns n body test s)
+  pub turns_grow : (n : ℕ) (body : State → Outcome Exit) (test : State → Outcome Bool) → ((s : State) → Grows s (body s))
+      → ((s : State) → Grows s (test s)) → (s : State) → least ≤ s.work + loop_words * n → Grows s (turns n body test s)
   turns_grow zero body test g h s le = still s refl (omega (arith, le))
   turns_grow (suc n) body test g h s le =
       grows_after (worked_leads _ s) (grows_along _ _ _ (g _) (λ x t l. again_grows x t _ (tested_along t _ _ (h t) (λ u m.

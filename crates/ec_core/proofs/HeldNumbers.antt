@@ -1,5 +1,7 @@
 -- The results of operators and conversions are numbers of their types.
-use Rattle.std.proofs.Common.{◌≡◌, ℕ, zero, suc, ◌-◌, ◌*◌, ◌^◌, ◌<◌, ◌≤◌, Bool, true, false, ◌&&◌, ◌||◌, ℤ, pos, negsuc, ◌-ℤ◌, ◌*ℤ◌, unsigned_abs, Option, Some, None, Result, Ok, Err, refl, sym, ap, ◌∙◌, subst, inl, inr, arith, bit_and, bit_or, bit_xor, leb-true, leb-false}
+use Rattle.std.proofs.Common.{◌≡◌, ℕ, zero, suc, ◌-◌, ◌*◌, ◌^◌, ◌<◌, ◌≤◌, Bool, true, false, ◌&&◌, ◌||◌, ℤ, pos, negsuc, ◌-ℤ◌, ◌*ℤ◌}
+use Rattle.std.proofs.Common.{unsigned_abs, Option, Some, None, Result, Ok, Err, refl, sym, ap, ◌∙◌, subst, inl, inr, arith, bit_and}
+use Rattle.std.proofs.Common.{bit_or, bit_xor, leb-true, leb-false}
 use Rattle.std.specs.Prelude.{⊤, if◌then◌else◌, nat_le, nat_lt, int_lt, int_div, int_rem, ◌≤ℤ◌}
 use Rattle.std.specs.Ordering.{int_eq}
 use Rattle.std.proofs.lemmas.Int.{ints}
@@ -7,7 +9,8 @@ use Rattle.std.proofs.Math.Nat.{pow-suc}
 use Rattle.std.proofs.lemmas.Nat.{pow_pos, or_lt, xor_lt, and_le_l}
 use Rattle.std.specs.Int.{int_rem_euclid, int_div_euclid}
 use Rattle.ec_fx.specs.Ranges.{least, greatest, IsWithin}
-use Rattle.ec_core.specs.Integers.{compared, low_bits, from_bits, wrapped, modulus, width_of, is_count, truth, integer_value, IsInteger, HoldsInteger}
+use Rattle.ec_core.specs.Integers.{compared, low_bits, from_bits, wrapped, modulus, width_of, is_count, truth, integer_value, IsInteger}
+use Rattle.ec_core.specs.Integers.{HoldsInteger}
 use Rattle.ec_core.specs.declared.arithmetic_types.Arithmetic.{Arithmetic}
 use Rattle.ec_core.specs.declared.arithmetic_types.Arithmetic.TheVariants.{Integer, Fixed}
 use Rattle.ec_core.specs.declared.arithmetic_types.FixedType.{FixedType}
@@ -20,7 +23,8 @@ use Rattle.ec_core.specs.declared.values.Undefined.{Undefined}
 use Rattle.ec_core.specs.declared.values.Undefined.TheVariants.{ZeroDivisor, ShiftCount, WholePart}
 use Rattle.ec_core.specs.ArithmeticTypes.{type_of, promoted, wider_or_unsigned, common, common_integer}
 use Rattle.ec_core.specs.Operators.{operation_types, then_with, brought, operation_value, compound_value}
-use Rattle.ec_core.specs.ArithmeticValues.{fixed_number, HoldsFixed, HoldsNumber, operand, outcome, shift_value, fixed_value, is_comparison, typed_value, arithmetic_value, unary_value, conversion_value, IsKnownType}
+use Rattle.ec_core.specs.ArithmeticValues.{fixed_number, HoldsFixed, HoldsNumber, operand, outcome, shift_value, fixed_value, is_comparison}
+use Rattle.ec_core.specs.ArithmeticValues.{typed_value, arithmetic_value, unary_value, conversion_value, IsKnownType}
 use Rattle.ec_core.specs.Typing.{IsIntegerKind, int, HaveArithmeticTypes, HaveUnaryTypes}
 use Rattle.ec_fx.specs.declared.formats.Format.{Format}
 use Rattle.ec_fx.specs.declared.numbers.Fixed.{Fixed as FixedNumber}
@@ -49,7 +53,8 @@ cases false false n m e = let same : m ≡ n = cc in (refl, refl, same)
 within : (signed : Bool) (bits : ℕ) (n m : ℤ) → Some m ≡ held signed bits n → IsWithin signed bits m
 within signed bits n m e =
     let c = cases (int_lt (greatest signed bits) n) (int_lt n (least signed bits)) n m e in
-    subst (λ (z : ℤ). IsWithin signed bits z) (sym c.2) (record { low = not_less n (least signed bits) c.1; high = not_less (greatest signed bits) n c.0 })
+    subst (λ (z : ℤ). IsWithin signed bits z) (sym c.2)
+    (record { low = not_less n (least signed bits) c.1; high = not_less (greatest signed bits) n c.0 })
 
 -- ---- integers
 
@@ -122,7 +127,8 @@ if_held : (t : IntegerType) (b : Bool) (p q : Result ℤ Undefined) → IntegerH
 if_held t true p q h k = h
 if_held t false p q h k = k
 
-bits_below : (t : IntegerType) (a b : ℤ) → (bit_and (low_bits t a) (low_bits t b) < modulus t) × (bit_or (low_bits t a) (low_bits t b) < modulus t) × (bit_xor (low_bits t a) (low_bits t b) < modulus t)
+bits_below : (t : IntegerType) (a b : ℤ) → (bit_and (low_bits t a) (low_bits t b) < modulus t)
+    × (bit_or (low_bits t a) (low_bits t b) < modulus t) × (bit_xor (low_bits t a) (low_bits t b) < modulus t)
 bits_below t a b =
     let l : low_bits t a < modulus t = low_bits_below t a in
     let r : low_bits t b < modulus t = low_bits_below t b in
@@ -145,10 +151,14 @@ integer_held : (op : BinOp) (t : IntegerType) (a b : ℤ) → is_comparison op �
 integer_held Add t a b c i = wrapped_held t _ i
 integer_held Sub t a b c i = wrapped_held t _ i
 integer_held Mul t a b c i = wrapped_held t _ i
-integer_held Div t a b c i = if_held t (int_eq b (pos 0)) (Err ZeroDivisor) (Ok (wrapped t (int_div a b))) tt (wrapped_held t (int_div a b) i)
-integer_held Rem t a b c i = if_held t (int_eq b (pos 0)) (Err ZeroDivisor) (Ok (wrapped t (int_rem a b))) tt (wrapped_held t (int_rem a b) i)
-integer_held Shl t a b c i = if_held t (is_count (width_of t) b) (Ok (wrapped t (a *ℤ pos (2 ^ unsigned_abs b)))) (Err ShiftCount) (wrapped_held t (a *ℤ pos (2 ^ unsigned_abs b)) i) tt
-integer_held Shr t a b c i = if_held t (is_count (width_of t) b) (Ok (wrapped t (int_div_euclid a (pos (2 ^ unsigned_abs b))))) (Err ShiftCount) (wrapped_held t (int_div_euclid a (pos (2 ^ unsigned_abs b))) i) tt
+integer_held Div t a b c i =
+    if_held t (int_eq b (pos 0)) (Err ZeroDivisor) (Ok (wrapped t (int_div a b))) tt (wrapped_held t (int_div a b) i)
+integer_held Rem t a b c i =
+    if_held t (int_eq b (pos 0)) (Err ZeroDivisor) (Ok (wrapped t (int_rem a b))) tt (wrapped_held t (int_rem a b) i)
+integer_held Shl t a b c i = if_held t (is_count (width_of t) b) (Ok (wrapped t (a *ℤ pos (2 ^ unsigned_abs b)))) (Err ShiftCount)
+    (wrapped_held t (a *ℤ pos (2 ^ unsigned_abs b)) i) tt
+integer_held Shr t a b c i = if_held t (is_count (width_of t) b) (Ok (wrapped t (int_div_euclid a (pos (2 ^ unsigned_abs b)))))
+    (Err ShiftCount) (wrapped_held t (int_div_euclid a (pos (2 ^ unsigned_abs b))) i) tt
 integer_held And t a b c i = from_bits_held t _ i (bits_below t a b).0
 integer_held Or t a b c i = from_bits_held t _ i (bits_below t a b).1
 integer_held Xor t a b c i = from_bits_held t _ i (bits_below t a b).2
@@ -183,12 +193,17 @@ clamped_fits to mode end h = by_mode mode.saturate
 fit_fits : (to : Format) (mode : Mode) (n : ℤ) → FitsFormat to (outcome (fit to mode n))
 fit_fits to mode n = by_tests (int_lt (greatest to.signed to.bits) n) (int_lt n (least to.signed to.bits)) refl refl
   where
-    by_tests : (b c : Bool) → int_lt (greatest to.signed to.bits) n ≡ b → int_lt n (least to.signed to.bits) ≡ c → FitsFormat to (outcome (if b then clamped to mode (greatest to.signed to.bits) else (if c then clamped to mode (least to.signed to.bits) else Got (record { format = to; n = n }))))
-    by_tests true c e f = clamped_fits to mode (greatest to.signed to.bits) (record { low = ends_in_order to.signed to.bits; high = omega (arith, ints) })
-    by_tests false true e f = clamped_fits to mode (least to.signed to.bits) (record { low = omega (arith, ints); high = ends_in_order to.signed to.bits })
+    by_tests : (b c : Bool) → int_lt (greatest to.signed to.bits) n ≡ b → int_lt n (least to.signed to.bits) ≡ c
+        → FitsFormat to (outcome (if b then clamped to mode (greatest to.signed to.bits)
+        else (if c then clamped to mode (least to.signed to.bits) else Got (record { format = to; n = n }))))
+    by_tests true c e f =
+        clamped_fits to mode (greatest to.signed to.bits) (record { low = ends_in_order to.signed to.bits; high = omega (arith, ints) })
+    by_tests false true e f =
+        clamped_fits to mode (least to.signed to.bits) (record { low = omega (arith, ints); high = ends_in_order to.signed to.bits })
     by_tests false false e f = record { low = not_less n (least to.signed to.bits) f; high = not_less (greatest to.signed to.bits) n e }
 
-if_fits : (to : Format) (b : Bool) (p q : Fx) → FitsFormat to (outcome p) → FitsFormat to (outcome q) → FitsFormat to (outcome (if b then p else q))
+if_fits : (to : Format) (b : Bool) (p q : Fx) → FitsFormat to (outcome p) → FitsFormat to (outcome q)
+    → FitsFormat to (outcome (if b then p else q))
 if_fits to true p q h k = h
 if_fits to false p q h k = k
 
@@ -225,7 +240,8 @@ integer_known a b i j = wider (promoted a) (promoted b) (promoted_known a i) (pr
     promoted_known x p = chosen (nat_lt x.bytes 2) int_type x (inr (inl refl)) p
 
     wider : (x y : IntegerType) → IsInteger x → IsInteger y → IsInteger (wider_or_unsigned x y)
-    wider x y p q = chosen (nat_lt x.bytes y.bytes) y _ q (chosen (nat_lt y.bytes x.bytes) x (record { signed = x.signed && y.signed; bytes = x.bytes }) p p)
+    wider x y p q = chosen (nat_lt x.bytes y.bytes) y _ q
+        (chosen (nat_lt y.bytes x.bytes) x (record { signed = x.signed && y.signed; bytes = x.bytes }) p p)
 
 pub common_known : (x y : Arithmetic) → IsKnownType x → IsKnownType y → IsKnownType (common x y)
 common_known (Integer a) (Integer b) i j = integer_known a b i j
@@ -277,21 +293,26 @@ no_fixed (Integer a) (Integer b) t i j e = cc
 no_fixed (Integer a) (Fixed b) t i j e = j
 no_fixed (Fixed a) y t i j e = i
 
-if_fixed : (t : FixedType) (b : Bool) (p q : Fx) → FixedHeld t (outcome p) → FixedHeld t (outcome q) → FixedHeld t (outcome (if b then p else q))
+if_fixed : (t : FixedType) (b : Bool) (p q : Fx) → FixedHeld t (outcome p) → FixedHeld t (outcome q)
+    → FixedHeld t (outcome (if b then p else q))
 if_fixed t true p q h k = h
 if_fixed t false p q h k = k
 
-shift_held : (left : Bool) (t : FixedType) (x y : Arithmetic) (mode : Mode) (m n : ℤ) → Fixed t ≡ x → FixedHeld t (shift_value left (operand x m) (operand y n) mode)
+shift_held : (left : Bool) (t : FixedType) (x y : Arithmetic) (mode : Mode) (m n : ℤ) → Fixed t ≡ x
+    → FixedHeld t (shift_value left (operand x m) (operand y n) mode)
 shift_held left t (Integer u) y mode m n e = cc
 shift_held left t (Fixed u) y mode m n e =
     let same : t ≡ u = cc in
-    subst (λ (z : FixedType). FixedHeld z (shift_value left (operand (Fixed u) m) (operand y n) mode)) (sym same) (as_held u _ (shift_fits left (fixed_number u m) (operand y n) mode))
+    subst (λ (z : FixedType). FixedHeld z (shift_value left (operand (Fixed u) m) (operand y n) mode)) (sym same)
+    (as_held u _ (shift_fits left (fixed_number u m) (operand y n) mode))
 
-fixed_held : (op : BinOp) (t : FixedType) (x y : Arithmetic) (mode : Mode) (m n : ℤ) → is_comparison op ≡ false → HaveArithmeticTypes op (Fixed t) x y → FixedHeld t (fixed_value op (format_of t.kind) (operand x m) (operand y n) mode)
+fixed_held : (op : BinOp) (t : FixedType) (x y : Arithmetic) (mode : Mode) (m n : ℤ) → is_comparison op ≡ false
+    → HaveArithmeticTypes op (Fixed t) x y → FixedHeld t (fixed_value op (format_of t.kind) (operand x m) (operand y n) mode)
 fixed_held Add t x y mode m n c h = fit_held t mode _
 fixed_held Sub t x y mode m n c h = fit_held t mode _
 fixed_held Mul t x y mode m n c h = fit_held t mode _
-fixed_held Div t x y mode m n c h = if_fixed t (int_eq (scaled (operand y n)) (pos 0)) ByZero _ tt (fit_held t mode (rounded (quotient_in (operand x m) (operand y n) (format_of t.kind))))
+fixed_held Div t x y mode m n c h = if_fixed t (int_eq (scaled (operand y n)) (pos 0)) ByZero _ tt
+    (fit_held t mode (rounded (quotient_in (operand x m) (operand y n) (format_of t.kind))))
 fixed_held Rem t x y mode m n c h = absurd (no_fixed x y t h.left h.right h.usual.value)
 fixed_held Shl t x y mode m n c h = shift_held true t x y mode m n h.value
 fixed_held Shr t x y mode m n c h = shift_held false t x y mode m n h.value
@@ -305,7 +326,8 @@ fixed_held Ge t x y mode m n c h = cc
 fixed_held Eq t x y mode m n c h = cc
 fixed_held Ne t x y mode m n c h = cc
 
-typed_held : (op : BinOp) (t x y : Arithmetic) (mode : Mode) (m n : ℤ) → is_comparison op ≡ false → HaveArithmeticTypes op t x y → IsKnownType t → Held t (typed_value op t mode (operand x m) (operand y n))
+typed_held : (op : BinOp) (t x y : Arithmetic) (mode : Mode) (m n : ℤ) → is_comparison op ≡ false → HaveArithmeticTypes op t x y
+    → IsKnownType t → Held t (typed_value op t mode (operand x m) (operand y n))
 typed_held op (Integer t) x y mode m n c h k = integer_result t _ k (integer_held op t (scaled (operand x m)) (scaled (operand y n)) c k)
 typed_held op (Fixed t) x y mode m n c h k = fixed_result t _ (fixed_held op t x y mode m n c h)
 
@@ -328,21 +350,25 @@ int_result Ge t x y c h = h.value
 int_result Eq t x y c h = h.value
 int_result Ne t x y c h = h.value
 
-pub arithmetic_held : (op : BinOp) (t x y : Arithmetic) (mode : Mode) (m n : ℤ) → HaveArithmeticTypes op t x y → IsKnownType x → IsKnownType y → Held t (arithmetic_value op t mode (operand x m) (operand y n))
+pub arithmetic_held : (op : BinOp) (t x y : Arithmetic) (mode : Mode) (m n : ℤ) → HaveArithmeticTypes op t x y → IsKnownType x
+    → IsKnownType y → Held t (arithmetic_value op t mode (operand x m) (operand y n))
 arithmetic_held op t x y mode m n h i j = by_kind (is_comparison op) refl
   where
-    by_kind : (b : Bool) → is_comparison op ≡ b → Held t (if b then compared op (order_of (operand x m) (operand y n)) else typed_value op t mode (operand x m) (operand y n))
+    by_kind : (b : Bool) → is_comparison op ≡ b
+        → Held t (if b then compared op (order_of (operand x m) (operand y n)) else typed_value op t mode (operand x m) (operand y n))
     by_kind true c = compared_held t _ (int_result op t x y c h)
     by_kind false c = typed_held op t x y mode m n c h (result_known op t x y h i j)
 
-pub unary_held : (op : UnOp) (t : Arithmetic) (mode : Mode) (n : ℤ) → HaveUnaryTypes op t → HoldsNumber t n → Held t (unary_value op t mode n)
+pub unary_held : (op : UnOp) (t : Arithmetic) (mode : Mode) (n : ℤ) → HaveUnaryTypes op t → HoldsNumber t n
+    → Held t (unary_value op t mode n)
 unary_held Minus (Integer t) mode n h v = (v.0, wrapped_held t _ v.0)
 unary_held Minus (Fixed t) mode n h v = fixed_result t _ (fit_held t mode _)
 unary_held Invert (Integer t) mode n h v = (v.0, wrapped_held t _ v.0)
 unary_held Invert (Fixed t) mode n h v = absurd h.0
 
 -- what a compound assignment writes
-pub compound_held : (op : BinOp) (own mode : Mode) (x y : Arithmetic) (m n : ℤ) → IsKnownType x → Held x (compound_value op own mode x m y n)
+pub compound_held : (op : BinOp) (own mode : Mode) (x y : Arithmetic) (m n : ℤ) → IsKnownType x
+    → Held x (compound_value op own mode x m y n)
 compound_held op own mode x y m n k = by_result (operation_value op (operation_types op x y) own x m y n)
   where
     by_result : (r : Result ℤ Undefined) → Held x (then_with r (λ z. brought x mode (operation_types op x y).result z))

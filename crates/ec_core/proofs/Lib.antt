@@ -1,19 +1,21 @@
+-- For all crates above.
 pub mod Conversions
 pub mod Filled
-pub mod Calling
-pub mod Depths
 pub mod Growth
 pub mod HeldNumbers
-pub mod Layouts
-pub mod Points
 pub mod Rows
-pub mod Runs
 pub mod Sameness
-pub mod Samples
 pub mod StructLists
-pub mod Steps
 pub mod Suiting
-pub mod TwoRuns
 pub mod TypedRuns
-pub mod TypedStates
 pub mod TypedValues
+-- For this crate alone.
+mod Calling
+mod Depths
+mod Layouts
+mod Points
+mod Runs
+mod Samples
+mod Steps
+mod TwoRuns
+mod TypedStates

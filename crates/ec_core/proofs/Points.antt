@@ -27,10 +27,12 @@ use Rattle.ec_core.specs.declared.values.Undefined.{Undefined}
 use Rattle.ec_core.specs.declared.values.Undefined.TheVariants.{ZeroDivisor, ShiftCount, PointerUse, PointerRange, WholePart, Invalid}
 use Rattle.ec_core.specs.declared.values.Value.{Value}
 use Rattle.ec_core.specs.declared.values.Value.TheVariants.{Number, Pointer}
-use Rattle.ec_core.specs.ArithmeticValues.{operand, fixed_number, outcome, shift_value, fixed_value, typed_value, arithmetic_value, unary_value, conversion_value, is_comparison}
+use Rattle.ec_core.specs.ArithmeticValues.{operand, fixed_number, outcome, shift_value, fixed_value, typed_value, arithmetic_value}
+use Rattle.ec_core.specs.ArithmeticValues.{unary_value, conversion_value, is_comparison}
 use Rattle.ec_core.specs.Integers.{width_of, wrapped, is_count, compared, integer_value}
 use Rattle.ec_core.specs.Operators.{Operand, OperationTypes, operation_types, then_with, brought, operation_value, compound_value, truth_of}
-use Rattle.ec_core.specs.Pointers.{Pointer as PointerValue, used, displaced, moved, same_instance, is_at_end, apart, equality, truth_of_pointer}
+use Rattle.ec_core.specs.Pointers.{Pointer as PointerValue, used, displaced, moved, same_instance, is_at_end, apart, equality}
+use Rattle.ec_core.specs.Pointers.{truth_of_pointer}
 
 abbrev pub IsPoint : Undefined → Type 0
 IsPoint Invalid = ⊥
@@ -127,18 +129,23 @@ conversion_point (Integer t) mode (FixedNum x) = by_whole (integer_of x t.signed
     by_whole (Some n) = tt
 conversion_point (Fixed t) mode a = outcome_point (conversion_of a (format_of t.kind) mode)
 
-then_point : {A B : Type 0} (r : Result A Undefined) (go : A → Result B Undefined) → HasPoint r → ((x : A) → HasPoint (go x)) → HasPoint (then_with r go)
+then_point : {A B : Type 0} (r : Result A Undefined) (go : A → Result B Undefined) → HasPoint r → ((x : A) → HasPoint (go x))
+    → HasPoint (then_with r go)
 then_point (Ok x) go h k = k x
 then_point (Err point) go h k = h
 
-operation_point : (op : BinOp) (types : OperationTypes) (mode : Mode) (x : Arithmetic) (m : ℤ) (y : Arithmetic) (n : ℤ) → HasPoint (operation_value op types mode x m y n)
+operation_point : (op : BinOp) (types : OperationTypes) (mode : Mode) (x : Arithmetic) (m : ℤ) (y : Arithmetic) (n : ℤ)
+    → HasPoint (operation_value op types mode x m y n)
 operation_point op types mode x m y n =
     then_point (brought types.left mode x m) _ (conversion_point types.left mode (operand x m)) (λ a.
-    then_point (brought types.right mode y n) _ (conversion_point types.right mode (operand y n)) (λ b. arithmetic_point op types.result mode (operand types.left a) (operand types.right b)))
+    then_point (brought types.right mode y n) _ (conversion_point types.right mode (operand y n))
+    (λ b. arithmetic_point op types.result mode (operand types.left a) (operand types.right b)))
 
-pub compound_point : (op : BinOp) (operation_mode write_mode : Mode) (x : Arithmetic) (m : ℤ) (y : Arithmetic) (n : ℤ) → HasPoint (compound_value op operation_mode write_mode x m y n)
+pub compound_point : (op : BinOp) (operation_mode write_mode : Mode) (x : Arithmetic) (m : ℤ) (y : Arithmetic) (n : ℤ)
+    → HasPoint (compound_value op operation_mode write_mode x m y n)
 compound_point op operation_mode write_mode x m y n =
-    then_point (operation_value op (operation_types op x y) operation_mode x m y n) _ (operation_point op (operation_types op x y) operation_mode x m y n) (λ r.
+    then_point (operation_value op (operation_types op x y) operation_mode x m y n) _
+    (operation_point op (operation_types op x y) operation_mode x m y n) (λ r.
     conversion_point x write_mode (operand (operation_types op x y).result r))
 
 -- ---- pointers
@@ -150,13 +157,15 @@ used_point false r h = tt
 displaced_point : (p : ObjectPointer) (size : ℕ) (at : ℤ) → HasPoint (displaced p size at)
 displaced_point p size at = by_range (int_le (pos 0) at && int_le at (pos size))
   where
-    by_range : (b : Bool) → HasPoint {A = PointerValue} (if b then Ok (Some (record { object = p.object; instance = p.instance; offset = unsigned_abs at })) else Err PointerRange)
+    by_range : (b : Bool) → HasPoint {A = PointerValue} (if b
+        then Ok (Some (record { object = p.object; instance = p.instance; offset = unsigned_abs at })) else Err PointerRange)
     by_range true = tt
     by_range false = tt
 
 pub moved_point : (p : PointerValue) (of : Referent) (bytes : ℤ) → HasPoint (moved p of bytes)
 moved_point None of bytes = tt
-moved_point (Some p) of bytes = used_point of.live (displaced p of.size (pos p.offset +ℤ bytes)) (displaced_point p of.size (pos p.offset +ℤ bytes))
+moved_point (Some p) of bytes =
+    used_point of.live (displaced p of.size (pos p.offset +ℤ bytes)) (displaced_point p of.size (pos p.offset +ℤ bytes))
 
 pub equality_point : (p : PointerValue) (of : Referent) (q : PointerValue) (into : Referent) → HasPoint (equality p of q into)
 equality_point None of None into = tt

@@ -1,9 +1,12 @@
 -- Two types that are told to be the same are equal, and a change in a list is std's.
-use Rattle.std.proofs.Common.{◌≡◌, ℕ, zero, suc, Bool, true, false, ◌&&◌, List, [], ◌∷◌, Option, Some, None, refl, sym, ap, ◌∙◌, eqb-true, eq-eqb}
+use Rattle.std.proofs.Common.{◌≡◌, ℕ, zero, suc, Bool, true, false, ◌&&◌, List, [], ◌∷◌, Option, Some, None, refl, sym, ap, ◌∙◌, eqb-true}
+use Rattle.std.proofs.Common.{eq-eqb}
 use Rattle.std.specs.Prelude.{◌==◌, find, slice_get, slice_set}
 use Rattle.ec_fx.specs.declared.formats.Format.{Format}
 use Rattle.ec_fx.specs.declared.formats.FxKind.{FxKind}
-use Rattle.ec_fx.specs.declared.formats.FxKind.TheVariants.{ShortFract, Fract, LongFract, ShortAccum, Accum, LongAccum, UnsignedShortFract, UnsignedFract, UnsignedLongFract, UnsignedShortAccum, UnsignedAccum, UnsignedLongAccum}
+use Rattle.ec_fx.specs.declared.formats.FxKind.TheVariants.{ShortFract, Fract, LongFract, ShortAccum, Accum, LongAccum, UnsignedShortFract}
+use Rattle.ec_fx.specs.declared.formats.FxKind.TheVariants.{UnsignedFract, UnsignedLongFract, UnsignedShortAccum, UnsignedAccum}
+use Rattle.ec_fx.specs.declared.formats.FxKind.TheVariants.{UnsignedLongAccum}
 use Rattle.ec_fx.specs.Formats.{format_of}
 use Rattle.ec_space.specs.declared.space.SpaceId.{SpaceId}
 use Rattle.ec_space.specs.declared.space.SpaceId.TheVariants.{Flash, Data, Generic}
@@ -12,17 +15,17 @@ use Rattle.ec_core.specs.Operators.{same_bool, same_space, same_kind, same_type}
 use Rattle.ec_core.specs.Plain.{PlainType, void, integer, fixed, pointer, array, struct}
 use Rattle.ec_core.specs.State.{changed_at}
 
-and_true : (a b : Bool) → (a && b) ≡ true → (a ≡ true) × (b ≡ true)
+pub and_true : (a b : Bool) → (a && b) ≡ true → (a ≡ true) × (b ≡ true)
 and_true true b e = (refl, e)
 and_true false b e = cc
 
-true_and : (a b : Bool) → a ≡ true → b ≡ true → (a && b) ≡ true
+pub true_and : (a b : Bool) → a ≡ true → b ≡ true → (a && b) ≡ true
 true_and true b e f = f
 true_and false b e f = cc
 
 -- ---- told to be the same, and so equal
 
-bool_true : (a b : Bool) → same_bool a b ≡ true → a ≡ b
+pub bool_true : (a b : Bool) → same_bool a b ≡ true → a ≡ b
 bool_true true b e = sym e
 bool_true false true e = cc
 bool_true false false e = refl
@@ -40,7 +43,8 @@ space_true Generic Generic e = refl
 
 -- a kind is found by its format
 kinds : List FxKind
-kinds = ShortFract ∷ Fract ∷ LongFract ∷ ShortAccum ∷ Accum ∷ LongAccum ∷ UnsignedShortFract ∷ UnsignedFract ∷ UnsignedLongFract ∷ UnsignedShortAccum ∷ UnsignedAccum ∷ UnsignedLongAccum ∷ []
+kinds = ShortFract ∷ Fract ∷ LongFract ∷ ShortAccum ∷ Accum ∷ LongAccum ∷ UnsignedShortFract ∷ UnsignedFract ∷ UnsignedLongFract
+    ∷ UnsignedShortAccum ∷ UnsignedAccum ∷ UnsignedLongAccum ∷ []
 
 abbrev same_format : Format → Format → Bool
 same_format f g = same_bool f.signed g.signed && f.bits == g.bits && f.frac == g.frac
@@ -76,7 +80,8 @@ kind_true a b e =
     let s : (format_of a).signed ≡ (format_of b).signed = bool_true _ _ q.0 in
     let m : (format_of a).bits ≡ (format_of b).bits = eqb-true _ _ q.1 in
     let n : (format_of a).frac ≡ (format_of b).frac = eqb-true _ _ p.1 in
-    let f : format_of a ≡ format_of b = formed_same (format_of a).signed (format_of b).signed (format_of a).bits (format_of b).bits (format_of a).frac (format_of b).frac s m n in
+    let f : format_of a ≡ format_of b = formed_same (format_of a).signed (format_of b).signed (format_of a).bits (format_of b).bits
+    (format_of a).frac (format_of b).frac s m n in
     let g : Some a ≡ Some b = sym (kind_found a) ∙ ap kind_with f ∙ kind_found b in
     cc
 
@@ -88,28 +93,46 @@ type_true void (pointer t d b) e = cc
 type_true void (array b n) e = cc
 type_true void (struct n) e = cc
 type_true (integer s m) void e = cc
-type_true (integer s m) (integer t n) e = let p = and_true (same_bool s t) _ e in let f : s ≡ t = bool_true s t p.0 in let g : m ≡ n = eqb-true m n p.1 in cc
+type_true (integer s m) (integer t n) e =
+    let p = and_true (same_bool s t) _ e in
+    let f : s ≡ t = bool_true s t p.0 in
+    let g : m ≡ n = eqb-true m n p.1 in
+    cc
 type_true (integer s m) (fixed b t) e = cc
 type_true (integer s m) (pointer t d b) e = cc
 type_true (integer s m) (array b n) e = cc
 type_true (integer s m) (struct n) e = cc
 type_true (fixed a s) void e = cc
 type_true (fixed a s) (integer t n) e = cc
-type_true (fixed a s) (fixed b t) e = let p = and_true (same_kind a b) _ e in let f : a ≡ b = kind_true a b p.0 in let g : s ≡ t = bool_true s t p.1 in cc
+type_true (fixed a s) (fixed b t) e =
+    let p = and_true (same_kind a b) _ e in
+    let f : a ≡ b = kind_true a b p.0 in
+    let g : s ≡ t = bool_true s t p.1 in
+    cc
 type_true (fixed a s) (pointer t d b) e = cc
 type_true (fixed a s) (array b n) e = cc
 type_true (fixed a s) (struct n) e = cc
 type_true (pointer s c a) void e = cc
 type_true (pointer s c a) (integer t n) e = cc
 type_true (pointer s c a) (fixed b t) e = cc
-type_true (pointer s c a) (pointer t d b) e = let p = and_true (same_space s t && same_bool c d) _ e in let q = and_true (same_space s t) _ p.0 in let f : s ≡ t = space_true s t q.0 in let g : c ≡ d = bool_true c d q.1 in let h : a ≡ b = type_true a b p.1 in cc
+type_true (pointer s c a) (pointer t d b) e =
+    let p = and_true (same_space s t && same_bool c d) _ e in
+    let q = and_true (same_space s t) _ p.0 in
+    let f : s ≡ t = space_true s t q.0 in
+    let g : c ≡ d = bool_true c d q.1 in
+    let h : a ≡ b = type_true a b p.1 in
+    cc
 type_true (pointer s c a) (array b n) e = cc
 type_true (pointer s c a) (struct n) e = cc
 type_true (array a m) void e = cc
 type_true (array a m) (integer t n) e = cc
 type_true (array a m) (fixed b t) e = cc
 type_true (array a m) (pointer t d b) e = cc
-type_true (array a m) (array b n) e = let p = and_true (same_type a b) _ e in let f : a ≡ b = type_true a b p.0 in let g : m ≡ n = eqb-true m n p.1 in cc
+type_true (array a m) (array b n) e =
+    let p = and_true (same_type a b) _ e in
+    let f : a ≡ b = type_true a b p.0 in
+    let g : m ≡ n = eqb-true m n p.1 in
+    cc
 type_true (array a m) (struct n) e = cc
 type_true (struct m) void e = cc
 type_true (struct m) (integer t n) e = cc
@@ -157,7 +180,8 @@ types_are_told = record { same = type_true; itself = type_itself }
 -- ---- changes
 
 -- a change of the item that stands at a place
-pub changed_at-set : {A : Type 0} (n : ℕ) (f : A → A) (xs : List A) (x : A) → slice_get xs n ≡ Some x → changed_at n f xs ≡ slice_set xs n (f x)
+pub changed_at-set : {A : Type 0} (n : ℕ) (f : A → A) (xs : List A) (x : A) → slice_get xs n ≡ Some x
+    → changed_at n f xs ≡ slice_set xs n (f x)
 changed_at-set n f [] x e = refl
 changed_at-set zero f (y ∷ xs) x e = let g : y ≡ x = cc in ap (λ z. f z ∷ xs) g
 changed_at-set (suc n) f (y ∷ xs) x e = ap (λ l. y ∷ l) (changed_at-set n f xs x e)

@@ -1,5 +1,6 @@
 -- Small programs and what they do, by computation alone.
-use Rattle.std.proofs.Common.{◌≡◌, ◌*◌, ℕ, zero, suc, ◌<◌, ◌≤◌, Bool, true, false, pos, negsuc, List, [], ◌∷◌, Some, None, refl, sym, subst, inl, inr, arith}
+use Rattle.std.proofs.Common.{◌≡◌, ◌*◌, ℕ, zero, suc, ◌<◌, ◌≤◌, Bool, true, false, pos, negsuc, List, [], ◌∷◌, Some, None, refl, sym, subst}
+use Rattle.std.proofs.Common.{inl, inr, arith}
 use Rattle.std.specs.Prelude.{◌==◌, if◌then◌else◌, Contains, slice_get, slice_index_or}
 use Rattle.std.proofs.lemmas.Int.{ints as integers}
 use Rattle.ec_fx.specs.declared.formats.FxKind.TheVariants.{ShortFract, ShortAccum}
@@ -13,8 +14,14 @@ use Rattle.ec_space.specs.declared.space.SpaceId.TheVariants.{Flash, Generic}
 use Rattle.ec_runs.specs.Behaviours.{Running, Ended, Failed}
 use Rattle.ec_core.specs.declared.expressions.BinOp.TheVariants.{Add, Sub, Div, Shl, Lt, Eq}
 use Rattle.ec_core.specs.declared.programs.LeafInit.TheVariants.{Number as TheNumber, Address}
-use Rattle.ec_core.specs.declared.values.Undefined.TheVariants.{ZeroDivisor, ShiftCount, FixedOverflow, WholePart, Access, Unset, ConstWrite, Narrowing, Unrelated, PointerUse, PointerRange, ClosedPort, BufferIndex, NoResult}
-use Rattle.ec_core.specs.Plain.{PlainType, void, integer, fixed, pointer, array, struct, PlainStruct, PlainExpr, expression, PlainNode, number, load, address_of, binary, convert, assign, compound, step, call, io, group, object, deref, member, no_expr, an_expr, PlainExprs, last_expr, next_expr, PlainStmt, statement, PlainKind, empty, evaluate, block, declare, while_loop, for_loop, break_loop, return_value, no_stmt, a_stmt, PlainStmts, last_stmt, next_stmt, PlainStorage, static, local, param, register, PlainObject, PlainFunction, PlainProgram}
+use Rattle.ec_core.specs.declared.values.Undefined.TheVariants.{ZeroDivisor, ShiftCount, FixedOverflow, WholePart, Access, Unset}
+use Rattle.ec_core.specs.declared.values.Undefined.TheVariants.{ConstWrite, Narrowing, Unrelated, PointerUse, PointerRange, ClosedPort}
+use Rattle.ec_core.specs.declared.values.Undefined.TheVariants.{BufferIndex, NoResult}
+use Rattle.ec_core.specs.Plain.{PlainType, void, integer, fixed, pointer, array, struct, PlainStruct, PlainExpr, expression, PlainNode}
+use Rattle.ec_core.specs.Plain.{number, load, address_of, binary, convert, assign, compound, step, call, io, group, object, deref, member}
+use Rattle.ec_core.specs.Plain.{no_expr, an_expr, PlainExprs, last_expr, next_expr, PlainStmt, statement, PlainKind, empty, evaluate, block}
+use Rattle.ec_core.specs.Plain.{declare, while_loop, for_loop, break_loop, return_value, no_stmt, a_stmt, PlainStmts, last_stmt, next_stmt}
+use Rattle.ec_core.specs.Plain.{PlainStorage, static, local, param, register, PlainObject, PlainFunction, PlainProgram}
 use Rattle.ec_core.specs.PortTable.{PlainTable}
 use Rattle.ec_core.specs.State.{Event, In, Out, Read, Write}
 use Rattle.ec_core.specs.Typing.{int, unsigned_int}
@@ -56,7 +63,16 @@ exprs [] = last_expr
 exprs (e ∷ es) = next_expr e (exprs es)
 
 abbrev variable : PlainType → PlainStorage → PlainObject
-variable ty storage = record { name = []; unit = 0; external = false; ty = ty; space = Generic; home = DataBank; const = false; storage = storage }
+variable ty storage = record {
+  name = [];
+  unit = 0;
+  external = false;
+  ty = ty;
+  space = Generic;
+  home = DataBank;
+  const = false;
+  storage = storage;
+}
 
 abbrev function : PlainType → List ℕ → List PlainStmt → PlainFunction
 function ty params ss = record { name = []; unit = 0; returns = ty; params = params; body = body ss }
@@ -76,7 +92,8 @@ counting = program (variable int (local 0) ∷ variable int (local 0) ∷ [])
     (function int [] (
     does (declare 0 last_expr)
     ∷ does (declare 1 (exprs (num 0 ∷ [])))
-    ∷ does (for_loop (a_stmt (does (evaluate (set 0 (num 0))))) (Some (typed int (binary Lt (of 0) (num 2)))) (Some (set 0 (sum (of 0) (num 1)))) (does (evaluate (set 1 (sum (of 1) (of 0))))))
+    ∷ does (for_loop (a_stmt (does (evaluate (set 0 (num 0))))) (Some (typed int (binary Lt (of 0) (num 2))))
+    (Some (set 0 (sum (of 0) (num 1)))) (does (evaluate (set 1 (sum (of 1) (of 0))))))
     ∷ does (return_value (Some (of 1)))
     ∷ []) ∷ [])
 
@@ -86,10 +103,12 @@ rd o n = Read o 0 Generic (TheNumber (pos n))
 abbrev wr : ℕ → ℕ → Event
 wr o n = Write o 0 Generic (TheNumber (pos n))
 
-counting_ends : source counting no_ports silent 2 ≡ Ended (wr 1 0 ∷ wr 0 0 ∷ rd 0 0 ∷ rd 1 0 ∷ rd 0 0 ∷ wr 1 0 ∷ rd 0 0 ∷ wr 0 1 ∷ rd 0 1 ∷ rd 1 0 ∷ rd 0 1 ∷ wr 1 1 ∷ rd 0 1 ∷ wr 0 2 ∷ rd 0 2 ∷ rd 1 1 ∷ []) (pos 1)
+counting_ends : source counting no_ports silent 2 ≡ Ended (wr 1 0 ∷ wr 0 0 ∷ rd 0 0 ∷ rd 1 0 ∷ rd 0 0 ∷ wr 1 0 ∷ rd 0 0 ∷ wr 0 1 ∷ rd 0 1
+    ∷ rd 1 0 ∷ rd 0 1 ∷ wr 1 1 ∷ rd 0 1 ∷ wr 0 2 ∷ rd 0 2 ∷ rd 1 1 ∷ []) (pos 1)
 counting_ends = refl
 
-counting_goes_on : source counting no_ports silent 1 ≡ Running (wr 1 0 ∷ wr 0 0 ∷ rd 0 0 ∷ rd 1 0 ∷ rd 0 0 ∷ wr 1 0 ∷ rd 0 0 ∷ wr 0 1 ∷ rd 0 1 ∷ [])
+counting_goes_on : source counting no_ports silent 1
+    ≡ Running (wr 1 0 ∷ wr 0 0 ∷ rd 0 0 ∷ rd 1 0 ∷ rd 0 0 ∷ wr 1 0 ∷ rd 0 0 ∷ wr 0 1 ∷ rd 0 1 ∷ [])
 counting_goes_on = refl
 
 counting_work : work counting no_ports silent 1 ≡ 64 * 2560
@@ -100,7 +119,8 @@ counting_weight = refl
 
 -- int main(void) { while (1) for (break; ; ) ; return 0; }, as a tree: how the first part was left is passed on
 abbrev leaving : PlainProgram
-leaving = program [] (function int [] (does (while_loop (num 1) (does (for_loop (a_stmt (does break_loop)) None None (does empty)))) ∷ does (return_value (Some (num 0))) ∷ []) ∷ [])
+leaving = program [] (function int [] (does (while_loop (num 1) (does (for_loop (a_stmt (does break_loop)) None None (does empty))))
+    ∷ does (return_value (Some (num 0))) ∷ []) ∷ [])
 
 leaving_ends : source leaving no_ports silent 1 ≡ Ended [] (pos 0)
 leaving_ends = refl
@@ -134,7 +154,8 @@ pointing k = program (variable ints (local 0) ∷ variable data_int (local 0) �
     ∷ does (return_value (Some (typed int (load (deref (typed data_int (load (object 1))))))))
     ∷ []) ∷ [])
 
-pointing_in : source (pointing 1) no_ports silent 0 ≡ Ended (wr 0 1 ∷ Write 0 1 Generic (TheNumber (pos 2)) ∷ Write 1 0 Generic (Address 0 2) ∷ Read 1 0 Generic (Address 0 2) ∷ Read 0 1 Generic (TheNumber (pos 2)) ∷ []) (pos 2)
+pointing_in : source (pointing 1) no_ports silent 0 ≡ Ended (wr 0 1 ∷ Write 0 1 Generic (TheNumber (pos 2))
+    ∷ Write 1 0 Generic (Address 0 2) ∷ Read 1 0 Generic (Address 0 2) ∷ Read 0 1 Generic (TheNumber (pos 2)) ∷ []) (pos 2)
 pointing_in = refl
 
 pointing_at_end : source (pointing 2) no_ports silent 0 ≡ Failed Access
@@ -148,7 +169,8 @@ abbrev dangling : PlainProgram
 dangling = program (variable data_int (local 0) ∷ variable int (local 0) ∷ [])
     (function int [] (
     does (declare 0 last_expr)
-    ∷ does (block (stmts (does (declare 1 (exprs (num 1 ∷ []))) ∷ does (evaluate (typed data_int (assign (object 0) (typed data_int (address_of (object 1)))))) ∷ [])))
+    ∷ does (block (stmts (does (declare 1 (exprs (num 1 ∷ [])))
+    ∷ does (evaluate (typed data_int (assign (object 0) (typed data_int (address_of (object 1)))))) ∷ [])))
     ∷ does (return_value (Some (typed int (load (deref (typed data_int (load (object 0))))))))
     ∷ []) ∷ [])
 
@@ -160,10 +182,12 @@ dangling_read = refl
 -- int main(void) { return f(2) + f(3); }    int f(int x) { x += 1; return x; }  (or, ended early: int f(int x) { x += 1; })
 abbrev calling : List PlainStmt → PlainProgram
 calling rest = program (variable int (param 1) ∷ [])
-    (function int [] (does (return_value (Some (sum (typed int (call 1 (exprs (num 2 ∷ [])))) (typed int (call 1 (exprs (num 3 ∷ []))))))) ∷ [])
+    (function int []
+    (does (return_value (Some (sum (typed int (call 1 (exprs (num 2 ∷ [])))) (typed int (call 1 (exprs (num 3 ∷ []))))))) ∷ [])
     ∷ function int (0 ∷ []) (does (evaluate (typed int (compound Add plain_mode (object 0) (num 1)))) ∷ rest) ∷ [])
 
-calling_ends : source (calling (does (return_value (Some (of 0))) ∷ [])) no_ports silent 0 ≡ Ended (wr 0 2 ∷ rd 0 2 ∷ wr 0 3 ∷ rd 0 3 ∷ wr 0 3 ∷ rd 0 3 ∷ wr 0 4 ∷ rd 0 4 ∷ []) (pos 7)
+calling_ends : source (calling (does (return_value (Some (of 0))) ∷ [])) no_ports silent 0
+    ≡ Ended (wr 0 2 ∷ rd 0 2 ∷ wr 0 3 ∷ rd 0 3 ∷ wr 0 3 ∷ rd 0 3 ∷ wr 0 4 ∷ rd 0 4 ∷ []) (pos 7)
 calling_ends = refl
 
 no_result : source (calling []) no_ports silent 0 ≡ Failed NoResult
@@ -192,7 +216,8 @@ stepping = program (variable char (local 0) ∷ [])
     ∷ does (return_value (Some (typed int (convert (typed char (step true true (object 0)))))))
     ∷ []) ∷ [])
 
-stepping_wraps : source stepping no_ports silent 0 ≡ Ended (wr 0 127 ∷ rd 0 127 ∷ Write 0 0 Generic (TheNumber (negsuc 127)) ∷ []) (negsuc 127)
+stepping_wraps : source stepping no_ports silent 0
+    ≡ Ended (wr 0 127 ∷ rd 0 127 ∷ Write 0 0 Generic (TheNumber (negsuc 127)) ∷ []) (negsuc 127)
 stepping_wraps = refl
 
 -- short _Fract x = 0.5hr; x += x;  overflows where the state does not saturate
@@ -203,7 +228,8 @@ abbrev doubling : Bool → PlainProgram
 doubling saturates = program (variable (fixed ShortFract false) (local 0) ∷ [])
     (function int [] (
     does (declare 0 (exprs (typed (fixed ShortFract false) (number (pos 64)) ∷ [])))
-    ∷ does (evaluate (expression (fixed ShortFract false) (saturating saturates) (compound Add (saturating saturates) (object 0) (typed (fixed ShortFract false) (load (object 0))))))
+    ∷ does (evaluate (expression (fixed ShortFract false) (saturating saturates)
+    (compound Add (saturating saturates) (object 0) (typed (fixed ShortFract false) (load (object 0))))))
     ∷ []) ∷ [])
 
 doubling_overflows : source (doubling false) no_ports silent 0 ≡ Failed FixedOverflow
@@ -226,15 +252,20 @@ reading = typed unsigned_int (io PortRead 0 no_expr no_expr)
 -- int main(void) { iowr(T, iord(T) + 1); return (int)iord(T); }
 abbrev porting : PlainProgram
 porting = program [] (function int [] (
-    does (evaluate (typed void (io PortWrite 0 no_expr (an_expr (typed unsigned_int (binary Add reading (typed unsigned_int (number (pos 1)))))))))
+    does (evaluate
+    (typed void (io PortWrite 0 no_expr (an_expr (typed unsigned_int (binary Add reading (typed unsigned_int (number (pos 1)))))))))
     ∷ does (return_value (Some (typed int (convert reading))))
     ∷ []) ∷ [])
 
-porting_ends : source porting two_bytes some_bytes 0 ≡ Ended (In 0x84 0x34 ∷ In 0x85 0x12 ∷ Out 0x85 0x12 ∷ Out 0x84 0x35 ∷ In 0x84 0 ∷ In 0x85 1 ∷ []) (pos 256)
+porting_ends : source porting two_bytes some_bytes 0
+    ≡ Ended (In 0x84 0x34 ∷ In 0x85 0x12 ∷ Out 0x85 0x12 ∷ Out 0x84 0x35 ∷ In 0x84 0 ∷ In 0x85 1 ∷ []) (pos 256)
 porting_ends = refl
 
 abbrev grouped : PlainTable
-grouped = record { ports = record { address = 0x84; width = 2; count = 1; group = Some 0 } ∷ []; groups = record { acquire = []; release = [] } ∷ [] }
+grouped = record {
+  ports = record { address = 0x84; width = 2; count = 1; group = Some 0 } ∷ [];
+  groups = record { acquire = []; release = [] } ∷ [];
+}
 
 porting_closed : source porting grouped some_bytes 0 ≡ Failed ClosedPort
 porting_closed = refl
@@ -248,8 +279,10 @@ open_group = record {
 -- int main(void) { iogroup_acquire(ADC); iordbuf(SAMPLE, i); iogroup_release(ADC); iordbuf(SAMPLE, i); }
 abbrev grouping : ℕ → PlainProgram
 grouping i =
-    let sampling : PlainStmt = does (evaluate (typed unsigned_int (io PortReadBuffer 0 (an_expr (typed unsigned_int (number (pos i)))) no_expr))) in
-    program [] (function int [] (does (evaluate (typed void (group true 0))) ∷ sampling ∷ does (evaluate (typed void (group false 0))) ∷ does (return_value (Some (num 0))) ∷ []) ∷ [])
+    let sampling : PlainStmt =
+    does (evaluate (typed unsigned_int (io PortReadBuffer 0 (an_expr (typed unsigned_int (number (pos i)))) no_expr))) in
+    program [] (function int [] (does (evaluate (typed void (group true 0))) ∷ sampling ∷ does (evaluate (typed void (group false 0)))
+    ∷ does (return_value (Some (num 0))) ∷ []) ∷ [])
 
 grouping_ends : source (grouping 1) open_group some_bytes 0 ≡ Ended (Out 0x7A 0x80 ∷ In 0x7A 0 ∷ Out 0x7A 0 ∷ []) (pos 0)
 grouping_ends = refl
@@ -271,7 +304,8 @@ shifting_out = refl
 
 -- int main(void) { return (char)(200.0hk); }    in units of 2^-7
 abbrev truncating : ℕ → PlainProgram
-truncating n = program [] (function int [] (does (return_value (Some (typed int (convert (typed char (convert (typed (fixed ShortAccum false) (number (pos n))))))))) ∷ []) ∷ [])
+truncating n = program [] (function int []
+    (does (return_value (Some (typed int (convert (typed char (convert (typed (fixed ShortAccum false) (number (pos n))))))))) ∷ []) ∷ [])
 
 truncating_well : source (truncating 16000) no_ports silent 0 ≡ Ended [] (pos 125)
 truncating_well = refl
@@ -284,7 +318,16 @@ abbrev const_pointer : PlainType
 const_pointer = pointer Generic true int
 
 abbrev overwriting : PlainProgram
-overwriting = program (record { name = []; unit = 0; external = true; ty = int; space = Generic; home = DataBank; const = true; storage = static (TheNumber (pos 1) ∷ []) } ∷ [])
+overwriting = program (record {
+  name = [];
+  unit = 0;
+  external = true;
+  ty = int;
+  space = Generic;
+  home = DataBank;
+  const = true;
+  storage = static (TheNumber (pos 1) ∷ []);
+} ∷ [])
     (function int [] (
     does (evaluate (typed int (assign (deref (typed data_int (convert (typed const_pointer (address_of (object 0)))))) (num 2))))
     ∷ does (return_value (Some (num 0)))
@@ -296,7 +339,8 @@ overwriting_const = refl
 -- int x; int main(void) { return *(__flash int *)&x; }
 abbrev narrowing : PlainProgram
 narrowing = program (variable int (static (TheNumber (pos 0) ∷ [])) ∷ [])
-    (function int [] (does (return_value (Some (typed int (load (deref (typed (pointer Flash true int) (convert (typed data_int (address_of (object 0)))))))))) ∷ []) ∷ [])
+    (function int [] (does (return_value
+    (Some (typed int (load (deref (typed (pointer Flash true int) (convert (typed data_int (address_of (object 0)))))))))) ∷ []) ∷ [])
 
 narrowing_out : source narrowing no_ports silent 0 ≡ Failed Narrowing
 narrowing_out = refl
@@ -315,7 +359,8 @@ subtracting_apart : source subtracting no_ports silent 0 ≡ Failed Unrelated
 subtracting_apart = refl
 
 abbrev comparing : ℕ → PlainProgram
-comparing n = program two (function int [] (does (return_value (Some (typed int (binary Eq (typed data_int (binary Add (address 0) (num n))) (address 1))))) ∷ []) ∷ [])
+comparing n = program two (function int []
+    (does (return_value (Some (typed int (binary Eq (typed data_int (binary Add (address 0) (num n))) (address 1))))) ∷ []) ∷ [])
 
 comparing_apart : source (comparing 0) no_ports silent 0 ≡ Ended [] (pos 0)
 comparing_apart = refl
@@ -333,18 +378,21 @@ abbrev picking : PlainProgram
 picking = record {
   structs = pair ∷ [];
   objects = variable (struct 0) (local 0) ∷ [];
-  functions = function int [] (does (declare 0 last_expr) ∷ does (evaluate (typed int (assign (member (object 0) 1) (num 500)))) ∷ does (return_value (Some (typed int (load (member (object 0) 1))))) ∷ []) ∷ [];
+  functions = function int [] (does (declare 0 last_expr) ∷ does (evaluate (typed int (assign (member (object 0) 1) (num 500))))
+      ∷ does (return_value (Some (typed int (load (member (object 0) 1))))) ∷ []) ∷ [];
   main = 0;
 }
 
-picking_ends : source picking no_ports silent 0 ≡ Ended (Write 0 1 Generic (TheNumber (pos 500)) ∷ Read 0 1 Generic (TheNumber (pos 500)) ∷ []) (pos 500)
+picking_ends : source picking no_ports silent 0
+    ≡ Ended (Write 0 1 Generic (TheNumber (pos 500)) ∷ Read 0 1 Generic (TheNumber (pos 500)) ∷ []) (pos 500)
 picking_ends = refl
 
 -- register _R4 int r; int main(void) { r = 1; return r; }
 abbrev registering : List PlainStmt → PlainProgram
 registering first = program (variable int (register 4) ∷ []) (function int [] first ∷ [])
 
-registering_ends : source (registering (does (evaluate (set 0 (num 1))) ∷ does (return_value (Some (of 0))) ∷ [])) no_ports silent 0 ≡ Ended [] (pos 1)
+registering_ends : source (registering (does (evaluate (set 0 (num 1))) ∷ does (return_value (Some (of 0))) ∷ [])) no_ports silent 0
+    ≡ Ended [] (pos 1)
 registering_ends = refl
 
 registering_unset : source (registering (does (return_value (Some (of 0))) ∷ [])) no_ports silent 0 ≡ Failed Unset
@@ -366,21 +414,25 @@ num_valid : (p : PlainProgram) (io_table : IoTable) (f n : ℕ) → n ≤ 32_767
 num_valid p io_table f n h = (of_int, (of_int, record { low = omega (arith, integers); high = omega (arith, integers, h) }), tt)
 
 -- a function that calls none is reached by none
-alone : (p : PlainProgram) → ((f : ℕ) (function : PlainFunction) (g : ℕ) → slice_get p.functions f ≡ Some function → Contains (stmt_calls function.body []) g → ⊥) → (g f : ℕ) → Reaches p g f → ⊥
+alone : (p : PlainProgram)
+    → ((f : ℕ) (function : PlainFunction) (g : ℕ) → slice_get p.functions f ≡ Some function → Contains (stmt_calls function.body []) g → ⊥)
+    → (g f : ℕ) → Reaches p g f → ⊥
 alone p h g reached (calls f function e c) = h f function g e c
 alone p h g reached (calls_through f k function e c r) = h f function k e c
 
 no_item : (g : ℕ) → Contains [] g → ⊥
 no_item g c = absurd (omega (arith, c.1))
 
-pointing_calls : (f : ℕ) (function : PlainFunction) (g : ℕ) → slice_get (pointing 1).functions f ≡ Some function → Contains (stmt_calls function.body []) g → ⊥
+pointing_calls : (f : ℕ) (function : PlainFunction) (g : ℕ) → slice_get (pointing 1).functions f ≡ Some function
+    → Contains (stmt_calls function.body []) g → ⊥
 pointing_calls zero function g e c =
     let main : PlainFunction = slice_index_or (pointing 1).functions 0 function in
     let k : main ≡ function = cc in
     no_item g (subst (λ (z : PlainFunction). Contains (stmt_calls z.body []) g) (sym k) c)
 pointing_calls (suc f) function g e c = cc
 
-locals_apart : (i j : ℕ) (d : PlainObject) → i < j → j < 2 → ShareNoRegister (pointing 1) (slice_index_or (pointing 1).objects i d) (slice_index_or (pointing 1).objects j d)
+locals_apart : (i j : ℕ) (d : PlainObject) → i < j → j < 2
+    → ShareNoRegister (pointing 1) (slice_index_or (pointing 1).objects i d) (slice_index_or (pointing 1).objects j d)
 locals_apart zero zero d l m = absurd (omega (arith, l))
 locals_apart zero (suc zero) d l m = tt
 locals_apart zero (suc (suc j)) d l m = absurd (omega (arith, m))
@@ -388,7 +440,8 @@ locals_apart (suc i) zero d l m = absurd (omega (arith, l))
 locals_apart (suc i) (suc zero) d l m = absurd (omega (arith, l))
 locals_apart (suc i) (suc (suc j)) d l m = absurd (omega (arith, m))
 
-locals_named : (i j : ℕ) (d : PlainObject) → i < j → j < 2 → HaveOwnNames (slice_index_or (pointing 1).objects i d) (slice_index_or (pointing 1).objects j d)
+locals_named : (i j : ℕ) (d : PlainObject) → i < j → j < 2
+    → HaveOwnNames (slice_index_or (pointing 1).objects i d) (slice_index_or (pointing 1).objects j d)
 locals_named zero zero d l m = absurd (omega (arith, l))
 locals_named zero (suc zero) d l m = λ e f. cc
 locals_named zero (suc (suc j)) d l m = absurd (omega (arith, m))
@@ -405,8 +458,17 @@ pointing_valid io_table v = record {
   ports = v;
   structs = record { earlier = tt; small = λ i. omega arith };
   objects = (
-    record { ty = record { names = tt; form = (of_int, omega arith) }; some = omega arith; small = omega arith; home = refl; storage = (omega arith, refl) },
-    (record { ty = record { names = tt; form = tt }; some = omega arith; small = omega arith; home = refl; storage = (omega arith, refl) }, tt),
+    record {
+      ty = record { names = tt; form = (of_int, omega arith) };
+      some = omega arith;
+      small = omega arith;
+      home = refl;
+      storage = (omega arith, refl);
+    },
+    (
+      record { ty = record { names = tt; form = tt }; some = omega arith; small = omega arith; home = refl; storage = (omega arith, refl) },
+      tt,
+    ),
   );
   registers = locals_apart;
   externals = locals_named;
@@ -436,11 +498,13 @@ pointing_valid io_table v = record {
     first : ValidExpr (pointing 1) io_table 0 (typed data_int (address_of (object 0)))
     first = (data_int_known, (refl, refl, inr refl), (refl, tt))
 
-    declared_pointer : ValidStmt (pointing 1) io_table 0 int false (does (declare 1 (exprs (typed data_int (binary Add (typed data_int (address_of (object 0))) (num 1)) ∷ []))))
+    declared_pointer : ValidStmt (pointing 1) io_table 0 int false
+        (does (declare 1 (exprs (typed data_int (binary Add (typed data_int (address_of (object 0))) (num 1)) ∷ []))))
     declared_pointer = ((refl, inr (refl, tt)), ((data_int_known, (tt, refl), (first, number 1 (omega arith))), tt))
 
     pointer_read : ValidExpr (pointing 1) io_table 0 (typed data_int (load (object 1)))
     pointer_read = (data_int_known, (tt, refl), refl)
 
-    returned : ValidStmt (pointing 1) io_table 0 int false (does (return_value (Some (typed int (load (deref (typed data_int (load (object 1)))))))))
+    returned : ValidStmt (pointing 1) io_table 0 int false
+        (does (return_value (Some (typed int (load (deref (typed data_int (load (object 1)))))))))
     returned = (((λ e. cc), refl), (of_int, (of_int, refl), pointer_read))

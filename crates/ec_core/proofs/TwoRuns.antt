@@ -7,19 +7,30 @@ use Rattle.ec_iohw.specs.declared.operations.IoOp.{IoOp}
 use Rattle.ec_core.specs.declared.values.Undefined.{Undefined}
 use Rattle.ec_core.specs.declared.values.Value.{Value}
 use Rattle.ec_core.specs.declared.values.Value.TheVariants.{Number}
-use Rattle.ec_core.specs.Expressions.{Calls, compound_update, step_update, condition, truth_value, value_of, node_value, place_of, option_value, values_of}
+use Rattle.ec_core.specs.Expressions.{Calls, compound_update, step_update, condition, truth_value, value_of, node_value, place_of}
+use Rattle.ec_core.specs.Expressions.{option_value, values_of}
 use Rattle.ec_core.specs.Laws.{Leads}
 use Rattle.ec_core.specs.Meaning.{setting, state_of}
-use Rattle.ec_core.specs.Plain.{PlainType, PlainExpr, expression, PlainNode, number, null, load, address_of, unary, binary, convert, assign, compound, step, logical_not, logical_and, logical_or, conditional, comma, call, io, group, PlainPlace, object, deref, member, OptionPlainExpr, no_expr, an_expr, PlainExprs, last_expr, next_expr, PlainStmt, statement, PlainKind, empty, evaluate, block, declare, branch, while_loop, do_loop, for_loop, break_loop, continue_loop, return_value, OptionPlainStmt, no_stmt, a_stmt, PlainStmts, last_stmt, next_stmt, PlainFunction, PlainProgram}
+use Rattle.ec_core.specs.Plain.{PlainType, PlainExpr, expression, PlainNode, number, null, load, address_of, unary, binary, convert, assign}
+use Rattle.ec_core.specs.Plain.{compound, step, logical_not, logical_and, logical_or, conditional, comma, call, io, group, PlainPlace}
+use Rattle.ec_core.specs.Plain.{object, deref, member, OptionPlainExpr, no_expr, an_expr, PlainExprs, last_expr, next_expr, PlainStmt}
+use Rattle.ec_core.specs.Plain.{statement, PlainKind, empty, evaluate, block, declare, branch, while_loop, do_loop, for_loop, break_loop}
+use Rattle.ec_core.specs.Plain.{continue_loop, return_value, OptionPlainStmt, no_stmt, a_stmt, PlainStmts, last_stmt, next_stmt}
+use Rattle.ec_core.specs.Plain.{PlainFunction, PlainProgram}
 use Rattle.ec_core.specs.PortAccesses.{port_effect}
 use Rattle.ec_core.specs.PortTable.{PlainPort, PlainTable}
 use Rattle.ec_core.specs.State.{Inputs, Setting, State, worked, Outcome, next, given, choose}
-use Rattle.ec_core.specs.Statements.{Exit, at_end, by_break, by_continue, by_return, in_order, again, tested, turns, declared, declared_first, ending, test_of, evaluated, returned, going_on, initialising, effect_of, kind_effect, option_effect, first_effect, effects_of, parameters_written, call_of}
+use Rattle.ec_core.specs.Statements.{Exit, at_end, by_break, by_continue, by_return, in_order, again, tested, turns, declared}
+use Rattle.ec_core.specs.Statements.{declared_first, ending, test_of, evaluated, returned, going_on, initialising, effect_of, kind_effect}
+use Rattle.ec_core.specs.Statements.{option_effect, first_effect, effects_of, parameters_written, call_of}
 use Rattle.ec_core.specs.Typing.{int, type_of_expr}
-use Rattle.ec_core.proofs.Growth.{IsSpent, Grows, still, grown, grows_after, grows_next, grows_given, worked_leads, read_grows, write_grows, initialised_grows, port_effect_grows, group_effect_grows, pointed_to_grows, updated_place_grows, object_place_grows, all_ended_leads, begun_leads, result_grows, frame_ended_leads}
+use Rattle.ec_core.proofs.Growth.{IsSpent, Grows, still, grown, grows_after, grows_next, grows_given, worked_leads, read_grows, write_grows}
+use Rattle.ec_core.proofs.Growth.{initialised_grows, port_effect_grows, group_effect_grows, pointed_to_grows, updated_place_grows}
+use Rattle.ec_core.proofs.Growth.{object_place_grows, all_ended_leads, begun_leads, result_grows, frame_ended_leads}
 
 -- a relation on outcomes, for runs of one program on two inputs
-module _ (program : PlainProgram) (table : PlainTable) (left right : Inputs) (least : ℕ) (E : (A : Type 0) → Outcome A → Outcome A → Type 0) where
+module _ (program : PlainProgram) (table : PlainTable) (left right : Inputs) (least : ℕ)
+    (E : (A : Type 0) → Outcome A → Outcome A → Type 0) where
   abbrev w : Setting
   w = setting program table left
 
@@ -35,7 +46,8 @@ module _ (program : PlainProgram) (table : PlainTable) (left right : Inputs) (le
   -- it test_of of equal outcomes, and passes to the whole
   pub record IsKept : Type 1 where
     pub same : (A : Type 0) (o : Outcome A) → E A o o
-    pub onward : (A B : Type 0) (o q : Outcome A) (f g : A → State → Outcome B) → E A o q → ((x : A) (s : State) → Both s (f x s) (g x s)) → E B (next o f) (next q g)
+    pub onward : (A B : Type 0) (o q : Outcome A) (f g : A → State → Outcome B) → E A o q → ((x : A) (s : State) → Both s (f x s) (g x s))
+        → E B (next o f) (next q g)
 
   module _ (k : IsKept) where
     pub alike : {A : Type 0} {s : State} {o : Outcome A} → Grows w least s o → Grows v least s o → Both s o o
@@ -50,7 +62,8 @@ module _ (program : PlainProgram) (table : PlainTable) (left right : Inputs) (le
     pub after_work : {A : Type 0} {o q : Outcome A} (words : ℕ) (s : State) → Both (worked words s) o q → Both s o q
     after_work words s r = after (worked_leads w least words s) (worked_leads v least words s) r
 
-    pub onwards : {A B : Type 0} {s : State} {o q : Outcome A} {f g : A → State → Outcome B} → Both s o q → ((x : A) (t : State) → Both t (f x t) (g x t)) → Both s (next o f) (next q g)
+    pub onwards : {A B : Type 0} {s : State} {o q : Outcome A} {f g : A → State → Outcome B} → Both s o q
+        → ((x : A) (t : State) → Both t (f x t) (g x t)) → Both s (next o f) (next q g)
     onwards {A} {B} {s} {o} {q} {f} {g} r h = record {
       related = k.onward A B o q f g r.related h;
       first = grows_next w least s o f r.first (λ x t. (h x t).first);
@@ -60,7 +73,8 @@ module _ (program : PlainProgram) (table : PlainTable) (left right : Inputs) (le
     of_result : {A : Type 0} (r : Result A Undefined) (s : State) → Both s (given r s) (given r s)
     of_result r s = alike (grows_given w least r s) (grows_given v least r s)
 
-    choosing : {A : Type 0} (h : Bool) (a b c d : State → Outcome A) (s : State) → Both s (a s) (c s) → Both s (b s) (d s) → Both s (choose h a b s) (choose h c d s)
+    choosing : {A : Type 0} (h : Bool) (a b c d : State → Outcome A) (s : State) → Both s (a s) (c s) → Both s (b s) (d s)
+        → Both s (choose h a b s) (choose h c d s)
     choosing true a b c d s p q = p
     choosing false a b c d s p q = q
 
@@ -82,42 +96,60 @@ module _ (program : PlainProgram) (table : PlainTable) (left right : Inputs) (le
     again_both by_continue s f g r = r
     again_both (by_return x) s f g r = rests s refl tt
 
-    pub tested_both : {s : State} {o q : Outcome Bool} {f g : State → Outcome Exit} → Both s o q → ((t : State) → Both t (f t) (g t)) → Both s (tested o f) (tested q g)
-    tested_both r h = onwards r (λ b t. choosing b _ _ _ _ t (h t) (alike (grown w least (worked_leads w least _ t) tt) (grown v least (worked_leads v least _ t) tt)))
+    pub tested_both : {s : State} {o q : Outcome Bool} {f g : State → Outcome Exit} → Both s o q → ((t : State) → Both t (f t) (g t))
+        → Both s (tested o f) (tested q g)
+    tested_both r h = onwards r (λ b t.
+        choosing b _ _ _ _ t (h t) (alike (grown w least (worked_leads w least _ t) tt) (grown v least (worked_leads v least _ t) tt)))
 
     ending_both : (os : List ℕ) {s : State} {o q : Outcome Exit} → Both s o q → Both s (ending os o) (ending os q)
-    ending_both os r = onwards r (λ x t. alike (grown w least (all_ended_leads w least os t) tt) (grown v least (all_ended_leads v least os t) tt))
+    ending_both os r =
+        onwards r (λ x t. alike (grown w least (all_ended_leads w least os t) tt) (grown v least (all_ended_leads v least os t) tt))
 
     -- ---- expressions
 
-    module _ (ports : (op : IoOp) (port : Option PlainPort) (i x : Value) (s : State) → E Value (port_effect left op port i x s) (port_effect right op port i x s)) (first second : Calls) (calls : (f : ℕ) (xs : List Value) (s : State) → Both s (first f xs s) (second f xs s)) where
+    module _ (ports : (op : IoOp) (port : Option PlainPort) (i x : Value) (s : State)
+        → E Value (port_effect left op port i x s) (port_effect right op port i x s)) (first second : Calls)
+        (calls : (f : ℕ) (xs : List Value) (s : State) → Both s (first f xs s) (second f xs s)) where
       mutual
         pub values_both : (e : PlainExpr) (s : State) → Both s (value_of w first e s) (value_of v second e s)
         values_both (expression ty mode node) s = after_work _ s (nodes_both ty mode node _)
 
-        nodes_both : (ty : PlainType) (mode : Mode) (node : PlainNode) (s : State) → Both s (node_value w first ty mode node s) (node_value v second ty mode node s)
+        nodes_both : (ty : PlainType) (mode : Mode) (node : PlainNode) (s : State)
+            → Both s (node_value w first ty mode node s) (node_value v second ty mode node s)
         nodes_both ty mode (number n) s = rests s refl tt
         nodes_both ty mode null s = rests s refl tt
-        nodes_both ty mode (load p) s = onwards (places_both p s) (λ at t. alike (read_grows w least ty _ at t) (read_grows v least ty _ at t))
+        nodes_both ty mode (load p) s =
+            onwards (places_both p s) (λ at t. alike (read_grows w least ty _ at t) (read_grows v least ty _ at t))
         nodes_both ty mode (address_of p) s = onwards (places_both p s) (λ at t. rests t refl tt)
         nodes_both ty mode (unary op a) s = onwards (values_both a s) (λ x t. of_result _ t)
         nodes_both ty mode (binary op a b) s = onwards (values_both a s) (λ x t. onwards (values_both b t) (λ y u. of_result _ u))
         nodes_both ty mode (convert a) s = onwards (values_both a s) (λ x t. of_result _ t)
-        nodes_both ty mode (assign p a) s = onwards (places_both p s) (λ at t. onwards (values_both a t) (λ x u. alike (write_grows w least ty _ at x u) (write_grows v least ty _ at x u)))
+        nodes_both ty mode (assign p a) s = onwards (places_both p s)
+            (λ at t. onwards (values_both a t) (λ x u. alike (write_grows w least ty _ at x u) (write_grows v least ty _ at x u)))
         nodes_both ty mode (compound op operation_mode p a) s =
-            onwards (places_both p s) (λ at t. onwards (alike (read_grows w least ty _ at t) (read_grows v least ty _ at t)) (λ old u. onwards (values_both a u) (λ x z.
-            alike (updated_place_grows w least (compound_update op operation_mode ty mode p) at old (type_of_expr a) x z) (updated_place_grows v least (compound_update op operation_mode ty mode p) at old (type_of_expr a) x z))))
+            onwards (places_both p s) (λ at t.
+            onwards (alike (read_grows w least ty _ at t) (read_grows v least ty _ at t)) (λ old u. onwards (values_both a u) (λ x z.
+            alike (updated_place_grows w least (compound_update op operation_mode ty mode p) at old (type_of_expr a) x z)
+            (updated_place_grows v least (compound_update op operation_mode ty mode p) at old (type_of_expr a) x z))))
         nodes_both ty mode (step up prefix p) s =
             onwards (places_both p s) (λ at t. onwards (alike (read_grows w least ty _ at t) (read_grows v least ty _ at t)) (λ old u.
-            alike (updated_place_grows w least (step_update up ty mode prefix p) at old int (Number (pos 1)) u) (updated_place_grows v least (step_update up ty mode prefix p) at old int (Number (pos 1)) u)))
+            alike (updated_place_grows w least (step_update up ty mode prefix p) at old int (Number (pos 1)) u)
+            (updated_place_grows v least (step_update up ty mode prefix p) at old int (Number (pos 1)) u)))
         nodes_both ty mode (logical_not a) s = onwards (conditions a (values_both a s)) (λ h t. rests t refl tt)
-        nodes_both ty mode (logical_and a b) s = onwards (conditions a (values_both a s)) (λ h t. choosing h _ _ _ _ t (truths (conditions b (values_both b t))) (rests t refl tt))
-        nodes_both ty mode (logical_or a b) s = onwards (conditions a (values_both a s)) (λ h t. choosing h _ _ _ _ t (rests t refl tt) (truths (conditions b (values_both b t))))
-        nodes_both ty mode (conditional c a b) s = onwards (conditions c (values_both c s)) (λ h t. choosing h _ _ _ _ t (values_both a t) (values_both b t))
+        nodes_both ty mode (logical_and a b) s = onwards (conditions a (values_both a s))
+            (λ h t. choosing h _ _ _ _ t (truths (conditions b (values_both b t))) (rests t refl tt))
+        nodes_both ty mode (logical_or a b) s = onwards (conditions a (values_both a s))
+            (λ h t. choosing h _ _ _ _ t (rests t refl tt) (truths (conditions b (values_both b t))))
+        nodes_both ty mode (conditional c a b) s =
+            onwards (conditions c (values_both c s)) (λ h t. choosing h _ _ _ _ t (values_both a t) (values_both b t))
         nodes_both ty mode (comma a b) s = onwards (values_both a s) (λ x t. values_both b t)
         nodes_both ty mode (call f args) s = onwards (rows_both args s) (λ xs t. calls f xs t)
         nodes_both ty mode (io op port index value) s =
-            onwards (options_both index s) (λ i t. onwards (options_both value t) (λ x u. record { related = ports op _ i x u; first = port_effect_grows w least op _ i x u; second = port_effect_grows v least op _ i x u }))
+            onwards (options_both index s) (λ i t. onwards (options_both value t) (λ x u. record {
+              related = ports op _ i x u;
+              first = port_effect_grows w least op _ i x u;
+              second = port_effect_grows v least op _ i x u;
+            }))
         nodes_both ty mode (group acquire g) s = alike (group_effect_grows w least acquire g _ s) (group_effect_grows v least acquire g _ s)
 
         pub places_both : (p : PlainPlace) (s : State) → Both s (place_of w first p s) (place_of v second p s)
@@ -153,11 +185,14 @@ module _ (program : PlainProgram) (table : PlainTable) (left right : Inputs) (le
       initialising_both : (o i : ℕ) (es : PlainExprs) (s : State) → Both s (initialising w first o i es s) (initialising v second o i es s)
       initialising_both o i last_expr s = rests s refl tt
       initialising_both o i (next_expr e es) s =
-          after_work _ s (onwards (values_both e _) (λ x t. onwards (alike (initialised_grows w least o i x t) (initialised_grows v least o i x t)) (λ y u. initialising_both o (i + 1) es u)))
+          after_work _ s (onwards (values_both e _) (λ x t. onwards
+          (alike (initialised_grows w least o i x t) (initialised_grows v least o i x t)) (λ y u. initialising_both o (i + 1) es u)))
 
       -- ---- statements, with loops of at most so many turns each
 
-      module _ (n m : ℕ) (loops : (body other : State → Outcome Exit) (test probe : State → Outcome Bool) → ((s : State) → Both s (body s) (other s)) → ((s : State) → Both s (test s) (probe s)) → (s : State) → Both s (turns n body test s) (turns m other probe s)) where
+      module _ (n m : ℕ)
+          (loops : (body other : State → Outcome Exit) (test probe : State → Outcome Bool) → ((s : State) → Both s (body s) (other s))
+          → ((s : State) → Both s (test s) (probe s)) → (s : State) → Both s (turns n body test s) (turns m other probe s)) where
         mutual
           pub effects_both : (a : PlainStmt) (s : State) → Both s (effect_of w first n a s) (effect_of v second m a s)
           effects_both (statement unit at kind) s = kinds_both kind s
@@ -167,11 +202,14 @@ module _ (program : PlainProgram) (table : PlainTable) (left right : Inputs) (le
           kinds_both (evaluate e) s = evaluated_both (Some e) s
           kinds_both (block ss) s = ending_both (declared ss) (blocks_both ss s)
           kinds_both (declare o values) s = after (begun_leads w least o s) (begun_leads v least o s) (initialising_both o 0 values _)
-          kinds_both (branch c x y) s = after_work _ s (onwards (tests_both (Some c) _) (λ h t. choosing h _ _ _ _ t (effects_both x t) (optional_both y t)))
-          kinds_both (while_loop c body) s = tested_both (tests_both (Some c) s) (λ t. loops _ _ _ _ (λ u. effects_both body u) (λ u. tests_both (Some c) u) t)
+          kinds_both (branch c x y) s =
+              after_work _ s (onwards (tests_both (Some c) _) (λ h t. choosing h _ _ _ _ t (effects_both x t) (optional_both y t)))
+          kinds_both (while_loop c body) s =
+              tested_both (tests_both (Some c) s) (λ t. loops _ _ _ _ (λ u. effects_both body u) (λ u. tests_both (Some c) u) t)
           kinds_both (do_loop body c) s = loops _ _ _ _ (λ u. effects_both body u) (λ u. tests_both (Some c) u) s
           kinds_both (for_loop start c last body) s =
-              ending_both (declared_first start) (onwards (firsts_both start s) (λ x t. in_order_both x t _ _ (tested_both (tests_both c t) (λ u. loops _ _ _ _ (λ z. effects_both body z) (λ z. going_on_both last c z) u))))
+              ending_both (declared_first start) (onwards (firsts_both start s) (λ x t. in_order_both x t _ _
+              (tested_both (tests_both c t) (λ u. loops _ _ _ _ (λ z. effects_both body z) (λ z. going_on_both last c z) u))))
           kinds_both break_loop s = after_work _ s (rests _ refl tt)
           kinds_both continue_loop s = after_work _ s (rests _ refl tt)
           kinds_both (return_value e) s = after_work _ s (returned_both e _)
@@ -203,10 +241,13 @@ module _ (program : PlainProgram) (table : PlainTable) (left right : Inputs) (le
         parameters_both : (os : List ℕ) (xs : List Value) (s : State) → Both s (parameters_written w os xs s) (parameters_written v os xs s)
         parameters_both [] xs s = rests s refl tt
         parameters_both (o ∷ os) [] s = rests s refl tt
-        parameters_both (o ∷ os) (x ∷ xs) s = after (begun_leads w least o s) (begun_leads v least o s) (onwards (alike (initialised_grows w least o 0 x _) (initialised_grows v least o 0 x _)) (λ y t. parameters_both os xs t))
+        parameters_both (o ∷ os) (x ∷ xs) s = after (begun_leads w least o s) (begun_leads v least o s)
+            (onwards (alike (initialised_grows w least o 0 x _) (initialised_grows v least o 0 x _)) (λ y t. parameters_both os xs t))
 
-        pub call_both : (f : ℕ) (g : Option PlainFunction) (xs : List Value) (s : State) → Both s (call_of w first n f g xs s) (call_of v second m f g xs s)
+        pub call_both : (f : ℕ) (g : Option PlainFunction) (xs : List Value) (s : State)
+            → Both s (call_of w first n f g xs s) (call_of v second m f g xs s)
         call_both f None xs s = rests s refl tt
         call_both f (Some g) xs s =
             after_work _ s (onwards (parameters_both g.params xs _) (λ y t. onwards (effects_both g.body t) (λ x u.
-            after (frame_ended_leads w least f u) (frame_ended_leads v least f u) (alike (result_grows w least g.returns (f == program.main) x _) (result_grows v least g.returns (f == program.main) x _)))))
+            after (frame_ended_leads w least f u) (frame_ended_leads v least f u)
+            (alike (result_grows w least g.returns (f == program.main) x _) (result_grows v least g.returns (f == program.main) x _)))))

@@ -1,7 +1,6 @@
 -- Readable names for what the compiler makes of the types that hold themselves. It flattens a struct of such a cycle
 -- into the variants that hold it: where a variant has a `Box<Expr>`, its constructor here takes the pointer and the
 -- three fields, and where it has a `Seq<Expr>`, the seq's shape and a row.
-
 pub use Rattle.ec_core.specs.declared.types.CType.{CType, Void, Int, Fx, Ptr' as Ptr, Array' as Array, Struct}
 -- expressions: an optional expression is `NoExpr` or `AnExpr`, and a row of expressions `LastExpr` or `NextExpr`
 pub use Rattle.ec_core.specs.declared.expressions.Expr.{Expr}

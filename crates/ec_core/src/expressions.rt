@@ -1,5 +1,4 @@
 //! Typed expressions (ISO/IEC 9899:1999, 6.5).
-
 use crate::types::CType;
 use ec_fx::Mode;
 use ec_iohw::IoOp;

@@ -1,5 +1,4 @@
 //! Programs: structs, objects and functions.
-
 use crate::statements::Stmt;
 use crate::types::{CType, StructDef};
 use ec_space::{Bank, Name, Seq, SpaceId};

@@ -1,5 +1,4 @@
 //! Statements (ISO/IEC 9899:1999, 6.8).
-
 use crate::expressions::Expr;
 use ec_space::Seq;
 

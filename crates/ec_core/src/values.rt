@@ -1,5 +1,4 @@
 //! Values of a running program, and the points at which it is undefined.
-
 use ec_space::Bank;
 
 /// Why a program is undefined, in the order of the language's list of such points. The last one stands

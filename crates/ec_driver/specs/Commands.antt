@@ -8,12 +8,12 @@ use Rattle.ec_commands.specs.Shown.{KeepsAll}
 use Rattle.ec_commands.specs.Stops as commands
 use Rattle.ec_commands.specs.Words.{Words, is_build, IsBuild, IsRun, IsExecRow, IsExec, IsGen, out_name, hex_name}
 use Rattle.ec_commands.specs.Words.{script_name}
-use Rattle.ec_command_parts.specs.declared.stop.CommandError.TheVariants.{Usage}
-use Rattle.ec_compile.specs.Builds.{Builds, BuildStops, Accepts, FitsText}
-use Rattle.ec_compile.specs.Execs.{Executed, ExecStops, AcceptsExec, FitsExec}
-use Rattle.ec_compile.specs.Gens.{Generated, GenStops, AcceptsGen, FitsGen}
-use Rattle.ec_compile.specs.Inputs.{build_inputs, exec_inputs}
-use Rattle.ec_compile.specs.Stops as compiling
+use Rattle.ec_commands.specs.declared.stop.CommandError.TheVariants.{Usage}
+use Rattle.ec_commands_compile.specs.Builds.{Builds, BuildStops, Accepts, FitsText}
+use Rattle.ec_commands_compile.specs.Execs.{Executed, ExecStops, AcceptsExec, FitsExec}
+use Rattle.ec_commands_compile.specs.Gens.{Generated, GenStops, AcceptsGen, FitsGen}
+use Rattle.ec_commands_compile.specs.Inputs.{build_inputs, exec_inputs}
+use Rattle.ec_commands_compile.specs.Stops as compiling
 
 -- the words are no command
 pub record IsNoCommand (words : Words) : Type 0 where

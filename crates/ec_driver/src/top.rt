@@ -1,13 +1,12 @@
 //! The top call.
 ghost use Rattle.std.specs.Prelude.{◌≡◌, ◌≤◌, ◌<◌, ◌↔◌, ℕ, true};
 ghost use Rattle.ec_io.specs.Views.{store_view, sink_call};
-ghost use Rattle.ec_emu_ports.specs.declared.ask.Ask.{Ask};
+ghost use Rattle.ec_emu.specs.declared.ask.Ask.{Ask};
 ghost use Rattle.ec_commands.specs.Words.{is_build, IsRun, IsExecRow, IsGen, words_from};
 ghost use Rattle.ec_driver.specs.Commands.{IsNoCommand, Answered, Kept, Completed, KeptCalm};
 
-use ec_command_parts::{Compiling, first_source};
-use ec_commands::{conclude, exec_steps, gen_number, run, run_numbers};
-use ec_compile::{build, conclude as conclude_compiling, exec, run_generated};
+use ec_commands::{Compiling, conclude, exec_steps, first_source, gen_number, run, run_numbers};
+use ec_commands_compile::{build, conclude as conclude_compiling, exec, run_generated};
 use ec_emu::Ports;
 use ec_io::{Sink, Store};
 use std::alloc::Global;

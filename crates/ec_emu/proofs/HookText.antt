@@ -4,7 +4,8 @@ use Rattle.std.specs.List.{list_all}
 use Rattle.std.proofs.Common.{◌≡◌, ◌≤◌, ◌<◌, ◌&&◌, ℕ, false, List, [], ◌∷◌, length, take, drop, refl, arith}
 use Rattle.ec_emu.specs.Forms.{is_hook}
 
-pub is_hook-long : (text : List ℕ) → 5 ≤ length text → is_hook text ≡ (bytes_eq (take 5 text) (codes " hook") && list_all (λ c. c == 32) (drop 5 text))
+pub is_hook-long : (text : List ℕ) → 5 ≤ length text
+    → is_hook text ≡ (bytes_eq (take 5 text) (codes " hook") && list_all (λ c. c == 32) (drop 5 text))
 is_hook-long [] long = absurd (omega (arith, long))
 is_hook-long (a ∷ []) long = absurd (omega (arith, long))
 is_hook-long (a ∷ b ∷ []) long = absurd (omega (arith, long))

@@ -1,9 +1,9 @@
-pub mod Asks
-pub mod Traces
-pub mod HistoryMore
-pub mod Stepping
-pub mod Reports
-pub mod Words
-pub mod HookText
-pub mod Rules
-pub mod Places
+mod Asks
+mod Traces
+mod HistoryMore
+mod Stepping
+mod Reports
+mod Words
+mod HookText
+mod Rules
+mod Places

@@ -4,7 +4,8 @@ use Rattle.std.specs.List.{list_all, list_any}
 use Rattle.std.proofs.lemmas.Bool.{cases_order}
 use Rattle.std.proofs.lemmas.List.{take-append-le, take_at, take-take, take_all, take_more, length-take}
 use Rattle.std.proofs.lemmas.Option.{slice_get_within, slice_get-get_or, get_or_from_slice_get}
-use Rattle.std.proofs.Common.{◌≡◌, ◌≢◌, ◌+◌, ◌<◌, ◌==◌, ℕ, zero, suc, Bool, true, false, ◌&&◌, List, [], ◌∷◌, ◌++◌, length, take, drop, Some, None, refl, sym, ap, ◌∙◌, subst, arith, inl, inr, get_or-take, length-append, length-drop}
+use Rattle.std.proofs.Common.{◌≡◌, ◌≢◌, ◌+◌, ◌<◌, ◌==◌, ℕ, zero, suc, Bool, true, false, ◌&&◌, List, [], ◌∷◌, ◌++◌, length, take, drop}
+use Rattle.std.proofs.Common.{Some, None, refl, sym, ap, ◌∙◌, subst, arith, inl, inr, get_or-take, length-append, length-drop}
 use Rattle.ec_space.specs.declared.Core.{Core}
 use Rattle.ec_emu.specs.declared.read.ScriptStop.{ScriptStop}
 use Rattle.ec_emu.specs.declared.read.ScriptStop.TheVariants.{Line, NoMemory}
@@ -41,13 +42,15 @@ pub begun_on : (xs : List Form) (y : Form) → not (list_all is_passed (xs ++ y 
 begun_on xs y = ap not (list_all-push is_passed xs y) ∙ de_morgan (list_all is_passed xs) (is_passed y)
 
 -- lines of ports as code has them, and as the lines of the text tell them
-pub same_ports : (lines : List ScriptLine) (port : ℕ) → list_any (λ line. line.port == port) lines ≡ list_any (λ entry. entry.port == port) (map entry_of lines)
+pub same_ports : (lines : List ScriptLine) (port : ℕ)
+    → list_any (λ line. line.port == port) lines ≡ list_any (λ entry. entry.port == port) (map entry_of lines)
 same_ports [] port = refl
 same_ports (line ∷ lines) port = ap (λ (b : Bool). (line.port == port) || b) (same_ports lines port)
 
 pub next_form : (forms : List Form) (n : ℕ) (form : Form) → slice_get forms n ≡ Some form → take (n + 1) forms ≡ take n forms ++ form ∷ []
 next_form forms n form at =
-    take_more forms n form (slice_get_within forms n form at) ∙ ap (λ (f : Form). take n forms ++ f ∷ []) (get_or_from_slice_get forms n form form at)
+    take_more forms n form (slice_get_within forms n form at)
+    ∙ ap (λ (f : Form). take n forms ++ f ∷ []) (get_or_from_slice_get forms n form form at)
 
 kept_push : (xs : List Form) (y : Form) → AreKept xs → broken xs y ≡ None → AreKept (xs ++ y ∷ [])
 kept_push xs y kept keeps n form at = either (cases_order n (length xs))
@@ -60,13 +63,15 @@ kept_push xs y kept keeps n form at = either (cases_order n (length xs))
         rw (take-append-le n xs (y ∷ []) (omega (arith, below))) (kept n form (sym (slice_get-front xs (y ∷ []) n below) ∙ at))
     either (inr (inr above)) = absurd (omega (arith, above, slice_get_within (xs ++ y ∷ []) n form at, length-append xs (y ∷ [])))
 
-pub kept_on : (forms : List Form) (n : ℕ) (form : Form) → slice_get forms n ≡ Some form → AreKept (take n forms) → broken (take n forms) form ≡ None
+pub kept_on : (forms : List Form) (n : ℕ) (form : Form) → slice_get forms n ≡ Some form → AreKept (take n forms)
+    → broken (take n forms) form ≡ None
     → AreKept (take (n + 1) forms)
 kept_on forms n form at kept keeps =
     subst (λ (fs : List Form). AreKept fs) (sym (next_form forms n form at)) (kept_push (take n forms) form kept keeps)
 
 -- a line that breaks a rule is not among lines that keep all
-slice_get-take : (forms : List Form) (n m : ℕ) (form : Form) → n < m → slice_get forms n ≡ Some form → slice_get (take m forms) n ≡ Some form
+slice_get-take : (forms : List Form) (n m : ℕ) (form : Form) → n < m → slice_get forms n ≡ Some form
+    → slice_get (take m forms) n ≡ Some form
 slice_get-take forms n m form below at =
     let within : n < length forms = slice_get_within forms n form at in
     slice_get-get_or (take m forms) n form (omega (arith, length-take m forms, within, below))
@@ -75,7 +80,8 @@ slice_get-take forms n m form below at =
 not_kept : (forms : List Form) (line rule m : ℕ) (b : BreaksAt forms line rule) → b.n < m → AreKept (take m forms) → ⊥
 not_kept forms line rule m b below kept =
     let keeps : broken (take b.n forms) b.form ≡ None =
-    ap (λ (before : List Form). broken before b.form) (sym (take-take b.n m forms (omega (arith, below)))) ∙ kept b.n b.form (slice_get-take forms b.n m b.form below b.at) in
+    ap (λ (before : List Form). broken before b.form) (sym (take-take b.n m forms (omega (arith, below))))
+    ∙ kept b.n b.form (slice_get-take forms b.n m b.form below b.at) in
     cc (keeps, b.breaks)
 
 pub no_break : (forms : List Form) (line rule : ℕ) → BreaksAt forms line rule → AreKept forms → ⊥
@@ -83,7 +89,8 @@ no_break forms line rule b kept =
     not_kept forms line rule (length forms) b (slice_get_within forms b.n b.form b.at)
     (subst (λ (fs : List Form). AreKept fs) (sym (take_all (length forms) forms (omega arith))) kept)
 
-pub one_break : (forms : List Form) (line rule other next : ℕ) → BreaksAt forms line rule → BreaksAt forms other next → (line ≡ other) × (rule ≡ next)
+pub one_break : (forms : List Form) (line rule other next : ℕ) → BreaksAt forms line rule → BreaksAt forms other next
+    → (line ≡ other) × (rule ≡ next)
 one_break forms line rule other next a b = either (cases_order a.n b.n)
   where
     either : (a.n ≡ b.n) ⊎ ((a.n < b.n) ⊎ (b.n < a.n)) → (line ≡ other) × (rule ≡ next)
@@ -95,14 +102,16 @@ one_break forms line rule other next a b = either (cases_order a.n b.n)
     either (inr (inl below)) = absurd (not_kept forms line rule b.n a below b.before)
     either (inr (inr below)) = absurd (not_kept forms other next a.n b below a.before)
 
-pub only_stop : (core : Core) (text : List ℕ) (line rule : ℕ) → BreaksAt (forms_of core text) line rule → (stop : ScriptStop) → IsNoScript core text stop → stop ≢ NoMemory
+pub only_stop : (core : Core) (text : List ℕ) (line rule : ℕ) → BreaksAt (forms_of core text) line rule → (stop : ScriptStop)
+    → IsNoScript core text stop → stop ≢ NoMemory
     → Line line rule ≡ stop
 only_stop core text line rule b (Line other next) stops some =
     let same = one_break (forms_of core text) line rule other next b stops in
     ap (λ (l : ℕ). Line l rule) same.0 ∙ ap (λ (r : ℕ). Line other r) same.1
 only_stop core text line rule b NoMemory stops some = absurd (some refl)
 
-pub no_stop : (core : Core) (text : List ℕ) → AreKept (forms_of core text) → (stop : ScriptStop) → IsNoScript core text stop → stop ≢ NoMemory → ⊥
+pub no_stop : (core : Core) (text : List ℕ) → AreKept (forms_of core text) → (stop : ScriptStop) → IsNoScript core text stop
+    → stop ≢ NoMemory → ⊥
 no_stop core text kept (Line line rule) stops some = no_break (forms_of core text) line rule stops kept
 no_stop core text kept NoMemory stops some = some refl
 

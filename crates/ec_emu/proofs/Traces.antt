@@ -3,18 +3,20 @@ use Rattle.std.specs.Prelude.{if◌then◌else◌, slice_get}
 use Rattle.std.proofs.lemmas.Bool.{cases_order}
 use Rattle.std.proofs.lemmas.List.{take-append-le, take_at}
 use Rattle.std.proofs.lemmas.Option.{slice_get_within}
-use Rattle.std.proofs.Common.{◌≡◌, ◌+◌, ◌≤◌, ◌<◌, ◌==◌, ◌⊎◌, ℕ, zero, suc, Bool, true, false, List, [], ◌∷◌, ◌++◌, length, take, Some, refl, sym, ap, ◌∙◌, subst, arith, inl, inr, append_assoc, length-append}
+use Rattle.std.proofs.Common.{◌≡◌, ◌+◌, ◌≤◌, ◌<◌, ◌==◌, ◌⊎◌, ℕ, zero, suc, Bool, true, false, List, [], ◌∷◌, ◌++◌, length, take, Some, refl}
+use Rattle.std.proofs.Common.{sym, ap, ◌∙◌, subst, arith, inl, inr, append_assoc, length-append}
 use Rattle.ec_avr.specs.declared.machine.Access.{Access}
 use Rattle.ec_avr.specs.declared.machine.Access.TheVariants.{Silent, In, Out, Read, Write, Stack}
 use Rattle.ec_avr.specs.Inputs.{reads_of}
-use Rattle.ec_emu_ports.specs.declared.ask.Ask.{Ask}
+use Rattle.ec_emu.specs.declared.ask.Ask.{Ask}
 use Rattle.ec_emu.specs.Answers.{last_written, ask_after, AreGiven, reads_in, writes_in}
 use Rattle.ec_emu.specs.Lines.{port_line, port_lines}
 
 pub reads_of-append : (port : ℕ) (xs ys : List Access) → reads_of port (xs ++ ys) ≡ reads_of port xs + reads_of port ys
 reads_of-append port [] ys = omega arith
 reads_of-append port (Silent ∷ xs) ys = reads_of-append port xs ys
-reads_of-append port (In p byte ∷ xs) ys = more (p == port) (reads_of port (xs ++ ys)) (reads_of port xs) (reads_of port ys) (reads_of-append port xs ys)
+reads_of-append port (In p byte ∷ xs) ys =
+    more (p == port) (reads_of port (xs ++ ys)) (reads_of port xs) (reads_of port ys) (reads_of-append port xs ys)
   where
     more : (same : Bool) (n a b : ℕ) → n ≡ a + b → (if same then 1 + n else n) ≡ (if same then 1 + a else a) + b
     more true n a b e = omega (arith, e)
@@ -37,7 +39,8 @@ reads_of_within port (Read bank at byte ∷ xs) = omega (arith, reads_of_within 
 reads_of_within port (Write at byte ∷ xs) = omega (arith, reads_of_within port xs)
 reads_of_within port (Stack ∷ xs) = omega (arith, reads_of_within port xs)
 
-pub last_written-append : (byte port : ℕ) (xs ys : List Access) → last_written byte port (xs ++ ys) ≡ last_written (last_written byte port xs) port ys
+pub last_written-append : (byte port : ℕ) (xs ys : List Access)
+    → last_written byte port (xs ++ ys) ≡ last_written (last_written byte port xs) port ys
 last_written-append byte port [] ys = refl
 last_written-append byte port (Silent ∷ xs) ys = last_written-append byte port xs ys
 last_written-append byte port (In p b ∷ xs) ys = last_written-append byte port xs ys
@@ -100,7 +103,8 @@ slice_get-seam (x ∷ xs) y ys = slice_get-seam xs y ys
 abbrev pub IsNext : (Ask → ℕ → Type 0) → List Access → Access → Type 0
 IsNext gives trace a = (port byte : ℕ) → a ≡ In port byte → gives (ask_after trace port) byte
 
-pub given_on : (gives : Ask → ℕ → Type 0) (trace : List Access) (a : Access) → AreGiven gives trace → IsNext gives trace a → AreGiven gives (trace ++ a ∷ [])
+pub given_on : (gives : Ask → ℕ → Type 0) (trace : List Access) (a : Access) → AreGiven gives trace → IsNext gives trace a
+    → AreGiven gives (trace ++ a ∷ [])
 given_on gives trace a given next n port byte at = either (cases_order n (length trace))
   where
     either : (n ≡ length trace) ⊎ ((n < length trace) ⊎ (length trace < n)) → gives (ask_after (take n (trace ++ a ∷ [])) port) byte
@@ -111,4 +115,5 @@ given_on gives trace a given next n port byte at = either (cases_order n (length
     either (inr (inl below)) =
         subst (λ (before : List Access). gives (ask_after before port) byte) (sym (take-append-le n trace (a ∷ []) (omega (arith, below))))
         (given n port byte (sym (slice_get-front trace (a ∷ []) n below) ∙ at))
-    either (inr (inr above)) = absurd (omega (arith, above, slice_get_within (trace ++ a ∷ []) n (In port byte) at, length-append trace (a ∷ [])))
+    either (inr (inr above)) =
+        absurd (omega (arith, above, slice_get_within (trace ++ a ∷ []) n (In port byte) at, length-append trace (a ∷ [])))

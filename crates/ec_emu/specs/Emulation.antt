@@ -4,7 +4,7 @@ use Rattle.std.specs.Io.KnownBytes.{Appends}
 use Rattle.ec_io.specs.Causes.{Rose}
 use Rattle.ec_avr.specs.declared.machine.Access.{Access}
 use Rattle.ec_avr.specs.Machine.{State, Inputs, Running, EndedWith, FaultedAt, machine}
-use Rattle.ec_emu_ports.specs.declared.ask.Ask.{Ask}
+use Rattle.ec_emu.specs.declared.ask.Ask.{Ask}
 use Rattle.ec_emu.specs.declared.run.EmuEnd.{EmuEnd}
 use Rattle.ec_emu.specs.declared.run.EmuEnd.TheVariants.{Ended, StepsOut, Fault, WriteFault}
 use Rattle.ec_emu.specs.declared.run.EmuReport.{EmuReport}

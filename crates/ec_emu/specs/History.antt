@@ -2,7 +2,7 @@
 use Rattle.std.specs.Prelude.{ℕ, ◌≡◌, ◌<◌, List, [], ◌∷◌, Option, Some, None, length, slice_index}
 use Rattle.ec_avr.specs.declared.machine.Access.{Access}
 use Rattle.ec_avr.specs.Inputs.{reads_of}
-use Rattle.ec_emu_ports.specs.declared.ask.Ask.{Ask}
+use Rattle.ec_emu.specs.declared.ask.Ask.{Ask}
 use Rattle.ec_emu.specs.declared.history.PortHistory.{PortHistory}
 use Rattle.ec_emu.specs.Answers.{Answered, answered, WereAsked, last_written, reads_in, writes_in}
 

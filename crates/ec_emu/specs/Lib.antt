@@ -1,6 +1,6 @@
-pub mod Lines
 pub mod Answers
 pub mod Hooks
+pub mod Lines
 pub mod History
 pub mod Scripted
 pub mod Emulation

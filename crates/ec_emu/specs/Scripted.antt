@@ -2,7 +2,7 @@
 use Rattle.std.specs.Prelude.{ℕ, ◌≡◌, ◌<◌, ◌==◌, MatchBool, Option, Some, None, List}
 use Rattle.std.specs.Prelude.{length, position, slice_get, slice_index, unwrap_or}
 use Rattle.std.specs.List.{find}
-use Rattle.ec_emu_ports.specs.declared.ask.Ask.{Ask}
+use Rattle.ec_emu.specs.declared.ask.Ask.{Ask}
 use Rattle.ec_emu.specs.declared.script.ScriptLine.{ScriptLine}
 
 -- the line of a port

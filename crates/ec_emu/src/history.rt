@@ -1,7 +1,6 @@
 //! What a run has read from each port and written to it.
-
+use crate::ask::Ask;
 use ec_avr::Access;
-use ec_emu_ports::Ask;
 
 /// The reads and writes of a run so far.
 #[derive(Drop)]

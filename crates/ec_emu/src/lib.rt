@@ -1,16 +1,20 @@
 //! The emulator: runs of the AVR core with ports that answer from a script or from hooks.
 //!
-//! `specs/Lines.antt` says which lines a run prints, `specs/Answers.antt` what the answers of ports are,
-//! `specs/Emulation.antt` what a run is, and `specs/Script.antt` what a script is.
+//! `specs/Hooks.antt` and `specs/Answers.antt` say what ports are asked and what they answer, `specs/Lines.antt` which lines
+//! a run prints, `specs/Emulation.antt` what a run is, and `specs/Script.antt` what a script is.
 #![tactic(auto)]
 
+mod answers;
+mod ask;
 mod history;
+mod hook;
 mod print;
 mod read;
 mod run;
 mod script;
 
-pub use ec_emu_ports::{Ask, Hook, Hooked, Ports, Rule};
+pub use ask::{Ask, Ports, Rule};
+pub use hook::{Hook, Hooked};
 pub use read::{ScriptStop, read_script};
 pub use run::{EmuEnd, EmuReport, emulate};
 pub use script::{Script, ScriptLine, Scripted};

@@ -2,16 +2,17 @@
 ghost use Rattle.std.specs.Prelude.{◌≡◌, ◌≤◌, ◌↔◌, ◌<◌, ℕ, List, length, is_some, unwrap_or};
 ghost use Rattle.ec_avr.specs.declared.machine.Access.{Access};
 ghost use Rattle.ec_avr.specs.Machine.{step, needs_port, StaysUnlessRan, is_byte, byte_of};
-ghost use Rattle.ec_emu_ports.specs.declared.ask.Ask.{Ask};
+ghost use Rattle.ec_emu.specs.declared.ask.Ask.{Ask};
 ghost use Rattle.ec_emu.specs.Answers.{WereAsked, asks_of};
 ghost use Rattle.ec_emu.specs.Emulation.{IsRun, IsPrinted, SinkCalm, RunCause};
 ghost use Rattle.ec_emu.specs.Lines.{port_lines};
 ghost use Rattle.ec_emu.specs.History.{IsAnsweredBy};
 
+use crate::answers::answer;
+use crate::ask::Ports;
 use crate::history::PortHistory;
 use crate::print::print;
 use ec_avr::{FaultKind, Machine, PortAnswer, Stepped};
-use ec_emu_ports::{Ports, answer};
 use ec_io::Sink;
 
 /// How a run ended.

@@ -2,7 +2,8 @@
 ghost use Rattle.std.specs.Prelude.{◌≡◌, ◌==◌, EachIndex, Some, option_map, position, slice_index};
 ghost use Rattle.ec_emu.specs.Scripted.{ArePlaces, IsScripted, line_of, place_of};
 
-use ec_emu_ports::{Ask, Ports, listed_byte};
+use crate::answers::listed_byte;
+use crate::ask::{Ask, Ports};
 use ec_space::Seq;
 
 /// What a port answers.

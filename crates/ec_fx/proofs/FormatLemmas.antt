@@ -1,7 +1,9 @@
 -- The formats of the kinds, for callers whose definitions speak of kinds.
 use Rattle.std.proofs.Common.{refl, inl, inr}
 use Rattle.ec_fx.specs.declared.formats.FxKind.{FxKind}
-use Rattle.ec_fx.specs.declared.formats.FxKind.TheVariants.{ShortFract, Fract, LongFract, ShortAccum, Accum, LongAccum, UnsignedShortFract, UnsignedFract, UnsignedLongFract, UnsignedShortAccum, UnsignedAccum, UnsignedLongAccum}
+use Rattle.ec_fx.specs.declared.formats.FxKind.TheVariants.{ShortFract, Fract, LongFract, ShortAccum, Accum, LongAccum, UnsignedShortFract}
+use Rattle.ec_fx.specs.declared.formats.FxKind.TheVariants.{UnsignedFract, UnsignedLongFract, UnsignedShortAccum, UnsignedAccum}
+use Rattle.ec_fx.specs.declared.formats.FxKind.TheVariants.{UnsignedLongAccum}
 use Rattle.ec_fx.specs.Formats.{format_of, IsFormat}
 
 pub IsFormat-format_of : (k : FxKind) → IsFormat (format_of k)

@@ -1,5 +1,7 @@
+-- For all crates above.
 pub mod Accuracy
-pub mod Bounds
 pub mod FormatLemmas
-pub mod Powers
 pub mod Scaling
+-- For this crate alone.
+mod Bounds
+mod Powers

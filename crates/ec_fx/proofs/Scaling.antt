@@ -1,5 +1,6 @@
 -- Powers of two that numerator and denominator have in common.
-use Rattle.std.proofs.Common.{◌≡◌, ℕ, zero, suc, ◌+◌, ◌-◌, ◌*◌, ◌/◌, ◌^◌, ◌<◌, ◌≤◌, Bool, true, false, refl, sym, ◌∙◌, ap, arith, ℤ, pos, negsuc, neg_ℤ, ◌+ℤ◌, ◌-ℤ◌, ◌*ℤ◌, unsigned_abs, max, int_lt, if◌then◌else◌}
+use Rattle.std.proofs.Common.{◌≡◌, ℕ, zero, suc, ◌+◌, ◌-◌, ◌*◌, ◌/◌, ◌^◌, ◌<◌, ◌≤◌, Bool, true, false, refl, sym, ◌∙◌, ap, arith, ℤ, pos}
+use Rattle.std.proofs.Common.{negsuc, neg_ℤ, ◌+ℤ◌, ◌-ℤ◌, ◌*ℤ◌, unsigned_abs, max, int_lt, if◌then◌else◌}
 use Rattle.std.proofs.Math.Nat.{mul_assoc, mul-div-mul_right}
 use borrow.Author.Differences.{up, down, same_in, sum_is_lem, neg_is}
 use Rattle.std.proofs.lemmas.Int.{ints, unsigned_abs-mul}
@@ -45,7 +46,8 @@ pub scale_pow : (z : ℤ) (i j k : ℕ) → i + j ≡ k → z *ℤ pos (2 ^ i) *
 scale_pow z i j k e = sym (scale_twice z (2 ^ i) (2 ^ j)) ∙ ap (λ (n : ℕ). z *ℤ pos n) (sym (pow-add 2 i j) ∙ ap (λ (n : ℕ). 2 ^ n) e)
 
 -- both operands are brought to m fraction bits, as many as the one with more has
-pub sum_aligned : (x y : ℤ) (f g r m : ℕ) → m ≡ max f g → r ≤ m → trunc (x *ℤ pos (2 ^ (m - f)) +ℤ y *ℤ pos (2 ^ (m - g))) (2 ^ (m - r)) ≡ rounded (in_units (x *ℤ pos (2 ^ g) +ℤ y *ℤ pos (2 ^ f)) (f + g) r)
+pub sum_aligned : (x y : ℤ) (f g r m : ℕ) → m ≡ max f g → r ≤ m → trunc (x *ℤ pos (2 ^ (m - f)) +ℤ y *ℤ pos (2 ^ (m - g))) (2 ^ (m - r))
+    ≡ rounded (in_units (x *ℤ pos (2 ^ g) +ℤ y *ℤ pos (2 ^ f)) (f + g) r)
 sum_aligned x y f g r m e h =
     let d : ℕ = f + g - m in
     let u : ℤ = x *ℤ pos (2 ^ (m - f)) in
@@ -53,11 +55,15 @@ sum_aligned x y f g r m e h =
     let den : 2 ^ (m - r) * 2 ^ (d + r) ≡ 2 ^ (f + g) = sym (pow-add 2 (m - r) (d + r)) ∙ ap (λ (n : ℕ). 2 ^ n) (omega arith) in
     let left : u *ℤ pos (2 ^ d) ≡ x *ℤ pos (2 ^ g) = scale_pow x (m - f) d g (omega arith) in
     let right : v *ℤ pos (2 ^ d) ≡ y *ℤ pos (2 ^ f) = scale_pow y (m - g) d f (omega arith) in
-    let both : (u +ℤ v) *ℤ pos (2 ^ d) ≡ x *ℤ pos (2 ^ g) +ℤ y *ℤ pos (2 ^ f) = scale_sum u v (2 ^ d) ∙ ap (λ (z : ℤ). z +ℤ v *ℤ pos (2 ^ d)) left ∙ ap (λ (z : ℤ). x *ℤ pos (2 ^ g) +ℤ z) right in
-    let num : (u +ℤ v) *ℤ pos (2 ^ (d + r)) ≡ (x *ℤ pos (2 ^ g) +ℤ y *ℤ pos (2 ^ f)) *ℤ pos (2 ^ r) = sym (scale_pow (u +ℤ v) d r (d + r) refl) ∙ ap (λ (z : ℤ). z *ℤ pos (2 ^ r)) both in
-    sym (trunc-common (u +ℤ v) (2 ^ (m - r)) (2 ^ (d + r)) (pow_pos (d + r))) ∙ ap (λ (z : ℤ). trunc z (2 ^ (m - r) * 2 ^ (d + r))) num ∙ ap (λ (n : ℕ). trunc ((x *ℤ pos (2 ^ g) +ℤ y *ℤ pos (2 ^ f)) *ℤ pos (2 ^ r)) n) den
+    let both : (u +ℤ v) *ℤ pos (2 ^ d) ≡ x *ℤ pos (2 ^ g) +ℤ y *ℤ pos (2 ^ f) =
+    scale_sum u v (2 ^ d) ∙ ap (λ (z : ℤ). z +ℤ v *ℤ pos (2 ^ d)) left ∙ ap (λ (z : ℤ). x *ℤ pos (2 ^ g) +ℤ z) right in
+    let num : (u +ℤ v) *ℤ pos (2 ^ (d + r)) ≡ (x *ℤ pos (2 ^ g) +ℤ y *ℤ pos (2 ^ f)) *ℤ pos (2 ^ r) =
+    sym (scale_pow (u +ℤ v) d r (d + r) refl) ∙ ap (λ (z : ℤ). z *ℤ pos (2 ^ r)) both in
+    sym (trunc-common (u +ℤ v) (2 ^ (m - r)) (2 ^ (d + r)) (pow_pos (d + r))) ∙ ap (λ (z : ℤ). trunc z (2 ^ (m - r) * 2 ^ (d + r))) num
+    ∙ ap (λ (n : ℕ). trunc ((x *ℤ pos (2 ^ g) +ℤ y *ℤ pos (2 ^ f)) *ℤ pos (2 ^ r)) n) den
 
-pub difference_aligned : (x y : ℤ) (f g r m : ℕ) → m ≡ max f g → r ≤ m → trunc (x *ℤ pos (2 ^ (m - f)) -ℤ y *ℤ pos (2 ^ (m - g))) (2 ^ (m - r)) ≡ rounded (in_units (x *ℤ pos (2 ^ g) -ℤ y *ℤ pos (2 ^ f)) (f + g) r)
+pub difference_aligned : (x y : ℤ) (f g r m : ℕ) → m ≡ max f g → r ≤ m → trunc (x *ℤ pos (2 ^ (m - f)) -ℤ y *ℤ pos (2 ^ (m - g)))
+    (2 ^ (m - r)) ≡ rounded (in_units (x *ℤ pos (2 ^ g) -ℤ y *ℤ pos (2 ^ f)) (f + g) r)
 difference_aligned x y f g r m e h =
     ap (λ (z : ℤ). trunc (x *ℤ pos (2 ^ (m - f)) +ℤ z) (2 ^ (m - r))) (sym (scale_negative y (2 ^ (m - g))))
     ∙ sum_aligned x (neg_ℤ y) f g r m e h
@@ -83,12 +89,15 @@ turned_scaled : (y z : ℤ) (k : ℕ) → turned y z *ℤ pos k ≡ turned y (z 
 turned_scaled y z k = turned_by (int_lt y (pos 0)) z k
 
 -- numerator and denominator without 2^c
-pub quotient_reduced : (x y : ℤ) (up down c : ℕ) → c ≤ up → c ≤ down → trunc (turned (y *ℤ pos (2 ^ (down - c))) (x *ℤ pos (2 ^ (up - c)))) (unsigned_abs (y *ℤ pos (2 ^ (down - c)))) ≡ trunc (turned y (x *ℤ pos (2 ^ up))) (unsigned_abs y * 2 ^ down)
+pub quotient_reduced : (x y : ℤ) (up down c : ℕ) → c ≤ up → c ≤ down → trunc (turned (y *ℤ pos (2 ^ (down - c))) (x *ℤ pos (2 ^ (up - c))))
+    (unsigned_abs (y *ℤ pos (2 ^ (down - c)))) ≡ trunc (turned y (x *ℤ pos (2 ^ up))) (unsigned_abs y * 2 ^ down)
 quotient_reduced x y up down c h k =
     let j : ℕ = 2 ^ (down - c) in
     let n : ℤ = x *ℤ pos (2 ^ (up - c)) in
-    let den : unsigned_abs y * j * 2 ^ c ≡ unsigned_abs y * 2 ^ down = mul_assoc (unsigned_abs y) j (2 ^ c) ∙ ap (λ (m : ℕ). unsigned_abs y * m) (sym (pow-add 2 (down - c) c) ∙ ap (λ (m : ℕ). 2 ^ m) (omega arith)) in
-    let num : turned y n *ℤ pos (2 ^ c) ≡ turned y (x *ℤ pos (2 ^ up)) = turned_scaled y n (2 ^ c) ∙ ap (turned y) (scale_pow x (up - c) c up (omega arith)) in
+    let den : unsigned_abs y * j * 2 ^ c ≡ unsigned_abs y * 2 ^ down = mul_assoc (unsigned_abs y) j (2 ^ c)
+    ∙ ap (λ (m : ℕ). unsigned_abs y * m) (sym (pow-add 2 (down - c) c) ∙ ap (λ (m : ℕ). 2 ^ m) (omega arith)) in
+    let num : turned y n *ℤ pos (2 ^ c) ≡ turned y (x *ℤ pos (2 ^ up)) =
+    turned_scaled y n (2 ^ c) ∙ ap (turned y) (scale_pow x (up - c) c up (omega arith)) in
     ap (λ (b : Bool). trunc (if b then neg_ℤ n else n) (unsigned_abs (y *ℤ pos j))) (scale_sign y j (pow_pos (down - c)))
     ∙ ap (trunc (turned y n)) (unsigned_abs-mul y (pos j))
     ∙ sym (trunc-common (turned y n) (unsigned_abs y * j) (2 ^ c) (pow_pos c))

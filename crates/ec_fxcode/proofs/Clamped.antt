@@ -1,5 +1,6 @@
 -- The code brings a number into a format.
-use Rattle.std.proofs.Common.{◌≡◌, ◌≢◌, ℕ, zero, suc, ◌+◌, ◌-◌, ◌*◌, ◌/◌, ◌^◌, ◌<◌, ◌≤◌, min, ◌⊎◌, inl, inr, ⊎_elim, Bool, true, false, refl, sym, ap, ◌∙◌, subst, arith, pow-add}
+use Rattle.std.proofs.Common.{◌≡◌, ◌≢◌, ℕ, zero, suc, ◌+◌, ◌-◌, ◌*◌, ◌/◌, ◌^◌, ◌<◌, ◌≤◌, min, ◌⊎◌, inl, inr, ⊎_elim, Bool, true, false}
+use Rattle.std.proofs.Common.{refl, sym, ap, ◌∙◌, subst, arith, pow-add}
 use Rattle.std.proofs.lemmas.Bool.{cases_eq, cases_lt}
 use Rattle.std.proofs.lemmas.Nat.{mul-le, mod_below}
 use Rattle.std.proofs.Math.Nat.{pow-le-pow_right}
@@ -15,8 +16,10 @@ use Rattle.ec_fxcode.proofs.Alike.{zeros, ones, zeros_only, ones_only, fill}
 use Rattle.ec_fxcode.proofs.Ends.{ended, topped}
 use Rattle.ec_fxcode.proofs.Fits.{IsSignedEnd, IsUnsignedEnd}
 use Rattle.ec_fxcode.proofs.Moves.{KeepsBut, clear_byte, Extends}
-use Rattle.ec_fxcode.proofs.Outcomes.{Fits, Passes, Saturates, fits_signed, fits_unsigned, passes_above, passes_below, passes_over, passes_under}
-use Rattle.ec_fxcode.proofs.Parts.{IsSign, sign_is, narrow, IsWide, wide, no_part, all_part, narrow_signed, wide_signed, kept_plus, kept_minus, out_signed, plain_unsigned, kept_unsigned, out_unsigned}
+use Rattle.ec_fxcode.proofs.Outcomes.{Fits, Passes, Saturates, fits_signed, fits_unsigned, passes_above, passes_below, passes_over}
+use Rattle.ec_fxcode.proofs.Outcomes.{passes_under}
+use Rattle.ec_fxcode.proofs.Parts.{IsSign, sign_is, narrow, IsWide, wide, no_part, all_part, narrow_signed, wide_signed, kept_plus}
+use Rattle.ec_fxcode.proofs.Parts.{kept_minus, out_signed, plain_unsigned, kept_unsigned, out_unsigned}
 
 -- ---- widths
 
@@ -48,7 +51,8 @@ pub kept_number : (v v1 : View) (a n b k : ℕ) → 2 ≤ a → AreApart a n b k
     → j < n → v1.at (a + j) ≡ v.at (a + j)
 kept_number v v1 a n b k two apart clear h j l =
     let f = clear_byte a n j clear two l in
-    h.same (a + j) f.0 f.1 f.2 f.3 (λ x. ⊎_elim (λ less. let y = apart.first less in absurd (omega arith)) (λ more. let y = apart.second more in omega arith) (cases_lt a b))
+    h.same (a + j) f.0 f.1 f.2 f.3 (λ x.
+    ⊎_elim (λ less. let y = apart.first less in absurd (omega arith)) (λ more. let y = apart.second more in omega arith) (cases_lt a b))
 
 held_low : (v v1 : View) (a b n k byte : ℕ) → AreHeld v.at a (suc n) → byte < 256 → Extends v a b k (min (suc n) k) byte v1
     → AreHeld v1.at b k
@@ -167,7 +171,8 @@ held_by : (v w : View) (b k a r t c byte m s : ℕ) (top : ℕ → ℕ → ℕ �
     → ((j : ℕ) → j < k → w.at (b + j) ≡ ended (v.at (b + j)) m s) → w.at (b + k) ≡ top (v.at (b + k)) m s
     → AreHeld w.at b (suc k)
 held_by v w b k a r t c byte m s top l low high j n =
-    ⊎_elim (λ (same : j ≡ k). rw same (rw high (l (v.at (b + k)) m s))) (λ (other : j ≢ k). rw (low j (omega arith)) (ended_is_byte (v.at (b + j)) m s)) (cases_eq j k)
+    ⊎_elim (λ (same : j ≡ k). rw same (rw high (l (v.at (b + k)) m s)))
+    (λ (other : j ≢ k). rw (low j (omega arith)) (ended_is_byte (v.at (b + j)) m s)) (cases_eq j k)
 
 held_end : (v w : View) (b k a r t c byte : ℕ) (top : ℕ → ℕ → ℕ → ℕ) → ((x m s : ℕ) → top x m s < 256)
     → Fits v w b k a r t c top ⊎ Passes v w b k a r t c byte top → AreHeld w.at b (suc k)
@@ -223,7 +228,8 @@ pub signed_end : (v v1 w : View) (a b n k byte : ℕ) → suc k ≤ suc n → Ar
 signed_end v v1 w a b n k byte long held l sign x kept s =
     let r = suc n - suc k in
     let wd = wide v v1 a b n (suc k) byte long held x in
-    let high : value v.at (a + suc k) r ≡ value v1.at (a + suc k) r = sym (value-same v1.at v.at (a + suc k) r (moved_bytes v v1 a (suc n) (suc k) kept)) in
+    let high : value v.at (a + suc k) r ≡ value v1.at (a + suc k) r =
+    sym (value-same v1.at v.at (a + suc k) r (moved_bytes v v1 a (suc n) (suc k) kept)) in
     let low_held = held_low v v1 a b n (suc k) byte held l x in
     let top : v1.at (a + k) ≡ v1.at (b + k) = kept k (omega arith) ∙ sym (low_same v v1 a b n (suc k) byte long x k (omega arith)) in
     let t : IsSign (value v1.at b (suc k)) (256 ^ suc k) (fill (v1.at (a + k))) = rw top (sign_is v1.at b k low_held) in
@@ -236,9 +242,11 @@ signed_end v v1 w a b n k byte long held l sign x kept s =
         → Fits v1 w b k (a + suc k) r (fill (v1.at (a + k))) 0 topped ⊎ Passes v1 w b k (a + suc k) r (fill (v1.at (a + k))) 0 byte topped
         → IsSignedEnd true (256 ^ suc n) (128 * 256 ^ k) (value v.at a (suc n)) (value w.at b (suc k))
     by_outcome r wd high low_held t high_held (inl f) =
-        signed_fits v v1 w a b n k r 0 (fill (v1.at (a + k))) (256 ^ suc n) (256 ^ suc k) (value v.at a (suc n)) (value v1.at b (suc k)) (value v.at (a + suc k) r) (256 ^ r) low_held wd (two_halves k) refl t high refl f
+        signed_fits v v1 w a b n k r 0 (fill (v1.at (a + k))) (256 ^ suc n) (256 ^ suc k) (value v.at a (suc n)) (value v1.at b (suc k))
+        (value v.at (a + suc k) r) (256 ^ r) low_held wd (two_halves k) refl t high refl f
     by_outcome r wd high low_held t high_held (inr f) =
-        signed_passes v v1 w a b n k r 0 (fill (v1.at (a + k))) (256 ^ suc n) (256 ^ suc k) (value v.at a (suc n)) (value v1.at b (suc k)) (value v.at (a + suc k) r) (256 ^ r) byte wd (two_halves k) sign t refl high refl high_held f
+        signed_passes v v1 w a b n k r 0 (fill (v1.at (a + k))) (256 ^ suc n) (256 ^ suc k) (value v.at a (suc n)) (value v1.at b (suc k))
+        (value v.at (a + suc k) r) (256 ^ r) byte wd (two_halves k) sign t refl high refl high_held f
 
 pub unsigned_end : (v v1 w : View) (a b n k byte : ℕ) → AreHeld v.at a (suc n) → byte < 256
     → IsSign (value v.at a (suc n)) (256 ^ suc n) byte → Extends v a b (suc k) (min (suc n) (suc k)) byte v1
@@ -247,7 +255,8 @@ pub unsigned_end : (v v1 w : View) (a b n k byte : ℕ) → AreHeld v.at a (suc 
     → IsUnsignedEnd true (256 ^ suc n) (256 ^ suc k) (value v.at a (suc n)) (value w.at b (suc k))
 unsigned_end v v1 w a b n k byte held l sign x kept s =
     let r = suc n - suc k in
-    let high : value v.at (a + suc k) r ≡ value v1.at (a + suc k) r = sym (value-same v1.at v.at (a + suc k) r (moved_bytes v v1 a (suc n) (suc k) kept)) in
+    let high : value v.at (a + suc k) r ≡ value v1.at (a + suc k) r =
+    sym (value-same v1.at v.at (a + suc k) r (moved_bytes v v1 a (suc n) (suc k) kept)) in
     by_outcome r (two_parts v v1 a b n (suc k) byte held sign x) high (held_low v v1 a b n (suc k) byte held l x) s.outcome
   where
     by_outcome : (r : ℕ)
@@ -256,9 +265,11 @@ unsigned_end v v1 w a b n k byte held l sign x kept s =
         → Fits v1 w b k (a + suc k) r 0 byte ended ⊎ Passes v1 w b k (a + suc k) r 0 byte byte ended
         → IsUnsignedEnd true (256 ^ suc n) (256 ^ suc k) (value v.at a (suc n)) (value w.at b (suc k))
     by_outcome r parts high low_held (inl f) =
-        unsigned_fits v1 w a b k r (256 ^ suc n) (256 ^ suc k) (value v.at a (suc n)) (value v1.at b (suc k)) (value v.at (a + suc k) r) byte low_held refl (value_below v1.at b (suc k) low_held) parts sign high f
+        unsigned_fits v1 w a b k r (256 ^ suc n) (256 ^ suc k) (value v.at a (suc n)) (value v1.at b (suc k))
+        (value v.at (a + suc k) r) byte low_held refl (value_below v1.at b (suc k) low_held) parts sign high f
     by_outcome r parts high low_held (inr f) =
-        unsigned_passes v1 w a b k r (256 ^ suc n) (256 ^ suc k) (value v.at a (suc n)) (value v1.at b (suc k)) (value v.at (a + suc k) r) byte refl parts sign high f
+        unsigned_passes v1 w a b k r (256 ^ suc n) (256 ^ suc k) (value v.at a (suc n)) (value v1.at b (suc k))
+        (value v.at (a + suc k) r) byte refl parts sign high f
 
 -- without saturation the low bytes stand where the number fits
 pub signed_low : (saturates : Bool) (v v1 : View) (a b n k byte : ℕ) → saturates ≡ false ⊎ (suc n ≤ suc k) → AreHeld v.at a (suc n)
@@ -269,15 +280,19 @@ signed_low saturates v v1 a b n k byte h held sign x =
     (λ (short : suc n < suc k). few saturates (omega arith))
     (λ (long : suc k ≤ suc n).
     elim h [
-      | inl never ↦ subst (λ s. IsSignedEnd s (256 ^ suc n) (128 * 256 ^ k) (value v.at a (suc n)) (value v1.at b (suc k))) (sym never) (wide_signed (256 ^ suc n) (256 ^ suc k) (128 * 256 ^ k) (value v.at a (suc n)) (value v1.at b (suc k)) (value v.at (a + suc k) (suc n - suc k)) (256 ^ (suc n - suc k)) (wide v v1 a b n (suc k) byte long held x) (two_halves k) (some_half k))
+      | inl never ↦ subst (λ s. IsSignedEnd s (256 ^ suc n) (128 * 256 ^ k) (value v.at a (suc n)) (value v1.at b (suc k))) (sym never)
+          (wide_signed (256 ^ suc n) (256 ^ suc k) (128 * 256 ^ k) (value v.at a (suc n)) (value v1.at b (suc k)) (value v.at (a + suc k)
+          (suc n - suc k)) (256 ^ (suc n - suc k)) (wide v v1 a b n (suc k) byte long held x) (two_halves k) (some_half k))
       | inr short ↦ few saturates short
     ])
     (cases_lt (suc n) (suc k))
   where
-    few : (saturates : Bool) → suc n ≤ suc k → IsSignedEnd saturates (256 ^ suc n) (128 * 256 ^ k) (value v.at a (suc n)) (value v1.at b (suc k))
+    few : (saturates : Bool) → suc n ≤ suc k
+        → IsSignedEnd saturates (256 ^ suc n) (128 * 256 ^ k) (value v.at a (suc n)) (value v1.at b (suc k))
     few saturates short =
         let powers : 256 ^ suc n ≤ 256 ^ suc k = pow-le-pow_right {n = 256} (omega arith) {i = suc n} {j = suc k} short in
-        narrow_signed saturates (256 ^ suc n) (256 ^ suc k) (128 * 256 ^ k) (value v.at a (suc n)) (value v1.at b (suc k)) (two_halves k) powers (value_below v.at a (suc n) held) (narrow v v1 a b n (suc k) byte short sign x)
+        narrow_signed saturates (256 ^ suc n) (256 ^ suc k) (128 * 256 ^ k) (value v.at a (suc n)) (value v1.at b (suc k))
+        (two_halves k) powers (value_below v.at a (suc n) held) (narrow v v1 a b n (suc k) byte short sign x)
 
 pub unsigned_low : (v v1 : View) (a b n k byte : ℕ) → AreHeld v.at a (suc n)
     → IsSign (value v.at a (suc n)) (256 ^ suc n) byte → Extends v a b (suc k) (min (suc n) (suc k)) byte v1

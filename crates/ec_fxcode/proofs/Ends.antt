@@ -71,7 +71,8 @@ and_below x = let l = and_le_r x 128 in omega arith
 
 tops_by : (e : Env) (q : Location) (i b x : ℕ) (v : View) → address e q i ≡ b → KindIs e q b Own
     → ((b ≢ 30) × (b ≢ 31))
-    → TopsByte v (block e (Plain (And 0 30) ∷ Plain (Com 30) ∷ Plain (Andi 30 128) ∷ Plain (Add 31 30) ∷ Plain (Add 0 31) ∷ put_byte 0 q i) (set 0 x v)) b (topped x (v.at 30) (v.at 31))
+    → TopsByte v (block e (Plain (And 0 30) ∷ Plain (Com 30) ∷ Plain (Andi 30 128) ∷ Plain (Add 31 30) ∷ Plain (Add 0 31) ∷ put_byte 0 q i)
+    (set 0 x v)) b (topped x (v.at 30) (v.at 31))
 tops_by e q i b x v at kind free =
     let v1 = set 0 x v in
     let v2 = change e (And 0 30) v1 in
@@ -83,8 +84,10 @@ tops_by e q i b x v at kind free =
     (record {
       here = put_here v6.at b (v6.at 0) b refl;
       first = rw (put_other v6.at b (v6.at 0) 30 (λ t. free.0 (sym t))) (and_below (255 - v.at 30));
-      second = rw (put_other v6.at b (v6.at 0) 31 (λ t. free.1 (sym t))) (mod_below (v.at 31 + bit_and (255 - v.at 30) 128 + 0) 256 (omega arith));
-      same = λ j z n o k. put_other v6.at b _ j k ∙ put_other v5.at 0 _ j z ∙ put_other v4.at 31 _ j o ∙ put_other v3.at 30 _ j n ∙ put_other v2.at 30 _ j n ∙ put_other v1.at 0 _ j z ∙ put_other v.at 0 x j z;
+      second = rw (put_other v6.at b (v6.at 0) 31 (λ t. free.1 (sym t)))
+          (mod_below (v.at 31 + bit_and (255 - v.at 30) 128 + 0) 256 (omega arith));
+      same = λ j z n o k. put_other v6.at b _ j k ∙ put_other v5.at 0 _ j z ∙ put_other v4.at 31 _ j o ∙ put_other v3.at 30 _ j n
+          ∙ put_other v2.at 30 _ j n ∙ put_other v1.at 0 _ j z ∙ put_other v.at 0 x j z;
       inputs = refl;
       safe = refl;
       seen = refl;
@@ -95,7 +98,11 @@ tops_byte : (e : Env) (q : Location) (i b : ℕ) (v : View) → address e q i �
     → TopsByte v (block e (top_byte q i) v) b (topped (v.at b) (v.at 30) (v.at 31))
 tops_byte e q i b v at kind free =
     let t = byte_is_taken e q i b v at kind in
-    rw (block-append e (take_byte q i) (Plain (And 0 30) ∷ Plain (Com 30) ∷ Plain (Andi 30 128) ∷ Plain (Add 31 30) ∷ Plain (Add 0 31) ∷ put_byte 0 q i) v, t)
+    rw (
+      block-append e (take_byte q i)
+          (Plain (And 0 30) ∷ Plain (Com 30) ∷ Plain (Andi 30 128) ∷ Plain (Add 31 30) ∷ Plain (Add 0 31) ∷ put_byte 0 q i) v,
+      t,
+    )
     (tops_by e q i b (v.at b) v at kind free)
 
 -- ---- all bytes
@@ -116,7 +123,9 @@ end_step e q k b m s u st clear i l v h =
     let o = ends_byte e q i (b + i) v (st.at i l) (st.kind i l) in
     let old = h.same (b + i) free.0 (λ x. omega arith) in
     record {
-      there = λ j z. ⊎_elim (λ t. rw t (o.here ∙ rw (old, h.mask, h.byte) refl)) (λ t. o.same (b + j) ((clear_byte b k j clear st.clear (omega arith)).0) (λ x. t (omega arith)) ∙ h.there j (omega arith)) (cases_eq j i);
+      there = λ j z. ⊎_elim (λ t. rw t (o.here ∙ rw (old, h.mask, h.byte) refl))
+          (λ t. o.same (b + j) ((clear_byte b k j clear st.clear (omega arith)).0) (λ x. t (omega arith)) ∙ h.there j (omega arith))
+          (cases_eq j i);
       same = λ j z n. o.same j z (not_here j b i n) ∙ h.same j z (fewer j b i n);
       mask = o.same 30 (λ x. omega arith) (λ x. free.2 (sym x)) ∙ h.mask;
       byte = o.same 31 (λ x. omega arith) (λ x. free.3 (sym x)) ∙ h.byte;
@@ -128,7 +137,15 @@ end_step e q k b m s u st clear i l v h =
 end_bytes : (e : Env) (q : Location) (k n b m s : ℕ) (u : View) → StandsFrom e q k b Own → IsClearOfEnds b k → n ≤ k
     → u.at 30 ≡ m → u.at 31 ≡ s → EndsTo u b m s n (block e (chain (end_byte q) n) u)
 end_bytes e q k n b m s u st clear l mask byte =
-    chain_holds e (end_byte q) (EndsTo u b m s) n (λ i x v h. end_step e q k b m s u st clear i (omega arith) v h) u (record { there = λ j z. absurd (omega arith); same = λ j z n. refl; mask = mask; byte = byte; inputs = refl; safe = refl; seen = refl })
+    chain_holds e (end_byte q) (EndsTo u b m s) n (λ i x v h. end_step e q k b m s u st clear i (omega arith) v h) u (record {
+      there = λ j z. absurd (omega arith);
+      same = λ j z n. refl;
+      mask = mask;
+      byte = byte;
+      inputs = refl;
+      safe = refl;
+      seen = refl;
+    })
 
 -- what the code leaves: k bytes from b, the highest of which may be another
 pub record Ends (u : View) (b k m s : ℕ) (top : ℕ → ℕ → ℕ → ℕ) (w : View) : Type 0 where

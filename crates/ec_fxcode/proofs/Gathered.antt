@@ -160,7 +160,18 @@ pub gathers : (e : Env) (p : Location) (n a k t c : ℕ) (u : View) → StandsFr
     → ((j : ℕ) → j < n → u.at (a + j) < 256) → t < 256 → c < 256 → u.at 1 ≡ t → u.at 30 ≡ c
     → Gathers u (a + k) t c (n - k) (block e (gather_code p k n) u)
 gathers e p n a k t c u s clear bytes m l one thirty =
-    chain_holds e (λ i. gather_byte p (k + i)) (Gathers u (a + k) t c) (n - k) (λ i x v h. gather_step e p n a k t c u s clear bytes m i (omega arith) v h) u (record { below = rw thirty l; wanted = one; starts = λ z. sym thirty ∙ z; only = λ z j y. absurd (omega arith); stays = λ z all. thirty ∙ z; same = λ j z n. refl; inputs = refl; safe = refl; seen = refl })
+    chain_holds e (λ i. gather_byte p (k + i)) (Gathers u (a + k) t c) (n - k)
+    (λ i x v h. gather_step e p n a k t c u s clear bytes m i (omega arith) v h) u (record {
+      below = rw thirty l;
+      wanted = one;
+      starts = λ z. sym thirty ∙ z;
+      only = λ z j y. absurd (omega arith);
+      stays = λ z all. thirty ∙ z;
+      same = λ j z n. refl;
+      inputs = refl;
+      safe = refl;
+      seen = refl;
+    })
 
 -- ---- the masks
 
@@ -201,7 +212,8 @@ masked e v =
       passes = λ n.
           let m = mask_ones (v1.at 30) (v.at 30) n in
           (ap (λ x. 255 - x) m, ap (bit_and (255 - v.at 31)) m ∙ and_all (255 - v.at 31) (below_com (v.at 31)));
-      same = λ j n o. put_other v4.at 30 _ j n ∙ put_other v3.at 31 _ j o ∙ put_other v2.at 31 _ j o ∙ put_other v1.at 30 _ j n ∙ put_other v.at 30 _ j n;
+      same = λ j n o. put_other v4.at 30 _ j n ∙ put_other v3.at 31 _ j o ∙ put_other v2.at 31 _ j o ∙ put_other v1.at 30 _ j n
+          ∙ put_other v.at 30 _ j n;
       inputs = refl;
       safe = refl;
       seen = refl;

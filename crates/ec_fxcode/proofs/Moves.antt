@@ -1,5 +1,6 @@
 -- The low bytes of a number, with bytes of its sign above them.
-use Rattle.std.proofs.Common.{◌≡◌, ◌≢◌, ℕ, zero, suc, ◌+◌, ◌-◌, ◌/◌, ◌<◌, ◌≤◌, min, ⊎_elim, [], ◌∷◌, ◌++◌, append-nil, refl, ap, ◌∙◌, subst, arith}
+use Rattle.std.proofs.Common.{◌≡◌, ◌≢◌, ℕ, zero, suc, ◌+◌, ◌-◌, ◌/◌, ◌<◌, ◌≤◌, min, ⊎_elim, [], ◌∷◌, ◌++◌, append-nil, refl, ap, ◌∙◌, subst}
+use Rattle.std.proofs.Common.{arith}
 use Rattle.std.proofs.lemmas.Bool.{cases_eq, cases_lt}
 use Rattle.ec_isa.specs.declared.instructions.Instr.TheVariants.{Add, Sbc}
 use Rattle.ec_avr.specs.Flags.{byte_difference}
@@ -103,7 +104,8 @@ fill_step e q k b m byte u s clear i l v h =
     let is = put ∙ ap (λ a. set a (v.at 31) v) here in
     let one = put_other v.at (b + m + i) (v.at 31) in
     rw is (record {
-      there = λ j z. ⊎_elim (λ t. put_here v.at (b + m + i) (v.at 31) (b + m + j) (omega arith) ∙ h.sign) (λ t. one (b + m + j) (λ x. t (omega arith)) ∙ h.there j (omega arith)) (cases_eq j i);
+      there = λ j z. ⊎_elim (λ t. put_here v.at (b + m + i) (v.at 31) (b + m + j) (omega arith) ∙ h.sign)
+          (λ t. one (b + m + j) (λ x. t (omega arith)) ∙ h.there j (omega arith)) (cases_eq j i);
       sign = one 31 (λ x. free.3 (omega arith)) ∙ h.sign;
       keeps = record {
         same = λ j y z o. one j (not_here j (b + m) i o) ∙ h.keeps.same j y z (fewer j (b + m) i o);
@@ -116,7 +118,12 @@ fill_step e q k b m byte u s clear i l v h =
 pub fills : (e : Env) (q : Location) (k b m byte : ℕ) (v : View) → StandsFrom e q k b Own → IsClearOfEnds b k
     → v.at 31 ≡ byte → FillsTo v (b + m) byte (k - m) (block e (fills_code q m k) v)
 fills e q k b m byte v s clear sign =
-    chain_holds e (λ i. put_byte 31 q (m + i)) (FillsTo v (b + m) byte) (k - m) (λ i l u h. fill_step e q k b m byte v s clear i (omega arith) u h) v (record { there = λ j z. absurd (omega arith); sign = sign; keeps = record { same = λ j y z o. refl; inputs = refl; safe = refl; seen = refl } })
+    chain_holds e (λ i. put_byte 31 q (m + i)) (FillsTo v (b + m) byte) (k - m)
+    (λ i l u h. fill_step e q k b m byte v s clear i (omega arith) u h) v (record {
+      there = λ j z. absurd (omega arith);
+      sign = sign;
+      keeps = record { same = λ j y z o. refl; inputs = refl; safe = refl; seen = refl };
+    })
 
 -- ---- all k bytes
 
@@ -151,9 +158,12 @@ joined v0 v1 v2 v3 a b n k m byte l l' ua ub ca cb s c f = record {
       f.keeps.same (b + j) to.0 to.1 (λ y. omega arith) ∙ c.there j x ∙ s.same (a + j) from.0 from.3;
   high = λ j x y. let at : b + m + (j - m) ≡ b + j = omega arith in subst (λ i. v3.at i ≡ byte) at (f.there (j - m) (omega arith));
   sign = f.sign;
-  other = f.keeps.same 30 (λ x. omega arith) (λ x. omega arith) (λ x. let y = apart_from_30 b k m l' cb (omega arith) in omega arith) ∙ c.same 30 (λ x. omega arith) (λ x. let y = apart_from_30 b k m l' cb x in omega arith) ∙ s.same 30 (λ x. omega arith) (λ x. omega arith);
+  other = f.keeps.same 30 (λ x. omega arith) (λ x. omega arith) (λ x. let y = apart_from_30 b k m l' cb (omega arith) in omega arith)
+      ∙ c.same 30 (λ x. omega arith) (λ x. let y = apart_from_30 b k m l' cb x in omega arith)
+      ∙ s.same 30 (λ x. omega arith) (λ x. omega arith);
   keeps = record {
-    same = λ j x y z w o. f.keeps.same j x y (λ g. let far = o (omega arith) in omega arith) ∙ c.same j x (λ g. let far = o g in omega arith) ∙ s.same j x w;
+    same = λ j x y z w o. f.keeps.same j x y (λ g. let far = o (omega arith) in omega arith)
+        ∙ c.same j x (λ g. let far = o g in omega arith) ∙ s.same j x w;
     inputs = f.keeps.inputs ∙ c.inputs ∙ s.inputs;
     safe = f.keeps.safe ∙ c.safe ∙ s.safe;
     seen = f.keeps.seen ∙ c.seen ∙ ap (λ l. v1.seen ++ l) (no_log a b v1.at m) ∙ append-nil v1.seen ∙ s.seen;
@@ -176,8 +186,10 @@ extends e p q n k a b v sa sb apart ca cb l =
     let v1 = block e sign v in
     let v2 = block e copies v1 in
     let s = signs e p n (a + n) v (sa.at n (omega arith)) (sa.kind n (omega arith)) l in
-    let c = copy_holds e p q m a b Own Own v1 (part_stands e p (suc n) m a (omega arith) sa) (part_stands e q k m b (omega arith) sb) refl refl (λ x. let y = first x in omega arith) in
+    let c = copy_holds e p q m a b Own Own v1 (part_stands e p (suc n) m a (omega arith) sa)
+    (part_stands e q k m b (omega arith) sb) refl refl (λ x. let y = first x in omega arith) in
     let v31 : v2.at 31 ≡ fill (v.at (a + n)) = c.same 31 (λ x. omega arith) (λ x. beyond b k m (omega arith) cb x) ∙ s.sign in
     let f = fills e q k b m (fill (v.at (a + n))) v2 sb cb v31 in
     rw (block-append e sign (copies ++ fills_code q m k) v, block-append e copies (fills_code q m k) v1)
-    (joined v v1 v2 (block e (fills_code q m k) v2) a b (suc n) k m (fill (v.at (a + n))) (omega arith) (omega arith) sa.clear sb.clear ca cb s c f)
+    (joined v v1 v2 (block e (fills_code q m k) v2) a b (suc n) k m (fill (v.at (a + n))) (omega arith)
+    (omega arith) sa.clear sb.clear ca cb s c f)

@@ -1,5 +1,6 @@
 -- What the code after the low bytes leaves: the low bytes where the number fits, and else an end of the range.
-use Rattle.std.proofs.Common.{◌≡◌, ◌≢◌, ℕ, suc, ◌+◌, ◌-◌, ◌*◌, ◌/◌, ◌^◌, ◌<◌, ◌≤◌, ◌⊎◌, inl, inr, ⊎_elim, true, false, List, ◌++◌, refl, sym, ap, ◌∙◌, arith}
+use Rattle.std.proofs.Common.{◌≡◌, ◌≢◌, ℕ, suc, ◌+◌, ◌-◌, ◌*◌, ◌/◌, ◌^◌, ◌<◌, ◌≤◌, ◌⊎◌, inl, inr, ⊎_elim, true, false, List, ◌++◌, refl}
+use Rattle.std.proofs.Common.{sym, ap, ◌∙◌, arith}
 use Rattle.std.proofs.lemmas.Bool.{cases_eq, cases_lt}
 use Rattle.ec_asm.specs.declared.items.AsmItem.{AsmItem}
 use Rattle.ec_asm.specs.declared.pieces.Location.{Location}
@@ -13,7 +14,8 @@ use Rattle.ec_asm.proofs.Sum.{value-same}
 use Rattle.ec_fxcode.specs.Clamps.{wanted_code, gather_code, masks_code, ends_code, saturate_code}
 use Rattle.ec_fxcode.specs.ClampLaws.{IsClearOfEnds}
 use Rattle.ec_fxcode.proofs.Alike.{zeros, ones, fill}
-use Rattle.ec_fxcode.proofs.Ends.{ended, topped, Ends, ends_signed, ends_unsigned, ended_kept, topped_kept, ended_out, topped_above, topped_below}
+use Rattle.ec_fxcode.proofs.Ends.{ended, topped, Ends, ends_signed, ends_unsigned, ended_kept, topped_kept, ended_out, topped_above}
+use Rattle.ec_fxcode.proofs.Ends.{topped_below}
 use Rattle.ec_fxcode.proofs.Gathered.{Wants, wants_sign, wants_none, Gathers, gathers, Masks, masked}
 use Rattle.ec_fxcode.proofs.Moves.{KeepsBut, clear_byte}
 
@@ -90,7 +92,8 @@ saturated v v2 v3 v4 w b k a r t c byte top two clear looked is l p g m ends =
     })
     (λ not_zero.
     let f = m.passes not_zero in
-    let sign : v3.at 31 ≡ byte = g.same 31 (λ x. omega arith) (λ x. omega arith) ∙ p.same 31 (λ x. omega arith) (λ x. omega arith) (λ x. omega arith) ∙ is in
+    let sign : v3.at 31 ≡ byte =
+    g.same 31 (λ x. omega arith) (λ x. omega arith) ∙ p.same 31 (λ x. omega arith) (λ x. omega arith) (λ x. omega arith) ∙ is in
     let h = ends 0 (255 - byte) (omega arith) (omega arith) f.0 (f.1 ∙ ap (λ x. 255 - x) sign) in
     let old = old_bytes v v4 w b k 0 (255 - byte) top two clear same h in
     record {
@@ -164,7 +167,8 @@ all_same v v2 a n t c two clear p h j l =
     rw e (h j l)
 
 fill_below : (x : ℕ) → x < 256 → fill x < 256
-fill_below x l = ⊎_elim (λ (m : x < 128). omega arith) (λ (m : 128 ≤ x). let q : x / 128 ≡ 1 = omega arith in rw q (omega arith)) (cases_lt x 128)
+fill_below x l =
+    ⊎_elim (λ (m : x < 128). omega arith) (λ (m : 128 ≤ x). let q : x / 128 ≡ 1 = omega arith in rw q (omega arith)) (cases_lt x 128)
 
 parts : (e : Env) (a b c d : List AsmItem) (v : View)
     → block e (a ++ (b ++ (c ++ d))) v ≡ block e d (block e c (block e b (block e a v)))
@@ -184,9 +188,11 @@ saturates_signed e p q n k a b byte v sa sb ca cb h l is m =
     let v3 = block e gc v2 in
     let v4 = block e masks_code v3 in
     let w2 = wants_sign e p k (a + k) v (sa.at k (omega arith)) (sa.kind k (omega arith)) (h k (omega arith)) in
-    let g = gathers e p n a (suc k) t 0 v2 sa ca (all_same v v2 a n t 0 sa.clear ca w2 h) (fill_below (v.at (a + k)) (h k (omega arith))) (omega arith) w2.wanted w2.start_is in
+    let g = gathers e p n a (suc k) t 0 v2 sa ca (all_same v v2 a n t 0 sa.clear ca w2 h) (fill_below (v.at (a + k)) (h k (omega arith)))
+    (omega arith) w2.wanted w2.start_is in
     rw (parts e wc gc masks_code ec v)
-    (saturated v v2 v3 v4 (block e ec v4) b k (a + suc k) (n - suc k) t 0 byte topped sb.clear cb (looked_same v v2 a n (suc k) t 0 sa.clear ca w2) is m w2 g (masked e v3) (λ x s xl sl y z. ends_signed e q k b x s v4 sb cb xl sl y z))
+    (saturated v v2 v3 v4 (block e ec v4) b k (a + suc k) (n - suc k) t 0 byte topped sb.clear cb
+    (looked_same v v2 a n (suc k) t 0 sa.clear ca w2) is m w2 g (masked e v3) (λ x s xl sl y z. ends_signed e q k b x s v4 sb cb xl sl y z))
 
 pub saturates_unsigned : (e : Env) (p q : Location) (n k a b byte : ℕ) (v : View) → StandsFrom e p n a Own
     → StandsFrom e q (suc k) b Own → IsClearOfEnds a n → IsClearOfEnds b (suc k) → AreHeld v.at a n → v.at 31 ≡ byte
@@ -202,4 +208,6 @@ saturates_unsigned e p q n k a b byte v sa sb ca cb h is m =
     let w2 : Wants v v2 0 byte = rw (← is) (wants_none e p (suc k) v) in
     let g = gathers e p n a (suc k) 0 byte v2 sa ca (all_same v v2 a n 0 byte sa.clear ca w2 h) (omega arith) m w2.wanted w2.start_is in
     rw (parts e wc gc masks_code ec v)
-    (saturated v v2 v3 v4 (block e ec v4) b k (a + suc k) (n - suc k) 0 byte byte ended sb.clear cb (looked_same v v2 a n (suc k) 0 byte sa.clear ca w2) is m w2 g (masked e v3) (λ x s xl sl y z. ends_unsigned e q k b x s v4 sb cb xl sl y z))
+    (saturated v v2 v3 v4 (block e ec v4) b k (a + suc k) (n - suc k) 0 byte byte ended sb.clear cb
+    (looked_same v v2 a n (suc k) 0 byte sa.clear ca w2) is m w2 g (masked e v3)
+    (λ x s xl sl y z. ends_unsigned e q k b x s v4 sb cb xl sl y z))

@@ -1,5 +1,6 @@
 -- The low bytes of a number and its high ones.
-use Rattle.std.proofs.Common.{◌≡◌, ℕ, zero, suc, ◌+◌, ◌-◌, ◌*◌, ◌^◌, ◌<◌, ◌≤◌, min, ⊎_elim, Bool, true, false, refl, sym, ap, ◌∙◌, subst, arith, pow-add}
+use Rattle.std.proofs.Common.{◌≡◌, ℕ, zero, suc, ◌+◌, ◌-◌, ◌*◌, ◌^◌, ◌<◌, ◌≤◌, min, ⊎_elim, Bool, true, false, refl, sym, ap, ◌∙◌, subst}
+use Rattle.std.proofs.Common.{arith, pow-add}
 use Rattle.std.proofs.lemmas.Bool.{cases_eq, cases_lt, false≢true}
 use Rattle.std.proofs.lemmas.Nat.{mul-le}
 use Rattle.ec_asm.specs.View.{View}
@@ -28,8 +29,10 @@ pub sign_is : (f : ℕ → ℕ) (a n : ℕ) → AreHeld f a (suc n) → IsSign (
 sign_is f a n h =
     let l = h n (omega arith) in
     record {
-      plus = λ less. ⊎_elim (λ low. fill_low (f (a + n)) low) (λ high. let m = high_top f a n high in absurd (omega arith)) (cases_lt (f (a + n)) 128);
-      minus = λ more. ⊎_elim (λ low. let m = low_top f a n (λ j k. h j (omega arith)) low in absurd (omega arith)) (λ high. fill_high (f (a + n)) high l) (cases_lt (f (a + n)) 128);
+      plus = λ less.
+          ⊎_elim (λ low. fill_low (f (a + n)) low) (λ high. let m = high_top f a n high in absurd (omega arith)) (cases_lt (f (a + n)) 128);
+      minus = λ more. ⊎_elim (λ low. let m = low_top f a n (λ j k. h j (omega arith)) low in absurd (omega arith))
+          (λ high. fill_high (f (a + n)) high l) (cases_lt (f (a + n)) 128);
     }
 
 -- ---- a number of no more bytes than the format
@@ -50,14 +53,17 @@ narrow v v1 a b n k byte l s x =
     let m : min (suc n) k ≡ suc n = omega arith in
     let r = k - suc n in
     let same : k ≡ suc n + r = omega arith in
-    let parts : value v1.at b k ≡ value v1.at b (suc n) + 256 ^ suc n * value v1.at (b + suc n) r = ap (value v1.at b) same ∙ value_parts v1.at b (suc n) r in
+    let parts : value v1.at b k ≡ value v1.at b (suc n) + 256 ^ suc n * value v1.at (b + suc n) r =
+    ap (value v1.at b) same ∙ value_parts v1.at b (suc n) r in
     let low : value v1.at b (suc n) ≡ value v.at a (suc n) = value_moved v1.at v.at b a (suc n) (λ j y. x.low j (omega arith)) in
     let whole : value v1.at b k ≡ value v.at a (suc n) + 256 ^ suc n * value v1.at (b + suc n) r = rw (← low) parts in
-    let bytes = λ (j : ℕ) (y : j < r). (let at : b + (suc n + j) ≡ b + suc n + j = omega arith in subst (λ i. v1.at i ≡ byte) at (x.high (suc n + j) (omega arith) (omega arith))) in
+    let bytes = λ (j : ℕ) (y : j < r). (let at : b + (suc n + j) ≡ b + suc n + j = omega arith in
+    subst (λ i. v1.at i ≡ byte) at (x.high (suc n + j) (omega arith) (omega arith))) in
     let power : 256 ^ suc n * 256 ^ r ≡ 256 ^ k = sym (ap (λ t. 256 ^ t) same ∙ pow-add 256 (suc n) r) in
     record {
       plus = λ less. let z = zeros v1.at (b + suc n) r (λ j y. bytes j y ∙ s.plus less) in rw z at whole ∙ (omega arith);
-      minus = λ more. filled_up (value v.at a (suc n)) (256 ^ suc n) (value v1.at (b + suc n) r) (256 ^ r) (value v1.at b k) (256 ^ k) whole (ones v1.at (b + suc n) r (λ j y. bytes j y ∙ s.minus more)) power;
+      minus = λ more. filled_up (value v.at a (suc n)) (256 ^ suc n) (value v1.at (b + suc n) r) (256 ^ r) (value v1.at b k) (256 ^ k) whole
+          (ones v1.at (b + suc n) r (λ j y. bytes j y ∙ s.minus more)) power;
     }
 
 -- ---- a number of more bytes than the format
@@ -79,7 +85,8 @@ wide v v1 a b n k byte l h x =
       whole = rw low parts;
       power = ap (λ t. 256 ^ t) same ∙ pow-add 256 k r;
       below = rw low (value_below v.at a k (λ j y. h j (omega arith)));
-      high = value_below v.at (a + k) r (λ j y. (let at : a + (k + j) ≡ a + k + j = omega arith in subst (λ i. v.at i < 256) at (h (k + j) (omega arith))));
+      high = value_below v.at (a + k) r
+          (λ j y. (let at : a + (k + j) ≡ a + k + j = omega arith in subst (λ i. v.at i < 256) at (h (k + j) (omega arith))));
     }
 
 pub no_part : (P H A L : ℕ) → A ≡ L + P * H → A < P → H ≡ 0
@@ -112,7 +119,8 @@ wide_signed N P h A L H M w p o =
     record {
       plain = λ less inside. let z = no_part P H A L whole (omega arith) in let e : A ≡ L + P * 0 = rw z at whole in omega arith;
       above = λ sat less past. absurd (false≢true sat);
-      minus = λ more inside. let z = all_part P H M N A L h whole power w.below w.high (omega arith) inside in let e : P * (H + 1) ≡ P * M = ap (λ t. P * t) z in omega arith;
+      minus = λ more inside. let z = all_part P H M N A L h whole power w.below w.high (omega arith) inside in
+          let e : P * (H + 1) ≡ P * M = ap (λ t. P * t) z in omega arith;
       below = λ sat more past. absurd (false≢true sat);
     }
 

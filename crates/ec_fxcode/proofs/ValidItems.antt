@@ -15,7 +15,8 @@ use Rattle.ec_asm.specs.declared.pieces.Location.TheVariants.{InRegisters, InMem
 use Rattle.ec_asm.specs.Items.{chain}
 use Rattle.ec_asm.specs.Pieces.{copy_byte, copy_code}
 use Rattle.ec_asm.specs.Valid.{Sizes, is_valid_item, used_label, is_label, is_placed}
-use Rattle.ec_fxcode.specs.Clamps.{take_byte, put_byte, sign_code, fills_code, extended_code, wanted_code, gather_byte, gather_code, masks_code, end_byte, top_byte, ends_code, saturate_code, may_pass, saturate_if, clamp_code}
+use Rattle.ec_fxcode.specs.Clamps.{take_byte, put_byte, sign_code, fills_code, extended_code, wanted_code, gather_byte, gather_code}
+use Rattle.ec_fxcode.specs.Clamps.{masks_code, end_byte, top_byte, ends_code, saturate_code, may_pass, saturate_if, clamp_code}
 use Rattle.ec_fxcode.specs.ClampLaws.{HasPlaces, ClampsAreValid, ClampsUseNoLabel, ClampsPlaceNoLabel}
 
 pub both : (t : AsmItem → Bool) (a b : List AsmItem) → list_all t a ≡ true → list_all t b ≡ true → list_all t (a ++ b) ≡ true
@@ -58,12 +59,15 @@ module _ (t : AsmItem → Bool) (p q : Location) (n k : ℕ) (h : Passes t p q n
 
   top_passes : (i : ℕ) → i < k → list_all t (top_byte q i) ≡ true
   top_passes i l =
-      both t (take_byte q i) (Plain (And 0 30) ∷ Plain (Com 30) ∷ Plain (Andi 30 128) ∷ Plain (Add 31 30) ∷ Plain (Add 0 31) ∷ put_byte 0 q i) (h.into i l)
-      (both t (Plain (And 0 30) ∷ Plain (Com 30) ∷ Plain (Andi 30 128) ∷ Plain (Add 31 30) ∷ Plain (Add 0 31) ∷ []) (put_byte 0 q i) h.top (h.low i l))
+      both t (take_byte q i)
+      (Plain (And 0 30) ∷ Plain (Com 30) ∷ Plain (Andi 30 128) ∷ Plain (Add 31 30) ∷ Plain (Add 0 31) ∷ put_byte 0 q i) (h.into i l)
+      (both t (Plain (And 0 30) ∷ Plain (Com 30) ∷ Plain (Andi 30 128) ∷ Plain (Add 31 30) ∷ Plain (Add 0 31) ∷ [])
+      (put_byte 0 q i) h.top (h.low i l))
 
   ends_pass : (signed : Bool) → 1 ≤ k → list_all t (ends_code signed q k) ≡ true
   ends_pass true l =
-      both t (chain (end_byte q) (k - 1)) (top_byte q (k - 1)) (chain_passes t (end_byte q) (k - 1) (λ i x. end_passes i (omega arith))) (top_passes (k - 1) (omega arith))
+      both t (chain (end_byte q) (k - 1)) (top_byte q (k - 1)) (chain_passes t (end_byte q) (k - 1) (λ i x. end_passes i (omega arith)))
+      (top_passes (k - 1) (omega arith))
   ends_pass false l = chain_passes t (end_byte q) k end_passes
 
   wanted_passes : (signed : Bool) → 1 ≤ k → may_pass signed n k ≡ true → list_all t (wanted_code signed p k) ≡ true
@@ -91,7 +95,8 @@ module _ (t : AsmItem → Bool) (p q : Location) (n k : ℕ) (h : Passes t p q n
   clamp_passes : (to : Format) (mode : Mode) → 1 ≤ n → 1 ≤ k → list_all t (clamp_code to mode p q n k) ≡ true
   clamp_passes to mode l m =
       let test = mode.saturate && may_pass to.signed n k in
-      both t (extended_code p q n k) (saturate_if test to.signed p q n k) (extended_passes l) (if_passes mode.saturate to.signed test refl m)
+      both t (extended_code p q n k) (saturate_if test to.signed p q n k) (extended_passes l)
+      (if_passes mode.saturate to.signed test refl m)
 
 -- ---- fields
 
@@ -179,11 +184,13 @@ passes_plain t p q n k h = record {
 pub clamps_use_no_label : ClampsUseNoLabel
 clamps_use_no_label items to mode p q n k some many =
     let t = λ (item : AsmItem). is_placed items (used_label item) in
-    clamp_passes t p q n k (passes_plain t p q n k (record { plain = λ i. refl; load = λ d o j. refl; store = λ o j r. refl })) to mode some many
+    clamp_passes t p q n k
+    (passes_plain t p q n k (record { plain = λ i. refl; load = λ d o j. refl; store = λ o j r. refl })) to mode some many
 
 pub clamps_place_no_label : ClampsPlaceNoLabel
 clamps_place_no_label to mode p q n k l some many =
     let number = λ (item : AsmItem). cond (is_label l item) 1 0 in
     let t = λ (item : AsmItem). number item == 0 in
-    let none = clamp_passes t p q n k (passes_plain t p q n k (record { plain = λ i. refl; load = λ d o j. refl; store = λ o j r. refl })) to mode some many in
+    let none = clamp_passes t p q n k
+    (passes_plain t p q n k (record { plain = λ i. refl; load = λ d o j. refl; store = λ o j r. refl })) to mode some many in
     eqb-true (count_by (is_label l) (clamp_code to mode p q n k)) 0 (sum_by-zero number (clamp_code to mode p q n k) ∙ none)

@@ -19,7 +19,8 @@ use Rattle.ec_fxcode_scales.specs.ScaleLaws.{ScalesAreRight, CutsAreRight}
 use Rattle.ec_fxcode_conversions.specs.Conversions.{scaled_bytes, units_code}
 use Rattle.ec_fxcode_conversions.specs.ConversionLaws.{conversion_words, ConversionsAreRight}
 use Rattle.ec_fxcode_conversions.proofs.Numbers.{operand_step, format_step, scale_between, units_reduced}
-use Rattle.ec_fxcode_conversions.proofs.Runs.{IsInside, from_brings, from_clamps, computed, told, above_all, clear_above, part_apart, apart_part}
+use Rattle.ec_fxcode_conversions.proofs.Runs.{IsInside, from_brings, from_clamps, computed, told, above_all, clear_above, part_apart}
+use Rattle.ec_fxcode_conversions.proofs.Runs.{apart_part}
 use Rattle.ec_fxcode_conversions.proofs.Units.{AreUnits, units_run}
 
 -- ---- sizes

@@ -1,11 +1,11 @@
-pub mod Appended
-pub mod Converted
-pub mod Factors
-pub mod Numbers
-pub mod Multiplied
-pub mod Places
-pub mod Runs
-pub mod Units
-pub mod ValidItems
-pub mod Wholes
-pub mod Words
+mod Appended
+mod Converted
+mod Factors
+mod Numbers
+mod Multiplied
+mod Places
+mod Runs
+mod Units
+mod ValidItems
+mod Wholes
+mod Words

@@ -1,5 +1,6 @@
 -- The code multiplies.
-use Rattle.std.proofs.Common.{◌≡◌, ℕ, ◌+◌, ◌-◌, ◌*◌, ◌%◌, ◌^◌, ◌<◌, ◌≤◌, ◌⊎◌, inl, inr, Bool, true, false, ◌||◌, ◌==◌, if◌then◌else◌, refl, sym, ap, ◌∙◌, subst, arith, ℤ, pos, ◌*ℤ◌}
+use Rattle.std.proofs.Common.{◌≡◌, ℕ, ◌+◌, ◌-◌, ◌*◌, ◌%◌, ◌^◌, ◌<◌, ◌≤◌, ◌⊎◌, inl, inr, Bool, true, false, ◌||◌, ◌==◌, if◌then◌else◌, refl}
+use Rattle.std.proofs.Common.{sym, ap, ◌∙◌, subst, arith, ℤ, pos, ◌*ℤ◌}
 use Rattle.std.specs.Prelude.{nat_lt}
 use Rattle.std.proofs.lemmas.Bool.{eqb-true}
 use Rattle.ec_fx.specs.declared.formats.Format.{Format}
@@ -28,7 +29,8 @@ use Rattle.ec_fxcode_conversions.specs.Products.{exact_code}
 use Rattle.ec_fxcode_conversions.specs.ProductLaws.{AreFactors, product_words, ProductsAreRight}
 use Rattle.ec_fxcode_conversions.proofs.Factors.{product_number}
 use Rattle.ec_fxcode_conversions.proofs.Numbers.{IsStep, operand_step, step_scale, times_one}
-use Rattle.ec_fxcode_conversions.proofs.Runs.{IsInside, from_brings, from_clamps, from_leads, computed, told, above_all, clear_above, part_apart}
+use Rattle.ec_fxcode_conversions.proofs.Runs.{IsInside, from_brings, from_clamps, from_leads, computed, told, above_all, clear_above}
+use Rattle.ec_fxcode_conversions.proofs.Runs.{part_apart}
 use Rattle.ec_fxcode_conversions.proofs.Units.{AreUnits, units_run}
 
 -- ---- formats

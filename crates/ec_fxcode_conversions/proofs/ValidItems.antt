@@ -1,5 +1,6 @@
 -- The items of the code are valid, and have no labels.
-use Rattle.std.proofs.Common.{◌≡◌, ℕ, zero, suc, ◌+◌, ◌-◌, ◌<◌, ◌≤◌, ◌==◌, inl, Bool, true, false, ◌||◌, List, [], ◌∷◌, ◌++◌, refl, ◌∙◌, subst, arith}
+use Rattle.std.proofs.Common.{◌≡◌, ℕ, zero, suc, ◌+◌, ◌-◌, ◌<◌, ◌≤◌, ◌==◌, inl, Bool, true, false, ◌||◌, List, [], ◌∷◌, ◌++◌, refl, ◌∙◌}
+use Rattle.std.proofs.Common.{subst, arith}
 use Rattle.std.specs.Prelude.{nat_lt, count_by, cond}
 use Rattle.std.specs.List.{list_all}
 use Rattle.std.proofs.lemmas.Bool.{lt-ltb, eqb-true}
@@ -12,17 +13,20 @@ use Rattle.ec_asm.specs.declared.pieces.Location.{Location}
 use Rattle.ec_asm.specs.declared.pieces.Location.TheVariants.{InRegisters, InMemory}
 use Rattle.ec_asm.specs.Pieces.{copy_byte, copy_code}
 use Rattle.ec_asm.specs.Valid.{Sizes, is_offset, is_valid_item, used_label, is_label, is_placed}
-use Rattle.ec_select_products.specs.Products.{put_byte, less_code, factors_code, corrected_code, multiply_code as bytes_code, puts_code, product_code}
+use Rattle.ec_select_products.specs.Products.{put_byte, less_code, factors_code, corrected_code, multiply_code as bytes_code, puts_code}
+use Rattle.ec_select_products.specs.Products.{product_code}
 use Rattle.ec_fxcode.specs.Clamps.{clamp_code}
 use Rattle.ec_fxcode.specs.ClampLaws.{HasPlaces, ClampsAreValid, ClampsUseNoLabel, ClampsPlaceNoLabel}
 use Rattle.ec_fxcode.proofs.ValidItems.{both, chain_passes, copy_valid, put_valid}
 use Rattle.ec_fxcode_shifts.proofs.ValidItems.{part_places, PassesPlain}
 use Rattle.ec_fxcode_quotients.specs.Quotients.{further}
 use Rattle.ec_fxcode_scales.specs.Scales.{scale_code}
-use Rattle.ec_fxcode_scales.specs.ScaleLaws.{IsScale, ScalesAreValid, ScalesUseNoLabel, ScalesPlaceNoLabel, CutsAreValid, CutsUseNoLabel, CutsPlaceNoLabel}
+use Rattle.ec_fxcode_scales.specs.ScaleLaws.{IsScale, ScalesAreValid, ScalesUseNoLabel, ScalesPlaceNoLabel, CutsAreValid, CutsUseNoLabel}
+use Rattle.ec_fxcode_scales.specs.ScaleLaws.{CutsPlaceNoLabel}
 use Rattle.ec_fxcode_conversions.specs.Conversions.{scaled_bytes, cut_some, units_code, container, wrapping}
 use Rattle.ec_fxcode_conversions.specs.Products.{exact_code}
-use Rattle.ec_fxcode_conversions.specs.ConversionLaws.{ConversionsAreValid, WholesAreValid, ConversionsUseNoLabel, ConversionsPlaceNoLabel, WholesUseNoLabel, WholesPlaceNoLabel}
+use Rattle.ec_fxcode_conversions.specs.ConversionLaws.{ConversionsAreValid, WholesAreValid, ConversionsUseNoLabel, ConversionsPlaceNoLabel}
+use Rattle.ec_fxcode_conversions.specs.ConversionLaws.{WholesUseNoLabel, WholesPlaceNoLabel}
 use Rattle.ec_fxcode_conversions.specs.ProductLaws.{ProductsAreValid, ProductsUseNoLabel, ProductsPlaceNoLabel}
 use Rattle.ec_fxcode_conversions.proofs.Converted.{roomy}
 use Rattle.ec_fxcode_conversions.proofs.Numbers.{operand_step, format_step, scale_between}

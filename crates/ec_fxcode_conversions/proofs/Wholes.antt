@@ -1,5 +1,6 @@
 -- The code converts into integers.
-use Rattle.std.proofs.Common.{◌≡◌, ℕ, zero, suc, ◌+◌, ◌*◌, ◌^◌, ◌≤◌, max, inl, inr, Bool, true, false, if◌then◌else◌, ◌||◌, refl, ap, ◌∙◌, subst, arith, ℤ, pos, ◌*ℤ◌, int_lt, Some, None}
+use Rattle.std.proofs.Common.{◌≡◌, ℕ, zero, suc, ◌+◌, ◌*◌, ◌^◌, ◌≤◌, max, inl, inr, Bool, true, false, if◌then◌else◌, ◌||◌, refl, ap, ◌∙◌}
+use Rattle.std.proofs.Common.{subst, arith, ℤ, pos, ◌*ℤ◌, int_lt, Some, None}
 use Rattle.ec_fx.specs.declared.formats.Format.{Format}
 use Rattle.ec_fx.specs.declared.numbers.Mode.{Mode}
 use Rattle.ec_fx.specs.declared.numbers.Fx.TheVariants.{Got}

@@ -1,5 +1,6 @@
 -- The words of the code.
-use Rattle.std.proofs.Common.{◌≡◌, ℕ, zero, suc, ◌+◌, ◌-◌, ◌*◌, ◌%◌, ◌≤◌, ◌<◌, ◌==◌, ⊎_elim, inl, inr, [], Bool, true, false, ◌||◌, if◌then◌else◌, refl, arith}
+use Rattle.std.proofs.Common.{◌≡◌, ℕ, zero, suc, ◌+◌, ◌-◌, ◌*◌, ◌%◌, ◌≤◌, ◌<◌, ◌==◌, ⊎_elim, inl, inr, [], Bool, true, false, ◌||◌}
+use Rattle.std.proofs.Common.{if◌then◌else◌, refl, arith}
 use Rattle.std.proofs.lemmas.Bool.{cases_lt}
 use Rattle.std.proofs.lemmas.List.Sums.{sum_by-append}
 use Rattle.ec_fx.specs.Conversions.{IsIntegerWidth}

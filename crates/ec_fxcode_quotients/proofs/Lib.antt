@@ -1,12 +1,14 @@
+-- For the crates of the family.
 pub mod Begun
-pub mod Loop
-pub mod Number
-pub mod Ready
 pub mod Rows
 pub mod Signs
 pub mod Sizes
-pub mod Start
-pub mod Steps
 pub mod ValidItems
-pub mod Whole
-pub mod Words
+-- For this crate alone.
+mod Loop
+mod Number
+mod Ready
+mod Start
+mod Steps
+mod Whole
+mod Words

@@ -1,5 +1,6 @@
 -- The loop of a division.
-use Rattle.std.proofs.Common.{◌≡◌, ◌≢◌, ℕ, zero, suc, ◌+◌, ◌-◌, ◌*◌, ◌/◌, ◌%◌, ◌^◌, ◌<◌, ◌≤◌, ⊎_elim, false, pos, negsuc, refl, sym, ap, ◌∙◌, subst, arith, Some, ltb-true, ◌∷◌, [], ◌++◌}
+use Rattle.std.proofs.Common.{◌≡◌, ◌≢◌, ℕ, zero, suc, ◌+◌, ◌-◌, ◌*◌, ◌/◌, ◌%◌, ◌^◌, ◌<◌, ◌≤◌, ⊎_elim, false, pos, negsuc, refl, sym, ap}
+use Rattle.std.proofs.Common.{◌∙◌, subst, arith, Some, ltb-true, ◌∷◌, [], ◌++◌}
 use Rattle.std.specs.Prelude.{nat_lt}
 use Rattle.std.specs.Int.{from_bool}
 use Rattle.std.proofs.lemmas.Bool.{cases_Bool, cases_eq}
@@ -17,10 +18,11 @@ use Rattle.ec_asm.specs.PieceLaws.{HoldsNumbers}
 use Rattle.ec_asm.specs.Takes.{Goes}
 use Rattle.ec_asm.proofs.Bytes.{put_here, put_other}
 use Rattle.ec_asm.proofs.Hoare.{has_parts, block_goes, goes_on_to, one_goes}
+use Rattle.ec_asm.proofs.ItemWords.{straight_ends}
 use Rattle.ec_asm.proofs.Sum.{value-same}
-use Rattle.ec_select_quotients.proofs.Words.{straight_ends}
 use Rattle.ec_select_quotients.proofs.Long.{Long, begun, not_taken, taken}
-use Rattle.ec_fxcode_quotients.specs.Quotients.{remainder_at, number_at, bring_code, bring_words, take_code, take_words, skip_code, turn_code, turn_words, turns_code}
+use Rattle.ec_fxcode_quotients.specs.Quotients.{remainder_at, number_at, bring_code, bring_words, take_code, take_words, skip_code}
+use Rattle.ec_fxcode_quotients.specs.Quotients.{turn_code, turn_words, turns_code}
 use Rattle.ec_fxcode_quotients.proofs.Rows.{AreRows, brings, takes}
 use Rattle.ec_fxcode_quotients.proofs.Words.{bring_straight, bring_steps, bring_has_words, take_straight, take_steps, take_has_words}
 
@@ -47,7 +49,13 @@ pub record After (X D b n jd jr jx : ℕ) (v0 : View) (i : ℕ) (v : View) : Typ
   pub safe : v.safe ≡ v0.safe
   pub seen : v.seen ≡ v0.seen
 
-module _ (e : Env) (w : Location) (b n X D jd jr jx : ℕ) (sd : StandsFrom e w (suc b) jd Own) (sr : StandsFrom e (remainder_at w b) (suc b) jr Own) (sx : StandsFrom e (number_at w b) (suc n) jx Own) (rows : AreRows jd jr jx b) (under : D < 256 ^ b) (start skip jump take count test back end : ℕ) (bring : HasAt e (bring_code w (remainder_at w b) (number_at w b) (suc b) (suc n)) start skip) (branch : At e (Brbc 0 (pos 1)) skip jump) (over : At e (Rjmp (pos (take_words w (suc b)))) jump take) (taking : HasAt e (take_code w (remainder_at w b) (number_at w b) (suc b)) take count) (dec : At e (Dec 30) count test) (ends : At e (Brbs 2 (pos 1)) test back) (again : At e (Rjmp (negsuc (turn_words w b (suc n) + 2))) back end) where
+module _ (e : Env) (w : Location) (b n X D jd jr jx : ℕ) (sd : StandsFrom e w (suc b) jd Own)
+    (sr : StandsFrom e (remainder_at w b) (suc b) jr Own) (sx : StandsFrom e (number_at w b) (suc n) jx Own)
+    (rows : AreRows jd jr jx b) (under : D < 256 ^ b) (start skip jump take count test back end : ℕ)
+    (bring : HasAt e (bring_code w (remainder_at w b) (number_at w b) (suc b) (suc n)) start skip)
+    (branch : At e (Brbc 0 (pos 1)) skip jump) (over : At e (Rjmp (pos (take_words w (suc b)))) jump take)
+    (taking : HasAt e (take_code w (remainder_at w b) (number_at w b) (suc b)) take count) (dec : At e (Dec 30) count test)
+    (ends : At e (Brbs 2 (pos 1)) test back) (again : At e (Rjmp (negsuc (turn_words w b (suc n) + 2))) back end) where
   abbrev Holds : View → ℕ → View → Type 0
   Holds v0 i v = After X D b n jd jr jx v0 i v
 
@@ -58,10 +66,12 @@ module _ (e : Env) (w : Location) (b n X D jd jr jx : ℕ) (sd : StandsFrom e w 
   most = 4 * suc n + 10 * suc b + 5
 
   skip_ends : skip ≡ start + bring_words w (suc b) (suc n)
-  skip_ends = straight_ends e (bring_code w (remainder_at w b) (number_at w b) (suc b) (suc n)) start skip (bring_straight w (remainder_at w b) (number_at w b) (suc b) (suc n)) bring ∙ ap (λ k. start + k) (bring_has_words w b (suc n))
+  skip_ends = straight_ends e (bring_code w (remainder_at w b) (number_at w b) (suc b) (suc n)) start skip
+      (bring_straight w (remainder_at w b) (number_at w b) (suc b) (suc n)) bring ∙ ap (λ k. start + k) (bring_has_words w b (suc n))
 
   take_ends : count ≡ take + take_words w (suc b)
-  take_ends = straight_ends e (take_code w (remainder_at w b) (number_at w b) (suc b)) take count (take_straight w (remainder_at w b) (number_at w b) (suc b)) taking ∙ ap (λ k. take + k) (take_has_words w b)
+  take_ends = straight_ends e (take_code w (remainder_at w b) (number_at w b) (suc b)) take count
+      (take_straight w (remainder_at w b) (number_at w b) (suc b)) taking ∙ ap (λ k. take + k) (take_has_words w b)
 
   -- the taking is passed over where the remainder is less
   skips : (v : View) → v.flags.c ≡ 1 → Goes e 2 skip v count v
@@ -147,8 +157,10 @@ module _ (e : Env) (w : Location) (b n X D jd jr jx : ℕ) (sd : StandsFrom e w 
       let o = brings e w r x b n jd jr jx v sd sr sx rows h.numbers in
       let go1 = block_goes e (bring_code w r x m (suc n)) start skip v (bring_straight w r x m (suc n)) bring in
       let take1 = bring_steps w r x m (suc n) in
-      let divisor1 : value v1.at jd m ≡ D = value-same v1.at v.at jd m (λ j l. o.same (jd + j) (omega arith) (omega arith) (λ z. absurd (omega arith)) (λ z. absurd (omega arith))) ∙ h.divisor in
-      let flag : v1.flags.c ≡ from_bool (nat_lt (value v1.at jr m) D) = o.carry ∙ ap (λ z. from_bool (nat_lt (value v1.at jr m) z)) h.divisor in
+      let divisor1 : value v1.at jd m ≡ D = value-same v1.at v.at jd m
+      (λ j l. o.same (jd + j) (omega arith) (omega arith) (λ z. absurd (omega arith)) (λ z. absurd (omega arith))) ∙ h.divisor in
+      let flag : v1.flags.c ≡ from_bool (nat_lt (value v1.at jr m) D) =
+      o.carry ∙ ap (λ z. from_bool (nat_lt (value v1.at jr m) z)) h.divisor in
       let left1 : v1.at 30 ≡ v.at 30 = o.same 30 (omega arith) (omega arith) (λ z. absurd (omega arith)) (λ z. absurd (omega arith)) in
       let rest1 = λ (some : 1 ≤ D). whole_rest (value v.at jr m) o.bit o.over (value v1.at jr m) o.small (h.long some).less o.rest in
       ⊎_elim
@@ -161,7 +173,8 @@ module _ (e : Env) (w : Location) (b n X D jd jr jx : ℕ) (sd : StandsFrom e w 
         last = v1;
         goes = goes_on_to e (code_steps (bring_code w r x m (suc n))) 2 start skip count v v1 v1 go1 (skips v1 carry);
         after = record {
-          long = λ some. not_taken X D (256 ^ suc n) (value v.at jr m) (value v.at jx (suc n)) i o.bit (value v1.at jr m) (value v1.at jx (suc n)) (h.long some) o.twice (rest1 some) is_less;
+          long = λ some. not_taken X D (256 ^ suc n) (value v.at jr m) (value v.at jx (suc n)) i o.bit (value v1.at jr m)
+              (value v1.at jx (suc n)) (h.long some) o.twice (rest1 some) is_less;
           divisor = divisor1;
           numbers = o.numbers;
           same = λ k y z s f g. o.same k y z f g ∙ h.same k y z s f g;
@@ -175,7 +188,8 @@ module _ (e : Env) (w : Location) (b n X D jd jr jx : ℕ) (sd : StandsFrom e w 
       let not_less : D ≤ value v1.at jr m = not_below (value v1.at jr m) D t in
       let carry : v1.flags.c ≡ 0 = flag ∙ ap from_bool t in
       let v2 = block e (take_code w r x m) v1 in
-      let even : value v1.at jx (suc n) % 2 ≡ 0 = is_even (value v1.at jx (suc n)) o.bit (128 * 256 ^ n) (value v.at jx (suc n)) (subst (λ z. value v1.at jx (suc n) + o.bit * z ≡ value v.at jx (suc n) + value v.at jx (suc n)) even_power o.twice) in
+      let even : value v1.at jx (suc n) % 2 ≡ 0 = is_even (value v1.at jx (suc n)) o.bit (128 * 256 ^ n) (value v.at jx (suc n))
+      (subst (λ z. value v1.at jx (suc n) + o.bit * z ≡ value v.at jx (suc n) + value v.at jx (suc n)) even_power o.twice) in
       let k = takes e w r x b n jd jr jx v1 sd sr sx rows o.numbers (subst (λ z. z ≤ value v1.at jr m) (sym divisor1) not_less) even in
       let go3 = block_goes e (take_code w r x m) take count v1 (take_straight w r x m) taking in
       let take2 = take_steps w r x m in
@@ -184,10 +198,13 @@ module _ (e : Env) (w : Location) (b n X D jd jr jx : ℕ) (sd : StandsFrom e w 
         steps = code_steps (bring_code w r x m (suc n)) + 1 + code_steps (take_code w r x m);
         at_most = omega (arith, take1, take2);
         last = v2;
-        goes = goes_on_to e (code_steps (bring_code w r x m (suc n)) + 1) (code_steps (take_code w r x m)) start take count v v1 v2 (goes_on_to e (code_steps (bring_code w r x m (suc n))) 1 start skip take v v1 v1 go1 (stays v1 carry)) go3;
+        goes = goes_on_to e (code_steps (bring_code w r x m (suc n)) + 1) (code_steps (take_code w r x m)) start take count v v1 v2
+            (goes_on_to e (code_steps (bring_code w r x m (suc n))) 1 start skip take v v1 v1 go1 (stays v1 carry)) go3;
         after = record {
-          long = λ some. taken X D (256 ^ suc n) (value v.at jr m) (value v.at jx (suc n)) i o.bit (value v1.at jr m) (value v1.at jx (suc n)) (value v2.at jr m) (value v2.at jx (suc n)) (h.long some) o.twice (rest1 some) o.small rest3 k.number;
-          divisor = value-same v2.at v1.at jd m (λ j l. k.same (jd + j) (omega arith) (omega arith) (λ z. absurd (omega arith)) (λ z. absurd (omega arith))) ∙ divisor1;
+          long = λ some. taken X D (256 ^ suc n) (value v.at jr m) (value v.at jx (suc n)) i o.bit (value v1.at jr m) (value v1.at jx
+              (suc n)) (value v2.at jr m) (value v2.at jx (suc n)) (h.long some) o.twice (rest1 some) o.small rest3 k.number;
+          divisor = value-same v2.at v1.at jd m
+              (λ j l. k.same (jd + j) (omega arith) (omega arith) (λ z. absurd (omega arith)) (λ z. absurd (omega arith))) ∙ divisor1;
           numbers = k.numbers;
           same = λ j y z s f g. k.same j y z f g ∙ o.same j y z f g ∙ h.same j y z s f g;
           inputs = k.inputs ∙ o.inputs ∙ h.inputs;
@@ -210,9 +227,11 @@ module _ (e : Env) (w : Location) (b n X D jd jr jx : ℕ) (sd : StandsFrom e w 
       let rest : value u.at jr m ≡ value v.at jr m = value-same u.at v.at jr m (λ j l. other (jr + j) (omega arith)) in
       let number : value u.at jx (suc n) ≡ value v.at jx (suc n) = value-same u.at v.at jx (suc n) (λ j l. other (jx + j) (omega arith)) in
       record {
-        long = λ some. subst (λ z. Long X D (256 ^ suc n) z (value u.at jx (suc n)) i) (sym rest) (subst (λ z. Long X D (256 ^ suc n) (value v.at jr m) z i) (sym number) (h.long some));
+        long = λ some. subst (λ z. Long X D (256 ^ suc n) z (value u.at jx (suc n)) i) (sym rest)
+            (subst (λ z. Long X D (256 ^ suc n) (value v.at jr m) z i) (sym number) (h.long some));
         divisor = value-same u.at v.at jd m (λ j l. other (jd + j) (omega arith)) ∙ h.divisor;
-        numbers = λ k l. ⊎_elim (λ (q : k ≡ 30). rw (put_here v.at 30 ((v.at 30 + 255) % 256) k q) (omega arith)) (λ (q : k ≢ 30). rw (other k q) (h.numbers k l)) (cases_eq k 30);
+        numbers = λ k l. ⊎_elim (λ (q : k ≡ 30). rw (put_here v.at 30 ((v.at 30 + 255) % 256) k q) (omega arith))
+            (λ (q : k ≢ 30). rw (other k q) (h.numbers k l)) (cases_eq k 30);
         same = λ k y z q f g. other k q ∙ h.same k y z q f g;
         inputs = h.inputs;
         safe = h.safe;
@@ -292,9 +311,11 @@ runs e w b n X D jd jr jx T pc end v sd sr sx rows under divisor rest number lef
     let test = dec.2 in
     let back = test.2 in
     let last : back.0 ≡ end = sym back.2 in
-    let again : At e (Rjmp (negsuc (turn_words w b (suc n) + 2))) test.0 end = subst (λ i. At e (Rjmp (negsuc (turn_words w b (suc n) + 2))) test.0 i) last back.1 in
+    let again : At e (Rjmp (negsuc (turn_words w b (suc n) + 2))) test.0 end =
+    subst (λ i. At e (Rjmp (negsuc (turn_words w b (suc n) + 2))) test.0 i) last back.1 in
     let begin : After X D b n jd jr jx v 0 v = record {
-      long = λ some. subst (λ z. Long X D (256 ^ suc n) (value v.at jr m) z 0) (sym number) (begun X D (256 ^ suc n) (value v.at jr m) some rest);
+      long = λ some.
+          subst (λ z. Long X D (256 ^ suc n) (value v.at jr m) z 0) (sym number) (begun X D (256 ^ suc n) (value v.at jr m) some rest);
       divisor = divisor;
       numbers = h;
       same = λ k y z s f g. refl;
@@ -302,14 +323,17 @@ runs e w b n X D jd jr jx T pc end v sd sr sx rows under divisor rest number lef
       safe = refl;
       seen = refl;
     } in
-    let l = loop e w b n X D jd jr jx sd sr sx rows under start skip branch.0 over.0 count dec.0 test.0 end inner.1 branch.1 over.1 over.2 dec.1 test.1 again T v 0 v begin left small in
+    let l = loop e w b n X D jd jr jx sd sr sx rows under start skip branch.0 over.0 count dec.0 test.0 end inner.1 branch.1 over.1 over.2
+    dec.1 test.1 again T v 0 v begin left small in
     let a1 = stands.1.ends in
     let b1 = dec.1.ends in
     let b2 = dec.1.room in
     let c1 = branch.1.ends in
     let c2 = over.1.ends in
-    let d1 = skip_ends e w b n X D jd jr jx sd sr sx rows under start skip branch.0 over.0 count dec.0 test.0 end inner.1 branch.1 over.1 over.2 dec.1 test.1 again in
-    let d2 = take_ends e w b n X D jd jr jx sd sr sx rows under start skip branch.0 over.0 count dec.0 test.0 end inner.1 branch.1 over.1 over.2 dec.1 test.1 again in
+    let d1 = skip_ends e w b n X D jd jr jx sd sr sx rows under start skip branch.0 over.0 count dec.0 test.0 end inner.1 branch.1 over.1
+    over.2 dec.1 test.1 again in
+    let d2 = take_ends e w b n X D jd jr jx sd sr sx rows under start skip branch.0 over.0 count dec.0 test.0 end inner.1 branch.1 over.1
+    over.2 dec.1 test.1 again in
     let to : (pc + 1 + turn_words w b (suc n)) % 65536 ≡ count = omega (arith, a1, b1, b2, c1, c2, d1, d2) in
     let goes : Goes e 1 pc v count v = record { by = ap (λ i. act e i pc v) stands.1.is ∙ ap (λ k. Running k v) to } in
     let most = l.at_most in

@@ -56,13 +56,17 @@ scaled_up A D a z n m up down T rest Y en et le em lm ly h =
     let right : A * 256 ^ z * 2 ^ T ≡ A * 2 ^ s * P = rw (pw, pn) (omega arith) in
     let fit : 2 * 2 ^ T ≤ 256 ^ m = rw em (twice_below T) in
     let wide = more_bytes m n lm in
-    let whole : rest * P + Y + Q * (D * P) ≡ A * 2 ^ s * P + (0 * P + Q) = (let z : rest * P + Y + Q * (D * P) ≡ A * 2 ^ s * P + Q = h.whole ∙ ap (λ t. t + Q) right in omega (arith, z)) in
+    let whole : rest * P + Y + Q * (D * P) ≡ A * 2 ^ s * P + (0 * P + Q) =
+    (let z : rest * P + Y + Q * (D * P) ≡ A * 2 ^ s * P + Q = h.whole ∙ ap (λ t. t + Q) right in omega (arith, z)) in
     let big : 1 * 256 ^ m ≡ 256 ^ m = omega arith in
     let split : P ≡ 256 ^ (n - m) * 256 ^ m = (let e : n ≡ (n - m) + m = omega arith in ap (λ t. 256 ^ t) e ∙ pow-add 256 (n - m) m) in
-    let r = low_quotient P D rest Y Q (A * 2 ^ s) 0 P (256 ^ (n - m)) (256 ^ m) whole ly (omega (arith, below, fit, wide)) less (omega (arith, below, fit)) split in
+    let r = low_quotient P D rest Y Q (A * 2 ^ s) 0 P (256 ^ (n - m)) (256 ^ m) whole ly (omega (arith, below, fit, wide)) less
+    (omega (arith, below, fit)) split in
     let back : up ≡ s + down = omega arith in
-    let num : A * 2 ^ up ≡ A * 2 ^ s * 2 ^ down = (let e : 2 ^ up ≡ 2 ^ s * 2 ^ down = ap (λ t. 2 ^ t) back ∙ pow-add 2 s down in rw e (omega arith)) in
-    let q : A * 2 ^ up / (D * 2 ^ down) ≡ A * 2 ^ s / D = ap (λ t. t / (D * 2 ^ down)) num ∙ mul-div-mul_right (A * 2 ^ s) D (pow_pos down) in
+    let num : A * 2 ^ up ≡ A * 2 ^ s * 2 ^ down =
+    (let e : 2 ^ up ≡ 2 ^ s * 2 ^ down = ap (λ t. 2 ^ t) back ∙ pow-add 2 s down in rw e (omega arith)) in
+    let q : A * 2 ^ up / (D * 2 ^ down) ≡ A * 2 ^ s / D =
+    ap (λ t. t / (D * 2 ^ down)) num ∙ mul-div-mul_right (A * 2 ^ s) D (pow_pos down) in
     let is : Q ≡ A * 2 ^ up / (D * 2 ^ down) = r.1 ∙ sym q in
     (r.0 ∙ is, subst (λ t. t < 2 ^ T) is below)
 
@@ -103,8 +107,12 @@ scaled_down A D a z n m up down T rest Y en et lt em la ly some h =
     let lo = A % S in
     let parts = div-add-mod' A S in
     let lo_small = mod_below A S one in
-    let right : A * 256 ^ z * 2 ^ T ≡ hi * P + lo * K = (let e : A * K ≡ (hi * S + lo) * K = ap (λ t. t * K) (sym parts) in let f : A * 256 ^ z * 2 ^ T ≡ A * K = rw pk (omega arith) in let g : hi * P ≡ hi * (K * S) = ap (λ t. hi * t) PK in omega (arith, e, f, g)) in
-    let whole : rest * P + Y + Q * (D * P) ≡ hi * P + (lo * K + Q) = (let e : rest * P + Y + Q * (D * P) ≡ hi * P + lo * K + Q = h.whole ∙ ap (λ t. t + Q) right in omega (arith, e)) in
+    let right : A * 256 ^ z * 2 ^ T ≡ hi * P + lo * K = (let e : A * K ≡ (hi * S + lo) * K = ap (λ t. t * K) (sym parts) in
+    let f : A * 256 ^ z * 2 ^ T ≡ A * K = rw pk (omega arith) in
+    let g : hi * P ≡ hi * (K * S) = ap (λ t. hi * t) PK in
+    omega (arith, e, f, g)) in
+    let whole : rest * P + Y + Q * (D * P) ≡ hi * P + (lo * K + Q) =
+    (let e : rest * P + Y + Q * (D * P) ≡ hi * P + lo * K + Q = h.whole ∙ ap (λ t. t + Q) right in omega (arith, e)) in
     let zk : 1 * 2 ^ T ≤ 256 ^ z * 2 ^ T = mul-le 1 (2 ^ T) (256 ^ z) (2 ^ T) (more_bytes 0 z (omega arith)) (omega arith) in
     let tk : 2 ^ T ≤ K = rw pk (omega (arith, zk)) in
     let room : suc lo * K ≤ S * K = mul-le (suc lo) K S K lo_small (omega arith) in
@@ -112,10 +120,13 @@ scaled_down A D a z n m up down T rest Y en et lt em la ly some h =
     let km : 8 * z + T ≡ 8 * m + (8 * z + T - 8 * m) = omega (arith, em, en, la) in
     let J = 2 ^ (8 * z + T - 8 * m) in
     let split : K ≡ J * 256 ^ m = ap (λ t. 2 ^ t) km ∙ power_of m (8 * z + T - 8 * m) ∙ omega arith in
-    let r = low_quotient P D rest Y Q hi lo K J (256 ^ m) whole ly (omega (arith, below, tk, room, PK)) less (omega (arith, below, fit)) split in
+    let r =
+    low_quotient P D rest Y Q hi lo K J (256 ^ m) whole ly (omega (arith, below, tk, room, PK)) less (omega (arith, below, fit)) split in
     let back : down ≡ s + up = omega arith in
-    let den : D * 2 ^ down ≡ D * S * 2 ^ up = (let e : 2 ^ down ≡ S * 2 ^ up = ap (λ t. 2 ^ t) back ∙ pow-add 2 s up in rw e (omega arith)) in
-    let q : A * 2 ^ up / (D * 2 ^ down) ≡ hi / D = ap (λ t. A * 2 ^ up / t) den ∙ mul-div-mul_right A (D * S) (pow_pos up) ∙ div_twice A S D one some in
+    let den : D * 2 ^ down ≡ D * S * 2 ^ up =
+    (let e : 2 ^ down ≡ S * 2 ^ up = ap (λ t. 2 ^ t) back ∙ pow-add 2 s up in rw e (omega arith)) in
+    let q : A * 2 ^ up / (D * 2 ^ down) ≡ hi / D =
+    ap (λ t. A * 2 ^ up / t) den ∙ mul-div-mul_right A (D * S) (pow_pos up) ∙ div_twice A S D one some in
     let is : Q ≡ A * 2 ^ up / (D * 2 ^ down) = r.1 ∙ sym q in
     (r.0 ∙ is, subst (λ t. t < 2 ^ T) is below)
 

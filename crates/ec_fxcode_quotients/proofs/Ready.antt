@@ -44,14 +44,17 @@ cleared e w b z s v l high st h =
     let clear : IsClearOfEnds s n = record { below = λ x. absurd (omega arith); above = λ x. high } in
     let f = fills e w n s b 0 v1 (part_stands e w 40 n s l st) clear at31 in
     let u = block e (fills_code w b n) v1 in
-    let h1 : HoldsNumbers v1 = λ k m. ⊎_elim (λ (q : k ≡ 31). rw (q, at31) (omega arith)) (λ (q : k ≢ 31). rw (put_other v.at 31 _ k q) (h k m)) (cases_eq k 31) in
-    let at30 : u.at 30 < 256 = (let q : u.at 30 ≡ v1.at 30 = f.keeps.same 30 (omega arith) (omega arith) (λ x. absurd (omega arith)) in rw q (h1 30 (omega arith))) in
+    let h1 : HoldsNumbers v1 =
+    λ k m. ⊎_elim (λ (q : k ≡ 31). rw (q, at31) (omega arith)) (λ (q : k ≢ 31). rw (put_other v.at 31 _ k q) (h k m)) (cases_eq k 31) in
+    let at30 : u.at 30 < 256 =
+    (let q : u.at 30 ≡ v1.at 30 = f.keeps.same 30 (omega arith) (omega arith) (λ x. absurd (omega arith)) in rw q (h1 30 (omega arith))) in
     let there31 : u.at 31 < 256 = (let q = f.sign in rw q (omega arith)) in
     record {
       zeros = f.there;
       touches = record {
         same = λ k x y i o r. f.keeps.same k x y r ∙ put_other v.at 31 _ k o;
-        numbers = numbers_after v1 u (s + b) (n - b) h1 (λ k x y i o r. f.keeps.same k x y r) at30 there31 (λ j m. let q = f.there j m in rw q (omega arith));
+        numbers = numbers_after v1 u (s + b) (n - b) h1 (λ k x y i o r. f.keeps.same k x y r) at30 there31
+            (λ j m. let q = f.there j m in rw q (omega arith));
         inputs = f.keeps.inputs;
         safe = f.keeps.safe;
         seen = f.keeps.seen;
@@ -79,11 +82,13 @@ entered e signed p q n a b v sa sb ca high apart h =
     let s = marks e signed p n (a + n) v (sa.at n (omega arith)) (sa.kind n (omega arith)) top in
     let v1 = block e (mark_code signed p m) v in
     let here = s.sign in
-    let h1 : HoldsNumbers v1 = λ k l. ⊎_elim (λ (x : k ≡ 31). rw (x, here) small) (λ (x : k ≢ 31). rw (s.same k (omega arith) x) (h k l)) (cases_eq k 31) in
+    let h1 : HoldsNumbers v1 =
+    λ k l. ⊎_elim (λ (x : k ≡ 31). rw (x, here) small) (λ (x : k ≢ 31). rw (s.same k (omega arith) x) (h k l)) (cases_eq k 31) in
     let cb : IsClearOfEnds b m = record { below = λ x. absurd (omega arith); above = λ x. high } in
     let t = turns e p q m a b byte v1 sa sb apart.first cb h1 here in
     let w = block e (turned_code p q m) v1 in
-    let old : value v1.at a m ≡ value v.at a m = value-same v1.at v.at a m (λ j l. let f = clear_byte a m j ca two l in s.same (a + j) f.0 f.3) in
+    let old : value v1.at a m ≡ value v.at a m =
+    value-same v1.at v.at a m (λ j l. let f = clear_byte a m j ca two l in s.same (a + j) f.0 f.3) in
     let at30 : w.at 30 ≡ v1.at 30 = t.keeps.same 30 (omega arith) (omega arith) (λ x. absurd (omega arith)) in
     let at31 : w.at 31 ≡ byte = t.keeps.same 31 (omega arith) (omega arith) (λ x. absurd (omega arith)) ∙ here in
     let small30 : w.at 30 < 256 = rw at30 (h1 30 (omega arith)) in
@@ -105,10 +110,12 @@ entered e signed p q n a b v sa sb ca high apart h =
     }
 
 -- the sign of the number is kept in R30
-pub moved : (e : Env) (v w : View) (signed : Bool) (a b n : ℕ) → 32 ≤ b → Enters v w signed a b n → Touches v (change e (Mov 30 31) w) b (suc n)
+pub moved : (e : Env) (v w : View) (signed : Bool) (a b n : ℕ) → 32 ≤ b → Enters v w signed a b n
+    → Touches v (change e (Mov 30 31) w) b (suc n)
 moved e v w signed a b n high h = record {
   same = λ k x y i o r. put_other w.at 30 _ k i ∙ h.touches.same k x y i o r;
-  numbers = λ k l. ⊎_elim (λ (x : k ≡ 30). rw (put_here w.at 30 (w.at 31) k x) (h.touches.numbers 31 (omega arith))) (λ (x : k ≢ 30). rw (put_other w.at 30 (w.at 31) k x) (h.touches.numbers k l)) (cases_eq k 30);
+  numbers = λ k l. ⊎_elim (λ (x : k ≡ 30). rw (put_here w.at 30 (w.at 31) k x) (h.touches.numbers 31 (omega arith)))
+      (λ (x : k ≢ 30). rw (put_other w.at 30 (w.at 31) k x) (h.touches.numbers k l)) (cases_eq k 30);
   inputs = h.touches.inputs;
   safe = h.touches.safe;
   seen = h.touches.seen;

@@ -110,7 +110,8 @@ rotate_step e p n a c v0 st h0 i l v h =
     record {
       sum = rw (low, here, carry, pow-suc 256 i) (doubled (value v.at a i) (value v0.at a i) x (256 ^ i) c d h.sum);
       bit = rw carry (omega arith);
-      numbers = λ k u. ⊎_elim (λ (q : k ≡ a + i). subst (λ z. w.at z < 256) (sym q) below) (λ q. rw (o.same k (omega arith) q) (h.numbers k u)) (cases_eq k (a + i));
+      numbers = λ k u. ⊎_elim (λ (q : k ≡ a + i). subst (λ z. w.at z < 256) (sym q) below)
+          (λ q. rw (o.same k (omega arith) q) (h.numbers k u)) (cases_eq k (a + i));
       same = λ k z m. o.same k z (not_here k a i m) ∙ h.same k z (fewer k a i m);
       inputs = o.inputs ∙ h.inputs;
       safe = o.safe ∙ h.safe;
@@ -120,7 +121,8 @@ rotate_step e p n a c v0 st h0 i l v h =
 pub rotates : (e : Env) (p : Location) (n a : ℕ) (v : View) → StandsFrom e p n a Own → HoldsNumbers v → v.flags.c ≤ 1
     → RotatesTo v a v.flags.c n (block e (rotate_code p n) v)
 rotates e p n a v st h bit =
-    chain_holds e (rotate_byte p) (RotatesTo v a v.flags.c) n (λ i l w k. rotate_step e p n a v.flags.c v st h i l w k) v (record { sum = omega arith; bit = bit; numbers = h; same = λ k z o. refl; inputs = refl; safe = refl; seen = refl })
+    chain_holds e (rotate_byte p) (RotatesTo v a v.flags.c) n (λ i l w k. rotate_step e p n a v.flags.c v st h i l w k) v
+    (record { sum = omega arith; bit = bit; numbers = h; same = λ k z o. refl; inputs = refl; safe = refl; seen = refl })
 
 -- ---- the next bit
 
@@ -140,11 +142,13 @@ pub record Brings (v w : View) (jd jr jx b n : ℕ) : Type 0 where
 
 carry_small : (r c p x : ℕ) → r + c * p ≡ x + x → x < p → c ≤ 1
 carry_small r c p x h l =
-    ⊎_elim (λ (q : c < 2). omega arith) (λ (q : 2 ≤ c). let w : 2 * p ≤ c * p = mul-le 2 p c p q (omega arith) in absurd (omega (arith, w, h, l))) (cases_lt c 2)
+    ⊎_elim (λ (q : c < 2). omega arith)
+    (λ (q : 2 ≤ c). let w : 2 * p ≤ c * p = mul-le 2 p c p q (omega arith) in absurd (omega (arith, w, h, l))) (cases_lt c 2)
 
 brought : (e : Env) (d r x : Location) (b n jd jr jx : ℕ) (v : View) → StandsFrom e d (suc b) jd Own
     → StandsFrom e r (suc b) jr Own → StandsFrom e x (suc n) jx Own → AreRows jd jr jx b → HoldsNumbers v
-    → Brings v (block e (compare_code d r (suc b)) (block e (rotate_code r (suc b)) (block e (operate_code Sum x x (suc n)) v))) jd jr jx b n
+    → Brings v
+    (block e (compare_code d r (suc b)) (block e (rotate_code r (suc b)) (block e (operate_code Sum x x (suc n)) v))) jd jr jx b n
 brought e d r x b n jd jr jx v sd sr sx rows h =
     let m = suc b in
     let low = rows.low in
@@ -154,17 +158,23 @@ brought e d r x b n jd jr jx v sd sr sx rows h =
     let v2 = block e (rotate_code r m) v1 in
     let v3 = block e (compare_code d r m) v2 in
     let a = (sums_are_right e x x (suc n) jx jx v sx sx (λ l. absurd (omega arith)) h).0 in
-    let carry : v1.flags.c ≤ 1 = carry_small (value v1.at jx (suc n)) v1.flags.c (256 ^ suc n) (value v.at jx (suc n)) a.sum (value_below v.at jx (suc n) (λ j l. h (jx + j) (omega arith))) in
+    let carry : v1.flags.c ≤ 1 = carry_small (value v1.at jx (suc n)) v1.flags.c (256 ^ suc n) (value v.at jx (suc n)) a.sum
+    (value_below v.at jx (suc n) (λ j l. h (jx + j) (omega arith))) in
     let o = rotates e r m jr v1 sr a.bytes carry in
     let k = comparisons_keep e d r m jd jr v2 sd sr o.numbers in
     let t = comparisons_tell_less e d r b jd jr v2 sd sr o.numbers in
-    let row1 : value v1.at jr m ≡ value v.at jr m = value-same v1.at v.at jr m (λ j l. a.keeps.same (jr + j) (omega arith) (omega arith) (λ z. absurd (omega arith))) in
-    let low1 : value v1.at jd m ≡ value v.at jd m = value-same v1.at v.at jd m (λ j l. a.keeps.same (jd + j) (omega arith) (omega arith) (λ z. absurd (omega arith))) in
-    let low2 : value v2.at jd m ≡ value v1.at jd m = value-same v2.at v1.at jd m (λ j l. o.same (jd + j) (omega arith) (λ z. absurd (omega arith))) in
+    let row1 : value v1.at jr m ≡ value v.at jr m =
+    value-same v1.at v.at jr m (λ j l. a.keeps.same (jr + j) (omega arith) (omega arith) (λ z. absurd (omega arith))) in
+    let low1 : value v1.at jd m ≡ value v.at jd m =
+    value-same v1.at v.at jd m (λ j l. a.keeps.same (jd + j) (omega arith) (omega arith) (λ z. absurd (omega arith))) in
+    let low2 : value v2.at jd m ≡ value v1.at jd m =
+    value-same v2.at v1.at jd m (λ j l. o.same (jd + j) (omega arith) (λ z. absurd (omega arith))) in
     let sum : value v2.at jr m + v2.flags.c * 256 ^ m ≡ 2 * value v.at jr m + v1.flags.c = o.sum ∙ ap (λ z. 2 * z + v1.flags.c) row1 in
     let row3 : value v3.at jr m ≡ value v2.at jr m = value-same v3.at v2.at jr m (λ j l. k.same (jr + j) (omega arith) (omega arith)) in
-    let num2 : value v2.at jx (suc n) ≡ value v1.at jx (suc n) = value-same v2.at v1.at jx (suc n) (λ j l. o.same (jx + j) (omega arith) (λ z. omega arith)) in
-    let num3 : value v3.at jx (suc n) ≡ value v2.at jx (suc n) = value-same v3.at v2.at jx (suc n) (λ j l. k.same (jx + j) (omega arith) (omega arith)) in
+    let num2 : value v2.at jx (suc n) ≡ value v1.at jx (suc n) =
+    value-same v2.at v1.at jx (suc n) (λ j l. o.same (jx + j) (omega arith) (λ z. omega arith)) in
+    let num3 : value v3.at jx (suc n) ≡ value v2.at jx (suc n) =
+    value-same v3.at v2.at jx (suc n) (λ j l. k.same (jx + j) (omega arith) (omega arith)) in
     record {
       bit = v1.flags.c;
       over = v2.flags.c;
@@ -183,7 +193,10 @@ pub brings : (e : Env) (d r x : Location) (b n jd jr jx : ℕ) (v : View) → St
     → StandsFrom e r (suc b) jr Own → StandsFrom e x (suc n) jx Own → AreRows jd jr jx b → HoldsNumbers v
     → Brings v (block e (bring_code d r x (suc b) (suc n)) v) jd jr jx b n
 brings e d r x b n jd jr jx v sd sr sx rows h =
-    rw (block-append e (operate_code Sum x x (suc n)) (rotate_code r (suc b) ++ compare_code d r (suc b)) v, block-append e (rotate_code r (suc b)) (compare_code d r (suc b)) (block e (operate_code Sum x x (suc n)) v)) (brought e d r x b n jd jr jx v sd sr sx rows h)
+    rw (
+      block-append e (operate_code Sum x x (suc n)) (rotate_code r (suc b) ++ compare_code d r (suc b)) v,
+      block-append e (rotate_code r (suc b)) (compare_code d r (suc b)) (block e (operate_code Sum x x (suc n)) v),
+    ) (brought e d r x b n jd jr jx v sd sr sx rows h)
 
 -- ---- the divisor is taken
 
@@ -213,11 +226,14 @@ took e d r x b n jd jr jx v sd sr sx rows h less even =
     let v1 = block e (operate_code Difference d r m) v in
     let w = block e (lowest_code x) v1 in
     let f = differences_are_right e d r m jd jr v sd sr (λ l. omega arith) h in
-    let num : value v1.at jx (suc n) ≡ value v.at jx (suc n) = value-same v1.at v.at jx (suc n) (λ j l. f.0.keeps.same (jx + j) (omega arith) (omega arith) (λ z. omega arith)) in
+    let num : value v1.at jx (suc n) ≡ value v.at jx (suc n) =
+    value-same v1.at v.at jx (suc n) (λ j l. f.0.keeps.same (jx + j) (omega arith) (omega arith) (λ z. omega arith)) in
     let o = one_more e x n jx v1 sx f.0.bytes (ap (λ z. z % 2) num ∙ even) in
     let high : value v.at jr m < 256 ^ m = value_below v.at jr m (λ j l. h (jr + j) (omega arith)) in
-    let rest1 : value v1.at jr m ≡ value v.at jr m - value v.at jd m = f.1 ∙ wrapped (value v.at jr m) (value v.at jd m) (256 ^ m) less high in
-    let rest2 : value w.at jr m ≡ value v1.at jr m = value-same w.at v1.at jr m (λ j l. o.same (jr + j) (omega arith) (λ z. absurd (omega arith))) in
+    let rest1 : value v1.at jr m ≡ value v.at jr m - value v.at jd m =
+    f.1 ∙ wrapped (value v.at jr m) (value v.at jd m) (256 ^ m) less high in
+    let rest2 : value w.at jr m ≡ value v1.at jr m =
+    value-same w.at v1.at jr m (λ j l. o.same (jr + j) (omega arith) (λ z. absurd (omega arith))) in
     record {
       rest = omega (arith, rest1, rest2, less);
       number = o.number_is ∙ ap (λ z. z + 1) num;

@@ -1,5 +1,6 @@
 -- The signs of the operands and of the quotient.
-use Rattle.std.proofs.Common.{◌≡◌, ℕ, zero, suc, ◌+◌, ◌-◌, ◌*◌, ◌/◌, ◌^◌, ◌<◌, ◌≤◌, ◌⊎◌, inl, inr, ⊎_elim, Bool, true, false, ◌==◌, if◌then◌else◌, bit_xor, refl, sym, ap, ◌∙◌, arith, ℤ, pos, negsuc, neg_ℤ, ◌*ℤ◌, unsigned_abs, int_lt}
+use Rattle.std.proofs.Common.{◌≡◌, ℕ, zero, suc, ◌+◌, ◌-◌, ◌*◌, ◌/◌, ◌^◌, ◌<◌, ◌≤◌, ◌⊎◌, inl, inr, ⊎_elim, Bool, true, false, ◌==◌}
+use Rattle.std.proofs.Common.{if◌then◌else◌, bit_xor, refl, sym, ap, ◌∙◌, arith, ℤ, pos, negsuc, neg_ℤ, ◌*ℤ◌, unsigned_abs, int_lt}
 use Rattle.std.specs.Ordering.{int_eq}
 use Rattle.std.proofs.lemmas.Bool.{cases_lt, eqb-true}
 use Rattle.std.proofs.lemmas.Int.{ints}
@@ -49,7 +50,11 @@ operand_signed true f a n M held h =
     let z = sign.minus more in
     let m = h.minus_is z in
     let mag : M ≡ N - A = magnitude_is M A N m.0 m.1 m.2 below more in
-    inr (z, omega (arith, mag, below), minus (suc n) A more below ∙ neg_some (N - A) (omega (arith, below)) ∙ ap (λ t. neg_ℤ (pos t)) (sym mag)))
+    inr (
+      z,
+      omega (arith, mag, below),
+      minus (suc n) A more below ∙ neg_some (N - A) (omega (arith, below)) ∙ ap (λ t. neg_ℤ (pos t)) (sym mag),
+    ))
     (cases_lt (2 * A) N)
 
 -- ---- the exact quotient, rounded
@@ -80,10 +85,18 @@ pub record IsResult (byte Q : ℕ) (z : ℤ) : Type 0 where
   pub either : (byte ≡ 0) ⊎ (byte ≡ 255)
 
 result_plus : (byte Q : ℕ) (z : ℤ) → byte ≡ 0 → z ≡ pos Q → IsResult byte Q z
-result_plus byte Q z e h = record { plus_is = λ x. h; minus_is = λ x. absurd (let q : 0 ≡ 255 = sym e ∙ x in omega (arith, q)); either = inl e }
+result_plus byte Q z e h = record {
+  plus_is = λ x. h;
+  minus_is = λ x. absurd (let q : 0 ≡ 255 = sym e ∙ x in omega (arith, q));
+  either = inl e;
+}
 
 result_minus : (byte Q : ℕ) (z : ℤ) → byte ≡ 255 → z ≡ neg_ℤ (pos Q) → IsResult byte Q z
-result_minus byte Q z e h = record { plus_is = λ x. absurd (let q : 255 ≡ 0 = sym e ∙ x in omega (arith, q)); minus_is = λ x. h; either = inr e }
+result_minus byte Q z e h = record {
+  plus_is = λ x. absurd (let q : 255 ≡ 0 = sym e ∙ x in omega (arith, q));
+  minus_is = λ x. h;
+  either = inr e;
+}
 
 -- x has the magnitude A, and y, which is not 0, the magnitude D; p and q are powers of two
 pub exact_result : (s t A D p q : ℕ) (x y : ℤ) → IsSignedBy s A x → IsSignedBy t D y
@@ -153,7 +166,8 @@ fraction_is f n x = by (f.frac == 0) refl
 
 -- the result of a division, where the divisor is not 0
 pub holds_quotient : (f g to : Format) (mode : Mode) (a b x y k X D : ℕ) (t : ℕ) → IsSignedBy t D (number_in g.signed b y)
-    → (1 ≤ D → HoldsResult k (fit to mode (trunc (turned (number_in g.signed b y) (number_in f.signed a x *ℤ pos (2 ^ (g.frac + to.frac)))) (unsigned_abs (number_in g.signed b y) * 2 ^ f.frac))) X)
+    → (1 ≤ D → HoldsResult k (fit to mode (trunc (turned (number_in g.signed b y) (number_in f.signed a x *ℤ pos (2 ^ (g.frac + to.frac))))
+    (unsigned_abs (number_in g.signed b y) * 2 ^ f.frac))) X)
     → HoldsResult k (quotient_of (operand_in f a x) (operand_in g b y) to mode) X
 holds_quotient f g to mode a b x y k X D t d h =
     rw (scaled_is f a x, scaled_is g b y, fraction_is f a x, fraction_is g b y)
@@ -165,6 +179,7 @@ holds_quotient f g to mode a b x y k X D t d h =
     some d s y (inr e) q = e.1
 
     by : (z : Bool) → int_eq (number_in g.signed b y) (pos 0) ≡ z
-        → HoldsResult k (if z then ZeroDivisor else fit to mode (trunc (turned (number_in g.signed b y) (number_in f.signed a x *ℤ pos (2 ^ (g.frac + to.frac)))) (unsigned_abs (number_in g.signed b y) * 2 ^ f.frac))) X
+        → HoldsResult k (if z then ZeroDivisor else fit to mode (trunc (turned (number_in g.signed b y)
+        (number_in f.signed a x *ℤ pos (2 ^ (g.frac + to.frac)))) (unsigned_abs (number_in g.signed b y) * 2 ^ f.frac))) X
     by true e = tt
     by false e = h (some D t (number_in g.signed b y) d e)

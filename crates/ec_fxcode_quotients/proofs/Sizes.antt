@@ -15,12 +15,19 @@ pub record IsSized (bits frac : ℕ) : Type 0 where
 sized_by : (bits frac step one : ℕ) → one ≤ 1 → step ≡ frac + one → (step ≡ 8) ⊎ ((step ≡ 16) ⊎ (step ≡ 32))
     → (bits ≡ step) ⊎ (bits ≡ 2 * step) → IsSized bits frac
 sized_by bits frac step one l e s w =
-    let range : (8 ≤ step) × (step ≤ 32) = ⊎_elim (λ (x : step ≡ 8). (omega arith, omega arith)) (λ r. ⊎_elim (λ (x : step ≡ 16). (omega arith, omega arith)) (λ (x : step ≡ 32). (omega arith, omega arith)) r) s in
+    let range : (8 ≤ step) × (step ≤ 32) = ⊎_elim (λ (x : step ≡ 8). (omega arith, omega arith))
+    (λ r. ⊎_elim (λ (x : step ≡ 16). (omega arith, omega arith)) (λ (x : step ≡ 32). (omega arith, omega arith)) r) s in
     let low = range.0 in
     let high = range.1 in
     ⊎_elim
     (λ (x : bits ≡ step). record { some = omega arith; most = omega arith; inside = omega arith; few = omega arith; above = omega arith })
-    (λ (x : bits ≡ 2 * step). record { some = omega arith; most = omega arith; inside = omega arith; few = omega arith; above = omega arith })
+    (λ (x : bits ≡ 2 * step). record {
+      some = omega arith;
+      most = omega arith;
+      inside = omega arith;
+      few = omega arith;
+      above = omega arith;
+    })
     w
 
 sign_bit : (b : Bool) → (if b then 1 else 0) ≤ 1
@@ -34,8 +41,21 @@ pub operand_sized : (f : Format) → IsOperandFormat f → IsSized f.bits f.frac
 operand_sized f (inl h) = format_sized f h
 operand_sized f (inr h) =
     let z = h.whole in
-    ⊎_elim (λ (x : f.bits ≡ 8). record { some = omega arith; most = omega arith; inside = omega arith; few = omega arith; above = omega arith })
-    (λ r. ⊎_elim (λ (x : f.bits ≡ 16). record { some = omega arith; most = omega arith; inside = omega arith; few = omega arith; above = omega arith }) (λ (x : f.bits ≡ 32). record { some = omega arith; most = omega arith; inside = omega arith; few = omega arith; above = omega arith }) r) h.width
+    ⊎_elim
+    (λ (x : f.bits ≡ 8). record { some = omega arith; most = omega arith; inside = omega arith; few = omega arith; above = omega arith })
+    (λ r. ⊎_elim (λ (x : f.bits ≡ 16). record {
+      some = omega arith;
+      most = omega arith;
+      inside = omega arith;
+      few = omega arith;
+      above = omega arith;
+    }) (λ (x : f.bits ≡ 32). record {
+      some = omega arith;
+      most = omega arith;
+      inside = omega arith;
+      few = omega arith;
+      above = omega arith;
+    }) r) h.width
 
 -- 1 to 8 bytes
 pub bytes_of : (bits frac k : ℕ) → IsSized bits frac → bits ≡ 8 * k → (1 ≤ k) × (k ≤ 8)

@@ -16,32 +16,43 @@ use Rattle.ec_fxcode.proofs.Short.{IsShort, joined, chained, weaker, put_short, 
 use Rattle.ec_fxcode_shifts.specs.Shifts.{mark_code, turned_code}
 use Rattle.ec_fxcode_shifts.specs.ShiftLaws.{most_words}
 use Rattle.ec_fxcode_shifts.proofs.Steps.{mark_short, turned_short}
-use Rattle.ec_fxcode_quotients.specs.Quotients.{bits_of, quotient_bytes, number_bytes, further, number_at, clear_code, number_code, divisor_code, ready_code, turn_code, turn_words, turns_code, finish_code, solve_code, divide_code}
+use Rattle.ec_fxcode_quotients.specs.Quotients.{bits_of, quotient_bytes, number_bytes, further, number_at, clear_code, number_code}
+use Rattle.ec_fxcode_quotients.specs.Quotients.{divisor_code, ready_code, turn_code, turn_words, turns_code, finish_code, solve_code}
+use Rattle.ec_fxcode_quotients.specs.Quotients.{divide_code}
 use Rattle.ec_fxcode_quotients.specs.QuotientLaws.{IsOperandFormat, QuotientsHave}
 use Rattle.ec_fxcode_quotients.proofs.Sizes.{format_sized, operand_sized, bytes_of}
 use Rattle.ec_fxcode_quotients.proofs.Words.{turn_has_words}
 
 clear_short : (w : Location) (b z : ℕ) → IsShort (clear_code w b z) (1 + (2 * b + 2 + z - b) * 1) (1 + (2 * b + 2 + z - b) * 2)
 clear_short w b z =
-    joined (Plain (Eor 31 31) ∷ []) (fills_code w b (2 * b + 2 + z)) 1 ((2 * b + 2 + z - b) * 1) 1 ((2 * b + 2 + z - b) * 2) (record { straight = refl; steps_are = omega arith; words_are = omega arith })
+    joined (Plain (Eor 31 31) ∷ []) (fills_code w b (2 * b + 2 + z)) 1 ((2 * b + 2 + z - b) * 1) 1 ((2 * b + 2 + z - b) * 2)
+    (record { straight = refl; steps_are = omega arith; words_are = omega arith })
     (chained (λ i. put_byte 31 w (b + i)) (2 * b + 2 + z - b) 1 2 (λ i. put_short 31 w (b + i)))
 
 number_short : (signed : Bool) (p w : Location) (a b z : ℕ) → IsShort (number_code signed p w a b z) (3 + (a * 4 + 1)) (4 + (a * 6 + 1))
 number_short signed p w a b z =
-    joined (mark_code signed p a) (turned_code p (further w (2 * b + 2 + z)) a ++ (Plain (Mov 30 31) ∷ [])) 3 (a * 4 + 1) 4 (a * 6 + 1) (mark_short signed p a)
-    (joined (turned_code p (further w (2 * b + 2 + z)) a) (Plain (Mov 30 31) ∷ []) (a * 4) 1 (a * 6) 1 (turned_short p (further w (2 * b + 2 + z)) a) (record { straight = refl; steps_are = omega arith; words_are = omega arith }))
+    joined (mark_code signed p a) (turned_code p (further w (2 * b + 2 + z)) a ++ (Plain (Mov 30 31) ∷ [])) 3 (a * 4 + 1) 4 (a * 6 + 1)
+    (mark_short signed p a)
+    (joined (turned_code p (further w (2 * b + 2 + z)) a) (Plain (Mov 30 31) ∷ []) (a * 4) 1 (a * 6) 1
+    (turned_short p (further w (2 * b + 2 + z)) a) (record { straight = refl; steps_are = omega arith; words_are = omega arith }))
 
 divisor_short : (signed : Bool) (c w : Location) (b bits : ℕ) → IsShort (divisor_code signed c w b bits) (3 + (b * 4 + 2)) (4 + (b * 6 + 2))
 divisor_short signed c w b bits =
-    joined (mark_code signed c b) (turned_code c w b ++ (Plain (Eor 31 30) ∷ Plain (Ldi 30 bits) ∷ [])) 3 (b * 4 + 2) 4 (b * 6 + 2) (mark_short signed c b)
-    (joined (turned_code c w b) (Plain (Eor 31 30) ∷ Plain (Ldi 30 bits) ∷ []) (b * 4) 2 (b * 6) 2 (turned_short c w b) (record { straight = refl; steps_are = omega arith; words_are = omega arith }))
+    joined (mark_code signed c b) (turned_code c w b ++ (Plain (Eor 31 30) ∷ Plain (Ldi 30 bits) ∷ [])) 3 (b * 4 + 2) 4 (b * 6 + 2)
+    (mark_short signed c b)
+    (joined (turned_code c w b) (Plain (Eor 31 30) ∷ Plain (Ldi 30 bits) ∷ []) (b * 4) 2 (b * 6) 2 (turned_short c w b)
+    (record { straight = refl; steps_are = omega arith; words_are = omega arith }))
 
-pub ready_short : (f g : Bool) (p c w : Location) (a b z bits : ℕ) → IsShort (ready_code f g p c w a b z bits) (12 + 5 * b + 4 * a + z) (16 + 8 * b + 6 * a + 2 * z)
+pub ready_short : (f g : Bool) (p c w : Location) (a b z bits : ℕ)
+    → IsShort (ready_code f g p c w a b z bits) (12 + 5 * b + 4 * a + z) (16 + 8 * b + 6 * a + 2 * z)
 ready_short f g p c w a b z bits =
     let r = 2 * b + 2 + z - b in
-    weaker (ready_code f g p c w a b z bits) (1 + r * 1 + (3 + (a * 4 + 1) + (3 + (b * 4 + 2)))) (12 + 5 * b + 4 * a + z) (1 + r * 2 + (4 + (a * 6 + 1) + (4 + (b * 6 + 2)))) (16 + 8 * b + 6 * a + 2 * z) (omega arith) (omega arith)
-    (joined (clear_code w b z) (number_code f p w a b z ++ divisor_code g c w b bits) (1 + r * 1) (3 + (a * 4 + 1) + (3 + (b * 4 + 2))) (1 + r * 2) (4 + (a * 6 + 1) + (4 + (b * 6 + 2))) (clear_short w b z)
-    (joined (number_code f p w a b z) (divisor_code g c w b bits) (3 + (a * 4 + 1)) (3 + (b * 4 + 2)) (4 + (a * 6 + 1)) (4 + (b * 6 + 2)) (number_short f p w a b z) (divisor_short g c w b bits)))
+    weaker (ready_code f g p c w a b z bits) (1 + r * 1 + (3 + (a * 4 + 1) + (3 + (b * 4 + 2)))) (12 + 5 * b + 4 * a + z)
+    (1 + r * 2 + (4 + (a * 6 + 1) + (4 + (b * 6 + 2)))) (16 + 8 * b + 6 * a + 2 * z) (omega arith) (omega arith)
+    (joined (clear_code w b z) (number_code f p w a b z ++ divisor_code g c w b bits) (1 + r * 1) (3 + (a * 4 + 1) + (3 + (b * 4 + 2)))
+    (1 + r * 2) (4 + (a * 6 + 1) + (4 + (b * 6 + 2))) (clear_short w b z)
+    (joined (number_code f p w a b z) (divisor_code g c w b bits) (3 + (a * 4 + 1)) (3 + (b * 4 + 2)) (4 + (a * 6 + 1)) (4 + (b * 6 + 2))
+    (number_short f p w a b z) (divisor_short g c w b bits)))
 
 -- ---- words
 
@@ -53,7 +64,13 @@ turns_words : (w : Location) (b n : ℕ) → code_words (turns_code w b n) ≤ 7
 turns_words w b n =
     let tail = Plain (Dec 30) ∷ Plain (Brbs 2 (pos 1)) ∷ Plain (Rjmp (negsuc (turn_words w b n + 2))) ∷ [] in
     let m = turn_most w b n in
-    omega (arith, sum_by-append item_words (Plain (Rjmp (pos (turn_words w b n))) ∷ []) (turn_code w b n ++ tail), sum_by-append item_words (turn_code w b n) tail, turn_has_words w b n, m)
+    omega (
+      arith,
+      sum_by-append item_words (Plain (Rjmp (pos (turn_words w b n))) ∷ []) (turn_code w b n ++ tail),
+      sum_by-append item_words (turn_code w b n) tail,
+      turn_has_words w b n,
+      m,
+    )
 
 finish_words : (to : Format) (mode : Mode) (x q : Location) (m k : ℕ)
     → code_words (finish_code to mode x q m k) ≤ 6 * m + 23 + 10 * k + 4 * (m - k)
@@ -116,8 +133,14 @@ quotients_have f g to mode p c q w a b k hf fb hg gb ht tb =
     let y = turns_words w b n in
     let z = finish_words to mode (number_at w b) q m k in
     let t = enough_words (max a (max b k)) some in
-    total (code_words (divide_code f g to mode p c q w a b k)) (code_words (ready_code f.signed g.signed p c w a b (n - a) T)) (code_words (turns_code w b n)) (code_words (finish_code to mode (number_at w b) q m k)) a b k n m (max a (max b k)) (most_words (max a (max b k)))
-    (omega (arith, sum_by-append item_words (ready_code f.signed g.signed p c w a b (n - a) T) (solve_code to mode w q b n m k), sum_by-append item_words (turns_code w b n) (finish_code to mode (number_at w b) q m k)))
+    total (code_words (divide_code f g to mode p c q w a b k)) (code_words (ready_code f.signed g.signed p c w a b (n - a) T))
+    (code_words (turns_code w b n)) (code_words (finish_code to mode (number_at w b) q m k)) a b k n m (max a (max b k))
+    (most_words (max a (max b k)))
+    (omega (
+      arith,
+      sum_by-append item_words (ready_code f.signed g.signed p c w a b (n - a) T) (solve_code to mode w q b n m k),
+      sum_by-append item_words (turns_code w b n) (finish_code to mode (number_at w b) q m k),
+    ))
     x y z r1 r2 r3 r4 r5 (omega arith) t
   where
     total : (all x y z a b k n m w most : ℕ) → all ≤ x + y + z → x ≤ 16 + 8 * b + 6 * a + 2 * (n - a) → y ≤ 7 * n + 17 * b + 28
@@ -137,5 +160,6 @@ steps_bound a b k T n m w z first loop third clamp r lz h1 h2 h3 h4 =
     let r4 = r.shared in
     let r5 = r.quotient in
     let r6 = r.bits_are in
-    let q : T * (4 * n + 10 * suc b + 8) ≤ 24 * w * (22 * w + 22) = mul-le T (4 * n + 10 * suc b + 8) (24 * w) (22 * w + 22) r6 (omega (arith, r4, r2)) in
+    let q : T * (4 * n + 10 * suc b + 8) ≤ 24 * w * (22 * w + 22) =
+    mul-le T (4 * n + 10 * suc b + 8) (24 * w) (22 * w + 22) r6 (omega (arith, r4, r2)) in
     omega (arith, q, some, r1, r2, r3, r4, r5, lz, h1, h2, h3, h4)

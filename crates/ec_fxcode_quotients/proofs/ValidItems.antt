@@ -1,5 +1,6 @@
 -- The items of the code are valid, and have no labels.
-use Rattle.std.proofs.Common.{◌≡◌, ℕ, zero, suc, ◌+◌, ◌-◌, ◌*◌, ◌<◌, ◌≤◌, ◌==◌, Bool, true, false, [], ◌∷◌, ◌++◌, refl, sym, ap, ◌∙◌, subst, arith, pos, negsuc}
+use Rattle.std.proofs.Common.{◌≡◌, ℕ, zero, suc, ◌+◌, ◌-◌, ◌*◌, ◌<◌, ◌≤◌, ◌==◌, Bool, true, false, [], ◌∷◌, ◌++◌, refl, sym, ap, ◌∙◌, subst}
+use Rattle.std.proofs.Common.{arith, pos, negsuc}
 use Rattle.std.specs.Prelude.{nat_lt, count_by, cond}
 use Rattle.std.specs.List.{list_all}
 use Rattle.std.proofs.lemmas.Bool.{lt-ltb, eqb-true}
@@ -18,10 +19,14 @@ use Rattle.ec_asm.specs.Valid.{Sizes, is_offset, is_valid_item, used_label, is_l
 use Rattle.ec_select_quotients.specs.Quotients.{mark_code as lowest_code}
 use Rattle.ec_fxcode.specs.Clamps.{take_byte, put_byte, fills_code, clamp_code}
 use Rattle.ec_fxcode.specs.ClampLaws.{HasPlaces}
-use Rattle.ec_fxcode.proofs.ValidItems.{both, chain_passes, take_valid, put_valid, clamps_are_valid, clamps_use_no_label, clamps_place_no_label}
+use Rattle.ec_fxcode.proofs.ValidItems.{both, chain_passes, take_valid, put_valid, clamps_are_valid, clamps_use_no_label}
+use Rattle.ec_fxcode.proofs.ValidItems.{clamps_place_no_label}
 use Rattle.ec_fxcode_shifts.specs.Shifts.{mark_code, turned_byte, turned_code}
 use Rattle.ec_fxcode_shifts.proofs.ValidItems.{less_valid, part_places, PassesPlain}
-use Rattle.ec_fxcode_quotients.specs.Quotients.{bits_of, quotient_bytes, number_bytes, further, remainder_at, number_at, clear_code, number_code, divisor_code, ready_code, rotate_byte, rotate_code, bring_code, take_code, take_words, skip_code, turn_code, turn_words, turns_code, finish_code, solve_code, divide_code}
+use Rattle.ec_fxcode_quotients.specs.Quotients.{bits_of, quotient_bytes, number_bytes, further, remainder_at, number_at, clear_code}
+use Rattle.ec_fxcode_quotients.specs.Quotients.{number_code, divisor_code, ready_code, rotate_byte, rotate_code, bring_code, take_code}
+use Rattle.ec_fxcode_quotients.specs.Quotients.{take_words, skip_code, turn_code, turn_words, turns_code, finish_code, solve_code}
+use Rattle.ec_fxcode_quotients.specs.Quotients.{divide_code}
 use Rattle.ec_fxcode_quotients.specs.QuotientLaws.{QuotientsAreValid, QuotientsUseNoLabel, QuotientsPlaceNoLabel}
 use Rattle.ec_fxcode_quotients.proofs.Sizes.{operand_sized, format_sized, bytes_of, few_bits}
 use Rattle.ec_fxcode_quotients.proofs.Steps.{turn_most}
@@ -52,7 +57,8 @@ record Passes (t : AsmItem → Bool) (to : Format) (mode : Mode) (p c q w : Loca
   back : (i : ℕ) → i < m → list_all t (put_byte 0 (number_at w b) i) ≡ true
   clamp : list_all t (clamp_code to mode (number_at w b) q m k) ≡ true
 
-module _ (t : AsmItem → Bool) (to : Format) (mode : Mode) (p c q w : Location) (a b k n m z T : ℕ) (some : 1 ≤ a) (many : 1 ≤ b) (h : Passes t to mode p c q w a b k n m z T) where
+module _ (t : AsmItem → Bool) (to : Format) (mode : Mode) (p c q w : Location) (a b k n m z T : ℕ) (some : 1 ≤ a) (many : 1 ≤ b)
+    (h : Passes t to mode p c q w a b k n m z T) where
   turned_passes : (p q : Location) (k : ℕ) → ((i : ℕ) → i < k → list_all t (take_byte p i) ≡ true)
       → ((i : ℕ) → i < k → list_all t (put_byte 0 q i) ≡ true) → list_all t (turned_code p q k) ≡ true
   turned_passes p q k f g =
@@ -75,7 +81,8 @@ module _ (t : AsmItem → Bool) (to : Format) (mode : Mode) (p c q w : Location)
       both t (clear_code w b z) (number_code f p w a b z ++ divisor_code g c w b T) clear_passes
       (both t (number_code f p w a b z) (divisor_code g c w b T)
       (both t (mark_code f p a) (turned_code p (further w (2 * b + 2 + z)) a ++ (Plain (Mov 30 31) ∷ [])) (mark_passes f p a some h.from)
-      (both t (turned_code p (further w (2 * b + 2 + z)) a) (Plain (Mov 30 31) ∷ []) (turned_passes p (further w (2 * b + 2 + z)) a h.from h.number_in) h.move))
+      (both t (turned_code p (further w (2 * b + 2 + z)) a) (Plain (Mov 30 31) ∷ [])
+      (turned_passes p (further w (2 * b + 2 + z)) a h.from h.number_in) h.move))
       (both t (mark_code g c b) (turned_code c w b ++ (Plain (Eor 31 30) ∷ Plain (Ldi 30 T) ∷ [])) (mark_passes g c b many h.by_)
       (both t (turned_code c w b) (Plain (Eor 31 30) ∷ Plain (Ldi 30 T) ∷ []) (turned_passes c w b h.by_ h.divisor_in) h.cross)))
 
@@ -83,17 +90,20 @@ module _ (t : AsmItem → Bool) (to : Format) (mode : Mode) (p c q w : Location)
   rotate_passes =
       let r = remainder_at w b in
       chain_passes t (rotate_byte r) (suc b)
-      (λ i l. both t (take_byte r i) (Plain (Adc 0 0) ∷ put_byte 0 r i) (h.rest_out i l) (both t (Plain (Adc 0 0) ∷ []) (put_byte 0 r i) h.carry (h.rest_in i l)))
+      (λ i l. both t (take_byte r i) (Plain (Adc 0 0) ∷ put_byte 0 r i) (h.rest_out i l)
+      (both t (Plain (Adc 0 0) ∷ []) (put_byte 0 r i) h.carry (h.rest_in i l)))
 
   turn_passes : list_all t (turn_code w b n) ≡ true
   turn_passes =
       let r = remainder_at w b in
       let x = number_at w b in
       both t (bring_code w r x (suc b) n) (skip_code w (suc b) ++ take_code w r x (suc b))
-      (both t (operate_code Sum x x n) (rotate_code r (suc b) ++ compare_code w r (suc b)) (chain_passes t (operate_byte Sum x x) n h.double)
+      (both t (operate_code Sum x x n) (rotate_code r (suc b) ++ compare_code w r (suc b))
+      (chain_passes t (operate_byte Sum x x) n h.double)
       (both t (rotate_code r (suc b)) (compare_code w r (suc b)) rotate_passes (chain_passes t (compare_byte w r) (suc b) h.compare)))
       (both t (skip_code w (suc b)) (take_code w r x (suc b)) h.skip
-      (both t (operate_code Difference w r (suc b)) (lowest_code x) (chain_passes t (operate_byte Difference w r) (suc b) h.differ) h.lowest))
+      (both t (operate_code Difference w r (suc b)) (lowest_code x)
+      (chain_passes t (operate_byte Difference w r) (suc b) h.differ) h.lowest))
 
   quotient_passes : (f g : Bool) → list_all t (ready_code f g p c w a b z T ++ solve_code to mode w q b n m k) ≡ true
   quotient_passes f g =
@@ -101,15 +111,17 @@ module _ (t : AsmItem → Bool) (to : Format) (mode : Mode) (p c q w : Location)
       let tail = Plain (Dec 30) ∷ Plain (Brbs 2 (pos 1)) ∷ Plain (Rjmp (negsuc (turn_words w b n + 2))) ∷ [] in
       both t (ready_code f g p c w a b z T) (solve_code to mode w q b n m k) (ready_passes f g)
       (both t (turns_code w b n) (finish_code to mode x q m k)
-      (both t (Plain (Rjmp (pos (turn_words w b n))) ∷ []) (turn_code w b n ++ tail) h.jump (both t (turn_code w b n) tail turn_passes h.again))
+      (both t (Plain (Rjmp (pos (turn_words w b n))) ∷ []) (turn_code w b n ++ tail) h.jump
+      (both t (turn_code w b n) tail turn_passes h.again))
       (both t (turned_code x x m) (clamp_code to mode x q m k) (turned_passes x x m h.out h.back) h.clamp))
 
 -- ---- fields
 
 -- places further up
-further_places : (sizes : Sizes) (w : Location) (i n m : ℕ) → i + n ≤ m → HasPlaces sizes w m → HasPlaces sizes (further w i) n
+pub further_places : (sizes : Sizes) (w : Location) (i n m : ℕ) → i + n ≤ m → HasPlaces sizes w m → HasPlaces sizes (further w i) n
 further_places sizes (InRegisters r) i n m l h = omega (arith, h)
-further_places sizes (InMemory o k) i n m l h = λ j x. subst (λ y. is_offset sizes o y ≡ true) (let e : k + (i + j) ≡ k + i + j = omega arith in e) (h (i + j) (omega arith))
+further_places sizes (InMemory o k) i n m l h =
+    λ j x. subst (λ y. is_offset sizes o y ≡ true) (let e : k + (i + j) ≡ k + i + j = omega arith in e) (h (i + j) (omega arith))
 
 instruction_valid : (sizes : Sizes) (op : Operator) (i d r : ℕ) → (nat_lt d 32 ≡ true) → (nat_lt r 32 ≡ true)
     → is_valid_item sizes (Plain (instruction op i d r)) ≡ true
@@ -121,7 +133,7 @@ instruction_valid sizes BitAnd i d r e f = rw (e, f) refl
 instruction_valid sizes BitOr i d r e f = rw (e, f) refl
 instruction_valid sizes BitXor i d r e f = rw (e, f) refl
 
-operate_valid : (sizes : Sizes) (op : Operator) (p q : Location) (n i : ℕ) → HasPlaces sizes p n → HasPlaces sizes q n → i < n
+pub operate_valid : (sizes : Sizes) (op : Operator) (p q : Location) (n i : ℕ) → HasPlaces sizes p n → HasPlaces sizes q n → i < n
     → list_all (is_valid_item sizes) (operate_byte op p q i) ≡ true
 operate_valid sizes op (InRegisters r) (InRegisters s) n i h g l =
     let x : r + i < 32 = omega (arith, h, l) in
@@ -141,7 +153,7 @@ compares_valid : (sizes : Sizes) (i d r : ℕ) → (nat_lt d 32 ≡ true) → (n
 compares_valid sizes zero d r e f = rw (e, f) refl
 compares_valid sizes (suc i) d r e f = rw (e, f) refl
 
-compare_valid : (sizes : Sizes) (p q : Location) (n i : ℕ) → HasPlaces sizes p n → HasPlaces sizes q n → i < n
+pub compare_valid : (sizes : Sizes) (p q : Location) (n i : ℕ) → HasPlaces sizes p n → HasPlaces sizes q n → i < n
     → list_all (is_valid_item sizes) (compare_byte p q i) ≡ true
 compare_valid sizes (InRegisters r) (InRegisters s) n i h g l =
     let x : r + i < 32 = omega (arith, h, l) in
@@ -258,7 +270,8 @@ passes_plain t to mode p c q w a b k n m z T h clamp = record {
     operates op (InRegisters r) (InRegisters s) i = rw (h.plain (instruction op i (s + i) (r + i))) refl
     operates op (InMemory o j) (InRegisters s) i = rw (h.load 0 o (j + i), h.plain (instruction op i (s + i) 0)) refl
     operates op (InRegisters r) (InMemory o j) i = rw (h.load 0 o (j + i), h.plain (instruction op i 0 (r + i)), h.store o (j + i) 0) refl
-    operates op (InMemory o j) (InMemory o' j') i = rw (h.load 1 o (j + i), h.load 0 o' (j' + i), h.plain (instruction op i 0 1), h.store o' (j' + i) 0) refl
+    operates op (InMemory o j) (InMemory o' j') i =
+        rw (h.load 1 o (j + i), h.load 0 o' (j' + i), h.plain (instruction op i 0 1), h.store o' (j' + i) 0) refl
 
     compared : (p q : Location) (i : ℕ) → list_all t (compare_byte p q i) ≡ true
     compared (InRegisters r) (InRegisters s) i = rw (h.plain (compares i (s + i) (r + i))) refl
@@ -289,6 +302,9 @@ quotients_place_no_label f g to mode p c q w a b k l some many most =
     let number : AsmItem → ℕ = λ item. cond (is_label l item) 1 0 in
     let t : AsmItem → Bool = λ item. number item == 0 in
     let none_there : count_by (is_label l) (clamp_code to mode x q m k) ≡ 0 = clamps_place_no_label to mode x q m k l (omega arith) most in
-    let clamp : list_all t (clamp_code to mode x q m k) ≡ true = sym (sum_by-zero number (clamp_code to mode x q m k)) ∙ ap (λ (i : ℕ). i == 0) none_there in
-    let none = quotient_passes t to mode p c q w a b k n m (n - a) T some many (passes_plain t to mode p c q w a b k n m (n - a) T (record { plain = λ i. refl; load = λ d o j. refl; store = λ o j r. refl }) clamp) f.signed g.signed in
-    eqb-true (count_by (is_label l) (divide_code f g to mode p c q w a b k)) 0 (sum_by-zero number (divide_code f g to mode p c q w a b k) ∙ none)
+    let clamp : list_all t (clamp_code to mode x q m k) ≡ true =
+    sym (sum_by-zero number (clamp_code to mode x q m k)) ∙ ap (λ (i : ℕ). i == 0) none_there in
+    let none = quotient_passes t to mode p c q w a b k n m (n - a) T some many (passes_plain t to mode p c q w a b k n m (n - a) T
+    (record { plain = λ i. refl; load = λ d o j. refl; store = λ o j r. refl }) clamp) f.signed g.signed in
+    eqb-true (count_by (is_label l) (divide_code f g to mode p c q w a b k)) 0
+    (sum_by-zero number (divide_code f g to mode p c q w a b k) ∙ none)

@@ -1,5 +1,6 @@
 -- The whole code of a division.
-use Rattle.std.proofs.Common.{◌≡◌, ◌≢◌, ℕ, zero, suc, ◌+◌, ◌-◌, ◌*◌, ◌/◌, ◌^◌, ◌<◌, ◌≤◌, max, ⊎_elim, Bool, ◌++◌, bit_xor, refl, sym, ap, ◌∙◌, subst, arith, pos, ◌*ℤ◌, unsigned_abs}
+use Rattle.std.proofs.Common.{◌≡◌, ◌≢◌, ℕ, zero, suc, ◌+◌, ◌-◌, ◌*◌, ◌/◌, ◌^◌, ◌<◌, ◌≤◌, max, ⊎_elim, Bool, ◌++◌, bit_xor, refl, sym, ap}
+use Rattle.std.proofs.Common.{◌∙◌, subst, arith, pos, ◌*ℤ◌, unsigned_abs}
 use Rattle.std.proofs.lemmas.Bool.{cases_lt}
 use Rattle.ec_fx.specs.declared.formats.Format.{Format}
 use Rattle.ec_fx.specs.declared.numbers.Mode.{Mode}
@@ -28,7 +29,8 @@ use Rattle.ec_fxcode_shifts.proofs.Entered.{mark_of, numbers_after}
 use Rattle.ec_fxcode_shifts.proofs.Negated.{TurnsTo, turns}
 use Rattle.ec_fxcode_shifts.proofs.Right.{IsNegatedBy}
 use Rattle.ec_fxcode_shifts.proofs.Steps.{turned_short}
-use Rattle.ec_fxcode_quotients.specs.Quotients.{bits_of, quotient_bytes, number_bytes, number_at, ready_code, turns_code, finish_code, solve_code}
+use Rattle.ec_fxcode_quotients.specs.Quotients.{bits_of, quotient_bytes, number_bytes, number_at, ready_code, turns_code, finish_code}
+use Rattle.ec_fxcode_quotients.specs.Quotients.{solve_code}
 use Rattle.ec_fxcode_quotients.specs.QuotientLaws.{operand_in, AreSlots, Divides, QuotientsAreRight}
 use Rattle.ec_fxcode_quotients.proofs.Loop.{After, runs}
 use Rattle.ec_fxcode_quotients.proofs.Number.{twice_below, quotient_low}
@@ -49,8 +51,10 @@ clear_above a n l = record { below = λ x. absurd (omega arith); above = λ x. l
 inside_apart : (o k s i m : ℕ) → 1 ≤ m → i + m ≤ 40 → AreApart o k s 40 → AreApart (s + i) m o k
 inside_apart o k s i m some l h =
     record {
-      first = λ x. ⊎_elim (λ (y : o < s). let z = h.first y in absurd (omega arith)) (λ (y : s ≤ o). let z = h.second y in omega arith) (cases_lt o s);
-      second = λ x. ⊎_elim (λ (y : o < s). let z = h.first y in omega arith) (λ (y : s ≤ o). let z = h.second y in absurd (omega arith)) (cases_lt o s);
+      first = λ x. ⊎_elim (λ (y : o < s). let z = h.first y in absurd (omega arith))
+          (λ (y : s ≤ o). let z = h.second y in omega arith) (cases_lt o s);
+      second = λ x. ⊎_elim (λ (y : o < s). let z = h.first y in omega arith)
+          (λ (y : s ≤ o). let z = h.second y in absurd (omega arith)) (cases_lt o s);
     }
 
 -- what is at the top of the number
@@ -64,12 +68,14 @@ result_is : (f g to : Format) (n m z T a b x y A D jr jx B s t : ℕ) (v2 v3 : V
     → T ≡ 8 * a + (g.frac + to.frac) - f.frac → f.frac ≤ 8 * a → m ≡ T / 8 + 1 → m ≤ suc n → a + 1 ≤ suc n → 1 ≤ D
     → Long (A * 256 ^ z) D (256 ^ suc n) (value v2.at jr (suc B)) (value v2.at jx (suc n)) T → AreHeld v2.at jx (suc n)
     → TurnsTo v2 jx jx (bit_xor t s) m v3 → IsSignedBy s A (number_in f.signed a x) → IsSignedBy t D (number_in g.signed b y)
-    → signed_number m (value v3.at jx m) ≡ trunc (turned (number_in g.signed b y) (number_in f.signed a x *ℤ pos (2 ^ (g.frac + to.frac)))) (unsigned_abs (number_in g.signed b y) * 2 ^ f.frac)
+    → signed_number m (value v3.at jx m) ≡ trunc (turned (number_in g.signed b y) (number_in f.signed a x *ℤ pos (2 ^ (g.frac + to.frac))))
+    (unsigned_abs (number_in g.signed b y) * 2 ^ f.frac)
 result_is f g to n m z T a b x y A D jr jx B s t v2 v3 en et inside em lm la some long held turn sx sy =
     let up = g.frac + to.frac in
     let Q = A * 2 ^ up / (D * 2 ^ f.frac) in
     let below = value_below v2.at jx (suc n) held in
-    let q = quotient_low A D a z (suc n) m up f.frac T (value v2.at jr (suc B)) (value v2.at jx (suc n)) en et inside em lm la below some long in
+    let q =
+    quotient_low A D a z (suc n) m up f.frac T (value v2.at jr (suc B)) (value v2.at jx (suc n)) en et inside em lm la below some long in
     let low : value v2.at jx m ≡ Q = sym (value_mod v2.at jx m (suc n) lm held) ∙ q.0 in
     let room : 2 * Q < 256 ^ m = (let c = q.1 in let d : 2 * 2 ^ T ≤ 256 ^ m = rw em (twice_below T) in omega (arith, c, d)) in
     let negated : IsNegatedBy (bit_xor t s) (256 ^ m) Q (value v3.at jx m) = record {
@@ -95,7 +101,8 @@ all_kept : (e : Env) (most pc end : ℕ) (f g : Bool) (i na j nb s z T n m o k b
 all_kept e most pc end f g i na j nb s z T n m o k byte X D v u v2 v3 answer lb ln lm begun after turn clamp = record {
   same = λ l y1 y2 y3 y4 r t.
       clamp.same l y1 y2 y3 y4 r ∙ turn.keeps.same l y1 y2 (λ h. let d = t (omega arith) in omega (arith, d, lb, ln, lm))
-      ∙ after.same l y1 y2 y3 (λ h. let d = t (omega arith) in omega (arith, d, lb)) (λ h. let d = t (omega arith) in omega (arith, d, lb, ln))
+      ∙ after.same l y1 y2 y3 (λ h. let d = t (omega arith) in omega (arith, d, lb))
+      (λ h. let d = t (omega arith) in omega (arith, d, lb, ln))
       ∙ begun.touches.same l y1 y2 y3 y4 t;
   inputs = clamp.inputs ∙ turn.keeps.inputs ∙ after.inputs ∙ begun.touches.inputs;
   safe = clamp.safe ∙ turn.keeps.safe ∙ after.safe ∙ begun.touches.safe;
@@ -109,7 +116,8 @@ divided : (f g to : Format) (mode : Mode) (e : Env) (p c q w : Location) (na nb 
     → T ≡ 8 * suc na + (g.frac + to.frac) - f.frac → f.frac ≤ 8 * suc na → T ≤ 97 → IsRoomy (suc na) (suc nb) k T (suc n) m W
     → IsFormat to → to.bits ≡ 8 * k → AreSlots e p c q w (suc na) (suc nb) k i j o s → HoldsNumbers v
     → HasAt e (ready_code f.signed g.signed p c w (suc na) (suc nb) z T ++ solve_code to mode w q (suc nb) (suc n) m k) pc end
-    → Divides e (64 * most_words W) pc v end o k s (quotient_of (operand_in f (suc na) (value v.at i (suc na))) (operand_in g (suc nb) (value v.at j (suc nb))) to mode)
+    → Divides e (64 * most_words W) pc v end o k s
+    (quotient_of (operand_in f (suc na) (value v.at i (suc na))) (operand_in g (suc nb) (value v.at j (suc nb))) to mode)
 divided f g to mode e p c q w na nb k i j o s pc end v n z m T W en em lm la ln lb et inside lt room ht tb slots numbers at =
     let a = suc na in
     let b = suc nb in
@@ -127,7 +135,8 @@ divided f g to mode e p c q w na nb k i j o s pc end v n z m T W en em lm la ln 
     let rest = has_parts e (turns_code w b (suc n)) (finish_code to mode x q m k) parts.0 end parts.2 in
     let last = has_parts e (turned_code x x m) (clamp_code to mode x q m k) rest.0 end rest.2 in
     let go1 = block_goes e first pc parts.0 v short.straight parts.1 in
-    let begun = starts e f.signed g.signed p c q w na nb k i j o s z T v slots high (omega (arith, en, ln, lb)) (omega (arith, lt)) numbers in
+    let begun =
+    starts e f.signed g.signed p c q w na nb k i j o s z T v slots high (omega (arith, en, ln, lb)) (omega (arith, lt)) numbers in
     let sd = part_stands e w 40 (suc b) s (omega (arith, lb)) slots.work in
     let sr = further_stands e w 40 (suc b) (suc b) s (omega (arith, lb)) slots.work in
     let sx = further_stands e w 40 (2 * b + 2) (suc n) s (omega (arith, lb, ln)) slots.work in
@@ -139,20 +148,26 @@ divided f g to mode e p c q w na nb k i j o s pc end v n z m T W en em lm la ln 
     let under : D < 256 ^ b = value_below u.at s b (λ l y. hu (s + l) (omega arith)) in
     let divisor : value u.at s (suc b) ≡ D = (let y = begun.top in rw y (omega arith)) in
     let same_place : s + (2 * b + 2 + z) ≡ jx + z = omega arith in
-    let number : value u.at jx (suc n) ≡ A * 256 ^ z = ap (value u.at jx) en ∙ number_is u.at jx z a A begun.zeros_are (ap (λ l. value u.at l a) (sym same_place)) in
-    let loop = runs e w b n (A * 256 ^ z) D s jr jx T parts.0 rest.0 u sd sr sx rows under divisor begun.remainder number begun.count (omega (arith, lt)) hu rest.1 in
+    let number : value u.at jx (suc n) ≡ A * 256 ^ z =
+    ap (value u.at jx) en ∙ number_is u.at jx z a A begun.zeros_are (ap (λ l. value u.at l a) (sym same_place)) in
+    let loop = runs e w b n (A * 256 ^ z) D s jr jx T parts.0 rest.0 u sd sr sx rows under divisor begun.remainder number begun.count
+    (omega (arith, lt)) hu rest.1 in
     let v2 = loop.last in
     let after = loop.after in
-    let sign2 : v2.at 31 ≡ byte = after.same 31 (omega arith) (omega arith) (omega arith) (λ l. absurd (omega arith)) (λ l. absurd (omega arith)) ∙ begun.sign in
+    let sign2 : v2.at 31 ≡ byte =
+    after.same 31 (omega arith) (omega arith) (omega arith) (λ l. absurd (omega arith)) (λ l. absurd (omega arith)) ∙ begun.sign in
     let clear = clear_above jx m (omega arith) in
     let turn = turns e x x m jx jx byte v2 sm sm (λ l. absurd (omega arith)) clear after.numbers sign2 in
     let v3 = block e (turned_code x x m) v2 in
     let short3 = turned_short x x m in
     let go3 = block_goes e (turned_code x x m) rest.0 last.0 v2 short3.straight last.1 in
-    let at30 : v3.at 30 < 256 = (let y : v3.at 30 ≡ v2.at 30 = turn.keeps.same 30 (omega arith) (omega arith) (λ l. absurd (omega arith)) in rw y (after.numbers 30 (omega arith))) in
-    let at31 : v3.at 31 < 256 = (let y : v3.at 31 ≡ v2.at 31 = turn.keeps.same 31 (omega arith) (omega arith) (λ l. absurd (omega arith)) in rw y (after.numbers 31 (omega arith))) in
+    let at30 : v3.at 30 < 256 = (let y : v3.at 30 ≡ v2.at 30 = turn.keeps.same 30 (omega arith) (omega arith) (λ l. absurd (omega arith)) in
+    rw y (after.numbers 30 (omega arith))) in
+    let at31 : v3.at 31 < 256 = (let y : v3.at 31 ≡ v2.at 31 = turn.keeps.same 31 (omega arith) (omega arith) (λ l. absurd (omega arith)) in
+    rw y (after.numbers 31 (omega arith))) in
     let numbers3 = numbers_after v2 v3 jx m after.numbers (λ l y1 y2 y3 y4 r. turn.keeps.same l y1 y2 r) at30 at31 turn.held in
-    let clamp = clamps_are_right to mode e x q m k jx o last.0 end v3 ht tb (omega (arith, em)) sm slots.result (inside_apart o k s (2 * b + 2) m (omega (arith, em)) (omega (arith, lb, ln, lm)) slots.others.2) clear slots.clear.2 numbers3 last.2 in
+    let clamp = clamps_are_right to mode e x q m k jx o last.0 end v3 ht tb (omega (arith, em)) sm slots.result
+    (inside_apart o k s (2 * b + 2) m (omega (arith, em)) (omega (arith, lb, ln, lm)) slots.others.2) clear slots.clear.2 numbers3 last.2 in
     let h1 = short.steps_are in
     let h2 = loop.at_most in
     let h3 = short3.steps_are in
@@ -166,7 +181,8 @@ divided f g to mode e p c q w na nb k i j o s pc end v n z m T W en em lm la ln 
     let held_2 = λ (l : ℕ) (y : l < suc n). (let r : v2.at (jx + l) < 256 = after.numbers (jx + l) (omega arith) in r) in
     let signed_a = operand_signed f.signed v.at i na A held_a begun.number in
     let signed_b = operand_signed g.signed v.at j nb D held_b begun.divisor in
-    let kept = all_kept e (60 + 20 * max m k) last.0 end f.signed g.signed i na j nb s z T n m o k byte (A * 256 ^ z) D v u v2 v3 (fit to mode (signed_number m (value v3.at jx m))) lb ln lm begun after turn clamp in
+    let kept = all_kept e (60 + 20 * max m k) last.0 end f.signed g.signed i na j nb s z T n m o k byte (A * 256 ^ z) D v u v2 v3
+    (fit to mode (signed_number m (value v3.at jx m))) lb ln lm begun after turn clamp in
     record {
       steps = t1 + loop.steps + t3 + clamp.steps;
       at_most = steps_bound a b k T (suc n) m W z t1 loop.steps t3 clamp.steps room (omega (arith, en)) h1 h2 h3 h4;
@@ -174,7 +190,8 @@ divided f g to mode e p c q w na nb k i j o s pc end v n z m T W en em lm la ln 
       goes = goes_on_to e (t1 + loop.steps + t3) clamp.steps pc last.0 end v v3 clamp.last goes3 clamp.goes;
       holds = holds_quotient f g to mode a b (value v.at i a) (value v.at j b) k (value clamp.last.at o k) D sb signed_b
           (λ some. subst (λ y. HoldsResult k (fit to mode y) (value clamp.last.at o k))
-          (result_is f g to n m z T a b (value v.at i a) (value v.at j b) A D jr jx b sa sb v2 v3 en et inside em lm la some (after.long some) held_2 turn signed_a signed_b)
+          (result_is f g to n m z T a b (value v.at i a) (value v.at j b) A D jr jx b sa sb v2 v3 en et inside em lm la some
+          (after.long some) held_2 turn signed_a signed_b)
           clamp.holds);
       numbers = clamp.numbers;
       same = kept.same;

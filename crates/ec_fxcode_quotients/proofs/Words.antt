@@ -1,26 +1,28 @@
 -- The steps and words of a turn.
-use Rattle.std.proofs.Common.{◌≡◌, ℕ, zero, suc, ◌+◌, ◌*◌, ◌≤◌, true, List, [], ◌∷◌, ◌++◌, refl, arith}
+use Rattle.std.proofs.Common.{◌≡◌, ℕ, zero, suc, ◌+◌, ◌*◌, ◌≤◌, true, [], ◌∷◌, ◌++◌, refl, arith}
 use Rattle.std.proofs.lemmas.List.Sums.{sum_by-append}
 use Rattle.ec_isa.specs.declared.instructions.Instr.TheVariants.{Adc}
-use Rattle.ec_asm.specs.declared.items.AsmItem.{AsmItem}
 use Rattle.ec_asm.specs.declared.items.AsmItem.TheVariants.{Plain}
 use Rattle.ec_asm.specs.declared.pieces.Location.{Location}
 use Rattle.ec_asm.specs.declared.pieces.Location.TheVariants.{InRegisters, InMemory}
 use Rattle.ec_asm.specs.declared.pieces.Operator.TheVariants.{Sum, Difference}
-use Rattle.ec_asm.specs.Items.{all_straight, code_steps, code_words, item_words, chain}
+use Rattle.ec_asm.specs.Items.{all_straight, code_steps, code_words, item_words}
 use Rattle.ec_asm.specs.Pieces.{operate_byte, operate_code, compare_byte, compare_code}
 use Rattle.ec_asm.proofs.Hoare.{straight-append, steps-append}
+use Rattle.ec_asm.proofs.ItemWords.{chain_words, sum_words, sum_words_far}
 use Rattle.ec_asm.proofs.Results.{pieces_are_straight, pieces_take}
 use Rattle.ec_select_quotients.specs.Quotients.{mark_code as lowest_code}
 use Rattle.ec_select_quotients.proofs.Marks.{mark_straight, mark_steps}
 use Rattle.ec_fxcode.specs.Clamps.{take_byte, put_byte}
 use Rattle.ec_fxcode.proofs.Short.{IsShort, joined, chained, take_short, put_short}
-use Rattle.ec_fxcode_quotients.specs.Quotients.{remainder_at, number_at, rotate_byte, rotate_code, bring_code, bring_words, take_code, take_words, skip_code, turn_code, turn_words}
+use Rattle.ec_fxcode_quotients.specs.Quotients.{remainder_at, number_at, rotate_byte, rotate_code, bring_code, bring_words, take_code}
+use Rattle.ec_fxcode_quotients.specs.Quotients.{take_words, skip_code, turn_code, turn_words}
 
 rotate_byte_short : (r : Location) (i : ℕ) → IsShort (rotate_byte r i) 3 5
 rotate_byte_short r i =
     joined (take_byte r i) (Plain (Adc 0 0) ∷ put_byte 0 r i) 1 2 2 3 (take_short r i)
-    (joined (Plain (Adc 0 0) ∷ []) (put_byte 0 r i) 1 1 1 2 (record { straight = refl; steps_are = omega arith; words_are = omega arith }) (put_short 0 r i))
+    (joined (Plain (Adc 0 0) ∷ []) (put_byte 0 r i) 1 1 1 2 (record { straight = refl; steps_are = omega arith; words_are = omega arith })
+    (put_short 0 r i))
 
 pub rotate_short : (r : Location) (m : ℕ) → IsShort (rotate_code r m) (m * 3) (m * 5)
 rotate_short r m = chained (rotate_byte r) m 3 5 (rotate_byte_short r)
@@ -35,7 +37,14 @@ bring_steps d r x m n =
     let a = (pieces_take Sum x x n).1.1 in
     let b = (rotate_short r m).steps_are in
     let c = (pieces_take Sum d r m).2.1 in
-    omega (arith, steps-append (operate_code Sum x x n) (rotate_code r m ++ compare_code d r m), steps-append (rotate_code r m) (compare_code d r m), a, b, c)
+    omega (
+      arith,
+      steps-append (operate_code Sum x x n) (rotate_code r m ++ compare_code d r m),
+      steps-append (rotate_code r m) (compare_code d r m),
+      a,
+      b,
+      c,
+    )
 
 pub take_straight : (d r x : Location) (m : ℕ) → all_straight (take_code d r x m) ≡ true
 take_straight d r x m =
@@ -48,22 +57,6 @@ take_steps d r x m =
     omega (arith, steps-append (operate_code Difference d r m) (lowest_code x), a, b)
 
 -- ---- words
-
-chain_words : (body : ℕ → List AsmItem) (n k : ℕ) → ((i : ℕ) → code_words (body i) ≡ k)
-    → code_words (chain body n) ≡ k * n
-chain_words body zero k h = omega arith
-chain_words body (suc n) k h =
-    let r = chain_words body n k h in
-    let b = h n in
-    omega (arith, sum_by-append item_words (chain body n) (body n), r, b)
-
-sum_near : (r i : ℕ) → code_words (operate_byte Sum (InRegisters r) (InRegisters r) i) ≡ 1
-sum_near r zero = refl
-sum_near r (suc i) = refl
-
-sum_far : (o k i : ℕ) → code_words (operate_byte Sum (InMemory o k) (InMemory o k) i) ≡ 7
-sum_far o k zero = refl
-sum_far o k (suc i) = refl
 
 less_near : (r s i : ℕ) → code_words (operate_byte Difference (InRegisters r) (InRegisters s) i) ≡ 1
 less_near r s zero = refl
@@ -86,31 +79,62 @@ pub bring_has_words : (w : Location) (b n : ℕ)
 bring_has_words (InRegisters r) b n =
     let x = r + (2 * b + 2) in
     let y = r + suc b in
-    let p = chain_words (operate_byte Sum (InRegisters x) (InRegisters x)) n 1 (sum_near x) in
+    let p = chain_words (operate_byte Sum (InRegisters x) (InRegisters x)) n 1 (sum_words x) in
     let q = chain_words (rotate_byte (InRegisters y)) (suc b) 3 (λ i. refl) in
     let s = chain_words (compare_byte (InRegisters r) (InRegisters y)) (suc b) 1 (compare_near r y) in
-    omega (arith, sum_by-append item_words (operate_code Sum (InRegisters x) (InRegisters x) n) (rotate_code (InRegisters y) (suc b) ++ compare_code (InRegisters r) (InRegisters y) (suc b)), sum_by-append item_words (rotate_code (InRegisters y) (suc b)) (compare_code (InRegisters r) (InRegisters y) (suc b)), p, q, s)
+    omega (
+      arith,
+      sum_by-append item_words (operate_code Sum (InRegisters x) (InRegisters x) n)
+          (rotate_code (InRegisters y) (suc b) ++ compare_code (InRegisters r) (InRegisters y) (suc b)),
+      sum_by-append item_words (rotate_code (InRegisters y) (suc b)) (compare_code (InRegisters r) (InRegisters y) (suc b)),
+      p,
+      q,
+      s,
+    )
 bring_has_words (InMemory o k) b n =
     let x = k + (2 * b + 2) in
     let y = k + suc b in
-    let p = chain_words (operate_byte Sum (InMemory o x) (InMemory o x)) n 7 (sum_far o x) in
+    let p = chain_words (operate_byte Sum (InMemory o x) (InMemory o x)) n 7 (sum_words_far o x) in
     let q = chain_words (rotate_byte (InMemory o y)) (suc b) 5 (λ i. refl) in
     let s = chain_words (compare_byte (InMemory o k) (InMemory o y)) (suc b) 5 (compare_far o k o y) in
-    omega (arith, sum_by-append item_words (operate_code Sum (InMemory o x) (InMemory o x) n) (rotate_code (InMemory o y) (suc b) ++ compare_code (InMemory o k) (InMemory o y) (suc b)), sum_by-append item_words (rotate_code (InMemory o y) (suc b)) (compare_code (InMemory o k) (InMemory o y) (suc b)), p, q, s)
+    omega (
+      arith,
+      sum_by-append item_words (operate_code Sum (InMemory o x) (InMemory o x) n)
+          (rotate_code (InMemory o y) (suc b) ++ compare_code (InMemory o k) (InMemory o y) (suc b)),
+      sum_by-append item_words (rotate_code (InMemory o y) (suc b)) (compare_code (InMemory o k) (InMemory o y) (suc b)),
+      p,
+      q,
+      s,
+    )
 
 pub take_has_words : (w : Location) (b : ℕ)
     → code_words (take_code w (remainder_at w b) (number_at w b) (suc b)) ≡ take_words w (suc b)
 take_has_words (InRegisters r) b =
     let y = r + suc b in
     let p = chain_words (operate_byte Difference (InRegisters r) (InRegisters y)) (suc b) 1 (less_near r y) in
-    omega (arith, sum_by-append item_words (operate_code Difference (InRegisters r) (InRegisters y) (suc b)) (lowest_code (number_at (InRegisters r) b)), p)
+    omega (
+      arith,
+      sum_by-append item_words (operate_code Difference (InRegisters r) (InRegisters y) (suc b))
+          (lowest_code (number_at (InRegisters r) b)),
+      p,
+    )
 take_has_words (InMemory o k) b =
     let y = k + suc b in
     let p = chain_words (operate_byte Difference (InMemory o k) (InMemory o y)) (suc b) 7 (less_far o k o y) in
-    omega (arith, sum_by-append item_words (operate_code Difference (InMemory o k) (InMemory o y) (suc b)) (lowest_code (number_at (InMemory o k) b)), p)
+    omega (
+      arith,
+      sum_by-append item_words (operate_code Difference (InMemory o k) (InMemory o y) (suc b)) (lowest_code (number_at (InMemory o k) b)),
+      p,
+    )
 
 pub turn_has_words : (w : Location) (b n : ℕ) → code_words (turn_code w b n) ≡ turn_words w b n
 turn_has_words w b n =
     let r = remainder_at w b in
     let x = number_at w b in
-    omega (arith, sum_by-append item_words (bring_code w r x (suc b) n) (skip_code w (suc b) ++ take_code w r x (suc b)), sum_by-append item_words (skip_code w (suc b)) (take_code w r x (suc b)), bring_has_words w b n, take_has_words w b)
+    omega (
+      arith,
+      sum_by-append item_words (bring_code w r x (suc b) n) (skip_code w (suc b) ++ take_code w r x (suc b)),
+      sum_by-append item_words (skip_code w (suc b)) (take_code w r x (suc b)),
+      bring_has_words w b n,
+      take_has_words w b,
+    )

@@ -3,22 +3,36 @@
 -- remainder, each with a byte more than the divisor has, and above them the number that is divided, at the top of n
 -- bytes: the quotient takes its place bit by bit from below. R30 counts the bits, and R31 is 255 where the result is
 -- negative. R0, R1, R30 and R31 are work registers.
-use Rattle.std.specs.Prelude.{ℕ, suc, ◌+◌, ◌-◌, ◌*◌, ◌/◌, max, Bool, pos, List, [], ◌∷◌, ◌++◌}
-use Rattle.ec_isa.specs.declared.instructions.Instr.TheVariants.{Adc, Mov, Ldi, Eor, Brbc, Rjmp}
+use Rattle.std.specs.Prelude.{ℕ, ◌+◌, ◌*◌, pos, negsuc, List, [], ◌∷◌, ◌++◌}
+use Rattle.ec_isa.specs.declared.instructions.Instr.TheVariants.{Eor, Dec, Brbs, Rjmp}
 use Rattle.ec_fx.specs.declared.formats.Format.{Format}
 use Rattle.ec_fx.specs.declared.numbers.Mode.{Mode}
 use Rattle.ec_asm.specs.declared.items.AsmItem.{AsmItem}
 use Rattle.ec_asm.specs.declared.items.AsmItem.TheVariants.{Plain}
 use Rattle.ec_asm.specs.declared.pieces.Location.{Location}
+use Rattle.ec_fxcode.specs.Clamps.{fills_code, clamp_code}
+use Rattle.ec_fxcode_shifts.specs.Shifts.{turned_code}
+use Rattle.std.specs.Prelude.{suc, ◌-◌, ◌/◌, max, Bool}
+use Rattle.ec_isa.specs.declared.instructions.Instr.TheVariants.{Adc, Mov, Ldi, Brbc}
 use Rattle.ec_asm.specs.declared.pieces.Location.TheVariants.{InRegisters, InMemory}
 use Rattle.ec_asm.specs.declared.pieces.Operator.TheVariants.{Sum, Difference}
 use Rattle.ec_asm.specs.Items.{chain}
 use Rattle.ec_asm.specs.Pieces.{operate_code, compare_code}
 use Rattle.ec_select_quotients.specs.Quotients.{mark_code as lowest_code}
 use Rattle.ec_fxcode.specs.Clamps.{take_byte, put_byte}
-pub use Rattle.ec_fxcode_parts.specs.Quotients.{clear_code, finish_code}
-use Rattle.ec_fxcode_parts.specs.Quotients.{again_code}
-use Rattle.ec_fxcode_shifts.specs.Shifts.{mark_code, turned_code}
+use Rattle.ec_fxcode_shifts.specs.Shifts.{mark_code}
+
+-- the byte above the divisor, the remainder, and the lowest z bytes of the number are 0
+abbrev pub clear_code : Location → (b z : ℕ) → List AsmItem
+clear_code w b z = Plain (Eor 31 31) ∷ fills_code w b (2 * b + 2 + z)
+
+-- back over so many words where R30 is not below 0
+abbrev pub again_code : (words : ℕ) → List AsmItem
+again_code words = Plain (Dec 30) ∷ Plain (Brbs 2 (pos 1)) ∷ Plain (Rjmp (negsuc (words + 2))) ∷ []
+
+-- the sign of the quotient of n bytes at x, and the clamp into a format of k bytes at q
+abbrev pub finish_code : Format → Mode → (x q : Location) → (n k : ℕ) → List AsmItem
+finish_code to mode x q n k = turned_code x x n ++ clamp_code to mode x q n k
 
 -- ---- sizes
 

@@ -8,9 +8,9 @@ ghost use Rattle.ec_fxcode_quotients.specs.Quotients.{further, remainder_at, num
 ghost use Rattle.ec_fxcode_quotients.specs.Quotients.{bring_code, bring_words, take_code, take_words, skip_code};
 ghost use Rattle.ec_fxcode_quotients.specs.Quotients.{turn_code, turn_words, turns_code};
 
+use crate::quotients::again;
 use ec_asm::{AsmItem, Location, Operator, compare, operate};
 use ec_fxcode::{put_byte, take_byte};
-use ec_fxcode_parts::again;
 use ec_isa::Instr;
 use ec_space::{NoMemory, Seq};
 

@@ -4,7 +4,9 @@
 #![tactic(auto)]
 
 mod division;
+mod formats;
 pub mod laws;
 mod quotients;
 
+pub use formats::whole_format;
 pub use quotients::{Term, div_code, divide_numbers};

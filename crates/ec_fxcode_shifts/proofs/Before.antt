@@ -1,5 +1,6 @@
 -- The count, the sign and the number, before the loop.
-use Rattle.std.proofs.Common.{◌≡◌, ◌≢◌, ℕ, zero, suc, ◌+◌, ◌-◌, ◌*◌, ◌%◌, ◌^◌, ◌<◌, ◌≤◌, ⊎_elim, Bool, true, false, ◌++◌, refl, sym, ap, ◌∙◌, subst, arith, pos, negsuc}
+use Rattle.std.proofs.Common.{◌≡◌, ◌≢◌, ℕ, zero, suc, ◌+◌, ◌-◌, ◌*◌, ◌%◌, ◌^◌, ◌<◌, ◌≤◌, ⊎_elim, Bool, true, false, ◌++◌, refl, sym, ap}
+use Rattle.std.proofs.Common.{◌∙◌, subst, arith, pos, negsuc}
 use Rattle.std.proofs.lemmas.Bool.{cases_eq, cases_lt}
 use Rattle.std.proofs.lemmas.Nat.{mod_below}
 use Rattle.ec_asm.specs.declared.pieces.Location.{Location}
@@ -66,7 +67,8 @@ pub record IsBefore (v u : View) (s n d bits byte : ℕ) : Type 0 where
   pub keeps : KeepsBut v u s n
   pub numbers : HoldsNumbers u
 
-module _ (e : Env) (signed : Bool) (p c q w : Location) (n m a d b s : ℕ) (v : View) (slots : AreSlots e p c q w (suc n) m a d b s) (some : 1 ≤ m) (wide : IsWidth (suc n)) (numbers : HoldsNumbers v) where
+module _ (e : Env) (signed : Bool) (p c q w : Location) (n m a d b s : ℕ) (v : View) (slots : AreSlots e p c q w (suc n) m a d b s)
+    (some : 1 ≤ m) (wide : IsWidth (suc n)) (numbers : HoldsNumbers v) where
   abbrev bits : ℕ
   bits = 8 * suc n
 
@@ -149,7 +151,8 @@ module _ (e : Env) (signed : Bool) (p c q w : Location) (n m a d b s : ℕ) (v :
           sign = x.sign;
           keeps = keeps_all (entered true) (2 * suc n) x.keeps;
           numbers = numbers_after counted (entered true) s (2 * suc n) counted_numbers x.keeps.same first second
-              (λ j l. ⊎_elim (λ (y : j < suc n). rw (low j y) (numbers (a + j) (omega arith))) (λ (y : suc n ≤ j). rw (x.high j y l) byte_small) (cases_lt j (suc n)));
+              (λ j l. ⊎_elim (λ (y : j < suc n). rw (low j y) (numbers (a + j) (omega arith)))
+              (λ (y : suc n ≤ j). rw (x.high j y l) byte_small) (cases_lt j (suc n)));
         };
         low = low;
         high = x.high;
@@ -192,7 +195,8 @@ module _ (e : Env) (signed : Bool) (p c q w : Location) (n m a d b s : ℕ) (v :
       let out30 = beside s (suc n) 30 clear refl in
       let out31 = beside_more s (suc n) clear in
       let old = value-same marked.at v.at a (suc n) marked_same in
-      let at30 : u.at 30 ≡ counted.at 30 = x.keeps.same 30 (omega arith) (omega arith) out30 ∙ mark_there.same 30 (omega arith) (omega arith) in
+      let at30 : u.at 30 ≡ counted.at 30 =
+      x.keeps.same 30 (omega arith) (omega arith) out30 ∙ mark_there.same 30 (omega arith) (omega arith) in
       let at31 : u.at 31 ≡ byte = x.keeps.same 31 (omega arith) (omega arith) out31 ∙ mark_there.sign in
       let first : u.at 30 < 256 = rw at30 (counted_numbers 30 (omega arith)) in
       let second : u.at 31 < 256 = rw at31 byte_small in
@@ -214,11 +218,13 @@ module _ (e : Env) (signed : Bool) (p c q w : Location) (n m a d b s : ℕ) (v :
     where
       beside : (s n k : ℕ) → IsClearOfEnds s n → k ≡ 30 → Outside s n k
       beside s n k c e l =
-          ⊎_elim (λ (x : s < 30). let y = c.below x in omega arith) (λ (x : 30 ≤ s). let y = c.above x in absurd (omega arith)) (cases_lt s 30)
+          ⊎_elim (λ (x : s < 30). let y = c.below x in omega arith)
+          (λ (x : 30 ≤ s). let y = c.above x in absurd (omega arith)) (cases_lt s 30)
 
       beside_more : (s n : ℕ) → IsClearOfEnds s n → Outside s n 31
       beside_more s n c l =
-          ⊎_elim (λ (x : s < 30). let y = c.below x in omega arith) (λ (x : 30 ≤ s). let y = c.above x in absurd (omega arith)) (cases_lt s 30)
+          ⊎_elim (λ (x : s < 30). let y = c.below x in omega arith)
+          (λ (x : 30 ≤ s). let y = c.above x in absurd (omega arith)) (cases_lt s 30)
 
   pub begins_right : IsTurned (block e (before_code signed false p c w (suc n)) v)
   begins_right = subst IsTurned (sym (entered_is false)) turned

@@ -1,5 +1,6 @@
 -- The count, the sign, and the number in the work bytes.
-use Rattle.std.proofs.Common.{◌≡◌, ◌≢◌, ℕ, suc, ◌+◌, ◌-◌, ◌*◌, ◌%◌, ◌^◌, ◌<◌, ◌≤◌, ◌⊎◌, inl, inr, ⊎_elim, Bool, true, false, [], ◌∷◌, ◌++◌, append-nil, bit_and, refl, ap, ◌∙◌, subst, arith}
+use Rattle.std.proofs.Common.{◌≡◌, ◌≢◌, ℕ, suc, ◌+◌, ◌-◌, ◌*◌, ◌%◌, ◌^◌, ◌<◌, ◌≤◌, ◌⊎◌, inl, inr, ⊎_elim, Bool, true, false, [], ◌∷◌, ◌++◌}
+use Rattle.std.proofs.Common.{append-nil, bit_and, refl, ap, ◌∙◌, subst, arith}
 use Rattle.std.specs.Int.Bits.{xor_self}
 use Rattle.std.proofs.lemmas.Bool.{cases_eq, cases_lt}
 use Rattle.std.proofs.lemmas.Nat.{and_mask}
@@ -65,8 +66,10 @@ pub counts : (e : Env) (c : Location) (m k d : ℕ) (v : View) → 1 ≤ m → S
 counts e c m k d v some s clear w =
     let below = clear.below in
     let v1 = block e (copy_code c count_row 1) v in
-    let o = copy_holds e c count_row 1 d 30 Own Own v (part_stands e c m 1 d some s) (row_stands e) refl refl (λ x. let y = below x in omega arith) in
-    let here : v1.at 30 ≡ v.at d = (let z : 30 + 0 ≡ 30 = refl in let y : d + 0 ≡ d = omega arith in subst (λ t. v1.at 30 ≡ v.at t) y (o.there 0 (omega arith))) in
+    let o = copy_holds e c count_row 1 d 30 Own Own v (part_stands e c m 1 d some s) (row_stands e) refl refl
+    (λ x. let y = below x in omega arith) in
+    let here : v1.at 30 ≡ v.at d =
+    (let z : 30 + 0 ≡ 30 = refl in let y : d + 0 ≡ d = omega arith in subst (λ t. v1.at 30 ≡ v.at t) y (o.there 0 (omega arith))) in
     let u = change e (Andi 30 (8 * k - 1)) v1 in
     rw (block-append e (copy_code c count_row 1) (Plain (Andi 30 (8 * k - 1)) ∷ []) v) (record {
       count = ap (λ x. bit_and x (8 * k - 1)) here ∙ masked (v.at d) k w;
@@ -104,7 +107,8 @@ widens e p w n a s byte v v1 sa ss apart ca cs sign =
     let k = suc n in
     let first = apart.first in
     let v2 = block e (copy_code p w k) v1 in
-    let c = copy_holds e p w k a s Own Own v1 sa (part_stands e w (2 * k) k s (omega arith) ss) refl refl (λ x. let y = first x in omega arith) in
+    let c =
+    copy_holds e p w k a s Own Own v1 sa (part_stands e w (2 * k) k s (omega arith) ss) refl refl (λ x. let y = first x in omega arith) in
     let v31 : v2.at 31 ≡ byte = c.same 31 (λ x. omega arith) (λ x. beyond s (2 * k) k (omega arith) cs x) ∙ sign.sign in
     let f = fills e w (2 * k) s k byte v2 ss cs v31 in
     rw (block-append e (copy_code p w k) (fills_code w k (2 * k)) v1)
@@ -120,5 +124,6 @@ numbers_after v w b k h same first second held j l =
     ⊎_elim (λ (y : j ≡ 31). rw y second) (λ (y : j ≢ 31).
     let outside = λ (o : Outside b k j). (let z : w.at j < 256 = rw (same j (λ t. omega arith) (λ t. omega arith) x y o) (h j l) in z) in
     ⊎_elim (λ (below : j < b). outside (λ t. absurd (omega arith))) (λ (above : b ≤ j).
-    ⊎_elim (λ (inside : j < b + k). let at : b + (j - b) ≡ j = omega arith in subst (λ i. w.at i < 256) at (held (j - b) (omega arith))) (λ (past : b + k ≤ j). outside (λ t. past)) (cases_lt j (b + k)))
+    ⊎_elim (λ (inside : j < b + k). let at : b + (j - b) ≡ j = omega arith in subst (λ i. w.at i < 256) at (held (j - b) (omega arith)))
+    (λ (past : b + k ≤ j). outside (λ t. past)) (cases_lt j (b + k)))
     (cases_lt j b)) (cases_eq j 31)) (cases_eq j 30)

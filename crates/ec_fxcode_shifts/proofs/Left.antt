@@ -1,5 +1,6 @@
 -- A shift to the left.
-use Rattle.std.proofs.Common.{◌≡◌, ℕ, zero, suc, ◌+◌, ◌-◌, ◌*◌, ◌%◌, ◌^◌, ◌<◌, ◌≤◌, max, ⊎_elim, Bool, true, false, sym, ap, ◌∙◌, subst, arith, pow-add, pos, ◌*ℤ◌}
+use Rattle.std.proofs.Common.{◌≡◌, ℕ, zero, suc, ◌+◌, ◌-◌, ◌*◌, ◌%◌, ◌^◌, ◌<◌, ◌≤◌, max, ⊎_elim, Bool, true, false, sym, ap, ◌∙◌, subst}
+use Rattle.std.proofs.Common.{arith, pow-add, pos, ◌*ℤ◌}
 use Rattle.std.proofs.lemmas.Bool.{cases_lt}
 use Rattle.std.proofs.lemmas.Nat.{pow_pos, mod_below}
 use Rattle.std.proofs.Math.Nat.{pow-le-pow_right}
@@ -95,7 +96,8 @@ with_ones f g s a k low high l =
 left_value : (signed : Bool) (f g : ℕ → ℕ) (s a n c : ℕ) → AreHeld g a (suc n) → c < 8 * suc n
     → ((j : ℕ) → j < suc n → f (s + j) ≡ g (a + j))
     → ((j : ℕ) → suc n ≤ j → j < 2 * suc n → f (s + j) ≡ mark_of signed (g (a + n)))
-    → signed_number (2 * suc n) (shifted_by Left (2 * suc n) (value f s (2 * suc n)) c) ≡ number_in signed (suc n) (value g a (suc n)) *ℤ pos (2 ^ c)
+    → signed_number (2 * suc n) (shifted_by Left (2 * suc n) (value f s (2 * suc n)) c)
+    ≡ number_in signed (suc n) (value g a (suc n)) *ℤ pos (2 ^ c)
 left_value false f g s a n c held l low high =
     let k = suc n in
     let A = value g a k in
@@ -119,7 +121,8 @@ left_value true f g s a n c held l low high =
     let z = sign.minus more in
     let w = with_ones f g s a k low (λ j x y. high j x y ∙ z) (omega arith) in
     let one = pow_pos c in
-    rw (minus k A more below) (left_minus (2 * k) (value f s (2 * k)) (N - A) N (2 ^ c) (doubled_power k) w (omega arith) (omega arith) one t))
+    rw (minus k A more below)
+    (left_minus (2 * k) (value f s (2 * k)) (N - A) N (2 ^ c) (doubled_power k) w (omega arith) (omega arith) one t))
     (cases_lt (2 * A) N)
 
 -- ---- the run
@@ -127,7 +130,8 @@ left_value true f g s a n c held l low high =
 pub left_runs : (f g : Format) (mode : Mode) (e : Env) (p c q w : Location) (n m a d b s pc end : ℕ) (v : View)
     → IsFormat f → f.bits ≡ 8 * suc n → 1 ≤ m → IsWidth (suc n) → AreSlots e p c q w (suc n) m a d b s → HoldsNumbers v
     → HasAt e (shift_code f true mode p c q w (suc n)) pc end
-    → Shifts e (64 * most_words (max (suc n) m)) pc v end b (suc n) s (fixed_in f (suc n) (value v.at a (suc n))) (number_in g.signed m (value v.at d m)) true mode
+    → Shifts e (64 * most_words (max (suc n) m)) pc v end b (suc n) s (fixed_in f (suc n) (value v.at a (suc n)))
+    (number_in g.signed m (value v.at d m)) true mode
 left_runs f g mode e p c q w n m a d b s pc end v is bits some wide slots numbers stands =
     let k = suc n in
     let most = wide.most in
@@ -143,30 +147,38 @@ left_runs f g mode e p c q w n m a d b s pc end v is bits some wide slots number
     let clear = clear_part s (2 * k) 40 (omega arith) slots.clear.3 in
     let work = part_stands e w 40 (2 * k) s (omega arith) slots.work in
     let count : u.at 30 < 8 * k = (let r = before.count in rw r (mod_below (v.at d) (8 * k) (omega arith))) in
-    let loop = loops Left e w (2 * k) s parts.0 rest.0 u (omega arith) work (clear_of_30 s (2 * k) clear) before.numbers (omega arith) rest.1 in
+    let loop =
+    loops Left e w (2 * k) s parts.0 rest.0 u (omega arith) work (clear_of_30 s (2 * k) clear) before.numbers (omega arith) rest.1 in
     let v2 = loop.last in
     let apart = apart_turned b k s (2 * k) (omega arith) (omega arith) (apart_part b k s (2 * k) 40 (omega arith) slots.others.2) in
-    let clamp = clamps_are_right f mode e w q (2 * k) k s b rest.0 end v2 is bits (omega arith) work slots.result apart clear slots.clear.2 loop.numbers rest.2 in
+    let clamp = clamps_are_right f mode e w q (2 * k) k s b rest.0 end v2 is bits
+    (omega arith) work slots.result apart clear slots.clear.2 loop.numbers rest.2 in
     let h1 = short.steps_are in
     let h2 = loop.at_most in
     let h3 = clamp.at_most in
     record {
       steps = code_steps first + loop.steps + clamp.steps;
-      at_most = steps_bound k (max k m) (u.at 30) (2 * k) (code_steps first) loop.steps clamp.steps (omega arith) (omega arith) (omega arith) (omega arith) h1 h2 (omega (arith, h3));
+      at_most = steps_bound k (max k m) (u.at 30) (2 * k) (code_steps first) loop.steps clamp.steps (omega arith) (omega arith)
+          (omega arith) (omega arith) h1 h2 (omega (arith, h3));
       last = clamp.last;
-      goes = goes_on_to e (code_steps first + loop.steps) clamp.steps pc rest.0 end v v2 clamp.last (goes_on_to e (code_steps first) loop.steps pc parts.0 rest.0 v u v2 go1 loop.goes) clamp.goes;
+      goes = goes_on_to e (code_steps first + loop.steps) clamp.steps pc rest.0 end v v2 clamp.last
+          (goes_on_to e (code_steps first) loop.steps pc parts.0 rest.0 v u v2 go1 loop.goes) clamp.goes;
       holds = λ t is_count inside.
-          let held = λ (j : ℕ) (l : j < m). (let ud = slots.count.clear in let o : v.at (d + j) < 256 = numbers (d + j) (omega arith) in o) in
+          let held =
+          λ (j : ℕ) (l : j < m). (let ud = slots.count.clear in let o : v.at (d + j) < 256 = numbers (d + j) (omega arith) in o) in
           let V = count_is g.signed m (value v.at d m) t (value_below v.at d m held) is_count in
           let l8 : t < 8 * k = rw (sym bits) inside in
           let low : v.at d ≡ t = low_count v.at d m t some V (omega arith) in
           let now : u.at 30 ≡ t = before.count ∙ ap (λ x. x % (8 * k)) low ∙ small t (8 * k) l8 in
           let number = loop.number_is ∙ ap (shifted_by Left (2 * k) (value u.at s (2 * k))) now in
           let is_value : signed_number (2 * k) (value v2.at s (2 * k)) ≡ number_in f.signed k (value v.at a k) *ℤ pos (2 ^ t) =
-          ap (signed_number (2 * k)) number ∙ left_value f.signed u.at v.at s a n t (λ j x. numbers (a + j) (omega arith)) l8 begun.low begun.high in
-          subst (λ z. HoldsResult k (fit f mode z) (value clamp.last.at b k)) (is_value ∙ sym (div_one (number_in f.signed k (value v.at a k) *ℤ pos (2 ^ t)))) clamp.holds;
+          ap (signed_number (2 * k)) number
+          ∙ left_value f.signed u.at v.at s a n t (λ j x. numbers (a + j) (omega arith)) l8 begun.low begun.high in
+          subst (λ z. HoldsResult k (fit f mode z) (value clamp.last.at b k))
+          (is_value ∙ sym (div_one (number_in f.signed k (value v.at a k) *ℤ pos (2 ^ t)))) clamp.holds;
       numbers = clamp.numbers;
-      same = λ j x y z o i r. clamp.same j x y z o i ∙ loop.same j x y z (λ l. let h = r l in omega arith) ∙ before.keeps.same j x y z o (λ l. let h = r l in omega arith);
+      same = λ j x y z o i r. clamp.same j x y z o i ∙ loop.same j x y z (λ l. let h = r l in omega arith)
+          ∙ before.keeps.same j x y z o (λ l. let h = r l in omega arith);
       inputs = clamp.inputs ∙ loop.inputs ∙ before.keeps.inputs;
       safe = clamp.safe ∙ loop.safe ∙ before.keeps.safe;
       seen = clamp.seen ∙ loop.seen ∙ before.keeps.seen;

@@ -1,12 +1,14 @@
+-- For the crates of the family.
 pub mod Before
-pub mod Bounds
 pub mod Entered
-pub mod Left
 pub mod Places
 pub mod Right
 pub mod Shifted
 pub mod Steps
 pub mod Negated
-pub mod Turns
 pub mod ValidItems
-pub mod Whole
+-- For this crate alone.
+mod Bounds
+mod Left
+mod Turns
+mod Whole

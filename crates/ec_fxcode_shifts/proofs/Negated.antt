@@ -1,5 +1,6 @@
 -- A number that is negated where R31 is 255, and copied where it is 0.
-use Rattle.std.proofs.Common.{◌≡◌, ◌≢◌, ℕ, zero, suc, ◌+◌, ◌-◌, ◌*◌, ◌%◌, ◌^◌, ◌<◌, ◌≤◌, ⊎_elim, ◌∷◌, bit_xor, bit_and, refl, sym, ap, ◌∙◌, subst, arith}
+use Rattle.std.proofs.Common.{◌≡◌, ◌≢◌, ℕ, zero, suc, ◌+◌, ◌-◌, ◌*◌, ◌%◌, ◌^◌, ◌<◌, ◌≤◌, ⊎_elim, ◌∷◌, bit_xor, bit_and, refl, sym, ap, ◌∙◌}
+use Rattle.std.proofs.Common.{subst, arith}
 use Rattle.std.specs.Prelude.{nat_lt}
 use Rattle.std.specs.Int.{from_bool}
 use Rattle.std.proofs.lemmas.Bool.{cases_eq}
@@ -28,7 +29,8 @@ use Rattle.ec_fxcode_shifts.specs.Shifts.{turned_byte, turned_code}
 -- ---- one byte
 
 less_change : (e : Env) (i : ℕ) (v : View) → change e (instruction Difference i 0 31) v ≡
-    set_both 0 (byte_difference (v.at 0) (v.at 31) (carry_at i v.flags)) (difference_flags v.flags (v.at 0) (v.at 31) (carry_at i v.flags) (zero_at i v.flags)) v
+    set_both 0 (byte_difference (v.at 0) (v.at 31) (carry_at i v.flags))
+    (difference_flags v.flags (v.at 0) (v.at 31) (carry_at i v.flags) (zero_at i v.flags)) v
 less_change e zero v = refl
 less_change e (suc i) v = refl
 
@@ -55,9 +57,13 @@ byte_turned e p q i a b v pa qb ka kb =
     let at0 : v2.at 0 ≡ bit_xor (v.at a) (v.at 31) = refl in
     let at31 : v2.at 31 ≡ v.at 31 = refl in
     let is = less_change e i v2 in
-    let d0 : v3.at 0 ≡ byte_difference (bit_xor (v.at a) (v.at 31)) (v.at 31) (carry_at i v.flags) = ap (λ (u : View). u.at 0) is ∙ ap (byte_difference (bit_xor (v.at a) (v.at 31)) (v.at 31)) c in
-    let f0 : v3.flags.c ≡ from_bool (nat_lt (bit_xor (v.at a) (v.at 31)) (v.at 31 + carry_at i v.flags)) = ap (λ (u : View). u.flags.c) is ∙ ap (λ t. from_bool (nat_lt (bit_xor (v.at a) (v.at 31)) (v.at 31 + t))) c in
-    let s0 = λ (k : ℕ) (z : k ≢ 0). (let o : v3.at k ≡ v.at k = ap (λ (u : View). u.at k) is ∙ put_other v2.at 0 _ k z ∙ put_other v1.at 0 _ k z ∙ put_other v.at 0 _ k z in o) in
+    let d0 : v3.at 0 ≡ byte_difference (bit_xor (v.at a) (v.at 31)) (v.at 31) (carry_at i v.flags) =
+    ap (λ (u : View). u.at 0) is ∙ ap (byte_difference (bit_xor (v.at a) (v.at 31)) (v.at 31)) c in
+    let f0 : v3.flags.c ≡ from_bool (nat_lt (bit_xor (v.at a) (v.at 31)) (v.at 31 + carry_at i v.flags)) =
+    ap (λ (u : View). u.flags.c) is ∙ ap (λ t. from_bool (nat_lt (bit_xor (v.at a) (v.at 31)) (v.at 31 + t))) c in
+    let s0 = λ (k : ℕ) (z : k ≢ 0).
+    (let o : v3.at k ≡ v.at k = ap (λ (u : View). u.at k) is ∙ put_other v2.at 0 _ k z ∙ put_other v1.at 0 _ k z ∙ put_other v.at 0 _ k z in
+    o) in
     let w = set b (v3.at 0) v3 in
     let all : block e (turned_byte p q i) v ≡ w =
     block-append e (take_byte p i) (Plain (Eor 0 31) ∷ Plain less ∷ put_byte 0 q i) v
@@ -124,15 +130,19 @@ turn_step e p q n a b m v0 sa sb far clear numbers sign i l v h =
     record {
       plus = λ z.
           let ic : c ≡ 0 = (h.plus z).1 in
-          let sum : x + 256 * w.flags.c ≡ 0 + 0 + y = rw (carry, is, z, xor_zero_r x, ic) (byte_borrow x 0 0 bx (omega arith) (omega arith)) in
+          let sum : x + 256 * w.flags.c ≡ 0 + 0 + y =
+          rw (carry, is, z, xor_zero_r x, ic) (byte_borrow x 0 0 bx (omega arith) (omega arith)) in
           let r = no_carry x y w.flags.c bx by sum in
           let v1 = (h.plus z).0 in
           (rw (low, r.0, v1) refl, r.1);
       minus = λ z.
-          let sum : 255 - x + 256 * w.flags.c ≡ 255 + c + y = rw (carry, is, z, complement x bx) (byte_borrow (255 - x) 255 c (omega arith) (omega arith) bit) in
-          rw (low, pow-suc 256 i) (minus_step (value v.at b i) (value v0.at a i) x y c w.flags.c (256 ^ i) (h.minus z) (minus_digit x c w.flags.c y bx sum));
+          let sum : 255 - x + 256 * w.flags.c ≡ 255 + c + y =
+          rw (carry, is, z, complement x bx) (byte_borrow (255 - x) 255 c (omega arith) (omega arith) bit) in
+          rw (low, pow-suc 256 i)
+          (minus_step (value v.at b i) (value v0.at a i) x y c w.flags.c (256 ^ i) (h.minus z) (minus_digit x c w.flags.c y bx sum));
       bit = rw carry (borrow_bit (bit_xor x m) m c);
-      held = λ j k. ⊎_elim (λ (s : j ≡ i). subst (λ t. w.at (b + t) < 256) (sym s) by) (λ (s : j ≢ i). let t : w.at (b + j) ≡ v.at (b + j) = o.same (b + j) (omega arith) (omega arith) in rw t (h.held j (omega arith))) (cases_eq j i);
+      held = λ j k. ⊎_elim (λ (s : j ≡ i). subst (λ t. w.at (b + t) < 256) (sym s) by) (λ (s : j ≢ i).
+          let t : w.at (b + j) ≡ v.at (b + j) = o.same (b + j) (omega arith) (omega arith) in rw t (h.held j (omega arith))) (cases_eq j i);
       keeps = keeps_more v0 v w b i h.keeps (λ k z t u. o.same k z u) o.inputs o.safe o.seen;
     }
   where

@@ -1,5 +1,6 @@
 -- A shift to the right.
-use Rattle.std.proofs.Common.{◌≡◌, ℕ, zero, suc, ◌+◌, ◌-◌, ◌*◌, ◌/◌, ◌%◌, ◌^◌, ◌<◌, ◌≤◌, max, ⊎_elim, Bool, true, false, refl, sym, ap, ◌∙◌, arith}
+use Rattle.std.proofs.Common.{◌≡◌, ℕ, zero, suc, ◌+◌, ◌-◌, ◌*◌, ◌/◌, ◌%◌, ◌^◌, ◌<◌, ◌≤◌, max, ⊎_elim, Bool, true, false, refl, sym, ap, ◌∙◌}
+use Rattle.std.proofs.Common.{arith}
 use Rattle.std.proofs.lemmas.Bool.{cases_lt}
 use Rattle.std.proofs.lemmas.Nat.{pow_pos, mod_below}
 use Rattle.ec_fx.specs.declared.formats.Format.{Format}
@@ -90,7 +91,8 @@ beside_31 s n c l =
 pub right_runs : (f g : Format) (mode : Mode) (e : Env) (p c q w : Location) (n m a d b s pc end : ℕ) (v : View)
     → f.bits ≡ 8 * suc n → 1 ≤ m → IsWidth (suc n) → AreSlots e p c q w (suc n) m a d b s → HoldsNumbers v
     → HasAt e (shift_code f false mode p c q w (suc n)) pc end
-    → Shifts e (64 * most_words (max (suc n) m)) pc v end b (suc n) s (fixed_in f (suc n) (value v.at a (suc n))) (number_in g.signed m (value v.at d m)) false mode
+    → Shifts e (64 * most_words (max (suc n) m)) pc v end b (suc n) s (fixed_in f (suc n) (value v.at a (suc n)))
+    (number_in g.signed m (value v.at d m)) false mode
 right_runs f g mode e p c q w n m a d b s pc end v bits some wide slots numbers stands =
     let k = suc n in
     let most = wide.most in
@@ -107,7 +109,8 @@ right_runs f g mode e p c q w n m a d b s pc end v bits some wide slots numbers 
     let clear = clear_part s k 40 (omega arith) slots.clear.3 in
     let work = part_stands e w 40 k s (omega arith) slots.work in
     let count : u.at 30 < 8 * k = (let r = before.count in rw r (mod_below (v.at d) (8 * k) (omega arith))) in
-    let loop = loops (Right false) e w k s parts.0 rest.0 u (omega arith) work (clear_of_30 s k clear) before.numbers (omega arith) rest.1 in
+    let loop =
+    loops (Right false) e w k s parts.0 rest.0 u (omega arith) work (clear_of_30 s k clear) before.numbers (omega arith) rest.1 in
     let v2 = loop.last in
     let apart = apart_turned b k s k (omega arith) (omega arith) (apart_part b k s k 40 (omega arith) slots.others.2) in
     let sign2 : v2.at 31 ≡ byte = loop.same 31 (omega arith) (omega arith) (omega arith) (beside_31 s k clear) ∙ before.sign in
@@ -118,27 +121,38 @@ right_runs f g mode e p c q w n m a d b s pc end v bits some wide slots numbers 
     let h1 = short.steps_are in
     let h2 = loop.at_most in
     let h3 = short2.steps_are in
-    let at30 : w2.at 30 < 256 = (let z : w2.at 30 ≡ v2.at 30 = t.keeps.same 30 (omega arith) (omega arith) (clear_of_30 b k slots.clear.2) in rw z (loop.numbers 30 (omega arith))) in
-    let at31 : w2.at 31 < 256 = (let z : w2.at 31 ≡ v2.at 31 = t.keeps.same 31 (omega arith) (omega arith) (beside_31 b k slots.clear.2) in rw z (loop.numbers 31 (omega arith))) in
+    let at30 : w2.at 30 < 256 =
+    (let z : w2.at 30 ≡ v2.at 30 = t.keeps.same 30 (omega arith) (omega arith) (clear_of_30 b k slots.clear.2) in
+    rw z (loop.numbers 30 (omega arith))) in
+    let at31 : w2.at 31 < 256 = (let z : w2.at 31 ≡ v2.at 31 = t.keeps.same 31 (omega arith) (omega arith) (beside_31 b k slots.clear.2) in
+    rw z (loop.numbers 31 (omega arith))) in
     record {
       steps = code_steps first + loop.steps + code_steps (turned_code w q k);
-      at_most = steps_bound k (max k m) (u.at 30) k (code_steps first) loop.steps (code_steps (turned_code w q k)) (omega arith) (omega arith) (omega arith) (omega arith) h1 h2 (omega (arith, h3));
+      at_most = steps_bound k (max k m) (u.at 30) k (code_steps first) loop.steps (code_steps (turned_code w q k)) (omega arith)
+          (omega arith) (omega arith) (omega arith) h1 h2 (omega (arith, h3));
       last = w2;
-      goes = goes_on_to e (code_steps first + loop.steps) (code_steps (turned_code w q k)) pc rest.0 end v v2 w2 (goes_on_to e (code_steps first) loop.steps pc parts.0 rest.0 v u v2 go1 loop.goes) go3;
+      goes = goes_on_to e (code_steps first + loop.steps) (code_steps (turned_code w q k)) pc rest.0 end v v2 w2
+          (goes_on_to e (code_steps first) loop.steps pc parts.0 rest.0 v u v2 go1 loop.goes) go3;
       holds = λ z is_count inside.
-          let held = λ (j : ℕ) (l : j < m). (let ud = slots.count.clear in let o : v.at (d + j) < 256 = numbers (d + j) (omega arith) in o) in
+          let held =
+          λ (j : ℕ) (l : j < m). (let ud = slots.count.clear in let o : v.at (d + j) < 256 = numbers (d + j) (omega arith) in o) in
           let V = count_is g.signed m (value v.at d m) z (value_below v.at d m held) is_count in
           let l8 : z < 8 * k = rw (sym bits) inside in
           let low : v.at d ≡ z = low_count v.at d m z some V (omega arith) in
           let now : u.at 30 ≡ z = before.count ∙ ap (λ x. x % (8 * k)) low ∙ small z (8 * k) l8 in
           let number : value v2.at s k ≡ value u.at s k / 2 ^ z = loop.number_is ∙ ap (shifted_by (Right false) k (value u.at s k)) now in
           let held_a = λ (j : ℕ) (l : j < k). (let o : v.at (a + j) < 256 = numbers (a + j) (omega arith) in o) in
-          right_value f mode f.signed n (value v.at a k) (v.at (a + n)) (2 ^ z) (value u.at s k) (value w2.at b k) refl bits (value_below v.at a k held_a) (pow_pos z) (value_below w2.at b k t.held)
+          right_value f mode f.signed n (value v.at a k) (v.at (a + n)) (2 ^ z) (value u.at s k) (value w2.at b k) refl bits
+          (value_below v.at a k held_a) (pow_pos z) (value_below w2.at b k t.held)
           (sign_given f.signed v.at a n held_a) (no_sign f.signed (v.at (a + n)))
           (record { plus_is = begun.plus; minus_is = begun.minus })
-          (record { plus_is = λ y. (t.plus y).0 ∙ number; minus_is = λ y. (_, t.bit, ap (λ i. value w2.at b k + i) (sym number) ∙ t.minus y) });
+          (record {
+            plus_is = λ y. (t.plus y).0 ∙ number;
+            minus_is = λ y. (_, t.bit, ap (λ i. value w2.at b k + i) (sym number) ∙ t.minus y);
+          });
       numbers = numbers_after v2 w2 b k loop.numbers (λ j x y z o r. t.keeps.same j x y r) at30 at31 t.held;
-      same = λ j x y z o i r. t.keeps.same j x y i ∙ loop.same j x y z (λ l. let h = r l in omega arith) ∙ before.keeps.same j x y z o (λ l. let h = r l in omega arith);
+      same = λ j x y z o i r. t.keeps.same j x y i ∙ loop.same j x y z (λ l. let h = r l in omega arith)
+          ∙ before.keeps.same j x y z o (λ l. let h = r l in omega arith);
       inputs = t.keeps.inputs ∙ loop.inputs ∙ before.keeps.inputs;
       safe = t.keeps.safe ∙ loop.safe ∙ before.keeps.safe;
       seen = t.keeps.seen ∙ loop.seen ∙ before.keeps.seen;

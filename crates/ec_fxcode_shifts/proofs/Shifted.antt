@@ -1,5 +1,6 @@
 -- What is in the bytes is the shifted value.
-use Rattle.std.proofs.Common.{◌≡◌, ℕ, zero, suc, ◌+◌, ◌-◌, ◌*◌, ◌/◌, ◌%◌, ◌^◌, ◌<◌, ◌≤◌, true, false, sym, ap, ◌∙◌, arith, ℤ, pos, negsuc, neg_ℤ, ◌*ℤ◌}
+use Rattle.std.proofs.Common.{◌≡◌, ℕ, zero, suc, ◌+◌, ◌-◌, ◌*◌, ◌/◌, ◌%◌, ◌^◌, ◌<◌, ◌≤◌, true, false, sym, ap, ◌∙◌, arith, ℤ, pos, negsuc}
+use Rattle.std.proofs.Common.{neg_ℤ, ◌*ℤ◌}
 use Rattle.std.proofs.lemmas.Nat.{mul-le, mod-mul-add, div-add-mod'}
 use Rattle.ec_fx.specs.declared.formats.Format.{Format}
 use Rattle.ec_fx.specs.declared.numbers.Mode.{Mode}
@@ -44,9 +45,11 @@ left_minus n W M N p e w some half one h =
     let c : 1 * 1 ≤ M * p = mul-le 1 1 M p some one in
     let t : (W + M) * p ≡ N * N * p = ap (λ z. z * p) w in
     let u : p - 1 + 1 ≡ p = omega arith in
-    let split : N * N * p ≡ (p - 1) * (N * N) + N * N = (let z : N * N * (p - 1 + 1) ≡ N * N * p = ap (λ z. N * N * z) u in omega (arith, z)) in
+    let split : N * N * p ≡ (p - 1) * (N * N) + N * N =
+    (let z : N * N * (p - 1 + 1) ≡ N * N * p = ap (λ z. N * N * z) u in omega (arith, z)) in
     let whole : W * p ≡ (p - 1) * (N * N) + (N * N - M * p) = omega (arith, t, split, a, b) in
-    let q : W * p % 256 ^ n ≡ N * N - M * p = rw e (ap (λ z. z % (N * N)) whole ∙ mod-mul-add (p - 1) (N * N) (N * N - M * p) (omega (arith, a, b, c))) in
+    let q : W * p % 256 ^ n ≡ N * N - M * p =
+    rw e (ap (λ z. z % (N * N)) whole ∙ mod-mul-add (p - 1) (N * N) (N * N - M * p) (omega (arith, a, b, c))) in
     let x = N * N - M * p in
     let neg : signed_number n x ≡ negsuc (256 ^ n - x - 1) = minus n x (rw e (omega (arith, a, b))) (rw e (omega (arith, a, b, c))) in
     let same : 256 ^ n - x - 1 ≡ M * p - 1 = rw e (omega (arith, a, b, c)) in

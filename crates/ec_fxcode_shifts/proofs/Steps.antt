@@ -15,13 +15,16 @@ use Rattle.ec_select_shifts.specs.Shifts.{turn_code, turn_words, jump_code}
 use Rattle.ec_select_shifts.proofs.Words.{turn_has_words}
 use Rattle.ec_fxcode.specs.Clamps.{take_byte, put_byte, fills_code}
 use Rattle.ec_fxcode.proofs.Short.{IsShort, joined, chained, weaker, take_short, put_short, copy_short, sign_short, clamp_short}
-use Rattle.ec_fxcode_shifts.specs.Shifts.{count_row, count_code, mark_code, turned_byte, turned_code, enter_code, leave_code, direction, width, again_code, turns_code, before_code, after_code}
+use Rattle.ec_fxcode_shifts.specs.Shifts.{count_row, count_code, mark_code, turned_byte, turned_code, enter_code, leave_code, direction}
+use Rattle.ec_fxcode_shifts.specs.Shifts.{width, again_code, turns_code, before_code, after_code}
 use Rattle.ec_fxcode_shifts.specs.ShiftLaws.{most_words, ShiftsHave}
 use Rattle.ec_fxcode_shifts.proofs.Entered.{format_width}
 
 count_short : (c : Location) (bits : ℕ) → IsShort (count_code c bits) 3 5
 count_short c bits =
-    joined (copy_code c count_row 1) (Plain (Andi 30 (bits - 1)) ∷ []) 2 1 4 1 (chained (copy_byte c count_row) 1 2 4 (copy_short c count_row)) (record { straight = refl; steps_are = omega arith; words_are = omega arith })
+    joined (copy_code c count_row 1) (Plain (Andi 30 (bits - 1)) ∷ []) 2 1 4 1
+    (chained (copy_byte c count_row) 1 2 4 (copy_short c count_row))
+    (record { straight = refl; steps_are = omega arith; words_are = omega arith })
 
 pub mark_short : (signed : Bool) (p : Location) (k : ℕ) → IsShort (mark_code signed p k) 3 4
 mark_short true p k = sign_short p k
@@ -42,7 +45,8 @@ turned_short p q k = chained (turned_byte p q) k 4 6 (turned_byte_short p q)
 enter_short : (left : Bool) (p w : Location) (k : ℕ) → IsShort (enter_code left p w k) (4 * k) (6 * k)
 enter_short true p w k =
     weaker (enter_code true p w k) (k * 2 + (2 * k - k) * 1) (4 * k) (k * 4 + (2 * k - k) * 2) (6 * k) (omega arith) (omega arith)
-    (joined (copy_code p w k) (fills_code w k (2 * k)) (k * 2) ((2 * k - k) * 1) (k * 4) ((2 * k - k) * 2) (chained (copy_byte p w) k 2 4 (copy_short p w)) (chained (λ i. put_byte 31 w (k + i)) (2 * k - k) 1 2 (λ i. put_short 31 w (k + i))))
+    (joined (copy_code p w k) (fills_code w k (2 * k)) (k * 2) ((2 * k - k) * 1) (k * 4) ((2 * k - k) * 2)
+    (chained (copy_byte p w) k 2 4 (copy_short p w)) (chained (λ i. put_byte 31 w (k + i)) (2 * k - k) 1 2 (λ i. put_short 31 w (k + i))))
 enter_short false p w k =
     weaker (enter_code false p w k) (k * 4) (4 * k) (k * 6) (6 * k) (omega arith) (omega arith) (turned_short p w k)
 
@@ -65,7 +69,13 @@ turns_words left w n =
     let s = direction left in
     let t = turn_has_words s w n in
     let m = turn_most left w n in
-    omega (arith, sum_by-append item_words (jump_code s w n) (turn_code s w n ++ again_code s w n), sum_by-append item_words (turn_code s w n) (again_code s w n), t, m)
+    omega (
+      arith,
+      sum_by-append item_words (jump_code s w n) (turn_code s w n ++ again_code s w n),
+      sum_by-append item_words (turn_code s w n) (again_code s w n),
+      t,
+      m,
+    )
 
 leave_words : (left : Bool) (f : Format) (mode : Mode) (w q : Location) (k : ℕ) → code_words (leave_code left f mode w q k) ≤ 60 + 40 * k
 leave_words true f mode w q k = let h = (clamp_short f mode w q (2 * k) k).words_are in omega (arith, h)

@@ -1,47 +1,42 @@
 -- The loop of a shift.
-use Rattle.std.proofs.Common.{◌≡◌, ◌≢◌, ℕ, zero, suc, ◌+◌, ◌-◌, ◌*◌, ◌/◌, ◌%◌, ◌^◌, ◌<◌, ◌≤◌, true, pos, negsuc, refl, sym, ap, ◌∙◌, subst, arith, Some, ⊎_elim}
+use Rattle.std.proofs.Common.{◌≡◌, ◌≢◌, ℕ, zero, suc, ◌+◌, ◌-◌, ◌*◌, ◌/◌, ◌%◌, ◌^◌, ◌<◌, ◌≤◌, pos, negsuc, refl, sym, ap, ◌∙◌, subst, arith}
+use Rattle.std.proofs.Common.{Some, ⊎_elim}
 use Rattle.std.proofs.lemmas.Bool.{cases_eq}
 use Rattle.ec_isa.specs.declared.instructions.Instr.TheVariants.{Rjmp, Dec, Brbs}
 use Rattle.ec_asm.specs.declared.pieces.Location.{Location}
-use Rattle.ec_asm.specs.declared.pieces.Operator.TheVariants.{Sum}
 use Rattle.ec_asm.specs.View.{View}
 use Rattle.ec_asm.specs.Change.{Env, Own, change}
 use Rattle.ec_asm.specs.Run.{Running, act}
-use Rattle.ec_asm.specs.Items.{At, HasAt, all_straight, block, code_steps}
+use Rattle.ec_asm.specs.Items.{At, HasAt, block, code_steps}
 use Rattle.ec_asm.specs.Pieces.{StandsFrom, Outside, value}
 use Rattle.ec_asm.specs.PieceLaws.{HoldsNumbers}
 use Rattle.ec_asm.specs.Takes.{Goes}
 use Rattle.ec_asm.proofs.Bytes.{put_here, put_other}
 use Rattle.ec_asm.proofs.Hoare.{has_parts, block_goes, goes_on_to, one_goes}
+use Rattle.ec_asm.proofs.ItemWords.{straight_ends}
 use Rattle.ec_asm.proofs.Numbers.{value_below}
-use Rattle.ec_asm.proofs.Results.{pieces_are_straight, pieces_take}
 use Rattle.ec_asm.proofs.Sum.{value-same}
 use Rattle.ec_select_shifts.specs.declared.shifts.Direction.{Direction}
-use Rattle.ec_select_shifts.specs.declared.shifts.Direction.TheVariants.{Left, Right}
 use Rattle.ec_select_shifts.specs.Shifts.{shifted_by, turn_code, turn_words}
 use Rattle.ec_select_shifts.specs.Laws.{Leads}
+use Rattle.ec_select_shifts.proofs.Loops.{turn_straight, turn_takes}
 use Rattle.ec_select_shifts.proofs.Once.{once, none, first_turn, turned}
-use Rattle.ec_select_shifts.proofs.Words.{straight_ends, turn_has_words}
+use Rattle.ec_select_shifts.proofs.Words.{turn_has_words}
 use Rattle.ec_fxcode_shifts.specs.Shifts.{again_code, turns_code}
-
-turn_straight : (s : Direction) (p : Location) (n : ℕ) → all_straight (turn_code s p n) ≡ true
-turn_straight Left p n = (pieces_are_straight Sum p p n).1
-turn_straight (Right signed) p n = (pieces_are_straight Sum p p n).3 signed
-
-turn_takes : (s : Direction) (p : Location) (n : ℕ) → code_steps (turn_code s p n) ≤ n * 4
-turn_takes Left p n = (pieces_take Sum p p n).1.1
-turn_takes (Right signed) p n = let x = ((pieces_take Sum p p n).3 signed).1 in omega arith
 
 not_work : (a n j : ℕ) → Outside a n 30 → j < n → a + j ≢ 30
 not_work a n j h l q = grind arith
 
-module _ (s : Direction) (e : Env) (p : Location) (n a : ℕ) (st : StandsFrom e p (suc n) a Own) (far : Outside a (suc n) 30) (start count test back end : ℕ) (turn : HasAt e (turn_code s p (suc n)) start count) (dec : At e (Dec 30) count test) (branch : At e (Brbs 2 (pos 1)) test back) (jump : At e (Rjmp (negsuc (turn_words s p (suc n) + 2))) back end) where
+module _ (s : Direction) (e : Env) (p : Location) (n a : ℕ) (st : StandsFrom e p (suc n) a Own) (far : Outside a (suc n) 30)
+    (start count test back end : ℕ) (turn : HasAt e (turn_code s p (suc n)) start count) (dec : At e (Dec 30) count test)
+    (branch : At e (Brbs 2 (pos 1)) test back) (jump : At e (Rjmp (negsuc (turn_words s p (suc n) + 2))) back end) where
   abbrev code_size : ℕ
   code_size = turn_words s p (suc n)
 
   -- where the turn ends
   ends : count ≡ start + code_size
-  ends = straight_ends e (turn_code s p (suc n)) start count (turn_straight s p (suc n)) turn ∙ ap (λ k. start + k) (turn_has_words s p (suc n))
+  ends = straight_ends e (turn_code s p (suc n)) start count (turn_straight s p (suc n)) turn
+      ∙ ap (λ k. start + k) (turn_has_words s p (suc n))
 
   -- R30 is counted down
   counted : (v : View) → Goes e 1 count v test (change e (Dec 30) v)
@@ -85,7 +80,8 @@ module _ (s : Direction) (e : Env) (p : Location) (n a : ℕ) (st : StandsFrom e
       let ua = st.clear in
       let v1 = change e (Dec 30) v in
       let top : v1.flags.n ≡ 1 = ap (λ i. (i + 255) % 256 / 128) q in
-      let same : value v1.at a (suc n) ≡ value v.at a (suc n) = value-same v1.at v.at a (suc n) (λ j m. put_other v.at 30 _ (a + j) (not_work a (suc n) j far m)) in
+      let same : value v1.at a (suc n) ≡ value v.at a (suc n) =
+      value-same v1.at v.at a (suc n) (λ j m. put_other v.at 30 _ (a + j) (not_work a (suc n) j far m)) in
       let below : value v.at a (suc n) < 256 ^ suc n = value_below v.at a (suc n) (λ j m. h (a + j) (omega arith)) in
       record {
         steps = 1 + 1;
@@ -107,7 +103,8 @@ module _ (s : Direction) (e : Env) (p : Location) (n a : ℕ) (st : StandsFrom e
       let left : v1.at 30 ≡ k = ap (λ i. (i + 255) % 256) q ∙ less in
       let top : v1.flags.n ≡ 0 = ap (λ i. (i + 255) % 256 / 128) q ∙ ap (λ i. i / 128) less ∙ omega arith in
       let h1 = down_numbers v h in
-      let same : value v1.at a (suc n) ≡ x = value-same v1.at v.at a (suc n) (λ j m. put_other v.at 30 _ (a + j) (not_work a (suc n) j far m)) in
+      let same : value v1.at a (suc n) ≡ x =
+      value-same v1.at v.at a (suc n) (λ j m. put_other v.at 30 _ (a + j) (not_work a (suc n) j far m)) in
       let below : x < 256 ^ suc n = value_below v.at a (suc n) (λ j m. h (a + j) (omega arith)) in
       let code = turn_code s p (suc n) in
       let v2 = block e code v1 in
@@ -116,7 +113,8 @@ module _ (s : Direction) (e : Env) (p : Location) (n a : ℕ) (st : StandsFrom e
       let r = loop k v2 (omega arith) count2 t.numbers in
       let take = turn_takes s p (suc n) in
       let goes1 = goes_on_to e 1 2 count test start v v1 v1 (counted v) (taken v1 top) in
-      let goes2 = goes_on_to e (1 + 2) (code_steps code) count start count v v1 v2 goes1 (block_goes e code start count v1 (turn_straight s p (suc n)) turn) in
+      let goes2 = goes_on_to e (1 + 2) (code_steps code) count start count v v1 v2 goes1
+      (block_goes e code start count v1 (turn_straight s p (suc n)) turn) in
       let most = r.at_most in
       let value2 : value v2.at a (suc n) ≡ once s (suc n) x = t.number_is ∙ ap (once s (suc n)) same in
       record {

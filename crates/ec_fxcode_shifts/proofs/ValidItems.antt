@@ -1,5 +1,6 @@
 -- The items of the code are valid, and have no labels.
-use Rattle.std.proofs.Common.{◌≡◌, ℕ, zero, suc, ◌+◌, ◌-◌, ◌*◌, ◌<◌, ◌≤◌, ◌==◌, Bool, true, false, [], ◌∷◌, ◌++◌, refl, sym, ap, ◌∙◌, arith, pos, negsuc}
+use Rattle.std.proofs.Common.{◌≡◌, ℕ, zero, suc, ◌+◌, ◌-◌, ◌*◌, ◌<◌, ◌≤◌, ◌==◌, Bool, true, false, [], ◌∷◌, ◌++◌, refl, sym, ap, ◌∙◌, arith}
+use Rattle.std.proofs.Common.{pos, negsuc}
 use Rattle.std.specs.Prelude.{count_by, cond}
 use Rattle.std.specs.List.{list_all}
 use Rattle.std.proofs.lemmas.Bool.{lt-ltb, eqb-true}
@@ -18,8 +19,10 @@ use Rattle.ec_asm.specs.Valid.{Sizes, is_valid_item, used_label, is_label, is_pl
 use Rattle.ec_select_shifts.specs.Shifts.{turn_code, turn_words, jump_code}
 use Rattle.ec_fxcode.specs.Clamps.{take_byte, put_byte, fills_code, clamp_code}
 use Rattle.ec_fxcode.specs.ClampLaws.{HasPlaces}
-use Rattle.ec_fxcode.proofs.ValidItems.{both, chain_passes, take_valid, put_valid, copy_valid, clamps_are_valid, clamps_use_no_label, clamps_place_no_label}
-use Rattle.ec_fxcode_shifts.specs.Shifts.{count_row, count_code, mark_code, turned_byte, enter_code, leave_code, direction, width, again_code, turns_code, before_code, after_code, shift_code}
+use Rattle.ec_fxcode.proofs.ValidItems.{both, chain_passes, take_valid, put_valid, copy_valid, clamps_are_valid, clamps_use_no_label}
+use Rattle.ec_fxcode.proofs.ValidItems.{clamps_place_no_label}
+use Rattle.ec_fxcode_shifts.specs.Shifts.{count_row, count_code, mark_code, turned_byte, enter_code, leave_code, direction, width}
+use Rattle.ec_fxcode_shifts.specs.Shifts.{again_code, turns_code, before_code, after_code, shift_code}
 use Rattle.ec_fxcode_shifts.specs.ShiftLaws.{ShiftsAreValid, ShiftsUseNoLabel, ShiftsPlaceNoLabel}
 use Rattle.ec_fxcode_shifts.proofs.Entered.{format_width}
 use Rattle.ec_fxcode_shifts.proofs.Steps.{turn_most}
@@ -84,12 +87,14 @@ module _ (t : AsmItem → Bool) (f : Format) (mode : Mode) (p c q w : Location) 
       let n = width left k in
       both t (before_code f.signed left p c w k) (after_code left f mode w q k) (before_passes f.signed left)
       (both t (turns_code s w n) (leave_code left f mode w q k)
-      (both t (jump_code s w n) (turn_code s w n ++ again_code s w n) (h.jump left) (both t (turn_code s w n) (again_code s w n) (turn_passes left) (h.again left)))
+      (both t (jump_code s w n) (turn_code s w n ++ again_code s w n) (h.jump left)
+      (both t (turn_code s w n) (again_code s w n) (turn_passes left) (h.again left)))
       (leave_passes left))
 
 -- ---- fields
 
-pub less_valid : (sizes : Sizes) (i : ℕ) → list_all (is_valid_item sizes) (Plain (Eor 0 31) ∷ Plain (instruction Difference i 0 31) ∷ []) ≡ true
+pub less_valid : (sizes : Sizes) (i : ℕ)
+    → list_all (is_valid_item sizes) (Plain (Eor 0 31) ∷ Plain (instruction Difference i 0 31) ∷ []) ≡ true
 less_valid sizes zero = refl
 less_valid sizes (suc i) = refl
 
@@ -213,7 +218,8 @@ shifts_use_no_label items f left mode p c q w k is bits =
     let some = wide.some in
     let t = λ (item : AsmItem). is_placed items (used_label item) in
     shift_passes t f mode p c q w k some
-    (passes_plain t f mode p c q w k (record { plain = λ i. refl; load = λ d o j. refl; store = λ o j r. refl }) (clamps_use_no_label items f mode w q (2 * k) k (omega arith) some)) left
+    (passes_plain t f mode p c q w k (record { plain = λ i. refl; load = λ d o j. refl; store = λ o j r. refl })
+    (clamps_use_no_label items f mode w q (2 * k) k (omega arith) some)) left
 
 pub shifts_place_no_label : ShiftsPlaceNoLabel
 shifts_place_no_label f left mode p c q w k l is bits =
@@ -221,7 +227,10 @@ shifts_place_no_label f left mode p c q w k l is bits =
     let some = wide.some in
     let number : AsmItem → ℕ = λ item. cond (is_label l item) 1 0 in
     let t : AsmItem → Bool = λ item. number item == 0 in
-    let none_there : count_by (is_label l) (clamp_code f mode w q (2 * k) k) ≡ 0 = clamps_place_no_label f mode w q (2 * k) k l (omega arith) some in
-    let clamp : list_all t (clamp_code f mode w q (2 * k) k) ≡ true = sym (sum_by-zero number (clamp_code f mode w q (2 * k) k)) ∙ ap (λ (n : ℕ). n == 0) none_there in
-    let none = shift_passes t f mode p c q w k some (passes_plain t f mode p c q w k (record { plain = λ i. refl; load = λ d o j. refl; store = λ o j r. refl }) clamp) left in
+    let none_there : count_by (is_label l) (clamp_code f mode w q (2 * k) k) ≡ 0 =
+    clamps_place_no_label f mode w q (2 * k) k l (omega arith) some in
+    let clamp : list_all t (clamp_code f mode w q (2 * k) k) ≡ true =
+    sym (sum_by-zero number (clamp_code f mode w q (2 * k) k)) ∙ ap (λ (n : ℕ). n == 0) none_there in
+    let none = shift_passes t f mode p c q w k some
+    (passes_plain t f mode p c q w k (record { plain = λ i. refl; load = λ d o j. refl; store = λ o j r. refl }) clamp) left in
     eqb-true (count_by (is_label l) (shift_code f left mode p c q w k)) 0 (sum_by-zero number (shift_code f left mode p c q w k) ∙ none)

@@ -16,6 +16,8 @@ shifts_are_right f g left mode e p c q w zero m a d b s pc end v is bits whole w
     let k = format_width f zero is bits in
     absurd (let l = k.some in omega (arith, l))
 shifts_are_right f g true mode e p c q w (suc n) m a d b s pc end v is bits whole wide slots numbers at =
-    left_runs f g mode e p c q w n m a d b s pc end v is bits (some_byte g.bits m whole.width wide) (format_width f (suc n) is bits) slots numbers at
+    left_runs f g mode e p c q w n m a d b s pc end v is bits (some_byte g.bits m whole.width wide)
+    (format_width f (suc n) is bits) slots numbers at
 shifts_are_right f g false mode e p c q w (suc n) m a d b s pc end v is bits whole wide slots numbers at =
-    right_runs f g mode e p c q w n m a d b s pc end v bits (some_byte g.bits m whole.width wide) (format_width f (suc n) is bits) slots numbers at
+    right_runs f g mode e p c q w n m a d b s pc end v bits (some_byte g.bits m whole.width wide)
+    (format_width f (suc n) is bits) slots numbers at

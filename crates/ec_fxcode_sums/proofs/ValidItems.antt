@@ -1,7 +1,7 @@
 -- The items of the code are valid, and have no labels.
-use Rattle.std.proofs.Common.{◌≡◌, ℕ, zero, suc, ◌+◌, ◌<◌, ◌≤◌, max, ◌==◌, Bool, true, false, if◌then◌else◌, List, [], ◌∷◌, ◌++◌}
-use Rattle.std.proofs.Common.{inl, refl, sym, ap, ◌∙◌, subst, arith, pos}
-use Rattle.std.specs.Prelude.{nat_lt, count_by, cond}
+use Rattle.std.proofs.Common.{◌≡◌, ℕ, suc, ◌+◌, ◌<◌, ◌≤◌, max, ◌==◌, Bool, true, false, if◌then◌else◌, List, [], ◌∷◌, ◌++◌}
+use Rattle.std.proofs.Common.{inl, refl, sym, ap, ◌∙◌, arith, pos}
+use Rattle.std.specs.Prelude.{count_by, cond}
 use Rattle.std.specs.List.{list_all}
 use Rattle.std.proofs.lemmas.Bool.{lt-ltb, eqb-true}
 use Rattle.std.proofs.lemmas.List.Folds.{sum_by-zero}
@@ -13,10 +13,9 @@ use Rattle.ec_asm.specs.declared.items.AsmItem.TheVariants.{Plain}
 use Rattle.ec_asm.specs.declared.pieces.Location.{Location}
 use Rattle.ec_asm.specs.declared.pieces.Location.TheVariants.{InRegisters, InMemory}
 use Rattle.ec_asm.specs.declared.pieces.Operator.{Operator}
-use Rattle.ec_asm.specs.declared.pieces.Operator.TheVariants.{Sum, Difference, BitAnd, BitOr, BitXor}
 use Rattle.ec_asm.specs.Items.{branch_if}
 use Rattle.ec_asm.specs.Pieces.{instruction, operate_byte, operate_code, compares, compare_byte, compare_code}
-use Rattle.ec_asm.specs.Valid.{Sizes, is_offset, is_valid_item, used_label, is_label, is_placed}
+use Rattle.ec_asm.specs.Valid.{Sizes, is_valid_item, used_label, is_label, is_placed}
 use Rattle.ec_select_bytes.specs.Complements.{complement_byte, complement_code, carry_byte, carry_code, negation_code}
 use Rattle.ec_select_order.specs.declared.relations.Relation.{Relation}
 use Rattle.ec_select_order.specs.declared.relations.Relation.TheVariants.{Less, NotLess, Equal, NotEqual}
@@ -28,8 +27,8 @@ use Rattle.ec_fxcode_shifts.proofs.ValidItems.{part_places, PassesPlain}
 use Rattle.ec_fxcode_scales.specs.Scales.{scale_code, cut_code}
 use Rattle.ec_fxcode_scales.specs.ScaleLaws.{ScalesAreValid, ScalesUseNoLabel, ScalesPlaceNoLabel, CutsAreValid, CutsUseNoLabel}
 use Rattle.ec_fxcode_scales.specs.ScaleLaws.{CutsPlaceNoLabel}
-use Rattle.ec_fxcode_quotients.specs.Quotients.{further}
 use Rattle.ec_fxcode_quotients.proofs.Sizes.{format_sized, bytes_of}
+use Rattle.ec_fxcode_quotients.proofs.ValidItems.{further_places, operate_valid, compare_valid}
 use Rattle.ec_fxcode_sums.specs.Sums.{raised, raised_bytes, aligned_bytes, second_at, align_code, surplus, cut_if, settle_code}
 use Rattle.ec_fxcode_sums.specs.Sums.{operator_of, combine_code, sum_code, negate_code}
 use Rattle.ec_fxcode_sums.specs.SumLaws.{SumsAreValid, NegationsAreValid, SumsUseNoLabel, SumsPlaceNoLabel, NegationsUseNoLabel}
@@ -78,57 +77,6 @@ negation_passes t w m turned none carried =
     (both t (Plain (Eor 1 1) ∷ []) (carry_code w m) none (chain_passes t (carry_byte w) m carried))
 
 -- ---- fields
-
--- places further up
-further_places : (sizes : Sizes) (w : Location) (i n m : ℕ) → i + n ≤ m → HasPlaces sizes w m → HasPlaces sizes (further w i) n
-further_places sizes (InRegisters r) i n m l h = omega (arith, h, l)
-further_places sizes (InMemory o k) i n m l h = λ j x. subst (λ y. is_offset sizes o y ≡ true)
-    (let e : k + (i + j) ≡ k + i + j = omega arith in e) (h (i + j) (omega arith))
-
-instruction_valid : (sizes : Sizes) (op : Operator) (i d r : ℕ) → (nat_lt d 32 ≡ true) → (nat_lt r 32 ≡ true)
-    → is_valid_item sizes (Plain (instruction op i d r)) ≡ true
-instruction_valid sizes Sum zero d r e f = rw (e, f) refl
-instruction_valid sizes Sum (suc i) d r e f = rw (e, f) refl
-instruction_valid sizes Difference zero d r e f = rw (e, f) refl
-instruction_valid sizes Difference (suc i) d r e f = rw (e, f) refl
-instruction_valid sizes BitAnd i d r e f = rw (e, f) refl
-instruction_valid sizes BitOr i d r e f = rw (e, f) refl
-instruction_valid sizes BitXor i d r e f = rw (e, f) refl
-
-operate_valid : (sizes : Sizes) (op : Operator) (p q : Location) (n i : ℕ) → HasPlaces sizes p n → HasPlaces sizes q n → i < n
-    → list_all (is_valid_item sizes) (operate_byte op p q i) ≡ true
-operate_valid sizes op (InRegisters r) (InRegisters s) n i h g l =
-    let x : r + i < 32 = omega (arith, h, l) in
-    let y : s + i < 32 = omega (arith, g, l) in
-    rw (instruction_valid sizes op i (s + i) (r + i) (lt-ltb (s + i) 32 y) (lt-ltb (r + i) 32 x)) refl
-operate_valid sizes op (InMemory o k) (InRegisters s) n i h g l =
-    let y : s + i < 32 = omega (arith, g, l) in
-    rw (h i l, instruction_valid sizes op i (s + i) 0 (lt-ltb (s + i) 32 y) refl) refl
-operate_valid sizes op (InRegisters r) (InMemory o k) n i h g l =
-    let x : r + i < 32 = omega (arith, h, l) in
-    rw (g i l, instruction_valid sizes op i 0 (r + i) refl (lt-ltb (r + i) 32 x)) refl
-operate_valid sizes op (InMemory o k) (InMemory o' k') n i h g l =
-    rw (h i l, g i l, instruction_valid sizes op i 0 1 refl refl) refl
-
-compares_valid : (sizes : Sizes) (i d r : ℕ) → (nat_lt d 32 ≡ true) → (nat_lt r 32 ≡ true)
-    → is_valid_item sizes (Plain (compares i d r)) ≡ true
-compares_valid sizes zero d r e f = rw (e, f) refl
-compares_valid sizes (suc i) d r e f = rw (e, f) refl
-
-compare_valid : (sizes : Sizes) (p q : Location) (n i : ℕ) → HasPlaces sizes p n → HasPlaces sizes q n → i < n
-    → list_all (is_valid_item sizes) (compare_byte p q i) ≡ true
-compare_valid sizes (InRegisters r) (InRegisters s) n i h g l =
-    let x : r + i < 32 = omega (arith, h, l) in
-    let y : s + i < 32 = omega (arith, g, l) in
-    rw (compares_valid sizes i (s + i) (r + i) (lt-ltb (s + i) 32 y) (lt-ltb (r + i) 32 x)) refl
-compare_valid sizes (InMemory o k) (InRegisters s) n i h g l =
-    let y : s + i < 32 = omega (arith, g, l) in
-    rw (h i l, compares_valid sizes i (s + i) 0 (lt-ltb (s + i) 32 y) refl) refl
-compare_valid sizes (InRegisters r) (InMemory o k) n i h g l =
-    let x : r + i < 32 = omega (arith, h, l) in
-    rw (g i l, compares_valid sizes i 0 (r + i) refl (lt-ltb (r + i) 32 x)) refl
-compare_valid sizes (InMemory o k) (InMemory o' k') n i h g l =
-    rw (h i l, g i l, compares_valid sizes i 0 1 refl refl) refl
 
 complement_valid : (sizes : Sizes) (w : Location) (n i : ℕ) → HasPlaces sizes w n → i < n
     → list_all (is_valid_item sizes) (complement_byte w i) ≡ true

@@ -1,2 +1,4 @@
+-- For all crates above.
 pub mod Backwards
+-- For this crate alone.
 mod Examples

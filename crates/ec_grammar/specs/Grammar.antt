@@ -11,7 +11,7 @@ use Rattle.ec_grammar.specs.declared.token.PunctKind.TheVariants.{Equal, NotEqua
 use Rattle.ec_grammar.specs.declared.token.PunctKind.TheVariants.{StarAssign, SlashAssign, PercentAssign, PlusAssign}
 use Rattle.ec_grammar.specs.declared.token.PunctKind.TheVariants.{MinusAssign, ShiftLeftAssign, ShiftRightAssign}
 use Rattle.ec_grammar.specs.declared.token.PunctKind.TheVariants.{AmpersandAssign, CaretAssign, BarAssign}
-use Rattle.ec_grammar.specs.declared.tree.Qualifier.{Qualifier}
+use Rattle.ec_grammar.specs.declared.Qualifier.{Qualifier}
 use Rattle.ec_grammar.specs.Tokens.{Placed}
 use Rattle.ec_grammar.specs.Trees as t
 use Rattle.ec_grammar.specs.Trees.{Leaf}

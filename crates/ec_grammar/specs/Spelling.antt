@@ -6,13 +6,13 @@ use Rattle.ec_grammar.specs.declared.token.PunctKind.{PunctKind}
 use Rattle.ec_grammar.specs.declared.token.PunctKind.TheVariants.{LeftBrace, RightBrace, LeftParenthesis}
 use Rattle.ec_grammar.specs.declared.token.PunctKind.TheVariants.{RightParenthesis, LeftBracket, RightBracket}
 use Rattle.ec_grammar.specs.declared.token.PunctKind.TheVariants.{Semicolon, Comma, Star, Question, Colon, Assign}
-use Rattle.ec_grammar.specs.declared.tree.Spot.{Spot}
-use Rattle.ec_grammar.specs.declared.tree.Constant.{Constant}
-use Rattle.ec_grammar.specs.declared.tree.Constant.TheVariants as constants
-use Rattle.ec_grammar.specs.declared.tree.Operation.{Operation}
-use Rattle.ec_grammar.specs.declared.tree.Operation.TheVariants as operations
-use Rattle.ec_grammar.specs.declared.tree.Pragma.{Pragma}
-use Rattle.ec_grammar.specs.declared.tree.Qualifier.{Qualifier}
+use Rattle.ec_grammar.specs.declared.Spot.{Spot}
+use Rattle.ec_grammar.specs.declared.Constant.{Constant}
+use Rattle.ec_grammar.specs.declared.Constant.TheVariants as constants
+use Rattle.ec_grammar.specs.declared.Operation.{Operation}
+use Rattle.ec_grammar.specs.declared.Operation.TheVariants as operations
+use Rattle.ec_grammar.specs.declared.Pragma.{Pragma}
+use Rattle.ec_grammar.specs.declared.Qualifier.{Qualifier}
 use Rattle.ec_grammar.specs.Tokens as tokens
 use Rattle.ec_grammar.specs.Tokens.{Lexeme}
 use Rattle.ec_grammar.specs.Trees as t

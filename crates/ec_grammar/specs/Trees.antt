@@ -4,11 +4,11 @@
 use Rattle.std.specs.Prelude.{ℕ, List, Option}
 use Rattle.ec_grammar.specs.declared.token.WordKind.{WordKind}
 use Rattle.ec_grammar.specs.declared.token.PunctKind.{PunctKind}
-use Rattle.ec_grammar.specs.declared.tree.Spot.{Spot}
-use Rattle.ec_grammar.specs.declared.tree.Constant.{Constant}
-use Rattle.ec_grammar.specs.declared.tree.Operation.{Operation}
-use Rattle.ec_grammar.specs.declared.tree.Pragma.{Pragma}
-use Rattle.ec_grammar.specs.declared.tree.Qualifier.{Qualifier}
+use Rattle.ec_grammar.specs.declared.Spot.{Spot}
+use Rattle.ec_grammar.specs.declared.Constant.{Constant}
+use Rattle.ec_grammar.specs.declared.Operation.{Operation}
+use Rattle.ec_grammar.specs.declared.Pragma.{Pragma}
+use Rattle.ec_grammar.specs.declared.Qualifier.{Qualifier}
 use Rattle.ec_grammar.specs.Tokens.{Lexeme}
 
 -- a token, where it stands in the list and where it begins in the text

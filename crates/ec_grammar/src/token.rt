@@ -1,5 +1,4 @@
 //! Tokens (ISO/IEC 9899:1999, 6.4; ISO/IEC TR 18037:2008).
-
 use ec_fx::FxKind;
 pub use ec_iohw::IoOp;
 use ec_space::Name;

@@ -1,10 +1,10 @@
-pub mod Bytes
-pub mod Runs
-pub mod Sending
-pub mod Lines
-pub mod TextLines
-pub mod Reading
-pub mod Putting
-pub mod Stopping
-pub mod Taken
+mod Bytes
+mod Runs
+mod Sending
+mod Lines
+mod TextLines
+mod Reading
+mod Putting
+mod Stopping
+mod Taken
 mod Rows

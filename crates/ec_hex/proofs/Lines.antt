@@ -6,7 +6,8 @@ use Rattle.std.specs.Str.Lines.{lines, lines_of_parts, strip_carriage_return}
 use Rattle.std.proofs.lemmas.List.Splits.{slice_split_at, length-slice_split}
 use Rattle.std.proofs.lemmas.List.Elements.{All-from_recursion, All-weaker, All-get_or}
 use Rattle.std.proofs.Math.Seq.{take-append_seam}
-use Rattle.std.proofs.Common.{◌≡◌, ◌+◌, ◌-◌, ◌*◌, ◌/◌, ◌%◌, ◌≤◌, ◌<◌, ℕ, true, false, List, [], ◌∷◌, ◌++◌, length, Some, refl, ap, ◌∙◌, arith, length-append, append_assoc}
+use Rattle.std.proofs.Common.{◌≡◌, ◌+◌, ◌-◌, ◌*◌, ◌/◌, ◌%◌, ◌≤◌, ◌<◌, ℕ, true, false, List, [], ◌∷◌, ◌++◌, length, Some, refl, ap, ◌∙◌}
+use Rattle.std.proofs.Common.{arith, length-append, append_assoc}
 use Rattle.ec_hex.specs.Bytes.{digit, digits_of, bytes_of, total}
 use Rattle.ec_hex.specs.Record.{Data, Reading, Sound, reading_of_bytes, reading_of}
 use Rattle.ec_hex.specs.Denotes.{records_of, records_in}
@@ -76,7 +77,13 @@ join-address at = omega arith
 
 reading_of_bytes-whole : (at : ℕ) (bytes : List ℕ) → at + length bytes ≤ 65536 → reading_of_bytes (whole at bytes) ≡ Sound (Data at bytes)
 reading_of_bytes-whole at bytes fits =
-    rw (counted bytes _, total-whole (fields kind.Data at bytes), join-address at, within (at + length bytes) fits, take-append_seam bytes _) refl
+    rw (
+      counted bytes _,
+      total-whole (fields kind.Data at bytes),
+      join-address at,
+      within (at + length bytes) fits,
+      take-append_seam bytes _,
+    ) refl
 
 whole_bytes : (at : ℕ) (bytes : List ℕ) → at < 65536 → length bytes < 256 → AreBytes bytes → AreBytes (whole at bytes)
 whole_bytes at bytes low short all =
@@ -96,15 +103,18 @@ no_return c h = grind arith
 
 strip-plain : (c : ℕ) (text : List ℕ) → ArePlain (c ∷ text) → strip_carriage_return (c ∷ text) ≡ c ∷ text
 strip-plain c text plain =
-    rw (no_return (slice_index (c ∷ text) (length (c ∷ text) - 1)) (All-get_or (λ d. 32 ≤ d) (c ∷ text) (length (c ∷ text) - 1) 0 (omega arith) (All-from_recursion _ (c ∷ text) plain))) refl
+    rw (no_return (slice_index (c ∷ text) (length (c ∷ text) - 1))
+    (All-get_or (λ d. 32 ≤ d) (c ∷ text) (length (c ∷ text) - 1) 0 (omega arith) (All-from_recursion _ (c ∷ text) plain))) refl
 
-pub parts-more : (text : List ℕ) (parts : List (List ℕ)) → 0 < length parts → lines_of_parts (text ∷ parts) ≡ strip_carriage_return text ∷ lines_of_parts parts
+pub parts-more : (text : List ℕ) (parts : List (List ℕ)) → 0 < length parts
+    → lines_of_parts (text ∷ parts) ≡ strip_carriage_return text ∷ lines_of_parts parts
 parts-more text [] some = absurd (omega (arith, some))
 parts-more text (part ∷ parts) some = refl
 
 lines-more : (c : ℕ) (text rest : List ℕ) → ArePlain (c ∷ text) → lines ((c ∷ text) ++ 10 ∷ rest) ≡ (c ∷ text) ∷ lines rest
 lines-more c text rest plain =
-    ap lines_of_parts (slice_split_at (λ b. b == 10) (c ∷ text) 10 rest (All-weaker (λ d. 32 ≤ d) (λ d. (d == 10) ≡ false) no_newline (c ∷ text) (All-from_recursion _ (c ∷ text) plain)) refl)
+    ap lines_of_parts (slice_split_at (λ b. b == 10) (c ∷ text) 10 rest
+    (All-weaker (λ d. 32 ≤ d) (λ d. (d == 10) ≡ false) no_newline (c ∷ text) (All-from_recursion _ (c ∷ text) plain)) refl)
     ∙ parts-more (c ∷ text) (slice_split (λ b. b == 10) rest) (omega (arith, length-slice_split (λ b. b == 10) rest))
     ∙ ap (λ (line : List ℕ). line ∷ lines rest) (strip-plain c text plain)
 

@@ -4,7 +4,8 @@ use Rattle.std.specs.List.{AllByRecursion}
 use Rattle.std.proofs.lemmas.List.{same_lists}
 use Rattle.std.proofs.lemmas.List.Elements.{All-from_recursion}
 use Rattle.std.proofs.lemmas.Option.{slice_get-get_or, get_or_from_slice_get}
-use Rattle.std.proofs.Common.{◌≡◌, ◌≢◌, ◌+◌, ◌≤◌, ◌<◌, ℕ, zero, suc, Bool, true, false, List, [], ◌∷◌, ◌++◌, length, get_or, Some, None, refl, sym, ap, ◌∙◌, arith, zero-add}
+use Rattle.std.proofs.Common.{◌≡◌, ◌≢◌, ◌+◌, ◌≤◌, ◌<◌, ℕ, zero, suc, Bool, true, false, List, [], ◌∷◌, ◌++◌, length, get_or, Some, None}
+use Rattle.std.proofs.Common.{refl, sym, ap, ◌∙◌, arith, zero-add}
 use Rattle.ec_space.specs.declared.Core.{Core}
 use Rattle.ec_space.specs.declared.Core.TheVariants.{Small}
 use Rattle.ec_avr.specs.Flash.{flash_size, IsBlankElsewhere}
@@ -49,11 +50,13 @@ records_in-text_from at zero (Some byte ∷ cells) all fits =
     (records_in-text_from (at + 1) 15 cells all.1 (omega (arith, fits)))
 records_in-text_from at (suc out) (Some byte ∷ cells) all fits = records_in-text_from (at + 1) out cells all.1 (omega (arith, fits))
 
-data_of-records : (at out : ℕ) (cells : List (Option ℕ)) → addressed at (run out cells) ++ data_of 0 (data_records at out cells) ≡ shown at cells
+data_of-records : (at out : ℕ) (cells : List (Option ℕ))
+    → addressed at (run out cells) ++ data_of 0 (data_records at out cells) ≡ shown at cells
 data_of-records at out [] = refl
 data_of-records at out (None ∷ cells) = from_none at cells (data_of-records (at + 1) 0 cells)
   where
-    from_none : (at : ℕ) (cells : List (Option ℕ)) → addressed (at + 1) (run 0 cells) ++ data_of 0 (data_records (at + 1) 0 cells) ≡ shown (at + 1) cells
+    from_none : (at : ℕ) (cells : List (Option ℕ))
+        → addressed (at + 1) (run 0 cells) ++ data_of 0 (data_records (at + 1) 0 cells) ≡ shown (at + 1) cells
         → data_of 0 (data_records (at + 1) 0 cells) ≡ shown (at + 1) cells
     from_none at [] h = h
     from_none at (None ∷ cells) h = h
@@ -89,7 +92,8 @@ shown_once at [] = λ i j d before below. absurd (omega (arith, before, below))
 shown_once at (None ∷ cells) = shown_once (at + 1) cells
 shown_once at (Some byte ∷ cells) =
     AllPairs-cons (λ cell other. cell.0 ≢ other.0) (at, byte) (shown (at + 1) cells)
-    (All-from_recursion (λ other. at ≢ other.0) (shown (at + 1) cells) (shown_past at (at + 1) cells (omega arith))) (shown_once (at + 1) cells)
+    (All-from_recursion (λ other. at ≢ other.0) (shown (at + 1) cells) (shown_past at (at + 1) cells (omega arith)))
+    (shown_once (at + 1) cells)
 
 -- a byte where it is written
 abbrev shown_at : List ℕ → List Bool → ℕ → Option ℕ
@@ -113,9 +117,11 @@ byte_at-shown at k i [] [] place same = refl
 byte_at-shown at k i [] (flag ∷ written) place same = absurd (omega (arith, same))
 byte_at-shown at k i (byte ∷ bytes) [] place same = absurd (omega (arith, same))
 byte_at-shown at k zero (byte ∷ bytes) (true ∷ written) place same = rw (equal at k (omega (arith, place))) refl
-byte_at-shown at k zero (byte ∷ bytes) (false ∷ written) place same = byte_at-past (at + 1) k (contents bytes written) (omega (arith, place))
+byte_at-shown at k zero (byte ∷ bytes) (false ∷ written) place same =
+    byte_at-past (at + 1) k (contents bytes written) (omega (arith, place))
 byte_at-shown at k (suc i) (byte ∷ bytes) (true ∷ written) place same =
-    rw (differ at k (λ here. omega (arith, place, here))) (byte_at-shown (at + 1) k i bytes written (omega (arith, place)) (omega (arith, same)))
+    rw (differ at k (λ here. omega (arith, place, here)))
+    (byte_at-shown (at + 1) k i bytes written (omega (arith, place)) (omega (arith, same)))
 byte_at-shown at k (suc i) (byte ∷ bytes) (false ∷ written) place same =
     byte_at-shown (at + 1) k i bytes written (omega (arith, place)) (omega (arith, same))
 
@@ -136,7 +142,8 @@ byte_is : (flag : Bool) (byte : ℕ) → (flag ≡ false → byte ≡ 255) → b
 byte_is true byte blank = refl
 byte_is false byte blank = blank refl
 
-pub denotes-hex_text : (core : Core) (bytes : List ℕ) (written : List Bool) → length bytes ≡ flash_size core → length written ≡ flash_size core
+pub denotes-hex_text : (core : Core) (bytes : List ℕ) (written : List Bool) → length bytes ≡ flash_size core
+    → length written ≡ flash_size core
     → ((k : ℕ) → get_or bytes k 0 < 256) → IsBlankElsewhere bytes written → Denotes core (hex_text bytes written) bytes written
 denotes-hex_text core bytes written sized flagged all blank =
     let same : length written ≡ length bytes = flagged ∙ sym sized in
@@ -144,15 +151,18 @@ denotes-hex_text core bytes written sized flagged all blank =
     let long : length cells ≡ flash_size core = length-contents bytes written same ∙ sized in
     rw (records_in-text_from 0 0 cells (cells_are_bytes bytes written all) (omega (arith, long, flash_fits core)), data_of-first cells)
     (record {
-      in_flash = All-from_recursion (λ cell. cell.0 < flash_size core) (shown 0 cells) (shown_below 0 (flash_size core) cells (omega (arith, long)));
+      in_flash = All-from_recursion (λ cell. cell.0 < flash_size core) (shown 0 cells)
+          (shown_below 0 (flash_size core) cells (omega (arith, long)));
       once = shown_once 0 cells;
       sized = sized;
       flagged = flagged;
       bytes_are = λ k below. rw (byte_at-shown 0 k k bytes written (omega arith) same)
           (slice_get-get_or bytes k 255 (omega (arith, sized, below)) ∙ ap Some (byte_is (get_or written k false) (get_or bytes k 255)
-          (λ unwritten. get_or_from_slice_get bytes k 255 255 (blank k (slice_get-get_or written k false (omega (arith, flagged, below)) ∙ ap Some unwritten)))));
+          (λ unwritten. get_or_from_slice_get bytes k 255 255
+          (blank k (slice_get-get_or written k false (omega (arith, flagged, below)) ∙ ap Some unwritten)))));
       flags_are = λ k below. rw (byte_at-shown 0 k k bytes written (omega arith) same)
-          (slice_get-get_or written k false (omega (arith, flagged, below)) ∙ ap Some (flag_is (get_or written k false) (get_or bytes k 255)));
+          (slice_get-get_or written k false (omega (arith, flagged, below))
+          ∙ ap Some (flag_is (get_or written k false) (get_or bytes k 255)));
     })
 
 -- a text denotes one image at most
@@ -161,7 +171,8 @@ pub one_image : (core : Core) (text bytes others : List ℕ) (written flags : Li
 one_image core text bytes others written flags = by_records (records_in text)
   where
     by_records : (records : Option (List Record))
-        → IsSomeAnd records (λ found. HoldsJust core (data_of 0 found) bytes written) → IsSomeAnd records (λ found. HoldsJust core (data_of 0 found) others flags)
+        → IsSomeAnd records (λ found. HoldsJust core (data_of 0 found) bytes written)
+        → IsSomeAnd records (λ found. HoldsJust core (data_of 0 found) others flags)
         → (bytes ≡ others) × (written ≡ flags)
     by_records None one other = absurd one
     by_records (Some found) one other = (
@@ -170,5 +181,6 @@ one_image core text bytes others written flags = by_records (records_in text)
           get_or_from_slice_get bytes k _ d (one.bytes_are k inside) ∙ sym (get_or_from_slice_get others k _ d (other.bytes_are k inside))),
       same_lists written flags (one.flagged ∙ sym other.flagged) (λ k d below.
           let inside : k < flash_size core = omega (arith, below, one.flagged) in
-          get_or_from_slice_get written k _ d (one.flags_are k inside) ∙ sym (get_or_from_slice_get flags k _ d (other.flags_are k inside))),
+          get_or_from_slice_get written k _ d (one.flags_are k inside)
+          ∙ sym (get_or_from_slice_get flags k _ d (other.flags_are k inside))),
     )

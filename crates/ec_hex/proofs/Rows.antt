@@ -53,17 +53,21 @@ two_returns : readings (codes ":00000001FF\r\r\n\r\r\n") ≡ NoRecord ∷ NoReco
 two_returns = refl
 
 -- a segment's base is its word times 16, a linear base its word times 65,536; the later replaces the earlier
-bases : data_in (codes ":020000021023C9\n:0100050001F9\n:020000040002F8\n:0100060002F7\n:00000001FF\n") ≡ Some ((66101, 1) ∷ (131078, 2) ∷ [])
+bases : data_in (codes ":020000021023C9\n:0100050001F9\n:020000040002F8\n:0100060002F7\n:00000001FF\n")
+    ≡ Some ((66101, 1) ∷ (131078, 2) ∷ [])
 bases = refl
 
 -- no offset passes 65,536, whatever the type
-offsets : readings (codes ":02FFFE000708F2\n:02FFFF000708F1\n:04FFFD0500000000FB\n:00ABCD0187\n") ≡ Sound (Data 65534 (7 ∷ 8 ∷ [])) ∷ NoRecord ∷ NoRecord ∷ Sound EndOfFile ∷ []
+offsets : readings (codes ":02FFFE000708F2\n:02FFFF000708F1\n:04FFFD0500000000FB\n:00ABCD0187\n")
+    ≡ Sound (Data 65534 (7 ∷ 8 ∷ [])) ∷ NoRecord ∷ NoRecord ∷ Sound EndOfFile ∷ []
 offsets = refl
 
 -- a type that is none, and numbers of data bytes that are not the type's
-no_records : readings (codes ":00000006FA\n:0100000100FE\n:0100000200FD\n:050000030000000000F8\n:0000000000\n") ≡ NoRecord ∷ NoRecord ∷ NoRecord ∷ NoRecord ∷ Sound (Data 0 []) ∷ []
+no_records : readings (codes ":00000006FA\n:0100000100FE\n:0100000200FD\n:050000030000000000F8\n:0000000000\n")
+    ≡ NoRecord ∷ NoRecord ∷ NoRecord ∷ NoRecord ∷ Sound (Data 0 []) ∷ []
 no_records = refl
 
 -- a digit too many or too few, a number of data bytes that is wrong, no colon, a character that is no digit
-no_forms : readings (codes ":020000009895D1F\n:020000009895D\n:030000009895D0\n020000009895D1\n:02000000989GD1\n :00000001FF\n:\n") ≡ NoRecord ∷ NoRecord ∷ NoRecord ∷ NoRecord ∷ NoRecord ∷ NoRecord ∷ NoRecord ∷ []
+no_forms : readings (codes ":020000009895D1F\n:020000009895D\n:030000009895D0\n020000009895D1\n:02000000989GD1\n :00000001FF\n:\n")
+    ≡ NoRecord ∷ NoRecord ∷ NoRecord ∷ NoRecord ∷ NoRecord ∷ NoRecord ∷ NoRecord ∷ []
 no_forms = refl

@@ -1,6 +1,7 @@
 -- Runs of written bytes.
 use Rattle.std.specs.Prelude.{Option, if◌then◌else◌}
-use Rattle.std.proofs.Common.{◌≡◌, ◌+◌, ◌*◌, ◌≤◌, ◌<◌, max, ℕ, zero, suc, Bool, true, false, List, [], ◌∷◌, ◌++◌, length, drop, get_or, Some, None, refl, ap, ◌∙◌, arith, length-append}
+use Rattle.std.proofs.Common.{◌≡◌, ◌+◌, ◌*◌, ◌≤◌, ◌<◌, max, ℕ, zero, suc, Bool, true, false, List, [], ◌∷◌, ◌++◌, length, drop, get_or}
+use Rattle.std.proofs.Common.{Some, None, refl, ap, ◌∙◌, arith, length-append}
 use Rattle.std.proofs.lemmas.List.{drop_all}
 use Rattle.ec_hex.specs.Bytes.{digits_of}
 use Rattle.ec_hex.specs.Text.{checksum, contents, fields, record_line, run, text_from}
@@ -9,17 +10,20 @@ use Rattle.ec_hex.specs.declared.line.RecordType.TheVariants.{Data, EndOfFile}
 use Rattle.ec_hex.proofs.Bytes.{length-digits_of}
 use Rattle.ec_hex.specs.Steps.{run_line}
 
-pub length-contents : (bytes : List ℕ) (written : List Bool) → length written ≡ length bytes → length (contents bytes written) ≡ length bytes
+pub length-contents : (bytes : List ℕ) (written : List Bool) → length written ≡ length bytes
+    → length (contents bytes written) ≡ length bytes
 length-contents [] written same = refl
 length-contents (byte ∷ bytes) [] same = absurd (omega (arith, same))
 length-contents (byte ∷ bytes) (flag ∷ written) same = omega (arith, length-contents bytes written (omega (arith, same)))
 
 pub drop-contents : (bytes : List ℕ) (written : List Bool) (k : ℕ) → k < length bytes → length written ≡ length bytes
-    → drop k (contents bytes written) ≡ (if get_or written k false then Some (get_or bytes k 0) else None) ∷ drop (suc k) (contents bytes written)
+    → drop k (contents bytes written)
+    ≡ (if get_or written k false then Some (get_or bytes k 0) else None) ∷ drop (suc k) (contents bytes written)
 drop-contents [] written k below same = absurd (omega (arith, below))
 drop-contents (byte ∷ bytes) [] k below same = absurd (omega (arith, same))
 drop-contents (byte ∷ bytes) (flag ∷ written) zero below same = refl
-drop-contents (byte ∷ bytes) (flag ∷ written) (suc k) below same = drop-contents bytes written k (omega (arith, below)) (omega (arith, same))
+drop-contents (byte ∷ bytes) (flag ∷ written) (suc k) below same =
+    drop-contents bytes written k (omega (arith, below)) (omega (arith, same))
 
 pub length-run : (most : ℕ) (cells : List (Option ℕ)) → length (run most cells) ≤ most
 length-run most [] = omega arith
@@ -55,24 +59,29 @@ text_from-run at (suc most) (Some byte ∷ cells) =
 pub run-ended : (bytes : List ℕ) (written : List Bool) (k most : ℕ) → k < length bytes → length written ≡ length bytes
     → get_or written k false ≡ false → run most (drop k (contents bytes written)) ≡ []
 run-ended bytes written k most below same unwritten =
-    ap (λ (cells : List (Option ℕ)). run most cells) (drop-contents bytes written k below same ∙ ap (λ (flag : Bool). (if flag then Some (get_or bytes k 0) else None) ∷ drop (suc k) (contents bytes written)) unwritten)
+    ap (λ (cells : List (Option ℕ)). run most cells) (drop-contents bytes written k below same
+    ∙ ap (λ (flag : Bool). (if flag then Some (get_or bytes k 0) else None) ∷ drop (suc k) (contents bytes written)) unwritten)
 
 pub run-more : (bytes : List ℕ) (written : List Bool) (k most : ℕ) → k < length bytes → length written ≡ length bytes
-    → get_or written k false ≡ true → run (suc most) (drop k (contents bytes written)) ≡ get_or bytes k 0 ∷ run most (drop (suc k) (contents bytes written))
+    → get_or written k false ≡ true
+    → run (suc most) (drop k (contents bytes written)) ≡ get_or bytes k 0 ∷ run most (drop (suc k) (contents bytes written))
 run-more bytes written k most below same is_written =
-    ap (λ (cells : List (Option ℕ)). run (suc most) cells) (drop-contents bytes written k below same ∙ ap (λ (flag : Bool). (if flag then Some (get_or bytes k 0) else None) ∷ drop (suc k) (contents bytes written)) is_written)
+    ap (λ (cells : List (Option ℕ)). run (suc most) cells) (drop-contents bytes written k below same
+    ∙ ap (λ (flag : Bool). (if flag then Some (get_or bytes k 0) else None) ∷ drop (suc k) (contents bytes written)) is_written)
 
 -- behind 16 bytes, and at the end of flash, nothing is left of a run
 pub run-full : (bytes : List ℕ) (written : List Bool) (k most : ℕ) → (0 < most → length bytes ≤ k) → length written ≡ length bytes
     → run most (drop k (contents bytes written)) ≡ []
 run-full bytes written k zero ended same = run-zero (drop k (contents bytes written))
 run-full bytes written k (suc most) ended same =
-    ap (λ (cells : List (Option ℕ)). run (suc most) cells) (drop_all k (contents bytes written) (omega (arith, ended (omega arith), length-contents bytes written same)))
+    ap (λ (cells : List (Option ℕ)). run (suc most) cells)
+    (drop_all k (contents bytes written) (omega (arith, ended (omega arith), length-contents bytes written same)))
 
 length-record_line : (kind : RecordType) (at : ℕ) (bytes : List ℕ) → length (record_line kind at bytes) ≡ 12 + 2 * length bytes
 length-record_line kind at bytes =
     let all : List ℕ = fields kind at bytes ++ checksum (fields kind at bytes) ∷ [] in
-    length-append (58 ∷ digits_of all) (10 ∷ []) ∙ omega (arith, length-digits_of all, length-append (fields kind at bytes) (checksum (fields kind at bytes) ∷ []))
+    length-append (58 ∷ digits_of all) (10 ∷ [])
+    ∙ omega (arith, length-digits_of all, length-append (fields kind at bytes) (checksum (fields kind at bytes) ∷ []))
 
 pub length-run_line : (at : ℕ) (bytes : List ℕ) → length bytes ≤ 16 → length (run_line at bytes) ≤ 44 * max (length bytes) 1
 length-run_line at [] short = omega arith
@@ -86,7 +95,8 @@ above_one n = omega arith
 
 -- the next line and the text behind it
 pub text_from-step : (at : ℕ) (cells : List (Option ℕ)) → 0 < length cells
-    → text_from at 0 cells ≡ run_line at (run 16 cells) ++ text_from (at + max (length (run 16 cells)) 1) 0 (drop (max (length (run 16 cells)) 1) cells)
+    → text_from at 0 cells ≡ run_line at (run 16 cells)
+    ++ text_from (at + max (length (run 16 cells)) 1) 0 (drop (max (length (run 16 cells)) 1) cells)
 text_from-step at [] some = absurd (omega (arith, some))
 text_from-step at (None ∷ cells) some = refl
 text_from-step at (Some byte ∷ cells) some =

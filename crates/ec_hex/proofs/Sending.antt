@@ -1,7 +1,8 @@
 -- A text that goes out in parts.
 use Rattle.std.proofs.Math.Seq.{take-add}
 use Rattle.std.proofs.lemmas.List.{take-append-le, take-append-drop, drop-drop, drop_at}
-use Rattle.std.proofs.Common.{◌≡◌, ◌+◌, ◌-◌, ◌≤◌, ◌<◌, ℕ, List, [], ◌++◌, length, take, drop, Some, None, sym, ap, ◌∙◌, subst, refl, arith, append_assoc, append-nil, length-append, length-drop}
+use Rattle.std.proofs.Common.{◌≡◌, ◌+◌, ◌-◌, ◌≤◌, ◌<◌, ℕ, List, [], ◌++◌, length, take, drop, Some, None, sym, ap, ◌∙◌, subst, refl, arith}
+use Rattle.std.proofs.Common.{append_assoc, append-nil, length-append, length-drop}
 use Rattle.std.proofs.Math.Seq.{take-append_seam}
 use Rattle.std.specs.Prelude.{Option}
 use Rattle.std.specs.Io.KnownBytes.{Appends}
@@ -21,10 +22,12 @@ pub sent-on : (old mid new : Option (List ℕ)) (done : ℕ) (line left whole : 
     → Sent old mid done (line ++ left) whole → Appends mid new line → Sent old new (done + length line) left whole
 sent-on old mid new done line left whole sent went =
     let front : take (done + length line) whole ≡ take done whole ++ line =
-    take-add done (length line) whole ∙ ap (λ (xs : List ℕ). take done whole ++ take (length line) xs) sent.split ∙ ap (λ (xs : List ℕ). take done whole ++ xs) (take-append_seam line left) in
+    take-add done (length line) whole ∙ ap (λ (xs : List ℕ). take done whole ++ take (length line) xs) sent.split
+    ∙ ap (λ (xs : List ℕ). take done whole ++ xs) (take-append_seam line left) in
     record {
       out = subst (λ xs. Appends old new xs) (sym front) (appends_more old mid new (take done whole) line sent.out went);
-      split = sym (drop-drop (length line) done whole) ∙ ap (λ (xs : List ℕ). drop (length line) xs) sent.split ∙ drop_at line left (length line) refl;
+      split = sym (drop-drop (length line) done whole) ∙ ap (λ (xs : List ℕ). drop (length line) xs) sent.split
+          ∙ drop_at line left (length line) refl;
     }
 
 pub sent-fits : (old now : Option (List ℕ)) (done room : ℕ) (line left whole : List ℕ)
@@ -46,7 +49,8 @@ sent-front old mid new done n line left whole sent within went =
 
 pub sent-all : (old new : Option (List ℕ)) (done : ℕ) (whole : List ℕ) → Sent old new done [] whole → Appends old new whole
 sent-all old new done whole sent =
-    subst (λ xs. Appends old new xs) (sym (append-nil (take done whole)) ∙ ap (λ (xs : List ℕ). take done whole ++ xs) (sym sent.split) ∙ take-append-drop done whole) sent.out
+    subst (λ xs. Appends old new xs) (sym (append-nil (take done whole)) ∙ ap (λ (xs : List ℕ). take done whole ++ xs) (sym sent.split)
+    ∙ take-append-drop done whole) sent.out
 
 pub sent-length : (old now : Option (List ℕ)) (done : ℕ) (line whole : List ℕ)
     → Sent old now done (line ++ []) whole → 0 < length line → length whole ≡ done + length line

@@ -5,7 +5,8 @@ use Rattle.std.proofs.lemmas.Bool.{cases_lt, cases_order}
 use Rattle.std.proofs.lemmas.List.{get_or_append_left, take-append-drop, take-take, take_all, take_more, length-take}
 use Rattle.std.proofs.lemmas.List.Elements.{All-from_recursion, recursion_from_All}
 use Rattle.std.proofs.lemmas.Option.{slice_get_within, slice_get_past, slice_get-get_or, get_or_from_slice_get}
-use Rattle.std.proofs.Common.{◌≡◌, ◌≢◌, ◌+◌, ◌≤◌, ◌<◌, ℕ, zero, suc, Bool, true, false, List, [], ◌∷◌, ◌++◌, length, take, drop, Some, None, refl, sym, ap, ◌∙◌, subst, arith, inl, inr, get_or-take, append_assoc, append-nil, length-append}
+use Rattle.std.proofs.Common.{◌≡◌, ◌≢◌, ◌+◌, ◌≤◌, ◌<◌, ℕ, zero, suc, Bool, true, false, List, [], ◌∷◌, ◌++◌, length, take, drop, Some, None}
+use Rattle.std.proofs.Common.{refl, sym, ap, ◌∙◌, subst, arith, inl, inr, get_or-take, append_assoc, append-nil, length-append}
 use Rattle.ec_space.specs.declared.Core.{Core}
 use Rattle.ec_avr.specs.Flash.{flash_size}
 use Rattle.ec_hex.specs.Record.{Record, Data, EndOfFile, Base, Start, Reading, Empty, NoRecord, WrongSum, Sound}
@@ -45,14 +46,18 @@ data_of-append base (Sound (Base next) ∷ xs) ys all = data_of-append next xs y
 data_of-append base (Sound Start ∷ xs) ys all = data_of-append base xs ys all.1
 
 -- the data of a front is a prefix of the data
-data_of-front : (base : ℕ) (xs ys : List Reading) → (more : List (ℕ × ℕ)) × (data_of base (told (xs ++ ys)) ≡ data_of base (told xs) ++ more)
+data_of-front : (base : ℕ) (xs ys : List Reading)
+    → (more : List (ℕ × ℕ)) × (data_of base (told (xs ++ ys)) ≡ data_of base (told xs) ++ more)
 data_of-front base [] ys = (data_of base (told ys), refl)
 data_of-front base (Empty ∷ xs) ys = data_of-front base xs ys
 data_of-front base (NoRecord ∷ xs) ys = data_of-front base xs ys
 data_of-front base (WrongSum ∷ xs) ys = data_of-front base xs ys
 data_of-front base (Sound (Data offset bytes) ∷ xs) ys =
-    let rest = data_of-front base xs ys in
-    (rest.0, ap (λ (more : List (ℕ × ℕ)). addressed (base + offset) bytes ++ more) rest.1 ∙ sym (append_assoc (addressed (base + offset) bytes) (data_of base (told xs)) rest.0))
+    let rest = data_of-front base xs ys in (
+      rest.0,
+      ap (λ (more : List (ℕ × ℕ)). addressed (base + offset) bytes ++ more) rest.1
+          ∙ sym (append_assoc (addressed (base + offset) bytes) (data_of base (told xs)) rest.0),
+    )
 data_of-front base (Sound EndOfFile ∷ xs) ys = ([], refl)
 data_of-front base (Sound (Base next) ∷ xs) ys = data_of-front next xs ys
 data_of-front base (Sound Start ∷ xs) ys = data_of-front base xs ys
@@ -63,21 +68,24 @@ All-front P xs ys all k d below = subst P (get_or_append_left xs ys d k below) (
 once_front : (xs ys : List (ℕ × ℕ)) → AreOnce (xs ++ ys) → AreOnce xs
 once_front xs ys all i j d before below same =
     all i j d before (omega (arith, length-append xs ys, below))
-    (ap (λ (cell : ℕ × ℕ). cell.0) (get_or_append_left xs ys d i (omega (arith, before, below))) ∙ same ∙ ap (λ (cell : ℕ × ℕ). cell.0) (sym (get_or_append_left xs ys d j below)))
+    (ap (λ (cell : ℕ × ℕ). cell.0) (get_or_append_left xs ys d i (omega (arith, before, below))) ∙ same
+    ∙ ap (λ (cell : ℕ × ℕ). cell.0) (sym (get_or_append_left xs ys d j below)))
 
 clear_front : (core : Core) (xs ys : List Reading) → IsClear core (xs ++ ys) → IsClear core xs
 clear_front core xs ys clear =
     let told_front = data_of-front 0 xs ys in
     record {
       passed = All-front (λ reading. is_passed reading ≡ true) xs ys clear.passed;
-      in_flash = All-front (λ cell. cell.0 < flash_size core) (data_in xs) told_front.0 (subst (λ (cells : List (ℕ × ℕ)). AreInFlash core cells) told_front.1 clear.in_flash);
+      in_flash = All-front (λ cell. cell.0 < flash_size core) (data_in xs) told_front.0
+          (subst (λ (cells : List (ℕ × ℕ)). AreInFlash core cells) told_front.1 clear.in_flash);
       once = once_front (data_in xs) told_front.0 (subst (λ (cells : List (ℕ × ℕ)). AreOnce cells) told_front.1 clear.once);
     }
 
 pub clear_take : (core : Core) (readings : List Reading) (m n : ℕ) → m ≤ n → IsClear core (take n readings) → IsClear core (take m readings)
 clear_take core readings m n le clear =
     let split : take n readings ≡ take m readings ++ drop m (take n readings) =
-    sym (take-append-drop m (take n readings)) ∙ ap (λ (front : List Reading). front ++ drop m (take n readings)) (take-take m n readings le) in
+    sym (take-append-drop m (take n readings))
+    ∙ ap (λ (front : List Reading). front ++ drop m (take n readings)) (take-take m n readings le) in
     clear_front core (take m readings) (drop m (take n readings)) (subst (λ (lines : List Reading). IsClear core lines) split clear)
 
 -- one more line
@@ -160,16 +168,20 @@ stuck : (core : Core) (readings : List Reading) (n m : ℕ) (halt : Halt) → Ha
     → IsClear core (take m readings) → ⊥
 stuck core readings n m (At None) h below within clear = cc (slice_get-get_or readings n Empty (omega (arith, below, within)), h.why.0)
 stuck core readings n m (At (Some Empty)) h below within clear = cc h.why.1
-stuck core readings n m (At (Some NoRecord)) h below within clear = cc (passed_at core readings n NoRecord h.why.0 (clear_take core readings (n + 1) m (omega (arith, below)) clear))
-stuck core readings n m (At (Some WrongSum)) h below within clear = cc (passed_at core readings n WrongSum h.why.0 (clear_take core readings (n + 1) m (omega (arith, below)) clear))
+stuck core readings n m (At (Some NoRecord)) h below within clear =
+    cc (passed_at core readings n NoRecord h.why.0 (clear_take core readings (n + 1) m (omega (arith, below)) clear))
+stuck core readings n m (At (Some WrongSum)) h below within clear =
+    cc (passed_at core readings n WrongSum h.why.0 (clear_take core readings (n + 1) m (omega (arith, below)) clear))
 stuck core readings n m (At (Some (Sound (Data offset bytes)))) h below within clear = cc h.why.1
-stuck core readings n m (At (Some (Sound EndOfFile))) h below within clear = cc (passed_at core readings n (Sound EndOfFile) h.why.0 (clear_take core readings (n + 1) m (omega (arith, below)) clear))
+stuck core readings n m (At (Some (Sound EndOfFile))) h below within clear =
+    cc (passed_at core readings n (Sound EndOfFile) h.why.0 (clear_take core readings (n + 1) m (omega (arith, below)) clear))
 stuck core readings n m (At (Some (Sound (Base base)))) h below within clear = cc h.why.1
 stuck core readings n m (At (Some (Sound Start))) h below within clear = cc h.why.1
 stuck core readings n m Out h below within clear = h.why (clear_take core readings (n + 1) m (omega (arith, below)) clear).in_flash
 stuck core readings n m Again h below within clear = h.why.1 (clear_take core readings (n + 1) m (omega (arith, below)) clear).once
 
-same_place : (core : Core) (readings : List Reading) (n m : ℕ) (halt other : Halt) → HaltsAt core readings n halt → HaltsAt core readings m other → n ≡ m
+same_place : (core : Core) (readings : List Reading) (n m : ℕ) (halt other : Halt) → HaltsAt core readings n halt
+    → HaltsAt core readings m other → n ≡ m
 same_place core readings n m halt other h k = either (cases_order n m)
   where
     either : (n ≡ m) ⊎ ((n < m) ⊎ (m < n)) → n ≡ m
@@ -177,15 +189,19 @@ same_place core readings n m halt other h k = either (cases_order n m)
     either (inr (inl below)) = absurd (stuck core readings n m halt h below k.within k.clear)
     either (inr (inr below)) = absurd (stuck core readings m n other k below h.within h.clear)
 
-no_out : (core : Core) (readings : List Reading) (n : ℕ) (reading : Option Reading) → HaltsAt core readings n (At reading) → AreInFlash core (data_in (take (n + 1) readings))
+no_out : (core : Core) (readings : List Reading) (n : ℕ) (reading : Option Reading) → HaltsAt core readings n (At reading)
+    → AreInFlash core (data_in (take (n + 1) readings))
 no_out core readings n reading h =
-    subst (λ (cells : List (ℕ × ℕ)). AreInFlash core cells) (sym (same_data readings n reading h.why.0 h.why.1 h.clear.passed)) h.clear.in_flash
+    subst (λ (cells : List (ℕ × ℕ)). AreInFlash core cells)
+    (sym (same_data readings n reading h.why.0 h.why.1 h.clear.passed)) h.clear.in_flash
 
-no_again : (core : Core) (readings : List Reading) (n : ℕ) (reading : Option Reading) → HaltsAt core readings n (At reading) → AreOnce (data_in (take (n + 1) readings))
+no_again : (core : Core) (readings : List Reading) (n : ℕ) (reading : Option Reading) → HaltsAt core readings n (At reading)
+    → AreOnce (data_in (take (n + 1) readings))
 no_again core readings n reading h =
     subst (λ (cells : List (ℕ × ℕ)). AreOnce cells) (sym (same_data readings n reading h.why.0 h.why.1 h.clear.passed)) h.clear.once
 
-same_halt : (core : Core) (readings : List Reading) (n : ℕ) (halt other : Halt) → HaltsAt core readings n halt → HaltsAt core readings n other → halt ≡ other
+same_halt : (core : Core) (readings : List Reading) (n : ℕ) (halt other : Halt) → HaltsAt core readings n halt
+    → HaltsAt core readings n other → halt ≡ other
 same_halt core readings n (At reading) (At next) h k = ap At (sym h.why.0 ∙ k.why.0)
 same_halt core readings n (At reading) Out h k = absurd (k.why (no_out core readings n reading h))
 same_halt core readings n (At reading) Again h k = absurd (k.why.1 (no_again core readings n reading h))
@@ -211,17 +227,21 @@ record Halts (core : Core) (readings : List Reading) (stop : HexStop) : Type 0 w
   at : HaltsAt core readings n halt
   is : stop ≡ stop_at n halt
 
-same_stop : (core : Core) (readings : List Reading) (stop other : HexStop) → Halts core readings stop → Halts core readings other → stop ≡ other
+same_stop : (core : Core) (readings : List Reading) (stop other : HexStop) → Halts core readings stop
+    → Halts core readings other → stop ≡ other
 same_stop core readings stop other h k =
     let place : h.n ≡ k.n = same_place core readings h.n k.n h.halt k.halt h.at k.at in
     let at : HaltsAt core readings h.n k.halt = subst (λ (n : ℕ). HaltsAt core readings n k.halt) (sym place) k.at in
-    h.is ∙ ap (λ (halt : Halt). stop_at h.n halt) (same_halt core readings h.n h.halt k.halt h.at at) ∙ ap (λ (n : ℕ). stop_at n k.halt) place ∙ sym k.is
+    h.is ∙ ap (λ (halt : Halt). stop_at h.n halt) (same_halt core readings h.n h.halt k.halt h.at at)
+    ∙ ap (λ (n : ℕ). stop_at n k.halt) place ∙ sym k.is
 
-inside : (core : Core) (readings : List Reading) (n : ℕ) → IsClear core (take n readings) → (IsClear core (take (n + 1) readings) → ⊥) → n ≤ length readings
+inside : (core : Core) (readings : List Reading) (n : ℕ) → IsClear core (take n readings) → (IsClear core (take (n + 1) readings) → ⊥)
+    → n ≤ length readings
 inside core readings n clear not_more = either (cases_lt (length readings) n)
   where
     either : (length readings < n) ⊎ (n ≤ length readings) → n ≤ length readings
-    either (inl past) = absurd (not_more (subst (λ (lines : List Reading). IsClear core lines) (sym (past_end readings n (omega (arith, past)))) clear))
+    either (inl past) =
+        absurd (not_more (subst (λ (lines : List Reading). IsClear core lines) (sym (past_end readings n (omega (arith, past)))) clear))
     either (inr within) = within
 
 halted : (core : Core) (readings : List Reading) (stop : HexStop) → StopsIn core readings stop → stop ≢ NoMemory → Halts core readings stop
@@ -276,22 +296,39 @@ record Ends (readings : List Reading) (found : List Record) : Type 0 where
 
 ended : (readings : List Reading) (found : List Record) → records_of readings ≡ Some found → Ends readings found
 ended [] found e = cc
-ended (Empty ∷ more) found e = let rest = ended more found e in record { n = suc rest.n; at = rest.at; passed = (refl, rest.passed); records = rest.records }
+ended (Empty ∷ more) found e =
+    let rest = ended more found e in
+    record { n = suc rest.n; at = rest.at; passed = (refl, rest.passed); records = rest.records }
 ended (NoRecord ∷ more) found e = cc
 ended (WrongSum ∷ more) found e = cc
 ended (Sound EndOfFile ∷ more) found e = record { n = 0; at = refl; passed = tt; records = cc }
 ended (Sound (Data offset bytes) ∷ more) found e =
     let parts = cons_of (Data offset bytes) (records_of more) found e in
     let rest = ended more parts.0 parts.1.0 in
-    record { n = suc rest.n; at = rest.at; passed = (refl, rest.passed); records = ap (λ (l : List Record). Data offset bytes ∷ l) rest.records ∙ parts.1.1 }
+    record {
+      n = suc rest.n;
+      at = rest.at;
+      passed = (refl, rest.passed);
+      records = ap (λ (l : List Record). Data offset bytes ∷ l) rest.records ∙ parts.1.1;
+    }
 ended (Sound (Base base) ∷ more) found e =
     let parts = cons_of (Base base) (records_of more) found e in
     let rest = ended more parts.0 parts.1.0 in
-    record { n = suc rest.n; at = rest.at; passed = (refl, rest.passed); records = ap (λ (l : List Record). Base base ∷ l) rest.records ∙ parts.1.1 }
+    record {
+      n = suc rest.n;
+      at = rest.at;
+      passed = (refl, rest.passed);
+      records = ap (λ (l : List Record). Base base ∷ l) rest.records ∙ parts.1.1;
+    }
 ended (Sound Start ∷ more) found e =
     let parts = cons_of Start (records_of more) found e in
     let rest = ended more parts.0 parts.1.0 in
-    record { n = suc rest.n; at = rest.at; passed = (refl, rest.passed); records = ap (λ (l : List Record). Start ∷ l) rest.records ∙ parts.1.1 }
+    record {
+      n = suc rest.n;
+      at = rest.at;
+      passed = (refl, rest.passed);
+      records = ap (λ (l : List Record). Start ∷ l) rest.records ∙ parts.1.1;
+    }
 
 -- lines that are passed, and then the end record, tell their records
 pub records-ended : (readings : List Reading) (n : ℕ) → slice_get readings n ≡ Some (Sound EndOfFile)
@@ -319,9 +356,11 @@ pub denotes_at : (core : Core) (text : List ℕ) (n : ℕ) (bytes : List ℕ) (w
     → slice_get (readings_of text) n ≡ Some (Sound EndOfFile) → All (λ reading. is_passed reading ≡ true) (take n (readings_of text))
     → HoldsJust core (data_in (take n (readings_of text))) bytes written → Denotes core text bytes written
 denotes_at core text n bytes written at passed holds =
-    rw (records-ended (readings_of text) n at (recursion_from_All (λ reading. is_passed reading ≡ true) (take n (readings_of text)) passed)) holds
+    rw (records-ended (readings_of text) n at (recursion_from_All (λ reading. is_passed reading ≡ true) (take n (readings_of text)) passed))
+    holds
 
-denoted : (core : Core) (text bytes : List ℕ) (written : List Bool) → Denotes core text bytes written → Halts core (readings_of text) NoMemory
+denoted : (core : Core) (text bytes : List ℕ) (written : List Bool) → Denotes core text bytes written
+    → Halts core (readings_of text) NoMemory
 denoted core text bytes written h = by_records (records_in text) refl h
   where
     by_records : (records : Option (List Record)) → records_of (readings_of text) ≡ records
@@ -360,12 +399,15 @@ no_image core text stop h bytes written image = either (memory_or_not stop)
   where
     either : (stop ≡ NoMemory) ⊎ (stop ≢ NoMemory) → stop ≡ NoMemory
     either (inl same) = same
-    either (inr some) = same_stop core (readings_of text) stop NoMemory (halted core (readings_of text) stop h some) (denoted core text bytes written image)
+    either (inr some) =
+        same_stop core (readings_of text) stop NoMemory (halted core (readings_of text) stop h some) (denoted core text bytes written image)
 
-pub only_stop : (core : Core) (text : List ℕ) (stop : HexStop) → HasStop core text stop → (other : HexStop) → HasStop core text other → other ≢ NoMemory
+pub only_stop : (core : Core) (text : List ℕ) (stop : HexStop) → HasStop core text stop → (other : HexStop) → HasStop core text other
+    → other ≢ NoMemory
     → (stop ≡ other) ⊎ (stop ≡ NoMemory)
 only_stop core text stop h other k some = either (memory_or_not stop)
   where
     either : (stop ≡ NoMemory) ⊎ (stop ≢ NoMemory) → (stop ≡ other) ⊎ (stop ≡ NoMemory)
     either (inl same) = inr same
-    either (inr here) = inl (same_stop core (readings_of text) stop other (halted core (readings_of text) stop h here) (halted core (readings_of text) other k some))
+    either (inr here) = inl (same_stop core (readings_of text) stop other (halted core (readings_of text) stop h here)
+        (halted core (readings_of text) other k some))

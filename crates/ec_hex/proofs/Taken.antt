@@ -14,17 +14,20 @@ use Rattle.ec_hex.specs.declared.read.Reader.{Reader}
 use Rattle.ec_hex.proofs.Stopping.{next_lines, data_in-next, base_after-next}
 
 -- all data up to a line, where the data before it was read
-data_on : (readings : List Reading) (n : ℕ) (reading : Reading) (old : Reader) → slice_get readings n ≡ Some reading → HasRead (take n readings) old
+data_on : (readings : List Reading) (n : ℕ) (reading : Reading) (old : Reader) → slice_get readings n ≡ Some reading
+    → HasRead (take n readings) old
     → data_in (take (n + 1) readings) ≡ data_in (take n readings) ++ data_of old.base (told (reading ∷ []))
 data_on readings n reading old at read =
     data_in-next readings n reading at read.clear.passed
     ∙ ap (λ (base : ℕ). data_in (take n readings) ++ data_of base (told (reading ∷ []))) (sym read.base)
 
-pub read_on : (readings : List Reading) (n : ℕ) (reading : Reading) (old new : Reader) → slice_get readings n ≡ Some reading → is_passed reading ≡ true
+pub read_on : (readings : List Reading) (n : ℕ) (reading : Reading) (old new : Reader) → slice_get readings n ≡ Some reading
+    → is_passed reading ≡ true
     → HasRead (take n readings) old → Holds new.image (data_in (take n readings) ++ data_of old.base (told (reading ∷ [])))
     → new.base ≡ base_after old.base (told (reading ∷ [])) → HasRead (take (n + 1) readings) new
 read_on readings n reading old new at passed read holds base =
-    let cells : data_in (take (n + 1) readings) ≡ data_in (take n readings) ++ data_of old.base (told (reading ∷ [])) = data_on readings n reading old at read in
+    let cells : data_in (take (n + 1) readings) ≡ data_in (take n readings) ++ data_of old.base (told (reading ∷ [])) =
+    data_on readings n reading old at read in
     let image : Holds new.image (data_in (take (n + 1) readings)) = subst (λ (cs : List (ℕ × ℕ)). Holds new.image cs) (sym cells) holds in
     record {
       clear = record {
@@ -38,7 +41,8 @@ read_on readings n reading old new at passed read holds base =
     }
 
 -- a line that tells no data
-pub read_past : (readings : List Reading) (n : ℕ) (reading : Reading) (old new : Reader) → slice_get readings n ≡ Some reading → is_passed reading ≡ true
+pub read_past : (readings : List Reading) (n : ℕ) (reading : Reading) (old new : Reader) → slice_get readings n ≡ Some reading
+    → is_passed reading ≡ true
     → HasRead (take n readings) old → data_of old.base (told (reading ∷ [])) ≡ [] → new.image ≡ old.image
     → new.base ≡ base_after old.base (told (reading ∷ [])) → HasRead (take (n + 1) readings) new
 read_past readings n reading old new at passed read none same base =
@@ -47,15 +51,18 @@ read_past readings n reading old new at passed read none same base =
     (subst (λ (cells : List (ℕ × ℕ)). Holds old.image cells)
     (sym (ap (λ (more : List (ℕ × ℕ)). data_in (take n readings) ++ more) none ∙ append-nil (data_in (take n readings)))) read.image)) base
 
-pub data_line : (readings : List Reading) (n offset at : ℕ) (bytes : List ℕ) (old new : Reader) → slice_get readings n ≡ Some (Sound (Data offset bytes))
-    → HasRead (take n readings) old → at ≡ old.base + offset → Holds new.image (data_in (take n readings) ++ addressed at bytes) → new.base ≡ old.base
+pub data_line : (readings : List Reading) (n offset at : ℕ) (bytes : List ℕ) (old new : Reader)
+    → slice_get readings n ≡ Some (Sound (Data offset bytes))
+    → HasRead (take n readings) old → at ≡ old.base + offset → Holds new.image (data_in (take n readings) ++ addressed at bytes)
+    → new.base ≡ old.base
     → HasRead (take (n + 1) readings) new
 data_line readings n offset at bytes old new is read place holds base =
     read_on readings n (Sound (Data offset bytes)) old new is refl read
     (subst (λ (cells : List (ℕ × ℕ)). Holds new.image (data_in (take n readings) ++ cells))
     (ap (λ (a : ℕ). addressed a bytes) place ∙ sym (append-nil (addressed (old.base + offset) bytes))) holds) base
 
-misfits : (readings : List Reading) (n line : ℕ) (core : Core) (cells : List (ℕ × ℕ)) (stop : HexStop) → line ≡ n + 1 → IsClear core (take n readings)
+misfits : (readings : List Reading) (n line : ℕ) (core : Core) (cells : List (ℕ × ℕ)) (stop : HexStop) → line ≡ n + 1
+    → IsClear core (take n readings)
     → data_in (take (n + 1) readings) ≡ cells → Misfit core cells line stop → StopsIn core readings stop
 misfits readings n line core cells (BadRecord l) place clear is h = absurd h
 misfits readings n line core cells (BadSum l) place clear is h = absurd h

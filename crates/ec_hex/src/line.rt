@@ -3,8 +3,8 @@ ghost use Rattle.std.specs.Prelude.{◌≡◌, ◌<◌, ◌≤◌, ◌+◌, ◌*
 ghost use Rattle.ec_hex.specs.Bytes.{digits_of, total};
 ghost use Rattle.ec_hex.specs.Text.{checksum, code_of, record_line};
 
+use crate::record::checksum_of;
 use crate::text::digit_of;
-use ec_hex_parts::checksum_of;
 use std::marker::Model;
 
 /// The record types that are written, of those of the Intel HEX format.

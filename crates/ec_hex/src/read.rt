@@ -7,10 +7,9 @@ ghost use Rattle.ec_hex.specs.Denotes.{Denotes, addressed};
 ghost use Rattle.ec_hex.specs.Reading.{Holds, Misfit};
 ghost use Rattle.ec_hex.specs.Stops.{HasStop};
 
-use crate::record::{Reading, Record, bytes_of, reading_of};
+use crate::record::{Reading, Record, bytes_of, is_past, reading_of};
 use crate::text::first_line;
 use ec_avr::Image;
-use ec_hex_parts::is_past;
 use ec_space::{Core, NoMemory, Seq};
 use std::alloc::Global;
 use thiserror::Error;

@@ -1,6 +1,8 @@
-pub mod Blocks
-pub mod Changes
-pub mod Parts
-pub mod Steps
-pub mod Passing
-pub mod Rows
+mod Members
+mod Operands
+mod Blocks
+mod Changes
+mod Parts
+mod Steps
+mod Passing
+mod Rows

@@ -14,15 +14,15 @@ use Rattle.ec_core.specs.Statements.{test_of, evaluated, returned, initialising,
 use Rattle.ec_core.specs.Statements.{first_effect, tested, turns, going_on, call_of, calls_within}
 use Rattle.ec_core.specs.ValueTypes.{IsTypedState}
 use Rattle.ec_core.specs.Words.{return_of}
-use Rattle.ec_interp_state.specs.declared.state.Context.{Context}
-use Rattle.ec_interp_state.specs.declared.state.Exit.{Exit}
-use Rattle.ec_interp_state.specs.declared.state.RunError.{RunError}
-use Rattle.ec_interp_state.specs.declared.state.RunError.TheVariants.{Unanswered, OutOfTurns, Undefined}
+use Rattle.ec_interp.specs.declared.state.Context.{Context}
+use Rattle.ec_interp.specs.declared.state.Exit.{Exit}
+use Rattle.ec_interp.specs.declared.state.RunError.{RunError}
+use Rattle.ec_interp.specs.declared.state.RunError.TheVariants.{Unanswered, OutOfTurns, Undefined}
 use Rattle.ec_interp.specs.Loops.{loop_after_first}
-use Rattle.ec_interp_state.specs.Suits.{IsMemory, IsGiven, AreArgumentsOf, IsCalled}
-use Rattle.ec_interp_state.specs.Suits.{RunsExpr, RunsNode, RunsPlace, RunsOption, RunsExprs, RunsOptional, RunsCondition}
-use Rattle.ec_interp_state.specs.Suits.{RunsLeaves, RunsStmt, RunsStmts, RunsTest, RunsLoop}
-use Rattle.ec_interp_state.specs.Views.{setting_of, seen_exit}
+use Rattle.ec_interp.specs.Suits.{IsMemory, IsGiven, AreArgumentsOf, IsCalled}
+use Rattle.ec_interp.specs.Suits.{RunsExpr, RunsNode, RunsPlace, RunsOption, RunsExprs, RunsOptional, RunsCondition}
+use Rattle.ec_interp.specs.Suits.{RunsLeaves, RunsStmt, RunsStmts, RunsTest, RunsLoop}
+use Rattle.ec_interp.specs.Views.{setting_of, seen_exit}
 
 -- An error shows the outcome; that there is no answer has, where the part suits, no other reason than memory
 abbrev pub Stops : {B : Type 0} → Type 0 → RunError → State → Outcome B → Type 0

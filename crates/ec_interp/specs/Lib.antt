@@ -1,4 +1,8 @@
 -- The definitions that the contracts of the interpreter cite.
+pub mod Shows
+pub mod Suits
+pub mod Views
+pub mod Accesses
 pub mod Actions
 pub mod Does
 pub mod Lookups

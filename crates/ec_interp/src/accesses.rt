@@ -1,5 +1,11 @@
 //! Accesses of the leaves of objects.
-ghost use Rattle.std.specs.Prelude.{◌≡◌, ◌==◌, ◌&&◌, Some, None, map, option_map, option_and_then, length, slice_get};
+ghost use Rattle.std.specs.Prelude.{◌≡◌, option_and_then};
+ghost use Rattle.ec_core.specs.Accesses.{belongs_to, own_access};
+ghost use Rattle.ec_core.specs.Plain.{plain_program, plain_storage};
+ghost use Rattle.ec_core.specs.PortAccesses.{is_open};
+ghost use Rattle.ec_interp.specs.Accesses.{access_at};
+ghost use Rattle.ec_interp.specs.Views.{seen};
+ghost use Rattle.std.specs.Prelude.{◌==◌, ◌&&◌, Some, None, map, option_map, length, slice_get};
 ghost use Rattle.std.specs.Prelude.{IfErr, IfOk, OnOk};
 ghost use Rattle.std.specs.List.{position_from};
 ghost use Rattle.ec_core.specs.Accesses.{access, leaf_at, leaf_of, is_readable, read, write, is_fixed, recorded};
@@ -7,21 +13,71 @@ ghost use Rattle.ec_core.specs.Accesses.{stored, first_write, initialised, with_
 ghost use Rattle.ec_core.specs.Expressions.{accessed};
 ghost use Rattle.ec_core.specs.Layout.{plain_leaf, IsObjectType};
 ghost use Rattle.ec_core.specs.Operators.{same_type};
-ghost use Rattle.ec_core.specs.Plain.{plain_type, plain_object, plain_storage, plain_place, plain_program};
+ghost use Rattle.ec_core.specs.Plain.{plain_type, plain_object, plain_place};
 ghost use Rattle.ec_core.specs.State.{with_object, Write as WriteOf, told, got};
-ghost use Rattle.ec_interp_decisions.specs.Accesses.{access_at};
-ghost use Rattle.ec_interp_state.specs.Shows.{Shows};
-ghost use Rattle.ec_interp_state.specs.Suits.{IsGiven, IsMemory, IsAnswered};
-ghost use Rattle.ec_interp_state.specs.Views.{seen, seen_object, seen_event, HasLayouts, setting_of};
+ghost use Rattle.ec_interp.specs.Shows.{Shows};
+ghost use Rattle.ec_interp.specs.Suits.{IsGiven, IsMemory, IsAnswered};
+ghost use Rattle.ec_interp.specs.Views.{seen_object, seen_event, HasLayouts, setting_of};
 
+use crate::behaviour::{Event, Unanswered};
+use crate::layouts::{leaves_in, place_space};
 use crate::objects::set_leaf;
-use ec_core::{CType, Leaf, Obj, ObjectPointer, PlaceExpr, Storage, Undefined, Value};
-use ec_interp_decisions::{Found, own_access};
-use ec_interp_state::{
-    Context, Event, ObjectState, RunError, State, Unanswered, at, object, object_state, told,
-};
-use ec_interp_values::{is_live_in, leaves_in, place_space, referent};
+use crate::operators::{is_live_in, referent};
+use crate::state::{Context, ObjectState, RunError, State, at, object, object_state, told};
+use ec_core::{CType, Leaf, Obj, ObjectPointer, PlaceExpr, Program, Storage, Undefined, Value};
 use ec_space::{NoMemory, SpaceId};
+
+/// A leaf that can be accessed.
+#[derive(Clone, Copy)]
+pub struct Found {
+    pub object: u16,
+    pub leaf: usize,
+    pub space: SpaceId,
+}
+
+/// The leaf with a number of the newest instance of an object, in the space of its declaration.
+pub fn own_access(program: &Program, s: &State, o: u16, k: usize) -> Option<Found>
+    ensures { option_and_then (access_at (plain_program program.now) (seen s.now)) result
+        ≡ own_access (plain_program program.now) o k (seen s.now) }
+{
+    let Some(d) = object(program, o) else {
+        return None;
+    };
+    let Some(x) = object_state(s, o) else {
+        return None;
+    };
+    if !x.live || !d.space.holds(d.home) {
+        return None;
+    }
+    Some(Found {
+        object: o,
+        leaf: k,
+        space: d.space,
+    })
+}
+
+/// Whether an object is a parameter or a local of a function.
+pub fn belongs_to(function: u16, storage: &Storage) -> bool
+    ensures { result ≡ belongs_to function (plain_storage storage.now) }
+{
+    match storage {
+        Storage::Local(g) | Storage::Param(g) => *g == function,
+        Storage::Static(_) | Storage::Register(_) => false,
+    }
+}
+
+/// Whether a port of this group can be accessed.
+pub fn is_open(group: Option<u16>, s: &State) -> bool
+    ensures { result ≡ is_open group (seen s.now) }
+{
+    match group {
+        None => true,
+        Some(g) => match at(s.acquired.as_slice(), g as usize) {
+            Some(open) => *open,
+            None => false,
+        },
+    }
+}
 
 /// The number of the leaf of a type that begins at an offset in an object.
 fn leaf_at(f: &Context, o: &Obj, ty: &CType, offset: u32) -> Result<Option<usize>, Unanswered>

@@ -8,18 +8,17 @@ ghost use Rattle.ec_core.specs.Plain.{plain_object, plain_program};
 ghost use Rattle.ec_core.specs.PortTable.{plain_table};
 ghost use Rattle.ec_core.specs.Valid.{IsObject, Valid};
 ghost use Rattle.ec_core.specs.ValueTypes.{GiveBytes};
-ghost use Rattle.ec_interp_state.specs.declared.behaviour.Unanswered.TheVariants.{NoMemory as OutOfMemory};
-ghost use Rattle.ec_interp_state.specs.Shows.{ShowsBehaviour};
-ghost use Rattle.ec_interp_state.specs.Suits.{IsGiven, IsMemory, IsAnswered};
-ghost use Rattle.ec_interp_state.specs.Views.{seen, seen_object, seen_behaviour, inputs_of, HasLayouts};
+ghost use Rattle.ec_interp.specs.declared.behaviour.Unanswered.TheVariants.{NoMemory as OutOfMemory};
+ghost use Rattle.ec_interp.specs.Shows.{ShowsBehaviour};
+ghost use Rattle.ec_interp.specs.Suits.{IsGiven, IsMemory, IsAnswered};
+ghost use Rattle.ec_interp.specs.Views.{seen, seen_object, seen_behaviour, inputs_of, HasLayouts};
 
+use crate::behaviour::{Behaviour, Event, PortInput, Run, Unanswered};
+use crate::layouts::leaf_count;
 use crate::objects::unset_leaves;
 use crate::run::call;
+use crate::state::{Context, ObjectState, RunError, State};
 use ec_core::{LeafInit, Obj, ObjectPointer, Program, Storage, Value};
-use ec_interp_state::{
-    Behaviour, Context, Event, ObjectState, PortInput, Run, RunError, State, Unanswered,
-};
-use ec_interp_values::leaf_count;
 use ec_iohw::IoTable;
 use ec_space::{NoMemory, Seq, push};
 use std::alloc::Global;

@@ -4,11 +4,18 @@
 #![tactic(auto)]
 
 mod accesses;
+mod behaviour;
+mod exits;
 mod interpreter;
+mod layouts;
+mod numbers;
 mod objects;
+mod operators;
 mod ports;
 mod run;
+mod state;
+mod values;
 mod words;
 
-pub use ec_interp_state::{Behaviour, Event, PortInput, Run, Told, Unanswered};
+pub use behaviour::{Behaviour, Event, PortInput, Run, Told, Unanswered};
 pub use interpreter::interpret;

@@ -6,13 +6,14 @@ ghost use Rattle.ec_core.specs.Plain.{a_stmt, plain_object, plain_stmt, plain_st
 ghost use Rattle.ec_core.specs.State.{with_object};
 ghost use Rattle.ec_core.specs.Statements.{declared, declared_first};
 ghost use Rattle.ec_interp.specs.Lookups.{ended_from};
-ghost use Rattle.ec_interp_state.specs.Suits.{IsGiven, IsMemory};
-ghost use Rattle.ec_interp_state.specs.Views.{seen, seen_object, HasLayouts};
+ghost use Rattle.ec_interp.specs.Suits.{IsGiven, IsMemory};
+ghost use Rattle.ec_interp.specs.Views.{seen, seen_object, HasLayouts};
 
+use crate::accesses::belongs_to;
+use crate::behaviour::Unanswered;
+use crate::layouts::leaf_count;
+use crate::state::{Context, ObjectState, State, object, object_state};
 use ec_core::{Obj, ObjectPointer, Program, Stmt, StmtKind, Value};
-use ec_interp_decisions::belongs_to;
-use ec_interp_state::{Context, ObjectState, State, Unanswered, object, object_state};
-use ec_interp_values::leaf_count;
 use ec_space::NoMemory;
 use std::alloc::Global;
 

@@ -8,14 +8,15 @@ ghost use Rattle.ec_core.specs.PortAccesses.{pairs_written, pairs_of, group_effe
 ghost use Rattle.ec_core.specs.PortOperations.{port_operation};
 ghost use Rattle.ec_core.specs.PortTable.{plain_port, plain_group};
 ghost use Rattle.ec_core.specs.State.{Out as OutOf, reads_of, with_event, with_group};
-ghost use Rattle.ec_interp_state.specs.Shows.{Shows, ShowsMemory};
-ghost use Rattle.ec_interp_state.specs.Suits.{IsGiven, IsAnswered};
+ghost use Rattle.ec_interp.specs.Shows.{Shows, ShowsMemory};
+ghost use Rattle.ec_interp.specs.Suits.{IsGiven, IsAnswered};
 ghost use Rattle.ec_interp.specs.Actions.{seen_action};
-ghost use Rattle.ec_interp_state.specs.Views.{seen, seen_event, inputs_of};
+ghost use Rattle.ec_interp.specs.Views.{seen, seen_event, inputs_of};
 
+use crate::accesses::is_open;
+use crate::behaviour::{Event, PortInput, Unanswered};
+use crate::state::{Context, RunError, State, at};
 use ec_core::{Undefined, Value};
-use ec_interp_decisions::is_open;
-use ec_interp_state::{Context, Event, PortInput, RunError, State, Unanswered, at};
 use ec_iohw::{IoOp, IoTable, Pair, Port, PortGroup};
 use ec_space::NoMemory;
 

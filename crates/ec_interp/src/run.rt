@@ -26,28 +26,29 @@ ghost use Rattle.ec_interp.specs.Does.{DoesExpr, DoesNode, DoesModeless, DoesTyp
 ghost use Rattle.ec_interp.specs.Does.{DoesOption, DoesExprs, DoesTest, DoesOptional, DoesReturn, DoesLeaves, DoesStmt};
 ghost use Rattle.ec_interp.specs.Does.{DoesKind, DoesStmts, DoesFirst, DoesFirstAndLoop, DoesTested, DoesTurns};
 ghost use Rattle.ec_interp.specs.Does.{DoesNext, DoesCall, DoesEntered, ShowsWhere, plain_other};
-ghost use Rattle.ec_interp_state.specs.Shows.{Shows, ShowsAs, Tells};
-ghost use Rattle.ec_interp_state.specs.Suits.{IsGiven, IsAnswered, IsOperand, AreArgumentsOf};
+ghost use Rattle.ec_interp.specs.Shows.{Shows, ShowsAs, Tells};
+ghost use Rattle.ec_interp.specs.Suits.{IsGiven, IsAnswered, IsOperand, AreArgumentsOf};
 ghost use Rattle.ec_interp.specs.Updates.{seen_update};
 ghost use Rattle.ec_interp.specs.Loops.{block_items};
-ghost use Rattle.ec_interp_state.specs.Views.{seen, seen_exit, plain_optional, setting_of, HasLayouts};
+ghost use Rattle.ec_interp.specs.Views.{seen, seen_exit, plain_optional, setting_of, HasLayouts};
 ghost use Rattle.ec_interp.specs.Weights.{stmt_weight, bodies};
 
 use crate::accesses::{initialise, read, write};
+use crate::exits::{early_exit, loop_exit};
+use crate::layouts::{member_offset, place_type};
 use crate::objects::{begin, end_declared, end_first, end_frame, pointer_to};
+use crate::operators::{
+    Operand, binary_value, compound_value, conversion, moved, referent, truth, unary_value,
+};
 use crate::ports::{no_value, operate, operate_group};
+use crate::state::{Context, Exit, RunError, State, at, function};
+use crate::values::updated_value;
 use crate::words::{leaf_words, node_words, return_of};
 use ec_core::{
     BinOp, CType, Expr, Func, Node, ObjectPointer, PlaceExpr, Stmt, StmtKind, UnOp, Undefined,
     Value,
 };
 use ec_fx::Mode;
-use ec_interp_decisions::{early_exit, loop_exit, updated_value};
-use ec_interp_state::{Context, Exit, RunError, State, at, function};
-use ec_interp_values::{
-    Operand, binary_value, compound_value, conversion, member_offset, moved, place_type, referent,
-    truth, unary_value,
-};
 use ec_iohw::IoOp;
 use ec_space::{NoMemory, Seq};
 

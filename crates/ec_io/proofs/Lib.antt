@@ -1,6 +1,8 @@
+-- For all crates above.
 pub mod Sinks
-pub mod Reading
 pub mod Counting
-pub mod Schedules
-pub mod Named
-pub mod Stores
+-- For this crate alone.
+mod Reading
+mod Schedules
+mod Named
+mod Stores

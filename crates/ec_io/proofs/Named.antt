@@ -1,6 +1,7 @@
 -- Files by their names.
 use Rattle.std.proofs.Math.Seq.{drop-cons}
-use Rattle.std.proofs.Common.{◌≡◌, ◌+◌, ◌<◌, ◌∙◌, ℕ, suc, Bool, true, false, List, [], ◌∷◌, Some, None, length, drop, get_or, cond, refl, sym, ap, subst, add-one}
+use Rattle.std.proofs.Common.{◌≡◌, ◌+◌, ◌<◌, ◌∙◌, ℕ, suc, Bool, true, false, List, [], ◌∷◌, Some, None, length, drop, get_or, cond, refl}
+use Rattle.std.proofs.Common.{sym, ap, subst, add-one}
 use Rattle.std.specs.Prelude.{Option, bytes_eq, slice_get, option_map, is_some, unwrap_or, IsSome, MatchOption}
 use Rattle.std.proofs.lemmas.Bool.{eq-eqb}
 use Rattle.std.proofs.lemmas.Option.{slice_get_read}
@@ -15,7 +16,8 @@ use Rattle.ec_io.specs.declared.mem_store.Place.{Place}
 use Rattle.ec_io.specs.declared.mem_file.Source.{Source}
 use Rattle.ec_io.specs.declared.mem_file.Source.TheVariants.{Given, Made}
 
-pub content_inserted : (files : Files) (name bytes q : List ℕ) → get (insert files name bytes) q ≡ cond (bytes_eq q name) (Some bytes) (get files q)
+pub content_inserted : (files : Files) (name bytes q : List ℕ)
+    → get (insert files name bytes) q ≡ cond (bytes_eq q name) (Some bytes) (get files q)
 content_inserted files name bytes q =
     get-insert nat_list_cmp_total files name bytes q ∙ ap (λ (b : Bool). cond b (Some bytes) (get files q)) (sym (texts_ties q name))
 
@@ -34,14 +36,16 @@ found_at files i f name within here so_far same =
     let at : slice_get files i ≡ Some f = slice_get_read files (length files) i f refl within here in
     record {
       named = rw at (ap Some (sym (same_text name f.name.items (sym same))));
-      bytes = rw at (sym (so_far ∙ get-first files i f name within here ∙ ap (λ (b : Bool). cond b (Some f.bytes.items) (get (files_of (drop (i + 1) files)) name)) same));
+      bytes = rw at (sym (so_far ∙ get-first files i f name within here
+          ∙ ap (λ (b : Bool). cond b (Some f.bytes.items) (get (files_of (drop (i + 1) files)) name)) same));
     }
 
 pub skipped_at : (files : List MemFile) (i : ℕ) (f : MemFile) (name : List ℕ) → i < length files → f ≡ get_or files i f
     → get (files_of files) name ≡ get (files_of (drop i files)) name → bytes_eq name f.name.items ≡ false
     → get (files_of files) name ≡ get (files_of (drop (i + 1) files)) name
 skipped_at files i f name within here so_far other =
-    so_far ∙ get-first files i f name within here ∙ ap (λ (b : Bool). cond b (Some f.bytes.items) (get (files_of (drop (i + 1) files)) name)) other
+    so_far ∙ get-first files i f name within here
+    ∙ ap (λ (b : Bool). cond b (Some f.bytes.items) (get (files_of (drop (i + 1) files)) name)) other
 
 -- another name than that of the created file stands for the same with it
 pub told_other : (files : List MemFile) (made : MemFile) (name : List ℕ) (found : Option Source) → bytes_eq name made.name.items ≡ false
@@ -89,7 +93,8 @@ pub name_told : (files : List MemFile) (made : MemFile) (stands : Bool) (name : 
 name_told files made stands name (Given i) h = h.0.named
 name_told files made stands name Made h = ap Some h.1
 
-named_some : (found : Option MemFile) (name : List ℕ) → option_map (λ f. f.name.items) found ≡ Some name → IsSome (option_map (λ f. f.bytes.items) found)
+named_some : (found : Option MemFile) (name : List ℕ) → option_map (λ f. f.name.items) found ≡ Some name
+    → IsSome (option_map (λ f. f.bytes.items) found)
 named_some None name h = cc
 named_some (Some f) name h = refl
 
@@ -100,7 +105,8 @@ source_some files made stands name Made h = refl
 
 pub there_told : (files : List MemFile) (made : MemFile) (stands : Bool) (name : List ℕ) (source : Source)
     → Names files made stands name source → IsSome (get (told_files files made stands) name)
-there_told files made stands name source h = subst IsSome (bytes_told files made stands name source h) (source_some files made stands name source h)
+there_told files made stands name source h =
+    subst IsSome (bytes_told files made stands name source h) (source_some files made stands name source h)
 
 -- a file that stands also stands after another was put in
 pub there_inserted : (files : Files) (name bytes q : List ℕ) → IsSome (get files q) → IsSome (get (insert files name bytes) q)
@@ -138,7 +144,8 @@ input_renewed files made bytes (Some place) = ap (λ (o : Option (List ℕ)). So
   renewed (Given i) = refl
   renewed Made = refl
 
-pub held_made : (files : List MemFile) (made : MemFile) (stands : Bool) → stands ≡ true → content (told_files files made stands) made.name.items ≡ made.bytes.items
+pub held_made : (files : List MemFile) (made : MemFile) (stands : Bool) → stands ≡ true
+    → content (told_files files made stands) made.name.items ≡ made.bytes.items
 held_made files made stands is = rw is (ap (λ (o : Option (List ℕ)). unwrap_or o [])
     (content_inserted (files_of files) made.name.items made.bytes.items made.name.items
     ∙ ap (λ (b : Bool). cond b (Some made.bytes.items) (get (files_of files) made.name.items)) (text_itself made.name.items)))
@@ -150,6 +157,7 @@ there_renewed files made bytes false q there = there
 there_renewed files made bytes true q there =
     subst IsSome (sym (content_inserted (files_of files) made.name.items bytes.items q))
     (either (bytes_eq q made.name.items) (subst IsSome (content_inserted (files_of files) made.name.items made.bytes.items q) there)) where
-      either : (b : Bool) → IsSome (cond b (Some made.bytes.items) (get (files_of files) q)) → IsSome (cond b (Some bytes.items) (get (files_of files) q))
+      either : (b : Bool) → IsSome (cond b (Some made.bytes.items) (get (files_of files) q))
+          → IsSome (cond b (Some bytes.items) (get (files_of files) q))
       either true there = refl
       either false there = there

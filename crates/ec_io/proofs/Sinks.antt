@@ -1,7 +1,8 @@
 -- What a write to a store's file is to the sink over it.
 use Rattle.std.proofs.Math.Seq.{take-add}
 use Rattle.std.proofs.lemmas.List.{take_rest}
-use Rattle.std.proofs.Common.{◌≡◌, ◌+◌, ◌-◌, ℕ, List, [], ◌++◌, length, take, drop, refl, sym, ap, rules, append_assoc, append-nil, Some, None, Ok, Err}
+use Rattle.std.proofs.Common.{◌≡◌, ◌+◌, ◌-◌, ℕ, List, [], ◌++◌, length, take, drop, refl, sym, ap, rules, append_assoc, append-nil, Some}
+use Rattle.std.proofs.Common.{None, Ok, Err}
 use Rattle.std.specs.Prelude.{Option, Result, IsSomeAnd, option_map}
 use Rattle.std.specs.Cmp.Lexicographic.{nat_list_cmp_total}
 use Rattle.std.specs.Borrow.{GName}
@@ -46,12 +47,14 @@ sink_written None new (Err e) bytes h = tt
 sink_written (Some disk) new (Ok n) bytes h = appends disk.files disk.input disk.output new (take n bytes) h
 sink_written (Some disk) new (Err e) bytes h = rw h (keeps (written_of (Some disk)))
 
-rest_on : (files : Files) (input : Option (List ℕ × ℕ)) (output : Option (List ℕ)) (new : Option Disk) (bytes : List ℕ) (counts : ℕ × ℕ) (held : GName)
+rest_on : (files : Files) (input : Option (List ℕ × ℕ)) (output : Option (List ℕ)) (new : Option Disk) (bytes : List ℕ)
+    (counts : ℕ × ℕ) (held : GName)
     → IsSomeAnd output (λ name. new ≡ Some (appended name bytes (record { files = files; input = input; output = output })))
     → rest_of new counts held ≡ rest_of (Some (record { files = files; input = input; output = output })) counts held
 rest_on files input None new bytes counts held h = absurd h
 rest_on files input (Some name) new bytes counts held h =
-    rw h (ap (λ (m : Files). record { name = Some name; others = Some m; counts = Some counts; held = Some held }) (remove-insert files name (content files name ++ bytes)))
+    rw h (ap (λ (m : Files). record { name = Some name; others = Some m; counts = Some counts; held = Some held })
+    (remove-insert files name (content files name ++ bytes)))
 
 pub sink_rest : {E : Type 0} (old new : Option Disk) (r : Result ℕ E) (bytes : List ℕ) (counts : ℕ × ℕ) (held : GName)
     → Writes old new r bytes → rest_of new counts held ≡ rest_of old counts held

@@ -12,8 +12,10 @@ pub goes : (due there : Bool) → due ≡ false → there ≡ true → false ≡
 goes due there not_due here = rw (not_due, here) refl
 
 -- a calm store is calm after a call that counts, keeps its files and adds no fault
-pub calm_on : (old new : Stored) (names : List (List ℕ)) (made : List ℕ) (room left : ℕ) → IsCalmStore old names made room → IsCounted old new
-    → ((name : List ℕ) → IsSome (get old.disk.files name) → IsSome (get new.disk.files name)) → new.read_faults ≡ old.read_faults → new.write_faults ≡ old.write_faults → left ≤ new.room
+pub calm_on : (old new : Stored) (names : List (List ℕ)) (made : List ℕ) (room left : ℕ) → IsCalmStore old names made room
+    → IsCounted old new
+    → ((name : List ℕ) → IsSome (get old.disk.files name) → IsSome (get new.disk.files name)) → new.read_faults ≡ old.read_faults
+    → new.write_faults ≡ old.write_faults → left ≤ new.room
     → IsCalmStore new names made left
 calm_on old new names made room left calm counted files read written fits = record {
   there = λ name among. files name (calm.there name among);
@@ -23,7 +25,8 @@ calm_on old new names made room left calm counted files read written fits = reco
   past = rw (counted.fail, counted.calls) (past_on old.fail old.calls calm.past);
 }
 
-pub reads_on : (disk : Disk) (bytes buf name : List ℕ) (at n : ℕ) → content disk.files name ≡ bytes → n ≡ min (length buf) (length bytes - at)
+pub reads_on : (disk : Disk) (bytes buf name : List ℕ) (at n : ℕ) → content disk.files name ≡ bytes
+    → n ≡ min (length buf) (length bytes - at)
     → take n buf ≡ take n (drop at bytes) → ReadsOn disk (Some (read_on (name, at) n disk)) n buf (name, at)
 reads_on disk bytes buf name at n held most front = record {
   bytes = rw held front;

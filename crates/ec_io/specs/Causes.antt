@@ -1,6 +1,6 @@
 -- When a count of faults lets a call fail.
 use Rattle.std.specs.Prelude.{ℕ, ◌+◌, ◌≤◌, ◌≡◌, min, Result, OnErr, IsOk}
-pub use Rattle.ec_io_parts.specs.Counts.{greatest}
+pub use Rattle.ec_io.specs.Counts.{greatest}
 
 -- the count rose by n, or up to its greatest value
 pub record Counted (before now n : ℕ) : Type 0 where

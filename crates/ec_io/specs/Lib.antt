@@ -1,3 +1,4 @@
+pub mod Counts
 pub mod Causes
 pub mod Disk
 pub mod Calls

@@ -5,7 +5,7 @@ use Rattle.std.specs.Coded.{Coded, code_by, coded×, coded_ℕ, coded_list, code
 use Rattle.std.specs.FinMap.{get, code}
 use Rattle.ec_io.specs.Causes.{greatest}
 use Rattle.ec_io.specs.Disk.{Files, Disk}
-pub use Rattle.ec_io_parts.specs.Counts.{next_call}
+pub use Rattle.ec_io.specs.Counts.{next_call}
 
 -- the list has the number of the next call
 abbrev pub is_due : List ℕ → ℕ → Bool

@@ -1,6 +1,7 @@
 //! Files and sinks: what a program reads and writes, and the counts of faults that let a call fail.
 #![tactic(auto)]
 
+mod counts;
 mod file_sink;
 mod mem_file;
 mod mem_sink;

@@ -8,7 +8,8 @@ ghost use Rattle.ec_io.specs.Rest.{no_rest};
 ghost use Rattle.ec_io.specs.Memory.{IsCalmSink, is_due, next_call};
 
 use crate::schedule::{Schedule, fault};
-use crate::{Failed, Sink};
+use crate::sink::Sink;
+use crate::store::Failed;
 use ec_space::{NoMemory, Seq};
 use std::alloc::Global;
 use std::marker::Model;

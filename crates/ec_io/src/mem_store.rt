@@ -12,7 +12,7 @@ ghost use Rattle.ec_io.specs.MemFiles.{files_of};
 
 use crate::mem_file::{MemFile, Source, copied, is_given, put_next, source_bytes, source_of};
 use crate::schedule::{Schedule, fault};
-use crate::{Failed, Store};
+use crate::store::{Failed, Store};
 use ec_space::{Name, NoMemory, Seq};
 use std::alloc::Global;
 use std::marker::Model;

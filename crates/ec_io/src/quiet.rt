@@ -1,7 +1,8 @@
 //! A sink that takes all.
 ghost use Rattle.std.specs.Prelude.{None};
 
-use crate::{Failed, Sink};
+use crate::sink::Sink;
+use crate::store::Failed;
 
 /// Takes all that is written, and keeps none of it. It never fails, and is calm for every room.
 #[derive(Clone, Copy, Debug)]

@@ -3,8 +3,8 @@ ghost use Rattle.std.specs.Prelude.{◌≡◌, ◌≤◌, ◌<◌, ℕ, List, Is
 ghost use Rattle.ec_io.specs.Causes.{Rose};
 ghost use Rattle.ec_io.specs.Read.{ReadsFile, Receives};
 
-use crate::Store;
-use ec_io_parts::is_too_long;
+use crate::counts::is_too_long;
+use crate::store::Store;
 use ec_space::Seq;
 use std::alloc::Global;
 use thiserror::Error;

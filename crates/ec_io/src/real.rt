@@ -3,7 +3,8 @@ ghost use Rattle.std.specs.Prelude.{◌≡◌, ◌≤◌, None, Some, is_some};
 ghost use Rattle.ec_io.specs.Causes.{Counted};
 
 use crate::schedule::fault;
-use crate::{Failed, Sink, Store};
+use crate::sink::Sink;
+use crate::store::{Failed, Store};
 use std::fs;
 use std::io::{Read, Write};
 use std::rt::Files;

@@ -3,8 +3,8 @@ ghost use Rattle.std.specs.Prelude.{◌≡◌, ◌+◌, ◌≤◌, min};
 ghost use Rattle.ec_io.specs.Causes.{Rose, greatest};
 ghost use Rattle.ec_io.specs.Memory.{next_call as call_after, is_due};
 
-use crate::Failed;
-use ec_io_parts::next_call;
+use crate::counts::next_call;
+use crate::store::Failed;
 use ec_space::Seq;
 
 /// Counts a fault. The count stays at its greatest value once it is reached.

@@ -5,7 +5,7 @@ ghost use Rattle.ec_io.specs.Causes.{HasCause, Went, greatest};
 ghost use Rattle.ec_io.specs.Calls.{IsTaken};
 ghost use Rattle.ec_io.specs.Rest.{Rest, no_rest};
 
-use crate::Failed;
+use crate::store::Failed;
 
 /// Takes bytes.
 ///

@@ -3,8 +3,8 @@ ghost use Rattle.std.specs.Prelude.{◌≡◌, ◌≤◌, ◌-◌, ℕ, length};
 ghost use Rattle.ec_io.specs.Causes.{HasCause, Went};
 ghost use Rattle.ec_io.specs.Written.{WritesAll};
 
-use crate::Sink;
-use ec_io_parts::is_left;
+use crate::counts::is_left;
+use crate::sink::Sink;
 use thiserror::Error;
 
 /// A write failed after so many bytes went out.

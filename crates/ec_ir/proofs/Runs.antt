@@ -1,5 +1,6 @@
 -- More operations only add to a run.
-use Rattle.std.proofs.Common.{◌≡◌, ℕ, zero, suc, ◌+◌, ◌*◌, ◌/◌, ◌%◌, ◌≤◌, Bool, true, false, List, [], ◌∷◌, ◌++◌, Option, Some, None, Result, Ok, Err, refl, ap, arith}
+use Rattle.std.proofs.Common.{◌≡◌, ℕ, zero, suc, ◌+◌, ◌*◌, ◌/◌, ◌%◌, ◌≤◌, Bool, true, false, List, [], ◌∷◌, ◌++◌, Option, Some, None}
+use Rattle.std.proofs.Common.{Result, Ok, Err, refl, ap, arith}
 use Rattle.std.specs.Prelude.{◌==◌, if◌then◌else◌, slice_get, nat_le, pos}
 use Rattle.ec_runs.specs.Behaviours.{BeginWith, Continues}
 use Rattle.ec_runs.proofs.Runs.{begin_itself, begin_onward}
@@ -19,9 +20,14 @@ use Rattle.ec_core.specs.State.{Inputs, Event, Out, Read, told, State, worked, O
 use Rattle.ec_core.specs.Typing.{int}
 use Rattle.ec_ir.specs.Costs.{op_steps}
 use Rattle.ec_ir.specs.Laws.{OperationsAreRuns, StepsNeverFall}
-use Rattle.ec_ir.specs.Meaning.{Mach, machine, held_as, pointer_in, held_pointer, number_in, held_number, object_access, pointer_access, accessed_type, put_leaf, put, Frame, Place, place, find, Go, jump_to, enter, returned, resulted, leave, element_of_port, in_ports, port_read, port_written, perform, exec_from, exec, start, pointer_at, run}
-use Rattle.ec_ir.specs.Operations.{PlainIr, constant, copy, address, field, load_at, store_at, load_object, store_object, binary_op, unary_op, conversion, label, jump, branch_zero, call_function, return_from, port_in, port_out, PlainIrFunction, PlainIrProgram, data_of}
-use Rattle.ec_ir.specs.Temporaries.{Content, bits, points, value_in, value_of_type, is_zero, Held, Temps, no_temps, with_content, with_temp, read_held, held}
+use Rattle.ec_ir.specs.Meaning.{Mach, machine, held_as, pointer_in, held_pointer, number_in, held_number, object_access, pointer_access}
+use Rattle.ec_ir.specs.Meaning.{accessed_type, put_leaf, put, Frame, Place, place, find, Go, jump_to, enter, returned, resulted, leave}
+use Rattle.ec_ir.specs.Meaning.{element_of_port, in_ports, port_read, port_written, perform, exec_from, exec, start, pointer_at, run}
+use Rattle.ec_ir.specs.Operations.{PlainIr, constant, copy, address, field, load_at, store_at, load_object, store_object, binary_op}
+use Rattle.ec_ir.specs.Operations.{unary_op, conversion, label, jump, branch_zero, call_function, return_from, port_in, port_out}
+use Rattle.ec_ir.specs.Operations.{PlainIrFunction, PlainIrProgram, data_of}
+use Rattle.ec_ir.specs.Temporaries.{Content, bits, points, value_in, value_of_type, is_zero, Held, Temps, no_temps, with_content, with_temp}
+use Rattle.ec_ir.specs.Temporaries.{read_held, held}
 use Rattle.ec_ir.specs.declared.operations.Temp.{Temp}
 
 -- what comes of a state: its events begin with those of the state, and its work is no less
@@ -38,9 +44,12 @@ stays s (more t) e = record { events = rw e (begin_itself s.events); work = omeg
 stays s (undefined point t) e = record { events = rw e (begin_itself s.events); work = omega (arith, ap (λ (q : State). q.work) e) }
 
 adds_after : {A : Type 0} (s t : State) (o : Outcome A) → BeginWith s.events t.events → s.work ≤ t.work → Adds t o → Adds s o
-adds_after s t o b w h = let k = h.work in record { events = begin_onward s.events t.events (state_of o).events b h.events; work = omega (arith, w, k) }
+adds_after s t o b w h =
+    let k = h.work in
+    record { events = begin_onward s.events t.events (state_of o).events b h.events; work = omega (arith, w, k) }
 
-adds_next : {A B : Type 0} (s : State) (o : Outcome A) (go : A → State → Outcome B) → Adds s o → ((x : A) (t : State) → Adds t (go x t)) → Adds s (next o go)
+adds_next : {A B : Type 0} (s : State) (o : Outcome A) (go : A → State → Outcome B) → Adds s o → ((x : A) (t : State) → Adds t (go x t))
+    → Adds s (next o go)
 adds_next s (got x t) go h f = adds_after s t (go x t) h.events h.work (f x t)
 adds_next s (more t) go h f = record { events = h.events; work = h.work }
 adds_next s (undefined point t) go h f = record { events = h.events; work = h.work }
@@ -66,7 +75,8 @@ adds_held t temps s = at_place (temps t.at)
     at_place (Some h) = if_bytes (h.bytes == t.bytes) h.content
 
 adds_held_as : (program : PlainProgram) (ty : PlainType) (t : Temp) (temps : Temps) (s : State) → Adds s (held_as program ty t temps s)
-adds_held_as program ty t temps s = adds_next s (held t temps s) _ (adds_held t temps s) (λ content s1. adds_given (value_of_type program ty content) s1)
+adds_held_as program ty t temps s =
+    adds_next s (held t temps s) _ (adds_held t temps s) (λ content s1. adds_given (value_of_type program ty content) s1)
 
 adds_pointer_in : (content : Content) (s : State) → Adds s (pointer_in content s)
 adds_pointer_in (bits zero) s = stays s (got None s) refl
@@ -95,7 +105,8 @@ adds_read : (program : PlainProgram) (a : Option Access) (s : State) → Adds s 
 adds_read program None s = stays {A = Value} s (read program None s) refl
 adds_read program (Some a) s = value (leaf_of a.state a.leaf)
   where
-    readable : (b : Bool) (v : Value) → Adds s (if b then got v (recorded a.declared.storage (Read a.object a.leaf a.space (told v)) s) else undefined Unset s)
+    readable : (b : Bool) (v : Value)
+        → Adds s (if b then got v (recorded a.declared.storage (Read a.object a.leaf a.space (told v)) s) else undefined Unset s)
     readable true v = record_adds a.declared.storage _ v s
     readable false v = stays {A = Value} s (undefined Unset s) refl
 
@@ -112,13 +123,15 @@ adds_put_leaf (Some a) v s = by_home (holds Flash a.declared.home)
     by_home false = let k = record_adds a.declared.storage _ v _ in record { events = k.events; work = k.work }
 
 adds_put : (program : PlainProgram) (a : Option Access) (t : Temp) (temps : Temps) (s : State) → Adds s (put program a t temps s)
-adds_put program a t temps s = adds_next s (held_as program (accessed_type program a) t temps s) _ (adds_held_as program (accessed_type program a) t temps s) (λ v s1. adds_put_leaf a v s1)
+adds_put program a t temps s = adds_next s (held_as program (accessed_type program a) t temps s) _
+    (adds_held_as program (accessed_type program a) t temps s) (λ v s1. adds_put_leaf a v s1)
 
 -- ---- returns and ports
 
 adds_returned : (t : Option Temp) (m : Mach) → Adds m.state (returned t m)
 adds_returned None m = stays m.state (got None m.state) refl
-adds_returned (Some t) m = adds_next m.state (held t m.temps m.state) _ (adds_held t m.temps m.state) (λ content s. stays s (got (Some (record { bytes = t.bytes; content = content })) s) refl)
+adds_returned (Some t) m = adds_next m.state (held t m.temps m.state) _ (adds_held t m.temps m.state)
+    (λ content s. stays s (got (Some (record { bytes = t.bytes; content = content })) s) refl)
 
 adds_resulted : (to : Option Temp) (result : Option Held) (temps : Temps) (s : State) → Adds s (resulted to result temps s)
 adds_resulted None result temps s = stays s (got temps s) refl
@@ -127,11 +140,13 @@ adds_resulted (Some t) (Some result) temps s = stays s (resulted (Some t) (Some 
 
 adds_element : (port width : ℕ) (t : Option Temp) (m : Mach) → Adds m.state (element_of_port port width t m)
 adds_element port width None m = stays m.state (got port m.state) refl
-adds_element port width (Some t) m = adds_next m.state (held_number t m.temps m.state) _ (adds_number t m.temps m.state) (λ i s. stays s (got (port + i * width) s) refl)
+adds_element port width (Some t) m =
+    adds_next m.state (held_number t m.temps m.state) _ (adds_number t m.temps m.state) (λ i s. stays s (got (port + i * width) s) refl)
 
 adds_bytes_read : (inputs : Inputs) (n port : ℕ) (x : Value) (s : State) → Adds s (got x (bytes_read inputs n port s))
 adds_bytes_read inputs zero port x s = stays s (got x s) refl
-adds_bytes_read inputs (suc n) port x s = adds_after s (byte_read inputs port s) _ (one_more s _) (omega arith) (adds_bytes_read inputs n (port + 1) x (byte_read inputs port s))
+adds_bytes_read inputs (suc n) port x s =
+    adds_after s (byte_read inputs port s) _ (one_more s _) (omega arith) (adds_bytes_read inputs n (port + 1) x (byte_read inputs port s))
 
 adds_bytes_written : (n port low : ℕ) (x : Value) (s : State) → Adds s (got x (bytes_written n port low s))
 adds_bytes_written zero port low x s = stays s (got x s) refl
@@ -150,7 +165,8 @@ adds_ports port width go s h = fits (nat_le (port + width) 256)
 -- ---- operations
 
 module _ (functions : List PlainIrFunction) (program : PlainProgram) (inputs : Inputs) where
-  module _ (on : Mach → Outcome Value) (go : Go) (h : (m : Mach) → Adds m.state (on m)) (g : (p : Place) (m : Mach) → Adds m.state (go p m)) where
+  module _ (on : Mach → Outcome Value) (go : Go) (h : (m : Mach) → Adds m.state (on m))
+      (g : (p : Place) (m : Mach) → Adds m.state (go p m)) where
     jump_adds : (o : Option (List PlainIr)) (code : List PlainIr) (stack : List Frame) (m : Mach) → Adds m.state (jump_to o go code stack m)
     jump_adds None code stack m = stays {A = Value} m.state (jump_to None go code stack m) refl
     jump_adds (Some rest) code stack m = g (place code stack rest) m
@@ -162,50 +178,80 @@ module _ (functions : List PlainIrFunction) (program : PlainProgram) (inputs : I
     leave_adds : (stack : List Frame) (result : Option Held) (s : State) → Adds s (leave stack result go s)
     leave_adds [] None s = stays {A = Value} s (leave [] None go s) refl
     leave_adds [] (Some result) s = adds_given (value_in int result.content) s
-    leave_adds (f ∷ stack) result s = adds_next s (resulted f.to result f.temps s) _ (adds_resulted f.to result f.temps s) (λ temps s1. g (place f.code stack f.rest) (machine temps s1))
+    leave_adds (f ∷ stack) result s = adds_next s (resulted f.to result f.temps s) _ (adds_resulted f.to result f.temps s)
+        (λ temps s1. g (place f.code stack f.rest) (machine temps s1))
 
     branch_adds : (b : Bool) (o p : Outcome Value) (s : State) → Adds s o → Adds s p → Adds s (if b then o else p)
     branch_adds true o p s x y = x
     branch_adds false o p s x y = y
 
-    perform_adds : (i : PlainIr) (code : List PlainIr) (stack : List Frame) (rest : List PlainIr) (temps : Temps) (s : State) → Adds s (perform functions program inputs i on go code stack rest temps s)
+    perform_adds : (i : PlainIr) (code : List PlainIr) (stack : List Frame) (rest : List PlainIr) (temps : Temps) (s : State)
+        → Adds s (perform functions program inputs i on go code stack rest temps s)
     perform_adds (constant t n) code stack rest temps s = h (machine (with_temp t (Number n) temps) s)
-    perform_adds (copy to from) code stack rest temps s = adds_next s (held from temps s) _ (adds_held from temps s) (λ content s1. h (machine (with_content to content temps) s1))
+    perform_adds (copy to from) code stack rest temps s =
+        adds_next s (held from temps s) _ (adds_held from temps s) (λ content s1. h (machine (with_content to content temps) s1))
     perform_adds (address t o offset) code stack rest temps s = h (machine (with_temp t (pointer_at o offset) temps) s)
     perform_adds (field ptr space offset) code stack rest temps s =
-        adds_next s (held_pointer ptr temps s) _ (adds_pointer ptr temps s) (λ p s1. adds_next s1 (given (moved p (referent_of program p s1) (pos offset)) s1) _ (adds_given (moved p (referent_of program p s1) (pos offset)) s1) (λ q s2. h (machine (with_temp ptr (Pointer q) temps) s2)))
+        adds_next s (held_pointer ptr temps s) _ (adds_pointer ptr temps s)
+        (λ p s1. adds_next s1 (given (moved p (referent_of program p s1) (pos offset)) s1) _
+        (adds_given (moved p (referent_of program p s1) (pos offset)) s1) (λ q s2. h (machine (with_temp ptr (Pointer q) temps) s2)))
     perform_adds (load_at to ptr space) code stack rest temps s =
-        adds_next s (held_pointer ptr temps s) _ (adds_pointer ptr temps s) (λ p s1. adds_next s1 (read program (pointer_access program space to.bytes p s1) s1) _ (adds_read program (pointer_access program space to.bytes p s1) s1) (λ x s2. g (place code stack rest) (machine (with_temp to x temps) s2)))
+        adds_next s (held_pointer ptr temps s) _ (adds_pointer ptr temps s)
+        (λ p s1. adds_next s1 (read program (pointer_access program space to.bytes p s1) s1) _ (adds_read program
+        (pointer_access program space to.bytes p s1) s1) (λ x s2. g (place code stack rest) (machine (with_temp to x temps) s2)))
     perform_adds (store_at ptr space from) code stack rest temps s =
-        adds_next s (held_pointer ptr temps s) _ (adds_pointer ptr temps s) (λ p s1. adds_next s1 (put program (pointer_access program space from.bytes p s1) from temps s1) _ (adds_put program (pointer_access program space from.bytes p s1) from temps s1) (λ x s2. g (place code stack rest) (machine temps s2)))
+        adds_next s (held_pointer ptr temps s) _ (adds_pointer ptr temps s)
+        (λ p s1. adds_next s1 (put program (pointer_access program space from.bytes p s1) from temps s1) _ (adds_put program
+        (pointer_access program space from.bytes p s1) from temps s1) (λ x s2. g (place code stack rest) (machine temps s2)))
     perform_adds (load_object t o offset) code stack rest temps s =
-        adds_next s (read program (object_access program None o offset s) s) _ (adds_read program (object_access program None o offset s) s) (λ x s1. g (place code stack rest) (machine (with_temp t x temps) s1))
+        adds_next s (read program (object_access program None o offset s) s) _ (adds_read program (object_access program None o offset s) s)
+        (λ x s1. g (place code stack rest) (machine (with_temp t x temps) s1))
     perform_adds (store_object o offset t) code stack rest temps s =
-        adds_next s (put program (object_access program None o offset s) t temps s) _ (adds_put program (object_access program None o offset s) t temps s) (λ x s1. g (place code stack rest) (machine temps s1))
+        adds_next s (put program (object_access program None o offset s) t temps s) _
+        (adds_put program (object_access program None o offset s) t temps s) (λ x s1. g (place code stack rest) (machine temps s1))
     perform_adds (binary_op op ty mode to a aty b bty) code stack rest temps s =
-        adds_next s (held_as program aty a temps s) _ (adds_held_as program aty a temps s) (λ x s1. adds_next s1 (held_as program bty b temps s1) _ (adds_held_as program bty b temps s1) (λ y s2. adds_next s2 (given (binary_result op ty mode (operand_of program aty x s2) (operand_of program bty y s2)) s2) _ (adds_given (binary_result op ty mode (operand_of program aty x s2) (operand_of program bty y s2)) s2) (λ v s3. h (machine (with_temp to v temps) s3))))
+        adds_next s (held_as program aty a temps s) _ (adds_held_as program aty a temps s)
+        (λ x s1. adds_next s1 (held_as program bty b temps s1) _ (adds_held_as program bty b temps s1) (λ y s2. adds_next s2
+        (given (binary_result op ty mode (operand_of program aty x s2) (operand_of program bty y s2)) s2) _ (adds_given (binary_result op ty
+        mode (operand_of program aty x s2) (operand_of program bty y s2)) s2) (λ v s3. h (machine (with_temp to v temps) s3))))
     perform_adds (unary_op op ty mode to a) code stack rest temps s =
-        adds_next s (held_as program ty a temps s) _ (adds_held_as program ty a temps s) (λ x s1. adds_next s1 (given (unary_result op ty mode x) s1) _ (adds_given (unary_result op ty mode x) s1) (λ v s2. h (machine (with_temp to v temps) s2)))
+        adds_next s (held_as program ty a temps s) _ (adds_held_as program ty a temps s) (λ x s1. adds_next s1 (given
+        (unary_result op ty mode x) s1) _ (adds_given (unary_result op ty mode x) s1) (λ v s2. h (machine (with_temp to v temps) s2)))
     perform_adds (conversion to ty mode a aty) code stack rest temps s =
-        adds_next s (held_as program aty a temps s) _ (adds_held_as program aty a temps s) (λ x s1. adds_next s1 (given (conversion_result ty mode (operand_of program aty x s1)) s1) _ (adds_given (conversion_result ty mode (operand_of program aty x s1)) s1) (λ v s2. h (machine (with_temp to v temps) s2)))
+        adds_next s (held_as program aty a temps s) _ (adds_held_as program aty a temps s)
+        (λ x s1. adds_next s1 (given (conversion_result ty mode (operand_of program aty x s1)) s1) _
+        (adds_given (conversion_result ty mode (operand_of program aty x s1)) s1) (λ v s2. h (machine (with_temp to v temps) s2)))
     perform_adds (label l) code stack rest temps s = h (machine temps s)
     perform_adds (jump l) code stack rest temps s = jump_adds (find l code) code stack (machine temps s)
     perform_adds (branch_zero t l) code stack rest temps s =
-        adds_next s (held t temps s) _ (adds_held t temps s) (λ content s1. branch_adds (is_zero content) (jump_to (find l code) go code stack (machine temps s1)) (go (place code stack rest) (machine temps s1)) s1 (jump_adds (find l code) code stack (machine temps s1)) (g (place code stack rest) (machine temps s1)))
-    perform_adds (call_function f to) code stack rest temps s = enter_adds (slice_get functions f) (record { code = code; rest = rest; temps = temps; to = to } ∷ stack) (machine no_temps s)
-    perform_adds (return_from from) code stack rest temps s = adds_next s (returned from (machine temps s)) _ (adds_returned from (machine temps s)) (λ result s1. leave_adds stack result s1)
+        adds_next s (held t temps s) _ (adds_held t temps s)
+        (λ content s1. branch_adds (is_zero content) (jump_to (find l code) go code stack (machine temps s1)) (go (place code stack rest)
+        (machine temps s1)) s1 (jump_adds (find l code) code stack (machine temps s1)) (g (place code stack rest) (machine temps s1)))
+    perform_adds (call_function f to) code stack rest temps s =
+        enter_adds (slice_get functions f) (record { code = code; rest = rest; temps = temps; to = to } ∷ stack) (machine no_temps s)
+    perform_adds (return_from from) code stack rest temps s =
+        adds_next s (returned from (machine temps s)) _ (adds_returned from (machine temps s)) (λ result s1. leave_adds stack result s1)
     perform_adds (port_in to port index width) code stack rest temps s =
-        adds_next s (element_of_port port width index (machine temps s)) _ (adds_element port width index (machine temps s)) (λ at s1. adds_next s1 (port_read inputs at width s1) _ (adds_ports at width (λ s2. got (Number (pos (number_read inputs width at s2))) (bytes_read inputs width at s2)) s1 (adds_bytes_read inputs width at (Number (pos (number_read inputs width at s1))) s1)) (λ v s2. g (place code stack rest) (machine (with_temp to v temps) s2)))
+        adds_next s (element_of_port port width index (machine temps s)) _ (adds_element port width index (machine temps s))
+        (λ at s1. adds_next s1 (port_read inputs at width s1) _ (adds_ports at width
+        (λ s2. got (Number (pos (number_read inputs width at s2))) (bytes_read inputs width at s2)) s1 (adds_bytes_read inputs width at
+        (Number (pos (number_read inputs width at s1))) s1)) (λ v s2. g (place code stack rest) (machine (with_temp to v temps) s2)))
     perform_adds (port_out from port index width) code stack rest temps s =
-        adds_next s (element_of_port port width index (machine temps s)) _ (adds_element port width index (machine temps s)) (λ at s1. adds_next s1 (held_number from temps s1) _ (adds_number from temps s1) (λ low s2. adds_next s2 (port_written at width low s2) _ (adds_ports at width (λ s3. got (Number (pos low)) (bytes_written width at low s3)) s2 (adds_bytes_written width at low (Number (pos low)) s2)) (λ v s3. g (place code stack rest) (machine temps s3))))
+        adds_next s (element_of_port port width index (machine temps s)) _ (adds_element port width index (machine temps s))
+        (λ at s1. adds_next s1 (held_number from temps s1) _ (adds_number from temps s1) (λ low s2.
+        adds_next s2 (port_written at width low s2) _ (adds_ports at width (λ s3. got (Number (pos low)) (bytes_written width at low s3)) s2
+        (adds_bytes_written width at low (Number (pos low)) s2)) (λ v s3. g (place code stack rest) (machine temps s3))))
 
-  exec_adds : (n : ℕ) (code : List PlainIr) (stack : List Frame) (rest : List PlainIr) (m : Mach) → Adds m.state (exec_from functions program inputs n code stack rest m)
+  exec_adds : (n : ℕ) (code : List PlainIr) (stack : List Frame) (rest : List PlainIr) (m : Mach)
+      → Adds m.state (exec_from functions program inputs n code stack rest m)
   exec_adds zero code stack rest m = stays {A = Value} m.state (more m.state) refl
   exec_adds (suc n) code stack [] m = stays {A = Value} m.state (exec_from functions program inputs (suc n) code stack [] m) refl
   exec_adds (suc n) code stack (i ∷ rest) m =
       adds_after m.state (worked (op_steps i) m.state) _ (begin_itself m.state.events) (omega arith)
-      (perform_adds (λ u. exec_from functions program inputs (suc n) code stack rest u) (λ p u. exec_from functions program inputs n p.code p.stack p.rest u)
-      (λ u. exec_adds (suc n) code stack rest u) (λ p u. exec_adds n p.code p.stack p.rest u) i code stack rest m.temps (worked (op_steps i) m.state))
+      (perform_adds (λ u. exec_from functions program inputs (suc n) code stack rest u)
+      (λ p u. exec_from functions program inputs n p.code p.stack p.rest u)
+      (λ u. exec_adds (suc n) code stack rest u) (λ p u. exec_adds n p.code p.stack p.rest u) i code stack rest m.temps
+      (worked (op_steps i) m.state))
 
 -- one run goes on as another one
 record Later (a b : Outcome Value) : Type 0 where
@@ -217,7 +263,8 @@ same (got x s) = record { is = refl; work = omega arith }
 same (more s) = record { is = begin_itself s.events; work = omega arith }
 same (undefined point s) = record { is = refl; work = omega arith }
 
-later_next : {A : Type 0} (o : Outcome A) (f g : A → State → Outcome Value) → ((x : A) (s : State) → Later (f x s) (g x s)) → Later (next o f) (next o g)
+later_next : {A : Type 0} (o : Outcome A) (f g : A → State → Outcome Value) → ((x : A) (s : State) → Later (f x s) (g x s))
+    → Later (next o f) (next o g)
 later_next (got x s) f g h = h x s
 later_next (more s) f g h = same (more s)
 later_next (undefined point s) f g h = same (undefined point s)
@@ -228,8 +275,10 @@ later_from s (more t) h = record { is = h.events; work = h.work }
 later_from s (undefined point t) h = record { is = tt; work = h.work }
 
 module _ (functions : List PlainIrFunction) (program : PlainProgram) (inputs : Inputs) where
-  module _ (on at : Mach → Outcome Value) (f g : Go) (k : (m : Mach) → Later (on m) (at m)) (e : (p : Place) (m : Mach) → Later (f p m) (g p m)) where
-    jump_later : (o : Option (List PlainIr)) (code : List PlainIr) (stack : List Frame) (m : Mach) → Later (jump_to o f code stack m) (jump_to o g code stack m)
+  module _ (on at : Mach → Outcome Value) (f g : Go) (k : (m : Mach) → Later (on m) (at m))
+      (e : (p : Place) (m : Mach) → Later (f p m) (g p m)) where
+    jump_later : (o : Option (List PlainIr)) (code : List PlainIr) (stack : List Frame) (m : Mach)
+        → Later (jump_to o f code stack m) (jump_to o g code stack m)
     jump_later None code stack m = same (jump_to None f code stack m)
     jump_later (Some rest) code stack m = e (place code stack rest) m
 
@@ -240,50 +289,77 @@ module _ (functions : List PlainIrFunction) (program : PlainProgram) (inputs : I
     leave_later : (stack : List Frame) (result : Option Held) (s : State) → Later (leave stack result f s) (leave stack result g s)
     leave_later [] None s = same (leave [] None f s)
     leave_later [] (Some result) s = same (leave [] (Some result) f s)
-    leave_later (h ∷ stack) result s = later_next (resulted h.to result h.temps s) _ _ (λ temps s1. e (place h.code stack h.rest) (machine temps s1))
+    leave_later (h ∷ stack) result s =
+        later_next (resulted h.to result h.temps s) _ _ (λ temps s1. e (place h.code stack h.rest) (machine temps s1))
 
     branch_later : (b : Bool) (x y p q : Outcome Value) → Later x p → Later y q → Later (if b then x else y) (if b then p else q)
     branch_later true x y p q h k = h
     branch_later false x y p q h k = k
 
-    perform_later : (i : PlainIr) (code : List PlainIr) (stack : List Frame) (rest : List PlainIr) (temps : Temps) (s : State) → Later (perform functions program inputs i on f code stack rest temps s) (perform functions program inputs i at g code stack rest temps s)
+    perform_later : (i : PlainIr) (code : List PlainIr) (stack : List Frame) (rest : List PlainIr) (temps : Temps) (s : State) → Later
+        (perform functions program inputs i on f code stack rest temps s) (perform functions program inputs i at g code stack rest temps s)
     perform_later (constant t n) code stack rest temps s = k (machine (with_temp t (Number n) temps) s)
-    perform_later (copy to from) code stack rest temps s = later_next (held from temps s) _ _ (λ content s1. k (machine (with_content to content temps) s1))
+    perform_later (copy to from) code stack rest temps s =
+        later_next (held from temps s) _ _ (λ content s1. k (machine (with_content to content temps) s1))
     perform_later (address t o offset) code stack rest temps s = k (machine (with_temp t (pointer_at o offset) temps) s)
-    perform_later (field ptr space offset) code stack rest temps s = later_next (held_pointer ptr temps s) _ _ (λ p s1. later_next (given (moved p (referent_of program p s1) (pos offset)) s1) _ _ (λ q s2. k (machine (with_temp ptr (Pointer q) temps) s2)))
-    perform_later (load_at to ptr space) code stack rest temps s = later_next (held_pointer ptr temps s) _ _ (λ p s1. later_next (read program (pointer_access program space to.bytes p s1) s1) _ _ (λ x s2. e (place code stack rest) (machine (with_temp to x temps) s2)))
-    perform_later (store_at ptr space from) code stack rest temps s = later_next (held_pointer ptr temps s) _ _ (λ p s1. later_next (put program (pointer_access program space from.bytes p s1) from temps s1) _ _ (λ x s2. e (place code stack rest) (machine temps s2)))
-    perform_later (load_object t o offset) code stack rest temps s = later_next (read program (object_access program None o offset s) s) _ _ (λ x s1. e (place code stack rest) (machine (with_temp t x temps) s1))
-    perform_later (store_object o offset t) code stack rest temps s = later_next (put program (object_access program None o offset s) t temps s) _ _ (λ x s1. e (place code stack rest) (machine temps s1))
+    perform_later (field ptr space offset) code stack rest temps s = later_next (held_pointer ptr temps s) _ _ (λ p s1. later_next
+        (given (moved p (referent_of program p s1) (pos offset)) s1) _ _ (λ q s2. k (machine (with_temp ptr (Pointer q) temps) s2)))
+    perform_later (load_at to ptr space) code stack rest temps s =
+        later_next (held_pointer ptr temps s) _ _ (λ p s1. later_next (read program (pointer_access program space to.bytes p s1) s1) _ _
+        (λ x s2. e (place code stack rest) (machine (with_temp to x temps) s2)))
+    perform_later (store_at ptr space from) code stack rest temps s = later_next (held_pointer ptr temps s) _ _
+        (λ p s1. later_next (put program (pointer_access program space from.bytes p s1) from temps s1) _ _
+        (λ x s2. e (place code stack rest) (machine temps s2)))
+    perform_later (load_object t o offset) code stack rest temps s = later_next (read program (object_access program None o offset s) s) _ _
+        (λ x s1. e (place code stack rest) (machine (with_temp t x temps) s1))
+    perform_later (store_object o offset t) code stack rest temps s = later_next
+        (put program (object_access program None o offset s) t temps s) _ _ (λ x s1. e (place code stack rest) (machine temps s1))
     perform_later (binary_op op ty mode to a aty b bty) code stack rest temps s =
-        later_next (held_as program aty a temps s) _ _ (λ x s1. later_next (held_as program bty b temps s1) _ _ (λ y s2. later_next (given (binary_result op ty mode (operand_of program aty x s2) (operand_of program bty y s2)) s2) _ _ (λ v s3. k (machine (with_temp to v temps) s3))))
-    perform_later (unary_op op ty mode to a) code stack rest temps s = later_next (held_as program ty a temps s) _ _ (λ x s1. later_next (given (unary_result op ty mode x) s1) _ _ (λ v s2. k (machine (with_temp to v temps) s2)))
-    perform_later (conversion to ty mode a aty) code stack rest temps s = later_next (held_as program aty a temps s) _ _ (λ x s1. later_next (given (conversion_result ty mode (operand_of program aty x s1)) s1) _ _ (λ v s2. k (machine (with_temp to v temps) s2)))
+        later_next (held_as program aty a temps s) _ _ (λ x s1. later_next (held_as program bty b temps s1) _ _
+        (λ y s2. later_next (given (binary_result op ty mode (operand_of program aty x s2) (operand_of program bty y s2)) s2) _ _
+        (λ v s3. k (machine (with_temp to v temps) s3))))
+    perform_later (unary_op op ty mode to a) code stack rest temps s = later_next (held_as program ty a temps s) _ _
+        (λ x s1. later_next (given (unary_result op ty mode x) s1) _ _ (λ v s2. k (machine (with_temp to v temps) s2)))
+    perform_later (conversion to ty mode a aty) code stack rest temps s = later_next (held_as program aty a temps s) _ _ (λ x s1.
+        later_next (given (conversion_result ty mode (operand_of program aty x s1)) s1) _ _ (λ v s2. k (machine (with_temp to v temps) s2)))
     perform_later (label l) code stack rest temps s = k (machine temps s)
     perform_later (jump l) code stack rest temps s = jump_later (find l code) code stack (machine temps s)
     perform_later (branch_zero t l) code stack rest temps s =
-        later_next (held t temps s) _ _ (λ content s1. branch_later (is_zero content) (jump_to (find l code) f code stack (machine temps s1)) (f (place code stack rest) (machine temps s1)) (jump_to (find l code) g code stack (machine temps s1)) (g (place code stack rest) (machine temps s1)) (jump_later (find l code) code stack (machine temps s1)) (e (place code stack rest) (machine temps s1)))
-    perform_later (call_function h to) code stack rest temps s = enter_later (slice_get functions h) (record { code = code; rest = rest; temps = temps; to = to } ∷ stack) (machine no_temps s)
-    perform_later (return_from from) code stack rest temps s = later_next (returned from (machine temps s)) _ _ (λ result s1. leave_later stack result s1)
+        later_next (held t temps s) _ _
+        (λ content s1. branch_later (is_zero content) (jump_to (find l code) f code stack (machine temps s1)) (f (place code stack rest)
+        (machine temps s1)) (jump_to (find l code) g code stack (machine temps s1)) (g (place code stack rest) (machine temps s1))
+        (jump_later (find l code) code stack (machine temps s1)) (e (place code stack rest) (machine temps s1)))
+    perform_later (call_function h to) code stack rest temps s =
+        enter_later (slice_get functions h) (record { code = code; rest = rest; temps = temps; to = to } ∷ stack) (machine no_temps s)
+    perform_later (return_from from) code stack rest temps s =
+        later_next (returned from (machine temps s)) _ _ (λ result s1. leave_later stack result s1)
     perform_later (port_in to port index width) code stack rest temps s =
-        later_next (element_of_port port width index (machine temps s)) _ _ (λ at s1. later_next (port_read inputs at width s1) _ _ (λ v s2. e (place code stack rest) (machine (with_temp to v temps) s2)))
+        later_next (element_of_port port width index (machine temps s)) _ _
+        (λ at s1. later_next (port_read inputs at width s1) _ _ (λ v s2. e (place code stack rest) (machine (with_temp to v temps) s2)))
     perform_later (port_out from port index width) code stack rest temps s =
-        later_next (element_of_port port width index (machine temps s)) _ _ (λ at s1. later_next (held_number from temps s1) _ _ (λ low s2. later_next (port_written at width low s2) _ _ (λ v s3. e (place code stack rest) (machine temps s3))))
+        later_next (element_of_port port width index (machine temps s)) _ _ (λ at s1. later_next (held_number from temps s1) _ _
+        (λ low s2. later_next (port_written at width low s2) _ _ (λ v s3. e (place code stack rest) (machine temps s3))))
 
-  exec_later : (n k : ℕ) → n ≤ k → (code : List PlainIr) (stack : List Frame) (rest : List PlainIr) (m : Mach) → Later (exec_from functions program inputs n code stack rest m) (exec_from functions program inputs k code stack rest m)
-  exec_later zero k le code stack rest m = later_from m.state (exec_from functions program inputs k code stack rest m) (exec_adds functions program inputs k code stack rest m)
+  exec_later : (n k : ℕ) → n ≤ k → (code : List PlainIr) (stack : List Frame) (rest : List PlainIr) (m : Mach)
+      → Later (exec_from functions program inputs n code stack rest m) (exec_from functions program inputs k code stack rest m)
+  exec_later zero k le code stack rest m =
+      later_from m.state (exec_from functions program inputs k code stack rest m) (exec_adds functions program inputs k code stack rest m)
   exec_later (suc n) zero le code stack rest m = absurd (omega arith)
   exec_later (suc n) (suc k) le code stack [] m = same (exec_from functions program inputs (suc n) code stack [] m)
   exec_later (suc n) (suc k) le code stack (i ∷ rest) m =
-      perform_later (λ u. exec_from functions program inputs (suc n) code stack rest u) (λ u. exec_from functions program inputs (suc k) code stack rest u)
-      (λ p u. exec_from functions program inputs n p.code p.stack p.rest u) (λ p u. exec_from functions program inputs k p.code p.stack p.rest u)
+      perform_later (λ u. exec_from functions program inputs (suc n) code stack rest u)
+      (λ u. exec_from functions program inputs (suc k) code stack rest u)
+      (λ p u. exec_from functions program inputs n p.code p.stack p.rest u)
+      (λ p u. exec_from functions program inputs k p.code p.stack p.rest u)
       (λ u. exec_later (suc n) (suc k) le code stack rest u) (λ p u. exec_later n k (omega arith) p.code p.stack p.rest u)
       i code stack rest m.temps (worked (op_steps i) m.state)
 
 run_later : (p : PlainIrProgram) (inputs : Inputs) (n k : ℕ) → n ≤ k → Later (run p inputs n) (run p inputs k)
 run_later p inputs n k le =
-    enter_later p.functions (data_of p) inputs (λ u. more u.state) (λ u. more u.state) (λ q u. exec p.functions (data_of p) inputs n q u) (λ q u. exec p.functions (data_of p) inputs k q u)
-    (λ u. same (more u.state)) (λ q u. exec_later p.functions (data_of p) inputs n k le q.code q.stack q.rest u) (slice_get p.functions p.main) [] (start (data_of p))
+    enter_later p.functions (data_of p) inputs (λ u. more u.state) (λ u. more u.state) (λ q u. exec p.functions (data_of p) inputs n q u)
+    (λ q u. exec p.functions (data_of p) inputs k q u)
+    (λ u. same (more u.state)) (λ q u. exec_later p.functions (data_of p) inputs n k le q.code q.stack q.rest u)
+    (slice_get p.functions p.main) [] (start (data_of p))
 
 pub operations_are_runs : OperationsAreRuns
 operations_are_runs p inputs n k le = (run_later p inputs n k le).is

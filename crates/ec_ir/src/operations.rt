@@ -1,5 +1,4 @@
 //! The operations of a program.
-
 use ec_core::{BinOp, CType, Obj, StructDef, UnOp};
 use ec_fx::Mode;
 use ec_space::{Seq, SpaceId};

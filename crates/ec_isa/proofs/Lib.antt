@@ -1,2 +1,4 @@
-mod Rows
+-- For all crates above.
 pub mod InstructionAt
+-- For this crate alone.
+mod Rows

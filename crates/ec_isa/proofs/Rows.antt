@@ -4,10 +4,18 @@ use Rattle.std.proofs.Common.{◌≡◌, ℕ, suc, ◌+◌, ◌-◌, ◌*◌, �
 use Rattle.std.specs.Prelude.{ℤ, pos, negsuc, IsTrue, ◌==◌, nat_lt, nat_le}
 use Rattle.std.proofs.lemmas.Bool.{cases_lt, and_parts, ltb-true, leb-true, eqb-true, lt-ltb, le-ltb}
 use Rattle.ec_isa.specs.declared.instructions.Instr.{Instr}
-use Rattle.ec_isa.specs.declared.instructions.Instr.TheVariants.{Nop, Movw, Cpc, Sbc, Add, Cpse, Cp, Sub, Adc, And, Eor, Or, Mov, Mul, Cpi, Sbci, Subi, Ori, Andi, Ldi, LddZ, LddY, StdZ, StdY, Lds, Sts, LdZPlus, LdMinusZ, LdYPlus, LdMinusY, LdX, LdXPlus, LdMinusX, StZPlus, StMinusZ, StYPlus, StMinusY, StX, StXPlus, StMinusX, LpmZ, LpmZPlus, Pop, Push, Com, Neg, Swap, Inc, Asr, Lsr, Ror, Dec, Bset, Bclr, Ijmp, Icall, Ret, Break, Jmp, Call, Adiw, Sbiw, In, Out, Rjmp, Rcall, Brbs, Brbc, Bld, Bst, Sbrc, Sbrs}
+use Rattle.ec_isa.specs.declared.instructions.Instr.TheVariants.{Nop, Movw, Cpc, Sbc, Add, Cpse, Cp, Sub, Adc, And, Eor, Or, Mov, Mul, Cpi}
+use Rattle.ec_isa.specs.declared.instructions.Instr.TheVariants.{Sbci, Subi, Ori, Andi, Ldi, LddZ, LddY, StdZ, StdY, Lds, Sts, LdZPlus}
+use Rattle.ec_isa.specs.declared.instructions.Instr.TheVariants.{LdMinusZ, LdYPlus, LdMinusY, LdX, LdXPlus, LdMinusX, StZPlus, StMinusZ}
+use Rattle.ec_isa.specs.declared.instructions.Instr.TheVariants.{StYPlus, StMinusY, StX, StXPlus, StMinusX, LpmZ, LpmZPlus, Pop, Push, Com}
+use Rattle.ec_isa.specs.declared.instructions.Instr.TheVariants.{Neg, Swap, Inc, Asr, Lsr, Ror, Dec, Bset, Bclr, Ijmp, Icall, Ret, Break}
+use Rattle.ec_isa.specs.declared.instructions.Instr.TheVariants.{Jmp, Call, Adiw, Sbiw, In, Out, Rjmp, Rcall, Brbs, Brbc, Bld, Bst, Sbrc}
+use Rattle.ec_isa.specs.declared.instructions.Instr.TheVariants.{Sbrs}
 use Rattle.ec_isa.specs.Formats.{is_register, is_signed, twos_complement}
 use Rattle.ec_isa.specs.Table.{Decodes}
-use Rattle.ec_isa.specs.Reading.{candidate, by_page, register, source, upper_register, constant, offset, pair, pair_constant, io_address, signed, two_registers, immediate, displacement, load, store, flag_or_return, one_register, pair_immediate, page_nine, port, bit_or_branch}
+use Rattle.ec_isa.specs.Reading.{candidate, by_page, register, source, upper_register, constant, offset, pair, pair_constant, io_address}
+use Rattle.ec_isa.specs.Reading.{signed, two_registers, immediate, displacement, load, store, flag_or_return, one_register, pair_immediate}
+use Rattle.ec_isa.specs.Reading.{page_nine, port, bit_or_branch}
 
 -- the words of a page are read as one of that page's instructions
 at_page : (page w next : ℕ) → w / 4096 ≡ page → candidate w next ≡ by_page page w next
@@ -285,8 +293,10 @@ reads (LddZ d q) w n h = displacement_row 0 0 d q w n refl h.in_range h.first
 reads (LddY d q) w n h = displacement_row 0 1 d q w n refl h.in_range h.first
 reads (StdZ q r) w n h = displacement_row 1 0 r q w n refl h.in_range h.first
 reads (StdY q r) w n h = displacement_row 1 1 r q w n refl h.in_range h.first
-reads (Lds d k) w n h = load_row 0 d w n refl (and_parts (is_register d) (nat_lt k 65536) h.in_range).0 h.first ∙ ap (λ x. Some (Lds d x)) h.second
-reads (Sts k r) w n h = store_row 0 r w n refl (and_parts (is_register r) (nat_lt k 65536) h.in_range).0 h.first ∙ ap (λ x. Some (Sts x r)) h.second
+reads (Lds d k) w n h = load_row 0 d w n refl (and_parts (is_register d) (nat_lt k 65536) h.in_range).0 h.first
+    ∙ ap (λ x. Some (Lds d x)) h.second
+reads (Sts k r) w n h = store_row 0 r w n refl (and_parts (is_register r) (nat_lt k 65536) h.in_range).0 h.first
+    ∙ ap (λ x. Some (Sts x r)) h.second
 reads (LdZPlus d) w n h = load_row 1 d w n refl (beside d 30 h.in_range) h.first
 reads (LdMinusZ d) w n h = load_row 2 d w n refl (beside d 30 h.in_range) h.first
 reads (LdYPlus d) w n h = load_row 9 d w n refl (beside d 28 h.in_range) h.first

@@ -1,3 +1,4 @@
+pub mod Addresses
 pub mod Formats
 pub mod Table
 pub mod Reading

@@ -1,6 +1,5 @@
-// The instruction of some words. The bits name the one instruction that the words may be. Whether the
-// table has it, with its fields in range and its form not left out, shows when it is encoded again.
-
+//! The instruction of some words. The bits name the one instruction that the words may be. Whether the
+//! table has it, with its fields in range and its form not left out, shows when it is encoded again.
 ghost use Rattle.std.specs.Prelude.{◌≡◌, ◌↔◌, ◌<◌, ◌≤◌, ◌*◌, IsNone, IfSome};
 ghost use Rattle.ec_isa.specs.declared.instructions.Instr.{Instr as Instruction};
 ghost use Rattle.ec_isa.specs.Formats.{words_of};

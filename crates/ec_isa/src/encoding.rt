@@ -1,5 +1,4 @@
-// The words of an instruction.
-
+//! The words of an instruction.
 ghost use Rattle.std.specs.Prelude.{◌≡◌, ℕ, IsTrue};
 ghost use Rattle.ec_isa.specs.Formats.{words_of};
 ghost use Rattle.ec_isa.specs.Table.{row, in_table, first_word, second_word, SecondIs, Decodes};

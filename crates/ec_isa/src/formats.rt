@@ -1,7 +1,6 @@
-// The words of each format. A function takes the opcode of a row and the values of its fields, and
-// answers `None` where these are not in the format's ranges. The bits that a comment shows stand from
-// 15 to 0, and a dot is a bit of the opcode.
-
+//! The words of each format. A function takes the opcode of a row and the values of its fields, and
+//! answers `None` where these are not in the format's ranges. The bits that a comment shows stand from
+//! 15 to 0, and a dot is a bit of the opcode.
 ghost use Rattle.std.specs.Prelude.{◌≡◌, ◌<◌, ◌≤◌, ◌*◌, IsTrue};
 ghost use Rattle.ec_isa.specs.Formats.{words_of, is_signed as is_signed_by, twos_complement as twos_complement_of};
 ghost use Rattle.ec_isa.specs.Formats.{bare as bare_row, register_pairs as register_pairs_row};
@@ -15,7 +14,7 @@ ghost use Rattle.ec_isa.specs.Formats.{port as port_row, relative as relative_ro
 ghost use Rattle.ec_isa.specs.Formats.{register_bit as register_bit_row};
 
 use crate::instructions::Words;
-use ec_avr_parts::{is_apart, two_registers_word};
+use crate::words::{is_apart, two_registers_word};
 
 /// No fields.
 pub fn bare(opcode: u16) -> Option<Words>

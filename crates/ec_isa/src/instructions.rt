@@ -1,5 +1,4 @@
-// The instructions, as the Microchip AVR Instruction Set Manual names them.
-
+//! The instructions, as the Microchip AVR Instruction Set Manual names them.
 /// An instruction of the core, with its fields.
 ///
 /// A field has the letter that the manual gives its bits, in lower case. A register field holds the

@@ -1,5 +1,6 @@
 -- White space and comments at the front of a line.
-use Rattle.std.proofs.Common.{◌≡◌, ℕ, ◌+◌, ◌==◌, ◌&&◌, List, [], ◌∷◌, drop, Bool, true, false, Option, Some, None, option_map, unwrap_or, refl, ◌∙◌, add-one}
+use Rattle.std.proofs.Common.{◌≡◌, ℕ, ◌+◌, ◌==◌, ◌&&◌, List, [], ◌∷◌, drop, Bool, true, false, Option, Some, None, option_map, unwrap_or}
+use Rattle.std.proofs.Common.{refl, ◌∙◌, add-one}
 use Rattle.ec_lex.specs.Bytes.{is_space}
 use Rattle.ec_lex.specs.Pieces.{comment_end}
 use Rattle.ec_lex.specs.Reading.{after_comment, after_blank_at, after_byte_at, skip, skip_comment, is_quiet, is_quiet_after, is_end}
@@ -16,11 +17,13 @@ skip_comment_end [] = refl
 skip_comment_end (b ∷ []) = rw (and_false (b == 42)) refl
 skip_comment_end (b ∷ c ∷ bs) = go (skip_comment_end (c ∷ bs)) ((b == 42) && (c == 47)) refl
   where
-    one_more : (o : Option ℕ) → option_map (λ n. skip (drop n (c ∷ bs))) o ≡ option_map (λ n. skip (drop n (b ∷ c ∷ bs))) (option_map (λ n. n + 1) o)
+    one_more : (o : Option ℕ)
+        → option_map (λ n. skip (drop n (c ∷ bs))) o ≡ option_map (λ n. skip (drop n (b ∷ c ∷ bs))) (option_map (λ n. n + 1) o)
     one_more None = refl
     one_more (Some n) = rw add-one refl
 
-    go : skip_comment (c ∷ bs) ≡ option_map (λ n. skip (drop n (c ∷ bs))) (comment_end (c ∷ bs)) → (v : Bool) → ((b == 42) && (c == 47)) ≡ v → skip_comment (b ∷ c ∷ bs) ≡ option_map (λ n. skip (drop n (b ∷ c ∷ bs))) (comment_end (b ∷ c ∷ bs))
+    go : skip_comment (c ∷ bs) ≡ option_map (λ n. skip (drop n (c ∷ bs))) (comment_end (c ∷ bs)) → (v : Bool) → ((b == 42) && (c == 47)) ≡ v
+        → skip_comment (b ∷ c ∷ bs) ≡ option_map (λ n. skip (drop n (b ∷ c ∷ bs))) (comment_end (b ∷ c ∷ bs))
     go more true is = rw is refl
     go more false is = rw is (more ∙ one_more (comment_end (c ∷ bs)))
 
@@ -30,11 +33,14 @@ is_quiet_after_end [] = refl
 is_quiet_after_end (b ∷ []) = rw (and_false (b == 42)) refl
 is_quiet_after_end (b ∷ c ∷ bs) = go (is_quiet_after_end (c ∷ bs)) ((b == 42) && (c == 47)) refl
   where
-    one_more : (o : Option ℕ) → unwrap_or (option_map (λ n. is_quiet (drop n (c ∷ bs))) o) false ≡ unwrap_or (option_map (λ n. is_quiet (drop n (b ∷ c ∷ bs))) (option_map (λ n. n + 1) o)) false
+    one_more : (o : Option ℕ) → unwrap_or (option_map (λ n. is_quiet (drop n (c ∷ bs))) o) false
+        ≡ unwrap_or (option_map (λ n. is_quiet (drop n (b ∷ c ∷ bs))) (option_map (λ n. n + 1) o)) false
     one_more None = refl
     one_more (Some n) = rw add-one refl
 
-    go : is_quiet_after (c ∷ bs) ≡ unwrap_or (option_map (λ n. is_quiet (drop n (c ∷ bs))) (comment_end (c ∷ bs))) false → (v : Bool) → ((b == 42) && (c == 47)) ≡ v → is_quiet_after (b ∷ c ∷ bs) ≡ unwrap_or (option_map (λ n. is_quiet (drop n (b ∷ c ∷ bs))) (comment_end (b ∷ c ∷ bs))) false
+    go : is_quiet_after (c ∷ bs) ≡ unwrap_or (option_map (λ n. is_quiet (drop n (c ∷ bs))) (comment_end (c ∷ bs))) false
+        → (v : Bool) → ((b == 42) && (c == 47)) ≡ v
+        → is_quiet_after (b ∷ c ∷ bs) ≡ unwrap_or (option_map (λ n. is_quiet (drop n (b ∷ c ∷ bs))) (comment_end (b ∷ c ∷ bs))) false
     go more true is = rw is refl
     go more false is = rw is (more ∙ one_more (comment_end (c ∷ bs)))
 
@@ -48,12 +54,15 @@ skip_more (b ∷ []) r h = go (is_space b) refl
     go false is = let e : Some r ≡ None = rw (is, and_false (b == 47)) at h in cc
 skip_more (b ∷ c ∷ bs) r h = go (is_space b) refl
   where
-    at_comment : (o : Option ℕ) → comment_end bs ≡ o → Some r ≡ option_map (λ n. drop n bs) o → skip r ≡ unwrap_or (skip_comment bs) (b ∷ c ∷ bs)
+    at_comment : (o : Option ℕ) → comment_end bs ≡ o → Some r ≡ option_map (λ n. drop n bs) o
+        → skip r ≡ unwrap_or (skip_comment bs) (b ∷ c ∷ bs)
     at_comment None is e = cc
     at_comment (Some n) is e = let same : r ≡ drop n bs = some_is r (drop n bs) e in rw (skip_comment_end bs, is, same) refl
 
     no_space : (v : Bool) → ((b == 47) && (c == 42)) ≡ v → is_space b ≡ false → skip r ≡ skip (b ∷ c ∷ bs)
-    no_space true is not_space = let e : Some r ≡ after_comment bs = rw (not_space, is) at h in rw (not_space, is) (at_comment (comment_end bs) refl e)
+    no_space true is not_space =
+        let e : Some r ≡ after_comment bs = rw (not_space, is) at h in
+        rw (not_space, is) (at_comment (comment_end bs) refl e)
     no_space false is not_space = let e : Some r ≡ None = rw (not_space, is) at h in cc
 
     go : (v : Bool) → is_space b ≡ v → skip r ≡ skip (b ∷ c ∷ bs)
@@ -70,12 +79,15 @@ skip_stays (b ∷ []) h = go (is_space b) refl
     go false is = rw is refl
 skip_stays (b ∷ c ∷ bs) h = go (is_space b) refl
   where
-    at_comment : (o : Option ℕ) → comment_end bs ≡ o → None ≡ option_map (λ n. drop n bs) o → b ∷ c ∷ bs ≡ unwrap_or (skip_comment bs) (b ∷ c ∷ bs)
+    at_comment : (o : Option ℕ) → comment_end bs ≡ o → None ≡ option_map (λ n. drop n bs) o
+        → b ∷ c ∷ bs ≡ unwrap_or (skip_comment bs) (b ∷ c ∷ bs)
     at_comment None is e = rw (skip_comment_end bs, is) refl
     at_comment (Some n) is e = cc
 
     no_space : (v : Bool) → ((b == 47) && (c == 42)) ≡ v → is_space b ≡ false → b ∷ c ∷ bs ≡ skip (b ∷ c ∷ bs)
-    no_space true is not_space = let e : None ≡ after_comment bs = rw (not_space, is) at h in rw (not_space, is) (at_comment (comment_end bs) refl e)
+    no_space true is not_space =
+        let e : None ≡ after_comment bs = rw (not_space, is) at h in
+        rw (not_space, is) (at_comment (comment_end bs) refl e)
     no_space false is not_space = rw (not_space, is) refl
 
     go : (v : Bool) → is_space b ≡ v → b ∷ c ∷ bs ≡ skip (b ∷ c ∷ bs)
@@ -99,8 +111,15 @@ quiet_more (b ∷ c ∷ bs) r end h = go ((b == 47) && (c == 42)) refl
     at_comment (Some n) is e = let same : r ≡ drop n bs = some_is r (drop n bs) e in rw (is_quiet_after_end bs, is, same) refl
 
     go : (v : Bool) → ((b == 47) && (c == 42)) ≡ v → is_quiet r ≡ is_quiet (b ∷ c ∷ bs)
-    go true is = let no_line : ((b == 47) && (c == 47)) ≡ false = end in let e : Some r ≡ after_comment bs = rw is at h in rw (no_line, is) (at_comment (comment_end bs) refl e)
-    go false is = let no_line : ((b == 47) && (c == 47)) ≡ false = end in let e : Some r ≡ Some (c ∷ bs) = rw is at h in let same : r ≡ c ∷ bs = some_is r (c ∷ bs) e in rw (no_line, is, same) refl
+    go true is =
+        let no_line : ((b == 47) && (c == 47)) ≡ false = end in
+        let e : Some r ≡ after_comment bs = rw is at h in
+        rw (no_line, is) (at_comment (comment_end bs) refl e)
+    go false is =
+        let no_line : ((b == 47) && (c == 47)) ≡ false = end in
+        let e : Some r ≡ Some (c ∷ bs) = rw is at h in
+        let same : r ≡ c ∷ bs = some_is r (c ∷ bs) e in
+        rw (no_line, is, same) refl
 
 pub quiet_open : (bs : List ℕ) → is_end bs ≡ false → None ≡ after_byte_at bs → false ≡ is_quiet bs
 unfolding is_quiet
@@ -113,5 +132,8 @@ quiet_open (b ∷ c ∷ bs) end h = go ((b == 47) && (c == 42)) refl
     at_comment (Some n) is e = cc
 
     go : (v : Bool) → ((b == 47) && (c == 42)) ≡ v → false ≡ is_quiet (b ∷ c ∷ bs)
-    go true is = let no_line : ((b == 47) && (c == 47)) ≡ false = end in let e : None ≡ after_comment bs = rw is at h in rw (no_line, is) (at_comment (comment_end bs) refl e)
+    go true is =
+        let no_line : ((b == 47) && (c == 47)) ≡ false = end in
+        let e : None ≡ after_comment bs = rw is at h in
+        rw (no_line, is) (at_comment (comment_end bs) refl e)
     go false is = let e : None ≡ Some (c ∷ bs) = rw is at h in cc

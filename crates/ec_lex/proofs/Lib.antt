@@ -1,9 +1,9 @@
-pub mod Tables
-pub mod Values
-pub mod Gaps
-pub mod Runs
-pub mod Front
-pub mod LongestLaws
-pub mod ConstantLaws
-pub mod DirectiveLaws
-pub mod TextLaws
+mod Tables
+mod Values
+mod Gaps
+mod Runs
+mod Front
+mod LongestLaws
+mod ConstantLaws
+mod DirectiveLaws
+mod TextLaws

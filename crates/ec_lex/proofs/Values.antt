@@ -13,7 +13,8 @@ pub grows : (base n : ℕ) (ds : List ℕ) → 1 ≤ base → n ≤ value_from b
 grows base n [] h = omega arith
 grows base n (d ∷ ds) h = omega (arith, at_least base n (digit_value d) h, grows base (n * base + digit_value d) ds h)
 
-pub passes_limit : (base n limit d : ℕ) (ds : List ℕ) (all : ℕ) → 1 ≤ base → limit ≤ n * base + digit_value d → value_from base n (d ∷ ds) ≡ all → below limit all ≡ None
+pub passes_limit : (base n limit d : ℕ) (ds : List ℕ) (all : ℕ) → 1 ≤ base → limit ≤ n * base + digit_value d
+    → value_from base n (d ∷ ds) ≡ all → below limit all ≡ None
 passes_limit base n limit d ds all some past same =
     let large : limit ≤ all = omega (arith, same, grows base (n * base + digit_value d) ds some) in
     rw (le-ltb all limit large) refl

@@ -1,6 +1,6 @@
 -- The classes of bytes (ISO/IEC 9899:1999, 5.2.1 and 6.4). A byte is its ASCII code.
 use Rattle.std.specs.Prelude.{ℕ, ◌-◌, ◌==◌, ◌&&◌, ◌||◌, nat_le, not, Bool, if◌then◌else◌}
-pub use Rattle.ec_lex_pieces.specs.Comments.{begins}
+pub use Rattle.ec_lex.specs.Comments.{begins}
 
 -- space, tab, LF, VT, FF and CR
 abbrev pub is_space : ℕ → Bool

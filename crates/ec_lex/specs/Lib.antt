@@ -1,3 +1,4 @@
+pub mod Comments
 pub mod Bytes
 pub mod Words
 pub mod Pieces

@@ -16,7 +16,7 @@ use Rattle.ec_lex.specs.declared.pieces.Form.{Form}
 use Rattle.ec_lex.specs.declared.pieces.Form.TheVariants.{Space, LineComment, Comment, OpenComment, Identifier, Number}
 use Rattle.ec_lex.specs.declared.pieces.Form.TheVariants.{Character, Quote, Punctuator, Directive}
 use Rattle.ec_lex.specs.Bytes.{is_space, is_in_line, is_letter, is_digit, is_word, is_run}
-pub use Rattle.ec_lex_pieces.specs.Comments.{comment_end}
+pub use Rattle.ec_lex.specs.Comments.{comment_end}
 
 -- the punctuators, longer ones first (6.4.6)
 abbrev pub punctuators : List (List ℕ × PunctKind)

@@ -7,12 +7,11 @@ ghost use Rattle.ec_lex.specs.Views.{view_constant, view_directed, view_scope};
 
 use crate::bytes::{is_letter, is_space, word_len};
 use crate::constants::{Constant, character_constant, read_constant};
-use crate::pieces::{Form, first_prefix, piece};
+use crate::pieces::{Form, comment_end, first_prefix, is_taken, piece};
 use crate::scope::Scope;
 use crate::stop::Header;
 use crate::words::look_up;
 use ec_grammar::{PragmaKind, PragmaState};
-use ec_lex_pieces::{comment_end, is_taken};
 
 /// What a directive says.
 #[derive(Clone, Copy)]

@@ -12,11 +12,10 @@ ghost use Rattle.ec_lex.specs.Views.{view_directed, view_scope};
 use crate::bytes::line_len;
 use crate::constants::{character_constant, read_constant};
 use crate::directives::{Directed, directive};
-use crate::pieces::{Form, piece};
+use crate::pieces::{Form, offset, piece};
 use crate::scope::{Define, Scope, name_of};
 use crate::stop::{Cause, Header, LexStop, Refusal};
 use ec_grammar::{Token, TokenKind};
-use ec_lex_pieces::offset;
 use ec_space::{NoMemory, Seq};
 use std::alloc::Global;
 

@@ -1,5 +1,4 @@
 //! Why a text has no tokens.
-
 ghost use Rattle.std.specs.Prelude.{◌≡◌};
 ghost use Rattle.ec_lex.specs.declared.stop.Refusal.TheVariants.{NoMemory as OutOfMemory};
 

@@ -1,5 +1,6 @@
 -- The code of a placed program stands in its image: the whole.
-use Rattle.std.proofs.Common.{◌≡◌, ◌+◌, ◌%◌, ◌<◌, ◌≤◌, ℕ, Bool, true, false, List, [], ◌∷◌, ◌++◌, length, Option, Some, None, zero-add, refl, sym, ap, ◌∙◌, subst, arith}
+use Rattle.std.proofs.Common.{◌≡◌, ◌+◌, ◌%◌, ◌<◌, ◌≤◌, ℕ, Bool, true, false, List, [], ◌∷◌, ◌++◌, length, Option, Some, None, zero-add}
+use Rattle.std.proofs.Common.{refl, sym, ap, ◌∙◌, subst, arith}
 use Rattle.std.specs.Prelude.{nat_lt, if◌then◌else◌, slice_index, count_by}
 use Rattle.std.specs.List.{list_all}
 use Rattle.std.proofs.lemmas.Bool.{and_parts, ltb-false, eqb-true}
@@ -134,8 +135,12 @@ code-stands p m asm l kind table valid asm_valid located =
     let long' = length_image e items in
     let below : (n : ℕ) → label_word items n < 65536 = λ n. let b = label_below items n in omega (arith, b, small) in
     record {
-      known = known_items e items placed (λ i h n q. subst (λ w. w < 65536) (placed_word items i h n q) (below n)) (λ o k. address_below _) asm_valid.labels words;
-      labels = labels_stand e items 0 (λ n has. let o = own_words items n has in (let one = o.0 in omega (arith, one), λ one. o.1 ∙ sym (zero-add (label_word items n))));
+      known = known_items e items placed (λ i h n q. subst (λ w. w < 65536) (placed_word items i h n q) (below n))
+          (λ o k. address_below _) asm_valid.labels words;
+      labels = labels_stand e items 0 (λ n has. let o = own_words items n has in (
+        let one = o.0 in omega (arith, one),
+        λ one. o.1 ∙ sym (zero-add (label_word items n)),
+      ));
       image = record {
         within = omega (arith, long', sized, small);
         bytes_there = λ k less.

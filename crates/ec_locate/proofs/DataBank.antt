@@ -1,5 +1,6 @@
 -- What a placed program keeps in the data bank stands apart.
-use Rattle.std.proofs.Common.{◌≡◌, ◌≢◌, inl, inr, ⊎_elim, ◌+◌, ◌<◌, ◌≤◌, ℕ, zero, suc, List, [], ◌∷◌, length, take, get_or, add-zero, Option, Some, sym, ap, ◌∙◌, subst, arith}
+use Rattle.std.proofs.Common.{◌≡◌, ◌≢◌, inl, inr, ⊎_elim, ◌+◌, ◌<◌, ◌≤◌, ℕ, zero, suc, List, [], ◌∷◌, length, take, get_or, add-zero}
+use Rattle.std.proofs.Common.{Option, Some, sym, ap, ◌∙◌, subst, arith}
 use Rattle.std.specs.Prelude.{slice_get, nat_le}
 use Rattle.std.proofs.lemmas.Bool.{and_parts, leb-true}
 use Rattle.std.proofs.lemmas.List.Sums.{sum_by-cons}
@@ -23,11 +24,13 @@ use Rattle.ec_locate.proofs.Where.{sum_until, sum_within, free_at, apart_where, 
 
 -- ---- where scratch memory stands
 
-pub frame_at : (fs : List ℕ) (at i frame : ℕ) → slice_get fs i ≡ Some frame → slice_get (frames_from at fs) i ≡ Some (at + frame_sizes (take i fs))
+pub frame_at : (fs : List ℕ) (at i frame : ℕ) → slice_get fs i ≡ Some frame
+    → slice_get (frames_from at fs) i ≡ Some (at + frame_sizes (take i fs))
 frame_at [] at i frame q = cc
 frame_at (f ∷ fs) at zero frame q = ap Some (sym (add-zero at))
 frame_at (f ∷ fs) at (suc i) frame q =
-    let next : at + frame_size f + frame_sizes (take i fs) ≡ at + frame_sizes (f ∷ take i fs) = omega (arith, sum_by-cons frame_size f (take i fs)) in
+    let next : at + frame_size f + frame_sizes (take i fs) ≡ at + frame_sizes (f ∷ take i fs) =
+    omega (arith, sum_by-cons frame_size f (take i fs)) in
     frame_at fs (at + frame_size f) i frame q ∙ ap Some next
 
 -- a pointer's offset, where there is a place
@@ -131,9 +134,12 @@ module _ (p : PlainProgram) (m : Map) (asm : AsmProgram) where
         let pair = valid.registers n k o l (slice_get_within p.objects k x r) in
         let o_there = get_or_from_slice_get p.objects n o o q in
         let x_there = get_or_from_slice_get p.objects k x o r in
-        let apart : ShareNoRegister p o x = subst (λ z. ShareNoRegister p z x) o_there (subst (λ z. ShareNoRegister p (get_or p.objects n o) z) x_there pair) in
-        let told : AreApart (register at) x.storage (size p m o) (size p m x) = subst (λ z. AreApart z x.storage (size p m o) (size p m x)) s apart in
-        let both : AreApart (register at) (register to) (size p m o) (size p m x) = subst (λ z. AreApart (register at) z (size p m o) (size p m x)) t told in
+        let apart : ShareNoRegister p o x =
+        subst (λ z. ShareNoRegister p z x) o_there (subst (λ z. ShareNoRegister p (get_or p.objects n o) z) x_there pair) in
+        let told : AreApart (register at) x.storage (size p m o) (size p m x) =
+        subst (λ z. AreApart z x.storage (size p m o) (size p m x)) s apart in
+        let both : AreApart (register at) (register to) (size p m o) (size p m x) =
+        subst (λ z. AreApart (register at) z (size p m o) (size p m x)) t told in
         both
 
     both_packed : (n k at to : ℕ) (o x : PlainObject) → n < k → slice_get p.objects n ≡ Some o
@@ -175,15 +181,18 @@ module _ (p : PlainProgram) (m : Map) (asm : AsmProgram) where
         turned to (size p m o) at (frame_size fr) (packed_before k to at (frame_size fr) o q a e (omega (arith, f)))
     standing_apart n k at to s t d (of_frame _ _ g fr b r f) (of_frame _ _ h hr c u e) =
         let other : g ≢ h = λ same. d (omega (arith, b, c, same)) in
-        by_order g h at (frame_size fr) to (frame_size hr) other (λ l. both_frames g h at to fr hr l r f e) (λ l. both_frames h g to at hr fr l u e f)
+        by_order g h at (frame_size fr) to (frame_size hr) other (λ l. both_frames g h at to fr hr l r f e)
+        (λ l. both_frames h g to at hr fr l u e f)
     standing_apart n k at to s t d (of_frame _ _ g fr b r f) (last _ _ c e) = frame_before g at to fr r f e
     standing_apart n k at to s t d (of_frame _ _ g fr b r f) (fixed _ _ x u c) =
         turned to (size p m x) at (frame_size fr) (beside to (size p m x) at (frame_size fr) (outside x to c) (frame_in g at fr r f))
     standing_apart n k at to s t d (of_frame _ _ g fr b r f) (named _ _ x u c) =
-        turned to (size p m x) at (frame_size fr) (in_memory to (size p m x) at (frame_size fr) (frame_in g at fr r f) (registers k to x u c))
+        turned to (size p m x) at (frame_size fr)
+        (in_memory to (size p m x) at (frame_size fr) (frame_in g at fr r f) (registers k to x u c))
     standing_apart n k at to s t d (last _ _ b f) (packed _ _ o q a e) =
         turned to (size p m o) at 64 (packed_before k to at 64 o q a e (omega (arith, f)))
-    standing_apart n k at to s t d (last _ _ b f) (of_frame _ _ g fr c r e) = turned to (frame_size fr) at 64 (frame_before g to at fr r e f)
+    standing_apart n k at to s t d (last _ _ b f) (of_frame _ _ g fr c r e) =
+        turned to (frame_size fr) at 64 (frame_before g to at fr r e f)
     standing_apart n k at to s t d (last _ _ b f) (last _ _ c e) = absurd (d (b ∙ sym c))
     standing_apart n k at to s t d (last _ _ b f) (fixed _ _ x u c) =
         turned to (size p m x) at 64 (beside to (size p m x) at 64 (outside x to c) (last_in at f))
@@ -195,7 +204,8 @@ module _ (p : PlainProgram) (m : Map) (asm : AsmProgram) where
         beside at (size p m o) to (frame_size fr) (outside o at a) (frame_in g to fr r f)
     standing_apart n k at to s t d (fixed _ _ o q a) (last _ _ b f) = beside at (size p m o) to 64 (outside o at a) (last_in to f)
     standing_apart n k at to s t d (fixed _ _ o q a) (fixed _ _ x r b) =
-        by_order n k at (size p m o) to (size p m x) d (λ l. both_stood p m valid free Data n k o x at to l q r a b) (λ l. both_stood p m valid free Data k n x o to at l r q b a)
+        by_order n k at (size p m o) to (size p m x) d (λ l. both_stood p m valid free Data n k o x at to l q r a b)
+        (λ l. both_stood p m valid free Data k n x o to at l r q b a)
     standing_apart n k at to s t d (fixed _ _ o q a) (named _ _ x r b) =
         turned to (size p m x) at (size p m o) (in_place to (size p m x) at (size p m o) (outside o at a) (registers k to x r b))
     standing_apart n k at to s t d (named _ _ o q a) (packed _ _ x r b f) =

@@ -88,7 +88,8 @@ module _ (p : PlainProgram) (m : Map) (asm : AsmProgram) (l : Located) (valid : 
   standing n _ _ (an_object _ o q is home at) = object_standing n o q is home at
   standing _ at _ (scratch f fr _ q r) =
       let here = frame_at asm.frames.items (scratch_from p m asm) f fr q in
-      let same = same_number (slice_get y.frames f) at (scratch_from p m asm + frame_sizes (take f asm.frames.items)) (subst (λ fs. slice_get fs f ≡ Some at) located.frames r) here in
+      let same = same_number (slice_get y.frames f) at (scratch_from p m asm + frame_sizes (take f asm.frames.items))
+      (subst (λ fs. slice_get fs f ≡ Some at) located.frames r) here in
       of_frame (1024 + f) at f fr refl q same
   standing _ _ _ work = last 1280 l.work refl located.work
 
@@ -167,7 +168,8 @@ module _ (p : PlainProgram) (m : Map) (asm : AsmProgram) (l : Located) (valid : 
       let low = le-ltb (1024 + f) 1024 (omega arith) in
       let high = lt-ltb (1024 + f) 1280 (omega (arith, within, few)) in
       let back : 1024 + f - 1024 ≡ f = omega arith in
-      let there : slice_index y.frames f ≡ at = get_or_from_slice_get y.frames f at 0 (subst (λ fs. slice_get fs f ≡ Some at) located.frames r) in
+      let there : slice_index y.frames f ≡ at =
+      get_or_from_slice_get y.frames f at 0 (subst (λ fs. slice_get fs f ≡ Some at) located.frames r) in
       rw (low, high, back) there
   start_is _ _ _ work = sym located.work
 
@@ -178,7 +180,8 @@ module _ (p : PlainProgram) (m : Map) (asm : AsmProgram) (l : Located) (valid : 
 
   pub holds : DataStands p m asm l
   holds = record {
-    apart = λ n k at to s t differ a b. standing_apart p m asm valid map_valid few room free n k at to s t differ (standing n at s a) (standing k to t b);
+    apart = λ n k at to s t differ a b.
+        standing_apart p m asm valid map_valid few room free n k at to s t differ (standing n at s a) (standing k to t b);
     stack = λ n at s a. stack_clear n at s (standing n at s a);
     objects = objects;
     frames = λ f fr at q r.

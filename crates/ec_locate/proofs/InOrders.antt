@@ -14,7 +14,8 @@ use Rattle.ec_locate.specs.declared.fixed.Neighbour.TheVariants.{BankEnd}
 use Rattle.ec_locate.specs.declared.needs.Needs.{Needs}
 use Rattle.ec_locate.specs.declared.stop.RegionName.{RegionName}
 use Rattle.ec_locate.specs.declared.stop.RegionName.TheVariants as regions
-use Rattle.ec_locate.specs.Entries.{packed_flash, packed_data, initial_bytes, flash_size, data_size, initial_size, flash_sizes, data_sizes, initial_sizes, frame_size, frame_sizes}
+use Rattle.ec_locate.specs.Entries.{packed_flash, packed_data, initial_bytes, flash_size, data_size, initial_size, flash_sizes, data_sizes}
+use Rattle.ec_locate.specs.Entries.{initial_sizes, frame_size, frame_sizes}
 use Rattle.ec_locate.specs.Fixed.{is_in_bank, region_met, region_or_later, overlaps, clash_of, or_next, first_clash}
 use Rattle.ec_locate.specs.Layout.{place_by, places_from, initial_at, initials_from, frames_from}
 use Rattle.ec_locate.specs.Needs.{shortage_of, or_else, first_shortage}
@@ -25,7 +26,8 @@ at_zero : (at : ℕ) (ss : List Span) (to : ℕ) → InOrder (at + 0) ss to → 
 at_zero at ss to h = subst (λ n. InOrder n ss to) (add-zero at) h
 
 -- the sum of one entry and the others
-behind : {X : Type 0} (f : X → ℕ) (x : X) (xs : List X) (at : ℕ) (ss : List Span) (to : ℕ) → InOrder (at + sum_by f (x ∷ xs)) ss to → InOrder (at + f x + sum_by f xs) ss to
+behind : {X : Type 0} (f : X → ℕ) (x : X) (xs : List X) (at : ℕ) (ss : List Span) (to : ℕ) → InOrder (at + sum_by f (x ∷ xs)) ss to
+    → InOrder (at + f x + sum_by f xs) ss to
 behind f x xs at ss to h =
     let q = sum_by-cons f x xs in
     let e : at + sum_by f (x ∷ xs) ≡ at + f x + sum_by f xs = omega (arith, q) in
@@ -69,7 +71,8 @@ flash_in_order (e ∷ es) flash at ss to h =
 
 -- ---- initial bytes
 
-initial_step : (static : Bool) (home : Bank) (size first at : ℕ) (ss : List Span) (to : ℕ) → InOrder (at + initial_bytes static home size) ss to
+initial_step : (static : Bool) (home : Bank) (size first at : ℕ) (ss : List Span) (to : ℕ)
+    → InOrder (at + initial_bytes static home size) ss to
     → InOrder at (add_where (has_initial static home) (record { from = initial_at static home first at; size = size }) ss) to
 initial_step true Data size first at ss to h = (omega arith, h)
 initial_step true Flash size first at ss to h = at_zero at ss to h
@@ -112,7 +115,8 @@ stack_fits m n h =
     let vars = or_else (shortage_of regions.Data m.vars n.vars) stack in
     let a = (neither_short (shortage_of regions.Tables m.tables n.tables) vars h).1 in
     let b = (neither_short (shortage_of regions.Data m.vars n.vars) stack a).1 in
-    fits regions.Stack m.stack n.stack (neither_short (shortage_of regions.Stack m.stack n.stack) (shortage_of regions.Code m.code n.code) b).0
+    fits regions.Stack m.stack n.stack
+    (neither_short (shortage_of regions.Stack m.stack n.stack) (shortage_of regions.Code m.code n.code) b).0
 
 -- ---- fixed places
 

@@ -32,7 +32,8 @@ use Rattle.ec_locate.proofs.Objects.{is_object_at}
 use Rattle.ec_locate.proofs.Stood.{Clear}
 use Rattle.ec_locate.proofs.Spots.{spot, spots_apart, room_of}
 use Rattle.ec_locate.proofs.Stand.{length_image}
-use Rattle.ec_locate.proofs.Written.{at_index, leaf_length, leaf_stands, Misses, Avoids, IsByte, bytes_of, bytes_outside, bytes_inside, objects_length, objects_outside, objects_inside}
+use Rattle.ec_locate.proofs.Written.{at_index, leaf_length, leaf_stands, Misses, Avoids, IsByte, bytes_of, bytes_outside, bytes_inside}
+use Rattle.ec_locate.proofs.Written.{objects_length, objects_outside, objects_inside}
 
 module _ (p : PlainProgram) (m : Map) (asm : AsmProgram) (l : Located) (laws : LeavesFillTheirTypes) (valid : Valid p m.io)
     (map_valid : ValidMap m) (located : IsLocated p m asm l) where
@@ -77,7 +78,8 @@ module _ (p : PlainProgram) (m : Map) (asm : AsmProgram) (l : Located) (laws : L
 
   sized : (i : ℕ) (o : PlainObject) (inits : List LeafInit) → IsInitialised p i o inits → length (bytes o inits) ≡ size o
   sized i o inits h =
-      let n = leaf_length p y.places 0 (size o) 0 (leaves_of_type p.structs o.ty) inits inits (has_leaves i o inits h).filled (has_values i o inits h) (whole inits) in
+      let n = leaf_length p y.places 0 (size o) 0 (leaves_of_type p.structs o.ty) inits inits (has_leaves i o inits h).filled
+      (has_values i o inits h) (whole inits) in
       omega (arith, n)
 
   -- ---- the spots
@@ -91,7 +93,8 @@ module _ (p : PlainProgram) (m : Map) (asm : AsmProgram) (l : Located) (laws : L
   code_room : items ≤ m.code.size
   code_room = code_fits m (needs p (entries_by m p) asm.frames.items asm.items.items) located.fits
 
-  in_flash : (i : ℕ) (o : PlainObject) (inits : List LeafInit) → IsInitialised p i o inits → (items ≤ at_of i o) × (at_of i o + size o ≤ 32768)
+  in_flash : (i : ℕ) (o : PlainObject) (inits : List LeafInit) → IsInitialised p i o inits
+      → (items ≤ at_of i o) × (at_of i o + size o ≤ 32768)
   in_flash i o inits h =
       let r = room_of p m valid room free map_valid i o (at_of i o) h.is_object (is_object i o inits h).some (spot p m asm i o inits h) in
       let behind = r.behind in
@@ -102,7 +105,8 @@ module _ (p : PlainProgram) (m : Map) (asm : AsmProgram) (l : Located) (laws : L
       → (t : ℕ) → t < size o → Misses (at_of i o + t) (at_of k x) (length (bytes x b))
   apart i k o x a b less h g t within =
       let n = sized k x b g in
-      let c : Clear (at_of i o) (size o) (at_of k x) (size x) = spots_apart p m valid room free i k o x (at_of i o) (at_of k x) less h.is_object g.is_object (spot p m asm i o a h) (spot p m asm k x b g) in
+      let c : Clear (at_of i o) (size o) (at_of k x) (size x) = spots_apart p m valid room free i k o x (at_of i o)
+      (at_of k x) less h.is_object g.is_object (spot p m asm i o a h) (spot p m asm k x b g) in
       ⊎_elim (λ u. inl (omega (arith, u, within))) (λ u. inr (omega (arith, u, n))) c
 
   -- ---- what the image holds
@@ -117,14 +121,16 @@ module _ (p : PlainProgram) (m : Map) (asm : AsmProgram) (l : Located) (laws : L
 
   -- behind the code the objects' bytes stay
   stays : (a : ℕ) → items ≤ a
-      → (get_or l.image.bytes.items a 0 ≡ get_or objects.bytes a 0) × (get_or l.image.written.items a false ≡ get_or objects.written a false)
+      → (get_or l.image.bytes.items a 0 ≡ get_or objects.bytes a 0)
+      × (get_or l.image.written.items a false ≡ get_or objects.written a false)
   stays a behind =
       let far : Misses a 0 (length code) = inr (omega (arith, behind, code_length)) in
       let same = bytes_outside p.structs y objects 0 code a far in
       (ap (λ f. get_or f.bytes a 0) final ∙ same.0, ap (λ f. get_or f.written a false) final ∙ same.1)
 
   byte_there : (i : ℕ) (o : PlainObject) (inits : List LeafInit) → IsInitialised p i o inits → (t : ℕ) → t < size o
-      → (get_or l.image.bytes.items (at_of i o + t) 0 ≡ get_or (bytes o inits) t 0) × (get_or l.image.written.items (at_of i o + t) false ≡ true)
+      → (get_or l.image.bytes.items (at_of i o + t) 0 ≡ get_or (bytes o inits) t 0)
+      × (get_or l.image.written.items (at_of i o + t) false ≡ true)
   byte_there i o inits h t less =
       let n = sized i o inits h in
       let f = in_flash i o inits h in
@@ -140,7 +146,8 @@ module _ (p : PlainProgram) (m : Map) (asm : AsmProgram) (l : Located) (laws : L
       subst (λ j. Misses (at_of j o + t) (at_of (0 + k) x) (length (bytes x b))) (sym z)
       (subst (λ j. Misses (at_of i o + t) (at_of j x) (length (bytes x b))) (sym (zero-add k))
       (apart i k o x inits b later h (record { is_object = q; is_static = s }) t less))) in
-      let here : IsByte p.structs y objects (at_of i o + t) (get_or (bytes o inits) t 0) = subst (λ j. IsByte p.structs y objects (at_of j o + t) (get_or (bytes o inits) t 0)) z inside in
+      let here : IsByte p.structs y objects (at_of i o + t) (get_or (bytes o inits) t 0) =
+      subst (λ j. IsByte p.structs y objects (at_of j o + t) (get_or (bytes o inits) t 0)) z inside in
       let stay = stays (at_of i o + t) (omega (arith, f.0)) in
       (stay.0 ∙ here.0, stay.1 ∙ here.1)
 
@@ -163,13 +170,16 @@ module _ (p : PlainProgram) (m : Map) (asm : AsmProgram) (l : Located) (laws : L
   values : (i : ℕ) (o : PlainObject) (inits : List LeafInit) → IsInitialised p i o inits → ValuesStand p m asm l i o inits
   values i o inits h =
       let q = sym located.places in
-      let row : HoldsFrom l.image.bytes.items (at_of i o + 0) (bytes o inits) = at_index l.image.bytes.items (at_of i o) (at_of i o + 0) (bytes o inits) (sym (add-zero (at_of i o))) (values_stand i o inits h) in
+      let row : HoldsFrom l.image.bytes.items (at_of i o + 0) (bytes o inits) =
+      at_index l.image.bytes.items (at_of i o) (at_of i o + 0) (bytes o inits) (sym (add-zero (at_of i o))) (values_stand i o inits h) in
       record {
         size = subst (λ ps. length (object_bytes ps p.structs o.ty inits) ≡ size o) q (sized i o inits h);
         stand = subst (λ ps. HoldsFrom l.image.bytes.items (at_of i o) (object_bytes ps p.structs o.ty inits)) q (values_stand i o inits h);
         each = λ k leaf init is has.
-            subst (λ ps. HoldsFrom l.image.bytes.items (at_of i o + leaf.at) (little_endian (scalar_size leaf.ty) (value_number ps leaf.ty init))) q
-            (leaf_stands p y.places l.image.bytes.items (at_of i o) 0 (size o) 0 (leaves_of_type p.structs o.ty) inits inits (has_leaves i o inits h).filled (has_values i o inits h) (whole inits) row k leaf init is has);
+            subst (λ ps.
+            HoldsFrom l.image.bytes.items (at_of i o + leaf.at) (little_endian (scalar_size leaf.ty) (value_number ps leaf.ty init))) q
+            (leaf_stands p y.places l.image.bytes.items (at_of i o) 0 (size o) 0 (leaves_of_type p.structs o.ty) inits inits
+            (has_leaves i o inits h).filled (has_values i o inits h) (whole inits) row k leaf init is has);
       }
 
   -- ---- what is written
@@ -182,7 +192,8 @@ module _ (p : PlainProgram) (m : Map) (asm : AsmProgram) (l : Located) (laws : L
       let n = code_length in
       let ends = map_valid.regions_valid.code.ends in
       let z : 0 + a ≡ a = zero-add a in
-      let b = bytes_inside p.structs y objects 0 code a (omega (arith, n, code_room, ends, blank_lengths.0)) (omega (arith, n, code_room, ends, blank_lengths.1)) (omega (arith, n, less)) in
+      let b = bytes_inside p.structs y objects 0 code a (omega (arith, n, code_room, ends, blank_lengths.0))
+      (omega (arith, n, code_room, ends, blank_lengths.1)) (omega (arith, n, less)) in
       let there = subst (λ j. get_or (with_bytes objects 0 code).written j false ≡ true) z b.1 in
       is_read a true (omega (arith, less, code_room, ends)) (ap (λ f. get_or f.written a false) final ∙ there)
   written a (of_values _ i o inits h from below) =
@@ -196,7 +207,8 @@ module _ (p : PlainProgram) (m : Map) (asm : AsmProgram) (l : Located) (laws : L
   unwritten a less never =
       let behind : items ≤ a = ⊎_elim (λ u. absurd (never (of_code a u))) (λ u. u) (cases_lt a items) in
       let avoid : Avoids p.structs y 0 0 p.objects a = λ k x inits first q s.
-      subst (λ j. Misses a (at_of j x) (length (bytes x inits))) (sym (zero-add k)) (misses k x inits (record { is_object = q; is_static = s })) in
+      subst (λ j. Misses a (at_of j x) (length (bytes x inits))) (sym (zero-add k))
+      (misses k x inits (record { is_object = q; is_static = s })) in
       let out = objects_outside p.structs y 0 p.objects blank a avoid in
       let erased = get_or-replicate 32768 a false false less in
       is_read a false less ((stays a behind).1 ∙ out.1 ∙ erased)
@@ -205,7 +217,8 @@ module _ (p : PlainProgram) (m : Map) (asm : AsmProgram) (l : Located) (laws : L
       misses k x inits h =
           let n = sized k x inits h in
           ⊎_elim (λ u. inl u)
-          (λ from. ⊎_elim (λ below. absurd (never (of_values a k x inits h from below))) (λ u. inr (omega (arith, n, u))) (cases_lt a (at_of k x + size x)))
+          (λ from. ⊎_elim (λ below. absurd (never (of_values a k x inits h from below))) (λ u. inr (omega (arith, n, u)))
+          (cases_lt a (at_of k x + size x)))
           (cases_lt a (at_of k x))
 
   pub holds : InitialValues p m asm l

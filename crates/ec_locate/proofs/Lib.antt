@@ -1,21 +1,21 @@
-pub mod Sums
-pub mod Objects
-pub mod Trees
-pub mod Values
-pub mod Words
-pub mod Stand
-pub mod CodeStand
-pub mod InOrders
-pub mod StandApart
-pub mod Chains
-pub mod Causes
-pub mod Longest
-pub mod Where
-pub mod Written
-pub mod Stood
-pub mod Spots
-pub mod Initial
-pub mod Addresses
-pub mod DataBank
-pub mod DataStand
-pub mod FlashStand
+mod Sums
+mod Objects
+mod Trees
+mod LeafValues
+mod Words
+mod Stand
+mod CodeStand
+mod InOrders
+mod StandApart
+mod Chains
+mod Causes
+mod Longest
+mod Where
+mod Written
+mod Stood
+mod Spots
+mod Initial
+mod Addresses
+mod DataBank
+mod DataStand
+mod FlashStand

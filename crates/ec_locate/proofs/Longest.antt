@@ -1,5 +1,6 @@
 -- No chain of calls is longer than all functions, and one is as long as the depth that is counted.
-use Rattle.std.proofs.Common.{◌≡◌, ◌⊎◌, inl, inr, ⊎_elim, ◌+◌, ◌<◌, ◌≤◌, ◌==◌, ℕ, zero, suc, true, false, List, [], ◌∷◌, length, Option, Some, None, refl, sym, ◌∙◌, subst, arith}
+use Rattle.std.proofs.Common.{◌≡◌, ◌⊎◌, inl, inr, ⊎_elim, ◌+◌, ◌<◌, ◌≤◌, ◌==◌, ℕ, zero, suc, true, false, List, [], ◌∷◌, length, Option}
+use Rattle.std.proofs.Common.{Some, None, refl, sym, ◌∙◌, subst, arith}
 use Rattle.std.specs.List.{AllByRecursion, IsDistinct, list_any}
 use Rattle.std.specs.Prelude.{IsSomeAnd, Contains, slice_get, slice_index}
 use Rattle.std.proofs.lemmas.Bool.{eqb-true, cases_Bool, cases_lt}
@@ -48,11 +49,13 @@ distinct p never [] h = tt
 distinct p never (f ∷ fs) h = (other p never f fs (reached p f fs h), distinct p never fs h.1)
 
 -- and is of functions of the program
-within_one : (fs : List PlainFunction) (f : ℕ) (o : Option PlainFunction) (gs : List ℕ) → slice_get fs f ≡ o → IsSomeAnd o (λ x. CallsFirst x gs) → f < length fs
+within_one : (fs : List PlainFunction) (f : ℕ) (o : Option PlainFunction) (gs : List ℕ) → slice_get fs f ≡ o
+    → IsSomeAnd o (λ x. CallsFirst x gs) → f < length fs
 within_one fs f None gs is h = absurd h
 within_one fs f (Some x) gs is h = slice_get_within fs f x is
 
-within : (functions : List PlainFunction) (fs : List ℕ) → IsChain functions fs → (q : ℕ) → list_any (λ f. q == f) fs ≡ true → q < length functions
+within : (functions : List PlainFunction) (fs : List ℕ) → IsChain functions fs → (q : ℕ) → list_any (λ f. q == f) fs ≡ true
+    → q < length functions
 within functions [] h q there = cc
 within functions (f ∷ fs) h q there =
     ⊎_elim
@@ -112,11 +115,13 @@ single fs f x d is z = ([], alone fs f x is, omega (arith, z))
 abbrev HaveChains : List PlainFunction → List ℕ → Type 0
 HaveChains fs depths = (g : ℕ) (y : PlainFunction) → slice_get fs g ≡ Some y → HasChain fs g (slice_index depths g)
 
-next_called : (fs : List PlainFunction) (depths : List ℕ) (f g d : ℕ) (x : PlainFunction) (o : Option PlainFunction) → slice_get fs f ≡ Some x
+next_called : (fs : List PlainFunction) (depths : List ℕ) (f g d : ℕ) (x : PlainFunction) (o : Option PlainFunction)
+    → slice_get fs f ≡ Some x
     → length depths ≡ length fs → HaveChains fs depths → Contains (stmt_calls x.body []) g → slice_index depths g ≡ d
     → slice_get fs g ≡ o → HasChain fs f (1 + d)
 next_called fs depths f g d x None is long chain called e q =
-    let past : length fs ≤ g = ⊎_elim (λ l. let there = sym q ∙ slice_get-get_or fs g x l in cc) (λ l. omega arith) (cases_lt g (length fs)) in
+    let past : length fs ≤ g =
+    ⊎_elim (λ l. let there = sym q ∙ slice_get-get_or fs g x l in cc) (λ l. omega arith) (cases_lt g (length fs)) in
     single fs f x d is (sym e ∙ past_end depths g (omega (arith, past, long)))
 next_called fs depths f g d x (Some y) is long chain called e q =
     let (gs, goes, many) = chain g y q in
@@ -126,7 +131,8 @@ from_deepest : (fs : List PlainFunction) (depths : List ℕ) (f : ℕ) (x : Plai
     → HaveChains fs depths → HasChain fs f (1 + deepest depths (stmt_calls x.body []))
 from_deepest fs depths f x is long chain =
     ⊎_elim (λ z. single fs f x (deepest depths (stmt_calls x.body [])) is z)
-    (λ found. next_called fs depths f found.0 (deepest depths (stmt_calls x.body [])) x (slice_get fs found.0) is long chain found.1 found.2 refl)
+    (λ found.
+    next_called fs depths f found.0 (deepest depths (stmt_calls x.body [])) x (slice_get fs found.0) is long chain found.1 found.2 refl)
     (deepest_is depths (stmt_calls x.body []))
 
 none_deeper : (fs : List PlainFunction) (cs : List ℕ) → deepest (chains 0 fs) cs ≡ 0
@@ -136,9 +142,11 @@ here : (fs : List PlainFunction) (n f : ℕ) (x : PlainFunction) → slice_get f
     → slice_index (chains (suc n) fs) f ≡ 1 + deepest (chains n fs) (stmt_calls x.body [])
 here fs n f x is = mapped_at (λ y. 1 + deepest (chains n fs) (stmt_calls y.body [])) fs f x is
 
-has_chain : (fs : List PlainFunction) (n f : ℕ) (x : PlainFunction) → slice_get fs f ≡ Some x → HasChain fs f (slice_index (chains (suc n) fs) f)
+has_chain : (fs : List PlainFunction) (n f : ℕ) (x : PlainFunction) → slice_get fs f ≡ Some x
+    → HasChain fs f (slice_index (chains (suc n) fs) f)
 has_chain fs zero f x is =
-    subst (λ d. HasChain fs f d) (sym (here fs zero f x is)) (single fs f x (deepest (chains 0 fs) (stmt_calls x.body [])) is (none_deeper fs (stmt_calls x.body [])))
+    subst (λ d. HasChain fs f d) (sym (here fs zero f x is))
+    (single fs f x (deepest (chains 0 fs) (stmt_calls x.body [])) is (none_deeper fs (stmt_calls x.body [])))
 has_chain fs (suc n) f x is =
     subst (λ d. HasChain fs f d) (sym (here fs (suc n) f x is))
     (from_deepest fs (chains (suc n) fs) f x is (length_chains (suc n) fs) (λ g y q. has_chain fs n g y q))

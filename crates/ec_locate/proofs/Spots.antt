@@ -1,5 +1,6 @@
 -- The initial values of static objects stand apart in the flash, behind the code.
-use Rattle.std.proofs.Common.{◌≡◌, inl, inr, ⊎_elim, ◌+◌, ◌<◌, ◌≤◌, ℕ, Bool, true, false, List, take, Option, Some, None, refl, sym, ap, ◌∙◌, subst, arith}
+use Rattle.std.proofs.Common.{◌≡◌, inl, inr, ⊎_elim, ◌+◌, ◌<◌, ◌≤◌, ℕ, Bool, true, false, List, take, Option, Some, None, refl, sym, ap}
+use Rattle.std.proofs.Common.{◌∙◌, subst, arith}
 use Rattle.std.specs.Prelude.{slice_get, option_map, unwrap_or}
 use Rattle.std.proofs.lemmas.Bool.{leb-true}
 use Rattle.ec_space.specs.declared.space.Bank.{Bank}
@@ -30,11 +31,14 @@ use Rattle.ec_locate.proofs.Where.{sum_until, sum_within, place_at, initial_ther
 module _ (p : PlainProgram) (m : Map) where
   -- among the initial bytes of region `tables`, among its flash objects, or where the map puts the object
   pub data Spot (i : ℕ) (o : PlainObject) : ℕ → Type 0 where
-    initial : (at : ℕ) → initial_size (entry p m o) ≡ size p m o → at ≡ m.tables.first + flash_sizes (es p m) + initial_sizes (take i (es p m)) → Spot i o at
+    initial : (at : ℕ) → initial_size (entry p m o) ≡ size p m o
+        → at ≡ m.tables.first + flash_sizes (es p m) + initial_sizes (take i (es p m)) → Spot i o at
     packed : (at : ℕ) → flash_size (entry p m o) ≡ size p m o → at ≡ m.tables.first + flash_sizes (take i (es p m)) → Spot i o at
-    fixed : (at : ℕ) → o.home ≡ Flash → o.external ≡ true → is_static o.storage ≡ true → fixed_place m.places.items o.name ≡ Some at → Spot i o at
+    fixed : (at : ℕ) → o.home ≡ Flash → o.external ≡ true → is_static o.storage ≡ true
+        → fixed_place m.places.items o.name ≡ Some at → Spot i o at
 
-  pub spot : (asm : AsmProgram) (i : ℕ) (o : PlainObject) (inits : List LeafInit) → IsInitialised p i o inits → Spot i o (values_of p m asm i o)
+  pub spot : (asm : AsmProgram) (i : ℕ) (o : PlainObject) (inits : List LeafInit) → IsInitialised p i o inits
+      → Spot i o (values_of p m asm i o)
   spot asm i o inits h = by_home o.home refl
     where
       is_there : slice_get (es p m) i ≡ Some (entry p m o)
@@ -51,7 +55,8 @@ module _ (p : PlainProgram) (m : Map) where
           ap (λ b. values_at (layout_by p m asm) i b) f
           ∙ ap (λ z. unwrap_or (option_map (λ q. q.offset) z) 0) (place_at (es p m) m.tables.first m.vars.first i (entry p m o) is_there)
 
-      by_place : o.home ≡ Flash → (z : Option ℕ) → fixed_place m.places.items o.name ≡ z → o.external ≡ true → Spot i o (values_of p m asm i o)
+      by_place : o.home ≡ Flash → (z : Option ℕ) → fixed_place m.places.items o.name ≡ z → o.external ≡ true
+          → Spot i o (values_of p m asm i o)
       by_place f None z x =
           let k : (entry p m o).kept ≡ Packed = rw (h.is_static, x, z) refl in
           packed (values_of p m asm i o) (rw (k, f) refl) (in_flash f ∙ rw (k, f) refl)
@@ -137,18 +142,22 @@ module _ (p : PlainProgram) (m : Map) where
     spots_apart i k o x at to l q r (fixed _ a eo so z) (packed _ b f) =
         beside at (size p m o) to (size p m x) (outside o at (stood p m valid free Flash i o at q a eo so z)) (packed_in k x to r b f)
     spots_apart i k o x at to l q r (initial _ b f) (fixed _ a ex sx z) =
-        turned to (size p m x) at (size p m o) (beside to (size p m x) at (size p m o) (outside x to (stood p m valid free Flash k x to r a ex sx z)) (initial_in i o at q b f))
+        turned to (size p m x) at (size p m o)
+        (beside to (size p m x) at (size p m o) (outside x to (stood p m valid free Flash k x to r a ex sx z)) (initial_in i o at q b f))
     spots_apart i k o x at to l q r (packed _ b f) (fixed _ a ex sx z) =
-        turned to (size p m x) at (size p m o) (beside to (size p m x) at (size p m o) (outside x to (stood p m valid free Flash k x to r a ex sx z)) (packed_in i o at q b f))
+        turned to (size p m x) at (size p m o)
+        (beside to (size p m x) at (size p m o) (outside x to (stood p m valid free Flash k x to r a ex sx z)) (packed_in i o at q b f))
     spots_apart i k o x at to l q r (fixed _ a eo so z) (fixed _ b ex sx w) =
-        both_stood p m valid free Flash i k o x at to l q r (stood p m valid free Flash i o at q a eo so z) (stood p m valid free Flash k x to r b ex sx w)
+        both_stood p m valid free Flash i k o x at to l q r (stood p m valid free Flash i o at q a eo so z)
+        (stood p m valid free Flash k x to r b ex sx w)
 
     -- in the flash, behind the code
     pub record Room (at size : ℕ) : Type 0 where
       pub behind : m.code.size ≤ at
       pub within : at + size ≤ 32768
 
-    pub room_of : (map_valid : ValidMap m) (i : ℕ) (o : PlainObject) (at : ℕ) → slice_get p.objects i ≡ Some o → 1 ≤ size p m o → Spot i o at → Room at (size p m o)
+    pub room_of : (map_valid : ValidMap m) (i : ℕ) (o : PlainObject) (at : ℕ) → slice_get p.objects i ≡ Some o → 1 ≤ size p m o
+        → Spot i o at → Room at (size p m o)
     room_of map_valid i o at q some s = by_spot s
       where
         in_tables : InTables at (size p m o) → Room at (size p m o)
@@ -165,7 +174,8 @@ module _ (p : PlainProgram) (m : Map) where
         out_of_code : Outside at (size p m o) → Room at (size p m o)
         out_of_code t =
             let start = map_valid.regions_valid.start in
-            ⊎_elim (λ a. absurd (omega (arith, a, start, some))) (λ a. record { behind = omega (arith, a, start); within = t.within }) t.code
+            ⊎_elim (λ a. absurd (omega (arith, a, start, some)))
+            (λ a. record { behind = omega (arith, a, start); within = t.within }) t.code
 
         by_spot : Spot i o at → Room at (size p m o)
         by_spot (initial _ b f) = in_tables (initial_in i o at q b f)

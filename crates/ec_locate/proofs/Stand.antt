@@ -1,5 +1,6 @@
 -- The code of a placed program stands in its image.
-use Rattle.std.proofs.Common.{◌≡◌, ◌≢◌, ◌⊎◌, inl, inr, ⊎_elim, get_or, ◌+◌, ◌*◌, ◌%◌, ◌/◌, ◌^◌, ◌<◌, ◌≤◌, ℕ, zero, suc, Bool, true, false, ◌&&◌, ◌==◌, nat_le, List, [], ◌∷◌, length, add-zero, refl, ap, ◌∙◌, length-append, arith}
+use Rattle.std.proofs.Common.{◌≡◌, ◌≢◌, ◌⊎◌, inl, inr, ⊎_elim, get_or, ◌+◌, ◌*◌, ◌%◌, ◌/◌, ◌^◌, ◌<◌, ◌≤◌, ℕ, zero, suc, Bool, true, false}
+use Rattle.std.proofs.Common.{◌&&◌, ◌==◌, nat_le, List, [], ◌∷◌, length, add-zero, refl, ap, ◌∙◌, length-append, arith}
 use Rattle.std.specs.Prelude.{nat_lt, if◌then◌else◌, IsTrue, slice_set, count_by, Some}
 use Rattle.std.specs.List.{list_all}
 use Rattle.std.proofs.lemmas.Bool.{and_parts, lt-ltb, eq-eqb}
@@ -126,8 +127,14 @@ labels_stand e (Label k ∷ is) pc h = (label_here e k is pc h, labels_stand e i
 labels_stand e (Plain i ∷ is) pc h = (tt, labels_stand e is _ (behind_item e (Plain i) is pc (λ l. refl) (λ l. refl) h))
 labels_stand e (JumpTo k ∷ is) pc h = (tt, labels_stand e is _ (behind_item e (JumpTo k) is pc (λ l. refl) (λ l. refl) h))
 labels_stand e (CallTo k ∷ is) pc h = (tt, labels_stand e is _ (behind_item e (CallTo k) is pc (λ l. refl) (λ l. refl) h))
-labels_stand e (BranchTo if_set flag k ∷ is) pc h = (tt, labels_stand e is _ (behind_item e (BranchTo if_set flag k) is pc (λ l. refl) (λ l. refl) h))
-labels_stand e (LoadPart d o k part ∷ is) pc h = (tt, labels_stand e is _ (behind_item e (LoadPart d o k part) is pc (λ l. refl) (λ l. refl) h))
+labels_stand e (BranchTo if_set flag k ∷ is) pc h = (
+  tt,
+  labels_stand e is _ (behind_item e (BranchTo if_set flag k) is pc (λ l. refl) (λ l. refl) h),
+)
+labels_stand e (LoadPart d o k part ∷ is) pc h = (
+  tt,
+  labels_stand e is _ (behind_item e (LoadPart d o k part) is pc (λ l. refl) (λ l. refl) h),
+)
 labels_stand e (LoadObj d o k ∷ is) pc h = (tt, labels_stand e is _ (behind_item e (LoadObj d o k) is pc (λ l. refl) (λ l. refl) h))
 labels_stand e (StoreObj o k r ∷ is) pc h = (tt, labels_stand e is _ (behind_item e (StoreObj o k r) is pc (λ l. refl) (λ l. refl) h))
 

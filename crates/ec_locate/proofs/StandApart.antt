@@ -6,7 +6,8 @@ use Rattle.ec_locate.specs.Entries.{flash_sizes, data_sizes, initial_sizes, fram
 use Rattle.ec_locate.specs.Fixed.{blocks}
 use Rattle.ec_locate.specs.Placing.{entries_by, needs}
 use Rattle.ec_locate.proofs.CodeStand.{code_fits}
-use Rattle.ec_locate.proofs.InOrders.{data_in_order, flash_in_order, initial_in_order, frames_in_order, tables_fit, vars_fit, stack_fits, places_free}
+use Rattle.ec_locate.proofs.InOrders.{data_in_order, flash_in_order, initial_in_order, frames_in_order, tables_fit, vars_fit, stack_fits}
+use Rattle.ec_locate.proofs.InOrders.{places_free}
 use Rattle.ec_locate.proofs.Longest.{chains-are-counted}
 
 pub stand-apart : PlacedStandApart
@@ -22,9 +23,11 @@ stand-apart p m asm l valid located =
     let work = m.vars.first + data_sizes es + frame_sizes frames in
     let w : Span = record { from = work; size = 64 } in
     let last : InOrder (scratch + frame_sizes frames) (w ∷ []) (end_of m.vars) = (omega arith, omega (arith, vars)) in
-    let ram = data_in_order es m.tables.first m.vars.first _ (end_of m.vars) (frames_in_order frames scratch (w ∷ []) (end_of m.vars) last) in
+    let ram =
+    data_in_order es m.tables.first m.vars.first _ (end_of m.vars) (frames_in_order frames scratch (w ∷ []) (end_of m.vars) last) in
     let values : InOrder (m.tables.first + flash_sizes es + initial_sizes es) [] (end_of m.tables) = omega (arith, tables) in
-    let flash = flash_in_order es m.tables.first m.vars.first _ (end_of m.tables) (initial_in_order es m.tables.first (m.tables.first + flash_sizes es) [] (end_of m.tables) values) in
+    let flash = flash_in_order es m.tables.first m.vars.first _ (end_of m.tables)
+    (initial_in_order es m.tables.first (m.tables.first + flash_sizes es) [] (end_of m.tables) values) in
     record {
       ram = rw (located.places, located.frames, located.work) ram;
       flash = rw located.places flash;

@@ -81,13 +81,15 @@ module _ (p : PlainProgram) (m : Map) where
         let pair = valid.externals i k o l (slice_get_within p.objects k x r) in
         let o_there = get_or_from_slice_get p.objects i o o q in
         let x_there = get_or_from_slice_get p.objects k x o r in
-        let apart : HaveOwnNames o x = subst (λ z. HaveOwnNames z x) o_there (subst (λ z. HaveOwnNames (get_or p.objects i o) z) x_there pair) in
+        let apart : HaveOwnNames o x =
+        subst (λ z. HaveOwnNames z x) o_there (subst (λ z. HaveOwnNames (get_or p.objects i o) z) x_there pair) in
         apart eo ex
 
     same_name : (bank : Bank) (o x : PlainObject) (at to : ℕ) (a : Stood bank o at) (b : Stood bank x to) → a.found.number ≡ b.found.number
         → o.name ≡ x.name
     same_name bank o x at to a b same =
-        let here : slice_get m.places.items b.found.number ≡ Some a.found.place = subst (λ n. slice_get m.places.items n ≡ Some a.found.place) same a.found.is_place in
+        let here : slice_get m.places.items b.found.number ≡ Some a.found.place =
+        subst (λ n. slice_get m.places.items n ≡ Some a.found.place) same a.found.is_place in
         let one : a.found.place ≡ b.found.place = (let both = sym here ∙ b.found.is_place in cc) in
         sym a.found.is_name ∙ ap (λ z. z.name.items) one ∙ b.found.is_name
 
@@ -96,7 +98,8 @@ module _ (p : PlainProgram) (m : Map) where
         → slice_get p.objects k ≡ Some x → Stood bank o at → Stood bank x to → Clear at (size o) to (size x)
     both_stood bank i k o x at to l q r a b =
         ⊎_elim (λ less. in_order bank a.found.number b.found.number o x at to less a.is_block b.is_block)
-        (λ most. ⊎_elim (λ less. turned to (size x) at (size o) (in_order bank b.found.number a.found.number x o to at less b.is_block a.is_block))
+        (λ most.
+        ⊎_elim (λ less. turned to (size x) at (size o) (in_order bank b.found.number a.found.number x o to at less b.is_block a.is_block))
         (λ least.
         let same : a.found.number ≡ b.found.number = omega (arith, most, least) in
         absurd (names_differ i k o x l q r a.external b.external (same_name bank o x at to a b same)))

@@ -1,5 +1,6 @@
 -- Calls and blocks as plain trees, and the depths of chains.
-use Rattle.std.proofs.Common.{◌≡◌, ◌+◌, ◌≤◌, ℕ, zero, suc, max, List, [], ◌∷◌, length, map, replicate, add-one, refl, sym, ap, ◌∙◌, rules, arith}
+use Rattle.std.proofs.Common.{◌≡◌, ◌+◌, ◌≤◌, ℕ, zero, suc, max, List, [], ◌∷◌, length, map, replicate, add-one, refl, sym, ap, ◌∙◌, rules}
+use Rattle.std.proofs.Common.{arith}
 use Rattle.std.specs.List.{All}
 use Rattle.std.specs.Prelude.{slice_index}
 use Rattle.std.proofs.lemmas.List.Elements.{All-nil, All-cons}
@@ -46,7 +47,8 @@ all_mapped g n (x ∷ xs) h = All-cons (λ d. d ≤ n) (g x) (map g xs) (h x) (a
 pub chains_below : (n : ℕ) (fs : List PlainFunction) → All (λ d. d ≤ n) (chains n fs)
 chains_below zero fs = all_mapped (λ f. 0) 0 fs (λ f. omega arith)
 chains_below (suc n) fs =
-    all_mapped (λ f. 1 + deepest (chains n fs) (stmt_calls f.body [])) (suc n) fs (λ f. let b = deepest_below (chains n fs) n (stmt_calls f.body []) (chains_below n fs) in omega (arith, b))
+    all_mapped (λ f. 1 + deepest (chains n fs) (stmt_calls f.body [])) (suc n) fs
+    (λ f. let b = deepest_below (chains n fs) n (stmt_calls f.body []) (chains_below n fs) in omega (arith, b))
 
 pub no_chains : {X : Type 0} (xs : List X) → replicate {A = ℕ} (length xs) 0 ≡ map (λ x. 0) xs
 no_chains [] = refl
@@ -56,4 +58,5 @@ no_chains (x ∷ xs) = ap (λ ds. 0 ∷ ds) (no_chains xs)
 pub chains_more : (fs : List Func) (n : ℕ) (depths new : List ℕ) → depths ≡ chains n (map plain_function fs)
     → new ≡ map (λ f. 1 + deepest depths (stmt_calls (plain_stmt f.body) [])) fs → new ≡ chains (n + 1) (map plain_function fs)
 chains_more fs n depths new before made =
-    rw (add-one n) (made ∙ rw before (sym (map_map (λ f. 1 + deepest (chains n (map plain_function fs)) (stmt_calls f.body [])) plain_function fs)))
+    rw (add-one n)
+    (made ∙ rw before (sym (map_map (λ f. 1 + deepest (chains n (map plain_function fs)) (stmt_calls f.body [])) plain_function fs)))

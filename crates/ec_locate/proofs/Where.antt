@@ -1,5 +1,6 @@
 -- Where objects stand, and that what the map places is clear of the regions and of one another.
-use Rattle.std.proofs.Common.{◌≡◌, ◌⊎◌, inl, inr, ⊎_elim, ◌+◌, ◌<◌, ◌≤◌, ℕ, zero, suc, Bool, true, false, ◌&&◌, List, [], ◌∷◌, take, get_or, add-zero, zero-add, Option, Some, None, refl, sym, ap, ◌∙◌, subst, arith}
+use Rattle.std.proofs.Common.{◌≡◌, ◌⊎◌, inl, inr, ⊎_elim, ◌+◌, ◌<◌, ◌≤◌, ℕ, zero, suc, Bool, true, false, ◌&&◌, List, [], ◌∷◌, take, get_or}
+use Rattle.std.proofs.Common.{add-zero, zero-add, Option, Some, None, refl, sym, ap, ◌∙◌, subst, arith}
 use Rattle.std.specs.Prelude.{sum_by, slice_get, slice_index, option_map, option_and_then, if◌then◌else◌, AllPairs}
 use Rattle.std.specs.List.{position_from}
 use Rattle.std.specs.Str.{bytes_eq}
@@ -18,7 +19,8 @@ use Rattle.ec_locate.specs.declared.fixed.Block.{Block}
 use Rattle.ec_locate.specs.declared.stop.RegionName.{RegionName}
 use Rattle.ec_locate.specs.Apart.{AreFree}
 use Rattle.ec_locate.specs.Entries.{fixed_place, is_static, flash_size, data_size, initial_size, flash_sizes, data_sizes, initial_sizes}
-use Rattle.ec_locate.specs.Fixed.{can_place, object_named, block_at, block_of, blocks, shares, meets, overlaps, is_in_bank, region_met, first_of}
+use Rattle.ec_locate.specs.Fixed.{can_place, object_named, block_at, block_of, blocks, shares, meets, overlaps, is_in_bank, region_met}
+use Rattle.ec_locate.specs.Fixed.{first_of}
 use Rattle.ec_locate.specs.Layout.{place_by, places_from, initial_at, initials_from}
 
 -- ---- sums up to an item
@@ -88,7 +90,8 @@ none_passes p n (y ∷ xs) zero x h q =
     let same : y ≡ x = cc in
     rw (← same) (⊎_elim (λ (t : p y ≡ true). let none = rw t at h in cc) (λ f. f) (cases_Bool (p y)))
 none_passes p n (y ∷ xs) (suc k) x h q =
-    ⊎_elim (λ (t : p y ≡ true). let none = rw t at h in cc) (λ (f : p y ≡ false). none_passes p (n + 1) xs k x (rw f at h) q) (cases_Bool (p y))
+    ⊎_elim (λ (t : p y ≡ true). let none = rw t at h in cc) (λ (f : p y ≡ false). none_passes p (n + 1) xs k x (rw f at h) q)
+    (cases_Bool (p y))
 
 first_passes : {X : Type 0} (p : X → Bool) (n : ℕ) (xs : List X) (i : ℕ) (x : X) → slice_get xs i ≡ Some x → p x ≡ true
     → ((k : ℕ) (y : X) → k < i → slice_get xs k ≡ Some y → p y ≡ false) → position_from p n xs ≡ Some (n + i)

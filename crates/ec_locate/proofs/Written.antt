@@ -1,5 +1,6 @@
 -- What is written into a flash stays there, where nothing later is written over it.
-use Rattle.std.proofs.Common.{◌≡◌, ◌⊎◌, inl, inr, ⊎_elim, ◌+◌, ◌<◌, ◌≤◌, ℕ, zero, suc, Bool, true, false, List, [], ◌∷◌, ◌++◌, length, map, get_or, add-zero, Some, refl, sym, ap, ◌∙◌, subst, arith}
+use Rattle.std.proofs.Common.{◌≡◌, ◌⊎◌, inl, inr, ⊎_elim, ◌+◌, ◌<◌, ◌≤◌, ℕ, zero, suc, Bool, true, false, List, [], ◌∷◌, ◌++◌, length, map}
+use Rattle.std.proofs.Common.{get_or, add-zero, Some, refl, sym, ap, ◌∙◌, subst, arith}
 use Rattle.std.specs.Prelude.{slice_get}
 use Rattle.std.proofs.lemmas.List.{length-append, length-map, get_or_append_left, get_or-append-add}
 use Rattle.ec_space.specs.ByteLaws.{length-little_endian}
@@ -11,7 +12,8 @@ use Rattle.ec_core.specs.Plain.{PlainStruct, PlainObject, PlainStorage, static, 
 use Rattle.ec_core.specs.TypeLaws.{FillFrom}
 use Rattle.ec_core.specs.Valid.{AreInitialValues}
 use Rattle.ec_core.specs.declared.programs.LeafInit.{LeafInit}
-use Rattle.ec_locate.specs.Image.{FlashView, value_number, value_bytes, leaf_bytes, object_bytes, with_bytes, values_at, with_values, with_objects}
+use Rattle.ec_locate.specs.Image.{FlashView, value_number, value_bytes, leaf_bytes, object_bytes, with_bytes, values_at, with_values}
+use Rattle.ec_locate.specs.Image.{with_objects}
 use Rattle.ec_locate.specs.Layout.{LayoutView}
 use Rattle.ec_locate.proofs.Stand.{length_overwritten, overwritten_outside, overwritten_holds}
 
@@ -43,11 +45,14 @@ at_index flash at to bytes q h = subst (λ n. HoldsFrom flash n bytes) q h
 abbrev GoesOn : (all : List LeafInit) → ℕ → (rest : List LeafInit) → Type 0
 GoesOn all i rest = (k : ℕ) → slice_get all (i + k) ≡ slice_get rest k
 
-first_of_rest : (all : List LeafInit) (i : ℕ) (init : LeafInit) (rest : List LeafInit) → GoesOn all i (init ∷ rest) → slice_get all i ≡ Some init
+first_of_rest : (all : List LeafInit) (i : ℕ) (init : LeafInit) (rest : List LeafInit) → GoesOn all i (init ∷ rest)
+    → slice_get all i ≡ Some init
 first_of_rest all i init rest g = subst (λ n. slice_get all n ≡ Some init) (add-zero i) (g 0)
 
 next_of_rest : (all : List LeafInit) (i : ℕ) (init : LeafInit) (rest : List LeafInit) → GoesOn all i (init ∷ rest) → GoesOn all (i + 1) rest
-next_of_rest all i init rest g k = let q : i + suc k ≡ i + 1 + k = omega arith in subst (λ n. slice_get all n ≡ slice_get rest k) q (g (suc k))
+next_of_rest all i init rest g k =
+    let q : i + suc k ≡ i + 1 + k = omega arith in
+    subst (λ n. slice_get all n ≡ slice_get rest k) q (g (suc k))
 
 pub leaf_length : (p : PlainProgram) (places : List Place) (at end i : ℕ) (leaves : List PlainLeaf) (rest all : List LeafInit)
     → FillFrom at end leaves → AreInitialValues p leaves rest → GoesOn all i rest
@@ -66,14 +71,17 @@ leaf_length p places at end i (leaf ∷ leaves) (init ∷ rest) all f v g =
 abbrev leaf_value : List Place → PlainLeaf → LeafInit → List ℕ
 leaf_value places leaf init = little_endian (scalar_size leaf.ty) (value_number places leaf.ty init)
 
-in_row : (places : List Place) (flash : List ℕ) (base at i : ℕ) (x : PlainLeaf) (y : LeafInit) (leaves : List PlainLeaf) (rest all : List LeafInit)
+in_row : (places : List Place) (flash : List ℕ) (base at i : ℕ) (x : PlainLeaf) (y : LeafInit) (leaves : List PlainLeaf)
+    (rest all : List LeafInit)
     → GoesOn all i (y ∷ rest) → HoldsFrom flash (base + at) (leaf_bytes places i (x ∷ leaves) all)
     → HoldsFrom flash (base + at) (leaf_value places x y ++ leaf_bytes places (i + 1) leaves all)
 in_row places flash base at i x y leaves rest all g h =
-    subst (λ o. HoldsFrom flash (base + at) (value_bytes places x.ty o ++ leaf_bytes places (i + 1) leaves all)) (first_of_rest all i y rest g) h
+    subst (λ o. HoldsFrom flash (base + at) (value_bytes places x.ty o ++ leaf_bytes places (i + 1) leaves all))
+    (first_of_rest all i y rest g) h
 
 -- where they stand in a row, each stands at its offset
-pub leaf_stands : (p : PlainProgram) (places : List Place) (flash : List ℕ) (base at end i : ℕ) (leaves : List PlainLeaf) (rest all : List LeafInit)
+pub leaf_stands : (p : PlainProgram) (places : List Place) (flash : List ℕ) (base at end i : ℕ) (leaves : List PlainLeaf)
+    (rest all : List LeafInit)
     → FillFrom at end leaves → AreInitialValues p leaves rest → GoesOn all i rest
     → HoldsFrom flash (base + at) (leaf_bytes places i leaves all)
     → (k : ℕ) (leaf : PlainLeaf) (init : LeafInit) → slice_get leaves k ≡ Some leaf → slice_get rest k ≡ Some init
@@ -91,8 +99,10 @@ leaf_stands p places flash base at end i (x ∷ leaves) (y ∷ rest) all f v g h
     let m = length-little_endian (scalar_size x.ty) (value_number places x.ty y) in
     let row = in_row places flash base at i x y leaves rest all g h in
     let more = rest_holds flash (base + at) (leaf_value places x y) (leaf_bytes places (i + 1) leaves all) row in
-    let placed = at_index flash (base + at + length (leaf_value places x y)) (base + (at + scalar_size x.ty)) (leaf_bytes places (i + 1) leaves all) (omega (arith, m)) more in
-    leaf_stands p places flash base (at + scalar_size x.ty) end (i + 1) leaves rest all f.2 v.1 (next_of_rest all i y rest g) placed k leaf init q r
+    let placed = at_index flash (base + at + length (leaf_value places x y)) (base + (at + scalar_size x.ty))
+    (leaf_bytes places (i + 1) leaves all) (omega (arith, m)) more in
+    leaf_stands p places flash base (at + scalar_size x.ty) end (i + 1) leaves rest all f.2 v.1
+    (next_of_rest all i y rest g) placed k leaf init q r
 
 -- ---- the initial values of objects, one after another
 
@@ -118,7 +128,8 @@ module _ (structs : List PlainStruct) (y : LayoutView) where
   -- ---- lengths
 
   values_length : (i : ℕ) (o : PlainObject) (s : PlainStorage) (f : FlashView)
-      → (length (with_values structs y i o s f).bytes ≡ length f.bytes) × (length (with_values structs y i o s f).written ≡ length f.written)
+      → (length (with_values structs y i o s f).bytes ≡ length f.bytes)
+      × (length (with_values structs y i o s f).written ≡ length f.written)
   values_length i o (static inits) f = (
     length_overwritten f.bytes (values_at y i o.home) (bytes_of o inits),
     length_overwritten f.written (values_at y i o.home) (map (λ byte. true) (bytes_of o inits)),
@@ -128,7 +139,8 @@ module _ (structs : List PlainStruct) (y : LayoutView) where
   values_length i o (register r) f = (refl, refl)
 
   pub objects_length : (i : ℕ) (os : List PlainObject) (f : FlashView)
-      → (length (with_objects structs y i os f).bytes ≡ length f.bytes) × (length (with_objects structs y i os f).written ≡ length f.written)
+      → (length (with_objects structs y i os f).bytes ≡ length f.bytes)
+      × (length (with_objects structs y i os f).written ≡ length f.written)
   objects_length i [] f = (refl, refl)
   objects_length i (o ∷ os) f =
       let a = objects_length (i + 1) os (with_values structs y i o o.storage f) in
@@ -154,11 +166,14 @@ module _ (structs : List PlainStruct) (y : LayoutView) where
   values_outside i o (param g) f a q h = (refl, refl)
   values_outside i o (register r) f a q h = (refl, refl)
 
-  pub objects_outside : (i : ℕ) (os : List PlainObject) (f : FlashView) (a : ℕ) → Avoids 0 i os a → AreSame (with_objects structs y i os f) f a
+  pub objects_outside : (i : ℕ) (os : List PlainObject) (f : FlashView) (a : ℕ) → Avoids 0 i os a
+      → AreSame (with_objects structs y i os f) f a
   objects_outside i [] f a h = (refl, refl)
   objects_outside i (o ∷ os) f a h =
-      let later = objects_outside (i + 1) os (with_values structs y i o o.storage f) a (next_avoids 0 i o os a (λ k x inits l q s. h k x inits (omega arith) q s)) in
-      let here = values_outside i o o.storage f a refl (λ inits s. subst (λ j. Misses a (values_at y j o.home) (length (bytes_of o inits))) (add-zero i) (h 0 o inits (omega arith) refl s)) in
+      let later = objects_outside (i + 1) os (with_values structs y i o o.storage f) a
+      (next_avoids 0 i o os a (λ k x inits l q s. h k x inits (omega arith) q s)) in
+      let here = values_outside i o o.storage f a refl (λ inits s.
+      subst (λ j. Misses a (values_at y j o.home) (length (bytes_of o inits))) (add-zero i) (h 0 o inits (omega arith) refl s)) in
       (later.0 ∙ here.0, later.1 ∙ here.1)
 
   -- ---- and what is put there stands there
@@ -172,7 +187,8 @@ module _ (structs : List PlainStruct) (y : LayoutView) where
   all_true (x ∷ xs) zero l = refl
   all_true (x ∷ xs) (suc k) l = all_true xs k (omega arith)
 
-  pub bytes_inside : (f : FlashView) (at : ℕ) (bytes : List ℕ) (t : ℕ) → at + length bytes ≤ length f.bytes → at + length bytes ≤ length f.written
+  pub bytes_inside : (f : FlashView) (at : ℕ) (bytes : List ℕ) (t : ℕ) → at + length bytes ≤ length f.bytes
+      → at + length bytes ≤ length f.written
       → t < length bytes → IsByte (with_bytes f at bytes) (at + t) (get_or bytes t 0)
   bytes_inside f at bytes t b w l =
       let n = length-map {B = Bool} bytes (λ byte. true) in (
@@ -191,10 +207,13 @@ module _ (structs : List PlainStruct) (y : LayoutView) where
       let same : x ≡ o = cc in
       let at = values_at y i o.home in
       let first = add-zero i in
-      let later : Avoids 0 (i + 1) os (at + t) = subst (λ j. Avoids 0 (i + 1) os (values_at y j o.home + t)) first (next_avoids 0 i x os (values_at y (i + 0) o.home + t) h) in
+      let later : Avoids 0 (i + 1) os (at + t) =
+      subst (λ j. Avoids 0 (i + 1) os (values_at y j o.home + t)) first (next_avoids 0 i x os (values_at y (i + 0) o.home + t) h) in
       let put : with_values structs y i x x.storage f ≡ with_bytes f at (bytes_of o inits) = rw (same, s) refl in
-      let b' : at + length (bytes_of o inits) ≤ length f.bytes = subst (λ j. values_at y j o.home + length (bytes_of o inits) ≤ length f.bytes) first b in
-      let w' : at + length (bytes_of o inits) ≤ length f.written = subst (λ j. values_at y j o.home + length (bytes_of o inits) ≤ length f.written) first w in
+      let b' : at + length (bytes_of o inits) ≤ length f.bytes =
+      subst (λ j. values_at y j o.home + length (bytes_of o inits) ≤ length f.bytes) first b in
+      let w' : at + length (bytes_of o inits) ≤ length f.written =
+      subst (λ j. values_at y j o.home + length (bytes_of o inits) ≤ length f.written) first w in
       let inside = bytes_inside f at (bytes_of o inits) t b' w' l in
       let stays = objects_outside (i + 1) os (with_values structs y i x x.storage f) (at + t) later in
       let whole : IsByte (with_objects structs y i (x ∷ os) f) (at + t) (get_or (bytes_of o inits) t 0) =
@@ -204,7 +223,10 @@ module _ (structs : List PlainStruct) (y : LayoutView) where
       let e : i + suc k ≡ i + 1 + k = omega arith in
       let n = values_length i x x.storage f in
       let rest = objects_inside (i + 1) os (with_values structs y i x x.storage f) k o inits t q s
-      (subst (λ j. values_at y j o.home + length (bytes_of o inits) ≤ length (with_values structs y i x x.storage f).bytes) e (omega (arith, n.0, b)))
-      (subst (λ j. values_at y j o.home + length (bytes_of o inits) ≤ length (with_values structs y i x x.storage f).written) e (omega (arith, n.1, w)))
-      l (subst (λ j. Avoids (suc k) (i + 1) os (values_at y j o.home + t)) e (next_avoids (suc k) i x os (values_at y (i + suc k) o.home + t) h)) in
+      (subst (λ j. values_at y j o.home + length (bytes_of o inits) ≤ length (with_values structs y i x x.storage f).bytes) e
+      (omega (arith, n.0, b)))
+      (subst (λ j. values_at y j o.home + length (bytes_of o inits) ≤ length (with_values structs y i x x.storage f).written) e
+      (omega (arith, n.1, w)))
+      l (subst (λ j. Avoids (suc k) (i + 1) os (values_at y j o.home + t)) e
+      (next_avoids (suc k) i x os (values_at y (i + suc k) o.home + t) h)) in
       subst (λ j. IsByte (with_objects structs y i (x ∷ os) f) (values_at y j o.home + t) (get_or (bytes_of o inits) t 0)) (sym e) rest

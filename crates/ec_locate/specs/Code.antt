@@ -6,7 +6,7 @@ use Rattle.ec_asm.specs.Change.{Env, Barred}
 use Rattle.ec_asm.specs.declared.items.AsmItem.{AsmItem}
 use Rattle.ec_asm.specs.declared.items.AsmItem.TheVariants.{Plain, Label, JumpTo, CallTo, BranchTo, LoadPart, LoadObj}
 use Rattle.ec_asm.specs.declared.items.AsmItem.TheVariants.{StoreObj}
-pub use Rattle.ec_place_values.specs.Labels.{label_word}
+pub use Rattle.ec_locate.specs.Labels.{label_word}
 use Rattle.ec_locate.specs.Layout.{LayoutView}
 use Rattle.ec_locate.specs.declared.layout.Layout.{Layout}
 

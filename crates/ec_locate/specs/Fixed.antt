@@ -11,7 +11,7 @@ use Rattle.ec_core.specs.Plain.{PlainObject}
 use Rattle.ec_map.specs.declared.map.Fixed1.{Fixed1}
 use Rattle.ec_map.specs.declared.map.Map.{Map}
 use Rattle.ec_map.specs.declared.region.Region.{Region}
-use Rattle.ec_map_rules.specs.Rules.{first_met}
+use Rattle.ec_map.specs.Judging.{first_met}
 use Rattle.ec_locate.specs.Entries.{is_static}
 use Rattle.ec_locate.specs.declared.entries.Entry.{Entry}
 use Rattle.ec_locate.specs.declared.fixed.Block.{Block}

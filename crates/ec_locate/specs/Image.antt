@@ -16,7 +16,7 @@ use Rattle.ec_core.specs.Plain.{PlainStruct, PlainType, pointer, PlainObject}
 use Rattle.ec_core.specs.Plain.{PlainStorage, static, local, param, register, PlainProgram}
 use Rattle.ec_core.specs.declared.programs.LeafInit.{LeafInit}
 use Rattle.ec_core.specs.declared.programs.LeafInit.TheVariants.{Number, Null, Address}
-pub use Rattle.ec_place_values.specs.Pointers.{pointer_to}
+pub use Rattle.ec_locate.specs.Pointers.{pointer_to}
 use Rattle.ec_locate.specs.Code.{overwritten, resolved}
 use Rattle.ec_locate.specs.Layout.{LayoutView}
 

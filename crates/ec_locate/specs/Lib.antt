@@ -1,3 +1,5 @@
+pub mod Labels
+pub mod Pointers
 pub mod Entries
 pub mod Layout
 pub mod Fixed

@@ -9,11 +9,11 @@ ghost use Rattle.ec_asm.specs.Items.{branch_unless, part_of, code_words};
 ghost use Rattle.ec_asm.specs.Placed.{bytes_of_all, instructions, code_image};
 ghost use Rattle.ec_locate.specs.Code.{layout_view, label_word, start_of, address_of, resolved, has_words, overwritten};
 
+use crate::labels::label_word;
 use crate::layout::Layout;
 use ec_asm::AsmItem;
 use ec_avr::Image;
 use ec_isa::{Instr, encode};
-use ec_place_values::label_word;
 use ec_space::{NoMemory, Seq};
 use std::alloc::Global;
 

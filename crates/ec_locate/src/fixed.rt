@@ -10,8 +10,7 @@ ghost use Rattle.ec_locate.specs.Fixed.{region_or_later, first_clash, region_tex
 use crate::entries::{Entry, is_static};
 use crate::stop::RegionName;
 use ec_core::Obj;
-use ec_map::{Fixed1, Map, Region};
-use ec_map_rules::first_met;
+use ec_map::{Fixed1, Map, Region, first_met};
 use ec_space::{Bank, Name, NoMemory, Seq};
 use std::alloc::Global;
 

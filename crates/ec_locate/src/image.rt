@@ -15,10 +15,10 @@ ghost use Rattle.ec_space.specs.declared.Core.TheVariants.{Small};
 
 use crate::code::{code_of, number_at, write_from};
 use crate::layout::Layout;
+use crate::values::{init_at, pointer_to};
 use ec_asm::AsmItem;
 use ec_avr::Image;
 use ec_core::{CType, Leaf, LeafInit, Obj, Program, Storage, StructDef, leaves};
-use ec_place_values::{init_at, pointer_to};
 use ec_space::{Bank, Core, NoMemory, Place, Seq, SpaceId};
 use std::alloc::Global;
 

@@ -6,11 +6,13 @@ mod code;
 mod entries;
 mod fixed;
 mod image;
+mod labels;
 mod laws;
 mod layout;
 mod needs;
 mod placing;
 mod stop;
+mod values;
 
 pub use ec_map::{Fixed1, Map, MapStop, Region, read_map};
 pub use laws::{

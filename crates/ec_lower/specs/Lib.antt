@@ -1,2 +1,4 @@
--- The definitions that the contracts of the lowering cite, which stand in its libraries.
-pub use Rattle.ec_lower_emit.specs.Emits
+-- The definitions that the contracts of the lowering cite, beside those of `ec_lower_code`.
+pub mod Emits
+pub mod Sizes
+pub mod Sites

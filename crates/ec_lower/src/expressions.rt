@@ -7,27 +7,29 @@ ghost use Rattle.ec_core.specs.Plain.{logical_or, conditional};
 ghost use Rattle.ec_core.specs.Typing.{int, type_of_expr};
 ghost use Rattle.ec_core.specs.PortTable.{plain_table};
 ghost use Rattle.ec_ir.specs.Operations.{constant, branch_zero};
-ghost use Rattle.ec_lower_emit.specs.Emits.{Emits, IsLaidOut, plain_operand};
-ghost use Rattle.ec_lower_accesses.specs.Sites.{plain_site};
+ghost use Rattle.ec_lower.specs.Emits.{Emits, IsLaidOut, plain_operand};
+ghost use Rattle.ec_lower.specs.Sites.{plain_site};
 ghost use Rattle.ec_lower_code.specs.Code.{temp, place_behind, access_code, expr_labels, node_labels, option_labels};
 ghost use Rattle.ec_lower_code.specs.Code.{place_labels, load_from, site, value_place, settled_code, place_code};
 ghost use Rattle.ec_lower_code.specs.Code.{exprs_labels, expr_code, node_code, option_code, args_code};
 ghost use Rattle.ec_lower_code.specs.Code.{step_code};
 
-use crate::ports::put_access;
+use crate::calls::store_call;
+use crate::emit::{
+    above, behind, put, put_binary, put_conversion, put_null, put_number, put_turn, put_unary,
+    result_temp, temp, truth,
+};
+use crate::offsets::offset_of;
+use crate::places::{
+    Site, pointed, put_address, put_assigned, put_load, put_member, put_settled, value_place,
+};
+use crate::port_operations::place_behind;
+use crate::ports::{put_access, put_group};
 use crate::updates::{change, step};
 use ec_core::{CType, Expr, Node, PlaceExpr, Program};
 use ec_fx::Mode;
 use ec_iohw::{IoOp, IoTable};
 use ec_ir::{Ir, Temp};
-use ec_lower_accesses::{
-    Site, pointed, put_address, put_assigned, put_group, put_load, put_member, put_settled,
-    store_call, value_place,
-};
-use ec_lower_emit::{
-    above, behind, offset_of, place_behind, put, put_binary, put_conversion, put_null, put_number,
-    put_turn, put_unary, result_temp, temp, truth,
-};
 use ec_space::{NoMemory, Seq};
 use std::alloc::Global;
 

@@ -1,21 +1,156 @@
 //! The operations on ports, and what the numbers of a table are.
-ghost use Rattle.std.specs.Prelude.{◌≡◌, slice_get, OnOk};
+ghost use Rattle.std.specs.Prelude.{◌≡◌, ◌+◌, ◌∷◌, None, pos, map, slice_get, OnOk};
+ghost use Rattle.ec_core.specs.Plain.{plain_type};
+ghost use Rattle.ec_core.specs.PortAccesses.{pairs_of};
+ghost use Rattle.ec_core.specs.PortOperations.{updates};
+ghost use Rattle.ec_core.specs.PortTable.{plain_port, plain_group, plain_table};
+ghost use Rattle.ec_ir.specs.Operations.{constant, port_in, port_out};
+ghost use Rattle.ec_lower.specs.Emits.{Emits};
+ghost use Rattle.ec_lower_code.specs.Code.{temp, port_code, byte_type, pairs_code, group_code};
 ghost use Rattle.std.specs.List.{AllByRecursion};
 ghost use Rattle.std.specs.Option.{option_copied};
-ghost use Rattle.ec_core.specs.Plain.{plain_type};
-ghost use Rattle.ec_core.specs.PortTable.{plain_port, plain_table};
-ghost use Rattle.ec_lower_emit.specs.Emits.{Emits, plain_action, plain_operand};
-ghost use Rattle.ec_lower_code.specs.Code.{port_code, access_code};
+ghost use Rattle.ec_lower.specs.Emits.{plain_action, plain_operand};
+ghost use Rattle.ec_lower_code.specs.Code.{access_code};
 ghost use Rattle.ec_lower_code.specs.Correct.{IsBytePair, HasBytePairs, GroupsHaveBytes};
 
+use crate::emit::{above, put, put_binary, temp};
+use crate::port_operations::{
+    Action, action_of, operand_temp, operator_of, place_behind, value_type,
+};
 use ec_core::{BinOp, CType, Expr};
 use ec_fx::Mode;
 use ec_iohw::{IoOp, IoTable, Pair, Port, PortGroup};
 use ec_ir::{Ir, Temp};
-use ec_lower_accesses::{put_in, put_out, put_update};
-use ec_lower_emit::{Action, action_of, operand_temp, operator_of, place_behind, temp, value_type};
 use ec_space::{NoMemory, Seq};
 use std::alloc::Global;
+
+// ---- ports
+
+/// A read of a port's bytes, with the index in its temporary.
+pub fn put_in(
+    code: &mut Seq<Ir>,
+    to: Temp,
+    port: &Port,
+    index: Option<Temp>,
+) -> Result<(), NoMemory>
+    ensures { OnOk result (Emits code.old.items code.new.items (λ rest. let port = plain_port port.now in
+        port_in to port.address index port.width ∷ rest)) }
+{
+    let (address, width) = (port.address, port.width);
+    put(
+        code,
+        Ir::PortIn {
+            to,
+            address,
+            index,
+            width,
+        },
+    )
+}
+
+/// A write of a port's bytes, with the index in its temporary.
+pub fn put_out(
+    code: &mut Seq<Ir>,
+    from: Temp,
+    port: &Port,
+    index: Option<Temp>,
+) -> Result<(), NoMemory>
+    ensures { OnOk result (Emits code.old.items code.new.items (λ rest. let port = plain_port port.now in
+        port_out from port.address index port.width ∷ rest)) }
+{
+    let (address, width) = (port.address, port.width);
+    put(
+        code,
+        Ir::PortOut {
+            from,
+            address,
+            index,
+            width,
+        },
+    )
+}
+
+/// A read of a port's bytes to the place above the value at `v`, the operation on both, and a write of its result.
+pub fn put_update(
+    code: &mut Seq<Ir>,
+    alloc: Global,
+    op: BinOp,
+    ty: &CType,
+    mode: Mode,
+    port: &Port,
+    index: Option<Temp>,
+    t: u16,
+    v: u16,
+) -> Result<(), NoMemory>
+    ensures { OnOk result (Emits code.old.items code.new.items
+        (port_code updates op (plain_type ty.now) mode (plain_port port.now) index t v)) }
+{
+    let u = above(v)?;
+    let at = temp(u, ty);
+    put_in(code, at, port, index)?;
+    put_binary(code, alloc, op, ty, mode, u, u, ty, v, ty)?;
+    put_out(code, at, port, index)?;
+    Ok(())
+}
+
+// ---- groups
+
+/// A byte is written to a port.
+fn put_pair(code: &mut Seq<Ir>, pair: &Pair, t: u16) -> Result<(), NoMemory>
+    ensures { OnOk result (Emits code.old.items code.new.items (λ rest.
+        constant (temp t byte_type) (pos pair.now.byte)
+        ∷ port_out (temp t byte_type) pair.now.port None 1 ∷ rest)) }
+{
+    let at = Temp { at: t, bytes: 1 };
+    put(code, Ir::Const(at, pair.byte as i128))?;
+    put(
+        code,
+        Ir::PortOut {
+            from: at,
+            address: pair.port,
+            index: None,
+            width: 1,
+        },
+    )?;
+    Ok(())
+}
+
+fn put_pairs(code: &mut Seq<Ir>, pairs: &[Pair], t: u16) -> Result<(), NoMemory>
+    ensures { OnOk result (Emits code.old.items code.new.items (pairs_code pairs.now t)) }
+{
+    for pair in pairs {
+        put_pair(code, pair, t)?;
+    }
+    Ok(())
+}
+
+/// What is written to acquire or to release a group.
+fn pairs(acquire: bool, group: &PortGroup) -> &[Pair]
+    ensures { result.now ≡ pairs_of acquire (plain_group group.now) }
+{
+    if acquire {
+        group.acquire.as_slice()
+    } else {
+        group.release.as_slice()
+    }
+}
+
+/// Those of the acquire or of the release of a group.
+pub fn put_group(
+    code: &mut Seq<Ir>,
+    io: &IoTable,
+    acquire: bool,
+    group: u16,
+    t: u16,
+) -> Result<(), NoMemory>
+    ensures { OnOk result (Emits code.old.items code.new.items
+        (group_code acquire (slice_get (plain_table io.now).groups group) t)) }
+{
+    match io.groups.get(group as usize) {
+        None => Ok(()),
+        Some(g) => put_pairs(code, pairs(acquire, g), t),
+    }
+}
 
 /// An access of a port's bytes, with the index in its temporary, and the value at `v`.
 fn put_port(

@@ -5,17 +5,19 @@ ghost use Rattle.ec_core.specs.Valid.{Valid};
 ghost use Rattle.ec_core.specs.PortTable.{plain_table};
 ghost use Rattle.ec_ir.specs.Operations.{plain_ir, label, plain_ir_function, plain_ir_program};
 ghost use Rattle.ec_ir.specs.Valid.{ValidIr};
-ghost use Rattle.ec_lower_emit.specs.Emits.{IsLaidOut};
+ghost use Rattle.ec_lower.specs.Emits.{IsLaidOut};
 ghost use Rattle.ec_lower_code.specs.Code.{stmt_code, end_code, lowered_function, lowered};
 ghost use Rattle.ec_lower_code.specs.Correct.{Follows, IsMadeOf};
 
+use crate::copies::{copied_objects, copied_structs};
+use crate::emit::put;
+use crate::extents::stmt_places;
 use crate::ports::read_groups;
 use crate::statements::lower_stmt;
 use ec_core::{Func, Program, Stmt};
 use ec_iohw::IoTable;
 use ec_ir::{Ir, IrFunc, IrProgram};
 use ec_lower_code::{lowered_follows, lowered_is_made_of_its_program};
-use ec_lower_emit::{copied_objects, copied_structs, put, stmt_places};
 use ec_space::{NoMemory, Seq};
 use std::alloc::Global;
 

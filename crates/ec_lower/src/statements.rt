@@ -5,18 +5,20 @@ ghost use Rattle.ec_core.specs.Plain.{branch, for_loop, return_value, no_stmt, a
 ghost use Rattle.ec_core.specs.Plain.{plain_program};
 ghost use Rattle.ec_core.specs.PortTable.{plain_table};
 ghost use Rattle.ec_ir.specs.Operations.{label, jump};
-ghost use Rattle.ec_lower_emit.specs.Emits.{Emits, IsLaidOut};
+ghost use Rattle.ec_lower.specs.Emits.{Emits, IsLaidOut};
 ghost use Rattle.ec_lower_code.specs.Code.{expr_labels, exprs_labels, optional_labels, stmt_labels};
 ghost use Rattle.ec_lower_code.specs.Code.{stmts_labels, kind_labels, leaves_of_object, init_code, test_code, last_code};
 ghost use Rattle.ec_lower_code.specs.Code.{loop_code, stmt_code, kind_code, stmts_code, temp};
 ghost use Rattle.ec_core.specs.Layout.{plain_leaf};
 
+use crate::calls::put_return;
+use crate::emit::{behind, put, put_object_store, put_turn};
 use crate::expressions::{lower_branch, lower_expr};
+use crate::extents::optional_labels;
+use crate::loops::continue_label;
 use ec_core::{Expr, Leaf, Program, Stmt, StmtKind, leaves};
 use ec_iohw::IoTable;
 use ec_ir::Ir;
-use ec_lower_accesses::{continue_label, put_return};
-use ec_lower_emit::{behind, optional_labels, put, put_object_store, put_turn};
 use ec_space::{NoMemory, Seq};
 use std::alloc::Global;
 

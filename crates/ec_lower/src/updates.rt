@@ -3,18 +3,18 @@ ghost use Rattle.std.specs.Prelude.{◌≡◌, ◌∷◌, OnOk};
 ghost use Rattle.ec_core.specs.Operators.{number_type, step_operator};
 ghost use Rattle.ec_core.specs.Plain.{plain_type};
 ghost use Rattle.ec_core.specs.Typing.{int};
-ghost use Rattle.ec_lower_emit.specs.Emits.{Emits};
-ghost use Rattle.ec_lower_accesses.specs.Sites.{plain_site};
+ghost use Rattle.ec_lower.specs.Emits.{Emits};
+ghost use Rattle.ec_lower.specs.Sites.{plain_site};
 ghost use Rattle.ec_ir.specs.Operations.{conversion, binary_op};
 ghost use Rattle.ec_core.specs.ArithmeticTypes.{type_of};
 ghost use Rattle.ec_lower_code.specs.Code.{temp, store_to, update_types, update_code, keeping_code};
 ghost use Rattle.ec_lower_code.specs.Code.{moving_code, change_code, postfix_code, step_code};
 
+use crate::emit::{above, put_binary, put_conversion};
+use crate::places::{Site, advance, advance_behind, put_store};
 use ec_core::{Arithmetic, BinOp, CType, IntegerType};
 use ec_fx::Mode;
 use ec_ir::Ir;
-use ec_lower_accesses::{Site, advance, advance_behind, put_store};
-use ec_lower_emit::{above, put_binary, put_conversion};
 use ec_space::{NoMemory, Seq};
 use std::alloc::Global;
 

@@ -1,35 +1,37 @@
-pub mod Numeric
-pub mod Numbers
-pub mod Objects
-pub mod Shown
-pub mod Values
-pub mod Steps
-pub mod Homes
-pub mod Ops
-pub mod PortOperators
-pub mod Tables
-pub mod Pays
-pub mod Operations
-pub mod Places
-pub mod PortRuns
-pub mod Behind
-pub mod Callees
-pub mod Scene
-pub mod PortNodes
-pub mod Expressions
-pub mod Facts
-pub mod Statements
-pub mod Loops
-pub mod Bodies
-pub mod Labels
-pub mod Calls
-pub mod Whole
-pub mod Updates
-pub mod Keeps
-pub mod Insides
-pub mod Fits
+-- For all crates above.
 pub mod Wellformed
-pub mod Reached
-pub mod Rules
-pub mod Made
-pub mod OnPorts
+-- For this crate alone.
+mod Numeric
+mod Numbers
+mod Objects
+mod Shown
+mod Values
+mod Steps
+mod Homes
+mod Ops
+mod PortOperators
+mod Tables
+mod Pays
+mod Operations
+mod Places
+mod PortRuns
+mod Behind
+mod Callees
+mod Scene
+mod PortNodes
+mod Expressions
+mod Facts
+mod Statements
+mod Loops
+mod Bodies
+mod Labels
+mod Calls
+mod Whole
+mod Updates
+mod Keeps
+mod Insides
+mod Fits
+mod Reached
+mod Rules
+mod Made
+mod OnPorts

@@ -30,6 +30,7 @@ use Rattle.ec_core.specs.Words.{widest, update_words}
 use Rattle.ec_core.proofs.Conversions.{usual_conversions}
 use Rattle.ec_core.proofs.HeldNumbers.{Held, arithmetic_held}
 use Rattle.ec_core.proofs.Sameness.{type_itself}
+use Rattle.ec_core.proofs.Suiting.{signed_signed}
 use Rattle.ec_ir.specs.Costs.{is_integer, conversion_words, binary_words}
 use Rattle.ec_lower_code.specs.Code.{update_types}
 use Rattle.ec_lower_code.proofs.Numeric.{IsNumeric}
@@ -224,20 +225,6 @@ signed_size UnsignedShortAccum = refl
 signed_size UnsignedAccum = refl
 signed_size UnsignedLongAccum = refl
 
-signed_same : (k : FxKind) → (format_of k).signed ≡ true → signed_kind k ≡ k
-signed_same ShortFract e = refl
-signed_same Fract e = refl
-signed_same LongFract e = refl
-signed_same ShortAccum e = refl
-signed_same Accum e = refl
-signed_same LongAccum e = refl
-signed_same UnsignedShortFract e = cc
-signed_same UnsignedFract e = cc
-signed_same UnsignedLongFract e = cc
-signed_same UnsignedShortAccum e = cc
-signed_same UnsignedAccum e = cc
-signed_same UnsignedLongAccum e = cc
-
 kind_if : (c : Bool) (p q : FxKind) (m : ℕ) → (format_of p).bits / 8 ≤ m → (format_of q).bits / 8 ≤ m
     → (format_of (if c then p else q)).bits / 8 ≤ m
 kind_if true p q m x y = x
@@ -282,7 +269,7 @@ fixed_cheap s t = by_sign (format_of t.kind).signed refl (format_of s.kind).sign
     by_sign false e c f = inl (kept s (if (format_of t.kind).signed then signed_kind s.kind else s.kind)
         (if_kind (format_of t.kind).signed false s e refl))
     by_sign true e true f = inl (kept s (if (format_of t.kind).signed then signed_kind s.kind else s.kind)
-        (if_kind (format_of t.kind).signed true s e (signed_same s.kind f)))
+        (if_kind (format_of t.kind).signed true s e (signed_signed s.kind f)))
     by_sign true e false f = inr (kept t (if (format_of s.kind).signed then signed_kind t.kind else t.kind)
         (if_kind (format_of s.kind).signed false t f refl))
 

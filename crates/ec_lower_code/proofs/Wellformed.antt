@@ -223,7 +223,7 @@ bits_number true b n some i =
     record { low = i.low; high = omega (arith, ints, g, e, q) }
 bits_number false b n some i = let l = i.low in let q = pow_pos (8 * b - 1) in record { low = omega (arith, ints, l, q); high = i.high }
 
-kind_eight : (k : FxKind) → (format_of k).bits ≡ 8 * ((format_of k).bits / 8)
+pub kind_eight : (k : FxKind) → (format_of k).bits ≡ 8 * ((format_of k).bits / 8)
 kind_eight ShortFract = refl
 kind_eight Fract = refl
 kind_eight LongFract = refl

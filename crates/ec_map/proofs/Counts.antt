@@ -11,12 +11,14 @@ use Rattle.ec_map.specs.Values.{array_of}
 use Rattle.ec_map.specs.Rules.{kept, broken, is_table_of, are_tables_of, is_array_of, ports_of, groups_of}
 use Rattle.ec_map.proofs.Kept.{rules_kept, kept_at}
 
-few_values : (kind : Kind) (most : ℕ) (o : Option (List Data)) → option_map_or (are_tables_of kind most) o false ≡ true → length (unwrap_or o []) ≤ most
+few_values : (kind : Kind) (most : ℕ) (o : Option (List Data)) → option_map_or (are_tables_of kind most) o false ≡ true
+    → length (unwrap_or o []) ≤ most
 few_values kind most None h = absurd (false≢true h)
 few_values kind most (Some ds) h =
     leb-true (length ds) most (and_parts (nat_le (length ds) most) (list_all (is_table_of kind) ds) h).0
 
-few : (kind : Kind) (most : ℕ) (o : Option Data) → option_map_or (is_array_of kind most) o true ≡ true → length (unwrap_or (option_and_then array_of o) []) ≤ most
+few : (kind : Kind) (most : ℕ) (o : Option Data) → option_map_or (is_array_of kind most) o true ≡ true
+    → length (unwrap_or (option_and_then array_of o) []) ≤ most
 few kind most None h = omega arith
 few kind most (Some d) h = few_values kind most (array_of d) h
 

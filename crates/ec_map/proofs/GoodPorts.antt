@@ -1,5 +1,7 @@
 -- The ports, groups and places of a table that breaks no rule.
-use Rattle.std.proofs.Common.{◌≡◌, ◌≢◌, ℕ, zero, suc, ◌+◌, ◌-◌, ◌*◌, ◌<◌, ◌≤◌, ◌⊎◌, inl, inr, ℤ, pos, negsuc, Bool, true, false, not, ◌&&◌, ◌||◌, ◌==◌, nat_le, cond, List, [], ◌∷◌, length, map, Option, Some, None, codes, add-zero, refl, sym, ◌∙◌, arith}
+use Rattle.std.proofs.Common.{◌≡◌, ◌≢◌, ℕ, zero, suc, ◌+◌, ◌-◌, ◌*◌, ◌<◌, ◌≤◌, ◌⊎◌, inl, inr, ℤ, pos, negsuc, Bool, true, false, not, ◌&&◌}
+use Rattle.std.proofs.Common.{◌||◌, ◌==◌, nat_le, cond, List, [], ◌∷◌, length, map, Option, Some, None, codes, add-zero, refl, sym, ◌∙◌}
+use Rattle.std.proofs.Common.{arith}
 use Rattle.std.proofs.Math.Logic.{⊎_elim}
 use Rattle.std.proofs.lemmas.Bool.{and_parts, leb-true, ltb-true, eqb-true, false≢true}
 use Rattle.std.proofs.lemmas.List.Elements.{All-nil, All-cons, All-map}
@@ -12,7 +14,8 @@ use Rattle.toml.specs.Data.{Data, string, integer, float, boolean, datetime, arr
 use Rattle.ec_avr.specs.State.{is_port, is_core_register}
 use Rattle.ec_iohw.specs.Valid.{AreDistinct}
 use Rattle.ec_map.specs.Values.{bounded, number_of, values_at, text_at}
-use Rattle.ec_map.specs.Rules.{are_distinct, name_of, width_of, count_of, address_of, has_size, has_ports, group_named, is_write, is_port_pair, has_writes, is_place}
+use Rattle.ec_map.specs.Rules.{are_distinct, name_of, width_of, count_of, address_of, has_size, has_ports, group_named, is_write}
+use Rattle.ec_map.specs.Rules.{is_port_pair, has_writes, is_place}
 use Rattle.ec_map.specs.Maps.{PortView, GroupView, PlaceView, port_of, pair_of, port_group_of, place_of, WritesPorts}
 use Rattle.ec_map.proofs.Made.{all_passing}
 
@@ -109,7 +112,8 @@ good_port gs d size ports =
       ports = all;
     }
 
-pub good_ports : (gs ds : List Data) → list_all has_size ds ≡ true → list_all has_ports ds ≡ true → All (GoodPort (length gs)) (map (port_of gs) ds)
+pub good_ports : (gs ds : List Data) → list_all has_size ds ≡ true → list_all has_ports ds ≡ true
+    → All (GoodPort (length gs)) (map (port_of gs) ds)
 good_ports gs [] size ports = All-nil (GoodPort (length gs))
 good_ports gs (d ∷ ds) size ports =
     let (a, b) = and_parts (has_size d) (list_all has_size ds) size in
@@ -137,7 +141,8 @@ port_pair (table ms) h = absurd (false≢true h)
 
 pairs_to_ports : (ds : List Data) → list_all is_port_pair ds ≡ true → WritesPorts (map pair_of ds)
 pairs_to_ports ds h =
-    All-map (λ pair. IsTrue (is_port pair.port)) pair_of ds (all_passing (λ d. IsTrue (is_port (pair_of d).port)) is_port_pair port_pair ds h)
+    All-map (λ pair. IsTrue (is_port pair.port)) pair_of ds
+    (all_passing (λ d. IsTrue (is_port (pair_of d).port)) is_port_pair port_pair ds h)
 
 abbrev pub GoodGroup : GroupView → Type 0
 GoodGroup g = WritesPorts g.acquire × WritesPorts g.release

@@ -1,8 +1,10 @@
+-- For all crates above.
 pub mod Arrays
-pub mod Names
-pub mod Kept
 pub mod Made
-pub mod Counts
-pub mod Sound
-pub mod GoodPorts
-pub mod Valid
+-- For this crate alone.
+mod Names
+mod Kept
+mod Counts
+mod Sound
+mod GoodPorts
+mod Valid

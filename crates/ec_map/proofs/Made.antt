@@ -1,5 +1,6 @@
 -- Lists that are made of others, one item after another.
-use Rattle.std.proofs.Common.{◌≡◌, ℕ, ◌+◌, ◌≤◌, ◌<◌, Bool, true, List, [], ◌∷◌, ◌++◌, length, take, take_all, map, get_or, String, Global, string_bytes, Less, refl, sym, ap, subst, ◌∙◌}
+use Rattle.std.proofs.Common.{◌≡◌, ℕ, ◌+◌, ◌≤◌, ◌<◌, Bool, true, List, [], ◌∷◌, ◌++◌, length, take, take_all, map, get_or, String, Global}
+use Rattle.std.proofs.Common.{string_bytes, Less, refl, sym, ap, subst, ◌∙◌}
 use Rattle.std.specs.List.{All, AllByRecursion, list_all}
 use Rattle.std.specs.List.Sorted.{IsStrictlySortedBy}
 use Rattle.std.specs.Cmp.Lexicographic.{slice_cmp}
@@ -21,22 +22,27 @@ pub made_more : {X Y Z : Type 0} (f : X → Z) (g : Y → Z) (made new : List X)
     → map f new ≡ map g (take (i + 1) ys)
 made_more f g made new x ys i y done within is one pushed =
     let more = take_more ys i y within in
-    rw (pushed, more, ← is) (map-append f made (x ∷ []) ∙ ap (λ zs. zs ++ f x ∷ []) done ∙ ap (λ z. map g (take i ys) ++ z ∷ []) one ∙ sym (map-append g (take i ys) (y ∷ [])))
+    rw (pushed, more, ← is) (map-append f made (x ∷ []) ∙ ap (λ zs. zs ++ f x ∷ []) done ∙ ap (λ z. map g (take i ys) ++ z ∷ []) one
+    ∙ sym (map-append g (take i ys) (y ∷ [])))
 
 abbrev pub Entry : Type 0
 Entry = String Global × Value
 
-entries-last : (es : List Entry) (e : Entry) → entries_of (members_view (es ++ e ∷ [])) ≡ entries_of (members_view es) ++ (string_bytes e.0, view e.1) ∷ []
+entries-last : (es : List Entry) (e : Entry)
+    → entries_of (members_view (es ++ e ∷ [])) ≡ entries_of (members_view es) ++ (string_bytes e.0, view e.1) ∷ []
 entries-last [] e = refl
 entries-last (x ∷ es) e = ap (λ rest. (string_bytes x.0, view x.1) ∷ rest) (entries-last es e)
 
 -- one place more
 pub placed_more : (made new : List Fixed1) (p : Fixed1) (es : List Entry) (e : Entry)
-    → map place_view made ≡ map place_of (entries_of (members_view es)) → place_view p ≡ place_of (string_bytes e.0, view e.1) → new ≡ made ++ p ∷ []
+    → map place_view made ≡ map place_of (entries_of (members_view es)) → place_view p ≡ place_of (string_bytes e.0, view e.1)
+    → new ≡ made ++ p ∷ []
     → map place_view new ≡ map place_of (entries_of (members_view (es ++ e ∷ [])))
 placed_more made new p es e done one pushed =
     rw (pushed, entries-last es e)
-    (map-append place_view made (p ∷ []) ∙ ap (λ zs. zs ++ place_view p ∷ []) done ∙ ap (λ z. map place_of (entries_of (members_view es)) ++ z ∷ []) one ∙ sym (map-append place_of (entries_of (members_view es)) ((string_bytes e.0, view e.1) ∷ [])))
+    (map-append place_view made (p ∷ []) ∙ ap (λ zs. zs ++ place_view p ∷ []) done
+    ∙ ap (λ z. map place_of (entries_of (members_view es)) ++ z ∷ []) one
+    ∙ sym (map-append place_of (entries_of (members_view es)) ((string_bytes e.0, view e.1) ∷ [])))
 
 names_seen : (ps : List Fixed1) → names_of ps ≡ map (λ q. q.name) (map place_view ps)
 names_seen [] = refl
@@ -67,7 +73,8 @@ ascending-nil = tt
 
 -- ---- facts about each item
 
-pub all_passing : {X : Type 0} (P : X → Type 0) (p : X → Bool) → ((x : X) → p x ≡ true → P x) → (xs : List X) → list_all p xs ≡ true → All P xs
+pub all_passing : {X : Type 0} (P : X → Type 0) (p : X → Bool) → ((x : X) → p x ≡ true → P x) → (xs : List X)
+    → list_all p xs ≡ true → All P xs
 all_passing P p one [] h = All-nil P
 all_passing P p one (x ∷ xs) h =
     let (here, more) = and_parts (p x) (list_all p xs) h in
@@ -79,7 +86,8 @@ all_unmapped P f xs h k d l =
     subst P (get_or-map f xs k d (f d) l) (h k (f d) n)
 
 -- what holds of each item of a list holds of the list that is made of it
-pub all_made : {X Y Z : Type 0} (P : Z → Type 0) (f : X → Z) (g : Y → Z) (xs : List X) (ys : List Y) → map f xs ≡ map g ys → All P (map g ys) → All (λ x. P (f x)) xs
+pub all_made : {X Y Z : Type 0} (P : Z → Type 0) (f : X → Z) (g : Y → Z) (xs : List X) (ys : List Y) → map f xs ≡ map g ys
+    → All P (map g ys) → All (λ x. P (f x)) xs
 all_made P f g xs ys same h = all_unmapped P f xs (subst (All P) (sym same) h)
 
 pub length_made : {X Y Z : Type 0} (f : X → Z) (g : Y → Z) (xs : List X) (ys : List Y) → map f xs ≡ map g ys → length xs ≡ length ys

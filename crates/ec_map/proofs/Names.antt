@@ -19,4 +19,10 @@ pub names_from : (vs : List Value) (x : Value) → 1 ≤ length vs → x ≡ get
 names_from [] x some is = absurd (omega arith)
 names_from (v ∷ vs) x some is =
     let n : length (v ∷ vs) - 1 ≡ length vs = omega arith in
-    rw (is, n, take_all vs, list_any-viewed (bytes_eq (name_of (view v))) name_of (map view vs), list_any-viewed (λ d. bytes_eq (name_of (view v)) (name_of d)) view vs) refl
+    rw (
+      is,
+      n,
+      take_all vs,
+      list_any-viewed (bytes_eq (name_of (view v))) name_of (map view vs),
+      list_any-viewed (λ d. bytes_eq (name_of (view v)) (name_of d)) view vs,
+    ) refl

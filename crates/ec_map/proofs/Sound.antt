@@ -1,11 +1,13 @@
 -- The regions of a table that breaks no rule.
-use Rattle.std.proofs.Common.{◌≡◌, ℕ, ◌%◌, ◌≤◌, ◌⊎◌, inl, inr, Bool, true, false, ◌&&◌, ◌||◌, ◌==◌, nat_le, Option, Some, None, codes, refl, ⊎_elim}
+use Rattle.std.proofs.Common.{◌≡◌, ℕ, ◌%◌, ◌≤◌, ◌⊎◌, inl, inr, Bool, true, false, ◌&&◌, ◌||◌, ◌==◌, nat_le, Option, Some, None, codes, refl}
+use Rattle.std.proofs.Common.{⊎_elim}
 use Rattle.std.proofs.lemmas.Bool.{and_parts, leb-true, eqb-true}
 use Rattle.std.specs.Prelude.{option_and_then, if◌then◌else◌}
 use Rattle.std.specs.Option.{option_map_or}
 use Rattle.toml.specs.Data.{Data, Items, no_items, item, get, as_array}
 use Rattle.ec_map.specs.Values.{number_of}
-use Rattle.ec_map.specs.Regions.{end_of, bytes_from, region_in, region_of, four, regions_in, regions_of, lies_in, are_in_banks, is_code, share_no_byte, are_apart, LiesIn, AreApart, ValidRegions}
+use Rattle.ec_map.specs.Regions.{end_of, bytes_from, region_in, region_of, four, regions_in, regions_of, lies_in, are_in_banks, is_code}
+use Rattle.ec_map.specs.Regions.{share_no_byte, are_apart, LiesIn, AreApart, ValidRegions}
 use Rattle.ec_map.specs.Rules.{kept, broken}
 use Rattle.ec_map.specs.declared.region.Region.{Region}
 use Rattle.ec_map.specs.declared.region.Regions.{Regions}
@@ -21,7 +23,8 @@ abbrev AreSized : Option Regions → Type 0
 AreSized None = Unit {0}
 AreSized (Some r) = ((1 ≤ r.code.size) × (1 ≤ r.tables.size)) × ((1 ≤ r.vars.size) × (1 ≤ r.stack.size))
 
-sized_where : (b : Bool) (first size : ℕ) → (b ≡ true → 1 ≤ size) → IsSized (if b then Some (record { first = first; size = size }) else None)
+sized_where : (b : Bool) (first size : ℕ) → (b ≡ true → 1 ≤ size)
+    → IsSized (if b then Some (record { first = first; size = size }) else None)
 sized_where true first size h = h refl
 sized_where false first size h = tt
 
@@ -75,7 +78,8 @@ apart a b h =
 
 valid : (r : Regions) → AreSized (Some r) → are_in_banks r ≡ true → is_code r ≡ true → are_apart r ≡ true → ValidRegions r
 valid r sized banks code apart_all =
-    let (flash, sram) = and_parts (lies_in 0 32768 r.code && lies_in 0 32768 r.tables) (lies_in 256 2304 r.vars && lies_in 256 2304 r.stack) banks in
+    let (flash, sram) =
+    and_parts (lies_in 0 32768 r.code && lies_in 0 32768 r.tables) (lies_in 256 2304 r.vars && lies_in 256 2304 r.stack) banks in
     let (a, b) = and_parts (lies_in 0 32768 r.code) (lies_in 0 32768 r.tables) flash in
     let (c, e) = and_parts (lies_in 256 2304 r.vars) (lies_in 256 2304 r.stack) sram in
     let (start, whole) = and_parts (r.code.first == 0) (r.code.size % 2 == 0) code in

@@ -8,7 +8,8 @@ use Rattle.ec_iohw.specs.declared.table.Port.{Port}
 use Rattle.ec_map.specs.declared.map.Map.{Map}
 use Rattle.ec_map.specs.Values.{entries_at}
 use Rattle.ec_map.specs.Rules.{kept, broken, ports_of, groups_of, name_of, has_name, are_distinct}
-use Rattle.ec_map.specs.Maps.{IsMapOf, ValidMap, AreAscending, names_of, regions, port_of, port_view, port_group_of, group_view, place_of, place_view}
+use Rattle.ec_map.specs.Maps.{IsMapOf, ValidMap, AreAscending, names_of, regions, port_of, port_view, port_group_of, group_view, place_of}
+use Rattle.ec_map.specs.Maps.{place_view}
 use Rattle.ec_map.proofs.Kept.{rules_kept, kept_at}
 use Rattle.ec_map.proofs.Counts.{few_ports, few_groups}
 use Rattle.ec_map.proofs.Made.{map_map, all_made, length_made}
@@ -27,13 +28,18 @@ io_valid d m h told =
     let few_g = few_groups d h in
     let n = length_made port_view (port_of (groups_of d)) ports (ports_of d) told.ports_told in
     let k = length_made group_view port_group_of groups (groups_of d) told.groups_told in
-    let named_p = distinct (map name_of (ports_of d)) (and_parts (list_all has_name (ports_of d)) (are_distinct (map name_of (ports_of d))) (kept_at (kept d) 8 all)).1 in
-    let named_g = distinct (map name_of (groups_of d)) (and_parts (list_all has_name (groups_of d)) (are_distinct (map name_of (groups_of d))) (kept_at (kept d) 12 all)).1 in
+    let named_p = distinct (map name_of (ports_of d))
+    (and_parts (list_all has_name (ports_of d)) (are_distinct (map name_of (ports_of d))) (kept_at (kept d) 8 all)).1 in
+    let named_g = distinct (map name_of (groups_of d))
+    (and_parts (list_all has_name (groups_of d)) (are_distinct (map name_of (groups_of d))) (kept_at (kept d) 12 all)).1 in
     let names_p : map (λ p. p.name.items) ports ≡ map name_of (ports_of d) =
-    sym (map_map (λ q. q.name) port_view ports) ∙ ap (map (λ q. q.name)) told.ports_told ∙ map_map (λ q. q.name) (port_of (groups_of d)) (ports_of d) in
+    sym (map_map (λ q. q.name) port_view ports) ∙ ap (map (λ q. q.name)) told.ports_told
+    ∙ map_map (λ q. q.name) (port_of (groups_of d)) (ports_of d) in
     let names_g : map (λ g. g.name.items) groups ≡ map name_of (groups_of d) =
-    sym (map_map (λ q. q.name) group_view groups) ∙ ap (map (λ q. q.name)) told.groups_told ∙ map_map (λ q. q.name) port_group_of (groups_of d) in
-    let good = all_made (GoodPort (length (groups_of d))) port_view (port_of (groups_of d)) ports (ports_of d) told.ports_told (good_ports (groups_of d) (ports_of d) (kept_at (kept d) 9 all) (kept_at (kept d) 10 all)) in
+    sym (map_map (λ q. q.name) group_view groups) ∙ ap (map (λ q. q.name)) told.groups_told
+    ∙ map_map (λ q. q.name) port_group_of (groups_of d) in
+    let good = all_made (GoodPort (length (groups_of d))) port_view (port_of (groups_of d)) ports (ports_of d) told.ports_told
+    (good_ports (groups_of d) (ports_of d) (kept_at (kept d) 9 all) (kept_at (kept d) 10 all)) in
     record {
       ports = rw n few_p;
       groups = rw k few_g;
@@ -45,12 +51,15 @@ io_valid d m h told =
 pub map_valid : (d : Data) (m : Map) → broken d ≡ None → IsMapOf d m → AreAscending (names_of m.places.items) → ValidMap m
 map_valid d m h told ascending =
     let all = rules_kept d h in
-    let good = all_made (GoodPort (length (groups_of d))) port_view (port_of (groups_of d)) m.io.ports.items (ports_of d) told.ports_told (good_ports (groups_of d) (ports_of d) (kept_at (kept d) 9 all) (kept_at (kept d) 10 all)) in
+    let good = all_made (GoodPort (length (groups_of d))) port_view (port_of (groups_of d)) m.io.ports.items (ports_of d) told.ports_told
+    (good_ports (groups_of d) (ports_of d) (kept_at (kept d) 9 all) (kept_at (kept d) 10 all)) in
     record {
       io = io_valid d m h told;
       regions_valid = regions_valid d (regions m) h told.regions_told;
       ports = λ i p l. (good i p l).ports;
-      writes = all_made GoodGroup group_view port_group_of m.io.groups.items (groups_of d) told.groups_told (good_groups (groups_of d) (kept_at (kept d) 14 all));
-      places = all_made GoodPlace place_view place_of m.places.items (entries_at (codes "place") d) told.places_told (good_places (entries_at (codes "place") d) (kept_at (kept d) 17 all));
+      writes = all_made GoodGroup group_view port_group_of m.io.groups.items (groups_of d) told.groups_told
+          (good_groups (groups_of d) (kept_at (kept d) 14 all));
+      places = all_made GoodPlace place_view place_of m.places.items (entries_at (codes "place") d) told.places_told
+          (good_places (entries_at (codes "place") d) (kept_at (kept d) 17 all));
       ascending = ascending;
     }

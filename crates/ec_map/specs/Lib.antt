@@ -1,3 +1,4 @@
+pub mod Judging
 pub mod Values
 pub mod Regions
 pub mod Rules

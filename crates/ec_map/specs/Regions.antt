@@ -2,7 +2,7 @@
 use Rattle.std.specs.Prelude.{ℕ, ◌+◌, ◌≡◌, ◌≤◌, ◌⊎◌, ◌==◌, ◌%◌, nat_le, Bool, ◌&&◌, ◌||◌, if◌then◌else◌, List, codes}
 use Rattle.std.specs.Prelude.{Option, Some, None, option_and_then}
 use Rattle.toml.specs.Data.{Data, Items, no_items, item, get, as_array}
-use Rattle.ec_map_rules.specs.Rules.{lie_in}
+use Rattle.ec_map.specs.Judging.{lie_in}
 use Rattle.ec_map.specs.Values.{number_of}
 use Rattle.ec_map.specs.declared.region.Region.{Region}
 use Rattle.ec_map.specs.declared.region.Regions.{Regions}

@@ -8,7 +8,7 @@ use Rattle.std.specs.List.{list_all, list_any, range_with_len}
 use Rattle.std.specs.Str.{bytes_eq}
 use Rattle.toml.specs.Data.{Data, Items, no_items, item, get, as_integer, as_array, as_table}
 use Rattle.ec_avr.specs.State.{is_port}
-use Rattle.ec_map_rules.specs.Rules.{first_broken}
+use Rattle.ec_map.specs.Judging.{first_broken}
 use Rattle.ec_map.specs.Values.{array_of, array_at, values_at, keys, entries_at, text_at, number_of, number_at}
 use Rattle.ec_map.specs.Regions.{regions_of, are_in_banks, is_code, are_apart}
 use Rattle.ec_map.specs.declared.keys.Kind.{Kind}

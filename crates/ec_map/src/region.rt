@@ -4,8 +4,8 @@ ghost use Rattle.toml.specs.View.{view, items_view};
 ghost use Rattle.ec_map.specs.Regions.{region_in, region_of, region_at, regions_in, regions_of, bytes_from};
 ghost use Rattle.ec_map.specs.Regions.{lies_in, are_in_banks, is_code, share_no_byte, are_apart};
 
+use crate::rules::lie_in;
 use crate::values::number_of;
-use ec_map_rules::lie_in;
 use toml::Value;
 
 /// Bytes of a bank that follow one another.

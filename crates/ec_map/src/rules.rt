@@ -1,5 +1,7 @@
 //! The rules of a map, over the table that its text is read as.
-ghost use Rattle.std.specs.Prelude.{◌≡◌, map};
+ghost use Rattle.std.specs.Prelude.{◌≡◌, ◌<◌, not, length, position, IfSome};
+ghost use Rattle.ec_map.specs.Judging.{lie_in, first_broken, first_met};
+ghost use Rattle.std.specs.Prelude.{map};
 ghost use Rattle.std.specs.List.{list_all};
 ghost use Rattle.std.specs.Map.{values_of};
 ghost use Rattle.toml.specs.View.{view};
@@ -14,8 +16,48 @@ use crate::keys::{Kind, is_array_of, is_table_of};
 use crate::ports::{are_named, has_group, has_ports, has_size};
 use crate::region::regions_of;
 use crate::values::{number_of, text_at, values_at};
-use ec_map_rules::first_broken;
 use toml::{Table, Value};
+
+/// Whether `size` bytes from address `first` on begin at address `from` or later and end by address `to`, which is one
+/// past the last that they may have.
+pub fn lie_in(first: u32, size: u32, from: u32, to: u32) -> bool
+    ensures { result ≡ lie_in first size from to }
+{
+    from <= first && u64::from(first) + u64::from(size) <= u64::from(to)
+}
+
+/// The place of the first rule that is not kept.
+fn first_not_kept(kept: &[bool]) -> Option<usize>
+    ensures value { result ≡ position not kept.now }
+    ensures within { IfSome result (λ at. at < length kept.now) }
+{
+    kept.iter().position(|kept| !*kept)
+}
+
+/// The first of the eighteen rules of a map that is broken, by its number from 1, where it is told of each in order
+/// whether it is kept. None where all are.
+pub fn first_broken(kept: &[bool; 18]) -> Option<u8>
+    ensures { result ≡ first_broken kept.now }
+{
+    match first_not_kept(kept) {
+        Some(at) => Some(at as u8 + 1),
+        None => None,
+    }
+}
+
+/// The first of two regions that a block of bytes meets, where it is told of each whether it does. None where it meets
+/// neither.
+pub fn first_met<T: Copy>(meets_here: bool, here: T, meets_there: bool, there: T) -> Option<T>
+    ensures { result ≡ first_met meets_here here meets_there there }
+{
+    if meets_here {
+        Some(here)
+    } else if meets_there {
+        Some(there)
+    } else {
+        None
+    }
+}
 
 /// The ports of a map, one table each.
 pub(crate) fn ports_of(root: &Value) -> &[Value]

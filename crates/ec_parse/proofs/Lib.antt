@@ -1,2 +1,7 @@
-mod Parses
+-- For all crates above.
 pub mod Ends
+-- For this crate alone.
+mod Lists
+mod Steps
+mod StatementEnds
+mod Parses

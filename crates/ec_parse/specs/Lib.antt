@@ -1,1 +1,3 @@
+pub mod Statements
+pub mod Units
 pub mod Parse

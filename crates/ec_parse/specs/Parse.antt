@@ -1,14 +1,14 @@
 -- What a list of tokens is answered.
 use Rattle.std.specs.Prelude.{ℕ, ◌+◌, ◌-◌, ◌≡◌, List, length, Result, Ok, Err}
-use Rattle.ec_grammar.specs.declared.tree.Tree.{Tree}
+use Rattle.ec_grammar.specs.declared.Tree.{Tree}
 use Rattle.ec_grammar.specs.Tokens.{Placed}
 use Rattle.ec_grammar.specs.Trees as t
 use Rattle.ec_grammar.specs.Grammar.{Derives}
 use Rattle.ec_grammar.specs.Nesting.{Nests}
 use Rattle.ec_grammar.specs.Views.{view_tree}
-use Rattle.ec_reading.specs.Reading.{syntax, too_deep}
-use Rattle.ec_reading.specs.Laws.{tree_of}
-use Rattle.ec_reading.specs.Refusals.{StopsBehind, PassesFirstBehind}
+use Rattle.ec_parse_laws.specs.Reading.{syntax, too_deep}
+use Rattle.ec_parse_laws.specs.Laws.{tree_of}
+use Rattle.ec_parse_laws.specs.Refusals.{StopsBehind, PassesFirstBehind}
 use Rattle.ec_parse_tokens.specs.declared.stop.ReadError.{ReadError}
 use Rattle.ec_parse_tokens.specs.declared.stop.ReadError.TheVariants as errors
 use Rattle.ec_parse.specs.declared.stop.ParseStop.{ParseStop}

@@ -2,9 +2,12 @@
 #![tactic(auto)]
 
 mod parsing;
+mod statements;
 mod stop;
+mod trees;
+mod units;
 
 pub use ec_grammar::Tree;
-pub use ec_parse_units::{append, discard, discard_tree};
 pub use parsing::parse;
 pub use stop::ParseStop;
+pub use trees::{append, discard, discard_tree};

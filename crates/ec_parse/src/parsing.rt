@@ -1,19 +1,17 @@
 //! The tree of a list of tokens.
-
 ghost use Rattle.std.specs.Prelude.{◌≡◌, ◌<◌, ◌^◌, ◌⊎◌, length, Err, IfOk, IfErr};
 ghost use Rattle.ec_grammar.specs.Tokens.{view_tokens};
 ghost use Rattle.ec_grammar.specs.Trees as t;
 ghost use Rattle.ec_grammar.specs.Grammar.{Derives};
 ghost use Rattle.ec_grammar.specs.Nesting.{Nests};
 ghost use Rattle.ec_grammar.specs.Views.{view_tree};
-ghost use Rattle.ec_reading.specs.Refusals.{EndsWithEnd};
+ghost use Rattle.ec_parse_laws.specs.Refusals.{EndsWithEnd};
 ghost use Rattle.ec_parse.specs.Parse.{IsTold, IsRead, IsOnly, IsRefused, IsBadAt};
 
 use crate::stop::ParseStop;
-use ec_grammar::Token;
-use ec_grammar::tree::Tree;
+use crate::units::read;
+use ec_grammar::{Token, Tree};
 use ec_parse_tokens::{ReadError, Source};
-use ec_parse_units::read;
 use ec_space::Seq;
 use std::alloc::Global;
 

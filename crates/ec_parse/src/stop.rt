@@ -1,5 +1,4 @@
 //! Why a list of tokens has no tree.
-
 use thiserror::Error;
 
 /// Why a list of tokens has no tree, with the index of the first token that cannot be gone on with.

@@ -1,3 +1,3 @@
 mod Lists
-mod Structures
+mod StructureReading
 mod Voids

@@ -1,16 +1,16 @@
 -- Parts of parameters and initialisers, as the functions that read them see them.
 use Rattle.std.specs.Prelude.{ℕ, suc, max, List, Bool, false}
 use Rattle.ec_grammar.specs.declared.token.PunctKind.TheVariants.{RightBrace}
-use Rattle.ec_grammar.specs.declared.tree.Spot.{Spot}
-use Rattle.ec_grammar.specs.declared.tree.Spec.{Spec}
-use Rattle.ec_grammar.specs.declared.tree.Spec.TheVariants as specs
-use Rattle.ec_grammar.specs.declared.tree.NextInitialiser.{NextInitialiser}
+use Rattle.ec_grammar.specs.declared.Spot.{Spot}
+use Rattle.ec_grammar.specs.declared.Spec.{Spec}
+use Rattle.ec_grammar.specs.declared.Spec.TheVariants as specs
+use Rattle.ec_grammar.specs.declared.NextInitialiser.{NextInitialiser}
 use Rattle.ec_grammar.specs.Grammar.{is_void}
 use Rattle.ec_grammar.specs.Nesting.{height_initialiser, height_initialisers}
 use Rattle.ec_grammar.specs.Trees as t
 use Rattle.ec_grammar.specs.Trees.{Leaf}
 use Rattle.ec_grammar.specs.Views.{view_initialiser}
-use Rattle.ec_reading.specs.Reading.{Read, ◌>>=◌, expected, ends, comma_at}
+use Rattle.ec_parse_laws.specs.Reading.{Read, ◌>>=◌, expected, ends, comma_at}
 
 -- the word `void`
 abbrev pub is_void_spec : Spec → Bool

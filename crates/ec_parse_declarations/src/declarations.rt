@@ -1,7 +1,6 @@
 //! Declarators, initialisers and declarations (ISO/IEC 9899:1999, 6.7).
 //!
 //! Where a part has a height, it is answered behind the tree.
-
 ghost use Rattle.std.specs.Prelude.{◌≡◌, ◌≤◌, map, max, Ok};
 ghost use Rattle.ec_grammar.specs.Grammar.{is_void, lone_void};
 ghost use Rattle.ec_grammar.specs.Nesting.{height_list, height_option, height_shape, height_declarator};
@@ -13,22 +12,21 @@ ghost use Rattle.ec_grammar.specs.Views.{view_next_param, view_params, view_shap
 ghost use Rattle.ec_grammar.specs.Views.{views_initialisers, view_start, view_init_declarator};
 ghost use Rattle.ec_grammar.specs.Views.{view_next_init_declarator, view_declaration, view_next_declarator};
 ghost use Rattle.ec_grammar.specs.Views.{view_member, view_structure};
-ghost use Rattle.ec_reading.specs.Reading.{within, many, behind_comma, name_at, param_by, params_by, array_by};
-ghost use Rattle.ec_reading.specs.Reading.{shape_by, declarator_by, initialisers_of, initialiser_at, comma_at};
-ghost use Rattle.ec_reading.specs.Reading.{braces_by, initialiser_by, start_by, init_declarator_by, declared_by};
-ghost use Rattle.ec_reading.specs.Reading.{declaration_by, members_by, members_at, structure_by};
+ghost use Rattle.ec_parse_laws.specs.Reading.{within, many, behind_comma, name_at, param_by, params_by, array_by};
+ghost use Rattle.ec_parse_laws.specs.Reading.{shape_by, declarator_by, initialisers_of, initialiser_at, comma_at};
+ghost use Rattle.ec_parse_laws.specs.Reading.{braces_by, initialiser_by, start_by, init_declarator_by, declared_by};
+ghost use Rattle.ec_parse_laws.specs.Reading.{declaration_by, members_by, members_at, structure_by};
 ghost use Rattle.ec_parse_tokens.specs.Reads.{leaves_of, inner_at, Gives, GivesAt, Reads, ReadsAt};
 ghost use Rattle.ec_parse_expressions.specs.Heights.{IsHeight, IsNodeHeight};
 ghost use Rattle.ec_parse_declarations.specs.Parts.{is_void_spec, view_next_initialiser, braces_after};
 
-use ec_grammar::tree::{
+use crate::structures::structure_end;
+use ec_grammar::{
     Declaration, Declarator, Identifier, InitDeclarator, Initialiser, Member, NextDeclarator,
-    NextInitDeclarator, NextInitialiser, NextParam, Param, Params, Shape, Spec, Specs, Spot, Start,
-    Structure, TypeName,
+    NextInitDeclarator, NextInitialiser, NextParam, Param, Params, PunctKind, Shape, Spec, Specs,
+    Spot, Start, Structure, Token, TypeName, WordKind,
 };
-use ec_grammar::{PunctKind, Token, WordKind};
 use ec_parse_expressions::{assignment, conditional, specs, stars, type_name};
-use ec_parse_structures::structure_end;
 use ec_parse_tokens::{
     LIMIT, ReadError, Source, add, begins_specs, boxed, ended, expect, expect_name, higher, opened,
     take, take_name, take_void, unexpected,
@@ -69,7 +67,7 @@ fn is_lone_void(ty: &TypeName, name: &Option<Identifier>) -> bool
     is_void(&ty.specs.first)
 }
 
-#[tactic(auto, unfolding(ec_reading::specs::Reading::param_by))]
+#[tactic(auto, unfolding(ec_parse_laws::specs::Reading::param_by))]
 fn param(source: Source, tokens: &[Token]) -> Result<(Param, &[Token]), ReadError>
     ensures { Gives (λ x. (view_param x.0, leaves_of source.count x.1.now)) result
         (param_by (leaves_of source.count tokens.now)) }
@@ -115,7 +113,7 @@ fn more_params(source: Source, tokens: &[Token]) -> Result<(Vec<NextParam>, &[To
 }
 
 /// The parameters of a function (6.7.5.3).
-#[tactic(auto, unfolding(ec_reading::specs::Reading::params_by))]
+#[tactic(auto, unfolding(ec_parse_laws::specs::Reading::params_by))]
 fn params(source: Source, tokens: &[Token]) -> Result<(Params, &[Token]), ReadError>
     ensures { Gives (λ x. (view_params x.0, leaves_of source.count x.1.now)) result
         (params_by (leaves_of source.count tokens.now)) }
@@ -131,7 +129,7 @@ fn params(source: Source, tokens: &[Token]) -> Result<(Params, &[Token]), ReadEr
 
 // Declarators.
 
-#[tactic(auto, unfolding(ec_reading::specs::Reading::array_by))]
+#[tactic(auto, unfolding(ec_parse_laws::specs::Reading::array_by))]
 fn array(
     source: Source,
     left: u8,
@@ -155,7 +153,7 @@ fn array(
     ))
 }
 
-#[tactic(auto, unfolding(ec_reading::specs::Reading::shape_by))]
+#[tactic(auto, unfolding(ec_parse_laws::specs::Reading::shape_by))]
 fn shape(source: Source, left: u8, tokens: &[Token]) -> Result<(Shape, u8, &[Token]), ReadError>
     ensures { Reads (λ x. (view_shape x.0, leaves_of source.count x.2.now))
         (λ x. IsHeight 64 (height_shape (view_shape x.0)) x.1) result
@@ -180,7 +178,7 @@ fn shape(source: Source, left: u8, tokens: &[Token]) -> Result<(Shape, u8, &[Tok
 }
 
 /// A declarator (6.7.5), its height and the tokens after it.
-#[tactic(auto, unfolding(ec_reading::specs::Reading::declarator_by))]
+#[tactic(auto, unfolding(ec_parse_laws::specs::Reading::declarator_by))]
 pub fn declarator(
     source: Source,
     left: u8,
@@ -200,7 +198,7 @@ pub fn declarator(
 // Initialisers.
 
 #[cycle(initialisers)]
-#[tactic(auto, unfolding(ec_reading::specs::Reading::initialiser_at))]
+#[tactic(auto, unfolding(ec_parse_laws::specs::Reading::initialiser_at))]
 fn another_initialiser(
     source: Source,
     left: u8,
@@ -282,7 +280,7 @@ fn braces_end(
 }
 
 #[cycle(initialisers)]
-#[tactic(auto, unfolding(ec_reading::specs::Reading::braces_by))]
+#[tactic(auto, unfolding(ec_parse_laws::specs::Reading::braces_by))]
 fn braces(
     source: Source,
     left: u8,
@@ -304,7 +302,7 @@ fn braces(
 
 /// An initialiser (6.7.8).
 #[cycle(initialisers)]
-#[tactic(auto, unfolding(ec_reading::specs::Reading::initialiser_by))]
+#[tactic(auto, unfolding(ec_parse_laws::specs::Reading::initialiser_by))]
 fn initialiser(
     source: Source,
     left: u8,
@@ -324,7 +322,7 @@ fn initialiser(
     Ok((Initialiser::Value(Box::into_inner(value)), height, rest))
 }
 
-#[tactic(auto, unfolding(ec_reading::specs::Reading::start_by))]
+#[tactic(auto, unfolding(ec_parse_laws::specs::Reading::start_by))]
 fn start(
     source: Source,
     left: u8,
@@ -363,7 +361,7 @@ fn initialised(
     Ok((tree, higher(declarator_height, height), rest))
 }
 
-#[tactic(auto, unfolding(ec_reading::specs::Reading::init_declarator_by))]
+#[tactic(auto, unfolding(ec_parse_laws::specs::Reading::init_declarator_by))]
 fn init_declarator(
     source: Source,
     left: u8,
@@ -422,7 +420,7 @@ fn more_init_declarators(
 
 /// The declaration whose specifiers and first declarator, which is of such a height, stand before the tokens; its
 /// height and the tokens after it.
-#[tactic(auto, unfolding(ec_reading::specs::Reading::declared_by))]
+#[tactic(auto, unfolding(ec_parse_laws::specs::Reading::declared_by))]
 pub fn declared(
     source: Source,
     left: u8,
@@ -457,7 +455,7 @@ pub fn declared(
 }
 
 /// A declaration (6.7), its height and the tokens after it.
-#[tactic(auto, unfolding(ec_reading::specs::Reading::declaration_by))]
+#[tactic(auto, unfolding(ec_parse_laws::specs::Reading::declaration_by))]
 pub fn declaration(
     source: Source,
     left: u8,
@@ -512,7 +510,7 @@ fn more_declarators(
 }
 
 /// A declaration of members of a struct (6.7.2.1).
-#[tactic(auto, unfolding(ec_reading::specs::Reading::members_by))]
+#[tactic(auto, unfolding(ec_parse_laws::specs::Reading::members_by))]
 fn member(source: Source, left: u8, tokens: &[Token]) -> Result<(Box<Member>, &[Token]), ReadError>
     ensures { Gives (λ x. (view_member x.0.value, leaves_of source.count x.1.now)) result
         (members_by (within 64 left) (leaves_of source.count tokens.now)) }
@@ -531,7 +529,7 @@ fn member(source: Source, left: u8, tokens: &[Token]) -> Result<(Box<Member>, &[
     Ok((tree, rest))
 }
 
-#[tactic(auto, unfolding(ec_reading::specs::Reading::members_at))]
+#[tactic(auto, unfolding(ec_parse_laws::specs::Reading::members_at))]
 fn another_member(
     source: Source,
     left: u8,
@@ -570,7 +568,7 @@ fn more_members(
 }
 
 /// The definition of a struct (6.7.2.1) that has begun, and the tokens after it.
-#[tactic(auto, unfolding(ec_reading::specs::Reading::structure_by))]
+#[tactic(auto, unfolding(ec_parse_laws::specs::Reading::structure_by))]
 pub fn structure(
     source: Source,
     left: u8,

@@ -5,5 +5,7 @@
 #![tactic(auto)]
 
 mod declarations;
+mod structures;
 
 pub use declarations::{declaration, declarator, declared, structure};
+pub use structures::structure_head;

@@ -1,3 +1,5 @@
+-- For the crates of the family.
 pub mod Many
+-- For this crate alone.
 mod Rows
 mod Steps

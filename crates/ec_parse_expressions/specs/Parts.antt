@@ -1,16 +1,16 @@
 -- Parts of expressions, as the functions that read them see them.
 use Rattle.std.specs.Prelude.{ℕ, suc, max, ◌≡◌, List, length, Some, None, Result, Ok, Err}
 use Rattle.ec_grammar.specs.declared.token.PunctKind.TheVariants.{RightParenthesis, RightBracket}
-use Rattle.ec_grammar.specs.declared.tree.Spot.{Spot}
-use Rattle.ec_grammar.specs.declared.tree.Operation.{Operation}
-use Rattle.ec_grammar.specs.declared.tree.Argument.{Argument}
-use Rattle.ec_grammar.specs.declared.tree.Unary.{Unary}
-use Rattle.ec_grammar.specs.declared.tree.Conditional.{Conditional}
+use Rattle.ec_grammar.specs.declared.Spot.{Spot}
+use Rattle.ec_grammar.specs.declared.Operation.{Operation}
+use Rattle.ec_grammar.specs.declared.Argument.{Argument}
+use Rattle.ec_grammar.specs.declared.Unary.{Unary}
+use Rattle.ec_grammar.specs.declared.Conditional.{Conditional}
 use Rattle.ec_grammar.specs.Nesting.{height_further, height_expression, height_postfix, height_arguments}
 use Rattle.ec_grammar.specs.Trees as t
 use Rattle.ec_grammar.specs.Trees.{Leaf}
 use Rattle.ec_grammar.specs.Views.{view_assignment, view_unary, view_conditional}
-use Rattle.ec_reading.specs.Reading.{Read, ◌>>=◌, when, leaf_if, name_of, constant_of, syntax, expected, ends, unary_of}
+use Rattle.ec_parse_laws.specs.Reading.{Read, ◌>>=◌, when, leaf_if, name_of, constant_of, syntax, expected, ends, unary_of}
 
 -- an argument behind its comma
 abbrev pub view_argument : Argument → Spot × t.Assignment

@@ -2,7 +2,6 @@
 //!
 //! A function answers the tree, its height and the tokens after it. Its `left` says how many constructs may still be
 //! opened, and its `room` what height the nodes around, as far as they may end with this one, leave to it.
-
 ghost use Rattle.std.specs.Prelude.{◌≡◌, ◌-◌, ◌<◌, ◌≤◌, suc, max, map, Ok};
 ghost use Rattle.ec_grammar.specs.Nesting.{height_expression, height_assignment, height_conditional, height_binary};
 ghost use Rattle.ec_grammar.specs.Nesting.{height_cast, height_unary, height_postfix, height_arguments, height_further};
@@ -11,22 +10,21 @@ ghost use Rattle.ec_grammar.specs.Trees as t;
 ghost use Rattle.ec_grammar.specs.Views.{view_expression, view_assignment, view_conditional, view_binary, view_cast};
 ghost use Rattle.ec_grammar.specs.Views.{view_unary, view_postfix, view_arguments, view_primary, view_identifier};
 ghost use Rattle.ec_grammar.specs.Views.{view_type_name};
-ghost use Rattle.ec_reading.specs.Reading.{within, ends, argument_at, further_by, further_of, arguments_by};
-ghost use Rattle.ec_reading.specs.Reading.{operation_by, primary_by, index_by, call_by, member_by, suffix_by};
-ghost use Rattle.ec_reading.specs.Reading.{suffixes_by, postfix_by, size_by, unary_by, cast_by, joins_by, binary_by};
-ghost use Rattle.ec_reading.specs.Reading.{choice_by, conditional_by, assigned_by, assignment_by, commas_by};
-ghost use Rattle.ec_reading.specs.Reading.{expression_by};
+ghost use Rattle.ec_parse_laws.specs.Reading.{within, ends, argument_at, further_by, further_of, arguments_by};
+ghost use Rattle.ec_parse_laws.specs.Reading.{operation_by, primary_by, index_by, call_by, member_by, suffix_by};
+ghost use Rattle.ec_parse_laws.specs.Reading.{suffixes_by, postfix_by, size_by, unary_by, cast_by, joins_by, binary_by};
+ghost use Rattle.ec_parse_laws.specs.Reading.{choice_by, conditional_by, assigned_by, assignment_by, commas_by};
+ghost use Rattle.ec_parse_laws.specs.Reading.{expression_by};
 ghost use Rattle.ec_parse_tokens.specs.Reads.{leaves_of, inner_at, made, Reads, ReadsAt, Builds};
 ghost use Rattle.ec_parse_expressions.specs.Heights.{IsHeight, IsNodeHeight, IsBehind, HasRoom, HasRoomAbove};
 ghost use Rattle.ec_parse_expressions.specs.Parts.{Parts, view_argument, operation_after, parenthesised_after, atom_by};
 ghost use Rattle.ec_parse_expressions.specs.Parts.{index_after, call_after};
 
 use crate::types::type_name;
-use ec_grammar::tree::{
+use ec_grammar::{
     Argument, Arguments, Assignment, Binary, Cast, Conditional, Expression, Identifier, Operation,
-    Postfix, Primary, Spot, TypeName, Unary,
+    Postfix, Primary, PunctKind, Spot, Token, TypeName, Unary, WordKind,
 };
-use ec_grammar::{PunctKind, Token, WordKind};
 use ec_parse_tokens::{
     CHAIN, LIMIT, ReadError, Source, begun_expression, boxed, ended, expect, expect_name, higher,
     opened, room_behind, take, take_access, take_assign, take_cast, take_constant, take_level,
@@ -55,7 +53,7 @@ fn argument(
 
 /// Arguments that follow another one, and their height.
 #[cycle(expressions)]
-#[tactic(auto, unfolding(ec_reading::specs::Reading::further_by))]
+#[tactic(auto, unfolding(ec_parse_laws::specs::Reading::further_by))]
 fn further(
     source: Source,
     left: u8,
@@ -86,7 +84,7 @@ fn some_arguments(first: Assignment, more: Vec<Argument>) -> Arguments
 }
 
 #[cycle(expressions)]
-#[tactic(auto, unfolding(ec_reading::specs::Reading::arguments_by))]
+#[tactic(auto, unfolding(ec_parse_laws::specs::Reading::arguments_by))]
 fn arguments(
     source: Source,
     left: u8,
@@ -132,7 +130,7 @@ fn operation_end(
 }
 
 #[cycle(expressions)]
-#[tactic(auto, unfolding(ec_reading::specs::Reading::operation_by))]
+#[tactic(auto, unfolding(ec_parse_laws::specs::Reading::operation_by))]
 fn operation(
     source: Source,
     left: u8,
@@ -191,7 +189,7 @@ fn atom(source: Source, room: u8, tokens: &[Token]) -> Result<(Primary, u8, &[To
 }
 
 #[cycle(expressions)]
-#[tactic(auto, unfolding(ec_reading::specs::Reading::primary_by))]
+#[tactic(auto, unfolding(ec_parse_laws::specs::Reading::primary_by))]
 fn primary(
     source: Source,
     left: u8,
@@ -241,7 +239,7 @@ fn index_end(
 }
 
 #[cycle(expressions)]
-#[tactic(auto, unfolding(ec_reading::specs::Reading::index_by))]
+#[tactic(auto, unfolding(ec_parse_laws::specs::Reading::index_by))]
 fn index(
     source: Source,
     left: u8,
@@ -296,7 +294,7 @@ fn call_end(
 }
 
 #[cycle(expressions)]
-#[tactic(auto, unfolding(ec_reading::specs::Reading::call_by))]
+#[tactic(auto, unfolding(ec_parse_laws::specs::Reading::call_by))]
 fn call(
     source: Source,
     left: u8,
@@ -325,7 +323,7 @@ fn call(
     )
 }
 
-#[tactic(auto, unfolding(ec_reading::specs::Reading::member_by))]
+#[tactic(auto, unfolding(ec_parse_laws::specs::Reading::member_by))]
 fn member(
     source: Source,
     room: u8,
@@ -368,7 +366,7 @@ fn stepped(
 
 /// What the suffixes that follow make of an expression: there are at most so many.
 #[cycle(expressions)]
-#[tactic(auto, unfolding(ec_reading::specs::Reading::suffixes_by, ec_reading::specs::Reading::suffix_by))]
+#[tactic(auto, unfolding(ec_parse_laws::specs::Reading::suffixes_by, ec_parse_laws::specs::Reading::suffix_by))]
 fn suffixes(
     source: Source,
     left: u8,
@@ -406,7 +404,7 @@ fn suffixes(
 }
 
 #[cycle(expressions)]
-#[tactic(auto, unfolding(ec_reading::specs::Reading::postfix_by))]
+#[tactic(auto, unfolding(ec_parse_laws::specs::Reading::postfix_by))]
 fn postfix(
     source: Source,
     left: u8,
@@ -425,7 +423,7 @@ fn postfix(
 
 // Unary expressions and casts.
 
-#[tactic(auto, unfolding(ec_reading::specs::Reading::size_by))]
+#[tactic(auto, unfolding(ec_parse_laws::specs::Reading::size_by))]
 fn size(
     source: Source,
     left: u8,
@@ -487,7 +485,7 @@ fn stepped_first(
 }
 
 #[cycle(expressions)]
-#[tactic(auto, unfolding(ec_reading::specs::Reading::unary_by))]
+#[tactic(auto, unfolding(ec_parse_laws::specs::Reading::unary_by))]
 fn unary(
     source: Source,
     left: u8,
@@ -538,7 +536,7 @@ fn converted(
 }
 
 #[cycle(expressions)]
-#[tactic(auto, unfolding(ec_reading::specs::Reading::cast_by))]
+#[tactic(auto, unfolding(ec_parse_laws::specs::Reading::cast_by))]
 fn cast(
     source: Source,
     left: u8,
@@ -585,7 +583,7 @@ fn joined(
 
 /// What the operators of a level that follow make of an expression: there are at most so many.
 #[cycle(expressions)]
-#[tactic(auto, unfolding(ec_reading::specs::Reading::joins_by))]
+#[tactic(auto, unfolding(ec_parse_laws::specs::Reading::joins_by))]
 fn joins(
     source: Source,
     left: u8,
@@ -625,7 +623,7 @@ fn joins(
 
 /// Casts joined by the operators up to a level.
 #[cycle(expressions)]
-#[tactic(auto, unfolding(ec_reading::specs::Reading::binary_by))]
+#[tactic(auto, unfolding(ec_parse_laws::specs::Reading::binary_by))]
 fn binary(
     source: Source,
     left: u8,
@@ -675,7 +673,7 @@ fn chosen(
 }
 
 #[cycle(expressions)]
-#[tactic(auto, unfolding(ec_reading::specs::Reading::choice_by))]
+#[tactic(auto, unfolding(ec_parse_laws::specs::Reading::choice_by))]
 fn choice(
     source: Source,
     left: u8,
@@ -702,7 +700,7 @@ fn choice(
 
 /// A conditional expression (6.5.15).
 #[cycle(expressions)]
-#[tactic(auto, unfolding(ec_reading::specs::Reading::conditional_by))]
+#[tactic(auto, unfolding(ec_parse_laws::specs::Reading::conditional_by))]
 pub fn conditional(
     source: Source,
     left: u8,
@@ -755,7 +753,7 @@ fn assigns(
 }
 
 #[cycle(expressions)]
-#[tactic(auto, unfolding(ec_reading::specs::Reading::assigned_by))]
+#[tactic(auto, unfolding(ec_parse_laws::specs::Reading::assigned_by))]
 fn assigned(
     source: Source,
     left: u8,
@@ -790,7 +788,7 @@ fn assigned(
 
 /// An assignment expression (6.5.16). An operator that follows no unary expression is left.
 #[cycle(expressions)]
-#[tactic(auto, unfolding(ec_reading::specs::Reading::assignment_by))]
+#[tactic(auto, unfolding(ec_parse_laws::specs::Reading::assignment_by))]
 pub fn assignment(
     source: Source,
     left: u8,
@@ -837,7 +835,7 @@ fn with_comma(
 
 /// What the commas that follow make of an expression: there are at most so many.
 #[cycle(expressions)]
-#[tactic(auto, unfolding(ec_reading::specs::Reading::commas_by))]
+#[tactic(auto, unfolding(ec_parse_laws::specs::Reading::commas_by))]
 fn commas(
     source: Source,
     left: u8,
@@ -874,7 +872,7 @@ fn commas(
 
 /// An expression (6.5.17).
 #[cycle(expressions)]
-#[tactic(auto, unfolding(ec_reading::specs::Reading::expression_by))]
+#[tactic(auto, unfolding(ec_parse_laws::specs::Reading::expression_by))]
 pub fn expression(
     source: Source,
     left: u8,

@@ -1,12 +1,10 @@
 //! Specifiers and type names (ISO/IEC 9899:1999, 6.7.1 to 6.7.3, 6.7.5.1 and 6.7.6).
-
 ghost use Rattle.std.specs.Prelude.{◌≡◌, map};
 ghost use Rattle.ec_grammar.specs.Views.{view_star, view_spec, view_specs, view_type_name};
-ghost use Rattle.ec_reading.specs.Reading.{many, qualifier_at, star_at, spec_at, specs_by, type_name_by};
+ghost use Rattle.ec_parse_laws.specs.Reading.{many, qualifier_at, star_at, spec_at, specs_by, type_name_by};
 ghost use Rattle.ec_parse_tokens.specs.Reads.{leaves_of, Gives, GivesAt};
 
-use ec_grammar::tree::{Qualifier, Spec, Specs, Star, TypeName};
-use ec_grammar::{PunctKind, Token, WordKind};
+use ec_grammar::{PunctKind, Qualifier, Spec, Specs, Star, Token, TypeName, WordKind};
 use ec_parse_tokens::{
     ReadError, Source, boxed, expect_name, take, take_qualifier, take_spec_word, take_word,
     unexpected,
@@ -39,7 +37,7 @@ fn qualifiers(source: Source, tokens: &[Token]) -> Result<(Vec<Qualifier>, &[Tok
     Ok((all, rest))
 }
 
-#[tactic(auto, unfolding(ec_reading::specs::Reading::star_at))]
+#[tactic(auto, unfolding(ec_parse_laws::specs::Reading::star_at))]
 fn star(source: Source, tokens: &[Token]) -> Result<Option<(Star, &[Token])>, ReadError>
     ensures { GivesAt (λ x. (view_star x.0, leaves_of source.count x.1.now)) result
         (star_at (leaves_of source.count tokens.now)) }
@@ -69,7 +67,7 @@ pub fn stars(source: Source, tokens: &[Token]) -> Result<(Vec<Star>, &[Token]), 
     Ok((all, rest))
 }
 
-#[tactic(auto, unfolding(ec_reading::specs::Reading::spec_at))]
+#[tactic(auto, unfolding(ec_parse_laws::specs::Reading::spec_at))]
 fn spec(source: Source, tokens: &[Token]) -> Result<Option<(Spec, &[Token])>, ReadError>
     ensures { GivesAt (λ x. (view_spec x.0, leaves_of source.count x.1.now)) result
         (spec_at (leaves_of source.count tokens.now)) }
@@ -102,7 +100,7 @@ fn more_specs(source: Source, tokens: &[Token]) -> Result<(Vec<Spec>, &[Token]),
 }
 
 /// The specifiers of a declaration, of which there is one at least (6.7).
-#[tactic(auto, unfolding(ec_reading::specs::Reading::specs_by))]
+#[tactic(auto, unfolding(ec_parse_laws::specs::Reading::specs_by))]
 pub fn specs(source: Source, tokens: &[Token]) -> Result<(Box<Specs>, &[Token]), ReadError>
     ensures { Gives (λ x. (view_specs x.0.value, leaves_of source.count x.1.now)) result
         (specs_by (leaves_of source.count tokens.now)) }
@@ -116,7 +114,7 @@ pub fn specs(source: Source, tokens: &[Token]) -> Result<(Box<Specs>, &[Token]),
 }
 
 /// A type name (6.7.6).
-#[tactic(auto, unfolding(ec_reading::specs::Reading::type_name_by))]
+#[tactic(auto, unfolding(ec_parse_laws::specs::Reading::type_name_by))]
 pub fn type_name(source: Source, tokens: &[Token]) -> Result<(Box<TypeName>, &[Token]), ReadError>
     ensures { Gives (λ x. (view_type_name x.0.value, leaves_of source.count x.1.now)) result
         (type_name_by (leaves_of source.count tokens.now)) }

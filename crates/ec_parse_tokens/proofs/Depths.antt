@@ -1,6 +1,6 @@
 -- How many constructs may be opened.
 use Rattle.std.proofs.Common.{◌≡◌, ℕ, zero, suc, ◌-◌, ◌<◌, Some, None, refl, ap, arith}
-use Rattle.ec_reading.specs.Reading.{opened_at}
+use Rattle.ec_parse_laws.specs.Reading.{opened_at}
 use Rattle.ec_parse_tokens.proofs.Leaves.{length_leaves}
 use Rattle.ec_parse_tokens.specs.Reads.{inner_at}
 

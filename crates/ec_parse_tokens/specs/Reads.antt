@@ -5,14 +5,14 @@ use Rattle.ec_space.specs.declared.seq.NoMemory.{NoMemory}
 use Rattle.ec_grammar.specs.declared.token.PragmaKind.{PragmaKind}
 use Rattle.ec_grammar.specs.declared.token.PragmaState.{PragmaState}
 use Rattle.ec_grammar.specs.declared.token.Token.{Token}
-use Rattle.ec_grammar.specs.declared.tree.Pragma.{Pragma}
-use Rattle.ec_grammar.specs.declared.tree.Spot.{Spot}
+use Rattle.ec_grammar.specs.declared.Pragma.{Pragma}
+use Rattle.ec_grammar.specs.declared.Spot.{Spot}
 use Rattle.ec_grammar.specs.Tokens.{view_kind, Lexeme}
 use Rattle.ec_grammar.specs.Trees.{Leaf}
-use Rattle.ec_reading.specs.Reading.{Fault, syntax, too_deep, first_is, Inner, within, opened_at}
-use Rattle.ec_reading.specs.Reading.{expression_by, assignment_by, conditional_by, cast_by, unary_by, initialiser_by}
-use Rattle.ec_reading.specs.Reading.{declaration_by, statement_by, compound_by}
-use Rattle.ec_reading.specs.Reading as reading
+use Rattle.ec_parse_laws.specs.Reading.{Fault, syntax, too_deep, first_is, Inner, within, opened_at}
+use Rattle.ec_parse_laws.specs.Reading.{expression_by, assignment_by, conditional_by, cast_by, unary_by, initialiser_by}
+use Rattle.ec_parse_laws.specs.Reading.{declaration_by, statement_by, compound_by}
+use Rattle.ec_parse_laws.specs.Reading as reading
 use Rattle.ec_parse_tokens.specs.declared.stop.ReadError.{ReadError}
 use Rattle.ec_parse_tokens.specs.declared.stop.ReadError.TheVariants as errors
 use Rattle.ec_parse_tokens.specs.declared.tokens.Keyword.{Keyword}

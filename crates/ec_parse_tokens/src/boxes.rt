@@ -1,5 +1,4 @@
 //! Trees on the heap.
-
 ghost use Rattle.std.specs.Prelude.{◌≡◌, [], ◌∷◌, ◌++◌, IfOk, IfErr};
 ghost use Rattle.ec_parse_tokens.specs.declared.stop.ReadError.TheVariants.{NoMemory as OutOfMemory};
 

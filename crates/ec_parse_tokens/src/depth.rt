@@ -1,8 +1,7 @@
 //! The limit of nesting, which is this translator's own (ISO/IEC 9899:1999, 5.2.4.1, leaves such limits to it): 64
 //! constructs open at once, and expressions, initialisers and statements of height 64.
-
 ghost use Rattle.std.specs.Prelude.{◌≡◌, ◌+◌, ◌<◌, ◌≤◌, ◌⊎◌, max};
-ghost use Rattle.ec_reading.specs.Reading.{room_after, starts_lexeme, starts_statement, is_brace};
+ghost use Rattle.ec_parse_laws.specs.Reading.{room_after, starts_lexeme, starts_statement, is_brace};
 ghost use Rattle.ec_parse_tokens.specs.Reads.{leaves_of, Opens, BeginsIf, Begins, Ends, IsTooLong};
 
 use crate::stop::ReadError;
@@ -16,7 +15,7 @@ pub const LIMIT: u8 = 64;
 pub const CHAIN: u8 = LIMIT + 2;
 
 /// How many constructs may be opened inside one that the token before opens, where so many are left.
-#[tactic(auto, using(crate::proofs::Depths::depths), unfolding(ec_reading::specs::Reading::opened_at))]
+#[tactic(auto, using(crate::proofs::Depths::depths), unfolding(ec_parse_laws::specs::Reading::opened_at))]
 pub fn opened(source: Source, left: u8, tokens: &[Token]) -> Result<u8, ReadError>
     ensures { Opens left result (leaves_of source.count tokens.now) }
 {
@@ -27,7 +26,7 @@ pub fn opened(source: Source, left: u8, tokens: &[Token]) -> Result<u8, ReadErro
 }
 
 /// The same where the first token opens it, if a construct can begin with that token.
-#[tactic(auto, using(crate::proofs::Depths::depths), unfolding(ec_reading::specs::Reading::opened_at))]
+#[tactic(auto, using(crate::proofs::Depths::depths), unfolding(ec_parse_laws::specs::Reading::opened_at))]
 fn begun(source: Source, left: u8, starts: bool, tokens: &[Token]) -> Result<u8, ReadError>
     ensures { BeginsIf starts left result (leaves_of source.count tokens.now) }
 {

@@ -9,8 +9,10 @@
 
 mod boxes;
 mod depth;
+mod punctuators;
 mod stop;
 mod tokens;
+mod words;
 
 pub use boxes::{add, boxed};
 pub use depth::{

@@ -1,5 +1,4 @@
 //! Why reading stops.
-
 ghost use Rattle.std.specs.Prelude.{◌≡◌};
 ghost use Rattle.ec_parse_tokens.specs.declared.stop.ReadError.TheVariants.{NoMemory as OutOfMemory};
 

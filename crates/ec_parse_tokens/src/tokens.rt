@@ -1,22 +1,23 @@
 //! The tokens that are still to be read, and tests of the first of them.
-
 ghost use Rattle.std.specs.Prelude.{◌≡◌, ◌==◌, ◌-◌, suc, length, option_map, IsTrue, IfOk};
 ghost use Rattle.ec_grammar.specs.Grammar.{is_qualifier, is_spec_word, is_assign, is_step, is_prefix, is_access};
 ghost use Rattle.ec_grammar.specs.Tokens.{view_kind};
 ghost use Rattle.ec_grammar.specs.Views.{view_identifier};
-ghost use Rattle.ec_reading.specs.Codes.{same_punct, same_word};
-ghost use Rattle.ec_reading.specs.Reading.{leaf_if, punct_if, word_if, name_of, constant_of, operation_of, end_of};
-ghost use Rattle.ec_reading.specs.Reading.{keyword_of, taken, taken_word, needed, expected, expected_word, identifier};
-ghost use Rattle.ec_reading.specs.Reading.{at_level, starts_specs, first_is, starts_punct, starts_lexeme};
-ghost use Rattle.ec_reading.specs.Reading.{starts_statement_punct, starts_statement, is_brace, cast_at, void_at};
-ghost use Rattle.ec_reading.specs.Reading.{pragma_of, keyword_of_word, is_some};
+ghost use Rattle.ec_parse_laws.specs.Codes.{same_punct, same_word};
+ghost use Rattle.ec_parse_laws.specs.Reading.{leaf_if, punct_if, word_if, name_of, constant_of, operation_of, end_of};
+ghost use Rattle.ec_parse_laws.specs.Reading.{keyword_of, taken, taken_word, needed, expected, expected_word, identifier};
+ghost use Rattle.ec_parse_laws.specs.Reading.{at_level, starts_specs, first_is, starts_punct, starts_lexeme};
+ghost use Rattle.ec_parse_laws.specs.Reading.{starts_statement_punct, starts_statement, is_brace, cast_at, void_at};
+ghost use Rattle.ec_parse_laws.specs.Reading.{pragma_of, keyword_of_word, is_some};
 ghost use Rattle.ec_parse_tokens.specs.Reads.{leaves_of, Gives, GivesFirst, view_keyword, pragma_at_spot, IsThere};
 ghost use Rattle.ec_parse_tokens.specs.Reads.{IsUnexpected};
 
+use crate::punctuators::{is_access, is_assign, is_prefix, is_step, level};
 use crate::stop::ReadError;
-use ec_grammar::tree::{Constant, Identifier, Operation, Pragma, Spot};
-use ec_grammar::{PunctKind, Token, TokenKind, WordKind};
-use ec_parse_kinds::{is_access, is_assign, is_prefix, is_qualifier, is_spec_word, is_step, level};
+use crate::words::{is_qualifier, is_spec_word};
+use ec_grammar::{
+    Constant, Identifier, Operation, Pragma, PunctKind, Spot, Token, TokenKind, WordKind,
+};
 use ec_space::{Name, NoMemory, Seq};
 use std::alloc::Global;
 
@@ -60,7 +61,7 @@ fn is_punct(found: PunctKind, wanted: PunctKind) -> bool
 }
 
 /// This punctuator, where it stands first, and the tokens after it.
-#[tactic(auto, unfolding(ec_reading::specs::Reading::leaf_if))]
+#[tactic(auto, unfolding(ec_parse_laws::specs::Reading::leaf_if))]
 pub fn take(source: Source, tokens: &[Token], wanted: PunctKind) -> Option<(Spot, &[Token])>
     ensures { option_map (λ x. (x.0, wanted, leaves_of source.count x.1.now)) result
         ≡ taken wanted (leaves_of source.count tokens.now) }
@@ -93,7 +94,7 @@ pub fn expect(
 }
 
 /// An operator before a cast expression.
-#[tactic(auto, unfolding(ec_reading::specs::Reading::leaf_if))]
+#[tactic(auto, unfolding(ec_parse_laws::specs::Reading::leaf_if))]
 pub fn take_prefix(source: Source, tokens: &[Token]) -> Option<(Spot, PunctKind, &[Token])>
     ensures { option_map (λ x. (x.0, x.1, leaves_of source.count x.2.now)) result
         ≡ leaf_if (punct_if is_prefix) (leaves_of source.count tokens.now) }
@@ -111,7 +112,7 @@ pub fn take_prefix(source: Source, tokens: &[Token]) -> Option<(Spot, PunctKind,
 }
 
 /// `++` or `--`.
-#[tactic(auto, unfolding(ec_reading::specs::Reading::leaf_if))]
+#[tactic(auto, unfolding(ec_parse_laws::specs::Reading::leaf_if))]
 pub fn take_step(source: Source, tokens: &[Token]) -> Option<(Spot, PunctKind, &[Token])>
     ensures { option_map (λ x. (x.0, x.1, leaves_of source.count x.2.now)) result
         ≡ leaf_if (punct_if is_step) (leaves_of source.count tokens.now) }
@@ -129,7 +130,7 @@ pub fn take_step(source: Source, tokens: &[Token]) -> Option<(Spot, PunctKind, &
 }
 
 /// `.` or `->`.
-#[tactic(auto, unfolding(ec_reading::specs::Reading::leaf_if))]
+#[tactic(auto, unfolding(ec_parse_laws::specs::Reading::leaf_if))]
 pub fn take_access(source: Source, tokens: &[Token]) -> Option<(Spot, PunctKind, &[Token])>
     ensures { option_map (λ x. (x.0, x.1, leaves_of source.count x.2.now)) result
         ≡ leaf_if (punct_if is_access) (leaves_of source.count tokens.now) }
@@ -147,7 +148,7 @@ pub fn take_access(source: Source, tokens: &[Token]) -> Option<(Spot, PunctKind,
 }
 
 /// An assignment operator.
-#[tactic(auto, unfolding(ec_reading::specs::Reading::leaf_if))]
+#[tactic(auto, unfolding(ec_parse_laws::specs::Reading::leaf_if))]
 pub fn take_assign(source: Source, tokens: &[Token]) -> Option<(Spot, PunctKind, &[Token])>
     ensures { option_map (λ x. (x.0, x.1, leaves_of source.count x.2.now)) result
         ≡ leaf_if (punct_if is_assign) (leaves_of source.count tokens.now) }
@@ -165,7 +166,7 @@ pub fn take_assign(source: Source, tokens: &[Token]) -> Option<(Spot, PunctKind,
 }
 
 /// A binary operator of this level.
-#[tactic(auto, unfolding(ec_reading::specs::Reading::leaf_if))]
+#[tactic(auto, unfolding(ec_parse_laws::specs::Reading::leaf_if))]
 pub fn take_level(
     source: Source,
     tokens: &[Token],
@@ -196,7 +197,7 @@ fn is_word(found: WordKind, wanted: WordKind) -> bool
 }
 
 /// This word, where it stands first, and the tokens after it.
-#[tactic(auto, unfolding(ec_reading::specs::Reading::leaf_if))]
+#[tactic(auto, unfolding(ec_parse_laws::specs::Reading::leaf_if))]
 pub fn take_word(source: Source, tokens: &[Token], wanted: WordKind) -> Option<(Spot, &[Token])>
     ensures { option_map (λ x. (x.0, wanted, leaves_of source.count x.1.now)) result
         ≡ taken_word wanted (leaves_of source.count tokens.now) }
@@ -229,7 +230,7 @@ pub fn expect_word(
 }
 
 /// A qualifier.
-#[tactic(auto, unfolding(ec_reading::specs::Reading::leaf_if))]
+#[tactic(auto, unfolding(ec_parse_laws::specs::Reading::leaf_if))]
 pub fn take_qualifier(source: Source, tokens: &[Token]) -> Option<(Spot, WordKind, &[Token])>
     ensures { option_map (λ x. (x.0, x.1, leaves_of source.count x.2.now)) result
         ≡ leaf_if (word_if is_qualifier) (leaves_of source.count tokens.now) }
@@ -247,7 +248,7 @@ pub fn take_qualifier(source: Source, tokens: &[Token]) -> Option<(Spot, WordKin
 }
 
 /// A specifier but for `struct`.
-#[tactic(auto, unfolding(ec_reading::specs::Reading::leaf_if))]
+#[tactic(auto, unfolding(ec_parse_laws::specs::Reading::leaf_if))]
 pub fn take_spec_word(source: Source, tokens: &[Token]) -> Option<(Spot, WordKind, &[Token])>
     ensures { option_map (λ x. (x.0, x.1, leaves_of source.count x.2.now)) result
         ≡ leaf_if (word_if is_spec_word) (leaves_of source.count tokens.now) }
@@ -271,7 +272,7 @@ fn starts_specs(word: WordKind) -> bool
 }
 
 /// Whether specifiers begin here.
-#[tactic(auto, unfolding(ec_reading::specs::Reading::leaf_if))]
+#[tactic(auto, unfolding(ec_parse_laws::specs::Reading::leaf_if))]
 pub fn begins_specs(source: Source, tokens: &[Token]) -> bool
     ensures { IsThere result (leaf_if (word_if starts_specs) (leaves_of source.count tokens.now)) }
 {
@@ -321,7 +322,7 @@ fn keyword_of(word: WordKind) -> Option<Keyword>
 }
 
 /// A word that begins a statement.
-#[tactic(auto, unfolding(ec_reading::specs::Reading::leaf_if))]
+#[tactic(auto, unfolding(ec_parse_laws::specs::Reading::leaf_if))]
 pub fn take_keyword(source: Source, tokens: &[Token]) -> Option<(Spot, Keyword, &[Token])>
     ensures { option_map (λ x. (x.0, view_keyword x.1, leaves_of source.count x.2.now)) result
         ≡ leaf_if keyword_of (leaves_of source.count tokens.now) }
@@ -351,7 +352,7 @@ fn copied(alloc: Global, name: &Name) -> Result<Name, NoMemory>
 }
 
 /// An identifier (6.4.2.1).
-#[tactic(auto, unfolding(ec_reading::specs::Reading::leaf_if))]
+#[tactic(auto, unfolding(ec_parse_laws::specs::Reading::leaf_if))]
 pub fn take_name(
     source: Source,
     tokens: &[Token],
@@ -387,7 +388,7 @@ pub fn expect_name(source: Source, tokens: &[Token]) -> Result<(Identifier, &[To
 }
 
 /// A constant (6.4.4; TR 18037, 4.1.5).
-#[tactic(auto, unfolding(ec_reading::specs::Reading::leaf_if))]
+#[tactic(auto, unfolding(ec_parse_laws::specs::Reading::leaf_if))]
 pub fn take_constant(source: Source, tokens: &[Token]) -> Option<(Spot, Constant, &[Token])>
     ensures { option_map (λ x. (x.0, x.1, leaves_of source.count x.2.now)) result
         ≡ leaf_if constant_of (leaves_of source.count tokens.now) }
@@ -426,7 +427,7 @@ pub fn take_constant(source: Source, tokens: &[Token]) -> Option<(Spot, Constant
 }
 
 /// The name of an operation of `<iohw.h>` (TR 18037, 6).
-#[tactic(auto, unfolding(ec_reading::specs::Reading::leaf_if))]
+#[tactic(auto, unfolding(ec_parse_laws::specs::Reading::leaf_if))]
 pub fn take_operation(source: Source, tokens: &[Token]) -> Option<(Spot, Operation, &[Token])>
     ensures { option_map (λ x. (x.0, x.1, leaves_of source.count x.2.now)) result
         ≡ leaf_if operation_of (leaves_of source.count tokens.now) }
@@ -451,7 +452,7 @@ pub fn take_operation(source: Source, tokens: &[Token]) -> Option<(Spot, Operati
 }
 
 /// A pragma (TR 18037, 4.1.3 and 4.1.7).
-#[tactic(auto, unfolding(ec_reading::specs::Reading::leaf_if))]
+#[tactic(auto, unfolding(ec_parse_laws::specs::Reading::leaf_if))]
 pub fn take_pragma(source: Source, tokens: &[Token]) -> Option<(Pragma, &[Token])>
     ensures { option_map (λ x. (x.0.spot, pragma_at_spot x.0.which x.0.state, leaves_of source.count x.1.now)) result
         ≡ leaf_if pragma_of (leaves_of source.count tokens.now) }
@@ -476,7 +477,7 @@ pub fn take_pragma(source: Source, tokens: &[Token]) -> Option<(Pragma, &[Token]
 }
 
 /// The end of the text; another token cannot stand here.
-#[tactic(auto, unfolding(ec_reading::specs::Reading::leaf_if))]
+#[tactic(auto, unfolding(ec_parse_laws::specs::Reading::leaf_if))]
 pub fn expect_end(source: Source, tokens: &[Token]) -> Result<(Spot, &[Token]), ReadError>
     ensures { Gives (λ x. (x.0, leaves_of source.count x.1.now)) result
         (needed (leaf_if end_of (leaves_of source.count tokens.now)) (leaves_of source.count tokens.now)) }
@@ -496,7 +497,7 @@ pub fn expect_end(source: Source, tokens: &[Token]) -> Result<(Spot, &[Token]), 
 // Tests of two tokens.
 
 /// The parenthesis of a cast, which specifiers follow.
-#[tactic(auto, unfolding(ec_reading::specs::Reading::cast_at))]
+#[tactic(auto, unfolding(ec_parse_laws::specs::Reading::cast_at))]
 pub fn take_cast(source: Source, tokens: &[Token]) -> Option<(Spot, &[Token])>
     ensures { option_map (λ x. (x.0, PunctKind.LeftParenthesis, leaves_of source.count x.1.now)) result
         ≡ cast_at (leaves_of source.count tokens.now) }
@@ -510,7 +511,7 @@ pub fn take_cast(source: Source, tokens: &[Token]) -> Option<(Spot, &[Token])>
 }
 
 /// `void` before a parenthesis that closes.
-#[tactic(auto, unfolding(ec_reading::specs::Reading::void_at))]
+#[tactic(auto, unfolding(ec_parse_laws::specs::Reading::void_at))]
 pub fn take_void(source: Source, tokens: &[Token]) -> Option<(Spot, &[Token])>
     ensures { option_map (λ x. (x.0, WordKind.Void, leaves_of source.count x.1.now)) result
         ≡ void_at (leaves_of source.count tokens.now) }

@@ -1,9 +1,13 @@
 -- The laws of runs.
-use Rattle.std.proofs.Common.{◌≡◌, ℕ, zero, suc, ◌+◌, ◌≤◌, List, [], ◌++◌, refl, sym, ap, ◌∙◌, subst, ⊎_elim, arith, append_assoc, append-nil, zero-add}
+use Rattle.std.proofs.Common.{◌≡◌, ℕ, zero, suc, ◌+◌, ◌≤◌, List, [], ◌++◌, refl, sym, ap, ◌∙◌, subst, ⊎_elim, arith, append_assoc}
+use Rattle.std.proofs.Common.{append-nil, zero-add}
 use Rattle.std.specs.Prelude.{Bool, IsTrue}
 use Rattle.std.proofs.lemmas.Bool.{cases_lt}
-use Rattle.ec_runs.specs.Behaviours.{Behaviour, Running, Ended, Failed, BeginWith, GoesOn, Continues, IsRun, Stepped, On, End, Fail, preceded, continued, steps, stepped_after, and_next, many, Reached, Reaches, IsWithin, seen_as, KeepsOrder}
-use Rattle.ec_runs.specs.Laws.{StepsAreRuns, StepsJoin, ManyJoin, RunsHaveOneEnd, WhatReachesStaysWithin, ReachesThrough, SeenRunsAreRuns, ReachesAsSeen}
+use Rattle.ec_runs.specs.Behaviours.{Behaviour, Running, Ended, Failed, BeginWith, GoesOn, Continues, IsRun, Stepped, On, End, Fail}
+use Rattle.ec_runs.specs.Behaviours.{preceded, continued, steps, stepped_after, and_next, many, Reached, Reaches, IsWithin, seen_as}
+use Rattle.ec_runs.specs.Behaviours.{KeepsOrder}
+use Rattle.ec_runs.specs.Laws.{StepsAreRuns, StepsJoin, ManyJoin, RunsHaveOneEnd, WhatReachesStaysWithin, ReachesThrough, SeenRunsAreRuns}
+use Rattle.ec_runs.specs.Laws.{ReachesAsSeen}
 
 -- ---- events
 
@@ -35,7 +39,8 @@ module _ {E R F : Type 0} where
   preceded_continues gs (Failed reason) b h = ap (preceded gs) h
 
 module _ {S E R F : Type 0} (step : S → Stepped S E R F) where
-  continued_continues : (f g : S → Behaviour E R F) (p : Stepped S E R F) → ((s : S) → Continues (f s) (g s)) → Continues (continued f p) (continued g p)
+  continued_continues : (f g : S → Behaviour E R F) (p : Stepped S E R F) → ((s : S) → Continues (f s) (g s))
+      → Continues (continued f p) (continued g p)
   continued_continues f g (On es s) h = preceded_continues es (f s) (g s) (h s)
   continued_continues f g (End es result) h = refl
   continued_continues f g (Fail reason) h = refl
@@ -43,7 +48,8 @@ module _ {S E R F : Type 0} (step : S → Stepped S E R F) where
   pub steps_run : (n k : ℕ) → n ≤ k → (s : S) → Continues (steps step s n) (steps step s k)
   steps_run zero k le s = starts (steps step s k)
   steps_run (suc n) zero le s = absurd (omega arith)
-  steps_run (suc n) (suc k) le s = continued_continues (λ t. steps step t n) (λ t. steps step t k) (step s) (λ t. steps_run n k (omega arith) t)
+  steps_run (suc n) (suc k) le s =
+      continued_continues (λ t. steps step t n) (λ t. steps step t k) (step s) (λ t. steps_run n k (omega arith) t)
 
 pub steps_are_runs : (S E R F : Type 0) → StepsAreRuns S E R F
 steps_are_runs S E R F step s n k le = steps_run step n k le s
@@ -72,24 +78,28 @@ module _ {S E R F : Type 0} where
   stepped_none (End gs result) = refl
   stepped_none (Fail reason) = refl
 
-  continued_after : (rest : S → Behaviour E R F) (es : List E) (p : Stepped S E R F) → preceded es (continued rest p) ≡ continued rest (stepped_after es p)
+  continued_after : (rest : S → Behaviour E R F) (es : List E) (p : Stepped S E R F)
+      → preceded es (continued rest p) ≡ continued rest (stepped_after es p)
   continued_after rest es (On fs s) = preceded_twice es fs (rest s)
   continued_after rest es (End fs result) = refl
   continued_after rest es (Fail reason) = refl
 
-  next_after : (rest : S → Stepped S E R F) (es : List E) (p : Stepped S E R F) → stepped_after es (and_next rest p) ≡ and_next rest (stepped_after es p)
+  next_after : (rest : S → Stepped S E R F) (es : List E) (p : Stepped S E R F)
+      → stepped_after es (and_next rest p) ≡ and_next rest (stepped_after es p)
   next_after rest es (On fs s) = stepped_twice es fs (rest s)
   next_after rest es (End fs result) = refl
   next_after rest es (Fail reason) = refl
 
 module _ {S E R F : Type 0} (step : S → Stepped S E R F) where
   -- the first step, and then the others
-  first_continued : (f : S → Behaviour E R F) (g : S → Behaviour E R F) (rest : S → Stepped S E R F) (p : Stepped S E R F) → ((s : S) → f s ≡ continued g (rest s)) → continued f p ≡ continued g (and_next rest p)
+  first_continued : (f : S → Behaviour E R F) (g : S → Behaviour E R F) (rest : S → Stepped S E R F) (p : Stepped S E R F)
+      → ((s : S) → f s ≡ continued g (rest s)) → continued f p ≡ continued g (and_next rest p)
   first_continued f g rest (On es s) h = ap (preceded es) (h s) ∙ continued_after g es (rest s)
   first_continued f g rest (End es result) h = refl
   first_continued f g rest (Fail reason) h = refl
 
-  first_next : (f : S → Stepped S E R F) (g : S → Stepped S E R F) (rest : S → Stepped S E R F) (p : Stepped S E R F) → ((s : S) → f s ≡ and_next g (rest s)) → and_next f p ≡ and_next g (and_next rest p)
+  first_next : (f : S → Stepped S E R F) (g : S → Stepped S E R F) (rest : S → Stepped S E R F) (p : Stepped S E R F)
+      → ((s : S) → f s ≡ and_next g (rest s)) → and_next f p ≡ and_next g (and_next rest p)
   first_next f g rest (On es s) h = ap (stepped_after es) (h s) ∙ next_after g es (rest s)
   first_next f g rest (End es result) h = refl
   first_next f g rest (Fail reason) h = refl
@@ -114,7 +124,8 @@ many_join S E R F step n k s = many_joined step n k s
 
 -- ---- ends
 
-one_end : {E R F : Type 0} (run : ℕ → Behaviour E R F) → IsRun run → (n k : ℕ) → n ≤ k → (es fs : List E) (result other : R) → run n ≡ Ended es result → run k ≡ Ended fs other → (es ≡ fs) × (result ≡ other)
+one_end : {E R F : Type 0} (run : ℕ → Behaviour E R F) → IsRun run → (n k : ℕ) → n ≤ k → (es fs : List E) (result other : R)
+    → run n ≡ Ended es result → run k ≡ Ended fs other → (es ≡ fs) × (result ≡ other)
 one_end run h n k le es fs result other a b =
     let c : run k ≡ Ended es result = subst (λ x. Continues x (run k)) a (h n k le) in
     (cc, cc)
@@ -127,7 +138,8 @@ runs_have_one_end E R F run h n k es fs result other a b =
 -- ---- one run beside another
 
 module _ (E R F G : Type 0) where
-  within_end : (es : List E) (result : R) (b : Behaviour E R G) → Continues b (Ended es result) → IsWithin {E = E} {R = R} {F = F} {G = G} (Ended es result) b
+  within_end : (es : List E) (result : R) (b : Behaviour E R G) → Continues b (Ended es result)
+      → IsWithin {E = E} {R = R} {F = F} {G = G} (Ended es result) b
   within_end es result (Running fs) h = h
   within_end es result (Ended fs other) h = (cc, cc)
   within_end es result (Failed reason) h = cc
@@ -137,10 +149,12 @@ module _ (E R F G : Type 0) where
   within_running es (Ended fs other) h = cc
   within_running es (Failed reason) h = cc
 
-  ended_within : (es : List E) (result : R) (b : Behaviour E R G) → b ≡ Ended es result → IsWithin {E = E} {R = R} {F = F} {G = G} (Ended es result) b
+  ended_within : (es : List E) (result : R) (b : Behaviour E R G) → b ≡ Ended es result
+      → IsWithin {E = E} {R = R} {F = F} {G = G} (Ended es result) b
   ended_within es result b h = within_end es result b (subst (λ x. Continues x (Ended es result)) (sym h) refl)
 
-  within_of : (allowed : ℕ → Bool) (run : ℕ → Behaviour E R G) → IsRun run → (m : ℕ) (b : Behaviour E R F) → Reached allowed run m b → IsWithin b (run m)
+  within_of : (allowed : ℕ → Bool) (run : ℕ → Behaviour E R G) → IsRun run → (m : ℕ) (b : Behaviour E R F) → Reached allowed run m b
+      → IsWithin b (run m)
   within_of allowed run h m (Running es) r = within_running es (run m) (subst (λ x. Continues (run m) x) r.3 (h m r.0 r.2))
   within_of allowed run h m (Ended es result) r =
       ⊎_elim (λ lt. within_end es result (run m) (subst (λ x. Continues (run m) x) r.2 (h m r.0 (omega arith))))
@@ -152,11 +166,16 @@ what_reaches_stays_within E R F G allowed source run h r m = within_of E R F G (
 
 -- ---- through another run
 
-module _ (E R F G H : Type 0) (first second both : ℕ → ℕ → Bool) (join : (n m j : ℕ) → IsTrue (first n m) → IsTrue (second m j) → IsTrue (both n j)) (between : ℕ → Behaviour E R G) (run : ℕ → Behaviour E R H) (r : Reaches second between run) where
-  through_running : (n m : ℕ) (es : List E) → IsTrue (first n m) → n ≤ m → Reached {E = E} {R = R} {F = G} {G = H} (second m) run m (Running es) → Reached {E = E} {R = R} {F = F} {G = H} (both n) run n (Running es)
+module _ (E R F G H : Type 0) (first second both : ℕ → ℕ → Bool) (join : (n m j : ℕ) → IsTrue (first n m) → IsTrue (second m j)
+    → IsTrue (both n j)) (between : ℕ → Behaviour E R G) (run : ℕ → Behaviour E R H) (r : Reaches second between run) where
+  through_running : (n m : ℕ) (es : List E) → IsTrue (first n m) → n ≤ m
+      → Reached {E = E} {R = R} {F = G} {G = H} (second m) run m (Running es)
+      → Reached {E = E} {R = R} {F = F} {G = H} (both n) run n (Running es)
   through_running n m es a le q = (q.0, join n m q.0 a q.1, omega (arith, q.2), q.3)
 
-  through_end : (n m : ℕ) (es : List E) (result : R) → IsTrue (first n m) → Reached {E = E} {R = R} {F = G} {G = H} (second m) run m (Ended es result) → Reached {E = E} {R = R} {F = F} {G = H} (both n) run n (Ended es result)
+  through_end : (n m : ℕ) (es : List E) (result : R) → IsTrue (first n m)
+      → Reached {E = E} {R = R} {F = G} {G = H} (second m) run m (Ended es result)
+      → Reached {E = E} {R = R} {F = F} {G = H} (both n) run n (Ended es result)
   through_end n m es result a q = (q.0, join n m q.0 a q.1, q.2)
 
   through : (n : ℕ) (b : Behaviour E R F) → Reached (first n) between n b → Reached (both n) run n b
@@ -165,11 +184,13 @@ module _ (E R F G H : Type 0) (first second both : ℕ → ℕ → Bool) (join :
   through n (Failed reason) p = tt
 
 pub reaches_through : (E R F G H : Type 0) → ReachesThrough E R F G H
-reaches_through E R F G H first second both join source between run p r n = through E R F G H first second both join between run r n (source n) (p n)
+reaches_through E R F G H first second both join source between run p r n =
+    through E R F G H first second both join between run r n (source n) (p n)
 
 -- ---- other events
 
-seen_continues : {D E R F : Type 0} (f : List D → List E) → KeepsOrder f → (a b : Behaviour D R F) → Continues a b → Continues (seen_as f a) (seen_as f b)
+seen_continues : {D E R F : Type 0} (f : List D → List E) → KeepsOrder f → (a b : Behaviour D R F) → Continues a b
+    → Continues (seen_as f a) (seen_as f b)
 seen_continues f k (Running es) (Running fs) h = k es fs h
 seen_continues f k (Running es) (Ended fs result) h = k es fs h
 seen_continues f k (Running es) (Failed reason) h = tt
@@ -179,7 +200,8 @@ seen_continues f k (Failed reason) b h = ap (seen_as f) h
 pub seen_runs_are_runs : (D E R F : Type 0) → SeenRunsAreRuns D E R F
 seen_runs_are_runs D E R F f k run h n m le = seen_continues f k (run n) (run m) (h n m le)
 
-seen_reached : {D E R F G : Type 0} (f : List D → List E) (allowed : ℕ → Bool) (run : ℕ → Behaviour D R G) (n : ℕ) (b : Behaviour D R F) → Reached allowed run n b → Reached allowed (λ m. seen_as f (run m)) n (seen_as f b)
+seen_reached : {D E R F G : Type 0} (f : List D → List E) (allowed : ℕ → Bool) (run : ℕ → Behaviour D R G) (n : ℕ) (b : Behaviour D R F)
+    → Reached allowed run n b → Reached allowed (λ m. seen_as f (run m)) n (seen_as f b)
 seen_reached f allowed run n (Running es) r = (r.0, r.1, r.2, ap (seen_as f) r.3)
 seen_reached f allowed run n (Ended es result) r = (r.0, r.1, ap (seen_as f) r.2)
 seen_reached f allowed run n (Failed reason) r = tt

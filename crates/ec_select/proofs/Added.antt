@@ -9,15 +9,15 @@ use Rattle.ec_asm.specs.declared.items.AsmItem.TheVariants.{Label}
 use Rattle.ec_asm.specs.declared.items.AsmProgram.{AsmProgram}
 use Rattle.ec_ir.specs.declared.operations.IrFunc.{IrFunc}
 use Rattle.ec_ir.specs.Operations.{PlainIrFunction, PlainIrProgram, plain_ir_function, data_of}
-use Rattle.ec_live.specs.Least.{IsLeast}
-use Rattle.ec_near.specs.Near.{near_items}
+use Rattle.ec_select_live.specs.Least.{IsLeast}
+use Rattle.ec_asm_near.specs.Near.{near_items}
 use Rattle.ec_select_operations.specs.Needs.{Need, IsLive}
 use Rattle.ec_select_operations.specs.declared.calls.Linking.{Linking}
 use Rattle.ec_select_operations.specs.Code.{Linkage, wanted_bytes, function_code}
 use Rattle.ec_select_operations.specs.Emitted.{linkage}
 use Rattle.ec_select_functions.specs.Laws.{linkage_of}
 use Rattle.ec_select_operations.specs.Written.{written_function, kept_rows, NeededFunctionsAreWritten}
-use Rattle.ec_startup.specs.Startup.{startup_code}
+use Rattle.ec_select_startup.specs.Startup.{startup_code}
 use Rattle.ec_select.specs.Labels.{homes_of, label_count, labels_in, entry_label, first_label, function_label}
 use Rattle.ec_select.specs.Program.{spans_of, made_with, code_of, functions_code}
 use Rattle.ec_select.specs.Selected.{AreTables, IsAdded, AreWritten, IsSelection}

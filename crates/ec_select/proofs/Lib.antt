@@ -1,21 +1,21 @@
-pub mod Fitting
-pub mod Pieces
-pub mod Loops
-pub mod FixedTypes
-pub mod FixedItems
-pub mod PointerTypes
-pub mod PointerItems
-pub mod PortItems
-pub mod OneOperation
-pub mod Setting
-pub mod Counted
-pub mod Whole
-pub mod Lists
-pub mod SpanLists
-pub mod Words
-pub mod OperationWords
-pub mod ProgramWords
-pub mod Emits
-pub mod Added
-pub mod Runs
-pub mod OperationCode
+mod Fitting
+mod Pieces
+mod Loops
+mod FixedTypes
+mod FixedItems
+mod PointerTypes
+mod PointerItems
+mod PortItems
+mod OneOperation
+mod Setting
+mod Counted
+mod Whole
+mod Lists
+mod SpanLists
+mod Words
+mod OperationWords
+mod ProgramWords
+mod Emits
+mod Added
+mod Runs
+mod OperationCode

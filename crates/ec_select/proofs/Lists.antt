@@ -1,16 +1,6 @@
--- Lists that are read from the end.
-use Rattle.std.proofs.Common.{◌≡◌, ℕ, ◌+◌, ◌-◌, ◌<◌, ◌≤◌, List, ◌∷◌, sym, ◌∙◌, ap, arith, map, length, drop, get_or}
+-- A list without its first elements.
+use Rattle.std.proofs.Common.{◌≡◌, ℕ, ◌+◌, ◌<◌, List, ◌∷◌, sym, ◌∙◌, ap, arith, map, length, drop, get_or}
 use Rattle.std.proofs.lemmas.List.{length-map, get_or-map, drop_more}
-
-pub drop_back : {A B : Type 0} (f : A → B) (xs : List A) (k : ℕ) (x : A) → 0 < k → k ≤ length xs
-    → x ≡ get_or xs (k - 1) x → drop (k - 1) (map f xs) ≡ f x ∷ drop k (map f xs)
-drop_back f xs k x z h e =
-    let l : k - 1 < length xs = omega arith in
-    let m : k - 1 < length (map f xs) = omega (arith, length-map xs f) in
-    let n : (k - 1) + 1 ≡ k = omega arith in
-    drop_more (map f xs) (k - 1) (f x) m
-    ∙ ap (λ y. y ∷ drop ((k - 1) + 1) (map f xs)) (get_or-map f xs (k - 1) x (f x) l ∙ ap f (sym e))
-    ∙ ap (λ j. f x ∷ drop j (map f xs)) n
 
 pub drop_front : {A B : Type 0} (f : A → B) (xs : List A) (k : ℕ) (x : A) → k < length xs → x ≡ get_or xs k x
     → drop k (map f xs) ≡ f x ∷ drop (k + 1) (map f xs)

@@ -16,14 +16,14 @@ use Rattle.ec_ir.specs.Costs.{functions_words}
 use Rattle.ec_ir.specs.Costs.{code_words as operations_words}
 use Rattle.ec_ir.specs.Operations.{PlainIrFunction, PlainIrProgram, data_of}
 use Rattle.ec_ir.specs.Valid.{ValidIr}
-use Rattle.ec_near.specs.Laws.{NoMoreWords}
+use Rattle.ec_asm_near.specs.Laws.{NoMoreWords}
 use Rattle.ec_select_operations.specs.Code.{ops_code}
 use Rattle.ec_select_operations.specs.Homes.{home}
 use Rattle.ec_select_functions.specs.Laws.{linkage_of}
 use Rattle.ec_select_operations.specs.Needs.{Need}
-use Rattle.ec_startup.specs.Laws.{StartupHasWords}
-use Rattle.ec_startup.specs.Startup.{startup_code}
-use Rattle.ec_startup.specs.declared.spans.Span.{Span}
+use Rattle.ec_select_startup.specs.Laws.{StartupHasWords}
+use Rattle.ec_select_startup.specs.Startup.{startup_code}
+use Rattle.ec_select_startup.specs.declared.spans.Span.{Span}
 use Rattle.ec_select.specs.InPlace.{IsInPlace, AreInPlace}
 use Rattle.ec_select.specs.Labels.{entry_label, function_label}
 use Rattle.ec_select.specs.Laws.{SelectionsHaveWords}

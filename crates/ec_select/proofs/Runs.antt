@@ -31,16 +31,16 @@ use Rattle.ec_core.specs.Valid.{IsObject}
 use Rattle.ec_ir.specs.Meaning.{start_state, standing}
 use Rattle.ec_ir.specs.Operations.{PlainIrFunction, PlainIrProgram, data_of}
 use Rattle.ec_ir.specs.Valid.{ValidIr}
-use Rattle.ec_near.specs.Laws.{NearCodeStands, UsedLabelsHaveWords}
-use Rattle.ec_near.specs.Near.{near_items}
-use Rattle.ec_reset.specs.Laws.{HasInitials, CanStart, ProgramsShowTheirOperations}
+use Rattle.ec_asm_near.specs.Laws.{NearCodeStands, UsedLabelsHaveWords}
+use Rattle.ec_asm_near.specs.Near.{near_items}
+use Rattle.ec_select_reset.specs.Laws.{HasInitials, CanStart, ProgramsShowTheirOperations}
 use Rattle.ec_select_functions.specs.Laws.{Made, IsSelected, AreSelected}
 use Rattle.ec_select_operations.specs.Places.{ObjectLeaf}
 use Rattle.ec_select_functions.specs.Relation.{HoldsLeaf}
 use Rattle.ec_select_functions.specs.Standing.{StandsInMemory, ObjectStands, ObjectsStand}
-use Rattle.ec_startup.specs.declared.spans.Span.{Span}
-use Rattle.ec_startup.specs.Laws.{CanBeSet, IsBeside, IsSet}
-use Rattle.ec_startup.specs.Startup.{startup_code}
+use Rattle.ec_select_startup.specs.declared.spans.Span.{Span}
+use Rattle.ec_select_startup.specs.Laws.{CanBeSet, IsBeside, IsSet}
+use Rattle.ec_select_startup.specs.Startup.{startup_code}
 use Rattle.ec_select.specs.LaidOut.{initial_at, IsLaidOut, object_steps}
 use Rattle.ec_select.specs.Labels.{function_label}
 use Rattle.ec_select.specs.Laws.{RunsAsOperations, SelectionsRun}

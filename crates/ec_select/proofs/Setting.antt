@@ -16,7 +16,7 @@ use Rattle.ec_ir.specs.Operations.{PlainIrFunction, PlainIrProgram, data_of}
 use Rattle.ec_ir.specs.Valid.{ValidIr, ValidIrFunction}
 use Rattle.ec_select_functions.specs.Covered.{HasScalarAt}
 use Rattle.ec_select_operations.specs.Places.{location_in, object_location}
-use Rattle.ec_startup.specs.Laws.{IsValidSpan}
+use Rattle.ec_select_startup.specs.Laws.{IsValidSpan}
 use Rattle.ec_select.specs.Labels.{widest_temps, homes_of}
 use Rattle.ec_select.specs.Laws.{object_sizes}
 use Rattle.ec_select.specs.Program.{has_initial_bytes, span_of, spans_from, spans_of}

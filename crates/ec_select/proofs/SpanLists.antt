@@ -10,7 +10,7 @@ use Rattle.std.proofs.lemmas.List.Kept.{AllPairs-cons}
 use Rattle.ec_core.specs.Layout.{size_of_type}
 use Rattle.ec_core.specs.declared.programs.Obj.{Obj}
 use Rattle.ec_core.specs.Plain.{PlainObject, PlainStruct, plain_object}
-use Rattle.ec_startup.specs.declared.spans.Span.{Span}
+use Rattle.ec_select_startup.specs.declared.spans.Span.{Span}
 use Rattle.ec_select.specs.Program.{has_initial_bytes, span_of, spans_from}
 use Rattle.ec_select.proofs.Lists.{drop_front}
 

@@ -15,11 +15,11 @@ use Rattle.ec_ir.specs.Operations.{store_object, binary_op, unary_op, conversion
 use Rattle.ec_ir.specs.Operations.{call_function, return_from, port_in, port_out, PlainIrFunction, PlainIrProgram}
 use Rattle.ec_ir.specs.Operations.{data_of}
 use Rattle.ec_ir.specs.Valid.{ValidIr, ValidOperation, count}
-use Rattle.ec_near.specs.Laws.{ProgramsStayValid}
+use Rattle.ec_asm_near.specs.Laws.{ProgramsStayValid}
 use Rattle.ec_select_operations.specs.Code.{Linkage}
 use Rattle.ec_select_operations.specs.Needs.{Need}
-use Rattle.ec_startup.specs.Laws.{StartupIsValid, StartupUsesMain, StartupPlacesNoLabel}
-use Rattle.ec_startup.specs.Startup.{startup_code}
+use Rattle.ec_select_startup.specs.Laws.{StartupIsValid, StartupUsesMain, StartupPlacesNoLabel}
+use Rattle.ec_select_startup.specs.Startup.{startup_code}
 use Rattle.ec_select.specs.Labels.{entry_label, function_label, first_label}
 use Rattle.ec_select.specs.Laws.{object_sizes, SelectionsAreValid}
 use Rattle.ec_select.specs.Program.{spans_of, code_of, functions_code, program_code}

@@ -19,7 +19,7 @@ use Rattle.ec_select_functions.specs.Laws.{CallsOn}
 use Rattle.ec_select_operations.specs.Places.{ObjectLeaf, Apart}
 use Rattle.ec_select_functions.specs.Relation.{HoldsLeaf}
 use Rattle.ec_select_functions.specs.Standing.{ScratchStands, ObjectsStand, TablesStand, WorkStands}
-use Rattle.ec_startup.specs.Laws.{HasStack}
+use Rattle.ec_select_startup.specs.Laws.{HasStack}
 use Rattle.ec_select.specs.Labels.{homes_of}
 use Rattle.ec_select.specs.Program.{has_initial_bytes}
 

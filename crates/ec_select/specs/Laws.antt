@@ -14,7 +14,7 @@ use Rattle.ec_core.specs.Words.{program_words}
 use Rattle.ec_ir.specs.Costs.{functions_words}
 use Rattle.ec_ir.specs.Operations.{PlainIrProgram}
 use Rattle.ec_ir.specs.Valid.{ValidIr}
-use Rattle.ec_reset.specs.Laws.{ShowsProgram}
+use Rattle.ec_select_reset.specs.Laws.{ShowsProgram}
 use Rattle.ec_select.specs.InPlace.{AreInPlace}
 use Rattle.ec_select.specs.Suited.{AreOnPorts, AreSuited}
 use Rattle.ec_select.specs.LaidOut.{IsLaidOut, start_steps}

@@ -12,8 +12,8 @@ use Rattle.ec_ir.specs.Operations.{PlainIrFunction, PlainIrProgram, data_of}
 use Rattle.ec_select_operations.specs.Code.{function_code}
 use Rattle.ec_select_functions.specs.Laws.{Made, linkage_of}
 use Rattle.ec_select_operations.specs.Needs.{Need}
-use Rattle.ec_startup.specs.Startup.{startup_code}
-use Rattle.ec_startup.specs.declared.spans.Span.{Span}
+use Rattle.ec_select_startup.specs.Startup.{startup_code}
+use Rattle.ec_select_startup.specs.declared.spans.Span.{Span}
 use Rattle.ec_select.specs.Labels.{homes_of, entry_label, function_label, first_label}
 
 -- ---- the code before main

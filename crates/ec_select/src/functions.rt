@@ -9,7 +9,7 @@ use crate::labels::{homes_of, label_count};
 use ec_asm::AsmItem;
 use ec_core::leaves_fill_their_types;
 use ec_ir::{IrFunc, IrProgram};
-use ec_live::{kept, live, valid_operations_have_places, wanted};
+use ec_select_live::{kept, live, valid_operations_have_places, wanted};
 use ec_select_operations::{Linking, function, needed_functions_are_written};
 use ec_space::{NoMemory, Seq};
 use std::alloc::Global;

@@ -3,9 +3,8 @@ ghost use Rattle.ec_select.specs.Laws.{OperationsHaveCode, SelectionsAreValid, S
 ghost use Rattle.ec_select.specs.Laws.{SelectionsRun};
 
 use ec_asm::laws::parts_stand;
+use ec_asm_near::laws::{near_code_stands, near_items_are_short, near_items_are_valid};
 use ec_core::leaves_fill_their_types;
-use ec_near::laws::{near_code_stands, near_items_are_short, near_items_are_valid};
-use ec_reset::programs_show_their_operations;
 use ec_select_bytes::laws::{complements_are_straight, values_are_straight};
 use ec_select_fixed::laws::{
     fixed_binaries_are_plain, fixed_binaries_are_short, fixed_conversions_are_plain,
@@ -15,8 +14,9 @@ use ec_select_order::laws::relations_have_words;
 use ec_select_places::laws::{elements_are_formed, places_are_short, places_are_valid};
 use ec_select_pointers::laws::{pointers_are_straight, pointers_are_valid, tables_are_formed};
 use ec_select_products::laws::products_have_words;
+use ec_select_reset::programs_show_their_operations;
 use ec_select_shifts::laws::shifts_have_words;
-use ec_startup::laws::{startup_has_words, startup_is_valid};
+use ec_select_startup::laws::{startup_has_words, startup_is_valid};
 
 /// The operations of a valid program have code where no temporary has more than 8 bytes, the result of an operator on
 /// integers is put to the place of its first operand, fixed-point operands have two places, and the bytes of ports are

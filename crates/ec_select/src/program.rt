@@ -15,10 +15,10 @@ use crate::functions::add_functions;
 use crate::laws::{selections_are_valid, selections_have_words};
 use crate::spans::spans_of;
 use ec_asm::{AsmItem, AsmProgram};
+use ec_asm_near::near;
 use ec_ir::IrProgram;
-use ec_near::near;
+use ec_select_startup::startup;
 use ec_space::{NoMemory, Seq};
-use ec_startup::startup;
 use std::alloc::Global;
 
 /// For each function the places of its temporaries.

@@ -7,8 +7,8 @@ ghost use Rattle.ec_select.specs.Program.{has_initial_bytes, span_of, spans_of};
 
 use ec_core::{Obj, Storage, size_of};
 use ec_ir::IrProgram;
+use ec_select_startup::Span;
 use ec_space::{Bank, NoMemory, Seq};
-use ec_startup::Span;
 use std::alloc::Global;
 
 /// Whether an object is static and kept in the data bank.

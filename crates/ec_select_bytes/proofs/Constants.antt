@@ -32,12 +32,28 @@ put_work a byte v l m =
     ⊎_elim (λ q. rw (put_here v.at a byte 30 q) l) (λ q. rw (put_other v.at a byte 30 q) m) (cases_eq 30 a)
 
 direct : (a byte : ℕ) (v : View) → PutsByte v (set a byte v) a byte
-direct a byte v = record { here = put_here v.at a byte a refl; same = λ k z n. put_other v.at a byte k n; work = put_work a byte v; flags = refl; inputs = refl; safe = refl; seen = refl }
+direct a byte v = record {
+  here = put_here v.at a byte a refl;
+  same = λ k z n. put_other v.at a byte k n;
+  work = put_work a byte v;
+  flags = refl;
+  inputs = refl;
+  safe = refl;
+  seen = refl;
+}
 
 through : (a byte : ℕ) (v : View) → PutsByte v (set a byte (set 30 byte v)) a byte
 through a byte v =
     let v1 = set 30 byte v in
-    record { here = put_here v1.at a byte a refl; same = λ k z n. put_other v1.at a byte k n ∙ put_other v.at 30 byte k z; work = λ l m. put_work a byte v1 l l; flags = refl; inputs = refl; safe = refl; seen = refl }
+    record {
+      here = put_here v1.at a byte a refl;
+      same = λ k z n. put_other v1.at a byte k n ∙ put_other v.at 30 byte k z;
+      work = λ l m. put_work a byte v1 l l;
+      flags = refl;
+      inputs = refl;
+      safe = refl;
+      seen = refl;
+    }
 
 by_reach : (e : Env) (a byte : ℕ) (v : View) (b : Bool)
     → PutsByte v (block e (if b then Plain (Ldi a byte) ∷ [] else Plain (Ldi 30 byte) ∷ Plain (Mov a 30) ∷ []) v) a byte
@@ -58,7 +74,8 @@ step : (e : Env) (p : Location) (n a number : ℕ) (v0 : View) → StandsFrom e 
 step e p n a number v0 s far i l v h =
     let o = byte_is_put e p i (a + i) (byte_of number i) v (s.at i l) (s.kind i l) in
     record {
-      there = λ j m. ⊎_elim (λ t. rw t (o.here)) (λ t. o.same (a + j) (not_work a n j far (omega arith)) (λ x. t (omega arith)) ∙ h.there j (omega arith)) (cases_eq j i);
+      there = λ j m. ⊎_elim (λ t. rw t (o.here))
+          (λ t. o.same (a + j) (not_work a n j far (omega arith)) (λ x. t (omega arith)) ∙ h.there j (omega arith)) (cases_eq j i);
       same = λ k z m. o.same k z (not_here k a i m) ∙ h.same k z (fewer k a i m);
       work = λ m. o.work (mod_below (number / 256 ^ i) 256 (omega arith)) (h.work m);
       flags = o.flags ∙ h.flags;
@@ -69,4 +86,12 @@ step e p n a number v0 s far i l v h =
 
 pub constants_are_right : ConstantsAreRight
 constants_are_right e p n a number v s far =
-    chain_holds e (λ i. constant_byte p (byte_of number i) i) (ConstantTo v a number) n (step e p n a number v s far) v (record { there = λ j m. absurd (omega arith); same = λ k z m. refl; work = λ m. m; flags = refl; inputs = refl; safe = refl; seen = refl })
+    chain_holds e (λ i. constant_byte p (byte_of number i) i) (ConstantTo v a number) n (step e p n a number v s far) v (record {
+      there = λ j m. absurd (omega arith);
+      same = λ k z m. refl;
+      work = λ m. m;
+      flags = refl;
+      inputs = refl;
+      safe = refl;
+      seen = refl;
+    })

@@ -85,7 +85,8 @@ step e p n a m byte v0 s i l v h =
     let c : block e (put_byte p (m + i)) v ≡ set (a + m + i) (v.at 0) v = b ∙ ap (λ k. set k (v.at 0) v) q in
     let one = put_other v.at (a + m + i) (v.at 0) in
     rw c (record {
-      there = λ j z. ⊎_elim (λ t. put_here v.at (a + m + i) (v.at 0) (a + m + j) (omega arith) ∙ h.work) (λ t. one (a + m + j) (λ x. t (omega arith)) ∙ h.there j (omega arith)) (cases_eq j i);
+      there = λ j z. ⊎_elim (λ t. put_here v.at (a + m + i) (v.at 0) (a + m + j) (omega arith) ∙ h.work)
+          (λ t. one (a + m + j) (λ x. t (omega arith)) ∙ h.there j (omega arith)) (cases_eq j i);
       work = one 0 (omega arith) ∙ h.work;
       keeps = record {
         same = λ k y z o. one k (not_here k (a + m) i o) ∙ h.keeps.same k y z (fewer k (a + m) i o);
@@ -98,12 +99,18 @@ step e p n a m byte v0 s i l v h =
 puts : (e : Env) (p : Location) (n a m : ℕ) (v v0 : View) (byte : ℕ) → StandsFrom e p n a Own → m ≤ n
     → Fills v0 v byte → FillsTo v0 (a + m) byte (n - m) (block e (puts_code p m (n - m)) v)
 puts e p n a m v v0 byte s l f =
-    chain_holds e (λ i. put_byte p (m + i)) (FillsTo v0 (a + m) byte) (n - m) (λ i k u h. step e p n a m byte v0 s i (omega arith) u h) v (record { there = λ j z. absurd (omega arith); work = f.work; keeps = record { same = λ k y z o. f.same k y; inputs = f.inputs; safe = f.safe; seen = f.seen } })
+    chain_holds e (λ i. put_byte p (m + i)) (FillsTo v0 (a + m) byte) (n - m) (λ i k u h. step e p n a m byte v0 s i (omega arith) u h) v
+    (record {
+      there = λ j z. absurd (omega arith);
+      work = f.work;
+      keeps = record { same = λ k y z o. f.same k y; inputs = f.inputs; safe = f.safe; seen = f.seen };
+    })
 
 shifted : (v0 v : View) (signed : Bool) (a m n byte : ℕ) → byte ≡ fill_of signed (v0.at (a + m)) → suc m ≤ n
     → FillsTo v0 (a + suc m) byte (n - suc m) v → Extends v0 signed a m n v
 shifted v0 v signed a m n byte b l f = record {
-  there = λ j x y. let q : a + suc m + (j - suc m) ≡ a + j = omega arith in subst (λ k. v.at k ≡ fill_of signed (v0.at (a + m))) q (f.there (j - suc m) (omega arith) ∙ b);
+  there = λ j x y. let q : a + suc m + (j - suc m) ≡ a + j = omega arith in
+      subst (λ k. v.at k ≡ fill_of signed (v0.at (a + m))) q (f.there (j - suc m) (omega arith) ∙ b);
   keeps = f.keeps;
 }
 

@@ -55,7 +55,8 @@ by_reach byte d false a c p q = q
 
 constant_short : (p : Location) (byte i : ℕ) → IsShort (constant_byte p byte i) 2 3
 constant_short (InRegisters r) byte i =
-    by_reach byte (r + i) (nat_le 16 (r + i)) _ _ (record { straight = refl; steps_are = omega arith; words_are = omega arith }) (record { straight = refl; steps_are = omega arith; words_are = omega arith })
+    by_reach byte (r + i) (nat_le 16 (r + i)) _ _ (record { straight = refl; steps_are = omega arith; words_are = omega arith })
+    (record { straight = refl; steps_are = omega arith; words_are = omega arith })
 constant_short (InMemory o k) byte i = record { straight = refl; steps_are = omega arith; words_are = omega arith }
 
 test_short : (p : Location) (i : ℕ) → IsShort (test_byte p i) 2 3
@@ -75,15 +76,19 @@ fill_short false p m = record { straight = refl; steps_are = omega arith; words_
 
 constants : (p : Location) (number n : ℕ) → IsShort (constant_code p number n) (2 * n) (3 * n)
 constants p number n =
-    weaker _ (n * 2) (2 * n) (n * 3) (3 * n) (omega arith) (omega arith) (chained (λ i. constant_byte p (byte_of number i) i) n 2 3 (λ i. constant_short p (byte_of number i) i))
+    weaker _ (n * 2) (2 * n) (n * 3) (3 * n) (omega arith) (omega arith)
+    (chained (λ i. constant_byte p (byte_of number i) i) n 2 3 (λ i. constant_short p (byte_of number i) i))
 
 tests : (p : Location) (n : ℕ) → IsShort (test_code p n) (1 + 2 * n) (1 + 3 * n)
 tests p n =
-    weaker (test_code p n) (1 + n * 2) (1 + 2 * n) (1 + n * 3) (1 + 3 * n) (omega arith) (omega arith) (joined (Plain (Eor 1 1) ∷ []) (tests_code p n) 1 (n * 2) 1 (n * 3) (record { straight = refl; steps_are = omega arith; words_are = omega arith }) (chained (test_byte p) n 2 3 (test_short p)))
+    weaker (test_code p n) (1 + n * 2) (1 + 2 * n) (1 + n * 3) (1 + 3 * n) (omega arith)
+    (omega arith) (joined (Plain (Eor 1 1) ∷ []) (tests_code p n) 1 (n * 2) 1 (n * 3)
+    (record { straight = refl; steps_are = omega arith; words_are = omega arith }) (chained (test_byte p) n 2 3 (test_short p)))
 
 puts : (p : Location) (m n : ℕ) → IsShort (puts_code p m (n - m)) n (2 * n)
 puts p m n =
-    weaker _ ((n - m) * 1) n ((n - m) * 2) (2 * n) (omega arith) (omega arith) (chained (λ i. put_byte p (m + i)) (n - m) 1 2 (λ i. put_short p (m + i)))
+    weaker _ ((n - m) * 1) n ((n - m) * 2) (2 * n) (omega arith) (omega arith)
+    (chained (λ i. put_byte p (m + i)) (n - m) 1 2 (λ i. put_short p (m + i)))
 
 clears : (r m count : ℕ) → IsShort (clears_code r m count) count count
 clears r m count =
@@ -139,11 +144,13 @@ carries p n =
 
 cleared : (p : Location) (n : ℕ) → IsShort (Plain (Eor 1 1) ∷ carry_code p n) (1 + 3 * n) (1 + 5 * n)
 cleared p n =
-    joined (Plain (Eor 1 1) ∷ []) (carry_code p n) 1 (3 * n) 1 (5 * n) (record { straight = refl; steps_are = omega arith; words_are = omega arith }) (carries p n)
+    joined (Plain (Eor 1 1) ∷ []) (carry_code p n) 1 (3 * n) 1 (5 * n)
+    (record { straight = refl; steps_are = omega arith; words_are = omega arith }) (carries p n)
 
 negations : (p : Location) (n : ℕ) → IsShort (negation_code p n) (1 + 6 * n) (1 + 10 * n)
 negations p n =
-    weaker (negation_code p n) (3 * n + (1 + 3 * n)) (1 + 6 * n) (5 * n + (1 + 5 * n)) (1 + 10 * n) (omega arith) (omega arith) (joined (complement_code p n) (Plain (Eor 1 1) ∷ carry_code p n) (3 * n) (1 + 3 * n) (5 * n) (1 + 5 * n) (complements p n) (cleared p n))
+    weaker (negation_code p n) (3 * n + (1 + 3 * n)) (1 + 6 * n) (5 * n + (1 + 5 * n)) (1 + 10 * n) (omega arith) (omega arith) (joined
+    (complement_code p n) (Plain (Eor 1 1) ∷ carry_code p n) (3 * n) (1 + 3 * n) (5 * n) (1 + 5 * n) (complements p n) (cleared p n))
 
 pub complements_are_straight : ComplementsAreStraight
 complements_are_straight p n = ((complements p n).straight, (negations p n).straight)

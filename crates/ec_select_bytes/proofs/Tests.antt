@@ -1,11 +1,9 @@
 -- The test whether a number is 0.
-use Rattle.std.proofs.Common.{◌≡◌, ◌≢◌, ℕ, zero, suc, ◌+◌, ◌-◌, ◌*◌, ◌^◌, ◌%◌, ◌<◌, ◌≤◌, ⊎_elim, refl, ap, ◌∙◌, arith}
+use Rattle.std.proofs.Common.{◌≡◌, ◌≢◌, ℕ, suc, ◌+◌, ◌-◌, ◌*◌, ◌^◌, ◌%◌, ◌<◌, refl, ap, ◌∙◌, arith}
 use Rattle.std.specs.Prelude.{◌==◌, nat_lt}
 use Rattle.std.specs.Int.{from_bool}
 use Rattle.std.specs.Int.Bits.{xor_self}
-use Rattle.std.proofs.lemmas.Bool.{cases_lt, ne_eqb}
 use Rattle.std.proofs.lemmas.Bool.Decides.{nat_tests}
-use Rattle.std.proofs.lemmas.Nat.{mul-le}
 use Rattle.ec_isa.specs.declared.instructions.Instr.TheVariants.{Eor}
 use Rattle.ec_avr.specs.Flags.{byte_difference}
 use Rattle.ec_asm.specs.declared.pieces.Location.{Location}
@@ -13,18 +11,14 @@ use Rattle.ec_asm.specs.declared.pieces.Location.TheVariants.{InRegisters, InMem
 use Rattle.ec_asm.specs.View.{View}
 use Rattle.ec_asm.specs.Change.{Env, Own, set, change, difference_flags}
 use Rattle.ec_asm.specs.Items.{block}
-use Rattle.ec_asm.specs.Pieces.{address, KindIs, StandsFrom, value, carry_at, zero_at, compares, KeepsAll}
+use Rattle.ec_asm.specs.Pieces.{address, KindIs, StandsFrom, value, carry_at, zero_at, KeepsAll}
 use Rattle.ec_asm.specs.PieceLaws.{HoldsNumbers}
+use Rattle.ec_asm.proofs.Compared.{compare_change, zero_step}
 use Rattle.ec_asm.proofs.Hoare.{chain_holds}
 use Rattle.ec_asm.proofs.Bytes.{put_other}
 use Rattle.ec_asm.proofs.Numbers.{pow_pos}
 use Rattle.ec_select_bytes.specs.Values.{test_byte, test_code}
 use Rattle.ec_select_bytes.specs.Laws.{TestsTellZero, TestsKeep}
-
-compare_change : (e : Env) (i d r : ℕ) (v : View)
-    → change e (compares i d r) v ≡ record v { flags = difference_flags v.flags (v.at d) (v.at r) (carry_at i v.flags) (zero_at i v.flags) }
-compare_change e zero d r v = refl
-compare_change e (suc i) d r v = refl
 
 record TestsByte (v w : View) (a i : ℕ) : Type 0 where
   flags : w.flags ≡ difference_flags v.flags (v.at a) 0 (carry_at i v.flags) (zero_at i v.flags)
@@ -39,7 +33,13 @@ byte_is_tested e (InRegisters r) i a v p k one =
     rw (compare_change e i (r + i) 1 v, p, one) (record { flags = refl; same = λ k z. refl; inputs = refl; safe = refl; seen = refl })
 byte_is_tested e (InMemory o j) i a v p k one =
     let v1 = set 0 (v.at a) v in
-    rw (p, k, compare_change e i 0 1 v1) (record { flags = ap (λ n. difference_flags v.flags (v.at a) n (carry_at i v.flags) (zero_at i v.flags)) one; same = λ k z. put_other v.at 0 (v.at a) k z; inputs = refl; safe = refl; seen = refl })
+    rw (p, k, compare_change e i 0 1 v1) (record {
+      flags = ap (λ n. difference_flags v.flags (v.at a) n (carry_at i v.flags) (zero_at i v.flags)) one;
+      same = λ k z. put_other v.at 0 (v.at a) k z;
+      inputs = refl;
+      safe = refl;
+      seen = refl;
+    })
 
 -- the first i bytes were tested
 record TestsTo (v0 : View) (a i : ℕ) (v : View) : Type 0 where
@@ -47,20 +47,6 @@ record TestsTo (v0 : View) (a i : ℕ) (v : View) : Type 0 where
   zero_is : zero_at i v.flags ≡ from_bool (value v0.at a i == 0)
   one : v.at 1 ≡ 0
   keeps : KeepsAll v0 v
-
-zero_step : (r d p : ℕ) → 0 < p → from_bool (d == 0) * from_bool (r == 0) ≡ from_bool (r + d * p == 0)
-zero_step r d p h =
-    ⊎_elim
-    (λ (g : 0 < d).
-    let m : 1 * p ≤ d * p = mul-le 1 p d p (omega arith) (omega arith) in
-    let x = ne_eqb d 0 (omega arith) in
-    let y = ne_eqb (r + d * p) 0 (omega arith) in
-    rw (x, y) (omega arith))
-    (λ (g : d ≤ 0).
-    let z : d ≡ 0 = omega arith in
-    let q : r + 0 * p ≡ r = omega arith in
-    rw (z, q) (omega arith))
-    (cases_lt 0 d)
 
 same_byte : (x c : ℕ) → c ≡ 0 → x < 256 → byte_difference x 0 c ≡ x
 same_byte x c e l = let q : (x + 256 - (0 + 0)) % 256 ≡ x = omega arith in rw e q
@@ -78,20 +64,31 @@ step e p n a v0 s bytes i l v h =
     let ex : v.at (a + i) ≡ x = h.keeps.same (a + i) (omega arith) (omega arith) in
     let small : x < 256 = bytes (a + i) (omega arith) in
     let c = carry_at i v.flags in
-    let f : w.flags ≡ difference_flags v.flags x 0 c (zero_at i v.flags) = o.flags ∙ ap (λ n. difference_flags v.flags n 0 c (zero_at i v.flags)) ex in
+    let f : w.flags ≡ difference_flags v.flags x 0 c (zero_at i v.flags) =
+    o.flags ∙ ap (λ n. difference_flags v.flags n 0 c (zero_at i v.flags)) ex in
     let z : w.flags.z ≡ from_bool (byte_difference x 0 c == 0) * zero_at i v.flags = ap (λ g. g.z) f in
     record {
       carry = ap (λ g. g.c) f ∙ no_borrow x c h.carry;
       zero_is = z ∙ rw (same_byte x c h.carry small, h.zero_is) (zero_step (value v0.at a i) x (256 ^ i) (pow_pos i));
       one = o.same 1 (omega arith) ∙ h.one;
-      keeps = record { same = λ k y z. o.same k y ∙ h.keeps.same k y z; inputs = o.inputs ∙ h.keeps.inputs; safe = o.safe ∙ h.keeps.safe; seen = o.seen ∙ h.keeps.seen };
+      keeps = record {
+        same = λ k y z. o.same k y ∙ h.keeps.same k y z;
+        inputs = o.inputs ∙ h.keeps.inputs;
+        safe = o.safe ∙ h.keeps.safe;
+        seen = o.seen ∙ h.keeps.seen;
+      };
     }
 
 tests : (e : Env) (p : Location) (n a : ℕ) (v : View) → StandsFrom e p n a Own → HoldsNumbers v
     → TestsTo v a n (block e (test_code p n) v)
 tests e p n a v s bytes =
     let v1 = change e (Eor 1 1) v in
-    chain_holds e (test_byte p) (TestsTo v a) n (step e p n a v s bytes) v1 (record { carry = refl; zero_is = refl; one = xor_self (v.at 1); keeps = record { same = λ k y z. put_other v.at 1 _ k z; inputs = refl; safe = refl; seen = refl } })
+    chain_holds e (test_byte p) (TestsTo v a) n (step e p n a v s bytes) v1 (record {
+      carry = refl;
+      zero_is = refl;
+      one = xor_self (v.at 1);
+      keeps = record { same = λ k y z. put_other v.at 1 _ k z; inputs = refl; safe = refl; seen = refl };
+    })
 
 pub tests_tell_zero : TestsTellZero
 tests_tell_zero e p n a v s bytes = (tests e p (suc n) a v s bytes).zero_is

@@ -33,16 +33,37 @@ record Changes (v w : View) (a x carry : ℕ) : Type 0 where
 byte_is_turned : (e : Env) (p : Location) (i a : ℕ) (v : View) → address e p i ≡ a → KindIs e p a Own
     → Changes v (block e (complement_byte p i) v) a (255 - v.at a) 1
 byte_is_turned e (InRegisters r) i a v p k =
-    rw p (record { here = put_here v.at a _ a refl; carry_is = refl; same = λ j z n. put_other v.at a _ j n; inputs = refl; safe = refl; seen = refl })
+    rw p (record {
+      here = put_here v.at a _ a refl;
+      carry_is = refl;
+      same = λ j z n. put_other v.at a _ j n;
+      inputs = refl;
+      safe = refl;
+      seen = refl;
+    })
 byte_is_turned e (InMemory o j) i a v p k =
     let v1 = set 0 (v.at a) v in
     let v2 = change e (Com 0) v1 in
-    rw (p, k) (record { here = put_here v2.at a _ a refl; carry_is = refl; same = λ i z n. put_other v2.at a _ i n ∙ put_other v1.at 0 _ i z ∙ put_other v.at 0 (v.at a) i z; inputs = refl; safe = refl; seen = refl })
+    rw (p, k) (record {
+      here = put_here v2.at a _ a refl;
+      carry_is = refl;
+      same = λ i z n. put_other v2.at a _ i n ∙ put_other v1.at 0 _ i z ∙ put_other v.at 0 (v.at a) i z;
+      inputs = refl;
+      safe = refl;
+      seen = refl;
+    })
 
 byte_is_carried : (e : Env) (p : Location) (i a : ℕ) (v : View) → address e p i ≡ a → KindIs e p a Own → v.at 1 ≡ 0
     → Changes v (block e (carry_byte p i) v) a ((v.at a + 0 + v.flags.c) % 256) ((v.at a + 0 + v.flags.c) / 256)
 byte_is_carried e (InRegisters r) i a v p k one =
-    rw (p, ← one) (record { here = put_here v.at a _ a refl; carry_is = refl; same = λ j z n. put_other v.at a _ j n; inputs = refl; safe = refl; seen = refl })
+    rw (p, ← one) (record {
+      here = put_here v.at a _ a refl;
+      carry_is = refl;
+      same = λ j z n. put_other v.at a _ j n;
+      inputs = refl;
+      safe = refl;
+      seen = refl;
+    })
 byte_is_carried e (InMemory o j) i a v p k one =
     let v1 = set 0 (v.at a) v in
     let v2 = change e (Adc 0 1) v1 in
@@ -78,7 +99,8 @@ turned_step e p n a v0 s bytes i l v h =
     let here : w.at (a + i) ≡ 255 - x = o.here ∙ ap (λ t. 255 - t) ex in
     record {
       sum = rw (low, here, pow-suc 256 i) (turned_sum (value v.at a i) (value v0.at a i) x (256 ^ i) small h.sum);
-      held = λ j m. ⊎_elim (λ (q : j ≡ i). rw (q, here) (omega arith)) (λ (q : j ≢ i). rw (o.same (a + j) (omega arith) (omega arith)) (h.held j (omega arith))) (cases_eq j i);
+      held = λ j m. ⊎_elim (λ (q : j ≡ i). rw (q, here) (omega arith))
+          (λ (q : j ≢ i). rw (o.same (a + j) (omega arith) (omega arith)) (h.held j (omega arith))) (cases_eq j i);
       one = o.same 1 (omega arith) (omega arith) ∙ h.one;
       carry = λ m. o.carry_is;
       keeps = record {
@@ -99,7 +121,13 @@ turned_step e p n a v0 s bytes i l v h =
 turned : (e : Env) (p : Location) (n a : ℕ) (v : View) → StandsFrom e p n a Own → HoldsNumbers v
     → TurnedTo v a n (block e (complement_code p n) v)
 turned e p n a v s bytes =
-    chain_holds e (complement_byte p) (TurnedTo v a) n (turned_step e p n a v s bytes) v (record { sum = refl; held = λ j l. absurd (omega arith); one = refl; carry = λ l. absurd (omega arith); keeps = record { same = λ k y z m. refl; inputs = refl; safe = refl; seen = refl } })
+    chain_holds e (complement_byte p) (TurnedTo v a) n (turned_step e p n a v s bytes) v (record {
+      sum = refl;
+      held = λ j l. absurd (omega arith);
+      one = refl;
+      carry = λ l. absurd (omega arith);
+      keeps = record { same = λ k y z m. refl; inputs = refl; safe = refl; seen = refl };
+    })
 
 pub complements_are_right : ComplementsAreRight
 complements_are_right e p n a v s bytes =
@@ -132,7 +160,8 @@ carries_step e p n a c v0 s bytes i l v h =
     record {
       sum = rw (low, here, carry, pow-suc 256 i) (carried_sum (value v.at a i) (value v0.at a i) x (256 ^ i) c d h.sum);
       bit = rw carry (omega arith);
-      held = λ j m. ⊎_elim (λ (q : j ≡ i). rw (q, here) (mod_below (x + 0 + d) 256 (omega arith))) (λ (q : j ≢ i). rw (o.same (a + j) (omega arith) (omega arith)) (h.held j (omega arith))) (cases_eq j i);
+      held = λ j m. ⊎_elim (λ (q : j ≡ i). rw (q, here) (mod_below (x + 0 + d) 256 (omega arith)))
+          (λ (q : j ≢ i). rw (o.same (a + j) (omega arith) (omega arith)) (h.held j (omega arith))) (cases_eq j i);
       one = o.same 1 (omega arith) (omega arith) ∙ h.one;
       keeps = record {
         same = λ k y z m. o.same k y (not_here k a i m) ∙ h.keeps.same k y z (fewer k a i m);
@@ -152,7 +181,13 @@ carries_step e p n a c v0 s bytes i l v h =
 carried : (e : Env) (p : Location) (n a : ℕ) (v : View) → StandsFrom e p n a Own → AreHeld v.at a n → v.at 1 ≡ 0
     → v.flags.c ≤ 1 → CarriesTo v a v.flags.c n (block e (carry_code p n) v)
 carried e p n a v s bytes one bit =
-    chain_holds e (carry_byte p) (CarriesTo v a v.flags.c) n (carries_step e p n a v.flags.c v s bytes) v (record { sum = omega arith; bit = bit; held = λ j l. absurd (omega arith); one = one; keeps = record { same = λ k y z m. refl; inputs = refl; safe = refl; seen = refl } })
+    chain_holds e (carry_byte p) (CarriesTo v a v.flags.c) n (carries_step e p n a v.flags.c v s bytes) v (record {
+      sum = omega arith;
+      bit = bit;
+      held = λ j l. absurd (omega arith);
+      one = one;
+      keeps = record { same = λ k y z m. refl; inputs = refl; safe = refl; seen = refl };
+    })
 
 -- a number with the carry, below the power
 wrapped_to : (r x c p : ℕ) → r < p → x ≤ p → r + c * p ≡ p - x → c ≤ 1 → r ≡ (p - x) % p
@@ -162,7 +197,11 @@ wrapped_to r x c p l k h b =
 
 no_bytes : (e : Env) (p : Location) (a : ℕ) (v : View) → Leaves v a 0 ((256 ^ 0 - value v.at a 0) % 256 ^ 0) (change e (Eor 1 1) v)
 no_bytes e p a v =
-    record { number_is = refl; numbers = λ j l. absurd (omega arith); keeps = record { same = λ k y z m. put_other v.at 1 _ k z; inputs = refl; safe = refl; seen = refl } }
+    record {
+      number_is = refl;
+      numbers = λ j l. absurd (omega arith);
+      keeps = record { same = λ k y z m. put_other v.at 1 _ k z; inputs = refl; safe = refl; seen = refl };
+    }
 
 some_bytes : (e : Env) (p : Location) (n a : ℕ) (v : View) → 1 ≤ n → StandsFrom e p n a Own → HoldsNumbers v
     → Leaves v a n ((256 ^ n - value v.at a n) % 256 ^ n) (block e (carry_code p n) (change e (Eor 1 1) (block e (complement_code p n) v)))
@@ -196,4 +235,5 @@ some_bytes e p n a v some s bytes =
 pub negations_are_right : NegationsAreRight
 negations_are_right e p zero a v s bytes = no_bytes e p a v
 negations_are_right e p (suc n) a v s bytes =
-    rw (block-append e (complement_code p (suc n)) (Plain (Eor 1 1) ∷ carry_code p (suc n)) v) (some_bytes e p (suc n) a v (omega arith) s bytes)
+    rw (block-append e (complement_code p (suc n)) (Plain (Eor 1 1) ∷ carry_code p (suc n)) v)
+    (some_bytes e p (suc n) a v (omega arith) s bytes)

@@ -1,5 +1,6 @@
 -- The code of conversions computes them.
-use Rattle.std.proofs.Common.{◌≡◌, ◌≢◌, ◌⊎◌, inl, inr, ⊎_elim, ℕ, zero, suc, ◌+◌, ◌-◌, ◌*◌, ◌/◌, ◌^◌, ◌<◌, ◌≤◌, max, Bool, true, false, ◌++◌, refl, sym, ap, ◌∙◌, subst, arith, append-nil}
+use Rattle.std.proofs.Common.{◌≡◌, ◌≢◌, ◌⊎◌, inl, inr, ⊎_elim, ℕ, zero, suc, ◌+◌, ◌-◌, ◌*◌, ◌/◌, ◌^◌, ◌<◌, ◌≤◌, max, Bool, true, false}
+use Rattle.std.proofs.Common.{◌++◌, refl, sym, ap, ◌∙◌, subst, arith, append-nil}
 use Rattle.std.specs.Prelude.{Ok, if◌then◌else◌, ◌||◌, ◌&&◌, [], ◌∷◌}
 use Rattle.std.proofs.lemmas.Bool.{cases_lt}
 use Rattle.ec_fx.specs.declared.numbers.Mode.{Mode}
@@ -50,7 +51,8 @@ pub record AreConverted (ty aty : PlainType) : Type 0 where
 neither : ⊥ ⊎ ⊥ → ⊥
 neither h = ⊎_elim (λ (z : ⊥). z) (λ (z : ⊥). z) h
 
-by_types : (ty aty : PlainType) → AreConvertible ty aty → IsScalar ty → IsScalar aty → IsFixedType ty ⊎ IsFixedType aty → AreConverted ty aty
+by_types : (ty aty : PlainType) → AreConvertible ty aty → IsScalar ty → IsScalar aty → IsFixedType ty ⊎ IsFixedType aty
+    → AreConverted ty aty
 by_types (integer s m) (fixed k t) h l r f = record { result = l; operand = tt; integers = refl; same = λ e. cc }
 by_types (fixed k t) (integer u n) h l r f = record { result = tt; operand = r; integers = refl; same = λ e. tt }
 by_types (fixed k t) (fixed j u) h l r f = record { result = tt; operand = tt; integers = refl; same = λ e. tt }
@@ -81,7 +83,8 @@ converted_types ty aty h = by_types ty aty h.types h.result h.operand h.fixed
 abbrev words_by : (same integers : Bool) (ty aty : PlainType) → ℕ
 words_by same integers ty aty = if same || integers then 10 * widest (ty ∷ aty ∷ []) else 100 + 40 * widest (ty ∷ aty ∷ [])
 
-pub words_where : (b : Bool) (ty aty : PlainType) → AreConverted ty aty → same_type ty aty ≡ b → conversion_words ty aty ≡ words_by b false ty aty
+pub words_where : (b : Bool) (ty aty : PlainType) → AreConverted ty aty → same_type ty aty ≡ b
+    → conversion_words ty aty ≡ words_by b false ty aty
 words_where b ty aty h e = ap (λ c. words_by c (is_integer ty && is_integer aty) ty aty) e ∙ ap (λ c. words_by b c ty aty) h.integers
 
 -- ---- a copy
@@ -90,7 +93,8 @@ clear_of_30 : (o k : ℕ) → IsClearOfEnds o k → Outside o k 30
 clear_of_30 o k c l = ⊎_elim (λ (y : o < 30). c.below y) (λ (y : 30 ≤ o). let z = c.above y in absurd (omega arith)) (cases_lt o 30)
 
 clear_of_31 : (o k : ℕ) → IsClearOfEnds o k → Outside o k 31
-clear_of_31 o k c l = ⊎_elim (λ (y : o < 30). let z = c.below y in omega arith) (λ (y : 30 ≤ o). let z = c.above y in absurd (omega arith)) (cases_lt o 30)
+clear_of_31 o k c l =
+    ⊎_elim (λ (y : o < 30). let z = c.below y in omega arith) (λ (y : 30 ≤ o). let z = c.above y in absurd (omega arith)) (cases_lt o 30)
 
 value_moved : (f g : ℕ → ℕ) (a b n : ℕ) → ((j : ℕ) → j < n → f (a + j) ≡ g (b + j)) → value f a n ≡ value g b n
 value_moved f g a b zero h = refl
@@ -108,8 +112,10 @@ copy_runs e p q w k i o s pc end v slots numbers at =
     let straight = (pieces_are_straight Sum p q k).0 in
     let steps = (pieces_take Sum p q k).0.1 in
     let low = slots.operand.clear in
-    let at30 : u.at 30 < 256 = subst (λ n. n < 256) (sym (c.same 30 (omega arith) (clear_of_30 o k slots.clear.1))) (numbers 30 (omega arith)) in
-    let at31 : u.at 31 < 256 = subst (λ n. n < 256) (sym (c.same 31 (omega arith) (clear_of_31 o k slots.clear.1))) (numbers 31 (omega arith)) in
+    let at30 : u.at 30 < 256 =
+    subst (λ n. n < 256) (sym (c.same 30 (omega arith) (clear_of_30 o k slots.clear.1))) (numbers 30 (omega arith)) in
+    let at31 : u.at 31 < 256 =
+    subst (λ n. n < 256) (sym (c.same 31 (omega arith) (clear_of_31 o k slots.clear.1))) (numbers 31 (omega arith)) in
     record {
       steps = code_steps code;
       at_most = omega (arith, steps);
@@ -133,7 +139,8 @@ kept_room ty aty h e =
 kept_runs : (ty aty : PlainType) (mode : Mode) (e : Env) (p q w : Location) (i o s pc end : ℕ) (v : View) → AreConverted ty aty
     → same_type ty aty ≡ true → AreOperandSlots e p q w (scalar_size aty) (scalar_size ty) i o s → HoldsNumbers v
     → HasAt e (copy_code p q (scalar_size ty)) pc end
-    → Computes e (64 * conversion_room ty aty) pc v end o (scalar_size ty) s (IsConversionResult ty mode aty (value v.at i (scalar_size aty)))
+    → Computes e (64 * conversion_room ty aty) pc v end o (scalar_size ty) s
+    (IsConversionResult ty mode aty (value v.at i (scalar_size aty)))
 kept_runs ty aty mode e p q w i o s pc end v h same slots numbers at =
     let k = scalar_size ty in
     let t : ty ≡ aty = type_true ty aty same in
@@ -181,13 +188,16 @@ fixed_format (struct index) h = absurd h
 module _ (conversions : ConversionsAreRight) (wholes : WholesAreRight) where
   other_runs : (ty aty : PlainType) (mode : Mode) (e : Env) (p q w : Location) (i o s pc end : ℕ) (v : View) → AreConverted ty aty
       → IsFixedType ty ⊎ IsFixedType aty → same_type ty aty ≡ false
-      → AreOperandSlots e p q w (scalar_size aty) (scalar_size ty) i o s → HoldsNumbers v → HasAt e (converted_code ty aty mode p q w) pc end
-      → Computes e (64 * conversion_room ty aty) pc v end o (scalar_size ty) s (IsConversionResult ty mode aty (value v.at i (scalar_size aty)))
+      → AreOperandSlots e p q w (scalar_size aty) (scalar_size ty) i o s → HoldsNumbers v
+      → HasAt e (converted_code ty aty mode p q w) pc end
+      → Computes e (64 * conversion_room ty aty) pc v end o (scalar_size ty) s
+      (IsConversionResult ty mode aty (value v.at i (scalar_size aty)))
   other_runs void aty mode e p q w i o s pc end v h f same slots numbers at = absurd h.result
   other_runs (integer signed bytes) aty mode e p q w i o s pc end v h f same slots numbers at =
       let a = scalar_size aty in
       let fixed_operand = ⊎_elim (λ (z : ⊥). absurd z) (λ (z : IsFixedType aty). z) f in
-      let r = wholes (format_in aty) e p q w a bytes i o s pc end v (fixed_format aty fixed_operand) (operand_bits aty h.operand) (integer_width bytes h.result)
+      let r = wholes (format_in aty) e p q w a bytes i o s pc end v (fixed_format aty fixed_operand) (operand_bits aty h.operand)
+      (integer_width bytes h.result)
       (two_slots e p q w a bytes i o s slots) numbers at in
       computes_more e (64 * (100 + 36 * max a bytes)) (64 * conversion_room (integer signed bytes) aty) pc end o bytes s v _ _
       (other_room (integer signed bytes) aty h same)
@@ -195,7 +205,8 @@ module _ (conversions : ConversionsAreRight) (wholes : WholesAreRight) where
   other_runs (fixed kind saturates) aty mode e p q w i o s pc end v h f same slots numbers at =
       let a = scalar_size aty in
       let k = (format_of kind).bits / 8 in
-      let r = conversions (format_in aty) (format_of kind) mode e p q w a k i o s pc end v (operand_format aty h.operand) (operand_bits aty h.operand)
+      let r = conversions (format_in aty) (format_of kind) mode e p q w a k i o s pc end v (operand_format aty h.operand)
+      (operand_bits aty h.operand)
       (IsFormat-format_of kind) (kind_bits kind) (two_slots e p q w a k i o s slots) numbers at in
       computes_more e (64 * (100 + 36 * max a k)) (64 * conversion_room (fixed kind saturates) aty) pc end o k s v _ _
       (other_room (fixed kind saturates) aty h same)
@@ -209,6 +220,7 @@ module _ (conversions : ConversionsAreRight) (wholes : WholesAreRight) where
     where
       by_sameness : (b : Bool) → same_type ty aty ≡ b
           → HasAt e (if b then copy_code p q (scalar_size ty) else converted_code ty aty mode p q w) pc end
-          → Computes e (64 * conversion_room ty aty) pc v end o (scalar_size ty) s (IsConversionResult ty mode aty (value v.at i (scalar_size aty)))
+          → Computes e (64 * conversion_room ty aty) pc v end o (scalar_size ty) s
+          (IsConversionResult ty mode aty (value v.at i (scalar_size aty)))
       by_sameness true g c = kept_runs ty aty mode e p q w i o s pc end v (converted_types ty aty h) g slots numbers c
       by_sameness false g c = other_runs ty aty mode e p q w i o s pc end v (converted_types ty aty h) h.fixed g slots numbers c

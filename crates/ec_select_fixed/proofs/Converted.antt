@@ -1,5 +1,6 @@
 -- What the result of a conversion is.
-use Rattle.std.proofs.Common.{◌≡◌, ◌⊎◌, inl, inr, ⊎_elim, ℕ, ◌+◌, ◌-◌, ◌*◌, ◌/◌, ◌^◌, ◌<◌, ◌≤◌, Bool, true, false, ℤ, pos, negsuc, ◌+ℤ◌, refl, sym, ap, ◌∙◌, subst, arith}
+use Rattle.std.proofs.Common.{◌≡◌, ◌⊎◌, inl, inr, ⊎_elim, ℕ, ◌+◌, ◌-◌, ◌*◌, ◌/◌, ◌^◌, ◌<◌, ◌≤◌, Bool, true, false, ℤ, pos, negsuc, ◌+ℤ◌}
+use Rattle.std.proofs.Common.{refl, sym, ap, ◌∙◌, subst, arith}
 use Rattle.std.specs.Prelude.{Option, Some, None, Result, Ok, Err, int_lt, ◌||◌, if◌then◌else◌}
 use Rattle.std.specs.Option.{ok_or}
 use Rattle.std.proofs.lemmas.Bool.{cases_lt}
@@ -53,7 +54,8 @@ pub conversion_told : (ty aty : PlainType) (mode : Mode) (x : ℕ) (a : Operand)
 conversion_told ty aty mode x a r k ka ha e =
     let p = operand_read aty ka x a.value ha.value_is in
     let pv = p.value_is in
-    let first : operand (number_type a.ty) p.number ≡ operand_of aty x = ap (λ t. operand (number_type t) p.number) ha.type_is ∙ p.operand_is in
+    let first : operand (number_type a.ty) p.number ≡ operand_of aty x =
+    ap (λ t. operand (number_type t) p.number) ha.type_is ∙ p.operand_is in
     let read : as_number (conversion_value (number_type ty) mode (operand_of aty x)) ≡ Ok r =
     ap (λ n. as_number (conversion_value (number_type ty) mode n)) (sym first) ∙ sym (conversion_number ty mode a p.number k)
     ∙ ap (conversion_of ty mode a) (sym pv) ∙ e in
@@ -87,15 +89,18 @@ kept_bytes (fixed kind saturates) mode x n f l e =
     let g = format_of kind in
     let k = g.bits / 8 in
     let some = (fixed_bytes (fixed kind saturates) tt).0 in
-    let kept : conversion_value (number_type (fixed kind saturates)) mode (operand_of (fixed kind saturates) x) ≡ Ok (number_in g.signed k x) =
-    ap (λ a. outcome (fixed_conversion a g mode)) (fixed_operand (fixed kind saturates) k x tt) ∙ ap outcome (conversion_keeps g mode k x (kind_bits kind) some l) in
+    let kept : conversion_value (number_type (fixed kind saturates)) mode (operand_of (fixed kind saturates) x)
+    ≡ Ok (number_in g.signed k x) =
+    ap (λ a. outcome (fixed_conversion a g mode)) (fixed_operand (fixed kind saturates) k x tt)
+    ∙ ap outcome (conversion_keeps g mode k x (kind_bits kind) some l) in
     let same : n ≡ number_in g.signed k x = cc in
     ap (low_bytes k) same ∙ low_of_number g.signed k x l
 kept_bytes (pointer space const to) mode x n f l e = absurd f
 kept_bytes (array of len) mode x n f l e = absurd f
 kept_bytes (struct index) mode x n f l e = absurd f
 
-pub kept_result : (ty aty : PlainType) (mode : Mode) (x z : ℕ) → ty ≡ aty → IsFixedType ty → IsNumberType ty → x < 256 ^ scalar_size ty → z ≡ x
+pub kept_result : (ty aty : PlainType) (mode : Mode) (x z : ℕ) → ty ≡ aty → IsFixedType ty → IsNumberType ty
+    → x < 256 ^ scalar_size ty → z ≡ x
     → IsConversionResult ty mode aty x z
 kept_result ty aty mode x z e f k l s =
     subst (λ (t : PlainType). IsConversionResult ty mode t x z) e
@@ -141,7 +146,8 @@ to_whole signed k x n z h e =
     let told = told_whole (integer_of x signed (8 * k)) n e in
     in_range signed (8 * k) k n refl (held_within signed (8 * k) (rounded (exact_whole x)) n told) ∙ sym (h signed n told)
 
-pub whole_result : (signed : Bool) (bytes : ℕ) (aty : PlainType) (mode : Mode) (x z : ℕ) → IsFixedType aty → IsIntegerSize bytes → IsNumberType aty
+pub whole_result : (signed : Bool) (bytes : ℕ) (aty : PlainType) (mode : Mode) (x z : ℕ) → IsFixedType aty → IsIntegerSize bytes
+    → IsNumberType aty
     → HoldsWhole (format_in aty) (scalar_size aty) bytes x z → IsConversionResult (integer signed bytes) mode aty x z
 whole_result signed bytes aty mode x z f k ka h =
     conversion_is (integer signed bytes) aty mode x z k ka

@@ -4,7 +4,8 @@ use Rattle.std.specs.Prelude.{IsSomeAnd, Some, nat_lt, if◌then◌else◌, ◌|
 use Rattle.ec_fx.specs.declared.formats.Format.{Format}
 use Rattle.ec_fx.specs.declared.formats.FxKind.{FxKind}
 use Rattle.ec_fx.specs.declared.formats.FxKind.TheVariants.{ShortFract, Fract, LongFract, ShortAccum, Accum, LongAccum}
-use Rattle.ec_fx.specs.declared.formats.FxKind.TheVariants.{UnsignedShortFract, UnsignedFract, UnsignedLongFract, UnsignedShortAccum, UnsignedAccum, UnsignedLongAccum}
+use Rattle.ec_fx.specs.declared.formats.FxKind.TheVariants.{UnsignedShortFract, UnsignedFract, UnsignedLongFract, UnsignedShortAccum}
+use Rattle.ec_fx.specs.declared.formats.FxKind.TheVariants.{UnsignedAccum, UnsignedLongAccum}
 use Rattle.ec_fx.specs.Formats.{format_of, IsFormat, higher, rank_of}
 use Rattle.ec_fx.proofs.FormatLemmas.{IsFormat-format_of}
 use Rattle.ec_core.specs.Layout.{IsIntegerSize, scalar_size}

@@ -1,5 +1,6 @@
 -- A conversion to the same format keeps the number.
-use Rattle.std.proofs.Common.{◌≡◌, ◌⊎◌, ⊎_elim, ℕ, suc, ◌+◌, ◌-◌, ◌*◌, ◌/◌, ◌^◌, ◌<◌, ◌≤◌, Bool, true, false, ℤ, pos, negsuc, ◌*ℤ◌, ◌-ℤ◌, refl, sym, ap, ◌∙◌, subst, arith}
+use Rattle.std.proofs.Common.{◌≡◌, ◌⊎◌, ⊎_elim, ℕ, suc, ◌+◌, ◌-◌, ◌*◌, ◌/◌, ◌^◌, ◌<◌, ◌≤◌, Bool, true, false, ℤ, pos, negsuc, ◌*ℤ◌, ◌-ℤ◌}
+use Rattle.std.proofs.Common.{refl, sym, ap, ◌∙◌, subst, arith}
 use Rattle.std.specs.Prelude.{if◌then◌else◌, nat_lt, int_lt, ◌≤ℤ◌}
 use Rattle.std.proofs.lemmas.Bool.{cases_lt}
 use Rattle.std.proofs.lemmas.Int.{ints}
@@ -23,7 +24,8 @@ use Rattle.ec_select_fixed.proofs.Values.{powers}
 -- ---- the number in bytes is in range
 
 within_signed : (P h x : ℕ) (n : ℤ) → P ≡ h * 2 → x < P → (2 * x < P → n ≡ pos x) → (P ≤ 2 * x → n ≡ negsuc (P - x - 1))
-    → (least_is : ℤ) → (greatest_is : ℤ) → least_is ≡ pos 0 -ℤ pos h → greatest_is ≡ pos (h - 1) → 1 ≤ h → (least_is ≤ℤ n) × (n ≤ℤ greatest_is)
+    → (least_is : ℤ) → (greatest_is : ℤ) → least_is ≡ pos 0 -ℤ pos h → greatest_is ≡ pos (h - 1) → 1 ≤ h
+    → (least_is ≤ℤ n) × (n ≤ℤ greatest_is)
 within_signed P h x n e l a b low high f g o =
     ⊎_elim
     (λ (y : 2 * x < P). let i : n ≡ pos x = a y in (omega (arith, ints, i, f, e), omega (arith, ints, i, g, e)))
@@ -54,7 +56,8 @@ number_within false width k x e l m =
 pub fit_inside : (to : Format) (mode : Mode) (n : ℤ) → IsWithin to.signed to.bits n → fit to mode n ≡ Got (record { format = to; n = n })
 fit_inside to mode n h = by_tests (int_lt (greatest to.signed to.bits) n) (int_lt n (least to.signed to.bits)) refl refl
   where
-    by_tests : (b c : Bool) → int_lt (greatest to.signed to.bits) n ≡ b → int_lt n (least to.signed to.bits) ≡ c → fit to mode n ≡ Got (record { format = to; n = n })
+    by_tests : (b c : Bool) → int_lt (greatest to.signed to.bits) n ≡ b → int_lt n (least to.signed to.bits) ≡ c
+        → fit to mode n ≡ Got (record { format = to; n = n })
     by_tests true c e f = let g = h.high in absurd (omega (arith, ints, e, g))
     by_tests false true e f = let g = h.low in absurd (omega (arith, ints, f, g))
     by_tests false false e f = rw (e, f) refl
@@ -67,4 +70,5 @@ same_units n r =
 pub conversion_keeps : (f : Format) (mode : Mode) (k x : ℕ) → f.bits ≡ 8 * k → 1 ≤ k → x < 256 ^ k
     → conversion_of (FixedNum (fixed_in f k x)) f mode ≡ Got (record { format = f; n = number_in f.signed k x })
 conversion_keeps f mode k x e l m =
-    ap (fit f mode) (same_units (number_in f.signed k x) f.frac) ∙ fit_inside f mode (number_in f.signed k x) (number_within f.signed f.bits k x e l m)
+    ap (fit f mode) (same_units (number_in f.signed k x) f.frac)
+    ∙ fit_inside f mode (number_in f.signed k x) (number_within f.signed f.bits k x e l m)

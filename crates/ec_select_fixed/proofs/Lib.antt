@@ -1,13 +1,15 @@
-pub mod Emits
+-- For the crates of the family.
 pub mod Formats
 pub mod Conversions
 pub mod Converted
-pub mod Kept
 pub mod Operators
-pub mod PlainItems
-pub mod Runs
-pub mod Sizes
 pub mod Suits
-pub mod Truths
-pub mod Unaries
-pub mod Values
+-- For this crate alone.
+mod Emits
+mod Kept
+mod PlainItems
+mod Runs
+mod Sizes
+mod Truths
+mod Unaries
+mod Values

@@ -1,5 +1,6 @@
 -- What the result of each family is, by the operator.
-use Rattle.std.proofs.Common.{◌≡◌, ℕ, ◌+◌, ◌*◌, ◌^◌, ◌<◌, ◌==◌, Bool, true, false, ℤ, pos, negsuc, unsigned_abs, refl, sym, ap, ◌∙◌, subst, arith}
+use Rattle.std.proofs.Common.{◌≡◌, ℕ, ◌+◌, ◌*◌, ◌^◌, ◌<◌, ◌==◌, Bool, true, false, ℤ, pos, negsuc, unsigned_abs, refl, sym, ap, ◌∙◌, subst}
+use Rattle.std.proofs.Common.{arith}
 use Rattle.std.specs.Prelude.{Result, Ok, Err, int_lt, int_le, ◌&&◌, if◌then◌else◌, ◌*ℤ◌}
 use Rattle.std.specs.Int.{from_bool}
 use Rattle.std.specs.Ordering.{int_eq, int_cmp, ordering_reverse}
@@ -69,8 +70,10 @@ binary_told op ty aty bty mode x y a b r ka kb ha hb e =
     let q = operand_read bty kb y b.value hb.value_is in
     let pv = p.value_is in
     let qv = q.value_is in
-    let first : operand (number_type a.ty) p.number ≡ operand_of aty x = ap (λ t. operand (number_type t) p.number) ha.type_is ∙ p.operand_is in
-    let second : operand (number_type b.ty) q.number ≡ operand_of bty y = ap (λ t. operand (number_type t) q.number) hb.type_is ∙ q.operand_is in
+    let first : operand (number_type a.ty) p.number ≡ operand_of aty x =
+    ap (λ t. operand (number_type t) p.number) ha.type_is ∙ p.operand_is in
+    let second : operand (number_type b.ty) q.number ≡ operand_of bty y =
+    ap (λ t. operand (number_type t) q.number) hb.type_is ∙ q.operand_is in
     let both : binary_of op ty mode a (Number p.number) b (Number q.number) ≡ binary_result op ty mode a b =
     ap (λ u. binary_of op ty mode a u b (Number q.number)) (sym pv) ∙ ap (λ u. binary_of op ty mode a a.value b u) (sym qv) in
     let read : as_number (arithmetic_value op (number_type ty) mode (operand_of aty x) (operand_of bty y)) ≡ Ok r =
@@ -141,14 +144,16 @@ pub product_bytes : (ty : PlainType) (mode : Mode) (a b : Num) (z : ℕ) → IsF
     → HoldsResult (scalar_size ty) (product_of a b (format_in ty) mode) z
     → (n : ℤ) → arithmetic_value Mul (number_type ty) mode a b ≡ Ok n → low_bytes (scalar_size ty) n ≡ z
 product_bytes ty mode a b z f h =
-    outcome_bytes Mul ty mode a b (product_of a b (format_in ty) mode) z f (multiplied_is ty mode a b f).0 (fit_fits (format_in ty) mode _) h
+    outcome_bytes Mul ty mode a b (product_of a b (format_in ty) mode) z f (multiplied_is ty mode a b f).0
+    (fit_fits (format_in ty) mode _) h
 
 pub quotient_bytes : (ty : PlainType) (mode : Mode) (a b : Num) (z : ℕ) → IsFixedType ty
     → HoldsResult (scalar_size ty) (quotient_of a b (format_in ty) mode) z
     → (n : ℤ) → arithmetic_value Div (number_type ty) mode a b ≡ Ok n → low_bytes (scalar_size ty) n ≡ z
 quotient_bytes ty mode a b z f h =
     outcome_bytes Div ty mode a b (quotient_of a b (format_in ty) mode) z f (multiplied_is ty mode a b f).1
-    (if_fits (format_in ty) (int_eq (scaled b) (pos 0)) ZeroDivisor (result_of (quotient_in a b (format_in ty)) (format_in ty) mode) tt (fit_fits (format_in ty) mode (rounded (quotient_in a b (format_in ty))))) h
+    (if_fits (format_in ty) (int_eq (scaled b) (pos 0)) ZeroDivisor (result_of (quotient_in a b (format_in ty)) (format_in ty) mode) tt
+    (fit_fits (format_in ty) mode (rounded (quotient_in a b (format_in ty))))) h
 
 -- ---- shifts
 
@@ -203,15 +208,18 @@ shift_read : (left : Bool) (aty bty : PlainType) (mode : Mode) (x y : ℕ) → I
     ≡ fixed_shift left (fixed_in (format_in aty) (scalar_size aty) x) (number_in (format_in bty).signed (scalar_size bty) y) mode
 shift_read left aty bty mode x y f w =
     ap (λ a. shift_value left a (operand_of bty y) mode) (fixed_operand aty (scalar_size aty) x f)
-    ∙ ap (λ b. shift_value left (FixedNum (fixed_in (format_in aty) (scalar_size aty) x)) b mode) (whole_operand (format_in bty) (scalar_size bty) y w)
+    ∙ ap (λ b. shift_value left (FixedNum (fixed_in (format_in aty) (scalar_size aty) x)) b mode)
+    (whole_operand (format_in bty) (scalar_size bty) y w)
 
 pub shift_bytes : (left : Bool) (ty aty bty : PlainType) (mode : Mode) (x y z : ℕ) (n : ℤ) (w : Result ℤ Undefined) → IsFixedType ty
     → ty ≡ aty → (format_in bty).frac ≡ 0
-    → ShiftHolds left (fixed_in (format_in aty) (scalar_size aty) x) (number_in (format_in bty).signed (scalar_size bty) y) mode (scalar_size aty) z
+    → ShiftHolds left (fixed_in (format_in aty) (scalar_size aty) x) (number_in (format_in bty).signed (scalar_size bty) y) mode
+    (scalar_size aty) z
     → w ≡ shift_value left (operand_of aty x) (operand_of bty y) mode → w ≡ Ok n → low_bytes (scalar_size ty) n ≡ z
 shift_bytes left ty aty bty mode x y z n w f e whole h v g =
     let fa : IsFixedType aty = subst IsFixedType e f in
-    let r = shifted_by left (fixed_in (format_in aty) (scalar_size aty) x) (number_in (format_in bty).signed (scalar_size bty) y) mode (scalar_size aty) z n
+    let r = shifted_by left (fixed_in (format_in aty) (scalar_size aty) x) (number_in (format_in bty).signed (scalar_size bty) y) mode
+    (scalar_size aty) z n
     (fixed_bits aty fa) h (sym (shift_read left aty bty mode x y fa whole) ∙ sym v ∙ g) in
     subst (λ t. low_bytes (scalar_size t) n ≡ z) (sym e) r
 
@@ -263,7 +271,8 @@ truth_bytes : (t : Bool) → low_bytes 2 (truth t) ≡ from_bool t
 truth_bytes true = refl
 truth_bytes false = refl
 
-pub order_bytes : (op : BinOp) (order : Ordering) (t : Bool) (ty : PlainType) (z : ℕ) (n : ℤ) → ty ≡ int → accepts op order ≡ t → z ≡ from_bool t
+pub order_bytes : (op : BinOp) (order : Ordering) (t : Bool) (ty : PlainType) (z : ℕ) (n : ℤ) → ty ≡ int → accepts op order ≡ t
+    → z ≡ from_bool t
     → compared op order ≡ Ok n → low_bytes (scalar_size ty) n ≡ z
 order_bytes op order t ty z n e a h g =
     let same : n ≡ truth (accepts op order) = cc in

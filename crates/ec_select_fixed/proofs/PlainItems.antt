@@ -1,5 +1,6 @@
 -- The items of the code are valid, refer to no label, and are the place of none.
-use Rattle.std.proofs.Common.{◌≡◌, ◌⊎◌, ⊎_elim, ℕ, ◌+◌, ◌-◌, ◌*◌, ◌/◌, ◌<◌, ◌≤◌, ◌==◌, Bool, true, false, List, [], ◌∷◌, ◌++◌, refl, sym, ap, ◌∙◌, subst, arith}
+use Rattle.std.proofs.Common.{◌≡◌, ◌⊎◌, ⊎_elim, ℕ, ◌+◌, ◌-◌, ◌*◌, ◌/◌, ◌<◌, ◌≤◌, ◌==◌, Bool, true, false, List, [], ◌∷◌, ◌++◌, refl, sym}
+use Rattle.std.proofs.Common.{ap, ◌∙◌, subst, arith}
 use Rattle.std.specs.Prelude.{if◌then◌else◌, nat_lt, count_by, cond}
 use Rattle.std.specs.List.{list_all}
 use Rattle.std.proofs.lemmas.Bool.{lt-ltb, eqb-true}
@@ -33,8 +34,10 @@ use Rattle.ec_fxcode_quotients.specs.QuotientLaws.{IsOperandFormat, QuotientsAre
 use Rattle.ec_fxcode_sums.specs.Orders.{order_code}
 use Rattle.ec_fxcode_sums.specs.OrderLaws.{OrdersAreValid, OrdersUseNoLabel, OrdersPlaceNoLabel}
 use Rattle.ec_fxcode_sums.specs.Sums.{sum_code}
-use Rattle.ec_fxcode_sums.specs.SumLaws.{SumsAreValid, SumsUseNoLabel, SumsPlaceNoLabel, NegationsAreValid, NegationsUseNoLabel, NegationsPlaceNoLabel}
-use Rattle.ec_fxcode_conversions.specs.ConversionLaws.{ConversionsAreValid, ConversionsUseNoLabel, ConversionsPlaceNoLabel, WholesAreValid, WholesUseNoLabel, WholesPlaceNoLabel}
+use Rattle.ec_fxcode_sums.specs.SumLaws.{SumsAreValid, SumsUseNoLabel, SumsPlaceNoLabel, NegationsAreValid, NegationsUseNoLabel}
+use Rattle.ec_fxcode_sums.specs.SumLaws.{NegationsPlaceNoLabel}
+use Rattle.ec_fxcode_conversions.specs.ConversionLaws.{ConversionsAreValid, ConversionsUseNoLabel, ConversionsPlaceNoLabel, WholesAreValid}
+use Rattle.ec_fxcode_conversions.specs.ConversionLaws.{WholesUseNoLabel, WholesPlaceNoLabel}
 use Rattle.ec_fxcode_conversions.specs.ProductLaws.{ProductsAreValid, ProductsUseNoLabel, ProductsPlaceNoLabel}
 use Rattle.ec_select_fixed.specs.declared.families.FixedFamily.TheVariants.{Added, Shifted}
 use Rattle.ec_select_fixed.specs.Types.{format_in, IsFixedType, FormatsSuit, AreFixedOperands}
@@ -72,7 +75,8 @@ copy_places l (InRegisters r) (InMemory o k) i = refl
 copy_places l (InMemory o k) (InRegisters s) i = refl
 copy_places l (InMemory o k) (InMemory u j) i = refl
 
-pub copy_plain : (sizes : Sizes) (p q : Location) (n : ℕ) → HasPlaces sizes p n → HasPlaces sizes q n → HasPlainItems sizes (copy_code p q n)
+pub copy_plain : (sizes : Sizes) (p q : Location) (n : ℕ) → HasPlaces sizes p n → HasPlaces sizes q n
+    → HasPlainItems sizes (copy_code p q n)
 copy_plain sizes p q n hp hq = record {
   valid = chain_passes (is_valid_item sizes) (copy_byte p q) n (λ i l. copy_valid sizes p q n n i hp hq l l);
   uses = λ items. chain_passes (λ item. is_placed items (used_label item)) (copy_byte p q) n (λ i l. copy_uses items p q i);
@@ -122,7 +126,8 @@ pub record FamiliesArePlain : Type 0 where
   pub orders : OrdersAreValid × OrdersUseNoLabel × OrdersPlaceNoLabel
 
 module _ (law : FamiliesArePlain) where
-  order_plain : (sizes : Sizes) (r : Relation) (f g : Format) (p c q w : Location) (a b : ℕ) → IsOperandFormat f → f.bits ≡ 8 * a → IsOperandFormat g
+  order_plain : (sizes : Sizes) (r : Relation) (f g : Format) (p c q w : Location) (a b : ℕ) → IsOperandFormat f → f.bits ≡ 8 * a
+      → IsOperandFormat g
       → g.bits ≡ 8 * b → HasPlaces sizes p a → HasPlaces sizes c b → HasPlaces sizes q 2 → HasPlaces sizes w 40
       → HasPlainItems sizes (compared_code r f g p c q w a b)
   order_plain sizes r f g p c q w a b hf fb hg gb hp hc hq hw =
@@ -142,35 +147,41 @@ module _ (law : FamiliesArePlain) where
 
   sum_plain : (minus : Bool) (op : BinOp) (ty aty bty : PlainType) → AreSuited op ty aty bty → IsFixedType ty
       → FormatsSuit (Added minus) (format_in aty) (format_in bty) (format_in ty) → (sizes : Sizes) (mode : Mode) (p c q w : Location)
-      → HasPlaces sizes p (scalar_size aty) → HasPlaces sizes c (scalar_size bty) → HasPlaces sizes q (scalar_size ty) → HasPlaces sizes w 40
-      → HasPlainItems sizes (sum_code minus (format_in aty) (format_in bty) (format_in ty) mode p c q w (scalar_size aty) (scalar_size bty) (scalar_size ty))
+      → HasPlaces sizes p (scalar_size aty) → HasPlaces sizes c (scalar_size bty) → HasPlaces sizes q (scalar_size ty)
+      → HasPlaces sizes w 40
+      → HasPlainItems sizes
+      (sum_code minus (format_in aty) (format_in bty) (format_in ty) mode p c q w (scalar_size aty) (scalar_size bty) (scalar_size ty))
   sum_plain minus op ty aty bty u f h sizes mode p c q w hp hc hq hw =
       let a = scalar_size aty in
       let b = scalar_size bty in
       let k = scalar_size ty in
       let some = (fixed_bytes ty f).0 in
       record {
-        valid = law.sums.0 sizes minus (format_in aty) (format_in bty) (format_in ty) mode p c q w a b k h.0 (operand_bits aty u.first) h.1 (operand_bits bty u.second) h.2 (fixed_bits ty f) hp hc hq hw;
+        valid = law.sums.0 sizes minus (format_in aty) (format_in bty) (format_in ty) mode p c q w a b k h.0 (operand_bits aty u.first) h.1
+            (operand_bits bty u.second) h.2 (fixed_bits ty f) hp hc hq hw;
         uses = λ items. law.sums.1 items minus (format_in aty) (format_in bty) (format_in ty) mode p c q w a b k some;
         places = λ l. law.sums.2 minus (format_in aty) (format_in bty) (format_in ty) mode p c q w a b k l some;
       }
 
   shift_plain : (left : Bool) (op : BinOp) (ty aty bty : PlainType) → AreSuited op ty aty bty → ty ≡ aty
       → FormatsSuit (Shifted left) (format_in aty) (format_in bty) (format_in ty) → (sizes : Sizes) (mode : Mode) (p c q w : Location)
-      → HasPlaces sizes p (scalar_size aty) → HasPlaces sizes c (scalar_size bty) → HasPlaces sizes q (scalar_size ty) → HasPlaces sizes w 40
+      → HasPlaces sizes p (scalar_size aty) → HasPlaces sizes c (scalar_size bty) → HasPlaces sizes q (scalar_size ty)
+      → HasPlaces sizes w 40
       → HasPlainItems sizes (shift_code (format_in aty) left mode p c q w (scalar_size aty))
   shift_plain left op ty aty bty u same h sizes mode p c q w hp hc hq hw =
       let a = scalar_size aty in
       let b = scalar_size bty in
       let result = subst (λ (n : ℕ). HasPlaces sizes q n) (ap scalar_size same) hq in
       record {
-        valid = law.shifts.0 sizes (format_in aty) left mode p c q w a b h.0 (operand_bits aty u.first) (operand_bytes bty u.second).0 hp hc result hw;
+        valid = law.shifts.0 sizes (format_in aty) left mode p c q w a b h.0 (operand_bits aty u.first)
+            (operand_bytes bty u.second).0 hp hc result hw;
         uses = λ items. law.shifts.1 items (format_in aty) left mode p c q w a h.0 (operand_bits aty u.first);
         places = λ l. law.shifts.2 (format_in aty) left mode p c q w a l h.0 (operand_bits aty u.first);
       }
 
   straight : (r : Relation) (op : BinOp) (ty aty bty : PlainType) (sizes : Sizes) (p c q w : Location) → AreSuited op ty aty bty → ty ≡ int
-      → HasPlaces sizes p (scalar_size aty) → HasPlaces sizes c (scalar_size bty) → HasPlaces sizes q (scalar_size ty) → HasPlaces sizes w 40
+      → HasPlaces sizes p (scalar_size aty) → HasPlaces sizes c (scalar_size bty) → HasPlaces sizes q (scalar_size ty)
+      → HasPlaces sizes w 40
       → HasPlainItems sizes (compared_code r (format_in aty) (format_in bty) p c q w (scalar_size aty) (scalar_size bty))
       × HasPlainItems sizes (compared_code r (format_in bty) (format_in aty) c p q w (scalar_size bty) (scalar_size aty))
   straight r op ty aty bty sizes p c q w u two hp hc hq hw =
@@ -186,15 +197,18 @@ module _ (law : FamiliesArePlain) where
       )
 
   plain_for : (op : BinOp) (ty aty bty : PlainType) → PlainFor op ty aty bty
-  plain_for Add ty aty bty = λ sizes mode p c q w u hp hc hq hw. sum_plain false Add ty aty bty u u.result u.formats sizes mode p c q w hp hc hq hw
-  plain_for Sub ty aty bty = λ sizes mode p c q w u hp hc hq hw. sum_plain true Sub ty aty bty u u.result u.formats sizes mode p c q w hp hc hq hw
+  plain_for Add ty aty bty =
+      λ sizes mode p c q w u hp hc hq hw. sum_plain false Add ty aty bty u u.result u.formats sizes mode p c q w hp hc hq hw
+  plain_for Sub ty aty bty =
+      λ sizes mode p c q w u hp hc hq hw. sum_plain true Sub ty aty bty u u.result u.formats sizes mode p c q w hp hc hq hw
   plain_for Mul ty aty bty = λ sizes mode p c q w u hp hc hq hw.
       (let fs = u.formats.0 in
       let ea = one_of_bits (format_in aty).bits (scalar_size aty) fs.left_bits (operand_bits aty u.first) in
       let eb = one_of_bits (format_in bty).bits (scalar_size bty) fs.right_bits (operand_bits bty u.second) in
       let ek = one_of_bits (format_in ty).bits (scalar_size ty) u.formats.2 (fixed_bits ty u.result) in
       record {
-        valid = law.products.0 sizes (format_in aty) (format_in bty) (format_in ty) mode p c q w fs (one_place sizes p (scalar_size aty) ea hp)
+        valid =
+            law.products.0 sizes (format_in aty) (format_in bty) (format_in ty) mode p c q w fs (one_place sizes p (scalar_size aty) ea hp)
             (one_place sizes c (scalar_size bty) eb hc) (one_place sizes q (scalar_size ty) ek hq) hw;
         uses = λ items. law.products.1 items (format_in aty) (format_in bty) (format_in ty) mode p c q w fs;
         places = λ l. law.products.2 (format_in aty) (format_in bty) (format_in ty) mode p c q w l fs;
@@ -207,14 +221,17 @@ module _ (law : FamiliesArePlain) where
       let some_b = (operand_bytes bty u.second).0 in
       let some_k = (fixed_bytes ty u.result).0 in
       record {
-        valid = law.quotients.0 sizes (format_in aty) (format_in bty) (format_in ty) mode p c q w a b k u.formats.0 (operand_bits aty u.first) u.formats.1
+        valid = law.quotients.0 sizes (format_in aty) (format_in bty) (format_in ty) mode p c q w a b k u.formats.0
+            (operand_bits aty u.first) u.formats.1
             (operand_bits bty u.second) u.formats.2 (fixed_bits ty u.result) hp hc hq hw;
         uses = λ items. law.quotients.1 items (format_in aty) (format_in bty) (format_in ty) mode p c q w a b k some_a some_b some_k;
         places = λ l. law.quotients.2 (format_in aty) (format_in bty) (format_in ty) mode p c q w a b k l some_a some_b some_k;
       })
   plain_for Rem ty aty bty = λ sizes mode p c q w u hp hc hq hw. absurd u.formats
-  plain_for Shl ty aty bty = λ sizes mode p c q w u hp hc hq hw. shift_plain true Shl ty aty bty u u.shift u.formats sizes mode p c q w hp hc hq hw
-  plain_for Shr ty aty bty = λ sizes mode p c q w u hp hc hq hw. shift_plain false Shr ty aty bty u u.shift u.formats sizes mode p c q w hp hc hq hw
+  plain_for Shl ty aty bty =
+      λ sizes mode p c q w u hp hc hq hw. shift_plain true Shl ty aty bty u u.shift u.formats sizes mode p c q w hp hc hq hw
+  plain_for Shr ty aty bty =
+      λ sizes mode p c q w u hp hc hq hw. shift_plain false Shr ty aty bty u u.shift u.formats sizes mode p c q w hp hc hq hw
   plain_for And ty aty bty = λ sizes mode p c q w u hp hc hq hw. absurd u.formats
   plain_for Or ty aty bty = λ sizes mode p c q w u hp hc hq hw. absurd u.formats
   plain_for Xor ty aty bty = λ sizes mode p c q w u hp hc hq hw. absurd u.formats
@@ -256,8 +273,10 @@ pub record ConversionsArePlain : Type 0 where
   pub wholes : WholesAreValid × WholesUseNoLabel × WholesPlaceNoLabel
 
 module _ (law : ConversionsArePlain) where
-  other_plain : (sizes : Sizes) (ty aty : PlainType) (mode : Mode) (p q w : Location) → AreConverted ty aty → IsFixedType ty ⊎ IsFixedType aty
-      → HasPlaces sizes p (scalar_size aty) → HasPlaces sizes q (scalar_size ty) → HasPlaces sizes w 40 → HasPlainItems sizes (converted_code ty aty mode p q w)
+  other_plain : (sizes : Sizes) (ty aty : PlainType) (mode : Mode) (p q w : Location) → AreConverted ty aty
+      → IsFixedType ty ⊎ IsFixedType aty
+      → HasPlaces sizes p (scalar_size aty) → HasPlaces sizes q (scalar_size ty) → HasPlaces sizes w 40
+      → HasPlainItems sizes (converted_code ty aty mode p q w)
   other_plain sizes void aty mode p q w h f hp hq hw = absurd h.result
   other_plain sizes (integer signed bytes) aty mode p q w h f hp hq hw =
       let operand = ⊎_elim (λ (z : ⊥). absurd z) (λ (z : IsFixedType aty). z) f in
@@ -274,9 +293,12 @@ module _ (law : ConversionsArePlain) where
       let some = operand_bits aty h.operand in
       let k = (format_of kind).bits / 8 in
       record {
-        valid = law.conversions.0 sizes (format_in aty) (format_of kind) mode p q w (scalar_size aty) k is some (IsFormat-format_of kind) (kind_bits kind) hp hq hw;
-        uses = λ items. law.conversions.1 items (format_in aty) (format_of kind) mode p q w (scalar_size aty) k is some (IsFormat-format_of kind) (kind_bits kind);
-        places = λ l. law.conversions.2 (format_in aty) (format_of kind) mode p q w (scalar_size aty) k l is some (IsFormat-format_of kind) (kind_bits kind);
+        valid = law.conversions.0 sizes (format_in aty) (format_of kind) mode p q w (scalar_size aty) k is some (IsFormat-format_of kind)
+            (kind_bits kind) hp hq hw;
+        uses = λ items. law.conversions.1 items (format_in aty) (format_of kind) mode p q w (scalar_size aty) k is some
+            (IsFormat-format_of kind) (kind_bits kind);
+        places = λ l. law.conversions.2 (format_in aty) (format_of kind) mode p q w (scalar_size aty) k l is some (IsFormat-format_of kind)
+            (kind_bits kind);
       }
   other_plain sizes (pointer space const to) aty mode p q w h f hp hq hw = absurd h.result
   other_plain sizes (array of len) aty mode p q w h f hp hq hw = absurd h.result

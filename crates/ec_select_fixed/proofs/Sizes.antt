@@ -56,7 +56,8 @@ order_room : (x w k n : ℕ) → x ≤ w → k ≡ 2 → n ≤ most_sum_words x 
 order_room x w k n l e h = let q = square_less x w l in omega (arith, q, h, e)
 
 module _ (sums : SumsHave) (products : ProductsHave) (quotients : QuotientsHave) (shifts : ShiftsHave) (orders : OrdersHave) where
-  compared_words : (r : Relation) (f g : Format) (p c q w : Location) (a b : ℕ) → IsOperandFormat f → f.bits ≡ 8 * a → IsOperandFormat g → g.bits ≡ 8 * b
+  compared_words : (r : Relation) (f g : Format) (p c q w : Location) (a b : ℕ) → IsOperandFormat f → f.bits ≡ 8 * a → IsOperandFormat g
+      → g.bits ≡ 8 * b
       → code_words (compared_code r f g p c q w a b) ≤ most_sum_words (max a b) + 12
   compared_words r f g p c q w a b hf fb hg gb =
       let x = orders r f g p c w a b hf fb hg gb in
@@ -69,21 +70,27 @@ module _ (sums : SumsHave) (products : ProductsHave) (quotients : QuotientsHave)
       → code_words (fixed_binary_code op ty aty bty mode p c q w) + copied_words ty
       ≤ operation_words (max (scalar_size ty) (max (scalar_size aty) (max (scalar_size bty) 1)))
 
-  straight : (r : Relation) (ty aty bty : PlainType) (p c q w : Location) (first second : Format) (a b : ℕ) → ty ≡ int → IsOperandFormat first → first.bits ≡ 8 * a
+  straight : (r : Relation) (ty aty bty : PlainType) (p c q w : Location) (first second : Format) (a b : ℕ) → ty ≡ int
+      → IsOperandFormat first → first.bits ≡ 8 * a
       → IsOperandFormat second → second.bits ≡ 8 * b → max a b ≤ max (scalar_size ty) (max (scalar_size aty) (max (scalar_size bty) 1))
-      → code_words (compared_code r first second p c q w a b) + copied_words ty ≤ operation_words (max (scalar_size ty) (max (scalar_size aty) (max (scalar_size bty) 1)))
+      → code_words (compared_code r first second p c q w a b) + copied_words ty
+      ≤ operation_words (max (scalar_size ty) (max (scalar_size aty) (max (scalar_size bty) 1)))
   straight r ty aty bty p c q w first second a b two hf fb hg gb l =
-      order_room (max a b) (max (scalar_size ty) (max (scalar_size aty) (max (scalar_size bty) 1))) (scalar_size ty) _ l (ap scalar_size two) (compared_words r first second p c q w a b hf fb hg gb)
+      order_room (max a b) (max (scalar_size ty) (max (scalar_size aty) (max (scalar_size bty) 1))) (scalar_size ty) _ l
+      (ap scalar_size two) (compared_words r first second p c q w a b hf fb hg gb)
 
-  in_order : (r : Relation) (ty aty bty : PlainType) (p c q w : Location) → ty ≡ int → IsOperandFormat (format_in aty) → (format_in aty).bits ≡ 8 * scalar_size aty
+  in_order : (r : Relation) (ty aty bty : PlainType) (p c q w : Location) → ty ≡ int → IsOperandFormat (format_in aty)
+      → (format_in aty).bits ≡ 8 * scalar_size aty
       → IsOperandFormat (format_in bty) → (format_in bty).bits ≡ 8 * scalar_size bty
       → (code_words (compared_code r (format_in aty) (format_in bty) p c q w (scalar_size aty) (scalar_size bty)) + copied_words ty
       ≤ operation_words (max (scalar_size ty) (max (scalar_size aty) (max (scalar_size bty) 1))))
       × (code_words (compared_code r (format_in bty) (format_in aty) c p q w (scalar_size bty) (scalar_size aty)) + copied_words ty
       ≤ operation_words (max (scalar_size ty) (max (scalar_size aty) (max (scalar_size bty) 1))))
   in_order r ty aty bty p c q w two hf fb hg gb = (
-    straight r ty aty bty p c q w (format_in aty) (format_in bty) (scalar_size aty) (scalar_size bty) two hf fb hg gb (pair_below (scalar_size aty) (scalar_size bty) (scalar_size ty)),
-    straight r ty aty bty c p q w (format_in bty) (format_in aty) (scalar_size bty) (scalar_size aty) two hg gb hf fb (turned_below (scalar_size aty) (scalar_size bty) (scalar_size ty)),
+    straight r ty aty bty p c q w (format_in aty) (format_in bty) (scalar_size aty) (scalar_size bty) two hf fb hg gb
+        (pair_below (scalar_size aty) (scalar_size bty) (scalar_size ty)),
+    straight r ty aty bty c p q w (format_in bty) (format_in aty) (scalar_size bty) (scalar_size aty) two hg gb hf fb
+        (turned_below (scalar_size aty) (scalar_size bty) (scalar_size ty)),
   )
 
   both_orders : (r : Relation) (op : BinOp) (ty aty bty : PlainType) (p c q w : Location) → AreSuited op ty aty bty → ty ≡ int
@@ -92,21 +99,26 @@ module _ (sums : SumsHave) (products : ProductsHave) (quotients : QuotientsHave)
       × (code_words (compared_code r (format_in bty) (format_in aty) c p q w (scalar_size bty) (scalar_size aty)) + copied_words ty
       ≤ operation_words (max (scalar_size ty) (max (scalar_size aty) (max (scalar_size bty) 1))))
   both_orders r op ty aty bty p c q w u two =
-      in_order r ty aty bty p c q w two (operand_format aty u.first) (operand_bits aty u.first) (operand_format bty u.second) (operand_bits bty u.second)
+      in_order r ty aty bty p c q w two (operand_format aty u.first) (operand_bits aty u.first) (operand_format bty u.second)
+      (operand_bits bty u.second)
 
-  sum_words : (minus : Bool) (op : BinOp) (ty aty bty : PlainType) → AreSuited op ty aty bty → IsFixedType ty → FormatsSuit (Added minus) (format_in aty) (format_in bty) (format_in ty)
+  sum_words : (minus : Bool) (op : BinOp) (ty aty bty : PlainType) → AreSuited op ty aty bty → IsFixedType ty
+      → FormatsSuit (Added minus) (format_in aty) (format_in bty) (format_in ty)
       → (mode : Mode) (p c q w : Location)
-      → code_words (sum_code minus (format_in aty) (format_in bty) (format_in ty) mode p c q w (scalar_size aty) (scalar_size bty) (scalar_size ty)) + copied_words ty
+      → code_words (sum_code minus (format_in aty) (format_in bty) (format_in ty) mode p c q w (scalar_size aty) (scalar_size bty)
+      (scalar_size ty)) + copied_words ty
       ≤ operation_words (max (scalar_size ty) (max (scalar_size aty) (max (scalar_size bty) 1)))
   sum_words minus op ty aty bty u f h mode p c q w =
       let a = scalar_size aty in
       let b = scalar_size bty in
       let k = scalar_size ty in
-      let x = sums minus (format_in aty) (format_in bty) (format_in ty) mode p c q w a b k h.0 (operand_bits aty u.first) h.1 (operand_bits bty u.second) h.2 (fixed_bits ty f) h.3 in
+      let x = sums minus (format_in aty) (format_in bty) (format_in ty) mode p c q w a b k h.0 (operand_bits aty u.first) h.1
+      (operand_bits bty u.second) h.2 (fixed_bits ty f) h.3 in
       let s = sum_room (max a (max b k)) (max k (max a (max b 1))) k (below_widest a b k) (omega arith) in
       omega (arith, x, s)
 
-  shift_words : (left : Bool) (op : BinOp) (ty aty bty : PlainType) → AreSuited op ty aty bty → IsFixedType ty → FormatsSuit (Shifted left) (format_in aty) (format_in bty) (format_in ty)
+  shift_words : (left : Bool) (op : BinOp) (ty aty bty : PlainType) → AreSuited op ty aty bty → IsFixedType ty
+      → FormatsSuit (Shifted left) (format_in aty) (format_in bty) (format_in ty)
       → (mode : Mode) (p c q w : Location)
       → code_words (shift_code (format_in aty) left mode p c q w (scalar_size aty)) + copied_words ty
       ≤ operation_words (max (scalar_size ty) (max (scalar_size aty) (max (scalar_size bty) 1)))
@@ -133,7 +145,8 @@ module _ (sums : SumsHave) (products : ProductsHave) (quotients : QuotientsHave)
       let b = scalar_size bty in
       let k = scalar_size ty in
       let most = (fixed_bytes ty u.result).1 in
-      let x = quotients (format_in aty) (format_in bty) (format_in ty) mode p c q w a b k u.formats.0 (operand_bits aty u.first) u.formats.1 (operand_bits bty u.second) u.formats.2 (fixed_bits ty u.result) in
+      let x = quotients (format_in aty) (format_in bty) (format_in ty) mode p c q w a b k u.formats.0 (operand_bits aty u.first) u.formats.1
+      (operand_bits bty u.second) u.formats.2 (fixed_bits ty u.result) in
       let s = most_room (max a (max b k)) (max k (max a (max b 1))) k (below_widest a b k) most in
       omega (arith, x, s))
   words_for Rem ty aty bty = λ mode p c q w u. absurd u.formats
@@ -181,9 +194,11 @@ module _ (conversions : ConversionsHave) (wholes : WholesHave) where
   other_words void aty mode p q w h f = absurd h.result
   other_words (integer signed bytes) aty mode p q w h f =
       let operand = ⊎_elim (λ (z : ⊥). absurd z) (λ (z : IsFixedType aty). z) f in
-      wholes (format_in aty) p q w (scalar_size aty) bytes (fixed_format aty operand) (operand_bits aty h.operand) (integer_width bytes h.result)
+      wholes (format_in aty) p q w (scalar_size aty) bytes (fixed_format aty operand) (operand_bits aty h.operand)
+      (integer_width bytes h.result)
   other_words (fixed kind saturates) aty mode p q w h f =
-      conversions (format_in aty) (format_of kind) mode p q w (scalar_size aty) ((format_of kind).bits / 8) (operand_format aty h.operand) (operand_bits aty h.operand)
+      conversions (format_in aty) (format_of kind) mode p q w (scalar_size aty) ((format_of kind).bits / 8) (operand_format aty h.operand)
+      (operand_bits aty h.operand)
       (IsFormat-format_of kind) (kind_bits kind)
   other_words (pointer space const to) aty mode p q w h f = absurd h.result
   other_words (array of len) aty mode p q w h f = absurd h.result
@@ -193,12 +208,15 @@ module _ (conversions : ConversionsHave) (wholes : WholesHave) where
   conversions_have ty aty mode p q w h = by_sameness (same_type ty aty) refl
     where
       by_sameness : (b : Bool) → same_type ty aty ≡ b
-          → code_words (if b then copy_code p q (scalar_size ty) else converted_code ty aty mode p q w) + copied_words ty ≤ conversion_words ty aty
+          → code_words (if b then copy_code p q (scalar_size ty) else converted_code ty aty mode p q w) + copied_words ty
+          ≤ conversion_words ty aty
       by_sameness true e =
           let x = copy_words p q (scalar_size ty) in
-          let z : conversion_words ty aty ≡ 10 * max (scalar_size ty) (max (scalar_size aty) 1) = words_where true ty aty (converted_types ty aty h) e in
+          let z : conversion_words ty aty ≡ 10 * max (scalar_size ty) (max (scalar_size aty) 1) =
+          words_where true ty aty (converted_types ty aty h) e in
           omega (arith, x, z)
       by_sameness false e =
           let x = other_words ty aty mode p q w (converted_types ty aty h) h.fixed in
-          let z : conversion_words ty aty ≡ 100 + 40 * max (scalar_size ty) (max (scalar_size aty) 1) = words_where false ty aty (converted_types ty aty h) e in
+          let z : conversion_words ty aty ≡ 100 + 40 * max (scalar_size ty) (max (scalar_size aty) 1) =
+          words_where false ty aty (converted_types ty aty h) e in
           omega (arith, x, z)

@@ -3,8 +3,6 @@ use Rattle.std.proofs.Common.{◌≡◌, ◌⊎◌, inl, inr, ⊎_elim, ℕ, ◌
 use Rattle.std.specs.Prelude.{IsSomeAnd, Some, None, nat_lt, if◌then◌else◌, ◌||◌, ⊤, pos}
 use Rattle.ec_fx.specs.declared.formats.Format.{Format}
 use Rattle.ec_fx.specs.declared.formats.FxKind.{FxKind}
-use Rattle.ec_fx.specs.declared.formats.FxKind.TheVariants.{ShortFract, Fract, LongFract, ShortAccum, Accum, LongAccum}
-use Rattle.ec_fx.specs.declared.formats.FxKind.TheVariants.{UnsignedShortFract, UnsignedFract, UnsignedLongFract, UnsignedShortAccum, UnsignedAccum, UnsignedLongAccum}
 use Rattle.ec_fx.specs.declared.numbers.Num.{Num}
 use Rattle.ec_fx.specs.declared.numbers.Num.TheVariants.{Whole, Fixed as FixedNum}
 use Rattle.ec_fx.specs.Arithmetic.{IsResultFormat}
@@ -18,7 +16,9 @@ use Rattle.ec_core.specs.declared.expressions.BinOp.TheVariants.{Add, Sub, Mul, 
 use Rattle.ec_core.specs.ArithmeticTypes.{arithmetic_of, type_of, signed_kind, higher_kind, common_fixed, common}
 use Rattle.ec_core.specs.Layout.{IsScalar, scalar_size}
 use Rattle.ec_core.specs.Plain.{PlainType, void, integer, fixed, pointer, array, struct}
-use Rattle.ec_core.specs.Typing.{int, HaveArithmeticTypes, HaveOffsetTypes, HaveUsualTypes, HaveProductTypes, HaveShiftTypes, IsIntegerKind, IsOneByteType}
+use Rattle.ec_core.specs.Typing.{int, HaveArithmeticTypes, HaveOffsetTypes, HaveUsualTypes, HaveProductTypes, HaveShiftTypes, IsIntegerKind}
+use Rattle.ec_core.specs.Typing.{IsOneByteType}
+use Rattle.ec_core.proofs.Suiting.{signed_signed}
 use Rattle.ec_ir.specs.Valid.{IsShift, HaveCountTypes, HaveOperationTypes}
 use Rattle.ec_fxcode_shifts.specs.ShiftLaws.{IsWholeFormat, fixed_in, number_in}
 use Rattle.ec_fxcode_quotients.specs.QuotientLaws.{IsOperandFormat, operand_in}
@@ -134,20 +134,6 @@ arithmetics op ty aty bty h = by_types op ty aty bty h.types h.left h.right h.fi
 abbrev pub as_type : FxKind → Bool → PlainType
 as_type kind saturates = fixed kind saturates
 
-signed_same : (k : FxKind) → (format_of k).signed ≡ true → signed_kind k ≡ k
-signed_same ShortFract e = refl
-signed_same Fract e = refl
-signed_same LongFract e = refl
-signed_same ShortAccum e = refl
-signed_same Accum e = refl
-signed_same LongAccum e = refl
-signed_same UnsignedShortFract e = cc
-signed_same UnsignedFract e = cc
-signed_same UnsignedLongFract e = cc
-signed_same UnsignedShortAccum e = cc
-signed_same UnsignedAccum e = cc
-signed_same UnsignedLongAccum e = cc
-
 chosen_kind : (b : Bool) (x y : FxKind) → format_of (if b then y else x) ≡ (if b then format_of y else format_of x)
 chosen_kind true x y = refl
 chosen_kind false x y = refl
@@ -162,7 +148,7 @@ kind_in_common b c x y = if b || c then higher_kind (signed_kind x) (signed_kind
 common_of_alike : (b c : Bool) (x y : FxKind) → (format_of x).signed ≡ b → (format_of y).signed ≡ c → b ≡ c
     → kind_in_common b c x y ≡ higher_kind x y
 common_of_alike true true x y e f g =
-    ap (λ z. higher_kind z (signed_kind y)) (signed_same x e) ∙ ap (λ z. higher_kind x z) (signed_same y f)
+    ap (λ z. higher_kind z (signed_kind y)) (signed_signed x e) ∙ ap (λ z. higher_kind x z) (signed_signed y f)
 common_of_alike true false x y e f g = cc
 common_of_alike false true x y e f g = cc
 common_of_alike false false x y e f g = refl
@@ -193,14 +179,22 @@ fixed_there t k e = subst (λ z. IsFormat (format_at z)) (sym e) (IsFormat-forma
 usual_formats : (t x y : Arithmetic) → HaveUsualTypes t x y → IsFixedKind x ⊎ IsFixedKind y
     → ArithmeticFormats (format_at x) (format_at y) (format_at t) × IsFormat (format_at t)
 usual_formats t (Integer a) (Integer b) h f = absurd (neither f)
-usual_formats t (Integer a) (Fixed b) h f =
-    (subst (λ (z : Bool). IsArithmetic true z (format_at (Integer a)) (format_of b.kind) (format_at t)) (sym (kind_frac b.kind)) (ap format_at h.value), fixed_there t b h.value)
-usual_formats t (Fixed a) (Integer b) h f =
-    (subst (λ (z : Bool). IsArithmetic z true (format_of a.kind) (format_at (Integer b)) (format_at t)) (sym (kind_frac a.kind)) (ap format_at h.value), fixed_there t a h.value)
+usual_formats t (Integer a) (Fixed b) h f = (
+  subst (λ (z : Bool). IsArithmetic true z (format_at (Integer a)) (format_of b.kind) (format_at t)) (sym (kind_frac b.kind))
+      (ap format_at h.value),
+  fixed_there t b h.value,
+)
+usual_formats t (Fixed a) (Integer b) h f = (
+  subst (λ (z : Bool). IsArithmetic z true (format_of a.kind) (format_at (Integer b)) (format_at t)) (sym (kind_frac a.kind))
+      (ap format_at h.value),
+  fixed_there t a h.value,
+)
 usual_formats t (Fixed a) (Fixed b) h f =
     let e : format_at t ≡ higher (format_of a.kind) (format_of b.kind) = ap format_at h.value ∙ common_format a b h.signedness in (
-      subst (λ (z : Bool). IsArithmetic z ((format_of b.kind).frac == 0) (format_of a.kind) (format_of b.kind) (format_at t)) (sym (kind_frac a.kind))
-          (subst (λ (z : Bool). IsArithmetic false z (format_of a.kind) (format_of b.kind) (format_at t)) (sym (kind_frac b.kind)) (h.signedness, e)),
+      subst (λ (z : Bool). IsArithmetic z ((format_of b.kind).frac == 0) (format_of a.kind) (format_of b.kind) (format_at t))
+          (sym (kind_frac a.kind))
+          (subst (λ (z : Bool). IsArithmetic false z (format_of a.kind) (format_of b.kind) (format_at t)) (sym (kind_frac b.kind))
+          (h.signedness, e)),
       fixed_there t (common_fixed a b) h.value,
     )
 
@@ -214,13 +208,17 @@ product_result : (t x y : Arithmetic) → HaveProductTypes t x y → IsFixedKind
     → IsResultFormat (operand_in (format_at x) 1 0) (operand_in (format_at y) 1 0) (format_at t)
 product_result t (Integer a) (Integer b) h f = absurd (neither f)
 product_result t (Integer a) (Fixed b) h f =
-    subst (λ (z : Bool). IsResultFormat (operand_in (format_at (Integer a)) 1 0) (operand_by z (format_of b.kind)) (format_at t)) (sym (kind_frac b.kind)) (ap format_at h.value)
+    subst (λ (z : Bool). IsResultFormat (operand_in (format_at (Integer a)) 1 0) (operand_by z (format_of b.kind)) (format_at t))
+    (sym (kind_frac b.kind)) (ap format_at h.value)
 product_result t (Fixed a) (Integer b) h f =
-    subst (λ (z : Bool). IsResultFormat (operand_by z (format_of a.kind)) (operand_in (format_at (Integer b)) 1 0) (format_at t)) (sym (kind_frac a.kind)) (ap format_at h.value)
+    subst (λ (z : Bool). IsResultFormat (operand_by z (format_of a.kind)) (operand_in (format_at (Integer b)) 1 0) (format_at t))
+    (sym (kind_frac a.kind)) (ap format_at h.value)
 product_result t (Fixed a) (Fixed b) h f =
     let e : format_at t ≡ higher (format_of a.kind) (format_of b.kind) = ap format_at h.value ∙ common_format a b h.signedness in
-    subst (λ (z : Bool). IsResultFormat (operand_by z (format_of a.kind)) (operand_by ((format_of b.kind).frac == 0) (format_of b.kind)) (format_at t)) (sym (kind_frac a.kind))
-    (subst (λ (z : Bool). IsResultFormat (operand_by false (format_of a.kind)) (operand_by z (format_of b.kind)) (format_at t)) (sym (kind_frac b.kind)) (h.signedness, e))
+    subst (λ (z : Bool). IsResultFormat (operand_by z (format_of a.kind)) (operand_by ((format_of b.kind).frac == 0) (format_of b.kind))
+    (format_at t)) (sym (kind_frac a.kind))
+    (subst (λ (z : Bool). IsResultFormat (operand_by false (format_of a.kind)) (operand_by z (format_of b.kind)) (format_at t))
+    (sym (kind_frac b.kind)) (h.signedness, e))
 
 -- ---- shifts and products
 
@@ -387,8 +385,15 @@ suited_by : (op : BinOp) (ty aty bty : PlainType) (t x y : Arithmetic) → ty �
 suited_by op ty aty bty t x y et ex ey h l r f =
     let kx = known_type x (subst IsScalar ex l) in
     let ky = known_type y (subst IsScalar ey r) in
-    let g : IsFixedKind x ⊎ IsFixedKind y = ⊎_elim (λ z. inl (fixed_kind x (subst IsFixedType ex z))) (λ z. inr (fixed_kind y (subst IsFixedType ey z))) f in
-    let s : AreSuited op (type_of t) (type_of x) (type_of y) = record { first = kx; second = ky; result = result_by op t x y h g; shift = shifts_by op t x y h; formats = by_operator op t x y h kx ky g } in
+    let g : IsFixedKind x ⊎ IsFixedKind y =
+    ⊎_elim (λ z. inl (fixed_kind x (subst IsFixedType ex z))) (λ z. inr (fixed_kind y (subst IsFixedType ey z))) f in
+    let s : AreSuited op (type_of t) (type_of x) (type_of y) = record {
+      first = kx;
+      second = ky;
+      result = result_by op t x y h g;
+      shift = shifts_by op t x y h;
+      formats = by_operator op t x y h kx ky g;
+    } in
     subst (λ z. AreSuited op z aty bty) (sym et)
     (subst (λ z. AreSuited op (type_of t) z bty) (sym ex) (subst (λ z. AreSuited op (type_of t) (type_of x) z) (sym ey) s))
 

@@ -1,5 +1,6 @@
 -- A truth value in R30 becomes an int.
-use Rattle.std.proofs.Common.{◌≡◌, ◌≢◌, ◌⊎◌, ⊎_elim, ℕ, zero, suc, ◌+◌, ◌*◌, ◌<◌, ◌≤◌, Bool, true, false, ◌++◌, refl, sym, ap, ◌∙◌, subst, arith, append-nil}
+use Rattle.std.proofs.Common.{◌≡◌, ◌≢◌, ◌⊎◌, ⊎_elim, ℕ, zero, suc, ◌+◌, ◌*◌, ◌<◌, ◌≤◌, Bool, true, false, ◌++◌, refl, sym, ap, ◌∙◌, subst}
+use Rattle.std.proofs.Common.{arith, append-nil}
 use Rattle.std.specs.Int.{from_bool}
 use Rattle.std.proofs.lemmas.Bool.{cases_eq}
 use Rattle.ec_asm.specs.declared.pieces.Location.{Location}
@@ -41,14 +42,17 @@ truth_stands e = record { at = λ i l. refl; kind = λ i l. refl; clear = omega 
 copied_numbers : (v w : View) (o : ℕ) → 2 ≤ o → HoldsNumbers v → CopiesTo v 30 o Own Own 1 w → HoldsNumbers w
 copied_numbers v w o l h c k m =
     ⊎_elim
-    (λ (x : k ≡ o). let e : k ≡ o + 0 = omega arith in let b : v.at 30 < 256 = h 30 (omega arith) in subst (λ n. w.at n < 256) (sym e) (subst (λ n. n < 256) (sym (c.there 0 (omega arith))) b))
+    (λ (x : k ≡ o). let e : k ≡ o + 0 = omega arith in
+    let b : v.at 30 < 256 = h 30 (omega arith) in
+    subst (λ n. w.at n < 256) (sym e) (subst (λ n. n < 256) (sym (c.there 0 (omega arith))) b))
     (λ (x : k ≢ o). subst (λ n. n < 256) (sym (c.same k (omega arith) (λ y. omega arith))) (h k m))
     (cases_eq k o)
 
 extended_numbers : (v w : View) (o : ℕ) → HoldsNumbers v → Extends v false o 0 2 w → HoldsNumbers w
 extended_numbers v w o h c k m =
     ⊎_elim
-    (λ (x : k ≡ o + 1). let z : w.at (o + 1) ≡ 0 = c.there 1 (omega arith) (omega arith) in subst (λ n. w.at n < 256) (sym x) (subst (λ n. n < 256) (sym z) (omega arith)))
+    (λ (x : k ≡ o + 1). let z : w.at (o + 1) ≡ 0 = c.there 1 (omega arith) (omega arith) in
+    subst (λ n. w.at n < 256) (sym x) (subst (λ n. n < 256) (sym z) (omega arith)))
     (λ (x : k ≢ o + 1). subst (λ n. n < 256) (sym (c.keeps.same k (omega arith) (omega arith) (λ y. omega arith))) (h k m))
     (cases_eq k (o + 1))
 
@@ -74,7 +78,8 @@ truth_put e q o pc end t v stands clear numbers told at =
     let go2 = block_goes e second parts.0 end u s2 parts.2 in
     let k1 = (pieces_take Sum (InRegisters 30) q 1).0.1 in
     let k2 = (values_take q 0 1 2).2 false in
-    let here : w.at (o + 0) ≡ from_bool t = extended.keeps.same (o + 0) (omega arith) (omega arith) (λ l. omega arith) ∙ copied.there 0 (omega arith) ∙ told in
+    let here : w.at (o + 0) ≡ from_bool t =
+    extended.keeps.same (o + 0) (omega arith) (omega arith) (λ l. omega arith) ∙ copied.there 0 (omega arith) ∙ told in
     let high : w.at (o + 1) ≡ 0 = extended.there 1 (omega arith) (omega arith) in
     record {
       steps = code_steps first + code_steps second;
@@ -83,7 +88,8 @@ truth_put e q o pc end t v stands clear numbers told at =
       goes = goes_on_to e (code_steps first) (code_steps second) pc parts.0 end v u w go1 go2;
       holds = two_bytes w.at o t here high;
       numbers = extended_numbers u w o numbers1 extended;
-      same = λ k x y z. extended.keeps.same k x y (λ l. let far = z (omega arith) in omega arith) ∙ copied.same k x (λ l. let far = z l in omega arith);
+      same = λ k x y z. extended.keeps.same k x y (λ l. let far = z (omega arith) in omega arith)
+          ∙ copied.same k x (λ l. let far = z l in omega arith);
       inputs = extended.keeps.inputs ∙ copied.inputs;
       safe = extended.keeps.safe ∙ copied.safe;
       seen = extended.keeps.seen ∙ copied.seen ∙ ap (λ l. v.seen ++ l) (no_log 30 o v.at 1) ∙ append-nil v.seen;

@@ -51,9 +51,11 @@ negated t mode x z h u r read e =
     let result : as_number (unary_value Minus (Fixed t) mode m) ≡ Ok r = ap (unary_result Minus (fixed t.kind t.sat) mode) (sym is) ∙ e in
     let told = as_told (unary_value Minus (Fixed t) mode m) r result in
     let answer = negation_of (fixed_in f k x) mode in
-    let same : unary_value Minus (Fixed t) mode m ≡ outcome answer = ap (λ n. outcome (negation_of (fixed_number t n) mode)) (same_number f.signed k x) in
+    let same : unary_value Minus (Fixed t) mode m ≡ outcome answer =
+    ap (λ n. outcome (negation_of (fixed_number t n) mode)) (same_number f.signed k x) in
     ap (content_of k) told.result
-    ∙ ap bits (result_bytes f k z answer told.number (kind_bits t.kind) (fit_fits f mode (rounded (exact_negation (fixed_in f k x).n))) h (sym same ∙ told.is))
+    ∙ ap bits (result_bytes f k z answer told.number (kind_bits t.kind) (fit_fits f mode (rounded (exact_negation (fixed_in f k x).n))) h
+    (sym same ∙ told.is))
 
 negation_room : (k : ℕ) → 64 * most_negation_words k ≤ 64 * (60 + 40 * k - 4 * k)
 negation_room k = omega arith
@@ -64,7 +66,8 @@ unaries_are_right law op (integer signed bytes) mode e p q w i o s pc end v h sl
 unaries_are_right law Minus (fixed kind saturates) mode e p q w i o s pc end v h slots numbers at =
     let f = format_of kind in
     let k = f.bits / 8 in
-    let r = law f mode e p q w k i o s pc end v (IsFormat-format_of kind) (kind_bits kind) (negation_slots e p q w k i o s slots) numbers at in
+    let r =
+    law f mode e p q w k i o s pc end v (IsFormat-format_of kind) (kind_bits kind) (negation_slots e p q w k i o s slots) numbers at in
     computes_more e (64 * most_negation_words k) (64 * unary_room (fixed kind saturates)) pc end o k s v _ _ (negation_room k)
     (λ z g. negated (record { kind = kind; sat = saturates }) mode (value v.at i k) z g) r
 unaries_are_right law Invert (fixed kind saturates) mode e p q w i o s pc end v h slots numbers at = absurd h.types.0

@@ -1,5 +1,6 @@
 -- Operands that stand in bytes, and the bytes of results.
-use Rattle.std.proofs.Common.{◌≡◌, ◌⊎◌, ⊎_elim, ℕ, zero, suc, ◌+◌, ◌-◌, ◌*◌, ◌/◌, ◌^◌, ◌%◌, ◌<◌, ◌≤◌, ◌==◌, Bool, true, false, ℤ, pos, negsuc, ◌-ℤ◌, ◌+ℤ◌, unsigned_abs, refl, sym, ap, ◌∙◌, subst, arith, pow-add}
+use Rattle.std.proofs.Common.{◌≡◌, ◌⊎◌, ⊎_elim, ℕ, zero, suc, ◌+◌, ◌-◌, ◌*◌, ◌/◌, ◌^◌, ◌%◌, ◌<◌, ◌≤◌, ◌==◌, Bool, true, false, ℤ, pos}
+use Rattle.std.proofs.Common.{negsuc, ◌-ℤ◌, ◌+ℤ◌, unsigned_abs, refl, sym, ap, ◌∙◌, subst, arith, pow-add}
 use Rattle.std.specs.Prelude.{if◌then◌else◌, nat_lt, nat_le, ◌&&◌, ◌≤ℤ◌, Result, Ok, Err, int_lt, neg_ℤ, ⊤}
 use Rattle.std.specs.Int.{int_rem_euclid}
 use Rattle.std.proofs.lemmas.Bool.{cases_lt, lt-ltb, le-leb, lt-leb, le-ltb}
@@ -142,9 +143,12 @@ pub fit_fits : (to : Format) (mode : Mode) (n : ℤ) → FitsFormat to (fit to m
 fit_fits to mode n = by_tests (int_lt (greatest to.signed to.bits) n) (int_lt n (least to.signed to.bits)) refl refl
   where
     by_tests : (b c : Bool) → int_lt (greatest to.signed to.bits) n ≡ b → int_lt n (least to.signed to.bits) ≡ c
-        → FitsFormat to (if b then clamped to mode (greatest to.signed to.bits) else (if c then clamped to mode (least to.signed to.bits) else Got (record { format = to; n = n })))
-    by_tests true c e f = clamped_fits to mode (greatest to.signed to.bits) (record { low = ends_in_order to.signed to.bits; high = omega (arith, ints) })
-    by_tests false true e f = clamped_fits to mode (least to.signed to.bits) (record { low = omega (arith, ints); high = ends_in_order to.signed to.bits })
+        → FitsFormat to (if b then clamped to mode (greatest to.signed to.bits)
+        else (if c then clamped to mode (least to.signed to.bits) else Got (record { format = to; n = n })))
+    by_tests true c e f =
+        clamped_fits to mode (greatest to.signed to.bits) (record { low = ends_in_order to.signed to.bits; high = omega (arith, ints) })
+    by_tests false true e f =
+        clamped_fits to mode (least to.signed to.bits) (record { low = omega (arith, ints); high = ends_in_order to.signed to.bits })
     by_tests false false e f = record { low = not_less n (least to.signed to.bits) f; high = not_less (greatest to.signed to.bits) n e }
 
 pub if_fits : (to : Format) (b : Bool) (p q : Fx) → FitsFormat to p → FitsFormat to q → FitsFormat to (if b then p else q)

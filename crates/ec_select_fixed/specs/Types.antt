@@ -11,7 +11,7 @@ use Rattle.ec_core.specs.Layout.{IsScalar, IsIntegerSize}
 use Rattle.ec_core.specs.Plain.{PlainType, void, integer, fixed, pointer, array, struct}
 use Rattle.ec_core.specs.Typing.{HaveUnaryTypes, AreConvertible}
 use Rattle.ec_ir.specs.Valid.{HaveOperationTypes}
-use Rattle.ec_fxcode_parts.specs.Formats.{whole_format}
+use Rattle.ec_fxcode_quotients.specs.Formats.{whole_format}
 use Rattle.ec_fxcode_shifts.specs.ShiftLaws.{IsWholeFormat}
 use Rattle.ec_fxcode_quotients.specs.QuotientLaws.{IsOperandFormat}
 use Rattle.ec_fxcode_sums.specs.SumLaws.{ArithmeticFormats}

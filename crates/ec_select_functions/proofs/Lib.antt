@@ -1,41 +1,43 @@
-pub mod Wrapped
-pub mod Moves
-pub mod Match
-pub mod Computed
-pub mod Accesses
-pub mod FixedRuns
-pub mod Follow
-pub mod PortBytes
-pub mod PortStates
-pub mod PortReads
-pub mod PortPoints
-pub mod PortForms
-pub mod PortMatch
-pub mod Fronts
-pub mod Numbers
-pub mod Numeric
-pub mod Going
-pub mod Pointed
-pub mod Reached
-pub mod PointerNumbers
-pub mod MemorySteps
-pub mod PointerSteps
-pub mod Steps
-pub mod Extended
-pub mod Standing
-pub mod Orders
-pub mod Truth
-pub mod Related
-pub mod Turned
-pub mod Multiplied
-pub mod Shifted
-pub mod Divided
-pub mod Saved
+-- For the crates of the family.
 pub mod Stacked
-pub mod Setting
-pub mod Active
-pub mod Returned
-pub mod Resumed
-pub mod Called
-pub mod Program
-pub mod Safe
+-- For this crate alone.
+mod Wrapped
+mod Moves
+mod Match
+mod Computed
+mod Accesses
+mod FixedRuns
+mod Follow
+mod PortBytes
+mod PortStates
+mod PortReads
+mod PortPoints
+mod PortForms
+mod PortMatch
+mod Fronts
+mod Numbers
+mod Numeric
+mod Going
+mod Pointed
+mod Reached
+mod PointerNumbers
+mod MemorySteps
+mod PointerSteps
+mod Steps
+mod Extended
+mod Standing
+mod Orders
+mod Truth
+mod Related
+mod Turned
+mod Multiplied
+mod Shifted
+mod Divided
+mod Saved
+mod Setting
+mod Active
+mod Returned
+mod Resumed
+mod Called
+mod Program
+mod Safe

@@ -6,7 +6,7 @@ use Rattle.ec_asm.specs.declared.pieces.Location.TheVariants.{InRegisters, InMem
 use Rattle.ec_asm.specs.Pieces.{HasBytes}
 use Rattle.ec_select_order.specs.declared.relations.Relation.{Relation}
 use Rattle.ec_select_order.specs.declared.relations.Relation.TheVariants.{Less, NotLess, Equal, NotEqual}
-pub use Rattle.ec_select_parts.proofs.Bytes.{byte_there}
+pub use Rattle.ec_select_bytes.proofs.Bytes.{byte_there}
 use Rattle.ec_select_places.specs.Steps.{compared_bytes}
 use Rattle.ec_select_pointers.specs.Addresses.{pointer_bytes}
 use Rattle.ec_select_operations.specs.Pointers.{tag_in, IsPointerSize}

@@ -1,2 +1,4 @@
-pub mod Emits
+-- For the crates of the family.
 pub mod Written
+-- For this crate alone.
+mod Emits

@@ -33,7 +33,7 @@ use Rattle.ec_select_bytes.specs.Complements.{complement_code, negation_code}
 use Rattle.ec_select_order.specs.declared.relations.Relation.{Relation}
 use Rattle.ec_select_order.specs.declared.relations.Relation.TheVariants.{Less, NotLess, Equal, NotEqual}
 use Rattle.ec_select_order.specs.Relations.{relation_code, unless_code}
-pub use Rattle.ec_select_parts.specs.Operators.{reversed_code}
+pub use Rattle.ec_select_bytes.specs.Operators.{reversed_code}
 use Rattle.ec_select_places.specs.Conversions.{embed_code}
 use Rattle.ec_select_places.specs.Distances.{elements_code}
 use Rattle.ec_select_places.specs.Steps.{scale_index_code, advance_code, compared_bytes}

@@ -22,7 +22,7 @@ use Rattle.ec_select_operations.specs.Code.{Linkage, HasResult, family_of}
 use Rattle.ec_select_operations.specs.Needs.{is_fixed}
 use Rattle.ec_select_operations.specs.Places.{object_location}
 use Rattle.ec_select_operations.specs.Pointers.{is_pointer, IsPointerSize}
-pub use Rattle.ec_select_parts.specs.Ports.{HasIndexByte}
+pub use Rattle.ec_select_bytes.specs.Ports.{HasIndexByte}
 use Rattle.ec_select_fixed.specs.Types.{AreFixedOperands, IsFixedOperand, AreFixedConverted}
 
 -- the objects and structs of a program, which the emitters look at

@@ -4,7 +4,7 @@ use Rattle.ec_asm.specs.declared.pieces.Location.{Location}
 use Rattle.ec_asm.specs.declared.pieces.Location.TheVariants.{InRegisters}
 use Rattle.ec_ir.specs.declared.operations.Temp.{Temp}
 use Rattle.ec_select_operations.specs.declared.homes.Homes.{Homes}
-use Rattle.ec_select_parts.specs.Homes.{depth_of_place, home_of_place}
+use Rattle.ec_select_bytes.specs.Homes.{depth_of_place, home_of_place}
 
 -- a temporary that code has a home for: at one of so many places, and of at most 8 bytes
 pub record HasHome (slots : ℕ) (t : Temp) : Type 0 where

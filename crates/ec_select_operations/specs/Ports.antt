@@ -1,4 +1,4 @@
 -- The code of operations on ports, passed on.
-pub use Rattle.ec_select_parts.specs.Ports.{has_io_number, in_instruction, out_instruction, read_instruction}
-pub use Rattle.ec_select_parts.specs.Ports.{write_instruction, read_byte, write_byte, write_code, scale_code, point_code}
-pub use Rattle.ec_select_parts.specs.Ports.{in_code, out_code}
+pub use Rattle.ec_select_bytes.specs.Ports.{has_io_number, in_instruction, out_instruction, read_instruction}
+pub use Rattle.ec_select_bytes.specs.Ports.{write_instruction, read_byte, write_byte, write_code, scale_code, point_code}
+pub use Rattle.ec_select_bytes.specs.Ports.{in_code, out_code}

@@ -6,7 +6,7 @@ ghost use Rattle.ec_select_operations.specs.Homes.{home};
 
 use ec_asm::Location;
 use ec_ir::Temp;
-use ec_select_parts::home_of_place;
+use ec_select_bytes::home_of_place;
 
 /// The homes of a function's temporaries. The first places stand in registers, from R25 down, where a temporary has at
 /// most `width` bytes; all others stand in scratch memory.

@@ -21,8 +21,7 @@ use crate::pointers::{
 use crate::types::{is_fixed, is_pointer, is_signed, is_whole};
 use ec_asm::{AsmItem, Location, copy};
 use ec_ir::{Ir, IrProgram, Temp};
-use ec_select_bytes::constant;
-use ec_select_parts::{PortAccess, jump, read_port, write_port};
+use ec_select_bytes::{PortAccess, constant, jump, read_port, write_port};
 use ec_select_pointers::{field, store_data};
 use ec_space::{NoMemory, Seq};
 

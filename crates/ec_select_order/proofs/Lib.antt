@@ -1,2 +1,4 @@
+-- For the crates of the family.
 pub mod Truths
-pub mod Words
+-- For this crate alone.
+mod Words

@@ -1,5 +1,6 @@
 -- A truth value in R30: 1, or 0 where a branch over one word is not taken.
-use Rattle.std.proofs.Common.{◌≡◌, ◌≢◌, ℕ, zero, suc, ◌+◌, ◌*◌, ◌%◌, ◌<◌, ◌≤◌, Bool, true, false, not, pos, refl, sym, ap, ◌∙◌, subst, arith, Some}
+use Rattle.std.proofs.Common.{◌≡◌, ◌≢◌, ℕ, zero, suc, ◌+◌, ◌*◌, ◌%◌, ◌<◌, ◌≤◌, Bool, true, false, not, pos, refl, sym, ap, ◌∙◌, subst}
+use Rattle.std.proofs.Common.{arith, Some}
 use Rattle.std.specs.Prelude.{◌==◌, if◌then◌else◌}
 use Rattle.std.specs.Int.{from_bool}
 use Rattle.ec_isa.specs.declared.instructions.Instr.TheVariants.{Ldi, Brbs, Brbc}
@@ -44,14 +45,26 @@ record Skips (e : Env) (pc end : ℕ) (v : View) (b : Bool) : Type 0 where
 -- the branch is taken
 taken : (e : Env) (pc end : ℕ) (v : View) (x : Bool) → Goes e 1 pc v end v → v.at 30 ≡ 1 → x ≡ true → Skips e pc end v x
 taken e pc end v x g one q =
-    record { steps = 1; most = omega arith; last = v; goes = g; truth = record { told = one ∙ sym (ap from_bool q); same = λ k z. refl; inputs = refl; safe = refl; seen = refl } }
+    record {
+      steps = 1;
+      most = omega arith;
+      last = v;
+      goes = g;
+      truth = record { told = one ∙ sym (ap from_bool q); same = λ k z. refl; inputs = refl; safe = refl; seen = refl };
+    }
 
 -- it is passed
 passed : (e : Env) (pc mid end : ℕ) (v : View) (x : Bool) → Goes e 1 pc v mid v → At e (Ldi 30 0) mid end → x ≡ false
     → Skips e pc end v x
 passed e pc mid end v x g a q =
     let w = change e (Ldi 30 0) v in
-    record { steps = 1 + 1; most = omega arith; last = w; goes = goes_on_to e 1 1 pc mid end v v w g (one_goes e (Ldi 30 0) mid end v refl a); truth = record { told = sym (ap from_bool q); same = λ k z. put_other v.at 30 0 k z; inputs = refl; safe = refl; seen = refl } }
+    record {
+      steps = 1 + 1;
+      most = omega arith;
+      last = w;
+      goes = goes_on_to e 1 1 pc mid end v v w g (one_goes e (Ldi 30 0) mid end v refl a);
+      truth = record { told = sym (ap from_bool q); same = λ k z. put_other v.at 30 0 k z; inputs = refl; safe = refl; seen = refl };
+    }
 
 skips : (e : Env) (set x : Bool) (flag pc mid end : ℕ) (v : View) → is_flag flag ≡ true
     → At e (branch_if set flag (pos 1)) pc mid → At e (Ldi 30 0) mid end → flag_at v.flags flag ≡ from_bool x
@@ -174,7 +187,8 @@ relations_are_told r signed e left right n a b pc end v sa sb h stands =
     let last = rest.2 in
     let end_is : last.0 ≡ end = sym last.2 in
     let load : At e (Ldi 30 0) rest.0 end = subst (λ i. At e (Ldi 30 0) rest.0 i) end_is last.1 in
-    let k = skips e (is_set r) (told_by r signed (suc n) x z) (flag_of r signed) parts.0 rest.0 end v2 (flag_is r signed) rest.1 load flag refl in
+    let k =
+    skips e (is_set r) (told_by r signed (suc n) x z) (flag_of r signed) parts.0 rest.0 end v2 (flag_is r signed) rest.1 load flag refl in
     let kept : KeepsAll v v1 = comparisons_keep e right left (suc n) b a v sb sa h in
     let both = goes_on_to e _ 1 pc s.0 parts.0 v v1 v2 first second in
     let most = k.most in

@@ -11,11 +11,13 @@ use Rattle.ec_asm.specs.Change.{Env, Own, change}
 use Rattle.ec_asm.specs.Items.{block}
 use Rattle.ec_asm.specs.Pieces.{value, copy_code, operate_code}
 use Rattle.ec_asm.specs.PieceLaws.{HoldsNumbers, CopiesAreRight, DifferencesAreRight}
+use Rattle.ec_asm.proofs.Bytes.{put_other}
+use Rattle.ec_asm.proofs.Hoare.{block-append}
 use Rattle.ec_select_places.specs.Steps.{z_pair, scale_code}
 use Rattle.ec_select_places.specs.StepLaws.{LeavesZ}
 use Rattle.ec_select_places.specs.Distances.{halve_z, halvings_code, distance_code}
 use Rattle.ec_select_places.specs.DistanceLaws.{signed_number, IsFrom, DistancesAreRight}
-use Rattle.ec_select_places.proofs.Blocks.{put_other, block-append, copied_numbers}
+use Rattle.ec_select_places.proofs.Blocks.{copied_numbers}
 use Rattle.ec_select_places.proofs.Scaled.{Loads, z_stands, two_loaded, scaled}
 use Rattle.ec_select_places.proofs.Advanced.{above_z}
 

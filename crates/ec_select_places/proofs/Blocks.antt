@@ -1,23 +1,15 @@
--- One byte of a view, code in parts, and copies.
-use Rattle.std.proofs.Common.{◌≡◌, ◌≢◌, ℕ, ◌+◌, ◌-◌, ◌%◌, ◌/◌, ◌<◌, ◌≤◌, ⊎_elim, List, [], ◌∷◌, ◌++◌, refl, ◌∙◌, subst, arith}
-use Rattle.std.proofs.lemmas.Bool.{ne_eqb, cases_lt}
-use Rattle.ec_asm.specs.declared.items.AsmItem.{AsmItem}
+-- Two bytes of a view, and copies.
+use Rattle.std.proofs.Common.{◌≡◌, ◌≢◌, ℕ, ◌+◌, ◌-◌, ◌%◌, ◌/◌, ◌<◌, ◌≤◌, ⊎_elim, ◌∙◌, subst, arith}
+use Rattle.std.proofs.lemmas.Bool.{cases_lt}
 use Rattle.ec_asm.specs.declared.pieces.Location.{Location}
 use Rattle.ec_asm.specs.View.{View, put, put_pair}
 use Rattle.ec_asm.specs.Change.{Env, Own}
-use Rattle.ec_asm.specs.Items.{block, item_change}
 use Rattle.ec_asm.specs.Pieces.{StandsFrom, Outside}
 use Rattle.ec_asm.specs.PieceLaws.{HoldsNumbers}
-
-pub put_other : (f : ℕ → ℕ) (a x k : ℕ) → k ≢ a → put f a x k ≡ f k
-put_other f a x k h = rw (ne_eqb k a h) refl
+use Rattle.ec_asm.proofs.Bytes.{put_other}
 
 pub pair_other : (f : ℕ → ℕ) (a n k : ℕ) → k ≢ a → k ≢ a + 1 → put_pair f a n k ≡ f k
 pair_other f a n k g h = put_other (put f a (n % 256)) (a + 1) (n / 256) k h ∙ put_other f a (n % 256) k g
-
-pub block-append : (e : Env) (a b : List AsmItem) (v : View) → block e (a ++ b) v ≡ block e b (block e a v)
-block-append e [] b v = refl
-block-append e (i ∷ a) b v = block-append e a b (item_change e i v)
 
 -- the first bytes of a number
 pub first_bytes : (e : Env) (p : Location) (m n a : ℕ) → m ≤ n → StandsFrom e p n a Own → StandsFrom e p m a Own

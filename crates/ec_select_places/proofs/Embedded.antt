@@ -12,10 +12,12 @@ use Rattle.ec_asm.specs.Change.{Env, Own, change}
 use Rattle.ec_asm.specs.Items.{block}
 use Rattle.ec_asm.specs.Pieces.{value, copy_code}
 use Rattle.ec_asm.specs.PieceLaws.{HoldsNumbers, CopiesAreRight, BytesAreCopied}
+use Rattle.ec_asm.proofs.Bytes.{put_other}
+use Rattle.ec_asm.proofs.Hoare.{block-append}
 use Rattle.ec_select_places.specs.Steps.{z_pair}
 use Rattle.ec_select_places.specs.Conversions.{embedded, tag_of, tag_code, put_tag, embed_code, narrow_code}
 use Rattle.ec_select_places.specs.ConversionLaws.{PointersAreEmbedded, PointersAreNarrowed}
-use Rattle.ec_select_places.proofs.Blocks.{put_other, block-append, first_bytes, copied_numbers}
+use Rattle.ec_select_places.proofs.Blocks.{first_bytes, copied_numbers}
 use Rattle.ec_select_places.proofs.Scaled.{z_stands, two_loaded}
 use Rattle.ec_select_places.proofs.Advanced.{above_z}
 

@@ -1,10 +1,10 @@
-pub mod Places
-pub mod Blocks
-pub mod Scaled
-pub mod Advanced
-pub mod Embedded
-pub mod Short
-pub mod Valid
-pub mod Apart
-pub mod Inverted
-pub mod Sized
+mod Places
+mod Blocks
+mod Scaled
+mod Advanced
+mod Embedded
+mod Short
+mod Valid
+mod Apart
+mod Inverted
+mod Sized

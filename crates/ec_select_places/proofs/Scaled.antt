@@ -10,11 +10,13 @@ use Rattle.ec_asm.specs.Change.{Env, Own, change}
 use Rattle.ec_asm.specs.Items.{block}
 use Rattle.ec_asm.specs.Pieces.{StandsFrom, Outside, value, copy_code, CopiesTo}
 use Rattle.ec_asm.specs.PieceLaws.{HoldsNumbers, CopiesAreRight, NumbersHaveLowParts}
+use Rattle.ec_asm.proofs.Bytes.{put_other}
+use Rattle.ec_asm.proofs.Hoare.{block-append}
 use Rattle.ec_select_bytes.specs.Values.{extend_code, fill_of}
 use Rattle.ec_select_bytes.specs.Laws.{ExtensionsAreRight}
 use Rattle.ec_select_places.specs.Steps.{z_pair, index_code, product_code, scale_code}
 use Rattle.ec_select_places.specs.StepLaws.{LeavesZ, index_of, Scales, IndexesAreScaled}
-use Rattle.ec_select_places.proofs.Blocks.{put_other, pair_other, block-append, first_bytes, copied_numbers}
+use Rattle.ec_select_places.proofs.Blocks.{pair_other, first_bytes, copied_numbers}
 
 -- what is known of the pieces
 pub record Lower : Type 0 where

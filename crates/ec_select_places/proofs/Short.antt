@@ -1,15 +1,15 @@
 -- The form of the code: straight code, and its steps and words.
-use Rattle.std.proofs.Common.{◌≡◌, ℕ, zero, suc, ◌+◌, ◌*◌, ◌≤◌, ◌==◌, Bool, true, false, List, []}
-use Rattle.std.proofs.Common.{◌∷◌, ◌++◌, refl, arith}
+use Rattle.std.proofs.Common.{ℕ, zero, suc, ◌+◌, ◌*◌, ◌≤◌, ◌==◌, Bool, true, false, List, []}
+use Rattle.std.proofs.Common.{◌++◌, refl, arith}
 use Rattle.std.specs.Prelude.{if◌then◌else◌}
 use Rattle.std.proofs.lemmas.List.Sums.{sum_by-append}
-use Rattle.std.proofs.lemmas.Bool.{and_parts, and_from}
 use Rattle.ec_asm.specs.declared.items.AsmItem.{AsmItem}
 use Rattle.ec_asm.specs.declared.pieces.Location.{Location}
 use Rattle.ec_asm.specs.declared.pieces.Location.TheVariants.{InRegisters, InMemory}
 use Rattle.ec_asm.specs.declared.pieces.Operator.TheVariants.{Difference}
-use Rattle.ec_asm.specs.Items.{is_straight, all_straight, code_steps, item_words}
+use Rattle.ec_asm.specs.Items.{item_words}
 use Rattle.ec_asm.specs.Pieces.{copy_code, operate_code}
+use Rattle.ec_asm.proofs.Hoare.{straight-append, steps-append}
 use Rattle.ec_select_bytes.specs.Values.{extend_code}
 use Rattle.ec_select_order.specs.Laws.{RelationsHaveWords}
 use Rattle.ec_select_places.specs.Steps.{z_pair, index_code, product_code, scale_code, advance_code, compared_bytes}
@@ -19,16 +19,6 @@ use Rattle.ec_select_places.specs.Form.{DistancesAreShort}
 use Rattle.ec_select_places.specs.Form.{IsShort, StepsAreShort, ConversionsAreShort, OrdersHaveWords}
 
 -- ---- lists of items
-
-straight-append : (a b : List AsmItem) → all_straight a ≡ true → all_straight b ≡ true → all_straight (a ++ b) ≡ true
-straight-append [] b p q = q
-straight-append (i ∷ a) b p q =
-    let r = and_parts (is_straight i) (all_straight a) p in
-    and_from (is_straight i) (all_straight (a ++ b)) r.0 (straight-append a b r.1 q)
-
-steps-append : (a b : List AsmItem) → code_steps (a ++ b) ≡ code_steps a + code_steps b
-steps-append [] b = omega arith
-steps-append (i ∷ a) b = omega (arith, steps-append a b)
 
 joined : (a b : List AsmItem) (i j k m l n : ℕ) → IsShort a i k l → IsShort b j m n
     → IsShort (a ++ b) (i + j) (k + m) (l + n)

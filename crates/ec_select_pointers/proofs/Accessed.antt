@@ -15,12 +15,15 @@ use Rattle.ec_asm.specs.Change.{Env, Own, change}
 use Rattle.ec_asm.specs.Items.{block, part_of}
 use Rattle.ec_asm.specs.Pieces.{StandsFrom, Outside, copy_code}
 use Rattle.ec_asm.specs.PieceLaws.{IsReadFirst, CopiesAreRight}
+use Rattle.ec_asm.proofs.Bytes.{put_other}
+use Rattle.ec_asm.proofs.Hoare.{block-append, chain_holds}
+use Rattle.ec_asm.proofs.Sum.{not_yet}
 use Rattle.ec_select_pointers.specs.Accesses.{point_code, data_byte, data_bytes, flash_byte, flash_bytes, store_byte}
 use Rattle.ec_select_pointers.specs.Accesses.{store_bytes}
 use Rattle.ec_select_pointers.specs.AccessLaws.{each, Brings, LeavesZ, AreData, AreFlash, data_at}
 use Rattle.ec_select_pointers.specs.AccessLaws.{flash_at, address_in, DataIsLoaded, FlashIsLoaded, TableIsLoaded}
 use Rattle.ec_select_pointers.specs.AccessLaws.{DataIsStored}
-use Rattle.ec_select_pointers.proofs.Blocks.{put_other, block-append, chain_holds, outside_ne, not_yet}
+use Rattle.ec_select_pointers.proofs.Blocks.{outside_ne}
 use Rattle.ec_select_pointers.proofs.Brought.{BringsByte, BringsTo, one_brought, data_is_brought, flash_is_brought}
 use Rattle.ec_select_pointers.proofs.Brought.{byte_is_stored}
 

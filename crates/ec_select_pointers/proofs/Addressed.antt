@@ -16,10 +16,12 @@ use Rattle.ec_asm.specs.Change.{Env, Own, set, set_both, change, difference_flag
 use Rattle.ec_asm.specs.Items.{block, item_change, part_of}
 use Rattle.ec_asm.specs.Pieces.{address, KindIs, StandsFrom, Outside, value, carry_at, zero_at}
 use Rattle.ec_asm.specs.PieceLaws.{HoldsNumbers}
+use Rattle.ec_asm.proofs.Bytes.{put_here, put_other}
+use Rattle.ec_asm.proofs.Hoare.{block-append}
 use Rattle.ec_select_pointers.specs.Addresses.{set_byte, part_byte, tag_code, address_code, rest_of}
 use Rattle.ec_select_pointers.specs.Addresses.{subtracts, subtract_byte}
 use Rattle.ec_select_pointers.specs.AddressLaws.{HasPut, AddressesAreRight, FieldsAreRight}
-use Rattle.ec_select_pointers.proofs.Blocks.{put_here, put_other, block-append, outside_ne, fewer}
+use Rattle.ec_select_pointers.proofs.Blocks.{outside_ne, fewer}
 
 -- ---- one byte
 

@@ -14,9 +14,10 @@ use Rattle.ec_asm.specs.Change.{Env, Own, Object, set, see, move_to}
 use Rattle.ec_asm.specs.Items.{block}
 use Rattle.ec_asm.specs.Pieces.{address, KindIs, Outside}
 use Rattle.ec_asm.specs.PieceLaws.{HoldsNumbers}
+use Rattle.ec_asm.proofs.Bytes.{put_here, put_other}
 use Rattle.ec_select_pointers.specs.Accesses.{data_byte, flash_byte, store_byte}
 use Rattle.ec_select_pointers.specs.AccessLaws.{each, Brings}
-use Rattle.ec_select_pointers.proofs.Blocks.{put_here, put_other, outside_ne, fewer}
+use Rattle.ec_select_pointers.proofs.Blocks.{outside_ne, fewer}
 
 -- ---- one byte
 

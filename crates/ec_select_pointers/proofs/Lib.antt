@@ -1,7 +1,9 @@
-pub mod Blocks
-pub mod Addressed
-pub mod Brought
-pub mod Accessed
-pub mod Short
-pub mod Tagged
+-- For the crates of the family.
 pub mod Valid
+-- For this crate alone.
+mod Blocks
+mod Addressed
+mod Brought
+mod Accessed
+mod Short
+mod Tagged

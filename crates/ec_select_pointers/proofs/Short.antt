@@ -3,7 +3,7 @@ use Rattle.std.proofs.Common.{◌≡◌, ℕ, zero, suc, ◌+◌, ◌-◌, ◌*�
 use Rattle.std.proofs.Common.{◌∷◌, ◌++◌, Option, Some, None, refl, arith}
 use Rattle.std.specs.Prelude.{nat_le, if◌then◌else◌}
 use Rattle.std.proofs.lemmas.List.Sums.{sum_by-append, sum_by-drop_more}
-use Rattle.std.proofs.lemmas.Bool.{and_parts, and_from, false≢true}
+use Rattle.std.proofs.lemmas.Bool.{and_parts, false≢true}
 use Rattle.ec_isa.specs.declared.instructions.Instr.TheVariants.{Ldi, Mov, Movw}
 use Rattle.ec_asm.specs.declared.items.AsmItem.{AsmItem}
 use Rattle.ec_asm.specs.declared.items.AsmItem.TheVariants.{Plain, Label, JumpTo, CallTo, BranchTo, LoadPart, LoadObj}
@@ -13,6 +13,8 @@ use Rattle.ec_asm.specs.declared.pieces.Location.TheVariants.{InRegisters, InMem
 use Rattle.ec_asm.specs.Change.{Env}
 use Rattle.ec_asm.specs.Items.{HasAt, Stands, is_straight, all_straight, code_steps, code_words, item_words, chain}
 use Rattle.ec_asm.specs.Pieces.{copy_code}
+use Rattle.ec_asm.proofs.Hoare.{straight-append, steps-append}
+use Rattle.ec_asm.proofs.ItemWords.{chain_words}
 use Rattle.ec_select_pointers.specs.Addresses.{pointer_bytes, part_byte, tag_code, address_code, rest_of}
 use Rattle.ec_select_pointers.specs.Addresses.{subtract_byte, field_code}
 use Rattle.ec_select_pointers.specs.Accesses.{point_code, data_byte, data_bytes, flash_byte, flash_bytes, bytes_words}
@@ -22,16 +24,6 @@ use Rattle.ec_select_pointers.specs.Accesses.{store_data_code}
 use Rattle.ec_select_pointers.specs.Form.{Takes, PointersAreStraight, PointersTake, PointersHave, TablesAreShort}
 
 -- ---- lists of items
-
-straight-append : (a b : List AsmItem) → all_straight a ≡ true → all_straight b ≡ true → all_straight (a ++ b) ≡ true
-straight-append [] b p q = q
-straight-append (i ∷ a) b p q =
-    let r = and_parts (is_straight i) (all_straight a) p in
-    and_from (is_straight i) (all_straight (a ++ b)) r.0 (straight-append a b r.1 q)
-
-steps-append : (a b : List AsmItem) → code_steps (a ++ b) ≡ code_steps a + code_steps b
-steps-append [] b = omega arith
-steps-append (i ∷ a) b = omega (arith, steps-append a b)
 
 -- code that is straight, with at least and at most so many steps, and at most so many words
 pub record IsShort (code : List AsmItem) (least steps words : ℕ) : Type 0 where
@@ -234,20 +226,13 @@ tables_are_short o k q n =
 
 -- ---- where code ends
 
-words-chain : (body : ℕ → List AsmItem) (n k : ℕ) → ((i : ℕ) → code_words (body i) ≡ k) → code_words (chain body n) ≡ k * n
-words-chain body zero k h = omega arith
-words-chain body (suc n) k h =
-    let r = words-chain body n k h in
-    let b = h n in
-    omega (arith, sum_by-append item_words (chain body n) (body n), r, b)
-
 pub data_has_words : (q : Location) (n : ℕ) → code_words (data_bytes q n) ≡ bytes_words q n
-data_has_words (InRegisters r) n = words-chain (data_byte (InRegisters r)) n 1 (λ i. refl)
-data_has_words (InMemory o k) n = words-chain (data_byte (InMemory o k)) n 3 (λ i. refl)
+data_has_words (InRegisters r) n = chain_words (data_byte (InRegisters r)) n 1 (λ i. refl)
+data_has_words (InMemory o k) n = chain_words (data_byte (InMemory o k)) n 3 (λ i. refl)
 
 pub flash_has_words : (q : Location) (n : ℕ) → code_words (flash_bytes q n) ≡ bytes_words q n
-flash_has_words (InRegisters r) n = words-chain (flash_byte (InRegisters r)) n 1 (λ i. refl)
-flash_has_words (InMemory o k) n = words-chain (flash_byte (InMemory o k)) n 3 (λ i. refl)
+flash_has_words (InRegisters r) n = chain_words (flash_byte (InRegisters r)) n 1 (λ i. refl)
+flash_has_words (InMemory o k) n = chain_words (flash_byte (InMemory o k)) n 3 (λ i. refl)
 
 -- a straight item ends behind its words, at a word address
 item_ends : (e : Env) (i : AsmItem) (pc end : ℕ) → is_straight i ≡ true → Stands e i pc end

@@ -16,11 +16,11 @@ use Rattle.ec_asm.specs.Laws.{PartsStand, StraightCodeGoes, RunsJoin, SetBitSkip
 use Rattle.ec_asm.specs.Pieces.{StandsFrom}
 use Rattle.ec_asm.specs.PieceLaws.{CopiesAreRight}
 use Rattle.ec_asm.specs.Takes.{Goes}
+use Rattle.ec_asm.proofs.Bytes.{put_other}
 use Rattle.ec_select_pointers.specs.Accesses.{point_code, data_bytes, flash_bytes, bytes_words, tag_test, over}
 use Rattle.ec_select_pointers.specs.Accesses.{either_bytes}
 use Rattle.ec_select_pointers.specs.AccessLaws.{Brings, HasPointer, data_at, flash_at}
 use Rattle.ec_select_pointers.specs.AccessLaws.{address_in, DataIsLoadedByTag, FlashIsLoadedByTag}
-use Rattle.ec_select_pointers.proofs.Blocks.{put_other}
 use Rattle.ec_select_pointers.proofs.Accessed.{pointed, data_brought, flash_follows}
 use Rattle.ec_select_pointers.proofs.Short.{point_short, all_data_short, all_flash_short, data_has_words}
 use Rattle.ec_select_pointers.proofs.Short.{flash_has_words, straight_ends}

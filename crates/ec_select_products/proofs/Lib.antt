@@ -1,4 +1,6 @@
-pub mod Puts
-pub mod Signs
+-- For the crates of the family.
 pub mod Multiplied
-pub mod Words
+-- For this crate alone.
+mod Puts
+mod Signs
+mod Words

@@ -1,5 +1,6 @@
 -- The product of two bytes.
-use Rattle.std.proofs.Common.{◌≡◌, ◌≢◌, ℕ, zero, suc, ◌+◌, ◌-◌, ◌*◌, ◌/◌, ◌%◌, ◌^◌, ◌<◌, ◌≤◌, ⊎_elim, Bool, true, false, refl, sym, ap, ◌∙◌, subst, arith, append-nil, ◌∷◌, [], ◌++◌}
+use Rattle.std.proofs.Common.{◌≡◌, ◌≢◌, ℕ, zero, suc, ◌+◌, ◌-◌, ◌*◌, ◌/◌, ◌%◌, ◌^◌, ◌<◌, ◌≤◌, ⊎_elim, Bool, true, false, refl, sym, ap, ◌∙◌}
+use Rattle.std.proofs.Common.{subst, arith, append-nil, ◌∷◌, [], ◌++◌}
 use Rattle.std.proofs.lemmas.Bool.{cases_eq, cases_lt}
 use Rattle.std.proofs.lemmas.Nat.{mod_below, mul-le}
 use Rattle.ec_isa.specs.declared.instructions.Instr.TheVariants.{Mul}
@@ -39,7 +40,8 @@ register e r l = record { at = λ i m. refl; kind = λ i m. refl; clear = l }
 
 after_copies : (e : Env) (p q : Location) (a b : ℕ) (v : View) → StandsFrom e p 1 a Own → StandsFrom e q 1 b Own
     → Outside 30 2 a → Outside 30 2 b
-    → Multiplied v (change e (Mul 30 31) (block e (copy_code q (InRegisters 31) 1) (block e (copy_code p (InRegisters 30) 1) v))) (v.at a) (v.at b)
+    → Multiplied v (change e (Mul 30 31) (block e (copy_code q (InRegisters 31) 1) (block e (copy_code p (InRegisters 30) 1) v)))
+    (v.at a) (v.at b)
 after_copies e p q a b v sa sb oa ob =
     let ua = sa.clear in
     let ub = sb.clear in
@@ -60,7 +62,8 @@ after_copies e p q a b v sa sb oa ob =
       high = ap (λ i. i / 256) product;
       left = x2;
       right = y2;
-      same = λ k s o t. put_other (put v2.at 0 (n % 256)) 1 (n / 256) k o ∙ put_other v2.at 0 (n % 256) k s ∙ c2.same k s (λ l. let m = t (omega arith) in omega arith) ∙ c1.same k s (λ l. let m = t l in omega arith);
+      same = λ k s o t. put_other (put v2.at 0 (n % 256)) 1 (n / 256) k o ∙ put_other v2.at 0 (n % 256) k s
+          ∙ c2.same k s (λ l. let m = t (omega arith) in omega arith) ∙ c1.same k s (λ l. let m = t l in omega arith);
       inputs = c2.inputs ∙ c1.inputs;
       safe = c2.safe ∙ c1.safe;
       seen = c2.seen ∙ append-nil v1.seen ∙ c1.seen ∙ append-nil v.seen;
@@ -69,24 +72,36 @@ after_copies e p q a b v sa sb oa ob =
 factors_hold : (e : Env) (p q : Location) (a b : ℕ) (v : View) → StandsFrom e p 1 a Own → StandsFrom e q 1 b Own
     → Outside 30 2 a → Outside 30 2 b → Multiplied v (block e (factors_code p q) v) (v.at a) (v.at b)
 factors_hold e p q a b v sa sb oa ob =
-    rw (block-append e (copy_code p (InRegisters 30) 1) (copy_code q (InRegisters 31) 1 ++ Plain (Mul 30 31) ∷ []) v, block-append e (copy_code q (InRegisters 31) 1) (Plain (Mul 30 31) ∷ []) (block e (copy_code p (InRegisters 30) 1) v)) (after_copies e p q a b v sa sb oa ob)
+    rw (
+      block-append e (copy_code p (InRegisters 30) 1) (copy_code q (InRegisters 31) 1 ++ Plain (Mul 30 31) ∷ []) v,
+      block-append e (copy_code q (InRegisters 31) 1) (Plain (Mul 30 31) ∷ []) (block e (copy_code p (InRegisters 30) 1) v),
+    ) (after_copies e p q a b v sa sb oa ob)
 
 factors_straight : (p q : Location) → all_straight (factors_code p q) ≡ true
 factors_straight p q =
-    straight-append (copy_code p (InRegisters 30) 1) (copy_code q (InRegisters 31) 1 ++ Plain (Mul 30 31) ∷ []) (pieces_are_straight Sum p (InRegisters 30) 1).0 (straight-append (copy_code q (InRegisters 31) 1) (Plain (Mul 30 31) ∷ []) (pieces_are_straight Sum q (InRegisters 31) 1).0 refl)
+    straight-append (copy_code p (InRegisters 30) 1)
+    (copy_code q (InRegisters 31) 1 ++ Plain (Mul 30 31) ∷ []) (pieces_are_straight Sum p (InRegisters 30) 1).0
+    (straight-append (copy_code q (InRegisters 31) 1) (Plain (Mul 30 31) ∷ []) (pieces_are_straight Sum q (InRegisters 31) 1).0 refl)
 
 factors_steps : (p q : Location) → code_steps (factors_code p q) ≤ 5
 factors_steps p q =
     let a = (pieces_take Sum p (InRegisters 30) 1).0.1 in
     let b = (pieces_take Sum q (InRegisters 31) 1).0.1 in
-    omega (arith, steps-append (copy_code p (InRegisters 30) 1) (copy_code q (InRegisters 31) 1 ++ Plain (Mul 30 31) ∷ []), steps-append (copy_code q (InRegisters 31) 1) (Plain (Mul 30 31) ∷ []), a, b)
+    omega (
+      arith,
+      steps-append (copy_code p (InRegisters 30) 1) (copy_code q (InRegisters 31) 1 ++ Plain (Mul 30 31) ∷ []),
+      steps-append (copy_code q (InRegisters 31) 1) (Plain (Mul 30 31) ∷ []),
+      a,
+      b,
+    )
 
 -- ---- signs
 
 sign_bit : (signed : Bool) (x z : ℕ) → x < 256 → z < 256 → sign_of signed x * z ≤ 255
 sign_bit false x z l k = omega arith
 sign_bit true x z l k =
-    ⊎_elim (λ (g : x < 128). let s : x / 128 ≡ 0 = omega arith in rw s (omega arith)) (λ (g : 128 ≤ x). let s : x / 128 ≡ 1 = omega arith in rw s (omega arith)) (cases_lt x 128)
+    ⊎_elim (λ (g : x < 128). let s : x / 128 ≡ 0 = omega arith in rw s (omega arith))
+    (λ (g : 128 ≤ x). let s : x / 128 ≡ 1 = omega arith in rw s (omega arith)) (cases_lt x 128)
 
 both_signs : (p s t : ℕ) → s ≤ 255 → t ≤ 255
     → p % 256 + 256 * (((p / 256 + 256 - s) % 256 + 256 - t) % 256) ≡ (p + 131072 - 256 * (s + t)) % 65536
@@ -138,7 +153,8 @@ in_pair sx sz e p q a b pc end v sa sb oa ob h stands =
     let b2 : v2.at 1 < 256 = rw high1 (mod_below (x * z / 256 + 256 - sign_of sx x * z) 256 (omega arith)) in
     let k = lessens sz e 31 30 s2.0 end v2 (rw right2 lz) b2 (rw left2 lx) s2.2 in
     let v3 = k.last in
-    let high2 : v3.at 1 ≡ ((x * z / 256 + 256 - sign_of sx x * z) % 256 + 256 - sign_of sz z * x) % 256 = k.high ∙ rw (high1, left2, right2) refl in
+    let high2 : v3.at 1 ≡ ((x * z / 256 + 256 - sign_of sx x * z) % 256 + 256 - sign_of sz z * x) % 256 =
+    k.high ∙ rw (high1, left2, right2) refl in
     let low2 : v3.at 0 ≡ x * z % 256 = k.same 0 (omega arith) ∙ g.same 0 (omega arith) ∙ m.low in
     let first = block_goes e (factors_code p q) pc s1.0 v (factors_straight p q) s1.1 in
     let take = factors_steps p q in
@@ -148,7 +164,8 @@ in_pair sx sz e p q a b pc end v sa sb oa ob h stands =
       steps = code_steps (factors_code p q) + g.steps + k.steps;
       at_most = omega (arith, take, take1, take2);
       last = v3;
-      goes = goes_on_to e (code_steps (factors_code p q) + g.steps) k.steps pc s2.0 end v v2 v3 (goes_on_to e (code_steps (factors_code p q)) g.steps pc s1.0 s2.0 v v1 v2 first g.goes) k.goes;
+      goes = goes_on_to e (code_steps (factors_code p q) + g.steps) k.steps pc s2.0 end v v2 v3
+          (goes_on_to e (code_steps (factors_code p q)) g.steps pc s1.0 s2.0 v v1 v2 first g.goes) k.goes;
       product = rw (low2, high2) (both_signs (x * z) (sign_of sx x * z) (sign_of sz z * x) (sign_bit sx x z lx lz) (sign_bit sz z x lz lx));
       low = rw low2 (mod_below (x * z) 256 (omega arith));
       high = rw high2 (mod_below ((x * z / 256 + 256 - sign_of sx x * z) % 256 + 256 - sign_of sz z * x) 256 (omega arith));
@@ -206,10 +223,12 @@ products_are_right sx sz e p q to n a b c pc end v sa sb sc most oa ob h stands 
         → ((k : ℕ) → k ≢ 0 → k ≢ 1 → Outside 30 2 k → v1.at k ≡ v.at k) → HoldsNumbers v1
     numbers1 v1 x z same k some =
         ⊎_elim (λ (r : k ≡ 30). rw r x)
-        (λ (r : k ≢ 30). ⊎_elim (λ (t : k ≡ 31). rw t z) (λ (t : k ≢ 31). rw (same k (omega arith) (omega arith) (λ l. omega arith)) (h k some)) (cases_eq k 31))
+        (λ (r : k ≢ 30). ⊎_elim (λ (t : k ≡ 31). rw t z)
+        (λ (t : k ≢ 31). rw (same k (omega arith) (omega arith) (λ l. omega arith)) (h k some)) (cases_eq k 31))
         (cases_eq k 30)
 
-    all_numbers : (v1 w : View) → HoldsNumbers v1 → ((k : ℕ) → Outside c n k → w.at k ≡ v1.at k) → ((j : ℕ) → j < n → w.at (c + j) < 256) → HoldsNumbers w
+    all_numbers : (v1 w : View) → HoldsNumbers v1 → ((k : ℕ) → Outside c n k → w.at k ≡ v1.at k) → ((j : ℕ) → j < n → w.at (c + j) < 256)
+        → HoldsNumbers w
     all_numbers v1 w f same there k some =
         ⊎_elim
         (λ (l : k < c). rw (same k (λ x. absurd (omega arith))) (f k some))

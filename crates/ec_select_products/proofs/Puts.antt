@@ -32,7 +32,8 @@ step e p n a v0 s most i l v h =
     let q = byte_is_put e p i (a + i) v (s.at i l) (s.kind i l) in
     let x : v.at i ≡ v0.at i = h.same i (λ m. absurd (omega arith)) in
     rw q (record {
-      there = λ j m. ⊎_elim (λ t. put_here v.at (a + i) (v.at i) (a + j) (ap (λ u. a + u) t) ∙ x ∙ ap v0.at (sym t)) (λ t. put_other v.at (a + i) (v.at i) (a + j) (λ u. t (omega arith)) ∙ h.there j (omega arith)) (cases_eq j i);
+      there = λ j m. ⊎_elim (λ t. put_here v.at (a + i) (v.at i) (a + j) (ap (λ u. a + u) t) ∙ x ∙ ap v0.at (sym t))
+          (λ t. put_other v.at (a + i) (v.at i) (a + j) (λ u. t (omega arith)) ∙ h.there j (omega arith)) (cases_eq j i);
       same = λ k o. put_other v.at (a + i) (v.at i) k (not_here k a i o) ∙ h.same k (fewer k a i o);
       inputs = h.inputs;
       safe = h.safe;
@@ -42,7 +43,8 @@ step e p n a v0 s most i l v h =
 pub puts_hold : (e : Env) (p : Location) (n a : ℕ) (v : View) → StandsFrom e p n a Own → n ≤ 2
     → PutsTo v a n (block e (puts_code p n) v)
 puts_hold e p n a v s most =
-    chain_holds e (put_byte p) (PutsTo v a) n (λ i l w h. step e p n a v s most i l w h) v (record { there = λ j m. absurd (omega arith); same = λ k o. refl; inputs = refl; safe = refl; seen = refl })
+    chain_holds e (put_byte p) (PutsTo v a) n (λ i l w h. step e p n a v s most i l w h) v
+    (record { there = λ j m. absurd (omega arith); same = λ k o. refl; inputs = refl; safe = refl; seen = refl })
 
 put_straight : (p : Location) (i : ℕ) → all_straight (put_byte p i) ≡ true
 put_straight (InRegisters r) i = refl

@@ -1,5 +1,6 @@
 -- What a negative factor takes from the high byte of a product.
-use Rattle.std.proofs.Common.{◌≡◌, ◌≢◌, ℕ, ◌+◌, ◌-◌, ◌*◌, ◌/◌, ◌%◌, ◌<◌, ◌≤◌, ◌==◌, ⊎_elim, Bool, true, false, refl, sym, ap, ◌∙◌, subst, arith}
+use Rattle.std.proofs.Common.{◌≡◌, ◌≢◌, ℕ, ◌+◌, ◌-◌, ◌*◌, ◌/◌, ◌%◌, ◌<◌, ◌≤◌, ◌==◌, ⊎_elim, Bool, true, false, refl, sym, ap, ◌∙◌, subst}
+use Rattle.std.proofs.Common.{arith}
 use Rattle.std.specs.Prelude.{if◌then◌else◌}
 use Rattle.std.specs.Int.{bit_at}
 use Rattle.std.proofs.lemmas.Bool.{cases_lt, eq-eqb, ne_eqb}
@@ -35,7 +36,8 @@ pub lessens : (signed : Bool) (e : Env) (f o pc end : ℕ) (v : View) → v.at f
     → HasAt e (less_code signed f o) pc end
     → Lessens e pc v end ((v.at 1 + 256 - sign_of signed (v.at f) * v.at o) % 256)
 lessens false e f o pc end v lf lh lo stands =
-    stays e 0 pc end ((v.at 1 + 256 - 0 * v.at o) % 256) v (omega arith) (subst (λ i. Goes e 0 pc v i v) (sym stands) (record { by = refl })) (omega arith)
+    stays e 0 pc end ((v.at 1 + 256 - 0 * v.at o) % 256) v (omega arith)
+    (subst (λ i. Goes e 0 pc v i v) (sym stands) (record { by = refl })) (omega arith)
 lessens true e f o pc end v lf lh lo stands =
     let rest = stands.2 in
     let to_end : rest.0 ≡ end = sym rest.2 in

@@ -1,9 +1,11 @@
-pub mod Rotates
+-- For the crates of the family.
 pub mod Marks
-pub mod Words
 pub mod Long
-pub mod Turns
-pub mod Loops
-pub mod Negated
-pub mod Stages
 pub mod Signed
+-- For this crate alone.
+mod Rotates
+mod Words
+mod Turns
+mod Loops
+mod Negated
+mod Stages

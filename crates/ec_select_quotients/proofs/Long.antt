@@ -52,7 +52,8 @@ taken x d p rest number i b rest2 number2 rest3 number3 h t r bit r3 n3 =
     record {
       quotient = 2 * q + 1;
       below = rw s (omega (arith, below));
-      whole = one_more (rest3 * p) (rest2 * p) (d * p) number2 number3 q (x * 2 ^ i * 2) (omega (arith, m3)) n3 w ∙ ap (λ z. z + (2 * q + 1)) (sym y);
+      whole = one_more (rest3 * p) (rest2 * p) (d * p) number2 number3 q (x * 2 ^ i * 2) (omega (arith, m3)) n3 w
+          ∙ ap (λ z. z + (2 * q + 1)) (sym y);
       less = omega (arith, less, r, r3, bit);
     }
   where

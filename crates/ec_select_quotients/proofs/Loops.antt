@@ -1,5 +1,6 @@
 -- The loop of a division.
-use Rattle.std.proofs.Common.{◌≡◌, ◌≢◌, ℕ, zero, suc, ◌+◌, ◌-◌, ◌*◌, ◌/◌, ◌%◌, ◌^◌, ◌<◌, ◌≤◌, ⊎_elim, Bool, true, false, pos, negsuc, ◌==◌, refl, sym, ap, ◌∙◌, subst, arith, Some, ltb-true, ◌++◌}
+use Rattle.std.proofs.Common.{◌≡◌, ◌≢◌, ℕ, zero, suc, ◌+◌, ◌-◌, ◌*◌, ◌/◌, ◌%◌, ◌^◌, ◌<◌, ◌≤◌, ⊎_elim, Bool, true, false, pos, negsuc, ◌==◌}
+use Rattle.std.proofs.Common.{refl, sym, ap, ◌∙◌, subst, arith, Some, ltb-true, ◌++◌}
 use Rattle.std.specs.Prelude.{if◌then◌else◌, nat_lt}
 use Rattle.std.specs.Int.{from_bool}
 use Rattle.std.proofs.lemmas.Bool.{cases_Bool, cases_eq, cases_lt, eq-eqb, ne_eqb}
@@ -17,15 +18,19 @@ use Rattle.ec_asm.specs.PieceLaws.{HoldsNumbers}
 use Rattle.ec_asm.specs.Takes.{Goes}
 use Rattle.ec_asm.proofs.Bytes.{put_here, put_other}
 use Rattle.ec_asm.proofs.Hoare.{has_parts, block_goes, goes_on_to, one_goes}
+use Rattle.ec_asm.proofs.ItemWords.{straight_ends}
 use Rattle.ec_asm.proofs.Numbers.{value_below, pow_pos}
 use Rattle.ec_asm.proofs.Sum.{value-same}
 use Rattle.ec_select_quotients.specs.Quotients.{bring_code, bring_words, skip_code, take_code, take_words, count_code}
 use Rattle.ec_select_quotients.specs.Laws.{IsReady, Divides, DivisionIsRight}
 use Rattle.ec_select_quotients.proofs.Long.{Long, begun, not_taken, taken, quotient_is, powers}
 use Rattle.ec_select_quotients.proofs.Turns.{IsFar, low_outside, high_outside, Brings, brings, Takes, takes}
-use Rattle.ec_select_quotients.proofs.Words.{straight_ends, bring_straight, bring_steps, bring_has_words, take_straight, take_steps, take_has_words}
+use Rattle.ec_select_quotients.proofs.Words.{bring_straight, bring_steps, bring_has_words, take_straight, take_steps, take_has_words}
 
-module _ (e : Env) (p : Location) (n c x d : ℕ) (st : StandsFrom e p (suc n) c Own) (far : IsFar c (suc n)) (most : suc n ≤ 4) (under : d < 256 ^ suc n) (start skip take count back end : ℕ) (bring : HasAt e (bring_code p (suc n)) start skip) (over : At e (Brbs 0 (pos (take_words p (suc n)))) skip take) (taking : HasAt e (take_code p (suc n)) take count) (dec : At e (Dec 13) count back) (branch : At e (Brbc 1 (negsuc (bring_words p (suc n) + 1 + take_words p (suc n) + 1))) back end) where
+module _ (e : Env) (p : Location) (n c x d : ℕ) (st : StandsFrom e p (suc n) c Own) (far : IsFar c (suc n)) (most : suc n ≤ 4)
+    (under : d < 256 ^ suc n) (start skip take count back end : ℕ) (bring : HasAt e (bring_code p (suc n)) start skip)
+    (over : At e (Brbs 0 (pos (take_words p (suc n)))) skip take) (taking : HasAt e (take_code p (suc n)) take count)
+    (dec : At e (Dec 13) count back) (branch : At e (Brbc 1 (negsuc (bring_words p (suc n) + 1 + take_words p (suc n) + 1))) back end) where
   -- what holds after i bits, where the view was v0 before
   record After (v0 : View) (i : ℕ) (v : View) : Type 0 where
     long : Long x d (256 ^ suc n) (value v.at 26 (suc (suc n))) (value v.at c (suc n)) i
@@ -37,10 +42,12 @@ module _ (e : Env) (p : Location) (n c x d : ℕ) (st : StandsFrom e p (suc n) c
     seen : v.seen ≡ v0.seen
 
   skip_ends : skip ≡ start + bring_words p (suc n)
-  skip_ends = straight_ends e (bring_code p (suc n)) start skip (bring_straight p (suc n)) bring ∙ ap (λ k. start + k) (bring_has_words p (suc n))
+  skip_ends = straight_ends e (bring_code p (suc n)) start skip (bring_straight p (suc n)) bring
+      ∙ ap (λ k. start + k) (bring_has_words p (suc n))
 
   take_ends : count ≡ take + take_words p (suc n)
-  take_ends = straight_ends e (take_code p (suc n)) take count (take_straight p (suc n)) taking ∙ ap (λ k. take + k) (take_has_words p (suc n))
+  take_ends = straight_ends e (take_code p (suc n)) take count (take_straight p (suc n)) taking
+      ∙ ap (λ k. take + k) (take_has_words p (suc n))
 
   skips : (v : View) → v.flags.c ≡ 1 → Goes e 1 skip v count v
   skips v q =
@@ -51,7 +58,8 @@ module _ (e : Env) (p : Location) (n c x d : ℕ) (st : StandsFrom e p (suc n) c
       let r2 = branch.room in
       let r3 = branch.ends in
       let to : (skip + 1 + take_words p (suc n)) % 65536 ≡ count = omega arith in
-      let f : act e (Some (Brbs 0 (pos (take_words p (suc n))))) skip v ≡ Running ((skip + 1 + take_words p (suc n)) % 65536) v = rw q refl in
+      let f : act e (Some (Brbs 0 (pos (take_words p (suc n))))) skip v ≡ Running ((skip + 1 + take_words p (suc n)) % 65536) v =
+      rw q refl in
       record { by = ap (λ o. act e o skip v) over.is ∙ f ∙ ap (λ k. Running k v) to }
 
   stays : (v : View) → v.flags.c ≡ 0 → Goes e 1 skip v take v
@@ -67,7 +75,8 @@ module _ (e : Env) (p : Location) (n c x d : ℕ) (st : StandsFrom e p (suc n) c
       let m = branch.ends in
       let r = branch.room in
       let to : (back + 1) % 65536 ≡ end = omega arith in
-      let b : act e (Some (Brbc 1 (negsuc (bring_words p (suc n) + 1 + take_words p (suc n) + 1)))) back v ≡ Running ((back + 1) % 65536) v = rw q refl in
+      let b : act e (Some (Brbc 1 (negsuc (bring_words p (suc n) + 1 + take_words p (suc n) + 1)))) back v
+      ≡ Running ((back + 1) % 65536) v = rw q refl in
       record { by = ap (λ o. act e o back v) branch.is ∙ b ∙ ap (λ k. Running k v) to }
 
   again : (v : View) → v.flags.z ≡ 0 → Goes e 1 back v start v
@@ -78,7 +87,8 @@ module _ (e : Env) (p : Location) (n c x d : ℕ) (st : StandsFrom e p (suc n) c
       let w = skip_ends in
       let u = take_ends in
       let to : (back + 65536 - (bring_words p (suc n) + 1 + take_words p (suc n) + 1)) % 65536 ≡ start = omega arith in
-      let b : act e (Some (Brbc 1 (negsuc (bring_words p (suc n) + 1 + take_words p (suc n) + 1)))) back v ≡ Running ((back + 65536 - (bring_words p (suc n) + 1 + take_words p (suc n) + 1)) % 65536) v = rw q refl in
+      let b : act e (Some (Brbc 1 (negsuc (bring_words p (suc n) + 1 + take_words p (suc n) + 1)))) back v
+      ≡ Running ((back + 65536 - (bring_words p (suc n) + 1 + take_words p (suc n) + 1)) % 65536) v = rw q refl in
       record { by = ap (λ o. act e o back v) branch.is ∙ b ∙ ap (λ k. Running k v) to }
 
   -- a bit
@@ -100,9 +110,12 @@ module _ (e : Env) (p : Location) (n c x d : ℕ) (st : StandsFrom e p (suc n) c
       let b = brings e p n c v st far most h.numbers room in
       let go1 = block_goes e (bring_code p (suc n)) start skip v (bring_straight p (suc n)) bring in
       let take1 = bring_steps p (suc n) in
-      let divisor1 : value v1.at 8 m ≡ d = value-same v1.at v.at 8 m (λ j l. b.same (8 + j) (omega arith) (omega arith) (λ z. absurd (omega arith)) (low_outside c (suc n) (8 + j) far (omega arith) (omega arith))) ∙ h.divisor in
-      let flag : v1.flags.c ≡ from_bool (nat_lt (value v1.at 26 m) d) = b.less ∙ ap (λ z. from_bool (nat_lt (value v1.at 26 m) z)) h.divisor in
-      let left1 : v1.at 13 ≡ v.at 13 = b.same 13 (omega arith) (omega arith) (λ z. absurd (omega arith)) (low_outside c (suc n) 13 far (omega arith) (omega arith)) in
+      let divisor1 : value v1.at 8 m ≡ d = value-same v1.at v.at 8 m (λ j l. b.same (8 + j) (omega arith) (omega arith)
+      (λ z. absurd (omega arith)) (low_outside c (suc n) (8 + j) far (omega arith) (omega arith))) ∙ h.divisor in
+      let flag : v1.flags.c ≡ from_bool (nat_lt (value v1.at 26 m) d) =
+      b.less ∙ ap (λ z. from_bool (nat_lt (value v1.at 26 m) z)) h.divisor in
+      let left1 : v1.at 13 ≡ v.at 13 =
+      b.same 13 (omega arith) (omega arith) (λ z. absurd (omega arith)) (low_outside c (suc n) 13 far (omega arith) (omega arith)) in
       ⊎_elim
       (λ t.
       let is_less : value v1.at 26 m < d = ltb-true (value v1.at 26 m) d t in
@@ -114,7 +127,8 @@ module _ (e : Env) (p : Location) (n c x d : ℕ) (st : StandsFrom e p (suc n) c
         last = v1;
         goes = goes_on_to e (code_steps (bring_code p (suc n))) 1 start skip count v v1 v1 go1 go2;
         after = record {
-          long = not_taken x d (256 ^ suc n) (value v.at 26 m) (value v.at c (suc n)) i b.bit (value v1.at 26 m) (value v1.at c (suc n)) h.long b.twice b.rest is_less;
+          long = not_taken x d (256 ^ suc n) (value v.at 26 m) (value v.at c (suc n)) i b.bit (value v1.at 26 m)
+              (value v1.at c (suc n)) h.long b.twice b.rest is_less;
           divisor = divisor1;
           numbers = b.numbers;
           same = λ k y z w o q. b.same k y z o q ∙ h.same k y z w o q;
@@ -129,7 +143,8 @@ module _ (e : Env) (p : Location) (n c x d : ℕ) (st : StandsFrom e p (suc n) c
       let carry : v1.flags.c ≡ 0 = flag ∙ ap from_bool t in
       let v2 = block e (take_code p (suc n)) v1 in
       let twice = b.twice in
-      let even : value v1.at c (suc n) % 2 ≡ 0 = is_even (value v1.at c (suc n)) b.bit (128 * 256 ^ n) (value v.at c (suc n)) (subst (λ z. value v1.at c (suc n) + b.bit * z ≡ value v.at c (suc n) + value v.at c (suc n)) even_power b.twice) in
+      let even : value v1.at c (suc n) % 2 ≡ 0 = is_even (value v1.at c (suc n)) b.bit (128 * 256 ^ n) (value v.at c (suc n))
+      (subst (λ z. value v1.at c (suc n) + b.bit * z ≡ value v.at c (suc n) + value v.at c (suc n)) even_power b.twice) in
       let k = takes e p n c v1 st far most b.numbers (subst (λ z. z ≤ value v1.at 26 m) (sym divisor1) not_less) even in
       let go2 = stays v1 carry in
       let go3 = block_goes e (take_code p (suc n)) take count v1 (take_straight p (suc n)) taking in
@@ -139,17 +154,21 @@ module _ (e : Env) (p : Location) (n c x d : ℕ) (st : StandsFrom e p (suc n) c
         steps = code_steps (bring_code p (suc n)) + 1 + code_steps (take_code p (suc n));
         at_most = omega (arith, take1, take2);
         last = v2;
-        goes = goes_on_to e (code_steps (bring_code p (suc n)) + 1) (code_steps (take_code p (suc n))) start take count v v1 v2 (goes_on_to e (code_steps (bring_code p (suc n))) 1 start skip take v v1 v1 go1 go2) go3;
+        goes = goes_on_to e (code_steps (bring_code p (suc n)) + 1) (code_steps (take_code p (suc n))) start take count v v1 v2
+            (goes_on_to e (code_steps (bring_code p (suc n))) 1 start skip take v v1 v1 go1 go2) go3;
         after = record {
-          long = taken x d (256 ^ suc n) (value v.at 26 m) (value v.at c (suc n)) i b.bit (value v1.at 26 m) (value v1.at c (suc n)) (value v2.at 26 m) (value v2.at c (suc n)) h.long b.twice b.rest b.small rest3 k.number;
-          divisor = value-same v2.at v1.at 8 m (λ j l. k.same (8 + j) (omega arith) (omega arith) (λ z. absurd (omega arith)) (low_outside c (suc n) (8 + j) far (omega arith) (omega arith))) ∙ divisor1;
+          long = taken x d (256 ^ suc n) (value v.at 26 m) (value v.at c (suc n)) i b.bit (value v1.at 26 m) (value v1.at c (suc n))
+              (value v2.at 26 m) (value v2.at c (suc n)) h.long b.twice b.rest b.small rest3 k.number;
+          divisor = value-same v2.at v1.at 8 m (λ j l. k.same (8 + j) (omega arith) (omega arith) (λ z. absurd (omega arith))
+              (low_outside c (suc n) (8 + j) far (omega arith) (omega arith))) ∙ divisor1;
           numbers = k.numbers;
           same = λ j y z w o q. k.same j y z o q ∙ b.same j y z o q ∙ h.same j y z w o q;
           inputs = k.inputs ∙ b.inputs ∙ h.inputs;
           safe = k.safe ∙ b.safe ∙ h.safe;
           seen = k.seen ∙ b.seen ∙ h.seen;
         };
-        left = k.same 13 (omega arith) (omega arith) (λ z. absurd (omega arith)) (low_outside c (suc n) 13 far (omega arith) (omega arith)) ∙ left1;
+        left = k.same 13 (omega arith) (omega arith) (λ z. absurd (omega arith)) (low_outside c (suc n) 13 far (omega arith) (omega arith))
+            ∙ left1;
       })
       (cases_Bool (nat_lt (value v1.at 26 m) d))
     where
@@ -169,11 +188,14 @@ module _ (e : Env) (p : Location) (n c x d : ℕ) (st : StandsFrom e p (suc n) c
       let uc = st.clear in
       let other : (k : ℕ) → k ≢ 13 → w.at k ≡ v.at k = λ k q. put_other v.at 13 _ k q in
       let rest : value w.at 26 m ≡ value v.at 26 m = value-same w.at v.at 26 m (λ j l. other (26 + j) (omega arith)) in
-      let number : value w.at c (suc n) ≡ value v.at c (suc n) = value-same w.at v.at c (suc n) (λ j l. other (c + j) (apart (c + j) j l)) in
+      let number : value w.at c (suc n) ≡ value v.at c (suc n) =
+      value-same w.at v.at c (suc n) (λ j l. other (c + j) (apart (c + j) j l)) in
       record {
-        long = subst (λ z. Long x d (256 ^ suc n) z (value w.at c (suc n)) i) (sym rest) (subst (λ z. Long x d (256 ^ suc n) (value v.at 26 m) z i) (sym number) h.long);
+        long = subst (λ z. Long x d (256 ^ suc n) z (value w.at c (suc n)) i) (sym rest)
+            (subst (λ z. Long x d (256 ^ suc n) (value v.at 26 m) z i) (sym number) h.long);
         divisor = value-same w.at v.at 8 m (λ j l. other (8 + j) (omega arith)) ∙ h.divisor;
-        numbers = λ k u. ⊎_elim (λ (q : k ≡ 13). rw (put_here v.at 13 ((v.at 13 + 255) % 256) k q) (omega arith)) (λ (q : k ≢ 13). rw (other k q) (h.numbers k u)) (cases_eq k 13);
+        numbers = λ k u. ⊎_elim (λ (q : k ≡ 13). rw (put_here v.at 13 ((v.at 13 + 255) % 256) k q) (omega arith))
+            (λ (q : k ≢ 13). rw (other k q) (h.numbers k u)) (cases_eq k 13);
         same = λ k y z q o r. other k q ∙ h.same k y z q o r;
         inputs = h.inputs;
         safe = h.safe;
@@ -221,7 +243,8 @@ module _ (e : Env) (p : Location) (n c x d : ℕ) (st : StandsFrom e p (suc n) c
       let now : v1.at 13 ≡ suc (suc k) = t.left ∙ left in
       let less : (suc (suc k) + 255) % 256 ≡ suc k = omega arith in
       let next : v2.at 13 ≡ suc k = ap (λ z. (z + 255) % 256) now ∙ less in
-      let clear : v2.flags.z ≡ 0 = ap (λ z. from_bool ((z + 255) % 256 == 0)) now ∙ ap (λ z. from_bool (z == 0)) less ∙ ap from_bool (ne_eqb (suc k) 0 (omega arith)) in
+      let clear : v2.flags.z ≡ 0 =
+      ap (λ z. from_bool ((z + 255) % 256 == 0)) now ∙ ap (λ z. from_bool (z == 0)) less ∙ ap from_bool (ne_eqb (suc k) 0 (omega arith)) in
       let go1 = one_goes e (Dec 13) count back v1 refl dec in
       let go2 = goes_on_to e t.steps 1 start count back v v1 v2 t.goes go1 in
       let go3 = goes_on_to e (t.steps + 1) 1 start back start v v2 v2 go2 (again v2 clear) in
@@ -250,7 +273,8 @@ division_is_right e p n c d pc end v st most f1 f2 f3 f4 ready stands =
     let s2 = has_parts e (take_code p (suc n)) (count_code p (suc n)) over.0 end over.2 in
     let dec = s2.2 in
     let br = dec.2 in
-    let branch : At e (Brbc 1 (negsuc (bring_words p (suc n) + 1 + take_words p (suc n) + 1))) dec.0 end = subst (λ i. At e (Brbc 1 (negsuc (bring_words p (suc n) + 1 + take_words p (suc n) + 1))) dec.0 i) (sym br.2) br.1 in
+    let branch : At e (Brbc 1 (negsuc (bring_words p (suc n) + 1 + take_words p (suc n) + 1))) dec.0 end =
+    subst (λ i. At e (Brbc 1 (negsuc (bring_words p (suc n) + 1 + take_words p (suc n) + 1))) dec.0 i) (sym br.2) br.1 in
     let x = value v.at c (suc n) in
     let k = 8 * suc n - 1 in
     let bits : suc k ≡ 8 * suc n = omega arith in
@@ -263,7 +287,8 @@ division_is_right e p n c d pc end v st most f1 f2 f3 f4 ready stands =
       safe = refl;
       seen = refl;
     } in
-    let r = loop e p n c x d st far most ready.below pc s1.0 over.0 s2.0 dec.0 end s1.1 over.1 s2.1 dec.1 branch k v 0 v first (ready.count ∙ sym bits) (omega arith) in
+    let r = loop e p n c x d st far most ready.below pc s1.0 over.0 s2.0 dec.0 end s1.1 over.1 s2.1 dec.1 branch k v 0 v first
+    (ready.count ∙ sym bits) (omega arith) in
     let last = r.last in
     let after = r.after in
     let power : 2 ^ (0 + suc k) ≡ 256 ^ suc n = ap (λ z. 2 ^ z) (zero_plus (suc k) ∙ bits) ∙ powers (suc n) in
@@ -278,7 +303,8 @@ division_is_right e p n c d pc end v st most f1 f2 f3 f4 ready stands =
       quotient = result.0;
       remainder = result.1;
       numbers = after.numbers;
-      sign = after.same 31 (omega arith) (omega arith) (omega arith) (λ z. omega arith) (high_outside c (suc n) 31 far (omega arith) (omega arith));
+      sign = after.same 31 (omega arith) (omega arith) (omega arith) (λ z. omega arith)
+          (high_outside c (suc n) 31 far (omega arith) (omega arith));
       same = λ i a b o q t. after.same i a b (not_count i o) (λ z. let w = q z in omega arith) t;
       inputs = after.inputs;
       safe = after.safe;

@@ -29,7 +29,13 @@ byte_is_marked e (InRegisters r) a v p k =
 byte_is_marked e (InMemory o j) a v p k =
     let v1 = set 0 (v.at a) v in
     let v2 = change e (Inc 0) v1 in
-    rw (p, k) (record { here = put_here v2.at a _ a refl; same = λ i z n. put_other v2.at a _ i n ∙ put_other v1.at 0 _ i z ∙ put_other v.at 0 (v.at a) i z; inputs = refl; safe = refl; seen = refl })
+    rw (p, k) (record {
+      here = put_here v2.at a _ a refl;
+      same = λ i z n. put_other v2.at a _ i n ∙ put_other v1.at 0 _ i z ∙ put_other v.at 0 (v.at a) i z;
+      inputs = refl;
+      safe = refl;
+      seen = refl;
+    })
 
 -- an even number is one more
 pub record OneMore (v w : View) (a n : ℕ) : Type 0 where
@@ -50,13 +56,15 @@ one_more e p n a v s h even =
     let small = h a ua in
     let front = value_front v.at a n in
     let front1 = value_front w.at a n in
-    let above : value w.at (a + 1) n ≡ value v.at (a + 1) n = value-same w.at v.at (a + 1) n (λ j l. o.same (a + 1 + j) (omega arith) (omega arith)) in
+    let above : value w.at (a + 1) n ≡ value v.at (a + 1) n =
+    value-same w.at v.at (a + 1) n (λ j l. o.same (a + 1 + j) (omega arith) (omega arith)) in
     let low : v.at a % 2 ≡ 0 = omega (arith, front, even) in
     let below : w.at a < 256 = subst (λ z. z < 256) (sym o.here) (mod_below (v.at a + 1) 256 (omega arith)) in
     let here : w.at a ≡ v.at a + 1 = o.here ∙ omega (arith, low, small) in
     record {
       number_is = front1 ∙ rw (here, above) (omega (arith, front));
-      numbers = λ k u. ⊎_elim (λ (q : k ≡ a). subst (λ z. w.at z < 256) (sym q) below) (λ q. rw (o.same k (omega arith) q) (h k u)) (cases_eq k a);
+      numbers = λ k u.
+          ⊎_elim (λ (q : k ≡ a). subst (λ z. w.at z < 256) (sym q) below) (λ q. rw (o.same k (omega arith) q) (h k u)) (cases_eq k a);
       same = λ k x y. o.same k x (λ q. let l = y (omega arith) in omega arith);
       inputs = o.inputs;
       safe = o.safe;

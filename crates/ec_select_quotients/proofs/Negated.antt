@@ -1,5 +1,6 @@
 -- A number negated where a bit is set.
-use Rattle.std.proofs.Common.{◌≡◌, ◌≢◌, ℕ, zero, suc, ◌+◌, ◌-◌, ◌*◌, ◌/◌, ◌%◌, ◌^◌, ◌<◌, ◌≤◌, ⊎_elim, Bool, true, false, pos, List, [], ◌∷◌, ◌++◌, refl, sym, ap, ◌∙◌, subst, arith, Some}
+use Rattle.std.proofs.Common.{◌≡◌, ◌≢◌, ℕ, ◌+◌, ◌-◌, ◌*◌, ◌/◌, ◌%◌, ◌^◌, ◌<◌, ◌≤◌, ⊎_elim, Bool, true, false, pos, List, [], ◌∷◌, ◌++◌}
+use Rattle.std.proofs.Common.{refl, sym, ap, ◌∙◌, subst, arith, Some}
 use Rattle.std.proofs.lemmas.List.Sums.{sum_by-append}
 use Rattle.std.proofs.lemmas.Bool.{cases_lt, and_parts, false≢true}
 use Rattle.ec_isa.specs.declared.instructions.Instr.TheVariants.{Brbc, Eor, Add}
@@ -10,39 +11,43 @@ use Rattle.ec_asm.specs.declared.pieces.Location.TheVariants.{InRegisters, InMem
 use Rattle.ec_asm.specs.View.{View}
 use Rattle.ec_asm.specs.Change.{Env, Own, set, change}
 use Rattle.ec_asm.specs.Run.{Running, act}
-use Rattle.ec_asm.specs.Items.{At, HasAt, Stands, block, is_straight, all_straight, code_steps, code_words, item_words, chain}
+use Rattle.ec_asm.specs.Items.{At, HasAt, Stands, block, is_straight, all_straight, code_steps, code_words, item_words}
 use Rattle.ec_asm.specs.Pieces.{StandsFrom, Outside, value}
 use Rattle.ec_asm.specs.PieceLaws.{HoldsNumbers}
 use Rattle.ec_asm.specs.Takes.{Goes}
 use Rattle.ec_asm.proofs.Bytes.{put_other}
 use Rattle.ec_asm.proofs.Hoare.{has_parts, block_goes, goes_on_to}
+use Rattle.ec_asm.proofs.ItemWords.{straight_ends, chain_words}
 use Rattle.ec_asm.proofs.Sum.{value-same}
 use Rattle.ec_select_bytes.specs.Complements.{complement_byte, complement_code, carry_byte, carry_code, negation_code}
 use Rattle.ec_select_bytes.specs.ComplementLaws.{Leaves}
 use Rattle.ec_select_bytes.proofs.Turned.{negations_are_right}
 use Rattle.ec_select_bytes.proofs.Straight.{complements_are_straight, complements_take}
 use Rattle.ec_select_quotients.specs.Signs.{negated_if, negation_words, sign_test, sign_skip, negate_if_code}
-use Rattle.ec_select_quotients.proofs.Words.{straight_ends}
 
 -- ---- words
-
-chain_words : (body : ℕ → List AsmItem) (n k : ℕ) → ((i : ℕ) → code_words (body i) ≡ k)
-    → code_words (chain body n) ≡ k * n
-chain_words body zero k h = omega arith
-chain_words body (suc n) k h =
-    let r = chain_words body n k h in
-    let b = h n in
-    omega (arith, sum_by-append item_words (chain body n) (body n), r, b)
 
 negation_has_words : (p : Location) (n : ℕ) → code_words (negation_code p n) ≡ negation_words p n
 negation_has_words (InRegisters r) n =
     let a = chain_words (complement_byte (InRegisters r)) n 1 (λ i. refl) in
     let b = chain_words (carry_byte (InRegisters r)) n 1 (λ i. refl) in
-    omega (arith, sum_by-append item_words (complement_code (InRegisters r) n) (Plain (Eor 1 1) ∷ carry_code (InRegisters r) n), sum_by-append item_words (Plain (Eor 1 1) ∷ []) (carry_code (InRegisters r) n), a, b)
+    omega (
+      arith,
+      sum_by-append item_words (complement_code (InRegisters r) n) (Plain (Eor 1 1) ∷ carry_code (InRegisters r) n),
+      sum_by-append item_words (Plain (Eor 1 1) ∷ []) (carry_code (InRegisters r) n),
+      a,
+      b,
+    )
 negation_has_words (InMemory o k) n =
     let a = chain_words (complement_byte (InMemory o k)) n 5 (λ i. refl) in
     let b = chain_words (carry_byte (InMemory o k)) n 5 (λ i. refl) in
-    omega (arith, sum_by-append item_words (complement_code (InMemory o k) n) (Plain (Eor 1 1) ∷ carry_code (InMemory o k) n), sum_by-append item_words (Plain (Eor 1 1) ∷ []) (carry_code (InMemory o k) n), a, b)
+    omega (
+      arith,
+      sum_by-append item_words (complement_code (InMemory o k) n) (Plain (Eor 1 1) ∷ carry_code (InMemory o k) n),
+      sum_by-append item_words (Plain (Eor 1 1) ∷ []) (carry_code (InMemory o k) n),
+      a,
+      b,
+    )
 
 -- straight items end below 65,536
 item_room : (e : Env) (i : AsmItem) (pc end : ℕ) → is_straight i ≡ true → Stands e i pc end → pc < 65536 → end < 65536
@@ -104,7 +109,8 @@ negates_if e p r n c pc end v some s h stands =
     (λ (l : y < 128).
     let clear : v1.flags.c ≡ 0 = carry ∙ omega arith in
     let to : (s1.0 + 1 + negation_words p n) % 65536 ≡ end = omega (arith, a1, words, size, room) in
-    let f : act e (Some (Brbc 0 (pos (negation_words p n)))) s1.0 v1 ≡ Running ((s1.0 + 1 + negation_words p n) % 65536) v1 = rw clear refl in
+    let f : act e (Some (Brbc 0 (pos (negation_words p n)))) s1.0 v1 ≡ Running ((s1.0 + 1 + negation_words p n) % 65536) v1 =
+    rw clear refl in
     let go2 : Goes e 1 s1.0 v1 end v1 = record { by = ap (λ o. act e o s1.0 v1) skip.is ∙ f ∙ ap (λ k. Running k v1) to } in
     let z : y / 128 ≡ 0 = omega arith in
     record {
@@ -132,7 +138,8 @@ negates_if e p r n c pc end v some s h stands =
       steps = 2 + 1 + code_steps (negation_code p n);
       at_most = omega (arith, take);
       last = block e (negation_code p n) v1;
-      goes = goes_on_to e (2 + 1) (code_steps (negation_code p n)) pc mid end v v1 (block e (negation_code p n) v1) (goes_on_to e 2 1 pc s1.0 mid v v1 v1 go1 go2) go3;
+      goes = goes_on_to e (2 + 1) (code_steps (negation_code p n)) pc mid end v v1 (block e (negation_code p n) v1)
+          (goes_on_to e 2 1 pc s1.0 mid v v1 v1 go1 go2) go3;
       number_is = k.number_is ∙ ap (λ t. (256 ^ n - t) % 256 ^ n) x ∙ ap (λ t. negated_if t n (value v.at c n)) (sym z);
       numbers = all_numbers v1 (block e (negation_code p n) v1) h1 k.keeps.same k.numbers;
       same = λ i a b o. k.keeps.same i a b o ∙ same1 i a;
@@ -142,7 +149,8 @@ negates_if e p r n c pc end v some s h stands =
     })
     (cases_lt y 128)
   where
-    all_numbers : (v1 w : View) → HoldsNumbers v1 → ((k : ℕ) → k ≢ 0 → k ≢ 1 → Outside c n k → w.at k ≡ v1.at k) → ((j : ℕ) → j < n → w.at (c + j) < 256) → HoldsNumbers w
+    all_numbers : (v1 w : View) → HoldsNumbers v1 → ((k : ℕ) → k ≢ 0 → k ≢ 1 → Outside c n k → w.at k ≡ v1.at k)
+        → ((j : ℕ) → j < n → w.at (c + j) < 256) → HoldsNumbers w
     all_numbers v1 w f same there k u =
         ⊎_elim
         (λ (l : k < c). subst (λ z. z < 256) (sym (same k (omega arith) (omega arith) (λ x. absurd (omega arith)))) (f k u))

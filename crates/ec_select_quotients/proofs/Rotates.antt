@@ -47,7 +47,8 @@ step e c v0 h0 i v h =
     record {
       sum = rw (low, here, carry, pow-suc 256 i) (doubled (value v.at 26 i) (value v0.at 26 i) x (256 ^ i) c d h.sum);
       bit = rw carry (omega arith);
-      numbers = λ k u. ⊎_elim (λ (q : k ≡ 26 + i). subst (λ z. w.at z < 256) (sym q) below) (λ q. rw (other k q) (h.numbers k u)) (cases_eq k (26 + i));
+      numbers = λ k u.
+          ⊎_elim (λ (q : k ≡ 26 + i). subst (λ z. w.at z < 256) (sym q) below) (λ q. rw (other k q) (h.numbers k u)) (cases_eq k (26 + i));
       same = λ k m. other k (not_here k 26 i m) ∙ h.same k (fewer k 26 i m);
       inputs = h.inputs;
       safe = h.safe;
@@ -57,7 +58,8 @@ step e c v0 h0 i v h =
 pub rotated : (e : Env) (m : ℕ) (v : View) → HoldsNumbers v → v.flags.c ≤ 1
     → RotatesTo v v.flags.c m (block e (rotate_code m) v)
 rotated e m v h bit =
-    chain_holds e rotate_byte (RotatesTo v v.flags.c) m (λ i l w k. step e v.flags.c v h i w k) v (record { sum = omega arith; bit = bit; numbers = h; same = λ k o. refl; inputs = refl; safe = refl; seen = refl })
+    chain_holds e rotate_byte (RotatesTo v v.flags.c) m (λ i l w k. step e v.flags.c v h i w k) v
+    (record { sum = omega arith; bit = bit; numbers = h; same = λ k o. refl; inputs = refl; safe = refl; seen = refl })
 
 pub rotate_straight : (m : ℕ) → all_straight (rotate_code m) ≡ true
 rotate_straight m = chain_straight rotate_byte m (λ i. refl)

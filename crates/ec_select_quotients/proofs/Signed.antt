@@ -1,5 +1,6 @@
 -- Quotients and remainders with signs.
-use Rattle.std.proofs.Common.{◌≡◌, ◌≢◌, ℕ, zero, suc, ◌+◌, ◌-◌, ◌*◌, ◌/◌, ◌%◌, ◌^◌, ◌<◌, ◌≤◌, ⊎_elim, Bool, true, false, List, [], ◌∷◌, ◌++◌, refl, sym, ap, ◌∙◌, subst, arith, bit_xor, append-nil}
+use Rattle.std.proofs.Common.{◌≡◌, ◌≢◌, ℕ, zero, suc, ◌+◌, ◌-◌, ◌*◌, ◌/◌, ◌%◌, ◌^◌, ◌<◌, ◌≤◌, ⊎_elim, Bool, true, false, List, [], ◌∷◌}
+use Rattle.std.proofs.Common.{◌++◌, refl, sym, ap, ◌∙◌, subst, arith, bit_xor, append-nil}
 use Rattle.std.proofs.lemmas.Bool.{cases_lt, cases_eq}
 use Rattle.std.proofs.lemmas.Nat.{mod_below, mod-mul-add, mul-le}
 use Rattle.ec_isa.specs.declared.instructions.Instr.TheVariants.{Eor}
@@ -20,7 +21,8 @@ use Rattle.ec_asm.proofs.Numbers.{value_below, value_mod}
 use Rattle.ec_asm.proofs.Results.{pieces_are_straight, pieces_take}
 use Rattle.ec_asm.proofs.Sum.{value-same}
 use Rattle.ec_select_quotients.specs.Quotients.{divisor_row, remainder_row, divide_code}
-use Rattle.ec_select_quotients.specs.Signs.{negated_if, top_byte, part_of, sign_byte, quotient_of, negate_if_code, top_code, cross_code, signs_code, start_code, result_code, sign_code, quotient_code}
+use Rattle.ec_select_quotients.specs.Signs.{negated_if, top_byte, part_of, sign_byte, quotient_of, negate_if_code, top_code, cross_code}
+use Rattle.ec_select_quotients.specs.Signs.{signs_code, start_code, result_code, sign_code, quotient_code}
 use Rattle.ec_select_quotients.specs.SignLaws.{IsClearOf, Leads, QuotientsAreRight}
 use Rattle.ec_select_quotients.proofs.Loops.{division_is_right}
 use Rattle.ec_select_quotients.proofs.Negated.{negates_if}
@@ -51,7 +53,8 @@ negated_some (suc s) n z l k =
     let q : (256 ^ n - z) % 256 ^ n ≡ 256 ^ n - z = ap (λ t. t % 256 ^ n) e ∙ mod-mul-add 0 (256 ^ n) (256 ^ n - z) (omega arith) in
     omega (arith, q)
 
-module _ (e : Env) (p : Location) (top c : ℕ) (st : StandsFrom e p (suc top) c Own) (far : IsFar c (suc top)) (most : suc top ≤ 4) (v0 : View) where
+module _ (e : Env) (p : Location) (top c : ℕ) (st : StandsFrom e p (suc top) c Own) (far : IsFar c (suc top)) (most : suc top ≤ 4)
+    (v0 : View) where
   abbrev H : (x z s : ℕ) → View → Type 0
   H x z s v = Holds e p top c st far most v0 x z s v
 
@@ -110,7 +113,8 @@ module _ (e : Env) (p : Location) (top c : ℕ) (st : StandsFrom e p (suc top) c
       let b = start_stage e p top c st far most v0 x z s pc s1.0 v h some s1.1 in
       let d = division_is_right e p top c z s1.0 s2.0 b.last st most far.low far.above_low far.high far.above_high b.ready s2.1 in
       let w = block e (copy_code remainder_row p n) d.last in
-      let k = copy_holds e remainder_row p n 26 c Own Own d.last (row 26 n e (omega arith)) st refl refl (λ l. let u = far.above_high (omega arith) in omega arith) in
+      let k = copy_holds e remainder_row p n 26 c Own Own d.last (row 26 n e (omega arith)) st refl refl
+      (λ l. let u = far.above_high (omega arith) in omega arith) in
       let go = block_goes e (copy_code remainder_row p n) s2.0 s3.0 d.last (pieces_are_straight Sum remainder_row p n).0 s3.1 in
       let t1 = b.at_most in
       let t2 = d.at_most in
@@ -119,17 +123,20 @@ module _ (e : Env) (p : Location) (top c : ℕ) (st : StandsFrom e p (suc top) c
       let held : (j : ℕ) → j < suc n → d.last.at (26 + j) < 256 = λ j l. d.numbers (26 + j) (omega arith) in
       let rest : value d.last.at 26 (suc n) ≡ x % z = d.remainder ∙ ap (λ i. i % z) b.number in
       let less : x % z < 256 ^ n = (let q = mod_below x z some in let u = b.ready.below in omega (arith, q, u)) in
-      let low : value d.last.at 26 n ≡ x % z = sym (value_mod d.last.at 26 n (suc n) (omega arith) held) ∙ ap (λ i. i % 256 ^ n) rest ∙ kept (x % z) (256 ^ n) less in
+      let low : value d.last.at 26 n ≡ x % z =
+      sym (value_mod d.last.at 26 n (suc n) (omega arith) held) ∙ ap (λ i. i % 256 ^ n) rest ∙ kept (x % z) (256 ^ n) less in
       record {
         steps = b.steps + d.steps + code_steps (copy_code remainder_row p n);
         at_most = omega (arith, t1, t2, t3, t4, most);
         to = s3.0;
         rest = s3.2;
         last = w;
-        goes = goes_on_to e (b.steps + d.steps) (code_steps (copy_code remainder_row p n)) pc s2.0 s3.0 v d.last w (goes_on_to e b.steps d.steps pc s1.0 s2.0 v b.last d.last b.goes d.goes) go;
+        goes = goes_on_to e (b.steps + d.steps) (code_steps (copy_code remainder_row p n)) pc s2.0 s3.0 v d.last w
+            (goes_on_to e b.steps d.steps pc s1.0 s2.0 v b.last d.last b.goes d.goes) go;
         number_is = moved w.at d.last.at 26 c n k.there ∙ low;
         sign = k.same 31 (omega arith) (high_outside c n 31 far (omega arith) (omega arith)) ∙ d.sign ∙ b.sign;
-        numbers = all_numbers d.last w d.numbers k.same (λ j l. subst (λ i. i < 256) (sym (k.there j l)) (d.numbers (26 + j) (omega arith)));
+        numbers =
+            all_numbers d.last w d.numbers k.same (λ j l. subst (λ i. i < 256) (sym (k.there j l)) (d.numbers (26 + j) (omega arith)));
         same = λ i a f o q t. k.same i a t ∙ d.same i a f o q t ∙ b.same i a f o q t;
         inputs = k.inputs ∙ d.inputs ∙ b.inputs;
         safe = k.safe ∙ d.safe ∙ b.safe;
@@ -139,7 +146,8 @@ module _ (e : Env) (p : Location) (top c : ℕ) (st : StandsFrom e p (suc top) c
       kept : (x m : ℕ) → x < m → x % m ≡ x
       kept x m l = let e : x ≡ 0 * m + x = omega arith in ap (λ t. t % m) e ∙ mod-mul-add 0 m x l
 
-      all_numbers : (v1 w : View) → HoldsNumbers v1 → ((k : ℕ) → k ≢ 0 → Outside c (suc top) k → w.at k ≡ v1.at k) → ((j : ℕ) → j < suc top → w.at (c + j) < 256) → HoldsNumbers w
+      all_numbers : (v1 w : View) → HoldsNumbers v1 → ((k : ℕ) → k ≢ 0 → Outside c (suc top) k → w.at k ≡ v1.at k)
+          → ((j : ℕ) → j < suc top → w.at (c + j) < 256) → HoldsNumbers w
       all_numbers v1 w f same there k u =
           ⊎_elim
           (λ (l : k < c). subst (λ z. z < 256) (sym (same k (omega arith) (λ x. absurd (omega arith)))) (f k u))
@@ -154,15 +162,23 @@ module _ (e : Env) (p : Location) (top c : ℕ) (st : StandsFrom e p (suc top) c
   crossed : (r : Bool) (x y z pc end : ℕ) (v : View) → H y z (top_byte top x) v → HasAt e (cross_code r top) pc end
       → Stage e p top c st far most v0 1 pc v end y z (sign_byte r top x z)
   crossed true x y z pc end v h stands =
-      record { steps = 0; at_most = omega arith; last = v; goes = subst (λ i. Goes e 0 pc v i v) (sym stands) (record { by = refl }); holds = h }
+      record {
+        steps = 0;
+        at_most = omega arith;
+        last = v;
+        goes = subst (λ i. Goes e 0 pc v i v) (sym stands) (record { by = refl });
+        holds = h;
+      }
   crossed false x y z pc end v h stands =
       cross_stage e p top c st far most v0 y z (top_byte top x) pc end v h stands
 
   signs : (r : Bool) (x z s pc end : ℕ) (v : View) → H x z s v → HasAt e (signs_code r true p top) pc end
-      → Stage e p top c st far most v0 (1 + (4 + 6 * suc top + (1 + (4 + 6 * suc top)))) pc v end (negated_if (top_byte top x / 128) (suc top) x) (negated_if (top_byte top z / 128) (suc top) z) (sign_byte r top x z)
+      → Stage e p top c st far most v0 (1 + (4 + 6 * suc top + (1 + (4 + 6 * suc top)))) pc v end
+      (negated_if (top_byte top x / 128) (suc top) x) (negated_if (top_byte top z / 128) (suc top) z) (sign_byte r top x z)
   signs r x z s pc end v h stands =
       let n = suc top in
-      let s1 = has_parts e (top_code p top) (negate_if_code 31 p n ++ (cross_code r top ++ negate_if_code (8 + top) divisor_row n)) pc end stands in
+      let s1 =
+      has_parts e (top_code p top) (negate_if_code 31 p n ++ (cross_code r top ++ negate_if_code (8 + top) divisor_row n)) pc end stands in
       let s2 = has_parts e (negate_if_code 31 p n) (cross_code r top ++ negate_if_code (8 + top) divisor_row n) s1.0 end s1.2 in
       let s3 = has_parts e (cross_code r top) (negate_if_code (8 + top) divisor_row n) s2.0 end s2.2 in
       let t = top_byte top x in
@@ -171,9 +187,12 @@ module _ (e : Env) (p : Location) (top c : ℕ) (st : StandsFrom e p (suc top) c
       let b = number_stage e p top c st far most v0 x z t s1.0 s2.0 a.last a.holds s2.1 in
       let f = crossed r x y z s2.0 s3.0 b.last b.holds s3.1 in
       let d = divisor_stage e p top c st far most v0 y z (sign_byte r top x z) s3.0 end f.last f.holds s3.2 in
-      let fd = then_stage e p top c st far most v0 1 (4 + 6 * n) s2.0 s3.0 end y z (sign_byte r top x z) y (negated_if (top_byte top z / 128) n z) (sign_byte r top x z) b.last f d in
-      let bfd = then_stage e p top c st far most v0 (4 + 6 * n) (1 + (4 + 6 * n)) s1.0 s2.0 end y z t y (negated_if (top_byte top z / 128) n z) (sign_byte r top x z) a.last b fd in
-      then_stage e p top c st far most v0 1 (4 + 6 * n + (1 + (4 + 6 * n))) pc s1.0 end x z t y (negated_if (top_byte top z / 128) n z) (sign_byte r top x z) v a bfd
+      let fd = then_stage e p top c st far most v0 1 (4 + 6 * n) s2.0 s3.0 end y z (sign_byte r top x z) y
+      (negated_if (top_byte top z / 128) n z) (sign_byte r top x z) b.last f d in
+      let bfd = then_stage e p top c st far most v0 (4 + 6 * n) (1 + (4 + 6 * n)) s1.0 s2.0 end y z t y
+      (negated_if (top_byte top z / 128) n z) (sign_byte r top x z) a.last b fd in
+      then_stage e p top c st far most v0 1 (4 + 6 * n + (1 + (4 + 6 * n))) pc s1.0 end x z t y (negated_if (top_byte top z / 128) n z)
+      (sign_byte r top x z) v a bfd
 
   -- all that comes after the divisor was copied
   record Results (limit pc : ℕ) (v : View) (end number : ℕ) : Type 0 where
@@ -189,16 +208,29 @@ module _ (e : Env) (p : Location) (top c : ℕ) (st : StandsFrom e p (suc top) c
     seen : last.seen ≡ v0.seen
 
   results : (r signed : Bool) (x z s pc end : ℕ) (v : View) → H x z s v → 1 ≤ z
-      → HasAt e (signs_code r signed p top ++ (start_code (suc top) ++ (divide_code p (suc top) ++ (result_code r p (suc top) ++ sign_code signed p (suc top))))) pc end
+      → HasAt e (signs_code r signed p top
+      ++ (start_code (suc top) ++ (divide_code p (suc top) ++ (result_code r p (suc top) ++ sign_code signed p (suc top))))) pc end
       → Results 2500 pc v end (quotient_of r signed top x z)
   results r false x z s pc end v h some stands =
       let k = parts r x z s pc end v [] h some stands in
       let take = k.at_most in
       let to_end : k.to ≡ end = sym k.rest in
-      record { steps = k.steps; at_most = omega (arith, take); last = k.last; goes = subst (λ i. Goes e k.steps pc v i k.last) to_end k.goes; number_is = k.number_is; numbers = k.numbers; same = k.same; inputs = k.inputs; safe = k.safe; seen = k.seen }
+      record {
+        steps = k.steps;
+        at_most = omega (arith, take);
+        last = k.last;
+        goes = subst (λ i. Goes e k.steps pc v i k.last) to_end k.goes;
+        number_is = k.number_is;
+        numbers = k.numbers;
+        same = k.same;
+        inputs = k.inputs;
+        safe = k.safe;
+        seen = k.seen;
+      }
   results r true x z s pc end v h some stands =
       let n = suc top in
-      let s1 = has_parts e (signs_code r true p top) (start_code n ++ (divide_code p n ++ (result_code r p n ++ sign_code true p n))) pc end stands in
+      let s1 = has_parts e (signs_code r true p top)
+      (start_code n ++ (divide_code p n ++ (result_code r p n ++ sign_code true p n))) pc end stands in
       let a = signs r x z s pc s1.0 v h s1.1 in
       let y = negated_if (top_byte top x / 128) n x in
       let w = negated_if (top_byte top z / 128) n z in
@@ -213,8 +245,10 @@ module _ (e : Env) (p : Location) (top c : ℕ) (st : StandsFrom e p (suc top) c
         steps = a.steps + k.steps + m.steps;
         at_most = omega (arith, t1, t2, t3, most);
         last = m.last;
-        goes = goes_on_to e (a.steps + k.steps) m.steps pc k.to end v k.last m.last (goes_on_to e a.steps k.steps pc s1.0 k.to v a.last k.last a.goes k.goes) m.goes;
-        number_is = m.number_is ∙ ap (λ t. negated_if (t / 128) n (value k.last.at c n)) k.sign ∙ ap (negated_if (sign_byte r top x z / 128) n) k.number_is;
+        goes = goes_on_to e (a.steps + k.steps) m.steps pc k.to end v k.last m.last
+            (goes_on_to e a.steps k.steps pc s1.0 k.to v a.last k.last a.goes k.goes) m.goes;
+        number_is = m.number_is ∙ ap (λ t. negated_if (t / 128) n (value k.last.at c n)) k.sign
+            ∙ ap (negated_if (sign_byte r top x z / 128) n) k.number_is;
         numbers = m.numbers;
         same = λ i a b o q t. m.same i a b t ∙ k.same i a b o q t;
         inputs = m.inputs ∙ k.inputs;
@@ -265,9 +299,11 @@ quotients_are_right r signed e p q top a b pc end v sa sb most fa fb h some stan
 
     beside : (j : ℕ) → j < suc top → Outside 8 (suc top) (a + j)
     beside j l o =
-        ⊎_elim (λ (r : a < 8). let z = fa.low r in absurd (omega arith)) (λ (r : 8 ≤ a). let z = fa.above_low r in omega arith) (cases_lt a 8)
+        ⊎_elim (λ (r : a < 8). let z = fa.low r in absurd (omega arith))
+        (λ (r : 8 ≤ a). let z = fa.above_low r in omega arith) (cases_lt a 8)
 
-    numbers1 : (v1 : View) → ((k : ℕ) → k ≢ 0 → Outside 8 (suc top) k → v1.at k ≡ v.at k) → ((j : ℕ) → j < suc top → v1.at (8 + j) < 256) → HoldsNumbers v1
+    numbers1 : (v1 : View) → ((k : ℕ) → k ≢ 0 → Outside 8 (suc top) k → v1.at k ≡ v.at k) → ((j : ℕ) → j < suc top → v1.at (8 + j) < 256)
+        → HoldsNumbers v1
     numbers1 v1 same there k u =
         ⊎_elim
         (λ (l : k < 8). subst (λ z. z < 256) (sym (same k (omega arith) (λ x. absurd (omega arith)))) (h k u))

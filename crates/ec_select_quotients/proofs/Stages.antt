@@ -1,5 +1,6 @@
 -- The stages of a division with signs.
-use Rattle.std.proofs.Common.{◌≡◌, ◌≢◌, ℕ, zero, suc, ◌+◌, ◌-◌, ◌*◌, ◌/◌, ◌%◌, ◌^◌, ◌<◌, ◌≤◌, ⊎_elim, Bool, true, false, [], ◌∷◌, refl, sym, ap, ◌∙◌, subst, arith, bit_xor}
+use Rattle.std.proofs.Common.{◌≡◌, ◌≢◌, ℕ, zero, suc, ◌+◌, ◌-◌, ◌*◌, ◌/◌, ◌%◌, ◌^◌, ◌<◌, ◌≤◌, ⊎_elim, Bool, true, false, [], ◌∷◌, refl, sym}
+use Rattle.std.proofs.Common.{ap, ◌∙◌, subst, arith, bit_xor}
 use Rattle.std.specs.Int.Bits.{xor_self}
 use Rattle.std.proofs.lemmas.Bool.{cases_lt, cases_eq}
 use Rattle.std.proofs.lemmas.Nat.{div-mul-add, xor_lt, mod_below}
@@ -61,7 +62,8 @@ clear_step e v0 i v h =
     let other : (k : ℕ) → k ≢ 26 + i → w.at k ≡ v.at k = λ k n. put_other v.at (26 + i) _ k n in
     let here : w.at (26 + i) ≡ 0 = put_here v.at (26 + i) _ (26 + i) refl ∙ xor_self (v.at (26 + i)) in
     record {
-      there = λ j l. ⊎_elim (λ (q : j ≡ i). ap (λ z. w.at (26 + z)) q ∙ here) (λ (q : j ≢ i). other (26 + j) (omega arith) ∙ h.there j (omega arith)) (cases_eq j i);
+      there = λ j l. ⊎_elim (λ (q : j ≡ i). ap (λ z. w.at (26 + z)) q ∙ here)
+          (λ (q : j ≢ i). other (26 + j) (omega arith) ∙ h.there j (omega arith)) (cases_eq j i);
       same = λ k o. other k (not_here k 26 i o) ∙ h.same k (fewer k 26 i o);
       inputs = h.inputs;
       safe = h.safe;
@@ -70,7 +72,8 @@ clear_step e v0 i v h =
 
 cleared : (e : Env) (m : ℕ) (v : View) → ClearsTo v m (block e (clear_code m) v)
 cleared e m v =
-    chain_holds e clear_byte (ClearsTo v) m (λ i l w h. clear_step e v i w h) v (record { there = λ j l. absurd (omega arith); same = λ k o. refl; inputs = refl; safe = refl; seen = refl })
+    chain_holds e clear_byte (ClearsTo v) m (λ i l w h. clear_step e v i w h) v
+    (record { there = λ j l. absurd (omega arith); same = λ k o. refl; inputs = refl; safe = refl; seen = refl })
 
 zeros : (f : ℕ → ℕ) (a n : ℕ) → ((j : ℕ) → j < n → f (a + j) ≡ 0) → value f a n ≡ 0
 zeros f a zero h = refl
@@ -85,7 +88,8 @@ start_straight n = chain_straight clear_byte (suc n) (λ i. refl)
 start_steps : (n : ℕ) → code_steps (start_code n) ≡ 3 + suc n * 1
 start_steps n = ap (λ k. 1 + (1 + (1 + k))) (steps-chain clear_byte (suc n) 1 (λ i. refl)) ∙ omega arith
 
-module _ (e : Env) (p : Location) (top c : ℕ) (st : StandsFrom e p (suc top) c Own) (far : IsFar c (suc top)) (most : suc top ≤ 4) (v0 : View) where
+module _ (e : Env) (p : Location) (top c : ℕ) (st : StandsFrom e p (suc top) c Own) (far : IsFar c (suc top)) (most : suc top ≤ 4)
+    (v0 : View) where
   -- the number, the divisor, and the byte with the sign
   pub record Holds (x z s : ℕ) (v : View) : Type 0 where
     pub number : value v.at c (suc top) ≡ x
@@ -109,7 +113,13 @@ module _ (e : Env) (p : Location) (top c : ℕ) (st : StandsFrom e p (suc top) c
   then_stage i j pc mid end x z s x1 z1 s1 v a b =
       let m = a.at_most in
       let n = b.at_most in
-      record { steps = a.steps + b.steps; at_most = omega arith; last = b.last; goes = goes_on_to e a.steps b.steps pc mid end v a.last b.last a.goes b.goes; holds = b.holds }
+      record {
+        steps = a.steps + b.steps;
+        at_most = omega arith;
+        last = b.last;
+        goes = goes_on_to e a.steps b.steps pc mid end v a.last b.last a.goes b.goes;
+        holds = b.holds;
+      }
 
   -- a byte of the number is none of the rows
   not_31 : (j : ℕ) → j < suc top → c + j ≢ 31
@@ -124,7 +134,8 @@ module _ (e : Env) (p : Location) (top c : ℕ) (st : StandsFrom e p (suc top) c
     number = value-same w.at v.at c (suc top) (λ j l. other (c + j) (not_31 j l)) ∙ h.number;
     divisor = value-same w.at v.at 8 (suc top) (λ j l. other (8 + j) (omega arith)) ∙ h.divisor;
     sign = here;
-    numbers = λ k u. ⊎_elim (λ (q : k ≡ 31). subst (λ i. w.at i < 256) (sym q) (subst (λ i. i < 256) (sym here) small)) (λ (q : k ≢ 31). subst (λ i. i < 256) (sym (other k q)) (h.numbers k u)) (cases_eq k 31);
+    numbers = λ k u. ⊎_elim (λ (q : k ≡ 31). subst (λ i. w.at i < 256) (sym q) (subst (λ i. i < 256) (sym here) small))
+        (λ (q : k ≢ 31). subst (λ i. i < 256) (sym (other k q)) (h.numbers k u)) (cases_eq k 31);
     same = λ k a b o q t. other k (not_row k q) ∙ h.same k a b o q t;
     inputs = inputs ∙ h.inputs;
     safe = safe ∙ h.safe;
@@ -164,8 +175,10 @@ module _ (e : Env) (p : Location) (top c : ℕ) (st : StandsFrom e p (suc top) c
         last = w;
         goes = k.goes;
         holds = record {
-          number = k.number_is ∙ ap (λ i. negated_if (i / 128) (suc top) (value v.at c (suc top))) h.sign ∙ ap (negated_if (s / 128) (suc top)) h.number;
-          divisor = value-same w.at v.at 8 (suc top) (λ j l. k.same (8 + j) (omega arith) (omega arith) (low_outside c (suc top) (8 + j) far (omega arith) (omega arith))) ∙ h.divisor;
+          number = k.number_is ∙ ap (λ i. negated_if (i / 128) (suc top) (value v.at c (suc top))) h.sign
+              ∙ ap (negated_if (s / 128) (suc top)) h.number;
+          divisor = value-same w.at v.at 8 (suc top) (λ j l.
+              k.same (8 + j) (omega arith) (omega arith) (low_outside c (suc top) (8 + j) far (omega arith) (omega arith))) ∙ h.divisor;
           sign = k.same 31 (omega arith) (omega arith) (high_outside c (suc top) 31 far (omega arith) (omega arith)) ∙ h.sign;
           numbers = k.numbers;
           same = λ i a b o q t. k.same i a b t ∙ h.same i a b o q t;
@@ -178,7 +191,8 @@ module _ (e : Env) (p : Location) (top c : ℕ) (st : StandsFrom e p (suc top) c
   -- a byte of the number is none of the divisor
   low_beside : (j m : ℕ) → j < suc top → m ≤ 6 → Outside 8 m (c + j)
   low_beside j m l k q =
-      ⊎_elim (λ (r : c < 8). let z = far.low r in absurd (omega arith)) (λ (r : 8 ≤ c). let z = far.above_low r in omega arith) (cases_lt c 8)
+      ⊎_elim (λ (r : c < 8). let z = far.low r in absurd (omega arith))
+      (λ (r : 8 ≤ c). let z = far.above_low r in omega arith) (cases_lt c 8)
 
   pub divisor_stage : (x z s pc end : ℕ) (v : View) → Holds x z s v
       → HasAt e (negate_if_code (8 + top) divisor_row (suc top)) pc end
@@ -194,8 +208,11 @@ module _ (e : Env) (p : Location) (top c : ℕ) (st : StandsFrom e p (suc top) c
         last = w;
         goes = k.goes;
         holds = record {
-          number = value-same w.at v.at c (suc top) (λ j l. k.same (c + j) (omega arith) (omega arith) (low_beside j (suc top) l (omega arith))) ∙ h.number;
-          divisor = k.number_is ∙ ap (λ i. negated_if (i / 128) (suc top) (value v.at 8 (suc top))) byte ∙ ap (negated_if (top_byte top z / 128) (suc top)) h.divisor;
+          number =
+              value-same w.at v.at c (suc top) (λ j l. k.same (c + j) (omega arith) (omega arith) (low_beside j (suc top) l (omega arith)))
+              ∙ h.number;
+          divisor = k.number_is ∙ ap (λ i. negated_if (i / 128) (suc top) (value v.at 8 (suc top))) byte
+              ∙ ap (negated_if (top_byte top z / 128) (suc top)) h.divisor;
           sign = k.same 31 (omega arith) (omega arith) (λ l. omega arith) ∙ h.sign;
           numbers = k.numbers;
           same = λ i a b o q t. k.same i a b (λ l. let u = o l in omega arith) ∙ h.same i a b o q t;
@@ -245,17 +262,24 @@ module _ (e : Env) (p : Location) (top c : ℕ) (st : StandsFrom e p (suc top) c
       let go = block_goes e (start_code n) pc end v (start_straight n) stands in
       let take = start_steps n in
       let zero_byte : v3.at (8 + n) ≡ 0 = put_here v2.at (8 + n) _ (8 + n) refl ∙ xor_self (v2.at (8 + n)) in
-      let other : (i : ℕ) → i ≢ 30 → i ≢ 13 → i ≢ 8 + n → v3.at i ≡ v.at i = λ i a b d. put_other v2.at (8 + n) (bit_xor (v2.at (8 + n)) (v2.at (8 + n))) i d ∙ put_other v1.at 13 (8 * n) i b ∙ put_other v.at 30 (8 * n) i a in
-      let low : value w.at 8 n ≡ z = value-same w.at v.at 8 n (λ j l. k.same (8 + j) (λ q. absurd (omega arith)) ∙ other (8 + j) (omega arith) (omega arith) (omega arith)) ∙ h.divisor in
+      let other : (i : ℕ) → i ≢ 30 → i ≢ 13 → i ≢ 8 + n → v3.at i ≡ v.at i =
+      λ i a b d. put_other v2.at (8 + n) (bit_xor (v2.at (8 + n)) (v2.at (8 + n))) i d ∙ put_other v1.at 13 (8 * n) i b
+      ∙ put_other v.at 30 (8 * n) i a in
+      let low : value w.at 8 n ≡ z =
+      value-same w.at v.at 8 n (λ j l. k.same (8 + j) (λ q. absurd (omega arith)) ∙ other (8 + j) (omega arith) (omega arith) (omega arith))
+      ∙ h.divisor in
       let top_zero : w.at (8 + n) ≡ 0 = k.same (8 + n) (λ q. absurd (omega arith)) ∙ zero_byte in
-      let thirteen : v3.at 13 ≡ 8 * n = put_other v2.at (8 + n) (bit_xor (v2.at (8 + n)) (v2.at (8 + n))) 13 (omega arith) ∙ put_here v1.at 13 (8 * n) 13 refl in
+      let thirteen : v3.at 13 ≡ 8 * n =
+      put_other v2.at (8 + n) (bit_xor (v2.at (8 + n)) (v2.at (8 + n))) 13 (omega arith) ∙ put_here v1.at 13 (8 * n) 13 refl in
       let count : w.at 13 ≡ 8 * n = k.same 13 (λ q. absurd (omega arith)) ∙ thirteen in
-      let thirty : v3.at 30 ≡ 8 * n = put_other v2.at (8 + n) (bit_xor (v2.at (8 + n)) (v2.at (8 + n))) 30 (omega arith) ∙ put_other v1.at 13 (8 * n) 30 (omega arith) ∙ put_here v.at 30 (8 * n) 30 refl in
+      let thirty : v3.at 30 ≡ 8 * n = put_other v2.at (8 + n) (bit_xor (v2.at (8 + n)) (v2.at (8 + n))) 30 (omega arith)
+      ∙ put_other v1.at 13 (8 * n) 30 (omega arith) ∙ put_here v.at 30 (8 * n) 30 refl in
       let numbers3 : HoldsNumbers v3 = λ i u.
       ⊎_elim (λ (q : i ≡ 30). subst (λ t. v3.at t < 256) (sym q) (subst (λ t. t < 256) (sym thirty) (omega arith)))
       (λ (q : i ≢ 30). ⊎_elim (λ (r : i ≡ 13). subst (λ t. v3.at t < 256) (sym r) (subst (λ t. t < 256) (sym thirteen) (omega arith)))
       (λ (r : i ≢ 13). ⊎_elim (λ (t : i ≡ 8 + n). subst (λ t. v3.at t < 256) (sym t) (subst (λ t. t < 256) (sym zero_byte) (omega arith)))
-      (λ (t : i ≢ 8 + n). subst (λ t. t < 256) (sym (other i q r t)) (h.numbers i u)) (cases_eq i (8 + n))) (cases_eq i 13)) (cases_eq i 30) in
+      (λ (t : i ≢ 8 + n). subst (λ t. t < 256) (sym (other i q r t)) (h.numbers i u)) (cases_eq i (8 + n))) (cases_eq i 13))
+      (cases_eq i 30) in
       let below : z < 256 ^ n = subst (λ t. t < 256 ^ n) h.divisor (value_below v.at 8 n (λ j l. h.numbers (8 + j) (omega arith))) in
       record {
         steps = code_steps (start_code n);
@@ -270,9 +294,11 @@ module _ (e : Env) (p : Location) (top c : ℕ) (st : StandsFrom e p (suc top) c
           count = count;
           numbers = numbers4 v3 w numbers3 k.there k.same;
         };
-        number = value-same w.at v.at c n (λ j l. k.same (c + j) (high_beside j l) ∙ other (c + j) (not_30 j l) (not_13 j l) (not_low j l)) ∙ h.number;
+        number = value-same w.at v.at c n (λ j l. k.same (c + j) (high_beside j l) ∙ other (c + j) (not_30 j l) (not_13 j l) (not_low j l))
+            ∙ h.number;
         sign = k.same 31 (λ q. omega arith) ∙ other 31 (omega arith) (omega arith) (omega arith) ∙ h.sign;
-        same = λ i a b o q t. k.same i (λ l. let u = q l in omega arith) ∙ other i (row_30 i q) (row_13 i o) (row_low i o) ∙ h.same i a b o q t;
+        same = λ i a b o q t. k.same i (λ l. let u = q l in omega arith) ∙ other i (row_30 i q) (row_13 i o) (row_low i o)
+            ∙ h.same i a b o q t;
         inputs = k.inputs ∙ h.inputs;
         safe = k.safe ∙ h.safe;
         seen = k.seen ∙ h.seen;
@@ -280,11 +306,13 @@ module _ (e : Env) (p : Location) (top c : ℕ) (st : StandsFrom e p (suc top) c
     where
       high_beside : (j : ℕ) → j < suc top → Outside 26 (suc (suc top)) (c + j)
       high_beside j l q =
-          ⊎_elim (λ (r : c < 26). let z = far.high r in absurd (omega arith)) (λ (r : 26 ≤ c). let z = far.above_high r in omega arith) (cases_lt c 26)
+          ⊎_elim (λ (r : c < 26). let z = far.high r in absurd (omega arith))
+          (λ (r : 26 ≤ c). let z = far.above_high r in omega arith) (cases_lt c 26)
 
       not_30 : (j : ℕ) → j < suc top → c + j ≢ 30
       not_30 j l q =
-          ⊎_elim (λ (r : c < 26). let z = far.high r in omega arith) (λ (r : 26 ≤ c). let z = far.above_high r in omega arith) (cases_lt c 26)
+          ⊎_elim (λ (r : c < 26). let z = far.high r in omega arith)
+          (λ (r : 26 ≤ c). let z = far.above_high r in omega arith) (cases_lt c 26)
 
       not_13 : (j : ℕ) → j < suc top → c + j ≢ 13
       not_13 j l q = let z = low_beside j 6 l (omega arith) (omega arith) in omega arith

@@ -9,8 +9,8 @@ use Rattle.ec_asm.specs.declared.pieces.Location.{Location}
 use Rattle.ec_asm.specs.declared.pieces.Location.TheVariants.{InRegisters, InMemory}
 use Rattle.ec_asm.specs.Items.{chain}
 use Rattle.ec_asm.specs.Pieces.{copy_code}
-pub use Rattle.ec_select_parts.specs.Signs.{negation_words, sign_test, sign_skip, negate_if_code, cross_code}
-use Rattle.ec_select_parts.specs.Signs.{registers_code}
+pub use Rattle.ec_select_bytes.specs.Signs.{negation_words, sign_test, sign_skip, negate_if_code, cross_code}
+use Rattle.ec_select_bytes.specs.Signs.{registers_code}
 use Rattle.ec_select_quotients.specs.Quotients.{divisor_row, remainder_row, divide_code}
 
 -- ---- meaning

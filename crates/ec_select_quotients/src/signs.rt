@@ -10,7 +10,7 @@ ghost use Rattle.ec_select_quotients.specs.Signs.{quotient_code};
 use crate::quotients::{divide, divisor, remainder};
 use ec_asm::{AsmItem, Location, copy};
 use ec_isa::Instr;
-use ec_select_parts::{cross_signs, negate_if, set_registers};
+use ec_select_bytes::{cross_signs, negate_if, set_registers};
 use ec_space::{NoMemory, Seq};
 
 /// What is computed of two numbers.

@@ -1,5 +1,6 @@
 -- Halves are bytes again.
-use Rattle.std.proofs.Common.{◌≡◌, ◌≢◌, ℕ, zero, suc, ◌+◌, ◌-◌, ◌*◌, ◌/◌, ◌%◌, ◌<◌, ◌≤◌, ⊎_elim, Bool, true, false, refl, ap, ◌∙◌, subst, arith}
+use Rattle.std.proofs.Common.{◌≡◌, ◌≢◌, ℕ, zero, suc, ◌+◌, ◌-◌, ◌*◌, ◌/◌, ◌%◌, ◌<◌, ◌≤◌, ⊎_elim, Bool, true, false, refl, ap, ◌∙◌, subst}
+use Rattle.std.proofs.Common.{arith}
 use Rattle.std.proofs.lemmas.Bool.{cases_eq}
 use Rattle.ec_avr.specs.Flags.{shifted}
 use Rattle.ec_asm.specs.declared.pieces.Location.{Location}
@@ -34,7 +35,8 @@ byte_is_halved : (e : Env) (signed : Bool) (p : Location) (n k a : ℕ) (v : Vie
     → KindIs e p a Own → Puts v (block e (halve_byte signed p n k) v) a (bit_of signed k (v.at a) v.flags.c)
 byte_is_halved e signed (InRegisters r) n k a v p ka =
     let y = shifted (v.at a) (bit_of signed k (v.at a) v.flags.c) in
-    rw (halves_change e signed k (r + (n - 1 - k)) v, p) (record { here = put_here v.at a y a refl; carry = refl; same = λ j z o. put_other v.at a y j o })
+    rw (halves_change e signed k (r + (n - 1 - k)) v, p)
+    (record { here = put_here v.at a y a refl; carry = refl; same = λ j z o. put_other v.at a y j o })
 byte_is_halved e signed (InMemory o i) n k a v p ka =
     let v1 = set 0 (v.at a) v in
     let y = shifted (v.at a) (bit_of signed k (v.at a) v.flags.c) in
@@ -76,4 +78,5 @@ step signed e p n a k v s l h =
 pub halves_are_bytes : (signed : Bool) (e : Env) (p : Location) (n a : ℕ) (v : View) → StandsFrom e p n a Own → HoldsNumbers v
     → HoldsNumbers (block e (halve_code signed p n) v)
 halves_are_bytes signed e p n a v s h =
-    (chain_holds e (halve_byte signed p n) AreBytes n (λ k l w f. step signed e p n a k w s l f) v (record { numbers = h; bit = λ z. absurd (omega arith) })).numbers
+    (chain_holds e (halve_byte signed p n) AreBytes n (λ k l w f. step signed e p n a k w s l f) v
+    (record { numbers = h; bit = λ z. absurd (omega arith) })).numbers

@@ -1,4 +1,6 @@
+-- For the crates of the family.
 pub mod Words
-pub mod Halves
 pub mod Once
 pub mod Loops
+-- For this crate alone.
+mod Halves

@@ -1,5 +1,6 @@
 -- One turn of a shift, and many.
-use Rattle.std.proofs.Common.{◌≡◌, ◌≢◌, ℕ, zero, suc, ◌+◌, ◌-◌, ◌*◌, ◌/◌, ◌%◌, ◌^◌, ◌<◌, ◌≤◌, ⊎_elim, Bool, true, false, refl, sym, ap, ◌∙◌, subst, arith, leb-true, leb-false}
+use Rattle.std.proofs.Common.{◌≡◌, ◌≢◌, ℕ, zero, suc, ◌+◌, ◌-◌, ◌*◌, ◌/◌, ◌%◌, ◌^◌, ◌<◌, ◌≤◌, ⊎_elim, Bool, true, false, refl, sym, ap, ◌∙◌}
+use Rattle.std.proofs.Common.{subst, arith, leb-true, leb-false}
 use Rattle.std.specs.Prelude.{nat_le, if◌then◌else◌}
 use Rattle.std.proofs.lemmas.Bool.{cases_Bool, cases_lt, le-leb}
 use Rattle.std.proofs.lemmas.Bool.Decides.{nat_tests}
@@ -84,7 +85,8 @@ pub record Turns (s : Direction) (a n : ℕ) (v w : View) : Type 0 where
   pub keeps : Keeps v w a n
 
 -- the top byte tells the sign
-sign_is : (low top p : ℕ) → low < p → top < 256 → (if nat_le (p * 256) (2 * (low + top * p)) then (low + top * p + p * 256) / 2 else (low + top * p) / 2) ≡ (low + top * p + top / 128 * (p * 256)) / 2
+sign_is : (low top p : ℕ) → low < p → top < 256 → (if nat_le (p * 256) (2 * (low + top * p)) then (low + top * p + p * 256) / 2
+    else (low + top * p) / 2) ≡ (low + top * p + top / 128 * (p * 256)) / 2
 sign_is low top p l k =
     ⊎_elim
     (λ (g : top < 128).
@@ -112,7 +114,11 @@ turned (Right signed) e p n a v st h =
     let ua = st.clear in
     let top : v.at (a + n) < 256 = h (a + n) (omega arith) in
     let low : value v.at a n < 256 ^ n = value_below v.at a n (λ j l. h (a + j) (omega arith)) in
-    record { number_is = r.0 ∙ halved signed (value v.at a n) (v.at (a + n)) low top; numbers = halves_are_bytes signed e p (suc n) a v st h; keeps = r.2 }
+    record {
+      number_is = r.0 ∙ halved signed (value v.at a n) (v.at (a + n)) low top;
+      numbers = halves_are_bytes signed e p (suc n) a v st h;
+      keeps = r.2;
+    }
   where
     halved : (signed : Bool) (low top : ℕ) → low < 256 ^ n → top < 256
         → (low + top * 256 ^ n + sign_of signed top * 256 ^ suc n) / 2 ≡ once (Right signed) (suc n) (low + top * 256 ^ n)

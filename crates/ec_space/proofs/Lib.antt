@@ -1,2 +1,4 @@
-pub mod Bytes
+-- For all crates above.
 pub mod Overwrite
+-- For this crate alone.
+mod Bytes

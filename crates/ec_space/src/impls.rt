@@ -5,7 +5,7 @@ ghost use Rattle.std.specs.Cmp.Lexicographic.{lists_po, lists_total, lists_agree
 ghost use Rattle.std.specs.Hash as fed;
 ghost use Rattle.std.specs.Hash.{on_Alike, items_Alike};
 
-use crate::Seq;
+use crate::seq::Seq;
 use std::cmp::Ordering;
 use std::fmt;
 use std::hash::{Hash, Hasher};

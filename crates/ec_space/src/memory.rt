@@ -5,8 +5,11 @@ ghost use Rattle.std.specs.Borrow.{sem};
 ghost use Rattle.std.specs.Option.{SomeIff};
 ghost use Rattle.ec_space.specs.Memory.{IsFilled};
 
+use crate::Core;
+use crate::cell::Cell;
+use crate::seq::NoMemory;
 use crate::space::{Bank, Place};
-use crate::{Cell, Core, NoMemory, Space};
+use crate::spaces::Space;
 use std::alloc::Global;
 use std::marker::Model;
 

@@ -1,5 +1,4 @@
 //! The machine on flags that were worked out apart from it, on whole small programs, and at each fault.
-
 ghost use Rattle.std.specs.Prelude.{◌≤◌, ◌<◌};
 
 use ec_avr::{Access, FaultKind, Image, Machine, PortAnswer, Stepped};

@@ -1,5 +1,4 @@
 //! What no clause says: that memory suffices, and each call once over memory.
-
 use ec_io::{
     Failed, MemFile, MemSink, MemStore, Quiet, ReadStop, Sink, Store, Written, read_file, write_all,
 };

@@ -1,6 +1,5 @@
 //! Instructions and words that no clause names: the words were worked out by hand from the bits that the
 //! instruction set manual prints, and avr-objdump of GNU binutils prints these instructions for them.
-
 use ec_isa::{Instr, decode, encode, is_in_table};
 
 /// An instruction, its first word, and its second word or none: at least one for each row and form of

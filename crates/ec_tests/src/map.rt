@@ -1,5 +1,4 @@
 //! Maps that break one rule each, by the reading of the rules alone, and a map with a port, a group and a place.
-
 use ec_iohw::Port;
 use ec_map::{Fixed1, Map, MapStop, read_map};
 use ec_space::{NoMemory, Seq};

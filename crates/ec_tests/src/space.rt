@@ -1,5 +1,4 @@
 //! Lists as keys, pointers as bytes, cells and memory, on values worked out by hand.
-
 use ec_space::{
     Bank, Cell, Core, Data, Flash, Generic, Mem, Name, NoMemory, Place, Pointer, Seq, Space,
     SpaceId, Within,

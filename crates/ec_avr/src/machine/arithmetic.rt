@@ -1,5 +1,4 @@
-// The steps that compute in registers. Each goes on to the next instruction.
-
+//! The steps that compute in registers. Each goes on to the next instruction.
 use super::flags::*;
 use super::{Access, Machine, Stepped};
 

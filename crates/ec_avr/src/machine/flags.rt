@@ -1,5 +1,4 @@
-// The status register after an operation, and the results of the operations.
-
+//! The status register after an operation, and the results of the operations.
 ghost use Rattle.std.specs.Prelude.{◌≡◌, ◌<◌, ◌≤◌};
 ghost use Rattle.std.specs.Int.{bit_at};
 ghost use Rattle.ec_avr.specs.Flags.{with_bit as bit_set, with_flags as flags_set};
@@ -15,7 +14,7 @@ ghost use Rattle.ec_avr.specs.Flags.{pair_difference as difference_of_pair};
 ghost use Rattle.ec_avr.specs.Flags.{pair_difference_flags as flags_of_pair_difference};
 ghost use Rattle.ec_avr.specs.Flags.{product_flags as flags_of_product};
 
-use ec_avr_parts::{half_carry, zero_of_difference};
+use ec_isa::{half_carry, zero_of_difference};
 
 /// Bit `n` of a byte: 0 or 1.
 pub fn bit(byte: u8, n: u8) -> u8

@@ -1,11 +1,9 @@
-// Where the program counter goes.
-
+//! Where the program counter goes.
 ghost use Rattle.std.specs.Prelude.{◌≡◌};
 ghost use Rattle.ec_avr.specs.Effects.{relative as relative_of, has_two_words as has_two_words_of};
 
 use super::{Access, Machine, Stepped};
-use ec_avr_parts::skipped_words;
-use ec_isa::{Instr, decode};
+use ec_isa::{Instr, decode, skipped_words};
 
 impl Machine {
     ghost use Rattle.std.specs.Prelude.{◌≡◌, ◌≤◌, IsTrue, IfSome};

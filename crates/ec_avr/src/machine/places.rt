@@ -1,7 +1,6 @@
-// The places of the machine: bytes, registers, pointers, flags and words of flash.
-
+//! The places of the machine: bytes, registers, pointers, flags and words of flash.
 use super::Machine;
-use ec_avr_parts::is_past_ports;
+use ec_isa::is_past_ports;
 use ec_space::Bank;
 
 /// The lower register of the pointer X.

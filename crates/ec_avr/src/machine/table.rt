@@ -1,11 +1,9 @@
-// The effect of each instruction.
-
+//! The effect of each instruction.
 use super::flags::bit;
 use super::jumps::relative;
 use super::places::*;
 use super::{Machine, Stepped};
-use ec_avr_parts::lowered;
-use ec_isa::Instr;
+use ec_isa::{Instr, lowered};
 
 /// The flag C.
 const CARRY: u8 = 0;

@@ -1,13 +1,10 @@
-// The steps that load and store, and those of the stack.
-
+//! The steps that load and store, and those of the stack.
 ghost use Rattle.std.specs.Prelude.{◌≡◌};
 ghost use Rattle.ec_avr.specs.Effects.{load_access as access_of_load, store_access as access_of_store};
 
 use super::places::*;
 use super::{Access, FaultKind, Machine, Stepped};
-use ec_avr_parts::{
-    is_core_register, is_kept, is_port, lowered, post_increment, raised, return_address,
-};
+use ec_isa::{is_core_register, is_kept, is_port, lowered, post_increment, raised, return_address};
 use ec_space::Bank;
 
 impl Machine {

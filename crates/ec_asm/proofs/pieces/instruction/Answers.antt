@@ -1,5 +1,5 @@
 use Rattle.std.proofs.Common.{◌≡◌, ◌∙◌, ℕ, zero, suc, refl}
-use Rattle.ec_asm_parts.specs.Bytes.{sums}
+use Rattle.ec_asm.specs.Bytes.{sums}
 use Rattle.ec_asm.specs.declared.pieces.Operator.TheVariants.{Sum}
 use Rattle.ec_asm.specs.Pieces.{instruction}
 use Rattle.ec_asm.proofs.pieces.instruction.Goals as goal

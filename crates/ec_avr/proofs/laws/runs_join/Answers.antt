@@ -1,4 +1,5 @@
-use Rattle.ec_avr.proofs.Runs.{machine_joins, leads_nowhere, leads_on, leads_through, leads_to_where_it_stands, leads_to_its_end, leads_to_its_fault, runs_lead}
+use Rattle.ec_avr.proofs.Runs.{machine_joins, leads_nowhere, leads_on, leads_through, leads_to_where_it_stands, leads_to_its_end}
+use Rattle.ec_avr.proofs.Runs.{leads_to_its_fault, runs_lead}
 use Rattle.ec_avr.proofs.laws.runs_join.Goals as goal
 
 pub returns : goal.returns

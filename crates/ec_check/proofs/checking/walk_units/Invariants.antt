@@ -1,7 +1,7 @@
 use Rattle.std.proofs.Common.{◌≡◌, drop, map}
 use Rattle.ec_grammar.specs.Views.{view_tree}
-use Rattle.ec_names.specs.Definitions.{plain_definitions}
-use Rattle.ec_file_scope.specs.States.{plain_state, IsSoundState}
+use Rattle.ec_check_names.specs.Definitions.{plain_definitions}
+use Rattle.ec_check_file_scope.specs.States.{plain_state, IsSoundState}
 use Rattle.ec_check.specs.Units.{after_units, first_fault}
 use Rattle.ec_check.proofs.checking.walk_units.Given as goal
 

@@ -1,7 +1,7 @@
 use Rattle.std.proofs.Common.{◌≡◌, List, drop, map}
 use Rattle.ec_grammar.specs.Views.{view_external}
-use Rattle.ec_declare.specs.Sites.{Site, told}
-use Rattle.ec_file_scope.specs.States.{plain_setting, plain_state, IsSoundState}
+use Rattle.ec_check_declarations.specs.Sites.{Site, told}
+use Rattle.ec_check_file_scope.specs.States.{plain_setting, plain_state, IsSoundState}
 use Rattle.ec_check.specs.Units.{after_externals, externals_sites}
 use Rattle.ec_check.proofs.units.externals.Given as goal
 
@@ -15,5 +15,6 @@ invariant-loop-x l =
     record {
       sound : IsSoundState here;
       state : after_externals r rest here ≡ after_externals r all first;
-      noted : (others : List Site) → told l.faults.least (externals_sites r rest here others) ≡ told l.fn.faults.least (externals_sites r all first others);
+      noted : (others : List Site)
+          → told l.faults.least (externals_sites r rest here others) ≡ told l.fn.faults.least (externals_sites r all first others);
     }

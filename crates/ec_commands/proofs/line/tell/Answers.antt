@@ -4,7 +4,8 @@ pub returns-in-Usage-clause-told : goal.returns-in-Usage-clause-told
 returns-in-Usage-clause-told g c = rw c.in-Usage.is (rw c.in-Usage.is at c.tell_text.ensures.told)
 
 pub returns-in-CannotRead-clause-told : goal.returns-in-CannotRead-clause-told
-returns-in-CannotRead-clause-told g c = rw c.in-CannotRead.is (rw (c.as_bytes-name.ensures.value, c.word_at.ensures) at c.write_line.ensures.told)
+returns-in-CannotRead-clause-told g c =
+    rw c.in-CannotRead.is (rw (c.as_bytes-name.ensures.value, c.word_at.ensures) at c.write_line.ensures.told)
 
 pub returns-in-CannotWrite-clause-told : goal.returns-in-CannotWrite-clause-told
 returns-in-CannotWrite-clause-told g c = rw c.in-CannotWrite.is (rw c.in-CannotWrite.is at c.tell_text-in-CannotWrite.ensures.told)

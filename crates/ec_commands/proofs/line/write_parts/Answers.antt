@@ -13,7 +13,8 @@ less_twice a b c = omega arith
 
 taken : (parts : List Part) (n : ℕ) → n < length parts
     → length (flat_map bytes_of (take (n + 1) parts)) ≡ length (flat_map bytes_of (take n parts)) + length (bytes_of (get_or parts n blank))
-taken parts n inside = ap length (line_more parts n inside) ∙ length-append (flat_map bytes_of (take n parts)) (bytes_of (get_or parts n blank))
+taken parts n inside = ap length (line_more parts n inside)
+    ∙ length-append (flat_map bytes_of (take n parts)) (bytes_of (get_or parts n blank))
 
 pub loop-part-preserved : goal.loop-part-preserved
 loop-part-preserved g c =
@@ -40,7 +41,8 @@ loop-part-preserved g c =
 
 pub returns-in-Err-clause-written : goal.returns-in-Err-clause-written
 returns-in-Err-clause-written g c =
-    begins_line _ _ _ c.args.parts.now c.loop-part.part-index _ c.loop-part-test.true c.loop-part.invariant.written c.in-Err.ensures.written.1
+    begins_line _ _ _ c.args.parts.now c.loop-part.part-index _ c.loop-part-test.true c.loop-part.invariant.written
+    c.in-Err.ensures.written.1
 
 no_ok : {A : Type 0} → false ≡ true → A
 no_ok e = cc
@@ -64,5 +66,6 @@ returns-clause-written g c =
 
 pub returns-clause-calm : goal.returns-clause-calm
 returns-clause-calm g c room calm fits =
-    let whole : length (flat_map bytes_of c.args.parts.now) ≤ room = subst (λ (l : List ℕ). length l ≤ room) (line_is_flat c.args.parts.now) fits in
+    let whole : length (flat_map bytes_of c.args.parts.now) ≤ room =
+    subst (λ (l : List ℕ). length l ≤ room) (line_is_flat c.args.parts.now) fits in
     record { ok = refl; same = (c.loop-part.invariant.calm room calm whole).0 }

@@ -24,5 +24,9 @@ returns-clause-stopped g c =
     let machine = c.in-Ok-load_machine.ensures.found in
     elim c.in-Err-load_script.ensures.stopped [
       | inl e ↦ inl e
-      | inr h ↦ inr (inr (c.in-Ok.inputs.hex.items, c.in-Ok.inputs.script.items, (c.in-Ok.ensures.found, inr ((machine.0, (machine.1.0, machine.1.1.0)), h))))
+      | inr h ↦ inr (inr (
+        c.in-Ok.inputs.hex.items,
+        c.in-Ok.inputs.script.items,
+        (c.in-Ok.ensures.found, inr ((machine.0, (machine.1.0, machine.1.1.0)), h)),
+      ))
     ]

@@ -8,7 +8,8 @@ returns-in-Ok-write_text-clause-written g c =
 
 pub returns-in-Err-write_text-clause-written : goal.returns-in-Err-write_text-clause-written
 returns-in-Err-write_text-clause-written g c =
-    wrote_front _ _ _ _ _ _ _ c.args.store.ghost_name c.in-Ok.ensures.disk c.in-Err-write_text.ensures.written.1 _ _ c.write_text.ensures.beside
+    wrote_front _ _ _ _ _ _ _ c.args.store.ghost_name c.in-Ok.ensures.disk c.in-Err-write_text.ensures.written.1 _ _
+    c.write_text.ensures.beside
 
 pub returns-in-Ok-write_text-clause-read_faults : goal.returns-in-Ok-write_text-clause-read_faults
 returns-in-Ok-write_text-clause-read_faults g c =

@@ -30,15 +30,20 @@ loop-i-preserved g c =
     let more = sym found.1.0 in
     let read = found.1.1 in
     record {
-      place = subst (λ (ts : List (List ℕ)). c.loop-i.i + 1 ≡ first + length ts) more (omega (arith, i.place, length-append so_far (text ∷ [])));
+      place = subst (λ (ts : List (List ℕ)). c.loop-i.i + 1 ≡ first + length ts) more
+          (omega (arith, i.place, length-append so_far (text ∷ [])));
       files = kept_on _ _ _ i.files c.in-Ok.ensures.files;
-      told = subst (λ (ts : List (List ℕ)). Told (HoldTexts (take (length ts) (names_from words first)) ts) (g.S.Store.disk c.args.store.now)) more
-          (told_both (HoldTexts (take (length so_far) (names_from words first)) so_far) (λ files. get files (word words c.loop-i.i) ≡ Some text) _ _ _ i.files i.told read.told
+      told = subst
+          (λ (ts : List (List ℕ)). Told (HoldTexts (take (length ts) (names_from words first)) ts) (g.S.Store.disk c.args.store.now)) more
+          (told_both (HoldTexts (take (length so_far) (names_from words first)) so_far)
+          (λ files. get files (word words c.loop-i.i) ≡ Some text) _ _ _ i.files i.told read.told
           (λ files before here. hold_more words first c.loop-i.i so_far text files i.place inside before here));
-      before = told_both (AreWithin words first c.loop-i.i) (λ files. get files (word words c.loop-i.i) ≡ Some text) (AreWithin words first (c.loop-i.i + 1)) _ _ i.files i.before read.told
+      before = told_both (AreWithin words first c.loop-i.i) (λ files. get files (word words c.loop-i.i) ≡ Some text)
+          (AreWithin words first (c.loop-i.i + 1)) _ _ i.files i.before read.told
           (λ files before here. within_more words first c.loop-i.i text files before here read.within);
       within = subst (λ (ts : List (List ℕ)). All (λ bytes. length bytes ≤ 65536) ts) more (all_more so_far text i.within read.within);
-      received = subst (λ (ts : List (List ℕ)). CameWithin (65536 * length ts) (g.S.Store.received c.args.store.now) (g.S.Store.received c.read_next.new.store)) more
+      received = subst (λ (ts : List (List ℕ)).
+          CameWithin (65536 * length ts) (g.S.Store.received c.args.store.now) (g.S.Store.received c.read_next.new.store)) more
           (came_more _ _ _ so_far text i.received read.received read.within);
       later = omega (arith, i.later, c.in-Ok.ensures.later);
       write_faults = c.in-Ok.ensures.write_faults ∙ i.write_faults;

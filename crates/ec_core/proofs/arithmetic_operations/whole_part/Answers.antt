@@ -24,5 +24,7 @@ within signed bits n m e =
 
 pub returns-in-Some-clause-held : goal.returns-in-Some-clause-held
 returns-in-Some-clause-held c =
-    let h : IsWithin c.args.t.signed (width_of c.args.t) c.in-Some.n = within c.args.t.signed (width_of c.args.t) (rounded (exact_whole c.args.x)) c.in-Some.n (c.in-Some.ensures.value ∙ ap (λ (bits : ℕ). integer_of c.args.x c.args.t.signed bits) c.width.ensures.value) in
+    let h : IsWithin c.args.t.signed (width_of c.args.t) c.in-Some.n =
+    within c.args.t.signed (width_of c.args.t) (rounded (exact_whole c.args.x)) c.in-Some.n
+    (c.in-Some.ensures.value ∙ ap (λ (bits : ℕ). integer_of c.args.x c.args.t.signed bits) c.width.ensures.value) in
     record { low = omega (arith, ints, h.low); high = omega (arith, ints, h.high) }

@@ -7,7 +7,11 @@ use Rattle.ec_core.proofs.integers.bitwise.Goals.{in-And, in-Or, in_default}
 pub from_bits-requires-clause-bits : goal.from_bits-requires-clause-bits
 from_bits-requires-clause-bits c =
     elim c.match-op.branch [
-      | in-And w ↦ rw w.bits-is (let least : bit_and c.low_bits-left.result c.low_bits-right.result ≤ c.low_bits-left.result = and_le_l c.low_bits-left.result c.low_bits-right.result in omega (arith, least, c.low_bits-left.ensures.bound))
-      | in-Or w ↦ rw w.bits-is (or_lt (width_of c.args.t) c.low_bits-left.result c.low_bits-right.result c.low_bits-left.ensures.bound c.low_bits-right.ensures.bound)
-      | in_default w ↦ rw w.bits-is (xor_lt (width_of c.args.t) c.low_bits-left.result c.low_bits-right.result c.low_bits-left.ensures.bound c.low_bits-right.ensures.bound)
+      | in-And w ↦ rw w.bits-is (let least : bit_and c.low_bits-left.result c.low_bits-right.result ≤ c.low_bits-left.result =
+          and_le_l c.low_bits-left.result c.low_bits-right.result in
+          omega (arith, least, c.low_bits-left.ensures.bound))
+      | in-Or w ↦ rw w.bits-is (or_lt
+          (width_of c.args.t) c.low_bits-left.result c.low_bits-right.result c.low_bits-left.ensures.bound c.low_bits-right.ensures.bound)
+      | in_default w ↦ rw w.bits-is (xor_lt
+          (width_of c.args.t) c.low_bits-left.result c.low_bits-right.result c.low_bits-left.ensures.bound c.low_bits-right.ensures.bound)
     ]

@@ -33,5 +33,6 @@ invariant-push_members-loop-member l =
     record {
       earlier : AllByRecursion (λ m. IsObjectType l.index m.ty) rest;
       offset : l.offset + (members_layout all rest).size ≡ l.at + whole.size;
-      leaves : map plain_leaf l.out.items ++ (members_layout all rest).leaves_at l.offset ≡ map plain_leaf l.fn.out.items ++ whole.leaves_at l.at;
+      leaves : map plain_leaf l.out.items ++ (members_layout all rest).leaves_at l.offset
+          ≡ map plain_leaf l.fn.out.items ++ whole.leaves_at l.at;
     }

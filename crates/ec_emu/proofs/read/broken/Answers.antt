@@ -8,7 +8,8 @@ use Rattle.ec_emu.specs.Script.{Entry, entries, entry_of, broken}
 use Rattle.ec_emu.proofs.Rules.{same_ports}
 use Rattle.ec_emu.proofs.read.broken.Goals as goal
 
-by_tests : (lines : List ScriptLine) (before : List LineForm) (port : ℕ) (hook : Bool) (bytes : List ℕ) (is has : Bool) → map entry_of lines ≡ entries before
+by_tests : (lines : List ScriptLine) (before : List LineForm) (port : ℕ) (hook : Bool) (bytes : List ℕ) (is has : Bool)
+    → map entry_of lines ≡ entries before
     → is ≡ is_port port → is ≡ true → has ≡ list_any (λ line. line.port == port) lines
     → broken before (Listed port hook bytes) ≡ (if has then Some 3 else None)
 by_tests lines before port hook bytes is has same a b c =
@@ -17,10 +18,12 @@ by_tests lines before port hook bytes is has same a b c =
 
 pub returns-then-has_line : goal.returns-then-has_line
 returns-then-has_line c = λ before same begun.
-    rw c.in-Listed.is (sym (by_tests c.args.lines.now before c.in-Listed.line.port c.in-Listed.line.hook c.in-Listed.line.bytes.items c.is_port.result c.has_line.result
+    rw c.in-Listed.is (sym (by_tests c.args.lines.now before c.in-Listed.line.port c.in-Listed.line.hook c.in-Listed.line.bytes.items
+    c.is_port.result c.has_line.result
     same c.is_port.ensures c.if-not-is_port.false c.has_line.ensures ∙ ap (λ (b : Bool). if b then Some 3 else None) c.if-has_line.true))
 
 pub returns-else-has_line : goal.returns-else-has_line
 returns-else-has_line c = λ before same begun.
-    rw c.in-Listed.is (sym (by_tests c.args.lines.now before c.in-Listed.line.port c.in-Listed.line.hook c.in-Listed.line.bytes.items c.is_port.result c.has_line.result
+    rw c.in-Listed.is (sym (by_tests c.args.lines.now before c.in-Listed.line.port c.in-Listed.line.hook c.in-Listed.line.bytes.items
+    c.is_port.result c.has_line.result
     same c.is_port.ensures c.if-not-is_port.false c.has_line.ensures ∙ ap (λ (b : Bool). if b then Some 3 else None) c.if-has_line.false))

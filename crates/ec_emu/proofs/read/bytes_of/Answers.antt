@@ -12,9 +12,12 @@ returns-then-not-branch c =
 
 pub words-preserved : goal.words-preserved
 words-preserved c =
-    let put : (more : List ℕ) × ((bytes_of (filled (take c.in-Some.end c.words.rest.now ∷ [])) ≡ Some more) × (c.put_word.new.bytes.items ≡ c.words.bytes.items ++ more)) =
+    let put : (more : List ℕ) × ((bytes_of (filled (take c.in-Some.end c.words.rest.now ∷ [])) ≡ Some more)
+    × (c.put_word.new.bytes.items ≡ c.words.bytes.items ++ more)) =
     rw c.if-not-branch.false at c.in_ok-put_word.ensures in
     c.words.invariant
     ∙ word_put c.words.rest.now c.words.bytes.items put.0 c.in-Some.end (sym c.word_end.ensures ∙ c.in-Some.is) put.1.0
-    ∙ ap (λ (items : List ℕ). option_map (λ more. items ++ more) (bytes_of (words (drop (c.in-Some.end + 1) c.words.rest.now)))) (sym put.1.1)
-    ∙ ap (λ (rest : List ℕ). option_map (λ more. c.put_word.new.bytes.items ++ more) (bytes_of (words rest))) (sym (take_rest c.words.rest.now (c.in-Some.end + 1)))
+    ∙ ap (λ (items : List ℕ). option_map (λ more. items ++ more) (bytes_of (words (drop (c.in-Some.end + 1) c.words.rest.now))))
+    (sym put.1.1)
+    ∙ ap (λ (rest : List ℕ). option_map (λ more. c.put_word.new.bytes.items ++ more) (bytes_of (words rest)))
+    (sym (take_rest c.words.rest.now (c.in-Some.end + 1)))

@@ -1,4 +1,5 @@
-use Rattle.std.proofs.Common.{◌≡◌, ◌+◌, ◌∙◌, ◌∷◌, ◌++◌, ◌==◌, [], ℕ, Bool, true, List, length, take, drop, map, not, Some, Err, refl, sym, ap, arith, subst, inl}
+use Rattle.std.proofs.Common.{◌≡◌, ◌+◌, ◌∙◌, ◌∷◌, ◌++◌, ◌==◌, [], ℕ, Bool, true, List, length, take, drop, map, not, Some, Err, refl, sym}
+use Rattle.std.proofs.Common.{ap, arith, subst, inl}
 use Rattle.std.proofs.lemmas.Bool.{eqb-true}
 use Rattle.std.proofs.lemmas.List.{drop-drop, nil_from_length}
 use Rattle.std.specs.Prelude.{slice_get, ◌||◌}
@@ -13,20 +14,24 @@ use Rattle.ec_emu.proofs.read.read_script.Goals as goal
 use Rattle.ec_emu.proofs.read.read_script.Goals.{After-broken, After-lines}
 
 -- the lines that are left
-left : (c : After-broken) → drop c.lines.line (forms_of c.args.core c.args.bytes.now.items) ≡ form_of c.args.core c.first_line.result.0.now ∷ forms_of c.args.core c.first_line.result.1.now
+left : (c : After-broken) → drop c.lines.line (forms_of c.args.core c.args.bytes.now.items)
+    ≡ form_of c.args.core c.first_line.result.0.now ∷ forms_of c.args.core c.first_line.result.1.now
 left c = c.lines.invariant.left ∙ ap (λ (ls : List (List ℕ)). map (form_of c.args.core) ls) c.first_line.ensures.value
 
-at : (c : After-broken) → slice_get (forms_of c.args.core c.args.bytes.now.items) c.lines.line ≡ Some (form_of c.args.core c.first_line.result.0.now)
+at : (c : After-broken)
+    → slice_get (forms_of c.args.core c.args.bytes.now.items) c.lines.line ≡ Some (form_of c.args.core c.first_line.result.0.now)
 at c = first_of (forms_of c.args.core c.args.bytes.now.items) c.lines.line _ _ (left c)
 
 -- the rule that the line breaks
-rule : (c : After-broken) → c.broken.result ≡ broken (take c.lines.line (forms_of c.args.core c.args.bytes.now.items)) (form_of c.args.core c.first_line.result.0.now)
+rule : (c : After-broken) → c.broken.result
+    ≡ broken (take c.lines.line (forms_of c.args.core c.args.bytes.now.items)) (form_of c.args.core c.first_line.result.0.now)
 rule c =
     c.broken.ensures (take c.lines.line (forms_of c.args.core c.args.bytes.now.items))
     (ap (λ (ls : List ScriptLine). map entry_of ls) c.as_slice.ensures ∙ c.lines.invariant.listed) c.lines.invariant.begun
     ∙ ap (λ (form : LineForm). broken (take c.lines.line (forms_of c.args.core c.args.bytes.now.items)) form) c.in_ok-form.ensures
 
-breaks : (c : After-broken) (rule_is : ℕ) → c.broken.result ≡ Some rule_is → BreaksAt (forms_of c.args.core c.args.bytes.now.items) (c.lines.line + 1) rule_is
+breaks : (c : After-broken) (rule_is : ℕ) → c.broken.result ≡ Some rule_is
+    → BreaksAt (forms_of c.args.core c.args.bytes.now.items) (c.lines.line + 1) rule_is
 breaks c rule_is is = record {
   n = c.lines.line;
   place = refl;
@@ -75,15 +80,18 @@ whole c empty =
 
 pub returns-clause-kept : goal.returns-clause-kept
 returns-clause-kept c =
-    subst (λ (fs : List LineForm). AreKept fs) (whole (goal.at.returns-clause-kept c).After-lines (sym c.is_empty.ensures ∙ c.lines-test.false)) c.lines.invariant.kept
+    subst (λ (fs : List LineForm). AreKept fs)
+    (whole (goal.at.returns-clause-kept c).After-lines (sym c.is_empty.ensures ∙ c.lines-test.false)) c.lines.invariant.kept
 
 pub returns-clause-lines : goal.returns-clause-lines
 returns-clause-lines c =
     rw c.new.ensures
-    (c.lines.invariant.listed ∙ ap entries (whole (goal.at.returns-clause-lines c).After-lines (sym c.is_empty.ensures ∙ c.lines-test.false)))
+    (c.lines.invariant.listed
+    ∙ ap entries (whole (goal.at.returns-clause-lines c).After-lines (sym c.is_empty.ensures ∙ c.lines-test.false)))
 
 pub returns-clause-stop : goal.returns-clause-stop
 returns-clause-stop c = λ stop stops some.
     absurd (no_stop c.args.core c.args.bytes.now.items
-    (subst (λ (fs : List LineForm). AreKept fs) (whole (goal.at.returns-clause-stop c).After-lines (sym c.is_empty.ensures ∙ c.lines-test.false)) c.lines.invariant.kept)
+    (subst (λ (fs : List LineForm). AreKept fs)
+    (whole (goal.at.returns-clause-stop c).After-lines (sym c.is_empty.ensures ∙ c.lines-test.false)) c.lines.invariant.kept)
     stop stops some)

@@ -17,17 +17,23 @@ pub steps-preserved : goal.steps-preserved
 steps-preserved g c =
     let i = c.steps.invariant in
     let m = c.make_step.ensures.steps in
-    let s : IsStep (g.P.Ports.gives c.steps.ports) (g.P.Ports.asked c.steps.ports) (g.P.Ports.asked c.make_step.new.ports) c.steps.history c.steps.machine c.make_step.new.machine c.make_step.result m.0 =
+    let s : IsStep (g.P.Ports.gives c.steps.ports) (g.P.Ports.asked c.steps.ports)
+    (g.P.Ports.asked c.make_step.new.ports) c.steps.history c.steps.machine c.make_step.new.machine c.make_step.result m.0 =
     record { is = m.1.0; state = m.1.1.0; answered = m.1.1.1 } in
     let a = c.in-Ran.access in
     record {
       trace = i.trace ++ a ∷ [];
       made = length-append i.trace (a ∷ []) ∙ ap (λ (n : ℕ). n + 1) i.made;
-      goes = leads_next (g.P.Ports.gives c.steps.ports) (g.P.Ports.asked c.steps.ports) (g.P.Ports.asked c.make_step.new.ports) c.steps.history c.steps.machine c.make_step.new.machine c.make_step.result m.0 s c.args.machine.now i.trace a c.in-Ran.is i.goes;
-      given = given_next (g.P.Ports.gives c.steps.ports) (g.P.Ports.asked c.steps.ports) (g.P.Ports.asked c.make_step.new.ports) c.steps.history c.steps.machine c.make_step.new.machine c.make_step.result m.0 s (g.P.Ports.gives c.args.ports.now) i.trace a c.in-Ran.is i.history
+      goes = leads_next (g.P.Ports.gives c.steps.ports) (g.P.Ports.asked c.steps.ports) (g.P.Ports.asked c.make_step.new.ports)
+          c.steps.history c.steps.machine c.make_step.new.machine c.make_step.result m.0 s c.args.machine.now i.trace a c.in-Ran.is i.goes;
+      given = given_next (g.P.Ports.gives c.steps.ports) (g.P.Ports.asked c.steps.ports)
+          (g.P.Ports.asked c.make_step.new.ports) c.steps.history c.steps.machine c.make_step.new.machine c.make_step.result m.0 s
+          (g.P.Ports.gives c.args.ports.now) i.trace a c.in-Ran.is i.history
           (λ ask b h. (i.stays ask b).0 h) i.given;
       history = c.note.ensures i.trace i.history (omega (arith, i.made, c.steps-test.true, c.ranges.steps.fits));
-      asked = asked_next (g.P.Ports.gives c.steps.ports) (g.P.Ports.asked c.steps.ports) (g.P.Ports.asked c.make_step.new.ports) c.steps.history c.steps.machine c.make_step.new.machine c.make_step.result m.0 s (g.P.Ports.asked c.args.ports.now) i.trace a c.in-Ran.is i.history i.asked;
+      asked = asked_next (g.P.Ports.gives c.steps.ports) (g.P.Ports.asked c.steps.ports)
+          (g.P.Ports.asked c.make_step.new.ports) c.steps.history c.steps.machine c.make_step.new.machine c.make_step.result m.0 s
+          (g.P.Ports.asked c.args.ports.now) i.trace a c.in-Ran.is i.history i.asked;
       written = printed_on _ _ _ i.trace a i.written c.in-Ok.ensures.written;
       calm = λ room calm fits.
           let before = i.calm room calm (fits_front i.trace a room fits) in
@@ -36,8 +42,14 @@ steps-preserved g c =
       later = omega (arith, i.later, c.in-Ok.ensures.cause.later);
       rest = c.print.ensures.rest ∙ i.rest;
       can = c.make_step.ensures.can;
-      stays = λ ask b. ((λ h. (i.stays ask b).0 ((c.make_step.ensures.stays ask b).0 h)), (λ h. (c.make_step.ensures.stays ask b).1 ((i.stays ask b).1 h)));
-      passed_on = λ ask b. ((λ h. (i.passed_on ask b).0 ((c.make_step.ensures.passed_on ask b).0 h)), (λ h. (c.make_step.ensures.passed_on ask b).1 ((i.passed_on ask b).1 h)));
+      stays = λ ask b. (
+        (λ h. (i.stays ask b).0 ((c.make_step.ensures.stays ask b).0 h)),
+        (λ h. (c.make_step.ensures.stays ask b).1 ((i.stays ask b).1 h)),
+      );
+      passed_on = λ ask b. (
+        (λ h. (i.passed_on ask b).0 ((c.make_step.ensures.passed_on ask b).0 h)),
+        (λ h. (c.make_step.ensures.passed_on ask b).1 ((i.passed_on ask b).1 h)),
+      );
       held = c.make_step.ensures.held ∙ i.held;
     }
 
@@ -45,32 +57,42 @@ pub returns-in-Err-clause-run : goal.returns-in-Err-clause-run
 returns-in-Err-clause-run g c =
     let i = c.steps.invariant in
     let m = c.make_step.ensures.steps in
-    let s : IsStep (g.P.Ports.gives c.steps.ports) (g.P.Ports.asked c.steps.ports) (g.P.Ports.asked c.make_step.new.ports) c.steps.history c.steps.machine c.make_step.new.machine c.make_step.result m.0 =
+    let s : IsStep (g.P.Ports.gives c.steps.ports) (g.P.Ports.asked c.steps.ports)
+    (g.P.Ports.asked c.make_step.new.ports) c.steps.history c.steps.machine c.make_step.new.machine c.make_step.result m.0 =
     record { is = m.1.0; state = m.1.1.0; answered = m.1.1.1 } in
     let a = c.in-Ran.access in
     let trace = i.trace ++ a ∷ [] in
-    let history : IsHistory trace c.note.new.self = c.note.ensures i.trace i.history (omega (arith, i.made, c.steps-test.true, c.ranges.steps.fits)) in
+    let history : IsHistory trace c.note.new.self =
+    c.note.ensures i.trace i.history (omega (arith, i.made, c.steps-test.true, c.ranges.steps.fits)) in
     let long : length trace ≡ length i.trace + 1 = length-append i.trace (a ∷ []) in (
       trace,
       (
         record {
           within = omega (arith, long, i.made, c.steps-test.true);
-          given = given_next (g.P.Ports.gives c.steps.ports) (g.P.Ports.asked c.steps.ports) (g.P.Ports.asked c.make_step.new.ports) c.steps.history c.steps.machine c.make_step.new.machine c.make_step.result m.0 s (g.P.Ports.gives c.args.ports.now) i.trace a c.in-Ran.is i.history
+          given = given_next (g.P.Ports.gives c.steps.ports) (g.P.Ports.asked c.steps.ports)
+              (g.P.Ports.asked c.make_step.new.ports) c.steps.history c.steps.machine c.make_step.new.machine c.make_step.result m.0 s
+              (g.P.Ports.gives c.args.ports.now) i.trace a c.in-Ran.is i.history
               (λ ask b h. (i.stays ask b).0 h) i.given;
-          made = leads_to_where_it_stands c.args.machine.now c.make_step.new.machine trace (leads_next (g.P.Ports.gives c.steps.ports) (g.P.Ports.asked c.steps.ports) (g.P.Ports.asked c.make_step.new.ports) c.steps.history c.steps.machine c.make_step.new.machine c.make_step.result m.0 s c.args.machine.now i.trace a c.in-Ran.is i.goes);
-          ended = subst (λ (end : EmuEnd). EndsBy c.args.steps c.args.machine.now end trace) (sym c.report.ensures.end) (omega (arith, long));
+          made = leads_to_where_it_stands c.args.machine.now c.make_step.new.machine trace (leads_next (g.P.Ports.gives c.steps.ports)
+              (g.P.Ports.asked c.steps.ports) (g.P.Ports.asked c.make_step.new.ports) c.steps.history c.steps.machine
+              c.make_step.new.machine c.make_step.result m.0 s c.args.machine.now i.trace a c.in-Ran.is i.goes);
+          ended =
+              subst (λ (end : EmuEnd). EndsBy c.args.steps c.args.machine.now end trace) (sym c.report.ensures.end) (omega (arith, long));
           reads = c.report.ensures.reads ∙ history.all_reads;
           writes = c.report.ensures.writes ∙ history.all_writes;
         },
         (
-          subst (λ (end : EmuEnd). IsPrinted (g.O.Sink.written c.args.sink.now) (g.O.Sink.written c.print.new.sink) end trace) (sym c.report.ensures.end)
+          subst (λ (end : EmuEnd). IsPrinted (g.O.Sink.written c.args.sink.now) (g.O.Sink.written c.print.new.sink) end trace)
+              (sym c.report.ensures.end)
               (cut_on _ _ _ i.trace a c.in-Err.field-0.0 i.written c.in-Err.ensures.written.0 c.in-Err.ensures.written.1),
           (
             (λ room calm fits.
                 let before = i.calm room calm (fits_front i.trace a room fits) in
                 let after = c.in-Err.ensures.calm (room - length (port_lines i.trace)) before.1 (fits_last i.trace a room fits) in
                 cc after.0.ok),
-            asked_next (g.P.Ports.gives c.steps.ports) (g.P.Ports.asked c.steps.ports) (g.P.Ports.asked c.make_step.new.ports) c.steps.history c.steps.machine c.make_step.new.machine c.make_step.result m.0 s (g.P.Ports.asked c.args.ports.now) i.trace a c.in-Ran.is i.history i.asked,
+            asked_next (g.P.Ports.gives c.steps.ports) (g.P.Ports.asked c.steps.ports)
+                (g.P.Ports.asked c.make_step.new.ports) c.steps.history c.steps.machine c.make_step.new.machine c.make_step.result m.0 s
+                (g.P.Ports.asked c.args.ports.now) i.trace a c.in-Ran.is i.history i.asked,
           ),
         ),
       ),
@@ -81,7 +103,8 @@ returns-in-Ended-clause-run g c =
     let fits : SFits w16 c.result.result = search rules in
     let i = c.steps.invariant in
     let m = c.make_step.ensures.steps in
-    let s : IsStep (g.P.Ports.gives c.steps.ports) (g.P.Ports.asked c.steps.ports) (g.P.Ports.asked c.make_step.new.ports) c.steps.history c.steps.machine c.make_step.new.machine c.make_step.result m.0 =
+    let s : IsStep (g.P.Ports.gives c.steps.ports) (g.P.Ports.asked c.steps.ports)
+    (g.P.Ports.asked c.make_step.new.ports) c.steps.history c.steps.machine c.make_step.new.machine c.make_step.result m.0 =
     record { is = m.1.0; state = m.1.1.0; answered = m.1.1.1 } in
     let below : length i.trace < c.args.steps = omega (arith, i.made, c.steps-test.true) in (
       i.trace,
@@ -89,20 +112,27 @@ returns-in-Ended-clause-run g c =
         record {
           within = omega (arith, below);
           given = i.given;
-          made = λ more. leads_to_where_it_stands c.args.machine.now c.steps.machine i.trace i.goes more ∙ ap (λ (s : State). Running i.trace s) (sym c.in-Ended.ensures.unless_ran);
+          made = λ more. leads_to_where_it_stands c.args.machine.now c.steps.machine i.trace i.goes more
+              ∙ ap (λ (s : State). Running i.trace s) (sym c.in-Ended.ensures.unless_ran);
           ended = subst (λ (end : EmuEnd). EndsBy c.args.steps c.args.machine.now end i.trace) (sym c.report-in-Ended.ensures.end) (λ more.
-              ended_next (g.P.Ports.gives c.steps.ports) (g.P.Ports.asked c.steps.ports) (g.P.Ports.asked c.make_step.new.ports) c.steps.history c.steps.machine c.make_step.new.machine c.make_step.result m.0 s c.args.machine.now i.trace c.args.steps c.in-Ended.is i.goes below more
+              ended_next (g.P.Ports.gives c.steps.ports) (g.P.Ports.asked c.steps.ports)
+              (g.P.Ports.asked c.make_step.new.ports) c.steps.history c.steps.machine c.make_step.new.machine c.make_step.result m.0 s
+              c.args.machine.now i.trace c.args.steps c.in-Ended.is i.goes below more
               ∙ ap (λ (z : ℤ). EndedWith i.trace z) (sym c.result.ensures ∙ sym (to_z-of_z w16 c.result.result fits)));
           reads = c.report-in-Ended.ensures.reads ∙ i.history.all_reads;
           writes = c.report-in-Ended.ensures.writes ∙ i.history.all_writes;
         },
         (
-          subst (λ (end : EmuEnd). IsPrinted (g.O.Sink.written c.args.sink.now) (g.O.Sink.written c.steps.sink) end i.trace) (sym c.report-in-Ended.ensures.end) i.written,
+          subst (λ (end : EmuEnd). IsPrinted (g.O.Sink.written c.args.sink.now) (g.O.Sink.written c.steps.sink) end i.trace)
+              (sym c.report-in-Ended.ensures.end) i.written,
           (
             (λ room calm fits.
-                subst (λ (end : EmuEnd). SinkCalm (g.O.Sink.faults c.args.sink.now) (g.O.Sink.faults c.steps.sink) (g.O.Sink.calm c.steps.sink) room end i.trace) (sym c.report-in-Ended.ensures.end)
+                subst (λ (end : EmuEnd). SinkCalm (g.O.Sink.faults c.args.sink.now) (g.O.Sink.faults c.steps.sink)
+                (g.O.Sink.calm c.steps.sink) room end i.trace) (sym c.report-in-Ended.ensures.end)
                 (calm_end _ _ _ room _ i.trace tt (i.calm room calm fits))),
-            asked_last (g.P.Ports.gives c.steps.ports) (g.P.Ports.asked c.steps.ports) (g.P.Ports.asked c.make_step.new.ports) c.steps.history c.steps.machine c.make_step.new.machine c.make_step.result m.0 s (g.P.Ports.asked c.args.ports.now) i.trace (ap read_access c.in-Ended.is) i.asked,
+            asked_last (g.P.Ports.gives c.steps.ports) (g.P.Ports.asked c.steps.ports)
+                (g.P.Ports.asked c.make_step.new.ports) c.steps.history c.steps.machine c.make_step.new.machine c.make_step.result m.0 s
+                (g.P.Ports.asked c.args.ports.now) i.trace (ap read_access c.in-Ended.is) i.asked,
           ),
         ),
       ),
@@ -112,7 +142,8 @@ pub returns-in-Fault-clause-run : goal.returns-in-Fault-clause-run
 returns-in-Fault-clause-run g c =
     let i = c.steps.invariant in
     let m = c.make_step.ensures.steps in
-    let s : IsStep (g.P.Ports.gives c.steps.ports) (g.P.Ports.asked c.steps.ports) (g.P.Ports.asked c.make_step.new.ports) c.steps.history c.steps.machine c.make_step.new.machine c.make_step.result m.0 =
+    let s : IsStep (g.P.Ports.gives c.steps.ports) (g.P.Ports.asked c.steps.ports)
+    (g.P.Ports.asked c.make_step.new.ports) c.steps.history c.steps.machine c.make_step.new.machine c.make_step.result m.0 =
     record { is = m.1.0; state = m.1.1.0; answered = m.1.1.1 } in
     let below : length i.trace < c.args.steps = omega (arith, i.made, c.steps-test.true) in (
       i.trace,
@@ -120,19 +151,26 @@ returns-in-Fault-clause-run g c =
         record {
           within = omega (arith, below);
           given = i.given;
-          made = λ more. leads_to_where_it_stands c.args.machine.now c.steps.machine i.trace i.goes more ∙ ap (λ (s : State). Running i.trace s) (sym c.in-Fault.ensures.unless_ran.0);
+          made = λ more. leads_to_where_it_stands c.args.machine.now c.steps.machine i.trace i.goes more
+              ∙ ap (λ (s : State). Running i.trace s) (sym c.in-Fault.ensures.unless_ran.0);
           ended = subst (λ (end : EmuEnd). EndsBy c.args.steps c.args.machine.now end i.trace) (sym c.report-in-Fault.ensures.end) (λ more.
-              faulted_next (g.P.Ports.gives c.steps.ports) (g.P.Ports.asked c.steps.ports) (g.P.Ports.asked c.make_step.new.ports) c.steps.history c.steps.machine c.make_step.new.machine c.make_step.result m.0 s c.args.machine.now i.trace c.args.steps c.in-Fault.kind c.in-Fault.pc c.in-Fault.is i.goes below more);
+              faulted_next (g.P.Ports.gives c.steps.ports) (g.P.Ports.asked c.steps.ports)
+              (g.P.Ports.asked c.make_step.new.ports) c.steps.history c.steps.machine c.make_step.new.machine c.make_step.result m.0 s
+              c.args.machine.now i.trace c.args.steps c.in-Fault.kind c.in-Fault.pc c.in-Fault.is i.goes below more);
           reads = c.report-in-Fault.ensures.reads ∙ i.history.all_reads;
           writes = c.report-in-Fault.ensures.writes ∙ i.history.all_writes;
         },
         (
-          subst (λ (end : EmuEnd). IsPrinted (g.O.Sink.written c.args.sink.now) (g.O.Sink.written c.steps.sink) end i.trace) (sym c.report-in-Fault.ensures.end) i.written,
+          subst (λ (end : EmuEnd). IsPrinted (g.O.Sink.written c.args.sink.now) (g.O.Sink.written c.steps.sink) end i.trace)
+              (sym c.report-in-Fault.ensures.end) i.written,
           (
             (λ room calm fits.
-                subst (λ (end : EmuEnd). SinkCalm (g.O.Sink.faults c.args.sink.now) (g.O.Sink.faults c.steps.sink) (g.O.Sink.calm c.steps.sink) room end i.trace) (sym c.report-in-Fault.ensures.end)
+                subst (λ (end : EmuEnd). SinkCalm (g.O.Sink.faults c.args.sink.now) (g.O.Sink.faults c.steps.sink)
+                (g.O.Sink.calm c.steps.sink) room end i.trace) (sym c.report-in-Fault.ensures.end)
                 (calm_end _ _ _ room _ i.trace tt (i.calm room calm fits))),
-            asked_last (g.P.Ports.gives c.steps.ports) (g.P.Ports.asked c.steps.ports) (g.P.Ports.asked c.make_step.new.ports) c.steps.history c.steps.machine c.make_step.new.machine c.make_step.result m.0 s (g.P.Ports.asked c.args.ports.now) i.trace (ap read_access c.in-Fault.is) i.asked,
+            asked_last (g.P.Ports.gives c.steps.ports) (g.P.Ports.asked c.steps.ports)
+                (g.P.Ports.asked c.make_step.new.ports) c.steps.history c.steps.machine c.make_step.new.machine c.make_step.result m.0 s
+                (g.P.Ports.asked c.args.ports.now) i.trace (ap read_access c.in-Fault.is) i.asked,
           ),
         ),
       ),
@@ -147,15 +185,18 @@ returns-clause-run g c =
           within = omega (arith, i.made, c.steps.auto._made-end);
           given = i.given;
           made = leads_to_where_it_stands c.args.machine.now c.steps.machine i.trace i.goes;
-          ended = subst (λ (end : EmuEnd). EndsBy c.args.steps c.args.machine.now end i.trace) (sym c.report-2.ensures.end) (omega (arith, i.made, c.steps.auto._made-end, c.steps-test.false));
+          ended = subst (λ (end : EmuEnd). EndsBy c.args.steps c.args.machine.now end i.trace) (sym c.report-2.ensures.end)
+              (omega (arith, i.made, c.steps.auto._made-end, c.steps-test.false));
           reads = c.report-2.ensures.reads ∙ i.history.all_reads;
           writes = c.report-2.ensures.writes ∙ i.history.all_writes;
         },
         (
-          subst (λ (end : EmuEnd). IsPrinted (g.O.Sink.written c.args.sink.now) (g.O.Sink.written c.steps.sink) end i.trace) (sym c.report-2.ensures.end) i.written,
+          subst (λ (end : EmuEnd). IsPrinted (g.O.Sink.written c.args.sink.now) (g.O.Sink.written c.steps.sink) end i.trace)
+              (sym c.report-2.ensures.end) i.written,
           (
             (λ room calm fits.
-                subst (λ (end : EmuEnd). SinkCalm (g.O.Sink.faults c.args.sink.now) (g.O.Sink.faults c.steps.sink) (g.O.Sink.calm c.steps.sink) room end i.trace) (sym c.report-2.ensures.end)
+                subst (λ (end : EmuEnd). SinkCalm (g.O.Sink.faults c.args.sink.now) (g.O.Sink.faults c.steps.sink)
+                (g.O.Sink.calm c.steps.sink) room end i.trace) (sym c.report-2.ensures.end)
                 (calm_end _ _ _ room _ i.trace tt (i.calm room calm fits))),
             i.asked,
           ),

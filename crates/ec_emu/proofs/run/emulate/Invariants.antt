@@ -1,7 +1,7 @@
 use Rattle.std.proofs.Common.{◌≡◌, ◌-◌, ◌≤◌, ◌↔◌, ℕ, List, length}
 use Rattle.std.specs.Io.KnownBytes.{Appends}
 use Rattle.ec_avr.specs.declared.machine.Access.{Access}
-use Rattle.ec_emu_ports.specs.declared.ask.Ask.{Ask}
+use Rattle.ec_emu.specs.declared.ask.Ask.{Ask}
 use Rattle.ec_emu.specs.Answers.{AreGiven, WereAsked, asks_of}
 use Rattle.ec_emu.specs.Lines.{port_lines}
 use Rattle.ec_emu.specs.History.{IsHistory}

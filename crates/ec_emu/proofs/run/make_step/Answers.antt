@@ -1,8 +1,8 @@
 use Rattle.std.proofs.Common.{◌≡◌, ◌∙◌, ℕ, List, Some, None, refl, sym, ap}
 use Rattle.std.specs.Prelude.{Option, is_some, option_map, unwrap_or}
 use Rattle.ec_avr.specs.Machine.{step, needs_port}
-use Rattle.ec_emu_ports.specs.declared.ask.Ask.{Ask}
-use Rattle.ec_emu_ports.specs.Answers.{AnswersAsk}
+use Rattle.ec_emu.specs.declared.ask.Ask.{Ask}
+use Rattle.ec_emu.specs.Answers.{AnswersAsk}
 use Rattle.ec_emu.specs.declared.history.PortHistory.{PortHistory}
 use Rattle.ec_emu.specs.Answers.{Answered}
 use Rattle.ec_emu.specs.History.{ask_of, IsAnsweredBy}
@@ -27,7 +27,8 @@ module _ (gives : Ask → ℕ → Type 0) (old new : Option (List Answered)) (hi
 pub step-requires : goal.step-requires
 step-requires g c =
     let asked = rw (c.next_ask.ensures, c.needs_port.ensures.value) at c.answer-byte.ensures.answered in
-    let same = c.given.ensures.is ∙ read_where (g.P.Ports.gives c.args.ports.now) (g.P.Ports.asked c.args.ports.now) (g.P.Ports.asked c.answer-byte.new.ports) c.args.history.now (needs_port c.args.machine.now) c.answer-byte.result asked in
+    let same = c.given.ensures.is ∙ read_where (g.P.Ports.gives c.args.ports.now) (g.P.Ports.asked c.args.ports.now)
+    (g.P.Ports.asked c.answer-byte.new.ports) c.args.history.now (needs_port c.args.machine.now) c.answer-byte.result asked in
     ((λ h. sym same ∙ h), (λ h. same ∙ h))
 
 pub returns-clause-steps : goal.returns-clause-steps
@@ -38,7 +39,8 @@ returns-clause-steps g c =
         c.step.ensures.stepped ∙ ap (λ (b : ℕ). (step b c.args.machine.now).stepped) c.given.ensures.value,
         (
           c.step.ensures.state ∙ ap (λ (b : ℕ). (step b c.args.machine.now).state) c.given.ensures.value,
-          answered_by (g.P.Ports.gives c.args.ports.now) (g.P.Ports.asked c.args.ports.now) (g.P.Ports.asked c.answer-byte.new.ports) c.args.history.now (needs_port c.args.machine.now) c.answer-byte.result asked,
+          answered_by (g.P.Ports.gives c.args.ports.now) (g.P.Ports.asked c.args.ports.now)
+              (g.P.Ports.asked c.answer-byte.new.ports) c.args.history.now (needs_port c.args.machine.now) c.answer-byte.result asked,
         ),
       ),
     )

@@ -6,4 +6,5 @@ use Rattle.ec_fx.proofs.Accuracy.{accurate_as}
 use Rattle.ec_fx.proofs.arithmetic.add.Goals as goal
 
 pub returns-clause-accurate : goal.returns-clause-accurate
-returns-clause-accurate c = accurate_as (sum_in c.args.a c.args.b c.args.to) c.args.to c.args.mode c.fit.result (pow_pos (fraction_bits c.args.a + fraction_bits c.args.b)) (search rules)
+returns-clause-accurate c = accurate_as (sum_in c.args.a c.args.b c.args.to) c.args.to c.args.mode c.fit.result
+    (pow_pos (fraction_bits c.args.a + fraction_bits c.args.b)) (search rules)

@@ -12,4 +12,5 @@ pub fit-requires : goal.fit-requires
 fit-requires c = (result_format c.args.a c.args.b c.args.to c.requires.a_in c.requires.b_in c.requires.permitted).0
 
 pub returns-clause-accurate : goal.returns-clause-accurate
-returns-clause-accurate c = λ nonzero. accurate_as (quotient_in c.args.a c.args.b c.args.to) c.args.to c.args.mode c.fit.result (divisor_positive (scaled c.args.b) (fraction_bits c.args.a) nonzero) (search rules)
+returns-clause-accurate c = λ nonzero. accurate_as (quotient_in c.args.a c.args.b c.args.to) c.args.to c.args.mode c.fit.result
+    (divisor_positive (scaled c.args.b) (fraction_bits c.args.a) nonzero) (search rules)

@@ -9,4 +9,5 @@ positive x count true = lit< tt
 positive x count false = pow_pos count
 
 pub returns-clause-accurate : goal.returns-clause-accurate
-returns-clause-accurate c = accurate_as (exact_shift c.args.a.n c.args.count c.args.left) c.args.a.format c.args.mode c.fit.result (positive c.args.a.n c.args.count c.args.left) (search rules)
+returns-clause-accurate c = accurate_as (exact_shift c.args.a.n c.args.count c.args.left) c.args.a.format c.args.mode c.fit.result
+    (positive c.args.a.n c.args.count c.args.left) (search rules)

@@ -7,7 +7,8 @@ pub shifted_left-scaled-requires-clause-fits : goal.shifted_left-scaled-requires
 shifted_left-scaled-requires-clause-fits c =
     let p : IsBounded (scaled c.args.a) (fraction_bits c.args.a) = number_bounded c.args.a c.requires.a_in in
     let f : HasBits c.args.to = format_bits c.args.to c.requires.known in
-    rw (back_as c.scaled.result (scaled c.args.a) c.scaled.ensures (omega (arith, p.size))) (left_fits (scaled c.args.a) c.args.to.frac p.size (omega (arith, f.frac)))
+    rw (back_as c.scaled.result (scaled c.args.a) c.scaled.ensures (omega (arith, p.size)))
+    (left_fits (scaled c.args.a) c.args.to.frac p.size (omega (arith, f.frac)))
 
 pub shifted_right-requires-clause-fits : goal.shifted_right-requires-clause-fits
 shifted_right-requires-clause-fits c =

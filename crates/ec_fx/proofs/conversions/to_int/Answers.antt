@@ -15,5 +15,7 @@ pub returns-clause-unit : goal.returns-clause-unit
 returns-clause-unit c =
     let n : ℤ = rounded (exact_whole c.args.a) in
     let e : c.held.result ≡ integer_of c.args.a c.args.signed c.args.bits = search rules in
-    let unit : IsWithinUnit (exact_whole c.args.a) n = unit_of_trunc c.args.a.n (exact_whole c.args.a).denominator (pow_pos c.args.a.format.frac) in
-    subst (λ (o : Option ℤ). IfSome o (IsWithinUnit (exact_whole c.args.a))) (sym e) (kept (IsWithinUnit (exact_whole c.args.a)) (int_lt (greatest c.args.signed c.args.bits) n || int_lt n (least c.args.signed c.args.bits)) n unit)
+    let unit : IsWithinUnit (exact_whole c.args.a) n =
+    unit_of_trunc c.args.a.n (exact_whole c.args.a).denominator (pow_pos c.args.a.format.frac) in
+    subst (λ (o : Option ℤ). IfSome o (IsWithinUnit (exact_whole c.args.a))) (sym e) (kept (IsWithinUnit (exact_whole c.args.a))
+    (int_lt (greatest c.args.signed c.args.bits) n || int_lt n (least c.args.signed c.args.bits)) n unit)

@@ -1,4 +1,5 @@
-use Rattle.std.proofs.Common.{◌≡◌, ◌≤◌, ◌+◌, ◌-◌, ◌*◌, ◌∙◌, ◌++◌, ◌∷◌, [], ℕ, List, Bool, true, false, Some, None, length, take, drop, get_or, arith, refl, sym, ap, append_assoc}
+use Rattle.std.proofs.Common.{◌≡◌, ◌≤◌, ◌+◌, ◌-◌, ◌*◌, ◌∙◌, ◌++◌, ◌∷◌, [], ℕ, List, Bool, true, false, Some, None, length, take, drop}
+use Rattle.std.proofs.Common.{get_or, arith, refl, sym, ap, append_assoc}
 use Rattle.std.proofs.lemmas.List.{take_all}
 use Rattle.std.specs.Prelude.{Option, option_map, if◌then◌else◌}
 use Rattle.std.specs.Char.{digit_value, is_digit}
@@ -25,10 +26,13 @@ pair_more (c ∷ []) items high low long first second = absurd (omega (arith, lo
 pair_more (c ∷ d ∷ more) items high low long first second =
     let c_is = digit_is _ _ _ first in
     let d_is = digit_is _ _ _ second in
-    rw (c_is.0, d_is.0, c_is.1, d_is.1, take_all (length (c ∷ d ∷ more) - 2) more (omega arith)) (regroup items (16 * high + low) (bytes_of more))
+    rw (c_is.0, d_is.0, c_is.1, d_is.1, take_all (length (c ∷ d ∷ more) - 2) more (omega arith))
+    (regroup items (16 * high + low) (bytes_of more))
 
 pub pairs-preserved : goal.pairs-preserved
 pairs-preserved c =
     c.pairs.invariant ∙ pair_more c.pairs.rest.now c.pairs.bytes.items c.in-Some-Some.high c.in-Some-Some.low (omega arith)
     (sym c.digit_number.ensures ∙ c.in-Some-Some.is-0) (sym c.digit_number-in-len2-up.ensures ∙ c.in-Some-Some.is-1)
-    ∙ ap (λ (items : List ℕ). option_map (λ bytes. items ++ bytes) (bytes_of (take (length c.pairs.rest.now - 2) (drop 2 c.pairs.rest.now)))) (sym c.in_ok-push.ensures.ok)
+    ∙ ap
+    (λ (items : List ℕ). option_map (λ bytes. items ++ bytes) (bytes_of (take (length c.pairs.rest.now - 2) (drop 2 c.pairs.rest.now))))
+    (sym c.in_ok-push.ensures.ok)

@@ -1,6 +1,7 @@
 use Rattle.std.specs.Prelude.{Option}
 use Rattle.std.proofs.lemmas.Bool.{false≢true}
-use Rattle.std.proofs.Common.{◌≡◌, ◌+◌, ◌-◌, ◌≤◌, ◌<◌, max, ◌++◌, ℕ, List, Bool, [], length, length-drop, drop, ap, sym, ◌∙◌, subst, arith, append-nil, refl}
+use Rattle.std.proofs.Common.{◌≡◌, ◌+◌, ◌-◌, ◌≤◌, ◌<◌, max, ◌++◌, ℕ, List, Bool, [], length, length-drop, drop, ap, sym, ◌∙◌, subst, arith}
+use Rattle.std.proofs.Common.{append-nil, refl}
 use Rattle.std.proofs.lemmas.List.{drop-drop, drop_all}
 use Rattle.ec_hex.specs.Text.{contents, hex_text, record_line, run, text_from}
 use Rattle.ec_hex.specs.Steps.{run_line}
@@ -13,14 +14,17 @@ use Rattle.ec_hex.proofs.write.put_text.Goals as goal
 at_run : (old now : Option (List ℕ)) (done at : ℕ) (bytes : List ℕ) (written : List Bool) (front whole : List ℕ)
     → at < length bytes → length written ≡ length bytes → front ≡ run 16 (drop at (contents bytes written))
     → Sent old now done (text_from at 0 (drop at (contents bytes written))) whole
-    → Sent old now done (run_line at front ++ text_from (at + max (length front) 1) 0 (drop (at + max (length front) 1) (contents bytes written))) whole
+    → Sent old now done
+    (run_line at front ++ text_from (at + max (length front) 1) 0 (drop (at + max (length front) 1) (contents bytes written))) whole
 at_run old now done at bytes written front whole below same is sent =
     let cells : List (Option ℕ) = drop at (contents bytes written) in
     record {
       out = sent.out;
-      split = sent.split ∙ text_from-step at cells (omega (arith, length-drop at (contents bytes written), length-contents bytes written same))
+      split =
+          sent.split ∙ text_from-step at cells (omega (arith, length-drop at (contents bytes written), length-contents bytes written same))
           ∙ ap (λ (f : List ℕ). run_line at f ++ text_from (at + max (length f) 1) 0 (drop (max (length f) 1) cells)) (sym is)
-          ∙ ap (λ (rest : List (Option ℕ)). run_line at front ++ text_from (at + max (length front) 1) 0 rest) (drop-drop (max (length front) 1) at (contents bytes written));
+          ∙ ap (λ (rest : List (Option ℕ)). run_line at front ++ text_from (at + max (length front) 1) 0 rest)
+          (drop-drop (max (length front) 1) at (contents bytes written));
     }
 
 -- at the end of flash the end record is left
@@ -30,7 +34,8 @@ at_end : (old now : Option (List ℕ)) (done at : ℕ) (bytes : List ℕ) (writt
 at_end old now done at bytes written line whole past same is sent = record {
   out = sent.out;
   split = sent.split
-      ∙ ap (λ (cells : List (Option ℕ)). text_from at 0 cells) (drop_all at (contents bytes written) (omega (arith, length-contents bytes written same)))
+      ∙ ap (λ (cells : List (Option ℕ)). text_from at 0 cells)
+      (drop_all at (contents bytes written) (omega (arith, length-contents bytes written same)))
       ∙ sym (append-nil line ∙ is);
 }
 
@@ -47,54 +52,75 @@ runs-preserved g c =
     let at : ℕ = c.runs.at in
     let cells : List (Option ℕ) = drop at (contents c.args.bytes.now c.args.written.now) in
     let front : List ℕ = c.run_at-run.result.now in
-    let before = at_run _ _ _ at c.args.bytes.now c.args.written.now front _ c.runs-test.true c.requires.flagged c.run_at-run.ensures i.sent in
+    let before =
+    at_run _ _ _ at c.args.bytes.now c.args.written.now front _ c.runs-test.true c.requires.flagged c.run_at-run.ensures i.sent in
     let went = c.in-Ok.ensures.written in
     let short : length front ≤ 16 = omega (arith, ap length c.run_at-run.ensures, length-run 16 cells) in
     let inside : length front ≤ length cells = omega (arith, ap length c.run_at-run.ensures, length-run_within 16 cells) in
     record {
-      within = omega (arith, c.max-at.ensures, inside, c.runs-test.true, length-drop at (contents c.args.bytes.now c.args.written.now), length-contents c.args.bytes.now c.args.written.now c.requires.flagged);
+      within = omega (
+        arith,
+        c.max-at.ensures,
+        inside,
+        c.runs-test.true,
+        length-drop at (contents c.args.bytes.now c.args.written.now),
+        length-contents c.args.bytes.now c.args.written.now c.requires.flagged,
+      );
       few = omega (arith, c.max-at.ensures, went.0, i.few, length-run_line at front short);
       sent = rw (went.0, c.max-at.ensures) (sent-on _ _ _ _ _ _ _ before went.1);
       rest = c.put_run.ensures.rest ∙ i.rest;
       later = omega (arith, i.later, c.put_run.ensures.cause.later);
       calm = λ room calm fits.
           let so_far = i.calm room calm fits in
-          let after = c.in-Ok.ensures.calm (room - c.runs.done) so_far.1 (sent-fits _ _ _ room _ _ _ before fits) in
-          (after.0.same ∙ so_far.0, subst (λ left. g.O.Sink.calm c.put_run.new.sink left) (less_twice room c.runs.done (length (run_line at front)) c.in-Ok.after went.0) after.1);
+          let after = c.in-Ok.ensures.calm (room - c.runs.done) so_far.1 (sent-fits _ _ _ room _ _ _ before fits) in (
+            after.0.same ∙ so_far.0,
+            subst (λ left. g.O.Sink.calm c.put_run.new.sink left)
+                (less_twice room c.runs.done (length (run_line at front)) c.in-Ok.after went.0) after.1,
+          );
     }
 
 pub returns-in-Err-clause-written : goal.returns-in-Err-clause-written
 returns-in-Err-clause-written g c =
-    let before = at_run _ _ _ c.runs.at c.args.bytes.now c.args.written.now _ _ c.runs-test.true c.requires.flagged c.run_at-run.ensures c.runs.invariant.sent in
+    let before = at_run _ _ _ c.runs.at c.args.bytes.now c.args.written.now _ _ c.runs-test.true c.requires.flagged c.run_at-run.ensures
+    c.runs.invariant.sent in
     let went = c.in-Err.ensures.written in
     rw went.1 (sent-front _ _ _ _ went.0 _ _ _ before went.2 went.3)
 
 pub returns-in-Err-clause-calm : goal.returns-in-Err-clause-calm
 returns-in-Err-clause-calm g c = λ room calm fits.
-    let before = at_run _ _ _ c.runs.at c.args.bytes.now c.args.written.now _ _ c.runs-test.true c.requires.flagged c.run_at-run.ensures c.runs.invariant.sent in
-    absurd (false≢true (c.in-Err.ensures.calm (room - c.runs.done) (c.runs.invariant.calm room calm fits).1 (sent-fits _ _ _ room _ _ _ before fits)).0.ok)
+    let before = at_run _ _ _ c.runs.at c.args.bytes.now c.args.written.now _ _ c.runs-test.true c.requires.flagged c.run_at-run.ensures
+    c.runs.invariant.sent in
+    absurd (false≢true
+    (c.in-Err.ensures.calm (room - c.runs.done) (c.runs.invariant.calm room calm fits).1 (sent-fits _ _ _ room _ _ _ before fits)).0.ok)
 
 pub returns-in-Ok-put_line-clause-written : goal.returns-in-Ok-put_line-clause-written
 returns-in-Ok-put_line-clause-written g c =
-    let before = at_end _ _ _ c.runs.at c.args.bytes.now c.args.written.now _ _ c.runs-test.false c.requires.flagged (c.as_slice.ensures ∙ c.record_line-line.ensures) c.runs.invariant.sent in
+    let before = at_end _ _ _ c.runs.at c.args.bytes.now c.args.written.now _ _ c.runs-test.false c.requires.flagged
+    (c.as_slice.ensures ∙ c.record_line-line.ensures) c.runs.invariant.sent in
     sent-all _ _ _ _ (sent-on _ _ _ _ _ _ _ before c.in-Ok-put_line.ensures.written.1)
 
 pub returns-in-Ok-put_line-clause-calm : goal.returns-in-Ok-put_line-clause-calm
 returns-in-Ok-put_line-clause-calm g c = λ room calm fits.
-    let before = at_end _ _ _ c.runs.at c.args.bytes.now c.args.written.now _ _ c.runs-test.false c.requires.flagged (c.as_slice.ensures ∙ c.record_line-line.ensures) c.runs.invariant.sent in
+    let before = at_end _ _ _ c.runs.at c.args.bytes.now c.args.written.now _ _ c.runs-test.false c.requires.flagged
+    (c.as_slice.ensures ∙ c.record_line-line.ensures) c.runs.invariant.sent in
     let so_far = c.runs.invariant.calm room calm fits in
     let after = c.in-Ok-put_line.ensures.calm (room - c.runs.done) so_far.1 (sent-fits _ _ _ room _ _ _ before fits) in (
       record { ok = refl; same = after.0.same ∙ so_far.0 },
-      subst (λ left. g.O.Sink.calm c.put_line.new.sink left) (less_twice room c.runs.done (length c.as_slice.result.now) (length (hex_text c.args.bytes.now c.args.written.now)) (sent-length _ _ _ _ _ before (omega (arith, ap length (c.as_slice.ensures ∙ c.record_line-line.ensures))))) after.1,
+      subst (λ left. g.O.Sink.calm c.put_line.new.sink left)
+          (less_twice room c.runs.done (length c.as_slice.result.now) (length (hex_text c.args.bytes.now c.args.written.now))
+          (sent-length _ _ _ _ _ before (omega (arith, ap length (c.as_slice.ensures ∙ c.record_line-line.ensures))))) after.1,
     )
 
 pub returns-in-Err-put_line-clause-written : goal.returns-in-Err-put_line-clause-written
 returns-in-Err-put_line-clause-written g c =
-    let before = at_end _ _ _ c.runs.at c.args.bytes.now c.args.written.now _ _ c.runs-test.false c.requires.flagged (c.as_slice.ensures ∙ c.record_line-line.ensures) c.runs.invariant.sent in
+    let before = at_end _ _ _ c.runs.at c.args.bytes.now c.args.written.now _ _ c.runs-test.false c.requires.flagged
+    (c.as_slice.ensures ∙ c.record_line-line.ensures) c.runs.invariant.sent in
     let went = c.in-Err-put_line.ensures.written in
     rw went.1 (sent-front _ _ _ _ went.0 _ _ _ before went.2 went.3)
 
 pub returns-in-Err-put_line-clause-calm : goal.returns-in-Err-put_line-clause-calm
 returns-in-Err-put_line-clause-calm g c = λ room calm fits.
-    let before = at_end _ _ _ c.runs.at c.args.bytes.now c.args.written.now _ _ c.runs-test.false c.requires.flagged (c.as_slice.ensures ∙ c.record_line-line.ensures) c.runs.invariant.sent in
-    absurd (false≢true (c.in-Err-put_line.ensures.calm (room - c.runs.done) (c.runs.invariant.calm room calm fits).1 (sent-fits _ _ _ room _ _ _ before fits)).0.ok)
+    let before = at_end _ _ _ c.runs.at c.args.bytes.now c.args.written.now _ _ c.runs-test.false c.requires.flagged
+    (c.as_slice.ensures ∙ c.record_line-line.ensures) c.runs.invariant.sent in
+    absurd (false≢true (c.in-Err-put_line.ensures.calm (room - c.runs.done) (c.runs.invariant.calm room calm fits).1
+    (sent-fits _ _ _ room _ _ _ before fits)).0.ok)

@@ -8,7 +8,7 @@ use Rattle.ec_core.specs.Meaning.{initial_object}
 use Rattle.ec_core.specs.Plain.{PlainObject, plain_object, plain_program, plain_struct}
 use Rattle.ec_core.specs.State.{ObjectState}
 use Rattle.ec_core.specs.Valid.{IsObject}
-use Rattle.ec_interp_state.specs.Views.{seen_object}
+use Rattle.ec_interp.specs.Views.{seen_object}
 use Rattle.ec_interp.proofs.Rows.{one_more_seen}
 use Rattle.ec_interp.proofs.Steps.{list_next}
 use Rattle.ec_interp.proofs.interpreter.initial_objects.Goals as goal

@@ -1,5 +1,5 @@
 use Rattle.std.proofs.Common.{◌≡◌, drop}
-use Rattle.ec_interp_state.specs.Views.{inputs_of}
+use Rattle.ec_interp.specs.Views.{inputs_of}
 use Rattle.ec_interp.proofs.ports.inputs_of.Given as goal
 
 abbrev pub invariant-loop-input : goal.invariant-loop-input

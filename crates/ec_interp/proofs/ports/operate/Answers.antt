@@ -4,8 +4,8 @@ use Rattle.std.proofs.lemmas.Option.{slice_get-map, slice_get_within, get_or_fro
 use Rattle.ec_iohw.specs.declared.table.Port.{Port}
 use Rattle.ec_iohw.specs.Valid.{IsPort}
 use Rattle.ec_core.specs.PortTable.{PlainPort, plain_port}
-use Rattle.ec_interp_state.specs.declared.state.Context.{Context}
-use Rattle.ec_interp_state.specs.Suits.{IsGiven}
+use Rattle.ec_interp.specs.declared.state.Context.{Context}
+use Rattle.ec_interp.specs.Suits.{IsGiven}
 use Rattle.ec_interp.proofs.ports.operate.Goals as goal
 
 few : (n : ℕ) → ((n ≡ 1) ⊎ ((n ≡ 2) ⊎ (n ≡ 4))) → n ≤ 8
@@ -23,7 +23,8 @@ small_port f n p g h = by_port (slice_get f.io.now.ports.items n) refl (sym (sli
     by_port : (q : Option Port) → slice_get f.io.now.ports.items n ≡ q → option_map plain_port q ≡ Some p → p.width ≤ 8
     by_port None e k = cc
     by_port (Some q) e k =
-        let i : IsPort (length f.io.now.groups.items) q = subst (IsPort (length f.io.now.groups.items)) (get_or_from_slice_get f.io.now.ports.items n q q e) (g.valid.ports.each n q (slice_get_within f.io.now.ports.items n q e)) in
+        let i : IsPort (length f.io.now.groups.items) q = subst (IsPort (length f.io.now.groups.items))
+        (get_or_from_slice_get f.io.now.ports.items n q q e) (g.valid.ports.each n q (slice_get_within f.io.now.ports.items n q e)) in
         let w : q.width ≡ p.width = ap width_of k in
         let l = few q.width i.width in
         omega (arith, w, l)

@@ -1,6 +1,6 @@
 use Rattle.std.proofs.Common.{◌≡◌, drop}
 use Rattle.ec_core.specs.PortAccesses.{pairs_written}
-use Rattle.ec_interp_state.specs.Views.{seen}
+use Rattle.ec_interp.specs.Views.{seen}
 use Rattle.ec_interp.proofs.ports.write_pairs.Given as goal
 
 abbrev pub invariant-loop-pair : goal.invariant-loop-pair

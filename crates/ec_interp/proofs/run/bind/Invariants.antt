@@ -1,6 +1,6 @@
 use Rattle.std.proofs.Common.{◌≡◌, drop}
 use Rattle.ec_core.specs.Statements.{parameters_written}
-use Rattle.ec_interp_state.specs.Views.{seen, setting_of}
+use Rattle.ec_interp.specs.Views.{seen, setting_of}
 use Rattle.ec_interp.proofs.run.bind.Given as goal
 
 abbrev pub invariant-loop-i : goal.invariant-loop-i

@@ -7,5 +7,6 @@ use Rattle.ec_interp.proofs.run.stepped.Goals as goal
 
 pub returns-clause-answered : goal.returns-clause-answered
 returns-clause-answered c = λ g o i.
-    (let types = subst (λ (op : BinOp). HaveCompoundTypes op (plain_type c.args.ty.now) int) (sym c.step_operator.ensures) (step_types c.args.f.now c.args.up (plain_type c.args.ty.now) i) in
+    (let types = subst (λ (op : BinOp). HaveCompoundTypes op (plain_type c.args.ty.now) int) (sym c.step_operator.ensures)
+    (step_types c.args.f.now c.args.up (plain_type c.args.ty.now) i) in
     c.update_place.ensures.answered g o (one_operand c.args.f.now) types)

@@ -21,4 +21,8 @@ returns-in-Step c = rw (c.in-Step.is, widest_pointers) (search rules)
 
 pub returns-in-Call : goal.returns-in-Call
 returns-in-Call c =
-    rw (c.in-Call.is, words_call (plain_table c.args.io.now) (plain_type c.args.ty.now) c.in-Call.field-0 c.in-Call.args, ← c.as_slice.ensures) c.call_words.ensures
+    rw (
+      c.in-Call.is,
+      words_call (plain_table c.args.io.now) (plain_type c.args.ty.now) c.in-Call.field-0 c.in-Call.args,
+      ← c.as_slice.ensures,
+    ) c.call_words.ensures

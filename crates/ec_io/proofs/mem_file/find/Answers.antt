@@ -19,4 +19,5 @@ loop-i-preserved c =
 
 pub returns : goal.returns
 returns c =
-    c.loop-i.invariant ∙ ap (λ (fs : List MemFile). get (files_of fs) c.args.name.now) (drop_all c.loop-i.i c.args.files.now c.loop-i-test.false) ∙ get-empty _ _
+    c.loop-i.invariant ∙ ap (λ (fs : List MemFile). get (files_of fs) c.args.name.now)
+    (drop_all c.loop-i.i c.args.files.now c.loop-i-test.false) ∙ get-empty _ _

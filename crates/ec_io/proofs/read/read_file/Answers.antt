@@ -10,7 +10,8 @@ more-preserved g c =
     let fits : c.in-Ok.n ≤ length c.read.new.buf = c.in-Ok.ensures.bound.0 in
     let room : length c.read.new.buf ≤ c.min-room.result = omega (arith, c.read.auto.buf, length-take c.min-room.result c.more.buf) in
     let grown : c.extend_from_slice.new.self.items ≡ c.more.bytes.items ++ take c.in-Ok.n c.read.new.buf =
-    c.in-Ok-extend_from_slice.ensures.ok ∙ ap (λ (xs : List ℕ). c.more.bytes.items ++ xs) (take-append-le c.in-Ok.n c.read.new.buf _ fits) in
+    c.in-Ok-extend_from_slice.ensures.ok
+    ∙ ap (λ (xs : List ℕ). c.more.bytes.items ++ xs) (take-append-le c.in-Ok.n c.read.new.buf _ fits) in
     let long : length c.extend_from_slice.new.self.items ≡ length c.more.bytes.items + c.in-Ok.n =
     ap length grown ∙ length-more c.more.bytes.items c.read.new.buf c.in-Ok.n fits in
     record {
@@ -31,5 +32,7 @@ more-preserved g c =
 pub returns-in-Err-extend_from_slice-clause-received : goal.returns-in-Err-extend_from_slice-clause-received
 returns-in-Err-extend_from_slice-clause-received g c =
     let fits : c.in-Ok.n ≤ length c.read.new.buf = c.in-Ok.ensures.bound.0 in
-    let room : length c.read.new.buf ≤ c.min-room.result = omega (arith, c.read.auto.buf, length-take c.min-room.result c.more.buf) in
-    (length c.more.bytes.items + c.in-Ok.n, (omega (arith, c.if-is_too_long.ensures), counted_more _ _ _ _ _ _ c.more.invariant.received c.in-Ok.ensures.received refl))
+    let room : length c.read.new.buf ≤ c.min-room.result = omega (arith, c.read.auto.buf, length-take c.min-room.result c.more.buf) in (
+      length c.more.bytes.items + c.in-Ok.n,
+      (omega (arith, c.if-is_too_long.ensures), counted_more _ _ _ _ _ _ c.more.invariant.received c.in-Ok.ensures.received refl),
+    )

@@ -16,7 +16,8 @@ left-preserved g c =
     record {
       within = omega (arith, c.in-Ok.ensures.taken.within, rest_len);
       written =
-          subst (λ xs. Appends (g.O.Sink.written c.args.sink.now) (g.O.Sink.written c.write.new.self) xs) (fronts bytes c.left.done c.in-Ok.n)
+          subst (λ xs. Appends (g.O.Sink.written c.args.sink.now) (g.O.Sink.written c.write.new.self) xs)
+          (fronts bytes c.left.done c.in-Ok.n)
           (appends_more _ _ _ _ _ i.written c.in-Ok.ensures.written);
       rest = c.write.ensures.rest ∙ i.rest;
       later = omega arith;

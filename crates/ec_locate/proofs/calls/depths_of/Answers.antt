@@ -8,7 +8,8 @@ pub longer-requires : goal.longer-requires
 longer-requires c =
     let functions = map plain_function c.args.funcs.now in
     let n = c.loop-round._round in
-    rw (c.as_slice.ensures, c.loop-round.invariant) (λ k e l. let below = chains_below n functions k e l in omega (arith, below, c.requires))
+    rw (c.as_slice.ensures, c.loop-round.invariant)
+    (λ k e l. let below = chains_below n functions k e l in omega (arith, below, c.requires))
 
 pub loop-round-init : goal.loop-round-init
 loop-round-init c =
@@ -16,4 +17,5 @@ loop-round-init c =
 
 pub loop-round-preserved : goal.loop-round-preserved
 loop-round-preserved c =
-    chains_more c.args.funcs.now c.loop-round._round c.loop-round.depths.items _ c.loop-round.invariant (rw c.as_slice.ensures at c.in_ok-depths-2.ensures)
+    chains_more c.args.funcs.now c.loop-round._round c.loop-round.depths.items _ c.loop-round.invariant
+    (rw c.as_slice.ensures at c.in_ok-depths-2.ensures)

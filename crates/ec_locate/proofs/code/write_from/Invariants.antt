@@ -7,5 +7,6 @@ invariant-loop-byte l = record {
   core : l.image.core ≡ l.initial.image.core;
   next : l.next ≡ l.fn.at + l.byte-index;
   bytes : overwritten l.image.bytes.items l.next (drop l.byte-index l.bytes) ≡ overwritten l.initial.image.bytes.items l.fn.at l.bytes;
-  written : overwritten l.image.written.items l.next (map (λ byte. true) (drop l.byte-index l.bytes)) ≡ overwritten l.initial.image.written.items l.fn.at (map (λ byte. true) l.bytes);
+  written : overwritten l.image.written.items l.next (map (λ byte. true) (drop l.byte-index l.bytes))
+      ≡ overwritten l.initial.image.written.items l.fn.at (map (λ byte. true) l.bytes);
 }

@@ -10,7 +10,8 @@ pub entries_from-requires-clause-objects : goal.entries_from-requires-clause-obj
 entries_from-requires-clause-objects c =
     let program = c.args.program.now in
     rw c.as_slice.ensures
-    (objects_typed (plain_program program) (length program.structs.items) program.objs.items c.requires.objects (length-map program.structs.items plain_struct))
+    (objects_typed (plain_program program) (length program.structs.items) program.objs.items c.requires.objects
+    (length-map program.structs.items plain_struct))
 
 pub returns : goal.returns
 returns c =

@@ -2,7 +2,7 @@ use Rattle.std.proofs.Common.{◌≡◌, ◌∙◌, ap, map}
 use Rattle.ec_core.specs.Plain.{plain_struct, plain_object}
 use Rattle.ec_locate.specs.Code.{layout_view}
 use Rattle.ec_locate.specs.Image.{flash_of, blank, with_objects, with_bytes}
-use Rattle.ec_locate.proofs.Values.{same_flash}
+use Rattle.ec_locate.proofs.LeafValues.{same_flash}
 use Rattle.ec_locate.proofs.image.image_from.Goals as goal
 
 pub returns-clause-flash : goal.returns-clause-flash
@@ -15,5 +15,7 @@ returns-clause-flash c =
     let values : flash_of c.write_objects.new.image ≡ with_objects structs y 0 objects blank =
     (rw c.as_slice-objs.ensures at c.in_ok-write_objects.ensures.flash) ∙ ap (with_objects structs y 0 objects) start in
     let code = c.as_slice.result.now in
-    let written : flash_of c.write_from.new.image ≡ with_bytes (flash_of c.write_objects.new.image) 0 code = same_flash _ _ _ _ c.write_from.ensures.bytes c.write_from.ensures.written in
-    written ∙ ap (λ f. with_bytes f 0 code) values ∙ ap (with_bytes (with_objects structs y 0 objects blank) 0) (c.as_slice.ensures ∙ c.in_ok-code.ensures)
+    let written : flash_of c.write_from.new.image ≡ with_bytes (flash_of c.write_objects.new.image) 0 code =
+    same_flash _ _ _ _ c.write_from.ensures.bytes c.write_from.ensures.written in
+    written ∙ ap (λ f. with_bytes f 0 code) values
+    ∙ ap (with_bytes (with_objects structs y 0 objects blank) 0) (c.as_slice.ensures ∙ c.in_ok-code.ensures)

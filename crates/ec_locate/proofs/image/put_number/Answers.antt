@@ -8,4 +8,5 @@ loop-i-preserved c =
     let rest = c.loop-i.rest in
     let size = c.args.size in
     let i = c.loop-i._i in
-    made_step c.loop-i.out.items c.push.new.self.items (little_endian (size - (i + 1)) (rest / 256)) _ _ (rw (little_step size i rest c.loop-i-test.true) at c.loop-i.invariant) c.in_ok-push.ensures.ok
+    made_step c.loop-i.out.items c.push.new.self.items (little_endian (size - (i + 1)) (rest / 256)) _ _
+    (rw (little_step size i rest c.loop-i-test.true) at c.loop-i.invariant) c.in_ok-push.ensures.ok

@@ -13,7 +13,8 @@ use Rattle.ec_locate.proofs.placing.place.Goals as goal
 pub locate-requires-clause-objects : goal.locate-requires-clause-objects
 locate-requires-clause-objects c =
     let program = c.args.program.now in
-    objects_typed (plain_program program) (length program.structs.items) program.objs.items c.requires.program.objects (length-map program.structs.items plain_struct)
+    objects_typed (plain_program program) (length program.structs.items) program.objs.items c.requires.program.objects
+    (length-map program.structs.items plain_struct)
 
 pub locate-requires-clause-words : goal.locate-requires-clause-words
 locate-requires-clause-words c =

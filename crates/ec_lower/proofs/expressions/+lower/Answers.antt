@@ -4,10 +4,10 @@ use Rattle.ec_core.specs.declared.expressions.Expr.{Expr}
 use Rattle.ec_core.specs.PortTable.{plain_table}
 use Rattle.ec_core.specs.Plain.{PlainNode, call, plain_exprs, plain_node, plain_program, plain_type}
 use Rattle.ec_ir.specs.Operations.{plain_ir}
-use Rattle.ec_lower_emit.specs.Sizes.{node_size, exprs_size}
+use Rattle.ec_lower.specs.Sizes.{node_size, exprs_size}
 use Rattle.ec_lower_code.specs.Code.{exprs_labels, args_code, node_code, node_labels}
-use Rattle.ec_lower_emit.proofs.Lists.{plain_call, list_next, smaller_expr}
-use Rattle.ec_lower_emit.proofs.Steps.{list_end, so}
+use Rattle.ec_lower.proofs.Lists.{plain_call, list_next, smaller_expr}
+use Rattle.ec_lower.proofs.Steps.{list_end, so}
 use Rattle.ec_lower.proofs.expressions.+lower.Goals as goal
 
 pub lower_args-lower_expr-requires : goal.lower_args-lower_expr-requires

@@ -3,8 +3,8 @@ use Rattle.ec_core.specs.PortTable.{plain_table}
 use Rattle.ec_core.specs.Plain.{plain_expr, plain_exprs, plain_node, plain_place, plain_program}
 use Rattle.ec_ir.specs.Operations.{PlainIr, plain_ir}
 use Rattle.std.specs.Option.{option_copied}
-use Rattle.ec_lower_emit.specs.Emits.{plain_operand}
-use Rattle.ec_lower_emit.specs.Sizes.{expr_size, node_size, place_size, option_size, exprs_size}
+use Rattle.ec_lower.specs.Emits.{plain_operand}
+use Rattle.ec_lower.specs.Sizes.{expr_size, node_size, place_size, option_size, exprs_size}
 use Rattle.ec_lower_code.specs.Code.{exprs_labels, args_code}
 use Rattle.ec_lower.proofs.expressions.+lower.Given as goal
 

@@ -1,5 +1,5 @@
 use Rattle.ec_core.specs.PortTable.{plain_port}
-use Rattle.ec_lower_emit.proofs.Steps.{seen_at}
+use Rattle.ec_lower.proofs.Steps.{seen_at}
 use Rattle.ec_lower.proofs.ports.put_access.Goals as goal
 
 pub returns-in_ok-v-in-Some : goal.returns-in_ok-v-in-Some

@@ -1,4 +1,4 @@
-use Rattle.ec_lower_emit.proofs.Lists.{with_types}
+use Rattle.ec_lower.proofs.Lists.{with_types}
 use Rattle.ec_lower.proofs.program.lower.Goals as goal
 
 pub operations-requires : goal.operations-requires

@@ -1,7 +1,7 @@
 use Rattle.std.proofs.Common.{[], map, sym, ◌∙◌}
 use Rattle.std.proofs.lemmas.List.{append-nil}
 use Rattle.ec_ir.specs.Operations.{plain_ir}
-use Rattle.ec_lower_emit.proofs.Steps.{so}
+use Rattle.ec_lower.proofs.Steps.{so}
 use Rattle.ec_lower.proofs.program.lower_body.Goals as goal
 
 pub returns : goal.returns

@@ -4,10 +4,10 @@ use Rattle.ec_core.specs.declared.statements.Stmt.{Stmt}
 use Rattle.ec_core.specs.PortTable.{plain_table}
 use Rattle.ec_core.specs.Plain.{PlainKind, block, plain_expr, plain_kind, plain_stmts, plain_program}
 use Rattle.ec_ir.specs.Operations.{plain_ir}
-use Rattle.ec_lower_emit.specs.Sizes.{kind_size, stmts_size}
+use Rattle.ec_lower.specs.Sizes.{kind_size, stmts_size}
 use Rattle.ec_lower_code.specs.Code.{expr_labels, stmts_labels, stmts_code, kind_code}
-use Rattle.ec_lower_emit.proofs.Lists.{plain_block, list_next, smaller_stmt}
-use Rattle.ec_lower_emit.proofs.Steps.{list_end, so}
+use Rattle.ec_lower.proofs.Lists.{plain_block, list_next, smaller_stmt}
+use Rattle.ec_lower.proofs.Steps.{list_end, so}
 use Rattle.ec_lower.proofs.statements.+lower.Goals as goal
 
 pub lower_stmts-lower_stmt-requires : goal.lower_stmts-lower_stmt-requires

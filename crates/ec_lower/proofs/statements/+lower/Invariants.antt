@@ -2,7 +2,7 @@ use Rattle.std.proofs.Common.{◌≡◌, ◌+◌, ◌++◌, List, drop, map}
 use Rattle.ec_core.specs.PortTable.{plain_table}
 use Rattle.ec_core.specs.Plain.{plain_stmt, plain_stmts, plain_program}
 use Rattle.ec_ir.specs.Operations.{PlainIr, plain_ir}
-use Rattle.ec_lower_emit.specs.Sizes.{stmt_size, stmts_size}
+use Rattle.ec_lower.specs.Sizes.{stmt_size, stmts_size}
 use Rattle.ec_lower_code.specs.Code.{stmts_labels, stmts_code}
 use Rattle.ec_lower.proofs.statements.+lower.Given as goal
 

@@ -3,8 +3,8 @@ use Rattle.std.proofs.lemmas.List.{length-map}
 use Rattle.std.proofs.lemmas.Result.{IfOk-weaker}
 use Rattle.ec_core.specs.Layout.{IsObjectType}
 use Rattle.ec_core.specs.Plain.{plain_object, plain_program, plain_struct}
-use Rattle.ec_lower_emit.proofs.Lists.{object_at}
-use Rattle.ec_lower_emit.proofs.Steps.{seen_at, leaves_some, leaves_absent}
+use Rattle.ec_lower.proofs.Lists.{object_at}
+use Rattle.ec_lower.proofs.Steps.{seen_at, leaves_some, leaves_absent}
 use Rattle.ec_lower.proofs.statements.leaves_of_object.Goals as goal
 
 pub leaves-requires-clause-object : goal.leaves-requires-clause-object

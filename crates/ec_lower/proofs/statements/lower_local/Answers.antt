@@ -1,4 +1,4 @@
-use Rattle.ec_lower_emit.proofs.Steps.{so}
+use Rattle.ec_lower.proofs.Steps.{so}
 use Rattle.ec_lower.proofs.statements.lower_local.Goals as goal
 
 pub returns-clause-code : goal.returns-clause-code

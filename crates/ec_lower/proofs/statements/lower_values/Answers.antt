@@ -4,8 +4,8 @@ use Rattle.ec_core.specs.PortTable.{plain_table}
 use Rattle.ec_core.specs.Plain.{plain_exprs, plain_program}
 use Rattle.ec_ir.specs.Operations.{PlainIr, plain_ir}
 use Rattle.ec_lower_code.specs.Code.{exprs_labels}
-use Rattle.ec_lower_emit.proofs.Lists.{list_next}
-use Rattle.ec_lower_emit.proofs.Steps.{list_got, list_end, init_out, init_step}
+use Rattle.ec_lower.proofs.Lists.{list_next}
+use Rattle.ec_lower.proofs.Steps.{list_got, list_end, init_out, init_step}
 use Rattle.ec_lower.proofs.statements.lower_values.Goals as goal
 
 pub loop-i-preserved : goal.loop-i-preserved

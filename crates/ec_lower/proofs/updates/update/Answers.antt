@@ -1,5 +1,5 @@
 use Rattle.std.proofs.Common.{◌∙◌}
-use Rattle.ec_lower_emit.proofs.Steps.{so}
+use Rattle.ec_lower.proofs.Steps.{so}
 use Rattle.ec_lower.proofs.updates.update.Goals as goal
 
 pub returns : goal.returns

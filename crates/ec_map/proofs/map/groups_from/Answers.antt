@@ -5,4 +5,5 @@ use Rattle.ec_map.proofs.Made.{made_all}
 use Rattle.ec_map.proofs.map.groups_from.Goals as goal
 
 pub returns : goal.returns
-returns c = made_all group_view port_group_of view c.loop-group.made.items c.args.groups.now c.loop-group.group-index c.loop-group.invariant (omega arith)
+returns c = made_all group_view port_group_of view c.loop-group.made.items c.args.groups.now c.loop-group.group-index c.loop-group.invariant
+    (omega arith)

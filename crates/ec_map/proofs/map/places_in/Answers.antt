@@ -10,8 +10,11 @@ places-preserved c =
     let e : Entry = (c.in-Some.name.now, c.in-Some.value.now) in
     let left : c.places.name-iterator ≡ e ∷ c.next.new.self = grind (arith, common_steps) in
     let all = whole ∙ ap (λ t. done ++ t) left ∙ sym (append_assoc done (e ∷ []) c.next.new.self) in
-    let one = rw c.as_str.ensures.value at c.in_ok-place_from.ensures in
-    (done ++ e ∷ [], all, placed_more c.places.made.items c.push.new.self.items c.in_ok-place_from.field-0 done e told one c.in_ok-push.ensures.ok)
+    let one = rw c.as_str.ensures.value at c.in_ok-place_from.ensures in (
+      done ++ e ∷ [],
+      all,
+      placed_more c.places.made.items c.push.new.self.items c.in_ok-place_from.field-0 done e told one c.in_ok-push.ensures.ok,
+    )
 
 pub returns-clause-ascending : goal.returns-clause-ascending
 returns-clause-ascending c =

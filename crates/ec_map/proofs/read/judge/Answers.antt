@@ -5,4 +5,5 @@ use Rattle.ec_map.proofs.read.judge.Goals as goal
 
 pub returns-in_ok-map-in-None-clause-valid : goal.returns-in_ok-map-in-None-clause-valid
 returns-in_ok-map-in-None-clause-valid c =
-    map_valid (view c.args.root.now) c.in_ok-map-in-None.map (sym c.in-None.ensures) c.in_ok-map-in-None.ensures.told c.in_ok-map-in-None.ensures.ascending
+    map_valid (view c.args.root.now) c.in_ok-map-in-None.map
+    (sym c.in-None.ensures) c.in_ok-map-in-None.ensures.told c.in_ok-map-in-None.ensures.ascending

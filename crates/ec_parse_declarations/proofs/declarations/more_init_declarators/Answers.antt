@@ -3,7 +3,7 @@ use Rattle.std.proofs.lemmas.Result.{err_from_is_err_and}
 use Rattle.ec_grammar.specs.Nesting.{height_list, height_next_init_declarator}
 use Rattle.ec_grammar.specs.Trees.{next_init_declarator}
 use Rattle.ec_grammar.specs.Views.{view_next_init_declarator}
-use Rattle.ec_reading.specs.Reading.{behind_comma, init_declarator_by, within}
+use Rattle.ec_parse_laws.specs.Reading.{behind_comma, init_declarator_by, within}
 use Rattle.ec_parse_expressions.proofs.Many.{begins, more, fails, stops_at, is_done, map_push}
 use Rattle.ec_parse_declarations.proofs.Lists.{list_height}
 use Rattle.ec_parse_declarations.proofs.declarations.more_init_declarators.Goals as goal

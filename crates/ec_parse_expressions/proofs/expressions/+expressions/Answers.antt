@@ -2,7 +2,7 @@ use Rattle.std.proofs.Common.{map, sym, ap, subst, ◌∙◌, refl, arith}
 use Rattle.std.proofs.lemmas.Result.{err_from_is_err_and}
 use Rattle.ec_grammar.specs.Nesting.{height_further, height_binary}
 use Rattle.ec_grammar.specs.Views.{view_binary}
-use Rattle.ec_reading.specs.Reading.{within, argument_at, further_of}
+use Rattle.ec_parse_laws.specs.Reading.{within, argument_at, further_of}
 use Rattle.ec_parse_tokens.specs.Reads.{leaves_of, inner_at, Reads}
 use Rattle.ec_parse_expressions.proofs.Many.{begins, more, fails, stops_at, is_done, map_push}
 use Rattle.ec_parse_expressions.proofs.Rows.{further_height}
@@ -13,22 +13,26 @@ use Rattle.ec_parse_expressions.proofs.expressions.+expressions.Goals as goal
 
 pub binary-returns : goal.binary-returns
 binary-returns t c =
-    subst (Reads (λ x. (view_binary x.0.value, leaves_of c.args.source.count x.2.now)) (λ x. IsNodeHeight c.args.room (height_binary (view_binary x.0.value)) x.1) c.joins.result)
+    subst (Reads (λ x. (view_binary x.0.value, leaves_of c.args.source.count x.2.now))
+    (λ x. IsNodeHeight c.args.room (height_binary (view_binary x.0.value)) x.1) c.joins.result)
     (sym (level_up (within 64 c.args.left) c.args.level c.args.room _ _ _ (omega arith) c.in_ok-first.ensures.0)) c.joins.ensures
 
 pub further-loop-init : goal.further-loop-init
-further-loop-init t c = rw c.new-all.ensures.items (begins (argument_at (inner_at c.args.left)) c.args.source.count c.args.tokens.now, (refl, omega arith))
+further-loop-init t c =
+    rw c.new-all.ensures.items (begins (argument_at (inner_at c.args.left)) c.args.source.count c.args.tokens.now, (refl, omega arith))
 
 pub further-returns-in_err-item : goal.further-returns-in_err-item
 further-returns-in_err-item t c =
     let p = err_from_is_err_and c.from_residual.result c.from_residual.ensures.1 in
     rw (p.1, p.2) (further_fails (inner_at c.args.left) _ c.in_err-item.field-0.0
-    (fails (argument_at (inner_at c.args.left)) c.in_err-item.field-0.0 (map view_argument c.loop.all.items) _ c.loop.counter _ _ c.loop-test.true c.in_err-item.ensures c.loop.invariant.0))
+    (fails (argument_at (inner_at c.args.left)) c.in_err-item.field-0.0
+    (map view_argument c.loop.all.items) _ c.loop.counter _ _ c.loop-test.true c.in_err-item.ensures c.loop.invariant.0))
 
 pub further-returns-in_default : goal.further-returns-in_default
 further-returns-in_default t c = (
   further_is (inner_at c.args.left) _ c.loop.all.items _
-      (stops_at (argument_at (inner_at c.args.left)) (map view_argument c.loop.all.items) _ c.loop.counter _ _ c.loop-test.true (rw c.in_default.is at c.in_ok-item.ensures) c.loop.invariant.0),
+      (stops_at (argument_at (inner_at c.args.left)) (map view_argument c.loop.all.items) _ c.loop.counter _ _ c.loop-test.true
+      (rw c.in_default.is at c.in_ok-item.ensures) c.loop.invariant.0),
   c.loop.invariant.1,
 )
 
@@ -46,5 +50,8 @@ further-loop-preserved t c =
     )
 
 pub further-returns : goal.further-returns
-further-returns t c =
-    (further_is (inner_at c.args.left) _ c.loop.all.items _ (is_done (argument_at (inner_at c.args.left)) (map view_argument c.loop.all.items) _ c.loop.counter _ _ c.loop-test.false c.loop.invariant.0), c.loop.invariant.1)
+further-returns t c = (
+  further_is (inner_at c.args.left) _ c.loop.all.items _ (is_done (argument_at (inner_at c.args.left))
+      (map view_argument c.loop.all.items) _ c.loop.counter _ _ c.loop-test.false c.loop.invariant.0),
+  c.loop.invariant.1,
+)

@@ -1,6 +1,6 @@
 use Rattle.std.proofs.Common.{◌-◌, ◌+◌, ◌*◌, map}
 use Rattle.ec_grammar.specs.Nesting.{height_further}
-use Rattle.ec_reading.specs.Reading.{many, argument_at, further_of}
+use Rattle.ec_parse_laws.specs.Reading.{many, argument_at, further_of}
 use Rattle.ec_parse_tokens.specs.Reads.{leaves_of, inner_at}
 use Rattle.ec_parse_expressions.proofs.Many.{IsPart}
 use Rattle.ec_parse_expressions.specs.Heights.{IsHeight}
@@ -65,5 +65,6 @@ abbrev pub decreases-unary : goal.decreases-unary
 decreases-unary l = 1000000 * l.left + (600)
 
 abbrev pub invariant-further-loop : goal.invariant-further-loop
-invariant-further-loop l = IsPart (argument_at (inner_at l.left)) (map view_argument l.all.items) (l.end - l.counter) (leaves_of l.source.count l.rest) (many (argument_at (inner_at l.left)) (leaves_of l.source.count l.tokens))
+invariant-further-loop l = IsPart (argument_at (inner_at l.left)) (map view_argument l.all.items) (l.end - l.counter)
+    (leaves_of l.source.count l.rest) (many (argument_at (inner_at l.left)) (leaves_of l.source.count l.tokens))
     × IsHeight 64 (height_further (further_of (map view_argument l.all.items))) l.height

@@ -1,9 +1,10 @@
-use Rattle.ec_reading.specs.Reading.{qualifier_at}
+use Rattle.ec_parse_laws.specs.Reading.{qualifier_at}
 use Rattle.ec_parse_expressions.proofs.Many.{more, stops_at, is_done}
 use Rattle.ec_parse_expressions.proofs.types.qualifiers.Goals as goal
 
 pub returns-in_default : goal.returns-in_default
-returns-in_default c = stops_at qualifier_at c.loop.all.items _ c.loop.counter _ _ c.loop-test.true (rw c.in_default.is at c.in_ok-item.ensures) c.loop.invariant
+returns-in_default c = stops_at qualifier_at c.loop.all.items _ c.loop.counter _ _ c.loop-test.true
+    (rw c.in_default.is at c.in_ok-item.ensures) c.loop.invariant
 
 pub loop-preserved : goal.loop-preserved
 loop-preserved c =

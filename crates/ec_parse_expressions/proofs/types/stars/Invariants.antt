@@ -1,9 +1,10 @@
 use Rattle.std.proofs.Common.{◌-◌, map}
 use Rattle.ec_grammar.specs.Views.{view_star}
-use Rattle.ec_reading.specs.Reading.{many, star_at}
+use Rattle.ec_parse_laws.specs.Reading.{many, star_at}
 use Rattle.ec_parse_tokens.specs.Reads.{leaves_of}
 use Rattle.ec_parse_expressions.proofs.Many.{IsPart}
 use Rattle.ec_parse_expressions.proofs.types.stars.Given as goal
 
 abbrev pub invariant-loop : goal.invariant-loop
-invariant-loop l = IsPart star_at (map view_star l.all.items) (l.end - l.counter) (leaves_of l.source.count l.rest) (many star_at (leaves_of l.source.count l.tokens))
+invariant-loop l = IsPart star_at (map view_star l.all.items) (l.end - l.counter) (leaves_of l.source.count l.rest)
+    (many star_at (leaves_of l.source.count l.tokens))

@@ -1,5 +1,5 @@
 use Rattle.std.proofs.Common.{sym, ◌∙◌}
-use Rattle.ec_reading.proofs.Basics.{same_puncts}
+use Rattle.ec_parse_laws.proofs.Basics.{same_puncts}
 use Rattle.ec_parse_tokens.proofs.Codes.{puncts_compared}
 use Rattle.ec_parse_tokens.proofs.tokens.is_punct.Goals as goal
 

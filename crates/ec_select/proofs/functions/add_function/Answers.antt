@@ -4,7 +4,7 @@ use Rattle.std.proofs.lemmas.List.{length-map}
 use Rattle.ec_asm.specs.declared.items.AsmItem.{AsmItem}
 use Rattle.ec_ir.specs.declared.operations.Ir.{Ir}
 use Rattle.ec_ir.specs.Operations.{plain_ir, plain_ir_function, plain_ir_program, data_of}
-use Rattle.ec_live.specs.Tables.{needs_of}
+use Rattle.ec_select_live.specs.Tables.{needs_of}
 use Rattle.ec_select_operations.specs.declared.calls.Linking.{Linking}
 use Rattle.ec_select_operations.specs.Code.{wanted_bytes}
 use Rattle.ec_select_operations.specs.Emitted.{linkage}

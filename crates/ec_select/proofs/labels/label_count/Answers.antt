@@ -1,7 +1,7 @@
 use Rattle.std.proofs.Common.{◌≡◌}
 use Rattle.ec_ir.specs.Operations.{plain_ir}
+use Rattle.ec_select_live.proofs.Passes.{drop_back}
 use Rattle.ec_select.specs.Labels.{label_bound}
-use Rattle.ec_select.proofs.Lists.{drop_back}
 use Rattle.ec_select.proofs.labels.label_count.Goals as goal
 
 pub loop-k-preserved : goal.loop-k-preserved

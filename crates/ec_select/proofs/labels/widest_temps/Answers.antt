@@ -1,5 +1,5 @@
 use Rattle.ec_ir.specs.Operations.{plain_ir}
-use Rattle.ec_select.proofs.Lists.{drop_back}
+use Rattle.ec_select_live.proofs.Passes.{drop_back}
 use Rattle.ec_select.proofs.labels.widest_temps.Goals as goal
 
 pub loop-k-preserved : goal.loop-k-preserved

@@ -3,7 +3,7 @@ use Rattle.std.proofs.lemmas.List.{length-map}
 use Rattle.ec_asm.specs.declared.items.AsmItem.TheVariants.{Label}
 use Rattle.ec_asm.specs.declared.items.AsmProgram.{AsmProgram}
 use Rattle.ec_ir.specs.Operations.{plain_ir_function, plain_ir_program}
-use Rattle.ec_startup.specs.Startup.{startup_code}
+use Rattle.ec_select_startup.specs.Startup.{startup_code}
 use Rattle.ec_select.specs.Labels.{entry_label, function_label}
 use Rattle.ec_select.specs.Program.{spans_of}
 use Rattle.ec_select.specs.Selected.{IsSelection}

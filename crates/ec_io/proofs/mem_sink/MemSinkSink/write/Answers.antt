@@ -8,5 +8,7 @@ returns-then-next-clause-calm c =
 
 pub returns-clause-calm : goal.returns-clause-calm
 returns-clause-calm c =
-    rw (← c.self.view_is) (rw c.next.ensures.new (λ room calm fits.
-    (record { ok = refl; same = refl }, record { fits = omega (arith, calm.fits, c.min-n.ensures); count = calm.count; past = past_on _ _ calm.past })))
+    rw (← c.self.view_is) (rw c.next.ensures.new (λ room calm fits. (
+      record { ok = refl; same = refl },
+      record { fits = omega (arith, calm.fits, c.min-n.ensures); count = calm.count; past = past_on _ _ calm.past },
+    )))

@@ -25,5 +25,7 @@ returns-in-Some-clause-disk c =
 
 pub returns-in-Some-clause-calm : goal.returns-in-Some-clause-calm
 returns-in-Some-clause-calm c =
-    rw (← c.self.view_is) (rw c.next.ensures.new (λ names made room calm among.
-    (record { ok = refl; same = refl }, calm_on _ _ names made room room calm (record { made = refl; fail = refl; calls = refl }) (λ name there. there) refl refl calm.fits)))
+    rw (← c.self.view_is) (rw c.next.ensures.new (λ names made room calm among. (
+      record { ok = refl; same = refl },
+      calm_on _ _ names made room room calm (record { made = refl; fail = refl; calls = refl }) (λ name there. there) refl refl calm.fits,
+    )))

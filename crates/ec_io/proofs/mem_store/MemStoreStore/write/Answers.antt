@@ -27,5 +27,6 @@ returns-clause-calm c =
     (rw c.next.ensures.new (λ names made room calm opened fits. (
       record { ok = refl; same = refl },
       calm_on _ _ names made room (room - c.min-n.result) calm (record { made = refl; fail = refl; calls = refl })
-          (λ name there. there_renewed c.self.inside.files.items c.self.inside.made c.extend_from_slice.new.self c.self.inside.stands name there) refl refl (omega (arith, calm.fits)),
+          (λ name there. there_renewed c.self.inside.files.items c.self.inside.made c.extend_from_slice.new.self c.self.inside.stands name
+          there) refl refl (omega (arith, calm.fits)),
     )))

@@ -1,2 +1,0 @@
--- The definitions that the contracts of subscripts and members cite.
-pub mod Accesses

@@ -1,0 +1,4 @@
+mod Unsafe
+mod OneStep
+mod Allowed
+mod InMemory

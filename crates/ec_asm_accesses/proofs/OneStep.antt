@@ -1,0 +1,209 @@
+-- One step: what it accesses is allowed, where the view allows it.
+use Rattle.std.proofs.Common.{◌≡◌, ⊎_elim, ℕ, ◌+◌, ◌%◌, Bool, true, false, not, ◌&&◌, refl, sym, ap, ◌∙◌, subst, arith, Some, length}
+use Rattle.std.specs.Prelude.{if◌then◌else◌, nat_lt, nat_le, ◌==◌, slice_index, ⊤}
+use Rattle.std.proofs.lemmas.Bool.{and_parts, false≢true, ltb-false, or_cases}
+use Rattle.std.proofs.lemmas.Bool.Decides.{nat_tests}
+use Rattle.ec_space.specs.declared.space.Bank.TheVariants.{Data as DataBank}
+use Rattle.ec_isa.specs.declared.instructions.Instr.{Instr}
+use Rattle.ec_isa.specs.declared.instructions.Instr.TheVariants.{LddZ, LddY, StdZ, StdY, Lds, Sts, LdX, StX, LpmZ, LdXPlus, LdZPlus}
+use Rattle.ec_isa.specs.declared.instructions.Instr.TheVariants.{StXPlus, StZPlus, LpmZPlus, Pop, Push, In as InInstr, Out as OutInstr}
+use Rattle.ec_isa.specs.declared.instructions.Instr.TheVariants.{Call, Ret, Rcall, LdMinusZ, LdYPlus, LdMinusY, LdMinusX, StMinusZ, StYPlus}
+use Rattle.ec_isa.specs.declared.instructions.Instr.TheVariants.{StMinusY, StMinusX, Icall}
+use Rattle.ec_avr.specs.declared.machine.Access.TheVariants.{Silent, In, Out, Read, Write}
+use Rattle.ec_avr.specs.declared.machine.Stepped.{Stepped}
+use Rattle.ec_avr.specs.declared.machine.Stepped.TheVariants.{Ran, Ended as MEnded, Fault}
+use Rattle.ec_avr.specs.Effects.{After, effect, load, store, load_access, store_access, load_and_raise, store_and_raise, load_flash}
+use Rattle.ec_avr.specs.Effects.{load_flash_and_raise, push, pop, call, return_from_call}
+use Rattle.ec_avr.specs.Machine.{State}
+use Rattle.ec_avr.specs.State.{is_core_register, is_sram, raised, lowered, stack_pointer, pair as m_pair}
+use Rattle.ec_asm.specs.View.{View, pair}
+use Rattle.ec_asm.specs.Change.{Env, Kind, Own, Object, Port, Stacked, Barred, change, load_by, store_by, flash_by}
+use Rattle.ec_asm.specs.Pieces.{is_held}
+use Rattle.ec_asm.specs.Shows.{Shows, Fits, may_be}
+use Rattle.ec_asm_accesses.specs.Allowed.{IsAllowed}
+
+-- what a step did is allowed
+abbrev pub IsStepAllowed : Env → Stepped → Type 0
+IsStepAllowed e (Ran a) = IsAllowed e a
+IsStepAllowed e MEnded = ⊤
+IsStepAllowed e (Fault kind pc) = ⊤
+
+-- ---- kinds
+
+abbrev IsUsed : Kind → Type 0
+IsUsed Own = ⊤
+IsUsed Object = ⊤
+IsUsed Port = ⊤
+IsUsed Stacked = ⊥
+IsUsed Barred = ⊥
+
+load_used : (k : Kind) (d a : ℕ) (v : View) → (load_by k d a v).safe ≡ true → IsUsed k
+load_used Own d a v h = tt
+load_used Object d a v h = tt
+load_used Port d a v h = tt
+load_used Stacked d a v h = absurd (false≢true h)
+load_used Barred d a v h = absurd (false≢true h)
+
+store_used : (k : Kind) (a x : ℕ) (v : View) → (store_by k a x v).safe ≡ true → IsUsed k
+store_used Own a x v h = tt
+store_used Object a x v h = tt
+store_used Port a x v h = tt
+store_used Stacked a x v h = absurd (false≢true h)
+store_used Barred a x v h = absurd (false≢true h)
+
+flash_held : (k : Kind) (d a x : ℕ) (v : View) → (flash_by k d a x v).safe ≡ true → is_held k ≡ true
+flash_held Own d a x v h = refl
+flash_held Object d a x v h = refl
+flash_held Port d a x v h = absurd (false≢true h)
+flash_held Stacked d a x v h = absurd (false≢true h)
+flash_held Barred d a x v h = absurd (false≢true h)
+
+-- above the ports a byte that is used is held
+high_is_held : (k : Kind) (size a : ℕ) → may_be k size a ≡ true → IsUsed k → nat_lt a 256 ≡ false → is_held k ≡ true
+high_is_held Own size a may u high = refl
+high_is_held Object size a may u high = refl
+high_is_held Port size a may u high = absurd (false≢true (sym high ∙ (and_parts (nat_lt a 256) (not (is_core_register a)) may).0))
+high_is_held Stacked size a may u high = absurd u
+high_is_held Barred size a may u high = absurd u
+
+-- below, but for registers, it is a port
+no_memory : (size a : ℕ) → (nat_le 256 a && nat_lt a size) ≡ true → nat_lt a 256 ≡ true → ⊥
+no_memory size a may low = let p = and_parts (nat_le 256 a) (nat_lt a size) may in grind (arith, nat_tests)
+
+low_is_port : (k : Kind) (size a : ℕ) → may_be k size a ≡ true → IsUsed k → is_core_register a ≡ false → nat_lt a 256 ≡ true → k ≡ Port
+low_is_port Own size a may u core low =
+    absurd (⊎_elim (λ c. false≢true (sym core ∙ (and_parts (is_core_register a) (not (a == 0x5F)) c).0)) (λ h. no_memory size a h low)
+    (or_cases (is_core_register a && not (a == 0x5F)) (nat_le 256 a && nat_lt a size) may))
+low_is_port Object size a may u core low = absurd (no_memory size a may low)
+low_is_port Port size a may u core low = refl
+low_is_port Stacked size a may u core low = absurd u
+low_is_port Barred size a may u core low = absurd u
+
+module _ (e : Env) (size : ℕ) (fit : Fits e size) (s : State) (v : View) (h : Shows e size s.mem v) where
+  -- ---- families
+
+  load_access_allowed : (a byte : ℕ) → IsUsed (e.kind a) → IsAllowed e (load_access a byte)
+  load_access_allowed a byte u = by_tests (is_core_register a) (nat_lt a 256) refl refl where
+    by_tests : (b c : Bool) → is_core_register a ≡ b → nat_lt a 256 ≡ c
+        → IsAllowed e (if b then Silent else (if c then In a byte else Read DataBank a byte))
+    by_tests true c core low = tt
+    by_tests false true core low = low_is_port (e.kind a) size a (fit.kinds a) u core low
+    by_tests false false core low = (ltb-false a 256 low, high_is_held (e.kind a) size a (fit.kinds a) u low)
+
+  store_access_allowed : (a byte : ℕ) → IsUsed (e.kind a) → IsAllowed e (store_access a byte)
+  store_access_allowed a byte u = by_tests (is_core_register a) (nat_lt a 256) refl refl where
+    by_tests : (b c : Bool) → is_core_register a ≡ b → nat_lt a 256 ≡ c
+        → IsAllowed e (if b then Silent else (if c then Out a byte else Write a byte))
+    by_tests true c core low = tt
+    by_tests false true core low = low_is_port (e.kind a) size a (fit.kinds a) u core low
+    by_tests false false core low = (ltb-false a 256 low, high_is_held (e.kind a) size a (fit.kinds a) u low)
+
+  -- one of two outcomes
+  where_allowed : (b : Bool) (x y : After) → IsStepAllowed e x.stepped → IsStepAllowed e y.stepped
+      → IsStepAllowed e (if b then x else y).stepped
+  where_allowed true x y f g = f
+  where_allowed false x y f g = g
+
+  load_allowed : (d a answer words : ℕ) → IsUsed (e.kind a) → IsStepAllowed e (load d a answer words s).stepped
+  load_allowed d a answer words u =
+      where_allowed (nat_lt a (length s.mem.data)) _ _ (load_access_allowed a _ u) tt
+
+  load_raised : (d pointer answer : ℕ) → IsUsed (e.kind (m_pair s pointer)) → IsStepAllowed e (load_and_raise d pointer answer s).stepped
+  load_raised d pointer answer u =
+      where_allowed (nat_lt (m_pair s pointer) (length s.mem.data)) _ _ (load_access_allowed (m_pair s pointer) _ u) tt
+
+  store_allowed : (a byte words : ℕ) → IsUsed (e.kind a) → IsStepAllowed e (store a byte words s).stepped
+  store_allowed a byte words u =
+      where_allowed (nat_lt a (length s.mem.data)) _ _ (store_access_allowed a byte u) tt
+
+  store_raised : (pointer byte : ℕ) → IsUsed (e.kind (m_pair s pointer)) → IsStepAllowed e (store_and_raise pointer byte s).stepped
+  store_raised pointer byte u =
+      where_allowed (nat_lt (m_pair s pointer) (length s.mem.data)) _ _ (store_access_allowed (m_pair s pointer) byte u) tt
+
+  flash_allowed : (d : ℕ) → is_held (e.table (m_pair s 30)) ≡ true → IsStepAllowed e (load_flash d s).stepped
+  flash_allowed d u = where_allowed (nat_lt (m_pair s 30) (length s.mem.flash)) _ _ u tt
+
+  flash_raised : (d : ℕ) → is_held (e.table (m_pair s 30)) ≡ true → IsStepAllowed e (load_flash_and_raise d s).stepped
+  flash_raised d u = where_allowed (nat_lt (m_pair s 30) (length s.mem.flash)) _ _ u tt
+
+  push_allowed : (byte : ℕ) → IsStepAllowed e (push byte s).stepped
+  push_allowed byte = where_allowed (is_sram s (stack_pointer s)) _ _ tt tt
+
+  pop_allowed : (d : ℕ) → IsStepAllowed e (pop d s).stepped
+  pop_allowed d = where_allowed (is_sram s (raised (stack_pointer s))) _ _ tt tt
+
+  pub call_allowed : (to back : ℕ) → IsStepAllowed e (call to back s).stepped
+  call_allowed to back = where_allowed (is_sram s (stack_pointer s) && is_sram s (lowered (stack_pointer s))) _ _ tt tt
+
+  pub return_allowed : IsStepAllowed e (return_from_call s).stepped
+  return_allowed =
+      where_allowed (is_sram s (raised (stack_pointer s)) && is_sram s (raised (raised (stack_pointer s)))) _ _ tt tt
+
+  -- ---- instructions
+
+  -- a pointer that the view shows
+  x_is : pair v.at 26 ≡ m_pair s 26
+  x_is = ap (λ f. pair f 26) h.at
+
+  y_is : pair v.at 28 ≡ m_pair s 28
+  y_is = ap (λ f. pair f 28) h.at
+
+  z_is : pair v.at 30 ≡ m_pair s 30
+  z_is = ap (λ f. pair f 30) h.at
+
+  abbrev Used : ℕ → Type 0
+  Used a = IsUsed (e.kind a)
+
+  loads : (d a : ℕ) → (load_by (e.kind a) d a v).safe ≡ true → Used a
+  loads d a safe = load_used (e.kind a) d a v safe
+
+  stores : (a x : ℕ) → (store_by (e.kind a) a x v).safe ≡ true → Used a
+  stores a x safe = store_used (e.kind a) a x v safe
+
+  reads_flash : (d : ℕ) → (flash_by (e.table (pair v.at 30)) d (pair v.at 30) (slice_index e.flash (pair v.at 30)) v).safe ≡ true
+      → is_held (e.table (m_pair s 30)) ≡ true
+  reads_flash d safe =
+      subst (λ n. is_held (e.table n) ≡ true) z_is
+      (flash_held (e.table (pair v.at 30)) d (pair v.at 30) (slice_index e.flash (pair v.at 30)) v safe)
+
+  pub change_allowed : (i : Instr) (answer : ℕ) → (change e i v).safe ≡ true → IsStepAllowed e (effect (Some i) answer s).stepped
+  unfolding effect
+  change_allowed (Lds d k) answer safe = load_allowed d k answer 2 (loads d k safe)
+  change_allowed (InInstr d a) answer safe = load_allowed d (a + 0x20) answer 1 (loads d (a + 0x20) safe)
+  change_allowed (LddZ d q) answer safe =
+      load_allowed d ((m_pair s 30 + q) % 65536) answer 1
+      (subst (λ n. Used ((n + q) % 65536)) z_is (loads d ((pair v.at 30 + q) % 65536) safe))
+  change_allowed (LddY d q) answer safe =
+      load_allowed d ((m_pair s 28 + q) % 65536) answer 1
+      (subst (λ n. Used ((n + q) % 65536)) y_is (loads d ((pair v.at 28 + q) % 65536) safe))
+  change_allowed (LdX d) answer safe = load_allowed d (m_pair s 26) answer 1 (subst Used x_is (loads d (pair v.at 26) safe))
+  change_allowed (LdXPlus d) answer safe = load_raised d 26 answer (subst Used x_is (loads d (pair v.at 26) safe))
+  change_allowed (LdZPlus d) answer safe = load_raised d 30 answer (subst Used z_is (loads d (pair v.at 30) safe))
+  change_allowed (Sts k r) answer safe = store_allowed k _ 2 (stores k (v.at r) safe)
+  change_allowed (OutInstr a r) answer safe = store_allowed (a + 0x20) _ 1 (stores (a + 0x20) (v.at r) safe)
+  change_allowed (StdZ q r) answer safe =
+      store_allowed ((m_pair s 30 + q) % 65536) _ 1
+      (subst (λ n. Used ((n + q) % 65536)) z_is (stores ((pair v.at 30 + q) % 65536) (v.at r) safe))
+  change_allowed (StdY q r) answer safe =
+      store_allowed ((m_pair s 28 + q) % 65536) _ 1
+      (subst (λ n. Used ((n + q) % 65536)) y_is (stores ((pair v.at 28 + q) % 65536) (v.at r) safe))
+  change_allowed (StX r) answer safe = store_allowed (m_pair s 26) _ 1 (subst Used x_is (stores (pair v.at 26) (v.at r) safe))
+  change_allowed (StXPlus r) answer safe = store_raised 26 _ (subst Used x_is (stores (pair v.at 26) (v.at r) safe))
+  change_allowed (StZPlus r) answer safe = store_raised 30 _ (subst Used z_is (stores (pair v.at 30) (v.at r) safe))
+  change_allowed (LpmZ d) answer safe = flash_allowed d (reads_flash d safe)
+  change_allowed (LpmZPlus d) answer safe = flash_raised d (reads_flash d safe)
+  change_allowed (Push r) answer safe = push_allowed _
+  change_allowed (Pop d) answer safe = pop_allowed d
+  change_allowed (LdMinusZ d) answer safe = absurd (false≢true safe)
+  change_allowed (LdYPlus d) answer safe = absurd (false≢true safe)
+  change_allowed (LdMinusY d) answer safe = absurd (false≢true safe)
+  change_allowed (LdMinusX d) answer safe = absurd (false≢true safe)
+  change_allowed (StMinusZ r) answer safe = absurd (false≢true safe)
+  change_allowed (StYPlus r) answer safe = absurd (false≢true safe)
+  change_allowed (StMinusY r) answer safe = absurd (false≢true safe)
+  change_allowed (StMinusX r) answer safe = absurd (false≢true safe)
+  change_allowed (Call k) answer safe = call_allowed _ _
+  change_allowed (Rcall k) answer safe = call_allowed _ _
+  change_allowed Icall answer safe = call_allowed _ _
+  change_allowed Ret answer safe = return_allowed
+  change_allowed _ answer safe = tt

@@ -1,0 +1,6 @@
+mod Noted
+mod Shortened
+mod Passes
+mod Words
+mod Valid
+mod Stands

@@ -1,2 +1,0 @@
--- The definitions of instructions for bytes of numbers.
-pub mod Bytes

@@ -1,2 +1,0 @@
--- The definitions of data addresses.
-pub mod Addresses

@@ -1,0 +1,337 @@
+-- What a machine shows from its reset on.
+use Rattle.std.proofs.Common.{◌<◌, true, ◌≡◌, ◌≢◌, ◌⊎◌, inl, inr, ⊎_elim, ℕ, zero, suc, ◌+◌, ◌-◌, ◌≤◌, ℤ, List, [], ◌∷◌}
+use Rattle.std.proofs.Common.{◌++◌, append_assoc, append-nil, refl, sym, ap, ◌∙◌, subst, arith}
+use Rattle.std.specs.Prelude.{IsTrue, slice_index}
+use Rattle.std.proofs.lemmas.Bool.{leb-true, cases_lt}
+use Rattle.ec_runs.specs.Behaviours.{Behaviour, Running as GoesOn, Ended as Ends, Failed, BeginWith, Continues}
+use Rattle.ec_runs.specs.Behaviours.{Reached, IsWithin, seen_as}
+use Rattle.ec_runs.proofs.Runs.{begin_onward}
+use Rattle.ec_space.specs.declared.space.Bank.{Bank}
+use Rattle.ec_space.specs.declared.space.Bank.TheVariants.{Flash as FlashBank, Data as DataBank}
+use Rattle.ec_avr.specs.declared.machine.Access.{Access}
+use Rattle.ec_avr.specs.declared.machine.Access.TheVariants.{Silent, In, Out, Read, Write, Stack}
+use Rattle.ec_avr.specs.Inputs.{trace_of}
+use Rattle.ec_avr.specs.Laws.{MachineIsRun}
+use Rattle.ec_avr.specs.Machine.{State, Inputs, Run, Running, EndedWith, FaultedAt, preceded, machine}
+use Rattle.ec_avr.specs.Runs.{preceded_by, behaviour_of}
+use Rattle.ec_asm.specs.Behaves.{noted_run}
+use Rattle.ec_asm.specs.Change.{Env, Kind, Own, Object, Port, Stacked, Barred}
+use Rattle.ec_asm.specs.Shows.{Fits, if_object, noted_all}
+use Rattle.ec_core.specs.Laws.{MoreTurnsOnlyAdd}
+use Rattle.ec_core.specs.Meaning.{source, work}
+use Rattle.ec_core.specs.Plain.{PlainProgram}
+use Rattle.ec_core.specs.PortTable.{plain_table}
+use Rattle.ec_core.specs.State.{Event}
+use Rattle.ec_core.specs.declared.values.Undefined.{Undefined}
+use Rattle.ec_lower_code.specs.Code.{lowered}
+use Rattle.ec_map.specs.declared.map.Map.{Map}
+use Rattle.ec_locate.specs.declared.placing.Located.{Located}
+use Rattle.ec_select_functions.specs.Relation.{event_accesses, accesses}
+use Rattle.ec_select_startup.specs.declared.spans.Span.{Span}
+use Rattle.ec_select_startup.specs.Laws.{accesses as copies_of, all_accesses, source as source_of, target}
+use Rattle.ec_select.specs.Program.{spans_of}
+use Rattle.ec_avr.specs.Placed.{stack_bytes}
+use Rattle.ec_asm.specs.Laws.{StackStaysInside}
+use Rattle.ec_asm.specs.Run.{Running as AtWord, run, is_safe}
+use Rattle.ec_map.specs.Regions.{end_of}
+use Rattle.ec_select_functions.specs.Laws.{HoldsUnlessFailed}
+use Rattle.std.specs.Prelude.{All}
+use Rattle.std.proofs.lemmas.List.Elements.{All-weaker}
+use Rattle.ec_build_laws.proofs.Guarded.{GuardLaws, are_kinds}
+use Rattle.ec_build_laws.specs.Kinds.{placed, place_of}
+use Rattle.ec_build_laws.specs.Runs.{start_steps, is_within_work, RunsAsSource, ImagesRunAsSources}
+use Rattle.ec_build_laws.specs.Shown.{ports_of, ShowsFirst, PushesInRegion, Comes, IsWithinSource}
+use Rattle.ec_build_laws.specs.Shown.{ImagesShowTheirSources}
+
+-- ---- lists of accesses
+
+accesses-append : (p : PlainProgram) (place : ℕ → ℕ) (a b : List Event) → accesses p place (a ++ b)
+    ≡ accesses p place a ++ accesses p place b
+accesses-append p place [] b = refl
+accesses-append p place (x ∷ a) b =
+    ap (λ z. event_accesses p place x ++ z) (accesses-append p place a b)
+    ∙ sym (append_assoc (event_accesses p place x) (accesses p place a) (accesses p place b))
+
+keeps : (p : PlainProgram) (place : ℕ → ℕ) (es fs : List Event) → BeginWith es fs → BeginWith (accesses p place es) (accesses p place fs)
+keeps p place es fs h = record { added = accesses p place h.added; is = ap (accesses p place) h.is ∙ accesses-append p place es h.added }
+
+-- ---- ports
+
+ports-append : (a b : List Access) → ports_of (a ++ b) ≡ ports_of a ++ ports_of b
+ports-append [] b = refl
+ports-append (Silent ∷ a) b = ports-append a b
+ports-append (In port byte ∷ a) b = ap (λ z. In port byte ∷ z) (ports-append a b)
+ports-append (Out port byte ∷ a) b = ap (λ z. Out port byte ∷ z) (ports-append a b)
+ports-append (Read bank at byte ∷ a) b = ports-append a b
+ports-append (Write at byte ∷ a) b = ports-append a b
+ports-append (Stack ∷ a) b = ports-append a b
+
+-- the accesses of ports are all noted
+read_is_none : (k : Kind) (at byte : ℕ) (bank : Bank) → ports_of (if_object k (Read bank at byte)) ≡ []
+read_is_none Own at byte bank = refl
+read_is_none Object at byte bank = refl
+read_is_none Port at byte bank = refl
+read_is_none Stacked at byte bank = refl
+read_is_none Barred at byte bank = refl
+
+write_is_none : (k : Kind) (at byte : ℕ) → ports_of (if_object k (Write at byte)) ≡ []
+write_is_none Own at byte = refl
+write_is_none Object at byte = refl
+write_is_none Port at byte = refl
+write_is_none Stacked at byte = refl
+write_is_none Barred at byte = refl
+
+behind_none : (a b c : List Access) → ports_of a ≡ [] → ports_of b ≡ ports_of c → ports_of (a ++ b) ≡ ports_of c
+behind_none a b c h r = ports-append a b ∙ ap (λ z. z ++ ports_of b) h ∙ r
+
+ports_noted : (e : Env) (trace : List Access) → ports_of (noted_all e trace) ≡ ports_of trace
+ports_noted e [] = refl
+ports_noted e (Silent ∷ trace) = ports_noted e trace
+ports_noted e (In port byte ∷ trace) = ap (λ z. In port byte ∷ z) (ports_noted e trace)
+ports_noted e (Out port byte ∷ trace) = ap (λ z. Out port byte ∷ z) (ports_noted e trace)
+ports_noted e (Read DataBank at byte ∷ trace) =
+    behind_none (if_object (e.kind at) (Read DataBank at byte)) (noted_all e trace) trace (read_is_none (e.kind at) at byte DataBank)
+    (ports_noted e trace)
+ports_noted e (Read FlashBank at byte ∷ trace) =
+    behind_none (if_object (e.table at) (Read FlashBank at byte)) (noted_all e trace) trace (read_is_none (e.table at) at byte FlashBank)
+    (ports_noted e trace)
+ports_noted e (Write at byte ∷ trace) =
+    behind_none (if_object (e.kind at) (Write at byte)) (noted_all e trace) trace (write_is_none (e.kind at) at byte) (ports_noted e trace)
+ports_noted e (Stack ∷ trace) = ports_noted e trace
+
+-- copies are none
+copies_are_none : (e : Env) (from to n : ℕ) → ports_of (copies_of e from to n) ≡ []
+copies_are_none e from to zero = refl
+copies_are_none e from to (suc n) =
+    ports-append (copies_of e from to n)
+    (Read FlashBank (from + n) (slice_index e.flash (from + n)) ∷ Write (to + n) (slice_index e.flash (from + n)) ∷ [])
+    ∙ ap (λ z. z ++ []) (copies_are_none e from to n)
+
+all_are_none : (e : Env) (spans : List Span) → ports_of (all_accesses e spans) ≡ []
+all_are_none e [] = refl
+all_are_none e (s ∷ spans) =
+    ports-append (copies_of e (source_of e s) (target e s) s.bytes) (all_accesses e spans)
+    ∙ ap (λ z. z ++ ports_of (all_accesses e spans)) (copies_are_none e (source_of e s) (target e s) s.bytes) ∙ all_are_none e spans
+
+pub quiet : (e : Env) (trace : List Access) (spans : List Span) → noted_all e trace ≡ noted_all e (all_accesses e spans) → ports_of trace
+    ≡ []
+quiet e trace spans h =
+    sym (ports_noted e trace) ∙ ap ports_of h ∙ ports_noted e (all_accesses e spans) ∙ all_are_none e spans
+
+-- ---- runs behind accesses
+
+before_running : (start trace : List Access) (t : State) → preceded_by start (Running trace t) ≡ Running (start ++ trace) t
+before_running [] trace t = refl
+before_running (a ∷ start) trace t = ap (preceded a) (before_running start trace t)
+
+before_ended : (start trace : List Access) (result : ℤ) → preceded_by start (EndedWith trace result) ≡ EndedWith (start ++ trace) result
+before_ended [] trace result = refl
+before_ended (a ∷ start) trace result = ap (preceded a) (before_ended start trace result)
+
+-- ---- the whole
+
+-- where the source has a meaning after n turns, it has one after fewer
+abbrev pub HasMeaning : PlainProgram → Map → Inputs → ℕ → Type 0
+HasMeaning p m inputs n = (point : Undefined) → source p (plain_table m.io) inputs n ≢ Failed point
+
+pub meaning_before : MoreTurnsOnlyAdd → (p : PlainProgram) (m : Map) (inputs : Inputs) (j k : ℕ) → j ≤ k → HasMeaning p m inputs k
+    → HasMeaning p m inputs j
+meaning_before turns p m inputs j k less later point failed =
+    later point (by_shown (source p (plain_table m.io) inputs j) failed (turns p (plain_table m.io) inputs j k less)) where
+      by_shown : (b : Behaviour Event ℤ Undefined) → b ≡ Failed point → Continues b (source p (plain_table m.io) inputs k)
+          → source p (plain_table m.io) inputs k ≡ Failed point
+      by_shown (Failed other) q c = c ∙ q
+      by_shown (GoesOn es) q c = absurd cc
+      by_shown (Ends es result) q c = absurd cc
+
+-- a run is seen in one way as in another where its trace is
+seen_alike : (f g : List Access → List Access) (run : Run) → f (trace_of run) ≡ g (trace_of run) → seen_as f (behaviour_of run)
+    ≡ seen_as g (behaviour_of run)
+seen_alike f g (Running trace t) h = ap GoesOn h
+seen_alike f g (EndedWith trace result) h = ap (λ es. Ends es result) h
+seen_alike f g (FaultedAt trace kind pc) h = refl
+
+-- What is left of a trace is what is noted of it, after each number of steps that is `known` to be so
+module _ (p : PlainProgram) (m : Map) (l : Located) (e : Env) (s : State) (inputs : Inputs) (r : RunsAsSource p m l e s inputs)
+    (left : List Access → List Access) (known : ℕ → Type 0)
+    (alike : (k : ℕ) → known k → noted_all e (trace_of (machine k inputs r.main)) ≡ left (trace_of (machine k inputs r.main))) where
+  abbrev shown : ℕ → Behaviour Event ℤ Undefined
+  shown n = source p (plain_table m.io) inputs n
+
+  abbrev acc : List Event → List Access
+  acc es = accesses p (place_of l) es
+
+  -- ---- each part is reached
+
+  abbrev most : ℕ → ℕ
+  most n = start_steps p + work p (plain_table m.io) inputs n
+
+  bound : (n k : ℕ) → IsTrue (is_within_work p m.io inputs n k) → r.steps + k ≤ most n
+  bound n k h =
+      let w = work p (plain_table m.io) inputs n in
+      let a : k ≤ w = leb-true k w h in
+      let few = r.few in
+      omega (arith, a, few)
+
+  comes_on : (n k : ℕ) (es : List Event) (run : Run) → machine k inputs r.main ≡ run → IsTrue (is_within_work p m.io inputs n k) → n ≤ k
+      → seen_as left (behaviour_of run) ≡ GoesOn (acc es) → Comes p l left s inputs r.trace n (most n) (GoesOn es)
+  comes_on n k es (Running trace t) q w least h =
+      let same : left trace ≡ acc es = cc in
+      let there : machine (r.steps + k) inputs s ≡ Running (r.trace ++ trace) t =
+      r.on k ∙ ap (preceded_by r.trace) q ∙ before_running r.trace trace t in
+      (r.steps + k, r.trace ++ trace, t, bound n k w, omega (arith, least), there, record { after = trace; is = refl; shown = same })
+  comes_on n k es (EndedWith trace result) q w least h = absurd cc
+  comes_on n k es (FaultedAt trace kind pc) q w least h = absurd cc
+
+  comes_to_end : (n k : ℕ) (es : List Event) (result : ℤ) (run : Run) → machine k inputs r.main ≡ run
+      → IsTrue (is_within_work p m.io inputs n k)
+      → seen_as left (behaviour_of run) ≡ Ends (acc es) result → Comes p l left s inputs r.trace n (most n) (Ends es result)
+  comes_to_end n k es result (Running trace t) q w h = absurd cc
+  comes_to_end n k es result (EndedWith trace other) q w h =
+      let same : left trace ≡ acc es = cc in
+      let told : other ≡ result = cc in
+      let there : machine (r.steps + k) inputs s ≡ EndedWith (r.trace ++ trace) other =
+      r.on k ∙ ap (preceded_by r.trace) q ∙ before_ended r.trace trace other in (
+        r.steps + k,
+        r.trace ++ trace,
+        bound n k w,
+        there
+            ∙ ap (λ z. EndedWith (r.trace ++ trace) z) told,
+        record { after = trace; is = refl; shown = same },
+      )
+  comes_to_end n k es result (FaultedAt trace kind pc) q w h = absurd cc
+
+  seen_left : (k : ℕ) → known k → noted_run e inputs r.main k ≡ seen_as left (behaviour_of (machine k inputs r.main))
+  seen_left k ok = seen_alike (noted_all e) left (machine k inputs r.main) (alike k ok)
+
+  pub reached : ((k : ℕ) → known k) → (n : ℕ) → Comes p l left s inputs r.trace n (most n) (shown n)
+  reached all n = by_shown (shown n) (r.reaches n) where
+    by_shown : (b : Behaviour Event ℤ Undefined)
+        → Reached (is_within_work p m.io inputs n) (noted_run e inputs r.main) n (seen_as (accesses p (place_of l)) b)
+        → Comes p l left s inputs r.trace n (most n) b
+    by_shown (GoesOn es) x = comes_on n x.0 es (machine x.0 inputs r.main) refl x.1 x.2 (sym (seen_left x.0 (all x.0)) ∙ x.3)
+    by_shown (Ends es result) x = comes_to_end n x.0 es result (machine x.0 inputs r.main) refl x.1 (sym (seen_left x.0 (all x.0)) ∙ x.2)
+    by_shown (Failed point) x = tt
+
+  -- ---- each step stays within the source
+
+  abbrev Within : Behaviour Event ℤ Undefined → Run → Type 0
+  Within b run = IsWithinSource p l left s inputs r.trace b run
+
+  first : (es fs : List Event) (trace : List Access) (t : State) → BeginWith es fs → BeginWith (left trace) (acc es)
+      → BeginWith (r.trace ++ trace) r.trace ⊎ ShowsFirst p l left r.trace fs (r.trace ++ trace)
+  first es fs trace t more w =
+      inr (record { after = trace; is = refl; shown = begin_onward (left trace) (acc es) (acc fs) w (keeps p (place_of l) es fs more) })
+
+  same_events : (es : List Event) → BeginWith es es
+  same_events es = record { added = []; is = sym (append-nil es) }
+
+  in_main : (b c : Behaviour Event ℤ Undefined) (run : Run) → Continues b c
+      → IsWithin (seen_as (accesses p (place_of l)) b) (seen_as left (behaviour_of run))
+      → Within c (preceded_by r.trace run)
+  in_main b (Failed point) run more w = tt
+  in_main (GoesOn es) (GoesOn fs) (Running trace t) more w =
+      subst (λ z. Within (GoesOn fs) z) (sym (before_running r.trace trace t)) (first es fs trace t more w)
+  in_main (GoesOn es) (GoesOn fs) (EndedWith trace result) more w = absurd w
+  in_main (GoesOn es) (GoesOn fs) (FaultedAt trace kind pc) more w = absurd w
+  in_main (GoesOn es) (Ends fs other) (Running trace t) more w =
+      subst (λ z. Within (Ends fs other) z) (sym (before_running r.trace trace t)) (first es fs trace t more w)
+  in_main (GoesOn es) (Ends fs other) (EndedWith trace result) more w = absurd w
+  in_main (GoesOn es) (Ends fs other) (FaultedAt trace kind pc) more w = absurd w
+  in_main (Ends es result) (GoesOn fs) run more w = absurd cc
+  in_main (Ends es result) (Ends fs other) (Running trace t) more w =
+      let same : fs ≡ es = cc in
+      subst (λ z. Within (Ends fs other) z) (sym (before_running r.trace trace t))
+      (first es fs trace t (subst (λ z. BeginWith es z) (sym same) (same_events es)) w)
+  in_main (Ends es result) (Ends fs other) (EndedWith trace told) more w =
+      let same : fs ≡ es = cc in
+      let number : other ≡ result = cc in
+      subst (λ z. Within (Ends fs other) z) (sym (before_ended r.trace trace told))
+      (record { after = trace; is = refl; shown = w.0 ∙ ap acc (sym same) }, w.1 ∙ sym number)
+  in_main (Ends es result) (Ends fs other) (FaultedAt trace kind pc) more w = absurd w
+  in_main (Failed point) (GoesOn fs) run more w = absurd cc
+  in_main (Failed point) (Ends fs other) run more w = absurd cc
+
+  before_main : (b : Behaviour Event ℤ Undefined) (run : Run) → Continues (behaviour_of run) (GoesOn r.trace) → Within b run
+  before_main (Failed point) run h = tt
+  before_main (GoesOn es) (Running trace t) h = inl h
+  before_main (GoesOn es) (EndedWith trace result) h = absurd cc
+  before_main (GoesOn es) (FaultedAt trace kind pc) h = absurd cc
+  before_main (Ends es other) (Running trace t) h = inl h
+  before_main (Ends es other) (EndedWith trace result) h = absurd cc
+  before_main (Ends es other) (FaultedAt trace kind pc) h = absurd cc
+
+  abbrev in_time : ℕ → ℕ
+  in_time k = k - r.steps
+
+  -- the steps in main
+  main_steps : MoreTurnsOnlyAdd → (k : ℕ) → r.steps ≤ k → known (in_time k) → Within (shown k) (machine k inputs s)
+  main_steps turns k late ok =
+      let sum : r.steps + in_time k ≡ k = omega (arith, late) in
+      let more = turns p (plain_table m.io) inputs (in_time k) k (omega arith) in
+      let stays : IsWithin (seen_as acc (shown (in_time k))) (seen_as left (behaviour_of (machine (in_time k) inputs r.main))) =
+      subst (λ b. IsWithin (seen_as acc (shown (in_time k))) b) (seen_left (in_time k) ok) (r.within (in_time k)) in
+      let at : machine k inputs s ≡ preceded_by r.trace (machine (in_time k) inputs r.main) =
+      ap (λ n. machine n inputs s) (sym sum) ∙ r.on (in_time k) in
+      subst (λ z. Within (shown k) z) (sym at) (in_main (shown (in_time k)) (shown k) (machine (in_time k) inputs r.main) more stays)
+
+  late_steps : MoreTurnsOnlyAdd → (k : ℕ) → r.steps ≤ k → (HasMeaning p m inputs k → known (in_time k)) → (b : Behaviour Event ℤ Undefined)
+      → shown k ≡ b
+      → Within (shown k) (machine k inputs s)
+  late_steps turns k late told (Failed point) q = subst (λ b. Within b (machine k inputs s)) (sym q) tt
+  late_steps turns k late told (GoesOn es) q =
+      main_steps turns k late (told (λ point z. let no : GoesOn es ≡ Failed point = sym q ∙ z in cc))
+  late_steps turns k late told (Ends es result) q =
+      main_steps turns k late (told (λ point z. let no : Ends es result ≡ Failed point = sym q ∙ z in cc))
+
+  pub within : MachineIsRun → MoreTurnsOnlyAdd → ((j k : ℕ) → j ≤ k → HasMeaning p m inputs k → known j) → (k : ℕ)
+      → Within (shown k) (machine k inputs s)
+  within is_run turns told k =
+      ⊎_elim
+      (λ early.
+      let c = is_run inputs s k r.steps (omega (arith, early)) in
+      before_main (shown k) (machine k inputs s) (subst (λ z. Continues (behaviour_of (machine k inputs s)) (behaviour_of z)) r.ran c))
+      (λ late. late_steps turns k late (told (in_time k) k (omega arith)) (shown k) refl)
+      (cases_lt k r.steps)
+
+-- ---- the stack
+
+module _ (p : PlainProgram) (m : Map) (l : Located) (e : Env) (s : State) (inputs : Inputs) (r : RunsAsSource p m l e s inputs) where
+  pub pushes : StackStaysInside → Fits e 2304 → ((a : ℕ) → e.kind a ≡ Stacked → (m.stack.first ≤ a) × (a < end_of m.stack))
+      → (k : ℕ) (trace : List Access) (t : State) → machine k inputs r.main ≡ Running trace t
+      → PushesInRegion m (source p (plain_table m.io) inputs (k + 1)) t
+  pushes inside fit told k trace t ran = by_shown (source p (plain_table m.io) inputs (k + 1)) (r.safe (k + 1)) where
+    in_region : is_safe (run e (k + 1) (AtWord r.main.pc r.view)) ≡ true
+        → All (λ at. (m.stack.first ≤ at) × (at < end_of m.stack)) (stack_bytes t)
+    in_region safe =
+        All-weaker (λ at. e.kind at ≡ Stacked) (λ at. (m.stack.first ≤ at) × (at < end_of m.stack)) told (stack_bytes t)
+        (inside e 2304 (k + 1) k r.main t r.view trace fit r.shown safe (omega arith)
+        (subst (λ f. machine k f r.main ≡ Running trace t) (sym r.given) ran))
+
+    by_shown : (b : Behaviour Event ℤ Undefined) → HoldsUnlessFailed b (is_safe (run e (k + 1) (AtWord r.main.pc r.view)))
+        → PushesInRegion m b t
+    by_shown (Failed point) h = tt
+    by_shown (GoesOn es) h = in_region h
+    by_shown (Ends es result) h = in_region h
+
+-- ---- what is noted
+
+pub images_show_their_sources : ImagesRunAsSources → MachineIsRun → MoreTurnsOnlyAdd → GuardLaws → StackStaysInside → ImagesShowTheirSources
+images_show_their_sources runs is_run turns laws inside p m asm l s inputs h reset give =
+    let e = placed p m asm l in
+    let r = runs p m asm l s inputs h reset give in
+    record {
+      view = r.view;
+      shown = r.shown;
+      initials = r.initials;
+      stack = pushes p m l e s inputs r inside (laws.fit p m asm l h.located h.bytes) (λ a q. (are_kinds laws p m asm l h).stack_told a q);
+      steps = r.steps;
+      few = r.few;
+      start = r.trace;
+      main = r.main;
+      ran = r.ran;
+      copies = r.seen;
+      quiet = quiet e r.trace (spans_of (lowered p (plain_table m.io))) r.seen;
+      reached = reached p m l e s inputs r (noted_all e) (λ k. Unit {0}) (λ k ok. refl) (λ k. tt);
+      within = within p m l e s inputs r (noted_all e) (λ k. Unit {0}) (λ k ok. refl) is_run turns (λ j k less later. tt);
+    }

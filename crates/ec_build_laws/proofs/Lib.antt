@@ -1,0 +1,15 @@
+mod ByAddress
+mod Numbers
+mod Pointers
+mod Rows
+mod Laid
+mod Ports
+mod Ran
+mod FromReset
+mod Guarded
+mod Watched
+mod Kept
+mod Copied
+mod Writes
+mod Whole
+mod Suited

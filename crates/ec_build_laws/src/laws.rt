@@ -1,0 +1,134 @@
+//! The law of lowered programs: the function proves it, and does nothing.
+ghost use Rattle.ec_build_laws.specs.Laws.{KindsAreTold, KindsFit, PlacedAreLaidOut};
+ghost use Rattle.ec_build_laws.specs.Runs.{ImagesRun, ImagesRunAsSources};
+ghost use Rattle.ec_build_laws.specs.Shown.{ImagesShowTheirSources};
+ghost use Rattle.ec_build_laws.specs.Spaces.{NotedAreOfObjects, EventsStayInSpaces};
+ghost use Rattle.ec_build_laws.specs.Whole.{ProgramsShowTheirSources};
+ghost use Rattle.ec_build_laws.specs.Laws.{LoweredProgramsHaveCode};
+
+use ec_asm::laws::{placed_items_stand, stack_stays_inside};
+use ec_asm_accesses::accesses_are_allowed;
+use ec_avr::runs_are_steps;
+use ec_core::{events_are_at_home, more_turns_only_add, runs_by_steps};
+use ec_core_ports::{port_bytes_pass, sources_access_ports};
+use ec_locate::{
+    code_stands, data_stands_apart, flash_stands_apart, initial_values_stand, placed_stand_apart,
+};
+use ec_lower_code::{lowered_follows, lowered_is_made_of_its_program, operations_stay_on_ports};
+use ec_select::{operations_have_code, selections_are_valid, selections_run};
+
+/// What stands at each data address of a placed program: registers, scratch memory and work bytes are code's own, the
+/// bytes of region `stack` are the stack's, and the bytes of objects are told to be such. No other bytes are told to be
+/// any of these. All of it suits the data addresses and the flash of the core `small`.
+pub fn kinds_are_told()
+    ensures told { KindsAreTold }
+    ensures fit { KindsFit }
+{
+    data_stands_apart();
+}
+
+/// The code of a placed program, its objects and its stack stand as the code asks.
+pub fn placed_are_laid_out()
+    ensures { PlacedAreLaidOut }
+{
+    code_stands();
+    data_stands_apart();
+    flash_stands_apart();
+    initial_values_stand();
+    lowered_is_made_of_its_program();
+    placed_items_stand();
+    placed_stand_apart();
+    selections_are_valid();
+}
+
+/// From every reset state a placed program does what its operations do: the machine comes to where `main` begins, and
+/// from there on shows all that the operations do, within the steps that they may take, and never more, as long as they
+/// access none but ports of the machine.
+pub fn images_run()
+    ensures { ImagesRun }
+{
+    kinds_are_told();
+    placed_are_laid_out();
+    lowered_is_made_of_its_program();
+    selections_run();
+}
+
+/// From every reset state a placed program does what its source does: from `main` on the machine shows all that the
+/// source shows, within its work, and never more.
+pub fn images_run_as_sources()
+    ensures { ImagesRunAsSources }
+{
+    images_run();
+    kinds_are_told();
+    lowered_follows();
+    lowered_is_made_of_its_program();
+    port_bytes_pass();
+    runs_are_steps();
+    selections_are_valid();
+    sources_access_ports();
+}
+
+/// From every reset state the machine of a placed program makes a few steps before `main`, with no access of a port.
+/// Then it comes to each part of what the source shows, within its work, and each of its steps stays within the source;
+/// what it pushes and pops are bytes of region `stack`.
+pub fn images_show_their_sources()
+    ensures { ImagesShowTheirSources }
+{
+    images_run_as_sources();
+    kinds_are_told();
+    lowered_is_made_of_its_program();
+    more_turns_only_add();
+    runs_are_steps();
+    selections_are_valid();
+    stack_stays_inside();
+}
+
+/// Each access that is noted of the machine is one of a port, or of a byte of an object in the bank where that is kept.
+/// The accesses of an event are those of the bytes of its leaf, and the home of its object is in its space.
+pub fn accesses_stay_in_spaces()
+    ensures noted { NotedAreOfObjects }
+    ensures events { EventsStayInSpaces }
+{
+    kinds_are_told();
+    lowered_is_made_of_its_program();
+    selections_are_valid();
+    events_are_at_home();
+}
+
+/// From every reset state the machine of a placed program makes a few steps before `main`, which copy the initial bytes
+/// and access no port. From there on all that is kept of its trace, where code's scratch memory and work bytes and what
+/// is pushed and popped count for nothing, is what the source shows: each part of it is reached within its work, and
+/// each step stays within it. Each of these accesses is of a byte of its event's object, in the bank that is its home,
+/// and the object is live there.
+pub fn programs_show_their_sources()
+    ensures { ProgramsShowTheirSources }
+{
+    accesses_are_allowed();
+    code_stands();
+    data_stands_apart();
+    events_are_at_home();
+    flash_stands_apart();
+    initial_values_stand();
+    lowered_follows();
+    lowered_is_made_of_its_program();
+    more_turns_only_add();
+    placed_items_stand();
+    placed_stand_apart();
+    port_bytes_pass();
+    runs_are_steps();
+    runs_by_steps();
+    selections_are_valid();
+    selections_run();
+    sources_access_ports();
+    stack_stays_inside();
+}
+
+/// The operations of a valid program have code, and put the result of a bitwise operator to the place of its first
+/// operand. Then `ec_select::select` can be called with them.
+pub fn lowered_programs_have_code()
+    ensures { LoweredProgramsHaveCode }
+{
+    lowered_is_made_of_its_program();
+    operations_stay_on_ports();
+    operations_have_code();
+}

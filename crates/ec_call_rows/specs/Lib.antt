@@ -1,2 +1,0 @@
--- The definition of rows of calls.
-pub mod Rows

@@ -1,0 +1,6 @@
+-- Lemmas about the test.
+mod Weights
+mod Runs
+mod Forms
+mod Types
+mod Tests

@@ -1,0 +1,8 @@
+-- Lemmas about declarations.
+-- For the crates of the family.
+pub mod Lifted
+pub mod Types
+pub mod Structs
+-- For this crate alone.
+mod Lists
+mod Sized

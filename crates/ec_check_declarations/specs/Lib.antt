@@ -1,0 +1,10 @@
+-- The definitions that the contracts of declarations cite.
+pub mod Sites
+pub mod Scopes
+pub mod ObjectTypes
+pub mod Declarators
+pub mod Params
+pub mod Functions
+pub mod Structures
+pub mod Registers
+pub mod Mains

@@ -1,0 +1,6 @@
+-- For the crates of the family.
+pub mod Sizes
+-- For this crate alone.
+mod Lengths
+mod Walks
+mod ArgumentLists

@@ -1,0 +1,15 @@
+-- For the crates of the family.
+pub mod Members
+pub mod ValidOperands
+-- For this crate alone.
+mod PlainCalls
+mod Decided
+mod Rules
+mod ValidNumbers
+mod ValidOperations
+mod ValidForms
+mod ValidChoices
+mod FormsValid
+mod Meanings
+mod MembersMeant
+mod Sizes

@@ -1,0 +1,10 @@
+-- For the crates of the family.
+pub mod Naming
+-- For this crate alone.
+mod NameWalks
+mod Tabled
+mod Numbered
+mod Walks
+mod Alike
+mod Finding
+mod Samples

@@ -1,0 +1,14 @@
+pub mod Qualifiers
+pub mod Tables
+pub mod Names
+pub mod Laws
+pub mod Words
+pub mod Firsts
+pub mod Tags
+pub mod Specifiers
+pub mod Stars
+pub mod Linkage
+pub mod Counts
+pub mod Definitions
+pub mod Structs
+pub mod Spellings

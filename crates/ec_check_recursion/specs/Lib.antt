@@ -1,0 +1,3 @@
+pub mod Rows
+pub mod Boxed
+pub mod Recursion

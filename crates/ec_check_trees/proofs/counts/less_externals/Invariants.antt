@@ -1,0 +1,8 @@
+use Rattle.std.proofs.Common.{◌≡◌, ◌-◌, drop, map}
+use Rattle.ec_grammar.specs.Views.{view_external}
+use Rattle.ec_check_trees.specs.Counts.{objects_in_externals}
+use Rattle.ec_check_trees.proofs.counts.less_externals.Given as goal
+
+abbrev pub invariant-loop-external : goal.invariant-loop-external
+invariant-loop-external l = l.rest - objects_in_externals (map view_external (drop l.external-index l.externals))
+    ≡ l.left - objects_in_externals (map view_external l.externals)

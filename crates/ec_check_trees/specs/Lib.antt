@@ -1,0 +1,4 @@
+-- The definitions of what is told from a tree alone.
+pub mod Forms
+pub mod Firsts
+pub mod Counts

@@ -1,0 +1,107 @@
+-- What `build` promises of the text that it wrote, and when each other answer comes.
+use Rattle.std.specs.Prelude.{ℕ, ◌≤◌, ◌<◌, ◌≡◌, ◌⊎◌, true, false, List, take, length, Option, Some, None, IsSomeAnd, ⊤}
+use Rattle.std.specs.FinMap.{remove}
+use Rattle.ec_io.specs.Causes.{Rose}
+use Rattle.ec_io.specs.Disk.{Files, Disk, content}
+use Rattle.ec_io.specs.Views.{StoreView}
+use Rattle.ec_hex.specs.Denotes.{Denotes}
+use Rattle.ec_hex.specs.Text.{image_text}
+use Rattle.ec_build.specs.Builds.{IsBuilt}
+use Rattle.ec_build.specs.Causes.{HasCause}
+use Rattle.ec_build.specs.Accepted.{IsAccepted}
+use Rattle.ec_build.specs.declared.building.Built.{Built}
+use Rattle.ec_build.specs.declared.stop.BuildStop.{BuildStop}
+use Rattle.ec_commands.specs.Shown.{Told, KeepsAll, Holds}
+use Rattle.ec_commands.specs.Words.{Words, is_build, IsBuild, out_name, words_from}
+use Rattle.ec_commands.specs.declared.stop.Limit.TheVariants.{Sources}
+use Rattle.ec_commands.specs.declared.stop.CommandError.TheVariants.{Usage, CannotWrite, TooMany}
+use Rattle.ec_commands_compile.specs.Inputs.{AreInputs, StopsReadingBuild}
+use Rattle.ec_commands_compile.specs.declared.stop.CompileStop.{CompileStop}
+use Rattle.ec_commands_compile.specs.declared.stop.CompileStop.TheVariants.{Command, Build}
+
+-- ---- what is built
+
+-- the program of the named sources, placed by the named map
+pub record IsBuiltFrom (words : Words) (first : ℕ) (b : Built) (files : Files) : Type 0 where
+  pub map : List ℕ
+  pub sources : List (List ℕ)
+  pub inputs : AreInputs words first map sources files
+  pub built : IsBuilt sources map b
+
+-- OUT holds a HEX text that denotes the image of a program, which is that of the named sources, placed by the named
+-- map, and which from every reset state does what they say; and all other files are as before
+pub record IsBuiltTo (words : Words) (old new : Disk) : Type 0 where
+  pub built : Built
+  pub from : IsBuiltFrom words 3 built old.files
+  pub denotes : Denotes built.located.image.core (content new.files (out_name words)) built.located.image.bytes.items
+      built.located.image.written.items
+  pub others : remove new.files (out_name words) ≡ remove old.files (out_name words)
+
+-- where the store told its files, it tells what was built
+abbrev pub Builds : Words → Option Disk → Option Disk → Type 0
+Builds words None new = ⊤
+Builds words (Some old) new = IsSomeAnd new (IsBuiltTo words old)
+
+-- ---- when each answer other than 0 comes; none but out of memory comes where an earlier one has its cause
+
+-- the map and the sources are refused for this
+abbrev pub RefusesBuild : List (List ℕ) → List ℕ → CompileStop → Type 0
+RefusesBuild sources map (Command stop) = ⊥
+RefusesBuild sources map (Build stop) = HasCause sources map stop
+
+-- so are those that the words name
+pub record IsRefusedFor (words : Words) (first : ℕ) (stop : BuildStop) (files : Files) : Type 0 where
+  pub map : List ℕ
+  pub sources : List (List ℕ)
+  pub inputs : AreInputs words first map sources files
+  pub cause : HasCause sources map stop
+
+-- there is an image
+abbrev pub HasImage : Words → ℕ → Files → Type 0
+HasImage words first files = (b : Built) × IsBuiltFrom words first b files
+
+abbrev pub BuildCause : Words → StoreView → StoreView → CompileStop → Type 0
+BuildCause words old new (Command Usage) = is_build words ≡ false
+BuildCause words old new (Command (TooMany Sources)) = (is_build words ≡ true) × (16 < words_from words 3)
+BuildCause words old new (Command CannotWrite) =
+    IsBuild words × Rose old.write_faults new.write_faults × Told (HasImage words 3) old.disk
+BuildCause words old new (Command stop) = IsBuild words × StopsReadingBuild words old new stop
+BuildCause words old new (Build stop) = IsBuild words × Told (IsRefusedFor words 3 stop) old.disk
+
+-- OUT holds a prefix of the HEX text of the image, and all other files are as at entry
+abbrev pub HoldsPrefix : Words → Disk → Disk → Type 0
+HoldsPrefix words old new =
+    (b : Built) × (IsBuiltFrom words 3 b old.files
+    × ((n : ℕ) × Holds (out_name words) (take n (image_text b.located.image)) old new))
+
+-- what a failed creation or a failed write leaves, where the store told its files
+abbrev pub LeavesPrefix : Words → Option Disk → Option Disk → Type 0
+LeavesPrefix words None new = ⊤
+LeavesPrefix words (Some old) new = IsSomeAnd new (λ now. (now.files ≡ old.files) ⊎ HoldsPrefix words old now)
+
+-- the files after each answer other than 0
+abbrev pub LeavesFiles : Words → Option Disk → Option Disk → CompileStop → Type 0
+LeavesFiles words old new (Command CannotWrite) = LeavesPrefix words old new
+LeavesFiles words old new _ = KeepsAll old new
+
+pub record BuildStops (words : Words) (old new : StoreView) (stop : CompileStop) : Type 0 where
+  pub cause : BuildCause words old new stop
+  pub files : LeavesFiles words old.disk new.disk stop
+
+-- ---- what is accepted
+
+-- the named map and sources are within their limits, and nothing stands against them
+pub record AreAccepted (words : Words) (first : ℕ) (files : Files) : Type 0 where
+  pub map : List ℕ
+  pub sources : List (List ℕ)
+  pub inputs : AreInputs words first map sources files
+  pub accepted : IsAccepted sources map
+
+-- the store told its files, and they are accepted
+abbrev pub Accepts : Words → ℕ → Option Disk → Type 0
+Accepts words first None = ⊥
+Accepts words first (Some disk) = AreAccepted words first disk.files
+
+-- each image that is built of the named files has a HEX text of at most so many bytes
+abbrev pub FitsText : Words → Option Disk → ℕ → Type 0
+FitsText words disk room = (b : Built) → Told (IsBuiltFrom words 3 b) disk → length (image_text b.located.image) ≤ room

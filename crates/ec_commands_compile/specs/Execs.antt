@@ -1,0 +1,126 @@
+-- What `exec` does: the run of what was built, what `out` receives of it, and when each stop comes.
+use Rattle.std.specs.Prelude.{ℕ, ◌≤◌, ◌<◌, ◌≡◌, ◌⊎◌, List, map, length, Option, Some, None}
+use Rattle.ec_space.specs.declared.Core.TheVariants.{Small}
+use Rattle.ec_io.specs.Causes.{Rose}
+use Rattle.ec_io.specs.Disk.{Files, Disk}
+use Rattle.ec_io.specs.Views.{StoreView, SinkCall}
+use Rattle.ec_avr.specs.declared.machine.Access.{Access}
+use Rattle.ec_avr.specs.Machine.{State, IsReset, reset_with}
+use Rattle.ec_emu.specs.declared.run.EmuReport.{EmuReport}
+use Rattle.ec_emu.specs.declared.script.ScriptLine.{ScriptLine}
+use Rattle.ec_emu.specs.Emulation.{IsRun as IsRunOf}
+use Rattle.ec_emu.specs.Script.{AreKept, entries, entry_of, forms_of}
+use Rattle.ec_emu.specs.Scripted.{IsScripted}
+use Rattle.ec_build.specs.Builds.{IsBuilt}
+use Rattle.ec_build.specs.Causes.{HasCause}
+use Rattle.ec_build.specs.declared.building.Built.{Built}
+use Rattle.ec_build.specs.declared.stop.BuildStop.{BuildStop}
+use Rattle.ec_commands.specs.Runs.{Gives, Shows, printed, HasScriptFault}
+use Rattle.ec_commands.specs.Shown.{Told}
+use Rattle.ec_commands.specs.Words.{Words, words_from}
+use Rattle.ec_commands.specs.declared.stop.Limit.TheVariants.{Sources}
+use Rattle.ec_commands.specs.declared.stop.CommandError.{CommandError}
+use Rattle.ec_commands.specs.declared.stop.CommandError.TheVariants.{TooMany, NoMemory, CannotWrite}
+use Rattle.ec_commands.specs.declared.stop.CommandError.TheVariants.{ScriptLine as BadScriptLine}
+use Rattle.ec_commands_compile.specs.Inputs.{AreExecInputs, StopsReadingExec}
+use Rattle.ec_commands_compile.specs.Builds.{AreAccepted}
+use Rattle.ec_commands_compile.specs.Kept.{KeepsSourceOf}
+use Rattle.ec_commands_compile.specs.declared.stop.CompileStop.{CompileStop}
+use Rattle.ec_commands_compile.specs.declared.stop.CompileStop.TheVariants.{Command, Build}
+
+-- ---- the run
+
+-- what was read, and built of it: the program of the sources, placed by the map
+pub record IsExecBuilt (words : Words) (disk : Option Disk) (lines : List ℕ) (b : Built) : Type 0 where
+  pub map : List ℕ
+  pub sources : List (List ℕ)
+  pub inputs : Told (AreExecInputs words map lines sources) disk
+  pub built : IsBuilt sources map b
+
+-- its machine is in the reset state with 165 everywhere, and the script says these answers
+pub record IsExecLoaded (words : Words) (disk : Option Disk) (machine : State) (answers : List ScriptLine) : Type 0
+  where
+    pub lines : List ℕ
+    pub built : Built
+    pub from : IsExecBuilt words disk lines built
+    pub reset : machine ≡ reset_with built.located.image.core built.located.image.bytes.items 165
+    pub is_reset : IsReset built.located.image.core built.located.image.bytes.items machine
+    pub kept : AreKept (forms_of Small lines)
+    pub scripted : map entry_of answers ≡ entries (forms_of Small lines)
+
+-- The run of it, with hooks that give such answers, and what was shown of it. Where the source is defined on inputs
+-- that begin with the bytes that were read, the run keeps it
+pub record Executed (words : Words) (steps : ℕ) (hooks : Gives) (disk : Option Disk) (out : SinkCall)
+    (stop : Option CommandError) : Type 0 where
+  pub machine : State
+  pub answers : List ScriptLine
+  pub loaded : IsExecLoaded words disk machine answers
+  pub after : State
+  pub report : EmuReport
+  pub trace : List Access
+  pub runs : IsRunOf (IsScripted hooks answers) steps machine after report trace
+  pub shows : Shows out.before out.after report.end trace stop
+  pub keeps : KeepsSourceOf loaded.built steps report.end trace
+
+-- the text that the run prints has at most so many bytes
+abbrev pub FitsExec : Words → ℕ → Gives → Option Disk → ℕ → Type 0
+FitsExec words steps hooks disk room =
+    (machine after : State) (answers : List ScriptLine) (report : EmuReport) (trace : List Access)
+    → IsExecLoaded words disk machine answers → IsRunOf (IsScripted hooks answers) steps machine after report trace
+    → length (printed report.end trace) ≤ room
+
+-- ---- when each answer other than 0 comes; none but out of memory comes where an earlier one has its cause
+
+-- the map and the sources that were read are refused for this
+pub record IsExecRefused (words : Words) (disk : Option Disk) (stop : BuildStop) : Type 0 where
+  pub map : List ℕ
+  pub lines : List ℕ
+  pub sources : List (List ℕ)
+  pub inputs : Told (AreExecInputs words map lines sources) disk
+  pub cause : HasCause sources map stop
+
+-- there is an image, and a line of the script is the first to break a rule
+pub record HasBadScript (words : Words) (disk : Option Disk) (stop : CommandError) : Type 0 where
+  pub lines : List ℕ
+  pub built : Built
+  pub from : IsExecBuilt words disk lines built
+  pub fault : HasScriptFault lines stop
+
+-- why nothing runs, where there are at most 16 sources
+abbrev pub StopsLoadingExec : Words → StoreView → StoreView → CompileStop → Type 0
+StopsLoadingExec words old new (Build stop) = IsExecRefused words old.disk stop
+StopsLoadingExec words old new (Command NoMemory) = Unit {0}
+StopsLoadingExec words old new (Command (BadScriptLine line rule)) =
+    HasBadScript words old.disk (BadScriptLine line rule)
+StopsLoadingExec words old new (Command stop) = StopsReadingExec words old new stop
+
+-- why nothing runs
+abbrev pub StopsBeforeRun : Words → StoreView → StoreView → CompileStop → Type 0
+StopsBeforeRun words old new (Command (TooMany Sources)) = 16 < words_from words 4
+StopsBeforeRun words old new stop = (words_from words 4 ≤ 16) × StopsLoadingExec words old new stop
+
+-- how a run that was made stops
+abbrev pub StopsExecuting : Words → ℕ → Gives → Option Disk → SinkCall → CompileStop → Type 0
+StopsExecuting words steps hooks disk out (Command stop) =
+    (words_from words 4 ≤ 16) × Executed words steps hooks disk out (Some stop)
+    × (stop ≡ CannotWrite → Rose out.faults_before out.faults_after)
+StopsExecuting words steps hooks disk out (Build stop) = ⊥
+
+-- `out` receives nothing before the run
+abbrev pub ExecStops : Words → ℕ → Gives → StoreView → StoreView → SinkCall → CompileStop → Type 0
+ExecStops words steps hooks old new out stop =
+    (StopsBeforeRun words old new stop × (out.after ≡ out.before)) ⊎ StopsExecuting words steps hooks old.disk out stop
+
+-- ---- what is accepted
+
+-- nothing stands against the named map and sources, and the script is within its limit and keeps the rules
+pub record AreExecAccepted (words : Words) (files : Files) : Type 0 where
+  pub build : AreAccepted words 4 files
+  pub lines : List ℕ
+  pub inputs : AreExecInputs words build.map lines build.sources files
+  pub kept : AreKept (forms_of Small lines)
+
+-- the store told its files, and they are accepted
+abbrev pub AcceptsExec : Words → Option Disk → Type 0
+AcceptsExec words None = ⊥
+AcceptsExec words (Some disk) = AreExecAccepted words disk.files

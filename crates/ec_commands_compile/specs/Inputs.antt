@@ -1,0 +1,65 @@
+-- The files that a build and an exec read, and what reading them does.
+use Rattle.std.specs.Prelude.{ℕ, ◌+◌, ◌≤◌, ◌≡◌, ◌⊎◌, List, ◌∷◌, length, All, Some, ⊤}
+use Rattle.std.specs.FinMap.{get}
+use Rattle.ec_io.specs.Causes.{Rose, Counted}
+use Rattle.ec_io.specs.Disk.{Files}
+use Rattle.ec_io.specs.Views.{StoreView}
+use Rattle.ec_commands.specs.Shown.{Told, IsWithin, IsPast, StopsReading}
+use Rattle.ec_commands.specs.Sources.{HoldTexts, StopsReadingSources}
+use Rattle.ec_commands.specs.Words.{Words, map_name, script_name, names_from}
+use Rattle.ec_commands.specs.declared.stop.Limit.TheVariants.{MapBytes, ScriptBytes}
+use Rattle.ec_commands.specs.declared.stop.CommandError.{CommandError}
+use Rattle.ec_commands.specs.declared.stop.CommandError.TheVariants.{CannotRead, TooMany, NoMemory}
+
+-- the named files hold this map and these sources, which are named from one word on, and are within their limits
+pub record AreInputs (words : Words) (first : ℕ) (map : List ℕ) (sources : List (List ℕ)) (files : Files) : Type 0 where
+  pub map_there : get files (map_name words) ≡ Some map
+  pub map_fits : length map ≤ 16384
+  pub sources_there : HoldTexts (names_from words first) sources files
+  pub sources_fit : All (λ text. length text ≤ 65536) sources
+
+-- the names of the files that a build reads
+abbrev pub build_inputs : Words → List (List ℕ)
+build_inputs words = map_name words ∷ names_from words 3
+
+-- the map is within its limit
+abbrev pub HasMap : Words → Files → Type 0
+HasMap words = IsWithin (map_name words) 16384
+
+-- why they are not read: the map is not, or is too long; or it is not, and a source is
+abbrev pub StopsReadingBuild : Words → StoreView → StoreView → CommandError → Type 0
+StopsReadingBuild words old new stop =
+    StopsReading words 1 MapBytes old new stop ⊎ StopsReadingSources words 3 (HasMap words) 16384 old new stop
+
+-- ---- exec
+
+-- the named files hold this map, this script and these sources, and are within their limits
+pub record AreExecInputs (words : Words) (map lines : List ℕ) (sources : List (List ℕ)) (files : Files) : Type 0 where
+  pub inputs : AreInputs words 4 map sources files
+  pub script_there : get files (script_name words) ≡ Some lines
+  pub script_fits : length lines ≤ 65536
+
+-- the names of the files that an exec reads
+abbrev pub exec_inputs : Words → List (List ℕ)
+exec_inputs words = map_name words ∷ script_name words ∷ names_from words 4
+
+-- the map and the script are within their limits
+pub record HasScript (words : Words) (files : Files) : Type 0 where
+  pub map : HasMap words files
+  pub script : IsWithin (script_name words) 65536 files
+
+-- the map was read, and the script is not, or is too long
+abbrev pub StopsReadingScript : Words → StoreView → StoreView → CommandError → Type 0
+StopsReadingScript words old new (CannotRead i) =
+    (i ≡ 2) × Rose old.read_faults new.read_faults × Told (HasMap words) old.disk
+StopsReadingScript words old new (TooMany ScriptBytes) =
+    Told (λ files. HasMap words files × IsPast (script_name words) 65536 files) old.disk
+    × ((n : ℕ) × ((n ≤ 16384) × Counted old.received new.received (n + (65536 + 1))))
+StopsReadingScript words old new NoMemory = ⊤
+StopsReadingScript words old new stop = ⊥
+
+-- why they are not read: the map is not; or it is, and the script is not; or both are, and a source is not
+abbrev pub StopsReadingExec : Words → StoreView → StoreView → CommandError → Type 0
+StopsReadingExec words old new stop =
+    StopsReading words 1 MapBytes old new stop ⊎ (StopsReadingScript words old new stop
+    ⊎ StopsReadingSources words 4 (HasScript words) 81920 old new stop)

@@ -1,0 +1,220 @@
+//! The command `exec`.
+ghost use Rattle.std.specs.Prelude.{◌≡◌, ◌≤◌, ◌<◌, ◌^◌, ◌⊎◌, ◌↔◌, ℕ, List, None, IfOk, IfErr, OnOk, IsErrOf};
+ghost use Rattle.std.specs.Prelude.{All, length, map};
+ghost use Rattle.ec_space.specs.declared.Core.TheVariants.{Small};
+ghost use Rattle.ec_io.specs.Causes.{Rose};
+ghost use Rattle.ec_io.specs.Views.{store_view, sink_call};
+ghost use Rattle.ec_avr.specs.Machine.{IsReset, reset_with};
+ghost use Rattle.ec_emu.specs.declared.ask.Ask.{Ask};
+ghost use Rattle.ec_emu.specs.Script.{AreKept, entries, entry_of, forms_of};
+ghost use Rattle.ec_commands.specs.Runs.{HasScriptFault};
+ghost use Rattle.ec_commands.specs.Shown.{KeepsAll, Told};
+ghost use Rattle.ec_commands.specs.Sources.{texts};
+ghost use Rattle.ec_commands.specs.Words.{words_from};
+ghost use Rattle.ec_commands.specs.declared.stop.Limit.TheVariants.{Sources};
+ghost use Rattle.ec_commands.specs.declared.stop.CommandError.TheVariants.{TooMany as TooManyStop};
+ghost use Rattle.ec_commands.specs.Answers.{IsLeft};
+ghost use Rattle.ec_commands_compile.specs.Inputs.{AreExecInputs, exec_inputs, StopsReadingExec};
+ghost use Rattle.ec_commands_compile.specs.Execs.{IsExecLoaded, Executed, FitsExec, StopsLoadingExec, ExecStops, AcceptsExec};
+ghost use Rattle.ec_commands_compile.specs.Stops.{status_of, IsNamed};
+ghost use Rattle.ec_commands_compile.specs.declared.stop.CompileStop.TheVariants.{Command};
+
+use crate::building::{Inputs, compile};
+use crate::stop::CompileStop;
+use ec_avr::Machine;
+use ec_build::{Built, discard};
+use ec_commands::{CommandError, Limit, Loaded, load_script, print_run, read, read_sources};
+use ec_emu::Ports;
+use ec_io::{Sink, Store};
+use ec_space::Seq;
+use std::alloc::Global;
+
+/// The byte that the registers and the memory of the machine hold at first.
+pub(crate) const FILL: u8 = 165;
+
+/// The texts of the map, of the sources and of the script.
+#[derive(Drop)]
+struct ExecInputs {
+    inputs: Inputs,
+    script: Seq<u8>,
+}
+
+/// Reads the map, the script and the sources of `exec MAP SCRIPT STEPS SRC...`.
+fn read_inputs<S: Store>(
+    alloc: Global,
+    words: &Vec<String>,
+    store: &mut S,
+) -> Result<ExecInputs, CommandError>
+    requires { 5 ≤ length words.now.items }
+    ensures files { KeepsAll (S.disk store.old) (S.disk store.new) }
+    ensures found { IfOk result (λ r. Told (AreExecInputs words.now.items r.inputs.map.items r.script.items
+        (texts r.inputs.sources.items)) (S.disk store.old)) }
+    ensures short { IfOk result (λ r. (length r.inputs.map.items ≤ 16384) × (length r.script.items ≤ 65536)
+        × All (λ text. length text ≤ 65536) (texts r.inputs.sources.items)) }
+    ensures many { IfOk result (λ r. length r.inputs.sources.items ≡ words_from words.now.items 4) }
+    ensures stopped { IfErr result (StopsReadingExec words.now.items
+        (store_view (S.disk store.old) (S.read_faults store.old) (S.write_faults store.old) (S.received store.old))
+        (store_view (S.disk store.new) (S.read_faults store.new) (S.write_faults store.new) (S.received store.new))) }
+    ensures later { S.read_faults store.old ≤ S.read_faults store.new }
+    ensures write_faults { S.write_faults store.new ≡ S.write_faults store.old }
+    ensures calm { (made : List ℕ) (room : ℕ) → S.calm store.old (exec_inputs words.now.items) made room
+        → S.read_faults store.new ≡ S.read_faults store.old }
+{
+    let map = match read(alloc, store, words, 1, Limit::MapBytes) {
+        Ok(map) => map,
+        Err(stop) => return Err(stop),
+    };
+    let script = match read(alloc, store, words, 2, Limit::ScriptBytes) {
+        Ok(script) => script,
+        Err(stop) => return Err(stop),
+    };
+    match read_sources(alloc, store, words, 4) {
+        Ok(sources) => Ok(ExecInputs {
+            inputs: Inputs { map, sources },
+            script,
+        }),
+        Err(stop) => Err(stop),
+    }
+}
+
+/// The machine with the image that was built, and the script that a text is.
+fn load_built(alloc: Global, built: &Built, script: &Seq<u8>) -> Result<Loaded, CommandError>
+    requires { length script.now.items < 2 ^ 32 }
+    ensures reset { IfOk result (λ r. r.machine
+        ≡ reset_with built.now.located.image.core built.now.located.image.bytes.items 165) }
+    ensures is_reset { IfOk result (λ r. IsReset built.now.located.image.core built.now.located.image.bytes.items
+        r.machine) }
+    ensures kept { IfOk result (λ _. AreKept (forms_of Small script.now.items)) }
+    ensures lines { IfOk result (λ r. map entry_of r.script.lines.items ≡ entries (forms_of Small script.now.items)) }
+    ensures stopped { IfErr result (λ stop. (stop ≡ CommandError.NoMemory) ⊎ HasScriptFault script.now.items stop) }
+{
+    let script = match load_script(alloc, script) {
+        Ok(script) => script,
+        Err(stop) => return Err(stop),
+    };
+    match Machine::boot(alloc, &built.located.image, FILL) {
+        Ok(machine) => Ok(Loaded { machine, script }),
+        Err(_) => Err(CommandError::NoMemory),
+    }
+}
+
+/// Reads what `exec MAP SCRIPT STEPS SRC...` names, builds the sources, and loads what was built.
+fn load<S: Store>(alloc: Global, words: &Vec<String>, store: &mut S) -> Result<Loaded, CompileStop>
+    requires five { 5 ≤ length words.now.items }
+    requires few { words_from words.now.items 4 ≤ 16 }
+    ensures files { KeepsAll (S.disk store.old) (S.disk store.new) }
+    ensures found { IfOk result (λ r. IsExecLoaded words.now.items (S.disk store.old) r.machine r.script.lines.items) }
+    ensures stopped { IfErr result (StopsLoadingExec words.now.items
+        (store_view (S.disk store.old) (S.read_faults store.old) (S.write_faults store.old) (S.received store.old))
+        (store_view (S.disk store.new) (S.read_faults store.new) (S.write_faults store.new) (S.received store.new))) }
+    ensures named { IfErr result (IsNamed words.now.items) }
+    ensures complete { AcceptsExec words.now.items (S.disk store.old)
+        → ¬ (Rose (S.read_faults store.old) (S.read_faults store.new))
+        → IfErr result (λ stop. status_of stop ≡ 11) }
+    ensures later { S.read_faults store.old ≤ S.read_faults store.new }
+    ensures write_faults { S.write_faults store.new ≡ S.write_faults store.old }
+    ensures calm { (made : List ℕ) (room : ℕ) → S.calm store.old (exec_inputs words.now.items) made room
+        → S.read_faults store.new ≡ S.read_faults store.old }
+{
+    let inputs = match read_inputs(alloc, words, store) {
+        Ok(inputs) => inputs,
+        Err(stop) => return Err(CompileStop::Command(stop)),
+    };
+    let built = match compile(alloc, &inputs.inputs) {
+        Ok(built) => built,
+        Err(stop) => return Err(stop),
+    };
+    let loaded = load_built(alloc, &built, &inputs.script);
+    discard(built);
+    match loaded {
+        Ok(loaded) => Ok(loaded),
+        Err(stop) => Err(CompileStop::Command(stop)),
+    }
+}
+
+/// Runs the image of at most 16 sources.
+fn exec_few<S: Store, O: Sink, H: Ports>(
+    alloc: Global,
+    words: &Vec<String>,
+    steps: u32,
+    store: &mut S,
+    out: &mut O,
+    hooks: &mut H,
+) -> Result<(), CompileStop>
+    requires five { 5 ≤ length words.now.items }
+    requires few { words_from words.now.items 4 ≤ 16 }
+    requires asked { H.can_ask hooks.old }
+    ensures files { KeepsAll (S.disk store.old) (S.disk store.new) }
+    ensures ran { OnOk result (Executed words.now.items steps (H.gives hooks.old) (S.disk store.old)
+        (sink_call (O.written out.old) (O.written out.new) (O.faults out.old) (O.faults out.new)) None) }
+    ensures stopped { IfErr result (ExecStops words.now.items steps (H.gives hooks.old)
+        (store_view (S.disk store.old) (S.read_faults store.old) (S.write_faults store.old) (S.received store.old))
+        (store_view (S.disk store.new) (S.read_faults store.new) (S.write_faults store.new) (S.received store.new))
+        (sink_call (O.written out.old) (O.written out.new) (O.faults out.old) (O.faults out.new))) }
+    ensures named { IfErr result (IsNamed words.now.items) }
+    ensures complete { AcceptsExec words.now.items (S.disk store.old)
+        → ¬ (Rose (S.read_faults store.old) (S.read_faults store.new))
+        → ¬ (Rose (O.faults out.old) (O.faults out.new))
+        → IfErr result (λ stop. IsLeft (status_of stop)) }
+    ensures later { (S.read_faults store.old ≤ S.read_faults store.new) × (O.faults out.old ≤ O.faults out.new) }
+    ensures write_faults { S.write_faults store.new ≡ S.write_faults store.old }
+    ensures calm { (made : List ℕ) (room : ℕ) → S.calm store.old (exec_inputs words.now.items) made room
+        → S.read_faults store.new ≡ S.read_faults store.old }
+    ensures out_calm { (room : ℕ) → O.calm out.old room
+        → FitsExec words.now.items steps (H.gives hooks.old) (S.disk store.old) room
+        → O.faults out.new ≡ O.faults out.old }
+    ensures rest { O.rest out.new ≡ O.rest out.old }
+    ensures can { H.can_ask hooks.new }
+    ensures stays { (ask : Ask) (byte : ℕ) → H.gives hooks.new ask byte ↔ H.gives hooks.old ask byte }
+{
+    let mut loaded = match load(alloc, words, store) {
+        Ok(loaded) => loaded,
+        Err(stop) => return Err(stop),
+    };
+    match print_run(&mut loaded, hooks, steps, out) {
+        Ok(()) => Ok(()),
+        Err(stop) => Err(CompileStop::Command(stop)),
+    }
+}
+
+/// Builds the sources that the words name, runs the image with a script, and prints each access of a port and the
+/// result.
+pub fn exec<S: Store, O: Sink, H: Ports>(
+    alloc: Global,
+    words: &Vec<String>,
+    steps: u32,
+    store: &mut S,
+    out: &mut O,
+    hooks: &mut H,
+) -> Result<(), CompileStop>
+    requires five { 5 ≤ length words.now.items }
+    requires asked { H.can_ask hooks.old }
+    ensures sources { 16 < words_from words.now.items 4 → IsErrOf result (Command (TooManyStop Sources)) }
+    ensures files { KeepsAll (S.disk store.old) (S.disk store.new) }
+    ensures ran { OnOk result (Executed words.now.items steps (H.gives hooks.old) (S.disk store.old)
+        (sink_call (O.written out.old) (O.written out.new) (O.faults out.old) (O.faults out.new)) None) }
+    ensures stopped { IfErr result (ExecStops words.now.items steps (H.gives hooks.old)
+        (store_view (S.disk store.old) (S.read_faults store.old) (S.write_faults store.old) (S.received store.old))
+        (store_view (S.disk store.new) (S.read_faults store.new) (S.write_faults store.new) (S.received store.new))
+        (sink_call (O.written out.old) (O.written out.new) (O.faults out.old) (O.faults out.new))) }
+    ensures named { IfErr result (IsNamed words.now.items) }
+    ensures complete { (words_from words.now.items 4 ≤ 16) → AcceptsExec words.now.items (S.disk store.old)
+        → ¬ (Rose (S.read_faults store.old) (S.read_faults store.new))
+        → ¬ (Rose (O.faults out.old) (O.faults out.new))
+        → IfErr result (λ stop. IsLeft (status_of stop)) }
+    ensures later { (S.read_faults store.old ≤ S.read_faults store.new) × (O.faults out.old ≤ O.faults out.new) }
+    ensures write_faults { S.write_faults store.new ≡ S.write_faults store.old }
+    ensures calm { (made : List ℕ) (room : ℕ) → S.calm store.old (exec_inputs words.now.items) made room
+        → S.read_faults store.new ≡ S.read_faults store.old }
+    ensures out_calm { (room : ℕ) → O.calm out.old room
+        → FitsExec words.now.items steps (H.gives hooks.old) (S.disk store.old) room
+        → O.faults out.new ≡ O.faults out.old }
+    ensures rest { O.rest out.new ≡ O.rest out.old }
+    ensures can { H.can_ask hooks.new }
+    ensures stays { (ask : Ask) (byte : ℕ) → H.gives hooks.new ask byte ↔ H.gives hooks.old ask byte }
+{
+    if words.len() > 20 {
+        return Err(CompileStop::Command(CommandError::TooMany(Limit::Sources)));
+    }
+    exec_few(alloc, words, steps, store, out, hooks)
+}

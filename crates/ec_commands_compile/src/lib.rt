@@ -1,0 +1,16 @@
+//! The commands `build`, `exec` and `gen`: from the named files or a generated program to a HEX text, or to a run; and why a
+//! build or an exec stops, with the lines that tell it.
+#![tactic(auto)]
+
+mod answer;
+mod building;
+mod executing;
+mod generating;
+mod line;
+mod stop;
+
+pub use answer::conclude;
+pub use building::build;
+pub use executing::exec;
+pub use generating::run_generated;
+pub use stop::{CompileStop, status};

@@ -1,2 +1,0 @@
--- The definitions that the contracts of constant forms cite.
-pub mod Forms

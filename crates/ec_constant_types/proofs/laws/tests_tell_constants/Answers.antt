@@ -1,5 +1,0 @@
-use Rattle.ec_constant_types.proofs.Tests.{tells_constants}
-use Rattle.ec_constant_types.proofs.laws.tests_tell_constants.Goals as goal
-
-pub returns : goal.returns
-returns c = tells_constants c.types_are_told.ensures

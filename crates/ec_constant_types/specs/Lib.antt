@@ -1,3 +1,0 @@
--- The definitions that the contracts of these tests cite.
-pub mod Tests
-pub mod Laws

@@ -1,4 +1,0 @@
--- Lemmas about constant expressions.
-pub mod Weights
-pub mod Runs
-pub mod Forms

@@ -1,5 +1,0 @@
-use Rattle.ec_constants.proofs.Forms.{constant_of}
-use Rattle.ec_constants.proofs.laws.valid_forms_are_constant.Goals as goal
-
-pub returns : goal.returns
-returns c = constant_of

@@ -1,3 +1,0 @@
--- The definitions that the contracts of constant expressions cite.
-pub mod Constants
-pub mod Laws

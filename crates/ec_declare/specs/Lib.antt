@@ -1,9 +1,0 @@
--- The definitions that the contracts of declarations cite.
-pub mod Sites
-pub mod Scopes
-pub mod ObjectTypes
-pub mod Declarators
-pub mod Params
-pub mod Functions
-pub mod Structures
-pub mod Registers

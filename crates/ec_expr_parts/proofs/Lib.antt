@@ -1,2 +1,0 @@
--- Lemmas about the parts of expressions.
-pub mod Lengths

@@ -1,5 +1,0 @@
-use Rattle.ec_expr_valid.proofs.Declarations.{declarations_keep_suiting}
-use Rattle.ec_expr_valid.proofs.laws.declarations_keep_suiting.Goals as goal
-
-pub returns : goal.returns
-returns c = declarations_keep_suiting c.inner_names_hide.ensures c.outer_names_are_known.ensures

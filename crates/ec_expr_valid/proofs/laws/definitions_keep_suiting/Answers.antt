@@ -1,5 +1,0 @@
-use Rattle.ec_expr_valid.proofs.Definitions.{definitions_keep_suiting}
-use Rattle.ec_expr_valid.proofs.laws.definitions_keep_suiting.Goals as goal
-
-pub returns : goal.returns
-returns c = definitions_keep_suiting c.outer_names_are_known.ensures

@@ -1,5 +1,0 @@
-use Rattle.ec_faults.proofs.Least.{the_least_is_kept}
-use Rattle.ec_faults.proofs.the_least_is_kept.Goals as goal
-
-pub returns : goal.returns
-returns c = the_least_is_kept

@@ -1,2 +1,0 @@
--- The definitions that the contracts of forms cite.
-pub mod Nodes

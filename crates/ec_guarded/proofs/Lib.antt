@@ -1,4 +1,0 @@
-pub mod Unsafe
-pub mod OneStep
-pub mod Allowed
-pub mod InMemory

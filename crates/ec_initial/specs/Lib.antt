@@ -1,9 +1,0 @@
--- The definitions that the contracts of sizes and initialisers cite.
-pub mod Sizes
-pub mod Parts
-pub mod Places
-pub mod Items
-pub mod Sites
-pub mod Locals
-pub mod Statics
-pub mod Laws

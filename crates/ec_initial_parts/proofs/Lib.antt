@@ -1,3 +1,0 @@
--- Lemmas about parts and addresses.
-pub mod PartTypes
-pub mod Moves

@@ -1,0 +1,56 @@
+-- Layouts of the members of a struct.
+use Rattle.std.proofs.Common.{◌≡◌, ◌<◌, ◌+◌, ◌-◌, ℕ, zero, suc, List, [], ◌∷◌, length, get_or, take, drop, refl, ap, sym, subst, ◌∙◌, ◌≤◌}
+use Rattle.std.proofs.Common.{map, arith}
+use Rattle.std.specs.List.{AllByRecursion}
+use Rattle.ec_core.specs.Plain.{PlainMember, plain_type, plain_member}
+use Rattle.ec_core.specs.declared.types.Member.{Member}
+use Rattle.ec_core.specs.Layout.{Layout, members_layout, type_layout}
+
+pub members_one : (layouts : ℕ → Layout) (n : ℕ) (m : PlainMember) (ms : List PlainMember) → 0 < n
+    → (members_layout layouts (take n (m ∷ ms))).size ≡ (type_layout layouts m.ty).size + (members_layout layouts (take (n - 1) ms)).size
+members_one layouts zero m ms h = absurd (omega arith)
+members_one layouts (suc n) m ms h =
+    let e : n ≡ suc n - 1 = omega arith in
+    ap (λ k. (type_layout layouts m.ty).size + (members_layout layouts (take k ms)).size) e
+
+take_all : {A : Type 0} (xs : List A) → take (length xs) xs ≡ xs
+take_all [] = refl
+take_all (x ∷ xs) = ap (λ ys. x ∷ ys) (take_all xs)
+
+pub members_step : (layouts : ℕ → Layout) (members : List Member) (n : ℕ) (first : Member)
+    → 0 < n → 1 ≤ length members → first ≡ get_or members 0 first
+    → (members_layout layouts (take n (map plain_member members))).size ≡ (type_layout layouts (plain_type first.ty)).size
+    + (members_layout layouts (take (n - 1) (map plain_member (take (length members - 1) (drop 1 members))))).size
+members_step layouts [] n first h some e = absurd (omega arith)
+members_step layouts (m ∷ ms) n first h some e =
+    let less : suc (length ms) - 1 ≡ length ms = omega arith in
+    let rest : take (suc (length ms) - 1) ms ≡ ms = ap (λ k. take k ms) less ∙ take_all ms in
+    members_one layouts n (plain_member m) (map plain_member ms) h
+    ∙ (ap
+    (λ (x : Member). (type_layout layouts (plain_type x.ty)).size + (members_layout layouts (take (n - 1) (map plain_member ms))).size)
+    (sym e)
+    ∙ ap (λ xs. (type_layout layouts (plain_type first.ty)).size + (members_layout layouts (take (n - 1) (map plain_member xs))).size)
+    (sym rest))
+
+-- all members are the first and the rest
+pub members_whole : (layouts : ℕ → Layout) (members : List Member) (first : Member) → 1 ≤ length members → first ≡ get_or members 0 first
+    → (members_layout layouts (map plain_member members)).size ≡ (type_layout layouts (plain_type first.ty)).size
+    + (members_layout layouts (map plain_member (take (length members - 1) (drop 1 members)))).size
+members_whole layouts [] first some e = absurd (omega arith)
+members_whole layouts (m ∷ ms) first some e =
+    let less : suc (length ms) - 1 ≡ length ms = omega arith in
+    let rest : take (suc (length ms) - 1) ms ≡ ms = ap (λ k. take k ms) less ∙ take_all ms in
+    ap (λ (x : Member). (type_layout layouts (plain_type x.ty)).size + (members_layout layouts (map plain_member ms)).size) (sym e)
+    ∙ ap (λ xs. (type_layout layouts (plain_type first.ty)).size + (members_layout layouts (map plain_member xs)).size) (sym rest)
+
+-- and a fact holds of both where it holds of all
+pub members_kept : (P : PlainMember → Type 0) (members : List Member) (first : Member)
+    → 1 ≤ length members → first ≡ get_or members 0 first → AllByRecursion P (map plain_member members)
+    → P (plain_member first) × AllByRecursion P (map plain_member (take (length members - 1) (drop 1 members)))
+members_kept P [] first some e h = absurd (omega arith)
+members_kept P (m ∷ ms) first some e h =
+    let less : suc (length ms) - 1 ≡ length ms = omega arith in
+    let rest : take (suc (length ms) - 1) ms ≡ ms = ap (λ k. take k ms) less ∙ take_all ms in (
+      subst (λ (x : Member). P (plain_member x)) (sym e) h.0,
+      subst (λ (xs : List Member). AllByRecursion P (map plain_member xs)) (sym rest) h.1,
+    )

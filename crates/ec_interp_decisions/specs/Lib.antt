@@ -1,2 +1,0 @@
--- The definitions that the contracts of the interpreter's decisions cite.
-pub mod Accesses

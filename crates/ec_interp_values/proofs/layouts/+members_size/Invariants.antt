@@ -1,4 +1,0 @@
-use Rattle.ec_interp_values.proofs.layouts.+members_size.Given as goal
-
-abbrev pub decreases-members_size : goal.decreases-members_size
-decreases-members_size l = l.count

@@ -1,7 +1,0 @@
-use Rattle.std.proofs.Common.{rules, arith}
-use Rattle.std.proofs.lemmas.Grind.{common_steps}
-use Rattle.ec_interp_values.proofs.Operands.{compound_numbers}
-use Rattle.ec_interp_values.proofs.operators.compound_value.Goals as goal
-
-pub returns-in_err-r-in-Number-value-clause-answered : goal.returns-in_err-r-in-Number-value-clause-answered
-returns-in_err-r-in-Number-value-clause-answered c = first_of (search (rules, compound_numbers), grind (arith, common_steps, compound_numbers))

@@ -1,2 +1,0 @@
--- The definitions of counts.
-pub mod Counts

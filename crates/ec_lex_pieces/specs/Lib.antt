@@ -1,2 +1,0 @@
--- The definition of where comments end.
-pub mod Comments

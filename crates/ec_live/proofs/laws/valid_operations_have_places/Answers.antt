@@ -1,5 +1,0 @@
-use Rattle.ec_live.proofs.Valid.{valid_operations_have_places}
-use Rattle.ec_live.proofs.laws.valid_operations_have_places.Goals as goal
-
-pub returns : goal.returns
-returns c = valid_operations_have_places

@@ -1,2 +1,0 @@
--- The definitions that the contracts of accesses cite.
-pub mod Sites

@@ -1,2 +1,0 @@
--- The definitions that the contract of the law cites.
-pub mod Laws

@@ -1,5 +1,0 @@
-use Rattle.ec_names.proofs.Finding.{definitions_are_found}
-use Rattle.ec_names.proofs.laws.definitions_are_found.Goals as goal
-
-pub returns : goal.returns
-returns c = definitions_are_found

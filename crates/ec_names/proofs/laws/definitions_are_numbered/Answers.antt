@@ -1,5 +1,0 @@
-use Rattle.ec_names.proofs.Numbered.{definitions_are_numbered}
-use Rattle.ec_names.proofs.laws.definitions_are_numbered.Goals as goal
-
-pub returns : goal.returns
-returns c = definitions_are_numbered

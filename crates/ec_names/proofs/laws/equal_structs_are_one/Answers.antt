@@ -1,5 +1,0 @@
-use Rattle.ec_names.proofs.Alike.{equal_structs_are_one}
-use Rattle.ec_names.proofs.laws.equal_structs_are_one.Goals as goal
-
-pub returns : goal.returns
-returns c = equal_structs_are_one

@@ -1,7 +1,0 @@
-use Rattle.std.proofs.Common.{rules}
-use Rattle.ec_grammar.specs.declared.tree.Item.TheViews.{the_lemmas}
-use Rattle.ec_grammar.proofs.Backwards.{items_row}
-use Rattle.ec_parse_units.proofs.statements.blocked.Goals as goal
-
-pub returns : goal.returns
-returns c = search (rules, the_lemmas, items_row)

@@ -1,3 +1,0 @@
--- The definitions of what comes of places.
-pub mod Labels
-pub mod Pointers

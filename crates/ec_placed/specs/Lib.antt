@@ -1,7 +1,0 @@
-pub mod Kinds
-pub mod Translation
-pub mod Laws
-pub mod Runs
-pub mod Shown
-pub mod Spaces
-pub mod Whole

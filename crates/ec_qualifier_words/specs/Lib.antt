@@ -1,2 +1,0 @@
--- The definitions of what single words say.
-pub mod Words

@@ -1,5 +1,0 @@
-use Rattle.ec_reading.proofs.Whole.{derives_one_tree}
-use Rattle.ec_reading.proofs.derives_one_tree.Goals as goal
-
-pub returns : goal.returns
-returns c = derives_one_tree

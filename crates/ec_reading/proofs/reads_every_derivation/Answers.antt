@@ -1,5 +1,0 @@
-use Rattle.ec_reading.proofs.Whole.{reads_every_derivation}
-use Rattle.ec_reading.proofs.reads_every_derivation.Goals as goal
-
-pub returns : goal.returns
-returns c = reads_every_derivation

@@ -1,5 +1,0 @@
-use Rattle.ec_reading.proofs.ToldUnits.{tells_in_time}
-use Rattle.ec_reading.proofs.tells_no_later.Goals as goal
-
-pub returns : goal.returns
-returns c = tells_in_time

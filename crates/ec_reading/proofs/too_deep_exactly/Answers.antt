@@ -1,5 +1,0 @@
-use Rattle.ec_reading.proofs.Refusals.{too_deep_exactly}
-use Rattle.ec_reading.proofs.too_deep_exactly.Goals as goal
-
-pub returns : goal.returns
-returns c = too_deep_exactly

@@ -1,6 +1,0 @@
-use Rattle.ec_recursion.proofs.Rows.{all_rows}
-use Rattle.ec_recursion.proofs.calls.rows_of.Goals as goal
-
-pub returns : goal.returns
-returns c =
-    all_rows c.args.program.now.funcs.items c.loop-func.func-index _ (rw c.as_slice-func-items.ensures at c.loop-func-test.false) c.loop-func.invariant

@@ -1,7 +1,0 @@
-use Rattle.ec_reset.proofs.Reset.{programs_show_their_operations}
-use Rattle.ec_reset.proofs.laws.programs_show_their_operations.Goals as goal
-
-pub returns : goal.returns
-returns c =
-    programs_show_their_operations
-    (record { startup = c.startup_is_right.ensures; views = c.machine_runs_as_view.ensures; follows = c.code_follows_operations.ensures })

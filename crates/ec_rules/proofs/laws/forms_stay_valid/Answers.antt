@@ -1,5 +1,0 @@
-use Rattle.ec_rules.proofs.FormsValid.{forms_stay_valid}
-use Rattle.ec_rules.proofs.laws.forms_stay_valid.Goals as goal
-
-pub returns : goal.returns
-returns c = forms_stay_valid c.types_are_told.ensures c.usual_conversions.ensures

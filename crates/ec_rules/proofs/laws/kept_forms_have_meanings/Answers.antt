@@ -1,5 +1,0 @@
-use Rattle.ec_rules.proofs.Meanings.{kept_forms_have_meanings}
-use Rattle.ec_rules.proofs.laws.kept_forms_have_meanings.Goals as goal
-
-pub returns : goal.returns
-returns c = kept_forms_have_meanings c.types_are_told.ensures

@@ -1,5 +1,0 @@
-use Rattle.ec_rules.proofs.MembersMeant.{kept_members_have_meanings}
-use Rattle.ec_rules.proofs.laws.kept_members_have_meanings.Goals as goal
-
-pub returns : goal.returns
-returns c = kept_members_have_meanings

@@ -1,5 +1,0 @@
-use Rattle.ec_rules.proofs.FormsValid.{names_are_valid}
-use Rattle.ec_rules.proofs.laws.names_are_valid.Goals as goal
-
-pub returns : goal.returns
-returns c = names_are_valid

@@ -1,5 +1,0 @@
-use Rattle.ec_rules.proofs.Sizes.{sizes_are_valid}
-use Rattle.ec_rules.proofs.laws.sizes_are_valid.Goals as goal
-
-pub returns : goal.returns
-returns c = sizes_are_valid

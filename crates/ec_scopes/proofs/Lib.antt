@@ -1,4 +1,0 @@
--- Lemmas about tables and names.
-pub mod Walks
-pub mod Tabled
-pub mod Naming

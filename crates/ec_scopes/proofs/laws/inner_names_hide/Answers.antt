@@ -1,5 +1,0 @@
-use Rattle.ec_scopes.proofs.Naming.{inner_names_hide}
-use Rattle.ec_scopes.proofs.laws.inner_names_hide.Goals as goal
-
-pub returns : goal.returns
-returns c = inner_names_hide

@@ -1,5 +1,0 @@
-use Rattle.ec_scopes.proofs.Naming.{outer_names_are_known}
-use Rattle.ec_scopes.proofs.laws.outer_names_are_known.Goals as goal
-
-pub returns : goal.returns
-returns c = outer_names_are_known

@@ -1,0 +1,216 @@
+-- What is needed before operations, of the first places.
+use Rattle.std.proofs.Common.{◌≡◌, ℕ, zero, suc, ◌≤◌, List, [], ◌∷◌, Option, Some, None, Bool, true, false, ◌||◌, refl}
+use Rattle.std.proofs.Common.{ap, ◌∙◌, arith}
+use Rattle.std.specs.Prelude.{◌==◌, if◌then◌else◌, min, max}
+use Rattle.std.proofs.lemmas.Bool.Decides.{nat_tests}
+use Rattle.ec_core.specs.declared.expressions.BinOp.{BinOp}
+use Rattle.ec_core.specs.declared.expressions.BinOp.TheVariants.{Shl, Shr}
+use Rattle.ec_ir.specs.declared.operations.Temp.{Temp}
+use Rattle.ec_ir.specs.Operations.{PlainIr, constant, copy, address, field, load_at, store_at, load_object}
+use Rattle.ec_ir.specs.Operations.{store_object, binary_op, unary_op, conversion, label, jump, branch_zero}
+use Rattle.ec_ir.specs.Operations.{call_function, return_from, port_in, port_out}
+use Rattle.ec_select_operations.specs.Code.{result_wanted, wanted_behind}
+use Rattle.ec_select_operations.specs.Needs.{Need, nothing, at_least, without, either, wanted, is_of_low_bytes}
+use Rattle.ec_select_operations.specs.Needs.{all_or_none, is_whole, first_wanted, second_wanted, only_wanted}
+use Rattle.ec_select_operations.specs.Needs.{index_needed, operand_wanted, right_wanted, returned_need, without_result}
+use Rattle.ec_select_operations.specs.Needs.{before}
+use Rattle.ec_select_operations.specs.Needs.{needs}
+use Rattle.ec_select_live.specs.Places.{HasPlace, MayHavePlace, HasPlaces, HavePlaces}
+use Rattle.ec_select_live.specs.Tables.{AreSame, IsBounded, AreBounded}
+
+-- ---- the same needs
+
+pub same_without : (s at : ℕ) (a b : Need) → AreSame s a b → AreSame s (without at a) (without at b)
+same_without s at a b h place l = ap (λ x. if place == at then 0 else x) (h place l)
+
+pub same_least : (s at n m : ℕ) (a b : Need) → n ≡ m → AreSame s a b → AreSame s (at_least at n a) (at_least at m b)
+same_least s at n m a b e h place l =
+    ap (λ x. if place == at then max x n else x) (h place l)
+    ∙ ap (λ k. if place == at then max (b place) k else b place) e
+
+pub same_either : (s : ℕ) (a b c : Need) → AreSame s a b → AreSame s (either a c) (either b c)
+same_either s a b c h place l = ap (λ x. max x (c place)) (h place l)
+
+pub same_wanted : (s : ℕ) (t : Temp) (a b : Need) → HasPlace s t → AreSame s a b → wanted a t ≡ wanted b t
+same_wanted s t a b l h = ap (λ x. min x t.bytes) (h t.at l.0)
+
+same_value : (s : ℕ) (to from : Temp) (a b : Need) → HasPlace s to → AreSame s a b
+    → AreSame s (at_least from.at (wanted a to) (without to.at a)) (at_least from.at (wanted b to) (without to.at b))
+same_value s to from a b l h =
+    same_least s from.at (wanted a to) (wanted b to) (without to.at a) (without to.at b) (same_wanted s to a b l h)
+    (same_without s to.at a b h)
+
+same_only : (s : ℕ) (whole : Bool) (to from : Temp) (a b : Need) → HasPlace s to → AreSame s a b
+    → AreSame s (at_least from.at (only_wanted whole from.bytes (wanted a to)) (without to.at a))
+    (at_least from.at (only_wanted whole from.bytes (wanted b to)) (without to.at b))
+same_only s whole to from a b l h =
+    same_least s from.at (only_wanted whole from.bytes (wanted a to)) (only_wanted whole from.bytes (wanted b to)) (without to.at a)
+    (without to.at b) (ap (only_wanted whole from.bytes) (same_wanted s to a b l h)) (same_without s to.at a b h)
+
+pub same_result : (s : ℕ) (to : Option Temp) (a b : Need) → AreSame s a b → AreSame s (without_result to a) (without_result to b)
+same_result s None a b h = h
+same_result s (Some t) a b h = same_without s t.at a b h
+
+same_index : (s : ℕ) (index : Option Temp) (a b : Need) → AreSame s a b
+    → AreSame s (index_needed index a) (index_needed index b)
+same_index s None a b h = h
+same_index s (Some t) a b h = same_least s t.at 1 1 a b refl h
+
+pub before_same : (s : ℕ) (at : ℕ → Need) (i : PlainIr) (a b : Need) → HasPlaces s i → AreSame s a b
+    → AreSame s (before at i a) (before at i b)
+before_same s at (constant t n) a b l h = same_without s t.at a b h
+before_same s at (copy to from) a b l h = same_value s to from a b l.0 h
+before_same s at (load_object t o offset) a b l h = same_without s t.at a b h
+before_same s at (store_object o offset t) a b l h = same_least s t.at t.bytes t.bytes a b refl h
+before_same s at (binary_op op ty mode to x xty y yty) a b l h =
+    let w = is_whole xty || is_whole yty in
+    same_least s x.at (first_wanted w op x.bytes (wanted a to)) (first_wanted w op x.bytes (wanted b to))
+    (at_least y.at (second_wanted w op y.bytes (wanted a to)) (without to.at a))
+    (at_least y.at (second_wanted w op y.bytes (wanted b to)) (without to.at b))
+    (ap (first_wanted w op x.bytes) (same_wanted s to a b l.0 h))
+    (same_least s y.at (second_wanted w op y.bytes (wanted a to)) (second_wanted w op y.bytes (wanted b to)) (without to.at a)
+    (without to.at b) (ap (second_wanted w op y.bytes) (same_wanted s to a b l.0 h)) (same_without s to.at a b h))
+before_same s at (unary_op op ty mode to x) a b l h = same_only s (is_whole ty) to x a b l.0 h
+before_same s at (conversion to ty mode x xty) a b l h = same_only s (is_whole ty || is_whole xty) to x a b l.0 h
+before_same s at (branch_zero t k) a b l h = same_least s t.at t.bytes t.bytes (either a (at k)) (either b (at k)) refl
+    (same_either s a b (at k) h)
+before_same s at (return_from from) a b l h = λ place k. refl
+before_same s at (label k) a b l h = λ place q. refl
+before_same s at (jump k) a b l h = λ place q. refl
+before_same s at (address t o offset) a b l h = same_without s t.at a b h
+before_same s at (field ptr space offset) a b l h = same_least s ptr.at ptr.bytes ptr.bytes a b refl h
+before_same s at (load_at to ptr space) a b l h =
+    same_least s ptr.at ptr.bytes ptr.bytes (without to.at a) (without to.at b) refl (same_without s to.at a b h)
+before_same s at (store_at ptr space from) a b l h =
+    same_least s from.at from.bytes from.bytes (at_least ptr.at ptr.bytes a) (at_least ptr.at ptr.bytes b) refl
+    (same_least s ptr.at ptr.bytes ptr.bytes a b refl h)
+before_same s at (call_function f to) a b l h = same_result s to a b h
+before_same s at (port_in to port index width) a b l h = same_index s index (without to.at a) (without to.at b) (same_without s to.at a b h)
+before_same s at (port_out from port index width) a b l h =
+    same_least s from.at width width (index_needed index a) (index_needed index b) refl (same_index s index a b h)
+
+pub result_same : (s : ℕ) (i : PlainIr) (a b : Need) → HasPlaces s i → AreSame s a b
+    → result_wanted a i ≡ result_wanted b i
+result_same s (constant t n) a b l h = same_wanted s t a b l h
+result_same s (copy to from) a b l h = same_wanted s to a b l.0 h
+result_same s (binary_op op ty mode to x xty y yty) a b l h = same_wanted s to a b l.0 h
+result_same s (unary_op op ty mode to x) a b l h = same_wanted s to a b l.0 h
+result_same s (conversion to ty mode x xty) a b l h = same_wanted s to a b l.0 h
+result_same s (load_object t o offset) a b l h = refl
+result_same s (store_object o offset t) a b l h = refl
+result_same s (branch_zero t k) a b l h = refl
+result_same s (return_from from) a b l h = refl
+result_same s (label k) a b l h = refl
+result_same s (jump k) a b l h = refl
+result_same s (address t o offset) a b l h = same_wanted s t a b l h
+result_same s (field ptr space offset) a b l h = refl
+result_same s (load_at to ptr space) a b l h = refl
+result_same s (store_at ptr space from) a b l h = refl
+result_same s (call_function f None) a b l h = refl
+result_same s (call_function f (Some t)) a b l h = same_wanted s t a b l h
+result_same s (port_in to port index width) a b l h = same_wanted s to a b l.0 h
+result_same s (port_out from port index width) a b l h = refl
+
+pub behind_same : (s : ℕ) (at : ℕ → Need) (i : PlainIr) (a b : Need) → HasPlaces s i → AreSame s a b
+    → wanted_behind at a i ≡ wanted_behind at b i
+behind_same s at (branch_zero t k) a b l h = same_wanted s t (either a (at k)) (either b (at k)) l (same_either s a b (at k) h)
+behind_same s at i a b l h = result_same s i a b l h
+
+-- ---- no more bytes than a place has
+
+bounded_without : (at : ℕ) (a : Need) → IsBounded a → IsBounded (without at a)
+bounded_without at a h place = let x = h place in grind (arith, nat_tests)
+
+bounded_least : (at n : ℕ) (a : Need) → n ≤ 16 → IsBounded a → IsBounded (at_least at n a)
+bounded_least at n a l h place = let x = h place in grind (arith, nat_tests)
+
+bounded_either : (a b : Need) → IsBounded a → IsBounded b → IsBounded (either a b)
+bounded_either a b h k place = let x = h place in let y = k place in omega arith
+
+wanted_most : (a : Need) (t : Temp) → t.bytes ≤ 16 → wanted a t ≤ 16
+wanted_most a t l = omega arith
+
+all_most : (bytes n : ℕ) → bytes ≤ 16 → all_or_none bytes n ≤ 16
+all_most bytes zero l = omega arith
+all_most bytes (suc n) l = l
+
+operand_most : (op : BinOp) (bytes n : ℕ) → bytes ≤ 16 → n ≤ 16 → operand_wanted op bytes n ≤ 16
+operand_most op bytes n l k =
+    elim (is_of_low_bytes op) as (λ x. (if x then n else all_or_none bytes n) ≤ 16)
+    [ true ↦ k | false ↦ all_most bytes n l ]
+
+right_most : (op : BinOp) (bytes n : ℕ) → bytes ≤ 16 → n ≤ 16 → right_wanted op bytes n ≤ 16
+right_most Shl bytes n l k = all_most 1 n (omega arith)
+right_most Shr bytes n l k = all_most 1 n (omega arith)
+right_most op bytes n l k = operand_most op bytes n l k
+
+first_most : (whole : Bool) (op : BinOp) (bytes n : ℕ) → bytes ≤ 16 → n ≤ 16 → first_wanted whole op bytes n ≤ 16
+first_most true op bytes n l k = all_most bytes n l
+first_most false op bytes n l k = operand_most op bytes n l k
+
+second_most : (whole : Bool) (op : BinOp) (bytes n : ℕ) → bytes ≤ 16 → n ≤ 16 → second_wanted whole op bytes n ≤ 16
+second_most true op bytes n l k = all_most bytes n l
+second_most false op bytes n l k = right_most op bytes n l k
+
+only_most : (whole : Bool) (bytes n : ℕ) → bytes ≤ 16 → n ≤ 16 → only_wanted whole bytes n ≤ 16
+only_most true bytes n l k = all_most bytes n l
+only_most false bytes n l k = k
+
+bounded_only : (whole : Bool) (to from : Temp) (a : Need) → to.bytes ≤ 16 → from.bytes ≤ 16 → IsBounded a
+    → IsBounded (at_least from.at (only_wanted whole from.bytes (wanted a to)) (without to.at a))
+bounded_only whole to from a l k h =
+    bounded_least from.at (only_wanted whole from.bytes (wanted a to)) (without to.at a)
+    (only_most whole from.bytes (wanted a to) k (wanted_most a to l)) (bounded_without to.at a h)
+
+bounded_value : (to from : Temp) (a : Need) → to.bytes ≤ 16 → IsBounded a
+    → IsBounded (at_least from.at (wanted a to) (without to.at a))
+bounded_value to from a l h =
+    bounded_least from.at (wanted a to) (without to.at a) (wanted_most a to l) (bounded_without to.at a h)
+
+bounded_index : (index : Option Temp) (a : Need) → IsBounded a → IsBounded (index_needed index a)
+bounded_index None a h = h
+bounded_index (Some t) a h = bounded_least t.at 1 a (omega arith) h
+
+bounded_nothing : IsBounded nothing
+bounded_nothing place = omega arith
+
+bounded_returned : (s : ℕ) (from : Option Temp) → MayHavePlace s from → IsBounded (returned_need from)
+bounded_returned s None l = bounded_nothing
+bounded_returned s (Some t) l = bounded_least t.at t.bytes nothing l.1 bounded_nothing
+
+pub before_bounded : (s : ℕ) (at : ℕ → Need) (i : PlainIr) (a : Need) → HasPlaces s i → AreBounded at → IsBounded a
+    → IsBounded (before at i a)
+before_bounded s at (constant t n) a l k h = bounded_without t.at a h
+before_bounded s at (copy to from) a l k h = bounded_value to from a l.0.1 h
+before_bounded s at (load_object t o offset) a l k h = bounded_without t.at a h
+before_bounded s at (store_object o offset t) a l k h = bounded_least t.at t.bytes a l.1 h
+before_bounded s at (binary_op op ty mode to x xty y yty) a l k h =
+    let w = is_whole xty || is_whole yty in
+    bounded_least x.at (first_wanted w op x.bytes (wanted a to))
+    (at_least y.at (second_wanted w op y.bytes (wanted a to)) (without to.at a))
+    (first_most w op x.bytes (wanted a to) l.1.1 (wanted_most a to l.0.1))
+    (bounded_least y.at (second_wanted w op y.bytes (wanted a to)) (without to.at a)
+    (second_most w op y.bytes (wanted a to) l.2.1 (wanted_most a to l.0.1)) (bounded_without to.at a h))
+before_bounded s at (unary_op op ty mode to x) a l k h = bounded_only (is_whole ty) to x a l.0.1 l.1.1 h
+before_bounded s at (conversion to ty mode x xty) a l k h = bounded_only (is_whole ty || is_whole xty) to x a l.0.1 l.1.1 h
+before_bounded s at (branch_zero t q) a l k h =
+    bounded_least t.at t.bytes (either a (at q)) l.1 (bounded_either a (at q) h (k q))
+before_bounded s at (return_from from) a l k h = bounded_returned s from l
+before_bounded s at (label q) a l k h = k q
+before_bounded s at (jump q) a l k h = k q
+before_bounded s at (address t o offset) a l k h = bounded_without t.at a h
+before_bounded s at (field ptr space offset) a l k h = bounded_least ptr.at ptr.bytes a l.1 h
+before_bounded s at (load_at to ptr space) a l k h =
+    bounded_least ptr.at ptr.bytes (without to.at a) l.1.1 (bounded_without to.at a h)
+before_bounded s at (store_at ptr space from) a l k h =
+    bounded_least from.at from.bytes (at_least ptr.at ptr.bytes a) l.1.1 (bounded_least ptr.at ptr.bytes a l.0.1 h)
+before_bounded s at (call_function f None) a l k h = h
+before_bounded s at (call_function f (Some t)) a l k h = bounded_without t.at a h
+before_bounded s at (port_in to port index width) a l k h = bounded_index index (without to.at a) (bounded_without to.at a h)
+before_bounded s at (port_out from port index width) a l k h =
+    bounded_least from.at width (index_needed index a) l.2 (bounded_index index a h)
+
+pub needs_bounded : (s : ℕ) (at : ℕ → Need) (code : List PlainIr) → HavePlaces s code → AreBounded at
+    → IsBounded (needs at code)
+needs_bounded s at [] l k = bounded_nothing
+needs_bounded s at (i ∷ code) l k = before_bounded s at i (needs at code) l.0 k (needs_bounded s at code l.1 k)

@@ -1,0 +1,167 @@
+-- Passes over operations.
+use Rattle.std.proofs.Common.{◌≡◌, ℕ, zero, suc, ◌+◌, ◌-◌, ◌<◌, ◌≤◌, ◌⊎◌, ⊎_elim, List, [], ◌∷◌, Bool, true, false}
+use Rattle.std.proofs.Common.{refl, sym, ap, ◌∙◌, subst, arith, length, map, drop, set, get_or, inl, inr}
+use Rattle.std.specs.Prelude.{if◌then◌else◌}
+use Rattle.std.proofs.lemmas.List.{drop_more, get_or-map, get_or_past, length-map, drop-set}
+use Rattle.ec_ir.specs.Operations.{PlainIr, constant, copy, address, field, load_at, store_at, load_object}
+use Rattle.ec_ir.specs.Operations.{store_object, binary_op, unary_op, conversion, label, jump, branch_zero}
+use Rattle.ec_ir.specs.Operations.{call_function, return_from, port_in, port_out}
+use Rattle.ec_select_operations.specs.Code.{wanted_behind, wanted_bytes}
+use Rattle.ec_select_operations.specs.Needs.{Need, before, needs, IsLive}
+use Rattle.ec_select_live.specs.Places.{HasPlaces, HavePlaces}
+use Rattle.ec_select_live.specs.Tables.{need_of, needs_of, AreSame, IsBounded, IsTable, IsJoined, room}
+use Rattle.ec_select_live.proofs.Operations.{before_same, before_bounded, needs_bounded, behind_same}
+
+below_or_not : (a b : ℕ) → (a < b) ⊎ (b ≤ a)
+below_or_not a zero = inr (omega arith)
+below_or_not zero (suc b) = inl (omega arith)
+below_or_not (suc a) (suc b) =
+    ⊎_elim (λ (l : a < b). inl (omega arith)) (λ (l : b ≤ a). inr (omega arith)) (below_or_not a b)
+
+pub places_drop : (s n : ℕ) (code : List PlainIr) → HavePlaces s code → HavePlaces s (drop n code)
+places_drop s zero code h = h
+places_drop s (suc n) [] h = h
+places_drop s (suc n) (i ∷ code) h = places_drop s n code h.1
+
+pub drop_back : {A B : Type 0} (f : A → B) (xs : List A) (k : ℕ) (x : A) → 0 < k → k ≤ length xs
+    → x ≡ get_or xs (k - 1) x → drop (k - 1) (map f xs) ≡ f x ∷ drop k (map f xs)
+drop_back f xs k x z h e =
+    let l : k - 1 < length xs = omega arith in
+    let m : k - 1 < length (map f xs) = omega (arith, length-map xs f) in
+    let n : (k - 1) + 1 ≡ k = omega arith in
+    drop_more (map f xs) (k - 1) (f x) m
+    ∙ ap (λ y. y ∷ drop ((k - 1) + 1) (map f xs)) (get_or-map f xs (k - 1) x (f x) l ∙ ap f (sym e))
+    ∙ ap (λ j. f x ∷ drop j (map f xs)) n
+
+label_live : (s : ℕ) (at : ℕ → Need) (l : ℕ) (rest : List PlainIr) (need : Need) → IsTable s at → HavePlaces s rest
+    → ((place : ℕ) → place < s → need place ≤ at l place) → AreSame s need (needs at rest)
+    → (place : ℕ) → needs at rest place ≤ at l place
+label_live s at l rest need t h j same place =
+    ⊎_elim
+    (λ (b : place < s). let x = j place b in let y = same place b in omega arith)
+    (λ (b : s ≤ place). let x = t.beyond l place b in let y = needs_bounded s at rest h t.most place in omega arith)
+    (below_or_not place s)
+
+live_more : (s : ℕ) (at : ℕ → Need) (i : PlainIr) (rest : List PlainIr) (need : Need) → IsTable s at
+    → HavePlaces s rest → IsJoined s at i need → AreSame s need (needs at rest) → IsLive at rest
+    → IsLive at (i ∷ rest)
+live_more s at (label l) rest need t h j same live = (label_live s at l rest need t h j same, live)
+live_more s at (constant u n) rest need t h j same live = live
+live_more s at (copy to from) rest need t h j same live = live
+live_more s at (address u o offset) rest need t h j same live = live
+live_more s at (field ptr space offset) rest need t h j same live = live
+live_more s at (load_at to ptr space) rest need t h j same live = live
+live_more s at (store_at ptr space from) rest need t h j same live = live
+live_more s at (load_object u o offset) rest need t h j same live = live
+live_more s at (store_object o offset u) rest need t h j same live = live
+live_more s at (binary_op op ty mode to a aty b bty) rest need t h j same live = live
+live_more s at (unary_op op ty mode to a) rest need t h j same live = live
+live_more s at (conversion to ty mode a aty) rest need t h j same live = live
+live_more s at (jump l) rest need t h j same live = live
+live_more s at (branch_zero u l) rest need t h j same live = live
+live_more s at (call_function f to) rest need t h j same live = live
+live_more s at (return_from from) rest need t h j same live = live
+live_more s at (port_in to port index width) rest need t h j same live = live
+live_more s at (port_out from port index width) rest need t h j same live = live
+
+-- ---- one operation
+
+pub need_bounded : (s : ℕ) (at : ℕ → Need) (i : PlainIr) (need need1 : List ℕ) → HasPlaces s i → IsTable s at
+    → length need1 ≡ s → IsBounded (need_of need) → AreSame s (need_of need1) (before at i (need_of need))
+    → IsBounded (need_of need1)
+need_bounded s at i need need1 p t e b same place =
+    ⊎_elim
+    (λ (l : place < s). let x = same place l in let y = before_bounded s at i (need_of need) p t.most b place in omega arith)
+    (λ (l : s ≤ place). let x : need_of need1 place ≡ 16 = get_or_past need1 place 16 (omega arith) in omega arith)
+    (below_or_not place s)
+
+-- the rest of the operations was passed over: first there was the table t0
+pub record Passed (s : ℕ) (t0 t : List (List ℕ)) (need : List ℕ) (rest : List PlainIr) (grown : Bool) : Type 0 where
+  pub kept : IsTable s (needs_of t)
+  pub bounded : IsBounded (need_of need)
+  pub grew : grown ≡ true → room t < room t0
+  pub same : grown ≡ false → t ≡ t0
+  pub need_is : grown ≡ false → AreSame s (need_of need) (needs (needs_of t) rest)
+  pub live : grown ≡ false → IsLive (needs_of t) rest
+
+-- a label was joined
+pub record Joined (s : ℕ) (t t1 : List (List ℕ)) (need : List ℕ) (i : PlainIr) (more : Bool) : Type 0 where
+  pub kept : (slots : ℕ) → IsTable slots (needs_of t) → IsTable slots (needs_of t1)
+  pub grew : more ≡ true → room t1 < room t
+  pub same : more ≡ false → t1 ≡ t
+  pub is : more ≡ false → IsJoined s (needs_of t1) i (need_of need)
+
+never_more : (s : ℕ) (t t1 : List (List ℕ)) (need : List ℕ) (i : PlainIr) (more : Bool) → Joined s t t1 need i more
+    → room t1 ≤ room t
+never_more s t t1 need i true j = let x = j.grew refl in omega arith
+never_more s t t1 need i false j = let x = ap room (j.same refl) in omega arith
+
+more_before : (s : ℕ) (t0 t : List (List ℕ)) (need : List ℕ) (rest : List PlainIr) (grown : Bool)
+    → Passed s t0 t need rest grown → room t ≤ room t0
+more_before s t0 t need rest true j = let x = j.grew refl in omega arith
+more_before s t0 t need rest false j = let x = ap room (j.same refl) in omega arith
+
+pub passed_more : (s : ℕ) (t0 t t1 : List (List ℕ)) (need need1 : List ℕ) (rest code : List PlainIr) (i : PlainIr)
+    (grown more all : Bool) → HasPlaces s i → HavePlaces s rest → length need1 ≡ s → code ≡ i ∷ rest
+    → ((all ≡ false) → (grown ≡ false) × (more ≡ false)) → ((all ≡ true) → (grown ≡ true) ⊎ (more ≡ true))
+    → Passed s t0 t need rest grown → Joined s t t1 need i more
+    → AreSame s (need_of need1) (before (needs_of t1) i (need_of need)) → Passed s t0 t1 need1 code all
+passed_more s t0 t t1 need need1 rest code i grown more all p ps e is none some z j b =
+    let k = j.kept s z.kept in
+    record {
+      kept = k;
+      bounded = need_bounded s (needs_of t1) i need need1 p k e z.bounded b;
+      grew = λ a.
+          ⊎_elim
+          (λ (g : grown ≡ true). let x = z.grew g in let y = never_more s t t1 need i more j in omega arith)
+          (λ (g : more ≡ true). let x = j.grew g in let y = more_before s t0 t need rest grown z in omega arith)
+          (some a);
+      same = λ a. j.same (none a).1 ∙ z.same (none a).0;
+      need_is = λ a.
+          let o : t ≡ t1 = sym (j.same (none a).1) in
+          let h = subst (λ (x : List (List ℕ)). AreSame s (need_of need) (needs (needs_of x) rest)) o (z.need_is (none a).0) in
+          subst (λ (x : List PlainIr). AreSame s (need_of need1) (needs (needs_of t1) x)) (sym is)
+          (λ place l. b place l ∙ before_same s (needs_of t1) i (need_of need) (needs (needs_of t1) rest) p h place l);
+      live = λ a.
+          let o : t ≡ t1 = sym (j.same (none a).1) in
+          let h = subst (λ (x : List (List ℕ)). AreSame s (need_of need) (needs (needs_of x) rest)) o (z.need_is (none a).0) in
+          let v = subst (λ (x : List (List ℕ)). IsLive (needs_of x) rest) o (z.live (none a).0) in
+          subst (λ (x : List PlainIr). IsLive (needs_of t1) x) (sym is)
+          (live_more s (needs_of t1) i rest (need_of need) k ps (j.is (none a).1) h v);
+    }
+
+-- ---- the measure
+
+pub measure_falls : (a b : ℕ) (result grown : Bool) → grown ≡ true → (result ≡ true → a < b) → (result ≡ false → a ≤ b)
+    → a + (if result then 1 else 0) < b + (if grown then 1 else 0)
+measure_falls a b true true g f h = let x = f refl in omega arith
+measure_falls a b false true g f h = let x = h refl in omega arith
+measure_falls a b result false g f h = absurd (cc)
+
+-- ---- the operation before k others
+
+pub places_at : {A : Type 0} (f : A → PlainIr) (s : ℕ) (xs : List A) (k : ℕ) (x : A) → 0 < k → k ≤ length xs
+    → x ≡ get_or xs (k - 1) x → HavePlaces s (map f xs) → HavePlaces s (f x ∷ drop k (map f xs))
+places_at f s xs k x z h e p =
+    subst (λ (code : List PlainIr). HavePlaces s code) (drop_back f xs k x z h e) (places_drop s (k - 1) (map f xs) p)
+
+pub need_more : (s : ℕ) (at : ℕ → Need) (code rest : List PlainIr) (i : PlainIr) (need need1 : List ℕ)
+    → HasPlaces s i → code ≡ i ∷ rest → AreSame s (need_of need) (needs at rest)
+    → AreSame s (need_of need1) (before at i (need_of need)) → AreSame s (need_of need1) (needs at code)
+need_more s at code rest i need need1 p is h b =
+    subst (λ (x : List PlainIr). AreSame s (need_of need1) (needs at x)) (sym is)
+    (λ place l. b place l ∙ before_same s at i (need_of need) (needs at rest) p h place l)
+
+pub wanted_more : (s : ℕ) (at : ℕ → Need) (code rest : List PlainIr) (i : PlainIr) (need wanted : List ℕ) (k n : ℕ)
+    → HasPlaces s i → code ≡ i ∷ rest → AreSame s (need_of need) (needs at rest)
+    → n ≡ wanted_behind at (need_of need) i → 0 < k → k ≤ length wanted → drop k wanted ≡ wanted_bytes at rest
+    → drop (k - 1) (set wanted (k - 1) n) ≡ wanted_bytes at code
+wanted_more s at code rest i need wanted k n p is h r z l w =
+    let m : k - 1 < length wanted = omega arith in
+    let e : (k - 1) + 1 ≡ k = omega arith in
+    let q : n ≡ wanted_behind at (needs at rest) i = r ∙ behind_same s at i (need_of need) (needs at rest) p h in
+    drop-set wanted (k - 1) n m
+    ∙ ap (λ (j : ℕ). n ∷ drop j wanted) e
+    ∙ ap (λ (x : List ℕ). n ∷ x) w
+    ∙ ap (λ (x : ℕ). x ∷ wanted_bytes at rest) q
+    ∙ ap (wanted_bytes at) (sym is)

@@ -1,0 +1,189 @@
+//! What is needed before operations.
+ghost use Rattle.std.specs.Prelude.{◌<◌, length};
+ghost use Rattle.ec_ir.specs.Operations.{plain_ir};
+ghost use Rattle.ec_select_operations.specs.Needs.{before, either, at_least, without, wanted, index_needed};
+ghost use Rattle.ec_select_operations.specs.Needs.{returned_need, without_result, first_wanted, second_wanted};
+ghost use Rattle.ec_select_operations.specs.Needs.{only_wanted};
+ghost use Rattle.ec_select_live.specs.Places.{MayHavePlace, HasPlaces};
+ghost use Rattle.ec_select_live.specs.Tables.{need_of, needs_of, AreSame};
+
+use crate::rows::{clear, first_wanted, forget, keep, only_wanted, second_wanted, wanted_of};
+use crate::table::{LabelNeeds, zeros};
+use ec_core::BinOp;
+use ec_ir::{Ir, Temp};
+use ec_select_operations::is_whole;
+use ec_space::{NoMemory, Seq};
+use std::alloc::Global;
+
+/// As many bytes of an operand are needed as of the result, or all.
+fn pass_on(need: &mut [u8], whole: bool, to: Temp, from: Temp)
+    requires to { to.at < length need.old }
+    requires from { from.at < length need.old }
+    ensures { AreSame (length need.old) (need_of need.new)
+        (at_least from.at (only_wanted whole from.bytes (wanted (need_of need.old) to))
+        (without to.at (need_of need.old))) }
+{
+    let n = wanted_of(need, to);
+    forget(need, to);
+    keep(need, from, only_wanted(whole, from.bytes, n));
+}
+
+/// The operands of a binary operator.
+fn pass_operands(need: &mut [u8], whole: bool, op: BinOp, to: Temp, a: Temp, b: Temp)
+    requires to { to.at < length need.old }
+    requires left { a.at < length need.old }
+    requires right { b.at < length need.old }
+    ensures { AreSame (length need.old) (need_of need.new)
+        (at_least a.at (first_wanted whole op a.bytes (wanted (need_of need.old) to))
+        (at_least b.at (second_wanted whole op b.bytes (wanted (need_of need.old) to))
+        (without to.at (need_of need.old)))) }
+{
+    let n = wanted_of(need, to);
+    forget(need, to);
+    keep(need, b, second_wanted(whole, op, b.bytes, n));
+    keep(need, a, first_wanted(whole, op, a.bytes, n));
+}
+
+/// What is needed at a label.
+fn at_label(table: &LabelNeeds, l: u64, need: &mut [u8])
+    ensures { AreSame (length need.old) (need_of need.new) (needs_of table.now l) }
+{
+    for place in 0..need.len() {
+        need[place] = table.need(l, place);
+    }
+}
+
+/// What is needed at a label, and what was needed.
+fn or_at_label(table: &LabelNeeds, l: u64, need: &mut [u8])
+    ensures { AreSame (length need.old) (need_of need.new) (either (need_of need.old) (needs_of table.now l)) }
+{
+    for place in 0..need.len() {
+        need[place] = need[place].max(table.need(l, place));
+    }
+}
+
+/// What is needed before the end of a function.
+fn at_return(need: &mut [u8], from: Option<Temp>)
+    requires { MayHavePlace (length need.old) from }
+    ensures { AreSame (length need.old) (need_of need.new) (returned_need from) }
+{
+    clear(need);
+    if let Some(t) = from {
+        keep(need, t, t.bytes);
+    }
+}
+
+/// What is needed before a call: all but its result.
+fn at_call(need: &mut [u8], to: Option<Temp>)
+    requires { MayHavePlace (length need.old) to }
+    ensures { AreSame (length need.old) (need_of need.new) (without_result to (need_of need.old)) }
+{
+    if let Some(t) = to {
+        forget(need, t);
+    }
+}
+
+/// What is needed before a load through a pointer.
+fn at_load(need: &mut [u8], to: Temp, ptr: Temp)
+    requires to { to.at < length need.old }
+    requires pointer { ptr.at < length need.old }
+    ensures { AreSame (length need.old) (need_of need.new)
+        (at_least ptr.at ptr.bytes (without to.at (need_of need.old))) }
+{
+    forget(need, to);
+    keep(need, ptr, ptr.bytes);
+}
+
+/// What is needed before a store through a pointer.
+fn at_store(need: &mut [u8], ptr: Temp, from: Temp)
+    requires pointer { ptr.at < length need.old }
+    requires from { from.at < length need.old }
+    ensures { AreSame (length need.old) (need_of need.new)
+        (at_least from.at from.bytes (at_least ptr.at ptr.bytes (need_of need.old))) }
+{
+    keep(need, ptr, ptr.bytes);
+    keep(need, from, from.bytes);
+}
+
+/// What is needed before a branch to a label where a temporary is 0.
+fn at_branch(table: &LabelNeeds, t: Temp, l: u64, need: &mut [u8])
+    requires { t.at < length need.old }
+    ensures { AreSame (length need.old) (need_of need.new)
+        (at_least t.at t.bytes (either (need_of need.old) (needs_of table.now l))) }
+{
+    or_at_label(table, l, need);
+    keep(need, t, t.bytes);
+}
+
+/// Of the index of a port the low byte is needed.
+fn keep_index(need: &mut [u8], index: Option<Temp>)
+    requires { MayHavePlace (length need.old) index }
+    ensures { AreSame (length need.old) (need_of need.new) (index_needed index (need_of need.old)) }
+{
+    if let Some(t) = index {
+        keep(need, t, 1);
+    }
+}
+
+/// What is needed before a port is read.
+fn at_read(need: &mut [u8], to: Temp, index: Option<Temp>)
+    requires to { to.at < length need.old }
+    requires index { MayHavePlace (length need.old) index }
+    ensures { AreSame (length need.old) (need_of need.new) (index_needed index (without to.at (need_of need.old))) }
+{
+    forget(need, to);
+    keep_index(need, index);
+}
+
+/// What is needed before a port of some width is written.
+fn at_write(need: &mut [u8], from: Temp, index: Option<Temp>, width: u8)
+    requires from { from.at < length need.old }
+    requires index { MayHavePlace (length need.old) index }
+    ensures { AreSame (length need.old) (need_of need.new)
+        (at_least from.at width (index_needed index (need_of need.old))) }
+{
+    keep_index(need, index);
+    keep(need, from, width);
+}
+
+/// What is needed before an operation, in place of what is needed after it: `need` has a byte for each of the first
+/// places.
+pub fn before(table: &LabelNeeds, i: &Ir, need: &mut [u8])
+    requires { HasPlaces (length need.old) (plain_ir i.now) }
+    ensures { AreSame (length need.old) (need_of need.new)
+        (before (needs_of table.now) (plain_ir i.now) (need_of need.old)) }
+{
+    match i {
+        Ir::Const(t, _) | Ir::Addr(t, _, _) | Ir::LoadObj(t, _, _) => forget(need, *t),
+        Ir::Field { ptr, .. } => keep(need, *ptr, ptr.bytes),
+        Ir::Load { to, ptr, .. } => at_load(need, *to, *ptr),
+        Ir::Store { ptr, from, .. } => at_store(need, *ptr, *from),
+        Ir::StoreObj(_, _, t) => keep(need, *t, t.bytes),
+        Ir::Copy(to, a) => pass_on(need, false, *to, *a),
+        Ir::Un { ty, to, a, .. } => pass_on(need, is_whole(ty), *to, *a),
+        Ir::Conv { to, ty, a, aty, .. } => { pass_on(need, is_whole(ty) || is_whole(aty), *to, *a) }
+        Ir::Bin {
+            op,
+            to,
+            a,
+            aty,
+            b,
+            bty,
+            ..
+        } => {
+            let whole = is_whole(aty) || is_whole(bty);
+            pass_operands(need, whole, *op, *to, *a, *b)
+        }
+        Ir::Label(l) | Ir::Jump(l) => at_label(table, *l, need),
+        Ir::BranchZero(t, l) => at_branch(table, *t, *l, need),
+        Ir::Call(_, to) => at_call(need, *to),
+        Ir::Return(from) => at_return(need, *from),
+        Ir::PortIn { to, index, .. } => at_read(need, *to, *index),
+        Ir::PortOut {
+            from,
+            index,
+            width,
+            ..
+        } => at_write(need, *from, *index, *width),
+    }
+}

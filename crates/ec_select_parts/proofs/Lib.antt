@@ -1,2 +1,0 @@
--- Lemmas about the parts of operations.
-pub mod Bytes

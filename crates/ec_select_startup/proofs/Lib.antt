@@ -1,0 +1,6 @@
+mod Bytes
+mod Loops
+mod OneSpan
+mod Whole
+mod Words
+mod ValidItems

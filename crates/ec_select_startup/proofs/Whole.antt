@@ -1,0 +1,150 @@
+-- The code of all spans, and the whole code before `main`.
+use Rattle.std.proofs.Common.{◌≡◌, ◌≢◌, ℕ, suc, ◌+◌, ◌*◌, ◌<◌, ◌≤◌, List, [], ◌∷◌, ◌++◌, refl, sym, ap, ◌∙◌, arith, append-nil}
+use Rattle.std.proofs.Common.{append_assoc}
+use Rattle.std.specs.Prelude.{sum_by, All}
+use Rattle.std.specs.List.{AllPairs}
+use Rattle.std.proofs.lemmas.List.Elements.{All-nil, All-cons, All-head, All-tail}
+use Rattle.std.proofs.lemmas.List.Sums.{sum_by-drop_more}
+use Rattle.ec_isa.specs.declared.instructions.Instr.TheVariants.{Break}
+use Rattle.ec_asm.specs.declared.items.AsmItem.TheVariants.{Plain, CallTo}
+use Rattle.ec_asm.specs.View.{View, put}
+use Rattle.ec_asm.specs.Change.{Env, sp}
+use Rattle.ec_asm.specs.Items.{HasAt, block, part_of}
+use Rattle.ec_asm.specs.Pieces.{Outside}
+use Rattle.ec_asm.specs.Shows.{noted_all}
+use Rattle.ec_asm.specs.Run.{Running}
+use Rattle.ec_asm.specs.Takes.{Goes}
+use Rattle.ec_asm.proofs.Bytes.{put_other}
+use Rattle.ec_asm.proofs.Calls.{call_goes}
+use Rattle.ec_asm.proofs.Hoare.{has_parts, block_goes, goes_on_to}
+use Rattle.ec_select_startup.specs.declared.spans.Span.{Span}
+use Rattle.ec_select_startup.specs.Startup.{stack_code, span_code, spans_code}
+use Rattle.ec_select_startup.specs.Laws.{source, target, CanBeSet, IsBeside, IsNoneOf, HasStack, IsSet, accesses, all_accesses}
+use Rattle.ec_select_startup.specs.Laws.{StartupIsRight}
+use Rattle.ec_select_startup.proofs.Bytes.{outside_ne, noted-append}
+use Rattle.ec_select_startup.proofs.OneSpan.{span_sets, address_is}
+
+-- a run that has set the bytes of all spans
+record SetsAll (e : Env) (spans : List Span) (pc : ℕ) (v : View) (end : ℕ) : Type 0 where
+  steps : ℕ
+  at_most : steps ≤ sum_by (λ s. 6 + 4 * s.bytes) spans
+  last : View
+  goes : Goes e steps pc v end last
+  are_set : All (IsSet e last) spans
+  same : (a : ℕ) → a ≢ 0 → Outside 24 4 a → Outside 30 2 a → All (IsNoneOf e a) spans → last.at a ≡ v.at a
+  inputs : last.inputs ≡ v.inputs
+  safe : last.safe ≡ v.safe
+  seen : last.seen ≡ v.seen ++ noted_all e (all_accesses e spans)
+
+steps-cons : (s : Span) (ss : List Span)
+    → sum_by (λ s. 6 + 4 * s.bytes) (s ∷ ss) ≡ 6 + 4 * s.bytes + sum_by (λ s. 6 + 4 * s.bytes) ss
+steps-cons s ss = sum_by-drop_more (λ (s : Span). 6 + 4 * s.bytes) (s ∷ ss) 0 s (omega arith)
+
+spans_set : (e : Env) (spans : List Span) (v : View) (pc end : ℕ) → All (CanBeSet e) spans
+    → AllPairs (IsBeside e) spans → HasAt e (spans_code spans) pc end → SetsAll e spans pc v end
+spans_set e [] v pc end can apart at = record {
+  steps = 0;
+  at_most = omega arith;
+  last = v;
+  goes = record { by = ap (λ n. Running n v) (sym at) };
+  are_set = All-nil (IsSet e v);
+  same = λ a n0 o24 o30 o. refl;
+  inputs = refl;
+  safe = refl;
+  seen = sym (append-nil v.seen);
+}
+spans_set e (s ∷ ss) v pc end can apart at =
+    let parts = has_parts e (span_code s) (spans_code ss) pc end at in
+    let mine = All-head (CanBeSet e) s ss can in
+    let first = span_sets e s mine v pc parts.0 parts.1 in
+    let v1 = first.last in
+    let m = first.moved in
+    let beside : All (IsBeside e s) ss = λ j d l. apart 0 (suc j) d (omega arith) (omega arith) in
+    let rest = spans_set e ss v1 parts.0 end (All-tail (CanBeSet e) s ss can)
+    (λ i j d l h. apart (suc i) (suc j) d (omega arith) (omega arith)) parts.2 in
+    let above = mine.above in
+    let u1 = first.at_most in
+    let u2 = rest.at_most in
+    let kept = λ (k : ℕ) (l : k < s.bytes). rest.same (target e s + k) (omega arith) (λ h. omega arith) (λ h. omega arith)
+    (λ j d less. beside j d less k l) in
+    record {
+      steps = first.steps + rest.steps;
+      at_most = omega (arith, u1, u2, steps-cons s ss);
+      last = rest.last;
+      goes = goes_on_to e first.steps rest.steps pc parts.0 end v v1 rest.last first.goes rest.goes;
+      are_set = All-cons (IsSet e rest.last) s ss (λ k l. kept k l ∙ m.here k l) rest.are_set;
+      same = λ a n0 o24 o30 o.
+          rest.same a n0 o24 o30 (All-tail (IsNoneOf e a) s ss o) ∙ m.same a n0 o24 o30 (All-head (IsNoneOf e a) s ss o);
+      inputs = rest.inputs ∙ m.inputs;
+      safe = rest.safe ∙ m.safe;
+      seen = rest.seen
+          ∙ ap (λ l. l ++ noted_all e (all_accesses e ss)) m.seen
+          ∙ append_assoc v.seen _ _
+          ∙ ap (λ l. v.seen ++ l) (sym (noted-append e (accesses e (source e s) (target e s) s.bytes) (all_accesses e ss)));
+    }
+
+-- the stack pointer is set, through R25:R24
+record Pointed (e : Env) (v w : View) : Type 0 where
+  pointer : sp w ≡ e.address_of 1281 0
+  same : (a : ℕ) → Outside 24 4 a → Outside 0x5D 2 a → w.at a ≡ v.at a
+  inputs : w.inputs ≡ v.inputs
+  safe : w.safe ≡ v.safe
+  seen : w.seen ≡ v.seen
+
+stack_set : (e : Env) (v : View) → HasStack e → Pointed e v (block e stack_code v)
+stack_set e v st =
+    let n = e.address_of 1281 0 in
+    let low = part_of n 0 in
+    let high = part_of n 1 in
+    let g1 = put v.at 24 low in
+    let g2 = put g1 25 high in
+    let g3 = put g2 0x5E high in
+    rw (st.high, st.low) (record {
+      pointer = address_is n st.room;
+      same = λ a o24 o5d.
+          put_other g3 0x5D low a (outside_ne 0x5D 2 a 0x5D o5d (omega arith) (omega arith))
+          ∙ put_other g2 0x5E high a (outside_ne 0x5D 2 a 0x5E o5d (omega arith) (omega arith))
+          ∙ put_other g1 25 high a (outside_ne 24 4 a 25 o24 (omega arith) (omega arith))
+          ∙ put_other v.at 24 low a (outside_ne 24 4 a 24 o24 (omega arith) (omega arith));
+      inputs = refl;
+      safe = refl;
+      seen = refl;
+    })
+
+none_below : (e : Env) (spans : List Span) (a : ℕ) → a < 256 → All (CanBeSet e) spans → All (IsNoneOf e a) spans
+none_below e spans a l can k d less = let above = (can k d less).above in λ h. omega arith
+
+pub startup_is_right : StartupIsRight
+startup_is_right e spans main pc end v st can apart at =
+    let finish = CallTo main ∷ Plain Break ∷ [] in
+    let parts = has_parts e stack_code (spans_code spans ++ finish) pc end at in
+    let more = has_parts e (spans_code spans) finish parts.0 end parts.2 in
+    let v1 = block e stack_code v in
+    let p = stack_set e v st in
+    let g = block_goes e stack_code pc parts.0 v refl parts.1 in
+    let r = spans_set e spans v1 parts.0 more.0 can apart more.1 in
+    let w = r.last in
+    let tail = more.2 in
+    let ends = tail.2 in
+    let kept = λ (a : ℕ) (l : a < 256) (n0 : a ≢ 0) (o24 : Outside 24 4 a) (o30 : Outside 30 2 a).
+    r.same a n0 o24 o30 (none_below e spans a l can) in
+    let low : w.at 0x5D ≡ v1.at 0x5D = kept 0x5D (omega arith) (omega arith) (λ h. omega arith) (λ h. omega arith) in
+    let high : w.at 0x5E ≡ v1.at 0x5E = kept 0x5E (omega arith) (omega arith) (λ h. omega arith) (λ h. omega arith) in
+    let pointer : sp w ≡ e.address_of 1281 0 = ap (λ x. x + 256 * w.at 0x5E) low ∙ ap (λ x. v1.at 0x5D + 256 * x) high ∙ p.pointer in
+    let u = r.at_most in
+    record {
+      steps = 4 + r.steps;
+      at_most = omega arith;
+      call = more.0;
+      last = w;
+      goes = goes_on_to e 4 r.steps pc parts.0 more.0 v v1 w g r.goes;
+      pointer = pointer;
+      are_set = r.are_set;
+      same = λ a n0 o24 o30 o5d o. r.same a n0 o24 o30 o ∙ p.same a o24 o5d;
+      inputs = r.inputs ∙ p.inputs;
+      safe = r.safe ∙ p.safe;
+      seen = r.seen ∙ ap (λ l. l ++ noted_all e (all_accesses e spans)) p.seen;
+      back = tail.0;
+      calls = call_goes e main more.0 tail.0 w tail.1;
+      ends = ends.1.is;
+    }

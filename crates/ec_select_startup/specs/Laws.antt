@@ -1,0 +1,127 @@
+-- What the code before `main` does.
+use Rattle.std.specs.Prelude.{◌≡◌, ◌≢◌, ℕ, zero, suc, ◌+◌, ◌*◌, ◌<◌, ◌≤◌, true, List, [], ◌∷◌, ◌++◌, slice_index, Some}
+use Rattle.std.specs.Prelude.{sum_by, All, length, IsTrue, count_by}
+use Rattle.std.specs.List.{AllPairs, list_all}
+use Rattle.ec_space.specs.declared.space.Bank.TheVariants.{Flash as FlashBank}
+use Rattle.ec_isa.specs.declared.instructions.Instr.TheVariants.{Break}
+use Rattle.ec_avr.specs.declared.machine.Access.{Access}
+use Rattle.ec_avr.specs.declared.machine.Access.TheVariants.{Read, Write}
+use Rattle.ec_avr.specs.State.{lowered}
+use Rattle.ec_asm.specs.declared.items.AsmItem.{AsmItem}
+use Rattle.ec_asm.specs.View.{View}
+use Rattle.ec_asm.specs.Change.{Env, Own, Stacked, sp}
+use Rattle.ec_asm.specs.Run.{fetch, pushed}
+use Rattle.ec_asm.specs.Items.{HasAt, code_words}
+use Rattle.ec_asm.specs.Pieces.{Outside, is_held}
+use Rattle.ec_asm.specs.Shows.{noted_all}
+use Rattle.ec_asm.specs.Takes.{Goes}
+use Rattle.ec_asm.specs.Valid.{Sizes, is_offset, is_valid_item, used_label, is_label, stands_once, is_placed}
+use Rattle.ec_select_startup.specs.declared.spans.Span.{Span}
+use Rattle.ec_select_startup.specs.Startup.{startup_code}
+
+-- ---- where spans stand
+
+-- the flash address of the first initial byte, and the data address of the first byte that it is for
+abbrev pub source : Env → Span → ℕ
+source e s = e.address_of s.from 0
+
+abbrev pub target : Env → Span → ℕ
+target e s = e.address_of s.to 0
+
+-- all bytes are code's own or an object's, and those that are set stand above the ports
+pub record CanBeSet (e : Env) (s : Span) : Type 0 where
+  pub source_room : source e s + s.bytes < 65536
+  pub target_room : target e s + s.bytes < 65536
+  pub above : 256 ≤ target e s
+  pub table : (k : ℕ) → k < s.bytes → is_held (e.table (source e s + k)) ≡ true
+  pub kind : (k : ℕ) → k < s.bytes → is_held (e.kind (target e s + k)) ≡ true
+
+-- no byte of one span is a byte of the other
+abbrev pub IsBeside : Env → Span → Span → Type 0
+IsBeside e s t = (k : ℕ) → k < s.bytes → Outside (target e t) t.bytes (target e s + k)
+
+-- an address that is none of a span's
+abbrev pub IsNoneOf : Env → ℕ → Span → Type 0
+IsNoneOf e a s = Outside (target e s) s.bytes a
+
+-- the stack pointer is code's own, and the last byte of the stack has an address
+pub record HasStack (e : Env) : Type 0 where
+  pub low : e.kind 0x5D ≡ Own
+  pub high : e.kind 0x5E ≡ Own
+  pub room : e.address_of 1281 0 < 65536
+
+-- ---- what is done
+
+-- the bytes of a span are its initial bytes
+abbrev pub IsSet : Env → View → Span → Type 0
+IsSet e v s = (k : ℕ) → k < s.bytes → v.at (target e s + k) ≡ slice_index e.flash (source e s + k)
+
+-- the accesses: for each byte, rising, a read of the flash and a write
+abbrev pub accesses : Env → (from to n : ℕ) → List Access
+accesses e from to zero = []
+accesses e from to (suc n) =
+    let byte = slice_index e.flash (from + n) in
+    accesses e from to n ++ Read FlashBank (from + n) byte ∷ Write (to + n) byte ∷ []
+
+abbrev pub all_accesses : Env → List Span → List Access
+all_accesses e [] = []
+all_accesses e (s ∷ ss) = accesses e (source e s) (target e s) s.bytes ++ all_accesses e ss
+
+-- at most so many steps before the call of `main`
+abbrev pub most_steps : List Span → ℕ
+most_steps spans = 4 + sum_by (λ s. 6 + 4 * s.bytes) spans
+
+-- A run from the first word to the call of `main`. There the bytes of all spans are set, the stack pointer is at the
+-- last byte of the stack, and all else is kept but the work registers and the flags. The call goes on at `main` where
+-- both bytes that it pushes are the stack's, and BREAK stands where `main` returns. Only the call needs bytes of the
+-- stack
+pub record Starts (e : Env) (spans : List Span) (main pc : ℕ) (v : View) : Type 0 where
+  pub steps : ℕ
+  pub at_most : steps ≤ most_steps spans
+  pub call : ℕ
+  pub last : View
+  pub goes : Goes e steps pc v call last
+  pub pointer : sp last ≡ e.address_of 1281 0
+  pub are_set : All (IsSet e last) spans
+  pub same : (a : ℕ) → a ≢ 0 → Outside 24 4 a → Outside 30 2 a → Outside 0x5D 2 a → All (IsNoneOf e a) spans
+      → last.at a ≡ v.at a
+  pub inputs : last.inputs ≡ v.inputs
+  pub safe : last.safe ≡ v.safe
+  pub seen : last.seen ≡ v.seen ++ noted_all e (all_accesses e spans)
+  pub back : ℕ
+  pub calls : e.kind (sp last) ≡ Stacked → e.kind (lowered (sp last)) ≡ Stacked
+      → Goes e 1 call last (e.word_of main) (pushed back last)
+  pub ends : fetch e back ≡ Some Break
+
+abbrev pub StartupIsRight : Type 0
+StartupIsRight =
+    (e : Env) (spans : List Span) (main pc end : ℕ) (v : View) → HasStack e → All (CanBeSet e) spans
+    → AllPairs (IsBeside e) spans → HasAt e (startup_code spans main) pc end → Starts e spans main pc v
+
+abbrev pub StartupHasWords : Type 0
+StartupHasWords =
+    (spans : List Span) (main : ℕ) → code_words (startup_code spans main) ≤ 7 + 10 * length spans
+
+-- ---- items
+
+-- both numbers of a span name something, and its bytes have a number of 16 bits
+pub record IsValidSpan (sizes : Sizes) (s : Span) : Type 0 where
+  pub from : IsTrue (is_offset sizes s.from 0)
+  pub to : IsTrue (is_offset sizes s.to 0)
+  pub bytes : s.bytes < 65536
+
+-- the fields of all items are in range where those of the spans are
+abbrev pub StartupIsValid : Type 0
+StartupIsValid =
+    (sizes : Sizes) (spans : List Span) (main : ℕ) → All (IsValidSpan sizes) spans
+    → IsTrue (list_all (is_valid_item sizes) (startup_code spans main))
+
+-- items refer to the label of `main` alone, and are the place of none
+abbrev pub StartupUsesMain : Type 0
+StartupUsesMain =
+    (items : List AsmItem) (spans : List Span) (main : ℕ) → IsTrue (stands_once items main)
+    → IsTrue (list_all (λ item. is_placed items (used_label item)) (startup_code spans main))
+
+abbrev pub StartupPlacesNoLabel : Type 0
+StartupPlacesNoLabel =
+    (spans : List Span) (main l : ℕ) → count_by (is_label l) (startup_code spans main) ≡ 0

@@ -1,6 +1,0 @@
-pub mod Bytes
-pub mod Loops
-pub mod OneSpan
-pub mod Whole
-pub mod Words
-pub mod ValidItems

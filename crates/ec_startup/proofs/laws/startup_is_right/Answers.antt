@@ -1,5 +1,0 @@
-use Rattle.ec_startup.proofs.Whole.{startup_is_right}
-use Rattle.ec_startup.proofs.laws.startup_is_right.Goals as goal
-
-pub returns : goal.returns
-returns c = startup_is_right

@@ -1,4 +1,0 @@
--- Lemmas about statements.
-pub mod Inside
-pub mod Lists
-pub mod Walks

@@ -1,5 +1,0 @@
-use Rattle.ec_statements_valid.proofs.FunctionTypes.{function_types_are_usable}
-use Rattle.ec_statements_valid.proofs.laws.function_types_are_usable.Goals as goal
-
-pub returns : goal.returns
-returns c = function_types_are_usable c.said_types_are_placed.ensures

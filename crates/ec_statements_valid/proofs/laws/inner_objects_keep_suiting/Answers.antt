@@ -1,5 +1,0 @@
-use Rattle.ec_statements_valid.proofs.InnerObjects.{inner_objects_keep_suiting}
-use Rattle.ec_statements_valid.proofs.laws.inner_objects_keep_suiting.Goals as goal
-
-pub returns : goal.returns
-returns c = inner_objects_keep_suiting c.declarations_keep_suiting.ensures

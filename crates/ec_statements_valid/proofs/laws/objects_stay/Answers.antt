@@ -1,5 +1,0 @@
-use Rattle.ec_statements_valid.proofs.Scopes.{objects_stay}
-use Rattle.ec_statements_valid.proofs.laws.objects_stay.Goals as goal
-
-pub returns : goal.returns
-returns c = objects_stay c.blocks_end.ensures

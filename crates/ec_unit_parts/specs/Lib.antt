@@ -1,2 +1,0 @@
--- The definitions of what a `main` is.
-pub mod Mains

@@ -1,3 +1,0 @@
-pub mod Zips
-pub mod Lexed
-pub mod Parsed

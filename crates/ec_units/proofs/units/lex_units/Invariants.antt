@@ -1,6 +1,0 @@
-use Rattle.std.proofs.Common.{take}
-use Rattle.ec_units.specs.Units.{HaveTokens}
-use Rattle.ec_units.proofs.units.lex_units.Given as goal
-
-abbrev pub invariant-loop-i : goal.invariant-loop-i
-invariant-loop-i l = HaveTokens (take l.i l.sources) l.lists.items
