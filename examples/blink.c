@@ -20,5 +20,4 @@ int main(void)
         ioxor(PORTB, LED);
         wait();
     }
-    return 0;
 }

@@ -33,5 +33,4 @@ int main(void)
         if (is_pressed_now(down))
             ioxor(PORTB, LED);
     }
-    return 0;
 }

@@ -21,5 +21,4 @@ int main(void)
         for (uint8_t level = 255; level > 0; level--)
             show(level);
     }
-    return 0;
 }

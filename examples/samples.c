@@ -30,12 +30,8 @@ static uint16_t sampled(void)
 
 int main(void)
 {
-    uint16_t level = 0;
+    iowr(DDRD, 0xFF);
     iogroup_acquire(ADC);
-    for (uint8_t n = 0; n < 8; n++) {
-        level = average(sampled());
-        iowr(PORTD, level >> 7);
-    }
-    iogroup_release(ADC);
-    return level;
+    while (1)
+        iowr(PORTD, average(sampled()) >> 7);
 }

@@ -41,9 +41,8 @@ int main(void)
     ioor(DDRB, 0x02);
     iowr(TCCR1A, 0x81);
     iowr(TCCR1B, 0x09);
-    for (uint8_t i = 0; i < 64; i++) {
+    while (1) {
         iowr(OCR1A, (uint16_t)((int)((accum)sine(phase) << 7) + 128));
         phase += 1024;
     }
-    return 0;
 }
