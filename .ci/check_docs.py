@@ -4,7 +4,8 @@
 Fails where docs/proved.md names a file, a function, a law or a clause that does not exist, has no row for a law, or has rows of a crate
 that their section does not begin with; where crates.txt does not list the crates of the repository, lowest first and each with its comment;
 where the table of crates in docs/architecture.md is not that of crates.txt, or docs/index.md not that of the sources; and where a crate
-uses lemmas of another that are not for it. With --write it writes that table and that page.
+uses lemmas of another that are not for it; and where README.md or a page of docs/ links to what is not there, or README.md to a page
+not at all. With --write it writes that table and that page.
 """
 import re
 import sys
@@ -15,6 +16,7 @@ import pages
 from pages import ROOT
 
 CLAIMS = ROOT / "docs/proved.md"
+LINK = re.compile(r"\]\(([^)#]*)(#[^)]*)?\)")
 WORD = re.compile(r"`([^`]+)`")
 # A public function of no parameters and no result that ensures something.
 LAW = re.compile(r"^pub fn (\w+)(?:<[^(]*>)?\(\)\n(?:(?!\{|pub fn).*\n)*? *ensures", re.MULTILINE)
@@ -91,6 +93,19 @@ def faults_of_laws():
                     yield f"{CLAIMS.relative_to(ROOT)}: no row for the law {name} of {file}"
 
 
+def faults_of_links():
+    """The links of README.md and docs/ that lead nowhere, and the pages to which README.md has none."""
+    readme = ROOT / "README.md"
+    pages_of_docs = sorted((ROOT / "docs").glob("*.md"))
+    for page in [readme, *pages_of_docs]:
+        for path, _ in LINK.findall(page.read_text()):
+            if not (page.parent / path).exists():
+                yield f"{page.relative_to(ROOT)}: no {path}, to which it links"
+    linked = {path for path, _ in LINK.findall(readme.read_text())}
+    names = [str(page.relative_to(ROOT)) for page in pages_of_docs]
+    yield from (f"README.md: no link to {name}" for name in names if name not in linked)
+
+
 def main():
     is_written = sys.argv[1:] == ["--write"]
     faults = [
@@ -101,6 +116,7 @@ def main():
         *faults_of_claims(),
         *faults_of_sections(),
         *faults_of_laws(),
+        *faults_of_links(),
     ]
     print("\n".join([*faults, f"documents: {len(faults)} faults"]))
     return 1 if faults else 0

@@ -65,9 +65,9 @@ def write(path, text, encoding="utf-8"):
     path = pathlib.Path(path)
     part = None
     try:
-        with tempfile.NamedTemporaryFile("w", dir=path.parent, prefix=f".{path.name}.", newline="", encoding=encoding, delete=False) as file:
+        with tempfile.NamedTemporaryFile("wb", dir=path.parent, prefix=f".{path.name}.", delete=False) as file:
             part = file.name
-            file.write(text)
+            file.write(text.encode(encoding))
         umask = os.umask(0)
         os.umask(umask)
         os.chmod(part, 0o666 & ~umask)

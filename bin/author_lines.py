@@ -1,5 +1,4 @@
-#!/usr/bin/env python3
-"""napledge-lines : tells faults of preprocessed texts at the author's own lines (bin/napledge-cpp).
+"""Tells faults of preprocessed texts at the author's own lines (bin/napledge-cpp).
 
 It reads what bin/napledge-where says and writes it again. Where a line begins with a file, a line and a column, and beside the file lies
 its table FILE.lines, these become the author's file, line and column, and the shown line the author's. Where macros were replaced in the
