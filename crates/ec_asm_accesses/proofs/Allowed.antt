@@ -9,7 +9,7 @@ use Rattle.ec_isa.specs.declared.instructions.Instr.TheVariants.{Cpse, Jmp, Call
 use Rattle.ec_avr.specs.declared.machine.Access.{Access}
 use Rattle.ec_avr.specs.declared.machine.Stepped.{Stepped}
 use Rattle.ec_avr.specs.declared.machine.Stepped.TheVariants.{Ran, Ended as MEnded, Fault}
-use Rattle.ec_avr.specs.Effects.{effect, instruction_at}
+use Rattle.ec_avr.specs.Effects.{effect, instruction_at, relative}
 use Rattle.ec_avr.specs.Inputs.{trace_of}
 use Rattle.ec_avr.specs.Laws.{StepsByInstruction}
 use Rattle.ec_avr.specs.Machine.{State, Inputs, Run, Running as MRunning, EndedWith, FaultedAt, machine, preceded, continued, is_whole}
@@ -64,9 +64,9 @@ module _ (laws : GuardLaws) (e : Env) (size : ℕ) (fit : Fits e size) (s : Stat
   act_allowed (Cpse d r) answer safe = tt
   act_allowed (Sbrc r b) answer safe = tt
   act_allowed (Sbrs r b) answer safe = tt
-  act_allowed (Rcall k) answer safe = call_allowed e size fit s v h _ _
-  act_allowed (Call k) answer safe = call_allowed e size fit s v h _ _
-  act_allowed Ret answer safe = return_allowed e size fit s v h
+  act_allowed (Rcall k) answer safe = call_allowed e size fit s v h _ _ (relative s.pc k) (s.pc + 1) safe
+  act_allowed (Call k) answer safe = call_allowed e size fit s v h _ _ k (s.pc + 2) safe
+  act_allowed Ret answer safe = return_allowed e size fit s v h safe
   act_allowed Break answer safe = tt
   act_allowed i answer safe =
       change_allowed e size fit s v h i answer (when_safe (goes_on i) ((s.pc + words i) % 65536) (change e i v) safe)

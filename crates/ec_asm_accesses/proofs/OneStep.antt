@@ -9,7 +9,7 @@ use Rattle.ec_isa.specs.declared.instructions.Instr.TheVariants.{LddZ, LddY, Std
 use Rattle.ec_isa.specs.declared.instructions.Instr.TheVariants.{StXPlus, StZPlus, LpmZPlus, Pop, Push, In as InInstr, Out as OutInstr}
 use Rattle.ec_isa.specs.declared.instructions.Instr.TheVariants.{Call, Ret, Rcall, LdMinusZ, LdYPlus, LdMinusY, LdMinusX, StMinusZ, StYPlus}
 use Rattle.ec_isa.specs.declared.instructions.Instr.TheVariants.{StMinusY, StMinusX, Icall}
-use Rattle.ec_avr.specs.declared.machine.Access.TheVariants.{Silent, In, Out, Read, Write}
+use Rattle.ec_avr.specs.declared.machine.Access.TheVariants.{Silent, In, Out, Read, Write, Stack}
 use Rattle.ec_avr.specs.declared.machine.Stepped.{Stepped}
 use Rattle.ec_avr.specs.declared.machine.Stepped.TheVariants.{Ran, Ended as MEnded, Fault}
 use Rattle.ec_avr.specs.Effects.{After, effect, load, store, load_access, store_access, load_and_raise, store_and_raise, load_flash}
@@ -17,7 +17,8 @@ use Rattle.ec_avr.specs.Effects.{load_flash_and_raise, push, pop, call, return_f
 use Rattle.ec_avr.specs.Machine.{State}
 use Rattle.ec_avr.specs.State.{is_core_register, is_sram, raised, lowered, stack_pointer, pair as m_pair}
 use Rattle.ec_asm.specs.View.{View, pair}
-use Rattle.ec_asm.specs.Change.{Env, Kind, Own, Object, Port, Stacked, Barred, change, load_by, store_by, flash_by}
+use Rattle.ec_asm.specs.Change.{Env, Kind, Own, Object, Port, Stacked, Barred, change, load_by, store_by, flash_by, push_by, pop_by, sp}
+use Rattle.ec_asm.specs.Run.{Status, Running, Stuck, act, call_by, on_stack, pushed, popped, back_at, is_safe}
 use Rattle.ec_asm.specs.Pieces.{is_held}
 use Rattle.ec_asm.specs.Shows.{Shows, Fits, may_be}
 use Rattle.ec_asm_accesses.specs.Allowed.{IsAllowed}
@@ -57,6 +58,27 @@ flash_held Object d a x v h = refl
 flash_held Port d a x v h = absurd (false≢true h)
 flash_held Stacked d a x v h = absurd (false≢true h)
 flash_held Barred d a x v h = absurd (false≢true h)
+
+push_stacked : (k : Kind) (x : ℕ) (v : View) → (push_by k x v).safe ≡ true → k ≡ Stacked
+push_stacked Own x v h = absurd (false≢true h)
+push_stacked Object x v h = absurd (false≢true h)
+push_stacked Port x v h = absurd (false≢true h)
+push_stacked Stacked x v h = refl
+push_stacked Barred x v h = absurd (false≢true h)
+
+pop_stacked : (k : Kind) (d : ℕ) (v : View) → (pop_by k d v).safe ≡ true → k ≡ Stacked
+pop_stacked Own d v h = absurd (false≢true h)
+pop_stacked Object d v h = absurd (false≢true h)
+pop_stacked Port d v h = absurd (false≢true h)
+pop_stacked Stacked d v h = refl
+pop_stacked Barred d v h = absurd (false≢true h)
+
+is_stacked : (k : Kind) → on_stack k ≡ true → k ≡ Stacked
+is_stacked Own h = absurd (false≢true h)
+is_stacked Object h = absurd (false≢true h)
+is_stacked Port h = absurd (false≢true h)
+is_stacked Stacked h = refl
+is_stacked Barred h = absurd (false≢true h)
 
 -- above the ports a byte that is used is held
 high_is_held : (k : Kind) (size a : ℕ) → may_be k size a ≡ true → IsUsed k → nat_lt a 256 ≡ false → is_held k ≡ true
@@ -126,18 +148,31 @@ module _ (e : Env) (size : ℕ) (fit : Fits e size) (s : State) (v : View) (h : 
   flash_raised : (d : ℕ) → is_held (e.table (m_pair s 30)) ≡ true → IsStepAllowed e (load_flash_and_raise d s).stepped
   flash_raised d u = where_allowed (nat_lt (m_pair s 30) (length s.mem.flash)) _ _ u tt
 
-  push_allowed : (byte : ℕ) → IsStepAllowed e (push byte s).stepped
-  push_allowed byte = where_allowed (is_sram s (stack_pointer s)) _ _ tt tt
+  -- an address is the stack's
+  abbrev HasStack : Type 0
+  HasStack = IsAllowed e Stack
 
-  pop_allowed : (d : ℕ) → IsStepAllowed e (pop d s).stepped
-  pop_allowed d = where_allowed (is_sram s (raised (stack_pointer s))) _ _ tt tt
+  push_allowed : (byte : ℕ) → HasStack → IsStepAllowed e (push byte s).stepped
+  push_allowed byte has = where_allowed (is_sram s (stack_pointer s)) _ _ has tt
 
-  pub call_allowed : (to back : ℕ) → IsStepAllowed e (call to back s).stepped
-  call_allowed to back = where_allowed (is_sram s (stack_pointer s) && is_sram s (lowered (stack_pointer s))) _ _ tt tt
+  pop_allowed : (d : ℕ) → HasStack → IsStepAllowed e (pop d s).stepped
+  pop_allowed d has = where_allowed (is_sram s (raised (stack_pointer s))) _ _ has tt
 
-  pub return_allowed : IsStepAllowed e (return_from_call s).stepped
-  return_allowed =
-      where_allowed (is_sram s (raised (stack_pointer s)) && is_sram s (raised (raised (stack_pointer s)))) _ _ tt tt
+  both_stacked : (a b : ℕ) (st : Status) → is_safe (if on_stack (e.kind a) && on_stack (e.kind b) then st else Stuck) ≡ true → HasStack
+  both_stacked a b st safe = by_test (on_stack (e.kind a)) refl safe where
+    by_test : (x : Bool) → on_stack (e.kind a) ≡ x → is_safe (if x && on_stack (e.kind b) then st else Stuck) ≡ true → HasStack
+    by_test true q h = (a, is_stacked (e.kind a) q)
+    by_test false q h = absurd (false≢true h)
+
+  pub call_allowed : (to back m n : ℕ) → is_safe (call_by e m n v) ≡ true → IsStepAllowed e (call to back s).stepped
+  call_allowed to back m n safe =
+      where_allowed (is_sram s (stack_pointer s) && is_sram s (lowered (stack_pointer s))) _ _
+      (both_stacked (sp v) (lowered (sp v)) (Running (m % 65536) (pushed n v)) safe) tt
+
+  pub return_allowed : is_safe (act e (Some Ret) s.pc v) ≡ true → IsStepAllowed e (return_from_call s).stepped
+  return_allowed safe =
+      where_allowed (is_sram s (raised (stack_pointer s)) && is_sram s (raised (raised (stack_pointer s)))) _ _
+      (both_stacked (raised (sp v)) (raised (raised (sp v))) (Running (back_at v % 65536) (popped v)) safe) tt
 
   -- ---- instructions
 
@@ -192,8 +227,8 @@ module _ (e : Env) (size : ℕ) (fit : Fits e size) (s : State) (v : View) (h : 
   change_allowed (StZPlus r) answer safe = store_raised 30 _ (subst Used z_is (stores (pair v.at 30) (v.at r) safe))
   change_allowed (LpmZ d) answer safe = flash_allowed d (reads_flash d safe)
   change_allowed (LpmZPlus d) answer safe = flash_raised d (reads_flash d safe)
-  change_allowed (Push r) answer safe = push_allowed _
-  change_allowed (Pop d) answer safe = pop_allowed d
+  change_allowed (Push r) answer safe = push_allowed _ (sp v, push_stacked (e.kind (sp v)) (v.at r) v safe)
+  change_allowed (Pop d) answer safe = pop_allowed d (raised (sp v), pop_stacked (e.kind (raised (sp v))) d v safe)
   change_allowed (LdMinusZ d) answer safe = absurd (false≢true safe)
   change_allowed (LdYPlus d) answer safe = absurd (false≢true safe)
   change_allowed (LdMinusY d) answer safe = absurd (false≢true safe)
@@ -202,8 +237,8 @@ module _ (e : Env) (size : ℕ) (fit : Fits e size) (s : State) (v : View) (h : 
   change_allowed (StYPlus r) answer safe = absurd (false≢true safe)
   change_allowed (StMinusY r) answer safe = absurd (false≢true safe)
   change_allowed (StMinusX r) answer safe = absurd (false≢true safe)
-  change_allowed (Call k) answer safe = call_allowed _ _
-  change_allowed (Rcall k) answer safe = call_allowed _ _
-  change_allowed Icall answer safe = call_allowed _ _
-  change_allowed Ret answer safe = return_allowed
+  change_allowed (Call k) answer safe = absurd (false≢true safe)
+  change_allowed (Rcall k) answer safe = absurd (false≢true safe)
+  change_allowed Icall answer safe = absurd (false≢true safe)
+  change_allowed Ret answer safe = absurd (false≢true safe)
   change_allowed _ answer safe = tt

@@ -7,7 +7,7 @@ use Rattle.ec_avr.specs.declared.machine.Access.{Access}
 use Rattle.ec_avr.specs.declared.machine.Access.TheVariants.{Silent, In, Out, Read, Write, Stack}
 use Rattle.ec_avr.specs.Inputs.{trace_of}
 use Rattle.ec_avr.specs.Machine.{State, Inputs, machine}
-use Rattle.ec_asm.specs.Change.{Env, Port}
+use Rattle.ec_asm.specs.Change.{Env, Port, Stacked}
 use Rattle.ec_asm.specs.Pieces.{is_held}
 use Rattle.ec_asm.specs.Run.{Running, run, is_safe}
 use Rattle.ec_asm.specs.Shows.{Shows, Fits}
@@ -16,7 +16,8 @@ use Rattle.ec_asm.specs.View.{View}
 -- ---- where the run of the view is safe
 
 -- A read or a write is one of a byte which is code's own or an object's, in data memory above the ports, and what goes
--- in or out does so at a port. Pushes and pops have a law of their own
+-- in or out does so at a port. A push or a pop is there only where an address is the stack's; which bytes it moves is
+-- told by a law of its own
 abbrev pub IsAllowed : Env → Access → Type 0
 IsAllowed e Silent = ⊤
 IsAllowed e (In port byte) = e.kind port ≡ Port
@@ -24,7 +25,7 @@ IsAllowed e (Out port byte) = e.kind port ≡ Port
 IsAllowed e (Read DataBank at byte) = (256 ≤ at) × IsTrue (is_held (e.kind at))
 IsAllowed e (Read FlashBank at byte) = IsTrue (is_held (e.table at))
 IsAllowed e (Write at byte) = (256 ≤ at) × IsTrue (is_held (e.kind at))
-IsAllowed e Stack = ⊤
+IsAllowed e Stack = (at : ℕ) × (e.kind at ≡ Stacked)
 
 -- where the run of the view is safe, so is each access of the machine
 abbrev pub AccessesAreAllowed : Type 0

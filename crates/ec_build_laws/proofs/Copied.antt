@@ -1,15 +1,12 @@
 -- Before main the initial bytes are copied.
-use Rattle.std.proofs.Common.{◌≡◌, ℕ, zero, suc, ◌+◌, ◌<◌, Bool, true, false, List, [], ◌∷◌, ◌++◌, Some, append_assoc}
+use Rattle.std.proofs.Common.{◌≡◌, ℕ, zero, suc, ◌+◌, Bool, true, false, List, [], ◌∷◌, ◌++◌, Some}
 use Rattle.std.proofs.Common.{zero-add, refl, sym, ap, ◌∙◌, subst, arith}
 use Rattle.std.specs.Prelude.{if◌then◌else◌, slice_get, slice_index}
-use Rattle.std.proofs.lemmas.Bool.{lt-ltb}
 use Rattle.std.proofs.lemmas.Option.{get_or_from_slice_get}
 use Rattle.ec_space.specs.declared.space.Bank.TheVariants.{Flash as FlashBank}
 use Rattle.ec_space.specs.declared.space.Place.{Place}
-use Rattle.ec_avr.specs.declared.machine.Access.{Access}
 use Rattle.ec_avr.specs.declared.machine.Access.TheVariants.{Read, Write}
-use Rattle.ec_asm.specs.Change.{Env, Object}
-use Rattle.ec_asm.specs.Shows.{noted, noted_all}
+use Rattle.ec_asm.specs.Change.{Env}
 use Rattle.ec_asm.specs.declared.items.AsmProgram.{AsmProgram}
 use Rattle.ec_core.specs.Layout.{size_of_type}
 use Rattle.ec_core.specs.Plain.{PlainStruct, PlainObject, PlainProgram}
@@ -29,38 +26,19 @@ use Rattle.ec_build_laws.proofs.Laid.{PlacedLaws, is_copied}
 use Rattle.ec_build_laws.proofs.Rows.{place_there, initial_there}
 use Rattle.ec_build_laws.proofs.Watched.{watched_kinds, watched_tables, watched, watched_has_kinds}
 
--- ---- copies are noted
+-- ---- copies of objects
 
-noted-append : (e : Env) (xs ys : List Access) → noted_all e (xs ++ ys) ≡ noted_all e xs ++ noted_all e ys
-noted-append e [] ys = refl
-noted-append e (x ∷ xs) ys =
-    ap (λ z. noted e x ++ z) (noted-append e xs ys) ∙ sym (append_assoc (noted e x) (noted_all e xs) (noted_all e ys))
-
--- what is known of an object that is copied: from where and to where, and that all of it is noted
-record AreNoted (e : Env) (from to n : ℕ) : Type 0 where
-  tables : (k : ℕ) → k < n → e.table (from + k) ≡ Object
-  kinds : (k : ℕ) → k < n → e.kind (to + k) ≡ Object
-
-noted_copying : (e : Env) (from to n : ℕ) → AreNoted e from to n → noted_all e (accesses e from to n) ≡ copying e.flash from to n
-noted_copying e from to zero h = refl
-noted_copying e from to (suc n) h =
+copying_is : (e : Env) (from to n : ℕ) → accesses e from to n ≡ copying e.flash from to n
+copying_is e from to zero = refl
+copying_is e from to (suc n) =
     let byte = slice_index e.flash (from + n) in
-    let before =
-    noted_copying e from to n
-    (record { tables = λ k less. h.tables k (omega (arith, less)); kinds = λ k less. h.kinds k (omega (arith, less)) }) in
-    let last : noted_all e (Read FlashBank (from + n) byte ∷ Write (to + n) byte ∷ [])
-    ≡ Read FlashBank (from + n) byte ∷ Write (to + n) byte ∷ [] =
-    rw (h.tables n (omega arith), h.kinds n (omega arith)) refl in
-    noted-append e (accesses e from to n) (Read FlashBank (from + n) byte ∷ Write (to + n) byte ∷ [])
-    ∙ ap (λ z. z ++ noted_all e (Read FlashBank (from + n) byte ∷ Write (to + n) byte ∷ [])) before
-    ∙ ap (λ z. copying e.flash from to n ++ z) last
+    ap (λ z. z ++ Read FlashBank (from + n) byte ∷ Write (to + n) byte ∷ []) (copying_is e from to n)
 
 module _ (e : Env) (structs : List PlainStruct) where
   -- the address of object o's initial bytes and its own
   record IsFrom (o : ℕ) (d : PlainObject) (at : ℕ) (q : Place) : Type 0 where
     from : e.address_of (2048 + o) 0 ≡ at
     to : e.address_of o 0 ≡ q.offset
-    noted : AreNoted e at q.offset (size_of_type structs d.ty)
 
   record StandsFrom (o j : ℕ) (d : PlainObject) (ats : List ℕ) (qs : List Place) : Type 0 where
     at : ℕ
@@ -69,15 +47,15 @@ module _ (e : Env) (structs : List PlainStruct) where
     is_place : slice_get qs j ≡ Some place
     copied : has_initial_bytes d.storage d.home ≡ true → IsFrom o d at place
 
-  all_noted : (o : ℕ) (ds : List PlainObject) (ats : List ℕ) (qs : List Place)
+  all_copied : (o : ℕ) (ds : List PlainObject) (ats : List ℕ) (qs : List Place)
       → ((j : ℕ) (d : PlainObject) → slice_get ds j ≡ Some d → StandsFrom (o + j) j d ats qs)
-      → noted_all e (all_accesses e (spans_from structs o ds)) ≡ copying_objects e.flash structs ds ats qs
-  all_noted o [] ats qs each = refl
-  all_noted o (d ∷ ds) [] qs each = let f = each 0 d refl in let no = f.is_at in absurd cc
-  all_noted o (d ∷ ds) (at ∷ ats) [] each = let f = each 0 d refl in let no = f.is_place in absurd cc
-  all_noted o (d ∷ ds) (at ∷ ats) (q ∷ qs) each =
+      → all_accesses e (spans_from structs o ds) ≡ copying_objects e.flash structs ds ats qs
+  all_copied o [] ats qs each = refl
+  all_copied o (d ∷ ds) [] qs each = let f = each 0 d refl in let no = f.is_at in absurd cc
+  all_copied o (d ∷ ds) (at ∷ ats) [] each = let f = each 0 d refl in let no = f.is_place in absurd cc
+  all_copied o (d ∷ ds) (at ∷ ats) (q ∷ qs) each =
       by_kind (has_initial_bytes d.storage d.home) refl
-      (all_noted (o + 1) ds ats qs
+      (all_copied (o + 1) ds ats qs
       (λ j x is. let f = each (suc j) x is in let n : o + suc j ≡ o + 1 + j = omega arith in
       record {
         at = f.at;
@@ -97,20 +75,18 @@ module _ (e : Env) (structs : List PlainStruct) where
             (subst (λ y. IsFrom (o + 0) d at y) place_is (subst (λ k. IsFrom (o + 0) d k f.place) at_is (f.copied has)))
 
         by_kind : (kept : Bool) → has_initial_bytes d.storage d.home ≡ kept
-            → noted_all e (all_accesses e (spans_from structs (o + 1) ds)) ≡ copying_objects e.flash structs ds ats qs
-            → noted_all e
-            (all_accesses e
+            → all_accesses e (spans_from structs (o + 1) ds) ≡ copying_objects e.flash structs ds ats qs
+            → all_accesses e
             ((if kept then record { from = 2048 + o; to = o; bytes = size_of_type structs d.ty } ∷ [] else []) ++ spans_from structs
-            (o + 1) ds))
+            (o + 1) ds)
             ≡ (if kept then copying e.flash at q.offset (size_of_type structs d.ty) else []) ++ copying_objects e.flash structs ds ats qs
         by_kind false has rest = rest
         by_kind true has rest =
             let c = here has in
             let size = size_of_type structs d.ty in
-            noted-append e (accesses e (e.address_of (2048 + o) 0) (e.address_of o 0) size) (all_accesses e (spans_from structs (o + 1) ds))
-            ∙ ap (λ z. z ++ noted_all e (all_accesses e (spans_from structs (o + 1) ds)))
-            (ap (λ k. noted_all e (accesses e k (e.address_of o 0) size)) c.from ∙ ap (λ k. noted_all e (accesses e at k size)) c.to
-            ∙ noted_copying e at q.offset size c.noted)
+            ap (λ z. z ++ all_accesses e (spans_from structs (o + 1) ds))
+            (ap (λ k. accesses e k (e.address_of o 0) size) c.from ∙ ap (λ k. accesses e at k size) c.to
+            ∙ copying_is e at q.offset size)
             ∙ ap (λ z. copying e.flash at q.offset size ++ z) rest
 
 -- ---- the whole
@@ -119,9 +95,6 @@ module _ (laws : PlacedLaws) (p : PlainProgram) (m : Map) (asm : AsmProgram) (l 
     (are : AreKinds p m asm l) where
   abbrev w : Env
   w = watched p m asm l
-
-  table_noted : (a : ℕ) → a < 32768 → watched_tables a ≡ Object
-  table_noted a low = rw (lt-ltb a 32768 low) refl
 
   stands_from : (j : ℕ) (d : PlainObject) → slice_get p.objects j ≡ Some d
       → StandsFrom w p.structs (0 + j) j d (layout_by p m asm).initials l.places.items
@@ -143,17 +116,8 @@ module _ (laws : PlacedLaws) (p : PlainProgram) (m : Map) (asm : AsmProgram) (l 
         is_place = placed_there;
         copied = λ has.
             let c = of has in
-            let room = c.room in
-            subst (λ k. IsFrom w p.structs k d first.0 there.0) (sym (zero-add j))
-            (record {
-              from = c.from ∙ at_is;
-              to = c.to ∙ place_is;
-              noted = record {
-                tables = λ k less. table_noted (first.0 + k) (omega (arith, room, less, at_is));
-                kinds = λ k less. subst (λ n. watched_kinds p m asm l (n + k) ≡ Object) place_is (c.kinds k less);
-              };
-            });
+            subst (λ k. IsFrom w p.structs k d first.0 there.0) (sym (zero-add j)) (record { from = c.from ∙ at_is; to = c.to ∙ place_is });
       }
 
-  pub copies_are_noted : noted_all w (all_accesses w (spans_of (lowered p (plain_table m.io)))) ≡ copies p m l
-  copies_are_noted = all_noted w p.structs 0 p.objects (layout_by p m asm).initials l.places.items stands_from
+  pub are_copies : all_accesses w (spans_of (lowered p (plain_table m.io))) ≡ copies p m l
+  are_copies = all_copied w p.structs 0 p.objects (layout_by p m asm).initials l.places.items stands_from

@@ -6,8 +6,7 @@ use Rattle.std.proofs.lemmas.Bool.{leb-true, cases_lt}
 use Rattle.ec_runs.specs.Behaviours.{Behaviour, Running as GoesOn, Ended as Ends, Failed, BeginWith, Continues}
 use Rattle.ec_runs.specs.Behaviours.{Reached, IsWithin, seen_as}
 use Rattle.ec_runs.proofs.Runs.{begin_onward}
-use Rattle.ec_space.specs.declared.space.Bank.{Bank}
-use Rattle.ec_space.specs.declared.space.Bank.TheVariants.{Flash as FlashBank, Data as DataBank}
+use Rattle.ec_space.specs.declared.space.Bank.TheVariants.{Flash as FlashBank}
 use Rattle.ec_avr.specs.declared.machine.Access.{Access}
 use Rattle.ec_avr.specs.declared.machine.Access.TheVariants.{Silent, In, Out, Read, Write, Stack}
 use Rattle.ec_avr.specs.Inputs.{trace_of}
@@ -15,8 +14,8 @@ use Rattle.ec_avr.specs.Laws.{MachineIsRun}
 use Rattle.ec_avr.specs.Machine.{State, Inputs, Run, Running, EndedWith, FaultedAt, preceded, machine}
 use Rattle.ec_avr.specs.Runs.{preceded_by, behaviour_of}
 use Rattle.ec_asm.specs.Behaves.{noted_run}
-use Rattle.ec_asm.specs.Change.{Env, Kind, Own, Object, Port, Stacked, Barred}
-use Rattle.ec_asm.specs.Shows.{Fits, if_object, noted_all}
+use Rattle.ec_asm.specs.Change.{Env, Stacked}
+use Rattle.ec_asm.specs.Shows.{Shows, Fits, noted_all}
 use Rattle.ec_core.specs.Laws.{MoreTurnsOnlyAdd}
 use Rattle.ec_core.specs.Meaning.{source, work}
 use Rattle.ec_core.specs.Plain.{PlainProgram}
@@ -39,8 +38,10 @@ use Rattle.std.specs.Prelude.{All}
 use Rattle.std.proofs.lemmas.List.Elements.{All-weaker}
 use Rattle.ec_build_laws.proofs.Guarded.{GuardLaws, are_kinds}
 use Rattle.ec_build_laws.specs.Kinds.{placed, place_of}
-use Rattle.ec_build_laws.specs.Runs.{start_steps, is_within_work, RunsAsSource, ImagesRunAsSources}
-use Rattle.ec_build_laws.specs.Shown.{ports_of, ShowsFirst, PushesInRegion, Comes, IsWithinSource}
+use Rattle.ec_select_reset.specs.Laws.{all_but_silent}
+use Rattle.ec_build_laws.specs.Runs.{view_of, start_steps, is_within_work, RunsAsSource, ImagesRunAsSources}
+use Rattle.ec_build_laws.specs.Shown.{ports_of, ShowsFirst, StaysInStack, PushesInRegion, Comes, IsWithinSource}
+use Rattle.ec_build_laws.proofs.Ran.{reset_shows}
 use Rattle.ec_build_laws.specs.Shown.{ImagesShowTheirSources}
 
 -- ---- lists of accesses
@@ -66,38 +67,15 @@ ports-append (Read bank at byte ∷ a) b = ports-append a b
 ports-append (Write at byte ∷ a) b = ports-append a b
 ports-append (Stack ∷ a) b = ports-append a b
 
--- the accesses of ports are all noted
-read_is_none : (k : Kind) (at byte : ℕ) (bank : Bank) → ports_of (if_object k (Read bank at byte)) ≡ []
-read_is_none Own at byte bank = refl
-read_is_none Object at byte bank = refl
-read_is_none Port at byte bank = refl
-read_is_none Stacked at byte bank = refl
-read_is_none Barred at byte bank = refl
-
-write_is_none : (k : Kind) (at byte : ℕ) → ports_of (if_object k (Write at byte)) ≡ []
-write_is_none Own at byte = refl
-write_is_none Object at byte = refl
-write_is_none Port at byte = refl
-write_is_none Stacked at byte = refl
-write_is_none Barred at byte = refl
-
-behind_none : (a b c : List Access) → ports_of a ≡ [] → ports_of b ≡ ports_of c → ports_of (a ++ b) ≡ ports_of c
-behind_none a b c h r = ports-append a b ∙ ap (λ z. z ++ ports_of b) h ∙ r
-
-ports_noted : (e : Env) (trace : List Access) → ports_of (noted_all e trace) ≡ ports_of trace
-ports_noted e [] = refl
-ports_noted e (Silent ∷ trace) = ports_noted e trace
-ports_noted e (In port byte ∷ trace) = ap (λ z. In port byte ∷ z) (ports_noted e trace)
-ports_noted e (Out port byte ∷ trace) = ap (λ z. Out port byte ∷ z) (ports_noted e trace)
-ports_noted e (Read DataBank at byte ∷ trace) =
-    behind_none (if_object (e.kind at) (Read DataBank at byte)) (noted_all e trace) trace (read_is_none (e.kind at) at byte DataBank)
-    (ports_noted e trace)
-ports_noted e (Read FlashBank at byte ∷ trace) =
-    behind_none (if_object (e.table at) (Read FlashBank at byte)) (noted_all e trace) trace (read_is_none (e.table at) at byte FlashBank)
-    (ports_noted e trace)
-ports_noted e (Write at byte ∷ trace) =
-    behind_none (if_object (e.kind at) (Write at byte)) (noted_all e trace) trace (write_is_none (e.kind at) at byte) (ports_noted e trace)
-ports_noted e (Stack ∷ trace) = ports_noted e trace
+-- no silent access is one
+ports_aloud : (trace : List Access) → ports_of (all_but_silent trace) ≡ ports_of trace
+ports_aloud [] = refl
+ports_aloud (Silent ∷ trace) = ports_aloud trace
+ports_aloud (In port byte ∷ trace) = ap (λ z. In port byte ∷ z) (ports_aloud trace)
+ports_aloud (Out port byte ∷ trace) = ap (λ z. Out port byte ∷ z) (ports_aloud trace)
+ports_aloud (Read bank at byte ∷ trace) = ports_aloud trace
+ports_aloud (Write at byte ∷ trace) = ports_aloud trace
+ports_aloud (Stack ∷ trace) = ports_aloud trace
 
 -- copies are none
 copies_are_none : (e : Env) (from to n : ℕ) → ports_of (copies_of e from to n) ≡ []
@@ -113,10 +91,11 @@ all_are_none e (s ∷ spans) =
     ports-append (copies_of e (source_of e s) (target e s) s.bytes) (all_accesses e spans)
     ∙ ap (λ z. z ++ ports_of (all_accesses e spans)) (copies_are_none e (source_of e s) (target e s) s.bytes) ∙ all_are_none e spans
 
-pub quiet : (e : Env) (trace : List Access) (spans : List Span) → noted_all e trace ≡ noted_all e (all_accesses e spans) → ports_of trace
-    ≡ []
-quiet e trace spans h =
-    sym (ports_noted e trace) ∙ ap ports_of h ∙ ports_noted e (all_accesses e spans) ∙ all_are_none e spans
+pub quiet : (e : Env) (before start : List Access) (spans : List Span) → start ≡ before ++ Stack ∷ []
+    → all_but_silent before ≡ all_accesses e spans → ports_of start ≡ []
+quiet e before start spans calls copies =
+    ap ports_of calls ∙ ports-append before (Stack ∷ [])
+    ∙ ap (λ z. z ++ []) (sym (ports_aloud before) ∙ ap ports_of copies ∙ all_are_none e spans)
 
 -- ---- runs behind accesses
 
@@ -296,15 +275,25 @@ module _ (p : PlainProgram) (m : Map) (l : Located) (e : Env) (s : State) (input
 
 -- ---- the stack
 
-module _ (p : PlainProgram) (m : Map) (l : Located) (e : Env) (s : State) (inputs : Inputs) (r : RunsAsSource p m l e s inputs) where
-  pub pushes : StackStaysInside → Fits e 2304 → ((a : ℕ) → e.kind a ≡ Stacked → (m.stack.first ≤ a) × (a < end_of m.stack))
-      → (k : ℕ) (trace : List Access) (t : State) → machine k inputs r.main ≡ Running trace t
+module _ (p : PlainProgram) (m : Map) (l : Located) (e : Env) (s : State) (inputs : Inputs) (r : RunsAsSource p m l e s inputs)
+    (inside : StackStaysInside) (fit : Fits e 2304)
+    (told : (a : ℕ) → e.kind a ≡ Stacked → (m.stack.first ≤ a) × (a < end_of m.stack)) where
+  told_stays : (t : State) → All (λ at. e.kind at ≡ Stacked) (stack_bytes t) → StaysInStack m t
+  told_stays t h = All-weaker (λ at. e.kind at ≡ Stacked) (λ at. (m.stack.first ≤ at) × (at < end_of m.stack)) told (stack_bytes t) h
+
+  -- up to the call of main
+  pub start_pushes : Shows e 2304 s.mem (view_of s inputs) → (k : ℕ) (trace : List Access) (t : State) → k < r.steps
+      → machine k inputs s ≡ Running trace t → StaysInStack m t
+  start_pushes shows k trace t less ran =
+      told_stays t (inside e 2304 r.steps k s t (view_of s inputs) trace fit shows r.started less ran)
+
+  -- and from main on
+  pub pushes : (k : ℕ) (trace : List Access) (t : State) → machine k inputs r.main ≡ Running trace t
       → PushesInRegion m (source p (plain_table m.io) inputs (k + 1)) t
-  pushes inside fit told k trace t ran = by_shown (source p (plain_table m.io) inputs (k + 1)) (r.safe (k + 1)) where
-    in_region : is_safe (run e (k + 1) (AtWord r.main.pc r.view)) ≡ true
-        → All (λ at. (m.stack.first ≤ at) × (at < end_of m.stack)) (stack_bytes t)
+  pushes k trace t ran = by_shown (source p (plain_table m.io) inputs (k + 1)) (r.safe (k + 1)) where
+    in_region : is_safe (run e (k + 1) (AtWord r.main.pc r.view)) ≡ true → StaysInStack m t
     in_region safe =
-        All-weaker (λ at. e.kind at ≡ Stacked) (λ at. (m.stack.first ≤ at) × (at < end_of m.stack)) told (stack_bytes t)
+        told_stays t
         (inside e 2304 (k + 1) k r.main t r.view trace fit r.shown safe (omega arith)
         (subst (λ f. machine k f r.main ≡ Running trace t) (sym r.given) ran))
 
@@ -320,18 +309,23 @@ pub images_show_their_sources : ImagesRunAsSources → MachineIsRun → MoreTurn
 images_show_their_sources runs is_run turns laws inside p m asm l s inputs h reset give =
     let e = placed p m asm l in
     let r = runs p m asm l s inputs h reset give in
+    let fit = laws.fit p m asm l h.located h.bytes in
+    let told = λ (a : ℕ) (q : e.kind a ≡ Stacked). (are_kinds laws p m asm l h).stack_told a q in
     record {
       view = r.view;
       shown = r.shown;
       initials = r.initials;
-      stack = pushes p m l e s inputs r inside (laws.fit p m asm l h.located h.bytes) (λ a q. (are_kinds laws p m asm l h).stack_told a q);
+      start_stack = start_pushes p m l e s inputs r inside fit told (reset_shows p m asm l e s inputs h refl reset give);
+      stack = pushes p m l e s inputs r inside fit told;
       steps = r.steps;
       few = r.few;
+      before = r.before;
       start = r.trace;
       main = r.main;
       ran = r.ran;
-      copies = r.seen;
-      quiet = quiet e r.trace (spans_of (lowered p (plain_table m.io))) r.seen;
+      calls = r.calls;
+      copies = r.copies;
+      quiet = quiet e r.before r.trace (spans_of (lowered p (plain_table m.io))) r.calls r.copies;
       reached = reached p m l e s inputs r (noted_all e) (λ k. Unit {0}) (λ k ok. refl) (λ k. tt);
       within = within p m l e s inputs r (noted_all e) (λ k. Unit {0}) (λ k ok. refl) is_run turns (λ j k less later. tt);
     }

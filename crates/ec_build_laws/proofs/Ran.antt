@@ -117,12 +117,14 @@ runs_as_source follows is_run on_ports p m asm l e s inputs h reset give stand r
     record {
       steps = r.shows.steps;
       few = r.few;
+      before = r.shows.before;
       trace = r.shows.trace;
       main = r.shows.main;
       ran = r.shows.ran;
       on = r.shows.on;
       started = r.shows.started;
-      seen = r.shows.seen;
+      calls = r.shows.calls;
+      copies = r.shows.copies;
       reaches = reached;
       view = r.shows.view;
       shown = subst (λ n. Shows e n r.shows.main.mem r.shows.view) (reset.size ∙ ap data_size h.located.core) r.shows.shown;

@@ -1,5 +1,5 @@
 -- What is left of a machine's whole trace.
-use Rattle.std.proofs.Common.{◌≡◌, ℕ, zero, suc, ◌+◌, ◌≤◌, true, ℤ, List, [], ◌∷◌, Some, refl, sym, ap, ◌∙◌, subst}
+use Rattle.std.proofs.Common.{◌≡◌, ℕ, zero, suc, ◌+◌, ◌<◌, ◌≤◌, true, ℤ, List, [], ◌∷◌, Some, refl, sym, ap, ◌∙◌, subst}
 use Rattle.std.proofs.Common.{arith}
 use Rattle.std.specs.Prelude.{IsSomeAnd, slice_get, option_map, IsTrue}
 use Rattle.std.specs.List.{AllByRecursion}
@@ -38,6 +38,7 @@ use Rattle.ec_ir.specs.Meaning.{meaning, run as operations_run, start_state, sta
 use Rattle.ec_ir.specs.Operations.{data_of}
 use Rattle.ec_lower_code.specs.Code.{lowered}
 use Rattle.ec_lower_code.specs.Correct.{LoweredFollows, is_paid}
+use Rattle.ec_map.specs.Regions.{end_of}
 use Rattle.ec_map.specs.declared.map.Map.{Map}
 use Rattle.ec_locate.specs.declared.placing.Located.{Located}
 use Rattle.ec_core_ports.specs.Ports.{SourcesAccessPorts, PortBytesPass}
@@ -49,16 +50,16 @@ use Rattle.ec_select.specs.Laws.{SelectionsRun}
 use Rattle.ec_select.specs.Program.{has_initial_bytes, spans_of}
 use Rattle.ec_build_laws.specs.Kinds.{place_of}
 use Rattle.ec_build_laws.specs.Laws.{AreKinds}
-use Rattle.ec_build_laws.specs.Runs.{view_of, RunsAsSource}
+use Rattle.ec_build_laws.specs.Runs.{RunsAsSource}
 use Rattle.ec_build_laws.specs.Spaces.{IsLeafByte}
 use Rattle.ec_build_laws.specs.Translation.{IsTranslated}
-use Rattle.ec_build_laws.specs.Whole.{kept, copies, IsHomeByte, IsForEvent, AreForEvents, StaysAtHome, AreInitial}
+use Rattle.ec_build_laws.specs.Whole.{kept, IsHomeByte, IsForEvent, AreForEvents, StaysAtHome, AreInitial}
 use Rattle.ec_build_laws.specs.Whole.{ShowsWhole, ProgramsShowTheirSources}
-use Rattle.ec_build_laws.proofs.FromReset.{HasMeaning, meaning_before, quiet, reached, within, pushes}
+use Rattle.ec_build_laws.proofs.FromReset.{HasMeaning, meaning_before, quiet, reached, within, start_pushes, pushes}
 use Rattle.ec_build_laws.proofs.Guarded.{all_of}
 use Rattle.ec_build_laws.proofs.Kept.{frames_are_needs, kept_is_noted}
 use Rattle.ec_build_laws.proofs.Laid.{PlacedLaws, are_kinds_of, is_copied}
-use Rattle.ec_build_laws.proofs.Copied.{copies_are_noted}
+use Rattle.ec_build_laws.proofs.Copied.{are_copies}
 use Rattle.ec_build_laws.proofs.Pointers.{initial_is_told}
 use Rattle.ec_build_laws.proofs.Ports.{ports_of_map}
 use Rattle.ec_build_laws.proofs.Ran.{reset_shows, runs_as_operations, runs_as_source}
@@ -191,18 +192,8 @@ module _ (laws : WholeLaws) (p : PlainProgram) (m : Map) (asm : AsmProgram) (l :
       (subst (λ f. AllByRecursion (IsAllowed e) (trace_of (machine k f r.main))) r.given
       (laws.allowed e 2304 k k r.main r.view fit r.shown (safe_at k has) (omega arith)))
 
-  -- ---- before main
-
-  start_allowed : AllByRecursion (IsAllowed e) r.trace
-  start_allowed =
-      subst (λ run. AllByRecursion (IsAllowed e) (trace_of run)) r.ran
-      (laws.allowed e 2304 r.steps r.steps s (view_of s inputs) fit (reset_shows p m asm l e s inputs h refl reset give) r.started
-      (omega arith))
-
-  copied : kept p l r.trace ≡ copies p m l
-  copied =
-      sym (kept_is_noted p m asm l are (frames_are_needs p m asm l h) r.trace start_allowed) ∙ r.seen
-      ∙ copies_are_noted laws.laid p m asm l h are
+  in_region : (a : ℕ) → e.kind a ≡ Stacked → (m.stack.first ≤ a) × (a < end_of m.stack)
+  in_region a q = are.stack_told a (watched_was p m asm l a Stacked q (λ z. cc))
 
   -- ---- spaces
 
@@ -263,18 +254,21 @@ module _ (laws : WholeLaws) (p : PlainProgram) (m : Map) (asm : AsmProgram) (l :
   whole = record {
     steps = r.steps;
     few = r.few;
+    before = r.before;
     start = r.trace;
     main = r.main;
     ran = r.ran;
-    quiet = quiet e r.trace (spans_of (lowered p (plain_table m.io))) r.seen;
-    copied = copied;
+    calls = r.calls;
+    copied = r.copies ∙ are_copies laws.laid p m asm l h are;
+    quiet = quiet e r.before r.trace (spans_of (lowered p (plain_table m.io))) r.calls r.copies;
     initials = initials;
     reached = λ defined. reached p m l e s inputs r (kept p l) (HasMeaning p m inputs) alike (λ k point. defined k point);
     within = within p m l e s inputs r (kept p l) (HasMeaning p m inputs) alike laws.machine_run laws.turns
         (meaning_before laws.turns p m inputs);
     spaces = spaces;
     live = λ n. laws.steps p (plain_table m.io) inputs n;
-    stack = pushes p m l e s inputs r laws.stack fit (λ a q. are.stack_told a (watched_was p m asm l a Stacked q (λ z. cc)));
+    start_stack = start_pushes p m l e s inputs r laws.stack fit in_region (reset_shows p m asm l e s inputs h refl reset give);
+    stack = pushes p m l e s inputs r laws.stack fit in_region;
   }
 
 pub programs_show_their_sources : WholeLaws → ProgramsShowTheirSources

@@ -1,13 +1,14 @@
 -- What a placed program does, from every reset state on.
-use Rattle.std.specs.Prelude.{ℕ, ◌≡◌, ◌+◌, ◌≤◌, nat_le, Bool, true, ℤ, List, [], sum_by, slice_index}
+use Rattle.std.specs.Prelude.{ℕ, ◌≡◌, ◌+◌, ◌≤◌, nat_le, Bool, true, ℤ, List, [], ◌∷◌, ◌++◌, sum_by, slice_index}
 use Rattle.ec_runs.specs.Behaviours.{Behaviour, Reaches, IsWithin, seen_as}
 use Rattle.ec_avr.specs.declared.machine.Access.{Access}
+use Rattle.ec_avr.specs.declared.machine.Access.TheVariants.{Stack}
 use Rattle.ec_avr.specs.Machine.{State, Inputs, Running, machine, IsReset}
 use Rattle.ec_avr.specs.Runs.{preceded_by}
 use Rattle.ec_asm.specs.Behaves.{noted_run}
 use Rattle.ec_asm.specs.Change.{Env}
 use Rattle.ec_asm.specs.Run.{Running as AtWord, run, is_safe}
-use Rattle.ec_asm.specs.Shows.{Shows, noted_all}
+use Rattle.ec_asm.specs.Shows.{Shows}
 use Rattle.ec_asm.specs.View.{View, bytes_of, flags_of}
 use Rattle.ec_asm.specs.declared.items.AsmProgram.{AsmProgram}
 use Rattle.ec_core.specs.Meaning.{source, work}
@@ -20,7 +21,7 @@ use Rattle.ec_lower_code.specs.Code.{lowered}
 use Rattle.ec_map.specs.declared.map.Map.{Map}
 use Rattle.ec_locate.specs.declared.placing.Located.{Located}
 use Rattle.ec_ir.specs.Operations.{data_of}
-use Rattle.ec_select_reset.specs.Laws.{HasInitials}
+use Rattle.ec_select_reset.specs.Laws.{HasInitials, all_but_silent}
 use Rattle.ec_select_functions.specs.Laws.{HoldsUnlessFailed}
 use Rattle.ec_select_functions.specs.Relation.{accesses}
 use Rattle.ec_select_startup.specs.Laws.{all_accesses}
@@ -64,20 +65,23 @@ seen_source p io l inputs n = seen_as (accesses p (place_of l)) (source p (plain
 abbrev pub is_within_work : PlainProgram → IoTable → Inputs → (n steps : ℕ) → Bool
 is_within_work p io inputs n steps = nat_le steps (work p (plain_table io) inputs n)
 
--- In a number of steps the machine comes to where main begins, with no access that is barred, and no noted ones but
--- those that copy the initial bytes. From there on it shows all that the source shows, within its work, and never more.
--- A view shows the state where main begins, with the initial values of the objects, and its run makes no access that is
--- barred. What is noted and what is barred is as an environment tells
+-- In a number of steps the machine comes to where main begins, with no access that is barred. The last of these steps
+-- is the call of main, and all accesses before it, but the silent ones, are those that copy the initial bytes. From main
+-- on the machine shows all that the source shows, within its work, and never more. A view shows the state where main
+-- begins, with the initial values of the objects, and its run makes no access that is barred. What is noted and what is
+-- barred is as an environment tells
 pub record RunsAsSource (p : PlainProgram) (m : Map) (l : Located) (e : Env) (s : State)
     (inputs : Inputs) : Type 0 where
   pub steps : ℕ
   pub few : steps ≤ start_steps p
+  pub before : List Access
   pub trace : List Access
   pub main : State
   pub ran : machine steps inputs s ≡ Running trace main
   pub on : (k : ℕ) → machine (steps + k) inputs s ≡ preceded_by trace (machine k inputs main)
   pub started : is_safe (run e steps (AtWord s.pc (view_of s inputs))) ≡ true
-  pub seen : noted_all e trace ≡ noted_all e (all_accesses e (spans_of (lowered p (plain_table m.io))))
+  pub calls : trace ≡ before ++ Stack ∷ []
+  pub copies : all_but_silent before ≡ all_accesses e (spans_of (lowered p (plain_table m.io)))
   pub reaches : Reaches (is_within_work p m.io inputs) (seen_source p m.io l inputs) (noted_run e inputs main)
   pub within : (k : ℕ) → IsWithin (seen_source p m.io l inputs k) (noted_run e inputs main k)
   pub view : View

@@ -2,7 +2,7 @@
 use Rattle.std.specs.Prelude.{ℕ, ◌≡◌, ◌⊎◌, ◌+◌, ◌<◌, ◌≤◌, ⊤, All, ℤ, List, [], ◌∷◌, ◌++◌}
 use Rattle.ec_runs.specs.Behaviours.{Behaviour, Running as GoesOn, Ended as Ends, Failed, BeginWith}
 use Rattle.ec_avr.specs.declared.machine.Access.{Access}
-use Rattle.ec_avr.specs.declared.machine.Access.TheVariants.{In, Out}
+use Rattle.ec_avr.specs.declared.machine.Access.TheVariants.{In, Out, Stack}
 use Rattle.ec_avr.specs.Machine.{State, Inputs, Run, Running, EndedWith, FaultedAt, machine, IsReset}
 use Rattle.ec_avr.specs.Placed.{stack_bytes}
 use Rattle.ec_asm.specs.Shows.{Shows, noted_all}
@@ -18,7 +18,7 @@ use Rattle.ec_lower_code.specs.Code.{lowered}
 use Rattle.ec_ir.specs.Operations.{data_of}
 use Rattle.ec_map.specs.Regions.{end_of}
 use Rattle.ec_map.specs.declared.map.Map.{Map}
-use Rattle.ec_select_reset.specs.Laws.{HasInitials}
+use Rattle.ec_select_reset.specs.Laws.{HasInitials, all_but_silent}
 use Rattle.ec_locate.specs.declared.placing.Located.{Located}
 use Rattle.ec_select_functions.specs.Relation.{accesses}
 use Rattle.ec_select_startup.specs.Laws.{all_accesses}
@@ -71,24 +71,30 @@ module _ (p : PlainProgram) (l : Located) (left : List Access → List Access) (
   IsWithinSource (Ends es other) (EndedWith trace result) = ShowsAll p l left start es trace × (result ≡ other)
   IsWithinSource (Ends es other) (FaultedAt trace kind pc) = ⊥
 
--- where the source has a meaning, the bytes that the next step pushes or pops are all of region `stack`
+-- the bytes that the next step pushes or pops are all of region `stack`
+abbrev pub StaysInStack : Map → State → Type 0
+StaysInStack m t = All (λ at. (m.stack.first ≤ at) × (at < end_of m.stack)) (stack_bytes t)
+
+-- so it is where the source has a meaning
 abbrev pub PushesInRegion : Map → Behaviour Event ℤ Undefined → State → Type 0
 PushesInRegion m (Failed point) t = ⊤
-PushesInRegion m (GoesOn es) t = All (λ at. (m.stack.first ≤ at) × (at < end_of m.stack)) (stack_bytes t)
-PushesInRegion m (Ends es result) t = All (λ at. (m.stack.first ≤ at) × (at < end_of m.stack)) (stack_bytes t)
+PushesInRegion m (GoesOn es) t = StaysInStack m t
+PushesInRegion m (Ends es result) t = StaysInStack m t
 
--- Before main the machine makes at most so many steps, no access of a port, and no noted accesses but those that copy
--- the initial bytes; then the objects have their initial values. From there on each part of the source is reached
--- within its work, each step stays within the source, and the stack stays in its region
+-- The machine comes to main in at most so many steps. The last of them is its call, and all accesses before that, but
+-- the silent ones, are those that copy the initial bytes; then the objects have their initial values. From main on each
+-- part of the source is reached within its work, and each step stays within the source. From the reset on the stack
+-- stays in its region
 pub record ShowsSource (p : PlainProgram) (m : Map) (asm : AsmProgram) (l : Located) (s : State)
     (inputs : Inputs) : Type 0 where
   pub steps : ℕ
   pub few : steps ≤ start_steps p
+  pub before : List Access
   pub start : List Access
   pub main : State
   pub ran : machine steps inputs s ≡ Running start main
-  pub copies : let e = placed p m asm l in
-      noted_all e start ≡ noted_all e (all_accesses e (spans_of (lowered p (plain_table m.io))))
+  pub calls : start ≡ before ++ Stack ∷ []
+  pub copies : all_but_silent before ≡ all_accesses (placed p m asm l) (spans_of (lowered p (plain_table m.io)))
   pub quiet : ports_of start ≡ []
   pub view : View
   pub shown : Shows (placed p m asm l) 2304 main.mem view
@@ -99,6 +105,8 @@ pub record ShowsSource (p : PlainProgram) (m : Map) (asm : AsmProgram) (l : Loca
   pub within : (k : ℕ)
       → IsWithinSource p l (noted_all (placed p m asm l)) s inputs start (source p (plain_table m.io) inputs k)
       (machine k inputs s)
+  pub start_stack : (k : ℕ) (trace : List Access) (t : State) → k < steps → machine k inputs s ≡ Running trace t
+      → StaysInStack m t
   pub stack : (k : ℕ) (trace : List Access) (t : State) → machine k inputs main ≡ Running trace t
       → PushesInRegion m (source p (plain_table m.io) inputs (k + 1)) t
 

@@ -32,9 +32,10 @@ use Rattle.ec_locate.specs.declared.placing.Located.{Located}
 use Rattle.ec_select_operations.specs.Places.{ObjectLeaf}
 use Rattle.ec_select_functions.specs.Relation.{event_accesses, number_told}
 use Rattle.ec_select.specs.Program.{has_initial_bytes}
+use Rattle.ec_select_reset.specs.Laws.{all_but_silent}
 use Rattle.ec_build_laws.specs.Kinds.{is_byte_of, is_of_scratch, place_of}
 use Rattle.ec_build_laws.specs.Runs.{start_steps}
-use Rattle.ec_build_laws.specs.Shown.{ports_of, Comes, IsWithinSource, PushesInRegion}
+use Rattle.ec_build_laws.specs.Shown.{ports_of, Comes, IsWithinSource, StaysInStack, PushesInRegion}
 use Rattle.ec_build_laws.specs.Translation.{IsTranslated}
 
 -- ---- what is left of a trace
@@ -133,20 +134,23 @@ AreInitial p l t =
 
 -- ---- the whole
 
--- Before main the machine makes at most so many steps and no access of a port. All that is kept of its accesses there
--- are those that copy the initial bytes; then the static objects of the data bank have their initial values.
--- From there on all that is kept of its accesses is what the source shows. Where the source has a meaning for all
--- turns, each part of it is reached within its work. Each step stays within the source, and never faults where that has
--- a meaning. Each access is of a byte of its event, in the home of the event's object, which is live there, and the stack
--- stays in its region
+-- The machine comes to main in at most so many steps, of which the last is its call: the first access of the stack. All
+-- accesses before it, but the silent ones, are those that copy the initial bytes, so no port is accessed and the data
+-- bank is read nowhere; then the static objects of the data bank have their initial values.
+-- From main on all that is kept of the machine's accesses is what the source shows. Where the source has a meaning for
+-- all turns, each part of it is reached within its work. Each step stays within the source, and never faults where that
+-- has a meaning. Each access is of a byte of its event, in the home of the event's object, which is live there.
+-- From the reset on, the call of main included, each push and pop moves bytes of region `stack` alone
 pub record ShowsWhole (p : PlainProgram) (m : Map) (l : Located) (s : State) (inputs : Inputs) : Type 0 where
   pub steps : ℕ
   pub few : steps ≤ start_steps p
+  pub before : List Access
   pub start : List Access
   pub main : State
   pub ran : machine steps inputs s ≡ Running start main
+  pub calls : start ≡ before ++ Stack ∷ []
+  pub copied : all_but_silent before ≡ copies p m l
   pub quiet : ports_of start ≡ []
-  pub copied : kept p l start ≡ copies p m l
   pub initials : AreInitial p l main
   pub reached : Defined p (plain_table m.io) inputs → (n : ℕ)
       → Comes p l (kept p l) s inputs start n (start_steps p + work p (plain_table m.io) inputs n)
@@ -155,6 +159,8 @@ pub record ShowsWhole (p : PlainProgram) (m : Map) (l : Located) (s : State) (in
       → IsWithinSource p l (kept p l) s inputs start (source p (plain_table m.io) inputs k) (machine k inputs s)
   pub spaces : (n : ℕ) → StaysAtHome p l (source p (plain_table m.io) inputs n)
   pub live : (n : ℕ) → GoesBySteps p m inputs n
+  pub start_stack : (k : ℕ) (trace : List Access) (t : State) → k < steps → machine k inputs s ≡ Running trace t
+      → StaysInStack m t
   pub stack : (k : ℕ) (trace : List Access) (t : State) → machine k inputs main ≡ Running trace t
       → PushesInRegion m (source p (plain_table m.io) inputs (k + 1)) t
 

@@ -68,9 +68,10 @@ pub fn images_run_as_sources()
     sources_access_ports();
 }
 
-/// From every reset state the machine of a placed program makes a few steps before `main`, with no access of a port.
-/// Then it comes to each part of what the source shows, within its work, and each of its steps stays within the source;
-/// what it pushes and pops are bytes of region `stack`.
+/// From every reset state the machine of a placed program comes to `main` in a few steps. Before the call of `main` it
+/// accesses nothing but registers and the initial bytes, which it copies. Then it comes to each part of what the source
+/// shows, within its work, and each of its steps stays within the source; what it pushes and pops from the reset on are
+/// bytes of region `stack`.
 pub fn images_show_their_sources()
     ensures { ImagesShowTheirSources }
 {
@@ -95,11 +96,13 @@ pub fn accesses_stay_in_spaces()
     events_are_at_home();
 }
 
-/// From every reset state the machine of a placed program makes a few steps before `main`, which copy the initial bytes
-/// and access no port. From there on all that is kept of its trace, where code's scratch memory and work bytes and what
-/// is pushed and popped count for nothing, is what the source shows: each part of it is reached within its work, and
-/// each step stays within it. Each of these accesses is of a byte of its event's object, in the bank that is its home,
-/// and the object is live there.
+/// From every reset state the machine of a placed program comes to `main` in a few steps. Before the call of `main`,
+/// which is its first access of the stack, it accesses nothing but registers and the initial bytes, which it copies.
+/// From `main` on all that is kept of its trace, where code's scratch memory and work bytes and what is pushed and
+/// popped count for nothing, is what the source shows: each part of it is reached within its work, and each step stays
+/// within it. Each of these accesses is of a byte of its event's object, in the bank that is its home, and
+/// the object is live there. What is pushed and popped from the reset on
+/// are bytes of region `stack`.
 pub fn programs_show_their_sources()
     ensures { ProgramsShowTheirSources }
 {

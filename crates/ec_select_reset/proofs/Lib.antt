@@ -1,1 +1,3 @@
+mod Bare
+mod Before
 mod Reset

@@ -1,15 +1,15 @@
 -- The startup code, and then the code of all functions.
-use Rattle.std.proofs.Common.{◌≡◌, ◌≢◌, ℕ, ◌+◌, ◌-◌, ◌*◌, ◌%◌, ◌<◌, ◌≤◌, Bool, true, false, List, [], ◌∷◌, ◌++◌}
+use Rattle.std.proofs.Common.{◌≡◌, ◌≢◌, ℕ, ◌+◌, ◌-◌, ◌*◌, ◌%◌, ◌<◌, ◌≤◌, Bool, true, false, List, []}
 use Rattle.std.proofs.Common.{Option, Some, None, All, length, sym, refl, ap, ◌∙◌, subst, arith, ltb-true}
 use Rattle.std.specs.Prelude.{◌==◌, ◌&&◌, ◌||◌, not, nat_lt, if◌then◌else◌, slice_index, slice_index_or}
 use Rattle.ec_isa.specs.declared.instructions.Instr.{Instr}
 use Rattle.ec_isa.specs.declared.instructions.Instr.TheVariants.{Break}
 use Rattle.ec_isa.specs.Reading.{instruction_at as decoded}
 use Rattle.ec_avr.specs.Effects.{has_two_words}
+use Rattle.ec_avr.specs.Laws.{StepsByInstruction}
 use Rattle.ec_avr.specs.Machine.{State, machine}
 use Rattle.ec_avr.specs.Runs.{preceded_by}
 use Rattle.ec_avr.specs.State.{lowered}
-use Rattle.ec_asm.specs.declared.items.AsmItem.TheVariants.{Plain, CallTo}
 use Rattle.ec_asm.specs.View.{View}
 use Rattle.ec_asm.specs.Change.{Env, Kind, Own, Object, Port, Stacked, Barred, sp}
 use Rattle.ec_asm.specs.Pieces.{is_held}
@@ -19,7 +19,9 @@ use Rattle.ec_asm.specs.Shows.{Shows, Fits, RunsAs, GoesOn}
 use Rattle.ec_asm.specs.Behaves.{noted_run}
 use Rattle.ec_asm.specs.Takes.{Goes}
 use Rattle.ec_asm.specs.Laws.{MachineRunsAsView}
-use Rattle.ec_asm.proofs.Hoare.{goes_on_to, has_parts}
+use Rattle.ec_asm_accesses.specs.Allowed.{AccessesAreAllowed}
+use Rattle.ec_asm.proofs.Calls.{call_goes}
+use Rattle.ec_asm.proofs.Hoare.{goes_on_to}
 use Rattle.ec_asm.proofs.Takes.{call_has_word}
 use Rattle.ec_core.specs.State.{Inputs}
 use Rattle.ec_ir.specs.Operations.{PlainIrProgram, data_of}
@@ -29,8 +31,8 @@ use Rattle.ec_select_functions.specs.Laws.{AreSelected, IsEntered, HoldsStart, S
 use Rattle.ec_select_functions.specs.Laws.{within_steps, seen_meaning}
 use Rattle.ec_select_functions.proofs.Stacked.{pushed_same, pushed_pointer, back_is}
 use Rattle.ec_select_startup.specs.declared.spans.Span.{Span}
-use Rattle.ec_select_startup.specs.Laws.{StartupIsRight, Starts, IsSet, CanBeSet, target}
-use Rattle.ec_select_startup.specs.Startup.{stack_code, spans_code}
+use Rattle.ec_select_startup.specs.Laws.{StartupIsRight, Starts, IsSet, CanBeSet, target, startup_steps}
+use Rattle.ec_select_reset.proofs.Before.{CallsMain, calls_main}
 use Rattle.ec_select_reset.specs.Laws.{CanStart, ShowsProgram, ProgramsShowTheirOperations}
 
 -- what this rests on
@@ -38,6 +40,8 @@ pub record StartLaws : Type 0 where
   pub startup : StartupIsRight
   pub views : MachineRunsAsView
   pub follows : CodeFollowsOperations
+  pub allowed : AccessesAreAllowed
+  pub steps : StepsByInstruction
 
 -- an instruction that stands somewhere stands in the flash
 fetched_below : (e : Env) (pc : ℕ) (i : Instr) → fetch e pc ≡ Some i → 2 * pc + 1 < length e.flash
@@ -108,14 +112,23 @@ module _ (laws : StartLaws) (p : PlainIrProgram) (place entry_of : ℕ → ℕ) 
       let r : low + 2 * 0 + 1 ≤ top = c.room [] tt in
       ap e.kind below_top ∙ c.stacked (top - 1) (omega arith) (omega arith)
 
-  -- the run to where main begins
-  goes : Goes e (starts.steps + 1) s.pc v0 (e.word_of (entry_of p.main)) w
-  goes =
-      goes_on_to e starts.steps 1 s.pc starts.call (e.word_of (entry_of p.main)) v0 last w starts.goes (starts.calls first_kind second_kind)
+  -- the steps to where main begins, the last of which is its call
+  abbrev count : ℕ
+  count = startup_steps spans + 1
 
-  goes_on : GoesOn e size (starts.steps + 1) v0 s (e.word_of (entry_of p.main)) w
-  goes_on =
-      subst (RunsAs e size (starts.steps + 1) v0 s) goes.by (laws.views e size (starts.steps + 1) s v0 fit shows0) starts.safe
+  -- the run to there
+  goes : Goes e count s.pc v0 (e.word_of (entry_of p.main)) w
+  goes =
+      goes_on_to e (startup_steps spans) 1 s.pc starts.call (e.word_of (entry_of p.main)) v0 last w starts.goes
+      (call_goes e (entry_of p.main) starts.call starts.back last starts.calls first_kind second_kind)
+
+  goes_on : GoesOn e size count v0 s (e.word_of (entry_of p.main)) w
+  goes_on = subst (RunsAs e size count v0 s) goes.by (laws.views e size count s v0 fit shows0) starts.safe
+
+  calls : CallsMain e spans goes_on.trace
+  calls =
+      calls_main (record { startup = laws.startup; views = laws.views; allowed = laws.allowed; steps = laws.steps }) e spans size
+      (entry_of p.main) c.end s v0 fit shows0 c.pointer c.can_be_set c.beside c.stands refl refl goes_on.trace goes_on.state goes_on.ran
 
   -- from there on nothing was noted
   abbrev w0 : View
@@ -139,10 +152,7 @@ module _ (laws : StartLaws) (p : PlainIrProgram) (place entry_of : ℕ → ℕ) 
   returns_to = back_is starts.back last w top starts.pointer deep.0 deep.1 back_below pointer_w refl refl
 
   main_word : e.word_of (entry_of p.main) < 65536
-  main_word =
-      let a = has_parts e stack_code (spans_code spans ++ (CallTo (entry_of p.main) ∷ Plain Break ∷ [])) s.pc c.end c.stands in
-      let b = has_parts e (spans_code spans) (CallTo (entry_of p.main) ∷ Plain Break ∷ []) a.0 c.end a.2 in
-      call_has_word e (entry_of p.main) b.0 b.2.0 b.2.1
+  main_word = call_has_word e (entry_of p.main) starts.call starts.back starts.calls
 
   -- the bytes of spans are none of those that the call pushes
   are_set : All (IsSet e w0) spans
@@ -191,13 +201,15 @@ module _ (laws : StartLaws) (p : PlainIrProgram) (place entry_of : ℕ → ℕ) 
   whole =
       let most = starts.at_most in
       record {
-        steps = starts.steps + 1;
+        steps = count;
         at_most = omega arith;
         trace = goes_on.trace;
         main = goes_on.state;
         ran = goes_on.ran;
         on = λ k. goes_on.on k ∙ ap (λ i. preceded_by goes_on.trace (machine k i goes_on.state)) same_inputs;
-        seen = sym goes_on.seen ∙ starts.seen;
+        before = calls.before;
+        calls = calls.calls;
+        copies = calls.copies;
         started = ap is_safe goes.by ∙ starts.safe;
         reaches = subst
             (λ i. Reaches (within_steps p inputs) (seen_meaning e p place inputs) (noted_run e i goes_on.state)) same_inputs shown.reaches;

@@ -1,16 +1,17 @@
 -- What a machine shows that begins at the startup code of a program.
-use Rattle.std.specs.Prelude.{◌≡◌, ℕ, ◌+◌, ◌*◌, ◌≤◌, true, List, [], All, Some, slice_get, length}
+use Rattle.std.specs.Prelude.{◌≡◌, ℕ, ◌+◌, ◌*◌, ◌≤◌, true, List, [], ◌∷◌, ◌++◌, All, Some, slice_get, length}
 use Rattle.std.specs.List.{AllPairs}
 use Rattle.ec_space.specs.declared.space.Bank.TheVariants.{Data as DataBank}
 use Rattle.ec_runs.specs.Behaviours.{Reaches, IsWithin}
 use Rattle.ec_avr.specs.declared.machine.Access.{Access}
+use Rattle.ec_avr.specs.declared.machine.Access.TheVariants.{Silent, Stack}
 use Rattle.ec_avr.specs.Machine.{State, Running, machine}
 use Rattle.ec_avr.specs.Runs.{preceded_by}
 use Rattle.ec_asm.specs.View.{View}
 use Rattle.ec_asm.specs.Change.{Env, Stacked}
 use Rattle.ec_asm.specs.Items.{HasAt}
 use Rattle.ec_asm.specs.Run.{Running as AtWord, run, is_safe}
-use Rattle.ec_asm.specs.Shows.{Shows, Fits, noted_all}
+use Rattle.ec_asm.specs.Shows.{Shows, Fits}
 use Rattle.ec_asm.specs.Behaves.{noted_run}
 use Rattle.ec_core.specs.declared.values.Value.{Value}
 use Rattle.ec_core.specs.Accesses.{leaf_of}
@@ -53,19 +54,29 @@ pub record CanStart (p : PlainIrProgram) (e : Env) (place entry_of : ℕ → ℕ
 abbrev pub anew : View → View
 anew v = record { at = v.at; flags = v.flags; inputs = v.inputs; seen = []; safe = true }
 
+-- all accesses but the silent ones, which are of registers, of the stack pointer or of nothing
+abbrev pub all_but_silent : List Access → List Access
+all_but_silent [] = []
+all_but_silent (Silent ∷ trace) = all_but_silent trace
+all_but_silent (a ∷ trace) = a ∷ all_but_silent trace
+
 -- After some steps, none of which makes an access that is barred, the machine is where main begins, and goes on from
--- there with the same inputs. What it shows from there on is all that the operations do, in at most the steps that they
--- may take, and never more, as long as they access none but ports of the machine. A view shows the state where main
--- begins, with the initial values of the objects, and its run makes no access that is barred
+-- there with the same inputs. The last of these steps is the call of main, whose access is one of the stack; all
+-- accesses before it, but the silent ones, are those that copy the initial bytes. What the machine shows from main on is
+-- all that the operations do, in at most the steps that they may take, and never more, as long as they access none but
+-- ports of the machine. A view shows the state where main begins, with the initial values of the objects, and its run
+-- makes no access that is barred
 pub record ShowsProgram (p : PlainIrProgram) (place : ℕ → ℕ) (e : Env) (spans : List Span) (v : View) (s : State)
     (inputs : Inputs) : Type 0 where
   pub steps : ℕ
   pub at_most : steps ≤ most_steps spans + 1
+  pub before : List Access
   pub trace : List Access
   pub main : State
   pub ran : machine steps v.inputs s ≡ Running trace main
   pub on : (k : ℕ) → machine (steps + k) v.inputs s ≡ preceded_by trace (machine k v.inputs main)
-  pub seen : noted_all e trace ≡ noted_all e (all_accesses e spans)
+  pub calls : trace ≡ before ++ Stack ∷ []
+  pub copies : all_but_silent before ≡ all_accesses e spans
   pub started : is_safe (run e steps (AtWord s.pc (anew v))) ≡ true
   pub reaches : Reaches (within_steps p inputs) (seen_meaning e p place inputs) (noted_run e v.inputs main)
   pub within : (m : ℕ) → IsWithin (seen_meaning e p place inputs m) (noted_run e v.inputs main m)

@@ -35,10 +35,8 @@ counted e f t i m v0 v w l q qi qs qn h = record {
     other : (k : ℕ) → k ≢ 24 → k ≢ 25 → put_pair v.at 24 m k ≡ v.at k
     other k n24 n25 = put_other (put v.at 24 (m % 256)) 25 (m / 256) k n25 ∙ put_other v.at 24 (m % 256) k n24
 
--- a run that has set n bytes of a span
-pub record Sets (e : Env) (f t n most pc : ℕ) (v0 v : View) (end : ℕ) : Type 0 where
-  pub steps : ℕ
-  pub at_most : steps ≤ most
+-- a run of so many steps that has set n bytes of a span
+pub record Sets (e : Env) (f t n steps pc : ℕ) (v0 v : View) (end : ℕ) : Type 0 where
   pub last : View
   pub goes : Goes e steps pc v end last
   pub moved : Moved e f t n v0 last
@@ -116,8 +114,6 @@ module _ (e : Env) (f t n : ℕ) (fr : f + n < 65536) (tr : t + n < 65536) (abov
         let w = r.0 in
         let done : suc i ≡ n = omega arith in
         record {
-          steps = 3 + 1;
-          at_most = omega arith;
           last = w;
           goes = goes_on_to e 3 1 start back end v w w r.1 (passed w r.4);
           moved = subst (λ j. Moved e f t j v0 w) done r.2;
@@ -127,12 +123,11 @@ module _ (e : Env) (f t n : ℕ) (fr : f + n < 65536) (tr : t + n < 65536) (abov
         let w = r.0 in
         let zero_clear : from_bool (suc k == 0) ≡ 0 = rw (ne_eqb (suc k) 0 (omega arith)) refl in
         let s = loop k (suc i) v0 w (omega arith) r.2 r.3 in
-        let u = s.at_most in
+        let sum : 3 + 1 + 4 * suc k ≡ 4 * suc (suc k) = omega arith in
         record {
-          steps = 3 + 1 + s.steps;
-          at_most = omega arith;
           last = s.last;
-          goes = goes_on_to e (3 + 1) s.steps start start end v w s.last
-              (goes_on_to e 3 1 start back start v w w r.1 (taken w (r.4 ∙ zero_clear))) s.goes;
+          goes = subst (λ j. Goes e j start v end s.last) sum
+              (goes_on_to e (3 + 1) (4 * suc k) start start end v w s.last
+              (goes_on_to e 3 1 start back start v w w r.1 (taken w (r.4 ∙ zero_clear))) s.goes);
           moved = s.moved;
         }

@@ -7,11 +7,12 @@ use Rattle.ec_asm.specs.declared.items.AsmItem.TheVariants.{Plain}
 use Rattle.ec_asm.specs.View.{View, put}
 use Rattle.ec_asm.specs.Change.{Env, change}
 use Rattle.ec_asm.specs.Items.{At, HasAt, block, code_steps, chain, part_of}
+use Rattle.ec_asm.specs.Takes.{Goes}
 use Rattle.ec_asm.proofs.Bytes.{put_other}
 use Rattle.ec_asm.proofs.Hoare.{has_parts, block_goes, goes_on_to, chain_straight, steps-chain}
 use Rattle.ec_select_startup.specs.declared.spans.Span.{Span}
 use Rattle.ec_select_startup.specs.Startup.{pointers_code, byte_code, repeated_code, bytes_by, bytes_code, span_code}
-use Rattle.ec_select_startup.specs.Laws.{source, target, CanBeSet}
+use Rattle.ec_select_startup.specs.Laws.{source, target, CanBeSet, bytes_steps, span_steps}
 use Rattle.ec_select_startup.proofs.Bytes.{Moved, outside_ne, pair_is}
 use Rattle.ec_select_startup.proofs.Loops.{Sets, counted, unrolled_moves, loop}
 
@@ -55,15 +56,15 @@ module _ (e : Env) (s : Span) (can : CanBeSet e s) where
 
   few_set : (v v1 : View) (pc end : ℕ) → Moved e (source e s) (target e s) 0 v v1
       → HasAt e (chain (λ i. byte_code) s.bytes) pc end
-      → Sets e (source e s) (target e s) s.bytes (2 + 4 * s.bytes) pc v v1 end
+      → Sets e (source e s) (target e s) s.bytes (2 * s.bytes) pc v v1 end
   few_set v v1 pc end m at =
       let n = s.bytes in
       let code = chain (λ i. byte_code) n in
+      let sum : code_steps code ≡ 2 * n = omega (arith, steps-chain (λ i. byte_code) n 2 (λ i. refl)) in
       record {
-        steps = code_steps code;
-        at_most = omega (arith, steps-chain (λ i. byte_code) n 2 (λ i. refl));
         last = block e code v1;
-        goes = block_goes e code pc end v1 (chain_straight (λ i. byte_code) n (λ i. refl)) at;
+        goes = subst (λ j. Goes e j pc v1 end (block e code v1)) sum
+            (block_goes e code pc end v1 (chain_straight (λ i. byte_code) n (λ i. refl)) at);
         moved = unrolled_moves e (source e s) (target e s) n can.source_room can.target_room can.above can.table can.kind n v v1
             (omega arith) m;
       }
@@ -90,33 +91,28 @@ module _ (e : Env) (s : Span) (can : CanBeSet e s) where
       let before : suc (n - 1) ≡ n = omega arith in
       let r = loop e f t n can.source_room can.target_room can.above can.table can.kind
       a1.0 a2.0 a3.0 a4.0 end a2.1 a3.1 a4.1 branch (n - 1) 0 v v2 (omega arith) m2 (pair_is n ∙ sym before) in
-      let u = r.at_most in
+      let sum : 2 + 4 * suc (n - 1) ≡ 2 + 4 * n = ap (λ k. 2 + 4 * k) before in
       record {
-        steps = 2 + r.steps;
-        at_most = omega (arith, u, before);
         last = r.last;
-        goes = goes_on_to e 2 r.steps pc a1.0 end v1 v2 r.last g r.goes;
+        goes = subst (λ j. Goes e j pc v1 end r.last) sum (goes_on_to e 2 (4 * suc (n - 1)) pc a1.0 end v1 v2 r.last g r.goes);
         moved = r.moved;
       }
 
   bytes_set : (b : Bool) → nat_le s.bytes 3 ≡ b → (v v1 : View) (pc end : ℕ) → Moved e (source e s) (target e s) 0 v v1
-      → HasAt e (bytes_by b s.bytes) pc end → Sets e (source e s) (target e s) s.bytes (2 + 4 * s.bytes) pc v v1 end
+      → HasAt e (bytes_by b s.bytes) pc end → Sets e (source e s) (target e s) s.bytes (bytes_steps b s.bytes) pc v v1 end
   bytes_set true q v v1 pc end m at = few_set v v1 pc end m at
   bytes_set false q v v1 pc end m at =
       let l = leb-false s.bytes 3 q in many_set v v1 pc end (omega (arith, l)) m at
 
   pub span_sets : (v : View) (pc end : ℕ) → HasAt e (span_code s) pc end
-      → Sets e (source e s) (target e s) s.bytes (6 + 4 * s.bytes) pc v v end
+      → Sets e (source e s) (target e s) s.bytes (span_steps s) pc v v end
   span_sets v pc end at =
       let parts = has_parts e (pointers_code s) (bytes_code s.bytes) pc end at in
       let v1 = block e (pointers_code s) v in
       let g = block_goes e (pointers_code s) pc parts.0 v refl parts.1 in
       let r = bytes_set (nat_le s.bytes 3) refl v v1 parts.0 end (pointed v) parts.2 in
-      let u = r.at_most in
       record {
-        steps = 4 + r.steps;
-        at_most = omega arith;
         last = r.last;
-        goes = goes_on_to e 4 r.steps pc parts.0 end v v1 r.last g r.goes;
+        goes = goes_on_to e 4 (bytes_steps (nat_le s.bytes 3) s.bytes) pc parts.0 end v v1 r.last g r.goes;
         moved = r.moved;
       }

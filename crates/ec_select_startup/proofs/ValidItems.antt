@@ -6,15 +6,14 @@ use Rattle.std.specs.List.{list_all}
 use Rattle.std.proofs.lemmas.Bool.{lt-ltb, eqb-true}
 use Rattle.std.proofs.lemmas.List.Elements.{All-head, All-tail}
 use Rattle.std.proofs.lemmas.List.Folds.{list_all-append, sum_by-zero}
-use Rattle.ec_isa.specs.declared.instructions.Instr.TheVariants.{Break}
 use Rattle.ec_isa.specs.declared.instructions.Instr.TheVariants.{Out as OutInstr}
 use Rattle.ec_asm.specs.declared.items.AsmItem.{AsmItem}
-use Rattle.ec_asm.specs.declared.items.AsmItem.TheVariants.{Plain, CallTo}
+use Rattle.ec_asm.specs.declared.items.AsmItem.TheVariants.{Plain}
 use Rattle.ec_asm.specs.Items.{chain}
 use Rattle.ec_asm.specs.Valid.{is_offset, is_valid_item, used_label, is_label, is_placed}
 use Rattle.ec_select_startup.specs.declared.spans.Span.{Span}
 use Rattle.ec_select_startup.specs.Startup.{address_code, stack_code, pointers_code, byte_code, repeated_code, bytes_by}
-use Rattle.ec_select_startup.specs.Startup.{bytes_code, span_code, spans_code, startup_code}
+use Rattle.ec_select_startup.specs.Startup.{bytes_code, span_code, spans_code, main_code, startup_code}
 use Rattle.ec_select_startup.specs.Laws.{StartupIsValid, StartupUsesMain, StartupPlacesNoLabel}
 
 both : (p : AsmItem → Bool) (a b : List AsmItem) → list_all p a ≡ true → list_all p b ≡ true
@@ -30,7 +29,7 @@ record Passes (p : AsmItem → Bool) (N M : ℕ → Type 0) (main : ℕ) : Type 
   out : list_all p (Plain (OutInstr 0x3E 25) ∷ Plain (OutInstr 0x3D 24) ∷ []) ≡ true
   byte : list_all p byte_code ≡ true
   many : (n : ℕ) → M n → list_all p (repeated_code n) ≡ true
-  finish : list_all p (CallTo main ∷ Plain Break ∷ []) ≡ true
+  finish : list_all p (main_code main) ≡ true
 
 record IsNamed (N M : ℕ → Type 0) (s : Span) : Type 0 where
   from : N s.from
@@ -58,7 +57,7 @@ module _ (p : AsmItem → Bool) (N M : ℕ → Type 0) (main : ℕ) (h : Passes 
 
   startup_passes : (spans : List Span) → N 1281 → All (IsNamed N M) spans → list_all p (startup_code spans main) ≡ true
   startup_passes spans n k =
-      let finish = CallTo main ∷ Plain Break ∷ [] in
+      let finish = main_code main in
       let stack = both p (address_code 24 1281) (Plain (OutInstr 0x3E 25) ∷ Plain (OutInstr 0x3D 24) ∷ []) (h.count 1281 n) h.out in
       both p stack_code (spans_code spans ++ finish) stack (both p (spans_code spans) finish (spans_pass spans k) h.finish)
 

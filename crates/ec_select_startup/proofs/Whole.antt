@@ -1,12 +1,10 @@
 -- The code of all spans, and the whole code before `main`.
 use Rattle.std.proofs.Common.{◌≡◌, ◌≢◌, ℕ, suc, ◌+◌, ◌*◌, ◌<◌, ◌≤◌, List, [], ◌∷◌, ◌++◌, refl, sym, ap, ◌∙◌, arith, append-nil}
 use Rattle.std.proofs.Common.{append_assoc}
-use Rattle.std.specs.Prelude.{sum_by, All}
+use Rattle.std.specs.Prelude.{sum_by, All, Bool, true, false, nat_le}
 use Rattle.std.specs.List.{AllPairs}
 use Rattle.std.proofs.lemmas.List.Elements.{All-nil, All-cons, All-head, All-tail}
 use Rattle.std.proofs.lemmas.List.Sums.{sum_by-drop_more}
-use Rattle.ec_isa.specs.declared.instructions.Instr.TheVariants.{Break}
-use Rattle.ec_asm.specs.declared.items.AsmItem.TheVariants.{Plain, CallTo}
 use Rattle.ec_asm.specs.View.{View, put}
 use Rattle.ec_asm.specs.Change.{Env, sp}
 use Rattle.ec_asm.specs.Items.{HasAt, block, part_of}
@@ -15,21 +13,18 @@ use Rattle.ec_asm.specs.Shows.{noted_all}
 use Rattle.ec_asm.specs.Run.{Running}
 use Rattle.ec_asm.specs.Takes.{Goes}
 use Rattle.ec_asm.proofs.Bytes.{put_other}
-use Rattle.ec_asm.proofs.Calls.{call_goes}
 use Rattle.ec_asm.proofs.Hoare.{has_parts, block_goes, goes_on_to}
 use Rattle.ec_select_startup.specs.declared.spans.Span.{Span}
-use Rattle.ec_select_startup.specs.Startup.{stack_code, span_code, spans_code}
+use Rattle.ec_select_startup.specs.Startup.{stack_code, span_code, spans_code, main_code}
 use Rattle.ec_select_startup.specs.Laws.{source, target, CanBeSet, IsBeside, IsNoneOf, HasStack, IsSet, accesses, all_accesses}
-use Rattle.ec_select_startup.specs.Laws.{StartupIsRight}
+use Rattle.ec_select_startup.specs.Laws.{bytes_steps, span_steps, spans_steps, StartupIsRight}
 use Rattle.ec_select_startup.proofs.Bytes.{outside_ne, noted-append}
 use Rattle.ec_select_startup.proofs.OneSpan.{span_sets, address_is}
 
 -- a run that has set the bytes of all spans
 record SetsAll (e : Env) (spans : List Span) (pc : ℕ) (v : View) (end : ℕ) : Type 0 where
-  steps : ℕ
-  at_most : steps ≤ sum_by (λ s. 6 + 4 * s.bytes) spans
   last : View
-  goes : Goes e steps pc v end last
+  goes : Goes e (spans_steps spans) pc v end last
   are_set : All (IsSet e last) spans
   same : (a : ℕ) → a ≢ 0 → Outside 24 4 a → Outside 30 2 a → All (IsNoneOf e a) spans → last.at a ≡ v.at a
   inputs : last.inputs ≡ v.inputs
@@ -40,11 +35,20 @@ steps-cons : (s : Span) (ss : List Span)
     → sum_by (λ s. 6 + 4 * s.bytes) (s ∷ ss) ≡ 6 + 4 * s.bytes + sum_by (λ s. 6 + 4 * s.bytes) ss
 steps-cons s ss = sum_by-drop_more (λ (s : Span). 6 + 4 * s.bytes) (s ∷ ss) 0 s (omega arith)
 
+bytes_most : (few : Bool) (n : ℕ) → bytes_steps few n ≤ 2 + 4 * n
+bytes_most true n = omega arith
+bytes_most false n = omega arith
+
+spans_most : (spans : List Span) → spans_steps spans ≤ sum_by (λ s. 6 + 4 * s.bytes) spans
+spans_most [] = omega arith
+spans_most (s ∷ ss) =
+    let a = bytes_most (nat_le s.bytes 3) s.bytes in
+    let b = spans_most ss in
+    omega (arith, a, b, steps-cons s ss)
+
 spans_set : (e : Env) (spans : List Span) (v : View) (pc end : ℕ) → All (CanBeSet e) spans
     → AllPairs (IsBeside e) spans → HasAt e (spans_code spans) pc end → SetsAll e spans pc v end
 spans_set e [] v pc end can apart at = record {
-  steps = 0;
-  at_most = omega arith;
   last = v;
   goes = record { by = ap (λ n. Running n v) (sym at) };
   are_set = All-nil (IsSet e v);
@@ -63,15 +67,11 @@ spans_set e (s ∷ ss) v pc end can apart at =
     let rest = spans_set e ss v1 parts.0 end (All-tail (CanBeSet e) s ss can)
     (λ i j d l h. apart (suc i) (suc j) d (omega arith) (omega arith)) parts.2 in
     let above = mine.above in
-    let u1 = first.at_most in
-    let u2 = rest.at_most in
     let kept = λ (k : ℕ) (l : k < s.bytes). rest.same (target e s + k) (omega arith) (λ h. omega arith) (λ h. omega arith)
     (λ j d less. beside j d less k l) in
     record {
-      steps = first.steps + rest.steps;
-      at_most = omega (arith, u1, u2, steps-cons s ss);
       last = rest.last;
-      goes = goes_on_to e first.steps rest.steps pc parts.0 end v v1 rest.last first.goes rest.goes;
+      goes = goes_on_to e (span_steps s) (spans_steps ss) pc parts.0 end v v1 rest.last first.goes rest.goes;
       are_set = All-cons (IsSet e rest.last) s ss (λ k l. kept k l ∙ m.here k l) rest.are_set;
       same = λ a n0 o24 o30 o.
           rest.same a n0 o24 o30 (All-tail (IsNoneOf e a) s ss o) ∙ m.same a n0 o24 o30 (All-head (IsNoneOf e a) s ss o);
@@ -116,7 +116,7 @@ none_below e spans a l can k d less = let above = (can k d less).above in λ h. 
 
 pub startup_is_right : StartupIsRight
 startup_is_right e spans main pc end v st can apart at =
-    let finish = CallTo main ∷ Plain Break ∷ [] in
+    let finish = main_code main in
     let parts = has_parts e stack_code (spans_code spans ++ finish) pc end at in
     let more = has_parts e (spans_code spans) finish parts.0 end parts.2 in
     let v1 = block e stack_code v in
@@ -131,13 +131,12 @@ startup_is_right e spans main pc end v st can apart at =
     let low : w.at 0x5D ≡ v1.at 0x5D = kept 0x5D (omega arith) (omega arith) (λ h. omega arith) (λ h. omega arith) in
     let high : w.at 0x5E ≡ v1.at 0x5E = kept 0x5E (omega arith) (omega arith) (λ h. omega arith) (λ h. omega arith) in
     let pointer : sp w ≡ e.address_of 1281 0 = ap (λ x. x + 256 * w.at 0x5E) low ∙ ap (λ x. v1.at 0x5D + 256 * x) high ∙ p.pointer in
-    let u = r.at_most in
+    let most = spans_most spans in
     record {
-      steps = 4 + r.steps;
-      at_most = omega arith;
+      at_most = omega (arith, most);
       call = more.0;
       last = w;
-      goes = goes_on_to e 4 r.steps pc parts.0 more.0 v v1 w g r.goes;
+      goes = goes_on_to e 4 (spans_steps spans) pc parts.0 more.0 v v1 w g r.goes;
       pointer = pointer;
       are_set = r.are_set;
       same = λ a n0 o24 o30 o5d o. r.same a n0 o24 o30 o ∙ p.same a o24 o5d;
@@ -145,6 +144,6 @@ startup_is_right e spans main pc end v st can apart at =
       safe = r.safe ∙ p.safe;
       seen = r.seen ∙ ap (λ l. l ++ noted_all e (all_accesses e spans)) p.seen;
       back = tail.0;
-      calls = call_goes e main more.0 tail.0 w tail.1;
+      calls = tail.1;
       ends = ends.1.is;
     }

@@ -2,12 +2,11 @@
 use Rattle.std.proofs.Common.{◌≡◌, ℕ, zero, suc, ◌+◌, ◌*◌, ◌≤◌, Bool, true, false, List, [], ◌∷◌, ◌++◌, length, refl, arith, leb-true}
 use Rattle.std.specs.Prelude.{nat_le}
 use Rattle.std.proofs.lemmas.List.Sums.{sum_by-append}
-use Rattle.ec_isa.specs.declared.instructions.Instr.TheVariants.{Break}
 use Rattle.ec_asm.specs.declared.items.AsmItem.{AsmItem}
-use Rattle.ec_asm.specs.declared.items.AsmItem.TheVariants.{Plain, CallTo}
 use Rattle.ec_asm.specs.Items.{code_words, item_words, chain}
 use Rattle.ec_select_startup.specs.declared.spans.Span.{Span}
 use Rattle.ec_select_startup.specs.Startup.{stack_code, pointers_code, byte_code, bytes_by, bytes_code, span_code, spans_code}
+use Rattle.ec_select_startup.specs.Startup.{main_code}
 use Rattle.ec_select_startup.specs.Laws.{StartupHasWords}
 
 joined : (a b : List AsmItem) → code_words (a ++ b) ≡ code_words a + code_words b
@@ -30,6 +29,6 @@ spans_words (s ∷ ss) =
 
 pub startup_has_words : StartupHasWords
 startup_has_words spans main =
-    let finish = CallTo main ∷ Plain Break ∷ [] in
+    let finish = main_code main in
     let a = spans_words spans in
     omega (arith, joined stack_code (spans_code spans ++ finish), joined (spans_code spans) finish, a)

@@ -1,17 +1,17 @@
 -- What the code before `main` does.
-use Rattle.std.specs.Prelude.{◌≡◌, ◌≢◌, ℕ, zero, suc, ◌+◌, ◌*◌, ◌<◌, ◌≤◌, true, List, [], ◌∷◌, ◌++◌, slice_index, Some}
+use Rattle.std.specs.Prelude.{◌≡◌, ◌≢◌, ℕ, zero, suc, ◌+◌, ◌*◌, ◌<◌, ◌≤◌, true, List, [], ◌∷◌, ◌++◌, slice_index, Some, Bool, false}
+use Rattle.std.specs.Prelude.{nat_le}
 use Rattle.std.specs.Prelude.{sum_by, All, length, IsTrue, count_by}
 use Rattle.std.specs.List.{AllPairs, list_all}
 use Rattle.ec_space.specs.declared.space.Bank.TheVariants.{Flash as FlashBank}
 use Rattle.ec_isa.specs.declared.instructions.Instr.TheVariants.{Break}
 use Rattle.ec_avr.specs.declared.machine.Access.{Access}
 use Rattle.ec_avr.specs.declared.machine.Access.TheVariants.{Read, Write}
-use Rattle.ec_avr.specs.State.{lowered}
 use Rattle.ec_asm.specs.declared.items.AsmItem.{AsmItem}
 use Rattle.ec_asm.specs.View.{View}
-use Rattle.ec_asm.specs.Change.{Env, Own, Stacked, sp}
-use Rattle.ec_asm.specs.Run.{fetch, pushed}
-use Rattle.ec_asm.specs.Items.{HasAt, code_words}
+use Rattle.ec_asm.specs.Change.{Env, Own, sp}
+use Rattle.ec_asm.specs.Run.{fetch}
+use Rattle.ec_asm.specs.Items.{CallsAt, HasAt, code_words}
 use Rattle.ec_asm.specs.Pieces.{Outside, is_held}
 use Rattle.ec_asm.specs.Shows.{noted_all}
 use Rattle.ec_asm.specs.Takes.{Goes}
@@ -67,20 +67,34 @@ abbrev pub all_accesses : Env → List Span → List Access
 all_accesses e [] = []
 all_accesses e (s ∷ ss) = accesses e (source e s) (target e s) s.bytes ++ all_accesses e ss
 
--- at most so many steps before the call of `main`
+-- the steps of a span: 4 for both pointers, two for each byte of up to three, and else two and 4 for each byte
+abbrev pub bytes_steps : (few : Bool) → ℕ → ℕ
+bytes_steps true n = 2 * n
+bytes_steps false n = 2 + 4 * n
+
+abbrev pub span_steps : Span → ℕ
+span_steps s = 4 + bytes_steps (nat_le s.bytes 3) s.bytes
+
+abbrev pub spans_steps : List Span → ℕ
+spans_steps [] = 0
+spans_steps (s ∷ ss) = span_steps s + spans_steps ss
+
+-- the steps before the call of `main`, whatever stands where
+abbrev pub startup_steps : List Span → ℕ
+startup_steps spans = 4 + spans_steps spans
+
+-- they are at most so many
 abbrev pub most_steps : List Span → ℕ
 most_steps spans = 4 + sum_by (λ s. 6 + 4 * s.bytes) spans
 
 -- A run from the first word to the call of `main`. There the bytes of all spans are set, the stack pointer is at the
--- last byte of the stack, and all else is kept but the work registers and the flags. The call goes on at `main` where
--- both bytes that it pushes are the stack's, and BREAK stands where `main` returns. Only the call needs bytes of the
--- stack
+-- last byte of the stack, and all else is kept but the work registers and the flags. BREAK stands where `main` returns.
+-- No byte of the stack is needed, so the run is the same where there is none
 pub record Starts (e : Env) (spans : List Span) (main pc : ℕ) (v : View) : Type 0 where
-  pub steps : ℕ
-  pub at_most : steps ≤ most_steps spans
+  pub at_most : startup_steps spans ≤ most_steps spans
   pub call : ℕ
   pub last : View
-  pub goes : Goes e steps pc v call last
+  pub goes : Goes e (startup_steps spans) pc v call last
   pub pointer : sp last ≡ e.address_of 1281 0
   pub are_set : All (IsSet e last) spans
   pub same : (a : ℕ) → a ≢ 0 → Outside 24 4 a → Outside 30 2 a → Outside 0x5D 2 a → All (IsNoneOf e a) spans
@@ -89,8 +103,7 @@ pub record Starts (e : Env) (spans : List Span) (main pc : ℕ) (v : View) : Typ
   pub safe : last.safe ≡ v.safe
   pub seen : last.seen ≡ v.seen ++ noted_all e (all_accesses e spans)
   pub back : ℕ
-  pub calls : e.kind (sp last) ≡ Stacked → e.kind (lowered (sp last)) ≡ Stacked
-      → Goes e 1 call last (e.word_of main) (pushed back last)
+  pub calls : CallsAt e main call back
   pub ends : fetch e back ≡ Some Break
 
 abbrev pub StartupIsRight : Type 0
@@ -100,7 +113,7 @@ StartupIsRight =
 
 abbrev pub StartupHasWords : Type 0
 StartupHasWords =
-    (spans : List Span) (main : ℕ) → code_words (startup_code spans main) ≤ 7 + 10 * length spans
+    (spans : List Span) (main : ℕ) → code_words (startup_code spans main) ≤ 8 + 10 * length spans
 
 -- ---- items
 

@@ -1,7 +1,7 @@
 -- The code before `main`. Spans name their initial bytes and their object by the numbers of items. 1,281 is the last
 -- byte of the stack.
 use Rattle.std.specs.Prelude.{ℕ, ◌+◌, ◌/◌, ◌%◌, nat_le, Bool, true, false, List, [], ◌∷◌, ◌++◌, negsuc}
-use Rattle.ec_isa.specs.declared.instructions.Instr.TheVariants.{Ldi, LpmZPlus, StXPlus, Sbiw, Brbc, Break}
+use Rattle.ec_isa.specs.declared.instructions.Instr.TheVariants.{Ldi, LpmZPlus, StXPlus, Sbiw, Brbc, Break, Rjmp}
 use Rattle.ec_isa.specs.declared.instructions.Instr.TheVariants.{Out as OutInstr}
 use Rattle.ec_asm.specs.declared.items.AsmItem.{AsmItem}
 use Rattle.ec_asm.specs.declared.items.AsmItem.TheVariants.{Plain, CallTo, LoadPart}
@@ -45,6 +45,10 @@ abbrev pub spans_code : List Span → List AsmItem
 spans_code [] = []
 spans_code (s ∷ ss) = span_code s ++ spans_code ss
 
--- `main` is called, and the machine ends where it returns
+-- `main` is called, and the machine ends where it returns. Behind BREAK a jump to itself stands, since BREAK is passed
+-- as NOP where no debugger is attached (Microchip AVR Instruction Set Manual)
+abbrev pub main_code : (main : ℕ) → List AsmItem
+main_code main = CallTo main ∷ Plain Break ∷ Plain (Rjmp (negsuc 0)) ∷ []
+
 abbrev pub startup_code : List Span → (main : ℕ) → List AsmItem
-startup_code spans main = stack_code ++ (spans_code spans ++ (CallTo main ∷ Plain Break ∷ []))
+startup_code spans main = stack_code ++ (spans_code spans ++ main_code main)

@@ -119,12 +119,17 @@ fn set_spans(out: &mut Seq<AsmItem>, spans: &[Span]) -> Result<(), NoMemory>
 }
 
 /// Appends code that sets the stack pointer to the last byte of the stack and the bytes of each span to their initial
-/// values, calls `main`, and ends. Where memory runs out, a part of the code is appended.
+/// values, calls `main`, and ends with BREAK, behind which a jump to itself stands: where no debugger is attached, BREAK
+/// is passed as NOP (Microchip AVR Instruction Set Manual). Where memory runs out, a part of the code is appended.
 pub fn startup(out: &mut Seq<AsmItem>, spans: &[Span], main: u64) -> Result<(), NoMemory>
     ensures ok { OnOk result (out.new.items ≡ out.old.items ++ startup_code spans.now main) }
     ensures err { OnErr result (BeginWith out.old.items out.new.items) }
 {
     stack(out)?;
     set_spans(out, spans)?;
-    out.extend_from_slice(&[AsmItem::CallTo(main), AsmItem::Plain(Instr::Break)])
+    out.extend_from_slice(&[
+        AsmItem::CallTo(main),
+        AsmItem::Plain(Instr::Break),
+        AsmItem::Plain(Instr::Rjmp { k: -1 }),
+    ])
 }

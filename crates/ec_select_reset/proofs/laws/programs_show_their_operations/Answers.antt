@@ -4,4 +4,10 @@ use Rattle.ec_select_reset.proofs.laws.programs_show_their_operations.Goals as g
 pub returns : goal.returns
 returns c =
     programs_show_their_operations
-    (record { startup = c.startup_is_right.ensures; views = c.machine_runs_as_view.ensures; follows = c.code_follows_operations.ensures })
+    (record {
+      startup = c.startup_is_right.ensures;
+      views = c.machine_runs_as_view.ensures;
+      follows = c.code_follows_operations.ensures;
+      allowed = c.accesses_are_allowed.ensures;
+      steps = c.steps_are_of_instructions.ensures.step;
+    })
