@@ -8,7 +8,7 @@ use Rattle.ec_asm.specs.Change.{Env, Port}
 use Rattle.ec_core.specs.PortTable.{PlainTable, plain_table}
 use Rattle.ec_core.specs.State.{Event, In, Out, Read, Write}
 use Rattle.ec_core.specs.declared.values.Undefined.{Undefined}
-use Rattle.ec_core_ports.specs.Ports.{IsPortByte, AccessesPorts, ShowsPorts, PortBytesPass}
+use Rattle.ec_core_accesses.specs.Ports.{IsPortByte, AccessesPorts, ShowsPorts, PortBytesPass}
 use Rattle.ec_map.specs.Maps.{ValidMap}
 use Rattle.ec_map.specs.declared.map.Map.{Map}
 use Rattle.ec_select_functions.specs.Kept.{is_port_kind, is_on_port, are_on_ports, on_ports}

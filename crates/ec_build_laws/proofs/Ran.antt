@@ -26,7 +26,7 @@ use Rattle.ec_lower_code.specs.Correct.{LoweredFollows, LoweredIsMadeOf, is_paid
 use Rattle.ec_map.specs.declared.map.Map.{Map}
 use Rattle.ec_locate.specs.declared.placing.Located.{Located}
 use Rattle.ec_asm.specs.Run.{Running as AtWord, run, is_safe}
-use Rattle.ec_core_ports.specs.Ports.{SourcesAccessPorts, PortBytesPass}
+use Rattle.ec_core_accesses.specs.Ports.{SourcesAccessPorts, PortBytesPass}
 use Rattle.ec_select_functions.specs.Kept.{meaning_on}
 use Rattle.ec_select_functions.specs.Laws.{within_steps, HoldsUnlessFailed}
 use Rattle.ec_select_functions.specs.Relation.{accesses}

@@ -23,7 +23,7 @@ use Rattle.ec_asm.specs.Run.{Running as AtWord, run, is_safe}
 use Rattle.ec_asm.specs.Shows.{Fits, noted_all}
 use Rattle.ec_asm.specs.declared.items.AsmProgram.{AsmProgram}
 use Rattle.ec_core.specs.Accesses.{leaf_of, leaf_count}
-use Rattle.ec_core.specs.Laws.{IsAtHome, EventsAreAtHome, MoreTurnsOnlyAdd, RunsBySteps}
+use Rattle.ec_core.specs.Laws.{IsAtHome, EventsAreAtHome, MoreTurnsOnlyAdd, PartsOnlyAdd}
 use Rattle.ec_core.specs.Meaning.{initial_object, initial_value, behaviour_of, state_of, run as source_run, source}
 use Rattle.ec_core.specs.Plain.{PlainObject, PlainProgram}
 use Rattle.ec_core.specs.PortTable.{plain_table}
@@ -41,7 +41,8 @@ use Rattle.ec_lower_code.specs.Correct.{LoweredFollows, is_paid}
 use Rattle.ec_map.specs.Regions.{end_of}
 use Rattle.ec_map.specs.declared.map.Map.{Map}
 use Rattle.ec_locate.specs.declared.placing.Located.{Located}
-use Rattle.ec_core_ports.specs.Ports.{SourcesAccessPorts, PortBytesPass}
+use Rattle.ec_core_accesses.specs.Objects.{AccessesAreLive}
+use Rattle.ec_core_accesses.specs.Ports.{SourcesAccessPorts, PortBytesPass}
 use Rattle.ec_select_functions.specs.Laws.{HoldsUnlessFailed}
 use Rattle.ec_select_operations.specs.Places.{ObjectLeaf}
 use Rattle.ec_select_operations.specs.Pointers.{home_of}
@@ -79,7 +80,8 @@ pub record WholeLaws : Type 0 where
   pub home : EventsAreAtHome
   pub on_ports : SourcesAccessPorts
   pub port_bytes : PortBytesPass
-  pub steps : RunsBySteps
+  pub live : AccessesAreLive
+  pub parts : PartsOnlyAdd
 
 -- ---- events
 
@@ -266,7 +268,7 @@ module _ (laws : WholeLaws) (p : PlainProgram) (m : Map) (asm : AsmProgram) (l :
     within = within p m l e s inputs r (kept p l) (HasMeaning p m inputs) alike laws.machine_run laws.turns
         (meaning_before laws.turns p m inputs);
     spaces = spaces;
-    live = λ n. laws.steps p (plain_table m.io) inputs n;
+    live = record { accesses = laws.live p; parts = laws.parts p (plain_table m.io) inputs };
     start_stack = start_pushes p m l e s inputs r laws.stack fit in_region (reset_shows p m asm l e s inputs h refl reset give);
     stack = pushes p m l e s inputs r laws.stack fit in_region;
   }

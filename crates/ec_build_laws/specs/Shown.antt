@@ -83,8 +83,8 @@ PushesInRegion m (Ends es result) t = StaysInStack m t
 
 -- The machine comes to main in at most so many steps. The last of them is its call, and all accesses before that, but
 -- the silent ones, are those that copy the initial bytes; then the objects have their initial values. From main on each
--- part of the source is reached within its work, and each step stays within the source. From the reset on the stack
--- stays in its region
+-- part of the source is reached within its work, and each step stays within the source. Up to main, its call included,
+-- the stack stays in its region, and from there on where the source has a meaning
 pub record ShowsSource (p : PlainProgram) (m : Map) (asm : AsmProgram) (l : Located) (s : State)
     (inputs : Inputs) : Type 0 where
   pub steps : ℕ

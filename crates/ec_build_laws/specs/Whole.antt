@@ -16,8 +16,7 @@ use Rattle.ec_avr.specs.State.{byte_at}
 use Rattle.ec_asm.specs.Pieces.{value}
 use Rattle.ec_asm.specs.declared.items.AsmProgram.{AsmProgram}
 use Rattle.ec_core.specs.Layout.{PlainLeaf, scalar_size, size_of_type, leaves_of_type}
-use Rattle.ec_core.specs.Laws.{Leads}
-use Rattle.ec_core.specs.Meaning.{setting, initial_state, run, state_of, source, work, Defined}
+use Rattle.ec_core.specs.Meaning.{source, work, Defined}
 use Rattle.ec_core.specs.Plain.{static, PlainStruct, PlainObject, PlainProgram}
 use Rattle.ec_core.specs.PortTable.{plain_table}
 use Rattle.ec_core.specs.State.{Event, In, Out, Read, Write}
@@ -25,6 +24,7 @@ use Rattle.ec_core.specs.ValueTypes.{GiveBytes}
 use Rattle.ec_core.specs.declared.programs.LeafInit.{LeafInit}
 use Rattle.ec_core.specs.declared.values.Undefined.{Undefined}
 use Rattle.ec_ir.specs.Temporaries.{low_bytes}
+use Rattle.ec_core_accesses.specs.Objects.{GoesByLiveAccesses}
 use Rattle.ec_map.specs.declared.map.Map.{Map}
 use Rattle.ec_locate.specs.Layout.{layout}
 use Rattle.ec_locate.specs.Placing.{entries_by, scratch_needs}
@@ -94,12 +94,6 @@ StaysAtHome p l (GoesOn es) = AreForEvents p l es
 StaysAtHome p l (Ends es result) = AreForEvents p l es
 StaysAtHome p l (Failed point) = ⊤
 
--- the run of the source goes by steps, and each step that accesses an object does so where the object is live
-abbrev pub GoesBySteps : PlainProgram → Map → Inputs → ℕ → Type 0
-GoesBySteps p m inputs n =
-    Leads (setting p (plain_table m.io) inputs) (initial_state p (plain_table m.io))
-    (state_of (run p (plain_table m.io) inputs n))
-
 -- ---- before main
 
 -- n bytes are copied from an address of flash to one of data memory: each is read and written, by rising address
@@ -139,8 +133,10 @@ AreInitial p l t =
 -- bank is read nowhere; then the static objects of the data bank have their initial values.
 -- From main on all that is kept of the machine's accesses is what the source shows. Where the source has a meaning for
 -- all turns, each part of it is reached within its work. Each step stays within the source, and never faults where that
--- has a meaning. Each access is of a byte of its event, in the home of the event's object, which is live there.
--- From the reset on, the call of main included, each push and pop moves bytes of region `stack` alone
+-- has a meaning. Each access is of a byte of its event, in the home of the event's object. Wherever the source reads or
+-- writes an object, it is live in the state of that moment.
+-- Up to main, its call included, each push and pop moves bytes of region `stack` alone, and from there on where the source
+-- has a meaning
 pub record ShowsWhole (p : PlainProgram) (m : Map) (l : Located) (s : State) (inputs : Inputs) : Type 0 where
   pub steps : ℕ
   pub few : steps ≤ start_steps p
@@ -158,7 +154,7 @@ pub record ShowsWhole (p : PlainProgram) (m : Map) (l : Located) (s : State) (in
   pub within : (k : ℕ)
       → IsWithinSource p l (kept p l) s inputs start (source p (plain_table m.io) inputs k) (machine k inputs s)
   pub spaces : (n : ℕ) → StaysAtHome p l (source p (plain_table m.io) inputs n)
-  pub live : (n : ℕ) → GoesBySteps p m inputs n
+  pub live : GoesByLiveAccesses p (plain_table m.io) inputs
   pub start_stack : (k : ℕ) (trace : List Access) (t : State) → k < steps → machine k inputs s ≡ Running trace t
       → StaysInStack m t
   pub stack : (k : ℕ) (trace : List Access) (t : State) → machine k inputs main ≡ Running trace t

@@ -9,8 +9,8 @@ ghost use Rattle.ec_build_laws.specs.Laws.{LoweredProgramsHaveCode};
 use ec_asm::laws::{placed_items_stand, stack_stays_inside};
 use ec_asm_accesses::accesses_are_allowed;
 use ec_avr::runs_are_steps;
-use ec_core::{events_are_at_home, more_turns_only_add, runs_by_steps};
-use ec_core_ports::{port_bytes_pass, sources_access_ports};
+use ec_core::{events_are_at_home, more_turns_only_add, parts_only_add};
+use ec_core_accesses::{accesses_are_live, port_bytes_pass, sources_access_ports};
 use ec_locate::{
     code_stands, data_stands_apart, flash_stands_apart, initial_values_stand, placed_stand_apart,
 };
@@ -70,8 +70,8 @@ pub fn images_run_as_sources()
 
 /// From every reset state the machine of a placed program comes to `main` in a few steps. Before the call of `main` it
 /// accesses nothing but registers and the initial bytes, which it copies. Then it comes to each part of what the source
-/// shows, within its work, and each of its steps stays within the source; what it pushes and pops from the reset on are
-/// bytes of region `stack`.
+/// shows, within its work, and each of its steps stays within the source; what it pushes and pops are bytes of region
+/// `stack`, up to `main` in any case, and from there on where the source has a meaning.
 pub fn images_show_their_sources()
     ensures { ImagesShowTheirSources }
 {
@@ -100,13 +100,14 @@ pub fn accesses_stay_in_spaces()
 /// which is its first access of the stack, it accesses nothing but registers and the initial bytes, which it copies.
 /// From `main` on all that is kept of its trace, where code's scratch memory and work bytes and what is pushed and
 /// popped count for nothing, is what the source shows: each part of it is reached within its work, and each step stays
-/// within it. Each of these accesses is of a byte of its event's object, in the bank that is its home, and
-/// the object is live there. What is pushed and popped from the reset on
-/// are bytes of region `stack`.
+/// within it. Each of these accesses is of a byte of its event's object, in the bank that is its home. Wherever the
+/// source reads or writes an object, it is live in the state of that moment. What is pushed and popped are bytes of
+/// region `stack`, up to `main` in any case, and from there on where the source has a meaning.
 pub fn programs_show_their_sources()
     ensures { ProgramsShowTheirSources }
 {
     accesses_are_allowed();
+    accesses_are_live();
     code_stands();
     data_stands_apart();
     events_are_at_home();
@@ -118,8 +119,8 @@ pub fn programs_show_their_sources()
     placed_items_stand();
     placed_stand_apart();
     port_bytes_pass();
+    parts_only_add();
     runs_are_steps();
-    runs_by_steps();
     selections_are_valid();
     selections_run();
     sources_access_ports();

@@ -22,5 +22,6 @@ returns c = programs_show_their_sources (record {
   home = c.events_are_at_home.ensures;
   on_ports = c.sources_access_ports.ensures;
   port_bytes = c.port_bytes_pass.ensures;
-  steps = c.runs_by_steps.ensures;
+  live = c.accesses_are_live.ensures;
+  parts = c.parts_only_add.ensures;
 })

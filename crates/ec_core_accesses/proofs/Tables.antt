@@ -8,7 +8,7 @@ use Rattle.ec_iohw.specs.declared.table.Port.{Port}
 use Rattle.ec_iohw.specs.declared.table.PortGroup.{PortGroup}
 use Rattle.ec_core.specs.PortAccesses.{pairs_of}
 use Rattle.ec_core.specs.PortTable.{PlainPort, PlainGroup, plain_port, plain_group, plain_table}
-use Rattle.ec_core_ports.specs.Ports.{IsPortByte, of_port, of_group, PassesPort, PassesPairs, PassesGroup, PortBytesPass}
+use Rattle.ec_core_accesses.specs.Ports.{IsPortByte, of_port, of_group, PassesPort, PassesPairs, PassesGroup, PortBytesPass}
 
 -- an item of a list that was made of one with a property
 record IsMadeOf {A B : Type 0} (P : A → Type 0) (f : A → B) (y : B) : Type 0 where

@@ -1,2 +1,3 @@
 -- The definitions that the contracts of the laws cite.
+pub mod Objects
 pub mod Ports

@@ -14,7 +14,7 @@ use Rattle.ec_core.specs.PortAccesses.{port_effect, pairs_written, pairs_of, gro
 use Rattle.ec_core.specs.PortOperations.{PortAction, reads, writes, updates, port_operation}
 use Rattle.ec_core.specs.PortTable.{PlainPort, PlainGroup}
 use Rattle.ec_core.specs.State.{Setting, Event, Out, State, with_event, Outcome}
-use Rattle.ec_core_ports.specs.Ports.{IsPortByte, of_port, of_group, AccessesPorts}
+use Rattle.ec_core_accesses.specs.Ports.{IsPortByte, of_port, of_group, AccessesPorts}
 
 pub all_added : (P : Event → Type 0) (es : List Event) (e : Event) → AllByRecursion P es → P e → AllByRecursion P (es ++ e ∷ [])
 all_added P [] e all one = (one, tt)

@@ -28,8 +28,8 @@ use Rattle.ec_core.specs.Statements.{declared, declared_first, ending, test_of, 
 use Rattle.ec_core.specs.Statements.{initialising, effect_of, kind_effect, option_effect, first_effect, effects_of}
 use Rattle.ec_core.specs.Statements.{parameters_written, unreturned, call_result, call_of, calls_within}
 use Rattle.ec_core.specs.Typing.{int, type_of_expr}
-use Rattle.ec_core_ports.specs.Ports.{AccessesPorts, ShowsPorts, RunsAccessPorts, SourcesAccessPorts}
-use Rattle.ec_core_ports.proofs.Bytes.{all_added, OnPorts, Keeps, port_bytes, group_bytes}
+use Rattle.ec_core_accesses.specs.Ports.{AccessesPorts, ShowsPorts, RunsAccessPorts, SourcesAccessPorts}
+use Rattle.ec_core_accesses.proofs.Bytes.{all_added, OnPorts, Keeps, port_bytes, group_bytes}
 
 module _ (w : Setting) where
   -- ---- parts of outcomes

@@ -1,3 +1,4 @@
 mod Bytes
 mod Tables
 mod Walk
+mod Objects

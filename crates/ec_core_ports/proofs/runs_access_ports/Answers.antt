@@ -1,5 +1,0 @@
-use Rattle.ec_core_ports.proofs.Walk.{runs_access_ports}
-use Rattle.ec_core_ports.proofs.runs_access_ports.Goals as goal
-
-pub returns : goal.returns
-returns c = runs_access_ports
