@@ -14,16 +14,15 @@ use Rattle.ec_core.specs.Plain.{PlainType, PlainExpr}
 use Rattle.ec_core.specs.PortOperations.{port_operation, takes_value}
 use Rattle.ec_core.specs.Typing.{unsigned_int, port_value}
 use Rattle.ec_check_names.specs.Names.{Named, an_object, a_function, found}
-use Rattle.ec_check_names.specs.Firsts.{first_assignment, first_postfix}
+use Rattle.ec_check_names.specs.Firsts.{first_assignment}
 use Rattle.ec_check_forms.specs.declared.ports.NamedPort.{NamedPort}
 use Rattle.ec_check_forms.specs.Calls.{one_if, operand_count, too_wide, port_rules, port_named, group_named, fits, callee_rules}
 use Rattle.ec_check_forms.specs.Nodes.{use_rules, used}
 use Rattle.ec_check_operands.specs.declared.operands.Modes.{Modes}
 use Rattle.ec_check_operands.specs.Operands.{Operand, with_one}
 use Rattle.ec_check_operands.specs.Passing.{passed, passing_rules}
-use Rattle.ec_check_forms.specs.Sites.{a_callee}
 use Rattle.ec_check_forms.specs.Meanings.{KeptFormsHaveMeanings, KeptMembersHaveMeanings}
-use Rattle.ec_check_expressions.specs.Arguments.{Wanted, nothing, parameters, port_operands, wanted_of, wanted_type, Passed, arguments}
+use Rattle.ec_check_expressions.specs.Arguments.{Wanted, parameters, port_operands, wanted_of, wanted_type, Passed, arguments}
 use Rattle.ec_check_expressions.specs.Arguments.{operands, with_argument, arguments_in, access_by, access_of, group_action}
 use Rattle.ec_check_expressions.specs.Callees.{name_in_postfix, Called, function_named, called_by, callee, further_count, argument_count}
 use Rattle.ec_check_expressions.specs.Callees.{called_sites, call_of}
@@ -33,7 +32,7 @@ use Rattle.ec_check_expressions.specs.Expressions.{passed_arguments, passed_furt
 use Rattle.ec_check_expressions.specs.Expressions.{conditional_sites, binary_sites, cast_sites, unary_sites, postfix_sites, arguments_sites}
 use Rattle.ec_check_expressions.specs.Expressions.{further_sites, primary_sites}
 use Rattle.ec_check_expressions.specs.Known.{Known}
-use Rattle.ec_check_expressions.specs.Sites.{Site, on, rules_at, told as told_at}
+use Rattle.ec_check_expressions.specs.Sites.{Site, rules_at, told as told_at}
 use Rattle.ec_check_expressions.specs.Tokens.{operator_of, compound_operator, prefix_operator, is_up, is_arrow}
 use Rattle.ec_check_expressions.specs.TypeNames.{said_type, void_said}
 use Rattle.ec_check_expression_laws.specs.Laws.{AreUnbroken, HaveMeanings, KeptExpressionsHaveMeanings}
@@ -187,7 +186,7 @@ module _ (k : Known) where
 -- a call whose arguments are given, at whose sites no rule is broken
 module _ (told : TypesAreTold) (forms : KeptFormsHaveMeanings) (m : Modes) (count at : ℕ) (pass : Wanted → Passed)
     (expression : List Site → List Site)
-    (sites : Wanted → List Site) (rest : List Site) (bar : (more : List Site) → AreKept (expression more) → ⊥)
+    (sites : Wanted → List Site) (rest : List Site)
     (given : (ts : List PlainType) → length ts ≡ count → AreKept (sites (parameters ts))
     → IsSome (arguments_in (pass (parameters ts))) × AreKept rest) where
   function_meant : (name_at : ℕ) (number : Option ℕ) (returns : Option PlainType) (params : Option (List PlainType))
@@ -204,11 +203,12 @@ module _ (told : TypesAreTold) (forms : KeptFormsHaveMeanings) (m : Modes) (coun
       let g = given ts (counted (length ts) count e) k.1.1 in
       (call_meant told forms m n ty (length ts) count (arguments_in (pass (parameters ts))) h.0 e g.0, g.1)
 
+  -- nothing else is called
   callee_meant : (o : Option Called) → IfSome o (λ c. IsWhole (a_function c.number c.returns c.params))
-      → AreKept (call_sites o expression count at (sites (wanted_by o)))
+      → AreUnbroken (callee_rules (is_some o) 0) → AreKept (call_sites o expression count at (sites (wanted_by o)))
       → IsMeant (with_one o (λ c. call_of m c count (arguments_in (pass (wanted_of c.params))))) × AreKept rest
-  callee_meant None h k = absurd (bar (sites nothing) k)
-  callee_meant (Some c) h k = function_meant c.at c.number c.returns c.params h k
+  callee_meant None h u k = absurd (true≢false u.0)
+  callee_meant (Some c) h u k = function_meant c.at c.number c.returns c.params h k
 
 -- ---- operations on ports and groups
 
@@ -258,11 +258,6 @@ module _ (told : TypesAreTold) (forms : KeptFormsHaveMeanings) (members : KeptMe
       → AreUnbroken (passing_rules (used (of_assignment k a)) (wanted_type w i) (first_assignment a)) → IsPassing k w i a
   passing w i a h u g s = passing_meant told forms k.modes (used (of_assignment k a)) (wanted_type w i) (first_assignment a)
       (use_of (of_assignment k a) h u) g s
-
-  -- an expression that has a meaning is not called
-  not_called : (x : Option Operand) → IsMeant x → AreUnbroken (callee_rules x 0) → ⊥
-  not_called None h g = h
-  not_called (Some x) h g = true≢false g.0
 
   mutual
     kept_expression : (x : t.Expression) (rest : List Site) → AreKept (expression_sites k x rest)
@@ -341,10 +336,9 @@ module _ (told : TypesAreTold) (forms : KeptFormsHaveMeanings) (members : KeptMe
         )
     kept_postfix (t.call p l a r) rest h =
         callee_meant told forms k.modes (argument_count a) l.index (λ w. passed_arguments k w (arguments (Some [])) a)
-        (λ more. postfix_sites k p (on (a_callee (of_postfix k p) (first_postfix p)) ∷ more)) (λ w. arguments_sites k w a rest) rest
-        (λ more z. let g = kept_postfix p _ z in not_called (of_postfix k p) g.0 g.1.0)
+        (postfix_sites k p) (λ w. arguments_sites k w a rest) rest
         (λ ts e z. let g = kept_arguments a (parameters ts) rest z in (all_given k a ts e g.0, g.1))
-        (callee k p) (callee_whole k types (name_in_postfix p)) h
+        (callee k p) (callee_whole k types (name_in_postfix p)) h.0 h.1
     kept_postfix (t.member p s op (t.identifier at n)) rest h =
         let x = kept_postfix p _ h in (
           member_meant told forms k.modes members k.structs n (is_arrow op) (used (of_postfix k p)) 0 0

@@ -10,6 +10,7 @@ mod ValidExpressions
 mod Shapes
 mod KeptForms
 mod KeptExpressions
+mod FunctionNames
 mod Needs
 mod NeedTokens
 mod Declarations

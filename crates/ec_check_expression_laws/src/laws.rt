@@ -2,6 +2,7 @@
 ghost use Rattle.ec_check_expression_laws.specs.Laws.{ExpressionsAreValid, ValuesAreValid, DeclarationsKeepSuiting};
 ghost use Rattle.ec_check_expression_laws.specs.Laws.{DefinitionsKeepSuiting, KeptExpressionsHaveMeanings, SitesAreKept};
 ghost use Rattle.ec_check_expression_laws.specs.Laws.{SaidTypesArePlaced, KeptTypesAreSaid, NeedsAreBounded};
+ghost use Rattle.ec_check_expression_laws.specs.FunctionNames.{OnlyFunctionsAreCalled};
 
 use ec_check_forms::{
     forms_stay_valid, kept_forms_have_meanings, kept_members_have_meanings, names_are_valid,
@@ -62,6 +63,12 @@ pub fn said_types_are_placed()
 /// Specifiers that break no rule and do not name void say a type that has a size, and so they do behind stars.
 pub fn kept_types_are_said()
     ensures { KeptTypesAreSaid }
+{}
+
+/// The first site of a call tells rule 21 at the first token of what is called, exactly where that is not the name of a
+/// function, in parentheses or not. Nothing else is told there.
+pub fn only_functions_are_called()
+    ensures { OnlyFunctionsAreCalled }
 {}
 
 /// The value of an expression needs no more temporaries than the expression has tokens.

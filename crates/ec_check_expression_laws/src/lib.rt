@@ -6,6 +6,6 @@ mod laws;
 
 pub use laws::{
     declarations_keep_suiting, definitions_keep_suiting, expressions_are_valid,
-    kept_expressions_have_meanings, kept_types_are_said, needs_are_bounded, said_types_are_placed,
-    sites_are_kept, values_are_valid,
+    kept_expressions_have_meanings, kept_types_are_said, needs_are_bounded,
+    only_functions_are_called, said_types_are_placed, sites_are_kept, values_are_valid,
 };

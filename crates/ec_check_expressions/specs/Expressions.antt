@@ -1,5 +1,5 @@
 -- What an expression means at a place, and the sites in it where rules are judged (ISO/IEC 9899:1999, 6.5).
-use Rattle.std.specs.Prelude.{ℕ, ◌+◌, true, false, Option, Some, None, List, [], ◌∷◌}
+use Rattle.std.specs.Prelude.{ℕ, ◌+◌, true, false, is_some, Option, Some, None, List, [], ◌∷◌}
 use Rattle.ec_grammar.specs.declared.Operation.{Operation}
 use Rattle.ec_grammar.specs.declared.Operation.TheVariants as operations
 use Rattle.ec_grammar.specs.Trees as t
@@ -32,6 +32,10 @@ use Rattle.ec_check_expressions.specs.TypeNames.{said_type, void_said, size_of_t
 abbrev pub wanted_by : Option Called → Wanted
 wanted_by None = nothing
 wanted_by (Some f) = wanted_of f.params
+
+-- what is called, at its first token
+abbrev pub callee_site : Known → t.Postfix → Site
+callee_site k p = on (a_callee (is_some (callee k p)) (first_postfix p))
 
 -- a function that is called by its name is judged there; what else is called is an expression, whose sites come first
 abbrev pub call_sites : Option Called → (List Site → List Site) → (count : ℕ) → (at : ℕ) → List Site → List Site
@@ -173,8 +177,9 @@ module _ (k : Known) where
         ∷ expression_sites e (on (a_use (of_expression e) (first_expression e))
         ∷ on (an_index (used (of_postfix p)) (used (of_expression e)) l.index) ∷ rest))
     postfix_sites (t.call p l a r) rest =
-        call_sites (callee k p) (λ more. postfix_sites p (on (a_callee (of_postfix p) (first_postfix p)) ∷ more))
-        (argument_count a) l.index (arguments_sites (wanted_by (callee k p)) a rest)
+        callee_site k p
+        ∷ call_sites (callee k p) (postfix_sites p) (argument_count a) l.index
+        (arguments_sites (wanted_by (callee k p)) a rest)
     postfix_sites (t.member p s op (t.identifier at n)) rest =
         postfix_sites p (on (a_use (of_postfix p) (first_postfix p))
         ∷ on (a_member k.structs n (is_arrow op) (used (of_postfix p)) s.index at.index) ∷ rest)

@@ -9,16 +9,15 @@ ghost use Rattle.ec_core.specs.Plain.{plain_type};
 ghost use Rattle.ec_check_names.specs.Names.{plain_named};
 ghost use Rattle.ec_check_forms.specs.Calls.{called as called_of};
 ghost use Rattle.ec_check_operands.specs.Operands.{plain_operand};
-ghost use Rattle.ec_check_forms.specs.Sites.{a_callee};
 ghost use Rattle.ec_check_expressions.specs.Arguments.{plain_arguments};
 ghost use Rattle.ec_check_expressions.specs.Callees.{name_in_expression, name_in_assignment, name_in_conditional, name_in_binary};
 ghost use Rattle.ec_check_expressions.specs.Callees.{name_in_cast, name_in_unary, name_in_postfix, name_in_primary, plain_called};
 ghost use Rattle.ec_check_expressions.specs.Callees.{function_named, callee, takes, count_sites, called_sites, exprs_of, call_of};
 ghost use Rattle.ec_check_expressions.specs.Known.{plain_known};
-ghost use Rattle.ec_check_expressions.specs.Sites.{Site, on, told};
+ghost use Rattle.ec_check_expressions.specs.Sites.{Site, told};
 
 use crate::known::Known;
-use ec_check_forms::{call, judge_call, judge_callee, judge_function};
+use ec_check_forms::{call, judge_call, judge_function};
 use ec_check_names::Named;
 use ec_check_operands::{Faults, Modes, Operand};
 use ec_core::{CType, Expr};
@@ -215,13 +214,4 @@ pub(crate) fn call_of(
     };
     let returns = returns.copied(alloc)?;
     Ok(made_call(modes, number, returns, args))
-}
-
-/// Judges what is called and is no function's name (rule 21).
-pub(crate) fn refuse(faults: &mut Faults, x: Option<Operand>, at: u32)
-    ensures { (rest : List Site) → told faults.new.least rest ≡ told faults.old.least
-        (on (a_callee (option_map plain_operand x) at) ∷ rest) }
-{
-    judge_callee(faults, &x, at);
-    drop(x);
 }

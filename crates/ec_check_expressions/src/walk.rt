@@ -18,7 +18,7 @@ ghost use Rattle.ec_check_expressions.specs.Known.{IsSound, plain_known};
 ghost use Rattle.ec_check_expressions.specs.Sites.{Site, told, Walked};
 
 use crate::arguments::{Passed, Wanted, operating, passing, wanted_for, wanted_of};
-use crate::callees::{Called, call_of, callee, judge_called, refuse};
+use crate::callees::{Called, call_of, callee, judge_called};
 use crate::counts::{argument_count, further_count};
 use crate::known::Known;
 use crate::names::{constant, naming};
@@ -26,6 +26,7 @@ use crate::nodes::{
     casting, choosing, indexing, joining, prefixing, reaching, sequenced, sizing, stepping,
     storing, take_first, take_first_part,
 };
+use ec_check_forms::judge_callee;
 use ec_check_names::{
     first_assignment, first_binary, first_cast, first_expression, first_postfix, first_unary,
 };
@@ -237,15 +238,19 @@ pub fn postfix(
                 }
             }
         }
-        Postfix::Call(p, l, a, _) => match callee(known, p) {
-            None => {
-                let x = postfix(alloc, known, faults, p)?;
-                refuse(faults, x, first_postfix(p));
-                unwanted(alloc, known, faults, a)?;
-                Ok(None)
+        Postfix::Call(p, l, a, _) => {
+            let f = callee(known, p);
+            judge_callee(faults, f.is_some(), first_postfix(p));
+            match f {
+                None => {
+                    let x = postfix(alloc, known, faults, p)?;
+                    drop(x);
+                    unwanted(alloc, known, faults, a)?;
+                    Ok(None)
+                }
+                Some(f) => call(alloc, known, faults, &f, l.index, a),
             }
-            Some(f) => call(alloc, known, faults, &f, l.index, a),
-        },
+        }
         Postfix::Member(p, s, op, n) => {
             let x = postfix(alloc, known, faults, p)?;
             reaching(alloc, known, faults, *op, n, x, first_postfix(p), s.index)

@@ -1,7 +1,7 @@
 -- What the rules of a place tell is exactly what breaks a constraint there.
 use Rattle.std.proofs.Common.{◌≡◌, ℕ, true, false, refl, inl, inr}
 use Rattle.std.specs.Prelude.{◌⊎◌, ◌↔◌, Option, Some, None}
-use Rattle.std.proofs.lemmas.Bool.{false≢true}
+use Rattle.std.proofs.lemmas.Bool.{false≢true, true≢false}
 use Rattle.ec_check_operands.specs.declared.faults.Fault.{Fault}
 use Rattle.ec_check_operands.specs.Laws.{IsTold}
 use Rattle.ec_core.specs.Laws.{TypesAreTold}
@@ -62,9 +62,9 @@ told_breaks told (a_name what at) f (inr (inr (inr h))) = absurd h
 told_breaks told (a_function true at) f (inl (b, a, r)) = absurd (false≢true b)
 told_breaks told (a_function false at) f (inl (b, a, r)) = undefined r a
 told_breaks told (a_function defined at) f (inr h) = absurd h
-told_breaks told (a_callee None at) f (inl (b, a, r)) = absurd (false≢true b)
-told_breaks told (a_callee (Some x) at) f (inl (b, a, r)) = miscalled r a
-told_breaks told (a_callee x at) f (inr h) = absurd h
+told_breaks told (a_callee true at) f (inl (b, a, r)) = absurd (false≢true b)
+told_breaks told (a_callee false at) f (inl (b, a, r)) = miscalled r (refl, a)
+told_breaks told (a_callee function at) f (inr h) = absurd h
 told_breaks told (a_call params args at) f (inl (b, a, r)) = wrong_arguments r ((count_told params args).0 b, a)
 told_breaks told (a_call params args at) f (inr h) = absurd h
 told_breaks told (a_use x at) f (inl (b, a, r)) = no_value r ((void_used_told x).0 b, a)
@@ -159,7 +159,8 @@ told_20 s f r h = absurd h
 
 told_21 : (s : Site) (f : Fault) → f.rule ≡ 21 → IsMiscalled s f.at → IsTold (rules_at s) f
 told_21 (a_name Function at) f r a = inr (inr (inl (refl, a, r)))
-told_21 (a_callee (Some x) at) f r a = inl (refl, a, r)
+told_21 (a_callee false at) f r h = inl (refl, h.1, r)
+told_21 (a_callee true at) f r h = absurd (true≢false h.0)
 told_21 s f r h = absurd h
 
 told_22 : (s : Site) (f : Fault) → f.rule ≡ 22 → HasWrongArguments s f.at → IsTold (rules_at s) f

@@ -49,9 +49,9 @@ name_rules what at =
 abbrev pub function_rules : (defined : Bool) → ℕ → List Judgement
 function_rules defined at = rule 19 (not defined) at ∷ []
 
--- 21 of what is called and is no function's name
-abbrev pub callee_rules : Option Operand → ℕ → List Judgement
-callee_rules x at = rule 21 (is_some x) at ∷ []
+-- 21 of what is called
+abbrev pub callee_rules : (function : Bool) → ℕ → List Judgement
+callee_rules function at = rule 21 (not function) at ∷ []
 
 -- 22
 abbrev pub call_rules : (params args : ℕ) → ℕ → List Judgement

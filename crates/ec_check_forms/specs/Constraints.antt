@@ -260,7 +260,7 @@ IsUndeclared s token = ⊥
 -- 21: a function's name stands where no call is, or what is called is no function's name
 abbrev pub IsMiscalled : Site → (token : ℕ) → Type 0
 IsMiscalled (a_name Function at) token = token ≡ at
-IsMiscalled (a_callee (Some x) at) token = token ≡ at
+IsMiscalled (a_callee function at) token = (function ≡ false) × (token ≡ at)
 IsMiscalled s token = ⊥
 
 -- 22: a call has the wrong number of arguments

@@ -25,8 +25,8 @@ pub data Site : Type 0 where
   a_name : Meant → (at : ℕ) → Site
   -- the name of a function that is called and is defined or not, at the name
   a_function : (defined : Bool) → (at : ℕ) → Site
-  -- what is called and is no function's name, at its first token
-  a_callee : Option Operand → (at : ℕ) → Site
+  -- what is called, which is the name of a function or not, at its first token
+  a_callee : (function : Bool) → (at : ℕ) → Site
   -- a call by the numbers of parameters and arguments, at `(`
   a_call : (params args : ℕ) → (at : ℕ) → Site
   -- a value that is used, at its first token
@@ -66,7 +66,7 @@ pub data Site : Type 0 where
 abbrev pub rules_at : Site → List Judgement
 rules_at (a_name what at) = name_rules what at
 rules_at (a_function defined at) = function_rules defined at
-rules_at (a_callee x at) = callee_rules x at
+rules_at (a_callee function at) = callee_rules function at
 rules_at (a_call params args at) = call_rules params args at
 rules_at (a_use x at) = use_rules x at
 rules_at (a_part x at) = part_rules x at

@@ -42,11 +42,11 @@ pub fn judge_function(faults: &mut Faults, defined: bool, at: u32)
     faults.judge(19, !defined, at);
 }
 
-/// Judges what is called and is no function's name, which is told at its first token.
-pub fn judge_callee(faults: &mut Faults, x: &Option<Operand>, at: u32)
-    ensures { faults.new.least ≡ all_judged faults.old.least (callee_rules (option_map plain_operand x.now) at) }
+/// Judges what is called, which is told at its first token where it is not the name of a function.
+pub fn judge_callee(faults: &mut Faults, function: bool, at: u32)
+    ensures { faults.new.least ≡ all_judged faults.old.least (callee_rules function at) }
 {
-    faults.judge(21, x.is_some(), at);
+    faults.judge(21, !function, at);
 }
 
 /// Judges the number of arguments of a call, which is told at `(`.
