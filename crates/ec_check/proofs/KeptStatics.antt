@@ -6,7 +6,7 @@ use Rattle.ec_grammar.specs.declared.Spot.{Spot}
 use Rattle.ec_grammar.specs.Trees as t
 use Rattle.ec_core.specs.declared.programs.LeafInit.{LeafInit}
 use Rattle.ec_core.specs.Plain.{PlainType, PlainExpr}
-use Rattle.ec_check_trees.specs.Forms.{is_constant_assignment}
+use Rattle.ec_check_initialisers.specs.Forms.{is_constant_assignment}
 use Rattle.ec_check_forms.specs.Nodes.{used}
 use Rattle.ec_check_names.specs.Firsts.{first_assignment}
 use Rattle.ec_check_operands.specs.Operands.{Operand, with_one}
@@ -104,7 +104,7 @@ module _ (meanings : KeptExpressionsHaveMeanings) (forms : KeptFormsHaveMeanings
 
   item_there : (a : t.Assignment) (ty : PlainType) (rest : List i.Site) → InInitialiser (item_sites k (form_of k a) (Some ty) a rest)
       → IsSome (item_leaf k (form_of k a) (Some ty) a) × InInitialiser rest
-  item_there a ty rest q = form_there (is_constant_assignment a) (address_constant (in_assignment k a)) a ty rest q
+  item_there a ty rest q = form_there (is_constant_assignment k a) (address_constant (in_assignment k a)) a ty rest q
 
   whole_there : (ty : PlainType) (v : Option (List LeafInit)) → is_aggregate ty ≡ true → IsSome v
       → IsSome (whole_by zero_leaf k.structs (Some ty) v)

@@ -15,7 +15,7 @@ use Rattle.ec_check_operands.specs.Operands.{Operand, place, value, value_type, 
 use Rattle.ec_check_operands.specs.Sorts.{is_void, is_integer}
 use Rattle.ec_check_forms.specs.Nodes.{used, prefixed, pointed}
 use Rattle.ec_check_forms.specs.Accesses.{struct_of, indexed as indexed_operand, member_of as member_operand}
-use Rattle.ec_check_trees.specs.Forms.{is_constant_expression}
+use Rattle.ec_check_initialisers.specs.Forms.{is_constant_expression}
 use Rattle.ec_check_expressions.specs.Expressions.{of_expression, of_assignment, of_conditional, of_binary, of_cast, of_unary, of_postfix}
 use Rattle.ec_check_expressions.specs.Expressions.{of_primary}
 use Rattle.ec_check_expressions.specs.Known.{Known}
@@ -196,7 +196,7 @@ module _ (k : Known) where
   index_agrees : (D : Option Designated) (X : Option Operand) (e : t.Expression) → Agree D X
       → Agree (indexed k D e) (with_both (used X) (used (of_expression k e)) (indexed_operand k.modes))
   index_agrees D None e f d q x g = cc
-  index_agrees D (Some y) e f d q x g = by_form (is_constant_expression e) q
+  index_agrees D (Some y) e f d q x g = by_form (is_constant_expression k e) q
     where
       by_index : (j : Option Operand) → with_one j (indexed_operand k.modes y) ≡ Some x → (s : StaticPlace) → D ≡ Some (place_at s)
           → (r : Option StaticPlace)

@@ -14,4 +14,5 @@ mod HeldConstants
 mod Agreement
 mod StaticLeaves
 mod StaticNumbers
+mod NoPointers
 mod Samples

@@ -7,7 +7,7 @@ use Rattle.ec_core.specs.declared.values.Undefined.{Undefined}
 use Rattle.ec_core.specs.Plain.{PlainExpr}
 use Rattle.ec_core.specs.Typing.{type_of_expr}
 use Rattle.ec_check_constants.specs.Constants.{constant}
-use Rattle.ec_check_trees.specs.Forms.{is_constant_conditional}
+use Rattle.ec_check_initialisers.specs.Forms.{is_constant_conditional}
 use Rattle.ec_check_constants.specs.Laws.{TestsTellConstants}
 use Rattle.ec_check_constants.specs.Tests.{is_constant}
 use Rattle.ec_check_operands.specs.Operands.{Operand, place, value, value_type, with_one}
@@ -76,4 +76,4 @@ module _ (law : TestsTellConstants) (k : Known) (c : t.Conditional) (n : ℕ) wh
   by_form false s = cc
 
 pub sizes_are : TestsTellConstants → SizesAreValues
-sizes_are law k c n e = by_form law k c n (is_constant_conditional c) e
+sizes_are law k c n e = by_form law k c n (is_constant_conditional k c) e

@@ -1,7 +1,8 @@
 -- Small initialisers of static objects, and what the definitions make of them.
 use Rattle.std.proofs.Common.{◌≡◌, ◌+◌, refl, ℕ, true, false, pos, List, [], ◌∷◌, Option, Some, None}
 use Rattle.ec_check_operands.specs.declared.faults.Fault.{Fault}
-use Rattle.ec_grammar.specs.declared.token.PunctKind.TheVariants.{Ampersand, Dot, Slash}
+use Rattle.ec_grammar.specs.declared.token.PunctKind.TheVariants.{Ampersand, Dot, Not, Slash}
+use Rattle.ec_grammar.specs.declared.token.WordKind.TheVariants.{Int}
 use Rattle.ec_grammar.specs.declared.Constant.TheVariants.{Whole}
 use Rattle.ec_grammar.specs.declared.Spot.{Spot}
 use Rattle.ec_grammar.specs.Trees as t
@@ -13,7 +14,8 @@ use Rattle.ec_core.specs.Plain.{PlainType, integer, pointer, array, struct, Plai
 use Rattle.ec_core.specs.Typing.{int}
 use Rattle.ec_check_names.specs.Names.{an_object}
 use Rattle.ec_check_expressions.specs.Known.{Known}
-use Rattle.ec_check_initialisers.specs.Sites.{told}
+use Rattle.ec_check_expressions.specs.TypeNames.{said_type, void_said, type_name_rules}
+use Rattle.ec_check_initialisers.specs.Sites.{told, size_sites}
 use Rattle.ec_check_initialisers.specs.Statics.{static_leaves, static_sites}
 
 -- ---- names and trees
@@ -153,3 +155,32 @@ module _ (ports : IoTable) where
       (t.plain (t.join (t.operand (t.uncast (t.postfix (number 0 1)))) (spot 1) Slash (t.operand (t.uncast (t.postfix (number 2 0))))))))
       int ≡ fault 0 15
   no_number = refl
+
+  -- ---- casts to pointers
+
+  abbrev null_pointer : ℕ → t.Cast
+  null_pointer n =
+      t.convert (spot 0) (t.type_name (t.specs (t.word_spec (spot 1) Int) []) (t.star (spot 2) [] ∷ [])) (spot 3)
+      (t.uncast (t.postfix (number 4 n)))
+
+  abbrev cast_item : t.Cast → t.Initialiser
+  cast_item c = t.initial_value (t.value (t.plain (t.operand c)))
+
+  -- int n = (int *)0; int n = !(int *)0;
+  a_pointer : faults (cast_item (null_pointer 0)) int ≡ fault 0 15
+  unfolding void_said said_type
+  a_pointer = refl
+
+  no_pointer : faults (cast_item (t.uncast (t.prefix (spot 9) Not (null_pointer 0)))) int ≡ fault 9 15
+  unfolding void_said said_type
+  no_pointer = refl
+
+  -- (int *)1 has no type: it is told as a cast alone
+  no_cast : faults (cast_item (null_pointer 1)) int ≡ fault 0 31
+  unfolding void_said said_type type_name_rules
+  no_cast = refl
+
+  -- char a[(int *)0];
+  no_size : told None (size_sites (known ports) (t.plain (t.operand (null_pointer 0))) 7 []) ≡ fault 7 8
+  unfolding void_said said_type
+  no_size = refl

@@ -28,7 +28,7 @@ use Rattle.ec_check_operands.specs.Passing.{passes, in_type, brought, passed}
 use Rattle.ec_check_operands.specs.Sorts.{is_void, is_pointer, narrows, drops_const}
 use Rattle.ec_check_forms.specs.Nodes.{used}
 use Rattle.ec_check_constants.specs.Constants.{IsNumeric, constant}
-use Rattle.ec_check_trees.specs.Forms.{is_constant_assignment}
+use Rattle.ec_check_initialisers.specs.Forms.{is_constant_assignment}
 use Rattle.ec_check_constants.specs.Laws.{TestsTellConstants}
 use Rattle.ec_check_constants.specs.Tests.{is_constant}
 use Rattle.ec_check_expressions.specs.Expressions.{of_assignment}
@@ -246,7 +246,7 @@ module _ (law : StructsAreLaidOut) (leaves : LeavesFillTheirTypes) (told : Types
   item_suits : (ty : PlainType) (a : t.Assignment) (init : LeafInit) → scalar_of (Some ty) ≡ Some ty
       → item_leaf k (form_of k a) (Some ty) a ≡ Some init
       → IsInitialLeaf k ty init
-  item_suits ty a init scalar e = by_constant (is_constant_assignment a) e
+  item_suits ty a init scalar e = by_constant (is_constant_assignment k a) e
     where
       W : ItemForm → Option PlainType → Option LeafInit
       W form z = with_one (passed k.modes z (used (of_assignment k a))) (leaf_of form (becomes_null z (used (of_assignment k a))))

@@ -1,5 +1,5 @@
 -- The laws of sizes and of the values of leaves.
-use Rattle.std.specs.Prelude.{ℕ, ◌≡◌, ◌≤◌, Bool, false, ⊤, IsTrue, IsSomeAnd, ℤ, pos}
+use Rattle.std.specs.Prelude.{ℕ, ◌≡◌, ◌≤◌, Bool, true, false, ⊤, IsTrue, IsSomeAnd, IfSome, ℤ, pos}
 use Rattle.std.specs.Prelude.{Option, Some, Ok, List, map, length}
 use Rattle.std.specs.List.{AllZip}
 use Rattle.ec_grammar.specs.Trees as t
@@ -18,14 +18,38 @@ use Rattle.ec_core.specs.Typing.{type_of_expr}
 use Rattle.ec_check_names.specs.Names.{an_object}
 use Rattle.ec_check_names.specs.Tables.{at_name}
 use Rattle.ec_check_constants.specs.Constants.{IsConstant, constant}
-use Rattle.ec_check_operands.specs.Operands.{value}
+use Rattle.ec_check_operands.specs.Operands.{Operand, value, value_type}
+use Rattle.ec_check_forms.specs.Constraints.{IsPointer}
+use Rattle.ec_check_expressions.specs.Expressions as e
 use Rattle.ec_check_expressions.specs.Expressions.{of_conditional}
 use Rattle.ec_check_expressions.specs.Known.{Known}
+use Rattle.ec_check_initialisers.specs.Forms.{is_constant_expression, is_constant_assignment, is_constant_conditional}
+use Rattle.ec_check_initialisers.specs.Forms.{is_constant_binary, is_constant_cast, is_constant_unary, is_constant_postfix}
+use Rattle.ec_check_initialisers.specs.Forms.{is_constant_primary}
 use Rattle.ec_check_initialisers.specs.Items.{zero_leaves}
 use Rattle.ec_check_initialisers.specs.Locals.{leaf_values}
 use Rattle.ec_check_initialisers.specs.Sizes.{array_size}
 use Rattle.ec_check_initialisers.specs.Places.{form_of}
 use Rattle.ec_check_initialisers.specs.Statics.{item_value, item_leaf, static_leaves}
+
+-- ---- the form of constant expressions
+
+abbrev pub IsNoPointer : Option Operand → Type 0
+IsNoPointer o = IfSome o (λ x. ¬ IsPointer (value_type x))
+
+-- what has the form of a constant expression is no pointer, whatever part of an expression it is
+pub record AreNoPointers (k : Known) : Type 0 where
+  pub expressions : (x : t.Expression) → is_constant_expression k x ≡ true → IsNoPointer (e.of_expression k x)
+  pub assignments : (x : t.Assignment) → is_constant_assignment k x ≡ true → IsNoPointer (e.of_assignment k x)
+  pub conditionals : (x : t.Conditional) → is_constant_conditional k x ≡ true → IsNoPointer (e.of_conditional k x)
+  pub binaries : (x : t.Binary) → is_constant_binary k x ≡ true → IsNoPointer (e.of_binary k x)
+  pub casts : (x : t.Cast) → is_constant_cast k x ≡ true → IsNoPointer (e.of_cast k x)
+  pub unaries : (x : t.Unary) → is_constant_unary k x ≡ true → IsNoPointer (e.of_unary k x)
+  pub postfixes : (x : t.Postfix) → is_constant_postfix k x ≡ true → IsNoPointer (e.of_postfix k x)
+  pub primaries : (x : t.Primary) → is_constant_primary k x ≡ true → IsNoPointer (e.of_primary k x)
+
+abbrev pub ConstantsAreNoPointers : Type 0
+ConstantsAreNoPointers = (k : Known) → AreNoPointers k
 
 -- ---- sizes
 

@@ -1,5 +1,6 @@
 -- The definitions that the contracts of sizes and initialisers cite.
 pub mod Parts
+pub mod Forms
 pub mod Places
 pub mod Sizes
 pub mod Items

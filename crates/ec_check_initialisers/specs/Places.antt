@@ -24,7 +24,7 @@ use Rattle.ec_check_operands.specs.Sorts.{is_integer}
 use Rattle.ec_check_forms.specs.Nodes.{used}
 use Rattle.ec_check_forms.specs.Accesses.{struct_of}
 use Rattle.ec_check_constants.specs.Constants.{constant}
-use Rattle.ec_check_trees.specs.Forms.{is_constant_expression, is_constant_assignment}
+use Rattle.ec_check_initialisers.specs.Forms.{is_constant_expression, is_constant_assignment}
 use Rattle.ec_check_constants.specs.Tests.{is_constant}
 use Rattle.ec_check_expressions.specs.Expressions.{of_expression}
 use Rattle.ec_check_expressions.specs.Known.{Known}
@@ -165,7 +165,7 @@ module _ (k : Known) where
 
   -- the element at an index that has the form of a constant
   abbrev pub indexed : Option Designated → t.Expression → Option Designated
-  indexed d e = if is_constant_expression e then element_designated k.structs (index_value e) d else None
+  indexed d e = if is_constant_expression k e then element_designated k.structs (index_value e) d else None
 
   abbrev mutual
     -- what is built of the names of static objects, their elements and members, and `&` of these, in parentheses or not
@@ -226,7 +226,7 @@ address_form None = item.Other
 address_form (Some s) = item.Address s.address
 
 abbrev pub form_of : Known → t.Assignment → ItemForm
-form_of k a = if is_constant_assignment a then item.Constant else address_form (address_constant (in_assignment k a))
+form_of k a = if is_constant_assignment k a then item.Constant else address_form (address_constant (in_assignment k a))
 
 -- ---- types of objects
 

@@ -11,7 +11,7 @@ use Rattle.ec_check_forms.specs.Sites.{a_use}
 use Rattle.ec_check_expressions.specs.Expressions.{of_conditional, conditional_sites}
 use Rattle.ec_check_expressions.specs.Known.{Known}
 use Rattle.ec_check_expressions.specs.Sites as expressions
-use Rattle.ec_check_trees.specs.Forms.{is_constant_conditional}
+use Rattle.ec_check_initialisers.specs.Forms.{is_constant_conditional}
 use Rattle.ec_check_initialisers.specs.declared.places.ItemForm.{ItemForm}
 use Rattle.ec_check_initialisers.specs.Items.{leaf_rules}
 use Rattle.ec_check_initialisers.specs.Parts.{bare_rules, braces_rules}
@@ -57,7 +57,7 @@ pub record Walked {A : Type 0} (old new : Option Fault) (sites : List Site → L
 -- the size of an array; what has not the form of a constant expression is not looked into
 abbrev pub size_sites : Known → t.Conditional → (at : ℕ) → List Site → List Site
 size_sites k c at rest =
-    if is_constant_conditional c
+    if is_constant_conditional k c
     then sites_in
     (conditional_sites k c (expressions.on (a_use (of_conditional k c) (first_conditional c)) ∷ []))
     (a_size true (used (of_conditional k c)) at ∷ rest) else a_size false None at ∷ rest

@@ -10,7 +10,7 @@ use Rattle.std.specs.Prelude.{Bool, false, not, ◌||◌}
 use Rattle.std.specs.Prelude.{is_none, List, ◌∷◌, []}
 use Rattle.ec_grammar.specs.Trees as t
 use Rattle.ec_check_operands.specs.Faults.{Judgement, rule}
-use Rattle.ec_check_trees.specs.Forms.{is_constant_conditional}
+use Rattle.ec_check_initialisers.specs.Forms.{is_constant_conditional}
 use Rattle.ec_check_operands.specs.Operands.{Operand, place, value, with_one}
 use Rattle.ec_check_forms.specs.Nodes.{used}
 use Rattle.ec_check_expressions.specs.Expressions.{of_conditional}
@@ -34,7 +34,7 @@ size_of_operand (value e zero) = size_of_value e
 
 -- the size that stands in `[ ]`, or None where there is none
 abbrev pub array_size : Known → t.Conditional → Option ℕ
-array_size k c = if is_constant_conditional c then with_one (used (of_conditional k c)) size_of_operand else None
+array_size k c = if is_constant_conditional k c then with_one (used (of_conditional k c)) size_of_operand else None
 
 -- an operand with a type, but without such a value
 abbrev pub is_unsized : Option Operand → Bool

@@ -1,9 +1,15 @@
 //! The laws of sizes and of the values of leaves: each function proves one, and does nothing.
 ghost use Rattle.ec_check_initialisers.specs.Laws.{SizesAreValues, StaticNumbersAreValues, ValuesHaveLeafTypes};
-ghost use Rattle.ec_check_initialisers.specs.Laws.{InitialValuesSuit};
+ghost use Rattle.ec_check_initialisers.specs.Laws.{InitialValuesSuit, ConstantsAreNoPointers};
 
 use ec_check_constants::{runs_give_constants, tests_tell_constants};
 use ec_core::{leaves_fill_their_types, structs_are_laid_out, types_are_told};
+
+/// No part of an expression that has the form of a constant expression is a pointer. So a pointer is an initial value
+/// only as `0`, an array's name or `&` of a place.
+pub fn constants_are_no_pointers()
+    ensures { ConstantsAreNoPointers }
+{}
 
 /// A size of an array is from 1 to 32,767, and is the value of a constant expression, which a run of it gives.
 pub fn sizes_are_values()

@@ -2,6 +2,7 @@
 //! objects with static storage, and the values of initialisers of locals and statics.
 #![tactic(auto)]
 
+mod forms;
 mod items;
 mod laws;
 mod leaves;
@@ -13,7 +14,8 @@ mod statics;
 mod zeros;
 
 pub use laws::{
-    initial_values_suit, sizes_are_values, static_numbers_are_values, values_have_leaf_types,
+    constants_are_no_pointers, initial_values_suit, sizes_are_values, static_numbers_are_values,
+    values_have_leaf_types,
 };
 pub use locals::{Values, local_values};
 pub use sizes::array_size;

@@ -19,7 +19,6 @@ ghost use Rattle.ec_check_names.specs.Names.{plain_named, plain_names};
 ghost use Rattle.ec_check_operands.specs.Operands.{plain_operand, with_one};
 ghost use Rattle.ec_check_forms.specs.Nodes.{used};
 ghost use Rattle.ec_check_forms.specs.Accesses.{struct_of};
-ghost use Rattle.ec_check_trees.specs.Forms.{is_constant_expression};
 ghost use Rattle.ec_check_expressions.specs.Expressions.{of_expression};
 ghost use Rattle.ec_check_expressions.specs.Known.{IsSound, plain_known};
 ghost use Rattle.ec_check_expressions.specs.Tokens.{is_arrow};
@@ -32,12 +31,12 @@ ghost use Rattle.ec_check_initialisers.specs.Places.{element_designated, address
 ghost use Rattle.ec_check_initialisers.specs.Places.{in_expression, in_assignment, in_conditional, in_binary, in_cast, in_unary};
 ghost use Rattle.ec_check_initialisers.specs.Places.{in_postfix, in_primary, is_array, address_constant, NamesObjects};
 
+use crate::forms::{is_constant_assignment, is_constant_expression};
 use ec_check_constants::{constant, is_constant};
 use ec_check_expressions::{Known, expression};
 use ec_check_forms::take;
 use ec_check_names::{Named, first_expression};
 use ec_check_operands::{Faults, Operand, type_sort};
-use ec_check_trees::is_constant_assignment;
 use ec_core::{CType, Expr, Member, StructDef, Undefined, size_of, structs_are_laid_out};
 use ec_grammar::{
     Assignment, Binary, Cast, Conditional, Expression, Identifier, Postfix, Primary, PunctKind,
@@ -491,15 +490,6 @@ fn element_designated<'a>(
     }
 }
 
-fn is_constant_index(e: &Expression) -> bool
-    ensures { result ≡ is_constant_expression (view_expression e.now) }
-{
-    match e {
-        Expression::Single(a) => is_constant_assignment(a),
-        Expression::Comma(_, _, _) => false,
-    }
-}
-
 fn indexed<'a>(
     alloc: Global,
     known: &Known,
@@ -513,7 +503,8 @@ fn indexed<'a>(
     ensures object { IfOk result (λ x. IsObjectPlace (length known.now.structs.now.items)
         (option_map plain_designated x)) }
 {
-    if is_constant_index(e) {
+    let form = is_constant_expression(alloc, known, e)?;
+    if form {
         let i = index_value(alloc, known, e)?;
         Ok(element_designated(known.structs, i, d))
     } else {
@@ -734,7 +725,8 @@ pub(crate) fn form_of(alloc: Global, known: &Known, a: &Assignment) -> Result<It
     requires named { NamesObjects (plain_known known.now) }
     ensures { IfOk result (λ form. form ≡ form_of (plain_known known.now) (view_assignment a.now)) }
 {
-    if is_constant_assignment(a) {
+    let constant_form = is_constant_assignment(alloc, known, a)?;
+    if constant_form {
         Ok(ItemForm::Constant)
     } else {
         let d = in_assignment(alloc, known, a)?;

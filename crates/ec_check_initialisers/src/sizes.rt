@@ -17,12 +17,12 @@ ghost use Rattle.ec_check_expressions.specs.Sites.{on};
 ghost use Rattle.ec_check_initialisers.specs.Sizes.{size_of_operand, array_size, is_unsized, size_rules};
 ghost use Rattle.ec_check_initialisers.specs.Sites.{Site, sites_in, a_size, size_sites, Walked};
 
+use crate::forms::is_constant_conditional;
 use ec_check_constants::{constant, is_constant};
 use ec_check_expressions::{Known, conditional};
 use ec_check_forms::take;
 use ec_check_names::first_conditional;
 use ec_check_operands::{Faults, Operand, type_sort};
-use ec_check_trees::is_constant_conditional;
 use ec_core::{Expr, Undefined};
 use ec_grammar::Conditional;
 use ec_space::NoMemory;
@@ -126,7 +126,8 @@ pub fn array_size(
         IfOk result (λ n. Walked faults.old.least faults.new.least (size_sites k t at)
         n (array_size k t)) }
 {
-    if is_constant_conditional(c) {
+    let form = is_constant_conditional(alloc, known, c)?;
+    if form {
         let x = walked_size(alloc, known, faults, c)?;
         judge_size(faults, true, &x, at);
         let n = size_of_used(&x);

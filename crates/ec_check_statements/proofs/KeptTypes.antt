@@ -12,7 +12,7 @@ use Rattle.ec_check_names.specs.Counts.{is_function}
 use Rattle.ec_check_names.specs.Qualifiers.{own_space_rules}
 use Rattle.ec_check_names.specs.Specifiers.{specified, specs_rules, void_at}
 use Rattle.ec_check_names.specs.Firsts.{first_conditional}
-use Rattle.ec_check_trees.specs.Forms.{is_constant_conditional}
+use Rattle.ec_check_initialisers.specs.Forms.{is_constant_conditional}
 use Rattle.ec_check_forms.specs.Nodes.{used}
 use Rattle.ec_check_operands.specs.Operands.{Operand, with_one, with_both}
 use Rattle.ec_check_forms.specs.Sites.{a_use}
@@ -76,7 +76,7 @@ module _ (meanings : KeptExpressionsHaveMeanings) (sizes : SizesAreValues) (k : 
   said_few c (Some m) q = (sizes k c m q).most
 
   size_there : (c : t.Conditional) (at : ℕ) → InInitialiser (i.size_sites k c at []) → is_none (array_size k c) ≡ false
-  size_there c at u = by (is_constant_conditional c) u
+  size_there c at u = by (is_constant_conditional k c) u
     where
       by : (b : Bool) → InInitialiser (if b
           then i.sites_in (conditional_sites k c (e.on (a_use (of_conditional k c) (first_conditional c)) ∷ []))

@@ -1,4 +1,3 @@
 -- The definitions of what is told from a tree alone.
-pub mod Forms
 pub mod Firsts
 pub mod Counts
