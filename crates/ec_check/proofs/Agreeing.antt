@@ -19,7 +19,8 @@ use Rattle.ec_check_expression_laws.specs.Laws.{KeptTypesAreSaid}
 use Rattle.ec_check_initialisers.specs.Laws.{SizesAreValues}
 use Rattle.ec_check_declarations.specs.Sites.{Site, told}
 use Rattle.ec_check_statements.specs.Around.{with_pragma}
-use Rattle.ec_check_statements.specs.Laws.{KeptObjectsHaveTypes, KeptFunctionsHaveTypes, InnerObjectsKeepSuiting, ObjectsStay, ScopesEnd}
+use Rattle.ec_check_statements.specs.Laws.{KeptObjectsHaveTypes, KeptMembersHaveTypes, KeptFunctionsHaveTypes}
+use Rattle.ec_check_statements.specs.Laws.{InnerObjectsKeepSuiting, ObjectsStay, ScopesEnd}
 use Rattle.ec_check_statements.specs.Laws.{KeptBodiesHaveMeanings}
 use Rattle.ec_check_statements.proofs.Unbroken.{kept_of, told_of}
 use Rattle.ec_check_file_scope.specs.FileObjects.{word_of, after_register}
@@ -49,6 +50,7 @@ pub record Laws : Type 0 where
   pub names : DeclarationsKeepSuiting
   pub tags : DefinitionsKeepSuiting
   pub objects : KeptObjectsHaveTypes
+  pub members : KeptMembersHaveTypes
   pub functions : KeptFunctionsHaveTypes
   pub inner : InnerObjectsKeepSuiting
   pub stay : ObjectsStay
@@ -168,7 +170,7 @@ module _ (laws : Laws) (r : Setting) where
   external_goes_on (t.pragma_item p) n s rest h room few small q =
       record { agrees = modes_agree r.ports r.unit n s (with_pragma p s.modes) h; structs = omega arith; told = q }
   external_goes_on (t.structure_item d) n s rest h room few small q =
-      let a = structure_goes_on laws.objects laws.said laws.sizes laws.laid_out laws.tags r d n s rest h (omega (arith, small)) q in
+      let a = structure_goes_on laws.members laws.said laws.sizes laws.laid_out laws.tags r d n s rest h (omega (arith, small)) q in
       record { agrees = a.agrees; structs = a.structs; told = told_of rest a.kept }
   external_goes_on (t.register_item d) n s rest h room few small q =
       let a = register_goes_on laws.said laws.names r d n s rest h (omega (arith, room)) q in

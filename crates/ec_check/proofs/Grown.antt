@@ -58,7 +58,7 @@ module _ (s v : State) (g : Grows s v) (d : Definition) where
       (slice_get v.scope.objects d.number)
       (g.objects d.number) (λ x p. p) h
   made_kept Object (a_register first ty konst) h = absurd h
-  made_kept Object (a_function returns params) h = absurd h
+  made_kept Object (a_function returns count params) h = absurd h
   made_kept Register (an_object ty konst space) h = absurd h
   made_kept Register (a_register None ty konst) h = absurd h
   made_kept Register (a_register (Some first) None konst) h = absurd h
@@ -66,12 +66,12 @@ module _ (s v : State) (g : Grows s v) (d : Definition) where
       still (IsFileRegister d first ty konst) (IsFileRegister d first ty konst) (slice_get s.scope.objects d.number)
       (slice_get v.scope.objects d.number)
       (g.objects d.number) (λ x p. p) h
-  made_kept Register (a_function returns params) h = absurd h
+  made_kept Register (a_function returns count params) h = absurd h
   made_kept FunctionKind (an_object ty konst space) h = absurd h
   made_kept FunctionKind (a_register first ty konst) h = absurd h
-  made_kept FunctionKind (a_function None params) h = absurd h
-  made_kept FunctionKind (a_function (Some returns) None) h = absurd h
-  made_kept FunctionKind (a_function (Some returns) (Some params)) h =
+  made_kept FunctionKind (a_function None count params) h = absurd h
+  made_kept FunctionKind (a_function (Some returns) count None) h = absurd h
+  made_kept FunctionKind (a_function (Some returns) count (Some params)) h =
       still (IsFileFunction s.scope.objects d returns params) (IsFileFunction v.scope.objects d returns params)
       (slice_get s.functions d.number)
       (slice_get v.functions d.number) (g.functions d.number) (function_kept returns params) h

@@ -132,8 +132,9 @@ module _ (inner : InnerObjectsKeepSuiting) (stays : ObjectsStay) (ends : ScopesE
             name = refl;
             unit = refl;
             linkage = refl;
-            made = subst (λ (o : Option PlainType). IsMade v d FunctionKind (a_function o (param_types f.params))) (sym e)
-                (subst (λ (o : Option (List PlainType)). IsMade v d FunctionKind (a_function (Some returns) o)) (sym (m.typed [])) there);
+            made = subst (λ (o : Option PlainType). IsMade v d FunctionKind (a_function o (length f.params) (param_types f.params))) (sym e)
+                (subst (λ (o : Option (List PlainType)). IsMade v d FunctionKind (a_function (Some returns) (length f.params) o))
+                (sym (m.typed [])) there);
           },
         ),
       )

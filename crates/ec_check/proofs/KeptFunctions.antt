@@ -20,9 +20,9 @@ use Rattle.ec_check_declarations.specs.Sites.{Site, told}
 use Rattle.ec_check_statements.specs.Laws.{HaveFunctionTypes, KeptFunctionsHaveTypes}
 use Rattle.ec_check_statements.proofs.Unbroken.{AreKept, kept_of, told_of}
 use Rattle.ec_check_file_scope.specs.FileNames.{a_function, conflicts}
-use Rattle.ec_check_file_scope.specs.FileFunctions.{function_link, function_name, function_named, with_function_name, named_function_sites}
-use Rattle.ec_check_file_scope.specs.FileFunctions.{after_function, file_function_sites}
-use Rattle.ec_check_file_scope.specs.FileObjects.{word_of, is_started}
+use Rattle.ec_check_file_scope.specs.FileFunctions.{function_link, function_name, function_named, with_function_name}
+use Rattle.ec_check_file_scope.specs.FileFunctions.{after_function, declared_function_sites, file_function_sites}
+use Rattle.ec_check_file_scope.specs.FileObjects.{word_of}
 use Rattle.ec_check_file_scope.specs.States.{Setting, State}
 use Rattle.ec_check.specs.Agreement.{Agrees}
 use Rattle.ec_check.proofs.KeptObjects.{GoesOn}
@@ -99,7 +99,8 @@ pub function_named_agrees : DeclarationsKeepSuiting
     → Agrees r.ports r.unit n s → IsWholeFunction defined f → conflicts (function_name r name l defined f) s.declared ≡ false
     → Agrees r.ports r.unit (with_link name l n) (with_function_name r name l defined f s)
 function_named_agrees keep r name l defined f n s h whole clear =
-    name_agrees keep r.ports r.unit n s h name (function_named r name l f) l defined (a_function f.returns (param_types f.params)) refl
+    name_agrees keep r.ports r.unit n s h name (function_named r name l f) l defined
+    (a_function f.returns (length f.params) (param_types f.params)) refl
     (record { clear = clear; typed = (whole.returns, types_some defined f.params [] whole.params); object = tt })
 
 -- ---- sites of the result and of the parameters
@@ -132,13 +133,14 @@ function_goes_on types keep r ss storage stars (t.identifier at name) l ps e sta
     let link = function_link r w name s in
     let sites = file_function_sites r (specified s.tags ss) storage
     (t.init_declarator (t.declarator stars (t.identifier at name) (t.function_shape l ps e)) start) ps s rest in
-    let behind = named_function_sites r w name false f (is_started start) at.index s rest in
+    let d = t.init_declarator (t.declarator stars (t.identifier at name) (t.function_shape l ps e)) start in
+    let behind = declared_function_sites r storage d s f rest in
     let a = function_there types r n s h false ss stars at.index ps behind unbroken (kept_of sites q) in
-    let done = function_named_agrees keep r name link false f n s h a.0 a.1.0.0 in
+    let done = function_named_agrees keep r name link false f n s h a.0 a.1.1.0.0 in
     record {
       agrees = subst (λ (x : Linkage). Agrees r.ports r.unit (with_link name x n) (with_function_name r name link false f s))
           (sym (h.links w true name)) done;
       tags = refl;
       structs = refl;
-      kept = a.1.1;
+      kept = a.1.1.1;
     }

@@ -1,14 +1,15 @@
 -- Definitions of structs agree with what is numbered: there is a struct where no rule is broken.
-use Rattle.std.proofs.Common.{◌≡◌, ◌<◌, ◌≤◌, ◌+◌, ◌++◌, ℕ, Bool, true, false, ◌&&◌, List, [], ◌∷◌, length, refl, sym, subst, inl, inr}
+use Rattle.std.proofs.Common.{◌≡◌, ◌<◌, ◌≤◌, ◌+◌, ◌++◌, ℕ, Bool, true, false, ◌&&◌, List, [], ◌∷◌, length, refl, sym, ap, subst, inl, inr}
 use Rattle.std.proofs.Common.{arith}
-use Rattle.std.specs.Prelude.{◌⊎◌, if◌then◌else◌, nat_lt, nat_le, Option, Some, None, IsSome, IsSomeAnd, IfSome}
+use Rattle.std.specs.Prelude.{◌⊎◌, if◌then◌else◌, nat_lt, nat_le, is_some, Option, Some, None, IsSome, IsSomeAnd, IfSome}
 use Rattle.std.specs.List.{AllByRecursion}
-use Rattle.std.proofs.lemmas.Bool.{cases_eq, and_from, or_parts, false≢true, true≢false}
+use Rattle.std.proofs.lemmas.Bool.{both_ways, cases_eq, and_from, or_parts, false≢true, true≢false}
 use Rattle.std.proofs.lemmas.Bool.Decides.{nat_tests}
 use Rattle.ec_grammar.specs.Trees as t
 use Rattle.ec_core.specs.Layout.{Layout, members_layout, struct_layouts, size_of_type}
 use Rattle.ec_core.specs.Plain.{PlainType, array, PlainMember, PlainStruct}
 use Rattle.ec_core.specs.TypeLaws.{IsAppended, StructsAreLaidOut}
+use Rattle.ec_check_names.specs.declared.specifiers.Specified.{Specified}
 use Rattle.ec_check_names.specs.Counts.{is_function}
 use Rattle.ec_check_names.specs.Definitions.{Numbering}
 use Rattle.ec_check_names.specs.Specifiers.{specified, specs_rules, void_at}
@@ -21,24 +22,25 @@ use Rattle.ec_check_expression_laws.specs.Laws.{AreUnbroken, DefinitionsKeepSuit
 use Rattle.ec_check_expression_laws.specs.Suits.{HasTypes}
 use Rattle.ec_check_initialisers.specs.Laws.{SizesAreValues}
 use Rattle.ec_check_initialisers.specs.Sites as i
-use Rattle.ec_check_declarations.specs.Declarators.{head_of, declared_size, declared_size_sites, object_declared, object_sites}
+use Rattle.ec_check_declarations.specs.Declarators.{head_of, declared_size, declared_size_sites, typed_declarator, typed_sites}
 use Rattle.ec_check_declarations.specs.ObjectTypes.{is_object_type}
-use Rattle.ec_check_declarations.specs.Sites.{Site, on, told}
+use Rattle.ec_check_declarations.specs.Sites.{Site, on, told, is_told}
 use Rattle.ec_check_declarations.specs.Structures.{MemberDeclared, member_rules, is_member, with_member, member_sites, with_more_members}
 use Rattle.ec_check_declarations.specs.Structures.{more_member_sites, with_declared, declared_sites, with_all_declared, all_declared_sites}
 use Rattle.ec_check_declarations.specs.Structures.{known_from, known_members, are_objects, size_together, is_over, is_within}
 use Rattle.ec_check_declarations.specs.Structures.{is_too_large_together, may_follow, struct_of, struct_defined, structure_sites, place_of}
-use Rattle.ec_check_declarations.specs.Structures.{struct_number, appended, with_struct}
+use Rattle.ec_check_declarations.specs.Structures.{struct_number, appended, with_struct, member_list_sites, members_of}
 use Rattle.ec_check_declarations.proofs.Structs.{follows, place_below}
-use Rattle.ec_check_statements.specs.Laws.{KeptObjectsHaveTypes}
-use Rattle.ec_check_statements.proofs.Unbroken.{AreKept, kept_of, told_of, kept_initialiser}
+use Rattle.ec_check_statements.specs.Laws.{KeptMembersHaveTypes}
+use Rattle.ec_check_statements.proofs.Choices.{if_both}
+use Rattle.ec_check_statements.proofs.Unbroken.{AreKept, kept_of, told_of, kept_initialiser, initialiser_kept}
 use Rattle.ec_check_file_scope.specs.FileScope.{after_structure}
 use Rattle.ec_check_file_scope.specs.States.{Setting, State, known_of}
 use Rattle.ec_check_file_scope.proofs.Sound.{all_below, no_fewer_by}
 use Rattle.ec_check.specs.Agreement.{IsDefined, AreFilled, Agrees}
 use Rattle.ec_check.proofs.Grown.{Grows, defined_kept}
 use Rattle.ec_check.proofs.Lists.{if_true, one_longer, all_push, all_through}
-use Rattle.ec_check.proofs.Sizes.{IsPositive, unmisused, small_positive, plain_some, array_some, size_some}
+use Rattle.ec_check.proofs.Sizes.{IsPositive, unmisused, tested_positive, plain_some, array_some, size_some}
 use Rattle.ec_check.proofs.Sound.{more_sound}
 
 -- ---- members
@@ -52,7 +54,7 @@ both_of : {X : Type 0} → (P : X → Type 0) (o : Option X) → IsSome o → If
 both_of P None h k = absurd (false≢true h)
 both_of P (Some x) h k = k
 
-module _ (types : KeptObjectsHaveTypes) (said : KeptTypesAreSaid) (sizes : SizesAreValues) (k : Known) (h : HasTypes k)
+module _ (types : KeptMembersHaveTypes) (said : KeptTypesAreSaid) (sizes : SizesAreValues) (k : Known) (h : HasTypes k)
     (filled : AreFilled k.structs) where
   abbrev IsMember : MemberDeclared → Type 0
   IsMember m = IsSomeAnd m.ty (IsPositive k.structs filled)
@@ -71,13 +73,13 @@ module _ (types : KeptObjectsHaveTypes) (said : KeptTypesAreSaid) (sizes : Sizes
         (said (length k.structs) k.tags h.tags false ss stars [] unbroken none)
 
     typed : (stars : List t.Star) (n : t.Identifier) (shape : t.Shape) (rest : List Site) → is_function shape ≡ false
-        → AreKept (object_sites k false (specified k.tags ss) (t.declarator stars n shape) None rest)
-        → IfSome (object_declared k (specified k.tags ss) (t.declarator stars n shape) None).ty (IsPositive k.structs filled)
-        → IsSomeAnd (object_declared k (specified k.tags ss) (t.declarator stars n shape) None).ty (IsPositive k.structs filled)
+        → AreKept (typed_sites k false (specified k.tags ss) (t.declarator stars n shape) None rest)
+        → IfSome (typed_declarator k (specified k.tags ss) (t.declarator stars n shape) None).ty (IsPositive k.structs filled)
+        → IsSomeAnd (typed_declarator k (specified k.tags ss) (t.declarator stars n shape) None).ty (IsPositive k.structs filled)
     typed stars n shape rest object u p =
-        both_of (IsPositive k.structs filled) (object_declared k (specified k.tags ss) (t.declarator stars n shape) None).ty
-        (types k false false ss [] stars n shape None rest h unbroken object
-        (told_of (object_sites k false (specified k.tags ss) (t.declarator stars n shape) None rest) u)).0 p
+        both_of (IsPositive k.structs filled) (typed_declarator k (specified k.tags ss) (t.declarator stars n shape) None).ty
+        (types k ss [] stars n shape rest h unbroken object
+        (told_of (typed_sites k false (specified k.tags ss) (t.declarator stars n shape) None rest) u)).0 p
 
     member_there : (d : t.Declarator) (ms : List MemberDeclared) (rest : List Site) → AreMembers ms
         → AreKept (member_sites k (specified k.tags ss) d ms rest)
@@ -85,31 +87,31 @@ module _ (types : KeptObjectsHaveTypes) (said : KeptTypesAreSaid) (sizes : Sizes
     member_there (t.declarator stars (t.identifier at name) t.object) ms rest all u =
         let d = t.declarator stars (t.identifier at name) t.object in
         let s = specified k.tags ss in
-        let o = object_declared k s d None in
+        let o = typed_declarator k s d None in
         let base = meant_type (void_at s.types) (head_of s stars).ty in
         let none = unmisused s (void_at s.types) stars u.0 in
-        let p = small_positive k.structs filled base (plain_some k.structs filled base (sized stars none)) in
+        let p = tested_positive k.structs filled base (plain_some k.structs filled base (sized stars none)) in
         let m : MemberDeclared = record { name = name; ty = o.ty } in
         let long = one_longer ms m in
         let tail = on (member_rules (is_member name ms) o.konst false at.index) ∷ rest in
-        (all_push IsMember ms m all (typed stars (t.identifier at name) t.object tail refl u p), omega (arith, long), u.1.1.1)
+        (all_push IsMember ms m all (typed stars (t.identifier at name) t.object tail refl u p), omega (arith, long), u.1.1)
     member_there (t.declarator stars (t.identifier at name) (t.array l size e)) ms rest all u =
         let d = t.declarator stars (t.identifier at name) (t.array l size e) in
         let s = specified k.tags ss in
-        let o = object_declared k s d None in
+        let o = typed_declarator k s d None in
         let base = meant_type (void_at s.types) (head_of s stars).ty in
         let v = behind_size k size l.index _ u in
         let none = unmisused s (void_at s.types) stars v.0 in
         let ty = with_both base (declared_size k size None) (λ ty n. Some (array ty n)) in
-        let p = small_positive k.structs filled ty
+        let p = tested_positive k.structs filled ty
         (array_some k.structs filled base (declared_size k size None) (sized stars none) (size_some sizes k size)) in
         let m : MemberDeclared = record { name = name; ty = o.ty } in
         let long = one_longer ms m in
         let tail = on (member_rules (is_member name ms) o.konst false at.index) ∷ rest in
-        (all_push IsMember ms m all (typed stars (t.identifier at name) (t.array l size e) tail refl u p), omega (arith, long), v.1.1.1)
+        (all_push IsMember ms m all (typed stars (t.identifier at name) (t.array l size e) tail refl u p), omega (arith, long), v.1.1)
     member_there (t.declarator stars (t.identifier at name) (t.function_shape l ps e)) ms rest all u =
-        absurd (true≢false (or_parts (object_declared k (specified k.tags ss)
-        (t.declarator stars (t.identifier at name) (t.function_shape l ps e)) None).konst true u.1.1.0.1.0).1)
+        absurd (true≢false (or_parts (typed_declarator k (specified k.tags ss)
+        (t.declarator stars (t.identifier at name) (t.function_shape l ps e)) None).konst true u.1.0.1.0).1)
 
     more_there : (ds : List t.NextDeclarator) (ms : List MemberDeclared) (rest : List Site) → AreMembers ms → 1 ≤ length ms
         → AreKept (more_member_sites k (specified k.tags ss) ds ms rest)
@@ -133,6 +135,59 @@ module _ (types : KeptObjectsHaveTypes) (said : KeptTypesAreSaid) (sizes : Sizes
   all_there (x ∷ xs) ms rest all long u =
       let a = declared_there x ms _ all u in
       all_there xs (with_declared k x ms) rest a.0 a.1 a.2
+
+  -- ---- the sites of members alone
+
+  -- nothing is told at some sites with others behind them: so with any that are kept
+  abbrev Stand : (List Site → List Site) → Type 0
+  Stand sites = (others : List Site) → AreKept others → AreKept (sites others)
+
+  size_stands : (c : Option t.Conditional) (at : ℕ) (rest : List Site) → AreKept (declared_size_sites k c None at rest)
+      → Stand (declared_size_sites k c None at) × AreKept rest
+  size_stands None at rest u = (λ others v. (u.0, v), u.1)
+  size_stands (Some c) at rest u =
+      let a = kept_initialiser (i.size_sites k c at []) rest u in
+      (λ others v. initialiser_kept (i.size_sites k c at []) others a.0 v, a.1)
+
+  member_stands : (s : Specified) (d : t.Declarator) (ms : List MemberDeclared) (rest : List Site)
+      → AreKept (member_sites k s d ms rest) → Stand (member_sites k s d ms) × AreKept rest
+  member_stands s (t.declarator stars (t.identifier at n) t.object) ms rest u = (λ others v. (u.0, (u.1.0, v)), u.1.1)
+  member_stands s (t.declarator stars (t.identifier at n) (t.array l size e)) ms rest u =
+      let a = size_stands size l.index _ u in (λ others v. a.0 _ (a.1.0, (a.1.1.0, v)), a.1.1.1)
+  member_stands s (t.declarator stars (t.identifier at n) (t.function_shape l ps e)) ms rest u =
+      (λ others v. (u.0, (u.1.0, v)), u.1.1)
+
+  more_stand : (s : Specified) (ds : List t.NextDeclarator) (ms : List MemberDeclared) (rest : List Site)
+      → AreKept (more_member_sites k s ds ms rest) → Stand (more_member_sites k s ds ms) × AreKept rest
+  more_stand s [] ms rest u = (λ others v. v, u)
+  more_stand s (t.next_declarator comma d ∷ ds) ms rest u =
+      let a = member_stands s d ms _ u in
+      let b = more_stand s ds (with_member k s d ms) rest a.1 in
+      (λ others v. a.0 _ (b.0 others v), b.1)
+
+  declared_stands : (x : t.Member) (ms : List MemberDeclared) (rest : List Site) → AreKept (declared_sites k x ms rest)
+      → Stand (declared_sites k x ms) × AreKept rest
+  declared_stands (t.members ss first more semicolon) ms rest u =
+      let s = specified k.tags ss in
+      let a = member_stands s first ms _ u.1 in
+      let b = more_stand s more (with_member k s first ms) rest a.1 in
+      (λ others v. (u.0, a.0 _ (b.0 others v)), b.1)
+
+  all_stand : (xs : List t.Member) (ms : List MemberDeclared) (rest : List Site) → AreKept (all_declared_sites k xs ms rest)
+      → Stand (all_declared_sites k xs ms)
+  all_stand [] ms rest u = λ others v. v
+  all_stand (x ∷ xs) ms rest u =
+      let a = declared_stands x ms _ u in
+      let b = all_stand xs (with_declared k x ms) rest a.1 in
+      λ others v. a.0 _ (b others v)
+
+  -- where nothing is told at the sites of a struct, nothing is told at those of its members
+  untold : (first : t.Member) (more : List t.Member) (rest : List Site) → AreKept (member_list_sites k first more rest)
+      → is_told (member_list_sites k first more []) ≡ false
+  untold first more rest u =
+      let a = declared_stands first [] _ u in
+      let b = all_stand more (with_declared k first []) rest a.1 in
+      ap is_some (told_of (member_list_sites k first more []) (a.0 _ (b [] tt)))
 
   -- ---- known members
 
@@ -215,7 +270,11 @@ module _ (types : KeptObjectsHaveTypes) (said : KeptTypesAreSaid) (sizes : Sizes
       let a = declared_there first [] _ tt u.1 in
       let b = all_there more (with_declared k first []) _ a.0 a.1 a.2 in
       let ms = with_all_declared k more (with_declared k first []) in
-      (struct_there tag (0 + length ms) (known_members ms) (omega (arith, b.1)) (known_there ms [] b.0 tt) b.2.0.0 room, b.2.1)
+      let quiet = untold first more _ u.1 in
+      let known =
+      if_both (λ o. IsSomeAnd o (AreKnown (0 + length ms))) (is_told (member_list_sites k first more [])) None (known_members ms)
+      (λ q. absurd (both_ways (is_told (member_list_sites k first more [])) quiet q)) (λ q. known_there ms [] b.0 tt) in
+      (struct_there tag (0 + length ms) (members_of k first more) (omega (arith, b.1)) known b.2.0.0 room, b.2.1)
 
 -- ---- the state
 
@@ -292,7 +351,7 @@ pub record StructGoesOn (r : Setting) (n : Numbering) (before after : State) (re
   pub structs : length after.structs ≤ length before.structs + 1
   pub kept : AreKept rest
 
-pub structure_goes_on : KeptObjectsHaveTypes → KeptTypesAreSaid → SizesAreValues → StructsAreLaidOut → DefinitionsKeepSuiting
+pub structure_goes_on : KeptMembersHaveTypes → KeptTypesAreSaid → SizesAreValues → StructsAreLaidOut → DefinitionsKeepSuiting
     → (r : Setting) (x : t.Structure) (n : Numbering) (s : State) (rest : List Site) → Agrees r.ports r.unit n s
     → length s.structs < 4_294_967_296
     → told None (structure_sites (known_of r.ports s) x rest) ≡ None → StructGoesOn r n s (after_structure r x s) rest

@@ -23,7 +23,7 @@ use Rattle.ec_check_file_scope.specs.States.{State}
 abbrev pub meaning_by : (object function : Option ℕ) → FileKind → Named
 meaning_by o f (an_object ty konst space) = names.an_object o ty konst space false
 meaning_by o f (a_register first ty konst) = names.an_object o ty konst Generic true
-meaning_by o f (a_function returns params) = names.a_function f returns params
+meaning_by o f (a_function returns count params) = names.a_function f returns params
 
 -- what a declared name stands for
 abbrev pub meaning : List Definition → FileName → Named
@@ -67,14 +67,14 @@ IsResult all ty = IsScalarOrVoid ty × IsUsable all ty
 abbrev pub IsPlacedKind : List PlainStruct → FileKind → Type 0
 IsPlacedKind all (an_object ty konst space) = IfSome ty (IsFileType all)
 IsPlacedKind all (a_register first ty konst) = IfSome ty (IsRegisterType all first)
-IsPlacedKind all (a_function returns params) =
+IsPlacedKind all (a_function returns count params) =
     IfSome returns (IsResult all) × IfSome params (λ tys. AllByRecursion (IsPassed all) tys)
 
 -- what `main` may be declared as
 abbrev pub IsMainKind : FileKind → Type 0
 IsMainKind (an_object ty konst space) = ⊥
 IsMainKind (a_register first ty konst) = ⊥
-IsMainKind (a_function returns params) = IfSome returns (λ ty. ty ≡ int) × IfSome params (λ tys. tys ≡ [])
+IsMainKind (a_function returns count params) = IfSome returns (λ ty. ty ≡ int) × IfSome params (λ tys. tys ≡ [])
 
 pub record IsPlacedName (all : List PlainStruct) (e : FileName) : Type 0 where
   pub kind : IsPlacedKind all e.kind

@@ -79,13 +79,13 @@ module _ (s : State) (d : Definition) where
   made_object Object (an_object (Some b) c r) ty konst space a m = object_by b ty c konst r space a.0 a.1 a.2 m
   made_object Object (an_object None c r) ty konst space a m = absurd m
   made_object Object (a_register q b c) ty konst space a m = absurd a
-  made_object Object (a_function b q) ty konst space a m = absurd a
+  made_object Object (a_function b count q) ty konst space a m = absurd a
   made_object Register (an_object b c r) ty konst space a m = absurd m
   made_object Register (a_register q b c) ty konst space a m = absurd a
-  made_object Register (a_function b q) ty konst space a m = absurd a
+  made_object Register (a_function b count q) ty konst space a m = absurd a
   made_object FunctionKind (an_object b c r) ty konst space a m = absurd m
   made_object FunctionKind (a_register q b c) ty konst space a m = absurd a
-  made_object FunctionKind (a_function b q) ty konst space a m = absurd a
+  made_object FunctionKind (a_function b count q) ty konst space a m = absurd a
 
   -- in a register, which is known
   register_by : (first : ℕ) (a b : PlainType) (c e : Bool) → a ≡ b → c ≡ e
@@ -103,15 +103,15 @@ module _ (s : State) (d : Definition) where
       → IsMade s d k x → InRegister ty konst
   made_register Object (an_object b c r) first ty konst a m = absurd a
   made_register Object (a_register q b c) first ty konst a m = absurd m
-  made_register Object (a_function b q) first ty konst a m = absurd a
+  made_register Object (a_function b count q) first ty konst a m = absurd a
   made_register Register (an_object b c r) first ty konst a m = absurd a
   made_register Register (a_register (Some q) (Some b) c) first ty konst a m = (q, register_by q b ty c konst a.0 a.1 m)
   made_register Register (a_register (Some q) None c) first ty konst a m = absurd m
   made_register Register (a_register None b c) first ty konst a m = absurd m
-  made_register Register (a_function b q) first ty konst a m = absurd a
+  made_register Register (a_function b count q) first ty konst a m = absurd a
   made_register FunctionKind (an_object b c r) first ty konst a m = absurd a
   made_register FunctionKind (a_register q b c) first ty konst a m = absurd m
-  made_register FunctionKind (a_function b q) first ty konst a m = absurd a
+  made_register FunctionKind (a_function b count q) first ty konst a m = absurd a
 
   function_by : (a b : PlainType) (p q : List PlainType) → a ≡ b → p ≡ q
       → IsSomeAnd (slice_get s.functions d.number) (IsFileFunction s.scope.objects d a p)
@@ -120,20 +120,20 @@ module _ (s : State) (d : Definition) where
       subst (λ z. IsSomeAnd (slice_get s.functions d.number) (IsFileFunction s.scope.objects d b z)) f
       (subst (λ z. IsSomeAnd (slice_get s.functions d.number) (IsFileFunction s.scope.objects d z p)) e h)
 
-  made_function : (k : Defined) (x : FileKind) (returns : PlainType) (params : List PlainType)
-      → AgreeKinds x (a_function (Some returns) (Some params))
+  made_function : (k : Defined) (x : FileKind) (returns : PlainType) (count : ℕ) (params : List PlainType)
+      → AgreeKinds x (a_function (Some returns) count (Some params))
       → IsMade s d k x → IsSomeAnd (slice_get s.functions d.number) (IsFileFunction s.scope.objects d returns params)
-  made_function Object (an_object b c r) returns params a m = absurd a
-  made_function Object (a_register q b c) returns params a m = absurd a
-  made_function Object (a_function b q) returns params a m = absurd m
-  made_function Register (an_object b c r) returns params a m = absurd a
-  made_function Register (a_register q b c) returns params a m = absurd a
-  made_function Register (a_function b q) returns params a m = absurd m
-  made_function FunctionKind (an_object b c r) returns params a m = absurd a
-  made_function FunctionKind (a_register q b c) returns params a m = absurd a
-  made_function FunctionKind (a_function (Some b) (Some q)) returns params a m = function_by b returns q params a.0 a.1 m
-  made_function FunctionKind (a_function (Some b) None) returns params a m = absurd m
-  made_function FunctionKind (a_function None q) returns params a m = absurd m
+  made_function Object (an_object b c r) returns count params a m = absurd a
+  made_function Object (a_register q b c) returns count params a m = absurd a
+  made_function Object (a_function b n q) returns count params a m = absurd m
+  made_function Register (an_object b c r) returns count params a m = absurd a
+  made_function Register (a_register q b c) returns count params a m = absurd a
+  made_function Register (a_function b n q) returns count params a m = absurd m
+  made_function FunctionKind (an_object b c r) returns count params a m = absurd a
+  made_function FunctionKind (a_register q b c) returns count params a m = absurd a
+  made_function FunctionKind (a_function (Some b) n (Some q)) returns count params a m = function_by b returns q params a.0 a.1 m
+  made_function FunctionKind (a_function (Some b) n None) returns count params a m = absurd m
+  made_function FunctionKind (a_function None n q) returns count params a m = absurd m
 
 -- ---- names
 
@@ -231,12 +231,12 @@ module _ (s : State) (main : ℕ) (ds : List Definition) (made : AllByRecursion 
         addressed = inr (refl, k.arithmetic);
       }
 
-  known_function : (d : Definition) (returns : PlainType) (params : List PlainType)
-      → IsPlacedKind p.structs (a_function (Some returns) (Some params))
+  known_function : (d : Definition) (returns : PlainType) (count : ℕ) (params : List PlainType)
+      → IsPlacedKind p.structs (a_function (Some returns) count (Some params))
       → (o : Option PlainFunction) → IsSomeAnd o (IsFileFunction s.scope.objects d returns params)
       → IsSomeAnd o (IsFunctionKnown p returns params)
-  known_function d returns params k None h = absurd h
-  known_function d returns params k (Some g) h =
+  known_function d returns count params k None h = absurd h
+  known_function d returns count params k (Some g) h =
       record { returned = h.returned; scalar = k.0.0; usable = k.0.1; typed = h.typed; passed = k.1 }
 
   object_is : (f : ℕ) (e : FileName) (ty : PlainType) (konst : Bool) (space : SpaceId)
@@ -257,14 +257,14 @@ module _ (s : State) (main : ℕ) (ds : List Definition) (made : AllByRecursion 
       subst (λ n. IsOf p f (names.an_object (Some n) (Some ty) konst Generic true)) h.numbered
       (known_register f h.d first ty konst k made.0 (slice_get s.scope.objects h.d.number) made.1)
 
-  function_is : (f : ℕ) (e : FileName) (returns : PlainType) (params : List PlainType)
-      → IsPlacedKind p.structs (a_function (Some returns) (Some params))
-      → e.kind ≡ a_function (Some returns) (Some params) → (m : ℕ) → IsDefinition e true m
+  function_is : (f : ℕ) (e : FileName) (returns : PlainType) (count : ℕ) (params : List PlainType)
+      → IsPlacedKind p.structs (a_function (Some returns) count (Some params))
+      → e.kind ≡ a_function (Some returns) count (Some params) → (m : ℕ) → IsDefinition e true m
       → IsOf p f (names.a_function (Some m) (Some returns) (Some params))
-  function_is f e returns params k q m h =
-      let made = made_function s h.d h.d.kind h.kind returns params (subst (AgreeKinds h.kind) q h.agrees) h.stands in
+  function_is f e returns count params k q m h =
+      let made = made_function s h.d h.d.kind h.kind returns count params (subst (AgreeKinds h.kind) q h.agrees) h.stands in
       subst (λ n. IsOf p f (names.a_function (Some n) (Some returns) (Some params))) h.numbered
-      (known_function h.d returns params k (slice_get s.functions h.d.number) made)
+      (known_function h.d returns count params k (slice_get s.functions h.d.number) made)
 
   by_kind : (f : ℕ) (e : FileName) → Contains s.declared e → (kind : FileKind) → e.kind ≡ kind → IsPlacedKind p.structs kind
       → (o g : Option ℕ)
@@ -281,11 +281,11 @@ module _ (s : State) (main : ℕ) (ds : List Definition) (made : AllByRecursion 
     register_is f e first ty konst k q m (definition_of e h false m a),
     tt,
   )
-  by_kind f e h (a_function returns params) q k o None a b = (tt, tt)
-  by_kind f e h (a_function None params) q k o (Some m) a b = (tt, tt)
-  by_kind f e h (a_function (Some returns) None) q k o (Some m) a b = (tt, tt)
-  by_kind f e h (a_function (Some returns) (Some params)) q k o (Some m) a b = (
-    function_is f e returns params k q m (definition_of e h true m b),
+  by_kind f e h (a_function returns count params) q k o None a b = (tt, tt)
+  by_kind f e h (a_function None count params) q k o (Some m) a b = (tt, tt)
+  by_kind f e h (a_function (Some returns) count None) q k o (Some m) a b = (tt, tt)
+  by_kind f e h (a_function (Some returns) count (Some params)) q k o (Some m) a b = (
+    function_is f e returns count params k q m (definition_of e h true m b),
     tt,
   )
 

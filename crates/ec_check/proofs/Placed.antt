@@ -40,10 +40,11 @@ use Rattle.ec_check_declarations.specs.Params.{ParamDeclared, next_declared, par
 use Rattle.ec_check_declarations.specs.Registers.{passes_last, register_type, number_type, type_in, register_declared}
 use Rattle.ec_check_declarations.specs.Structures.{MemberDeclared, with_member, with_more_members, with_declared, with_all_declared}
 use Rattle.ec_check_declarations.specs.Structures.{known_from, may_follow, struct_of, members_of, struct_defined, place_of, struct_number}
-use Rattle.ec_check_declarations.specs.Structures.{appended, with_struct}
+use Rattle.ec_check_declarations.specs.Sites.{is_told}
+use Rattle.ec_check_declarations.specs.Structures.{appended, with_struct, known_members, member_list_sites}
 use Rattle.ec_check_statements.specs.Objects.{IsDeclaredType}
 use Rattle.ec_check_statements.proofs.Choices.{if_both}
-use Rattle.ec_check_statements.proofs.DeclaredTypes.{object_placed}
+use Rattle.ec_check_statements.proofs.DeclaredTypes.{object_placed, member_placed}
 use Rattle.ec_check_file_scope.specs.FileFunctions.{is_other_result, has_params, is_static, is_other_main}
 use Rattle.ec_check_file_scope.specs.FileNames.{FileName}
 use Rattle.ec_check_file_scope.specs.FileScope.{after_structure}
@@ -264,9 +265,6 @@ module _ (laws : Laws) (all : List PlainStruct) (whole : AreStructs all) (ds : L
   object_fits ss d start = object_placed laws.layouts s.structs all clear.sound.structs whole same laws.said laws.sizes s.tags
       (tag_placed all s.tags h.tags) (known_of io s) refl ss d start
 
-  declared_place : (x : PlainType) → IsDeclaredType s.structs all x → IsPlaceType all x
-  declared_place x q = q.placed
-
   declared_file : (x : PlainType) → IsDeclaredType s.structs all x → IsFileType all x
   declared_file x q = record { placed = q.placed; small = q.small }
 
@@ -285,8 +283,8 @@ module _ (laws : Laws) (all : List PlainStruct) (whole : AreStructs all) (ds : L
       → AreMembers (with_member (known_of io s) (specified s.tags ss) d ms)
   one_member ss (t.declarator stars (t.identifier at n) shape) ms k =
       all_and (λ m. IfSome m.ty (IsPlaceType all)) ms _ k
-      (some_weaker (IsDeclaredType s.structs all) (IsPlaceType all) declared_place _
-      (object_fits ss (t.declarator stars (t.identifier at n) shape) None))
+      (member_placed laws.layouts s.structs all clear.sound.structs whole same laws.said laws.sizes s.tags
+      (tag_placed all s.tags h.tags) (known_of io s) refl ss (t.declarator stars (t.identifier at n) shape))
 
   more_members : (ss : t.Specs) (ds : List t.NextDeclarator) (ms : List MemberDeclared) → AreMembers ms
       → AreMembers (with_more_members (known_of io s) (specified s.tags ss) ds ms)
@@ -348,10 +346,12 @@ module _ (laws : Laws) (all : List PlainStruct) (whole : AreStructs all) (ds : L
 
   struct_fits : (d : t.Structure) → IfSome (struct_defined (known_of io s) d) (ArePlacedMembers laws.layouts all whole)
   struct_fits (t.structure w (t.identifier at tag) l first more e semicolon) =
+      let ms = with_all_declared (known_of io s) more (with_declared (known_of io s) first []) in
       struct_by tag (members_of (known_of io s) first more)
-      (known_placed [] (with_all_declared (known_of io s) more (with_declared (known_of io s) first []))
+      (if_both (λ o. IfSome o AreKnown) (is_told (member_list_sites (known_of io s) first more [])) None (known_members ms) (λ e. tt)
+      (λ e. known_placed [] ms
       (let q = some_all more (with_declared (known_of io s) first []) (some_declared first []) in omega (arith, q)) tt
-      (all_members more (with_declared (known_of io s) first []) (declared_members first [] tt)))
+      (all_members more (with_declared (known_of io s) first []) (declared_members first [] tt))))
 
   pub structure_placed : (unit : ℕ) (d : t.Structure) → First (after_structure (setting_of ds io unit) d s).structs all
       → ArePlaced all ds (after_structure (setting_of ds io unit) d s)

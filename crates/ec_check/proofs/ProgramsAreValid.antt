@@ -68,13 +68,13 @@ module _ (s : State) (d : Definition) where
   main_by Register x e m h = absurd (false≢true e)
   main_by FunctionKind (an_object ty konst space) e m h = absurd h
   main_by FunctionKind (a_register first ty konst) e m h = absurd h
-  main_by FunctionKind (a_function (Some returns) (Some params)) e m h = by (slice_get s.functions d.number) m where
+  main_by FunctionKind (a_function (Some returns) count (Some params)) e m h = by (slice_get s.functions d.number) m where
     by : (o : Option PlainFunction) → IsSomeAnd o (IsFileFunction s.scope.objects d returns params)
         → IsSomeAnd o (λ g. (g.params ≡ []) × (g.returns ≡ int))
     by None m = absurd m
     by (Some g) m = (no_params s.scope.objects g.params (m.typed ∙ ap (λ ts. map Some ts) h.1), m.returned ∙ h.0)
-  main_by FunctionKind (a_function (Some returns) None) e m h = absurd m
-  main_by FunctionKind (a_function None params) e m h = absurd m
+  main_by FunctionKind (a_function (Some returns) count None) e m h = absurd m
+  main_by FunctionKind (a_function None count params) e m h = absurd m
 
 main_valid : (s : State) (ds : List Definition) → AllByRecursion (IsDefined s) ds → (m : ℕ) → main_of ds ≡ Some m
     → AllByRecursion (IsPlacedName s.structs) s.declared

@@ -16,8 +16,8 @@ use Rattle.ec_check_names.specs.declared.linkage.Linkage.TheVariants.{Internal, 
 use Rattle.ec_check_names.specs.Definitions.{same_linkage, is_internal}
 use Rattle.ec_check_file_scope.specs.FileNames.{FileKind, an_object, a_register, a_function, FileName, differ, same_space, same_bool}
 use Rattle.ec_check_file_scope.specs.FileNames.{other_register}
-use Rattle.ec_check_file_scope.specs.FileNames.{same_at, same_from, same_types, other_params, other_kind, is_external, meet, both_define}
-use Rattle.ec_check_file_scope.specs.FileNames.{conflict}
+use Rattle.ec_check_file_scope.specs.FileNames.{same_at, same_from, same_types, other_types, other_params, other_kind, is_external}
+use Rattle.ec_check_file_scope.specs.FileNames.{meet, both_define, conflict}
 use Rattle.ec_check.proofs.Firsts.{First}
 
 -- ---- the same kind
@@ -31,13 +31,13 @@ Agree None b = ⊤
 abbrev pub AgreeKinds : FileKind → FileKind → Type 0
 AgreeKinds (an_object a c s) (an_object b d r) = Agree a b × (c ≡ d) × (s ≡ r)
 AgreeKinds (an_object a c s) (a_register q b d) = ⊥
-AgreeKinds (an_object a c s) (a_function b q) = ⊥
+AgreeKinds (an_object a c s) (a_function b count q) = ⊥
 AgreeKinds (a_register p a c) (an_object b d r) = ⊥
 AgreeKinds (a_register p a c) (a_register q b d) = Agree a b × (c ≡ d) × Agree p q
-AgreeKinds (a_register p a c) (a_function b q) = ⊥
-AgreeKinds (a_function a p) (an_object b d r) = ⊥
-AgreeKinds (a_function a p) (a_register q b d) = ⊥
-AgreeKinds (a_function a p) (a_function b q) = Agree a b × Agree p q
+AgreeKinds (a_register p a c) (a_function b count q) = ⊥
+AgreeKinds (a_function a count p) (an_object b d r) = ⊥
+AgreeKinds (a_function a count p) (a_register q b d) = ⊥
+AgreeKinds (a_function a count p) (a_function b number q) = Agree a b × Agree p q
 
 agree_itself : {X : Type 0} (a : Option X) → Agree a a
 agree_itself None = tt
@@ -52,18 +52,18 @@ agree_back (Some a) (Some b) h = sym h
 pub kind_itself : (x : FileKind) → AgreeKinds x x
 kind_itself (an_object a c s) = (agree_itself a, refl, refl)
 kind_itself (a_register p a c) = (agree_itself a, refl, agree_itself p)
-kind_itself (a_function a p) = (agree_itself a, agree_itself p)
+kind_itself (a_function a count p) = (agree_itself a, agree_itself p)
 
 pub kinds_back : (x y : FileKind) → AgreeKinds x y → AgreeKinds y x
 kinds_back (an_object a c s) (an_object b d r) h = (agree_back a b h.0, sym h.1, sym h.2)
 kinds_back (an_object a c s) (a_register q b d) h = h
-kinds_back (an_object a c s) (a_function b q) h = h
+kinds_back (an_object a c s) (a_function b count q) h = h
 kinds_back (a_register p a c) (an_object b d r) h = h
 kinds_back (a_register p a c) (a_register q b d) h = (agree_back a b h.0, sym h.1, agree_back p q h.2)
-kinds_back (a_register p a c) (a_function b q) h = h
-kinds_back (a_function a p) (an_object b d r) h = h
-kinds_back (a_function a p) (a_register q b d) h = h
-kinds_back (a_function a p) (a_function b q) h = (agree_back a b h.0, agree_back p q h.1)
+kinds_back (a_register p a c) (a_function b count q) h = h
+kinds_back (a_function a count p) (an_object b d r) h = h
+kinds_back (a_function a count p) (a_register q b d) h = h
+kinds_back (a_function a count p) (a_function b number q) h = (agree_back a b h.0, agree_back p q h.1)
 
 -- ---- from the tests
 
@@ -126,7 +126,7 @@ lists_agree xs ys e =
     first_equal xs ys (λ i x q. let z : 0 + i ≡ i = omega arith in subst (λ n. slice_get ys n ≡ Some x) z (from_at 0 xs ys h.1 i x q))
     (grind (arith, nat_tests, count))
 
-params_agree : (p q : Option (List PlainType)) → other_params p q ≡ false → Agree p q
+params_agree : (p q : Option (List PlainType)) → other_types p q ≡ false → Agree p q
 params_agree None q e = tt
 params_agree (Some p) None e = tt
 params_agree (Some p) (Some q) e = lists_agree p q (not-false (same_types p q) e)
@@ -153,16 +153,17 @@ kinds_agree (an_object a c s) (an_object b d r) e =
     let h = three_false (differ a b) (not (same_bool c d)) (not (same_space s r)) e in
     (types_agree a b h.0, bools_agree c d h.1, spaces_agree s r h.2)
 kinds_agree (an_object a c s) (a_register q b d) e = absurd (true≢false e)
-kinds_agree (an_object a c s) (a_function b q) e = absurd (true≢false e)
+kinds_agree (an_object a c s) (a_function b count q) e = absurd (true≢false e)
 kinds_agree (a_register p a c) (an_object b d r) e = absurd (true≢false e)
 kinds_agree (a_register p a c) (a_register q b d) e =
     let h = three_false (differ a b) (not (same_bool c d)) (other_register p q) e in
     (types_agree a b h.0, bools_agree c d h.1, registers_agree p q h.2)
-kinds_agree (a_register p a c) (a_function b q) e = absurd (true≢false e)
-kinds_agree (a_function a p) (an_object b d r) e = absurd (true≢false e)
-kinds_agree (a_function a p) (a_register q b d) e = absurd (true≢false e)
-kinds_agree (a_function a p) (a_function b q) e =
-    let h = two_false (differ a b) (other_params p q) e in (types_agree a b h.0, params_agree p q h.1)
+kinds_agree (a_register p a c) (a_function b count q) e = absurd (true≢false e)
+kinds_agree (a_function a count p) (an_object b d r) e = absurd (true≢false e)
+kinds_agree (a_function a count p) (a_register q b d) e = absurd (true≢false e)
+kinds_agree (a_function a count p) (a_function b number q) e =
+    let h = two_false (differ a b) (other_params count p number q) e in
+    (types_agree a b h.0, params_agree p q (two_false (not (count == number)) (other_types p q) h.1).1)
 
 -- ---- names that meet
 

@@ -24,7 +24,7 @@ use Rattle.ec_check_expression_laws.proofs.KeptTypes.{no_void, behind_stars}
 use Rattle.ec_check_initialisers.specs.Laws.{SizesAreValues}
 use Rattle.ec_check_initialisers.specs.Sizes.{array_size}
 use Rattle.ec_check_declarations.specs.Declarators.{head_of, head_rules, declared_size}
-use Rattle.ec_check_declarations.specs.ObjectTypes.{is_object_type, object_type, is_too_large, small_type}
+use Rattle.ec_check_declarations.specs.ObjectTypes.{is_object_type, object_type}
 use Rattle.ec_check_statements.proofs.Choices.{if_both}
 use Rattle.ec_check_statements.proofs.KeptTypes.{behind_space}
 use Rattle.ec_check.specs.Agreement.{AreFilled}
@@ -90,17 +90,10 @@ module _ (structs : List PlainStruct) (filled : AreFilled structs) where
   abbrev IsSomeObject : PlainType → Type 0
   IsSomeObject ty = is_object_type (length structs) ty ≡ true → 1 ≤ size_of_type structs ty
 
-  tested_positive : (o : Option PlainType) → IfSome o IsSomeObject → IfSome (object_type (length structs) o) IsPositive
+  pub tested_positive : (o : Option PlainType) → IfSome o IsSomeObject → IfSome (object_type (length structs) o) IsPositive
   tested_positive None h = tt
   tested_positive (Some ty) h =
       if_both (λ o. IfSome o IsPositive) (is_object_type (length structs) ty) (Some ty) None (λ q. (q, h q)) (λ q. tt)
-
-  pub small_positive : (o : Option PlainType) → IfSome o IsSomeObject
-      → IfSome (small_type structs (object_type (length structs) o)) IsPositive
-  small_positive o h =
-      if_both (λ o. IfSome o IsPositive) (is_too_large structs (object_type (length structs) o)) None
-      (object_type (length structs) o) (λ q. tt)
-      (λ q. tested_positive o h)
 
   pub plain_some : (o : Option PlainType) → IsSomeAnd o IsSizedType → IfSome o IsSomeObject
   plain_some None h = tt

@@ -19,8 +19,8 @@ use Rattle.ec_check_expression_laws.specs.Laws.{AreUnbroken}
 use Rattle.ec_check_expression_laws.specs.Suits.{AreHeld}
 use Rattle.ec_check_declarations.specs.Functions.{function_declared}
 use Rattle.ec_check_declarations.specs.Sites.{Site, on, told}
-use Rattle.ec_check_file_scope.specs.FileFunctions.{named_function_sites, file_function_sites}
-use Rattle.ec_check_file_scope.specs.FileObjects.{word_of, is_started, object_of, declared_sites, file_register_sites}
+use Rattle.ec_check_file_scope.specs.FileFunctions.{declared_function_sites, file_function_sites}
+use Rattle.ec_check_file_scope.specs.FileObjects.{word_of, object_of, declared_sites, file_register_sites}
 use Rattle.ec_check_file_scope.specs.FileScope.{after_declarator, declarator_sites, after_more, more_sites, after_declaration}
 use Rattle.ec_check_file_scope.specs.FileScope.{declaration_sites}
 use Rattle.ec_check_file_scope.specs.States.{Setting, State, known_of, in_unit}
@@ -79,10 +79,10 @@ module _ (laws : Laws) (ds : List Definition) (io : IoTable) (unit : ℕ) where
   one_step ss storage (t.init_declarator (t.declarator stars (t.identifier at n) (t.function_shape l ps e)) start) num s rest h unbroken q =
       let d = t.init_declarator (t.declarator stars (t.identifier at n) (t.function_shape l ps e)) start in
       let f = function_declared s.tags (length s.structs) (specified s.tags ss) stars ps in
-      let behind = named_function_sites r (word_of storage) n false f (is_started start) at.index s rest in
+      let behind = declared_function_sites r storage d s f rest in
       let a = function_there laws.functions r num s h false ss stars at.index ps behind unbroken
       (kept_of (file_function_sites r (specified s.tags ss) storage d ps s rest) q) in
-      function (specified s.tags ss) ss storage d ps refl (record { clear = a.1.0.0; main = a.1.0.1.1.0 })
+      function (specified s.tags ss) ss storage d ps refl (record { clear = a.1.1.0.0; main = a.1.1.0.1.1.0 })
 
   -- where the tags are those that the specifiers were read with
   declarator_step : (ss : t.Specs) (storage : Option Storage) (d : t.InitDeclarator) (n : Numbering) (s : State) (rest : List Site)

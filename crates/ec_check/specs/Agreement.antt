@@ -61,7 +61,7 @@ IsMade s d Object (an_object (Some ty) konst space) =
     IsSomeAnd (slice_get s.scope.objects d.number) (IsFileObject d ty konst space)
 IsMade s d Register (a_register (Some first) (Some ty) konst) =
     IsSomeAnd (slice_get s.scope.objects d.number) (IsFileRegister d first ty konst)
-IsMade s d FunctionKind (a_function (Some returns) (Some params)) =
+IsMade s d FunctionKind (a_function (Some returns) count (Some params)) =
     IsSomeAnd (slice_get s.functions d.number) (IsFileFunction s.scope.objects d returns params)
 IsMade s d kind declared = ⊥
 

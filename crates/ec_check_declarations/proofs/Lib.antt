@@ -5,4 +5,5 @@ pub mod Types
 pub mod Structs
 -- For this crate alone.
 mod Lists
-mod Sized
+mod Typed
+mod Apart

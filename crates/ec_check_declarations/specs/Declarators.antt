@@ -73,9 +73,9 @@ shaped ty t.object size = ty
 shaped ty (t.array l c r) size = with_both ty size (λ ty n. Some (array ty n))
 shaped ty (t.function_shape l ps r) size = None
 
--- ---- objects
+-- ---- objects and members
 
--- an object's type, if its declarator breaks no rule of types, whether it is const, and its space
+-- the type of an object or a member, if its declarator breaks no rule of types, whether it is const, and its space
 pub record ObjectDeclared : Type 0 where
   pub ty : Option PlainType
   pub konst : Bool
@@ -84,36 +84,51 @@ pub record ObjectDeclared : Type 0 where
 abbrev pub plain_declared_object : declared.ObjectDeclared → ObjectDeclared
 plain_declared_object d = record { ty = option_map plain_type d.ty; konst = d.konst; space = d.space }
 
--- the type of the object before its bytes are counted, with an array's size
+-- the type that is declared, with an array's size, whatever its bytes
 abbrev pub type_declared : (structs : ℕ) → Specified → List t.Star → t.Shape → (size : Option ℕ) → Option PlainType
 type_declared n s stars shape size =
     object_type n (shaped (meant_type (void_at s.types) (head_of s stars).ty) shape size)
 
-abbrev pub sized_object : List PlainStruct → Specified → t.Declarator → (size : Option ℕ) → ObjectDeclared
-sized_object structs s (t.declarator stars name shape) size =
+abbrev pub typed_object : (structs : ℕ) → Specified → t.Declarator → (size : Option ℕ) → ObjectDeclared
+typed_object n s (t.declarator stars name shape) size =
     record {
-      ty = small_type structs (type_declared (length structs) s stars shape size);
+      ty = type_declared n s stars shape size;
       konst = (head_of s stars).qualities.konst;
       space = space_in (head_of s stars).qualities.space;
     }
 
--- what a declarator declares, where specifiers say so much before it, and its initialiser is this or there is none
+-- what a declarator declares, where specifiers say so much before it, and its initialiser is this or there is none: a
+-- member is no object, so it has its type whatever the bytes of that
+abbrev pub typed_declarator : Known → Specified → t.Declarator → Option t.Start → ObjectDeclared
+typed_declarator k s (t.declarator stars name shape) start =
+    typed_object (length k.structs) s (t.declarator stars name shape) (shape_size k shape start)
+
+-- so for an object, whose type has not more bytes than an object may have
+abbrev pub sized : List PlainStruct → ObjectDeclared → ObjectDeclared
+sized structs o = record { ty = small_type structs o.ty; konst = o.konst; space = o.space }
+
 abbrev pub object_declared : Known → Specified → t.Declarator → Option t.Start → ObjectDeclared
 object_declared k s (t.declarator stars name shape) start =
-    sized_object k.structs s (t.declarator stars name shape) (shape_size k shape start)
+    sized k.structs (typed_declarator k s (t.declarator stars name shape) start)
 
--- the rules of stars, of a space and of `void`; 9 at the name
-abbrev pub sized_sites : List PlainStruct → (may_have_space : Bool) → Specified → t.Declarator → (size : Option ℕ)
-    → List Site → List Site
-sized_sites structs may_have_space s (t.declarator stars (t.identifier at n) shape) size rest =
-    on (head_rules may_have_space (misused_in shape (void_at s.types) stars) s stars)
-    ∷ on (rule 9 (is_too_large structs (type_declared (length structs) s stars shape size)) at.index ∷ [])
-    ∷ rest
+-- the rules of stars, of a space and of `void`
+abbrev pub typed_object_sites : (may_have_space : Bool) → Specified → t.Declarator → List Site → List Site
+typed_object_sites may_have_space s (t.declarator stars name shape) rest =
+    on (head_rules may_have_space (misused_in shape (void_at s.types) stars) s stars) ∷ rest
 
--- the rules of a declarator of an object: 8 at `[`, and those above
+-- the rules of a declarator of an object or a member, whatever its bytes: 8 at `[`, and those above
+abbrev pub typed_sites : Known → (may_have_space : Bool) → Specified → t.Declarator → Option t.Start → List Site
+    → List Site
+typed_sites k may_have_space s (t.declarator stars name shape) start rest =
+    shape_sites k shape start (typed_object_sites may_have_space s (t.declarator stars name shape) rest)
+
+-- 9, at the name of an object that declares so much
+abbrev pub sized_sites : List PlainStruct → ObjectDeclared → (at : ℕ) → List Site → List Site
+sized_sites structs o at rest = on (rule 9 (is_too_large structs o.ty) at ∷ []) ∷ rest
+
+-- the rules of a declarator of an object
 abbrev pub object_sites : Known → (may_have_space : Bool) → Specified → t.Declarator → Option t.Start → List Site
     → List Site
 object_sites k may_have_space s (t.declarator stars (t.identifier at n) shape) start rest =
-    shape_sites k shape start
-    (sized_sites k.structs may_have_space s (t.declarator stars (t.identifier at n) shape) (shape_size k shape start)
-    rest)
+    typed_sites k may_have_space s (t.declarator stars (t.identifier at n) shape) start
+    (sized_sites k.structs (typed_declarator k s (t.declarator stars (t.identifier at n) shape) start) at.index rest)

@@ -1,5 +1,5 @@
 -- The places of declarations and statements where rules are judged, and what is told there.
-use Rattle.std.specs.Prelude.{◌≡◌, Option, List, [], ◌∷◌}
+use Rattle.std.specs.Prelude.{◌≡◌, Bool, is_some, Option, None, List, [], ◌∷◌}
 use Rattle.ec_check_operands.specs.declared.faults.Fault.{Fault}
 use Rattle.ec_check_operands.specs.Faults.{Judgement, all_judged}
 use Rattle.ec_check_expressions.specs.Sites as expressions
@@ -22,6 +22,10 @@ rules_at (on js) = js
 abbrev pub told : Option Fault → List Site → Option Fault
 told known [] = known
 told known (s ∷ ss) = told (all_judged known (rules_at s)) ss
+
+-- a rule is broken at one of some sites
+abbrev pub is_told : List Site → Bool
+is_told ss = is_some (told None ss)
 
 -- the places of an expression, and then others
 abbrev pub expression_in : List expressions.Site → List Site → List Site

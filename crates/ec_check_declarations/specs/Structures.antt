@@ -14,9 +14,9 @@ use Rattle.ec_check_names.specs.Tags.{tag_state, is_undefined}
 use Rattle.ec_check_operands.specs.Operands.{with_one}
 use Rattle.ec_check_expressions.specs.Known.{Known}
 use Rattle.ec_check_declarations.specs.declared.structures.MemberDeclared as declared
-use Rattle.ec_check_declarations.specs.Declarators.{object_declared, object_sites}
+use Rattle.ec_check_declarations.specs.Declarators.{typed_declarator, typed_sites}
 use Rattle.ec_check_declarations.specs.ObjectTypes.{is_object_type}
-use Rattle.ec_check_declarations.specs.Sites.{Site, on}
+use Rattle.ec_check_declarations.specs.Sites.{Site, on, is_told}
 
 -- ---- members
 
@@ -40,13 +40,13 @@ member_rules again konst function at = rule 5 again at ∷ rule 11 (konst || fun
 -- the members with that of one declarator more
 abbrev pub with_member : Known → Specified → t.Declarator → List MemberDeclared → List MemberDeclared
 with_member k s (t.declarator stars (t.identifier at n) shape) ms =
-    ms ++ record { name = n; ty = (object_declared k s (t.declarator stars (t.identifier at n) shape) None).ty } ∷ []
+    ms ++ record { name = n; ty = (typed_declarator k s (t.declarator stars (t.identifier at n) shape) None).ty } ∷ []
 
 abbrev pub member_sites : Known → Specified → t.Declarator → List MemberDeclared → List Site → List Site
 member_sites k s (t.declarator stars (t.identifier at n) shape) ms rest =
-    object_sites k false s (t.declarator stars (t.identifier at n) shape) None
+    typed_sites k false s (t.declarator stars (t.identifier at n) shape) None
     (on (member_rules (is_member n ms)
-    (object_declared k s (t.declarator stars (t.identifier at n) shape) None).konst (is_function shape) at.index)
+    (typed_declarator k s (t.declarator stars (t.identifier at n) shape) None).konst (is_function shape) at.index)
     ∷ rest)
 
 abbrev pub with_more_members : Known → Specified → List t.NextDeclarator → List MemberDeclared → List MemberDeclared
@@ -124,17 +124,20 @@ abbrev pub struct_of : List PlainStruct → List ℕ → Option (List PlainMembe
 struct_of structs tag members =
     with_one members (λ ms. if may_follow structs ms then Some (record { tag = tag; members = ms }) else None)
 
-abbrev pub members_of : Known → t.Member → List t.Member → Option (List PlainMember)
-members_of k first more = known_members (with_all_declared k more (with_declared k first []))
-
--- the struct that is defined, or None where the definition breaks a rule of types or sizes
-abbrev pub struct_defined : Known → t.Structure → Option PlainStruct
-struct_defined k (t.structure w (t.identifier at tag) l first more r semicolon) =
-    struct_of k.structs tag (members_of k first more)
-
 abbrev pub member_list_sites : Known → t.Member → List t.Member → List Site → List Site
 member_list_sites k first more rest =
     declared_sites k first [] (all_declared_sites k more (with_declared k first []) rest)
+
+-- the members, where none breaks a rule
+abbrev pub members_of : Known → t.Member → List t.Member → Option (List PlainMember)
+members_of k first more =
+    if is_told (member_list_sites k first more []) then None
+    else known_members (with_all_declared k more (with_declared k first []))
+
+-- the struct that is defined, or None where a member breaks a rule, or where it is too large
+abbrev pub struct_defined : Known → t.Structure → Option PlainStruct
+struct_defined k (t.structure w (t.identifier at tag) l first more r semicolon) =
+    struct_of k.structs tag (members_of k first more)
 
 -- 10, at the tag; the rules of the members; 9, at the tag
 abbrev pub structure_sites : Known → t.Structure → List Site → List Site

@@ -15,8 +15,9 @@ ghost use Rattle.ec_check_initialisers.specs.Locals.{items_count};
 ghost use Rattle.ec_check_initialisers.specs.Sites.{size_sites};
 ghost use Rattle.ec_check_initialisers.specs.Sizes.{array_size, size_of_number};
 ghost use Rattle.ec_check_declarations.specs.Declarators.{given_size, declared_size, declared_size_sites, shape_size, shape_sites};
-ghost use Rattle.ec_check_declarations.specs.Declarators.{shaped, plain_declared_object, sized_object, object_declared};
-ghost use Rattle.ec_check_declarations.specs.Declarators.{sized_sites, object_sites, head_of, head_rules, misused_in};
+ghost use Rattle.ec_check_declarations.specs.Declarators.{shaped, plain_declared_object, typed_object, typed_declarator};
+ghost use Rattle.ec_check_declarations.specs.Declarators.{sized, object_declared, typed_object_sites, typed_sites, sized_sites};
+ghost use Rattle.ec_check_declarations.specs.Declarators.{object_sites, head_of, head_rules, misused_in};
 ghost use Rattle.ec_check_declarations.specs.Sites.{Walked, initialiser_in};
 
 use crate::heads::{head, meant_type, misused_in};
@@ -30,10 +31,11 @@ use ec_grammar::{Conditional, Declarator, Initialiser, NextInitialiser, Shape, S
 use ec_space::{NoMemory, Seq, SpaceId};
 use std::alloc::Global;
 
-/// What a declarator of an object declares.
+/// What a declarator of an object or a member declares.
 #[derive(Drop)]
 pub struct ObjectDeclared {
-    /// None where the declarator breaks a rule of types or sizes, or has the form of a function.
+    /// None where the declarator breaks a rule of types, or has the form of a function; and where an object of the type
+    /// has too many bytes.
     pub ty: Option<CType>,
     pub konst: bool,
     /// The space that is said, which is the generic one where none is.
@@ -198,8 +200,8 @@ fn type_of_object(
     Ok(object_type(structs, ty))
 }
 
-/// The declarator, where an array's size is known.
-fn sized_object(
+/// The declarator, where an array's size is known, whatever the bytes of its type.
+fn typed_object(
     alloc: Global,
     structs: &Seq<StructDef>,
     faults: &mut Faults,
@@ -208,23 +210,64 @@ fn sized_object(
     d: &Declarator,
     size: Option<u16>,
 ) -> Result<ObjectDeclared, NoMemory>
-    requires { AreStructs (map plain_struct structs.now.items) }
-    ensures walked { let s = map plain_struct structs.now.items in let t = view_declarator d.now in
-        IfOk result (λ o. Walked faults.old.least faults.new.least (sized_sites s may_have_space said t size)
-        (plain_declared_object o) (sized_object s said t size)) }
+    ensures walked { let n = length (map plain_struct structs.now.items) in let t = view_declarator d.now in
+        IfOk result (λ o. Walked faults.old.least faults.new.least (typed_object_sites may_have_space said t)
+        (plain_declared_object o) (typed_object n said t size)) }
     ensures object { IfOk result (λ o. IfSome (option_map plain_type o.ty) (IsObjectType (length structs.now.items))) }
 {
     let head = head_of_object(alloc, faults, may_have_space, said, d)?;
     let konst = head.qualities.konst;
     let space = head.qualities.space_id();
     let ty = type_of_object(alloc, structs, said, head.ty, &d.shape, size)?;
+    Ok(ObjectDeclared { ty, konst, space })
+}
+
+/// What a declarator of an object or a member declares, where `said` is what its specifiers say, and `start` its
+/// initialiser, if it has one, whatever the bytes of its type. Judges rule 8 at `[` and the rules of the size there;
+/// rules 2 and 4 of stars; rule 3 of a space of what is declared itself, where it may not have one; and rule 7 at the
+/// word `void`.
+pub(crate) fn typed_declarator(
+    alloc: Global,
+    known: &Known,
+    faults: &mut Faults,
+    may_have_space: bool,
+    said: Specified,
+    d: &Declarator,
+    start: &Option<Start>,
+) -> Result<ObjectDeclared, NoMemory>
+    requires { IsSound (plain_known known.now) }
+    ensures walked { let k = plain_known known.now in let t = view_declarator d.now in
+        let i = view_option view_start start.now in
+        IfOk result (λ o. Walked faults.old.least faults.new.least (typed_sites k may_have_space said t i)
+        (plain_declared_object o) (typed_declarator k said t i)) }
+    ensures object { IfOk result (λ o. IfSome (option_map plain_type o.ty)
+        (IsObjectType (length known.now.structs.now.items))) }
+{
+    let size = shape_size(alloc, known, faults, &d.shape, start)?;
+    typed_object(alloc, known.structs, faults, may_have_space, said, d, size)
+}
+
+/// An object whose declarator declares so much at a name: rule 9 is judged there.
+fn sized(
+    structs: &Seq<StructDef>,
+    faults: &mut Faults,
+    at: u32,
+    o: ObjectDeclared,
+) -> ObjectDeclared
+    requires structs { AreStructs (map plain_struct structs.now.items) }
+    requires object { IfSome (option_map plain_type o.ty) (IsObjectType (length structs.now.items)) }
+    ensures walked { let s = map plain_struct structs.now.items in let x = plain_declared_object o in
+        Walked faults.old.least faults.new.least (sized_sites s x at) (plain_declared_object result) (sized s x) }
+    ensures object { IfSome (option_map plain_type result.ty) (IsObjectType (length structs.now.items)) }
+{
+    let ObjectDeclared { ty, konst, space } = o;
     let large = is_too_large(structs, &ty);
-    faults.judge(9, large, d.name.spot.index);
-    Ok(ObjectDeclared {
+    faults.judge(9, large, at);
+    ObjectDeclared {
         ty: small_type(large, ty),
         konst,
         space,
-    })
+    }
 }
 
 /// What a declarator of an object declares, where `said` is what its specifiers say, and `start` its initialiser, if it
@@ -247,6 +290,6 @@ pub fn declared_object(
     ensures object { IfOk result (λ o. IfSome (option_map plain_type o.ty)
         (IsObjectType (length known.now.structs.now.items))) }
 {
-    let size = shape_size(alloc, known, faults, &d.shape, start)?;
-    sized_object(alloc, known.structs, faults, may_have_space, said, d, size)
+    let o = typed_declarator(alloc, known, faults, may_have_space, said, d, start)?;
+    Ok(sized(known.structs, faults, d.name.spot.index, o))
 }

@@ -17,7 +17,7 @@ ghost use Rattle.ec_check_declarations.specs.ObjectTypes.{is_object_type};
 ghost use Rattle.ec_check_declarations.specs.Sites.{Walked};
 
 use crate::object_types::is_object_type;
-use crate::objects::declared_object;
+use crate::objects::typed_declarator;
 use crate::scopes::copied_name;
 use ec_check_expressions::Known;
 use ec_check_names::{Specified, Tags, is_function, judge_specs, struct_place};
@@ -75,7 +75,7 @@ fn add_member(
         OnOk result (Walked faults.old.least faults.new.least (member_sites k said t ms)
         (map plain_member_declared members.new.items) (with_member k said t ms)) }
 {
-    let o = declared_object(alloc, known, faults, false, said, d, &None)?;
+    let o = typed_declarator(alloc, known, faults, false, said, d, &None)?;
     let at = d.name.spot.index;
     let again = is_member(&d.name.name, members);
     faults.judge(5, again, at);
@@ -253,6 +253,25 @@ fn struct_of(
     Ok(Some(StructDef { tag, members }))
 }
 
+fn declared_members(
+    alloc: Global,
+    known: &Known,
+    faults: &mut Faults,
+    s: &Structure,
+) -> Result<Vec<MemberDeclared>, NoMemory>
+    requires { IsSound (plain_known known.now) }
+    ensures { let k = plain_known known.now in let first = view_member s.now.first in
+        let more = map view_member s.now.more.items in
+        IfOk result (λ ms. Walked faults.old.least faults.new.least (member_list_sites k first more)
+        (map plain_member_declared ms.items) (with_all_declared k more (with_declared k first []))) }
+{
+    let mut members = Vec::new(alloc);
+    add_declared(alloc, known, faults, &s.first, &mut members)?;
+    add_all_declared(alloc, known, faults, &s.more, &mut members)?;
+    Ok(members)
+}
+
+/// The members, or None where one breaks a rule: they are judged apart, and the least fault there is noted.
 fn all_members(
     alloc: Global,
     known: &Known,
@@ -265,15 +284,20 @@ fn all_members(
         IfOk result (λ ms. Walked faults.old.least faults.new.least (member_list_sites k first more)
         (option_map (λ ms. map plain_member ms.items) ms) (members_of k first more)) }
 {
-    let mut members = Vec::new(alloc);
-    add_declared(alloc, known, faults, &s.first, &mut members)?;
-    add_all_declared(alloc, known, faults, &s.more, &mut members)?;
-    known_members(alloc, &members)
+    let mut apart = Faults::new();
+    let members = declared_members(alloc, known, &mut apart, s)?;
+    match apart.least {
+        None => known_members(alloc, &members),
+        Some(fault) => {
+            faults.note(fault);
+            Ok(None)
+        }
+    }
 }
 
-/// The struct that is defined, or None where the definition breaks a rule of types or sizes. Judges at the tag rule 10,
-/// where the unit has defined it before, and rule 9; and of the members the rules of specifiers and declarators, and
-/// rules 5 and 11 at the name.
+/// The struct that is defined, or None where a member breaks a rule, or where it is too large. Judges at the tag rule 10,
+/// where the unit has defined it before, and rule 9 where no member breaks a rule; and of the members the rules of
+/// specifiers and declarators, whatever their bytes, and rules 5 and 11 at the name.
 pub fn defined_struct(
     alloc: Global,
     known: &Known,

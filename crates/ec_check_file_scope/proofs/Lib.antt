@@ -4,3 +4,4 @@ pub mod Sound
 -- For this crate alone.
 mod Walks
 mod After
+mod Conflicts

@@ -14,7 +14,7 @@ use Rattle.ec_check_declarations.specs.Functions.{FunctionDeclared, function_dec
 use Rattle.ec_check_declarations.specs.Params.{ParamDeclared}
 use Rattle.ec_check_declarations.specs.Sites.{Site, on}
 use Rattle.ec_check_file_scope.specs.FileNames.{a_function, FileName, conflicts, earlier_link}
-use Rattle.ec_check_file_scope.specs.FileObjects.{word_of, is_started}
+use Rattle.ec_check_file_scope.specs.FileObjects.{word_of, is_started, extern_rules}
 use Rattle.ec_check_file_scope.specs.States.{Setting, State, with_name}
 pub use Rattle.ec_check_declarations.specs.Mains.{is_other_result, is_static}
 
@@ -30,7 +30,7 @@ function_name r n linkage defined f =
       unit = r.unit;
       linkage = linkage;
       defines = defined;
-      kind = a_function f.returns (param_types f.params);
+      kind = a_function f.returns (length f.params) (param_types f.params);
     }
 
 abbrev pub function_named : Setting → List ℕ → Linkage → FunctionDeclared → names.Named
@@ -70,10 +70,17 @@ abbrev pub after_function : Setting → Specified → Option Storage → t.InitD
 after_function r said storage (t.init_declarator (t.declarator stars (t.identifier at n) shape) start) ps s =
     after_function_declarator r (word_of storage) n (function_declared s.tags (length s.structs) said stars ps) s
 
--- the rules of the result and of the parameters; 6, 16 and 18 at the name
+-- 16 at `extern`; 6, 16 and 18 at the name
+abbrev pub declared_function_sites : Setting → Option Storage → t.InitDeclarator → State → FunctionDeclared → List Site
+    → List Site
+declared_function_sites r storage (t.init_declarator (t.declarator stars (t.identifier at n) shape) start) s f rest =
+    on (extern_rules (is_started start) storage)
+    ∷ named_function_sites r (word_of storage) n false f (is_started start) at.index s rest
+
+-- the rules of the result and of the parameters; 16 at `extern`; 6, 16 and 18 at the name
 abbrev pub file_function_sites : Setting → Specified → Option Storage → t.InitDeclarator → t.Params → State → List Site
     → List Site
 file_function_sites r said storage (t.init_declarator (t.declarator stars (t.identifier at n) shape) start) ps s rest =
     function_sites s.tags false said stars at.index ps
-    (named_function_sites r (word_of storage) n false (function_declared s.tags (length s.structs) said stars ps)
-    (is_started start) at.index s rest)
+    (declared_function_sites r storage (t.init_declarator (t.declarator stars (t.identifier at n) shape) start) s
+    (function_declared s.tags (length s.structs) said stars ps) rest)

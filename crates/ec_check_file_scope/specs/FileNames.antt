@@ -15,11 +15,12 @@ use Rattle.ec_check_file_scope.specs.declared.file_names.FileKind as file_kind
 use Rattle.ec_check_file_scope.specs.declared.file_names.FileKind.TheVariants as kinds
 use Rattle.ec_check_file_scope.specs.declared.file_names.FileName as file_name
 
--- an object, an object in a named register, or a function; a type is None where its declaration breaks a rule
+-- an object, an object in a named register, or a function with so many parameters; a type is None where its
+-- declaration breaks a rule, and the types of parameters are where that of one does
 pub data FileKind : Type 0 where
   an_object : Option PlainType → (konst : Bool) → SpaceId → FileKind
   a_register : (first : Option ℕ) → Option PlainType → (konst : Bool) → FileKind
-  a_function : (returns : Option PlainType) → (params : Option (List PlainType)) → FileKind
+  a_function : (returns : Option PlainType) → (count : ℕ) → (params : Option (List PlainType)) → FileKind
 
 pub record FileName : Type 0 where
   pub name : List ℕ
@@ -31,8 +32,8 @@ pub record FileName : Type 0 where
 abbrev pub plain_kind : file_kind.FileKind → FileKind
 plain_kind (kinds.Object ty konst space) = an_object (option_map plain_type ty) konst space
 plain_kind (kinds.Register first ty konst) = a_register first (option_map plain_type ty) konst
-plain_kind (kinds.Function returns params) =
-    a_function (option_map plain_type returns) (option_map (λ ts. map plain_type ts.items) params)
+plain_kind (kinds.Function returns count params) =
+    a_function (option_map plain_type returns) count (option_map (λ ts. map plain_type ts.items) params)
 
 abbrev pub plain_file_name : file_name.FileName → FileName
 plain_file_name d =
@@ -75,27 +76,33 @@ same_from i (a ∷ more) bs = same_at a (slice_get bs i) && same_from (i + 1) mo
 abbrev pub same_types : List PlainType → List PlainType → Bool
 same_types xs ys = (length xs == length ys) && same_from 0 xs ys
 
-abbrev pub other_params : Option (List PlainType) → Option (List PlainType) → Bool
-other_params None q = false
-other_params (Some p) None = false
-other_params (Some p) (Some q) = not (same_types p q)
+-- the types of all parameters, where both are known
+abbrev pub other_types : Option (List PlainType) → Option (List PlainType) → Bool
+other_types None q = false
+other_types (Some p) None = false
+other_types (Some p) (Some q) = not (same_types p q)
+
+-- functions with m and n parameters differ where these are two numbers, also where a parameter of one breaks a rule; and
+-- where the types of the parameters do
+abbrev pub other_params : (m : ℕ) → Option (List PlainType) → (n : ℕ) → Option (List PlainType) → Bool
+other_params m p n q = not (m == n) || other_types p q
 
 -- another kind, type, space or register
 abbrev pub other_kind : FileKind → FileKind → Bool
 other_kind (an_object a c s) (an_object b d r) = differ a b || not (same_bool c d) || not (same_space s r)
 other_kind (an_object a c s) (a_register q b d) = true
-other_kind (an_object a c s) (a_function b q) = true
+other_kind (an_object a c s) (a_function b n q) = true
 other_kind (a_register p a c) (an_object b d r) = true
 other_kind (a_register p a c) (a_register q b d) = differ a b || not (same_bool c d) || other_register p q
-other_kind (a_register p a c) (a_function b q) = true
-other_kind (a_function a p) (an_object b d r) = true
-other_kind (a_function a p) (a_register q b d) = true
-other_kind (a_function a p) (a_function b q) = differ a b || other_params p q
+other_kind (a_register p a c) (a_function b n q) = true
+other_kind (a_function a m p) (an_object b d r) = true
+other_kind (a_function a m p) (a_register q b d) = true
+other_kind (a_function a m p) (a_function b n q) = differ a b || other_params m p n q
 
 abbrev pub is_register : FileKind → Bool
 is_register (an_object a c s) = false
 is_register (a_register p a c) = true
-is_register (a_function a p) = false
+is_register (a_function a n p) = false
 
 -- ---- 6
 

@@ -4,3 +4,4 @@ pub mod FileNames
 pub mod FileObjects
 pub mod FileFunctions
 pub mod FileScope
+pub mod Laws

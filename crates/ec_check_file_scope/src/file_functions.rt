@@ -9,12 +9,13 @@ ghost use Rattle.ec_check_declarations.specs.Sites.{Walked};
 ghost use Rattle.ec_check_file_scope.specs.FileFunctions.{function_link, function_name, function_named, with_function_name};
 ghost use Rattle.ec_check_file_scope.specs.FileFunctions.{has_params, is_other_main};
 ghost use Rattle.ec_check_file_scope.specs.FileFunctions.{function_rules, named_function_sites, after_function};
-ghost use Rattle.ec_check_file_scope.specs.FileFunctions.{file_function_sites};
+ghost use Rattle.ec_check_file_scope.specs.FileFunctions.{after_function_declarator, declared_function_sites, file_function_sites};
+ghost use Rattle.ec_check_file_scope.specs.FileObjects.{word_of};
 ghost use Rattle.ec_check_file_scope.specs.FileNames.{plain_file_name};
 ghost use Rattle.ec_check_file_scope.specs.States.{plain_setting, plain_state, IsSoundState};
 
 use crate::file_names::{FileKind, FileName, conflicts, earlier_link};
-use crate::file_objects::{is_started, word_of};
+use crate::file_objects::{is_started, judge_extern, word_of};
 use crate::states::{Setting, State};
 use ec_check_declarations::{
     FunctionDeclared, ParamDeclared, copied_name, copied_type, declared_function, is_other_form,
@@ -47,7 +48,11 @@ fn function_name(
         unit: setting.unit,
         linkage,
         defines: defined,
-        kind: FileKind::Function { returns, params },
+        kind: FileKind::Function {
+            returns,
+            count: f.params.len(),
+            params,
+        },
     })
 }
 
@@ -167,6 +172,32 @@ fn declared(
     )
 }
 
+/// Declares the name of a function whose declarator declares so much. Judges rule 16 at an `extern` before an initialiser,
+/// and rules 6, 16 and 18 at the name.
+fn add_declared(
+    alloc: Global,
+    setting: &Setting,
+    state: &mut State,
+    faults: &mut Faults,
+    storage: Option<Storage>,
+    d: &InitDeclarator,
+    f: &FunctionDeclared,
+) -> Result<(), NoMemory>
+    requires { IsSoundState (plain_state state.old) }
+    ensures walked { let r = plain_setting setting.now in let s = plain_state state.old in
+        let t = view_init_declarator d.now in let n = d.now.declarator.name.name.items in
+        let o = plain_declared_function f.now in
+        OnOk result (Walked faults.old.least faults.new.least (declared_function_sites r storage t s o)
+        (plain_state state.new) (after_function_declarator r (word_of storage) n o s)) }
+    ensures sound { OnOk result (IsSoundState (plain_state state.new)) }
+{
+    let started = is_started(&d.start);
+    judge_extern(faults, started, storage);
+    let word = word_of(storage);
+    let name = &d.declarator.name;
+    name_function(alloc, setting, state, faults, word, name, false, started, f)
+}
+
 /// A declarator of a function at file scope, where its specifiers say so much and have this storage word.
 pub(crate) fn file_function(
     alloc: Global,
@@ -186,19 +217,7 @@ pub(crate) fn file_function(
     ensures sound { OnOk result (IsSoundState (plain_state state.new)) }
 {
     let f = declared(alloc, state, faults, said, d, params)?;
-    let started = is_started(&d.start);
-    let name = &d.declarator.name;
-    let named = name_function(
-        alloc,
-        setting,
-        state,
-        faults,
-        word_of(storage),
-        name,
-        false,
-        started,
-        &f,
-    );
+    let named = add_declared(alloc, setting, state, faults, storage, d, &f);
     drop(f);
     named
 }

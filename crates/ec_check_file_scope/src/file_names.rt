@@ -4,7 +4,7 @@ ghost use Rattle.std.specs.Option.{option_copied};
 ghost use Rattle.ec_core.specs.Plain.{plain_type};
 ghost use Rattle.ec_check_names.specs.Definitions.{same_linkage};
 ghost use Rattle.ec_check_file_scope.specs.FileNames.{plain_kind, plain_file_name, differ, same_space, other_register};
-ghost use Rattle.ec_check_file_scope.specs.FileNames.{same_types, same_at, same_from};
+ghost use Rattle.ec_check_file_scope.specs.FileNames.{same_types, same_at, same_from, other_types};
 ghost use Rattle.ec_check_file_scope.specs.FileNames.{other_params, other_kind, is_register, is_external, meet, both_define};
 ghost use Rattle.ec_check_file_scope.specs.FileNames.{conflict, conflicts, earlier_link, is_registered, same_bool};
 
@@ -32,7 +32,9 @@ pub enum FileKind {
     Function {
         /// None where the declaration breaks a rule.
         returns: Option<CType>,
-        /// None where that of one breaks a rule.
+        /// How many parameters there are.
+        count: usize,
+        /// Their types, or None where the declaration of one breaks a rule.
         params: Option<Seq<CType>>,
     },
 }
@@ -127,8 +129,8 @@ fn same_types(a: &Seq<CType>, b: &Seq<CType>) -> bool
     a.len() == b.len() && same_from_first(a.as_slice(), b)
 }
 
-fn other_params(a: &Option<Seq<CType>>, b: &Option<Seq<CType>>) -> bool
-    ensures { result ≡ other_params (option_map (λ ts. map plain_type ts.items) a.now)
+fn other_types(a: &Option<Seq<CType>>, b: &Option<Seq<CType>>) -> bool
+    ensures { result ≡ other_types (option_map (λ ts. map plain_type ts.items) a.now)
         (option_map (λ ts. map plain_type ts.items) b.now) }
 {
     let Some(a) = a else {
@@ -138,6 +140,15 @@ fn other_params(a: &Option<Seq<CType>>, b: &Option<Seq<CType>>) -> bool
         return false;
     };
     !same_types(a, b)
+}
+
+/// Whether two lists of parameters, of which there are `m` and `n`, are of two types of functions, also where the type of
+/// one is not known.
+fn other_params(m: usize, a: &Option<Seq<CType>>, n: usize, b: &Option<Seq<CType>>) -> bool
+    ensures { result ≡ other_params m (option_map (λ ts. map plain_type ts.items) a.now)
+        n (option_map (λ ts. map plain_type ts.items) b.now) }
+{
+    m != n || other_types(a, b)
 }
 
 fn other_kind(a: &FileKind, b: &FileKind) -> bool
@@ -162,11 +173,16 @@ fn other_kind(a: &FileKind, b: &FileKind) -> bool
             }
             FileKind::Object { .. } | FileKind::Function { .. } => true,
         },
-        FileKind::Function { returns, params } => match b {
+        FileKind::Function {
+            returns,
+            count,
+            params,
+        } => match b {
             FileKind::Function {
                 returns: other,
+                count: number,
                 params: types,
-            } => differ(returns, other) || other_params(params, types),
+            } => differ(returns, other) || other_params(*count, params, *number, types),
             FileKind::Object { .. } | FileKind::Register { .. } => true,
         },
     }
@@ -224,7 +240,8 @@ fn conflict(a: &FileName, b: &FileName) -> bool
 }
 
 /// Whether a declaration conflicts with one before it (rule 6): one of the same name in its unit, or external in
-/// two, has another kind, type, space or register, or another linkage in the unit, or both are definitions.
+/// two, has another kind, type, number of parameters, space or register, or another linkage in the unit, or both are
+/// definitions.
 pub(crate) fn conflicts(d: &FileName, declared: &[FileName]) -> bool
     ensures { result ≡ conflicts (plain_file_name d.now) (map plain_file_name declared.now) }
 {

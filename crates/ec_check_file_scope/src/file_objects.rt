@@ -236,7 +236,8 @@ pub(crate) fn is_started(start: &Option<Start>) -> bool
     }
 }
 
-fn judge_extern(faults: &mut Faults, initialised: bool, storage: Option<Storage>)
+/// Judges rule 16 of a declarator with an initialiser or without, at the word `extern`.
+pub(crate) fn judge_extern(faults: &mut Faults, initialised: bool, storage: Option<Storage>)
     ensures { faults.new.least ≡ all_judged faults.old.least (extern_rules initialised storage) }
 {
     let Some(storage) = storage else {

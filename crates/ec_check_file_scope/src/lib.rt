@@ -8,10 +8,12 @@ mod file_functions;
 mod file_names;
 mod file_objects;
 mod file_scope;
+mod laws;
 mod states;
 
 pub use file_functions::name_function;
 pub use file_names::{FileKind, FileName};
 pub use file_objects::{file_register, word_of};
 pub use file_scope::{file_declaration, file_structure};
+pub use laws::conflicts_are_told;
 pub use states::{Setting, State, known_of};

@@ -1,4 +1,4 @@
--- The type of an object that a declarator declares is that of a place, and is not too large.
+-- The type of an object or a member that a declarator declares is that of a place, and an object's is not too large.
 use Rattle.std.proofs.Common.{◌≡◌, ◌≤◌, ◌+◌, ℕ, zero, suc, true, false, ◌&&◌, List, length, refl, sym, subst, arith}
 use Rattle.std.specs.Prelude.{nat_lt, pos, Option, Some, None, IfSome, slice_get, int_le, unsigned_abs}
 use Rattle.std.proofs.lemmas.Bool.Decides.{nat_tests}
@@ -17,6 +17,7 @@ use Rattle.ec_check_initialisers.specs.Laws.{SizesAreValues}
 use Rattle.ec_check_initialisers.specs.Locals.{items_count}
 use Rattle.ec_check_initialisers.specs.Sizes.{array_size, size_of_number}
 use Rattle.ec_check_declarations.specs.Declarators.{head_of, given_size, declared_size, shape_size, shaped, object_declared}
+use Rattle.ec_check_declarations.specs.Declarators.{typed_declarator}
 use Rattle.ec_check_declarations.specs.ObjectTypes.{is_object_type, object_type, small_type}
 use Rattle.ec_check_declarations.proofs.Types.{object_type_is}
 use Rattle.ec_check_statements.specs.Laws.{DeclaredTypesArePlaced}
@@ -92,6 +93,10 @@ module _ (law : StructsAreLaidOut) (some all : List PlainStruct) (small : AreStr
         small = not_more (size_of_type some ty) (size_of_type all ty) (sizes_agree law some all small structs same ty o.names) f;
       }
 
+  typed : (o : Option PlainType) → IfSome o IsPlacedObject → IfSome (object_type (length some) o) (IsPlaceType all)
+  typed None h = tt
+  typed (Some ty) h = if_both (λ o. IfSome o (IsPlaceType all)) (is_object_type (length some) ty) (Some ty) None h (λ e. tt)
+
   tested : (o : Option PlainType) → IfSome o IsPlacedObject
       → IfSome (small_type some (object_type (length some) o)) (IsDeclaredType some all)
   tested None h = tt
@@ -108,6 +113,27 @@ module _ (law : StructsAreLaidOut) (some all : List PlainStruct) (small : AreStr
     unfolding said_type void_said
     base_placed ss stars = said all tags defined (t.type_name ss stars)
 
+    -- before a test of its bytes
+    shape_placed : (k : Known) (ss : t.Specs) (stars : List t.Star) (shape : t.Shape) (start : Option t.Start)
+        → IfSome
+        (shaped (meant_type (void_at (specified tags ss).types) (head_of (specified tags ss) stars).ty) shape (shape_size k shape start))
+        IsPlacedObject
+    shape_placed k ss stars shape start =
+        shaped_placed (meant_type (void_at (specified tags ss).types) (head_of (specified tags ss) stars).ty) shape
+        (shape_size k shape start) (base_placed ss stars) (shape_some sizes k shape start)
+
+    -- the type of a member
+    pub member_placed : (k : Known) → k.structs ≡ some → (ss : t.Specs) (d : t.Declarator)
+        → IfSome (typed_declarator k (specified tags ss) d None).ty (IsPlaceType all)
+    member_placed k e ss (t.declarator stars name shape) =
+        subst (λ (structs : List PlainStruct). IfSome (object_type (length structs)
+        (shaped (meant_type (void_at (specified tags ss).types) (head_of (specified tags ss) stars).ty) shape (shape_size k shape None)))
+        (IsPlaceType all))
+        (sym e)
+        (typed
+        (shaped (meant_type (void_at (specified tags ss).types) (head_of (specified tags ss) stars).ty) shape (shape_size k shape None))
+        (shape_placed k ss stars shape None))
+
     pub object_placed : (k : Known) → k.structs ≡ some → (ss : t.Specs) (d : t.Declarator) (start : Option t.Start)
         → IfSome (object_declared k (specified tags ss) d start).ty (IsDeclaredType some all)
     object_placed k e ss (t.declarator stars name shape) start =
@@ -117,9 +143,7 @@ module _ (law : StructsAreLaidOut) (some all : List PlainStruct) (small : AreStr
         (sym e)
         (tested
         (shaped (meant_type (void_at (specified tags ss).types) (head_of (specified tags ss) stars).ty) shape (shape_size k shape start))
-        (shaped_placed (meant_type (void_at (specified tags ss).types) (head_of (specified tags ss) stars).ty) shape
-        (shape_size k shape start)
-        (base_placed ss stars) (shape_some sizes k shape start)))
+        (shape_placed k ss stars shape start))
 
 pub declared_types_are_placed : StructsAreLaidOut → SaidTypesArePlaced → SizesAreValues → DeclaredTypesArePlaced
 declared_types_are_placed law said sizes p io f k ss d start all h =

@@ -1,4 +1,4 @@
--- An object has a type where its declarator and its specifiers break no rule.
+-- An object or a member has a type where its declarator and its specifiers break no rule.
 use Rattle.std.proofs.Common.{◌≡◌, ◌≤◌, ◌+◌, ℕ, Bool, true, false, ◌&&◌, List, [], ◌∷◌, length, refl, sym, subst, arith}
 use Rattle.std.specs.Prelude.{if◌then◌else◌, nat_le, pos, int_le, unsigned_abs, is_none, Option, Some, None, IsSome, IsSomeAnd, IfSome}
 use Rattle.std.proofs.lemmas.Bool.{both_ways, and_parts, and_from, false≢true, true≢false}
@@ -28,10 +28,10 @@ use Rattle.ec_check_initialisers.specs.Locals.{items_count}
 use Rattle.ec_check_initialisers.specs.Sites as i
 use Rattle.ec_check_initialisers.specs.Sizes.{array_size, size_of_number, size_of_operand, size_rules}
 use Rattle.ec_check_declarations.specs.Declarators.{head_of, head_rules, given_size, declared_size, declared_size_sites, object_declared}
-use Rattle.ec_check_declarations.specs.Declarators.{object_sites}
+use Rattle.ec_check_declarations.specs.Declarators.{object_sites, typed_declarator, typed_sites, sized_sites}
 use Rattle.ec_check_declarations.specs.ObjectTypes.{is_object_type, object_type, is_too_large, small_type}
 use Rattle.ec_check_declarations.specs.Sites as d
-use Rattle.ec_check_statements.specs.Laws.{KeptObjectsHaveTypes}
+use Rattle.ec_check_statements.specs.Laws.{KeptObjectsHaveTypes, KeptMembersHaveTypes}
 use Rattle.ec_check_statements.proofs.Choices.{if_both}
 use Rattle.ec_check_statements.proofs.KeptParts.{IsMeant, used_meant, conditional_meant}
 use Rattle.ec_check_statements.proofs.Unbroken.{InInitialiser, AreKept, kept_of, told_of, kept_initialiser, kept_sites}
@@ -150,33 +150,46 @@ module _ (meanings : KeptExpressionsHaveMeanings) (sizes : SizesAreValues) (k : 
         no_void misused (behind_space space (head_of s stars).qualities.space (void_rules misused [])
         (behind_stars stars (own_space_rules space (head_of s stars).qualities.space (void_rules misused [])) u))
 
-    sized_meant : (stars : List t.Star) (at : ℕ) (misused : Option ℕ) (o : Option PlainType) (rest : List d.Site)
-        → AreKept (d.on (head_rules space misused s stars)
-        ∷ d.on (record { rule = 9; broken = is_too_large k.structs (object_type (length k.structs) o); at = at } ∷ []) ∷ rest)
-        → (misused ≡ None → IsSomeAnd o IsObject) → IsSome (small_type k.structs (object_type (length k.structs) o))
-    sized_meant stars at misused o rest u g =
-        small_some (object_type (length k.structs) o) u.1.0.0 (tested_some o (g (head_unbroken misused stars u.0)))
+    tested_meant : (stars : List t.Star) (misused : Option ℕ) (o : Option PlainType) (rest : List d.Site)
+        → AreKept (d.on (head_rules space misused s stars) ∷ rest)
+        → (misused ≡ None → IsSomeAnd o IsObject) → IsSome (object_type (length k.structs) o)
+    tested_meant stars misused o rest u g = tested_some o (g (head_unbroken misused stars u.0))
 
-    -- an object's type, where its name is not followed by parameters; nothing is told at the sites behind it
+    -- the type that is declared, where the name is not followed by parameters; nothing is told at the sites behind it
+    pub typed_meant : (stars : List t.Star) (n : t.Identifier) (shape : t.Shape) (start : Option t.Start) (rest : List d.Site)
+        → AreKept (typed_sites k space s (t.declarator stars n shape) start rest)
+        → (is_function shape ≡ false → IsSome (typed_declarator k s (t.declarator stars n shape) start).ty) × AreKept rest
+    typed_meant stars n t.object start rest u = (
+      λ q. tested_meant stars (void_at s.types) (meant_type (void_at s.types) (head_of s stars).ty) rest u
+          (λ v. plain_object (meant_type (void_at s.types) (head_of s stars).ty) (base_meant stars v)),
+      u.1,
+    )
+    typed_meant stars n (t.array l size r) start rest u =
+        let a = size_meant size start l.index _ u in (
+          λ q. tested_meant stars (void_at s.types) (with_both (meant_type (void_at s.types) (head_of s stars).ty)
+              (declared_size k size start) (λ ty n. Some (array ty n))) rest a.1
+              (λ v. array_object (meant_type (void_at s.types) (head_of s stars).ty) (declared_size k size start) (base_meant stars v) a.0),
+          a.1.1,
+        )
+    typed_meant stars n (t.function_shape l ps r) start rest u = (λ q. absurd (true≢false q), u.1)
+
+    -- so the type of an object
     pub object_meant : (stars : List t.Star) (n : t.Identifier) (shape : t.Shape) (start : Option t.Start) (rest : List d.Site)
         → AreKept (object_sites k space s (t.declarator stars n shape) start rest)
         → (is_function shape ≡ false → IsSome (object_declared k s (t.declarator stars n shape) start).ty) × AreKept rest
-    object_meant stars (t.identifier at name) t.object start rest u = (
-      λ q. sized_meant stars at.index (void_at s.types) (meant_type (void_at s.types) (head_of s stars).ty) rest u
-          (λ v. plain_object (meant_type (void_at s.types) (head_of s stars).ty) (base_meant stars v)),
-      u.1.1,
-    )
-    object_meant stars (t.identifier at name) (t.array l size r) start rest u =
-        let a = size_meant size start l.index _ u in (
-          λ q. sized_meant stars at.index (void_at s.types) (with_both (meant_type (void_at s.types) (head_of s stars).ty)
-              (declared_size k size start) (λ ty n. Some (array ty n))) rest a.1
-              (λ v. array_object (meant_type (void_at s.types) (head_of s stars).ty) (declared_size k size start) (base_meant stars v) a.0),
-          a.1.1.1,
-        )
-    object_meant stars (t.identifier at name) (t.function_shape l ps r) start rest u = (λ q. absurd (true≢false q), u.1.1)
+    object_meant stars (t.identifier at name) shape start rest u =
+        let o = typed_declarator k s (t.declarator stars (t.identifier at name) shape) start in
+        let a = typed_meant stars (t.identifier at name) shape start (sized_sites k.structs o at.index rest) u in
+        (λ q. small_some o.ty a.1.0.0 (a.0 q), a.1.1)
 
 pub kept_objects_have_types : KeptExpressionsHaveMeanings → SizesAreValues → KeptTypesAreSaid → KeptObjectsHaveTypes
 kept_objects_have_types meanings sizes said k store space ss js stars n shape start rest h kept function q =
     let a = object_meant meanings sizes k h said store space ss js kept stars n shape start rest
     (kept_of (object_sites k space (specified k.tags ss) (t.declarator stars n shape) start rest) q) in
+    (a.0 function, told_of rest a.1)
+
+pub kept_members_have_types : KeptExpressionsHaveMeanings → SizesAreValues → KeptTypesAreSaid → KeptMembersHaveTypes
+kept_members_have_types meanings sizes said k ss js stars n shape rest h kept function q =
+    let a = typed_meant meanings sizes k h said false false ss js kept stars n shape None rest
+    (kept_of (typed_sites k false (specified k.tags ss) (t.declarator stars n shape) None rest) q) in
     (a.0 function, told_of rest a.1)

@@ -62,6 +62,10 @@ pub kept_initialiser : (ss : List i.Site) (rest : List d.Site) → AreKept (d.in
 kept_initialiser [] rest h = (tt, h)
 kept_initialiser (s ∷ ss) rest h = let g = kept_initialiser ss rest h.1 in ((h.0, g.0), g.1)
 
+pub initialiser_kept : (ss : List i.Site) (rest : List d.Site) → InInitialiser ss → AreKept rest → AreKept (d.initialiser_in ss rest)
+initialiser_kept [] rest h k = k
+initialiser_kept (s ∷ ss) rest h k = (h.0, initialiser_kept ss rest h.1 k)
+
 pub kept_sites : (ss : List e.Site) (rest : List i.Site) → InInitialiser (i.sites_in ss rest) → InExpression ss × InInitialiser rest
 kept_sites [] rest h = (tt, h)
 kept_sites (s ∷ ss) rest h = let g = kept_sites ss rest h.1 in ((h.0, g.0), g.1)

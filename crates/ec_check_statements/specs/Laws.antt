@@ -20,7 +20,7 @@ use Rattle.ec_check_forms.specs.Validity.{IsUsable, IsPlaceType}
 use Rattle.ec_check_expressions.specs.Known.{Known}
 use Rattle.ec_check_expression_laws.specs.Laws.{AreUnbroken}
 use Rattle.ec_check_expression_laws.specs.Suits.{AreHeld, Suits, IsWholeTag, HasTypes}
-use Rattle.ec_check_declarations.specs.Declarators.{object_declared, object_sites}
+use Rattle.ec_check_declarations.specs.Declarators.{object_declared, object_sites, typed_declarator, typed_sites}
 use Rattle.ec_check_declarations.specs.Functions.{returned, result_sites}
 use Rattle.ec_check_declarations.specs.Params.{param_declared, param_sites}
 use Rattle.ec_check_declarations.specs.Scopes.{Context, Scope, known_in, made_number, inner_object, with_inner}
@@ -46,6 +46,14 @@ KeptObjectsHaveTypes =
     → AreUnbroken (specs_rules k.tags may_store ss js) → is_function shape ≡ false
     → told None (object_sites k may_have_space (specified k.tags ss) (t.declarator stars n shape) start rest) ≡ None
     → IsSome (object_declared k (specified k.tags ss) (t.declarator stars n shape) start).ty × (told None rest ≡ None)
+
+-- so has a member, whatever its bytes
+abbrev pub KeptMembersHaveTypes : Type 0
+KeptMembersHaveTypes =
+    (k : Known) (ss : t.Specs) (js : List Judgement) (stars : List t.Star) (n : t.Identifier) (shape : t.Shape)
+    (rest : List Site) → HasTypes k → AreUnbroken (specs_rules k.tags false ss js) → is_function shape ≡ false
+    → told None (typed_sites k false (specified k.tags ss) (t.declarator stars n shape) None rest) ≡ None
+    → IsSome (typed_declarator k (specified k.tags ss) (t.declarator stars n shape) None).ty × (told None rest ≡ None)
 
 -- the types that declarators give parameters and results, where tags stand for structs of a program and n are known
 pub record FunctionTypes (structs : List PlainStruct) (tags : Tags) (n : ℕ) : Type 0 where

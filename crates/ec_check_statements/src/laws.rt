@@ -1,5 +1,5 @@
 //! The laws of statements: each function proves one, and does nothing.
-ghost use Rattle.ec_check_statements.specs.Laws.{DeclaredTypesArePlaced, KeptObjectsHaveTypes, ObjectsStay};
+ghost use Rattle.ec_check_statements.specs.Laws.{DeclaredTypesArePlaced, KeptObjectsHaveTypes, KeptMembersHaveTypes, ObjectsStay};
 ghost use Rattle.ec_check_statements.specs.Laws.{FunctionTypesAreUsable, KeptFunctionsHaveTypes};
 ghost use Rattle.ec_check_statements.specs.Laws.{InnerObjectsKeepSuiting};
 ghost use Rattle.ec_check_statements.specs.Laws.{ObjectsAreAppended, ScopesEnd, BodiesAreValid};
@@ -24,10 +24,11 @@ pub fn declared_types_are_placed()
     sizes_are_values();
 }
 
-/// An object has a type where its specifiers break no rule, nothing is told at the sites of its declarator, and what is
-/// known was declared without a broken rule.
+/// An object or a member has a type where its specifiers break no rule, nothing is told at the sites of its declarator,
+/// and what is known was declared without a broken rule.
 pub fn kept_objects_have_types()
-    ensures { KeptObjectsHaveTypes }
+    ensures objects { KeptObjectsHaveTypes }
+    ensures members { KeptMembersHaveTypes }
 {
     sizes_are_values();
     kept_types_are_said();
