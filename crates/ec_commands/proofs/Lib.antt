@@ -4,5 +4,6 @@ pub mod Files
 pub mod Named
 -- For this crate alone.
 mod Lines
+mod Rows
 mod Outs
 mod RunParts

@@ -10,7 +10,7 @@ use Rattle.ec_io.specs.Causes.{Counted}
 use Rattle.ec_io.specs.Disk.{Files}
 use Rattle.ec_io.specs.Views.{StoreView}
 use Rattle.ec_io.proofs.Counting.{counted_more}
-use Rattle.ec_commands.specs.Shown.{IsWithin, IsPast, KeepsAll, Told}
+use Rattle.ec_commands.specs.Shown.{IsUnread, IsWithin, IsPast, KeepsAll, Told}
 use Rattle.ec_commands.specs.Sources.{HoldTexts, AreWithin, StopsReadingSources}
 use Rattle.ec_commands.specs.declared.stop.Limit.TheVariants.{SourceBytes}
 use Rattle.ec_commands.specs.declared.stop.CommandError.{CommandError}
@@ -87,6 +87,11 @@ came_more a b c sources text (n, (fits, counted)) then small =
 
 -- ---- files that were read before
 
+-- a file that was not read, behind what was
+pub unread_behind : (name : List ℕ) (old mid new : StoreView) → old.read_faults ≤ mid.read_faults → IsUnread name mid new
+    → IsUnread name old new
+unread_behind name old mid new later h = record { rose = omega (arith, h.rose, later); missed = h.missed }
+
 -- sources that were not read, behind a file that was
 pub stops_behind : (words : Words) (first : ℕ) (P Q R : Files → Type 0) (a b n : ℕ) (old mid new : StoreView) (stop : CommandError)
     → KeepsAll old.disk mid.disk → Told P old.disk → ((files : Files) → P files → Q files → R files) → old.read_faults ≤ mid.read_faults
@@ -94,7 +99,7 @@ pub stops_behind : (words : Words) (first : ℕ) (P Q R : Files → Type 0) (a b
     → StopsReadingSources words first Q b mid new stop → StopsReadingSources words first R (a + b) old new stop
 stops_behind words first P Q R a b n old mid new (CannotRead i) kept told both later came fits h = (
   h.0,
-  omega (arith, h.1, later),
+  unread_behind (word words i) old mid new later h.1,
   told_both P (λ files. Q files × AreWithin words first i files)
       (λ files. R files × AreWithin words first i files) old.disk mid.disk kept told h.2
       (λ files p q. (both files p q.0, q.1)),

@@ -44,15 +44,16 @@ not_past (Some bytes) text most here fits past =
     let same : bytes ≡ text = cc in
     omega (arith, fits, past, ap (λ (b : List ℕ). length b) same)
 
-no_reading_stop : (words : Words) (disk : Disk) (read written received : ℕ) (new : StoreView) (stop : CommandError)
+no_reading_stop : (words : Words) (disk : Disk) (read written received : ℕ) (missed : Option (List ℕ)) (new : StoreView) (stop : CommandError)
     → AcceptsRun words disk.files → ¬ (Rose read new.read_faults)
-    → StopsReadingInputs words (store_view (Some disk) read written received) new stop → ⊥
-no_reading_stop words disk read written received new (CannotRead i) accepted calm h = calm h.0
-no_reading_stop words disk read written received new (TooMany HexBytes) accepted calm h =
+    → StopsReadingInputs words (store_view (Some disk) read written received missed) new stop → ⊥
+no_reading_stop words disk read written received missed new (CannotRead i) accepted calm (inl h) = calm h.1.rose
+no_reading_stop words disk read written received missed new (CannotRead i) accepted calm (inr h) = calm h.1.rose
+no_reading_stop words disk read written received missed new (TooMany HexBytes) accepted calm h =
     not_past (get disk.files (hex_name words)) accepted.text 1048576 accepted.hex accepted.hex_fits h.0
-no_reading_stop words disk read written received new (TooMany ScriptBytes) accepted calm h =
+no_reading_stop words disk read written received missed new (TooMany ScriptBytes) accepted calm h =
     not_past (get disk.files (script_name words)) accepted.lines 65536 accepted.script accepted.script_fits h.0.1
-no_reading_stop words disk read written received new _ accepted calm h = h
+no_reading_stop words disk read written received missed new _ accepted calm h = h
 
 pub not_broken : (forms : List Form) (line rule : ℕ) → AreKept forms → BreaksAt forms line rule → ⊥
 not_broken forms line rule kept breaks = let e = sym (kept breaks.n breaks.form breaks.at) ∙ breaks.breaks in cc
@@ -80,13 +81,13 @@ shown_stop old new ends.StepsOut trace _ h = absurd h
 shown_stop old new (ends.Fault kind pc) trace (Fault k p) h = inr (inr (inl refl))
 shown_stop old new (ends.Fault kind pc) trace _ h = absurd h
 
-left_loading : (words : Words) (disk : Disk) (read written received : ℕ) (new : StoreView) (stop : CommandError)
+left_loading : (words : Words) (disk : Disk) (read written received : ℕ) (missed : Option (List ℕ)) (new : StoreView) (stop : CommandError)
     → AcceptsRun words disk.files → ¬ (Rose read new.read_faults)
-    → StopsLoading words (store_view (Some disk) read written received) new stop → IsLeft (status_of stop)
-left_loading words disk read written received new stop accepted calm (inl e) = inl (ap status_of e)
-left_loading words disk read written received new stop accepted calm (inr (inl h)) =
-    absurd (no_reading_stop words disk read written received new stop accepted calm h)
-left_loading words disk read written received new stop accepted calm (inr (inr h)) =
+    → StopsLoading words (store_view (Some disk) read written received missed) new stop → IsLeft (status_of stop)
+left_loading words disk read written received missed new stop accepted calm (inl e) = inl (ap status_of e)
+left_loading words disk read written received missed new stop accepted calm (inr (inl h)) =
+    absurd (no_reading_stop words disk read written received missed new stop accepted calm h)
+left_loading words disk read written received missed new stop accepted calm (inr (inr h)) =
     absurd
     (no_text_fault words disk h.0 h.1 stop accepted (one_text (get disk.files (hex_name words)) h.0 accepted.text h.2.0.hex accepted.hex)
     (one_text (get disk.files (script_name words)) h.1 accepted.lines h.2.0.script accepted.script) h.2.1)
@@ -99,12 +100,12 @@ left_running words steps fill hooks disk out stop calm h = elim (shown_stop out.
   | inr left ↦ left
 ]
 
-pub left_of : (words : Words) (steps fill : ℕ) (hooks : Gives) (disk : Option Disk) (read written received : ℕ) (new : StoreView)
+pub left_of : (words : Words) (steps fill : ℕ) (hooks : Gives) (disk : Option Disk) (read written received : ℕ) (missed : Option (List ℕ)) (new : StoreView)
     (out : SinkCall) (stop : CommandError) → CanRun words disk
     → ¬ (Rose read new.read_faults) → ¬ (Rose out.faults_before out.faults_after)
-    → RunStops words steps fill hooks (store_view disk read written received) new out stop → IsLeft (status_of stop)
-left_of words steps fill hooks None read written received new out stop accepted calm out_calm h = absurd accepted
-left_of words steps fill hooks (Some disk) read written received new out stop accepted calm out_calm (inl h) =
-    left_loading words disk read written received new stop accepted calm h.0
-left_of words steps fill hooks (Some disk) read written received new out stop accepted calm out_calm (inr h) =
+    → RunStops words steps fill hooks (store_view disk read written received missed) new out stop → IsLeft (status_of stop)
+left_of words steps fill hooks None read written received missed new out stop accepted calm out_calm h = absurd accepted
+left_of words steps fill hooks (Some disk) read written received missed new out stop accepted calm out_calm (inl h) =
+    left_loading words disk read written received missed new stop accepted calm h.0
+left_of words steps fill hooks (Some disk) read written received missed new out stop accepted calm out_calm (inr h) =
     left_running words steps fill hooks (Some disk) out stop out_calm h

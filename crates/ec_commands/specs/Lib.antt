@@ -1,5 +1,6 @@
 pub mod Stops
 pub mod Words
+pub mod Command
 pub mod Lines
 pub mod Tells
 pub mod Shown

@@ -29,7 +29,7 @@ use Rattle.ec_emu.specs.Scripted.{IsScripted}
 use Rattle.ec_commands.specs.declared.stop.Limit.TheVariants.{HexBytes, ScriptBytes}
 use Rattle.ec_commands.specs.declared.stop.CommandError.{CommandError}
 use Rattle.ec_commands.specs.declared.stop.CommandError.TheVariants as stops
-use Rattle.ec_commands.specs.Shown.{Told, IsWithin, IsPast}
+use Rattle.ec_commands.specs.Shown.{Told, IsWithin, IsPast, IsUnread}
 use Rattle.ec_commands.specs.Tells.{WritesPrefix}
 use Rattle.ec_commands.specs.Words.{Words, hex_name, script_name}
 
@@ -126,7 +126,8 @@ Fits words steps fill hooks disk room =
 -- why the files are not read
 abbrev pub StopsReadingInputs : Words → StoreView → StoreView → CommandError → Type 0
 StopsReadingInputs words old new (stops.CannotRead i) =
-    Rose old.read_faults new.read_faults × ((i ≡ 1) ⊎ ((i ≡ 2) × Told (IsWithin (hex_name words) 1048576) old.disk))
+    ((i ≡ 1) × IsUnread (hex_name words) old new)
+    ⊎ ((i ≡ 2) × IsUnread (script_name words) old new × Told (IsWithin (hex_name words) 1048576) old.disk)
 StopsReadingInputs words old new (stops.TooMany HexBytes) =
     Told (IsPast (hex_name words) 1048576) old.disk × Counted old.received new.received (1048576 + 1)
 StopsReadingInputs words old new (stops.TooMany ScriptBytes) =

@@ -3,7 +3,7 @@ use Rattle.std.specs.Prelude.{ℕ, ◌+◌, ◌≤◌, ◌<◌, ◌≡◌, ◌�
 use Rattle.std.specs.Prelude.{MatchResult, ⊤}
 use Rattle.std.specs.FinMap.{get, remove}
 use Rattle.ec_io.specs.Causes.{Rose, Counted}
-use Rattle.ec_io.specs.Disk.{Files, Disk, content}
+use Rattle.ec_io.specs.Disk.{Files, Disk, content, known_name}
 use Rattle.ec_io.specs.Views.{StoreView}
 use Rattle.ec_commands.specs.Words.{Words, word}
 use Rattle.ec_commands.specs.declared.stop.Limit.{Limit}
@@ -42,9 +42,14 @@ WritesFile name (Some old) new r text =
     MatchResult r (λ _. IsSomeAnd new (Holds name text old))
     (λ _. IsSomeAnd new (λ now. (now.files ≡ old.files) ⊎ ((n : ℕ) × Holds name (take n text) old now)))
 
+-- a file was not read: opening or reading it failed, and no other file failed later
+pub record IsUnread (name : List ℕ) (old new : StoreView) : Type 0 where
+  pub rose : Rose old.read_faults new.read_faults
+  pub missed : new.missed ≡ Some (known_name name)
+
 -- why a file was not read
 abbrev pub StopsReading : Words → ℕ → Limit → StoreView → StoreView → CommandError → Type 0
-StopsReading words i limit old new (CannotRead j) = (j ≡ i) × Rose old.read_faults new.read_faults
+StopsReading words i limit old new (CannotRead j) = (j ≡ i) × IsUnread (word words i) old new
 StopsReading words i limit old new (TooMany passed) =
     (passed ≡ limit) × Told (IsPast (word words i) (most_of limit)) old.disk
     × Counted old.received new.received (most_of limit + 1)

@@ -3,11 +3,11 @@ use Rattle.std.specs.Prelude.{ℕ, ◌+◌, ◌-◌, ◌*◌, ◌≤◌, ◌<◌
 use Rattle.std.specs.List.{AllZip}
 use Rattle.std.specs.FinMap.{get}
 use Rattle.ec_space.specs.Listed.{Listed}
-use Rattle.ec_io.specs.Causes.{Rose, Counted}
+use Rattle.ec_io.specs.Causes.{Counted}
 use Rattle.ec_io.specs.Disk.{Files}
 use Rattle.ec_io.specs.Views.{StoreView}
 use Rattle.ec_commands.specs.Words.{Words, word, words_from, names_from}
-use Rattle.ec_commands.specs.Shown.{Told, IsWithin, IsPast}
+use Rattle.ec_commands.specs.Shown.{Told, IsWithin, IsPast, IsUnread}
 use Rattle.ec_commands.specs.declared.stop.Limit.TheVariants.{SourceBytes}
 use Rattle.ec_commands.specs.declared.stop.CommandError.{CommandError}
 use Rattle.ec_commands.specs.declared.stop.CommandError.TheVariants.{CannotRead, TooMany, NoMemory}
@@ -39,7 +39,7 @@ pub record IsSourceWord (words : Words) (first i : ℕ) : Type 0 where
 -- one, or one past its limit, and those before it are within theirs
 abbrev pub StopsReadingSources : Words → ℕ → (Files → Type 0) → ℕ → StoreView → StoreView → CommandError → Type 0
 StopsReadingSources words first P most old new (CannotRead i) =
-    IsSourceWord words first i × Rose old.read_faults new.read_faults
+    IsSourceWord words first i × IsUnread (word words i) old new
     × Told (λ files. P files × AreWithin words first i files) old.disk
 StopsReadingSources words first P most old new (TooMany SourceBytes) =
     (i : ℕ) × (IsSourceWord words first i

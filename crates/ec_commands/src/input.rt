@@ -21,12 +21,12 @@ pub fn read<S: Store>(
     requires { i < length words.now.items }
     ensures files { KeepsAll (S.disk store.old) (S.disk store.new) }
     ensures found { IfOk result (λ seq. Reads words.now.items i limit
-        (store_view (S.disk store.old) (S.read_faults store.old) (S.write_faults store.old) (S.received store.old))
+        (store_view (S.disk store.old) (S.read_faults store.old) (S.write_faults store.old) (S.received store.old) (S.missed store.old))
         (store_view (S.disk store.new) (S.read_faults store.new) (S.write_faults store.new)
-        (S.received store.new)) seq.items) }
+        (S.received store.new) (S.missed store.new)) seq.items) }
     ensures stopped { IfErr result (StopsReading words.now.items i limit
-        (store_view (S.disk store.old) (S.read_faults store.old) (S.write_faults store.old) (S.received store.old))
-        (store_view (S.disk store.new) (S.read_faults store.new) (S.write_faults store.new) (S.received store.new))) }
+        (store_view (S.disk store.old) (S.read_faults store.old) (S.write_faults store.old) (S.received store.old) (S.missed store.old))
+        (store_view (S.disk store.new) (S.read_faults store.new) (S.write_faults store.new) (S.received store.new) (S.missed store.new))) }
     ensures later { S.read_faults store.old ≤ S.read_faults store.new }
     ensures write_faults { S.write_faults store.new ≡ S.write_faults store.old }
     ensures writing { S.writing store.new ≡ S.writing store.old }

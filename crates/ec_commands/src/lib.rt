@@ -5,6 +5,7 @@
 mod answer;
 mod counting;
 mod input;
+mod laws;
 mod line;
 mod load;
 mod output;
@@ -16,12 +17,11 @@ mod words;
 pub use answer::conclude;
 pub use counting::print_counts;
 pub use input::read;
+pub use laws::rows_are_commands;
 pub use line::{Part, tell, write_line};
 pub use load::{Loaded, load_script};
 pub use output::write_file;
 pub use running::{print_run, run};
 pub use sources::read_sources;
 pub use stop::{CommandError, Limit, status};
-pub use words::{
-    Compiling, RunNumbers, exec_steps, first_source, gen_number, is_build, run_numbers, word_at,
-};
+pub use words::{Command, Compiling, command_of, first_source, is_build, word_at};

@@ -43,9 +43,9 @@ fn read_inputs<S: Store>(
     ensures files { KeepsAll (S.disk store.old) (S.disk store.new) }
     ensures found { IfOk result (λ r. AreInputs words.now.items (S.disk store.old) r.hex.items r.script.items) }
     ensures stopped { IfErr result (λ stop. (stop ≡ CommandError.NoMemory) ⊎ StopsReadingInputs words.now.items
-        (store_view (S.disk store.old) (S.read_faults store.old) (S.write_faults store.old) (S.received store.old))
+        (store_view (S.disk store.old) (S.read_faults store.old) (S.write_faults store.old) (S.received store.old) (S.missed store.old))
         (store_view (S.disk store.new) (S.read_faults store.new) (S.write_faults store.new)
-        (S.received store.new)) stop) }
+        (S.received store.new) (S.missed store.new)) stop) }
     ensures later { S.read_faults store.old ≤ S.read_faults store.new }
     ensures write_faults { S.write_faults store.new ≡ S.write_faults store.old }
     ensures calm { (made : List ℕ) (room : ℕ)
@@ -119,8 +119,8 @@ pub fn load<S: Store>(
     ensures found { IfOk result (λ r. (text lines : List ℕ) × (AreInputs words.now.items (S.disk store.old) text lines
         × IsLoaded fill text lines r.machine r.script.lines.items)) }
     ensures stopped { IfErr result (StopsLoading words.now.items
-        (store_view (S.disk store.old) (S.read_faults store.old) (S.write_faults store.old) (S.received store.old))
-        (store_view (S.disk store.new) (S.read_faults store.new) (S.write_faults store.new) (S.received store.new))) }
+        (store_view (S.disk store.old) (S.read_faults store.old) (S.write_faults store.old) (S.received store.old) (S.missed store.old))
+        (store_view (S.disk store.new) (S.read_faults store.new) (S.write_faults store.new) (S.received store.new) (S.missed store.new))) }
     ensures later { S.read_faults store.old ≤ S.read_faults store.new }
     ensures write_faults { S.write_faults store.new ≡ S.write_faults store.old }
     ensures calm { (made : List ℕ) (room : ℕ)

@@ -14,7 +14,6 @@ ghost use Rattle.ec_commands.specs.Words.{hex_name, script_name};
 use crate::line::write_end;
 use crate::load::{Loaded, load};
 use crate::stop::CommandError;
-use crate::words::RunNumbers;
 use ec_emu::{EmuEnd, Ports, Scripted, emulate};
 use ec_io::{Sink, Store};
 use std::alloc::Global;
@@ -69,7 +68,8 @@ pub fn print_run<O: Sink, H: Ports>(
 pub fn run<S: Store, O: Sink, H: Ports>(
     alloc: Global,
     words: &Vec<String>,
-    numbers: RunNumbers,
+    steps: u32,
+    fill: u8,
     store: &mut S,
     out: &mut O,
     hooks: &mut H,
@@ -77,11 +77,11 @@ pub fn run<S: Store, O: Sink, H: Ports>(
     requires five { length words.now.items ≡ 5 }
     requires asked { H.can_ask hooks.old }
     ensures files { KeepsAll (S.disk store.old) (S.disk store.new) }
-    ensures ran { OnOk result (Ran words.now.items numbers.steps numbers.fill (H.gives hooks.old) (S.disk store.old)
+    ensures ran { OnOk result (Ran words.now.items steps fill (H.gives hooks.old) (S.disk store.old)
         (sink_call (O.written out.old) (O.written out.new) (O.faults out.old) (O.faults out.new)) None) }
-    ensures stopped { IfErr result (RunStops words.now.items numbers.steps numbers.fill (H.gives hooks.old)
-        (store_view (S.disk store.old) (S.read_faults store.old) (S.write_faults store.old) (S.received store.old))
-        (store_view (S.disk store.new) (S.read_faults store.new) (S.write_faults store.new) (S.received store.new))
+    ensures stopped { IfErr result (RunStops words.now.items steps fill (H.gives hooks.old)
+        (store_view (S.disk store.old) (S.read_faults store.old) (S.write_faults store.old) (S.received store.old) (S.missed store.old))
+        (store_view (S.disk store.new) (S.read_faults store.new) (S.write_faults store.new) (S.received store.new) (S.missed store.new))
         (sink_call (O.written out.old) (O.written out.new) (O.faults out.old) (O.faults out.new))) }
     ensures later { (S.read_faults store.old ≤ S.read_faults store.new) × (O.faults out.old ≤ O.faults out.new) }
     ensures write_faults { S.write_faults store.new ≡ S.write_faults store.old }
@@ -89,15 +89,15 @@ pub fn run<S: Store, O: Sink, H: Ports>(
         → S.calm store.old (hex_name words.now.items ∷ script_name words.now.items ∷ []) made room
         → S.read_faults store.new ≡ S.read_faults store.old }
     ensures out_calm { (room : ℕ) → O.calm out.old room
-        → Fits words.now.items numbers.steps numbers.fill (H.gives hooks.old) (S.disk store.old) room
+        → Fits words.now.items steps fill (H.gives hooks.old) (S.disk store.old) room
         → O.faults out.new ≡ O.faults out.old }
     ensures rest { O.rest out.new ≡ O.rest out.old }
     ensures can { H.can_ask hooks.new }
     ensures stays { (ask : Ask) (byte : ℕ) → H.gives hooks.new ask byte ↔ H.gives hooks.old ask byte }
 {
-    let mut loaded = match load(alloc, words, store, numbers.fill) {
+    let mut loaded = match load(alloc, words, store, fill) {
         Ok(loaded) => loaded,
         Err(stop) => return Err(stop),
     };
-    print_run(&mut loaded, hooks, numbers.steps, out)
+    print_run(&mut loaded, hooks, steps, out)
 }

@@ -24,12 +24,12 @@ fn read_next<S: Store>(
     ensures files { KeepsAll (S.disk store.old) (S.disk store.new) }
     ensures found { OnOk result ((text : List ℕ) × ((texts sources.new.items ≡ texts sources.old.items ++ text ∷ [])
         × Reads words.now.items i SourceBytes
-        (store_view (S.disk store.old) (S.read_faults store.old) (S.write_faults store.old) (S.received store.old))
-        (store_view (S.disk store.new) (S.read_faults store.new) (S.write_faults store.new) (S.received store.new))
+        (store_view (S.disk store.old) (S.read_faults store.old) (S.write_faults store.old) (S.received store.old) (S.missed store.old))
+        (store_view (S.disk store.new) (S.read_faults store.new) (S.write_faults store.new) (S.received store.new) (S.missed store.new))
         text)) }
     ensures stopped { IfErr result (StopsReading words.now.items i SourceBytes
-        (store_view (S.disk store.old) (S.read_faults store.old) (S.write_faults store.old) (S.received store.old))
-        (store_view (S.disk store.new) (S.read_faults store.new) (S.write_faults store.new) (S.received store.new))) }
+        (store_view (S.disk store.old) (S.read_faults store.old) (S.write_faults store.old) (S.received store.old) (S.missed store.old))
+        (store_view (S.disk store.new) (S.read_faults store.new) (S.write_faults store.new) (S.received store.new) (S.missed store.new))) }
     ensures later { S.read_faults store.old ≤ S.read_faults store.new }
     ensures write_faults { S.write_faults store.new ≡ S.write_faults store.old }
     ensures writing { S.writing store.new ≡ S.writing store.old }
@@ -57,11 +57,11 @@ pub fn read_sources<S: Store>(
     requires { first ≤ length words.now.items }
     ensures files { KeepsAll (S.disk store.old) (S.disk store.new) }
     ensures found { IfOk result (λ seq. ReadsSources words.now.items first
-        (store_view (S.disk store.old) (S.read_faults store.old) (S.write_faults store.old) (S.received store.old))
+        (store_view (S.disk store.old) (S.read_faults store.old) (S.write_faults store.old) (S.received store.old) (S.missed store.old))
         (texts seq.items)) }
     ensures stopped { IfErr result (StopsReadingSources words.now.items first (λ _. ⊤) 0
-        (store_view (S.disk store.old) (S.read_faults store.old) (S.write_faults store.old) (S.received store.old))
-        (store_view (S.disk store.new) (S.read_faults store.new) (S.write_faults store.new) (S.received store.new))) }
+        (store_view (S.disk store.old) (S.read_faults store.old) (S.write_faults store.old) (S.received store.old) (S.missed store.old))
+        (store_view (S.disk store.new) (S.read_faults store.new) (S.write_faults store.new) (S.received store.new) (S.missed store.new))) }
     ensures later { S.read_faults store.old ≤ S.read_faults store.new }
     ensures write_faults { S.write_faults store.new ≡ S.write_faults store.old }
     ensures writing { S.writing store.new ≡ S.writing store.old }

@@ -1,8 +1,22 @@
 //! The words of a command line.
-ghost use Rattle.std.specs.Prelude.{◌≡◌};
-ghost use Rattle.ec_commands.specs.Words.{first_source};
-ghost use Rattle.std.specs.Prelude.{◌<◌, ◌≤◌, ℕ, true, false, length, IfSome, IfNone};
-ghost use Rattle.ec_commands.specs.Words.{is_build as is_build_row, word, IsNumber, IsRun, IsExecRow, IsGen};
+ghost use Rattle.std.specs.Prelude.{◌≡◌, ◌<◌, ◌≤◌, ℕ, true, false, length, IfSome, IfNone};
+ghost use Rattle.ec_commands.specs.Command.{command_of, IsRowOf};
+ghost use Rattle.ec_commands.specs.Words.{first_source, is_build as is_build_row, word, IsNumber, IsRun, IsExecRow, IsGen};
+
+/// What a row of words is.
+#[derive(Clone, Copy, Debug, PartialEq, Eq)]
+pub enum Command {
+    /// `build MAP OUT SRC...`
+    Build,
+    /// `run HEX SCRIPT STEPS FILL`
+    Run { steps: u32, fill: u8 },
+    /// `exec MAP SCRIPT STEPS SRC...`
+    Exec { steps: u32 },
+    /// `gen N`
+    Gen { n: u16 },
+    /// Any other words.
+    NoCommand,
+}
 
 /// A command that compiles the sources that its last words name.
 #[derive(Clone, Copy)]
@@ -21,13 +35,6 @@ pub fn first_source(command: Compiling) -> usize
         Compiling::Build => 3,
         Compiling::Exec => 4,
     }
-}
-
-/// The steps that a run makes at most, and the byte that its registers and its memory hold at first.
-#[derive(Clone, Copy)]
-pub struct RunNumbers {
-    pub steps: u32,
-    pub fill: u8,
 }
 
 /// Whether the words are `build MAP OUT SRC...`.
@@ -59,9 +66,9 @@ fn number(digits: &str, most: u32) -> Option<u32>
     }
 }
 
-/// The numbers of `run HEX SCRIPT STEPS FILL`, if the words are such.
-pub fn run_numbers(words: &Vec<String>) -> Option<RunNumbers>
-    ensures some { IfSome result (λ r. IsRun words.now.items r.steps r.fill) }
+/// STEPS and FILL of `run HEX SCRIPT STEPS FILL`, if the words are such.
+fn run_numbers(words: &Vec<String>) -> Option<(u32, u8)>
+    ensures some { IfSome result (λ r. IsRun words.now.items r.0 r.1) }
     ensures none { IfNone result ((steps fill : ℕ) → ¬ (IsRun words.now.items steps fill)) }
 {
     if words.len() != 5 || words[0].as_str() != "run" {
@@ -69,14 +76,11 @@ pub fn run_numbers(words: &Vec<String>) -> Option<RunNumbers>
     }
     let steps = number(word_at(words, 3), u32::MAX)?;
     let fill = number(word_at(words, 4), 255)?;
-    Some(RunNumbers {
-        steps,
-        fill: fill as u8,
-    })
+    Some((steps, fill as u8))
 }
 
-/// The steps of `exec MAP SCRIPT STEPS SRC...`, if the words are such.
-pub fn exec_steps(words: &Vec<String>) -> Option<u32>
+/// STEPS of `exec MAP SCRIPT STEPS SRC...`, if the words are such.
+fn exec_steps(words: &Vec<String>) -> Option<u32>
     ensures some { IfSome result (IsExecRow words.now.items) }
     ensures none { IfNone result ((steps : ℕ) → ¬ (IsExecRow words.now.items steps)) }
 {
@@ -87,7 +91,7 @@ pub fn exec_steps(words: &Vec<String>) -> Option<u32>
 }
 
 /// The number of `gen N`, from 1 to 2,000, if the words are such.
-pub fn gen_number(words: &Vec<String>) -> Option<u16>
+fn gen_number(words: &Vec<String>) -> Option<u16>
     ensures some { IfSome result (IsGen words.now.items) }
     ensures none { IfNone result ((n : ℕ) → ¬ (IsGen words.now.items n)) }
 {
@@ -96,4 +100,24 @@ pub fn gen_number(words: &Vec<String>) -> Option<u16>
     }
     let n = number(word_at(words, 1), 2_000)?;
     if n == 0 { None } else { Some(n as u16) }
+}
+
+/// The command that the words are.
+pub fn command_of(words: &Vec<String>) -> Command
+    ensures value { result ≡ command_of words.now.items }
+    ensures row { IsRowOf result words.now.items }
+{
+    if is_build(words) {
+        return Command::Build;
+    }
+    if let Some((steps, fill)) = run_numbers(words) {
+        return Command::Run { steps, fill };
+    }
+    if let Some(steps) = exec_steps(words) {
+        return Command::Exec { steps };
+    }
+    if let Some(n) = gen_number(words) {
+        return Command::Gen { n };
+    }
+    Command::NoCommand
 }

@@ -52,36 +52,36 @@ inputs_same words first a b s t files h k = (
 
 -- ---- no stop where the files are accepted
 
-pub no_map_stop : (words : Words) (first : ℕ) (map : List ℕ) (sources : List (List ℕ)) (disk : Disk) (read written received : ℕ)
+pub no_map_stop : (words : Words) (first : ℕ) (map : List ℕ) (sources : List (List ℕ)) (disk : Disk) (read written received : ℕ) (missed : Option (List ℕ))
     (new : StoreView) (stop : CommandError)
     → AreInputs words first map sources disk.files → ¬ (Rose read new.read_faults)
-    → StopsReading words 1 MapBytes (store_view (Some disk) read written received) new stop → commands.status_of stop ≡ 11
-no_map_stop words first map sources disk read written received new (CannotRead i) inputs calm h = absurd (calm h.1)
-no_map_stop words first map sources disk read written received new (TooMany limit) inputs calm h =
+    → StopsReading words 1 MapBytes (store_view (Some disk) read written received missed) new stop → commands.status_of stop ≡ 11
+no_map_stop words first map sources disk read written received missed new (CannotRead i) inputs calm h = absurd (calm h.1.rose)
+no_map_stop words first map sources disk read written received missed new (TooMany limit) inputs calm h =
     absurd (not_past disk.files (word words 1) 16384 (within_here disk.files (word words 1) map 16384 inputs.map_there inputs.map_fits) h.1)
-no_map_stop words first map sources disk read written received new NoMemory inputs calm h = refl
-no_map_stop words first map sources disk read written received new _ inputs calm h = absurd h
+no_map_stop words first map sources disk read written received missed new NoMemory inputs calm h = refl
+no_map_stop words first map sources disk read written received missed new _ inputs calm h = absurd h
 
 pub no_source_stop : (words : Words) (first : ℕ) (P : Files → Type 0) (most : ℕ) (map : List ℕ) (sources : List (List ℕ)) (disk : Disk)
-    (read written received : ℕ) (new : StoreView) (stop : CommandError)
+    (read written received : ℕ) (missed : Option (List ℕ)) (new : StoreView) (stop : CommandError)
     → AreInputs words first map sources disk.files → ¬ (Rose read new.read_faults)
-    → StopsReadingSources words first P most (store_view (Some disk) read written received) new stop → commands.status_of stop ≡ 11
-no_source_stop words first P most map sources disk read written received new (CannotRead i) inputs calm h = absurd (calm h.1)
-no_source_stop words first P most map sources disk read written received new (TooMany SourceBytes) inputs calm h =
+    → StopsReadingSources words first P most (store_view (Some disk) read written received missed) new stop → commands.status_of stop ≡ 11
+no_source_stop words first P most map sources disk read written received missed new (CannotRead i) inputs calm h = absurd (calm h.1.rose)
+no_source_stop words first P most map sources disk read written received missed new (TooMany SourceBytes) inputs calm h =
     absurd (not_past disk.files (word words h.0) 65536
     (sources_within words first h.0 sources disk.files h.1.0.after h.1.0.there inputs.sources_there inputs.sources_fit) h.1.1.2)
-no_source_stop words first P most map sources disk read written received new NoMemory inputs calm h = refl
-no_source_stop words first P most map sources disk read written received new _ inputs calm h = absurd h
+no_source_stop words first P most map sources disk read written received missed new NoMemory inputs calm h = refl
+no_source_stop words first P most map sources disk read written received missed new _ inputs calm h = absurd h
 
-pub no_reading_stop : (words : Words) (disk : Option Disk) (read written received : ℕ) (new : StoreView) (stop : CommandError)
+pub no_reading_stop : (words : Words) (disk : Option Disk) (read written received : ℕ) (missed : Option (List ℕ)) (new : StoreView) (stop : CommandError)
     → Accepts words 3 disk
-    → ¬ (Rose read new.read_faults) → StopsReadingBuild words (store_view disk read written received) new stop → commands.status_of stop
+    → ¬ (Rose read new.read_faults) → StopsReadingBuild words (store_view disk read written received missed) new stop → commands.status_of stop
     ≡ 11
-no_reading_stop words None read written received new stop accepted calm h = absurd accepted
-no_reading_stop words (Some disk) read written received new stop accepted calm (inl h) =
-    no_map_stop words 3 accepted.map accepted.sources disk read written received new stop accepted.inputs calm h
-no_reading_stop words (Some disk) read written received new stop accepted calm (inr h) =
-    no_source_stop words 3 (HasMap words) 16384 accepted.map accepted.sources disk read written received new stop accepted.inputs calm h
+no_reading_stop words None read written received missed new stop accepted calm h = absurd accepted
+no_reading_stop words (Some disk) read written received missed new stop accepted calm (inl h) =
+    no_map_stop words 3 accepted.map accepted.sources disk read written received missed new stop accepted.inputs calm h
+no_reading_stop words (Some disk) read written received missed new stop accepted calm (inr h) =
+    no_source_stop words 3 (HasMap words) 16384 accepted.map accepted.sources disk read written received missed new stop accepted.inputs calm h
 
 -- what was read is accepted, where the files are
 pub read_accepted : (words : Words) (first : ℕ) (disk : Option Disk) (map : List ℕ) (sources : List (List ℕ)) → Accepts words first disk

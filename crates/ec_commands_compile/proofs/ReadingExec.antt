@@ -18,7 +18,7 @@ use Rattle.ec_commands.specs.declared.stop.Limit.TheVariants.{ScriptBytes, Sourc
 use Rattle.ec_commands.specs.declared.stop.CommandError.{CommandError}
 use Rattle.ec_commands.specs.declared.stop.CommandError.TheVariants.{CannotRead, TooMany, NoMemory, ScriptLine}
 use Rattle.ec_commands.proofs.Files.{told_both, told_on}
-use Rattle.ec_commands.proofs.Named.{not_past}
+use Rattle.ec_commands.proofs.Named.{not_past, unread_behind}
 use Rattle.ec_commands.proofs.RunComplete.{not_broken}
 use Rattle.ec_build.specs.declared.building.Built.{Built}
 use Rattle.ec_commands_compile.specs.Inputs.{AreExecInputs, HasMap, HasScript, StopsReadingScript, StopsReadingExec}
@@ -68,7 +68,7 @@ pub script_behind : (words : Words) (map : List ℕ) (old mid new : StoreView) (
     → Counted old.received mid.received (length map) → StopsReading words 2 ScriptBytes mid new stop → StopsReadingScript words old new stop
 script_behind words map old mid new (CannotRead i) kept there fits later came h = (
   h.0,
-  omega (arith, h.1, later),
+  unread_behind (script_name words) old mid new later h.1,
   told_on (λ files. get files (word words 1) ≡ Some map) (HasMap words) old.disk there
       (λ files m. within_here files (word words 1) map 16384 m fits),
 )
@@ -117,29 +117,29 @@ before_run words old new _ few h = (few, h)
 
 -- ---- no stop where the files are accepted
 
-no_script_stop : (words : Words) (map lines : List ℕ) (sources : List (List ℕ)) (disk : Disk) (read written received : ℕ) (new : StoreView)
+no_script_stop : (words : Words) (map lines : List ℕ) (sources : List (List ℕ)) (disk : Disk) (read written received : ℕ) (missed : Option (List ℕ)) (new : StoreView)
     (stop : CommandError)
     → AreExecInputs words map lines sources disk.files → ¬ (Rose read new.read_faults)
-    → StopsReadingScript words (store_view (Some disk) read written received) new stop → commands.status_of stop ≡ 11
-no_script_stop words map lines sources disk read written received new (CannotRead i) inputs calm h = absurd (calm h.1)
-no_script_stop words map lines sources disk read written received new (TooMany ScriptBytes) inputs calm h =
+    → StopsReadingScript words (store_view (Some disk) read written received missed) new stop → commands.status_of stop ≡ 11
+no_script_stop words map lines sources disk read written received missed new (CannotRead i) inputs calm h = absurd (calm h.1.rose)
+no_script_stop words map lines sources disk read written received missed new (TooMany ScriptBytes) inputs calm h =
     absurd
     (not_past disk.files (script_name words) 65536
     (within_here disk.files (script_name words) lines 65536 inputs.script_there inputs.script_fits) h.0.1)
-no_script_stop words map lines sources disk read written received new NoMemory inputs calm h = refl
-no_script_stop words map lines sources disk read written received new _ inputs calm h = absurd h
+no_script_stop words map lines sources disk read written received missed new NoMemory inputs calm h = refl
+no_script_stop words map lines sources disk read written received missed new _ inputs calm h = absurd h
 
-pub no_reading_stop : (words : Words) (disk : Option Disk) (read written received : ℕ) (new : StoreView) (stop : CommandError)
+pub no_reading_stop : (words : Words) (disk : Option Disk) (read written received : ℕ) (missed : Option (List ℕ)) (new : StoreView) (stop : CommandError)
     → AcceptsExec words disk
-    → ¬ (Rose read new.read_faults) → StopsReadingExec words (store_view disk read written received) new stop → commands.status_of stop ≡ 11
-no_reading_stop words None read written received new stop accepted calm h = absurd accepted
-no_reading_stop words (Some disk) read written received new stop accepted calm (inl h) =
-    no_map_stop words 4 accepted.build.map accepted.build.sources disk read written received new stop accepted.inputs.inputs calm h
-no_reading_stop words (Some disk) read written received new stop accepted calm (inr (inl h)) =
-    no_script_stop words accepted.build.map accepted.lines accepted.build.sources disk read written received new stop accepted.inputs calm h
-no_reading_stop words (Some disk) read written received new stop accepted calm (inr (inr h)) =
+    → ¬ (Rose read new.read_faults) → StopsReadingExec words (store_view disk read written received missed) new stop → commands.status_of stop ≡ 11
+no_reading_stop words None read written received missed new stop accepted calm h = absurd accepted
+no_reading_stop words (Some disk) read written received missed new stop accepted calm (inl h) =
+    no_map_stop words 4 accepted.build.map accepted.build.sources disk read written received missed new stop accepted.inputs.inputs calm h
+no_reading_stop words (Some disk) read written received missed new stop accepted calm (inr (inl h)) =
+    no_script_stop words accepted.build.map accepted.lines accepted.build.sources disk read written received missed new stop accepted.inputs calm h
+no_reading_stop words (Some disk) read written received missed new stop accepted calm (inr (inr h)) =
     no_source_stop words 4
-    (HasScript words) 81920 accepted.build.map accepted.build.sources disk read written received new stop accepted.inputs.inputs calm h
+    (HasScript words) 81920 accepted.build.map accepted.build.sources disk read written received missed new stop accepted.inputs.inputs calm h
 
 pub read_accepted : (words : Words) (disk : Option Disk) (map lines : List ℕ) (sources : List (List ℕ)) → AcceptsExec words disk
     → Told (AreExecInputs words map lines sources) disk → IsAccepted sources map

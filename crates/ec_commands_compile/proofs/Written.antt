@@ -21,6 +21,7 @@ built words (Some old) (Some mid) None b kept from wrote denotes = absurd wrote
 built words (Some old) (Some mid) (Some new) b kept from wrote denotes = record {
   built = b;
   from = from;
+  text = wrote.content;
   denotes = subst (λ t. Denotes b.located.image.core t b.located.image.bytes.items b.located.image.written.items)
       (sym wrote.content) denotes;
   others = wrote.others ∙ ap (λ (files : Files). remove files (out_name words)) kept;

@@ -28,11 +28,12 @@ pub record IsBuiltFrom (words : Words) (first : ℕ) (b : Built) (files : Files)
   pub inputs : AreInputs words first map sources files
   pub built : IsBuilt sources map b
 
--- OUT holds a HEX text that denotes the image of a program, which is that of the named sources, placed by the named
--- map, and which from every reset state does what they say; and all other files are as before
+-- OUT holds the HEX text of the image of a program, and no other text; it denotes that image. The program is that of the
+-- named sources, placed by the named map, and from every reset state does what they say. All other files are as before
 pub record IsBuiltTo (words : Words) (old new : Disk) : Type 0 where
   pub built : Built
   pub from : IsBuiltFrom words 3 built old.files
+  pub text : content new.files (out_name words) ≡ image_text built.located.image
   pub denotes : Denotes built.located.image.core (content new.files (out_name words)) built.located.image.bytes.items
       built.located.image.written.items
   pub others : remove new.files (out_name words) ≡ remove old.files (out_name words)

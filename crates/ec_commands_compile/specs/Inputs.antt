@@ -1,10 +1,10 @@
 -- The files that a build and an exec read, and what reading them does.
 use Rattle.std.specs.Prelude.{ℕ, ◌+◌, ◌≤◌, ◌≡◌, ◌⊎◌, List, ◌∷◌, length, All, Some, ⊤}
 use Rattle.std.specs.FinMap.{get}
-use Rattle.ec_io.specs.Causes.{Rose, Counted}
+use Rattle.ec_io.specs.Causes.{Counted}
 use Rattle.ec_io.specs.Disk.{Files}
 use Rattle.ec_io.specs.Views.{StoreView}
-use Rattle.ec_commands.specs.Shown.{Told, IsWithin, IsPast, StopsReading}
+use Rattle.ec_commands.specs.Shown.{Told, IsWithin, IsPast, IsUnread, StopsReading}
 use Rattle.ec_commands.specs.Sources.{HoldTexts, StopsReadingSources}
 use Rattle.ec_commands.specs.Words.{Words, map_name, script_name, names_from}
 use Rattle.ec_commands.specs.declared.stop.Limit.TheVariants.{MapBytes, ScriptBytes}
@@ -51,7 +51,7 @@ pub record HasScript (words : Words) (files : Files) : Type 0 where
 -- the map was read, and the script is not, or is too long
 abbrev pub StopsReadingScript : Words → StoreView → StoreView → CommandError → Type 0
 StopsReadingScript words old new (CannotRead i) =
-    (i ≡ 2) × Rose old.read_faults new.read_faults × Told (HasMap words) old.disk
+    (i ≡ 2) × IsUnread (script_name words) old new × Told (HasMap words) old.disk
 StopsReadingScript words old new (TooMany ScriptBytes) =
     Told (λ files. HasMap words files × IsPast (script_name words) 65536 files) old.disk
     × ((n : ℕ) × ((n ≤ 16384) × Counted old.received new.received (n + (65536 + 1))))

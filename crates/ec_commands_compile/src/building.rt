@@ -42,8 +42,8 @@ fn read_inputs<S: Store>(
         × All (λ text. length text ≤ 65536) (texts r.sources.items)) }
     ensures many { IfOk result (λ r. length r.sources.items ≡ words_from words.now.items 3) }
     ensures stopped { IfErr result (StopsReadingBuild words.now.items
-        (store_view (S.disk store.old) (S.read_faults store.old) (S.write_faults store.old) (S.received store.old))
-        (store_view (S.disk store.new) (S.read_faults store.new) (S.write_faults store.new) (S.received store.new))) }
+        (store_view (S.disk store.old) (S.read_faults store.old) (S.write_faults store.old) (S.received store.old) (S.missed store.old))
+        (store_view (S.disk store.new) (S.read_faults store.new) (S.write_faults store.new) (S.received store.new) (S.missed store.new))) }
     ensures later { S.read_faults store.old ≤ S.read_faults store.new }
     ensures write_faults { S.write_faults store.new ≡ S.write_faults store.old }
     ensures calm { (made : List ℕ) (room : ℕ) → S.calm store.old (build_inputs words.now.items) made room
@@ -87,8 +87,8 @@ fn read_and_build<S: Store>(
     ensures files { KeepsAll (S.disk store.old) (S.disk store.new) }
     ensures found { IfOk result (λ b. Told (IsBuiltFrom words.now.items 3 b) (S.disk store.old)) }
     ensures stopped { IfErr result (BuildStops words.now.items
-        (store_view (S.disk store.old) (S.read_faults store.old) (S.write_faults store.old) (S.received store.old))
-        (store_view (S.disk store.new) (S.read_faults store.new) (S.write_faults store.new) (S.received store.new))) }
+        (store_view (S.disk store.old) (S.read_faults store.old) (S.write_faults store.old) (S.received store.old) (S.missed store.old))
+        (store_view (S.disk store.new) (S.read_faults store.new) (S.write_faults store.new) (S.received store.new) (S.missed store.new))) }
     ensures named { IfErr result (IsNamed words.now.items) }
     ensures complete { Accepts words.now.items 3 (S.disk store.old)
         → ¬ (Rose (S.read_faults store.old) (S.read_faults store.new))
@@ -111,8 +111,8 @@ fn build_few<S: Store>(alloc: Global, words: &Vec<String>, store: &mut S) -> Res
     requires { IsBuild words.now.items }
     ensures built { OnOk result (Builds words.now.items (S.disk store.old) (S.disk store.new)) }
     ensures stopped { IfErr result (BuildStops words.now.items
-        (store_view (S.disk store.old) (S.read_faults store.old) (S.write_faults store.old) (S.received store.old))
-        (store_view (S.disk store.new) (S.read_faults store.new) (S.write_faults store.new) (S.received store.new))) }
+        (store_view (S.disk store.old) (S.read_faults store.old) (S.write_faults store.old) (S.received store.old) (S.missed store.old))
+        (store_view (S.disk store.new) (S.read_faults store.new) (S.write_faults store.new) (S.received store.new) (S.missed store.new))) }
     ensures named { IfErr result (IsNamed words.now.items) }
     ensures complete { Accepts words.now.items 3 (S.disk store.old)
         → ¬ (Rose (S.read_faults store.old) (S.read_faults store.new))
@@ -144,8 +144,8 @@ pub fn build<S: Store>(alloc: Global, words: &Vec<String>, store: &mut S) -> Res
         → IsErrOf result (Command (TooManyStop Sources)) }
     ensures built { OnOk result (Builds words.now.items (S.disk store.old) (S.disk store.new)) }
     ensures stopped { IfErr result (BuildStops words.now.items
-        (store_view (S.disk store.old) (S.read_faults store.old) (S.write_faults store.old) (S.received store.old))
-        (store_view (S.disk store.new) (S.read_faults store.new) (S.write_faults store.new) (S.received store.new))) }
+        (store_view (S.disk store.old) (S.read_faults store.old) (S.write_faults store.old) (S.received store.old) (S.missed store.old))
+        (store_view (S.disk store.new) (S.read_faults store.new) (S.write_faults store.new) (S.received store.new) (S.missed store.new))) }
     ensures named { IfErr result (IsNamed words.now.items) }
     ensures complete { IsBuild words.now.items → Accepts words.now.items 3 (S.disk store.old)
         → ¬ (Rose (S.read_faults store.old) (S.read_faults store.new))

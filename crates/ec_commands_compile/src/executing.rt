@@ -53,8 +53,8 @@ fn read_inputs<S: Store>(
         × All (λ text. length text ≤ 65536) (texts r.inputs.sources.items)) }
     ensures many { IfOk result (λ r. length r.inputs.sources.items ≡ words_from words.now.items 4) }
     ensures stopped { IfErr result (StopsReadingExec words.now.items
-        (store_view (S.disk store.old) (S.read_faults store.old) (S.write_faults store.old) (S.received store.old))
-        (store_view (S.disk store.new) (S.read_faults store.new) (S.write_faults store.new) (S.received store.new))) }
+        (store_view (S.disk store.old) (S.read_faults store.old) (S.write_faults store.old) (S.received store.old) (S.missed store.old))
+        (store_view (S.disk store.new) (S.read_faults store.new) (S.write_faults store.new) (S.received store.new) (S.missed store.new))) }
     ensures later { S.read_faults store.old ≤ S.read_faults store.new }
     ensures write_faults { S.write_faults store.new ≡ S.write_faults store.old }
     ensures calm { (made : List ℕ) (room : ℕ) → S.calm store.old (exec_inputs words.now.items) made room
@@ -105,8 +105,8 @@ fn load<S: Store>(alloc: Global, words: &Vec<String>, store: &mut S) -> Result<L
     ensures files { KeepsAll (S.disk store.old) (S.disk store.new) }
     ensures found { IfOk result (λ r. IsExecLoaded words.now.items (S.disk store.old) r.machine r.script.lines.items) }
     ensures stopped { IfErr result (StopsLoadingExec words.now.items
-        (store_view (S.disk store.old) (S.read_faults store.old) (S.write_faults store.old) (S.received store.old))
-        (store_view (S.disk store.new) (S.read_faults store.new) (S.write_faults store.new) (S.received store.new))) }
+        (store_view (S.disk store.old) (S.read_faults store.old) (S.write_faults store.old) (S.received store.old) (S.missed store.old))
+        (store_view (S.disk store.new) (S.read_faults store.new) (S.write_faults store.new) (S.received store.new) (S.missed store.new))) }
     ensures named { IfErr result (IsNamed words.now.items) }
     ensures complete { AcceptsExec words.now.items (S.disk store.old)
         → ¬ (Rose (S.read_faults store.old) (S.read_faults store.new))
@@ -148,8 +148,8 @@ fn exec_few<S: Store, O: Sink, H: Ports>(
     ensures ran { OnOk result (Executed words.now.items steps (H.gives hooks.old) (S.disk store.old)
         (sink_call (O.written out.old) (O.written out.new) (O.faults out.old) (O.faults out.new)) None) }
     ensures stopped { IfErr result (ExecStops words.now.items steps (H.gives hooks.old)
-        (store_view (S.disk store.old) (S.read_faults store.old) (S.write_faults store.old) (S.received store.old))
-        (store_view (S.disk store.new) (S.read_faults store.new) (S.write_faults store.new) (S.received store.new))
+        (store_view (S.disk store.old) (S.read_faults store.old) (S.write_faults store.old) (S.received store.old) (S.missed store.old))
+        (store_view (S.disk store.new) (S.read_faults store.new) (S.write_faults store.new) (S.received store.new) (S.missed store.new))
         (sink_call (O.written out.old) (O.written out.new) (O.faults out.old) (O.faults out.new))) }
     ensures named { IfErr result (IsNamed words.now.items) }
     ensures complete { AcceptsExec words.now.items (S.disk store.old)
@@ -194,8 +194,8 @@ pub fn exec<S: Store, O: Sink, H: Ports>(
     ensures ran { OnOk result (Executed words.now.items steps (H.gives hooks.old) (S.disk store.old)
         (sink_call (O.written out.old) (O.written out.new) (O.faults out.old) (O.faults out.new)) None) }
     ensures stopped { IfErr result (ExecStops words.now.items steps (H.gives hooks.old)
-        (store_view (S.disk store.old) (S.read_faults store.old) (S.write_faults store.old) (S.received store.old))
-        (store_view (S.disk store.new) (S.read_faults store.new) (S.write_faults store.new) (S.received store.new))
+        (store_view (S.disk store.old) (S.read_faults store.old) (S.write_faults store.old) (S.received store.old) (S.missed store.old))
+        (store_view (S.disk store.new) (S.read_faults store.new) (S.write_faults store.new) (S.received store.new) (S.missed store.new))
         (sink_call (O.written out.old) (O.written out.new) (O.faults out.old) (O.faults out.new))) }
     ensures named { IfErr result (IsNamed words.now.items) }
     ensures complete { (words_from words.now.items 4 ≤ 16) → AcceptsExec words.now.items (S.disk store.old)

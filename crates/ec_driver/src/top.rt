@@ -1,11 +1,12 @@
 //! The top call.
-ghost use Rattle.std.specs.Prelude.{◌≡◌, ◌≤◌, ◌<◌, ◌↔◌, ℕ, true};
+ghost use Rattle.std.specs.Prelude.{◌≡◌, ◌≤◌, ◌<◌, ◌↔◌, ℕ, false};
 ghost use Rattle.ec_io.specs.Views.{store_view, sink_call};
 ghost use Rattle.ec_emu.specs.declared.ask.Ask.{Ask};
-ghost use Rattle.ec_commands.specs.Words.{is_build, IsRun, IsExecRow, IsGen, words_from};
-ghost use Rattle.ec_driver.specs.Commands.{IsNoCommand, Answered, Kept, Completed, KeptCalm};
+ghost use Rattle.ec_commands.specs.Command.{command_of};
+ghost use Rattle.ec_commands.specs.declared.words.Command.TheVariants.{NoCommand};
+ghost use Rattle.ec_driver.specs.Commands.{Does, prints, uses_files, sources_of};
 
-use ec_commands::{Compiling, conclude, exec_steps, first_source, gen_number, run, run_numbers};
+use ec_commands::{Command, CommandError, Compiling, command_of, conclude, first_source, run};
 use ec_commands_compile::{build, conclude as conclude_compiling, exec, run_generated};
 use ec_emu::Ports;
 use ec_io::{Sink, Store};
@@ -29,44 +30,26 @@ pub fn tool<S: Store, O: Sink, E: Sink, H: Ports>(
 ) -> u8
     requires { H.can_ask hooks.old }
 
-    // Each answer of each command has its cause, and the line of a stop goes to `err`, the whole of it where no write
-    // there failed.
-    ensures answered { Answered words.now.items (H.gives hooks.old)
-        (store_view (S.disk store.old) (S.read_faults store.old) (S.write_faults store.old) (S.received store.old))
-        (store_view (S.disk store.new) (S.read_faults store.new) (S.write_faults store.new) (S.received store.new))
-        (sink_call (O.written out.old) (O.written out.new) (O.faults out.old) (O.faults out.new))
-        (sink_call (E.written err.old) (E.written err.new) (E.faults err.old) (E.faults err.new))
-        (E.calm err.old) result }
+    // What each command does: each answer has its cause, and the line of a stop goes to `err`; what is accepted is done
+    // unless memory runs out, where no call failed; over a calm store and a calm `out` no call fails; and what stays.
+    ensures done { let before = store_view
+        (S.disk store.old) (S.read_faults store.old) (S.write_faults store.old) (S.received store.old) (S.missed store.old) in
+        let after = store_view
+        (S.disk store.new) (S.read_faults store.new) (S.write_faults store.new) (S.received store.new) (S.missed store.new) in
+        let printed = sink_call (O.written out.old) (O.written out.new) (O.faults out.old) (O.faults out.new) in
+        let told = sink_call (E.written err.old) (E.written err.new) (E.faults err.old) (E.faults err.new) in
+        Does (command_of words.now.items) words.now.items (H.gives hooks.old) before after printed told (S.calm store.old)
+        (O.calm out.old) (E.calm err.old) result }
 
-    // What is accepted is done unless memory runs out, where no call failed.
-    ensures complete { Completed words.now.items
-        (store_view (S.disk store.old) (S.read_faults store.old) (S.write_faults store.old) (S.received store.old))
-        (store_view (S.disk store.new) (S.read_faults store.new) (S.write_faults store.new) (S.received store.new))
-        (sink_call (O.written out.old) (O.written out.new) (O.faults out.old) (O.faults out.new)) result }
-
-    // Over a calm store and a calm `out` no call fails.
-    ensures calm { KeptCalm words.now.items (H.gives hooks.old)
-        (store_view (S.disk store.old) (S.read_faults store.old) (S.write_faults store.old) (S.received store.old))
-        (store_view (S.disk store.new) (S.read_faults store.new) (S.write_faults store.new) (S.received store.new))
-        (sink_call (O.written out.old) (O.written out.new) (O.faults out.old) (O.faults out.new)) (S.calm store.old)
-        (O.calm out.old) }
-
-    // A run and an exec change no file, and a gen leaves the store as it is. Only these print and ask the hooks, and words
-    // that are no command do nothing but their line. Where the work was done, `err` received nothing.
-    ensures kept { Kept words.now.items
-        (store_view (S.disk store.old) (S.read_faults store.old) (S.write_faults store.old) (S.received store.old))
-        (store_view (S.disk store.new) (S.read_faults store.new) (S.write_faults store.new) (S.received store.new)) }
-    ensures unasked { ((steps fill : ℕ) → ¬ (IsRun words.now.items steps fill))
-        → ((steps : ℕ) → ¬ (IsExecRow words.now.items steps)) → ((n : ℕ) → ¬ (IsGen words.now.items n))
-        → (out.new ≡ out.old) × (hooks.new ≡ hooks.old) }
-    ensures idle { IsNoCommand words.now.items → store.new ≡ store.old }
+    // Only some commands print and ask the hooks, and only some call the store. Where the work was done, `err` received
+    // nothing.
+    ensures unasked { prints (command_of words.now.items) ≡ false → (out.new ≡ out.old) × (hooks.new ≡ hooks.old) }
+    ensures idle { uses_files (command_of words.now.items) ≡ false → store.new ≡ store.old }
     ensures quiet { result ≡ 0 → err.new ≡ err.old }
 
     // These are judged without memory.
-    ensures usage { (result ≡ 2) ↔ IsNoCommand words.now.items }
-    ensures sources { is_build words.now.items ≡ true → 16 < words_from words.now.items 3 → result ≡ 10 }
-    ensures exec_sources { (steps : ℕ) → IsExecRow words.now.items steps → 16 < words_from words.now.items 4
-        → result ≡ 10 }
+    ensures usage { (result ≡ 2) ↔ (command_of words.now.items ≡ NoCommand) }
+    ensures sources { 16 < sources_of (command_of words.now.items) words.now.items → result ≡ 10 }
 
     // No count falls. The hooks can be asked again and answer by the same rule.
     ensures later { (S.read_faults store.old ≤ S.read_faults store.new)
@@ -76,22 +59,23 @@ pub fn tool<S: Store, O: Sink, E: Sink, H: Ports>(
     ensures can { H.can_ask hooks.new }
     ensures stays { (ask : Ask) (byte : ℕ) → H.gives hooks.new ask byte ↔ H.gives hooks.old ask byte }
 {
-    if let Some(numbers) = run_numbers(words) {
-        let answer = run(alloc, words, numbers, store, out, hooks);
-        return conclude(err, words, answer);
-    }
-    if let Some(n) = gen_number(words) {
-        let generated = run_generated(alloc, n, out, hooks);
-        return conclude_compiling(err, words, 0, generated);
-    }
-    match exec_steps(words) {
-        Some(steps) => {
-            let executed = exec(alloc, words, steps, store, out, hooks);
-            conclude_compiling(err, words, first_source(Compiling::Exec), executed)
-        }
-        None => {
+    match command_of(words) {
+        Command::Build => {
             let built = build(alloc, words, store);
             conclude_compiling(err, words, first_source(Compiling::Build), built)
         }
+        Command::Run { steps, fill } => {
+            let answer = run(alloc, words, steps, fill, store, out, hooks);
+            conclude(err, words, answer)
+        }
+        Command::Exec { steps } => {
+            let executed = exec(alloc, words, steps, store, out, hooks);
+            conclude_compiling(err, words, first_source(Compiling::Exec), executed)
+        }
+        Command::Gen { n } => {
+            let generated = run_generated(alloc, n, out, hooks);
+            conclude_compiling(err, words, 0, generated)
+        }
+        Command::NoCommand => conclude(err, words, Err(CommandError::Usage)),
     }
 }

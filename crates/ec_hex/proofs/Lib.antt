@@ -8,3 +8,4 @@ mod Putting
 mod Stopping
 mod Taken
 mod Rows
+mod Short

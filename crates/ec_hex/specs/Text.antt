@@ -1,6 +1,7 @@
 -- The Intel HEX text of an image.
 use Rattle.std.specs.Prelude.{ℕ, zero, suc, ◌+◌, ◌-◌, ◌/◌, ◌%◌, if◌then◌else◌, Bool, Option, Some, None, List, [], ◌∷◌}
-use Rattle.std.specs.Prelude.{◌++◌, length}
+use Rattle.std.specs.Prelude.{◌++◌, ◌*◌, ◌≤◌, length}
+use Rattle.ec_avr.specs.Flash.{flash_size}
 use Rattle.ec_avr.specs.declared.image.Image.{Image}
 use Rattle.ec_hex.specs.Bytes.{digits_of, total}
 use Rattle.ec_hex.specs.declared.line.RecordType.{RecordType}
@@ -49,3 +50,7 @@ hex_text bytes written = text_from 0 0 (contents bytes written)
 
 abbrev pub image_text : Image → List ℕ
 image_text image = hex_text image.bytes.items image.written.items
+
+-- the text of an image has at most 14 bytes for each byte of the flash, and 12 more
+abbrev pub TextsAreShort : Type 0
+TextsAreShort = (image : Image) → length (image_text image) ≤ 14 * flash_size image.core + 12

@@ -5,12 +5,14 @@
 //! denotes none, and `specs/Text.antt` which text is written for an image.
 #![tactic(auto)]
 
+mod laws;
 mod line;
 mod read;
 mod record;
 mod text;
 mod write;
 
+pub use laws::texts_are_short;
 pub use read::{HexStop, read_hex};
 pub use text::{digit_number, digit_of, first_line};
 pub use write::write_hex;

@@ -2,7 +2,7 @@
 use Rattle.std.specs.Prelude.{ℕ, ◌-◌, ◌<◌, ◌≤◌, ◌≡◌, Bool, List, length, take, drop, Option, Some, None, Result}
 use Rattle.std.specs.Prelude.{MatchResult, IsSome, IsSomeAnd, is_some}
 use Rattle.std.specs.FinMap.{get}
-use Rattle.ec_io.specs.Disk.{Disk, content, opened, created, read_on, appended}
+use Rattle.ec_io.specs.Disk.{Disk, content, known_name, input_name, opened, created, read_on, appended}
 use Rattle.ec_io.specs.Causes.{Counted}
 
 -- opening a file that is there puts reading at its start; a refusal leaves all as it was
@@ -10,6 +10,14 @@ abbrev pub Opens : {E : Type 0} → List ℕ → Option Disk → Option Disk →
 Opens name None new r = new ≡ None
 Opens name (Some disk) new r =
     MatchResult r (λ _. IsSome (get disk.files name) × (new ≡ Some (opened name disk))) (λ _. new ≡ Some disk)
+
+-- the named file is told as the one that failed last, where it could not be opened
+abbrev pub MissesOpened : {E : Type 0} → List ℕ → Option (List ℕ) → Option (List ℕ) → Result Unit E → Type 0
+MissesOpened name before now r = MatchResult r (λ _. now ≡ before) (λ _. now ≡ Some (known_name name))
+
+-- so is the file that is read, where it could not be read; none, where no file is opened
+abbrev pub MissesRead : {E : Type 0} → Option (List ℕ) → Option (List ℕ) → Option (List ℕ) → Result ℕ E → Type 0
+MissesRead reading before now r = MatchResult r (λ _. now ≡ before) (λ _. now ≡ reading)
 
 -- creating a file makes it empty; a refusal leaves all as it was
 abbrev pub Creates : {E : Type 0} → List ℕ → Option Disk → Option Disk → Result Unit E → Type 0
@@ -44,7 +52,7 @@ Writes (Some disk) new r bytes =
 abbrev pub Counts : {E : Type 0} → ℕ → ℕ → Result ℕ E → Type 0
 Counts before now r = MatchResult r (λ n. Counted before now n) (λ _. now ≡ before)
 
--- the flags say what the told places say
-pub record IsFlagged (disk : Disk) (reading writing : Bool) : Type 0 where
-  pub input : reading ≡ is_some disk.input
+-- the name and the flag say what the told places say
+pub record IsFlagged (disk : Disk) (reading : Option (List ℕ)) (writing : Bool) : Type 0 where
+  pub input : reading ≡ input_name disk
   pub output : writing ≡ is_some disk.output

@@ -1,5 +1,5 @@
 -- A store's files by name, the place of reading and the file that is written.
-use Rattle.std.specs.Prelude.{ℕ, ◌+◌, List, [], ◌++◌, Option, Some, unwrap_or}
+use Rattle.std.specs.Prelude.{ℕ, ◌+◌, List, [], ◌++◌, take, Option, Some, unwrap_or, option_map}
 use Rattle.std.specs.Ordering.{nat_cmp}
 use Rattle.std.specs.Cmp.Lexicographic.{slice_cmp}
 use Rattle.std.specs.FinMap.{FinMap, get, insert}
@@ -18,6 +18,14 @@ pub record Disk : Type 0 where
 -- what a file holds; nothing where there is none
 abbrev pub content : Files → List ℕ → List ℕ
 content files name = unwrap_or (get files name) []
+
+-- the part of a name by which a store tells a file: all of it, up to 4,096 bytes, which no name of a system has
+abbrev pub known_name : List ℕ → List ℕ
+known_name name = take 4096 name
+
+-- the name of the file that is read, if one is
+abbrev pub input_name : Disk → Option (List ℕ)
+input_name disk = option_map (λ place. known_name place.0) disk.input
 
 -- after the named file was opened
 abbrev pub opened : List ℕ → Disk → Disk

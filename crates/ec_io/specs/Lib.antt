@@ -6,6 +6,7 @@ pub mod Rest
 pub mod Written
 pub mod Read
 pub mod Untold
+pub mod KnownNames
 pub mod Memory
 pub mod MemFiles
 pub mod InMemory

@@ -52,6 +52,8 @@ pub record Stored : Type 0 where
   pub read_faults : ℕ
   pub write_faults : ℕ
   pub received : ℕ
+  -- the name of the file whose opening or reading failed last
+  pub missed : Option (List ℕ)
 
 abbrev pub disk_code : Coded Disk
 disk_code =
@@ -62,10 +64,13 @@ disk_code =
 
 abbrev pub stored_code : Coded Stored
 stored_code =
-    code_by (Disk × (List ℕ × (ℕ × (List ℕ × (ℕ × (ℕ × (ℕ × ℕ)))))))
+    code_by (Disk × (List ℕ × (ℕ × (List ℕ × (ℕ × (ℕ × (ℕ × (ℕ × Option (List ℕ)))))))))
     (coded× disk_code (coded× (coded_list coded_ℕ) (coded× coded_ℕ (coded× (coded_list coded_ℕ)
-    (coded× coded_ℕ (coded× coded_ℕ (coded× coded_ℕ coded_ℕ)))))))
-    (λ s. (s.disk, (s.made, (s.room, (s.fail, (s.calls, (s.read_faults, (s.write_faults, s.received))))))))
+    (coded× coded_ℕ (coded× coded_ℕ (coded× coded_ℕ (coded× coded_ℕ (coded_option (coded_list coded_ℕ))))))))))
+    (λ s. (
+      s.disk,
+      (s.made, (s.room, (s.fail, (s.calls, (s.read_faults, (s.write_faults, (s.received, s.missed))))))),
+    ))
     (λ p. record {
       disk = p.0;
       made = p.1.0;
@@ -74,7 +79,8 @@ stored_code =
       calls = p.1.1.1.1.0;
       read_faults = p.1.1.1.1.1.0;
       write_faults = p.1.1.1.1.1.1.0;
-      received = p.1.1.1.1.1.1.1;
+      received = p.1.1.1.1.1.1.1.0;
+      missed = p.1.1.1.1.1.1.1.1;
     })
     (λ _. refl)
 
@@ -90,6 +96,7 @@ fresh_store files made room fail =
       read_faults = 0;
       write_faults = 0;
       received = 0;
+      missed = None;
     }
 
 -- no later call fails that opens one of these names, reads or writes with a file opened for it, or creates this file,

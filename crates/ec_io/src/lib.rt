@@ -3,6 +3,7 @@
 
 mod counts;
 mod file_sink;
+mod known_name;
 mod mem_file;
 mod mem_sink;
 mod mem_store;

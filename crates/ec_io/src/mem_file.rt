@@ -3,7 +3,7 @@ ghost use Rattle.std.specs.Prelude.{◌≡◌, ◌≤◌, None, IfOk, true, fals
 ghost use Rattle.std.specs.Prelude.{min, length, take, drop, ◌-◌};
 ghost use Rattle.std.specs.FinMap.{get};
 ghost use Rattle.ec_io.specs.Disk.{content};
-ghost use Rattle.ec_io.specs.MemFiles.{files_of, told_files, IsFound, Names, bytes_of};
+ghost use Rattle.ec_io.specs.MemFiles.{files_of, told_files, IsFound, Names, name_of, bytes_of};
 
 use ec_space::{Name, NoMemory, Seq};
 use std::alloc::Global;
@@ -47,6 +47,19 @@ pub fn source_of(files: &[MemFile], made: &MemFile, stands: bool, name: &[u8]) -
         return Some(Source::Made);
     }
     find(files, name)
+}
+
+/// The name of a file.
+pub fn source_name<'a>(files: &'a [MemFile], made: &'a MemFile, source: Source) -> Option<&'a Name>
+    ensures { option_map (λ s. s.now.items) result ≡ name_of files.now made.now source }
+{
+    match source {
+        Source::Made => Some(&made.name),
+        Source::Given(i) => match files.get(i) {
+            Some(file) => Some(&file.name),
+            None => None,
+        },
+    }
 }
 
 /// The bytes of a file.

@@ -1,16 +1,21 @@
 //! A store in memory.
 ghost use Rattle.std.specs.Prelude.{◌≡◌, ◌<◌, ◌≤◌, ◌-◌, ◌==◌, ◌&&◌, ◌||◌, ℕ, List, Some, None, IfOk, IfSome, OnOk};
 ghost use Rattle.std.specs.Prelude.{is_err, is_none, is_some, not, true, min, length, nat_lt, bytes_eq, option_map};
-ghost use Rattle.std.specs.Prelude.{Contains, MatchResult};
+ghost use Rattle.std.specs.Prelude.{Contains, MatchResult, IsSome};
 ghost use Rattle.std.specs.Io.{ReadsAtMost};
 ghost use Rattle.std.specs.FinMap.{get};
 ghost use Rattle.ec_io.specs.Causes.{HasCause, Went};
-ghost use Rattle.ec_io.specs.Disk.{content};
-ghost use Rattle.ec_io.specs.Calls.{Opens, Creates, Reads, Writes, Counts, IsTaken};
+ghost use Rattle.ec_io.specs.Disk.{content, known_name, input_name};
+ghost use Rattle.ec_io.specs.Calls.{Opens, MissesOpened, Creates, Reads, MissesRead, Writes, Counts, IsTaken};
+ghost use Rattle.ec_io.specs.InMemory.{input_of};
+ghost use Rattle.ec_io.specs.KnownNames.{name_of};
 ghost use Rattle.ec_io.specs.Memory.{IsCalmStore, IsCounted, fresh_store, is_due};
 ghost use Rattle.ec_io.specs.MemFiles.{files_of};
 
-use crate::mem_file::{MemFile, Source, copied, is_given, put_next, source_bytes, source_of};
+use crate::known_name::{KnownName, known};
+use crate::mem_file::{
+    MemFile, Source, copied, is_given, put_next, source_bytes, source_name, source_of,
+};
 use crate::schedule::{Schedule, fault};
 use crate::store::{Failed, Store};
 use ec_space::{Name, NoMemory, Seq};
@@ -24,6 +29,20 @@ pub struct Place {
     pub at: usize,
 }
 
+/// The name of the file that is read, if one is.
+fn name_read(files: &[MemFile], made: &MemFile, input: Option<Place>) -> Option<KnownName>
+    ensures { option_map name_of result
+        ≡ option_map (λ place. known_name place.0) (input_of files.now made.now input) }
+{
+    match input {
+        Some(place) => match source_name(files, made, place.source) {
+            Some(name) => Some(known(name.as_slice())),
+            None => Some(known(b"")),
+        },
+        None => None,
+    }
+}
+
 /// Files in memory. It creates one name alone, takes so many written bytes in all, and fails at the calls of a list.
 #[derive(Drop)]
 pub struct MemStore {
@@ -33,6 +52,7 @@ pub struct MemStore {
     writing: bool,
     input: Option<Place>,
     room: u32,
+    missed: Option<KnownName>,
     received: u64,
     read_faults: u64,
     write_faults: u64,
@@ -75,6 +95,7 @@ impl MemStore {
             writing: false,
             input: None,
             room,
+            missed: None,
             received: 0,
             read_faults: 0,
             write_faults: 0,
@@ -101,7 +122,7 @@ impl MemStore {
 impl Store for MemStore {
     ghost disk = { λ s. Some s.disk };
 
-    ghost reading = { λ s. is_some s.disk.input };
+    ghost reading = { λ s. input_name s.disk };
 
     ghost writing = { λ s. is_some s.disk.output };
 
@@ -110,6 +131,8 @@ impl Store for MemStore {
     ghost write_faults = { λ s. s.write_faults };
 
     ghost received = { λ s. s.received };
+
+    ghost missed = { λ s. s.missed };
 
     ghost calm = { IsCalmStore };
 
@@ -126,8 +149,9 @@ impl Store for MemStore {
         ensures counted { IsCounted self.old self.new }
         ensures room { self.new.room ≡ self.old.room }
         ensures disk { Opens name.now (Some self.old.disk) (Some self.new.disk) result }
-        ensures reading { MatchResult result (λ _. is_some self.new.disk.input ≡ true)
-            (λ _. is_some self.new.disk.input ≡ is_some self.old.disk.input) }
+        ensures reading { MatchResult result (λ _. input_name self.new.disk ≡ Some (known_name name.now))
+            (λ _. input_name self.new.disk ≡ input_name self.old.disk) }
+        ensures missed { MissesOpened name.now self.old.missed self.new.missed result }
         ensures writing { is_some self.new.disk.output ≡ is_some self.old.disk.output }
         ensures cause { HasCause self.old.read_faults self.new.read_faults result }
         ensures other_faults { self.new.write_faults ≡ self.old.write_faults }
@@ -137,6 +161,7 @@ impl Store for MemStore {
             → Went self.old.read_faults self.new.read_faults result × IsCalmStore self.new names made room }
     {
         if self.schedule.next() {
+            self.missed = Some(known(name.as_bytes()));
             return Err(fault(&mut self.read_faults));
         }
         match source_of(
@@ -149,7 +174,10 @@ impl Store for MemStore {
                 self.input = Some(Place { source, at: 0 });
                 Ok(())
             }
-            None => Err(fault(&mut self.read_faults)),
+            None => {
+                self.missed = Some(known(name.as_bytes()));
+                Err(fault(&mut self.read_faults))
+            }
         }
     }
 
@@ -164,20 +192,23 @@ impl Store for MemStore {
         ensures room { self.new.room ≡ self.old.room }
         ensures bound { ReadsAtMost result buf.new }
         ensures disk { Reads (Some self.old.disk) (Some self.new.disk) result buf.new }
-        ensures opened { OnOk result (is_some self.old.disk.input ≡ true) }
-        ensures reading { is_some self.new.disk.input ≡ is_some self.old.disk.input }
+        ensures opened { OnOk result (IsSome (input_name self.old.disk)) }
+        ensures reading { input_name self.new.disk ≡ input_name self.old.disk }
+        ensures missed { MissesRead (input_name self.old.disk) self.old.missed self.new.missed result }
         ensures writing { is_some self.new.disk.output ≡ is_some self.old.disk.output }
         ensures cause { HasCause self.old.read_faults self.new.read_faults result }
         ensures other_faults { self.new.write_faults ≡ self.old.write_faults }
         ensures received { Counts self.old.received self.new.received result }
         ensures calm { (names : List (List ℕ)) (made : List ℕ) (room : ℕ) → IsCalmStore self.old names made room
-            → is_some self.old.disk.input ≡ true
+            → IsSome (input_name self.old.disk)
             → Went self.old.read_faults self.new.read_faults result × IsCalmStore self.new names made room }
     {
         if self.schedule.next() {
+            self.missed = name_read(self.files.as_slice(), &self.made, self.input);
             return Err(fault(&mut self.read_faults));
         }
         let Some(place) = self.input else {
+            self.missed = None;
             return Err(fault(&mut self.read_faults));
         };
         let n = match source_bytes(self.files.as_slice(), &self.made, place.source) {
@@ -200,7 +231,8 @@ impl Store for MemStore {
         ensures disk { Creates name.now (Some self.old.disk) (Some self.new.disk) result }
         ensures writing { MatchResult result (λ _. is_some self.new.disk.output ≡ true)
             (λ _. is_some self.new.disk.output ≡ is_some self.old.disk.output) }
-        ensures reading { is_some self.new.disk.input ≡ is_some self.old.disk.input }
+        ensures reading { input_name self.new.disk ≡ input_name self.old.disk }
+        ensures missed { self.new.missed ≡ self.old.missed }
         ensures cause { HasCause self.old.write_faults self.new.write_faults result }
         ensures other_faults { self.new.read_faults ≡ self.old.read_faults }
         ensures received { self.new.received ≡ self.old.received }
@@ -232,7 +264,8 @@ impl Store for MemStore {
         ensures taken { IfOk result (λ n. IsTaken n bytes.now) }
         ensures disk { Writes (Some self.old.disk) (Some self.new.disk) result bytes.now }
         ensures opened { OnOk result (is_some self.old.disk.output ≡ true) }
-        ensures reading { is_some self.new.disk.input ≡ is_some self.old.disk.input }
+        ensures reading { input_name self.new.disk ≡ input_name self.old.disk }
+        ensures missed { self.new.missed ≡ self.old.missed }
         ensures writing { is_some self.new.disk.output ≡ is_some self.old.disk.output }
         ensures cause { HasCause self.old.write_faults self.new.write_faults result }
         ensures other_faults { self.new.read_faults ≡ self.old.read_faults }

@@ -1,6 +1,7 @@
 //! Reading a whole file.
-ghost use Rattle.std.specs.Prelude.{◌≡◌, ◌≤◌, ◌<◌, ℕ, List, IsErrOf, Contains};
+ghost use Rattle.std.specs.Prelude.{◌≡◌, ◌≤◌, ◌<◌, ℕ, List, Some, IsErrOf, Contains};
 ghost use Rattle.ec_io.specs.Causes.{Rose};
+ghost use Rattle.ec_io.specs.Disk.{known_name};
 ghost use Rattle.ec_io.specs.Read.{ReadsFile, Receives};
 
 use crate::counts::is_too_long;
@@ -34,6 +35,7 @@ pub fn read_file<S: Store>(
     ensures received { Receives limit (S.received store.old) (S.received store.new) result }
     ensures later { S.read_faults store.old ≤ S.read_faults store.new }
     ensures fault { IsErrOf result ReadStop.ReadFault → Rose (S.read_faults store.old) (S.read_faults store.new) }
+    ensures missed { IsErrOf result ReadStop.ReadFault → S.missed store.new ≡ Some (known_name name.now) }
     ensures write_faults { S.write_faults store.new ≡ S.write_faults store.old }
     ensures writing { S.writing store.new ≡ S.writing store.old }
     ensures calm { (names : List (List ℕ)) (made : List ℕ) (room : ℕ) → S.calm store.old names made room

@@ -1,7 +1,9 @@
 //! The files and streams of the system. What they hold is told by no contract.
-ghost use Rattle.std.specs.Prelude.{◌≡◌, ◌≤◌, None, Some, is_some};
+ghost use Rattle.std.specs.Prelude.{◌≡◌, ◌≤◌, None, Some, is_some, option_map};
 ghost use Rattle.ec_io.specs.Causes.{Counted};
+ghost use Rattle.ec_io.specs.KnownNames.{name_of};
 
+use crate::known_name::{KnownName, known};
 use crate::schedule::fault;
 use crate::sink::Sink;
 use crate::store::{Failed, Store};
@@ -16,11 +18,19 @@ fn count(received: &mut u64, n: usize)
     *received = received.saturating_add(n as u64);
 }
 
+/// The file that is read, and its name.
+#[derive(Drop)]
+struct Input<F> {
+    file: F,
+    name: KnownName,
+}
+
 /// The files of a runtime. It tells nothing of their contents and is never calm.
 pub struct RealStore<'r, R: Files> {
     rt: &'r R,
-    input: Option<R::File>,
+    input: Option<Input<R::File>>,
     output: Option<R::File>,
+    missed: Option<KnownName>,
     read_faults: u64,
     write_faults: u64,
     received: u64,
@@ -32,6 +42,7 @@ impl<R: Files> Drop for RealStore<'_, R> {
             rt: _,
             input: _,
             output: _,
+            missed: _,
             read_faults: _,
             write_faults: _,
             received: _,
@@ -46,6 +57,7 @@ impl<'r, R: Files> RealStore<'r, R> {
             rt,
             input: None,
             output: None,
+            missed: None,
             read_faults: 0,
             write_faults: 0,
             received: 0,
@@ -56,7 +68,7 @@ impl<'r, R: Files> RealStore<'r, R> {
 impl<R: Files> Store for RealStore<'_, R> {
     ghost disk = { λ _. None };
 
-    ghost reading = { λ s. is_some s.input };
+    ghost reading = { λ s. option_map (λ i. name_of i.name) s.input };
 
     ghost writing = { λ s. is_some s.output };
 
@@ -65,6 +77,8 @@ impl<R: Files> Store for RealStore<'_, R> {
     ghost write_faults = { λ s. s.write_faults };
 
     ghost received = { λ s. s.received };
+
+    ghost missed = { λ s. option_map name_of s.missed };
 
     ghost calm = { λ _ _ _ _. ⊥ };
 
@@ -77,19 +91,29 @@ impl<R: Files> Store for RealStore<'_, R> {
     fn open_file(&mut self, name: &str) -> Result<(), Failed> {
         match fs::open(self.rt, name) {
             Ok(file) => {
-                self.input = Some(file);
+                self.input = Some(Input {
+                    file,
+                    name: known(name.as_bytes()),
+                });
                 Ok(())
             }
-            Err(_) => Err(fault(&mut self.read_faults)),
+            Err(_) => {
+                self.missed = Some(known(name.as_bytes()));
+                Err(fault(&mut self.read_faults))
+            }
         }
     }
 
     fn read(&mut self, buf: &mut [u8]) -> Result<usize, Failed> {
-        if let Some(file) = &mut self.input
-            && let Ok(n) = file.read(buf)
-        {
-            count(&mut self.received, n);
-            return Ok(n);
+        match &mut self.input {
+            Some(input) => match input.file.read(buf) {
+                Ok(n) => {
+                    count(&mut self.received, n);
+                    return Ok(n);
+                }
+                Err(_) => self.missed = Some(input.name),
+            },
+            None => self.missed = None,
         }
         Err(fault(&mut self.read_faults))
     }

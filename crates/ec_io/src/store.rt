@@ -1,10 +1,10 @@
 //! A store of named files.
-ghost use Rattle.std.specs.Prelude.{◌≡◌, ◌≤◌, ◌<◌, ◌-◌, ℕ, List, Bool, true, Option, Some, IfOk, OnOk, MatchResult};
+ghost use Rattle.std.specs.Prelude.{◌≡◌, ◌≤◌, ◌<◌, ◌-◌, ℕ, List, Bool, true, Option, Some, IsSome, IfOk, OnOk, MatchResult};
 ghost use Rattle.std.specs.Prelude.{Contains, length};
 ghost use Rattle.std.specs.Io.{ReadsAtMost};
 ghost use Rattle.ec_io.specs.Causes.{HasCause, Went, greatest};
-ghost use Rattle.ec_io.specs.Disk.{Disk};
-ghost use Rattle.ec_io.specs.Calls.{Opens, Creates, Reads, Writes, Counts, IsTaken, IsFlagged};
+ghost use Rattle.ec_io.specs.Disk.{Disk, known_name};
+ghost use Rattle.ec_io.specs.Calls.{Opens, MissesOpened, Creates, Reads, MissesRead, Writes, Counts, IsTaken, IsFlagged};
 
 use thiserror::Error;
 
@@ -21,14 +21,18 @@ pub trait Store {
     /// The files and the places of reading and writing, where the store tells them.
     ghost disk: { Self → Option Disk };
 
-    /// Whether a file is opened for reading.
-    ghost reading: { Self → Bool };
+    /// The name of the file that is opened for reading, up to its first 4,096 bytes; none where none is.
+    ghost reading: { Self → Option (List ℕ) };
 
     /// Whether a file is opened for writing.
     ghost writing: { Self → Bool };
 
     /// How often opening or reading failed. It never falls, and stands still at its greatest value.
     ghost read_faults: { Self → ℕ };
+
+    /// The name of the file whose opening or reading failed last, up to its first 4,096 bytes; none where none failed, or
+    /// a read failed since no file was opened.
+    ghost missed: { Self → Option (List ℕ) };
 
     /// How often creating or writing failed. It never falls, and stands still at its greatest value.
     ghost write_faults: { Self → ℕ };
@@ -43,7 +47,9 @@ pub trait Store {
     /// Makes the named file the one that is read, from its start. An absent file is a fault.
     fn open_file(&mut self, name: &str) -> Result<(), Failed>
         ensures disk { Opens name.now (disk self.old) (disk self.new) result }
-        ensures reading { MatchResult result (λ _. reading self.new ≡ true) (λ _. reading self.new ≡ reading self.old) }
+        ensures reading { MatchResult result (λ _. reading self.new ≡ Some (known_name name.now))
+            (λ _. reading self.new ≡ reading self.old) }
+        ensures missed { MissesOpened name.now (missed self.old) (missed self.new) result }
         ensures writing { writing self.new ≡ writing self.old }
         ensures cause { HasCause (read_faults self.old) (read_faults self.new) result }
         ensures other_faults { write_faults self.new ≡ write_faults self.old }
@@ -57,14 +63,15 @@ pub trait Store {
     fn read(&mut self, buf: &mut [u8]) -> Result<usize, Failed>
         ensures bound { ReadsAtMost result buf.new }
         ensures disk { Reads (disk self.old) (disk self.new) result buf.new }
-        ensures opened { OnOk result (reading self.old ≡ true) }
+        ensures opened { OnOk result (IsSome (reading self.old)) }
         ensures reading { reading self.new ≡ reading self.old }
+        ensures missed { MissesRead (reading self.old) (missed self.old) (missed self.new) result }
         ensures writing { writing self.new ≡ writing self.old }
         ensures cause { HasCause (read_faults self.old) (read_faults self.new) result }
         ensures other_faults { write_faults self.new ≡ write_faults self.old }
         ensures received { Counts (received self.old) (received self.new) result }
         ensures calm { (names : List (List ℕ)) (made : List ℕ) (room : ℕ) → calm self.old names made room
-            → reading self.old ≡ true
+            → IsSome (reading self.old)
             → Went (read_faults self.old) (read_faults self.new) result × calm self.new names made room };
 
     /// Makes the named file empty and the one that is written.
@@ -72,6 +79,7 @@ pub trait Store {
         ensures disk { Creates name.now (disk self.old) (disk self.new) result }
         ensures writing { MatchResult result (λ _. writing self.new ≡ true) (λ _. writing self.new ≡ writing self.old) }
         ensures reading { reading self.new ≡ reading self.old }
+        ensures missed { missed self.new ≡ missed self.old }
         ensures cause { HasCause (write_faults self.old) (write_faults self.new) result }
         ensures other_faults { read_faults self.new ≡ read_faults self.old }
         ensures received { received self.new ≡ received self.old }
@@ -85,6 +93,7 @@ pub trait Store {
         ensures disk { Writes (disk self.old) (disk self.new) result bytes.now }
         ensures opened { OnOk result (writing self.old ≡ true) }
         ensures reading { reading self.new ≡ reading self.old }
+        ensures missed { missed self.new ≡ missed self.old }
         ensures writing { writing self.new ≡ writing self.old }
         ensures cause { HasCause (write_faults self.old) (write_faults self.new) result }
         ensures other_faults { read_faults self.new ≡ read_faults self.old }
@@ -99,6 +108,6 @@ pub trait Store {
     ghost below: { (s : Self) (names : List (List ℕ)) (made : List ℕ) (room : ℕ) → calm s names made room
         → (read_faults s < greatest) × (write_faults s < greatest) };
 
-    /// The flags say what a store that tells its places tells.
+    /// The name and the flag say what a store that tells its places tells.
     ghost flagged: { (s : Self) (told : Disk) → disk s ≡ Some told → IsFlagged told (reading s) (writing s) };
 }

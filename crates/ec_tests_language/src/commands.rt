@@ -1,7 +1,9 @@
 //! Builds and runs over memory, where one call of the store fails or `out` has no room: the status, what is printed, and
 //! the line on `err`.
-use crate::told::{Told, done, is, store};
+use crate::rows;
+use crate::told::{Told, done, executed, is, store};
 use ec_io::MemStore;
+use ec_space::NoMemory;
 use std::alloc::{AllocError, Global};
 
 // What a run over memory comes to, with the HEX text `h` and the script `s`, where the call of this number fails and
@@ -76,14 +78,19 @@ fn is_not_built(alloc: Global, store: &mut MemStore, want: &str) -> bool {
     is(done(alloc, &texts, store, 100_000), want) && store.file("out").is_none()
 }
 
-// Whether a build whose call of this number fails tells this, and writes no file.
-fn is_told_of_call(alloc: Global, fail: u64, want: &str) -> bool {
+// A store with a map and two sources, whose call of this number fails and whose file `out` takes so many bytes.
+fn two_sources(alloc: Global, room: u32, fail: u64) -> Result<MemStore, NoMemory> {
     let texts = [
         ("m", MAP),
         ("a.c", "int main(void){return 7;}"),
         ("b.c", "int twice(int x){return x + x;}"),
     ];
-    match store(alloc, &texts, "out", 100_000, fail) {
+    store(alloc, &texts, "out", room, fail)
+}
+
+// Whether a build whose call of this number fails tells this, and writes no file.
+fn is_told_of_call(alloc: Global, fail: u64, want: &str) -> bool {
+    match two_sources(alloc, 100_000, fail) {
         Ok(mut store) => is_not_built(alloc, &mut store, want),
         Err(_) => false,
     }
@@ -97,4 +104,68 @@ fn tells_which_call_failed(rt: HostRuntime) {
             "behind call {k}"
         );
     }
+}
+
+// The store after a build that tells this, whose call of this number fails and whose writes take so many bytes.
+fn after_build(alloc: Global, room: u32, fail: u64, want: &str) -> Option<MemStore> {
+    let texts = ["build", "m", "out", "b.c", "a.c"];
+    match two_sources(alloc, room, fail) {
+        Ok(mut store) => {
+            if is(done(alloc, &texts, &mut store, 100_000), want) {
+                Some(store)
+            } else {
+                None
+            }
+        }
+        Err(_) => None,
+    }
+}
+
+// Whether a build that could not write all of its text leaves just so many bytes of it.
+fn leaves_first(alloc: Global, room: u32, fail: u64, bytes: usize) -> bool {
+    let whole = after_build(alloc, 100_000, 100, "0 / ");
+    let left = after_build(alloc, room, fail, "4 / cannot write\n");
+    let (Some(whole), Some(left)) = (whole, left) else {
+        return false;
+    };
+    match (whole.file("out"), left.file("out")) {
+        (Some(whole), Some(left)) => left.len() == bytes
+            && whole.as_slice().starts_with(left.as_slice()),
+        _ => false,
+    }
+}
+
+// The first write takes a line, of 44 bytes where a record has 16 data bytes. What a failed write left is not taken back.
+static LEFT: [(u32, u64, usize); 3] = [(100_000, 11, 0), (100_000, 12, 44), (100, 100, 100)];
+
+#[test]
+fn leaves_what_went_out(rt: HostRuntime) {
+    for &(room, fail, bytes) in &LEFT {
+        assert!(rt;
+            leaves_first(rt.alloc(), room, fail, bytes),
+            "{bytes} bytes"
+        );
+    }
+}
+
+// What comes of an exec whose program writes a port, where the first call on `out` fails.
+fn not_printed(alloc: Global) -> Told {
+    let texts = [
+        ("m", rows::MAP),
+        ("s", ""),
+        (
+            "a.c",
+            "#include <iohw.h>\nint main(void){iowr(LED, 1); return 0;}",
+        ),
+    ];
+    let words = ["exec", "m", "s", "1000", "a.c"];
+    match store(alloc, &texts, "o", 0, 0) {
+        Ok(mut store) => executed(alloc, &words, 1_000, &mut store, 1),
+        Err(_) => Err(AllocError),
+    }
+}
+
+#[test]
+fn tells_what_was_not_printed(rt: HostRuntime) {
+    assert!(rt; is(not_printed(rt.alloc()), "4 / cannot write\n"));
 }

@@ -16,7 +16,7 @@ use std::process::Abort;
 
 /// Ports of one byte, one of them in a group; a port of two bytes; buffers of three ports of two bytes, and of two ports of
 /// four bytes.
-static MAP: &str = "core = \"small\"
+pub static MAP: &str = "core = \"small\"
 [region]
 code = [0, 28672]
 tables = [28672, 4096]

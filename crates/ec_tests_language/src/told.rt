@@ -1,6 +1,6 @@
 //! Commands over memory: what is printed, the status and the line on `err`.
-use ec_commands::{CommandError, run, run_numbers, word_at};
-use ec_commands_compile::{build, conclude};
+use ec_commands::{Command, CommandError, command_of, run, word_at};
+use ec_commands_compile::{build, conclude, exec};
 use ec_emu::{Ask, Hook, Hooked, Rule};
 use ec_io::{MemFile, MemSink, MemStore};
 use ec_space::{NoMemory, Seq};
@@ -86,6 +86,18 @@ pub fn sink(alloc: Global, room: u32) -> Result<MemSink, AllocError> {
     }
 }
 
+// A sink whose call of the number `fail` fails.
+fn failing_sink(alloc: Global, fail: u64) -> Result<MemSink, AllocError> {
+    let failing = match failing(alloc, fail) {
+        Ok(failing) => failing,
+        Err(_) => return Err(AllocError),
+    };
+    match MemSink::new(alloc, 1_000, failing) {
+        Ok(sink) => Ok(sink),
+        Err(_) => Err(AllocError),
+    }
+}
+
 /// The status of a build.
 fn built(alloc: Global, words: &Vec<String>, store: &mut MemStore, err: &mut MemSink) -> u8 {
     let answer = build(alloc, words, store);
@@ -103,9 +115,9 @@ fn ran(
     let mut hooks = Hooked {
         hook: Hook::new(|ask: Ask| ask.last, Last),
     };
-    let answer = match run_numbers(words) {
-        Some(numbers) => run(alloc, words, numbers, store, out, &mut hooks),
-        None => Err(CommandError::Usage),
+    let answer = match command_of(words) {
+        Command::Run { steps, fill } => run(alloc, words, steps, fill, store, out, &mut hooks),
+        _ => Err(CommandError::Usage),
     };
     ec_commands::conclude(err, words, answer)
 }
@@ -132,6 +144,42 @@ fn told(
         built(alloc, words, store, err)
     };
     in_words(alloc, status, out, err)
+}
+
+// The status of an exec of so many steps; none of fewer words than an exec has.
+fn exec_status(
+    alloc: Global,
+    words: &Vec<String>,
+    steps: u32,
+    store: &mut MemStore,
+    out: &mut MemSink,
+    err: &mut MemSink,
+) -> Option<u8> {
+    if words.len() < 5 {
+        return None;
+    }
+    let mut hooks = Hooked {
+        hook: Hook::new(|ask: Ask| ask.last, Last),
+    };
+    let answer = exec(alloc, words, steps, store, out, &mut hooks);
+    Some(conclude(err, words, 4, answer))
+}
+
+/// What comes of an exec of so many steps over a store, where the call of this number on `out` fails.
+pub fn executed(
+    alloc: Global,
+    texts: &[&str],
+    steps: u32,
+    store: &mut MemStore,
+    fail: u64,
+) -> Told {
+    let words = words(alloc, texts)?;
+    let mut out = failing_sink(alloc, fail)?;
+    let mut err = sink(alloc, 1_000)?;
+    match exec_status(alloc, &words, steps, store, &mut out, &mut err) {
+        Some(status) => in_words(alloc, status, &out, &err),
+        None => Err(AllocError),
+    }
 }
 
 /// What comes of a command over a store, where `out` takes so many bytes.

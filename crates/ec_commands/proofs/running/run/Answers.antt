@@ -13,11 +13,11 @@ pub returns-clause-stopped : goal.returns-clause-stopped
 returns-clause-stopped g c =
     let made = c.print_run.ensures.shown in
     let found = c.in-Ok.ensures.found in
-    ran_stopped c.args.words.now.items c.args.numbers.steps c.args.numbers.fill _
+    ran_stopped c.args.words.now.items c.args.steps c.args.fill _
     (store_view (g.S.Store.disk c.args.store.now) (g.S.Store.read_faults c.args.store.now) (g.S.Store.write_faults c.args.store.now)
-    (g.S.Store.received c.args.store.now))
+    (g.S.Store.received c.args.store.now) (g.S.Store.missed c.args.store.now))
     (store_view (g.S.Store.disk c.load.new.store) (g.S.Store.read_faults c.load.new.store) (g.S.Store.write_faults c.load.new.store)
-    (g.S.Store.received c.load.new.store)) _ c.print_run.result
+    (g.S.Store.received c.load.new.store) (g.S.Store.missed c.load.new.store)) _ c.print_run.result
     (ran _ _ _ _ _ _ _ found.0 found.1 _ _ _ made.0 made.1.0 found.2.0 found.2.1 made.1.1.0 made.1.1.1.0) c.print_run.ensures.failed
 
 pub returns-clause-out_calm : goal.returns-clause-out_calm

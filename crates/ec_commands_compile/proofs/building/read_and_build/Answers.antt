@@ -7,9 +7,9 @@ pub returns-in-Err-clause-complete : goal.returns-in-Err-clause-complete
 returns-in-Err-clause-complete g c = λ accepted calm.
     no_reading_stop c.args.words.now.items (g.S.Store.disk c.args.store.now) (g.S.Store.read_faults c.args.store.now)
     (g.S.Store.write_faults c.args.store.now)
-    (g.S.Store.received c.args.store.now)
+    (g.S.Store.received c.args.store.now) (g.S.Store.missed c.args.store.now)
     (store_view (g.S.Store.disk c.read_inputs.new.store) (g.S.Store.read_faults c.read_inputs.new.store)
-    (g.S.Store.write_faults c.read_inputs.new.store) (g.S.Store.received c.read_inputs.new.store))
+    (g.S.Store.write_faults c.read_inputs.new.store) (g.S.Store.received c.read_inputs.new.store) (g.S.Store.missed c.read_inputs.new.store))
     c.in-Err.stop accepted calm c.in-Err.ensures.stopped
 
 pub returns-clause-found : goal.returns-clause-found
@@ -22,9 +22,9 @@ pub returns-clause-stopped : goal.returns-clause-stopped
 returns-clause-stopped g c =
     refused_from c.args.words.now.items
     (store_view (g.S.Store.disk c.args.store.now) (g.S.Store.read_faults c.args.store.now) (g.S.Store.write_faults c.args.store.now)
-    (g.S.Store.received c.args.store.now))
+    (g.S.Store.received c.args.store.now) (g.S.Store.missed c.args.store.now))
     (store_view (g.S.Store.disk c.read_inputs.new.store) (g.S.Store.read_faults c.read_inputs.new.store)
-    (g.S.Store.write_faults c.read_inputs.new.store) (g.S.Store.received c.read_inputs.new.store))
+    (g.S.Store.write_faults c.read_inputs.new.store) (g.S.Store.received c.read_inputs.new.store) (g.S.Store.missed c.read_inputs.new.store))
     c.in-Ok.inputs.map.items
     (texts c.in-Ok.inputs.sources.items) c.compile.result c.requires c.in-Ok.ensures.files c.in-Ok.ensures.found c.compile.ensures.stopped
 

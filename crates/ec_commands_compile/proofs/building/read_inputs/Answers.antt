@@ -22,11 +22,11 @@ returns-in-Err-read_sources-clause-stopped g c =
     let map = c.in-Ok.map.items in
     inr (stops_behind words 3 (λ files. get files (word words 1) ≡ Some map) (λ _. ⊤) (HasMap words) 16384 0 (length map)
     (store_view (g.S.Store.disk c.args.store.now) (g.S.Store.read_faults c.args.store.now) (g.S.Store.write_faults c.args.store.now)
-    (g.S.Store.received c.args.store.now))
+    (g.S.Store.received c.args.store.now) (g.S.Store.missed c.args.store.now))
     (store_view (g.S.Store.disk c.read.new.store) (g.S.Store.read_faults c.read.new.store) (g.S.Store.write_faults c.read.new.store)
-    (g.S.Store.received c.read.new.store))
+    (g.S.Store.received c.read.new.store) (g.S.Store.missed c.read.new.store))
     (store_view (g.S.Store.disk c.read_sources.new.store) (g.S.Store.read_faults c.read_sources.new.store)
-    (g.S.Store.write_faults c.read_sources.new.store) (g.S.Store.received c.read_sources.new.store))
+    (g.S.Store.write_faults c.read_sources.new.store) (g.S.Store.received c.read_sources.new.store) (g.S.Store.missed c.read_sources.new.store))
     c.in-Err-read_sources.stop c.in-Ok.ensures.files c.in-Ok.ensures.found.told
     (λ files there any. within_here files (word words 1) map 16384 there c.in-Ok.ensures.found.within)
     c.in-Ok.ensures.later c.in-Ok.ensures.found.received c.in-Ok.ensures.found.within c.in-Err-read_sources.ensures.stopped)

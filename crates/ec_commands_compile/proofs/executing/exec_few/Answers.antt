@@ -9,9 +9,9 @@ returns-in-Err-clause-stopped g c =
     inl (
       before_run c.args.words.now.items
           (store_view (g.S.Store.disk c.args.store.now) (g.S.Store.read_faults c.args.store.now) (g.S.Store.write_faults c.args.store.now)
-          (g.S.Store.received c.args.store.now))
+          (g.S.Store.received c.args.store.now) (g.S.Store.missed c.args.store.now))
           (store_view (g.S.Store.disk c.load.new.store) (g.S.Store.read_faults c.load.new.store) (g.S.Store.write_faults c.load.new.store)
-          (g.S.Store.received c.load.new.store))
+          (g.S.Store.received c.load.new.store) (g.S.Store.missed c.load.new.store))
           c.in-Err.stop c.requires.few c.in-Err.ensures.stopped,
       refl,
     )
@@ -34,9 +34,9 @@ returns-clause-stopped g c =
     let made = c.in-Err-print_run.ensures.shown in
     exec_stops _ _ _
     (store_view (g.S.Store.disk c.args.store.now) (g.S.Store.read_faults c.args.store.now) (g.S.Store.write_faults c.args.store.now)
-    (g.S.Store.received c.args.store.now))
+    (g.S.Store.received c.args.store.now) (g.S.Store.missed c.args.store.now))
     (store_view (g.S.Store.disk c.load.new.store) (g.S.Store.read_faults c.load.new.store) (g.S.Store.write_faults c.load.new.store)
-    (g.S.Store.received c.load.new.store))
+    (g.S.Store.received c.load.new.store) (g.S.Store.missed c.load.new.store))
     (sink_call (g.O.Sink.written c.args.out.now) (g.O.Sink.written c.print_run.new.out) (g.O.Sink.faults c.args.out.now)
     (g.O.Sink.faults c.print_run.new.out))
     c.in-Err-print_run.stop c.requires.few

@@ -8,27 +8,27 @@ pub returns-in-Err-clause-stopped : goal.returns-in-Err-clause-stopped
 returns-in-Err-clause-stopped g c =
     reading_stops c.args.words.now.items
     (store_view (g.S.Store.disk c.args.store.now) (g.S.Store.read_faults c.args.store.now) (g.S.Store.write_faults c.args.store.now)
-    (g.S.Store.received c.args.store.now))
+    (g.S.Store.received c.args.store.now) (g.S.Store.missed c.args.store.now))
     (store_view (g.S.Store.disk c.read_inputs.new.store) (g.S.Store.read_faults c.read_inputs.new.store)
-    (g.S.Store.write_faults c.read_inputs.new.store) (g.S.Store.received c.read_inputs.new.store))
+    (g.S.Store.write_faults c.read_inputs.new.store) (g.S.Store.received c.read_inputs.new.store) (g.S.Store.missed c.read_inputs.new.store))
     c.in-Err.stop c.in-Err.ensures.stopped
 
 pub returns-in-Err-clause-complete : goal.returns-in-Err-clause-complete
 returns-in-Err-clause-complete g c = λ accepted calm.
     no_reading_stop c.args.words.now.items (g.S.Store.disk c.args.store.now) (g.S.Store.read_faults c.args.store.now)
     (g.S.Store.write_faults c.args.store.now)
-    (g.S.Store.received c.args.store.now)
+    (g.S.Store.received c.args.store.now) (g.S.Store.missed c.args.store.now)
     (store_view (g.S.Store.disk c.read_inputs.new.store) (g.S.Store.read_faults c.read_inputs.new.store)
-    (g.S.Store.write_faults c.read_inputs.new.store) (g.S.Store.received c.read_inputs.new.store))
+    (g.S.Store.write_faults c.read_inputs.new.store) (g.S.Store.received c.read_inputs.new.store) (g.S.Store.missed c.read_inputs.new.store))
     c.in-Err.stop accepted calm c.in-Err.ensures.stopped
 
 pub returns-in-Err-compile-clause-stopped : goal.returns-in-Err-compile-clause-stopped
 returns-in-Err-compile-clause-stopped g c =
     build_stops c.args.words.now.items
     (store_view (g.S.Store.disk c.args.store.now) (g.S.Store.read_faults c.args.store.now) (g.S.Store.write_faults c.args.store.now)
-    (g.S.Store.received c.args.store.now))
+    (g.S.Store.received c.args.store.now) (g.S.Store.missed c.args.store.now))
     (store_view (g.S.Store.disk c.read_inputs.new.store) (g.S.Store.read_faults c.read_inputs.new.store)
-    (g.S.Store.write_faults c.read_inputs.new.store) (g.S.Store.received c.read_inputs.new.store))
+    (g.S.Store.write_faults c.read_inputs.new.store) (g.S.Store.received c.read_inputs.new.store) (g.S.Store.missed c.read_inputs.new.store))
     c.in-Ok.inputs.inputs.map.items c.in-Ok.inputs.script.items
     (texts c.in-Ok.inputs.inputs.sources.items) c.in-Err-compile.stop c.in-Ok.ensures.found
     c.in-Err-compile.ensures.stopped
@@ -59,9 +59,9 @@ pub returns-clause-stopped : goal.returns-clause-stopped
 returns-clause-stopped g c =
     script_stops c.args.words.now.items
     (store_view (g.S.Store.disk c.args.store.now) (g.S.Store.read_faults c.args.store.now) (g.S.Store.write_faults c.args.store.now)
-    (g.S.Store.received c.args.store.now))
+    (g.S.Store.received c.args.store.now) (g.S.Store.missed c.args.store.now))
     (store_view (g.S.Store.disk c.read_inputs.new.store) (g.S.Store.read_faults c.read_inputs.new.store)
-    (g.S.Store.write_faults c.read_inputs.new.store) (g.S.Store.received c.read_inputs.new.store))
+    (g.S.Store.write_faults c.read_inputs.new.store) (g.S.Store.received c.read_inputs.new.store) (g.S.Store.missed c.read_inputs.new.store))
     c.in-Ok.inputs.script.items c.in-Ok-compile.built c.in-Err-loaded.stop
     (record {
       map = c.in-Ok.inputs.inputs.map.items;

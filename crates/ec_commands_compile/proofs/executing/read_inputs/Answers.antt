@@ -46,11 +46,11 @@ returns-in-Err-read_sources-clause-stopped g c =
     let lines : List ℕ = c.in-Ok-read.script.items in
     inr (inr (stops_behind words 4 (HoldsBoth words map lines) (λ _. ⊤) (HasScript words) 81920 0 (length map + length lines)
     (store_view (g.S.Store.disk c.args.store.now) (g.S.Store.read_faults c.args.store.now) (g.S.Store.write_faults c.args.store.now)
-    (g.S.Store.received c.args.store.now))
+    (g.S.Store.received c.args.store.now) (g.S.Store.missed c.args.store.now))
     (store_view (g.S.Store.disk c.read-2.new.store) (g.S.Store.read_faults c.read-2.new.store) (g.S.Store.write_faults c.read-2.new.store)
-    (g.S.Store.received c.read-2.new.store))
+    (g.S.Store.received c.read-2.new.store) (g.S.Store.missed c.read-2.new.store))
     (store_view (g.S.Store.disk c.read_sources.new.store) (g.S.Store.read_faults c.read_sources.new.store)
-    (g.S.Store.write_faults c.read_sources.new.store) (g.S.Store.received c.read_sources.new.store))
+    (g.S.Store.write_faults c.read_sources.new.store) (g.S.Store.received c.read_sources.new.store) (g.S.Store.missed c.read_sources.new.store))
     c.in-Err-read_sources.stop (kept_on _ _ _ c.in-Ok.ensures.files c.in-Ok-read.ensures.files)
     (both_told words _ _ map lines c.in-Ok.ensures.files c.in-Ok.ensures.found.told c.in-Ok-read.ensures.found.told)
     (λ files both any. has_script words map lines files c.in-Ok.ensures.found.within c.in-Ok-read.ensures.found.within both)
@@ -63,11 +63,11 @@ returns-in-Err-read-clause-stopped g c =
     let words = c.args.words.now.items in
     inr (inl (script_behind words c.in-Ok.map.items
     (store_view (g.S.Store.disk c.args.store.now) (g.S.Store.read_faults c.args.store.now) (g.S.Store.write_faults c.args.store.now)
-    (g.S.Store.received c.args.store.now))
+    (g.S.Store.received c.args.store.now) (g.S.Store.missed c.args.store.now))
     (store_view (g.S.Store.disk c.read.new.store) (g.S.Store.read_faults c.read.new.store) (g.S.Store.write_faults c.read.new.store)
-    (g.S.Store.received c.read.new.store))
+    (g.S.Store.received c.read.new.store) (g.S.Store.missed c.read.new.store))
     (store_view (g.S.Store.disk c.read-2.new.store) (g.S.Store.read_faults c.read-2.new.store) (g.S.Store.write_faults c.read-2.new.store)
-    (g.S.Store.received c.read-2.new.store))
+    (g.S.Store.received c.read-2.new.store) (g.S.Store.missed c.read-2.new.store))
     c.in-Err-read.stop c.in-Ok.ensures.files c.in-Ok.ensures.found.told c.in-Ok.ensures.found.within c.in-Ok.ensures.later
     c.in-Ok.ensures.found.received
     c.in-Err-read.ensures.stopped))

@@ -25,7 +25,7 @@ more-preserved g c =
       reading = c.read.ensures.reading ∙ i.reading;
       calm = λ names made room calm named.
           let before = i.calm names made room calm named in
-          let after = c.in-Ok.ensures.calm names made room before.1 i.reading in
+          let after = c.in-Ok.ensures.calm names made room before.1 (rw i.reading refl) in
           (after.0.same ∙ before.0, after.1);
     }
 

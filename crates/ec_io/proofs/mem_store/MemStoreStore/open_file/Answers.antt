@@ -13,14 +13,14 @@ pub returns-in-Some-clause-fails : goal.returns-in-Some-clause-fails
 returns-in-Some-clause-fails c =
     rw (← c.self.view_is)
     (let named : Names c.self.inside.files.items c.self.inside.made c.self.inside.stands c.args.name.now c.in-Some.source =
-    rw (c.as_slice.ensures, c.as_bytes.ensures.value) at c.in-Some.ensures in
+    rw (c.as_slice.ensures, c.as_bytes-2.ensures.value) at c.in-Some.ensures in
     goes _ _ (sym c.next.ensures.due ∙ c.if-next.false) (there_told _ c.self.inside.made _ _ c.in-Some.source named))
 
 pub returns-in-Some-clause-disk : goal.returns-in-Some-clause-disk
 returns-in-Some-clause-disk c =
     rw (← c.self.view_is)
     (let named : Names c.self.inside.files.items c.self.inside.made c.self.inside.stands c.args.name.now c.in-Some.source =
-    rw (c.as_slice.ensures, c.as_bytes.ensures.value) at c.in-Some.ensures in
+    rw (c.as_slice.ensures, c.as_bytes-2.ensures.value) at c.in-Some.ensures in
     (there_told _ c.self.inside.made _ _ c.in-Some.source named, rw (name_told _ c.self.inside.made _ _ c.in-Some.source named) refl))
 
 pub returns-in-Some-clause-calm : goal.returns-in-Some-clause-calm

@@ -16,7 +16,7 @@ returns-clause-most c =
     (let here : IsPlace c.self.inside.files.items c.self.inside.made c.self.inside.stands c.in-Some.place =
     rw c.in-Some.is at c.self.invariant.input in
     let bytes : bytes_of c.self.inside.files.items c.self.inside.made c.in-Some.place.source ≡ Some c.in-Some-source_bytes.bytes.now.items =
-    sym (rw (c.in-Some-source_bytes.is, c.as_slice.ensures) at c.source_bytes.ensures) in
+    sym (rw (c.in-Some-source_bytes.is, c.as_slice-2.ensures) at c.source_bytes.ensures) in
     rw (content_told _ c.self.inside.made _ _ c.in-Some.place.source _ here bytes, ← c.as_slice-in-Some-source_bytes.ensures)
     c.put_next-n.ensures.most))
 
@@ -26,7 +26,7 @@ returns-clause-disk c =
     (let here : IsPlace c.self.inside.files.items c.self.inside.made c.self.inside.stands c.in-Some.place =
     rw c.in-Some.is at c.self.invariant.input in
     let bytes : bytes_of c.self.inside.files.items c.self.inside.made c.in-Some.place.source ≡ Some c.in-Some-source_bytes.bytes.now.items =
-    sym (rw (c.in-Some-source_bytes.is, c.as_slice.ensures) at c.source_bytes.ensures) in
+    sym (rw (c.in-Some-source_bytes.is, c.as_slice-2.ensures) at c.source_bytes.ensures) in
     reads_on _ c.as_slice-in-Some-source_bytes.result.now c.put_next-n.new.buf _ c.in-Some.place.at c.put_next-n.result
     (content_told _ c.self.inside.made _ _ c.in-Some.place.source _ here bytes ∙ sym c.as_slice-in-Some-source_bytes.ensures)
     c.put_next-n.ensures.most c.put_next-n.ensures.bytes))

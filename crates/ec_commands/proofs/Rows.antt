@@ -1,0 +1,182 @@
+-- The command of a row of words.
+use Rattle.std.proofs.Common.{◌≡◌, ◌∙◌, ◌≤◌, ℕ, Bool, true, false, ◌&&◌, List, [], ◌∷◌, Some, None, length, refl, sym, ap, subst}
+use Rattle.std.specs.Prelude.{◌==◌, ⊤, Option, nat_lt, nat_le, if◌then◌else◌, bytes_eq, codes}
+use Rattle.std.proofs.lemmas.Bool.{and_from, and_parts, leb-true, le-leb, ltb-true, lt-ltb, eqb-true}
+use Rattle.std.specs.List.{list_all}
+use Rattle.std.specs.Char.{digit_value}
+use Rattle.std.specs.Str.Parse.{AllDigits, digits_value}
+use Rattle.std.specs.Cmp.Lexicographic.{same_text}
+use Rattle.ec_commands.specs.Command.{is_number, number, build_row, run_by, run_row, exec_by, exec_row, gen_by, gen_row, row_of, command_of}
+use Rattle.ec_commands.specs.Command.{IsRow, IsNoCommand, IsRowOf, RowsAreCommands}
+use Rattle.ec_commands.specs.Words.{Words, word, IsNumber, is_build, IsRun, IsExecRow, IsGen}
+use Rattle.ec_commands.specs.declared.words.Command.{Command}
+use Rattle.ec_commands.specs.declared.words.Command.TheVariants.{Build, Run, Exec, Gen, NoCommand}
+
+-- ---- numbers
+
+digits_told : (digits : List ℕ) → list_all (λ c. nat_lt (digit_value c) 10) digits ≡ true → AllDigits 10 digits
+digits_told [] e = tt
+digits_told (c ∷ cs) e =
+    let h = and_parts (nat_lt (digit_value c) 10) (list_all (λ d. nat_lt (digit_value d) 10) cs) e in
+    (ltb-true (digit_value c) 10 h.0, digits_told cs h.1)
+
+digits_test : (digits : List ℕ) → AllDigits 10 digits → list_all (λ c. nat_lt (digit_value c) 10) digits ≡ true
+digits_test [] h = refl
+digits_test (c ∷ cs) h =
+    and_from (nat_lt (digit_value c) 10) (list_all (λ d. nat_lt (digit_value d) 10) cs) (lt-ltb (digit_value c) 10 h.0) (digits_test cs h.1)
+
+number_is : (digits : List ℕ) (most n : ℕ) → IsNumber digits most n → number digits most ≡ Some n
+number_is digits most n h =
+    let test : is_number digits most ≡ true =
+    and_from (nat_lt 0 (length digits)) _ (lt-ltb 0 (length digits) h.numeral.0) (and_from
+    (list_all (λ c. nat_lt (digit_value c) 10) digits) _ (digits_test digits h.numeral.1) (and_from
+    (nat_le (length digits) 10) _ (le-leb (length digits) 10 h.short) (le-leb (digits_value 10 digits) most (rw h.value h.small)))) in
+    rw test (ap Some h.value)
+
+held : (b : Bool) (v n : ℕ) → (if b then Some v else None) ≡ Some n → (b ≡ true) × (v ≡ n)
+held true v n e = (refl, cc)
+held false v n e = cc
+
+number_told : (digits : List ℕ) (most n : ℕ) → number digits most ≡ Some n → IsNumber digits most n
+number_told digits most n e =
+    let h = held (is_number digits most) (digits_value 10 digits) n e in
+    let some = and_parts (nat_lt 0 (length digits)) _ h.0 in
+    let all = and_parts (list_all (λ c. nat_lt (digit_value c) 10) digits) _ some.1 in
+    let short = and_parts (nat_le (length digits) 10) _ all.1 in
+    record {
+      numeral = (ltb-true 0 (length digits) some.0, digits_told digits all.0);
+      short = leb-true (length digits) 10 short.0;
+      value = h.1;
+      small = subst (λ m. m ≤ most) h.1 (leb-true (digits_value 10 digits) most short.1);
+    }
+
+-- ---- the row of a command is read as it
+
+row_at : (words : Words) (name : List ℕ) (c : Command) → bytes_eq (word words 0) name ≡ true → row_of name words ≡ c → command_of words ≡ c
+row_at words name c named e = ap (λ (w : List ℕ). row_of w words) (same_text (word words 0) name (sym named)) ∙ e
+
+row_read : (words : Words) (c : Command) → IsRow c words → command_of words ≡ c
+row_read words Build h =
+    let parts = and_parts (nat_le 4 (length words)) (bytes_eq (word words 0) (codes "build")) h in
+    row_at words (codes "build") Build parts.1 (rw parts.0 refl)
+row_read words (Run steps fill) h =
+    row_at words (codes "run") (Run steps fill) h.row
+    (rw (h.five, number_is (word words 3) 4294967295 steps h.steps_word, number_is (word words 4) 255 fill h.fill_word) refl)
+row_read words (Exec steps) h =
+    row_at words (codes "exec") (Exec steps) h.row
+    (rw (le-leb 5 (length words) h.five, number_is (word words 3) 4294967295 steps h.steps_word) refl)
+row_read words (Gen n) h =
+    row_at words (codes "gen") (Gen n) h.row
+    (rw (h.two, number_is (word words 1) 2000 n h.number_word, lt-ltb 0 n h.some) refl)
+row_read words NoCommand h = absurd h
+
+-- ---- what is read is the row of what it is read as
+
+-- the words are the row of the command, or it is none
+abbrev IsRead : Words → Command → Type 0
+IsRead words Build = IsRow Build words
+IsRead words (Run steps fill) = IsRow (Run steps fill) words
+IsRead words (Exec steps) = IsRow (Exec steps) words
+IsRead words (Gen n) = IsRow (Gen n) words
+IsRead words NoCommand = ⊤
+
+build_told : (words : Words) (long : Bool) → nat_le 4 (length words) ≡ long → bytes_eq (word words 0) (codes "build") ≡ true
+    → IsRead words (if long then Build else NoCommand)
+build_told words true e named = and_from (nat_le 4 (length words)) (bytes_eq (word words 0) (codes "build")) e named
+build_told words false e named = tt
+
+run_by_told : (words : Words) (steps fill : Option ℕ) → length words ≡ 5 → bytes_eq (word words 0) (codes "run") ≡ true
+    → number (word words 3) 4294967295 ≡ steps → number (word words 4) 255 ≡ fill → IsRead words (run_by steps fill)
+run_by_told words (Some steps) (Some fill) five named s f = record {
+  five = five;
+  row = named;
+  steps_word = number_told (word words 3) 4294967295 steps s;
+  fill_word = number_told (word words 4) 255 fill f;
+}
+run_by_told words (Some steps) None five named s f = tt
+run_by_told words None fill five named s f = tt
+
+run_told : (words : Words) (five : Bool) → (length words == 5) ≡ five → bytes_eq (word words 0) (codes "run") ≡ true
+    → IsRead words (if five then run_by (number (word words 3) 4294967295) (number (word words 4) 255) else NoCommand)
+run_told words true e named = run_by_told words _ _ (eqb-true (length words) 5 e) named refl refl
+run_told words false e named = tt
+
+exec_by_told : (words : Words) (steps : Option ℕ) → 5 ≤ length words → bytes_eq (word words 0) (codes "exec") ≡ true
+    → number (word words 3) 4294967295 ≡ steps → IsRead words (exec_by steps)
+exec_by_told words (Some steps) five named s =
+    record { five = five; row = named; steps_word = number_told (word words 3) 4294967295 steps s }
+exec_by_told words None five named s = tt
+
+exec_told : (words : Words) (five : Bool) → nat_le 5 (length words) ≡ five → bytes_eq (word words 0) (codes "exec") ≡ true
+    → IsRead words (if five then exec_by (number (word words 3) 4294967295) else NoCommand)
+exec_told words true e named = exec_by_told words _ (leb-true 5 (length words) e) named refl
+exec_told words false e named = tt
+
+gen_some_told : (words : Words) (n : ℕ) (some : Bool) → length words ≡ 2 → bytes_eq (word words 0) (codes "gen") ≡ true
+    → number (word words 1) 2000 ≡ Some n → nat_lt 0 n ≡ some → IsRead words (if some then Gen n else NoCommand)
+gen_some_told words n true two named s e =
+    record { two = two; row = named; number_word = number_told (word words 1) 2000 n s; some = ltb-true 0 n e }
+gen_some_told words n false two named s e = tt
+
+gen_by_told : (words : Words) (n : Option ℕ) → length words ≡ 2 → bytes_eq (word words 0) (codes "gen") ≡ true
+    → number (word words 1) 2000 ≡ n → IsRead words (gen_by n)
+gen_by_told words (Some n) two named s = gen_some_told words n (nat_lt 0 n) two named s refl
+gen_by_told words None two named s = tt
+
+gen_told : (words : Words) (two : Bool) → (length words == 2) ≡ two → bytes_eq (word words 0) (codes "gen") ≡ true
+    → IsRead words (if two then gen_by (number (word words 1) 2000) else NoCommand)
+gen_told words true e named = gen_by_told words _ (eqb-true (length words) 2 e) named refl
+gen_told words false e named = tt
+
+-- the first of four rows whose name it is
+by_name : (P : Command → Type 0) (b r e g : Bool) (c d x y : Command) → (b ≡ true → P c) → (r ≡ true → P d) → (e ≡ true → P x)
+    → (g ≡ true → P y) → P NoCommand → P (if b then c else if r then d else if e then x else if g then y else NoCommand)
+by_name P true r e g c d x y one two three four none = one refl
+by_name P false true e g c d x y one two three four none = two refl
+by_name P false false true g c d x y one two three four none = three refl
+by_name P false false false true c d x y one two three four none = four refl
+by_name P false false false false c d x y one two three four none = none
+
+read_told : (words : Words) → IsRead words (command_of words)
+read_told words =
+    by_name (IsRead words) (bytes_eq (word words 0) (codes "build")) (bytes_eq (word words 0) (codes "run"))
+    (bytes_eq (word words 0) (codes "exec")) (bytes_eq (word words 0) (codes "gen"))
+    (build_row words) (run_row words) (exec_row words) (gen_row words) (build_told words _ refl) (run_told words _ refl)
+    (exec_told words _ refl) (gen_told words _ refl) tt
+
+-- ---- both
+
+none_left : (words : Words) (c : Command) → IsNoCommand words → IsRead words c → c ≡ NoCommand
+none_left words Build against h = absurd (against Build h)
+none_left words (Run steps fill) against h = absurd (against (Run steps fill) h)
+none_left words (Exec steps) against h = absurd (against (Exec steps) h)
+none_left words (Gen n) against h = absurd (against (Gen n) h)
+none_left words NoCommand against h = refl
+
+pub command_is : (words : Words) (c : Command) → IsRowOf c words → command_of words ≡ c
+command_is words Build h = row_read words Build h
+command_is words (Run steps fill) h = row_read words (Run steps fill) h
+command_is words (Exec steps) h = row_read words (Exec steps) h
+command_is words (Gen n) h = row_read words (Gen n) h
+command_is words NoCommand h = none_left words (command_of words) h (read_told words)
+
+row_told : (words : Words) (c : Command) → command_of words ≡ c → IsRead words c → IsRowOf c words
+row_told words Build e h = h
+row_told words (Run steps fill) e h = h
+row_told words (Exec steps) e h = h
+row_told words (Gen n) e h = h
+row_told words NoCommand e h = λ c row. subst (λ d. IsRow d words) (sym (row_read words c row) ∙ e) row
+
+pub no_command : (words : Words) → is_build words ≡ false → ((steps fill : ℕ) → ¬ (IsRun words steps fill))
+    → ((steps : ℕ) → ¬ (IsExecRow words steps)) → ((n : ℕ) → ¬ (IsGen words n)) → (c : Command) → ¬ (IsRow c words)
+no_command words no_build no_run no_exec no_gen Build = λ h. let e = sym no_build ∙ h in cc
+no_command words no_build no_run no_exec no_gen (Run steps fill) = no_run steps fill
+no_command words no_build no_run no_exec no_gen (Exec steps) = no_exec steps
+no_command words no_build no_run no_exec no_gen (Gen n) = no_gen n
+no_command words no_build no_run no_exec no_gen NoCommand = λ h. h
+
+pub rows_are_commands : RowsAreCommands
+rows_are_commands words c = (
+  λ e. row_told words c e (subst (λ d. IsRead words d) e (read_told words)),
+  λ h. command_is words c h,
+)

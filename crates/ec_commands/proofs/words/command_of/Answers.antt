@@ -1,0 +1,21 @@
+use Rattle.std.proofs.Common.{◌∙◌, sym}
+use Rattle.ec_commands.specs.declared.words.Command.TheVariants.{Run, Exec, Gen, NoCommand}
+use Rattle.ec_commands.proofs.Rows.{command_is, no_command}
+use Rattle.ec_commands.proofs.words.command_of.Goals as goal
+
+pub returns-in-Some-clause-value : goal.returns-in-Some-clause-value
+returns-in-Some-clause-value c =
+    sym (command_is c.args.words.now.items (Run c.in-Some.steps c.in-Some.fill) c.in-Some.ensures.some)
+
+pub returns-in-Some-exec_steps-clause-value : goal.returns-in-Some-exec_steps-clause-value
+returns-in-Some-exec_steps-clause-value c =
+    sym (command_is c.args.words.now.items (Exec c.in-Some-exec_steps.steps) c.in-Some-exec_steps.ensures.some)
+
+pub returns-in-Some-gen_number-clause-value : goal.returns-in-Some-gen_number-clause-value
+returns-in-Some-gen_number-clause-value c =
+    sym (command_is c.args.words.now.items (Gen c.in-Some-gen_number.n) c.in-Some-gen_number.ensures.some)
+
+pub returns-clause-value : goal.returns-clause-value
+returns-clause-value c =
+    sym (command_is c.args.words.now.items NoCommand (no_command c.args.words.now.items (sym c.is_build.ensures ∙ c.if-is_build.false)
+    c.in_default.ensures.none c.in_default-exec_steps.ensures.none c.in_default-gen_number.ensures.none))
