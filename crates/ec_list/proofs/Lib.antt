@@ -1,0 +1,9 @@
+mod Patterns
+mod Rows
+mod Exact
+mod ExactLines
+mod OneReading
+mod Walk
+mod Placing
+mod Taking
+mod Splitting

@@ -1,0 +1,9 @@
+pub mod Texts
+pub mod Scanning
+pub mod Views
+pub mod Reading
+pub mod Lines
+pub mod ReadingLines
+pub mod Walking
+pub mod Lists
+pub mod Assembling
