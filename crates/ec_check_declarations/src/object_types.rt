@@ -2,22 +2,11 @@
 ghost use Rattle.std.specs.Prelude.{◌≡◌, ℕ, IfSome, None, if◌then◌else◌, option_map, map, length};
 ghost use Rattle.ec_core.specs.Layout.{IsObjectType, AreStructs};
 ghost use Rattle.ec_core.specs.Plain.{plain_type, plain_struct};
-ghost use Rattle.ec_check_expressions.specs.Known.{names_below, is_sized};
+ghost use Rattle.ec_check_expressions.specs.Known.{is_sized};
 ghost use Rattle.ec_check_declarations.specs.ObjectTypes.{is_object_type, object_type, is_too_large};
 
 use ec_core::{CType, StructDef, size_of};
 use ec_space::Seq;
-
-fn names_below(structs: usize, ty: &CType) -> bool
-    ensures { result ≡ names_below structs (plain_type ty.now) }
-{
-    match ty {
-        CType::Void | CType::Int { .. } | CType::Fx { .. } => true,
-        CType::Ptr { to, .. } => names_below(structs, to),
-        CType::Array { of, .. } => names_below(structs, of),
-        CType::Struct { index } => (*index as usize) < structs,
-    }
-}
 
 fn is_sized(structs: usize, ty: &CType) -> bool
     ensures { result ≡ is_sized structs (plain_type ty.now) }
@@ -26,7 +15,7 @@ fn is_sized(structs: usize, ty: &CType) -> bool
         CType::Void | CType::Array { .. } => false,
         CType::Int { bytes, .. } => *bytes == 1 || *bytes == 2 || *bytes == 4,
         CType::Fx { .. } => true,
-        CType::Ptr { to, .. } => names_below(structs, to),
+        CType::Ptr { to, .. } => to.names_below(structs),
         CType::Struct { index } => (*index as usize) < structs,
     }
 }

@@ -1,15 +1,7 @@
 -- The types that type names mean (ISO/IEC 9899:1999, 6.7.6).
 use Rattle.std.specs.Prelude.{ℕ, Bool, true, false, ◌||◌, ◌==◌, nat_lt, Option, Some, None}
+pub use Rattle.ec_core.specs.Layers.{names_below}
 use Rattle.ec_core.specs.Plain.{PlainType, void, integer, fixed, pointer, array, struct}
-
--- the structs that a type names are among the first n
-abbrev pub names_below : ℕ → PlainType → Bool
-names_below n void = true
-names_below n (integer signed bytes) = true
-names_below n (fixed kind sat) = true
-names_below n (pointer space konst to) = names_below n to
-names_below n (array of len) = names_below n of
-names_below n (struct index) = nat_lt index n
 
 -- a type that a type name can say and that an object can have, where there are n structs
 abbrev pub is_sized : ℕ → PlainType → Bool

@@ -1,21 +1,9 @@
 //! The types that type names mean (ISO/IEC 9899:1999, 6.7.6).
 ghost use Rattle.std.specs.Prelude.{◌≡◌, option_map};
 ghost use Rattle.ec_core.specs.Plain.{plain_type};
-ghost use Rattle.ec_check_expressions.specs.Types.{names_below, is_sized, meant_type};
+ghost use Rattle.ec_check_expressions.specs.Types.{is_sized, meant_type};
 
 use ec_core::CType;
-
-/// Whether the structs that a type names are among the first `structs`.
-fn names_below(structs: usize, ty: &CType) -> bool
-    ensures { result ≡ names_below structs (plain_type ty.now) }
-{
-    match ty {
-        CType::Void | CType::Int { .. } | CType::Fx { .. } => true,
-        CType::Ptr { to, .. } => names_below(structs, to),
-        CType::Array { of, .. } => names_below(structs, of),
-        CType::Struct { index } => (*index as usize) < structs,
-    }
-}
 
 /// Whether a type name can say the type and an object can have it, where there are `structs` structs.
 pub fn is_sized(structs: usize, ty: &CType) -> bool
@@ -25,7 +13,7 @@ pub fn is_sized(structs: usize, ty: &CType) -> bool
         CType::Void | CType::Array { .. } => false,
         CType::Int { bytes, .. } => *bytes == 1 || *bytes == 2 || *bytes == 4,
         CType::Fx { .. } => true,
-        CType::Ptr { to, .. } => names_below(structs, to),
+        CType::Ptr { to, .. } => to.names_below(structs),
         CType::Struct { index } => (*index as usize) < structs,
     }
 }

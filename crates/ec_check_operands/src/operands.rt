@@ -93,26 +93,11 @@ fn value_at(modes: Modes, ty: CType, konst: bool, space: SpaceId, place: PlaceEx
     ensures { (register : _) → plain_expr result
         ≡ as_value modes (plain_operand (Place ty konst space register place)) }
 {
-    match ty {
-        CType::Array { of, .. } => made(
-            modes,
-            CType::Ptr {
-                space,
-                konst,
-                to: of,
-            },
-            Node::AddressOf(place),
-        ),
-        CType::Void => made(modes, CType::Void, Node::Load(place)),
-        CType::Int { signed, bytes } => {
-            made(modes, CType::Int { signed, bytes }, Node::Load(place))
-        }
-        CType::Fx { kind, sat } => made(modes, CType::Fx { kind, sat }, Node::Load(place)),
-        CType::Ptr { space, konst, to } => {
-            made(modes, CType::Ptr { space, konst, to }, Node::Load(place))
-        }
-        CType::Struct { index } => made(modes, CType::Struct { index }, Node::Load(place)),
-    }
+    let node = match &ty {
+        CType::Array { .. } => Node::AddressOf(place),
+        _ => Node::Load(place),
+    };
+    made(modes, ty.of_value(space, konst), node)
 }
 
 /// The value in a type: converted where that is another one.

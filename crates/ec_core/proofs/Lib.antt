@@ -12,6 +12,7 @@ pub mod TypedValues
 -- For this crate alone.
 mod Calling
 mod Depths
+mod Layered
 mod Layouts
 mod Points
 mod Runs

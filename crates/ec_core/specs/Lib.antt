@@ -7,6 +7,7 @@ pub mod Expressions
 pub mod Generated
 pub mod Integers
 pub mod Laws
+pub mod Layers
 pub mod Layout
 pub mod Meaning
 pub mod Needs

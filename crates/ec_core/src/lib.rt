@@ -11,6 +11,7 @@ mod arithmetic_types;
 mod expressions;
 mod integers;
 mod laws;
+mod layers;
 mod layout;
 mod pointers;
 mod programs;
