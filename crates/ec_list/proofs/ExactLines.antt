@@ -1,5 +1,6 @@
 -- A text is read as a line exactly where it is that line's.
-use Rattle.std.proofs.Common.{◌≡◌, ◌↔◌, ◌<◌, ℕ, ◌+◌, ◌*◌, ◌/◌, ◌%◌, Bool, true, false, List, drop, Option, Some, None, Result, Ok, Err, refl, sym, ap, ◌∙◌, subst, arith}
+use Rattle.std.proofs.Common.{◌≡◌, ◌↔◌, ◌<◌, ℕ, ◌+◌, ◌*◌, ◌/◌, ◌%◌, Bool, true, false, List, drop, Option, Some, None, Result, Ok, Err}
+use Rattle.std.proofs.Common.{refl, sym, ap, ◌∙◌, subst, arith}
 use Rattle.std.specs.Prelude.{bytes_eq, nat_le, if◌then◌else◌, IfOk, slice_index}
 use Rattle.std.specs.Char.{digit_value, is_digit}
 use Rattle.std.specs.Cmp.Lexicographic.{same_text}
@@ -70,7 +71,8 @@ guess_back l small h =
     let c = digit_back (l.at / 256 % 16) (omega arith) in
     let d = digit_back (l.at / 16 % 16) (omega arith) in
     let e = digit_back (l.at % 16) (omega arith) in
-    let same : 65536 * (l.at / 65536 % 16) + 4096 * (l.at / 4096 % 16) + 256 * (l.at / 256 % 16) + 16 * (l.at / 16 % 16) + l.at % 16 ≡ l.at = omega (arith, small) in
+    let same : 65536 * (l.at / 65536 % 16) + 4096 * (l.at / 4096 % 16) + 256 * (l.at / 256 % 16) + 16 * (l.at / 16 % 16)
+    + l.at % 16 ≡ l.at = omega (arith, small) in
     let address : address_guess (line_text l) ≡ l.at = rw (a, b, c, d, e) same in
     line_same (address_guess (line_text l)) l.at (item_guess (item_text l.item)) l.item address (item_back l.item h)
 
@@ -82,7 +84,8 @@ line_is text l = (forth, back)
         let c = chosen (bytes_eq (line_text (line_guess text)) text) l (line_guess text) h in
         let guessed : IsLineOf text (line_guess text) = record {
           address =
-              let a = digit_below (slice_index text 0) in let b = digit_below (slice_index text 1) in let d = digit_below (slice_index text 2) in
+              let a = digit_below (slice_index text 0) in let b = digit_below (slice_index text 1) in
+              let d = digit_below (slice_index text 2) in
               let e = digit_below (slice_index text 3) in let f = digit_below (slice_index text 4) in omega (arith, a, b, d, e, f);
           range = item_in_range (instruction_of (drop 7 text)) (drop 7 text) refl;
           text_is = sym (same_text (line_text (line_guess text)) text (sym c.0));

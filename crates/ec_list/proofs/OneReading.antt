@@ -1,5 +1,6 @@
 -- A text falls into lines in one way.
-use Rattle.std.proofs.Common.{◌≡◌, ◌<◌, ◌≤◌, ℕ, suc, ◌+◌, ◌*◌, ◌/◌, ◌%◌, ◌&&◌, not, Bool, true, false, List, [], ◌∷◌, ◌++◌, Some, refl, sym, ap, ◌∙◌, subst, arith, length, length-append, append_assoc, inl, inr}
+use Rattle.std.proofs.Common.{◌≡◌, ◌<◌, ◌≤◌, ℕ, suc, ◌+◌, ◌*◌, ◌/◌, ◌%◌, ◌&&◌, not, Bool, true, false, List, [], ◌∷◌, ◌++◌, Some, refl}
+use Rattle.std.proofs.Common.{sym, ap, ◌∙◌, subst, arith, length, length-append, append_assoc, inl, inr}
 use Rattle.std.specs.Prelude.{◌==◌, slice_get, is_some, unwrap_or, codes, nat_lt, if◌then◌else◌}
 use Rattle.std.specs.List.{AllByRecursion}
 use Rattle.ec_space.specs.declared.Core.{Core}
@@ -7,7 +8,8 @@ use Rattle.ec_space.specs.declared.Core.TheVariants.{Small}
 use Rattle.ec_avr.specs.Flash.{flash_size}
 use Rattle.ec_hex.specs.Bytes.{digit}
 use Rattle.ec_list.specs.Texts.{text}
-use Rattle.ec_list.specs.Lines.{address_text, item_text, line_text, text_of, item_bytes, end_of, end_after, IsInRange, IsLine, Suits, AreInOrder, byte_by}
+use Rattle.ec_list.specs.Lines.{address_text, item_text, line_text, text_of, item_bytes, end_of, end_after, IsInRange, IsLine, Suits}
+use Rattle.ec_list.specs.Lines.{AreInOrder, byte_by}
 use Rattle.ec_list.specs.ReadingLines.{IsLineOf}
 use Rattle.ec_list.specs.Assembling.{has_no_end}
 use Rattle.ec_list.specs.Lists.{Lists, Begins, Breaks, StopsAt, ListsOneImage, ListsShortly}
@@ -36,14 +38,21 @@ digit_plain n = by_test (nat_lt n 10)
 
 address_ends : (at : ℕ) → has_no_end (address_text at) ≡ true
 address_ends at =
-    rw (digit_plain (at / 65536 % 16), digit_plain (at / 4096 % 16), digit_plain (at / 256 % 16), digit_plain (at / 16 % 16), digit_plain (at % 16)) refl
+    rw (
+      digit_plain (at / 65536 % 16),
+      digit_plain (at / 4096 % 16),
+      digit_plain (at / 256 % 16),
+      digit_plain (at / 16 % 16),
+      digit_plain (at % 16),
+    ) refl
 
 item_ends : (item : Item) → IsInRange item → has_no_end (item_text item) ≡ true
 item_ends (Byte b) h = rw (digit_plain (b / 16), digit_plain (b % 16)) refl
 item_ends (Instruction i) h = let r = reads i h in pattern_ends (text i).pattern (text i).first (text i).second r.first r.second (sound i)
 
 pub line_ends : (l : Line) → IsInRange l.item → has_no_end (line_text l) ≡ true
-line_ends l h = append_ends (address_text l.at) (codes ": " ++ item_text l.item) (address_ends l.at) (append_ends (codes ": ") (item_text l.item) refl (item_ends l.item h))
+line_ends l h = append_ends (address_text l.at) (codes ": " ++ item_text l.item) (address_ends l.at)
+    (append_ends (codes ": ") (item_text l.item) refl (item_ends l.item h))
 
 -- with its end a line has at most 16 characters for each of its bytes
 item_length : (item : Item) → IsInRange item → 8 + length (item_text item) ≤ 16 * length (item_bytes item)
@@ -106,8 +115,11 @@ same_line_of a l m x y =
 pub same_begin : (l m : Line) (r s : List ℕ) → l.at < 1048576 → IsInRange l.item → m.at < 1048576 → IsInRange m.item
     → line_text l ++ 10 ∷ r ≡ line_text m ++ 10 ∷ s → (l ≡ m) × (r ≡ s)
 same_begin l m r s small range small2 range2 e =
-    let g = same_front (line_text l) (line_text m) r s (line_ends l range) (line_ends m range2) e in
-    (same_line_of (line_text l) l m (is_line_itself l small range) (subst (λ t. IsLineOf t m) (sym g.0) (is_line_itself m small2 range2)), g.1)
+    let g = same_front (line_text l) (line_text m) r s (line_ends l range) (line_ends m range2) e in (
+      same_line_of (line_text l) l m (is_line_itself l small range)
+          (subst (λ t. IsLineOf t m) (sym g.0) (is_line_itself m small2 range2)),
+      g.1,
+    )
 
 pub line_small : (core : Core) (l : Line) → IsLine core l → l.at < 1048576
 line_small core l h =
@@ -199,7 +211,8 @@ same_whole core from (l ∷ ls) (m ∷ ms) other s a o b p e y =
     same_whole core (end_of l) ls ms other s a.1 o.1 b.1 (subst (λ n. AreInOrder n ms) ends p.1) g.1
     (subst (λ n. Breaks core (end_after n ms) other s) ends y)
 
-same_lines : (core : Core) (ls ms : List Line) → AllByRecursion (IsLine core) ls → AllByRecursion (IsLine core) ms → text_of ls ≡ text_of ms → ls ≡ ms
+same_lines : (core : Core) (ls ms : List Line) → AllByRecursion (IsLine core) ls → AllByRecursion (IsLine core) ms →
+    text_of ls ≡ text_of ms → ls ≡ ms
 same_lines core [] [] a b e = refl
 same_lines core [] (m ∷ ms) a b e = empty m (text_of ms) e
   where
@@ -230,9 +243,11 @@ lists_one_image core text bytes others written flags a b =
     let sized = a.image.sized in
     let flagged = a.image.flagged in (
       same_list bytes others (a.image.sized ∙ sym b.image.sized) (λ k less.
-          a.image.bytes_are k (omega (arith, less, sized)) ∙ ap (λ ls. Some (unwrap_or (byte_by ls k) 255)) lines ∙ sym (b.image.bytes_are k (omega (arith, less, sized)))),
+          a.image.bytes_are k (omega (arith, less, sized)) ∙ ap (λ ls. Some (unwrap_or (byte_by ls k) 255)) lines
+          ∙ sym (b.image.bytes_are k (omega (arith, less, sized)))),
       same_list written flags (a.image.flagged ∙ sym b.image.flagged) (λ k less.
-          a.image.flags_are k (omega (arith, less, flagged)) ∙ ap (λ ls. Some (is_some (byte_by ls k))) lines ∙ sym (b.image.flags_are k (omega (arith, less, flagged)))),
+          a.image.flags_are k (omega (arith, less, flagged)) ∙ ap (λ ls. Some (is_some (byte_by ls k))) lines
+          ∙ sym (b.image.flags_are k (omega (arith, less, flagged)))),
     )
 
 -- ---- the length
@@ -265,6 +280,7 @@ not_both core text bytes written line rule a b =
 pub one_stop : (core : Core) (text : List ℕ) (line other rule least : ℕ) → StopsAt core text line rule → StopsAt core text other least
     → (line ≡ other) × (rule ≡ least)
 one_stop core text line other rule least a b =
-    let same = same_stop core 0 a.lines b.lines a.rest b.rest rule least a.are_lines.each a.are_lines.order b.are_lines.each b.are_lines.order
+    let same = same_stop core 0 a.lines b.lines a.rest b.rest rule least a.are_lines.each a.are_lines.order b.are_lines.each
+    b.are_lines.order
     (sym a.text_is ∙ b.text_is) a.breaks b.breaks in
     (a.line_is ∙ ap (λ n. n + 1) same.0 ∙ sym b.line_is, same.1)

@@ -1,5 +1,6 @@
 -- What holds of all patterns of texts, and of patterns with their numbers.
-use Rattle.std.proofs.Common.{◌≡◌, ℕ, ◌+◌, ◌-◌, ◌*◌, ◌%◌, ◌/◌, ◌<◌, ◌≤◌, true, false, not, ◌&&◌, Bool, List, [], ◌∷◌, ◌++◌, length, refl, sym, ap, ◌∙◌, subst, arith, length-append}
+use Rattle.std.proofs.Common.{◌≡◌, ℕ, ◌+◌, ◌-◌, ◌*◌, ◌%◌, ◌/◌, ◌<◌, ◌≤◌, true, false, not, ◌&&◌, Bool, List, [], ◌∷◌, ◌++◌, length}
+use Rattle.std.proofs.Common.{refl, sym, ap, ◌∙◌, subst, arith, length-append}
 use Rattle.std.specs.Prelude.{◌==◌, nat_lt, nat_le, if◌then◌else◌, slice_index}
 use Rattle.std.specs.Fmt.{decimal}
 use Rattle.std.proofs.lemmas.Fmt.{decimal_by_steps, length-decimal-le}
@@ -87,7 +88,8 @@ number_from pattern first second later n small zero = decimal_by_steps
     s = state pattern first second later false
 
 number_on : (n : ℕ) (s : Scan) → n < 65536 → s.inside ≡ false → next_of s ≡ 0 → scan_on s (decimal n) ≡ numbered n s
-number_on n s small out zero = subst (λ t. scan_on t (decimal n) ≡ numbered n t) outside (number_from s.pattern s.first s.second s.later n small zero)
+number_on n s small out zero = subst (λ t. scan_on t (decimal n) ≡ numbered n t) outside
+    (number_from s.pattern s.first s.second s.later n small zero)
   where
     outside : state s.pattern s.first s.second s.later false ≡ s
     outside = ap (λ b. state s.pattern s.first s.second s.later b) (sym out)
@@ -129,7 +131,8 @@ taken_is (c ∷ pattern) n m s a b e =
 pub scanned_is : (pattern : List ℕ) (n m : ℕ) → n < 65536 → m < 65536 → is_sound pattern n m ≡ true
     → scanned (filled pattern n m) ≡ taken pattern n m begin
 scanned_is pattern n m a b e =
-    taken_is pattern n m begin a b (split (is_plain pattern n m begin) (nat_le 65 (slice_index pattern 0) && nat_le (longest pattern) 24) e).0
+    taken_is pattern n m begin a b (split (is_plain pattern n m begin)
+    (nat_le 65 (slice_index pattern 0) && nat_le (longest pattern) 24) e).0
 
 -- ---- the first character, the length, and no line feed
 
@@ -168,7 +171,8 @@ filled_ends (c ∷ pattern) n m s a b e =
 pub pattern_ends : (pattern : List ℕ) (n m : ℕ) → n < 65536 → m < 65536 → is_sound pattern n m ≡ true
     → has_no_end (filled pattern n m) ≡ true
 pattern_ends pattern n m a b e =
-    filled_ends pattern n m begin a b (split (is_plain pattern n m begin) (nat_le 65 (slice_index pattern 0) && nat_le (longest pattern) 24) e).0
+    filled_ends pattern n m begin a b (split (is_plain pattern n m begin)
+    (nat_le 65 (slice_index pattern 0) && nat_le (longest pattern) 24) e).0
 
 length_filled : (pattern : List ℕ) (n m : ℕ) → n < 65536 → m < 65536 → length (filled pattern n m) ≤ longest pattern
 length_filled [] n m a b = omega arith
@@ -197,6 +201,7 @@ pattern_letter (c ∷ pattern) n m e = by_sign (c == 35) refl
         let p = split (is_plain (c ∷ pattern) n m begin) (nat_le 65 c && nat_le (longest (c ∷ pattern)) 24) e in
         (split (nat_le 65 c) (nat_le (longest (c ∷ pattern)) 24) p.1).0
 
-    by_sign : (sign : Bool) → (c == 35) ≡ sign → nat_le 65 (slice_index (if sign then decimal n ++ filled pattern m 0 else c ∷ filled pattern n m) 0) ≡ true
+    by_sign : (sign : Bool) → (c == 35) ≡ sign → nat_le 65 (slice_index
+        (if sign then decimal n ++ filled pattern m 0 else c ∷ filled pattern n m) 0) ≡ true
     by_sign true h = absurd (omega (arith, eqb-true c 35 h, leb-true 65 c letter))
     by_sign false h = letter

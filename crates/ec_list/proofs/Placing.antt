@@ -1,5 +1,6 @@
 -- The bytes of a line, put into an image behind those of the lines before it.
-use Rattle.std.proofs.Common.{◌≡◌, ◌≢◌, ◌≤◌, ◌<◌, ℕ, zero, suc, ◌+◌, ◌-◌, Bool, true, false, ◌&&◌, List, [], ◌∷◌, ◌++◌, length, replicate, Option, Some, None, refl, sym, ap, ◌∙◌, arith, inl, inr, ◌⊎◌}
+use Rattle.std.proofs.Common.{◌≡◌, ◌≢◌, ◌≤◌, ◌<◌, ℕ, zero, suc, ◌+◌, ◌-◌, Bool, true, false, ◌&&◌, List, [], ◌∷◌, ◌++◌, length}
+use Rattle.std.proofs.Common.{replicate, Option, Some, None, refl, sym, ap, ◌∙◌, arith, inl, inr, ◌⊎◌}
 use Rattle.std.specs.Prelude.{nat_le, nat_lt, slice_get, slice_set, is_some, unwrap_or, if◌then◌else◌}
 use Rattle.std.specs.List.{AllByRecursion}
 use Rattle.std.proofs.lemmas.Bool.{cases_lt, lt-ltb, le-ltb, le-leb}
@@ -38,7 +39,8 @@ below_over xs at [] k h = refl
 below_over xs at (y ∷ ys) k h =
     below_over (slice_set xs at y) (at + 1) ys k (omega (arith, h)) ∙ get_other xs at k y (λ e. omega (arith, h, e))
 
-above_over : {X : Type 0} (xs : List X) (at : ℕ) (ys : List X) (k : ℕ) → at + length ys ≤ k → slice_get (put_over xs at ys) k ≡ slice_get xs k
+above_over : {X : Type 0} (xs : List X) (at : ℕ) (ys : List X) (k : ℕ) → at + length ys ≤ k →
+    slice_get (put_over xs at ys) k ≡ slice_get xs k
 above_over xs at [] k h = refl
 above_over xs at (y ∷ ys) k h =
     above_over (slice_set xs at y) (at + 1) ys k (omega (arith, h)) ∙ get_other xs at k y (λ e. omega (arith, h, e))
@@ -75,7 +77,8 @@ pub in_order_more : (from : ℕ) (ls : List Line) (l : Line) → AreInOrder from
 in_order_more from [] l o h = (h, tt)
 in_order_more from (m ∷ ls) l o h = (o.0, in_order_more (end_of m) ls l o.1 h)
 
-pub each_more : (core : Core) (ls : List Line) (l : Line) → AllByRecursion (IsLine core) ls → IsLine core l → AllByRecursion (IsLine core) (ls ++ l ∷ [])
+pub each_more : (core : Core) (ls : List Line) (l : Line) → AllByRecursion (IsLine core) ls → IsLine core l →
+    AllByRecursion (IsLine core) (ls ++ l ∷ [])
 each_more core [] l a h = (h, tt)
 each_more core (m ∷ ls) l a h = (a.0, each_more core ls l a.1 h)
 
@@ -168,7 +171,8 @@ has_more core ls l bytes written o h w image = record {
         by_low (inl low) = inl (inl low)
         by_low (inr low) = by_high low (cases_lt k (end_of l))
 
-    outside : {X : Type 0} (xs ys : List X) (k : ℕ) → length ys ≡ n → ((k < l.at) ⊎ (end_of l ≤ k)) → slice_get (put_over xs l.at ys) k ≡ slice_get xs k
+    outside : {X : Type 0} (xs ys : List X) (k : ℕ) → length ys ≡ n → ((k < l.at) ⊎ (end_of l ≤ k)) →
+        slice_get (put_over xs l.at ys) k ≡ slice_get xs k
     outside xs ys k e (inl low) = below_over xs l.at ys k low
     outside xs ys k e (inr high) = above_over xs l.at ys k (omega (arith, high, e))
 

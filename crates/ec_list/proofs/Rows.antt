@@ -63,7 +63,8 @@ immediate_words op d k o h =
     (omega arith, (omega arith, omega arith))
 
 displaced_words : (op d q : ℕ) → IsTrue (nat_lt op 50000) → IsTrue (is_register d && nat_lt q 64) →
-    (d < 65536) × ((q < 65536) × ((op + q / 32 % 2 * 8192 + q / 8 % 4 * 1024 + d % 32 * 16 + q % 8) % 65536 ≡ op + q / 32 * 8192 + q / 8 % 4 * 1024 + d * 16 + q % 8))
+    (d < 65536) × ((q < 65536) × ((op + q / 32 % 2 * 8192 + q / 8 % 4 * 1024 + d % 32 * 16 + q % 8) % 65536
+    ≡ op + q / 32 * 8192 + q / 8 % 4 * 1024 + d * 16 + q % 8))
 displaced_words op d q o h =
     let op_in = ltb-true op 50000 o in
     let p = and_parts (is_register d) (nat_lt q 64) h in

@@ -1,5 +1,6 @@
 -- A text that is taken line by line.
-use Rattle.std.proofs.Common.{◌≡◌, ◌≢◌, ◌≤◌, ℕ, ◌+◌, Bool, true, false, List, [], ◌∷◌, ◌++◌, length, replicate, Some, None, Err, refl, sym, subst, ap, ◌∙◌, arith, inl, inr, ◌⊎◌, append_assoc, append-nil, length-append}
+use Rattle.std.proofs.Common.{◌≡◌, ◌≢◌, ◌≤◌, ℕ, ◌+◌, Bool, true, false, List, [], ◌∷◌, ◌++◌, length, replicate, Some, None, Err, refl}
+use Rattle.std.proofs.Common.{sym, subst, ap, ◌∙◌, arith, inl, inr, ◌⊎◌, append_assoc, append-nil, length-append}
 use Rattle.std.specs.Prelude.{Option, ◌==◌, Result, slice_get}
 use Rattle.std.proofs.lemmas.List.{length-replicate}
 use Rattle.ec_space.specs.declared.Core.{Core}
@@ -44,7 +45,8 @@ taken_more lines l text old new taken follows core bytes written count end =
     let first = follows.order in
     let from = taken.end in
     let order : end_after 0 lines ≤ l.at = omega (arith, first, from) in
-    let image = has_more old.image.core lines l old.image.bytes.items old.image.written.items taken.are_lines.order order follows.suits.in_flash taken.image in
+    let image = has_more old.image.core lines l old.image.bytes.items old.image.written.items taken.are_lines.order order
+    follows.suits.in_flash taken.image in
     record {
       are_lines = subst (λ c. AreLines c (lines ++ l ∷ [])) (sym core) (record {
         each = each_more old.image.core lines l taken.are_lines.each (record { range = follows.is_line.range; suits = follows.suits });
@@ -52,7 +54,8 @@ taken_more lines l text old new taken follows core bytes written count end =
       });
       image = subst (λ c. HasJust c (lines ++ l ∷ []) new.image.bytes.items new.image.written.items) (sym core)
           (subst (λ xs. HasJust old.image.core (lines ++ l ∷ []) xs new.image.written.items) (sym bytes)
-          (subst (λ xs. HasJust old.image.core (lines ++ l ∷ []) (put_over old.image.bytes.items l.at (item_bytes l.item)) xs) (sym written) image));
+          (subst (λ xs. HasJust old.image.core (lines ++ l ∷ []) (put_over old.image.bytes.items l.at (item_bytes l.item)) xs)
+          (sym written) image));
       count = let one = taken.count in omega (arith, count, one, length-append lines (l ∷ []));
       end = end ∙ sym (end_more 0 lines l);
     }
@@ -178,7 +181,8 @@ the_line text o l e some = (line_is text l).0 (sym e ∙ some)
 
 -- ---- one answer
 
-pub same_stops : (core : Core) (text : List ℕ) (stop want : AsmStop) → HasStop core text stop → HasStop core text want → want ≢ stops.NoMemory
+pub same_stops : (core : Core) (text : List ℕ) (stop want : AsmStop) → HasStop core text stop → HasStop core text want →
+    want ≢ stops.NoMemory
     → (stop ≡ want) ⊎ (stop ≡ stops.NoMemory)
 same_stops core text stops.NoMemory want h w some = inr refl
 same_stops core text (stops.Line n rule) stops.NoMemory h w some = absurd (some refl)

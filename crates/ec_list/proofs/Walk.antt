@@ -1,6 +1,9 @@
 -- The walk of a listing: its lines are in order, each is right, and at each address they have what is written there.
-use Rattle.std.proofs.Common.{◌≡◌, ◌≤◌, ◌<◌, ℕ, zero, suc, ◌+◌, ◌-◌, ◌*◌, ◌/◌, ◌%◌, Bool, true, false, List, [], ◌∷◌, ◌++◌, length, map, drop, get_or, Option, Some, None, refl, sym, subst, ap, ◌∙◌, arith, inl, inr, ◌⊎◌, append_assoc, append-nil, length-drop}
-use Rattle.std.specs.Prelude.{⊤, IsTrue, ◌==◌, ◌||◌, nat_le, nat_lt, slice_get, is_some, is_none, unwrap_or, option_and_then, if◌then◌else◌, IfOk, Result, Ok, Err}
+use Rattle.std.proofs.Common.{◌≡◌, ◌≤◌, ◌<◌, ℕ, zero, suc, ◌+◌, ◌-◌, ◌*◌, ◌/◌, ◌%◌, Bool, true, false, List, [], ◌∷◌, ◌++◌, length}
+use Rattle.std.proofs.Common.{map, drop, get_or, Option, Some, None, refl, sym, subst, ap, ◌∙◌, arith, inl, inr, ◌⊎◌, append_assoc}
+use Rattle.std.proofs.Common.{append-nil, length-drop}
+use Rattle.std.specs.Prelude.{⊤, IsTrue, ◌==◌, ◌||◌, nat_le, nat_lt, slice_get, is_some, is_none, unwrap_or, option_and_then}
+use Rattle.std.specs.Prelude.{if◌then◌else◌, IfOk, Result, Ok, Err}
 use Rattle.std.specs.List.{AllByRecursion}
 use Rattle.std.proofs.lemmas.List.{drop-drop, drop_all}
 use Rattle.std.proofs.lemmas.Bool.{cases_lt, lt-ltb, le-ltb, le-leb, eqb-true}
@@ -11,7 +14,8 @@ use Rattle.ec_isa.specs.declared.instructions.Instr.{Instr}
 use Rattle.ec_isa.specs.Table.{in_table, first_word, second_word, SecondIs}
 use Rattle.ec_isa.specs.Reading.{instruction_at}
 use Rattle.ec_isa.proofs.InstructionAt.{instruction_is}
-use Rattle.ec_list.specs.Lines.{line_text, text_of, word_bytes, second_bytes, item_bytes, end_of, IsInRange, IsAligned, IsLine, AreInOrder, byte_by}
+use Rattle.ec_list.specs.Lines.{line_text, text_of, word_bytes, second_bytes, item_bytes, end_of, IsInRange, IsAligned, IsLine}
+use Rattle.ec_list.specs.Lines.{AreInOrder, byte_by}
 use Rattle.ec_list.specs.Walking.{byte_in, word_in, whole, instruction_of_word, instruction_in, item_of, item_in, lines_from}
 use Rattle.ec_list.specs.Lists.{Lists, listing}
 use Rattle.ec_list.specs.declared.line.Item.{Item}
@@ -64,7 +68,8 @@ word_is w lo hi e b =
     let low : w % 256 ≡ lo = omega (arith, e, b) in
     let high : w / 256 ≡ hi = omega (arith, e, b) in rw (low, high) refl
 
-second_front : (o : Option ℕ) (more : List (Option ℕ)) → IsTrue (is_none o || is_some (word_in more)) → SecondIs o (unwrap_or (word_in more) 0)
+second_front : (o : Option ℕ) (more : List (Option ℕ)) → IsTrue (is_none o || is_some (word_in more)) →
+    SecondIs o (unwrap_or (word_in more) 0)
     → AreBytes more → (rest : List (Option ℕ)) × (more ≡ map Some (second_bytes o) ++ rest)
 second_front None more t s b = (more, refl)
 second_front (Some w) [] t s b = cc
@@ -117,7 +122,8 @@ record IsItem (at : ℕ) (cells : List (Option ℕ)) (item : Item) : Type 0 wher
   within : length (item_bytes item) ≤ length cells
   bytes : (k : ℕ) → k < length (item_bytes item) → slice_get (item_bytes item) k ≡ join (slice_get cells k)
 
-item_is : (at b : ℕ) (cells : List (Option ℕ)) → AreBytes (Some b ∷ cells) → IsItem at (Some b ∷ cells) (item_of b (instruction_in at (Some b ∷ cells)))
+item_is : (at b : ℕ) (cells : List (Option ℕ)) → AreBytes (Some b ∷ cells) →
+    IsItem at (Some b ∷ cells) (item_of b (instruction_in at (Some b ∷ cells)))
 item_is at b cells all = by_item (instruction_in at (Some b ∷ cells)) refl
   where
     first_alone : (k : ℕ) → k < 1 → slice_get (b ∷ []) k ≡ join (slice_get (Some b ∷ cells) k)
@@ -140,8 +146,10 @@ item_is at b cells all = by_item (instruction_in at (Some b ∷ cells)) refl
 order_from : (at skip : ℕ) (cells : List (Option ℕ)) → AreInOrder (at + skip) (lines_from at skip cells)
 order_from at skip [] = tt
 order_from at (suc skip) (c ∷ cells) =
-    let same : at + 1 + skip ≡ at + suc skip = omega arith in subst (λ x. AreInOrder x (lines_from (at + 1) skip cells)) same (order_from (at + 1) skip cells)
-order_from at zero (None ∷ cells) = later at 1 (lines_from (at + 1) 0 cells) (subst (λ x. AreInOrder x (lines_from (at + 1) 0 cells)) (omega arith) (order_from (at + 1) 0 cells))
+    let same : at + 1 + skip ≡ at + suc skip = omega arith in
+    subst (λ x. AreInOrder x (lines_from (at + 1) skip cells)) same (order_from (at + 1) skip cells)
+order_from at zero (None ∷ cells) = later at 1 (lines_from (at + 1) 0 cells)
+    (subst (λ x. AreInOrder x (lines_from (at + 1) 0 cells)) (omega arith) (order_from (at + 1) 0 cells))
   where
     later : (from more : ℕ) (ls : List Line) → AreInOrder (from + more) ls → AreInOrder (from + 0) ls
     later from more [] h = tt
@@ -149,10 +157,14 @@ order_from at zero (None ∷ cells) = later at 1 (lines_from (at + 1) 0 cells) (
 order_from at zero (Some b ∷ cells) =
     let item = item_of b (instruction_in at (Some b ∷ cells)) in
     let some = item_some item in
-    let same : at + 1 + (length (item_bytes item) - 1) ≡ at + length (item_bytes item) = omega (arith, some) in
-    (omega arith, subst (λ x. AreInOrder x (lines_from (at + 1) (length (item_bytes item) - 1) cells)) same (order_from (at + 1) (length (item_bytes item) - 1) cells))
+    let same : at + 1 + (length (item_bytes item) - 1) ≡ at + length (item_bytes item) = omega (arith, some) in (
+      omega arith,
+      subst (λ x. AreInOrder x (lines_from (at + 1) (length (item_bytes item) - 1) cells)) same
+          (order_from (at + 1) (length (item_bytes item) - 1) cells),
+    )
 
-each_from : (core : Core) (at skip : ℕ) (cells : List (Option ℕ)) → AreBytes cells → at + length cells ≤ flash_size core → AllByRecursion (IsLine core) (lines_from at skip cells)
+each_from : (core : Core) (at skip : ℕ) (cells : List (Option ℕ)) → AreBytes cells → at + length cells ≤ flash_size core →
+    AllByRecursion (IsLine core) (lines_from at skip cells)
 each_from core at skip [] b le = tt
 each_from core at (suc skip) (c ∷ cells) b le = each_from core (at + 1) skip cells b.1 (omega (arith, le))
 each_from core at zero (None ∷ cells) b le = each_from core (at + 1) 0 cells b.1 (omega (arith, le))
@@ -173,7 +185,8 @@ none_below from k (l ∷ ls) o h =
     above : (a k : ℕ) → k < a → nat_le a k ≡ false
     above a k h = grind (arith, h)
 
-has_there : (l : Line) (ls : List Line) (k : ℕ) → k < length (item_bytes l.item) → byte_by (l ∷ ls) (l.at + k) ≡ slice_get (item_bytes l.item) k
+has_there : (l : Line) (ls : List Line) (k : ℕ) → k < length (item_bytes l.item) →
+    byte_by (l ∷ ls) (l.at + k) ≡ slice_get (item_bytes l.item) k
 has_there l ls k h =
     let low : nat_le l.at (l.at + k) ≡ true = le-leb l.at (l.at + k) (omega arith) in
     let high : nat_lt (l.at + k) (end_of l) ≡ true = lt-ltb (l.at + k) (end_of l) (omega (arith, h)) in
@@ -184,13 +197,15 @@ has_behind l ls k h =
     let low : nat_le l.at (l.at + k) ≡ true = le-leb l.at (l.at + k) (omega arith) in
     let high : nat_lt (l.at + k) (end_of l) ≡ false = le-ltb (l.at + k) (end_of l) (omega (arith, h)) in rw (low, high) refl
 
-bytes_from : (at skip k : ℕ) (cells : List (Option ℕ)) → AreBytes cells → skip ≤ k → byte_by (lines_from at skip cells) (at + k) ≡ join (slice_get cells k)
+bytes_from : (at skip k : ℕ) (cells : List (Option ℕ)) → AreBytes cells → skip ≤ k →
+    byte_by (lines_from at skip cells) (at + k) ≡ join (slice_get cells k)
 bytes_from at skip k [] b le = refl
 bytes_from at (suc skip) zero (c ∷ cells) b le = absurd (omega (arith, le))
 bytes_from at (suc skip) (suc k) (c ∷ cells) b le =
     let same : at + 1 + k ≡ at + suc k = omega arith in
     ap (λ x. byte_by (lines_from (at + 1) skip cells) x) (sym same) ∙ bytes_from (at + 1) skip k cells b.1 (omega (arith, le))
-bytes_from at zero zero (None ∷ cells) b le = none_below (at + 1 + 0) (at + 0) (lines_from (at + 1) 0 cells) (order_from (at + 1) 0 cells) (omega arith)
+bytes_from at zero zero (None ∷ cells) b le = none_below (at + 1 + 0) (at + 0) (lines_from (at + 1) 0 cells)
+    (order_from (at + 1) 0 cells) (omega arith)
 bytes_from at zero (suc k) (None ∷ cells) b le =
     let same : at + 1 + k ≡ at + suc k = omega arith in
     ap (λ x. byte_by (lines_from (at + 1) 0 cells) x) (sym same) ∙ bytes_from (at + 1) 0 k cells b.1 (omega arith)
@@ -198,9 +213,11 @@ bytes_from at zero zero (Some x ∷ cells) b le =
     let i = item_is at x cells b in
     let item = item_of x (instruction_in at (Some x ∷ cells)) in
     let some = item_some item in
-    has_there (line at item) (lines_from (at + 1) (length (item_bytes item) - 1) cells) 0 (omega (arith, some)) ∙ i.bytes 0 (omega (arith, some))
+    has_there (line at item) (lines_from (at + 1) (length (item_bytes item) - 1) cells) 0 (omega (arith, some))
+    ∙ i.bytes 0 (omega (arith, some))
 bytes_from at zero (suc k) (Some x ∷ cells) b le =
-    by_place (bytes_from (at + 1) (length (item_bytes (item_of x (instruction_in at (Some x ∷ cells)))) - 1) k cells b.1) (cases_lt (suc k) (length (item_bytes (item_of x (instruction_in at (Some x ∷ cells))))))
+    by_place (bytes_from (at + 1) (length (item_bytes (item_of x (instruction_in at (Some x ∷ cells)))) - 1) k cells b.1)
+    (cases_lt (suc k) (length (item_bytes (item_of x (instruction_in at (Some x ∷ cells))))))
   where
     item : Item
     item = item_of x (instruction_in at (Some x ∷ cells))
@@ -269,7 +286,8 @@ contents_get (x ∷ bytes) [] k b f e g = cc
 contents_get (x ∷ bytes) (y ∷ written) zero b f e g = let s : x ≡ b = cc in let t : y ≡ f = cc in rw (s, t) refl
 contents_get (x ∷ bytes) (y ∷ written) (suc k) b f e g = contents_get bytes written k b f e g
 
-pub contents_length : (bytes : List ℕ) (written : List Bool) → length written ≡ length bytes → length (contents bytes written) ≡ length bytes
+pub contents_length : (bytes : List ℕ) (written : List Bool) → length written ≡ length bytes →
+    length (contents bytes written) ≡ length bytes
 contents_length [] written e = refl
 contents_length (x ∷ bytes) [] e = cc
 contents_length (x ∷ bytes) (y ∷ written) e = ap suc (contents_length bytes written (omega (arith, e)))
@@ -315,23 +333,28 @@ listing_lists core bytes written sized flagged are_bytes blank =
     flag_is : (k : ℕ) → k < flash_size core → (f : Bool) × (slice_get written k ≡ Some f)
     flag_is k less = there written k (omega (arith, less, flagged))
 
-    has : (k b : ℕ) (f : Bool) → slice_get bytes k ≡ Some b → slice_get written k ≡ Some f → byte_by (lines_from 0 0 (contents bytes written)) k ≡ (if f then Some b else None)
+    has : (k b : ℕ) (f : Bool) → slice_get bytes k ≡ Some b → slice_get written k ≡ Some f →
+        byte_by (lines_from 0 0 (contents bytes written)) k ≡ (if f then Some b else None)
     has k b f e g =
         let same : 0 + k ≡ k = omega arith in
         ap (λ x. byte_by (lines_from 0 0 (contents bytes written)) x) (sym same)
-        ∙ bytes_from 0 0 k (contents bytes written) (contents_bytes bytes written are_bytes) (omega arith) ∙ ap join (contents_get bytes written k b f e g)
+        ∙ bytes_from 0 0 k (contents bytes written) (contents_bytes bytes written are_bytes) (omega arith)
+        ∙ ap join (contents_get bytes written k b f e g)
 
-    by_flag : (k b : ℕ) (f : Bool) → slice_get bytes k ≡ Some b → slice_get written k ≡ Some f → byte_by (lines_from 0 0 (contents bytes written)) k ≡ (if f then Some b else None) →
+    by_flag : (k b : ℕ) (f : Bool) → slice_get bytes k ≡ Some b → slice_get written k ≡ Some f →
+        byte_by (lines_from 0 0 (contents bytes written)) k ≡ (if f then Some b else None) →
         slice_get bytes k ≡ Some (unwrap_or (byte_by (lines_from 0 0 (contents bytes written)) k) 255)
     by_flag k b true e g h = e ∙ ap (λ x. Some (unwrap_or x 255)) (sym h)
     by_flag k b false e g h = blank k g ∙ ap (λ x. Some (unwrap_or x 255)) (sym h)
 
-    at_place : (k : ℕ) → k < flash_size core → slice_get bytes k ≡ Some (unwrap_or (byte_by (lines_from 0 0 (contents bytes written)) k) 255)
+    at_place : (k : ℕ) → k < flash_size core → slice_get bytes k ≡ Some
+        (unwrap_or (byte_by (lines_from 0 0 (contents bytes written)) k) 255)
     at_place k less =
         let b = byte_is k less in let f = flag_is k less in
         by_flag k b.0 f.0 b.1 f.1 (has k b.0 f.0 b.1 f.1)
 
-    by_flag2 : (k b : ℕ) (f : Bool) → slice_get written k ≡ Some f → byte_by (lines_from 0 0 (contents bytes written)) k ≡ (if f then Some b else None) →
+    by_flag2 : (k b : ℕ) (f : Bool) → slice_get written k ≡ Some f →
+        byte_by (lines_from 0 0 (contents bytes written)) k ≡ (if f then Some b else None) →
         slice_get written k ≡ Some (is_some (byte_by (lines_from 0 0 (contents bytes written)) k))
     by_flag2 k b true g h = g ∙ ap (λ (x : Option ℕ). Some (is_some x)) (sym h)
     by_flag2 k b false g h = g ∙ ap (λ (x : Option ℕ). Some (is_some x)) (sym h)
@@ -343,7 +366,8 @@ listing_lists core bytes written sized flagged are_bytes blank =
 
 -- ---- what the code sees of the bytes
 
-pub drop_contents : (bytes : List ℕ) (written : List Bool) (k : ℕ) → contents (drop k bytes) (drop k written) ≡ drop k (contents bytes written)
+pub drop_contents : (bytes : List ℕ) (written : List Bool) (k : ℕ) →
+    contents (drop k bytes) (drop k written) ≡ drop k (contents bytes written)
 drop_contents bytes written zero = refl
 drop_contents [] written (suc k) = refl
 drop_contents (x ∷ bytes) [] (suc k) = no_flags (drop k bytes)
@@ -376,7 +400,8 @@ pub byte_written : (bytes : List ℕ) (written : List Bool) (k : ℕ) (flag : Bo
 byte_written bytes written k flag e t =
     byte_by_flag bytes written k ∙ ap (λ b. if b then slice_get bytes k else None) (sym e ∙ t)
 
-pub byte_unwritten : (bytes : List ℕ) (written : List Bool) (k : ℕ) (flag : Bool) → flag ≡ unwrap_or (slice_get written k) false → flag ≡ false
+pub byte_unwritten : (bytes : List ℕ) (written : List Bool) (k : ℕ) (flag : Bool) → flag ≡ unwrap_or (slice_get written k) false →
+    flag ≡ false
     → byte_in (contents bytes written) k ≡ None
 byte_unwritten bytes written k flag e t =
     byte_by_flag bytes written k ∙ ap (λ b. if b then slice_get bytes k else None) (sym e ∙ t)
@@ -447,7 +472,8 @@ pub listed_of : (r : Result (Listed ℕ) NoMemory) (image : Image) → ((k : ℕ
     → IfOk r (λ text. Lists image.core text.items image.bytes.items image.written.items)
 listed_of (Ok text) image small h =
     subst (λ t. Lists image.core t image.bytes.items image.written.items) (sym h)
-    (listing_lists image.core image.bytes.items image.written.items image.sized image.flagged (all_bytes image.bytes.items small) image.blank)
+    (listing_lists image.core image.bytes.items image.written.items image.sized image.flagged (all_bytes image.bytes.items small)
+    image.blank)
 listed_of (Err e) image small h = h
 
 pub short_of : (r : Result (Listed ℕ) NoMemory) (image : Image) → ((k : ℕ) → get_or image.bytes.items k 0 < 256)

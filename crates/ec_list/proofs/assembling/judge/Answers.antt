@@ -9,7 +9,8 @@ pub suits-requires-clause-range : goal.suits-requires-clause-range
 suits-requires-clause-range c = (the_line c.args.text.now c.in_ok-line.field-0 c.in-Some.line c.in_ok-line.ensures.value c.in-Some.is).range
 
 pub suits-requires-clause-address : goal.suits-requires-clause-address
-suits-requires-clause-address c = (the_line c.args.text.now c.in_ok-line.field-0 c.in-Some.line c.in_ok-line.ensures.value c.in-Some.is).address
+suits-requires-clause-address c = (the_line c.args.text.now c.in_ok-line.field-0 c.in-Some.line c.in_ok-line.ensures.value
+    c.in-Some.is).address
 
 pub returns-then-not-suits : goal.returns-then-not-suits
 returns-then-not-suits c =
