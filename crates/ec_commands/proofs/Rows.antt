@@ -6,11 +6,12 @@ use Rattle.std.specs.List.{list_all}
 use Rattle.std.specs.Char.{digit_value}
 use Rattle.std.specs.Str.Parse.{AllDigits, digits_value}
 use Rattle.std.specs.Cmp.Lexicographic.{same_text}
-use Rattle.ec_commands.specs.Command.{is_number, number, build_row, run_by, run_row, exec_by, exec_row, gen_by, gen_row, row_of, command_of}
-use Rattle.ec_commands.specs.Command.{IsRow, IsNoCommand, IsRowOf, RowsAreCommands}
-use Rattle.ec_commands.specs.Words.{Words, word, IsNumber, is_build, IsRun, IsExecRow, IsGen}
+use Rattle.ec_space.specs.declared.Core.{Core}
+use Rattle.ec_commands.specs.Command.{is_number, number, build_row, run_by, run_row, exec_by, exec_row, gen_by, gen_row, list_by, list_row}
+use Rattle.ec_commands.specs.Command.{assemble_by, assemble_row, row_of, command_of, IsRow, IsNoCommand, IsRowOf, RowsAreCommands}
+use Rattle.ec_commands.specs.Words.{Words, word, core_named, IsNumber, is_build, IsRun, IsExecRow, IsGen, IsList, IsAssemble}
 use Rattle.ec_commands.specs.declared.words.Command.{Command}
-use Rattle.ec_commands.specs.declared.words.Command.TheVariants.{Build, Run, Exec, Gen, NoCommand}
+use Rattle.ec_commands.specs.declared.words.Command.TheVariants.{Build, Run, Exec, Gen, List as ListImage, Assemble, NoCommand}
 
 -- ---- numbers
 
@@ -68,6 +69,8 @@ row_read words (Exec steps) h =
 row_read words (Gen n) h =
     row_at words (codes "gen") (Gen n) h.row
     (rw (h.two, number_is (word words 1) 2000 n h.number_word, lt-ltb 0 n h.some) refl)
+row_read words (ListImage core) h = row_at words (codes "list") (ListImage core) h.row (rw (h.three, h.core_word) refl)
+row_read words (Assemble core) h = row_at words (codes "assemble") (Assemble core) h.row (rw (h.four, h.core_word) refl)
 row_read words NoCommand h = absurd h
 
 -- ---- what is read is the row of what it is read as
@@ -78,6 +81,8 @@ IsRead words Build = IsRow Build words
 IsRead words (Run steps fill) = IsRow (Run steps fill) words
 IsRead words (Exec steps) = IsRow (Exec steps) words
 IsRead words (Gen n) = IsRow (Gen n) words
+IsRead words (ListImage core) = IsRow (ListImage core) words
+IsRead words (Assemble core) = IsRow (Assemble core) words
 IsRead words NoCommand = ⊤
 
 build_told : (words : Words) (long : Bool) → nat_le 4 (length words) ≡ long → bytes_eq (word words 0) (codes "build") ≡ true
@@ -128,21 +133,39 @@ gen_told : (words : Words) (two : Bool) → (length words == 2) ≡ two → byte
 gen_told words true e named = gen_by_told words _ (eqb-true (length words) 2 e) named refl
 gen_told words false e named = tt
 
--- the first of four rows whose name it is
-by_name : (P : Command → Type 0) (b r e g : Bool) (c d x y : Command) → (b ≡ true → P c) → (r ≡ true → P d) → (e ≡ true → P x)
-    → (g ≡ true → P y) → P NoCommand → P (if b then c else if r then d else if e then x else if g then y else NoCommand)
-by_name P true r e g c d x y one two three four none = one refl
-by_name P false true e g c d x y one two three four none = two refl
-by_name P false false true g c d x y one two three four none = three refl
-by_name P false false false true c d x y one two three four none = four refl
-by_name P false false false false c d x y one two three four none = none
+list_by_told : (words : Words) (core : Option Core) → length words ≡ 3 → bytes_eq (word words 0) (codes "list") ≡ true
+    → core_named (word words 1) ≡ core → IsRead words (list_by core)
+list_by_told words (Some core) three named s = record { three = three; row = named; core_word = s }
+list_by_told words None three named s = tt
+
+list_told : (words : Words) (three : Bool) → (length words == 3) ≡ three → bytes_eq (word words 0) (codes "list") ≡ true
+    → IsRead words (if three then list_by (core_named (word words 1)) else NoCommand)
+list_told words true e named = list_by_told words _ (eqb-true (length words) 3 e) named refl
+list_told words false e named = tt
+
+assemble_by_told : (words : Words) (core : Option Core) → length words ≡ 4 → bytes_eq (word words 0) (codes "assemble") ≡ true
+    → core_named (word words 1) ≡ core → IsRead words (assemble_by core)
+assemble_by_told words (Some core) four named s = record { four = four; row = named; core_word = s }
+assemble_by_told words None four named s = tt
+
+assemble_told : (words : Words) (four : Bool) → (length words == 4) ≡ four → bytes_eq (word words 0) (codes "assemble") ≡ true
+    → IsRead words (if four then assemble_by (core_named (word words 1)) else NoCommand)
+assemble_told words true e named = assemble_by_told words _ (eqb-true (length words) 4 e) named refl
+assemble_told words false e named = tt
+
+-- a row by its name, or another
+by_name : (P : Command → Type 0) (named : Bool) (c d : Command) → (named ≡ true → P c) → P d → P (if named then c else d)
+by_name P true c d one other = one refl
+by_name P false c d one other = other
 
 read_told : (words : Words) → IsRead words (command_of words)
 read_told words =
-    by_name (IsRead words) (bytes_eq (word words 0) (codes "build")) (bytes_eq (word words 0) (codes "run"))
-    (bytes_eq (word words 0) (codes "exec")) (bytes_eq (word words 0) (codes "gen"))
-    (build_row words) (run_row words) (exec_row words) (gen_row words) (build_told words _ refl) (run_told words _ refl)
-    (exec_told words _ refl) (gen_told words _ refl) tt
+    by_name (IsRead words) (bytes_eq (word words 0) (codes "build")) (build_row words) _ (build_told words _ refl)
+    (by_name (IsRead words) (bytes_eq (word words 0) (codes "run")) (run_row words) _ (run_told words _ refl)
+    (by_name (IsRead words) (bytes_eq (word words 0) (codes "exec")) (exec_row words) _ (exec_told words _ refl)
+    (by_name (IsRead words) (bytes_eq (word words 0) (codes "gen")) (gen_row words) _ (gen_told words _ refl)
+    (by_name (IsRead words) (bytes_eq (word words 0) (codes "list")) (list_row words) _ (list_told words _ refl)
+    (by_name (IsRead words) (bytes_eq (word words 0) (codes "assemble")) (assemble_row words) _ (assemble_told words _ refl) tt)))))
 
 -- ---- both
 
@@ -151,6 +174,8 @@ none_left words Build against h = absurd (against Build h)
 none_left words (Run steps fill) against h = absurd (against (Run steps fill) h)
 none_left words (Exec steps) against h = absurd (against (Exec steps) h)
 none_left words (Gen n) against h = absurd (against (Gen n) h)
+none_left words (ListImage core) against h = absurd (against (ListImage core) h)
+none_left words (Assemble core) against h = absurd (against (Assemble core) h)
 none_left words NoCommand against h = refl
 
 pub command_is : (words : Words) (c : Command) → IsRowOf c words → command_of words ≡ c
@@ -158,6 +183,8 @@ command_is words Build h = row_read words Build h
 command_is words (Run steps fill) h = row_read words (Run steps fill) h
 command_is words (Exec steps) h = row_read words (Exec steps) h
 command_is words (Gen n) h = row_read words (Gen n) h
+command_is words (ListImage core) h = row_read words (ListImage core) h
+command_is words (Assemble core) h = row_read words (Assemble core) h
 command_is words NoCommand h = none_left words (command_of words) h (read_told words)
 
 row_told : (words : Words) (c : Command) → command_of words ≡ c → IsRead words c → IsRowOf c words
@@ -165,15 +192,20 @@ row_told words Build e h = h
 row_told words (Run steps fill) e h = h
 row_told words (Exec steps) e h = h
 row_told words (Gen n) e h = h
+row_told words (ListImage core) e h = h
+row_told words (Assemble core) e h = h
 row_told words NoCommand e h = λ c row. subst (λ d. IsRow d words) (sym (row_read words c row) ∙ e) row
 
 pub no_command : (words : Words) → is_build words ≡ false → ((steps fill : ℕ) → ¬ (IsRun words steps fill))
-    → ((steps : ℕ) → ¬ (IsExecRow words steps)) → ((n : ℕ) → ¬ (IsGen words n)) → (c : Command) → ¬ (IsRow c words)
-no_command words no_build no_run no_exec no_gen Build = λ h. let e = sym no_build ∙ h in cc
-no_command words no_build no_run no_exec no_gen (Run steps fill) = no_run steps fill
-no_command words no_build no_run no_exec no_gen (Exec steps) = no_exec steps
-no_command words no_build no_run no_exec no_gen (Gen n) = no_gen n
-no_command words no_build no_run no_exec no_gen NoCommand = λ h. h
+    → ((steps : ℕ) → ¬ (IsExecRow words steps)) → ((n : ℕ) → ¬ (IsGen words n)) → ((core : Core) → ¬ (IsList words core))
+    → ((core : Core) → ¬ (IsAssemble words core)) → (c : Command) → ¬ (IsRow c words)
+no_command words no_build no_run no_exec no_gen no_list no_assemble Build = λ h. let e = sym no_build ∙ h in cc
+no_command words no_build no_run no_exec no_gen no_list no_assemble (Run steps fill) = no_run steps fill
+no_command words no_build no_run no_exec no_gen no_list no_assemble (Exec steps) = no_exec steps
+no_command words no_build no_run no_exec no_gen no_list no_assemble (Gen n) = no_gen n
+no_command words no_build no_run no_exec no_gen no_list no_assemble (ListImage core) = no_list core
+no_command words no_build no_run no_exec no_gen no_list no_assemble (Assemble core) = no_assemble core
+no_command words no_build no_run no_exec no_gen no_list no_assemble NoCommand = λ h. h
 
 pub rows_are_commands : RowsAreCommands
 rows_are_commands words c = (

@@ -4,9 +4,10 @@ use Rattle.std.specs.Prelude.{Option, Some, None, bytes_eq, codes}
 use Rattle.std.specs.List.{list_all}
 use Rattle.std.specs.Char.{digit_value}
 use Rattle.std.specs.Str.Parse.{digits_value}
-use Rattle.ec_commands.specs.Words.{Words, word, is_build, IsRun, IsExecRow, IsGen}
+use Rattle.ec_space.specs.declared.Core.{Core}
+use Rattle.ec_commands.specs.Words.{Words, word, is_build, core_named, IsRun, IsExecRow, IsGen, IsList, IsAssemble}
 use Rattle.ec_commands.specs.declared.words.Command.{Command}
-use Rattle.ec_commands.specs.declared.words.Command.TheVariants.{Build, Run, Exec, Gen, NoCommand}
+use Rattle.ec_commands.specs.declared.words.Command.TheVariants.{Build, Run, Exec, Gen, List as ListImage, Assemble, NoCommand}
 
 -- 1 to 10 decimal digits, which stand for a number that is at most so great
 abbrev pub is_number : List ℕ → ℕ → Bool
@@ -50,12 +51,30 @@ gen_by None = NoCommand
 abbrev pub gen_row : Words → Command
 gen_row words = if length words == 2 then gen_by (number (word words 1) 2000) else NoCommand
 
+-- list CORE HEX
+abbrev pub list_by : Option Core → Command
+list_by (Some core) = ListImage core
+list_by None = NoCommand
+
+abbrev pub list_row : Words → Command
+list_row words = if length words == 3 then list_by (core_named (word words 1)) else NoCommand
+
+-- assemble CORE ASM OUT
+abbrev pub assemble_by : Option Core → Command
+assemble_by (Some core) = Assemble core
+assemble_by None = NoCommand
+
+abbrev pub assemble_row : Words → Command
+assemble_row words = if length words == 4 then assemble_by (core_named (word words 1)) else NoCommand
+
 abbrev pub row_of : List ℕ → Words → Command
 row_of first words =
     if bytes_eq first (codes "build") then build_row words
     else if bytes_eq first (codes "run") then run_row words
     else if bytes_eq first (codes "exec") then exec_row words
     else if bytes_eq first (codes "gen") then gen_row words
+    else if bytes_eq first (codes "list") then list_row words
+    else if bytes_eq first (codes "assemble") then assemble_row words
     else NoCommand
 
 abbrev pub command_of : Words → Command
@@ -69,6 +88,8 @@ IsRow Build words = is_build words ≡ true
 IsRow (Run steps fill) words = IsRun words steps fill
 IsRow (Exec steps) words = IsExecRow words steps
 IsRow (Gen n) words = IsGen words n
+IsRow (ListImage core) words = IsList words core
+IsRow (Assemble core) words = IsAssemble words core
 IsRow NoCommand words = ⊥
 
 -- the words are no command

@@ -4,6 +4,7 @@ use Rattle.std.specs.Prelude.{length, map, take, codes}
 use Rattle.std.specs.Fmt.{signed_decimal}
 use Rattle.std.specs.FinMap.{get}
 use Rattle.std.specs.Io.KnownBytes.{Appends}
+use Rattle.ec_space.specs.declared.Core.{Core}
 use Rattle.ec_space.specs.declared.Core.TheVariants.{Small}
 use Rattle.ec_io.specs.Causes.{Rose, Counted}
 use Rattle.ec_io.specs.Disk.{Files, Disk}
@@ -144,13 +145,13 @@ hex_stop (hex_stops.Twice line) = stops.Twice line
 hex_stop hex_stops.NoEnd = stops.NoEnd
 hex_stop hex_stops.NoMemory = stops.NoMemory
 
--- the HEX text has this fault, and denotes no image
-pub record HasHexFault (text : List ℕ) (stop : CommandError) : Type 0 where
+-- the HEX text has this fault, and denotes no image of the core
+pub record HasHexFault (core : Core) (text : List ℕ) (stop : CommandError) : Type 0 where
   pub why : HexStop
   pub told : stop ≡ hex_stop why
   pub other : why ≢ hex_stops.NoMemory
-  pub fault : hex.HasStop Small text why
-  pub none : (bytes : List ℕ) (written : List Bool) → ¬ (Denotes Small text bytes written)
+  pub fault : hex.HasStop core text why
+  pub none : (bytes : List ℕ) (written : List Bool) → ¬ (Denotes core text bytes written)
 
 -- a line of the script is the first to break a rule
 pub record HasScriptFault (lines : List ℕ) (stop : CommandError) : Type 0 where
@@ -162,7 +163,7 @@ pub record HasScriptFault (lines : List ℕ) (stop : CommandError) : Type 0 wher
 -- why the texts are not loaded: the HEX text has a fault; or it has none, and the script has one
 abbrev pub HasTextFault : List ℕ → List ℕ → CommandError → Type 0
 HasTextFault text lines stop =
-    HasHexFault text stop ⊎ (((bytes : List ℕ) × ((written : List Bool) × Denotes Small text bytes written))
+    HasHexFault Small text stop ⊎ (((bytes : List ℕ) × ((written : List Bool) × Denotes Small text bytes written))
     × HasScriptFault lines stop)
 
 -- why nothing runs

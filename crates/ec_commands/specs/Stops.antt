@@ -2,12 +2,12 @@
 use Rattle.std.specs.Prelude.{ℕ, List, [], codes}
 use Rattle.ec_commands.specs.declared.stop.Limit.{Limit}
 use Rattle.ec_commands.specs.declared.stop.Limit.TheVariants.{Sources, SourceBytes, MapBytes, HexBytes, ScriptBytes}
-use Rattle.ec_commands.specs.declared.stop.Limit.TheVariants.{Tokens, Nesting, Objects, Functions}
+use Rattle.ec_commands.specs.declared.stop.Limit.TheVariants.{Tokens, Nesting, Objects, Functions, ListingBytes}
 use Rattle.ec_commands.specs.declared.stop.CommandError.{CommandError}
 use Rattle.ec_commands.specs.declared.stop.CommandError.TheVariants.{Usage, CannotRead, CannotWrite, TooMany}
 use Rattle.ec_commands.specs.declared.stop.CommandError.TheVariants.{NoMemory, BadRecord, BadSum, OutOfFlash, Twice}
 use Rattle.ec_commands.specs.declared.stop.CommandError.TheVariants.{NoEnd}
-use Rattle.ec_commands.specs.declared.stop.CommandError.TheVariants.{ScriptLine, Fault, StepsOut}
+use Rattle.ec_commands.specs.declared.stop.CommandError.TheVariants.{ScriptLine, AsmLine, Fault, StepsOut}
 use Rattle.std.specs.Prelude.{◌<◌, ◌/◌, ◌%◌, ◌∷◌, ◌++◌, length, ⊤}
 use Rattle.std.specs.Fmt.{decimal}
 use Rattle.ec_avr.specs.declared.machine.FaultKind.{FaultKind}
@@ -25,6 +25,7 @@ number_of Tokens = 6
 number_of Nesting = 7
 number_of Objects = 8
 number_of Functions = 9
+number_of ListingBytes = 10
 
 abbrev pub most_of : Limit → ℕ
 most_of Sources = 16
@@ -36,6 +37,7 @@ most_of Tokens = 65535
 most_of Nesting = 64
 most_of Objects = 1024
 most_of Functions = 256
+most_of ListingBytes = 4194304
 
 abbrev pub status_of : CommandError → ℕ
 status_of Usage = 2
@@ -51,6 +53,7 @@ status_of NoEnd = 12
 status_of (ScriptLine line rule) = 12
 status_of (Fault kind pc) = 13
 status_of StepsOut = 14
+status_of (AsmLine line rule) = 18
 
 -- the line of a stop that is told without a name or a number, and nothing for any other
 abbrev pub text_of : CommandError → List ℕ
@@ -86,6 +89,7 @@ line_of words (Twice line) = codes "hex line " ++ decimal line ++ codes ": twice
 line_of words NoEnd = codes "hex: no end\n"
 line_of words (ScriptLine line rule) =
     codes "script line " ++ decimal line ++ codes ": rule " ++ decimal rule ++ codes "\n"
+line_of words (AsmLine line rule) = codes "asm line " ++ decimal line ++ codes ": rule " ++ decimal rule ++ codes "\n"
 line_of words (Fault kind pc) = codes "fault " ++ fault_name kind ++ codes " at " ++ four_digits pc ++ codes "\n"
 line_of words StepsOut = codes "steps out\n"
 

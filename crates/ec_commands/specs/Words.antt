@@ -1,9 +1,11 @@
 -- The words of a command line, without the program's name.
 use Rattle.std.specs.Prelude.{ℕ}
+use Rattle.ec_space.specs.declared.Core.{Core}
+use Rattle.ec_space.specs.declared.Core.TheVariants.{Small}
 use Rattle.ec_commands.specs.declared.words.Compiling.{Compiling}
 use Rattle.ec_commands.specs.declared.words.Compiling.TheVariants.{Build, Exec}
 use Rattle.std.specs.Prelude.{◌-◌, ◌≡◌, ◌≤◌, ◌&&◌, nat_le, Bool, true, List, [], length, map, drop, codes}
-use Rattle.std.specs.Prelude.{option_map}
+use Rattle.std.specs.Prelude.{option_map, Option, Some, None, if◌then◌else◌}
 use Rattle.std.specs.Prelude.{unwrap_or, slice_get, String, string_bytes, bytes_eq}
 use Rattle.std.specs.Str.Parse.{IsNumeral, digits_value}
 use Rattle.std.specs.declared.alloc.Global.{Global}
@@ -79,3 +81,28 @@ pub record IsGen (words : Words) (n : ℕ) : Type 0 where
   pub row : bytes_eq (word words 0) (codes "gen") ≡ true
   pub number_word : IsNumber (word words 1) 2000 n
   pub some : 1 ≤ n
+
+-- a core by its name
+abbrev pub core_named : List ℕ → Option Core
+core_named name = if bytes_eq name (codes "small") then Some Small else None
+
+-- list CORE HEX
+pub record IsList (words : Words) (core : Core) : Type 0 where
+  pub three : length words ≡ 3
+  pub row : bytes_eq (word words 0) (codes "list") ≡ true
+  pub core_word : core_named (word words 1) ≡ Some core
+
+abbrev pub listed_name : Words → List ℕ
+listed_name words = word words 2
+
+-- assemble CORE ASM OUT
+pub record IsAssemble (words : Words) (core : Core) : Type 0 where
+  pub four : length words ≡ 4
+  pub row : bytes_eq (word words 0) (codes "assemble") ≡ true
+  pub core_word : core_named (word words 1) ≡ Some core
+
+abbrev pub listing_name : Words → List ℕ
+listing_name words = word words 2
+
+abbrev pub assembled_name : Words → List ℕ
+assembled_name words = word words 3

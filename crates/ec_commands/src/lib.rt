@@ -19,7 +19,7 @@ pub use counting::print_counts;
 pub use input::read;
 pub use laws::rows_are_commands;
 pub use line::{Part, tell, write_line};
-pub use load::{Loaded, load_script};
+pub use load::{Loaded, load_image, load_script};
 pub use output::write_file;
 pub use running::{print_run, run};
 pub use sources::read_sources;

@@ -225,6 +225,9 @@ pub fn tell<E: Sink>(err: &mut E, words: &Vec<String>, stop: CommandError)
             b": rule ",
             rule as u32,
         ),
+        CommandError::AsmLine(line, rule) => {
+            write_numbers(err, b"asm line ", line, b": rule ", rule as u32)
+        }
         CommandError::Fault(kind, pc) => {
             let name = name_of(kind);
             write_line(

@@ -12,7 +12,7 @@ ghost use Rattle.ec_commands.specs.Words.{hex_name, script_name};
 
 use crate::input::read;
 use crate::stop::{CommandError, Limit};
-use ec_avr::Machine;
+use ec_avr::{Image, Machine};
 use ec_emu::{Script, ScriptStop, read_script};
 use ec_hex::{HexStop, read_hex};
 use ec_io::Store;
@@ -76,16 +76,30 @@ fn stop_of_hex(stop: HexStop) -> CommandError
     }
 }
 
+/// The image of a core that a HEX text denotes.
+pub fn load_image(alloc: Global, core: Core, hex: &Seq<u8>) -> Result<Image, CommandError>
+    requires { length hex.now.items < 2 ^ 32 }
+    ensures core { IfOk result (λ image. image.core ≡ core) }
+    ensures denoted { IfOk result (λ image.
+        Denotes core hex.now.items image.bytes.items image.written.items) }
+    ensures stopped { IfErr result (λ stop. (stop ≡ CommandError.NoMemory) ⊎ HasHexFault core hex.now.items stop) }
+{
+    match read_hex(alloc, core, hex) {
+        Ok(image) => Ok(image),
+        Err(stop) => Err(stop_of_hex(stop)),
+    }
+}
+
 /// The machine after a reset, with the image that a HEX text denotes and `fill` in its registers and its memory.
 fn load_machine(alloc: Global, hex: &Seq<u8>, fill: u8) -> Result<Machine, CommandError>
     requires { length hex.now.items < 2 ^ 32 }
     ensures found { IfOk result (λ machine. (bytes : List ℕ) × ((written : List Bool)
         × (Denotes Small hex.now.items bytes written × (machine ≡ reset_with Small bytes fill)))) }
-    ensures stopped { IfErr result (λ stop. (stop ≡ CommandError.NoMemory) ⊎ HasHexFault hex.now.items stop) }
+    ensures stopped { IfErr result (λ stop. (stop ≡ CommandError.NoMemory) ⊎ HasHexFault Small hex.now.items stop) }
 {
-    let image = match read_hex(alloc, Core::Small, hex) {
+    let image = match load_image(alloc, Core::Small, hex) {
         Ok(image) => image,
-        Err(stop) => return Err(stop_of_hex(stop)),
+        Err(stop) => return Err(stop),
     };
     match Machine::boot(alloc, &image, fill) {
         Ok(machine) => Ok(machine),

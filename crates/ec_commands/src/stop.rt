@@ -25,6 +25,8 @@ pub enum Limit {
     Objects,
     /// The functions of all units.
     Functions,
+    /// The bytes of a listing.
+    ListingBytes,
 }
 
 impl Limit {
@@ -42,6 +44,7 @@ impl Limit {
             Limit::Nesting => 7,
             Limit::Objects => 8,
             Limit::Functions => 9,
+            Limit::ListingBytes => 10,
         }
     }
 
@@ -59,6 +62,7 @@ impl Limit {
             Limit::Nesting => 64,
             Limit::Objects => 1_024,
             Limit::Functions => 256,
+            Limit::ListingBytes => 4_194_304,
         }
     }
 }
@@ -88,6 +92,8 @@ pub enum CommandError {
     NoEnd,
     /// A line of the script breaks a rule, by its number.
     ScriptLine(u32, u8),
+    /// A line of a listing breaks a rule, by its number.
+    AsmLine(u32, u8),
     /// The machine stopped at this program counter, in words.
     Fault(FaultKind, u16),
     /// The machine made all its steps and did not end.
@@ -111,6 +117,7 @@ pub fn status(stop: CommandError) -> u8
         CommandError::NoEnd | CommandError::ScriptLine(_, _) => 12,
         CommandError::Fault(_, _) => 13,
         CommandError::StepsOut => 14,
+        CommandError::AsmLine(_, _) => 18,
     }
 }
 

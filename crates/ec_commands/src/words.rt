@@ -1,7 +1,11 @@
 //! The words of a command line.
 ghost use Rattle.std.specs.Prelude.{◌≡◌, ◌<◌, ◌≤◌, ℕ, true, false, length, IfSome, IfNone};
 ghost use Rattle.ec_commands.specs.Command.{command_of, IsRowOf};
-ghost use Rattle.ec_commands.specs.Words.{first_source, is_build as is_build_row, word, IsNumber, IsRun, IsExecRow, IsGen};
+ghost use Rattle.ec_commands.specs.Words.{first_source, is_build as is_build_row, word, core_named, IsNumber, IsRun, IsExecRow};
+ghost use Rattle.ec_commands.specs.Words.{IsGen, IsList, IsAssemble};
+ghost use Rattle.ec_space.specs.declared.Core.{Core};
+
+use ec_space::Core;
 
 /// What a row of words is.
 #[derive(Clone, Copy, Debug, PartialEq, Eq)]
@@ -14,6 +18,10 @@ pub enum Command {
     Exec { steps: u32 },
     /// `gen N`
     Gen { n: u16 },
+    /// `list CORE HEX`
+    List { core: Core },
+    /// `assemble CORE ASM OUT`
+    Assemble { core: Core },
     /// Any other words.
     NoCommand,
 }
@@ -102,6 +110,39 @@ fn gen_number(words: &Vec<String>) -> Option<u16>
     if n == 0 { None } else { Some(n as u16) }
 }
 
+/// The core that is called so.
+fn core_named(name: &str) -> Option<Core>
+    ensures { result ≡ core_named name.now }
+{
+    if name == "small" {
+        Some(Core::Small)
+    } else {
+        None
+    }
+}
+
+/// The core of `list CORE HEX`, if the words are such.
+fn list_core(words: &Vec<String>) -> Option<Core>
+    ensures some { IfSome result (IsList words.now.items) }
+    ensures none { IfNone result ((core : Core) → ¬ (IsList words.now.items core)) }
+{
+    if words.len() != 3 || words[0].as_str() != "list" {
+        return None;
+    }
+    core_named(word_at(words, 1))
+}
+
+/// The core of `assemble CORE ASM OUT`, if the words are such.
+fn assemble_core(words: &Vec<String>) -> Option<Core>
+    ensures some { IfSome result (IsAssemble words.now.items) }
+    ensures none { IfNone result ((core : Core) → ¬ (IsAssemble words.now.items core)) }
+{
+    if words.len() != 4 || words[0].as_str() != "assemble" {
+        return None;
+    }
+    core_named(word_at(words, 1))
+}
+
 /// The command that the words are.
 pub fn command_of(words: &Vec<String>) -> Command
     ensures value { result ≡ command_of words.now.items }
@@ -118,6 +159,12 @@ pub fn command_of(words: &Vec<String>) -> Command
     }
     if let Some(n) = gen_number(words) {
         return Command::Gen { n };
+    }
+    if let Some(core) = list_core(words) {
+        return Command::List { core };
+    }
+    if let Some(core) = assemble_core(words) {
+        return Command::Assemble { core };
     }
     Command::NoCommand
 }

@@ -84,4 +84,5 @@ no_usage words steps hooks old new out (Command commands.NoEnd) h e = omega (ari
 no_usage words steps hooks old new out (Command (commands.ScriptLine line rule)) h e = omega (arith, e)
 no_usage words steps hooks old new out (Command (commands.Fault kind pc)) h e = omega (arith, e)
 no_usage words steps hooks old new out (Command commands.StepsOut) h e = omega (arith, e)
+no_usage words steps hooks old new out (Command (commands.AsmLine line rule)) h e = omega (arith, e)
 no_usage words steps hooks old new out (Build stop) h e = build_not stop e

@@ -19,5 +19,8 @@ returns-in-NoEnd-clause-told g c = rw c.in-NoEnd.is (rw c.in-NoEnd.is at c.tell_
 pub returns-in-ScriptLine-clause-told : goal.returns-in-ScriptLine-clause-told
 returns-in-ScriptLine-clause-told g c = rw c.in-ScriptLine.is c.write_numbers-in-ScriptLine.ensures.told
 
+pub returns-in-AsmLine-clause-told : goal.returns-in-AsmLine-clause-told
+returns-in-AsmLine-clause-told g c = rw c.in-AsmLine.is c.write_numbers-in-AsmLine.ensures.told
+
 pub returns-in-StepsOut-clause-told : goal.returns-in-StepsOut-clause-told
 returns-in-StepsOut-clause-told g c = rw c.in-StepsOut.is (rw c.in-StepsOut.is at c.tell_text-in-StepsOut.ensures.told)

@@ -1,5 +1,5 @@
 use Rattle.std.proofs.Common.{◌∙◌, sym}
-use Rattle.ec_commands.specs.declared.words.Command.TheVariants.{Run, Exec, Gen, NoCommand}
+use Rattle.ec_commands.specs.declared.words.Command.TheVariants.{Run, Exec, Gen, List as ListImage, Assemble, NoCommand}
 use Rattle.ec_commands.proofs.Rows.{command_is, no_command}
 use Rattle.ec_commands.proofs.words.command_of.Goals as goal
 
@@ -15,7 +15,16 @@ pub returns-in-Some-gen_number-clause-value : goal.returns-in-Some-gen_number-cl
 returns-in-Some-gen_number-clause-value c =
     sym (command_is c.args.words.now.items (Gen c.in-Some-gen_number.n) c.in-Some-gen_number.ensures.some)
 
+pub returns-in-Some-list_core-clause-value : goal.returns-in-Some-list_core-clause-value
+returns-in-Some-list_core-clause-value c =
+    sym (command_is c.args.words.now.items (ListImage c.in-Some-list_core.core) c.in-Some-list_core.ensures.some)
+
+pub returns-in-Some-assemble_core-clause-value : goal.returns-in-Some-assemble_core-clause-value
+returns-in-Some-assemble_core-clause-value c =
+    sym (command_is c.args.words.now.items (Assemble c.in-Some-assemble_core.core) c.in-Some-assemble_core.ensures.some)
+
 pub returns-clause-value : goal.returns-clause-value
 returns-clause-value c =
     sym (command_is c.args.words.now.items NoCommand (no_command c.args.words.now.items (sym c.is_build.ensures ∙ c.if-is_build.false)
-    c.in_default.ensures.none c.in_default-exec_steps.ensures.none c.in_default-gen_number.ensures.none))
+    c.in_default.ensures.none c.in_default-exec_steps.ensures.none c.in_default-gen_number.ensures.none
+    c.in_default-list_core.ensures.none c.in_default-assemble_core.ensures.none))
