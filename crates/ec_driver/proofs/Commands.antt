@@ -69,6 +69,7 @@ build_no_usage words old new row (stops.Command commands.NoEnd) h e = omega (ari
 build_no_usage words old new row (stops.Command (commands.ScriptLine line rule)) h e = omega (arith, e)
 build_no_usage words old new row (stops.Command (commands.Fault kind pc)) h e = omega (arith, e)
 build_no_usage words old new row (stops.Command commands.StepsOut) h e = omega (arith, e)
+build_no_usage words old new row (stops.Command (commands.AsmLine line rule)) h e = omega (arith, e)
 build_no_usage words old new row (stops.Build stop) h e = build_not stop e
 
 pub exec_no_usage : (words : Words) (steps : ℕ) (hooks : Gives) (old new : StoreView) (out : SinkCall)

@@ -6,10 +6,12 @@ use Rattle.ec_commands.specs.Answers.{Answers, NoFault, IsLeft}
 use Rattle.ec_commands.specs.Runs.{Gives, Ran, RunStops, CanRun, Fits}
 use Rattle.ec_commands.specs.Shown.{KeepsAll}
 use Rattle.ec_commands.specs.Stops as commands
-use Rattle.ec_commands.specs.Words.{Words, words_from, out_name, hex_name, script_name}
+use Rattle.ec_commands.specs.Words.{Words, words_from, out_name, hex_name, script_name, listed_name, assembled_name}
 use Rattle.ec_commands.specs.declared.words.Command.{Command}
-use Rattle.ec_commands.specs.declared.words.Command.TheVariants.{Build, Run, Exec, Gen, NoCommand}
+use Rattle.ec_commands.specs.declared.words.Command.TheVariants.{Build, Run, Exec, Gen, List as ListImage, Assemble, NoCommand}
 use Rattle.ec_commands.specs.declared.stop.CommandError.TheVariants.{Usage}
+use Rattle.ec_commands_list.specs.Listings.{Listed, ListStops, CanList, FitsListing}
+use Rattle.ec_commands_list.specs.Assemblies.{assemble_inputs, Assembles, AssembleStops, CanAssemble, FitsHex}
 use Rattle.ec_commands_compile.specs.Builds.{Builds, BuildStops, Accepts, FitsText}
 use Rattle.ec_commands_compile.specs.Execs.{Executed, ExecStops, AcceptsExec, FitsExec}
 use Rattle.ec_commands_compile.specs.Gens.{Generated, GenStops, AcceptsGen, FitsGen}
@@ -32,19 +34,35 @@ uses_files Build = true
 uses_files (Run steps fill) = true
 uses_files (Exec steps) = true
 uses_files (Gen n) = false
+uses_files (ListImage core) = true
+uses_files (Assemble core) = true
 uses_files NoCommand = false
 
--- whether a command may print, and ask the hooks
+-- whether a command may print
 abbrev pub prints : Command → Bool
 prints Build = false
 prints (Run steps fill) = true
 prints (Exec steps) = true
 prints (Gen n) = true
+prints (ListImage core) = true
+prints (Assemble core) = false
 prints NoCommand = false
+
+-- whether a command may ask the hooks
+abbrev pub asks : Command → Bool
+asks Build = false
+asks (Run steps fill) = true
+asks (Exec steps) = true
+asks (Gen n) = true
+asks (ListImage core) = false
+asks (Assemble core) = false
+asks NoCommand = false
 
 -- Each answer has its cause. 0 of a build: OUT denotes the image of the program of the sources, which does what they
 -- say. 0 of a run or an exec: `out` received the lines and the result of the run. 0 of a gen: `out` received the result of
--- the run of the generated program, and how often it wrote ports. Words that are no command are told, and nothing else.
+-- the run of the generated program, and how often it wrote ports. 0 of a list: `out` received the listing of the image that
+-- the HEX file denotes. 0 of an assemble: OUT denotes the image that the listing file lists. Words that are no command are
+-- told, and nothing else.
 abbrev pub Answered : Command → Words → Gives → StoreView → StoreView → SinkCall → SinkCall → (ℕ → Type 0) → ℕ → Type 0
 Answered Build words hooks before after out err calm status =
     Answers compiling.status_of (compiling.line_of words 3) err calm (Builds words before.disk after.disk)
@@ -58,6 +76,12 @@ Answered (Exec steps) words hooks before after out err calm status =
 Answered (Gen n) words hooks before after out err calm status =
     Answers compiling.status_of (compiling.line_of words 0) err calm (Generated n hooks out None) (GenStops n hooks out)
     status
+Answered (ListImage core) words hooks before after out err calm status =
+    Answers commands.status_of (commands.line_of words) err calm (Listed words core before.disk out)
+    (ListStops words core before after out) status
+Answered (Assemble core) words hooks before after out err calm status =
+    Answers commands.status_of (commands.line_of words) err calm (Assembles words core before.disk after.disk)
+    (AssembleStops words core before after) status
 Answered NoCommand words hooks before after out err calm status =
     Answers commands.status_of (commands.line_of words) err calm ⊥ (λ stop. stop ≡ Usage) status
 
@@ -75,6 +99,12 @@ Completed (Exec steps) words before after out status =
     → ¬ (Rose out.faults_before out.faults_after) → (status ≡ 0) ⊎ IsLeft status
 Completed (Gen n) words before after out status =
     AcceptsGen n → ¬ (Rose out.faults_before out.faults_after) → (status ≡ 0) ⊎ IsLeft status
+Completed (ListImage core) words before after out status =
+    CanList words core before.disk → ¬ (Rose before.read_faults after.read_faults)
+    → ¬ (Rose out.faults_before out.faults_after) → (status ≡ 0) ⊎ (status ≡ 11)
+Completed (Assemble core) words before after out status =
+    CanAssemble words core before.disk → ¬ (Rose before.read_faults after.read_faults)
+    → ¬ (Rose before.write_faults after.write_faults) → (status ≡ 0) ⊎ (status ≡ 11)
 Completed NoCommand words before after out status = ⊤
 
 -- over a store that is calm for the files of a command and the whole text no call fails
@@ -87,6 +117,11 @@ KeepsStoreCalm (Run steps fill) words before after calm =
 KeepsStoreCalm (Exec steps) words before after calm =
     (made : List ℕ) (room : ℕ) → calm (exec_inputs words) made room → NoFault before after
 KeepsStoreCalm (Gen n) words before after calm = NoFault before after
+KeepsStoreCalm (ListImage core) words before after calm =
+    (made : List ℕ) (room : ℕ) → calm (listed_name words ∷ []) made room → NoFault before after
+KeepsStoreCalm (Assemble core) words before after calm =
+    (room : ℕ) → calm (assemble_inputs words) (assembled_name words) room → FitsHex words core before.disk room
+    → NoFault before after
 KeepsStoreCalm NoCommand words before after calm = NoFault before after
 
 -- over an `out` that is calm for all that a command prints no write fails
@@ -98,15 +133,20 @@ KeepsOutCalm (Exec steps) words hooks before out calm =
     (room : ℕ) → calm room → FitsExec words steps hooks before.disk room → out.faults_after ≡ out.faults_before
 KeepsOutCalm (Gen n) words hooks before out calm =
     (room : ℕ) → calm room → FitsGen n hooks room → out.faults_after ≡ out.faults_before
+KeepsOutCalm (ListImage core) words hooks before out calm =
+    (room : ℕ) → calm room → FitsListing words core before.disk room → out.faults_after ≡ out.faults_before
+KeepsOutCalm (Assemble core) words hooks before out calm = out.faults_after ≡ out.faults_before
 KeepsOutCalm NoCommand words hooks before out calm = out.faults_after ≡ out.faults_before
 
--- what a command leaves as it was, besides what its answer says: a run and an exec change no file, and create and write
--- none
+-- what a command leaves as it was, besides what its answer says: a run, an exec and a list change no file, and create and
+-- write none
 abbrev pub Kept : Command → StoreView → StoreView → Type 0
 Kept Build before after = ⊤
 Kept (Run steps fill) before after = KeepsAll before.disk after.disk × (after.write_faults ≡ before.write_faults)
 Kept (Exec steps) before after = KeepsAll before.disk after.disk × (after.write_faults ≡ before.write_faults)
 Kept (Gen n) before after = after ≡ before
+Kept (ListImage core) before after = KeepsAll before.disk after.disk × (after.write_faults ≡ before.write_faults)
+Kept (Assemble core) before after = ⊤
 Kept NoCommand before after = after ≡ before
 
 -- all of it

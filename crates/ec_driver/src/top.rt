@@ -4,10 +4,11 @@ ghost use Rattle.ec_io.specs.Views.{store_view, sink_call};
 ghost use Rattle.ec_emu.specs.declared.ask.Ask.{Ask};
 ghost use Rattle.ec_commands.specs.Command.{command_of};
 ghost use Rattle.ec_commands.specs.declared.words.Command.TheVariants.{NoCommand};
-ghost use Rattle.ec_driver.specs.Commands.{Does, prints, uses_files, sources_of};
+ghost use Rattle.ec_driver.specs.Commands.{Does, prints, asks, uses_files, sources_of};
 
 use ec_commands::{Command, CommandError, Compiling, command_of, conclude, first_source, run};
 use ec_commands_compile::{build, conclude as conclude_compiling, exec, run_generated};
+use ec_commands_list::{assemble, list};
 use ec_emu::Ports;
 use ec_io::{Sink, Store};
 use std::alloc::Global;
@@ -19,7 +20,9 @@ use std::alloc::Global;
 /// which its registers and its memory hold FILL; its ports answer by the script, and the hooked ones by `hooks`. Each
 /// access of a port is printed on `out`, and at BREAK the result. `exec MAP SCRIPT STEPS SRC...` builds, and runs that
 /// image with FILL 165. `gen N` builds and runs the generated program for N so, and prints its result and how often it
-/// wrote ports. A stop is told on `err` by one line, and a failed write there does not change the status.
+/// wrote ports. `list CORE HEX` prints the listing of the image of a HEX file, and `assemble CORE ASM OUT` writes the
+/// Intel HEX text of the image that a listing lists to OUT. A stop is told on `err` by one line, and a failed write there
+/// does not change the status.
 pub fn tool<S: Store, O: Sink, E: Sink, H: Ports>(
     alloc: Global,
     words: &Vec<String>,
@@ -41,9 +44,10 @@ pub fn tool<S: Store, O: Sink, E: Sink, H: Ports>(
         Does (command_of words.now.items) words.now.items (H.gives hooks.old) before after printed told (S.calm store.old)
         (O.calm out.old) (E.calm err.old) result }
 
-    // Only some commands print and ask the hooks, and only some call the store. Where the work was done, `err` received
-    // nothing.
-    ensures unasked { prints (command_of words.now.items) ≡ false → (out.new ≡ out.old) × (hooks.new ≡ hooks.old) }
+    // Only some commands print, only some ask the hooks, and only some call the store. Where the work was done, `err`
+    // received nothing.
+    ensures unprinted { prints (command_of words.now.items) ≡ false → out.new ≡ out.old }
+    ensures unasked { asks (command_of words.now.items) ≡ false → hooks.new ≡ hooks.old }
     ensures idle { uses_files (command_of words.now.items) ≡ false → store.new ≡ store.old }
     ensures quiet { result ≡ 0 → err.new ≡ err.old }
 
@@ -75,6 +79,14 @@ pub fn tool<S: Store, O: Sink, E: Sink, H: Ports>(
         Command::Gen { n } => {
             let generated = run_generated(alloc, n, out, hooks);
             conclude_compiling(err, words, 0, generated)
+        }
+        Command::List { core } => {
+            let listed = list(alloc, words, core, store, out);
+            conclude(err, words, listed)
+        }
+        Command::Assemble { core } => {
+            let assembled = assemble(alloc, words, core, store);
+            conclude(err, words, assembled)
         }
         Command::NoCommand => conclude(err, words, Err(CommandError::Usage)),
     }

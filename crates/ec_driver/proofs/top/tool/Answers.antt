@@ -6,7 +6,7 @@ use Rattle.ec_commands.specs.Stops as commands
 use Rattle.ec_commands.specs.declared.stop.CommandError.TheVariants.{Usage}
 use Rattle.ec_commands_compile.specs.Stops as compiling
 use Rattle.ec_commands.proofs.RunComplete.{by_status, left_of}
-use Rattle.ec_driver.specs.Commands.{prints, uses_files, sources_of}
+use Rattle.ec_driver.specs.Commands.{prints, asks, uses_files, sources_of}
 use Rattle.ec_driver.proofs.Commands.{does_at, answer_of, err_map, no_two, build_no_usage, exec_no_usage, gen_no_usage, told_ten, quiet_of}
 use Rattle.ec_driver.proofs.top.tool.Goals as goal
 
@@ -75,8 +75,11 @@ returns-in-Run-clause-done g c =
       kept = (c.run-answer.ensures.files, c.run-answer.ensures.write_faults);
     })
 
+pub returns-in-Run-clause-unprinted : goal.returns-in-Run-clause-unprinted
+returns-in-Run-clause-unprinted g c = λ e. let no = ap prints c.in-Run.ensures.value ∙ e in cc
+
 pub returns-in-Run-clause-unasked : goal.returns-in-Run-clause-unasked
-returns-in-Run-clause-unasked g c = λ e. let no = ap prints c.in-Run.ensures.value ∙ e in cc
+returns-in-Run-clause-unasked g c = λ e. let no = ap asks c.in-Run.ensures.value ∙ e in cc
 
 pub returns-in-Run-clause-idle : goal.returns-in-Run-clause-idle
 returns-in-Run-clause-idle g c = λ e. let no = ap uses_files c.in-Run.ensures.value ∙ e in cc
@@ -103,8 +106,11 @@ returns-in-Exec-clause-done g c =
       kept = (c.exec-executed.ensures.files, c.exec-executed.ensures.write_faults);
     })
 
+pub returns-in-Exec-clause-unprinted : goal.returns-in-Exec-clause-unprinted
+returns-in-Exec-clause-unprinted g c = λ e. let no = ap prints c.in-Exec.ensures.value ∙ e in cc
+
 pub returns-in-Exec-clause-unasked : goal.returns-in-Exec-clause-unasked
-returns-in-Exec-clause-unasked g c = λ e. let no = ap prints c.in-Exec.ensures.value ∙ e in cc
+returns-in-Exec-clause-unasked g c = λ e. let no = ap asks c.in-Exec.ensures.value ∙ e in cc
 
 pub returns-in-Exec-clause-idle : goal.returns-in-Exec-clause-idle
 returns-in-Exec-clause-idle g c = λ e. let no = ap uses_files c.in-Exec.ensures.value ∙ e in cc
@@ -149,8 +155,11 @@ returns-in-Gen-clause-done g c =
       kept = refl;
     })
 
+pub returns-in-Gen-clause-unprinted : goal.returns-in-Gen-clause-unprinted
+returns-in-Gen-clause-unprinted g c = λ e. let no = ap prints c.in-Gen.ensures.value ∙ e in cc
+
 pub returns-in-Gen-clause-unasked : goal.returns-in-Gen-clause-unasked
-returns-in-Gen-clause-unasked g c = λ e. let no = ap prints c.in-Gen.ensures.value ∙ e in cc
+returns-in-Gen-clause-unasked g c = λ e. let no = ap asks c.in-Gen.ensures.value ∙ e in cc
 
 pub returns-in-Gen-clause-quiet : goal.returns-in-Gen-clause-quiet
 returns-in-Gen-clause-quiet g c =
@@ -170,6 +179,59 @@ returns-in-Gen-clause-usage g c = (
 pub returns-in-Gen-clause-sources : goal.returns-in-Gen-clause-sources
 returns-in-Gen-clause-sources g c = λ several.
     let none : 16 < 0 = subst (λ command. 16 < sources_of command c.args.words.now.items) (sym c.in-Gen.ensures.value) several in
+    absurd (omega (arith, none))
+
+-- ---- list
+
+pub returns-in-List-clause-done : goal.returns-in-List-clause-done
+returns-in-List-clause-done g c =
+    does_at _ (command_of c.args.words.now.items) c.in-List.ensures.value (record {
+      answered = answer_of commands.status_of (commands.line_of c.args.words.now.items) _ _ _ _ _ c.list-listed.result
+          c.conclude-in-List.result c.conclude-in-List.ensures.done c.conclude-in-List.ensures.told c.list-listed.ensures.listed
+          c.list-listed.ensures.stopped;
+      complete = λ accepts calm out_calm.
+          by_status commands.status_of (commands.line_of c.args.words.now.items) (λ status. status ≡ 11) _ _ _ c.list-listed.result
+          c.conclude-in-List.result c.conclude-in-List.ensures.done c.conclude-in-List.ensures.told
+          (c.list-listed.ensures.complete accepts calm out_calm);
+      store_unfailing = λ made room calm. (c.list-listed.ensures.calm made room calm, c.list-listed.ensures.write_faults);
+      out_unfailing = λ room calm fits. c.list-listed.ensures.out_calm room calm fits;
+      kept = (c.list-listed.ensures.files, c.list-listed.ensures.write_faults);
+    })
+
+pub returns-in-List-clause-unprinted : goal.returns-in-List-clause-unprinted
+returns-in-List-clause-unprinted g c = λ e. let no = ap prints c.in-List.ensures.value ∙ e in cc
+
+pub returns-in-List-clause-idle : goal.returns-in-List-clause-idle
+returns-in-List-clause-idle g c = λ e. let no = ap uses_files c.in-List.ensures.value ∙ e in cc
+
+pub returns-in-List-clause-sources : goal.returns-in-List-clause-sources
+returns-in-List-clause-sources g c = λ several.
+    let none : 16 < 0 = subst (λ command. 16 < sources_of command c.args.words.now.items) (sym c.in-List.ensures.value) several in
+    absurd (omega (arith, none))
+
+-- ---- assemble
+
+pub returns-in-Assemble-clause-done : goal.returns-in-Assemble-clause-done
+returns-in-Assemble-clause-done g c =
+    does_at _ (command_of c.args.words.now.items) c.in-Assemble.ensures.value (record {
+      answered = answer_of commands.status_of (commands.line_of c.args.words.now.items) _ _ _ _ _ c.assemble-assembled.result
+          c.conclude-in-Assemble.result c.conclude-in-Assemble.ensures.done c.conclude-in-Assemble.ensures.told
+          c.assemble-assembled.ensures.assembled c.assemble-assembled.ensures.stopped;
+      complete = λ accepts calm write_calm.
+          by_status commands.status_of (commands.line_of c.args.words.now.items) (λ status. status ≡ 11) _ _ _
+          c.assemble-assembled.result c.conclude-in-Assemble.result c.conclude-in-Assemble.ensures.done
+          c.conclude-in-Assemble.ensures.told (c.assemble-assembled.ensures.complete accepts calm write_calm);
+      store_unfailing = λ room calm fits. c.assemble-assembled.ensures.calm room calm fits;
+      out_unfailing = refl;
+      kept = tt;
+    })
+
+pub returns-in-Assemble-clause-idle : goal.returns-in-Assemble-clause-idle
+returns-in-Assemble-clause-idle g c = λ e. let no = ap uses_files c.in-Assemble.ensures.value ∙ e in cc
+
+pub returns-in-Assemble-clause-sources : goal.returns-in-Assemble-clause-sources
+returns-in-Assemble-clause-sources g c = λ several.
+    let none : 16 < 0 = subst (λ command. 16 < sources_of command c.args.words.now.items) (sym c.in-Assemble.ensures.value) several in
     absurd (omega (arith, none))
 
 -- ---- no command

@@ -1,0 +1,26 @@
+use Rattle.std.proofs.Common.{refl, inr}
+use Rattle.ec_commands_list.proofs.Printed.{listed, cut}
+use Rattle.ec_commands_list.proofs.listing.list.Goals as goal
+
+pub returns-in-Ok-write_all-clause-listed : goal.returns-in-Ok-write_all-clause-listed
+returns-in-Ok-write_all-clause-listed g c =
+    listed c.args.words.now.items c.args.core _ _ c.in-Ok.text.items c.in-Ok.ensures.made
+    (rw c.as_slice.ensures at c.in-Ok-write_all.ensures.written)
+
+pub returns-clause-stopped : goal.returns-clause-stopped
+returns-clause-stopped g c =
+    let made = c.in-Ok.ensures.made in
+    inr (
+      refl,
+      (
+        c.in-Err-write_all.ensures.cause.failed,
+        (
+          made.0,
+          (
+            c.in-Err-write_all.field-0.0,
+            cut _ _ c.in-Err-write_all.field-0.0 c.in-Ok.text.items _ made.1.0
+                (rw c.as_slice.ensures at c.in-Err-write_all.ensures.written.1),
+          ),
+        ),
+      ),
+    )
