@@ -1,3 +1,6 @@
+-- For the crates of the family.
+pub mod Usage
+-- For this crate alone.
 mod Complete
 mod Printed
 mod Assembled

@@ -45,6 +45,13 @@ err_map (Err stop) P Q f h = f stop h
 
 -- ---- no command answers that its words are none
 
+pub no_two_of : {Stop : Type 0} (status_of : Stop → ℕ) (line_of : Stop → List ℕ) (err : SinkCall) (calm : ℕ → Type 0) (Q : Type 0)
+    (stops : Stop → Type 0) (r : Result Unit Stop) (status : ℕ) → ((stop : Stop) → stops stop → status_of stop ≡ 2 → ⊥)
+    → OnOk r ((status ≡ 0) × Q) → IfErr r (λ stop. IsTold (status_of stop) (line_of stop) err calm status) → IfErr r stops
+    → status ≡ 2 → ⊥
+no_two_of status_of line_of err calm Q stops (Ok x) status never zero told why e = omega (arith, zero.0, e)
+no_two_of status_of line_of err calm Q stops (Err stop) status never zero told why e = never stop why (sym told.is ∙ e)
+
 -- a stop that does not come with the status 2
 abbrev pub NotUsage : (CompileStop → Type 0) → Type 0
 NotUsage stops = (stop : CompileStop) → stops stop → compiling.status_of stop ≡ 2 → ⊥
@@ -52,8 +59,7 @@ NotUsage stops = (stop : CompileStop) → stops stop → compiling.status_of sto
 pub no_two : (words : Words) (first : ℕ) (err : SinkCall) (calm : ℕ → Type 0) (Q : Type 0) (stops : CompileStop → Type 0)
     (r : Result Unit CompileStop) (status : ℕ) → NotUsage stops
     → OnOk r ((status ≡ 0) × Q) → IsToldOf words first err calm r status → IfErr r stops → status ≡ 2 → ⊥
-no_two words first err calm Q stops (Ok x) status never zero told why e = omega (arith, zero.0, e)
-no_two words first err calm Q stops (Err stop) status never zero told why e = never stop why (sym told.is ∙ e)
+no_two words first err calm Q stops r status = no_two_of compiling.status_of (compiling.line_of words first) err calm Q stops r status
 
 pub build_no_usage : (words : Words) (old new : StoreView) → is_build words ≡ true → NotUsage (BuildStops words old new)
 build_no_usage words old new row (stops.Command commands.Usage) h e = let no = sym row ∙ h.cause in cc

@@ -6,8 +6,9 @@ use Rattle.ec_commands.specs.Stops as commands
 use Rattle.ec_commands.specs.declared.stop.CommandError.TheVariants.{Usage}
 use Rattle.ec_commands_compile.specs.Stops as compiling
 use Rattle.ec_commands.proofs.RunComplete.{by_status, left_of}
+use Rattle.ec_commands_list.proofs.Usage.{list_no_usage, assemble_no_usage}
 use Rattle.ec_driver.specs.Commands.{prints, asks, uses_files, sources_of}
-use Rattle.ec_driver.proofs.Commands.{does_at, answer_of, err_map, no_two, build_no_usage, exec_no_usage, gen_no_usage, told_ten, quiet_of}
+use Rattle.ec_driver.proofs.Commands.{does_at, answer_of, err_map, no_two_of, no_two, build_no_usage, exec_no_usage, gen_no_usage, told_ten, quiet_of}
 use Rattle.ec_driver.proofs.top.tool.Goals as goal
 
 -- ---- build
@@ -204,6 +205,21 @@ returns-in-List-clause-unprinted g c = λ e. let no = ap prints c.in-List.ensure
 pub returns-in-List-clause-idle : goal.returns-in-List-clause-idle
 returns-in-List-clause-idle g c = λ e. let no = ap uses_files c.in-List.ensures.value ∙ e in cc
 
+pub returns-in-List-clause-usage : goal.returns-in-List-clause-usage
+returns-in-List-clause-usage g c = (
+  λ two. absurd (no_two_of commands.status_of (commands.line_of c.args.words.now.items) _ _ _ _ c.list-listed.result
+      c.conclude-in-List.result (list_no_usage c.args.words.now.items c.in-List.core
+      (store_view (g.S.Store.disk c.args.store.now) (g.S.Store.read_faults c.args.store.now) (g.S.Store.write_faults c.args.store.now)
+      (g.S.Store.received c.args.store.now) (g.S.Store.missed c.args.store.now))
+      (store_view (g.S.Store.disk c.list-listed.new.store) (g.S.Store.read_faults c.list-listed.new.store)
+      (g.S.Store.write_faults c.list-listed.new.store) (g.S.Store.received c.list-listed.new.store)
+      (g.S.Store.missed c.list-listed.new.store))
+      (sink_call (g.O.Sink.written c.args.out.now) (g.O.Sink.written c.list-listed.new.out) (g.O.Sink.faults c.args.out.now)
+      (g.O.Sink.faults c.list-listed.new.out)))
+      c.conclude-in-List.ensures.done c.conclude-in-List.ensures.told c.list-listed.ensures.stopped two),
+  λ none. let no = c.in-List.ensures.value ∙ none in cc,
+)
+
 pub returns-in-List-clause-sources : goal.returns-in-List-clause-sources
 returns-in-List-clause-sources g c = λ several.
     let none : 16 < 0 = subst (λ command. 16 < sources_of command c.args.words.now.items) (sym c.in-List.ensures.value) several in
@@ -228,6 +244,19 @@ returns-in-Assemble-clause-done g c =
 
 pub returns-in-Assemble-clause-idle : goal.returns-in-Assemble-clause-idle
 returns-in-Assemble-clause-idle g c = λ e. let no = ap uses_files c.in-Assemble.ensures.value ∙ e in cc
+
+pub returns-in-Assemble-clause-usage : goal.returns-in-Assemble-clause-usage
+returns-in-Assemble-clause-usage g c = (
+  λ two. absurd (no_two_of commands.status_of (commands.line_of c.args.words.now.items) _ _ _ _ c.assemble-assembled.result
+      c.conclude-in-Assemble.result (assemble_no_usage c.args.words.now.items c.in-Assemble.core
+      (store_view (g.S.Store.disk c.args.store.now) (g.S.Store.read_faults c.args.store.now) (g.S.Store.write_faults c.args.store.now)
+      (g.S.Store.received c.args.store.now) (g.S.Store.missed c.args.store.now))
+      (store_view (g.S.Store.disk c.assemble-assembled.new.store) (g.S.Store.read_faults c.assemble-assembled.new.store)
+      (g.S.Store.write_faults c.assemble-assembled.new.store) (g.S.Store.received c.assemble-assembled.new.store)
+      (g.S.Store.missed c.assemble-assembled.new.store)))
+      c.conclude-in-Assemble.ensures.done c.conclude-in-Assemble.ensures.told c.assemble-assembled.ensures.stopped two),
+  λ none. let no = c.in-Assemble.ensures.value ∙ none in cc,
+)
 
 pub returns-in-Assemble-clause-sources : goal.returns-in-Assemble-clause-sources
 returns-in-Assemble-clause-sources g c = λ several.
