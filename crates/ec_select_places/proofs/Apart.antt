@@ -1,7 +1,6 @@
 -- The difference of two pointers in elements.
 use Rattle.std.proofs.Common.{◌≡◌, ◌≢◌, ℕ, zero, suc, ◌+◌, ◌-◌, ◌*◌, ◌/◌, ◌%◌, ◌^◌, ◌<◌, ◌≤◌, ⊎_elim, Bool, true, false}
 use Rattle.std.proofs.Common.{refl, sym, ap, ◌∙◌, subst, arith, append-nil}
-use Rattle.std.specs.Prelude.{◌==◌}
 use Rattle.std.proofs.lemmas.Bool.{cases_eq, cases_lt}
 use Rattle.ec_isa.specs.declared.instructions.Instr.TheVariants.{Asr, Ror}
 use native.Mathlib.Nat.{pow-suc}
@@ -177,7 +176,7 @@ distances_are_right copies differences negative e p c q a b d twos odd inverse k
     (omega (arith, y0, y1)) from in
     let bound = from_within negative _ _ _ from in
     let g = halved negative e twos (k * odd) v2 r.0.bytes bound (left ∙ signed) in
-    let m = scaled e inverse v3 (inverse == 1) refl below g.numbers in
+    let m = scaled e inverse v3 below g.numbers in
     let power : k * odd ≤ k * odd * 2 ^ twos = at_least (k * odd) twos in
     let number : value v4.at 30 2 ≡ signed_number negative k =
     m.number_is ∙ (ap (λ i. i * inverse % 65536) g.number_is ∙ divided negative k odd inverse one (smaller negative

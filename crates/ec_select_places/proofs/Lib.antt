@@ -1,6 +1,7 @@
 mod Places
 mod Blocks
 mod Scaled
+mod Multiples
 mod Advanced
 mod Embedded
 mod Short

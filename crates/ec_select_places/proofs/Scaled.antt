@@ -1,9 +1,10 @@
 -- A number of elements is loaded to R31:R30, and becomes one of bytes.
-use Rattle.std.proofs.Common.{◌≡◌, ◌≢◌, ℕ, zero, suc, ◌+◌, ◌*◌, ◌/◌, ◌%◌, ◌<◌, ◌≤◌, ◌==◌, ⊎_elim, Bool, true, false}
-use Rattle.std.proofs.Common.{[], refl, ap, ◌∙◌, arith, append-nil}
-use Rattle.std.specs.Prelude.{if◌then◌else◌}
-use Rattle.std.proofs.lemmas.Bool.{cases_eq, eqb-true, ne_eqb}
-use Rattle.ec_isa.specs.declared.instructions.Instr.TheVariants.{Ldi, Movw, Mul, Add}
+use Rattle.std.proofs.Common.{◌≡◌, ◌≢◌, ℕ, zero, suc, ◌+◌, ◌*◌, ◌/◌, ◌%◌, ◌^◌, ◌<◌, ◌≤◌, ◌==◌, ⊎_elim, Bool, true, false}
+use Rattle.std.proofs.Common.{Some, refl, sym, ap, ◌∙◌, subst, arith, append-nil}
+use Rattle.std.specs.Prelude.{if◌then◌else◌, nat_lt, Option, None}
+use Rattle.std.proofs.lemmas.Bool.{cases_eq, eqb-true, ne_eqb, ltb-true}
+use native.Mathlib.Nat.{pow-suc}
+use Rattle.ec_isa.specs.declared.instructions.Instr.TheVariants.{Ldi, Movw, Mul, Add, Adc}
 use Rattle.ec_asm.specs.declared.pieces.Location.{Location}
 use Rattle.ec_asm.specs.View.{View}
 use Rattle.ec_asm.specs.Change.{Env, Own, change}
@@ -14,7 +15,8 @@ use Rattle.ec_asm.proofs.Bytes.{put_other}
 use Rattle.ec_asm.proofs.Hoare.{block-append}
 use Rattle.ec_select_bytes.specs.Values.{extend_code, fill_of}
 use Rattle.ec_select_bytes.specs.Laws.{ExtensionsAreRight}
-use Rattle.ec_select_places.specs.Steps.{z_pair, index_code, product_code, scale_code}
+use Rattle.ec_select_places.specs.Steps.{z_pair, index_code, product_code, byte_product_code, double_z, doublings_code}
+use Rattle.ec_select_places.specs.Steps.{doublings_of, scale_by, scale_code}
 use Rattle.ec_select_places.specs.StepLaws.{LeavesZ, index_of, Scales, IndexesAreScaled}
 use Rattle.ec_select_places.proofs.Blocks.{pair_other, first_bytes, copied_numbers}
 
@@ -122,6 +124,12 @@ low_product xx xy yx =
     let r = xx % 256 + 256 * (xx / 256) in
     r % 256 + 256 * (((r / 256 + xy % 256 + 0) % 256 + yx % 256 + 0) % 256)
 
+-- the same with a factor of one byte
+abbrev low_byte_product : (xx yx : ℕ) → ℕ
+low_byte_product xx yx =
+    let r = xx % 256 + 256 * (xx / 256) in
+    r % 256 + 256 * ((r / 256 + yx % 256 + 0) % 256)
+
 product_is : (x y k m : ℕ) → low_product (x * k) (x * m) (y * k) ≡ (x + 256 * y) * (k + 256 * m) % 65536
 product_is x y k m =
     let p : (x + 256 * y) * (k + 256 * m) ≡ x * k + 256 * (x * m) + 256 * (y * k) + 65536 * (y * m) = omega arith in
@@ -201,27 +209,167 @@ multiplied e size v l h =
       seen = refl;
     }
 
-pub scaled : (e : Env) (size : ℕ) (v : View) (b : Bool) → (size == 1) ≡ b → size < 65536 → HoldsNumbers v
-    → Scales v (value v.at 30 2 * size % 65536) (block e (if b then [] else product_code size) v)
-scaled e size v true t l h =
-    let one : size ≡ 1 = eqb-true size 1 t in
-    let xs : v.at (30 + 0) < 256 = h 30 (omega arith) in
-    let ys : v.at (30 + 1) < 256 = h 31 (omega arith) in
+-- the product with one byte
+byte_product_is : (x y k : ℕ) → low_byte_product (x * k) (y * k) ≡ (x + 256 * y) * k % 65536
+byte_product_is x y k = let p : (x + 256 * y) * k ≡ x * k + 256 * (y * k) = omega arith in rw p (parts (x * k) (y * k)) where
+  parts : (a b : ℕ) → low_byte_product a b ≡ (a + 256 * b) % 65536
+  parts a b = omega arith
+
+multiplied_by_byte : (e : Env) (size : ℕ) (v : View) → size < 256 → HoldsNumbers v
+    → Scales v (value v.at 30 2 * size % 65536) (block e (byte_product_code size) v)
+multiplied_by_byte e size v l h =
+    let x = v.at 30 in
+    let y = v.at 31 in
+    let xs : x < 256 = h 30 (omega arith) in
+    let ys : y < 256 = h 31 (omega arith) in
+    let px = (x + 256 * y) % 256 in
+    let py = (x + 256 * y) / 256 in
+    let ex : px ≡ x = omega arith in
+    let ey : py ≡ y = omega arith in
+    let v1 = change e (Movw 8 30) v in
+    let v2 = change e (Ldi 30 size) v1 in
+    let v3 = change e (Mul 8 30) v2 in
+    let v4 = change e (Movw 10 0) v3 in
+    let v5 = change e (Mul 9 30) v4 in
+    let v6 = change e (Add 11 0) v5 in
+    let w = change e (Movw 30 10) v6 in
+    let p = low_byte_product (px * size) (py * size) in
+    let low : w.at 30 ≡ p % 256 = refl in
+    let high : w.at 31 ≡ p / 256 = refl in
+    let total : p ≡ (x + 256 * y) * size % 65536 = rw (ex, ey) (byte_product_is x y size) in
+    let number_is : x + 256 * y ≡ value v.at 30 2 = omega arith in
+    let q : p ≡ value v.at 30 2 * size % 65536 = total ∙ ap (λ t. t * size % 65536) number_is in
+    let same : (j : ℕ) → j ≢ 0 → j ≢ 1 → Outside 8 4 j → Outside 30 2 j → w.at j ≡ v.at j =
+    λ j n0 n1 o z.
+    let n8 : j ≢ 8 = λ (t : j ≡ 8). let b = o (omega arith) in omega arith in
+    let n9 : j ≢ 9 = λ (t : j ≡ 9). let b = o (omega arith) in omega arith in
+    let n10 : j ≢ 10 = λ (t : j ≡ 10). let b = o (omega arith) in omega arith in
+    let n11 : j ≢ 11 = λ (t : j ≡ 11). let b = o (omega arith) in omega arith in
+    let n30 : j ≢ 30 = λ (t : j ≡ 30). let b = z (omega arith) in omega arith in
+    let n31 : j ≢ 31 = λ (t : j ≡ 31). let b = z (omega arith) in omega arith in
+    pair_other v6.at 30 _ j n30 n31 ∙ (put_other v5.at 11 _ j n11 ∙ (pair_other v4.at 0 _ j n0 n1
+    ∙ (pair_other v3.at 10 _ j n10 n11 ∙ (pair_other v2.at 0 _ j n0 n1 ∙ (put_other v1.at 30 _ j n30
+    ∙ pair_other v.at 8 _ j n8 n9))))) in
+    let b8 : w.at 8 < 256 = omega arith in
+    let b9 : w.at 9 < 256 = omega (arith, xs, ys) in
+    let b10 : w.at 10 < 256 = omega arith in
+    let b11 : w.at 11 < 256 = omega arith in
+    let b30 : w.at 30 < 256 = omega arith in
+    let bp : p < 65536 = omega arith in
+    let b31 : w.at 31 < 256 = omega (arith, bp, high) in
     record {
-      number_is = rw one (omega (arith, xs, ys));
-      numbers = h;
-      same = λ k n0 n1 o z. refl;
+      number_is = rw (low, high) (omega (arith, q));
+      numbers = numbers_hold v w h b8 b9 b10 b11 b30 b31 same;
+      same = same;
       inputs = refl;
       safe = refl;
       seen = refl;
     }
-scaled e size v false t l h = multiplied e size v l h
+
+-- ---- doubled
+
+doubled_once : (e : Env) (v : View) → HoldsNumbers v → Loads v (2 * value v.at 30 2 % 65536) (block e double_z v)
+doubled_once e v h =
+    let v1 = change e (Add 30 30) v in
+    let w = change e (Adc 31 31) v1 in
+    let x = v.at 30 in
+    let y = v.at 31 in
+    let s0 : x < 256 = h 30 (omega arith) in
+    let s1 : y < 256 = h 31 (omega arith) in
+    let low : w.at 30 ≡ (x + x + 0) % 256 = refl in
+    let high : w.at 31 ≡ (y + y + (x + x + 0) / 256) % 256 = refl in
+    let other : (k : ℕ) → k ≢ 30 → k ≢ 31 → w.at k ≡ v.at k = λ k n30 n31. put_other v1.at 31 _ k n31 ∙ put_other v.at 30 _ k n30 in
+    record {
+      number_is = rw (low, high) (omega (arith, s0, s1));
+      numbers = λ k u.
+          ⊎_elim
+          (λ (t : k ≡ 30). rw (t, low) (omega arith))
+          (λ (t : k ≢ 30).
+          ⊎_elim (λ (r : k ≡ 31). rw (r, high) (omega arith)) (λ (r : k ≢ 31). rw (other k t r) (h k u)) (cases_eq k 31))
+          (cases_eq k 30);
+      same = λ k n0 n1 o.
+          other k (λ (t : k ≡ 30). let b = o (omega arith) in omega arith)
+          (λ (t : k ≡ 31). let b = o (omega arith) in omega arith);
+      inputs = refl;
+      safe = refl;
+      seen = refl;
+    }
+
+doubled : (e : Env) (n : ℕ) (v : View) → HoldsNumbers v → Loads v (value v.at 30 2 * 2 ^ n % 65536) (block e (doublings_code n) v)
+doubled e zero v h =
+    let xs : v.at (30 + 0) < 256 = h 30 (omega arith) in
+    let ys : v.at (30 + 1) < 256 = h 31 (omega arith) in
+    record {
+      number_is = omega (arith, xs, ys);
+      numbers = h;
+      same = λ k n0 n1 o. refl;
+      inputs = refl;
+      safe = refl;
+      seen = refl;
+    }
+doubled e (suc n) v h =
+    let r = doubled e n v h in
+    let v1 = block e (doublings_code n) v in
+    let o = doubled_once e v1 r.numbers in
+    let twice : value v.at 30 2 * 2 ^ suc n ≡ 2 * (value v.at 30 2 * 2 ^ n) = rw (pow-suc 2 n) (omega arith) in
+    let number : 2 * value v1.at 30 2 % 65536 ≡ value v.at 30 2 * 2 ^ suc n % 65536 =
+    rw twice (let q = r.number_is in again (value v1.at 30 2) (value v.at 30 2 * 2 ^ n) q) in
+    rw (block-append e (doublings_code n) double_z v) (record {
+      number_is = o.number_is ∙ number;
+      numbers = o.numbers;
+      same = λ k n0 n1 z. o.same k n0 n1 z ∙ r.same k n0 n1 z;
+      inputs = o.inputs ∙ r.inputs;
+      safe = o.safe ∙ r.safe;
+      seen = o.seen ∙ r.seen;
+    })
+  where
+    again : (x y : ℕ) → x ≡ y % 65536 → 2 * x % 65536 ≡ 2 * y % 65536
+    again x y q = omega (arith, q)
+
+-- a size that is doubled to
+doublings_are : (size n : ℕ) → doublings_of size ≡ Some n → size ≡ 2 ^ n
+doublings_are size n = by_tests (size == 1) (size == 2) (size == 4) (size == 8) refl refl refl refl
+  where
+    some : (a b : ℕ) → size ≡ 2 ^ a → Some a ≡ Some b → size ≡ 2 ^ b
+    some a b q h = let e : a ≡ b = cc in subst (λ i. size ≡ 2 ^ i) e q
+
+    by_tests : (b c d f : Bool) → (size == 1) ≡ b → (size == 2) ≡ c → (size == 4) ≡ d → (size == 8) ≡ f
+        → (if b then Some 0 else (if c then Some 1 else (if d then Some 2 else (if f then Some 3 else None)))) ≡ Some n
+        → size ≡ 2 ^ n
+    by_tests true c d f p q r s h = some 0 n (eqb-true size 1 p) h
+    by_tests false true d f p q r s h = some 1 n (eqb-true size 2 q) h
+    by_tests false false true f p q r s h = some 2 n (eqb-true size 4 r) h
+    by_tests false false false true p q r s h = some 3 n (eqb-true size 8 s) h
+    by_tests false false false false p q r s h = absurd cc
+
+pub scaled : (e : Env) (size : ℕ) (v : View) → size < 65536 → HoldsNumbers v
+    → Scales v (value v.at 30 2 * size % 65536) (block e (scale_code size) v)
+scaled e size v l h = by_count (doublings_of size) refl
+  where
+    by_width : (b : Bool) → nat_lt size 256 ≡ b
+        → Scales v (value v.at 30 2 * size % 65536) (block e (if b then byte_product_code size else product_code size) v)
+    by_width true q = multiplied_by_byte e size v (ltb-true size 256 q) h
+    by_width false q = multiplied e size v l h
+
+    by_count : (c : Option ℕ) → doublings_of size ≡ c → Scales v (value v.at 30 2 * size % 65536) (block e (scale_by c size) v)
+    by_count (Some n) q =
+        let r = doubled e n v h in
+        let is : 2 ^ n ≡ size = sym (doublings_are size n q) in
+        record {
+          number_is = r.number_is ∙ ap (λ t. value v.at 30 2 * t % 65536) is;
+          numbers = r.numbers;
+          same = λ k n0 n1 o z. r.same k n0 n1 z;
+          inputs = r.inputs;
+          safe = r.safe;
+          seen = r.seen;
+        }
+    by_count None q = by_width (nat_lt size 256) refl
 
 pub indexes_are_scaled : Lower → IndexesAreScaled
 indexes_are_scaled lower e p signed n size a v s z some l h =
     let v1 = block e (index_code p signed n) v in
     let o = index_loads lower e p signed n a v s z some h in
-    let r = scaled e size v1 (size == 1) refl l o.numbers in
+    let r = scaled e size v1 l o.numbers in
     rw (block-append e (index_code p signed n) (scale_code size) v) (record {
       number_is = r.number_is ∙ ap (λ t. t * size % 65536) o.number_is;
       numbers = r.numbers;

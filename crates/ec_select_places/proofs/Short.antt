@@ -1,5 +1,5 @@
 -- The form of the code: straight code, and its steps and words.
-use Rattle.std.proofs.Common.{ℕ, zero, suc, ◌+◌, ◌*◌, ◌≤◌, ◌==◌, Bool, true, false, List, []}
+use Rattle.std.proofs.Common.{ℕ, zero, suc, ◌+◌, ◌*◌, ◌≤◌, ◌==◌, Bool, true, false, List}
 use Rattle.std.proofs.Common.{◌++◌, refl, arith}
 use Rattle.std.specs.Prelude.{if◌then◌else◌}
 use Rattle.std.proofs.lemmas.List.Sums.{sum_by-append}
@@ -12,10 +12,11 @@ use Rattle.ec_asm.specs.Pieces.{copy_code, operate_code}
 use Rattle.ec_asm.proofs.Hoare.{straight-append, steps-append}
 use Rattle.ec_select_bytes.specs.Values.{extend_code}
 use Rattle.ec_select_order.specs.Laws.{RelationsHaveWords}
-use Rattle.ec_select_places.specs.Steps.{z_pair, index_code, product_code, scale_code, advance_code, compared_bytes}
+use Rattle.ec_select_places.specs.Steps.{z_pair, index_code, scale_code, advance_code, compared_bytes}
 use Rattle.ec_select_places.specs.Conversions.{tag_code, put_tag, embed_code}
 use Rattle.ec_select_places.specs.Distances.{halve_z, halvings_code, distance_code}
 use Rattle.ec_select_places.specs.Form.{DistancesAreShort}
+use Rattle.ec_select_places.proofs.Multiples.{of_each}
 use Rattle.ec_select_places.specs.Form.{IsShort, StepsAreShort, ConversionsAreShort, OrdersHaveWords}
 
 -- ---- lists of items
@@ -77,8 +78,12 @@ index_short p signed n =
 
 scale_short : (size : ℕ) → IsShort (scale_code size) 0 10 10
 scale_short size =
-    by_test (size == 1) [] (product_code size) 0 10 10
+    of_each (λ (code : List AsmItem). IsShort code 0 10 10) size
     (record { straight = refl; at_least = omega arith; at_most = omega arith; words_are = omega arith })
+    (record { straight = refl; at_least = omega arith; at_most = omega arith; words_are = omega arith })
+    (record { straight = refl; at_least = omega arith; at_most = omega arith; words_are = omega arith })
+    (record { straight = refl; at_least = omega arith; at_most = omega arith; words_are = omega arith })
+    (λ l. record { straight = refl; at_least = omega arith; at_most = omega arith; words_are = omega arith })
     (record { straight = refl; at_least = omega arith; at_most = omega arith; words_are = omega arith })
 
 advance_short : (minus : Bool) (q : Location) → IsShort (advance_code minus q) 2 8 14

@@ -1,5 +1,5 @@
 -- The items of the code are valid, and have no labels.
-use Rattle.std.proofs.Common.{◌≡◌, ℕ, zero, suc, ◌+◌, ◌/◌, ◌%◌, ◌<◌, ◌≤◌, ◌==◌, Bool, true, false, List, []}
+use Rattle.std.proofs.Common.{◌≡◌, ℕ, zero, suc, ◌+◌, ◌/◌, ◌%◌, ◌<◌, ◌≤◌, ◌==◌, Bool, true, false, List}
 use Rattle.std.proofs.Common.{◌++◌, refl, ◌∙◌, arith}
 use Rattle.std.specs.Prelude.{count_by, cond, if◌then◌else◌}
 use Rattle.std.specs.List.{list_all}
@@ -16,9 +16,11 @@ use Rattle.ec_select_order.specs.declared.relations.Relation.{Relation}
 use Rattle.ec_select_order.specs.declared.relations.Relation.TheVariants.{Less, NotLess, Equal, NotEqual}
 use Rattle.ec_select_order.specs.Relations.{truth_code, relation_code}
 use Rattle.ec_select_pointers.proofs.Valid.{both, all_pass, is_plain, no_use, no_place, passing}
-use Rattle.ec_select_places.specs.Steps.{z_pair, index_code, product_code, scale_code, scale_index_code, advance_code}
+use Rattle.ec_select_places.specs.Steps.{z_pair, index_code, product_code, scale_code, scale_index_code}
+use Rattle.ec_select_places.specs.Steps.{advance_code}
 use Rattle.ec_select_places.specs.Steps.{order_code, compared_bytes}
 use Rattle.ec_select_places.specs.Conversions.{tag_code, put_tag, embed_code, narrow_code}
+use Rattle.ec_select_places.proofs.Multiples.{of_each}
 use Rattle.ec_select_places.specs.Form.{HasPlaces, HasNoLabel, StepsAreValid, OrdersAreValid, ConversionsAreValid}
 use Rattle.ec_select_places.specs.Distances.{halve_z, halvings_code, distance_code}
 use Rattle.ec_select_places.specs.Form.{PlacesHaveNoLabel, DistancesAreValid, DistancesHaveNoLabel}
@@ -34,9 +36,8 @@ by_test t false a c h k = k
 
 module _ (t : AsmItem → Bool) where
   scale_index_passes : (p : Location) (signed : Bool) (n size : ℕ) → list_all t (index_code p signed n) ≡ true
-      → list_all t (product_code size) ≡ true → list_all t (scale_index_code p signed n size) ≡ true
-  scale_index_passes p signed n size h k =
-      both t (index_code p signed n) (scale_code size) h (by_test t (size == 1) [] (product_code size) refl k)
+      → list_all t (scale_code size) ≡ true → list_all t (scale_index_code p signed n size) ≡ true
+  scale_index_passes p signed n size h k = both t (index_code p signed n) (scale_code size) h k
 
   order_passes : (r : Relation) (left right : Location) (n : ℕ)
       → ((i : ℕ) → i < n → list_all t (compare_byte right left i) ≡ true) → list_all t (truth_code r false) ≡ true
@@ -53,12 +54,12 @@ module _ (t : AsmItem → Bool) where
 
   distance_passes : (p c q : Location) (twos inverse : ℕ) → list_all t (copy_code p z_pair 2) ≡ true
       → list_all t (operate_code Difference c z_pair 2) ≡ true → list_all t halve_z ≡ true
-      → list_all t (product_code inverse) ≡ true → list_all t (copy_code z_pair q 2) ≡ true
+      → list_all t (scale_code inverse) ≡ true → list_all t (copy_code z_pair q 2) ≡ true
       → list_all t (distance_code p c q twos inverse) ≡ true
   distance_passes p c q twos inverse a b h k d =
       both t (copy_code p z_pair 2) _ a (both t (operate_code Difference c z_pair 2) _ b
       (both t (halvings_code twos) _ (all_pass t (λ i. halve_z) twos (λ i l. h))
-      (both t (scale_code inverse) (copy_code z_pair q 2) (by_test t (inverse == 1) [] (product_code inverse) refl k) d)))
+      (both t (scale_code inverse) (copy_code z_pair q 2) k d)))
 
 -- ---- fields
 
@@ -112,6 +113,11 @@ module _ (sizes : Sizes) where
   product_valid : (size : ℕ) → size < 65536 → list_all valid (product_code size) ≡ true
   product_valid size l = rw (lt-ltb (size % 256) 256 (omega arith), lt-ltb (size / 256) 256 (omega arith)) refl
 
+  scale_valid : (size : ℕ) → size < 65536 → list_all valid (scale_code size) ≡ true
+  scale_valid size l =
+      of_each (λ (code : List AsmItem). list_all valid code ≡ true) size refl refl refl refl
+      (λ small. rw (lt-ltb size 256 small) refl) (product_valid size l)
+
   advance_valid : (minus : Bool) (q : Location) → HasPlaces sizes q 2 → list_all valid (advance_code minus q) ≡ true
   advance_valid true (InRegisters r) h = rw (lt-ltb (r + 0) 32 (omega arith), lt-ltb (r + 1) 32 (omega arith)) refl
   advance_valid false (InRegisters r) h = rw (lt-ltb (r + 0) 32 (omega arith), lt-ltb (r + 1) 32 (omega arith)) refl
@@ -152,7 +158,7 @@ module _ (sizes : Sizes) where
 pub steps_are_valid : StepsAreValid
 steps_are_valid sizes p q signed minus n size hp some l hq = (
   scale_index_passes (is_valid_item sizes) p signed n size (index_valid sizes p signed n (n == 1) refl some hp)
-      (product_valid sizes size l),
+      (scale_valid sizes size l),
   advance_valid sizes minus q hq,
 )
 
@@ -172,7 +178,7 @@ conversions_are_valid sizes to_data p q hp = (
 pub distances_are_valid : DistancesAreValid
 distances_are_valid sizes p c q twos inverse hp hc hq l =
     distance_passes (is_valid_item sizes) p c q twos inverse (to_z_valid sizes p 2 (omega arith) hp)
-    (difference_valid sizes c hc) refl (product_valid sizes inverse l) (from_z_valid sizes q 2 (omega arith) hq)
+    (difference_valid sizes c hc) refl (scale_valid sizes inverse l) (from_z_valid sizes q 2 (omega arith) hq)
 
 -- ---- labels
 
@@ -206,6 +212,9 @@ index_plain p signed n =
     (both is_plain (copy_code p z_pair 1) (extend_code signed z_pair 1 2) (one_plain p) (extend_plain signed))
     (copy_plain p z_pair)
 
+scale_plain : (size : ℕ) → list_all is_plain (scale_code size) ≡ true
+scale_plain size = of_each (λ (code : List AsmItem). list_all is_plain code ≡ true) size refl refl refl refl (λ small. refl) refl
+
 advance_plain : (minus : Bool) (q : Location) → list_all is_plain (advance_code minus q) ≡ true
 advance_plain true (InRegisters r) = refl
 advance_plain false (InRegisters r) = refl
@@ -234,7 +243,7 @@ put_plain (InMemory o k) = refl
 
 pub places_have_no_label : PlacesHaveNoLabel
 places_have_no_label p q signed minus to_data r n size = (
-  has_no_label (scale_index_code p signed n size) (scale_index_passes is_plain p signed n size (index_plain p signed n) refl),
+  has_no_label (scale_index_code p signed n size) (scale_index_passes is_plain p signed n size (index_plain p signed n) (scale_plain size)),
   has_no_label (advance_code minus q) (advance_plain minus q),
   has_no_label (order_code r p q n)
       (order_passes is_plain r p q (compared_bytes r n) (λ i l. compare_plain q p i) (truth_plain r)),
@@ -250,4 +259,5 @@ difference_plain (InMemory o k) = refl
 pub distances_have_no_label : DistancesHaveNoLabel
 distances_have_no_label p c q twos inverse =
     has_no_label (distance_code p c q twos inverse)
-    (distance_passes is_plain p c q twos inverse (copy_plain p z_pair) (difference_plain c) refl refl (copy_plain z_pair q))
+    (distance_passes is_plain p c q twos inverse (copy_plain p z_pair) (difference_plain c) refl (scale_plain inverse)
+    (copy_plain z_pair q))

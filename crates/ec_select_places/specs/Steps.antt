@@ -1,8 +1,9 @@
 -- Pieces of code for a pointer moved by so many elements. R0, R1, R8 to R11, R30 and R31 are work registers.
-use Rattle.std.specs.Prelude.{ℕ, ◌/◌, ◌%◌, ◌==◌, Bool, false, if◌then◌else◌, List, [], ◌∷◌, ◌++◌}
-use Rattle.ec_isa.specs.declared.instructions.Instr.TheVariants.{Ldi, Movw, Mul, Add}
+use Rattle.std.specs.Prelude.{ℕ, ◌/◌, ◌%◌, ◌==◌, nat_lt, Bool, false, if◌then◌else◌, List, [], ◌∷◌, ◌++◌, Option, Some, None}
+use Rattle.ec_isa.specs.declared.instructions.Instr.TheVariants.{Ldi, Movw, Mul, Add, Adc}
 use Rattle.ec_asm.specs.declared.items.AsmItem.{AsmItem}
 use Rattle.ec_asm.specs.declared.items.AsmItem.TheVariants.{Plain}
+use Rattle.ec_asm.specs.Items.{chain}
 use Rattle.ec_asm.specs.declared.pieces.Location.{Location}
 use Rattle.ec_asm.specs.declared.pieces.Location.TheVariants.{InRegisters}
 use Rattle.ec_asm.specs.declared.pieces.Operator.{Operator}
@@ -30,9 +31,35 @@ product_code size =
     Plain (Movw 8 30) ∷ Plain (Ldi 30 (size % 256)) ∷ Plain (Ldi 31 (size / 256)) ∷ Plain (Mul 8 30) ∷ Plain (Movw 10 0)
     ∷ Plain (Mul 8 31) ∷ Plain (Add 11 0) ∷ Plain (Mul 9 30) ∷ Plain (Add 11 0) ∷ Plain (Movw 30 10) ∷ []
 
--- elements of one byte are counted as they are
+-- R31:R30 times a constant of one byte
+abbrev pub byte_product_code : ℕ → List AsmItem
+byte_product_code size =
+    Plain (Movw 8 30) ∷ Plain (Ldi 30 size) ∷ Plain (Mul 8 30) ∷ Plain (Movw 10 0) ∷ Plain (Mul 9 30) ∷ Plain (Add 11 0)
+    ∷ Plain (Movw 30 10) ∷ []
+
+-- R31:R30 is doubled so often
+abbrev pub double_z : List AsmItem
+double_z = Plain (Add 30 30) ∷ Plain (Adc 31 31) ∷ []
+
+abbrev pub doublings_code : ℕ → List AsmItem
+doublings_code count = chain (λ i. double_z) count
+
+-- how often 1 is doubled to give a size of 1, 2, 4 or 8
+abbrev pub doublings_of : ℕ → Option ℕ
+doublings_of size =
+    if size == 1 then Some 0
+    else (if size == 2 then Some 1 else (if size == 4 then Some 2 else (if size == 8 then Some 3 else None)))
+
+abbrev pub multiply_code : ℕ → List AsmItem
+multiply_code size = if nat_lt size 256 then byte_product_code size else product_code size
+
+-- by additions, or by products
+abbrev pub scale_by : Option ℕ → ℕ → List AsmItem
+scale_by (Some count) size = doublings_code count
+scale_by None size = multiply_code size
+
 abbrev pub scale_code : ℕ → List AsmItem
-scale_code size = if size == 1 then [] else product_code size
+scale_code size = scale_by (doublings_of size) size
 
 -- R31:R30 becomes a number of elements in bytes
 abbrev pub scale_index_code : Location → Bool → (n size : ℕ) → List AsmItem

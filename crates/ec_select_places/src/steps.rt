@@ -3,6 +3,7 @@ ghost use Rattle.std.specs.Prelude.{◌≡◌, ◌<◌, ◌≤◌, ◌++◌, OnO
 ghost use Rattle.ec_runs.specs.Behaviours.{BeginWith};
 ghost use Rattle.ec_asm.specs.Pieces.{HasBytes};
 ghost use Rattle.ec_select_places.specs.Steps.{z_pair, index_code, product_code, scale_code, scale_index_code};
+ghost use Rattle.ec_select_places.specs.Steps.{byte_product_code, double_z, doublings_code, doublings_of, multiply_code};
 ghost use Rattle.ec_select_places.specs.Steps.{advance_code, compared_bytes, order_code};
 
 use ec_asm::{AsmItem, Location, Operator, copy, operate};
@@ -39,7 +40,7 @@ fn load_index(
 }
 
 /// Appends code that multiplies R31:R30 by a constant, modulo 65,536.
-fn multiply(out: &mut Seq<AsmItem>, size: u16) -> Result<(), NoMemory>
+fn multiply_word(out: &mut Seq<AsmItem>, size: u16) -> Result<(), NoMemory>
     ensures ok { OnOk result (out.new.items ≡ out.old.items ++ product_code size) }
     ensures err { OnErr result (out.new.items ≡ out.old.items) }
 {
@@ -63,15 +64,77 @@ fn multiply(out: &mut Seq<AsmItem>, size: u16) -> Result<(), NoMemory>
     ])
 }
 
-/// Appends code that brings R31:R30 from elements of so many bytes to bytes.
-pub(crate) fn scale(out: &mut Seq<AsmItem>, size: u16) -> Result<(), NoMemory>
-    ensures ok { OnOk result (out.new.items ≡ out.old.items ++ scale_code size) }
+/// Appends code that multiplies R31:R30 by a constant of one byte, modulo 65,536.
+fn multiply_byte(out: &mut Seq<AsmItem>, size: u8) -> Result<(), NoMemory>
+    ensures ok { OnOk result (out.new.items ≡ out.old.items ++ byte_product_code size) }
     ensures err { OnErr result (out.new.items ≡ out.old.items) }
 {
-    if size == 1 {
-        return Ok(());
+    out.extend_from_slice(&[
+        AsmItem::Plain(Instr::Movw { d: 8, r: 30 }),
+        AsmItem::Plain(Instr::Ldi { d: 30, k: size }),
+        AsmItem::Plain(Instr::Mul { d: 8, r: 30 }),
+        AsmItem::Plain(Instr::Movw { d: 10, r: 0 }),
+        AsmItem::Plain(Instr::Mul { d: 9, r: 30 }),
+        AsmItem::Plain(Instr::Add { d: 11, r: 0 }),
+        AsmItem::Plain(Instr::Movw { d: 30, r: 10 }),
+    ])
+}
+
+fn multiply(out: &mut Seq<AsmItem>, size: u16) -> Result<(), NoMemory>
+    ensures ok { OnOk result (out.new.items ≡ out.old.items ++ multiply_code size) }
+    ensures err { OnErr result (out.new.items ≡ out.old.items) }
+{
+    if size < 256 {
+        return multiply_byte(out, size as u8);
     }
-    multiply(out, size)
+    multiply_word(out, size)
+}
+
+/// Appends code that doubles R31:R30, modulo 65,536.
+fn double(out: &mut Seq<AsmItem>) -> Result<(), NoMemory>
+    ensures ok { OnOk result (out.new.items ≡ out.old.items ++ double_z) }
+    ensures err { OnErr result (out.new.items ≡ out.old.items) }
+{
+    out.extend_from_slice(&[
+        AsmItem::Plain(Instr::Add { d: 30, r: 30 }),
+        AsmItem::Plain(Instr::Adc { d: 31, r: 31 }),
+    ])
+}
+
+/// Appends code that doubles R31:R30 so often.
+fn doublings(out: &mut Seq<AsmItem>, count: u8) -> Result<(), NoMemory>
+    ensures ok { OnOk result (out.new.items ≡ out.old.items ++ doublings_code count) }
+    ensures err { OnErr result (BeginWith out.old.items out.new.items) }
+{
+    for i in 0..count {
+        double(out)?;
+    }
+    Ok(())
+}
+
+/// How often 1 is doubled to give the size, if that is 1, 2, 4 or 8.
+fn doublings_of(size: u16) -> Option<u8>
+    ensures { result ≡ doublings_of size }
+{
+    match size {
+        1 => Some(0),
+        2 => Some(1),
+        4 => Some(2),
+        8 => Some(3),
+        _ => None,
+    }
+}
+
+/// Appends code that brings R31:R30 from elements of so many bytes to bytes. Where memory runs out, a part of the code
+/// is appended.
+pub(crate) fn scale(out: &mut Seq<AsmItem>, size: u16) -> Result<(), NoMemory>
+    ensures ok { OnOk result (out.new.items ≡ out.old.items ++ scale_code size) }
+    ensures err { OnErr result (BeginWith out.old.items out.new.items) }
+{
+    match doublings_of(size) {
+        Some(count) => doublings(out, count),
+        None => multiply(out, size),
+    }
 }
 
 /// Appends code that leaves in R31:R30 a number of elements of so many bytes each (`size`) in bytes, modulo 65,536: the
