@@ -26,6 +26,7 @@ use Rattle.ec_ir.specs.Costs.{op_steps}
 use Rattle.ec_ir.specs.Meaning.{Mach, machine, held_as, pointer_in, held_pointer, number_in, held_number, object_access}
 use Rattle.ec_ir.specs.Meaning.{access_at, leaf_from, accessed_type, is_access_of, pointer_access, put_leaf, put, Frame}
 use Rattle.ec_ir.specs.Meaning.{Place, place, find, Go, jump_to, enter, returned, resulted, leave, element_of_port}
+use Rattle.ec_ir.specs.Meaning.{put_named, put_object, before_store, kept_for, active}
 use Rattle.ec_ir.specs.Meaning.{port_read, port_written, perform, exec_from, exec, start, pointer_at, run}
 use Rattle.ec_ir.specs.Operations.{PlainIr, constant, copy, address, field, load_at, store_at, load_object}
 use Rattle.ec_ir.specs.Operations.{store_object, binary_op, unary_op, conversion, label, jump, branch_zero}
@@ -174,6 +175,19 @@ module _ (p : PlainProgram) where
         by_access None is = tt
         by_access (Some a) is = by_test a (is_access_of p space bytes a) is
 
+  -- a store to a named object, once it is settled which frames stand
+  keeps_put_object : (fs : List ℕ) (o offset : ℕ) (t : Temp) (temps : Temps) (s : State) → Keeps s (put_object p fs o offset t temps s)
+  keeps_put_object fs o offset t temps s = by_storage (option_map (λ (d : PlainObject). d.storage) (slice_get p.objects o)) where
+    named : (s1 : State) → Keeps s1 (put_named p o offset t temps s1)
+    named s1 = keeps_put (object_access p None o offset s1) t temps s1 (access_is None o offset s1)
+
+    by_storage : (storage : Option PlainStorage) → Keeps s (put_named p o offset t temps (before_store p fs storage s))
+    by_storage None = named s
+    by_storage (Some (static inits)) = named s
+    by_storage (Some (local f)) = named s
+    by_storage (Some (param g)) = named (kept_for p (g ∷ fs) s)
+    by_storage (Some (register r)) = named s
+
   -- ---- returns and ports
 
   keeps_returned : (t : Option Temp) (m : Mach) → Keeps m.state (returned t m)
@@ -213,12 +227,12 @@ module _ (p : PlainProgram) where
       enter_keeps None stack m = λ x. x
       enter_keeps (Some f) stack m = g (place f.code stack f.code) m
 
-      leave_keeps : (stack : List Frame) (result : Option Held) (s : State) → Keeps s (leave stack result go s)
+      leave_keeps : (stack : List Frame) (result : Option Held) (s : State) → Keeps s (leave p stack result go s)
       leave_keeps [] None s = λ x. x
       leave_keeps [] (Some result) s = keeps_given (value_in int result.content) s
       leave_keeps (f ∷ stack) result s =
           keeps_next s (resulted f.to result f.temps s) _ (keeps_resulted f.to result f.temps s)
-          (λ temps s1. g (place f.code stack f.rest) (machine temps s1))
+          (λ temps s1. g (place f.code stack f.rest) (machine temps (kept_for p (active p.main stack) s1)))
 
       perform_keeps : (i : PlainIr) (code : List PlainIr) (stack : List Frame) (rest : List PlainIr) (temps : Temps) (s : State)
           → Keeps s (perform functions p inputs i on go code stack rest temps s)
@@ -244,8 +258,8 @@ module _ (p : PlainProgram) where
           keeps_next s (read p (object_access p None o offset s) s) _ (keeps_read (object_access p None o offset s) s)
           (λ x s1. g (place code stack rest) (machine (with_temp t x temps) s1))
       perform_keeps (store_object o offset t) code stack rest temps s =
-          keeps_next s (put p (object_access p None o offset s) t temps s) _
-          (keeps_put (object_access p None o offset s) t temps s (access_is None o offset s))
+          keeps_next s (put_object p (active p.main stack) o offset t temps s) _
+          (keeps_put_object (active p.main stack) o offset t temps s)
           (λ x s1. g (place code stack rest) (machine temps s1))
       perform_keeps (binary_op op ty mode to a aty b bty) code stack rest temps s =
           keeps_next s (held_as p aty a temps s) _ (keeps_held_as aty a temps s)
@@ -269,7 +283,8 @@ module _ (p : PlainProgram) where
           (go (place code stack rest) (machine temps s1))
           (jump_keeps (find l code) code stack (machine temps s1)) (g (place code stack rest) (machine temps s1)))
       perform_keeps (call_function f to) code stack rest temps s =
-          enter_keeps (slice_get functions f) (record { code = code; rest = rest; temps = temps; to = to } ∷ stack) (machine no_temps s)
+          enter_keeps (slice_get functions f) (record { code = code; rest = rest; temps = temps; to = to; called = f } ∷ stack)
+          (machine no_temps (kept_for p (f ∷ active p.main stack) s))
       perform_keeps (return_from from) code stack rest temps s =
           keeps_next s (returned from (machine temps s)) _ (keeps_returned from (machine temps s))
           (λ result s1. leave_keeps stack result s1)

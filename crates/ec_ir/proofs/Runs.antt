@@ -1,7 +1,7 @@
 -- More operations only add to a run.
 use Rattle.std.proofs.Common.{◌≡◌, ℕ, zero, suc, ◌+◌, ◌*◌, ◌/◌, ◌%◌, ◌≤◌, Bool, true, false, List, [], ◌∷◌, ◌++◌, Option, Some, None}
 use Rattle.std.proofs.Common.{Result, Ok, Err, refl, ap, arith}
-use Rattle.std.specs.Prelude.{◌==◌, if◌then◌else◌, slice_get, nat_le, pos}
+use Rattle.std.specs.Prelude.{◌==◌, if◌then◌else◌, slice_get, option_map, nat_le, pos}
 use Rattle.ec_runs.specs.Behaviours.{BeginWith, Continues}
 use Rattle.ec_runs.proofs.Runs.{begin_itself, begin_onward}
 use Rattle.ec_space.specs.declared.space.SpaceId.TheVariants.{Flash}
@@ -14,14 +14,15 @@ use Rattle.ec_core.specs.Accesses.{referent_of, operand_of, Access, recorded, le
 use Rattle.ec_core.specs.Meaning.{behaviour_of, state_of}
 use Rattle.ec_core.specs.Operators.{unary_result, binary_result, conversion_result, unsuited}
 use Rattle.ec_core.specs.Pointers.{Pointer as PointerValue, moved}
-use Rattle.ec_core.specs.Plain.{PlainType, PlainStorage, static, local, param, register, PlainProgram}
+use Rattle.ec_core.specs.Plain.{PlainType, PlainStorage, static, local, param, register, PlainObject, PlainProgram}
 use Rattle.ec_core.specs.PortAccesses.{number_read, bytes_read, bytes_written, byte_read}
 use Rattle.ec_core.specs.State.{Inputs, Event, Out, Read, told, State, worked, Outcome, got, more, undefined, next, given}
 use Rattle.ec_core.specs.Typing.{int}
 use Rattle.ec_ir.specs.Costs.{op_steps}
 use Rattle.ec_ir.specs.Laws.{OperationsAreRuns, StepsNeverFall}
 use Rattle.ec_ir.specs.Meaning.{Mach, machine, held_as, pointer_in, held_pointer, number_in, held_number, object_access, pointer_access}
-use Rattle.ec_ir.specs.Meaning.{accessed_type, put_leaf, put, Frame, Place, place, find, Go, jump_to, enter, returned, resulted, leave}
+use Rattle.ec_ir.specs.Meaning.{accessed_type, put_leaf, put, put_named, put_object, before_store, kept_for, active, Frame, Place, place}
+use Rattle.ec_ir.specs.Meaning.{find, Go, jump_to, enter, returned, resulted, leave}
 use Rattle.ec_ir.specs.Meaning.{element_of_port, in_ports, port_read, port_written, perform, exec_from, exec, start, pointer_at, run}
 use Rattle.ec_ir.specs.Operations.{PlainIr, constant, copy, address, field, load_at, store_at, load_object, store_object, binary_op}
 use Rattle.ec_ir.specs.Operations.{unary_op, conversion, label, jump, branch_zero, call_function, return_from, port_in, port_out}
@@ -126,6 +127,24 @@ adds_put : (program : PlainProgram) (a : Option Access) (t : Temp) (temps : Temp
 adds_put program a t temps s = adds_next s (held_as program (accessed_type program a) t temps s) _
     (adds_held_as program (accessed_type program a) t temps s) (λ v s1. adds_put_leaf a v s1)
 
+-- what is kept adds nothing
+adds_kept : {A : Type 0} (program : PlainProgram) (fs : List ℕ) (s : State) (o : Outcome A) → Adds (kept_for program fs s) o → Adds s o
+adds_kept program fs s o h = record { events = h.events; work = h.work }
+
+adds_put_object : (program : PlainProgram) (fs : List ℕ) (o offset : ℕ) (t : Temp) (temps : Temps) (s : State)
+    → Adds s (put_object program fs o offset t temps s)
+adds_put_object program fs o offset t temps s = by_storage (option_map (λ (d : PlainObject). d.storage) (slice_get program.objects o))
+  where
+    named : (s1 : State) → Adds s1 (put_named program o offset t temps s1)
+    named s1 = adds_put program (object_access program None o offset s1) t temps s1
+
+    by_storage : (storage : Option PlainStorage) → Adds s (put_named program o offset t temps (before_store program fs storage s))
+    by_storage None = named s
+    by_storage (Some (static inits)) = named s
+    by_storage (Some (local f)) = named s
+    by_storage (Some (param g)) = adds_kept program (g ∷ fs) s _ (named (kept_for program (g ∷ fs) s))
+    by_storage (Some (register r)) = named s
+
 -- ---- returns and ports
 
 adds_returned : (t : Option Temp) (m : Mach) → Adds m.state (returned t m)
@@ -175,11 +194,12 @@ module _ (functions : List PlainIrFunction) (program : PlainProgram) (inputs : I
     enter_adds None stack m = stays {A = Value} m.state (enter None go stack m) refl
     enter_adds (Some f) stack m = g (place f.code stack f.code) m
 
-    leave_adds : (stack : List Frame) (result : Option Held) (s : State) → Adds s (leave stack result go s)
-    leave_adds [] None s = stays {A = Value} s (leave [] None go s) refl
+    leave_adds : (stack : List Frame) (result : Option Held) (s : State) → Adds s (leave program stack result go s)
+    leave_adds [] None s = stays {A = Value} s (leave program [] None go s) refl
     leave_adds [] (Some result) s = adds_given (value_in int result.content) s
     leave_adds (f ∷ stack) result s = adds_next s (resulted f.to result f.temps s) _ (adds_resulted f.to result f.temps s)
-        (λ temps s1. g (place f.code stack f.rest) (machine temps s1))
+        (λ temps s1. adds_kept program (active program.main stack) s1 _
+        (g (place f.code stack f.rest) (machine temps (kept_for program (active program.main stack) s1))))
 
     branch_adds : (b : Bool) (o p : Outcome Value) (s : State) → Adds s o → Adds s p → Adds s (if b then o else p)
     branch_adds true o p s x y = x
@@ -207,8 +227,8 @@ module _ (functions : List PlainIrFunction) (program : PlainProgram) (inputs : I
         adds_next s (read program (object_access program None o offset s) s) _ (adds_read program (object_access program None o offset s) s)
         (λ x s1. g (place code stack rest) (machine (with_temp t x temps) s1))
     perform_adds (store_object o offset t) code stack rest temps s =
-        adds_next s (put program (object_access program None o offset s) t temps s) _
-        (adds_put program (object_access program None o offset s) t temps s) (λ x s1. g (place code stack rest) (machine temps s1))
+        adds_next s (put_object program (active program.main stack) o offset t temps s) _
+        (adds_put_object program (active program.main stack) o offset t temps s) (λ x s1. g (place code stack rest) (machine temps s1))
     perform_adds (binary_op op ty mode to a aty b bty) code stack rest temps s =
         adds_next s (held_as program aty a temps s) _ (adds_held_as program aty a temps s)
         (λ x s1. adds_next s1 (held_as program bty b temps s1) _ (adds_held_as program bty b temps s1) (λ y s2. adds_next s2
@@ -228,7 +248,9 @@ module _ (functions : List PlainIrFunction) (program : PlainProgram) (inputs : I
         (λ content s1. branch_adds (is_zero content) (jump_to (find l code) go code stack (machine temps s1)) (go (place code stack rest)
         (machine temps s1)) s1 (jump_adds (find l code) code stack (machine temps s1)) (g (place code stack rest) (machine temps s1)))
     perform_adds (call_function f to) code stack rest temps s =
-        enter_adds (slice_get functions f) (record { code = code; rest = rest; temps = temps; to = to } ∷ stack) (machine no_temps s)
+        adds_kept program (f ∷ active program.main stack) s _
+        (enter_adds (slice_get functions f) (record { code = code; rest = rest; temps = temps; to = to; called = f } ∷ stack)
+        (machine no_temps (kept_for program (f ∷ active program.main stack) s)))
     perform_adds (return_from from) code stack rest temps s =
         adds_next s (returned from (machine temps s)) _ (adds_returned from (machine temps s)) (λ result s1. leave_adds stack result s1)
     perform_adds (port_in to port index width) code stack rest temps s =
@@ -286,11 +308,13 @@ module _ (functions : List PlainIrFunction) (program : PlainProgram) (inputs : I
     enter_later None stack m = same (enter None f stack m)
     enter_later (Some h) stack m = e (place h.code stack h.code) m
 
-    leave_later : (stack : List Frame) (result : Option Held) (s : State) → Later (leave stack result f s) (leave stack result g s)
-    leave_later [] None s = same (leave [] None f s)
-    leave_later [] (Some result) s = same (leave [] (Some result) f s)
+    leave_later : (stack : List Frame) (result : Option Held) (s : State)
+        → Later (leave program stack result f s) (leave program stack result g s)
+    leave_later [] None s = same (leave program [] None f s)
+    leave_later [] (Some result) s = same (leave program [] (Some result) f s)
     leave_later (h ∷ stack) result s =
-        later_next (resulted h.to result h.temps s) _ _ (λ temps s1. e (place h.code stack h.rest) (machine temps s1))
+        later_next (resulted h.to result h.temps s) _ _
+        (λ temps s1. e (place h.code stack h.rest) (machine temps (kept_for program (active program.main stack) s1)))
 
     branch_later : (b : Bool) (x y p q : Outcome Value) → Later x p → Later y q → Later (if b then x else y) (if b then p else q)
     branch_later true x y p q h k = h
@@ -313,7 +337,7 @@ module _ (functions : List PlainIrFunction) (program : PlainProgram) (inputs : I
     perform_later (load_object t o offset) code stack rest temps s = later_next (read program (object_access program None o offset s) s) _ _
         (λ x s1. e (place code stack rest) (machine (with_temp t x temps) s1))
     perform_later (store_object o offset t) code stack rest temps s = later_next
-        (put program (object_access program None o offset s) t temps s) _ _ (λ x s1. e (place code stack rest) (machine temps s1))
+        (put_object program (active program.main stack) o offset t temps s) _ _ (λ x s1. e (place code stack rest) (machine temps s1))
     perform_later (binary_op op ty mode to a aty b bty) code stack rest temps s =
         later_next (held_as program aty a temps s) _ _ (λ x s1. later_next (held_as program bty b temps s1) _ _
         (λ y s2. later_next (given (binary_result op ty mode (operand_of program aty x s2) (operand_of program bty y s2)) s2) _ _
@@ -330,7 +354,8 @@ module _ (functions : List PlainIrFunction) (program : PlainProgram) (inputs : I
         (machine temps s1)) (jump_to (find l code) g code stack (machine temps s1)) (g (place code stack rest) (machine temps s1))
         (jump_later (find l code) code stack (machine temps s1)) (e (place code stack rest) (machine temps s1)))
     perform_later (call_function h to) code stack rest temps s =
-        enter_later (slice_get functions h) (record { code = code; rest = rest; temps = temps; to = to } ∷ stack) (machine no_temps s)
+        enter_later (slice_get functions h) (record { code = code; rest = rest; temps = temps; to = to; called = h } ∷ stack)
+        (machine no_temps (kept_for program (h ∷ active program.main stack) s))
     perform_later (return_from from) code stack rest temps s =
         later_next (returned from (machine temps s)) _ _ (λ result s1. leave_later stack result s1)
     perform_later (port_in to port index width) code stack rest temps s =

@@ -1,8 +1,9 @@
--- What an intermediate program does. Its objects have one home each: they are those of a program's state, all live and
--- in their only instance, and a pointer tells an object and an offset. Where an operation fails, the run has no
--- meaning.
-use Rattle.std.specs.Prelude.{ℕ, zero, suc, ◌+◌, ◌*◌, ◌==◌, nat_le, Bool, true, ◌&&◌, if◌then◌else◌, ℤ, pos, List, []}
-use Rattle.std.specs.Prelude.{◌∷◌, map}
+-- What an intermediate program does. Its objects have one home each: they are those of a program's state, in their only
+-- instance, and a pointer tells an object and an offset. The parameters and locals of a function live, in its frame,
+-- while it is active: main is, and each function that was called and has not returned. All other objects live
+-- throughout. Where an operation fails, the run has no meaning.
+use Rattle.std.specs.Prelude.{ℕ, zero, suc, ◌+◌, ◌*◌, ◌==◌, nat_le, Bool, true, false, ◌&&◌, ◌||◌, if◌then◌else◌, ℤ, pos}
+use Rattle.std.specs.Prelude.{List, [], ◌∷◌, map}
 use Rattle.std.specs.Prelude.{Option, Some, None, option_map, option_and_then, unwrap_or, slice_get}
 use Rattle.std.specs.List.{position_from}
 use Rattle.ec_runs.specs.Behaviours.{Behaviour}
@@ -17,7 +18,8 @@ use Rattle.ec_core.specs.Accesses.{referent_of, operand_of, leaf_count, Access, 
 use Rattle.ec_core.specs.Layout.{scalar_size, leaves_of_type}
 use Rattle.ec_core.specs.Meaning.{initial_object, behaviour_of, state_of}
 use Rattle.ec_core.specs.Operators.{unary_result, binary_result, conversion_result, unsuited}
-use Rattle.ec_core.specs.Plain.{PlainType, void, PlainObject, PlainProgram}
+use Rattle.ec_core.specs.Plain.{PlainType, void, PlainStorage, static, local, param, register, PlainObject}
+use Rattle.ec_core.specs.Plain.{PlainProgram}
 use Rattle.ec_core.specs.Pointers.{Pointer as PointerValue, moved}
 use Rattle.ec_core.specs.PortAccesses.{number_read, bytes_read, bytes_written}
 use Rattle.ec_core.specs.State.{Inputs, Event, ObjectState, State, worked, Outcome, got, more, undefined, next, given}
@@ -61,6 +63,47 @@ number_in (points p) s = given unsuited s
 abbrev pub held_number : Temp → Temps → State → Outcome ℕ
 held_number t temps s = next (held t temps s) number_in
 
+-- ---- the objects of functions
+
+-- a function is among some
+abbrev pub is_among : List ℕ → ℕ → Bool
+is_among [] f = false
+is_among (g ∷ fs) f = g == f || is_among fs f
+
+-- an object of no function, or of one among some
+abbrev pub is_kept : List ℕ → PlainStorage → Bool
+is_kept fs (static inits) = true
+is_kept fs (local f) = is_among fs f
+is_kept fs (param f) = is_among fs f
+is_kept fs (register r) = true
+
+abbrev pub standing : ObjectState → ObjectState
+standing x = record { serial = 0; live = true; leaves = x.leaves }
+
+-- its bytes are those of another frame, or of none
+abbrev pub given_up : ObjectState → ObjectState
+given_up x = record { serial = 0; live = false; leaves = map (λ v. None) x.leaves }
+
+abbrev pub kept_in : List ℕ → List PlainObject → List ObjectState → List ObjectState
+kept_in fs [] xs = xs
+kept_in fs (o ∷ os) [] = []
+kept_in fs (o ∷ os) (x ∷ xs) = (if is_kept fs o.storage then standing x else given_up x) ∷ kept_in fs os xs
+
+-- frames stand for these functions alone
+abbrev pub kept_for : PlainProgram → List ℕ → State → State
+kept_for program fs s = record {
+  objects = kept_in fs program.objects s.objects;
+  acquired = s.acquired;
+  events = s.events;
+  work = s.work;
+}
+
+-- where an argument is stored to a parameter, beside the frames of active functions that of the function stands which
+-- is going to be called
+abbrev pub before_store : PlainProgram → List ℕ → Option PlainStorage → State → State
+before_store program fs (Some (param g)) s = kept_for program (g ∷ fs) s
+before_store program fs storage s = s
+
 -- ---- objects
 
 -- a pointer to an object, whose only instance is number 0
@@ -87,10 +130,10 @@ accessed_type program a =
     unwrap_or (option_and_then (λ x. option_map (λ leaf. leaf.ty)
     (slice_get (leaves_of_type program.structs x.declared.ty) x.leaf)) a) void
 
--- an access of so many bytes through a space, which the object's home is in
+-- an access of so many bytes of a live object, through a space which its home is in
 abbrev pub is_access_of : PlainProgram → SpaceId → (bytes : ℕ) → Access → Bool
 is_access_of program space bytes a =
-    holds space a.declared.home && scalar_size (accessed_type program (Some a)) == bytes
+    a.state.live && (holds space a.declared.home && scalar_size (accessed_type program (Some a)) == bytes)
 
 abbrev pub pointer_access : PlainProgram → SpaceId → (bytes : ℕ) → PointerValue → State → Option Access
 pointer_access program space bytes to s =
@@ -106,14 +149,30 @@ put_leaf (Some a) v s = if holds Flash a.declared.home then undefined ConstWrite
 abbrev pub put : PlainProgram → Option Access → Temp → Temps → State → Outcome Value
 put program a t temps s = next (held_as program (accessed_type program a) t temps s) (λ v s1. put_leaf a v s1)
 
+-- the leaf at an offset in an object that is named
+abbrev pub put_named : PlainProgram → (o offset : ℕ) → Temp → Temps → State → Outcome Value
+put_named program o offset t temps s = put program (object_access program None o offset s) t temps s
+
+abbrev pub put_object : PlainProgram → List ℕ → (o offset : ℕ) → Temp → Temps → State → Outcome Value
+put_object program fs o offset t temps s =
+    put_named program o offset t temps
+    (before_store program fs (option_map (λ d. d.storage) (slice_get program.objects o)) s)
+
 -- ---- places in the code
 
--- a call that waits: the caller's operations, those to go on with, its temporaries, and what gets the result
+-- a call that waits: the caller's operations, those to go on with, its temporaries, what gets the result, and the
+-- function that was called
 pub record Frame : Type 0 where
   pub code : List PlainIr
   pub rest : List PlainIr
   pub temps : Temps
   pub to : Option Temp
+  pub called : ℕ
+
+-- the active functions, the one that runs first
+abbrev pub active : (main : ℕ) → List Frame → List ℕ
+active main [] = main ∷ []
+active main (f ∷ stack) = f.called ∷ active main stack
 
 -- the operations of the active function, those from here on, and the calls that wait
 pub record Place : Type 0 where
@@ -155,12 +214,14 @@ resulted None result temps s = got temps s
 resulted (Some t) None temps s = undefined NoResult s
 resulted (Some t) (Some result) temps s = got (with_held t.at result temps) s
 
--- main's result is an int, 0 where it gives none; another function's goes to the call that waits last
-abbrev pub leave : List Frame → Option Held → Go → State → Outcome Value
-leave [] None go s = got (Number (pos 0)) s
-leave [] (Some result) go s = given (value_in int result.content) s
-leave (f ∷ stack) result go s =
-    next (resulted f.to result f.temps s) (λ temps s1. go (place f.code stack f.rest) (machine temps s1))
+-- main's result is an int, 0 where it gives none; another function's goes to the call that waits last, and frames
+-- stand for the functions that are still active
+abbrev pub leave : PlainProgram → List Frame → Option Held → Go → State → Outcome Value
+leave program [] None go s = got (Number (pos 0)) s
+leave program [] (Some result) go s = given (value_in int result.content) s
+leave program (f ∷ stack) result go s =
+    next (resulted f.to result f.temps s)
+    (λ temps s1. go (place f.code stack f.rest) (machine temps (kept_for program (active program.main stack) s1)))
 
 -- ---- ports
 
@@ -225,7 +286,7 @@ module _ (functions : List PlainIrFunction) (program : PlainProgram) (inputs : I
       next (read program (object_access program None o offset s) s)
       (λ x s1. go (place code stack rest) (machine (with_temp t x temps) s1))
   perform (store_object o offset t) on go code stack rest temps s =
-      next (put program (object_access program None o offset s) t temps s)
+      next (put_object program (active program.main stack) o offset t temps s)
       (λ x s1. go (place code stack rest) (machine temps s1))
   perform (jump l) on go code stack rest temps s = jump_to (find l code) go code stack (machine temps s)
   perform (branch_zero t l) on go code stack rest temps s =
@@ -233,10 +294,11 @@ module _ (functions : List PlainIrFunction) (program : PlainProgram) (inputs : I
       (λ content s1. if is_zero content then jump_to (find l code) go code stack (machine temps s1)
       else go (place code stack rest) (machine temps s1))
   perform (call_function f to) on go code stack rest temps s =
-      enter (slice_get functions f) go (record { code = code; rest = rest; temps = temps; to = to } ∷ stack)
-      (machine no_temps s)
+      enter (slice_get functions f) go
+      (record { code = code; rest = rest; temps = temps; to = to; called = f } ∷ stack)
+      (machine no_temps (kept_for program (f ∷ active program.main stack) s))
   perform (return_from from) on go code stack rest temps s =
-      next (returned from (machine temps s)) (λ result s1. leave stack result go s1)
+      next (returned from (machine temps s)) (λ result s1. leave program stack result go s1)
   perform (port_in to port index width) on go code stack rest temps s =
       next (element_of_port port width index (machine temps s))
       (λ at s1. next (port_read inputs at width s1)
@@ -260,10 +322,7 @@ module _ (functions : List PlainIrFunction) (program : PlainProgram) (inputs : I
 
 -- ---- the run
 
--- each object lives, in its only instance
-abbrev pub standing : ObjectState → ObjectState
-standing x = record { serial = 0; live = true; leaves = x.leaves }
-
+-- the objects with their initial values
 abbrev pub start_state : PlainProgram → State
 start_state program = record {
   objects = map (λ o. standing (initial_object (leaf_count program o.ty) o.storage)) program.objects;
@@ -273,7 +332,7 @@ start_state program = record {
 }
 
 abbrev pub start : PlainProgram → Mach
-start program = machine no_temps (start_state program)
+start program = machine no_temps (kept_for program (active program.main []) (start_state program))
 
 -- main's operations, of which at most n that count are made
 abbrev pub run : PlainIrProgram → Inputs → ℕ → Outcome Value

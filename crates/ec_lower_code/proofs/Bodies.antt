@@ -19,7 +19,7 @@ use Rattle.ec_core.specs.ValueTypes.{IsTypedState, IsExitOf}
 use Rattle.ec_core.specs.Words.{branch_words, jump_words, return_of, return_words}
 use Rattle.ec_core.proofs.TypedValues.{some_and}
 use Rattle.ec_ir.specs.Costs.{op_steps, branch_zero_words}
-use Rattle.ec_ir.specs.Meaning.{Mach, machine, Place, find}
+use Rattle.ec_ir.specs.Meaning.{is_kept, Mach, machine, Place, find}
 use Rattle.ec_ir.specs.Operations.{PlainIr, label, jump, branch_zero, return_from}
 use Rattle.ec_ir.specs.Temporaries.{Temps}
 use Rattle.ec_lower_code.specs.Code.{temp, expr_labels, optional_labels, option_stmt_labels, stmt_labels, expr_code, init_code}
@@ -34,9 +34,9 @@ use Rattle.ec_lower_code.proofs.Ops.{to_rest, past_label, jumps, branch_on, bran
 use Rattle.ec_lower_code.proofs.Pays.{return_pays}
 use Rattle.ec_lower_code.proofs.Scene.{World, ports, homes, set, calls_to, law, Scene}
 use Rattle.ec_lower_code.proofs.Shown.{Match}
-use Rattle.ec_lower_code.proofs.Statements.{Returns, match_state, Left, left_to, Way, Typed, typed_way, at_rest, bind_exit}
+use Rattle.ec_lower_code.proofs.Statements.{Returns, Left, left_to, Way, Typed, typed_way, at_rest, bind_exit}
 use Rattle.ec_lower_code.proofs.Statements.{joins, begun_match, ending_runs, whole_runs, done_runs, init_runs}
-use Rattle.ec_lower_code.proofs.Steps.{Stands, behind, here, Does, stays, after, bind, credited, spent_on, less}
+use Rattle.ec_lower_code.proofs.Steps.{Stands, behind, around, here, Does, stays, after, bind, credited, spent_on, less}
 
 module _ (wd : World) (sc : Scene wd) (ret : Returns wd sc) where
   abbrev calls : Calls
@@ -54,7 +54,7 @@ module _ (wd : World) (sc : Scene wd) (ret : Returns wd sc) where
   -- a condition before a branch
   condition_runs : (c : PlainExpr) (l d : ℕ) (s : State) (m : Mach) (rest : List PlainIr) → CallsOfExpr (IsOther wd.program) c
       → ValidExpr wd.program wd.io sc.f c → IsScalar (type_of_expr c) → IsTypedState wd.program s
-      → Stands sc.code (expr_code wd.program (ports wd) c l 0 rest) → Match (homes wd) d s m
+      → Stands sc.code (expr_code wd.program (ports wd) c l 0 rest) → Match (homes wd) (around (W wd sc)) d s m
       → Does (W wd sc) wd.n (Spots (expr_code wd.program (ports wd) c l 0 rest)) m (to_rest (W wd sc) rest)
       (Tests wd sc (type_of_expr c) 0 d m.temps) (condition (set wd) c (value wd sc c s))
   condition_runs c l d s m rest p v i st stands h = tests wd sc wd.n 0 d m.temps c s (expr_code wd.program (ports wd) c l 0 rest) rest m i
@@ -64,7 +64,8 @@ module _ (wd : World) (sc : Scene wd) (ret : Returns wd sc) where
   branch_runs : (c : PlainExpr) (l d g f : ℕ) (b : Temps) (then_code other rest out on : List PlainIr) (x y : State → Outcome Exit)
       (h : Bool) (s : State) (u : Mach) → find l sc.code ≡ Some other → branch_zero_words (scalar_size (type_of_expr c)) + f ≤ d
       → Tests wd sc (type_of_expr c) 0 d b h s u
-      → ((v : Mach) → Match (homes wd) f s v → Goes then_code v rest out on g (x s)) → ((v : Mach) → Match (homes wd) f s v
+      → ((v : Mach) → Match (homes wd) (around (W wd sc)) f s v → Goes then_code v rest out on g (x s)) → ((v : Mach)
+      → Match (homes wd) (around (W wd sc)) f s v
       → Goes other v rest out on g (y s)) → Goes (branch_zero (temp 0 (type_of_expr c)) l ∷ then_code) u rest out on g (choose h x y s)
   branch_runs c l d g f b then_code other rest out on x y true s u e le r on_true on_false =
       let i = branch_zero (temp 0 (type_of_expr c)) l in
@@ -79,13 +80,13 @@ module _ (wd : World) (sc : Scene wd) (ret : Returns wd sc) where
 
   -- a jump or a label behind a part
   jump_behind : (d l : ℕ) (after_code rest out on : List PlainIr) → find l sc.code ≡ Some rest → (s : State) (u : Mach)
-      → Match (homes wd) (d + 5) s u → Goes (jump l ∷ after_code) u rest out on d (got at_end s)
+      → Match (homes wd) (around (W wd sc)) (d + 5) s u → Goes (jump l ∷ after_code) u rest out on d (got at_end s)
   jump_behind d l after_code rest out on f s u h =
       after (W wd sc) (left_to wd sc ret rest out on) (Left wd sc ret d) wd.n (Spots (jump l ∷ after_code)) (Spots rest) u _ (got at_end s)
       (jumps (W wd sc) l after_code rest u f)
       (at_rest wd sc ret d rest out on wd.n s _ (spent_on (homes wd) (d + 5) d (jump l) u.temps s u (omega arith) h))
 
-  label_behind : (d e l : ℕ) (rest out on : List PlainIr) → d ≤ e → (s : State) (u : Mach) → Match (homes wd) e s u
+  label_behind : (d e l : ℕ) (rest out on : List PlainIr) → d ≤ e → (s : State) (u : Mach) → Match (homes wd) (around (W wd sc)) e s u
       → Goes (label l ∷ rest) u rest out on d (got at_end s)
   label_behind d e l rest out on le s u h =
       past_label (W wd sc) wd.n l rest u (left_to wd sc ret rest out on) (Left wd sc ret d) (got at_end s)
@@ -105,7 +106,7 @@ module _ (wd : World) (sc : Scene wd) (ret : Returns wd sc) where
       let g = ret.some v scalar held.typed more_code u (held.has.value scalar) in (
         g.0,
         record {
-          match = match_state (homes wd) d s u.temps (worked (op_steps i) u.state) g.0 g.1
+          match = g.1 d s
               (spent_on (homes wd) (d + return_of (Some e)) d i u.temps s u (omega (arith, a, size)) r.has.match);
           back = g.2;
         },
@@ -115,15 +116,24 @@ module _ (wd : World) (sc : Scene wd) (ret : Returns wd sc) where
   -- a declaration, with a value for each leaf or none
   declared_runs : (o : ℕ) (es : PlainExprs) (l d : ℕ) (rest out on : List PlainIr) → CallsOfExprs (IsOther wd.program) es
       → ValidKind wd.program wd.io sc.f ret.returns true (declare o es)
-      → Stands sc.code (kind_code wd.program (ports wd) (declare o es) l 0 0 rest) → (s : State) (m : Mach) → Match (homes wd) d s m
+      → Stands sc.code (kind_code wd.program (ports wd) (declare o es) l 0 0 rest) → (s : State) (m : Mach)
+      → Match (homes wd) (around (W wd sc)) d s m
       → IsTypedState wd.program s → Goes (init_code wd.program (ports wd) (leaves_of_object wd.program o) o es l rest) m rest out on d
       (initialising (set wd) calls o 0 es (begun wd.program o s))
   declared_runs o es l d rest out on p v stands s m h st =
       let x = some_and (slice_get wd.program.objects o) (IsDeclared wd.program wd.io sc.f es) v.0 in
       by_values x.0 x.1 x.2.0 x.2.1 (leaves_are wd.program o x.0 x.1)
     where
-      begins : Match (homes wd) d (begun wd.program o s) m
-      begins = begun_match wd o d s m h
+      begins : Match (homes wd) (around (W wd sc)) d (begun wd.program o s) m
+      begins = begun_match wd o d s m (λ y e. kept y e) h
+        where
+          kept : (y : PlainObject) → slice_get wd.program.objects o ≡ Some y → is_kept (around (W wd sc)) y.storage ≡ true
+          kept y e =
+              let x = some_and (slice_get wd.program.objects o) (IsDeclared wd.program wd.io sc.f es) v.0 in
+              let g : Some x.0 ≡ Some y = sym x.1 ∙ e in
+              let i : x.0 ≡ y = cc in
+              ap (λ (z : PlainObject). is_kept (around (W wd sc)) z.storage) (sym i)
+              ∙ ap (is_kept (around (W wd sc))) x.2.0 ∙ sc.runs
 
       typed : IsTypedState wd.program (begun wd.program o s)
       typed = (law wd).states.begun o s st
@@ -152,7 +162,7 @@ module _ (wd : World) (sc : Scene wd) (ret : Returns wd sc) where
   mutual
     pub stmt_runs : (a : PlainStmt) (in_loop : Bool) (l lo lc d : ℕ) (rest out on : List PlainIr) → CallsOfStmt (IsOther wd.program) a
         → ValidStmt wd.program wd.io sc.f ret.returns in_loop a → Stands sc.code (stmt_code wd.program (ports wd) a l lo lc rest)
-        → find lo sc.code ≡ Some out → find lc sc.code ≡ Some on → (s : State) (m : Mach) → Match (homes wd) d s m
+        → find lo sc.code ≡ Some out → find lc sc.code ≡ Some on → (s : State) (m : Mach) → Match (homes wd) (around (W wd sc)) d s m
         → IsTypedState wd.program s → Keeps (stmt_code wd.program (ports wd) a l lo lc rest) m rest out on d
         (effect_of (set wd) calls wd.n a s)
     stmt_runs (statement unit k kind) in_loop l lo lc d rest out on p v stands fo fc s m h st =
@@ -163,7 +173,7 @@ module _ (wd : World) (sc : Scene wd) (ret : Returns wd sc) where
 
     kind_runs : (kind : PlainKind) (in_loop : Bool) (l lo lc d : ℕ) (rest out on : List PlainIr) → CallsOfKind (IsOther wd.program) kind
         → ValidKind wd.program wd.io sc.f ret.returns in_loop kind → Stands sc.code (kind_code wd.program (ports wd) kind l lo lc rest)
-        → find lo sc.code ≡ Some out → find lc sc.code ≡ Some on → (s : State) (m : Mach) → Match (homes wd) d s m
+        → find lo sc.code ≡ Some out → find lc sc.code ≡ Some on → (s : State) (m : Mach) → Match (homes wd) (around (W wd sc)) d s m
         → IsTypedState wd.program s → Goes (kind_code wd.program (ports wd) kind l lo lc rest) m rest out on d
         (kind_effect (set wd) calls wd.n kind s)
     kind_runs empty in_loop l lo lc d rest out on p v stands fo fc s m h st = at_rest wd sc ret d rest out on wd.n s m h
@@ -242,7 +252,7 @@ module _ (wd : World) (sc : Scene wd) (ret : Returns wd sc) where
         let g = ret.none v.0 rest m in (
           g.0,
           record {
-            match = match_state (homes wd) d (worked (return_words 1) s) m.temps (worked (op_steps i) m.state) g.0 g.1
+            match = g.1 d (worked (return_words 1) s)
                 (spent_on (homes wd) (d + return_words 1) d i m.temps (worked (return_words 1) s) m (omega arith)
                 (credited (homes wd) (return_words 1) d s m h));
             back = g.2;
@@ -330,7 +340,7 @@ module _ (wd : World) (sc : Scene wd) (ret : Returns wd sc) where
     first_runs : (a : OptionPlainStmt) (in_loop : Bool) (l lo lc d : ℕ) (rest out on : List PlainIr)
         → CallsOfOptionStmt (IsOther wd.program) a → ValidOptionStmt wd.program wd.io sc.f ret.returns in_loop a
         → Stands sc.code (option_stmt_code wd.program (ports wd) a l lo lc rest) → find lo sc.code ≡ Some out → find lc sc.code ≡ Some on
-        → (s : State) (m : Mach) → Match (homes wd) d s m → IsTypedState wd.program s
+        → (s : State) (m : Mach) → Match (homes wd) (around (W wd sc)) d s m → IsTypedState wd.program s
         → Goes (option_stmt_code wd.program (ports wd) a l lo lc rest) m rest out on d (first_effect (set wd) calls wd.n a s)
     first_runs no_stmt in_loop l lo lc d rest out on p v stands fo fc s m h st = at_rest wd sc ret d rest out on wd.n s m h
     first_runs (a_stmt (statement unit k empty)) in_loop l lo lc d rest out on p v stands fo fc s m h st =
@@ -358,7 +368,7 @@ module _ (wd : World) (sc : Scene wd) (ret : Returns wd sc) where
 
     stmts_runs : (ss : PlainStmts) (in_loop : Bool) (l lo lc d : ℕ) (rest out on : List PlainIr) → CallsOfStmts (IsOther wd.program) ss
         → ValidStmts wd.program wd.io sc.f ret.returns in_loop ss → Stands sc.code (stmts_code wd.program (ports wd) ss l lo lc rest)
-        → find lo sc.code ≡ Some out → find lc sc.code ≡ Some on → (s : State) (m : Mach) → Match (homes wd) d s m
+        → find lo sc.code ≡ Some out → find lc sc.code ≡ Some on → (s : State) (m : Mach) → Match (homes wd) (around (W wd sc)) d s m
         → IsTypedState wd.program s → Goes (stmts_code wd.program (ports wd) ss l lo lc rest) m rest out on d
         (effects_of (set wd) calls wd.n ss s)
     stmts_runs last_stmt in_loop l lo lc d rest out on p v stands fo fc s m h st = at_rest wd sc ret d rest out on wd.n s m h

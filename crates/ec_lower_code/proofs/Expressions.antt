@@ -71,7 +71,7 @@ use Rattle.ec_lower_code.proofs.PortRuns.{IsHeld, held_kept}
 use Rattle.ec_lower_code.proofs.Tables.{port_operated, group_pairs}
 use Rattle.ec_lower_code.proofs.Scene.{World, ports, homes, set, calls_to, spot, law, apart, AreHeld, Scene}
 use Rattle.ec_lower_code.proofs.Shown.{shown, held_of, Match}
-use Rattle.ec_lower_code.proofs.Steps.{Target, at, Stands, behind, Spot, here, Comes, Runs, stays, after, fewer, strengthened}
+use Rattle.ec_lower_code.proofs.Steps.{Target, at, Stands, behind, Spot, around, here, Comes, Runs, stays, after, fewer, strengthened}
 use Rattle.ec_lower_code.proofs.Steps.{bind, onward, credited, spent_on, less}
 
 -- ---- types
@@ -363,14 +363,14 @@ module _ (wd : World) (sc : Scene wd) where
 
   -- an operand that may be absent, at t
   pub record HasOperand (e : OptionPlainExpr) (t d : ℕ) (b : Temps) (v : Value) (s : State) (u : Mach) : Type 0 where
-    pub match : Match (homes wd) d s u
+    pub match : Match (homes wd) (around W) d s u
     pub held : IsHeld W wd.program e v t u.temps
     pub same : Below W t b u
     pub state : IsTypedState wd.program s
 
   -- arguments from t on
   pub record HasArguments (es : PlainExprs) (t d : ℕ) (b : Temps) (vs : List Value) (s : State) (u : Mach) : Type 0 where
-    pub match : Match (homes wd) d s u
+    pub match : Match (homes wd) (around W) d s u
     pub held : AreHeld wd es vs t u.temps
     pub same : Below W t b u
     pub state : IsTypedState wd.program s
@@ -417,7 +417,7 @@ module _ (wd : World) (sc : Scene wd) where
 
   -- the truth value where the branch was not taken, and where it was
   truth_on : (n t d e : ℕ) (b : Temps) (h : Bool) (ty : PlainType) (l : ℕ) (s : State) (u : Mach) (rest : List PlainIr)
-      → Stands sc.code (truth_code h ty l t rest) → 5 * scalar_size ty + (d + 5) ≤ e → Match (homes wd) e s u → Below W t b u
+      → Stands sc.code (truth_code h ty l t rest) → 5 * scalar_size ty + (d + 5) ≤ e → Match (homes wd) (around W) e s u → Below W t b u
       → Goes n (truth_code h ty l t rest) u (on_to rest) (HasValue W ty t d b) (got (Number (truth h)) s)
   truth_on n t d e b h ty l s u rest stands le m same =
       let after : List PlainIr = label l ∷ constant (temp t ty) (truth (not h)) ∷ label (l + 1) ∷ rest in
@@ -429,7 +429,7 @@ module _ (wd : World) (sc : Scene wd) where
   off_code h ty l t rest = constant (temp t ty) (truth (not h)) ∷ label (l + 1) ∷ rest
 
   truth_off : (n t d e : ℕ) (b : Temps) (h : Bool) (ty : PlainType) (l : ℕ) (s : State) (u : Mach) (rest : List PlainIr)
-      → 5 * scalar_size ty + d ≤ e → Match (homes wd) e s u → Below W t b u → Goes n (off_code h ty l t rest) u (on_to rest)
+      → 5 * scalar_size ty + d ≤ e → Match (homes wd) (around W) e s u → Below W t b u → Goes n (off_code h ty l t rest) u (on_to rest)
       (HasValue W ty t d b) (got (Number (truth (not h))) s)
   truth_off n t d e b h ty l s u rest le m same = past_end n (l + 1) (off_code h ty l t rest) rest u (HasValue W ty t d b)
       (got (Number (truth (not h))) s) (constant_runs W n t d e b ty (truth (not h)) s u (label (l + 1) ∷ rest) le m same)
@@ -508,17 +508,17 @@ module _ (wd : World) (sc : Scene wd) where
       params = sym (ap (λ z. unwrap_or (option_map (λ (h : PlainFunction). h.params) z) []) g.1)
 
       -- the callee's parameters and result are those that the call names
-      renamed : (u : Mach) (xs : List Value) (s1 : State) → (ℕ → Match (homes wd)
+      renamed : (u : Mach) (xs : List Value) (s1 : State) → (ℕ → Match (homes wd) (around W)
           (d + (60 + 10 * (total_size args + scalar_size g.0.returns))) s1 u
           → Goes wd.n (params_code g.0.params args t (call_function f (result_temp t g.0.returns) ∷ rest)) u (on_to rest)
           (HasValue W g.0.returns t d b) (calls_to wd sc.depth f xs s1))
-          → Match (homes wd) e s1 u → Goes wd.n calling u (on_to rest) (HasValue W ty t d b) (calls_to wd sc.depth f xs s1)
+          → Match (homes wd) (around W) e s1 u → Goes wd.n calling u (on_to rest) (HasValue W ty t d b) (calls_to wd sc.depth f xs s1)
       renamed u xs s1 k h =
           subst (λ (z : PlainType). Goes wd.n (params_code (params_of wd.program f) args t (call_function f (result_temp t z) ∷ rest)) u
           (on_to rest) (HasValue W z t d b) (calls_to wd sc.depth f xs s1)) (sym g.2.0)
           (subst (λ (z : List ℕ). Goes wd.n (params_code z args t (call_function f (result_temp t g.0.returns) ∷ rest)) u (on_to rest)
           (HasValue W g.0.returns t d b) (calls_to wd sc.depth f xs s1)) params
-          (k 0 (subst (λ (z : PlainType). Match (homes wd) (d + (60 + 10 * (total_size args + scalar_size z))) s1 u) g.2.0 h)))
+          (k 0 (subst (λ (z : PlainType). Match (homes wd) (around W) (d + (60 + 10 * (total_size args + scalar_size z))) s1 u) g.2.0 h)))
 
   -- ---- places
 
@@ -527,7 +527,7 @@ module _ (wd : World) (sc : Scene wd) where
 
   -- a pointer to where a site is, which stands at t where the site is not in an object that is named
   record HasSite (st : Site) (t d : ℕ) (b : Temps) (q : PointerValue) (s : State) (u : Mach) : Type 0 where
-    match : Match (homes wd) d s u
+    match : Match (homes wd) (around W) d s u
     there : IsSite W st u.temps q
     same : Below W t b u
     state : IsTypedState wd.program s
@@ -540,7 +540,8 @@ module _ (wd : World) (sc : Scene wd) where
   stands_at q t (in_object o offset e f g) = subst (λ z. StandsAt W t z) (sym e) tt
   stands_at q t (at_pointer space const to e f g) = subst (λ z. StandsAt W t z) (sym e) refl
 
-  object_runs : (n o t d : ℕ) (b : Temps) (s : State) (m : Mach) (rest : List PlainIr) → IsTypedState wd.program s → Match (homes wd) d s m
+  object_runs : (n o t d : ℕ) (b : Temps) (s : State) (m : Mach) (rest : List PlainIr) → IsTypedState wd.program s
+      → Match (homes wd) (around W) d s m
       → Below W t b m → (z : Option ObjectState) → Goes n rest m (on_to rest) (HasSite (named o 0) t d b)
       (object_place (option_map (λ (x : ObjectState). record { object = o; instance = x.serial; offset = 0 }) z) s)
   object_runs n o t d b s m rest st h same None = tt
@@ -593,19 +594,19 @@ module _ (wd : World) (sc : Scene wd) where
   -- from what stands before a part to that part
   abbrev AtPlace : ℕ → PlainPlace → (l t e : ℕ) → Temps → State → Mach → Type 0
   AtPlace n q l t e b s m = (next_code : List PlainIr) → Stands sc.code (place_code wd.program (ports wd) q l t next_code)
-      → Match (homes wd) e s m → Below W t b m → Goes n (place_code wd.program (ports wd) q l t next_code) m (on_to next_code)
+      → Match (homes wd) (around W) e s m → Below W t b m → Goes n (place_code wd.program (ports wd) q l t next_code) m (on_to next_code)
       (HasSite (site wd.program q t) t e b) (place_at q s)
 
   abbrev AtRight : ℕ → PlainExpr → (l v : ℕ) → List PlainIr → Type 0
   AtRight n a l v tail = (e : ℕ) (s1 : State) (u : Mach) → IsTypedState wd.program s1
-      → Stands sc.code (expr_code wd.program (ports wd) a l v tail) → Match (homes wd) e s1 u
+      → Stands sc.code (expr_code wd.program (ports wd) a l v tail) → Match (homes wd) (around W) e s1 u
       → Goes n (expr_code wd.program (ports wd) a l v tail) u (on_to tail) (Has (type_of_expr a) v e u.temps) (value a s1)
 
   -- ---- nodes of places
 
   load_runs : (n : ℕ) (ty : PlainType) (mode : Mode) (q : PlainPlace) (l t d : ℕ) (b : Temps) (s : State) (m : Mach) (rest : List PlainIr)
       → IsTyped wd.program wd.io ty (load q) → AtPlace n q l t (d + Row ty (load q)) b s m
-      → Stands sc.code (node_code wd.program (ports wd) ty mode (load q) l t rest) → Match (homes wd) (d + Row ty (load q)) s m
+      → Stands sc.code (node_code wd.program (ports wd) ty mode (load q) l t rest) → Match (homes wd) (around W) (d + Row ty (load q)) s m
       → Below W t b m
       → Goes n (node_code wd.program (ports wd) ty mode (load q) l t rest) m (on_to rest) (HasValue W ty t d b)
       (node_value (set wd) (calls_to wd sc.depth) ty mode (load q) s)
@@ -652,7 +653,7 @@ module _ (wd : World) (sc : Scene wd) where
   pointer_to_runs : (n : ℕ) (ty : PlainType) (mode : Mode) (q : PlainPlace) (l t d : ℕ) (b : Temps) (s : State) (m : Mach)
       (rest : List PlainIr) → IsTyped wd.program wd.io ty (address_of q) → (to : PlainType) → place_type wd.program q ≡ Some to
       → AtPlace n q l t (d + Row ty (address_of q)) b s m → Stands sc.code (node_code wd.program (ports wd) ty mode (address_of q) l t rest)
-      → Match (homes wd) (d + Row ty (address_of q)) s m → Below W t b m
+      → Match (homes wd) (around W) (d + Row ty (address_of q)) s m → Below W t b m
       → Goes n (node_code wd.program (ports wd) ty mode (address_of q) l t rest) m (on_to rest) (HasValue W ty t d b)
       (node_value (set wd) (calls_to wd sc.depth) ty mode (address_of q) s)
   pointer_to_runs n ty mode q l t d b s m rest tp to is at_place stands h same =
@@ -686,7 +687,8 @@ module _ (wd : World) (sc : Scene wd) where
       (rest : List PlainIr) → IsTyped wd.program wd.io ty (assign q a) → AtPlace n q l t (d + Row ty (assign q a)) b s m
       → AtRight n a (l + place_labels q) (value_place (site wd.program q t) t)
       (store_to (site wd.program q t) (temp (value_place (site wd.program q t) t) ty) ∷ settled_code (site wd.program q t) ty t rest)
-      → Stands sc.code (node_code wd.program (ports wd) ty mode (assign q a) l t rest) → Match (homes wd) (d + Row ty (assign q a)) s m
+      → Stands sc.code (node_code wd.program (ports wd) ty mode (assign q a) l t rest) → Match (homes wd) (around W) (d + Row ty (assign q
+      a)) s m
       → Below W t b m
       → Goes n (node_code wd.program (ports wd) ty mode (assign q a) l t rest) m (on_to rest) (HasValue W ty t d b)
       (node_value (set wd) (calls_to wd sc.depth) ty mode (assign q a) s)
@@ -724,7 +726,7 @@ module _ (wd : World) (sc : Scene wd) where
       (rest : List PlainIr) (is_space : IsSpace W st sp) (at_site : (u : Mach) → Below W v b u → IsSite W st u.temps p0) where
     numbers_change : (ty right : PlainType) → IsNumeric ty → IsScalar ty → IsExprType wd.program right → HaveCompoundTypes op ty right
         → (old y : Value) (s : State) (u : Mach) → HasType wd.program ty old → HasType wd.program right y
-        → Match (homes wd) (words_of op (update_types op (number_type ty) (number_type right)) ty right + (op_words
+        → Match (homes wd) (around W) (words_of op (update_types op (number_type ty) (number_type right)) ty right + (op_words
         (store_to st (temp v ty)) + d)) s u → u.temps v ≡ Some (held_of ty old) → u.temps (v + 1) ≡ Some (held_of right y) → Below W v b u
         → Goes n (update_code op (update_types op (number_type ty) (number_type right)) own mode ty st v right rest) u (on_to rest)
         (HasValue W ty v d b) (changed op own mode ty sp p0 true old right y s)
@@ -760,7 +762,7 @@ module _ (wd : World) (sc : Scene wd) where
     pointer_change : (space : SpaceId) (k : Bool) (to right : PlainType) → IsExprType wd.program right → IsIntegerType right
         → (p : PointerValue) (y : ℤ) (s : State) (u : Mach)
         → HaveOffsetTypes op right → HasType wd.program (pointer space k to) (Pointer p) → HasType wd.program right (Number y)
-        → Match (homes wd) (binary_words op (pointer space k to) (pointer space k to) right + (op_words
+        → Match (homes wd) (around W) (binary_words op (pointer space k to) (pointer space k to) right + (op_words
         (store_to st (temp v (pointer space k to))) + d)) s u → u.temps v ≡ Some (held_of (pointer space k to) (Pointer p))
         → u.temps (v + 1) ≡ Some (held_of right (Number y)) → Below W v b u
         → (r : Result Value Undefined) → offset_result op (operand_of wd.program (pointer space k to) (Pointer p) s) p y ≡ r
@@ -783,7 +785,8 @@ module _ (wd : World) (sc : Scene wd) where
 
     pub change_runs : (ty right : PlainType) → IsScalar ty → IsExprType wd.program right → HaveCompoundTypes op ty right
         → (old y : Value) (s : State) (u : Mach) → HasType wd.program ty old → HasType wd.program right y
-        → Match (homes wd) (change_words op ty right + (op_words (store_to st (temp v ty)) + d)) s u → u.temps v ≡ Some (held_of ty old)
+        → Match (homes wd) (around W) (change_words op ty right + (op_words (store_to st (temp v ty)) + d)) s u
+        → u.temps v ≡ Some (held_of ty old)
         → u.temps (v + 1) ≡ Some (held_of right y) → Below W v b u
         → Goes n (change_code op own mode ty st v right rest) u (on_to rest) (HasValue W ty v d b)
         (changed op own mode ty sp p0 true old right y s)
@@ -810,7 +813,7 @@ module _ (wd : World) (sc : Scene wd) where
       → AtRight n a (l + place_labels q) (value_place (site wd.program q t) t + 1) (change_code op own mode ty (site wd.program q t)
       (value_place (site wd.program q t) t) (type_of_expr a) (settled_code (site wd.program q t) ty t rest))
       → Stands sc.code (node_code wd.program (ports wd) ty mode (compound op own q a) l t rest)
-      → Match (homes wd) (d + Row ty (compound op own q a)) s m → Below W t b m
+      → Match (homes wd) (around W) (d + Row ty (compound op own q a)) s m → Below W t b m
       → Goes n (node_code wd.program (ports wd) ty mode (compound op own q a) l t rest) m (on_to rest) (HasValue W ty t d b)
       (node_value (set wd) (calls_to wd sc.depth) ty mode (compound op own q a) s)
   compound_runs n ty mode op own q a l t d b s m rest rk tp st0 at_place right stands h same =
@@ -879,7 +882,8 @@ module _ (wd : World) (sc : Scene wd) where
     op = step_operator up
 
     numbers_postfix : (ty : PlainType) → IsNumeric ty → IsScalar ty → (old : Value) (s : State) (u : Mach) → HasType wd.program ty old
-        → Match (homes wd) (postfix_words op ty + (op_words (store_to st (temp (v + 1) ty)) + d)) s u → u.temps v ≡ Some (held_of ty old)
+        → Match (homes wd) (around W) (postfix_words op ty + (op_words (store_to st (temp (v + 1) ty)) + d)) s u
+        → u.temps v ≡ Some (held_of ty old)
         → u.temps (v + 1) ≡ Some (held_of int (Number (pos 1))) → Below W v b u
         → Goes n (keeping_code op (update_types op (number_type ty) (number_type int)) mode ty st v int rest) u (on_to rest)
         (HasValue W ty v d b) (changed op mode mode ty sp p0 false old int (Number (pos 1)) s)
@@ -904,7 +908,7 @@ module _ (wd : World) (sc : Scene wd) where
         e : ℕ
         e = words_of op ts ty int + conversion_words ty (type_of ts.left) + (op_words (store_to st (temp (v + 1) ty)) + d)
 
-        spent : Match (homes wd) e s u
+        spent : Match (homes wd) (around W) e s u
         spent = less (homes wd) (postfix_words op ty + (op_words (store_to st (temp (v + 1) ty)) + d)) e s u
             (let z = postfix_numbers op ty num in omega (arith, z)) h
 
@@ -927,7 +931,7 @@ module _ (wd : World) (sc : Scene wd) where
             hh hy below g)
 
     pointer_postfix : (space : SpaceId) (k : Bool) (to : PlainType) (p : PointerValue) (s : State) (u : Mach)
-        → HasType wd.program (pointer space k to) (Pointer p) → Match (homes wd) (binary_words op (pointer space k to)
+        → HasType wd.program (pointer space k to) (Pointer p) → Match (homes wd) (around W) (binary_words op (pointer space k to)
         (pointer space k to) int + (op_words (store_to st (temp (v + 1) (pointer space k to))) + d)) s u
         → u.temps v ≡ Some (held_of (pointer space k to) (Pointer p)) → u.temps (v + 1) ≡ Some (held_of int (Number (pos 1)))
         → Below W v b u
@@ -961,7 +965,8 @@ module _ (wd : World) (sc : Scene wd) where
         )))
 
     postfix_runs : (ty : PlainType) → IsScalar ty → (old : Value) (s : State) (u : Mach) → HasType wd.program ty old
-        → Match (homes wd) (postfix_words op ty + (op_words (store_to st (temp (v + 1) ty)) + d)) s u → u.temps v ≡ Some (held_of ty old)
+        → Match (homes wd) (around W) (postfix_words op ty + (op_words (store_to st (temp (v + 1) ty)) + d)) s u
+        → u.temps v ≡ Some (held_of ty old)
         → u.temps (v + 1) ≡ Some (held_of int (Number (pos 1))) → Below W v b u
         → Goes n (postfix_code op mode ty st v rest) u (on_to rest) (HasValue W ty v d b) (changed op mode mode ty sp p0 false old int
         (Number (pos 1)) s)
@@ -975,7 +980,7 @@ module _ (wd : World) (sc : Scene wd) where
         (offset_result op (operand_of wd.program (pointer space k to) (Pointer p) s) p (pos 1)) refl
 
     pub stepped_runs : (prefix : Bool) (ty : PlainType) → IsScalar ty → (old : Value) (s : State) (u : Mach) → HasType wd.program ty old
-        → Match (homes wd) (stepped_words prefix op ty + (op_words (store_to st (temp (stepped_place prefix v) ty)) + d)) s u
+        → Match (homes wd) (around W) (stepped_words prefix op ty + (op_words (store_to st (temp (stepped_place prefix v) ty)) + d)) s u
         → u.temps v ≡ Some (held_of ty old) → u.temps (v + 1) ≡ Some (held_of int (Number (pos 1))) → Below W v b u
         → Goes n (step_code prefix op mode ty st v rest) u (on_to rest) (HasValue W ty v d b) (changed op mode mode ty sp p0 prefix old int
         (Number (pos 1)) s)
@@ -987,7 +992,7 @@ module _ (wd : World) (sc : Scene wd) where
       (rest : List PlainIr) → IsTyped wd.program wd.io ty (step up prefix q) → IsTypedState wd.program s
       → AtPlace n q l t (d + Row ty (step up prefix q)) b s m
       → Stands sc.code (node_code wd.program (ports wd) ty mode (step up prefix q) l t rest)
-      → Match (homes wd) (d + Row ty (step up prefix q)) s m → Below W t b m
+      → Match (homes wd) (around W) (d + Row ty (step up prefix q)) s m → Below W t b m
       → Goes n (node_code wd.program (ports wd) ty mode (step up prefix q) l t rest) m (on_to rest) (HasValue W ty t d b)
       (node_value (set wd) (calls_to wd sc.depth) ty mode (step up prefix q) s)
   step_runs n ty mode up prefix q l t d b s m rest tp st0 at_place stands h same =
@@ -1085,7 +1090,7 @@ module _ (wd : World) (sc : Scene wd) where
   mutual
     pub expr_runs : (n : ℕ) (e : PlainExpr) (l t d : ℕ) (b : Temps) (s : State) (m : Mach) (rest : List PlainIr) → n ≤ wd.n
         → CallsOfExpr (IsOther wd.program) e → ValidExpr wd.program wd.io sc.f e → IsTypedState wd.program s
-        → Stands sc.code (expr_code wd.program (ports wd) e l t rest) → Match (homes wd) d s m → Below W t b m
+        → Stands sc.code (expr_code wd.program (ports wd) e l t rest) → Match (homes wd) (around W) d s m → Below W t b m
         → Goes n (expr_code wd.program (ports wd) e l t rest) m (on_to rest) (Has (type_of_expr e) t d b) (value e s)
     expr_runs n (expression ty mode node) l t d b s m rest le p v st stands h same =
         typed_runs n (node_code wd.program (ports wd) ty mode node l t rest) m (on_to rest) ty t d b (value (expression ty mode node) s)
@@ -1096,7 +1101,8 @@ module _ (wd : World) (sc : Scene wd) where
     node_runs : (n : ℕ) (ty : PlainType) (mode : Mode) (node : PlainNode) (l t d : ℕ) (b : Temps) (s : State) (m : Mach)
         (rest : List PlainIr) → n ≤ wd.n → CallsOfNode (IsOther wd.program) node → IsExprType wd.program ty
         → IsTyped wd.program wd.io ty node → ValidParts wd.program wd.io sc.f node → IsTypedState wd.program s
-        → Stands sc.code (node_code wd.program (ports wd) ty mode node l t rest) → Match (homes wd) (d + Row ty node) s m → Below W t b m
+        → Stands sc.code (node_code wd.program (ports wd) ty mode node l t rest) → Match (homes wd) (around W) (d + Row ty node) s m
+        → Below W t b m
         → Goes n (node_code wd.program (ports wd) ty mode node l t rest) m (on_to rest) (HasValue W ty t d b)
         (node_value (set wd) (calls_to wd sc.depth) ty mode node s)
     node_runs n ty mode (number x) l t d b s m rest le p k tp v st stands h same =
@@ -1317,7 +1323,8 @@ module _ (wd : World) (sc : Scene wd) where
 
     place_runs : (n : ℕ) (q : PlainPlace) (l t d : ℕ) (b : Temps) (s : State) (m : Mach) (rest : List PlainIr) (ty : PlainType) → n ≤ wd.n
         → CallsOfPlace (IsOther wd.program) q → ValidPlace wd.program wd.io sc.f q → place_type wd.program q ≡ Some ty
-        → IsTypedState wd.program s → Stands sc.code (place_code wd.program (ports wd) q l t rest) → Match (homes wd) d s m → Below W t b m
+        → IsTypedState wd.program s → Stands sc.code (place_code wd.program (ports wd) q l t rest) → Match (homes wd) (around W) d s m
+        → Below W t b m
         → Goes n (place_code wd.program (ports wd) q l t rest) m (on_to rest) (HasSite (site wd.program q t) t d b) (place_at q s)
     place_runs n (object o) l t d b s m rest ty le p v e st stands h same = object_runs n o t d b s m rest st h same (slice_get s.objects o)
     place_runs n (deref a) l t d b s m rest ty le p v e st stands h same =
@@ -1338,7 +1345,7 @@ module _ (wd : World) (sc : Scene wd) where
 
     operand_run : (n : ℕ) (e : OptionPlainExpr) (l t d : ℕ) (b : Temps) (s : State) (m : Mach) (rest : List PlainIr) → n ≤ wd.n
         → CallsOfOption (IsOther wd.program) e → ValidOption wd.program wd.io sc.f e → IsTypedState wd.program s
-        → Stands sc.code (option_code wd.program (ports wd) e l t rest) → Match (homes wd) d s m → Below W t b m
+        → Stands sc.code (option_code wd.program (ports wd) e l t rest) → Match (homes wd) (around W) d s m → Below W t b m
         → Goes n (option_code wd.program (ports wd) e l t rest) m (on_to rest) (HasOperand e t d b)
         (option_value (set wd) (calls_to wd sc.depth) e s)
     operand_run n no_expr l t d b s m rest le p v st stands h same = (
@@ -1352,7 +1359,7 @@ module _ (wd : World) (sc : Scene wd) where
 
     args_run : (n : ℕ) (es : PlainExprs) (l t d : ℕ) (b : Temps) (s : State) (m : Mach) (rest : List PlainIr) → n ≤ wd.n
         → CallsOfExprs (IsOther wd.program) es → ValidExprs wd.program wd.io sc.f es → IsTypedState wd.program s
-        → Stands sc.code (args_code wd.program (ports wd) es l t rest) → Match (homes wd) d s m → Below W t b m
+        → Stands sc.code (args_code wd.program (ports wd) es l t rest) → Match (homes wd) (around W) d s m → Below W t b m
         → Goes n (args_code wd.program (ports wd) es l t rest) m (on_to rest) (HasArguments es t d b)
         (values_of (set wd) (calls_to wd sc.depth) es s)
     args_run n last_expr l t d b s m rest le p v st stands h same = (

@@ -64,6 +64,7 @@ module _ (program : PlainProgram) (apart : AreApart program) where
     pub leaf : PlainLeaf
     pub declared : slice_get program.objects o ≡ Some d
     pub state : slice_get s.objects o ≡ Some x
+    pub live : x.live ≡ true
     pub item : slice_get (leaves_of_type program.structs d.ty) k ≡ Some leaf
     pub begins : leaf_from program d offset ≡ Some k
     pub typed : leaf.ty ≡ ty
@@ -91,6 +92,7 @@ module _ (program : PlainProgram) (apart : AreApart program) where
         leaf = l.item;
         declared = d.1;
         state = x.1;
+        live = (and_true x.0.live (x.0.serial == p.instance) (and_true (is_live_in p x.0) (holds space d.0.home) b.0).0).0;
         item = is;
         begins = ap (leaf_from program d.0) (sym (eqb-true l.item.at p.offset q.0)) ∙ apart p.object d.0 m.0 l.item d.1 is;
         typed = type_true l.item.ty ty q.1;
@@ -116,6 +118,7 @@ module _ (program : PlainProgram) (apart : AreApart program) where
         leaf = l.leaf;
         declared = l.declared;
         state = l.state;
+        live = l.live;
         item = l.item;
         begins = l.begins;
         typed = l.typed;
@@ -134,42 +137,45 @@ module _ (program : PlainProgram) (apart : AreApart program) where
       ∙ ap (option_map (access_at via o d y)) g
 
   -- an access of it through a pointer
-  pub pointed_home : (space : SpaceId) (p : ObjectPointer) (ty : PlainType) (s t : State) (a : Access)
-      → HasLeaf (Some space) p.object p.offset ty s a → AreShown program program.objects s.objects t.objects
+  pub pointed_home : (fs : List ℕ) (space : SpaceId) (p : ObjectPointer) (ty : PlainType) (s t : State) (a : Access)
+      → HasLeaf (Some space) p.object p.offset ty s a → AreShown program fs program.objects s.objects t.objects
       → pointer_access program space (scalar_size ty) (Some (erased p)) t ≡ object_access program (Some space) p.object p.offset t
-  pointed_home space p ty s t a l h =
-      let z = shown_at program program.objects s.objects t.objects p.object l.d l.x h l.declared l.state in
+  pointed_home fs space p ty s t a l h =
+      let z = shown_at program fs program.objects s.objects t.objects p.object l.d l.x h l.declared l.state in
       let b : Access = access_at (Some space) p.object l.d z.0 l.k in
       let typed : accessed_type program (Some b) ≡ ty =
       ap (λ q. unwrap_or (option_map (λ (leaf : PlainLeaf). leaf.ty) q) void) l.item ∙ l.typed in
       let found_at = home_access (Some space) p.object p.offset l.d z.0 l.k t l.declared z.1 l.begins in
       ap (option_and_then (λ c. if is_access_of program space (scalar_size ty) c then Some c else None)) found_at
+      ∙ ap (λ c. if c && (holds space l.d.home && scalar_size (accessed_type program (Some b)) == scalar_size ty) then Some b else None)
+      (z.2.stands (z.2.kept l.live))
       ∙ ap (λ c. if c && scalar_size (accessed_type program (Some b)) == scalar_size ty then Some b else None) (l.within space refl)
       ∙ ap (λ c. if c then Some b else None) (eq-eqb (scalar_size (accessed_type program (Some b))) (scalar_size ty) (ap scalar_size typed))
       ∙ sym found_at
 
   -- a value that is read is read at home
-  pub read_home : (via : Option SpaceId) (o offset : ℕ) (ty : PlainType) (s t : State) (a : Access) (l : HasLeaf via o offset ty s a)
-      (v : Value) → AreShown program program.objects s.objects t.objects → leaf_of l.x l.k ≡ Some v → is_readable program v s ≡ true
+  pub read_home : (fs : List ℕ) (via : Option SpaceId) (o offset : ℕ) (ty : PlainType) (s t : State) (a : Access) (l : HasLeaf via o
+      offset ty s a)
+      (v : Value) → AreShown program fs program.objects s.objects t.objects → leaf_of l.x l.k ≡ Some v → is_readable program v s ≡ true
       → read program (object_access program via o offset t) t ≡ got (shown v)
       (recorded l.d.storage (Read o l.k (unwrap_or via l.d.space) (told v)) t)
-  read_home via o offset ty s t a l v h e r =
-      let z = shown_at program program.objects s.objects t.objects o l.d l.x h l.declared l.state in
+  read_home fs via o offset ty s t a l v h e r =
+      let z = shown_at program fs program.objects s.objects t.objects o l.d l.x h l.declared l.state in
       let b : Access = access_at via o l.d z.0 l.k in
       ap (λ q. read program q t) (home_access via o offset l.d z.0 l.k t l.declared z.1 l.begins)
-      ∙ ap (λ q. read_value program b q t) (z.2.values l.k v e)
+      ∙ ap (λ q. read_value program b q t) (z.2.values l.live l.k v e)
       ∙ ap (λ c. if c then got (shown v) (recorded l.d.storage (Read o l.k (unwrap_or via l.d.space) (told (shown v))) t)
-      else undefined Unset t) (readable_shown program s t h v r)
+      else undefined Unset t) (readable_shown program fs s t h v r)
       ∙ ap (λ q. got (shown v) (recorded l.d.storage (Read o l.k (unwrap_or via l.d.space) q) t)) (told_shown v)
 
   -- a value that is written to an object that is not kept in flash
-  pub put_home : (via : Option SpaceId) (o offset : ℕ) (ty : PlainType) (t0 : ℕ) (temps : Temps) (s t : State) (a : Access)
-      (l : HasLeaf via o offset ty s a) (v : Value) → AreShown program program.objects s.objects t.objects → IsScalar ty
+  pub put_home : (fs : List ℕ) (via : Option SpaceId) (o offset : ℕ) (ty : PlainType) (t0 : ℕ) (temps : Temps) (s t : State) (a : Access)
+      (l : HasLeaf via o offset ty s a) (v : Value) → AreShown program fs program.objects s.objects t.objects → IsScalar ty
       → HasType program ty v → temps t0 ≡ Some (held_of ty v) → holds Flash l.d.home ≡ false
       → put program (object_access program via o offset t) (temp t0 ty) temps t ≡ got (shown v)
       (recorded l.d.storage (Write o l.k (unwrap_or via l.d.space) (told v)) (with_object o (with_leaf l.k (shown v)) t))
-  put_home via o offset ty t0 temps s t a l v h i vt e f =
-      let z = shown_at program program.objects s.objects t.objects o l.d l.x h l.declared l.state in
+  put_home fs via o offset ty t0 temps s t a l v h i vt e f =
+      let z = shown_at program fs program.objects s.objects t.objects o l.d l.x h l.declared l.state in
       let b : Access = access_at via o l.d z.0 l.k in
       let typed : accessed_type program (Some b) ≡ ty = ap (λ q. unwrap_or (option_map (λ (leaf : PlainLeaf). leaf.ty) q) void) l.item
       ∙ l.typed in

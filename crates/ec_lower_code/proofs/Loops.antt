@@ -20,9 +20,10 @@ use Rattle.ec_lower_code.proofs.Expressions.{W, value, Has, Tests, tests}
 use Rattle.ec_lower_code.proofs.Numbers.{scalar_bytes}
 use Rattle.ec_lower_code.proofs.Ops.{to_rest, past_label, label_comes, jumps, jump_steps, branch_on, branch_off}
 use Rattle.ec_lower_code.proofs.Scene.{World, ports, homes, set, calls_to, Scene}
-use Rattle.ec_lower_code.proofs.Shown.{Match}
+use Rattle.ec_lower_code.proofs.Shown.{Match, stopped_at}
 use Rattle.ec_lower_code.proofs.Statements.{Returns, Left, Kept, left_to, Way, Typed, at_rest, bind_exit, whole_runs}
-use Rattle.ec_lower_code.proofs.Steps.{at, Stands, here, Comes, Does, comes_on, after, after_step, fewer, bind, credited, spent_on, less}
+use Rattle.ec_lower_code.proofs.Steps.{at, Stands, around, here, Comes, Does, comes_on, after, after_step, fewer, bind, credited}
+use Rattle.ec_lower_code.proofs.Steps.{spent_on, less}
 
 module _ (wd : World) (sc : Scene wd) (ret : Returns wd sc) where
   abbrev calls : Calls
@@ -37,7 +38,7 @@ module _ (wd : World) (sc : Scene wd) (ret : Returns wd sc) where
       (last_stands : Stands sc.code (last_code wd.program (ports wd) last (l + 4 + optional_labels c) (jump l ∷ label (l + 1) ∷ rest)))
       (part : CallsOfOptional (IsOther wd.program) c) (valid_part : ValidCondition wd.program wd.io sc.f c)
       (last_part : CallsOfOptional (IsOther wd.program) last) (valid_last : ValidOptional wd.program wd.io sc.f last)
-      (body_runs : (s : State) (m : Mach) → Match (homes wd) (d + 30) s m → IsTypedState wd.program s
+      (body_runs : (s : State) (m : Mach) → Match (homes wd) (around (W wd sc)) (d + 30) s m → IsTypedState wd.program s
       → Typed wd sc ret wd.n inner m (label (l + 2) ∷ last_code wd.program (ports wd) last (l + 4 + optional_labels c)
       (jump l ∷ label (l + 1) ∷ rest)) rest (last_code wd.program (ports wd) last (l + 4 + optional_labels c) (jump l ∷ label (l + 1)
       ∷ rest)) (d + 30) (body s))
@@ -50,12 +51,14 @@ module _ (wd : World) (sc : Scene wd) (ret : Returns wd sc) where
 
       -- the machine goes from here to the body, within the words of a turn
       pub record Enters (p : List PlainIr) (u : Mach) : Type 0 where
-        pub by : (s : State) → Match (homes wd) d s u → (v : Mach) × Match (homes wd) (d + 30) (worked loop_words s) v × Comes (W wd sc)
+        pub by : (s : State) → Match (homes wd) (around (W wd sc)) d s u → (v : Mach) × Match (homes wd) (around (W wd sc)) (d + 30)
+            (worked loop_words s) v × Comes (W wd sc)
             (here (W wd sc) p) u (at (here (W wd sc) inner)) v
 
       -- the test: the loop ends, or a turn can begin
       module _ (k : ℕ) (le : k ≤ wd.n) (out on : List PlainIr) (go : State → Outcome Exit) (runs : (s : State) (p : List PlainIr) (u : Mach)
-          → Enters p u → Match (homes wd) d s u → IsTypedState wd.program s → Way wd sc ret k p u rest out on d (go s)) where
+          → Enters p u → Match (homes wd) (around (W wd sc)) d s u → IsTypedState wd.program s
+          → Way wd sc ret k p u rest out on d (go s)) where
         selected : (x : PlainExpr) (b : Temps) (h : Bool) (s : State) (u : Mach) → IsScalar (type_of_expr x)
             → Tests wd sc (type_of_expr x) 0 d b h s u → Way wd sc ret k (branch_zero (temp 0 (type_of_expr x)) (l + 1) ∷ label (l + 3)
             ∷ inner) u rest out on d (choose h go (λ s1. got at_end (worked loop_words s1)) s)
@@ -85,7 +88,8 @@ module _ (wd : World) (sc : Scene wd) (ret : Returns wd sc) where
 
         test_runs : (c1 : Option PlainExpr) → CallsOfOptional (IsOther wd.program) c1 → ValidCondition wd.program wd.io sc.f c1
             → (s : State) (m : Mach) → Stands sc.code (test_code wd.program (ports wd) c1 (l + 1) (l + 4) (label (l + 3) ∷ inner))
-            → Match (homes wd) d s m → IsTypedState wd.program s → Way wd sc ret k (test_code wd.program (ports wd) c1 (l + 1) (l + 4)
+            → Match (homes wd) (around (W wd sc)) d s m → IsTypedState wd.program s → Way wd sc ret k (test_code wd.program (ports wd) c1
+            (l + 1) (l + 4)
             (label (l + 3) ∷ inner)) m rest out on d (tested (test_of (set wd) calls c1 s) go)
         test_runs None q v s m stands h st =
             runs s (label (l + 3) ∷ inner) m (record {
@@ -108,12 +112,12 @@ module _ (wd : World) (sc : Scene wd) (ret : Returns wd sc) where
 
       -- the last part, the jump and the test
       going_runs : (k : ℕ) → suc k ≤ wd.n → (out on : List PlainIr) (go : State → Outcome Exit) → ((s : State) (p : List PlainIr) (u : Mach)
-          → Enters p u → Match (homes wd) d s u → IsTypedState wd.program s → Way wd sc ret k p u rest out on d (go s))
-          → (s : State) (m : Mach) → Match (homes wd) (d + 30) s m → IsTypedState wd.program s
+          → Enters p u → Match (homes wd) (around (W wd sc)) d s u → IsTypedState wd.program s → Way wd sc ret k p u rest out on d (go s))
+          → (s : State) (m : Mach) → Match (homes wd) (around (W wd sc)) (d + 30) s m → IsTypedState wd.program s
           → Way wd sc ret (suc k) last_place m rest out on d (tested (going_on (set wd) calls last c s) go)
       going_runs k le out on go runs s m h st = by_last last last_part valid_last last_stands
         where
-          jumped : (s1 : State) (u : Mach) → Match (homes wd) (d + 30) s1 u → IsTypedState wd.program s1
+          jumped : (s1 : State) (u : Mach) → Match (homes wd) (around (W wd sc)) (d + 30) s1 u → IsTypedState wd.program s1
               → Way wd sc ret (suc k) (jump l ∷ label (l + 1) ∷ rest) u rest out on d (tested (test_of (set wd) calls c s1) go)
           jumped s1 u h1 st1 =
               let v : Mach = machine u.temps (worked (op_steps (jump l)) u.state) in
@@ -146,12 +150,13 @@ module _ (wd : World) (sc : Scene wd) (ret : Returns wd sc) where
 
       -- at most k turns
       pub turns_run : (k : ℕ) → k ≤ wd.n → (out on : List PlainIr) (s : State) (p : List PlainIr) (u : Mach) → Enters p u
-          → Match (homes wd) d s u → IsTypedState wd.program s → Way wd sc ret k p u rest out on d
+          → Match (homes wd) (around (W wd sc)) d s u → IsTypedState wd.program s → Way wd sc ret k p u rest out on d
           (turns k body (λ s1. going_on (set wd) calls last c s1) s)
-      turns_run zero le out on s p u enter h st = (0, u, omega arith, less (homes wd) d 0 s u (omega arith) h, refl)
+      turns_run zero le out on s p u enter h st = (0, u, omega arith, stopped_at d s u h, refl)
       turns_run (suc k) le out on s p u enter h st =
           let v = enter.by s h in
-          let go_on = λ (s1 : State) (u1 : Mach) (h1 : Match (homes wd) (d + 30) s1 u1) (st1 : IsTypedState wd.program s1). going_runs k le
+          let go_on = λ (s1 : State) (u1 : Mach) (h1 : Match (homes wd) (around (W wd sc)) (d + 30) s1 u1) (st1 : IsTypedState wd.program
+          s1). going_runs k le
           out on (λ s2. turns k body (λ s1. going_on (set wd) calls last c s1) s2)
           (λ s2 q z e g t. turns_run k (omega (arith, le)) out on s2 q z e g t) s1 u1 h1 st1 in
           after (W wd sc) (left_to wd sc ret rest out on) (Left wd sc ret d) (suc k) (here (W wd sc) p) (here (W wd sc) inner) u v.0
@@ -166,7 +171,7 @@ module _ (wd : World) (sc : Scene wd) (ret : Returns wd sc) where
           (λ s1 u1 h1 st1. go_on s1 u1 h1 st1))
 
       -- a loop that begins with its test
-      pub loop_runs : (out on : List PlainIr) (s : State) (m : Mach) → Match (homes wd) d s m → IsTypedState wd.program s
+      pub loop_runs : (out on : List PlainIr) (s : State) (m : Mach) → Match (homes wd) (around (W wd sc)) d s m → IsTypedState wd.program s
           → Way wd sc ret wd.n test_place m rest out on d (tested (test_of (set wd) calls c s)
           (λ s1. turns wd.n body (λ s2. going_on (set wd) calls last c s2) s1))
       loop_runs out on s m h st =
@@ -174,7 +179,8 @@ module _ (wd : World) (sc : Scene wd) (ret : Returns wd sc) where
           (λ s1 p u e g t. turns_run wd.n (omega arith) out on s1 p u e g t) c part valid_part s m test_stands h st
 
       -- and one that begins with its body
-      pub do_runs : (out on skipped : List PlainIr) (s : State) (m : Mach) → find (l + 3) sc.code ≡ Some inner → Match (homes wd) d s m
+      pub do_runs : (out on skipped : List PlainIr) (s : State) (m : Mach) → find (l + 3) sc.code ≡ Some inner
+          → Match (homes wd) (around (W wd sc)) d s m
           → IsTypedState wd.program s → Way wd sc ret wd.n (jump (l + 3) ∷ skipped) m rest out on d
           (turns wd.n body (λ s2. going_on (set wd) calls last c s2) s)
       do_runs out on skipped s m f h st =

@@ -17,13 +17,14 @@ use Rattle.ec_core.specs.Accesses.{referent_of, operand_of, Access, access, leaf
 use Rattle.ec_core.specs.Accesses.{with_leaf, stored, write}
 use Rattle.ec_core.specs.Layout.{scalar_size, IsScalar}
 use Rattle.ec_core.specs.Operators.{unary_result, binary_result, conversion_result, truth_result}
-use Rattle.ec_core.specs.Plain.{PlainType, PlainObject}
+use Rattle.ec_core.specs.Plain.{PlainType, PlainStorage, static, local, param, register, PlainObject}
 use Rattle.ec_core.specs.Pointers.{Pointer as PointerValue, moved}
 use Rattle.ec_core.specs.State.{Event, Read, Write, told, State, worked, with_object, Outcome, got, undefined, next, given, choose}
 use Rattle.ec_core.specs.Words.{member_words}
 use Rattle.ec_core.specs.ValueTypes.{HasType}
 use Rattle.ec_ir.specs.Costs.{op_words, op_steps, branch_zero_words, binary_words, conversion_words, unary_words}
-use Rattle.ec_ir.specs.Meaning.{Mach, machine, held_as, pointer_in, held_pointer, object_access, pointer_access, put, find, jump_to}
+use Rattle.ec_ir.specs.Meaning.{Mach, machine, held_as, pointer_in, held_pointer, object_access, pointer_access, put, before_store, find}
+use Rattle.ec_ir.specs.Meaning.{jump_to}
 use Rattle.ec_ir.specs.Operations.{PlainIr, constant, copy, address, field, load_at, store_at, store_object, binary_op}
 use Rattle.ec_ir.specs.Operations.{unary_op, conversion, label, jump, branch_zero}
 use Rattle.ec_ir.specs.declared.operations.Temp.{Temp}
@@ -31,9 +32,9 @@ use Rattle.ec_ir.specs.Temporaries.{bits, content_of, is_zero, Held, Temps, with
 use Rattle.ec_lower_code.specs.Code.{temp, Site, named, pointed, load_from, store_to, value_place}
 use Rattle.ec_lower_code.proofs.Homes.{AreApart, HasLeaf, pointed_found, named_found, pointed_home, read_home, put_home, leaf_within}
 use Rattle.ec_lower_code.proofs.Numbers.{none, truth_zero}
-use Rattle.ec_lower_code.proofs.Objects.{store_one}
+use Rattle.ec_lower_code.proofs.Objects.{store_one, AreAmong, among_more, kept_shown}
 use Rattle.ec_lower_code.proofs.Shown.{erased, shown, held_of, AreShown, Match}
-use Rattle.ec_lower_code.proofs.Steps.{held_at, held_below, held_above, held_is, held_as_is, Target, at, Spot, here, goes}
+use Rattle.ec_lower_code.proofs.Steps.{held_at, held_below, held_above, held_is, held_as_is, Target, at, Spot, around, here, goes}
 use Rattle.ec_lower_code.proofs.Steps.{execs, Comes, Runs, stays, computes, counts, after, ends, spent_on, record_match}
 use Rattle.ec_lower_code.proofs.Values.{unary_shown, binary_shown, conversion_shown, moved_shown}
 
@@ -48,20 +49,20 @@ module _ (w : Spot) where
 
   -- a value of a type at t, where the type is scalar
   pub record HasValue (ty : PlainType) (t d : ℕ) (b : Temps) (v : Value) (s : State) (u : Mach) : Type 0 where
-    pub match : Match w.program d s u
+    pub match : Match w.program (around w) d s u
     pub value : IsScalar ty → u.temps t ≡ Some (held_of ty v)
     pub same : Below t b u
 
   -- bytes at t that are all 0 where a condition does not hold
   pub record HasTest (ty : PlainType) (t d : ℕ) (b : Temps) (h : Bool) (s : State) (u : Mach) : Type 0 where
-    pub match : Match w.program d s u
+    pub match : Match w.program (around w) d s u
     pub tested : Value
     pub value : u.temps t ≡ Some (held_of ty tested)
     pub zero : is_zero (content_of (scalar_size ty) (shown tested)) ≡ not h
     pub same : Below t b u
 
   pub set_value : (i : PlainIr) (ty : PlainType) (t d e : ℕ) (b : Temps) (u : Mach) (s : State) (v : Value) → op_words i + d ≤ e
-      → Match w.program e s u → Below t b u → HasValue ty t d b v s (machine (with_temp (temp t ty) (shown v) u.temps)
+      → Match w.program (around w) e s u → Below t b u → HasValue ty t d b v s (machine (with_temp (temp t ty) (shown v) u.temps)
       (worked (op_steps i) u.state))
   set_value i ty t d e b u s v le h k = record {
     match = spent_on w.program e d i (with_temp (temp t ty) (shown v) u.temps) s u le h;
@@ -71,7 +72,7 @@ module _ (w : Spot) where
 
   -- a value is put at t by an operation that computes
   computed : (n t d e : ℕ) (b : Temps) (i : PlainIr) (ty : PlainType) (v : Value) (s : State) (u : Mach) (rest : List PlainIr)
-      → op_words i + d ≤ e → Match w.program e s u → Below t b u
+      → op_words i + d ≤ e → Match w.program (around w) e s u → Below t b u
       → ((k : ℕ) → goes w (suc k) (i ∷ rest) u ≡ goes w (suc k) rest (machine (with_temp (temp t ty) (shown v) u.temps)
       (worked (op_steps i) u.state))) → Runs w n (i ∷ rest) u (to_rest rest) (HasValue ty t d b) (got v s)
   computed n t d e b i ty v s u rest le h same c =
@@ -81,13 +82,14 @@ module _ (w : Spot) where
       (set_value i ty t d e b u s v le h same)
 
   pub constant_runs : (n t d e : ℕ) (b : Temps) (ty : PlainType) (x : ℤ) (s : State) (u : Mach) (rest : List PlainIr)
-      → 5 * scalar_size ty + d ≤ e → Match w.program e s u → Below t b u → Runs w n (constant (temp t ty) x ∷ rest) u (to_rest rest)
+      → 5 * scalar_size ty + d ≤ e → Match w.program (around w) e s u → Below t b u → Runs w n (constant (temp t ty) x ∷ rest) u (to_rest
+      rest)
       (HasValue ty t d b) (got (Number x) s)
   constant_runs n t d e b ty x s u rest le h same = computed n t d e b (constant (temp t ty) x) ty (Number x) s u rest le h same (λ k. refl)
 
   -- the bytes of null are 0
   pub null_runs : (n t d e : ℕ) (b : Temps) (ty : PlainType) (s : State) (u : Mach) (rest : List PlainIr) → 5 * scalar_size ty + d ≤ e
-      → Match w.program e s u → Below t b u → Runs w n (constant (temp t ty) (pos 0) ∷ rest) u (to_rest rest) (HasValue ty t d b)
+      → Match w.program (around w) e s u → Below t b u → Runs w n (constant (temp t ty) (pos 0) ∷ rest) u (to_rest rest) (HasValue ty t d b)
       (got (Pointer None) s)
   null_runs n t d e b ty s u rest le h same =
       computed n t d e b (constant (temp t ty) (pos 0)) ty (Pointer None) s u rest le h same
@@ -96,7 +98,8 @@ module _ (w : Spot) where
 
   -- the address of a place in an object
   pub address_runs : (n t d e : ℕ) (b : Temps) (ty : PlainType) (o offset i : ℕ) (s : State) (u : Mach) (rest : List PlainIr)
-      → 5 * scalar_size ty + d ≤ e → Match w.program e s u → Below t b u → Runs w n (address (temp t ty) o offset ∷ rest) u (to_rest rest)
+      → 5 * scalar_size ty + d ≤ e → Match w.program (around w) e s u → Below t b u → Runs w n (address (temp t ty) o offset ∷ rest) u
+      (to_rest rest)
       (HasValue ty t d b) (got (Pointer (Some (record { object = o; instance = i; offset = offset }))) s)
   address_runs n t d e b ty o offset i s u rest le h same = computed n t d e b (address (temp t ty) o offset) ty
       (Pointer (Some (record { object = o; instance = i; offset = offset }))) s u rest le h same (λ k. refl)
@@ -176,7 +179,8 @@ module _ (w : Spot) where
 
   -- a conversion, whose operand may stand elsewhere
   conversion_step : (t q : ℕ) (ty : PlainType) (mode : Mode) (aty : PlainType) (x v : Value) (s : State) (u : Mach) (rest : List PlainIr)
-      → IsScalar aty → HasType w.program aty x → u.temps q ≡ Some (held_of aty x) → AreShown w.program w.program.objects s.objects
+      → IsScalar aty → HasType w.program aty x → u.temps q ≡ Some (held_of aty x) → AreShown w.program (around w) w.program.objects
+      s.objects
       u.state.objects → conversion_result ty mode (operand_of w.program aty x s) ≡ Ok v
       → (k : ℕ) → goes w (suc k) (conversion (temp t ty) ty mode (temp q aty) aty ∷ rest) u ≡ goes w (suc k) rest
       (machine (with_temp (temp t ty) (shown v) u.temps) (worked (op_steps (conversion (temp t ty) ty mode (temp q aty) aty)) u.state))
@@ -185,7 +189,7 @@ module _ (w : Spot) where
       ap (λ z. next z (λ y s2. next (given (conversion_result ty mode (operand_of w.program aty y s2)) s2)
       (λ v s3. goes w (suc k) rest (machine (with_temp (temp t ty) v u.temps) s3)))) (held_as_is w.program aty q x u.temps s1 sc vt e)
       ∙ ap (λ z. next (given z s1) (λ v s3. goes w (suc k) rest (machine (with_temp (temp t ty) v u.temps) s3)))
-      (conversion_shown w.program s s1 o ty mode aty x v f)
+      (conversion_shown w.program (around w) s s1 o ty mode aty x v f)
 
   pub conversion_runs : (n t d e : ℕ) (b : Temps) (ty : PlainType) (mode : Mode) (aty : PlainType) (x : Value) (s : State) (u : Mach)
       (rest : List PlainIr) → IsScalar aty → HasType w.program aty x → conversion_words ty aty + d ≤ e → HasValue aty t e b x s u
@@ -214,7 +218,7 @@ module _ (w : Spot) where
   binary_step : (t p q : ℕ) (op : BinOp) (ty : PlainType) (mode : Mode) (aty bty : PlainType) (x y v : Value) (s : State) (u : Mach)
       (rest : List PlainIr) → IsScalar aty → HasType w.program aty x → IsScalar bty → HasType w.program bty y
       → u.temps t ≡ Some (held_of aty x)
-      → u.temps p ≡ Some (held_of bty y) → AreShown w.program w.program.objects s.objects u.state.objects
+      → u.temps p ≡ Some (held_of bty y) → AreShown w.program (around w) w.program.objects s.objects u.state.objects
       → binary_result op ty mode (operand_of w.program aty x s) (operand_of w.program bty y s) ≡ Ok v
       → (k : ℕ) → goes w (suc k) (binary_op op ty mode (temp q ty) (temp t aty) aty (temp p bty) bty ∷ rest) u ≡ goes w (suc k) rest
       (machine (with_temp (temp q ty) (shown v) u.temps) (worked (op_steps
@@ -228,12 +232,12 @@ module _ (w : Spot) where
       (operand_of w.program bty y s3)) s3) (λ v s4. goes w (suc k) rest (machine (with_temp (temp q ty) v u.temps) s4))))
       (held_as_is w.program bty p y u.temps s1 sb vb hy)
       ∙ ap (λ z. next (given z s1) (λ v s4. goes w (suc k) rest (machine (with_temp (temp q ty) v u.temps) s4)))
-      (binary_shown w.program s s1 o op ty mode aty bty x y v f)
+      (binary_shown w.program (around w) s s1 o op ty mode aty bty x y v f)
 
   pub binary_runs : (n t d e : ℕ) (b : Temps) (op : BinOp) (ty : PlainType) (mode : Mode) (aty bty : PlainType) (x y : Value) (s : State)
       (u : Mach) (rest : List PlainIr) → IsScalar aty → HasType w.program aty x → IsScalar bty → HasType w.program bty y
       → binary_words op ty aty bty + d ≤ e
-      → Match w.program e s u → u.temps t ≡ Some (held_of aty x) → u.temps (t + 1) ≡ Some (held_of bty y) → Below t b u
+      → Match w.program (around w) e s u → u.temps t ≡ Some (held_of aty x) → u.temps (t + 1) ≡ Some (held_of bty y) → Below t b u
       → (r : Result Value Undefined) → binary_result op ty mode (operand_of w.program aty x s) (operand_of w.program bty y s) ≡ r
       → Runs w n (binary_op op ty mode (temp t ty) (temp t aty) aty (temp (t + 1) bty) bty ∷ rest) u (to_rest rest) (HasValue ty t d b)
       (given r s)
@@ -246,7 +250,8 @@ module _ (w : Spot) where
   pub binary_above : (n t d e : ℕ) (op : BinOp) (ty : PlainType) (mode : Mode) (aty bty : PlainType) (x y v : Value) (s : State) (u : Mach)
       (rest : List PlainIr) → IsScalar aty → HasType w.program aty x → IsScalar bty → HasType w.program bty y
       → binary_words op ty aty bty + d ≤ e
-      → Match w.program e s u → u.temps t ≡ Some (held_of aty x) → u.temps (t + 1) ≡ Some (held_of bty y) → binary_result op ty mode
+      → Match w.program (around w) e s u → u.temps t ≡ Some (held_of aty x) → u.temps (t + 1) ≡ Some (held_of bty y)
+      → binary_result op ty mode
       (operand_of w.program aty x s) (operand_of w.program bty y s) ≡ Ok v
       → Runs w n (binary_op op ty mode (temp (t + 1) ty) (temp t aty) aty (temp (t + 1) bty) bty ∷ rest) u (to_rest rest)
       (HasValue ty (t + 1) d u.temps) (got v s)
@@ -258,7 +263,7 @@ module _ (w : Spot) where
   pub binary_over : (n t d e : ℕ) (op : BinOp) (ty : PlainType) (mode : Mode) (aty bty : PlainType) (x y v : Value) (s : State) (u : Mach)
       (rest : List PlainIr) → IsScalar aty → HasType w.program aty x → IsScalar bty → HasType w.program bty y
       → binary_words op ty aty bty + d ≤ e
-      → Match w.program e s u → u.temps (t + 1) ≡ Some (held_of aty x) → u.temps t ≡ Some (held_of bty y)
+      → Match w.program (around w) e s u → u.temps (t + 1) ≡ Some (held_of aty x) → u.temps t ≡ Some (held_of bty y)
       → binary_result op ty mode (operand_of w.program aty x s) (operand_of w.program bty y s) ≡ Ok v
       → Runs w n (binary_op op ty mode (temp (t + 1) ty) (temp (t + 1) aty) aty (temp t bty) bty ∷ rest) u (to_rest rest)
       (HasValue ty (t + 1) d u.temps) (got v s)
@@ -282,7 +287,8 @@ module _ (w : Spot) where
   pub branches : {A : Type 0} (n t d e : ℕ) (b : Temps) (ty : PlainType) (l : ℕ) (rest other : List PlainIr) (to : A → Target)
       (R : A → State → Mach → Type 0) (h : Bool) (x y : State → Outcome A) (s : State) (u : Mach) → find l w.code ≡ Some other
       → branch_zero_words (scalar_size ty) + d ≤ e → HasTest ty t e b h s u
-      → ((v : Mach) → Match w.program d s v → Below t b v → Runs w n rest v to R (x s)) → ((v : Mach) → Match w.program d s v → Below t b v
+      → ((v : Mach) → Match w.program (around w) d s v → Below t b v → Runs w n rest v to R (x s)) → ((v : Mach)
+      → Match w.program (around w) d s v → Below t b v
       → Runs w n other v to R (y s)) → Runs w n (branch_zero (temp t ty) l ∷ rest) u to R (choose h x y s)
   branches n t d e b ty l rest other to R true x y s u f le q on off =
       let i = branch_zero (temp t ty) l in
@@ -335,23 +341,23 @@ module _ (w : Spot) where
 
   -- a pointer that is moved
   pub field_runs : (n t d e : ℕ) (ptr : Temp) (space : SpaceId) (k : ℕ) (q r : PointerValue) (b : Temps) (s : State) (u : Mach)
-      (rest : List PlainIr) → ptr.at ≡ t → member_words + d ≤ e → Match w.program e s u → Below t b u
+      (rest : List PlainIr) → ptr.at ≡ t → member_words + d ≤ e → Match w.program (around w) e s u → Below t b u
       → u.temps ptr.at ≡ Some (record { bytes = ptr.bytes; content = content_of ptr.bytes (shown (Pointer q)) })
       → moved q (referent_of w.program q s) (pos k) ≡ Ok r
-      → Runs w n (field ptr space k ∷ rest) u (to_rest rest) (λ v s1 u1. Match w.program d s1 u1 × (u1.temps ptr.at ≡ Some
+      → Runs w n (field ptr space k ∷ rest) u (to_rest rest) (λ v s1 u1. Match w.program (around w) d s1 u1 × (u1.temps ptr.at ≡ Some
       (record { bytes = ptr.bytes; content = content_of ptr.bytes (shown (Pointer v)) })) × Below t b u1) (got r s)
   field_runs n t d e ptr space k q r b s u rest a le h same held f =
       let i = field ptr space k in
       let s1 : State = worked (op_steps i) u.state in
       let x : Held = record { bytes = ptr.bytes; content = content_of ptr.bytes (shown (Pointer r)) } in
       let u1 : Mach = machine (with_temp ptr (Pointer (option_map erased r)) u.temps) s1 in
-      ends w (to_rest rest) (λ v s1 u1. Match w.program d s1 u1 × (u1.temps ptr.at ≡ Some
+      ends w (to_rest rest) (λ v s1 u1. Match w.program (around w) d s1 u1 × (u1.temps ptr.at ≡ Some
       (record { bytes = ptr.bytes; content = content_of ptr.bytes (shown (Pointer v)) })) × Below t b u1) n (here w (i ∷ rest))
       (here w rest) u u1 r s refl
       (computes w i rest u u1 (λ z. ap (λ y. next y (λ p s2. next (given (moved p (referent_of w.program p s2) (pos k)) s2)
       (λ v s3. goes w (suc z) rest (machine (with_temp ptr (Pointer v) u.temps) s3)))) (pointer_held ptr q u.temps s1 held)
       ∙ ap (λ y. next (given y s1) (λ v s3. goes w (suc z) rest (machine (with_temp ptr (Pointer v) u.temps) s3)))
-      (moved_shown w.program s s1 h.objects q (pos k) r f)) refl refl (omega arith)) (
+      (moved_shown w.program (around w) s s1 h.objects q (pos k) r f)) refl refl (omega arith)) (
         spent_on w.program e d i u1.temps s u le h,
         held_at ptr.at x u.temps,
         λ j lt. held_below ptr.at x u.temps j (omega (arith, lt, a))
@@ -360,12 +366,29 @@ module _ (w : Spot) where
 
   -- a value that stands behind the pointer is brought to its place
   pub copy_runs : (n t d e : ℕ) (ty : PlainType) (b : Temps) (v : Value) (s : State) (u : Mach) (rest : List PlainIr)
-      → 5 * scalar_size ty + d ≤ e → IsScalar ty → Match w.program e s u → u.temps (t + 1) ≡ Some (held_of ty v) → Below t b u
+      → 5 * scalar_size ty + d ≤ e → IsScalar ty → Match w.program (around w) e s u → u.temps (t + 1) ≡ Some (held_of ty v) → Below t b u
       → Runs w n (copy (temp t ty) (temp (t + 1) ty) ∷ rest) u (to_rest rest) (HasValue ty t d b) (got v s)
   copy_runs n t d e ty b v s u rest le sc h held same =
       computed n t d e b (copy (temp t ty) (temp (t + 1) ty)) ty v s u rest le h same
       (λ k. ap (λ z. next z (λ content s1. goes w (suc k) rest (machine (with_content (temp t ty) content u.temps) s1)))
       (held_is ty (t + 1) v u.temps (worked (op_steps (copy (temp t ty) (temp (t + 1) ty))) u.state) held))
+
+  abbrev pub storage_of : ℕ → Option PlainStorage
+  storage_of o = option_map (λ (d : PlainObject). d.storage) (slice_get w.program.objects o)
+
+  -- what is kept where an object is going to be stored to
+  pub before_match : {fs : List ℕ} (storage : Option PlainStorage) → ((g : ℕ) → storage ≡ Some (param g) → AreAmong fs (g ∷ around w))
+      → (d : ℕ) (temps : Temps) (s t : State) → Match w.program fs d s (machine temps t)
+      → Match w.program fs d s (machine temps (before_store w.program (around w) storage t))
+  before_match None among d temps s t h = h
+  before_match (Some (static inits)) among d temps s t h = h
+  before_match (Some (local f)) among d temps s t h = h
+  before_match {fs = fs} (Some (param g)) among d temps s t h = record {
+    objects = kept_shown w.program fs fs (g ∷ around w) (λ f e. e) (among g refl) w.program.objects s.objects t.objects h.objects;
+    events = h.events;
+    spent = h.spent;
+  }
+  before_match (Some (register r)) among d temps s t h = h
 
   module _ (apart : AreApart w.program) where
     abbrev Leaf : Option SpaceId → ℕ → ℕ → PlainType → State → Access → Type 0
@@ -378,15 +401,16 @@ module _ (w : Spot) where
       offset : ℕ
       leaf : Leaf via o offset ty s a
       loads : (k t : ℕ) (u : Mach) (rest : List PlainIr) → u.temps ≡ temps
-          → AreShown w.program w.program.objects s.objects u.state.objects
+          → AreShown w.program (around w) w.program.objects s.objects u.state.objects
           → goes w (suc k) (load_from (temp t ty) site ∷ rest) u ≡ next
           (read w.program (object_access w.program via o offset (worked (op_steps (load_from (temp t ty) site)) u.state))
           (worked (op_steps (load_from (temp t ty) site)) u.state)) (λ x s2. goes w k rest (machine (with_temp (temp t ty) x u.temps) s2))
+      storage : Option PlainStorage
       stores : (k t : ℕ) (u : Mach) (rest : List PlainIr) → u.temps ≡ temps
-          → AreShown w.program w.program.objects s.objects u.state.objects
-          → goes w (suc k) (store_to site (temp t ty) ∷ rest) u ≡ next
-          (put w.program (object_access w.program via o offset (worked (op_steps (store_to site (temp t ty))) u.state)) (temp t ty) u.temps
-          (worked (op_steps (store_to site (temp t ty))) u.state)) (λ x s2. goes w k rest (machine u.temps s2))
+          → AreShown w.program (around w) w.program.objects s.objects u.state.objects
+          → let s1 = before_store w.program (around w) storage (worked (op_steps (store_to site (temp t ty))) u.state) in
+          goes w (suc k) (store_to site (temp t ty) ∷ rest) u ≡ next
+          (put w.program (object_access w.program via o offset s1) (temp t ty) u.temps s1) (λ x s2. goes w k rest (machine u.temps s2))
 
     reached : (site : Site) (temps : Temps) (ty : PlainType) (sp : Option SpaceId) (q : PointerValue) (s : State) (a : Access)
         → IsSpace site sp → IsSite site temps q → access w.program ty sp q s ≡ Some a → IsReached site temps ty s a
@@ -398,6 +422,7 @@ module _ (w : Spot) where
           offset = offset;
           leaf = named_found w.program apart ty sp p s a e (ap (λ z. access w.program ty sp z s) (sym h.1) ∙ f);
           loads = λ k t u rest same objects. refl;
+          storage = option_map (λ (d : PlainObject). d.storage) (slice_get w.program.objects o);
           stores = λ k t u rest same objects. refl;
         }
     reached (pointed ptr space) temps ty sp None s a e h f = absurd (no_access sp f)
@@ -418,18 +443,20 @@ module _ (w : Spot) where
               (λ x s2. goes w k rest (machine (with_temp (temp t ty) x u.temps) s2))))
               (pointer_held ptr (Some p) u.temps s1 (ap (λ (z : Temps). z ptr.at) same ∙ h))
               ∙ ap (λ z. next (read w.program z s1) (λ x s2. goes w k rest (machine (with_temp (temp t ty) x u.temps) s2)))
-              (pointed_home w.program apart space p ty s s1 a l objects);
+              (pointed_home w.program apart (around w) space p ty s s1 a l objects);
+          storage = None;
           stores = λ k t u rest same objects.
               let s1 : State = worked (op_steps (store_at ptr space (temp t ty))) u.state in
-              ap (λ z. next z (λ p s1. next (put w.program (pointer_access w.program space (scalar_size ty) p s1) (temp t ty) u.temps s1)
+              ap (λ z. next z (λ p s1. next (put w.program (pointer_access w.program space (scalar_size ty) p s1) (temp t ty)
+              u.temps s1)
               (λ x s2. goes w k rest (machine u.temps s2))))
               (pointer_held ptr (Some p) u.temps s1 (ap (λ (z : Temps). z ptr.at) same ∙ h))
               ∙ ap (λ z. next (put w.program z (temp t ty) u.temps s1) (λ x s2. goes w k rest (machine u.temps s2)))
-              (pointed_home w.program apart space p ty s s1 a l objects);
+              (pointed_home w.program apart (around w) space p ty s s1 a l objects);
         }
 
     read_one : (n t d e : ℕ) (b : Temps) (ty : PlainType) (site : Site) (s : State) (a : Access) (u : Mach) (rest : List PlainIr)
-        → IsReached site u.temps ty s a → op_words (load_from (temp t ty) site) + d ≤ e → Match w.program e s u → Below t b u
+        → IsReached site u.temps ty s a → op_words (load_from (temp t ty) site) + d ≤ e → Match w.program (around w) e s u → Below t b u
         → (v : Option Value) → leaf_of a.state a.leaf ≡ v → Runs w n (load_from (temp t ty) site ∷ rest) u (to_rest rest)
         (HasValue ty t d b) (read_value w.program a v s)
     read_one n t d e b ty site s a u rest at_leaf le h same None f = tt
@@ -453,9 +480,10 @@ module _ (w : Spot) where
             (recorded a.declared.storage (Read a.object a.leaf a.space (told v)) s) refl
             (counts w (i ∷ rest) (here w rest) u u1 (λ k. to.loads k t u rest refl h.objects
             ∙ ap (λ z. next z (λ x s2. goes w k rest (machine (with_temp (temp t ty) x u.temps) s2)))
-            (read_home w.program apart to.via to.o to.offset ty s s1 a l v h.objects at_leaf g)))
+            (read_home w.program apart (around w) to.via to.o to.offset ty s s1 a l v h.objects at_leaf g)))
             (record {
-              match = subst (λ (z : Access). Match w.program d (recorded z.declared.storage (Read z.object z.leaf z.space (told v)) s) u1)
+              match = subst (λ (z : Access). Match w.program (around w) d (recorded z.declared.storage (Read z.object z.leaf z.space (told
+                  v)) s) u1)
                   l.is m;
               value = λ z. held_at t (held_of ty v) u.temps;
               same = λ j lt. held_below t (held_of ty v) u.temps j lt ∙ same j lt;
@@ -464,45 +492,46 @@ module _ (w : Spot) where
     -- a read of a place
     pub read_runs : (n t d e : ℕ) (b : Temps) (ty : PlainType) (site : Site) (sp : Option SpaceId) (q : PointerValue) (s : State) (u : Mach)
         (rest : List PlainIr) → IsSpace site sp → IsSite site u.temps q → op_words (load_from (temp t ty) site) + d ≤ e
-        → Match w.program e s u → Below t b u → (a : Option Access) → access w.program ty sp q s ≡ a → Runs w n (load_from (temp t ty) site
+        → Match w.program (around w) e s u → Below t b u → (a : Option Access) → access w.program ty sp q s ≡ a
+        → Runs w n (load_from (temp t ty) site
         ∷ rest) u (to_rest rest) (HasValue ty t d b) (read w.program a s)
     read_runs n t d e b ty site sp q s u rest i j le h same None f = tt
     read_runs n t d e b ty site sp q s u rest i j le h same (Some a) f = read_one n t d e b ty site s a u rest
         (reached site u.temps ty sp q s a i j f) le h same (leaf_of a.state a.leaf) refl
 
     -- a leaf is written at home too
-    pub store_match : (via : Option SpaceId) (d e : ℕ) (temps : Temps) (i : PlainIr) (o offset : ℕ) (ty : PlainType) (s : State)
-        (a : Access) (u : Mach) (v : Value) (l : Leaf via o offset ty s a) → op_words i + d ≤ e → Match w.program e s u
-        → Match w.program d (stored a v s) (machine temps (recorded l.d.storage (Write o l.k (unwrap_or via l.d.space) (told v))
-        (with_object o (with_leaf l.k (shown v)) (worked (op_steps i) u.state))))
-    store_match via d e temps i o offset ty s a u v l le h =
-        let k = spent_on w.program e d i temps s u le h in
+    pub store_match : {fs : List ℕ} (via : Option SpaceId) (d : ℕ) (temps : Temps) (o offset : ℕ) (ty : PlainType) (s : State) (a : Access)
+        (t : State) (v : Value) (l : Leaf via o offset ty s a) → Match w.program fs d s (machine temps t)
+        → Match w.program fs d (stored a v s) (machine temps (recorded l.d.storage (Write o l.k (unwrap_or via l.d.space) (told v))
+        (with_object o (with_leaf l.k (shown v)) t)))
+    store_match {fs = fs} via d temps o offset ty s a t v l k =
         let event : Event = Write o l.k (unwrap_or via l.d.space) (told v) in
-        let objects = store_one w.program w.program.objects s.objects u.state.objects o l.d l.k v l.declared
-        (leaf_within w.program apart via o offset ty s a l) h.objects in
-        let m : Match w.program d (with_object o (with_leaf l.k v) s)
-        (machine temps (with_object o (with_leaf l.k (shown v)) (worked (op_steps i) u.state))) = record {
-          objects = objects;
-          events = h.events;
-          spent = k.spent;
-        } in
-        subst (λ (z : Access). Match w.program d (stored z v s)
-        (machine temps (recorded l.d.storage event (with_object o (with_leaf l.k (shown v)) (worked (op_steps i) u.state))))) l.is
+        let objects = store_one w.program fs w.program.objects s.objects t.objects o l.d l.k v l.declared
+        (leaf_within w.program apart via o offset ty s a l) k.objects in
+        let m : Match w.program fs d (with_object o (with_leaf l.k v) s) (machine temps (with_object o (with_leaf l.k (shown v)) t)) =
+        record { objects = objects; events = k.events; spent = k.spent } in
+        subst (λ (z : Access). Match w.program fs d (stored z v s)
+        (machine temps (recorded l.d.storage event (with_object o (with_leaf l.k (shown v)) t)))) l.is
         (record_match w.program l.d.storage event d (with_object o (with_leaf l.k v) s) temps _ m)
 
-    -- a store at a leaf of an object that is named
-    pub store_comes : (o offset : ℕ) (ty : PlainType) (t : ℕ) (s : State) (a : Access) (u : Mach) (v : Value) (rest : List PlainIr)
-        (l : Leaf None o offset ty s a) → IsScalar ty → HasType w.program ty v → holds Flash l.d.home ≡ false
-        → AreShown w.program w.program.objects s.objects u.state.objects → u.temps t ≡ Some (held_of ty v)
+    -- the state in which an object that is named is stored to
+    abbrev pub stored_in : (o offset : ℕ) → Temp → Mach → State
+    stored_in o offset t u = before_store w.program (around w) (storage_of o) (worked (op_steps (store_object o offset t)) u.state)
+
+    -- a store at a leaf of it
+    pub store_comes : {fs : List ℕ} (o offset : ℕ) (ty : PlainType) (t d : ℕ) (s : State) (a : Access) (u : Mach) (v : Value)
+        (rest : List PlainIr) (l : Leaf None o offset ty s a) → IsScalar ty → HasType w.program ty v → holds Flash l.d.home ≡ false
+        → Match w.program fs d s (machine u.temps (stored_in o offset (temp t ty) u)) → u.temps t ≡ Some (held_of ty v)
         → Comes w (here w (store_object o offset (temp t ty) ∷ rest)) u (at (here w rest))
         (machine u.temps (recorded l.d.storage (Write o l.k l.d.space (told v)) (with_object o (with_leaf l.k (shown v))
-        (worked (op_steps (store_object o offset (temp t ty))) u.state))))
-    store_comes o offset ty t s a u v rest l sc vt home h e =
-        let s1 : State = worked (op_steps (store_object o offset (temp t ty))) u.state in
-        counts w (store_object o offset (temp t ty) ∷ rest) (here w rest) u
+        (stored_in o offset (temp t ty) u))))
+    store_comes {fs = fs} o offset ty t d s a u v rest l sc vt home k held =
+        let i = store_object o offset (temp t ty) in
+        let s1 : State = stored_in o offset (temp t ty) u in
+        counts w (i ∷ rest) (here w rest) u
         (machine u.temps (recorded l.d.storage (Write o l.k l.d.space (told v)) (with_object o (with_leaf l.k (shown v)) s1)))
-        (λ k. ap (λ z. next z (λ y s3. goes w k rest (machine u.temps s3))) (put_home w.program apart None o offset ty t u.temps s s1 a l v
-        h sc vt e home))
+        (λ z. ap (λ z1. next z1 (λ y s3. goes w z rest (machine u.temps s3)))
+        (put_home w.program apart fs None o offset ty t u.temps s s1 a l v k.objects sc vt held home))
 
     -- a write of a place
     pub write_runs : (n t d e : ℕ) (b : Temps) (ty : PlainType) (site : Site) (sp : Option SpaceId) (q : PointerValue) (s : State)
@@ -521,15 +550,20 @@ module _ (w : Spot) where
         by_const false false g to =
             let l = to.leaf in
             let home : holds Flash l.d.home ≡ false = ap (λ (z : Access). holds Flash z.declared.home) l.is ∙ g in
-            let s1 : State = worked (op_steps (store_to site (temp t ty))) u.state in
+            let s0 : State = worked (op_steps (store_to site (temp t ty))) u.state in
+            let s1 : State = before_store w.program (around w) to.storage s0 in
+            let among = λ (g : ℕ) (q : to.storage ≡ Some (param g)). among_more g (around w) in
+            let k = before_match to.storage among d u.temps s s0 (spent_on w.program e d (store_to site (temp t ty)) u.temps s u le
+            h.match) in
             let u1 : Mach = machine u.temps (recorded l.d.storage (Write to.o l.k (unwrap_or to.via l.d.space) (told v))
             (with_object to.o (with_leaf l.k (shown v)) s1)) in
             ends w (to_rest rest) (HasValue ty t d b) n (here w (store_to site (temp t ty) ∷ rest)) (here w rest) u u1 v (stored a v s) refl
-            (counts w (store_to site (temp t ty) ∷ rest) (here w rest) u u1 (λ k. to.stores k t u rest refl h.match.objects
-            ∙ ap (λ z. next z (λ y s3. goes w k rest (machine u.temps s3))) (put_home w.program apart to.via to.o to.offset ty t u.temps s
-            s1 a l v h.match.objects sc vt (h.value sc) home)))
+            (counts w (store_to site (temp t ty) ∷ rest) (here w rest) u u1 (λ j. to.stores j t u rest refl h.match.objects
+            ∙ ap (λ z. next z (λ y s3. goes w j rest (machine u.temps s3))) (put_home w.program apart (around w) to.via to.o to.offset ty
+            t u.temps s
+            s1 a l v k.objects sc vt (h.value sc) home)))
             (record {
-              match = store_match to.via d e u.temps (store_to site (temp t ty)) to.o to.offset ty s a u v l le h.match;
+              match = store_match to.via d u.temps to.o to.offset ty s a s1 v l k;
               value = h.value;
               same = h.same;
             })

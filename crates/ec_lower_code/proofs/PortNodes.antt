@@ -20,7 +20,7 @@ use Rattle.ec_lower_code.proofs.Ops.{to_rest, Below, HasValue}
 use Rattle.ec_lower_code.proofs.PortRuns.{value_type, IsHeld, value_held, HasValueAt, port_runs, pairs_run}
 use Rattle.ec_lower_code.proofs.Scene.{World, homes, spot}
 use Rattle.ec_lower_code.proofs.Shown.{Match}
-use Rattle.ec_lower_code.proofs.Steps.{Spot, Runs, less}
+use Rattle.ec_lower_code.proofs.Steps.{Spot, around, Runs, less}
 use Rattle.ec_lower_code.proofs.Tables.{AreOperated, ArePairs, element_within}
 
 module _ (wd : World) (code : List PlainIr) (stack : List Frame) where
@@ -44,7 +44,8 @@ module _ (wd : World) (code : List PlainIr) (stack : List Frame) where
       → AreOperated (port_operation op).long port → IsOperandIf (port_operation op).indexed unsigned_int i
       → IsOperandIf (takes_value (port_operation op)) (port_value (port_operation op)) e
       → IsHeld w wd.program i x t u.temps → IsHeld w wd.program e y (place_behind i t) u.temps
-      → Match (homes wd) (d + port_words (port_operation op).action (unwrap_or (option_map (λ (p : PlainPort). p.width) port) 0)) s u
+      → Match (homes wd) (around w) (d + port_words (port_operation op).action (unwrap_or (option_map (λ (p : PlainPort). p.width) port)
+      0)) s u
       → Below w t b u
       → Runs w n (access_code op mode port i t rest) u (to_rest w rest)
       (HasValue w (port_result (port_operation op).action (port_value (port_operation op))) t d b) (port_effect wd.inputs op port x y s)
@@ -74,7 +75,7 @@ module _ (wd : World) (code : List PlainIr) (stack : List Frame) where
   -- the acquire or the release of a group
   pub group_runs : (n : ℕ) (acquire : Bool) (g : ℕ) (x : Option PlainGroup) (t d : ℕ) (b : Temps) (s : State) (u : Mach)
       (rest : List PlainIr) → ArePairs x
-      → Match (homes wd) (d + group_words (unwrap_or (option_map (λ (y : PlainGroup). length (pairs_of acquire y)) x) 0)) s u
+      → Match (homes wd) (around w) (d + group_words (unwrap_or (option_map (λ (y : PlainGroup). length (pairs_of acquire y)) x) 0)) s u
       → Below w t b u
       → Runs w n (group_code acquire x t rest) u (to_rest w rest) (HasValue w void t d b) (group_effect acquire g x s)
   group_runs n acquire g None t d b s u rest h m same = tt

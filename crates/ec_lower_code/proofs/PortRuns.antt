@@ -40,18 +40,18 @@ use Rattle.ec_lower_code.proofs.Pays.{update_words_are, index_pays, port_bytes}
 use Rattle.ec_lower_code.proofs.PortOperators.{by_operator}
 use Rattle.ec_lower_code.proofs.Shown.{held_of, Match}
 use Rattle.ec_lower_code.proofs.Tables.{IsOperated}
-use Rattle.ec_lower_code.proofs.Steps.{held_at, held_below, held_is, Spot, here, goes, Runs, stays, counts, after, ends}
+use Rattle.ec_lower_code.proofs.Steps.{held_at, held_below, held_is, Spot, around, here, goes, Runs, stays, counts, after, ends}
 use Rattle.ec_lower_code.proofs.Steps.{spent_on, less}
 
 -- ---- the bytes of ports on both sides
 
-module _ (program : PlainProgram) where
-  event_match : (e : Event) (d : ℕ) (s : State) (temps : Temps) (t : State) → Match program d s (machine temps t)
-      → Match program d (with_event e s) (machine temps (with_event e t))
+module _ (program : PlainProgram) (fs : List ℕ) where
+  event_match : (e : Event) (d : ℕ) (s : State) (temps : Temps) (t : State) → Match program fs d s (machine temps t)
+      → Match program fs d (with_event e s) (machine temps (with_event e t))
   event_match e d s temps t h = record { objects = h.objects; events = ap (λ es. es ++ e ∷ []) h.events; spent = h.spent }
 
-  written_match : (width port low d : ℕ) (s : State) (temps : Temps) (t : State) → Match program d s (machine temps t)
-      → Match program d (bytes_written width port low s) (machine temps (bytes_written width port low t))
+  written_match : (width port low d : ℕ) (s : State) (temps : Temps) (t : State) → Match program fs d s (machine temps t)
+      → Match program fs d (bytes_written width port low s) (machine temps (bytes_written width port low t))
   written_match zero port low d s temps t h = h
   written_match (suc n) port low d s temps t h =
       event_match (Out port (low % 256)) d (bytes_written n (port + 1) (low / 256) s) temps (bytes_written n (port + 1) (low / 256) t)
@@ -60,20 +60,20 @@ module _ (program : PlainProgram) where
   module _ (inputs : Inputs) where
     -- the same number is read, and the same events come of it
     record Reads (width port d : ℕ) (s : State) (temps : Temps) (t : State) : Type 0 where
-      match : Match program d (bytes_read inputs width port s) (machine temps (bytes_read inputs width port t))
+      match : Match program fs d (bytes_read inputs width port s) (machine temps (bytes_read inputs width port t))
       number : number_read inputs width port t ≡ number_read inputs width port s
 
-    byte_match : (port d : ℕ) (s : State) (temps : Temps) (t : State) → Match program d s (machine temps t)
-        → (next_byte inputs port t ≡ next_byte inputs port s) × Match program d (byte_read inputs port s)
+    byte_match : (port d : ℕ) (s : State) (temps : Temps) (t : State) → Match program fs d s (machine temps t)
+        → (next_byte inputs port t ≡ next_byte inputs port s) × Match program fs d (byte_read inputs port s)
         (machine temps (byte_read inputs port t))
     byte_match port d s temps t h =
         let same : next_byte inputs port t ≡ next_byte inputs port s = ap (λ es. slice_index (inputs port) (reads_of port es)) h.events in (
           same,
-          subst (λ (b : ℕ). Match program d (byte_read inputs port s) (machine temps (with_event (In port b) t))) (sym same)
+          subst (λ (b : ℕ). Match program fs d (byte_read inputs port s) (machine temps (with_event (In port b) t))) (sym same)
               (event_match (In port (next_byte inputs port s)) d s temps t h),
         )
 
-    reads_match : (width port d : ℕ) (s : State) (temps : Temps) (t : State) → Match program d s (machine temps t)
+    reads_match : (width port d : ℕ) (s : State) (temps : Temps) (t : State) → Match program fs d s (machine temps t)
         → Reads width port d s temps t
     reads_match zero port d s temps t h = record { match = h; number = refl }
     reads_match (suc n) port d s temps t h =
@@ -225,14 +225,14 @@ module _ (w : Spot) where
 
     pub in_runs : (n t d e : ℕ) (b : Temps) (ty : PlainType) (port width : ℕ) (index : Option Temp) (a : ℕ) (s : State) (u : Mach)
         (rest : List PlainIr) → ElementAt port width index u.temps a → a + width ≤ 256
-        → op_words (port_in (temp t ty) port index width) + d ≤ e → Match w.program e s u → Below w t b u
+        → op_words (port_in (temp t ty) port index width) + d ≤ e → Match w.program (around w) e s u → Below w t b u
         → Runs w n (port_in (temp t ty) port index width ∷ rest) u (to_rest w rest) (HasValue w ty t d b)
         (got (Number (pos (number_read w.inputs width a s))) (bytes_read w.inputs width a s))
     in_runs n t d e b ty port width index a s u rest el le pays h same =
         let i = port_in (temp t ty) port index width in
         let t1 : State = worked (op_steps i) u.state in
         let held = with_temp (temp t ty) (Number (pos (number_read w.inputs width a t1))) u.temps in
-        let r = reads_match w.program w.inputs width a d s held t1 (spent_on w.program e d i held s u pays h) in
+        let r = reads_match w.program (around w) w.inputs width a d s held t1 (spent_on w.program e d i held s u pays h) in
         ends w (to_rest w rest) (HasValue w ty t d b) n (here w (i ∷ rest)) (here w rest) u
         (machine held (bytes_read w.inputs width a t1)) (Number (pos (number_read w.inputs width a s)))
         (bytes_read w.inputs width a s) refl
@@ -263,7 +263,7 @@ module _ (w : Spot) where
   pub out_runs : (n q t d e : ℕ) (b : Temps) (ty : PlainType) (port width : ℕ) (index : Option Temp) (a low : ℕ) (s : State) (u : Mach)
       (rest : List PlainIr) → ElementAt port width index u.temps a → a + width ≤ 256
       → u.temps q ≡ Some (held_of ty (Number (pos low))) → low < 256 ^ scalar_size ty
-      → op_words (port_out (temp q ty) port index width) + d ≤ e → Match w.program e s u → Below w t b u
+      → op_words (port_out (temp q ty) port index width) + d ≤ e → Match w.program (around w) e s u → Below w t b u
       → Runs w n (port_out (temp q ty) port index width ∷ rest) u (to_rest w rest) (HasValue w void t d b)
       (got no_value (bytes_written width a low s))
   out_runs n q t d e b ty port width index a low s u rest el le held lt pays h same =
@@ -273,7 +273,7 @@ module _ (w : Spot) where
       ends w (to_rest w rest) (HasValue w void t d b) n (here w (i ∷ rest)) (here w rest) u u1 no_value (bytes_written width a low s) refl
       (counts w (i ∷ rest) (here w rest) u u1 (out_step q ty port width index a low u rest el le held lt))
       (record {
-        match = written_match w.program width a low d s u.temps t1 (spent_on w.program e d i u.temps s u pays h);
+        match = written_match w.program (around w) width a low d s u.temps t1 (spent_on w.program e d i u.temps s u pays h);
         value = λ z.
             absurd z;
         same = same;
@@ -282,7 +282,7 @@ module _ (w : Spot) where
   -- ---- the pairs of a group
 
   pub pairs_run : (n t d : ℕ) (b : Temps) (ps : List Pair) (s : State) (u : Mach) (rest : List PlainIr) → AllByRecursion IsBytePair ps
-      → Match w.program (d + 10 * length ps) s u → Below w t b u
+      → Match w.program (around w) (d + 10 * length ps) s u → Below w t b u
       → Runs w n (pairs_code ps t rest) u (to_rest w rest) (HasValue w void t d b) (got no_value (pairs_written ps s))
   pairs_run n t d b [] s u rest h m same =
       (u, record { match = less w.program (d + 10 * 0) d s u (omega arith) m; value = λ z. absurd z; same = same }, stays w (here w rest) u)
@@ -300,7 +300,7 @@ module _ (w : Spot) where
       (after w (to_rest w rest) (HasValue w void t d b) n (here w (out ∷ after_pair)) (here w after_pair) x.0 y.0
       (got no_value (pairs_written (p ∷ ps) s)) y.2
       (pairs_run n t d b ps (with_event (Out p.port p.byte) s) y.0 rest h.1
-      (subst (λ (z : ℕ). Match w.program e (with_event (Out p.port z) s) y.0) (mod-eq_of_lt small) y.1.match) y.1.same))
+      (subst (λ (z : ℕ). Match w.program (around w) e (with_event (Out p.port z) s) y.0) (mod-eq_of_lt small) y.1.match) y.1.same))
 
   -- ---- an operation on a port, from its operands on
 
@@ -317,7 +317,7 @@ module _ (w : Spot) where
         (index : OptionPlainExpr) (x : Value) (low : ℕ) (s : State) (u : Mach) (rest : List PlainIr)
         → IsOperandIf indexed unsigned_int index → IsHeld program index x t u.temps → HasValueAt action long low v u.temps → t ≤ v
         → port.address + unsigned x * port.width + port.width ≤ 256 → IsOperated long port
-        → Match w.program (d + port_words action port.width) s u → Below w t b u
+        → Match w.program (around w) (d + port_words action port.width) s u → Below w t b u
         → Runs w n (port_code action (port_operator op) (value_type long) mode port (operand_temp index t) t v rest) u (to_rest w rest)
         (HasValue w (port_result action (value_type long)) t d b)
         (port_accessed w.inputs action op port.width (port.address + unsigned x * port.width) low s)

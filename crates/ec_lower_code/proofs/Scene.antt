@@ -1,5 +1,5 @@
 -- A program beside its operations: what is the same throughout a run, and what is the same throughout a call.
-use Rattle.std.proofs.Common.{◌≡◌, ℕ, ◌+◌, ◌*◌, List, [], ◌∷◌, Some}
+use Rattle.std.proofs.Common.{◌≡◌, ℕ, ◌+◌, ◌*◌, true, List, [], ◌∷◌, Some}
 use Rattle.std.specs.Prelude.{⊤, slice_get}
 use Rattle.ec_iohw.specs.declared.table.IoTable.{IoTable}
 use Rattle.ec_core.specs.declared.values.Value.{Value}
@@ -16,7 +16,7 @@ use Rattle.ec_core.specs.Valid.{Valid}
 use Rattle.ec_core.specs.ValueTypes.{HasType, IsTypedState, GiveBytes, ValuesHaveTheirTypes}
 use Rattle.ec_core.proofs.Filled.{leaves_fill_their_types}
 use Rattle.ec_core.proofs.TypedRuns.{types_are_kept}
-use Rattle.ec_ir.specs.Meaning.{Mach, Frame}
+use Rattle.ec_ir.specs.Meaning.{is_among, Mach, Frame}
 use Rattle.ec_ir.specs.Operations.{PlainIr, call_function, data_of}
 use Rattle.ec_ir.specs.Temporaries.{Temps}
 use Rattle.ec_lower_code.specs.Code.{result_temp, params_code, lowered}
@@ -25,7 +25,7 @@ use Rattle.ec_lower_code.proofs.Callees.{IsOther}
 use Rattle.ec_lower_code.proofs.Homes.{AreApart}
 use Rattle.ec_lower_code.proofs.Ops.{to_rest, HasValue, Below}
 use Rattle.ec_lower_code.proofs.Shown.{held_of, Match}
-use Rattle.ec_lower_code.proofs.Steps.{Resolves, Spot, Runs}
+use Rattle.ec_lower_code.proofs.Steps.{Resolves, Spot, around, Runs}
 
 pub record World : Type 0 where
   pub program : PlainProgram
@@ -79,7 +79,8 @@ module _ (x : World) where
       (g : ℕ) (f : PlainFunction) → slice_get x.program.functions g ≡ Some f → IsOther x.program g
       → (code : List PlainIr) (stack : List Frame) (es : PlainExprs) (vs : List Value) (t d : ℕ) (b : Temps) (rest : List PlainIr)
       (s : State) (m : Mach)
-      → AreArguments x.program f.params es → AreHeld es vs t m.temps → Match homes (d + (60 + 10 * (total_size es + scalar_size f.returns)))
+      → AreArguments x.program f.params es → AreHeld es vs t m.temps → Match homes (around (spot code stack)) (d + (60 + 10 * (total_size
+      es + scalar_size f.returns)))
       s m → IsTypedState x.program s → Below (spot code stack) t b m
       → Runs (spot code stack) x.n (params_code f.params es t (call_function g (result_temp t f.returns) ∷ rest)) m
       (to_rest (spot code stack) rest) (HasValue (spot code stack) f.returns t d b) (calls_to depth g vs s)
@@ -90,4 +91,5 @@ module _ (x : World) where
     pub code : List PlainIr
     pub resolves : Resolves code
     pub stack : List Frame
+    pub runs : is_among (around (spot code stack)) f ≡ true
     pub callee : Callee depth

@@ -1,13 +1,14 @@
 -- How the operations have what a program has: their objects have one home each, so a pointer does not tell an instance.
+use Rattle.std.proofs.Common.{arith}
 use Rattle.std.specs.Prelude.{⊤, ◌≡◌, ℕ, ◌+◌, ◌*◌, ◌≤◌, true, List, [], ◌∷◌, length, Some, option_map}
 use Rattle.ec_core.specs.declared.values.ObjectPointer.{ObjectPointer}
 use Rattle.ec_core.specs.declared.values.Value.{Value}
 use Rattle.ec_core.specs.declared.values.Value.TheVariants.{Number, Pointer}
 use Rattle.ec_core.specs.Accesses.{leaf_count, leaf_of}
 use Rattle.ec_core.specs.Layout.{scalar_size}
-use Rattle.ec_core.specs.Plain.{PlainType, PlainObject, PlainProgram}
+use Rattle.ec_core.specs.Plain.{PlainType, PlainStorage, PlainObject, PlainProgram}
 use Rattle.ec_core.specs.State.{ObjectState, State}
-use Rattle.ec_ir.specs.Meaning.{Mach}
+use Rattle.ec_ir.specs.Meaning.{is_kept, Mach}
 use Rattle.ec_ir.specs.Temporaries.{Held, content_of}
 
 abbrev pub erased : ObjectPointer → ObjectPointer
@@ -21,24 +22,35 @@ shown (Pointer p) = Pointer (option_map erased p)
 abbrev pub held_of : PlainType → Value → Held
 held_of ty v = record { bytes = scalar_size ty; content = content_of (scalar_size ty) (shown v) }
 
--- the home of an object beside its newest instance: it has each value that is set there
-pub record IsShown (leaves : ℕ) (x y : ObjectState) : Type 0 where
+-- The home of an object beside its newest instance. Where that one lives, it is of one of these functions, or of none,
+-- whose frames stand, and its home has each value that is set there
+pub record IsShown (fs : List ℕ) (leaves : ℕ) (storage : PlainStorage) (x y : ObjectState) : Type 0 where
   pub serial : y.serial ≡ 0
-  pub live : y.live ≡ true
   pub count : length y.leaves ≡ leaves
-  pub values : (k : ℕ) (v : Value) → leaf_of x k ≡ Some v → leaf_of y k ≡ Some (shown v)
+  pub kept : x.live ≡ true → is_kept fs storage ≡ true
+  pub stands : is_kept fs storage ≡ true → y.live ≡ true
+  pub values : x.live ≡ true → (k : ℕ) (v : Value) → leaf_of x k ≡ Some v → leaf_of y k ≡ Some (shown v)
 
-abbrev pub AreShown : PlainProgram → List PlainObject → List ObjectState → List ObjectState → Type 0
-AreShown program [] [] [] = ⊤
-AreShown program [] [] (y ∷ ys) = ⊥
-AreShown program [] (x ∷ xs) ys = ⊥
-AreShown program (o ∷ os) [] ys = ⊥
-AreShown program (o ∷ os) (x ∷ xs) [] = ⊥
-AreShown program (o ∷ os) (x ∷ xs) (y ∷ ys) = IsShown (leaf_count program o.ty) x y × AreShown program os xs ys
+abbrev pub AreShown : PlainProgram → List ℕ → List PlainObject → List ObjectState → List ObjectState → Type 0
+AreShown program fs [] [] [] = ⊤
+AreShown program fs [] [] (y ∷ ys) = ⊥
+AreShown program fs [] (x ∷ xs) ys = ⊥
+AreShown program fs (o ∷ os) [] ys = ⊥
+AreShown program fs (o ∷ os) (x ∷ xs) [] = ⊥
+AreShown program fs (o ∷ os) (x ∷ xs) (y ∷ ys) =
+    IsShown fs (leaf_count program o.ty) o.storage x y × AreShown program fs os xs ys
 
--- A machine stands where the program does, and could take d words' steps more within its work, of which 200 words are
--- not its own
-pub record Match (program : PlainProgram) (d : ℕ) (s : State) (m : Mach) : Type 0 where
-  pub objects : AreShown program program.objects s.objects m.state.objects
+-- A machine stands where the program does, where the live parameters and locals are those of some functions, and could
+-- take d words' steps more within its work, of which 200 words are not its own
+pub record Match (program : PlainProgram) (fs : List ℕ) (d : ℕ) (s : State) (m : Mach) : Type 0 where
+  pub objects : AreShown program fs program.objects s.objects m.state.objects
   pub events : m.state.events ≡ s.events
   pub spent : m.state.work + 64 * d + 12_800 ≤ 64 * s.work
+
+-- It has shown what the program has, within its work
+pub record Stopped (s : State) (m : Mach) : Type 0 where
+  pub events : m.state.events ≡ s.events
+  pub spent : m.state.work + 12_800 ≤ 64 * s.work
+
+pub stopped_at : {program : PlainProgram} {fs : List ℕ} (d : ℕ) (s : State) (m : Mach) → Match program fs d s m → Stopped s m
+stopped_at d s m h = record { events = h.events; spent = let e = h.spent in omega (arith, e) }

@@ -8,15 +8,15 @@ use Rattle.ec_core.specs.declared.values.Value.{Value}
 use Rattle.ec_core.specs.Accesses.{recorded}
 use Rattle.ec_core.specs.Layout.{scalar_size, IsScalar}
 use Rattle.ec_core.specs.Plain.{PlainType, PlainStorage, static, local, param, register, PlainProgram}
-use Rattle.ec_core.specs.State.{Inputs, Event, ObjectState, State, worked, Outcome, got, more, undefined, next, given}
+use Rattle.ec_core.specs.State.{Inputs, Event, State, worked, Outcome, got, more, undefined, next, given}
 use Rattle.ec_core.specs.ValueTypes.{HasType}
 use Rattle.ec_ir.specs.Costs.{op_words, op_steps}
-use Rattle.ec_ir.specs.Meaning.{Mach, machine, held_as, Frame, Place, place, find, exec_from, exec}
+use Rattle.ec_ir.specs.Meaning.{Mach, machine, held_as, Frame, active, Place, place, find, exec_from, exec}
 use Rattle.ec_ir.specs.Operations.{PlainIr, label, PlainIrFunction}
 use Rattle.ec_ir.specs.Temporaries.{content_of, value_of_type, Held, Temps, with_held, read_held, held}
 use Rattle.ec_lower_code.specs.Code.{temp}
 use Rattle.ec_lower_code.proofs.Numbers.{typed_back}
-use Rattle.ec_lower_code.proofs.Shown.{shown, held_of, AreShown, Match}
+use Rattle.ec_lower_code.proofs.Shown.{shown, held_of, Match, Stopped}
 
 -- ---- temporaries
 
@@ -91,6 +91,10 @@ pub record Spot : Type 0 where
   pub stack : List Frame
 
 module _ (w : Spot) where
+  -- the functions that are active there
+  abbrev pub around : List ℕ
+  around = active w.program.main w.stack
+
   abbrev pub here : List PlainIr → Place
   here rest = place w.code w.stack rest
 
@@ -111,7 +115,7 @@ module _ (w : Spot) where
   -- what the operations do, of which the source tells an outcome: R holds where a value is, or they go on
   abbrev pub Does : {A : Type 0} → ℕ → Place → Mach → (A → Target) → (A → State → Mach → Type 0) → Outcome A → Type 0
   Does n p m to R (got a s) = (u : Mach) × R a s u × Comes p m (to a) u
-  Does n p m to R (more s) = (j : ℕ) × (u : Mach) × (n ≤ j) × Match w.program 0 s u × (execs j p m ≡ more u.state)
+  Does n p m to R (more s) = (j : ℕ) × (u : Mach) × (n ≤ j) × Stopped s u × (execs j p m ≡ more u.state)
   Does n p m to R (undefined point s) = ⊤
 
   abbrev pub Runs : {A : Type 0} → ℕ → List PlainIr → Mach → (A → Target) → (A → State → Mach → Type 0) → Outcome A → Type 0
@@ -140,23 +144,21 @@ module _ (w : Spot) where
   pub counts : (rest : List PlainIr) (q : Place) (m u : Mach) → ((k : ℕ) → goes (suc k) rest m ≡ execs k q u) → Comes (here rest) m (at q) u
   counts rest q m u c = record { by = λ k. (suc k, omega arith, same (c k)) }
 
-  sooner_match : (s : State) (u : Mach) (t r : State) → stop u.state ≡ stop r → t.objects ≡ r.objects → t.events ≡ r.events
-      → t.work ≤ r.work → Match w.program 0 s u → Match w.program 0 s (machine u.temps t)
-  sooner_match s u t r e o v h m =
+  sooner_match : (s : State) (u : Mach) (t r : State) → stop u.state ≡ stop r → t.events ≡ r.events → t.work ≤ r.work
+      → Stopped s u → Stopped s (machine u.temps t)
+  sooner_match s u t r e v h m =
       let g : u.state ≡ r = state_same u.state r e in
       record {
-        objects = subst (λ (q : List ObjectState). AreShown w.program w.program.objects s.objects q) (ap (λ (q : State). q.objects) g
-            ∙ sym o) m.objects;
         events = v ∙ sym (ap (λ (q : State). q.events) g) ∙ m.events;
         spent = let x = ap (λ (q : State). q.work) g in let y = m.spent in omega (arith, x, y, h);
       }
 
   module _ {A : Type 0} (to : A → Target) (R : A → State → Mach → Type 0) where
     -- where a run stops behind a step, it can be stopped before it
-    stopped : (n : ℕ) (p : Place) (m : Mach) (s : State) (u : Mach) (i : ℕ) (o : Outcome Value) → n ≤ i → Match w.program 0 s u
-        → Stops (execs i p m) o → o ≡ more u.state → (j : ℕ) × (u : Mach) × (n ≤ j) × Match w.program 0 s u × (execs j p m ≡ more u.state)
+    stopped : (n : ℕ) (p : Place) (m : Mach) (s : State) (u : Mach) (i : ℕ) (o : Outcome Value) → n ≤ i → Stopped s u
+        → Stops (execs i p m) o → o ≡ more u.state → (j : ℕ) × (u : Mach) × (n ≤ j) × Stopped s u × (execs j p m ≡ more u.state)
     stopped n p m s u i o le h (same e) f = (i, u, le, h, e ∙ f)
-    stopped n p m s u i o le h (sooner t r e f2 ob ev wk) f = (i, machine u.temps t, le, sooner_match s u t r (sym f ∙ f2) ob ev wk h, e)
+    stopped n p m s u i o le h (sooner t r e f2 ob ev wk) f = (i, machine u.temps t, le, sooner_match s u t r (sym f ∙ f2) ev wk h, e)
 
     pub after : (n : ℕ) (p q : Place) (m u : Mach) (o : Outcome A) → Comes p m (at q) u → Does n q u to R o → Does n p m to R o
     after n p q m u (got a s) c d = (d.0, d.1, comes_on p q m u d.0 (to a) c d.2)
@@ -204,22 +206,22 @@ module _ (w : Spot) where
 
 -- ---- work
 
-module _ (program : PlainProgram) where
+module _ (program : PlainProgram) {fs : List ℕ} where
   -- the work of a part comes first
-  pub credited : (w d : ℕ) (s : State) (m : Mach) → Match program d s m → Match program (d + w) (worked w s) m
+  pub credited : (w d : ℕ) (s : State) (m : Mach) → Match program fs d s m → Match program fs (d + w) (worked w s) m
   credited w d s m h = record { objects = h.objects; events = h.events; spent = let e = h.spent in omega (arith, e) }
 
   -- an operation within it
-  pub spent_on : (d e : ℕ) (i : PlainIr) (temps : Temps) (s : State) (m : Mach) → op_words i + e ≤ d → Match program d s m
-      → Match program e s (machine temps (worked (op_steps i) m.state))
+  pub spent_on : (d e : ℕ) (i : PlainIr) (temps : Temps) (s : State) (m : Mach) → op_words i + e ≤ d → Match program fs d s m
+      → Match program fs e s (machine temps (worked (op_steps i) m.state))
   spent_on d e i temps s m le h = record { objects = h.objects; events = h.events; spent = let k = h.spent in omega (arith, k, le) }
 
-  pub less : (d e : ℕ) (s : State) (m : Mach) → e ≤ d → Match program d s m → Match program e s m
+  pub less : (d e : ℕ) (s : State) (m : Mach) → e ≤ d → Match program fs d s m → Match program fs e s m
   less d e s m le h = record { objects = h.objects; events = h.events; spent = let k = h.spent in omega (arith, k, le) }
 
   -- the same event on both sides
   pub record_match : (storage : PlainStorage) (e : Event) (d : ℕ) (s : State) (temps : Temps) (t : State)
-      → Match program d s (machine temps t) → Match program d (recorded storage e s) (machine temps (recorded storage e t))
+      → Match program fs d s (machine temps t) → Match program fs d (recorded storage e s) (machine temps (recorded storage e t))
   record_match (static inits) e d s temps t h = record { objects = h.objects; events = ap (λ es. es ++ e ∷ []) h.events; spent = h.spent }
   record_match (local f) e d s temps t h = record { objects = h.objects; events = ap (λ es. es ++ e ∷ []) h.events; spent = h.spent }
   record_match (param f) e d s temps t h = record { objects = h.objects; events = ap (λ es. es ++ e ∷ []) h.events; spent = h.spent }

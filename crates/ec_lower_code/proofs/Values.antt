@@ -1,5 +1,5 @@
 -- Operators on values, and on what the operations have of them.
-use Rattle.std.proofs.Common.{◌≡◌, ℕ, ◌+◌, Bool, true, false, not, ◌&&◌, ℤ, pos, Option, Some, None, Result, Ok, Err, refl, sym}
+use Rattle.std.proofs.Common.{◌≡◌, ℕ, ◌+◌, Bool, true, false, not, ◌&&◌, ℤ, pos, List, Option, Some, None, Result, Ok, Err, refl, sym}
 use Rattle.std.proofs.Common.{ap, ◌∙◌, eqb-true, eq-eqb}
 use Rattle.std.specs.Prelude.{◌==◌, if◌then◌else◌, ◌+ℤ◌, ◌-ℤ◌, int_le, unsigned_abs, slice_get, option_map, option_and_then, unwrap_or}
 use Rattle.std.specs.Ordering.{nat_cmp}
@@ -82,16 +82,17 @@ moved_offset p of k q e = let u = used_ok of.live (displaced p of.size (pos p.of
     by_range false f = cc
 
 -- a machine's objects beside those of a program
-module _ (program : PlainProgram) (s t : State) (h : AreShown program program.objects s.objects t.objects) where
+module _ (program : PlainProgram) (fs : List ℕ) (s t : State) (h : AreShown program fs program.objects s.objects t.objects) where
   known_shown : (p : ObjectPointer) (d : Option PlainObject) (x : Option ObjectState) → slice_get program.objects p.object ≡ d
       → slice_get s.objects p.object ≡ x → (known program p d x).live ≡ true → known program (erased p) d
       (slice_get t.objects p.object) ≡ known program p d x
   known_shown p None x e f l = cc
   known_shown p (Some d) None e f l = cc
   known_shown p (Some d) (Some x) e f l =
-      let z = shown_at program program.objects s.objects t.objects p.object d x h e f in
+      let z = shown_at program fs program.objects s.objects t.objects p.object d x h e f in
       let y = z.0 in
-      let live : is_live_in (erased p) y ≡ is_live_in p x = ap (λ b. b && y.serial == 0) z.2.live ∙ ap (λ k. k == 0) z.2.serial ∙ sym l in
+      let stands = z.2.stands (z.2.kept (and_true x.live (x.serial == p.instance) l).0) in
+      let live : is_live_in (erased p) y ≡ is_live_in p x = ap (λ b. b && y.serial == 0) stands ∙ ap (λ k. k == 0) z.2.serial ∙ sym l in
       ap (known program (erased p) (Some d)) z.1 ∙ ap (λ b. record { live = b; size = size_of_type program.structs d.ty; home = d.home })
       live
 

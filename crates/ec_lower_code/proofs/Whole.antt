@@ -1,7 +1,7 @@
 -- Whole programs.
 use Rattle.std.proofs.Common.{◌≡◌, ℕ, zero, suc, ◌+◌, ◌*◌, Bool, true, false, ℤ, pos, List, [], ◌∷◌, length, map, Option, Some}
 use Rattle.std.proofs.Common.{None, refl, sym, ap, ◌∙◌, subst, inl, inr, arith, eq-eqb}
-use Rattle.std.specs.Prelude.{⊤, ◌==◌, IsTrue, nat_le, slice_get, replicate, option_map, option_and_then}
+use Rattle.std.specs.Prelude.{⊤, ◌==◌, ◌||◌, IsTrue, nat_le, slice_get, replicate, option_map, option_and_then}
 use Rattle.std.specs.List.{AllByRecursion}
 use Rattle.std.proofs.lemmas.Option.{slice_get-map}
 use Rattle.std.proofs.lemmas.Bool.{le-leb}
@@ -27,7 +27,7 @@ use Rattle.ec_core.specs.ValueTypes.{HasType, IsTypedState, GiveBytes}
 use Rattle.ec_core.specs.Words.{function_words}
 use Rattle.ec_core.proofs.TypedValues.{some_and}
 use Rattle.ec_ir.specs.Costs.{op_steps}
-use Rattle.ec_ir.specs.Meaning.{Mach, machine, Place, enter, leave, standing, start, run, meaning}
+use Rattle.ec_ir.specs.Meaning.{Mach, machine, Place, enter, leave, standing, start, run, meaning, start_state}
 use Rattle.ec_ir.specs.Operations.{PlainIr, label, return_from}
 use Rattle.ec_ir.proofs.Runs.{operations_are_runs}
 use Rattle.ec_lower_code.specs.Code.{temp, end_code, function_code, lowered_function, lowered}
@@ -39,11 +39,12 @@ use Rattle.ec_lower_code.proofs.Calls.{frame_match, callee_runs}
 use Rattle.ec_lower_code.proofs.Expressions.{W}
 use Rattle.ec_lower_code.proofs.Labels.{function_resolves}
 use Rattle.ec_lower_code.proofs.Numbers.{typed_back}
+use Rattle.ec_lower_code.proofs.Objects.{kept_shown}
 use Rattle.ec_lower_code.proofs.Ops.{label_comes}
 use Rattle.ec_lower_code.proofs.Scene.{World, ports, homes, set, calls_to, law, Scene}
-use Rattle.ec_lower_code.proofs.Shown.{shown, held_of, IsShown, AreShown, Match}
-use Rattle.ec_lower_code.proofs.Statements.{Returns, Typed}
-use Rattle.ec_lower_code.proofs.Steps.{held_is, Target, over, same, sooner, Stops, Stands, Spot, here, execs, Comes, Does}
+use Rattle.ec_lower_code.proofs.Shown.{shown, held_of, IsShown, AreShown, Match, Stopped, stopped_at}
+use Rattle.ec_lower_code.proofs.Statements.{Ends, Returns, Typed}
+use Rattle.ec_lower_code.proofs.Steps.{held_is, Target, over, same, sooner, Stops, Stands, Spot, around, here, execs, Comes, Does}
 use Rattle.ec_lower_code.proofs.Steps.{after, credited, spent_on, less}
 
 -- ---- the beginning
@@ -77,37 +78,41 @@ unset_count : (n : ℕ) → length (replicate {A = Option Value} n None) ≡ n
 unset_count zero = refl
 unset_count (suc n) = ap suc (unset_count n)
 
-module _ (program : PlainProgram) where
-  object_starts : (o : PlainObject) (storage : PlainStorage) → IsStored program o storage → IsShown (leaf_count program o.ty)
+module _ (program : PlainProgram) (fs : List ℕ) where
+  object_starts : (o : PlainObject) (storage : PlainStorage) → IsStored program o storage → IsShown fs (leaf_count program o.ty) storage
       (initial_object (leaf_count program o.ty) storage) (standing (initial_object (leaf_count program o.ty) storage))
   object_starts o (static inits) h = record {
     serial = refl;
-    live = refl;
     count = map_count program (leaves_of_type program.structs o.ty)
         inits h;
-    values = λ k v e. static_shown inits k v e;
+    kept = λ l. refl;
+    stands = λ l. refl;
+    values = λ l k v e. static_shown inits k v e;
   }
   object_starts o (local f) h = record {
     serial = refl;
-    live = refl;
     count = unset_count (leaf_count program o.ty);
-    values = λ k v e. unset_shown (leaf_count program o.ty) k v e;
+    kept = λ l. cc;
+    stands = λ l. refl;
+    values = λ l k v e. unset_shown (leaf_count program o.ty) k v e;
   }
   object_starts o (param f) h = record {
     serial = refl;
-    live = refl;
     count = unset_count (leaf_count program o.ty);
-    values = λ k v e. unset_shown (leaf_count program o.ty) k v e;
+    kept = λ l. cc;
+    stands = λ l. refl;
+    values = λ l k v e. unset_shown (leaf_count program o.ty) k v e;
   }
   object_starts o (register r) h = record {
     serial = refl;
-    live = refl;
     count = unset_count (leaf_count program o.ty);
-    values = λ k v e. unset_shown (leaf_count program o.ty) k v e;
+    kept = λ l. refl;
+    stands = λ l. refl;
+    values = λ l k v e. unset_shown (leaf_count program o.ty) k v e;
   }
 
   objects_start : (os : List PlainObject) → AllByRecursion (IsObject program) os
-      → AreShown program os (map (λ o. initial_object (leaf_count program o.ty) o.storage) os)
+      → AreShown program fs os (map (λ o. initial_object (leaf_count program o.ty) o.storage) os)
       (map (λ o. standing (initial_object (leaf_count program o.ty) o.storage)) os)
   objects_start [] h = tt
   objects_start (o ∷ os) h = (object_starts o o.storage h.0.storage, objects_start os h.1)
@@ -134,6 +139,7 @@ module _ (wd : World) (main : PlainFunction) (is : slice_get wd.program.function
       code = code;
       resolves = function_resolves wd.program (ports wd) main;
       stack = [];
+      runs = ap (λ b. b || false) (eq-eqb wd.program.main wd.program.main refl);
       callee = callee_runs wd deep;
     }
 
@@ -148,6 +154,7 @@ module _ (wd : World) (main : PlainFunction) (is : slice_get wd.program.function
     returns_to = record {
       returns = int;
       scalar = λ e. inr (inl refl);
+      outer = [];
       back = back;
       Back = λ v u. ⊤;
       none = λ e tail m. absurd (int_is e);
@@ -158,12 +165,12 @@ module _ (wd : World) (main : PlainFunction) (is : slice_get wd.program.function
         int_is e = cc
 
         some : (v : Value) → IsScalar int → HasType (homes wd) int v → (tail : List PlainIr) (m : Mach) → m.temps 0 ≡ Some (held_of int v)
-            → (u : Mach) × (u.state ≡ worked (op_steps (return_from (Some (temp 0 int)))) m.state) × ⊤ × Comes w
+            → (u : Mach) × Ends wd inside [] m.temps (worked (op_steps (return_from (Some (temp 0 int)))) m.state) u × ⊤ × Comes w
             (here w (return_from (Some (temp 0 int)) ∷ tail)) m (over (shown v)) u
         some v i vt tail m h =
             let s1 : State = worked (op_steps (return_from (Some (temp 0 int)))) m.state in (
               machine m.temps s1,
-              refl,
+              (λ d s q. frame_match wd wd.program.main d [] s m.temps s1 q m.temps),
               tt,
               record {
                 by = λ k. (
@@ -171,68 +178,70 @@ module _ (wd : World) (main : PlainFunction) (is : slice_get wd.program.function
                   omega arith,
                   same (
                       ap (λ z. next (next z (λ content s. got (Some (record { bytes = 2; content = content })) s))
-                      (λ result s2. leave [] result (λ q u. execs w k q u) s2)) (held_is int 0 v m.temps s1 h)
+                      (λ result s2. leave (homes wd) [] result (λ q u. execs w k q u) s2)) (held_is int 0 v m.temps s1 h)
                       ∙ ap (λ r. given r s1) (typed_back (homes wd) int v i vt)),
                 );
               },
             )
 
-    abbrev Ends : Place → Mach → Outcome Value → Type 0
-    Ends q m o = Does w wd.n q m (λ v. over (shown v)) (λ v s u. Match (homes wd) 0 s u) o
+    abbrev Finishes : Place → Mach → Outcome Value → Type 0
+    Finishes q m o = Does w wd.n q m (λ v. over (shown v)) (λ v s u. Match (homes wd) [] 0 s u) o
 
     -- a return without a value, where the body is left at its end
-    falls : (s : State) (u : Mach) → Match (homes wd) 40 s u → Ends (here w end_code) u
+    falls : (s : State) (u : Mach) → Match (homes wd) (around w) 40 s u → Finishes (here w end_code) u
         (got (Number (pos 0)) (frame_ended wd.program wd.program.main s))
     falls s u h =
         let v : Mach = machine u.temps (worked (op_steps (return_from None)) u.state) in (
           v,
-          frame_match wd wd.program.main 0 s v (spent_on (homes wd) 40 0 (return_from None) u.temps s u (omega arith) h),
+          frame_match wd wd.program.main 0 [] s u.temps v.state (spent_on (homes wd) 40 0 (return_from None) u.temps s u (omega arith) h)
+              u.temps,
           record { by = λ k. (suc k, omega arith, same refl) },
         )
 
     finishes : (q : List PlainIr) (m : Mach) (o : Outcome Exit) → Typed wd inside returns_to wd.n q m (label 0 ∷ end_code) end_code end_code
-        40 o → Ends (here w q) m (next o (λ x s. call_result int true x (frame_ended wd.program wd.program.main s)))
+        40 o → Finishes (here w q) m (next o (λ x s. call_result int true x (frame_ended wd.program wd.program.main s)))
     unfolding returns_to
     finishes q m (got at_end s) d =
-        after w (λ v. over (shown v)) (λ v s u. Match (homes wd) 0 s u) wd.n (here w q) (here w (label 0 ∷ end_code)) m d.0
+        after w (λ v. over (shown v)) (λ v s u. Match (homes wd) [] 0 s u) wd.n (here w q) (here w (label 0 ∷ end_code)) m d.0
         (got (Number (pos 0)) (frame_ended wd.program wd.program.main s)) d.2
-        (after w (λ v. over (shown v)) (λ v s u. Match (homes wd) 0 s u) wd.n (here w (label 0 ∷ end_code)) (here w end_code) d.0 d.0
+        (after w (λ v. over (shown v)) (λ v s u. Match (homes wd) [] 0 s u) wd.n (here w (label 0 ∷ end_code)) (here w end_code) d.0 d.0
         (got (Number (pos 0)) (frame_ended wd.program wd.program.main s)) (label_comes w 0 end_code d.0) (falls s d.0 d.1.left.match))
-    finishes q m (got by_break s) d = after w (λ v. over (shown v)) (λ v s u. Match (homes wd) 0 s u) wd.n (here w q)
+    finishes q m (got by_break s) d = after w (λ v. over (shown v)) (λ v s u. Match (homes wd) [] 0 s u) wd.n (here w q)
         (here w end_code) m d.0 (got (Number (pos 0)) (frame_ended wd.program wd.program.main s)) d.2 (falls s d.0 d.1.left.match)
-    finishes q m (got by_continue s) d = after w (λ v. over (shown v)) (λ v s u. Match (homes wd) 0 s u) wd.n (here w q)
+    finishes q m (got by_continue s) d = after w (λ v. over (shown v)) (λ v s u. Match (homes wd) [] 0 s u) wd.n (here w q)
         (here w end_code) m d.0 (got (Number (pos 0)) (frame_ended wd.program wd.program.main s)) d.2 (falls s d.0 d.1.left.match)
     finishes q m (got (by_return None) s) d = (
       d.0,
       less (homes wd) 40 0 (frame_ended wd.program wd.program.main s) d.0 (omega arith)
-          (frame_match wd wd.program.main 40 s d.0 d.1.left.match),
+          d.1.left.match,
       d.2,
     )
     finishes q m (got (by_return (Some v)) s) d = (
       d.0,
       less (homes wd) 40 0 (frame_ended wd.program wd.program.main s) d.0 (omega arith)
-          (frame_match wd wd.program.main 40 s d.0 d.1.left.match),
+          d.1.left.match,
       d.2,
     )
     finishes q m (more s) d = d
     finishes q m (undefined point s) d = tt
 
-    main_runs : (s : State) (m : Mach) → Match (homes wd) 0 s m → IsTypedState wd.program s
-        → Ends (here w code) m (call_of (set wd) (calls_to wd deep) wd.n wd.program.main (Some main) [] s)
+    main_runs : (s : State) (m : Mach) → Match (homes wd) (around w) 0 s m → IsTypedState wd.program s
+        → Finishes (here w code) m (call_of (set wd) (calls_to wd deep) wd.n wd.program.main (Some main) [] s)
     unfolding returns_to
     main_runs s m h st =
         let all : Stands code code = ([], refl) in
         let end = function_resolves wd.program (ports wd) main 0 end_code (stmt_behind wd.program (ports wd) code main.body 1 0 0
         (label 0 ∷ end_code) all) in
         let function_is : IsFunction wd.program wd.io wd.program.main main = (law wd).functions wd.program.main main is in
-        subst (λ (ps : List ℕ). Ends (here w code) m (next (parameters_written (set wd) ps [] (worked function_words s))
+        subst (λ (ps : List ℕ). Finishes (here w code) m (next (parameters_written (set wd) ps [] (worked function_words s))
         (λ y s1. next (effect_of (set wd) (calls_to wd deep) wd.n main.body s1)
         (λ x s2. call_result main.returns (wd.program.main == wd.program.main) x (frame_ended wd.program wd.program.main s2)))))
         (sym params)
-        (subst (λ (ty : PlainType). Ends (here w code) m (next (effect_of (set wd) (calls_to wd deep) wd.n main.body
+        (subst (λ (ty : PlainType). Finishes (here w code) m (next (effect_of (set wd) (calls_to wd deep) wd.n main.body
         (worked function_words s)) (λ x s2. call_result ty (wd.program.main == wd.program.main) x
         (frame_ended wd.program wd.program.main s2)))) (sym returns)
-        (subst (λ (b : Bool). Ends (here w code) m (next (effect_of (set wd) (calls_to wd deep) wd.n main.body (worked function_words s))
+        (subst (λ (b : Bool). Finishes (here w code) m (next (effect_of (set wd) (calls_to wd deep) wd.n main.body (worked function_words
+        s))
         (λ x s2. call_result int b x (frame_ended wd.program wd.program.main s2)))) (sym (eq-eqb wd.program.main wd.program.main refl))
         (finishes code m (effect_of (set wd) (calls_to wd deep) wd.n main.body (worked function_words s))
         (stmt_runs wd inside returns_to main.body false 1 0 0 40 (label 0 ∷ end_code) end_code end_code
@@ -247,16 +256,22 @@ module _ (wd : World) (main : PlainFunction) (is : slice_get wd.program.function
   first = here w0 code
 
   abbrev EndsAll : Outcome Value → Type 0
-  EndsAll o = Does w0 wd.n first (start (homes wd)) (λ v. over (shown v)) (λ v s u. Match (homes wd) 0 s u) o
+  EndsAll o = Does w0 wd.n first (start (homes wd)) (λ v. over (shown v)) (λ v s u. Match (homes wd) [] 0 s u) o
 
   -- what holds of one depth of calls holds of another
-  any_depth : (deep : ℕ) (o : Outcome Value) → Ends deep (here (w deep) code) (start (homes wd)) o → EndsAll o
+  any_depth : (deep : ℕ) (o : Outcome Value) → Finishes deep (here (w deep) code) (start (homes wd)) o → EndsAll o
   any_depth deep (got v s) r = (r.0, r.1, record { by = λ k. r.2.by k })
   any_depth deep (more s) r = r
   any_depth deep (undefined point s) r = tt
 
-  starts : Match (homes wd) 0 (initial_state wd.program (plain_table wd.io)) (start (homes wd))
-  starts = record { objects = objects_start wd.program wd.program.objects wd.valid.objects; events = refl; spent = omega arith }
+  starts : Match (homes wd) (around w0) 0 (initial_state wd.program (plain_table wd.io)) (start (homes wd))
+  starts = record {
+    objects = kept_shown (homes wd) (around w0) (around w0) (around w0) (λ f e. e) (λ f e. e) wd.program.objects
+        (initial_state wd.program (plain_table wd.io)).objects (start_state (homes wd)).objects
+        (objects_start wd.program (around w0) wd.program.objects wd.valid.objects);
+    events = refl;
+    spent = omega arith;
+  }
 
   called : (deep : ℕ) → EndsAll (calls_within (set wd) wd.n deep wd.program.main [] (initial_state wd.program (plain_table wd.io)))
   called zero = tt
@@ -277,7 +292,7 @@ module _ (wd : World) (main : PlainFunction) (is : slice_get wd.program.function
       ∙ ap (option_map (lowered_function wd.program (ports wd))) is)
 
   paid : (m : ℕ) (s : State) (o : Outcome Value) (u : Mach) → execs w0 m first (start (homes wd)) ≡ o → u.state ≡ state_of o
-      → Match (homes wd) 0 s u → IsTrue (nat_le ((state_of (run (lowered wd.program (ports wd)) wd.inputs m)).work + 12_800) (64 * s.work))
+      → Stopped s u → IsTrue (nat_le ((state_of (run (lowered wd.program (ports wd)) wd.inputs m)).work + 12_800) (64 * s.work))
   paid m s o u e f h =
       let a : (state_of (run (lowered wd.program (ports wd)) wd.inputs m)).work ≡ u.state.work = ap (λ z. (state_of z).work) (entered m ∙ e)
       ∙ ap (λ (z : State). z.work) (sym f) in
@@ -295,7 +310,7 @@ module _ (wd : World) (main : PlainFunction) (is : slice_get wd.program.function
       let c = d.2.by 0 in
       let e = over_is c.0 (shown x) d.0.state c.2 in (
         c.0,
-        paid c.0 s (got (shown x) d.0.state) d.0 e refl d.1,
+        paid c.0 s (got (shown x) d.0.state) d.0 e refl (stopped_at 0 s d.0 d.1),
         ap behaviour_of (entered c.0 ∙ e)
             ∙ ap (λ es. Ended es (number_of (shown x))) d.1.events ∙ ap (Ended s.events) (number_shown x),
       )

@@ -24,7 +24,7 @@ use Rattle.ec_core.specs.Plain.{PlainProgram}
 use Rattle.ec_core.specs.State.{reads_of, State, worked, next}
 use Rattle.ec_ir.specs.declared.operations.Temp.{Temp}
 use Rattle.ec_ir.specs.Costs.{op_steps}
-use Rattle.ec_ir.specs.Meaning.{Mach, machine, Frame as Call, enter, resulted, leave}
+use Rattle.ec_ir.specs.Meaning.{kept_for, active as active_functions, Mach, machine, Frame as Call, enter, resulted, leave}
 use Rattle.ec_ir.specs.Operations.{PlainIr, call_function, PlainIrFunction, PlainIrProgram, data_of}
 use Rattle.ec_ir.specs.Temporaries.{Content, Held, Temps, no_temps, with_held}
 use Rattle.ec_ir.specs.Valid.{called_in}
@@ -42,7 +42,7 @@ use Rattle.ec_select_functions.proofs.Active.{layout_of, setting_of, selected_of
 use Rattle.ec_select_functions.proofs.Active.{has_room, leaf_outside_scratch, leaf_not_stacked}
 use Rattle.ec_select_functions.proofs.Computed.{moved_numbers}
 use Rattle.ec_select_functions.proofs.Follow.{Follows, after}
-use Rattle.ec_select_functions.proofs.Match.{kept_left, same_content, same_leaf, less_content, held_row, same_temp}
+use Rattle.ec_select_functions.proofs.Match.{kept_matches, kept_left, same_content, same_leaf, less_content, held_row, same_temp}
 use Rattle.ec_select_functions.proofs.Match.{wanted_most}
 use Rattle.ec_select_functions.proofs.Moves.{narrower, stands_less, move_holds, move_straight, move_steps}
 use Rattle.ec_select_functions.proofs.Resumed.{IsAt, IsElsewhere, Took, HasPlace, resumes}
@@ -106,6 +106,10 @@ module _ (p : PlainIrProgram) (e : Env) (place entry_of : ℕ → ℕ) (w : Worl
       (stack : List Call) where
     abbrev slots : ℕ
     slots = g.slots
+
+    -- the functions that are active
+    abbrev around : List ℕ
+    around = active_functions D.main stack
 
     abbrev h : Homes
     h = homes_of p e place entry_of w f
@@ -191,10 +195,14 @@ module _ (p : PlainIrProgram) (e : Env) (place entry_of : ℕ → ℕ) (w : Worl
       v1 = block e (save_code link need0) v
 
       abbrev waits : Call
-      waits = record { code = g.code; rest = rest; temps = m.temps; to = to }
+      waits = record { code = g.code; rest = rest; temps = m.temps; to = to; called = b }
 
       abbrev aside_b : ℕ → Bool
       aside_b = aside_by aside scratch (16 * slots) s
+
+      -- what is kept where the caller goes on
+      abbrev left_over : State → State
+      left_over s1 = kept_for D around s1
 
       few : register_places slots ≤ 6
       few = omega arith
@@ -257,7 +265,7 @@ module _ (p : PlainIrProgram) (e : Env) (place entry_of : ℕ → ℕ) (w : Worl
             → (IsAt to t × HoldsContent D place v4.at (bs t) (wanted need t) t.bytes c.content)
             ⊎ (IsElsewhere to t × (m.temps t.at ≡ Some c)))
             → Follows D place e j spent back (popped u)
-            (go_on p e place entry_of w j (record { code = g.code; rest = rest; stack = stack }) (machine temps s1))
+            (go_on p e place entry_of w j (record { code = g.code; rest = rest; stack = stack }) (machine temps (left_over s1)))
         goes_on j spent l credit temps v4 steps some goes it took held =
             let form = restore_form e slots h scratch x.scratch_stands need0 (register_places slots) few in
             let v5 = block e (restore_code link need0) v4 in
@@ -267,17 +275,18 @@ module _ (p : PlainIrProgram) (e : Env) (place entry_of : ℕ → ℕ) (w : Worl
             resumes p e place entry_of w f g s aside was a need to it m temps s1 back v v1 u v4
             before pointer0 saved pointer first b gb left pointer_u took held in
             after D place e (steps + code_steps (restore_code link need0)) j j spent s1.work back end0 (popped u) v5
-            (go_on p e place entry_of w j (record { code = g.code; rest = rest; stack = stack }) (machine temps s1))
+            (go_on p e place entry_of w j (record { code = g.code; rest = rest; stack = stack }) (machine temps (left_over s1)))
             (goes_on_to e steps (code_steps (restore_code link need0)) back mid3 end0 (popped u) v4 v5 goes second) (omega arith)
             (omega (arith, most, some, credit))
-            (below j l f g s aside was a stack (λ i r. returns i (omega (arith, r, l))) end0 rest (machine temps s1) v5 ready matches)
+            (below j l f g s aside was a stack (λ i r. returns i (omega (arith, r, l))) end0 rest (machine temps (left_over s1)) v5 ready
+            (kept_matches D e w.inputs slots bs place aside was need around temps s1 v5 matches))
 
       back_with : (j : ℕ) → j ≤ n → (to1 : Option Temp) → to ≡ to1 → (result : Option Held) (s1 : State) (u : View) (spent : ℕ)
           → spent + 64 ≤ s1.work
           → HandsOn p e place entry_of w b result u → Left p e place entry_of w gb b aside_b (pushed back v1).at s1 u
           → Follows D place e j spent back (popped u)
           (next (resulted to1 result m.temps s1)
-          (λ temps s2. go_on p e place entry_of w j (record { code = g.code; rest = rest; stack = stack }) (machine temps s2)))
+          (λ temps s2. go_on p e place entry_of w j (record { code = g.code; rest = rest; stack = stack }) (machine temps (left_over s2))))
       back_with j l None q result s1 u spent credit hands left =
           let at : HasAt e (taken_code hs None (wanted_result need None)) back mid3 =
           subst (λ o. HasAt e (taken_code hs o (wanted_result need o)) back mid3) q taken_at in
@@ -349,7 +358,7 @@ module _ (p : PlainIrProgram) (e : Env) (place entry_of : ℕ → ℕ) (w : Worl
       -- what waits for the called function
       returns_b : (j : ℕ) → j ≤ n → Returns p e place entry_of w b gb aside_b (pushed back v1).at (waits ∷ stack) j
       returns_b j l result s1 u spent credit hands left =
-          subst (λ i. Follows D place e j spent i (popped u) (leave (waits ∷ stack) result (go_on p e place entry_of w j) s1))
+          subst (λ i. Follows D place e j spent i (popped u) (leave D (waits ∷ stack) result (go_on p e place entry_of w j) s1))
           (sym (goes_back s1 u left))
           (back_with j l to refl result s1 u spent credit hands left)
 
@@ -420,8 +429,8 @@ module _ (p : PlainIrProgram) (e : Env) (place entry_of : ℕ → ℕ) (w : Worl
 
         by_function : (o : Option PlainIrFunction) → slice_get p.functions b ≡ o
             → Follows D place e (suc n) m.state.work pc v
-            (enter o (go_on p e place entry_of w n) (record { code = g.code; rest = rest; temps = m.temps; to = to } ∷ stack)
-            (machine no_temps st))
+            (enter o (go_on p e place entry_of w n) (record { code = g.code; rest = rest; temps = m.temps; to = to; called = b } ∷ stack)
+            (machine no_temps (kept_for D (b ∷ around) st)))
         by_function None is = tt
         by_function (Some gb) is =
             let need0 = without_result to need in
@@ -459,13 +468,16 @@ module _ (p : PlainIrProgram) (e : Env) (place entry_of : ℕ → ℕ) (w : Worl
             let word = call_has_word e (entry_of b) s1.0 back s1.2.1 in
             let v2 = pushed back v1 in
             let active1 = active n below returns b gb is there to r.covered.0 rest m v z back s0.0 s2.0 room s2.1 s2.2 ready in
-            let frame : Call = record { code = g.code; rest = rest; temps = m.temps; to = to } in
+            let frame : Call = record { code = g.code; rest = rest; temps = m.temps; to = to; called = b } in
             let waiting = returns_b n below returns b gb is there to r.covered.0 rest m v z back s0.0 s2.0 room s2.1 s2.2 ready in
             let start = begins b gb (s - 2) (aside_by aside scratch (16 * slots) s) v2.at active1 (frame ∷ stack) word in
+            let st1 = kept_for D (b ∷ around) st in
             let matches =
-            entered n below returns b gb is there to r.covered.0 rest m v z back s0.0 s2.0 room s2.1 s2.2 ready z st refl refl in
+            kept_matches D e w.inputs gb.slots (base_of p e place entry_of w b) place (aside_by aside scratch (16 * slots) s) v2.at
+            (needs (w.selected.made b).labels gb.code) (b ∷ around) no_temps st v2
+            (entered n below returns b gb is there to r.covered.0 rest m v z back s0.0 s2.0 room s2.1 s2.2 ready z st refl refl) in
             after D place e (code_steps save + 1) n (suc n) m.state.work st.work pc (e.word_of (entry_of b)) v v2
-            (enter (Some gb) (go_on p e place entry_of w n) (frame ∷ stack) (machine no_temps st))
+            (enter (Some gb) (go_on p e place entry_of w n) (frame ∷ stack) (machine no_temps st1))
             (goes_on_to e (code_steps save) 1 pc s1.0 (e.word_of (entry_of b)) v v1 v2 saving calling) (omega arith) (omega (arith, most))
             (below n (omega arith) b gb (s - 2) (aside_by aside scratch (16 * slots) s) v2.at active1 (frame ∷ stack) waiting
-            (e.word_of (entry_of b)) gb.code (machine no_temps st) v2 start matches)
+            (e.word_of (entry_of b)) gb.code (machine no_temps st1) v2 start matches)

@@ -1,7 +1,7 @@
 -- What comes of a state only adds events to it.
 use Rattle.std.proofs.Common.{◌≡◌, ℕ, zero, suc, ◌+◌, ◌*◌, ◌/◌, ◌%◌, Bool, true, false, List, [], ◌∷◌, ◌++◌, Option}
 use Rattle.std.proofs.Common.{Some, None, Result, Ok, Err, refl}
-use Rattle.std.specs.Prelude.{◌==◌, if◌then◌else◌, slice_get, nat_le, pos}
+use Rattle.std.specs.Prelude.{◌==◌, if◌then◌else◌, slice_get, option_map, nat_le, pos}
 use Rattle.ec_runs.specs.Behaviours.{BeginWith}
 use Rattle.ec_runs.proofs.Runs.{begin_itself, begin_onward}
 use Rattle.ec_space.specs.declared.space.SpaceId.TheVariants.{Flash}
@@ -15,7 +15,8 @@ use Rattle.ec_core.specs.Accesses.{first_write}
 use Rattle.ec_core.specs.Meaning.{state_of}
 use Rattle.ec_core.specs.Operators.{unary_result, binary_result, conversion_result, unsuited}
 use Rattle.ec_core.specs.Pointers.{Pointer as PointerValue, moved}
-use Rattle.ec_core.specs.Plain.{PlainType, PlainStorage, static, local, param, register, PlainProgram}
+use Rattle.ec_core.specs.Plain.{PlainType, PlainStorage, static, local, param, register, PlainObject}
+use Rattle.ec_core.specs.Plain.{PlainProgram}
 use Rattle.ec_core.specs.PortAccesses.{number_read, bytes_read, bytes_written, byte_read}
 use Rattle.ec_core.specs.State.{Inputs, Event, Out, Read, told, State, worked, Outcome, got, more, undefined, next}
 use Rattle.ec_core.specs.State.{given}
@@ -24,7 +25,7 @@ use Rattle.ec_ir.specs.Costs.{op_steps}
 use Rattle.ec_ir.specs.Meaning.{Mach, machine, held_as, pointer_in, held_pointer, number_in, held_number, object_access}
 use Rattle.ec_ir.specs.Meaning.{pointer_access, accessed_type, put_leaf, put, Frame, Place, place, find, Go, jump_to}
 use Rattle.ec_ir.specs.Meaning.{enter, returned, resulted, leave, element_of_port, in_ports, port_read, port_written}
-use Rattle.ec_ir.specs.Meaning.{perform, exec_from, pointer_at}
+use Rattle.ec_ir.specs.Meaning.{perform, exec_from, pointer_at, put_named, put_object, before_store, kept_for, active}
 use Rattle.ec_ir.specs.Operations.{PlainIr, constant, copy, address, field, load_at, store_at, load_object}
 use Rattle.ec_ir.specs.Operations.{store_object, binary_op, unary_op, conversion, label, jump, branch_zero}
 use Rattle.ec_ir.specs.Operations.{call_function, return_from, port_in, port_out, PlainIrFunction}
@@ -127,6 +128,24 @@ adds_put program a t temps s =
     adds_next s (held_as program (accessed_type program a) t temps s) _
     (adds_held_as program (accessed_type program a) t temps s) (λ v s1. adds_put_leaf a v s1)
 
+-- what is kept adds nothing
+adds_kept : {A : Type 0} (program : PlainProgram) (fs : List ℕ) (s : State) (o : Outcome A) → Adds (kept_for program fs s) o → Adds s o
+adds_kept program fs s o h = record { events = h.events }
+
+adds_put_object : (program : PlainProgram) (fs : List ℕ) (o offset : ℕ) (t : Temp) (temps : Temps) (s : State)
+    → Adds s (put_object program fs o offset t temps s)
+adds_put_object program fs o offset t temps s = by_storage (option_map (λ (d : PlainObject). d.storage) (slice_get program.objects o))
+  where
+    named : (s1 : State) → Adds s1 (put_named program o offset t temps s1)
+    named s1 = adds_put program (object_access program None o offset s1) t temps s1
+
+    by_storage : (storage : Option PlainStorage) → Adds s (put_named program o offset t temps (before_store program fs storage s))
+    by_storage None = named s
+    by_storage (Some (static inits)) = named s
+    by_storage (Some (local f)) = named s
+    by_storage (Some (param g)) = adds_kept program (g ∷ fs) s _ (named (kept_for program (g ∷ fs) s))
+    by_storage (Some (register r)) = named s
+
 -- ---- returns and ports
 
 adds_returned : (t : Option Temp) (m : Mach) → Adds m.state (returned t m)
@@ -177,12 +196,12 @@ module _ (functions : List PlainIrFunction) (program : PlainProgram) (inputs : I
     enter_adds None stack m = stays {A = Value} m.state (enter None go stack m) refl
     enter_adds (Some f) stack m = g (place f.code stack f.code) m
 
-    leave_adds : (stack : List Frame) (result : Option Held) (s : State) → Adds s (leave stack result go s)
-    leave_adds [] None s = stays {A = Value} s (leave [] None go s) refl
+    leave_adds : (stack : List Frame) (result : Option Held) (s : State) → Adds s (leave program stack result go s)
+    leave_adds [] None s = stays {A = Value} s (leave program [] None go s) refl
     leave_adds [] (Some result) s = adds_given (value_in int result.content) s
-    leave_adds (f ∷ stack) result s =
-        adds_next s (resulted f.to result f.temps s) _ (adds_resulted f.to result f.temps s)
-        (λ temps s1. g (place f.code stack f.rest) (machine temps s1))
+    leave_adds (f ∷ stack) result s = adds_next s (resulted f.to result f.temps s) _ (adds_resulted f.to result f.temps s)
+        (λ temps s1. adds_kept program (active program.main stack) s1 _
+        (g (place f.code stack f.rest) (machine temps (kept_for program (active program.main stack) s1))))
 
     branch_adds : (b : Bool) (o p : Outcome Value) (s : State) → Adds s o → Adds s p → Adds s (if b then o else p)
     branch_adds true o p s x y = x
@@ -212,8 +231,8 @@ module _ (functions : List PlainIrFunction) (program : PlainProgram) (inputs : I
         adds_next s (read program (object_access program None o offset s) s) _
         (adds_read program (object_access program None o offset s) s) (λ x s1. g (place code stack rest) (machine (with_temp t x temps) s1))
     perform_adds (store_object o offset t) code stack rest temps s =
-        adds_next s (put program (object_access program None o offset s) t temps s) _
-        (adds_put program (object_access program None o offset s) t temps s) (λ x s1. g (place code stack rest) (machine temps s1))
+        adds_next s (put_object program (active program.main stack) o offset t temps s) _
+        (adds_put_object program (active program.main stack) o offset t temps s) (λ x s1. g (place code stack rest) (machine temps s1))
     perform_adds (binary_op op ty mode to a aty b bty) code stack rest temps s =
         adds_next s (held_as program aty a temps s) _ (adds_held_as program aty a temps s)
         (λ x s1. adds_next s1 (held_as program bty b temps s1) _ (adds_held_as program bty b temps s1)
@@ -237,7 +256,9 @@ module _ (functions : List PlainIrFunction) (program : PlainProgram) (inputs : I
         (go (place code stack rest) (machine temps s1)) s1 (jump_adds (find l code) code stack (machine temps s1))
         (g (place code stack rest) (machine temps s1)))
     perform_adds (call_function f to) code stack rest temps s =
-        enter_adds (slice_get functions f) (record { code = code; rest = rest; temps = temps; to = to } ∷ stack) (machine no_temps s)
+        adds_kept program (f ∷ active program.main stack) s _
+        (enter_adds (slice_get functions f) (record { code = code; rest = rest; temps = temps; to = to; called = f } ∷ stack)
+        (machine no_temps (kept_for program (f ∷ active program.main stack) s)))
     perform_adds (return_from from) code stack rest temps s =
         adds_next s (returned from (machine temps s)) _ (adds_returned from (machine temps s)) (λ result s1. leave_adds stack result s1)
     perform_adds (port_in to port index width) code stack rest temps s =

@@ -1,7 +1,7 @@
 -- What an operation leaves matches what it means.
-use Rattle.std.proofs.Common.{◌≡◌, ◌≢◌, ℕ, ◌+◌, ◌%◌, ◌^◌, ◌<◌, ◌≤◌, ⊎_elim, true, Some, None, sym, ap, ◌∙◌, subst}
-use Rattle.std.proofs.Common.{arith}
-use Rattle.std.specs.Prelude.{◌==◌, if◌then◌else◌, slice_get}
+use Rattle.std.proofs.Common.{◌≡◌, ◌≢◌, ℕ, zero, suc, ◌+◌, ◌%◌, ◌^◌, ◌<◌, ◌≤◌, ⊎_elim, Bool, true, false, List, [], ◌∷◌}
+use Rattle.std.proofs.Common.{Option, Some, None, refl, sym, ap, ◌∙◌, subst, arith}
+use Rattle.std.specs.Prelude.{◌==◌, if◌then◌else◌, map, slice_get, option_and_then}
 use Rattle.std.proofs.lemmas.Bool.{cases_eq, eq-eqb, ne_eqb}
 use Rattle.std.proofs.lemmas.Bool.Decides.{nat_tests}
 use Rattle.ec_space.specs.declared.space.Bank.TheVariants.{Data as DataBank}
@@ -14,11 +14,12 @@ use Rattle.ec_asm.proofs.Numbers.{value_mod, mod_less}
 use Rattle.ec_asm.proofs.Sum.{value-same}
 use Rattle.ec_core.specs.declared.values.Value.{Value}
 use Rattle.ec_core.specs.declared.values.Value.TheVariants.{Number, Pointer}
-use Rattle.ec_core.specs.Plain.{PlainProgram}
-use Rattle.ec_core.specs.State.{Inputs, State}
+use Rattle.ec_core.specs.Accesses.{leaf_of}
+use Rattle.ec_core.specs.Plain.{PlainObject, PlainProgram}
+use Rattle.ec_core.specs.State.{Inputs, ObjectState, State}
 use Rattle.ec_ir.specs.declared.operations.Temp.{Temp}
-use Rattle.ec_ir.specs.Meaning.{Mach, machine}
-use Rattle.ec_ir.specs.Temporaries.{Content, bits, points, Held, with_content}
+use Rattle.ec_ir.specs.Meaning.{is_kept, standing, given_up, kept_in, kept_for, Mach, machine}
+use Rattle.ec_ir.specs.Temporaries.{Content, bits, points, Held, Temps, with_content}
 use Rattle.ec_select_operations.specs.Homes.{HasHome}
 use Rattle.ec_select_operations.specs.Needs.{Need, at_least, without, wanted}
 use Rattle.ec_select_operations.specs.Places.{ObjectLeaf, Apart}
@@ -80,6 +81,51 @@ held_row v a n some h j l = h (a + j) (omega arith)
 pub kept_left : (inputs : Inputs) (s : State) (v v1 : View) → v1.inputs ≡ v.inputs → AreLeft inputs s v
     → AreLeft inputs s v1
 kept_left inputs s v v1 q h port = ap (λ f. f port) q ∙ h port
+
+-- ---- what is kept
+
+-- an object that has a value of those that are kept, has it
+pub record HadValue (fs : List ℕ) (os : List PlainObject) (xs : List ObjectState) (o k : ℕ) (u : Value) : Type 0 where
+  pub state : ObjectState
+  pub is_state : slice_get xs o ≡ Some state
+  pub leaf : leaf_of state k ≡ Some u
+
+unset_none : (vs : List (Option Value)) (k : ℕ) (u : Value) → option_and_then (λ v. v) (slice_get (map (λ v. None) vs) k) ≡ Some u → ⊥
+unset_none [] k u h = cc
+unset_none (v ∷ vs) zero u h = cc
+unset_none (v ∷ vs) (suc k) u h = unset_none vs k u h
+
+pub had_value : (fs : List ℕ) (os : List PlainObject) (xs : List ObjectState) (o k : ℕ) (x : ObjectState) (u : Value)
+    → slice_get (kept_in fs os xs) o ≡ Some x → leaf_of x k ≡ Some u → HadValue fs os xs o k u
+had_value fs [] xs o k x u q w = record { state = x; is_state = q; leaf = w }
+had_value fs (d ∷ os) [] o k x u q w = cc
+had_value fs (d ∷ os) (z ∷ xs) zero k x u q w = by_test (is_kept fs d.storage) q
+  where
+    by_test : (b : Bool) → Some (if b then standing z else given_up z) ≡ Some x → HadValue fs (d ∷ os) (z ∷ xs) zero k u
+    by_test true q =
+        let i : standing z ≡ x = cc in record { state = z; is_state = refl; leaf = ap (λ (y : ObjectState). leaf_of y k) i ∙ w }
+    by_test false q =
+        let i : given_up z ≡ x = cc in
+        absurd (unset_none z.leaves k u (ap (λ (y : ObjectState). leaf_of y k) i ∙ w))
+had_value fs (d ∷ os) (z ∷ xs) (suc o) k x u q w =
+    let r = had_value fs os xs o k x u q w in record { state = r.state; is_state = r.is_state; leaf = r.leaf }
+
+pub kept_matches : (p : PlainProgram) (e : Env) (inputs : Inputs) (slots : ℕ) (base : Temp → ℕ) (place : ℕ → ℕ) (aside : ℕ → Bool)
+    (was : ℕ → ℕ) (need : Need) (fs : List ℕ) (temps : Temps) (s : State) (v : View)
+    → Matches p e inputs slots base place aside was need (machine temps s) v
+    → Matches p e inputs slots base place aside was need (machine temps (kept_for p fs s)) v
+kept_matches p e inputs slots base place aside was need fs temps s v z = record {
+  temps_hold = z.temps_hold;
+  leaves_hold = λ l x u q w. let r = had_value fs p.objects s.objects l.object l.number x u q w in
+      z.leaves_hold l r.state u r.is_state r.leaf;
+  tables_hold = λ l x u q w. let r = had_value fs p.objects s.objects l.object l.number x u q w in
+      z.tables_hold l r.state u r.is_state r.leaf;
+  kept = z.kept;
+  bytes = z.bytes;
+  left = z.left;
+  seen = z.seen;
+  safe = z.safe;
+}
 
 module _ (p : PlainProgram) (e : Env) (slots : ℕ) (home : Temp → Location) (base : Temp → ℕ) (place : ℕ → ℕ)
     (y : Setting p e slots home base place) where

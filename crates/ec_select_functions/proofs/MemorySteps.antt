@@ -34,7 +34,7 @@ use Rattle.ec_core.specs.Valid.{IsAddressable}
 use Rattle.ec_ir.specs.declared.operations.Temp.{Temp}
 use Rattle.ec_ir.specs.Costs.{op_steps}
 use Rattle.ec_ir.specs.Meaning.{Mach, machine, object_access}
-use Rattle.ec_ir.specs.Meaning.{put, Frame as Call}
+use Rattle.ec_ir.specs.Meaning.{put, put_named, before_store, kept_for, active, Frame as Call}
 use Rattle.ec_ir.specs.Operations.{PlainIr, address, field, load_at, store_at, load_object, store_object}
 use Rattle.ec_ir.specs.Operations.{PlainIrFunction}
 use Rattle.ec_ir.specs.Temporaries.{Content, points, value_of_type, held, with_temp, with_content}
@@ -55,7 +55,7 @@ use Rattle.ec_select_functions.proofs.Follow.{Follows, after}
 use Rattle.ec_select_functions.proofs.Going.{passes as passes_of, items as items_of, code_of as code_from, R as run_of}
 use Rattle.ec_select_functions.proofs.Going.{Rest as ShownOf, begun as begun_of}
 use Rattle.ec_select_functions.proofs.Match.{wanted_most, whole, at_width, least_here, least_other, without_other}
-use Rattle.ec_select_functions.proofs.Match.{written}
+use Rattle.ec_select_functions.proofs.Match.{written, kept_matches}
 use Rattle.ec_select_functions.proofs.Match.{kept_left, held_row}
 use Rattle.ec_select_functions.proofs.Moves.{narrower, stands_less, copy_straight, copy_steps}
 use Rattle.ec_select_functions.proofs.Pointed.{IsAddressedBy, addressable_kind, typed_leaf, room_of}
@@ -408,7 +408,8 @@ module _ (p : PlainProgram) (functions : List PlainIrFunction) (e : Env) (slots 
           omega (arith, x, z)
 
       loaded : (q : ObjectPointer) → HoldsContent p place v.at (base ptr) ptr.bytes ptr.bytes (points q)
-          → (r : Reaches p e slots home base place y space to.bytes q s) (u : Value) → leaf_of r.state r.leaf.number ≡ Some u
+          → (r : Reaches p e slots home base place y space to.bytes q s) (u : Value)
+          → leaf_of r.state r.leaf.number ≡ Some u
           → G (suc n) m.state.work pc v
           (R n rest (machine (with_temp to u m.temps) (after_read p e slots home base place y r.bank r.leaf space u s)))
       loaded q k r u j =
@@ -439,7 +440,8 @@ module _ (p : PlainProgram) (functions : List PlainIrFunction) (e : Env) (slots 
       from_pointer p e slots home base place y ptr m.temps s _ (suc n) m.state.work pc v
       (from_no_access p e slots home base place y from m.temps s (store_on n rest m) (suc n) m.state.work pc v)
       (λ q j. let k = pointer_held q j in
-      from_access p e slots home base place y space from.bytes q s (λ a. next (put p a from m.temps s) (store_on n rest m))
+      from_access p e slots home base place y space from.bytes q s (λ a. next (put p a from m.temps s) (store_on n
+      rest m))
       (suc n) m.state.work pc v k.1.pointed
       (from_no_access p e slots home base place y from m.temps s (store_on n rest m) (suc n) m.state.work pc v)
       (λ r. from_put p e slots home base place y r.bank r.leaf space r.state from m.temps s (store_on n rest m) (suc n) m.state.work pc v
@@ -476,7 +478,8 @@ module _ (p : PlainProgram) (functions : List PlainIrFunction) (e : Env) (slots 
           omega (arith, x, z)
 
       stored : (q : ObjectPointer) → HoldsContent p place v.at (base ptr) ptr.bytes ptr.bytes (points q)
-          → (r : Reaches p e slots home base place y space from.bytes q s) (l : ObjectLeaf p DataBank) (c : Content) (u : Value)
+          → (r : Reaches p e slots home base place y space from.bytes q s) (l : ObjectLeaf p DataBank) (c : Content)
+          (u : Value)
           → l.object ≡ r.leaf.object → l.at ≡ r.leaf.at → l.bytes ≡ r.leaf.bytes → l.declared ≡ r.leaf.declared
           → m.temps from.at ≡ Some (record { bytes = from.bytes; content = c }) → value_of_type p l.ty c ≡ Ok u
           → G (suc n) m.state.work pc v (R n rest (machine m.temps (after_write p e slots home base place y l space u s)))
@@ -596,11 +599,12 @@ module _ (p : PlainProgram) (functions : List PlainIrFunction) (e : Env) (slots 
           (from_read p e slots home base place y has.declared.home l space x s (load_on n rest t m) (suc n) m.state.work pc v
           (λ u j. at_value has.declared.home refl x u q j))
 
-  pub store_follows : (o offset : ℕ) (t : Temp) (rest : List PlainIr) (n pc : ℕ) (m : Mach) (v : View) → HasHome slots t
+  -- where what is kept has been settled
+  store_named : (o offset : ℕ) (t : Temp) (rest : List PlainIr) (n pc : ℕ) (m : Mach) (v : View) → HasHome slots t
       → HasScalarAt p o offset t.bytes → HasAt e (items (store_object o offset t ∷ rest)) pc end
       → M (needs at (store_object o offset t ∷ rest)) m v → Rest n rest
-      → G (suc n) m.state.work pc v (R (suc n) (store_object o offset t ∷ rest) m)
-  store_follows o offset t rest n pc m v it has stands h f = at_object (slice_get m.state.objects o) refl
+      → G (suc n) m.state.work pc v (next (put_named p o offset t m.temps (begun (store_object o offset t) m)) (store_on n rest m))
+  store_named o offset t rest n pc m v it has stands h f = at_object (slice_get m.state.objects o) refl
     where
       i : PlainIr
       i = store_object o offset t
@@ -654,3 +658,25 @@ module _ (p : PlainProgram) (functions : List PlainIrFunction) (e : Env) (slots 
           subst (λ z. G (suc n) m.state.work pc v (next (put p z t m.temps s) (store_on n rest m))) (sym a)
           (from_put p e slots home base place y bank l space x t m.temps s (store_on n rest m) (suc n) m.state.work pc v
           (λ k c u object begins size declared held typed. stored k c u object begins size held typed))
+
+  pub store_follows : (o offset : ℕ) (t : Temp) (rest : List PlainIr) (n pc : ℕ) (m : Mach) (v : View) → HasHome slots t
+      → HasScalarAt p o offset t.bytes → HasAt e (items (store_object o offset t ∷ rest)) pc end
+      → M (needs at (store_object o offset t ∷ rest)) m v → Rest n rest
+      → G (suc n) m.state.work pc v (R (suc n) (store_object o offset t ∷ rest) m)
+  store_follows o offset t rest n pc m v it has stands h f = by_storage (option_map (λ (d : PlainObject). d.storage) (slice_get p.objects
+      o))
+    where
+      fs : List ℕ
+      fs = active p.main stack
+
+      by_storage : (z : Option PlainStorage) → G (suc n) m.state.work pc v
+          (next (put_named p o offset t m.temps (before_store p fs z (begun (store_object o offset t) m))) (store_on n rest m))
+      by_storage None = store_named o offset t rest n pc m v it has stands h f
+      by_storage (Some (static inits)) = store_named o offset t rest n pc m v it has stands h f
+      by_storage (Some (local g)) = store_named o offset t rest n pc m v it has stands h f
+      by_storage (Some (param g)) =
+          store_named o offset t rest n pc (machine m.temps (kept_for p (g ∷ fs) m.state)) v it has stands
+          (kept_matches p e y.inputs slots base place y.aside y.was (needs at (store_object o offset t ∷ rest)) (g ∷ fs) m.temps m.state v
+          h)
+          f
+      by_storage (Some (register r)) = store_named o offset t rest n pc m v it has stands h f

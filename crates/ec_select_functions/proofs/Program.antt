@@ -1,6 +1,6 @@
 -- Programs of several functions: the machine reaches all that the operations show, and stays within it.
 use Rattle.std.proofs.Common.{◌≡◌, ℕ, zero, suc, ◌+◌, ◌-◌, ◌*◌, ◌%◌, ◌<◌, ◌≤◌, ⊎_elim, Bool, true, false, ◌||◌, List}
-use Rattle.std.proofs.Common.{[]}
+use Rattle.std.proofs.Common.{[], ◌∷◌}
 use Rattle.std.proofs.Common.{refl, sym, ap, ◌∙◌, subst, arith, Option, Some, None, ℤ, eqb-true}
 use Rattle.std.specs.Prelude.{◌==◌, nat_le, if◌then◌else◌, slice_get, slice_index}
 use Rattle.std.specs.Int.{cast_signed, w16}
@@ -32,9 +32,9 @@ use Rattle.ec_core.specs.Meaning.{behaviour_of, state_of, number_of}
 use Rattle.ec_core.specs.Plain.{PlainProgram}
 use Rattle.ec_core.specs.State.{Inputs, Event, State, Outcome, got, more, undefined}
 use Rattle.ec_core.specs.TypeLaws.{LeavesFillTheirTypes}
-use Rattle.ec_ir.specs.Meaning.{start, enter, exec, leave, run as ir_run}
+use Rattle.ec_ir.specs.Meaning.{start, start_state, enter, exec, leave, run as ir_run}
 use Rattle.ec_ir.specs.Operations.{PlainIrFunction, PlainIrProgram, data_of}
-use Rattle.ec_ir.specs.Temporaries.{Content, bits, points, Held}
+use Rattle.ec_ir.specs.Temporaries.{Content, bits, points, Held, no_temps}
 use Rattle.ec_ir.specs.Valid.{ValidIr}
 use Rattle.ec_select_operations.specs.Code.{ops_code}
 use Rattle.ec_select_operations.specs.Homes.{home, result_register}
@@ -51,6 +51,7 @@ use Rattle.ec_select_functions.proofs.Active.{base_of, leaf_at, leaf_is, setting
 use Rattle.ec_select_functions.proofs.Active.{stack_leaf}
 use Rattle.ec_select_functions.proofs.Called.{Statement, call_follows}
 use Rattle.ec_select_functions.proofs.Follow.{Follows, stay}
+use Rattle.ec_select_functions.proofs.Match.{kept_matches}
 use Rattle.ec_select_functions.proofs.Numbers.{signed_word}
 use Rattle.ec_select_functions.proofs.Returned.{HandsOn, Left, Returns, go_on, pointer_is, return_follows}
 use Rattle.ec_select_functions.proofs.Safe.{safe_earlier}
@@ -212,7 +213,8 @@ module _ (laws : CodeLaws) (p : PlainIrProgram) (place entry_of : ℕ → ℕ) (
     stops = ap (λ n. fetch e (n % 65536)) same_back ∙ enters.stop
 
     bottom : (result : Option Held) → HandsOn p e place entry_of w p.main result u
-        → Follows program_data place e j spent (back_at u % 65536) (popped u) (leave [] result (go_on p e place entry_of w j) st)
+        → Follows program_data place e j spent (back_at u % 65536) (popped u) (leave program_data [] result (go_on p e place entry_of w j)
+        st)
     bottom None hands =
         λ ports.
         let word : pair u.at 24 ≡ 0 = hands refl in
@@ -234,7 +236,7 @@ module _ (laws : CodeLaws) (p : PlainIrProgram) (place entry_of : ℕ → ℕ) (
 
         by_content : (x : Content) → HoldsContent program_data place u.at (result_register c.bytes) c.bytes c.bytes x
             → Follows program_data place e j spent (back_at u % 65536) (popped u)
-            (leave [] (Some (record { bytes = c.bytes; content = x })) (go_on p e place entry_of w j) st)
+            (leave program_data [] (Some (record { bytes = c.bytes; content = x })) (go_on p e place entry_of w j) st)
         by_content (points q) content = tt
         by_content (bits number) content =
             λ ports.
@@ -261,16 +263,18 @@ module _ (laws : CodeLaws) (p : PlainIrProgram) (place entry_of : ℕ → ℕ) (
 
   begun : (g : PlainIrFunction) → Matches program_data e inputs g.slots (base_of p e place entry_of w p.main) place (first_aside (sp v))
       v.at (needs (selected.made p.main).labels g.code) (start program_data) v
-  begun g = record {
-    temps_hold = λ t h it q z. absurd cc;
-    leaves_hold = begin.leaves;
-    tables_hold = selected.tables.values;
-    kept = λ k q. refl;
-    bytes = begin.bytes;
-    left = feeds;
-    seen = begin.seen;
-    safe = begin.safe;
-  }
+  begun g = kept_matches program_data e inputs g.slots (base_of p e place entry_of w p.main) place (first_aside (sp v)) v.at
+      (needs (selected.made p.main).labels g.code) (p.main ∷ []) no_temps (start_state program_data) v
+      (record {
+        temps_hold = λ t h it q z. absurd cc;
+        leaves_hold = begin.leaves;
+        tables_hold = selected.tables.values;
+        kept = λ k q. refl;
+        bytes = begin.bytes;
+        left = feeds;
+        seen = begin.seen;
+        safe = begin.safe;
+      })
 
   entered : (n : ℕ) → Follows program_data place e n 0 s.pc v (ir_run p inputs n)
   entered n = by_main (slice_get p.functions p.main) refl

@@ -1,7 +1,7 @@
 -- Accesses through pointers: what the code brings, and what comes of the operation.
 use Rattle.std.proofs.Common.{◌≡◌, ℕ, zero, suc, ◌+◌, ◌*◌, ◌<◌, ◌≤◌, Bool, true, false, Ok, Err}
 use Rattle.std.proofs.Common.{⊎_elim, refl, sym, ap, ◌∙◌, subst, arith, Some, None, Option}
-use Rattle.std.specs.Prelude.{Result, ◌==◌, if◌then◌else◌, slice_get, option_map, option_and_then}
+use Rattle.std.specs.Prelude.{Result, ◌==◌, ◌&&◌, if◌then◌else◌, slice_get, option_map, option_and_then}
 use Rattle.std.proofs.lemmas.Bool.{cases_lt, eqb-true, and_parts}
 use Rattle.ec_space.specs.declared.space.Bank.{Bank}
 use Rattle.ec_space.specs.declared.space.Bank.TheVariants.{Flash as FlashBank, Data as DataBank}
@@ -279,13 +279,15 @@ module _ (p : PlainProgram) (e : Env) (slots : ℕ) (home : Temp → Location) (
     pub addressable : IsAddressable leaf.declared.storage
     pub is_state : slice_get s.objects leaf.object ≡ Some state
     pub within : holds space bank ≡ true
+    pub live : state.live ≡ true
 
   -- an access, where the space allows one of so many bytes
   abbrev allowed : SpaceId → (bytes : ℕ) → Access → Option Access
   allowed space bytes a = if is_access_of p space bytes a then Some a else None
 
   -- none is given, or that of a leaf which the pointer reaches
-  pub from_access : (space : SpaceId) (bytes : ℕ) (q : ObjectPointer) (s : State) (go : Option Access → Outcome Value) (n w pc : ℕ)
+  pub from_access : (space : SpaceId) (bytes : ℕ) (q : ObjectPointer) (s : State) (go : Option Access
+      → Outcome Value) (n w pc : ℕ)
       (v : View)
       → IsPointed p q → F n w pc v (go None)
       → ((r : Reaches space bytes q s) → F n w pc v (go (Some (access_to r.bank r.leaf space r.state))))
@@ -312,7 +314,9 @@ module _ (p : PlainProgram) (e : Env) (slots : ℕ) (home : Temp → Location) (
           by_test : (b : Bool) → is_access_of p space bytes a ≡ b → F n w pc v (go (if b then Some a else None))
           by_test true t =
               let f = leaf_found (leaves_of_type p.structs d.ty) q.offset number j in
-              let parts = and_parts (holds space d.home) (scalar_size (accessed_type p (Some a)) == bytes) t in
+              let both =
+              and_parts x.live (holds space d.home && scalar_size (accessed_type p (Some a)) == bytes) t in
+              let parts = and_parts (holds space d.home) (scalar_size (accessed_type p (Some a)) == bytes) both.1 in
               let ty : accessed_type p (Some a) ≡ f.leaf.ty = rw (f.is) refl in
               let size : scalar_size f.leaf.ty ≡ bytes =
               ap scalar_size (sym ty) ∙ eqb-true (scalar_size (accessed_type p (Some a))) bytes parts.1 in
@@ -337,6 +341,7 @@ module _ (p : PlainProgram) (e : Env) (slots : ℕ) (home : Temp → Location) (
                 addressable = k.addressable;
                 is_state = i;
                 within = parts.0;
+                live = both.0;
               })
           by_test false t = none
 

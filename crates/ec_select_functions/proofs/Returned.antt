@@ -73,7 +73,7 @@ module _ (p : PlainIrProgram) (e : Env) (place entry_of : ℕ → ℕ) (w : Worl
   abbrev pub Returns : (f : ℕ) (g : PlainIrFunction) (aside : ℕ → Bool) (was : ℕ → ℕ) (stack : List Call) (n : ℕ) → Type 0
   Returns f g aside was stack n =
       (result : Option Held) (s : State) (v : View) (spent : ℕ) → spent + 64 ≤ s.work → HandsOn f result v
-      → Left g f aside was s v → Follows D place e n spent (back_at v % 65536) (popped v) (leave stack result (go_on n) s)
+      → Left g f aside was s v → Follows D place e n spent (back_at v % 65536) (popped v) (leave D stack result (go_on n) s)
 
   module _ (f : ℕ) (g : PlainIrFunction) (s : ℕ) (aside : ℕ → Bool) (was : ℕ → ℕ) (a : Active p e place entry_of w f g s aside was)
       (stack : List Call) where
@@ -148,7 +148,7 @@ module _ (p : PlainIrProgram) (e : Env) (place entry_of : ℕ → ℕ) (w : Worl
         → HasAt e ((code ++ Plain Ret ∷ []) ++ rest) pc end → all_straight code ≡ true → code_steps code ≤ 16
         → spent + c ≤ st.work → 81 ≤ c → HandsOn f result (block e code v) → Left g f aside was st (block e code v)
         → sp (block e code v) ≡ s → Returns f g aside was stack n
-        → Follows D place e (suc n) spent pc v (leave stack result (go_on n) st)
+        → Follows D place e (suc n) spent pc v (leave D stack result (go_on n) st)
     handed n pc end code rest result spent c st v stands straight few most big hands left pointer returns =
         let s0 = has_parts e (code ++ Plain Ret ∷ []) rest pc end stands in
         let s1 = has_parts e code (Plain Ret ∷ []) pc s0.0 s0.1 in
@@ -157,7 +157,7 @@ module _ (p : PlainIrProgram) (e : Env) (place entry_of : ℕ → ℕ) (w : Worl
         let second = back_goes s1.0 s0.0 v1 s1.2 pointer in
         let goes = goes_on_to e (code_steps code) 1 pc s1.0 (back_at v1 % 65536) v v1 (popped v1) first second in
         after D place e (code_steps code + 1) n (suc n) spent (spent + (code_steps code + 1)) pc (back_at v1 % 65536) v (popped v1)
-        (leave stack result (go_on n) st) goes (omega arith) (omega arith)
+        (leave D stack result (go_on n) st) goes (omega arith) (omega arith)
         (returns result st v1 (spent + (code_steps code + 1)) (omega arith) hands left)
 
     -- a place of a result
@@ -177,7 +177,7 @@ module _ (p : PlainIrProgram) (e : Env) (place entry_of : ℕ → ℕ) (w : Worl
         left_over = ops_code D hs (linkage_of p entry_of f slots (w.selected.made f)) labels None rest
 
         by_flag : (b : Bool) → (f == p.main) ≡ b → HasAt e (return_code hs b None ++ left_over) pc x.end
-            → Follows D place e (suc n) m.state.work pc v (leave stack None (go_on n) (worked (op_steps (return_from None)) m.state))
+            → Follows D place e (suc n) m.state.work pc v (leave D stack None (go_on n) (worked (op_steps (return_from None)) m.state))
         by_flag true q stands =
             let st = worked (op_steps (return_from None)) m.state in
             let code = constant_code (InRegisters 24) 0 2 in
@@ -230,7 +230,7 @@ module _ (p : PlainIrProgram) (e : Env) (place entry_of : ℕ → ℕ) (w : Worl
         st = worked (op_steps (return_from (Some t))) m.state
 
         leaves : Option Held → State → Outcome Value
-        leaves result u = leave stack result (go_on n) u
+        leaves result u = leave D stack result (go_on n) u
 
         it : HasHome slots t
         it = r.covered.0.0
