@@ -3,6 +3,7 @@
 Calls count from where the program begins: what every program of the kit begins with asks that SIGPIPE be ignored (rt_sigaction), and what
 loads it makes no such call.
 """
+import contextlib
 import ctypes
 import dataclasses
 import errno
@@ -13,8 +14,8 @@ import tempfile
 # Numbers of calls (asm/unistd_64.h), of requests and options (linux/ptrace.h).
 READ, WRITE, OPEN, MMAP, BRK, RT_SIGACTION, MREMAP, OPENAT = 0, 1, 2, 9, 12, 13, 25, 257
 FILES, MEMORY = {READ, WRITE, OPEN, OPENAT}, {MMAP, BRK, MREMAP}
-TRACEME, GETREGS, SETREGS, SYSCALL, SETOPTIONS = 0, 12, 13, 24, 0x4200
-TRACESYSGOOD, EXITKILL = 1, 0x100000
+TRACEME, CONT, GETREGS, SETREGS, SYSCALL, SETOPTIONS = 0, 7, 12, 13, 24, 0x4200
+TRACESYSGOOD, TRACEEXIT, EXITKILL = 1, 0x40, 0x100000
 STREAMS = {0: "stdin", 1: "stdout", 2: "stderr"}
 # A number that no call has.
 NO_CALL = 2**64 - 1
@@ -159,10 +160,11 @@ class Tracer:
                 self.leave()
 
 
-def begin(command, folder, streams):
-    """Becomes the command in a folder, and stops at its first instruction; a child process calls this."""
+def begin(command, folder, streams, limit=lambda: None):
+    """Becomes the command in a folder, under limits, and stops at its first instruction; a child process calls this."""
     try:
         os.chdir(folder)
+        limit()
         for number, stream in enumerate(streams):
             os.dup2(stream, number)
         ptrace(TRACEME, 0)
@@ -171,20 +173,59 @@ def begin(command, folder, streams):
         os._exit(errno.ENOEXEC)
 
 
-def traced(command, folder, kinds, fault=None):
-    """Runs a command in a folder with no input, of whose calls of some kinds a fault meets those that it says."""
-    with open(os.devnull, "rb") as empty, tempfile.TemporaryFile() as out, tempfile.TemporaryFile() as err:
+@contextlib.contextmanager
+def stopped(command, folder, options, limit=lambda: None, given=os.devnull):
+    """The number of a process that is stopped at the first instruction of a command with an input, and what it will have written."""
+    with open(given, "rb") as read, tempfile.TemporaryFile() as out, tempfile.TemporaryFile() as err:
         pid = os.fork()
         if pid == 0:
-            begin(command, folder, [empty.fileno(), out.fileno(), err.fileno()])
-        _, stopped = os.waitpid(pid, 0)
-        if not os.WIFSTOPPED(stopped):
+            begin(command, folder, [read.fileno(), out.fileno(), err.fileno()], limit)
+        _, status = os.waitpid(pid, 0)
+        if not os.WIFSTOPPED(status):
             raise OSError(f"{command[0]} cannot be run, or a process may not trace another one here (ptrace)")
-        ptrace(SETOPTIONS, pid, TRACESYSGOOD | EXITKILL)
+        ptrace(SETOPTIONS, pid, options | EXITKILL)
+        yield pid, lambda: [os.pread(stream.fileno(), 1 << 30, 0) for stream in (out, err)]
+
+
+def traced(command, folder, kinds, fault=None):
+    """Runs a command in a folder with no input, of whose calls of some kinds a fault meets those that it says."""
+    with stopped(command, folder, TRACESYSGOOD) as (pid, written):
         tracer = Tracer(pid, kinds, fault)
         status = tracer.follow()
         if not tracer.begun:
             raise OSError(f"no call of {command[0]} shows where it begins")
-        out.seek(0)
-        err.seek(0)
-        return Done(status, out.read(), err.read(), tracer.calls)
+        return Done(status, *written(), tracer.calls)
+
+
+@dataclasses.dataclass
+class Measured:
+    """The status of a run, minus the number of a signal that ended it, what it wrote, its processor seconds, and the most kB of memory and
+    of stack that it had."""
+
+    status: int
+    out: bytes
+    err: bytes
+    seconds: float
+    peak: int
+    stack: int
+
+
+def kilobytes(pid, name):
+    """A number of /proc/PID/status."""
+    with open(f"/proc/{pid}/status") as lines:
+        return next(int(line.split()[1]) for line in lines if line.startswith(name + ":"))
+
+
+def measured(command, folder, limit, given):
+    """Runs a command in a folder with the file `given` as its input, under limits that `limit` sets, and measures it where it ends."""
+    with stopped(command, folder, TRACEEXIT, limit, given) as (pid, written):
+        passed_on, peak, stack = None, 0, 0
+        while True:
+            ptrace(CONT, pid, passed_on)
+            _, status, used = os.wait4(pid, 0)
+            if not os.WIFSTOPPED(status):
+                return Measured(os.waitstatus_to_exitcode(status), *written(), used.ru_utime + used.ru_stime, peak, stack)
+            passed_on = os.WSTOPSIG(status)
+            if passed_on == signal.SIGTRAP:
+                # The memory of the process is still there.
+                passed_on, peak, stack = None, kilobytes(pid, "VmHWM"), kilobytes(pid, "VmStk")
