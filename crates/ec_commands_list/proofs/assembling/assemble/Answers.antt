@@ -23,8 +23,8 @@ returns-in-Ok-write_file-clause-calm g c = λ room calm fits.
     (fits c.in-Ok.image.bytes.items c.in-Ok.image.written.items c.in-Ok.ensures.made) in
     (c.write_file.ensures.read_faults ∙ read.0, written ∙ c.make_image.ensures.write_faults)
 
-pub returns-in-Err-write_file-clause-stopped : goal.returns-in-Err-write_file-clause-stopped
-returns-in-Err-write_file-clause-stopped g c = record {
+pub returns-clause-stopped : goal.returns-clause-stopped
+returns-clause-stopped g c = record {
   cause = (
     omega (arith, c.in-Err-write_file.ensures.cause.failed),
     has_image c.args.words.now.items c.args.core _ c.in-Ok.image.bytes.items c.in-Ok.image.written.items c.in-Ok.ensures.made,
@@ -33,8 +33,8 @@ returns-in-Err-write_file-clause-stopped g c = record {
       (rw c.word_at.ensures at c.in-Err-write_file.ensures.written);
 }
 
-pub returns-in-Err-write_file-clause-calm : goal.returns-in-Err-write_file-clause-calm
-returns-in-Err-write_file-clause-calm g c = λ room calm fits.
+pub returns-clause-calm : goal.returns-clause-calm
+returns-clause-calm g c = λ room calm fits.
     let read = c.in-Ok.ensures.calm (assembled_name c.args.words.now.items) room calm in
     let written =
     c.write_file.ensures.calm _ room

@@ -1,4 +1,5 @@
 use Rattle.std.proofs.Common.{refl, inr}
+use Rattle.ec_list.specs.Lists.{listing}
 use Rattle.ec_commands_list.proofs.Printed.{listed, cut}
 use Rattle.ec_commands_list.proofs.listing.list.Goals as goal
 
@@ -18,7 +19,7 @@ returns-clause-stopped g c =
           made.0,
           (
             c.in-Err-write_all.field-0.0,
-            cut _ _ c.in-Err-write_all.field-0.0 c.in-Ok.text.items _ made.1.0
+            cut _ _ c.in-Err-write_all.field-0.0 c.in-Ok.text.items (listing made.0.bytes made.0.written) made.1.0
                 (rw c.as_slice.ensures at c.in-Err-write_all.ensures.written.1),
           ),
         ),
