@@ -45,7 +45,8 @@ list_not words core old new out (inr h) = let e = h.0 in cc
 
 pub list_no_usage : (words : Words) (core : Core) (old new : StoreView) (out : SinkCall) (stop : CommandError)
     → ListStops words core old new out stop → status_of stop ≡ 2 → ⊥
-list_no_usage words core old new out stop h e = list_not words core old new out (subst (ListStops words core old new out) (two_is_usage stop e) h)
+list_no_usage words core old new out stop h e =
+    list_not words core old new out (subst (ListStops words core old new out) (two_is_usage stop e) h)
 
 pub assemble_no_usage : (words : Words) (core : Core) (old new : StoreView) (stop : CommandError) → AssembleStops words core old new stop
     → status_of stop ≡ 2 → ⊥

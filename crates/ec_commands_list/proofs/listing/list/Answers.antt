@@ -19,7 +19,8 @@ returns-clause-stopped g c =
           made.0,
           (
             c.in-Err-write_all.field-0.0,
-            cut _ _ c.in-Err-write_all.field-0.0 c.in-Ok.text.items (listing made.0.bytes made.0.written) made.1.0
+            cut (g.O.Sink.written c.args.out.now) (g.O.Sink.written c.write_all.new.sink) c.in-Err-write_all.field-0.0
+                c.in-Ok.text.items (listing made.0.bytes made.0.written) made.1.0
                 (rw c.as_slice.ensures at c.in-Err-write_all.ensures.written.1),
           ),
         ),

@@ -8,7 +8,8 @@ use Rattle.ec_commands_compile.specs.Stops as compiling
 use Rattle.ec_commands.proofs.RunComplete.{by_status, left_of}
 use Rattle.ec_commands_list.proofs.Usage.{list_no_usage, assemble_no_usage}
 use Rattle.ec_driver.specs.Commands.{prints, asks, uses_files, sources_of}
-use Rattle.ec_driver.proofs.Commands.{does_at, answer_of, err_map, no_two_of, no_two, build_no_usage, exec_no_usage, gen_no_usage, told_ten, quiet_of}
+use Rattle.ec_driver.proofs.Commands.{does_at, answer_of, err_map, no_two_of, no_two, build_no_usage, exec_no_usage, gen_no_usage}
+use Rattle.ec_driver.proofs.Commands.{told_ten, quiet_of}
 use Rattle.ec_driver.proofs.top.tool.Goals as goal
 
 -- ---- build
