@@ -1,7 +1,7 @@
 -- What the items of an operation's code pass.
 use Rattle.std.proofs.Common.{◌≡◌, ◌⊎◌, ℕ, suc, ◌+◌, ◌-◌, ◌*◌, ◌%◌, ◌<◌, ◌≤◌, ◌==◌, Bool, true, false, not, List, []}
 use Rattle.std.proofs.Common.{◌∷◌, ◌++◌}
-use Rattle.std.proofs.Common.{refl, sym, ap, subst, arith, leb-true, eqb-true, inl, inr}
+use Rattle.std.proofs.Common.{refl, sym, ap, ◌∙◌, subst, arith, leb-true, eqb-true, inl, inr}
 use Rattle.std.specs.Prelude.{⊤, min, nat_le, nat_lt, ◌&&◌, ◌||◌, if◌then◌else◌, Option, Some, None, option_map}
 use Rattle.std.specs.Prelude.{slice_get}
 use Rattle.std.specs.List.{list_all}
@@ -20,7 +20,7 @@ use Rattle.ec_core.specs.declared.expressions.UnOp.{UnOp}
 use Rattle.ec_core.specs.declared.expressions.UnOp.TheVariants.{Minus, Invert}
 use Rattle.ec_core.specs.Accesses.{element_size}
 use Rattle.ec_core.specs.Layout.{scalar_size, size_of_type}
-use Rattle.ec_core.specs.Plain.{PlainType, PlainObject, PlainProgram}
+use Rattle.ec_core.specs.Plain.{PlainType, integer, PlainObject, PlainProgram}
 use Rattle.ec_fx.specs.declared.numbers.Mode.{Mode}
 use Rattle.ec_fxcode.specs.ClampLaws.{HasPlaces}
 use Rattle.ec_select_fixed.specs.Codes.{fixed_binary_code, fixed_unary_code, fixed_conversion_code}
@@ -61,12 +61,15 @@ use Rattle.ec_select_operations.specs.Code.{save_code}
 use Rattle.ec_select_operations.specs.Code.{restore_code, taken_code, call_code, result_code, return_code}
 use Rattle.ec_select_operations.specs.Code.{flag_code, operator_code, tested_code, kept_need, op_code, tells_next}
 use Rattle.ec_select_operations.specs.Code.{ops_code}
-use Rattle.ec_select_operations.specs.Code.{work_location, answer_location, by_kind, fixed_binary, fixed_unary}
+use Rattle.ec_select_operations.specs.Code.{work_location, answer_location, answer_code, by_kind, fixed_binary, fixed_unary}
+use Rattle.ec_select_operations.specs.Code.{is_on_integers, keeps_number}
 use Rattle.ec_select_operations.specs.Code.{fixed_conversion, addressed_code, load_code, banked_code, offset_code}
 use Rattle.ec_select_operations.specs.Code.{pointers_code, is_difference, pointer_binary, pointer_conversion}
 use Rattle.ec_select_functions.specs.Covered.{HasIndex, HasScalarAt, IsBinary, IsFixedBinary, IsFixedUnary}
 use Rattle.ec_select_functions.specs.Covered.{AreConverted, IsFixedConversion, IsPointerBinary, IsPointerConversion}
 use Rattle.ec_select_functions.specs.Covered.{IsUnary, IsResult, IsCovered, AreCovered}
+use Rattle.ec_select_functions.proofs.OnIntegers.{whole_type}
+use Rattle.ec_select_functions.proofs.OnWholes.{on_wholes}
 use Rattle.ec_select_operations.specs.Homes.{HasHome, depth, home, result_location}
 use Rattle.ec_select_operations.specs.Needs.{Need, wanted, wanted_result, needs, is_fixed}
 use Rattle.ec_select_operations.specs.Places.{object_location}
@@ -329,40 +332,71 @@ module _ (sizes : Sizes) where
     answer_places : (n : ℕ) → n ≤ 8 → HasPlaces sizes answer_location n
     answer_places n few i l = room.work (40 + i) (omega arith)
 
-    fixed_binary_fits : (op : BinOp) (ty aty bty : PlainType) (mode : Mode) (to a b : Temp) (n : ℕ)
+    fixed_binary_fits : (telling : Option Told) (op : BinOp) (ty aty bty : PlainType) (mode : Mode) (to a b : Temp) (n : ℕ)
         → IsFixedBinary k.slots op to a b ty aty bty → n ≤ to.bytes
-        → Fit sizes (fixed_binary op ty aty bty mode (home k.homes a) (home k.homes b) (home k.homes to) n)
-    fixed_binary_fits op ty aty bty mode to a b n h l =
-        let most = h.result.most in let e = h.result_bytes in
-        let code = fixed_binary_code op ty aty bty mode (home k.homes a) (home k.homes b) answer_location work_location in
-        answer_fits sizes room.work code (home k.homes to) n (omega arith)
-        (plain_fits sizes code
-        (laws.fixed.binaries sizes op ty aty bty mode (home k.homes a) (home k.homes b) answer_location work_location h.types
-        (places a (scalar_size aty) h.left h.left_bytes) (places b (scalar_size bty) h.right h.right_bytes)
-        (answer_places (scalar_size ty) (omega arith)) work_places))
-        (low_home to n h.result l)
+        → Fit sizes (fixed_binary telling op ty aty bty mode (home k.homes a) (home k.homes b) (home k.homes to) a.bytes n)
+    fixed_binary_fits telling op ty aty bty mode to a b n h l = by_code (is_on_integers (family_of op) mode ty aty bty) refl
+      where
+        code : List AsmItem
+        code = fixed_binary_code op ty aty bty mode (home k.homes a) (home k.homes b) answer_location work_location
+
+        by_code : (on : Bool) → is_on_integers (family_of op) mode ty aty bty ≡ on
+            → Fit sizes (if on then operator_code telling (family_of op) (is_signed aty) (is_signed bty) (home k.homes a)
+            (home k.homes b) (home k.homes to) a.bytes n else answer_code code (home k.homes to) n)
+        by_code true on =
+            let w = on_wholes k.slots op mode to a b ty aty bty h on in
+            operator_fits telling (family_of op) to a b w.result (whole_type w.kind) (whole_type w.kind) (is_signed aty)
+            (is_signed bty) n w.binary l
+        by_code false on =
+            let most = h.result.most in let e = h.result_bytes in
+            answer_fits sizes room.work code (home k.homes to) n (omega arith)
+            (plain_fits sizes code
+            (laws.fixed.binaries sizes op ty aty bty mode (home k.homes a) (home k.homes b) answer_location work_location h.types
+            (places a (scalar_size aty) h.left h.left_bytes) (places b (scalar_size bty) h.right h.right_bytes)
+            (answer_places (scalar_size ty) (omega arith)) work_places))
+            (low_home to n h.result l)
 
     fixed_unary_fits : (op : UnOp) (ty : PlainType) (mode : Mode) (to a : Temp) (n : ℕ) → IsFixedUnary k.slots op to a ty
         → n ≤ to.bytes → Fit sizes (fixed_unary op ty mode (home k.homes a) (home k.homes to) n)
-    fixed_unary_fits op ty mode to a n h l =
-        let most = h.result.most in let e = h.result_bytes in
-        let code = fixed_unary_code op ty mode (home k.homes a) answer_location work_location in
-        answer_fits sizes room.work code (home k.homes to) n (omega arith)
-        (plain_fits sizes code
-        (laws.fixed.unaries sizes op ty mode (home k.homes a) answer_location work_location h.types
-        (places a (scalar_size ty) h.operand h.operand_bytes) (answer_places (scalar_size ty) (omega arith)) work_places))
-        (low_home to n h.result l)
+    fixed_unary_fits op ty mode to a n h l = by_mode mode.saturate
+      where
+        code : List AsmItem
+        code = fixed_unary_code op ty mode (home k.homes a) answer_location work_location
+
+        by_mode : (saturates : Bool)
+            → Fit sizes (if saturates then answer_code code (home k.homes to) n else unary_code op (home k.homes a) (home k.homes to) n)
+        by_mode true =
+            let most = h.result.most in let e = h.result_bytes in
+            answer_fits sizes room.work code (home k.homes to) n (omega arith)
+            (plain_fits sizes code
+            (laws.fixed.unaries sizes op ty mode (home k.homes a) answer_location work_location h.types
+            (places a (scalar_size ty) h.operand h.operand_bytes) (answer_places (scalar_size ty) (omega arith)) work_places))
+            (low_home to n h.result l)
+        by_mode false =
+            let same : a.bytes ≡ to.bytes = h.operand_bytes ∙ sym h.result_bytes in
+            unary_fits op to a (integer false to.bytes) n
+            (record { signed = false; result_type = refl; result = h.result; operand = h.operand; same_bytes = same }) l
 
     fixed_conversion_fits : (ty aty : PlainType) (mode : Mode) (to a : Temp) (n : ℕ) → IsFixedConversion k.slots to a ty aty
-        → n ≤ to.bytes → Fit sizes (fixed_conversion ty aty mode (home k.homes a) (home k.homes to) n)
-    fixed_conversion_fits ty aty mode to a n h l =
-        let most = h.result.most in let e = h.result_bytes in
-        let code = fixed_conversion_code ty aty mode (home k.homes a) answer_location work_location in
-        answer_fits sizes room.work code (home k.homes to) n (omega arith)
-        (plain_fits sizes code
-        (laws.fixed.conversions sizes ty aty mode (home k.homes a) answer_location work_location h.types
-        (places a (scalar_size aty) h.from h.from_bytes) (answer_places (scalar_size ty) (omega arith)) work_places))
-        (low_home to n h.result l)
+        → n ≤ to.bytes → Fit sizes (fixed_conversion ty aty mode (home k.homes a) (home k.homes to) a.bytes n)
+    fixed_conversion_fits ty aty mode to a n h l = by_number (keeps_number ty aty mode)
+      where
+        code : List AsmItem
+        code = fixed_conversion_code ty aty mode (home k.homes a) answer_location work_location
+
+        by_number : (keeps : Bool)
+            → Fit sizes (if keeps then conversion_code (is_signed aty) (home k.homes a) (home k.homes to) a.bytes n
+            else answer_code code (home k.homes to) n)
+        by_number true =
+            convert_fits (is_signed aty) (home k.homes a) (home k.homes to) a.bytes n h.from.some (at_home a h.from)
+            (low_home to n h.result l)
+        by_number false =
+            let most = h.result.most in let e = h.result_bytes in
+            answer_fits sizes room.work code (home k.homes to) n (omega arith)
+            (plain_fits sizes code
+            (laws.fixed.conversions sizes ty aty mode (home k.homes a) answer_location work_location h.types
+            (places a (scalar_size aty) h.from h.from_bytes) (answer_places (scalar_size ty) (omega arith)) work_places))
+            (low_home to n h.result l)
 
     -- ---- operations on pointers
 
@@ -459,14 +493,14 @@ module _ (sizes : Sizes) where
         → IsBinary (family_of op) k.slots to a b ty aty bty
         ⊎ (IsFixedBinary k.slots op to a b ty aty bty ⊎ IsPointerBinary p k.slots op to a b ty aty bty) → n ≤ to.bytes
         → Fit sizes (by_kind (is_fixed aty || is_fixed bty)
-        (fixed_binary op ty aty bty mode (home k.homes a) (home k.homes b) (home k.homes to) n)
+        (fixed_binary telling op ty aty bty mode (home k.homes a) (home k.homes b) (home k.homes to) a.bytes n)
         (by_kind (is_pointer aty || is_pointer bty)
         (pointer_binary (is_pointer aty) (is_pointer bty) p op aty bty (home k.homes a) (home k.homes b) (home k.homes to)
         a.bytes b.bytes n)
         (operator_code telling (family_of op) (is_signed aty) (is_signed bty) (home k.homes a) (home k.homes b)
         (home k.homes to) a.bytes n)))
     of_binary telling op ty aty bty mode to a b n (inl h) l =
-        let own = fixed_binary op ty aty bty mode (home k.homes a) (home k.homes b) (home k.homes to) n in
+        let own = fixed_binary telling op ty aty bty mode (home k.homes a) (home k.homes b) (home k.homes to) a.bytes n in
         let pointed = pointer_binary (is_pointer aty) (is_pointer bty) p op aty bty (home k.homes a) (home k.homes b)
         (home k.homes to) a.bytes b.bytes n in
         let usual = operator_code telling (family_of op) (is_signed aty) (is_signed bty) (home k.homes a) (home k.homes b)
@@ -477,15 +511,15 @@ module _ (sizes : Sizes) where
         (no_pointer (family_of op) k.slots to a b ty aty bty h)
         (operator_fits telling (family_of op) to a b ty aty bty (is_signed aty) (is_signed bty) n h l))
     of_binary telling op ty aty bty mode to a b n (inr (inl h)) l =
-        let own = fixed_binary op ty aty bty mode (home k.homes a) (home k.homes b) (home k.homes to) n in
+        let own = fixed_binary telling op ty aty bty mode (home k.homes a) (home k.homes b) (home k.homes to) a.bytes n in
         let pointed = pointer_binary (is_pointer aty) (is_pointer bty) p op aty bty (home k.homes a) (home k.homes b)
         (home k.homes to) a.bytes b.bytes n in
         let usual = operator_code telling (family_of op) (is_signed aty) (is_signed bty) (home k.homes a) (home k.homes b)
         (home k.homes to) a.bytes n in
         own_fits sizes (is_fixed aty || is_fixed bty) own (by_kind (is_pointer aty || is_pointer bty) pointed usual)
-        (either_fixed aty bty h.types.fixed) (fixed_binary_fits op ty aty bty mode to a b n h l)
+        (either_fixed aty bty h.types.fixed) (fixed_binary_fits telling op ty aty bty mode to a b n h l)
     of_binary telling op ty aty bty mode to a b n (inr (inr h)) l =
-        let own = fixed_binary op ty aty bty mode (home k.homes a) (home k.homes b) (home k.homes to) n in
+        let own = fixed_binary telling op ty aty bty mode (home k.homes a) (home k.homes b) (home k.homes to) a.bytes n in
         let pointed = pointer_binary (is_pointer aty) (is_pointer bty) p op aty bty (home k.homes a) (home k.homes b)
         (home k.homes to) a.bytes b.bytes n in
         let usual = operator_code telling (family_of op) (is_signed aty) (is_signed bty) (home k.homes a) (home k.homes b)
@@ -509,11 +543,11 @@ module _ (sizes : Sizes) where
     of_conversion : (ty aty : PlainType) (mode : Mode) (to a : Temp) (n : ℕ)
         → AreConverted k.slots to a ty aty ⊎ (IsFixedConversion k.slots to a ty aty ⊎ IsPointerConversion k.slots to a ty aty)
         → n ≤ to.bytes
-        → Fit sizes (by_kind (is_fixed ty || is_fixed aty) (fixed_conversion ty aty mode (home k.homes a) (home k.homes to) n)
+        → Fit sizes (by_kind (is_fixed ty || is_fixed aty) (fixed_conversion ty aty mode (home k.homes a) (home k.homes to) a.bytes n)
         (by_kind (is_pointer aty) (pointer_conversion aty (home k.homes a) (home k.homes to) a.bytes to.bytes n)
         (conversion_code (is_signed aty) (home k.homes a) (home k.homes to) a.bytes n)))
     of_conversion ty aty mode to a n (inl h) l =
-        let own = fixed_conversion ty aty mode (home k.homes a) (home k.homes to) n in
+        let own = fixed_conversion ty aty mode (home k.homes a) (home k.homes to) a.bytes n in
         let pointed = pointer_conversion aty (home k.homes a) (home k.homes to) a.bytes to.bytes n in
         let usual = conversion_code (is_signed aty) (home k.homes a) (home k.homes to) a.bytes n in
         others_fit sizes (is_fixed ty || is_fixed aty) own (by_kind (is_pointer aty) pointed usual)
@@ -522,13 +556,13 @@ module _ (sizes : Sizes) where
         (convert_fits (is_signed aty) (home k.homes a) (home k.homes to) a.bytes n h.from.some (at_home a h.from)
         (low_home to n h.result l)))
     of_conversion ty aty mode to a n (inr (inl h)) l =
-        let own = fixed_conversion ty aty mode (home k.homes a) (home k.homes to) n in
+        let own = fixed_conversion ty aty mode (home k.homes a) (home k.homes to) a.bytes n in
         let pointed = pointer_conversion aty (home k.homes a) (home k.homes to) a.bytes to.bytes n in
         let usual = conversion_code (is_signed aty) (home k.homes a) (home k.homes to) a.bytes n in
         own_fits sizes (is_fixed ty || is_fixed aty) own (by_kind (is_pointer aty) pointed usual)
         (either_fixed ty aty h.types.fixed) (fixed_conversion_fits ty aty mode to a n h l)
     of_conversion ty aty mode to a n (inr (inr h)) l =
-        let own = fixed_conversion ty aty mode (home k.homes a) (home k.homes to) n in
+        let own = fixed_conversion ty aty mode (home k.homes a) (home k.homes to) a.bytes n in
         let pointed = pointer_conversion aty (home k.homes a) (home k.homes to) a.bytes to.bytes n in
         let usual = conversion_code (is_signed aty) (home k.homes a) (home k.homes to) a.bytes n in
         others_fit sizes (is_fixed ty || is_fixed aty) own (by_kind (is_pointer aty) pointed usual)

@@ -1,6 +1,6 @@
 -- The words of operations' code.
 use Rattle.std.proofs.Common.{◌≡◌, ◌⊎◌, ℕ, zero, suc, ◌+◌, ◌-◌, ◌*◌, ◌≤◌, ◌==◌, Bool, true, false, List, [], ◌∷◌, ◌++◌}
-use Rattle.std.proofs.Common.{◌%◌, refl, ap, subst, arith, leb-true, eqb-true, inl, inr}
+use Rattle.std.proofs.Common.{◌%◌, refl, sym, ap, ◌∙◌, subst, arith, leb-true, eqb-true, inl, inr}
 use Rattle.std.specs.Prelude.{⊤, min, nat_le, ◌&&◌, ◌||◌, if◌then◌else◌, Option, Some, None, option_map}
 use Rattle.std.specs.List.{AllByRecursion}
 use Rattle.std.proofs.Math.Nat.{mul-le-mul_left}
@@ -25,7 +25,7 @@ use Rattle.ec_core.specs.declared.expressions.UnOp.TheVariants.{Minus, Invert}
 use Rattle.ec_core.specs.Accesses.{element_size}
 use Rattle.ec_core.specs.Layout.{scalar_size}
 use Rattle.ec_core.specs.Operators.{same_type}
-use Rattle.ec_core.specs.Plain.{PlainType, integer, PlainObject, PlainProgram}
+use Rattle.ec_core.specs.Plain.{PlainType, integer, fixed, PlainObject, PlainProgram}
 use Rattle.ec_core.specs.Words.{widest, operation_words}
 use Rattle.ec_ir.specs.declared.operations.Temp.{Temp}
 use Rattle.ec_ir.specs.Costs.{op_words, index_words, is_integer, is_bitwise, binary_words, unary_words}
@@ -78,13 +78,16 @@ use Rattle.ec_select_operations.specs.Code.{kept_bytes, save_place, restore_plac
 use Rattle.ec_select_operations.specs.Code.{restore_code, taken_code, call_code, result_code, return_code}
 use Rattle.ec_select_operations.specs.Code.{flag_code, operator_code, tested_code, kept_need, op_code, tells_next}
 use Rattle.ec_select_operations.specs.Code.{ops_code}
-use Rattle.ec_select_operations.specs.Code.{work_location, answer_location, by_kind, fixed_binary, fixed_unary}
+use Rattle.ec_select_operations.specs.Code.{work_location, answer_location, answer_code, by_kind, fixed_binary, fixed_unary}
+use Rattle.ec_select_operations.specs.Code.{is_on_integers, keeps_number}
 use Rattle.ec_select_operations.specs.Code.{fixed_conversion, addressed_code, load_code, banked_code, offset_code}
 use Rattle.ec_select_operations.specs.Code.{pointers_code}
 use Rattle.ec_select_operations.specs.Code.{is_difference, pointer_binary, pointer_conversion}
 use Rattle.ec_select_functions.specs.Covered.{IsBinary, IsUnary, IsCovered, AreCovered}
 use Rattle.ec_select_functions.specs.Covered.{IsFixedBinary, IsFixedUnary, AreConverted, IsFixedConversion}
 use Rattle.ec_select_functions.specs.Covered.{IsPointerBinary, IsPointerConversion}
+use Rattle.ec_select_functions.proofs.OnIntegers.{whole_type}
+use Rattle.ec_select_functions.proofs.OnWholes.{on_wholes}
 use Rattle.ec_select_operations.specs.Emitted.{OfKind}
 use Rattle.ec_select_operations.specs.Homes.{home, result_location}
 use Rattle.ec_select_operations.specs.Needs.{Need, wanted, wanted_result, needs, is_fixed}
@@ -513,6 +516,76 @@ module _ (laws : WordLaws) where
         let x = move_words (home h a) (home h to) n in let y = conversion_row ty aty in let w = i.result_bytes in
         omega (arith, x, y, w, l)
 
+  -- ---- operations with a fixed-point type
+
+  fixed_binary_most : (telling : Option Told) (op : BinOp) (ty aty bty : PlainType) (mode : Mode) (slots : ℕ) (h : Homes)
+      (to a b : Temp) (n : ℕ) → IsFixedBinary slots op to a b ty aty bty → n ≤ to.bytes
+      → code_words (fixed_binary telling op ty aty bty mode (home h a) (home h b) (home h to) a.bytes n)
+      ≤ binary_words op ty aty bty
+  fixed_binary_most telling op ty aty bty mode slots h to a b n i l = by_code (is_on_integers (family_of op) mode ty aty bty) refl
+    where
+      code : List AsmItem
+      code = fixed_binary_code op ty aty bty mode (home h a) (home h b) answer_location work_location
+
+      by_code : (on : Bool) → is_on_integers (family_of op) mode ty aty bty ≡ on
+          → code_words (if on then operator_code telling (family_of op) (is_signed aty) (is_signed bty) (home h a) (home h b)
+          (home h to) a.bytes n else answer_code code (home h to) n) ≤ binary_words op ty aty bty
+      by_code true on =
+          let w = on_wholes slots op mode to a b ty aty bty i on in
+          let k = whole_type w.kind in
+          let bitwise = w.bitwise in
+          let most = operator_most telling op slots h to a b w.result k k (is_signed aty) (is_signed bty) n w.binary l
+          (λ q. absurd (false≢true (sym bitwise ∙ q))) in
+          let words : binary_words op ty aty bty ≡ binary_words op w.result k k =
+          ap (λ x. binary_words op ty x bty) w.left_is
+          ∙ ap (λ x. binary_words op ty (fixed w.kind w.first_saturates) x) w.right_is ∙ w.words in
+          omega (arith, most, words)
+      by_code false on =
+          let bytes = i.result_bytes in
+          let few = laws.fixed_binaries op ty aty bty mode (home h a) (home h b) answer_location work_location i.types in
+          answer_words code (home h to) n (scalar_size ty) (binary_words op ty aty bty) (omega arith) few
+
+  fixed_unary_most : (op : UnOp) (ty : PlainType) (mode : Mode) (slots : ℕ) (h : Homes) (to a : Temp) (n : ℕ)
+      → IsFixedUnary slots op to a ty → n ≤ to.bytes
+      → code_words (fixed_unary op ty mode (home h a) (home h to) n) ≤ unary_words ty
+  fixed_unary_most op ty mode slots h to a n i l = by_mode mode.saturate
+    where
+      code : List AsmItem
+      code = fixed_unary_code op ty mode (home h a) answer_location work_location
+
+      by_mode : (saturates : Bool)
+          → code_words (if saturates then answer_code code (home h to) n else unary_code op (home h a) (home h to) n) ≤ unary_words ty
+      by_mode true =
+          let bytes = i.result_bytes in
+          let most = laws.fixed_unaries op ty mode (home h a) answer_location work_location i.types in
+          answer_words code (home h to) n (scalar_size ty) (unary_words ty) (omega arith) most
+      by_mode false =
+          let bytes = i.result_bytes in
+          let same : a.bytes ≡ to.bytes = i.operand_bytes ∙ sym i.result_bytes in
+          let most = unary_most op slots (home h a) (home h to) to a (integer false to.bytes) n
+          (record { signed = false; result_type = refl; result = i.result; operand = i.operand; same_bytes = same }) l in
+          omega (arith, most, bytes)
+
+  fixed_conversion_most : (ty aty : PlainType) (mode : Mode) (slots : ℕ) (h : Homes) (to a : Temp) (n : ℕ)
+      → IsFixedConversion slots to a ty aty → n ≤ to.bytes
+      → code_words (fixed_conversion ty aty mode (home h a) (home h to) a.bytes n) ≤ conversion_words ty aty
+  fixed_conversion_most ty aty mode slots h to a n i l = by_number (keeps_number ty aty mode)
+    where
+      code : List AsmItem
+      code = fixed_conversion_code ty aty mode (home h a) answer_location work_location
+
+      by_number : (keeps : Bool)
+          → code_words (if keeps then conversion_code (is_signed aty) (home h a) (home h to) a.bytes n
+          else answer_code code (home h to) n) ≤ conversion_words ty aty
+      by_number true =
+          let x = conversion_few (is_signed aty) (home h a) (home h to) a.bytes n to.bytes l in
+          let y = conversion_row ty aty in let w = i.result_bytes in
+          omega (arith, x, y, w)
+      by_number false =
+          let bytes = i.result_bytes in
+          let few = laws.fixed_conversions ty aty mode (home h a) answer_location work_location i.types in
+          answer_words code (home h to) n (scalar_size ty) (conversion_words ty aty) (omega arith) few
+
   -- ---- operations on integers, with a fixed-point type, or on pointers
 
   one_binary : (p : PlainProgram) (telling : Option Told) (op : BinOp) (ty aty bty : PlainType) (mode : Mode) (slots : ℕ)
@@ -520,13 +593,14 @@ module _ (laws : WordLaws) where
       → IsBinary (family_of op) slots to a b ty aty bty
       ⊎ (IsFixedBinary slots op to a b ty aty bty ⊎ IsPointerBinary p slots op to a b ty aty bty)
       → n ≤ to.bytes → OfKind (is_fixed aty || is_fixed bty) ⊤ (is_bitwise op ≡ true → to.at ≡ a.at)
-      → code_words (by_kind (is_fixed aty || is_fixed bty) (fixed_binary op ty aty bty mode (home h a) (home h b) (home h to) n)
+      → code_words (by_kind (is_fixed aty || is_fixed bty)
+      (fixed_binary telling op ty aty bty mode (home h a) (home h b) (home h to) a.bytes n)
       (by_kind (is_pointer aty || is_pointer bty)
       (pointer_binary (is_pointer aty) (is_pointer bty) p op aty bty (home h a) (home h b) (home h to) a.bytes b.bytes n)
       (operator_code telling (family_of op) (is_signed aty) (is_signed bty) (home h a) (home h b) (home h to) a.bytes n)))
       ≤ binary_words op ty aty bty
   one_binary p telling op ty aty bty mode slots h to a b n (inl i) l q =
-      let own = fixed_binary op ty aty bty mode (home h a) (home h b) (home h to) n in
+      let own = fixed_binary telling op ty aty bty mode (home h a) (home h b) (home h to) a.bytes n in
       let pointed = pointer_binary (is_pointer aty) (is_pointer bty) p op aty bty (home h a) (home h b) (home h to)
       a.bytes b.bytes n in
       let usual = operator_code telling (family_of op) (is_signed aty) (is_signed bty) (home h a) (home h b) (home h to) a.bytes n in
@@ -537,18 +611,15 @@ module _ (laws : WordLaws) where
       (others_words (is_pointer aty || is_pointer bty) pointed usual most (no_pointer (family_of op) slots to a b ty aty bty i)
       (operator_most telling op slots h to a b ty aty bty (is_signed aty) (is_signed bty) n i l same))
   one_binary p telling op ty aty bty mode slots h to a b n (inr (inl i)) l q =
-      let own = fixed_binary op ty aty bty mode (home h a) (home h b) (home h to) n in
+      let own = fixed_binary telling op ty aty bty mode (home h a) (home h b) (home h to) a.bytes n in
       let pointed = pointer_binary (is_pointer aty) (is_pointer bty) p op aty bty (home h a) (home h b) (home h to)
       a.bytes b.bytes n in
       let usual = operator_code telling (family_of op) (is_signed aty) (is_signed bty) (home h a) (home h b) (home h to) a.bytes n in
       let most = binary_words op ty aty bty in
-      let bytes = i.result_bytes in
-      let code = fixed_binary_code op ty aty bty mode (home h a) (home h b) answer_location work_location in
-      let few = laws.fixed_binaries op ty aty bty mode (home h a) (home h b) answer_location work_location i.types in
       own_words (is_fixed aty || is_fixed bty) own (by_kind (is_pointer aty || is_pointer bty) pointed usual) most
-      (either_fixed aty bty i.types.fixed) (answer_words code (home h to) n (scalar_size ty) most (omega arith) few)
+      (either_fixed aty bty i.types.fixed) (fixed_binary_most telling op ty aty bty mode slots h to a b n i l)
   one_binary p telling op ty aty bty mode slots h to a b n (inr (inr i)) l q =
-      let own = fixed_binary op ty aty bty mode (home h a) (home h b) (home h to) n in
+      let own = fixed_binary telling op ty aty bty mode (home h a) (home h b) (home h to) a.bytes n in
       let pointed = pointer_binary (is_pointer aty) (is_pointer bty) p op aty bty (home h a) (home h b) (home h to)
       a.bytes b.bytes n in
       let usual = operator_code telling (family_of op) (is_signed aty) (is_signed bty) (home h a) (home h b) (home h to) a.bytes n in
@@ -566,21 +637,17 @@ module _ (laws : WordLaws) where
       others_words (is_fixed ty) (fixed_unary op ty mode (home h a) (home h to) n) (unary_code op (home h a) (home h to) n)
       (unary_words ty) (no_fixed_operand slots to a ty i) (unary_most op slots (home h a) (home h to) to a ty n i l)
   one_unary op ty mode slots h to a n (inr i) l =
-      let bytes = i.result_bytes in
-      let code = fixed_unary_code op ty mode (home h a) answer_location work_location in
-      let most = laws.fixed_unaries op ty mode (home h a) answer_location work_location i.types in
       own_words (is_fixed ty) (fixed_unary op ty mode (home h a) (home h to) n) (unary_code op (home h a) (home h to) n)
-      (unary_words ty) (type_fixed ty i.types.fixed)
-      (answer_words code (home h to) n (scalar_size ty) (unary_words ty) (omega arith) most)
+      (unary_words ty) (type_fixed ty i.types.fixed) (fixed_unary_most op ty mode slots h to a n i l)
 
   one_conversion : (ty aty : PlainType) (mode : Mode) (slots : ℕ) (h : Homes) (to a : Temp) (n : ℕ)
       → AreConverted slots to a ty aty ⊎ (IsFixedConversion slots to a ty aty ⊎ IsPointerConversion slots to a ty aty)
       → n ≤ to.bytes
-      → code_words (by_kind (is_fixed ty || is_fixed aty) (fixed_conversion ty aty mode (home h a) (home h to) n)
+      → code_words (by_kind (is_fixed ty || is_fixed aty) (fixed_conversion ty aty mode (home h a) (home h to) a.bytes n)
       (by_kind (is_pointer aty) (pointer_conversion aty (home h a) (home h to) a.bytes to.bytes n)
       (conversion_code (is_signed aty) (home h a) (home h to) a.bytes n))) ≤ conversion_words ty aty
   one_conversion ty aty mode slots h to a n (inl i) l =
-      let own = fixed_conversion ty aty mode (home h a) (home h to) n in
+      let own = fixed_conversion ty aty mode (home h a) (home h to) a.bytes n in
       let pointed = pointer_conversion aty (home h a) (home h to) a.bytes to.bytes n in
       let usual = conversion_code (is_signed aty) (home h a) (home h to) a.bytes n in
       let most = conversion_words ty aty in
@@ -591,17 +658,14 @@ module _ (laws : WordLaws) where
       (none_converted slots to a ty aty i)
       (others_words (is_pointer aty) pointed usual most (none_pointed slots to a ty aty i) (omega (arith, x, y, w)))
   one_conversion ty aty mode slots h to a n (inr (inl i)) l =
-      let own = fixed_conversion ty aty mode (home h a) (home h to) n in
+      let own = fixed_conversion ty aty mode (home h a) (home h to) a.bytes n in
       let pointed = pointer_conversion aty (home h a) (home h to) a.bytes to.bytes n in
       let usual = conversion_code (is_signed aty) (home h a) (home h to) a.bytes n in
       let most = conversion_words ty aty in
-      let bytes = i.result_bytes in
-      let code = fixed_conversion_code ty aty mode (home h a) answer_location work_location in
-      let few = laws.fixed_conversions ty aty mode (home h a) answer_location work_location i.types in
       own_words (is_fixed ty || is_fixed aty) own (by_kind (is_pointer aty) pointed usual) most
-      (either_fixed ty aty i.types.fixed) (answer_words code (home h to) n (scalar_size ty) most (omega arith) few)
+      (either_fixed ty aty i.types.fixed) (fixed_conversion_most ty aty mode slots h to a n i l)
   one_conversion ty aty mode slots h to a n (inr (inr i)) l =
-      let own = fixed_conversion ty aty mode (home h a) (home h to) n in
+      let own = fixed_conversion ty aty mode (home h a) (home h to) a.bytes n in
       let pointed = pointer_conversion aty (home h a) (home h to) a.bytes to.bytes n in
       let usual = conversion_code (is_signed aty) (home h a) (home h to) a.bytes n in
       let most = conversion_words ty aty in

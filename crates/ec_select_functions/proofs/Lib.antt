@@ -1,5 +1,7 @@
 -- For the crates of the family.
 pub mod Stacked
+pub mod OnIntegers
+pub mod OnWholes
 -- For this crate alone.
 mod Wrapped
 mod Moves

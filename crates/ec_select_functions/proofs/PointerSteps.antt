@@ -62,13 +62,14 @@ use Rattle.ec_select_places.specs.Conversions.{embedded, embed_code}
 use Rattle.ec_select_operations.specs.declared.families.Told.{Told}
 use Rattle.ec_select_operations.specs.declared.families.Family.{Family}
 use Rattle.ec_select_operations.specs.declared.families.Family.TheVariants.{Compared}
+use Rattle.ec_select_operations.specs.Code.{is_apart}
 use Rattle.ec_select_operations.specs.Code.{Linkage, op_code, ops_code, told_by, family_of, is_signed, is_only_tested}
 use Rattle.ec_select_operations.specs.Code.{wanted_bytes}
 use Rattle.ec_select_operations.specs.Code.{same_location, move_code, conversion_code, offset_code, is_difference}
 use Rattle.ec_select_operations.specs.Code.{pointers_code}
 use Rattle.ec_select_functions.specs.Covered.{IsPointerBinary, IsPointerConversion}
 use Rattle.ec_select_operations.specs.Homes.{HasHome}
-use Rattle.ec_select_operations.specs.Needs.{Need, needs, wanted, at_least, without, all_or_none, is_whole}
+use Rattle.ec_select_operations.specs.Needs.{Need, needs, wanted, at_least, without, all_or_none}
 use Rattle.ec_select_operations.specs.Places.{IsClear}
 use Rattle.ec_select_operations.specs.Pointers.{is_into_data, IsPointerIn, IsPointerSize, home_of}
 use Rattle.ec_select_functions.specs.Relation.{Matches, HoldsContent}
@@ -1139,15 +1140,16 @@ module _ (p : PlainProgram) (functions : List PlainIrFunction) (e : Env) (slots 
   -- where an operand is a pointer, nothing is told
   untold : (op : BinOp) (ty : PlainType) (mode : Mode) (t a : Temp) (aty : PlainType) (b : Temp) (bty : PlainType)
       (rest : List PlainIr) (pc : ℕ)
-      → (is_whole aty || is_whole bty) ≡ true → HasAt e (items (binary_op op ty mode t a aty b bty ∷ rest)) pc end
+      → is_apart (family_of op) mode ty aty bty ≡ true → HasAt e (items (binary_op op ty mode t a aty b bty ∷ rest)) pc end
       → HasAt e (code_of (binary_op op ty mode t a aty b bty) rest ++ items rest) pc end
-  untold op ty mode t a aty b bty rest pc whole stands =
+  untold op ty mode t a aty b bty rest pc apart stands =
       subst (λ (x : Option Told). HasAt e (op_code p home link None x (needs at rest)
       (binary_op op ty mode t a aty b bty) ++ ops_code p home link at x rest) pc end)
       (none (is_only_tested t (slice_get rest 0) (slice_index (wanted_bytes at rest) 0))) stands
     where
-      none : (x : Bool) → (if x then told_by (is_whole aty || is_whole bty) (family_of op) (is_signed aty) else None) ≡ None
-      none true = ap (λ z. told_by z (family_of op) (is_signed aty)) whole
+      none : (x : Bool)
+          → (if x then told_by (is_apart (family_of op) mode ty aty bty) (family_of op) (is_signed aty) else None) ≡ None
+      none true = ap (λ z. told_by z (family_of op) (is_signed aty)) apart
       none false = refl
 
   pub pointer_binary_follows : (op : BinOp) (ty : PlainType) (mode : Mode) (t a : Temp) (aty : PlainType) (b : Temp) (bty : PlainType)

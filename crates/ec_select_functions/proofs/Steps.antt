@@ -1,15 +1,17 @@
 -- One operation after another: what the code of each operation does for it.
 use Rattle.std.proofs.Common.{◌≡◌, ◌≢◌, ℕ, zero, suc, ◌+◌, ◌-◌, ◌*◌, ◌%◌, ◌^◌, ◌<◌, ◌≤◌, min, Bool, true, false, not, ℤ}
 use Rattle.std.proofs.Common.{pos, ◌*ℤ◌, unsigned_abs, Ok, Err, List, [], ◌∷◌, ◌++◌, ◌&&◌, ◌||◌, ⊎_elim, refl, sym}
-use Rattle.std.proofs.Common.{ap, ◌∙◌, subst, arith, Some, None, Option}
-use Rattle.std.specs.Prelude.{Result, ◌==◌, nat_le, if◌then◌else◌, option_map, slice_get, slice_index, Contains, ◌⊎◌}
+use Rattle.std.proofs.Common.{ap, ◌∙◌, subst, arith, inl, ◌/◌, Some, None, Option}
+use Rattle.std.specs.Prelude.{max, Result, ◌==◌, nat_le, if◌then◌else◌, option_map, slice_get, slice_index, Contains, ◌⊎◌}
 use Rattle.std.proofs.lemmas.List.Elements.{Contains-append_right}
 use Rattle.ec_ir.specs.Valid.{called_in}
 use Rattle.std.specs.Int.{from_bool}
 use Rattle.std.specs.Ordering.{int_eq}
-use Rattle.std.proofs.lemmas.Bool.{cases_Bool, cases_lt, eqb-true, leb-true, ne_eqb, and_parts}
+use Rattle.std.proofs.lemmas.Bool.{cases_Bool, cases_lt, eqb-true, eq-eqb, leb-true, ne_eqb, and_parts}
 use Rattle.std.proofs.lemmas.Nat.{mod_below, mul-le}
+use Rattle.ec_fx.specs.declared.formats.FxKind.{FxKind}
 use Rattle.ec_fx.specs.declared.numbers.Mode.{Mode}
+use Rattle.ec_fx.specs.Formats.{format_of}
 use Rattle.ec_asm.specs.declared.items.AsmItem.{AsmItem}
 use Rattle.ec_asm.specs.declared.items.AsmItem.TheVariants.{BranchTo}
 use Rattle.ec_asm.specs.declared.pieces.Location.{Location}
@@ -57,7 +59,7 @@ use Rattle.ec_ir.specs.Operations.{PlainIr, constant, copy, load_object, store_o
 use Rattle.ec_ir.specs.Operations.{jump, branch_zero, return_from, address, field, load_at, store_at, unary_op}
 use Rattle.ec_ir.specs.Operations.{call_function, port_in, port_out, PlainIrFunction}
 use Rattle.ec_ir.specs.Temporaries.{Content, bits, points, number_of_bytes, low_bytes, Temps, content_of, value_in}
-use Rattle.ec_ir.specs.Temporaries.{with_content, with_temp, is_zero}
+use Rattle.ec_ir.specs.Temporaries.{Held, with_content, with_temp, is_zero}
 use Rattle.ec_select_operations.specs.Homes.{HasHome}
 use Rattle.ec_select_bytes.specs.Values.{test_code, extend_code}
 use Rattle.ec_select_bytes.proofs.Tests.{tests_keep, tests_tell_zero}
@@ -90,6 +92,7 @@ use Rattle.ec_select_functions.specs.Covered.{IsPointerBinary, IsPointerConversi
 use Rattle.ec_select_fixed.specs.Types.{IsFixedType, IsNumberType}
 use Rattle.ec_select_fixed.proofs.Suits.{AreSuited, operands_suit}
 use Rattle.ec_select_operations.specs.Code.{told_by, by_kind as code_by_kind, fixed_binary, answer_code, answer_location}
+use Rattle.ec_select_operations.specs.Code.{fixed_unary, fixed_conversion, keeps_number, is_apart, is_on_integers, operator_code}
 use Rattle.ec_select_operations.specs.Code.{work_location, wanted_bytes}
 use Rattle.ec_select_fixed.specs.Codes.{fixed_binary_code, fixed_unary_code, fixed_conversion_code}
 use Rattle.ec_select_fixed.specs.FixedLaws.{IsBinaryResult, IsUnaryResult, IsConversionResult, binary_room, unary_room}
@@ -136,6 +139,8 @@ use Rattle.ec_select_functions.proofs.Moves.{stands_less, move_straight, move_st
 use Rattle.ec_select_functions.proofs.Moves.{move_holds, row_value}
 use Rattle.ec_select_functions.proofs.Numbers.{gives_of}
 use Rattle.ec_select_functions.proofs.Numeric.{sign_in, number_in, value_is, from_typed}
+use Rattle.ec_select_functions.proofs.OnIntegers.{whole_of, whole_type, negation_as, number_kept}
+use Rattle.ec_select_functions.proofs.OnWholes.{IsOnWholes, on_wholes, more_needed, at_most_all}
 use Rattle.ec_select_functions.proofs.Orders.{first_of_two, decided}
 use Rattle.ec_select_functions.proofs.Related.{told_matches}
 use Rattle.ec_select_functions.proofs.Truth.{bit_is, not_not, truth_low, held_at, content_of_held, same_temp}
@@ -1339,9 +1344,10 @@ module _ (p : PlainProgram) (functions : List PlainIrFunction) (e : Env) (slots 
 
   pub fixed_binary_follows : (op : BinOp) (ty : PlainType) (mode : Mode) (t a : Temp) (aty : PlainType) (b : Temp) (bty : PlainType)
       (rest : List PlainIr) (n pc : ℕ) (m : Mach) (v : View) → IsFixedBinary slots op t a b ty aty bty
+      → is_on_integers (family_of op) mode ty aty bty ≡ false
       → HasAt e (items (binary_op op ty mode t a aty b bty ∷ rest)) pc end → M (needs at (binary_op op ty mode t a aty b bty ∷ rest)) m v
       → Rest (suc n) rest → G (suc n) m.state.work pc v (R (suc n) (binary_op op ty mode t a aty b bty ∷ rest) m)
-  fixed_binary_follows op ty mode t a aty b bty rest n pc m v k stands h f =
+  fixed_binary_follows op ty mode t a aty b bty rest n pc m v k apart stands h f =
       from_typed p place e aty a m.temps st _ (suc n) m.state.work pc v (fixed_numeric aty suited.first)
       (λ low1 qa. from_typed p place e bty b m.temps st _ (suc n) m.state.work pc v (fixed_numeric bty suited.second)
       (λ low2 qb. by_result low1 low2 qa qb (binary_result op ty mode (left low1) (right low2)) refl))
@@ -1389,9 +1395,12 @@ module _ (p : PlainProgram) (functions : List PlainIrFunction) (e : Env) (slots 
           wx : (is_whole aty || is_whole bty) ≡ true
           wx = either_fixed is_whole type_whole aty bty k.types.fixed
 
+          is_apart_so : is_apart (family_of op) mode ty aty bty ≡ true
+          is_apart_so = ap (λ z. z && not (is_on_integers (family_of op) mode ty aty bty)) wx ∙ ap not apart
+
           none_told : (x : Bool)
-              → (if x then told_by (is_whole aty || is_whole bty) (family_of op) (is_signed aty) else None) ≡ None
-          none_told true = ap (λ z. told_by z (family_of op) (is_signed aty)) wx
+              → (if x then told_by (is_apart (family_of op) mode ty aty bty) (family_of op) (is_signed aty) else None) ≡ None
+          none_told true = ap (λ z. told_by z (family_of op) (is_signed aty)) is_apart_so
           none_told false = refl
 
           code : List AsmItem
@@ -1399,9 +1408,13 @@ module _ (p : PlainProgram) (functions : List PlainIrFunction) (e : Env) (slots 
 
           code_is : code_of i rest ≡ answer_code code (home t) w
           code_is =
-              ap (λ z. code_by_kind z (answer_code code (home t) w) (code_by_kind (is_pointer aty || is_pointer bty)
+              ap (λ z. code_by_kind z (fixed_binary None op ty aty bty mode (home a) (home b) (home t) a.bytes w)
+              (code_by_kind (is_pointer aty || is_pointer bty)
               (pointer_binary (is_pointer aty) (is_pointer bty) p op aty bty (home a) (home b) (home t) a.bytes b.bytes w)
               (binary_code (family_of op) (is_signed aty) (is_signed bty) (home a) (home b) (home t) a.bytes w))) fx
+              ∙ ap
+              (λ z. if z then binary_code (family_of op) (is_signed aty) (is_signed bty) (home a) (home b) (home t) a.bytes w
+              else answer_code code (home t) w) apart
 
           stand : HasAt e (code_of i rest ++ items rest) pc end
           stand = subst (λ x. HasAt e (op_code p home link None x need i ++ items_told x rest) pc end)
@@ -1479,10 +1492,10 @@ module _ (p : PlainProgram) (functions : List PlainIrFunction) (e : Env) (slots 
               f parts.0 m1 v2 parts.2 (subst (λ (x : Content). M need (machine (with_content t x m.temps) st) v2) (sym content) matches))
 
   pub fixed_unary_follows : (op : UnOp) (ty : PlainType) (mode : Mode) (t a : Temp) (rest : List PlainIr) (n pc : ℕ) (m : Mach) (v : View)
-      → IsFixedUnary slots op t a ty → HasAt e (items (unary_op op ty mode t a ∷ rest)) pc end
+      → IsFixedUnary slots op t a ty → mode.saturate ≡ true → HasAt e (items (unary_op op ty mode t a ∷ rest)) pc end
       → M (needs at (unary_op op ty mode t a ∷ rest)) m v
       → Rest (suc n) rest → G (suc n) m.state.work pc v (R (suc n) (unary_op op ty mode t a ∷ rest) m)
-  fixed_unary_follows op ty mode t a rest n pc m v k stands h f =
+  fixed_unary_follows op ty mode t a rest n pc m v k saturates stands h f =
       from_typed p place e ty a m.temps st _ (suc n) m.state.work pc v (fixed_numeric ty known)
       (λ low q. by_result low q (unary_result op ty mode (number_in ty low)) refl)
     where
@@ -1523,7 +1536,9 @@ module _ (p : PlainProgram) (functions : List PlainIrFunction) (e : Env) (slots 
           code = fixed_unary_code op ty mode (home a) answer_location work_location
 
           code_is : code_of i rest ≡ answer_code code (home t) w
-          code_is = ap (λ z. code_by_kind z (answer_code code (home t) w) (unary_code op (home a) (home t) w)) fx
+          code_is =
+              ap (λ z. code_by_kind z (fixed_unary op ty mode (home a) (home t) w) (unary_code op (home a) (home t) w)) fx
+              ∙ ap (λ z. if z then answer_code code (home t) w else unary_code op (home a) (home t) w) saturates
 
           more : (u : ℕ) → u ≢ t.at → need u ≤ needs at (i ∷ rest) u
           more u d = let x = without_other t.at u need d in let z = least_other a.at ka u (without t.at need) in omega arith
@@ -1572,10 +1587,10 @@ module _ (p : PlainProgram) (functions : List PlainIrFunction) (e : Env) (slots 
 
   pub fixed_conversion_follows : (t : Temp) (ty : PlainType) (mode : Mode) (a : Temp) (aty : PlainType) (rest : List PlainIr) (n pc : ℕ)
       (m : Mach) (v : View)
-      → IsFixedConversion slots t a ty aty → HasAt e (items (conversion t ty mode a aty ∷ rest)) pc end
+      → IsFixedConversion slots t a ty aty → keeps_number ty aty mode ≡ false → HasAt e (items (conversion t ty mode a aty ∷ rest)) pc end
       → M (needs at (conversion t ty mode a aty ∷ rest)) m v
       → Rest (suc n) rest → G (suc n) m.state.work pc v (R (suc n) (conversion t ty mode a aty ∷ rest) m)
-  fixed_conversion_follows t ty mode a aty rest n pc m v k stands h f =
+  fixed_conversion_follows t ty mode a aty rest n pc m v k other stands h f =
       from_typed p place e aty a m.temps st _ (suc n) m.state.work pc v (fixed_numeric aty known.operand)
       (λ low q. by_result low q (conversion_result ty mode (operand low)) refl)
     where
@@ -1620,9 +1635,10 @@ module _ (p : PlainProgram) (functions : List PlainIrFunction) (e : Env) (slots 
 
           code_is : code_of i rest ≡ answer_code code (home t) w
           code_is =
-              ap (λ z. code_by_kind z (answer_code code (home t) w) (code_by_kind (is_pointer aty)
+              ap (λ z. code_by_kind z (fixed_conversion ty aty mode (home a) (home t) a.bytes w) (code_by_kind (is_pointer aty)
               (pointer_conversion aty (home a) (home t) a.bytes t.bytes w)
               (conversion_code (is_signed aty) (home a) (home t) a.bytes w))) fx
+              ∙ ap (λ z. if z then conversion_code (is_signed aty) (home a) (home t) a.bytes w else answer_code code (home t) w) other
 
           more : (u : ℕ) → u ≢ t.at → need u ≤ needs at (i ∷ rest) u
           more u d = let x = without_other t.at u need d in let z = least_other a.at ka u (without t.at need) in omega arith
@@ -1678,6 +1694,133 @@ module _ (p : PlainProgram) (functions : List PlainIrFunction) (e : Env) (slots 
               }) q in
               f parts.0 m1 v2 parts.2 (subst (λ (x : Content). M need (machine (with_content t x m.temps) st) v2) (sym content) matches))
 
+  -- no more bytes of a temporary are needed than it has
+  no_more_needed : (a : Temp) (w low : ℕ) (less : Need) (m : Mach) (v : View)
+      → m.temps a.at ≡ Some (record { bytes = a.bytes; content = bits low })
+      → M (at_least a.at (all_or_none a.bytes w) less) m v → M (at_least a.at w less) m v
+  no_more_needed a w low less m v q h = record {
+    temps_hold = λ t x it z r. at_width p e slots home base place y (at_least a.at (all_or_none a.bytes w) less) m v t x
+        (wanted (at_least a.at w less) t) h it z r (enough t x z r);
+    leaves_hold = h.leaves_hold;
+    tables_hold = h.tables_hold;
+    kept = h.kept;
+    bytes = h.bytes;
+    left = h.left;
+    seen = h.seen;
+    safe = h.safe;
+  }
+    where
+      within : (l b w : ℕ) → min (max l w) b ≤ min (max l (all_or_none b w)) b
+      within l b zero = omega arith
+      within l b (suc n) = omega arith
+
+      enough : (t : Temp) (x : Held) → m.temps t.at ≡ Some x → x.bytes ≡ t.bytes
+          → wanted (at_least a.at w less) t ≤ wanted (at_least a.at (all_or_none a.bytes w) less) t
+      enough t x z r = by_place (t.at == a.at) refl
+        where
+          by_place : (here : Bool) → (t.at == a.at) ≡ here
+              → min (if here then max (less t.at) w else less t.at) t.bytes
+              ≤ min (if here then max (less t.at) (all_or_none a.bytes w) else less t.at) t.bytes
+          by_place false s = omega arith
+          by_place true s =
+              let same : t.at ≡ a.at = eqb-true t.at a.at s in
+              let both : Some x ≡ Some (record { bytes = a.bytes; content = bits low }) = sym z ∙ ap m.temps same ∙ q in
+              let held : x ≡ record { bytes = a.bytes; content = bits low } = cc in
+              let bytes : a.bytes ≡ t.bytes = sym (ap (λ (h : Held). h.bytes) held) ∙ r in
+              subst (λ (b : ℕ). min (max (less t.at) w) b ≤ min (max (less t.at) (all_or_none a.bytes w)) b) bytes
+              (within (less t.at) a.bytes w)
+
+  -- a conversion that gives the same number
+  kept_follows : (t : Temp) (k j : FxKind) (s1 s2 : Bool) (mode : Mode) (a : Temp) (rest : List PlainIr) (n pc : ℕ) (m : Mach) (v : View)
+      → IsFixedConversion slots t a (fixed k s1) (fixed j s2) → keeps_number (fixed k s1) (fixed j s2) mode ≡ true
+      → HasAt e (items (conversion t (fixed k s1) mode a (fixed j s2) ∷ rest)) pc end
+      → M (needs at (conversion t (fixed k s1) mode a (fixed j s2) ∷ rest)) m v
+      → Rest (suc n) rest → G (suc n) m.state.work pc v (R (suc n) (conversion t (fixed k s1) mode a (fixed j s2) ∷ rest) m)
+  kept_follows t k j s1 s2 mode a rest n pc m v h keeps stands needed f =
+      from_typed p place e (fixed j s2) a m.temps st _ (suc n) m.state.work pc v tt
+      (λ low q. by_result low q (conversion_result (fixed k s1) mode (operand_of p (fixed j s2) (Number (whole_of j low)) st)) refl)
+    where
+      i : PlainIr
+      i = conversion t (fixed k s1) mode a (fixed j s2)
+
+      c : ℕ
+      c = op_steps i
+
+      st : State
+      st = worked c m.state
+
+      need : Need
+      need = needs at rest
+
+      w : ℕ
+      w = wanted need t
+
+      sign : Bool
+      sign = (format_of j).signed
+
+      code : List AsmItem
+      code = conversion_code sign (home a) (home t) a.bytes w
+
+      code_is : code_of i rest ≡ code
+      code_is =
+          ap
+          (λ z. if z then code
+          else answer_code (fixed_conversion_code (fixed k s1) (fixed j s2) mode (home a) answer_location work_location) (home t) w) keeps
+
+      by_result : (low : ℕ) → m.temps a.at ≡ Some (record { bytes = a.bytes; content = bits low }) → (z : Result Value Undefined)
+          → conversion_result (fixed k s1) mode (operand_of p (fixed j s2) (Number (whole_of j low)) st) ≡ z
+          → G (suc n) m.state.work pc v (next (given z st) (λ u s3. R (suc n) rest (machine (with_temp t u m.temps) s3)))
+      by_result low qa (Err point) q = tt
+      by_result low qa (Ok r) q =
+          let below : low < 256 ^ a.bytes = (needed.temps_hold a _ h.from qa refl).1 in
+          let small : low < 256 ^ ((format_of j).bits / 8) = subst (λ (b : ℕ). low < 256 ^ b) h.from_bytes below in
+          let content0 = number_kept k j s1 s2 mode p low st r keeps small q in
+          let number = λ (b : ℕ). number_of_bytes sign b low in
+          let content : content_of t.bytes r ≡ bits (low_bytes t.bytes (number a.bytes)) =
+          ap (λ b. content_of b r) h.result_bytes ∙ content0
+          ∙ ap (λ b. bits (low_bytes b (whole_of j low))) (sym h.result_bytes)
+          ∙ ap (λ b. bits (low_bytes t.bytes (number b))) (sym h.from_bytes) in
+          let m1 = machine (with_temp t r m.temps) st in
+          let take = conversion_steps sign (home a) (home t) a.bytes w in
+          let most = wanted_most need t in
+          let some = h.result.some in
+          let room = conversion_roomy (fixed k s1) (fixed j s2) in
+          let size = h.result_bytes in
+          let steps : code_steps (code_of i rest) ≤ 3 + 3 * w =
+          subst (λ (x : List AsmItem). code_steps x ≤ 3 + 3 * w) (sym code_is) take in
+          let matches0 : M need (machine (with_content t (bits (low_bytes t.bytes (number a.bytes))) m.temps) st) (block e code v) =
+          conversion_matches p e slots home base place y sign t a need m v c low h.result h.from qa
+          (no_more_needed a w low (without t.at need) m v qa needed) in
+          let matches1 : M need m1 (block e code v) =
+          subst (λ (x : Content). M need (machine (with_content t x m.temps) st) (block e code v)) (sym content) matches0 in
+          let matches : M need m1 (block e (code_of i rest) v) =
+          subst (λ (x : List AsmItem). M need m1 (block e x v)) (sym code_is) matches1 in
+          passes i rest (suc n) (suc n) m.state.work m1.state.work pc v (R (suc n) rest m1) stands
+          (subst (λ (x : List AsmItem). all_straight x ≡ true) (sym code_is)
+          (conversion_straight sign (home a) (home t) a.bytes w)) (omega arith)
+          (omega (arith, steps, most, some, room, size))
+          (λ mid u. f mid m1 _ u matches)
+
+  -- it is between fixed-point types
+  number_kept_follows : (t : Temp) (ty : PlainType) (mode : Mode) (a : Temp) (aty : PlainType) (rest : List PlainIr) (n pc : ℕ)
+      (m : Mach) (v : View)
+      → IsFixedConversion slots t a ty aty → keeps_number ty aty mode ≡ true
+      → HasAt e (items (conversion t ty mode a aty ∷ rest)) pc end
+      → M (needs at (conversion t ty mode a aty ∷ rest)) m v
+      → Rest (suc n) rest → G (suc n) m.state.work pc v (R (suc n) (conversion t ty mode a aty ∷ rest) m)
+  number_kept_follows t (fixed k s1) mode a (fixed j s2) rest n pc m v h keeps stands needed f =
+      kept_follows t k j s1 s2 mode a rest n pc m v h keeps stands needed f
+  number_kept_follows t (fixed k s) mode a void rest n pc m v h keeps stands needed f = absurd cc
+  number_kept_follows t (fixed k s) mode a (integer u b) rest n pc m v h keeps stands needed f = absurd cc
+  number_kept_follows t (fixed k s) mode a (pointer u b z) rest n pc m v h keeps stands needed f = absurd cc
+  number_kept_follows t (fixed k s) mode a (array z b) rest n pc m v h keeps stands needed f = absurd cc
+  number_kept_follows t (fixed k s) mode a (struct b) rest n pc m v h keeps stands needed f = absurd cc
+  number_kept_follows t void mode a aty rest n pc m v h keeps stands needed f = absurd cc
+  number_kept_follows t (integer u b) mode a aty rest n pc m v h keeps stands needed f = absurd cc
+  number_kept_follows t (pointer u b z) mode a aty rest n pc m v h keeps stands needed f = absurd cc
+  number_kept_follows t (array z b) mode a aty rest n pc m v h keeps stands needed f = absurd cc
+  number_kept_follows t (struct b) mode a aty rest n pc m v h keeps stands needed f = absurd cc
+
   -- ---- unary operators
 
   turn_straight : (op : UnOp) (q : Location) (n : ℕ) → all_straight (turn_code op q n) ≡ true
@@ -1727,6 +1870,89 @@ module _ (p : PlainProgram) (functions : List PlainIrFunction) (e : Env) (slots 
       (omega arith) (omega (arith, take, big))
       (λ mid u. f mid m1 _ u matches1)))
 
+  -- a temporary that holds an integer
+  whole_held : (s : Bool) (b low : ℕ) (a : Temp) (temps : Temps) (st : State)
+      → temps a.at ≡ Some (record { bytes = a.bytes; content = bits low })
+      → held_as p (integer s b) a temps st ≡ got (Number (number_of_bytes s b low)) st
+  whole_held s b low a temps st q = rw (q, eq-eqb a.bytes a.bytes refl) refl
+
+  -- a negation of a fixed-point number that is one of an integer
+  negation_follows : (k : FxKind) (s : Bool) (mode : Mode) (t a : Temp) (rest : List PlainIr) (n pc : ℕ) (m : Mach) (v : View)
+      → IsFixedUnary slots Minus t a (fixed k s) → mode.saturate ≡ false
+      → HasAt e (items (unary_op Minus (fixed k s) mode t a ∷ rest)) pc end
+      → M (needs at (unary_op Minus (fixed k s) mode t a ∷ rest)) m v
+      → Rest (suc n) rest → G (suc n) m.state.work pc v (R (suc n) (unary_op Minus (fixed k s) mode t a ∷ rest) m)
+  negation_follows k s mode t a rest n pc m v h off stands needed f =
+      from_typed p place e (fixed k s) a m.temps st _ (suc n) m.state.work pc v tt
+      (λ low q. by_result low q (unary_result Minus (fixed k s) mode (Number (whole_of k low))) refl)
+    where
+      bytes : ℕ
+      bytes = (format_of k).bits / 8
+
+      sign : Bool
+      sign = (format_of k).signed
+
+      i : PlainIr
+      i = unary_op Minus (fixed k s) mode t a
+
+      whole : PlainIr
+      whole = unary_op Minus (integer sign bytes) mode t a
+
+      st : State
+      st = worked (op_steps i) m.state
+
+      same : a.bytes ≡ t.bytes
+      same = h.operand_bytes ∙ sym h.result_bytes
+
+      code : items (i ∷ rest) ≡ items (whole ∷ rest)
+      code =
+          ap (λ z. (if z then answer_code (fixed_unary_code Minus (fixed k s) mode (home a) answer_location work_location)
+          (home t) (wanted (needs at rest) t) else unary_code Minus (home a) (home t) (wanted (needs at rest) t)) ++ items rest) off
+
+      -- the run of the negation of the integer
+      run : G (suc n) m.state.work pc v (R (suc n) (whole ∷ rest) m)
+      run =
+          let sized : a.bytes ≡ bytes = h.operand_bytes in
+          let done =
+          λ (j : ℕ). HasAt e (items (unary_op Minus (integer sign j) mode t a ∷ rest)) pc end
+          → G (suc n) m.state.work pc v (R (suc n) (unary_op Minus (integer sign j) mode t a ∷ rest) m) in
+          let need = needs at rest in
+          let w = wanted need t in
+          let most = wanted_most need t in
+          subst done sized
+          (λ stand. unary_of_numbers Minus sign mode t a rest n pc m v h.result h.operand same stand
+          (weaker p e slots home base place y (needs at (i ∷ rest)) (at_least a.at w (without t.at need)) m v needed
+          (more_needed a.at w (all_or_none a.bytes w) (without t.at need) (without t.at need)
+          (at_most_all a.bytes w (omega (arith, most, same))) (λ x. omega arith))) f)
+          (subst (λ (x : List AsmItem). HasAt e x pc end) code stands)
+
+      by_result : (low : ℕ) → m.temps a.at ≡ Some (record { bytes = a.bytes; content = bits low }) → (z : Result Value Undefined)
+          → unary_result Minus (fixed k s) mode (Number (whole_of k low)) ≡ z
+          → G (suc n) m.state.work pc v (next (given z st) (λ u s3. R (suc n) rest (machine (with_temp t u m.temps) s3)))
+      by_result low qa (Err point) q = tt
+      by_result low qa (Ok r) q =
+          let w = negation_as k s mode low t.bytes r (ap not off) h.result_bytes q in
+          let go = λ (u : Value) (s3 : State). R (suc n) rest (machine (with_temp t u m.temps) s3) in
+          let is : R (suc n) (whole ∷ rest) m ≡ R (suc n) rest (machine (with_temp t (Number w.number) m.temps) st) =
+          ap (λ o. next o (λ x s1. next (given (unary_result Minus (integer sign bytes) mode x) s1) go))
+          (whole_held sign bytes low a m.temps st qa) ∙ ap (λ z. next (given z st) go) w.is in
+          subst (λ (x : Content). G (suc n) m.state.work pc v (R (suc n) rest (machine (with_content t x m.temps) st))) (sym w.same)
+          (subst (λ o. G (suc n) m.state.work pc v o) is run)
+
+  whole_unary_follows : (op : UnOp) (ty : PlainType) (mode : Mode) (t a : Temp) (rest : List PlainIr) (n pc : ℕ) (m : Mach)
+      (v : View) → IsFixedUnary slots op t a ty → mode.saturate ≡ false
+      → HasAt e (items (unary_op op ty mode t a ∷ rest)) pc end
+      → M (needs at (unary_op op ty mode t a ∷ rest)) m v
+      → Rest (suc n) rest → G (suc n) m.state.work pc v (R (suc n) (unary_op op ty mode t a ∷ rest) m)
+  whole_unary_follows Minus (fixed k s) mode t a rest n pc m v h off stands needed f =
+      negation_follows k s mode t a rest n pc m v h off stands needed f
+  whole_unary_follows Invert (fixed k s) mode t a rest n pc m v h off stands needed f = absurd h.types.types.0
+  whole_unary_follows op void mode t a rest n pc m v h off stands needed f = absurd h.types.fixed
+  whole_unary_follows op (integer s j) mode t a rest n pc m v h off stands needed f = absurd h.types.fixed
+  whole_unary_follows op (pointer s j z) mode t a rest n pc m v h off stands needed f = absurd h.types.fixed
+  whole_unary_follows op (array z j) mode t a rest n pc m v h off stands needed f = absurd h.types.fixed
+  whole_unary_follows op (struct j) mode t a rest n pc m v h off stands needed f = absurd h.types.fixed
+
   pub unary_follows : (op : UnOp) (ty : PlainType) (mode : Mode) (t a : Temp) (rest : List PlainIr) (n pc : ℕ) (m : Mach)
       (v : View) → IsCovered p results me slots (unary_op op ty mode t a)
       → HasAt e (items (unary_op op ty mode t a ∷ rest)) pc end
@@ -1742,7 +1968,9 @@ module _ (p : PlainProgram) (functions : List PlainIrFunction) (e : Env) (slots 
       → G (suc n) m.state.work pc v (R (suc n) (unary_op op x mode t a ∷ rest) m) in
       subst done (sym type)
       (λ stand needed. unary_of_numbers op k.signed mode t a rest n pc m v k.result k.operand same stand needed f) stands h)
-      (λ (k : IsFixedUnary slots op t a ty). fixed_unary_follows op ty mode t a rest n pc m v k stands h f)
+      (λ (k : IsFixedUnary slots op t a ty). ⊎_elim
+      (λ (q : mode.saturate ≡ true). fixed_unary_follows op ty mode t a rest n pc m v k q stands h f)
+      (λ (q : mode.saturate ≡ false). whole_unary_follows op ty mode t a rest n pc m v k q stands h f) (cases_Bool mode.saturate))
       covered
 
   -- ---- conversions
@@ -1803,7 +2031,10 @@ module _ (p : PlainProgram) (functions : List PlainIrFunction) (e : Env) (slots 
       (subst (λ x. done (integer k.signed t.bytes) x) (sym k.from_type)
       (λ stand needed. conversion_of_numbers k.signed k.from_signed mode t a rest n pc m v k.result k.from stand needed f)) stands h)
       (λ i. ⊎_elim
-      (λ (k : IsFixedConversion slots t a ty aty). fixed_conversion_follows t ty mode a aty rest n pc m v k stands h f)
+      (λ (k : IsFixedConversion slots t a ty aty). ⊎_elim
+      (λ (q : keeps_number ty aty mode ≡ true). number_kept_follows t ty mode a aty rest n pc m v k q stands h f)
+      (λ (q : keeps_number ty aty mode ≡ false). fixed_conversion_follows t ty mode a aty rest n pc m v k q stands h f)
+      (cases_Bool (keeps_number ty aty mode)))
       (λ (k : IsPointerConversion slots t a ty aty).
       pointer_conversion_follows p functions e slots home base place y at all end results me link stack t ty mode a aty rest n
       pc m v k stands h f)
@@ -2463,6 +2694,9 @@ module _ (p : PlainProgram) (functions : List PlainIrFunction) (e : Env) (slots 
       wx : (is_whole aty || is_whole bty) ≡ false
       wx = no_kind is_whole (λ s n. refl) (family_of op) t a b ty aty bty integers
 
+      ax : is_apart (family_of op) mode ty aty bty ≡ false
+      ax = ap (λ z. z && not (is_on_integers (family_of op) mode ty aty bty)) wx
+
       needed : (ops : List PlainIr) → M (needs at (binary_op op ty mode t a aty b bty ∷ ops)) m v
           → M
           (operands_needed op t a b (operand_wanted op a.bytes (wanted (needs at ops) t))
@@ -2503,7 +2737,7 @@ module _ (p : PlainProgram) (functions : List PlainIrFunction) (e : Env) (slots 
 
       at_branch : (u : Temp) (l : ℕ) (ops : List PlainIr) (told : Told) → (only : Bool)
           → is_only_tested t (Some (branch_zero u l)) (wanted (either (needs at ops) (at l)) u) ≡ only
-          → (if only then told_by (is_whole aty || is_whole bty) (family_of op) (is_signed aty) else None) ≡ Some told
+          → (if only then told_by (is_apart (family_of op) mode ty aty bty) (family_of op) (is_signed aty) else None) ≡ Some told
           → Ready pc (binary_op op ty mode t a aty b bty ∷ branch_zero u l ∷ ops)
           → M (needs at (binary_op op ty mode t a aty b bty ∷ branch_zero u l ∷ ops)) m v
           → StandsTelling op ty mode t a aty b bty pc (Some told) (branch_zero u l ∷ ops)
@@ -2525,12 +2759,12 @@ module _ (p : PlainProgram) (functions : List PlainIrFunction) (e : Env) (slots 
           subst (λ x. HasAt e (code_by_kind x
           (pointer_binary (is_pointer aty) (is_pointer bty) p op aty bty (home a) (home b) (home t) a.bytes b.bytes w) own
           ++ after) pc end) px
-          (subst (λ x. HasAt e (code_by_kind x (fixed_binary op ty aty bty mode (home a) (home b) (home t) w)
+          (subst (λ x. HasAt e (code_by_kind x (fixed_binary (Some told) op ty aty bty mode (home a) (home b) (home t) a.bytes w)
           (code_by_kind (is_pointer aty || is_pointer bty)
           (pointer_binary (is_pointer aty) (is_pointer bty) p op aty bty (home a) (home b) (home t) a.bytes b.bytes w) own)
           ++ after) pc end) fx stand) in
           subst (λ x. G (suc n) m.state.work pc v (R (suc n) (binary_op op ty mode t a aty b bty ∷ branch_zero x l ∷ ops) m)) (sym same)
-          (by_family (family_of op) refl told (subst (λ x. told_by x (family_of op) (is_signed aty) ≡ Some told) wx q) l ops integers
+          (by_family (family_of op) refl told (subst (λ x. told_by x (family_of op) (is_signed aty) ≡ Some told) ax q) l ops integers
           r.covered.1.1 r.live r.inside none flags h1)
 
       at_next : (ops : List PlainIr) (told : Told) → tells_next at (binary_op op ty mode t a aty b bty) ops ≡ Some told
@@ -2549,6 +2783,132 @@ module _ (p : PlainProgram) (functions : List PlainIrFunction) (e : Env) (slots 
           (subst (λ x. StandsTelling op ty mode t a aty b bty pc x rest) q r.stands) (needed rest h) f
       by_told (Some told) q = at_next rest told q r h
 
+  -- ---- operators on numbers of one fixed-point format, which are those of the integers of their bytes
+
+  -- the run of an operator on two integers
+  whole_run : (op : BinOp) (ty : PlainType) (mode : Mode) (t a b : Temp) (k : FxKind) (low1 low2 : ℕ) (number : ℤ) (rest : List PlainIr)
+      (n : ℕ) (m : Mach) (st : State)
+      → st ≡ worked (op_steps (binary_op op ty mode t a (whole_type k) b (whole_type k))) m.state
+      → m.temps a.at ≡ Some (record { bytes = a.bytes; content = bits low1 })
+      → m.temps b.at ≡ Some (record { bytes = b.bytes; content = bits low2 })
+      → binary_result op ty mode (operand_of p (whole_type k) (Number (whole_of k low1)) st)
+      (operand_of p (whole_type k) (Number (whole_of k low2)) st) ≡ Ok (Number number)
+      → R (suc n) (binary_op op ty mode t a (whole_type k) b (whole_type k) ∷ rest) m
+      ≡ R (suc n) rest (machine (with_temp t (Number number) m.temps) st)
+  whole_run op ty mode t a b k low1 low2 number rest n m st e qa qb is =
+      let sign = (format_of k).signed in
+      let bytes = (format_of k).bits / 8 in
+      let go = λ (u : Value) (s3 : State). R (suc n) rest (machine (with_temp t u m.temps) s3) in
+      let result = λ (x z : Value) (s : State). next (given (binary_result op ty mode (operand_of p (whole_type k) x s)
+      (operand_of p (whole_type k) z s)) s) go in
+      let i = binary_op op ty mode t a (whole_type k) b (whole_type k) in
+      ap (λ s. next (held_as p (whole_type k) a m.temps s) (λ x s1. next (held_as p (whole_type k) b m.temps s1) (λ z s2. result x z s2)))
+      (sym e)
+      ∙ ap (λ o. next o (λ x s1. next (held_as p (whole_type k) b m.temps s1) (λ z s2. result x z s2)))
+      (whole_held sign bytes low1 a m.temps st qa)
+      ∙ ap (λ o. next o (λ z s2. result (Number (whole_of k low1)) z s2)) (whole_held sign bytes low2 b m.temps st qb)
+      ∙ ap (λ z. next (given z st) go) is
+
+  -- where the code of an operator is that on integers, it does what that does
+  on_integers_follow : (start : ℕ) → Ready start all → (n : ℕ) → Onward n → (op : BinOp) (ty : PlainType) (mode : Mode)
+      (t a : Temp) (aty : PlainType) (b : Temp) (bty : PlainType) (pc : ℕ) (rest : List PlainIr) (m : Mach) (v : View)
+      → is_on_integers (family_of op) mode ty aty bty ≡ true → IsOnWholes slots op mode t a b ty aty bty
+      → Rest (suc n) rest
+      → Ready pc (binary_op op ty mode t a aty b bty ∷ rest) → M (needs at (binary_op op ty mode t a aty b bty ∷ rest)) m v
+      → G (suc n) m.state.work pc v (R (suc n) (binary_op op ty mode t a aty b bty ∷ rest) m)
+  on_integers_follow start ready n go op ty mode t a aty b bty pc rest m v on h f r needed =
+      let done =
+      λ (x z : PlainType). is_on_integers (family_of op) mode ty x z ≡ true → Ready pc (binary_op op ty mode t a x b z ∷ rest)
+      → M (needs at (binary_op op ty mode t a x b z ∷ rest)) m v
+      → G (suc n) m.state.work pc v (R (suc n) (binary_op op ty mode t a x b z ∷ rest) m) in
+      (subst (λ x. done x bty) (sym h.left_is) (subst (λ x. done (fixed k s1) x) (sym h.right_is) (λ q u w. shown q u w))) on r needed
+    where
+      k : FxKind
+      k = h.kind
+
+      s1 : Bool
+      s1 = h.first_saturates
+
+      s2 : Bool
+      s2 = h.second_saturates
+
+      whole : PlainType
+      whole = h.result
+
+      i : PlainIr
+      i = binary_op op ty mode t a (fixed k s1) b (fixed k s2)
+
+      i1 : PlainIr
+      i1 = binary_op op whole mode t a (whole_type k) b (whole_type k)
+
+      st : State
+      st = worked (op_steps i) m.state
+
+      w : ℕ
+      w = wanted (needs at rest) t
+
+      sign : Bool
+      sign = (format_of k).signed
+
+      only : Bool
+      only = is_only_tested t (slice_get rest 0) (slice_index (wanted_bytes at rest) 0)
+
+      code : is_on_integers (family_of op) mode ty (fixed k s1) (fixed k s2) ≡ true → items (i ∷ rest) ≡ items (i1 ∷ rest)
+      code on =
+          let tells_same : tells_next at i rest ≡ tells_next at i1 rest =
+          ap (λ z. if only then told_by (not z) (family_of op) sign else None) on in
+          ap (λ z. (if z then operator_code (tells_next at i rest) (family_of op) sign sign (home a) (home b) (home t) a.bytes w
+          else answer_code (fixed_binary_code op ty (fixed k s1) (fixed k s2) mode (home a) (home b) answer_location work_location)
+          (home t) w) ++ items_told (tells_next at i rest) rest) on
+          ∙ ap (λ z. operator_code z (family_of op) sign sign (home a) (home b) (home t) a.bytes w ++ items_told z rest) tells_same
+
+      fewer : (u : ℕ) → needs at (i1 ∷ rest) u ≤ needs at (i ∷ rest) u
+      fewer =
+          let most = wanted_most (needs at rest) t in
+          more_needed a.at (operand_wanted op a.bytes w) (all_or_none a.bytes w)
+          (at_least b.at (right_wanted op b.bytes w) (without t.at (needs at rest)))
+          (at_least b.at (all_or_none b.bytes w) (without t.at (needs at rest))) (h.first_wanted w most)
+          (more_needed b.at (right_wanted op b.bytes w) (all_or_none b.bytes w) (without t.at (needs at rest))
+          (without t.at (needs at rest)) (h.second_wanted w most) (λ u. omega arith))
+
+      run : is_on_integers (family_of op) mode ty (fixed k s1) (fixed k s2) ≡ true → Ready pc (i ∷ rest)
+          → M (needs at (i ∷ rest)) m v → G (suc n) m.state.work pc v (R (suc n) (i1 ∷ rest) m)
+      run on r needed =
+          integers_follow start ready n go op whole mode t a (whole_type k) b (whole_type k) pc rest m v h.binary
+          (record {
+            covered = (inl h.binary, r.covered.1);
+            live = r.live;
+            inside = r.inside;
+            stands = subst (λ (x : List AsmItem). HasAt e x pc end) (code on) r.stands;
+          })
+          (weaker p e slots home base place y (needs at (i ∷ rest)) (needs at (i1 ∷ rest)) m v needed fewer) f
+
+      steps : st ≡ worked (op_steps i1) m.state
+      steps = ap (λ c. worked (64 * c) m.state) h.words
+
+      by_result : G (suc n) m.state.work pc v (R (suc n) (i1 ∷ rest) m) → (low1 low2 : ℕ)
+          → m.temps a.at ≡ Some (record { bytes = a.bytes; content = bits low1 })
+          → m.temps b.at ≡ Some (record { bytes = b.bytes; content = bits low2 }) → (z : Result Value Undefined)
+          → binary_result op ty mode (operand_of p (fixed k s1) (Number (whole_of k low1)) st)
+          (operand_of p (fixed k s2) (Number (whole_of k low2)) st) ≡ z
+          → G (suc n) m.state.work pc v (next (given z st) (λ u s3. R (suc n) rest (machine (with_temp t u m.temps) s3)))
+      by_result done low1 low2 qa qb (Err point) q = tt
+      by_result done low1 low2 qa qb (Ok r) q =
+          let g = h.gives p low1 low2 st r q in
+          let is = whole_run op whole mode t a b k low1 low2 g.number rest n m st steps qa qb g.is in
+          subst (λ (x : Content). G (suc n) m.state.work pc v (R (suc n) rest (machine (with_content t x m.temps) st))) (sym g.same)
+          (subst (λ o. G (suc n) m.state.work pc v o) is done)
+
+      shown : is_on_integers (family_of op) mode ty (fixed k s1) (fixed k s2) ≡ true → Ready pc (i ∷ rest) → M (needs at (i ∷ rest)) m v
+          → G (suc n) m.state.work pc v (R (suc n) (i ∷ rest) m)
+      shown on r needed =
+          let done = run on r needed in
+          from_typed p place e (fixed k s1) a m.temps st _ (suc n) m.state.work pc v tt
+          (λ low1 qa. from_typed p place e (fixed k s2) b m.temps st _ (suc n) m.state.work pc v tt
+          (λ low2 qb. by_result done low1 low2 qa qb
+          (binary_result op ty mode (operand_of p (fixed k s1) (Number (whole_of k low1)) st)
+          (operand_of p (fixed k s2) (Number (whole_of k low2)) st)) refl))
+
   binary_follows : (start : ℕ) → Ready start all → (n : ℕ) → Onward n → (op : BinOp) (ty : PlainType) (mode : Mode)
       (t a : Temp) (aty : PlainType) (b : Temp) (bty : PlainType) (pc : ℕ) (rest : List PlainIr) (m : Mach) (v : View)
       → Ready pc (binary_op op ty mode t a aty b bty ∷ rest) → M (needs at (binary_op op ty mode t a aty b bty ∷ rest)) m v
@@ -2558,8 +2918,12 @@ module _ (p : PlainProgram) (functions : List PlainIrFunction) (e : Env) (slots 
       (λ (k : IsBinary (family_of op) slots t a b ty aty bty). integers_follow start ready n go op ty mode t a aty b bty pc rest m v k r
       h f)
       (λ i. ⊎_elim
-      (λ (k : IsFixedBinary slots op t a b ty aty bty).
-      fixed_binary_follows op ty mode t a aty b bty rest n pc m v k r.stands h f)
+      (λ (k : IsFixedBinary slots op t a b ty aty bty). ⊎_elim
+      (λ (q : is_on_integers (family_of op) mode ty aty bty ≡ true).
+      on_integers_follow start ready n go op ty mode t a aty b bty pc rest m v q (on_wholes slots op mode t a b ty aty bty k q) f r h)
+      (λ (q : is_on_integers (family_of op) mode ty aty bty ≡ false).
+      fixed_binary_follows op ty mode t a aty b bty rest n pc m v k q r.stands h f)
+      (cases_Bool (is_on_integers (family_of op) mode ty aty bty)))
       (λ (k : IsPointerBinary p slots op t a b ty aty bty).
       pointer_binary_follows p functions e slots home base place y at all end results me link stack op ty mode t a aty b bty
       rest n pc m v k r.stands h f)

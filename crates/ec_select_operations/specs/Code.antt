@@ -1,8 +1,9 @@
 -- The code of operations.
-use Rattle.std.specs.Prelude.{◌≤◌, ⊤, ℕ, suc, ◌+◌, ◌-◌, ◌*◌, ◌%◌, ◌==◌, nat_le, Bool, true, false, ◌&&◌, ◌||◌}
+use Rattle.std.specs.Prelude.{◌≤◌, ⊤, ℕ, suc, ◌+◌, ◌-◌, ◌*◌, ◌%◌, ◌==◌, nat_le, Bool, true, false, ◌&&◌, ◌||◌, not}
 use Rattle.std.specs.Prelude.{if◌then◌else◌}
 use Rattle.std.specs.Prelude.{min, List, [], ◌∷◌, ◌++◌, Option, Some, None, option_map, slice_get, slice_index}
 use Rattle.ec_fx.specs.declared.numbers.Mode.{Mode}
+use Rattle.ec_fx.specs.Formats.{format_of}
 use Rattle.ec_space.specs.declared.space.Bank.{Bank}
 use Rattle.ec_space.specs.declared.space.Bank.TheVariants.{Flash as FlashBank, Data as DataBank}
 use Rattle.ec_space.specs.declared.space.SpaceId.{SpaceId}
@@ -22,7 +23,8 @@ use Rattle.ec_core.specs.declared.expressions.BinOp.TheVariants.{Eq, Ne, Shl, Sh
 use Rattle.ec_core.specs.declared.expressions.UnOp.{UnOp}
 use Rattle.ec_core.specs.declared.expressions.UnOp.TheVariants.{Minus, Invert}
 use Rattle.ec_core.specs.Accesses.{element_size}
-use Rattle.ec_core.specs.Plain.{PlainType, integer, PlainObject, PlainProgram}
+use Rattle.ec_core.specs.Operators.{same_kind}
+use Rattle.ec_core.specs.Plain.{PlainType, integer, fixed, PlainObject, PlainProgram}
 use Rattle.ec_ir.specs.declared.operations.Temp.{Temp}
 use Rattle.ec_ir.specs.Operations.{PlainIr, constant, copy, address, field, load_at, store_at, load_object}
 use Rattle.ec_ir.specs.Operations.{store_object, binary_op, unary_op, conversion, label, jump, branch_zero}
@@ -90,7 +92,28 @@ family_of Shr = Shifted false
 
 abbrev pub is_signed : PlainType → Bool
 is_signed (integer signed bytes) = signed
+is_signed (fixed kind saturates) = (format_of kind).signed
 is_signed ty = false
+
+-- two fixed-point types whose numbers have equal formats
+abbrev pub has_one_format : (aty bty : PlainType) → Bool
+has_one_format (fixed k s) (fixed j t) = same_kind k j
+has_one_format aty bty = false
+
+-- and those with as many bits behind the point
+abbrev pub has_one_fraction : (ty aty : PlainType) → Bool
+has_one_fraction (fixed k s) (fixed j t) = (format_of k).frac == (format_of j).frac
+has_one_fraction ty aty = false
+
+-- an operator that gives for numbers of one format what it gives for the integers that their bytes stand for: a
+-- comparison, and where it does not saturate, a sum or a difference in that format
+abbrev pub is_as_exact : Family → Mode → (in_format : Bool) → Bool
+is_as_exact (Combined op) mode in_format = in_format && not mode.saturate
+is_as_exact (Compared r exchanged) mode in_format = true
+is_as_exact f mode in_format = false
+
+abbrev pub is_on_integers : Family → Mode → (ty aty bty : PlainType) → Bool
+is_on_integers f mode ty aty bty = has_one_format aty bty && is_as_exact f mode (has_one_format ty aty)
 
 -- the low bytes, and where more are needed the sign or 0
 abbrev pub conversion_code : Bool → (from to : Location) → (bytes n : ℕ) → List AsmItem
@@ -164,9 +187,13 @@ told_of (Compared r exchanged) signed = Some (record { relation = r; signed = si
 told_of f signed = None
 
 -- a comparison with a fixed-point operand or a pointer leaves none
-abbrev pub told_by : (is_whole : Bool) → Family → (signed : Bool) → Option Told
+abbrev pub told_by : (is_apart : Bool) → Family → (signed : Bool) → Option Told
 told_by true f signed = None
 told_by false f signed = told_of f signed
+
+-- but for one that is a comparison of integers
+abbrev pub is_apart : Family → Mode → (ty aty bty : PlainType) → Bool
+is_apart f mode ty aty bty = (is_whole aty || is_whole bty) && not (is_on_integers f mode ty aty bty)
 
 -- the next operation branches on the result, of which nothing is needed afterwards
 abbrev pub is_only_tested : (to : Temp) → (next : Option PlainIr) → (needed : ℕ) → Bool
@@ -177,7 +204,7 @@ is_only_tested to next needed = false
 abbrev pub tells : PlainIr → (next : Option PlainIr) → (needed : ℕ) → Option Told
 tells (binary_op op ty mode to a aty b bty) next needed =
     if is_only_tested to next needed
-    then told_by (is_whole aty || is_whole bty) (family_of op) (is_signed aty) else None
+    then told_by (is_apart (family_of op) mode ty aty bty) (family_of op) (is_signed aty) else None
 tells i next needed = None
 
 -- the comparison alone
@@ -281,16 +308,30 @@ abbrev pub by_kind : Bool → (own others : List AsmItem) → List AsmItem
 by_kind true own others = own
 by_kind false own others = others
 
-abbrev pub fixed_binary : BinOp → (ty aty bty : PlainType) → Mode → (a b to : Location) → (n : ℕ) → List AsmItem
-fixed_binary op ty aty bty mode a b to n =
-    answer_code (fixed_binary_code op ty aty bty mode a b answer_location work_location) to n
+-- operands of so many bytes
+abbrev pub fixed_binary : (telling : Option Told) → BinOp → (ty aty bty : PlainType) → Mode → (a b to : Location)
+    → (bytes n : ℕ) → List AsmItem
+fixed_binary telling op ty aty bty mode a b to bytes n =
+    if is_on_integers (family_of op) mode ty aty bty
+    then operator_code telling (family_of op) (is_signed aty) (is_signed bty) a b to bytes n
+    else answer_code (fixed_binary_code op ty aty bty mode a b answer_location work_location) to n
 
+-- a negation that does not saturate is that of an integer
 abbrev pub fixed_unary : UnOp → PlainType → Mode → (a to : Location) → (n : ℕ) → List AsmItem
-fixed_unary op ty mode a to n = answer_code (fixed_unary_code op ty mode a answer_location work_location) to n
+fixed_unary op ty mode a to n =
+    if mode.saturate then answer_code (fixed_unary_code op ty mode a answer_location work_location) to n
+    else unary_code op a to n
 
-abbrev pub fixed_conversion : (ty aty : PlainType) → Mode → (a to : Location) → (n : ℕ) → List AsmItem
-fixed_conversion ty aty mode a to n =
-    answer_code (fixed_conversion_code ty aty mode a answer_location work_location) to n
+-- a conversion that gives the same number: to the same format, and where it does not saturate, to one with as many bits
+-- behind the point
+abbrev pub keeps_number : (ty aty : PlainType) → Mode → Bool
+keeps_number ty aty mode = has_one_format ty aty || (has_one_fraction ty aty && not mode.saturate)
+
+-- of an operand of so many bytes
+abbrev pub fixed_conversion : (ty aty : PlainType) → Mode → (a to : Location) → (bytes n : ℕ) → List AsmItem
+fixed_conversion ty aty mode a to bytes n =
+    if keeps_number ty aty mode then conversion_code (is_signed aty) a to bytes n
+    else answer_code (fixed_conversion_code ty aty mode a answer_location work_location) to n
 
 -- ---- pointers
 
@@ -366,14 +407,15 @@ operation_code p home k told telling bytes kept (load_object t o offset) =
 operation_code p home k told telling bytes kept (store_object o offset t) =
     copy_code (home t) (object_location p.objects o offset) t.bytes
 operation_code p home k told telling bytes kept (binary_op op ty mode to a aty b bty) =
-    by_kind (is_fixed aty || is_fixed bty) (fixed_binary op ty aty bty mode (home a) (home b) (home to) bytes)
+    by_kind (is_fixed aty || is_fixed bty)
+    (fixed_binary telling op ty aty bty mode (home a) (home b) (home to) a.bytes bytes)
     (by_kind (is_pointer aty || is_pointer bty)
     (pointer_binary (is_pointer aty) (is_pointer bty) p op aty bty (home a) (home b) (home to) a.bytes b.bytes bytes)
     (operator_code telling (family_of op) (is_signed aty) (is_signed bty) (home a) (home b) (home to) a.bytes bytes))
 operation_code p home k told telling bytes kept (unary_op op ty mode to a) =
     by_kind (is_fixed ty) (fixed_unary op ty mode (home a) (home to) bytes) (unary_code op (home a) (home to) bytes)
 operation_code p home k told telling bytes kept (conversion to ty mode a aty) =
-    by_kind (is_fixed ty || is_fixed aty) (fixed_conversion ty aty mode (home a) (home to) bytes)
+    by_kind (is_fixed ty || is_fixed aty) (fixed_conversion ty aty mode (home a) (home to) a.bytes bytes)
     (by_kind (is_pointer aty) (pointer_conversion aty (home a) (home to) a.bytes to.bytes bytes)
     (conversion_code (is_signed aty) (home a) (home to) a.bytes bytes))
 operation_code p home k told telling bytes kept (label l) = Label (k.label_of l) ∷ []

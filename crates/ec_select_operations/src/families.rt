@@ -445,11 +445,11 @@ fn told_of(family: Family, signed: bool) -> Option<Told>
     }
 }
 
-/// The same, where no operand is a fixed-point number or a pointer: a comparison of such operands tells nothing.
-pub(crate) fn told_by(is_whole: bool, family: Family, signed: bool) -> Option<Told>
-    ensures { result ≡ told_by is_whole family signed }
+/// The same, but of an operator apart, whose operands are fixed-point numbers or pointers: it tells nothing.
+pub(crate) fn told_by(is_apart: bool, family: Family, signed: bool) -> Option<Told>
+    ensures { result ≡ told_by is_apart family signed }
 {
-    if is_whole {
+    if is_apart {
         None
     } else {
         told_of(family, signed)

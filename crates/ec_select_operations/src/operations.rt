@@ -13,12 +13,12 @@ use crate::calls::{Linking, call, finish};
 use crate::families::{
     BinaryOperation, Told, branch_on, convert, family_of, move_number, operator, told_by, unary,
 };
-use crate::fixed::{fixed_binary, fixed_conversion, fixed_unary};
+use crate::fixed::{fixed_binary, fixed_conversion, fixed_unary, is_apart};
 use crate::homes::{home, index_place};
 use crate::pointers::{
     load_object, load_through, object_location, pointer_binary, pointer_conversion, put_address,
 };
-use crate::types::{is_fixed, is_pointer, is_signed, is_whole};
+use crate::types::{is_fixed, is_pointer, is_signed};
 use ec_asm::{AsmItem, Location, copy};
 use ec_ir::{Ir, IrProgram, Temp};
 use ec_select_bytes::{PortAccess, constant, jump, read_port, write_port};
@@ -57,15 +57,18 @@ fn tells(i: &Ir, next: &Ir, needed: u8) -> Option<Told>
     match i {
         Ir::Bin {
             op,
+            ty,
+            mode,
             to,
             aty,
             bty,
             ..
         } => {
             if is_only_tested(*to, next, needed) {
+                let family = family_of(*op);
                 told_by(
-                    is_whole(aty) || is_whole(bty),
-                    family_of(*op),
+                    is_apart(family, *mode, ty, aty, bty),
+                    family,
                     is_signed(aty),
                 )
             } else {
@@ -140,7 +143,10 @@ pub fn operation(
             bty,
         } => {
             if is_fixed(aty) || is_fixed(bty) {
-                return fixed_binary(out, homes, *op, ty, *mode, *to, *a, aty, *b, bty, wanted);
+                let telling = flags.telling;
+                return fixed_binary(
+                    out, homes, telling, *op, ty, *mode, *to, *a, aty, *b, bty, wanted,
+                );
             }
             if is_pointer(aty) || is_pointer(bty) {
                 return pointer_binary(out, homes, program, *op, ty, *to, *a, aty, *b, bty, wanted);

@@ -1,7 +1,7 @@
 //! The kinds of types by which the code of an operation is chosen.
 ghost use Rattle.std.specs.Prelude.{◌≡◌};
 ghost use Rattle.ec_core.specs.Plain.{plain_type};
-ghost use Rattle.ec_select_operations.specs.Code.{is_signed};
+ghost use Rattle.ec_select_operations.specs.Code.{is_signed, has_one_format, has_one_fraction};
 ghost use Rattle.ec_select_operations.specs.Needs.{is_fixed, is_whole};
 ghost use Rattle.ec_select_operations.specs.Pointers.{is_pointer, is_into_data};
 
@@ -29,12 +29,35 @@ pub fn is_whole(ty: &CType) -> bool
     matches!(ty, CType::Fx { .. } | CType::Ptr { .. })
 }
 
-/// Whether a type is that of integers in two's complement.
+/// Whether a type is that of numbers in two's complement.
 pub(crate) fn is_signed(ty: &CType) -> bool
     ensures { result ≡ is_signed (plain_type ty.now) }
 {
     match ty {
         CType::Int { signed, .. } => *signed,
+        CType::Fx { kind, .. } => kind.format().signed,
+        _ => false,
+    }
+}
+
+/// Whether both types are fixed-point, and their numbers have equal formats.
+pub(crate) fn has_one_format(ty: &CType, other: &CType) -> bool
+    ensures { result ≡ has_one_format (plain_type ty.now) (plain_type other.now) }
+{
+    match (ty, other) {
+        (CType::Fx { kind, .. }, CType::Fx { kind: with, .. }) => *kind == *with,
+        _ => false,
+    }
+}
+
+/// Whether both types are fixed-point, and their numbers have as many bits behind the point.
+pub(crate) fn has_one_fraction(ty: &CType, other: &CType) -> bool
+    ensures { result ≡ has_one_fraction (plain_type ty.now) (plain_type other.now) }
+{
+    match (ty, other) {
+        (CType::Fx { kind, .. }, CType::Fx { kind: with, .. }) => {
+            kind.format().frac == with.format().frac
+        }
         _ => false,
     }
 }
