@@ -5,3 +5,9 @@ mod Refused
 mod Unchecked
 mod Unplaced
 mod Composed
+mod Viewed
+mod OneNeed
+mod OneCode
+mod OneMap
+mod OnePlace
+mod OneImage

@@ -6,3 +6,4 @@ pub mod Builds
 pub mod Placing
 pub mod Causes
 pub mod Accepted
+pub mod Images

@@ -1,0 +1,76 @@
+-- Builds of the same sources by the same map have one image.
+use Rattle.std.proofs.Common.{◌≡◌, ℕ, List, Option, Some, None, sym, ap, ◌∙◌, subst}
+use Rattle.ec_asm.specs.declared.items.AsmProgram.{AsmProgram}
+use Rattle.ec_core.specs.Plain.{PlainProgram, plain_program}
+use Rattle.ec_core.specs.PortTable.{PlainTable, plain_table}
+use Rattle.ec_check.specs.Units.{program_of}
+use Rattle.ec_check_ports.specs.Ports.{ProgramsGoByNames}
+use Rattle.ec_lower_code.specs.Code.{lowered}
+use Rattle.ec_lower_code.specs.Correct.{LoweredIsMadeOf}
+use Rattle.ec_map.specs.declared.map.Map.{Map}
+use Rattle.ec_locate.specs.Image.{flash_of, image}
+use Rattle.ec_locate.specs.Layout.{layout}
+use Rattle.ec_locate.specs.Placing.{entries_by, last_of, scratch_needs}
+use Rattle.ec_select.specs.Selected.{IsSelection}
+use Rattle.ec_select_operations.specs.Written.{NeededFunctionsAreWritten}
+use Rattle.ec_select_live.specs.Laws.{ValidOperationsHavePlaces}
+use Rattle.ec_build.specs.Builds.{IsChecked, IsImageOf}
+use Rattle.ec_locate.specs.declared.placing.Located.{Located}
+use Rattle.ec_build.specs.Images.{BuildsHaveOneImage}
+use Rattle.ec_build.proofs.OneCode.{items_same}
+use Rattle.ec_build.proofs.OneMap.{SameMaps, maps_same, look_alike, tables_same}
+use Rattle.ec_build.proofs.OnePlace.{image_same}
+
+pub record Laws : Type 0 where
+  pub programs : ProgramsGoByNames
+  pub lowered : LoweredIsMadeOf
+  pub places : ValidOperationsHavePlaces
+  pub written : NeededFunctionsAreWritten
+
+program_in : PlainProgram → Option PlainProgram → PlainProgram
+program_in p None = p
+program_in p (Some q) = q
+
+-- ---- the program
+
+programs_same : Laws → (sources : List (List ℕ)) (text : List ℕ) (m n : Map) (p q : PlainProgram) → SameMaps m n
+    → IsChecked sources text m p → IsChecked sources text n q → p ≡ q
+unfolding program_in
+programs_same laws sources text m n p q same a b =
+    let units : b.units ≡ a.units = a.read.only b.units b.read.trees in
+    ap (program_in p)
+    (sym a.program.typed ∙ laws.programs a.units m.io n.io (look_alike m n same)
+    ∙ (λ j. program_of (sym units j) n.io) ∙ b.program.typed)
+
+-- ---- the image of a program
+
+module _ (laws : Laws) (m n : Map) (same : SameMaps m n) (p : PlainProgram) (asm bsm : AsmProgram) (k l : Located)
+    (a : IsImageOf p m asm k) (b : IsImageOf p n bsm l) where
+  items_are : asm.items.items ≡ bsm.items.items
+  items_are =
+      items_same (record { places = laws.places; written = laws.written }) (lowered p (plain_table m.io))
+      (laws.lowered p m.io a.translated.valid a.translated.groups).valid asm bsm a.translated.selection
+      (subst (λ (t : PlainTable). IsSelection (lowered p t) bsm) (sym (tables_same m n same)) b.translated.selection)
+
+  flash_is : flash_of k.image ≡ flash_of l.image
+  flash_is =
+      a.translated.located.flash
+      ∙ (λ j. image p (layout m (entries_by m p) (a.frames j)) (last_of m) (items_are j))
+      ∙ image_same m n same p (scratch_needs p) bsm.items.items
+      ∙ (λ j. image p (layout n (entries_by n p) (sym b.frames j)) (last_of n) bsm.items.items)
+      ∙ sym b.translated.located.flash
+
+-- ---- builds
+
+pub builds_have_one_image : Laws → BuildsHaveOneImage
+builds_have_one_image laws sources text a b x y =
+    let same = maps_same text a.map b.map x.checked.read.map y.checked.read.map in
+    let one : plain_program a.program ≡ plain_program b.program =
+    programs_same laws sources text a.map b.map (plain_program a.program) (plain_program b.program) same x.checked y.checked in
+    record {
+      program = one;
+      core = x.image.translated.located.core ∙ sym y.image.translated.located.core;
+      flash =
+          flash_is laws a.map b.map same (plain_program a.program) x.asm y.asm a.located b.located x.image
+          (subst (λ (p : PlainProgram). IsImageOf p b.map y.asm b.located) (sym one) y.image);
+    }

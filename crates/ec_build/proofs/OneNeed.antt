@@ -1,0 +1,145 @@
+-- What is needed before operations, by two tables that tell the same at all labels.
+use Rattle.std.proofs.Common.{◌≡◌, ℕ, zero, suc, ◌+◌, ◌<◌, ◌≤◌, List, [], ◌∷◌, Option, Some, None, ◌||◌, refl, arith}
+use Rattle.std.specs.Prelude.{◌==◌, if◌then◌else◌, min, max, ⊤}
+use Rattle.std.specs.List.{AllByRecursion}
+use Rattle.ec_ir.specs.declared.operations.Temp.{Temp}
+use Rattle.ec_ir.specs.Operations.{PlainIr, constant, copy, address, field, load_at, store_at, load_object}
+use Rattle.ec_ir.specs.Operations.{store_object, binary_op, unary_op, conversion, label, jump, branch_zero}
+use Rattle.ec_ir.specs.Operations.{call_function, return_from, port_in, port_out}
+use Rattle.ec_select_operations.specs.Code.{result_wanted, wanted_behind, wanted_bytes, register_places}
+use Rattle.ec_select_operations.specs.Needs.{Need, at_least, without, either, wanted, is_whole, first_wanted, second_wanted}
+use Rattle.ec_select_operations.specs.Needs.{only_wanted, index_needed, without_result, before, needs}
+use Rattle.ec_select_operations.specs.Written.{row_from, kept_row, kept_rows}
+use Rattle.ec_select_live.specs.Places.{HasPlace, HasPlaces, HavePlaces}
+use Rattle.ec_select_live.specs.Tables.{AreSame}
+
+-- two tables tell the same of the first places at the label that an operation names
+abbrev pub TellSame : ℕ → (ℕ → Need) → (ℕ → Need) → PlainIr → Type 0
+TellSame s here there (label l) = AreSame s (here l) (there l)
+TellSame s here there (jump l) = AreSame s (here l) (there l)
+TellSame s here there (branch_zero t l) = AreSame s (here l) (there l)
+TellSame s here there i = ⊤
+
+-- ---- one operation
+
+same_without : (s at : ℕ) (a b : Need) → AreSame s a b → AreSame s (without at a) (without at b)
+same_without s at a b h place l = λ j. if place == at then 0 else h place l j
+
+same_least : (s at n m : ℕ) (a b : Need) → n ≡ m → AreSame s a b → AreSame s (at_least at n a) (at_least at m b)
+same_least s at n m a b e h place l = λ j. if place == at then max (h place l j) (e j) else h place l j
+
+same_either : (s : ℕ) (a b c d : Need) → AreSame s a b → AreSame s c d → AreSame s (either a c) (either b d)
+same_either s a b c d h k place l = λ j. max (h place l j) (k place l j)
+
+same_wanted : (s : ℕ) (t : Temp) (a b : Need) → HasPlace s t → AreSame s a b → wanted a t ≡ wanted b t
+same_wanted s t a b l h = λ j. min (h t.at l.0 j) t.bytes
+
+same_value : (s : ℕ) (to : Temp) (at : ℕ) (f : ℕ → ℕ) (a b : Need) → HasPlace s to → AreSame s a b
+    → AreSame s (at_least at (f (wanted a to)) (without to.at a)) (at_least at (f (wanted b to)) (without to.at b))
+same_value s to at f a b l h =
+    same_least s at (f (wanted a to)) (f (wanted b to)) (without to.at a) (without to.at b)
+    (λ j. f (same_wanted s to a b l h j)) (same_without s to.at a b h)
+
+same_result : (s : ℕ) (to : Option Temp) (a b : Need) → AreSame s a b → AreSame s (without_result to a) (without_result to b)
+same_result s None a b h = h
+same_result s (Some t) a b h = same_without s t.at a b h
+
+same_index : (s : ℕ) (index : Option Temp) (a b : Need) → AreSame s a b → AreSame s (index_needed index a) (index_needed index b)
+same_index s None a b h = h
+same_index s (Some t) a b h = same_least s t.at 1 1 a b refl h
+
+module _ (s : ℕ) (here there : ℕ → Need) where
+  before_same : (i : PlainIr) (a b : Need) → HasPlaces s i → TellSame s here there i → AreSame s a b
+      → AreSame s (before here i a) (before there i b)
+  before_same (constant t n) a b l k h = same_without s t.at a b h
+  before_same (copy to from) a b l k h = same_value s to from.at (λ n. n) a b l.0 h
+  before_same (load_object t o offset) a b l k h = same_without s t.at a b h
+  before_same (store_object o offset t) a b l k h = same_least s t.at t.bytes t.bytes a b refl h
+  before_same (binary_op op ty mode to x xty y yty) a b l k h =
+      let w = is_whole xty || is_whole yty in
+      same_least s x.at (first_wanted w op x.bytes (wanted a to)) (first_wanted w op x.bytes (wanted b to))
+      (at_least y.at (second_wanted w op y.bytes (wanted a to)) (without to.at a))
+      (at_least y.at (second_wanted w op y.bytes (wanted b to)) (without to.at b))
+      (λ j. first_wanted w op x.bytes (same_wanted s to a b l.0 h j))
+      (same_value s to y.at (second_wanted w op y.bytes) a b l.0 h)
+  before_same (unary_op op ty mode to x) a b l k h = same_value s to x.at (only_wanted (is_whole ty) x.bytes) a b l.0 h
+  before_same (conversion to ty mode x xty) a b l k h =
+      same_value s to x.at (only_wanted (is_whole ty || is_whole xty) x.bytes) a b l.0 h
+  before_same (branch_zero t q) a b l k h =
+      same_least s t.at t.bytes t.bytes (either a (here q)) (either b (there q)) refl
+      (same_either s a b (here q) (there q) h k)
+  before_same (return_from from) a b l k h = λ place q. refl
+  before_same (label q) a b l k h = k
+  before_same (jump q) a b l k h = k
+  before_same (address t o offset) a b l k h = same_without s t.at a b h
+  before_same (field ptr space offset) a b l k h = same_least s ptr.at ptr.bytes ptr.bytes a b refl h
+  before_same (load_at to ptr space) a b l k h =
+      same_least s ptr.at ptr.bytes ptr.bytes (without to.at a) (without to.at b) refl (same_without s to.at a b h)
+  before_same (store_at ptr space from) a b l k h =
+      same_least s from.at from.bytes from.bytes (at_least ptr.at ptr.bytes a) (at_least ptr.at ptr.bytes b) refl
+      (same_least s ptr.at ptr.bytes ptr.bytes a b refl h)
+  before_same (call_function f to) a b l k h = same_result s to a b h
+  before_same (port_in to port index width) a b l k h =
+      same_index s index (without to.at a) (without to.at b) (same_without s to.at a b h)
+  before_same (port_out from port index width) a b l k h =
+      same_least s from.at width width (index_needed index a) (index_needed index b) refl (same_index s index a b h)
+
+  result_same : (i : PlainIr) (a b : Need) → HasPlaces s i → AreSame s a b → result_wanted a i ≡ result_wanted b i
+  result_same (constant t n) a b l h = same_wanted s t a b l h
+  result_same (copy to from) a b l h = same_wanted s to a b l.0 h
+  result_same (binary_op op ty mode to x xty y yty) a b l h = same_wanted s to a b l.0 h
+  result_same (unary_op op ty mode to x) a b l h = same_wanted s to a b l.0 h
+  result_same (conversion to ty mode x xty) a b l h = same_wanted s to a b l.0 h
+  result_same (address t o offset) a b l h = same_wanted s t a b l h
+  result_same (call_function f None) a b l h = refl
+  result_same (call_function f (Some t)) a b l h = same_wanted s t a b l h
+  result_same (port_in to port index width) a b l h = same_wanted s to a b l.0 h
+  result_same (load_object t o offset) a b l h = refl
+  result_same (store_object o offset t) a b l h = refl
+  result_same (branch_zero t k) a b l h = refl
+  result_same (return_from from) a b l h = refl
+  result_same (label k) a b l h = refl
+  result_same (jump k) a b l h = refl
+  result_same (field ptr space offset) a b l h = refl
+  result_same (load_at to ptr space) a b l h = refl
+  result_same (store_at ptr space from) a b l h = refl
+  result_same (port_out from port index width) a b l h = refl
+
+  behind_same : (i : PlainIr) (a b : Need) → HasPlaces s i → TellSame s here there i → AreSame s a b
+      → wanted_behind here a i ≡ wanted_behind there b i
+  behind_same (branch_zero t q) a b l k h =
+      same_wanted s t (either a (here q)) (either b (there q)) l (same_either s a b (here q) (there q) h k)
+  behind_same i a b l k h = result_same i a b l h
+
+  -- ---- all operations
+
+  needs_same : (code : List PlainIr) → HavePlaces s code → AllByRecursion (TellSame s here there) code
+      → AreSame s (needs here code) (needs there code)
+  needs_same [] l k = λ place q. refl
+  needs_same (i ∷ code) l k =
+      before_same i (needs here code) (needs there code) l.0 k.0 (needs_same code l.1 k.1)
+
+  pub wanted_same : (code : List PlainIr) → HavePlaces s code → AllByRecursion (TellSame s here there) code
+      → wanted_bytes here code ≡ wanted_bytes there code
+  wanted_same [] l k = refl
+  wanted_same (i ∷ code) l k =
+      λ j. behind_same i (needs here code) (needs there code) l.0 k.0 (needs_same code l.1 k.1) j ∷ wanted_same code l.1 k.1 j
+
+  row_same : (count place : ℕ) (a b : Need) → place + count ≤ s → AreSame s a b → row_from count place a ≡ row_from count place b
+  row_same zero place a b l h = refl
+  row_same (suc count) place a b l h =
+      let here_is : place < s = omega (arith, l) in
+      let more : suc place + count ≤ s = omega (arith, l) in
+      λ j. h place here_is j ∷ row_same count (suc place) a b more h j
+
+  row_kept : (i : PlainIr) (a b : Need) → AreSame s a b → kept_row s a i ≡ kept_row s b i
+  row_kept (call_function f to) a b h =
+      let few : 0 + register_places s ≤ s = omega arith in
+      row_same (register_places s) 0 (without_result to a) (without_result to b) few (same_result s to a b h)
+  row_kept i a b h = refl
+
+  pub rows_same : (code : List PlainIr) → HavePlaces s code → AllByRecursion (TellSame s here there) code
+      → kept_rows s here code ≡ kept_rows s there code
+  rows_same [] l k = refl
+  rows_same (i ∷ code) l k =
+      λ j. row_kept i (needs here code) (needs there code) (needs_same code l.1 k.1) j ∷ rows_same code l.1 k.1 j
