@@ -8,3 +8,4 @@ mod ReadingExec
 mod Keeping
 mod RunExec
 mod Written
+mod Texts

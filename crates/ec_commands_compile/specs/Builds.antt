@@ -103,6 +103,28 @@ abbrev pub Accepts : Words → ℕ → Option Disk → Type 0
 Accepts words first None = ⊥
 Accepts words first (Some disk) = AreAccepted words first disk.files
 
--- each image that is built of the named files has a HEX text of at most so many bytes
+-- ---- the text of a build
+
+-- it is the HEX text of an image of the named files
+pub record IsTextOf (words : Words) (first : ℕ) (files : Files) (text : List ℕ) : Type 0 where
+  pub built : Built
+  pub from : IsBuiltFrom words first built files
+  pub is : text ≡ image_text built.located.image
+
+-- they have one, or none
+abbrev pub BuildsHaveOneText : Type 0
+BuildsHaveOneText =
+    (words : Words) (first : ℕ) (files : Files) (text other : List ℕ) → IsTextOf words first files text
+    → IsTextOf words first files other → text ≡ other
+
+-- the text of the named files has at most so many bytes
+pub record HasTextWithin (words : Words) (room : ℕ) (files : Files) : Type 0 where
+  pub text : List ℕ
+  pub of_files : IsTextOf words 3 files text
+  pub most : length text ≤ room
+
+-- where there is an image of the named files, its text has at most so many bytes; where the store tells no files, that of
+-- any image has
 abbrev pub FitsText : Words → Option Disk → ℕ → Type 0
-FitsText words disk room = (b : Built) → Told (IsBuiltFrom words 3 b) disk → length (image_text b.located.image) ≤ room
+FitsText words None room = (b : Built) → length (image_text b.located.image) ≤ room
+FitsText words (Some disk) room = HasImage words 3 disk.files → HasTextWithin words room disk.files

@@ -14,6 +14,7 @@ ghost use Rattle.ec_commands_compile.specs.Builds.{IsBuiltFrom, Builds, BuildSto
 ghost use Rattle.ec_commands_compile.specs.Stops.{status_of, IsNamed};
 ghost use Rattle.ec_commands_compile.specs.declared.stop.CompileStop.TheVariants.{Command};
 
+use crate::laws::builds_have_one_text;
 use crate::stop::CompileStop;
 use ec_build::{Built, discard};
 use ec_commands::{CommandError, Limit, is_build, read, read_sources, word_at, write_file};
@@ -128,6 +129,7 @@ fn build_few<S: Store>(alloc: Global, words: &Vec<String>, store: &mut S) -> Res
         Ok(built) => built,
         Err(stop) => return Err(stop),
     };
+    builds_have_one_text();
     let written = write_file(store, word_at(words, 2), &built.located.image);
     discard(built);
     match written {

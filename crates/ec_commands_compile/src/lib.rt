@@ -6,6 +6,7 @@ mod answer;
 mod building;
 mod executing;
 mod generating;
+mod laws;
 mod line;
 mod stop;
 
@@ -13,4 +14,5 @@ pub use answer::conclude;
 pub use building::build;
 pub use executing::exec;
 pub use generating::run_generated;
+pub use laws::builds_have_one_text;
 pub use stop::{CompileStop, status};

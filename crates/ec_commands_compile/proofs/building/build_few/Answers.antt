@@ -1,6 +1,7 @@
 use Rattle.std.proofs.Common.{◌∙◌, sym, subst, arith}
 use Rattle.ec_commands.specs.Words.{out_name}
 use Rattle.ec_commands_compile.specs.Inputs.{build_inputs}
+use Rattle.ec_commands_compile.proofs.Texts.{text_fits}
 use Rattle.ec_commands_compile.proofs.Written.{built, left_front, has_image}
 use Rattle.ec_commands_compile.proofs.building.build_few.Goals as goal
 
@@ -20,7 +21,7 @@ returns-in-Ok-written-clause-calm g c = λ room calm fits.
     c.write_file-written.ensures.calm _ room
     (subst (λ made. g.S.Store.calm c.read_and_build.new.store (build_inputs c.args.words.now.items) made room)
     (sym c.word_at.ensures) read.1)
-    (fits c.in-Ok.built c.in-Ok.ensures.found) in
+    (text_fits c.builds_have_one_text.ensures c.args.words.now.items _ c.in-Ok.built room c.in-Ok.ensures.found fits) in
     (c.write_file-written.ensures.read_faults ∙ read.0, written ∙ c.read_and_build.ensures.write_faults)
 
 pub returns-in-Err-written-clause-stopped : goal.returns-in-Err-written-clause-stopped
@@ -42,5 +43,5 @@ returns-in-Err-written-clause-calm g c = λ room calm fits.
     c.write_file-written.ensures.calm _ room
     (subst (λ made. g.S.Store.calm c.read_and_build.new.store (build_inputs c.args.words.now.items) made room)
     (sym c.word_at.ensures) read.1)
-    (fits c.in-Ok.built c.in-Ok.ensures.found) in
+    (text_fits c.builds_have_one_text.ensures c.args.words.now.items _ c.in-Ok.built room c.in-Ok.ensures.found fits) in
     (c.write_file-written.ensures.read_faults ∙ read.0, written ∙ c.read_and_build.ensures.write_faults)
