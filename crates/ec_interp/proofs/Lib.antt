@@ -5,4 +5,6 @@ mod Changes
 mod Parts
 mod Steps
 mod Passing
+mod Meeting
+mod Telling
 mod Rows

@@ -1,16 +1,17 @@
 -- From a part of a valid program to the parts in it: what a state and a part have where a run comes to them.
-use Rattle.std.proofs.Common.{◌≡◌, ◌+◌, ◌<◌, drop, get_or, length, pos, ℕ, zero, suc, Bool, true, false, List, [], ◌∷◌, Option, Some, None}
+use Rattle.std.proofs.Common.{◌≡◌, ◌+◌, ◌<◌, ◌≤◌, drop, get_or, length, ◌++◌, pos, ℕ, zero, suc, Bool, true, false, List, [], ◌∷◌, Option, Some, None}
 use Rattle.std.proofs.Common.{Result, Ok, Err, refl, sym, ap, ◌∙◌, subst, arith, inl, inr, ⊎_elim}
 use Rattle.std.proofs.Math.Seq.{drop-cons}
 use Rattle.std.specs.Prelude.{IsSomeAnd, slice_get}
 use Rattle.std.proofs.lemmas.Int.{ints}
+use Rattle.std.proofs.lemmas.List.{append_assoc, append-nil, drop_all}
 use Rattle.ec_core.specs.declared.expressions.Expr.{Expr}
 use Rattle.ec_core.specs.declared.statements.Stmt.{Stmt}
 use Rattle.ec_core.specs.declared.values.Undefined.{Undefined}
 use Rattle.ec_core.specs.declared.values.Value.{Value}
 use Rattle.ec_core.specs.declared.values.Value.TheVariants.{Number, Pointer}
 use Rattle.ec_core.specs.Accesses.{operand_of, begun, initialised, read}
-use Rattle.ec_core.specs.Expressions.{accessed, condition, value_of, place_of, option_value, values_of}
+use Rattle.ec_core.specs.Expressions.{Calls, accessed, condition, value_of, place_of, option_value, values_of}
 use Rattle.ec_core.specs.Layout.{IsScalar, PlainLeaf, leaves_of_type}
 use Rattle.ec_core.specs.Meaning.{initial_state}
 use Rattle.ec_core.specs.Operators.{truth_result, step_operator}
@@ -283,19 +284,39 @@ module _ (f : Context) where
   leaves_next s o k es e l r h = subst (λ (xs : List Expr). RunsLeaves f s o k (plain_exprs xs)) (list_next es k e l r) h
 
   -- what is done first with the rest of a list
-  pub exprs_step : (turns depth : ℕ) (es : List Expr) (i : ℕ) (e : Expr) (s : State) → i < length es → e ≡ get_or es i e
-      → values_of w (calls_within w turns depth) (plain_exprs (drop i es)) s ≡ next (value_of w (calls_within w turns depth) (plain_expr e)
-      s) (λ x s1. next (values_of w (calls_within w turns depth) (plain_exprs (drop (i + 1) es)) s1) (λ xs s2. got (x ∷ xs) s2))
-  exprs_step turns depth es i e s l r = ap (λ xs. values_of w (calls_within w turns depth) (plain_exprs xs) s) (list_next es i e l r)
+  pub exprs_step : (calls : Calls) (es : List Expr) (i : ℕ) (e : Expr) (s : State) → i < length es → e ≡ get_or es i e
+      → values_of w calls (plain_exprs (drop i es)) s ≡ next (value_of w calls (plain_expr e)
+      s) (λ x s1. next (values_of w calls (plain_exprs (drop (i + 1) es)) s1) (λ xs s2. got (x ∷ xs) s2))
+  exprs_step calls es i e s l r = ap (λ xs. values_of w calls (plain_exprs xs) s) (list_next es i e l r)
 
-  pub leaves_step : (turns depth o k : ℕ) (es : List Expr) (e : Expr) (s t : State) → k < length es → e ≡ get_or es k e
-      → t ≡ worked (leaf_words (plain_expr e)) s → initialising w (calls_within w turns depth) o k (plain_exprs (drop k es)) s
-      ≡ next (value_of w (calls_within w turns depth) (plain_expr e) t) (λ x s1. next (initialised program o k x s1)
-      (λ y s2. initialising w (calls_within w turns depth) o (k + 1) (plain_exprs (drop (k + 1) es)) s2))
-  leaves_step turns depth o k es e s t l r q =
-      ap (λ xs. initialising w (calls_within w turns depth) o k (plain_exprs xs) s) (list_next es k e l r)
-      ∙ ap (λ (z : State). next (value_of w (calls_within w turns depth) (plain_expr e) z) (λ x s1. next (initialised program o k x s1)
-      (λ y s2. initialising w (calls_within w turns depth) o (k + 1) (plain_exprs (drop (k + 1) es)) s2))) (sym q)
+  -- one value more in front of the rest
+  pub values_more : (o rest all : Outcome (List Value)) (made : List Value) (x : Value) (new : List Value) → new ≡ made ++ x ∷ []
+      → o ≡ next rest (λ xs s2. got (x ∷ xs) s2) → next o (λ xs s. got (made ++ xs) s) ≡ all → next rest (λ xs s. got (new ++ xs) s) ≡ all
+  values_more o (got xs s) all made x new n e h =
+      sym (ap (λ z. next z (λ ys t. got (made ++ ys) t)) e
+      ∙ ap (λ (z : List Value). got z s) (sym (append_assoc made (x ∷ []) xs) ∙ ap (λ z. z ++ xs) (sym n))) ∙ h
+  values_more o (more s) all made x new n e h = sym (ap (λ z. next z (λ ys t. got (made ++ ys) t)) e) ∙ h
+  values_more o (undefined p s) all made x new n e h = sym (ap (λ z. next z (λ ys t. got (made ++ ys) t)) e) ∙ h
+
+  -- none are left
+  pub values_done : (calls : Calls) (es : List Expr) (i : ℕ) (made : List Value) (s : State) (all : Outcome (List Value)) → length es ≤ i
+      → next (values_of w calls (plain_exprs (drop i es)) s) (λ xs t. got (made ++ xs) t) ≡ all → all ≡ got made s
+  values_done calls es i made s all h e =
+      sym e ∙ (ap (λ xs. next (values_of w calls (plain_exprs xs) s) (λ ys t. got (made ++ ys) t)) (drop_all i es h)
+      ∙ ap (λ (z : List Value). got z s) (append-nil made))
+
+  pub leaves_done : (calls : Calls) (o : ℕ) (es : List Expr) (k : ℕ) (s : State) (all : Outcome Exit) → length es ≤ k
+      → initialising w calls o k (plain_exprs (drop k es)) s ≡ all → all ≡ got at_end s
+  leaves_done calls o es k s all h e = sym e ∙ ap (λ xs. initialising w calls o k (plain_exprs xs) s) (drop_all k es h)
+
+  pub leaves_step : (calls : Calls) (o k : ℕ) (es : List Expr) (e : Expr) (s t : State) → k < length es → e ≡ get_or es k e
+      → t ≡ worked (leaf_words (plain_expr e)) s → initialising w calls o k (plain_exprs (drop k es)) s
+      ≡ next (value_of w calls (plain_expr e) t) (λ x s1. next (initialised program o k x s1)
+      (λ y s2. initialising w calls o (k + 1) (plain_exprs (drop (k + 1) es)) s2))
+  leaves_step calls o k es e s t l r q =
+      ap (λ xs. initialising w calls o k (plain_exprs xs) s) (list_next es k e l r)
+      ∙ ap (λ (z : State). next (value_of w calls (plain_expr e) z) (λ x s1. next (initialised program o k x s1)
+      (λ y s2. initialising w calls o (k + 1) (plain_exprs (drop (k + 1) es)) s2))) (sym q)
 
   pub stmts_step : (turns depth : ℕ) (ss : List Stmt) (i : ℕ) (a : Stmt) (s : State) → i < length ss → a ≡ get_or ss i a
       → effects_of w (calls_within w turns depth) turns (plain_stmts (drop i ss)) s ≡ next (effect_of w (calls_within w turns depth) turns

@@ -7,5 +7,7 @@ pub mod Actions
 pub mod Does
 pub mod Lookups
 pub mod Loops
+pub mod Outcomes
+pub mod Places
 pub mod Updates
 pub mod Weights

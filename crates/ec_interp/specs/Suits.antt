@@ -18,7 +18,7 @@ use Rattle.ec_interp.specs.declared.behaviour.Unanswered.{Unanswered as Reason}
 use Rattle.ec_interp.specs.declared.behaviour.Unanswered.TheVariants.{NoMemory, Unsuited}
 use Rattle.ec_interp.specs.declared.state.Context.{Context}
 use Rattle.ec_interp.specs.declared.state.RunError.{RunError}
-use Rattle.ec_interp.specs.declared.state.RunError.TheVariants.{Unanswered, OutOfTurns, Undefined}
+use Rattle.ec_interp.specs.declared.state.RunError.TheVariants.{Unanswered, OutOfTurns, Undefined, Met}
 use Rattle.ec_interp.specs.Views.{inputs_of}
 
 -- ---- answers
@@ -34,6 +34,7 @@ IsAnswered (Ok x) = ⊤
 IsAnswered (Err (Unanswered why)) = IsMemory why
 IsAnswered (Err OutOfTurns) = ⊤
 IsAnswered (Err (Undefined point)) = ⊤
+IsAnswered (Err (Met point unit at)) = ⊤
 
 -- ---- programs and their parts
 

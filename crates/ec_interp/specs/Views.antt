@@ -82,4 +82,4 @@ seen_exit (ByReturn v) = by_return v
 abbrev pub seen_behaviour : Behaviour → BehaviourOf EventOf ℤ Undefined
 seen_behaviour (Ended events result) = EndedWith (map seen_event events.items) result
 seen_behaviour (Running events) = RunningAt (map seen_event events.items)
-seen_behaviour (MeetsUndefined point) = Failed point
+seen_behaviour (MeetsUndefined point unit at events) = Failed point

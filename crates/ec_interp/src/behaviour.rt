@@ -65,11 +65,22 @@ pub enum Event {
 #[derive(Drop)]
 pub enum Behaviour {
     /// `main` returned this number.
-    Ended { events: Seq<Event>, result: i128 },
+    Ended {
+        events: Seq<Event>,
+        result: i128,
+    },
     /// A loop is out of turns.
-    Running { events: Seq<Event> },
-    /// An undefined point was met.
-    MeetsUndefined(Undefined),
+    Running {
+        events: Seq<Event>,
+    },
+    /// An undefined point was met, at the statement with this unit and first token: the innermost one under
+    /// execution, and the body of a function whose end was reached without a result.
+    MeetsUndefined {
+        point: Undefined,
+        unit: u8,
+        at: u32,
+        events: Seq<Event>,
+    },
 }
 
 /// An answer.

@@ -3,22 +3,23 @@ ghost use Rattle.std.specs.Prelude.{◌≡◌, ◌*◌, false, Some, None, lengt
 ghost use Rattle.std.specs.List.{AllByRecursion};
 ghost use Rattle.ec_core.specs.Accesses.{leaf_count};
 ghost use Rattle.ec_core.specs.Layout.{IsObjectType};
-ghost use Rattle.ec_core.specs.Meaning.{initial_value, initial_object, initial_state, number_of, source, work};
+ghost use Rattle.ec_core.specs.Meaning.{initial_value, initial_object, initial_state, number_of, run as run_of, source};
+ghost use Rattle.ec_core.specs.Meaning.{work};
 ghost use Rattle.ec_core.specs.Plain.{plain_object, plain_program};
 ghost use Rattle.ec_core.specs.PortTable.{plain_table};
 ghost use Rattle.ec_core.specs.Valid.{IsObject, Valid};
 ghost use Rattle.ec_core.specs.ValueTypes.{GiveBytes};
 ghost use Rattle.ec_interp.specs.declared.behaviour.Unanswered.TheVariants.{NoMemory as OutOfMemory};
-ghost use Rattle.ec_interp.specs.Shows.{ShowsBehaviour};
+ghost use Rattle.ec_interp.specs.Outcomes.{TellsOutcome, TellsPlace, TellsAnswer};
 ghost use Rattle.ec_interp.specs.Suits.{IsGiven, IsMemory, IsAnswered};
-ghost use Rattle.ec_interp.specs.Views.{seen, seen_object, seen_behaviour, inputs_of, HasLayouts};
+ghost use Rattle.ec_interp.specs.Views.{seen, seen_object, seen_behaviour, inputs_of, setting_of, HasLayouts};
 
 use crate::behaviour::{Behaviour, Event, PortInput, Run, Unanswered};
 use crate::layouts::leaf_count;
 use crate::objects::unset_leaves;
 use crate::run::call;
 use crate::state::{Context, ObjectState, RunError, State};
-use ec_core::{LeafInit, Obj, ObjectPointer, Program, Storage, Value};
+use ec_core::{LeafInit, Obj, ObjectPointer, Program, Storage, Value, invalid_is_never_met};
 use ec_iohw::IoTable;
 use ec_space::{NoMemory, Seq, push};
 use std::alloc::Global;
@@ -164,7 +165,7 @@ fn behaviour_of(
     s: &State,
 ) -> Result<Behaviour, Unanswered>
     ensures answered { IsAnswered outcome → IfErr result IsMemory }
-    ensures behaviour { IfOk result (λ b. ShowsBehaviour outcome (seen s.now) (seen_behaviour b)) }
+    ensures told { IfOk result (TellsAnswer outcome (seen s.now)) }
 {
     match outcome {
         Ok(x) => Ok(Behaviour::Ended {
@@ -174,7 +175,14 @@ fn behaviour_of(
         Err(RunError::OutOfTurns) => Ok(Behaviour::Running {
             events: events_of(alloc, s)?,
         }),
-        Err(RunError::Undefined(point)) => Ok(Behaviour::MeetsUndefined(point)),
+        Err(RunError::Met { point, unit, at }) => Ok(Behaviour::MeetsUndefined {
+            point,
+            unit,
+            at,
+            events: events_of(alloc, s)?,
+        }),
+        // never: a call tells where each point was met
+        Err(RunError::Undefined(_)) => Err(Unanswered::NoMemory),
         Err(RunError::Unanswered(why)) => Err(why),
     }
 }
@@ -190,7 +198,8 @@ fn steps(words: u64) -> Result<u64, NoMemory>
 
 /// What a program does with these inputs, where each execution of a loop has at most `turns` turns, and
 /// the bound on the machine's steps that comes with it. For ports without an entry of their own there
-/// is no input. Of a valid program only running out of memory keeps it from an answer.
+/// is no input. Where an undefined point is met, the events up to it are told, and the innermost statement
+/// under execution. Of a valid program only running out of memory keeps it from an answer.
 pub fn interpret(
     alloc: Global,
     program: &Program,
@@ -199,6 +208,13 @@ pub fn interpret(
     turns: u32,
 ) -> Result<Run, Unanswered>
     requires { HasLayouts program.now }
+    ensures outcome { let w = setting_of program.now io.now inputs.now.items in
+        IfOk result (λ run. TellsOutcome w turns run.behaviour
+        (run_of (plain_program program.now) (plain_table io.now) (inputs_of inputs.now.items) turns)) }
+    ensures place { Valid (plain_program program.now) io.now → GiveBytes (inputs_of inputs.now.items)
+        → (let w = setting_of program.now io.now inputs.now.items in
+        IfOk result (λ run. TellsPlace w turns run.behaviour
+        (run_of (plain_program program.now) (plain_table io.now) (inputs_of inputs.now.items) turns))) }
     ensures behaviour { IfOk result
         (λ run. seen_behaviour run.behaviour
         ≡ source (plain_program program.now) (plain_table io.now) (inputs_of inputs.now.items) turns) }
@@ -207,6 +223,7 @@ pub fn interpret(
     ensures answered { Valid (plain_program program.now) io.now → GiveBytes (inputs_of inputs.now.items)
         → IfErr result (λ why. why ≡ OutOfMemory) }
 {
+    invalid_is_never_met();
     let f = Context {
         alloc,
         program,

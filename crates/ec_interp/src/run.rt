@@ -1,6 +1,7 @@
 //! What expressions, statements and functions do.
 ghost use Rattle.std.specs.Prelude.{◌≡◌, ◌==◌, ◌+◌, ◌<◌, ⊤, pos, [], ◌∷◌, ◌++◌, map, option_map, unwrap_or, OnOk};
 ghost use Rattle.std.specs.Option.{option_copied};
+ghost use Rattle.ec_core.specs.declared.values.Undefined.TheVariants.{Invalid};
 ghost use Rattle.ec_core.specs.declared.values.Value.TheVariants.{Number as TheNumber};
 ghost use Rattle.ec_core.specs.Accesses.{pointer_to, referent_of, member_offset, begun, initialised, operand_of};
 ghost use Rattle.ec_core.specs.Accesses.{frame_ended};
@@ -11,6 +12,7 @@ ghost use Rattle.ec_core.specs.Operators.{step_operator, binary_result, conversi
 ghost use Rattle.ec_core.specs.Plain.{void, load, address_of, unary, binary, convert, assign, compound, step};
 ghost use Rattle.ec_core.specs.Plain.{logical_not, logical_and, logical_or, conditional, comma, call, io, block};
 ghost use Rattle.ec_core.specs.Plain.{declare, branch, for_loop, a_stmt, plain_type, plain_node, plain_place};
+ghost use Rattle.ec_core.specs.Plain.{plain_kind};
 ghost use Rattle.ec_core.specs.Plain.{plain_expr, plain_exprs, plain_stmt, plain_stmts, plain_function, plain_program};
 ghost use Rattle.ec_core.specs.Pointers.{moved};
 ghost use Rattle.ec_core.specs.PortAccesses.{no_value};
@@ -22,10 +24,12 @@ ghost use Rattle.ec_core.specs.Typing.{int, place_type, type_of_expr, HaveBinary
 ghost use Rattle.ec_core.specs.Typing.{AreConvertible};
 ghost use Rattle.ec_core.specs.ValueTypes.{IsTypedState};
 ghost use Rattle.ec_core.specs.Words.{node_words, loop_words, jump_words, function_words};
+ghost use Rattle.ec_interp.specs.declared.state.RunError.TheVariants.{Met};
 ghost use Rattle.ec_interp.specs.Does.{DoesExpr, DoesNode, DoesModeless, DoesTypeless, DoesCondition, DoesPlace};
 ghost use Rattle.ec_interp.specs.Does.{DoesOption, DoesExprs, DoesTest, DoesOptional, DoesReturn, DoesLeaves, DoesStmt};
 ghost use Rattle.ec_interp.specs.Does.{DoesKind, DoesStmts, DoesFirst, DoesFirstAndLoop, DoesTested, DoesTurns};
 ghost use Rattle.ec_interp.specs.Does.{DoesNext, DoesCall, DoesEntered, ShowsWhere, plain_other};
+ghost use Rattle.ec_interp.specs.Outcomes.{ShowsRun};
 ghost use Rattle.ec_interp.specs.Shows.{Shows, ShowsAs, Tells};
 ghost use Rattle.ec_interp.specs.Suits.{IsGiven, IsAnswered, IsOperand, AreArgumentsOf};
 ghost use Rattle.ec_interp.specs.Updates.{seen_update};
@@ -41,7 +45,7 @@ use crate::operators::{
     Operand, binary_value, compound_value, conversion, moved, referent, truth, unary_value,
 };
 use crate::ports::{no_value, operate, operate_group};
-use crate::state::{Context, Exit, RunError, State, at, function};
+use crate::state::{Context, Exit, RunError, State, at, function, placed};
 use crate::values::updated_value;
 use crate::words::{leaf_words, node_words, return_of};
 use ec_core::{
@@ -759,12 +763,24 @@ fn jump(s: &mut State, exit: Exit) -> Result<Exit, RunError>
     Ok(exit)
 }
 
+/// A statement. What its own parts meet is met at it, and what a statement in it or a called function meets there.
 #[cycle(run)]
 fn effect_of(f: &Context, depth: usize, s: &mut State, a: &Stmt) -> Result<Exit, RunError>
     requires { HasLayouts f.now.program.now }
     ensures { DoesStmt f.now depth (plain_stmt a.now) result (seen s.old) (seen s.new) }
 {
-    match &a.kind {
+    match kind_effect(f, depth, s, &a.kind) {
+        Ok(exit) => Ok(exit),
+        Err(e) => Err(placed(a.unit, a.at, e)),
+    }
+}
+
+#[cycle(run)]
+fn kind_effect(f: &Context, depth: usize, s: &mut State, kind: &StmtKind) -> Result<Exit, RunError>
+    requires { HasLayouts f.now.program.now }
+    ensures { DoesKind f.now depth (plain_kind kind.now) result (seen s.old) (seen s.new) }
+{
+    match kind {
         StmtKind::Empty => Ok(Exit::AtEnd),
         StmtKind::Do1(e) => evaluated(f, depth, s, Some(e)),
         StmtKind::Block(all) => block(f, depth, s, all.as_slice()),
@@ -1066,6 +1082,17 @@ fn end_call(
     call_result(&called.result, g == f.program.main, exit, s)
 }
 
+/// A call that no valid program makes, and so at no statement.
+fn no_function() -> RunError
+    ensures { result ≡ Met Invalid 0 0 }
+{
+    RunError::Met {
+        point: Undefined::Invalid,
+        unit: 0,
+        at: 0,
+    }
+}
+
 /// A call of the function with a number, where calls nest at most `depth` deep.
 pub fn call(
     f: &Context,
@@ -1075,8 +1102,8 @@ pub fn call(
     xs: &[Value],
 ) -> Result<Value, RunError>
     requires { HasLayouts f.now.program.now }
-    ensures shows { let w = setting_of f.now.program.now f.now.io.now f.now.inputs.now in Shows result (seen s.new)
-        (calls_within w f.now.turns depth g xs.now (seen s.old)) }
+    ensures shows { let w = setting_of f.now.program.now f.now.io.now f.now.inputs.now in
+        ShowsRun w f.now.turns result (seen s.new) (calls_within w f.now.turns depth g xs.now (seen s.old)) }
     ensures answered { IsGiven f.now → IsTypedState (plain_program f.now.program.now) (seen s.old)
         → AreArgumentsOf f.now g xs.now → IsAnswered result }
 {
@@ -1095,15 +1122,16 @@ fn call_function(
     ensures { DoesCall f.now depth g xs.now result (seen s.old) (seen s.new) }
 {
     if depth == 0 {
-        return Err(RunError::Undefined(Undefined::Invalid));
+        return Err(no_function());
     }
     match function(f.program, g) {
-        None => Err(RunError::Undefined(Undefined::Invalid)),
+        None => Err(no_function()),
         Some(called) => enter(f, depth - 1, s, g, called, xs),
     }
 }
 
-/// The parameters of a function, its body, the end of its objects, its result.
+/// The parameters of a function, its body, the end of its objects, its result. Where that is missing, or a parameter has
+/// no argument, it is met at the body.
 #[cycle(run)]
 fn enter(
     f: &Context,
@@ -1118,7 +1146,13 @@ fn enter(
         + 2 < bodies (map plain_function f.now.program.now.funcs.items) }
     ensures { DoesEntered f.now depth g (plain_function called.now) xs.now result (seen s.old) (seen s.new) }
 {
-    begin_call(f, s, called.params.as_slice(), xs)?;
-    let exit = effect_of(f, depth, s, &called.body)?;
-    end_call(f, s, g, called, exit)
+    let body = &called.body;
+    if let Err(e) = begin_call(f, s, called.params.as_slice(), xs) {
+        return Err(placed(body.unit, body.at, e));
+    }
+    let exit = effect_of(f, depth, s, body)?;
+    match end_call(f, s, g, called, exit) {
+        Ok(x) => Ok(x),
+        Err(e) => Err(placed(body.unit, body.at, e)),
+    }
 }

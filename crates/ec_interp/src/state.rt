@@ -3,6 +3,7 @@ ghost use Rattle.std.specs.Prelude.{◌≡◌, map, option_map, slice_get, OnOk}
 ghost use Rattle.std.specs.Option.{option_copied};
 ghost use Rattle.ec_core.specs.State.{told, with_event, worked};
 ghost use Rattle.ec_core.specs.Plain.{plain_object, plain_function};
+ghost use Rattle.ec_interp.specs.Places.{placed};
 ghost use Rattle.ec_interp.specs.Views.{seen, seen_told, seen_event, seen_object};
 
 use crate::behaviour::{Event, PortInput, Told, Unanswered};
@@ -47,6 +48,8 @@ pub enum RunError {
     Unanswered(Unanswered),
     OutOfTurns,
     Undefined(Undefined),
+    /// An undefined point and the statement under execution where it was met, by its unit and first token.
+    Met { point: Undefined, unit: u8, at: u32 },
 }
 
 /// How a statement was left.
@@ -89,6 +92,16 @@ impl From<Undefined> for RunError {
 
     fn from(point: Undefined) -> RunError {
         RunError::Undefined(point)
+    }
+}
+
+/// An error of a statement's own part: an undefined point that has no place yet is met there.
+pub fn placed(unit: u8, at: u32, e: RunError) -> RunError
+    ensures { result ≡ placed unit at e }
+{
+    match e {
+        RunError::Undefined(point) => RunError::Met { point, unit, at },
+        _ => e,
     }
 }
 

@@ -177,64 +177,85 @@ static RUNS: [Row; 39] = [
 ];
 
 /// Undefined points.
-static UNDEFINED: [Row; 19] = [
-    ("int main(void) { return 7 / 0; }", "meets ZeroDivisor"),
-    ("int main(void) { return 1 << 16; }", "meets ShiftCount"),
-    ("int main(void) { 0.5hr + 0.5hr; }", "meets FixedOverflow"),
-    ("int main(void) { (char)200.0hk; }", "meets WholePart"),
-    ("int main(void) { int *a = 0; return *a; }", "meets Access"),
+static UNDEFINED: [Row; 22] = [
+    ("int main(void) { return 7 / 0; }", "meets ZeroDivisor at 6"),
+    (
+        "int main(void) { return 1 << 16; }",
+        "meets ShiftCount at 6",
+    ),
+    (
+        "int main(void) { 0.5hr + 0.5hr; }",
+        "meets FixedOverflow at 6",
+    ),
+    ("int main(void) { (char)200.0hk; }", "meets WholePart at 6"),
+    (
+        "int main(void) { int *a = 0; return *a; }",
+        "a=null a:null meets Access at 12",
+    ),
     (
         "int *f(void); int main(void) { return *f(); } int *f(void) { int a; return &a; }",
-        "meets Access",
+        "meets Access at 13",
     ),
-    ("int main(void) { int *a; return *a; }", "meets Unset"),
+    ("int main(void) { int *a; return *a; }", "meets Unset at 10"),
     (
         "int main(void) { int *a; { int b = 1; a = &b; } return *a; }",
-        "meets Unset",
+        "b=1 a=&b+0 meets Unset at 22",
     ),
     (
         "int main(void) { int *a; for (int b = 0; b < 1; b++) a = &b; return *a; }",
-        "meets Unset",
+        "b=0 b:0 a=&b+0 b:0 b=1 b:1 meets Unset at 29",
     ),
     (
         "const int a = 1; int main(void) { *(int *)&a = 2; }",
-        "meets ConstWrite",
+        "meets ConstWrite at 12",
     ),
     (
         "static int a; int main(void) { (const __flash int *)&a; }",
-        "meets Narrowing",
+        "meets Narrowing at 10",
     ),
     (
         "static int a, b; int main(void) { return &a < &b; }",
-        "meets Unrelated",
+        "meets Unrelated at 12",
     ),
     (
         "static int a, b; int main(void) { return &a + 1 == &b; }",
-        "meets PointerUse",
+        "meets PointerUse at 12",
     ),
     (
         "int *f(void); int main(void) { return f() == 0; } int *f(void) { int a; return &a; }",
-        "meets PointerUse",
+        "meets PointerUse at 13",
     ),
     (
         "static int a; int main(void) { &a + 2; }",
-        "meets PointerRange",
+        "meets PointerRange at 10",
     ),
     (
         "#include <iohw.h>\nint main(void) { iord(SAMPLE); }",
-        "meets ClosedPort",
+        "meets ClosedPort at 6",
     ),
     (
         "#include <iohw.h>\nint main(void) { iogroup_acquire(ADC); iord(SAMPLE); iogroup_release(ADC); iord(SAMPLE); }",
-        "meets ClosedPort",
+        "out:7A:80 in:79:00 out:7A:00 meets ClosedPort at 21",
     ),
     (
         "#include <iohw.h>\nint main(void) { iowrbuf(B, 3, 1); }",
-        "meets BufferIndex",
+        "meets BufferIndex at 6",
     ),
     (
         "int f(void); int main(void) { return f(); } int f(void) { }",
-        "meets NoResult",
+        "meets NoResult at 23",
+    ),
+    (
+        "int a = 1; int main(void) { while (1 / a) a--; return 0; }",
+        "a:1 a:1 a=0 a:0 meets ZeroDivisor at 11",
+    ),
+    (
+        "int f(int a) { return 1; } int main(void) { int b = 0; return f(1) / b; }",
+        "b=0 a=1 b:0 meets ZeroDivisor at 22",
+    ),
+    (
+        "int f(int a) { if (a) return 1 / (a - 1); return 0; } int main(void) { return f(2) + f(1); }",
+        "a=2 a:2 a:2 a=1 a:1 a:1 meets ZeroDivisor at 11",
     ),
 ];
 
@@ -446,7 +467,15 @@ fn words_of(alloc: Global, run: &Run, ports: bool) -> Words {
             line(alloc, events.as_slice(), ports, end.as_str())
         }
         Behaviour::Running { events } => line(alloc, events.as_slice(), ports, "runs on"),
-        Behaviour::MeetsUndefined(point) => format!(in alloc; "meets {point:?}"),
+        Behaviour::MeetsUndefined {
+            point,
+            at,
+            events,
+            ..
+        } => {
+            let end = format!(in alloc; "meets {point:?} at {at}")?;
+            line(alloc, events.as_slice(), ports, end.as_str())
+        }
     }
 }
 

@@ -2,13 +2,14 @@ use Rattle.std.proofs.Common.{◌≡◌, ◌+◌, ◌*◌, ◌++◌, Bool, drop,
 use Rattle.std.specs.Prelude.{option_map}
 use Rattle.std.specs.Option.{option_copied}
 use Rattle.ec_core.specs.Expressions.{values_of}
-use Rattle.ec_core.specs.Plain.{plain_expr, plain_exprs, plain_node, plain_place, plain_stmt, plain_stmts, plain_function}
+use Rattle.ec_core.specs.Plain.{plain_expr, plain_exprs, plain_node, plain_place, plain_stmt, plain_kind, plain_stmts, plain_function}
 use Rattle.ec_core.specs.State.{State, Outcome, next, got}
 use Rattle.ec_core.specs.Statements.{Exit, initialising, effect_of, effects_of, going_on, turns, calls_within}
 use Rattle.ec_interp.specs.Does.{plain_other}
+use Rattle.ec_interp.specs.Places.{calls_by}
 use Rattle.ec_interp.specs.Suits.{RunsExprs, RunsLeaves, RunsStmts, RunsLoop}
 use Rattle.ec_interp.specs.Views.{plain_optional, seen, setting_of}
-use Rattle.ec_interp.specs.Weights.{expr_weight, node_weight, place_weight, option_weight, exprs_weight, optional_weight, stmt_weight}
+use Rattle.ec_interp.specs.Weights.{expr_weight, node_weight, place_weight, option_weight, exprs_weight, optional_weight, stmt_weight, kind_weight}
 use Rattle.ec_interp.specs.Weights.{option_stmt_weight, stmts_weight, bodies}
 use Rattle.ec_interp.proofs.run.+run.Given as goal
 
@@ -100,7 +101,10 @@ abbrev pub decreases-initialising : goal.decreases-initialising
 decreases-initialising l = l.depth * bodies (map plain_function l.f.now.program.now.funcs.items) + exprs_weight (plain_exprs l.values.now)
 
 abbrev pub decreases-effect_of : goal.decreases-effect_of
-decreases-effect_of l = l.depth * bodies (map plain_function l.f.now.program.now.funcs.items) + stmt_weight (plain_stmt l.a.now)
+decreases-effect_of l = l.depth * bodies (map plain_function l.f.now.program.now.funcs.items) + stmt_weight (plain_stmt l.a.now) + 1
+
+abbrev pub decreases-kind_effect : goal.decreases-kind_effect
+decreases-kind_effect l = l.depth * bodies (map plain_function l.f.now.program.now.funcs.items) + kind_weight (plain_kind l.kind.now)
 
 abbrev pub decreases-block : goal.decreases-block
 decreases-block l = l.depth * bodies (map plain_function l.f.now.program.now.funcs.items) + stmts_weight (plain_stmts l.all.now) + 2
@@ -113,7 +117,7 @@ decreases-branch l = l.depth * bodies (map plain_function l.f.now.program.now.fu
     + stmt_weight (plain_stmt l.a.now) + option_stmt_weight (plain_other (option_copied l.b)) + 2
 
 abbrev pub decreases-first_effect : goal.decreases-first_effect
-decreases-first_effect l = l.depth * bodies (map plain_function l.f.now.program.now.funcs.items) + stmt_weight (plain_stmt l.first.now) + 1
+decreases-first_effect l = l.depth * bodies (map plain_function l.f.now.program.now.funcs.items) + stmt_weight (plain_stmt l.first.now) + 2
 
 abbrev pub decreases-first_and_loop : goal.decreases-first_and_loop
 decreases-first_and_loop l = l.depth * bodies (map plain_function l.f.now.program.now.funcs.items) + stmt_weight (plain_stmt l.first.now)
@@ -126,7 +130,7 @@ decreases-for_loop l = l.depth * bodies (map plain_function l.f.now.program.now.
     + stmt_weight (plain_stmt l.body.now) + 6
 
 abbrev pub decreases-effects_of : goal.decreases-effects_of
-decreases-effects_of l = l.depth * bodies (map plain_function l.f.now.program.now.funcs.items) + stmts_weight (plain_stmts l.all.now)
+decreases-effects_of l = l.depth * bodies (map plain_function l.f.now.program.now.funcs.items) + stmts_weight (plain_stmts l.all.now) + 1
 
 abbrev pub decreases-tested_loop : goal.decreases-tested_loop
 decreases-tested_loop l =
@@ -146,21 +150,21 @@ abbrev pub decreases-call_function : goal.decreases-call_function
 decreases-call_function l = l.depth * bodies (map plain_function l.f.now.program.now.funcs.items)
 
 abbrev pub decreases-enter : goal.decreases-enter
-decreases-enter l = l.depth * bodies (map plain_function l.f.now.program.now.funcs.items) + stmt_weight (plain_stmt l.called.now.body) + 1
+decreases-enter l = l.depth * bodies (map plain_function l.f.now.program.now.funcs.items) + stmt_weight (plain_stmt l.called.now.body) + 2
 
 abbrev pub invariant-values_of-loop-e : goal.invariant-values_of-loop-e
 invariant-values_of-loop-e l =
     let w = setting_of l.f.program.now l.f.io.now l.f.inputs.now in
-    let calls = calls_within w l.f.turns l.depth in
-    (next (values_of w calls (plain_exprs (drop l.e-index l.es)) (seen l.s)) (λ xs s. got (l.xs.items ++ xs) s)
+    ((quiet : Bool) → let calls = calls_by quiet (calls_within w l.f.turns l.depth) in
+    next (values_of w calls (plain_exprs (drop l.e-index l.es)) (seen l.s)) (λ xs s. got (l.xs.items ++ xs) s)
     ≡ values_of w calls (plain_exprs l.es) (seen l.fn.s))
     × (RunsExprs l.f (seen l.fn.s) (plain_exprs l.es) → RunsExprs l.f (seen l.s) (plain_exprs (drop l.e-index l.es)))
 
 abbrev pub invariant-initialising-loop-k : goal.invariant-initialising-loop-k
 invariant-initialising-loop-k l =
     let w = setting_of l.f.program.now l.f.io.now l.f.inputs.now in
-    let calls = calls_within w l.f.turns l.depth in
-    (initialising w calls l.o l.k (plain_exprs (drop l.k l.values)) (seen l.s)
+    ((quiet : Bool) → let calls = calls_by quiet (calls_within w l.f.turns l.depth) in
+    initialising w calls l.o l.k (plain_exprs (drop l.k l.values)) (seen l.s)
     ≡ initialising w calls l.o 0 (plain_exprs l.values) (seen l.fn.s))
     × (RunsLeaves l.f (seen l.fn.s) l.o 0 (plain_exprs l.values) → RunsLeaves l.f (seen l.s) l.o l.k (plain_exprs (drop l.k l.values)))
 
