@@ -1,1 +1,3 @@
-mod Texts
+mod Bad
+mod Files
+mod Said

@@ -1,4 +1,6 @@
 pub mod Position
 pub mod Pointed
-pub mod Line
 pub mod Located
+pub mod Messages
+pub mod Recursion
+pub mod Told

@@ -1,14 +1,19 @@
--- The offset that a place of a source names, what explains a fault there, and what is written for a line of the tool.
-use Rattle.std.specs.Prelude.{ℕ, ◌≤◌, ◌≡◌, ◌⊎◌, List, length, Option, Some, None, ⊤, slice_get, option_map}
+-- The offset that a place of a source names, and what explains a fault there.
+use Rattle.std.specs.Prelude.{ℕ, ◌≤◌, ◌≡◌, List, length, Option, Some, None, IsSomeAnd, ⊤, slice_get, option_map}
 use Rattle.std.specs.FinMap.{get}
 use Rattle.ec_io.specs.Disk.{Disk}
 use Rattle.ec_grammar.specs.Tokens.{Placed}
 use Rattle.ec_lex.specs.Text.{Tokens}
-use Rattle.ec_where.specs.declared.line.Place.{Place}
-use Rattle.ec_where.specs.declared.line.Place.TheVariants.{Byte, Token}
-use Rattle.ec_where.specs.Line.{Names, IsNotice}
+use Rattle.ec_where.specs.declared.place.Place.{Place}
+use Rattle.ec_where.specs.declared.place.Place.TheVariants.{Byte, Token}
+use Rattle.ec_where_lines.specs.declared.fault.Fault.{Fault}
+use Rattle.ec_where_lines.specs.declared.fault.Fault.TheVariants as faults
 use Rattle.ec_where.specs.Pointed.{pointed_text}
-use Rattle.ec_where.specs.Position.{first_line}
+
+-- where a fault stands
+abbrev pub place_of : Fault → Place
+place_of (faults.Byte offset what) = Byte offset
+place_of (faults.Token index what) = Token index
 
 -- where a token begins
 abbrev pub begin_of : Placed → ℕ
@@ -46,20 +51,7 @@ abbrev pub Holds : Option Disk → List ℕ → List ℕ → Type 0
 Holds None name source = ⊤
 Holds (Some disk) name source = get disk.files name ≡ Some source
 
--- the text explains a fault at the place of the file of this name
-pub record IsFound (disk : Option Disk) (name : List ℕ) (place : Place) (message text : List ℕ) : Type 0 where
-  pub source : List ℕ
-  pub held : Holds disk name source
-  pub explained : IsExplained name source place message text
-
--- the text explains a fault at the place that the line names
-pub record IsPlaced (disk : Option Disk) (line text : List ℕ) : Type 0 where
-  pub name : List ℕ
-  pub place : Place
-  pub message : List ℕ
-  pub names : Names line name place
-  pub found : IsFound disk name place message text
-
--- what is written for a line: the line as it came, or an explanation of the place that it names, or what a notice says
-abbrev pub IsTold : Option Disk → List ℕ → List ℕ → Type 0
-IsTold disk line text = (text ≡ line) ⊎ (IsPlaced disk (first_line line) text ⊎ IsNotice (first_line line))
+-- the files are the same, where the store tells of them
+abbrev pub SameFiles : Option Disk → Option Disk → Type 0
+SameFiles None now = now ≡ None
+SameFiles (Some disk) now = IsSomeAnd now (λ new. new.files ≡ disk.files)

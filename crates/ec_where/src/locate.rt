@@ -1,15 +1,16 @@
 //! The offset of a place of a source.
-ghost use Rattle.std.specs.Prelude.{◌≡◌, ◌<◌, ◌^◌, ◌⊎◌, ℕ, IfOk, IsErrOf, length};
-ghost use Rattle.ec_grammar.specs.Tokens.{view_tokens};
+ghost use Rattle.std.specs.Prelude.{◌≡◌, ◌≤◌, ◌<◌, ◌^◌, ◌⊎◌, ℕ, List, IfOk, MatchResult, length};
+ghost use Rattle.ec_grammar.specs.Tokens.{Placed, view_tokens};
+ghost use Rattle.ec_lex.specs.Text.{Tokens};
 ghost use Rattle.ec_where.specs.Located.{BeginsAt, IsIn, offset_in};
 
-use crate::line::Place;
+use crate::place::Place;
 use ec_lex::{LexStop, Token, lex};
 use ec_space::Seq;
 use std::alloc::Global;
 
 /// Why a place has no offset.
-#[derive(Clone, Copy, Debug, PartialEq, Eq)]
+#[derive(Clone, Copy)]
 pub enum NotFound {
     NoMemory,
     /// The text has no such place.
@@ -26,17 +27,28 @@ fn offset_in(tokens: &Seq<Token>, index: u32) -> Option<u32>
     }
 }
 
+/// The tokens of a text.
+pub fn tokens_of(alloc: Global, text: &Seq<u8>) -> Result<Seq<Token>, NotFound>
+    requires { length text.now.items < 2 ^ 32 }
+    ensures tokens { IfOk result (λ tokens. Tokens text.now.items (view_tokens tokens.items)
+        × (length tokens.items ≤ 65_536)) }
+    ensures only { (list : List Placed) → Tokens text.now.items list → length list ≤ 65_536
+        → MatchResult result (λ tokens. view_tokens tokens.items ≡ list) (λ e. e ≡ NotFound.NoMemory) }
+{
+    match lex(alloc, text) {
+        Ok(tokens) => Ok(tokens),
+        Err(LexStop::NoMemory) => Err(NotFound::NoMemory),
+        Err(_) => Err(NotFound::NoSuchPlace),
+    }
+}
+
 /// The offset at which the token of this index begins.
 fn token_offset(alloc: Global, text: &Seq<u8>, index: u32) -> Result<u32, NotFound>
     requires { length text.now.items < 2 ^ 32 }
     ensures found { IfOk result (BeginsAt text.now.items index) }
     ensures absent { (at : ℕ) → BeginsAt text.now.items index at → (result ≡ Ok at) ⊎ (result ≡ Err NotFound.NoMemory) }
 {
-    let tokens = match lex(alloc, text) {
-        Ok(tokens) => tokens,
-        Err(LexStop::NoMemory) => return Err(NotFound::NoMemory),
-        Err(_) => return Err(NotFound::NoSuchPlace),
-    };
+    let tokens = tokens_of(alloc, text)?;
     match offset_in(&tokens, index) {
         Some(at) => Ok(at),
         None => Err(NotFound::NoSuchPlace),

@@ -2,22 +2,23 @@
 //!
 //! It reads lines of the tool on standard input, and the sources that they name. The words of the tool's call, where
 //! they are given, name the files that a line does not name. Whatever it cannot explain it writes unchanged, and its
-//! status is 0.
+//! status is 0; where memory ran out for a line, or standard input could not be read, it is 1.
 #![tactic(auto)]
 
 mod explain;
-mod line;
 mod locate;
 mod messages;
-mod notices;
+mod place;
 mod pointed;
 mod position;
+mod recursion;
 mod telling;
 
-use crate::notices::FileNames;
-use crate::telling::tell_line;
+use crate::telling::{Telling, Untold, tell_line};
 use ec_io::{RealSink, RealStore};
+use ec_where_lines::FileNames;
 use std::io::BufRead;
+use std::process::ExitCode;
 use std::{env, io};
 
 /// The words of the command line, without the program's name.
@@ -55,24 +56,52 @@ fn names_of(words: &[String]) -> FileNames<'_> {
     }
 }
 
-/// Explains each line of standard input, until its end or a failed write.
-fn tell_lines(rt: &HostRuntime, names: &FileNames<'_>) -> io::Result<()> {
+/// The names of the sources that the words of a call of the tool give.
+fn sources_of(words: &[String]) -> &[String] {
+    match words {
+        [command, _, _, sources @ ..] if command.as_str() == "build" => sources,
+        [command, _, _, _, sources @ ..] if command.as_str() == "exec" => sources,
+        _ => &[],
+    }
+}
+
+/// Explains each line of standard input, until its end or a failed write, by the words of the tool's call. Whether memory
+/// sufficed for each.
+fn tell_lines(rt: &HostRuntime, words: &[String]) -> io::Result<bool> {
     let alloc = rt.alloc();
+    let names = names_of(words);
     let mut store = RealStore::new(rt);
     let mut out = RealSink::new(rt.stdout());
     let mut input = rt.reader();
     let mut line = Vec::new(alloc);
+    let mut sufficed = true;
     for _ in 0..u64::MAX {
         line.clear();
-        let read = input.read_until(b'\n', &mut line)?;
-        if read == 0 || tell_line(alloc, &mut store, &mut out, names, line.as_slice()).is_err() {
+        if input.read_until(b'\n', &mut line)? == 0 {
+            break;
+        }
+        let Telling { untold, written } = tell_line(
+            alloc,
+            &mut store,
+            &mut out,
+            sources_of(words),
+            &names,
+            line.as_slice(),
+        );
+        if let Some(Untold::NoMemory) = untold {
+            sufficed = false;
+        }
+        if written.is_err() {
             break;
         }
     }
-    Ok(())
+    Ok(sufficed)
 }
 
-fn main(rt: HostRuntime) {
+fn main(rt: HostRuntime) -> ExitCode {
     let words = given_words(&rt).unwrap_or(Vec::new(rt.alloc()));
-    let _ = tell_lines(&rt, &names_of(words.as_slice()));
+    match tell_lines(&rt, words.as_slice()) {
+        Ok(true) => ExitCode::from(0),
+        _ => ExitCode::from(1),
+    }
 }

@@ -1,205 +1,205 @@
-//! What each rule asks, in words, with the section of the standard that it comes from. C99 is ISO/IEC 9899:1999, and
-//! Embedded C is ISO/IEC TR 18037:2008.
-ghost use Rattle.std.specs.Prelude.{ℕ, OnSome, IfSome};
-ghost use Rattle.ec_where.specs.Line.{IsByteFault, IsTokenFault, Writes};
+//! What is told of a fault in a source.
+ghost use Rattle.std.specs.Prelude.{◌≡◌, ◌<◌, ◌+◌, ◌^◌, ◌↔◌, ℕ, true, IfErr, IfOk, MatchResult, length, option_map};
+ghost use Rattle.ec_grammar.specs.Tokens.{view_kind, view_tokens};
+ghost use Rattle.ec_parse_laws.specs.Refusals.{EndsWithEnd, StopsBehind};
+ghost use Rattle.ec_where.specs.Messages.{IsExpected, IsSyntaxMessage, Says, SaysAt, known_text, known_word, message_text};
+ghost use Rattle.ec_where.specs.Messages.{bytes_from, or_constraint, undeclared_at};
+ghost use Rattle.ec_where.specs.Located.{BeginsAt, IsIn, place_of};
 
-/// What each constraint of the language asks, by its number. There is no constraint 0.
-static CONSTRAINTS: [&str; 41] = [
-    "",
-    "these words name no type: one set of type words, at most one of `extern` and `static`, and neither in a \
-    parameter, a member, a register declaration or a type name (C99 6.7.1, 6.7.2)",
-    "one list of qualifiers names at most one address space (Embedded C 5.1.2)",
-    "an address space qualifies file-scope objects and what a pointer points to, and no block object, parameter, \
-    member, named register or result (Embedded C 5.1.2)",
-    "an object in `__flash` cannot be written: add `const` (C99 6.7.3)",
-    "this name is declared in this scope already, or a parameter of a function definition has no name (C99 6.7, 6.9.1)",
-    "this name is declared before with another type, space or linkage, or it is defined twice: write `extern` where \
-    it is only declared (C99 6.2.2, 6.7, 6.9)",
-    "`void` stands only for no result and for no parameters: there are no void objects, pointers or casts (C99 \
-    6.2.5, 6.7.5.3)",
-    "the size of an array is an integer constant expression from 1 to 32767; it may be left out only before a \
-    braced initialiser (C99 6.7.5.2)",
-    "an object or a struct has at most 32767 bytes (C99 5.2.4.1)",
-    "no definition of this struct stands before its use in this unit, or it is defined twice (C99 6.7.2.3)",
-    "a member of a struct is neither const nor a function (C99 6.7.2.1)",
-    "a named register is one of `_R2` to `_R7`; its object is an integer or a fixed-point number and ends at R7 \
-    (Embedded C 5.2.2)",
-    "another named-register object has this register: two share registers only where name, type and first register \
-    agree (Embedded C 5.2.2)",
-    "a scalar is initialised without braces, an array or a struct with braces, and with no more items than it has \
-    (C99 6.7.8)",
-    "an object of static storage is initialised by constant expressions whose values are defined (C99 6.6, 6.7.8)",
-    "an `extern` declaration or a function has no initialiser, and a block holds no `extern`, `static` or function \
-    declaration (C99 6.7.8, 6.7.1)",
-    "parameters are scalar, and a result is scalar or void: pass a pointer instead (C99 6.7.5.3, 6.9.1)",
-    "a program has one `int main(void)`, which is not static (C99 5.1.2.2.1)",
-    "no unit defines this function or `extern` object (C99 6.9)",
-    "this name is not declared before its use (C99 6.5.1)",
-    "a function's name is only called, and only a function's name is called: there are no pointers to functions \
-    (C99 6.5.2.2)",
-    "a call has one argument for each parameter (C99 6.5.2.2)",
-    "these operands do not suit this operator; of `*` both have one byte before any promotion (C99 6.5.3.3, 6.5.5 \
-    to 6.5.7, 6.5.10 to 6.5.12)",
-    "the two operands are both arithmetic, or pointers to one type, or for `==`, `!=` and `?:` a pointer and 0 (C99 \
-    6.5.8, 6.5.9, 6.5.15)",
-    "a condition and an operand of `!`, `&&` or `||` is a number or a pointer (C99 6.5.3.3, 6.5.13 to 6.5.15, \
-    6.8.4, 6.8.5)",
-    "the operand names no object that can be assigned, stepped or pointed to; arrays and structs are not assigned \
-    (C99 6.5.2.4, 6.5.3.1, 6.5.3.2, 6.5.16)",
-    "what is const is not assigned (C99 6.5.16)",
-    "the value is not converted to this type: both are arithmetic, or pointers to one type, or the value is 0 for a \
-    pointer (C99 6.5.16.1)",
-    "a pointer is converted without a cast only to a space that encloses its own: cast it where the object is known \
-    to lie there (Embedded C 5.1.3)",
-    "the conversion would drop `const` from what is pointed to (C99 6.5.16.1)",
-    "a cast is between arithmetic types, between pointers to one type whose spaces nest, or of 0 to a pointer (C99 \
-    6.5.4, Embedded C 5.1.3)",
-    "two pointers meet here and neither space encloses the other (Embedded C 5.1.3)",
-    "an object in named registers has no address (Embedded C 5.2)",
-    "`*`, `[ ]` and `->` need a pointer (to a struct for `->`), `.` a struct, and an index is an integer (C99 \
-    6.5.2.1, 6.5.2.3, 6.5.3.2)",
-    "the struct has no such member (C99 6.5.2.3)",
-    "the first argument of a port operation names a port of the map, or a group of it; and the operation has its \
-    own number of arguments (Embedded C 6.3)",
-    "a port of width 4 is read and written by the operations that end in `l` or `bufl` (Embedded C 6.3)",
-    "`break` and `continue` stand in a loop (C99 6.8.6.2, 6.8.6.3)",
-    "`return` has a value exactly where the function has a result (C99 6.8.6.4)",
-    "a void value is no operand, argument, initialiser or condition, and a struct is no expression of its own (C99 \
-    6.3.2.2)",
-];
+use crate::locate::{NotFound, tokens_of};
+use ec_lex::{PunctKind, Token, TokenKind, WordKind};
+use ec_parse::{ParseStop, discard_tree, parse};
+use ec_space::Seq;
+use ec_where_expected::{listed, standing};
+use ec_where_lines::{
+    CONSTRAINTS, Fault, NAMES, RESERVED, SYNTAX, TokenFault, byte_message, look_up, row,
+    undeclared, word_run,
+};
+use std::alloc::Global;
 
-/// What each rule of a map asks, by its number. There is no rule 0.
-static MAP_RULES: [&str; 19] = [
-    "",
-    "a map has the keys `core` and `region`, and may have `port`, `group` and `place`, and no other",
-    "`core` is the string \"small\"",
-    "`region` is a table with exactly the keys `code`, `tables`, `data` and `stack`",
-    "each region is an array of two integers: the first address from 0, and the size from 1, each at most 131072",
-    "`code` and `tables` end by 32768; `data` and `stack` begin at 256 or later and end by 2304",
-    "`code` begins at 0, and its size is even",
-    "`code` and `tables` share no byte, and neither do `data` and `stack`",
-    "`port` is an array of at most 64 tables with `name`, `address` and `width`, and no other keys but `count` and \
-    `group`",
-    "the name of each port is an identifier, and no two ports have one name",
-    "a width is 1, 2 or 4, and a count is from 1 to 220",
-    "an address is an integer, and all bytes of the port are ports: 0x20 to 0xFF but for 0x5D, 0x5E and 0x5F",
-    "`group` is an array of at most 16 tables with exactly `name`, `acquire` and `release`",
-    "the name of each group is an identifier, and no two groups have one name",
-    "`acquire` and `release` are arrays of at most 32 arrays of two integers",
-    "each pair is the address of a port and a byte from 0 to 255",
-    "the `group` of a port is a string that names a group of the map",
-    "`place` is a table",
-    "a place is an integer from 1 to 65535",
-];
+/// What is told of a fault.
+#[derive(Drop)]
+pub enum Message {
+    /// A row of a table.
+    Fixed(&'static str),
+    /// A text that was made for the place.
+    Made(String),
+}
 
-/// What each rule of a line of a script asks, by its number. There is no rule 0.
-static SCRIPT_RULES: [&str; 4] = [
-    "",
-    "a line is two hexadecimal digits, `:`, and then bytes, each behind a space, or ` hook`",
-    "the address is that of a port: 0x20 to 0xFF but for 0x5D, 0x5E and 0x5F",
-    "an earlier line has the same address",
-];
-
-/// What each limit counts, by its number. There is no limit 0.
-static COUNTED: [&str; 10] = [
-    "",
-    "sources",
-    "bytes in a source",
-    "bytes in the map",
-    "bytes in the HEX file",
-    "bytes in the script",
-    "tokens in a source",
-    "constructs one inside the other",
-    "objects",
-    "functions",
-];
-
-/// A decimal number without a sign.
-pub fn number(digits: &str) -> Option<u32>
-    ensures { IfSome result (λ n. Writes digits.now n) }
-{
-    if digits.starts_with('+') {
-        return None;
+impl Message {
+    /// The text.
+    pub fn as_str(&self) -> &str
+        ensures { result.now ≡ message_text self.now }
+    {
+        match self {
+            Message::Fixed(text) => text,
+            Message::Made(text) => text.as_str(),
+        }
     }
-    digits.parse::<u32>().ok()
 }
 
-/// The message of a rule in a table.
-fn rule_in(table: &'static [&'static str], digits: &str) -> Option<&'static str>
-    ensures { IfSome result (λ _. (n : ℕ) × Writes digits.now n) }
+/// The bytes of a text from an offset on.
+fn bytes_from(text: &Seq<u8>, at: u32) -> &[u8]
+    ensures { result.now ≡ bytes_from text.now.items at }
 {
-    let rule = number(digits)?;
-    let message = *table.get(rule as usize)?;
-    if message.is_empty() {
-        return None;
-    }
-    Some(message)
+    let bytes = text.as_slice();
+    &bytes[bytes.len().min(at as usize)..]
 }
 
-/// What a rule of a map asks.
-pub fn map_rule(digits: &str) -> Option<&'static str> {
-    rule_in(&MAP_RULES, digits)
-}
-
-/// What a rule of a line of a script asks.
-pub fn script_rule(digits: &str) -> Option<&'static str> {
-    rule_in(&SCRIPT_RULES, digits)
-}
-
-/// What a limit counts.
-pub fn counted(digits: &str) -> Option<&'static str> {
-    rule_in(&COUNTED, digits)
-}
-
-/// What is wrong at a byte of a source.
-pub fn byte_message(fault: &str) -> Option<&'static str>
-    ensures { OnSome result (IsByteFault fault.now) }
+/// The row for a word that the language leaves out, or that nothing has made known.
+fn word_message(kind: &TokenKind, word: &[u8]) -> Option<&'static str>
+    ensures { option_map (λ x. x.now) result ≡ known_word (view_kind kind.now) word.now }
 {
-    match fault {
-        "bad byte" => Some("this byte begins no token (C99 6.4)"),
-        "bad number" => Some(
-            "this is no constant, or its value is in the range of no type (C99 6.4.4.1, Embedded C 4.1.5)",
-        ),
-        "unclosed" => Some("this comment or character constant has no end (C99 6.4.4.4, 6.4.9)"),
-        "bad directive" => Some(
-            "a directive includes <stdint.h>, <stdfix.h> or <iohw.h>, defines a new name as one constant, or is a \
-            pragma (C99 6.10)",
-        ),
+    match kind {
+        TokenKind::Reserved => look_up(word, &RESERVED),
+        TokenKind::Name(_) => look_up(word, &NAMES),
         _ => None,
     }
 }
 
-/// What is wrong at a token of a source.
-pub fn token_message(fault: &str) -> Option<&'static str>
-    ensures { OnSome result (IsTokenFault fault.now) }
+/// A row that is known, or else that of the constraint.
+fn or_constraint(known: Option<&'static str>, rule: u32) -> Option<&'static str>
+    ensures { option_map (λ x. x.now) result ≡ or_constraint (option_map (λ x. x.now) known.entry) rule }
 {
-    if fault == "syntax" {
-        return Some("with this token no program goes on (C99 6.5 to 6.9)");
+    match known {
+        Some(message) => Some(message),
+        None => row(&CONSTRAINTS, rule),
     }
-    rule_in(&CONSTRAINTS, fault.strip_prefix("constraint ")?)
 }
 
-/// What is wrong with a record (the published Intel HEX format).
-pub fn record_message(fault: &str) -> Option<&'static str> {
-    match fault {
-        "bad record" => Some(
-            "a record is `:`, then pairs of hexadecimal digits: the number of data bytes, the address, a type from \
-            00 to 05, the data, the sum",
-        ),
-        "bad sum" => Some("the bytes of a record, its last one included, add up to 0 modulo 256"),
-        "out of flash" => Some("a byte of this record lies past the 32768 bytes of flash"),
-        "twice" => Some("an earlier record has a byte at an address of this one"),
+/// What is told of a name that is not declared before its use, constraint 20, where more is known of it.
+fn undeclared_message(rule: u32, kind: &TokenKind, word: &[u8]) -> Option<&'static str>
+    ensures { option_map (λ x. x.now) result ≡ undeclared_at rule (view_kind kind.now) word.now }
+{
+    match kind {
+        TokenKind::Name(_) if rule == 20 => undeclared(word),
         _ => None,
     }
 }
 
-/// Why the machine stopped at an instruction.
-pub fn machine_message(fault: &str) -> Option<&'static str> {
+/// The row for a fault at a token, where there is one.
+fn fixed_message(fault: TokenFault, kind: &TokenKind, word: &[u8]) -> Option<&'static str>
+    ensures { option_map (λ x. x.now) result ≡ known_text fault (view_kind kind.now) word.now }
+{
     match fault {
-        "unsupported" => Some("is no instruction of the table"),
-        "pc" => Some("lies past the flash"),
-        "data" => Some("loads or stores past the data memory, or reads past the flash"),
-        "stack" => Some("pushes or pops where there is no SRAM"),
-        _ => None,
+        TokenFault::Syntax => word_message(kind, word),
+        TokenFault::Constraint(rule) => or_constraint(undeclared_message(rule, kind, word), rule),
+    }
+}
+
+/// The kind of the token that stands so many tokens before an index.
+fn kind_before(tokens: &Seq<Token>, index: u32, back: u32) -> Option<&TokenKind> {
+    let token = tokens.get(index.checked_sub(back)? as usize)?;
+    Some(&token.kind)
+}
+
+/// What is told before the list, by the tokens before the place and the one that stands there.
+fn hint(tokens: &Seq<Token>, index: u32) -> &'static str {
+    match (
+        kind_before(tokens, index, 0),
+        kind_before(tokens, index, 1),
+        kind_before(tokens, index, 2),
+    ) {
+        (_, Some(TokenKind::Word(WordKind::Sizeof)), _)
+        | (
+            _,
+            Some(TokenKind::Punct(PunctKind::LeftParenthesis)),
+            Some(TokenKind::Word(WordKind::Sizeof)),
+        ) => "`sizeof` takes a type in parentheses; ",
+        (
+            Some(TokenKind::Punct(PunctKind::LeftBracket)),
+            Some(TokenKind::Punct(PunctKind::LeftBrace | PunctKind::Comma)),
+            _,
+        ) => "there are no designated initialisers; ",
+        _ => "",
+    }
+}
+
+/// What may stand at the first bad token of a source, in words.
+fn expected_message(alloc: Global, tokens: Seq<Token>, index: u32) -> Result<Message, NotFound>
+    requires fits { length tokens.items + 1 < 2 ^ 32 }
+    requires stops { StopsBehind 64 index (view_tokens tokens.items) }
+    ensures expected { IfOk result (λ m. IsExpected (view_tokens tokens.items) index (message_text m)) }
+    ensures fails { IfErr result (λ e. e ≡ NotFound.NoMemory) }
+{
+    let hint = hint(&tokens, index);
+    let Ok(flags) = standing(alloc, tokens, index) else {
+        return Err(NotFound::NoMemory);
+    };
+    let Ok(names) = listed(alloc, flags.as_slice()) else {
+        return Err(NotFound::NoMemory);
+    };
+    match format!(in alloc; "{hint}this cannot stand here; what can: {names} (C99 6.5 to 6.9)") {
+        Ok(text) => Ok(Message::Made(text)),
+        Err(_) => Err(NotFound::NoMemory),
+    }
+}
+
+/// Whether the token of this index is the first with which no program goes on.
+fn is_first_bad(alloc: Global, tokens: &Seq<Token>, index: u32) -> Result<bool, NotFound>
+    requires fits { length tokens.now.items + 1 < 2 ^ 32 }
+    requires ended { EndsWithEnd (view_tokens tokens.now.items) }
+    ensures { MatchResult result (λ b. (b ≡ true) ↔ StopsBehind 64 index (view_tokens tokens.now.items))
+        (λ e. e ≡ NotFound.NoMemory) }
+{
+    match parse(alloc, tokens) {
+        Ok(tree) => {
+            discard_tree(tree);
+            Ok(false)
+        }
+        Err(ParseStop::Syntax(at)) => Ok(at == index),
+        Err(ParseStop::TooDeep(_)) => Ok(false),
+        Err(ParseStop::NoMemory) => Err(NotFound::NoMemory),
+    }
+}
+
+/// What is told of a token with which no program goes on.
+fn syntax_message(alloc: Global, tokens: Seq<Token>, index: u32) -> Result<Message, NotFound>
+    requires fits { length tokens.items + 1 < 2 ^ 32 }
+    requires ended { EndsWithEnd (view_tokens tokens.items) }
+    ensures says { IfOk result (λ m. IsSyntaxMessage (view_tokens tokens.items) index (message_text m)) }
+    ensures fails { IfErr result (λ e. e ≡ NotFound.NoMemory) }
+{
+    if is_first_bad(alloc, &tokens, index)? {
+        expected_message(alloc, tokens, index)
+    } else {
+        Ok(Message::Fixed(SYNTAX))
+    }
+}
+
+/// What is told of a fault at a token.
+fn token_message(
+    alloc: Global,
+    text: &Seq<u8>,
+    index: u32,
+    fault: TokenFault,
+) -> Result<Message, NotFound>
+    requires { length text.now.items < 2 ^ 32 }
+    ensures says { IfOk result (λ m. SaysAt text.now.items index fault (message_text m)) }
+    ensures absent { (at : ℕ) → BeginsAt text.now.items index at → IfErr result (λ e. e ≡ NotFound.NoMemory) }
+{
+    let tokens = tokens_of(alloc, text)?;
+    let Some(token) = tokens.get(index as usize) else {
+        return Err(NotFound::NoSuchPlace);
+    };
+    let word = word_run(bytes_from(text, token.at));
+    match fixed_message(fault, &token.kind, word) {
+        Some(message) => Ok(Message::Fixed(message)),
+        None => syntax_message(alloc, tokens, index),
+    }
+}
+
+/// What is told of a fault in a source.
+pub fn message_of(alloc: Global, text: &Seq<u8>, fault: Fault) -> Result<Message, NotFound>
+    requires { length text.now.items < 2 ^ 32 }
+    ensures says { IfOk result (λ m. Says text.now.items fault (message_text m)) }
+    ensures absent { (at : ℕ) → IsIn text.now.items (place_of fault) at → IfErr result (λ e. e ≡ NotFound.NoMemory) }
+{
+    match fault {
+        Fault::Byte(offset, what) => Ok(Message::Fixed(byte_message(
+            what,
+            bytes_from(text, offset),
+        ))),
+        Fault::Token(index, what) => token_message(alloc, text, index, what),
     }
 }

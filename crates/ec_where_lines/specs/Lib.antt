@@ -1,0 +1,4 @@
+pub mod Parts
+pub mod Fault
+pub mod Notices
+pub mod Advice
