@@ -10,3 +10,13 @@ mod Counters
 mod Statements
 mod Programs
 mod InOrder
+mod Trees
+mod Widths
+mod Lists
+mod Sums
+mod Capped
+mod Rounds
+mod Marks
+mod Firsts
+mod Declared
+mod Told

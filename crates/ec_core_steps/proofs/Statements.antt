@@ -39,7 +39,8 @@ use Rattle.ec_core_steps.specs.Counted.{distance, steps_in, turns, last_tested, 
 use Rattle.ec_core_steps.specs.Counted.{condition_of, update_of, declared_with, declared_among, start_of, is_local_of}
 use Rattle.ec_core_steps.specs.Counted.{is_int_local, is_counter, turns_of}
 use Rattle.ec_core_steps.specs.Work.{expr_most, optional_most, leaves_most, loop_most, stmt_most, kind_most, option_stmt_most, stmts_most}
-use Rattle.ec_core_steps.specs.Laws.{Site, first_site, unless_counted, uncounted, kind_uncounted, option_uncounted, stmts_uncounted}
+use Rattle.ec_core_steps.specs.declared.uncounted.Site.{Site}
+use Rattle.ec_core_steps.specs.Laws.{first_site, unless_counted, uncounted, kind_uncounted, option_uncounted, stmts_uncounted}
 use Rattle.ec_core_steps.proofs.Relation.{or_left, or_right, IsFree, IsValue, IsWell, Holds, after, bind_in, bind, worked_sound}
 use Rattle.ec_core_steps.proofs.Relation.{here, began, within, both, weaker, choosing}
 use Rattle.ec_core_steps.proofs.Exits.{IsExit as IsExitIn}
@@ -54,20 +55,12 @@ use Rattle.ec_core_steps.proofs.Counters.{Gives, At, at_kept, test_is, update_is
 none_first : (x y : Option Site) → first_site x y ≡ None → x ≡ None
 none_first None y e = refl
 none_first (Some x) None e = cc
-none_first (Some x) (Some y) e = by_test _ e
-  where
-    by_test : (c : Bool) → (if c then Some y else Some x) ≡ None → Some x ≡ None
-    by_test true f = cc
-    by_test false f = cc
+none_first (Some x) (Some y) e = cc
 
 none_second : (x y : Option Site) → first_site x y ≡ None → y ≡ None
 none_second None y e = e
 none_second (Some x) None e = cc
-none_second (Some x) (Some y) e = by_test _ e
-  where
-    by_test : (c : Bool) → (if c then Some y else Some x) ≡ None → Some y ≡ None
-    by_test true f = cc
-    by_test false f = cc
+none_second (Some x) (Some y) e = cc
 
 not_true : (b : Bool) → not b ≡ true → b ≡ false
 not_true true e = cc

@@ -80,10 +80,14 @@ abbrev pub loaded : PlainExpr → Option ℕ
 loaded (expression ty mode (load (object o))) = Some o
 loaded e = None
 
+-- an operator between the value of an object and a constant
+abbrev pub joined : BinOp → PlainExpr → PlainExpr → Option Operands
+joined op a b =
+    option_and_then (λ o. option_map (λ n. record { op = op; object = o; value = n }) (int_constant b)) (loaded a)
+
 -- the operator, the object that it begins with and the constant that it ends with
 abbrev pub operands_of : PlainExpr → Option Operands
-operands_of (expression ty mode (binary op a b)) =
-    option_and_then (λ o. option_map (λ n. record { op = op; object = o; value = n }) (int_constant b)) (loaded a)
+operands_of (expression ty mode (binary op a b)) = joined op a b
 operands_of e = None
 
 -- `i < B`, and so with each other operator
@@ -122,12 +126,15 @@ abbrev pub declared_with : ℕ → PlainStmt → Option PlainExpr
 declared_with o (statement unit at (declare q values)) = initialiser o q values
 declared_with o s = None
 
+-- what a statement gives the object o by its declaration, where the others that follow do not change it
+abbrev pub declared_alone : ℕ → PlainStmt → PlainStmts → Option PlainExpr
+declared_alone o s others = if stmts_touch Change o others then None else declared_with o s
+
 -- what the only one of some statements that changes the object o gives it, by its declaration
 abbrev pub declared_among : ℕ → PlainStmts → Option PlainExpr
 declared_among o last_stmt = None
 declared_among o (next_stmt s ss) =
-    if stmt_touches Change o s then (if stmts_touch Change o ss then None else declared_with o s)
-    else declared_among o ss
+    if stmt_touches Change o s then declared_alone o s ss else declared_among o ss
 
 -- what the first part of a loop gives the object o: `i = A`, or declarations, of which one is that of i
 abbrev pub start_of : ℕ → OptionPlainStmt → Option PlainExpr

@@ -1,5 +1,6 @@
 -- Laws of programs whose loops are counted.
-use Rattle.std.specs.Prelude.{◌≡◌, ◌≢◌, ◌≤◌, ◌⊎◌, ℕ, nat_lt, ◌==◌, ◌&&◌, ◌||◌, Bool, if◌then◌else◌, Option, Some, None, slice_get}
+use Rattle.std.specs.Prelude.{◌≡◌, ◌≢◌, ◌≤◌, ◌⊎◌, ℕ, nat_lt, ◌==◌, ◌&&◌, ◌||◌, Bool, false, if◌then◌else◌, Option, Some, None}
+use Rattle.std.specs.Prelude.{option_and_then, slice_get}
 use Rattle.ec_iohw.specs.declared.table.IoTable.{IoTable}
 use Rattle.ec_core.specs.Meaning.{run, work}
 use Rattle.ec_core.specs.Plain.{PlainStmt, statement, PlainKind, empty, evaluate, block, declare, branch, while_loop}
@@ -8,24 +9,24 @@ use Rattle.ec_core.specs.Plain.{a_stmt, PlainStmts, last_stmt, next_stmt, PlainF
 use Rattle.ec_core.specs.PortTable.{plain_table}
 use Rattle.ec_core.specs.State.{Inputs, State, more}
 use Rattle.ec_core.specs.Valid.{Valid, Reaches}
+use Rattle.ec_core_steps.specs.declared.uncounted.Site.{Site}
 use Rattle.ec_core_steps.specs.Counted.{turns_of}
 use Rattle.ec_core_steps.specs.Work.{max_work}
 
 -- ---- loops that are not counted
 
--- where a statement stands: its unit and the index of its first token there
-pub record Site : Type 0 where
-  pub unit : ℕ
-  pub at : ℕ
-
+-- where a statement stands, before another: by its unit, and by the index of its first token there
 abbrev pub comes_before : Site → Site → Bool
 comes_before x y = nat_lt x.unit y.unit || (x.unit == y.unit && nat_lt x.at y.at)
 
 -- the first of two
+abbrev pub first_of : Site → Site → Site
+first_of x y = if comes_before y x then y else x
+
 abbrev pub first_site : Option Site → Option Site → Option Site
 first_site None y = y
 first_site (Some x) None = Some x
-first_site (Some x) (Some y) = if comes_before y x then Some y else Some x
+first_site (Some x) (Some y) = Some (first_of x y)
 
 -- a loop, where it is not counted
 abbrev pub unless_counted : Option ℕ → Site → Option Site
@@ -69,6 +70,22 @@ abbrev pub LoopsAreCounted : PlainProgram → Type 0
 LoopsAreCounted p =
     (g : ℕ) (function : PlainFunction) → IsReached p g → slice_get p.functions g ≡ Some function
     → uncounted p g function.body function.body ≡ None
+
+-- the first loop of the function with a number that is not counted
+abbrev pub uncounted_in : PlainProgram → ℕ → Option Site
+uncounted_in p g =
+    option_and_then (λ function. uncounted p g function.body function.body) (slice_get p.functions g)
+
+-- the first loop of a function that main reaches, of those of this function that are not counted
+pub record HasUncounted (p : PlainProgram) (x : Site) : Type 0 where
+  pub function : ℕ
+  pub reached : IsReached p function
+  pub first : uncounted_in p function ≡ Some x
+
+-- the first loop of all functions that main reaches, of those that are not counted
+pub record IsFirstUncounted (p : PlainProgram) (x : Site) : Type 0 where
+  pub has : HasUncounted p x
+  pub first : (y : Site) → HasUncounted p y → comes_before y x ≡ false
 
 -- ---- the law
 
