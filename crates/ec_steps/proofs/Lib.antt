@@ -1,2 +1,3 @@
 -- For this crate alone.
 mod Ends
+mod Numbers
