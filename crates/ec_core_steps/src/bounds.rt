@@ -1,5 +1,6 @@
 //! The most work of a program, and the first of its loops that is not counted.
-ghost use Rattle.std.specs.Prelude.{◌≡◌, ◌≤◌, ◌<◌, ◌↔◌, ◌++◌, ◌∷◌, [], None, Some, false, map, length, replicate, IfOk, OnOk};
+ghost use Rattle.std.specs.Prelude.{◌≡◌, ◌≤◌, ◌<◌, ◌↔◌, ◌++◌, ◌∷◌, []};
+ghost use Rattle.std.specs.Prelude.{None, Some, false, map, length, replicate, IfOk, OnOk};
 ghost use Rattle.ec_check_recursion.specs.Rows.{plain_rows, rows_of_program};
 ghost use Rattle.ec_core.specs.Plain.{plain_function, plain_program, plain_stmt};
 ghost use Rattle.ec_core.specs.PortTable.{plain_table};

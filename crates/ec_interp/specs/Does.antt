@@ -178,7 +178,8 @@ module _ (f : Context) (depth : ℕ) where
   -- a statement that stands anywhere
   abbrev pub DoesKind : PlainKind → Result Exit RunError → State → State → Type 0
   DoesKind kind result s t =
-      ShowsAt f (Meets w f.turns kind) (WithinKind kind) seen_exit (RunsStmt f s (statement 0 0 kind)) result t (kind_effect w (calls false) f.turns kind s)
+      ShowsAt f (Meets w f.turns kind) (WithinKind kind) seen_exit (RunsStmt f s (statement 0 0 kind)) result t
+      (kind_effect w (calls false) f.turns kind s)
 
   abbrev pub DoesStmts : PlainStmts → Result Exit RunError → State → State → Type 0
   DoesStmts all result s t =
@@ -215,7 +216,8 @@ module _ (f : Context) (depth : ℕ) where
   abbrev pub DoesFirstAndLoop : PlainStmt → Option PlainExpr → Option PlainExpr → PlainStmt → Result Exit RunError
       → State → State → Type 0
   DoesFirstAndLoop first c last body result s t =
-      ShowsAt f (OwnOfLoop c last) (WithinKind (for_loop (a_stmt first) c last body)) seen_exit (RunsStmt f s first × RunsLoop f s c last body) result t
+      ShowsAt f (OwnOfLoop c last) (WithinKind (for_loop (a_stmt first) c last body)) seen_exit
+      (RunsStmt f s first × RunsLoop f s c last body) result t
       (loop_after_first w (calls false) f.turns first c last body s)
 
   -- ---- calls
@@ -227,4 +229,5 @@ module _ (f : Context) (depth : ℕ) where
   -- a call of a function within which calls nest so deep
   abbrev pub DoesEntered : ℕ → PlainFunction → List Value → Result Value RunError → State → State → Type 0
   DoesEntered g called xs result s t =
-      ShowsAt f Nothing (MetInFunction w f.turns g called) (λ x. x) (RunsCalled f s g called xs) result t (call_of w (calls false) f.turns g (Some called) xs s)
+      ShowsAt f Nothing (MetInFunction w f.turns g called) (λ x. x) (RunsCalled f s g called xs) result t
+      (call_of w (calls false) f.turns g (Some called) xs s)

@@ -1,6 +1,7 @@
 -- When the interpreter has an answer: where a program keeps the rules of types, only running out of memory keeps it
 -- from one.
-use Rattle.std.specs.Prelude.{⊤, ◌≡◌, ◌⊎◌, drop, IsSomeAnd, true, Some, slice_get, ℕ, ◌^◌, ℤ, pos, neg_ℤ, ◌≤ℤ◌, Bool}
+use Rattle.std.specs.Prelude.{⊤, ◌≡◌, ◌⊎◌, drop, IsSomeAnd, true, Some}
+use Rattle.std.specs.Prelude.{slice_get, ℕ, ◌^◌, ℤ, pos, neg_ℤ, ◌≤ℤ◌, Bool}
 use Rattle.std.specs.Prelude.{List, Option, Result, Ok, Err}
 use Rattle.ec_core.specs.declared.values.Value.{Value}
 use Rattle.ec_core.specs.declared.values.Value.TheVariants.{Number, Pointer}

@@ -1,5 +1,6 @@
 //! What expressions, statements and functions do.
-ghost use Rattle.std.specs.Prelude.{◌≡◌, ◌==◌, ◌+◌, ◌<◌, ⊤, pos, [], ◌∷◌, ◌++◌, map, option_map, unwrap_or, OnOk};
+ghost use Rattle.std.specs.Prelude.{◌≡◌, ◌==◌, ◌+◌, ◌<◌, ⊤, pos};
+ghost use Rattle.std.specs.Prelude.{[], ◌∷◌, ◌++◌, map, option_map, unwrap_or, OnOk};
 ghost use Rattle.std.specs.Option.{option_copied};
 ghost use Rattle.ec_core.specs.declared.values.Undefined.TheVariants.{Invalid};
 ghost use Rattle.ec_core.specs.declared.values.Value.TheVariants.{Number as TheNumber};

@@ -1,5 +1,6 @@
 //! The image of a listing.
-ghost use Rattle.std.specs.Prelude.{◌≡◌, ◌≢◌, ◌<◌, ◌≤◌, ◌+◌, ◌/◌, ◌%◌, ◌++◌, ◌∷◌, [], ◌⊎◌, ◌↔◌, ℕ, List, Bool, true, length};
+ghost use Rattle.std.specs.Prelude.{◌≡◌, ◌≢◌, ◌<◌, ◌≤◌, ◌+◌, ◌/◌, ◌%◌, ◌++◌};
+ghost use Rattle.std.specs.Prelude.{◌∷◌, [], ◌⊎◌, ◌↔◌, ℕ, List, Bool, true, length};
 ghost use Rattle.std.specs.Prelude.{IfOk, IfErr, IfSome, IfNone, IsTrue, IsErrOf, IsOkUnless, MatchBool, MatchResult, position, ◌==◌};
 ghost use Rattle.ec_avr.specs.Flash.{flash_size};
 ghost use Rattle.ec_list.specs.Assembling.{has_no_end, put_over, all_true, Follows, StopsLine};

@@ -1,5 +1,6 @@
 //! The lines of a listing, written and read.
-ghost use Rattle.std.specs.Prelude.{◌≡◌, ◌<◌, ◌≤◌, ◌+◌, ◌*◌, ◌%◌, ◌/◌, ◌++◌, ◌∷◌, [], ◌↔◌, OnOk, IfOk, Some, drop, length, bytes_eq};
+ghost use Rattle.std.specs.Prelude.{◌≡◌, ◌<◌, ◌≤◌, ◌+◌, ◌*◌, ◌%◌, ◌/◌, ◌++◌};
+ghost use Rattle.std.specs.Prelude.{◌∷◌, [], ◌↔◌, OnOk, IfOk, Some, drop, length, bytes_eq};
 ghost use Rattle.ec_hex.specs.Bytes.{digit, digits_of};
 ghost use Rattle.ec_list.specs.Lines.{address_text, item_text, line_text, item_bytes, end_of};
 ghost use Rattle.ec_list.specs.ReadingLines.{digit_guess as digit_guess_of, digit_in as digit_in_of, address_guess as address_guess_of};

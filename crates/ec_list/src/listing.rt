@@ -1,5 +1,6 @@
 //! The listing of an image.
-ghost use Rattle.std.specs.Prelude.{◌≡◌, ◌≤◌, ◌<◌, ◌+◌, ◌*◌, ◌^◌, ◌%◌, ◌++◌, ◌∷◌, [], IsTrue, OnOk, IfOk, IfSome, length, drop};
+ghost use Rattle.std.specs.Prelude.{◌≡◌, ◌≤◌, ◌<◌, ◌+◌, ◌*◌, ◌^◌, ◌%◌, ◌++◌};
+ghost use Rattle.std.specs.Prelude.{◌∷◌, [], IsTrue, OnOk, IfOk, IfSome, length, drop};
 ghost use Rattle.std.specs.Prelude.{unwrap_or, slice_get, false};
 ghost use Rattle.ec_isa.specs.Table.{in_table};
 ghost use Rattle.ec_avr.specs.Flash.{flash_size};

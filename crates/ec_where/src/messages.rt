@@ -1,5 +1,6 @@
 //! What is told of a fault in a source.
-ghost use Rattle.std.specs.Prelude.{◌≡◌, ◌<◌, ◌+◌, ◌^◌, ◌↔◌, ℕ, true, IfErr, IfOk, MatchResult, length, option_map};
+ghost use Rattle.std.specs.Prelude.{◌≡◌, ◌<◌, ◌+◌, ◌^◌, ◌↔◌, ℕ};
+ghost use Rattle.std.specs.Prelude.{true, IfErr, IfOk, MatchResult, length, option_map};
 ghost use Rattle.ec_grammar.specs.Tokens.{view_kind, view_tokens};
 ghost use Rattle.ec_parse_laws.specs.Refusals.{EndsWithEnd, StopsBehind};
 ghost use Rattle.ec_where.specs.Messages.{IsExpected, IsSyntaxMessage, Says, SaysAt, known_text, known_word, message_text};
