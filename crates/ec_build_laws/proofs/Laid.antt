@@ -411,10 +411,10 @@ module _ (laws : PlacedLaws) (p : PlainProgram) (m : Map) (asm : AsmProgram) (l 
   few_objects o d is = let b = slice_get_within p.objects o d is in let c = h.valid.object_count in omega (arith, b, c)
 
   objects_stand : (f : ℕ) (g : PlainIrFunction) → slice_get q.functions f ≡ Some g
-      → ObjectsStand (data_of q) e g.slots (scratch_of asm l f) (place_of l)
+      → ObjectsStand q e g.slots (scratch_of asm l f) (place_of l)
   objects_stand f g is = record {
     each = object_stands;
-    apart = λ o k d x od home ox home' other.
+    apart = λ o k d x od home ox home' other both.
         apart_from (place_of l o) (size d) (place_of l k) (size x) (object_is o d od).some
         (stand.apart o k (place_of l o) (place_of l k) (size d) (size x) other (names o d od home) (names k x ox home'));
     scratch_apart = λ o d od home.

@@ -17,7 +17,7 @@ use Rattle.ec_ir.specs.Operations.{PlainIr, constant, copy, address, field, load
 use Rattle.ec_ir.specs.Operations.{store_object, binary_op, unary_op, conversion, label, jump, branch_zero}
 use Rattle.ec_ir.specs.Operations.{call_function, return_from, port_in, port_out, PlainIrFunction, PlainIrProgram}
 use Rattle.ec_ir.specs.Operations.{data_of}
-use Rattle.ec_ir.specs.Valid.{ValidIr, count}
+use Rattle.ec_ir.specs.Valid.{ValidIr, count, called_in}
 use Rattle.ec_select_operations.specs.declared.families.Told.{Told}
 use Rattle.ec_select_operations.specs.Code.{Linkage, op_code, tells_next, ops_code}
 use Rattle.ec_select_functions.specs.Covered.{IsCovered, AreCovered}
@@ -189,16 +189,16 @@ module _ (p : PlainIrProgram) (valid : ValidIr p) (has : HasCode p) (leaves : Le
 
   others_pass : (x f : ℕ) (g : PlainIrFunction) → slice_get p.functions f ≡ Some g → (told telling : Option Told) (need : Need)
       (i : PlainIr)
-      → IsCovered (data_of p) has.results f g.slots i → AcceptsLabels (is_other x) (link f g) i
+      → IsCovered (data_of p) has.results f (called_in g.code) g.slots i → AcceptsLabels (is_other x) (link f g) i
       → count_by (is_label x) (op_code (data_of p) (home (link f g).homes) (link f g) told telling need i) ≡ 0
   others_pass x f g e told telling need i h a =
       none_there x (op_code (data_of p) (home (link f g).homes) (link f g) told telling need i)
       (operation_passes (own_sizes p valid) (data_of p) (link f g) (has_room p valid f g e) (objects_fit p valid leaves) pieces
-      (is_other x) (fits_other x) has.results f told telling need i h a)
+      (is_other x) (fits_other x) has.results f (called_in g.code) told telling need i h a)
 
   operation_places : (x f : ℕ) (g : PlainIrFunction) → slice_get p.functions f ≡ Some g → (told telling : Option Told) (need : Need)
       (i : PlainIr)
-      → IsCovered (data_of p) has.results f g.slots i
+      → IsCovered (data_of p) has.results f (called_in g.code) g.slots i
       → count_by (is_label x) (op_code (data_of p) (home (link f g).homes) (link f g) told telling need i)
       ≡ placed_by x (link f g).label_of i
   unfolding is_other
@@ -232,7 +232,7 @@ module _ (p : PlainIrProgram) (valid : ValidIr p) (has : HasCode p) (leaves : Le
       others_pass x f g e told telling need (port_out from port index width) h tt
 
   code_places : (x f : ℕ) (g : PlainIrFunction) → slice_get p.functions f ≡ Some g → (told : Option Told)
-      (code : List PlainIr) → AreCovered (data_of p) has.results f g.slots code
+      (code : List PlainIr) → AreCovered (data_of p) has.results f (called_in g.code) g.slots code
       → count_by (is_label x) (ops_code (data_of p) (home (link f g).homes) (link f g) (tables f) told code)
       ≡ placed_in x (link f g).label_of code
   code_places x f g e told [] h = refl

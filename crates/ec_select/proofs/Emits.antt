@@ -14,7 +14,7 @@ use Rattle.ec_ir.specs.declared.operations.Temp.{Temp}
 use Rattle.ec_ir.specs.Operations.{PlainIr, constant, copy, address, field, load_at, store_at, load_object}
 use Rattle.ec_ir.specs.Operations.{store_object, binary_op, unary_op, conversion, label, jump, branch_zero}
 use Rattle.ec_ir.specs.Operations.{call_function, return_from, port_in, port_out, PlainIrProgram, data_of}
-use Rattle.ec_ir.specs.Valid.{ValidIr, ValidOperation}
+use Rattle.ec_ir.specs.Valid.{ValidIr, ValidOperation, called_in}
 use Rattle.ec_select_operations.specs.declared.calls.Linking.{Linking}
 use Rattle.ec_select_operations.specs.declared.families.Family.{Family}
 use Rattle.ec_select_operations.specs.declared.families.Family.TheVariants.{Combined, Compared, Multiplied, Shifted}
@@ -160,7 +160,7 @@ module _ (p : PlainIrProgram) (valid : ValidIr p) (leaves : LeavesFillTheirTypes
         (of_own (is_pointer aty) (PointerHasBytes n to a ty aty) ((n ≤ to.bytes) × (1 ≤ a.bytes)) i.pointer
         (record { types = i.types; from = i.from_bytes; result = i.result_bytes; most = l }))
 
-    emits : (need : Need) (i : PlainIr) (code : List PlainIr) → IsCovered (data_of p) results f slots i
+    emits : (need : Need) (i : PlainIr) (code : List PlainIr) → IsCovered (data_of p) results f (called_in all) slots i
         → ValidOperation p valid.results f slots all i → label_count (i ∷ code) ≤ bound
         → CanBeEmitted (data_of p) k (result_wanted need i) i
     emits need (constant t n) code h v l = let m = h.most in (omega arith, omega arith)
@@ -199,12 +199,12 @@ module _ (p : PlainIrProgram) (valid : ValidIr p) (leaves : LeavesFillTheirTypes
     emits need (port_out from port index width) code h v l = (h.within, index_has index h.index_has)
 
     emits_behind : (at : ℕ → Need) (need : Need) (i : PlainIr) (code : List PlainIr)
-        → IsCovered (data_of p) results f slots i → ValidOperation p valid.results f slots all i
+        → IsCovered (data_of p) results f (called_in all) slots i → ValidOperation p valid.results f slots all i
         → label_count (i ∷ code) ≤ bound → CanBeEmitted (data_of p) k (wanted_behind at need i) i
     emits_behind at need (branch_zero t m) code h v l = omega arith
     emits_behind at need i code h v l = emits need i code h v l
 
-    pub all_emitted : (at : ℕ → Need) (code : List PlainIr) → AreCovered (data_of p) results f slots code
+    pub all_emitted : (at : ℕ → Need) (code : List PlainIr) → AreCovered (data_of p) results f (called_in all) slots code
         → AllByRecursion (ValidOperation p valid.results f slots all) code → label_count code ≤ bound
         → CanBeWritten (data_of p) k (wanted_bytes at code) code
     all_emitted at [] h v l j i e = absurd (cc)

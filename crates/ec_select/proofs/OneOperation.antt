@@ -684,62 +684,62 @@ module _ (sizes : Sizes) where
       wanted_few : (need : Need) (to : Option Temp) (t : Temp) → to ≡ Some t → wanted_result need to ≤ t.bytes
       wanted_few need to t e = rw e (omega arith)
 
-      pub operation_passes : (results : ℕ → ℕ) (f : ℕ) (told telling : Option Told) (need : Need) (i : PlainIr)
-          → IsCovered p results f k.slots i → AcceptsLabels q k i
+      pub operation_passes : (results : ℕ → ℕ) (f : ℕ) (called : List ℕ) (told telling : Option Told) (need : Need) (i : PlainIr)
+          → IsCovered p results f called k.slots i → AcceptsLabels q k i
           → list_all q (op_code p (home k.homes) k told telling need i) ≡ true
-      operation_passes results f told telling need (constant t n) h a =
+      operation_passes results f called told telling need (constant t n) h a =
           by_fit (constant_code (home k.homes t) (low_bytes 16 n) (wanted need t))
           (constant_fits sizes (home k.homes t) (low_bytes 16 n) (wanted need t) (low_home t (wanted need t) h (omega arith)))
-      operation_passes results f told telling need (copy to from) h a =
+      operation_passes results f called told telling need (copy to from) h a =
           let e = h.2 in
           by_fit (move_code (home k.homes from) (home k.homes to) (wanted need to))
           (move_fits (home k.homes from) (home k.homes to) (wanted need to) (low_home from (wanted need to) h.1 (omega arith))
           (low_home to (wanted need to) h.0 (omega arith)))
-      operation_passes results f told telling need (load_object t o offset) h a =
+      operation_passes results f called told telling need (load_object t o offset) h a =
           by_fit (banked_code (home_of p o) p.objects o offset (home k.homes t) t.bytes) (bank_fits (home_of p o) o offset t h.0 h.1)
-      operation_passes results f told telling need (store_object o offset t) h a =
+      operation_passes results f called told telling need (store_object o offset t) h a =
           by_fit (copy_code (home k.homes t) (object_location p.objects o offset) t.bytes)
           (copy_fits sizes (home k.homes t) (object_location p.objects o offset) t.bytes (at_home t h.0)
           (objects.scalars o offset t.bytes h.1))
-      operation_passes results f told telling need (binary_op op ty mode to x aty y bty) h a =
+      operation_passes results f called told telling need (binary_op op ty mode to x aty y bty) h a =
           by_fit (op_code p (home k.homes) k told telling need (binary_op op ty mode to x aty y bty))
           (of_binary telling op ty aty bty mode to x y (wanted need to) h (omega arith))
-      operation_passes results f told telling need (unary_op op ty mode to x) h a =
+      operation_passes results f called told telling need (unary_op op ty mode to x) h a =
           by_fit (op_code p (home k.homes) k told telling need (unary_op op ty mode to x))
           (of_unary op ty mode to x (wanted need to) h (omega arith))
-      operation_passes results f told telling need (conversion to ty mode x aty) h a =
+      operation_passes results f called told telling need (conversion to ty mode x aty) h a =
           by_fit (op_code p (home k.homes) k told telling need (conversion to ty mode x aty))
           (of_conversion ty aty mode to x (wanted need to) h (omega arith))
-      operation_passes results f told telling need (label l) h a = rw a refl
-      operation_passes results f told telling need (jump l) h a = rw a refl
-      operation_passes results f told telling need (branch_zero t l) h a = tested_passes told t (k.label_of l) h a
-      operation_passes results f told telling need (call_function g to) h a =
+      operation_passes results f called told telling need (label l) h a = rw a refl
+      operation_passes results f called told telling need (jump l) h a = rw a refl
+      operation_passes results f called told telling need (branch_zero t l) h a = tested_passes told t (k.label_of l) h a
+      operation_passes results f called told telling need (call_function g to) h a =
           call_passes results g to (wanted_result need to) (kept_need need (call_function g to)) h (wanted_few need to) a
-      operation_passes results f told telling need (return_from from) h a = return_passes results f k.is_main from h
-      operation_passes results f told telling need (address t o offset) h a =
+      operation_passes results f called told telling need (return_from from) h a = return_passes results f k.is_main from h
+      operation_passes results f called told telling need (address t o offset) h a =
           by_fit (addressed_code p o offset (home k.homes t) t.bytes (wanted need t))
           (addressed_fits sizes laws.pointers p o offset (home k.homes t) t.bytes (wanted need t) h.size
           (home_leaves k.homes k.slots room t h.result) (objects.offsets o offset h.declared h.is_object h.within))
-      operation_passes results f told telling need (field ptr space offset) h a =
+      operation_passes results f called told telling need (field ptr space offset) h a =
           let two = some_width space in let e = h.1 in
           by_fit (field_code (home k.homes ptr) offset)
           (field_fits sizes laws.pointers (home k.homes ptr) offset (low_home ptr 2 h.0 (omega (arith, two, e))))
-      operation_passes results f told telling need (load_at to ptr space) h a =
+      operation_passes results f called told telling need (load_at to ptr space) h a =
           let few = h.0.most in let e = h.1.1 in
           by_fit (load_code space (home k.homes ptr) (home k.homes to) to.bytes)
           (load_fits sizes laws.pointers space (home k.homes ptr) (home k.homes to) to.bytes (omega (arith, few))
           (low_leaves ptr (width space) h.1.0 (omega (arith, e))) (home_leaves k.homes k.slots room to h.0))
-      operation_passes results f told telling need (store_at ptr space from) h a =
+      operation_passes results f called told telling need (store_at ptr space from) h a =
           let few = h.0.most in let two = some_width space in let e = h.1.1 in
           by_fit (store_data_code (home k.homes from) (home k.homes ptr) from.bytes)
           (store_fits sizes laws.pointers (home k.homes from) (home k.homes ptr) from.bytes (omega (arith, few))
           (low_leaves ptr 2 h.1.0 (omega (arith, two, e))) (home_leaves k.homes k.slots room from h.0))
-      operation_passes results f told telling need (port_in to port index width) h a =
+      operation_passes results f called told telling need (port_in to port index width) h a =
           let there = option_map (home k.homes) index in
           by_fit (in_code there (home k.homes to) port width (wanted need to))
           (in_fits sizes there (home k.homes to) port width h.address h.one_two_four (index_fits index h.index_has)
           (low_home to width h.number h.within) (wanted need to) (low_home to (wanted need to) h.number (omega arith)))
-      operation_passes results f told telling need (port_out from port index width) h a =
+      operation_passes results f called told telling need (port_out from port index width) h a =
           let there = option_map (home k.homes) index in
           by_fit (out_code there (home k.homes from) port width)
           (out_fits sizes there (home k.homes from) port width h.address h.one_two_four (index_fits index h.index_has)
@@ -747,12 +747,12 @@ module _ (sizes : Sizes) where
 
       -- all operations
 
-      pub operations_pass : (results : ℕ → ℕ) (f : ℕ) (at : ℕ → Need) (told : Option Told) (code : List PlainIr)
-          → AreCovered p results f k.slots code → AllAccepted q k code
+      pub operations_pass : (results : ℕ → ℕ) (f : ℕ) (called : List ℕ) (at : ℕ → Need) (told : Option Told) (code : List PlainIr)
+          → AreCovered p results f called k.slots code → AllAccepted q k code
           → list_all q (ops_code p (home k.homes) k at told code) ≡ true
-      operations_pass results f at told [] h a = refl
-      operations_pass results f at told (i ∷ code) h a =
+      operations_pass results f called at told [] h a = refl
+      operations_pass results f called at told (i ∷ code) h a =
           joined q (op_code p (home k.homes) k told (tells_next at i code) (needs at code) i)
           (ops_code p (home k.homes) k at (tells_next at i code) code)
-          (operation_passes results f told (tells_next at i code) (needs at code) i h.0 a.0)
-          (operations_pass results f at (tells_next at i code) code h.1 a.1)
+          (operation_passes results f called told (tells_next at i code) (needs at code) i h.0 a.0)
+          (operations_pass results f called at (tells_next at i code) code h.1 a.1)

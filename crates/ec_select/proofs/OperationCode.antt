@@ -39,8 +39,7 @@ use Rattle.ec_select_functions.specs.Covered.{HasScalarAt, AreIntegers, AreCompa
 use Rattle.ec_select_functions.specs.Covered.{AreDivided, IsBinary, HasIndex, IsPort}
 use Rattle.ec_select_functions.specs.Covered.{IsFixedBinary, IsUnary, IsFixedUnary, AreConverted, IsFixedConversion}
 use Rattle.ec_select_functions.specs.Covered.{IsAddress, IsInto, IsPointerBinary, IsPointerConversion, IsResult}
-use Rattle.ec_select_functions.specs.Covered.{IsCovered}
-use Rattle.ec_select_functions.specs.Covered.{AreCovered}
+use Rattle.ec_select_functions.specs.Covered.{IsStoredIn, IsCovered, AreCovered}
 use Rattle.ec_select_operations.specs.Homes.{HasHome}
 use Rattle.ec_select.specs.InPlace.{IsInPlace}
 use Rattle.ec_select.specs.Laws.{OperationsHaveCode}
@@ -501,7 +500,7 @@ module _ (leaves : LeavesFillTheirTypes) (p : PlainIrProgram) (valid : ValidIr p
   }
 
   covered : (i : PlainIr) → ValidOperation p valid.results f slots all i → IsOnPorts i → IsSuited i
-      → IsCovered (data_of p) valid.results f slots i
+      → IsCovered (data_of p) valid.results f (called_in all) slots i
   covered (constant t n) v h s = home_of slots t v.0 s
   covered (copy to from) v h s =
       let e = v.2 in (home_of slots to v.0 s, home_of slots from v.1 (omega arith), e)
@@ -515,7 +514,11 @@ module _ (leaves : LeavesFillTheirTypes) (p : PlainIrProgram) (valid : ValidIr p
   covered (store_object o offset t) v h s =
       let d = some_at (λ (x : PlainObject). (IsNamedIn f x.storage ⊎ IsParameterOf (called_in all) x.storage)
       × HasLeafOf (data_of p) x offset t.bytes) (slice_get p.objects o) v.1 in
-      scalar_at o offset t d.0 d.1 v.0 d.2.1
+      let there = scalar_at o offset t d.0 d.1 v.0 d.2.1 in (
+        there.0,
+        there.1,
+        subst (λ (x : Option PlainObject). IsSomeAnd x (λ y. IsStoredIn f (called_in all) y.storage)) (sym d.1) d.2.0,
+      )
   covered (binary_op op ty mode to a aty b bty) v h s =
       by_kind (is_fixed aty || is_fixed bty) (is_pointer aty || is_pointer bty) refl refl s where
         by_kind : (k g : Bool) → (is_fixed aty || is_fixed bty) ≡ k → (is_pointer aty || is_pointer bty) ≡ g
@@ -591,7 +594,7 @@ module _ (leaves : LeavesFillTheirTypes) (p : PlainIrProgram) (valid : ValidIr p
 
   all_covered : (code : List PlainIr) → AllByRecursion (ValidOperation p valid.results f slots all) code
       → AllByRecursion IsOnPorts code → AllByRecursion IsSuited code
-      → AreCovered (data_of p) valid.results f slots code
+      → AreCovered (data_of p) valid.results f (called_in all) slots code
   all_covered [] v h s = tt
   all_covered (i ∷ code) v h s = (covered i v.0 h.0 s.0, all_covered code v.1 h.1 s.1)
 

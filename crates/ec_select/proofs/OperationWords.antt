@@ -766,12 +766,13 @@ module _ (laws : WordLaws) where
 
   -- ---- all operations of a function
 
-  module _ (p : PlainProgram) (results : ℕ → ℕ) (f : ℕ) (k : Linkage) (width : (k.homes.width ≡ 2) ⊎ (k.homes.width ≡ 4)) where
+  module _ (p : PlainProgram) (results : ℕ → ℕ) (f : ℕ) (called : List ℕ) (k : Linkage)
+      (width : (k.homes.width ≡ 2) ⊎ (k.homes.width ≡ 4)) where
     index_row : (h : Homes) (index : Option Temp) → point_words (option_map (home h) index) ≤ index_words index
     index_row h None = omega arith
     index_row h (Some t) = omega arith
 
-    operation_most : (told telling : Option Told) (need : Need) (i : PlainIr) → IsCovered p results f k.slots i
+    operation_most : (told telling : Option Told) (need : Need) (i : PlainIr) → IsCovered p results f called k.slots i
         → IsInPlace i → code_words (op_code p (home k.homes) k told telling need i) ≤ op_words i
     operation_most told telling need (constant t n) h q =
         let a = (laws.values (home k.homes t) (low_bytes 16 n) (wanted need t) (wanted need t)).0 in omega (arith, a)
@@ -810,7 +811,7 @@ module _ (laws : WordLaws) where
         let x = out_words_most (option_map (home k.homes) index) (home k.homes from) port width in
         let y = index_row k.homes index in omega (arith, x, y)
 
-    pub operations_most : (at : ℕ → Need) (told : Option Told) (code : List PlainIr) → AreCovered p results f k.slots code
+    pub operations_most : (at : ℕ → Need) (told : Option Told) (code : List PlainIr) → AreCovered p results f called k.slots code
         → AllByRecursion IsInPlace code
         → code_words (ops_code p (home k.homes) k at told code) ≤ operations_words code
     operations_most at told [] h q = omega arith

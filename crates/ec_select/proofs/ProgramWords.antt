@@ -15,7 +15,7 @@ use Rattle.ec_core.specs.Words.{program_words}
 use Rattle.ec_ir.specs.Costs.{functions_words}
 use Rattle.ec_ir.specs.Costs.{code_words as operations_words}
 use Rattle.ec_ir.specs.Operations.{PlainIrFunction, PlainIrProgram, data_of}
-use Rattle.ec_ir.specs.Valid.{ValidIr}
+use Rattle.ec_ir.specs.Valid.{ValidIr, called_in}
 use Rattle.ec_asm_near.specs.Laws.{NoMoreWords}
 use Rattle.ec_select_operations.specs.Code.{ops_code}
 use Rattle.ec_select_operations.specs.Homes.{home}
@@ -84,7 +84,7 @@ module _ (laws : WordLaws) (startup : StartupHasWords) (p : PlainIrProgram) (val
   function_few f (Some g) e =
       let k = linkage_of p function_label f g.slots (made_with p (tables f) f g) in
       let room = has_room p valid f g e in
-      let a = operations_most laws (data_of p) has.results f k room.width (tables f) None g.code (has.functions f g e)
+      let a = operations_most laws (data_of p) has.results f (called_in g.code) k room.width (tables f) None g.code (has.functions f g e)
       (all_at (λ h. AllByRecursion IsInPlace h.code) p.functions f g in_place e) in
       omega (arith, joined_words (Label (function_label f) ∷ []) (ops_code (data_of p) (home k.homes) k (tables f) None g.code), a)
 

@@ -35,7 +35,7 @@ use Rattle.ec_asm_near.specs.Laws.{NearCodeStands, UsedLabelsHaveWords}
 use Rattle.ec_asm_near.specs.Near.{near_items}
 use Rattle.ec_select_reset.specs.Laws.{HasInitials, CanStart, ProgramsShowTheirOperations}
 use Rattle.ec_select_functions.specs.Laws.{Made, IsSelected, AreSelected}
-use Rattle.ec_select_operations.specs.Places.{ObjectLeaf}
+use Rattle.ec_select_operations.specs.Places.{ObjectLeaf, CanBeLiveTogether}
 use Rattle.ec_select_functions.specs.Relation.{HoldsLeaf}
 use Rattle.ec_select_functions.specs.Standing.{StandsInMemory, ObjectStands, ObjectsStand}
 use Rattle.ec_select_startup.specs.declared.spans.Span.{Span}
@@ -107,6 +107,13 @@ static_stands e o n at (static inits) home h k = k
 static_stands e o n at (local f) home h k = absurd (false≢true h)
 static_stands e o n at (param f) home h k = absurd (false≢true h)
 static_stands e o n at (register r) home h k = absurd (false≢true h)
+
+-- static objects can be live together with all others
+static_meets : (p : PlainIrProgram) (s t : PlainStorage) (home : Bank) → has_initial_bytes s home ≡ true → CanBeLiveTogether p s t
+static_meets p (static inits) t home h f g q r = absurd cc
+static_meets p (local i) t home h f g q r = absurd (false≢true h)
+static_meets p (param i) t home h f g q r = absurd (false≢true h)
+static_meets p (register i) t home h f g q r = absurd (false≢true h)
 
 and_second : (a b : Bool) → (a && b) ≡ true → b ≡ true
 and_second true b h = h
@@ -210,7 +217,7 @@ module _ (laws : RunLaws) (p : PlainIrProgram) (asm : AsmProgram) (e : Env) (pla
   there (g ∷ fs) zero l = (g, refl)
   there (g ∷ fs) (suc c) l = there fs c (omega arith)
 
-  objects : (g : PlainIrFunction) × ObjectsStand (data_of p) e g.slots (scratch p.main) place
+  objects : (g : PlainIrFunction) × ObjectsStand p e g.slots (scratch p.main) place
   objects = let g = there p.functions p.main valid.main in (g.0, laid.memory.objects p.main g.0 g.1)
 
   stands_out : (o : ℕ) (d : PlainObject) → slice_get p.objects o ≡ Some d → IsInitial d
@@ -253,7 +260,8 @@ module _ (laws : RunLaws) (p : PlainIrProgram) (asm : AsmProgram) (e : Env) (pla
       let t = target_is o d q i in
       let u = target_is k x r m in
       let apart =
-      objects.1.apart o k d x q (static_home d.storage d.home i) r (static_home x.storage x.home m) (λ s. absurd (omega arith)) in
+      objects.1.apart o k d x q (static_home d.storage d.home i) r (static_home x.storage x.home m) (λ s. absurd (omega arith))
+      (static_meets p d.storage x.storage d.home i) in
       let left = apart.left in
       let right = apart.right in
       λ j below above.

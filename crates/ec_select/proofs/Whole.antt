@@ -14,7 +14,7 @@ use Rattle.ec_ir.specs.Operations.{PlainIr, constant, copy, address, field, load
 use Rattle.ec_ir.specs.Operations.{store_object, binary_op, unary_op, conversion, label, jump, branch_zero}
 use Rattle.ec_ir.specs.Operations.{call_function, return_from, port_in, port_out, PlainIrFunction, PlainIrProgram}
 use Rattle.ec_ir.specs.Operations.{data_of}
-use Rattle.ec_ir.specs.Valid.{ValidIr, ValidOperation, count}
+use Rattle.ec_ir.specs.Valid.{ValidIr, ValidOperation, count, called_in}
 use Rattle.ec_asm_near.specs.Laws.{ProgramsStayValid}
 use Rattle.ec_select_operations.specs.Code.{Linkage}
 use Rattle.ec_select_operations.specs.Needs.{Need}
@@ -63,7 +63,7 @@ module _ (laws : CodeLaws) (p : PlainIrProgram) (valid : ValidIr p) (has : HasCo
             let k = link p valid has laws.leaves laws.pieces tables f g in
             let rest =
             operations_pass (own_sizes p valid) (data_of p) k (has_room p valid f g e) (objects_fit p valid laws.leaves) laws.pieces
-            q passes has.results f (tables f) None g.code (has.functions f g e) (accepts f g e) in
+            q passes has.results f (called_in g.code) (tables f) None g.code (has.functions f g e) (accepts f g e) in
             rw (labels (function_label f), rest) refl
 
   -- ---- fields

@@ -35,7 +35,7 @@ pub record ScratchIsLaidOut (p : PlainIrProgram) (e : Env) (place scratch : ℕ 
   pub stands : (f : ℕ) (g : PlainIrFunction) → slice_get p.functions f ≡ Some g
       → ScratchStands e g.slots (homes_of f g.code) (scratch f)
   pub objects : (f : ℕ) (g : PlainIrFunction) → slice_get p.functions f ≡ Some g
-      → ObjectsStand (data_of p) e g.slots (scratch f) place
+      → ObjectsStand p e g.slots (scratch f) place
   pub apart : (f h : ℕ) (a b : PlainIrFunction) → CallsTo p h f → slice_get p.functions f ≡ Some a
       → slice_get p.functions h ≡ Some b → Apart (scratch f) (16 * a.slots) (scratch h) (16 * b.slots)
 

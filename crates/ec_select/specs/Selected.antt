@@ -3,6 +3,7 @@ use Rattle.std.specs.Prelude.{◌≡◌, ℕ, ◌<◌, List, ◌++◌, map, Some
 use Rattle.ec_asm.specs.declared.items.AsmItem.{AsmItem}
 use Rattle.ec_asm.specs.declared.items.AsmProgram.{AsmProgram}
 use Rattle.ec_ir.specs.Operations.{PlainIrFunction, PlainIrProgram, data_of}
+use Rattle.ec_ir.specs.Valid.{called_in}
 use Rattle.ec_select_live.specs.Least.{IsLeast}
 use Rattle.ec_asm_near.specs.Near.{near_items}
 use Rattle.ec_select_functions.specs.Covered.{AreCovered}
@@ -15,7 +16,7 @@ pub record HasCode (p : PlainIrProgram) : Type 0 where
   pub results : ℕ → ℕ
   pub main_result : results p.main ≡ 2
   pub functions : (f : ℕ) (g : PlainIrFunction) → slice_get p.functions f ≡ Some g
-      → AreCovered (data_of p) results f g.slots g.code
+      → AreCovered (data_of p) results f (called_in g.code) g.slots g.code
 
 -- the tables tell for each of the first n functions what is needed at its labels, and no more
 pub record AreTables (p : PlainIrProgram) (tables : ℕ → ℕ → Need) (n : ℕ) : Type 0 where

@@ -31,17 +31,17 @@ use Rattle.ec_core.specs.State.{with_object, changed_at}
 use Rattle.ec_core.specs.Valid.{IsObject, IsStored}
 use Rattle.ec_core.proofs.Filled.{leaves_fill_their_types}
 use Rattle.ec_ir.specs.declared.operations.Temp.{Temp}
-use Rattle.ec_ir.specs.Meaning.{Mach, machine}
+use Rattle.ec_ir.specs.Meaning.{is_kept, Mach, machine}
 use Rattle.ec_ir.specs.Temporaries.{content_of, with_temp, low_bytes}
 use Rattle.ec_select_pointers.specs.AccessLaws.{each, Brings}
 use Rattle.ec_select_operations.specs.Homes.{HasHome}
 use Rattle.ec_select_functions.specs.Covered.{HasScalarAt}
 use Rattle.ec_select_operations.specs.Needs.{Need, wanted}
-use Rattle.ec_select_operations.specs.Places.{location_in, kind_in, ObjectLeaf, AreDifferent}
+use Rattle.ec_select_operations.specs.Places.{location_in, kind_in, ObjectLeaf, CanBeLiveTogether, AreDifferent}
 use Rattle.ec_select_operations.specs.Pointers.{home_of, address_number}
-use Rattle.ec_select_functions.proofs.Setting.{Setting}
+use Rattle.ec_select_functions.proofs.Setting.{Setting, together}
 use Rattle.ec_select_functions.specs.Relation.{byte_accesses, number_told, object_accesses, event_accesses, accesses}
-use Rattle.ec_select_functions.specs.Relation.{HoldsContent, HoldsLeaf, Matches}
+use Rattle.ec_select_functions.specs.Relation.{HoldsContent, HoldsLeaf, FramesStand, Matches}
 use Rattle.ec_select_functions.proofs.Match.{wanted_most, kept_left, held_row, same_content, same_leaf, at_width}
 use Rattle.ec_select_functions.proofs.Match.{written_wide}
 use Rattle.ec_select_functions.proofs.Moves.{Frame, Wide, widened, row_kept_wide, numbers_kept, work_kept}
@@ -354,7 +354,7 @@ leaf_found xs offset k q =
 module _ (p : PlainProgram) (e : Env) (slots : ℕ) (home : Temp → Location) (base : Temp → ℕ) (place : ℕ → ℕ)
     (y : Setting p e slots home base place) where
   abbrev A : Need → Mach → View → Type 0
-  A need m v = Matches p e y.inputs slots base place y.aside y.was need m v
+  A need m v = Matches p e y.inputs slots base place y.aside y.was y.active y.called need m v
 
   -- the bytes of a bank
   abbrev pub bytes_of : Bank → View → ℕ → ℕ
@@ -478,11 +478,12 @@ module _ (p : PlainProgram) (e : Env) (slots : ℕ) (home : Temp → Location) (
 
   -- a leaf that stands apart from the one that was written
   other_leaf : (l k : ObjectLeaf p DataBank) (v v1 : View) → AreDifferent p l k
+      → CanBeLiveTogether y.program l.declared.storage k.declared.storage
       → Wide v v1 (place l.object + l.at) l.bytes → (j : ℕ) → j < k.bytes
       → v1.at (place k.object + k.at + j) ≡ v.at (place k.object + k.at + j)
-  other_leaf l k v v1 other f j r =
+  other_leaf l k v v1 other both f j r =
       row_kept_wide v v1 (place l.object + l.at) l.bytes (place k.object + k.at) k.bytes (y.layout.leaves_at k).clear
-      (y.layout.leaves_work k) (y.layout.leaves_apart l k other) f j r
+      (y.layout.leaves_work k) (y.layout.leaves_apart l k other both) f j r
 
   -- two leaves with the same numbers are one
   same_place : (l k : ObjectLeaf p DataBank) → l.object ≡ k.object → l.number ≡ k.number → (l.at ≡ k.at) × (l.bytes ≡ k.bytes)
@@ -515,13 +516,17 @@ module _ (p : PlainProgram) (e : Env) (slots : ℕ) (home : Temp → Location) (
   after_write l space u s =
       recorded l.declared.storage (Write l.object l.number space (told u)) (with_object l.object (with_leaf l.number u) s)
 
+  -- frames stand for the function of a leaf, if it is of one
+  abbrev pub IsStanding : (l : ObjectLeaf p DataBank) (need : Need) (m : Mach) (v : View) → A need m v → Type 0
+  IsStanding l need m v z = is_kept z.frames.functions l.declared.storage ≡ true
+
   -- what came of the leaves
-  stored_leaves : (l : ObjectLeaf p DataBank) (u : Value) (need : Need) (m : Mach) (v v1 : View) → A need m v
+  stored_leaves : (l : ObjectLeaf p DataBank) (u : Value) (need : Need) (m : Mach) (v v1 : View) (z : A need m v) → IsStanding l need m v z
       → Wide v v1 (place l.object + l.at) l.bytes → HoldsLeaf p place v1.at (place l.object + l.at) l.bytes u
       → (k : ObjectLeaf p DataBank) (x : ObjectState) (n : Value)
       → slice_get (changed_at l.object (with_leaf l.number u) m.state.objects) k.object ≡ Some x
       → leaf_of x k.number ≡ Some n → HoldsLeaf p place v1.at (place k.object + k.at) k.bytes n
-  stored_leaves l u need m v v1 z frame here k x n q w =
+  stored_leaves l u need m v v1 z mine frame here k x n q w =
       ⊎_elim
       (λ object.
       let q1 : slice_get (changed_at l.object (with_leaf l.number u) m.state.objects) l.object ≡ Some x =
@@ -543,24 +548,57 @@ module _ (p : PlainProgram) (e : Env) (slots : ℕ) (home : Temp → Location) (
       let other = leaf_other before l.number k.number u number in
       let w1 : leaf_of before k.number ≡ Some n = sym other ∙ subst (λ (s : ObjectState). leaf_of s k.number ≡ Some n) (sym c.2) w in
       let q2 : slice_get m.state.objects k.object ≡ Some before = subst (λ o. slice_get m.state.objects o ≡ Some before) (sym object) c.1 in
-      same_leaf p place v.at v1.at (place k.object + k.at) k.bytes n (other_leaf l k v v1 (inr (λ r. number (sym r))) frame)
+      same_leaf p place v.at v1.at (place k.object + k.at) k.bytes n
+      (other_leaf l k v v1 (inr (λ r. number (sym r))) (both k before n q2 w1) frame)
       (z.leaves_hold k before n q2 w1))
       (cases_eq k.number l.number))
       (λ object.
       let q1 : slice_get m.state.objects k.object ≡ Some x =
       sym (changed_other l.object k.object (with_leaf l.number u) m.state.objects object) ∙ q in
-      same_leaf p place v.at v1.at (place k.object + k.at) k.bytes n (other_leaf l k v v1 (inl (λ r. object (sym r))) frame)
+      same_leaf p place v.at v1.at (place k.object + k.at) k.bytes n
+      (other_leaf l k v v1 (inl (λ r. object (sym r))) (both k x n q1 w) frame)
       (z.leaves_hold k x n q1 w))
       (cases_eq k.object l.object)
+    where
+      both : (k : ObjectLeaf p DataBank) (x : ObjectState) (n : Value) → slice_get m.state.objects k.object ≡ Some x
+          → leaf_of x k.number ≡ Some n → CanBeLiveTogether y.program l.declared.storage k.declared.storage
+      both k x n q w =
+          together p e slots home base place y z.frames.functions l.declared.storage k.declared.storage z.frames.are_frames mine
+          (z.frames.valued k.object k.number k.declared x n k.is_object q w)
+
+  -- frames stand as before
+  stored_frames : (l : ObjectLeaf p DataBank) (u : Value) (need : Need) (m : Mach) (v : View) (z : A need m v) → IsStanding l need m v z
+      → FramesStand p y.active y.called (changed_at l.object (with_leaf l.number u) m.state.objects)
+  stored_frames l u need m v z mine = record {
+    functions = z.frames.functions;
+    are_frames = z.frames.are_frames;
+    live = λ o d x r q k. by_object o d r (λ other. z.frames.live o d x r (sym (unchanged o other) ∙ q) k);
+    valued = λ o i d x n r q k. by_object o d r (λ other. z.frames.valued o i d x n r (sym (unchanged o other) ∙ q) k);
+  }
+    where
+      unchanged : (o : ℕ) → o ≢ l.object
+          → slice_get (changed_at l.object (with_leaf l.number u) m.state.objects) o ≡ slice_get m.state.objects o
+      unchanged o other = changed_other l.object o (with_leaf l.number u) m.state.objects other
+
+      by_object : (o : ℕ) (d : PlainObject) → slice_get p.objects o ≡ Some d
+          → (o ≢ l.object → is_kept z.frames.functions d.storage ≡ true) → is_kept z.frames.functions d.storage ≡ true
+      by_object o d r f =
+          ⊎_elim
+          (λ (same : o ≡ l.object).
+          let a : Some d ≡ Some l.declared = sym r ∙ ap (slice_get p.objects) same ∙ l.is_object in
+          let b : d ≡ l.declared = cc in
+          subst (λ (c : PlainObject). is_kept z.frames.functions c.storage ≡ true) (sym b) mine)
+          f
+          (cases_eq o l.object)
 
   -- the bytes of a leaf have been written
   pub stored : (l : ObjectLeaf p DataBank) (space : SpaceId) (need need0 : Need) (m : Mach) (v w : View) (c : ℕ) (u : Value)
-      → A need0 m v → ((i : ℕ) → need i ≤ need0 i) → Wide v w (place l.object + l.at) l.bytes
+      → (z : A need0 m v) → IsStanding l need0 m v z → ((i : ℕ) → need i ≤ need0 i) → Wide v w (place l.object + l.at) l.bytes
       → HoldsLeaf p place w.at (place l.object + l.at) l.bytes u → HoldsNumbers w → w.inputs ≡ v.inputs → w.safe ≡ v.safe
       → w.seen ≡ v.seen
       ++ log_of (kind_in l.declared.storage) ByteWrite (place l.object + l.at) (seen_number p place l.bytes (told u)) l.bytes
       → A need (machine m.temps (after_write l space u (worked c m.state))) w
-  stored l space need need0 m v w c u z more frame here numbers inputs safe seen =
+  stored l space need need0 m v w c u z mine more frame here numbers inputs safe seen =
       let storage = l.declared.storage in
       let b = place l.object + l.at in
       let s0 = with_object l.object (with_leaf l.number u) (worked c m.state) in
@@ -574,10 +612,12 @@ module _ (p : PlainProgram) (e : Env) (slots : ℕ) (home : Temp → Location) (
             (λ j f. row_kept_wide v w b l.bytes (base t) t.bytes (y.layout.temps_at t it).clear (y.layout.temps_work t it)
             (y.layout.leaf_temp l t it) frame j (let most = wanted_most need t in omega arith))
             (at_width p e slots home base place y need0 m v t h (wanted need t) z it r q (let f = more t.at in omega (arith, f)));
-        leaves_hold = λ f x n r q. stored_leaves l u need0 m v w z frame here f x n (ap (λ g. slice_get g f.object) (sym objects) ∙ r) q;
+        leaves_hold = λ f x n r q.
+            stored_leaves l u need0 m v w z mine frame here f x n (ap (λ g. slice_get g f.object) (sym objects) ∙ r) q;
         tables_hold = λ f x n r q. z.tables_hold f x n
             (sym (changed_other l.object f.object (with_leaf l.number u) m.state.objects (other_object l f))
             ∙ ap (λ g. slice_get g f.object) (sym objects) ∙ r) q;
+        frames = subst (λ g. FramesStand p y.active y.called g) (sym objects) (stored_frames l u need0 m v z mine);
         kept = λ f r.
             (let i = y.high f r in frame f (omega arith) (omega arith) (λ o. omega arith) (λ o. omega arith) (y.leaves_aside l f r))
             ∙ z.kept f r;
@@ -589,11 +629,11 @@ module _ (p : PlainProgram) (e : Env) (slots : ℕ) (home : Temp → Location) (
 
   -- by a copy
   pub store_matches : (l : ObjectLeaf p DataBank) (space : SpaceId) (t : Temp) (need need0 : Need) (m : Mach) (v : View)
-      (c : ℕ) (u : Value) → HasHome slots t → l.bytes ≡ t.bytes → A need0 m v → ((i : ℕ) → need i ≤ need0 i)
-      → HoldsLeaf p place v.at (base t) l.bytes u
+      (c : ℕ) (u : Value) → HasHome slots t → l.bytes ≡ t.bytes → (z : A need0 m v) → IsStanding l need0 m v z
+      → ((i : ℕ) → need i ≤ need0 i) → HoldsLeaf p place v.at (base t) l.bytes u
       → A need (machine m.temps (after_write l space u (worked c m.state)))
       (block e (copy_code (home t) (location_in l.declared.storage l.object l.at) t.bytes) v)
-  store_matches l space t need need0 m v c u it size z more holds =
+  store_matches l space t need need0 m v c u it size z mine more holds =
       let storage = l.declared.storage in
       let b = place l.object + l.at in
       let a = base t in
@@ -611,17 +651,18 @@ module _ (p : PlainProgram) (e : Env) (slots : ℕ) (home : Temp → Location) (
       let numbers = numbers_kept v v1 b n z.bytes frame (λ j r. rw (d.there j r) (held j r)) work in
       let here : HoldsLeaf p place v1.at b n u = moved_leaf p place v.at v1.at a b n u d.there holds in
       subst (λ (i : ℕ). A need (machine m.temps (after_write l space u (worked c m.state))) (block e (copy_code (home t) to i) v)) size
-      (stored l space need need0 m v v1 c u z more (widened v v1 b n frame) here numbers d.inputs d.safe
+      (stored l space need need0 m v v1 c u z mine more (widened v v1 b n frame) here numbers d.inputs d.safe
       (d.seen ∙ ap (λ f. v.seen ++ f) log))
 
   -- by code that brings its bytes to an address
   pub store_brings : (l : ObjectLeaf p DataBank) (space : SpaceId) (t : Temp) (need need0 : Need) (m : Mach) (v w : View)
-      (c : ℕ) (u : Value) → HasHome slots t → l.bytes ≡ t.bytes → kind_in l.declared.storage ≡ Object → A need0 m v
+      (c : ℕ) (u : Value) → HasHome slots t → l.bytes ≡ t.bytes → kind_in l.declared.storage ≡ Object
+      → (z : A need0 m v) → IsStanding l need0 m v z
       → ((i : ℕ) → need i ≤ need0 i) → HoldsLeaf p place v.at (base t) l.bytes u
       → Brings v (place l.object + l.at) t.bytes (λ i. v.at (base t + i))
       (each ByteWrite (place l.object + l.at) (λ i. v.at (base t + i)) t.bytes) w
       → A need (machine m.temps (after_write l space u (worked c m.state))) w
-  store_brings l space t need need0 m v w c u it size kind z more holds brings =
+  store_brings l space t need need0 m v w c u it size kind z mine more holds brings =
       let b = place l.object + l.at in
       let a = base t in
       let n = l.bytes in
@@ -635,5 +676,5 @@ module _ (p : PlainProgram) (e : Env) (slots : ℕ) (home : Temp → Location) (
       let logged : each ByteWrite b byte n ≡ log_of (kind_in l.declared.storage) ByteWrite b number n =
       log ∙ ap (λ k. log_of k ByteWrite b number n) (sym kind) in
       let here : HoldsLeaf p place w.at b n u = moved_leaf p place v.at w.at a b n u d.there holds in
-      stored l space need need0 m v w c u z more (wide_of v w b n byte _ d) here (d.numbers z.bytes held) d.inputs d.safe
+      stored l space need need0 m v w c u z mine more (wide_of v w b n byte _ d) here (d.numbers z.bytes held) d.inputs d.safe
       (d.seen ∙ ap (λ f. v.seen ++ f) logged)

@@ -1,8 +1,8 @@
 -- The function that runs, and what is set aside for those that wait for it.
-use Rattle.std.proofs.Common.{◌≡◌, ℕ, ◌+◌, ◌-◌, ◌*◌, ◌<◌, ◌≤◌, ◌⊎◌, ⊎_elim, Bool, true, ◌&&◌, ◌||◌, List, [], ◌∷◌}
-use Rattle.std.proofs.Common.{Some, length, subst, arith, leb-true, ltb-true, Contains}
-use Rattle.std.specs.Prelude.{nat_le, nat_lt, slice_get, slice_index}
-use Rattle.std.proofs.lemmas.Bool.{and_parts, and_from, or_cases, or_left, or_right, lt-ltb, le-leb, cases_lt}
+use Rattle.std.proofs.Common.{◌≡◌, ℕ, ◌+◌, ◌-◌, ◌*◌, ◌<◌, ◌≤◌, ◌⊎◌, inl, inr, ⊎_elim, Bool, true, ◌&&◌, ◌||◌, List, [], ◌∷◌}
+use Rattle.std.proofs.Common.{Some, length, refl, sym, ◌∙◌, subst, arith, leb-true, ltb-true, eqb-true, Contains}
+use Rattle.std.specs.Prelude.{◌==◌, nat_le, nat_lt, slice_get, slice_index}
+use Rattle.std.proofs.lemmas.Bool.{and_parts, and_from, or_cases, or_left, or_right, lt-ltb, le-leb, eq-eqb, cases_lt}
 use Rattle.ec_space.specs.declared.space.Bank.TheVariants.{Data as DataBank}
 use Rattle.ec_asm.specs.View.{View, pair}
 use Rattle.ec_asm.specs.Change.{Env, Kind, Own, Object, Stacked, sp}
@@ -13,12 +13,14 @@ use Rattle.ec_core.specs.Plain.{PlainStorage, static, local, param, register}
 use Rattle.ec_core.specs.State.{Inputs}
 use Rattle.ec_core.specs.TypeLaws.{LeavesFillTheirTypes}
 use Rattle.ec_ir.specs.declared.operations.Temp.{Temp}
+use Rattle.ec_ir.specs.Meaning.{is_among}
 use Rattle.ec_ir.specs.Operations.{PlainIrFunction, PlainIrProgram, data_of}
 use Rattle.ec_ir.specs.Valid.{ValidIr, CallsTo, calls, calls_through, called_in}
 use Rattle.ec_select_operations.specs.declared.homes.Homes.{Homes}
 use Rattle.ec_select_operations.specs.Homes.{home, HasHome}
 use Rattle.ec_select_functions.specs.Laws.{AreSelected, IsSelected, CallsOn}
-use Rattle.ec_select_operations.specs.Places.{ObjectLeaf, Apart, Layout}
+use Rattle.ec_select_operations.specs.Places.{ObjectLeaf, Chained, CanBeLiveTogether, Apart, Layout}
+use Rattle.ec_select_functions.specs.Relation.{AreFrames}
 use Rattle.ec_select_functions.specs.Standing.{home_address, ObjectStands}
 use Rattle.ec_select_functions.proofs.Moves.{outside_row}
 use Rattle.ec_select_functions.proofs.Setting.{Setting, FixedLaws, PointerLaws}
@@ -107,6 +109,11 @@ module _ (p : PlainIrProgram) (e : Env) (place entry_of : ℕ → ℕ) (w : Worl
   -- all which it calls, from leaves, and from the bytes that it pushes; and there are bytes enough to push
   pub record Active (f : ℕ) (g : PlainIrFunction) (s : ℕ) (aside : ℕ → Bool) (was : ℕ → ℕ) : Type 0 where
     pub is : slice_get p.functions f ≡ Some g
+    -- the functions that are active: f, and others that lead to it, all on one chain of calls
+    pub functions : List ℕ
+    pub runs : is_among functions f ≡ true
+    pub leading : (a : ℕ) → is_among functions a ≡ true → (a ≡ f) ⊎ CallsTo p f a
+    pub chained : (a b : ℕ) → is_among functions a ≡ true → is_among functions b ≡ true → Chained p a b
     pub high : (k : ℕ) → aside k ≡ true → 32 ≤ k
     pub leaves : (l : ObjectLeaf (data_of p) DataBank) (k : ℕ) → aside k ≡ true → Outside (leaf_at l) l.bytes k
     pub own : (k : ℕ) → aside k ≡ true → Outside (scratch_of f) (16 * g.slots) k
@@ -125,7 +132,7 @@ module _ (p : PlainIrProgram) (e : Env) (place entry_of : ℕ → ℕ) (w : Worl
   selected_of f g q = w.selected.each f g q
 
   pub layout_of : (f : ℕ) (g : PlainIrFunction) → slice_get p.functions f ≡ Some g
-      → Layout (data_of p) e g.slots (home (homes_of f)) (base_of f) place
+      → Layout (data_of p) (CanBeLiveTogether p) e g.slots (home (homes_of f)) (base_of f) place
   layout_of f g q =
       let x = selected_of f g q in
       homes_are_laid_out w.fill p w.valid e g.slots (homes_of f) (scratch_of f) place x.scratch_stands x.objects_stand
@@ -192,9 +199,70 @@ module _ (p : PlainIrProgram) (e : Env) (place entry_of : ℕ → ℕ) (w : Worl
       (λ (m : w.selected.work + 64 ≤ k). m)
       (cases_lt k (w.selected.work + 64))
 
+  -- a chain of calls that is called from has the called function too
+  leads_on : (f b : ℕ) (g : PlainIrFunction) (a : ℕ) → slice_get p.functions f ≡ Some g → Contains (called_in g.code) b
+      → CallsTo p f a → CallsTo p b a
+  leads_on f b g a is there (calls _ h q r) = calls_through a f h q r (calls f g is there)
+  leads_on f b g a is there (calls_through _ c h q r on) = calls_through a c h q r (leads_on f b g c is there on)
+
+  -- so active functions lead to what the one calls that runs
+  called_from : (f : ℕ) (g : PlainIrFunction) (s : ℕ) (aside : ℕ → Bool) (was : ℕ → ℕ) (a : Active f g s aside was) (b : ℕ)
+      → Contains (called_in g.code) b → (c : ℕ) → is_among a.functions c ≡ true → CallsTo p b c
+  called_from f g s aside was a b there c q =
+      ⊎_elim
+      (λ (same : c ≡ f). subst (λ k. CallsTo p b k) (sym same) (calls f g a.is there))
+      (λ (on : CallsTo p f c). leads_on f b g c a.is there on)
+      (a.leading c q)
+
+  -- and are on one chain with it
+  with_called : (b : ℕ) (fs : List ℕ) → ((c : ℕ) → is_among fs c ≡ true → CallsTo p b c)
+      → ((c d : ℕ) → is_among fs c ≡ true → is_among fs d ≡ true → Chained p c d)
+      → (c d : ℕ) → is_among (b ∷ fs) c ≡ true → is_among (b ∷ fs) d ≡ true → Chained p c d
+  with_called b fs from chained c d q r =
+      ⊎_elim
+      (λ (i : (b == c) ≡ true).
+      let x = eqb-true b c i in
+      ⊎_elim
+      (λ (j : (b == d) ≡ true). let z = eqb-true b d j in inl (sym x ∙ z))
+      (λ (j : is_among fs d ≡ true). inr (inr (subst (λ k. CallsTo p k d) x (from d j))))
+      (or_cases (b == d) (is_among fs d) r))
+      (λ (i : is_among fs c ≡ true).
+      ⊎_elim
+      (λ (j : (b == d) ≡ true). let z = eqb-true b d j in inr (inl (subst (λ k. CallsTo p k c) z (from c i))))
+      (λ (j : is_among fs d ≡ true). chained c d i j)
+      (or_cases (b == d) (is_among fs d) r))
+      (or_cases (b == c) (is_among fs c) q)
+
+  -- so are all for which frames stand
+  pub frames_chained : (f : ℕ) (g : PlainIrFunction) (s : ℕ) (aside : ℕ → Bool) (was : ℕ → ℕ) (a : Active f g s aside was) (fs : List ℕ)
+      → AreFrames a.functions (called_in g.code) fs → (c d : ℕ) → is_among fs c ≡ true → is_among fs d ≡ true → Chained p c d
+  frames_chained f g s aside was a fs are c d q r =
+      ⊎_elim
+      (λ (same : fs ≡ a.functions). a.chained c d (subst (λ hs. is_among hs c ≡ true) same q) (subst (λ hs. is_among hs d ≡ true) same r))
+      (λ (more : (b : ℕ) × ((is_among a.functions b ≡ true) ⊎ Contains (called_in g.code) b) × (fs ≡ b ∷ a.functions)).
+      let q1 = subst (λ hs. is_among hs c ≡ true) more.2 q in
+      let r1 = subst (λ hs. is_among hs d ≡ true) more.2 r in
+      ⊎_elim
+      (λ (again : is_among a.functions more.0 ≡ true). a.chained c d (among_again more.0 c again q1) (among_again more.0 d again r1))
+      (λ (there : Contains (called_in g.code) more.0).
+      with_called more.0 a.functions (called_from f g s aside was a more.0 there) a.chained c d q1 r1)
+      more.1)
+      are
+    where
+      among_again : (b c : ℕ) → is_among a.functions b ≡ true → is_among (b ∷ a.functions) c ≡ true → is_among a.functions c ≡ true
+      among_again b c again q =
+          ⊎_elim
+          (λ (i : (b == c) ≡ true). subst (λ k. is_among a.functions k ≡ true) (eqb-true b c i) again)
+          (λ (i : is_among a.functions c ≡ true). i)
+          (or_cases (b == c) (is_among a.functions c) q)
+
   abbrev pub setting_of : (f : ℕ) (g : PlainIrFunction) (s : ℕ) (aside : ℕ → Bool) (was : ℕ → ℕ) → Active f g s aside was
       → Setting (data_of p) e g.slots (home (homes_of f)) (base_of f) place
   setting_of f g s aside was a = record {
+    program = p;
+    active = a.functions;
+    called = called_in g.code;
+    chained = λ fs are c d q r. frames_chained f g s aside was a fs are c d q r;
     layout = layout_of f g a.is;
     aside = aside;
     was = was;
@@ -208,8 +276,8 @@ module _ (p : PlainIrProgram) (e : Env) (place entry_of : ℕ → ℕ) (w : Worl
     work_aside = a.work;
     fixed = w.fixed;
     pointers = w.pointers;
-    scratch = scratch_of f;
-    objects_stand = (selected_of f g a.is).objects_stand;
+    objects_stand = (selected_of f g a.is).objects_stand.each;
+    objects_apart = (selected_of f g a.is).objects_stand.apart;
     tables_stand = w.selected.tables;
     valid = w.valid.objects;
     structs = w.valid.structs;
@@ -315,6 +383,12 @@ module _ (p : PlainIrProgram) (e : Env) (place entry_of : ℕ → ℕ) (w : Worl
       let to : CallsTo p b f = calls f g a.is there in
       record {
         is = is;
+        functions = b ∷ a.functions;
+        runs = or_left (b == b) (is_among a.functions b) (eq-eqb b b refl);
+        leading = λ c q. ⊎_elim (λ (i : (b == c) ≡ true). inl (sym (eqb-true b c i)))
+            (λ (i : is_among a.functions c ≡ true). inr (called_from f g s aside was a b there c i))
+            (or_cases (b == c) (is_among a.functions c) q);
+        chained = with_called b a.functions (called_from f g s aside was a b there) a.chained;
         high = λ k q. aside_cases aside (scratch_of f) (16 * g.slots) s k (32 ≤ k) q (λ r. a.high k r) (λ l m. omega arith)
             (λ l m. omega arith);
         leaves = λ l k q. aside_cases aside (scratch_of f) (16 * g.slots) s k (Outside (leaf_at l) l.bytes k) q (λ r. a.leaves l k r)
@@ -358,3 +432,9 @@ module _ (p : PlainIrProgram) (e : Env) (place entry_of : ℕ → ℕ) (w : Worl
           (λ (z : w.top < k). omega arith)
           (λ (z : k ≤ w.top). absurd (own_is_not_stacked (e.kind k) (scratch_kind f g a.is k i m) (w.stacked k l z)))
           (cases_lt w.top k)
+
+  pub called_functions : (f : ℕ) (g : PlainIrFunction) (s : ℕ) (aside : ℕ → Bool) (was : ℕ → ℕ) (a : Active f g s aside was)
+      (b : ℕ) (h : PlainIrFunction) (there : Contains (called_in g.code) b) (is : slice_get p.functions b ≡ Some h) (u : View)
+      (pointer : sp u ≡ s - 2) → (called f g s aside was a b h there is u pointer).functions ≡ b ∷ a.functions
+  unfolding called
+  called_functions f g s aside was a b h there is u pointer = refl

@@ -36,9 +36,9 @@ use Rattle.ec_select_operations.specs.Homes.{home, HasHome, result_register, res
 use Rattle.ec_select_functions.specs.Laws.{IsSelected, linkage_of}
 use Rattle.ec_select_operations.specs.Needs.{Need, needs, wanted, wanted_result, without_result}
 use Rattle.ec_select_operations.specs.Places.{ObjectLeaf}
-use Rattle.ec_select_functions.specs.Relation.{accesses, HoldsContent, Matches}
+use Rattle.ec_select_functions.specs.Relation.{accesses, HoldsContent, FramesStand, Matches}
 use Rattle.ec_select_functions.proofs.Active.{World, Active, homes_of, scratch_of, base_of, leaf_at, leaf_is}
-use Rattle.ec_select_functions.proofs.Active.{layout_of, setting_of, selected_of, aside_by, aside_stack, called}
+use Rattle.ec_select_functions.proofs.Active.{layout_of, setting_of, selected_of, aside_by, aside_stack, called, called_functions}
 use Rattle.ec_select_functions.proofs.Active.{has_room, leaf_outside_scratch, leaf_not_stacked}
 use Rattle.ec_select_functions.proofs.Computed.{moved_numbers}
 use Rattle.ec_select_functions.proofs.Follow.{Follows, after}
@@ -79,17 +79,18 @@ module _ (p : PlainIrProgram) (e : Env) (place entry_of : ℕ → ℕ) (w : Worl
   abbrev pub Statement : ℕ → Type 0
   Statement n =
       (f : ℕ) (g : PlainIrFunction) (s : ℕ) (aside : ℕ → Bool) (was : ℕ → ℕ) (a : Active p e place entry_of w f g s aside was)
-      (stack : List Call) → ((j : ℕ) → j ≤ n → Returns p e place entry_of w f g aside was stack j) → Runs n f g s aside was a stack
+      (stack : List Call) → active_functions D.main stack ≡ a.functions
+      → ((j : ℕ) → j ≤ n → Returns p e place entry_of w f g a.functions aside was stack j) → Runs n f g s aside was a stack
 
   -- the first operation of a function
   begins : (b : ℕ) (gb : PlainIrFunction) (s : ℕ) (aside : ℕ → Bool) (was : ℕ → ℕ) (a : Active p e place entry_of w b gb s aside was)
-      (stack : List Call)
+      (stack : List Call) → active_functions D.main stack ≡ a.functions
       → e.word_of (entry_of b) < 65536
       → Ready D p.functions e gb.slots (home (homes_of p e place entry_of w b)) (base_of p e place entry_of w b) place
       (setting_of p e place entry_of w b gb s aside was a) (w.selected.made b).labels gb.code
       (selected_of p e place entry_of w b gb a.is).end w.selected.results b
       (linkage_of p entry_of b gb.slots (w.selected.made b)) stack (e.word_of (entry_of b)) gb.code
-  begins b gb s aside was a stack word =
+  begins b gb s aside was a stack stacked word =
       let x = selected_of p e place entry_of w b gb a.is in
       let stands = x.stands in
       let here : x.pc ≡ e.word_of (entry_of b) = sym (stands.1.0 word) in
@@ -98,6 +99,7 @@ module _ (p : PlainIrProgram) (e : Env) (place entry_of : ℕ → ℕ) (w : Worl
         covered = x.covered;
         live = x.live;
         inside = λ c q. q;
+        here = record { active = a.runs; stacked = stacked };
         stands = subst (λ i. HasAt e (ops_code D (home (homes_of p e place entry_of w b))
             (linkage_of p entry_of b gb.slots (w.selected.made b)) (w.selected.made b).labels None gb.code) i x.end) mid stands.2;
       }
@@ -136,7 +138,7 @@ module _ (p : PlainIrProgram) (e : Env) (place entry_of : ℕ → ℕ) (w : Worl
     T to v v1 = Took p e place entry_of w f g s aside was a to v v1
 
     abbrev MM : Need → Mach → View → Type 0
-    MM need m v = Matches D e w.inputs slots bs place aside was need m v
+    MM need m v = Matches D e w.inputs slots bs place aside was a.functions (called_in g.code) need m v
 
     -- ---- the result is taken
 
@@ -177,7 +179,7 @@ module _ (p : PlainIrProgram) (e : Env) (place entry_of : ℕ → ℕ) (w : Worl
     -- ---- the caller goes on
 
     module _ (n : ℕ) (below : (j : ℕ) → j ≤ n → Statement j)
-        (returns : (j : ℕ) → j ≤ n → Returns p e place entry_of w f g aside was stack j)
+        (returns : (j : ℕ) → j ≤ n → Returns p e place entry_of w f g a.functions aside was stack j)
         (b : ℕ) (gb : PlainIrFunction) (is : slice_get p.functions b ≡ Some gb) (there : Contains (called_in g.code) b)
         (to : Option Temp) (result_is : IsResult w.selected.results b slots to) (rest : List PlainIr) (m : Mach) (v : View)
         (before : MM (without_result to (needs labels rest)) m v) (back end0 mid3 : ℕ) (room : back < 65536)
@@ -240,8 +242,16 @@ module _ (p : PlainIrProgram) (e : Env) (place entry_of : ℕ → ℕ) (w : Worl
       active : Active p e place entry_of w b gb (s - 2) aside_b (pushed back v1).at
       active = called p e place entry_of w f g s aside was a b gb there is (pushed back v1) pushed_is
 
+      -- the functions that are active while the called one runs
+      abbrev around_b : List ℕ
+      around_b = active.functions
+
+      functions_are : active.functions ≡ b ∷ a.functions
+      unfolding active
+      functions_are = called_functions p e place entry_of w f g s aside was a b gb there is (pushed back v1) pushed_is
+
       -- what a called function left
-      module _ (s1 : State) (u : View) (left : Left p e place entry_of w gb b aside_b (pushed back v1).at s1 u) where
+      module _ (s1 : State) (u : View) (left : Left p e place entry_of w gb b around_b aside_b (pushed back v1).at s1 u) where
         pointer_u : sp u ≡ s - 2
         pointer_u =
             let low = left.kept 93 active.pointer_low in
@@ -272,18 +282,20 @@ module _ (p : PlainIrProgram) (e : Env) (place entry_of : ℕ → ℕ) (w : Worl
             let second = block_goes e (restore_code link need0) mid3 end0 v4 form.0 restore_at in
             let most = form.1 in
             let matches =
-            resumes p e place entry_of w f g s aside was a need to it m temps s1 back v v1 u v4
+            resumes p e place entry_of w f g s aside was a around_b (called_in gb.code) need to it m temps s1 back v v1 u v4
             before pointer0 saved pointer first b gb left pointer_u took held in
             after D place e (steps + code_steps (restore_code link need0)) j j spent s1.work back end0 (popped u) v5
             (go_on p e place entry_of w j (record { code = g.code; rest = rest; stack = stack }) (machine temps (left_over s1)))
             (goes_on_to e steps (code_steps (restore_code link need0)) back mid3 end0 (popped u) v4 v5 goes second) (omega arith)
             (omega (arith, most, some, credit))
-            (below j l f g s aside was a stack (λ i r. returns i (omega (arith, r, l))) end0 rest (machine temps (left_over s1)) v5 ready
-            (kept_matches D e w.inputs slots bs place aside was need around temps s1 v5 matches))
+            (below j l f g s aside was a stack ready.here.stacked (λ i r. returns i (omega (arith, r, l))) end0 rest
+            (machine temps (left_over s1)) v5 ready
+            (kept_matches D e w.inputs slots bs place aside was around_b (called_in gb.code) a.functions (called_in g.code) need around
+            temps s1 v5 (inl ready.here.stacked) matches))
 
       back_with : (j : ℕ) → j ≤ n → (to1 : Option Temp) → to ≡ to1 → (result : Option Held) (s1 : State) (u : View) (spent : ℕ)
           → spent + 64 ≤ s1.work
-          → HandsOn p e place entry_of w b result u → Left p e place entry_of w gb b aside_b (pushed back v1).at s1 u
+          → HandsOn p e place entry_of w b result u → Left p e place entry_of w gb b around_b aside_b (pushed back v1).at s1 u
           → Follows D place e j spent back (popped u)
           (next (resulted to1 result m.temps s1)
           (λ temps s2. go_on p e place entry_of w j (record { code = g.code; rest = rest; stack = stack }) (machine temps (left_over s2))))
@@ -356,7 +368,7 @@ module _ (p : PlainIrProgram) (e : Env) (place entry_of : ℕ → ℕ) (w : Worl
               (cases_eq t1.at t.at)
 
       -- what waits for the called function
-      returns_b : (j : ℕ) → j ≤ n → Returns p e place entry_of w b gb aside_b (pushed back v1).at (waits ∷ stack) j
+      returns_b : (j : ℕ) → j ≤ n → Returns p e place entry_of w b gb around_b aside_b (pushed back v1).at (waits ∷ stack) j
       returns_b j l result s1 u spent credit hands left =
           subst (λ i. Follows D place e j spent i (popped u) (leave D (waits ∷ stack) result (go_on p e place entry_of w j) s1))
           (sym (goes_back s1 u left))
@@ -365,12 +377,13 @@ module _ (p : PlainIrProgram) (e : Env) (place entry_of : ℕ → ℕ) (w : Worl
       -- it begins with the caller's objects
       entered : MM need0 m v → (st : State) → st.objects ≡ m.state.objects → st.events ≡ m.state.events
           → Matches D e w.inputs gb.slots (base_of p e place entry_of w b) place aside_b (pushed back v1).at
-          (needs (w.selected.made b).labels gb.code) (machine no_temps st) (pushed back v1)
+          a.functions (called_in g.code) (needs (w.selected.made b).labels gb.code) (machine no_temps st) (pushed back v1)
       entered z st objects events = record {
         temps_hold = λ t c it q r. absurd cc;
         leaves_hold = λ l y o q k. same_leaf D place v.at (pushed back v1).at (place l.object + l.at) l.bytes o (λ i r. leaf_kept l i r)
             (z.leaves_hold l y o (ap (λ i. slice_get i l.object) (sym objects) ∙ q) k);
         tables_hold = λ l y o q k. z.tables_hold l y o (ap (λ i. slice_get i l.object) (sym objects) ∙ q) k;
+        frames = subst (λ i. FramesStand D a.functions (called_in g.code) i) (sym objects) z.frames;
         kept = λ k q. refl;
         bytes = pushed_numbers back v1 saved.numbers;
         left = λ port. kept_left w.inputs m.state v v1 saved.quiet.inputs z.left port
@@ -413,7 +426,8 @@ module _ (p : PlainIrProgram) (e : Env) (place entry_of : ℕ → ℕ) (w : Worl
 
     -- ---- the call
 
-    pub call_follows : (n : ℕ) → ((j : ℕ) → j ≤ n → Statement j) → ((j : ℕ) → j ≤ n → Returns p e place entry_of w f g aside was stack j)
+    pub call_follows : (n : ℕ) → ((j : ℕ) → j ≤ n → Statement j)
+        → ((j : ℕ) → j ≤ n → Returns p e place entry_of w f g a.functions aside was stack j)
         → CallCase D p.functions e slots hs bs place
         (setting_of p e place entry_of w f g s aside was a) labels g.code x.end w.selected.results f link stack n
     call_follows n below returns b to pc rest m v r z = by_function (slice_get p.functions b) refl
@@ -450,6 +464,7 @@ module _ (p : PlainIrProgram) (e : Env) (place entry_of : ℕ → ℕ) (w : Worl
               live = r.live;
               inside = λ c q. r.inside c
                   (Contains-append_right (b ∷ []) (called_in rest) c q);
+              here = r.here;
               stands = s0.2;
             } in
             let v1 = block e save v in
@@ -470,14 +485,18 @@ module _ (p : PlainIrProgram) (e : Env) (place entry_of : ℕ → ℕ) (w : Worl
             let active1 = active n below returns b gb is there to r.covered.0 rest m v z back s0.0 s2.0 room s2.1 s2.2 ready in
             let frame : Call = record { code = g.code; rest = rest; temps = m.temps; to = to; called = b } in
             let waiting = returns_b n below returns b gb is there to r.covered.0 rest m v z back s0.0 s2.0 room s2.1 s2.2 ready in
-            let start = begins b gb (s - 2) (aside_by aside scratch (16 * slots) s) v2.at active1 (frame ∷ stack) word in
+            let functions = functions_are n below returns b gb is there to r.covered.0 rest m v z back s0.0 s2.0 room s2.1 s2.2 ready in
+            let stacked : active_functions D.main (frame ∷ stack) ≡ active1.functions =
+            ap (λ fs. b ∷ fs) r.here.stacked ∙ sym functions in
+            let start = begins b gb (s - 2) (aside_by aside scratch (16 * slots) s) v2.at active1 (frame ∷ stack) stacked word in
             let st1 = kept_for D (b ∷ around) st in
             let matches =
             kept_matches D e w.inputs gb.slots (base_of p e place entry_of w b) place (aside_by aside scratch (16 * slots) s) v2.at
-            (needs (w.selected.made b).labels gb.code) (b ∷ around) no_temps st v2
+            a.functions (called_in g.code) active1.functions (called_in gb.code)
+            (needs (w.selected.made b).labels gb.code) (b ∷ around) no_temps st v2 (inl stacked)
             (entered n below returns b gb is there to r.covered.0 rest m v z back s0.0 s2.0 room s2.1 s2.2 ready z st refl refl) in
             after D place e (code_steps save + 1) n (suc n) m.state.work st.work pc (e.word_of (entry_of b)) v v2
             (enter (Some gb) (go_on p e place entry_of w n) (frame ∷ stack) (machine no_temps st1))
             (goes_on_to e (code_steps save) 1 pc s1.0 (e.word_of (entry_of b)) v v1 v2 saving calling) (omega arith) (omega (arith, most))
-            (below n (omega arith) b gb (s - 2) (aside_by aside scratch (16 * slots) s) v2.at active1 (frame ∷ stack) waiting
+            (below n (omega arith) b gb (s - 2) (aside_by aside scratch (16 * slots) s) v2.at active1 (frame ∷ stack) stacked waiting
             (e.word_of (entry_of b)) gb.code (machine no_temps st1) v2 start matches)

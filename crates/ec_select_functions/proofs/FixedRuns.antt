@@ -73,7 +73,7 @@ apart_from_part a n w i k some many l x =
 module _ (p : PlainProgram) (e : Env) (slots : ℕ) (home : Temp → Location) (base : Temp → ℕ) (place : ℕ → ℕ)
     (y : Setting p e slots home base place) where
   abbrev M : Need → Mach → View → Type 0
-  M need m v = Matches p e y.inputs slots base place y.aside y.was need m v
+  M need m v = Matches p e y.inputs slots base place y.aside y.was y.active y.called need m v
 
   -- the work bytes, and the result behind them
   work_there : StandsFrom e work_location 40 y.work Own
@@ -112,6 +112,7 @@ module _ (p : PlainProgram) (e : Env) (slots : ℕ) (home : Temp → Location) (
     leaves_hold = λ l x u q w. same_leaf p place v.at v1.at (place l.object + l.at) l.bytes u (λ j m. leaf_row l j m)
         (h.leaves_hold l x u q w);
     tables_hold = h.tables_hold;
+    frames = h.frames;
     kept = λ k q. (let high = y.high k q in same k (omega arith) (omega arith) (omega arith) (omega arith) (y.work_aside k q)) ∙ h.kept k q;
     bytes = numbers;
     left = λ port. kept_left y.inputs m.state v v1 inputs h.left port;

@@ -12,7 +12,7 @@ use Rattle.ec_core.specs.Plain.{PlainProgram}
 use Rattle.ec_core.specs.State.{State, worked, Outcome}
 use Rattle.ec_ir.specs.declared.operations.Temp.{Temp}
 use Rattle.ec_ir.specs.Costs.{op_steps}
-use Rattle.ec_ir.specs.Meaning.{Mach, exec_from, Frame as Call}
+use Rattle.ec_ir.specs.Meaning.{Mach, exec_from, Frame as Call, is_among, active as active_functions}
 use Rattle.ec_ir.specs.Operations.{PlainIr, PlainIrFunction}
 use Rattle.ec_ir.specs.Valid.{called_in}
 use Rattle.ec_select_operations.specs.declared.families.Told.{Told}
@@ -27,7 +27,7 @@ module _ (p : PlainProgram) (functions : List PlainIrFunction) (e : Env) (slots 
     (base : Temp → ℕ) (place : ℕ → ℕ) (y : Setting p e slots home base place) (at : ℕ → Need) (all : List PlainIr)
     (end : ℕ) (results : ℕ → ℕ) (me : ℕ) (link : Linkage) (stack : List Call) where
   abbrev pub M : Need → Mach → View → Type 0
-  M need m v = Matches p e y.inputs slots base place y.aside y.was need m v
+  M need m v = Matches p e y.inputs slots base place y.aside y.was y.active y.called need m v
 
   abbrev pub G : (n w pc : ℕ) → View → Outcome Value → Type 0
   G n w pc v o = Follows p place e n w pc v o
@@ -43,11 +43,17 @@ module _ (p : PlainProgram) (functions : List PlainIrFunction) (e : Env) (slots 
   abbrev pub code_of : PlainIr → List PlainIr → List AsmItem
   code_of i rest = op_code p home link None None (needs at rest) i
 
+  -- the function runs: it is one of those that are active, which are main and those that were called
+  pub record IsRunning : Type 0 where
+    pub active : is_among y.active me ≡ true
+    pub stacked : active_functions p.main stack ≡ y.active
+
   -- the operations that are left have their code from this word on
   pub record Ready (pc : ℕ) (rest : List PlainIr) : Type 0 where
-    pub covered : AreCovered p results me slots rest
+    pub covered : AreCovered p results me y.called slots rest
     pub live : IsLive at rest
     pub inside : (b : ℕ) → Contains (called_in rest) b → Contains (called_in all) b
+    pub here : IsRunning
     pub stands : HasAt e (items rest) pc end
 
   -- the run of operations from here on

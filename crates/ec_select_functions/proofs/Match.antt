@@ -1,5 +1,5 @@
 -- What an operation leaves matches what it means.
-use Rattle.std.proofs.Common.{◌≡◌, ◌≢◌, ℕ, zero, suc, ◌+◌, ◌%◌, ◌^◌, ◌<◌, ◌≤◌, ⊎_elim, Bool, true, false, List, [], ◌∷◌}
+use Rattle.std.proofs.Common.{◌≡◌, ◌≢◌, ℕ, zero, suc, ◌+◌, ◌%◌, ◌^◌, ◌<◌, ◌≤◌, ◌⊎◌, inl, inr, ⊎_elim, Bool, true, false, List, [], ◌∷◌}
 use Rattle.std.proofs.Common.{Option, Some, None, refl, sym, ap, ◌∙◌, subst, arith}
 use Rattle.std.specs.Prelude.{◌==◌, if◌then◌else◌, map, slice_get, option_and_then}
 use Rattle.std.proofs.lemmas.Bool.{cases_eq, eq-eqb, ne_eqb}
@@ -25,7 +25,7 @@ use Rattle.ec_select_operations.specs.Needs.{Need, at_least, without, wanted}
 use Rattle.ec_select_operations.specs.Places.{ObjectLeaf, Apart}
 use Rattle.ec_select_operations.specs.Pointers.{address_number}
 use Rattle.ec_select_functions.proofs.Setting.{Setting}
-use Rattle.ec_select_functions.specs.Relation.{accesses, AreLeft, HoldsContent, HoldsLeaf, Matches}
+use Rattle.ec_select_functions.specs.Relation.{accesses, AreLeft, HoldsContent, HoldsLeaf, AreFrames, FramesStand, Matches}
 use Rattle.ec_select_functions.proofs.Moves.{Frame, Wide, widened, row_kept_wide}
 
 -- ---- contents
@@ -110,16 +110,49 @@ had_value fs (d ∷ os) (z ∷ xs) zero k x u q w = by_test (is_kept fs d.storag
 had_value fs (d ∷ os) (z ∷ xs) (suc o) k x u q w =
     let r = had_value fs os xs o k x u q w in record { state = r.state; is_state = r.is_state; leaf = r.leaf }
 
-pub kept_matches : (p : PlainProgram) (e : Env) (inputs : Inputs) (slots : ℕ) (base : Temp → ℕ) (place : ℕ → ℕ) (aside : ℕ → Bool)
-    (was : ℕ → ℕ) (need : Need) (fs : List ℕ) (temps : Temps) (s : State) (v : View)
-    → Matches p e inputs slots base place aside was need (machine temps s) v
-    → Matches p e inputs slots base place aside was need (machine temps (kept_for p fs s)) v
-kept_matches p e inputs slots base place aside was need fs temps s v z = record {
+-- and no other than those that are kept is live, or has a value
+pub only_kept : (fs : List ℕ) (os : List PlainObject) (xs : List ObjectState) (o : ℕ) (d : PlainObject) (x : ObjectState)
+    → slice_get os o ≡ Some d → slice_get (kept_in fs os xs) o ≡ Some x
+    → (x.live ≡ true) ⊎ ((k : ℕ) × (u : Value) × (leaf_of x k ≡ Some u)) → is_kept fs d.storage ≡ true
+only_kept fs [] xs o d x r q has = absurd cc
+only_kept fs (c ∷ os) [] o d x r q has = absurd cc
+only_kept fs (c ∷ os) (z ∷ xs) zero d x r q has =
+    let i : c ≡ d = cc in
+    subst (λ (y : PlainObject). is_kept fs y.storage ≡ true) i (by_test (is_kept fs c.storage) q)
+  where
+    by_test : (b : Bool) → Some (if b then standing z else given_up z) ≡ Some x → b ≡ true
+    by_test true q = refl
+    by_test false q =
+        let i : given_up z ≡ x = cc in
+        ⊎_elim
+        (λ (live : x.live ≡ true). let l : false ≡ true = ap (λ (y : ObjectState). y.live) i ∙ live in absurd cc)
+        (λ (value : (k : ℕ) × (u : Value) × (leaf_of x k ≡ Some u)).
+        absurd (unset_none z.leaves value.0 value.1 (ap (λ (y : ObjectState). leaf_of y value.0) i ∙ value.2)))
+        has
+only_kept fs (c ∷ os) (z ∷ xs) (suc o) d x r q has = only_kept fs os xs o d x r q has
+
+-- so frames stand for these functions
+abbrev pub kept_frames : (p : PlainProgram) (active called fs : List ℕ) (s : State) → AreFrames active called fs
+    → FramesStand p active called (kept_for p fs s).objects
+kept_frames p active called fs s are = record {
+  functions = fs;
+  are_frames = are;
+  live = λ o d x r q l. only_kept fs p.objects s.objects o d x r q (inl l);
+  valued = λ o k d x u r q w. only_kept fs p.objects s.objects o d x r q (inr (k, u, w));
+}
+
+abbrev pub kept_matches : (p : PlainProgram) (e : Env) (inputs : Inputs) (slots : ℕ) (base : Temp → ℕ) (place : ℕ → ℕ) (aside : ℕ → Bool)
+    (was : ℕ → ℕ) (active called active1 called1 : List ℕ) (need : Need) (fs : List ℕ) (temps : Temps) (s : State) (v : View)
+    → AreFrames active1 called1 fs
+    → Matches p e inputs slots base place aside was active called need (machine temps s) v
+    → Matches p e inputs slots base place aside was active1 called1 need (machine temps (kept_for p fs s)) v
+kept_matches p e inputs slots base place aside was active called active1 called1 need fs temps s v are z = record {
   temps_hold = z.temps_hold;
   leaves_hold = λ l x u q w. let r = had_value fs p.objects s.objects l.object l.number x u q w in
       z.leaves_hold l r.state u r.is_state r.leaf;
   tables_hold = λ l x u q w. let r = had_value fs p.objects s.objects l.object l.number x u q w in
       z.tables_hold l r.state u r.is_state r.leaf;
+  frames = kept_frames p active1 called1 fs s are;
   kept = z.kept;
   bytes = z.bytes;
   left = z.left;
@@ -130,7 +163,7 @@ kept_matches p e inputs slots base place aside was need fs temps s v z = record 
 module _ (p : PlainProgram) (e : Env) (slots : ℕ) (home : Temp → Location) (base : Temp → ℕ) (place : ℕ → ℕ)
     (y : Setting p e slots home base place) where
   abbrev pub M : Need → Mach → View → Type 0
-  M need m v = Matches p e y.inputs slots base place y.aside y.was need m v
+  M need m v = Matches p e y.inputs slots base place y.aside y.was y.active y.called need m v
 
   -- fewer bytes of a temporary that is read
   pub at_width : (need : Need) (m : Mach) (v : View) (t : Temp) (h : Held) (n : ℕ) → M need m v → HasHome slots t
@@ -151,6 +184,7 @@ module _ (p : PlainProgram) (e : Env) (slots : ℕ) (home : Temp → Location) (
     temps_hold = λ t h it q w. at_width a m v t h (wanted b t) z it q w (wanted_more b a t (l t.at));
     leaves_hold = z.leaves_hold;
     tables_hold = z.tables_hold;
+    frames = z.frames;
     kept = z.kept;
     bytes = z.bytes;
     left = z.left;
@@ -228,6 +262,7 @@ module _ (p : PlainProgram) (e : Env) (slots : ℕ) (home : Temp → Location) (
     leaves_hold = λ l x u q w. same_leaf p place v.at v1.at (place l.object + l.at) l.bytes u (leaf_row t l v v1 it frame)
         (z.leaves_hold l x u (ap (λ o. slice_get o l.object) (sym objects) ∙ q) w);
     tables_hold = λ l x u q w. z.tables_hold l x u (ap (λ o. slice_get o l.object) (sym objects) ∙ q) w;
+    frames = subst (λ o. FramesStand p y.active y.called o) (sym objects) z.frames;
     kept = λ k q. aside_kept t v v1 it frame k q ∙ z.kept k q;
     bytes = numbers;
     left = left;

@@ -2,9 +2,9 @@
 use Rattle.std.proofs.Common.{◌≡◌, ◌≢◌, ℕ, suc, ◌+◌, ◌*◌, ◌%◌, ◌^◌, ◌<◌, ◌≤◌, Bool, true, false, pos, Ok, Err}
 use Rattle.std.proofs.Common.{List, [], ◌∷◌, ◌++◌, ◌&&◌, ⊎_elim, inl, inr, refl, sym, ap, ◌∙◌, subst, arith, Some, None}
 use Rattle.std.proofs.Common.{Option}
-use Rattle.std.specs.Prelude.{Result, ◌==◌, if◌then◌else◌, slice_get, unwrap_or, option_map}
+use Rattle.std.specs.Prelude.{Result, ◌==◌, if◌then◌else◌, slice_get, unwrap_or, option_map, Contains, IsSomeAnd}
 use Rattle.std.specs.Prelude.{int_le, ◌+ℤ◌}
-use Rattle.std.proofs.lemmas.Bool.{eqb-true, leb-true, and_parts}
+use Rattle.std.proofs.lemmas.Bool.{eqb-true, eq-eqb, leb-true, and_parts, or_left}
 use Rattle.ec_space.specs.declared.space.Bank.{Bank}
 use Rattle.ec_space.specs.declared.space.Bank.TheVariants.{Flash as FlashBank, Data as DataBank}
 use Rattle.ec_space.specs.declared.space.SpaceId.{SpaceId}
@@ -34,26 +34,27 @@ use Rattle.ec_core.specs.Valid.{IsAddressable}
 use Rattle.ec_ir.specs.declared.operations.Temp.{Temp}
 use Rattle.ec_ir.specs.Costs.{op_steps}
 use Rattle.ec_ir.specs.Meaning.{Mach, machine, object_access}
-use Rattle.ec_ir.specs.Meaning.{put, put_named, before_store, kept_for, active, Frame as Call}
+use Rattle.ec_ir.specs.Meaning.{put, put_named, is_among, is_kept, before_store, kept_for, active, Frame as Call}
 use Rattle.ec_ir.specs.Operations.{PlainIr, address, field, load_at, store_at, load_object, store_object}
 use Rattle.ec_ir.specs.Operations.{PlainIrFunction}
+use Rattle.ec_ir.specs.Valid.{IsParameterOf}
 use Rattle.ec_ir.specs.Temporaries.{Content, points, value_of_type, held, with_temp, with_content}
 use Rattle.ec_select_pointers.specs.Addresses.{pointer_bytes, address_code, field_code}
 use Rattle.ec_select_pointers.specs.AddressLaws.{HasPut, IsTag, pointer_number}
 use Rattle.ec_select_operations.specs.Code.{Linkage, banked_code}
-use Rattle.ec_select_functions.specs.Covered.{HasScalarAt, IsAddress, IsInto}
+use Rattle.ec_select_functions.specs.Covered.{HasScalarAt, IsStoredIn, IsAddress, IsInto}
 use Rattle.ec_select_operations.specs.Homes.{HasHome}
 use Rattle.ec_select_operations.specs.Needs.{Need, needs, wanted, at_least, without}
 use Rattle.ec_select_operations.specs.Places.{location_in, kind_in, object_location, ObjectLeaf}
 use Rattle.ec_select_operations.specs.Pointers.{home_of, tag_of, tag_in, address_number, IsPointerSize, IsPointed}
 use Rattle.ec_select_operations.specs.Pointers.{IsPointerIn}
-use Rattle.ec_select_functions.specs.Relation.{Matches, HoldsLeaf, HoldsContent}
+use Rattle.ec_select_functions.specs.Relation.{AreFrames, Matches, HoldsLeaf, HoldsContent}
 use Rattle.ec_select_functions.proofs.Accesses.{leaf_with, home_is, recorded_work, table_kind, leaf_stands}
 use Rattle.ec_select_functions.proofs.Accesses.{after_read, after_write, load_matches, load_brings, store_matches}
 use Rattle.ec_select_functions.proofs.Accesses.{store_brings}
 use Rattle.ec_select_functions.proofs.Follow.{Follows, after}
 use Rattle.ec_select_functions.proofs.Going.{passes as passes_of, items as items_of, code_of as code_from, R as run_of}
-use Rattle.ec_select_functions.proofs.Going.{Rest as ShownOf, begun as begun_of}
+use Rattle.ec_select_functions.proofs.Going.{Rest as ShownOf, begun as begun_of, IsRunning}
 use Rattle.ec_select_functions.proofs.Match.{wanted_most, whole, at_width, least_here, least_other, without_other}
 use Rattle.ec_select_functions.proofs.Match.{written, kept_matches}
 use Rattle.ec_select_functions.proofs.Match.{kept_left, held_row}
@@ -62,7 +63,7 @@ use Rattle.ec_select_functions.proofs.Pointed.{IsAddressedBy, addressable_kind, 
 use Rattle.ec_select_functions.proofs.Pointed.{address_held, home_of_object}
 use Rattle.ec_select_functions.proofs.Reached.{loads, leaf_there, loads_table, stores, access_to, Reaches, from_access}
 use Rattle.ec_select_functions.proofs.Reached.{from_pointer, from_read, from_put, from_no_access, leaves_z}
-use Rattle.ec_select_functions.proofs.Setting.{Setting}
+use Rattle.ec_select_functions.proofs.Setting.{Setting, frames_active}
 
 -- ---- pointers
 
@@ -112,7 +113,7 @@ module _ (p : PlainProgram) (functions : List PlainIrFunction) (e : Env) (slots 
     (base : Temp → ℕ) (place : ℕ → ℕ) (y : Setting p e slots home base place) (at : ℕ → Need) (all : List PlainIr)
     (end : ℕ) (results : ℕ → ℕ) (me : ℕ) (link : Linkage) (stack : List Call) where
   abbrev M : Need → Mach → View → Type 0
-  M need m v = Matches p e y.inputs slots base place y.aside y.was need m v
+  M need m v = Matches p e y.inputs slots base place y.aside y.was y.active y.called need m v
 
   abbrev G : (n w pc : ℕ) → View → Outcome Value → Type 0
   G n w pc v o = Follows p place e n w pc v o
@@ -497,9 +498,13 @@ module _ (p : PlainProgram) (functions : List PlainIrFunction) (e : Env) (slots 
           let holds : HoldsLeaf p place v.at (base from) l.bytes u =
           subst (λ b. HoldsLeaf p place v.at (base from) b u) (sym wide) value_there in
           let kind = addressable_kind l.declared.storage addressable in
+          let standing : is_kept h.frames.functions l.declared.storage ≡ true =
+          subst (λ (d : PlainObject). is_kept h.frames.functions d.storage ≡ true) (sym declared)
+          (h.frames.live r.leaf.object r.leaf.declared r.state r.leaf.is_object r.is_state r.live) in
           let m1 = machine m.temps (after_write p e slots home base place y l space u s) in
           let matches : M need m1 (block e (code_of i rest) v) =
-          store_brings p e slots home base place y l space from need need0 m v _ (op_steps i) u it wide kind h stays holds brings in
+          store_brings p e slots home base place y l space from need need0 m v _ (op_steps i) u it wide kind h standing stays holds
+          brings in
           let work : m1.state.work ≡ m.state.work + op_steps i = recorded_work l.declared.storage _ _ in
           let straight = (y.pointers.straight 0 0 None (home from) (home ptr) from.bytes).4 in
           let take = (y.pointers.take 0 0 None (home from) (home ptr) from.bytes).4 in
@@ -601,10 +606,11 @@ module _ (p : PlainProgram) (functions : List PlainIrFunction) (e : Env) (slots 
 
   -- where what is kept has been settled
   store_named : (o offset : ℕ) (t : Temp) (rest : List PlainIr) (n pc : ℕ) (m : Mach) (v : View) → HasHome slots t
-      → HasScalarAt p o offset t.bytes → HasAt e (items (store_object o offset t ∷ rest)) pc end
-      → M (needs at (store_object o offset t ∷ rest)) m v → Rest n rest
+      → (has : HasScalarAt p o offset t.bytes) → HasAt e (items (store_object o offset t ∷ rest)) pc end
+      → (h : M (needs at (store_object o offset t ∷ rest)) m v) → is_kept h.frames.functions has.declared.storage ≡ true
+      → Rest n rest
       → G (suc n) m.state.work pc v (next (put_named p o offset t m.temps (begun (store_object o offset t) m)) (store_on n rest m))
-  store_named o offset t rest n pc m v it has stands h f = at_object (slice_get m.state.objects o) refl
+  store_named o offset t rest n pc m v it has stands h mine f = at_object (slice_get m.state.objects o) refl
     where
       i : PlainIr
       i = store_object o offset t
@@ -622,9 +628,9 @@ module _ (p : PlainProgram) (functions : List PlainIrFunction) (e : Env) (slots 
       stays b = least_other t.at t.bytes b need
 
       stored : (l : ObjectLeaf p DataBank) (c : Content) (u : Value) → l.object ≡ o → l.at ≡ offset → l.bytes ≡ t.bytes
-          → m.temps t.at ≡ Some (record { bytes = t.bytes; content = c }) → value_of_type p l.ty c ≡ Ok u
+          → l.declared ≡ has.declared → m.temps t.at ≡ Some (record { bytes = t.bytes; content = c }) → value_of_type p l.ty c ≡ Ok u
           → G (suc n) m.state.work pc v (store_on n rest m u (after_write p e slots home base place y l space u s))
-      stored l c u object begins size held typed =
+      stored l c u object begins size declared held typed =
           let content = whole p e slots home base place y need m v t _ h it held refl in
           let value_there : HoldsLeaf p place v.at (base t) t.bytes u =
           typed_leaf p place v.at (base t) t.bytes l.ty c u (l.size ∙ size) typed content in
@@ -636,7 +642,8 @@ module _ (p : PlainProgram) (functions : List PlainIrFunction) (e : Env) (slots 
           let matches : M need m1 (block e (code_of i rest) v) =
           subst (λ (z : Location). M need m1 (block e (copy_code (home t) z t.bytes) v)) to
           (store_matches p e slots home base place y l space t need (at_least t.at t.bytes need) m v
-          (op_steps i) u it size h stays holds) in
+          (op_steps i) u it size h
+          (subst (λ (d : PlainObject). is_kept h.frames.functions d.storage ≡ true) (sym declared) mine) stays holds) in
           let work : m1.state.work ≡ m.state.work + op_steps i = recorded_work l.declared.storage _ _ in
           let take = copy_steps (home t) (object_location p.objects o offset) t.bytes in
           let some = it.some in
@@ -657,26 +664,64 @@ module _ (p : PlainProgram) (functions : List PlainIrFunction) (e : Env) (slots 
           rw (has.is_object, q, has.found) refl in
           subst (λ z. G (suc n) m.state.work pc v (next (put p z t m.temps s) (store_on n rest m))) (sym a)
           (from_put p e slots home base place y bank l space x t m.temps s (store_on n rest m) (suc n) m.state.work pc v
-          (λ k c u object begins size declared held typed. stored k c u object begins size held typed))
+          (λ k c u object begins size declared held typed. stored k c u object begins size declared held typed))
 
   pub store_follows : (o offset : ℕ) (t : Temp) (rest : List PlainIr) (n pc : ℕ) (m : Mach) (v : View) → HasHome slots t
-      → HasScalarAt p o offset t.bytes → HasAt e (items (store_object o offset t ∷ rest)) pc end
+      → HasScalarAt p o offset t.bytes → IsSomeAnd (slice_get p.objects o) (λ d. IsStoredIn me y.called d.storage)
+      → IsRunning p functions e slots home base place y at all end results me link stack
+      → HasAt e (items (store_object o offset t ∷ rest)) pc end
       → M (needs at (store_object o offset t ∷ rest)) m v → Rest n rest
       → G (suc n) m.state.work pc v (R (suc n) (store_object o offset t ∷ rest) m)
-  store_follows o offset t rest n pc m v it has stands h f = by_storage (option_map (λ (d : PlainObject). d.storage) (slice_get p.objects
-      o))
+  store_follows o offset t rest n pc m v it has named running stands h f =
+      subst (λ (z : Option PlainObject). G (suc n) m.state.work pc v (stored_in (option_map (λ (d : PlainObject). d.storage) z)))
+      (sym has.is_object) (by_storage has.declared.storage refl named_in)
     where
       fs : List ℕ
       fs = active p.main stack
 
-      by_storage : (z : Option PlainStorage) → G (suc n) m.state.work pc v
-          (next (put_named p o offset t m.temps (before_store p fs z (begun (store_object o offset t) m))) (store_on n rest m))
-      by_storage None = store_named o offset t rest n pc m v it has stands h f
-      by_storage (Some (static inits)) = store_named o offset t rest n pc m v it has stands h f
-      by_storage (Some (local g)) = store_named o offset t rest n pc m v it has stands h f
-      by_storage (Some (param g)) =
-          store_named o offset t rest n pc (machine m.temps (kept_for p (g ∷ fs) m.state)) v it has stands
-          (kept_matches p e y.inputs slots base place y.aside y.was (needs at (store_object o offset t ∷ rest)) (g ∷ fs) m.temps m.state v
-          h)
-          f
-      by_storage (Some (register r)) = store_named o offset t rest n pc m v it has stands h f
+      named_in : IsStoredIn me y.called has.declared.storage
+      named_in = subst (λ (z : Option PlainObject). IsSomeAnd z (λ d. IsStoredIn me y.called d.storage)) has.is_object named
+
+      -- how the store goes on in an object with a storage
+      stored_in : Option PlainStorage → Outcome Value
+      stored_in z = next (put_named p o offset t m.temps (before_store p fs z (begun (store_object o offset t) m))) (store_on n rest m)
+
+      -- frames stand for the function that runs
+      mine : (g : ℕ) → g ≡ me → is_among h.frames.functions g ≡ true
+      mine g q =
+          frames_active y.active y.called h.frames.functions g h.frames.are_frames
+          (subst (λ k. is_among y.active k ≡ true) (sym q) running.active)
+
+      -- where a parameter is stored, for its function too
+      frames_with : (g : ℕ) → IsStoredIn me y.called (param g) → AreFrames y.active y.called (g ∷ fs)
+      frames_with g k =
+          inr (
+            g,
+            ⊎_elim
+                (λ (q : g ≡ me). inl (subst (λ j. is_among y.active j ≡ true) (sym q) running.active))
+                (λ (q : IsParameterOf y.called (param g)).
+                let i : param g ≡ param q.function = q.is in
+                let j : g ≡ q.function = cc in
+                inr (subst (λ j. Contains y.called j) (sym j) q.named)) k,
+            ap (λ hs. g ∷ hs) running.stacked,
+          )
+
+      by_storage : (s : PlainStorage) → has.declared.storage ≡ s → IsStoredIn me y.called s
+          → G (suc n) m.state.work pc v (stored_in (Some has.declared.storage))
+      by_storage (static inits) q k =
+          subst (λ z. G (suc n) m.state.work pc v (stored_in (Some z))) (sym q)
+          (store_named o offset t rest n pc m v it has stands h (rw q refl) f)
+      by_storage (local g) q k =
+          subst (λ z. G (suc n) m.state.work pc v (stored_in (Some z))) (sym q)
+          (store_named o offset t rest n pc m v it has stands h
+          (rw q (⊎_elim (λ (i : g ≡ me). mine g i) (λ (i : IsParameterOf y.called (local g)). let j = i.is in absurd cc) k)) f)
+      by_storage (param g) q k =
+          subst (λ z. G (suc n) m.state.work pc v (stored_in (Some z))) (sym q)
+          (store_named o offset t rest n pc (machine m.temps (kept_for p (g ∷ fs) m.state)) v it has stands
+          (kept_matches p e y.inputs slots base place y.aside y.was y.active y.called y.active y.called
+          (needs at (store_object o offset t ∷ rest)) (g ∷ fs) m.temps m.state v (frames_with g k) h)
+          (rw q (or_left (g == g) (is_among fs g) (eq-eqb g g refl)))
+          f)
+      by_storage (register r) q k =
+          subst (λ z. G (suc n) m.state.work pc v (stored_in (Some z))) (sym q)
+          (store_named o offset t rest n pc m v it has stands h (rw q refl) f)

@@ -156,7 +156,7 @@ module _ (p : PlainProgram) (e : Env) (slots : ℕ) (home : Temp → Location) (
       by_home : (bank : Bank) → d.home ≡ bank → HasRoom o (size_of_type p.structs d.ty)
       by_home FlashBank q = let s = y.tables_stand.each o d is q in record { end = s.end; at = s.at }
       by_home DataBank q =
-          let s = stands_in_memory e o (size_of_type p.structs d.ty) (place o) d.storage k (y.objects_stand.each o d is q) in
+          let s = stands_in_memory e o (size_of_type p.structs d.ty) (place o) d.storage k (y.objects_stand o d is q) in
           record { end = s.end; at = s.at }
 
   -- what a pointer points to has an address

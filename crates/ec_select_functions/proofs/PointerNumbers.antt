@@ -49,21 +49,25 @@ use Rattle.ec_select_pointers.specs.AddressLaws.{pointer_number}
 use Rattle.ec_select_operations.specs.Places.{Apart}
 use Rattle.ec_select_operations.specs.Pointers.{home_of, tag_of, address_number, IsPointed, IsPointerIn, IsPointerSize}
 use Rattle.ec_select_operations.specs.Pointers.{is_into_data}
-use Rattle.ec_select_functions.specs.Standing.{StandsInMemory, ObjectStands, ObjectsStand, TablesStand}
+use Rattle.ec_select_functions.specs.Standing.{StandsInMemory, ObjectStands, TablesStand}
 use Rattle.ec_select_functions.proofs.Wrapped.{Lifts, low_of, lifts_number, kept_below}
 
 -- ---- where objects stand
 
--- Each object has a byte, and at most 32,767. One that has an address stands above 0, and its end below 65,536. Those of
--- a bank stand apart
+-- Each object has a byte, and at most 32,767. One that has an address stands above 0, and its end below 65,536
 pub record HavePlaces (p : PlainProgram) (place : ℕ → ℕ) : Type 0 where
   pub some : (o : ℕ) (d : PlainObject) → slice_get p.objects o ≡ Some d → 1 ≤ size_of_type p.structs d.ty
   pub small : (o : ℕ) (d : PlainObject) → slice_get p.objects o ≡ Some d → size_of_type p.structs d.ty ≤ 32_767
   pub low : (o : ℕ) (d : PlainObject) → slice_get p.objects o ≡ Some d → IsAddressable d.storage → 0 < place o
   pub high : (o : ℕ) (d : PlainObject) → slice_get p.objects o ≡ Some d → IsAddressable d.storage
       → place o + size_of_type p.structs d.ty < 65536
-  pub apart : (o k : ℕ) (d f : PlainObject) → slice_get p.objects o ≡ Some d → slice_get p.objects k ≡ Some f
-      → d.home ≡ f.home → o ≢ k → Apart (place o) (size_of_type p.structs d.ty) (place k) (size_of_type p.structs f.ty)
+
+-- those of a bank that are live at one moment stand apart
+abbrev pub AreApartIn : (p : PlainProgram) (place : ℕ → ℕ) → State → Type 0
+AreApartIn p place s =
+    (o k : ℕ) (d f : PlainObject) (x z : ObjectState) → slice_get p.objects o ≡ Some d → slice_get p.objects k ≡ Some f
+    → slice_get s.objects o ≡ Some x → slice_get s.objects k ≡ Some z → x.live ≡ true → z.live ≡ true → d.home ≡ f.home → o ≢ k
+    → Apart (place o) (size_of_type p.structs d.ty) (place k) (size_of_type p.structs f.ty)
 
 item_of : {A : Type 0} (P : A → Type 0) (xs : List A) (k : ℕ) (x : A) → AllByRecursion P xs → slice_get xs k ≡ Some x → P x
 item_of P [] k x h q = absurd cc
@@ -77,32 +81,27 @@ in_memory e o n place (local f) a h = h
 in_memory e o n place (param f) a h = h
 in_memory e o n place (register first) a h = absurd a
 
-pub objects_have_places : (p : PlainProgram) (e : Env) (slots scratch : ℕ) (place : ℕ → ℕ) → ObjectsStand p e slots scratch place
+pub objects_have_places : (p : PlainProgram) (e : Env) (place : ℕ → ℕ)
+    → ((k : ℕ) (d : PlainObject) → slice_get p.objects k ≡ Some d → d.home ≡ DataBank
+    → ObjectStands e k (size_of_type p.structs d.ty) (place k) d.storage)
     → TablesStand p e place → AllByRecursion (IsObject p) p.objects → HavePlaces p place
-objects_have_places p e slots scratch place o t valid = record {
+objects_have_places p e place each t valid = record {
   some = λ k d q. (item_of (IsObject p) p.objects k d valid q).some;
   small = λ k d q. (item_of (IsObject p) p.objects k d valid q).small;
   low = λ k d q a. low_in k d q a d.home refl;
   high = λ k d q a. high_in k d q a d.home refl;
-  apart = λ k j d f q r s n. apart_in k j d f q r s n d.home refl;
 }
   where
     low_in : (k : ℕ) (d : PlainObject) → slice_get p.objects k ≡ Some d → IsAddressable d.storage → (b : Bank) → d.home ≡ b → 0 < place k
     low_in k d q a FlashBank h = (t.each k d q h).some
     low_in k d q a DataBank h =
-        let w = (in_memory e k (size_of_type p.structs d.ty) (place k) d.storage a (o.each k d q h)).high in
+        let w = (in_memory e k (size_of_type p.structs d.ty) (place k) d.storage a (each k d q h)).high in
         omega arith
 
     high_in : (k : ℕ) (d : PlainObject) → slice_get p.objects k ≡ Some d → IsAddressable d.storage → (b : Bank) → d.home ≡ b
         → place k + size_of_type p.structs d.ty < 65536
     high_in k d q a FlashBank h = (t.each k d q h).end
-    high_in k d q a DataBank h = (in_memory e k (size_of_type p.structs d.ty) (place k) d.storage a (o.each k d q h)).end
-
-    apart_in : (k j : ℕ) (d f : PlainObject) → slice_get p.objects k ≡ Some d → slice_get p.objects j ≡ Some f
-        → d.home ≡ f.home → k ≢ j → (b : Bank) → d.home ≡ b
-        → Apart (place k) (size_of_type p.structs d.ty) (place j) (size_of_type p.structs f.ty)
-    apart_in k j d f q r s n FlashBank h = t.apart k j d f q h r (sym s ∙ h) n
-    apart_in k j d f q r s n DataBank h = o.apart k j d f q h r (sym s ∙ h) n
+    high_in k d q a DataBank h = (in_memory e k (size_of_type p.structs d.ty) (place k) d.storage a (each k d q h)).end
 
 -- ---- pointers as places
 
@@ -196,6 +195,26 @@ known p q i s = by_state (slice_get s.objects q.object)
         known_in None h = absurd cc
         known_in (Some x) h = (refl, refl)
 
+-- where it is live, it has a state that is live
+record IsLive (q : ObjectPointer) (s : State) : Type 0 where
+  pub state : ObjectState
+  pub is_state : slice_get s.objects q.object ≡ Some state
+  pub live : state.live ≡ true
+
+is_live : (p : PlainProgram) (q : ObjectPointer) → IsPointed p q → (s : State) → (referent_of p (Some q) s).live ≡ true → IsLive q s
+is_live p q i s =
+    subst (λ (w : Option PlainObject). (unwrap_or {T = Referent} (option_and_then (λ (o : PlainObject). option_map
+    (λ (x : ObjectState). record { live = is_live_in q x; size = size_of_type p.structs o.ty; home = o.home })
+    (slice_get s.objects q.object)) w) (record { live = false; size = 0; home = DataBank })).live ≡ true → IsLive q s)
+    (sym i.is_object) (in_state (slice_get s.objects q.object) refl)
+  where
+    in_state : (z : Option ObjectState) → slice_get s.objects q.object ≡ z
+        → (unwrap_or {T = Referent} (option_map
+        (λ (x : ObjectState). record { live = is_live_in q x; size = size_of_type p.structs i.declared.ty; home = i.declared.home }) z)
+        (record { live = false; size = 0; home = DataBank })).live ≡ true → IsLive q s
+    in_state None e h = absurd cc
+    in_state (Some x) e h = record { state = x; is_state = e; live = (and_parts x.live (x.serial == q.instance) h).0 }
+
 -- a pointer into a space points into an object of a bank that the space has
 pub held_by_space : (p : PlainProgram) (space : SpaceId) (q : ObjectPointer) → IsPointed p q → is_in_space p space q ≡ true
     → holds space (home_of p q.object) ≡ true
@@ -229,12 +248,13 @@ not_of a b h e = let g = eq-eqb a b e in absurd cc
 
 module _ (p : PlainProgram) (place : ℕ → ℕ) (h : HavePlaces p place) where
   -- pointers into different objects
-  others_differ : (space : SpaceId) (q r : ObjectPointer) (i : IsPointed p q) (j : IsPointed p r) → is_in_space p space q ≡ true
+  others_differ : (s : State) → AreApartIn p place s → (space : SpaceId) (q r : ObjectPointer) (i : IsPointed p q) (j : IsPointed p r)
+      → IsLive q s → IsLive r s → is_in_space p space q ≡ true
       → is_in_space p space r ≡ true → q.object ≢ r.object
       → ((q.offset ≡ size_of_type p.structs i.declared.ty) × (r.offset ≡ size_of_type p.structs j.declared.ty))
       ⊎ ((q.offset ≢ size_of_type p.structs i.declared.ty) × (r.offset ≢ size_of_type p.structs j.declared.ty))
       → same_place (place_of p place (width space) (Some q)) (place_of p place (width space) (Some r)) ≡ false
-  others_differ space q r i j sq sr other ends = by_banks (home_of p q.object) (home_of p r.object) refl refl
+  others_differ s far space q r i j lq lr sq sr other ends = by_banks (home_of p q.object) (home_of p r.object) refl refl
     where
       x : ℕ
       x = place q.object + q.offset
@@ -245,7 +265,8 @@ module _ (p : PlainProgram) (place : ℕ → ℕ) (h : HavePlaces p place) where
       one_bank : (b : Bank) → home_of p q.object ≡ b → home_of p r.object ≡ b → (x == z) ≡ false
       one_bank b u w =
           ne_eqb x z (addresses_differ (place q.object) _ (place r.object) _ q.offset r.offset
-          (h.apart q.object r.object i.declared j.declared i.is_object j.is_object (sym (home_is p q i) ∙ u ∙ sym w ∙ home_is p r j) other)
+          (far q.object r.object i.declared j.declared lq.state lr.state i.is_object j.is_object lq.is_state lr.is_state lq.live lr.live
+          (sym (home_is p q i) ∙ u ∙ sym w ∙ home_is p r j) other)
           (h.some q.object i.declared i.is_object) (h.some r.object j.declared j.is_object) i.within j.within ends)
 
       two_banks : (s : SpaceId) → holds s FlashBank ≡ true → holds s DataBank ≡ true
@@ -287,15 +308,15 @@ module _ (p : PlainProgram) (place : ℕ → ℕ) (h : HavePlaces p place) where
       (cases_eq q.offset r.offset)
 
   -- whether two pointers into one space are equal
-  pub same_is : (space : SpaceId) (x z : PointerValue) (s : State) (b : Bool) → IsAddressed p (width space) x
+  pub same_is : (space : SpaceId) (x z : PointerValue) (s : State) (b : Bool) → AreApartIn p place s → IsAddressed p (width space) x
       → IsAddressed p (width space) z → IsIntoSpace p space x → IsIntoSpace p space z
       → (is_usable x (referent_of p x s) && is_usable z (referent_of p z s)) ≡ true
       → equality x (referent_of p x s) z (referent_of p z s) ≡ Ok b
       → same_place (place_of p place (width space) x) (place_of p place (width space) z) ≡ b
-  same_is space None None s b i j u v usable e = cc
-  same_is space None (Some r) s b i j u v usable e = cc
-  same_is space (Some q) None s b i j u v usable e = cc
-  same_is space (Some q) (Some r) s b i j u v usable e =
+  same_is space None None s b far i j u v usable e = cc
+  same_is space None (Some r) s b far i j u v usable e = cc
+  same_is space (Some q) None s b far i j u v usable e = cc
+  same_is space (Some q) (Some r) s b far i j u v usable e =
       ⊎_elim
       (λ (same : q.object ≡ r.object).
       let one : (q.instance == r.instance) ≡ true = eq-eqb q.instance r.instance (i.pointed.instance ∙ sym j.pointed.instance) in
@@ -321,17 +342,24 @@ module _ (p : PlainProgram) (place : ℕ → ℕ) (h : HavePlaces p place) where
       size_r : (referent_of p (Some r) s).size ≡ size_of_type p.structs j.pointed.declared.ty
       size_r = (known p r j.pointed s live.1).0
 
+      differ : q.object ≢ r.object
+          → ((q.offset ≡ size_of_type p.structs i.pointed.declared.ty) × (r.offset ≡ size_of_type p.structs j.pointed.declared.ty))
+          ⊎ ((q.offset ≢ size_of_type p.structs i.pointed.declared.ty) × (r.offset ≢ size_of_type p.structs j.pointed.declared.ty))
+          → same_place (place_of p place (width space) (Some q)) (place_of p place (width space) (Some r)) ≡ false
+      differ =
+          others_differ s far space q r i.pointed j.pointed (is_live p q i.pointed s live.0) (is_live p r j.pointed s live.1) u v
+
       by_ends : q.object ≢ r.object → (c d : Bool) → is_at_end q (referent_of p (Some q) s) ≡ c
           → is_at_end r (referent_of p (Some r) s) ≡ d → apart c d ≡ Ok b
           → same_place (place_of p place (width space) (Some q)) (place_of p place (width space) (Some r)) ≡ b
       by_ends other true true c d g =
           let f : false ≡ b = cc in
-          others_differ space q r i.pointed j.pointed u v other (inl (eqb-true q.offset _ c ∙ size_q, eqb-true r.offset _ d ∙ size_r)) ∙ f
+          differ other (inl (eqb-true q.offset _ c ∙ size_q, eqb-true r.offset _ d ∙ size_r)) ∙ f
       by_ends other true false c d g = absurd cc
       by_ends other false true c d g = absurd cc
       by_ends other false false c d g =
           let f : false ≡ b = cc in
-          others_differ space q r i.pointed j.pointed u v other
+          differ other
           (inr ((λ w. not_of q.offset _ c (w ∙ sym size_q)), (λ w. not_of r.offset _ d (w ∙ sym size_r)))) ∙ f
 
 -- ---- comparisons
@@ -419,10 +447,10 @@ module _ (p : PlainProgram) (place : ℕ → ℕ) (h : HavePlaces p place) where
 
   -- what a comparison gives
   pub comparison_is : (op : BinOp) → is_comparison op ≡ true → (space : SpaceId) (x z : PointerValue) (s : State) (n : ℤ)
-      → IsAddressed p (width space) x → IsAddressed p (width space) z → IsIntoSpace p space x → IsIntoSpace p space z
+      → AreApartIn p place s → IsAddressed p (width space) x → IsAddressed p (width space) z → IsIntoSpace p space x → IsIntoSpace p space z
       → comparison_of_pointers op x (referent_of p x s) z (referent_of p z s) ≡ Ok n
       → n ≡ pos (from_bool (places_compare op (place_of p place (width space) x) (place_of p place (width space) z)))
-  comparison_is op is space x z s n i j u v e =
+  comparison_is op is space x z s n far i j u v e =
       let w = used_ok _ (compared_pointers op x (referent_of p x s) z (referent_of p z s)) n e in
       by_op op is w.0 w.1
     where
@@ -449,7 +477,7 @@ module _ (p : PlainProgram) (place : ℕ → ℕ) (h : HavePlaces p place) where
           → equality x (referent_of p x s) z (referent_of p z s) ≡ r → as_truth f r ≡ Ok n → n ≡ pos (from_bool (f (same_place X Z)))
       by_equality f (Ok b) usable q w =
           let a : truth (f b) ≡ n = cc in
-          sym a ∙ truth_is (f b) ∙ ap (λ t. pos (from_bool (f t))) (sym (same_is p place h space x z s b i j u v usable q))
+          sym a ∙ truth_is (f b) ∙ ap (λ t. pos (from_bool (f t))) (sym (same_is p place h space x z s b far i j u v usable q))
       by_equality f (Err point) usable q w = absurd cc
 
       by_op : (op : BinOp) → is_comparison op ≡ true → (is_usable x (referent_of p x s) && is_usable z (referent_of p z s)) ≡ true

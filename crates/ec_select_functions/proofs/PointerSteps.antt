@@ -8,6 +8,8 @@ use Rattle.std.specs.Int.{from_bool}
 use Rattle.std.proofs.lemmas.Bool.{cases_lt, eqb-true, eq-eqb, and_parts}
 use Rattle.std.proofs.lemmas.Nat.{mod_below}
 use Rattle.ec_fx.specs.declared.numbers.Mode.{Mode}
+use Rattle.ec_space.specs.declared.space.Bank.{Bank}
+use Rattle.ec_space.specs.declared.space.Bank.TheVariants.{Flash as FlashBank, Data as DataBank}
 use Rattle.ec_space.specs.declared.space.SpaceId.{SpaceId}
 use Rattle.ec_space.specs.declared.space.SpaceId.TheVariants.{Flash, Data, Generic}
 use Rattle.ec_space.specs.Spaces.{width}
@@ -70,9 +72,9 @@ use Rattle.ec_select_operations.specs.Code.{pointers_code}
 use Rattle.ec_select_functions.specs.Covered.{IsPointerBinary, IsPointerConversion}
 use Rattle.ec_select_operations.specs.Homes.{HasHome}
 use Rattle.ec_select_operations.specs.Needs.{Need, needs, wanted, at_least, without, all_or_none}
-use Rattle.ec_select_operations.specs.Places.{IsClear}
+use Rattle.ec_select_operations.specs.Places.{Apart, IsClear}
 use Rattle.ec_select_operations.specs.Pointers.{is_into_data, IsPointerIn, IsPointerSize, home_of}
-use Rattle.ec_select_functions.specs.Relation.{Matches, HoldsContent}
+use Rattle.ec_select_functions.specs.Relation.{FramesStand, Matches, HoldsContent}
 use Rattle.ec_select_functions.proofs.Follow.{Follows, after, from_held, next_next, held_is}
 use Rattle.ec_select_functions.proofs.Going.{passes}
 use Rattle.ec_select_functions.proofs.Match.{kept_left, wanted_most, read_first, at_width, written_wide, least_here}
@@ -83,7 +85,7 @@ use Rattle.ec_select_functions.proofs.Moves.{Frame, Wide, numbers_kept, row_valu
 use Rattle.ec_select_functions.proofs.Moves.{move_straight, move_steps}
 use Rattle.ec_select_functions.proofs.Moves.{no_log}
 use Rattle.ec_select_functions.proofs.Numeric.{from_numeric}
-use Rattle.ec_select_functions.proofs.PointerNumbers.{HavePlaces, objects_have_places, place_of, tag_byte}
+use Rattle.ec_select_functions.proofs.PointerNumbers.{HavePlaces, AreApartIn, objects_have_places, place_of, tag_byte}
 use Rattle.ec_select_functions.proofs.PointerNumbers.{IsAddressed, IsIntoSpace}
 use Rattle.ec_select_functions.proofs.PointerNumbers.{address_high, is_place, address_is, number_below}
 use Rattle.ec_select_functions.proofs.PointerNumbers.{places_compare, comparison_is}
@@ -91,7 +93,7 @@ use Rattle.ec_select_functions.proofs.PointerNumbers.{Distance, difference_is, I
 use Rattle.ec_select_functions.proofs.PointerNumbers.{moved_elements}
 use Rattle.ec_select_functions.proofs.PointerNumbers.{advanced_is, in_space_is, low_numbers, low_is_offset, embedded_is}
 use Rattle.ec_select_functions.proofs.Related.{told_matches}
-use Rattle.ec_select_functions.proofs.Setting.{Setting}
+use Rattle.ec_select_functions.proofs.Setting.{Setting, together}
 use Rattle.ec_select_functions.proofs.Wrapped.{low_below, kept_below}
 
 -- ---- bytes
@@ -186,11 +188,22 @@ module _ (p : PlainProgram) (place : ℕ → ℕ) (e : Env) where
 module _ (p : PlainProgram) (e : Env) (slots : ℕ) (home : Temp → Location) (base : Temp → ℕ) (place : ℕ → ℕ)
     (y : Setting p e slots home base place) where
   abbrev Shown : Need → Mach → View → Type 0
-  Shown need m v = Matches p e y.inputs slots base place y.aside y.was need m v
+  Shown need m v = Matches p e y.inputs slots base place y.aside y.was y.active y.called need m v
 
   -- the objects have places
   pub have : HavePlaces p place
-  have = objects_have_places p e slots y.scratch place y.objects_stand y.tables_stand y.valid
+  have = objects_have_places p e place y.objects_stand y.tables_stand y.valid
+
+  -- those that are live at one moment stand apart
+  pub are_apart : (s : State) → FramesStand p y.active y.called s.objects → AreApartIn p place s
+  are_apart s frames o k d f x z od kf ox kz dx fz banks other = by_home d.home refl
+    where
+      by_home : (b : Bank) → d.home ≡ b → Apart (place o) (size_of_type p.structs d.ty) (place k) (size_of_type p.structs f.ty)
+      by_home FlashBank q = y.tables_stand.apart o k d f od q kf (sym banks ∙ q) other
+      by_home DataBank q =
+          y.objects_apart o k d f od q kf (sym banks ∙ q) other
+          (together p e slots home base place y frames.functions d.storage f.storage frames.are_frames (frames.live o d x od ox dx)
+          (frames.live k f z kf kz fz))
 
   -- the low bytes of a pointer that a temporary holds
   pub pointer_low : (need : Need) (m : Mach) (v : View) (a : Temp) (x : PointerValue) (n : ℕ) → Shown need m v → HasHome slots a
@@ -596,7 +609,7 @@ module _ (p : PlainProgram) (functions : List PlainIrFunction) (e : Env) (slots 
     (base : Temp → ℕ) (place : ℕ → ℕ) (y : Setting p e slots home base place) (at : ℕ → Need) (all : List PlainIr)
     (end : ℕ) (results : ℕ → ℕ) (me : ℕ) (link : Linkage) (stack : List Call) where
   abbrev M : Need → Mach → View → Type 0
-  M need m v = Matches p e y.inputs slots base place y.aside y.was need m v
+  M need m v = Matches p e y.inputs slots base place y.aside y.was y.active y.called need m v
 
   abbrev G : (n w pc : ℕ) → View → Outcome Value → Type 0
   G n w pc v o = Follows p place e n w pc v o
@@ -1051,7 +1064,8 @@ module _ (p : PlainProgram) (functions : List PlainIrFunction) (e : Env) (slots 
               subst (λ (d : ℕ). IsAddressed p d x → IsAddressed p d z
               → number ≡ pos (from_bool (places_compare op (place_of p place d x) (place_of p place d z))))
               (sym k.left_bytes)
-              (λ c d. comparison_is p place (have p e slots home base place y) op compares space x z st number c d into also u) ix iz
+              (λ c d. comparison_is p place (have p e slots home base place y) op compares space x z st number
+              (are_apart p e slots home base place y st h.frames) c d into also u) ix iz
               ∙ ap (λ (d : Bool). pos (from_bool d)) (relates X Z)
 
           by_need : (j : Bool) → (w == 0) ≡ j → G (suc n) m.state.work pc v

@@ -26,7 +26,7 @@ use Rattle.ec_select_operations.specs.Homes.{HasHome}
 use Rattle.ec_select_operations.specs.Needs.{Need, wanted, at_least, index_needed}
 use Rattle.ec_select_operations.specs.Places.{IsClear}
 use Rattle.ec_select_operations.specs.Ports.{read_byte, write_code, point_code, in_code, out_code}
-use Rattle.ec_select_functions.specs.Relation.{AreLeft, Matches, accesses}
+use Rattle.ec_select_functions.specs.Relation.{AreLeft, FramesStand, Matches, accesses}
 use Rattle.ec_select_functions.proofs.Extended.{Converted, converted}
 use Rattle.ec_select_functions.proofs.Match.{kept_left, wanted_most, wanted_more, least_here, least_other, at_width}
 use Rattle.ec_select_functions.proofs.Match.{held_row, same_content, same_leaf, written_wide}
@@ -49,7 +49,7 @@ high_outside a n x l =
 module _ (p : PlainProgram) (e : Env) (slots : ℕ) (home : Temp → Location) (base : Temp → ℕ) (place : ℕ → ℕ)
     (y : Setting p e slots home base place) where
   abbrev P : Need → Mach → View → Type 0
-  P need m v = Matches p e y.inputs slots base place y.aside y.was need m v
+  P need m v = Matches p e y.inputs slots base place y.aside y.was y.active y.called need m v
 
   -- ---- the index
 
@@ -185,6 +185,7 @@ module _ (p : PlainProgram) (e : Env) (slots : ℕ) (home : Temp → Location) (
           (λ j z. row_same (place l.object + l.at) l.bytes (y.layout.leaves_at l).clear (y.layout.leaves_work l) j z)
           (h.leaves_hold l x u (ap (λ o. slice_get o l.object) (sym objects) ∙ q) r);
       tables_hold = λ l x u q r. h.tables_hold l x u (ap (λ o. slice_get o l.object) (sym objects) ∙ q) r;
+      frames = subst (λ o. FramesStand p y.active y.called o) (sym objects) h.frames;
       kept = λ k q. (let z = y.high k q in same k (omega arith) (omega arith) (omega arith) (omega arith)) ∙ h.kept k q;
       bytes = numbers;
       left = left;

@@ -1,10 +1,10 @@
 -- Programs of several functions: the machine reaches all that the operations show, and stays within it.
-use Rattle.std.proofs.Common.{◌≡◌, ℕ, zero, suc, ◌+◌, ◌-◌, ◌*◌, ◌%◌, ◌<◌, ◌≤◌, ⊎_elim, Bool, true, false, ◌||◌, List}
+use Rattle.std.proofs.Common.{◌≡◌, ℕ, zero, suc, ◌+◌, ◌-◌, ◌*◌, ◌%◌, ◌<◌, ◌≤◌, inl, ⊎_elim, Bool, true, false, ◌||◌, List}
 use Rattle.std.proofs.Common.{[], ◌∷◌}
 use Rattle.std.proofs.Common.{refl, sym, ap, ◌∙◌, subst, arith, Option, Some, None, ℤ, eqb-true}
 use Rattle.std.specs.Prelude.{◌==◌, nat_le, if◌then◌else◌, slice_get, slice_index}
 use Rattle.std.specs.Int.{cast_signed, w16}
-use Rattle.std.proofs.lemmas.Bool.{cases_lt, le-leb, or_cases, or_right}
+use Rattle.std.proofs.lemmas.Bool.{cases_lt, eq-eqb, le-leb, or_cases, or_left, or_right}
 use Rattle.ec_runs.specs.Behaviours.{Behaviour, Running, Ended, Failed, Reached, Reaches, seen_as}
 use Rattle.ec_runs.proofs.Runs.{what_reaches_stays_within}
 use Rattle.ec_isa.specs.declared.instructions.Instr.TheVariants.{Break}
@@ -30,12 +30,13 @@ use Rattle.ec_core.specs.declared.values.Value.{Value}
 use Rattle.ec_core.specs.Laws.{BytesAreTakenInOrder}
 use Rattle.ec_core.specs.Meaning.{behaviour_of, state_of, number_of}
 use Rattle.ec_core.specs.Plain.{PlainProgram}
-use Rattle.ec_core.specs.State.{Inputs, Event, State, Outcome, got, more, undefined}
+use Rattle.ec_core.specs.Accesses.{leaf_of}
+use Rattle.ec_core.specs.State.{Inputs, Event, State, ObjectState, Outcome, got, more, undefined}
 use Rattle.ec_core.specs.TypeLaws.{LeavesFillTheirTypes}
-use Rattle.ec_ir.specs.Meaning.{start, start_state, enter, exec, leave, run as ir_run}
+use Rattle.ec_ir.specs.Meaning.{is_among, start, start_state, enter, exec, leave, run as ir_run}
 use Rattle.ec_ir.specs.Operations.{PlainIrFunction, PlainIrProgram, data_of}
 use Rattle.ec_ir.specs.Temporaries.{Content, bits, points, Held, no_temps}
-use Rattle.ec_ir.specs.Valid.{ValidIr}
+use Rattle.ec_ir.specs.Valid.{ValidIr, called_in}
 use Rattle.ec_select_operations.specs.Code.{ops_code}
 use Rattle.ec_select_operations.specs.Homes.{home, result_register}
 use Rattle.ec_select_functions.specs.Laws.{HoldsStart, AreSelected, IsEntered, linkage_of, within_steps}
@@ -51,7 +52,7 @@ use Rattle.ec_select_functions.proofs.Active.{base_of, leaf_at, leaf_is, setting
 use Rattle.ec_select_functions.proofs.Active.{stack_leaf}
 use Rattle.ec_select_functions.proofs.Called.{Statement, call_follows}
 use Rattle.ec_select_functions.proofs.Follow.{Follows, stay}
-use Rattle.ec_select_functions.proofs.Match.{kept_matches}
+use Rattle.ec_select_functions.proofs.Match.{HadValue, had_value, kept_frames}
 use Rattle.ec_select_functions.proofs.Numbers.{signed_word}
 use Rattle.ec_select_functions.proofs.Returned.{HandsOn, Left, Returns, go_on, pointer_is, return_follows}
 use Rattle.ec_select_functions.proofs.Safe.{safe_earlier}
@@ -74,10 +75,10 @@ module _ (p : PlainIrProgram) (e : Env) (place entry_of : ℕ → ℕ) (w : Worl
   D = data_of p
 
   none_made : Statement p e place entry_of w 0
-  none_made f g s aside was a stack returns pc rest m v r h = stay D place e pc v m.state h.seen h.safe
+  none_made f g s aside was a stack stacked returns pc rest m v r h = stay D place e pc v m.state h.seen h.safe
 
   one_more : (n : ℕ) → ((j : ℕ) → j ≤ n → Statement p e place entry_of w j) → Statement p e place entry_of w (suc n)
-  one_more n below f g s aside was a stack returns =
+  one_more n below f g s aside was a stack stacked returns =
       let x = selected_of p e place entry_of w f g a.is in
       let labels = (w.selected.made f).labels in
       let link = linkage_of p entry_of f g.slots (w.selected.made f) in
@@ -86,9 +87,15 @@ module _ (p : PlainIrProgram) (e : Env) (place entry_of : ℕ → ℕ) (w : Worl
       let setting = setting_of p e place entry_of w f g s aside was a in
       let stands = x.stands in
       let ready : Ready D p.functions e g.slots hs bs place setting labels g.code x.end w.selected.results f link stack stands.0 g.code =
-      record { covered = x.covered; live = x.live; inside = λ b q. q; stands = stands.2 } in
+      record {
+        covered = x.covered;
+        live = x.live;
+        inside = λ b q. q;
+        here = record { active = a.runs; stacked = stacked };
+        stands = stands.2;
+      } in
       follows D p.functions e g.slots hs bs place setting labels g.code x.end w.selected.results f link stack stands.0 ready n
-      (below n (omega arith) f g s aside was a stack (λ j l. returns j (omega arith)))
+      (below n (omega arith) f g s aside was a stack stacked (λ j l. returns j (omega arith)))
       (call_follows p e place entry_of w f g s aside was a stack n below (λ j l. returns j (omega arith)))
       (return_follows p e place entry_of w f g s aside was a stack n (returns n (omega arith)))
 
@@ -153,6 +160,10 @@ module _ (laws : CodeLaws) (p : PlainIrProgram) (place entry_of : ℕ → ℕ) (
       let top = enters.top in
       record {
         is = is;
+        functions = p.main ∷ [];
+        runs = or_left (p.main == p.main) false (eq-eqb p.main p.main refl);
+        leading = λ c q. inl (only_main c q);
+        chained = λ c d q r. inl (only_main c q ∙ sym (only_main d r));
         high = λ k q. first_cases (sp v) k (32 ≤ k) q (λ r. omega arith) (λ r. omega arith) (λ l m. omega arith);
         leaves = λ l k q. first_cases (sp v) k (Outside (leaf_at p e place entry_of w l) l.bytes k) q
             (λ r. low_leaf l k (omega arith) (omega arith)) (λ r. low_leaf l k (omega arith) (omega arith))
@@ -172,6 +183,11 @@ module _ (laws : CodeLaws) (p : PlainIrProgram) (place entry_of : ℕ → ℕ) (
         below = omega arith;
       }
     where
+      only_main : (c : ℕ) → is_among (p.main ∷ []) c ≡ true → c ≡ p.main
+      only_main c q =
+          ⊎_elim (λ (i : (p.main == c) ≡ true). sym (eqb-true p.main c i)) (λ (i : false ≡ true). absurd cc)
+          (or_cases (p.main == c) false q)
+
       low_leaf : (l : ObjectLeaf program_data DataBank) (k : ℕ) → 32 ≤ k → k < 256 → Outside (leaf_at p e place entry_of w l) l.bytes k
       low_leaf l k a b q =
           ⊎_elim
@@ -190,8 +206,9 @@ module _ (laws : CodeLaws) (p : PlainIrProgram) (place entry_of : ℕ → ℕ) (
 
   -- it returns to the BREAK
   module _ (g : PlainIrFunction) (is : slice_get p.functions p.main ≡ Some g) (j : ℕ) (st : State) (u : View) (spent : ℕ)
-      (credit : spent + 64 ≤ st.work) (left : Left p e place entry_of w g p.main (first_aside (sp v)) v.at st u) where
+      (credit : spent + 64 ≤ st.work) (left : Left p e place entry_of w g p.main (p.main ∷ []) (first_aside (sp v)) v.at st u) where
     pointer_u : sp u ≡ sp v
+    unfolding active
     pointer_u = pointer_is p e place entry_of w p.main g (sp v) (first_aside (sp v)) v.at (active g is) [] _ _ u left
 
     stack_kept : (k : ℕ) → sp v + 1 ≤ k → k < sp v + 1 + 2 → u.at k ≡ v.at k
@@ -258,25 +275,29 @@ module _ (laws : CodeLaws) (p : PlainIrProgram) (place entry_of : ℕ → ℕ) (
             }
 
   returns : (g : PlainIrFunction) (is : slice_get p.functions p.main ≡ Some g) (j : ℕ)
-      → Returns p e place entry_of w p.main g (first_aside (sp v)) v.at [] j
+      → Returns p e place entry_of w p.main g (p.main ∷ []) (first_aside (sp v)) v.at [] j
   returns g is j result st u spent credit hands left = bottom g is j st u spent credit left result hands
 
   begun : (g : PlainIrFunction) → Matches program_data e inputs g.slots (base_of p e place entry_of w p.main) place (first_aside (sp v))
-      v.at (needs (selected.made p.main).labels g.code) (start program_data) v
-  begun g = kept_matches program_data e inputs g.slots (base_of p e place entry_of w p.main) place (first_aside (sp v)) v.at
-      (needs (selected.made p.main).labels g.code) (p.main ∷ []) no_temps (start_state program_data) v
-      (record {
-        temps_hold = λ t h it q z. absurd cc;
-        leaves_hold = begin.leaves;
-        tables_hold = selected.tables.values;
-        kept = λ k q. refl;
-        bytes = begin.bytes;
-        left = feeds;
-        seen = begin.seen;
-        safe = begin.safe;
-      })
+      v.at (p.main ∷ []) (called_in g.code) (needs (selected.made p.main).labels g.code) (start program_data) v
+  begun g = record {
+    temps_hold = λ t h it q z. absurd cc;
+    leaves_hold = λ l x u q z. let r = had l.object l.number x u q z in begin.leaves l r.state u r.is_state r.leaf;
+    tables_hold = λ l x u q z. let r = had l.object l.number x u q z in selected.tables.values l r.state u r.is_state r.leaf;
+    frames = kept_frames program_data (p.main ∷ []) (called_in g.code) (p.main ∷ []) (start_state program_data) (inl refl);
+    kept = λ k q. refl;
+    bytes = begin.bytes;
+    left = feeds;
+    seen = begin.seen;
+    safe = begin.safe;
+  }
+    where
+      had : (o k : ℕ) (x : ObjectState) (u : Value) → slice_get (start program_data).state.objects o ≡ Some x → leaf_of x k ≡ Some u
+          → HadValue (p.main ∷ []) p.objects (start_state program_data).objects o k u
+      had o k x u q z = had_value (p.main ∷ []) p.objects (start_state program_data).objects o k x u q z
 
   entered : (n : ℕ) → Follows program_data place e n 0 s.pc v (ir_run p inputs n)
+  unfolding active
   entered n = by_main (slice_get p.functions p.main) refl
     where
       by_main : (o : Option PlainIrFunction) → slice_get p.functions p.main ≡ o
@@ -297,10 +318,11 @@ module _ (laws : CodeLaws) (p : PlainIrProgram) (place entry_of : ℕ → ℕ) (
             covered = x.covered;
             live = x.live;
             inside = λ b q. q;
+            here = record { active = a.runs; stacked = refl };
             stands = subst
                 (λ i. HasAt e (ops_code program_data hs link labels None g.code) i x.end) mid stands.2;
           } in
-          all_functions p e place entry_of w n p.main g (sp v) (first_aside (sp v)) v.at a [] (λ j l. returns g is j) s.pc g.code
+          all_functions p e place entry_of w n p.main g (sp v) (first_aside (sp v)) v.at a [] refl (λ j l. returns g is j) s.pc g.code
           (start program_data) v ready (begun g)
 
   -- ---- the machine

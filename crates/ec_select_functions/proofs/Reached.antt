@@ -69,7 +69,7 @@ module _ (p : PlainProgram) (e : Env) (slots : ℕ) (home : Temp → Location) (
       let n = size_of_type p.structs l.declared.ty in
       let s =
       stands_in_memory e l.object n (place l.object) l.declared.storage k
-      (y.objects_stand.each l.object l.declared l.is_object l.home) in
+      (y.objects_stand l.object l.declared l.is_object l.home) in
       let inside = leaf_inside p e slots home base place y DataBank l in
       let high = s.high in
       let end = s.end in

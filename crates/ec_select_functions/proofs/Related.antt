@@ -49,8 +49,8 @@ module _ (p : PlainProgram) (e : Env) (slots : ℕ) (home : Temp → Location) (
   -- what is needed of a truth value is put to its temporary
   pub told_matches : (truth : Bool) (most pc end : ℕ) (t : Temp) (need need0 : Need) (m : Mach) (v : View) (c : ℕ)
       → HasHome slots t → (k : Tells e most pc v end truth) → ((u : ℕ) → u ≢ t.at → need u ≤ need0 u)
-      → Matches p e y.inputs slots base place y.aside y.was need0 m v
-      → Matches p e y.inputs slots base place y.aside y.was need (machine (with_content t (bits
+      → Matches p e y.inputs slots base place y.aside y.was y.active y.called need0 m v
+      → Matches p e y.inputs slots base place y.aside y.was y.active y.called need (machine (with_content t (bits
       (low_bytes t.bytes (pos (from_bool truth)))) m.temps) (worked c m.state))
       (block e (conversion_code false (InRegisters 30) (home t) 1 (wanted need t)) k.last)
   told_matches truth most pc end t need need0 m v c it k more h =

@@ -1,5 +1,5 @@
 -- What a caller finds after a call: the bytes that waited are loaded, and its state is shown again.
-use Rattle.std.proofs.Common.{◌≡◌, ◌≢◌, ℕ, ◌+◌, ◌-◌, ◌*◌, ◌/◌, ◌%◌, ◌<◌, ◌≤◌, ◌⊎◌, ⊎_elim, inl, inr, min, Bool, true}
+use Rattle.std.proofs.Common.{◌≡◌, ◌≢◌, ℕ, ◌+◌, ◌-◌, ◌*◌, ◌/◌, ◌%◌, ◌<◌, ◌≤◌, ◌⊎◌, ⊎_elim, inl, inr, min, Bool, true, List}
 use Rattle.std.proofs.Common.{false, Option, Some, None, refl, sym, ap, ◌∙◌, subst, arith, le-leb}
 use Rattle.std.specs.Prelude.{nat_le, if◌then◌else◌, ⊤}
 use Rattle.std.proofs.lemmas.Bool.{cases_eq, cases_lt, eq-eqb, ne_eqb}
@@ -17,6 +17,7 @@ use Rattle.ec_core.specs.State.{State}
 use Rattle.ec_ir.specs.declared.operations.Temp.{Temp}
 use Rattle.ec_ir.specs.Meaning.{Mach, machine}
 use Rattle.ec_ir.specs.Operations.{PlainIrFunction, PlainIrProgram, data_of}
+use Rattle.ec_ir.specs.Valid.{called_in}
 use Rattle.ec_ir.specs.Temporaries.{Held, Temps, no_temps}
 use Rattle.ec_select_operations.specs.declared.homes.Homes.{Homes}
 use Rattle.ec_select_operations.specs.Code.{restore_place, register_places}
@@ -225,16 +226,17 @@ module _ (p : PlainIrProgram) (e : Env) (place entry_of : ℕ → ℕ) (w : Worl
   -- ---- the whole
 
   abbrev MM : Need → Mach → View → Type 0
-  MM need m v = Matches D e w.inputs slots bs place aside was need m v
+  MM need m v = Matches D e w.inputs slots bs place aside was a.functions (called_in g.code) need m v
 
-  module _ (need : Need) (to : Option Temp) (it : HasPlace to) (m : Mach) (temps : Temps) (s1 : State) (back : ℕ) (v v1 u v4 : View)
+  module _ (active called : List ℕ) (need : Need) (to : Option Temp) (it : HasPlace to) (m : Mach) (temps : Temps) (s1 : State)
+      (back : ℕ) (v v1 u v4 : View)
       (before : MM (without_result to need) m v)
       (pointer0 : sp v ≡ s)
       (saved : Saves e slots h scratch x.scratch_stands (without_result to need) v v1 (register_places slots))
       (pointer : sp v1 ≡ s) (first : w.low + 1 ≤ s)
       (b : ℕ) (gb : PlainIrFunction)
       (left : Matches D e w.inputs gb.slots (base_of p e place entry_of w b) place (aside_by aside scratch (16 * slots) s)
-      (pushed back v1).at nothing (machine no_temps s1) u)
+      (pushed back v1).at active called nothing (machine no_temps s1) u)
       (pointer1 : sp u ≡ s - 2)
       (took : Took to (popped u) v4)
       (held : (t : Temp) (c : Held) → HasHome slots t → temps t.at ≡ Some c → c.bytes ≡ t.bytes
@@ -365,12 +367,13 @@ module _ (p : PlainIrProgram) (e : Env) (place entry_of : ℕ → ℕ) (w : Worl
         (cases_eq k 94))
         (cases_eq k 93)
 
-    pub resumes : MM need (machine temps s1) v5
+    pub resumes : Matches D e w.inputs slots bs place aside was active called need (machine temps s1) v5
     resumes = record {
       temps_hold = temp_holds;
       leaves_hold = λ l z y q k. same_leaf D place u.at v5.at (place l.object + l.at) l.bytes y (λ i r. leaf_back l i r)
           (left.leaves_hold l z y q k);
       tables_hold = left.tables_hold;
+      frames = left.frames;
       kept = λ k q.
           (let above = a.high k q in loaded.same k (omega arith) (λ j y. outside_above need0 j k above)
           ∙ took.same k (omega arith) (omega arith) (omega arith) (outside_aside to k it q)) ∙ aside_back k q;

@@ -27,6 +27,7 @@ use Rattle.ec_ir.specs.Costs.{op_steps}
 use Rattle.ec_ir.specs.Meaning.{Mach, machine, Frame as Call, Place, exec_from, leave}
 use Rattle.ec_ir.specs.Operations.{return_from, PlainIrFunction, PlainIrProgram, data_of}
 use Rattle.ec_ir.specs.Temporaries.{Content, bits, points, Held, held, no_temps}
+use Rattle.ec_ir.specs.Valid.{called_in}
 use Rattle.ec_select_bytes.specs.Values.{constant_code}
 use Rattle.ec_select_bytes.proofs.Constants.{constants_are_right}
 use Rattle.ec_select_bytes.proofs.Straight.{values_are_straight, values_take}
@@ -35,7 +36,7 @@ use Rattle.ec_select_operations.specs.Homes.{home, HasHome, result_register, res
 use Rattle.ec_select_functions.specs.Laws.{IsSelected, linkage_of}
 use Rattle.ec_select_operations.specs.Needs.{Need, nothing, returned_need}
 use Rattle.ec_select_operations.specs.Places.{ObjectLeaf}
-use Rattle.ec_select_functions.specs.Relation.{accesses, HoldsContent, Matches}
+use Rattle.ec_select_functions.specs.Relation.{accesses, HoldsContent, FramesStand, Matches}
 use Rattle.ec_select_functions.proofs.Active.{World, Active, homes_of, scratch_of, base_of, leaf_at, leaf_is}
 use Rattle.ec_select_functions.proofs.Active.{layout_of, setting_of, selected_of}
 use Rattle.ec_select_functions.proofs.Computed.{moved_numbers}
@@ -66,14 +67,17 @@ module _ (p : PlainIrProgram) (e : Env) (place entry_of : ℕ → ℕ) (w : Worl
   moved_row v v1 a b n bytes (points q) there h = (row_value v1.at v.at a b n there ∙ h.0, h.1)
 
   -- what a return finds, and the state in which it leaves the objects
-  abbrev pub Left : (g : PlainIrFunction) (f : ℕ) (aside : ℕ → Bool) (was : ℕ → ℕ) → State → View → Type 0
-  Left g f aside was s v = Matches D e w.inputs g.slots (base_of p e place entry_of w f) place aside was nothing (machine no_temps s) v
+  abbrev pub Left : (g : PlainIrFunction) (f : ℕ) (functions : List ℕ) (aside : ℕ → Bool) (was : ℕ → ℕ) → State → View → Type 0
+  Left g f functions aside was s v =
+      Matches D e w.inputs g.slots (base_of p e place entry_of w f) place aside was functions (called_in g.code) nothing
+      (machine no_temps s) v
 
   -- what waits goes on, of which n operations that count are made. 64 steps are left for it
-  abbrev pub Returns : (f : ℕ) (g : PlainIrFunction) (aside : ℕ → Bool) (was : ℕ → ℕ) (stack : List Call) (n : ℕ) → Type 0
-  Returns f g aside was stack n =
+  abbrev pub Returns : (f : ℕ) (g : PlainIrFunction) (functions : List ℕ) (aside : ℕ → Bool) (was : ℕ → ℕ) (stack : List Call) (n : ℕ)
+      → Type 0
+  Returns f g functions aside was stack n =
       (result : Option Held) (s : State) (v : View) (spent : ℕ) → spent + 64 ≤ s.work → HandsOn f result v
-      → Left g f aside was s v → Follows D place e n spent (back_at v % 65536) (popped v) (leave D stack result (go_on n) s)
+      → Left g f functions aside was s v → Follows D place e n spent (back_at v % 65536) (popped v) (leave D stack result (go_on n) s)
 
   module _ (f : ℕ) (g : PlainIrFunction) (s : ℕ) (aside : ℕ → Bool) (was : ℕ → ℕ) (a : Active p e place entry_of w f g s aside was)
       (stack : List Call) where
@@ -94,14 +98,16 @@ module _ (p : PlainIrProgram) (e : Env) (place entry_of : ℕ → ℕ) (w : Worl
 
     -- the result registers have changed alone
     left_by : (need : Need) (m : Mach) (st : State) (v v1 : View) (r n : ℕ) → 18 ≤ r → r + n ≤ 26
-        → Matches D e w.inputs slots bs place aside was need m v → st.objects ≡ m.state.objects → st.events ≡ m.state.events
+        → Matches D e w.inputs slots bs place aside was a.functions (called_in g.code) need m v
+        → st.objects ≡ m.state.objects → st.events ≡ m.state.events
         → ((k : ℕ) → k ≢ 0 → k ≢ 1 → k ≢ 30 → Outside r n k → v1.at k ≡ v.at k) → HoldsNumbers v1 → Quiet v v1
-        → Left g f aside was st v1
+        → Left g f a.functions aside was st v1
     left_by need m st v v1 r n low high h objects events frame numbers quiet = record {
       temps_hold = λ t c it q u. absurd cc;
       leaves_hold = λ l z u q k. same_leaf D place v.at v1.at (place l.object + l.at) l.bytes u (λ j i. leaf_kept l j i)
           (h.leaves_hold l z u (ap (λ o. slice_get o l.object) (sym objects) ∙ q) k);
       tables_hold = λ l z u q k. h.tables_hold l z u (ap (λ o. slice_get o l.object) (sym objects) ∙ q) k;
+      frames = subst (λ o. FramesStand D a.functions (called_in g.code) o) (sym objects) h.frames;
       kept = λ k q. (let z = a.high k q in frame k (omega arith) (omega arith) (kept_high k q z) (λ l. omega arith)) ∙ h.kept k q;
       bytes = numbers;
       left = λ port. kept_left w.inputs m.state v v1 quiet.inputs h.left port
@@ -124,7 +130,8 @@ module _ (p : PlainIrProgram) (e : Env) (place entry_of : ℕ → ℕ) (w : Worl
             (leaf_is p e place entry_of w f g a.is l)
 
     -- the stack pointer is where it was
-    pub pointer_is : (need : Need) (m : Mach) (v : View) → Matches D e w.inputs slots bs place aside was need m v → sp v ≡ s
+    pub pointer_is : (need : Need) (m : Mach) (v : View)
+        → Matches D e w.inputs slots bs place aside was a.functions (called_in g.code) need m v → sp v ≡ s
     pointer_is need m v h =
         let low = h.kept 93 a.pointer_low in
         let high = h.kept 94 a.pointer_high in
@@ -146,8 +153,8 @@ module _ (p : PlainIrProgram) (e : Env) (place entry_of : ℕ → ℕ) (w : Worl
     -- the code of a result, and then RET
     handed : (n pc end : ℕ) (code : List AsmItem) (rest : List AsmItem) (result : Option Held) (spent c : ℕ) (st : State) (v : View)
         → HasAt e ((code ++ Plain Ret ∷ []) ++ rest) pc end → all_straight code ≡ true → code_steps code ≤ 16
-        → spent + c ≤ st.work → 81 ≤ c → HandsOn f result (block e code v) → Left g f aside was st (block e code v)
-        → sp (block e code v) ≡ s → Returns f g aside was stack n
+        → spent + c ≤ st.work → 81 ≤ c → HandsOn f result (block e code v) → Left g f a.functions aside was st (block e code v)
+        → sp (block e code v) ≡ s → Returns f g a.functions aside was stack n
         → Follows D place e (suc n) spent pc v (leave D stack result (go_on n) st)
     handed n pc end code rest result spent c st v stands straight few most big hands left pointer returns =
         let s0 = has_parts e (code ++ Plain Ret ∷ []) rest pc end stands in
@@ -167,7 +174,7 @@ module _ (p : PlainIrProgram) (e : Env) (place entry_of : ℕ → ℕ) (w : Worl
     main_flag : (b : Bool) → (f == p.main) ≡ b → f ≡ p.main → b ≡ true
     main_flag b q r = sym q ∙ eq-eqb f p.main r
 
-    pub return_follows : (n : ℕ) → Returns f g aside was stack n
+    pub return_follows : (n : ℕ) → Returns f g a.functions aside was stack n
         → ReturnCase D p.functions e slots hs bs place
         (setting_of p e place entry_of w f g s aside was a) labels g.code x.end w.selected.results f
         (linkage_of p entry_of f slots (w.selected.made f)) stack n

@@ -1,16 +1,21 @@
 -- A layout, the bytes that are set aside for functions that wait, and the inputs, which are bytes.
-use Rattle.std.proofs.Common.{◌≡◌, ℕ, ◌+◌, ◌<◌, ◌≤◌, Bool, true, slice_index}
+use Rattle.std.proofs.Common.{◌≡◌, ◌≢◌, ℕ, ◌+◌, ◌<◌, ◌≤◌, Bool, true, List, ◌∷◌, Some, slice_index, sym, subst}
+use Rattle.std.proofs.Common.{◌⊎◌, ⊎_elim, Contains}
+use Rattle.std.specs.Prelude.{◌==◌, slice_get}
+use Rattle.std.proofs.lemmas.Bool.{or_right}
 use Rattle.std.specs.List.{AllByRecursion}
 use Rattle.ec_space.specs.declared.space.Bank.TheVariants.{Data as DataBank}
 use Rattle.ec_asm.specs.declared.pieces.Location.{Location}
 use Rattle.ec_asm.specs.Change.{Env}
 use Rattle.ec_asm.specs.Pieces.{Outside}
 use Rattle.ec_core.specs.Laws.{BytesAreTakenInOrder}
-use Rattle.ec_core.specs.Layout.{AreStructs}
-use Rattle.ec_core.specs.Plain.{PlainProgram}
+use Rattle.ec_core.specs.Layout.{AreStructs, size_of_type}
+use Rattle.ec_core.specs.Plain.{PlainStorage, static, local, param, register, PlainObject, PlainProgram}
 use Rattle.ec_core.specs.Valid.{IsObject}
 use Rattle.ec_core.specs.State.{Inputs}
 use Rattle.ec_ir.specs.declared.operations.Temp.{Temp}
+use Rattle.ec_ir.specs.Meaning.{is_among, is_kept}
+use Rattle.ec_ir.specs.Operations.{PlainIrProgram}
 use Rattle.ec_select_operations.specs.Homes.{HasHome}
 use Rattle.ec_select_fixed.specs.FixedLaws.{FixedBinariesAreRight, FixedUnariesAreRight, FixedConversionsAreRight}
 use Rattle.ec_select_places.specs.ConversionLaws.{PointersAreEmbedded}
@@ -21,8 +26,9 @@ use Rattle.ec_select_pointers.specs.AccessLaws.{DataIsLoaded, FlashIsLoaded, Dat
 use Rattle.ec_select_pointers.specs.AccessLaws.{TableIsLoaded, DataIsStored}
 use Rattle.ec_select_pointers.specs.AddressLaws.{AddressesAreRight, FieldsAreRight}
 use Rattle.ec_select_pointers.specs.Form.{PointersAreStraight, PointersTake, TablesAreShort}
-use Rattle.ec_select_operations.specs.Places.{ObjectLeaf, Apart, Layout}
-use Rattle.ec_select_functions.specs.Standing.{ObjectsStand, TablesStand, WorkStands}
+use Rattle.ec_select_operations.specs.Places.{ObjectLeaf, owner_of, Chained, CanBeLiveTogether, Apart, Layout}
+use Rattle.ec_select_functions.specs.Relation.{AreFrames}
+use Rattle.ec_select_functions.specs.Standing.{ObjectStands, TablesStand, WorkStands}
 
 -- what the code of operations with a fixed-point type does
 pub record FixedLaws : Type 0 where
@@ -54,7 +60,12 @@ pub record PointerLaws : Type 0 where
 
 -- the bytes that are set aside are no registers, and none of a temporary's or a leaf's
 pub record Setting (p : PlainProgram) (e : Env) (slots : ℕ) (home : Temp → Location) (base : Temp → ℕ) (place : ℕ → ℕ) : Type 0 where
-  pub layout : Layout p e slots home base place
+  -- the functions that are active, and those that the one calls which runs. All for which frames can stand are on one chain of calls
+  pub program : PlainIrProgram
+  pub active : List ℕ
+  pub called : List ℕ
+  pub chained : (fs : List ℕ) → AreFrames active called fs → (f g : ℕ) → is_among fs f ≡ true → is_among fs g ≡ true → Chained program f g
+  pub layout : Layout p (CanBeLiveTogether program) e slots home base place
   pub aside : ℕ → Bool
   pub was : ℕ → ℕ
   pub high : (k : ℕ) → aside k ≡ true → 32 ≤ k
@@ -70,10 +81,35 @@ pub record Setting (p : PlainProgram) (e : Env) (slots : ℕ) (home : Temp → L
   pub work_aside : (k : ℕ) → aside k ≡ true → Outside work 64 k
   pub fixed : FixedLaws
   pub pointers : PointerLaws
-  -- the objects, which have at least one byte and stand apart
-  pub scratch : ℕ
-  pub objects_stand : ObjectsStand p e slots scratch place
+  -- the objects, which have at least one byte, and stand apart where they can be live together
+  pub objects_stand : (o : ℕ) (d : PlainObject) → slice_get p.objects o ≡ Some d → d.home ≡ DataBank
+      → ObjectStands e o (size_of_type p.structs d.ty) (place o) d.storage
+  pub objects_apart : (o k : ℕ) (d f : PlainObject) → slice_get p.objects o ≡ Some d → d.home ≡ DataBank
+      → slice_get p.objects k ≡ Some f → f.home ≡ DataBank → o ≢ k → CanBeLiveTogether program d.storage f.storage
+      → Apart (place o) (size_of_type p.structs d.ty) (place k) (size_of_type p.structs f.ty)
   pub tables_stand : TablesStand p e place
   pub valid : AllByRecursion (IsObject p) p.objects
   pub structs : AreStructs p.structs
   pub leaves_aside : (l : ObjectLeaf p DataBank) (k : ℕ) → aside k ≡ true → Outside (place l.object + l.at) l.bytes k
+
+-- frames stand for all active functions
+pub frames_active : (active called fs : List ℕ) (g : ℕ) → AreFrames active called fs → is_among active g ≡ true → is_among fs g ≡ true
+frames_active active called fs g are q =
+    ⊎_elim
+    (λ (r : fs ≡ active). subst (λ hs. is_among hs g ≡ true) (sym r) q)
+    (λ (r : (h : ℕ) × ((is_among active h ≡ true) ⊎ Contains called h) × (fs ≡ h ∷ active)).
+    subst (λ hs. is_among hs g ≡ true) (sym r.2) (or_right (r.0 == g) (is_among active g) q))
+    are
+
+-- what is kept for some functions is of one of them, if it is of any
+owner_kept : (fs : List ℕ) (s : PlainStorage) (f : ℕ) → is_kept fs s ≡ true → owner_of s ≡ Some f → is_among fs f ≡ true
+owner_kept fs (static inits) f k q = absurd cc
+owner_kept fs (local g) f k q = let i : g ≡ f = cc in subst (λ h. is_among fs h ≡ true) i k
+owner_kept fs (param g) f k q = let i : g ≡ f = cc in subst (λ h. is_among fs h ≡ true) i k
+owner_kept fs (register first) f k q = absurd cc
+
+-- so two objects that are kept can be live together
+pub together : (p : PlainProgram) (e : Env) (slots : ℕ) (home : Temp → Location) (base : Temp → ℕ) (place : ℕ → ℕ)
+    (y : Setting p e slots home base place) (fs : List ℕ) (s t : PlainStorage) → AreFrames y.active y.called fs
+    → is_kept fs s ≡ true → is_kept fs t ≡ true → CanBeLiveTogether y.program s t
+together p e slots home base place y fs s t are k l f g q r = y.chained fs are f g (owner_kept fs s f k q) (owner_kept fs t g l r)

@@ -19,7 +19,8 @@ use Rattle.ec_ir.specs.Operations.{PlainIrProgram, data_of}
 use Rattle.ec_ir.specs.Valid.{ValidIr}
 use Rattle.ec_select_operations.specs.declared.homes.Homes.{Homes}
 use Rattle.ec_select_operations.specs.Homes.{depth, home, HasHome, result_register}
-use Rattle.ec_select_operations.specs.Places.{location_in, kind_in, ObjectLeaf, Apart, IsClear, AreDifferent, Layout}
+use Rattle.ec_select_operations.specs.Places.{location_in, kind_in, ObjectLeaf, CanBeLiveTogether, Apart, IsClear}
+use Rattle.ec_select_operations.specs.Places.{AreDifferent, Layout}
 use Rattle.ec_select_functions.specs.Standing.{home_address, ScratchStands, StandsInMemory, ObjectStands, ObjectsStand}
 
 -- ---- a home is in registers or in scratch memory
@@ -259,7 +260,7 @@ item_of P (z ∷ xs) zero x all q = (let g : Some z ≡ Some x = q in let i : z 
 item_of P (z ∷ xs) (suc k) x all q = item_of P xs k x all.1 q
 
 module _ (fill : LeavesFillTheirTypes) (p : PlainIrProgram) (valid : ValidIr p) (e : Env) (slots : ℕ) (h : Homes) (scratch : ℕ)
-    (place : ℕ → ℕ) (s : ScratchStands e slots h scratch) (o : ObjectsStand (data_of p) e slots scratch place) where
+    (place : ℕ → ℕ) (s : ScratchStands e slots h scratch) (o : ObjectsStand p e slots scratch place) where
   -- a leaf lies in its object
   pub record Lies (l : ObjectLeaf (data_of p) DataBank) : Type 0 where
     pub some : 1 ≤ l.bytes
@@ -365,13 +366,14 @@ module _ (fill : LeavesFillTheirTypes) (p : PlainIrProgram) (valid : ValidIr p) 
       (kinds h scratch t)
 
   leaves_apart : (l k : ObjectLeaf (data_of p) DataBank) → AreDifferent (data_of p) l k
+      → CanBeLiveTogether p l.declared.storage k.declared.storage
       → Apart (leaf_address l) l.bytes (leaf_address k) k.bytes
-  leaves_apart l k different =
+  leaves_apart l k different both =
       ⊎_elim
       (λ (same : l.object ≡ k.object). ⊎_elim (λ q. absurd (q same)) (λ q. in_one same q) different)
       (λ (other : l.object ≢ k.object). inner_apart (place l.object) (size_of_type p.structs l.declared.ty) (place k.object)
       (size_of_type p.structs k.declared.ty) l.at l.bytes k.at k.bytes (lies l).some (lies k).some (lies l).inside (lies k).inside
-      (o.apart l.object k.object l.declared k.declared l.is_object l.home k.is_object k.home other))
+      (o.apart l.object k.object l.declared k.declared l.is_object l.home k.is_object k.home other both))
       (cases_eq l.object k.object)
     where
       in_one : l.object ≡ k.object → l.number ≢ k.number → Apart (leaf_address l) l.bytes (leaf_address k) k.bytes
@@ -395,7 +397,7 @@ module _ (fill : LeavesFillTheirTypes) (p : PlainIrProgram) (valid : ValidIr p) 
           above_apart (leaf_address l) l.bytes (leaf_address k) k.bytes (lies k).some (omega arith))
           (cases_lt l.number k.number)
 
-  pub homes_are_laid_out : Layout (data_of p) e slots (home h) (home_address h scratch) place
+  pub homes_are_laid_out : Layout (data_of p) (CanBeLiveTogether p) e slots (home h) (home_address h scratch) place
   homes_are_laid_out = record {
     temps_at = at_home e slots h scratch s;
     temps_work = work_home e slots h scratch s;

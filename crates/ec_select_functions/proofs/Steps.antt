@@ -114,7 +114,7 @@ use Rattle.ec_select_operations.specs.Needs.{index_needed, all_or_none, operand_
 use Rattle.ec_select_operations.specs.Places.{IsClear}
 use Rattle.ec_select_functions.proofs.Setting.{Setting}
 use Rattle.ec_select_functions.specs.Relation.{Matches, HoldsContent}
-use Rattle.ec_select_functions.proofs.Going.{Ready as IsReady, passes as code_passes}
+use Rattle.ec_select_functions.proofs.Going.{Ready as IsReady, IsRunning, passes as code_passes}
 use Rattle.ec_select_functions.proofs.MemorySteps.{address_follows, field_follows, load_at_follows, store_at_follows}
 use Rattle.ec_select_functions.proofs.MemorySteps.{load_follows, store_follows}
 use Rattle.ec_select_functions.proofs.PointerNumbers.{place_of, objects_have_places, address_is, address_low}
@@ -155,7 +155,7 @@ module _ (p : PlainProgram) (functions : List PlainIrFunction) (e : Env) (slots 
     (base : Temp → ℕ) (place : ℕ → ℕ) (y : Setting p e slots home base place) (at : ℕ → Need) (all : List PlainIr)
     (end : ℕ) (results : ℕ → ℕ) (me : ℕ) (link : Linkage) (stack : List Call) where
   abbrev pub M : Need → Mach → View → Type 0
-  M need m v = Matches p e y.inputs slots base place y.aside y.was need m v
+  M need m v = Matches p e y.inputs slots base place y.aside y.was y.active y.called need m v
 
   abbrev pub G : (n w pc : ℕ) → View → Outcome Value → Type 0
   G n w pc v o = Follows p place e n w pc v o
@@ -1703,6 +1703,7 @@ module _ (p : PlainProgram) (functions : List PlainIrFunction) (e : Env) (slots 
         (wanted (at_least a.at w less) t) h it z r (enough t x z r);
     leaves_hold = h.leaves_hold;
     tables_hold = h.tables_hold;
+    frames = h.frames;
     kept = h.kept;
     bytes = h.bytes;
     left = h.left;
@@ -1954,7 +1955,7 @@ module _ (p : PlainProgram) (functions : List PlainIrFunction) (e : Env) (slots 
   whole_unary_follows op (struct j) mode t a rest n pc m v h off stands needed f = absurd h.types.fixed
 
   pub unary_follows : (op : UnOp) (ty : PlainType) (mode : Mode) (t a : Temp) (rest : List PlainIr) (n pc : ℕ) (m : Mach)
-      (v : View) → IsCovered p results me slots (unary_op op ty mode t a)
+      (v : View) → IsCovered p results me y.called slots (unary_op op ty mode t a)
       → HasAt e (items (unary_op op ty mode t a ∷ rest)) pc end
       → M (needs at (unary_op op ty mode t a ∷ rest)) m v → Rest (suc n) rest
       → G (suc n) m.state.work pc v (R (suc n) (unary_op op ty mode t a ∷ rest) m)
@@ -2017,7 +2018,7 @@ module _ (p : PlainProgram) (functions : List PlainIrFunction) (e : Env) (slots 
       (λ mid u. f mid m1 _ u matches1))
 
   pub conversion_follows : (t : Temp) (ty : PlainType) (mode : Mode) (a : Temp) (aty : PlainType) (rest : List PlainIr)
-      (n pc : ℕ) (m : Mach) (v : View) → IsCovered p results me slots (conversion t ty mode a aty)
+      (n pc : ℕ) (m : Mach) (v : View) → IsCovered p results me y.called slots (conversion t ty mode a aty)
       → HasAt e (items (conversion t ty mode a aty ∷ rest)) pc end
       → M (needs at (conversion t ty mode a aty ∷ rest)) m v → Rest (suc n) rest
       → G (suc n) m.state.work pc v (R (suc n) (conversion t ty mode a aty ∷ rest) m)
@@ -2186,9 +2187,10 @@ module _ (p : PlainProgram) (functions : List PlainIrFunction) (e : Env) (slots 
 
   -- operations of which the first one may have been told something
   record Walked (told : Option Told) (pc : ℕ) (rest : List PlainIr) : Type 0 where
-    covered : AreCovered p results me slots rest
+    covered : AreCovered p results me y.called slots rest
     live : IsLive at rest
     inside : (b : ℕ) → Contains (called_in rest) b → Contains (called_in all) b
+    here : IsRunning p functions e slots home base place y at all end results me link stack
     stands : HasAt e (items_told told rest) pc end
 
   found : (told : Option Told) (ops : List PlainIr) (pc l : ℕ) (rest : List PlainIr) → Walked told pc ops → find l ops ≡ Some rest
@@ -2208,65 +2210,68 @@ module _ (p : PlainProgram) (functions : List PlainIrFunction) (e : Env) (slots 
       λ w. subst (λ n. HasAt e (items ops) n end) (s.1.1 ∙ sym (here w) ∙ ap (λ n. e.word_of (link.label_of n)) i) s.2 in
       let needed : (u : ℕ) → needs at ops u ≤ at l u = λ u. subst (λ n. needs at ops u ≤ at n u) i (r.live.0 u) in
       subst (λ x. Target l x) o
-      (record { ready = λ w. record { covered = r.covered.1; live = r.live.1; inside = r.inside; stands = stands w }; needed = needed }))
+      (record {
+        ready = λ w. record { covered = r.covered.1; live = r.live.1; inside = r.inside; here = r.here; stands = stands w };
+        needed = needed;
+      }))
       (λ q.
       let g : (if k == l then Some ops else find l ops) ≡ Some rest = f in
       let h : find l ops ≡ Some rest = (rw q at g) in
-      found None ops s.0 l rest (record { covered = r.covered.1; live = r.live.1; inside = r.inside; stands = s.2 }) h)
+      found None ops s.0 l rest (record { covered = r.covered.1; live = r.live.1; inside = r.inside; here = r.here; stands = s.2 }) h)
       (cases_Bool (k == l))
   found told (constant t k ∷ ops) pc l rest r f =
       let s =
       onward told (constant t k) ops pc r.stands in found None ops s.0 l rest
-      (record { covered = r.covered.1; live = r.live; inside = r.inside; stands = s.1 }) f
+      (record { covered = r.covered.1; live = r.live; inside = r.inside; here = r.here; stands = s.1 }) f
   found told (copy t u ∷ ops) pc l rest r f =
       let s =
       onward told (copy t u) ops pc r.stands in found None ops s.0 l rest
-      (record { covered = r.covered.1; live = r.live; inside = r.inside; stands = s.1 }) f
+      (record { covered = r.covered.1; live = r.live; inside = r.inside; here = r.here; stands = s.1 }) f
   found told (load_object t o offset ∷ ops) pc l rest r f =
       let s =
       onward told (load_object t o offset) ops pc r.stands in found None ops s.0 l rest
-      (record { covered = r.covered.1; live = r.live; inside = r.inside; stands = s.1 }) f
+      (record { covered = r.covered.1; live = r.live; inside = r.inside; here = r.here; stands = s.1 }) f
   found told (store_object o offset t ∷ ops) pc l rest r f =
       let s =
       onward told (store_object o offset t) ops pc r.stands in found None ops s.0 l rest
-      (record { covered = r.covered.1; live = r.live; inside = r.inside; stands = s.1 }) f
+      (record { covered = r.covered.1; live = r.live; inside = r.inside; here = r.here; stands = s.1 }) f
   found told (binary_op op ty mode t a aty b bty ∷ ops) pc l rest r f =
       let s =
       onward told (binary_op op ty mode t a aty b bty) ops pc r.stands in found
       (tells_next at (binary_op op ty mode t a aty b bty) ops) ops s.0 l rest
-      (record { covered = r.covered.1; live = r.live; inside = r.inside; stands = s.1 }) f
+      (record { covered = r.covered.1; live = r.live; inside = r.inside; here = r.here; stands = s.1 }) f
   found told (conversion t ty mode a aty ∷ ops) pc l rest r f =
       let s =
       onward told (conversion t ty mode a aty) ops pc r.stands in found None ops s.0 l rest
-      (record { covered = r.covered.1; live = r.live; inside = r.inside; stands = s.1 }) f
+      (record { covered = r.covered.1; live = r.live; inside = r.inside; here = r.here; stands = s.1 }) f
   found told (jump k ∷ ops) pc l rest r f =
       let s =
       onward told (jump k) ops pc r.stands in found None ops s.0 l rest
-      (record { covered = r.covered.1; live = r.live; inside = r.inside; stands = s.1 }) f
+      (record { covered = r.covered.1; live = r.live; inside = r.inside; here = r.here; stands = s.1 }) f
   found told (branch_zero t k ∷ ops) pc l rest r f =
       let s =
       onward told (branch_zero t k) ops pc r.stands in found None ops s.0 l rest
-      (record { covered = r.covered.1; live = r.live; inside = r.inside; stands = s.1 }) f
+      (record { covered = r.covered.1; live = r.live; inside = r.inside; here = r.here; stands = s.1 }) f
   found told (return_from t ∷ ops) pc l rest r f =
       let s =
       onward told (return_from t) ops pc r.stands in found None ops s.0 l rest
-      (record { covered = r.covered.1; live = r.live; inside = r.inside; stands = s.1 }) f
+      (record { covered = r.covered.1; live = r.live; inside = r.inside; here = r.here; stands = s.1 }) f
   found told (address t o offset ∷ ops) pc l rest r f =
       let s = onward told (address t o offset) ops pc r.stands in
-      found None ops s.0 l rest (record { covered = r.covered.1; live = r.live; inside = r.inside; stands = s.1 }) f
+      found None ops s.0 l rest (record { covered = r.covered.1; live = r.live; inside = r.inside; here = r.here; stands = s.1 }) f
   found told (field t space offset ∷ ops) pc l rest r f =
       let s = onward told (field t space offset) ops pc r.stands in
-      found None ops s.0 l rest (record { covered = r.covered.1; live = r.live; inside = r.inside; stands = s.1 }) f
+      found None ops s.0 l rest (record { covered = r.covered.1; live = r.live; inside = r.inside; here = r.here; stands = s.1 }) f
   found told (load_at t u space ∷ ops) pc l rest r f =
       let s = onward told (load_at t u space) ops pc r.stands in
-      found None ops s.0 l rest (record { covered = r.covered.1; live = r.live; inside = r.inside; stands = s.1 }) f
+      found None ops s.0 l rest (record { covered = r.covered.1; live = r.live; inside = r.inside; here = r.here; stands = s.1 }) f
   found told (store_at t space u ∷ ops) pc l rest r f =
       let s = onward told (store_at t space u) ops pc r.stands in
-      found None ops s.0 l rest (record { covered = r.covered.1; live = r.live; inside = r.inside; stands = s.1 }) f
+      found None ops s.0 l rest (record { covered = r.covered.1; live = r.live; inside = r.inside; here = r.here; stands = s.1 }) f
   found told (unary_op op ty mode t a ∷ ops) pc l rest r f =
       let s =
       onward told (unary_op op ty mode t a) ops pc r.stands in found None ops s.0 l rest
-      (record { covered = r.covered.1; live = r.live; inside = r.inside; stands = s.1 }) f
+      (record { covered = r.covered.1; live = r.live; inside = r.inside; here = r.here; stands = s.1 }) f
   found told (call_function g t ∷ ops) pc l rest r f =
       let s =
       onward told (call_function g t) ops pc r.stands in found None ops s.0 l rest
@@ -2275,16 +2280,17 @@ module _ (p : PlainProgram) (functions : List PlainIrFunction) (e : Env) (slots 
         live = r.live;
         inside = λ b c. r.inside b
             (Contains-append_right (g ∷ []) (called_in ops) b c);
+        here = r.here;
         stands = s.1;
       }) f
   found told (port_in t port index width ∷ ops) pc l rest r f =
       let s =
       onward told (port_in t port index width) ops pc r.stands in found None ops s.0 l rest
-      (record { covered = r.covered.1; live = r.live; inside = r.inside; stands = s.1 }) f
+      (record { covered = r.covered.1; live = r.live; inside = r.inside; here = r.here; stands = s.1 }) f
   found told (port_out t port index width ∷ ops) pc l rest r f =
       let s =
       onward told (port_out t port index width) ops pc r.stands in found None ops s.0 l rest
-      (record { covered = r.covered.1; live = r.live; inside = r.inside; stands = s.1 }) f
+      (record { covered = r.covered.1; live = r.live; inside = r.inside; here = r.here; stands = s.1 }) f
 
   -- what is shown from any operation on
   abbrev pub Onward : ℕ → Type 0
@@ -2306,13 +2312,20 @@ module _ (p : PlainProgram) (functions : List PlainIrFunction) (e : Env) (slots 
       by_label (Some rest) q =
           let g =
           found None all start l rest
-          (record { covered = ready.covered; live = ready.live; inside = ready.inside; stands = ready.stands }) q in
+          (record {
+            covered = ready.covered;
+            live = ready.live;
+            inside = ready.inside;
+            here = ready.here;
+            stands = ready.stands;
+          }) q in
           let m1 = machine m.temps (worked c m.state) in
           let z = weaker p e slots home base place y (at l) (needs at rest) m v1 h g.needed in
           let matches : M (needs at rest) m1 v1 = record {
             temps_hold = z.temps_hold;
             leaves_hold = z.leaves_hold;
             tables_hold = z.tables_hold;
+            frames = z.frames;
             kept = z.kept;
             bytes = z.bytes;
             left = z.left;
@@ -2336,6 +2349,7 @@ module _ (p : PlainProgram) (functions : List PlainIrFunction) (e : Env) (slots 
         temps_hold = z.temps_hold;
         leaves_hold = z.leaves_hold;
         tables_hold = z.tables_hold;
+        frames = z.frames;
         kept = z.kept;
         bytes = z.bytes;
         left = z.left;
@@ -2354,6 +2368,7 @@ module _ (p : PlainProgram) (functions : List PlainIrFunction) (e : Env) (slots 
         leaves_hold = λ l x u q z. (let some = (y.layout.leaves_at l).clear in same_leaf p place v.at w.at (place l.object + l.at)
             l.bytes u (λ j r. k.same (place l.object + l.at + j) (omega arith) (omega arith)) (h.leaves_hold l x u q z));
         tables_hold = h.tables_hold;
+        frames = h.frames;
         kept = λ i q. (let u = y.high i q in k.same i (omega arith) (omega arith)) ∙ h.kept i q;
         bytes = λ i u. rw (k.same i (omega arith) (omega arith)) (h.bytes i u);
         left = kept_left y.inputs m.state v w k.inputs h.left;
@@ -2390,7 +2405,7 @@ module _ (p : PlainProgram) (functions : List PlainIrFunction) (e : Env) (slots 
   not_null : (bytes x : ℕ) (q : ObjectPointer) → x ≡ address_number p place bytes q.object q.offset % 256 ^ bytes
       → IsPointerIn p bytes q → (x == 0) ≡ false
   not_null bytes x q is known =
-      let places = objects_have_places p e slots y.scratch place y.objects_stand y.tables_stand y.valid in
+      let places = objects_have_places p e place y.objects_stand y.tables_stand y.valid in
       let number = address_is p place places bytes q known.pointed in
       let below = number_below p place places bytes (Some q) known.size known in
       let low = address_low p place places q known.pointed in
@@ -2399,7 +2414,7 @@ module _ (p : PlainProgram) (functions : List PlainIrFunction) (e : Env) (slots 
       ne_eqb x 0 (λ z. absurd (omega (arith, whole, low, z)))
 
   pub branch_follows : (start l : ℕ) (t : Temp) (rest : List PlainIr) (n pc : ℕ) (m : Mach) (v : View)
-      → Ready start all → AreCovered p results me slots rest → IsLive at rest
+      → Ready start all → AreCovered p results me y.called slots rest → IsLive at rest
       → ((b : ℕ) → Contains (called_in rest) b → Contains (called_in all) b) → HasHome slots t
       → HasAt e (items (branch_zero t l ∷ rest)) pc end
       → M (at_least t.at t.bytes (either (needs at rest) (at l))) m v → Onward n
@@ -2456,7 +2471,7 @@ module _ (p : PlainProgram) (functions : List PlainIrFunction) (e : Env) (slots 
           let b = branch_passed e true 1 (link.label_of l) mid to v1 refl clear branch in
           after p place e (k + 1) n (suc n) m.state.work m1.state.work pc to v v1 (R n rest m1)
           (goes_on_to e k 1 pc mid to v v1 v1 goes b) (omega arith) (omega (arith, take))
-          (f to rest m1 v1 (record { covered = covered; live = live; inside = inside; stands = to_end })
+          (f to rest m1 v1 (record { covered = covered; live = live; inside = inside; here = ready.here; stands = to_end })
           (again (needs at rest) m v1 c here))
 
       told_by_flag : (block e test v).flags.z ≡ from_bool (value v.at (base t) t.bytes == 0)
@@ -2509,7 +2524,7 @@ module _ (p : PlainProgram) (functions : List PlainIrFunction) (e : Env) (slots 
 
   -- the comparison of two temporaries, and the branch behind it
   told_passes : (start l : ℕ) (r : Relation) (s : Bool) (t x1 x2 : Temp) (bytes x z c : ℕ) (rest : List PlainIr) (n pc : ℕ)
-      (need0 : Need) (m : Mach) (v : View) → Ready start all → AreCovered p results me slots rest → IsLive at rest
+      (need0 : Need) (m : Mach) (v : View) → Ready start all → AreCovered p results me y.called slots rest → IsLive at rest
       → ((b : ℕ) → Contains (called_in rest) b → Contains (called_in all) b) → HasHome slots t → HasHome slots x1
       → HasHome slots x2 → x1.bytes ≡ suc bytes → x2.bytes ≡ suc bytes → suc bytes ≤ 16
       → value v.at (base x1) (suc bytes) ≡ x → value v.at (base x2) (suc bytes) ≡ z → 102 ≤ c
@@ -2545,14 +2560,15 @@ module _ (p : PlainProgram) (functions : List PlainIrFunction) (e : Env) (slots 
       after p place e (code_steps compared) (suc n) (suc n) m.state.work m1.state.work pc s1.0 v v1
       (R (suc n) (branch_zero t l ∷ rest) m1) goes (omega arith) (omega (arith, take, most, big))
       (told_branch_follows start l t truth (not (is_set r)) (flag_of r s) rest n s1.0 s1.2.0 m1 v1 ready
-      (record { covered = covered; live = live; inside = inside; stands = s1.2.2 }) it (held_at t _ m.temps) (flag_is r s)
+      (record { covered = covered; live = live; inside = inside; here = ready.here; stands = s1.2.2 }) it (held_at t _ m.temps)
+      (flag_is r s)
       (λ q. fails_in_flag r s e (home x1) (home x2) bytes (base x1) (base x2) v sa sb h.bytes (told ∙ q) ∙ bit_is (not (is_set r)))
       (λ q. holds_in_flag r s e (home x1) (home x2) bytes (base x1) (base x2) v sa sb h.bytes (told ∙ q) ∙ bit_is (is_set r)
       ∙ ap if_bit (sym (not_not (is_set r)))) s1.2.1 here there f)
 
   pub told_follows : (start l : ℕ) (op : BinOp) (r : Relation) (exchanged : Bool) → family_of op ≡ Compared r exchanged
       → (s : Bool) (ty : PlainType) (mode : Mode) (t a b : Temp) (rest : List PlainIr) (n pc : ℕ) (m : Mach) (v : View)
-      → Ready start all → AreCovered p results me slots rest → IsLive at rest
+      → Ready start all → AreCovered p results me y.called slots rest → IsLive at rest
       → ((c : ℕ) → Contains (called_in rest) c → Contains (called_in all) c) → HasHome slots t → HasHome slots a
       → HasHome slots b → b.bytes ≡ a.bytes → wanted (either (needs at rest) (at l)) t ≡ 0
       → HasAt e (flag_code (Compared r exchanged) (home a) (home b) a.bytes ++ (unless_code r s (link.label_of l) ++ items rest)) pc end
@@ -2705,7 +2721,7 @@ module _ (p : PlainProgram) (functions : List PlainIrFunction) (e : Env) (slots 
           (second_wanted x op b.bytes (wanted (needs at ops) t)) (needs at ops)) m v) wx h
 
       by_family : (x : Family) → family_of op ≡ x → (told : Told) → told_of x (is_signed aty) ≡ Some told → (l : ℕ) (ops : List PlainIr)
-          → IsBinary x slots t a b ty aty bty → AreCovered p results me slots ops → IsLive at ops
+          → IsBinary x slots t a b ty aty bty → AreCovered p results me y.called slots ops → IsLive at ops
           → ((c : ℕ) → Contains (called_in ops) c → Contains (called_in all) c) → wanted (either (needs at ops) (at l)) t ≡ 0
           → HasAt e (flag_code x (home a) (home b) a.bytes ++ (unless_code told.relation told.signed (link.label_of l) ++ items ops)) pc end
           → M (needs at (binary_op op ty mode t a aty b bty ∷ branch_zero t l ∷ ops)) m v
@@ -2879,6 +2895,7 @@ module _ (p : PlainProgram) (functions : List PlainIrFunction) (e : Env) (slots 
             covered = (inl h.binary, r.covered.1);
             live = r.live;
             inside = r.inside;
+            here = r.here;
             stands = subst (λ (x : List AsmItem). HasAt e x pc end) (code on) r.stands;
           })
           (weaker p e slots home base place y (needs at (i ∷ rest)) (needs at (i1 ∷ rest)) m v needed fewer) f
@@ -2935,28 +2952,28 @@ module _ (p : PlainProgram) (functions : List PlainIrFunction) (e : Env) (slots 
   follows start ready n go calls returns pc (constant t k ∷ rest) m v r h =
       constant_follows t k rest n pc m v r.covered.0 r.stands h
       (λ pc1 m1 v1 s z. follows start ready n go calls returns pc1 rest m1 v1
-      (record { covered = r.covered.1; live = r.live; inside = r.inside; stands = s }) z)
+      (record { covered = r.covered.1; live = r.live; inside = r.inside; here = r.here; stands = s }) z)
   follows start ready n go calls returns pc (copy t u ∷ rest) m v r h =
       let i = r.covered.0 in
       copy_follows t u rest n pc m v i.0 i.1 i.2 r.stands h
       (λ pc1 m1 v1 s z. follows start ready n go calls returns pc1 rest m1 v1
-      (record { covered = r.covered.1; live = r.live; inside = r.inside; stands = s }) z)
+      (record { covered = r.covered.1; live = r.live; inside = r.inside; here = r.here; stands = s }) z)
   follows start ready n go calls returns pc (load_object t o offset ∷ rest) m v r h =
       let i = r.covered.0 in
       load_follows p functions e slots home base place y at all end results me link stack t o offset rest n pc m v i.0 i.1
       r.stands h
       (λ pc1 m1 v1 s z. go pc1 rest m1 v1
-      (record { covered = r.covered.1; live = r.live; inside = r.inside; stands = s }) z)
+      (record { covered = r.covered.1; live = r.live; inside = r.inside; here = r.here; stands = s }) z)
   follows start ready n go calls returns pc (store_object o offset t ∷ rest) m v r h =
       let i = r.covered.0 in
-      store_follows p functions e slots home base place y at all end results me link stack o offset t rest n pc m v i.0 i.1
-      r.stands h
+      store_follows p functions e slots home base place y at all end results me link stack o offset t rest n pc m v i.0 i.1 i.2
+      r.here r.stands h
       (λ pc1 m1 v1 s z. go pc1 rest m1 v1
-      (record { covered = r.covered.1; live = r.live; inside = r.inside; stands = s }) z)
+      (record { covered = r.covered.1; live = r.live; inside = r.inside; here = r.here; stands = s }) z)
   follows start ready n go calls returns pc (binary_op op ty mode t a aty b bty ∷ rest) m v r h =
       binary_follows start ready n go op ty mode t a aty b bty pc rest m v r h
       (λ pc1 m1 v1 s z. follows start ready n go calls returns pc1 rest m1 v1
-      (record { covered = r.covered.1; live = r.live; inside = r.inside; stands = s }) z)
+      (record { covered = r.covered.1; live = r.live; inside = r.inside; here = r.here; stands = s }) z)
   follows start ready n go calls returns pc (label l ∷ rest) m v r h =
       let s = r.stands in
       let need = needs at rest in
@@ -2966,7 +2983,8 @@ module _ (p : PlainProgram) (functions : List PlainIrFunction) (e : Env) (slots 
       (omega arith) (omega arith)
       (label_follows l rest n pc m v
       (follows start ready n go calls returns pc rest (machine m.temps (worked (op_steps (label l)) m.state)) v
-      (record { covered = r.covered.1; live = r.live.1; inside = r.inside; stands = stands }) (again need m v (op_steps (label l)) z)))
+      (record { covered = r.covered.1; live = r.live.1; inside = r.inside; here = r.here; stands = stands })
+      (again need m v (op_steps (label l)) z)))
   follows start ready n go calls returns pc (jump l ∷ rest) m v r h =
       jump_follows start l rest n pc m v ready r.stands h go
   follows start ready n go calls returns pc (branch_zero t l ∷ rest) m v r h =
@@ -2976,37 +2994,37 @@ module _ (p : PlainProgram) (functions : List PlainIrFunction) (e : Env) (slots 
   follows start ready n go calls returns pc (conversion t ty mode a aty ∷ rest) m v r h =
       conversion_follows t ty mode a aty rest n pc m v r.covered.0 r.stands h
       (λ pc1 m1 v1 s z. follows start ready n go calls returns pc1 rest m1 v1
-      (record { covered = r.covered.1; live = r.live; inside = r.inside; stands = s }) z)
+      (record { covered = r.covered.1; live = r.live; inside = r.inside; here = r.here; stands = s }) z)
   follows start ready n go calls returns pc (unary_op op ty mode t a ∷ rest) m v r h =
       unary_follows op ty mode t a rest n pc m v r.covered.0 r.stands h
       (λ pc1 m1 v1 s z. follows start ready n go calls returns pc1 rest m1 v1
-      (record { covered = r.covered.1; live = r.live; inside = r.inside; stands = s }) z)
+      (record { covered = r.covered.1; live = r.live; inside = r.inside; here = r.here; stands = s }) z)
   follows start ready n go calls returns pc (address t o offset ∷ rest) m v r h =
       address_follows p functions e slots home base place y at all end results me link stack t o offset rest n pc m v
       r.covered.0 r.stands h
       (λ pc1 m1 v1 s z. follows start ready n go calls returns pc1 rest m1 v1
-      (record { covered = r.covered.1; live = r.live; inside = r.inside; stands = s }) z)
+      (record { covered = r.covered.1; live = r.live; inside = r.inside; here = r.here; stands = s }) z)
   follows start ready n go calls returns pc (field t space offset ∷ rest) m v r h =
       field_follows p functions e slots home base place y at all end results me link stack t space offset rest n pc m v
       r.covered.0 r.stands h
       (λ pc1 m1 v1 s z. follows start ready n go calls returns pc1 rest m1 v1
-      (record { covered = r.covered.1; live = r.live; inside = r.inside; stands = s }) z)
+      (record { covered = r.covered.1; live = r.live; inside = r.inside; here = r.here; stands = s }) z)
   follows start ready n go calls returns pc (load_at t u space ∷ rest) m v r h =
       let i = r.covered.0 in
       load_at_follows p functions e slots home base place y at all end results me link stack t u space rest n pc m v i.0 i.1
       r.stands h
       (λ pc1 m1 v1 s z. go pc1 rest m1 v1
-      (record { covered = r.covered.1; live = r.live; inside = r.inside; stands = s }) z)
+      (record { covered = r.covered.1; live = r.live; inside = r.inside; here = r.here; stands = s }) z)
   follows start ready n go calls returns pc (store_at t space u ∷ rest) m v r h =
       let i = r.covered.0 in
       store_at_follows p functions e slots home base place y at all end results me link stack t space u rest n pc m v i.0 i.1
       r.stands h
       (λ pc1 m1 v1 s z. go pc1 rest m1 v1
-      (record { covered = r.covered.1; live = r.live; inside = r.inside; stands = s }) z)
+      (record { covered = r.covered.1; live = r.live; inside = r.inside; here = r.here; stands = s }) z)
   follows start ready n go calls returns pc (call_function g t ∷ rest) m v r h = calls g t pc rest m v r h
   follows start ready n go calls returns pc (port_in t port index width ∷ rest) m v r h =
       in_follows t port index width rest n pc m v r.covered.0 r.stands h
-      (λ pc1 m1 v1 s z. go pc1 rest m1 v1 (record { covered = r.covered.1; live = r.live; inside = r.inside; stands = s }) z)
+      (λ pc1 m1 v1 s z. go pc1 rest m1 v1 (record { covered = r.covered.1; live = r.live; inside = r.inside; here = r.here; stands = s }) z)
   follows start ready n go calls returns pc (port_out t port index width ∷ rest) m v r h =
       out_follows t port index width rest n pc m v r.covered.0 r.stands h
-      (λ pc1 m1 v1 s z. go pc1 rest m1 v1 (record { covered = r.covered.1; live = r.live; inside = r.inside; stands = s }) z)
+      (λ pc1 m1 v1 s z. go pc1 rest m1 v1 (record { covered = r.covered.1; live = r.live; inside = r.inside; here = r.here; stands = s }) z)

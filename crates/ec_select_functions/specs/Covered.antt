@@ -1,21 +1,22 @@
 -- The operations that have code: for each its temporaries, types and objects.
 use Rattle.std.specs.Prelude.{◌≡◌, ◌≢◌, ◌⊎◌, ℕ, ◌<◌, ◌≤◌, ◌==◌, ◌||◌, ⊤, Bool, true, List, [], ◌∷◌, Option, Some}
 use Rattle.std.specs.Prelude.{None}
-use Rattle.std.specs.Prelude.{slice_get}
+use Rattle.std.specs.Prelude.{IsSomeAnd, slice_get}
 use Rattle.std.specs.List.{position_from}
 use Rattle.ec_space.specs.declared.space.SpaceId.{SpaceId}
 use Rattle.ec_space.specs.Spaces.{width}
 use Rattle.ec_core.specs.Layout.{AreStructs, scalar_size, size_of_type, leaves_of_type}
-use Rattle.ec_core.specs.Plain.{PlainType, integer, PlainObject}
+use Rattle.ec_core.specs.Plain.{PlainType, integer, PlainStorage, PlainObject}
 use Rattle.ec_core.specs.Plain.{PlainProgram}
 use Rattle.ec_core.specs.Typing.{HaveBinaryTypes, AreConvertible}
-use Rattle.ec_core.specs.Valid.{IsAddressable, IsExprType}
+use Rattle.ec_core.specs.Valid.{IsAddressable, IsExprType, IsNamedIn}
 use Rattle.ec_core.specs.declared.expressions.BinOp.{BinOp}
 use Rattle.ec_core.specs.declared.expressions.UnOp.{UnOp}
 use Rattle.ec_ir.specs.declared.operations.Temp.{Temp}
 use Rattle.ec_ir.specs.Operations.{PlainIr, constant, copy, address, field, load_at, store_at, load_object}
 use Rattle.ec_ir.specs.Operations.{store_object, binary_op, unary_op, conversion, label, jump, branch_zero}
 use Rattle.ec_ir.specs.Operations.{call_function, return_from, port_in, port_out}
+use Rattle.ec_ir.specs.Valid.{IsParameterOf}
 use Rattle.ec_select_operations.specs.declared.families.Family.{Family}
 use Rattle.ec_select_operations.specs.declared.families.Family.TheVariants.{Combined, Compared, Multiplied, Shifted}
 use Rattle.ec_select_operations.specs.declared.families.Family.TheVariants.{Divided}
@@ -206,30 +207,35 @@ pub record IsPort (slots : ℕ) (t : Temp) (port : ℕ) (index : Option Temp) (w
   pub within : width ≤ t.bytes
   pub address : port < 256
 
--- operations of a function with a number, which has so many places of temporaries
-abbrev pub IsCovered : PlainProgram → (results : ℕ → ℕ) (f slots : ℕ) → PlainIr → Type 0
-IsCovered p results f slots (constant t n) = HasHome slots t
-IsCovered p results f slots (copy to from) = HasHome slots to × HasHome slots from × (to.bytes ≡ from.bytes)
-IsCovered p results f slots (load_object t o offset) = HasHome slots t × HasScalarAt p o offset t.bytes
-IsCovered p results f slots (store_object o offset t) = HasHome slots t × HasScalarAt p o offset t.bytes
-IsCovered p results f slots (binary_op op ty mode to a aty b bty) =
+-- what a function stores to by its name: static objects, its own, and parameters of the functions that it calls
+abbrev pub IsStoredIn : (f : ℕ) (called : List ℕ) → PlainStorage → Type 0
+IsStoredIn f called storage = IsNamedIn f storage ⊎ IsParameterOf called storage
+
+-- operations of a function with a number, which calls some functions and has so many places of temporaries
+abbrev pub IsCovered : PlainProgram → (results : ℕ → ℕ) (f : ℕ) (called : List ℕ) (slots : ℕ) → PlainIr → Type 0
+IsCovered p results f called slots (constant t n) = HasHome slots t
+IsCovered p results f called slots (copy to from) = HasHome slots to × HasHome slots from × (to.bytes ≡ from.bytes)
+IsCovered p results f called slots (load_object t o offset) = HasHome slots t × HasScalarAt p o offset t.bytes
+IsCovered p results f called slots (store_object o offset t) =
+    HasHome slots t × HasScalarAt p o offset t.bytes × IsSomeAnd (slice_get p.objects o) (λ d. IsStoredIn f called d.storage)
+IsCovered p results f called slots (binary_op op ty mode to a aty b bty) =
     IsBinary (family_of op) slots to a b ty aty bty
     ⊎ (IsFixedBinary slots op to a b ty aty bty ⊎ IsPointerBinary p slots op to a b ty aty bty)
-IsCovered p results f slots (unary_op op ty mode to a) = IsUnary slots to a ty ⊎ IsFixedUnary slots op to a ty
-IsCovered p results f slots (label l) = ⊤
-IsCovered p results f slots (jump l) = ⊤
-IsCovered p results f slots (branch_zero t l) = HasHome slots t
-IsCovered p results f slots (return_from from) = IsResult results f slots from
-IsCovered p results f slots (conversion to ty mode a aty) =
+IsCovered p results f called slots (unary_op op ty mode to a) = IsUnary slots to a ty ⊎ IsFixedUnary slots op to a ty
+IsCovered p results f called slots (label l) = ⊤
+IsCovered p results f called slots (jump l) = ⊤
+IsCovered p results f called slots (branch_zero t l) = HasHome slots t
+IsCovered p results f called slots (return_from from) = IsResult results f slots from
+IsCovered p results f called slots (conversion to ty mode a aty) =
     AreConverted slots to a ty aty ⊎ (IsFixedConversion slots to a ty aty ⊎ IsPointerConversion slots to a ty aty)
-IsCovered p results f slots (address t o offset) = IsAddress p slots t o offset
-IsCovered p results f slots (field ptr space offset) = IsInto slots space ptr
-IsCovered p results f slots (load_at to ptr space) = HasHome slots to × IsInto slots space ptr
-IsCovered p results f slots (store_at ptr space from) = HasHome slots from × IsInto slots space ptr
-IsCovered p results f slots (call_function g to) = IsResult results g slots to
-IsCovered p results f slots (port_in to port index width) = IsPort slots to port index width
-IsCovered p results f slots (port_out from port index width) = IsPort slots from port index width
+IsCovered p results f called slots (address t o offset) = IsAddress p slots t o offset
+IsCovered p results f called slots (field ptr space offset) = IsInto slots space ptr
+IsCovered p results f called slots (load_at to ptr space) = HasHome slots to × IsInto slots space ptr
+IsCovered p results f called slots (store_at ptr space from) = HasHome slots from × IsInto slots space ptr
+IsCovered p results f called slots (call_function g to) = IsResult results g slots to
+IsCovered p results f called slots (port_in to port index width) = IsPort slots to port index width
+IsCovered p results f called slots (port_out from port index width) = IsPort slots from port index width
 
-abbrev pub AreCovered : PlainProgram → (results : ℕ → ℕ) (f slots : ℕ) → List PlainIr → Type 0
-AreCovered p results f slots [] = ⊤
-AreCovered p results f slots (i ∷ code) = IsCovered p results f slots i × AreCovered p results f slots code
+abbrev pub AreCovered : PlainProgram → (results : ℕ → ℕ) (f : ℕ) (called : List ℕ) (slots : ℕ) → List PlainIr → Type 0
+AreCovered p results f called slots [] = ⊤
+AreCovered p results f called slots (i ∷ code) = IsCovered p results f called slots i × AreCovered p results f called slots code

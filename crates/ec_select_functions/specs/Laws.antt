@@ -27,7 +27,7 @@ use Rattle.ec_select_functions.specs.Covered.{AreCovered}
 use Rattle.ec_select_operations.specs.Homes.{home}
 use Rattle.ec_select_functions.specs.Kept.{meaning_on}
 use Rattle.ec_select_operations.specs.Needs.{Need, IsLive}
-use Rattle.ec_select_operations.specs.Places.{ObjectLeaf, Apart, Layout}
+use Rattle.ec_select_operations.specs.Places.{ObjectLeaf, CanBeLiveTogether, Apart, Layout}
 use Rattle.ec_select_functions.specs.Relation.{accesses, HoldsLeaf}
 use Rattle.ec_select_functions.specs.Standing.{home_address, ScratchStands, ObjectsStand, TablesStand, WorkStands}
 
@@ -55,10 +55,10 @@ pub record IsSelected (p : PlainIrProgram) (e : Env) (place : ℕ → ℕ) (entr
     (g : PlainIrFunction) (made : Made) (scratch : ℕ) : Type 0 where
   pub pc : ℕ
   pub end : ℕ
-  pub covered : AreCovered (data_of p) results f g.slots g.code
+  pub covered : AreCovered (data_of p) results f (called_in g.code) g.slots g.code
   pub live : IsLive made.labels g.code
   pub scratch_stands : ScratchStands e g.slots made.homes scratch
-  pub objects_stand : ObjectsStand (data_of p) e g.slots scratch place
+  pub objects_stand : ObjectsStand p e g.slots scratch place
   pub stands : HasAt e (function_code (data_of p) (linkage_of p entry_of f g.slots made) f made.labels g.code) pc end
 
 -- All functions are selected, each with its scratch memory at an address. That of a function stands apart from that of
@@ -142,9 +142,10 @@ CodeFollowsOperations =
 
 -- ---- homes
 
--- in a valid program the homes of temporaries are a layout, wherever scratch memory and objects stand apart
+-- in a valid program the homes of temporaries are a layout, wherever scratch memory stands apart from objects, and these
+-- from one another where they can be live together
 abbrev pub HomesAreLaidOut : Type 0
 HomesAreLaidOut =
     (p : PlainIrProgram) (e : Env) (slots : ℕ) (h : Homes) (scratch : ℕ) (place : ℕ → ℕ) → ValidIr p
-    → ScratchStands e slots h scratch → ObjectsStand (data_of p) e slots scratch place
-    → Layout (data_of p) e slots (home h) (home_address h scratch) place
+    → ScratchStands e slots h scratch → ObjectsStand p e slots scratch place
+    → Layout (data_of p) (CanBeLiveTogether p) e slots (home h) (home_address h scratch) place

@@ -1,6 +1,6 @@
 -- When the machine shows the state of an intermediate program.
 use Rattle.std.specs.Prelude.{◌≡◌, ℕ, zero, suc, ◌+◌, ◌/◌, ◌%◌, ◌^◌, ◌<◌, Bool, true, ℤ, pos, List, [], ◌∷◌, ◌++◌, Some}
-use Rattle.std.specs.Prelude.{None, option_map, option_and_then, unwrap_or, slice_get, slice_index}
+use Rattle.std.specs.Prelude.{◌⊎◌, Contains, None, option_map, option_and_then, unwrap_or, slice_get, slice_index}
 use Rattle.ec_space.specs.declared.space.Bank.TheVariants.{Flash as FlashBank, Data as DataBank}
 use Rattle.ec_avr.specs.declared.machine.Access.{Access}
 use Rattle.ec_avr.specs.declared.machine.Access.TheVariants.{In as PortIn, Out as PortOut, Read as ByteRead}
@@ -16,10 +16,10 @@ use Rattle.ec_core.specs.declared.values.Value.TheVariants.{Number, Pointer}
 use Rattle.ec_core.specs.Accesses.{leaf_of}
 use Rattle.ec_core.specs.Laws.{left_of}
 use Rattle.ec_core.specs.Layout.{PlainLeaf, scalar_size, leaves_of_type}
-use Rattle.ec_core.specs.Plain.{PlainProgram}
+use Rattle.ec_core.specs.Plain.{PlainObject, PlainProgram}
 use Rattle.ec_core.specs.State.{Inputs, State, Event, In, Out, Read, Write, ObjectState}
 use Rattle.ec_ir.specs.declared.operations.Temp.{Temp}
-use Rattle.ec_ir.specs.Meaning.{Mach}
+use Rattle.ec_ir.specs.Meaning.{is_among, is_kept, Mach}
 use Rattle.ec_ir.specs.Temporaries.{Content, bits, points, Held, low_bytes}
 use Rattle.ec_select_operations.specs.Homes.{HasHome}
 use Rattle.ec_select_operations.specs.Needs.{Need, wanted}
@@ -79,10 +79,25 @@ HoldsLeaf p place f a n (Pointer (Some q)) =
 abbrev pub AreLeft : Inputs → State → View → Type 0
 AreLeft inputs s v = (port : ℕ) → v.inputs port ≡ left_of inputs port s
 
+-- functions for which frames stand: the active ones, and maybe one to a parameter of which was stored, which is active
+-- too or one of those that are called
+abbrev pub AreFrames : (active called functions : List ℕ) → Type 0
+AreFrames active called fs =
+    (fs ≡ active) ⊎ ((g : ℕ) × ((is_among active g ≡ true) ⊎ Contains called g) × (fs ≡ g ∷ active))
+
+-- frames stand for such functions, and no object of another function is live or has a value
+pub record FramesStand (p : PlainProgram) (active called : List ℕ) (objects : List ObjectState) : Type 0 where
+  pub functions : List ℕ
+  pub are_frames : AreFrames active called functions
+  pub live : (o : ℕ) (d : PlainObject) (x : ObjectState) → slice_get p.objects o ≡ Some d
+      → slice_get objects o ≡ Some x → x.live ≡ true → is_kept functions d.storage ≡ true
+  pub valued : (o k : ℕ) (d : PlainObject) (x : ObjectState) (u : Value) → slice_get p.objects o ≡ Some d
+      → slice_get objects o ≡ Some x → leaf_of x k ≡ Some u → is_kept functions d.storage ≡ true
+
 -- what is needed of each temporary stands at its address, and each leaf of an object at its own, in the object's bank.
 -- The bytes that are set aside, for functions that wait, are as they were
 pub record Matches (p : PlainProgram) (e : Env) (inputs : Inputs) (slots : ℕ) (base : Temp → ℕ) (place : ℕ → ℕ)
-    (aside : ℕ → Bool) (was : ℕ → ℕ) (need : Need) (m : Mach) (v : View) : Type 0 where
+    (aside : ℕ → Bool) (was : ℕ → ℕ) (active called : List ℕ) (need : Need) (m : Mach) (v : View) : Type 0 where
   pub temps_hold : (t : Temp) (h : Held) → HasHome slots t → m.temps t.at ≡ Some h → h.bytes ≡ t.bytes
       → HoldsContent p place v.at (base t) (wanted need t) t.bytes h.content
   pub leaves_hold : (l : ObjectLeaf p DataBank) (x : ObjectState) (u : Value)
@@ -91,6 +106,7 @@ pub record Matches (p : PlainProgram) (e : Env) (inputs : Inputs) (slots : ℕ) 
   pub tables_hold : (l : ObjectLeaf p FlashBank) (x : ObjectState) (u : Value)
       → slice_get m.state.objects l.object ≡ Some x → leaf_of x l.number ≡ Some u
       → HoldsLeaf p place (slice_index e.flash) (place l.object + l.at) l.bytes u
+  pub frames : FramesStand p active called m.state.objects
   pub kept : (k : ℕ) → aside k ≡ true → v.at k ≡ was k
   pub bytes : HoldsNumbers v
   pub left : AreLeft inputs m.state v

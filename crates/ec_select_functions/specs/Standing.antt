@@ -10,9 +10,10 @@ use Rattle.ec_core.specs.Plain.{PlainStorage, static, local, param, register, Pl
 use Rattle.ec_core.specs.State.{ObjectState}
 use Rattle.ec_ir.specs.declared.operations.Temp.{Temp}
 use Rattle.ec_ir.specs.Meaning.{start_state}
+use Rattle.ec_ir.specs.Operations.{PlainIrProgram}
 use Rattle.ec_select_operations.specs.declared.homes.Homes.{Homes}
 use Rattle.ec_select_operations.specs.Homes.{depth}
-use Rattle.ec_select_operations.specs.Places.{ObjectLeaf, Apart}
+use Rattle.ec_select_operations.specs.Places.{ObjectLeaf, CanBeLiveTogether, Apart}
 use Rattle.ec_select_functions.specs.Relation.{HoldsLeaf}
 
 -- the address of a home, where scratch memory stands at an address
@@ -50,12 +51,13 @@ ObjectStands e o n place (static inits) = StandsInMemory e o n place
 ObjectStands e o n place (local f) = StandsInMemory e o n place
 ObjectStands e o n place (param f) = StandsInMemory e o n place
 
--- the objects of the data bank stand apart from one another and from the scratch memory
-pub record ObjectsStand (p : PlainProgram) (e : Env) (slots scratch : ℕ) (place : ℕ → ℕ) : Type 0 where
+-- the objects of the data bank stand apart from one another where they can be live together, and from the scratch memory
+pub record ObjectsStand (p : PlainIrProgram) (e : Env) (slots scratch : ℕ) (place : ℕ → ℕ) : Type 0 where
   pub each : (o : ℕ) (d : PlainObject) → slice_get p.objects o ≡ Some d → d.home ≡ DataBank
       → ObjectStands e o (size_of_type p.structs d.ty) (place o) d.storage
   pub apart : (o k : ℕ) (d f : PlainObject) → slice_get p.objects o ≡ Some d → d.home ≡ DataBank
       → slice_get p.objects k ≡ Some f → f.home ≡ DataBank → o ≢ k
+      → CanBeLiveTogether p d.storage f.storage
       → Apart (place o) (size_of_type p.structs d.ty) (place k) (size_of_type p.structs f.ty)
   pub scratch_apart : (o : ℕ) (d : PlainObject) → slice_get p.objects o ≡ Some d → d.home ≡ DataBank
       → Apart (place o) (size_of_type p.structs d.ty) scratch (16 * slots)

@@ -1,5 +1,5 @@
 -- Where temporaries and objects stand.
-use Rattle.std.specs.Prelude.{◌≡◌, ◌≢◌, ◌⊎◌, ⊤, ℕ, ◌+◌, ◌<◌, ◌≤◌, List, Some}
+use Rattle.std.specs.Prelude.{◌≡◌, ◌≢◌, ◌⊎◌, ⊤, ℕ, ◌+◌, ◌<◌, ◌≤◌, List, Option, Some, None}
 use Rattle.std.specs.Prelude.{option_map, unwrap_or, slice_get}
 use Rattle.ec_space.specs.declared.space.Bank.{Bank}
 use Rattle.ec_space.specs.declared.space.Bank.TheVariants.{Data as DataBank}
@@ -12,6 +12,8 @@ use Rattle.ec_core.specs.Layout.{scalar_size, leaves_of_type}
 use Rattle.ec_core.specs.Plain.{PlainType, integer, fixed, PlainStorage, static, local, param, register, PlainObject}
 use Rattle.ec_core.specs.Plain.{PlainProgram}
 use Rattle.ec_ir.specs.declared.operations.Temp.{Temp}
+use Rattle.ec_ir.specs.Operations.{PlainIrProgram}
+use Rattle.ec_ir.specs.Valid.{CallsTo}
 use Rattle.ec_select_operations.specs.Homes.{HasHome, result_register}
 
 -- ---- objects
@@ -54,6 +56,24 @@ pub record ObjectLeaf (p : PlainProgram) (bank : Bank) : Type 0 where
   pub size : scalar_size ty ≡ bytes
   pub home : declared.home ≡ bank
 
+-- ---- objects that can be live at one moment
+
+-- the function whose parameter or local an object is
+abbrev pub owner_of : PlainStorage → Option ℕ
+owner_of (static inits) = None
+owner_of (local f) = Some f
+owner_of (param f) = Some f
+owner_of (register first) = None
+
+-- functions on one chain of calls: they are one, or one of them calls the other, itself or through others
+abbrev pub Chained : PlainIrProgram → (f g : ℕ) → Type 0
+Chained p f g = (f ≡ g) ⊎ (CallsTo p g f ⊎ CallsTo p f g)
+
+-- An object of no function is live throughout, and a parameter or local while its function is active. All functions
+-- that are active at one moment are on one chain of calls
+abbrev pub CanBeLiveTogether : PlainIrProgram → PlainStorage → PlainStorage → Type 0
+CanBeLiveTogether p s t = (f g : ℕ) → owner_of s ≡ Some f → owner_of t ≡ Some g → Chained p f g
+
 -- ---- apartness
 
 -- m bytes from a and n bytes from b have no byte in common
@@ -71,10 +91,11 @@ pub record IsClear (a n : ℕ) : Type 0 where
   pub low : Apart a n 8 6
   pub high : Apart a n 26 6
 
--- The temporaries and the leaves stand in bytes of their own. Two temporaries at one place begin at one address, or
--- are apart. R0, R1, R8 to R13 and R26 to R31 are work registers, and a result is handed on in registers below R26
-pub record Layout (p : PlainProgram) (e : Env) (slots : ℕ) (home : Temp → Location) (base : Temp → ℕ)
-    (place : ℕ → ℕ) : Type 0 where
+-- The temporaries stand in bytes of their own, and so do leaves of objects that can be live together. Two temporaries
+-- at one place begin at one address, or are apart. R0, R1, R8 to R13 and R26 to R31 are work registers, and a result is
+-- handed on in registers below R26
+pub record Layout (p : PlainProgram) (AreTogether : PlainStorage → PlainStorage → Type 0) (e : Env) (slots : ℕ)
+    (home : Temp → Location) (base : Temp → ℕ) (place : ℕ → ℕ) : Type 0 where
   pub temps_at : (t : Temp) → HasHome slots t → StandsFrom e (home t) t.bytes (base t) Own
   pub temps_work : (t : Temp) → HasHome slots t → IsClear (base t) t.bytes
   pub temps_apart : (t u : Temp) → HasHome slots t → HasHome slots u → t.at ≢ u.at
@@ -88,6 +109,7 @@ pub record Layout (p : PlainProgram) (e : Env) (slots : ℕ) (home : Temp → Lo
       (kind_in l.declared.storage)
   pub leaves_work : (l : ObjectLeaf p DataBank) → IsClear (place l.object + l.at) l.bytes
   pub leaves_apart : (l k : ObjectLeaf p DataBank) → AreDifferent p l k
+      → AreTogether l.declared.storage k.declared.storage
       → Apart (place l.object + l.at) l.bytes (place k.object + k.at) k.bytes
   pub temp_leaf : (t : Temp) (l : ObjectLeaf p DataBank) → HasHome slots t
       → Apart (base t) t.bytes (place l.object + l.at) l.bytes
