@@ -2,6 +2,7 @@
 pub mod RunComplete
 pub mod Files
 pub mod Named
+pub mod Usage
 -- For this crate alone.
 mod Lines
 mod Rows

@@ -8,10 +8,10 @@ use Rattle.std.specs.Str.Parse.{AllDigits, digits_value}
 use Rattle.std.specs.Cmp.Lexicographic.{same_text}
 use Rattle.ec_space.specs.declared.Core.{Core}
 use Rattle.ec_commands.specs.Command.{is_number, number, build_row, run_by, run_row, exec_by, exec_row, gen_by, gen_row, list_by, list_row}
-use Rattle.ec_commands.specs.Command.{assemble_by, assemble_row, row_of, command_of, IsRow, IsNoCommand, IsRowOf, RowsAreCommands}
-use Rattle.ec_commands.specs.Words.{Words, word, core_named, IsNumber, is_build, IsRun, IsExecRow, IsGen, IsList, IsAssemble}
+use Rattle.ec_commands.specs.Command.{assemble_by, assemble_row, bound_row, row_of, command_of, IsRow, IsNoCommand, IsRowOf, RowsAreCommands}
+use Rattle.ec_commands.specs.Words.{Words, word, core_named, IsNumber, is_build, is_bound, IsRun, IsExecRow, IsGen, IsList, IsAssemble}
 use Rattle.ec_commands.specs.declared.words.Command.{Command}
-use Rattle.ec_commands.specs.declared.words.Command.TheVariants.{Build, Run, Exec, Gen, List as ListImage, Assemble, NoCommand}
+use Rattle.ec_commands.specs.declared.words.Command.TheVariants.{Build, Run, Exec, Gen, List as ListImage, Assemble, Bound, NoCommand}
 
 -- ---- numbers
 
@@ -71,6 +71,9 @@ row_read words (Gen n) h =
     (rw (h.two, number_is (word words 1) 2000 n h.number_word, lt-ltb 0 n h.some) refl)
 row_read words (ListImage core) h = row_at words (codes "list") (ListImage core) h.row (rw (h.three, h.core_word) refl)
 row_read words (Assemble core) h = row_at words (codes "assemble") (Assemble core) h.row (rw (h.four, h.core_word) refl)
+row_read words Bound h =
+    let parts = and_parts (nat_le 3 (length words)) (bytes_eq (word words 0) (codes "bound")) h in
+    row_at words (codes "bound") Bound parts.1 (rw parts.0 refl)
 row_read words NoCommand h = absurd h
 
 -- ---- what is read is the row of what it is read as
@@ -83,6 +86,7 @@ IsRead words (Exec steps) = IsRow (Exec steps) words
 IsRead words (Gen n) = IsRow (Gen n) words
 IsRead words (ListImage core) = IsRow (ListImage core) words
 IsRead words (Assemble core) = IsRow (Assemble core) words
+IsRead words Bound = IsRow Bound words
 IsRead words NoCommand = ⊤
 
 build_told : (words : Words) (long : Bool) → nat_le 4 (length words) ≡ long → bytes_eq (word words 0) (codes "build") ≡ true
@@ -153,6 +157,11 @@ assemble_told : (words : Words) (four : Bool) → (length words == 4) ≡ four �
 assemble_told words true e named = assemble_by_told words _ (eqb-true (length words) 4 e) named refl
 assemble_told words false e named = tt
 
+bound_told : (words : Words) (long : Bool) → nat_le 3 (length words) ≡ long → bytes_eq (word words 0) (codes "bound") ≡ true
+    → IsRead words (if long then Bound else NoCommand)
+bound_told words true e named = and_from (nat_le 3 (length words)) (bytes_eq (word words 0) (codes "bound")) e named
+bound_told words false e named = tt
+
 -- a row by its name, or another
 by_name : (P : Command → Type 0) (named : Bool) (c d : Command) → (named ≡ true → P c) → P d → P (if named then c else d)
 by_name P true c d one other = one refl
@@ -165,7 +174,8 @@ read_told words =
     (by_name (IsRead words) (bytes_eq (word words 0) (codes "exec")) (exec_row words) _ (exec_told words _ refl)
     (by_name (IsRead words) (bytes_eq (word words 0) (codes "gen")) (gen_row words) _ (gen_told words _ refl)
     (by_name (IsRead words) (bytes_eq (word words 0) (codes "list")) (list_row words) _ (list_told words _ refl)
-    (by_name (IsRead words) (bytes_eq (word words 0) (codes "assemble")) (assemble_row words) _ (assemble_told words _ refl) tt)))))
+    (by_name (IsRead words) (bytes_eq (word words 0) (codes "assemble")) (assemble_row words) _ (assemble_told words _ refl)
+    (by_name (IsRead words) (bytes_eq (word words 0) (codes "bound")) (bound_row words) _ (bound_told words _ refl) tt))))))
 
 -- ---- both
 
@@ -176,6 +186,7 @@ none_left words (Exec steps) against h = absurd (against (Exec steps) h)
 none_left words (Gen n) against h = absurd (against (Gen n) h)
 none_left words (ListImage core) against h = absurd (against (ListImage core) h)
 none_left words (Assemble core) against h = absurd (against (Assemble core) h)
+none_left words Bound against h = absurd (against Bound h)
 none_left words NoCommand against h = refl
 
 pub command_is : (words : Words) (c : Command) → IsRowOf c words → command_of words ≡ c
@@ -185,6 +196,7 @@ command_is words (Exec steps) h = row_read words (Exec steps) h
 command_is words (Gen n) h = row_read words (Gen n) h
 command_is words (ListImage core) h = row_read words (ListImage core) h
 command_is words (Assemble core) h = row_read words (Assemble core) h
+command_is words Bound h = row_read words Bound h
 command_is words NoCommand h = none_left words (command_of words) h (read_told words)
 
 row_told : (words : Words) (c : Command) → command_of words ≡ c → IsRead words c → IsRowOf c words
@@ -194,18 +206,20 @@ row_told words (Exec steps) e h = h
 row_told words (Gen n) e h = h
 row_told words (ListImage core) e h = h
 row_told words (Assemble core) e h = h
+row_told words Bound e h = h
 row_told words NoCommand e h = λ c row. subst (λ d. IsRow d words) (sym (row_read words c row) ∙ e) row
 
 pub no_command : (words : Words) → is_build words ≡ false → ((steps fill : ℕ) → ¬ (IsRun words steps fill))
     → ((steps : ℕ) → ¬ (IsExecRow words steps)) → ((n : ℕ) → ¬ (IsGen words n)) → ((core : Core) → ¬ (IsList words core))
-    → ((core : Core) → ¬ (IsAssemble words core)) → (c : Command) → ¬ (IsRow c words)
-no_command words no_build no_run no_exec no_gen no_list no_assemble Build = λ h. let e = sym no_build ∙ h in cc
-no_command words no_build no_run no_exec no_gen no_list no_assemble (Run steps fill) = no_run steps fill
-no_command words no_build no_run no_exec no_gen no_list no_assemble (Exec steps) = no_exec steps
-no_command words no_build no_run no_exec no_gen no_list no_assemble (Gen n) = no_gen n
-no_command words no_build no_run no_exec no_gen no_list no_assemble (ListImage core) = no_list core
-no_command words no_build no_run no_exec no_gen no_list no_assemble (Assemble core) = no_assemble core
-no_command words no_build no_run no_exec no_gen no_list no_assemble NoCommand = λ h. h
+    → ((core : Core) → ¬ (IsAssemble words core)) → is_bound words ≡ false → (c : Command) → ¬ (IsRow c words)
+no_command words no_build no_run no_exec no_gen no_list no_assemble no_bound Build = λ h. let e = sym no_build ∙ h in cc
+no_command words no_build no_run no_exec no_gen no_list no_assemble no_bound (Run steps fill) = no_run steps fill
+no_command words no_build no_run no_exec no_gen no_list no_assemble no_bound (Exec steps) = no_exec steps
+no_command words no_build no_run no_exec no_gen no_list no_assemble no_bound (Gen n) = no_gen n
+no_command words no_build no_run no_exec no_gen no_list no_assemble no_bound (ListImage core) = no_list core
+no_command words no_build no_run no_exec no_gen no_list no_assemble no_bound (Assemble core) = no_assemble core
+no_command words no_build no_run no_exec no_gen no_list no_assemble no_bound Bound = λ h. let e = sym no_bound ∙ h in cc
+no_command words no_build no_run no_exec no_gen no_list no_assemble no_bound NoCommand = λ h. h
 
 pub rows_are_commands : RowsAreCommands
 rows_are_commands words c = (

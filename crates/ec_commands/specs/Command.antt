@@ -5,9 +5,9 @@ use Rattle.std.specs.List.{list_all}
 use Rattle.std.specs.Char.{digit_value}
 use Rattle.std.specs.Str.Parse.{digits_value}
 use Rattle.ec_space.specs.declared.Core.{Core}
-use Rattle.ec_commands.specs.Words.{Words, word, is_build, core_named, IsRun, IsExecRow, IsGen, IsList, IsAssemble}
+use Rattle.ec_commands.specs.Words.{Words, word, is_build, is_bound, core_named, IsRun, IsExecRow, IsGen, IsList, IsAssemble}
 use Rattle.ec_commands.specs.declared.words.Command.{Command}
-use Rattle.ec_commands.specs.declared.words.Command.TheVariants.{Build, Run, Exec, Gen, List as ListImage, Assemble, NoCommand}
+use Rattle.ec_commands.specs.declared.words.Command.TheVariants.{Build, Run, Exec, Gen, List as ListImage, Assemble, Bound, NoCommand}
 
 -- 1 to 10 decimal digits, which stand for a number that is at most so great
 abbrev pub is_number : List ℕ → ℕ → Bool
@@ -67,6 +67,10 @@ assemble_by None = NoCommand
 abbrev pub assemble_row : Words → Command
 assemble_row words = if length words == 4 then assemble_by (core_named (word words 1)) else NoCommand
 
+-- bound MAP SRC...
+abbrev pub bound_row : Words → Command
+bound_row words = if nat_le 3 (length words) then Bound else NoCommand
+
 abbrev pub row_of : List ℕ → Words → Command
 row_of first words =
     if bytes_eq first (codes "build") then build_row words
@@ -75,6 +79,7 @@ row_of first words =
     else if bytes_eq first (codes "gen") then gen_row words
     else if bytes_eq first (codes "list") then list_row words
     else if bytes_eq first (codes "assemble") then assemble_row words
+    else if bytes_eq first (codes "bound") then bound_row words
     else NoCommand
 
 abbrev pub command_of : Words → Command
@@ -90,6 +95,7 @@ IsRow (Exec steps) words = IsExecRow words steps
 IsRow (Gen n) words = IsGen words n
 IsRow (ListImage core) words = IsList words core
 IsRow (Assemble core) words = IsAssemble words core
+IsRow Bound words = is_bound words ≡ true
 IsRow NoCommand words = ⊥
 
 -- the words are no command

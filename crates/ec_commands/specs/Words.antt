@@ -3,17 +3,18 @@ use Rattle.std.specs.Prelude.{ℕ}
 use Rattle.ec_space.specs.declared.Core.{Core}
 use Rattle.ec_space.specs.declared.Core.TheVariants.{Small}
 use Rattle.ec_commands.specs.declared.words.Compiling.{Compiling}
-use Rattle.ec_commands.specs.declared.words.Compiling.TheVariants.{Build, Exec}
+use Rattle.ec_commands.specs.declared.words.Compiling.TheVariants.{Build, Exec, Bound}
 use Rattle.std.specs.Prelude.{◌-◌, ◌≡◌, ◌≤◌, ◌&&◌, nat_le, Bool, true, List, [], length, map, drop, codes}
 use Rattle.std.specs.Prelude.{option_map, Option, Some, None, if◌then◌else◌}
 use Rattle.std.specs.Prelude.{unwrap_or, slice_get, String, string_bytes, bytes_eq}
 use Rattle.std.specs.Str.Parse.{IsNumeral, digits_value}
 use Rattle.std.specs.declared.alloc.Global.{Global}
 
--- the place of the first source, behind `build MAP OUT` and `exec MAP SCRIPT STEPS`
+-- the place of the first source, behind `build MAP OUT`, `exec MAP SCRIPT STEPS` and `bound MAP`
 abbrev pub first_source : Compiling → ℕ
 first_source Build = 3
 first_source Exec = 4
+first_source Bound = 2
 
 abbrev pub Words : Type 0
 Words = List (String Global)
@@ -106,3 +107,7 @@ listing_name words = word words 2
 
 abbrev pub assembled_name : Words → List ℕ
 assembled_name words = word words 3
+
+-- bound MAP SRC...
+abbrev pub is_bound : Words → Bool
+is_bound words = nat_le 3 (length words) && bytes_eq (word words 0) (codes "bound")

@@ -18,7 +18,7 @@ pub use answer::conclude;
 pub use counting::print_counts;
 pub use input::read;
 pub use laws::rows_are_commands;
-pub use line::{Part, tell, write_line};
+pub use line::{Part, tell, write_line, write_parts};
 pub use load::{Loaded, load_image, load_script};
 pub use output::write_file;
 pub use running::{print_run, run};

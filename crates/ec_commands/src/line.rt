@@ -10,7 +10,7 @@ ghost use Rattle.ec_commands.specs.Lines.{bytes_of, line};
 ghost use Rattle.ec_commands.specs.Tells.{WritesPrefix, Tells};
 ghost use Rattle.ec_commands.specs.Stops.{text_of};
 
-use crate::line::Part::{Hex, Number, Signed, Text};
+use crate::line::Part::{Hex, Long, Number, Signed, Text};
 use crate::stop::{CommandError, text_of};
 use crate::words::word_at;
 use ec_avr::FaultKind;
@@ -25,6 +25,8 @@ pub enum Part<'a> {
     Text(&'a [u8]),
     /// A number in decimal digits.
     Number(u32),
+    /// A number of up to 64 bits in decimal digits.
+    Long(u64),
     /// A number in decimal digits, with a sign where it is below 0.
     Signed(i16),
     /// A number in four hexadecimal digits in upper case.
@@ -44,6 +46,10 @@ fn write_part<O: Sink>(out: &mut O, part: &Part<'_>) -> Result<(), Written>
             let mut digits = Buffer::new();
             write_all(out, digits.format(n).as_bytes())
         }
+        Long(n) => {
+            let mut digits = Buffer::new();
+            write_all(out, digits.format(n).as_bytes())
+        }
         Signed(n) => {
             let mut digits = Buffer::new();
             write_all(out, digits.format(n).as_bytes())
@@ -53,7 +59,7 @@ fn write_part<O: Sink>(out: &mut O, part: &Part<'_>) -> Result<(), Written>
 }
 
 /// Writes parts one behind the other, up to the first write that fails.
-fn write_parts<O: Sink>(out: &mut O, parts: &[Part<'_>]) -> Result<(), Failed>
+pub fn write_parts<O: Sink>(out: &mut O, parts: &[Part<'_>]) -> Result<(), Failed>
     ensures written { WritesPrefix (O.written out.old) (O.written out.new) result (line parts.now) }
     ensures rest { O.rest out.new ≡ O.rest out.old }
     ensures cause { HasCause (O.faults out.old) (O.faults out.new) result }

@@ -1,8 +1,8 @@
 //! The words of a command line.
 ghost use Rattle.std.specs.Prelude.{◌≡◌, ◌<◌, ◌≤◌, ℕ, true, false, length, IfSome, IfNone};
 ghost use Rattle.ec_commands.specs.Command.{command_of, IsRowOf};
-ghost use Rattle.ec_commands.specs.Words.{first_source, is_build as is_build_row, word, core_named, IsNumber, IsRun, IsExecRow};
-ghost use Rattle.ec_commands.specs.Words.{IsGen, IsList, IsAssemble};
+ghost use Rattle.ec_commands.specs.Words.{first_source, is_build as is_build_row, is_bound as is_bound_row, word, core_named};
+ghost use Rattle.ec_commands.specs.Words.{IsNumber, IsRun, IsExecRow, IsGen, IsList, IsAssemble};
 ghost use Rattle.ec_space.specs.declared.Core.{Core};
 
 use ec_space::Core;
@@ -22,6 +22,8 @@ pub enum Command {
     List { core: Core },
     /// `assemble CORE ASM OUT`
     Assemble { core: Core },
+    /// `bound MAP SRC...`
+    Bound,
     /// Any other words.
     NoCommand,
 }
@@ -33,6 +35,8 @@ pub enum Compiling {
     Build,
     /// `exec MAP SCRIPT STEPS SRC...`
     Exec,
+    /// `bound MAP SRC...`
+    Bound,
 }
 
 /// The place of the first source among the words, from 0.
@@ -42,6 +46,7 @@ pub fn first_source(command: Compiling) -> usize
     match command {
         Compiling::Build => 3,
         Compiling::Exec => 4,
+        Compiling::Bound => 2,
     }
 }
 
@@ -50,6 +55,13 @@ pub fn is_build(words: &Vec<String>) -> bool
     ensures { result ≡ is_build_row words.now.items }
 {
     words.len() >= 4 && words[0].as_str() == "build"
+}
+
+/// Whether the words are `bound MAP SRC...`.
+fn is_bound(words: &Vec<String>) -> bool
+    ensures { result ≡ is_bound_row words.now.items }
+{
+    words.len() >= 3 && words[0].as_str() == "bound"
 }
 
 /// The word at `i`.
@@ -165,6 +177,9 @@ pub fn command_of(words: &Vec<String>) -> Command
     }
     if let Some(core) = assemble_core(words) {
         return Command::Assemble { core };
+    }
+    if is_bound(words) {
+        return Command::Bound;
     }
     Command::NoCommand
 }

@@ -27,4 +27,4 @@ pub returns-clause-value : goal.returns-clause-value
 returns-clause-value c =
     sym (command_is c.args.words.now.items NoCommand (no_command c.args.words.now.items (sym c.is_build.ensures ∙ c.if-is_build.false)
     c.in_default.ensures.none c.in_default-exec_steps.ensures.none c.in_default-gen_number.ensures.none
-    c.in_default-list_core.ensures.none c.in_default-assemble_core.ensures.none))
+    c.in_default-list_core.ensures.none c.in_default-assemble_core.ensures.none (sym c.is_bound.ensures ∙ c.if-is_bound.false)))
