@@ -11,16 +11,17 @@ use Rattle.ec_commands.specs.Shown.{KeepsAll, Told, IsWithin, StopsReading}
 use Rattle.ec_commands.specs.Sources.{texts, HoldTexts, StopsReadingSources}
 use Rattle.ec_commands.specs.Stops as commands
 use Rattle.ec_commands.specs.Words.{Words, word, names_from, map_name, IsBuild}
-use Rattle.ec_commands.specs.declared.stop.Limit.TheVariants.{MapBytes, SourceBytes}
+use Rattle.ec_commands.specs.declared.stop.Limit.TheVariants.{MapBytes, SourceBytes, Sources}
 use Rattle.ec_commands.specs.declared.stop.CommandError.{CommandError}
-use Rattle.ec_commands.specs.declared.stop.CommandError.TheVariants.{CannotRead, TooMany, NoMemory}
+use Rattle.ec_commands.specs.declared.stop.CommandError.TheVariants.{Usage, CannotRead, CannotWrite, TooMany, NoMemory}
 use Rattle.ec_commands.proofs.Files.{told_both, told_on}
 use Rattle.ec_commands.proofs.Named.{same_texts, sources_within, not_past}
 use Rattle.ec_build.specs.Accepted.{IsAccepted}
 use Rattle.ec_build.specs.Builds.{IsBuilt}
 use Rattle.ec_build.specs.declared.building.Built.{Built}
 use Rattle.ec_commands_compile.specs.Inputs.{AreInputs, HasMap, StopsReadingBuild}
-use Rattle.ec_commands_compile.specs.Builds.{Accepts, IsBuiltFrom, IsRefusedFor, RefusesBuild, BuildStops}
+use Rattle.ec_commands_compile.specs.Builds.{Accepts, IsBuiltFrom, IsBuiltOf, IsRefusedFor, RefusesBuild, StopsBuilding, BuildCause}
+use Rattle.ec_commands_compile.specs.Builds.{LeavesFiles, BuildStops}
 use Rattle.ec_commands_compile.specs.declared.stop.CompileStop.{CompileStop}
 use Rattle.ec_commands_compile.specs.declared.stop.CompileStop.TheVariants.{Command, Build}
 
@@ -73,15 +74,14 @@ no_source_stop words first P most map sources disk read written received missed 
 no_source_stop words first P most map sources disk read written received missed new NoMemory inputs calm h = refl
 no_source_stop words first P most map sources disk read written received missed new _ inputs calm h = absurd h
 
-pub no_reading_stop : (words : Words) (disk : Option Disk) (read written received : ℕ) (missed : Option (List ℕ)) (new : StoreView) (stop : CommandError)
-    → Accepts words 3 disk
-    → ¬ (Rose read new.read_faults) → StopsReadingBuild words (store_view disk read written received missed) new stop → commands.status_of stop
-    ≡ 11
-no_reading_stop words None read written received missed new stop accepted calm h = absurd accepted
-no_reading_stop words (Some disk) read written received missed new stop accepted calm (inl h) =
-    no_map_stop words 3 accepted.map accepted.sources disk read written received missed new stop accepted.inputs calm h
-no_reading_stop words (Some disk) read written received missed new stop accepted calm (inr h) =
-    no_source_stop words 3 (HasMap words) 16384 accepted.map accepted.sources disk read written received missed new stop accepted.inputs calm h
+pub no_reading_stop : (words : Words) (first : ℕ) (disk : Option Disk) (read written received : ℕ) (missed : Option (List ℕ)) (new : StoreView)
+    (stop : CommandError) → Accepts words first disk → ¬ (Rose read new.read_faults)
+    → StopsReadingBuild words first (store_view disk read written received missed) new stop → commands.status_of stop ≡ 11
+no_reading_stop words first None read written received missed new stop accepted calm h = absurd accepted
+no_reading_stop words first (Some disk) read written received missed new stop accepted calm (inl h) =
+    no_map_stop words first accepted.map accepted.sources disk read written received missed new stop accepted.inputs calm h
+no_reading_stop words first (Some disk) read written received missed new stop accepted calm (inr h) =
+    no_source_stop words first (HasMap words) 16384 accepted.map accepted.sources disk read written received missed new stop accepted.inputs calm h
 
 -- what was read is accepted, where the files are
 pub read_accepted : (words : Words) (first : ℕ) (disk : Option Disk) (map : List ℕ) (sources : List (List ℕ)) → Accepts words first disk
@@ -103,24 +103,44 @@ short_each (x ∷ xs) all (suc k) d inside = short_each xs (λ j e l. all (suc j
 
 -- ---- what a build of what was read answers
 
-pub built_from : (words : Words) (first : ℕ) (disk : Option Disk) (map : List ℕ) (sources : List (List ℕ)) (r : Result Built CompileStop)
-    → Told (AreInputs words first map sources) disk → IfOk r (IsBuilt sources map) → IfOk r (λ b. Told (IsBuiltFrom words first b) disk)
-built_from words first disk map sources (Ok b) inputs built =
-    told_on (AreInputs words first map sources) (IsBuiltFrom words first b) disk inputs
-    (λ files there. record { map = map; sources = sources; inputs = there; built = built })
-built_from words first disk map sources (Err stop) inputs built = tt
+pub built_of : (words : Words) (first : ℕ) (disk : Option Disk) (map : List ℕ) (sources : List (List ℕ)) (r : Result Built CompileStop)
+    → Told (AreInputs words first map sources) disk → IfOk r (IsBuilt sources map) → IfOk r (IsBuiltOf words first disk)
+built_of words first disk map sources (Ok b) inputs built = record { map = map; sources = sources; inputs = inputs; built = built }
+built_of words first disk map sources (Err stop) inputs built = tt
 
-pub refused_from : (words : Words) (old new : StoreView) (map : List ℕ) (sources : List (List ℕ)) (r : Result Built CompileStop)
-    → IsBuild words
-    → KeepsAll old.disk new.disk → Told (AreInputs words 3 map sources) old.disk → IfErr r (RefusesBuild sources map)
-    → IfErr r (BuildStops words old new)
-refused_from words old new map sources (Ok b) is kept inputs refused = tt
-refused_from words old new map sources (Err (Command stop)) is kept inputs refused = absurd refused
-refused_from words old new map sources (Err (Build stop)) is kept inputs refused = record {
-  cause = (
-    is,
-    told_on (AreInputs words 3 map sources) (IsRefusedFor words 3 stop) old.disk inputs
-        (λ files there. record { map = map; sources = sources; inputs = there; cause = refused }),
-  );
-  files = kept;
-}
+pub refused_by : (words : Words) (first : ℕ) (old new : StoreView) (map : List ℕ) (sources : List (List ℕ)) (r : Result Built CompileStop)
+    → Told (AreInputs words first map sources) old.disk → IfErr r (RefusesBuild sources map) → IfErr r (StopsBuilding words first old new)
+refused_by words first old new map sources (Ok b) inputs refused = tt
+refused_by words first old new map sources (Err (Command stop)) inputs refused = absurd refused
+refused_by words first old new map sources (Err (Build stop)) inputs refused =
+    told_on (AreInputs words first map sources) (IsRefusedFor words first stop) old.disk inputs
+    (λ files there. record { map = map; sources = sources; inputs = there; cause = refused })
+
+-- ---- what `build` tells of it
+
+pub built_from : (words : Words) (first : ℕ) (disk : Option Disk) (b : Built) → IsBuiltOf words first disk b
+    → Told (IsBuiltFrom words first b) disk
+built_from words first disk b h =
+    told_on (AreInputs words first h.map h.sources) (IsBuiltFrom words first b) disk h.inputs
+    (λ files there. record { map = h.map; sources = h.sources; inputs = there; built = h.built })
+
+build_cause : (words : Words) (old new : StoreView) (stop : CompileStop) → IsBuild words → StopsBuilding words 3 old new stop
+    → BuildCause words old new stop
+build_cause words old new (Command Usage) is (inl h) = absurd h
+build_cause words old new (Command Usage) is (inr h) = absurd h
+build_cause words old new (Command (TooMany Sources)) is (inl h) = let no = h.0 in cc
+build_cause words old new (Command (TooMany Sources)) is (inr h) = absurd h
+build_cause words old new (Command CannotWrite) is (inl h) = absurd h
+build_cause words old new (Command CannotWrite) is (inr h) = absurd h
+build_cause words old new _ is h = (is, h)
+
+build_keeps : (words : Words) (old new : StoreView) (stop : CompileStop) → KeepsAll old.disk new.disk → StopsBuilding words 3 old new stop
+    → LeavesFiles words old.disk new.disk stop
+build_keeps words old new (Command CannotWrite) kept (inl h) = absurd h
+build_keeps words old new (Command CannotWrite) kept (inr h) = absurd h
+build_keeps words old new _ kept h = kept
+
+pub build_stopped : (words : Words) (old new : StoreView) (stop : CompileStop) → IsBuild words → KeepsAll old.disk new.disk
+    → StopsBuilding words 3 old new stop → BuildStops words old new stop
+build_stopped words old new stop is kept h =
+    record { cause = build_cause words old new stop is h; files = build_keeps words old new stop kept h }

@@ -28,6 +28,13 @@ pub record IsBuiltFrom (words : Words) (first : ℕ) (b : Built) (files : Files)
   pub inputs : AreInputs words first map sources files
   pub built : IsBuilt sources map b
 
+-- what was read, and built of it; where the store told its files, these hold it
+pub record IsBuiltOf (words : Words) (first : ℕ) (disk : Option Disk) (b : Built) : Type 0 where
+  pub map : List ℕ
+  pub sources : List (List ℕ)
+  pub inputs : Told (AreInputs words first map sources) disk
+  pub built : IsBuilt sources map b
+
 -- OUT holds the HEX text of the image of a program, and no other text; it denotes that image. The program is that of the
 -- named sources, placed by the named map, and from every reset state does what they say. All other files are as before
 pub record IsBuiltTo (words : Words) (old new : Disk) : Type 0 where
@@ -57,6 +64,11 @@ pub record IsRefusedFor (words : Words) (first : ℕ) (stop : BuildStop) (files 
   pub inputs : AreInputs words first map sources files
   pub cause : HasCause sources map stop
 
+-- why nothing is built of the map and the sources that the words name
+abbrev pub StopsBuilding : Words → ℕ → StoreView → StoreView → CompileStop → Type 0
+StopsBuilding words first old new (Command stop) = StopsReadingBuild words first old new stop
+StopsBuilding words first old new (Build stop) = Told (IsRefusedFor words first stop) old.disk
+
 -- there is an image
 abbrev pub HasImage : Words → ℕ → Files → Type 0
 HasImage words first files = (b : Built) × IsBuiltFrom words first b files
@@ -66,8 +78,7 @@ BuildCause words old new (Command Usage) = is_build words ≡ false
 BuildCause words old new (Command (TooMany Sources)) = (is_build words ≡ true) × (16 < words_from words 3)
 BuildCause words old new (Command CannotWrite) =
     IsBuild words × Rose old.write_faults new.write_faults × Told (HasImage words 3) old.disk
-BuildCause words old new (Command stop) = IsBuild words × StopsReadingBuild words old new stop
-BuildCause words old new (Build stop) = IsBuild words × Told (IsRefusedFor words 3 stop) old.disk
+BuildCause words old new stop = IsBuild words × StopsBuilding words 3 old new stop
 
 -- OUT holds a prefix of the HEX text of the image, and all other files are as at entry
 abbrev pub HoldsPrefix : Words → Disk → Disk → Type 0

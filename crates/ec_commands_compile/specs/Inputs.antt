@@ -1,4 +1,4 @@
--- The files that a build and an exec read, and what reading them does.
+-- The files that a build, a bound and an exec read, and what reading them does.
 use Rattle.std.specs.Prelude.{ℕ, ◌+◌, ◌≤◌, ◌≡◌, ◌⊎◌, List, ◌∷◌, length, All, Some, ⊤}
 use Rattle.std.specs.FinMap.{get}
 use Rattle.ec_io.specs.Causes.{Counted}
@@ -18,18 +18,18 @@ pub record AreInputs (words : Words) (first : ℕ) (map : List ℕ) (sources : L
   pub sources_there : HoldTexts (names_from words first) sources files
   pub sources_fit : All (λ text. length text ≤ 65536) sources
 
--- the names of the files that a build reads
-abbrev pub build_inputs : Words → List (List ℕ)
-build_inputs words = map_name words ∷ names_from words 3
+-- the names of the files that a build reads, whose sources are named from one word on
+abbrev pub build_inputs : Words → ℕ → List (List ℕ)
+build_inputs words first = map_name words ∷ names_from words first
 
 -- the map is within its limit
 abbrev pub HasMap : Words → Files → Type 0
 HasMap words = IsWithin (map_name words) 16384
 
 -- why they are not read: the map is not, or is too long; or it is not, and a source is
-abbrev pub StopsReadingBuild : Words → StoreView → StoreView → CommandError → Type 0
-StopsReadingBuild words old new stop =
-    StopsReading words 1 MapBytes old new stop ⊎ StopsReadingSources words 3 (HasMap words) 16384 old new stop
+abbrev pub StopsReadingBuild : Words → ℕ → StoreView → StoreView → CommandError → Type 0
+StopsReadingBuild words first old new stop =
+    StopsReading words 1 MapBytes old new stop ⊎ StopsReadingSources words first (HasMap words) 16384 old new stop
 
 -- ---- exec
 

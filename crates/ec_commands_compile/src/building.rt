@@ -10,7 +10,7 @@ ghost use Rattle.ec_commands.specs.declared.stop.CommandError.TheVariants.{Usage
 ghost use Rattle.ec_commands_compile.specs.Inputs.{AreInputs, build_inputs, StopsReadingBuild};
 ghost use Rattle.ec_build.specs.Builds.{IsBuilt};
 ghost use Rattle.ec_build.specs.Accepted.{IsAccepted};
-ghost use Rattle.ec_commands_compile.specs.Builds.{IsBuiltFrom, Builds, BuildStops, Accepts, FitsText, RefusesBuild};
+ghost use Rattle.ec_commands_compile.specs.Builds.{IsBuiltOf, Builds, StopsBuilding, BuildStops, Accepts, FitsText, RefusesBuild};
 ghost use Rattle.ec_commands_compile.specs.Stops.{status_of, IsNamed};
 ghost use Rattle.ec_commands_compile.specs.declared.stop.CompileStop.TheVariants.{Command};
 
@@ -29,33 +29,35 @@ pub struct Inputs {
     pub sources: Seq<Seq<u8>>,
 }
 
-/// Reads the map and the sources of `build MAP OUT SRC...`.
+/// Reads the map and the sources, which the words name from the one at `first` on.
 fn read_inputs<S: Store>(
     alloc: Global,
     words: &Vec<String>,
+    first: usize,
     store: &mut S,
 ) -> Result<Inputs, CommandError>
-    requires { IsBuild words.now.items }
+    requires map { 1 < length words.now.items }
+    requires first { first ≤ length words.now.items }
     ensures files { KeepsAll (S.disk store.old) (S.disk store.new) }
-    ensures found { IfOk result (λ r. Told (AreInputs words.now.items 3 r.map.items (texts r.sources.items))
+    ensures found { IfOk result (λ r. Told (AreInputs words.now.items first r.map.items (texts r.sources.items))
         (S.disk store.old)) }
     ensures short { IfOk result (λ r. (length r.map.items ≤ 16384)
         × All (λ text. length text ≤ 65536) (texts r.sources.items)) }
-    ensures many { IfOk result (λ r. length r.sources.items ≡ words_from words.now.items 3) }
-    ensures stopped { IfErr result (StopsReadingBuild words.now.items
+    ensures many { IfOk result (λ r. length r.sources.items ≡ words_from words.now.items first) }
+    ensures stopped { IfErr result (StopsReadingBuild words.now.items first
         (store_view (S.disk store.old) (S.read_faults store.old) (S.write_faults store.old) (S.received store.old) (S.missed store.old))
         (store_view (S.disk store.new) (S.read_faults store.new) (S.write_faults store.new) (S.received store.new) (S.missed store.new))) }
     ensures later { S.read_faults store.old ≤ S.read_faults store.new }
     ensures write_faults { S.write_faults store.new ≡ S.write_faults store.old }
-    ensures calm { (made : List ℕ) (room : ℕ) → S.calm store.old (build_inputs words.now.items) made room
+    ensures calm { (made : List ℕ) (room : ℕ) → S.calm store.old (build_inputs words.now.items first) made room
         → (S.read_faults store.new ≡ S.read_faults store.old)
-        × S.calm store.new (build_inputs words.now.items) made room }
+        × S.calm store.new (build_inputs words.now.items first) made room }
 {
     let map = match read(alloc, store, words, 1, Limit::MapBytes) {
         Ok(map) => map,
         Err(stop) => return Err(stop),
     };
-    match read_sources(alloc, store, words, 3) {
+    match read_sources(alloc, store, words, first) {
         Ok(sources) => Ok(Inputs { map, sources }),
         Err(stop) => Err(stop),
     }
@@ -78,29 +80,32 @@ pub fn compile(alloc: Global, inputs: &Inputs) -> Result<Built, CompileStop>
     }
 }
 
-/// Reads the map and the sources of `build MAP OUT SRC...`, and builds them.
-fn read_and_build<S: Store>(
+/// Reads the map and the sources, which the words name from the one at `first` on, and builds them.
+pub fn read_and_build<S: Store>(
     alloc: Global,
     words: &Vec<String>,
+    first: usize,
     store: &mut S,
 ) -> Result<Built, CompileStop>
-    requires { IsBuild words.now.items }
+    requires map { 1 < length words.now.items }
+    requires some { first < length words.now.items }
+    requires few { words_from words.now.items first ≤ 16 }
     ensures files { KeepsAll (S.disk store.old) (S.disk store.new) }
-    ensures found { IfOk result (λ b. Told (IsBuiltFrom words.now.items 3 b) (S.disk store.old)) }
-    ensures stopped { IfErr result (BuildStops words.now.items
+    ensures found { IfOk result (IsBuiltOf words.now.items first (S.disk store.old)) }
+    ensures stopped { IfErr result (StopsBuilding words.now.items first
         (store_view (S.disk store.old) (S.read_faults store.old) (S.write_faults store.old) (S.received store.old) (S.missed store.old))
         (store_view (S.disk store.new) (S.read_faults store.new) (S.write_faults store.new) (S.received store.new) (S.missed store.new))) }
     ensures named { IfErr result (IsNamed words.now.items) }
-    ensures complete { Accepts words.now.items 3 (S.disk store.old)
+    ensures complete { Accepts words.now.items first (S.disk store.old)
         → ¬ (Rose (S.read_faults store.old) (S.read_faults store.new))
         → IfErr result (λ stop. status_of stop ≡ 11) }
     ensures later { S.read_faults store.old ≤ S.read_faults store.new }
     ensures write_faults { S.write_faults store.new ≡ S.write_faults store.old }
-    ensures calm { (made : List ℕ) (room : ℕ) → S.calm store.old (build_inputs words.now.items) made room
+    ensures calm { (made : List ℕ) (room : ℕ) → S.calm store.old (build_inputs words.now.items first) made room
         → (S.read_faults store.new ≡ S.read_faults store.old)
-        × S.calm store.new (build_inputs words.now.items) made room }
+        × S.calm store.new (build_inputs words.now.items first) made room }
 {
-    let inputs = match read_inputs(alloc, words, store) {
+    let inputs = match read_inputs(alloc, words, first, store) {
         Ok(inputs) => inputs,
         Err(stop) => return Err(CompileStop::Command(stop)),
     };
@@ -121,11 +126,11 @@ fn build_few<S: Store>(alloc: Global, words: &Vec<String>, store: &mut S) -> Res
         → IfErr result (λ stop. status_of stop ≡ 11) }
     ensures later { (S.read_faults store.old ≤ S.read_faults store.new)
         × (S.write_faults store.old ≤ S.write_faults store.new) }
-    ensures calm { (room : ℕ) → S.calm store.old (build_inputs words.now.items) (out_name words.now.items) room
+    ensures calm { (room : ℕ) → S.calm store.old (build_inputs words.now.items 3) (out_name words.now.items) room
         → FitsText words.now.items (S.disk store.old) room
         → (S.read_faults store.new ≡ S.read_faults store.old) × (S.write_faults store.new ≡ S.write_faults store.old) }
 {
-    let built = match read_and_build(alloc, words, store) {
+    let built = match read_and_build(alloc, words, 3, store) {
         Ok(built) => built,
         Err(stop) => return Err(stop),
     };
@@ -155,7 +160,7 @@ pub fn build<S: Store>(alloc: Global, words: &Vec<String>, store: &mut S) -> Res
         → IfErr result (λ stop. status_of stop ≡ 11) }
     ensures later { (S.read_faults store.old ≤ S.read_faults store.new)
         × (S.write_faults store.old ≤ S.write_faults store.new) }
-    ensures calm { (room : ℕ) → S.calm store.old (build_inputs words.now.items) (out_name words.now.items) room
+    ensures calm { (room : ℕ) → S.calm store.old (build_inputs words.now.items 3) (out_name words.now.items) room
         → FitsText words.now.items (S.disk store.old) room
         → (S.read_faults store.new ≡ S.read_faults store.old) × (S.write_faults store.new ≡ S.write_faults store.old) }
 {

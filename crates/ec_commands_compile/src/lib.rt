@@ -11,8 +11,9 @@ mod line;
 mod stop;
 
 pub use answer::conclude;
-pub use building::build;
+pub use building::{build, read_and_build};
 pub use executing::exec;
 pub use generating::run_generated;
 pub use laws::builds_have_one_text;
+pub use line::{name_at, tell_stop};
 pub use stop::{CompileStop, status};

@@ -18,7 +18,7 @@ use ec_map::MapStop;
 use ec_parse::ParseStop;
 
 /// The bytes of the word at `i`, none past the last.
-fn name_at(words: &Vec<String>, i: usize) -> &[u8]
+pub fn name_at(words: &Vec<String>, i: usize) -> &[u8]
     ensures { result.now ≡ word words.now.items i }
 {
     match words.get(i) {

@@ -1,5 +1,5 @@
 -- No listing and no assembly answers that its words are none.
-use Rattle.std.proofs.Common.{◌≡◌, ◌≢◌, refl, arith, subst, inl, inr}
+use Rattle.std.proofs.Common.{◌≡◌, ◌≢◌, subst, inl, inr}
 use Rattle.ec_space.specs.declared.Core.{Core}
 use Rattle.ec_io.specs.Views.{StoreView, SinkCall}
 use Rattle.ec_hex.specs.declared.read.HexStop.{HexStop}
@@ -9,25 +9,9 @@ use Rattle.ec_commands.specs.Stops.{status_of}
 use Rattle.ec_commands.specs.Words.{Words}
 use Rattle.ec_commands.specs.declared.stop.CommandError.{CommandError}
 use Rattle.ec_commands.specs.declared.stop.CommandError.TheVariants as stops
+use Rattle.ec_commands.proofs.Usage.{two_is_usage}
 use Rattle.ec_commands_list.specs.Listings.{ListStops}
 use Rattle.ec_commands_list.specs.Assemblies.{AssembleStops}
-
--- the status 2 is that of one stop
-two_is_usage : (stop : CommandError) → status_of stop ≡ 2 → stop ≡ stops.Usage
-two_is_usage stops.Usage e = refl
-two_is_usage (stops.CannotRead i) e = absurd (omega (arith, e))
-two_is_usage stops.CannotWrite e = absurd (omega (arith, e))
-two_is_usage (stops.TooMany limit) e = absurd (omega (arith, e))
-two_is_usage stops.NoMemory e = absurd (omega (arith, e))
-two_is_usage (stops.BadRecord line) e = absurd (omega (arith, e))
-two_is_usage (stops.BadSum line) e = absurd (omega (arith, e))
-two_is_usage (stops.OutOfFlash line) e = absurd (omega (arith, e))
-two_is_usage (stops.Twice line) e = absurd (omega (arith, e))
-two_is_usage stops.NoEnd e = absurd (omega (arith, e))
-two_is_usage (stops.ScriptLine line rule) e = absurd (omega (arith, e))
-two_is_usage (stops.AsmLine line rule) e = absurd (omega (arith, e))
-two_is_usage (stops.Fault kind pc) e = absurd (omega (arith, e))
-two_is_usage stops.StepsOut e = absurd (omega (arith, e))
 
 hex_not : (why : HexStop) → stops.Usage ≢ hex_stop why
 hex_not (hex_stops.BadRecord line) = λ e. cc

@@ -13,14 +13,14 @@ returns-in-Ok-read_sources-clause-calm g c = λ made room calm.
     let words = c.args.words.now.items in
     let map = c.in-Ok.ensures.calm _ made room calm (0, omega arith, refl) in
     let sources =
-    c.in-Ok-read_sources.ensures.calm _ made room map.1 (λ name has. contains_behind (map_name words) (names_from words 3) name has) in
+    c.in-Ok-read_sources.ensures.calm _ made room map.1 (λ name has. contains_behind (map_name words) (names_from words c.args.first) name has) in
     (sources.0 ∙ map.0, sources.1)
 
 pub returns-in-Err-read_sources-clause-stopped : goal.returns-in-Err-read_sources-clause-stopped
 returns-in-Err-read_sources-clause-stopped g c =
     let words = c.args.words.now.items in
     let map = c.in-Ok.map.items in
-    inr (stops_behind words 3 (λ files. get files (word words 1) ≡ Some map) (λ _. ⊤) (HasMap words) 16384 0 (length map)
+    inr (stops_behind words c.args.first (λ files. get files (word words 1) ≡ Some map) (λ _. ⊤) (HasMap words) 16384 0 (length map)
     (store_view (g.S.Store.disk c.args.store.now) (g.S.Store.read_faults c.args.store.now) (g.S.Store.write_faults c.args.store.now)
     (g.S.Store.received c.args.store.now) (g.S.Store.missed c.args.store.now))
     (store_view (g.S.Store.disk c.read.new.store) (g.S.Store.read_faults c.read.new.store) (g.S.Store.write_faults c.read.new.store)
@@ -36,5 +36,5 @@ returns-in-Err-read_sources-clause-calm g c = λ made room calm.
     let words = c.args.words.now.items in
     let map = c.in-Ok.ensures.calm _ made room calm (0, omega arith, refl) in
     let sources =
-    c.in-Err-read_sources.ensures.calm _ made room map.1 (λ name has. contains_behind (map_name words) (names_from words 3) name has) in
+    c.in-Err-read_sources.ensures.calm _ made room map.1 (λ name has. contains_behind (map_name words) (names_from words c.args.first) name has) in
     (sources.0 ∙ map.0, sources.1)
