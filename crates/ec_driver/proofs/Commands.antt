@@ -12,6 +12,10 @@ use Rattle.ec_driver.specs.Commands.{Does}
 use Rattle.ec_commands_compile.specs.Builds.{BuildStops}
 use Rattle.ec_commands_compile.specs.Execs.{ExecStops}
 use Rattle.ec_commands_compile.specs.Gens.{GenStops}
+use Rattle.ec_commands_bound.proofs.Usage as bounding_stops
+use Rattle.ec_commands_bound.specs.Stops as bounding
+use Rattle.ec_commands_bound.specs.declared.stop.StepsStop.{StepsStop}
+use Rattle.ec_commands_bound.specs.declared.stop.StepsStop.TheVariants.{Compile}
 use Rattle.ec_commands_compile.proofs.RunGen.{no_gen_usage}
 use Rattle.ec_commands_compile.proofs.Statuses.{never_zero}
 use Rattle.ec_commands_compile.proofs.Usage.{build_not, no_usage}
@@ -85,6 +89,11 @@ exec_no_usage words steps hooks old new out stop h e = no_usage words steps hook
 pub gen_no_usage : (n : ℕ) (hooks : Gives) (out : SinkCall) → NotUsage (GenStops n hooks out)
 gen_no_usage n hooks out stop h e = no_gen_usage n hooks out stop h e
 
+-- the answer of a bound is told
+abbrev pub IsToldBound : Words → ℕ → SinkCall → (ℕ → Type 0) → Result Unit StepsStop → ℕ → Type 0
+IsToldBound words first err calm r status =
+    IfErr r (λ stop. IsTold (bounding.status_of stop) (bounding.line_of words first stop) err calm status)
+
 -- too many sources are told as such
 pub told_ten : (words : Words) (first : ℕ) (err : SinkCall) (calm : ℕ → Type 0) (r : Result Unit CompileStop) (status : ℕ)
     → IsErrOf r (stops.Command (commands.TooMany limits.Sources)) → IsToldOf words first err calm r status → status ≡ 10
@@ -99,3 +108,16 @@ pub quiet_of : {A : Type 0} (words : Words) (first : ℕ) (err : SinkCall) (calm
     → OnOk r ((status ≡ 0) × (new ≡ old)) → IsToldOf words first err calm r status → status ≡ 0 → new ≡ old
 quiet_of words first err calm new old (Ok x) status done told e = done.1
 quiet_of words first err calm new old (Err stop) status done told e = absurd (never_zero stop (sym told.is ∙ e))
+
+pub bound_told_ten : (words : Words) (first : ℕ) (err : SinkCall) (calm : ℕ → Type 0) (r : Result Unit StepsStop) (status : ℕ)
+    → IsErrOf r (Compile (stops.Command (commands.TooMany limits.Sources))) → IsToldBound words first err calm r status → status ≡ 10
+bound_told_ten words first err calm (Ok x) status many told = cc
+bound_told_ten words first err calm (Err stop) status many told =
+    let same : stop ≡ Compile (stops.Command (commands.TooMany limits.Sources)) = cc in
+    told.is ∙ ap bounding.status_of same
+
+pub bound_quiet : {A : Type 0} (words : Words) (first : ℕ) (err : SinkCall) (calm : ℕ → Type 0) (new old : A)
+    (r : Result Unit StepsStop) (status : ℕ)
+    → OnOk r ((status ≡ 0) × (new ≡ old)) → IsToldBound words first err calm r status → status ≡ 0 → new ≡ old
+bound_quiet words first err calm new old (Ok x) status done told e = done.1
+bound_quiet words first err calm new old (Err stop) status done told e = absurd (bounding_stops.never_zero stop (sym told.is ∙ e))

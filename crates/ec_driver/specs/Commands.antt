@@ -8,10 +8,12 @@ use Rattle.ec_commands.specs.Shown.{KeepsAll}
 use Rattle.ec_commands.specs.Stops as commands
 use Rattle.ec_commands.specs.Words.{Words, words_from, out_name, hex_name, script_name, listed_name, assembled_name}
 use Rattle.ec_commands.specs.declared.words.Command.{Command}
-use Rattle.ec_commands.specs.declared.words.Command.TheVariants.{Build, Run, Exec, Gen, List as ListImage, Assemble, NoCommand}
+use Rattle.ec_commands.specs.declared.words.Command.TheVariants.{Build, Run, Exec, Gen, List as ListImage, Assemble, Bound, NoCommand}
 use Rattle.ec_commands.specs.declared.stop.CommandError.TheVariants.{Usage}
 use Rattle.ec_commands_list.specs.Listings.{Listed, ListStops, CanList, FitsListing}
 use Rattle.ec_commands_list.specs.Assemblies.{assemble_inputs, Assembles, AssembleStops, CanAssemble, FitsHex}
+use Rattle.ec_commands_bound.specs.Bounds.{Bounded, BoundStops, IsUnbounded, FitsSteps}
+use Rattle.ec_commands_bound.specs.Stops as bounding
 use Rattle.ec_commands_compile.specs.Builds.{Builds, BuildStops, Accepts, FitsText}
 use Rattle.ec_commands_compile.specs.Execs.{Executed, ExecStops, AcceptsExec, FitsExec}
 use Rattle.ec_commands_compile.specs.Gens.{Generated, GenStops, AcceptsGen, FitsGen}
@@ -26,6 +28,7 @@ run_inputs words = hex_name words ∷ script_name words ∷ []
 abbrev pub sources_of : Command → Words → ℕ
 sources_of Build words = words_from words 3
 sources_of (Exec steps) words = words_from words 4
+sources_of Bound words = words_from words 2
 sources_of _ words = 0
 
 -- whether a command may call the store
@@ -36,6 +39,7 @@ uses_files (Exec steps) = true
 uses_files (Gen n) = false
 uses_files (ListImage core) = true
 uses_files (Assemble core) = true
+uses_files Bound = true
 uses_files NoCommand = false
 
 -- whether a command may print
@@ -46,6 +50,7 @@ prints (Exec steps) = true
 prints (Gen n) = true
 prints (ListImage core) = true
 prints (Assemble core) = false
+prints Bound = true
 prints NoCommand = false
 
 -- whether a command may ask the hooks
@@ -56,13 +61,15 @@ asks (Exec steps) = true
 asks (Gen n) = true
 asks (ListImage core) = false
 asks (Assemble core) = false
+asks Bound = false
 asks NoCommand = false
 
 -- Each answer has its cause. 0 of a build: OUT denotes the image of the program of the sources, which does what they
 -- say. 0 of a run or an exec: `out` received the lines and the result of the run. 0 of a gen: `out` received the result of
 -- the run of the generated program, and how often it wrote ports. 0 of a list: `out` received the listing of the image that
--- the HEX file denotes. 0 of an assemble: OUT denotes the image that the listing file lists. Words that are no command are
--- told, and nothing else.
+-- the HEX file denotes. 0 of an assemble: OUT denotes the image that the listing file lists. 0 of a bound: `out` received a
+-- number of steps within which the machine ends, with each image that a build makes of the sources and the map. Words that
+-- are no command are told, and nothing else.
 abbrev pub Answered : Command → Words → Gives → StoreView → StoreView → SinkCall → SinkCall → (ℕ → Type 0) → ℕ → Type 0
 Answered Build words hooks before after out err calm status =
     Answers compiling.status_of (compiling.line_of words 3) err calm (Builds words before.disk after.disk)
@@ -82,11 +89,15 @@ Answered (ListImage core) words hooks before after out err calm status =
 Answered (Assemble core) words hooks before after out err calm status =
     Answers commands.status_of (commands.line_of words) err calm (Assembles words core before.disk after.disk)
     (AssembleStops words core before after) status
+Answered Bound words hooks before after out err calm status =
+    Answers bounding.status_of (bounding.line_of words 2) err calm (Bounded words before.disk out)
+    (BoundStops words before after out) status
 Answered NoCommand words hooks before after out err calm status =
     Answers commands.status_of (commands.line_of words) err calm ⊥ (λ stop. stop ≡ Usage) status
 
 -- What is accepted is done unless memory runs out, where no call failed. A run then ends at BREAK, at a fault of the
--- machine (13) or after its steps (14)
+-- machine (13) or after its steps (14); of a program with a loop that is not counted (16), or with a number of steps that 64
+-- bits do not hold (17), no number is told
 abbrev pub Completed : Command → Words → StoreView → StoreView → SinkCall → ℕ → Type 0
 Completed Build words before after out status =
     words_from words 3 ≤ 16 → Accepts words 3 before.disk → ¬ (Rose before.read_faults after.read_faults)
@@ -105,12 +116,15 @@ Completed (ListImage core) words before after out status =
 Completed (Assemble core) words before after out status =
     CanAssemble words core before.disk → ¬ (Rose before.read_faults after.read_faults)
     → ¬ (Rose before.write_faults after.write_faults) → (status ≡ 0) ⊎ (status ≡ 11)
+Completed Bound words before after out status =
+    words_from words 2 ≤ 16 → Accepts words 2 before.disk → ¬ (Rose before.read_faults after.read_faults)
+    → ¬ (Rose out.faults_before out.faults_after) → (status ≡ 0) ⊎ IsUnbounded status
 Completed NoCommand words before after out status = ⊤
 
 -- over a store that is calm for the files of a command and the whole text no call fails
 abbrev pub KeepsStoreCalm : Command → Words → StoreView → StoreView → (List (List ℕ) → List ℕ → ℕ → Type 0) → Type 0
 KeepsStoreCalm Build words before after calm =
-    (room : ℕ) → calm (build_inputs words) (out_name words) room → FitsText words before.disk room
+    (room : ℕ) → calm (build_inputs words 3) (out_name words) room → FitsText words before.disk room
     → NoFault before after
 KeepsStoreCalm (Run steps fill) words before after calm =
     (made : List ℕ) (room : ℕ) → calm (run_inputs words) made room → NoFault before after
@@ -122,6 +136,8 @@ KeepsStoreCalm (ListImage core) words before after calm =
 KeepsStoreCalm (Assemble core) words before after calm =
     (room : ℕ) → calm (assemble_inputs words) (assembled_name words) room → FitsHex words core before.disk room
     → NoFault before after
+KeepsStoreCalm Bound words before after calm =
+    (made : List ℕ) (room : ℕ) → calm (build_inputs words 2) made room → NoFault before after
 KeepsStoreCalm NoCommand words before after calm = NoFault before after
 
 -- over an `out` that is calm for all that a command prints no write fails
@@ -136,10 +152,12 @@ KeepsOutCalm (Gen n) words hooks before out calm =
 KeepsOutCalm (ListImage core) words hooks before out calm =
     (room : ℕ) → calm room → FitsListing words core before.disk room → out.faults_after ≡ out.faults_before
 KeepsOutCalm (Assemble core) words hooks before out calm = out.faults_after ≡ out.faults_before
+KeepsOutCalm Bound words hooks before out calm =
+    (room : ℕ) → calm room → FitsSteps words before.disk room → out.faults_after ≡ out.faults_before
 KeepsOutCalm NoCommand words hooks before out calm = out.faults_after ≡ out.faults_before
 
--- what a command leaves as it was, besides what its answer says: a run, an exec and a list change no file, and create and
--- write none
+-- what a command leaves as it was, besides what its answer says: a run, an exec, a list and a bound change no file, and
+-- create and write none
 abbrev pub Kept : Command → StoreView → StoreView → Type 0
 Kept Build before after = ⊤
 Kept (Run steps fill) before after = KeepsAll before.disk after.disk × (after.write_faults ≡ before.write_faults)
@@ -147,6 +165,7 @@ Kept (Exec steps) before after = KeepsAll before.disk after.disk × (after.write
 Kept (Gen n) before after = after ≡ before
 Kept (ListImage core) before after = KeepsAll before.disk after.disk × (after.write_faults ≡ before.write_faults)
 Kept (Assemble core) before after = ⊤
+Kept Bound before after = KeepsAll before.disk after.disk × (after.write_faults ≡ before.write_faults)
 Kept NoCommand before after = after ≡ before
 
 -- all of it

@@ -7,6 +7,7 @@ ghost use Rattle.ec_commands.specs.declared.words.Command.TheVariants.{NoCommand
 ghost use Rattle.ec_driver.specs.Commands.{Does, prints, asks, uses_files, sources_of};
 
 use ec_commands::{Command, CommandError, Compiling, command_of, conclude, first_source, run};
+use ec_commands_bound::{bound, conclude as conclude_bound};
 use ec_commands_compile::{build, conclude as conclude_compiling, exec, run_generated};
 use ec_commands_list::{assemble, list};
 use ec_emu::Ports;
@@ -21,8 +22,9 @@ use std::alloc::Global;
 /// access of a port is printed on `out`, and at BREAK the result. `exec MAP SCRIPT STEPS SRC...` builds, and runs that
 /// image with FILL 165. `gen N` builds and runs the generated program for N so, and prints its result and how often it
 /// wrote ports. `list CORE HEX` prints the listing of the image of a HEX file, and `assemble CORE ASM OUT` writes the
-/// Intel HEX text of the image that a listing lists to OUT. A stop is told on `err` by one line, and a failed write there
-/// does not change the status.
+/// Intel HEX text of the image that a listing lists to OUT. `bound MAP SRC...` builds, and prints a number of steps within
+/// which the machine with that image ends. A stop is told on `err` by one line, and a failed write there does not change the
+/// status.
 pub fn tool<S: Store, O: Sink, E: Sink, H: Ports>(
     alloc: Global,
     words: &Vec<String>,
@@ -87,6 +89,10 @@ pub fn tool<S: Store, O: Sink, E: Sink, H: Ports>(
         Command::Assemble { core } => {
             let assembled = assemble(alloc, words, core, store);
             conclude(err, words, assembled)
+        }
+        Command::Bound => {
+            let bounded = bound(alloc, words, store, out);
+            conclude_bound(err, words, first_source(Compiling::Bound), bounded)
         }
         Command::NoCommand => conclude(err, words, Err(CommandError::Usage)),
     }

@@ -4,12 +4,15 @@ use Rattle.ec_commands.specs.Answers.{IsLeft}
 use Rattle.ec_commands.specs.Command.{command_of}
 use Rattle.ec_commands.specs.Stops as commands
 use Rattle.ec_commands.specs.declared.stop.CommandError.TheVariants.{Usage}
+use Rattle.ec_commands_bound.specs.Bounds.{IsUnbounded}
+use Rattle.ec_commands_bound.specs.Stops as bounding
+use Rattle.ec_commands_bound.proofs.Usage.{bound_no_usage}
 use Rattle.ec_commands_compile.specs.Stops as compiling
 use Rattle.ec_commands.proofs.RunComplete.{by_status, left_of}
 use Rattle.ec_commands_list.proofs.Usage.{list_no_usage, assemble_no_usage}
 use Rattle.ec_driver.specs.Commands.{prints, asks, uses_files, sources_of}
 use Rattle.ec_driver.proofs.Commands.{does_at, answer_of, err_map, no_two_of, no_two, build_no_usage, exec_no_usage, gen_no_usage}
-use Rattle.ec_driver.proofs.Commands.{told_ten, quiet_of}
+use Rattle.ec_driver.proofs.Commands.{told_ten, quiet_of, bound_told_ten}
 use Rattle.ec_driver.proofs.top.tool.Goals as goal
 
 -- ---- build
@@ -263,6 +266,52 @@ pub returns-in-Assemble-clause-sources : goal.returns-in-Assemble-clause-sources
 returns-in-Assemble-clause-sources g c = λ several.
     let none : 16 < 0 = subst (λ command. 16 < sources_of command c.args.words.now.items) (sym c.in-Assemble.ensures.value) several in
     absurd (omega (arith, none))
+
+-- ---- bound
+
+pub returns-in-Bound-clause-done : goal.returns-in-Bound-clause-done
+returns-in-Bound-clause-done g c =
+    does_at _ (command_of c.args.words.now.items) c.in-Bound.ensures.value (record {
+      answered = answer_of bounding.status_of (bounding.line_of c.args.words.now.items 2) _ _ _ _ _ c.bound-bounded.result
+          c.conclude-in-Bound.result c.conclude-in-Bound.ensures.done (rw c.first_source-in-Bound.ensures at
+          c.conclude-in-Bound.ensures.told) c.bound-bounded.ensures.bounded c.bound-bounded.ensures.stopped;
+      complete = λ few accepts calm out_calm.
+          by_status bounding.status_of (bounding.line_of c.args.words.now.items 2) IsUnbounded _ _ _ c.bound-bounded.result
+          c.conclude-in-Bound.result c.conclude-in-Bound.ensures.done (rw c.first_source-in-Bound.ensures at
+          c.conclude-in-Bound.ensures.told) (c.bound-bounded.ensures.complete few accepts calm out_calm);
+      store_unfailing = λ made room calm. (c.bound-bounded.ensures.calm made room calm, c.bound-bounded.ensures.write_faults);
+      out_unfailing = λ room calm fits. c.bound-bounded.ensures.out_calm room calm fits;
+      kept = (c.bound-bounded.ensures.files, c.bound-bounded.ensures.write_faults);
+    })
+
+pub returns-in-Bound-clause-unprinted : goal.returns-in-Bound-clause-unprinted
+returns-in-Bound-clause-unprinted g c = λ e. let no = ap prints c.in-Bound.ensures.value ∙ e in cc
+
+pub returns-in-Bound-clause-idle : goal.returns-in-Bound-clause-idle
+returns-in-Bound-clause-idle g c = λ e. let no = ap uses_files c.in-Bound.ensures.value ∙ e in cc
+
+pub returns-in-Bound-clause-usage : goal.returns-in-Bound-clause-usage
+returns-in-Bound-clause-usage g c = (
+  λ two. absurd (no_two_of bounding.status_of (bounding.line_of c.args.words.now.items 2) _ _ _ _ c.bound-bounded.result
+      c.conclude-in-Bound.result (bound_no_usage c.args.words.now.items
+      (store_view (g.S.Store.disk c.args.store.now) (g.S.Store.read_faults c.args.store.now) (g.S.Store.write_faults c.args.store.now)
+      (g.S.Store.received c.args.store.now) (g.S.Store.missed c.args.store.now))
+      (store_view (g.S.Store.disk c.bound-bounded.new.store) (g.S.Store.read_faults c.bound-bounded.new.store)
+      (g.S.Store.write_faults c.bound-bounded.new.store) (g.S.Store.received c.bound-bounded.new.store)
+      (g.S.Store.missed c.bound-bounded.new.store))
+      (sink_call (g.O.Sink.written c.args.out.now) (g.O.Sink.written c.bound-bounded.new.out) (g.O.Sink.faults c.args.out.now)
+      (g.O.Sink.faults c.bound-bounded.new.out)))
+      c.conclude-in-Bound.ensures.done (rw c.first_source-in-Bound.ensures at c.conclude-in-Bound.ensures.told)
+      c.bound-bounded.ensures.stopped two),
+  λ none. let no = c.in-Bound.ensures.value ∙ none in cc,
+)
+
+pub returns-in-Bound-clause-sources : goal.returns-in-Bound-clause-sources
+returns-in-Bound-clause-sources g c = λ several.
+    bound_told_ten c.args.words.now.items 2 _ _ c.bound-bounded.result c.conclude-in-Bound.result
+    (c.bound-bounded.ensures.sources
+    (subst (λ command. 16 < sources_of command c.args.words.now.items) (sym c.in-Bound.ensures.value) several)) (rw
+    c.first_source-in-Bound.ensures at c.conclude-in-Bound.ensures.told)
 
 -- ---- no command
 

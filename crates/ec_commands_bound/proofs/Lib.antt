@@ -1,0 +1,4 @@
+-- For the crates of the family.
+pub mod Usage
+-- For this crate alone.
+mod Numbers
