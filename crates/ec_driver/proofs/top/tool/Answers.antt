@@ -12,7 +12,7 @@ use Rattle.ec_commands.proofs.RunComplete.{by_status, left_of}
 use Rattle.ec_commands_list.proofs.Usage.{list_no_usage, assemble_no_usage}
 use Rattle.ec_driver.specs.Commands.{prints, asks, uses_files, sources_of}
 use Rattle.ec_driver.proofs.Commands.{does_at, answer_of, err_map, no_two_of, no_two, build_no_usage, exec_no_usage, gen_no_usage}
-use Rattle.ec_driver.proofs.Commands.{told_ten, quiet_of, bound_told_ten}
+use Rattle.ec_driver.proofs.Commands.{told_ten, quiet_of, bound_told_ten, bound_quiet}
 use Rattle.ec_driver.proofs.top.tool.Goals as goal
 
 -- ---- build
@@ -289,6 +289,11 @@ returns-in-Bound-clause-unprinted g c = λ e. let no = ap prints c.in-Bound.ensu
 
 pub returns-in-Bound-clause-idle : goal.returns-in-Bound-clause-idle
 returns-in-Bound-clause-idle g c = λ e. let no = ap uses_files c.in-Bound.ensures.value ∙ e in cc
+
+pub returns-in-Bound-clause-quiet : goal.returns-in-Bound-clause-quiet
+returns-in-Bound-clause-quiet g c =
+    bound_quiet c.args.words.now.items 2 _ _ _ _ c.bound-bounded.result c.conclude-in-Bound.result c.conclude-in-Bound.ensures.done
+    (rw c.first_source-in-Bound.ensures at c.conclude-in-Bound.ensures.told)
 
 pub returns-in-Bound-clause-usage : goal.returns-in-Bound-clause-usage
 returns-in-Bound-clause-usage g c = (
