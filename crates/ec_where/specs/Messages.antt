@@ -8,10 +8,10 @@ use Rattle.ec_parse_laws.specs.Refusals.{StopsBehind}
 use Rattle.ec_where_expected.specs.Expected.{AreStanding}
 use Rattle.ec_where_expected.specs.Listed.{listed}
 use Rattle.ec_where_lines.specs.declared.fault.TokenFault.{TokenFault}
-use Rattle.ec_where_lines.specs.declared.fault.TokenFault.TheVariants.{Syntax, Constraint}
+use Rattle.ec_where_lines.specs.declared.fault.TokenFault.TheVariants.{Syntax, Constraint, Uncounted, Undefined}
 use Rattle.ec_where_lines.specs.declared.fault.Fault.{Fault}
 use Rattle.ec_where_lines.specs.declared.fault.Fault.TheVariants.{Byte, Token}
-use Rattle.ec_where_lines.specs.declared.rules.TheConstants.{CONSTRAINTS, SYNTAX}
+use Rattle.ec_where_lines.specs.declared.rules.TheConstants.{CONSTRAINTS, POINTS, SYNTAX, UNCOUNTED}
 use Rattle.ec_where_lines.specs.declared.words.TheConstants.{NAMES, RESERVED}
 use Rattle.ec_where_lines.specs.Advice.{byte_message, undeclared, word_run}
 use Rattle.ec_where_lines.specs.Parts.{look_up, row_of}
@@ -46,6 +46,8 @@ or_constraint None rule = row_of (map (λ x. x.now) CONSTRAINTS) rule
 abbrev pub known_text : TokenFault → Lexeme → List ℕ → Option (List ℕ)
 known_text Syntax lexeme word = known_word lexeme word
 known_text (Constraint rule) lexeme word = or_constraint (undeclared_at rule lexeme word) rule
+known_text Uncounted lexeme word = Some UNCOUNTED.now
+known_text (Undefined point) lexeme word = row_of (map (λ x. x.now) POINTS) point
 
 -- the message lists the kinds of tokens that may stand behind the first k, which are just those with which a program
 -- still begins, behind a hint, which may be empty

@@ -36,6 +36,7 @@ fn names_of(words: &[String]) -> FileNames<'_> {
         map: "map",
         hex: "hex",
         script: "script",
+        listing: "listing",
     };
     match words {
         [command, hex, script, ..] if command.as_str() == "run" => FileNames {
@@ -43,8 +44,16 @@ fn names_of(words: &[String]) -> FileNames<'_> {
             script: script.as_str(),
             ..names
         },
-        [command, map, ..] if command.as_str() == "build" => FileNames {
+        [command, map, ..] if matches!(command.as_str(), "build" | "bound") => FileNames {
             map: map.as_str(),
+            ..names
+        },
+        [command, _, hex] if command.as_str() == "list" => FileNames {
+            hex: hex.as_str(),
+            ..names
+        },
+        [command, _, listing, _] if command.as_str() == "assemble" => FileNames {
+            listing: listing.as_str(),
             ..names
         },
         [command, map, script, ..] if command.as_str() == "exec" => FileNames {
@@ -59,6 +68,7 @@ fn names_of(words: &[String]) -> FileNames<'_> {
 /// The names of the sources that the words of a call of the tool give.
 fn sources_of(words: &[String]) -> &[String] {
     match words {
+        [command, _, sources @ ..] if command.as_str() == "bound" => sources,
         [command, _, _, sources @ ..] if command.as_str() == "build" => sources,
         [command, _, _, _, sources @ ..] if command.as_str() == "exec" => sources,
         _ => &[],

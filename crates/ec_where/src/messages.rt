@@ -13,8 +13,8 @@ use ec_parse::{ParseStop, discard_tree, parse};
 use ec_space::Seq;
 use ec_where_expected::{listed, standing};
 use ec_where_lines::{
-    CONSTRAINTS, Fault, NAMES, RESERVED, SYNTAX, TokenFault, byte_message, look_up, row,
-    undeclared, word_run,
+    CONSTRAINTS, Fault, NAMES, POINTS, RESERVED, SYNTAX, TokenFault, UNCOUNTED, byte_message,
+    look_up, row, undeclared, word_run,
 };
 use std::alloc::Global;
 
@@ -85,6 +85,8 @@ fn fixed_message(fault: TokenFault, kind: &TokenKind, word: &[u8]) -> Option<&'s
     match fault {
         TokenFault::Syntax => word_message(kind, word),
         TokenFault::Constraint(rule) => or_constraint(undeclared_message(rule, kind, word), rule),
+        TokenFault::Uncounted => Some(UNCOUNTED),
+        TokenFault::Undefined(point) => row(&POINTS, point),
     }
 }
 

@@ -5,7 +5,7 @@ use Rattle.std.specs.Option.{option_and_then}
 use Rattle.ec_where_lines.specs.declared.fault.ByteFault.{ByteFault}
 use Rattle.ec_where_lines.specs.declared.fault.ByteFault.TheVariants.{BadByte, BadNumber, Unclosed, BadDirective}
 use Rattle.ec_where_lines.specs.declared.fault.TokenFault.{TokenFault}
-use Rattle.ec_where_lines.specs.declared.fault.TokenFault.TheVariants.{Syntax, Constraint}
+use Rattle.ec_where_lines.specs.declared.fault.TokenFault.TheVariants.{Syntax, Constraint, Uncounted, Undefined}
 use Rattle.ec_where_lines.specs.declared.fault.Fault.{Fault}
 use Rattle.ec_where_lines.specs.declared.fault.Fault.TheVariants.{Byte, Token}
 use Rattle.ec_where_lines.specs.Parts.{around_last, behind, number_of}
@@ -44,6 +44,9 @@ abbrev pub AreTokenWords : List ℕ → TokenFault → Type 0
 AreTokenWords words Syntax = words ≡ codes "syntax"
 AreTokenWords words (Constraint rule) =
     (digits : List ℕ) × (number_of digits ≡ Some rule) × (1 ≤ rule) × (rule ≤ 40) × (words ≡ codes "constraint " ++ digits)
+AreTokenWords words Uncounted = words ≡ codes "loop not counted"
+AreTokenWords words (Undefined point) =
+    (digits : List ℕ) × (number_of digits ≡ Some point) × (1 ≤ point) × (point ≤ 15) × (words ≡ codes "undefined " ++ digits)
 
 -- the line names this source, and tells this fault in it: `NAME byte N: FAULT` or `NAME token K: FAULT`
 abbrev pub Names : List ℕ → List ℕ → Fault → Type 0

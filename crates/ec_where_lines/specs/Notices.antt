@@ -5,10 +5,10 @@ use Rattle.std.specs.Option.{option_and_then}
 use Rattle.std.specs.Fmt.{decimal}
 use Rattle.ec_where_lines.specs.declared.notices.Kind.{Kind}
 use Rattle.ec_where_lines.specs.declared.notices.Kind.TheVariants.{CannotRead, Recursion, MapRule, Region, NoObject, Clash}
-use Rattle.ec_where_lines.specs.declared.notices.Kind.TheVariants.{Limit, HexLine, ScriptLine, Fault}
+use Rattle.ec_where_lines.specs.declared.notices.Kind.TheVariants.{Limit, HexLine, ScriptLine, ListingLine, Fault}
 use Rattle.ec_where_lines.specs.declared.notices.FileNames.{FileNames}
 use Rattle.ec_where_lines.specs.declared.rules.TheConstants.{COUNTED, HEADS, HEX_LINES, MACHINE, MAP_LINES, MAP_RULES}
-use Rattle.ec_where_lines.specs.declared.rules.TheConstants.{RECORDS, SCRIPT_RULES, TOOL_LINES}
+use Rattle.ec_where_lines.specs.declared.rules.TheConstants.{LISTING_RULES, RECORDS, SCRIPT_RULES, TOOL_LINES}
 use Rattle.ec_where_lines.specs.Parts.{around, behind, look_up, number_of, row_of}
 
 -- the names of the files that the tool was given
@@ -16,9 +16,16 @@ pub record FileTexts : Type 0 where
   pub map_name : List ℕ
   pub hex_name : List ℕ
   pub script_name : List ℕ
+  pub listing_name : List ℕ
 
 abbrev pub texts_of : FileNames → FileTexts
-texts_of names = record { map_name = names.map.now; hex_name = names.hex.now; script_name = names.script.now }
+texts_of names =
+    record {
+      map_name = names.map.now;
+      hex_name = names.hex.now;
+      script_name = names.script.now;
+      listing_name = names.listing.now;
+    }
 
 -- ---- forms of notices
 
@@ -59,11 +66,11 @@ record_of rest =
     option_and_then (λ x. option_and_then (λ line. option_map (λ message. (line, message))
     (look_up x.1 (map (λ y. (y.0.now, y.1.now)) RECORDS))) (number_of x.0)) (around (codes ": ") rest)
 
--- a line of a script, and the rule that it breaks
-abbrev pub script_of : List ℕ → Option (ℕ × List ℕ)
-script_of rest =
+-- a line of a file, and the rule of a table that it breaks
+abbrev pub broken_of : List (List ℕ) → List ℕ → Option (ℕ × List ℕ)
+broken_of rules rest =
     option_and_then (λ x. option_and_then (λ line. option_and_then (λ rule. option_map (λ message. (line, message))
-    (row_of (map (λ y. y.now) SCRIPT_RULES) rule)) (number_of x.1)) (number_of x.0)) (around (codes ": rule ") rest)
+    (row_of rules rule)) (number_of x.1)) (number_of x.0)) (around (codes ": rule ") rest)
 
 -- what a limit counts, and the limit
 abbrev pub limit_of : List ℕ → Option (List ℕ × ℕ)
@@ -100,7 +107,10 @@ headed_text names NoObject rest =
 headed_text names Clash rest = clash_of names.map_name rest
 headed_text names Limit rest = option_map limit_text (limit_of rest)
 headed_text names HexLine rest = option_map (λ x. said_at names.hex_name x.0 x.1) (record_of rest)
-headed_text names ScriptLine rest = option_map (λ x. said_at names.script_name x.0 x.1) (script_of rest)
+headed_text names ScriptLine rest =
+    option_map (λ x. said_at names.script_name x.0 x.1) (broken_of (map (λ y. y.now) SCRIPT_RULES) rest)
+headed_text names ListingLine rest =
+    option_map (λ x. said_at names.listing_name x.0 x.1) (broken_of (map (λ y. y.now) LISTING_RULES) rest)
 headed_text names Fault rest = option_map machine_text (machine_of rest)
 
 -- the line begins with a head of the table, or else further heads may be its own

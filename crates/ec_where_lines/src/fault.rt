@@ -24,6 +24,10 @@ pub enum TokenFault {
     Syntax,
     /// The constraint of this number, from 1 to 40, is broken.
     Constraint(u32),
+    /// The text does not tell how many turns the loop that begins here makes.
+    Uncounted,
+    /// The statement that begins here met the undefined point of this number, from 1 to 15.
+    Undefined(u32),
 }
 
 /// What is wrong in a source, and where.
@@ -95,6 +99,20 @@ fn constraint(words: &str) -> Option<TokenFault>
     }
 }
 
+/// The undefined point that these words tell.
+fn undefined(words: &str) -> Option<TokenFault>
+    ensures found { IfSome result (AreTokenWords words.now) }
+    ensures all { (point : ℕ) → AreTokenWords words.now (TokenFault.Undefined point)
+        → result ≡ Some (TokenFault.Undefined point) }
+{
+    let point = number(behind(words, "undefined ")?)?;
+    if 1 <= point && point <= 15 {
+        Some(TokenFault::Undefined(point))
+    } else {
+        None
+    }
+}
+
 /// The fault at a token that these words tell.
 fn token_fault(words: &str) -> Option<TokenFault>
     ensures found { IfSome result (AreTokenWords words.now) }
@@ -102,8 +120,10 @@ fn token_fault(words: &str) -> Option<TokenFault>
 {
     if words == "syntax" {
         Some(TokenFault::Syntax)
+    } else if words == "loop not counted" {
+        Some(TokenFault::Uncounted)
     } else {
-        constraint(words)
+        constraint(words).or(undefined(words))
     }
 }
 

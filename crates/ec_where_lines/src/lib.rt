@@ -13,5 +13,5 @@ mod words;
 pub use fault::{ByteFault, Fault, SourceFault, TokenFault, source_fault};
 pub use notices::{FileNames, Kind, notice};
 pub use parts::{look_up, row};
-pub use rules::{CONSTRAINTS, SYNTAX};
+pub use rules::{CONSTRAINTS, POINTS, SYNTAX, UNCOUNTED};
 pub use words::{NAMES, RESERVED, byte_message, undeclared, word_run};

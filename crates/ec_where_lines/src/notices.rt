@@ -1,12 +1,13 @@
 //! What is said of a line that names no place of a source.
 ghost use Rattle.std.specs.Prelude.{◌≡◌, Some, IfOk, map, option_map, string_bytes};
 ghost use Rattle.ec_where_lines.specs.Notices.{clash_of, head_of, headed_text, limit_of, machine_of, notice_of};
-ghost use Rattle.ec_where_lines.specs.Notices.{plain_of, record_of, region_of, region_text, rule_of, said, said_at, said_of, script_of};
+ghost use Rattle.ec_where_lines.specs.Notices.{broken_of, plain_of, record_of, region_of, region_text, rule_of, said, said_at, said_of};
 ghost use Rattle.ec_where_lines.specs.Notices.{limit_text, machine_text, texts_of};
 
 use crate::parts::{around, behind, look_up, number, row};
 use crate::rules::{
-    COUNTED, HEADS, HEX_LINES, MACHINE, MAP_LINES, MAP_RULES, RECORDS, SCRIPT_RULES, TOOL_LINES,
+    COUNTED, HEADS, HEX_LINES, LISTING_RULES, MACHINE, MAP_LINES, MAP_RULES, RECORDS, SCRIPT_RULES,
+    TOOL_LINES,
 };
 use std::alloc::{AllocError, Global};
 
@@ -22,6 +23,7 @@ pub enum Kind {
     Limit,
     HexLine,
     ScriptLine,
+    ListingLine,
     Fault,
 }
 
@@ -31,6 +33,7 @@ pub struct FileNames<'a> {
     pub map: &'a str,
     pub hex: &'a str,
     pub script: &'a str,
+    pub listing: &'a str,
 }
 
 /// A message about a file, or of the tool.
@@ -107,12 +110,12 @@ fn record_parts(rest: &str) -> Option<(u32, &'static str)>
     Some((number(line)?, look_up(fault.as_bytes(), &RECORDS)?))
 }
 
-/// A line and the rule that it breaks: `N: rule K`.
-fn script_parts(rest: &str) -> Option<(u32, &'static str)>
-    ensures { option_map (λ x. (x.0, x.1.now)) result ≡ script_of rest.now }
+/// A line and the rule of a table that it breaks: `N: rule K`.
+fn rule_parts(rest: &str, rules: &'static [&'static str]) -> Option<(u32, &'static str)>
+    ensures { option_map (λ x. (x.0, x.1.now)) result ≡ broken_of (map (λ x. x.now) rules.now) rest.now }
 {
     let (line, rule) = around(rest, ": rule ")?;
-    Some((number(line)?, row(&SCRIPT_RULES, number(rule)?)?))
+    Some((number(line)?, row(rules, number(rule)?)?))
 }
 
 /// What a limit counts, and the limit: `L M`.
@@ -188,7 +191,12 @@ fn headed_notice(
 ) -> Result<Option<String>, AllocError>
     ensures { IfOk result (λ o. option_map string_bytes o ≡ headed_text (texts_of names.now) kind rest.now) }
 {
-    let FileNames { map, hex, script } = *names;
+    let FileNames {
+        map,
+        hex,
+        script,
+        listing,
+    } = *names;
     match kind {
         Kind::CannotRead => said(alloc, rest, "this file could not be opened or read"),
         Kind::Recursion => {
@@ -204,7 +212,8 @@ fn headed_notice(
         Kind::Clash => clash_notice(alloc, map, rest),
         Kind::Limit => limit_notice(alloc, rest),
         Kind::HexLine => line_notice(alloc, hex, record_parts(rest)),
-        Kind::ScriptLine => line_notice(alloc, script, script_parts(rest)),
+        Kind::ScriptLine => line_notice(alloc, script, rule_parts(rest, &SCRIPT_RULES)),
+        Kind::ListingLine => line_notice(alloc, listing, rule_parts(rest, &LISTING_RULES)),
         Kind::Fault => machine_notice(alloc, rest),
     }
 }

@@ -97,8 +97,44 @@ pub static SCRIPT_RULES: [&str; 3] = [
     "an earlier line has the same address",
 ];
 
+/// What each rule of a line of a listing asks, by its number. The first row is rule 1.
+pub static LISTING_RULES: [&str; 3] = [
+    "a line is an address of five capital hexadecimal digits, `: `, and an instruction with operands in their ranges, or `.byte` \
+    and two capital hexadecimal digits; it ends with LF",
+    "all bytes of a line lie in flash, and the address of an instruction is even",
+    "this line begins before the end of the line before it",
+];
+
+/// What each undefined point is, by its number. The first row is point 1, and the last one is met by no program of a build.
+pub static POINTS: [&str; 15] = [
+    "the divisor is 0 (C99 6.5.5)",
+    "the count of a shift is negative, or not below the width of the left operand in bits (C99 6.5.7)",
+    "a fixed-point result lies outside its type, which does not saturate: write `_Sat`, or bring the operands into range \
+    (Embedded C 4.1.3)",
+    "the whole part of a fixed-point value does not fit the integer type (Embedded C 4.1.3)",
+    "nothing of this type lives here: the pointer is null, the index leaves its array, or the object's block or function \
+    has ended (C99 6.5.3.2, 6.2.4)",
+    "a local or a named register is read before it is set, or a pointer whose object lives no more (C99 6.2.4, 6.7.8)",
+    "what is const or in flash is written (C99 6.7.3)",
+    "a pointer is narrowed to a space in which its object does not stand (Embedded C 5.1.3)",
+    "two pointers are ordered or subtracted that are not into one object, or not a whole number of elements apart (C99 \
+    6.5.6, 6.5.8)",
+    "a pointer past the end of an object is compared with one into another, or a pointer is used whose object lives no \
+    more (C99 6.5.9, 6.2.4)",
+    "a pointer is moved out of its object, where the place behind its end is allowed, or from null (C99 6.5.6)",
+    "a port is accessed whose group is not acquired (Embedded C 6.3)",
+    "the index of a port is not below the port's count (Embedded C 6.3)",
+    "a function with a result, other than `main`, ends without `return` (C99 6.9.1)",
+    "the typed program is not valid",
+];
+
+/// What is told of a loop that is not counted.
+pub static UNCOUNTED: &str =
+    "the text does not tell how many turns this loop makes: a counted loop is a `for` over a local `int` from one constant to \
+    another in steps of a constant, which nothing else in it changes and whose address is nowhere taken";
+
 /// What each limit counts, by its number. The first row is limit 1.
-pub static COUNTED: [&str; 9] = [
+pub static COUNTED: [&str; 10] = [
     "sources",
     "bytes in a source",
     "bytes in the map",
@@ -108,14 +144,15 @@ pub static COUNTED: [&str; 9] = [
     "constructs one inside the other",
     "objects",
     "functions",
+    "bytes in the listing",
 ];
 
 /// The lines about the tool that are always the same, and what is said of each.
-pub static TOOL_LINES: [(&str, &str); 4] = [
+pub static TOOL_LINES: [(&str, &str); 5] = [
     (
         "usage",
         "the words are `build MAP OUT SRC...`, `run HEX SCRIPT STEPS FILL`, `exec MAP SCRIPT STEPS SRC...`, `gen N`, \
-         `list CORE HEX` or `assemble CORE ASM OUT`",
+         `bound MAP SRC...`, `list CORE HEX` or `assemble CORE ASM OUT`",
     ),
     (
         "cannot write",
@@ -123,6 +160,10 @@ pub static TOOL_LINES: [(&str, &str); 4] = [
     ),
     ("no memory", "memory ran out"),
     ("steps out", "the machine made all its steps and still runs"),
+    (
+        "bound too large",
+        "the number of steps passes 18446744073709551615",
+    ),
 ];
 
 /// Those about the map.
@@ -135,7 +176,7 @@ pub static HEX_LINES: [(&str, &str); 1] = [(
 )];
 
 /// How the other lines begin.
-pub static HEADS: [(&str, Kind); 10] = [
+pub static HEADS: [(&str, Kind); 11] = [
     ("cannot read ", Kind::CannotRead),
     ("recursion ", Kind::Recursion),
     ("map: rule ", Kind::MapRule),
@@ -145,6 +186,7 @@ pub static HEADS: [(&str, Kind); 10] = [
     ("limit ", Kind::Limit),
     ("hex line ", Kind::HexLine),
     ("script line ", Kind::ScriptLine),
+    ("asm line ", Kind::ListingLine),
     ("fault ", Kind::Fault),
 ];
 
