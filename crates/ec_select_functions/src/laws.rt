@@ -18,7 +18,8 @@ use ec_select_pointers::laws::{
 /// A machine that stands where `main` begins, called from before a BREAK, with the objects' initial values in its
 /// memory, comes to all that the operations do, in no more steps than they may take; it never runs ahead of them, ends
 /// only where they end, and never fails, as long as they access none but ports of the machine. The functions are those
-/// of a valid program, wherever their code, their scratch memory, the objects and the stack stand.
+/// of a valid program, wherever their code, their scratch memory, the objects and the stack stand. Objects that are never
+/// live at one moment may share bytes.
 pub fn code_follows_operations()
     ensures { CodeFollowsOperations }
 {
@@ -46,8 +47,8 @@ pub fn code_follows_operations()
     places_are_short();
 }
 
-/// In a valid program the homes of temporaries and the leaves of objects stand apart, wherever scratch memory and
-/// objects stand.
+/// In a valid program the homes of temporaries stand apart, and so do the leaves of objects that can be live at one
+/// moment, wherever scratch memory and objects stand.
 pub fn homes_are_laid_out()
     ensures { HomesAreLaidOut }
 {
