@@ -53,8 +53,8 @@ inputs_same words first a b s t files h k = (
 
 -- ---- no stop where the files are accepted
 
-pub no_map_stop : (words : Words) (first : ℕ) (map : List ℕ) (sources : List (List ℕ)) (disk : Disk) (read written received : ℕ) (missed : Option (List ℕ))
-    (new : StoreView) (stop : CommandError)
+pub no_map_stop : (words : Words) (first : ℕ) (map : List ℕ) (sources : List (List ℕ)) (disk : Disk) (read written received : ℕ)
+    (missed : Option (List ℕ)) (new : StoreView) (stop : CommandError)
     → AreInputs words first map sources disk.files → ¬ (Rose read new.read_faults)
     → StopsReading words 1 MapBytes (store_view (Some disk) read written received missed) new stop → commands.status_of stop ≡ 11
 no_map_stop words first map sources disk read written received missed new (CannotRead i) inputs calm h = absurd (calm h.1.rose)
@@ -74,14 +74,15 @@ no_source_stop words first P most map sources disk read written received missed 
 no_source_stop words first P most map sources disk read written received missed new NoMemory inputs calm h = refl
 no_source_stop words first P most map sources disk read written received missed new _ inputs calm h = absurd h
 
-pub no_reading_stop : (words : Words) (first : ℕ) (disk : Option Disk) (read written received : ℕ) (missed : Option (List ℕ)) (new : StoreView)
-    (stop : CommandError) → Accepts words first disk → ¬ (Rose read new.read_faults)
+pub no_reading_stop : (words : Words) (first : ℕ) (disk : Option Disk) (read written received : ℕ) (missed : Option (List ℕ))
+    (new : StoreView) (stop : CommandError) → Accepts words first disk → ¬ (Rose read new.read_faults)
     → StopsReadingBuild words first (store_view disk read written received missed) new stop → commands.status_of stop ≡ 11
 no_reading_stop words first None read written received missed new stop accepted calm h = absurd accepted
 no_reading_stop words first (Some disk) read written received missed new stop accepted calm (inl h) =
     no_map_stop words first accepted.map accepted.sources disk read written received missed new stop accepted.inputs calm h
 no_reading_stop words first (Some disk) read written received missed new stop accepted calm (inr h) =
-    no_source_stop words first (HasMap words) 16384 accepted.map accepted.sources disk read written received missed new stop accepted.inputs calm h
+    no_source_stop words first (HasMap words) 16384 accepted.map accepted.sources disk read written received missed new stop
+    accepted.inputs calm h
 
 -- what was read is accepted, where the files are
 pub read_accepted : (words : Words) (first : ℕ) (disk : Option Disk) (map : List ℕ) (sources : List (List ℕ)) → Accepts words first disk

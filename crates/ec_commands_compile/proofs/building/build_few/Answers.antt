@@ -23,7 +23,8 @@ returns-in-Err-clause-calm g c = λ room calm fits.
 
 pub returns-in-Ok-written-clause-built : goal.returns-in-Ok-written-clause-built
 returns-in-Ok-written-clause-built g c =
-    built c.args.words.now.items _ _ _ c.in-Ok.built c.in-Ok.ensures.files (built_from c.args.words.now.items 3 _ c.in-Ok.built c.in-Ok.ensures.found)
+    built c.args.words.now.items _ _ _ c.in-Ok.built c.in-Ok.ensures.files
+    (built_from c.args.words.now.items 3 _ c.in-Ok.built c.in-Ok.ensures.found)
     (rw c.word_at.ensures at c.in-Ok-written.ensures.written) c.in-Ok-written.ensures.denotes
 
 pub returns-in-Ok-written-clause-calm : goal.returns-in-Ok-written-clause-calm
@@ -33,7 +34,8 @@ returns-in-Ok-written-clause-calm g c = λ room calm fits.
     c.write_file-written.ensures.calm _ room
     (subst (λ made. g.S.Store.calm c.read_and_build.new.store (build_inputs c.args.words.now.items 3) made room)
     (sym c.word_at.ensures) read.1)
-    (text_fits c.builds_have_one_text.ensures c.args.words.now.items _ c.in-Ok.built room (built_from c.args.words.now.items 3 _ c.in-Ok.built c.in-Ok.ensures.found) fits) in
+    (text_fits c.builds_have_one_text.ensures c.args.words.now.items _ c.in-Ok.built room
+    (built_from c.args.words.now.items 3 _ c.in-Ok.built c.in-Ok.ensures.found) fits) in
     (c.write_file-written.ensures.read_faults ∙ read.0, written ∙ c.read_and_build.ensures.write_faults)
 
 pub returns-in-Err-written-clause-stopped : goal.returns-in-Err-written-clause-stopped
@@ -44,7 +46,8 @@ returns-in-Err-written-clause-stopped g c = record {
         (arith, c.in-Err-written.ensures.cause.failed),
     has_image c.args.words.now.items _ c.in-Ok.built (built_from c.args.words.now.items 3 _ c.in-Ok.built c.in-Ok.ensures.found),
   );
-  files = left_front c.args.words.now.items _ _ _ c.in-Ok.built _ c.in-Ok.ensures.files (built_from c.args.words.now.items 3 _ c.in-Ok.built c.in-Ok.ensures.found)
+  files = left_front c.args.words.now.items _ _ _ c.in-Ok.built _ c.in-Ok.ensures.files
+      (built_from c.args.words.now.items 3 _ c.in-Ok.built c.in-Ok.ensures.found)
       (rw c.word_at.ensures at c.in-Err-written.ensures.written);
 }
 
@@ -55,5 +58,6 @@ returns-in-Err-written-clause-calm g c = λ room calm fits.
     c.write_file-written.ensures.calm _ room
     (subst (λ made. g.S.Store.calm c.read_and_build.new.store (build_inputs c.args.words.now.items 3) made room)
     (sym c.word_at.ensures) read.1)
-    (text_fits c.builds_have_one_text.ensures c.args.words.now.items _ c.in-Ok.built room (built_from c.args.words.now.items 3 _ c.in-Ok.built c.in-Ok.ensures.found) fits) in
+    (text_fits c.builds_have_one_text.ensures c.args.words.now.items _ c.in-Ok.built room
+    (built_from c.args.words.now.items 3 _ c.in-Ok.built c.in-Ok.ensures.found) fits) in
     (c.write_file-written.ensures.read_faults ∙ read.0, written ∙ c.read_and_build.ensures.write_faults)

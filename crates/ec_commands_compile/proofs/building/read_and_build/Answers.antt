@@ -9,7 +9,8 @@ returns-in-Err-clause-complete g c = λ accepted calm.
     (g.S.Store.write_faults c.args.store.now)
     (g.S.Store.received c.args.store.now) (g.S.Store.missed c.args.store.now)
     (store_view (g.S.Store.disk c.read_inputs.new.store) (g.S.Store.read_faults c.read_inputs.new.store)
-    (g.S.Store.write_faults c.read_inputs.new.store) (g.S.Store.received c.read_inputs.new.store) (g.S.Store.missed c.read_inputs.new.store))
+    (g.S.Store.write_faults c.read_inputs.new.store) (g.S.Store.received c.read_inputs.new.store)
+    (g.S.Store.missed c.read_inputs.new.store))
     c.in-Err.stop accepted calm c.in-Err.ensures.stopped
 
 pub returns-clause-found : goal.returns-clause-found
@@ -24,12 +25,13 @@ returns-clause-stopped g c =
     (store_view (g.S.Store.disk c.args.store.now) (g.S.Store.read_faults c.args.store.now) (g.S.Store.write_faults c.args.store.now)
     (g.S.Store.received c.args.store.now) (g.S.Store.missed c.args.store.now))
     (store_view (g.S.Store.disk c.read_inputs.new.store) (g.S.Store.read_faults c.read_inputs.new.store)
-    (g.S.Store.write_faults c.read_inputs.new.store) (g.S.Store.received c.read_inputs.new.store) (g.S.Store.missed c.read_inputs.new.store))
+    (g.S.Store.write_faults c.read_inputs.new.store) (g.S.Store.received c.read_inputs.new.store)
+    (g.S.Store.missed c.read_inputs.new.store))
     c.in-Ok.inputs.map.items
     (texts c.in-Ok.inputs.sources.items) c.compile.result c.in-Ok.ensures.found c.compile.ensures.stopped
 
 pub returns-clause-complete : goal.returns-clause-complete
 returns-clause-complete g c = λ accepted calm.
     c.compile.ensures.complete
-    (read_accepted c.args.words.now.items c.args.first (g.S.Store.disk c.args.store.now) c.in-Ok.inputs.map.items (texts c.in-Ok.inputs.sources.items)
-    accepted c.in-Ok.ensures.found)
+    (read_accepted c.args.words.now.items c.args.first (g.S.Store.disk c.args.store.now) c.in-Ok.inputs.map.items
+    (texts c.in-Ok.inputs.sources.items) accepted c.in-Ok.ensures.found)

@@ -13,7 +13,8 @@ returns-in-Ok-read_sources-clause-calm g c = λ made room calm.
     let words = c.args.words.now.items in
     let map = c.in-Ok.ensures.calm _ made room calm (0, omega arith, refl) in
     let sources =
-    c.in-Ok-read_sources.ensures.calm _ made room map.1 (λ name has. contains_behind (map_name words) (names_from words c.args.first) name has) in
+    c.in-Ok-read_sources.ensures.calm _ made room map.1
+    (λ name has. contains_behind (map_name words) (names_from words c.args.first) name has) in
     (sources.0 ∙ map.0, sources.1)
 
 pub returns-in-Err-read_sources-clause-stopped : goal.returns-in-Err-read_sources-clause-stopped
@@ -26,7 +27,8 @@ returns-in-Err-read_sources-clause-stopped g c =
     (store_view (g.S.Store.disk c.read.new.store) (g.S.Store.read_faults c.read.new.store) (g.S.Store.write_faults c.read.new.store)
     (g.S.Store.received c.read.new.store) (g.S.Store.missed c.read.new.store))
     (store_view (g.S.Store.disk c.read_sources.new.store) (g.S.Store.read_faults c.read_sources.new.store)
-    (g.S.Store.write_faults c.read_sources.new.store) (g.S.Store.received c.read_sources.new.store) (g.S.Store.missed c.read_sources.new.store))
+    (g.S.Store.write_faults c.read_sources.new.store) (g.S.Store.received c.read_sources.new.store)
+    (g.S.Store.missed c.read_sources.new.store))
     c.in-Err-read_sources.stop c.in-Ok.ensures.files c.in-Ok.ensures.found.told
     (λ files there any. within_here files (word words 1) map 16384 there c.in-Ok.ensures.found.within)
     c.in-Ok.ensures.later c.in-Ok.ensures.found.received c.in-Ok.ensures.found.within c.in-Err-read_sources.ensures.stopped)
@@ -36,5 +38,6 @@ returns-in-Err-read_sources-clause-calm g c = λ made room calm.
     let words = c.args.words.now.items in
     let map = c.in-Ok.ensures.calm _ made room calm (0, omega arith, refl) in
     let sources =
-    c.in-Err-read_sources.ensures.calm _ made room map.1 (λ name has. contains_behind (map_name words) (names_from words c.args.first) name has) in
+    c.in-Err-read_sources.ensures.calm _ made room map.1
+    (λ name has. contains_behind (map_name words) (names_from words c.args.first) name has) in
     (sources.0 ∙ map.0, sources.1)
