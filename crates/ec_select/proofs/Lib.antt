@@ -1,6 +1,7 @@
 mod Fitting
 mod Pieces
 mod Loops
+mod Limits
 mod FixedTypes
 mod FixedItems
 mod PointerTypes

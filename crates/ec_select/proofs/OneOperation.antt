@@ -62,7 +62,7 @@ use Rattle.ec_select_operations.specs.Code.{restore_code, taken_code, call_code,
 use Rattle.ec_select_operations.specs.Code.{flag_code, operator_code, tested_code, kept_need, op_code, tells_next}
 use Rattle.ec_select_operations.specs.Code.{ops_code}
 use Rattle.ec_select_operations.specs.Code.{work_location, answer_location, answer_code, by_kind, fixed_binary, fixed_unary}
-use Rattle.ec_select_operations.specs.Code.{is_on_integers, keeps_number}
+use Rattle.ec_select_operations.specs.Code.{is_on_integers, is_limited, stopped_code, stopped_sum, keeps_number}
 use Rattle.ec_select_operations.specs.Code.{fixed_conversion, addressed_code, load_code, banked_code, offset_code}
 use Rattle.ec_select_operations.specs.Code.{pointers_code, is_difference, pointer_binary, pointer_conversion}
 use Rattle.ec_select_functions.specs.Covered.{HasIndex, HasScalarAt, IsBinary, IsFixedBinary, IsFixedUnary}
@@ -70,12 +70,14 @@ use Rattle.ec_select_functions.specs.Covered.{AreConverted, IsFixedConversion, I
 use Rattle.ec_select_functions.specs.Covered.{IsUnary, IsResult, IsCovered, AreCovered}
 use Rattle.ec_select_functions.proofs.OnIntegers.{whole_type}
 use Rattle.ec_select_functions.proofs.OnWholes.{on_wholes}
+use Rattle.ec_select_functions.proofs.Limited.{limited}
 use Rattle.ec_select_operations.specs.Homes.{HasHome, depth, home, result_location}
 use Rattle.ec_select_operations.specs.Needs.{Need, wanted, wanted_result, needs, is_fixed}
 use Rattle.ec_select_operations.specs.Places.{object_location}
 use Rattle.ec_select_operations.specs.Pointers.{is_pointer, is_into_data, home_of, IsPointerSize}
 use Rattle.ec_select_operations.specs.Ports.{in_code, out_code}
 use Rattle.ec_select.proofs.FixedItems.{FixedItemLaws, plain_fits, has_places, answer_fits, own_fits, others_fit}
+use Rattle.ec_select.proofs.Limits.{stopped_fits}
 use Rattle.ec_select.proofs.FixedTypes.{type_fixed, either_fixed, no_fixed, no_fixed_operand, none_converted}
 use Rattle.ec_select.proofs.Fitting.{fits, Fit, joined, chained, passing, and_first, and_second, BytesFit}
 use Rattle.ec_select.proofs.Fitting.{registers_fit, fewer_fit}
@@ -340,14 +342,27 @@ module _ (sizes : Sizes) where
         code : List AsmItem
         code = fixed_binary_code op ty aty bty mode (home k.homes a) (home k.homes b) answer_location work_location
 
-        by_code : (on : Bool) → is_on_integers (family_of op) mode ty aty bty ≡ on
-            → Fit sizes (if on then operator_code telling (family_of op) (is_signed aty) (is_signed bty) (home k.homes a)
-            (home k.homes b) (home k.homes to) a.bytes n else answer_code code (home k.homes to) n)
-        by_code true on =
-            let w = on_wholes k.slots op mode to a b ty aty bty h on in
-            operator_fits telling (family_of op) to a b w.result (whole_type w.kind) (whole_type w.kind) (is_signed aty)
-            (is_signed bty) n w.binary l
-        by_code false on =
+        stops : Bool
+        stops = is_limited op mode ty aty bty && not (same_location (home k.homes b) (home k.homes to))
+
+        stopped : List AsmItem
+        stopped = stopped_sum (is_difference op) (is_signed aty) (home k.homes a) (home k.homes b) (home k.homes to) a.bytes n
+
+        by_stop : (x : Bool) → stops ≡ x → Fit sizes (if x then stopped else answer_code code (home k.homes to) n)
+        by_stop true s =
+            let lim = limited op mode ty aty bty
+            (and_first (is_limited op mode ty aty bty) (not (same_location (home k.homes b) (home k.homes to))) s) in
+            let first : scalar_size ty ≡ scalar_size aty = ap scalar_size lim.result_is ∙ sym (ap scalar_size lim.left_is) in
+            let second : scalar_size bty ≡ scalar_size aty = ap scalar_size lim.right_is ∙ sym (ap scalar_size lim.left_is) in
+            let ba = h.left_bytes in let bb = h.right_bytes in let bt = h.result_bytes in
+            let most = h.left.most in let some = h.left.some in
+            let top = a.bytes - 1 in
+            unless_none n (stopped_code (is_difference op) (is_signed aty) (home k.homes a) (home k.homes b) (home k.homes to) top)
+            (stopped_fits sizes (is_difference op) (is_signed aty) (home k.homes a) (home k.homes b) (home k.homes to) top (omega arith)
+            (move_fits (home k.homes a) (home k.homes to) (suc top) (low_home a (suc top) h.left (omega arith))
+            (low_home to (suc top) h.result (omega arith)))
+            (low_home b (suc top) h.right (omega arith)) (low_home to (suc top) h.result (omega arith)))
+        by_stop false s =
             let most = h.result.most in let e = h.result_bytes in
             answer_fits sizes room.work code (home k.homes to) n (omega arith)
             (plain_fits sizes code
@@ -355,6 +370,15 @@ module _ (sizes : Sizes) where
             (places a (scalar_size aty) h.left h.left_bytes) (places b (scalar_size bty) h.right h.right_bytes)
             (answer_places (scalar_size ty) (omega arith)) work_places))
             (low_home to n h.result l)
+
+        by_code : (on : Bool) → is_on_integers (family_of op) mode ty aty bty ≡ on
+            → Fit sizes (if on then operator_code telling (family_of op) (is_signed aty) (is_signed bty) (home k.homes a)
+            (home k.homes b) (home k.homes to) a.bytes n else (if stops then stopped else answer_code code (home k.homes to) n))
+        by_code true on =
+            let w = on_wholes k.slots op mode to a b ty aty bty h on in
+            operator_fits telling (family_of op) to a b w.result (whole_type w.kind) (whole_type w.kind) (is_signed aty)
+            (is_signed bty) n w.binary l
+        by_code false on = by_stop stops refl
 
     fixed_unary_fits : (op : UnOp) (ty : PlainType) (mode : Mode) (to a : Temp) (n : ℕ) → IsFixedUnary k.slots op to a ty
         → n ≤ to.bytes → Fit sizes (fixed_unary op ty mode (home k.homes a) (home k.homes to) n)

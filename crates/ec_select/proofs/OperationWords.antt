@@ -1,5 +1,5 @@
 -- The words of operations' code.
-use Rattle.std.proofs.Common.{◌≡◌, ◌⊎◌, ℕ, zero, suc, ◌+◌, ◌-◌, ◌*◌, ◌≤◌, ◌==◌, Bool, true, false, List, [], ◌∷◌, ◌++◌}
+use Rattle.std.proofs.Common.{◌≡◌, ◌⊎◌, ℕ, zero, suc, ◌+◌, ◌-◌, ◌*◌, ◌≤◌, ◌==◌, Bool, true, false, not, List, [], ◌∷◌, ◌++◌}
 use Rattle.std.proofs.Common.{◌%◌, refl, sym, ap, ◌∙◌, subst, arith, leb-true, eqb-true, inl, inr}
 use Rattle.std.specs.Prelude.{⊤, min, nat_le, ◌&&◌, ◌||◌, if◌then◌else◌, Option, Some, None, option_map}
 use Rattle.std.specs.List.{AllByRecursion}
@@ -79,7 +79,7 @@ use Rattle.ec_select_operations.specs.Code.{restore_code, taken_code, call_code,
 use Rattle.ec_select_operations.specs.Code.{flag_code, operator_code, tested_code, kept_need, op_code, tells_next}
 use Rattle.ec_select_operations.specs.Code.{ops_code}
 use Rattle.ec_select_operations.specs.Code.{work_location, answer_location, answer_code, by_kind, fixed_binary, fixed_unary}
-use Rattle.ec_select_operations.specs.Code.{is_on_integers, keeps_number}
+use Rattle.ec_select_operations.specs.Code.{is_on_integers, is_limited, stopped_code, stopped_sum, keeps_number}
 use Rattle.ec_select_operations.specs.Code.{fixed_conversion, addressed_code, load_code, banked_code, offset_code}
 use Rattle.ec_select_operations.specs.Code.{pointers_code}
 use Rattle.ec_select_operations.specs.Code.{is_difference, pointer_binary, pointer_conversion}
@@ -88,6 +88,7 @@ use Rattle.ec_select_functions.specs.Covered.{IsFixedBinary, IsFixedUnary, AreCo
 use Rattle.ec_select_functions.specs.Covered.{IsPointerBinary, IsPointerConversion}
 use Rattle.ec_select_functions.proofs.OnIntegers.{whole_type}
 use Rattle.ec_select_functions.proofs.OnWholes.{on_wholes}
+use Rattle.ec_select_functions.proofs.Limited.{limited}
 use Rattle.ec_select_operations.specs.Emitted.{OfKind}
 use Rattle.ec_select_operations.specs.Homes.{home, result_location}
 use Rattle.ec_select_operations.specs.Needs.{Need, wanted, wanted_result, needs, is_fixed}
@@ -95,8 +96,9 @@ use Rattle.ec_select_operations.specs.Places.{object_location}
 use Rattle.ec_select_operations.specs.Pointers.{is_pointer, is_into_data, home_of, tag_in, IsPointerSize}
 use Rattle.ec_select.specs.InPlace.{IsInPlace}
 use Rattle.ec_select.proofs.FixedItems.{answer_words, own_words, others_words}
+use Rattle.ec_select.proofs.Limits.{stopped_words, not_bitwise}
 use Rattle.ec_select.proofs.FixedTypes.{type_fixed, either_fixed, no_fixed, no_fixed_operand, none_converted}
-use Rattle.ec_select.proofs.Fitting.{and_second}
+use Rattle.ec_select.proofs.Fitting.{and_first, and_second}
 use Rattle.ec_select.proofs.PointerItems.{tagged, few_compared}
 use Rattle.ec_select.proofs.PointerTypes.{two_pointers, pointers_only, pointer_converted, no_pointer, none_pointed}
 use Rattle.ec_select.proofs.Words.{joined_words, chained_words, copy_words_most, save_words_most, load_words_most}
@@ -527,9 +529,35 @@ module _ (laws : WordLaws) where
       code : List AsmItem
       code = fixed_binary_code op ty aty bty mode (home h a) (home h b) answer_location work_location
 
+      stops : Bool
+      stops = is_limited op mode ty aty bty && not (same_location (home h b) (home h to))
+
+      stopped : List AsmItem
+      stopped = stopped_sum (is_difference op) (is_signed aty) (home h a) (home h b) (home h to) a.bytes n
+
+      by_stop : (x : Bool) → stops ≡ x
+          → code_words (if x then stopped else answer_code code (home h to) n) ≤ binary_words op ty aty bty
+      by_stop true s =
+          let lim = limited op mode ty aty bty (and_first (is_limited op mode ty aty bty) (not (same_location (home h b) (home h to))) s) in
+          let words : binary_words op ty aty bty ≡ operation_words (widest (ty ∷ aty ∷ bty ∷ [])) =
+          ap (λ x. if x && is_integer ty then 10 * widest (ty ∷ aty ∷ bty ∷ []) else operation_words (widest (ty ∷ aty ∷ bty ∷ [])))
+          (not_bitwise op lim.adds) in
+          let wide : scalar_size aty ≤ widest (ty ∷ aty ∷ bty ∷ []) = omega arith in
+          let bytes = i.left_bytes in
+          let some = i.left.some in
+          let top = a.bytes - 1 in
+          let whole = stopped_code (is_difference op) (is_signed aty) (home h a) (home h b) (home h to) top in
+          let few = stopped_words (is_difference op) (is_signed aty) (home h a) (home h b) (home h to) top
+          (move_words (home h a) (home h to) (suc top)) in
+          unless_none n (binary_words op ty aty bty) whole (omega (arith, words, wide, bytes, some, few))
+      by_stop false s =
+          let bytes = i.result_bytes in
+          let few = laws.fixed_binaries op ty aty bty mode (home h a) (home h b) answer_location work_location i.types in
+          answer_words code (home h to) n (scalar_size ty) (binary_words op ty aty bty) (omega arith) few
+
       by_code : (on : Bool) → is_on_integers (family_of op) mode ty aty bty ≡ on
           → code_words (if on then operator_code telling (family_of op) (is_signed aty) (is_signed bty) (home h a) (home h b)
-          (home h to) a.bytes n else answer_code code (home h to) n) ≤ binary_words op ty aty bty
+          (home h to) a.bytes n else (if stops then stopped else answer_code code (home h to) n)) ≤ binary_words op ty aty bty
       by_code true on =
           let w = on_wholes slots op mode to a b ty aty bty i on in
           let k = whole_type w.kind in
@@ -540,10 +568,7 @@ module _ (laws : WordLaws) where
           ap (λ x. binary_words op ty x bty) w.left_is
           ∙ ap (λ x. binary_words op ty (fixed w.kind w.first_saturates) x) w.right_is ∙ w.words in
           omega (arith, most, words)
-      by_code false on =
-          let bytes = i.result_bytes in
-          let few = laws.fixed_binaries op ty aty bty mode (home h a) (home h b) answer_location work_location i.types in
-          answer_words code (home h to) n (scalar_size ty) (binary_words op ty aty bty) (omega arith) few
+      by_code false on = by_stop stops refl
 
   fixed_unary_most : (op : UnOp) (ty : PlainType) (mode : Mode) (slots : ℕ) (h : Homes) (to a : Temp) (n : ℕ)
       → IsFixedUnary slots op to a ty → n ≤ to.bytes

@@ -63,7 +63,7 @@ location_itself (InRegisters a) = grind (arith, nat_tests)
 location_itself (InMemory o k) =
     let x : (o == o) ≡ true = grind (arith, nat_tests) in let z : (k == k) ≡ true = grind (arith, nat_tests) in rw (x, z) refl
 
-location_same : (p q : Location) → p ≡ q → same_location p q ≡ true
+pub location_same : (p q : Location) → p ≡ q → same_location p q ≡ true
 location_same p q e = subst (λ (r : Location). same_location p r ≡ true) e (location_itself p)
 
 -- ---- numbers

@@ -48,7 +48,7 @@ off_ends a n j c l =
     (λ (x : 26 ≤ a). let z = c.high.right x in (omega arith, omega arith))
     (cases_lt a 26)
 
-clear_of_ends : (a n : ℕ) → IsClear a n → IsClearOfEnds a n
+pub clear_of_ends : (a n : ℕ) → IsClear a n → IsClearOfEnds a n
 clear_of_ends a n c =
     ⊎_elim
     (λ (x : a < 26). let z = c.high.left x in record { below = λ l. omega arith; above = λ l. absurd (omega arith) })

@@ -2,6 +2,7 @@
 pub mod Stacked
 pub mod OnIntegers
 pub mod OnWholes
+pub mod Limited
 -- For this crate alone.
 mod Wrapped
 mod Moves
@@ -9,6 +10,7 @@ mod Match
 mod Computed
 mod Accesses
 mod FixedRuns
+mod Stopped
 mod Follow
 mod PortBytes
 mod PortStates

@@ -46,14 +46,14 @@ times_one : (z : ℤ) → z *ℤ pos 1 ≡ z
 times_one z = omega (arith, ints)
 
 -- in units of the operands' format nothing is rounded
-sum_exact : (x y : ℤ) (f : ℕ) → rounded (exact_sum x f y f f) ≡ x +ℤ y
+pub sum_exact : (x y : ℤ) (f : ℕ) → rounded (exact_sum x f y f f) ≡ x +ℤ y
 sum_exact x y f =
     let e : f ≡ max f f = omega arith in
     let z : f - f ≡ 0 = omega arith in
     sym (sum_aligned x y f f f f e (omega arith)) ∙ ap (λ (i : ℕ). trunc (x *ℤ pos (2 ^ i) +ℤ y *ℤ pos (2 ^ i)) (2 ^ i)) z
     ∙ whole_trunc (x *ℤ pos 1 +ℤ y *ℤ pos 1) ∙ ap (λ (i : ℤ). i +ℤ y *ℤ pos 1) (times_one x) ∙ ap (λ (i : ℤ). x +ℤ i) (times_one y)
 
-difference_exact : (x y : ℤ) (f : ℕ) → rounded (exact_difference x f y f f) ≡ x -ℤ y
+pub difference_exact : (x y : ℤ) (f : ℕ) → rounded (exact_difference x f y f f) ≡ x -ℤ y
 difference_exact x y f =
     let e : f ≡ max f f = omega arith in
     let z : f - f ≡ 0 = omega arith in

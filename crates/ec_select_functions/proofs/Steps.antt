@@ -12,6 +12,7 @@ use Rattle.std.proofs.lemmas.Nat.{mod_below, mul-le}
 use Rattle.ec_fx.specs.declared.formats.FxKind.{FxKind}
 use Rattle.ec_fx.specs.declared.numbers.Mode.{Mode}
 use Rattle.ec_fx.specs.Formats.{format_of}
+use Rattle.ec_fx.proofs.FormatLemmas.{IsFormat-format_of}
 use Rattle.ec_asm.specs.declared.items.AsmItem.{AsmItem}
 use Rattle.ec_asm.specs.declared.items.AsmItem.TheVariants.{BranchTo}
 use Rattle.ec_asm.specs.declared.pieces.Location.{Location}
@@ -93,7 +94,7 @@ use Rattle.ec_select_fixed.specs.Types.{IsFixedType, IsNumberType}
 use Rattle.ec_select_fixed.proofs.Suits.{AreSuited, operands_suit}
 use Rattle.ec_select_operations.specs.Code.{told_by, by_kind as code_by_kind, fixed_binary, answer_code, answer_location}
 use Rattle.ec_select_operations.specs.Code.{fixed_unary, fixed_conversion, keeps_number, is_apart, is_on_integers, operator_code}
-use Rattle.ec_select_operations.specs.Code.{work_location, wanted_bytes}
+use Rattle.ec_select_operations.specs.Code.{work_location, wanted_bytes, is_limited, is_difference, stopped_code, stopped_sum}
 use Rattle.ec_select_fixed.specs.Codes.{fixed_binary_code, fixed_unary_code, fixed_conversion_code}
 use Rattle.ec_select_fixed.specs.FixedLaws.{IsBinaryResult, IsUnaryResult, IsConversionResult, binary_room, unary_room}
 use Rattle.ec_select_fixed.specs.FixedLaws.{conversion_room}
@@ -101,7 +102,7 @@ use Rattle.ec_fxcode_quotients.specs.QuotientLaws.{AreSlots, operand_in as fixed
 use Rattle.ec_select_fixed.specs.Types.{format_in}
 use Rattle.ec_select_fixed.proofs.Conversions.{AreConverted as AreNumberTypes, converted_types}
 use Rattle.ec_select_fixed.proofs.Converted.{conversion_told}
-use Rattle.ec_select_fixed.proofs.Formats.{fixed_number_type}
+use Rattle.ec_select_fixed.proofs.Formats.{fixed_number_type, kind_bits}
 use Rattle.ec_select_fixed.proofs.Operators.{IsNumber, as_told, binary_told}
 use Rattle.ec_select_fixed.specs.FixedLaws.{AreOperandSlots, HasOperandBytes}
 use Rattle.ec_select_operations.specs.Needs.{is_fixed, is_whole, first_wanted, second_wanted, only_wanted}
@@ -124,6 +125,8 @@ use Rattle.ec_select_functions.proofs.Computed.{constant_matches, copy_matches, 
 use Rattle.ec_select_functions.proofs.Computed.{result_of}
 use Rattle.ec_select_functions.proofs.Extended.{conversion_matches}
 use Rattle.ec_select_functions.proofs.FixedRuns.{answer_passes, slots_of, operand_slots_of}
+use Rattle.ec_select_functions.proofs.Limited.{limited}
+use Rattle.ec_select_functions.proofs.Stopped.{stopped_result, stopped_passes, stands_apart}
 use Rattle.ec_select_functions.proofs.Follow.{with_ports, Follows, after, from_held, from_number}
 use Rattle.ec_select_functions.proofs.Match.{kept_left, wanted_most, read_first, whole, at_width, weaker, written}
 use Rattle.ec_select_functions.proofs.Match.{written_wide}
@@ -1406,7 +1409,13 @@ module _ (p : PlainProgram) (functions : List PlainIrFunction) (e : Env) (slots 
           code : List AsmItem
           code = fixed_binary_code op ty aty bty mode (home a) (home b) answer_location work_location
 
-          code_is : code_of i rest ≡ answer_code code (home t) w
+          stops : Bool
+          stops = is_limited op mode ty aty bty && not (same_location (home b) (home t))
+
+          stopped : List AsmItem
+          stopped = stopped_sum (is_difference op) (is_signed aty) (home a) (home b) (home t) a.bytes w
+
+          code_is : code_of i rest ≡ (if stops then stopped else answer_code code (home t) w)
           code_is =
               ap (λ z. code_by_kind z (fixed_binary None op ty aty bty mode (home a) (home b) (home t) a.bytes w)
               (code_by_kind (is_pointer aty || is_pointer bty)
@@ -1414,7 +1423,7 @@ module _ (p : PlainProgram) (functions : List PlainIrFunction) (e : Env) (slots 
               (binary_code (family_of op) (is_signed aty) (is_signed bty) (home a) (home b) (home t) a.bytes w))) fx
               ∙ ap
               (λ z. if z then binary_code (family_of op) (is_signed aty) (is_signed bty) (home a) (home b) (home t) a.bytes w
-              else answer_code code (home t) w) apart
+              else (if stops then stopped else answer_code code (home t) w)) apart
 
           stand : HasAt e (code_of i rest ++ items rest) pc end
           stand = subst (λ x. HasAt e (op_code p home link None x need i ++ items_told x rest) pc end)
@@ -1433,50 +1442,17 @@ module _ (p : PlainProgram) (functions : List PlainIrFunction) (e : Env) (slots 
               (record { type_is = refl; value_is = value_is aty low1 (fixed_numeric aty suited.first) })
               (record { type_is = refl; value_is = value_is bty low2 (fixed_numeric bty suited.second) }) q
 
-          by_need : (x : Bool) → (w == 0) ≡ x → G (suc n) m.state.work pc v (R (suc n) rest m1)
-          by_need true z =
-              let empty : code_of i rest ≡ [] = code_is ∙ ap (λ x. if x then [] else code ++ copy_code answer_location (home t) w) z in
-              let go =
-              nothing_passes i t (low_bytes t.bytes number.number) c rest n pc (needs at (i ∷ rest)) m v k.result empty
-              (eqb-true w 0 z) (low_below t.bytes number.number) stand more h f in
-              subst (λ (x : Value). G (suc n) m.state.work pc v (R (suc n) rest (machine (with_temp t x m.temps) st)))
-              (sym number.result) go
-          by_need false z =
-              let parts = has_parts e (code_of i rest) (items rest) pc end stand in
-              let there : HasAt e (answer_code code (home t) w) pc parts.0 = subst (λ x. HasAt e x pc parts.0) code_is parts.1 in
-              let size = scalar_size ty in
-              let same : size ≡ t.bytes = sym k.result_bytes in
-              let some = k.result.some in
-              let most = k.result.most in
-              let need0 = needs at (i ∷ rest) in
-              let least_a : all_or_none a.bytes w ≤ need0 a.at = subst (λ (x : Bool). first_wanted x op a.bytes w ≤ need0 a.at) wx
-              (least_here a.at ka (at_least b.at kb (without t.at need))) in
-              let inner = least_here b.at kb (without t.at need) in
-              let outer = least_other a.at ka b.at (at_least b.at kb (without t.at need)) in
-              let least_b : all_or_none b.bytes w ≤ need0 b.at = subst (λ (x : Bool). second_wanted x op b.bytes w ≤ need0 b.at) wx
-              (omega arith) in
-              let x_is : value v.at (base a) (scalar_size aty) ≡ low1 =
-              all_there a w low1 (scalar_size aty) need0 m v k.left k.left_bytes z least_a qa h in
-              let y_is : value v.at (base b) (scalar_size bty) ≡ low2 =
-              all_there b w low2 (scalar_size bty) need0 m v k.right k.right_bytes z least_b qb h in
-              let slots0 = slots_of p e slots home base place y a b size k.left k.right k.different (omega arith) (omega arith) in
-              let slots1 =
-              subst
-              (λ (x : ℕ). AreSlots e (home a) (home b) answer_location work_location x b.bytes size (base a) (base b)
-              (y.work + 40) y.work) k.left_bytes slots0 in
-              let slots2 =
-              subst
-              (λ (x : ℕ). AreSlots e (home a) (home b) answer_location work_location (scalar_size aty) x size (base a) (base b)
-              (y.work + 40) y.work) k.right_bytes slots1 in
-              let holds =
-              IsBinaryResult op ty mode aty bty (value v.at (base a) (scalar_size aty)) (value v.at (base b) (scalar_size bty)) in
-              let run =
-              λ (mid : ℕ) (u : HasAt e code pc mid). y.fixed.binaries op ty aty bty mode e (home a)
-              (home b) answer_location work_location (base a) (base b) (y.work + 40) y.work pc mid v k.types slots2 h.bytes u in
-              let room = binary_roomy op ty aty bty in
-              answer_passes p e slots home base place y code (64 * binary_room op ty aty bty) size c (suc n) pc parts.0 t need need0 m v
-              (R (suc n) rest m1) holds k.result same h more z there run (omega (arith, room, same))
-              (λ number v2 g matches.
+          cases_of : (x : Bool) {own other : List AsmItem} → own ≡ [] → other ≡ [] → (if x then own else other) ≡ []
+          cases_of true q1 q2 = q1
+          cases_of false q1 q2 = q2
+
+          -- bytes that hold the result of the operands' bytes are those of r
+          reached : (mid number : ℕ) (v2 : View) → HasAt e (items rest) mid end
+              → value v.at (base a) (scalar_size aty) ≡ low1 → value v.at (base b) (scalar_size bty) ≡ low2
+              → IsBinaryResult op ty mode aty bty (value v.at (base a) (scalar_size aty)) (value v.at (base b) (scalar_size bty)) number
+              → M need (machine (with_content t (bits number) m.temps) st) v2
+              → G (suc n) (m.state.work + c) mid v2 (R (suc n) rest m1)
+          reached mid number v2 onward x_is y_is g matches =
               let content : content_of t.bytes r ≡ bits number =
               ap (λ s. content_of s r) k.result_bytes ∙ g (left low1) (right low2) r
               (record {
@@ -1489,7 +1465,96 @@ module _ (p : PlainProgram) (functions : List PlainIrFunction) (e : Env) (slots 
                 value_is = ap (λ x. value_in bty (bits x)) y_is
                     ∙ value_is bty low2 (fixed_numeric bty suited.second);
               }) q in
-              f parts.0 m1 v2 parts.2 (subst (λ (x : Content). M need (machine (with_content t x m.temps) st) v2) (sym content) matches))
+              f mid m1 v2 onward (subst (λ (x : Content). M need (machine (with_content t x m.temps) st) v2) (sym content) matches)
+
+          by_code : (x : Bool) → stops ≡ x → (w == 0) ≡ false → (mid : ℕ)
+              → HasAt e (if x then stopped else answer_code code (home t) w) pc mid → HasAt e (items rest) mid end
+              → value v.at (base a) (scalar_size aty) ≡ low1 → value v.at (base b) (scalar_size bty) ≡ low2
+              → G (suc n) m.state.work pc v (R (suc n) rest m1)
+          by_code true s z mid there onward x_is y_is =
+              let known = and_parts (is_limited op mode ty aty bty) (not (same_location (home b) (home t))) s in
+              let lim = limited op mode ty aty bty known.0 in
+              let kind = lim.kind in
+              let size = (format_of kind).bits / 8 in
+              let size_t : scalar_size ty ≡ size = ap scalar_size lim.result_is in
+              let size_a : scalar_size aty ≡ size = ap scalar_size lim.left_is in
+              let size_b : scalar_size bty ≡ size = ap scalar_size lim.right_is in
+              let some = k.left.some in
+              let top = a.bytes - 1 in
+              let width_a : a.bytes ≡ suc top = omega arith in
+              let width_t : t.bytes ≡ suc top = k.result_bytes ∙ size_t ∙ sym size_a ∙ sym k.left_bytes ∙ width_a in
+              let width_b : b.bytes ≡ suc top = k.right_bytes ∙ size_b ∙ sym size_a ∙ sym k.left_bytes ∙ width_a in
+              let wide : suc top ≡ size = sym width_a ∙ k.left_bytes ∙ size_a in
+              let format_bits : (format_of kind).bits ≡ 8 * suc top = kind_bits kind ∙ ap (λ x. 8 * x) (sym wide) in
+              let signed : is_signed aty ≡ (format_of kind).signed = ap is_signed lim.left_is in
+              let code_there : HasAt e (stopped_code (is_difference op) (format_of kind).signed (home a) (home b) (home t) top) pc mid =
+              subst (λ (x : Bool). HasAt e (stopped_code (is_difference op) x (home a) (home b) (home t) top) pc mid) signed
+              (subst (λ (x : Bool). HasAt e (if x then [] else stopped_code (is_difference op) (is_signed aty) (home a) (home b) (home t)
+              top) pc mid) z there) in
+              let apart_from : t.at ≢ b.at = stands_apart p e slots home base place y t b (width_b ∙ sym width_t) known.1 in
+              let room = binary_roomy op ty aty bty in
+              stopped_passes p e slots home base place y (is_difference op) (format_of kind) mode top c (suc n) pc mid t a b need
+              (needs at (i ∷ rest)) m v (R (suc n) rest m1) k.result k.left k.right width_t width_a width_b apart_from
+              (IsFormat-format_of kind) format_bits lim.saturates h more code_there (omega (arith, room, size_t, wide))
+              (λ number v2 g matches.
+              reached mid number v2 onward x_is y_is
+              (subst (λ (x : ℕ). IsBinaryResult op ty mode aty bty (value v.at (base a) x) (value v.at (base b) (scalar_size bty)) number)
+              (sym width_a ∙ k.left_bytes)
+              (subst (λ (x : ℕ). IsBinaryResult op ty mode aty bty (value v.at (base a) (suc top)) (value v.at (base b) x) number)
+              (sym width_b ∙ k.right_bytes)
+              (stopped_result op mode ty aty bty lim (suc top) (value v.at (base a) (suc top)) (value v.at (base b) (suc top)) number wide
+              g))) matches)
+          by_code false s z mid there onward x_is y_is =
+              let size = scalar_size ty in
+              let same : size ≡ t.bytes = sym k.result_bytes in
+              let some = k.result.some in
+              let most = k.result.most in
+              let slots0 = slots_of p e slots home base place y a b size k.left k.right k.different (omega arith) (omega arith) in
+              let slots1 =
+              subst
+              (λ (x : ℕ). AreSlots e (home a) (home b) answer_location work_location x b.bytes size (base a) (base b)
+              (y.work + 40) y.work) k.left_bytes slots0 in
+              let slots2 =
+              subst
+              (λ (x : ℕ). AreSlots e (home a) (home b) answer_location work_location (scalar_size aty) x size (base a) (base b)
+              (y.work + 40) y.work) k.right_bytes slots1 in
+              let holds =
+              IsBinaryResult op ty mode aty bty (value v.at (base a) (scalar_size aty)) (value v.at (base b) (scalar_size bty)) in
+              let run =
+              λ (end1 : ℕ) (u : HasAt e code pc end1). y.fixed.binaries op ty aty bty mode e (home a)
+              (home b) answer_location work_location (base a) (base b) (y.work + 40) y.work pc end1 v k.types slots2 h.bytes u in
+              let room = binary_roomy op ty aty bty in
+              answer_passes p e slots home base place y code (64 * binary_room op ty aty bty) size c (suc n) pc mid t need
+              (needs at (i ∷ rest)) m v (R (suc n) rest m1) holds k.result same h more z there run (omega (arith, room, same))
+              (λ number v2 g matches. reached mid number v2 onward x_is y_is g matches)
+
+          by_need : (x : Bool) → (w == 0) ≡ x → G (suc n) m.state.work pc v (R (suc n) rest m1)
+          by_need true z =
+              let none = λ (x : List AsmItem). ap (λ (q : Bool). if q then [] else x) z in
+              let both = λ (q : Bool). cases_of q (none (stopped_code (is_difference op) (is_signed aty) (home a) (home b) (home t) (a.bytes - 1)))
+              (none (code ++ copy_code answer_location (home t) w)) in
+              let empty : code_of i rest ≡ [] = code_is ∙ both stops in
+              let go =
+              nothing_passes i t (low_bytes t.bytes number.number) c rest n pc (needs at (i ∷ rest)) m v k.result empty
+              (eqb-true w 0 z) (low_below t.bytes number.number) stand more h f in
+              subst (λ (x : Value). G (suc n) m.state.work pc v (R (suc n) rest (machine (with_temp t x m.temps) st)))
+              (sym number.result) go
+          by_need false z =
+              let parts = has_parts e (code_of i rest) (items rest) pc end stand in
+              let there : HasAt e (if stops then stopped else answer_code code (home t) w) pc parts.0 =
+              subst (λ x. HasAt e x pc parts.0) code_is parts.1 in
+              let need0 = needs at (i ∷ rest) in
+              let least_a : all_or_none a.bytes w ≤ need0 a.at = subst (λ (x : Bool). first_wanted x op a.bytes w ≤ need0 a.at) wx
+              (least_here a.at ka (at_least b.at kb (without t.at need))) in
+              let inner = least_here b.at kb (without t.at need) in
+              let outer = least_other a.at ka b.at (at_least b.at kb (without t.at need)) in
+              let least_b : all_or_none b.bytes w ≤ need0 b.at = subst (λ (x : Bool). second_wanted x op b.bytes w ≤ need0 b.at) wx
+              (omega arith) in
+              let x_is : value v.at (base a) (scalar_size aty) ≡ low1 =
+              all_there a w low1 (scalar_size aty) need0 m v k.left k.left_bytes z least_a qa h in
+              let y_is : value v.at (base b) (scalar_size bty) ≡ low2 =
+              all_there b w low2 (scalar_size bty) need0 m v k.right k.right_bytes z least_b qb h in
+              by_code stops refl z parts.0 there parts.2 x_is y_is
 
   pub fixed_unary_follows : (op : UnOp) (ty : PlainType) (mode : Mode) (t a : Temp) (rest : List PlainIr) (n pc : ℕ) (m : Mach) (v : View)
       → IsFixedUnary slots op t a ty → mode.saturate ≡ true → HasAt e (items (unary_op op ty mode t a ∷ rest)) pc end
@@ -2874,8 +2939,10 @@ module _ (p : PlainProgram) (functions : List PlainIrFunction) (e : Env) (slots 
           let tells_same : tells_next at i rest ≡ tells_next at i1 rest =
           ap (λ z. if only then told_by (not z) (family_of op) sign else None) on in
           ap (λ z. (if z then operator_code (tells_next at i rest) (family_of op) sign sign (home a) (home b) (home t) a.bytes w
+          else (if is_limited op mode ty (fixed k s1) (fixed k s2) && not (same_location (home b) (home t))
+          then stopped_sum (is_difference op) sign (home a) (home b) (home t) a.bytes w
           else answer_code (fixed_binary_code op ty (fixed k s1) (fixed k s2) mode (home a) (home b) answer_location work_location)
-          (home t) w) ++ items_told (tells_next at i rest) rest) on
+          (home t) w)) ++ items_told (tells_next at i rest) rest) on
           ∙ ap (λ z. operator_code z (family_of op) sign sign (home a) (home b) (home t) a.bytes w ++ items_told z rest) tells_same
 
       fewer : (u : ℕ) → needs at (i1 ∷ rest) u ≤ needs at (i ∷ rest) u

@@ -1,5 +1,6 @@
 -- Lemmas of the emitters.
-use Rattle.std.proofs.Common.{ℕ, ◌≤◌, inl, inr, subst, arith}
+use Rattle.std.proofs.Common.{◌≡◌, ◌++◌, ℕ, ◌≤◌, List, Ok, Err, append_assoc, ap, ◌∙◌, inl, inr, subst, arith}
+use Rattle.std.specs.Prelude.{Result, OnOk}
 use Rattle.ec_space.specs.declared.space.Bank.{Bank}
 use Rattle.ec_asm.specs.declared.pieces.Location.{Location}
 use Rattle.ec_asm.specs.declared.pieces.Location.TheVariants.{InRegisters, InMemory}
@@ -27,3 +28,9 @@ fewer_compared Less p n l h = fewer_bytes p n 2 l h
 fewer_compared NotLess p n l h = fewer_bytes p n 2 l h
 fewer_compared Equal p n l h = h
 fewer_compared NotEqual p n l h = h
+
+-- code behind code
+pub joined_code : {E T X : Type 0} (r : Result T X) (old mid new first second : List E) → mid ≡ old ++ first
+    → OnOk r (new ≡ mid ++ second) → OnOk r (new ≡ old ++ (first ++ second))
+joined_code (Ok x) old mid new first second e h = h ∙ ap (λ l. l ++ second) e ∙ append_assoc old first second
+joined_code (Err x) old mid new first second e h = h

@@ -12,10 +12,11 @@ use Rattle.ec_core.proofs.Sameness.{type_true}
 use Rattle.ec_ir.specs.declared.operations.Temp.{Temp}
 use Rattle.ec_select_operations.specs.declared.families.Family.{Family}
 use Rattle.ec_select_operations.specs.declared.families.Family.TheVariants.{Combined, Compared, Multiplied, Shifted, Divided}
-use Rattle.ec_select_operations.specs.Code.{family_of, has_one_format, is_as_exact, is_on_integers}
+use Rattle.ec_select_operations.specs.Code.{family_of, has_one_format, is_as_exact, is_on_integers, is_added, is_limited}
 use Rattle.ec_select_operations.specs.Emitted.{BinaryHasBytes, FixedHasBytes, FixedConversionHasBytes}
 use Rattle.ec_select_fixed.proofs.Conversions.{converted_types}
 use Rattle.ec_select_fixed.proofs.Formats.{operand_bytes}
+use Rattle.ec_select_fixed.proofs.Suits.{operands_suit}
 
 -- two types of one kind
 pub record HaveOneKind (aty bty : PlainType) : Type 0 where
@@ -96,6 +97,30 @@ integer_bytes op mode wanted to a b ty aty bty e h =
     by_family Multiplied k same = absurd k
     by_family (Shifted up) k same = absurd k
     by_family (Divided r) k same = absurd k
+
+-- the bytes that a sum or a difference which saturates asks for
+pub record HasLimitedBytes (to a b : Temp) : Type 0 where
+  pub some : 1 ≤ a.bytes
+  pub right : a.bytes ≤ b.bytes
+  pub result : a.bytes ≤ to.bytes
+
+pub limited_bytes : (op : BinOp) (mode : Mode) (wanted : ℕ) (to a b : Temp) (ty aty bty : PlainType)
+    → is_limited op mode ty aty bty ≡ true → FixedHasBytes op wanted to a b ty aty bty → HasLimitedBytes to a b
+limited_bytes op mode wanted to a b ty aty bty e h =
+    let p = and_parts (is_added op) (has_one_format aty bty && (has_one_format ty aty && mode.saturate)) e in
+    let q = and_parts (has_one_format aty bty) (has_one_format ty aty && mode.saturate) p.1 in
+    let r = and_parts (has_one_format ty aty) mode.saturate q.1 in
+    let same = one_size aty bty q.0 in
+    let first = one_size ty aty r.0 in
+    let some = (operand_bytes aty (operands_suit op ty aty bty h.types).first).0 in
+    let left = h.left in
+    let right = h.right in
+    let bytes = h.result in
+    record {
+      some = omega (arith, some, left);
+      right = omega (arith, same, left, right);
+      result = omega (arith, first, left, bytes);
+    }
 
 -- an operand that is converted has a byte
 pub some_bytes : (wanted : ℕ) (to a : Temp) (ty aty : PlainType) → FixedConversionHasBytes wanted to a ty aty → 1 ≤ a.bytes

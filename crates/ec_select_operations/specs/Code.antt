@@ -53,6 +53,7 @@ use Rattle.ec_select_operations.specs.declared.families.Family.TheVariants.{Divi
 use Rattle.ec_select_operations.specs.declared.families.Told.{Told}
 use Rattle.ec_select_operations.specs.declared.homes.Homes.{Homes}
 use Rattle.ec_select_operations.specs.Homes.{home, result_location}
+use Rattle.ec_fxcode_limits.specs.Limits.{limited_code}
 use Rattle.ec_select_fixed.specs.Codes.{fixed_binary_code, fixed_unary_code, fixed_conversion_code}
 use Rattle.ec_select_operations.specs.Needs.{is_fixed, is_whole}
 use Rattle.ec_select_operations.specs.Needs.{Need, nothing, wanted, wanted_result, without_result, either, needs}
@@ -308,13 +309,36 @@ abbrev pub by_kind : Bool → (own others : List AsmItem) → List AsmItem
 by_kind true own others = own
 by_kind false own others = others
 
--- operands of so many bytes
+abbrev pub is_difference : BinOp → Bool
+is_difference Sub = true
+is_difference op = false
+
+-- a sum or a difference in the one format of its operands that saturates
+abbrev pub is_added : BinOp → Bool
+is_added Add = true
+is_added Sub = true
+is_added op = false
+
+abbrev pub is_limited : BinOp → Mode → (ty aty bty : PlainType) → Bool
+is_limited op mode ty aty bty = is_added op && (has_one_format aty bty && (has_one_format ty aty && mode.saturate))
+
+-- the first operand is brought to the result's place, and all its bytes, which are top + 1, are combined there with those
+-- of the second one; the result is stopped at the ends of its range
+abbrev pub stopped_code : (minus signed : Bool) → (a b to : Location) → (top : ℕ) → List AsmItem
+stopped_code minus signed a b to top = move_code a to (suc top) ++ limited_code minus signed b to top
+
+abbrev pub stopped_sum : (minus signed : Bool) → (a b to : Location) → (bytes n : ℕ) → List AsmItem
+stopped_sum minus signed a b to bytes n = if n == 0 then [] else stopped_code minus signed a b to (bytes - 1)
+
+-- operands of so many bytes. A difference whose second operand stands at the result's place is none of those
 abbrev pub fixed_binary : (telling : Option Told) → BinOp → (ty aty bty : PlainType) → Mode → (a b to : Location)
     → (bytes n : ℕ) → List AsmItem
 fixed_binary telling op ty aty bty mode a b to bytes n =
     if is_on_integers (family_of op) mode ty aty bty
     then operator_code telling (family_of op) (is_signed aty) (is_signed bty) a b to bytes n
-    else answer_code (fixed_binary_code op ty aty bty mode a b answer_location work_location) to n
+    else (if is_limited op mode ty aty bty && not (same_location b to)
+    then stopped_sum (is_difference op) (is_signed aty) a b to bytes n
+    else answer_code (fixed_binary_code op ty aty bty mode a b answer_location work_location) to n)
 
 -- a negation that does not saturate is that of an integer
 abbrev pub fixed_unary : UnOp → PlainType → Mode → (a to : Location) → (n : ℕ) → List AsmItem
@@ -369,10 +393,6 @@ pointers_code (Combined op) a b to bytes size n = difference_code a b to size n
 pointers_code (Compared r false) a b to bytes size n = compared_code r false a b to (compared_bytes r bytes) n
 pointers_code (Compared r true) a b to bytes size n = compared_code r false b a to (compared_bytes r bytes) n
 pointers_code f a b to bytes size n = []
-
-abbrev pub is_difference : BinOp → Bool
-is_difference Sub = true
-is_difference op = false
 
 -- two pointers, or a pointer and a number of elements, in either order
 abbrev pub pointer_binary : (left right : Bool) → PlainProgram → BinOp → (aty bty : PlainType) → (a b to : Location)

@@ -20,7 +20,7 @@ use ec_select_quotients::{Division, quotient};
 use ec_select_shifts::{Direction, shift};
 use ec_space::{NoMemory, Seq};
 
-fn is_same(p: Location, q: Location) -> bool
+pub(crate) fn is_same(p: Location, q: Location) -> bool
     ensures { result ≡ same_location p q }
 {
     match (p, q) {

@@ -1,19 +1,27 @@
-//! Operations with a fixed-point type: they are those of integers where both give the same, and else they compute in
-//! the work bytes, and their result is brought from there to its place.
-ghost use Rattle.std.specs.Prelude.{◌≡◌, ◌≤◌, ◌++◌, OnOk, OnErr};
+//! Operations with a fixed-point type: they are those of integers where both give the same, and a sum or a difference
+//! that saturates is one of integers that is stopped at the ends of its range. Else they compute in the work bytes, and
+//! their result is brought from there to its place.
+ghost use Rattle.std.specs.Prelude.{◌≡◌, ◌≤◌, ◌<◌, ◌++◌, suc, OnOk, OnErr};
 ghost use Rattle.ec_runs.specs.Behaviours.{BeginWith};
+ghost use Rattle.ec_asm.specs.Pieces.{HasBytes, operate_code};
+ghost use Rattle.ec_fxcode_limits.specs.Limits.{operator_of, limited_code};
 ghost use Rattle.ec_core.specs.Plain.{plain_type};
+ghost use Rattle.ec_select_operations.specs.Code.{is_added, is_limited, stopped_code, stopped_sum};
 ghost use Rattle.ec_select_operations.specs.Code.{work_location, answer_location, fixed_binary, fixed_unary};
 ghost use Rattle.ec_select_operations.specs.Code.{fixed_conversion, keeps_number, family_of, is_as_exact, is_on_integers, is_apart};
 ghost use Rattle.ec_select_operations.specs.Emitted.{FixedHasBytes, FixedOperandHasBytes, FixedConversionHasBytes};
 ghost use Rattle.ec_select_operations.specs.Homes.{home};
 
-use crate::families::{BinaryOperation, Family, Told, convert, family_of, operator, unary};
+use crate::families::{
+    BinaryOperation, Family, Told, convert, family_of, is_same, move_number, operator, unary,
+};
 use crate::homes::{Homes, home};
+use crate::pointers::is_difference;
 use crate::types::{has_one_format, has_one_fraction, is_signed, is_whole};
-use ec_asm::{AsmItem, Location, copy};
+use ec_asm::{AsmItem, Location, Operator, copy, operate};
 use ec_core::{BinOp, CType, UnOp};
 use ec_fx::Mode;
+use ec_fxcode_limits::limit;
 use ec_ir::Temp;
 use ec_select_fixed::Places;
 use ec_space::{NoMemory, Seq};
@@ -65,10 +73,103 @@ pub(crate) fn is_apart(family: Family, mode: Mode, ty: &CType, aty: &CType, bty:
     (is_whole(aty) || is_whole(bty)) && !is_on_integers(family, mode, ty, aty, bty)
 }
 
+fn is_added(op: BinOp) -> bool
+    ensures { result ≡ is_added op }
+{
+    matches!(op, BinOp::Add | BinOp::Sub)
+}
+
+/// Whether an operator is a sum or a difference in the one format of its operands that saturates.
+fn is_limited(op: BinOp, mode: Mode, ty: &CType, aty: &CType, bty: &CType) -> bool
+    ensures { result ≡ is_limited op mode (plain_type ty.now) (plain_type aty.now) (plain_type bty.now) }
+{
+    is_added(op) && has_one_format(aty, bty) && has_one_format(ty, aty) && mode.saturate
+}
+
+/// Two numbers, of which the second one is added to the first one or taken from it.
+#[derive(Clone, Copy)]
+struct Sum {
+    minus: bool,
+    signed: bool,
+    left: Location,
+    right: Location,
+}
+
+/// Appends code that adds a number of so many bytes to another one, or takes it from that.
+fn add(
+    out: &mut Seq<AsmItem>,
+    minus: bool,
+    right: Location,
+    to: Location,
+    bytes: u8,
+) -> Result<(), NoMemory>
+    requires right { HasBytes right bytes }
+    requires to { HasBytes to bytes }
+    ensures ok { OnOk result (out.new.items ≡ out.old.items ++ operate_code (operator_of minus) right to bytes) }
+    ensures err { OnErr result (BeginWith out.old.items out.new.items) }
+{
+    if minus {
+        operate(out, Operator::Difference, right, to, bytes)
+    } else {
+        operate(out, Operator::Sum, right, to, bytes)
+    }
+}
+
+/// Appends code that adds the second number, or takes it, where the first one stands, and stops there at the ends of the
+/// range of numbers of `top + 1` bytes.
+#[tactic(auto, using(crate::proofs::Emits::fewer_bytes, crate::proofs::Emits::byte_there))]
+fn limited(out: &mut Seq<AsmItem>, of: Sum, to: Location, top: u8) -> Result<(), NoMemory>
+    requires right { HasBytes of.right (suc top) }
+    requires to { HasBytes to (suc top) }
+    requires few { top < 255 }
+    ensures ok { OnOk result (out.new.items ≡ out.old.items ++ limited_code of.minus of.signed of.right to top) }
+    ensures err { OnErr result (BeginWith out.old.items out.new.items) }
+{
+    add(out, of.minus, of.right, to, top + 1)?;
+    limit(out, of.minus, of.signed, to, top)
+}
+
+/// Appends code that puts the sum or the difference of two numbers of `top + 1` bytes to another place, or where it is
+/// out of range the nearer end.
+fn stopped(out: &mut Seq<AsmItem>, of: Sum, to: Location, top: u8) -> Result<(), NoMemory>
+    requires left { HasBytes of.left (suc top) }
+    requires right { HasBytes of.right (suc top) }
+    requires to { HasBytes to (suc top) }
+    requires few { top < 255 }
+    ensures ok { OnOk result (out.new.items ≡ out.old.items
+        ++ stopped_code of.minus of.signed of.left of.right to top) }
+    ensures err { OnErr result (BeginWith out.old.items out.new.items) }
+{
+    move_number(out, of.left, to, top + 1)?;
+    limited(out, of, to, top)
+}
+
+/// Appends the code of a sum or a difference of numbers of so many bytes that stops at the ends of their range.
+fn stopped_sum(
+    out: &mut Seq<AsmItem>,
+    of: Sum,
+    to: Location,
+    bytes: u8,
+    wanted: u8,
+) -> Result<(), NoMemory>
+    requires left { HasBytes of.left bytes }
+    requires right { HasBytes of.right bytes }
+    requires to { HasBytes to bytes }
+    requires some { 1 ≤ bytes }
+    ensures ok { OnOk result (out.new.items ≡ out.old.items
+        ++ stopped_sum of.minus of.signed of.left of.right to bytes wanted) }
+    ensures err { OnErr result (BeginWith out.old.items out.new.items) }
+{
+    if wanted == 0 {
+        return Ok(());
+    }
+    stopped(out, of, to, bytes - 1)
+}
+
 /// Appends the code of a binary operator on operands of which one is fixed-point at least, of whose result so many
 /// bytes are wanted, or where it tells something by a flag, of the comparison alone. Where memory runs out, a part of
 /// the code is appended.
-#[tactic(auto, using(crate::proofs::Emits::fewer_bytes, crate::proofs::OneFormat::integer_bytes))]
+#[tactic(auto, using(crate::proofs::Emits::fewer_bytes, crate::proofs::OneFormat::integer_bytes, crate::proofs::OneFormat::limited_bytes))]
 pub fn fixed_binary(
     out: &mut Seq<AsmItem>,
     homes: Homes,
@@ -99,17 +200,27 @@ pub fn fixed_binary(
         };
         return operator(out, homes, telling, op, of, wanted);
     }
+    let (left, right, place) = (home(homes, a), home(homes, b), home(homes, to));
+    if is_limited(op, mode, ty, aty, bty) && !is_same(right, place) {
+        let of = Sum {
+            minus: is_difference(op),
+            signed: is_signed(aty),
+            left,
+            right,
+        };
+        return stopped_sum(out, of, place, a.bytes, wanted);
+    }
     if wanted == 0 {
         return Ok(());
     }
     let places = Places {
-        left: home(homes, a),
-        right: home(homes, b),
+        left,
+        right,
         to: answer_location(),
         work: work_location(),
     };
     ec_select_fixed::fixed_binary(out, op, ty, aty, bty, mode, places)?;
-    copy(out, answer_location(), home(homes, to), wanted)
+    copy(out, answer_location(), place, wanted)
 }
 
 /// Appends the code of a unary operator on an operand of a fixed-point type, of whose result so many bytes are wanted.

@@ -290,7 +290,7 @@ pub fn combine_pointers(
     }
 }
 
-fn is_difference(op: BinOp) -> bool
+pub(crate) fn is_difference(op: BinOp) -> bool
     ensures { result ≡ is_difference op }
 {
     matches!(op, BinOp::Sub)

@@ -1,0 +1,6 @@
+-- For the crates of the family.
+pub mod Ends
+pub mod Limited
+-- For this crate alone.
+mod Numbers
+mod Flags

@@ -1,0 +1,130 @@
+//! A sum or a difference is stopped at the ends of its range.
+ghost use Rattle.std.specs.Prelude.{◌≡◌, ◌≤◌, ◌<◌, ◌^◌, ◌++◌, suc, pos, OnOk, OnErr};
+ghost use Rattle.ec_runs.specs.Behaviours.{BeginWith};
+ghost use Rattle.ec_asm.specs.Pieces.{HasBytes, HasByte};
+ghost use Rattle.ec_fxcode_limits.specs.Limits.{past_flag, fill_code, fill_words, top_code, top_words, byte_words};
+ghost use Rattle.ec_fxcode_limits.specs.Limits.{end_code, end_words, limit_code};
+
+use ec_asm::{AsmItem, Location};
+use ec_fxcode::{fills, put_byte};
+use ec_isa::Instr;
+use ec_space::{NoMemory, Seq};
+
+/// V or C.
+fn past_flag(signed: bool) -> u8
+    ensures { result ≡ past_flag signed }
+{
+    if signed { 3 } else { 0 }
+}
+
+/// Appends code that makes R31 the bytes below the highest one of an end of the range.
+fn fill(out: &mut Seq<AsmItem>, minus: bool, signed: bool) -> Result<(), NoMemory>
+    ensures ok { OnOk result (out.new.items ≡ out.old.items ++ fill_code minus signed) }
+    ensures err { OnErr result (out.new.items ≡ out.old.items) }
+{
+    match (minus, signed) {
+        (false, true) => out.extend_from_slice(&[
+            AsmItem::Plain(Instr::Sbc { d: 31, r: 31 }),
+            AsmItem::Plain(Instr::Com { d: 31 }),
+        ]),
+        (true, true) => out.extend_from_slice(&[AsmItem::Plain(Instr::Sbc { d: 31, r: 31 })]),
+        (false, false) => out.extend_from_slice(&[AsmItem::Plain(Instr::Ldi { d: 31, k: 255 })]),
+        (true, false) => out.extend_from_slice(&[AsmItem::Plain(Instr::Ldi { d: 31, k: 0 })]),
+    }
+}
+
+fn fill_words(minus: bool, signed: bool) -> u16
+    ensures { result ≡ fill_words minus signed }
+{
+    match (minus, signed) {
+        (false, true) => 2,
+        _ => 1,
+    }
+}
+
+/// Appends code that makes R31 the highest byte of that end.
+fn top(out: &mut Seq<AsmItem>, signed: bool) -> Result<(), NoMemory>
+    ensures ok { OnOk result (out.new.items ≡ out.old.items ++ top_code signed) }
+    ensures err { OnErr result (out.new.items ≡ out.old.items) }
+{
+    if signed {
+        out.extend_from_slice(&[AsmItem::Plain(Instr::Subi { d: 31, k: 128 })])
+    } else {
+        Ok(())
+    }
+}
+
+fn top_words(signed: bool) -> u16
+    ensures { result ≡ top_words signed }
+{
+    if signed { 1 } else { 0 }
+}
+
+fn byte_words(to: Location) -> u16
+    ensures value { result ≡ byte_words to }
+    ensures most { result ≤ 2 }
+{
+    match to {
+        Location::InRegisters(_) => 1,
+        Location::InMemory { .. } => 2,
+    }
+}
+
+/// The words of the code that puts an end of the range to `top + 1` bytes.
+fn end_words(minus: bool, signed: bool, to: Location, top: u8) -> u16
+    ensures value { result ≡ end_words minus signed to top }
+    ensures most { result < 2 ^ 12 }
+{
+    fill_words(minus, signed)
+        + (byte_words(to) * u16::from(top) + (top_words(signed) + byte_words(to)))
+}
+
+/// A branch over so many words, where a flag is 0.
+fn over_unless(flag: u8, words: u16) -> Instr
+    requires { words < 2 ^ 12 }
+    ensures { result ≡ Instr.Brbc flag (pos words) }
+{
+    Instr::Brbc {
+        s: flag,
+        k: words as i16,
+    }
+}
+
+/// Appends code that puts an end of the range to `top + 1` bytes.
+fn end(
+    out: &mut Seq<AsmItem>,
+    minus: bool,
+    signed: bool,
+    to: Location,
+    top_byte: u8,
+) -> Result<(), NoMemory>
+    requires low { HasBytes to top_byte }
+    requires top { HasByte to top_byte }
+    ensures ok { OnOk result (out.new.items ≡ out.old.items ++ end_code minus signed to top_byte) }
+    ensures err { OnErr result (BeginWith out.old.items out.new.items) }
+{
+    fill(out, minus, signed)?;
+    fills(out, to, 0, top_byte)?;
+    top(out, signed)?;
+    put_byte(out, 31, to, top_byte)
+}
+
+/// Appends code that stands right behind the code of a sum, or of a difference, of two numbers of `top + 1` bytes, and
+/// changes nothing between: where the result is out of the range of such numbers, in two's complement or without a
+/// sign, it puts the nearer end of the range in its place. Where memory runs out, a part of the code is appended.
+pub fn limit(
+    out: &mut Seq<AsmItem>,
+    minus: bool,
+    signed: bool,
+    to: Location,
+    top: u8,
+) -> Result<(), NoMemory>
+    requires low { HasBytes to top }
+    requires top { HasByte to top }
+    ensures ok { OnOk result (out.new.items ≡ out.old.items ++ limit_code minus signed to top) }
+    ensures err { OnErr result (BeginWith out.old.items out.new.items) }
+{
+    let words = end_words(minus, signed, to, top);
+    out.extend_from_slice(&[AsmItem::Plain(over_unless(past_flag(signed), words))])?;
+    end(out, minus, signed, to, top)
+}
