@@ -19,7 +19,7 @@ FAMILIES = (
     ("ec_asm",),
     ("ec_select", "ec_fxcode"),
     ("ec_build",),
-    ("ec_commands", "ec_driver"),
+    ("ec_commands", "ec_driver", "ec_judge"),
 )
 USE = re.compile(r"\bRattle\.(ec_\w+)\.proofs\.(\w+)|\b(ec_\w+)::proofs::(\w+)")
 

@@ -36,7 +36,7 @@ use Rattle.ec_commands_compile.specs.Kept.{port_events, events_of, EndsWith, Kee
 
 -- ---- port accesses of traces
 
-ports_append : (xs ys : List Access) → ports_of (xs ++ ys) ≡ ports_of xs ++ ports_of ys
+pub ports_append : (xs ys : List Access) → ports_of (xs ++ ys) ≡ ports_of xs ++ ports_of ys
 ports_append [] ys = refl
 ports_append (PortIn port byte ∷ xs) ys = ap (λ (l : List Access). PortIn port byte ∷ l) (ports_append xs ys)
 ports_append (PortOut port byte ∷ xs) ys = ap (λ (l : List Access). PortOut port byte ∷ l) (ports_append xs ys)
@@ -91,7 +91,7 @@ written_leaf p place base told (Some leaf) = written_bytes (base + leaf.at) (num
 abbrev leaf_there : PlainProgram → (object leaf : ℕ) → Option PlainLeaf
 leaf_there p o k = option_and_then (λ d. slice_get (leaves_of_type p.structs d.ty) k) (slice_get p.objects o)
 
-ports_events : (p : PlainProgram) (place : ℕ → ℕ) (es : List Event) → ports_of (accesses p place es) ≡ port_events es
+pub ports_events : (p : PlainProgram) (place : ℕ → ℕ) (es : List Event) → ports_of (accesses p place es) ≡ port_events es
 ports_events p place [] = refl
 ports_events p place (In port byte ∷ es) = ap (λ (xs : List Access). PortIn port byte ∷ xs) (ports_events p place es)
 ports_events p place (Out port byte ∷ es) = ap (λ (xs : List Access). PortOut port byte ∷ xs) (ports_events p place es)

@@ -2,10 +2,10 @@
 pub mod Statuses
 pub mod Usage
 pub mod RunGen
+pub mod Keeping
+pub mod ReadingExec
 -- For this crate alone.
 mod Reading
-mod ReadingExec
-mod Keeping
 mod RunExec
 mod Written
 mod Texts

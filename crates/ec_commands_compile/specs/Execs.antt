@@ -37,6 +37,13 @@ pub record IsExecBuilt (words : Words) (disk : Option Disk) (lines : List ℕ) (
   pub inputs : Told (AreExecInputs words map lines sources) disk
   pub built : IsBuilt sources map b
 
+-- so is the script, which keeps the rules and says these answers
+pub record IsExecRead (words : Words) (disk : Option Disk) (b : Built) (answers : List ScriptLine) : Type 0 where
+  pub lines : List ℕ
+  pub from : IsExecBuilt words disk lines b
+  pub kept : AreKept (forms_of Small lines)
+  pub scripted : map entry_of answers ≡ entries (forms_of Small lines)
+
 -- its machine is in the reset state with 165 everywhere, and the script says these answers
 pub record IsExecLoaded (words : Words) (disk : Option Disk) (machine : State) (answers : List ScriptLine) : Type 0
   where

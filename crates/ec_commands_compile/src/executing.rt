@@ -1,13 +1,9 @@
 //! The command `exec`.
-ghost use Rattle.std.specs.Prelude.{◌≡◌, ◌≤◌, ◌<◌, ◌^◌, ◌⊎◌, ◌↔◌, ℕ, List, None, IfOk, IfErr, OnOk, IsErrOf};
-ghost use Rattle.std.specs.Prelude.{All, length, map};
-ghost use Rattle.ec_space.specs.declared.Core.TheVariants.{Small};
+ghost use Rattle.std.specs.Prelude.{◌≡◌, ◌≤◌, ◌<◌, ◌↔◌, ℕ, List, None, IfOk, IfErr, OnOk, IsErrOf, All, length};
 ghost use Rattle.ec_io.specs.Causes.{Rose};
 ghost use Rattle.ec_io.specs.Views.{store_view, sink_call};
 ghost use Rattle.ec_avr.specs.Machine.{IsReset, reset_with};
 ghost use Rattle.ec_emu.specs.declared.ask.Ask.{Ask};
-ghost use Rattle.ec_emu.specs.Script.{AreKept, entries, entry_of, forms_of};
-ghost use Rattle.ec_commands.specs.Runs.{HasScriptFault};
 ghost use Rattle.ec_commands.specs.Shown.{KeepsAll, Told};
 ghost use Rattle.ec_commands.specs.Sources.{texts};
 ghost use Rattle.ec_commands.specs.Words.{words_from};
@@ -15,7 +11,7 @@ ghost use Rattle.ec_commands.specs.declared.stop.Limit.TheVariants.{Sources};
 ghost use Rattle.ec_commands.specs.declared.stop.CommandError.TheVariants.{TooMany as TooManyStop};
 ghost use Rattle.ec_commands.specs.Answers.{IsLeft};
 ghost use Rattle.ec_commands_compile.specs.Inputs.{AreExecInputs, exec_inputs, StopsReadingExec};
-ghost use Rattle.ec_commands_compile.specs.Execs.{IsExecLoaded, Executed, FitsExec, StopsLoadingExec, ExecStops, AcceptsExec};
+ghost use Rattle.ec_commands_compile.specs.Execs.{IsExecRead, IsExecLoaded, Executed, FitsExec, StopsLoadingExec, ExecStops, AcceptsExec};
 ghost use Rattle.ec_commands_compile.specs.Stops.{status_of, IsNamed};
 ghost use Rattle.ec_commands_compile.specs.declared.stop.CompileStop.TheVariants.{Command};
 
@@ -24,7 +20,7 @@ use crate::stop::CompileStop;
 use ec_avr::Machine;
 use ec_build::{Built, discard};
 use ec_commands::{CommandError, Limit, Loaded, load_script, print_run, read, read_sources};
-use ec_emu::Ports;
+use ec_emu::{Ports, Script};
 use ec_io::{Sink, Store};
 use ec_space::Seq;
 use std::alloc::Global;
@@ -77,24 +73,63 @@ fn read_inputs<S: Store>(
     }
 }
 
-/// The machine with the image that was built, and the script that a text is.
-fn load_built(alloc: Global, built: &Built, script: &Seq<u8>) -> Result<Loaded, CommandError>
-    requires { length script.now.items < 2 ^ 32 }
-    ensures reset { IfOk result (λ r. r.machine
-        ≡ reset_with built.now.located.image.core built.now.located.image.bytes.items 165) }
-    ensures is_reset { IfOk result (λ r. IsReset built.now.located.image.core built.now.located.image.bytes.items
-        r.machine) }
-    ensures kept { IfOk result (λ _. AreKept (forms_of Small script.now.items)) }
-    ensures lines { IfOk result (λ r. map entry_of r.script.lines.items ≡ entries (forms_of Small script.now.items)) }
-    ensures stopped { IfErr result (λ stop. (stop ≡ CommandError.NoMemory) ⊎ HasScriptFault script.now.items stop) }
+/// What was built of the sources that an exec names, and its script.
+#[derive(Drop)]
+pub struct ExecRead {
+    pub built: Built,
+    pub script: Script,
+}
+
+/// Reads what `exec MAP SCRIPT STEPS SRC...` names, and builds the sources.
+pub fn read_exec<S: Store>(
+    alloc: Global,
+    words: &Vec<String>,
+    store: &mut S,
+) -> Result<ExecRead, CompileStop>
+    requires five { 5 ≤ length words.now.items }
+    requires few { words_from words.now.items 4 ≤ 16 }
+    ensures files { KeepsAll (S.disk store.old) (S.disk store.new) }
+    ensures found { IfOk result (λ r. IsExecRead words.now.items (S.disk store.old) r.built r.script.lines.items) }
+    ensures stopped { IfErr result (StopsLoadingExec words.now.items
+        (store_view (S.disk store.old) (S.read_faults store.old) (S.write_faults store.old) (S.received store.old) (S.missed store.old))
+        (store_view (S.disk store.new) (S.read_faults store.new) (S.write_faults store.new) (S.received store.new) (S.missed store.new))) }
+    ensures named { IfErr result (IsNamed words.now.items) }
+    ensures complete { AcceptsExec words.now.items (S.disk store.old)
+        → ¬ (Rose (S.read_faults store.old) (S.read_faults store.new))
+        → IfErr result (λ stop. status_of stop ≡ 11) }
+    ensures later { S.read_faults store.old ≤ S.read_faults store.new }
+    ensures write_faults { S.write_faults store.new ≡ S.write_faults store.old }
+    ensures calm { (made : List ℕ) (room : ℕ) → S.calm store.old (exec_inputs words.now.items) made room
+        → S.read_faults store.new ≡ S.read_faults store.old }
 {
-    let script = match load_script(alloc, script) {
-        Ok(script) => script,
+    let inputs = match read_inputs(alloc, words, store) {
+        Ok(inputs) => inputs,
+        Err(stop) => return Err(CompileStop::Command(stop)),
+    };
+    let built = match compile(alloc, &inputs.inputs) {
+        Ok(built) => built,
         Err(stop) => return Err(stop),
     };
+    match load_script(alloc, &inputs.script) {
+        Ok(script) => Ok(ExecRead { built, script }),
+        Err(stop) => {
+            discard(built);
+            Err(CompileStop::Command(stop))
+        }
+    }
+}
+
+/// The machine with the image that was built.
+fn booted(alloc: Global, built: &Built) -> Result<Machine, CompileStop>
+    ensures reset { IfOk result (λ machine. machine
+        ≡ reset_with built.now.located.image.core built.now.located.image.bytes.items 165) }
+    ensures is_reset { IfOk result
+        (IsReset built.now.located.image.core built.now.located.image.bytes.items) }
+    ensures stopped { IfErr result (λ stop. stop ≡ Command CommandError.NoMemory) }
+{
     match Machine::boot(alloc, &built.located.image, FILL) {
-        Ok(machine) => Ok(Loaded { machine, script }),
-        Err(_) => Err(CommandError::NoMemory),
+        Ok(machine) => Ok(machine),
+        Err(_) => Err(CompileStop::Command(CommandError::NoMemory)),
     }
 }
 
@@ -116,19 +151,15 @@ fn load<S: Store>(alloc: Global, words: &Vec<String>, store: &mut S) -> Result<L
     ensures calm { (made : List ℕ) (room : ℕ) → S.calm store.old (exec_inputs words.now.items) made room
         → S.read_faults store.new ≡ S.read_faults store.old }
 {
-    let inputs = match read_inputs(alloc, words, store) {
-        Ok(inputs) => inputs,
-        Err(stop) => return Err(CompileStop::Command(stop)),
-    };
-    let built = match compile(alloc, &inputs.inputs) {
-        Ok(built) => built,
+    let ExecRead { built, script } = match read_exec(alloc, words, store) {
+        Ok(read) => read,
         Err(stop) => return Err(stop),
     };
-    let loaded = load_built(alloc, &built, &inputs.script);
+    let machine = booted(alloc, &built);
     discard(built);
-    match loaded {
-        Ok(loaded) => Ok(loaded),
-        Err(stop) => Err(CompileStop::Command(stop)),
+    match machine {
+        Ok(machine) => Ok(Loaded { machine, script }),
+        Err(stop) => Err(stop),
     }
 }
 
