@@ -1,0 +1,3 @@
+-- For this crate alone.
+mod Statuses
+mod Machines
