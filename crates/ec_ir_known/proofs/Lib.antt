@@ -1,0 +1,5 @@
+-- For this crate alone.
+mod Places
+mod Converted
+mod Held
+mod Rows

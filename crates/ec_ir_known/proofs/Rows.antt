@@ -1,0 +1,117 @@
+-- Rows of what is known, from operation to operation.
+use Rattle.std.proofs.Common.{◌≡◌, ℕ, zero, suc, ◌+◌, ◌<◌, Bool, true, false, List, []}
+use Rattle.std.proofs.Common.{◌∷◌, Option, Some, None}
+use Rattle.std.proofs.Common.{refl, sym, ap, ◌∙◌, arith, length, map, drop, get_or, replicate}
+use Rattle.std.specs.Prelude.{◌==◌, if◌then◌else◌, ℤ}
+use Rattle.std.proofs.lemmas.List.{drop_more, get_or-map, length-map}
+use Rattle.ec_core.specs.Plain.{PlainType, void, integer, fixed, pointer, array, struct}
+use Rattle.ec_ir.specs.declared.operations.Temp.{Temp}
+use Rattle.ec_ir.specs.Operations.{PlainIr, constant, copy, address, field, load_at, store_at, load_object}
+use Rattle.ec_ir.specs.Operations.{store_object, binary_op, unary_op, conversion, label, jump, branch_zero}
+use Rattle.ec_ir.specs.Operations.{call_function, return_from, port_in, port_out}
+use Rattle.ec_ir_known.specs.declared.known.KnownNumber.{KnownNumber}
+use Rattle.ec_ir_known.specs.Known.{Known, is_set, of_bytes, converted, operand_number, known_after, right_number}
+use Rattle.ec_ir_known.specs.Known.{known_at, known_of, numbers_from, numbers_left, right_numbers, HaveResultPlaces}
+use Rattle.ec_ir_known.proofs.Places.{Stands, known_next, next_stands, nothing_first, all_left}
+
+pub places_drop : (s n : ℕ) (code : List PlainIr) → HaveResultPlaces s code → HaveResultPlaces s (drop n code)
+places_drop s zero code h = h
+places_drop s (suc n) [] h = h
+places_drop s (suc n) (i ∷ code) h = places_drop s n code h.1
+
+pub drop_next : {A B : Type 0} (f : A → B) (xs : List A) (k : ℕ) (x : A) → k < length xs → x ≡ get_or xs k x
+    → drop k (map f xs) ≡ f x ∷ drop (k + 1) (map f xs)
+drop_next f xs k x l e =
+    let m : k < length (map f xs) = omega (arith, l, length-map xs f) in
+    drop_more (map f xs) k (f x) m
+    ∙ ap (λ y. y ∷ drop (k + 1) (map f xs)) (get_or-map f xs k x (f x) l ∙ ap f (sym e))
+
+-- the same is known of all places
+abbrev pub AreSame : Known → Known → Type 0
+AreSame a b = (place : ℕ) → a place ≡ b place
+
+set_same : (o : Option Temp) (x y : Option KnownNumber) (a b : Known) → x ≡ y → AreSame a b → (place : ℕ)
+    → (if is_set o place then x else a place) ≡ (if is_set o place then y else b place)
+set_same o x y a b e h place = by_test (is_set o place)
+  where
+    by_test : (z : Bool) → (if z then x else a place) ≡ (if z then y else b place)
+    by_test true = e
+    by_test false = h place
+
+operand_same : (a b : Known) (t : Temp) (ty : PlainType) → AreSame a b → operand_number a t ty ≡ operand_number b t ty
+operand_same a b t (integer s n) h = ap (λ (x : Option KnownNumber). if t.bytes == n then of_bytes t.bytes x else None) (h t.at)
+operand_same a b t void h = refl
+operand_same a b t (fixed kind saturates) h = refl
+operand_same a b t (pointer space const to) h = refl
+operand_same a b t (array of len) h = refl
+operand_same a b t (struct index) h = refl
+
+pub after_same : (i : PlainIr) (a b : Known) → AreSame a b → AreSame (known_after i a) (known_after i b)
+after_same (label l) a b h place = refl
+after_same (constant t n) a b h place = set_same (Some t) _ _ a b refl h place
+after_same (copy to from) a b h place = set_same (Some to) None None a b refl h place
+after_same (address t o offset) a b h place = set_same (Some t) None None a b refl h place
+after_same (field ptr space offset) a b h place = set_same (Some ptr) None None a b refl h place
+after_same (load_at to ptr space) a b h place = set_same (Some to) None None a b refl h place
+after_same (store_at ptr space from) a b h place = h place
+after_same (load_object t o offset) a b h place = set_same (Some t) None None a b refl h place
+after_same (store_object o offset t) a b h place = h place
+after_same (binary_op op ty mode to c aty d bty) a b h place = set_same (Some to) None None a b refl h place
+after_same (unary_op op ty mode to c) a b h place = set_same (Some to) None None a b refl h place
+after_same (conversion to ty mode c aty) a b h place =
+    set_same (Some to) (converted to ty aty (operand_number a c aty)) (converted to ty aty (operand_number b c aty)) a b
+    (ap (λ (x : Option ℤ). converted to ty aty x) (operand_same a b c aty h)) h place
+after_same (jump l) a b h place = h place
+after_same (branch_zero t l) a b h place = h place
+after_same (call_function f to) a b h place = set_same to None None a b refl h place
+after_same (return_from from) a b h place = h place
+after_same (port_in to port index width) a b h place = set_same (Some to) None None a b refl h place
+after_same (port_out from port index width) a b h place = h place
+
+right_same : (i : PlainIr) (a b : Known) → AreSame a b → right_number a i ≡ right_number b i
+right_same (binary_op op ty mode to c aty d bty) a b h = ap (of_bytes d.bytes) (h d.at)
+right_same (label l) a b h = refl
+right_same (constant t n) a b h = refl
+right_same (copy to from) a b h = refl
+right_same (address t o offset) a b h = refl
+right_same (field ptr space offset) a b h = refl
+right_same (load_at to ptr space) a b h = refl
+right_same (store_at ptr space from) a b h = refl
+right_same (load_object t o offset) a b h = refl
+right_same (store_object o offset t) a b h = refl
+right_same (unary_op op ty mode to c) a b h = refl
+right_same (conversion to ty mode c aty) a b h = refl
+right_same (jump l) a b h = refl
+right_same (branch_zero t l) a b h = refl
+right_same (call_function f to) a b h = refl
+right_same (return_from from) a b h = refl
+right_same (port_in to port index width) a b h = refl
+right_same (port_out from port index width) a b h = refl
+
+pub numbers_same : (code : List PlainIr) (a b : Known) → AreSame a b → numbers_from a code ≡ numbers_from b code
+numbers_same [] a b h = refl
+numbers_same (i ∷ code) a b h =
+    ap (λ (x : Option ℤ). x ∷ numbers_from (known_after i a) code) (right_same i a b h)
+    ∙ ap (λ (x : List (Option ℤ)). right_number b i ∷ x)
+    (numbers_same code (known_after i a) (known_after i b) (after_same i a b h))
+
+-- ---- the numbers are those of what is known where each operation stands
+
+numbers_are : (code rest : List PlainIr) → Stands code rest → numbers_from (known_at code rest) rest ≡ numbers_left code rest
+numbers_are code [] w = refl
+numbers_are code (i ∷ rest) w =
+    ap (λ (k : Known). right_number (known_at code (i ∷ rest)) i ∷ numbers_from k rest) (sym (known_next code i rest w))
+    ∙ ap (λ (xs : List (Option ℤ)). right_number (known_at code (i ∷ rest)) i ∷ xs)
+    (numbers_are code rest (next_stands code i rest w))
+
+-- of new rows nothing is known
+none_of : (slots place : ℕ) → known_of (replicate slots None) place ≡ None
+none_of zero place = refl
+none_of (suc slots) zero = refl
+none_of (suc slots) (suc place) = none_of slots place
+
+pub all_numbers : (slots : ℕ) (code : List PlainIr) → numbers_from (known_of (replicate slots None)) code ≡ right_numbers code
+all_numbers slots code =
+    numbers_same code (known_of (replicate slots None)) (known_at code code)
+    (λ place. none_of slots place ∙ sym (nothing_first code place))
+    ∙ numbers_are code code (all_left code)

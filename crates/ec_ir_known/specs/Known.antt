@@ -1,0 +1,134 @@
+-- What is known of temporaries where an operation stands. A temporary is known to hold a number where, of the operations
+-- before it, the last one that sets its place is a constant, or a conversion of an integer that was known there, and
+-- no label stands between.
+use Rattle.std.specs.Prelude.{ℕ, ◌-◌, ◌<◌, ◌==◌, Bool, false, ◌&&◌, ◌||◌, if◌then◌else◌, ℤ, ⊤}
+use Rattle.std.specs.Prelude.{List, [], ◌∷◌, reverse, take, length, get_or, Option, Some, None}
+use Rattle.std.specs.List.{AllByRecursion}
+use Rattle.ec_core.specs.declared.arithmetic_types.IntegerType.{IntegerType}
+use Rattle.ec_core.specs.Integers.{wrapped}
+use Rattle.ec_core.specs.Plain.{PlainType, integer}
+use Rattle.ec_ir.specs.declared.operations.Temp.{Temp}
+use Rattle.ec_ir.specs.Operations.{PlainIr, constant, copy, address, field, load_at, load_object}
+use Rattle.ec_ir.specs.Operations.{binary_op, unary_op, conversion, label}
+use Rattle.ec_ir.specs.Operations.{call_function, port_in}
+use Rattle.ec_ir_known.specs.declared.known.KnownNumber.{KnownNumber}
+
+-- the number that each place is known to hold, if any
+abbrev pub Known : Type 0
+Known = ℕ → Option KnownNumber
+
+abbrev pub nothing_known : Known
+nothing_known place = None
+
+-- ---- operations
+
+-- the temporary that an operation sets
+abbrev pub result_of : PlainIr → Option Temp
+result_of (constant t n) = Some t
+result_of (copy to from) = Some to
+result_of (address t o offset) = Some t
+result_of (field ptr space offset) = Some ptr
+result_of (load_at to ptr space) = Some to
+result_of (load_object t o offset) = Some t
+result_of (binary_op op ty mode to a aty b bty) = Some to
+result_of (unary_op op ty mode to a) = Some to
+result_of (conversion to ty mode a aty) = Some to
+result_of (call_function f to) = to
+result_of (port_in to port index width) = Some to
+result_of i = None
+
+abbrev pub is_set : Option Temp → ℕ → Bool
+is_set None place = false
+is_set (Some t) place = place == t.at
+
+-- the number of so many bytes that a temporary is known to hold
+abbrev pub of_bytes : (bytes : ℕ) → Option KnownNumber → Option ℤ
+of_bytes bytes None = None
+of_bytes bytes (Some k) = if k.bytes == bytes then Some k.number else None
+
+abbrev pub number_in : Known → Temp → Option ℤ
+number_in known t = of_bytes t.bytes (known t.at)
+
+abbrev pub is_integer_size : ℕ → Bool
+is_integer_size bytes = bytes == 1 || (bytes == 2 || bytes == 4)
+
+abbrev pub known_as : Temp → ℤ → Option KnownNumber
+known_as t n = Some (record { bytes = t.bytes; number = n })
+
+-- a number as an operand of an integer type, in another integer type
+abbrev pub brought : (ty from : IntegerType) → ℤ → ℤ
+brought ty from n = wrapped ty (wrapped from n)
+
+abbrev pub integer_of : PlainType → Option IntegerType
+integer_of (integer signed bytes) = Some (record { signed = signed; bytes = bytes })
+integer_of ty = None
+
+-- the number that a conversion to a temporary leaves
+abbrev pub converted_by : Temp → Option IntegerType → Option IntegerType → Option ℤ → Option KnownNumber
+converted_by to (Some ty) (Some from) (Some n) =
+    if is_integer_size ty.bytes && is_integer_size from.bytes then known_as to (brought ty from n) else None
+converted_by to ty from n = None
+
+abbrev pub converted : Temp → PlainType → PlainType → Option ℤ → Option KnownNumber
+converted to ty from n = converted_by to (integer_of ty) (integer_of from) n
+
+-- the number of an integer operand, whose temporary has as many bytes as its type
+abbrev pub operand_number : Known → Temp → PlainType → Option ℤ
+operand_number known t (integer s b) = if t.bytes == b then number_in known t else None
+operand_number known t ty = None
+
+-- the number that an operation leaves in what it sets
+abbrev pub number_left : PlainIr → Known → Option KnownNumber
+number_left (constant t n) known = known_as t n
+number_left (conversion to ty mode a aty) known = converted to ty aty (operand_number known a aty)
+number_left i known = None
+
+abbrev pub known_after : PlainIr → Known → Known
+known_after (label l) known place = None
+known_after i known place = if is_set (result_of i) place then number_left i known else known place
+
+-- ---- where an operation stands
+
+-- what is known behind operations, the last of them first
+abbrev pub known_behind : List PlainIr → Known
+known_behind [] = nothing_known
+known_behind (i ∷ before) = known_after i (known_behind before)
+
+-- what is known where these operations are left of the code of a function
+abbrev pub known_at : (code rest : List PlainIr) → Known
+known_at code rest = known_behind (reverse (take (length code - length rest) code))
+
+-- the number that the second operand of a binary operator is known to hold
+abbrev pub right_number : Known → PlainIr → Option ℤ
+right_number known (binary_op op ty mode to a aty b bty) = number_in known b
+right_number known i = None
+
+-- for each of the operations that are left
+abbrev pub numbers_left : (code rest : List PlainIr) → List (Option ℤ)
+numbers_left code [] = []
+numbers_left code (i ∷ rest) = right_number (known_at code (i ∷ rest)) i ∷ numbers_left code rest
+
+abbrev pub right_numbers : List PlainIr → List (Option ℤ)
+right_numbers code = numbers_left code code
+
+-- the same, going from operation to operation, where so much is known before the first one
+abbrev pub numbers_from : Known → List PlainIr → List (Option ℤ)
+numbers_from known [] = []
+numbers_from known (i ∷ code) = right_number known i ∷ numbers_from (known_after i known) code
+
+-- ---- rows
+
+-- a row tells what is known of the first places. Of the others nothing is
+abbrev pub known_of : List (Option KnownNumber) → Known
+known_of row place = get_or row place None
+
+-- an operation sets one of so many places, if any
+abbrev pub IsPlaced : ℕ → Option Temp → Type 0
+IsPlaced slots None = ⊤
+IsPlaced slots (Some t) = t.at < slots
+
+abbrev pub HasResultPlace : ℕ → PlainIr → Type 0
+HasResultPlace slots i = IsPlaced slots (result_of i)
+
+abbrev pub HaveResultPlaces : ℕ → List PlainIr → Type 0
+HaveResultPlaces slots code = AllByRecursion (HasResultPlace slots) code

@@ -1,0 +1,3 @@
+-- The definitions that the contracts of known numbers cite.
+pub mod Known
+pub mod Laws

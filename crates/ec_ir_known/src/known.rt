@@ -1,0 +1,253 @@
+//! What is known of the places of temporaries, from operation to operation.
+ghost use Rattle.std.specs.Prelude.{◌≡◌, ℕ, ◌++◌, ◌∷◌, [], ◌<◌, if◌then◌else◌, length};
+ghost use Rattle.std.specs.Prelude.{map, replicate, Some, None, OnOk, IfOk, true};
+ghost use Rattle.ec_core.specs.Integers.{IsInteger};
+ghost use Rattle.ec_core.specs.Layout.{IsIntegerSize};
+ghost use Rattle.ec_core.specs.Plain.{plain_type};
+ghost use Rattle.ec_ir.specs.Operations.{plain_ir};
+ghost use Rattle.ec_ir_known.specs.Known.{known_of, number_in, is_integer_size, brought, converted, operand_number};
+ghost use Rattle.ec_ir_known.specs.Known.{converted_by, integer_of, numbers_from};
+ghost use Rattle.ec_ir_known.specs.Known.{is_set, result_of, number_left, known_after, right_number, right_numbers};
+ghost use Rattle.ec_ir_known.specs.Known.{HasResultPlace, HaveResultPlaces};
+
+use ec_core::{CType, IntegerType};
+use ec_ir::{Ir, Temp};
+use ec_space::{NoMemory, Seq};
+use std::alloc::Global;
+use std::marker::Model;
+
+/// A number that a place of temporaries holds, in so many bytes: its lowest ones.
+#[derive(Clone, Copy, Debug, PartialEq, Eq)]
+pub struct KnownNumber {
+    pub bytes: u8,
+    pub number: i128,
+}
+
+/// What is known of each place of a function's temporaries where an operation stands.
+///
+/// Contracts see a row with what is known of the first places.
+#[derive(Drop)]
+pub struct KnownNumbers {
+    row: Vec<Option<KnownNumber>>,
+}
+
+impl Model for KnownNumbers {
+    ghost use Rattle.std.specs.Prelude.{List, Option};
+    ghost use Rattle.ec_ir_known.specs.declared.known.KnownNumber.{KnownNumber};
+
+    ghost Value = { List (Option KnownNumber) };
+
+    ghost view = { λ k. k.row.items };
+}
+
+fn is_integer_size(bytes: u8) -> bool
+    ensures value { result ≡ is_integer_size bytes }
+    ensures size { result ≡ true → IsIntegerSize bytes }
+{
+    bytes == 1 || bytes == 2 || bytes == 4
+}
+
+/// A number as an operand of an integer type, in another integer type.
+fn brought(ty: IntegerType, from: IntegerType, number: i128) -> i128
+    requires result { IsInteger ty }
+    requires operand { IsInteger from }
+    ensures { result ≡ brought ty from number }
+{
+    ty.wrapped(from.wrapped(number))
+}
+
+/// What is known of a temporary, which gets a number of an integer type from one of another integer type.
+fn known_as(to: Temp, ty: IntegerType, from: IntegerType, number: i128) -> Option<KnownNumber>
+    ensures { result ≡ converted_by to (Some ty) (Some from) (Some number) }
+{
+    if is_integer_size(ty.bytes) && is_integer_size(from.bytes) {
+        let number = brought(ty, from, number);
+        Some(KnownNumber {
+            bytes: to.bytes,
+            number,
+        })
+    } else {
+        None
+    }
+}
+
+/// An integer type with so many bytes.
+fn integer(ty: &CType) -> Option<IntegerType>
+    ensures { result ≡ integer_of (plain_type ty.now) }
+{
+    match ty {
+        CType::Int { signed, bytes } => Some(IntegerType {
+            signed: *signed,
+            bytes: *bytes,
+        }),
+        _ => None,
+    }
+}
+
+/// The number that a conversion to a temporary leaves.
+fn converted(to: Temp, ty: &CType, aty: &CType, number: Option<i128>) -> Option<KnownNumber>
+    ensures { result ≡ converted to (plain_type ty.now) (plain_type aty.now) number }
+{
+    match (integer(ty), integer(aty), number) {
+        (Some(to_type), Some(from), Some(n)) => known_as(to, to_type, from, n),
+        _ => None,
+    }
+}
+
+/// The temporary that an operation sets.
+fn result_of(i: &Ir) -> Option<Temp>
+    ensures { result ≡ result_of (plain_ir i.now) }
+{
+    match i {
+        Ir::Const(to, _)
+        | Ir::Copy(to, _)
+        | Ir::Addr(to, _, _)
+        | Ir::Field { ptr: to, .. }
+        | Ir::Load { to, .. }
+        | Ir::LoadObj(to, _, _)
+        | Ir::Bin { to, .. }
+        | Ir::Un { to, .. }
+        | Ir::Conv { to, .. }
+        | Ir::PortIn { to, .. } => Some(*to),
+        Ir::Call(_, to) => *to,
+        _ => None,
+    }
+}
+
+/// Of no place anything is known.
+fn forget(row: &mut [Option<KnownNumber>])
+    ensures length { length row.new ≡ length row.old }
+    ensures nothing { (place : ℕ) → known_of row.new place ≡ None }
+{
+    for known in row.iter_mut() {
+        *known = None;
+    }
+}
+
+/// Of a place this is known.
+fn set(row: &mut [Option<KnownNumber>], t: Temp, known: Option<KnownNumber>)
+    requires { t.at < length row.old }
+    ensures length { length row.new ≡ length row.old }
+    ensures known { (place : ℕ)
+        → known_of row.new place ≡ (if is_set (Some t) place then known else known_of row.old place) }
+{
+    row[usize::from(t.at)] = known;
+}
+
+impl KnownNumbers {
+    /// Of so many places nothing is known.
+    pub fn new(alloc: Global, slots: usize) -> Result<KnownNumbers, NoMemory>
+        ensures { IfOk result (λ known. known ≡ replicate slots None) }
+    {
+        match vec![in alloc; None; slots] {
+            Ok(row) => Ok(KnownNumbers { row }),
+            Err(_) => Err(NoMemory),
+        }
+    }
+
+    /// The number that a temporary is known to hold.
+    pub fn number(&self, t: Temp) -> Option<i128>
+        ensures { result ≡ number_in (known_of self.now) t }
+    {
+        match self.row.get(usize::from(t.at)) {
+            Some(Some(k)) if k.bytes == t.bytes => Some(k.number),
+            _ => None,
+        }
+    }
+
+    /// The number of an integer operand, whose temporary has as many bytes as its type.
+    fn operand(&self, t: Temp, ty: &CType) -> Option<i128>
+        ensures { result ≡ operand_number (known_of self.now) t (plain_type ty.now) }
+    {
+        match ty {
+            CType::Int { bytes, .. } if t.bytes == *bytes => self.number(t),
+            _ => None,
+        }
+    }
+
+    /// The number that an operation leaves in what it sets.
+    fn left(&self, i: &Ir) -> Option<KnownNumber>
+        ensures { result ≡ number_left (plain_ir i.now) (known_of self.now) }
+    {
+        match i {
+            Ir::Const(t, n) => Some(KnownNumber {
+                bytes: t.bytes,
+                number: *n,
+            }),
+            Ir::Conv { to, ty, a, aty, .. } => converted(*to, ty, aty, self.operand(*a, aty)),
+            _ => None,
+        }
+    }
+
+    /// An operation is passed: what was known before it becomes what is known behind it.
+    pub fn pass(&mut self, i: &Ir)
+        requires { HasResultPlace (length self.old) (plain_ir i.now) }
+        ensures length { length self.new ≡ length self.old }
+        ensures known { (place : ℕ)
+            → known_of self.new place ≡ known_after (plain_ir i.now) (known_of self.old) place }
+    {
+        match i {
+            Ir::Label(_) => forget(&mut self.row),
+            _ => {
+                if let Some(t) = result_of(i) {
+                    let left = self.left(i);
+                    set(&mut self.row, t, left);
+                }
+            }
+        }
+    }
+
+    /// The number that the second operand of a binary operator is known to hold.
+    pub fn right(&self, i: &Ir) -> Option<i128>
+        ensures { result ≡ right_number (known_of self.now) (plain_ir i.now) }
+    {
+        match i {
+            Ir::Bin { b, .. } => self.number(*b),
+            _ => None,
+        }
+    }
+}
+
+fn push(numbers: &mut Vec<Option<i128>>, n: Option<i128>) -> Result<(), NoMemory>
+    ensures { OnOk result (numbers.new.items ≡ numbers.old.items ++ n ∷ []) }
+{
+    match numbers.push(n) {
+        Ok(()) => Ok(()),
+        Err(_) => Err(NoMemory),
+    }
+}
+
+fn push_numbers(
+    known: &mut KnownNumbers,
+    code: &[Ir],
+    numbers: &mut Vec<Option<i128>>,
+) -> Result<(), NoMemory>
+    requires { HaveResultPlaces (length known.old) (map plain_ir code.now) }
+    ensures { OnOk result (numbers.new.items
+        ≡ numbers.old.items ++ numbers_from (known_of known.old) (map plain_ir code.now)) }
+{
+    for k in 0..code.len() {
+        let i = &code[k];
+        push(numbers, known.right(i))?;
+        known.pass(i);
+    }
+    Ok(())
+}
+
+/// For each operation of a function the number that the second operand of a binary operator is known to hold.
+///
+/// The operations set places below `slots` alone.
+#[tactic(auto, using(crate::proofs::Rows::all_numbers))]
+pub fn right_numbers(
+    alloc: Global,
+    code: &Seq<Ir>,
+    slots: u16,
+) -> Result<Vec<Option<i128>>, NoMemory>
+    requires { HaveResultPlaces slots (map plain_ir code.now.items) }
+    ensures { IfOk result (λ numbers. numbers.items ≡ right_numbers (map plain_ir code.now.items)) }
+{
+    let mut known = KnownNumbers::new(alloc, usize::from(slots))?;
+    let mut numbers = Vec::new(alloc);
+    push_numbers(&mut known, code.as_slice(), &mut numbers)?;
+    Ok(numbers)
+}
