@@ -1,0 +1,75 @@
+-- Pieces of code that change a number by a known one where it stands, and that compare it with a known one. A register
+-- of R16 and above takes a byte of the known number as it is; for other places R30 is the work register, and of
+-- comparisons R0 too.
+use Rattle.std.specs.Prelude.{ℕ, zero, suc, ◌+◌, ◌-◌, ◌%◌, ◌^◌, ◌==◌, nat_le, Bool, false, if◌then◌else◌, List, [], ◌∷◌}
+use Rattle.ec_isa.specs.declared.instructions.Instr.{Instr}
+use Rattle.ec_isa.specs.declared.instructions.Instr.TheVariants.{Subi, Sbci, Andi, Ori, Cpi, Ldi, Mov}
+use Rattle.ec_asm.specs.declared.items.AsmItem.{AsmItem}
+use Rattle.ec_asm.specs.declared.items.AsmItem.TheVariants.{Plain, LoadObj, StoreObj}
+use Rattle.ec_asm.specs.declared.pieces.Location.{Location}
+use Rattle.ec_asm.specs.declared.pieces.Location.TheVariants.{InRegisters, InMemory}
+use Rattle.ec_asm.specs.declared.pieces.Operator.{Operator}
+use Rattle.ec_asm.specs.declared.pieces.Operator.TheVariants.{Difference, BitAnd, BitOr}
+use Rattle.ec_asm.specs.Items.{chain}
+use Rattle.ec_asm.specs.Pieces.{compares}
+use Rattle.ec_select_bytes.specs.Values.{byte_of}
+use Rattle.ec_select_numbers.specs.declared.operators.ByNumber.{ByNumber}
+use Rattle.ec_select_numbers.specs.declared.operators.ByNumber.TheVariants.{Subtract, Mask, Set}
+
+-- ---- operators
+
+-- the operator of two numbers
+abbrev pub as_operator : ByNumber → Operator
+as_operator Subtract = Difference
+as_operator Mask = BitAnd
+as_operator Set = BitOr
+
+-- the instruction that changes a register by a byte: of a difference the lowest byte takes no borrow
+abbrev pub immediate : ByNumber → ℕ → (d k : ℕ) → Instr
+immediate Subtract zero d k = Subi d k
+immediate Subtract (suc i) d k = Sbci d k
+immediate Mask i d k = Andi d k
+immediate Set i d k = Ori d k
+
+-- a byte that leaves each other one as it is
+abbrev pub is_neutral : ByNumber → ℕ → Bool
+is_neutral Subtract k = false
+is_neutral Mask k = k == 255
+is_neutral Set k = k == 0
+
+-- byte i of a place is changed by a byte
+abbrev pub immediate_byte : (ℕ → ℕ → Instr) → Location → (k i : ℕ) → List AsmItem
+immediate_byte op (InRegisters r) k i =
+    if nat_le 16 (r + i) then Plain (op (r + i) k) ∷ []
+    else Plain (Mov 30 (r + i)) ∷ Plain (op 30 k) ∷ Plain (Mov (r + i) 30) ∷ []
+immediate_byte op (InMemory o j) k i = LoadObj 30 o (j + i) ∷ Plain (op 30 k) ∷ StoreObj o (j + i) 30 ∷ []
+
+abbrev pub changed_byte : ByNumber → Location → (k i : ℕ) → List AsmItem
+changed_byte op p k i = if is_neutral op k then [] else immediate_byte (immediate op i) p k i
+
+-- n bytes of a place are changed by those of a number
+abbrev pub changed_code : ByNumber → Location → (number n : ℕ) → List AsmItem
+changed_code op p number n = chain (λ i. changed_byte op p (byte_of number i) i) n
+
+-- what is subtracted where a number is added: modulo 256 ^ n, for up to 16 bytes, both together are 0
+abbrev pub negated : ℕ → ℕ
+negated number = (256 ^ 16 - number) % 256 ^ 16
+
+abbrev pub added_code : Location → (number n : ℕ) → List AsmItem
+added_code p number n = changed_code Subtract p (negated number) n
+
+-- ---- comparisons
+
+-- byte i of a register and a byte: CPI reaches R16 and above, and takes no borrow
+abbrev pub register_compared : (r k i : ℕ) → List AsmItem
+register_compared r k zero =
+    if nat_le 16 r then Plain (Cpi r k) ∷ [] else Plain (Ldi 30 k) ∷ Plain (compares zero (r + zero) 30) ∷ []
+register_compared r k (suc i) = Plain (Ldi 30 k) ∷ Plain (compares (suc i) (r + suc i) 30) ∷ []
+
+abbrev pub compared_byte : Location → (k i : ℕ) → List AsmItem
+compared_byte (InRegisters r) k i = register_compared r k i
+compared_byte (InMemory o j) k i = LoadObj 0 o (j + i) ∷ Plain (Ldi 30 k) ∷ Plain (compares i 0 30) ∷ []
+
+-- n bytes of a place are compared with those of a number
+abbrev pub compared_code : Location → (number n : ℕ) → List AsmItem
+compared_code p number n = chain (λ i. compared_byte p (byte_of number i) i) n
