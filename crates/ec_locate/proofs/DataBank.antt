@@ -1,37 +1,33 @@
 -- What a placed program keeps in the data bank stands apart.
-use Rattle.std.proofs.Common.{◌≡◌, ◌≢◌, inl, inr, ⊎_elim, ◌+◌, ◌<◌, ◌≤◌, ℕ, zero, suc, List, [], ◌∷◌, length, take, get_or, add-zero}
+use Rattle.std.proofs.Common.{◌≡◌, ◌≢◌, inl, inr, ⊎_elim, ◌+◌, ◌<◌, ◌≤◌, ℕ, Bool, List, [], length, map, take}
+use Rattle.std.proofs.Common.{get_or}
 use Rattle.std.proofs.Common.{Option, Some, sym, ap, ◌∙◌, subst, arith}
-use Rattle.std.specs.Prelude.{slice_get, nat_le}
+use Rattle.std.specs.Prelude.{slice_get, nat_le, option_map}
 use Rattle.std.proofs.lemmas.Bool.{and_parts, leb-true}
-use Rattle.std.proofs.lemmas.List.Sums.{sum_by-cons}
-use Rattle.std.proofs.lemmas.Option.{slice_get_within, get_or_from_slice_get}
+use Rattle.std.proofs.lemmas.List.{length-map}
+use Rattle.std.proofs.lemmas.Option.{slice_get-map, slice_get_within, get_or_from_slice_get}
 use Rattle.ec_space.specs.declared.space.Bank.TheVariants.{Data}
 use Rattle.ec_space.specs.declared.space.Place.{Place}
 use Rattle.ec_asm.specs.declared.items.AsmProgram.{AsmProgram}
-use Rattle.ec_core.specs.Plain.{PlainObject, register, PlainProgram}
+use Rattle.ec_check_recursion.specs.Rows.{rows_of_program}
+use Rattle.ec_core.specs.Needs.{stmt_calls}
+use Rattle.ec_core.specs.Plain.{PlainStorage, static, local, param, register, PlainObject, PlainFunction, PlainProgram}
 use Rattle.ec_core.specs.Valid.{Valid, IsStored, AreApart, ShareNoRegister}
 use Rattle.ec_map.specs.Maps.{ValidMap}
 use Rattle.ec_map.specs.Regions.{end_of}
 use Rattle.ec_map.specs.declared.map.Map.{Map}
+use Rattle.ec_overlay.specs.Frames.{begin_of, AreOverlaid}
+use Rattle.ec_overlay.specs.Objects.{Owned, ObjectsAreOverlaid}
+use Rattle.ec_overlay.proofs.Objects.{ends_in_need}
 use Rattle.ec_locate.specs.declared.stop.RegionName.TheVariants as regions
 use Rattle.ec_locate.specs.Apart.{AreFree}
-use Rattle.ec_locate.specs.Entries.{data_size, data_sizes, frame_size, frame_sizes}
+use Rattle.ec_locate.specs.DataBank.{IsOwnedBy, IsLocalOf, CanBeLive}
+use Rattle.ec_locate.specs.Entries.{kept_by, data_size, data_sizes, frame_of, frame_size, owned_of, scratch_size, data_need}
 use Rattle.ec_locate.specs.Fixed.{blocks}
-use Rattle.ec_locate.specs.Layout.{frames_from}
+use Rattle.ec_locate.specs.Layout.{local_area, scratch_area, work_area, local_at}
 use Rattle.ec_locate.proofs.Objects.{is_object_at}
 use Rattle.ec_locate.proofs.Stood.{Clear, turned, by_order, es, size, entry, entry_there, block, Stood, both_stood}
 use Rattle.ec_locate.proofs.Where.{sum_until, sum_within, free_at, apart_where, clear_of}
-
--- ---- where scratch memory stands
-
-pub frame_at : (fs : List ℕ) (at i frame : ℕ) → slice_get fs i ≡ Some frame
-    → slice_get (frames_from at fs) i ≡ Some (at + frame_sizes (take i fs))
-frame_at [] at i frame q = cc
-frame_at (f ∷ fs) at zero frame q = ap Some (sym (add-zero at))
-frame_at (f ∷ fs) at (suc i) frame q =
-    let next : at + frame_size f + frame_sizes (take i fs) ≡ at + frame_sizes (f ∷ take i fs) =
-    omega (arith, sum_by-cons frame_size f (take i fs)) in
-    frame_at fs (at + frame_size f) i frame q ∙ ap Some next
 
 -- a pointer's offset, where there is a place
 pub same_place : (z : Option Place) (q w : Place) → z ≡ Some q → z ≡ Some w → q.offset ≡ w.offset
@@ -41,42 +37,196 @@ module _ (p : PlainProgram) (m : Map) (asm : AsmProgram) where
   abbrev pub frames : List ℕ
   frames = asm.frames.items
 
-  abbrev pub scratch_from : ℕ
-  scratch_from = m.vars.first + data_sizes (es p m)
+  abbrev pub rows : List (List ℕ)
+  rows = rows_of_program p
 
-  -- what a number names stands in region `data`, in a row, where the map puts it, or in registers
-  pub data Standing : ℕ → ℕ → ℕ → Type 0 where
+  -- where each area of region `data` begins
+  abbrev pub locals_from : ℕ
+  locals_from = local_area m (es p m)
+
+  abbrev pub scratch_from : ℕ
+  scratch_from = scratch_area m rows (es p m)
+
+  abbrev pub work_from : ℕ
+  work_from = work_area m rows (es p m) frames
+
+  -- what a number names stands in one of the areas of region `data`
+  pub data Inside : ℕ → ℕ → ℕ → Type 0 where
     packed : (n at : ℕ) (o : PlainObject) → slice_get p.objects n ≡ Some o → data_size (entry p m o) ≡ size p m o
-        → at ≡ m.vars.first + data_sizes (take n (es p m)) → Standing n at (size p m o)
-    of_frame : (n at f frame : ℕ) → n ≡ 1024 + f → slice_get frames f ≡ Some frame → at ≡ scratch_from + frame_sizes (take f frames)
-        → Standing n at (frame_size frame)
-    last : (n at : ℕ) → n ≡ 1280 → at ≡ scratch_from + frame_sizes frames → Standing n at 64
+        → at ≡ m.vars.first + data_sizes (take n (es p m)) → Inside n at (size p m o)
+    of_frame : (n at f : ℕ) (o : PlainObject) → slice_get p.objects n ≡ Some o → IsOwnedBy f o.storage → f < length p.functions
+        → at ≡ local_at m rows (es p m) f n → Inside n at (size p m o)
+    of_scratch : (n at f frame : ℕ) → n ≡ 1024 + f → slice_get frames f ≡ Some frame → f < length p.functions
+        → at ≡ scratch_from + begin_of rows (scratch_size frames) f → Inside n at (frame_size frame)
+    last : (n at : ℕ) → n ≡ 1280 → at ≡ work_from → Inside n at 64
+
+  -- or where the map puts it, or in registers
+  pub data Standing : ℕ → ℕ → ℕ → Type 0 where
+    in_area : (n at s : ℕ) → Inside n at s → Standing n at s
     fixed : (n at : ℕ) (o : PlainObject) → slice_get p.objects n ≡ Some o → Stood p m Data o at → Standing n at (size p m o)
     named : (n at : ℕ) (o : PlainObject) → slice_get p.objects n ≡ Some o → o.storage ≡ register at → Standing n at (size p m o)
 
-  module _ (valid : Valid p m.io) (map_valid : ValidMap m) (few : length frames ≤ 256)
-      (room : data_sizes (es p m) + frame_sizes frames + 64 ≤ m.vars.size)
-      (free : AreFree m (blocks (es p m) p.objects m.places.items)) where
+  -- ---- in the areas
+
+  record Within (from to at size : ℕ) : Type 0 where
+    low : from ≤ at
+    high : at + size ≤ to
+
+  known : (f : ℕ) → f < length p.functions → f < length rows
+  known f l = let long = length-map p.functions (λ (x : PlainFunction). stmt_calls x.body []) in omega (arith, l, long)
+
+  frame_is : (f : ℕ) (external : Bool) (name : List ℕ) (s : PlainStorage) → IsOwnedBy f s
+      → frame_of (kept_by m.places.items external name s) ≡ Some f
+  frame_is f external name (static inits) h = absurd h
+  frame_is f external name (local g) h = ap Some h
+  frame_is f external name (param g) h = ap Some h
+  frame_is f external name (register first) h = absurd h
+
+  abbrev owned : PlainObject → Owned
+  owned o = owned_of (entry p m o)
+
+  owned_there : (n : ℕ) (o : PlainObject) → slice_get p.objects n ≡ Some o → slice_get (map owned_of (es p m)) n ≡ Some (owned o)
+  owned_there n o q = slice_get-map owned_of (es p m) n ∙ ap (option_map owned_of) (entry_there p m n o q)
+
+  owner_is : (f : ℕ) (o : PlainObject) → IsOwnedBy f o.storage → (owned o).owner ≡ Some f
+  owner_is f o h = frame_is f o.external o.name o.storage h
+
+  scratch_there : (f frame : ℕ) → slice_get frames f ≡ Some frame → scratch_size frames f ≡ frame_size frame
+  scratch_there f frame q = ap frame_size (get_or_from_slice_get frames f frame 0 q)
+
+  packed_in : (n at : ℕ) (o : PlainObject) → slice_get p.objects n ≡ Some o → data_size (entry p m o) ≡ size p m o
+      → at ≡ m.vars.first + data_sizes (take n (es p m)) → Within m.vars.first locals_from at (size p m o)
+  packed_in n at o q s e =
+      let w = sum_within data_size (es p m) n (entry p m o) (entry_there p m n o q) in
+      record { low = omega (arith, e); high = omega (arith, e, w, s) }
+
+  frame_in : (n at f : ℕ) (o : PlainObject) → slice_get p.objects n ≡ Some o → IsOwnedBy f o.storage → f < length p.functions
+      → at ≡ local_at m rows (es p m) f n → Within locals_from scratch_from at (size p m o)
+  frame_in n at f o q h l e =
+      let w = ends_in_need rows (map owned_of (es p m)) n f (owned o) (owned_there n o q) (owner_is f o h) (known f l) in
+      record { low = omega (arith, e); high = omega (arith, e, w) }
+
+  module _ (over : AreOverlaid rows (scratch_size frames)) (locals : ObjectsAreOverlaid rows (map owned_of (es p m))) where
+    scratch_in : (at f frame : ℕ) → slice_get frames f ≡ Some frame → f < length p.functions
+        → at ≡ scratch_from + begin_of rows (scratch_size frames) f → Within scratch_from work_from at (frame_size frame)
+    scratch_in at f frame q l e =
+        let w = over.within f (known f l) in
+        let s = scratch_there f frame q in
+        record { low = omega (arith, e); high = omega (arith, e, w, s) }
+
+    last_in : (at : ℕ) → at ≡ work_from → Within work_from (work_from + 64) at 64
+    last_in at e = record { low = omega (arith, e); high = omega (arith, e) }
+
+    behind : (a b c d at s to t : ℕ) → b ≤ c → Within a b at s → Within c d to t → Clear at s to t
+    behind a b c d at s to t l x y = let high = x.high in let low = y.low in inl (omega (arith, l, high, low))
+
+    both_packed : (n k at to : ℕ) (o x : PlainObject) → n < k → slice_get p.objects n ≡ Some o
+        → data_size (entry p m o) ≡ size p m o → at ≡ m.vars.first + data_sizes (take n (es p m))
+        → to ≡ m.vars.first + data_sizes (take k (es p m)) → Clear at (size p m o) to (size p m x)
+    both_packed n k at to o x l q s e f =
+        let w = sum_until data_size (es p m) n k (entry p m o) (entry_there p m n o q) l in
+        inl (omega (arith, w, s, e, f))
+
+    both_locals : (n k at to f g : ℕ) (o x : PlainObject) → n ≢ k → CanBeLive p n k → slice_get p.objects n ≡ Some o
+        → IsOwnedBy f o.storage → at ≡ local_at m rows (es p m) f n → slice_get p.objects k ≡ Some x → IsOwnedBy g x.storage
+        → to ≡ local_at m rows (es p m) g k → Clear at (size p m o) to (size p m x)
+    both_locals n k at to f g o x d live q h e r i u =
+        let mine : IsLocalOf p f n = rw q h in
+        let other : IsLocalOf p g k = rw r i in
+        ⊎_elim (λ w. inl (omega (arith, e, u, w))) (λ w. inr (omega (arith, e, u, w)))
+        (locals.apart n k f g (owned o) (owned x) (owned_there n o q) (owner_is f o h) (owned_there k x r) (owner_is g x i) d
+        (live.locals f g mine other))
+
+    both_scratch : (n k at to f g frame other : ℕ) → n ≢ k → CanBeLive p n k → n ≡ 1024 + f
+        → slice_get frames f ≡ Some frame
+        → f < length p.functions → at ≡ scratch_from + begin_of rows (scratch_size frames) f
+        → k ≡ 1024 + g → slice_get frames g ≡ Some other → g < length p.functions
+        → to ≡ scratch_from + begin_of rows (scratch_size frames) g → Clear at (frame_size frame) to (frame_size other)
+    both_scratch n k at to f g frame other d live a q l e b r j u =
+        let s = scratch_there f frame q in
+        let t = scratch_there g other r in
+        ⊎_elim (λ same. absurd (d (omega (arith, a, b, same))))
+        (λ leads. ⊎_elim
+        (λ there. let w = over.apart f g there in inl (omega (arith, e, u, w, s)))
+        (λ back. let w = over.apart g f back in inr (omega (arith, e, u, w, t))) leads)
+        (live.scratch f g l j a b)
+
+    inside_apart : (n k at to s t : ℕ) → n ≢ k → CanBeLive p n k → Inside n at s → Inside k to t → Clear at s to t
+    inside_apart n k at to s t d live (packed _ _ o q a e) (packed _ _ x r b f) =
+        by_order n k at (size p m o) to (size p m x) d (λ l. both_packed n k at to o x l q a e f) (λ l. both_packed k n to at x o l r b f e)
+    inside_apart n k at to s t d live (packed _ _ o q a e) (of_frame _ _ g x r h l u) =
+        behind m.vars.first locals_from locals_from scratch_from at (size p m o) to (size p m x)
+        (omega arith) (packed_in n at o q a e) (frame_in k to g x r h l u)
+    inside_apart n k at to s t d live (packed _ _ o q a e) (of_scratch _ _ g fr b r l u) =
+        behind m.vars.first locals_from scratch_from work_from at (size p m o) to (frame_size fr)
+        (omega arith) (packed_in n at o q a e) (scratch_in to g fr r l u)
+    inside_apart n k at to s t d live (packed _ _ o q a e) (last _ _ b u) =
+        behind m.vars.first locals_from work_from (work_from + 64) at (size p m o) to 64
+        (omega arith) (packed_in n at o q a e) (last_in to u)
+    inside_apart n k at to s t d live (of_frame _ _ g x r h l u) (packed _ _ o q a e) =
+        turned to (size p m o) at (size p m x)
+        (behind m.vars.first locals_from locals_from scratch_from to (size p m o) at (size p m x)
+        (omega arith) (packed_in k to o q a e) (frame_in n at g x r h l u))
+    inside_apart n k at to s t d live (of_frame _ _ f o q h l e) (of_frame _ _ g x r i j u) =
+        both_locals n k at to f g o x d live q h e r i u
+    inside_apart n k at to s t d live (of_frame _ _ f o q h l e) (of_scratch _ _ g fr b r j u) =
+        behind locals_from scratch_from scratch_from work_from at (size p m o) to (frame_size fr)
+        (omega arith) (frame_in n at f o q h l e) (scratch_in to g fr r j u)
+    inside_apart n k at to s t d live (of_frame _ _ f o q h l e) (last _ _ b u) =
+        behind locals_from scratch_from work_from (work_from + 64) at (size p m o) to 64
+        (omega arith) (frame_in n at f o q h l e) (last_in to u)
+    inside_apart n k at to s t d live (of_scratch _ _ g fr b r l u) (packed _ _ o q a e) =
+        turned to (size p m o) at (frame_size fr)
+        (behind m.vars.first locals_from scratch_from work_from to (size p m o) at (frame_size fr)
+        (omega arith) (packed_in k to o q a e) (scratch_in at g fr r l u))
+    inside_apart n k at to s t d live (of_scratch _ _ g fr b r j u) (of_frame _ _ f o q h l e) =
+        turned to (size p m o) at (frame_size fr)
+        (behind locals_from scratch_from scratch_from work_from to (size p m o) at (frame_size fr)
+        (omega arith) (frame_in k to f o q h l e) (scratch_in at g fr r j u))
+    inside_apart n k at to s t d live (of_scratch _ _ f fr a q l e) (of_scratch _ _ g hr b r j u) =
+        both_scratch n k at to f g fr hr d live a q l e b r j u
+    inside_apart n k at to s t d live (of_scratch _ _ g fr b r j u) (last _ _ c e) =
+        behind scratch_from work_from work_from (work_from + 64) at (frame_size fr) to 64
+        (omega arith) (scratch_in at g fr r j u) (last_in to e)
+    inside_apart n k at to s t d live (last _ _ b u) (packed _ _ o q a e) =
+        turned to (size p m o) at 64
+        (behind m.vars.first locals_from work_from (work_from + 64) to (size p m o) at 64
+        (omega arith) (packed_in k to o q a e) (last_in at u))
+    inside_apart n k at to s t d live (last _ _ b u) (of_frame _ _ f o q h l e) =
+        turned to (size p m o) at 64
+        (behind locals_from scratch_from work_from (work_from + 64) to (size p m o) at 64
+        (omega arith) (frame_in k to f o q h l e) (last_in at u))
+    inside_apart n k at to s t d live (last _ _ c e) (of_scratch _ _ g fr b r j u) =
+        turned to (frame_size fr) at 64
+        (behind scratch_from work_from work_from (work_from + 64) to (frame_size fr) at 64
+        (omega arith) (scratch_in to g fr r j u) (last_in at e))
+    inside_apart n k at to s t d live (last _ _ b f) (last _ _ c e) = absurd (d (b ∙ sym c))
+
+  module _ (valid : Valid p m.io) (map_valid : ValidMap m) (over : AreOverlaid rows (scratch_size frames))
+      (locals : ObjectsAreOverlaid rows (map owned_of (es p m)))
+      (room : data_need 64 rows (es p m) frames ≤ m.vars.size) (free : AreFree m (blocks (es p m) p.objects m.places.items)) where
     -- ---- each in its part of the memory
 
     pub record InVars (at size : ℕ) : Type 0 where
       pub from_there : m.vars.first ≤ at
       pub ends : at + size ≤ end_of m.vars
 
-    pub packed_in : (n at : ℕ) (o : PlainObject) → slice_get p.objects n ≡ Some o → data_size (entry p m o) ≡ size p m o
-        → at ≡ m.vars.first + data_sizes (take n (es p m)) → InVars at (size p m o)
-    packed_in n at o q s e =
-        let w = sum_within data_size (es p m) n (entry p m o) (entry_there p m n o q) in
-        record { from_there = omega (arith, e); ends = omega (arith, e, w, s, room) }
+    vars_of : (a b at s : ℕ) → m.vars.first ≤ a → b ≤ end_of m.vars → Within a b at s → InVars at s
+    vars_of a b at s low high w =
+        let from = w.low in
+        let to = w.high in
+        record { from_there = omega (arith, low, from); ends = omega (arith, high, to) }
 
-    pub frame_in : (f at frame : ℕ) → slice_get frames f ≡ Some frame → at ≡ scratch_from + frame_sizes (take f frames)
-        → InVars at (frame_size frame)
-    frame_in f at frame q e =
-        let w = sum_within frame_size frames f frame q in
-        record { from_there = omega (arith, e); ends = omega (arith, e, w, room) }
-
-    pub last_in : (at : ℕ) → at ≡ scratch_from + frame_sizes frames → InVars at 64
-    last_in at e = record { from_there = omega (arith, e); ends = omega (arith, e, room) }
+    pub in_vars : (n at s : ℕ) → Inside n at s → InVars at s
+    in_vars n at _ (packed _ _ o q a e) =
+        vars_of m.vars.first locals_from at (size p m o)
+        (omega arith) (omega (arith, room)) (packed_in n at o q a e)
+    in_vars n at _ (of_frame _ _ f o q h l e) =
+        vars_of locals_from scratch_from at (size p m o)
+        (omega arith) (omega (arith, room)) (frame_in n at f o q h l e)
+    in_vars n at _ (of_scratch _ _ f fr b q l e) =
+        vars_of scratch_from work_from at (frame_size fr) (omega arith) (omega (arith, room)) (scratch_in over locals at f fr q l e)
+    in_vars n at _ (last _ _ b e) = vars_of work_from (work_from + 64) at 64 (omega arith) (omega (arith, room)) (last_in over locals at e)
 
     pub record Outside (at size : ℕ) : Type 0 where
       pub from_there : 256 ≤ at
@@ -102,7 +252,8 @@ module _ (p : PlainProgram) (m : Map) (asm : AsmProgram) where
       pub from_there : 2 ≤ at
       pub ends : at + size ≤ 8
 
-    pub registers : (n at : ℕ) (o : PlainObject) → slice_get p.objects n ≡ Some o → o.storage ≡ register at → InRegisters at (size p m o)
+    pub registers : (n at : ℕ) (o : PlainObject) → slice_get p.objects n ≡ Some o → o.storage ≡ register at
+        → InRegisters at (size p m o)
     registers n at o q s =
         let stored : IsStored p o (register at) = subst (λ x. IsStored p o x) s (is_object_at p m.io valid n o q).storage in
         record { from_there = stored.low; ends = stored.high }
@@ -142,78 +293,22 @@ module _ (p : PlainProgram) (m : Map) (asm : AsmProgram) where
         subst (λ z. AreApart (register at) z (size p m o) (size p m x)) t told in
         both
 
-    both_packed : (n k at to : ℕ) (o x : PlainObject) → n < k → slice_get p.objects n ≡ Some o
-        → data_size (entry p m o) ≡ size p m o → at ≡ m.vars.first + data_sizes (take n (es p m))
-        → to ≡ m.vars.first + data_sizes (take k (es p m)) → Clear at (size p m o) to (size p m x)
-    both_packed n k at to o x l q s e f =
-        let w = sum_until data_size (es p m) n k (entry p m o) (entry_there p m n o q) l in
-        inl (omega (arith, w, s, e, f))
-
-    both_frames : (i k at to frame other : ℕ) → i < k → slice_get frames i ≡ Some frame → at ≡ scratch_from + frame_sizes (take i frames)
-        → to ≡ scratch_from + frame_sizes (take k frames) → Clear at (frame_size frame) to (frame_size other)
-    both_frames i k at to frame other l q e f =
-        let w = sum_until frame_size frames i k frame q l in
-        inl (omega (arith, w, e, f))
-
-    packed_before : (n at to many : ℕ) (o : PlainObject) → slice_get p.objects n ≡ Some o → data_size (entry p m o) ≡ size p m o
-        → at ≡ m.vars.first + data_sizes (take n (es p m)) → scratch_from ≤ to → Clear at (size p m o) to many
-    packed_before n at to many o q s e f =
-        let w = sum_within data_size (es p m) n (entry p m o) (entry_there p m n o q) in
-        inl (omega (arith, w, s, e, f))
-
-    frame_before : (i at to frame : ℕ) → slice_get frames i ≡ Some frame → at ≡ scratch_from + frame_sizes (take i frames)
-        → to ≡ scratch_from + frame_sizes frames → Clear at (frame_size frame) to 64
-    frame_before i at to frame q e f =
-        let w = sum_within frame_size frames i frame q in
-        inl (omega (arith, w, e, f))
-
-    pub standing_apart : (n k at to s t : ℕ) → n ≢ k → Standing n at s → Standing k to t → Clear at s to t
-    standing_apart n k at to s t d (packed _ _ o q a e) (packed _ _ x r b f) =
-        by_order n k at (size p m o) to (size p m x) d (λ l. both_packed n k at to o x l q a e f) (λ l. both_packed k n to at x o l r b f e)
-    standing_apart n k at to s t d (packed _ _ o q a e) (of_frame _ _ g fr b r f) =
-        packed_before n at to (frame_size fr) o q a e (omega (arith, f))
-    standing_apart n k at to s t d (packed _ _ o q a e) (last _ _ b f) = packed_before n at to 64 o q a e (omega (arith, f))
-    standing_apart n k at to s t d (packed _ _ o q a e) (fixed _ _ x r b) =
-        turned to (size p m x) at (size p m o) (beside to (size p m x) at (size p m o) (outside x to b) (packed_in n at o q a e))
-    standing_apart n k at to s t d (packed _ _ o q a e) (named _ _ x r b) =
-        turned to (size p m x) at (size p m o) (in_memory to (size p m x) at (size p m o) (packed_in n at o q a e) (registers k to x r b))
-    standing_apart n k at to s t d (of_frame _ _ g fr b r f) (packed _ _ o q a e) =
-        turned to (size p m o) at (frame_size fr) (packed_before k to at (frame_size fr) o q a e (omega (arith, f)))
-    standing_apart n k at to s t d (of_frame _ _ g fr b r f) (of_frame _ _ h hr c u e) =
-        let other : g ≢ h = λ same. d (omega (arith, b, c, same)) in
-        by_order g h at (frame_size fr) to (frame_size hr) other (λ l. both_frames g h at to fr hr l r f e)
-        (λ l. both_frames h g to at hr fr l u e f)
-    standing_apart n k at to s t d (of_frame _ _ g fr b r f) (last _ _ c e) = frame_before g at to fr r f e
-    standing_apart n k at to s t d (of_frame _ _ g fr b r f) (fixed _ _ x u c) =
-        turned to (size p m x) at (frame_size fr) (beside to (size p m x) at (frame_size fr) (outside x to c) (frame_in g at fr r f))
-    standing_apart n k at to s t d (of_frame _ _ g fr b r f) (named _ _ x u c) =
-        turned to (size p m x) at (frame_size fr)
-        (in_memory to (size p m x) at (frame_size fr) (frame_in g at fr r f) (registers k to x u c))
-    standing_apart n k at to s t d (last _ _ b f) (packed _ _ o q a e) =
-        turned to (size p m o) at 64 (packed_before k to at 64 o q a e (omega (arith, f)))
-    standing_apart n k at to s t d (last _ _ b f) (of_frame _ _ g fr c r e) =
-        turned to (frame_size fr) at 64 (frame_before g to at fr r e f)
-    standing_apart n k at to s t d (last _ _ b f) (last _ _ c e) = absurd (d (b ∙ sym c))
-    standing_apart n k at to s t d (last _ _ b f) (fixed _ _ x u c) =
-        turned to (size p m x) at 64 (beside to (size p m x) at 64 (outside x to c) (last_in at f))
-    standing_apart n k at to s t d (last _ _ b f) (named _ _ x u c) =
-        turned to (size p m x) at 64 (in_memory to (size p m x) at 64 (last_in at f) (registers k to x u c))
-    standing_apart n k at to s t d (fixed _ _ o q a) (packed _ _ x r b f) =
-        beside at (size p m o) to (size p m x) (outside o at a) (packed_in k to x r b f)
-    standing_apart n k at to s t d (fixed _ _ o q a) (of_frame _ _ g fr b r f) =
-        beside at (size p m o) to (frame_size fr) (outside o at a) (frame_in g to fr r f)
-    standing_apart n k at to s t d (fixed _ _ o q a) (last _ _ b f) = beside at (size p m o) to 64 (outside o at a) (last_in to f)
-    standing_apart n k at to s t d (fixed _ _ o q a) (fixed _ _ x r b) =
+    pub standing_apart : (n k at to s t : ℕ) → n ≢ k → CanBeLive p n k → Standing n at s → Standing k to t → Clear at s to t
+    standing_apart n k at to s t d live (in_area _ _ _ a) (in_area _ _ _ b) = inside_apart over locals n k at to s t d live a b
+    standing_apart n k at to s t d live (in_area _ _ _ a) (fixed _ _ x r b) =
+        turned to (size p m x) at s (beside to (size p m x) at s (outside x to b) (in_vars n at s a))
+    standing_apart n k at to s t d live (in_area _ _ _ a) (named _ _ x r b) =
+        turned to (size p m x) at s (in_memory to (size p m x) at s (in_vars n at s a) (registers k to x r b))
+    standing_apart n k at to s t d live (fixed _ _ o q a) (in_area _ _ _ b) =
+        beside at (size p m o) to t (outside o at a) (in_vars k to t b)
+    standing_apart n k at to s t d live (fixed _ _ o q a) (fixed _ _ x r b) =
         by_order n k at (size p m o) to (size p m x) d (λ l. both_stood p m valid free Data n k o x at to l q r a b)
         (λ l. both_stood p m valid free Data k n x o to at l r q b a)
-    standing_apart n k at to s t d (fixed _ _ o q a) (named _ _ x r b) =
+    standing_apart n k at to s t d live (fixed _ _ o q a) (named _ _ x r b) =
         turned to (size p m x) at (size p m o) (in_place to (size p m x) at (size p m o) (outside o at a) (registers k to x r b))
-    standing_apart n k at to s t d (named _ _ o q a) (packed _ _ x r b f) =
-        in_memory at (size p m o) to (size p m x) (packed_in k to x r b f) (registers n at o q a)
-    standing_apart n k at to s t d (named _ _ o q a) (of_frame _ _ g fr b r f) =
-        in_memory at (size p m o) to (frame_size fr) (frame_in g to fr r f) (registers n at o q a)
-    standing_apart n k at to s t d (named _ _ o q a) (last _ _ b f) = in_memory at (size p m o) to 64 (last_in to f) (registers n at o q a)
-    standing_apart n k at to s t d (named _ _ o q a) (fixed _ _ x r b) =
+    standing_apart n k at to s t d live (named _ _ o q a) (in_area _ _ _ b) =
+        in_memory at (size p m o) to t (in_vars k to t b) (registers n at o q a)
+    standing_apart n k at to s t d live (named _ _ o q a) (fixed _ _ x r b) =
         in_place at (size p m o) to (size p m x) (outside x to b) (registers n at o q a)
-    standing_apart n k at to s t d (named _ _ o q a) (named _ _ x r b) =
+    standing_apart n k at to s t d live (named _ _ o q a) (named _ _ x r b) =
         by_order n k at (size p m o) to (size p m x) d (λ l. both_named n k at to o x l q r a b) (λ l. both_named k n to at x o l r q b a)

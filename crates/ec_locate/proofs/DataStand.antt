@@ -1,44 +1,71 @@
 -- What a placed program keeps in the data bank stands apart: the whole.
-use Rattle.std.proofs.Common.{◌≡◌, ◌≢◌, ◌⊎◌, inl, inr, ⊎_elim, ◌+◌, ◌-◌, ◌≤◌, ℕ, Bool, true, false, length, take}
+use Rattle.std.proofs.Common.{◌≡◌, ◌≢◌, ◌⊎◌, inl, inr, ⊎_elim, ◌+◌, ◌-◌, ◌<◌, ◌≤◌, ℕ, Bool, true}
+use Rattle.std.proofs.Common.{false, List, length, map, take}
 use Rattle.std.proofs.Common.{Option, Some, None, refl, sym, ap, ◌∙◌, subst, arith}
 use Rattle.std.specs.Prelude.{slice_get, slice_index}
 use Rattle.std.proofs.lemmas.Bool.{lt-ltb, le-ltb}
+use Rattle.std.proofs.lemmas.List.{length-map}
 use Rattle.std.proofs.lemmas.Option.{slice_get_within, get_or_from_slice_get}
 use Rattle.ec_space.specs.declared.space.Bank.TheVariants.{Data}
 use Rattle.ec_space.specs.declared.space.Place.{Place}
 use Rattle.ec_asm.specs.declared.items.AsmProgram.{AsmProgram}
+use Rattle.ec_check_recursion.specs.Rows.{rows_of_program}
 use Rattle.ec_core.specs.Plain.{PlainObject, PlainStorage, static, local, param, register, PlainProgram}
-use Rattle.ec_core.specs.Valid.{Valid}
+use Rattle.ec_core.specs.Valid.{Valid, IsStored}
 use Rattle.ec_map.specs.Maps.{ValidMap}
 use Rattle.ec_map.specs.Regions.{end_of}
 use Rattle.ec_map.specs.declared.map.Map.{Map}
+use Rattle.ec_overlay.specs.Chains.{NothingRecurs}
+use Rattle.ec_overlay.specs.Frames.{begin_of, AreOverlaid, FramesAreOverlaid}
+use Rattle.ec_overlay.specs.Objects.{ObjectsAreOverlaid, OverlaidObjectsStandApart}
+use Rattle.ec_overlay.proofs.Programs.{nothing_recurs}
+use Rattle.ec_locate.specs.declared.entries.Entry.{Entry}
 use Rattle.ec_locate.specs.declared.entries.Kept.{Kept}
-use Rattle.ec_locate.specs.declared.entries.Kept.TheVariants.{Packed, Fixed, Register}
+use Rattle.ec_locate.specs.declared.entries.Kept.TheVariants.{Packed, Fixed, Register, InFrame}
 use Rattle.ec_locate.specs.declared.placing.Located.{Located}
 use Rattle.ec_locate.specs.Apart.{AreFree}
 use Rattle.ec_locate.specs.Code.{address_of, start_of}
-use Rattle.ec_locate.specs.DataBank.{Names, an_object, scratch, work, IsInMemory, StandsIn, DataStands, DataStandsApart}
-use Rattle.ec_locate.specs.Entries.{fixed_place, is_static, data_sizes, flash_sizes, frame_size, frame_sizes}
+use Rattle.ec_locate.specs.DataBank.{IsOwnedBy, Names, an_object, scratch, work, IsInMemory, StandsIn, DataStands, DataStandsApart}
+use Rattle.ec_locate.specs.Entries.{fixed_place, is_static, data_sizes, flash_sizes, frame_size, frame_of, owned_of, scratch_size}
+use Rattle.ec_locate.specs.Entries.{data_need}
 use Rattle.ec_locate.specs.Fixed.{blocks}
-use Rattle.ec_locate.specs.Layout.{LayoutView, place_by}
-use Rattle.ec_locate.specs.Placing.{IsLocated, layout_by, last_of, needs}
+use Rattle.ec_locate.specs.Layout.{LayoutView, place_by, local_at}
+use Rattle.ec_locate.specs.Placing.{IsLocated, layout_by, last_of, needs, scratch_needs}
 use Rattle.ec_locate.proofs.Addresses.{object_start, address_from}
 use Rattle.ec_locate.proofs.InOrders.{vars_fit, places_free}
-use Rattle.ec_locate.proofs.Objects.{few_objects}
+use Rattle.ec_locate.proofs.Kept.{kept_known}
+use Rattle.ec_locate.proofs.Objects.{is_object_at, few_objects}
 use Rattle.ec_locate.proofs.Stood.{es, size, entry, entry_there, Stood, stood}
-use Rattle.ec_locate.proofs.Where.{place_at}
-use Rattle.ec_locate.proofs.DataBank.{frame_at, same_place, scratch_from, Standing, packed, of_frame, last, fixed}
-use Rattle.ec_locate.proofs.DataBank.{named, InVars, packed_in, frame_in, last_in, outside, registers, standing_apart}
+use Rattle.ec_locate.proofs.Where.{place_at, frame_at}
+use Rattle.ec_locate.proofs.DataBank.{same_place, scratch_from, Inside, packed, of_frame, of_scratch, last, Standing, in_area, fixed}
+use Rattle.ec_locate.proofs.DataBank.{named, InVars, in_vars, outside, registers, standing_apart}
 
 same_number : (z : Option ℕ) (a b : ℕ) → z ≡ Some a → z ≡ Some b → a ≡ b
 same_number z a b q r = let both : Some a ≡ Some b = sym q ∙ r in cc
 
-module _ (p : PlainProgram) (m : Map) (asm : AsmProgram) (l : Located) (valid : Valid p m.io) (map_valid : ValidMap m)
-    (few : length asm.frames.items ≤ 256) (located : IsLocated p m asm l) where
+-- what this rests on
+pub record OverlayLaws : Type 0 where
+  pub frames : FramesAreOverlaid
+  pub objects : OverlaidObjectsStandApart
+
+module _ (laws : OverlayLaws) (p : PlainProgram) (m : Map) (asm : AsmProgram) (l : Located) (valid : Valid p m.io)
+    (map_valid : ValidMap m) (few : length asm.frames.items ≤ 256) (located : IsLocated p m asm l) where
   abbrev y : LayoutView
   y = layout_by p m asm
 
-  room : data_sizes (es p m) + frame_sizes asm.frames.items + 64 ≤ m.vars.size
+  abbrev rows : List (List ℕ)
+  rows = rows_of_program p
+
+  never : NothingRecurs rows
+  never = nothing_recurs p valid.no_recursion
+
+  over : AreOverlaid rows (scratch_size asm.frames.items)
+  over = laws.frames rows (scratch_size asm.frames.items) never
+
+  locals : ObjectsAreOverlaid rows (map owned_of (es p m))
+  locals = laws.objects rows (map owned_of (es p m)) never (λ i f o is own. kept_known p m valid i f o is own)
+
+  room : data_need 64 rows (es p m) asm.frames.items ≤ m.vars.size
   room = vars_fit m (needs p (es p m) asm.frames.items asm.items.items) located.fits
 
   free : AreFree m (blocks (es p m) p.objects m.places.items)
@@ -47,12 +74,14 @@ module _ (p : PlainProgram) (m : Map) (asm : AsmProgram) (l : Located) (valid : 
   -- ---- an object
 
   abbrev there : Kept → PlainObject → ℕ → Place
-  there k o i = place_by k o.home (m.tables.first + flash_sizes (take i (es p m))) (m.vars.first + data_sizes (take i (es p m)))
+  there k o i =
+      place_by k o.home (m.tables.first + flash_sizes (take i (es p m))) (m.vars.first + data_sizes (take i (es p m)))
+      (λ f. local_at m rows (es p m) f i)
 
   offset_is : (i : ℕ) (o : PlainObject) (q : Place) → slice_get p.objects i ≡ Some o → slice_get l.places.items i ≡ Some q
       → q.offset ≡ (there (entry p m o).kept o i).offset
   offset_is i o q is at =
-      let here = place_at (es p m) m.tables.first m.vars.first i (entry p m o) (entry_there p m i o is) in
+      let here = place_at (es p m) m.tables.first m.vars.first (local_at m rows (es p m)) i (entry p m o) (entry_there p m i o is) in
       same_place (slice_get y.places i) q (there (entry p m o).kept o i) (subst (λ ps. slice_get ps i ≡ Some q) located.places at) here
 
   object_standing : (i : ℕ) (o : PlainObject) (q : Place) → slice_get p.objects i ≡ Some o → o.home ≡ Data
@@ -60,9 +89,17 @@ module _ (p : PlainProgram) (m : Map) (asm : AsmProgram) (l : Located) (valid : 
   object_standing i o q is home at = by_storage o.storage refl
     where
       is_packed : (entry p m o).kept ≡ Packed → Standing p m asm i q.offset (size p m o)
-      is_packed k = packed i q.offset o is (rw (k, home) refl) (offset_is i o q is at ∙ rw (k, home) refl)
+      is_packed k = in_area i q.offset (size p m o) (packed i q.offset o is (rw (k, home) refl) (offset_is i o q is at ∙ rw (k, home) refl))
 
-      by_place : (inits : _) → o.storage ≡ static inits → o.external ≡ true → (z : Option ℕ) → fixed_place m.places.items o.name ≡ z
+      in_frame : (f : ℕ) → (entry p m o).kept ≡ InFrame f → IsOwnedBy f o.storage → f < length p.functions
+          → Standing p m asm i q.offset (size p m o)
+      in_frame f k own less = in_area i q.offset (size p m o) (of_frame i q.offset f o is own less (offset_is i o q is at ∙ rw k refl))
+
+      stored : (s : PlainStorage) → o.storage ≡ s → IsStored p o s
+      stored s e = subst (λ x. IsStored p o x) e (is_object_at p m.io valid i o is).storage
+
+      by_place : (inits : _) → o.storage ≡ static inits → o.external ≡ true → (z : Option ℕ)
+          → fixed_place m.places.items o.name ≡ z
           → Standing p m asm i q.offset (size p m o)
       by_place inits s x None z = is_packed (rw (s, x, z) refl)
       by_place inits s x (Some to) z =
@@ -71,31 +108,40 @@ module _ (p : PlainProgram) (m : Map) (asm : AsmProgram) (l : Located) (valid : 
           let st : is_static o.storage ≡ true = rw s refl in
           fixed i q.offset o is (subst (λ n. Stood p m Data o n) (sym here) (stood p m valid free Data i o to is home x st z))
 
-      by_external : (inits : _) → o.storage ≡ static inits → (b : Bool) → o.external ≡ b → Standing p m asm i q.offset (size p m o)
+      by_external : (inits : _) → o.storage ≡ static inits → (b : Bool) → o.external ≡ b
+          → Standing p m asm i q.offset (size p m o)
       by_external inits s true x = by_place inits s x (fixed_place m.places.items o.name) refl
       by_external inits s false x = is_packed (rw (s, x) refl)
 
       by_storage : (s : PlainStorage) → o.storage ≡ s → Standing p m asm i q.offset (size p m o)
       by_storage (static inits) s = by_external inits s o.external refl
-      by_storage (local f) s = is_packed (rw s refl)
-      by_storage (param f) s = is_packed (rw s refl)
+      by_storage (local f) s = in_frame f (rw s refl) (rw s refl) (stored (local f) s).0
+      by_storage (param f) s = in_frame f (rw s refl) (rw s refl) (stored (param f) s).0
       by_storage (register first) s =
           let k : (entry p m o).kept ≡ Register first = rw s refl in
           let here : q.offset ≡ first = offset_is i o q is at ∙ rw k refl in
           named i q.offset o is (s ∙ ap register (sym here))
 
+  functions_there : (f frame : ℕ) → slice_get asm.frames.items f ≡ Some frame → f < length p.functions
+  functions_there f frame q =
+      let within = slice_get_within asm.frames.items f frame q in
+      let same = ap length located.scratch in
+      let long : length (scratch_needs p) ≡ length p.functions = length-map p.functions _ in
+      omega (arith, within, same, long)
+
   standing : (n at s : ℕ) → Names p asm l n at s → Standing p m asm n at s
   standing n _ _ (an_object _ o q is home at) = object_standing n o q is home at
   standing _ at _ (scratch f fr _ q r) =
-      let here = frame_at asm.frames.items (scratch_from p m asm) f fr q in
-      let same = same_number (slice_get y.frames f) at (scratch_from p m asm + frame_sizes (take f asm.frames.items))
+      let begin = begin_of rows (scratch_size asm.frames.items) in
+      let here = frame_at (scratch_from p m asm) begin asm.frames.items f fr q in
+      let same = same_number (slice_get y.frames f) at (scratch_from p m asm + begin f)
       (subst (λ fs. slice_get fs f ≡ Some at) located.frames r) here in
-      of_frame (1024 + f) at f fr refl q same
-  standing _ _ _ work = last 1280 l.work refl located.work
+      in_area (1024 + f) at (frame_size fr) (of_scratch (1024 + f) at f fr refl q (functions_there f fr q) same)
+  standing _ _ _ work = in_area 1280 l.work 64 (last 1280 l.work refl located.work)
 
   -- ---- in memory
 
-  memory_of : (at s : ℕ) → InVars p m asm valid map_valid few room free at s → IsInMemory at s
+  memory_of : (at s : ℕ) → InVars p m asm valid map_valid over locals room free at s → IsInMemory at s
   memory_of at s v =
       let from = v.from_there in
       let ends = v.ends in
@@ -104,36 +150,31 @@ module _ (p : PlainProgram) (m : Map) (asm : AsmProgram) (l : Located) (valid : 
       (omega (arith, from, low), omega (arith, ends, high))
 
   below : (n at s : ℕ) → Standing p m asm n at s → at + s ≤ 2304
-  below n at s (packed _ _ o q a e) = (memory_of at s (packed_in p m asm valid map_valid few room free n at o q a e)).1
-  below n at s (of_frame _ _ f fr b q e) = (memory_of at s (frame_in p m asm valid map_valid few room free f at fr q e)).1
-  below n at s (last _ _ b e) = (memory_of at s (last_in p m asm valid map_valid few room free at e)).1
-  below n at s (fixed _ _ o q a) = (outside p m asm valid map_valid few room free o at a).ends
-  below n at s (named _ _ o q a) = let r = (registers p m asm valid map_valid few room free n at o q a).ends in omega (arith, r)
+  below n at s (in_area _ _ _ a) = (memory_of at s (in_vars p m asm valid map_valid over locals room free n at s a)).1
+  below n at s (fixed _ _ o q a) = (outside p m asm valid map_valid over locals room free o at a).ends
+  below n at s (named _ _ o q a) = let r = (registers p m asm valid map_valid over locals room free n at o q a).ends in omega (arith, r)
 
-  clear_of_stack : (at s : ℕ) → InVars p m asm valid map_valid few room free at s → (at + s ≤ m.stack.first) ⊎ (end_of m.stack ≤ at)
+  clear_of_stack : (at s : ℕ) → InVars p m asm valid map_valid over locals room free at s
+      → (at + s ≤ m.stack.first) ⊎ (end_of m.stack ≤ at)
   clear_of_stack at s v =
       let from = v.from_there in
       let ends = v.ends in
       ⊎_elim (λ a. inl (omega (arith, a, ends))) (λ a. inr (omega (arith, a, from))) map_valid.regions_valid.sram_apart
 
   stack_clear : (n at s : ℕ) → Standing p m asm n at s → (at + s ≤ m.stack.first) ⊎ (end_of m.stack ≤ at)
-  stack_clear n at s (packed _ _ o q a e) = clear_of_stack at s (packed_in p m asm valid map_valid few room free n at o q a e)
-  stack_clear n at s (of_frame _ _ f fr b q e) = clear_of_stack at s (frame_in p m asm valid map_valid few room free f at fr q e)
-  stack_clear n at s (last _ _ b e) = clear_of_stack at s (last_in p m asm valid map_valid few room free at e)
-  stack_clear n at s (fixed _ _ o q a) = (outside p m asm valid map_valid few room free o at a).stack
+  stack_clear n at s (in_area _ _ _ a) = clear_of_stack at s (in_vars p m asm valid map_valid over locals room free n at s a)
+  stack_clear n at s (fixed _ _ o q a) = (outside p m asm valid map_valid over locals room free o at a).stack
   stack_clear n at s (named _ _ o q a) =
-      let r = (registers p m asm valid map_valid few room free n at o q a).ends in
+      let r = (registers p m asm valid map_valid over locals room free n at o q a).ends in
       let low = map_valid.regions_valid.stack.from_there in
       inl (omega (arith, r, low))
 
   -- what is no named register stands in memory
   memory_unless : (n at s : ℕ) → Standing p m asm n at s
       → ((o : PlainObject) (first : ℕ) → slice_get p.objects n ≡ Some o → o.storage ≢ register first) → IsInMemory at s
-  memory_unless n at s (packed _ _ o q a e) none = memory_of at s (packed_in p m asm valid map_valid few room free n at o q a e)
-  memory_unless n at s (of_frame _ _ f fr b q e) none = memory_of at s (frame_in p m asm valid map_valid few room free f at fr q e)
-  memory_unless n at s (last _ _ b e) none = memory_of at s (last_in p m asm valid map_valid few room free at e)
+  memory_unless n at s (in_area _ _ _ a) none = memory_of at s (in_vars p m asm valid map_valid over locals room free n at s a)
   memory_unless n at s (fixed _ _ o q a) none =
-      let out = outside p m asm valid map_valid few room free o at a in
+      let out = outside p m asm valid map_valid over locals room free o at a in
       (out.from_there, out.ends)
   memory_unless n at s (named _ _ o q a) none = absurd (none o at q a)
 
@@ -156,7 +197,7 @@ module _ (p : PlainProgram) (m : Map) (asm : AsmProgram) (l : Located) (valid : 
       by_storage (register first) s =
           let k : (entry p m o).kept ≡ Register first = rw s refl in
           let here : q.offset ≡ first = offset_is i o q is at ∙ rw k refl in
-          let r = registers p m asm valid map_valid few room free i first o is s in
+          let r = registers p m asm valid map_valid over locals room free i first o is s in
           (here, r.from_there, r.ends)
 
   -- ---- addresses
@@ -180,8 +221,8 @@ module _ (p : PlainProgram) (m : Map) (asm : AsmProgram) (l : Located) (valid : 
 
   pub holds : DataStands p m asm l
   holds = record {
-    apart = λ n k at to s t differ a b.
-        standing_apart p m asm valid map_valid few room free n k at to s t differ (standing n at s a) (standing k to t b);
+    apart = λ n k at to s t differ live a b.
+        standing_apart p m asm valid map_valid over locals room free n k at to s t differ live (standing n at s a) (standing k to t b);
     stack = λ n at s a. stack_clear n at s (standing n at s a);
     objects = objects;
     frames = λ f fr at q r.
@@ -194,5 +235,5 @@ module _ (p : PlainProgram) (m : Map) (asm : AsmProgram) (l : Located) (valid : 
     address = address;
   }
 
-pub data-stands-apart : DataStandsApart
-data-stands-apart p m asm l valid map_valid asm_valid located = holds p m asm l valid map_valid asm_valid.functions located
+pub data-stands-apart : OverlayLaws → DataStandsApart
+data-stands-apart laws p m asm l valid map_valid asm_valid located = holds laws p m asm l valid map_valid asm_valid.functions located

@@ -1,5 +1,6 @@
 -- What stands in a region stands in a row.
-use Rattle.std.proofs.Common.{◌≡◌, ◌+◌, ◌≤◌, ℕ, Bool, true, false, List, [], ◌∷◌, Option, Some, None, add-zero, refl, subst, arith}
+use Rattle.std.proofs.Common.{◌≡◌, ◌+◌, ◌≤◌, ℕ, Bool, true, false, List, [], ◌∷◌, Option, Some, None, add-zero}
+use Rattle.std.proofs.Common.{refl, subst, arith}
 use Rattle.std.specs.Prelude.{sum_by, if◌then◌else◌, position}
 use Rattle.std.proofs.lemmas.List.Sums.{sum_by-cons}
 use Rattle.ec_space.specs.declared.space.Bank.{Bank}
@@ -7,7 +8,7 @@ use Rattle.ec_space.specs.declared.space.Bank.TheVariants.{Flash, Data}
 use Rattle.ec_map.specs.declared.map.Map.{Map}
 use Rattle.ec_locate.specs.declared.entries.Entry.{Entry}
 use Rattle.ec_locate.specs.declared.entries.Kept.{Kept}
-use Rattle.ec_locate.specs.declared.entries.Kept.TheVariants.{Register, Fixed, Packed}
+use Rattle.ec_locate.specs.declared.entries.Kept.TheVariants.{Register, Fixed, Packed, InFrame}
 use Rattle.ec_locate.specs.declared.fixed.Block.{Block}
 use Rattle.ec_locate.specs.declared.fixed.Neighbour.{Neighbour}
 use Rattle.ec_locate.specs.declared.fixed.Neighbour.TheVariants.{BankEnd}
@@ -15,18 +16,19 @@ use Rattle.ec_locate.specs.declared.needs.Needs.{Needs}
 use Rattle.ec_locate.specs.declared.stop.RegionName.{RegionName}
 use Rattle.ec_locate.specs.declared.stop.RegionName.TheVariants as regions
 use Rattle.ec_locate.specs.Entries.{packed_flash, packed_data, initial_bytes, flash_size, data_size, initial_size, flash_sizes, data_sizes}
-use Rattle.ec_locate.specs.Entries.{initial_sizes, frame_size, frame_sizes}
+use Rattle.ec_locate.specs.Entries.{initial_sizes}
 use Rattle.ec_locate.specs.Fixed.{is_in_bank, region_met, region_or_later, overlaps, clash_of, or_next, first_clash}
-use Rattle.ec_locate.specs.Layout.{place_by, places_from, initial_at, initials_from, frames_from}
+use Rattle.ec_locate.specs.Layout.{place_by, places_from, initial_at, initials_from}
 use Rattle.ec_locate.specs.Needs.{shortage_of, or_else, first_shortage}
-use Rattle.ec_locate.specs.Apart.{Span, InOrder, add_where, is_packed_in, objects_in, has_initial, initial_spans, frame_spans, AreFree}
+use Rattle.ec_locate.specs.Apart.{Span, InOrder, add_where, is_packed_in, objects_in, has_initial, initial_spans, AreFree}
 use Rattle.ec_locate.proofs.CodeStand.{neither_short, fits}
 
 at_zero : (at : ℕ) (ss : List Span) (to : ℕ) → InOrder (at + 0) ss to → InOrder at ss to
 at_zero at ss to h = subst (λ n. InOrder n ss to) (add-zero at) h
 
 -- the sum of one entry and the others
-behind : {X : Type 0} (f : X → ℕ) (x : X) (xs : List X) (at : ℕ) (ss : List Span) (to : ℕ) → InOrder (at + sum_by f (x ∷ xs)) ss to
+behind : {X : Type 0} (f : X → ℕ) (x : X) (xs : List X) (at : ℕ) (ss : List Span) (to : ℕ)
+    → InOrder (at + sum_by f (x ∷ xs)) ss to
     → InOrder (at + f x + sum_by f xs) ss to
 behind f x xs at ss to h =
     let q = sum_by-cons f x xs in
@@ -35,39 +37,47 @@ behind f x xs at ss to h =
 
 -- ---- data objects
 
-data_step : (k : Kept) (home : Bank) (size flash at : ℕ) (ss : List Span) (to : ℕ) → InOrder (at + packed_data k home size) ss to
-    → InOrder at (add_where (is_packed_in Data k home) (record { from = (place_by k home flash at).offset; size = size }) ss) to
-data_step Packed Data size flash at ss to h = (omega arith, h)
-data_step Packed Flash size flash at ss to h = at_zero at ss to h
-data_step (Register r) Data size flash at ss to h = at_zero at ss to h
-data_step (Register r) Flash size flash at ss to h = at_zero at ss to h
-data_step (Fixed there) Data size flash at ss to h = at_zero at ss to h
-data_step (Fixed there) Flash size flash at ss to h = at_zero at ss to h
+data_step : (k : Kept) (home : Bank) (size flash at : ℕ) (frame : ℕ → ℕ) (ss : List Span) (to : ℕ)
+    → InOrder (at + packed_data k home size) ss to
+    → InOrder at (add_where (is_packed_in Data k home) (record { from = (place_by k home flash at frame).offset; size = size }) ss) to
+data_step Packed Data size flash at frame ss to h = (omega arith, h)
+data_step Packed Flash size flash at frame ss to h = at_zero at ss to h
+data_step (Register r) Data size flash at frame ss to h = at_zero at ss to h
+data_step (Register r) Flash size flash at frame ss to h = at_zero at ss to h
+data_step (Fixed there) Data size flash at frame ss to h = at_zero at ss to h
+data_step (Fixed there) Flash size flash at frame ss to h = at_zero at ss to h
+data_step (InFrame f) Data size flash at frame ss to h = at_zero at ss to h
+data_step (InFrame f) Flash size flash at frame ss to h = at_zero at ss to h
 
-pub data_in_order : (es : List Entry) (flash at : ℕ) (ss : List Span) (to : ℕ) → InOrder (at + data_sizes es) ss to
-    → InOrder at (objects_in Data (places_from flash at es) es ss) to
-data_in_order [] flash at ss to h = at_zero at ss to h
-data_in_order (e ∷ es) flash at ss to h =
-    data_step e.kept e.home e.size flash at _ to
-    (data_in_order es (flash + flash_size e) (at + data_size e) ss to (behind data_size e es at ss to h))
+pub data_in_order : (es : List Entry) (flash at : ℕ) (frame : ℕ → ℕ → ℕ) (i : ℕ) (ss : List Span) (to : ℕ)
+    → InOrder (at + data_sizes es) ss to
+    → InOrder at (objects_in Data (places_from flash at frame i es) es ss) to
+data_in_order [] flash at frame i ss to h = at_zero at ss to h
+data_in_order (e ∷ es) flash at frame i ss to h =
+    data_step e.kept e.home e.size flash at (λ f. frame f i) _ to
+    (data_in_order es (flash + flash_size e) (at + data_size e) frame (i + 1) ss to (behind data_size e es at ss to h))
 
 -- ---- flash objects
 
-flash_step : (k : Kept) (home : Bank) (size flash at : ℕ) (ss : List Span) (to : ℕ) → InOrder (flash + packed_flash k home size) ss to
-    → InOrder flash (add_where (is_packed_in Flash k home) (record { from = (place_by k home flash at).offset; size = size }) ss) to
-flash_step Packed Flash size flash at ss to h = (omega arith, h)
-flash_step Packed Data size flash at ss to h = at_zero flash ss to h
-flash_step (Register r) Data size flash at ss to h = at_zero flash ss to h
-flash_step (Register r) Flash size flash at ss to h = at_zero flash ss to h
-flash_step (Fixed there) Data size flash at ss to h = at_zero flash ss to h
-flash_step (Fixed there) Flash size flash at ss to h = at_zero flash ss to h
+flash_step : (k : Kept) (home : Bank) (size flash at : ℕ) (frame : ℕ → ℕ) (ss : List Span) (to : ℕ)
+    → InOrder (flash + packed_flash k home size) ss to
+    → InOrder flash (add_where (is_packed_in Flash k home) (record { from = (place_by k home flash at frame).offset; size = size }) ss) to
+flash_step Packed Flash size flash at frame ss to h = (omega arith, h)
+flash_step Packed Data size flash at frame ss to h = at_zero flash ss to h
+flash_step (Register r) Data size flash at frame ss to h = at_zero flash ss to h
+flash_step (Register r) Flash size flash at frame ss to h = at_zero flash ss to h
+flash_step (Fixed there) Data size flash at frame ss to h = at_zero flash ss to h
+flash_step (Fixed there) Flash size flash at frame ss to h = at_zero flash ss to h
+flash_step (InFrame f) Data size flash at frame ss to h = at_zero flash ss to h
+flash_step (InFrame f) Flash size flash at frame ss to h = at_zero flash ss to h
 
-pub flash_in_order : (es : List Entry) (flash at : ℕ) (ss : List Span) (to : ℕ) → InOrder (flash + flash_sizes es) ss to
-    → InOrder flash (objects_in Flash (places_from flash at es) es ss) to
-flash_in_order [] flash at ss to h = at_zero flash ss to h
-flash_in_order (e ∷ es) flash at ss to h =
-    flash_step e.kept e.home e.size flash at _ to
-    (flash_in_order es (flash + flash_size e) (at + data_size e) ss to (behind flash_size e es flash ss to h))
+pub flash_in_order : (es : List Entry) (flash at : ℕ) (frame : ℕ → ℕ → ℕ) (i : ℕ) (ss : List Span) (to : ℕ)
+    → InOrder (flash + flash_sizes es) ss to
+    → InOrder flash (objects_in Flash (places_from flash at frame i es) es ss) to
+flash_in_order [] flash at frame i ss to h = at_zero flash ss to h
+flash_in_order (e ∷ es) flash at frame i ss to h =
+    flash_step e.kept e.home e.size flash at (λ f. frame f i) _ to
+    (flash_in_order es (flash + flash_size e) (at + data_size e) frame (i + 1) ss to (behind flash_size e es flash ss to h))
 
 -- ---- initial bytes
 
@@ -85,14 +95,6 @@ initial_in_order [] first at ss to h = at_zero at ss to h
 initial_in_order (e ∷ es) first at ss to h =
     initial_step e.is_static e.home e.size first at _ to
     (initial_in_order es first (at + initial_size e) ss to (behind initial_size e es at ss to h))
-
--- ---- scratch memory
-
-pub frames_in_order : (fs : List ℕ) (at : ℕ) (ss : List Span) (to : ℕ) → InOrder (at + frame_sizes fs) ss to
-    → InOrder at (frame_spans (frames_from at fs) fs ss) to
-frames_in_order [] at ss to h = at_zero at ss to h
-frames_in_order (f ∷ fs) at ss to h =
-    (omega arith, frames_in_order fs (at + frame_size f) ss to (behind frame_size f fs at ss to h))
 
 -- ---- room
 
@@ -120,7 +122,8 @@ stack_fits m n h =
 
 -- ---- fixed places
 
-neither_next : (i : ℕ) (o : Option Neighbour) (next : Option (ℕ × Neighbour)) → or_next i o next ≡ None → (o ≡ None) × (next ≡ None)
+neither_next : (i : ℕ) (o : Option Neighbour) (next : Option (ℕ × Neighbour)) → or_next i o next ≡ None
+    → (o ≡ None) × (next ≡ None)
 neither_next i None next h = (refl, h)
 neither_next i (Some x) next h = cc
 

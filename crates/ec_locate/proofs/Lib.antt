@@ -10,12 +10,16 @@ mod StandApart
 mod Chains
 mod Causes
 mod Longest
+mod ChainNeed
 mod Where
 mod Written
 mod Stood
 mod Spots
 mod Initial
 mod Addresses
+mod Kept
+mod FrameBytes
+mod Placed
 mod DataBank
 mod DataStand
 mod FlashStand

@@ -1,11 +1,13 @@
 -- The initial values of static objects stand apart in the flash, behind the code.
-use Rattle.std.proofs.Common.{◌≡◌, inl, inr, ⊎_elim, ◌+◌, ◌<◌, ◌≤◌, ℕ, Bool, true, false, List, take, Option, Some, None, refl, sym, ap}
+use Rattle.std.proofs.Common.{◌≡◌, inl, inr, ⊎_elim, ◌+◌, ◌<◌, ◌≤◌, ℕ, Bool, true, false, List, take, Option, Some}
+use Rattle.std.proofs.Common.{None, refl, sym, ap}
 use Rattle.std.proofs.Common.{◌∙◌, subst, arith}
 use Rattle.std.specs.Prelude.{slice_get, option_map, unwrap_or}
 use Rattle.std.proofs.lemmas.Bool.{leb-true}
 use Rattle.ec_space.specs.declared.space.Bank.{Bank}
 use Rattle.ec_space.specs.declared.space.Bank.TheVariants.{Flash, Data}
 use Rattle.ec_asm.specs.declared.items.AsmProgram.{AsmProgram}
+use Rattle.ec_check_recursion.specs.Rows.{rows_of_program}
 use Rattle.ec_core.specs.Plain.{PlainObject, PlainProgram}
 use Rattle.ec_core.specs.Valid.{Valid}
 use Rattle.ec_core.specs.declared.programs.LeafInit.{LeafInit}
@@ -21,7 +23,7 @@ use Rattle.ec_locate.specs.Entries.{fixed_place, is_static, flash_size, initial_
 use Rattle.ec_locate.specs.Fixed.{blocks}
 use Rattle.ec_locate.specs.Image.{values_at}
 use Rattle.ec_locate.specs.Initial.{IsInitialised, values_of}
-use Rattle.ec_locate.specs.Layout.{place_by}
+use Rattle.ec_locate.specs.Layout.{place_by, local_at}
 use Rattle.ec_locate.specs.Placing.{layout_by}
 use Rattle.ec_locate.proofs.Stood.{Clear, turned, es, size, entry, entry_there, Stood, stood, both_stood}
 use Rattle.ec_locate.proofs.Where.{sum_until, sum_within, place_at, initial_there, free_at, apart_where, clear_of}
@@ -33,7 +35,8 @@ module _ (p : PlainProgram) (m : Map) where
   pub data Spot (i : ℕ) (o : PlainObject) : ℕ → Type 0 where
     initial : (at : ℕ) → initial_size (entry p m o) ≡ size p m o
         → at ≡ m.tables.first + flash_sizes (es p m) + initial_sizes (take i (es p m)) → Spot i o at
-    packed : (at : ℕ) → flash_size (entry p m o) ≡ size p m o → at ≡ m.tables.first + flash_sizes (take i (es p m)) → Spot i o at
+    packed : (at : ℕ) → flash_size (entry p m o) ≡ size p m o → at ≡ m.tables.first + flash_sizes (take i (es p m))
+        → Spot i o at
     fixed : (at : ℕ) → o.home ≡ Flash → o.external ≡ true → is_static o.storage ≡ true
         → fixed_place m.places.items o.name ≡ Some at → Spot i o at
 
@@ -48,12 +51,15 @@ module _ (p : PlainProgram) (m : Map) where
       static_there = rw h.is_static refl
 
       at_flash : (Kept) → ℕ
-      at_flash k = (place_by k o.home (m.tables.first + flash_sizes (take i (es p m))) (m.vars.first + data_sizes (take i (es p m)))).offset
+      at_flash k =
+          (place_by k o.home (m.tables.first + flash_sizes (take i (es p m))) (m.vars.first + data_sizes (take i (es p m)))
+          (λ f. local_at m (rows_of_program p) (es p m) f i)).offset
 
       in_flash : o.home ≡ Flash → values_of p m asm i o ≡ at_flash (entry p m o).kept
       in_flash f =
           ap (λ b. values_at (layout_by p m asm) i b) f
-          ∙ ap (λ z. unwrap_or (option_map (λ q. q.offset) z) 0) (place_at (es p m) m.tables.first m.vars.first i (entry p m o) is_there)
+          ∙ ap (λ z. unwrap_or (option_map (λ q. q.offset) z) 0)
+          (place_at (es p m) m.tables.first m.vars.first (local_at m (rows_of_program p) (es p m)) i (entry p m o) is_there)
 
       by_place : o.home ≡ Flash → (z : Option ℕ) → fixed_place m.places.items o.name ≡ z → o.external ≡ true
           → Spot i o (values_of p m asm i o)
@@ -123,7 +129,8 @@ module _ (p : PlainProgram) (m : Map) where
         let ends = b.ends in
         ⊎_elim (λ l. inl (omega (arith, l, from))) (λ l. inr (omega (arith, l, ends))) a.tables
 
-    pub spots_apart : (i k : ℕ) (o x : PlainObject) (at to : ℕ) → i < k → slice_get p.objects i ≡ Some o → slice_get p.objects k ≡ Some x
+    pub spots_apart : (i k : ℕ) (o x : PlainObject) (at to : ℕ) → i < k → slice_get p.objects i ≡ Some o
+        → slice_get p.objects k ≡ Some x
         → Spot i o at → Spot k x to → Clear at (size p m o) to (size p m x)
     spots_apart i k o x at to l q r (initial _ a e) (initial _ b f) =
         let w = sum_until initial_size (es p m) i k (entry p m o) (entry_there p m i o q) l in

@@ -1,5 +1,6 @@
 -- Where objects stand, and that what the map places is clear of the regions and of one another.
-use Rattle.std.proofs.Common.{◌≡◌, ◌⊎◌, inl, inr, ⊎_elim, ◌+◌, ◌<◌, ◌≤◌, ℕ, zero, suc, Bool, true, false, ◌&&◌, List, [], ◌∷◌, take, get_or}
+use Rattle.std.proofs.Common.{◌≡◌, ◌⊎◌, inl, inr, ⊎_elim, ◌+◌, ◌<◌, ◌≤◌, ℕ, zero, suc, Bool, true, false}
+use Rattle.std.proofs.Common.{◌&&◌, List, [], ◌∷◌, take, get_or}
 use Rattle.std.proofs.Common.{add-zero, zero-add, Option, Some, None, refl, sym, ap, ◌∙◌, subst, arith}
 use Rattle.std.specs.Prelude.{sum_by, slice_get, slice_index, option_map, option_and_then, if◌then◌else◌, AllPairs}
 use Rattle.std.specs.List.{position_from}
@@ -21,7 +22,7 @@ use Rattle.ec_locate.specs.Apart.{AreFree}
 use Rattle.ec_locate.specs.Entries.{fixed_place, is_static, flash_size, data_size, initial_size, flash_sizes, data_sizes, initial_sizes}
 use Rattle.ec_locate.specs.Fixed.{can_place, object_named, block_at, block_of, blocks, shares, meets, overlaps, is_in_bank, region_met}
 use Rattle.ec_locate.specs.Fixed.{first_of}
-use Rattle.ec_locate.specs.Layout.{place_by, places_from, initial_at, initials_from}
+use Rattle.ec_locate.specs.Layout.{place_by, places_from, initial_at, initials_from, frames_from}
 
 -- ---- sums up to an item
 
@@ -57,18 +58,42 @@ sum_within f (y ∷ xs) (suc i) x q =
 behind : {X : Type 0} (f : X → ℕ) (x : X) (xs : List X) (at : ℕ) → at + f x + sum_by f xs ≡ at + sum_by f (x ∷ xs)
 behind f x xs at = omega (arith, sum_by-cons f x xs)
 
-pub place_at : (es : List Entry) (flash at i : ℕ) (e : Entry) → slice_get es i ≡ Some e
-    → slice_get (places_from flash at es) i ≡ Some (place_by e.kept e.home (flash + flash_sizes (take i es)) (at + data_sizes (take i es)))
-place_at [] flash at i e q = cc
-place_at (x ∷ es) flash at zero e q =
+place_from : (es : List Entry) (flash at : ℕ) (frame : ℕ → ℕ → ℕ) (k i : ℕ) (e : Entry) → slice_get es i ≡ Some e
+    → slice_get (places_from flash at frame k es) i
+    ≡ Some (place_by e.kept e.home (flash + flash_sizes (take i es)) (at + data_sizes (take i es)) (λ f. frame f (k + i)))
+place_from [] flash at frame k i e q = cc
+place_from (x ∷ es) flash at frame k zero e q =
     let same : x ≡ e = cc in
-    rw (same, add-zero flash, add-zero at) refl
-place_at (x ∷ es) flash at (suc i) e q =
-    let h = place_at es (flash + flash_size x) (at + data_size x) i e q in
+    rw (same, add-zero flash, add-zero at, add-zero k) refl
+place_from (x ∷ es) flash at frame k (suc i) e q =
+    let h = place_from es (flash + flash_size x) (at + data_size x) frame (k + 1) i e q in
     let a = behind flash_size x (take i es) flash in
     let b = behind data_size x (take i es) at in
-    h ∙ ap (λ n. Some (place_by e.kept e.home n (at + data_size x + data_sizes (take i es)))) a
-    ∙ ap (λ n. Some (place_by e.kept e.home (flash + flash_sizes (x ∷ take i es)) n)) b
+    let c : k + 1 + i ≡ k + suc i = omega arith in
+    h ∙ ap (λ n. Some (place_by e.kept e.home n (at + data_size x + data_sizes (take i es)) (λ f. frame f (k + 1 + i)))) a
+    ∙ ap (λ n. Some (place_by e.kept e.home (flash + flash_sizes (x ∷ take i es)) n (λ f. frame f (k + 1 + i)))) b
+    ∙ ap
+    (λ n. Some (place_by e.kept e.home (flash + flash_sizes (x ∷ take i es)) (at + data_sizes (x ∷ take i es)) (λ f. frame f n))) c
+
+pub place_at : (es : List Entry) (flash at : ℕ) (frame : ℕ → ℕ → ℕ) (i : ℕ) (e : Entry) → slice_get es i ≡ Some e
+    → slice_get (places_from flash at frame 0 es) i
+    ≡ Some (place_by e.kept e.home (flash + flash_sizes (take i es)) (at + data_sizes (take i es)) (λ f. frame f i))
+place_at es flash at frame i e q =
+    place_from es flash at frame 0 i e q
+    ∙ ap (λ n. Some (place_by e.kept e.home (flash + flash_sizes (take i es)) (at + data_sizes (take i es)) (λ f. frame f n))) (zero-add i)
+
+-- the scratch memory of each function, where its frame begins
+frame_from : (area : ℕ) (begin : ℕ → ℕ) (k : ℕ) (fs : List ℕ) (i frame : ℕ) → slice_get fs i ≡ Some frame
+    → slice_get (frames_from area begin k fs) i ≡ Some (area + begin (k + i))
+frame_from area begin k [] i frame q = cc
+frame_from area begin k (f ∷ fs) zero frame q = rw (add-zero k) refl
+frame_from area begin k (f ∷ fs) (suc i) frame q =
+    let c : k + 1 + i ≡ k + suc i = omega arith in
+    frame_from area begin (k + 1) fs i frame q ∙ ap (λ n. Some (area + begin n)) c
+
+pub frame_at : (area : ℕ) (begin : ℕ → ℕ) (fs : List ℕ) (i frame : ℕ) → slice_get fs i ≡ Some frame
+    → slice_get (frames_from area begin 0 fs) i ≡ Some (area + begin i)
+frame_at area begin fs i frame q = frame_from area begin 0 fs i frame q ∙ ap (λ n. Some (area + begin n)) (zero-add i)
 
 pub initial_there : (es : List Entry) (first at i : ℕ) (e : Entry) → slice_get es i ≡ Some e
     → slice_index (initials_from first at es) i ≡ initial_at e.is_static e.home first (at + initial_sizes (take i es))
@@ -128,11 +153,13 @@ found_place (q ∷ places) name at h =
     (cases_Bool (bytes_eq q.name.items name))
 
 -- the external static object of a name is the one with it
-can_place_is : (name : List ℕ) (o : PlainObject) → o.external ≡ true → is_static o.storage ≡ true → o.name ≡ name → can_place name o ≡ true
+can_place_is : (name : List ℕ) (o : PlainObject) → o.external ≡ true → is_static o.storage ≡ true → o.name ≡ name
+    → can_place name o ≡ true
 can_place_is name o x s n = rw (x, s, (bytes_eq-Decides o.name name).1 n) refl
 
 pub named_is : (objects : List PlainObject) (i : ℕ) (o : PlainObject) (name : List ℕ) → AllPairs HaveOwnNames objects
-    → slice_get objects i ≡ Some o → o.external ≡ true → is_static o.storage ≡ true → o.name ≡ name → object_named objects name ≡ Some i
+    → slice_get objects i ≡ Some o → o.external ≡ true → is_static o.storage ≡ true → o.name ≡ name
+    → object_named objects name ≡ Some i
 named_is objects i o name own q x s n =
     position_from-zero (can_place name) objects
     ∙ first_passes (can_place name) 0 objects i o q (can_place_is name o x s n)

@@ -8,12 +8,15 @@ use Rattle.ec_asm.specs.Items.{code_words}
 use Rattle.ec_asm.specs.declared.items.AsmProgram.{AsmProgram}
 use Rattle.ec_core.specs.Plain.{PlainProgram}
 use Rattle.ec_core.specs.Valid.{Valid}
+use Rattle.ec_check_recursion.specs.Rows.{rows_of_program}
+use Rattle.ec_overlay.specs.Chains.{IsChain}
+use Rattle.ec_overlay.specs.Frames.{need_of}
 use Rattle.ec_map.specs.Maps.{ValidMap}
 use Rattle.ec_map.specs.Regions.{end_of}
 use Rattle.ec_map.specs.declared.map.Map.{Map}
-use Rattle.ec_locate.specs.Calls.{IsChain}
-use Rattle.ec_locate.specs.Entries.{frame_size}
+use Rattle.ec_locate.specs.Entries.{local_size, scratch_size}
 use Rattle.ec_locate.specs.Fixed.{blocks, is_in_bank, region_met, overlaps}
+use Rattle.ec_locate.specs.Layout.{local_area, scratch_area}
 use Rattle.ec_locate.specs.Placing.{IsLocated, entries_by, layout_by}
 use Rattle.ec_locate.specs.declared.entries.Entry.{Entry}
 use Rattle.ec_locate.specs.declared.entries.Kept.{Kept}
@@ -62,12 +65,15 @@ initial_spans (at ∷ ats) [] rest = rest
 initial_spans (at ∷ ats) (e ∷ es) rest =
     add_where (has_initial e.is_static e.home) (record { from = at; size = e.size }) (initial_spans ats es rest)
 
--- the scratch memory of each function
-abbrev pub frame_spans : List ℕ → List ℕ → List Span → List Span
-frame_spans [] frames rest = rest
-frame_spans (at ∷ ats) [] rest = rest
-frame_spans (at ∷ ats) (frame ∷ frames) rest =
-    record { from = at; size = frame_size frame } ∷ frame_spans ats frames rest
+-- the parameters and locals of all functions, the scratch memory of all, and the work bytes
+abbrev pub area_spans : PlainProgram → Map → AsmProgram → Located → List Span
+area_spans p m asm l =
+    record { from = local_area m (entries_by m p); size = need_of (rows_of_program p) (local_size (entries_by m p)) }
+    ∷ record {
+      from = scratch_area m (rows_of_program p) (entries_by m p);
+      size = need_of (rows_of_program p) (scratch_size asm.frames.items);
+    }
+    ∷ record { from = l.work; size = 64 } ∷ []
 
 -- ---- what stands at fixed addresses: in its bank, outside the regions, and clear of later ones
 abbrev pub AreFree : Map → List Block → Type 0
@@ -77,18 +83,19 @@ AreFree m (b ∷ bs) =
 
 -- ---- the whole
 
--- In region `data` stand the free data objects, the scratch memory of each function and the work bytes, in region
--- `tables` the free flash objects and the initial bytes, and in region `code` the code, each behind the one before.
+-- In region `data` stand the free static data objects, the area of parameters and locals, that of scratch memory and the
+-- work bytes, in region `tables` the free flash objects and the initial bytes, and in region `code` the code, each behind the
+-- one before.
 -- Region `stack` has 16 bytes, and two for each function of a chain of calls from main, where the program is valid
 pub record StandsApart (p : PlainProgram) (m : Map) (asm : AsmProgram) (l : Located) : Type 0 where
   pub ram : InOrder m.vars.first
       (objects_in Data l.places.items (entries_by m p)
-      (frame_spans l.frames.items asm.frames.items (record { from = l.work; size = 64 } ∷ []))) (end_of m.vars)
+      (area_spans p m asm l)) (end_of m.vars)
   pub flash : InOrder m.tables.first
       (objects_in Flash l.places.items (entries_by m p)
       (initial_spans (layout_by p m asm).initials (entries_by m p) [])) (end_of m.tables)
   pub code : 2 * code_words asm.items.items ≤ end_of m.code
-  pub stack : Valid p m.io → (fs : List ℕ) → IsChain p.functions (p.main ∷ fs)
+  pub stack : Valid p m.io → (fs : List ℕ) → IsChain (rows_of_program p) (p.main ∷ fs)
       → 16 + 2 * length (p.main ∷ fs) ≤ m.stack.size
   pub fixed : AreFree m (blocks (entries_by m p) p.objects m.places.items)
 

@@ -1,6 +1,6 @@
 -- What is asked of the objects of a program to place them, and how many bytes of the regions they need.
 use Rattle.std.specs.Prelude.{ℕ, ◌+◌, ◌*◌, Bool, true, false, if◌then◌else◌, List, map, Option, Some, None}
-use Rattle.std.specs.Prelude.{option_map, sum_by}
+use Rattle.std.specs.Prelude.{option_map, sum_by, slice_index}
 use Rattle.std.specs.List.{find}
 use Rattle.std.specs.Str.{bytes_eq}
 use Rattle.ec_space.specs.declared.space.Bank.{Bank}
@@ -8,9 +8,11 @@ use Rattle.ec_space.specs.declared.space.Bank.TheVariants.{Flash, Data}
 use Rattle.ec_core.specs.Layout.{size_of_type}
 use Rattle.ec_core.specs.Plain.{PlainStruct, PlainStorage, static, local, param, register, PlainObject, PlainProgram}
 use Rattle.ec_map.specs.declared.map.Fixed1.{Fixed1}
+use Rattle.ec_overlay.specs.Frames.{need_of}
+use Rattle.ec_overlay.specs.Objects.{Owned, frame_bytes}
 use Rattle.ec_locate.specs.declared.entries.Entry.{Entry}
 use Rattle.ec_locate.specs.declared.entries.Kept.{Kept}
-use Rattle.ec_locate.specs.declared.entries.Kept.TheVariants.{Register, Fixed, Packed}
+use Rattle.ec_locate.specs.declared.entries.Kept.TheVariants.{Register, Fixed, Packed, InFrame}
 
 -- ---- objects
 
@@ -22,11 +24,12 @@ abbrev pub fixed_or_packed : Option ℕ → Kept
 fixed_or_packed None = Packed
 fixed_or_packed (Some at) = Fixed at
 
--- a named register is kept in its registers, and an external object that the map names where it says
+-- a named register is kept in its registers, an external object that the map names where it says, and a parameter or local
+-- in the frame of its function
 abbrev pub kept_by : List Fixed1 → (external : Bool) → (name : List ℕ) → PlainStorage → Kept
 kept_by places external name (static inits) = if external then fixed_or_packed (fixed_place places name) else Packed
-kept_by places external name (local f) = Packed
-kept_by places external name (param f) = Packed
+kept_by places external name (local f) = InFrame f
+kept_by places external name (param f) = InFrame f
 kept_by places external name (register first) = Register first
 
 abbrev pub is_static : PlainStorage → Bool
@@ -80,12 +83,28 @@ data_sizes es = sum_by data_size es
 abbrev pub initial_sizes : List Entry → ℕ
 initial_sizes es = sum_by initial_size es
 
+-- ---- frames
+
+-- the function in whose frame an object is kept
+abbrev pub frame_of : Kept → Option ℕ
+frame_of (InFrame f) = Some f
+frame_of Packed = None
+frame_of (Fixed at) = None
+frame_of (Register first) = None
+
+abbrev pub owned_of : Entry → Owned
+owned_of e = record { owner = frame_of e.kept; size = e.size }
+
+-- the bytes of the parameters and locals of function f
+abbrev pub local_size : List Entry → (f : ℕ) → ℕ
+local_size es f = frame_bytes f (map owned_of es)
+
 -- the bytes of the scratch memory of a function, by its sixteenth part
 abbrev pub frame_size : ℕ → ℕ
 frame_size frame = 16 * frame
 
-abbrev pub frame_sizes : List ℕ → ℕ
-frame_sizes frames = sum_by frame_size frames
+abbrev pub scratch_size : (frames : List ℕ) → (f : ℕ) → ℕ
+scratch_size frames f = frame_size (slice_index frames f)
 
 -- ---- needs
 
@@ -93,6 +112,8 @@ frame_sizes frames = sum_by frame_size frames
 abbrev pub table_need : List Entry → ℕ
 table_need es = flash_sizes es + initial_sizes es
 
--- of region `data`: all other data objects that are free, the scratch memory of each function, and the work bytes
-abbrev pub data_need : (work : ℕ) → List Entry → (frames : List ℕ) → ℕ
-data_need work es frames = data_sizes es + frame_sizes frames + work
+-- of region `data`: free static data objects, the parameters and locals of each function and its scratch memory, both
+-- overlaid by the calls, and the work bytes
+abbrev pub data_need : (work : ℕ) → (rows : List (List ℕ)) → List Entry → (frames : List ℕ) → ℕ
+data_need work rows es frames =
+    data_sizes es + need_of rows (local_size es) + need_of rows (scratch_size frames) + work

@@ -2,12 +2,14 @@ pub mod Labels
 pub mod Pointers
 pub mod Entries
 pub mod Layout
+pub mod Areas
 pub mod Fixed
 pub mod Calls
 pub mod Needs
 pub mod Code
 pub mod Image
 pub mod Placing
+pub mod ChainNeed
 pub mod Stands
 pub mod Apart
 pub mod Initial

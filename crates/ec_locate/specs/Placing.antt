@@ -1,9 +1,11 @@
 -- What `place` answers for a program, its code and a map.
-use Rattle.std.specs.Prelude.{ℕ, ◌≡◌, ◌⊎◌, ◌+◌, ◌-◌, ◌*◌, ⊤, List, map, Option, Some, None, option_map, IsSomeAnd}
+use Rattle.std.specs.Prelude.{ℕ, ◌≡◌, ◌⊎◌, ◌+◌, ◌-◌, ◌*◌, ⊤, List, map, Option, Some, None, option_map}
+use Rattle.std.specs.Prelude.{IsSomeAnd}
 use Rattle.ec_space.specs.declared.Core.TheVariants.{Small}
 use Rattle.ec_asm.specs.Items.{code_words}
 use Rattle.ec_asm.specs.declared.items.AsmItem.{AsmItem}
 use Rattle.ec_asm.specs.declared.items.AsmProgram.{AsmProgram}
+use Rattle.ec_check_recursion.specs.Rows.{rows_of_program}
 use Rattle.ec_core.specs.Layout.{size_of_type}
 use Rattle.ec_core.specs.Needs.{stmt_need}
 use Rattle.ec_core.specs.Plain.{PlainProgram}
@@ -36,7 +38,7 @@ scratch_needs p = map (λ f. stmt_need f.body) p.functions
 abbrev pub needs : PlainProgram → List Entry → (frames : List ℕ) → List AsmItem → Needs
 needs p es frames items = record {
   tables = table_need es;
-  vars = data_need 64 es frames;
+  vars = data_need 64 (rows_of_program p) es frames;
   stack = stack_need (call_depth p);
   code = 2 * code_words items;
 }
@@ -98,9 +100,11 @@ abbrev pub last_of : Map → ℕ
 last_of m = m.stack.first + m.stack.size - 1
 
 abbrev pub layout_by : PlainProgram → Map → AsmProgram → LayoutView
-layout_by p m asm = layout m (entries_by m p) asm.frames.items
+layout_by p m asm = layout m (rows_of_program p) (entries_by m p) asm.frames.items
 
+-- the code has the scratch memory that its functions need, and the program stands by the map
 pub record IsLocated (p : PlainProgram) (m : Map) (asm : AsmProgram) (l : Located) : Type 0 where
+  pub scratch : asm.frames.items ≡ scratch_needs p
   pub fits : shortage p m asm ≡ None
   pub there : without_object p m ≡ None
   pub free : clash p m ≡ None

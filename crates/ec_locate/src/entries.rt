@@ -5,8 +5,7 @@ ghost use Rattle.ec_core.specs.Layout.{AreStructs, IsObjectType};
 ghost use Rattle.ec_core.specs.Plain.{plain_struct, plain_type, plain_object, plain_storage, plain_program};
 ghost use Rattle.ec_core.specs.Valid.{IsObject};
 ghost use Rattle.ec_locate.specs.Entries.{fixed_place, kept_by, is_static, entry_of, entries, flash_size, data_size};
-ghost use Rattle.ec_locate.specs.Entries.{initial_size, flash_sizes, data_sizes, initial_sizes, frame_sizes};
-ghost use Rattle.ec_locate.specs.Entries.{frame_size};
+ghost use Rattle.ec_locate.specs.Entries.{initial_size, flash_sizes, data_sizes, initial_sizes};
 
 use ec_core::{Obj, Program, Storage, StructDef, size_of};
 use ec_map::Fixed1;
@@ -22,6 +21,8 @@ pub enum Kept {
     Fixed(u32),
     /// In the region of its home bank.
     Packed,
+    /// In the frame of this function, of which it is a parameter or a local.
+    InFrame(u16),
 }
 
 /// What is asked of an object to place it.
@@ -58,7 +59,7 @@ fn kept_by(obj: &Obj, places: &[Fixed1]) -> Kept
             }
         }
         Storage::Register(first) => Kept::Register(*first),
-        Storage::Local(_) | Storage::Param(_) => Kept::Packed,
+        Storage::Local(function) | Storage::Param(function) => Kept::InFrame(*function),
     }
 }
 
@@ -178,19 +179,6 @@ pub(crate) fn initial_sizes(entries: &[Entry]) -> u64
     let mut sum = 0u64;
     for entry in entries {
         sum += u64::from(initial_size(*entry));
-    }
-    sum
-}
-
-/// The bytes of the scratch memory of all functions, by their sixteenth parts.
-pub(crate) fn frame_sizes(frames: &[u16]) -> u64
-    requires { length frames.now < 2 ^ 29 }
-    ensures value { result ≡ frame_sizes frames.now }
-    ensures bound { result < 2 ^ 61 }
-{
-    let mut sum = 0u64;
-    for frame in frames {
-        sum += 16 * u64::from(*frame);
     }
     sum
 }

@@ -1,32 +1,38 @@
 //! Placing a program.
-ghost use Rattle.std.specs.Prelude.{◌≡◌, ◌<◌, ◌^◌, ◌+◌, ◌*◌, All, IsTrue, IfOk, IfErr, OnOk, length, Some, None};
+ghost use Rattle.std.specs.Prelude.{◌≡◌, ℕ, ◌<◌, ◌≤◌, ◌^◌, ◌+◌, ◌*◌, All, IsTrue, IfOk, IfErr, OnOk, length};
+ghost use Rattle.std.specs.Prelude.{Some, None};
 ghost use Rattle.std.specs.Prelude.{map as each};
+ghost use Rattle.ec_check_recursion.specs.Rows.{plain_rows, rows_of_program};
 ghost use Rattle.ec_asm.specs.Items.{code_words};
 ghost use Rattle.ec_asm.specs.Valid.{ValidAsm};
 ghost use Rattle.ec_core.specs.Layout.{AreStructs, IsObjectType};
-ghost use Rattle.ec_core.specs.Plain.{plain_struct, plain_type, plain_object, plain_program};
+ghost use Rattle.ec_core.specs.Plain.{plain_struct, plain_type, plain_object, plain_program, PlainProgram};
 ghost use Rattle.ec_core.specs.Valid.{Valid};
 ghost use Rattle.ec_map.specs.Maps.{ValidMap};
-ghost use Rattle.ec_locate.specs.Calls.{call_depth as depth_of_calls};
+ghost use Rattle.ec_overlay.specs.Chains.{NothingRecurs};
+ghost use Rattle.ec_locate.specs.Areas.{IsKeptBelow, AreAreas};
+ghost use Rattle.ec_locate.specs.Calls.{call_depth};
 ghost use Rattle.ec_locate.specs.Code.{has_words};
-ghost use Rattle.ec_locate.specs.Entries.{flash_sizes, initial_sizes, data_sizes, frame_sizes, entries};
+ghost use Rattle.ec_locate.specs.Entries.{flash_sizes, initial_sizes, entries};
 ghost use Rattle.ec_locate.specs.Fixed.{missing, blocks, first_clash};
 ghost use Rattle.ec_locate.specs.Image.{flash_of, image};
-ghost use Rattle.ec_locate.specs.Layout.{layout};
+ghost use Rattle.ec_locate.specs.Layout.{work_area, layout};
 ghost use Rattle.ec_locate.specs.Needs.{first_shortage};
 ghost use Rattle.ec_locate.specs.Placing.{object_sizes, scratch_needs, needs, IsShort, IsWithoutObject, IsClash};
 ghost use Rattle.ec_locate.specs.Placing.{IsStop, IsLocated, last_of};
 ghost use Rattle.ec_space.specs.declared.Core.TheVariants.{Small};
 
 use crate::calls::call_depth;
-use crate::entries::{Entry, data_sizes, entries_of, flash_sizes, frame_sizes, initial_sizes};
+use crate::entries::{Entry, data_sizes, entries_of, flash_sizes, initial_sizes};
 use crate::fixed::{Neighbour, blocks_of, first_clash, missing, named, neighbour_name, place_name};
+use crate::frames::{Areas, areas_of};
 use crate::image::image_from;
 use crate::layout::{Layout, layout_of};
 use crate::needs::{Needs, first_shortage};
 use crate::stop::PlaceStop;
 use ec_asm::{AsmProgram, code_words};
 use ec_avr::Image;
+use ec_check_recursion::rows_of;
 use ec_core::{Obj, Program};
 use ec_map::{Fixed1, Map};
 use ec_space::{NoMemory, Place, Seq};
@@ -47,28 +53,21 @@ pub struct Located {
     pub code_bytes: u32,
 }
 
-/// The bytes that the regions have to have.
-fn needs_of(
-    alloc: Global,
-    program: &Program,
-    entries: &[Entry],
-    asm: &AsmProgram,
-) -> Result<Needs, NoMemory>
-    requires functions { length program.now.funcs.items < 2 ^ 29 }
-    requires objects { length entries.now < 2 ^ 29 }
-    requires frames { length asm.now.frames.items < 2 ^ 29 }
+/// The bytes that the regions have to have, by the areas of frames and the longest chain of calls.
+fn needs_of(entries: &[Entry], asm: &AsmProgram, areas: &Areas, depth: u32) -> Needs
+    requires objects { length entries.now < 2 ^ 12 }
     requires items { length asm.now.items.items < 2 ^ 32 }
-    ensures { IfOk result (λ made. made
-        ≡ needs (plain_program program.now) entries.now asm.now.frames.items asm.now.items.items) }
+    requires locals { areas.now.locals.need ≤ 2 ^ 61 }
+    requires scratch { areas.now.scratch.need ≤ 2 ^ 61 }
+    ensures { (p : PlainProgram) → AreAreas (rows_of_program p) entries.now asm.now.frames.items areas.now
+        → depth ≡ call_depth p → result ≡ needs p entries.now asm.now.frames.items asm.now.items.items }
 {
-    let depth = call_depth(alloc, program)?;
-    let frames = asm.frames.as_slice();
-    Ok(Needs {
+    Needs {
         tables: flash_sizes(entries) + initial_sizes(entries),
-        vars: data_sizes(entries) + frame_sizes(frames) + 64,
+        vars: data_sizes(entries) + areas.locals.need + areas.scratch.need + 64,
         stack: 16 + 2 * u64::from(depth),
         code: 2 * code_words(asm.items.as_slice()),
-    })
+    }
 }
 
 /// Refuses a program where a region is too small.
@@ -139,7 +138,9 @@ fn locate(
     program: &Program,
     asm: &AsmProgram,
     map: &Map,
+    rows: &[Seq<u16>],
     entries: &[Entry],
+    areas: Areas,
 ) -> Result<Located, NoMemory>
     requires structs { AreStructs (each plain_struct program.now.structs.items) }
     requires objects { All (λ obj. IsObjectType (length program.now.structs.items) (plain_type obj.ty))
@@ -147,22 +148,26 @@ fn locate(
     requires words { All (λ item. IsTrue (has_words item)) asm.now.items.items }
     requires room { code_words asm.now.items.items < 2 ^ 16 }
     requires items { length asm.now.items.items < 2 ^ 32 }
-    requires few { length entries.now < 2 ^ 29 }
-    requires functions { length asm.now.frames.items < 2 ^ 29 }
+    requires few { length entries.now < 2 ^ 12 }
+    requires functions { length asm.now.frames.items ≡ length rows.now }
+    requires known { All (λ entry. IsKeptBelow (length rows.now) entry.kept) entries.now }
+    requires never { NothingRecurs (plain_rows rows.now) }
+    requires areas { AreAreas (plain_rows rows.now) entries.now asm.now.frames.items areas }
+    requires begins { All (λ begin. begin ≤ 2 ^ 60) areas.locals.begins.items }
     requires flash { map.now.tables.first + flash_sizes entries.now + initial_sizes entries.now < 2 ^ 32 }
-    requires ram { map.now.vars.first + data_sizes entries.now + frame_sizes asm.now.frames.items < 2 ^ 32 }
+    requires ram { work_area map.now (plain_rows rows.now) entries.now asm.now.frames.items < 2 ^ 32 }
     requires stack { map.now.stack.first + map.now.stack.size < 2 ^ 32 }
     requires some { 0 < map.now.stack.size }
-    ensures places { IfOk result (λ l. l.places.items ≡ (layout map.now entries.now asm.now.frames.items).places) }
-    ensures frames { IfOk result (λ l. l.frames.items ≡ (layout map.now entries.now asm.now.frames.items).frames) }
-    ensures work { IfOk result (λ l. l.work ≡ (layout map.now entries.now asm.now.frames.items).work) }
+    ensures places { IfOk result (λ l. l.places.items ≡ (layout map.now (plain_rows rows.now) entries.now asm.now.frames.items).places) }
+    ensures frames { IfOk result (λ l. l.frames.items ≡ (layout map.now (plain_rows rows.now) entries.now asm.now.frames.items).frames) }
+    ensures work { IfOk result (λ l. l.work ≡ (layout map.now (plain_rows rows.now) entries.now asm.now.frames.items).work) }
     ensures code_bytes { IfOk result (λ l. l.code_bytes ≡ 2 * code_words asm.now.items.items) }
     ensures core { IfOk result (λ l. l.image.core ≡ Small) }
     ensures flash { IfOk result (λ l. flash_of l.image ≡ image (plain_program program.now)
-        (layout map.now entries.now asm.now.frames.items) (last_of map.now) asm.now.items.items) }
+        (layout map.now (plain_rows rows.now) entries.now asm.now.frames.items) (last_of map.now) asm.now.items.items) }
 {
     let items = asm.items.as_slice();
-    let layout = layout_of(alloc, map, entries, asm.frames.as_slice())?;
+    let layout = layout_of(alloc, map, rows, entries, asm.frames.as_slice(), areas)?;
     let last = map.stack.first + map.stack.size - 1;
     let image = image_from(alloc, program, items, &layout, last)?;
     let Layout {
@@ -182,7 +187,9 @@ fn locate(
 
 /// Places a program by a map.
 ///
-/// Objects stand where the map or the packing puts them, the code stands from address 0 on with its labels and the
+/// Free static objects stand one after another in their regions, and others where the map says. Parameters and locals of a
+/// function stand one after another from the greatest end of any caller's on, and its scratch memory likewise, so what
+/// stands in one place is never of two functions that are active together. The code stands from address 0 on with its labels and the
 /// places of objects put in, and the initial values of static objects stand in flash. A program is refused where a
 /// region is too small, a place of the map has no object, or an object that the map places clashes, in this order.
 pub fn place(
@@ -201,10 +208,22 @@ pub fn place(
 {
     let objs = program.objs.as_slice();
     let entries = entries_of(alloc, program, map.places.as_slice())?;
-    let needs = needs_of(alloc, program, entries.as_slice(), asm)?;
+    let rows = rows_of(alloc, program)?;
+    let frames = asm.frames.as_slice();
+    let areas = areas_of(alloc, rows.as_slice(), entries.as_slice(), frames)?;
+    let depth = call_depth(alloc, rows.as_slice(), program.main)?;
+    let needs = needs_of(entries.as_slice(), asm, &areas, depth);
     refuse_short(map, needs)?;
     refuse_missing(alloc, objs, map.places.as_slice())?;
     refuse_clash(alloc, map, entries.as_slice(), objs)?;
-    let located = locate(alloc, program, asm, map, entries.as_slice())?;
+    let located = locate(
+        alloc,
+        program,
+        asm,
+        map,
+        rows.as_slice(),
+        entries.as_slice(),
+        areas,
+    )?;
     Ok(located)
 }
