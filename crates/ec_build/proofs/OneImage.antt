@@ -4,6 +4,7 @@ use Rattle.ec_asm.specs.declared.items.AsmProgram.{AsmProgram}
 use Rattle.ec_core.specs.Plain.{PlainProgram, plain_program}
 use Rattle.ec_core.specs.PortTable.{PlainTable, plain_table}
 use Rattle.ec_check.specs.Units.{program_of}
+use Rattle.ec_check_recursion.specs.Rows.{rows_of_program}
 use Rattle.ec_check_ports.specs.Ports.{ProgramsGoByNames}
 use Rattle.ec_lower_code.specs.Code.{lowered}
 use Rattle.ec_lower_code.specs.Correct.{LoweredIsMadeOf}
@@ -55,9 +56,9 @@ module _ (laws : Laws) (m n : Map) (same : SameMaps m n) (p : PlainProgram) (asm
   flash_is : flash_of k.image ≡ flash_of l.image
   flash_is =
       a.translated.located.flash
-      ∙ (λ j. image p (layout m (entries_by m p) (a.frames j)) (last_of m) (items_are j))
+      ∙ (λ j. image p (layout m (rows_of_program p) (entries_by m p) (a.frames j)) (last_of m) (items_are j))
       ∙ image_same m n same p (scratch_needs p) bsm.items.items
-      ∙ (λ j. image p (layout n (entries_by n p) (sym b.frames j)) (last_of n) bsm.items.items)
+      ∙ (λ j. image p (layout n (rows_of_program p) (entries_by n p) (sym b.frames j)) (last_of n) bsm.items.items)
       ∙ sym b.translated.located.flash
 
 -- ---- builds

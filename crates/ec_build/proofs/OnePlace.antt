@@ -4,13 +4,17 @@ use Rattle.std.specs.Prelude.{cond, if◌then◌else◌, option_map, ◌+◌, �
 use Rattle.std.specs.List.{find}
 use Rattle.std.specs.Str.{bytes_eq}
 use Rattle.ec_asm.specs.declared.items.AsmItem.{AsmItem}
+use Rattle.ec_check_recursion.specs.Rows.{rows_of_program}
 use Rattle.ec_core.specs.Layout.{size_of_type}
 use Rattle.ec_core.specs.Plain.{PlainStruct, PlainStorage, static, local, param, register}
 use Rattle.ec_core.specs.Plain.{PlainObject, PlainProgram}
 use Rattle.ec_map.specs.Maps.{PlaceView, place_view}
 use Rattle.ec_map.specs.declared.map.Fixed1.{Fixed1}
 use Rattle.ec_map.specs.declared.map.Map.{Map}
-use Rattle.ec_locate.specs.Entries.{fixed_place, fixed_or_packed, kept_by, is_static, entry_of, entries, flash_sizes, data_sizes, frame_sizes}
+use Rattle.ec_locate.specs.Entries.{fixed_place, fixed_or_packed, kept_by, is_static, entry_of, entries, flash_sizes, data_sizes, owned_of}
+use Rattle.ec_locate.specs.Entries.{local_size, scratch_size}
+use Rattle.ec_overlay.specs.Frames.{begin_of, need_of}
+use Rattle.ec_overlay.specs.Objects.{object_at}
 use Rattle.ec_locate.specs.Image.{image}
 use Rattle.ec_locate.specs.Layout.{places_from, initials_from, frames_from, layout}
 use Rattle.ec_locate.specs.Placing.{last_of}
@@ -62,19 +66,26 @@ module _ (m n : Map) (same : SameMaps m n) where
   -- ---- the layout and the image
 
   layout_same : (p : PlainProgram) (frames : List ℕ)
-      → layout m (entries m.places.items p) frames ≡ layout n (entries n.places.items p) frames
+      → layout m (rows_of_program p) (entries m.places.items p) frames ≡ layout n (rows_of_program p) (entries n.places.items p) frames
   layout_same p frames =
+      let rows = rows_of_program p in
       λ j. record {
-        places = places_from (same.regions_same j).tables.first (same.regions_same j).vars.first (entries_same p j);
+        places = places_from (same.regions_same j).tables.first (same.regions_same j).vars.first
+            (λ f i. (same.regions_same j).vars.first + data_sizes (entries_same p j)
+            + object_at rows (map owned_of (entries_same p j)) f i)
+            0 (entries_same p j);
         initials = initials_from (same.regions_same j).tables.first
             ((same.regions_same j).tables.first + flash_sizes (entries_same p j)) (entries_same p j);
-        frames = frames_from ((same.regions_same j).vars.first + data_sizes (entries_same p j)) frames;
-        work = (same.regions_same j).vars.first + data_sizes (entries_same p j) + frame_sizes frames;
+        frames = frames_from
+            ((same.regions_same j).vars.first + data_sizes (entries_same p j) + need_of rows (local_size (entries_same p j)))
+            (begin_of rows (scratch_size frames)) 0 frames;
+        work = (same.regions_same j).vars.first + data_sizes (entries_same p j) + need_of rows (local_size (entries_same p j))
+            + need_of rows (scratch_size frames);
       }
 
   pub image_same : (p : PlainProgram) (frames : List ℕ) (items : List AsmItem)
-      → image p (layout m (entries m.places.items p) frames) (last_of m) items
-      ≡ image p (layout n (entries n.places.items p) frames) (last_of n) items
+      → image p (layout m (rows_of_program p) (entries m.places.items p) frames) (last_of m) items
+      ≡ image p (layout n (rows_of_program p) (entries n.places.items p) frames) (last_of n) items
   image_same p frames items =
       λ j. image p (layout_same p frames j)
       ((same.regions_same j).stack.first + (same.regions_same j).stack.size - 1) items

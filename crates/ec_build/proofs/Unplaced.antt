@@ -4,6 +4,7 @@ use Rattle.std.specs.Prelude.{option_map}
 use Rattle.std.proofs.lemmas.Bool.{le-ltb}
 use Rattle.ec_asm.specs.Items.{code_words}
 use Rattle.ec_asm.specs.declared.items.AsmProgram.{AsmProgram}
+use Rattle.ec_check_recursion.specs.Rows.{rows_of_program}
 use Rattle.ec_core.specs.Plain.{PlainProgram}
 use Rattle.ec_core.specs.PortTable.{plain_table}
 use Rattle.ec_core.specs.Weight.{weight}
@@ -37,8 +38,8 @@ all_fit m n a b c d =
 pub fits_whole : (p : PlainProgram) (m : Map) (asm : AsmProgram) → Fits p m → asm.frames.items ≡ scratch_needs p
     → code_words asm.items.items ≤ weight p (plain_table m.io) → shortage p m asm ≡ None
 fits_whole p m asm fits frames small =
-    let vars : data_need 64 (entries_by m p) asm.frames.items ≤ m.vars.size =
-    subst (λ f. data_need 64 (entries_by m p) f ≤ m.vars.size) (sym frames) fits.vars in
+    let vars : data_need 64 (rows_of_program p) (entries_by m p) asm.frames.items ≤ m.vars.size =
+    subst (λ f. data_need 64 (rows_of_program p) (entries_by m p) f ≤ m.vars.size) (sym frames) fits.vars in
     let code : 2 * code_words asm.items.items ≤ m.code.size = omega (arith, small, fits.code) in
     all_fit m (needs p (entries_by m p) asm.frames.items asm.items.items) fits.tables vars fits.stack code
 

@@ -1,6 +1,7 @@
 -- Which programs have a place by a map.
 use Rattle.std.specs.Prelude.{◌≡◌, ◌*◌, ◌≤◌, ⊤, None}
 use Rattle.ec_asm.specs.declared.items.AsmProgram.{AsmProgram}
+use Rattle.ec_check_recursion.specs.Rows.{rows_of_program}
 use Rattle.ec_core.specs.Plain.{PlainProgram}
 use Rattle.ec_core.specs.PortTable.{plain_table}
 use Rattle.ec_core.specs.Weight.{weight}
@@ -16,7 +17,7 @@ use Rattle.ec_build.specs.declared.stop.BuildStop.TheVariants.{Place, NoMemory}
 -- the regions have room for a program, and each object that the map places is there, and clashes with nothing
 pub record Fits (p : PlainProgram) (m : Map) : Type 0 where
   pub tables : table_need (entries_by m p) ≤ m.tables.size
-  pub vars : data_need 64 (entries_by m p) (scratch_needs p) ≤ m.vars.size
+  pub vars : data_need 64 (rows_of_program p) (entries_by m p) (scratch_needs p) ≤ m.vars.size
   pub stack : stack_need (call_depth p) ≤ m.stack.size
   pub code : 2 * weight p (plain_table m.io) ≤ m.code.size
   pub there : without_object p m ≡ None

@@ -20,11 +20,12 @@ use Rattle.ec_core.specs.Valid.{IsAddressable}
 use Rattle.ec_map.specs.Maps.{ValidMap}
 use Rattle.ec_map.specs.Regions.{end_of}
 use Rattle.ec_map.specs.declared.map.Map.{Map}
-use Rattle.ec_locate.specs.DataBank.{Names, an_object, scratch, work, IsInMemory, StandsIn, DataStands, DataStandsApart}
+use Rattle.ec_locate.specs.DataBank.{CanBeLive, Names, an_object, scratch, work, IsInMemory, StandsIn, DataStands, DataStandsApart}
 use Rattle.ec_locate.specs.Entries.{frame_size}
 use Rattle.ec_locate.specs.Fixed.{same_bank}
 use Rattle.ec_locate.specs.Placing.{IsLocated, layout_by}
 use Rattle.ec_locate.specs.declared.placing.Located.{Located}
+use Rattle.ec_build_laws.proofs.Live.{object_last}
 use Rattle.ec_build_laws.specs.Kinds.{is_byte_of, is_of_objects, is_of_initials, is_of_scratch, register_kind}
 use Rattle.ec_build_laws.specs.Kinds.{memory_kind, kinds, tables}
 use Rattle.ec_build_laws.specs.Laws.{IsByteOf, IsObjectByte, IsOwnByte, of_register, of_scratch, of_work, AreKinds}
@@ -179,7 +180,7 @@ module _ (p : PlainProgram) (m : Map) (asm : AsmProgram) (l : Located) (map_vali
 
   -- what has another number is no byte of an object
   no_object : (n at s a : ℕ) → Names p asm l n at s → at ≤ a → a < at + s
-      → ((i : ℕ) (o : PlainObject) → slice_get p.objects i ≡ Some o → n ≢ i)
+      → ((i : ℕ) (o : PlainObject) → slice_get p.objects i ≡ Some o → (n ≢ i) × CanBeLive p n i)
       → is_of_objects Data p.structs p.objects l.places.items a ≡ false
   no_object n at s a names from below other =
       false_from_ne_true (is_of_objects Data p.structs p.objects l.places.items a)
@@ -188,7 +189,7 @@ module _ (p : PlainProgram) (m : Map) (asm : AsmProgram) (l : Located) (map_vali
       let start = f.from_there in
       let end = f.below in
       ⊎_elim (λ u. omega (arith, u, below, start)) (λ u. omega (arith, u, from, end))
-      (apart.apart n f.i at f.q.offset s (size f.o) (other f.i f.o f.object) names (an_object f.i f.o f.q f.object f.home f.place)))
+      (apart.apart n f.i at f.q.offset s (size f.o) (other f.i f.o f.object).0 (other f.i f.o f.object).1 names (an_object f.i f.o f.q f.object f.home f.place)))
 
   own_kind : (a : ℕ) → 256 ≤ a → a < 2304 → is_of_objects Data p.structs p.objects l.places.items a ≡ false
       → (is_of_scratch asm.frames.items l.frames.items a || is_byte_of l.work 64 a) ≡ true → kinds p m asm l a ≡ Own
@@ -204,7 +205,7 @@ module _ (p : PlainProgram) (m : Map) (asm : AsmProgram) (l : Located) (map_vali
         let here = apart.frames f frame at is there in
         own_kind a (omega (arith, here.0, from)) (omega (arith, here.1, below))
         (no_object (1024 + f) at (frame_size frame) a (scratch f frame at is there) from below
-        (λ i o q e. let b = few i o count q in omega (arith, b, e)))
+        (λ i o q. let b = few i o count q in (omega (arith, b), object_last p count (1024 + f) i (omega arith) b)))
         (or_left (is_of_scratch asm.frames.items l.frames.items a) (is_byte_of l.work 64 a)
         (scratch_there asm.frames.items l.frames.items a f frame at is there from below))
 
@@ -212,7 +213,7 @@ module _ (p : PlainProgram) (m : Map) (asm : AsmProgram) (l : Located) (map_vali
     work_kind a from below =
         let here = apart.work in
         own_kind a (omega (arith, here.0, from)) (omega (arith, here.1, below))
-        (no_object 1280 l.work 64 a work from below (λ i o q e. let b = few i o count q in omega (arith, b, e)))
+        (no_object 1280 l.work 64 a work from below (λ i o q. let b = few i o count q in (omega (arith, b), object_last p count 1280 i (omega arith) b)))
         (or_right (is_of_scratch asm.frames.items l.frames.items a) (is_byte_of l.work 64 a) (byte_there l.work 64 a from below))
 
     -- no byte of the stack is one of what has a number

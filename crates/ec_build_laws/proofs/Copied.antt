@@ -8,13 +8,15 @@ use Rattle.ec_space.specs.declared.space.Place.{Place}
 use Rattle.ec_avr.specs.declared.machine.Access.TheVariants.{Read, Write}
 use Rattle.ec_asm.specs.Change.{Env}
 use Rattle.ec_asm.specs.declared.items.AsmProgram.{AsmProgram}
+use Rattle.ec_check_recursion.specs.Rows.{rows_of_program}
 use Rattle.ec_core.specs.Layout.{size_of_type}
 use Rattle.ec_core.specs.Plain.{PlainStruct, PlainObject, PlainProgram}
 use Rattle.ec_core.specs.PortTable.{plain_table}
 use Rattle.ec_lower_code.specs.Code.{lowered}
 use Rattle.ec_map.specs.declared.map.Map.{Map}
 use Rattle.ec_locate.specs.Entries.{entries, flash_sizes}
-use Rattle.ec_locate.specs.Placing.{layout_by}
+use Rattle.ec_locate.specs.Layout.{local_at}
+use Rattle.ec_locate.specs.Placing.{layout_by, entries_by}
 use Rattle.ec_locate.specs.declared.placing.Located.{Located}
 use Rattle.ec_select_startup.specs.Laws.{accesses, all_accesses}
 use Rattle.ec_select.specs.Program.{has_initial_bytes, spans_from, spans_of}
@@ -102,7 +104,8 @@ module _ (laws : PlacedLaws) (p : PlainProgram) (m : Map) (asm : AsmProgram) (l 
       let first =
       initial_there p.structs m.places.items p.objects m.tables.first
       (m.tables.first + flash_sizes (entries m.places.items p)) j d is in
-      let there = place_there p.structs m.places.items p.objects m.tables.first m.vars.first j d is in
+      let there = place_there p.structs m.places.items p.objects m.tables.first m.vars.first
+      (local_at m (rows_of_program p) (entries_by m p)) 0 j d is in
       let placed_there : slice_get l.places.items j ≡ Some there.0 =
       subst (λ ps. slice_get ps j ≡ Some there.0) (sym h.located.places) there.1 in
       let at_is = get_or_from_slice_get (layout_by p m asm).initials j first.0 0 first.1 in

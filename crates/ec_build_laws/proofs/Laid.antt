@@ -28,6 +28,7 @@ use Rattle.ec_asm.specs.declared.items.AsmItem.TheVariants.{Plain, Label, JumpTo
 use Rattle.ec_asm.specs.declared.items.AsmItem.TheVariants.{StoreObj}
 use Rattle.ec_asm.specs.declared.items.AsmProgram.{AsmProgram}
 use Rattle.ec_asm.proofs.ItemWords.{words_cons}
+use Rattle.ec_check_recursion.specs.Rows.{row_at, rows_of_program, LeadsTo, calls as row_calls, calls_through as row_calls_through}
 use Rattle.ec_core.specs.Accesses.{leaf_of, leaf_count}
 use Rattle.ec_core.specs.Layout.{scalar_size, size_of_type, leaves_of_type}
 use Rattle.ec_core.specs.Meaning.{initial_object, initial_value}
@@ -42,25 +43,29 @@ use Rattle.ec_core.specs.declared.programs.LeafInit.TheVariants.{Number as TheNu
 use Rattle.ec_core.specs.declared.values.Value.{Value}
 use Rattle.ec_ir.specs.Meaning.{start_state, standing}
 use Rattle.ec_ir.specs.Operations.{PlainIr, call_function, PlainIrFunction, PlainIrProgram, data_of}
-use Rattle.ec_ir.specs.Valid.{Results, ValidOperation, ValidIrFunction, called_in, CallsTo}
+use Rattle.ec_ir.specs.Valid.{Results, ValidOperation, ValidIrFunction, called_in, CallsTo, calls, calls_through}
 use Rattle.ec_lower_code.specs.Code.{lowered, lowered_function}
 use Rattle.ec_lower_code.specs.Correct.{IsMadeOf, LoweredIsMadeOf}
+use Rattle.ec_overlay.specs.Chains.{IsChain}
+use Rattle.ec_overlay.specs.Frames.{begin_of}
+use Rattle.ec_overlay.specs.Objects.{AreOnChain}
+use Rattle.ec_overlay.proofs.Programs.{row_is}
 use Rattle.ec_map.specs.Regions.{end_of}
 use Rattle.ec_map.specs.declared.map.Map.{Map}
 use Rattle.ec_locate.specs.Apart.{PlacedStandApart}
-use Rattle.ec_locate.specs.Calls.{IsChain}
 use Rattle.ec_locate.specs.Code.{label_word, address_of}
-use Rattle.ec_locate.specs.DataBank.{Names, an_object, scratch, work, IsInMemory, StandsIn, DataStands, DataStandsApart}
-use Rattle.ec_locate.specs.Entries.{entries, flash_sizes, data_sizes, frame_size}
+use Rattle.ec_locate.specs.DataBank.{IsOwnedBy, CanBeLive, Names, an_object, scratch, work, IsInMemory, StandsIn, DataStands}
+use Rattle.ec_locate.specs.DataBank.{DataStandsApart}
+use Rattle.ec_locate.specs.Entries.{entries, flash_sizes, frame_size, scratch_size}
 use Rattle.ec_locate.specs.FlashBank.{IsInFlash, FlashStands, FlashStandsApart}
 use Rattle.ec_locate.specs.Image.{value_number, values_at}
 use Rattle.ec_locate.specs.Initial.{values_of, ValuesStand, InitialValues, InitialValuesStand}
-use Rattle.ec_locate.specs.Layout.{LayoutView}
-use Rattle.ec_locate.specs.Placing.{layout_by, last_of, object_sizes}
+use Rattle.ec_locate.specs.Layout.{LayoutView, local_at, scratch_area}
+use Rattle.ec_locate.specs.Placing.{layout_by, last_of, object_sizes, entries_by}
 use Rattle.ec_locate.specs.Stands.{environment, CodeStands}
 use Rattle.ec_locate.specs.declared.placing.Located.{Located}
 use Rattle.ec_select_functions.specs.Laws.{CallsOn}
-use Rattle.ec_select_operations.specs.Places.{ObjectLeaf, Apart}
+use Rattle.ec_select_operations.specs.Places.{ObjectLeaf, Apart, owner_of, Chained, CanBeLiveTogether}
 use Rattle.ec_select_functions.specs.Relation.{HoldsLeaf}
 use Rattle.ec_select_functions.specs.Standing.{ScratchStands, WorkStands, StandsInMemory, ObjectStands, ObjectsStand}
 use Rattle.ec_select_functions.specs.Standing.{StandsInFlash, TablesStand}
@@ -72,6 +77,7 @@ use Rattle.ec_select.specs.Program.{has_initial_bytes}
 use Rattle.ec_build_laws.specs.Kinds.{is_of_objects, is_of_initials, kinds, tables, place_of, scratch_of}
 use Rattle.ec_build_laws.specs.Laws.{IsByteOf, AreKinds, PlacedAreLaidOut}
 use Rattle.ec_build_laws.specs.Translation.{IsTranslated}
+use Rattle.ec_build_laws.proofs.Live.{object_first, scratch_and_work, scratch_on_chain}
 use Rattle.ec_build_laws.proofs.ByAddress.{object_there, kinds_are_told, flash_length}
 use Rattle.ec_build_laws.proofs.Numbers.{AreBytesOf, bytes_are_low, of_pointer}
 use Rattle.ec_build_laws.proofs.Pointers.{StandsAt, address_held}
@@ -208,6 +214,9 @@ module _ (laws : PlacedLaws) (p : PlainProgram) (m : Map) (asm : AsmProgram) (l 
   abbrev y : LayoutView
   y = layout_by p m asm
 
+  abbrev rows : List (List ℕ)
+  rows = rows_of_program p
+
   abbrev size : PlainObject → ℕ
   size o = size_of_type p.structs o.ty
 
@@ -245,7 +254,7 @@ module _ (laws : PlacedLaws) (p : PlainProgram) (m : Map) (asm : AsmProgram) (l 
 
   place_is : (o : ℕ) (d : PlainObject) → slice_get p.objects o ≡ Some d → (z : Place) × (slice_get l.places.items o ≡ Some z)
   place_is o d is =
-      let there = place_there p.structs m.places.items p.objects m.tables.first m.vars.first o d is in
+      let there = place_there p.structs m.places.items p.objects m.tables.first m.vars.first (local_at m rows (entries_by m p)) 0 o d is in
       (there.0, subst (λ ps. slice_get ps o ≡ Some there.0) (sym h.located.places) there.1)
 
   offset_is : (o : ℕ) (z : Place) → slice_get l.places.items o ≡ Some z → place_of l o ≡ z.offset
@@ -371,7 +380,9 @@ module _ (laws : PlacedLaws) (p : PlainProgram) (m : Map) (asm : AsmProgram) (l 
         inl (record { none = sym same; at = rw (eq-eqb (slice_index asm.frames.items f) 0 read) refl })
     by_slots (suc n) frame same =
         let read = get_or_from_slice_get asm.frames.items f (suc n) 0 frame in
-        let there = frame_there asm.frames.items (m.vars.first + data_sizes (entries m.places.items p)) f (suc n) frame in
+        let there =
+        frame_there (scratch_area m rows (entries_by m p)) (begin_of rows (scratch_size asm.frames.items)) 0 asm.frames.items f (suc n)
+        frame in
         let placed_there : slice_get l.frames.items f ≡ Some there.0 =
         subst (λ fs. slice_get fs f ≡ Some there.0) (sym h.located.frames) there.1 in
         let at = get_or_from_slice_get l.frames.items f there.0 0 placed_there in
@@ -410,18 +421,57 @@ module _ (laws : PlacedLaws) (p : PlainProgram) (m : Map) (asm : AsmProgram) (l 
   few_objects : (o : ℕ) (d : PlainObject) → slice_get p.objects o ≡ Some d → o < 1024
   few_objects o d is = let b = slice_get_within p.objects o d is in let c = h.valid.object_count in omega (arith, b, c)
 
+  -- ---- what can be live at one moment
+
+  function_of : (f : ℕ) (g : PlainIrFunction) → slice_get q.functions f ≡ Some g → (x : PlainFunction) × (slice_get p.functions f ≡ Some x)
+  function_of f g is =
+      by_found (slice_get p.functions f) refl (sym (slice_get-map (lowered_function p (plain_table m.io)) p.functions f) ∙ is) where
+        by_found : (o : Option PlainFunction) → slice_get p.functions f ≡ o → option_map (lowered_function p (plain_table m.io)) o ≡ Some g
+            → (x : PlainFunction) × (slice_get p.functions f ≡ Some x)
+        by_found None found r = absurd cc
+        by_found (Some x) found r = (x, found)
+
+  -- the operations of a function call what its body calls
+  called_in_row : (f k : ℕ) (g : PlainIrFunction) → slice_get q.functions f ≡ Some g → Contains (called_in g.code) k
+      → Contains (row_at rows f) k
+  called_in_row f k g is c =
+      let x = function_of f g is in
+      rw (row_is p f x.0 x.1) ((made.functions f x.0 g x.1 is).calls k c)
+
+  leads : (k f : ℕ) → CallsTo q k f → LeadsTo rows k f
+  leads k _ (calls f g is c) = row_calls f (called_in_row f k g is c)
+  leads k _ (calls_through f i g is c r) = row_calls_through f i (called_in_row f i g is c) (leads k i r)
+
+  on_chain : (f k : ℕ) → Chained q f k → AreOnChain rows f k
+  on_chain f k c = ⊎_elim (λ same. inl same) (λ d. inr (⊎_elim (λ to. inl (leads k f to)) (λ back. inr (leads f k back)) d)) c
+
+  owned_by : (f : ℕ) (s : PlainStorage) → IsOwnedBy f s → owner_of s ≡ Some f
+  owned_by f (static inits) o = absurd o
+  owned_by f (local k) o = ap Some o
+  owned_by f (param k) o = ap Some o
+  owned_by f (register first) o = absurd o
+
+  objects_live : (o k : ℕ) (d x : PlainObject) → slice_get p.objects o ≡ Some d → slice_get p.objects k ≡ Some x
+      → CanBeLiveTogether q d.storage x.storage → CanBeLive p o k
+  objects_live o k d x od ox together = record {
+    locals = λ f b mine other. on_chain f b (together f b (owned_by f d.storage (rw od at mine)) (owned_by b x.storage (rw ox at other)));
+    scratch = λ f b l r e z. let few = few_objects o d od in absurd (omega (arith, few, e));
+  }
+
   objects_stand : (f : ℕ) (g : PlainIrFunction) → slice_get q.functions f ≡ Some g
       → ObjectsStand q e g.slots (scratch_of asm l f) (place_of l)
   objects_stand f g is = record {
     each = object_stands;
-    apart = λ o k d x od home ox home' other both.
+    apart = λ o k d x od home ox home' other together.
         apart_from (place_of l o) (size d) (place_of l k) (size x) (object_is o d od).some
-        (stand.apart o k (place_of l o) (place_of l k) (size d) (size x) other (names o d od home) (names k x ox home'));
+        (stand.apart o k (place_of l o) (place_of l k) (size d) (size x) other (objects_live o k d x od ox together)
+        (names o d od home) (names k x ox home'));
     scratch_apart = λ o d od home.
         apart_from (place_of l o) (size d) (scratch_of asm l f) (16 * g.slots) (object_is o d od).some
         (⊎_elim (λ s. let a = s.at in let b = ends d.storage (place_of l o) (size d) (stands_in o d od home) in inl (omega (arith, a, b)))
         (λ s. stand.apart o (1024 + f) (place_of l o) (scratch_of asm l f) (size d) (16 * g.slots)
-        (λ z. let b = few_objects o d od in omega (arith, z, b)) (names o d od home) (scratch_names f g s))
+        (λ z. let b = few_objects o d od in omega (arith, z, b))
+        (object_first p h.valid.object_count o (1024 + f) (few_objects o d od) (omega arith)) (names o d od home) (scratch_names f g s))
         (scratch_is f g is));
   }
 
@@ -437,7 +487,8 @@ module _ (laws : PlacedLaws) (p : PlainProgram) (m : Map) (asm : AsmProgram) (l 
       (λ s. apart_from (scratch_of asm l f) (16 * a.slots) (scratch_of asm l k) (16 * b.slots) (let n = s.some in omega (arith, n))
       (⊎_elim (λ t. let z = t.at in inl (omega (arith, z, mine.1)))
       (λ t. stand.apart (1024 + f) (1024 + k) (scratch_of asm l f) (scratch_of asm l k) (16 * a.slots) (16 * b.slots)
-      (λ z. other (omega (arith, z))) (scratch_names f a s) (scratch_names k b t))
+      (λ z. other (omega (arith, z))) (scratch_on_chain p h.valid.object_count f k (leads k f called)) (scratch_names f a s)
+      (scratch_names k b t))
       (scratch_is k b kb)))
       (scratch_is f a fa)
 
@@ -454,7 +505,7 @@ module _ (laws : PlacedLaws) (p : PlainProgram) (m : Map) (asm : AsmProgram) (l 
     objects_apart = λ o d od home.
         apart_from (place_of l o) (size d) l.work 64 (object_is o d od).some
         (stand.apart o 1280 (place_of l o) l.work (size d) 64 (λ z. let b = few_objects o d od in omega (arith, z, b))
-        (names o d od home) work);
+        (object_first p h.valid.object_count o 1280 (few_objects o d od) (omega arith)) (names o d od home) work);
   }
 
   few_functions : (f : ℕ) (g : PlainIrFunction) → slice_get q.functions f ≡ Some g → f < 256
@@ -471,7 +522,7 @@ module _ (laws : PlacedLaws) (p : PlainProgram) (m : Map) (asm : AsmProgram) (l 
       (λ s. let n = s.none in let w = stand.work.1 in nothing_apart (scratch_of asm l f) (16 * g.slots) l.work 64 s.at (omega (arith, n)) w)
       (λ s. apart_from (scratch_of asm l f) (16 * g.slots) l.work 64 (let n = s.some in omega (arith, n))
       (stand.apart (1024 + f) 1280 (scratch_of asm l f) l.work (16 * g.slots) 64 (λ z. let b = few_functions f g is in omega (arith, z, b))
-      (scratch_names f g s) work))
+      (scratch_and_work p h.valid.object_count f h.valid.function_count) (scratch_names f g s) work))
       (scratch_is f g is)
 
   work_laid_out : WorkIsLaidOut q e (place_of l) (scratch_of asm l)
@@ -556,7 +607,7 @@ module _ (laws : PlacedLaws) (p : PlainProgram) (m : Map) (asm : AsmProgram) (l 
         there = z.0;
         is_there = z.1;
         bank =
-            place_bank p.structs m.places.items p.objects m.tables.first m.vars.first o d z.0 is
+            place_bank p.structs m.places.items p.objects m.tables.first m.vars.first (local_at m rows (entries_by m p)) 0 o d z.0 is
             (subst (λ ps. slice_get ps o ≡ Some z.0) h.located.places z.1) static_there;
         at = offset_is o z.0 z.1;
         room = omega (arith, low);
@@ -640,14 +691,6 @@ module _ (laws : PlacedLaws) (p : PlainProgram) (m : Map) (asm : AsmProgram) (l 
       let ends = h.map.regions_valid.stack.ends in
       omega (arith, ends)
 
-  function_of : (f : ℕ) (g : PlainIrFunction) → slice_get q.functions f ≡ Some g → (x : PlainFunction) × (slice_get p.functions f ≡ Some x)
-  function_of f g is =
-      by_found (slice_get p.functions f) refl (sym (slice_get-map (lowered_function p (plain_table m.io)) p.functions f) ∙ is) where
-        by_found : (o : Option PlainFunction) → slice_get p.functions f ≡ o → option_map (lowered_function p (plain_table m.io)) o ≡ Some g
-            → (x : PlainFunction) × (slice_get p.functions f ≡ Some x)
-        by_found None found r = absurd cc
-        by_found (Some x) found r = (x, found)
-
   known : (f : ℕ) → f < length p.functions → (x : PlainFunction) × (slice_get p.functions f ≡ Some x)
   known f less = there_is p.functions f less
 
@@ -667,13 +710,17 @@ module _ (laws : PlacedLaws) (p : PlainProgram) (m : Map) (asm : AsmProgram) (l 
       (called_known q made.valid.results (0 + f) (lowered_function p (plain_table m.io) x).slots
       (lowered_function p (plain_table m.io) x).code (lowered_function p (plain_table m.io) x).code v.code b c)
 
-  is_chain : (f : ℕ) (fs : List ℕ) → f < length p.functions → CallsOn q f fs → IsChain p.functions (f ∷ fs)
-  is_chain f [] less c = let x = known f less in (rw x.1 tt, tt)
+  has_row : (f : ℕ) → f < length p.functions → f < length rows
+  has_row f less = let long : length rows ≡ length p.functions = length-map p.functions _ in omega (arith, less, long)
+
+  is_chain : (f : ℕ) (fs : List ℕ) → f < length p.functions → CallsOn q f fs → IsChain rows (f ∷ fs)
+  is_chain f [] less c = (has_row f less, tt, tt)
   is_chain f (b ∷ fs) less c =
       let x = known f less in
       let at = lowered_at f x.0 x.1 in
       let here : Contains (called_in (lowered_function p (plain_table m.io) x.0).code) b = rw at at c.0 in (
-        rw x.1 ((made.functions f x.0 (lowered_function p (plain_table m.io) x.0) x.1 at).calls b here),
+        has_row f less,
+        called_in_row f b (lowered_function p (plain_table m.io) x.0) at here,
         is_chain b fs
             (called_below f x.0 x.1 b here) c.1,
       )

@@ -1,3 +1,4 @@
+mod Live
 mod ByAddress
 mod Numbers
 mod Pointers

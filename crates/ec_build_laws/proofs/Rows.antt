@@ -16,7 +16,6 @@ use Rattle.ec_map.specs.declared.map.Fixed1.{Fixed1}
 use Rattle.ec_locate.specs.declared.entries.Kept.TheVariants.{Packed}
 use Rattle.ec_locate.specs.Entries.{fixed_place, fixed_or_packed, kept_by, entry_of, flash_size, data_size}
 use Rattle.ec_locate.specs.Entries.{initial_size}
-use Rattle.ec_locate.specs.Entries.{frame_size}
 use Rattle.ec_locate.specs.Layout.{in_region, place_by, places_from, initials_from, frames_from}
 use Rattle.ec_select.specs.Program.{has_initial_bytes}
 use Rattle.ec_build_laws.specs.Kinds.{is_byte_of, is_of_initials}
@@ -39,42 +38,44 @@ there_is [] i less = absurd (omega arith)
 there_is (x ∷ xs) zero less = (x, refl)
 there_is (x ∷ xs) (suc i) less = there_is xs i (omega arith)
 
-pub place_there : (structs : List PlainStruct) (fixed : List Fixed1) (os : List PlainObject) (flash at i : ℕ) (o : PlainObject)
-    → slice_get os i ≡ Some o
-    → (q : Place) × (slice_get (places_from flash at (map (entry_of structs fixed) os)) i ≡ Some q)
-place_there structs fixed [] flash at i o h = absurd cc
-place_there structs fixed (x ∷ os) flash at zero o h = (_, refl)
-place_there structs fixed (x ∷ os) flash at (suc i) o h =
-    place_there structs fixed os (flash + flash_size (entry_of structs fixed x)) (at + data_size (entry_of structs fixed x)) i o h
+pub place_there : (structs : List PlainStruct) (fixed : List Fixed1) (os : List PlainObject) (flash at : ℕ)
+    (frame : ℕ → ℕ → ℕ) (k i : ℕ) (o : PlainObject) → slice_get os i ≡ Some o
+    → (q : Place) × (slice_get (places_from flash at frame k (map (entry_of structs fixed) os)) i ≡ Some q)
+place_there structs fixed [] flash at frame k i o h = absurd cc
+place_there structs fixed (x ∷ os) flash at frame k zero o h = (_, refl)
+place_there structs fixed (x ∷ os) flash at frame k (suc i) o h =
+    place_there structs fixed os (flash + flash_size (entry_of structs fixed x)) (at + data_size (entry_of structs fixed x))
+    frame (k + 1) i o h
 
 -- an object that is no named register is placed in its bank
 region_bank : (home : Bank) (flash at : ℕ) → (in_region home flash at).bank ≡ home
 region_bank Flash flash at = refl
 region_bank Data flash at = refl
 
-kept_bank : (fixed : List Fixed1) (external : Bool) (name : List ℕ) (s : PlainStorage) (home : Bank) (flash at : ℕ) → IsStatic s
-    → (place_by (kept_by fixed external name s) home flash at).bank ≡ home
-kept_bank fixed external name (static inits) home flash at h = by_place external (fixed_place fixed name) where
-  by_place : (b : Bool) (z : Option ℕ) → (place_by (if b then fixed_or_packed z else Packed) home flash at).bank ≡ home
+kept_bank : (fixed : List Fixed1) (external : Bool) (name : List ℕ) (s : PlainStorage) (home : Bank) (flash at : ℕ)
+    (frame : ℕ → ℕ) → IsStatic s → (place_by (kept_by fixed external name s) home flash at frame).bank ≡ home
+kept_bank fixed external name (static inits) home flash at frame h = by_place external (fixed_place fixed name) where
+  by_place : (b : Bool) (z : Option ℕ) → (place_by (if b then fixed_or_packed z else Packed) home flash at frame).bank ≡ home
   by_place true None = region_bank home flash at
   by_place true (Some there) = refl
   by_place false z = region_bank home flash at
-kept_bank fixed external name (local f) home flash at h = absurd h
-kept_bank fixed external name (param f) home flash at h = absurd h
-kept_bank fixed external name (register r) home flash at h = absurd h
+kept_bank fixed external name (local f) home flash at frame h = absurd h
+kept_bank fixed external name (param f) home flash at frame h = absurd h
+kept_bank fixed external name (register r) home flash at frame h = absurd h
 
-pub place_bank : (structs : List PlainStruct) (fixed : List Fixed1) (os : List PlainObject) (flash at i : ℕ) (o : PlainObject) (q : Place)
-    → slice_get os i ≡ Some o → slice_get (places_from flash at (map (entry_of structs fixed) os)) i ≡ Some q → IsStatic o.storage
-    → q.bank ≡ o.home
-place_bank structs fixed [] flash at i o q h there is = absurd cc
-place_bank structs fixed (x ∷ os) flash at zero o q h there is =
+pub place_bank : (structs : List PlainStruct) (fixed : List Fixed1) (os : List PlainObject) (flash at : ℕ)
+    (frame : ℕ → ℕ → ℕ) (k i : ℕ) (o : PlainObject) (q : Place) → slice_get os i ≡ Some o
+    → slice_get (places_from flash at frame k (map (entry_of structs fixed) os)) i ≡ Some q → IsStatic o.storage → q.bank ≡ o.home
+place_bank structs fixed [] flash at frame k i o q h there is = absurd cc
+place_bank structs fixed (x ∷ os) flash at frame k zero o q h there is =
     let same : x ≡ o = cc in
-    let placed : place_by (kept_by fixed x.external x.name x.storage) x.home flash at ≡ q = cc in
+    let placed : place_by (kept_by fixed x.external x.name x.storage) x.home flash at (λ f. frame f k) ≡ q = cc in
     ap (λ z. z.bank) (sym placed)
-    ∙ kept_bank fixed x.external x.name x.storage x.home flash at (subst (λ z. IsStatic z.storage) (sym same) is)
+    ∙ kept_bank fixed x.external x.name x.storage x.home flash at (λ f. frame f k) (subst (λ z. IsStatic z.storage) (sym same) is)
     ∙ ap (λ z. z.home) same
-place_bank structs fixed (x ∷ os) flash at (suc i) o q h there is =
-    place_bank structs fixed os (flash + flash_size (entry_of structs fixed x)) (at + data_size (entry_of structs fixed x)) i o q h there is
+place_bank structs fixed (x ∷ os) flash at frame k (suc i) o q h there is =
+    place_bank structs fixed os (flash + flash_size (entry_of structs fixed x)) (at + data_size (entry_of structs fixed x))
+    frame (k + 1) i o q h there is
 
 pub initial_there : (structs : List PlainStruct) (fixed : List Fixed1) (os : List PlainObject) (first at i : ℕ) (o : PlainObject)
     → slice_get os i ≡ Some o
@@ -84,11 +85,11 @@ initial_there structs fixed (x ∷ os) first at zero o h = (_, refl)
 initial_there structs fixed (x ∷ os) first at (suc i) o h =
     initial_there structs fixed os first (at + initial_size (entry_of structs fixed x)) i o h
 
-pub frame_there : (frames : List ℕ) (at f frame : ℕ) → slice_get frames f ≡ Some frame
-    → (n : ℕ) × (slice_get (frames_from at frames) f ≡ Some n)
-frame_there [] at f frame h = absurd cc
-frame_there (x ∷ frames) at zero frame h = (_, refl)
-frame_there (x ∷ frames) at (suc f) frame h = frame_there frames (at + frame_size x) f frame h
+pub frame_there : (area : ℕ) (begin : ℕ → ℕ) (k : ℕ) (frames : List ℕ) (f frame : ℕ) → slice_get frames f ≡ Some frame
+    → (n : ℕ) × (slice_get (frames_from area begin k frames) f ≡ Some n)
+frame_there area begin k [] f frame h = absurd cc
+frame_there area begin k (x ∷ frames) zero frame h = (_, refl)
+frame_there area begin k (x ∷ frames) (suc f) frame h = frame_there area begin (k + 1) frames f frame h
 
 -- a byte of the initial bytes of an object is told to be one
 pub initial_byte : (structs : List PlainStruct) (os : List PlainObject) (ats : List ℕ) (a i : ℕ) (o : PlainObject) (at : ℕ)

@@ -26,7 +26,7 @@ use Rattle.ec_core.specs.declared.values.Undefined.{Undefined}
 use Rattle.ec_ir.specs.Temporaries.{low_bytes}
 use Rattle.ec_core_accesses.specs.Objects.{GoesByLiveAccesses}
 use Rattle.ec_map.specs.declared.map.Map.{Map}
-use Rattle.ec_locate.specs.Layout.{layout}
+use Rattle.ec_locate.specs.Layout.{initials_by}
 use Rattle.ec_locate.specs.Placing.{entries_by, scratch_needs}
 use Rattle.ec_locate.specs.declared.placing.Located.{Located}
 use Rattle.ec_select_operations.specs.Places.{ObjectLeaf}
@@ -116,7 +116,7 @@ copying_objects flash structs (o ∷ os) (at ∷ ats) (q ∷ qs) =
 -- from where the map has them stand in flash to where the objects stand
 abbrev pub copies : PlainProgram → Map → Located → List Access
 copies p m l =
-    copying_objects l.image.bytes.items p.structs p.objects (layout m (entries_by m p) []).initials l.places.items
+    copying_objects l.image.bytes.items p.structs p.objects (initials_by m (entries_by m p)) l.places.items
 
 -- the bytes of each leaf of a static object of the data bank are those of its initial value
 abbrev pub AreInitial : PlainProgram → Located → State → Type 0
