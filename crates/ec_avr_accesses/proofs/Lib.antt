@@ -1,0 +1,4 @@
+-- For this crate alone.
+mod Places
+mod Table
+mod Laws
