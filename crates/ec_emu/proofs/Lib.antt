@@ -7,3 +7,4 @@ mod Words
 mod HookText
 mod Rules
 mod Places
+mod Stops

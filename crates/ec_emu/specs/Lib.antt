@@ -4,6 +4,7 @@ pub mod Lines
 pub mod History
 pub mod Scripted
 pub mod Emulation
+pub mod Stops
 pub mod Forms
 pub mod Script
 pub mod Views

@@ -5,8 +5,9 @@ use Rattle.ec_emu.specs.declared.ask.Ask.{Ask}
 use Rattle.ec_emu.specs.Answers.{AreGiven, WereAsked, asks_of}
 use Rattle.ec_emu.specs.Lines.{port_lines}
 use Rattle.ec_emu.specs.History.{IsHistory}
+use Rattle.ec_emu.specs.Stops.{has_stack, HasNoStop}
 use Rattle.ec_avr.specs.Runs.{LeadsTo}
-use Rattle.ec_emu.proofs.run.emulate.Given as goal
+use Rattle.ec_emu.proofs.run.emulate_until.Given as goal
 
 abbrev pub invariant-steps : goal.invariant-steps
 invariant-steps g l = record {
@@ -14,6 +15,8 @@ invariant-steps g l = record {
   made : length trace ≡ l._made;
   goes : LeadsTo l.fn.machine trace l.machine;
   given : AreGiven (g.P.Ports.gives l.fn.ports) trace;
+  begun : l.begun ≡ has_stack trace;
+  none : HasNoStop (g.S.Stop.stops l.stop) l.fn.machine trace;
   history : IsHistory trace l.history;
   asked : WereAsked (g.P.Ports.asked l.fn.ports) (g.P.Ports.asked l.ports) (asks_of trace);
   written : Appends (g.O.Sink.written l.fn.sink) (g.O.Sink.written l.sink) (port_lines trace);
