@@ -1,3 +1,6 @@
+-- For all crates above.
+pub mod Stops
+-- For this crate alone.
 mod Asks
 mod Traces
 mod HistoryMore
@@ -7,4 +10,3 @@ mod Words
 mod HookText
 mod Rules
 mod Places
-mod Stops

@@ -1,0 +1,4 @@
+pub mod Compares
+pub mod Hits
+pub mod Points
+pub mod Sound
