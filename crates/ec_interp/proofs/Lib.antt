@@ -8,3 +8,4 @@ mod Passing
 mod Meeting
 mod Telling
 mod Rows
+mod Counts

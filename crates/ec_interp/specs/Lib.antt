@@ -1,6 +1,7 @@
 -- The definitions that the contracts of the interpreter cite.
 pub mod Shows
 pub mod Suits
+pub mod Events
 pub mod Views
 pub mod Accesses
 pub mod Actions

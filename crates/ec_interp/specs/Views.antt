@@ -3,29 +3,22 @@ use Rattle.std.specs.Prelude.{ℤ, ◌==◌, if◌then◌else◌, List, [], ◌�
 use Rattle.ec_runs.specs.Behaviours.{Behaviour as BehaviourOf, Ended as EndedWith, Running as RunningAt, Failed}
 use Rattle.ec_iohw.specs.declared.table.IoTable.{IoTable}
 use Rattle.ec_core.specs.declared.expressions.Expr.{Expr}
-use Rattle.ec_core.specs.declared.programs.LeafInit.{LeafInit}
-use Rattle.ec_core.specs.declared.programs.LeafInit.TheVariants.{Number as TheNumber, Null as TheNull}
-use Rattle.ec_core.specs.declared.programs.LeafInit.TheVariants.{Address as TheAddress}
 use Rattle.ec_core.specs.declared.programs.Program.{Program}
 use Rattle.ec_core.specs.declared.values.Undefined.{Undefined}
 use Rattle.ec_core.specs.Layout.{AreStructs}
 use Rattle.ec_core.specs.Meaning.{setting}
 use Rattle.ec_core.specs.Plain.{plain_program, plain_struct, plain_expr, OptionPlainExpr, no_expr, an_expr}
 use Rattle.ec_core.specs.PortTable.{plain_table}
-use Rattle.ec_core.specs.State.{Inputs, Setting, Event as EventOf, In as InOf, Out as OutOf, Read as ReadOf}
-use Rattle.ec_core.specs.State.{Write as WriteOf, ObjectState as ObjectStateOf, State as StateOf}
+use Rattle.ec_core.specs.State.{Inputs, Setting, Event as EventOf, ObjectState as ObjectStateOf, State as StateOf}
 use Rattle.ec_core.specs.Statements.{Exit as ExitOf, at_end, by_break, by_continue, by_return}
 use Rattle.ec_interp.specs.declared.behaviour.Behaviour.{Behaviour}
 use Rattle.ec_interp.specs.declared.behaviour.Behaviour.TheVariants.{Ended, Running, MeetsUndefined}
-use Rattle.ec_interp.specs.declared.behaviour.Event.{Event}
-use Rattle.ec_interp.specs.declared.behaviour.Event.TheVariants.{In, Out, Read, Write}
 use Rattle.ec_interp.specs.declared.behaviour.PortInput.{PortInput}
-use Rattle.ec_interp.specs.declared.behaviour.Told.{Told}
-use Rattle.ec_interp.specs.declared.behaviour.Told.TheVariants.{Number, Null, Address}
 use Rattle.ec_interp.specs.declared.state.Exit.{Exit}
 use Rattle.ec_interp.specs.declared.state.Exit.TheVariants.{AtEnd, ByBreak, ByContinue, ByReturn}
 use Rattle.ec_interp.specs.declared.state.ObjectState.{ObjectState}
 use Rattle.ec_interp.specs.declared.state.State.{State}
+pub use Rattle.ec_interp.specs.Events.{seen_told, seen_event}
 
 -- ---- what a run is given
 
@@ -48,17 +41,6 @@ plain_optional (Some e) = an_expr (plain_expr e)
 
 -- ---- states
 
-abbrev pub seen_told : Told → LeafInit
-seen_told (Number n) = TheNumber n
-seen_told Null = TheNull
-seen_told (Address object offset) = TheAddress object offset
-
-abbrev pub seen_event : Event → EventOf
-seen_event (In port byte) = InOf port byte
-seen_event (Out port byte) = OutOf port byte
-seen_event (Read object leaf space value) = ReadOf object leaf space (seen_told value)
-seen_event (Write object leaf space value) = WriteOf object leaf space (seen_told value)
-
 abbrev pub seen_object : ObjectState → ObjectStateOf
 seen_object x = record { serial = x.serial; live = x.live; leaves = x.leaves.items }
 
@@ -67,7 +49,7 @@ seen s =
     record {
       objects = map seen_object s.objects.items;
       acquired = s.acquired.items;
-      events = map seen_event s.events.items;
+      events = s.events;
       work = s.work;
     }
 

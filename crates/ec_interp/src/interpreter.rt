@@ -12,9 +12,10 @@ ghost use Rattle.ec_core.specs.ValueTypes.{GiveBytes};
 ghost use Rattle.ec_interp.specs.declared.behaviour.Unanswered.TheVariants.{NoMemory as OutOfMemory};
 ghost use Rattle.ec_interp.specs.Outcomes.{TellsOutcome, TellsPlace, TellsAnswer};
 ghost use Rattle.ec_interp.specs.Suits.{IsGiven, IsMemory, IsAnswered};
-ghost use Rattle.ec_interp.specs.Views.{seen, seen_object, seen_behaviour, inputs_of, setting_of, HasLayouts};
+ghost use Rattle.ec_interp.specs.Views.{seen, seen_object, seen_event, seen_behaviour, inputs_of, setting_of, HasLayouts};
 
 use crate::behaviour::{Behaviour, Event, PortInput, Run, Unanswered};
+use crate::events::Events;
 use crate::layouts::leaf_count;
 use crate::objects::unset_leaves;
 use crate::run::call;
@@ -134,7 +135,7 @@ fn initial_state(f: &Context) -> Result<State, Unanswered>
     Ok(State {
         objects,
         acquired,
-        events: Vec::new(f.alloc),
+        events: Events::new(f.alloc),
         work: 200,
     })
 }
@@ -152,7 +153,7 @@ fn number_of(x: Value) -> i128
 
 /// All events, in order.
 fn events_of(alloc: Global, s: &State) -> Result<Seq<Event>, NoMemory>
-    ensures { IfOk result (λ events. events.items ≡ s.now.events.items) }
+    ensures { IfOk result (λ events. map seen_event events.items ≡ s.now.events) }
 {
     let mut events = Seq::new(alloc);
     events.extend_from_slice(s.events.as_slice())?;

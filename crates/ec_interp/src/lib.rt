@@ -5,6 +5,7 @@
 
 mod accesses;
 mod behaviour;
+mod events;
 mod exits;
 mod interpreter;
 mod layouts;

@@ -8,11 +8,11 @@ ghost use Rattle.ec_core.specs.PortAccesses.{no_value, unsigned, port_accessed, 
 ghost use Rattle.ec_core.specs.PortAccesses.{pairs_written, pairs_of, group_effect};
 ghost use Rattle.ec_core.specs.PortOperations.{port_operation};
 ghost use Rattle.ec_core.specs.PortTable.{plain_port, plain_group};
-ghost use Rattle.ec_core.specs.State.{Out as OutOf, reads_of, with_event, with_group};
+ghost use Rattle.ec_core.specs.State.{Out as OutOf, with_event, with_group};
 ghost use Rattle.ec_interp.specs.Shows.{Shows, ShowsMemory};
 ghost use Rattle.ec_interp.specs.Suits.{IsGiven, IsAnswered};
 ghost use Rattle.ec_interp.specs.Actions.{seen_action};
-ghost use Rattle.ec_interp.specs.Views.{seen, seen_event, inputs_of};
+ghost use Rattle.ec_interp.specs.Views.{seen, inputs_of};
 
 use crate::accesses::is_open;
 use crate::behaviour::{Event, PortInput, Unanswered};
@@ -80,21 +80,6 @@ fn inputs_of(inputs: &[PortInput], port: u32) -> &[u8]
     &[]
 }
 
-/// How many bytes of a port some events read.
-fn reads_of(port: u32, events: &[Event]) -> usize
-    ensures { result ≡ reads_of port (map seen_event events.now) }
-{
-    let mut reads = 0;
-    for event in events {
-        if let Event::In { port: read, .. } = event
-            && *read == port
-        {
-            reads += 1;
-        }
-    }
-    reads
-}
-
 /// The next byte of a port address is read.
 fn read_byte(f: &Context, s: &mut State, port: u32) -> Result<u8, NoMemory>
     ensures byte { IfOk result (λ byte. byte ≡ next_byte (inputs_of f.now.inputs.now) port (seen s.old)) }
@@ -109,7 +94,7 @@ fn next_byte(f: &Context, s: &State, port: u32) -> u8
     ensures { result ≡ next_byte (inputs_of f.now.inputs.now) port (seen s.now) }
 {
     let bytes = inputs_of(f.inputs, port);
-    let place = reads_of(port, s.events.as_slice());
+    let place = s.events.reads(port);
     if place < bytes.len() { bytes[place] } else { 0 }
 }
 

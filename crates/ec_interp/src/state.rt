@@ -7,9 +7,10 @@ ghost use Rattle.ec_interp.specs.Places.{placed};
 ghost use Rattle.ec_interp.specs.Views.{seen, seen_told, seen_event, seen_object};
 
 use crate::behaviour::{Event, PortInput, Told, Unanswered};
+use crate::events::Events;
 use ec_core::{Func, Obj, Program, Undefined, Value};
 use ec_iohw::IoTable;
-use ec_space::{NoMemory, push};
+use ec_space::NoMemory;
 use std::alloc::Global;
 
 /// What stays the same in a run.
@@ -38,7 +39,7 @@ pub struct ObjectState {
 pub struct State {
     pub objects: Vec<ObjectState>,
     pub acquired: Vec<bool>,
-    pub events: Vec<Event>,
+    pub events: Events,
     pub work: u64,
 }
 
@@ -153,7 +154,7 @@ impl State {
     pub fn record(&mut self, event: Event) -> Result<(), NoMemory>
         ensures { OnOk result (seen self.new ≡ with_event (seen_event event) (seen self.old)) }
     {
-        push(&mut self.events, event)
+        self.events.push(event)
     }
 
     /// So many words more of work, of which 2^64 - 1 can be counted.

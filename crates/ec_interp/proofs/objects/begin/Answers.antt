@@ -1,6 +1,6 @@
 use Rattle.std.proofs.Common.{arith, ap, map}
 use Rattle.ec_core.specs.Accesses.{renewed}
-use Rattle.ec_interp.specs.Views.{seen_object, seen_event}
+use Rattle.ec_interp.specs.Views.{seen_object}
 use Rattle.ec_interp.proofs.Changes.{changed_past_map, changed_set}
 use Rattle.ec_interp.proofs.objects.begin.Goals as goal
 
@@ -11,7 +11,7 @@ returns-in_ok-renew-clause-begun c =
     rw (← c.in_ok-count.ensures.count) (ap (λ objects. record {
       objects = objects;
       acquired = s.acquired.items;
-      events = map seen_event s.events.items;
+      events = s.events;
       work = s.work;
     }) (changed_set seen_object (renewed c.in_ok-count.count) s.objects.items c.args.o x c.renew.new.x
     (omega (arith, s.objects.ok.0, c.len.ensures, c.if-o-len.true)) c.index_mut.ensures.value c.in_ok-renew.ensures))
@@ -22,7 +22,7 @@ returns-else-o-len-clause-begun c =
     rw (← c.in_ok-count.ensures.count) (ap (λ objects. record {
       objects = objects;
       acquired = s.acquired.items;
-      events = map seen_event s.events.items;
+      events = s.events;
       work = s.work;
     }) (changed_past_map seen_object (renewed c.in_ok-count.count) s.objects.items c.args.o
     (omega (arith, s.objects.ok.0, c.len.ensures, c.if-o-len.false))))

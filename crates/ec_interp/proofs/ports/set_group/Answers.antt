@@ -1,5 +1,5 @@
 use Rattle.std.proofs.Common.{arith, ap, map}
-use Rattle.ec_interp.specs.Views.{seen_object, seen_event}
+use Rattle.ec_interp.specs.Views.{seen_object}
 use Rattle.ec_interp.proofs.Changes.{changed_past_to, changed_set_to}
 use Rattle.ec_interp.proofs.ports.set_group.Goals as goal
 
@@ -9,7 +9,7 @@ returns-then-g-len c =
     ap (λ acquired. record {
       objects = map seen_object s.objects.items;
       acquired = acquired;
-      events = map seen_event s.events.items;
+      events = s.events;
       work = s.work;
     }) (changed_set_to s.acquired.items c.args.g c.args.acquired (omega (arith, s.acquired.ok.0, c.len.ensures, c.if-g-len.true)))
 
@@ -19,6 +19,6 @@ returns-else-g-len c =
     ap (λ acquired. record {
       objects = map seen_object s.objects.items;
       acquired = acquired;
-      events = map seen_event s.events.items;
+      events = s.events;
       work = s.work;
     }) (changed_past_to s.acquired.items c.args.g c.args.acquired (omega (arith, s.acquired.ok.0, c.len.ensures, c.if-g-len.false)))
