@@ -1,11 +1,11 @@
 -- What is said of a line that names no place of a source: a function of the line. The words stand in the tables of the
 -- crate.
-use Rattle.std.specs.Prelude.{ℕ, List, [], ◌∷◌, ◌++◌, map, codes, Option, Some, None, option_map}
+use Rattle.std.specs.Prelude.{ℕ, List, [], ◌∷◌, ◌++◌, map, codes, Option, Some, None, option_map, bytes_eq, if◌then◌else◌}
 use Rattle.std.specs.Option.{option_and_then}
 use Rattle.std.specs.Fmt.{decimal}
 use Rattle.ec_where_lines.specs.declared.notices.Kind.{Kind}
 use Rattle.ec_where_lines.specs.declared.notices.Kind.TheVariants.{CannotRead, Recursion, MapRule, Region, NoObject, Clash}
-use Rattle.ec_where_lines.specs.declared.notices.Kind.TheVariants.{Limit, HexLine, ScriptLine, ListingLine, Fault}
+use Rattle.ec_where_lines.specs.declared.notices.Kind.TheVariants.{Limit, HexLine, ScriptLine, ScriptPort, ListingLine, Fault}
 use Rattle.ec_where_lines.specs.declared.notices.FileNames.{FileNames}
 use Rattle.ec_where_lines.specs.declared.rules.TheConstants.{COUNTED, HEADS, HEX_LINES, MACHINE, MAP_LINES, MAP_RULES}
 use Rattle.ec_where_lines.specs.declared.rules.TheConstants.{LISTING_RULES, RECORDS, SCRIPT_RULES, TOOL_LINES}
@@ -72,6 +72,18 @@ broken_of rules rest =
     option_and_then (λ x. option_and_then (λ line. option_and_then (λ rule. option_map (λ message. (line, message))
     (row_of rules rule)) (number_of x.1)) (number_of x.0)) (around (codes ": rule ") rest)
 
+-- a port of a script whose answers are no bytes of a list
+abbrev pub hooked_text : List ℕ → List ℕ → List ℕ
+hooked_text place port =
+    place ++ (codes ": error: the port at 0x"
+    ++ (port ++ codes " is hooked: a check takes the bytes that a port gives from a list\n"))
+
+abbrev pub hooked_by : List ℕ → List ℕ × List ℕ → Option (List ℕ)
+hooked_by place x = if bytes_eq x.1 (codes "hooked") then Some (hooked_text place x.0) else None
+
+abbrev pub hooked_of : List ℕ → List ℕ → Option (List ℕ)
+hooked_of place rest = option_and_then (hooked_by place) (around (codes ": ") rest)
+
 -- what a limit counts, and the limit
 abbrev pub limit_of : List ℕ → Option (List ℕ × ℕ)
 limit_of rest =
@@ -109,6 +121,7 @@ headed_text names Limit rest = option_map limit_text (limit_of rest)
 headed_text names HexLine rest = option_map (λ x. said_at names.hex_name x.0 x.1) (record_of rest)
 headed_text names ScriptLine rest =
     option_map (λ x. said_at names.script_name x.0 x.1) (broken_of (map (λ y. y.now) SCRIPT_RULES) rest)
+headed_text names ScriptPort rest = hooked_of names.script_name rest
 headed_text names ListingLine rest =
     option_map (λ x. said_at names.listing_name x.0 x.1) (broken_of (map (λ y. y.now) LISTING_RULES) rest)
 headed_text names Fault rest = option_map machine_text (machine_of rest)

@@ -2,7 +2,7 @@
 ghost use Rattle.std.specs.Prelude.{◌≡◌, Some, IfOk, map, option_map, string_bytes};
 ghost use Rattle.ec_where_lines.specs.Notices.{clash_of, head_of, headed_text, limit_of, machine_of, notice_of};
 ghost use Rattle.ec_where_lines.specs.Notices.{broken_of, plain_of, record_of, region_of, region_text, rule_of, said, said_at, said_of};
-ghost use Rattle.ec_where_lines.specs.Notices.{limit_text, machine_text, texts_of};
+ghost use Rattle.ec_where_lines.specs.Notices.{hooked_of, limit_text, machine_text, texts_of};
 
 use crate::parts::{around, behind, look_up, number, row};
 use crate::rules::{
@@ -23,6 +23,7 @@ pub enum Kind {
     Limit,
     HexLine,
     ScriptLine,
+    ScriptPort,
     ListingLine,
     Fault,
 }
@@ -149,6 +150,18 @@ fn line_notice(
     }
 }
 
+/// `script port PP: hooked`, behind `port`.
+fn hooked_notice(alloc: Global, script: &str, rest: &str) -> Result<Option<String>, AllocError>
+    ensures { IfOk result (λ o. option_map string_bytes o ≡ hooked_of script.now rest.now) }
+{
+    match around(rest, ": ") {
+        Some((port, "hooked")) => Ok(Some(format!(in alloc;
+            "{script}: error: the port at 0x{port} is hooked: a check takes the bytes that a port gives from a list\n"
+        )?)),
+        _ => Ok(None),
+    }
+}
+
 /// `limit L M`, behind the first word.
 fn limit_notice(alloc: Global, rest: &str) -> Result<Option<String>, AllocError>
     ensures { IfOk result (λ o. option_map string_bytes o ≡ option_map limit_text (limit_of rest.now)) }
@@ -213,6 +226,7 @@ fn headed_notice(
         Kind::Limit => limit_notice(alloc, rest),
         Kind::HexLine => line_notice(alloc, hex, record_parts(rest)),
         Kind::ScriptLine => line_notice(alloc, script, rule_parts(rest, &SCRIPT_RULES)),
+        Kind::ScriptPort => hooked_notice(alloc, script, rest),
         Kind::ListingLine => line_notice(alloc, listing, rule_parts(rest, &LISTING_RULES)),
         Kind::Fault => machine_notice(alloc, rest),
     }

@@ -148,7 +148,7 @@ pub static COUNTED: [&str; 10] = [
 ];
 
 /// The lines about the tool that are always the same, and what is said of each.
-pub static TOOL_LINES: [(&str, &str); 5] = [
+pub static TOOL_LINES: [(&str, &str); 6] = [
     (
         "usage",
         "the words are `build MAP OUT SRC...`, `run HEX SCRIPT STEPS FILL`, `exec MAP SCRIPT STEPS SRC...`, `gen N`, \
@@ -160,6 +160,7 @@ pub static TOOL_LINES: [(&str, &str); 5] = [
     ),
     ("no memory", "memory ran out"),
     ("steps out", "the machine made all its steps and still runs"),
+    ("turns out", "a loop made all its turns and still goes on"),
     (
         "bound too large",
         "the number of steps passes 18446744073709551615",
@@ -176,7 +177,7 @@ pub static HEX_LINES: [(&str, &str); 1] = [(
 )];
 
 /// How the other lines begin.
-pub static HEADS: [(&str, Kind); 11] = [
+pub static HEADS: [(&str, Kind); 12] = [
     ("cannot read ", Kind::CannotRead),
     ("recursion ", Kind::Recursion),
     ("map: rule ", Kind::MapRule),
@@ -186,6 +187,7 @@ pub static HEADS: [(&str, Kind); 11] = [
     ("limit ", Kind::Limit),
     ("hex line ", Kind::HexLine),
     ("script line ", Kind::ScriptLine),
+    ("script port ", Kind::ScriptPort),
     ("asm line ", Kind::ListingLine),
     ("fault ", Kind::Fault),
 ];
