@@ -1,9 +1,9 @@
 -- For the crates of the family.
 pub mod Members
 pub mod ValidOperands
+pub mod Decided
 -- For this crate alone.
 mod PlainCalls
-mod Decided
 mod Rules
 mod ValidNumbers
 mod ValidOperations
