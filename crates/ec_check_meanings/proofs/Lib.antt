@@ -1,0 +1,14 @@
+-- For this crate alone.
+mod Options
+mod Conversions
+mod Operations
+mod Choices
+mod Parts
+mod Names
+mod Ports
+mod Forms
+mod Stores
+mod Meanings
+mod Around
+mod NodeModes
+mod Examples

@@ -1,0 +1,7 @@
+-- What expressions mean, in the order in which the definitions build on one another.
+pub mod Terms
+pub mod Conversions
+pub mod Means
+pub mod Parts
+pub mod NodeModes
+pub mod Laws
