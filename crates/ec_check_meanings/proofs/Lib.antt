@@ -11,4 +11,8 @@ mod Stores
 mod Meanings
 mod Around
 mod NodeModes
+mod Sites
+mod SitesWalk
+mod SitesOf
+mod Rules
 mod Examples

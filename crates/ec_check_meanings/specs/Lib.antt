@@ -4,4 +4,6 @@ pub mod Conversions
 pub mod Means
 pub mod Parts
 pub mod NodeModes
+pub mod Sites
+pub mod Rules
 pub mod Laws

@@ -1,6 +1,8 @@
 //! The laws of what expressions mean: each function proves one, and does nothing.
 ghost use Rattle.ec_check_meanings.specs.Laws.{WalkGivesMeanings, BrokenPartsBreakAll, ModesAreSaid};
+ghost use Rattle.ec_check_meanings.specs.Laws.{SitesAreJudged, ConstraintsAreTold};
 
+use ec_check_forms::rules_are_constraints;
 use ec_core::types_are_told;
 
 /// An expression means an operand, by the relation, exactly where the walk over expressions gives that operand
@@ -23,3 +25,18 @@ pub fn broken_parts_break_all()
 pub fn modes_are_said()
     ensures { ModesAreSaid }
 {}
+
+/// The places where the walk judges are those of the expression, each with what is seen of its operands.
+pub fn sites_are_judged()
+    ensures { SitesAreJudged }
+{
+    types_are_told();
+}
+
+/// What the walk tells where it judges operands is exactly what breaks a constraint of the expression.
+pub fn constraints_are_told()
+    ensures { ConstraintsAreTold }
+{
+    rules_are_constraints();
+    sites_are_judged();
+}

@@ -1,7 +1,11 @@
 //! What expressions mean, as a relation in the words of the standard (ISO/IEC 9899:1999, 6.5; ISO/IEC TR 18037:2008),
-//! and the law that the walk over expressions gives just that.
+//! and the laws that the walk over expressions gives just that, and tells their constraints exactly where they are
+//! broken.
 #![tactic(auto)]
 
 mod laws;
 
-pub use laws::{broken_parts_break_all, modes_are_said, walk_gives_meanings};
+pub use laws::{
+    broken_parts_break_all, constraints_are_told, modes_are_said, sites_are_judged,
+    walk_gives_meanings,
+};
