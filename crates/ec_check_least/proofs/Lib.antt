@@ -1,0 +1,2 @@
+-- Lemmas about what is told at places.
+mod Told

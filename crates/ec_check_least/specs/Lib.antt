@@ -1,0 +1,2 @@
+-- The definitions that the contract of the law cites.
+pub mod Told
