@@ -18,6 +18,7 @@ use Rattle.ec_check_names.specs.Definitions.{same_linkage}
 use Rattle.ec_check_file_scope.specs.FileNames.{FileKind, an_object, a_register, a_function, FileName, differ, same_space, same_bool}
 use Rattle.ec_check_file_scope.specs.FileNames.{other_register, same_at, same_from, same_types, other_types, other_params, other_kind}
 use Rattle.ec_check_file_scope.specs.FileNames.{is_register, is_external, meet, both_define, conflict, conflicts}
+use Rattle.ec_check_file_scope.specs.Groups.{is_whole}
 use Rattle.ec_check_file_scope.specs.Laws.{AreTwo, DeclareTwo, AreOfOneName, DefineTwice, Conflict, ConflictsAreTold}
 
 -- ---- in general
@@ -33,6 +34,15 @@ is_set b = (λ e. e, λ e. e)
 
 differs : (m n : ℕ) → Decides (not (m == n)) (m ≢ n)
 differs m n = Decides-not (m == n) (Decides-eqb m n)
+
+-- one of two is not, and neither is the other
+neither : (a b : Bool) → not (a || b) ≡ true → (not a ≡ true) × (not b ≡ true)
+neither true b h = absurd (false≢true h)
+neither false b h = (refl, h)
+
+yes_if : (b : Bool) → not (not b) ≡ true → b ≡ true
+yes_if true h = refl
+yes_if false h = absurd (false≢true h)
 
 -- ---- parts of declarations
 
@@ -53,7 +63,7 @@ spaces Generic Flash = no (λ h. cc)
 spaces Generic Data = no (λ h. cc)
 spaces Generic Generic = yes refl
 
-linkages : (a b : Linkage) → Decides (same_linkage a b) (a ≡ b)
+pub linkages : (a b : Linkage) → Decides (same_linkage a b) (a ≡ b)
 linkages Internal Internal = yes refl
 linkages Internal External = no (λ h. cc)
 linkages External Internal = no (λ h. cc)
@@ -131,6 +141,34 @@ module _ (told : TypesAreTold) where
   kinds (a_function a m p) (a_function b n q) =
       Decides-or (differ a b) (other_params m p n q) (two_types a b)
       (Decides-or (not (m == n)) (other_types p q) (differs m n) (two_lists p q))
+
+  -- kinds whose types are known, and that do not differ, are one kind
+  pub same_kinds : (x y : FileKind) → is_whole x ≡ true → is_whole y ≡ true → not (other_kind x y) ≡ true → x ≡ y
+  same_kinds (an_object None c s) y w v h = absurd (false≢true w)
+  same_kinds (an_object (Some a) c s) (an_object None d r) w v h = absurd (false≢true v)
+  same_kinds (an_object (Some a) c s) (an_object (Some b) d r) w v h =
+      let p = neither (differ (Some a) (Some b) || not (same_bool c d)) (not (same_space s r)) h in
+      let q = neither (differ (Some a) (Some b)) (not (same_bool c d)) p.0 in
+      let types_are : a ≡ b = told.same a b (yes_if (same_type a b) q.0) in
+      let const_is : c ≡ d = (bools c d).0 (yes_if (same_bool c d) q.1) in
+      let space_is : s ≡ r = (spaces s r).0 (yes_if (same_space s r) p.1) in
+      cc (types_are, const_is, space_is)
+  same_kinds (an_object (Some a) c s) (a_register q b d) w v h = absurd (false≢true v)
+  same_kinds (an_object (Some a) c s) (a_function b n q) w v h = absurd (false≢true h)
+  same_kinds (a_register p a c) y w v h = absurd (false≢true w)
+  same_kinds (a_function None m p) y w v h = absurd (false≢true w)
+  same_kinds (a_function (Some a) m None) y w v h = absurd (false≢true w)
+  same_kinds (a_function (Some a) m (Some p)) (an_object b d r) w v h = absurd (false≢true h)
+  same_kinds (a_function (Some a) m (Some p)) (a_register q b d) w v h = absurd (false≢true v)
+  same_kinds (a_function (Some a) m (Some p)) (a_function None n q) w v h = absurd (false≢true v)
+  same_kinds (a_function (Some a) m (Some p)) (a_function (Some b) n None) w v h = absurd (false≢true v)
+  same_kinds (a_function (Some a) m (Some p)) (a_function (Some b) n (Some q)) w v h =
+      let e = neither (differ (Some a) (Some b)) (other_params m (Some p) n (Some q)) h in
+      let f = neither (not (m == n)) (other_types (Some p) (Some q)) e.1 in
+      let results_are : a ≡ b = told.same a b (yes_if (same_type a b) e.0) in
+      let counts_are : m ≡ n = (Decides-eqb m n).0 (yes_if (m == n) f.0) in
+      let params_are : p ≡ q = (lists p q).0 (yes_if (same_types p q) f.1) in
+      cc (results_are, counts_are, params_are)
 
   -- ---- declarations
 

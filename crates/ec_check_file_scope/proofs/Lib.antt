@@ -5,3 +5,4 @@ pub mod Sound
 mod Walks
 mod After
 mod Conflicts
+mod Grouped

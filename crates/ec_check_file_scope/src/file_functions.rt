@@ -14,8 +14,9 @@ ghost use Rattle.ec_check_file_scope.specs.FileObjects.{word_of};
 ghost use Rattle.ec_check_file_scope.specs.FileNames.{plain_file_name};
 ghost use Rattle.ec_check_file_scope.specs.States.{plain_setting, plain_state, IsSoundState};
 
-use crate::file_names::{FileKind, FileName, conflicts, earlier_link};
+use crate::file_names::{FileKind, FileName};
 use crate::file_objects::{is_started, judge_extern, word_of};
+use crate::file_table::FileNames;
 use crate::states::{Setting, State};
 use ec_check_declarations::{
     FunctionDeclared, ParamDeclared, copied_name, copied_type, declared_function, is_other_form,
@@ -93,15 +94,15 @@ fn is_other_main(word: Option<StorageWord>, f: &FunctionDeclared) -> bool
 fn judge_function(
     faults: &mut Faults,
     d: &FileName,
-    declared: &[FileName],
+    declared: &FileNames,
     initialised: bool,
     other: bool,
     at: u32,
 )
     ensures { faults.new.least ≡ all_judged faults.old.least
-        (function_rules (plain_file_name d.now) (map plain_file_name declared.now) initialised other at) }
+        (function_rules (plain_file_name d.now) (map plain_file_name declared.now.items) initialised other at) }
 {
-    faults.judge(6, conflicts(d, declared), at);
+    faults.judge(6, declared.conflicts(d), at);
     faults.judge(16, initialised, at);
     faults.judge(18, is_main(&d.name) && other, at);
 }
@@ -128,13 +129,13 @@ pub fn name_function(
         (plain_state state.new) (with_function_name r n (function_link r word n s) defined o s)) }
     ensures sound { OnOk result (IsSoundState (plain_state state.new)) }
 {
-    let earlier = earlier_link(&name.name, setting.unit, state.declared.as_slice());
+    let earlier = state.declared.earlier_link(&name.name, setting.unit);
     let linkage = linkage_of(word, true, earlier);
     let d = function_name(alloc, setting, &name.name, linkage, defined, f)?;
     judge_function(
         faults,
         &d,
-        state.declared.as_slice(),
+        &state.declared,
         initialised,
         is_other_main(word, f),
         name.spot.index,

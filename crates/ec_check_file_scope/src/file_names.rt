@@ -7,6 +7,7 @@ ghost use Rattle.ec_check_file_scope.specs.FileNames.{plain_kind, plain_file_nam
 ghost use Rattle.ec_check_file_scope.specs.FileNames.{same_types, same_at, same_from, other_types};
 ghost use Rattle.ec_check_file_scope.specs.FileNames.{other_params, other_kind, is_register, is_external, meet, both_define};
 ghost use Rattle.ec_check_file_scope.specs.FileNames.{conflict, conflicts, earlier_link, is_registered, same_bool};
+ghost use Rattle.ec_check_file_scope.specs.Groups.{is_whole, says_all};
 
 use ec_check_names::Linkage;
 use ec_core::CType;
@@ -276,4 +277,33 @@ pub(crate) fn is_registered(name: &Name, declared: &[FileName]) -> bool
         }
     }
     false
+}
+
+// ---- what needs no second note
+
+fn is_whole(kind: &FileKind) -> bool
+    ensures { result ≡ is_whole (plain_kind kind.now) }
+{
+    match kind {
+        FileKind::Object { ty, .. } => ty.is_some(),
+        FileKind::Register { .. } => false,
+        FileKind::Function {
+            returns,
+            params,
+            ..
+        } => returns.is_some() && params.is_some(),
+    }
+}
+
+/// Whether a declaration tells all that another one tells.
+pub(crate) fn says_all(e: &FileName, d: &FileName) -> bool
+    ensures { result ≡ says_all (plain_file_name e.now) (plain_file_name d.now) }
+{
+    is_whole(&e.kind)
+        && is_whole(&d.kind)
+        && !other_kind(&e.kind, &d.kind)
+        && e.name == d.name
+        && e.unit == d.unit
+        && same_linkage(e.linkage, d.linkage)
+        && (e.defines || !d.defines)
 }

@@ -26,9 +26,8 @@ ghost use Rattle.ec_check_file_scope.specs.FileObjects.{with_declared, declared_
 ghost use Rattle.ec_check_file_scope.specs.FileObjects.{sites_of_object, object_of};
 ghost use Rattle.ec_check_file_scope.specs.States.{plain_setting, plain_state, known_of, with_name, IsSoundState};
 
-use crate::file_names::{
-    FileKind, FileName, conflicts, differ, earlier_link, is_external, is_registered, other_register,
-};
+use crate::file_names::{FileKind, FileName, differ, is_external, other_register};
+use crate::file_table::FileNames;
 use crate::states::{Setting, State, known_of};
 use ec_check_declarations::{
     ObjectDeclared, RegisterDeclared, copied_name, copied_type, declared_object, declared_register,
@@ -102,11 +101,11 @@ fn object_named(
     })
 }
 
-fn judge_name(faults: &mut Faults, d: &FileName, declared: &[FileName], at: u32)
+fn judge_name(faults: &mut Faults, d: &FileName, declared: &FileNames, at: u32)
     ensures { faults.new.least ≡ all_judged faults.old.least
-        (name_rules (plain_file_name d.now) (map plain_file_name declared.now) at) }
+        (name_rules (plain_file_name d.now) (map plain_file_name declared.now.items) at) }
 {
-    faults.judge(6, conflicts(d, declared), at);
+    faults.judge(6, declared.conflicts(d), at);
     faults.judge(18, is_main(&d.name), at);
 }
 
@@ -131,7 +130,7 @@ fn name_object(
         (plain_declared_object o.now)) (plain_state state.old).declared name.now.spot.index)) }
 {
     let d = object_name(alloc, setting, &name.name, linkage, defined, o)?;
-    judge_name(faults, &d, state.declared.as_slice(), name.spot.index);
+    judge_name(faults, &d, &state.declared, name.spot.index);
     let Ok(what) = object_named(alloc, setting, &name.name, linkage, o) else {
         drop(d);
         return Err(NoMemory);
@@ -329,7 +328,7 @@ fn add_declared(
 {
     let name = &d.declarator.name;
     let word = word_of(storage);
-    let earlier = earlier_link(&name.name, setting.unit, state.declared.as_slice());
+    let earlier = state.declared.earlier_link(&name.name, setting.unit);
     let linkage = linkage_of(word, false, earlier);
     let defined = is_defined(word, false);
     judge_extern(faults, is_started(&d.start), storage);
@@ -551,7 +550,7 @@ fn name_register(
     let d = register_name(alloc, setting, name, o)?;
     let shared = shares_register(&d, state.declared.as_slice());
     faults.judge(13, shared, r.register.spot.index);
-    judge_name(faults, &d, state.declared.as_slice(), r.name.spot.index);
+    judge_name(faults, &d, &state.declared, r.name.spot.index);
     let Ok(what) = register_named(alloc, setting, name, o) else {
         drop(d);
         return Err(NoMemory);
@@ -598,7 +597,7 @@ fn add_register(
         (plain_state state.new) (with_register u t s x)) }
     ensures sound { OnOk result (IsSoundState (plain_state state.new)) }
 {
-    let before = is_registered(&r.name.name, state.declared.as_slice());
+    let before = state.declared.is_registered(&r.name.name);
     let named = name_register(alloc, setting, state, faults, r, &o);
     if let Err(e) = named {
         drop(o);

@@ -4,10 +4,12 @@
 //! Trees that are not used are dropped by a call: a drop in place at each exit would cost the proof its variants.
 #![tactic(auto)]
 
+mod copies;
 mod file_functions;
 mod file_names;
 mod file_objects;
 mod file_scope;
+mod file_table;
 mod laws;
 mod states;
 
@@ -15,5 +17,6 @@ pub use file_functions::name_function;
 pub use file_names::{FileKind, FileName};
 pub use file_objects::{file_register, word_of};
 pub use file_scope::{file_declaration, file_structure};
+pub use file_table::FileNames;
 pub use laws::conflicts_are_told;
 pub use states::{Setting, State, known_of};

@@ -11,6 +11,7 @@ ghost use Rattle.ec_check_file_scope.specs.States.{plain_setting, plain_state, k
 ghost use Rattle.ec_check_file_scope.specs.States.{in_unit, default_modes, IsSoundState};
 
 use crate::file_names::FileName;
+use crate::file_table::FileNames;
 use ec_check_declarations::{Scope, copied_name};
 use ec_check_expressions::Known;
 use ec_check_names::{Definition, Named, Names, Tags};
@@ -39,7 +40,7 @@ pub struct State {
     pub structs: Seq<StructDef>,
     pub functions: Seq<Func>,
     /// The declarations at file scope, of all units.
-    pub declared: Seq<FileName>,
+    pub declared: FileNames,
     pub modes: Modes,
     /// Whether all that was declared so far has a meaning.
     pub whole: bool,
@@ -86,7 +87,7 @@ impl State {
             tags: Tags::new(alloc),
             structs: Seq::new(alloc),
             functions: Seq::new(alloc),
-            declared: Seq::new(alloc),
+            declared: FileNames::new(alloc),
             modes: default_modes(),
             whole: true,
         }
@@ -129,7 +130,7 @@ impl State {
             return Err(NoMemory);
         };
         let named = self.scope.names.declare_outside(name, what);
-        self.declared.push(d)?;
+        self.declared.push(alloc, d)?;
         named
     }
 
