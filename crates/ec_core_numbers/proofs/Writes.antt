@@ -94,16 +94,20 @@ module _ (program : PlainProgram) where
       subst (λ (z : PlainObject). slice_get (leaves z.ty) k ≡ Some leaf) g l in
       subst (IsOf leaf.ty) f (record { declared = c.1; leaf = leaf; is = m; typed = refl })
 
-  -- a value of a type tells a number of it
+  -- a value of an arithmetic type tells a number of it
   told_number : (ty : PlainType) (v : Value) → HasType program ty v → IsNumberOf ty (told v)
   told_number void (Number n) h = tt
   told_number (integer signed bytes) (Number n) h = h
   told_number (fixed kind saturates) (Number n) h = h
   told_number (pointer space const to) (Number n) h = tt
-  told_number (array of len) (Number n) h = tt
-  told_number (struct index) (Number n) h = tt
-  told_number ty (Pointer None) h = tt
-  told_number ty (Pointer (Some p)) h = tt
+  told_number void (Pointer None) h = refl
+  told_number void (Pointer (Some p)) h = refl
+  told_number (integer signed bytes) (Pointer p) h = absurd h
+  told_number (fixed kind saturates) (Pointer p) h = absurd h
+  told_number (pointer space const to) (Pointer None) h = refl
+  told_number (pointer space const to) (Pointer (Some p)) h = refl
+  told_number (array of len) v h = absurd h
+  told_number (struct index) v h = absurd h
 
   writes_number : (ty : PlainType) (a : Access) (v : Value) → IsOf ty a → HasType program ty v
       → WritesNumber program (Write a.object a.leaf a.space (told v))

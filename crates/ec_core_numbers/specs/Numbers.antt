@@ -1,5 +1,5 @@
 -- The numbers that a run writes (ISO/IEC 9899:1999, 6.5.16.1: what is stored is converted to the type of the object).
-use Rattle.std.specs.Prelude.{ℕ, ⊤, MatchOption, IsSomeAnd, slice_get}
+use Rattle.std.specs.Prelude.{ℕ, ◌≡◌, ⊤, None, MatchOption, IsSomeAnd, slice_get}
 use Rattle.std.specs.List.{AllByRecursion}
 use Rattle.ec_iohw.specs.declared.table.IoTable.{IoTable}
 use Rattle.ec_core.specs.declared.programs.LeafInit.{LeafInit}
@@ -14,11 +14,11 @@ use Rattle.ec_core.specs.State.{Inputs, Event, In, Out, Read, Write}
 use Rattle.ec_core.specs.Valid.{Valid}
 use Rattle.ec_core.specs.ValueTypes.{GiveBytes}
 
--- a number is one that the type holds, where that is arithmetic
+-- where the type is arithmetic, it is a number that the type holds
 abbrev pub IsNumberOf : PlainType → LeafInit → Type 0
 IsNumberOf ty (Number n) = MatchOption (arithmetic_of ty) ⊤ (λ t. HoldsNumber t n)
-IsNumberOf ty Null = ⊤
-IsNumberOf ty (Address o offset) = ⊤
+IsNumberOf ty Null = arithmetic_of ty ≡ None
+IsNumberOf ty (Address o offset) = arithmetic_of ty ≡ None
 
 -- so it is with a write of leaf k of object o, and the type of that leaf
 abbrev pub WritesNumber : PlainProgram → Event → Type 0
