@@ -1,1 +1,2 @@
-mod Named
+-- For all crates above.
+pub mod Named

@@ -1,0 +1,9 @@
+mod Points
+mod Numbers
+mod Runs
+mod Written
+mod Alone
+mod Values
+mod Keeping
+mod Apart
+mod Kept

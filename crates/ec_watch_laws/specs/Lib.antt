@@ -1,0 +1,3 @@
+-- The definitions that the contracts of the laws cite.
+pub mod Watched
+pub mod Laws
