@@ -1,2 +1,3 @@
 -- For all crates above.
 pub mod Named
+pub mod Points
