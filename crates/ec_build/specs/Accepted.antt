@@ -1,10 +1,10 @@
 -- What is accepted: where nothing stands against the sources and the map, there is a build, unless memory runs out.
-use Rattle.std.specs.Prelude.{ℕ, ◌≡◌, List, None}
+use Rattle.std.specs.Prelude.{ℕ, List}
 use Rattle.ec_grammar.specs.Trees as t
 use Rattle.ec_core.specs.Plain.{PlainProgram}
 use Rattle.ec_check_recursion.specs.Recursion.{NothingRecurs}
 use Rattle.ec_check.specs.Answers.{IsTyped, IsWithinLimits}
-use Rattle.ec_check.specs.Units.{least_fault}
+use Rattle.ec_check.specs.Broken.{NothingIsBroken}
 use Rattle.ec_map.specs.declared.map.Map.{Map}
 use Rattle.ec_build.specs.Builds.{IsChecked}
 use Rattle.ec_build.specs.MapTexts.{IsMapText, HasMap}
@@ -19,7 +19,7 @@ pub record IsAccepted (sources : List (List ℕ)) (text : List ℕ) : Type 0 whe
   pub units : (units : List t.Tree) × AreUnits sources units
   pub limits : (units : List t.Tree) → AreUnits sources units → IsWithinLimits units
   pub unbroken : (m : Map) (units : List t.Tree) → IsMapText text m → AreUnits sources units
-      → least_fault units m.io ≡ None
+      → NothingIsBroken units m.io
   pub loopless : (m : Map) (units : List t.Tree) (p : PlainProgram) → IsMapText text m → AreUnits sources units
       → IsTyped units m.io p → NothingRecurs p
   pub fits : (m : Map) (p : PlainProgram) → IsChecked sources text m p → Fits p m

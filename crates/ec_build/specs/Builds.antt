@@ -1,5 +1,5 @@
 -- What a build promises.
-use Rattle.std.specs.Prelude.{ℕ, ◌≡◌, ◌*◌, ◌≤◌, List, None}
+use Rattle.std.specs.Prelude.{ℕ, ◌≡◌, ◌*◌, ◌≤◌, List}
 use Rattle.ec_grammar.specs.Trees as t
 use Rattle.ec_iohw.specs.declared.table.IoTable.{IoTable}
 use Rattle.ec_avr.specs.Machine.{State, Inputs, IsReset}
@@ -10,7 +10,7 @@ use Rattle.ec_core.specs.ValueTypes.{GiveBytes}
 use Rattle.ec_core.specs.Weight.{weight}
 use Rattle.ec_check_recursion.specs.Recursion.{NothingRecurs}
 use Rattle.ec_check.specs.Answers.{IsTyped, IsWithinLimits}
-use Rattle.ec_check.specs.Units.{least_fault}
+use Rattle.ec_check.specs.Broken.{NothingIsBroken}
 use Rattle.ec_map.specs.declared.map.Map.{Map}
 use Rattle.ec_locate.specs.Placing.{scratch_needs}
 use Rattle.ec_locate.specs.declared.placing.Located.{Located}
@@ -31,7 +31,7 @@ pub record IsRead (sources : List (List ℕ)) (text : List ℕ) (m : Map) (units
 -- P is the typed program of trees: no limit, no constraint and no recursion stands against them
 pub record IsProgram (units : List t.Tree) (io : IoTable) (p : PlainProgram) : Type 0 where
   pub limits : IsWithinLimits units
-  pub unbroken : least_fault units io ≡ None
+  pub unbroken : NothingIsBroken units io
   pub typed : IsTyped units io p
   pub loopless : NothingRecurs p
 

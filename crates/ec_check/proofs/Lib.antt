@@ -38,3 +38,5 @@ mod ValidSteps
 mod Walked
 mod ProgramsAreValid
 mod ValidAnswers
+mod Found
+mod CheckedAnswers

@@ -11,6 +11,7 @@ use Rattle.ec_check_recursion.specs.Recursion.{IsFirstRecursive, NothingRecurs}
 use Rattle.ec_check.specs.declared.checking.CheckStop.{CheckStop}
 use Rattle.ec_check.specs.declared.checking.CheckStop.TheVariants as stops
 use Rattle.ec_check.specs.Units.{program_of, least_fault, UnitFault, first_fault, after_units, main_of, program_by}
+use Rattle.ec_check.specs.Broken.{NothingIsBroken, IsLeastBroken}
 use Rattle.ec_check_file_scope.specs.States.{nothing_declared}
 use Rattle.ec_check_names.specs.Definitions.{Definition}
 use Rattle.ec_check_declarations.specs.declared.units.UnitFault as unit_fault_code
@@ -35,21 +36,33 @@ pub record IsRecursive (us : List t.Tree) (io : IoTable) (name : List ℕ) : Typ
   pub typed : IsTyped us io program
   pub recursion : IsRecursion program name
 
--- Each answer has its cause, and no two of the causes hold together; want of memory has none. A constraint is the least
--- that a unit breaks, of the first unit that breaks one.
+-- Each answer has its cause, and no two of the causes hold together; want of memory has none. A constraint that is told
+-- holds where it is told, and none that holds comes before it, by unit, by token and by number.
 abbrev pub Checked : List t.Tree → IoTable → Result Program CheckStop → Type 0
 Checked us io (Ok p) =
-    IsWithinLimits us × (least_fault us io ≡ None) × IsTyped us io (plain_program p) × NothingRecurs (plain_program p)
+    IsWithinLimits us × NothingIsBroken us io × IsTyped us io (plain_program p) × NothingRecurs (plain_program p)
 Checked us io (Err stops.NoMemory) = ⊤
 Checked us io (Err stops.TooManyObjects) = most_objects < objects_declared us
 Checked us io (Err stops.TooManyFunctions) =
     (objects_declared us ≤ most_objects) × (most_functions < functions_defined us)
-Checked us io (Err (stops.Constraint unit token rule)) =
-    IsWithinLimits us × (least_fault us io ≡ Some (record { unit = unit; fault = record { at = token; rule = rule } }))
+Checked us io (Err (stops.Constraint unit token rule)) = IsWithinLimits us × IsLeastBroken us io unit token rule
 Checked us io (Err (stops.Recursion name)) =
-    IsWithinLimits us × (least_fault us io ≡ None) × IsRecursive us io name.items
+    IsWithinLimits us × NothingIsBroken us io × IsRecursive us io name.items
 
 -- ---- parts of the check
+
+-- so of what the walk over the units finds
+abbrev pub FollowsWalk : List t.Tree → IoTable → Result Program CheckStop → Type 0
+FollowsWalk us io (Ok p) =
+    IsWithinLimits us × (least_fault us io ≡ None) × IsTyped us io (plain_program p) × NothingRecurs (plain_program p)
+FollowsWalk us io (Err stops.NoMemory) = ⊤
+FollowsWalk us io (Err stops.TooManyObjects) = most_objects < objects_declared us
+FollowsWalk us io (Err stops.TooManyFunctions) =
+    (objects_declared us ≤ most_objects) × (most_functions < functions_defined us)
+FollowsWalk us io (Err (stops.Constraint unit token rule)) =
+    IsWithinLimits us × (least_fault us io ≡ Some (record { unit = unit; fault = record { at = token; rule = rule } }))
+FollowsWalk us io (Err (stops.Recursion name)) =
+    IsWithinLimits us × (least_fault us io ≡ None) × IsRecursive us io name.items
 
 abbrev pub plain_unit_fault : unit_fault_code.UnitFault → UnitFault
 plain_unit_fault f = record { unit = f.unit; fault = record { at = f.token; rule = f.rule } }

@@ -7,14 +7,14 @@ ghost use Rattle.ec_core.specs.Valid.{Valid};
 ghost use Rattle.ec_grammar.specs.Views.{view_tree};
 ghost use Rattle.ec_check_names.specs.Definitions.{plain_definitions};
 ghost use Rattle.ec_check_file_scope.specs.States.{plain_state, IsSoundState};
-ghost use Rattle.ec_check.specs.Answers.{Walks, HasFewFunctions, HasStructs, Recurs, Checked};
+ghost use Rattle.ec_check.specs.Answers.{Walks, HasFewFunctions, HasStructs, Recurs, FollowsWalk, Checked};
 ghost use Rattle.ec_check.specs.Units.{main_of, is_last, after_units, first_fault, program_by};
 ghost use Rattle.ec_check.specs.Answers.{plain_unit_fault};
 ghost use Rattle.ec_check.specs.Laws.{AreShort};
 ghost use Rattle.ec_check.specs.Validity.{HoldNumbers};
 
 use crate::counts::has_too_many_structs;
-use crate::laws::{programs_are_valid, programs_exist, structs_are_few};
+use crate::laws::{programs_are_valid, programs_exist, structs_are_few, the_least_is_found};
 use crate::units::{main_of, unit};
 use ec_check_declarations::{Scope, UnitFault, copied_name, told_of};
 use ec_check_file_scope::{Setting, State};
@@ -177,12 +177,12 @@ fn recursion(alloc: Global, p: Program) -> Result<Program, CheckStop>
     }
 }
 
-/// What `check` answers.
+/// What `check` answers, by what the walk over the units finds.
 fn checked_program(alloc: Global, units: &Seq<Tree>, io: &IoTable) -> Result<Program, CheckStop>
     requires io { ValidIo io.now }
     requires some { 1 ≤ length units.now.items }
     requires most { length units.now.items ≤ 16 }
-    ensures answer { Checked (map view_tree units.now.items) io.now result }
+    ensures answer { FollowsWalk (map view_tree units.now.items) io.now result }
     ensures structs { IfOk result (λ p. AreStructs (map plain_struct p.structs.items)) }
 {
     let trees = units.as_slice();
@@ -216,10 +216,10 @@ fn checked_program(alloc: Global, units: &Seq<Tree>, io: &IoTable) -> Result<Pro
 }
 
 /// The typed program of the units, which no constraint, no limit and no recursion stands against. Otherwise the
-/// first of these causes: too many objects; too many functions; the least constraint by unit, token and rule; the
-/// first function that reaches itself. There is a program wherever none of these stands against it and memory lasts;
-/// and it is valid, where the constants in the units stand for numbers of their types, and no unit has more than 65,536
-/// tokens.
+/// first of these causes: too many objects; too many functions; the least constraint by unit, token and rule, which is
+/// broken there, and none that is broken comes before it; the first function that reaches itself. There is a program
+/// wherever none of these stands against it and memory lasts; and it is valid, where the constants in the units stand for
+/// numbers of their types, and no unit has more than 65,536 tokens.
 pub fn check(alloc: Global, units: &Seq<Tree>, io: &IoTable) -> Result<Program, CheckStop>
     requires io { ValidIo io.now }
     requires some { 1 ≤ length units.now.items }
@@ -231,5 +231,6 @@ pub fn check(alloc: Global, units: &Seq<Tree>, io: &IoTable) -> Result<Program, 
 {
     structs_are_few();
     programs_are_valid();
+    the_least_is_found();
     checked_program(alloc, units, io)
 }

@@ -1,4 +1,5 @@
 //! The laws of the checker: each function proves one, and does nothing.
+ghost use Rattle.ec_check.specs.Broken.{LeastIsFound};
 ghost use Rattle.ec_check.specs.Laws.{ProgramsExist, StructsAreFew};
 ghost use Rattle.ec_check.specs.Validity.{ProgramsAreValid};
 
@@ -8,6 +9,7 @@ use ec_check_expression_laws::{
 };
 use ec_check_forms::kept_forms_have_meanings;
 use ec_check_initialisers::{initial_values_suit, sizes_are_values};
+use ec_check_least::the_least_is_told;
 use ec_check_names::equal_structs_are_one;
 use ec_check_statements::{
     bodies_are_valid, bodies_need_their_tokens, function_types_are_usable,
@@ -15,6 +17,14 @@ use ec_check_statements::{
     kept_objects_have_types, objects_are_appended, objects_stay, scopes_end,
 };
 use ec_core::structs_are_laid_out;
+
+/// What the walk over the units finds is the least constraint that they break, by unit, token and number; it finds none
+/// exactly where they break none.
+pub fn the_least_is_found()
+    ensures { LeastIsFound }
+{
+    the_least_is_told();
+}
 
 /// Units that keep the limits and break no rule have a program, where they define no more structs than there are numbers
 /// of 32 bits.

@@ -11,4 +11,4 @@ mod laws;
 mod units;
 
 pub use checking::{CheckStop, check, discard};
-pub use laws::{programs_are_valid, programs_exist, structs_are_few};
+pub use laws::{programs_are_valid, programs_exist, structs_are_few, the_least_is_found};
