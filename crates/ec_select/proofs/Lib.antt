@@ -7,6 +7,7 @@ mod FixedItems
 mod PointerTypes
 mod PointerItems
 mod PortItems
+mod InPlace
 mod OneOperation
 mod Setting
 mod Counted

@@ -1,5 +1,5 @@
 -- The code that stops a sum or a difference at the ends of its range: its items fit, and its words.
-use Rattle.std.proofs.Common.{◌≡◌, ◌⊎◌, inl, inr, ℕ, suc, ◌+◌, ◌-◌, ◌*◌, ◌<◌, ◌≤◌, Bool, true, false, ◌++◌, pos, refl, ap}
+use Rattle.std.proofs.Common.{ℕ, suc, ◌+◌, ◌-◌, ◌*◌, ◌<◌, ◌≤◌, Bool, true, false, ◌++◌, pos, refl}
 use Rattle.std.proofs.Common.{arith}
 use Rattle.std.proofs.lemmas.Bool.{lt-ltb}
 use Rattle.ec_isa.specs.declared.instructions.Instr.TheVariants.{Brbc}
@@ -10,13 +10,10 @@ use Rattle.ec_asm.specs.Items.{code_words}
 use Rattle.ec_asm.specs.Pieces.{operate_code}
 use Rattle.ec_asm.specs.Valid.{Sizes}
 use Rattle.ec_asm.proofs.ItemWords.{words_cons}
-use Rattle.ec_core.specs.declared.expressions.BinOp.{BinOp}
-use Rattle.ec_core.specs.declared.expressions.BinOp.TheVariants.{Add, Sub}
 use Rattle.ec_fxcode.specs.Clamps.{put_byte, fills_code}
 use Rattle.ec_fxcode_limits.specs.Limits.{past_flag, fill_code, top_code, end_code, end_words, limit_code, operator_of, limited_code}
 use Rattle.ec_fxcode_limits.proofs.Ends.{end_has}
 use Rattle.ec_fxcode_limits.proofs.Limited.{limits_have}
-use Rattle.ec_ir.specs.Costs.{is_bitwise}
 use Rattle.ec_select_operations.specs.Code.{move_code, stopped_code}
 use Rattle.ec_select.proofs.Fitting.{fits, Fit, joined, chained, ByteFits, BytesFit, reg}
 use Rattle.ec_select.proofs.Pieces.{operate_fits}
@@ -45,10 +42,6 @@ stopped_words minus signed a b to top moved =
       x,
       z,
     )
-
-pub not_bitwise : (op : BinOp) → (op ≡ Add) ⊎ (op ≡ Sub) → is_bitwise op ≡ false
-not_bitwise op (inl e) = ap is_bitwise e
-not_bitwise op (inr e) = ap is_bitwise e
 
 -- ---- items
 

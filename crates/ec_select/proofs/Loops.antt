@@ -42,7 +42,7 @@ module _ (sizes : Sizes) where
   halve_byte_fits signed (InRegisters r) n k x = rw (halves_fit signed k (r + (n - 1 - k)) x) refl
   halve_byte_fits signed (InMemory o j) n k x = rw (x, halves_fit signed k 0 (omega arith)) refl
 
-  turn_fits : (s : Direction) (p : Location) (n : ℕ) → BytesFit sizes p n → Fit sizes (turn_code s p n)
+  pub turn_fits : (s : Direction) (p : Location) (n : ℕ) → BytesFit sizes p n → Fit sizes (turn_code s p n)
   turn_fits Left p n x = operate_fits sizes Sum p p n x x
   turn_fits (Right signed) p n x =
       chained (fits sizes) (halve_byte signed p n) n

@@ -62,7 +62,9 @@ use Rattle.ec_select_operations.specs.Code.{restore_code, taken_code, call_code,
 use Rattle.ec_select_operations.specs.Code.{flag_code, operator_code, tested_code, kept_need, op_code, tells_next}
 use Rattle.ec_select_operations.specs.Code.{ops_code}
 use Rattle.ec_select_operations.specs.Code.{work_location, answer_location, answer_code, by_kind, fixed_binary, fixed_unary}
-use Rattle.ec_select_operations.specs.Code.{is_on_integers, is_limited, stopped_code, stopped_sum, keeps_number}
+use Rattle.ec_select_operations.specs.Code.{is_on_integers, is_placed, placed_whole, placed_binary, keeps_number}
+use Rattle.ec_select_operations.specs.Emitted.{second_bytes}
+use Rattle.ec_select_operations.proofs.OneFormat.{placed_bytes}
 use Rattle.ec_select_operations.specs.Code.{fixed_conversion, addressed_code, load_code, banked_code, offset_code}
 use Rattle.ec_select_operations.specs.Code.{pointers_code, is_difference, pointer_binary, pointer_conversion}
 use Rattle.ec_select_functions.specs.Covered.{HasIndex, HasScalarAt, IsBinary, IsFixedBinary, IsFixedUnary}
@@ -70,14 +72,13 @@ use Rattle.ec_select_functions.specs.Covered.{AreConverted, IsFixedConversion, I
 use Rattle.ec_select_functions.specs.Covered.{IsUnary, IsResult, IsCovered, AreCovered}
 use Rattle.ec_select_functions.proofs.OnIntegers.{whole_type}
 use Rattle.ec_select_functions.proofs.OnWholes.{on_wholes}
-use Rattle.ec_select_functions.proofs.Limited.{limited}
 use Rattle.ec_select_operations.specs.Homes.{HasHome, depth, home, result_location}
 use Rattle.ec_select_operations.specs.Needs.{Need, wanted, wanted_result, needs, is_fixed}
 use Rattle.ec_select_operations.specs.Places.{object_location}
 use Rattle.ec_select_operations.specs.Pointers.{is_pointer, is_into_data, home_of, IsPointerSize}
 use Rattle.ec_select_operations.specs.Ports.{in_code, out_code}
 use Rattle.ec_select.proofs.FixedItems.{FixedItemLaws, plain_fits, has_places, answer_fits, own_fits, others_fit}
-use Rattle.ec_select.proofs.Limits.{stopped_fits}
+use Rattle.ec_select.proofs.InPlace.{whole_fits}
 use Rattle.ec_select.proofs.FixedTypes.{type_fixed, either_fixed, no_fixed, no_fixed_operand, none_converted}
 use Rattle.ec_select.proofs.Fitting.{fits, Fit, joined, chained, passing, and_first, and_second, BytesFit}
 use Rattle.ec_select.proofs.Fitting.{registers_fit, fewer_fit}
@@ -343,25 +344,26 @@ module _ (sizes : Sizes) where
         code = fixed_binary_code op ty aty bty mode (home k.homes a) (home k.homes b) answer_location work_location
 
         stops : Bool
-        stops = is_limited op mode ty aty bty && not (same_location (home k.homes b) (home k.homes to))
+        stops = is_placed op mode ty aty bty && not (same_location (home k.homes b) (home k.homes to))
 
         stopped : List AsmItem
-        stopped = stopped_sum (is_difference op) (is_signed aty) (home k.homes a) (home k.homes b) (home k.homes to) a.bytes n
+        stopped = placed_binary op (is_signed aty) (home k.homes a) (home k.homes b) (home k.homes to) a.bytes n
 
         by_stop : (x : Bool) → stops ≡ x → Fit sizes (if x then stopped else answer_code code (home k.homes to) n)
         by_stop true s =
-            let lim = limited op mode ty aty bty
-            (and_first (is_limited op mode ty aty bty) (not (same_location (home k.homes b) (home k.homes to))) s) in
-            let first : scalar_size ty ≡ scalar_size aty = ap scalar_size lim.result_is ∙ sym (ap scalar_size lim.left_is) in
-            let second : scalar_size bty ≡ scalar_size aty = ap scalar_size lim.right_is ∙ sym (ap scalar_size lim.left_is) in
-            let ba = h.left_bytes in let bb = h.right_bytes in let bt = h.result_bytes in
-            let most = h.left.most in let some = h.left.some in
+            let known = and_first (is_placed op mode ty aty bty) (not (same_location (home k.homes b) (home k.homes to))) s in
+            let there = placed_bytes op mode n to a b ty aty bty known
+            (record { types = h.types; left = h.left_bytes; right = h.right_bytes; result = h.result_bytes; most = l }) in
+            let most = h.left.most in let some = h.left.some in let wide = there.result in
             let top = a.bytes - 1 in
-            unless_none n (stopped_code (is_difference op) (is_signed aty) (home k.homes a) (home k.homes b) (home k.homes to) top)
-            (stopped_fits sizes (is_difference op) (is_signed aty) (home k.homes a) (home k.homes b) (home k.homes to) top (omega arith)
+            let one_more : a.bytes ≡ suc top = omega arith in
+            let second : second_bytes op (suc top) ≤ b.bytes = subst (λ (m : ℕ). second_bytes op m ≤ b.bytes) one_more there.right in
+            unless_none n (placed_whole op (is_signed aty) (home k.homes a) (home k.homes b) (home k.homes to) top)
+            (whole_fits sizes (is_signed aty) (home k.homes a) (home k.homes b) (home k.homes to) top (omega arith)
             (move_fits (home k.homes a) (home k.homes to) (suc top) (low_home a (suc top) h.left (omega arith))
-            (low_home to (suc top) h.result (omega arith)))
-            (low_home b (suc top) h.right (omega arith)) (low_home to (suc top) h.result (omega arith)))
+            (low_home to (suc top) h.result (omega arith))) (low_home to (suc top) h.result (omega arith)) op
+            (λ x. move_fits (home k.homes b) (InRegisters 30) 1 x (registers_fit sizes 30 1 (omega arith)))
+            (low_home b (second_bytes op (suc top)) h.right second))
         by_stop false s =
             let most = h.result.most in let e = h.result_bytes in
             answer_fits sizes room.work code (home k.homes to) n (omega arith)

@@ -79,7 +79,8 @@ use Rattle.ec_select_operations.specs.Code.{restore_code, taken_code, call_code,
 use Rattle.ec_select_operations.specs.Code.{flag_code, operator_code, tested_code, kept_need, op_code, tells_next}
 use Rattle.ec_select_operations.specs.Code.{ops_code}
 use Rattle.ec_select_operations.specs.Code.{work_location, answer_location, answer_code, by_kind, fixed_binary, fixed_unary}
-use Rattle.ec_select_operations.specs.Code.{is_on_integers, is_limited, stopped_code, stopped_sum, keeps_number}
+use Rattle.ec_select_operations.specs.Code.{is_on_integers, has_one_format, takes_place, is_placed, placed_whole, placed_binary}
+use Rattle.ec_select_operations.specs.Code.{keeps_number}
 use Rattle.ec_select_operations.specs.Code.{fixed_conversion, addressed_code, load_code, banked_code, offset_code}
 use Rattle.ec_select_operations.specs.Code.{pointers_code}
 use Rattle.ec_select_operations.specs.Code.{is_difference, pointer_binary, pointer_conversion}
@@ -88,7 +89,6 @@ use Rattle.ec_select_functions.specs.Covered.{IsFixedBinary, IsFixedUnary, AreCo
 use Rattle.ec_select_functions.specs.Covered.{IsPointerBinary, IsPointerConversion}
 use Rattle.ec_select_functions.proofs.OnIntegers.{whole_type}
 use Rattle.ec_select_functions.proofs.OnWholes.{on_wholes}
-use Rattle.ec_select_functions.proofs.Limited.{limited}
 use Rattle.ec_select_operations.specs.Emitted.{OfKind}
 use Rattle.ec_select_operations.specs.Homes.{home, result_location}
 use Rattle.ec_select_operations.specs.Needs.{Need, wanted, wanted_result, needs, is_fixed}
@@ -96,7 +96,7 @@ use Rattle.ec_select_operations.specs.Places.{object_location}
 use Rattle.ec_select_operations.specs.Pointers.{is_pointer, is_into_data, home_of, tag_in, IsPointerSize}
 use Rattle.ec_select.specs.InPlace.{IsInPlace}
 use Rattle.ec_select.proofs.FixedItems.{answer_words, own_words, others_words}
-use Rattle.ec_select.proofs.Limits.{stopped_words, not_bitwise}
+use Rattle.ec_select.proofs.InPlace.{placed_words, placed_not_bitwise}
 use Rattle.ec_select.proofs.FixedTypes.{type_fixed, either_fixed, no_fixed, no_fixed_operand, none_converted}
 use Rattle.ec_select.proofs.Fitting.{and_first, and_second}
 use Rattle.ec_select.proofs.PointerItems.{tagged, few_compared}
@@ -530,26 +530,27 @@ module _ (laws : WordLaws) where
       code = fixed_binary_code op ty aty bty mode (home h a) (home h b) answer_location work_location
 
       stops : Bool
-      stops = is_limited op mode ty aty bty && not (same_location (home h b) (home h to))
+      stops = is_placed op mode ty aty bty && not (same_location (home h b) (home h to))
 
       stopped : List AsmItem
-      stopped = stopped_sum (is_difference op) (is_signed aty) (home h a) (home h b) (home h to) a.bytes n
+      stopped = placed_binary op (is_signed aty) (home h a) (home h b) (home h to) a.bytes n
 
       by_stop : (x : Bool) → stops ≡ x
           → code_words (if x then stopped else answer_code code (home h to) n) ≤ binary_words op ty aty bty
       by_stop true s =
-          let lim = limited op mode ty aty bty (and_first (is_limited op mode ty aty bty) (not (same_location (home h b) (home h to))) s) in
+          let known = and_first (is_placed op mode ty aty bty) (not (same_location (home h b) (home h to))) s in
+          let takes = and_second (has_one_format ty aty) (takes_place op mode (has_one_format aty bty)) known in
           let words : binary_words op ty aty bty ≡ operation_words (widest (ty ∷ aty ∷ bty ∷ [])) =
           ap (λ x. if x && is_integer ty then 10 * widest (ty ∷ aty ∷ bty ∷ []) else operation_words (widest (ty ∷ aty ∷ bty ∷ [])))
-          (not_bitwise op lim.adds) in
+          (placed_not_bitwise op mode (has_one_format aty bty) takes) in
           let wide : scalar_size aty ≤ widest (ty ∷ aty ∷ bty ∷ []) = omega arith in
           let bytes = i.left_bytes in
           let some = i.left.some in
           let top = a.bytes - 1 in
-          let whole = stopped_code (is_difference op) (is_signed aty) (home h a) (home h b) (home h to) top in
-          let few = stopped_words (is_difference op) (is_signed aty) (home h a) (home h b) (home h to) top
-          (move_words (home h a) (home h to) (suc top)) in
-          unless_none n (binary_words op ty aty bty) whole (omega (arith, words, wide, bytes, some, few))
+          let few = placed_words (is_signed aty) (home h a) (home h b) (home h to) top (move_words (home h a) (home h to) (suc top))
+          (move_words (home h b) (InRegisters 30) 1) op in
+          unless_none n (binary_words op ty aty bty) (placed_whole op (is_signed aty) (home h a) (home h b) (home h to) top)
+          (omega (arith, words, wide, bytes, some, few))
       by_stop false s =
           let bytes = i.result_bytes in
           let few = laws.fixed_binaries op ty aty bty mode (home h a) (home h b) answer_location work_location i.types in

@@ -2,7 +2,6 @@
 pub mod Stacked
 pub mod OnIntegers
 pub mod OnWholes
-pub mod Limited
 -- For this crate alone.
 mod Wrapped
 mod Moves
@@ -10,7 +9,9 @@ mod Match
 mod Computed
 mod Accesses
 mod FixedRuns
+mod Limited
 mod Stopped
+mod Placed
 mod Follow
 mod PortBytes
 mod PortStates

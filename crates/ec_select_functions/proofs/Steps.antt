@@ -12,7 +12,6 @@ use Rattle.std.proofs.lemmas.Nat.{mod_below, mul-le}
 use Rattle.ec_fx.specs.declared.formats.FxKind.{FxKind}
 use Rattle.ec_fx.specs.declared.numbers.Mode.{Mode}
 use Rattle.ec_fx.specs.Formats.{format_of}
-use Rattle.ec_fx.proofs.FormatLemmas.{IsFormat-format_of}
 use Rattle.ec_asm.specs.declared.items.AsmItem.{AsmItem}
 use Rattle.ec_asm.specs.declared.items.AsmItem.TheVariants.{BranchTo}
 use Rattle.ec_asm.specs.declared.pieces.Location.{Location}
@@ -94,7 +93,7 @@ use Rattle.ec_select_fixed.specs.Types.{IsFixedType, IsNumberType}
 use Rattle.ec_select_fixed.proofs.Suits.{AreSuited, operands_suit}
 use Rattle.ec_select_operations.specs.Code.{told_by, by_kind as code_by_kind, fixed_binary, answer_code, answer_location}
 use Rattle.ec_select_operations.specs.Code.{fixed_unary, fixed_conversion, keeps_number, is_apart, is_on_integers, operator_code}
-use Rattle.ec_select_operations.specs.Code.{work_location, wanted_bytes, is_limited, is_difference, stopped_code, stopped_sum}
+use Rattle.ec_select_operations.specs.Code.{work_location, wanted_bytes, is_placed, placed_whole, placed_binary}
 use Rattle.ec_select_fixed.specs.Codes.{fixed_binary_code, fixed_unary_code, fixed_conversion_code}
 use Rattle.ec_select_fixed.specs.FixedLaws.{IsBinaryResult, IsUnaryResult, IsConversionResult, binary_room, unary_room}
 use Rattle.ec_select_fixed.specs.FixedLaws.{conversion_room}
@@ -102,7 +101,7 @@ use Rattle.ec_fxcode_quotients.specs.QuotientLaws.{AreSlots, operand_in as fixed
 use Rattle.ec_select_fixed.specs.Types.{format_in}
 use Rattle.ec_select_fixed.proofs.Conversions.{AreConverted as AreNumberTypes, converted_types}
 use Rattle.ec_select_fixed.proofs.Converted.{conversion_told}
-use Rattle.ec_select_fixed.proofs.Formats.{fixed_number_type, kind_bits}
+use Rattle.ec_select_fixed.proofs.Formats.{fixed_number_type}
 use Rattle.ec_select_fixed.proofs.Operators.{IsNumber, as_told, binary_told}
 use Rattle.ec_select_fixed.specs.FixedLaws.{AreOperandSlots, HasOperandBytes}
 use Rattle.ec_select_operations.specs.Needs.{is_fixed, is_whole, first_wanted, second_wanted, only_wanted}
@@ -125,8 +124,7 @@ use Rattle.ec_select_functions.proofs.Computed.{constant_matches, copy_matches, 
 use Rattle.ec_select_functions.proofs.Computed.{result_of}
 use Rattle.ec_select_functions.proofs.Extended.{conversion_matches}
 use Rattle.ec_select_functions.proofs.FixedRuns.{answer_passes, slots_of, operand_slots_of}
-use Rattle.ec_select_functions.proofs.Limited.{limited}
-use Rattle.ec_select_functions.proofs.Stopped.{stopped_result, stopped_passes, stands_apart}
+use Rattle.ec_select_functions.proofs.Placed.{binary_roomy, placed_passes}
 use Rattle.ec_select_functions.proofs.Follow.{with_ports, Follows, after, from_held, from_number}
 use Rattle.ec_select_functions.proofs.Match.{kept_left, wanted_most, read_first, whole, at_width, weaker, written}
 use Rattle.ec_select_functions.proofs.Match.{written_wide}
@@ -1317,18 +1315,6 @@ module _ (p : PlainProgram) (functions : List PlainIrFunction) (e : Env) (slots 
   fixed_numeric (array of n) h = absurd h
   fixed_numeric (struct n) h = absurd h
 
-  -- the words of an operator leave room for copies of its result
-  binary_roomy : (op : BinOp) (ty aty bty : PlainType) → 4 * scalar_size ty ≤ binary_words op ty aty bty
-  binary_roomy op ty aty bty = by_kind (is_bitwise op && is_integer ty)
-    where
-      wide : scalar_size ty ≤ widest (ty ∷ aty ∷ bty ∷ [])
-      wide = omega arith
-
-      by_kind : (x : Bool)
-          → 4 * scalar_size ty ≤ (if x then 10 * widest (ty ∷ aty ∷ bty ∷ []) else operation_words (widest (ty ∷ aty ∷ bty ∷ [])))
-      by_kind true = omega (arith, wide)
-      by_kind false = omega (arith, wide)
-
   conversion_roomy : (ty aty : PlainType) → 4 * scalar_size ty ≤ conversion_words ty aty
   conversion_roomy ty aty = by_kind (same_type ty aty || (is_integer ty && is_integer aty))
     where
@@ -1410,10 +1396,10 @@ module _ (p : PlainProgram) (functions : List PlainIrFunction) (e : Env) (slots 
           code = fixed_binary_code op ty aty bty mode (home a) (home b) answer_location work_location
 
           stops : Bool
-          stops = is_limited op mode ty aty bty && not (same_location (home b) (home t))
+          stops = is_placed op mode ty aty bty && not (same_location (home b) (home t))
 
           stopped : List AsmItem
-          stopped = stopped_sum (is_difference op) (is_signed aty) (home a) (home b) (home t) a.bytes w
+          stopped = placed_binary op (is_signed aty) (home a) (home b) (home t) a.bytes w
 
           code_is : code_of i rest ≡ (if stops then stopped else answer_code code (home t) w)
           code_is =
@@ -1472,38 +1458,17 @@ module _ (p : PlainProgram) (functions : List PlainIrFunction) (e : Env) (slots 
               → value v.at (base a) (scalar_size aty) ≡ low1 → value v.at (base b) (scalar_size bty) ≡ low2
               → G (suc n) m.state.work pc v (R (suc n) rest m1)
           by_code true s z mid there onward x_is y_is =
-              let known = and_parts (is_limited op mode ty aty bty) (not (same_location (home b) (home t))) s in
-              let lim = limited op mode ty aty bty known.0 in
-              let kind = lim.kind in
-              let size = (format_of kind).bits / 8 in
-              let size_t : scalar_size ty ≡ size = ap scalar_size lim.result_is in
-              let size_a : scalar_size aty ≡ size = ap scalar_size lim.left_is in
-              let size_b : scalar_size bty ≡ size = ap scalar_size lim.right_is in
-              let some = k.left.some in
-              let top = a.bytes - 1 in
-              let width_a : a.bytes ≡ suc top = omega arith in
-              let width_t : t.bytes ≡ suc top = k.result_bytes ∙ size_t ∙ sym size_a ∙ sym k.left_bytes ∙ width_a in
-              let width_b : b.bytes ≡ suc top = k.right_bytes ∙ size_b ∙ sym size_a ∙ sym k.left_bytes ∙ width_a in
-              let wide : suc top ≡ size = sym width_a ∙ k.left_bytes ∙ size_a in
-              let format_bits : (format_of kind).bits ≡ 8 * suc top = kind_bits kind ∙ ap (λ x. 8 * x) (sym wide) in
-              let signed : is_signed aty ≡ (format_of kind).signed = ap is_signed lim.left_is in
-              let code_there : HasAt e (stopped_code (is_difference op) (format_of kind).signed (home a) (home b) (home t) top) pc mid =
-              subst (λ (x : Bool). HasAt e (stopped_code (is_difference op) x (home a) (home b) (home t) top) pc mid) signed
-              (subst (λ (x : Bool). HasAt e (if x then [] else stopped_code (is_difference op) (is_signed aty) (home a) (home b) (home t)
-              top) pc mid) z there) in
-              let apart_from : t.at ≢ b.at = stands_apart p e slots home base place y t b (width_b ∙ sym width_t) known.1 in
-              let room = binary_roomy op ty aty bty in
-              stopped_passes p e slots home base place y (is_difference op) (format_of kind) mode top c (suc n) pc mid t a b need
-              (needs at (i ∷ rest)) m v (R (suc n) rest m1) k.result k.left k.right width_t width_a width_b apart_from
-              (IsFormat-format_of kind) format_bits lim.saturates h more code_there (omega (arith, room, size_t, wide))
-              (λ number v2 g matches.
-              reached mid number v2 onward x_is y_is
-              (subst (λ (x : ℕ). IsBinaryResult op ty mode aty bty (value v.at (base a) x) (value v.at (base b) (scalar_size bty)) number)
-              (sym width_a ∙ k.left_bytes)
-              (subst (λ (x : ℕ). IsBinaryResult op ty mode aty bty (value v.at (base a) (suc top)) (value v.at (base b) x) number)
-              (sym width_b ∙ k.right_bytes)
-              (stopped_result op mode ty aty bty lim (suc top) (value v.at (base a) (suc top)) (value v.at (base b) (suc top)) number wide
-              g))) matches)
+              let known = and_parts (is_placed op mode ty aty bty) (not (same_location (home b) (home t))) s in
+              let whole = placed_whole op (is_signed aty) (home a) (home b) (home t) (a.bytes - 1) in
+              let code_there : HasAt e whole pc mid = subst (λ (x : Bool). HasAt e (if x then [] else whole) pc mid) z there in
+              let given =
+              λ (x1 x2 : ℕ). IsNumber
+              (arithmetic_value op (number_type ty) mode (fixed_operand_in (format_in aty) (scalar_size aty) x1)
+              (fixed_operand_in (format_in bty) (scalar_size bty) x2)) r in
+              placed_passes p e slots home base place y op ty aty bty mode c (suc n) pc mid t a b need (needs at (i ∷ rest)) m v
+              (R (suc n) rest m1) r k known.0 known.1
+              (subst (λ x1. given x1 (value v.at (base b) (scalar_size bty))) (sym x_is) (subst (λ x2. given low1 x2) (sym y_is) number))
+              h more code_there (omega arith) (λ number v2 g matches. reached mid number v2 onward x_is y_is g matches)
           by_code false s z mid there onward x_is y_is =
               let size = scalar_size ty in
               let same : size ≡ t.bytes = sym k.result_bytes in
@@ -1531,7 +1496,7 @@ module _ (p : PlainProgram) (functions : List PlainIrFunction) (e : Env) (slots 
           by_need : (x : Bool) → (w == 0) ≡ x → G (suc n) m.state.work pc v (R (suc n) rest m1)
           by_need true z =
               let none = λ (x : List AsmItem). ap (λ (q : Bool). if q then [] else x) z in
-              let both = λ (q : Bool). cases_of q (none (stopped_code (is_difference op) (is_signed aty) (home a) (home b) (home t) (a.bytes - 1)))
+              let both = λ (q : Bool). cases_of q (none (placed_whole op (is_signed aty) (home a) (home b) (home t) (a.bytes - 1)))
               (none (code ++ copy_code answer_location (home t) w)) in
               let empty : code_of i rest ≡ [] = code_is ∙ both stops in
               let go =
@@ -2939,8 +2904,8 @@ module _ (p : PlainProgram) (functions : List PlainIrFunction) (e : Env) (slots 
           let tells_same : tells_next at i rest ≡ tells_next at i1 rest =
           ap (λ z. if only then told_by (not z) (family_of op) sign else None) on in
           ap (λ z. (if z then operator_code (tells_next at i rest) (family_of op) sign sign (home a) (home b) (home t) a.bytes w
-          else (if is_limited op mode ty (fixed k s1) (fixed k s2) && not (same_location (home b) (home t))
-          then stopped_sum (is_difference op) sign (home a) (home b) (home t) a.bytes w
+          else (if is_placed op mode ty (fixed k s1) (fixed k s2) && not (same_location (home b) (home t))
+          then placed_binary op sign (home a) (home b) (home t) a.bytes w
           else answer_code (fixed_binary_code op ty (fixed k s1) (fixed k s2) mode (home a) (home b) answer_location work_location)
           (home t) w)) ++ items_told (tells_next at i rest) rest) on
           ∙ ap (λ z. operator_code z (family_of op) sign sign (home a) (home b) (home t) a.bytes w ++ items_told z rest) tells_same

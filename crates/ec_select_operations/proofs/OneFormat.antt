@@ -5,6 +5,8 @@ use Rattle.std.proofs.lemmas.Bool.{and_parts}
 use Rattle.ec_fx.specs.declared.formats.FxKind.{FxKind}
 use Rattle.ec_fx.specs.declared.numbers.Mode.{Mode}
 use Rattle.ec_core.specs.declared.expressions.BinOp.{BinOp}
+use Rattle.ec_core.specs.declared.expressions.BinOp.TheVariants.{Add, Sub, Mul, Div, Rem, Shl, Shr, And, Or, Xor, Lt}
+use Rattle.ec_core.specs.declared.expressions.BinOp.TheVariants.{Gt, Le, Ge, Eq, Ne}
 use Rattle.ec_core.specs.Layout.{scalar_size}
 use Rattle.ec_core.specs.Operators.{same_kind, same_type}
 use Rattle.ec_core.specs.Plain.{PlainType, void, integer, fixed, pointer, array, struct}
@@ -12,8 +14,8 @@ use Rattle.ec_core.proofs.Sameness.{type_true}
 use Rattle.ec_ir.specs.declared.operations.Temp.{Temp}
 use Rattle.ec_select_operations.specs.declared.families.Family.{Family}
 use Rattle.ec_select_operations.specs.declared.families.Family.TheVariants.{Combined, Compared, Multiplied, Shifted, Divided}
-use Rattle.ec_select_operations.specs.Code.{family_of, has_one_format, is_as_exact, is_on_integers, is_added, is_limited}
-use Rattle.ec_select_operations.specs.Emitted.{BinaryHasBytes, FixedHasBytes, FixedConversionHasBytes}
+use Rattle.ec_select_operations.specs.Code.{family_of, has_one_format, is_as_exact, is_on_integers, takes_place, is_placed}
+use Rattle.ec_select_operations.specs.Emitted.{second_bytes, BinaryHasBytes, FixedHasBytes, FixedConversionHasBytes}
 use Rattle.ec_select_fixed.proofs.Conversions.{converted_types}
 use Rattle.ec_select_fixed.proofs.Formats.{operand_bytes}
 use Rattle.ec_select_fixed.proofs.Suits.{operands_suit}
@@ -98,29 +100,54 @@ integer_bytes op mode wanted to a b ty aty bty e h =
     by_family (Shifted up) k same = absurd k
     by_family (Divided r) k same = absurd k
 
--- the bytes that a sum or a difference which saturates asks for
-pub record HasLimitedBytes (to a b : Temp) : Type 0 where
+-- the bytes that an operator which computes its result in its place asks for
+pub record HasPlacedBytes (op : BinOp) (to a b : Temp) : Type 0 where
   pub some : 1 ≤ a.bytes
-  pub right : a.bytes ≤ b.bytes
+  pub right : second_bytes op a.bytes ≤ b.bytes
   pub result : a.bytes ≤ to.bytes
 
-pub limited_bytes : (op : BinOp) (mode : Mode) (wanted : ℕ) (to a b : Temp) (ty aty bty : PlainType)
-    → is_limited op mode ty aty bty ≡ true → FixedHasBytes op wanted to a b ty aty bty → HasLimitedBytes to a b
-limited_bytes op mode wanted to a b ty aty bty e h =
-    let p = and_parts (is_added op) (has_one_format aty bty && (has_one_format ty aty && mode.saturate)) e in
-    let q = and_parts (has_one_format aty bty) (has_one_format ty aty && mode.saturate) p.1 in
-    let r = and_parts (has_one_format ty aty) mode.saturate q.1 in
-    let same = one_size aty bty q.0 in
-    let first = one_size ty aty r.0 in
-    let some = (operand_bytes aty (operands_suit op ty aty bty h.types).first).0 in
+pub placed_bytes : (op : BinOp) (mode : Mode) (wanted : ℕ) (to a b : Temp) (ty aty bty : PlainType)
+    → is_placed op mode ty aty bty ≡ true → FixedHasBytes op wanted to a b ty aty bty → HasPlacedBytes op to a b
+placed_bytes op mode wanted to a b ty aty bty e h =
+    let p = and_parts (has_one_format ty aty) (takes_place op mode (has_one_format aty bty)) e in
+    let first = one_size ty aty p.0 in
+    let suited = operands_suit op ty aty bty h.types in
+    let some = (operand_bytes aty suited.first).0 in
+    let other = (operand_bytes bty suited.second).0 in
     let left = h.left in
     let right = h.right in
     let bytes = h.result in
     record {
       some = omega (arith, some, left);
-      right = omega (arith, same, left, right);
+      right = by_operator op (omega (arith, other, right)) p.1;
       result = omega (arith, first, left, bytes);
     }
+  where
+    -- of both operands where they have one format
+    both : (has_one_format aty bty && mode.saturate) ≡ true → a.bytes ≤ b.bytes
+    both q =
+        let same = one_size aty bty (and_parts (has_one_format aty bty) mode.saturate q).0 in
+        let left = h.left in
+        let right = h.right in
+        omega (arith, same, left, right)
+
+    by_operator : (op : BinOp) → 1 ≤ b.bytes → takes_place op mode (has_one_format aty bty) ≡ true → second_bytes op a.bytes ≤ b.bytes
+    by_operator Add some q = both q
+    by_operator Sub some q = both q
+    by_operator Shl some q = some
+    by_operator Shr some q = some
+    by_operator Mul some q = absurd cc
+    by_operator Div some q = absurd cc
+    by_operator Rem some q = absurd cc
+    by_operator And some q = absurd cc
+    by_operator Or some q = absurd cc
+    by_operator Xor some q = absurd cc
+    by_operator Lt some q = absurd cc
+    by_operator Gt some q = absurd cc
+    by_operator Le some q = absurd cc
+    by_operator Ge some q = absurd cc
+    by_operator Eq some q = absurd cc
+    by_operator Ne some q = absurd cc
 
 -- an operand that is converted has a byte
 pub some_bytes : (wanted : ℕ) (to a : Temp) (ty aty : PlainType) → FixedConversionHasBytes wanted to a ty aty → 1 ≤ a.bytes

@@ -54,6 +54,7 @@ use Rattle.ec_select_operations.specs.declared.families.Told.{Told}
 use Rattle.ec_select_operations.specs.declared.homes.Homes.{Homes}
 use Rattle.ec_select_operations.specs.Homes.{home, result_location}
 use Rattle.ec_fxcode_limits.specs.Limits.{limited_code}
+use Rattle.ec_fxcode_placed.specs.Shifts.{placed_code}
 use Rattle.ec_select_fixed.specs.Codes.{fixed_binary_code, fixed_unary_code, fixed_conversion_code}
 use Rattle.ec_select_operations.specs.Needs.{is_fixed, is_whole}
 use Rattle.ec_select_operations.specs.Needs.{Need, nothing, wanted, wanted_result, without_result, either, needs}
@@ -313,31 +314,44 @@ abbrev pub is_difference : BinOp → Bool
 is_difference Sub = true
 is_difference op = false
 
--- a sum or a difference in the one format of its operands that saturates
-abbrev pub is_added : BinOp → Bool
-is_added Add = true
-is_added Sub = true
-is_added op = false
+-- an operator whose result has the format of the first operand, and is computed in its place: a sum or a difference in the
+-- one format of both operands that saturates, a shift to the left that does not, and any shift to the right
+abbrev pub takes_place : BinOp → Mode → (in_one_format : Bool) → Bool
+takes_place Add mode one = one && mode.saturate
+takes_place Sub mode one = one && mode.saturate
+takes_place Shl mode one = not mode.saturate
+takes_place Shr mode one = true
+takes_place op mode one = false
 
-abbrev pub is_limited : BinOp → Mode → (ty aty bty : PlainType) → Bool
-is_limited op mode ty aty bty = is_added op && (has_one_format aty bty && (has_one_format ty aty && mode.saturate))
+abbrev pub is_placed : BinOp → Mode → (ty aty bty : PlainType) → Bool
+is_placed op mode ty aty bty = has_one_format ty aty && takes_place op mode (has_one_format aty bty)
 
 -- the first operand is brought to the result's place, and all its bytes, which are top + 1, are combined there with those
 -- of the second one; the result is stopped at the ends of its range
 abbrev pub stopped_code : (minus signed : Bool) → (a b to : Location) → (top : ℕ) → List AsmItem
 stopped_code minus signed a b to top = move_code a to (suc top) ++ limited_code minus signed b to top
 
-abbrev pub stopped_sum : (minus signed : Bool) → (a b to : Location) → (bytes n : ℕ) → List AsmItem
-stopped_sum minus signed a b to bytes n = if n == 0 then [] else stopped_code minus signed a b to (bytes - 1)
+-- or the lowest byte of the second one is brought to R30, and they are shifted there by it
+abbrev pub placed_shift : (left signed : Bool) → (a b to : Location) → (top : ℕ) → List AsmItem
+placed_shift left signed a b to top =
+    move_code b (InRegisters 30) 1 ++ (move_code a to (suc top) ++ placed_code left signed to (suc top))
 
--- operands of so many bytes. A difference whose second operand stands at the result's place is none of those
+abbrev pub placed_whole : BinOp → (signed : Bool) → (a b to : Location) → (top : ℕ) → List AsmItem
+placed_whole Shl signed a b to top = placed_shift true signed a b to top
+placed_whole Shr signed a b to top = placed_shift false signed a b to top
+placed_whole op signed a b to top = stopped_code (is_difference op) signed a b to top
+
+abbrev pub placed_binary : BinOp → (signed : Bool) → (a b to : Location) → (bytes n : ℕ) → List AsmItem
+placed_binary op signed a b to bytes n = if n == 0 then [] else placed_whole op signed a b to (bytes - 1)
+
+-- operands of so many bytes. An operator whose second operand stands at the result's place is none of those
 abbrev pub fixed_binary : (telling : Option Told) → BinOp → (ty aty bty : PlainType) → Mode → (a b to : Location)
     → (bytes n : ℕ) → List AsmItem
 fixed_binary telling op ty aty bty mode a b to bytes n =
     if is_on_integers (family_of op) mode ty aty bty
     then operator_code telling (family_of op) (is_signed aty) (is_signed bty) a b to bytes n
-    else (if is_limited op mode ty aty bty && not (same_location b to)
-    then stopped_sum (is_difference op) (is_signed aty) a b to bytes n
+    else (if is_placed op mode ty aty bty && not (same_location b to)
+    then placed_binary op (is_signed aty) a b to bytes n
     else answer_code (fixed_binary_code op ty aty bty mode a b answer_location work_location) to n)
 
 -- a negation that does not saturate is that of an integer

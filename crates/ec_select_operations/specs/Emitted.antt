@@ -3,6 +3,7 @@ use Rattle.std.specs.Prelude.{◌≡◌, ℕ, ◌+◌, ◌<◌, ◌≤◌, ⊤, 
 use Rattle.ec_asm.specs.Pieces.{HasBytes}
 use Rattle.ec_space.specs.Spaces.{width}
 use Rattle.ec_core.specs.declared.expressions.BinOp.{BinOp}
+use Rattle.ec_core.specs.declared.expressions.BinOp.TheVariants.{Shl, Shr}
 use Rattle.ec_core.specs.declared.expressions.UnOp.{UnOp}
 use Rattle.ec_core.specs.Layout.{AreStructs, scalar_size}
 use Rattle.ec_core.specs.Plain.{PlainType, PlainProgram}
@@ -52,6 +53,12 @@ BinaryHasBytes (Shifted up) wanted to a b =
     (wanted ≤ a.bytes) × (a.bytes ≤ to.bytes) × (1 ≤ b.bytes)
 BinaryHasBytes (Divided r) wanted to a b =
     (1 ≤ a.bytes) × (a.bytes ≤ 4) × (a.bytes ≤ to.bytes) × (a.bytes ≤ b.bytes)
+
+-- the bytes of the second operand that an operator which computes its result in its place takes
+abbrev pub second_bytes : BinOp → (bytes : ℕ) → ℕ
+second_bytes Shl bytes = 1
+second_bytes Shr bytes = 1
+second_bytes op bytes = bytes
 
 -- of operands that are fixed-point numbers all bytes are there
 pub record FixedHasBytes (op : BinOp) (wanted : ℕ) (to a b : Temp) (ty aty bty : PlainType) : Type 0 where

@@ -1,12 +1,15 @@
-//! Operations with a fixed-point type: they are those of integers where both give the same, and a sum or a difference
-//! that saturates is one of integers that is stopped at the ends of its range. Else they compute in the work bytes, and
-//! their result is brought from there to its place.
+//! Operations with a fixed-point type: they are those of integers where both give the same, a sum or a difference that
+//! saturates is one of integers that is stopped at the ends of its range, and most shifts are made in the place of the
+//! result. Else they compute in the work bytes, and their result is brought from there to its place.
 ghost use Rattle.std.specs.Prelude.{◌≡◌, ◌≤◌, ◌<◌, ◌++◌, suc, OnOk, OnErr};
 ghost use Rattle.ec_runs.specs.Behaviours.{BeginWith};
-ghost use Rattle.ec_asm.specs.Pieces.{HasBytes, operate_code};
+ghost use Rattle.ec_asm.specs.Pieces.{HasBytes, HasByte, operate_code};
 ghost use Rattle.ec_fxcode_limits.specs.Limits.{operator_of, limited_code};
+ghost use Rattle.ec_fxcode_placed.specs.Shifts.{placed_code};
 ghost use Rattle.ec_core.specs.Plain.{plain_type};
-ghost use Rattle.ec_select_operations.specs.Code.{is_added, is_limited, stopped_code, stopped_sum};
+ghost use Rattle.ec_select_operations.specs.Code.{takes_place, is_placed, stopped_code, placed_shift, placed_whole};
+ghost use Rattle.ec_select_operations.specs.Code.{move_code, placed_binary};
+ghost use Rattle.ec_select_operations.specs.Emitted.{second_bytes};
 ghost use Rattle.ec_select_operations.specs.Code.{work_location, answer_location, fixed_binary, fixed_unary};
 ghost use Rattle.ec_select_operations.specs.Code.{fixed_conversion, keeps_number, family_of, is_as_exact, is_on_integers, is_apart};
 ghost use Rattle.ec_select_operations.specs.Emitted.{FixedHasBytes, FixedOperandHasBytes, FixedConversionHasBytes};
@@ -22,6 +25,7 @@ use ec_asm::{AsmItem, Location, Operator, copy, operate};
 use ec_core::{BinOp, CType, UnOp};
 use ec_fx::Mode;
 use ec_fxcode_limits::limit;
+use ec_fxcode_placed::shift_in_place;
 use ec_ir::Temp;
 use ec_select_fixed::Places;
 use ec_space::{NoMemory, Seq};
@@ -73,23 +77,28 @@ pub(crate) fn is_apart(family: Family, mode: Mode, ty: &CType, aty: &CType, bty:
     (is_whole(aty) || is_whole(bty)) && !is_on_integers(family, mode, ty, aty, bty)
 }
 
-fn is_added(op: BinOp) -> bool
-    ensures { result ≡ is_added op }
+/// Whether an operator computes its result, which is of the format of its first operand, in its place.
+fn takes_place(op: BinOp, mode: Mode, in_one_format: bool) -> bool
+    ensures { result ≡ takes_place op mode in_one_format }
 {
-    matches!(op, BinOp::Add | BinOp::Sub)
+    match op {
+        BinOp::Add | BinOp::Sub => in_one_format && mode.saturate,
+        BinOp::Shl => !mode.saturate,
+        BinOp::Shr => true,
+        _ => false,
+    }
 }
 
-/// Whether an operator is a sum or a difference in the one format of its operands that saturates.
-fn is_limited(op: BinOp, mode: Mode, ty: &CType, aty: &CType, bty: &CType) -> bool
-    ensures { result ≡ is_limited op mode (plain_type ty.now) (plain_type aty.now) (plain_type bty.now) }
+/// Whether an operator with these types of its result and its operands does so.
+fn is_placed(op: BinOp, mode: Mode, ty: &CType, aty: &CType, bty: &CType) -> bool
+    ensures { result ≡ is_placed op mode (plain_type ty.now) (plain_type aty.now) (plain_type bty.now) }
 {
-    is_added(op) && has_one_format(aty, bty) && has_one_format(ty, aty) && mode.saturate
+    has_one_format(ty, aty) && takes_place(op, mode, has_one_format(aty, bty))
 }
 
-/// Two numbers, of which the second one is added to the first one or taken from it.
+/// Where two operands stand, and whether the first one has a sign.
 #[derive(Clone, Copy)]
-struct Sum {
-    minus: bool,
+struct Operands {
     signed: bool,
     left: Location,
     right: Location,
@@ -118,58 +127,133 @@ fn add(
 /// Appends code that adds the second number, or takes it, where the first one stands, and stops there at the ends of the
 /// range of numbers of `top + 1` bytes.
 #[tactic(auto, using(crate::proofs::Emits::fewer_bytes, crate::proofs::Emits::byte_there))]
-fn limited(out: &mut Seq<AsmItem>, of: Sum, to: Location, top: u8) -> Result<(), NoMemory>
+fn limited(
+    out: &mut Seq<AsmItem>,
+    minus: bool,
+    of: Operands,
+    to: Location,
+    top: u8,
+) -> Result<(), NoMemory>
     requires right { HasBytes of.right (suc top) }
     requires to { HasBytes to (suc top) }
     requires few { top < 255 }
-    ensures ok { OnOk result (out.new.items ≡ out.old.items ++ limited_code of.minus of.signed of.right to top) }
+    ensures ok { OnOk result (out.new.items ≡ out.old.items ++ limited_code minus of.signed of.right to top) }
     ensures err { OnErr result (BeginWith out.old.items out.new.items) }
 {
-    add(out, of.minus, of.right, to, top + 1)?;
-    limit(out, of.minus, of.signed, to, top)
+    add(out, minus, of.right, to, top + 1)?;
+    limit(out, minus, of.signed, to, top)
 }
 
 /// Appends code that puts the sum or the difference of two numbers of `top + 1` bytes to another place, or where it is
 /// out of range the nearer end.
-fn stopped(out: &mut Seq<AsmItem>, of: Sum, to: Location, top: u8) -> Result<(), NoMemory>
+fn stopped(
+    out: &mut Seq<AsmItem>,
+    minus: bool,
+    of: Operands,
+    to: Location,
+    top: u8,
+) -> Result<(), NoMemory>
     requires left { HasBytes of.left (suc top) }
     requires right { HasBytes of.right (suc top) }
     requires to { HasBytes to (suc top) }
     requires few { top < 255 }
     ensures ok { OnOk result (out.new.items ≡ out.old.items
-        ++ stopped_code of.minus of.signed of.left of.right to top) }
+        ++ stopped_code minus of.signed of.left of.right to top) }
     ensures err { OnErr result (BeginWith out.old.items out.new.items) }
 {
     move_number(out, of.left, to, top + 1)?;
-    limited(out, of, to, top)
+    limited(out, minus, of, to, top)
 }
 
-/// Appends the code of a sum or a difference of numbers of so many bytes that stops at the ends of their range.
-fn stopped_sum(
+/// Appends code that puts a number of so many bytes to another place and shifts it there by the count in R30.
+#[tactic(auto, using(crate::proofs::Emits::byte_there))]
+fn shifted(
     out: &mut Seq<AsmItem>,
-    of: Sum,
+    left: bool,
+    of: Operands,
+    to: Location,
+    bytes: u8,
+) -> Result<(), NoMemory>
+    requires left { HasBytes of.left bytes }
+    requires to { HasBytes to bytes }
+    requires some { 1 ≤ bytes }
+    ensures ok { OnOk result (out.new.items ≡ out.old.items
+        ++ (move_code of.left to bytes ++ placed_code left of.signed to bytes)) }
+    ensures err { OnErr result (BeginWith out.old.items out.new.items) }
+{
+    move_number(out, of.left, to, bytes)?;
+    shift_in_place(out, left, of.signed, to, bytes)
+}
+
+/// Appends code that puts a number of `top + 1` bytes, shifted by the lowest byte of another one, to another place.
+fn shift(
+    out: &mut Seq<AsmItem>,
+    left: bool,
+    of: Operands,
+    to: Location,
+    top: u8,
+) -> Result<(), NoMemory>
+    requires left { HasBytes of.left (suc top) }
+    requires right { HasBytes of.right 1 }
+    requires to { HasBytes to (suc top) }
+    requires few { top < 255 }
+    ensures ok { OnOk result (out.new.items ≡ out.old.items ++ placed_shift left of.signed of.left of.right to top) }
+    ensures err { OnErr result (BeginWith out.old.items out.new.items) }
+{
+    move_number(out, of.right, Location::InRegisters(30), 1)?;
+    shifted(out, left, of, to, top + 1)
+}
+
+/// Appends the code of an operator that computes its result, of `top + 1` bytes, in its place.
+#[tactic(auto, using(crate::proofs::Emits::fewer_bytes))]
+fn placed_whole(
+    out: &mut Seq<AsmItem>,
+    op: BinOp,
+    of: Operands,
+    to: Location,
+    top: u8,
+) -> Result<(), NoMemory>
+    requires left { HasBytes of.left (suc top) }
+    requires right { HasBytes of.right (second_bytes op (suc top)) }
+    requires to { HasBytes to (suc top) }
+    requires few { top < 255 }
+    ensures ok { OnOk result (out.new.items ≡ out.old.items ++ placed_whole op of.signed of.left of.right to top) }
+    ensures err { OnErr result (BeginWith out.old.items out.new.items) }
+{
+    match op {
+        BinOp::Shl => shift(out, true, of, to, top),
+        BinOp::Shr => shift(out, false, of, to, top),
+        _ => stopped(out, is_difference(op), of, to, top),
+    }
+}
+
+/// The same of a first operand of so many bytes, where so many bytes of the result are wanted.
+fn placed(
+    out: &mut Seq<AsmItem>,
+    op: BinOp,
+    of: Operands,
     to: Location,
     bytes: u8,
     wanted: u8,
 ) -> Result<(), NoMemory>
     requires left { HasBytes of.left bytes }
-    requires right { HasBytes of.right bytes }
+    requires right { HasBytes of.right (second_bytes op bytes) }
     requires to { HasBytes to bytes }
     requires some { 1 ≤ bytes }
     ensures ok { OnOk result (out.new.items ≡ out.old.items
-        ++ stopped_sum of.minus of.signed of.left of.right to bytes wanted) }
+        ++ placed_binary op of.signed of.left of.right to bytes wanted) }
     ensures err { OnErr result (BeginWith out.old.items out.new.items) }
 {
     if wanted == 0 {
         return Ok(());
     }
-    stopped(out, of, to, bytes - 1)
+    placed_whole(out, op, of, to, bytes - 1)
 }
 
 /// Appends the code of a binary operator on operands of which one is fixed-point at least, of whose result so many
 /// bytes are wanted, or where it tells something by a flag, of the comparison alone. Where memory runs out, a part of
 /// the code is appended.
-#[tactic(auto, using(crate::proofs::Emits::fewer_bytes, crate::proofs::OneFormat::integer_bytes, crate::proofs::OneFormat::limited_bytes))]
+#[tactic(auto, using(crate::proofs::Emits::fewer_bytes, crate::proofs::OneFormat::integer_bytes, crate::proofs::OneFormat::placed_bytes))]
 pub fn fixed_binary(
     out: &mut Seq<AsmItem>,
     homes: Homes,
@@ -201,14 +285,13 @@ pub fn fixed_binary(
         return operator(out, homes, telling, op, of, wanted);
     }
     let (left, right, place) = (home(homes, a), home(homes, b), home(homes, to));
-    if is_limited(op, mode, ty, aty, bty) && !is_same(right, place) {
-        let of = Sum {
-            minus: is_difference(op),
+    if is_placed(op, mode, ty, aty, bty) && !is_same(right, place) {
+        let of = Operands {
             signed: is_signed(aty),
             left,
             right,
         };
-        return stopped_sum(out, of, place, a.bytes, wanted);
+        return placed(out, op, of, place, a.bytes, wanted);
     }
     if wanted == 0 {
         return Ok(());

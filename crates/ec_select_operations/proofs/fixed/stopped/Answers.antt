@@ -11,4 +11,4 @@ returns-clause-ok c =
     let one_more : c.args.top + 1 ≡ suc c.args.top = omega arith in
     let moved = c.in_ok-move_number.ensures.ok ∙ ap (λ n. old ++ move_code of.left c.args.to n) one_more in
     joined_code c.limited.result old c.move_number.new.out.items c.limited.new.out.items (move_code of.left c.args.to (suc c.args.top))
-    (limited_code of.minus of.signed of.right c.args.to c.args.top) moved c.limited.ensures.ok
+    (limited_code c.args.minus of.signed of.right c.args.to c.args.top) moved c.limited.ensures.ok

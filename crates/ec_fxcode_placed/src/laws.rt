@@ -1,0 +1,13 @@
+//! What the code in the place of the result does.
+ghost use Rattle.ec_fxcode_placed.specs.ShiftLaws.{PlacedShiftsAreRight, PlacedShiftsHave};
+
+/// The code leaves the number shifted by the count in R30, rounded toward zero, as a value of its format, in at most so
+/// many steps. All else is kept but the flags and the work registers.
+pub fn placed_shifts_are_right()
+    ensures { PlacedShiftsAreRight }
+{}
+
+/// It has at most so many words.
+pub fn placed_shifts_have()
+    ensures { PlacedShiftsHave }
+{}

@@ -1,0 +1,145 @@
+//! A fixed-point number is shifted where it stands.
+ghost use Rattle.std.specs.Prelude.{◌≡◌, ◌+◌, ◌-◌, ◌*◌, ◌≤◌, ◌<◌, ◌^◌, ◌++◌, pos, negsuc, OnOk, OnErr};
+ghost use Rattle.ec_runs.specs.Behaviours.{BeginWith};
+ghost use Rattle.ec_asm.specs.Pieces.{HasBytes, HasByte, instruction};
+ghost use Rattle.ec_fxcode_placed.specs.Shifts.{raise_byte, raise_code, half_code, half_words, rounded_code, placed_code};
+
+use ec_asm::{AsmItem, Location, Operator, halve};
+use ec_fxcode::sign;
+use ec_isa::Instr;
+use ec_select_shifts::{Direction, shift};
+use ec_space::{NoMemory, Seq};
+
+/// The subtraction of R31 from a register for byte `i`: the lowest byte takes no borrow.
+fn less(i: u8, register: u8) -> Instr
+    ensures { result ≡ instruction Operator.Difference i register 31 }
+{
+    if i == 0 {
+        Instr::Sub { d: register, r: 31 }
+    } else {
+        Instr::Sbc { d: register, r: 31 }
+    }
+}
+
+/// Appends code that takes R31 from byte `i` of a number, with the borrow.
+fn raise_byte(out: &mut Seq<AsmItem>, at: Location, i: u8) -> Result<(), NoMemory>
+    requires { HasByte at i }
+    ensures ok { OnOk result (out.new.items ≡ out.old.items ++ raise_byte at i) }
+    ensures err { OnErr result (out.new.items ≡ out.old.items) }
+{
+    match at {
+        Location::InRegisters(r) => out.extend_from_slice(&[AsmItem::Plain(less(i, r + i))]),
+        Location::InMemory { object, offset } => {
+            let offset = offset + u32::from(i);
+            out.extend_from_slice(&[
+                AsmItem::LoadObj {
+                    d: 0,
+                    object,
+                    offset,
+                },
+                AsmItem::Plain(less(i, 0)),
+                AsmItem::StoreObj {
+                    object,
+                    offset,
+                    r: 0,
+                },
+            ])
+        }
+    }
+}
+
+/// Appends code that adds 1 to a number where R31 is 255.
+fn raise(out: &mut Seq<AsmItem>, at: Location, bytes: u8) -> Result<(), NoMemory>
+    requires { HasBytes at bytes }
+    ensures ok { OnOk result (out.new.items ≡ out.old.items ++ raise_code at bytes) }
+    ensures err { OnErr result (BeginWith out.old.items out.new.items) }
+{
+    for i in 0..bytes {
+        raise_byte(out, at, i)?;
+    }
+    Ok(())
+}
+
+/// Appends code that halves a number in two's complement, and rounds toward zero.
+fn half(out: &mut Seq<AsmItem>, at: Location, bytes: u8) -> Result<(), NoMemory>
+    requires at { HasBytes at bytes }
+    requires top { HasByte at (bytes - 1) }
+    requires some { 1 ≤ bytes }
+    ensures ok { OnOk result (out.new.items ≡ out.old.items ++ half_code at bytes) }
+    ensures err { OnErr result (BeginWith out.old.items out.new.items) }
+{
+    sign(out, at, bytes)?;
+    raise(out, at, bytes)?;
+    halve(out, at, true, bytes)
+}
+
+fn half_words(at: Location, bytes: u8) -> u16
+    ensures value { result ≡ half_words at bytes }
+    ensures most { result ≤ 4 + 10 * bytes }
+{
+    let bytes = u16::from(bytes);
+    match at {
+        Location::InRegisters(_) => 3 + (bytes + bytes),
+        Location::InMemory { .. } => 4 + (5 * bytes + 5 * bytes),
+    }
+}
+
+/// A jump over so many words.
+fn over(words: u16) -> Instr
+    requires { words < 2 ^ 12 }
+    ensures { result ≡ Instr.Rjmp (pos words) }
+{
+    Instr::Rjmp { k: words as i16 }
+}
+
+/// A jump back over so many words and the two words before it.
+fn back(words: u16) -> Instr
+    requires { words < 2 ^ 12 }
+    ensures { result ≡ Instr.Rjmp (negsuc (words + 2)) }
+{
+    Instr::Rjmp {
+        k: -3 - words as i16,
+    }
+}
+
+/// Appends code that shifts a number in two's complement to the right by as many bits as R30 tells, and rounds toward
+/// zero.
+fn rounded(out: &mut Seq<AsmItem>, at: Location, bytes: u8) -> Result<(), NoMemory>
+    requires at { HasBytes at bytes }
+    requires top { HasByte at (bytes - 1) }
+    requires some { 1 ≤ bytes }
+    ensures ok { OnOk result (out.new.items ≡ out.old.items ++ rounded_code at bytes) }
+    ensures err { OnErr result (BeginWith out.old.items out.new.items) }
+{
+    let words = half_words(at, bytes);
+    out.extend_from_slice(&[AsmItem::Plain(over(words))])?;
+    half(out, at, bytes)?;
+    out.extend_from_slice(&[
+        AsmItem::Plain(Instr::Dec { d: 30 }),
+        AsmItem::Plain(Instr::Brbs { s: 2, k: 1 }),
+        AsmItem::Plain(back(words)),
+    ])
+}
+
+/// Appends code that shifts a fixed-point number of so many bytes where it stands, to the left or to the right by as
+/// many bits as R30 tells. To the right it rounds toward zero, and to the left no result is promised where it is out of
+/// range. Where memory runs out, a part of the code is appended.
+pub fn shift_in_place(
+    out: &mut Seq<AsmItem>,
+    left: bool,
+    signed: bool,
+    at: Location,
+    bytes: u8,
+) -> Result<(), NoMemory>
+    requires at { HasBytes at bytes }
+    requires top { HasByte at (bytes - 1) }
+    requires some { 1 ≤ bytes }
+    ensures ok { OnOk result (out.new.items ≡ out.old.items ++ placed_code left signed at bytes) }
+    ensures err { OnErr result (BeginWith out.old.items out.new.items) }
+{
+    match (left, signed) {
+        (true, _) => shift(out, Direction::Left, at, bytes),
+        (false, true) => rounded(out, at, bytes),
+        (false, false) => shift(out, Direction::Right { signed: false }, at, bytes),
+    }
+}
