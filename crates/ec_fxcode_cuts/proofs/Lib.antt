@@ -1,0 +1,4 @@
+-- For this crate alone.
+mod Words
+mod Dropped
+mod Windows
