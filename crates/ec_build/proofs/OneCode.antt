@@ -12,6 +12,7 @@ use Rattle.ec_ir.specs.Operations.{PlainIr}
 use Rattle.ec_ir.specs.Operations.{label, jump, branch_zero}
 use Rattle.ec_ir.specs.Operations.{PlainIrFunction, PlainIrProgram, data_of}
 use Rattle.ec_ir.specs.Valid.{count, Results, ValidOperation, ValidIrFunction, ValidIr}
+use Rattle.ec_ir_known.specs.Known.{right_numbers}
 use Rattle.ec_select_operations.specs.Needs.{Need, IsLive}
 use Rattle.ec_select_operations.specs.Written.{written_function, NeededFunctionsAreWritten}
 use Rattle.ec_select_live.specs.Laws.{ValidOperationsHavePlaces}
@@ -76,8 +77,8 @@ code_same laws p results f g v here there here_live there_live here_least there_
     all_tell_same g.slots here there g.code here_live there_live here_least there_least p results f g.code
     (λ l. omega arith) v.code in
     sym (laws.written (data_of p) k f here g.code)
-    ∙ (λ j. written_function (data_of p) k f (wanted_same g.slots here there g.code places tell j)
-    (rows_same g.slots here there g.code places tell j) g.code)
+    ∙ (λ j. written_function (data_of p) k f (wanted_same g.slots here there g.code g.code places tell j)
+    (rows_same g.slots here there g.code g.code places tell j) (right_numbers g.code) g.code)
     ∙ laws.written (data_of p) k f there g.code
 
 chain_same : (a b : ℕ → List AsmItem) (n : ℕ) → ((k : ℕ) → k < n → a k ≡ b k) → chain a n ≡ chain b n

@@ -1,6 +1,6 @@
 -- What is needed before operations, by two tables that tell the same at all labels.
 use Rattle.std.proofs.Common.{◌≡◌, ℕ, zero, suc, ◌+◌, ◌<◌, ◌≤◌, List, [], ◌∷◌, Option, Some, None, ◌||◌, refl, arith}
-use Rattle.std.specs.Prelude.{◌==◌, if◌then◌else◌, min, max, ⊤}
+use Rattle.std.specs.Prelude.{◌==◌, if◌then◌else◌, min, max, ⊤, ℤ}
 use Rattle.std.specs.List.{AllByRecursion}
 use Rattle.ec_ir.specs.declared.operations.Temp.{Temp}
 use Rattle.ec_ir.specs.Operations.{PlainIr, constant, copy, address, field, load_at, store_at, load_object}
@@ -8,7 +8,8 @@ use Rattle.ec_ir.specs.Operations.{store_object, binary_op, unary_op, conversion
 use Rattle.ec_ir.specs.Operations.{call_function, return_from, port_in, port_out}
 use Rattle.ec_select_operations.specs.Code.{result_wanted, wanted_behind, wanted_bytes, register_places}
 use Rattle.ec_select_operations.specs.Needs.{Need, at_least, without, either, wanted, is_whole, first_wanted, second_wanted}
-use Rattle.ec_select_operations.specs.Needs.{only_wanted, index_needed, without_result, before, needs}
+use Rattle.ec_select_operations.specs.Needs.{only_wanted, index_needed, without_result, number_taken, right_needed, before}
+use Rattle.ec_select_operations.specs.Needs.{facts_of, known_right, needs}
 use Rattle.ec_select_operations.specs.Written.{row_from, kept_row, kept_rows}
 use Rattle.ec_select_live.specs.Places.{HasPlace, HasPlaces, HavePlaces}
 use Rattle.ec_select_live.specs.Tables.{AreSame}
@@ -48,40 +49,47 @@ same_index : (s : ℕ) (index : Option Temp) (a b : Need) → AreSame s a b → 
 same_index s None a b h = h
 same_index s (Some t) a b h = same_least s t.at 1 1 a b refl h
 
+-- of a second operand that may be taken as a number
+same_right : (s : ℕ) (taken : Option ℤ) (to : Temp) (at : ℕ) (f : ℕ → ℕ) (a b : Need) → HasPlace s to → AreSame s a b
+    → AreSame s (right_needed taken at (f (wanted a to)) (without to.at a)) (right_needed taken at (f (wanted b to)) (without to.at b))
+same_right s None to at f a b l h = same_value s to at f a b l h
+same_right s (Some k) to at f a b l h = same_without s to.at a b h
+
 module _ (s : ℕ) (here there : ℕ → Need) where
-  before_same : (i : PlainIr) (a b : Need) → HasPlaces s i → TellSame s here there i → AreSame s a b
-      → AreSame s (before here i a) (before there i b)
-  before_same (constant t n) a b l k h = same_without s t.at a b h
-  before_same (copy to from) a b l k h = same_value s to from.at (λ n. n) a b l.0 h
-  before_same (load_object t o offset) a b l k h = same_without s t.at a b h
-  before_same (store_object o offset t) a b l k h = same_least s t.at t.bytes t.bytes a b refl h
-  before_same (binary_op op ty mode to x xty y yty) a b l k h =
+  before_same : (n : Option ℤ) (i : PlainIr) (a b : Need) → HasPlaces s i → TellSame s here there i → AreSame s a b
+      → AreSame s (before here n i a) (before there n i b)
+  before_same n (constant t x) a b l k h = same_without s t.at a b h
+  before_same n (copy to from) a b l k h = same_value s to from.at (λ n. n) a b l.0 h
+  before_same n (load_object t o offset) a b l k h = same_without s t.at a b h
+  before_same n (store_object o offset t) a b l k h = same_least s t.at t.bytes t.bytes a b refl h
+  before_same n (binary_op op ty mode to x xty y yty) a b l k h =
       let w = is_whole xty || is_whole yty in
+      let taken = number_taken n w op in
       same_least s x.at (first_wanted w op x.bytes (wanted a to)) (first_wanted w op x.bytes (wanted b to))
-      (at_least y.at (second_wanted w op y.bytes (wanted a to)) (without to.at a))
-      (at_least y.at (second_wanted w op y.bytes (wanted b to)) (without to.at b))
+      (right_needed taken y.at (second_wanted w op y.bytes (wanted a to)) (without to.at a))
+      (right_needed taken y.at (second_wanted w op y.bytes (wanted b to)) (without to.at b))
       (λ j. first_wanted w op x.bytes (same_wanted s to a b l.0 h j))
-      (same_value s to y.at (second_wanted w op y.bytes) a b l.0 h)
-  before_same (unary_op op ty mode to x) a b l k h = same_value s to x.at (only_wanted (is_whole ty) x.bytes) a b l.0 h
-  before_same (conversion to ty mode x xty) a b l k h =
+      (same_right s taken to y.at (second_wanted w op y.bytes) a b l.0 h)
+  before_same n (unary_op op ty mode to x) a b l k h = same_value s to x.at (only_wanted (is_whole ty) x.bytes) a b l.0 h
+  before_same n (conversion to ty mode x xty) a b l k h =
       same_value s to x.at (only_wanted (is_whole ty || is_whole xty) x.bytes) a b l.0 h
-  before_same (branch_zero t q) a b l k h =
+  before_same n (branch_zero t q) a b l k h =
       same_least s t.at t.bytes t.bytes (either a (here q)) (either b (there q)) refl
       (same_either s a b (here q) (there q) h k)
-  before_same (return_from from) a b l k h = λ place q. refl
-  before_same (label q) a b l k h = k
-  before_same (jump q) a b l k h = k
-  before_same (address t o offset) a b l k h = same_without s t.at a b h
-  before_same (field ptr space offset) a b l k h = same_least s ptr.at ptr.bytes ptr.bytes a b refl h
-  before_same (load_at to ptr space) a b l k h =
+  before_same n (return_from from) a b l k h = λ place q. refl
+  before_same n (label q) a b l k h = k
+  before_same n (jump q) a b l k h = k
+  before_same n (address t o offset) a b l k h = same_without s t.at a b h
+  before_same n (field ptr space offset) a b l k h = same_least s ptr.at ptr.bytes ptr.bytes a b refl h
+  before_same n (load_at to ptr space) a b l k h =
       same_least s ptr.at ptr.bytes ptr.bytes (without to.at a) (without to.at b) refl (same_without s to.at a b h)
-  before_same (store_at ptr space from) a b l k h =
+  before_same n (store_at ptr space from) a b l k h =
       same_least s from.at from.bytes from.bytes (at_least ptr.at ptr.bytes a) (at_least ptr.at ptr.bytes b) refl
       (same_least s ptr.at ptr.bytes ptr.bytes a b refl h)
-  before_same (call_function f to) a b l k h = same_result s to a b h
-  before_same (port_in to port index width) a b l k h =
+  before_same n (call_function f to) a b l k h = same_result s to a b h
+  before_same n (port_in to port index width) a b l k h =
       same_index s index (without to.at a) (without to.at b) (same_without s to.at a b h)
-  before_same (port_out from port index width) a b l k h =
+  before_same n (port_out from port index width) a b l k h =
       same_least s from.at width width (index_needed index a) (index_needed index b) refl (same_index s index a b h)
 
   result_same : (i : PlainIr) (a b : Need) → HasPlaces s i → AreSame s a b → result_wanted a i ≡ result_wanted b i
@@ -113,17 +121,19 @@ module _ (s : ℕ) (here there : ℕ → Need) where
 
   -- ---- all operations
 
-  needs_same : (code : List PlainIr) → HavePlaces s code → AllByRecursion (TellSame s here there) code
-      → AreSame s (needs here code) (needs there code)
-  needs_same [] l k = λ place q. refl
-  needs_same (i ∷ code) l k =
-      before_same i (needs here code) (needs there code) l.0 k.0 (needs_same code l.1 k.1)
+  needs_same : (all code : List PlainIr) → HavePlaces s code → AllByRecursion (TellSame s here there) code
+      → AreSame s (needs (facts_of here all) code) (needs (facts_of there all) code)
+  needs_same all [] l k = λ place q. refl
+  needs_same all (i ∷ code) l k =
+      before_same (known_right all (i ∷ code)) i (needs (facts_of here all) code) (needs (facts_of there all) code) l.0 k.0
+      (needs_same all code l.1 k.1)
 
-  pub wanted_same : (code : List PlainIr) → HavePlaces s code → AllByRecursion (TellSame s here there) code
-      → wanted_bytes here code ≡ wanted_bytes there code
-  wanted_same [] l k = refl
-  wanted_same (i ∷ code) l k =
-      λ j. behind_same i (needs here code) (needs there code) l.0 k.0 (needs_same code l.1 k.1) j ∷ wanted_same code l.1 k.1 j
+  pub wanted_same : (all code : List PlainIr) → HavePlaces s code → AllByRecursion (TellSame s here there) code
+      → wanted_bytes (facts_of here all) code ≡ wanted_bytes (facts_of there all) code
+  wanted_same all [] l k = refl
+  wanted_same all (i ∷ code) l k =
+      λ j. behind_same i (needs (facts_of here all) code) (needs (facts_of there all) code) l.0 k.0 (needs_same all code l.1 k.1) j
+      ∷ wanted_same all code l.1 k.1 j
 
   row_same : (count place : ℕ) (a b : Need) → place + count ≤ s → AreSame s a b → row_from count place a ≡ row_from count place b
   row_same zero place a b l h = refl
@@ -138,8 +148,9 @@ module _ (s : ℕ) (here there : ℕ → Need) where
       row_same (register_places s) 0 (without_result to a) (without_result to b) few (same_result s to a b h)
   row_kept i a b h = refl
 
-  pub rows_same : (code : List PlainIr) → HavePlaces s code → AllByRecursion (TellSame s here there) code
-      → kept_rows s here code ≡ kept_rows s there code
-  rows_same [] l k = refl
-  rows_same (i ∷ code) l k =
-      λ j. row_kept i (needs here code) (needs there code) (needs_same code l.1 k.1) j ∷ rows_same code l.1 k.1 j
+  pub rows_same : (all code : List PlainIr) → HavePlaces s code → AllByRecursion (TellSame s here there) code
+      → kept_rows s (facts_of here all) code ≡ kept_rows s (facts_of there all) code
+  rows_same all [] l k = refl
+  rows_same all (i ∷ code) l k =
+      λ j. row_kept i (needs (facts_of here all) code) (needs (facts_of there all) code) (needs_same all code l.1 k.1) j
+      ∷ rows_same all code l.1 k.1 j

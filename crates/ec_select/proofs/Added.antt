@@ -1,7 +1,7 @@
 -- The code of functions, one after another.
 use Rattle.std.proofs.Common.{◌≡◌, ◌⊎◌, ℕ, zero, suc, ◌+◌, ◌<◌, ◌≤◌, ◌==◌, Bool, true, false, List, [], ◌∷◌, ◌++◌, refl}
 use Rattle.std.proofs.Common.{sym, ◌∙◌, ap, subst, arith, append_assoc, append-nil, inl, inr, length, map}
-use Rattle.std.specs.Prelude.{if◌then◌else◌, Option, Some, slice_get}
+use Rattle.std.specs.Prelude.{if◌then◌else◌, Option, Some, None, slice_get}
 use Rattle.std.proofs.lemmas.Bool.{eqb-true}
 use Rattle.std.proofs.lemmas.Bool.Decides.{nat_tests}
 use Rattle.ec_asm.specs.declared.items.AsmItem.{AsmItem}
@@ -9,9 +9,14 @@ use Rattle.ec_asm.specs.declared.items.AsmItem.TheVariants.{Label}
 use Rattle.ec_asm.specs.declared.items.AsmProgram.{AsmProgram}
 use Rattle.ec_ir.specs.declared.operations.IrFunc.{IrFunc}
 use Rattle.ec_ir.specs.Operations.{PlainIrFunction, PlainIrProgram, plain_ir_function, data_of}
+use Rattle.ec_ir.specs.Operations.{PlainIr, constant, copy, address, field, load_at, store_at, load_object}
+use Rattle.ec_ir.specs.Operations.{store_object, binary_op, unary_op, conversion, label, jump, branch_zero}
+use Rattle.ec_ir.specs.Operations.{call_function, return_from, port_in, port_out}
 use Rattle.ec_select_live.specs.Least.{IsLeast}
 use Rattle.ec_asm_near.specs.Near.{near_items}
-use Rattle.ec_select_operations.specs.Needs.{Need, IsLive}
+use Rattle.ec_ir_known.specs.Known.{right_numbers, numbers_left, HasResultPlace, HaveResultPlaces}
+use Rattle.ec_select_live.specs.Places.{HasPlaces, HavePlaces}
+use Rattle.ec_select_operations.specs.Needs.{Need, facts_of, IsLive}
 use Rattle.ec_select_operations.specs.declared.calls.Linking.{Linking}
 use Rattle.ec_select_operations.specs.Code.{Linkage, wanted_bytes, function_code}
 use Rattle.ec_select_operations.specs.Emitted.{linkage}
@@ -98,8 +103,38 @@ next_first fs f g e =
     let next : f + 1 ≡ suc f = omega arith in
     ap (first_label fs) next ∙ ap (λ (o : Option PlainIrFunction). first_label fs f + labels_in o) e
 
+-- what operations set stands at places
+result_placed : (s : ℕ) (i : PlainIr) → HasPlaces s i → HasResultPlace s i
+result_placed s (constant t n) h = h.0
+result_placed s (copy to from) h = h.0.0
+result_placed s (address t o offset) h = h.0
+result_placed s (field ptr space offset) h = h.0
+result_placed s (load_at to ptr space) h = h.0.0
+result_placed s (store_at ptr space from) h = tt
+result_placed s (load_object t o offset) h = h.0
+result_placed s (store_object o offset t) h = tt
+result_placed s (binary_op op ty mode to a aty b bty) h = h.0.0
+result_placed s (unary_op op ty mode to a) h = h.0.0
+result_placed s (conversion to ty mode a aty) h = h.0.0
+result_placed s (label l) h = tt
+result_placed s (jump l) h = tt
+result_placed s (branch_zero t l) h = tt
+result_placed s (call_function f None) h = tt
+result_placed s (call_function f (Some t)) h = h.0
+result_placed s (return_from from) h = tt
+result_placed s (port_in to port index width) h = h.0.0
+result_placed s (port_out from port index width) h = tt
+
+pub results_placed : (s : ℕ) (code : List PlainIr) → HavePlaces s code → HaveResultPlaces s code
+results_placed s [] h = tt
+results_placed s (i ∷ code) h = (result_placed s i h.0, results_placed s code h.1)
+
+pub numbers_length : (all code : List PlainIr) → length (numbers_left all code) ≡ length code
+numbers_length all [] = refl
+numbers_length all (i ∷ code) = ap suc (numbers_length all code)
+
 -- the code of a function as it was written is its code in the program
-pub added : (p : PlainIrProgram) (f first : ℕ) (g : PlainIrFunction) (k : Linking) (at : ℕ → Need)
+pub added : (p : PlainIrProgram) (f first : ℕ) (g : PlainIrFunction) (k : Linking) (labels : ℕ → Need)
     → NeededFunctionsAreWritten → first ≡ first_label p.functions f
     → k ≡ record {
       first_label = first;
@@ -108,15 +143,17 @@ pub added : (p : PlainIrProgram) (f first : ℕ) (g : PlainIrFunction) (k : Link
       slots = g.slots;
       is_main = f == p.main;
     }
-    → written_function (data_of p) (linkage k) f (wanted_bytes at g.code) (kept_rows g.slots at g.code) g.code
-    ≡ code_of p at f (Some g)
-added p f first g k at written e q =
-    let w = written (data_of p) (linkage k) f at g.code in
+    → let at = facts_of labels g.code in
+    written_function (data_of p) (linkage k) f (wanted_bytes at g.code) (kept_rows g.slots at g.code) (right_numbers g.code) g.code
+    ≡ code_of p labels f (Some g)
+added p f first g k labels written e q =
+    let at = facts_of labels g.code in
+    let w = written (data_of p) (linkage k) f labels g.code in
     let slots : k.slots ≡ g.slots = ap (λ (x : Linking). x.slots) q in
-    let link : linkage k ≡ linkage_of p function_label f g.slots (made_with p at f g) = ap linkage q ∙ rw e refl in
-    subst (λ (s : ℕ). written_function (data_of p) (linkage k) f (wanted_bytes at g.code) (kept_rows s at g.code) g.code
-    ≡ function_code (data_of p) (linkage k) f at g.code) slots w
-    ∙ ap (λ (l : Linkage). function_code (data_of p) l f at g.code) link
+    let link : linkage k ≡ linkage_of p function_label f g.slots (made_with p labels f g) = ap linkage q ∙ rw e refl in
+    subst (λ (s : ℕ). written_function (data_of p) (linkage k) f (wanted_bytes at g.code) (kept_rows s at g.code)
+    (right_numbers g.code) g.code ≡ function_code (data_of p) (linkage k) f labels g.code) slots w
+    ∙ ap (λ (l : Linkage). function_code (data_of p) l f labels g.code) link
 
 -- ---- the whole program
 

@@ -1,7 +1,7 @@
 -- How often labels stand in the code of a program.
 use Rattle.std.proofs.Common.{◌≡◌, ◌≢◌, ◌⊎◌, ℕ, zero, suc, ◌+◌, ◌-◌, ◌<◌, ◌≤◌, ◌==◌, Bool, true, false, List, [], ◌∷◌}
 use Rattle.std.proofs.Common.{◌++◌, refl, sym, ◌∙◌, subst, arith, inl, inr, length}
-use Rattle.std.specs.Prelude.{cond, count_by, nat_lt, Option, Some, None, slice_get}
+use Rattle.std.specs.Prelude.{cond, count_by, nat_lt, Option, Some, None, slice_get, ℤ}
 use Rattle.std.specs.List.{list_all}
 use Rattle.std.proofs.lemmas.Bool.{eqb-true}
 use Rattle.std.proofs.lemmas.Bool.Decides.{nat_tests}
@@ -23,7 +23,7 @@ use Rattle.ec_select_operations.specs.Code.{Linkage, op_code, tells_next, ops_co
 use Rattle.ec_select_functions.specs.Covered.{IsCovered, AreCovered}
 use Rattle.ec_select_operations.specs.Homes.{home}
 use Rattle.ec_select_functions.specs.Laws.{linkage_of}
-use Rattle.ec_select_operations.specs.Needs.{Need, needs}
+use Rattle.ec_select_operations.specs.Needs.{Need, Facts, facts_of, needs}
 use Rattle.ec_select.specs.Labels.{label_count, function_label, first_label}
 use Rattle.ec_select.specs.Program.{made_with, code_of, functions_code}
 use Rattle.ec_select.specs.Selected.{HasCode}
@@ -187,68 +187,75 @@ module _ (p : PlainIrProgram) (valid : ValidIr p) (has : HasCode p) (leaves : Le
   none_there x items h =
       eqb-true (count_by (is_label x) items) 0 (sum_by-zero (λ i. cond (is_label x i) 1 0) items ∙ h)
 
-  others_pass : (x f : ℕ) (g : PlainIrFunction) → slice_get p.functions f ≡ Some g → (told telling : Option Told) (need : Need)
+  others_pass : (x f : ℕ) (g : PlainIrFunction) → slice_get p.functions f ≡ Some g → (told telling : Option Told) (known : Option ℤ)
+      (need : Need)
       (i : PlainIr)
       → IsCovered (data_of p) has.results f (called_in g.code) g.slots i → AcceptsLabels (is_other x) (link f g) i
-      → count_by (is_label x) (op_code (data_of p) (home (link f g).homes) (link f g) told telling need i) ≡ 0
-  others_pass x f g e told telling need i h a =
-      none_there x (op_code (data_of p) (home (link f g).homes) (link f g) told telling need i)
+      → count_by (is_label x) (op_code (data_of p) (home (link f g).homes) (link f g) told telling known need i) ≡ 0
+  others_pass x f g e told telling known need i h a =
+      none_there x (op_code (data_of p) (home (link f g).homes) (link f g) told telling known need i)
       (operation_passes (own_sizes p valid) (data_of p) (link f g) (has_room p valid f g e) (objects_fit p valid leaves) pieces
-      (is_other x) (fits_other x) has.results f (called_in g.code) told telling need i h a)
+      (is_other x) (fits_other x) has.results f (called_in g.code) told telling known need i h a)
 
-  operation_places : (x f : ℕ) (g : PlainIrFunction) → slice_get p.functions f ≡ Some g → (told telling : Option Told) (need : Need)
+  operation_places : (x f : ℕ) (g : PlainIrFunction) → slice_get p.functions f ≡ Some g → (told telling : Option Told)
+      (known : Option ℤ) (need : Need)
       (i : PlainIr)
       → IsCovered (data_of p) has.results f (called_in g.code) g.slots i
-      → count_by (is_label x) (op_code (data_of p) (home (link f g).homes) (link f g) told telling need i)
+      → count_by (is_label x) (op_code (data_of p) (home (link f g).homes) (link f g) told telling known need i)
       ≡ placed_by x (link f g).label_of i
   unfolding is_other
-  operation_places x f g e told telling need (label l) h = omega arith
-  operation_places x f g e told telling need (constant t n) h = others_pass x f g e told telling need (constant t n) h tt
-  operation_places x f g e told telling need (copy to from) h = others_pass x f g e told telling need (copy to from) h tt
-  operation_places x f g e told telling need (load_object t o offset) h =
-      others_pass x f g e told telling need (load_object t o offset) h tt
-  operation_places x f g e told telling need (store_object o offset t) h =
-      others_pass x f g e told telling need (store_object o offset t) h tt
-  operation_places x f g e told telling need (binary_op op ty mode to a aty b bty) h =
-      others_pass x f g e told telling need (binary_op op ty mode to a aty b bty) h tt
-  operation_places x f g e told telling need (unary_op op ty mode to a) h =
-      others_pass x f g e told telling need (unary_op op ty mode to a) h tt
-  operation_places x f g e told telling need (conversion to ty mode a aty) h =
-      others_pass x f g e told telling need (conversion to ty mode a aty) h tt
-  operation_places x f g e told telling need (return_from from) h = others_pass x f g e told telling need (return_from from) h tt
-  operation_places x f g e told telling need (jump l) h = others_pass x f g e told telling need (jump l) h refl
-  operation_places x f g e told telling need (branch_zero t l) h =
-      others_pass x f g e told telling need (branch_zero t l) h (λ set flag w. refl)
-  operation_places x f g e told telling need (call_function c to) h = others_pass x f g e told telling need (call_function c to) h refl
-  operation_places x f g e told telling need (address t o offset) h = others_pass x f g e told telling need (address t o offset) h tt
-  operation_places x f g e told telling need (field ptr space offset) h =
-      others_pass x f g e told telling need (field ptr space offset) h tt
-  operation_places x f g e told telling need (load_at to ptr space) h = others_pass x f g e told telling need (load_at to ptr space) h tt
-  operation_places x f g e told telling need (store_at ptr space from) h =
-      others_pass x f g e told telling need (store_at ptr space from) h tt
-  operation_places x f g e told telling need (port_in to port index width) h =
-      others_pass x f g e told telling need (port_in to port index width) h tt
-  operation_places x f g e told telling need (port_out from port index width) h =
-      others_pass x f g e told telling need (port_out from port index width) h tt
+  operation_places x f g e told telling known need (label l) h = omega arith
+  operation_places x f g e told telling known need (constant t n) h = others_pass x f g e told telling known need (constant t n) h tt
+  operation_places x f g e told telling known need (copy to from) h = others_pass x f g e told telling known need (copy to from) h tt
+  operation_places x f g e told telling known need (load_object t o offset) h =
+      others_pass x f g e told telling known need (load_object t o offset) h tt
+  operation_places x f g e told telling known need (store_object o offset t) h =
+      others_pass x f g e told telling known need (store_object o offset t) h tt
+  operation_places x f g e told telling known need (binary_op op ty mode to a aty b bty) h =
+      others_pass x f g e told telling known need (binary_op op ty mode to a aty b bty) h tt
+  operation_places x f g e told telling known need (unary_op op ty mode to a) h =
+      others_pass x f g e told telling known need (unary_op op ty mode to a) h tt
+  operation_places x f g e told telling known need (conversion to ty mode a aty) h =
+      others_pass x f g e told telling known need (conversion to ty mode a aty) h tt
+  operation_places x f g e told telling known need (return_from from) h = others_pass x f g e told telling known need
+      (return_from from) h tt
+  operation_places x f g e told telling known need (jump l) h = others_pass x f g e told telling known need (jump l) h refl
+  operation_places x f g e told telling known need (branch_zero t l) h =
+      others_pass x f g e told telling known need (branch_zero t l) h (λ set flag w. refl)
+  operation_places x f g e told telling known need (call_function c to) h = others_pass x f g e told telling known need
+      (call_function c to) h refl
+  operation_places x f g e told telling known need (address t o offset) h = others_pass x f g e told telling known need
+      (address t o offset) h tt
+  operation_places x f g e told telling known need (field ptr space offset) h =
+      others_pass x f g e told telling known need (field ptr space offset) h tt
+  operation_places x f g e told telling known need (load_at to ptr space) h = others_pass x f g e told telling known need
+      (load_at to ptr space) h tt
+  operation_places x f g e told telling known need (store_at ptr space from) h =
+      others_pass x f g e told telling known need (store_at ptr space from) h tt
+  operation_places x f g e told telling known need (port_in to port index width) h =
+      others_pass x f g e told telling known need (port_in to port index width) h tt
+  operation_places x f g e told telling known need (port_out from port index width) h =
+      others_pass x f g e told telling known need (port_out from port index width) h tt
 
-  code_places : (x f : ℕ) (g : PlainIrFunction) → slice_get p.functions f ≡ Some g → (told : Option Told)
+  code_places : (x f : ℕ) (g : PlainIrFunction) → slice_get p.functions f ≡ Some g → (at : Facts) (told : Option Told)
       (code : List PlainIr) → AreCovered (data_of p) has.results f (called_in g.code) g.slots code
-      → count_by (is_label x) (ops_code (data_of p) (home (link f g).homes) (link f g) (tables f) told code)
+      → count_by (is_label x) (ops_code (data_of p) (home (link f g).homes) (link f g) at told code)
       ≡ placed_in x (link f g).label_of code
-  code_places x f g e told [] h = refl
-  code_places x f g e told (i ∷ code) h =
-      let next = tells_next (tables f) i code in
-      let here = operation_places x f g e told next (needs (tables f) code) i h.0 in
-      let rest = code_places x f g e next code h.1 in
-      joined_count x (op_code (data_of p) (home (link f g).homes) (link f g) told next (needs (tables f) code) i)
-      (ops_code (data_of p) (home (link f g).homes) (link f g) (tables f) next code) ∙ rw (here, rest) refl
+  code_places x f g e at told [] h = refl
+  code_places x f g e at told (i ∷ code) h =
+      let next = tells_next at i code in
+      let here = operation_places x f g e told next (at.known (i ∷ code)) (needs at code) i h.0 in
+      let rest = code_places x f g e at next code h.1 in
+      joined_count x (op_code (data_of p) (home (link f g).homes) (link f g) told next (at.known (i ∷ code)) (needs at code) i)
+      (ops_code (data_of p) (home (link f g).homes) (link f g) at next code) ∙ rw (here, rest) refl
 
   function_places : (x f : ℕ) (g : PlainIrFunction) → slice_get p.functions f ≡ Some g
       → count_by (is_label x) (code_of p (tables f) f (Some g))
       ≡ cond (1 + f == x) 1 0 + placed_in x (link f g).label_of g.code
   function_places x f g e =
-      let rest = code_places x f g e None g.code (has.functions f g e) in
-      let ops = ops_code (data_of p) (home (link f g).homes) (link f g) (tables f) None g.code in
+      let at = facts_of (tables f) g.code in
+      let rest = code_places x f g e at None g.code (has.functions f g e) in
+      let ops = ops_code (data_of p) (home (link f g).homes) (link f g) at None g.code in
       let parts = joined_count x (Label (1 + f) ∷ []) ops in
       omega (arith, parts, rest)
 

@@ -7,6 +7,7 @@ use Rattle.std.specs.List.{AllByRecursion}
 use Rattle.ec_asm.specs.Pieces.{HasBytes}
 use Rattle.ec_core.specs.Layout.{size_of_type}
 use Rattle.ec_core.specs.declared.expressions.BinOp.{BinOp}
+use Rattle.ec_core.specs.declared.expressions.BinOp.TheVariants.{Add, Sub, And, Or, Lt, Ge, Eq, Ne}
 use Rattle.ec_core.specs.Plain.{PlainType, PlainStorage, static, local, param, register, PlainObject}
 use Rattle.ec_core.specs.TypeLaws.{LeavesFillTheirTypes}
 use Rattle.ec_core.specs.Valid.{IsObject, IsStored}
@@ -23,11 +24,11 @@ use Rattle.ec_select_operations.specs.Code.{family_of, result_wanted, wanted_beh
 use Rattle.ec_select_functions.specs.Covered.{HasIndex, HasScalarAt, IsBinary, IsResult, IsCovered, AreCovered}
 use Rattle.ec_select_functions.specs.Covered.{IsFixedBinary, IsPointerBinary, IsUnary, IsFixedUnary, AreConverted}
 use Rattle.ec_select_functions.specs.Covered.{IsFixedConversion, IsPointerConversion}
-use Rattle.ec_select_operations.specs.Emitted.{BinaryHasBytes, FixedHasBytes, FixedOperandHasBytes}
+use Rattle.ec_select_operations.specs.Emitted.{BinaryHasBytes, TakesNumbers, FixedHasBytes, FixedOperandHasBytes}
 use Rattle.ec_select_operations.specs.Emitted.{FixedConversionHasBytes, PointersHaveBytes, PointerHasBytes, OfKind}
 use Rattle.ec_select_operations.specs.Emitted.{CanBeTaken}
 use Rattle.ec_select_operations.specs.Emitted.{IndexHasByte, CanBeEmitted}
-use Rattle.ec_select_operations.specs.Needs.{Need, wanted, wanted_result, needs, is_fixed}
+use Rattle.ec_select_operations.specs.Needs.{Need, Facts, wanted, wanted_result, needs, is_fixed}
 use Rattle.ec_select_operations.specs.Places.{location_in, object_location}
 use Rattle.ec_select_operations.specs.Pointers.{is_pointer}
 use Rattle.ec_select_operations.specs.Written.{CanBeWritten, kept_rows}
@@ -36,11 +37,11 @@ use Rattle.ec_select.proofs.PointerTypes.{some_width, pointers_only, pointer_con
 use Rattle.ec_select.proofs.FixedTypes.{type_fixed, either_fixed, no_fixed, no_fixed_operand, none_converted}
 use Rattle.ec_select.proofs.Setting.{all_at, leaf_inside}
 
-pub wanted_length : (at : ℕ → Need) (code : List PlainIr) → length (wanted_bytes at code) ≡ length code
+pub wanted_length : (at : Facts) (code : List PlainIr) → length (wanted_bytes at code) ≡ length code
 wanted_length at [] = refl
 wanted_length at (i ∷ code) = ap suc (wanted_length at code)
 
-pub kept_length : (slots : ℕ) (at : ℕ → Need) (code : List PlainIr) → length (kept_rows slots at code) ≡ length code
+pub kept_length : (slots : ℕ) (at : Facts) (code : List PlainIr) → length (kept_rows slots at code) ≡ length code
 kept_length slots at [] = refl
 kept_length slots at (i ∷ code) = ap suc (kept_length slots at code)
 
@@ -99,31 +100,44 @@ module _ (p : PlainIrProgram) (valid : ValidIr p) (leaves : LeavesFillTheirTypes
         ⊎_elim (λ (q : width ≡ 1). omega arith)
         (λ (r : (width ≡ 2) ⊎ (width ≡ 4)). ⊎_elim (λ (q : width ≡ 2). omega arith) (λ (q : width ≡ 4). omega arith) r) cases
 
+    -- operands of which the second one may be taken as a number
+    takes_has : (op : BinOp) (to a b : Temp) (ty aty bty : PlainType) → IsBinary (family_of op) slots to a b ty aty bty
+        → TakesNumbers op a b
+    takes_has Add to a b ty aty bty i q = let x = i.left_bytes in let z = i.right_bytes in let m = i.left.most in (omega arith, omega arith)
+    takes_has Sub to a b ty aty bty i q = let x = i.left_bytes in let z = i.right_bytes in let m = i.left.most in (omega arith, omega arith)
+    takes_has And to a b ty aty bty i q = let x = i.left_bytes in let z = i.right_bytes in let m = i.left.most in (omega arith, omega arith)
+    takes_has Or to a b ty aty bty i q = let x = i.left_bytes in let z = i.right_bytes in let m = i.left.most in (omega arith, omega arith)
+    takes_has Lt to a b ty aty bty i q = let x = i.same_bytes in let m = i.left.most in (omega arith, omega arith)
+    takes_has Ge to a b ty aty bty i q = let x = i.same_bytes in let m = i.left.most in (omega arith, omega arith)
+    takes_has Eq to a b ty aty bty i q = let x = i.same_bytes in let m = i.left.most in (omega arith, omega arith)
+    takes_has Ne to a b ty aty bty i q = let x = i.same_bytes in let m = i.left.most in (omega arith, omega arith)
+    takes_has op to a b ty aty bty i q = absurd cc
+
     binary_emits : (op : BinOp) (to a b : Temp) (ty aty bty : PlainType) (n : ℕ)
         → IsBinary (family_of op) slots to a b ty aty bty
         ⊎ (IsFixedBinary slots op to a b ty aty bty ⊎ IsPointerBinary (data_of p) slots op to a b ty aty bty) → n ≤ to.bytes
         → OfKind (is_fixed aty || is_fixed bty) (FixedHasBytes op n to a b ty aty bty)
         (OfKind (is_pointer aty || is_pointer bty) (PointersHaveBytes (data_of p) op n to a b ty aty bty)
-        (BinaryHasBytes (family_of op) n to a b))
+        (BinaryHasBytes (family_of op) n to a b × TakesNumbers op a b))
     binary_emits op to a b ty aty bty n (inl i) l =
         let Fixed = FixedHasBytes op n to a b ty aty bty in
         let Pointed = PointersHaveBytes (data_of p) op n to a b ty aty bty in
-        let Usual = BinaryHasBytes (family_of op) n to a b in
+        let Usual = BinaryHasBytes (family_of op) n to a b × TakesNumbers op a b in
         of_others (is_fixed aty || is_fixed bty) Fixed (OfKind (is_pointer aty || is_pointer bty) Pointed Usual)
         (no_fixed (family_of op) slots to a b ty aty bty i)
         (of_others (is_pointer aty || is_pointer bty) Pointed Usual (no_pointer (family_of op) slots to a b ty aty bty i)
-        (binary_has (family_of op) slots to a b ty aty bty n i l))
+        (binary_has (family_of op) slots to a b ty aty bty n i l, takes_has op to a b ty aty bty i))
     binary_emits op to a b ty aty bty n (inr (inl i)) l =
         let Fixed = FixedHasBytes op n to a b ty aty bty in
         let Pointed = PointersHaveBytes (data_of p) op n to a b ty aty bty in
-        let Usual = BinaryHasBytes (family_of op) n to a b in
+        let Usual = BinaryHasBytes (family_of op) n to a b × TakesNumbers op a b in
         of_own (is_fixed aty || is_fixed bty) Fixed (OfKind (is_pointer aty || is_pointer bty) Pointed Usual)
         (either_fixed aty bty i.types.fixed)
         (record { types = i.types; left = i.left_bytes; right = i.right_bytes; result = i.result_bytes; most = l })
     binary_emits op to a b ty aty bty n (inr (inr i)) l =
         let Fixed = FixedHasBytes op n to a b ty aty bty in
         let Pointed = PointersHaveBytes (data_of p) op n to a b ty aty bty in
-        let Usual = BinaryHasBytes (family_of op) n to a b in
+        let Usual = BinaryHasBytes (family_of op) n to a b × TakesNumbers op a b in
         of_others (is_fixed aty || is_fixed bty) Fixed (OfKind (is_pointer aty || is_pointer bty) Pointed Usual)
         (pointers_only op ty aty bty i.pointer i.types).0
         (of_own (is_pointer aty || is_pointer bty) Pointed Usual i.pointer
@@ -198,18 +212,18 @@ module _ (p : PlainIrProgram) (valid : ValidIr p) (leaves : LeavesFillTheirTypes
         let m = h.within in let w = port_some width h.one_two_four in (omega arith, w, m, index_has index h.index_has)
     emits need (port_out from port index width) code h v l = (h.within, index_has index h.index_has)
 
-    emits_behind : (at : ℕ → Need) (need : Need) (i : PlainIr) (code : List PlainIr)
+    emits_behind : (labels : ℕ → Need) (need : Need) (i : PlainIr) (code : List PlainIr)
         → IsCovered (data_of p) results f (called_in all) slots i → ValidOperation p valid.results f slots all i
-        → label_count (i ∷ code) ≤ bound → CanBeEmitted (data_of p) k (wanted_behind at need i) i
-    emits_behind at need (branch_zero t m) code h v l = omega arith
-    emits_behind at need i code h v l = emits need i code h v l
+        → label_count (i ∷ code) ≤ bound → CanBeEmitted (data_of p) k (wanted_behind labels need i) i
+    emits_behind labels need (branch_zero t m) code h v l = omega arith
+    emits_behind labels need i code h v l = emits need i code h v l
 
-    pub all_emitted : (at : ℕ → Need) (code : List PlainIr) → AreCovered (data_of p) results f (called_in all) slots code
+    pub all_emitted : (at : Facts) (code : List PlainIr) → AreCovered (data_of p) results f (called_in all) slots code
         → AllByRecursion (ValidOperation p valid.results f slots all) code → label_count code ≤ bound
         → CanBeWritten (data_of p) k (wanted_bytes at code) code
     all_emitted at [] h v l j i e = absurd (cc)
     all_emitted at (x ∷ code) h v l zero i e =
         let q : x ≡ i = cc in
-        subst (λ (y : PlainIr). CanBeEmitted (data_of p) k (wanted_behind at (needs at code) x) y) q
-        (emits_behind at (needs at code) x code h.0 v.0 l)
+        subst (λ (y : PlainIr). CanBeEmitted (data_of p) k (wanted_behind at.needed (needs at code) x) y) q
+        (emits_behind at.needed (needs at code) x code h.0 v.0 l)
     all_emitted at (x ∷ code) h v l (suc j) i e = all_emitted at code h.1 v.1 (omega arith) j i e

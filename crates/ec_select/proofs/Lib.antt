@@ -1,5 +1,6 @@
 mod Fitting
 mod Pieces
+mod ByNumber
 mod Loops
 mod Limits
 mod FixedTypes

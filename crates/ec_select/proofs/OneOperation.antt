@@ -3,7 +3,7 @@ use Rattle.std.proofs.Common.{◌≡◌, ◌⊎◌, ℕ, suc, ◌+◌, ◌-◌, 
 use Rattle.std.proofs.Common.{◌∷◌, ◌++◌}
 use Rattle.std.proofs.Common.{refl, sym, ap, ◌∙◌, subst, arith, leb-true, eqb-true, inl, inr}
 use Rattle.std.specs.Prelude.{⊤, min, nat_le, nat_lt, ◌&&◌, ◌||◌, if◌then◌else◌, Option, Some, None, option_map}
-use Rattle.std.specs.Prelude.{slice_get}
+use Rattle.std.specs.Prelude.{slice_get, ℤ}
 use Rattle.std.specs.List.{list_all}
 use Rattle.ec_isa.specs.declared.instructions.Instr.TheVariants.{Ret}
 use Rattle.ec_asm.specs.declared.items.AsmItem.{AsmItem}
@@ -67,13 +67,17 @@ use Rattle.ec_select_operations.specs.Emitted.{second_bytes}
 use Rattle.ec_select_operations.proofs.OneFormat.{placed_bytes}
 use Rattle.ec_select_operations.specs.Code.{fixed_conversion, addressed_code, load_code, banked_code, offset_code}
 use Rattle.ec_select_operations.specs.Code.{pointers_code, is_difference, pointer_binary, pointer_conversion}
+use Rattle.ec_select_functions.specs.Covered.{AreIntegers}
 use Rattle.ec_select_functions.specs.Covered.{HasIndex, HasScalarAt, IsBinary, IsFixedBinary, IsFixedUnary}
 use Rattle.ec_select_functions.specs.Covered.{AreConverted, IsFixedConversion, IsPointerBinary, IsPointerConversion}
 use Rattle.ec_select_functions.specs.Covered.{IsUnary, IsResult, IsCovered, AreCovered}
 use Rattle.ec_select_functions.proofs.OnIntegers.{whole_type}
 use Rattle.ec_select_functions.proofs.OnWholes.{on_wholes}
 use Rattle.ec_select_operations.specs.Homes.{HasHome, depth, home, result_location}
-use Rattle.ec_select_operations.specs.Needs.{Need, wanted, wanted_result, needs, is_fixed}
+use Rattle.ec_select_functions.proofs.Taken.{TakesSum, TakesOrder, takes, taken_is}
+use Rattle.ec_select_operations.specs.Code.{taking_code, integer_binary, changed_by_code}
+use Rattle.ec_select_operations.specs.Needs.{Need, Facts, wanted, wanted_result, needs, is_fixed, number_taken}
+use Rattle.ec_select.proofs.ByNumber.{changed_by_fits, compared_with_fits}
 use Rattle.ec_select_operations.specs.Places.{object_location}
 use Rattle.ec_select_operations.specs.Pointers.{is_pointer, is_into_data, home_of, IsPointerSize}
 use Rattle.ec_select_operations.specs.Ports.{in_code, out_code}
@@ -514,8 +518,53 @@ module _ (sizes : Sizes) where
           let few = stays_within a.bytes to.bytes from_size size e in
           move_fits (home k.homes a) (home k.homes to) n (low_home a n h.from (omega (arith, few, l))) (low_home to n h.result l)
 
+    -- what is put to the second operand's place before a comparison
+    put_fits : (number n : ℕ) (b : Temp) (bytes : ℕ) (code : List AsmItem) → HasHome k.slots b → bytes ≤ b.bytes → Fit sizes code
+        → Fit sizes (if n == 0 then [] else constant_code (home k.homes b) number bytes ++ code)
+    put_fits number n b bytes code h l f =
+        unless_none n (constant_code (home k.homes b) number bytes ++ code)
+        (joined (fits sizes) (constant_code (home k.homes b) number bytes) code
+        (constant_fits sizes (home k.homes b) number bytes (low_home b bytes h l)) f)
+
+    -- operators that take numbers
+    taking_fits : (op : BinOp) (known : Option ℤ) (telling : Option Told) (to a b : Temp) (ty aty bty : PlainType)
+        (left right : Bool) (n : ℕ) → IsBinary (family_of op) k.slots to a b ty aty bty → n ≤ to.bytes
+        → Fit sizes (integer_binary known telling op left right (home k.homes a) (home k.homes b) (home k.homes to) a.bytes n)
+    taking_fits op known telling to a b ty aty bty left right n h l = by_taken (number_taken known false op) refl
+      where
+        by_sum : (o : Operator) → AreIntegers k.slots to a b ty aty bty → (number : ℕ)
+            → Fit sizes (move_code (home k.homes a) (home k.homes to) n ++ changed_by_code o (home k.homes to) number n)
+        by_sum o i number =
+            let x = i.left_bytes in
+            joined (fits sizes) (move_code (home k.homes a) (home k.homes to) n) (changed_by_code o (home k.homes to) number n)
+            (move_fits (home k.homes a) (home k.homes to) n (low_home a n i.left (omega arith)) (low_home to n i.result l))
+            (changed_by_fits sizes o (home k.homes to) number n (low_home to n i.result l))
+
+        by_number : (x : TakesSum op ⊎ TakesOrder op) → (told : Option Told) (number : ℤ)
+            → Fit sizes (taking_code (Some number) told (family_of op) left right (home k.homes a) (home k.homes b) (home k.homes to)
+            a.bytes n)
+        by_number (inl x) None number =
+            rw x.is (by_sum x.operator (subst (λ z. IsBinary z k.slots to a b ty aty bty) x.is h) (low_bytes 16 number))
+        by_number (inl x) (Some told) number =
+            let i = subst (λ z. IsBinary z k.slots to a b ty aty bty) x.is h in
+            compared_with_fits sizes (home k.homes a) (low_bytes 16 number) a.bytes (at_home a i.left)
+        by_number (inr x) None number =
+            let i = subst (λ z. IsBinary z k.slots to a b ty aty bty) x.is h in
+            let own = binary_fits (Compared x.relation false) to a b ty aty bty left right n i l in
+            rw x.is (put_fits (low_bytes 16 number) n b a.bytes
+            (binary_code (Compared x.relation false) left right (home k.homes a) (home k.homes b) (home k.homes to) a.bytes n) i.right
+            (let same = i.same_bytes in omega arith) own)
+        by_number (inr x) (Some told) number =
+            let i = subst (λ z. IsBinary z k.slots to a b ty aty bty) x.is h in
+            compared_with_fits sizes (home k.homes a) (low_bytes 16 number) a.bytes (at_home a i.left)
+
+        by_taken : (x : Option ℤ) → number_taken known false op ≡ x
+            → Fit sizes (taking_code x telling (family_of op) left right (home k.homes a) (home k.homes b) (home k.homes to) a.bytes n)
+        by_taken None q = operator_fits telling (family_of op) to a b ty aty bty left right n h l
+        by_taken (Some number) q = by_number (takes op (taken_is op known number q).1) telling number
+
     -- an operation on integers, one with a fixed-point type, or one on pointers
-    of_binary : (telling : Option Told) (op : BinOp) (ty aty bty : PlainType) (mode : Mode) (to a b : Temp) (n : ℕ)
+    of_binary : (known : Option ℤ) (telling : Option Told) (op : BinOp) (ty aty bty : PlainType) (mode : Mode) (to a b : Temp) (n : ℕ)
         → IsBinary (family_of op) k.slots to a b ty aty bty
         ⊎ (IsFixedBinary k.slots op to a b ty aty bty ⊎ IsPointerBinary p k.slots op to a b ty aty bty) → n ≤ to.bytes
         → Fit sizes (by_kind (is_fixed aty || is_fixed bty)
@@ -523,32 +572,32 @@ module _ (sizes : Sizes) where
         (by_kind (is_pointer aty || is_pointer bty)
         (pointer_binary (is_pointer aty) (is_pointer bty) p op aty bty (home k.homes a) (home k.homes b) (home k.homes to)
         a.bytes b.bytes n)
-        (operator_code telling (family_of op) (is_signed aty) (is_signed bty) (home k.homes a) (home k.homes b)
-        (home k.homes to) a.bytes n)))
-    of_binary telling op ty aty bty mode to a b n (inl h) l =
+        (integer_binary known telling op (is_signed aty) (is_signed bty) (home k.homes a) (home k.homes b) (home k.homes to)
+        a.bytes n)))
+    of_binary known telling op ty aty bty mode to a b n (inl h) l =
         let own = fixed_binary telling op ty aty bty mode (home k.homes a) (home k.homes b) (home k.homes to) a.bytes n in
         let pointed = pointer_binary (is_pointer aty) (is_pointer bty) p op aty bty (home k.homes a) (home k.homes b)
         (home k.homes to) a.bytes b.bytes n in
-        let usual = operator_code telling (family_of op) (is_signed aty) (is_signed bty) (home k.homes a) (home k.homes b)
+        let usual = integer_binary known telling op (is_signed aty) (is_signed bty) (home k.homes a) (home k.homes b)
         (home k.homes to) a.bytes n in
         others_fit sizes (is_fixed aty || is_fixed bty) own (by_kind (is_pointer aty || is_pointer bty) pointed usual)
         (no_fixed (family_of op) k.slots to a b ty aty bty h)
         (others_fit sizes (is_pointer aty || is_pointer bty) pointed usual
         (no_pointer (family_of op) k.slots to a b ty aty bty h)
-        (operator_fits telling (family_of op) to a b ty aty bty (is_signed aty) (is_signed bty) n h l))
-    of_binary telling op ty aty bty mode to a b n (inr (inl h)) l =
+        (taking_fits op known telling to a b ty aty bty (is_signed aty) (is_signed bty) n h l))
+    of_binary known telling op ty aty bty mode to a b n (inr (inl h)) l =
         let own = fixed_binary telling op ty aty bty mode (home k.homes a) (home k.homes b) (home k.homes to) a.bytes n in
         let pointed = pointer_binary (is_pointer aty) (is_pointer bty) p op aty bty (home k.homes a) (home k.homes b)
         (home k.homes to) a.bytes b.bytes n in
-        let usual = operator_code telling (family_of op) (is_signed aty) (is_signed bty) (home k.homes a) (home k.homes b)
+        let usual = integer_binary known telling op (is_signed aty) (is_signed bty) (home k.homes a) (home k.homes b)
         (home k.homes to) a.bytes n in
         own_fits sizes (is_fixed aty || is_fixed bty) own (by_kind (is_pointer aty || is_pointer bty) pointed usual)
         (either_fixed aty bty h.types.fixed) (fixed_binary_fits telling op ty aty bty mode to a b n h l)
-    of_binary telling op ty aty bty mode to a b n (inr (inr h)) l =
+    of_binary known telling op ty aty bty mode to a b n (inr (inr h)) l =
         let own = fixed_binary telling op ty aty bty mode (home k.homes a) (home k.homes b) (home k.homes to) a.bytes n in
         let pointed = pointer_binary (is_pointer aty) (is_pointer bty) p op aty bty (home k.homes a) (home k.homes b)
         (home k.homes to) a.bytes b.bytes n in
-        let usual = operator_code telling (family_of op) (is_signed aty) (is_signed bty) (home k.homes a) (home k.homes b)
+        let usual = integer_binary known telling op (is_signed aty) (is_signed bty) (home k.homes a) (home k.homes b)
         (home k.homes to) a.bytes n in
         others_fit sizes (is_fixed aty || is_fixed bty) own (by_kind (is_pointer aty || is_pointer bty) pointed usual)
         (pointers_only op ty aty bty h.pointer h.types).0
@@ -710,62 +759,63 @@ module _ (sizes : Sizes) where
       wanted_few : (need : Need) (to : Option Temp) (t : Temp) → to ≡ Some t → wanted_result need to ≤ t.bytes
       wanted_few need to t e = rw e (omega arith)
 
-      pub operation_passes : (results : ℕ → ℕ) (f : ℕ) (called : List ℕ) (told telling : Option Told) (need : Need) (i : PlainIr)
+      pub operation_passes : (results : ℕ → ℕ) (f : ℕ) (called : List ℕ) (told telling : Option Told) (known : Option ℤ) (need : Need)
+          (i : PlainIr)
           → IsCovered p results f called k.slots i → AcceptsLabels q k i
-          → list_all q (op_code p (home k.homes) k told telling need i) ≡ true
-      operation_passes results f called told telling need (constant t n) h a =
+          → list_all q (op_code p (home k.homes) k told telling known need i) ≡ true
+      operation_passes results f called told telling known need (constant t n) h a =
           by_fit (constant_code (home k.homes t) (low_bytes 16 n) (wanted need t))
           (constant_fits sizes (home k.homes t) (low_bytes 16 n) (wanted need t) (low_home t (wanted need t) h (omega arith)))
-      operation_passes results f called told telling need (copy to from) h a =
+      operation_passes results f called told telling known need (copy to from) h a =
           let e = h.2 in
           by_fit (move_code (home k.homes from) (home k.homes to) (wanted need to))
           (move_fits (home k.homes from) (home k.homes to) (wanted need to) (low_home from (wanted need to) h.1 (omega arith))
           (low_home to (wanted need to) h.0 (omega arith)))
-      operation_passes results f called told telling need (load_object t o offset) h a =
+      operation_passes results f called told telling known need (load_object t o offset) h a =
           by_fit (banked_code (home_of p o) p.objects o offset (home k.homes t) t.bytes) (bank_fits (home_of p o) o offset t h.0 h.1)
-      operation_passes results f called told telling need (store_object o offset t) h a =
+      operation_passes results f called told telling known need (store_object o offset t) h a =
           by_fit (copy_code (home k.homes t) (object_location p.objects o offset) t.bytes)
           (copy_fits sizes (home k.homes t) (object_location p.objects o offset) t.bytes (at_home t h.0)
           (objects.scalars o offset t.bytes h.1))
-      operation_passes results f called told telling need (binary_op op ty mode to x aty y bty) h a =
-          by_fit (op_code p (home k.homes) k told telling need (binary_op op ty mode to x aty y bty))
-          (of_binary telling op ty aty bty mode to x y (wanted need to) h (omega arith))
-      operation_passes results f called told telling need (unary_op op ty mode to x) h a =
-          by_fit (op_code p (home k.homes) k told telling need (unary_op op ty mode to x))
+      operation_passes results f called told telling known need (binary_op op ty mode to x aty y bty) h a =
+          by_fit (op_code p (home k.homes) k told telling known need (binary_op op ty mode to x aty y bty))
+          (of_binary known telling op ty aty bty mode to x y (wanted need to) h (omega arith))
+      operation_passes results f called told telling known need (unary_op op ty mode to x) h a =
+          by_fit (op_code p (home k.homes) k told telling known need (unary_op op ty mode to x))
           (of_unary op ty mode to x (wanted need to) h (omega arith))
-      operation_passes results f called told telling need (conversion to ty mode x aty) h a =
-          by_fit (op_code p (home k.homes) k told telling need (conversion to ty mode x aty))
+      operation_passes results f called told telling known need (conversion to ty mode x aty) h a =
+          by_fit (op_code p (home k.homes) k told telling known need (conversion to ty mode x aty))
           (of_conversion ty aty mode to x (wanted need to) h (omega arith))
-      operation_passes results f called told telling need (label l) h a = rw a refl
-      operation_passes results f called told telling need (jump l) h a = rw a refl
-      operation_passes results f called told telling need (branch_zero t l) h a = tested_passes told t (k.label_of l) h a
-      operation_passes results f called told telling need (call_function g to) h a =
+      operation_passes results f called told telling known need (label l) h a = rw a refl
+      operation_passes results f called told telling known need (jump l) h a = rw a refl
+      operation_passes results f called told telling known need (branch_zero t l) h a = tested_passes told t (k.label_of l) h a
+      operation_passes results f called told telling known need (call_function g to) h a =
           call_passes results g to (wanted_result need to) (kept_need need (call_function g to)) h (wanted_few need to) a
-      operation_passes results f called told telling need (return_from from) h a = return_passes results f k.is_main from h
-      operation_passes results f called told telling need (address t o offset) h a =
+      operation_passes results f called told telling known need (return_from from) h a = return_passes results f k.is_main from h
+      operation_passes results f called told telling known need (address t o offset) h a =
           by_fit (addressed_code p o offset (home k.homes t) t.bytes (wanted need t))
           (addressed_fits sizes laws.pointers p o offset (home k.homes t) t.bytes (wanted need t) h.size
           (home_leaves k.homes k.slots room t h.result) (objects.offsets o offset h.declared h.is_object h.within))
-      operation_passes results f called told telling need (field ptr space offset) h a =
+      operation_passes results f called told telling known need (field ptr space offset) h a =
           let two = some_width space in let e = h.1 in
           by_fit (field_code (home k.homes ptr) offset)
           (field_fits sizes laws.pointers (home k.homes ptr) offset (low_home ptr 2 h.0 (omega (arith, two, e))))
-      operation_passes results f called told telling need (load_at to ptr space) h a =
+      operation_passes results f called told telling known need (load_at to ptr space) h a =
           let few = h.0.most in let e = h.1.1 in
           by_fit (load_code space (home k.homes ptr) (home k.homes to) to.bytes)
           (load_fits sizes laws.pointers space (home k.homes ptr) (home k.homes to) to.bytes (omega (arith, few))
           (low_leaves ptr (width space) h.1.0 (omega (arith, e))) (home_leaves k.homes k.slots room to h.0))
-      operation_passes results f called told telling need (store_at ptr space from) h a =
+      operation_passes results f called told telling known need (store_at ptr space from) h a =
           let few = h.0.most in let two = some_width space in let e = h.1.1 in
           by_fit (store_data_code (home k.homes from) (home k.homes ptr) from.bytes)
           (store_fits sizes laws.pointers (home k.homes from) (home k.homes ptr) from.bytes (omega (arith, few))
           (low_leaves ptr 2 h.1.0 (omega (arith, two, e))) (home_leaves k.homes k.slots room from h.0))
-      operation_passes results f called told telling need (port_in to port index width) h a =
+      operation_passes results f called told telling known need (port_in to port index width) h a =
           let there = option_map (home k.homes) index in
           by_fit (in_code there (home k.homes to) port width (wanted need to))
           (in_fits sizes there (home k.homes to) port width h.address h.one_two_four (index_fits index h.index_has)
           (low_home to width h.number h.within) (wanted need to) (low_home to (wanted need to) h.number (omega arith)))
-      operation_passes results f called told telling need (port_out from port index width) h a =
+      operation_passes results f called told telling known need (port_out from port index width) h a =
           let there = option_map (home k.homes) index in
           by_fit (out_code there (home k.homes from) port width)
           (out_fits sizes there (home k.homes from) port width h.address h.one_two_four (index_fits index h.index_has)
@@ -773,12 +823,12 @@ module _ (sizes : Sizes) where
 
       -- all operations
 
-      pub operations_pass : (results : ℕ → ℕ) (f : ℕ) (called : List ℕ) (at : ℕ → Need) (told : Option Told) (code : List PlainIr)
+      pub operations_pass : (results : ℕ → ℕ) (f : ℕ) (called : List ℕ) (at : Facts) (told : Option Told) (code : List PlainIr)
           → AreCovered p results f called k.slots code → AllAccepted q k code
           → list_all q (ops_code p (home k.homes) k at told code) ≡ true
       operations_pass results f called at told [] h a = refl
       operations_pass results f called at told (i ∷ code) h a =
-          joined q (op_code p (home k.homes) k told (tells_next at i code) (needs at code) i)
+          joined q (op_code p (home k.homes) k told (tells_next at i code) (at.known (i ∷ code)) (needs at code) i)
           (ops_code p (home k.homes) k at (tells_next at i code) code)
-          (operation_passes results f called told (tells_next at i code) (needs at code) i h.0 a.0)
+          (operation_passes results f called told (tells_next at i code) (at.known (i ∷ code)) (needs at code) i h.0 a.0)
           (operations_pass results f called at (tells_next at i code) code h.1 a.1)

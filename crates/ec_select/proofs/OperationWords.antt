@@ -1,7 +1,7 @@
 -- The words of operations' code.
 use Rattle.std.proofs.Common.{◌≡◌, ◌⊎◌, ℕ, zero, suc, ◌+◌, ◌-◌, ◌*◌, ◌≤◌, ◌==◌, Bool, true, false, not, List, [], ◌∷◌, ◌++◌}
 use Rattle.std.proofs.Common.{◌%◌, refl, sym, ap, ◌∙◌, subst, arith, leb-true, eqb-true, inl, inr}
-use Rattle.std.specs.Prelude.{⊤, min, nat_le, ◌&&◌, ◌||◌, if◌then◌else◌, Option, Some, None, option_map}
+use Rattle.std.specs.Prelude.{⊤, min, nat_le, ◌&&◌, ◌||◌, if◌then◌else◌, Option, Some, None, option_map, ℤ}
 use Rattle.std.specs.List.{AllByRecursion}
 use Rattle.std.proofs.Math.Nat.{mul-le-mul_left}
 use Rattle.std.proofs.lemmas.Bool.{le-leb, false≢true}
@@ -42,7 +42,7 @@ use Rattle.ec_select_fixed.specs.FixedLaws.{FixedBinariesHave, FixedUnariesHave,
 use Rattle.ec_select_bytes.specs.Complements.{negation_code}
 use Rattle.ec_select_bytes.specs.ComplementLaws.{ComplementsHave}
 use Rattle.ec_select_bytes.specs.Laws.{ValuesHave}
-use Rattle.ec_select_bytes.specs.Values.{test_code, extend_code}
+use Rattle.ec_select_bytes.specs.Values.{test_code, extend_code, constant_code}
 use Rattle.ec_select_order.specs.declared.relations.Relation.{Relation}
 use Rattle.ec_select_order.specs.Laws.{RelationsHaveWords}
 use Rattle.ec_select_order.specs.Relations.{relation_code, truth_code}
@@ -90,8 +90,14 @@ use Rattle.ec_select_functions.specs.Covered.{IsPointerBinary, IsPointerConversi
 use Rattle.ec_select_functions.proofs.OnIntegers.{whole_type}
 use Rattle.ec_select_functions.proofs.OnWholes.{on_wholes}
 use Rattle.ec_select_operations.specs.Emitted.{OfKind}
-use Rattle.ec_select_operations.specs.Homes.{home, result_location}
-use Rattle.ec_select_operations.specs.Needs.{Need, wanted, wanted_result, needs, is_fixed}
+use Rattle.ec_select_operations.specs.Homes.{home, result_location, HasHome}
+use Rattle.ec_select_functions.proofs.Taken.{TakesSum, TakesOrder, takes, taken_is}
+use Rattle.ec_select_functions.specs.Covered.{AreIntegers, AreCompared}
+use Rattle.ec_select_numbers.specs.ByNumber.{compared_code as compared_with_code}
+use Rattle.ec_select_numbers.specs.Laws.{NumbersAreStraight}
+use Rattle.ec_select_operations.specs.Code.{taking_code, integer_binary, by_number_code, changed_by_code}
+use Rattle.ec_select_operations.specs.Needs.{Need, Facts, wanted, wanted_result, needs, is_fixed, number_taken}
+use Rattle.ec_select.proofs.ByNumber.{changed_by_words, compared_with_words}
 use Rattle.ec_select_operations.specs.Places.{object_location}
 use Rattle.ec_select_operations.specs.Pointers.{is_pointer, is_into_data, home_of, tag_in, IsPointerSize}
 use Rattle.ec_select.specs.InPlace.{IsInPlace}
@@ -120,6 +126,7 @@ pub record WordLaws : Type 0 where
   pub steps : StepsAreShort
   pub conversions : ConversionsAreShort
   pub elements : ElementsAreShort
+  pub numbers : NumbersAreStraight
 
 move_words : (p q : Location) (n : ℕ) → code_words (move_code p q n) ≤ 4 * n
 move_words p q n = by_place (same_location p q) where
@@ -395,6 +402,101 @@ module _ (laws : WordLaws) where
       let y = binary_most op slots h to a b ty aty bty left right 1 i (result_some (family_of op) slots to a b ty aty bty i) same in
       omega (arith, x, y)
 
+  -- ---- known numbers
+
+  -- where the result comes to the place of the first operand, nothing has to be brought there
+  brought_words : (h : Homes) (to a : Temp) (n : ℕ) → to.at ≡ a.at → a.bytes ≡ to.bytes
+      → code_words (move_code (home h a) (home h to) n) ≡ 0
+  brought_words h to a n same bytes =
+      let e : home h a ≡ home h to = rw (bytes, ← same) refl in kept_words (home h a) (home h to) n e
+
+  taking_most : (known : Option ℤ) (telling : Option Told) (op : BinOp) (slots : ℕ) (h : Homes) (to a b : Temp)
+      (ty aty bty : PlainType) (left right : Bool) (n : ℕ) → IsBinary (family_of op) slots to a b ty aty bty → n ≤ to.bytes
+      → (is_bitwise op ≡ true → to.at ≡ a.at)
+      → code_words (integer_binary known telling op left right (home h a) (home h b) (home h to) a.bytes n)
+      ≤ binary_words op ty aty bty
+  taking_most known telling op slots h to a b ty aty bty left right n i l same = by_taken (number_taken known false op) refl
+    where
+      -- in the row of an operator there is room for five words a byte, and for more where it is not bitwise
+      row : (x : Bool) → is_bitwise op ≡ x → (words : ℕ) → words ≤ 9 * to.bytes → (x ≡ true → words ≤ 5 * to.bytes)
+          → (s : Bool) → ty ≡ integer s to.bytes → words ≤ binary_words op ty aty bty
+      row true q words most few s e = let y = bitwise_row op ty aty bty s to.bytes q e in let f = few refl in omega (arith, y, f)
+      row false q words most few s e =
+          let y = other_row op ty aty bty q in
+          let x = first_within ty aty bty s to.bytes e in
+          let z = within words (widest (ty ∷ aty ∷ bty ∷ [])) (omega (arith, x, most)) (some_within ty aty bty) in
+          omega (arith, y, z)
+
+      by_sum : (o : Operator) → AreIntegers slots to a b ty aty bty → (number : ℕ)
+          → code_words (move_code (home h a) (home h to) n ++ changed_by_code o (home h to) number n) ≤ binary_words op ty aty bty
+      by_sum o j number =
+          let first = move_code (home h a) (home h to) n in
+          let second = changed_by_code o (home h to) number n in
+          let x = move_words (home h a) (home h to) n in
+          let z = changed_by_words laws.numbers o (home h to) number n in
+          let both = joined_words first second in
+          row (is_bitwise op) refl (code_words (first ++ second)) (omega (arith, x, z, both, l))
+          (λ q. let w = brought_words h to a n (same q) j.left_bytes in omega (arith, w, z, both, l)) j.signed j.result_type
+
+      by_flag : HasHome slots a → (s : Bool) → aty ≡ integer s a.bytes → is_bitwise op ≡ false → (number : ℕ)
+          → code_words (compared_with_code (home h a) number a.bytes) ≤ binary_words op ty aty bty
+      by_flag ia s e q number =
+          let y = other_row op ty aty bty q in
+          let x = second_within ty aty bty s a.bytes e in
+          let z = compared_with_words laws.numbers (home h a) number a.bytes in
+          let w = within (code_words (compared_with_code (home h a) number a.bytes)) (widest (ty ∷ aty ∷ bty ∷ []))
+          (omega (arith, x, z)) (some_within ty aty bty) in
+          omega (arith, y, w)
+
+      by_order : (r : Relation) → AreCompared slots to a b aty bty → is_bitwise op ≡ false → (number : ℕ)
+          → code_words (by_number_code (Compared r false) left right (home h a) (home h b) (home h to) a.bytes number n)
+          ≤ binary_words op ty aty bty
+      by_order r j q number =
+          let put = constant_code (home h b) number a.bytes in
+          let own = compared_code r left (home h a) (home h b) (home h to) a.bytes n in
+          let y = other_row op ty aty bty q in
+          let x = second_within ty aty bty j.signed a.bytes j.left_type in
+          let few = j.result.most in
+          let c = (laws.values (home h b) number a.bytes a.bytes).0 in
+          let w = compared_most r left (home h a) (home h b) (home h to) a.bytes n (omega (arith, few, l)) in
+          let both = joined_words put own in
+          let u = unless_none n (10 * a.bytes + 55) (put ++ own) (omega (arith, c, w, both)) in
+          let z = within (code_words (if n == 0 then [] else put ++ own)) (widest (ty ∷ aty ∷ bty ∷ [])) (omega (arith, x, u))
+          (some_within ty aty bty) in
+          omega (arith, y, z)
+
+      no_bits : TakesOrder op → is_bitwise op ≡ false
+      no_bits x = by_op op x.relation x.is
+        where
+          by_op : (op : BinOp) (r : Relation) → family_of op ≡ Compared r false → is_bitwise op ≡ false
+          by_op And r q = absurd cc
+          by_op Or r q = absurd cc
+          by_op Xor r q = absurd cc
+          by_op op r q = refl
+
+      by_number : (x : TakesSum op ⊎ TakesOrder op) → (told : Option Told) (number : ℤ)
+          → code_words (taking_code (Some number) told (family_of op) left right (home h a) (home h b) (home h to) a.bytes n)
+          ≤ binary_words op ty aty bty
+      by_number (inl x) None number =
+          rw x.is (by_sum x.operator (subst (λ z. IsBinary z slots to a b ty aty bty) x.is i) (low_bytes 16 number))
+      by_number (inl x) (Some told) number =
+          let j = subst (λ z. IsBinary z slots to a b ty aty bty) x.is i in
+          let z = compared_with_words laws.numbers (home h a) (low_bytes 16 number) a.bytes in
+          let s = j.left_bytes in
+          row (is_bitwise op) refl (code_words (compared_with_code (home h a) (low_bytes 16 number) a.bytes)) (omega (arith, z, s))
+          (λ q. omega (arith, z, s)) j.signed j.result_type
+      by_number (inr x) None number =
+          rw x.is (by_order x.relation (subst (λ z. IsBinary z slots to a b ty aty bty) x.is i) (no_bits x) (low_bytes 16 number))
+      by_number (inr x) (Some told) number =
+          let j = subst (λ z. IsBinary z slots to a b ty aty bty) x.is i in
+          by_flag j.left j.signed j.left_type (no_bits x) (low_bytes 16 number)
+
+      by_taken : (x : Option ℤ) → number_taken known false op ≡ x
+          → code_words (taking_code x telling (family_of op) left right (home h a) (home h b) (home h to) a.bytes n)
+          ≤ binary_words op ty aty bty
+      by_taken None q = operator_most telling op slots h to a b ty aty bty left right n i l same
+      by_taken (Some number) q = by_number (takes op (taken_is op known number q).1) telling number
+
   -- ---- other operations
 
   unary_most : (op : UnOp) (slots : ℕ) (p q : Location) (to a : Temp) (ty : PlainType) (n : ℕ) → IsUnary slots to a ty
@@ -614,7 +716,7 @@ module _ (laws : WordLaws) where
 
   -- ---- operations on integers, with a fixed-point type, or on pointers
 
-  one_binary : (p : PlainProgram) (telling : Option Told) (op : BinOp) (ty aty bty : PlainType) (mode : Mode) (slots : ℕ)
+  one_binary : (p : PlainProgram) (known : Option ℤ) (telling : Option Told) (op : BinOp) (ty aty bty : PlainType) (mode : Mode) (slots : ℕ)
       (h : Homes) (to a b : Temp) (n : ℕ)
       → IsBinary (family_of op) slots to a b ty aty bty
       ⊎ (IsFixedBinary slots op to a b ty aty bty ⊎ IsPointerBinary p slots op to a b ty aty bty)
@@ -623,32 +725,32 @@ module _ (laws : WordLaws) where
       (fixed_binary telling op ty aty bty mode (home h a) (home h b) (home h to) a.bytes n)
       (by_kind (is_pointer aty || is_pointer bty)
       (pointer_binary (is_pointer aty) (is_pointer bty) p op aty bty (home h a) (home h b) (home h to) a.bytes b.bytes n)
-      (operator_code telling (family_of op) (is_signed aty) (is_signed bty) (home h a) (home h b) (home h to) a.bytes n)))
+      (integer_binary known telling op (is_signed aty) (is_signed bty) (home h a) (home h b) (home h to) a.bytes n)))
       ≤ binary_words op ty aty bty
-  one_binary p telling op ty aty bty mode slots h to a b n (inl i) l q =
+  one_binary p known telling op ty aty bty mode slots h to a b n (inl i) l q =
       let own = fixed_binary telling op ty aty bty mode (home h a) (home h b) (home h to) a.bytes n in
       let pointed = pointer_binary (is_pointer aty) (is_pointer bty) p op aty bty (home h a) (home h b) (home h to)
       a.bytes b.bytes n in
-      let usual = operator_code telling (family_of op) (is_signed aty) (is_signed bty) (home h a) (home h b) (home h to) a.bytes n in
+      let usual = integer_binary known telling op (is_signed aty) (is_signed bty) (home h a) (home h b) (home h to) a.bytes n in
       let most = binary_words op ty aty bty in
       let e = no_fixed (family_of op) slots to a b ty aty bty i in
       let same = subst (λ (k : Bool). OfKind k ⊤ (is_bitwise op ≡ true → to.at ≡ a.at)) e q in
       others_words (is_fixed aty || is_fixed bty) own (by_kind (is_pointer aty || is_pointer bty) pointed usual) most e
       (others_words (is_pointer aty || is_pointer bty) pointed usual most (no_pointer (family_of op) slots to a b ty aty bty i)
-      (operator_most telling op slots h to a b ty aty bty (is_signed aty) (is_signed bty) n i l same))
-  one_binary p telling op ty aty bty mode slots h to a b n (inr (inl i)) l q =
+      (taking_most known telling op slots h to a b ty aty bty (is_signed aty) (is_signed bty) n i l same))
+  one_binary p known telling op ty aty bty mode slots h to a b n (inr (inl i)) l q =
       let own = fixed_binary telling op ty aty bty mode (home h a) (home h b) (home h to) a.bytes n in
       let pointed = pointer_binary (is_pointer aty) (is_pointer bty) p op aty bty (home h a) (home h b) (home h to)
       a.bytes b.bytes n in
-      let usual = operator_code telling (family_of op) (is_signed aty) (is_signed bty) (home h a) (home h b) (home h to) a.bytes n in
+      let usual = integer_binary known telling op (is_signed aty) (is_signed bty) (home h a) (home h b) (home h to) a.bytes n in
       let most = binary_words op ty aty bty in
       own_words (is_fixed aty || is_fixed bty) own (by_kind (is_pointer aty || is_pointer bty) pointed usual) most
       (either_fixed aty bty i.types.fixed) (fixed_binary_most telling op ty aty bty mode slots h to a b n i l)
-  one_binary p telling op ty aty bty mode slots h to a b n (inr (inr i)) l q =
+  one_binary p known telling op ty aty bty mode slots h to a b n (inr (inr i)) l q =
       let own = fixed_binary telling op ty aty bty mode (home h a) (home h b) (home h to) a.bytes n in
       let pointed = pointer_binary (is_pointer aty) (is_pointer bty) p op aty bty (home h a) (home h b) (home h to)
       a.bytes b.bytes n in
-      let usual = operator_code telling (family_of op) (is_signed aty) (is_signed bty) (home h a) (home h b) (home h to) a.bytes n in
+      let usual = integer_binary known telling op (is_signed aty) (is_signed bty) (home h a) (home h b) (home h to) a.bytes n in
       let most = binary_words op ty aty bty in
       others_words (is_fixed aty || is_fixed bty) own (by_kind (is_pointer aty || is_pointer bty) pointed usual) most
       (pointers_only op ty aty bty i.pointer i.types).0
@@ -798,51 +900,56 @@ module _ (laws : WordLaws) where
     index_row h None = omega arith
     index_row h (Some t) = omega arith
 
-    operation_most : (told telling : Option Told) (need : Need) (i : PlainIr) → IsCovered p results f called k.slots i
-        → IsInPlace i → code_words (op_code p (home k.homes) k told telling need i) ≤ op_words i
-    operation_most told telling need (constant t n) h q =
+    operation_most : (told telling : Option Told) (known : Option ℤ) (need : Need) (i : PlainIr) → IsCovered p results f called k.slots i
+        → IsInPlace i → code_words (op_code p (home k.homes) k told telling known need i) ≤ op_words i
+    operation_most told telling known need (constant t n) h q =
         let a = (laws.values (home k.homes t) (low_bytes 16 n) (wanted need t) (wanted need t)).0 in omega (arith, a)
-    operation_most told telling need (copy to from) h q =
+    operation_most told telling known need (copy to from) h q =
         let a = move_words (home k.homes from) (home k.homes to) (wanted need to) in omega (arith, a)
-    operation_most told telling need (load_object t o offset) h q =
+    operation_most told telling known need (load_object t o offset) h q =
         bank_most (home_of p o) p.objects o offset (home k.homes t) t.bytes h.0.some
-    operation_most told telling need (store_object o offset t) h q =
+    operation_most told telling known need (store_object o offset t) h q =
         let a = copy_words_most (home k.homes t) (object_location p.objects o offset) t.bytes in omega (arith, a)
-    operation_most told telling need (binary_op op ty mode to a aty b bty) h q =
-        one_binary p telling op ty aty bty mode k.slots k.homes to a b (wanted need to) h (omega arith) q
-    operation_most told telling need (unary_op op ty mode to a) h q =
+    operation_most told telling known need (binary_op op ty mode to a aty b bty) h q =
+        one_binary p known telling op ty aty bty mode k.slots k.homes to a b (wanted need to) h (omega arith) q
+    operation_most told telling known need (unary_op op ty mode to a) h q =
         one_unary op ty mode k.slots k.homes to a (wanted need to) h (omega arith)
-    operation_most told telling need (conversion to ty mode a aty) h q =
+    operation_most told telling known need (conversion to ty mode a aty) h q =
         one_conversion ty aty mode k.slots k.homes to a (wanted need to) h (omega arith)
-    operation_most told telling need (label l) h q = omega arith
-    operation_most told telling need (jump l) h q = omega arith
-    operation_most told telling need (branch_zero t l) h q = tested_most told (home k.homes t) t.bytes (k.label_of l)
-    operation_most told telling need (call_function g to) h q =
+    operation_most told telling known need (label l) h q = omega arith
+    operation_most told telling known need (jump l) h q = omega arith
+    operation_most told telling known need (branch_zero t l) h q = tested_most told (home k.homes t) t.bytes (k.label_of l)
+    operation_most told telling known need (call_function g to) h q =
         call_most (home k.homes) k g to need (kept_need need (call_function g to)) width
-    operation_most told telling need (return_from from) h q = return_most (home k.homes) k.is_main from
-    operation_most told telling need (address t o offset) h q =
+    operation_most told telling known need (return_from from) h q = return_most (home k.homes) k.is_main from
+    operation_most told telling known need (address t o offset) h q =
         addressed_most p o offset (home k.homes t) t.bytes (wanted need t) h.size
-    operation_most told telling need (field ptr space offset) h q =
+    operation_most told telling known need (field ptr space offset) h q =
         let a = (laws.pointers 0 offset None (home k.homes ptr) (home k.homes ptr) 0).1 in omega (arith, a)
-    operation_most told telling need (load_at to ptr space) h q =
+    operation_most told telling known need (load_at to ptr space) h q =
         let a = load_most space (home k.homes ptr) (home k.homes to) to.bytes in omega (arith, a)
-    operation_most told telling need (store_at ptr space from) h q =
+    operation_most told telling known need (store_at ptr space from) h q =
         let a = (laws.pointers 0 0 None (home k.homes from) (home k.homes ptr) from.bytes).5 in omega (arith, a)
-    operation_most told telling need (port_in to port index width) h q =
+    operation_most told telling known need (port_in to port index width) h q =
         let x =
         in_words_most laws.values (option_map (home k.homes) index) (home k.homes to) port width
         (wanted need to) to.bytes h.one_two_four (omega arith) in
         let y = index_row k.homes index in omega (arith, x, y)
-    operation_most told telling need (port_out from port index width) h q =
+    operation_most told telling known need (port_out from port index width) h q =
         let x = out_words_most (option_map (home k.homes) index) (home k.homes from) port width in
         let y = index_row k.homes index in omega (arith, x, y)
 
-    pub operations_most : (at : ℕ → Need) (told : Option Told) (code : List PlainIr) → AreCovered p results f called k.slots code
+    pub operations_most : (at : Facts) (told : Option Told) (code : List PlainIr) → AreCovered p results f called k.slots code
         → AllByRecursion IsInPlace code
         → code_words (ops_code p (home k.homes) k at told code) ≤ operations_words code
     operations_most at told [] h q = omega arith
     operations_most at told (i ∷ code) h q =
         let next = tells_next at i code in
-        let a = operation_most told next (needs at code) i h.0 q.0 in let b = operations_most at next code h.1 q.1 in
-        omega
-        (arith, joined_words (op_code p (home k.homes) k told next (needs at code) i) (ops_code p (home k.homes) k at next code), a, b)
+        let a = operation_most told next (at.known (i ∷ code)) (needs at code) i h.0 q.0 in let b = operations_most at next code h.1 q.1 in
+        omega (
+          arith,
+          joined_words (op_code p (home k.homes) k told next (at.known (i ∷ code)) (needs at code) i)
+              (ops_code p (home k.homes) k at next code),
+          a,
+          b,
+        )

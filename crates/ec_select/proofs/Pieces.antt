@@ -66,7 +66,7 @@ module _ (sizes : Sizes) where
 
   -- ---- comparisons
 
-  compares_fits : (i : ℕ) → IsOfRegisters (compares i)
+  pub compares_fits : (i : ℕ) → IsOfRegisters (compares i)
   compares_fits zero d r x y = two_fit d r x y
   compares_fits (suc i) d r x y = two_fit d r x y
 

@@ -20,7 +20,7 @@ use Rattle.ec_asm_near.specs.Laws.{NoMoreWords}
 use Rattle.ec_select_operations.specs.Code.{ops_code}
 use Rattle.ec_select_operations.specs.Homes.{home}
 use Rattle.ec_select_functions.specs.Laws.{linkage_of}
-use Rattle.ec_select_operations.specs.Needs.{Need}
+use Rattle.ec_select_operations.specs.Needs.{Need, facts_of}
 use Rattle.ec_select_startup.specs.Laws.{StartupHasWords}
 use Rattle.ec_select_startup.specs.Startup.{startup_code}
 use Rattle.ec_select_startup.specs.declared.spans.Span.{Span}
@@ -84,9 +84,15 @@ module _ (laws : WordLaws) (startup : StartupHasWords) (p : PlainIrProgram) (val
   function_few f (Some g) e =
       let k = linkage_of p function_label f g.slots (made_with p (tables f) f g) in
       let room = has_room p valid f g e in
-      let a = operations_most laws (data_of p) has.results f (called_in g.code) k room.width (tables f) None g.code (has.functions f g e)
+      let a = operations_most laws (data_of p) has.results f (called_in g.code) k room.width (facts_of (tables f) g.code) None g.code
+      (has.functions f g e)
       (all_at (λ h. AllByRecursion IsInPlace h.code) p.functions f g in_place e) in
-      omega (arith, joined_words (Label (function_label f) ∷ []) (ops_code (data_of p) (home k.homes) k (tables f) None g.code), a)
+      omega (
+        arith,
+        joined_words (Label (function_label f) ∷ []) (ops_code (data_of p) (home k.homes) k
+            (facts_of (tables f) g.code) None g.code),
+        a,
+      )
 
   functions_few : (n : ℕ) → code_words (functions_code p tables n) ≤ functions_words (take n p.functions)
   functions_few zero = omega arith

@@ -17,7 +17,7 @@ use Rattle.ec_ir.specs.Operations.{data_of}
 use Rattle.ec_ir.specs.Valid.{ValidIr, ValidOperation, count, called_in}
 use Rattle.ec_asm_near.specs.Laws.{ProgramsStayValid}
 use Rattle.ec_select_operations.specs.Code.{Linkage}
-use Rattle.ec_select_operations.specs.Needs.{Need}
+use Rattle.ec_select_operations.specs.Needs.{Need, facts_of}
 use Rattle.ec_select_startup.specs.Laws.{StartupIsValid, StartupUsesMain, StartupPlacesNoLabel}
 use Rattle.ec_select_startup.specs.Startup.{startup_code}
 use Rattle.ec_select.specs.Labels.{entry_label, function_label, first_label}
@@ -63,7 +63,7 @@ module _ (laws : CodeLaws) (p : PlainIrProgram) (valid : ValidIr p) (has : HasCo
             let k = link p valid has laws.leaves laws.pieces tables f g in
             let rest =
             operations_pass (own_sizes p valid) (data_of p) k (has_room p valid f g e) (objects_fit p valid laws.leaves) laws.pieces
-            q passes has.results f (called_in g.code) (tables f) None g.code (has.functions f g e) (accepts f g e) in
+            q passes has.results f (called_in g.code) (facts_of (tables f) g.code) None g.code (has.functions f g e) (accepts f g e) in
             rw (labels (function_label f), rest) refl
 
   -- ---- fields

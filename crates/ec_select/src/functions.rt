@@ -9,6 +9,7 @@ use crate::labels::{homes_of, label_count};
 use ec_asm::AsmItem;
 use ec_core::leaves_fill_their_types;
 use ec_ir::{IrFunc, IrProgram};
+use ec_ir_known::right_numbers;
 use ec_select_live::{kept, live, valid_operations_have_places, wanted};
 use ec_select_operations::{Linking, function, needed_functions_are_written};
 use ec_space::{NoMemory, Seq};
@@ -55,10 +56,12 @@ fn add_function(
     valid_operations_have_places();
     needed_functions_are_written();
     let of = linking(ir, f, g, first);
-    let table = live(alloc, &g.code, g.slots)?;
-    let bytes = wanted(alloc, &table, &g.code, g.slots)?;
-    let rows = kept(alloc, &table, &g.code, g.slots)?;
-    function(out, ir, of, f, g.code.as_slice(), &bytes, &rows)?;
+    let known = right_numbers(alloc, &g.code, g.slots)?;
+    let numbers: &[Option<i128>] = &known;
+    let table = live(alloc, &g.code, numbers, g.slots)?;
+    let bytes = wanted(alloc, &table, &g.code, numbers, g.slots)?;
+    let rows = kept(alloc, &table, &g.code, numbers, g.slots)?;
+    function(out, ir, of, f, g.code.as_slice(), &bytes, &rows, numbers)?;
     Ok(())
 }
 

@@ -10,6 +10,7 @@ use ec_select_fixed::laws::{
     fixed_binaries_are_plain, fixed_binaries_are_short, fixed_conversions_are_plain,
     fixed_conversions_are_short, fixed_unaries_are_plain, fixed_unaries_are_short,
 };
+use ec_select_numbers::laws::numbers_are_operands;
 use ec_select_order::laws::relations_have_words;
 use ec_select_places::laws::{elements_are_formed, places_are_short, places_are_valid};
 use ec_select_pointers::laws::{pointers_are_straight, pointers_are_valid, tables_are_formed};
@@ -60,6 +61,7 @@ pub fn selections_have_words()
     tables_are_formed();
     places_are_short();
     elements_are_formed();
+    numbers_are_operands();
     startup_has_words();
     near_items_are_short();
 }

@@ -23,7 +23,7 @@ use Rattle.ec_select_operations.specs.Places.{ObjectLeaf, Chained, CanBeLiveToge
 use Rattle.ec_select_functions.specs.Relation.{AreFrames}
 use Rattle.ec_select_functions.specs.Standing.{home_address, ObjectStands}
 use Rattle.ec_select_functions.proofs.Moves.{outside_row}
-use Rattle.ec_select_functions.proofs.Setting.{Setting, FixedLaws, PointerLaws}
+use Rattle.ec_select_functions.proofs.Setting.{Setting, FixedLaws, PointerLaws, NumberLaws}
 use Rattle.ec_select_functions.proofs.Standing.{InRegister, InScratch, kinds, ends_low, homes_are_laid_out}
 use Rattle.ec_select_functions.proofs.Standing.{leaf_where, lies}
 
@@ -37,6 +37,7 @@ pub record World (p : PlainIrProgram) (e : Env) (place entry_of : ℕ → ℕ) :
   pub taken : BytesAreTakenInOrder
   pub fixed : FixedLaws
   pub pointers : PointerLaws
+  pub numbers : NumberLaws
   pub low : ℕ
   pub top : ℕ
   pub high : 256 ≤ low
@@ -276,6 +277,7 @@ module _ (p : PlainIrProgram) (e : Env) (place entry_of : ℕ → ℕ) (w : Worl
     work_aside = a.work;
     fixed = w.fixed;
     pointers = w.pointers;
+    numbers = w.numbers;
     objects_stand = (selected_of f g a.is).objects_stand.each;
     objects_apart = (selected_of f g a.is).objects_stand.apart;
     tables_stand = w.selected.tables;

@@ -34,7 +34,7 @@ use Rattle.ec_select_operations.specs.Code.{move_code, register_places}
 use Rattle.ec_select_functions.specs.Covered.{IsResult}
 use Rattle.ec_select_operations.specs.Homes.{home, HasHome, result_register, result_location}
 use Rattle.ec_select_functions.specs.Laws.{IsSelected, linkage_of}
-use Rattle.ec_select_operations.specs.Needs.{Need, needs, wanted, wanted_result, without_result}
+use Rattle.ec_select_operations.specs.Needs.{Need, Facts, facts_of, needs, wanted, wanted_result, without_result}
 use Rattle.ec_select_operations.specs.Places.{ObjectLeaf}
 use Rattle.ec_select_functions.specs.Relation.{accesses, HoldsContent, FramesStand, Matches}
 use Rattle.ec_select_functions.proofs.Active.{World, Active, homes_of, scratch_of, base_of, leaf_at, leaf_is}
@@ -101,7 +101,8 @@ module _ (p : PlainIrProgram) (e : Env) (place entry_of : ℕ → ℕ) (w : Worl
         inside = λ c q. q;
         here = record { active = a.runs; stacked = stacked };
         stands = subst (λ i. HasAt e (ops_code D (home (homes_of p e place entry_of w b))
-            (linkage_of p entry_of b gb.slots (w.selected.made b)) (w.selected.made b).labels None gb.code) i x.end) mid stands.2;
+            (linkage_of p entry_of b gb.slots (w.selected.made b))
+            (facts_of (w.selected.made b).labels gb.code) None gb.code) i x.end) mid stands.2;
       }
 
   module _ (f : ℕ) (g : PlainIrFunction) (s : ℕ) (aside : ℕ → Bool) (was : ℕ → ℕ) (a : Active p e place entry_of w f g s aside was)
@@ -130,6 +131,9 @@ module _ (p : PlainIrProgram) (e : Env) (place entry_of : ℕ → ℕ) (w : Worl
 
     abbrev labels : ℕ → Need
     labels = (w.selected.made f).labels
+
+    abbrev at : Facts
+    at = facts_of labels g.code
 
     abbrev link : Linkage
     link = linkage_of p entry_of f slots (w.selected.made f)
@@ -182,13 +186,13 @@ module _ (p : PlainIrProgram) (e : Env) (place entry_of : ℕ → ℕ) (w : Worl
         (returns : (j : ℕ) → j ≤ n → Returns p e place entry_of w f g a.functions aside was stack j)
         (b : ℕ) (gb : PlainIrFunction) (is : slice_get p.functions b ≡ Some gb) (there : Contains (called_in g.code) b)
         (to : Option Temp) (result_is : IsResult w.selected.results b slots to) (rest : List PlainIr) (m : Mach) (v : View)
-        (before : MM (without_result to (needs labels rest)) m v) (back end0 mid3 : ℕ) (room : back < 65536)
-        (taken_at : HasAt e (taken_code hs to (wanted_result (needs labels rest) to)) back mid3)
-        (restore_at : HasAt e (restore_code link (without_result to (needs labels rest))) mid3 end0)
+        (before : MM (without_result to (needs at rest)) m v) (back end0 mid3 : ℕ) (room : back < 65536)
+        (taken_at : HasAt e (taken_code hs to (wanted_result (needs at rest) to)) back mid3)
+        (restore_at : HasAt e (restore_code link (without_result to (needs at rest))) mid3 end0)
         (ready : Ready D p.functions e slots hs bs place
         (setting_of p e place entry_of w f g s aside was a) labels g.code x.end w.selected.results f link stack end0 rest) where
       abbrev need : Need
-      need = needs labels rest
+      need = needs at rest
 
       abbrev need0 : Need
       need0 = without_result to need
@@ -377,7 +381,8 @@ module _ (p : PlainIrProgram) (e : Env) (place entry_of : ℕ → ℕ) (w : Worl
       -- it begins with the caller's objects
       entered : MM need0 m v → (st : State) → st.objects ≡ m.state.objects → st.events ≡ m.state.events
           → Matches D e w.inputs gb.slots (base_of p e place entry_of w b) place aside_b (pushed back v1).at
-          a.functions (called_in g.code) (needs (w.selected.made b).labels gb.code) (machine no_temps st) (pushed back v1)
+          a.functions (called_in g.code) (needs (facts_of (w.selected.made b).labels gb.code) gb.code) (machine no_temps st)
+          (pushed back v1)
       entered z st objects events = record {
         temps_hold = λ t c it q r. absurd cc;
         leaves_hold = λ l y o q k. same_leaf D place v.at (pushed back v1).at (place l.object + l.at) l.bytes o (λ i r. leaf_kept l i r)
@@ -436,7 +441,7 @@ module _ (p : PlainIrProgram) (e : Env) (place entry_of : ℕ → ℕ) (w : Worl
         st = worked (op_steps (call_function b to)) m.state
 
         need : Need
-        need = needs labels rest
+        need = needs at rest
 
         there : Contains (called_in g.code) b
         there = r.inside b (0, omega arith, refl)
@@ -452,7 +457,7 @@ module _ (p : PlainIrProgram) (e : Env) (place entry_of : ℕ → ℕ) (w : Worl
             let taken = taken_code hs to (wanted_result need to) in
             let restore = restore_code link need0 in
             let code = call_code hs link b to (wanted_result need to) need0 in
-            let s0 = has_parts e code (ops_code D hs link labels None rest) pc x.end r.stands in
+            let s0 = has_parts e code (ops_code D hs link at None rest) pc x.end r.stands in
             let s1 = has_parts e save (CallTo (entry_of b) ∷ (taken ++ restore)) pc s0.0 s0.1 in
             let back = s1.2.0 in
             let s2 = has_parts e taken restore back s0.0 s1.2.2 in
@@ -493,7 +498,7 @@ module _ (p : PlainIrProgram) (e : Env) (place entry_of : ℕ → ℕ) (w : Worl
             let matches =
             kept_matches D e w.inputs gb.slots (base_of p e place entry_of w b) place (aside_by aside scratch (16 * slots) s) v2.at
             a.functions (called_in g.code) active1.functions (called_in gb.code)
-            (needs (w.selected.made b).labels gb.code) (b ∷ around) no_temps st v2 (inl stacked)
+            (needs (facts_of (w.selected.made b).labels gb.code) gb.code) (b ∷ around) no_temps st v2 (inl stacked)
             (entered n below returns b gb is there to r.covered.0 rest m v z back s0.0 s2.0 room s2.1 s2.2 ready z st refl refl) in
             after D place e (code_steps save + 1) n (suc n) m.state.work st.work pc (e.word_of (entry_of b)) v v2
             (enter (Some gb) (go_on p e place entry_of w n) (frame ∷ stack) (machine no_temps st1))

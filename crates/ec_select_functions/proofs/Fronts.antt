@@ -7,7 +7,7 @@ use Rattle.ec_runs.proofs.Runs.{begin_itself, begin_onward}
 use Rattle.ec_space.specs.declared.space.SpaceId.TheVariants.{Flash}
 use Rattle.ec_space.specs.Spaces.{holds}
 use Rattle.ec_core.specs.declared.values.Undefined.{Undefined}
-use Rattle.ec_core.specs.declared.values.Undefined.TheVariants.{Unset, BufferIndex, ConstWrite}
+use Rattle.ec_core.specs.declared.values.Undefined.TheVariants.{Unset, BufferIndex, ConstWrite, Access as NoAccess}
 use Rattle.ec_core.specs.declared.values.Value.{Value}
 use Rattle.ec_core.specs.declared.values.Value.TheVariants.{Number, Pointer}
 use Rattle.ec_core.specs.Accesses.{referent_of, operand_of, Access, recorded, leaf_of, is_readable, read_value, read}
@@ -25,13 +25,14 @@ use Rattle.ec_ir.specs.Costs.{op_steps}
 use Rattle.ec_ir.specs.Meaning.{Mach, machine, held_as, pointer_in, held_pointer, number_in, held_number, object_access}
 use Rattle.ec_ir.specs.Meaning.{pointer_access, accessed_type, put_leaf, put, Frame, Place, place, find, Go, jump_to}
 use Rattle.ec_ir.specs.Meaning.{enter, returned, resulted, leave, element_of_port, in_ports, port_read, port_written}
-use Rattle.ec_ir.specs.Meaning.{perform, exec_from, pointer_at, put_named, put_object, before_store, kept_for, active}
+use Rattle.ec_ir.specs.Meaning.{perform, pointer_at, put_named, put_object, before_store, kept_for, active}
 use Rattle.ec_ir.specs.Operations.{PlainIr, constant, copy, address, field, load_at, store_at, load_object}
 use Rattle.ec_ir.specs.Operations.{store_object, binary_op, unary_op, conversion, label, jump, branch_zero}
 use Rattle.ec_ir.specs.Operations.{call_function, return_from, port_in, port_out, PlainIrFunction}
 use Rattle.ec_ir.specs.Temporaries.{Content, bits, points, value_in, value_of_type, is_zero, Held, Temps, no_temps}
 use Rattle.ec_ir.specs.Temporaries.{with_content, with_temp, read_held, held}
 use Rattle.ec_ir.specs.declared.operations.Temp.{Temp}
+use Rattle.ec_select_functions.proofs.Checked.{is_known, checked_on, performed}
 
 -- the events of what comes of a state begin with those of the state
 pub record Adds {A : Type 0} (s : State) (o : Outcome A) : Type 0 where
@@ -274,13 +275,18 @@ module _ (functions : List PlainIrFunction) (program : PlainProgram) (inputs : I
         (adds_ports at width (λ s3. got (Number (pos low)) (bytes_written width at low s3)) s2
         (adds_bytes_written width at low (Number (pos low)) s2)) (λ v s3. g (place code stack rest) (machine temps s3))))
 
-  pub exec_adds : (n : ℕ) (code : List PlainIr) (stack : List Frame) (rest : List PlainIr) (m : Mach)
-      → Adds m.state (exec_from functions program inputs n code stack rest m)
-  exec_adds zero code stack rest m = stays {A = Value} m.state (more m.state) refl
-  exec_adds (suc n) code stack [] m = stays {A = Value} m.state (exec_from functions program inputs (suc n) code stack [] m) refl
-  exec_adds (suc n) code stack (i ∷ rest) m =
-      adds_after m.state (worked (op_steps i) m.state) _ (begin_itself m.state.events)
-      (perform_adds (λ u. exec_from functions program inputs (suc n) code stack rest u)
-      (λ p u. exec_from functions program inputs n p.code p.stack p.rest u)
-      (λ u. exec_adds (suc n) code stack rest u) (λ p u. exec_adds n p.code p.stack p.rest u) i code stack rest m.temps
-      (worked (op_steps i) m.state))
+  checked_adds : (b : Bool) (o : Outcome Value) (s : State) → Adds s o → Adds s (if b then o else undefined NoAccess s)
+  checked_adds true o s h = h
+  checked_adds false o s h = stays {A = Value} s (undefined NoAccess s) refl
+
+  pub run_adds : (n : ℕ) (code : List PlainIr) (stack : List Frame) (rest : List PlainIr) (m : Mach)
+      → Adds m.state (checked_on functions program inputs n code stack rest m)
+  run_adds zero code stack rest m = stays {A = Value} m.state (more m.state) refl
+  run_adds (suc n) code stack [] m = stays {A = Value} m.state (undefined NoAccess m.state) refl
+  run_adds (suc n) code stack (i ∷ rest) m =
+      checked_adds (is_known code (i ∷ rest) m) (performed functions program inputs n code stack i rest m) m.state
+      (adds_after m.state (worked (op_steps i) m.state) _ (begin_itself m.state.events)
+      (perform_adds (λ u. checked_on functions program inputs (suc n) code stack rest u)
+      (λ p u. checked_on functions program inputs n p.code p.stack p.rest u)
+      (λ u. run_adds (suc n) code stack rest u) (λ p u. run_adds n p.code p.stack p.rest u) i code stack rest m.temps
+      (worked (op_steps i) m.state)))

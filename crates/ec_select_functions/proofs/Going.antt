@@ -12,20 +12,25 @@ use Rattle.ec_core.specs.Plain.{PlainProgram}
 use Rattle.ec_core.specs.State.{State, worked, Outcome}
 use Rattle.ec_ir.specs.declared.operations.Temp.{Temp}
 use Rattle.ec_ir.specs.Costs.{op_steps}
-use Rattle.ec_ir.specs.Meaning.{Mach, exec_from, Frame as Call, is_among, active as active_functions}
+use Rattle.ec_ir.specs.Meaning.{Mach, Frame as Call, is_among, active as active_functions}
 use Rattle.ec_ir.specs.Operations.{PlainIr, PlainIrFunction}
 use Rattle.ec_ir.specs.Valid.{called_in}
 use Rattle.ec_select_operations.specs.declared.families.Told.{Told}
 use Rattle.ec_select_operations.specs.Code.{Linkage, op_code, ops_code}
 use Rattle.ec_select_functions.specs.Covered.{AreCovered}
-use Rattle.ec_select_operations.specs.Needs.{Need, needs, IsLive}
+use Rattle.ec_select_operations.specs.Needs.{Need, Facts, facts_of, needs, IsLiveBy}
 use Rattle.ec_select_functions.specs.Relation.{Matches}
+use Rattle.ec_select_functions.proofs.Checked.{checked_on, performed}
 use Rattle.ec_select_functions.proofs.Follow.{Follows, after}
 use Rattle.ec_select_functions.proofs.Setting.{Setting}
 
 module _ (p : PlainProgram) (functions : List PlainIrFunction) (e : Env) (slots : ℕ) (home : Temp → Location)
-    (base : Temp → ℕ) (place : ℕ → ℕ) (y : Setting p e slots home base place) (at : ℕ → Need) (all : List PlainIr)
+    (base : Temp → ℕ) (place : ℕ → ℕ) (y : Setting p e slots home base place) (labels : ℕ → Need) (all : List PlainIr)
     (end : ℕ) (results : ℕ → ℕ) (me : ℕ) (link : Linkage) (stack : List Call) where
+  -- what the code of the function is made by
+  abbrev at : Facts
+  at = facts_of labels all
+
   abbrev pub M : Need → Mach → View → Type 0
   M need m v = Matches p e y.inputs slots base place y.aside y.was y.active y.called need m v
 
@@ -39,9 +44,9 @@ module _ (p : PlainProgram) (functions : List PlainIrFunction) (e : Env) (slots 
   abbrev pub items : List PlainIr → List AsmItem
   items code = items_told None code
 
-  -- that of one which has been told nothing, and tells nothing
+  -- that of one which has been told nothing, tells nothing, and takes no number
   abbrev pub code_of : PlainIr → List PlainIr → List AsmItem
-  code_of i rest = op_code p home link None None (needs at rest) i
+  code_of i rest = op_code p home link None None None (needs at rest) i
 
   -- the function runs: it is one of those that are active, which are main and those that were called
   pub record IsRunning : Type 0 where
@@ -51,25 +56,35 @@ module _ (p : PlainProgram) (functions : List PlainIrFunction) (e : Env) (slots 
   -- the operations that are left have their code from this word on
   pub record Ready (pc : ℕ) (rest : List PlainIr) : Type 0 where
     pub covered : AreCovered p results me y.called slots rest
-    pub live : IsLive at rest
+    pub live : IsLiveBy at rest
     pub inside : (b : ℕ) → Contains (called_in rest) b → Contains (called_in all) b
     pub here : IsRunning
     pub stands : HasAt e (items rest) pc end
 
   -- the run of operations from here on
   abbrev pub R : ℕ → List PlainIr → Mach → Outcome Value
-  R n rest m = exec_from functions p y.inputs n all stack rest m
+  R n rest m = checked_on functions p y.inputs n all stack rest m
 
-  -- straight code of an operation, and what comes after it
+  -- an operation, and those behind it
+  abbrev pub P : ℕ → PlainIr → List PlainIr → Mach → Outcome Value
+  P n i rest m = performed functions p y.inputs n all stack i rest m
+
+  -- straight code, and what comes after it
+  pub goes_past : (code behind : List AsmItem) (n n1 w w1 pc : ℕ) (v : View) (o : Outcome Value)
+      → HasAt e (code ++ behind) pc end → all_straight code ≡ true → n1 ≤ code_steps code + n → w + code_steps code ≤ w1
+      → ((mid : ℕ) → HasAt e behind mid end → G n w1 mid (block e code v) o) → G n1 w pc v o
+  goes_past code behind n n1 w w1 pc v o stands straight least most f =
+      let s = has_parts e code behind pc end stands in
+      let goes = block_goes e code pc s.0 v straight s.1 in
+      after p place e (code_steps code) n n1 w w1 pc s.0 v (block e code v) o goes least most (f s.0 s.2)
+
+  -- that of an operation
   pub passes : (i : PlainIr) (rest : List PlainIr) (n n1 w w1 pc : ℕ) (v : View) (o : Outcome Value)
       → HasAt e (code_of i rest ++ items rest) pc end → all_straight (code_of i rest) ≡ true
       → n1 ≤ code_steps (code_of i rest) + n → w + code_steps (code_of i rest) ≤ w1
       → ((mid : ℕ) → HasAt e (items rest) mid end → G n w1 mid (block e (code_of i rest) v) o) → G n1 w pc v o
   passes i rest n n1 w w1 pc v o stands straight least most f =
-      let s = has_parts e (code_of i rest) (items rest) pc end stands in
-      let goes = block_goes e (code_of i rest) pc s.0 v straight s.1 in
-      after p place e (code_steps (code_of i rest)) n n1 w w1 pc s.0 v (block e (code_of i rest) v) o goes least most
-      (f s.0 s.2)
+      goes_past (code_of i rest) (items rest) n n1 w w1 pc v o stands straight least most f
 
   -- what is shown of the rest
   abbrev pub Rest : ℕ → List PlainIr → Type 0

@@ -2,17 +2,20 @@
 pub mod Stacked
 pub mod OnIntegers
 pub mod OnWholes
+pub mod Taken
 -- For this crate alone.
 mod Wrapped
 mod Moves
 mod Match
 mod Computed
+mod ByNumber
 mod Accesses
 mod FixedRuns
 mod Limited
 mod Stopped
 mod Placed
 mod Follow
+mod Checked
 mod PortBytes
 mod PortStates
 mod PortReads

@@ -44,7 +44,7 @@ use Rattle.ec_select_pointers.specs.AddressLaws.{HasPut, IsTag, pointer_number}
 use Rattle.ec_select_operations.specs.Code.{Linkage, banked_code}
 use Rattle.ec_select_functions.specs.Covered.{HasScalarAt, IsStoredIn, IsAddress, IsInto}
 use Rattle.ec_select_operations.specs.Homes.{HasHome}
-use Rattle.ec_select_operations.specs.Needs.{Need, needs, wanted, at_least, without}
+use Rattle.ec_select_operations.specs.Needs.{Need, Facts, facts_of, needs, wanted, at_least, without}
 use Rattle.ec_select_operations.specs.Places.{location_in, kind_in, object_location, ObjectLeaf}
 use Rattle.ec_select_operations.specs.Pointers.{home_of, tag_of, tag_in, address_number, IsPointerSize, IsPointed}
 use Rattle.ec_select_operations.specs.Pointers.{IsPointerIn}
@@ -54,6 +54,7 @@ use Rattle.ec_select_functions.proofs.Accesses.{after_read, after_write, load_ma
 use Rattle.ec_select_functions.proofs.Accesses.{store_brings}
 use Rattle.ec_select_functions.proofs.Follow.{Follows, after}
 use Rattle.ec_select_functions.proofs.Going.{passes as passes_of, items as items_of, code_of as code_from, R as run_of}
+use Rattle.ec_select_functions.proofs.Going.{P as operation_of}
 use Rattle.ec_select_functions.proofs.Going.{Rest as ShownOf, begun as begun_of, IsRunning}
 use Rattle.ec_select_functions.proofs.Match.{wanted_most, whole, at_width, least_here, least_other, without_other}
 use Rattle.ec_select_functions.proofs.Match.{written, kept_matches}
@@ -110,8 +111,12 @@ some_bytes : (n : ℕ) → IsPointerSize n → (2 ≤ n) × (n ≤ 3)
 some_bytes n size = ⊎_elim (λ (q : n ≡ 2). (omega arith, omega arith)) (λ (q : n ≡ 3). (omega arith, omega arith)) size
 
 module _ (p : PlainProgram) (functions : List PlainIrFunction) (e : Env) (slots : ℕ) (home : Temp → Location)
-    (base : Temp → ℕ) (place : ℕ → ℕ) (y : Setting p e slots home base place) (at : ℕ → Need) (all : List PlainIr)
+    (base : Temp → ℕ) (place : ℕ → ℕ) (y : Setting p e slots home base place) (labels : ℕ → Need) (all : List PlainIr)
     (end : ℕ) (results : ℕ → ℕ) (me : ℕ) (link : Linkage) (stack : List Call) where
+  -- what the code of the function is made by
+  abbrev at : Facts
+  at = facts_of labels all
+
   abbrev M : Need → Mach → View → Type 0
   M need m v = Matches p e y.inputs slots base place y.aside y.was y.active y.called need m v
 
@@ -119,32 +124,35 @@ module _ (p : PlainProgram) (functions : List PlainIrFunction) (e : Env) (slots 
   G n w pc v o = Follows p place e n w pc v o
 
   abbrev items : List PlainIr → List AsmItem
-  items code = items_of p functions e slots home base place y at all end results me link stack code
+  items code = items_of p functions e slots home base place y labels all end results me link stack code
 
   abbrev code_of : PlainIr → List PlainIr → List AsmItem
-  code_of i rest = code_from p functions e slots home base place y at all end results me link stack i rest
+  code_of i rest = code_from p functions e slots home base place y labels all end results me link stack i rest
 
   abbrev R : ℕ → List PlainIr → Mach → Outcome Value
-  R n rest m = run_of p functions e slots home base place y at all end results me link stack n rest m
+  R n rest m = run_of p functions e slots home base place y labels all end results me link stack n rest m
+
+  abbrev P : ℕ → PlainIr → List PlainIr → Mach → Outcome Value
+  P n i rest m = operation_of p functions e slots home base place y labels all end results me link stack n i rest m
 
   abbrev Rest : ℕ → List PlainIr → Type 0
-  Rest n rest = ShownOf p functions e slots home base place y at all end results me link stack n rest
+  Rest n rest = ShownOf p functions e slots home base place y labels all end results me link stack n rest
 
   abbrev begun : PlainIr → Mach → State
-  begun i m = begun_of p functions e slots home base place y at all end results me link stack i m
+  begun i m = begun_of p functions e slots home base place y labels all end results me link stack i m
 
   passes : (i : PlainIr) (rest : List PlainIr) (n n1 w w1 pc : ℕ) (v : View) (o : Outcome Value)
       → HasAt e (code_of i rest ++ items rest) pc end → all_straight (code_of i rest) ≡ true
       → n1 ≤ code_steps (code_of i rest) + n → w + code_steps (code_of i rest) ≤ w1
       → ((mid : ℕ) → HasAt e (items rest) mid end → G n w1 mid (block e (code_of i rest) v) o) → G n1 w pc v o
-  passes = passes_of p functions e slots home base place y at all end results me link stack
+  passes = passes_of p functions e slots home base place y labels all end results me link stack
 
   -- ---- addresses
 
   pub address_follows : (t : Temp) (o offset : ℕ) (rest : List PlainIr) (n pc : ℕ) (m : Mach) (v : View)
       → IsAddress p slots t o offset → HasAt e (items (address t o offset ∷ rest)) pc end
       → M (needs at (address t o offset ∷ rest)) m v → Rest (suc n) rest
-      → G (suc n) m.state.work pc v (R (suc n) (address t o offset ∷ rest) m)
+      → G (suc n) m.state.work pc v (P n (address t o offset) rest m)
   address_follows t o offset rest n pc m v is stands h f =
       passes i rest (suc n) (suc n) m.state.work m1.state.work pc v (R (suc n) rest m1) stands (straight (k == 0)) (omega arith)
       (let few = steps (k == 0) in let some = it.some in omega (arith, few, some))
@@ -279,7 +287,7 @@ module _ (p : PlainProgram) (functions : List PlainIrFunction) (e : Env) (slots 
   pub field_follows : (ptr : Temp) (space : SpaceId) (offset : ℕ) (rest : List PlainIr) (n pc : ℕ) (m : Mach) (v : View)
       → IsInto slots space ptr → HasAt e (items (field ptr space offset ∷ rest)) pc end
       → M (needs at (field ptr space offset ∷ rest)) m v → Rest (suc n) rest
-      → G (suc n) m.state.work pc v (R (suc n) (field ptr space offset ∷ rest) m)
+      → G (suc n) m.state.work pc v (P n (field ptr space offset) rest m)
   field_follows ptr space offset rest n pc m v into stands h f =
       from_pointer p e slots home base place y ptr m.temps s _ (suc n) m.state.work pc v tt
       (λ q i. let k = whole p e slots home base place y need m v ptr _ h into.0 i refl in by_moved q k
@@ -384,7 +392,7 @@ module _ (p : PlainProgram) (functions : List PlainIrFunction) (e : Env) (slots 
   pub load_at_follows : (to ptr : Temp) (space : SpaceId) (rest : List PlainIr) (n pc : ℕ) (m : Mach) (v : View)
       → HasHome slots to → IsInto slots space ptr → HasAt e (items (load_at to ptr space ∷ rest)) pc end
       → M (needs at (load_at to ptr space ∷ rest)) m v → Rest n rest
-      → G (suc n) m.state.work pc v (R (suc n) (load_at to ptr space ∷ rest) m)
+      → G (suc n) m.state.work pc v (P n (load_at to ptr space) rest m)
   load_at_follows to ptr space rest n pc m v it into stands h f =
       from_pointer p e slots home base place y ptr m.temps s _ (suc n) m.state.work pc v tt
       (λ q i. let k = whole p e slots home base place y (without to.at need) m v ptr _ h into.0 i refl in
@@ -436,7 +444,7 @@ module _ (p : PlainProgram) (functions : List PlainIrFunction) (e : Env) (slots 
   pub store_at_follows : (ptr : Temp) (space : SpaceId) (from : Temp) (rest : List PlainIr) (n pc : ℕ) (m : Mach) (v : View)
       → HasHome slots from → IsInto slots space ptr → HasAt e (items (store_at ptr space from ∷ rest)) pc end
       → M (needs at (store_at ptr space from ∷ rest)) m v → Rest n rest
-      → G (suc n) m.state.work pc v (R (suc n) (store_at ptr space from ∷ rest) m)
+      → G (suc n) m.state.work pc v (P n (store_at ptr space from) rest m)
   store_at_follows ptr space from rest n pc m v it into stands h f =
       from_pointer p e slots home base place y ptr m.temps s _ (suc n) m.state.work pc v
       (from_no_access p e slots home base place y from m.temps s (store_on n rest m) (suc n) m.state.work pc v)
@@ -527,7 +535,7 @@ module _ (p : PlainProgram) (functions : List PlainIrFunction) (e : Env) (slots 
   pub load_follows : (t : Temp) (o offset : ℕ) (rest : List PlainIr) (n pc : ℕ) (m : Mach) (v : View) → HasHome slots t
       → HasScalarAt p o offset t.bytes → HasAt e (items (load_object t o offset ∷ rest)) pc end
       → M (needs at (load_object t o offset ∷ rest)) m v → Rest n rest
-      → G (suc n) m.state.work pc v (R (suc n) (load_object t o offset ∷ rest) m)
+      → G (suc n) m.state.work pc v (P n (load_object t o offset) rest m)
   load_follows t o offset rest n pc m v it has stands h f = at_object (slice_get m.state.objects o) refl
     where
       i : PlainIr
@@ -668,10 +676,10 @@ module _ (p : PlainProgram) (functions : List PlainIrFunction) (e : Env) (slots 
 
   pub store_follows : (o offset : ℕ) (t : Temp) (rest : List PlainIr) (n pc : ℕ) (m : Mach) (v : View) → HasHome slots t
       → HasScalarAt p o offset t.bytes → IsSomeAnd (slice_get p.objects o) (λ d. IsStoredIn me y.called d.storage)
-      → IsRunning p functions e slots home base place y at all end results me link stack
+      → IsRunning p functions e slots home base place y labels all end results me link stack
       → HasAt e (items (store_object o offset t ∷ rest)) pc end
       → M (needs at (store_object o offset t ∷ rest)) m v → Rest n rest
-      → G (suc n) m.state.work pc v (R (suc n) (store_object o offset t ∷ rest) m)
+      → G (suc n) m.state.work pc v (P n (store_object o offset t) rest m)
   store_follows o offset t rest n pc m v it has named running stands h f =
       subst (λ (z : Option PlainObject). G (suc n) m.state.work pc v (stored_in (option_map (λ (d : PlainObject). d.storage) z)))
       (sym has.is_object) (by_storage has.declared.storage refl named_in)

@@ -44,7 +44,7 @@ use Rattle.ec_core.specs.Typing.{IsIntegerType, HaveOffsetTypes}
 use Rattle.ec_ir.specs.declared.operations.Temp.{Temp}
 use Rattle.ec_core.specs.Words.{widest, operation_words}
 use Rattle.ec_ir.specs.Costs.{op_steps, binary_words, conversion_words, is_bitwise, is_integer}
-use Rattle.ec_ir.specs.Meaning.{Mach, machine, held_as, exec_from, Frame as Call}
+use Rattle.ec_ir.specs.Meaning.{Mach, machine, held_as, Frame as Call}
 use Rattle.ec_ir.specs.Operations.{PlainIr, binary_op, conversion, PlainIrFunction}
 use Rattle.ec_ir.specs.Temporaries.{Content, bits, points, content_of, value_of_type, is_in_space, Held, Temps, held}
 use Rattle.ec_ir.specs.Temporaries.{with_temp, with_content}
@@ -65,16 +65,18 @@ use Rattle.ec_select_operations.specs.declared.families.Told.{Told}
 use Rattle.ec_select_operations.specs.declared.families.Family.{Family}
 use Rattle.ec_select_operations.specs.declared.families.Family.TheVariants.{Compared}
 use Rattle.ec_select_operations.specs.Code.{is_apart}
-use Rattle.ec_select_operations.specs.Code.{Linkage, op_code, ops_code, told_by, family_of, is_signed, is_only_tested}
+use Rattle.ec_select_operations.specs.Code.{Linkage, op_code, ops_code, told_by, tells_next, family_of, is_signed}
+use Rattle.ec_select_operations.specs.Code.{is_only_tested}
 use Rattle.ec_select_operations.specs.Code.{wanted_bytes}
 use Rattle.ec_select_operations.specs.Code.{same_location, move_code, conversion_code, offset_code, is_difference}
 use Rattle.ec_select_operations.specs.Code.{pointers_code}
 use Rattle.ec_select_functions.specs.Covered.{IsPointerBinary, IsPointerConversion}
 use Rattle.ec_select_operations.specs.Homes.{HasHome}
-use Rattle.ec_select_operations.specs.Needs.{Need, needs, wanted, at_least, without, all_or_none}
+use Rattle.ec_select_operations.specs.Needs.{Need, Facts, facts_of, before, needs, wanted, at_least, without, all_or_none}
 use Rattle.ec_select_operations.specs.Places.{Apart, IsClear}
 use Rattle.ec_select_operations.specs.Pointers.{is_into_data, IsPointerIn, IsPointerSize, home_of}
 use Rattle.ec_select_functions.specs.Relation.{FramesStand, Matches, HoldsContent}
+use Rattle.ec_select_functions.proofs.Checked.{checked_on, performed}
 use Rattle.ec_select_functions.proofs.Follow.{Follows, after, from_held, next_next, held_is}
 use Rattle.ec_select_functions.proofs.Going.{passes}
 use Rattle.ec_select_functions.proofs.Match.{kept_left, wanted_most, read_first, at_width, written_wide, least_here}
@@ -606,8 +608,12 @@ no_count Sub count none h = none h
 no_count op count none h = h
 
 module _ (p : PlainProgram) (functions : List PlainIrFunction) (e : Env) (slots : ℕ) (home : Temp → Location)
-    (base : Temp → ℕ) (place : ℕ → ℕ) (y : Setting p e slots home base place) (at : ℕ → Need) (all : List PlainIr)
+    (base : Temp → ℕ) (place : ℕ → ℕ) (y : Setting p e slots home base place) (labels : ℕ → Need) (all : List PlainIr)
     (end : ℕ) (results : ℕ → ℕ) (me : ℕ) (link : Linkage) (stack : List Call) where
+  -- what the code of the function is made by
+  abbrev at : Facts
+  at = facts_of labels all
+
   abbrev M : Need → Mach → View → Type 0
   M need m v = Matches p e y.inputs slots base place y.aside y.was y.active y.called need m v
 
@@ -617,12 +623,25 @@ module _ (p : PlainProgram) (functions : List PlainIrFunction) (e : Env) (slots 
   abbrev items : List PlainIr → List AsmItem
   items code = ops_code p home link at None code
 
-  -- the code of an operation that has been told nothing, and tells nothing
+  -- the code of an operation that has been told nothing, tells nothing, and takes no number
   abbrev code_of : PlainIr → List PlainIr → List AsmItem
-  code_of i rest = op_code p home link None None (needs at rest) i
+  code_of i rest = op_code p home link None None None (needs at rest) i
+
+  -- an operation that takes no number, and those behind it
+  abbrev plain_items : PlainIr → List PlainIr → List AsmItem
+  plain_items i rest =
+      op_code p home link None (tells_next at i rest) None (needs at rest) i ++ ops_code p home link at (tells_next at i rest) rest
+
+  -- what is needed before it
+  abbrev plain_needs : PlainIr → List PlainIr → Need
+  plain_needs i rest = before labels None i (needs at rest)
 
   abbrev R : ℕ → List PlainIr → Mach → Outcome Value
-  R n rest m = exec_from functions p y.inputs n all stack rest m
+  R n rest m = checked_on functions p y.inputs n all stack rest m
+
+  -- an operation, and those behind it
+  abbrev P : ℕ → PlainIr → List PlainIr → Mach → Outcome Value
+  P n i rest m = performed functions p y.inputs n all stack i rest m
 
   abbrev Rest : ℕ → List PlainIr → Type 0
   Rest n rest = (pc : ℕ) (m : Mach) (v : View) → HasAt e (items rest) pc end → M (needs at rest) m v
@@ -655,7 +674,7 @@ module _ (p : PlainProgram) (functions : List PlainIrFunction) (e : Env) (slots 
   straight_passes i code t content rest n pc m v is straight few room stands matches f =
       let m1 = resulted t content (op_steps i) m in
       let steps : code_steps (code_of i rest) ≡ code_steps code = ap code_steps is in
-      passes p functions e slots home base place y at all end results me link stack i rest (suc n) (suc n)
+      passes p functions e slots home base place y labels all end results me link stack i rest (suc n) (suc n)
       m.state.work m1.state.work pc v (R (suc n) rest m1) stands
       (ap all_straight is ∙ straight) (omega arith) (omega (arith, steps, few, room))
       (λ mid u. f mid m1 _ u (subst (λ (w : List AsmItem). M (needs at rest) m1 (block e w v)) (sym is) matches))
@@ -809,8 +828,8 @@ module _ (p : PlainProgram) (functions : List PlainIrFunction) (e : Env) (slots 
       → IsPointerBinary p slots op t a b ty (pointer space const to) (integer signed bytes)
       → HasAt e (code_of (binary_op op ty mode t a (pointer space const to) b (integer signed bytes)) rest ++ items rest) pc end
       → M (operands_needed t a b (wanted (needs at rest) t) (needs at rest)) m v
-      → Rest (suc n) rest → G (suc n) m.state.work pc v (R (suc n)
-      (binary_op op ty mode t a (pointer space const to) b (integer signed bytes) ∷ rest) m)
+      → Rest (suc n) rest → G (suc n) m.state.work pc v
+      (P n (binary_op op ty mode t a (pointer space const to) b (integer signed bytes)) rest m)
   pointer_first op ty mode t a space const to b signed bytes rest n pc m v k stands h f =
       from_pointer p place e space const to a m.temps st _ (suc n) m.state.work pc v
       (λ x qa into. from_numeric p place e (integer signed bytes) b m.temps st _ (suc n) m.state.work pc v tt (sym k.right_bytes)
@@ -843,8 +862,8 @@ module _ (p : PlainProgram) (functions : List PlainIrFunction) (e : Env) (slots 
       → IsPointerBinary p slots Add t a b ty (integer signed bytes) (pointer space const to)
       → HasAt e (code_of (binary_op Add ty mode t a (integer signed bytes) b (pointer space const to)) rest ++ items rest) pc end
       → M (operands_needed t a b (wanted (needs at rest) t) (needs at rest)) m v
-      → Rest (suc n) rest → G (suc n) m.state.work pc v (R (suc n)
-      (binary_op Add ty mode t a (integer signed bytes) b (pointer space const to) ∷ rest) m)
+      → Rest (suc n) rest → G (suc n) m.state.work pc v
+      (P n (binary_op Add ty mode t a (integer signed bytes) b (pointer space const to)) rest m)
   pointer_second ty mode t a signed bytes b space const to rest n pc m v k stands h f =
       from_numeric p place e (integer signed bytes) a m.temps st _ (suc n) m.state.work pc v tt (sym k.left_bytes)
       (λ low qa. from_pointer p place e space const to b m.temps st _ (suc n) m.state.work pc v
@@ -876,8 +895,8 @@ module _ (p : PlainProgram) (functions : List PlainIrFunction) (e : Env) (slots 
       → IsPointerBinary p slots Sub t a b ty (pointer space const to) (pointer space2 const2 to2)
       → HasAt e (code_of (binary_op Sub ty mode t a (pointer space const to) b (pointer space2 const2 to2)) rest ++ items rest) pc end
       → M (operands_needed t a b (wanted (needs at rest) t) (needs at rest)) m v
-      → Rest (suc n) rest → G (suc n) m.state.work pc v (R (suc n)
-      (binary_op Sub ty mode t a (pointer space const to) b (pointer space2 const2 to2) ∷ rest) m)
+      → Rest (suc n) rest → G (suc n) m.state.work pc v
+      (P n (binary_op Sub ty mode t a (pointer space const to) b (pointer space2 const2 to2)) rest m)
   difference_follows ty mode t a space const to b space2 const2 to2 rest n pc m v k stands h f =
       from_pointer p place e space const to a m.temps st _ (suc n) m.state.work pc v
       (λ x qa into. from_pointer p place e space2 const2 to2 b m.temps st _ (suc n) m.state.work pc v
@@ -997,8 +1016,8 @@ module _ (p : PlainProgram) (functions : List PlainIrFunction) (e : Env) (slots 
       → IsPointerBinary p slots op t a b ty (pointer space const to) (pointer space2 const2 to2)
       → HasAt e (code_of (binary_op op ty mode t a (pointer space const to) b (pointer space2 const2 to2)) rest ++ items rest) pc end
       → M (operands_needed t a b (wanted (needs at rest) t) (needs at rest)) m v
-      → Rest (suc n) rest → G (suc n) m.state.work pc v (R (suc n)
-      (binary_op op ty mode t a (pointer space const to) b (pointer space2 const2 to2) ∷ rest) m)
+      → Rest (suc n) rest → G (suc n) m.state.work pc v
+      (P n (binary_op op ty mode t a (pointer space const to) b (pointer space2 const2 to2)) rest m)
   comparison_follows op r exchanged is compares relates ty mode t a space const to b space2 const2 to2 rest n pc m v
       one_space k stands h f =
       from_pointer p place e space const to a m.temps st _ (suc n) m.state.work pc v
@@ -1117,8 +1136,8 @@ module _ (p : PlainProgram) (functions : List PlainIrFunction) (e : Env) (slots 
       → IsPointerBinary p slots op t a b ty (pointer space const to) (pointer space2 const2 to2)
       → HasAt e (code_of (binary_op op ty mode t a (pointer space const to) b (pointer space2 const2 to2)) rest ++ items rest) pc end
       → M (operands_needed t a b (wanted (needs at rest) t) (needs at rest)) m v
-      → Rest (suc n) rest → G (suc n) m.state.work pc v (R (suc n)
-      (binary_op op ty mode t a (pointer space const to) b (pointer space2 const2 to2) ∷ rest) m)
+      → Rest (suc n) rest → G (suc n) m.state.work pc v
+      (P n (binary_op op ty mode t a (pointer space const to) b (pointer space2 const2 to2)) rest m)
   two_pointers Sub ty mode t a space const to b space2 const2 to2 rest n pc m v k stands h f =
       difference_follows ty mode t a space const to b space2 const2 to2 rest n pc m v k stands h f
   two_pointers Lt ty mode t a space const to b space2 const2 to2 rest n pc m v k stands h f =
@@ -1148,16 +1167,17 @@ module _ (p : PlainProgram) (functions : List PlainIrFunction) (e : Env) (slots 
       (rest : List PlainIr) (n pc : ℕ) (m : Mach) (v : View) → Type 0
   IsShown op ty mode t a aty b bty rest n pc m v =
       IsPointerBinary p slots op t a b ty aty bty
-      → HasAt e (items (binary_op op ty mode t a aty b bty ∷ rest)) pc end → M (needs at (binary_op op ty mode t a aty b bty ∷ rest)) m v
-      → Rest (suc n) rest → G (suc n) m.state.work pc v (R (suc n) (binary_op op ty mode t a aty b bty ∷ rest) m)
+      → HasAt e (plain_items (binary_op op ty mode t a aty b bty) rest) pc end → M
+      (plain_needs (binary_op op ty mode t a aty b bty) rest) m v
+      → Rest (suc n) rest → G (suc n) m.state.work pc v (P n (binary_op op ty mode t a aty b bty) rest m)
 
   -- where an operand is a pointer, nothing is told
   untold : (op : BinOp) (ty : PlainType) (mode : Mode) (t a : Temp) (aty : PlainType) (b : Temp) (bty : PlainType)
       (rest : List PlainIr) (pc : ℕ)
-      → is_apart (family_of op) mode ty aty bty ≡ true → HasAt e (items (binary_op op ty mode t a aty b bty ∷ rest)) pc end
+      → is_apart (family_of op) mode ty aty bty ≡ true → HasAt e (plain_items (binary_op op ty mode t a aty b bty) rest) pc end
       → HasAt e (code_of (binary_op op ty mode t a aty b bty) rest ++ items rest) pc end
   untold op ty mode t a aty b bty rest pc apart stands =
-      subst (λ (x : Option Told). HasAt e (op_code p home link None x (needs at rest)
+      subst (λ (x : Option Told). HasAt e (op_code p home link None x None (needs at rest)
       (binary_op op ty mode t a aty b bty) ++ ops_code p home link at x rest) pc end)
       (none (is_only_tested t (slice_get rest 0) (slice_index (wanted_bytes at rest) 0))) stands
     where
@@ -1168,8 +1188,9 @@ module _ (p : PlainProgram) (functions : List PlainIrFunction) (e : Env) (slots 
 
   pub pointer_binary_follows : (op : BinOp) (ty : PlainType) (mode : Mode) (t a : Temp) (aty : PlainType) (b : Temp) (bty : PlainType)
       (rest : List PlainIr) (n pc : ℕ) (m : Mach) (v : View) → IsPointerBinary p slots op t a b ty aty bty
-      → HasAt e (items (binary_op op ty mode t a aty b bty ∷ rest)) pc end → M (needs at (binary_op op ty mode t a aty b bty ∷ rest)) m v
-      → Rest (suc n) rest → G (suc n) m.state.work pc v (R (suc n) (binary_op op ty mode t a aty b bty ∷ rest) m)
+      → HasAt e (plain_items (binary_op op ty mode t a aty b bty) rest) pc end → M
+      (plain_needs (binary_op op ty mode t a aty b bty) rest) m v
+      → Rest (suc n) rest → G (suc n) m.state.work pc v (P n (binary_op op ty mode t a aty b bty) rest m)
   pointer_binary_follows op ty mode t a aty b bty rest n pc m v = by_types aty bty
     where
       first : (space : SpaceId) (const : Bool) (to z : PlainType) → IsShown op ty mode t a (pointer space const to) b z rest n pc m v
@@ -1208,8 +1229,8 @@ module _ (p : PlainProgram) (functions : List PlainIrFunction) (e : Env) (slots 
       → IsPointerConversion slots t a (pointer space const to) (pointer from const2 to2)
       → HasAt e (items (conversion t (pointer space const to) mode a (pointer from const2 to2) ∷ rest)) pc end
       → M (at_least a.at (all_or_none a.bytes (wanted (needs at rest) t)) (without t.at (needs at rest))) m v
-      → Rest (suc n) rest → G (suc n) m.state.work pc v (R (suc n)
-      (conversion t (pointer space const to) mode a (pointer from const2 to2) ∷ rest) m)
+      → Rest (suc n) rest → G (suc n) m.state.work pc v
+      (P n (conversion t (pointer space const to) mode a (pointer from const2 to2)) rest m)
   pointer_converted t space const to mode a from const2 to2 rest n pc m v k stands h f =
       from_pointer p place e from const2 to2 a m.temps st _ (suc n) m.state.work pc v
       (λ x q into. by_result x q into (pointer_in_space space x (referent_of p x st)) refl)
@@ -1320,7 +1341,7 @@ module _ (p : PlainProgram) (functions : List PlainIrFunction) (e : Env) (slots 
   pub pointer_conversion_follows : (t : Temp) (ty : PlainType) (mode : Mode) (a : Temp) (aty : PlainType) (rest : List PlainIr)
       (n pc : ℕ) (m : Mach) (v : View) → IsPointerConversion slots t a ty aty
       → HasAt e (items (conversion t ty mode a aty ∷ rest)) pc end → M (needs at (conversion t ty mode a aty ∷ rest)) m v
-      → Rest (suc n) rest → G (suc n) m.state.work pc v (R (suc n) (conversion t ty mode a aty ∷ rest) m)
+      → Rest (suc n) rest → G (suc n) m.state.work pc v (P n (conversion t ty mode a aty) rest m)
   pointer_conversion_follows t (pointer space const to) mode a (pointer from const2 to2) rest n pc m v k stands h f =
       pointer_converted t space const to mode a from const2 to2 rest n pc m v k stands h f
   pointer_conversion_follows t (integer signed bytes) mode a (pointer from const2 to2) rest n pc m v k stands h f = absurd k.types

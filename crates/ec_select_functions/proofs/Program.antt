@@ -33,24 +33,26 @@ use Rattle.ec_core.specs.Plain.{PlainProgram}
 use Rattle.ec_core.specs.Accesses.{leaf_of}
 use Rattle.ec_core.specs.State.{Inputs, Event, State, ObjectState, Outcome, got, more, undefined}
 use Rattle.ec_core.specs.TypeLaws.{LeavesFillTheirTypes}
-use Rattle.ec_ir.specs.Meaning.{is_among, start, start_state, enter, exec, leave, run as ir_run}
+use Rattle.ec_ir.specs.Meaning.{is_among, start, start_state, enter, leave, run as ir_run}
 use Rattle.ec_ir.specs.Operations.{PlainIrFunction, PlainIrProgram, data_of}
 use Rattle.ec_ir.specs.Temporaries.{Content, bits, points, Held, no_temps}
 use Rattle.ec_ir.specs.Valid.{ValidIr, called_in}
+use Rattle.ec_ir_known.specs.Laws.{checked, KnownNumbersAreHeld}
 use Rattle.ec_select_operations.specs.Code.{ops_code}
 use Rattle.ec_select_operations.specs.Homes.{home, result_register}
 use Rattle.ec_select_functions.specs.Laws.{HoldsStart, AreSelected, IsEntered, linkage_of, within_steps}
 use Rattle.ec_select_functions.specs.Laws.{HoldsUnlessFailed, ShowsOperations, CodeFollowsOperations}
 use Rattle.ec_select_functions.specs.Kept.{are_on_ports, on_ports, meaning_on}
-use Rattle.ec_select_operations.specs.Needs.{needs}
+use Rattle.ec_select_operations.specs.Needs.{facts_of, needs}
 use Rattle.ec_select_operations.specs.Places.{ObjectLeaf}
 use Rattle.ec_select_functions.specs.Relation.{accesses, HoldsContent, Matches}
-use Rattle.ec_select_functions.proofs.Setting.{FixedLaws, PointerLaws}
+use Rattle.ec_select_functions.proofs.Setting.{FixedLaws, PointerLaws, NumberLaws}
 use Rattle.ec_select_functions.proofs.Active.{World, Active, in_row, row_parts, row_from, homes_of, scratch_of}
 use Rattle.ec_select_functions.proofs.Active.{stack_work}
 use Rattle.ec_select_functions.proofs.Active.{base_of, leaf_at, leaf_is, setting_of, selected_of, stack_scratch}
 use Rattle.ec_select_functions.proofs.Active.{stack_leaf}
 use Rattle.ec_select_functions.proofs.Called.{Statement, call_follows}
+use Rattle.ec_select_functions.proofs.Checked.{second_place}
 use Rattle.ec_select_functions.proofs.Follow.{Follows, stay}
 use Rattle.ec_select_functions.proofs.Match.{HadValue, had_value, kept_frames}
 use Rattle.ec_select_functions.proofs.Numbers.{signed_word}
@@ -67,6 +69,8 @@ pub record CodeLaws : Type 0 where
   pub taken : BytesAreTakenInOrder
   pub fixed : FixedLaws
   pub pointers : PointerLaws
+  pub numbers : NumberLaws
+  pub known : KnownNumbersAreHeld
 
 -- ---- all functions, by the operations that count
 
@@ -139,6 +143,7 @@ module _ (laws : CodeLaws) (p : PlainIrProgram) (place entry_of : ℕ → ℕ) (
     taken = laws.taken;
     fixed = laws.fixed;
     pointers = laws.pointers;
+    numbers = laws.numbers;
     low = low;
     top = sp v + 2;
     high = enters.high;
@@ -279,7 +284,7 @@ module _ (laws : CodeLaws) (p : PlainIrProgram) (place entry_of : ℕ → ℕ) (
   returns g is j result st u spent credit hands left = bottom g is j st u spent credit left result hands
 
   begun : (g : PlainIrFunction) → Matches program_data e inputs g.slots (base_of p e place entry_of w p.main) place (first_aside (sp v))
-      v.at (p.main ∷ []) (called_in g.code) (needs (selected.made p.main).labels g.code) (start program_data) v
+      v.at (p.main ∷ []) (called_in g.code) (needs (facts_of (selected.made p.main).labels g.code) g.code) (start program_data) v
   begun g = record {
     temps_hold = λ t h it q z. absurd cc;
     leaves_hold = λ l x u q z. let r = had l.object l.number x u q z in begin.leaves l r.state u r.is_state r.leaf;
@@ -298,10 +303,13 @@ module _ (laws : CodeLaws) (p : PlainIrProgram) (place entry_of : ℕ → ℕ) (
 
   entered : (n : ℕ) → Follows program_data place e n 0 s.pc v (ir_run p inputs n)
   unfolding active
-  entered n = by_main (slice_get p.functions p.main) refl
+  entered n =
+      subst (λ o. Follows program_data place e n 0 s.pc v o) (laws.known second_place p inputs n)
+      (by_main (slice_get p.functions p.main) refl)
     where
       by_main : (o : Option PlainIrFunction) → slice_get p.functions p.main ≡ o
-          → Follows program_data place e n 0 s.pc v (enter o (λ q m. exec p.functions program_data inputs n q m) [] (start program_data))
+          → Follows program_data place e n 0 s.pc v (enter o (λ q m. checked second_place p.functions program_data inputs n q m) []
+          (start program_data))
       by_main None is = tt
       by_main (Some g) is =
           let a = active g is in
@@ -320,7 +328,7 @@ module _ (laws : CodeLaws) (p : PlainIrProgram) (place entry_of : ℕ → ℕ) (
             inside = λ b q. q;
             here = record { active = a.runs; stacked = refl };
             stands = subst
-                (λ i. HasAt e (ops_code program_data hs link labels None g.code) i x.end) mid stands.2;
+                (λ i. HasAt e (ops_code program_data hs link (facts_of labels g.code) None g.code) i x.end) mid stands.2;
           } in
           all_functions p e place entry_of w n p.main g (sp v) (first_aside (sp v)) v.at a [] refl (λ j l. returns g is j) s.pc g.code
           (start program_data) v ready (begun g)

@@ -24,7 +24,7 @@ use Rattle.ec_core.specs.Plain.{PlainProgram}
 use Rattle.ec_core.specs.State.{reads_of, State, worked, Outcome, got, next}
 use Rattle.ec_ir.specs.declared.operations.Temp.{Temp}
 use Rattle.ec_ir.specs.Costs.{op_steps}
-use Rattle.ec_ir.specs.Meaning.{Mach, machine, Frame as Call, Place, exec_from, leave}
+use Rattle.ec_ir.specs.Meaning.{Mach, machine, Frame as Call, Place, leave}
 use Rattle.ec_ir.specs.Operations.{return_from, PlainIrFunction, PlainIrProgram, data_of}
 use Rattle.ec_ir.specs.Temporaries.{Content, bits, points, Held, held, no_temps}
 use Rattle.ec_ir.specs.Valid.{called_in}
@@ -34,12 +34,13 @@ use Rattle.ec_select_bytes.proofs.Straight.{values_are_straight, values_take}
 use Rattle.ec_select_operations.specs.Code.{return_code, ops_code, move_code}
 use Rattle.ec_select_operations.specs.Homes.{home, HasHome, result_register, result_location}
 use Rattle.ec_select_functions.specs.Laws.{IsSelected, linkage_of}
-use Rattle.ec_select_operations.specs.Needs.{Need, nothing, returned_need}
+use Rattle.ec_select_operations.specs.Needs.{Need, Facts, facts_of, nothing, returned_need}
 use Rattle.ec_select_operations.specs.Places.{ObjectLeaf}
 use Rattle.ec_select_functions.specs.Relation.{accesses, HoldsContent, FramesStand, Matches}
 use Rattle.ec_select_functions.proofs.Active.{World, Active, homes_of, scratch_of, base_of, leaf_at, leaf_is}
 use Rattle.ec_select_functions.proofs.Active.{layout_of, setting_of, selected_of}
 use Rattle.ec_select_functions.proofs.Computed.{moved_numbers}
+use Rattle.ec_select_functions.proofs.Checked.{checked_on}
 use Rattle.ec_select_functions.proofs.Follow.{Follows, after, from_held, next_next}
 use Rattle.ec_select_functions.proofs.Match.{kept_left, same_leaf, whole}
 use Rattle.ec_select_functions.proofs.Moves.{Quiet, move_holds, move_straight, move_steps, row_value}
@@ -52,7 +53,7 @@ module _ (p : PlainIrProgram) (e : Env) (place entry_of : ℕ → ℕ) (w : Worl
 
   -- how a run goes on for so many operations
   abbrev pub go_on : ℕ → Place → Mach → Outcome Value
-  go_on n q u = exec_from p.functions D w.inputs n q.code q.stack q.rest u
+  go_on n q u = checked_on p.functions D w.inputs n q.code q.stack q.rest u
 
   -- the registers of a result. The result of main is 0 where it gives none
   abbrev pub HandsOn : ℕ → Option Held → View → Type 0
@@ -95,6 +96,9 @@ module _ (p : PlainIrProgram) (e : Env) (place entry_of : ℕ → ℕ) (w : Worl
 
     abbrev labels : ℕ → Need
     labels = (w.selected.made f).labels
+
+    abbrev at : Facts
+    at = facts_of labels g.code
 
     -- the result registers have changed alone
     left_by : (need : Need) (m : Mach) (st : State) (v v1 : View) (r n : ℕ) → 18 ≤ r → r + n ≤ 26
@@ -181,7 +185,7 @@ module _ (p : PlainIrProgram) (e : Env) (place entry_of : ℕ → ℕ) (w : Worl
     return_follows n returns None pc rest m v r h = by_flag (f == p.main) refl r.stands
       where
         left_over : List AsmItem
-        left_over = ops_code D hs (linkage_of p entry_of f slots (w.selected.made f)) labels None rest
+        left_over = ops_code D hs (linkage_of p entry_of f slots (w.selected.made f)) at None rest
 
         by_flag : (b : Bool) → (f == p.main) ≡ b → HasAt e (return_code hs b None ++ left_over) pc x.end
             → Follows D place e (suc n) m.state.work pc v (leave D stack None (go_on n) (worked (op_steps (return_from None)) m.state))
@@ -243,7 +247,7 @@ module _ (p : PlainIrProgram) (e : Env) (place entry_of : ℕ → ℕ) (w : Worl
         it = r.covered.0.0
 
         left_over : List AsmItem
-        left_over = ops_code D hs (linkage_of p entry_of f slots (w.selected.made f)) labels None rest
+        left_over = ops_code D hs (linkage_of p entry_of f slots (w.selected.made f)) at None rest
 
         by_content : (c : Content) → HoldsContent D place v.at (bs t) t.bytes t.bytes c
             → Follows D place e (suc n) m.state.work pc v (next (got (Some (record { bytes = t.bytes; content = c })) st) leaves)

@@ -16,6 +16,8 @@ use Rattle.ec_core.specs.State.{Inputs}
 use Rattle.ec_ir.specs.declared.operations.Temp.{Temp}
 use Rattle.ec_ir.specs.Meaning.{is_among, is_kept}
 use Rattle.ec_ir.specs.Operations.{PlainIrProgram}
+use Rattle.ec_select_numbers.specs.Laws.{NumbersAreSubtracted, NumbersAreAdded, NumbersChangeBits, NumbersAreCompared}
+use Rattle.ec_select_numbers.specs.Laws.{NumbersAreStraight}
 use Rattle.ec_select_operations.specs.Homes.{HasHome}
 use Rattle.ec_select_fixed.specs.FixedLaws.{FixedBinariesAreRight, FixedUnariesAreRight, FixedConversionsAreRight}
 use Rattle.ec_select_places.specs.ConversionLaws.{PointersAreEmbedded}
@@ -58,6 +60,14 @@ pub record PointerLaws : Type 0 where
   pub embedded : PointersAreEmbedded
   pub embeddings_short : ConversionsAreShort
 
+-- what the code of operators with a known number does
+pub record NumberLaws : Type 0 where
+  pub subtracted : NumbersAreSubtracted
+  pub added : NumbersAreAdded
+  pub bits : NumbersChangeBits
+  pub compared : NumbersAreCompared
+  pub straight : NumbersAreStraight
+
 -- the bytes that are set aside are no registers, and none of a temporary's or a leaf's
 pub record Setting (p : PlainProgram) (e : Env) (slots : ℕ) (home : Temp → Location) (base : Temp → ℕ) (place : ℕ → ℕ) : Type 0 where
   -- the functions that are active, and those that the one calls which runs. All for which frames can stand are on one chain of calls
@@ -81,6 +91,7 @@ pub record Setting (p : PlainProgram) (e : Env) (slots : ℕ) (home : Temp → L
   pub work_aside : (k : ℕ) → aside k ≡ true → Outside work 64 k
   pub fixed : FixedLaws
   pub pointers : PointerLaws
+  pub numbers : NumberLaws
   -- the objects, which have at least one byte, and stand apart where they can be live together
   pub objects_stand : (o : ℕ) (d : PlainObject) → slice_get p.objects o ≡ Some d → d.home ≡ DataBank
       → ObjectStands e o (size_of_type p.structs d.ty) (place o) d.storage

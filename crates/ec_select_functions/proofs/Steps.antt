@@ -1,13 +1,13 @@
 -- One operation after another: what the code of each operation does for it.
 use Rattle.std.proofs.Common.{◌≡◌, ◌≢◌, ℕ, zero, suc, ◌+◌, ◌-◌, ◌*◌, ◌%◌, ◌^◌, ◌<◌, ◌≤◌, min, Bool, true, false, not, ℤ}
 use Rattle.std.proofs.Common.{pos, ◌*ℤ◌, unsigned_abs, Ok, Err, List, [], ◌∷◌, ◌++◌, ◌&&◌, ◌||◌, ⊎_elim, refl, sym}
-use Rattle.std.proofs.Common.{ap, ◌∙◌, subst, arith, inl, ◌/◌, Some, None, Option}
+use Rattle.std.proofs.Common.{ap, ◌∙◌, subst, arith, inl, inr, ◌/◌, Some, None, Option, append_assoc}
 use Rattle.std.specs.Prelude.{max, Result, ◌==◌, nat_le, if◌then◌else◌, option_map, slice_get, slice_index, Contains, ◌⊎◌}
 use Rattle.std.proofs.lemmas.List.Elements.{Contains-append_right}
 use Rattle.ec_ir.specs.Valid.{called_in}
 use Rattle.std.specs.Int.{from_bool}
 use Rattle.std.specs.Ordering.{int_eq}
-use Rattle.std.proofs.lemmas.Bool.{cases_Bool, cases_lt, eqb-true, eq-eqb, leb-true, ne_eqb, and_parts}
+use Rattle.std.proofs.lemmas.Bool.{cases_Bool, cases_lt, eqb-true, eq-eqb, leb-true, ne_eqb, and_parts, or_cases, or_right}
 use Rattle.std.proofs.lemmas.Nat.{mod_below, mul-le}
 use Rattle.ec_fx.specs.declared.formats.FxKind.{FxKind}
 use Rattle.ec_fx.specs.declared.numbers.Mode.{Mode}
@@ -53,7 +53,7 @@ use Rattle.ec_core.specs.PortAccesses.{number_read, bytes_read, bytes_written}
 use Rattle.ec_core.specs.State.{State, worked, Outcome, got, undefined, next, given}
 use Rattle.ec_ir.specs.declared.operations.Temp.{Temp}
 use Rattle.ec_ir.specs.Costs.{op_steps, binary_words, conversion_words, is_bitwise, is_integer}
-use Rattle.ec_ir.specs.Meaning.{Mach, machine, held_as, exec_from, find}
+use Rattle.ec_ir.specs.Meaning.{Mach, machine, held_as, find}
 use Rattle.ec_ir.specs.Meaning.{jump_to, held_number, port_read, port_written, Frame as Call}
 use Rattle.ec_ir.specs.Operations.{PlainIr, constant, copy, load_object, store_object, binary_op, conversion, label}
 use Rattle.ec_ir.specs.Operations.{jump, branch_zero, return_from, address, field, load_at, store_at, unary_op}
@@ -61,7 +61,10 @@ use Rattle.ec_ir.specs.Operations.{call_function, port_in, port_out, PlainIrFunc
 use Rattle.ec_ir.specs.Temporaries.{Content, bits, points, number_of_bytes, low_bytes, Temps, content_of, value_in}
 use Rattle.ec_ir.specs.Temporaries.{Held, with_content, with_temp, is_zero}
 use Rattle.ec_select_operations.specs.Homes.{HasHome}
-use Rattle.ec_select_bytes.specs.Values.{test_code, extend_code}
+use Rattle.ec_ir_known.specs.Known.{known_at}
+use Rattle.ec_select_numbers.specs.declared.operators.ByNumber.TheVariants.{Subtract}
+use Rattle.ec_select_numbers.specs.ByNumber.{compared_code as compared_with_code}
+use Rattle.ec_select_bytes.specs.Values.{test_code, extend_code, constant_code}
 use Rattle.ec_select_bytes.proofs.Tests.{tests_keep, tests_tell_zero}
 use Rattle.ec_select_bytes.specs.Complements.{negation_code}
 use Rattle.ec_select_bytes.proofs.Straight.{values_are_straight, values_take, complements_are_straight}
@@ -85,8 +88,10 @@ use Rattle.ec_select_operations.specs.declared.families.Told.{Told}
 use Rattle.ec_select_operations.specs.Code.{Linkage, told_of, is_only_tested, tells_next, flag_code, is_signed}
 use Rattle.ec_select_operations.specs.Code.{op_code, ops_code, family_of, same_location, reversed_code}
 use Rattle.ec_select_operations.specs.Code.{combined_code, binary_code, turn_code, unary_code, move_code}
+use Rattle.ec_select_operations.specs.Code.{by_number_code, taking_code, changed_by_code}
 use Rattle.ec_select_operations.specs.Code.{conversion_code, turned_code, shift_of, shifted_bytes, long_code}
 use Rattle.ec_select_functions.specs.Covered.{IsCovered, IsBinary, IsUnary, AreConverted, IsPort, AreCovered}
+use Rattle.ec_select_functions.specs.Covered.{AreIntegers, AreCompared}
 use Rattle.ec_select_functions.specs.Covered.{IsFixedBinary, IsFixedUnary, IsFixedConversion}
 use Rattle.ec_select_functions.specs.Covered.{IsPointerBinary, IsPointerConversion}
 use Rattle.ec_select_fixed.specs.Types.{IsFixedType, IsNumberType}
@@ -104,17 +109,19 @@ use Rattle.ec_select_fixed.proofs.Converted.{conversion_told}
 use Rattle.ec_select_fixed.proofs.Formats.{fixed_number_type}
 use Rattle.ec_select_fixed.proofs.Operators.{IsNumber, as_told, binary_told}
 use Rattle.ec_select_fixed.specs.FixedLaws.{AreOperandSlots, HasOperandBytes}
-use Rattle.ec_select_operations.specs.Needs.{is_fixed, is_whole, first_wanted, second_wanted, only_wanted}
+use Rattle.ec_select_operations.specs.Needs.{is_fixed, is_whole, first_wanted, second_wanted, only_wanted, right_needed}
+use Rattle.ec_select_operations.specs.Needs.{takes_number, number_taken}
 use Rattle.ec_select_operations.specs.Pointers.{is_pointer, address_number, IsPointerIn}
 use Rattle.ec_select_operations.specs.Code.{pointer_binary, pointer_conversion}
 use Rattle.ec_select_operations.specs.Places.{IsNumeric}
 use Rattle.ec_select_functions.specs.Kept.{are_on_ports}
-use Rattle.ec_select_operations.specs.Needs.{Need, needs, IsLive, wanted, at_least, without, either, returned_need}
+use Rattle.ec_select_operations.specs.Needs.{Need, Facts, facts_of, before, needs}
+use Rattle.ec_select_operations.specs.Needs.{IsLiveBy, wanted, at_least, without, either, returned_need}
 use Rattle.ec_select_operations.specs.Needs.{index_needed, all_or_none, operand_wanted, right_wanted}
 use Rattle.ec_select_operations.specs.Places.{IsClear}
 use Rattle.ec_select_functions.proofs.Setting.{Setting}
 use Rattle.ec_select_functions.specs.Relation.{Matches, HoldsContent}
-use Rattle.ec_select_functions.proofs.Going.{Ready as IsReady, IsRunning, passes as code_passes}
+use Rattle.ec_select_functions.proofs.Going.{Ready as IsReady, IsRunning, passes as code_passes, goes_past as code_goes_past}
 use Rattle.ec_select_functions.proofs.MemorySteps.{address_follows, field_follows, load_at_follows, store_at_follows}
 use Rattle.ec_select_functions.proofs.MemorySteps.{load_follows, store_follows}
 use Rattle.ec_select_functions.proofs.PointerNumbers.{place_of, objects_have_places, address_is, address_low}
@@ -122,14 +129,18 @@ use Rattle.ec_select_functions.proofs.PointerNumbers.{number_below}
 use Rattle.ec_select_functions.proofs.PointerSteps.{pointer_binary_follows, pointer_conversion_follows}
 use Rattle.ec_select_functions.proofs.Computed.{constant_matches, copy_matches, binary_matches, moved_numbers}
 use Rattle.ec_select_functions.proofs.Computed.{result_of}
+use Rattle.ec_select_functions.proofs.Taken.{is_changed, TakesSum, TakesOrder, takes, taken_is}
+use Rattle.ec_select_functions.proofs.ByNumber.{changed_form, number_held, number_low, number_matches, number_put}
+use Rattle.ec_select_functions.proofs.ByNumber.{fails_by_number, holds_by_number}
 use Rattle.ec_select_functions.proofs.Extended.{conversion_matches}
 use Rattle.ec_select_functions.proofs.FixedRuns.{answer_passes, slots_of, operand_slots_of}
+use Rattle.ec_select_functions.proofs.Checked.{is_known, checked_on, performed, checked}
 use Rattle.ec_select_functions.proofs.Placed.{binary_roomy, placed_passes}
 use Rattle.ec_select_functions.proofs.Follow.{with_ports, Follows, after, from_held, from_number}
 use Rattle.ec_select_functions.proofs.Match.{kept_left, wanted_most, read_first, whole, at_width, weaker, written}
 use Rattle.ec_select_functions.proofs.Match.{written_wide}
 use Rattle.ec_select_functions.proofs.Match.{same_content, same_leaf, least_here, least_other, without_other}
-use Rattle.ec_select_functions.proofs.Fronts.{exec_adds}
+use Rattle.ec_select_functions.proofs.Fronts.{run_adds}
 use Rattle.ec_select_functions.proofs.PortForms.{in_straight, in_steps, out_straight, out_steps}
 use Rattle.ec_select_functions.proofs.PortMatch.{needs_index, needs_index_too, index_other, in_matches, out_matches}
 use Rattle.ec_select_functions.proofs.PortMatch.{points as points_at}
@@ -153,8 +164,12 @@ use Rattle.ec_select_functions.proofs.Turned.{turned, turns, unary_matches}
 use Rattle.ec_select_functions.proofs.Wrapped.{low_of_wrapped, low_below, kept_below}
 
 module _ (p : PlainProgram) (functions : List PlainIrFunction) (e : Env) (slots : ℕ) (home : Temp → Location)
-    (base : Temp → ℕ) (place : ℕ → ℕ) (y : Setting p e slots home base place) (at : ℕ → Need) (all : List PlainIr)
+    (base : Temp → ℕ) (place : ℕ → ℕ) (y : Setting p e slots home base place) (labels : ℕ → Need) (all : List PlainIr)
     (end : ℕ) (results : ℕ → ℕ) (me : ℕ) (link : Linkage) (stack : List Call) where
+  -- what the code of the function is made by
+  abbrev at : Facts
+  at = facts_of labels all
+
   abbrev pub M : Need → Mach → View → Type 0
   M need m v = Matches p e y.inputs slots base place y.aside y.was y.active y.called need m v
 
@@ -168,16 +183,29 @@ module _ (p : PlainProgram) (functions : List PlainIrFunction) (e : Env) (slots 
   abbrev pub items : List PlainIr → List AsmItem
   items code = items_told None code
 
-  -- that of one which has been told nothing, and tells nothing
+  -- that of one which has been told nothing, tells nothing, and takes no number
   abbrev pub code_of : PlainIr → List PlainIr → List AsmItem
-  code_of i rest = op_code p home link None None (needs at rest) i
+  code_of i rest = op_code p home link None None None (needs at rest) i
+
+  -- an operation that takes no number, and those behind it
+  abbrev plain_items : PlainIr → List PlainIr → List AsmItem
+  plain_items i rest =
+      op_code p home link None (tells_next at i rest) None (needs at rest) i ++ items_told (tells_next at i rest) rest
+
+  -- what is needed before it
+  abbrev plain_needs : PlainIr → List PlainIr → Need
+  plain_needs i rest = before labels None i (needs at rest)
 
   abbrev pub Ready : (pc : ℕ) (rest : List PlainIr) → Type 0
-  Ready pc rest = IsReady p functions e slots home base place y at all end results me link stack pc rest
+  Ready pc rest = IsReady p functions e slots home base place y labels all end results me link stack pc rest
 
   -- the run of operations from here on
   abbrev pub R : ℕ → List PlainIr → Mach → Outcome Value
-  R n rest m = exec_from functions p y.inputs n all stack rest m
+  R n rest m = checked_on functions p y.inputs n all stack rest m
+
+  -- an operation, and those behind it
+  abbrev pub P : ℕ → PlainIr → List PlainIr → Mach → Outcome Value
+  P n i rest m = performed functions p y.inputs n all stack i rest m
 
   -- what is shown of the rest
   abbrev pub Rest : ℕ → List PlainIr → Type 0
@@ -193,12 +221,17 @@ module _ (p : PlainProgram) (functions : List PlainIrFunction) (e : Env) (slots 
       → n1 ≤ code_steps (code_of i rest) + n → w + code_steps (code_of i rest) ≤ w1
       → ((mid : ℕ) → HasAt e (items rest) mid end → G n w1 mid (block e (code_of i rest) v) o) → G n1 w pc v o
   passes i rest n n1 w w1 pc v o stands straight least most f =
-      code_passes p functions e slots home base place y at all end results me link stack i rest n n1 w w1 pc v o stands straight
+      code_passes p functions e slots home base place y labels all end results me link stack i rest n n1 w w1 pc v o stands straight
       least most f
+
+  goes_past : (code behind : List AsmItem) (n n1 w w1 pc : ℕ) (v : View) (o : Outcome Value)
+      → HasAt e (code ++ behind) pc end → all_straight code ≡ true → n1 ≤ code_steps code + n → w + code_steps code ≤ w1
+      → ((mid : ℕ) → HasAt e behind mid end → G n w1 mid (block e code v) o) → G n1 w pc v o
+  goes_past = code_goes_past p functions e slots home base place y labels all end results me link stack
 
   pub constant_follows : (t : Temp) (k : ℤ) (rest : List PlainIr) (n pc : ℕ) (m : Mach) (v : View) → HasHome slots t
       → HasAt e (items (constant t k ∷ rest)) pc end → M (without t.at (needs at rest)) m v → Rest (suc n) rest
-      → G (suc n) m.state.work pc v (R (suc n) (constant t k ∷ rest) m)
+      → G (suc n) m.state.work pc v (P n (constant t k) rest m)
   constant_follows t k rest n pc m v it stands h f =
       let need = needs at rest in
       let c = op_steps (constant t k) in
@@ -214,7 +247,7 @@ module _ (p : PlainProgram) (functions : List PlainIrFunction) (e : Env) (slots 
   pub copy_follows : (t u : Temp) (rest : List PlainIr) (n pc : ℕ) (m : Mach) (v : View) → HasHome slots t → HasHome slots u
       → t.bytes ≡ u.bytes → HasAt e (items (copy t u ∷ rest)) pc end
       → M (at_least u.at (wanted (needs at rest) t) (without t.at (needs at rest))) m v → Rest (suc n) rest
-      → G (suc n) m.state.work pc v (R (suc n) (copy t u ∷ rest) m)
+      → G (suc n) m.state.work pc v (P n (copy t u) rest m)
   copy_follows t u rest n pc m v it iu same stands h f =
       let need = needs at rest in
       let c = op_steps (copy t u) in
@@ -299,6 +332,10 @@ module _ (p : PlainProgram) (functions : List PlainIrFunction) (e : Env) (slots 
   low_right_wanted Xor o h bytes n = refl
   low_right_wanted op o h bytes n = absurd cc
 
+  -- a temporary holds a number that is known, where it holds one
+  abbrev IsKnown : Temp → ℤ → Mach → Type 0
+  IsKnown b k m = (low : ℕ) → m.temps b.at ≡ Some (record { bytes = b.bytes; content = bits low }) → low ≡ low_bytes b.bytes k
+
   -- what is needed before an operator
   abbrev operands_needed : BinOp → (t a b : Temp) → (ka kb : ℕ) → Need → Need
   operands_needed op t a b ka kb need = at_least a.at ka (at_least b.at kb (without t.at need))
@@ -310,7 +347,7 @@ module _ (p : PlainProgram) (functions : List PlainIrFunction) (e : Env) (slots 
       → M (operands_needed op t a b (wanted (needs at rest) t) (wanted (needs at rest) t) (needs at rest)) m v
       → Rest (suc n) rest
       → G (suc n) m.state.work pc v
-      (R (suc n) (binary_op op (integer s t.bytes) mode t a (integer s1 a.bytes) b (integer s2 b.bytes) ∷ rest) m)
+      (P n (binary_op op (integer s t.bytes) mode t a (integer s1 a.bytes) b (integer s2 b.bytes)) rest m)
   combined_follows op o is s s1 s2 mode t a b rest n pc m v it ia ib sa sb stands h f =
       let need = needs at rest in
       let i = binary_op op (integer s t.bytes) mode t a (integer s1 a.bytes) b (integer s2 b.bytes) in
@@ -344,6 +381,48 @@ module _ (p : PlainProgram) (functions : List PlainIrFunction) (e : Env) (slots 
       (passes i rest (suc n) (suc n) m.state.work m1.state.work pc v (R (suc n) rest m1) stands straight (omega arith)
       (omega (arith, take, big))
       (λ mid u. f mid m1 _ u matches2))))
+
+  -- the same with a known number
+  combined_number_follows : (op : BinOp) (o : Operator) → family_of op ≡ Combined o → is_changed o ≡ true → (s s1 s2 : Bool)
+      (mode : Mode) (t a b : Temp) (k : ℤ) (rest : List PlainIr) (n pc : ℕ) (m : Mach) (v : View) → HasHome slots t
+      → HasHome slots a → HasHome slots b → a.bytes ≡ t.bytes → b.bytes ≡ t.bytes → IsKnown b k m
+      → HasAt e (by_number_code (Combined o) s1 s2 (home a) (home b) (home t) a.bytes (low_bytes 16 k) (wanted (needs at rest) t)
+      ++ items rest) pc end
+      → M (at_least a.at (wanted (needs at rest) t) (without t.at (needs at rest))) m v → Rest (suc n) rest
+      → G (suc n) m.state.work pc v
+      (P n (binary_op op (integer s t.bytes) mode t a (integer s1 a.bytes) b (integer s2 b.bytes)) rest m)
+  combined_number_follows op o is changed s s1 s2 mode t a b k rest n pc m v it ia ib sa sb known stands h f =
+      let need = needs at rest in
+      let i = binary_op op (integer s t.bytes) mode t a (integer s1 a.bytes) b (integer s2 b.bytes) in
+      let c = op_steps i in
+      let st = worked c m.state in
+      let w = wanted need t in
+      let most = wanted_most need t in
+      let first = move_code (home a) (home t) w in
+      let second = changed_by_code o (home t) (low_bytes 16 k) w in
+      let code = first ++ second in
+      let big : 10 * w + 1 ≤ c = operator_big op (integer s t.bytes) (integer s1 a.bytes) (integer s2 b.bytes) w most in
+      let form = changed_form y.numbers o (home t) (low_bytes 16 k) w in
+      let steps = steps-append first second in
+      let take = move_steps (home a) (home t) w in
+      let straight : all_straight code ≡ true = straight-append first second (move_straight (home a) (home t) w) form.0 in
+      let few = form.1 in
+      from_number p place e s1 a m.temps st _ (suc n) m.state.work pc v
+      (λ low1 qa. from_number p place e s2 b m.temps st _ (suc n) m.state.work pc v
+      (λ low2 qb.
+      let below1 : low1 < 256 ^ t.bytes = subst (λ x. low1 < 256 ^ x) sa (h.temps_hold a _ ia qa refl).1 in
+      let below2 : low2 < 256 ^ t.bytes = subst (λ x. low2 < 256 ^ x) sb (h.temps_hold b _ ib qb refl).1 in
+      let g = gives_of op o is p mode s s1 s2 t.bytes a.bytes b.bytes low1 low2 st st sa sb below1 below2 in
+      let number : low_bytes t.bytes k ≡ low2 = ap (λ j. low_bytes j k) (sym sb) ∙ sym (known low2 qb) in
+      let m1 = after_operator t (low_bytes t.bytes g.number) c m in
+      let matches : M need (after_operator t (result_of o t.bytes low1 (low_bytes t.bytes k)) c m) (block e code v) =
+      number_matches p e slots home base place y o changed t a k need m v c low1 it ia sa qa h in
+      let matches1 : M need m1 (block e code v) =
+      subst (λ r. M need (after_operator t r c m) (block e code v)) (ap (result_of o t.bytes low1) number ∙ sym g.low) matches in
+      subst (λ r. G (suc n) m.state.work pc v (next (given r st) (λ u s3. R (suc n) rest (machine (with_temp t u m.temps) s3)))) (sym g.is)
+      (goes_past code (items rest) (suc n) (suc n) m.state.work m1.state.work pc v (R (suc n) rest m1) stands straight (omega arith)
+      (omega (arith, take, few, steps, big))
+      (λ mid u. f mid m1 _ u matches1))))
 
   -- ---- comparisons
 
@@ -444,16 +523,16 @@ module _ (p : PlainProgram) (functions : List PlainIrFunction) (e : Env) (slots 
   told_machine t truth c m = after_operator t (low_bytes t.bytes (pos (from_bool truth))) c m
 
   -- the code of a relation of two temporaries, and what comes after it
-  related_passes : (r : Relation) (s : Bool) (t l u : Temp) (bytes x z c : ℕ) (rest : List PlainIr) (n pc : ℕ) (need0 : Need) (m : Mach)
-      (v : View)
+  related_passes : (r : Relation) (s : Bool) (t l u : Temp) (bytes x z c : ℕ) (rest : List PlainIr) (n pc w : ℕ) (need0 : Need)
+      (m : Mach) (v : View)
       → HasHome slots t → HasHome slots l → HasHome slots u → l.bytes ≡ suc bytes → u.bytes ≡ suc bytes → suc bytes ≤ 16
-      → value v.at (base l) (suc bytes) ≡ x → value v.at (base u) (suc bytes) ≡ z → 102 ≤ c
+      → value v.at (base l) (suc bytes) ≡ x → value v.at (base u) (suc bytes) ≡ z → w + 102 ≤ m.state.work + c
       → HasAt e
       ((relation_code r s (home l) (home u) (suc bytes) ++ conversion_code false (InRegisters 30) (home t) 1
       (wanted (needs at rest) t)) ++ items rest) pc end
       → ((k : ℕ) → k ≢ t.at → needs at rest k ≤ need0 k) → M need0 m v → Rest (suc n) rest
-      → G (suc n) m.state.work pc v (R (suc n) rest (told_machine t (stand_so r s (suc bytes) x z) c m))
-  related_passes r s t l u bytes x z c rest n pc need0 m v it il iu ql qu most xl zu big stands more h f =
+      → G (suc n) w pc v (R (suc n) rest (told_machine t (stand_so r s (suc bytes) x z) c m))
+  related_passes r s t l u bytes x z c rest n pc w need0 m v it il iu ql qu most xl zu big stands more h f =
       let k = wanted (needs at rest) t in
       let relation = relation_code r s (home l) (home u) (suc bytes) in
       let conversion = conversion_code false (InRegisters 30) (home t) 1 k in
@@ -479,7 +558,7 @@ module _ (p : PlainProgram) (functions : List PlainIrFunction) (e : Env) (slots 
       let matches =
       told_matches p e slots home base place y (stand_so r s (suc bytes) x z) (3 + 3 * suc bytes) pc s2.0 t
       (needs at rest) need0 m v c it told more h in
-      after p place e steps (suc n) (suc n) m.state.work m1.state.work pc s1.0 v (block e conversion told.last) (R (suc n) rest m1) goes
+      after p place e steps (suc n) (suc n) w m1.state.work pc s1.0 v (block e conversion told.last) (R (suc n) rest m1) goes
       (omega arith) (omega (arith, take, take1, kmost, room, most, big)) (f s1.0 m1 (block e conversion told.last) s1.2 matches)
 
   -- what a comparison of two numbers gives
@@ -492,7 +571,7 @@ module _ (p : PlainProgram) (functions : List PlainIrFunction) (e : Env) (slots 
       (R (suc n) rest
       (told_machine t (stand_so r s a.bytes (first_of_two exchanged low1 low2) (first_of_two exchanged low2 low1))
       (op_steps (binary_op op ty mode t a (integer s a.bytes) b (integer s b.bytes))) m)))
-      → G (suc n) m.state.work pc v (R (suc n) (binary_op op ty mode t a (integer s a.bytes) b (integer s b.bytes) ∷ rest) m)
+      → G (suc n) m.state.work pc v (P n (binary_op op ty mode t a (integer s a.bytes) b (integer s b.bytes)) rest m)
   compared_numbers op r exchanged is s ty mode t a b rest n pc need0 m v ia ib same h f =
       from_number p place e s a m.temps (worked (op_steps (binary_op op ty mode t a (integer s a.bytes) b (integer s b.bytes))) m.state) _
       (suc n) m.state.work pc v
@@ -526,7 +605,7 @@ module _ (p : PlainProgram) (functions : List PlainIrFunction) (e : Env) (slots 
       → HasHome slots a → HasHome slots b → b.bytes ≡ a.bytes → (wanted (needs at rest) t == 0) ≡ false
       → m.temps a.at ≡ Some (record { bytes = a.bytes; content = bits low1 })
       → m.temps b.at ≡ Some (record { bytes = b.bytes; content = bits low2 }) → low1 < 256 ^ a.bytes → low2 < 256 ^ a.bytes
-      → M (needs at (binary_op op ty mode t a (integer s a.bytes) b (integer s b.bytes) ∷ rest)) m v
+      → M (plain_needs (binary_op op ty mode t a (integer s a.bytes) b (integer s b.bytes)) rest) m v
       → M (operands_needed op t a b a.bytes b.bytes (needs at rest)) m v × (value v.at (base a) a.bytes ≡ low1)
       × (value v.at (base b) a.bytes ≡ low2)
   compared_hold op r exchanged is s ty mode t a b rest m v low1 low2 ia ib same q qa qb below1 below2 h =
@@ -554,12 +633,12 @@ module _ (p : PlainProgram) (functions : List PlainIrFunction) (e : Env) (slots 
       → (s : Bool) (ty : PlainType) (mode : Mode) (t a b : Temp) (rest : List PlainIr) (n pc : ℕ) (m : Mach) (v : View)
       → HasHome slots t → HasHome slots a → HasHome slots b → b.bytes ≡ a.bytes
       → HasAt e (code_of (binary_op op ty mode t a (integer s a.bytes) b (integer s b.bytes)) rest ++ items rest) pc end
-      → M (needs at (binary_op op ty mode t a (integer s a.bytes) b (integer s b.bytes) ∷ rest)) m v
+      → M (plain_needs (binary_op op ty mode t a (integer s a.bytes) b (integer s b.bytes)) rest) m v
       → Rest (suc n) rest
-      → G (suc n) m.state.work pc v (R (suc n) (binary_op op ty mode t a (integer s a.bytes) b (integer s b.bytes) ∷ rest) m)
+      → G (suc n) m.state.work pc v (P n (binary_op op ty mode t a (integer s a.bytes) b (integer s b.bytes)) rest m)
   related_follows op r exchanged is s ty mode t a b rest n pc m v it ia ib same stands h f =
       compared_numbers op r exchanged is s ty mode t a b rest n pc
-      (needs at (binary_op op ty mode t a (integer s a.bytes) b (integer s b.bytes) ∷ rest)) m v ia ib same h
+      (plain_needs (binary_op op ty mode t a (integer s a.bytes) b (integer s b.bytes)) rest) m v ia ib same h
       (λ low1 low2 qa qb below1 below2. ⊎_elim (λ q. dead q low1 low2) (λ q. alive q low1 low2 qa qb below1 below2)
       (cases_Bool ((wanted (needs at rest) t) == 0)))
     where
@@ -574,7 +653,7 @@ module _ (p : PlainProgram) (functions : List PlainIrFunction) (e : Env) (slots 
           ap (λ x. binary_code x s s (home a) (home b) (home t) a.bytes (wanted (needs at rest) t)) is ∙ none exchanged in
           nothing_passes (binary_op op ty mode t a (integer s a.bytes) b (integer s b.bytes)) t (low_bytes t.bytes (pos (from_bool truth)))
           (op_steps (binary_op op ty mode t a (integer s a.bytes) b (integer s b.bytes))) rest n pc
-          (needs at ((binary_op op ty mode t a (integer s a.bytes) b (integer s b.bytes)) ∷ rest)) m v it empty
+          (plain_needs (binary_op op ty mode t a (integer s a.bytes) b (integer s b.bytes)) rest) m v it empty
           (eqb-true (wanted (needs at rest) t) 0 q) (low_below t.bytes (pos (from_bool truth))) stands
           (other_needed op t a b (operand_wanted op a.bytes (wanted (needs at rest) t))
           (right_wanted op b.bytes (wanted (needs at rest) t)) (needs at rest)) h f
@@ -620,9 +699,9 @@ module _ (p : PlainProgram) (functions : List PlainIrFunction) (e : Env) (slots 
               (told_machine t (stand_so r s j low1 low2)
               (op_steps (binary_op op ty mode t a (integer s a.bytes) b (integer s b.bytes))) m))) (sym size)
               (related_passes r s t a b bytes low1 low2
-              (op_steps (binary_op op ty mode t a (integer s a.bytes) b (integer s b.bytes))) rest n pc
+              (op_steps (binary_op op ty mode t a (integer s a.bytes) b (integer s b.bytes))) rest n pc m.state.work
               (operands_needed op t a b a.bytes b.bytes (needs at rest)) m v it ia ib size (same ∙ size) (omega arith) la lb
-              (relation_big op ty (integer s a.bytes) (integer s b.bytes)) stand
+              (omega (arith, relation_big op ty (integer s a.bytes) (integer s b.bytes))) stand
               (other_needed op t a b a.bytes b.bytes (needs at rest)) all_needed f)
           by_side all_needed left_is right_is true bytes size w =
               let code : code_of (binary_op op ty mode t a (integer s a.bytes) b (integer s b.bytes)) rest
@@ -642,10 +721,128 @@ module _ (p : PlainProgram) (functions : List PlainIrFunction) (e : Env) (slots 
               (told_machine t (stand_so r s j low2 low1)
               (op_steps (binary_op op ty mode t a (integer s a.bytes) b (integer s b.bytes))) m))) (sym size)
               (related_passes r s t b a bytes low2 low1
-              (op_steps (binary_op op ty mode t a (integer s a.bytes) b (integer s b.bytes))) rest n pc
+              (op_steps (binary_op op ty mode t a (integer s a.bytes) b (integer s b.bytes))) rest n pc m.state.work
               (operands_needed op t a b a.bytes b.bytes (needs at rest)) m v it ib ia (same ∙ size) size (omega arith) lb la
-              (relation_big op ty (integer s a.bytes) (integer s b.bytes)) stand
+              (omega (arith, relation_big op ty (integer s a.bytes) (integer s b.bytes))) stand
               (other_needed op t a b a.bytes b.bytes (needs at rest)) all_needed f)
+
+  relation_wide : (op : BinOp) (ty aty bty : PlainType) → 640 ≤ 64 * binary_words op ty aty bty
+  relation_wide op ty aty bty = by_kind (is_bitwise op && is_integer ty)
+    where
+      wide : 1 ≤ widest (ty ∷ aty ∷ bty ∷ [])
+      wide = omega arith
+
+      by_kind : (x : Bool) → 640 ≤ 64 * (if x then 10 * widest (ty ∷ aty ∷ bty ∷ []) else operation_words (widest (ty ∷ aty ∷ bty ∷ [])))
+      by_kind true = omega (arith, wide)
+      by_kind false = omega (arith, wide)
+
+  -- a comparison with a known number, whose truth value is needed: the number is put to its temporary first
+  related_number_follows : (op : BinOp) (r : Relation) → family_of op ≡ Compared r false
+      → (s : Bool) (ty : PlainType) (mode : Mode) (t a b : Temp) (k : ℤ) (rest : List PlainIr) (n pc : ℕ) (m : Mach) (v : View)
+      → HasHome slots t → HasHome slots a → HasHome slots b → b.bytes ≡ a.bytes → IsKnown b k m
+      → HasAt e (by_number_code (Compared r false) s s (home a) (home b) (home t) a.bytes (low_bytes 16 k) (wanted (needs at rest) t)
+      ++ items rest) pc end
+      → M (at_least a.at (operand_wanted op a.bytes (wanted (needs at rest) t)) (without t.at (needs at rest))) m v
+      → Rest (suc n) rest
+      → G (suc n) m.state.work pc v (P n (binary_op op ty mode t a (integer s a.bytes) b (integer s b.bytes)) rest m)
+  related_number_follows op r is s ty mode t a b k rest n pc m v it ia ib same known stands h f =
+      compared_numbers op r false is s ty mode t a b rest n pc need0 m v ia ib same h
+      (λ low1 low2 qa qb below1 below2. ⊎_elim (λ q. dead q low1 low2) (λ q. alive q low1 low2 qa qb below1 below2)
+      (cases_Bool (w == 0)))
+    where
+      w : ℕ
+      w = wanted (needs at rest) t
+
+      need0 : Need
+      need0 = at_least a.at (operand_wanted op a.bytes w) (without t.at (needs at rest))
+
+      need1 : Need
+      need1 = operands_needed op t a b a.bytes b.bytes (needs at rest)
+
+      c : ℕ
+      c = op_steps (binary_op op ty mode t a (integer s a.bytes) b (integer s b.bytes))
+
+      number : ℕ
+      number = low_bytes 16 k
+
+      put : List AsmItem
+      put = constant_code (home b) number a.bytes
+
+      own : List AsmItem
+      own = binary_code (Compared r false) s s (home a) (home b) (home t) a.bytes w
+
+      still : (u : ℕ) → u ≢ t.at → needs at rest u ≤ need0 u
+      still u d =
+          let x = without_other t.at u (needs at rest) d in
+          let z = least_other a.at (operand_wanted op a.bytes w) u (without t.at (needs at rest)) in
+          omega (arith, x, z)
+
+      dead : (w == 0) ≡ true → (low1 low2 : ℕ)
+          → G (suc n) m.state.work pc v (R (suc n) rest (told_machine t (stand_so r s a.bytes low1 low2) c m))
+      dead q low1 low2 =
+          let truth = stand_so r s a.bytes low1 low2 in
+          let low = low_bytes t.bytes (pos (from_bool truth)) in
+          let m1 = told_machine t truth c m in
+          let stand = subst (λ (x : Bool). HasAt e ((if x then [] else put ++ own) ++ items rest) pc end) q stands in
+          let matches = not_needed t low c (needs at rest) need0 m v it (eqb-true w 0 q)
+          (low_below t.bytes (pos (from_bool truth))) still h in
+          goes_past [] (items rest) (suc n) (suc n) m.state.work m1.state.work pc v (R (suc n) rest m1) stand refl (omega arith)
+          (omega arith)
+          (λ mid u. f mid m1 v u matches)
+
+      alive : (w == 0) ≡ false → (low1 low2 : ℕ) → m.temps a.at ≡ Some (record { bytes = a.bytes; content = bits low1 })
+          → m.temps b.at ≡ Some (record { bytes = b.bytes; content = bits low2 }) → low1 < 256 ^ a.bytes → low2 < 256 ^ a.bytes
+          → G (suc n) m.state.work pc v (R (suc n) rest (told_machine t (stand_so r s a.bytes low1 low2) c m))
+      alive q low1 low2 qa qb below1 below2 = by_size (a.bytes - 1) (let some = ia.some in omega arith)
+        where
+          all_needed : M (at_least a.at a.bytes (without t.at (needs at rest))) m v
+          all_needed =
+              subst (λ x. M (at_least a.at x (without t.at (needs at rest))) m v) (all_wanted op r false is a.bytes w q) h
+
+          v1 : View
+          v1 = block e put v
+
+          matches : M need1 m v1
+          matches =
+              subst (λ j. M need1 m (block e (constant_code (home b) number j) v)) same
+              (number_put p e slots home base place y b k low2 need1 (at_least a.at a.bytes (without t.at (needs at rest))) m v ib qb
+              (known low2 qb) (λ u d. more u d) all_needed)
+            where
+              more : (u : ℕ) → u ≢ b.at → need1 u ≤ at_least a.at a.bytes (without t.at (needs at rest)) u
+              more u d =
+                  let x = ne_eqb u b.at d in
+                  rw x (omega arith)
+
+          by_size : (bytes : ℕ) → a.bytes ≡ suc bytes
+              → G (suc n) m.state.work pc v (R (suc n) rest (told_machine t (stand_so r s a.bytes low1 low2) c m))
+          by_size bytes size =
+              let eight = ia.most in
+              let take = (values_take (home b) number 0 a.bytes).0 in
+              let straight = (values_are_straight (home b) number 0 a.bytes).0 in
+              let wide = relation_wide op ty (integer s a.bytes) (integer s b.bytes) in
+              let relation = relation_code r s (home a) (home b) a.bytes ++ conversion_code false (InRegisters 30) (home t) 1 w in
+              let code : by_number_code (Compared r false) s s (home a) (home b) (home t) a.bytes number w ≡ put ++ relation =
+              ap (λ (x : Bool). if x then [] else put ++ (if x then [] else relation)) q in
+              let stand : HasAt e (put ++ (relation ++ items rest)) pc end =
+              subst (λ (x : List AsmItem). HasAt e x pc end) (ap (λ (x : List AsmItem). x ++ items rest) code
+              ∙ append_assoc put relation (items rest)) stands in
+              let left : value v1.at (base a) a.bytes ≡ low1 =
+              left_holds op t a b a.bytes b.bytes low1 (needs at rest) m v1 ia (omega arith) qa matches
+              ∙ kept_below low1 (256 ^ a.bytes) below1 in
+              let right : value v1.at (base b) a.bytes ≡ low2 =
+              subst (λ j. value v1.at (base b) j ≡ low2 % 256 ^ j) same
+              (right_holds op t a b a.bytes b.bytes low2 (needs at rest) m v1 ib (omega arith) qb matches)
+              ∙ kept_below low2 (256 ^ a.bytes) below2 in
+              let m1 = told_machine t (stand_so r s a.bytes low1 low2) c m in
+              goes_past put (relation ++ items rest) (suc n) (suc n) m.state.work (m.state.work + code_steps put) pc v
+              (R (suc n) rest m1) stand straight (omega arith) (omega arith)
+              (λ mid u. subst (λ j. G (suc n) (m.state.work + code_steps put) mid v1
+              (R (suc n) rest (told_machine t (stand_so r s j low1 low2) c m))) (sym size)
+              (related_passes r s t a b bytes low1 low2 c rest n mid (m.state.work + code_steps put) need1 m v1 it ia ib size
+              (same ∙ size) (omega arith) (subst (λ j. value v1.at (base a) j ≡ low1) size left)
+              (subst (λ j. value v1.at (base b) j ≡ low2) size right) (omega (arith, take, eight, wide))
+              (subst (λ j. HasAt e ((relation_code r s (home a) (home b) j ++ conversion_code false (InRegisters 30) (home t) 1 w)
+              ++ items rest) mid end) size u) (other_needed op t a b a.bytes b.bytes (needs at rest)) matches f))
 
   -- ---- products
 
@@ -677,8 +874,8 @@ module _ (p : PlainProgram) (functions : List PlainIrFunction) (e : Env) (slots 
       (rest : List PlainIr) (n pc : ℕ) (m : Mach) (v : View) → HasHome slots t → HasHome slots a → HasHome slots b
       → t.bytes ≡ 2 → a.bytes ≡ 1 → b.bytes ≡ 1
       → HasAt e (code_of (binary_op op (integer s 2) mode t a (integer s1 1) b (integer s2 1)) rest ++ items rest) pc end
-      → M (needs at (binary_op op (integer s 2) mode t a (integer s1 1) b (integer s2 1) ∷ rest)) m v → Rest (suc n) rest
-      → G (suc n) m.state.work pc v (R (suc n) (binary_op op (integer s 2) mode t a (integer s1 1) b (integer s2 1) ∷ rest) m)
+      → M (plain_needs (binary_op op (integer s 2) mode t a (integer s1 1) b (integer s2 1)) rest) m v → Rest (suc n) rest
+      → G (suc n) m.state.work pc v (P n (binary_op op (integer s 2) mode t a (integer s1 1) b (integer s2 1)) rest m)
   multiplied_follows op is s s1 s2 mode t a b rest n pc m v it ia ib two one_a one_b stands h f =
       subst (λ j. G (suc n) m.state.work pc v (next (held_as p (integer s1 j) a m.temps (worked
       (op_steps (binary_op op (integer s 2) mode t a (integer s1 1) b (integer s2 1))) m.state))
@@ -731,7 +928,7 @@ module _ (p : PlainProgram) (functions : List PlainIrFunction) (e : Env) (slots 
           ap (λ x. binary_code x s1 s2 (home a) (home b) (home t) a.bytes (wanted (needs at rest) t)) is ∙ rw q refl in
           nothing_passes (binary_op op (integer s 2) mode t a (integer s1 1) b (integer s2 1)) t (product_of s1 s2 low1 low2)
           (op_steps (binary_op op (integer s 2) mode t a (integer s1 1) b (integer s2 1))) rest n pc
-          (needs at ((binary_op op (integer s 2) mode t a (integer s1 1) b (integer s2 1)) ∷ rest)) m v it empty
+          (plain_needs (binary_op op (integer s 2) mode t a (integer s1 1) b (integer s2 1)) rest) m v it empty
           (eqb-true (wanted (needs at rest) t) 0 q) (below low1 low2) stands
           (other_needed op t a b (operand_wanted op a.bytes (wanted (needs at rest) t))
           (right_wanted op b.bytes (wanted (needs at rest) t)) (needs at rest)) h f
@@ -847,10 +1044,10 @@ module _ (p : PlainProgram) (functions : List PlainIrFunction) (e : Env) (slots 
       (t a b : Temp) (rest : List PlainIr) (n pc : ℕ) (m : Mach) (v : View) → HasHome slots t → HasHome slots a
       → HasHome slots b → a.bytes ≡ t.bytes → t.at ≢ b.at
       → HasAt e (code_of (binary_op op (integer s a.bytes) mode t a (integer s a.bytes) b (integer s2 b.bytes)) rest ++ items rest) pc end
-      → M (needs at (binary_op op (integer s a.bytes) mode t a (integer s a.bytes) b (integer s2 b.bytes) ∷ rest)) m v
+      → M (plain_needs (binary_op op (integer s a.bytes) mode t a (integer s a.bytes) b (integer s2 b.bytes)) rest) m v
       → Rest (suc n) rest
       → G (suc n) m.state.work pc v
-      (R (suc n) (binary_op op (integer s a.bytes) mode t a (integer s a.bytes) b (integer s2 b.bytes) ∷ rest) m)
+      (P n (binary_op op (integer s a.bytes) mode t a (integer s a.bytes) b (integer s2 b.bytes)) rest m)
   shifted_follows op up is s s2 mode t a b rest n pc m v it ia ib same other stands h f =
       from_number p place e s a m.temps
       (worked (op_steps (binary_op op (integer s a.bytes) mode t a (integer s a.bytes) b (integer s2 b.bytes))) m.state) _
@@ -881,7 +1078,7 @@ module _ (p : PlainProgram) (functions : List PlainIrFunction) (e : Env) (slots 
           nothing_passes (binary_op op (integer s a.bytes) mode t a (integer s a.bytes) b (integer s2 b.bytes)) t
           (shifted_by (shift_of up s) t.bytes low1 c)
           (op_steps (binary_op op (integer s a.bytes) mode t a (integer s a.bytes) b (integer s2 b.bytes))) rest n pc
-          (needs at ((binary_op op (integer s a.bytes) mode t a (integer s a.bytes) b (integer s2 b.bytes)) ∷ rest)) m v it empty
+          (plain_needs (binary_op op (integer s a.bytes) mode t a (integer s a.bytes) b (integer s2 b.bytes)) rest) m v it empty
           (eqb-true (wanted (needs at rest) t) 0 q) (shifted_below (shift_of up s) t.bytes low1 c below) stands
           (other_needed op t a b (operand_wanted op a.bytes (wanted (needs at rest) t))
           (right_wanted op b.bytes (wanted (needs at rest) t)) (needs at rest)) h f
@@ -1096,10 +1293,10 @@ module _ (p : PlainProgram) (functions : List PlainIrFunction) (e : Env) (slots 
       (t a b : Temp) (top : ℕ) (rest : List PlainIr) (n pc : ℕ) (m : Mach) (v : View) → HasHome slots t → HasHome slots a
       → HasHome slots b → t.bytes ≡ suc top → a.bytes ≡ suc top → b.bytes ≡ suc top → suc top ≤ 4 → t.at ≢ b.at
       → HasAt e (code_of (binary_op op (integer s (suc top)) mode t a (integer s a.bytes) b (integer s b.bytes)) rest ++ items rest) pc end
-      → M (needs at (binary_op op (integer s (suc top)) mode t a (integer s a.bytes) b (integer s b.bytes) ∷ rest)) m v
+      → M (plain_needs (binary_op op (integer s (suc top)) mode t a (integer s a.bytes) b (integer s b.bytes)) rest) m v
       → Rest (suc n) rest
       → G (suc n) m.state.work pc v
-      (R (suc n) (binary_op op (integer s (suc top)) mode t a (integer s a.bytes) b (integer s b.bytes) ∷ rest) m)
+      (P n (binary_op op (integer s (suc top)) mode t a (integer s a.bytes) b (integer s b.bytes)) rest m)
   divided_follows op r is s mode t a b top rest n pc m v it ia ib qt qa qb most other stands h f =
       from_number p place e s a m.temps
       (worked (op_steps (binary_op op (integer s (suc top)) mode t a (integer s a.bytes) b (integer s b.bytes))) m.state) _
@@ -1149,7 +1346,7 @@ module _ (p : PlainProgram) (functions : List PlainIrFunction) (e : Env) (slots 
           nothing_passes (binary_op op (integer s (suc top)) mode t a (integer s a.bytes) b (integer s b.bytes)) t
           (quotient_of r s top low1 low2)
           (op_steps (binary_op op (integer s (suc top)) mode t a (integer s a.bytes) b (integer s b.bytes))) rest n pc
-          (needs at (binary_op op (integer s (suc top)) mode t a (integer s a.bytes) b (integer s b.bytes) ∷ rest)) m v it empty
+          (plain_needs (binary_op op (integer s (suc top)) mode t a (integer s a.bytes) b (integer s b.bytes)) rest) m v it empty
           (eqb-true (wanted (needs at rest) t) 0 q) (below_result low1 low2 l k some) stands
           (other_needed op t a b (operand_wanted op a.bytes (wanted (needs at rest) t))
           (right_wanted op b.bytes (wanted (needs at rest) t)) (needs at rest)) h f
@@ -1218,7 +1415,7 @@ module _ (p : PlainProgram) (functions : List PlainIrFunction) (e : Env) (slots 
   abbrev Done : BinOp → (ty aty bty : PlainType) → Mode → (t a b : Temp) → List PlainIr → (n pc : ℕ) → Mach → View → Type 0
   Done op ty aty bty mode t a b rest n pc m v =
       HasAt e (code_of (binary_op op ty mode t a aty b bty) rest ++ items rest) pc end
-      → G (suc n) m.state.work pc v (R (suc n) (binary_op op ty mode t a aty b bty ∷ rest) m)
+      → G (suc n) m.state.work pc v (P n (binary_op op ty mode t a aty b bty) rest m)
 
   pub operator_follows : (op : BinOp) (ty : PlainType) (mode : Mode) (t a : Temp) (aty : PlainType) (b : Temp)
       (bty : PlainType) (rest : List PlainIr) (n pc : ℕ) (m : Mach) (v : View)
@@ -1227,11 +1424,11 @@ module _ (p : PlainProgram) (functions : List PlainIrFunction) (e : Env) (slots 
       → M
       (operands_needed op t a b (operand_wanted op a.bytes (wanted (needs at rest) t)) (right_wanted op b.bytes (wanted (needs at rest) t))
       (needs at rest)) m v
-      → Rest (suc n) rest → G (suc n) m.state.work pc v (R (suc n) (binary_op op ty mode t a aty b bty ∷ rest) m)
+      → Rest (suc n) rest → G (suc n) m.state.work pc v (P n (binary_op op ty mode t a aty b bty) rest m)
   operator_follows op ty mode t a aty b bty rest n pc m v i stands h f = by_family (family_of op) refl i
     where
       by_family : (x : Family) → family_of op ≡ x → IsBinary x slots t a b ty aty bty
-          → G (suc n) m.state.work pc v (R (suc n) (binary_op op ty mode t a aty b bty ∷ rest) m)
+          → G (suc n) m.state.work pc v (P n (binary_op op ty mode t a aty b bty) rest m)
       by_family (Combined o) q k =
           let w = wanted (needs at rest) t in
           let la = low_bytes_wanted op o q a.bytes w in
@@ -1334,8 +1531,9 @@ module _ (p : PlainProgram) (functions : List PlainIrFunction) (e : Env) (slots 
   pub fixed_binary_follows : (op : BinOp) (ty : PlainType) (mode : Mode) (t a : Temp) (aty : PlainType) (b : Temp) (bty : PlainType)
       (rest : List PlainIr) (n pc : ℕ) (m : Mach) (v : View) → IsFixedBinary slots op t a b ty aty bty
       → is_on_integers (family_of op) mode ty aty bty ≡ false
-      → HasAt e (items (binary_op op ty mode t a aty b bty ∷ rest)) pc end → M (needs at (binary_op op ty mode t a aty b bty ∷ rest)) m v
-      → Rest (suc n) rest → G (suc n) m.state.work pc v (R (suc n) (binary_op op ty mode t a aty b bty ∷ rest) m)
+      → HasAt e (plain_items (binary_op op ty mode t a aty b bty) rest) pc end → M
+      (plain_needs (binary_op op ty mode t a aty b bty) rest) m v
+      → Rest (suc n) rest → G (suc n) m.state.work pc v (P n (binary_op op ty mode t a aty b bty) rest m)
   fixed_binary_follows op ty mode t a aty b bty rest n pc m v k apart stands h f =
       from_typed p place e aty a m.temps st _ (suc n) m.state.work pc v (fixed_numeric aty suited.first)
       (λ low1 qa. from_typed p place e bty b m.temps st _ (suc n) m.state.work pc v (fixed_numeric bty suited.second)
@@ -1412,10 +1610,10 @@ module _ (p : PlainProgram) (functions : List PlainIrFunction) (e : Env) (slots 
               else (if stops then stopped else answer_code code (home t) w)) apart
 
           stand : HasAt e (code_of i rest ++ items rest) pc end
-          stand = subst (λ x. HasAt e (op_code p home link None x need i ++ items_told x rest) pc end)
+          stand = subst (λ x. HasAt e (op_code p home link None x None need i ++ items_told x rest) pc end)
               (none_told (is_only_tested t (slice_get rest 0) (slice_index (wanted_bytes at rest) 0))) stands
 
-          more : (u : ℕ) → u ≢ t.at → need u ≤ needs at (i ∷ rest) u
+          more : (u : ℕ) → u ≢ t.at → need u ≤ plain_needs i rest u
           more u d = other_needed op t a b ka kb need u d
 
           m1 : Mach
@@ -1465,7 +1663,7 @@ module _ (p : PlainProgram) (functions : List PlainIrFunction) (e : Env) (slots 
               λ (x1 x2 : ℕ). IsNumber
               (arithmetic_value op (number_type ty) mode (fixed_operand_in (format_in aty) (scalar_size aty) x1)
               (fixed_operand_in (format_in bty) (scalar_size bty) x2)) r in
-              placed_passes p e slots home base place y op ty aty bty mode c (suc n) pc mid t a b need (needs at (i ∷ rest)) m v
+              placed_passes p e slots home base place y op ty aty bty mode c (suc n) pc mid t a b need (plain_needs i rest) m v
               (R (suc n) rest m1) r k known.0 known.1
               (subst (λ x1. given x1 (value v.at (base b) (scalar_size bty))) (sym x_is) (subst (λ x2. given low1 x2) (sym y_is) number))
               h more code_there (omega arith) (λ number v2 g matches. reached mid number v2 onward x_is y_is g matches)
@@ -1490,7 +1688,7 @@ module _ (p : PlainProgram) (functions : List PlainIrFunction) (e : Env) (slots 
               (home b) answer_location work_location (base a) (base b) (y.work + 40) y.work pc end1 v k.types slots2 h.bytes u in
               let room = binary_roomy op ty aty bty in
               answer_passes p e slots home base place y code (64 * binary_room op ty aty bty) size c (suc n) pc mid t need
-              (needs at (i ∷ rest)) m v (R (suc n) rest m1) holds k.result same h more z there run (omega (arith, room, same))
+              (plain_needs i rest) m v (R (suc n) rest m1) holds k.result same h more z there run (omega (arith, room, same))
               (λ number v2 g matches. reached mid number v2 onward x_is y_is g matches)
 
           by_need : (x : Bool) → (w == 0) ≡ x → G (suc n) m.state.work pc v (R (suc n) rest m1)
@@ -1500,7 +1698,7 @@ module _ (p : PlainProgram) (functions : List PlainIrFunction) (e : Env) (slots 
               (none (code ++ copy_code answer_location (home t) w)) in
               let empty : code_of i rest ≡ [] = code_is ∙ both stops in
               let go =
-              nothing_passes i t (low_bytes t.bytes number.number) c rest n pc (needs at (i ∷ rest)) m v k.result empty
+              nothing_passes i t (low_bytes t.bytes number.number) c rest n pc (plain_needs i rest) m v k.result empty
               (eqb-true w 0 z) (low_below t.bytes number.number) stand more h f in
               subst (λ (x : Value). G (suc n) m.state.work pc v (R (suc n) rest (machine (with_temp t x m.temps) st)))
               (sym number.result) go
@@ -1508,7 +1706,7 @@ module _ (p : PlainProgram) (functions : List PlainIrFunction) (e : Env) (slots 
               let parts = has_parts e (code_of i rest) (items rest) pc end stand in
               let there : HasAt e (if stops then stopped else answer_code code (home t) w) pc parts.0 =
               subst (λ x. HasAt e x pc parts.0) code_is parts.1 in
-              let need0 = needs at (i ∷ rest) in
+              let need0 = plain_needs i rest in
               let least_a : all_or_none a.bytes w ≤ need0 a.at = subst (λ (x : Bool). first_wanted x op a.bytes w ≤ need0 a.at) wx
               (least_here a.at ka (at_least b.at kb (without t.at need))) in
               let inner = least_here b.at kb (without t.at need) in
@@ -1524,7 +1722,7 @@ module _ (p : PlainProgram) (functions : List PlainIrFunction) (e : Env) (slots 
   pub fixed_unary_follows : (op : UnOp) (ty : PlainType) (mode : Mode) (t a : Temp) (rest : List PlainIr) (n pc : ℕ) (m : Mach) (v : View)
       → IsFixedUnary slots op t a ty → mode.saturate ≡ true → HasAt e (items (unary_op op ty mode t a ∷ rest)) pc end
       → M (needs at (unary_op op ty mode t a ∷ rest)) m v
-      → Rest (suc n) rest → G (suc n) m.state.work pc v (R (suc n) (unary_op op ty mode t a ∷ rest) m)
+      → Rest (suc n) rest → G (suc n) m.state.work pc v (P n (unary_op op ty mode t a) rest m)
   fixed_unary_follows op ty mode t a rest n pc m v k saturates stands h f =
       from_typed p place e ty a m.temps st _ (suc n) m.state.work pc v (fixed_numeric ty known)
       (λ low q. by_result low q (unary_result op ty mode (number_in ty low)) refl)
@@ -1570,7 +1768,7 @@ module _ (p : PlainProgram) (functions : List PlainIrFunction) (e : Env) (slots 
               ap (λ z. code_by_kind z (fixed_unary op ty mode (home a) (home t) w) (unary_code op (home a) (home t) w)) fx
               ∙ ap (λ z. if z then answer_code code (home t) w else unary_code op (home a) (home t) w) saturates
 
-          more : (u : ℕ) → u ≢ t.at → need u ≤ needs at (i ∷ rest) u
+          more : (u : ℕ) → u ≢ t.at → need u ≤ plain_needs i rest u
           more u d = let x = without_other t.at u need d in let z = least_other a.at ka u (without t.at need) in omega arith
 
           m1 : Mach
@@ -1583,7 +1781,7 @@ module _ (p : PlainProgram) (functions : List PlainIrFunction) (e : Env) (slots 
           by_need true z =
               let empty : code_of i rest ≡ [] = code_is ∙ ap (λ x. if x then [] else code ++ copy_code answer_location (home t) w) z in
               let go =
-              nothing_passes i t (low_bytes t.bytes number.number) c rest n pc (needs at (i ∷ rest)) m v k.result empty
+              nothing_passes i t (low_bytes t.bytes number.number) c rest n pc (plain_needs i rest) m v k.result empty
               (eqb-true w 0 z) (low_below t.bytes number.number) stands more h f in
               subst (λ (x : Value). G (suc n) m.state.work pc v (R (suc n) rest (machine (with_temp t x m.temps) st)))
               (sym number.result) go
@@ -1594,7 +1792,7 @@ module _ (p : PlainProgram) (functions : List PlainIrFunction) (e : Env) (slots 
               let same : size ≡ t.bytes = sym k.result_bytes in
               let some = k.result.some in
               let most = k.result.most in
-              let need0 = needs at (i ∷ rest) in
+              let need0 = plain_needs i rest in
               let least_a : all_or_none a.bytes w ≤ need0 a.at = subst (λ (x : Bool). only_wanted x a.bytes w ≤ need0 a.at) wx
               (least_here a.at ka (without t.at need)) in
               let x_is : value v.at (base a) size ≡ low = all_there a w low size need0 m v k.operand k.operand_bytes z least_a qa h in
@@ -1619,7 +1817,7 @@ module _ (p : PlainProgram) (functions : List PlainIrFunction) (e : Env) (slots 
       (m : Mach) (v : View)
       → IsFixedConversion slots t a ty aty → keeps_number ty aty mode ≡ false → HasAt e (items (conversion t ty mode a aty ∷ rest)) pc end
       → M (needs at (conversion t ty mode a aty ∷ rest)) m v
-      → Rest (suc n) rest → G (suc n) m.state.work pc v (R (suc n) (conversion t ty mode a aty ∷ rest) m)
+      → Rest (suc n) rest → G (suc n) m.state.work pc v (P n (conversion t ty mode a aty) rest m)
   fixed_conversion_follows t ty mode a aty rest n pc m v k other stands h f =
       from_typed p place e aty a m.temps st _ (suc n) m.state.work pc v (fixed_numeric aty known.operand)
       (λ low q. by_result low q (conversion_result ty mode (operand low)) refl)
@@ -1670,7 +1868,7 @@ module _ (p : PlainProgram) (functions : List PlainIrFunction) (e : Env) (slots 
               (conversion_code (is_signed aty) (home a) (home t) a.bytes w))) fx
               ∙ ap (λ z. if z then conversion_code (is_signed aty) (home a) (home t) a.bytes w else answer_code code (home t) w) other
 
-          more : (u : ℕ) → u ≢ t.at → need u ≤ needs at (i ∷ rest) u
+          more : (u : ℕ) → u ≢ t.at → need u ≤ plain_needs i rest u
           more u d = let x = without_other t.at u need d in let z = least_other a.at ka u (without t.at need) in omega arith
 
           m1 : Mach
@@ -1686,7 +1884,7 @@ module _ (p : PlainProgram) (functions : List PlainIrFunction) (e : Env) (slots 
           by_need true z =
               let empty : code_of i rest ≡ [] = code_is ∙ ap (λ x. if x then [] else code ++ copy_code answer_location (home t) w) z in
               let go =
-              nothing_passes i t (low_bytes t.bytes number.number) c rest n pc (needs at (i ∷ rest)) m v k.result empty
+              nothing_passes i t (low_bytes t.bytes number.number) c rest n pc (plain_needs i rest) m v k.result empty
               (eqb-true w 0 z) (low_below t.bytes number.number) stands more h f in
               subst (λ (x : Value). G (suc n) m.state.work pc v (R (suc n) rest (machine (with_temp t x m.temps) st)))
               (sym number.result) go
@@ -1697,7 +1895,7 @@ module _ (p : PlainProgram) (functions : List PlainIrFunction) (e : Env) (slots 
               let same : size ≡ t.bytes = sym k.result_bytes in
               let some = k.result.some in
               let most = k.result.most in
-              let need0 = needs at (i ∷ rest) in
+              let need0 = plain_needs i rest in
               let least_a : all_or_none a.bytes w ≤ need0 a.at = subst (λ (x : Bool). only_wanted x a.bytes w ≤ need0 a.at) wx
               (least_here a.at ka (without t.at need)) in
               let x_is : value v.at (base a) (scalar_size aty) ≡ low =
@@ -1766,7 +1964,7 @@ module _ (p : PlainProgram) (functions : List PlainIrFunction) (e : Env) (slots 
       → IsFixedConversion slots t a (fixed k s1) (fixed j s2) → keeps_number (fixed k s1) (fixed j s2) mode ≡ true
       → HasAt e (items (conversion t (fixed k s1) mode a (fixed j s2) ∷ rest)) pc end
       → M (needs at (conversion t (fixed k s1) mode a (fixed j s2) ∷ rest)) m v
-      → Rest (suc n) rest → G (suc n) m.state.work pc v (R (suc n) (conversion t (fixed k s1) mode a (fixed j s2) ∷ rest) m)
+      → Rest (suc n) rest → G (suc n) m.state.work pc v (P n (conversion t (fixed k s1) mode a (fixed j s2)) rest m)
   kept_follows t k j s1 s2 mode a rest n pc m v h keeps stands needed f =
       from_typed p place e (fixed j s2) a m.temps st _ (suc n) m.state.work pc v tt
       (λ low q. by_result low q (conversion_result (fixed k s1) mode (operand_of p (fixed j s2) (Number (whole_of j low)) st)) refl)
@@ -1838,7 +2036,7 @@ module _ (p : PlainProgram) (functions : List PlainIrFunction) (e : Env) (slots 
       → IsFixedConversion slots t a ty aty → keeps_number ty aty mode ≡ true
       → HasAt e (items (conversion t ty mode a aty ∷ rest)) pc end
       → M (needs at (conversion t ty mode a aty ∷ rest)) m v
-      → Rest (suc n) rest → G (suc n) m.state.work pc v (R (suc n) (conversion t ty mode a aty ∷ rest) m)
+      → Rest (suc n) rest → G (suc n) m.state.work pc v (P n (conversion t ty mode a aty) rest m)
   number_kept_follows t (fixed k s1) mode a (fixed j s2) rest n pc m v h keeps stands needed f =
       kept_follows t k j s1 s2 mode a rest n pc m v h keeps stands needed f
   number_kept_follows t (fixed k s) mode a void rest n pc m v h keeps stands needed f = absurd cc
@@ -1876,7 +2074,7 @@ module _ (p : PlainProgram) (functions : List PlainIrFunction) (e : Env) (slots 
       → HasHome slots t → HasHome slots a → a.bytes ≡ t.bytes
       → HasAt e (items (unary_op op (integer s a.bytes) mode t a ∷ rest)) pc end
       → M (at_least a.at (wanted (needs at rest) t) (without t.at (needs at rest))) m v → Rest (suc n) rest
-      → G (suc n) m.state.work pc v (R (suc n) (unary_op op (integer s a.bytes) mode t a ∷ rest) m)
+      → G (suc n) m.state.work pc v (P n (unary_op op (integer s a.bytes) mode t a) rest m)
   unary_of_numbers op s mode t a rest n pc m v it ia same stands h f =
       let need = needs at rest in
       let i = unary_op op (integer s a.bytes) mode t a in
@@ -1912,7 +2110,7 @@ module _ (p : PlainProgram) (functions : List PlainIrFunction) (e : Env) (slots 
       → IsFixedUnary slots Minus t a (fixed k s) → mode.saturate ≡ false
       → HasAt e (items (unary_op Minus (fixed k s) mode t a ∷ rest)) pc end
       → M (needs at (unary_op Minus (fixed k s) mode t a ∷ rest)) m v
-      → Rest (suc n) rest → G (suc n) m.state.work pc v (R (suc n) (unary_op Minus (fixed k s) mode t a ∷ rest) m)
+      → Rest (suc n) rest → G (suc n) m.state.work pc v (P n (unary_op Minus (fixed k s) mode t a) rest m)
   negation_follows k s mode t a rest n pc m v h off stands needed f =
       from_typed p place e (fixed k s) a m.temps st _ (suc n) m.state.work pc v tt
       (λ low q. by_result low q (unary_result Minus (fixed k s) mode (Number (whole_of k low))) refl)
@@ -1941,18 +2139,18 @@ module _ (p : PlainProgram) (functions : List PlainIrFunction) (e : Env) (slots 
           (home t) (wanted (needs at rest) t) else unary_code Minus (home a) (home t) (wanted (needs at rest) t)) ++ items rest) off
 
       -- the run of the negation of the integer
-      run : G (suc n) m.state.work pc v (R (suc n) (whole ∷ rest) m)
+      run : G (suc n) m.state.work pc v (P n whole rest m)
       run =
           let sized : a.bytes ≡ bytes = h.operand_bytes in
           let done =
           λ (j : ℕ). HasAt e (items (unary_op Minus (integer sign j) mode t a ∷ rest)) pc end
-          → G (suc n) m.state.work pc v (R (suc n) (unary_op Minus (integer sign j) mode t a ∷ rest) m) in
+          → G (suc n) m.state.work pc v (P n (unary_op Minus (integer sign j) mode t a) rest m) in
           let need = needs at rest in
           let w = wanted need t in
           let most = wanted_most need t in
           subst done sized
           (λ stand. unary_of_numbers Minus sign mode t a rest n pc m v h.result h.operand same stand
-          (weaker p e slots home base place y (needs at (i ∷ rest)) (at_least a.at w (without t.at need)) m v needed
+          (weaker p e slots home base place y (plain_needs i rest) (at_least a.at w (without t.at need)) m v needed
           (more_needed a.at w (all_or_none a.bytes w) (without t.at need) (without t.at need)
           (at_most_all a.bytes w (omega (arith, most, same))) (λ x. omega arith))) f)
           (subst (λ (x : List AsmItem). HasAt e x pc end) code stands)
@@ -1964,7 +2162,7 @@ module _ (p : PlainProgram) (functions : List PlainIrFunction) (e : Env) (slots 
       by_result low qa (Ok r) q =
           let w = negation_as k s mode low t.bytes r (ap not off) h.result_bytes q in
           let go = λ (u : Value) (s3 : State). R (suc n) rest (machine (with_temp t u m.temps) s3) in
-          let is : R (suc n) (whole ∷ rest) m ≡ R (suc n) rest (machine (with_temp t (Number w.number) m.temps) st) =
+          let is : P n whole rest m ≡ R (suc n) rest (machine (with_temp t (Number w.number) m.temps) st) =
           ap (λ o. next o (λ x s1. next (given (unary_result Minus (integer sign bytes) mode x) s1) go))
           (whole_held sign bytes low a m.temps st qa) ∙ ap (λ z. next (given z st) go) w.is in
           subst (λ (x : Content). G (suc n) m.state.work pc v (R (suc n) rest (machine (with_content t x m.temps) st))) (sym w.same)
@@ -1974,7 +2172,7 @@ module _ (p : PlainProgram) (functions : List PlainIrFunction) (e : Env) (slots 
       (v : View) → IsFixedUnary slots op t a ty → mode.saturate ≡ false
       → HasAt e (items (unary_op op ty mode t a ∷ rest)) pc end
       → M (needs at (unary_op op ty mode t a ∷ rest)) m v
-      → Rest (suc n) rest → G (suc n) m.state.work pc v (R (suc n) (unary_op op ty mode t a ∷ rest) m)
+      → Rest (suc n) rest → G (suc n) m.state.work pc v (P n (unary_op op ty mode t a) rest m)
   whole_unary_follows Minus (fixed k s) mode t a rest n pc m v h off stands needed f =
       negation_follows k s mode t a rest n pc m v h off stands needed f
   whole_unary_follows Invert (fixed k s) mode t a rest n pc m v h off stands needed f = absurd h.types.types.0
@@ -1988,7 +2186,7 @@ module _ (p : PlainProgram) (functions : List PlainIrFunction) (e : Env) (slots 
       (v : View) → IsCovered p results me y.called slots (unary_op op ty mode t a)
       → HasAt e (items (unary_op op ty mode t a ∷ rest)) pc end
       → M (needs at (unary_op op ty mode t a ∷ rest)) m v → Rest (suc n) rest
-      → G (suc n) m.state.work pc v (R (suc n) (unary_op op ty mode t a ∷ rest) m)
+      → G (suc n) m.state.work pc v (P n (unary_op op ty mode t a) rest m)
   unary_follows op ty mode t a rest n pc m v covered stands h f =
       ⊎_elim
       (λ (k : IsUnary slots t a ty).
@@ -1996,7 +2194,7 @@ module _ (p : PlainProgram) (functions : List PlainIrFunction) (e : Env) (slots 
       let type : ty ≡ integer k.signed a.bytes = k.result_type ∙ ap (integer k.signed) (sym same) in
       let done =
       λ (x : PlainType). HasAt e (items (unary_op op x mode t a ∷ rest)) pc end → M (needs at (unary_op op x mode t a ∷ rest)) m v
-      → G (suc n) m.state.work pc v (R (suc n) (unary_op op x mode t a ∷ rest) m) in
+      → G (suc n) m.state.work pc v (P n (unary_op op x mode t a) rest m) in
       subst done (sym type)
       (λ stand needed. unary_of_numbers op k.signed mode t a rest n pc m v k.result k.operand same stand needed f) stands h)
       (λ (k : IsFixedUnary slots op t a ty). ⊎_elim
@@ -2025,7 +2223,7 @@ module _ (p : PlainProgram) (functions : List PlainIrFunction) (e : Env) (slots 
       → HasHome slots t → HasHome slots a
       → HasAt e (items (conversion t (integer s t.bytes) mode a (integer s1 a.bytes) ∷ rest)) pc end
       → M (at_least a.at (wanted (needs at rest) t) (without t.at (needs at rest))) m v → Rest (suc n) rest
-      → G (suc n) m.state.work pc v (R (suc n) (conversion t (integer s t.bytes) mode a (integer s1 a.bytes) ∷ rest) m)
+      → G (suc n) m.state.work pc v (P n (conversion t (integer s t.bytes) mode a (integer s1 a.bytes)) rest m)
   conversion_of_numbers s s1 mode t a rest n pc m v it ia stands h f =
       let need = needs at rest in
       let i = conversion t (integer s t.bytes) mode a (integer s1 a.bytes) in
@@ -2051,13 +2249,13 @@ module _ (p : PlainProgram) (functions : List PlainIrFunction) (e : Env) (slots 
       (n pc : ℕ) (m : Mach) (v : View) → IsCovered p results me y.called slots (conversion t ty mode a aty)
       → HasAt e (items (conversion t ty mode a aty ∷ rest)) pc end
       → M (needs at (conversion t ty mode a aty ∷ rest)) m v → Rest (suc n) rest
-      → G (suc n) m.state.work pc v (R (suc n) (conversion t ty mode a aty ∷ rest) m)
+      → G (suc n) m.state.work pc v (P n (conversion t ty mode a aty) rest m)
   conversion_follows t ty mode a aty rest n pc m v covered stands h f =
       ⊎_elim
       (λ (k : AreConverted slots t a ty aty).
       let done =
       λ (x z : PlainType). HasAt e (items (conversion t x mode a z ∷ rest)) pc end → M (needs at (conversion t x mode a z ∷ rest)) m v
-      → G (suc n) m.state.work pc v (R (suc n) (conversion t x mode a z ∷ rest) m) in
+      → G (suc n) m.state.work pc v (P n (conversion t x mode a z) rest m) in
       subst (λ x. done x aty) (sym k.result_type)
       (subst (λ x. done (integer k.signed t.bytes) x) (sym k.from_type)
       (λ stand needed. conversion_of_numbers k.signed k.from_signed mode t a rest n pc m v k.result k.from stand needed f)) stands h)
@@ -2067,7 +2265,7 @@ module _ (p : PlainProgram) (functions : List PlainIrFunction) (e : Env) (slots 
       (λ (q : keeps_number ty aty mode ≡ false). fixed_conversion_follows t ty mode a aty rest n pc m v k q stands h f)
       (cases_Bool (keeps_number ty aty mode)))
       (λ (k : IsPointerConversion slots t a ty aty).
-      pointer_conversion_follows p functions e slots home base place y at all end results me link stack t ty mode a aty rest n
+      pointer_conversion_follows p functions e slots home base place y labels all end results me link stack t ty mode a aty rest n
       pc m v k stands h f)
       i)
       covered
@@ -2079,7 +2277,7 @@ module _ (p : PlainProgram) (functions : List PlainIrFunction) (e : Env) (slots 
       ≡ true
       → are_on_ports e s.events ≡ true
   on_machine n rest temps s q =
-      ports_before e s (state_of (R n rest (machine temps s))) (exec_adds functions p y.inputs n all stack rest (machine temps s)).events q
+      ports_before e s (state_of (R n rest (machine temps s))) (run_adds functions p y.inputs n all stack rest (machine temps s)).events q
 
   some_width : (width : ℕ) → (width ≡ 1) ⊎ ((width ≡ 2) ⊎ (width ≡ 4)) → 1 ≤ width
   some_width width cases =
@@ -2093,7 +2291,7 @@ module _ (p : PlainProgram) (functions : List PlainIrFunction) (e : Env) (slots 
   pub in_follows : (t : Temp) (port : ℕ) (index : Option Temp) (width : ℕ) (rest : List PlainIr) (n pc : ℕ) (m : Mach)
       (v : View) → IsPort slots t port index width → HasAt e (items (port_in t port index width ∷ rest)) pc end
       → M (index_needed index (without t.at (needs at rest))) m v → Rest n rest
-      → G (suc n) m.state.work pc v (R (suc n) (port_in t port index width ∷ rest) m)
+      → G (suc n) m.state.work pc v (P n (port_in t port index width) rest m)
   in_follows t port index width rest n pc m v is stands h f =
       from_element p place e index port width m.temps s (λ a s1. next (port_read y.inputs a width s1) (in_on n rest t m))
       (suc n) m.state.work pc v
@@ -2148,7 +2346,7 @@ module _ (p : PlainProgram) (functions : List PlainIrFunction) (e : Env) (slots 
   pub out_follows : (t : Temp) (port : ℕ) (index : Option Temp) (width : ℕ) (rest : List PlainIr) (n pc : ℕ) (m : Mach)
       (v : View) → IsPort slots t port index width → HasAt e (items (port_out t port index width ∷ rest)) pc end
       → M (at_least t.at width (index_needed index (needs at rest))) m v → Rest n rest
-      → G (suc n) m.state.work pc v (R (suc n) (port_out t port index width ∷ rest) m)
+      → G (suc n) m.state.work pc v (P n (port_out t port index width) rest m)
   out_follows t port index width rest n pc m v is stands h f =
       from_element p place e index port width m.temps s
       (λ a s1. next (held_number t m.temps s1) (λ low s2. next (port_written a width low s2) (out_on n rest m))) (suc n) m.state.work pc v
@@ -2205,22 +2403,23 @@ module _ (p : PlainProgram) (functions : List PlainIrFunction) (e : Env) (slots 
   -- where a label that has a word stands, and what is needed there
   pub record Target (l : ℕ) (rest : List PlainIr) : Type 0 where
     pub ready : e.word_of (link.label_of l) < 65536 → Ready (e.word_of (link.label_of l)) rest
-    pub needed : (u : ℕ) → needs at rest u ≤ at l u
+    pub needed : (u : ℕ) → needs at rest u ≤ labels l u
 
   -- behind an operation that is no label
   onward : (told : Option Told) (i : PlainIr) (ops : List PlainIr) (pc : ℕ) → HasAt e (items_told told (i ∷ ops)) pc end
       → (mid : ℕ) × HasAt e (items_told (tells_next at i ops) ops) mid end
   onward told i ops pc stands =
-      let s = has_parts e (op_code p home link told (tells_next at i ops) (needs at ops) i) (items_told (tells_next at i ops) ops) pc
+      let s = has_parts e (op_code p home link told (tells_next at i ops) (at.known (i ∷ ops)) (needs at ops) i)
+      (items_told (tells_next at i ops) ops) pc
       end stands in
       (s.0, s.2)
 
   -- operations of which the first one may have been told something
   record Walked (told : Option Told) (pc : ℕ) (rest : List PlainIr) : Type 0 where
     covered : AreCovered p results me y.called slots rest
-    live : IsLive at rest
+    live : IsLiveBy at rest
     inside : (b : ℕ) → Contains (called_in rest) b → Contains (called_in all) b
-    here : IsRunning p functions e slots home base place y at all end results me link stack
+    here : IsRunning p functions e slots home base place y labels all end results me link stack
     stands : HasAt e (items_told told rest) pc end
 
   found : (told : Option Told) (ops : List PlainIr) (pc l : ℕ) (rest : List PlainIr) → Walked told pc ops → find l ops ≡ Some rest
@@ -2238,7 +2437,7 @@ module _ (p : PlainProgram) (functions : List PlainIrFunction) (e : Env) (slots 
       λ w. s.1.0 (subst (λ n. e.word_of (link.label_of n) < 65536) (sym i) w) in
       let stands : e.word_of (link.label_of l) < 65536 → HasAt e (items ops) (e.word_of (link.label_of l)) end =
       λ w. subst (λ n. HasAt e (items ops) n end) (s.1.1 ∙ sym (here w) ∙ ap (λ n. e.word_of (link.label_of n)) i) s.2 in
-      let needed : (u : ℕ) → needs at ops u ≤ at l u = λ u. subst (λ n. needs at ops u ≤ at n u) i (r.live.0 u) in
+      let needed : (u : ℕ) → needs at ops u ≤ labels l u = λ u. subst (λ n. needs at ops u ≤ labels n u) i (r.live.0 u) in
       subst (λ x. Target l x) o
       (record {
         ready = λ w. record { covered = r.covered.1; live = r.live.1; inside = r.inside; here = r.here; stands = stands w };
@@ -2329,15 +2528,15 @@ module _ (p : PlainProgram) (functions : List PlainIrFunction) (e : Env) (slots 
 
   -- to a label
   jumps : (start l n c k pc : ℕ) (m : Mach) (v v1 : View) → Ready start all → e.word_of (link.label_of l) < 65536
-      → Goes e k pc v (e.word_of (link.label_of l)) v1 → 1 ≤ k → k ≤ c → M (at l) m v1 → Onward n
+      → Goes e k pc v (e.word_of (link.label_of l)) v1 → 1 ≤ k → k ≤ c → M (labels l) m v1 → Onward n
       → G (suc n) m.state.work pc v
-      (jump_to (find l all) (λ q u. exec_from functions p y.inputs n q.code q.stack q.rest u) all stack
+      (jump_to (find l all) (λ q u. checked_on functions p y.inputs n q.code q.stack q.rest u) all stack
       (machine m.temps (worked c m.state)))
   jumps start l n c k pc m v v1 ready w goes some most h f = by_label (find l all) refl
     where
       by_label : (o : Option (List PlainIr)) → find l all ≡ o
           → G (suc n) m.state.work pc v
-          (jump_to o (λ q u. exec_from functions p y.inputs n q.code q.stack q.rest u) all stack (machine m.temps (worked c m.state)))
+          (jump_to o (λ q u. checked_on functions p y.inputs n q.code q.stack q.rest u) all stack (machine m.temps (worked c m.state)))
       by_label None q = tt
       by_label (Some rest) q =
           let g =
@@ -2350,7 +2549,7 @@ module _ (p : PlainProgram) (functions : List PlainIrFunction) (e : Env) (slots 
             stands = ready.stands;
           }) q in
           let m1 = machine m.temps (worked c m.state) in
-          let z = weaker p e slots home base place y (at l) (needs at rest) m v1 h g.needed in
+          let z = weaker p e slots home base place y (labels l) (needs at rest) m v1 h g.needed in
           let matches : M (needs at rest) m1 v1 = record {
             temps_hold = z.temps_hold;
             leaves_hold = z.leaves_hold;
@@ -2366,8 +2565,8 @@ module _ (p : PlainProgram) (functions : List PlainIrFunction) (e : Env) (slots 
           (omega arith) (f (e.word_of (link.label_of l)) rest m1 v1 (g.ready w) matches)
 
   pub jump_follows : (start l : ℕ) (rest : List PlainIr) (n pc : ℕ) (m : Mach) (v : View) → Ready start all
-      → HasAt e (items (jump l ∷ rest)) pc end → M (at l) m v → Onward n
-      → G (suc n) m.state.work pc v (R (suc n) (jump l ∷ rest) m)
+      → HasAt e (items (jump l ∷ rest)) pc end → M (labels l) m v → Onward n
+      → G (suc n) m.state.work pc v (P n (jump l) rest m)
   jump_follows start l rest n pc m v ready stands h f =
       jumps start l n (op_steps (jump l)) 1 pc m v v ready (jump_has_word e (link.label_of l) pc stands.0 stands.1)
       (jump_goes e (link.label_of l) pc stands.0 v stands.1) (omega arith) (omega arith) h f
@@ -2427,7 +2626,7 @@ module _ (p : PlainProgram) (functions : List PlainIrFunction) (e : Env) (slots 
   -- how a branch goes on
   abbrev branched : (n l : ℕ) (t : Temp) (rest : List PlainIr) → Mach → Bool → Outcome Value
   branched n l t rest m is_none =
-      if is_none then jump_to (find l all) (λ q u. exec_from functions p y.inputs n q.code q.stack q.rest u) all stack
+      if is_none then jump_to (find l all) (λ q u. checked_on functions p y.inputs n q.code q.stack q.rest u) all stack
       (machine m.temps (worked (op_steps (branch_zero t l)) m.state))
       else R n rest (machine m.temps (worked (op_steps (branch_zero t l)) m.state))
 
@@ -2444,14 +2643,14 @@ module _ (p : PlainProgram) (functions : List PlainIrFunction) (e : Env) (slots 
       ne_eqb x 0 (λ z. absurd (omega (arith, whole, low, z)))
 
   pub branch_follows : (start l : ℕ) (t : Temp) (rest : List PlainIr) (n pc : ℕ) (m : Mach) (v : View)
-      → Ready start all → AreCovered p results me y.called slots rest → IsLive at rest
+      → Ready start all → AreCovered p results me y.called slots rest → IsLiveBy at rest
       → ((b : ℕ) → Contains (called_in rest) b → Contains (called_in all) b) → HasHome slots t
       → HasAt e (items (branch_zero t l ∷ rest)) pc end
-      → M (at_least t.at t.bytes (either (needs at rest) (at l))) m v → Onward n
-      → G (suc n) m.state.work pc v (R (suc n) (branch_zero t l ∷ rest) m)
+      → M (at_least t.at t.bytes (either (needs at rest) (labels l))) m v → Onward n
+      → G (suc n) m.state.work pc v (P n (branch_zero t l) rest m)
   branch_follows start l t rest n pc m v ready covered live inside it stands h f =
       let need = needs at rest in
-      let both = either need (at l) in
+      let both = either need (labels l) in
       let need0 = at_least t.at t.bytes both in
       let c = op_steps (branch_zero t l) in
       let st = worked c m.state in
@@ -2467,10 +2666,10 @@ module _ (p : PlainProgram) (functions : List PlainIrFunction) (e : Env) (slots 
       let kept = tested need0 m v t it h in
       let here : M need m v1 =
       weaker p e slots home base place y need0 need m v1 kept
-      (λ u. let a = either_left need (at l) u in let b = least_other t.at t.bytes u both in omega (arith, a, b)) in
-      let there : M (at l) m v1 =
-      weaker p e slots home base place y need0 (at l) m v1 kept
-      (λ u. let a = either_right need (at l) u in let b = least_other t.at t.bytes u both in omega (arith, a, b)) in
+      (λ u. let a = either_left need (labels l) u in let b = least_other t.at t.bytes u both in omega (arith, a, b)) in
+      let there : M (labels l) m v1 =
+      weaker p e slots home base place y need0 (labels l) m v1 kept
+      (λ u. let a = either_right need (labels l) u in let b = least_other t.at t.bytes u both in omega (arith, a, b)) in
       from_held p place e t m.temps st _ (suc n) m.state.work pc v
       (λ x q w.
       let content = whole p e slots home base place y both m v t x h it q w in
@@ -2481,7 +2680,7 @@ module _ (p : PlainProgram) (functions : List PlainIrFunction) (e : Env) (slots 
 
       by_flag : (mid to : ℕ) → Goes e (code_steps test) pc v mid (block e test v) → code_steps test ≤ 1 + 2 * t.bytes
           → BranchesAt e true 1 (link.label_of l) mid to → HasAt e (items rest) to end → M (needs at rest) m (block e test v)
-          → M (at l) m (block e test v) → (b : Bool) → (block e test v).flags.z ≡ from_bool b
+          → M (labels l) m (block e test v) → (b : Bool) → (block e test v).flags.z ≡ from_bool b
           → G (suc n) m.state.work pc v (branched n l t rest m b)
       by_flag mid to goes take branch to_end here there true set =
           let c = op_steps (branch_zero t l) in
@@ -2509,7 +2708,7 @@ module _ (p : PlainProgram) (functions : List PlainIrFunction) (e : Env) (slots 
 
       by_content : (mid to : ℕ) → Goes e (code_steps test) pc v mid (block e test v) → code_steps test ≤ 1 + 2 * t.bytes
           → BranchesAt e true 1 (link.label_of l) mid to → HasAt e (items rest) to end → M (needs at rest) m (block e test v)
-          → M (at l) m (block e test v) → (x : Content) → HoldsContent p place v.at (base t) t.bytes t.bytes x
+          → M (labels l) m (block e test v) → (x : Content) → HoldsContent p place v.at (base t) t.bytes t.bytes x
           → G (suc n) m.state.work pc v (branched n l t rest m (is_zero x))
       by_content mid to goes take branch to_end here there (points q) content =
           let some = not_null t.bytes (value v.at (base t) t.bytes) q content.0 content.1 in
@@ -2526,8 +2725,8 @@ module _ (p : PlainProgram) (functions : List PlainIrFunction) (e : Env) (slots 
       → m.temps t.at ≡ Some (record { bytes = t.bytes; content = bits (low_bytes t.bytes (pos (from_bool truth))) })
       → is_flag flag ≡ true → (truth ≡ false → flag_at v.flags flag ≡ if_bit set)
       → (truth ≡ true → flag_at v.flags flag ≡ if_bit (not set)) → BranchesAt e set flag (link.label_of l) pc to
-      → M (needs at rest) m v → M (at l) m v → Onward n
-      → G (suc n) m.state.work pc v (R (suc n) (branch_zero t l ∷ rest) m)
+      → M (needs at rest) m v → M (labels l) m v → Onward n
+      → G (suc n) m.state.work pc v (P n (branch_zero t l) rest m)
   told_branch_follows start l t truth set flag rest n pc to m v ready ready1 it holds is fails stays branch here there f =
       from_held p place e t m.temps (worked (op_steps (branch_zero t l)) m.state) _ (suc n) m.state.work pc v
       (λ x q w.
@@ -2554,17 +2753,17 @@ module _ (p : PlainProgram) (functions : List PlainIrFunction) (e : Env) (slots 
 
   -- the comparison of two temporaries, and the branch behind it
   told_passes : (start l : ℕ) (r : Relation) (s : Bool) (t x1 x2 : Temp) (bytes x z c : ℕ) (rest : List PlainIr) (n pc : ℕ)
-      (need0 : Need) (m : Mach) (v : View) → Ready start all → AreCovered p results me y.called slots rest → IsLive at rest
+      (need0 : Need) (m : Mach) (v : View) → Ready start all → AreCovered p results me y.called slots rest → IsLiveBy at rest
       → ((b : ℕ) → Contains (called_in rest) b → Contains (called_in all) b) → HasHome slots t → HasHome slots x1
       → HasHome slots x2 → x1.bytes ≡ suc bytes → x2.bytes ≡ suc bytes → suc bytes ≤ 16
       → value v.at (base x1) (suc bytes) ≡ x → value v.at (base x2) (suc bytes) ≡ z → 102 ≤ c
-      → wanted (either (needs at rest) (at l)) t ≡ 0
+      → wanted (either (needs at rest) (labels l)) t ≡ 0
       → HasAt e (compare_code (home x2) (home x1) (suc bytes) ++ (unless_code r s (link.label_of l) ++ items rest)) pc end
-      → ((k : ℕ) → k ≢ t.at → either (needs at rest) (at l) k ≤ need0 k) → M need0 m v → Onward n
+      → ((k : ℕ) → k ≢ t.at → either (needs at rest) (labels l) k ≤ need0 k) → M need0 m v → Onward n
       → G (suc n) m.state.work pc v (R (suc n) (branch_zero t l ∷ rest) (told_machine t (stand_so r s (suc bytes) x z) c m))
   told_passes start l r s t x1 x2 bytes x z c rest n pc need0 m v ready covered live inside it i1 i2 q1 q2
       most xl zu big none stands more h f =
-      let both = either (needs at rest) (at l) in
+      let both = either (needs at rest) (labels l) in
       let truth = stand_so r s (suc bytes) x z in
       let compared = compare_code (home x2) (home x1) (suc bytes) in
       let v1 = block e compared v in
@@ -2580,8 +2779,9 @@ module _ (p : PlainProgram) (functions : List PlainIrFunction) (e : Env) (slots 
       (not_needed t (low_bytes t.bytes (pos (from_bool truth))) c both need0 m v it none
       (low_below t.bytes (pos (from_bool truth))) more h) in
       let here : M (needs at rest) m1 v1 =
-      weaker p e slots home base place y both (needs at rest) m1 v1 matches (either_left (needs at rest) (at l)) in
-      let there : M (at l) m1 v1 = weaker p e slots home base place y both (at l) m1 v1 matches (either_right (needs at rest) (at l)) in
+      weaker p e slots home base place y both (needs at rest) m1 v1 matches (either_left (needs at rest) (labels l)) in
+      let there : M (labels l) m1 v1 = weaker p e slots home base place y both (labels l) m1 v1 matches
+      (either_right (needs at rest) (labels l)) in
       let straight = (pieces_are_straight Sum (home x2) (home x1) (suc bytes)).2 in
       let take = (pieces_take Sum (home x2) (home x1) (suc bytes)).2.1 in
       let told : stand_so r s (suc bytes) (value v.at (base x1) (suc bytes)) (value v.at (base x2) (suc bytes)) ≡ truth =
@@ -2589,26 +2789,75 @@ module _ (p : PlainProgram) (functions : List PlainIrFunction) (e : Env) (slots 
       let goes = block_goes e compared pc s1.0 v straight s1.1 in
       after p place e (code_steps compared) (suc n) (suc n) m.state.work m1.state.work pc s1.0 v v1
       (R (suc n) (branch_zero t l ∷ rest) m1) goes (omega arith) (omega (arith, take, most, big))
-      (told_branch_follows start l t truth (not (is_set r)) (flag_of r s) rest n s1.0 s1.2.0 m1 v1 ready
+      (checked functions p y.inputs place e n (suc n) m1.state.work s1.0 v1 all stack (branch_zero t l) rest m1
+      (λ held. told_branch_follows start l t truth (not (is_set r)) (flag_of r s) rest n s1.0 s1.2.0 m1 v1 ready
       (record { covered = covered; live = live; inside = inside; here = ready.here; stands = s1.2.2 }) it (held_at t _ m.temps)
       (flag_is r s)
       (λ q. fails_in_flag r s e (home x1) (home x2) bytes (base x1) (base x2) v sa sb h.bytes (told ∙ q) ∙ bit_is (not (is_set r)))
       (λ q. holds_in_flag r s e (home x1) (home x2) bytes (base x1) (base x2) v sa sb h.bytes (told ∙ q) ∙ bit_is (is_set r)
-      ∙ ap if_bit (sym (not_not (is_set r)))) s1.2.1 here there f)
+      ∙ ap if_bit (sym (not_not (is_set r)))) s1.2.1 here there f))
+
+  -- the same with a number
+  told_number_passes : (start l : ℕ) (r : Relation) (s : Bool) (t x1 : Temp) (bytes x z number c : ℕ) (rest : List PlainIr)
+      (n pc : ℕ) (need0 : Need) (m : Mach) (v : View) → Ready start all → AreCovered p results me y.called slots rest
+      → IsLiveBy at rest → ((b : ℕ) → Contains (called_in rest) b → Contains (called_in all) b) → HasHome slots t
+      → HasHome slots x1 → x1.bytes ≡ suc bytes → value v.at (base x1) (suc bytes) ≡ x → number % 256 ^ suc bytes ≡ z → 102 ≤ c
+      → wanted (either (needs at rest) (labels l)) t ≡ 0
+      → HasAt e (compared_with_code (home x1) number (suc bytes) ++ (unless_code r s (link.label_of l) ++ items rest)) pc end
+      → ((k : ℕ) → k ≢ t.at → either (needs at rest) (labels l) k ≤ need0 k) → M need0 m v → Onward n
+      → G (suc n) m.state.work pc v (R (suc n) (branch_zero t l ∷ rest) (told_machine t (stand_so r s (suc bytes) x z) c m))
+  told_number_passes start l r s t x1 bytes x z number c rest n pc need0 m v ready covered live inside it i1 q1 xl zu big none
+      stands more h f =
+      let both = either (needs at rest) (labels l) in
+      let truth = stand_so r s (suc bytes) x z in
+      let low = low_bytes t.bytes (pos (from_bool truth)) in
+      let code = compared_with_code (home x1) number (suc bytes) in
+      let v1 = block e code v in
+      let m1 = told_machine t truth c m in
+      let s1 = has_parts e code (unless_code r s (link.label_of l) ++ items rest) pc end stands in
+      let sa : StandsFrom e (home x1) (suc bytes) (base x1) Own =
+      subst (λ j. StandsFrom e (home x1) j (base x1) Own) q1 (y.layout.temps_at x1 i1) in
+      let outside : Outside (base x1) (suc bytes) 30 =
+      subst (λ j. Outside (base x1) j 30) q1 (work_outside (base x1) x1.bytes (y.layout.temps_work x1 i1)) in
+      let k = y.numbers.compared e (home x1) number bytes (base x1) v sa outside h.bytes in
+      let empty : value v1.at (base t) 0 ≡ low % 256 ^ 0 = omega arith in
+      let matches : M both m1 v1 =
+      written p e slots home base place y t (bits low) both need0 m (worked c m.state) v v1 it h more
+      (λ i d g j o. k.keeps.same i d g j (λ u. omega arith))
+      (subst (λ j. value v1.at (base t) j ≡ low % 256 ^ j) (sym none) empty, low_below t.bytes (pos (from_bool truth)))
+      k.keeps.bytes refl (k.keeps.seen ∙ h.seen) (kept_left y.inputs m.state v v1 k.keeps.inputs h.left) (k.keeps.safe ∙ h.safe) in
+      let here : M (needs at rest) m1 v1 =
+      weaker p e slots home base place y both (needs at rest) m1 v1 matches (either_left (needs at rest) (labels l)) in
+      let there : M (labels l) m1 v1 =
+      weaker p e slots home base place y both (labels l) m1 v1 matches (either_right (needs at rest) (labels l)) in
+      let form = (y.numbers.straight Subtract (home x1) number (suc bytes)).1 in
+      let few = form.few_steps in
+      let eight = i1.most in
+      let told : stand_so r s (suc bytes) (value v.at (base x1) (suc bytes)) (number % 256 ^ suc bytes) ≡ truth = rw (xl, zu) refl in
+      let goes = block_goes e code pc s1.0 v form.is_straight s1.1 in
+      after p place e (code_steps code) (suc n) (suc n) m.state.work m1.state.work pc s1.0 v v1
+      (R (suc n) (branch_zero t l ∷ rest) m1) goes (omega arith) (omega (arith, few, eight, q1, big))
+      (checked functions p y.inputs place e n (suc n) m1.state.work s1.0 v1 all stack (branch_zero t l) rest m1
+      (λ held. told_branch_follows start l t truth (not (is_set r)) (flag_of r s) rest n s1.0 s1.2.0 m1 v1 ready
+      (record { covered = covered; live = live; inside = inside; here = ready.here; stands = s1.2.2 }) it (held_at t _ m.temps)
+      (flag_is r s)
+      (λ q. fails_by_number e (home x1) number bytes (base x1) v v1 k r s (told ∙ q) ∙ bit_is (not (is_set r)))
+      (λ q. holds_by_number e (home x1) number bytes (base x1) v v1 k r s (told ∙ q) ∙ bit_is (is_set r)
+      ∙ ap if_bit (sym (not_not (is_set r)))) s1.2.1 here there f))
 
   pub told_follows : (start l : ℕ) (op : BinOp) (r : Relation) (exchanged : Bool) → family_of op ≡ Compared r exchanged
       → (s : Bool) (ty : PlainType) (mode : Mode) (t a b : Temp) (rest : List PlainIr) (n pc : ℕ) (m : Mach) (v : View)
-      → Ready start all → AreCovered p results me y.called slots rest → IsLive at rest
+      → Ready start all → AreCovered p results me y.called slots rest → IsLiveBy at rest
       → ((c : ℕ) → Contains (called_in rest) c → Contains (called_in all) c) → HasHome slots t → HasHome slots a
-      → HasHome slots b → b.bytes ≡ a.bytes → wanted (either (needs at rest) (at l)) t ≡ 0
+      → HasHome slots b → b.bytes ≡ a.bytes → wanted (either (needs at rest) (labels l)) t ≡ 0
       → HasAt e (flag_code (Compared r exchanged) (home a) (home b) a.bytes ++ (unless_code r s (link.label_of l) ++ items rest)) pc end
-      → M (needs at (binary_op op ty mode t a (integer s a.bytes) b (integer s b.bytes) ∷ branch_zero t l ∷ rest)) m v
+      → M (plain_needs (binary_op op ty mode t a (integer s a.bytes) b (integer s b.bytes)) (branch_zero t l ∷ rest)) m v
       → Onward n
       → G (suc n) m.state.work pc v
-      (R (suc n) (binary_op op ty mode t a (integer s a.bytes) b (integer s b.bytes) ∷ branch_zero t l ∷ rest) m)
+      (P n (binary_op op ty mode t a (integer s a.bytes) b (integer s b.bytes)) (branch_zero t l ∷ rest) m)
   told_follows start l op r exchanged is s ty mode t a b rest n pc m v ready covered live inside it ia ib same none stands h f =
       compared_numbers op r exchanged is s ty mode t a b (branch_zero t l ∷ rest) n pc
-      (needs at (binary_op op ty mode t a (integer s a.bytes) b (integer s b.bytes) ∷ branch_zero t l ∷ rest)) m v ia ib same h
+      (plain_needs (binary_op op ty mode t a (integer s a.bytes) b (integer s b.bytes)) (branch_zero t l ∷ rest)) m v ia ib same h
       (λ low1 low2 qa qb below1 below2.
       let hold =
       compared_hold op r exchanged is s ty mode t a b
@@ -2617,19 +2866,19 @@ module _ (p : PlainProgram) (functions : List PlainIrFunction) (e : Env) (slots 
       by_side low1 low2 hold.0 hold.1 hold.2 exchanged (a.bytes - 1) (omega arith) stands)
     where
       both : Need
-      both = either (needs at rest) (at l)
+      both = either (needs at rest) (labels l)
 
       tested_needed : (wanted (needs at (branch_zero t l ∷ rest)) t == 0) ≡ false
       tested_needed =
-          let here = least_here t.at t.bytes (either (needs at rest) (at l)) in
+          let here = least_here t.at t.bytes (either (needs at rest) (labels l)) in
           let some = it.some in
           ne_eqb (wanted (needs at (branch_zero t l ∷ rest)) t) 0 (λ q. absurd (omega (arith, here, some, q)))
 
       more : (k : ℕ) → k ≢ t.at
-          → either (needs at rest) (at l) k ≤ operands_needed op t a b a.bytes b.bytes (needs at (branch_zero t l ∷ rest)) k
+          → either (needs at rest) (labels l) k ≤ operands_needed op t a b a.bytes b.bytes (needs at (branch_zero t l ∷ rest)) k
       more k d =
           let x = other_needed op t a b a.bytes b.bytes (needs at (branch_zero t l ∷ rest)) k d in
-          let z = least_other t.at t.bytes k (either (needs at rest) (at l)) in
+          let z = least_other t.at t.bytes k (either (needs at rest) (labels l)) in
           omega (arith, x, z)
 
       by_side : (low1 low2 : ℕ) → M (operands_needed op t a b a.bytes b.bytes (needs at (branch_zero t l ∷ rest))) m v
@@ -2673,15 +2922,83 @@ module _ (p : PlainProgram) (functions : List PlainIrFunction) (e : Env) (slots 
           (λ j. HasAt e
           (compare_code (home a) (home b) j ++ (unless_code r s (link.label_of l) ++ items rest)) pc end) size stand) more needed f)
 
+  -- the same with a known number
+  told_number_follows : (start l : ℕ) (op : BinOp) (r : Relation) → family_of op ≡ Compared r false
+      → (s : Bool) (ty : PlainType) (mode : Mode) (t a b : Temp) (k : ℤ) (rest : List PlainIr) (n pc : ℕ) (m : Mach) (v : View)
+      → Ready start all → AreCovered p results me y.called slots rest → IsLiveBy at rest
+      → ((c : ℕ) → Contains (called_in rest) c → Contains (called_in all) c) → HasHome slots t → HasHome slots a
+      → HasHome slots b → b.bytes ≡ a.bytes → IsKnown b k m → wanted (either (needs at rest) (labels l)) t ≡ 0
+      → HasAt e (compared_with_code (home a) (low_bytes 16 k) a.bytes ++ (unless_code r s (link.label_of l) ++ items rest)) pc end
+      → M (at_least a.at (operand_wanted op a.bytes (wanted (needs at (branch_zero t l ∷ rest)) t))
+      (without t.at (needs at (branch_zero t l ∷ rest)))) m v
+      → Onward n
+      → G (suc n) m.state.work pc v
+      (P n (binary_op op ty mode t a (integer s a.bytes) b (integer s b.bytes)) (branch_zero t l ∷ rest) m)
+  told_number_follows start l op r is s ty mode t a b k rest n pc m v ready covered live inside it ia ib same known none stands h f =
+      compared_numbers op r false is s ty mode t a b (branch_zero t l ∷ rest) n pc
+      (at_least a.at (operand_wanted op a.bytes (wanted need t)) (without t.at need)) m v ia ib same h
+      (λ low1 low2 qa qb below1 below2. let some = ia.some in by_size low1 low2 qa qb below1 (a.bytes - 1) (omega arith))
+    where
+      need : Need
+      need = needs at (branch_zero t l ∷ rest)
+
+      c : ℕ
+      c = op_steps (binary_op op ty mode t a (integer s a.bytes) b (integer s b.bytes))
+
+      number : ℕ
+      number = low_bytes 16 k
+
+      need0 : Need
+      need0 = at_least a.at a.bytes (without t.at need)
+
+      tested_needed : (wanted need t == 0) ≡ false
+      tested_needed =
+          let here = least_here t.at t.bytes (either (needs at rest) (labels l)) in
+          let some = it.some in
+          ne_eqb (wanted need t) 0 (λ q. absurd (omega (arith, here, some, q)))
+
+      all_needed : M need0 m v
+      all_needed = subst (λ x. M (at_least a.at x (without t.at need)) m v) (all_wanted op r false is a.bytes
+          (wanted need t) tested_needed) h
+
+      more : (u : ℕ) → u ≢ t.at → either (needs at rest) (labels l) u ≤ need0 u
+      more u d =
+          let x = without_other t.at u need d in
+          let w = least_other a.at a.bytes u (without t.at need) in
+          let z = least_other t.at t.bytes u (either (needs at rest) (labels l)) in
+          omega (arith, x, w, z)
+
+      by_size : (low1 low2 : ℕ) → m.temps a.at ≡ Some (record { bytes = a.bytes; content = bits low1 })
+          → m.temps b.at ≡ Some (record { bytes = b.bytes; content = bits low2 }) → low1 < 256 ^ a.bytes → (bytes : ℕ)
+          → a.bytes ≡ suc bytes
+          → G (suc n) m.state.work pc v
+          (R (suc n) (branch_zero t l ∷ rest) (told_machine t (stand_so r s a.bytes low1 low2) c m))
+      by_size low1 low2 qa qb below1 bytes size =
+          let here = least_here a.at a.bytes (without t.at need) in
+          let left : value v.at (base a) a.bytes ≡ low1 =
+          (at_width p e slots home base place y need0 m v a _ a.bytes all_needed ia qa refl (omega (arith, here))).0
+          ∙ kept_below low1 (256 ^ a.bytes) below1 in
+          let eight = ia.most in
+          let right : number % 256 ^ a.bytes ≡ low2 =
+          number_low k a.bytes a.bytes (omega arith) (omega arith) ∙ kept_below (low_bytes a.bytes k) (256 ^ a.bytes) (low_below a.bytes k)
+          ∙ ap (λ j. low_bytes j k) (sym same) ∙ sym (known low2 qb) in
+          subst
+          (λ j. G (suc n) m.state.work pc v (R (suc n) (branch_zero t l ∷ rest) (told_machine t (stand_so r s j low1 low2) c m))) (sym size)
+          (told_number_passes start l r s t a bytes low1 low2 number c rest n pc need0 m v ready covered live inside it ia size
+          (subst (λ j. value v.at (base a) j ≡ low1) size left) (subst (λ j. number % 256 ^ j ≡ low2) size right)
+          (relation_big op ty (integer s a.bytes) (integer s b.bytes)) none
+          (subst (λ j. HasAt e (compared_with_code (home a) number j ++ (unless_code r s (link.label_of l) ++ items rest)) pc end) size
+          stands) more all_needed f)
+
   -- ---- labels
 
   -- a label counts for nothing
   label_follows : (l : ℕ) (rest : List PlainIr) (n pc : ℕ) (m : Mach) (v : View)
       → G (suc n) (m.state.work + op_steps (label l)) pc v (R (suc n) rest (machine m.temps (worked (op_steps (label l)) m.state)))
-      → G (suc n) m.state.work pc v (R (suc n) (label l ∷ rest) m)
+      → G (suc n) m.state.work pc v (P n (label l) rest m)
   label_follows l rest n pc m v f =
       let q : m.state.work + op_steps (label l) ≡ m.state.work = omega arith in
-      subst (λ w. G (suc n) w pc v (R (suc n) (label l ∷ rest) m)) q f
+      subst (λ w. G (suc n) w pc v (P n (label l) rest m)) q f
 
   -- ---- all operations
 
@@ -2690,19 +3007,25 @@ module _ (p : PlainProgram) (functions : List PlainIrFunction) (e : Env) (slots 
   CallCase n =
       (g : ℕ) (to : Option Temp) (pc : ℕ) (rest : List PlainIr) (m : Mach) (v : View)
       → Ready pc (call_function g to ∷ rest) → M (needs at (call_function g to ∷ rest)) m v
-      → G (suc n) m.state.work pc v (R (suc n) (call_function g to ∷ rest) m)
+      → G (suc n) m.state.work pc v (P n (call_function g to) rest m)
 
   abbrev pub ReturnCase : ℕ → Type 0
   ReturnCase n =
       (from : Option Temp) (pc : ℕ) (rest : List PlainIr) (m : Mach) (v : View)
       → Ready pc (return_from from ∷ rest) → M (returned_need from) m v
-      → G (suc n) m.state.work pc v (R (suc n) (return_from from ∷ rest) m)
+      → G (suc n) m.state.work pc v (P n (return_from from) rest m)
 
-  -- the code of a binary operator that tells something, and what comes after it
+  -- the code of a binary operator that takes no number and may tell something, and what comes after it
   abbrev StandsTelling : BinOp → PlainType → Mode → (t a : Temp) → PlainType → Temp → PlainType → ℕ → Option Told
       → List PlainIr → Type 0
   StandsTelling op ty mode t a aty b bty pc told ops =
-      HasAt e (op_code p home link None told (needs at ops) (binary_op op ty mode t a aty b bty) ++ items_told told ops) pc end
+      HasAt e (op_code p home link None told None (needs at ops) (binary_op op ty mode t a aty b bty) ++ items_told told ops) pc end
+
+  -- operations that are left behind one that computes
+  record Behind (rest : List PlainIr) : Type 0 where
+    covered : AreCovered p results me y.called slots rest
+    live : IsLiveBy at rest
+    inside : (b : ℕ) → Contains (called_in rest) b → Contains (called_in all) b
 
   -- what holds of no integer type holds of no operand of an integer operator
   no_kind : (is : PlainType → Bool) → ((s : Bool) (n : ℕ) → is (integer s n) ≡ false) → (x : Family) (t a b : Temp)
@@ -2725,10 +3048,11 @@ module _ (p : PlainProgram) (functions : List PlainIrFunction) (e : Env) (slots 
   -- a binary operator, and where it is a comparison that only the branch behind it tests, this branch too
   integers_follow : (start : ℕ) → Ready start all → (n : ℕ) → Onward n → (op : BinOp) (ty : PlainType) (mode : Mode)
       (t a : Temp) (aty : PlainType) (b : Temp) (bty : PlainType) (pc : ℕ) (rest : List PlainIr) (m : Mach) (v : View)
-      → IsBinary (family_of op) slots t a b ty aty bty → Ready pc (binary_op op ty mode t a aty b bty ∷ rest)
-      → M (needs at (binary_op op ty mode t a aty b bty ∷ rest)) m v
-      → Rest (suc n) rest → G (suc n) m.state.work pc v (R (suc n) (binary_op op ty mode t a aty b bty ∷ rest) m)
-  integers_follow start ready n go op ty mode t a aty b bty pc rest m v integers r h f =
+      → IsBinary (family_of op) slots t a b ty aty bty → Behind rest
+      → HasAt e (plain_items (binary_op op ty mode t a aty b bty) rest) pc end
+      → M (plain_needs (binary_op op ty mode t a aty b bty) rest) m v
+      → Rest (suc n) rest → G (suc n) m.state.work pc v (P n (binary_op op ty mode t a aty b bty) rest m)
+  integers_follow start ready n go op ty mode t a aty b bty pc rest m v integers r own_stands h f =
       by_told (tells_next at (binary_op op ty mode t a aty b bty) rest) refl
     where
       fx : (is_fixed aty || is_fixed bty) ≡ false
@@ -2743,7 +3067,7 @@ module _ (p : PlainProgram) (functions : List PlainIrFunction) (e : Env) (slots 
       ax : is_apart (family_of op) mode ty aty bty ≡ false
       ax = ap (λ z. z && not (is_on_integers (family_of op) mode ty aty bty)) wx
 
-      needed : (ops : List PlainIr) → M (needs at (binary_op op ty mode t a aty b bty ∷ ops)) m v
+      needed : (ops : List PlainIr) → M (plain_needs (binary_op op ty mode t a aty b bty) ops) m v
           → M
           (operands_needed op t a b (operand_wanted op a.bytes (wanted (needs at ops) t))
           (right_wanted op b.bytes (wanted (needs at ops) t)) (needs at ops)) m v
@@ -2751,11 +3075,11 @@ module _ (p : PlainProgram) (functions : List PlainIrFunction) (e : Env) (slots 
           (second_wanted x op b.bytes (wanted (needs at ops) t)) (needs at ops)) m v) wx h
 
       by_family : (x : Family) → family_of op ≡ x → (told : Told) → told_of x (is_signed aty) ≡ Some told → (l : ℕ) (ops : List PlainIr)
-          → IsBinary x slots t a b ty aty bty → AreCovered p results me y.called slots ops → IsLive at ops
-          → ((c : ℕ) → Contains (called_in ops) c → Contains (called_in all) c) → wanted (either (needs at ops) (at l)) t ≡ 0
+          → IsBinary x slots t a b ty aty bty → AreCovered p results me y.called slots ops → IsLiveBy at ops
+          → ((c : ℕ) → Contains (called_in ops) c → Contains (called_in all) c) → wanted (either (needs at ops) (labels l)) t ≡ 0
           → HasAt e (flag_code x (home a) (home b) a.bytes ++ (unless_code told.relation told.signed (link.label_of l) ++ items ops)) pc end
-          → M (needs at (binary_op op ty mode t a aty b bty ∷ branch_zero t l ∷ ops)) m v
-          → G (suc n) m.state.work pc v (R (suc n) (binary_op op ty mode t a aty b bty ∷ branch_zero t l ∷ ops) m)
+          → M (plain_needs (binary_op op ty mode t a aty b bty) (branch_zero t l ∷ ops)) m v
+          → G (suc n) m.state.work pc v (P n (binary_op op ty mode t a aty b bty) (branch_zero t l ∷ ops) m)
       by_family (Compared r exchanged) q told w l ops k covered live inside none stands h =
           let relation : r ≡ told.relation =
           (let c : record { relation = r; signed = is_signed aty } ≡ told = cc in ap (λ x. x.relation) c) in
@@ -2772,31 +3096,31 @@ module _ (p : PlainProgram) (functions : List PlainIrFunction) (e : Env) (slots 
           (λ x. HasAt e
           (flag_code (Compared r exchanged) (home a) (home b) a.bytes ++
           (unless_code told.relation x (link.label_of l) ++ items ops)) pc end) (sym signs) stands) in
-          subst (λ x. G (suc n) m.state.work pc v (R (suc n) (binary_op op ty mode t a x b bty ∷ branch_zero t l ∷ ops) m))
+          subst (λ x. G (suc n) m.state.work pc v (P n (binary_op op ty mode t a x b bty) (branch_zero t l ∷ ops) m))
           (sym k.left_type)
           (subst
           (λ x. G (suc n) m.state.work pc v
-          (R (suc n) (binary_op op ty mode t a (integer k.signed a.bytes) b x ∷ branch_zero t l ∷ ops) m)) (sym k.right_type)
+          (P n (binary_op op ty mode t a (integer k.signed a.bytes) b x) (branch_zero t l ∷ ops) m)) (sym k.right_type)
           (told_follows start l op r exchanged q k.signed ty mode t a b ops n pc m v ready covered live inside
           k.result k.left k.right k.same_bytes none stand (needed (branch_zero t l ∷ ops) h) go))
       by_family x q told w l ops k covered live inside none stands h = absurd (cc)
 
       at_branch : (u : Temp) (l : ℕ) (ops : List PlainIr) (told : Told) → (only : Bool)
-          → is_only_tested t (Some (branch_zero u l)) (wanted (either (needs at ops) (at l)) u) ≡ only
+          → is_only_tested t (Some (branch_zero u l)) (wanted (either (needs at ops) (labels l)) u) ≡ only
           → (if only then told_by (is_apart (family_of op) mode ty aty bty) (family_of op) (is_signed aty) else None) ≡ Some told
-          → Ready pc (binary_op op ty mode t a aty b bty ∷ branch_zero u l ∷ ops)
-          → M (needs at (binary_op op ty mode t a aty b bty ∷ branch_zero u l ∷ ops)) m v
+          → Behind (branch_zero u l ∷ ops)
+          → M (plain_needs (binary_op op ty mode t a aty b bty) (branch_zero u l ∷ ops)) m v
           → StandsTelling op ty mode t a aty b bty pc (Some told) (branch_zero u l ∷ ops)
-          → G (suc n) m.state.work pc v (R (suc n) (binary_op op ty mode t a aty b bty ∷ branch_zero u l ∷ ops) m)
+          → G (suc n) m.state.work pc v (P n (binary_op op ty mode t a aty b bty) (branch_zero u l ∷ ops) m)
       at_branch u l ops told false o q r h stands = absurd (cc)
       at_branch u l ops told true o q r h stands =
-          let parts = and_parts (wanted (either (needs at ops) (at l)) u == 0) (u.at == t.at && u.bytes == t.bytes) o in
+          let parts = and_parts (wanted (either (needs at ops) (labels l)) u == 0) (u.at == t.at && u.bytes == t.bytes) o in
           let both = and_parts (u.at == t.at) (u.bytes == t.bytes) parts.1 in
           let same : u ≡ t = same_temp t u (eqb-true u.at t.at both.0) (eqb-true u.bytes t.bytes both.1) in
-          let none : wanted (either (needs at ops) (at l)) t ≡ 0 =
-          subst (λ x. wanted (either (needs at ops) (at l)) x ≡ 0) same
-          (eqb-true (wanted (either (needs at ops) (at l)) u) 0 parts.0) in
-          let h1 = subst (λ x. M (needs at (binary_op op ty mode t a aty b bty ∷ branch_zero x l ∷ ops)) m v) same h in
+          let none : wanted (either (needs at ops) (labels l)) t ≡ 0 =
+          subst (λ x. wanted (either (needs at ops) (labels l)) x ≡ 0) same
+          (eqb-true (wanted (either (needs at ops) (labels l)) u) 0 parts.0) in
+          let h1 = subst (λ x. M (plain_needs (binary_op op ty mode t a aty b bty) (branch_zero x l ∷ ops)) m v) same h in
           let own = flag_code (family_of op) (home a) (home b) a.bytes in
           let after = items_told (Some told) (branch_zero t l ∷ ops) in
           let w = wanted (needs at (branch_zero t l ∷ ops)) t in
@@ -2809,25 +3133,155 @@ module _ (p : PlainProgram) (functions : List PlainIrFunction) (e : Env) (slots 
           (code_by_kind (is_pointer aty || is_pointer bty)
           (pointer_binary (is_pointer aty) (is_pointer bty) p op aty bty (home a) (home b) (home t) a.bytes b.bytes w) own)
           ++ after) pc end) fx stand) in
-          subst (λ x. G (suc n) m.state.work pc v (R (suc n) (binary_op op ty mode t a aty b bty ∷ branch_zero x l ∷ ops) m)) (sym same)
+          subst (λ x. G (suc n) m.state.work pc v (P n (binary_op op ty mode t a aty b bty) (branch_zero x l ∷ ops) m)) (sym same)
           (by_family (family_of op) refl told (subst (λ x. told_by x (family_of op) (is_signed aty) ≡ Some told) ax q) l ops integers
-          r.covered.1.1 r.live r.inside none flags h1)
+          r.covered.1 r.live r.inside none flags h1)
 
       at_next : (ops : List PlainIr) (told : Told) → tells_next at (binary_op op ty mode t a aty b bty) ops ≡ Some told
-          → Ready pc (binary_op op ty mode t a aty b bty ∷ ops) → M (needs at (binary_op op ty mode t a aty b bty ∷ ops)) m v
-          → G (suc n) m.state.work pc v (R (suc n) (binary_op op ty mode t a aty b bty ∷ ops) m)
-      at_next (branch_zero u l ∷ ops) told q r h =
-          at_branch u l ops told (is_only_tested t (Some (branch_zero u l)) (wanted (either (needs at ops) (at l)) u)) refl q r h
-          (subst (λ x. StandsTelling op ty mode t a aty b bty pc x (branch_zero u l ∷ ops)) q r.stands)
-      at_next [] told q r h = absurd (cc)
-      at_next (i ∷ ops) told q r h = absurd (cc)
+          → Behind ops → M (plain_needs (binary_op op ty mode t a aty b bty) ops) m v
+          → HasAt e (plain_items (binary_op op ty mode t a aty b bty) ops) pc end
+          → G (suc n) m.state.work pc v (P n (binary_op op ty mode t a aty b bty) ops m)
+      at_next (branch_zero u l ∷ ops) told q r h stands =
+          at_branch u l ops told (is_only_tested t (Some (branch_zero u l)) (wanted (either (needs at ops) (labels l)) u)) refl q r h
+          (subst (λ x. StandsTelling op ty mode t a aty b bty pc x (branch_zero u l ∷ ops)) q stands)
+      at_next [] told q r h stands = absurd (cc)
+      at_next (i ∷ ops) told q r h stands = absurd (cc)
 
       by_told : (told : Option Told) → tells_next at (binary_op op ty mode t a aty b bty) rest ≡ told
-          → G (suc n) m.state.work pc v (R (suc n) (binary_op op ty mode t a aty b bty ∷ rest) m)
+          → G (suc n) m.state.work pc v (P n (binary_op op ty mode t a aty b bty) rest m)
       by_told None q =
           operator_follows op ty mode t a aty b bty rest n pc m v integers
-          (subst (λ x. StandsTelling op ty mode t a aty b bty pc x rest) q r.stands) (needed rest h) f
-      by_told (Some told) q = at_next rest told q r h
+          (subst (λ x. StandsTelling op ty mode t a aty b bty pc x rest) q own_stands) (needed rest h) f
+      by_told (Some told) q = at_next rest told q r h own_stands
+
+  -- ---- operators that take a known number
+
+  -- the operations behind are a branch that alone tests a truth value, and that has been told so much
+  record AreTesting (t : Temp) (ops : List PlainIr) (x : Option Told) (told : Told) : Type 0 where
+    l : ℕ
+    rest : List PlainIr
+    is : ops ≡ branch_zero t l ∷ rest
+    none : wanted (either (needs at rest) (labels l)) t ≡ 0
+    by : x ≡ Some told
+
+  are_testing : (t : Temp) (ops : List PlainIr) (x : Option Told) (told : Told)
+      → (if is_only_tested t (slice_get ops 0) (slice_index (wanted_bytes at ops) 0) then x else None) ≡ Some told
+      → AreTesting t ops x told
+  are_testing t [] x told q = absurd cc
+  are_testing t (branch_zero u l ∷ ops) x told q =
+      by_test (is_only_tested t (Some (branch_zero u l)) (wanted (either (needs at ops) (labels l)) u)) refl q
+    where
+      by_test : (only : Bool) → is_only_tested t (Some (branch_zero u l)) (wanted (either (needs at ops) (labels l)) u) ≡ only
+          → (if only then x else None) ≡ Some told → AreTesting t (branch_zero u l ∷ ops) x told
+      by_test false o q = absurd cc
+      by_test true o q =
+          let parts = and_parts (wanted (either (needs at ops) (labels l)) u == 0) (u.at == t.at && u.bytes == t.bytes) o in
+          let both = and_parts (u.at == t.at) (u.bytes == t.bytes) parts.1 in
+          let same : u ≡ t = same_temp t u (eqb-true u.at t.at both.0) (eqb-true u.bytes t.bytes both.1) in
+          record {
+            l = l;
+            rest = ops;
+            is = ap (λ z. branch_zero z l ∷ ops) same;
+            none = subst (λ z. wanted (either (needs at ops) (labels l)) z ≡ 0) same
+                (eqb-true (wanted (either (needs at ops) (labels l)) u) 0 parts.0);
+            by = q;
+          }
+  are_testing t (i ∷ ops) x told q = absurd cc
+
+  -- its code, and what comes after it
+  abbrev number_items : BinOp → PlainType → Mode → (t a : Temp) → PlainType → Temp → PlainType → ℤ → List PlainIr → List AsmItem
+  number_items op ty mode t a aty b bty k rest =
+      taking_code (Some k) (tells_next at (binary_op op ty mode t a aty b bty) rest) (family_of op) (is_signed aty) (is_signed bty)
+      (home a) (home b) (home t) a.bytes (wanted (needs at rest) t)
+      ++ items_told (tells_next at (binary_op op ty mode t a aty b bty) rest) rest
+
+  -- what is needed before it
+  abbrev number_needs : BinOp → (t a : Temp) → List PlainIr → Need
+  number_needs op t a rest = at_least a.at (operand_wanted op a.bytes (wanted (needs at rest) t)) (without t.at (needs at rest))
+
+  -- what is shown of it
+  abbrev NumberCase : BinOp → PlainType → Mode → (t a : Temp) → PlainType → Temp → PlainType → ℤ → ℕ → List PlainIr → (n : ℕ)
+      → Mach → View → Type 0
+  NumberCase op ty mode t a aty b bty k pc rest n m v =
+      Behind rest → HasAt e (number_items op ty mode t a aty b bty k rest) pc end → M (number_needs op t a rest) m v
+      → Rest (suc n) rest → G (suc n) m.state.work pc v (P n (binary_op op ty mode t a aty b bty) rest m)
+
+  -- a sum, a difference, AND or OR tells nothing
+  combined_number : (op : BinOp) (o : Operator) → family_of op ≡ Combined o → is_changed o ≡ true → (ty : PlainType) (mode : Mode)
+      (t a : Temp) (aty : PlainType) (b : Temp) (bty : PlainType) (k : ℤ) (pc : ℕ) (rest : List PlainIr) (n : ℕ) (m : Mach) (v : View)
+      → AreIntegers slots t a b ty aty bty → IsKnown b k m → NumberCase op ty mode t a aty b bty k pc rest n m v
+  combined_number op o is changed ty mode t a aty b bty k pc rest n m v i known =
+      (subst (λ x. NumberCase op x mode t a aty b bty k pc rest n m v) (sym i.result_type)
+      (subst (λ x. NumberCase op (integer i.signed t.bytes) mode t a x b bty k pc rest n m v) (sym i.left_type)
+      (subst (λ x. NumberCase op (integer i.signed t.bytes) mode t a (integer i.left_signed a.bytes) b x k pc rest n m v)
+      (sym i.right_type)
+      (λ behind stands h f. combined_number_follows op o is changed i.signed i.left_signed i.right_signed mode t a b k rest n pc m v
+      i.result i.left i.right i.left_bytes i.right_bytes known
+      (subst (λ x. HasAt e (taking_code (Some k) None x i.left_signed i.right_signed (home a) (home b) (home t) a.bytes
+      (wanted (needs at rest) t) ++ items rest) pc end) is
+      (subst (λ x. HasAt e (taking_code (Some k) x (family_of op) i.left_signed i.right_signed (home a) (home b) (home t) a.bytes
+      (wanted (needs at rest) t) ++ items_told x rest) pc end)
+      (untold (is_only_tested t (slice_get rest 0) (slice_index (wanted_bytes at rest) 0))
+      (is_apart (family_of op) mode (integer i.signed t.bytes) (integer i.left_signed a.bytes)
+      (integer i.right_signed b.bytes)) i.left_signed)
+      stands))
+      (subst (λ x. M (at_least a.at x (without t.at (needs at rest))) m v) (low_bytes_wanted op o is a.bytes (wanted (needs at rest) t)) h)
+      f))))
+    where
+      untold : (only apart s : Bool) → (if only then told_by apart (family_of op) s else None) ≡ None
+      untold false apart s = refl
+      untold true true s = refl
+      untold true false s = ap (λ x. told_of x s) is
+
+  -- a comparison
+  compared_number : (start : ℕ) → Ready start all → (n : ℕ) → Onward n → (op : BinOp) (r : Relation) → family_of op ≡ Compared r false
+      → (ty : PlainType) (mode : Mode) (t a : Temp) (aty : PlainType) (b : Temp) (bty : PlainType) (k : ℤ) (pc : ℕ)
+      (rest : List PlainIr) (m : Mach) (v : View) → AreCompared slots t a b aty bty → IsKnown b k m
+      → NumberCase op ty mode t a aty b bty k pc rest n m v
+  compared_number start ready n go op r is ty mode t a aty b bty k pc rest m v i known =
+      (subst (λ x. NumberCase op ty mode t a x b bty k pc rest n m v) (sym i.left_type)
+      (subst (λ x. NumberCase op ty mode t a (integer i.signed a.bytes) b x k pc rest n m v) (sym i.right_type)
+      (λ behind stands h f. by_told (tells_next at own rest) refl behind stands h f)))
+    where
+      own : PlainIr
+      own = binary_op op ty mode t a (integer i.signed a.bytes) b (integer i.signed b.bytes)
+
+      code : Option Told → List PlainIr → List AsmItem
+      code told ops =
+          taking_code (Some k) told (family_of op) i.signed i.signed (home a) (home b) (home t) a.bytes (wanted (needs at ops) t)
+          ++ items_told told ops
+
+      by_told : (told : Option Told) → tells_next at own rest ≡ told → Behind rest → HasAt e (code (tells_next at own rest) rest) pc end
+          → M (number_needs op t a rest) m v → Rest (suc n) rest → G (suc n) m.state.work pc v (P n own rest m)
+      by_told None q behind stands h f =
+          related_number_follows op r is i.signed ty mode t a b k rest n pc m v i.result i.left i.right i.same_bytes known
+          (subst (λ x. HasAt e (taking_code (Some k) None x i.signed i.signed (home a) (home b) (home t) a.bytes
+          (wanted (needs at rest) t) ++ items rest) pc end) is (subst (λ x. HasAt e (code x rest) pc end) q stands)) h f
+      by_told (Some told) q behind stands h f =
+          let z = are_testing t rest (told_by false (family_of op) i.signed) told q in
+          subst
+          (λ ops. Behind ops → HasAt e (code (Some told) ops) pc end → M (number_needs op t a ops) m v
+          → G (suc n) m.state.work pc v (P n own ops m)) (sym z.is)
+          (λ behind1 stands1 h1.
+          let by : Some (record { relation = r; signed = i.signed }) ≡ Some told = ap (λ x. told_of x i.signed) (sym is) ∙ z.by in
+          let same : record { relation = r; signed = i.signed } ≡ told = cc in
+          told_number_follows start z.l op r is i.signed ty mode t a b k z.rest n pc m v ready behind1.covered.1 behind1.live behind1.inside
+          i.result i.left i.right i.same_bytes known z.none
+          (subst (λ (x : Told). HasAt e (compared_with_code (home a) (low_bytes 16 k) a.bytes
+          ++ (unless_code x.relation x.signed (link.label_of z.l) ++ items z.rest)) pc end) (sym same) stands1) h1 go)
+          behind (subst (λ x. HasAt e (code x rest) pc end) q stands) h
+
+  number_follows : (start : ℕ) → Ready start all → (n : ℕ) → Onward n → (op : BinOp) (ty : PlainType) (mode : Mode)
+      (t a : Temp) (aty : PlainType) (b : Temp) (bty : PlainType) (k : ℤ) (pc : ℕ) (rest : List PlainIr) (m : Mach) (v : View)
+      → takes_number op ≡ true → IsBinary (family_of op) slots t a b ty aty bty → IsKnown b k m
+      → NumberCase op ty mode t a aty b bty k pc rest n m v
+  number_follows start ready n go op ty mode t a aty b bty k pc rest m v taken i known =
+      ⊎_elim
+      (λ (x : TakesSum op). combined_number op x.operator x.is x.changed ty mode t a aty b bty k pc rest n m v
+      (subst (λ z. IsBinary z slots t a b ty aty bty) x.is i) known)
+      (λ (x : TakesOrder op). compared_number start ready n go op x.relation x.is ty mode t a aty b bty k pc rest m v
+      (subst (λ z. IsBinary z slots t a b ty aty bty) x.is i) known)
+      (takes op taken)
 
   -- ---- operators on numbers of one fixed-point format, which are those of the integers of their bytes
 
@@ -2839,7 +3293,7 @@ module _ (p : PlainProgram) (functions : List PlainIrFunction) (e : Env) (slots 
       → m.temps b.at ≡ Some (record { bytes = b.bytes; content = bits low2 })
       → binary_result op ty mode (operand_of p (whole_type k) (Number (whole_of k low1)) st)
       (operand_of p (whole_type k) (Number (whole_of k low2)) st) ≡ Ok (Number number)
-      → R (suc n) (binary_op op ty mode t a (whole_type k) b (whole_type k) ∷ rest) m
+      → P n (binary_op op ty mode t a (whole_type k) b (whole_type k)) rest m
       ≡ R (suc n) rest (machine (with_temp t (Number number) m.temps) st)
   whole_run op ty mode t a b k low1 low2 number rest n m st e qa qb is =
       let sign = (format_of k).signed in
@@ -2859,15 +3313,16 @@ module _ (p : PlainProgram) (functions : List PlainIrFunction) (e : Env) (slots 
   on_integers_follow : (start : ℕ) → Ready start all → (n : ℕ) → Onward n → (op : BinOp) (ty : PlainType) (mode : Mode)
       (t a : Temp) (aty : PlainType) (b : Temp) (bty : PlainType) (pc : ℕ) (rest : List PlainIr) (m : Mach) (v : View)
       → is_on_integers (family_of op) mode ty aty bty ≡ true → IsOnWholes slots op mode t a b ty aty bty
-      → Rest (suc n) rest
-      → Ready pc (binary_op op ty mode t a aty b bty ∷ rest) → M (needs at (binary_op op ty mode t a aty b bty ∷ rest)) m v
-      → G (suc n) m.state.work pc v (R (suc n) (binary_op op ty mode t a aty b bty ∷ rest) m)
-  on_integers_follow start ready n go op ty mode t a aty b bty pc rest m v on h f r needed =
+      → Rest (suc n) rest → Behind rest
+      → HasAt e (plain_items (binary_op op ty mode t a aty b bty) rest) pc end → M
+      (plain_needs (binary_op op ty mode t a aty b bty) rest) m v
+      → G (suc n) m.state.work pc v (P n (binary_op op ty mode t a aty b bty) rest m)
+  on_integers_follow start ready n go op ty mode t a aty b bty pc rest m v on h f r stands needed =
       let done =
-      λ (x z : PlainType). is_on_integers (family_of op) mode ty x z ≡ true → Ready pc (binary_op op ty mode t a x b z ∷ rest)
-      → M (needs at (binary_op op ty mode t a x b z ∷ rest)) m v
-      → G (suc n) m.state.work pc v (R (suc n) (binary_op op ty mode t a x b z ∷ rest) m) in
-      (subst (λ x. done x bty) (sym h.left_is) (subst (λ x. done (fixed k s1) x) (sym h.right_is) (λ q u w. shown q u w))) on r needed
+      λ (x z : PlainType). is_on_integers (family_of op) mode ty x z ≡ true
+      → HasAt e (plain_items (binary_op op ty mode t a x b z) rest) pc end → M (plain_needs (binary_op op ty mode t a x b z) rest) m v
+      → G (suc n) m.state.work pc v (P n (binary_op op ty mode t a x b z) rest m) in
+      (subst (λ x. done x bty) (sym h.left_is) (subst (λ x. done (fixed k s1) x) (sym h.right_is) (λ q u w. shown q u w))) on stands needed
     where
       k : FxKind
       k = h.kind
@@ -2899,7 +3354,7 @@ module _ (p : PlainProgram) (functions : List PlainIrFunction) (e : Env) (slots 
       only : Bool
       only = is_only_tested t (slice_get rest 0) (slice_index (wanted_bytes at rest) 0)
 
-      code : is_on_integers (family_of op) mode ty (fixed k s1) (fixed k s2) ≡ true → items (i ∷ rest) ≡ items (i1 ∷ rest)
+      code : is_on_integers (family_of op) mode ty (fixed k s1) (fixed k s2) ≡ true → plain_items i rest ≡ plain_items i1 rest
       code on =
           let tells_same : tells_next at i rest ≡ tells_next at i1 rest =
           ap (λ z. if only then told_by (not z) (family_of op) sign else None) on in
@@ -2910,7 +3365,7 @@ module _ (p : PlainProgram) (functions : List PlainIrFunction) (e : Env) (slots 
           (home t) w)) ++ items_told (tells_next at i rest) rest) on
           ∙ ap (λ z. operator_code z (family_of op) sign sign (home a) (home b) (home t) a.bytes w ++ items_told z rest) tells_same
 
-      fewer : (u : ℕ) → needs at (i1 ∷ rest) u ≤ needs at (i ∷ rest) u
+      fewer : (u : ℕ) → plain_needs i1 rest u ≤ plain_needs i rest u
       fewer =
           let most = wanted_most (needs at rest) t in
           more_needed a.at (operand_wanted op a.bytes w) (all_or_none a.bytes w)
@@ -2919,23 +3374,17 @@ module _ (p : PlainProgram) (functions : List PlainIrFunction) (e : Env) (slots 
           (more_needed b.at (right_wanted op b.bytes w) (all_or_none b.bytes w) (without t.at (needs at rest))
           (without t.at (needs at rest)) (h.second_wanted w most) (λ u. omega arith))
 
-      run : is_on_integers (family_of op) mode ty (fixed k s1) (fixed k s2) ≡ true → Ready pc (i ∷ rest)
-          → M (needs at (i ∷ rest)) m v → G (suc n) m.state.work pc v (R (suc n) (i1 ∷ rest) m)
-      run on r needed =
-          integers_follow start ready n go op whole mode t a (whole_type k) b (whole_type k) pc rest m v h.binary
-          (record {
-            covered = (inl h.binary, r.covered.1);
-            live = r.live;
-            inside = r.inside;
-            here = r.here;
-            stands = subst (λ (x : List AsmItem). HasAt e x pc end) (code on) r.stands;
-          })
-          (weaker p e slots home base place y (needs at (i ∷ rest)) (needs at (i1 ∷ rest)) m v needed fewer) f
+      run : is_on_integers (family_of op) mode ty (fixed k s1) (fixed k s2) ≡ true → HasAt e (plain_items i rest) pc end
+          → M (plain_needs i rest) m v → G (suc n) m.state.work pc v (P n i1 rest m)
+      run on own needed =
+          integers_follow start ready n go op whole mode t a (whole_type k) b (whole_type k) pc rest m v h.binary r
+          (subst (λ (x : List AsmItem). HasAt e x pc end) (code on) own)
+          (weaker p e slots home base place y (plain_needs i rest) (plain_needs i1 rest) m v needed fewer) f
 
       steps : st ≡ worked (op_steps i1) m.state
       steps = ap (λ c. worked (64 * c) m.state) h.words
 
-      by_result : G (suc n) m.state.work pc v (R (suc n) (i1 ∷ rest) m) → (low1 low2 : ℕ)
+      by_result : G (suc n) m.state.work pc v (P n i1 rest m) → (low1 low2 : ℕ)
           → m.temps a.at ≡ Some (record { bytes = a.bytes; content = bits low1 })
           → m.temps b.at ≡ Some (record { bytes = b.bytes; content = bits low2 }) → (z : Result Value Undefined)
           → binary_result op ty mode (operand_of p (fixed k s1) (Number (whole_of k low1)) st)
@@ -2948,115 +3397,239 @@ module _ (p : PlainProgram) (functions : List PlainIrFunction) (e : Env) (slots 
           subst (λ (x : Content). G (suc n) m.state.work pc v (R (suc n) rest (machine (with_content t x m.temps) st))) (sym g.same)
           (subst (λ o. G (suc n) m.state.work pc v o) is done)
 
-      shown : is_on_integers (family_of op) mode ty (fixed k s1) (fixed k s2) ≡ true → Ready pc (i ∷ rest) → M (needs at (i ∷ rest)) m v
-          → G (suc n) m.state.work pc v (R (suc n) (i ∷ rest) m)
-      shown on r needed =
-          let done = run on r needed in
+      shown : is_on_integers (family_of op) mode ty (fixed k s1) (fixed k s2) ≡ true → HasAt e (plain_items i rest) pc end → M
+          (plain_needs i rest) m v
+          → G (suc n) m.state.work pc v (P n i rest m)
+      shown on own needed =
+          let done = run on own needed in
           from_typed p place e (fixed k s1) a m.temps st _ (suc n) m.state.work pc v tt
           (λ low1 qa. from_typed p place e (fixed k s2) b m.temps st _ (suc n) m.state.work pc v tt
           (λ low2 qb. by_result done low1 low2 qa qb
           (binary_result op ty mode (operand_of p (fixed k s1) (Number (whole_of k low1)) st)
           (operand_of p (fixed k s2) (Number (whole_of k low2)) st)) refl))
 
+  -- where an operand is no integer, no number is taken
+  none_taken : (op : BinOp) (known : Option ℤ) (whole : Bool) → whole ≡ true → number_taken known whole op ≡ None
+  none_taken op None whole q = refl
+  none_taken op (Some k) whole q = ap (λ x. if not x && takes_number op then Some k else None) q
+
+  -- of the code of one kind, that of the others says nothing
+  kinds_same : (own other : Bool) (c d x z : List AsmItem) → (own || other) ≡ true
+      → code_by_kind own c (code_by_kind other d x) ≡ code_by_kind own c (code_by_kind other d z)
+  kinds_same true other c d x z q = refl
+  kinds_same false true c d x z q = refl
+  kinds_same false false c d x z q = absurd cc
+
+  pointer_whole : (x : PlainType) → is_pointer x ≡ true → is_whole x ≡ true
+  pointer_whole (pointer space const to) q = refl
+  pointer_whole (integer signed bytes) q = absurd cc
+  pointer_whole (fixed kind saturates) q = absurd cc
+  pointer_whole void q = absurd cc
+  pointer_whole (array of len) q = absurd cc
+  pointer_whole (struct index) q = absurd cc
+
+  either_whole : (x z : PlainType) → (is_pointer x || is_pointer z) ≡ true → (is_whole x || is_whole z) ≡ true
+  either_whole x z q =
+      ⊎_elim
+      (λ (w : is_pointer x ≡ true). ap (λ u. u || is_whole z) (pointer_whole x w))
+      (λ (w : is_pointer z ≡ true). or_right (is_whole x) (is_whole z) (pointer_whole z w))
+      (or_cases (is_pointer x) (is_pointer z) q)
+
   binary_follows : (start : ℕ) → Ready start all → (n : ℕ) → Onward n → (op : BinOp) (ty : PlainType) (mode : Mode)
       (t a : Temp) (aty : PlainType) (b : Temp) (bty : PlainType) (pc : ℕ) (rest : List PlainIr) (m : Mach) (v : View)
       → Ready pc (binary_op op ty mode t a aty b bty ∷ rest) → M (needs at (binary_op op ty mode t a aty b bty ∷ rest)) m v
-      → Rest (suc n) rest → G (suc n) m.state.work pc v (R (suc n) (binary_op op ty mode t a aty b bty ∷ rest) m)
-  binary_follows start ready n go op ty mode t a aty b bty pc rest m v r h f =
+      → is_known all (binary_op op ty mode t a aty b bty ∷ rest) m ≡ true → Rest (suc n) rest
+      → G (suc n) m.state.work pc v (P n (binary_op op ty mode t a aty b bty) rest m)
+  binary_follows start ready n go op ty mode t a aty b bty pc rest m v r h held f =
       ⊎_elim
-      (λ (k : IsBinary (family_of op) slots t a b ty aty bty). integers_follow start ready n go op ty mode t a aty b bty pc rest m v k r
-      h f)
-      (λ i. ⊎_elim
-      (λ (k : IsFixedBinary slots op t a b ty aty bty). ⊎_elim
-      (λ (q : is_on_integers (family_of op) mode ty aty bty ≡ true).
-      on_integers_follow start ready n go op ty mode t a aty b bty pc rest m v q (on_wholes slots op mode t a b ty aty bty k q) f r h)
-      (λ (q : is_on_integers (family_of op) mode ty aty bty ≡ false).
-      fixed_binary_follows op ty mode t a aty b bty rest n pc m v k q r.stands h f)
-      (cases_Bool (is_on_integers (family_of op) mode ty aty bty)))
+      (λ (k : IsBinary (family_of op) slots t a b ty aty bty). on_integers k (number_taken known false op) refl)
+      (λ j. ⊎_elim
+      (λ (k : IsFixedBinary slots op t a b ty aty bty). on_fixed k)
       (λ (k : IsPointerBinary p slots op t a b ty aty bty).
-      pointer_binary_follows p functions e slots home base place y at all end results me link stack op ty mode t a aty b bty
-      rest n pc m v k r.stands h f)
-      i)
+      pointer_binary_follows p functions e slots home base place y labels all end results me link stack op ty mode t a aty b bty
+      rest n pc m v k (own_stands (or_right is_fx is_px k.pointer)) (own_needs (either_whole aty bty k.pointer)) f)
+      j)
       r.covered.0
+    where
+      i : PlainIr
+      i = binary_op op ty mode t a aty b bty
 
-  pub follows : (start : ℕ) → Ready start all → (n : ℕ) → Onward n → CallCase n → ReturnCase n → Onward (suc n)
-  follows start ready n go calls returns pc [] m v r h = tt
-  follows start ready n go calls returns pc (constant t k ∷ rest) m v r h =
+      known : Option ℤ
+      known = at.known (i ∷ rest)
+
+      telling : Option Told
+      telling = tells_next at i rest
+
+      w : ℕ
+      w = wanted (needs at rest) t
+
+      is_fx : Bool
+      is_fx = is_fixed aty || is_fixed bty
+
+      is_px : Bool
+      is_px = is_pointer aty || is_pointer bty
+
+      is_wx : Bool
+      is_wx = is_whole aty || is_whole bty
+
+      of_fixed : List AsmItem
+      of_fixed = fixed_binary telling op ty aty bty mode (home a) (home b) (home t) a.bytes w
+
+      of_pointers : List AsmItem
+      of_pointers = pointer_binary (is_pointer aty) (is_pointer bty) p op aty bty (home a) (home b) (home t) a.bytes b.bytes w
+
+      of_integers : Option ℤ → List AsmItem
+      of_integers taken =
+          taking_code taken telling (family_of op) (is_signed aty) (is_signed bty) (home a) (home b) (home t) a.bytes w
+
+      behind : Behind rest
+      behind = record { covered = r.covered.1; live = r.live; inside = r.inside }
+
+      own_stands : (is_fx || is_px) ≡ true → HasAt e (plain_items i rest) pc end
+      own_stands q =
+          subst (λ x. HasAt e (x ++ items_told telling rest) pc end)
+          (kinds_same is_fx is_px of_fixed of_pointers (of_integers (number_taken known false op)) (of_integers None) q) r.stands
+
+      needs_with : Option ℤ → Need
+      needs_with taken =
+          at_least a.at (first_wanted is_wx op a.bytes w)
+          (right_needed taken b.at (second_wanted is_wx op b.bytes w) (without t.at (needs at rest)))
+
+      own_needs : is_wx ≡ true → M (plain_needs i rest) m v
+      own_needs q = subst (λ x. M (needs_with x) m v) (none_taken op known is_wx q) h
+
+      on_fixed : IsFixedBinary slots op t a b ty aty bty → G (suc n) m.state.work pc v (P n i rest m)
+      on_fixed k =
+          let stands = own_stands (ap (λ x. x || is_px) (either_fixed is_fixed type_fixed aty bty k.types.fixed)) in
+          let needed = own_needs (either_fixed is_whole type_whole aty bty k.types.fixed) in
+          ⊎_elim
+          (λ (q : is_on_integers (family_of op) mode ty aty bty ≡ true).
+          on_integers_follow start ready n go op ty mode t a aty b bty pc rest m v q (on_wholes slots op mode t a b ty aty bty k q) f behind
+          stands needed)
+          (λ (q : is_on_integers (family_of op) mode ty aty bty ≡ false).
+          fixed_binary_follows op ty mode t a aty b bty rest n pc m v k q stands needed f)
+          (cases_Bool (is_on_integers (family_of op) mode ty aty bty))
+
+      on_integers : IsBinary (family_of op) slots t a b ty aty bty → (taken : Option ℤ) → number_taken known false op ≡ taken
+          → G (suc n) m.state.work pc v (P n i rest m)
+      on_integers k taken q = by_taken taken q
+        where
+          wx : is_wx ≡ false
+          wx = no_kind is_whole (λ s n. refl) (family_of op) t a b ty aty bty k
+
+          taken_so : (x : Option ℤ) → number_taken known false op ≡ x → number_taken known is_wx op ≡ x
+          taken_so x q = ap (λ z. number_taken known z op) wx ∙ q
+
+          by_taken : (x : Option ℤ) → number_taken known false op ≡ x → G (suc n) m.state.work pc v (P n i rest m)
+          by_taken None q =
+              integers_follow start ready n go op ty mode t a aty b bty pc rest m v k behind
+              (subst (λ x. HasAt e (code_by_kind is_fx of_fixed (code_by_kind is_px of_pointers (of_integers x))
+              ++ items_told telling rest) pc end) q r.stands)
+              (subst (λ x. M (needs_with x) m v) (taken_so None q) h) f
+          by_taken (Some number) q =
+              let fx = no_kind is_fixed (λ s n. refl) (family_of op) t a b ty aty bty k in
+              let px = no_kind is_pointer (λ s n. refl) (family_of op) t a b ty aty bty k in
+              let is = taken_is op known number q in
+              number_follows start ready n go op ty mode t a aty b bty number pc rest m v is.1 k
+              (λ low qb. number_held (known_at all (i ∷ rest) b.at) (m.temps b.at) b.bytes low number held is.0 qb) behind
+              (subst (λ x. HasAt e (code_by_kind x of_pointers (of_integers (Some number)) ++ items_told telling rest) pc end) px
+              (subst (λ x. HasAt e (code_by_kind x of_fixed (code_by_kind is_px of_pointers (of_integers (Some number)))
+              ++ items_told telling rest) pc end) fx
+              (subst (λ x. HasAt e (code_by_kind is_fx of_fixed (code_by_kind is_px of_pointers (of_integers x))
+              ++ items_told telling rest) pc end) q r.stands)))
+              (subst (λ x. M (at_least a.at (first_wanted x op a.bytes w) (without t.at (needs at rest))) m v) wx
+              (subst (λ x. M (needs_with x) m v) (taken_so (Some number) q) h)) f
+
+  -- what is shown of an operation whose second operand holds what is known of it, where it is of those behind it
+  performs : (start : ℕ) → Ready start all → (n : ℕ) → Onward n → CallCase n → ReturnCase n → (pc : ℕ) (i : PlainIr)
+      (rest : List PlainIr) (m : Mach) (v : View) → Ready pc (i ∷ rest) → M (needs at (i ∷ rest)) m v
+      → is_known all (i ∷ rest) m ≡ true
+      → ((pc1 : ℕ) (m1 : Mach) (v1 : View) → Ready pc1 rest → M (needs at rest) m1 v1
+      → G (suc n) m1.state.work pc1 v1 (R (suc n) rest m1))
+      → G (suc n) m.state.work pc v (P n i rest m)
+  performs start ready n go calls returns pc (constant t k) rest m v r h held more =
       constant_follows t k rest n pc m v r.covered.0 r.stands h
-      (λ pc1 m1 v1 s z. follows start ready n go calls returns pc1 rest m1 v1
+      (λ pc1 m1 v1 s z. more pc1 m1 v1
       (record { covered = r.covered.1; live = r.live; inside = r.inside; here = r.here; stands = s }) z)
-  follows start ready n go calls returns pc (copy t u ∷ rest) m v r h =
+  performs start ready n go calls returns pc (copy t u) rest m v r h held more =
       let i = r.covered.0 in
       copy_follows t u rest n pc m v i.0 i.1 i.2 r.stands h
-      (λ pc1 m1 v1 s z. follows start ready n go calls returns pc1 rest m1 v1
+      (λ pc1 m1 v1 s z. more pc1 m1 v1
       (record { covered = r.covered.1; live = r.live; inside = r.inside; here = r.here; stands = s }) z)
-  follows start ready n go calls returns pc (load_object t o offset ∷ rest) m v r h =
+  performs start ready n go calls returns pc (load_object t o offset) rest m v r h held more =
       let i = r.covered.0 in
-      load_follows p functions e slots home base place y at all end results me link stack t o offset rest n pc m v i.0 i.1
+      load_follows p functions e slots home base place y labels all end results me link stack t o offset rest n pc m v i.0 i.1
       r.stands h
       (λ pc1 m1 v1 s z. go pc1 rest m1 v1
       (record { covered = r.covered.1; live = r.live; inside = r.inside; here = r.here; stands = s }) z)
-  follows start ready n go calls returns pc (store_object o offset t ∷ rest) m v r h =
+  performs start ready n go calls returns pc (store_object o offset t) rest m v r h held more =
       let i = r.covered.0 in
-      store_follows p functions e slots home base place y at all end results me link stack o offset t rest n pc m v i.0 i.1 i.2
+      store_follows p functions e slots home base place y labels all end results me link stack o offset t rest n pc m v i.0 i.1 i.2
       r.here r.stands h
       (λ pc1 m1 v1 s z. go pc1 rest m1 v1
       (record { covered = r.covered.1; live = r.live; inside = r.inside; here = r.here; stands = s }) z)
-  follows start ready n go calls returns pc (binary_op op ty mode t a aty b bty ∷ rest) m v r h =
-      binary_follows start ready n go op ty mode t a aty b bty pc rest m v r h
-      (λ pc1 m1 v1 s z. follows start ready n go calls returns pc1 rest m1 v1
+  performs start ready n go calls returns pc (binary_op op ty mode t a aty b bty) rest m v r h held more =
+      binary_follows start ready n go op ty mode t a aty b bty pc rest m v r h held
+      (λ pc1 m1 v1 s z. more pc1 m1 v1
       (record { covered = r.covered.1; live = r.live; inside = r.inside; here = r.here; stands = s }) z)
-  follows start ready n go calls returns pc (label l ∷ rest) m v r h =
+  performs start ready n go calls returns pc (label l) rest m v r h held more =
       let s = r.stands in
       let need = needs at rest in
-      let z = weaker p e slots home base place y (at l) need m v h r.live.0 in
+      let z = weaker p e slots home base place y (labels l) need m v h r.live.0 in
       let stands : HasAt e (items rest) pc end = subst (λ i. HasAt e (items rest) i end) s.1.1 s.2 in
-      after p place e 0 (suc n) (suc n) m.state.work m.state.work pc pc v v (R (suc n) (label l ∷ rest) m) (record { by = refl })
+      after p place e 0 (suc n) (suc n) m.state.work m.state.work pc pc v v (P n (label l) rest m) (record { by = refl })
       (omega arith) (omega arith)
       (label_follows l rest n pc m v
-      (follows start ready n go calls returns pc rest (machine m.temps (worked (op_steps (label l)) m.state)) v
+      (more pc (machine m.temps (worked (op_steps (label l)) m.state)) v
       (record { covered = r.covered.1; live = r.live.1; inside = r.inside; here = r.here; stands = stands })
       (again need m v (op_steps (label l)) z)))
-  follows start ready n go calls returns pc (jump l ∷ rest) m v r h =
+  performs start ready n go calls returns pc (jump l) rest m v r h held more =
       jump_follows start l rest n pc m v ready r.stands h go
-  follows start ready n go calls returns pc (branch_zero t l ∷ rest) m v r h =
+  performs start ready n go calls returns pc (branch_zero t l) rest m v r h held more =
       branch_follows start l t rest n pc m v ready r.covered.1 r.live r.inside r.covered.0 r.stands h go
-  follows start ready n go calls returns pc (return_from from ∷ rest) m v r h =
+  performs start ready n go calls returns pc (return_from from) rest m v r h held more =
       returns from pc rest m v r h
-  follows start ready n go calls returns pc (conversion t ty mode a aty ∷ rest) m v r h =
+  performs start ready n go calls returns pc (conversion t ty mode a aty) rest m v r h held more =
       conversion_follows t ty mode a aty rest n pc m v r.covered.0 r.stands h
-      (λ pc1 m1 v1 s z. follows start ready n go calls returns pc1 rest m1 v1
+      (λ pc1 m1 v1 s z. more pc1 m1 v1
       (record { covered = r.covered.1; live = r.live; inside = r.inside; here = r.here; stands = s }) z)
-  follows start ready n go calls returns pc (unary_op op ty mode t a ∷ rest) m v r h =
+  performs start ready n go calls returns pc (unary_op op ty mode t a) rest m v r h held more =
       unary_follows op ty mode t a rest n pc m v r.covered.0 r.stands h
-      (λ pc1 m1 v1 s z. follows start ready n go calls returns pc1 rest m1 v1
+      (λ pc1 m1 v1 s z. more pc1 m1 v1
       (record { covered = r.covered.1; live = r.live; inside = r.inside; here = r.here; stands = s }) z)
-  follows start ready n go calls returns pc (address t o offset ∷ rest) m v r h =
-      address_follows p functions e slots home base place y at all end results me link stack t o offset rest n pc m v
+  performs start ready n go calls returns pc (address t o offset) rest m v r h held more =
+      address_follows p functions e slots home base place y labels all end results me link stack t o offset rest n pc m v
       r.covered.0 r.stands h
-      (λ pc1 m1 v1 s z. follows start ready n go calls returns pc1 rest m1 v1
+      (λ pc1 m1 v1 s z. more pc1 m1 v1
       (record { covered = r.covered.1; live = r.live; inside = r.inside; here = r.here; stands = s }) z)
-  follows start ready n go calls returns pc (field t space offset ∷ rest) m v r h =
-      field_follows p functions e slots home base place y at all end results me link stack t space offset rest n pc m v
+  performs start ready n go calls returns pc (field t space offset) rest m v r h held more =
+      field_follows p functions e slots home base place y labels all end results me link stack t space offset rest n pc m v
       r.covered.0 r.stands h
-      (λ pc1 m1 v1 s z. follows start ready n go calls returns pc1 rest m1 v1
+      (λ pc1 m1 v1 s z. more pc1 m1 v1
       (record { covered = r.covered.1; live = r.live; inside = r.inside; here = r.here; stands = s }) z)
-  follows start ready n go calls returns pc (load_at t u space ∷ rest) m v r h =
+  performs start ready n go calls returns pc (load_at t u space) rest m v r h held more =
       let i = r.covered.0 in
-      load_at_follows p functions e slots home base place y at all end results me link stack t u space rest n pc m v i.0 i.1
+      load_at_follows p functions e slots home base place y labels all end results me link stack t u space rest n pc m v i.0 i.1
       r.stands h
       (λ pc1 m1 v1 s z. go pc1 rest m1 v1
       (record { covered = r.covered.1; live = r.live; inside = r.inside; here = r.here; stands = s }) z)
-  follows start ready n go calls returns pc (store_at t space u ∷ rest) m v r h =
+  performs start ready n go calls returns pc (store_at t space u) rest m v r h held more =
       let i = r.covered.0 in
-      store_at_follows p functions e slots home base place y at all end results me link stack t space u rest n pc m v i.0 i.1
+      store_at_follows p functions e slots home base place y labels all end results me link stack t space u rest n pc m v i.0 i.1
       r.stands h
       (λ pc1 m1 v1 s z. go pc1 rest m1 v1
       (record { covered = r.covered.1; live = r.live; inside = r.inside; here = r.here; stands = s }) z)
-  follows start ready n go calls returns pc (call_function g t ∷ rest) m v r h = calls g t pc rest m v r h
-  follows start ready n go calls returns pc (port_in t port index width ∷ rest) m v r h =
+  performs start ready n go calls returns pc (call_function g t) rest m v r h held more = calls g t pc rest m v r h
+  performs start ready n go calls returns pc (port_in t port index width) rest m v r h held more =
       in_follows t port index width rest n pc m v r.covered.0 r.stands h
       (λ pc1 m1 v1 s z. go pc1 rest m1 v1 (record { covered = r.covered.1; live = r.live; inside = r.inside; here = r.here; stands = s }) z)
-  follows start ready n go calls returns pc (port_out t port index width ∷ rest) m v r h =
+  performs start ready n go calls returns pc (port_out t port index width) rest m v r h held more =
       out_follows t port index width rest n pc m v r.covered.0 r.stands h
       (λ pc1 m1 v1 s z. go pc1 rest m1 v1 (record { covered = r.covered.1; live = r.live; inside = r.inside; here = r.here; stands = s }) z)
+
+  pub follows : (start : ℕ) → Ready start all → (n : ℕ) → Onward n → CallCase n → ReturnCase n → Onward (suc n)
+  follows start ready n go calls returns pc [] m v r h = tt
+  follows start ready n go calls returns pc (i ∷ rest) m v r h =
+      checked functions p y.inputs place e n (suc n) m.state.work pc v all stack i rest m
+      (λ held. performs start ready n go calls returns pc i rest m v r h held
+      (λ pc1 m1 v1 r1 h1. follows start ready n go calls returns pc1 rest m1 v1 r1 h1))

@@ -3,9 +3,11 @@ ghost use Rattle.ec_select_functions.specs.Laws.{CodeFollowsOperations, HomesAre
 
 use ec_asm::laws::{machine_runs_as_view, noted_runs_are_runs};
 use ec_core::{bytes_are_taken_in_order, leaves_fill_their_types};
+use ec_ir_known::known_numbers_are_held;
 use ec_select_fixed::laws::{
     fixed_binaries_are_right, fixed_conversions_are_right, fixed_unaries_are_right,
 };
+use ec_select_numbers::laws::numbers_are_operands;
 use ec_select_places::laws::{
     elements_are_formed, elements_are_right, indexes_are_scaled, places_are_short,
     pointers_are_advanced, pointers_are_compared, pointers_are_converted,
@@ -45,6 +47,8 @@ pub fn code_follows_operations()
     pointers_are_compared();
     pointers_are_converted();
     places_are_short();
+    numbers_are_operands();
+    known_numbers_are_held();
 }
 
 /// In a valid program the homes of temporaries stand apart, and so do the leaves of objects that can be live at one

@@ -1,7 +1,7 @@
 -- What needs no more than any table that tells all.
 use Rattle.std.proofs.Common.{Option, Some, None, ◌≡◌, ℕ, zero, suc, ◌<◌, ◌≤◌, List, [], ◌∷◌, Bool, true, false}
 use Rattle.std.proofs.Common.{refl, sym, ap, ◌∙◌, subst, arith, drop, replicate, max, ◌+◌, ⊎_elim}
-use Rattle.std.specs.Prelude.{◌==◌, ◌||◌, if◌then◌else◌}
+use Rattle.std.specs.Prelude.{◌==◌, ◌||◌, if◌then◌else◌, ℤ}
 use Rattle.std.proofs.lemmas.Bool.{cases_eq, ne_eqb}
 use Rattle.std.proofs.lemmas.Bool.Decides.{nat_tests}
 use Rattle.ec_core.specs.declared.expressions.BinOp.{BinOp}
@@ -14,8 +14,9 @@ use Rattle.ec_ir.specs.Valid.{count}
 use Rattle.ec_select_operations.specs.Needs.{Need, at_least, without, either, wanted, is_of_low_bytes}
 use Rattle.ec_select_operations.specs.Needs.{is_whole, first_wanted, second_wanted, only_wanted}
 use Rattle.ec_select_operations.specs.Needs.{index_needed, all_or_none, operand_wanted, right_wanted, returned_need}
-use Rattle.ec_select_operations.specs.Needs.{before, needs}
-use Rattle.ec_select_operations.specs.Needs.{IsLive}
+use Rattle.ec_select_operations.specs.Needs.{number_taken, right_needed, before, Facts, facts_of, known_right}
+use Rattle.ec_select_operations.specs.Needs.{needs}
+use Rattle.ec_select_operations.specs.Needs.{IsLiveBy, IsLive}
 use Rattle.ec_select_live.specs.Least.{HasLabel, HaveLabels, IsLeast}
 use Rattle.ec_select_live.specs.Places.{HasPlace, HasPlaces}
 use Rattle.ec_select_live.specs.Tables.{need_of, needs_of, AreSame, IsJoined, NeedsNoMore, TellNoMore}
@@ -84,44 +85,50 @@ more_index s (Some t) a b h = more_least s t.at 1 1 a b (omega arith) h
 same_needs : (s : ℕ) (a : Need) → NeedsNoMore s a a
 same_needs s a place l = omega arith
 
-pub before_more : (n s : ℕ) (at other : ℕ → Need) (i : PlainIr) (a b : Need) → HasPlaces s i → HasLabel n i
-    → TellNoMore n s at other → NeedsNoMore s a b → NeedsNoMore s (before at i a) (before other i b)
-before_more n s at other (constant t x) a b l k q h = more_without s t.at a b h
-before_more n s at other (copy to from) a b l k q h = more_value s to from a b l.0 h
-before_more n s at other (load_object t o offset) a b l k q h = more_without s t.at a b h
-before_more n s at other (store_object o offset t) a b l k q h = more_least s t.at t.bytes t.bytes a b (omega arith) h
-before_more n s at other (binary_op op ty mode to x xty y yty) a b l k q h =
+more_second_needed : (s : ℕ) (taken : Option ℤ) (at n m : ℕ) (a b : Need) → n ≤ m → NeedsNoMore s a b
+    → NeedsNoMore s (right_needed taken at n a) (right_needed taken at m b)
+more_second_needed s None at n m a b e h = more_least s at n m a b e h
+more_second_needed s (Some k) at n m a b e h = h
+
+pub before_more : (n s : ℕ) (at other : ℕ → Need) (known : Option ℤ) (i : PlainIr) (a b : Need) → HasPlaces s i → HasLabel n i
+    → TellNoMore n s at other → NeedsNoMore s a b → NeedsNoMore s (before at known i a) (before other known i b)
+before_more n s at other known (constant t x) a b l k q h = more_without s t.at a b h
+before_more n s at other known (copy to from) a b l k q h = more_value s to from a b l.0 h
+before_more n s at other known (load_object t o offset) a b l k q h = more_without s t.at a b h
+before_more n s at other known (store_object o offset t) a b l k q h = more_least s t.at t.bytes t.bytes a b (omega arith) h
+before_more n s at other known (binary_op op ty mode to x xty y yty) a b l k q h =
     let w = is_whole xty || is_whole yty in
+    let taken = number_taken known w op in
     more_least s x.at (first_wanted w op x.bytes (wanted a to)) (first_wanted w op x.bytes (wanted b to))
-    (at_least y.at (second_wanted w op y.bytes (wanted a to)) (without to.at a))
-    (at_least y.at (second_wanted w op y.bytes (wanted b to)) (without to.at b))
+    (right_needed taken y.at (second_wanted w op y.bytes (wanted a to)) (without to.at a))
+    (right_needed taken y.at (second_wanted w op y.bytes (wanted b to)) (without to.at b))
     (more_first w op x.bytes (wanted a to) (wanted b to) (more_wanted s to a b l.0 h))
-    (more_least s y.at (second_wanted w op y.bytes (wanted a to)) (second_wanted w op y.bytes (wanted b to)) (without to.at a)
+    (more_second_needed s taken y.at (second_wanted w op y.bytes (wanted a to)) (second_wanted w op y.bytes (wanted b to)) (without to.at a)
     (without to.at b) (more_second w op y.bytes (wanted a to) (wanted b to) (more_wanted s to a b l.0 h)) (more_without s to.at a b h))
-before_more n s at other (unary_op op ty mode to x) a b l k q h = more_alone s (is_whole ty) to x a b l.0 h
-before_more n s at other (conversion to ty mode x xty) a b l k q h = more_alone s (is_whole ty || is_whole xty) to x a b l.0 h
-before_more n s at other (branch_zero t j) a b l k q h =
+before_more n s at other known (unary_op op ty mode to x) a b l k q h = more_alone s (is_whole ty) to x a b l.0 h
+before_more n s at other known (conversion to ty mode x xty) a b l k q h = more_alone s (is_whole ty || is_whole xty) to x a b l.0 h
+before_more n s at other known (branch_zero t j) a b l k q h =
     more_least s t.at t.bytes t.bytes (either a (at j)) (either b (other j)) (omega arith) (more_either s a b (at j) (other j) h (q j k))
-before_more n s at other (return_from from) a b l k q h = same_needs s (returned_need from)
-before_more n s at other (label j) a b l k q h = q j k
-before_more n s at other (jump j) a b l k q h = q j k
-before_more n s at other (address t o offset) a b l k q h = more_without s t.at a b h
-before_more n s at other (field ptr space offset) a b l k q h = more_least s ptr.at ptr.bytes ptr.bytes a b (omega arith) h
-before_more n s at other (load_at to ptr space) a b l k q h =
+before_more n s at other known (return_from from) a b l k q h = same_needs s (returned_need from)
+before_more n s at other known (label j) a b l k q h = q j k
+before_more n s at other known (jump j) a b l k q h = q j k
+before_more n s at other known (address t o offset) a b l k q h = more_without s t.at a b h
+before_more n s at other known (field ptr space offset) a b l k q h = more_least s ptr.at ptr.bytes ptr.bytes a b (omega arith) h
+before_more n s at other known (load_at to ptr space) a b l k q h =
     more_least s ptr.at ptr.bytes ptr.bytes (without to.at a) (without to.at b) (omega arith) (more_without s to.at a b h)
-before_more n s at other (store_at ptr space from) a b l k q h =
+before_more n s at other known (store_at ptr space from) a b l k q h =
     more_least s from.at from.bytes from.bytes (at_least ptr.at ptr.bytes a) (at_least ptr.at ptr.bytes b) (omega arith)
     (more_least s ptr.at ptr.bytes ptr.bytes a b (omega arith) h)
-before_more n s at other (call_function f None) a b l k q h = h
-before_more n s at other (call_function f (Some t)) a b l k q h = more_without s t.at a b h
-before_more n s at other (port_in to port index width) a b l k q h =
+before_more n s at other known (call_function f None) a b l k q h = h
+before_more n s at other known (call_function f (Some t)) a b l k q h = more_without s t.at a b h
+before_more n s at other known (port_in to port index width) a b l k q h =
     more_index s index (without to.at a) (without to.at b) (more_without s to.at a b h)
-before_more n s at other (port_out from port index width) a b l k q h =
+before_more n s at other known (port_out from port index width) a b l k q h =
     more_least s from.at width width (index_needed index a) (index_needed index b) (omega arith) (more_index s index a b h)
 
 -- ---- tables that tell all
 
-live_rest : (at : ℕ → Need) (i : PlainIr) (code : List PlainIr) → IsLive at (i ∷ code) → IsLive at code
+live_rest : (at : Facts) (i : PlainIr) (code : List PlainIr) → IsLiveBy at (i ∷ code) → IsLiveBy at code
 live_rest at (label l) code h = h.1
 live_rest at (constant t n) code h = h
 live_rest at (copy to from) code h = h
@@ -141,7 +148,7 @@ live_rest at (return_from from) code h = h
 live_rest at (port_in to port index width) code h = h
 live_rest at (port_out from port index width) code h = h
 
-pub live_drop : (at : ℕ → Need) (n : ℕ) (code : List PlainIr) → IsLive at code → IsLive at (drop n code)
+pub live_drop : (at : Facts) (n : ℕ) (code : List PlainIr) → IsLiveBy at code → IsLiveBy at (drop n code)
 live_drop at zero code h = h
 live_drop at (suc n) [] h = h
 live_drop at (suc n) (i ∷ code) h = live_drop at n code (live_rest at i code h)
@@ -151,8 +158,8 @@ labels_drop labels zero code h = h
 labels_drop labels (suc n) [] h = h
 labels_drop labels (suc n) (i ∷ code) h = labels_drop labels n code h.1
 
-pub live_joined : (s : ℕ) (at : ℕ → Need) (i : PlainIr) (code : List PlainIr) (need : Need) → IsLive at (i ∷ code)
-    → NeedsNoMore s need (needs at code) → IsJoined s at i need
+pub live_joined : (s : ℕ) (at : Facts) (i : PlainIr) (code : List PlainIr) (need : Need) → IsLiveBy at (i ∷ code)
+    → NeedsNoMore s need (needs at code) → IsJoined s at.needed i need
 live_joined s at (label l) code need h k = λ place q. (let x = k place q in let y = h.0 place in omega arith)
 live_joined s at (constant t n) code need h k = tt
 live_joined s at (copy to from) code need h k = tt
@@ -179,30 +186,33 @@ pub record NoMore (s : ℕ) (code : List PlainIr) (t0 t : List (List ℕ)) (need
   pub at_labels : (labels : ℕ) (other : ℕ → Need) → HaveLabels labels code → IsLive other code
       → TellNoMore labels s (needs_of t0) other → TellNoMore labels s (needs_of t) other
   pub here : (labels : ℕ) (other : ℕ → Need) → HaveLabels labels code → IsLive other code
-      → TellNoMore labels s (needs_of t0) other → NeedsNoMore s (need_of need) (needs other rest)
+      → TellNoMore labels s (needs_of t0) other → NeedsNoMore s (need_of need) (needs (facts_of other code) rest)
 
 pub no_more : (s : ℕ) (code : List PlainIr) (t0 t t1 : List (List ℕ)) (need need1 : List ℕ) (rest : List PlainIr)
-    (i : PlainIr) (k : ℕ) → HasPlaces s i → drop k code ≡ i ∷ rest → NoMore s code t0 t need rest
+    (n : Option ℤ) (i : PlainIr) (k : ℕ) → n ≡ known_right code (i ∷ rest) → HasPlaces s i → drop k code ≡ i ∷ rest
+    → NoMore s code t0 t need rest
     → ((labels : ℕ) (other : ℕ → Need) → TellNoMore labels s (needs_of t) other → IsJoined s other i (need_of need)
     → TellNoMore labels s (needs_of t1) other)
-    → AreSame s (need_of need1) (before (needs_of t1) i (need_of need)) → NoMore s code t0 t1 need1 (drop k code)
-no_more s code t0 t t1 need need1 rest i k p is z j b =
+    → AreSame s (need_of need1) (before (needs_of t1) n i (need_of need)) → NoMore s code t0 t1 need1 (drop k code)
+no_more s code t0 t t1 need need1 rest n i k number p is z j b =
     let tells : (labels : ℕ) (other : ℕ → Need) → HaveLabels labels code → IsLive other code
     → TellNoMore labels s (needs_of t0) other → TellNoMore labels s (needs_of t1) other =
     λ labels other h live q.
     j labels other (z.at_labels labels other h live q)
-    (live_joined s other i rest (need_of need) (subst (λ (x : List PlainIr). IsLive other x) is (live_drop other k code live))
+    (live_joined s (facts_of other code) i rest (need_of need)
+    (subst (λ (x : List PlainIr). IsLiveBy (facts_of other code) x) is (live_drop (facts_of other code) k code live))
     (z.here labels other h live q)) in
     record {
       at_labels = tells;
       here = λ labels other h live q.
           let l : HaveLabels labels (i ∷ rest) = subst (λ (x : List PlainIr). HaveLabels labels x) is (labels_drop labels k code h) in
-          subst (λ (x : List PlainIr). NeedsNoMore s (need_of need1) (needs other x)) (sym is)
+          subst (λ (x : List PlainIr). NeedsNoMore s (need_of need1) (needs (facts_of other code) x)) (sym is)
           (λ place m.
           let x = b place m in
-          let y = before_more labels s (needs_of t1) other i (need_of need) (needs other rest) p l.0 (tells labels other h live q)
-          (z.here labels other h live q) place m in
-          omega arith);
+          let y = before_more labels s (needs_of t1) other n i (need_of need) (needs (facts_of other code) rest) p l.0
+          (tells labels other h live q) (z.here labels other h live q) place m in
+          let w = ap (λ (v : Option ℤ). before other v i (needs (facts_of other code) rest) place) number in
+          omega (arith, x, y, w));
     }
 
 -- ---- the first table, and labels that stand

@@ -6,7 +6,7 @@ use Rattle.ec_ir.specs.Operations.{PlainIr, constant, copy, address, field, load
 use Rattle.ec_ir.specs.Operations.{store_object, binary_op, unary_op, conversion, label, jump, branch_zero}
 use Rattle.ec_ir.specs.Operations.{call_function, return_from, port_in, port_out}
 use Rattle.ec_select_operations.specs.Code.{register_places}
-use Rattle.ec_select_operations.specs.Needs.{Need, needs, without_result}
+use Rattle.ec_select_operations.specs.Needs.{Need, Facts, needs, without_result}
 use Rattle.ec_select_operations.specs.Written.{row_from, kept_row, kept_rows}
 use Rattle.ec_select_live.specs.Tables.{need_of, AreSame}
 use Rattle.ec_select_live.proofs.Operations.{same_result}
@@ -41,7 +41,7 @@ kept_same s (port_in to port index width) a b h = refl
 kept_same s (port_out from port index width) a b h = refl
 
 -- one operation more
-pub rows_more : (s : ℕ) (at : ℕ → Need) (code rest : List PlainIr) (i : PlainIr) (need : List ℕ) (rows : List (List ℕ))
+pub rows_more : (s : ℕ) (at : Facts) (code rest : List PlainIr) (i : PlainIr) (need : List ℕ) (rows : List (List ℕ))
     (k : ℕ) (row : List ℕ) → code ≡ i ∷ rest → AreSame s (need_of need) (needs at rest)
     → row ≡ kept_row s (need_of need) i → 0 < k → k ≤ length rows → drop k rows ≡ kept_rows s at rest
     → drop (k - 1) (set rows (k - 1) row) ≡ kept_rows s at code

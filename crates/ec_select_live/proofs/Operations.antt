@@ -1,7 +1,7 @@
 -- What is needed before operations, of the first places.
 use Rattle.std.proofs.Common.{◌≡◌, ℕ, zero, suc, ◌≤◌, List, [], ◌∷◌, Option, Some, None, Bool, true, false, ◌||◌, refl}
 use Rattle.std.proofs.Common.{ap, ◌∙◌, arith}
-use Rattle.std.specs.Prelude.{◌==◌, if◌then◌else◌, min, max}
+use Rattle.std.specs.Prelude.{◌==◌, if◌then◌else◌, min, max, ℤ}
 use Rattle.std.proofs.lemmas.Bool.Decides.{nat_tests}
 use Rattle.ec_core.specs.declared.expressions.BinOp.{BinOp}
 use Rattle.ec_core.specs.declared.expressions.BinOp.TheVariants.{Shl, Shr}
@@ -13,8 +13,7 @@ use Rattle.ec_select_operations.specs.Code.{result_wanted, wanted_behind}
 use Rattle.ec_select_operations.specs.Needs.{Need, nothing, at_least, without, either, wanted, is_of_low_bytes}
 use Rattle.ec_select_operations.specs.Needs.{all_or_none, is_whole, first_wanted, second_wanted, only_wanted}
 use Rattle.ec_select_operations.specs.Needs.{index_needed, operand_wanted, right_wanted, returned_need, without_result}
-use Rattle.ec_select_operations.specs.Needs.{before}
-use Rattle.ec_select_operations.specs.Needs.{needs}
+use Rattle.ec_select_operations.specs.Needs.{number_taken, right_needed, before, facts_of, known_right, needs}
 use Rattle.ec_select_live.specs.Places.{HasPlace, MayHavePlace, HasPlaces, HavePlaces}
 use Rattle.ec_select_live.specs.Tables.{AreSame, IsBounded, AreBounded}
 
@@ -56,37 +55,44 @@ same_index : (s : ℕ) (index : Option Temp) (a b : Need) → AreSame s a b
 same_index s None a b h = h
 same_index s (Some t) a b h = same_least s t.at 1 1 a b refl h
 
-pub before_same : (s : ℕ) (at : ℕ → Need) (i : PlainIr) (a b : Need) → HasPlaces s i → AreSame s a b
-    → AreSame s (before at i a) (before at i b)
-before_same s at (constant t n) a b l h = same_without s t.at a b h
-before_same s at (copy to from) a b l h = same_value s to from a b l.0 h
-before_same s at (load_object t o offset) a b l h = same_without s t.at a b h
-before_same s at (store_object o offset t) a b l h = same_least s t.at t.bytes t.bytes a b refl h
-before_same s at (binary_op op ty mode to x xty y yty) a b l h =
+same_right : (s : ℕ) (taken : Option ℤ) (at n m : ℕ) (a b : Need) → n ≡ m → AreSame s a b
+    → AreSame s (right_needed taken at n a) (right_needed taken at m b)
+same_right s None at n m a b e h = same_least s at n m a b e h
+same_right s (Some k) at n m a b e h = h
+
+pub before_same : (s : ℕ) (at : ℕ → Need) (k : Option ℤ) (i : PlainIr) (a b : Need) → HasPlaces s i → AreSame s a b
+    → AreSame s (before at k i a) (before at k i b)
+before_same s at k (constant t n) a b l h = same_without s t.at a b h
+before_same s at k (copy to from) a b l h = same_value s to from a b l.0 h
+before_same s at k (load_object t o offset) a b l h = same_without s t.at a b h
+before_same s at k (store_object o offset t) a b l h = same_least s t.at t.bytes t.bytes a b refl h
+before_same s at k (binary_op op ty mode to x xty y yty) a b l h =
     let w = is_whole xty || is_whole yty in
+    let taken = number_taken k w op in
     same_least s x.at (first_wanted w op x.bytes (wanted a to)) (first_wanted w op x.bytes (wanted b to))
-    (at_least y.at (second_wanted w op y.bytes (wanted a to)) (without to.at a))
-    (at_least y.at (second_wanted w op y.bytes (wanted b to)) (without to.at b))
+    (right_needed taken y.at (second_wanted w op y.bytes (wanted a to)) (without to.at a))
+    (right_needed taken y.at (second_wanted w op y.bytes (wanted b to)) (without to.at b))
     (ap (first_wanted w op x.bytes) (same_wanted s to a b l.0 h))
-    (same_least s y.at (second_wanted w op y.bytes (wanted a to)) (second_wanted w op y.bytes (wanted b to)) (without to.at a)
+    (same_right s taken y.at (second_wanted w op y.bytes (wanted a to)) (second_wanted w op y.bytes (wanted b to)) (without to.at a)
     (without to.at b) (ap (second_wanted w op y.bytes) (same_wanted s to a b l.0 h)) (same_without s to.at a b h))
-before_same s at (unary_op op ty mode to x) a b l h = same_only s (is_whole ty) to x a b l.0 h
-before_same s at (conversion to ty mode x xty) a b l h = same_only s (is_whole ty || is_whole xty) to x a b l.0 h
-before_same s at (branch_zero t k) a b l h = same_least s t.at t.bytes t.bytes (either a (at k)) (either b (at k)) refl
-    (same_either s a b (at k) h)
-before_same s at (return_from from) a b l h = λ place k. refl
-before_same s at (label k) a b l h = λ place q. refl
-before_same s at (jump k) a b l h = λ place q. refl
-before_same s at (address t o offset) a b l h = same_without s t.at a b h
-before_same s at (field ptr space offset) a b l h = same_least s ptr.at ptr.bytes ptr.bytes a b refl h
-before_same s at (load_at to ptr space) a b l h =
+before_same s at k (unary_op op ty mode to x) a b l h = same_only s (is_whole ty) to x a b l.0 h
+before_same s at k (conversion to ty mode x xty) a b l h = same_only s (is_whole ty || is_whole xty) to x a b l.0 h
+before_same s at k (branch_zero t j) a b l h = same_least s t.at t.bytes t.bytes (either a (at j)) (either b (at j)) refl
+    (same_either s a b (at j) h)
+before_same s at k (return_from from) a b l h = λ place q. refl
+before_same s at k (label j) a b l h = λ place q. refl
+before_same s at k (jump j) a b l h = λ place q. refl
+before_same s at k (address t o offset) a b l h = same_without s t.at a b h
+before_same s at k (field ptr space offset) a b l h = same_least s ptr.at ptr.bytes ptr.bytes a b refl h
+before_same s at k (load_at to ptr space) a b l h =
     same_least s ptr.at ptr.bytes ptr.bytes (without to.at a) (without to.at b) refl (same_without s to.at a b h)
-before_same s at (store_at ptr space from) a b l h =
+before_same s at k (store_at ptr space from) a b l h =
     same_least s from.at from.bytes from.bytes (at_least ptr.at ptr.bytes a) (at_least ptr.at ptr.bytes b) refl
     (same_least s ptr.at ptr.bytes ptr.bytes a b refl h)
-before_same s at (call_function f to) a b l h = same_result s to a b h
-before_same s at (port_in to port index width) a b l h = same_index s index (without to.at a) (without to.at b) (same_without s to.at a b h)
-before_same s at (port_out from port index width) a b l h =
+before_same s at k (call_function f to) a b l h = same_result s to a b h
+before_same s at k (port_in to port index width) a b l h = same_index s index (without to.at a) (without to.at b)
+    (same_without s to.at a b h)
+before_same s at k (port_out from port index width) a b l h =
     same_least s from.at width width (index_needed index a) (index_needed index b) refl (same_index s index a b h)
 
 pub result_same : (s : ℕ) (i : PlainIr) (a b : Need) → HasPlaces s i → AreSame s a b
@@ -178,39 +184,45 @@ bounded_returned : (s : ℕ) (from : Option Temp) → MayHavePlace s from → Is
 bounded_returned s None l = bounded_nothing
 bounded_returned s (Some t) l = bounded_least t.at t.bytes nothing l.1 bounded_nothing
 
-pub before_bounded : (s : ℕ) (at : ℕ → Need) (i : PlainIr) (a : Need) → HasPlaces s i → AreBounded at → IsBounded a
-    → IsBounded (before at i a)
-before_bounded s at (constant t n) a l k h = bounded_without t.at a h
-before_bounded s at (copy to from) a l k h = bounded_value to from a l.0.1 h
-before_bounded s at (load_object t o offset) a l k h = bounded_without t.at a h
-before_bounded s at (store_object o offset t) a l k h = bounded_least t.at t.bytes a l.1 h
-before_bounded s at (binary_op op ty mode to x xty y yty) a l k h =
+bounded_right : (taken : Option ℤ) (at n : ℕ) (a : Need) → n ≤ 16 → IsBounded a → IsBounded (right_needed taken at n a)
+bounded_right None at n a l h = bounded_least at n a l h
+bounded_right (Some k) at n a l h = h
+
+pub before_bounded : (s : ℕ) (at : ℕ → Need) (n : Option ℤ) (i : PlainIr) (a : Need) → HasPlaces s i → AreBounded at
+    → IsBounded a → IsBounded (before at n i a)
+before_bounded s at n (constant t x) a l k h = bounded_without t.at a h
+before_bounded s at n (copy to from) a l k h = bounded_value to from a l.0.1 h
+before_bounded s at n (load_object t o offset) a l k h = bounded_without t.at a h
+before_bounded s at n (store_object o offset t) a l k h = bounded_least t.at t.bytes a l.1 h
+before_bounded s at n (binary_op op ty mode to x xty y yty) a l k h =
     let w = is_whole xty || is_whole yty in
+    let taken = number_taken n w op in
     bounded_least x.at (first_wanted w op x.bytes (wanted a to))
-    (at_least y.at (second_wanted w op y.bytes (wanted a to)) (without to.at a))
+    (right_needed taken y.at (second_wanted w op y.bytes (wanted a to)) (without to.at a))
     (first_most w op x.bytes (wanted a to) l.1.1 (wanted_most a to l.0.1))
-    (bounded_least y.at (second_wanted w op y.bytes (wanted a to)) (without to.at a)
+    (bounded_right taken y.at (second_wanted w op y.bytes (wanted a to)) (without to.at a)
     (second_most w op y.bytes (wanted a to) l.2.1 (wanted_most a to l.0.1)) (bounded_without to.at a h))
-before_bounded s at (unary_op op ty mode to x) a l k h = bounded_only (is_whole ty) to x a l.0.1 l.1.1 h
-before_bounded s at (conversion to ty mode x xty) a l k h = bounded_only (is_whole ty || is_whole xty) to x a l.0.1 l.1.1 h
-before_bounded s at (branch_zero t q) a l k h =
+before_bounded s at n (unary_op op ty mode to x) a l k h = bounded_only (is_whole ty) to x a l.0.1 l.1.1 h
+before_bounded s at n (conversion to ty mode x xty) a l k h = bounded_only (is_whole ty || is_whole xty) to x a l.0.1 l.1.1 h
+before_bounded s at n (branch_zero t q) a l k h =
     bounded_least t.at t.bytes (either a (at q)) l.1 (bounded_either a (at q) h (k q))
-before_bounded s at (return_from from) a l k h = bounded_returned s from l
-before_bounded s at (label q) a l k h = k q
-before_bounded s at (jump q) a l k h = k q
-before_bounded s at (address t o offset) a l k h = bounded_without t.at a h
-before_bounded s at (field ptr space offset) a l k h = bounded_least ptr.at ptr.bytes a l.1 h
-before_bounded s at (load_at to ptr space) a l k h =
+before_bounded s at n (return_from from) a l k h = bounded_returned s from l
+before_bounded s at n (label q) a l k h = k q
+before_bounded s at n (jump q) a l k h = k q
+before_bounded s at n (address t o offset) a l k h = bounded_without t.at a h
+before_bounded s at n (field ptr space offset) a l k h = bounded_least ptr.at ptr.bytes a l.1 h
+before_bounded s at n (load_at to ptr space) a l k h =
     bounded_least ptr.at ptr.bytes (without to.at a) l.1.1 (bounded_without to.at a h)
-before_bounded s at (store_at ptr space from) a l k h =
+before_bounded s at n (store_at ptr space from) a l k h =
     bounded_least from.at from.bytes (at_least ptr.at ptr.bytes a) l.1.1 (bounded_least ptr.at ptr.bytes a l.0.1 h)
-before_bounded s at (call_function f None) a l k h = h
-before_bounded s at (call_function f (Some t)) a l k h = bounded_without t.at a h
-before_bounded s at (port_in to port index width) a l k h = bounded_index index (without to.at a) (bounded_without to.at a h)
-before_bounded s at (port_out from port index width) a l k h =
+before_bounded s at n (call_function f None) a l k h = h
+before_bounded s at n (call_function f (Some t)) a l k h = bounded_without t.at a h
+before_bounded s at n (port_in to port index width) a l k h = bounded_index index (without to.at a) (bounded_without to.at a h)
+before_bounded s at n (port_out from port index width) a l k h =
     bounded_least from.at width (index_needed index a) l.2 (bounded_index index a h)
 
-pub needs_bounded : (s : ℕ) (at : ℕ → Need) (code : List PlainIr) → HavePlaces s code → AreBounded at
-    → IsBounded (needs at code)
-needs_bounded s at [] l k = bounded_nothing
-needs_bounded s at (i ∷ code) l k = before_bounded s at i (needs at code) l.0 k (needs_bounded s at code l.1 k)
+pub needs_bounded : (s : ℕ) (at : ℕ → Need) (all code : List PlainIr) → HavePlaces s code → AreBounded at
+    → IsBounded (needs (facts_of at all) code)
+needs_bounded s at all [] l k = bounded_nothing
+needs_bounded s at all (i ∷ code) l k =
+    before_bounded s at (known_right all (i ∷ code)) i (needs (facts_of at all) code) l.0 k (needs_bounded s at all code l.1 k)

@@ -1,8 +1,9 @@
 //! What calls keep of the places that have registers.
 ghost use Rattle.std.specs.Prelude.{◌≡◌, ◌<◌, ◌++◌, ◌∷◌, [], length, map, OnOk, IfOk};
 ghost use Rattle.ec_ir.specs.Operations.{plain_ir};
+ghost use Rattle.ec_ir_known.specs.Known.{right_numbers};
 ghost use Rattle.ec_select_operations.specs.Code.{register_places};
-ghost use Rattle.ec_select_operations.specs.Needs.{without_result};
+ghost use Rattle.ec_select_operations.specs.Needs.{facts_of, without_result};
 ghost use Rattle.ec_select_operations.specs.Written.{row_from, kept_row, kept_rows};
 ghost use Rattle.ec_select_live.specs.Places.{HasPlaces, HavePlaces};
 ghost use Rattle.ec_select_live.specs.Tables.{need_of, needs_of};
@@ -11,6 +12,7 @@ use crate::needs::before;
 use crate::rows::clear;
 use crate::table::{LabelNeeds, zeros};
 use ec_ir::{Ir, Temp};
+use ec_select_operations::number_at;
 use ec_space::{NoMemory, Seq};
 use std::alloc::Global;
 
@@ -83,37 +85,42 @@ fn keep_all(
     alloc: Global,
     table: &LabelNeeds,
     code: &[Ir],
+    numbers: &[Option<i128>],
     need: &mut [u8],
     rows: &mut [Vec<u8>],
 ) -> Result<(), NoMemory>
+    requires numbers { numbers.now ≡ right_numbers (map plain_ir code.now) }
     requires places { HavePlaces (length need.old) (map plain_ir code.now) }
     requires lengths { length rows.old ≡ length code.now }
     ensures { OnOk result (map (λ row. row.items) rows.new
-        ≡ kept_rows (length need.old) (needs_of table.now) (map plain_ir code.now)) }
+        ≡ kept_rows (length need.old) (facts_of (needs_of table.now) (map plain_ir code.now)) (map plain_ir code.now)) }
 {
     clear(need);
     for k in (0..code.len()).rev() {
         let i = &code[k];
+        let number = number_at(numbers, k);
         rows[k] = kept_row(alloc, need, i)?;
-        before(table, i, need);
+        before(table, number, i, need);
     }
     Ok(())
 }
 
 /// For each call a row of numbers: how many bytes it keeps of each of the first places, where so much is needed at the
-/// labels. The row of any other operation is empty.
+/// labels, and second operands are known to hold these numbers. The row of any other operation is empty.
 pub fn kept(
     alloc: Global,
     table: &LabelNeeds,
     code: &Seq<Ir>,
+    numbers: &[Option<i128>],
     slots: u16,
 ) -> Result<Vec<Vec<u8>>, NoMemory>
-    requires { HavePlaces slots (map plain_ir code.now.items) }
+    requires places { HavePlaces slots (map plain_ir code.now.items) }
+    requires numbers { numbers.now ≡ right_numbers (map plain_ir code.now.items) }
     ensures { IfOk result (λ rows. map (λ row. row.items) rows.items
-        ≡ kept_rows slots (needs_of table.now) (map plain_ir code.now.items)) }
+        ≡ kept_rows slots (facts_of (needs_of table.now) (map plain_ir code.now.items)) (map plain_ir code.now.items)) }
 {
     let mut need = zeros(alloc, usize::from(slots))?;
     let mut rows = empty_rows(alloc, code.len())?;
-    keep_all(alloc, table, code.as_slice(), &mut need, &mut rows)?;
+    keep_all(alloc, table, code.as_slice(), numbers, &mut need, &mut rows)?;
     Ok(rows)
 }

@@ -1,8 +1,9 @@
 //! What is needed at the labels of a function, and of the results of its operations.
 ghost use Rattle.std.specs.Prelude.{◌≡◌, ℕ, ◌<◌, length, map, IfOk, false, true};
 ghost use Rattle.ec_ir.specs.Operations.{plain_ir};
+ghost use Rattle.ec_ir_known.specs.Known.{right_numbers};
 ghost use Rattle.ec_select_operations.specs.Code.{wanted_behind, wanted_bytes};
-ghost use Rattle.ec_select_operations.specs.Needs.{Need, IsLive};
+ghost use Rattle.ec_select_operations.specs.Needs.{Need, facts_of, IsLive};
 ghost use Rattle.ec_select_live.specs.Places.{HasPlaces, HavePlaces};
 ghost use Rattle.ec_select_live.specs.Tables.{need_of, needs_of, IsBounded, IsTable, IsJoined, TellNoMore, room};
 ghost use Rattle.ec_select_live.specs.Least.{IsLeast, HasLabel, HaveLabels};
@@ -11,6 +12,7 @@ use crate::needs::before;
 use crate::rows::{clear, wanted_of};
 use crate::table::{LabelNeeds, zeros};
 use ec_ir::Ir;
+use ec_select_operations::number_at;
 use ec_space::{NoMemory, Seq};
 use std::alloc::Global;
 
@@ -33,7 +35,8 @@ fn join_label(table: &mut LabelNeeds, i: &Ir, need: &[u8]) -> bool
 }
 
 /// Goes over the operations from the last to the first. Answers whether more is needed at a label than the table told.
-fn pass(table: &mut LabelNeeds, code: &[Ir], need: &mut [u8]) -> bool
+fn pass(table: &mut LabelNeeds, code: &[Ir], numbers: &[Option<i128>], need: &mut [u8]) -> bool
+    requires numbers { numbers.now ≡ right_numbers (map plain_ir code.now) }
     requires places { HavePlaces (length need.old) (map plain_ir code.now) }
     requires known { IsTable (length need.old) (needs_of table.old) }
     ensures kept { IsTable (length need.old) (needs_of table.new) }
@@ -48,15 +51,17 @@ fn pass(table: &mut LabelNeeds, code: &[Ir], need: &mut [u8]) -> bool
     let mut grown = false;
     for k in (0..code.len()).rev() {
         let i = &code[k];
+        let number = number_at(numbers, k);
         let more = join_label(table, i, need);
-        before(table, i, need);
+        before(table, number, i, need);
         grown = grown || more;
     }
     grown
 }
 
 /// Passes over the operations until a table tells all that is needed.
-fn settle(table: &mut LabelNeeds, code: &[Ir], need: &mut [u8])
+fn settle(table: &mut LabelNeeds, code: &[Ir], numbers: &[Option<i128>], need: &mut [u8])
+    requires numbers { numbers.now ≡ right_numbers (map plain_ir code.now) }
     requires places { HavePlaces (length need.old) (map plain_ir code.now) }
     requires known { IsTable (length need.old) (needs_of table.old) }
     ensures live { IsLive (needs_of table.new) (map plain_ir code.now) }
@@ -66,7 +71,7 @@ fn settle(table: &mut LabelNeeds, code: &[Ir], need: &mut [u8])
 {
     let mut grown = true;
     while grown {
-        grown = pass(table, code, need);
+        grown = pass(table, code, numbers, need);
     }
 }
 
@@ -96,11 +101,17 @@ fn label_count(code: &[Ir]) -> Result<usize, NoMemory>
 }
 
 /// The table of the labels of a function's code: at each label it tells how many low bytes of each place of temporaries
-/// are needed behind it.
+/// are needed behind it, where second operands are known to hold these numbers.
 ///
 /// The labels are best numbered from 0 on, as the table has a row for each number up to the greatest.
-pub fn live(alloc: Global, code: &Seq<Ir>, slots: u16) -> Result<LabelNeeds, NoMemory>
-    requires { HavePlaces slots (map plain_ir code.now.items) }
+pub fn live(
+    alloc: Global,
+    code: &Seq<Ir>,
+    numbers: &[Option<i128>],
+    slots: u16,
+) -> Result<LabelNeeds, NoMemory>
+    requires places { HavePlaces slots (map plain_ir code.now.items) }
+    requires numbers { numbers.now ≡ right_numbers (map plain_ir code.now.items) }
     ensures live { IfOk result (λ table. IsLive (needs_of table) (map plain_ir code.now.items)) }
     ensures least { IfOk result (λ table. IsLeast slots (needs_of table) (map plain_ir code.now.items)) }
 {
@@ -108,7 +119,7 @@ pub fn live(alloc: Global, code: &Seq<Ir>, slots: u16) -> Result<LabelNeeds, NoM
     let labels = label_count(code.as_slice())?;
     let mut need = zeros(alloc, places)?;
     let mut table = LabelNeeds::new(alloc, labels, places)?;
-    settle(&mut table, code.as_slice(), &mut need);
+    settle(&mut table, code.as_slice(), numbers, &mut need);
     Ok(table)
 }
 
@@ -135,32 +146,43 @@ fn wanted_behind(table: &LabelNeeds, need: &[u8], i: &Ir) -> u8
     }
 }
 
-fn want(table: &LabelNeeds, code: &[Ir], need: &mut [u8], wanted: &mut [u8])
+fn want(
+    table: &LabelNeeds,
+    code: &[Ir],
+    numbers: &[Option<i128>],
+    need: &mut [u8],
+    wanted: &mut [u8],
+)
+    requires numbers { numbers.now ≡ right_numbers (map plain_ir code.now) }
     requires places { HavePlaces (length need.old) (map plain_ir code.now) }
     requires lengths { length wanted.old ≡ length code.now }
-    ensures { wanted.new ≡ wanted_bytes (needs_of table.now) (map plain_ir code.now) }
+    ensures { wanted.new ≡ wanted_bytes (facts_of (needs_of table.now) (map plain_ir code.now)) (map plain_ir code.now) }
 {
     clear(need);
     for k in (0..code.len()).rev() {
         let i = &code[k];
+        let number = number_at(numbers, k);
         wanted[k] = wanted_behind(table, need, i);
-        before(table, i, need);
+        before(table, number, i, need);
     }
 }
 
 /// For each operation how many low bytes are needed behind it, of its result or of what a branch has tested, where so
-/// much is needed at the labels.
+/// much is needed at the labels, and second operands are known to hold these numbers.
 pub fn wanted(
     alloc: Global,
     table: &LabelNeeds,
     code: &Seq<Ir>,
+    numbers: &[Option<i128>],
     slots: u16,
 ) -> Result<Vec<u8>, NoMemory>
-    requires { HavePlaces slots (map plain_ir code.now.items) }
-    ensures { IfOk result (λ bytes. bytes.items ≡ wanted_bytes (needs_of table.now) (map plain_ir code.now.items)) }
+    requires places { HavePlaces slots (map plain_ir code.now.items) }
+    requires numbers { numbers.now ≡ right_numbers (map plain_ir code.now.items) }
+    ensures { IfOk result (λ bytes. bytes.items
+        ≡ wanted_bytes (facts_of (needs_of table.now) (map plain_ir code.now.items)) (map plain_ir code.now.items)) }
 {
     let mut need = zeros(alloc, usize::from(slots))?;
     let mut bytes = zeros(alloc, code.len())?;
-    want(table, code.as_slice(), &mut need, &mut bytes);
+    want(table, code.as_slice(), numbers, &mut need, &mut bytes);
     Ok(bytes)
 }

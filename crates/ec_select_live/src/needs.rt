@@ -3,7 +3,7 @@ ghost use Rattle.std.specs.Prelude.{◌<◌, length};
 ghost use Rattle.ec_ir.specs.Operations.{plain_ir};
 ghost use Rattle.ec_select_operations.specs.Needs.{before, either, at_least, without, wanted, index_needed};
 ghost use Rattle.ec_select_operations.specs.Needs.{returned_need, without_result, first_wanted, second_wanted};
-ghost use Rattle.ec_select_operations.specs.Needs.{only_wanted};
+ghost use Rattle.ec_select_operations.specs.Needs.{only_wanted, number_taken, right_needed};
 ghost use Rattle.ec_select_live.specs.Places.{MayHavePlace, HasPlaces};
 ghost use Rattle.ec_select_live.specs.Tables.{need_of, needs_of, AreSame};
 
@@ -11,7 +11,7 @@ use crate::rows::{clear, first_wanted, forget, keep, only_wanted, second_wanted,
 use crate::table::{LabelNeeds, zeros};
 use ec_core::BinOp;
 use ec_ir::{Ir, Temp};
-use ec_select_operations::is_whole;
+use ec_select_operations::{is_whole, number_taken};
 use ec_space::{NoMemory, Seq};
 use std::alloc::Global;
 
@@ -28,19 +28,38 @@ fn pass_on(need: &mut [u8], whole: bool, to: Temp, from: Temp)
     keep(need, from, only_wanted(whole, from.bytes, n));
 }
 
-/// The operands of a binary operator.
-fn pass_operands(need: &mut [u8], whole: bool, op: BinOp, to: Temp, a: Temp, b: Temp)
+/// So many bytes of a second operand are needed, but none where it is taken as a number.
+fn keep_right(need: &mut [u8], taken: Option<i128>, b: Temp, n: u8)
+    requires { b.at < length need.old }
+    ensures { AreSame (length need.old) (need_of need.new) (right_needed taken b.at n (need_of need.old)) }
+{
+    match taken {
+        None => keep(need, b, n),
+        Some(_) => {}
+    }
+}
+
+/// The operands of a binary operator, of which the second one may be taken as a number.
+fn pass_operands(
+    need: &mut [u8],
+    whole: bool,
+    taken: Option<i128>,
+    op: BinOp,
+    to: Temp,
+    a: Temp,
+    b: Temp,
+)
     requires to { to.at < length need.old }
     requires left { a.at < length need.old }
     requires right { b.at < length need.old }
     ensures { AreSame (length need.old) (need_of need.new)
         (at_least a.at (first_wanted whole op a.bytes (wanted (need_of need.old) to))
-        (at_least b.at (second_wanted whole op b.bytes (wanted (need_of need.old) to))
+        (right_needed taken b.at (second_wanted whole op b.bytes (wanted (need_of need.old) to))
         (without to.at (need_of need.old)))) }
 {
     let n = wanted_of(need, to);
     forget(need, to);
-    keep(need, b, second_wanted(whole, op, b.bytes, n));
+    keep_right(need, taken, b, second_wanted(whole, op, b.bytes, n));
     keep(need, a, first_wanted(whole, op, a.bytes, n));
 }
 
@@ -147,11 +166,11 @@ fn at_write(need: &mut [u8], from: Temp, index: Option<Temp>, width: u8)
 }
 
 /// What is needed before an operation, in place of what is needed after it: `need` has a byte for each of the first
-/// places.
-pub fn before(table: &LabelNeeds, i: &Ir, need: &mut [u8])
+/// places. Its second operand may be known to hold a number.
+pub fn before(table: &LabelNeeds, known: Option<i128>, i: &Ir, need: &mut [u8])
     requires { HasPlaces (length need.old) (plain_ir i.now) }
     ensures { AreSame (length need.old) (need_of need.new)
-        (before (needs_of table.now) (plain_ir i.now) (need_of need.old)) }
+        (before (needs_of table.now) known (plain_ir i.now) (need_of need.old)) }
 {
     match i {
         Ir::Const(t, _) | Ir::Addr(t, _, _) | Ir::LoadObj(t, _, _) => forget(need, *t),
@@ -172,7 +191,8 @@ pub fn before(table: &LabelNeeds, i: &Ir, need: &mut [u8])
             ..
         } => {
             let whole = is_whole(aty) || is_whole(bty);
-            pass_operands(need, whole, *op, *to, *a, *b)
+            let taken = number_taken(known, whole, *op);
+            pass_operands(need, whole, taken, *op, *to, *a, *b)
         }
         Ir::Label(l) | Ir::Jump(l) => at_label(table, *l, need),
         Ir::BranchZero(t, l) => at_branch(table, *t, *l, need),

@@ -1,7 +1,7 @@
 -- Code that is written operation by operation.
 use Rattle.std.proofs.Common.{◌≡◌, ℕ, zero, suc, ◌+◌, ◌-◌, ◌<◌, List, [], ◌∷◌, ◌++◌, Some, length, refl, sym, ap, ◌∙◌}
 use Rattle.std.proofs.Common.{subst, arith, append_assoc, append-nil}
-use Rattle.std.specs.Prelude.{slice_get, slice_index, get_or, Option, None}
+use Rattle.std.specs.Prelude.{slice_get, slice_index, get_or, Option, None, ℤ}
 use Rattle.ec_asm.specs.declared.items.AsmItem.{AsmItem}
 use Rattle.ec_asm.specs.declared.pieces.Location.{Location}
 use Rattle.ec_asm.specs.Items.{chain}
@@ -14,7 +14,8 @@ use Rattle.ec_select_operations.specs.Code.{Linkage, register_places, save_place
 use Rattle.ec_select_operations.specs.declared.families.Told.{Told}
 use Rattle.ec_select_operations.specs.Code.{restore_code, operation_code, tells, wanted_behind, wanted_bytes, op_code}
 use Rattle.ec_select_operations.specs.Code.{tells_next, ops_code}
-use Rattle.ec_select_operations.specs.Needs.{Need, without_result, needs}
+use Rattle.ec_ir_known.specs.Known.{known_at, right_number, right_numbers, numbers_left}
+use Rattle.ec_select_operations.specs.Needs.{Need, without_result, facts_of, Facts, needs}
 use Rattle.ec_select_operations.specs.Written.{need_in, operation_at, told_from, told_at, written_code, row_from}
 use Rattle.ec_select_operations.specs.Written.{kept_row}
 use Rattle.ec_select_operations.specs.Written.{kept_rows, NeededCodeIsWritten}
@@ -64,56 +65,61 @@ module _ (p : PlainProgram) (home : Temp → Location) (k : Linkage) where
       (λ j. restore_place k.homes j (need j)) (register_places k.slots)
       (λ j l. ap (restore_place k.homes j) (kept_here need j l))
 
-  same_code : (at : ℕ → Need) (told telling : Option Told) (need : Need) (i : PlainIr)
-      → operation_code p home k told telling (wanted_behind at need i) (need_in (kept_row k.slots need i)) i
-      ≡ op_code p home k told telling need i
-  same_code at told telling need (call_function f to) =
+  same_code : (at : ℕ → Need) (told telling : Option Told) (known : Option ℤ) (need : Need) (i : PlainIr)
+      → operation_code p home k told telling known (wanted_behind at need i) (need_in (kept_row k.slots need i)) i
+      ≡ op_code p home k told telling known need i
+  same_code at told telling known need (call_function f to) =
       let a = same_save (without_result to need) in
       let b = same_restore (without_result to need) in
       rw (a, b) refl
-  same_code at told telling need (constant t n) = refl
-  same_code at told telling need (copy to from) = refl
-  same_code at told telling need (address t o offset) = refl
-  same_code at told telling need (field ptr space offset) = refl
-  same_code at told telling need (load_at to ptr space) = refl
-  same_code at told telling need (store_at ptr space from) = refl
-  same_code at told telling need (load_object t o offset) = refl
-  same_code at told telling need (store_object o offset t) = refl
-  same_code at told telling need (binary_op op ty mode to a aty b bty) = refl
-  same_code at told telling need (unary_op op ty mode to a) = refl
-  same_code at told telling need (conversion to ty mode a aty) = refl
-  same_code at told telling need (label l) = refl
-  same_code at told telling need (jump l) = refl
-  same_code at told telling need (branch_zero t l) = refl
-  same_code at told telling need (return_from from) = refl
-  same_code at told telling need (port_in to port index width) = refl
-  same_code at told telling need (port_out from port index width) = refl
+  same_code at told telling known need (constant t n) = refl
+  same_code at told telling known need (copy to from) = refl
+  same_code at told telling known need (address t o offset) = refl
+  same_code at told telling known need (field ptr space offset) = refl
+  same_code at told telling known need (load_at to ptr space) = refl
+  same_code at told telling known need (store_at ptr space from) = refl
+  same_code at told telling known need (load_object t o offset) = refl
+  same_code at told telling known need (store_object o offset t) = refl
+  same_code at told telling known need (binary_op op ty mode to a aty b bty) = refl
+  same_code at told telling known need (unary_op op ty mode to a) = refl
+  same_code at told telling known need (conversion to ty mode a aty) = refl
+  same_code at told telling known need (label l) = refl
+  same_code at told telling known need (jump l) = refl
+  same_code at told telling known need (branch_zero t l) = refl
+  same_code at told telling known need (return_from from) = refl
+  same_code at told telling known need (port_in to port index width) = refl
+  same_code at told telling known need (port_out from port index width) = refl
 
-  -- the pieces of a list of operations, of which the first one has been told so much
-  abbrev piece : (at : ℕ → Need) → Option Told → List PlainIr → ℕ → List AsmItem
-  piece at first code j =
+  -- the pieces of the operations that are left of some code, of which the first one has been told so much
+  abbrev piece : (labels : ℕ → Need) (all : List PlainIr) → Option Told → List PlainIr → ℕ → List AsmItem
+  piece labels all first code j =
+      let at = facts_of labels all in
       operation_at p home k (told_from first (wanted_bytes at code) code j) (told_from first (wanted_bytes at code) code (suc j))
-      (slice_index (wanted_bytes at code) j) (get_or (kept_rows k.slots at code) j []) (slice_get code j)
+      (get_or (numbers_left all code) j None) (slice_index (wanted_bytes at code) j) (get_or (kept_rows k.slots at code) j [])
+      (slice_get code j)
 
   -- those behind the first operation are those of the other ones
-  piece_behind : (at : ℕ → Need) (first : Option Told) (i : PlainIr) (code : List PlainIr) (j : ℕ)
-      → piece at first (i ∷ code) (suc j) ≡ piece at (tells_next at i code) code j
-  piece_behind at first i code zero = refl
-  piece_behind at first i code (suc j) = refl
+  piece_behind : (labels : ℕ → Need) (all : List PlainIr) (first : Option Told) (i : PlainIr) (code : List PlainIr) (j : ℕ)
+      → piece labels all first (i ∷ code) (suc j) ≡ piece labels all (tells_next (facts_of labels all) i code) code j
+  piece_behind labels all first i code zero = refl
+  piece_behind labels all first i code (suc j) = refl
 
-  pieces_are : (at : ℕ → Need) (first : Option Told) (code : List PlainIr)
-      → chain (piece at first code) (length code) ≡ ops_code p home k at first code
-  pieces_are at first [] = refl
-  pieces_are at first (i ∷ code) =
+  pieces_are : (labels : ℕ → Need) (all : List PlainIr) (first : Option Told) (code : List PlainIr)
+      → chain (piece labels all first code) (length code) ≡ ops_code p home k (facts_of labels all) first code
+  pieces_are labels all first [] = refl
+  pieces_are labels all first (i ∷ code) =
+      let at = facts_of labels all in
+      let next = tells_next at i code in
       let behind =
-      chain_same (λ j. piece at first (i ∷ code) (suc j)) (piece at (tells_next at i code) code) (length code)
-      (λ j l. piece_behind at first i code j) in
-      chain_front (piece at first (i ∷ code)) (length code)
-      ∙ ap (λ l. piece at first (i ∷ code) 0 ++ l) (behind ∙ pieces_are at (tells_next at i code) code)
-      ∙ ap (λ l. l ++ ops_code p home k at (tells_next at i code) code) (same_code at first (tells_next at i code) (needs at code) i)
+      chain_same (λ j. piece labels all first (i ∷ code) (suc j)) (piece labels all next code) (length code)
+      (λ j l. piece_behind labels all first i code j) in
+      chain_front (piece labels all first (i ∷ code)) (length code)
+      ∙ ap (λ l. piece labels all first (i ∷ code) 0 ++ l) (behind ∙ pieces_are labels all next code)
+      ∙ ap (λ l. l ++ ops_code p home k at next code)
+      (same_code labels first next (right_number (known_at all (i ∷ code)) i) (needs at code) i)
 
 pub needed_code_is_written : NeededCodeIsWritten
-needed_code_is_written p home k at code = pieces_are p home k at None code
+needed_code_is_written p home k labels code = pieces_are p home k labels code None code
 
 -- one piece more
 pub chain_more : (f : ℕ → List AsmItem) (j : ℕ) (first before after : List AsmItem) → before ≡ first ++ chain f j
@@ -124,19 +130,21 @@ chain_more f j first before after p q =
 
 -- one operation more
 pub one_more : (p : PlainProgram) (home : Temp → Location) (k : Linkage) (wanted : List ℕ) (kept : List (List ℕ))
-    (code : List PlainIr) (j : ℕ) (i : PlainIr) (told telling : Option Told) (row : List ℕ) (first before after : List AsmItem)
+    (known : List (Option ℤ)) (code : List PlainIr) (j : ℕ) (i : PlainIr) (told telling : Option Told) (number : Option ℤ)
+    (row : List ℕ) (first before after : List AsmItem)
     → slice_get code j ≡ Some i → told ≡ told_at wanted code j → telling ≡ told_at wanted code (j + 1)
-    → get_or kept j [] ≡ row → before ≡ first ++ written_code p home k wanted kept code j
-    → after ≡ before ++ operation_code p home k told telling (slice_index wanted j) (need_in row) i
-    → after ≡ first ++ written_code p home k wanted kept code (j + 1)
-one_more p home k wanted kept code j i told telling row first before after is told_is telling_is row_is start q =
+    → get_or known j None ≡ number → get_or kept j [] ≡ row → before ≡ first ++ written_code p home k wanted kept known code j
+    → after ≡ before ++ operation_code p home k told telling number (slice_index wanted j) (need_in row) i
+    → after ≡ first ++ written_code p home k wanted kept known code (j + 1)
+one_more p home k wanted kept known code j i told telling number row first before after is told_is telling_is number_is row_is start q =
     let e : j + 1 ≡ suc j = omega arith in
     let next : telling ≡ told_at wanted code (suc j) = telling_is ∙ ap (told_at wanted code) e in
-    let here : operation_at p home k (told_at wanted code j) (told_at wanted code (suc j)) (slice_index wanted j) (get_or kept j [])
-    (slice_get code j) ≡ operation_code p home k told telling (slice_index wanted j) (need_in row) i = rw
-    (told_is, next, is, row_is) refl in
-    chain_more (λ j. operation_at p home k (told_at wanted code j) (told_at wanted code (suc j)) (slice_index wanted j)
-    (get_or kept j []) (slice_get code j)) j first before after start (q ∙ ap (λ l. before ++ l) (sym here))
+    let here : operation_at p home k (told_at wanted code j) (told_at wanted code (suc j)) (get_or known j None)
+    (slice_index wanted j) (get_or kept j []) (slice_get code j)
+    ≡ operation_code p home k told telling number (slice_index wanted j) (need_in row) i = rw
+    (told_is, next, is, row_is, number_is) refl in
+    chain_more (λ j. operation_at p home k (told_at wanted code j) (told_at wanted code (suc j)) (get_or known j None)
+    (slice_index wanted j) (get_or kept j []) (slice_get code j)) j first before after start (q ∙ ap (λ l. before ++ l) (sym here))
 
 -- an item of a list
 pub item_there : {A : Type 0} (xs : List A) (k : ℕ) (x : A) → k < length xs → x ≡ get_or xs k x

@@ -1,7 +1,7 @@
 -- The code of operations.
 use Rattle.std.specs.Prelude.{◌≤◌, ⊤, ℕ, suc, ◌+◌, ◌-◌, ◌*◌, ◌%◌, ◌==◌, nat_le, Bool, true, false, ◌&&◌, ◌||◌, not}
 use Rattle.std.specs.Prelude.{if◌then◌else◌}
-use Rattle.std.specs.Prelude.{min, List, [], ◌∷◌, ◌++◌, Option, Some, None, option_map, slice_get, slice_index}
+use Rattle.std.specs.Prelude.{min, List, [], ◌∷◌, ◌++◌, Option, Some, None, option_map, slice_get, slice_index, ℤ}
 use Rattle.ec_fx.specs.declared.numbers.Mode.{Mode}
 use Rattle.ec_fx.specs.Formats.{format_of}
 use Rattle.ec_space.specs.declared.space.Bank.{Bank}
@@ -47,6 +47,8 @@ use Rattle.ec_select_quotients.specs.Signs.{quotient_code}
 use Rattle.ec_select_shifts.specs.declared.shifts.Direction.{Direction}
 use Rattle.ec_select_shifts.specs.declared.shifts.Direction.TheVariants.{Left, Right}
 use Rattle.ec_select_shifts.specs.Shifts.{shift_code}
+use Rattle.ec_select_numbers.specs.declared.operators.ByNumber.TheVariants.{Subtract, Mask, Set}
+use Rattle.ec_select_numbers.specs.ByNumber.{changed_code, added_code, compared_code as compared_with_code}
 use Rattle.ec_select_operations.specs.declared.families.Family.{Family}
 use Rattle.ec_select_operations.specs.declared.families.Family.TheVariants.{Combined, Compared, Multiplied, Shifted}
 use Rattle.ec_select_operations.specs.declared.families.Family.TheVariants.{Divided}
@@ -56,8 +58,9 @@ use Rattle.ec_select_operations.specs.Homes.{home, result_location}
 use Rattle.ec_fxcode_limits.specs.Limits.{limited_code}
 use Rattle.ec_fxcode_placed.specs.Shifts.{placed_code}
 use Rattle.ec_select_fixed.specs.Codes.{fixed_binary_code, fixed_unary_code, fixed_conversion_code}
-use Rattle.ec_select_operations.specs.Needs.{is_fixed, is_whole}
-use Rattle.ec_select_operations.specs.Needs.{Need, nothing, wanted, wanted_result, without_result, either, needs}
+use Rattle.ec_select_operations.specs.Needs.{is_fixed, is_whole, number_taken}
+use Rattle.ec_select_operations.specs.Needs.{Need, nothing, wanted, wanted_result, without_result, either}
+use Rattle.ec_select_operations.specs.Needs.{Facts, facts_of, needs}
 use Rattle.ec_select_operations.specs.Places.{object_location}
 use Rattle.ec_select_operations.specs.Pointers.{is_pointer, is_into_data, home_of, tag_in}
 use Rattle.ec_select_operations.specs.Ports.{in_code, out_code}
@@ -219,6 +222,36 @@ abbrev pub operator_code : (telling : Option Told) → Family → (left right : 
     → (bytes n : ℕ) → List AsmItem
 operator_code None f left right a b to bytes n = binary_code f left right a b to bytes n
 operator_code (Some told) f left right a b to bytes n = flag_code f a b bytes
+
+-- ---- operators with a known number
+
+-- n bytes are changed where they stand. There is no such code for other operators
+abbrev pub changed_by_code : Operator → Location → (number n : ℕ) → List AsmItem
+changed_by_code Sum to number n = added_code to number n
+changed_by_code Difference to number n = changed_code Subtract to number n
+changed_by_code BitAnd to number n = changed_code Mask to number n
+changed_by_code BitOr to number n = changed_code Set to number n
+changed_by_code BitXor to number n = []
+
+-- the first operand is brought to the result's place, and changed there. A truth value needs the number at the place of
+-- the second operand, and it is put there first
+abbrev pub by_number_code : Family → (left right : Bool) → (a b to : Location) → (bytes number n : ℕ) → List AsmItem
+by_number_code (Combined op) left right a b to bytes number n = move_code a to n ++ changed_by_code op to number n
+by_number_code f left right a b to bytes number n =
+    if n == 0 then [] else constant_code b number bytes ++ binary_code f left right a b to bytes n
+
+-- where the second operand is taken as a number, in two's complement of 16 bytes
+abbrev pub taking_code : (taken : Option ℤ) → (telling : Option Told) → Family → (left right : Bool) → (a b to : Location)
+    → (bytes n : ℕ) → List AsmItem
+taking_code None telling f left right a b to bytes n = operator_code telling f left right a b to bytes n
+taking_code (Some k) None f left right a b to bytes n = by_number_code f left right a b to bytes (low_bytes 16 k) n
+taking_code (Some k) (Some told) f left right a b to bytes n = compared_with_code a (low_bytes 16 k) bytes
+
+-- operands that are integers, of which the second one may be known to hold a number
+abbrev pub integer_binary : (known : Option ℤ) → (telling : Option Told) → BinOp → (left right : Bool) → (a b to : Location)
+    → (bytes n : ℕ) → List AsmItem
+integer_binary known telling op left right a b to bytes n =
+    taking_code (number_taken known false op) telling (family_of op) left right a b to bytes n
 
 -- it branches where the operands of the comparison before it do not stand so, or where a number is 0
 abbrev pub tested_code : Option Told → Location → (bytes l : ℕ) → List AsmItem
@@ -425,42 +458,43 @@ pointer_conversion aty from to m k n =
 -- ---- operations
 
 -- An operation, of whose result so many bytes are needed, and after a call so many of other places; what the one before
--- it told, and what it tells itself. A constant is taken in two's complement of 16 bytes, since no temporary has more
-abbrev pub operation_code : PlainProgram → (Temp → Location) → Linkage → (told telling : Option Told) → ℕ → Need
-    → PlainIr → List AsmItem
-operation_code p home k told telling bytes kept (constant t n) = constant_code (home t) (low_bytes 16 n) bytes
-operation_code p home k told telling bytes kept (copy to from) = move_code (home from) (home to) bytes
-operation_code p home k told telling bytes kept (address t o offset) =
+-- it told, and what it tells itself; and the number that its second operand is known to hold. A constant is taken in two's
+-- complement of 16 bytes, since no temporary has more
+abbrev pub operation_code : PlainProgram → (Temp → Location) → Linkage → (told telling : Option Told) → Option ℤ → ℕ
+    → Need → PlainIr → List AsmItem
+operation_code p home k told telling known bytes kept (constant t n) = constant_code (home t) (low_bytes 16 n) bytes
+operation_code p home k told telling known bytes kept (copy to from) = move_code (home from) (home to) bytes
+operation_code p home k told telling known bytes kept (address t o offset) =
     addressed_code p o offset (home t) t.bytes bytes
-operation_code p home k told telling bytes kept (field ptr space offset) = field_code (home ptr) offset
-operation_code p home k told telling bytes kept (load_at to ptr space) = load_code space (home ptr) (home to) to.bytes
-operation_code p home k told telling bytes kept (store_at ptr space from) =
+operation_code p home k told telling known bytes kept (field ptr space offset) = field_code (home ptr) offset
+operation_code p home k told telling known bytes kept (load_at to ptr space) = load_code space (home ptr) (home to) to.bytes
+operation_code p home k told telling known bytes kept (store_at ptr space from) =
     store_data_code (home from) (home ptr) from.bytes
-operation_code p home k told telling bytes kept (load_object t o offset) =
+operation_code p home k told telling known bytes kept (load_object t o offset) =
     banked_code (home_of p o) p.objects o offset (home t) t.bytes
-operation_code p home k told telling bytes kept (store_object o offset t) =
+operation_code p home k told telling known bytes kept (store_object o offset t) =
     copy_code (home t) (object_location p.objects o offset) t.bytes
-operation_code p home k told telling bytes kept (binary_op op ty mode to a aty b bty) =
+operation_code p home k told telling known bytes kept (binary_op op ty mode to a aty b bty) =
     by_kind (is_fixed aty || is_fixed bty)
     (fixed_binary telling op ty aty bty mode (home a) (home b) (home to) a.bytes bytes)
     (by_kind (is_pointer aty || is_pointer bty)
     (pointer_binary (is_pointer aty) (is_pointer bty) p op aty bty (home a) (home b) (home to) a.bytes b.bytes bytes)
-    (operator_code telling (family_of op) (is_signed aty) (is_signed bty) (home a) (home b) (home to) a.bytes bytes))
-operation_code p home k told telling bytes kept (unary_op op ty mode to a) =
+    (integer_binary known telling op (is_signed aty) (is_signed bty) (home a) (home b) (home to) a.bytes bytes))
+operation_code p home k told telling known bytes kept (unary_op op ty mode to a) =
     by_kind (is_fixed ty) (fixed_unary op ty mode (home a) (home to) bytes) (unary_code op (home a) (home to) bytes)
-operation_code p home k told telling bytes kept (conversion to ty mode a aty) =
+operation_code p home k told telling known bytes kept (conversion to ty mode a aty) =
     by_kind (is_fixed ty || is_fixed aty) (fixed_conversion ty aty mode (home a) (home to) a.bytes bytes)
     (by_kind (is_pointer aty) (pointer_conversion aty (home a) (home to) a.bytes to.bytes bytes)
     (conversion_code (is_signed aty) (home a) (home to) a.bytes bytes))
-operation_code p home k told telling bytes kept (label l) = Label (k.label_of l) ∷ []
-operation_code p home k told telling bytes kept (jump l) = JumpTo (k.label_of l) ∷ []
-operation_code p home k told telling bytes kept (branch_zero t l) =
+operation_code p home k told telling known bytes kept (label l) = Label (k.label_of l) ∷ []
+operation_code p home k told telling known bytes kept (jump l) = JumpTo (k.label_of l) ∷ []
+operation_code p home k told telling known bytes kept (branch_zero t l) =
     tested_code told (home t) t.bytes (k.label_of l)
-operation_code p home k told telling bytes kept (call_function f to) = call_code home k f to bytes kept
-operation_code p home k told telling bytes kept (return_from from) = return_code home k.is_main from
-operation_code p home k told telling bytes kept (port_in to port index width) =
+operation_code p home k told telling known bytes kept (call_function f to) = call_code home k f to bytes kept
+operation_code p home k told telling known bytes kept (return_from from) = return_code home k.is_main from
+operation_code p home k told telling known bytes kept (port_in to port index width) =
     in_code (option_map home index) (home to) port width bytes
-operation_code p home k told telling bytes kept (port_out from port index width) =
+operation_code p home k told telling known bytes kept (port_out from port index width) =
     out_code (option_map home index) (home from) port width
 
 -- the bytes that are needed of an operation's result
@@ -480,9 +514,9 @@ abbrev pub wanted_behind : (ℕ → Need) → Need → PlainIr → ℕ
 wanted_behind at need (branch_zero t l) = wanted (either need (at l)) t
 wanted_behind at need i = result_wanted need i
 
-abbrev pub wanted_bytes : (ℕ → Need) → List PlainIr → List ℕ
+abbrev pub wanted_bytes : Facts → List PlainIr → List ℕ
 wanted_bytes at [] = []
-wanted_bytes at (i ∷ code) = wanted_behind at (needs at code) i ∷ wanted_bytes at code
+wanted_bytes at (i ∷ code) = wanted_behind at.needed (needs at code) i ∷ wanted_bytes at code
 
 -- what a call keeps
 abbrev pub kept_need : Need → PlainIr → Need
@@ -490,22 +524,23 @@ kept_need need (call_function f to) = without_result to need
 kept_need need i = nothing
 
 -- an operation, where so much is needed after it
-abbrev pub op_code : PlainProgram → (Temp → Location) → Linkage → (told telling : Option Told) → Need → PlainIr
-    → List AsmItem
-op_code p home k told telling need i =
-    operation_code p home k told telling (result_wanted need i) (kept_need need i) i
+abbrev pub op_code : PlainProgram → (Temp → Location) → Linkage → (told telling : Option Told) → Option ℤ → Need
+    → PlainIr → List AsmItem
+op_code p home k told telling known need i =
+    operation_code p home k told telling known (result_wanted need i) (kept_need need i) i
 
 -- what an operation tells those behind it
-abbrev pub tells_next : (ℕ → Need) → PlainIr → List PlainIr → Option Told
+abbrev pub tells_next : Facts → PlainIr → List PlainIr → Option Told
 tells_next at i code = tells i (slice_get code 0) (slice_index (wanted_bytes at code) 0)
 
-abbrev pub ops_code : PlainProgram → (Temp → Location) → Linkage → (ℕ → Need) → (told : Option Told)
+abbrev pub ops_code : PlainProgram → (Temp → Location) → Linkage → Facts → (told : Option Told)
     → List PlainIr → List AsmItem
 ops_code p home k at told [] = []
 ops_code p home k at told (i ∷ code) =
-    op_code p home k told (tells_next at i code) (needs at code) i
+    op_code p home k told (tells_next at i code) (at.known (i ∷ code)) (needs at code) i
     ++ ops_code p home k at (tells_next at i code) code
 
--- the code of a function, which begins with its label
+-- the code of a function, which begins with its label, where a table tells what is needed at its own labels
 abbrev pub function_code : PlainProgram → Linkage → (f : ℕ) → (ℕ → Need) → List PlainIr → List AsmItem
-function_code p k f at code = Label (k.entry_of f) ∷ ops_code p (home k.homes) k at None code
+function_code p k f labels code =
+    Label (k.entry_of f) ∷ ops_code p (home k.homes) k (facts_of labels code) None code

@@ -20,7 +20,7 @@ use Rattle.ec_select_operations.specs.declared.families.Family.TheVariants.{Comb
 use Rattle.ec_select_operations.specs.declared.families.Family.TheVariants.{Divided}
 use Rattle.ec_select_operations.specs.declared.calls.Linking.{Linking}
 use Rattle.ec_select_operations.specs.Code.{Linkage, HasResult, family_of}
-use Rattle.ec_select_operations.specs.Needs.{is_fixed}
+use Rattle.ec_select_operations.specs.Needs.{is_fixed, takes_number}
 use Rattle.ec_select_operations.specs.Places.{object_location}
 use Rattle.ec_select_operations.specs.Pointers.{is_pointer, IsPointerSize}
 pub use Rattle.ec_select_bytes.specs.Ports.{HasIndexByte}
@@ -53,6 +53,10 @@ BinaryHasBytes (Shifted up) wanted to a b =
     (wanted ≤ a.bytes) × (a.bytes ≤ to.bytes) × (1 ≤ b.bytes)
 BinaryHasBytes (Divided r) wanted to a b =
     (1 ≤ a.bytes) × (a.bytes ≤ 4) × (a.bytes ≤ to.bytes) × (a.bytes ≤ b.bytes)
+
+-- an operator that may take a number of up to 16 bytes in place of the second operand
+abbrev pub TakesNumbers : BinOp → (a b : Temp) → Type 0
+TakesNumbers op a b = takes_number op ≡ true → (a.bytes ≤ b.bytes) × (a.bytes ≤ 16)
 
 -- the bytes of the second operand that an operator which computes its result in its place takes
 abbrev pub second_bytes : BinOp → (bytes : ℕ) → ℕ
@@ -122,7 +126,7 @@ CanBeEmitted p k wanted (store_object o offset t) = HasBytes (object_location p.
 CanBeEmitted p k wanted (binary_op op ty mode to a aty b bty) =
     OfKind (is_fixed aty || is_fixed bty) (FixedHasBytes op wanted to a b ty aty bty)
     (OfKind (is_pointer aty || is_pointer bty) (PointersHaveBytes p op wanted to a b ty aty bty)
-    (BinaryHasBytes (family_of op) wanted to a b))
+    (BinaryHasBytes (family_of op) wanted to a b × TakesNumbers op a b))
 CanBeEmitted p k wanted (conversion to ty mode a aty) =
     OfKind (is_fixed ty || is_fixed aty) (FixedConversionHasBytes wanted to a ty aty)
     (OfKind (is_pointer aty) (PointerHasBytes wanted to a ty aty) ((wanted ≤ to.bytes) × (1 ≤ a.bytes)))

@@ -1,14 +1,15 @@
 -- How many low bytes of what each place of temporaries holds are still needed. Code computes only these bytes.
-use Rattle.std.specs.Prelude.{ℕ, zero, suc, ◌≤◌, ◌==◌, ⊤, Bool, true, false, ◌||◌, if◌then◌else◌, min, max, List, []}
+use Rattle.std.specs.Prelude.{ℕ, zero, suc, ◌≤◌, ◌==◌, ⊤, Bool, true, false, ◌||◌, ◌&&◌, not, if◌then◌else◌, min, max, List, []}
 use Rattle.std.specs.Prelude.{◌∷◌}
-use Rattle.std.specs.Prelude.{Option, Some, None}
+use Rattle.std.specs.Prelude.{Option, Some, None, ℤ}
 use Rattle.ec_core.specs.declared.expressions.BinOp.{BinOp}
-use Rattle.ec_core.specs.declared.expressions.BinOp.TheVariants.{Add, Sub, And, Or, Xor, Shl, Shr}
+use Rattle.ec_core.specs.declared.expressions.BinOp.TheVariants.{Add, Sub, And, Or, Xor, Shl, Shr, Lt, Ge, Eq, Ne}
 use Rattle.ec_core.specs.Plain.{PlainType, fixed, pointer}
 use Rattle.ec_ir.specs.declared.operations.Temp.{Temp}
 use Rattle.ec_ir.specs.Operations.{PlainIr, constant, copy, address, field, load_at, store_at, load_object}
 use Rattle.ec_ir.specs.Operations.{store_object, binary_op, unary_op, conversion, label, jump, branch_zero}
 use Rattle.ec_ir.specs.Operations.{call_function, return_from, port_in, port_out}
+use Rattle.ec_ir_known.specs.Known.{known_at, right_number}
 
 -- for each place the number of its low bytes that are needed
 abbrev pub Need : Type 0
@@ -99,38 +100,87 @@ abbrev pub only_wanted : (whole : Bool) → (bytes n : ℕ) → ℕ
 only_wanted true bytes n = all_or_none bytes n
 only_wanted false bytes n = n
 
--- what is needed before an operation, where `at` tells what is needed at each label, and `need` what is after the
--- operation
-abbrev pub before : (ℕ → Need) → PlainIr → Need → Need
-before at (constant t n) need = without t.at need
-before at (copy to from) need = at_least from.at (wanted need to) (without to.at need)
-before at (address t o offset) need = without t.at need
-before at (field ptr space offset) need = at_least ptr.at ptr.bytes need
-before at (load_at to ptr space) need = at_least ptr.at ptr.bytes (without to.at need)
-before at (store_at ptr space from) need = at_least from.at from.bytes (at_least ptr.at ptr.bytes need)
-before at (load_object t o offset) need = without t.at need
-before at (store_object o offset t) need = at_least t.at t.bytes need
-before at (binary_op op ty mode to a aty b bty) need =
-    at_least a.at (first_wanted (is_whole aty || is_whole bty) op a.bytes (wanted need to))
-    (at_least b.at (second_wanted (is_whole aty || is_whole bty) op b.bytes (wanted need to)) (without to.at need))
-before at (unary_op op ty mode to a) need =
-    at_least a.at (only_wanted (is_whole ty) a.bytes (wanted need to)) (without to.at need)
-before at (conversion to ty mode a aty) need =
-    at_least a.at (only_wanted (is_whole ty || is_whole aty) a.bytes (wanted need to)) (without to.at need)
-before at (label l) need = at l
-before at (jump l) need = at l
-before at (branch_zero t l) need = at_least t.at t.bytes (either need (at l))
-before at (call_function f to) need = without_result to need
-before at (return_from from) need = returned_need from
-before at (port_in to port index width) need = index_needed index (without to.at need)
-before at (port_out from port index width) need = at_least from.at width (index_needed index need)
+-- ---- operands that are known numbers
 
-abbrev pub needs : (ℕ → Need) → List PlainIr → Need
+-- the operators of integers that take a known number as their second operand
+abbrev pub takes_number : BinOp → Bool
+takes_number Add = true
+takes_number Sub = true
+takes_number And = true
+takes_number Or = true
+takes_number Lt = true
+takes_number Ge = true
+takes_number Eq = true
+takes_number Ne = true
+takes_number op = false
+
+-- the number that an operator takes, where its second operand is known to hold one: none of operands that are fixed-point
+-- numbers or pointers
+abbrev pub number_taken : (known : Option ℤ) → (whole : Bool) → BinOp → Option ℤ
+number_taken None whole op = None
+number_taken (Some n) whole op = if not whole && takes_number op then Some n else None
+
+-- of a second operand that is taken as a number nothing is needed
+abbrev pub right_needed : Option ℤ → (at bytes : ℕ) → Need → Need
+right_needed None at bytes need = at_least at bytes need
+right_needed (Some n) at bytes need = need
+
+-- ---- operations
+
+-- what is needed before an operation, whose second operand may be known to hold a number. `at` tells what is needed at
+-- each label, and `need` what is after the operation
+abbrev pub before : (ℕ → Need) → Option ℤ → PlainIr → Need → Need
+before at n (constant t k) need = without t.at need
+before at n (copy to from) need = at_least from.at (wanted need to) (without to.at need)
+before at n (address t o offset) need = without t.at need
+before at n (field ptr space offset) need = at_least ptr.at ptr.bytes need
+before at n (load_at to ptr space) need = at_least ptr.at ptr.bytes (without to.at need)
+before at n (store_at ptr space from) need = at_least from.at from.bytes (at_least ptr.at ptr.bytes need)
+before at n (load_object t o offset) need = without t.at need
+before at n (store_object o offset t) need = at_least t.at t.bytes need
+before at n (binary_op op ty mode to a aty b bty) need =
+    at_least a.at (first_wanted (is_whole aty || is_whole bty) op a.bytes (wanted need to))
+    (right_needed (number_taken n (is_whole aty || is_whole bty) op) b.at
+    (second_wanted (is_whole aty || is_whole bty) op b.bytes (wanted need to)) (without to.at need))
+before at n (unary_op op ty mode to a) need =
+    at_least a.at (only_wanted (is_whole ty) a.bytes (wanted need to)) (without to.at need)
+before at n (conversion to ty mode a aty) need =
+    at_least a.at (only_wanted (is_whole ty || is_whole aty) a.bytes (wanted need to)) (without to.at need)
+before at n (label l) need = at l
+before at n (jump l) need = at l
+before at n (branch_zero t l) need = at_least t.at t.bytes (either need (at l))
+before at n (call_function f to) need = without_result to need
+before at n (return_from from) need = returned_need from
+before at n (port_in to port index width) need = index_needed index (without to.at need)
+before at n (port_out from port index width) need = at_least from.at width (index_needed index need)
+
+-- ---- the code of a function
+
+-- what is needed at each label of a function, and the number, if any, that the second operand of the first one of the
+-- operations that are left is known to hold
+pub record Facts : Type 0 where
+  pub needed : ℕ → Need
+  pub known : List PlainIr → Option ℤ
+
+-- the number of the operations that are left of the code of a function
+abbrev pub known_right : (code rest : List PlainIr) → Option ℤ
+known_right code [] = None
+known_right code (i ∷ rest) = right_number (known_at code (i ∷ rest)) i
+
+-- where a table tells what is needed at the labels
+abbrev pub facts_of : (ℕ → Need) → List PlainIr → Facts
+facts_of labels code = record { needed = labels; known = known_right code }
+
+abbrev pub needs : Facts → List PlainIr → Need
 needs at [] place = 0
-needs at (i ∷ code) place = before at i (needs at code) place
+needs at (i ∷ code) place = before at.needed (at.known (i ∷ code)) i (needs at code) place
+
+-- at the labels of operations at least what the code after each needs is needed
+abbrev pub IsLiveBy : Facts → List PlainIr → Type 0
+IsLiveBy at [] = ⊤
+IsLiveBy at (label l ∷ code) = ((place : ℕ) → needs at code place ≤ at.needed l place) × IsLiveBy at code
+IsLiveBy at (i ∷ code) = IsLiveBy at code
 
 -- the table of labels tells at least what the code after each label needs
 abbrev pub IsLive : (ℕ → Need) → List PlainIr → Type 0
-IsLive at [] = ⊤
-IsLive at (label l ∷ code) = ((place : ℕ) → needs at code place ≤ at l place) × IsLive at code
-IsLive at (i ∷ code) = IsLive at code
+IsLive labels code = IsLiveBy (facts_of labels code) code

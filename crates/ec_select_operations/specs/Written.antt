@@ -1,6 +1,6 @@
 -- The code of a list of operations, for each of which numbers tell how many bytes are wanted.
 use Rattle.std.specs.Prelude.{◌≡◌, ℕ, zero, suc, List, [], ◌∷◌, Option, Some, None, slice_get, slice_index, get_or}
-use Rattle.std.specs.Prelude.{option_and_then, length}
+use Rattle.std.specs.Prelude.{option_and_then, length, ℤ}
 use Rattle.ec_asm.specs.declared.items.AsmItem.{AsmItem}
 use Rattle.ec_asm.specs.declared.items.AsmItem.TheVariants.{Label}
 use Rattle.ec_asm.specs.declared.pieces.Location.{Location}
@@ -8,13 +8,14 @@ use Rattle.ec_asm.specs.Items.{chain}
 use Rattle.ec_core.specs.Plain.{PlainProgram}
 use Rattle.ec_ir.specs.declared.operations.Temp.{Temp}
 use Rattle.ec_ir.specs.Operations.{PlainIr, call_function}
+use Rattle.ec_ir_known.specs.Known.{right_numbers}
 use Rattle.ec_select_operations.specs.declared.calls.Linking.{Linking}
 use Rattle.ec_select_operations.specs.declared.families.Told.{Told}
 use Rattle.ec_select_operations.specs.Code.{Linkage, register_places, operation_code, tells, wanted_bytes, ops_code}
 use Rattle.ec_select_operations.specs.Code.{function_code}
 use Rattle.ec_select_operations.specs.Emitted.{CanBeEmitted}
 use Rattle.ec_select_operations.specs.Homes.{home}
-use Rattle.ec_select_operations.specs.Needs.{Need, without_result, needs}
+use Rattle.ec_select_operations.specs.Needs.{Need, without_result, Facts, facts_of, needs}
 
 -- what is needed of each place, where a row tells it of the first ones. Of the others nothing is
 abbrev pub need_in : List ℕ → Need
@@ -31,24 +32,24 @@ abbrev pub told_at : (wanted : List ℕ) → List PlainIr → ℕ → Option Tol
 told_at wanted code j = told_from None wanted code j
 
 abbrev pub operation_at : PlainProgram → (Temp → Location) → Linkage → (told telling : Option Told)
-    → (wanted : ℕ) → (row : List ℕ) → Option PlainIr → List AsmItem
-operation_at p home k told telling wanted row None = []
-operation_at p home k told telling wanted row (Some i) =
-    operation_code p home k told telling wanted (need_in row) i
+    → (known : Option ℤ) → (wanted : ℕ) → (row : List ℕ) → Option PlainIr → List AsmItem
+operation_at p home k told telling known wanted row None = []
+operation_at p home k told telling known wanted row (Some i) =
+    operation_code p home k told telling known wanted (need_in row) i
 
--- the code of the first n operations: `wanted` has for each the bytes that are needed behind it, and `kept` what a
--- call keeps
+-- the code of the first n operations: `wanted` has for each the bytes that are needed behind it, `kept` what a call
+-- keeps, and `known` the number that the second operand is known to hold
 abbrev pub written_code : PlainProgram → (Temp → Location) → Linkage → (wanted : List ℕ) → (kept : List (List ℕ))
-    → List PlainIr → ℕ → List AsmItem
-written_code p home k wanted kept code n =
-    chain (λ j. operation_at p home k (told_at wanted code j) (told_at wanted code (suc j))
+    → (known : List (Option ℤ)) → List PlainIr → ℕ → List AsmItem
+written_code p home k wanted kept known code n =
+    chain (λ j. operation_at p home k (told_at wanted code j) (told_at wanted code (suc j)) (get_or known j None)
     (slice_index wanted j) (get_or kept j []) (slice_get code j)) n
 
 -- that of a function, which begins with its label
 abbrev pub written_function : PlainProgram → Linkage → (f : ℕ) → (wanted : List ℕ) → (kept : List (List ℕ))
-    → List PlainIr → List AsmItem
-written_function p k f wanted kept code =
-    Label (k.entry_of f) ∷ written_code p (home k.homes) k wanted kept code (length code)
+    → (known : List (Option ℤ)) → List PlainIr → List AsmItem
+written_function p k f wanted kept known code =
+    Label (k.entry_of f) ∷ written_code p (home k.homes) k wanted kept known code (length code)
 
 abbrev pub CanBeWritten : PlainProgram → Linking → List ℕ → List PlainIr → Type 0
 CanBeWritten p k wanted code =
@@ -64,19 +65,21 @@ abbrev pub kept_row : (slots : ℕ) → Need → PlainIr → List ℕ
 kept_row slots need (call_function f to) = row_from (register_places slots) 0 (without_result to need)
 kept_row slots need i = []
 
-abbrev pub kept_rows : (slots : ℕ) → (ℕ → Need) → List PlainIr → List (List ℕ)
+abbrev pub kept_rows : (slots : ℕ) → Facts → List PlainIr → List (List ℕ)
 kept_rows slots at [] = []
 kept_rows slots at (i ∷ code) = kept_row slots (needs at code) i ∷ kept_rows slots at code
 
 -- code that is written with these numbers is the code of the operations
 abbrev pub NeededCodeIsWritten : Type 0
 NeededCodeIsWritten =
-    (p : PlainProgram) (home : Temp → Location) (k : Linkage) (at : ℕ → Need) (code : List PlainIr)
-    → written_code p home k (wanted_bytes at code) (kept_rows k.slots at code) code (length code)
+    (p : PlainProgram) (home : Temp → Location) (k : Linkage) (labels : ℕ → Need) (code : List PlainIr)
+    → let at = facts_of labels code in
+    written_code p home k (wanted_bytes at code) (kept_rows k.slots at code) (right_numbers code) code (length code)
     ≡ ops_code p home k at None code
 
 abbrev pub NeededFunctionsAreWritten : Type 0
 NeededFunctionsAreWritten =
-    (p : PlainProgram) (k : Linkage) (f : ℕ) (at : ℕ → Need) (code : List PlainIr)
-    → written_function p k f (wanted_bytes at code) (kept_rows k.slots at code) code
-    ≡ function_code p k f at code
+    (p : PlainProgram) (k : Linkage) (f : ℕ) (labels : ℕ → Need) (code : List PlainIr)
+    → let at = facts_of labels code in
+    written_function p k f (wanted_bytes at code) (kept_rows k.slots at code) (right_numbers code) code
+    ≡ function_code p k f labels code

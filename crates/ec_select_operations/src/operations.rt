@@ -2,7 +2,6 @@
 ghost use Rattle.std.specs.Prelude.{◌≡◌, ◌≤◌, ◌++◌, ◌+◌, ◌^◌, ◌<◌, OnOk, OnErr, Some, map, length};
 ghost use Rattle.ec_runs.specs.Behaviours.{BeginWith};
 ghost use Rattle.ec_ir.specs.Operations.{plain_ir};
-ghost use Rattle.ec_ir.specs.Temporaries.{low_bytes};
 ghost use Rattle.ec_select_operations.specs.Code.{operation_code, is_only_tested, tells};
 ghost use Rattle.ec_select_operations.specs.Emitted.{declarations, linkage, IsLabel, CanBeEmitted};
 ghost use Rattle.ec_select_operations.specs.Homes.{home};
@@ -11,10 +10,11 @@ ghost use Rattle.ec_select_operations.specs.Written.{written_function};
 
 use crate::calls::{Linking, call, finish};
 use crate::families::{
-    BinaryOperation, Told, branch_on, convert, family_of, move_number, operator, told_by, unary,
+    BinaryOperation, Told, branch_on, convert, family_of, move_number, told_by, unary,
 };
 use crate::fixed::{fixed_binary, fixed_conversion, fixed_unary, is_apart};
 use crate::homes::{home, index_place};
+use crate::numbers::{bits_of, integer_binary, number_at};
 use crate::pointers::{
     load_object, load_through, object_location, pointer_binary, pointer_conversion, put_address,
 };
@@ -30,14 +30,6 @@ use ec_space::{NoMemory, Seq};
 pub struct Flags {
     pub told: Option<Told>,
     pub telling: Option<Told>,
-}
-
-/// A number in two's complement of 16 bytes.
-fn bits_of(n: i128) -> u128
-    ensures { result ≡ low_bytes 16 n }
-{
-    let size = n.unsigned_abs();
-    if n >= 0 { size } else { u128::MAX - (size - 1) }
 }
 
 /// Whether the next operation branches on the result, of which nothing is needed afterwards.
@@ -92,20 +84,22 @@ fn told_at(wanted: &[u8], code: &[Ir], k: usize) -> Option<Told>
 
 /// Appends the code of an operation of a function. Of its result so many bytes are wanted, and no more than its
 /// temporary has; after a call so many of the first places, as a row tells. It has been told something by the operation
-/// before it, and is telling the next one something. Where memory runs out, a part of the code is appended.
+/// before it, and is telling the next one something; its second operand may be known to hold a number. Where memory runs
+/// out, a part of the code is appended.
 #[tactic(auto, using(crate::proofs::Emits::fewer_bytes))]
 pub fn operation(
     out: &mut Seq<AsmItem>,
     program: &IrProgram,
     of: Linking,
     flags: Flags,
+    known: Option<i128>,
     wanted: u8,
     kept: &[u8],
     i: &Ir,
 ) -> Result<(), NoMemory>
     requires { CanBeEmitted (declarations program.now) of wanted (plain_ir i.now) }
     ensures ok { OnOk result (out.new.items ≡ out.old.items
-        ++ operation_code (declarations program.now) (home of.homes) (linkage of) flags.told flags.telling wanted
+        ++ operation_code (declarations program.now) (home of.homes) (linkage of) flags.told flags.telling known wanted
         (need_in kept.now) (plain_ir i.now)) }
     ensures err { OnErr result (BeginWith out.old.items out.new.items) }
 {
@@ -158,7 +152,15 @@ pub fn operation(
                 left_signed: is_signed(aty),
                 right_signed: is_signed(bty),
             };
-            operator(out, homes, flags.telling, *op, binary_operation, wanted)
+            integer_binary(
+                out,
+                homes,
+                known,
+                flags.telling,
+                *op,
+                binary_operation,
+                wanted,
+            )
         }
         Ir::Un {
             op,
@@ -235,8 +237,8 @@ pub fn operation(
 }
 
 /// Appends the code of a function's operations, one after another: behind each so many bytes are needed as the number
-/// at its place tells, of its result or of what it has tested, and a call keeps what the row at its place tells. Where
-/// memory runs out, a part of the code is appended.
+/// at its place tells, of its result or of what it has tested, a call keeps what the row at its place tells, and a second
+/// operand is known to hold the number at its place. Where memory runs out, a part of the code is appended.
 pub fn all_operations(
     out: &mut Seq<AsmItem>,
     program: &IrProgram,
@@ -244,24 +246,28 @@ pub fn all_operations(
     code: &[Ir],
     wanted: &[u8],
     kept: &[Vec<u8>],
+    known: &[Option<i128>],
 ) -> Result<(), NoMemory>
     requires numbers { length code.now ≡ length wanted.now }
     requires rows { length code.now ≡ length kept.now }
+    requires known { length code.now ≡ length known.now }
     requires each { CanBeWritten (declarations program.now) of wanted.now (map plain_ir code.now) }
     ensures ok { OnOk result (out.new.items ≡ out.old.items
         ++ written_code (declarations program.now) (home of.homes) (linkage of) wanted.now
-        (map (λ row. row.items) kept.now) (map plain_ir code.now) (length code.now)) }
+        (map (λ row. row.items) kept.now) known.now (map plain_ir code.now) (length code.now)) }
     ensures err { OnErr result (BeginWith out.old.items out.new.items) }
 {
     for k in 0..code.len() {
         let told = told_at(wanted, code, k);
         let telling = told_at(wanted, code, k + 1);
         let flags = Flags { told, telling };
+        let number = number_at(known, k);
         operation(
             out,
             program,
             of,
             flags,
+            number,
             wanted[k],
             kept[k].as_slice(),
             &code[k],
@@ -280,16 +286,18 @@ pub fn function(
     code: &[Ir],
     wanted: &[u8],
     kept: &[Vec<u8>],
+    known: &[Option<i128>],
 ) -> Result<(), NoMemory>
     requires label { IsLabel (of.first_entry + f) }
     requires numbers { length code.now ≡ length wanted.now }
     requires rows { length code.now ≡ length kept.now }
+    requires known { length code.now ≡ length known.now }
     requires each { CanBeWritten (declarations program.now) of wanted.now (map plain_ir code.now) }
     ensures ok { OnOk result (out.new.items ≡ out.old.items
         ++ written_function (declarations program.now) (linkage of) f wanted.now
-        (map (λ row. row.items) kept.now) (map plain_ir code.now)) }
+        (map (λ row. row.items) kept.now) known.now (map plain_ir code.now)) }
     ensures err { OnErr result (BeginWith out.old.items out.new.items) }
 {
     out.extend_from_slice(&[AsmItem::Label(of.first_entry + u64::from(f))])?;
-    all_operations(out, program, of, code, wanted, kept)
+    all_operations(out, program, of, code, wanted, kept, known)
 }

@@ -7,39 +7,66 @@ use Rattle.ec_ir.specs.Operations.{plain_ir, plain_ir_function, plain_ir_program
 use Rattle.ec_select_live.specs.Tables.{needs_of}
 use Rattle.ec_select_operations.specs.declared.calls.Linking.{Linking}
 use Rattle.ec_select_operations.specs.Code.{wanted_bytes}
+use Rattle.ec_select_operations.specs.Needs.{facts_of}
 use Rattle.ec_select_operations.specs.Emitted.{linkage}
 use Rattle.ec_select_operations.specs.Written.{CanBeWritten, kept_rows, written_function}
 use Rattle.ec_select.specs.Labels.{label_count}
-use Rattle.ec_select.proofs.Added.{added}
+use Rattle.ec_ir_known.specs.Known.{right_numbers}
+use Rattle.ec_select.proofs.Added.{added, results_placed, numbers_length}
 use Rattle.ec_select.proofs.Emits.{wanted_length, kept_length, all_emitted}
 use Rattle.ec_select.proofs.Setting.{function_valid}
 use Rattle.ec_select.proofs.functions.add_function.Goals as goal
 
-pub live-requires : goal.live-requires
-live-requires c =
+pub live-requires-clause-places : goal.live-requires-clause-places
+live-requires-clause-places c =
     let p = plain_ir_program c.args.ir.now in
     let g = plain_ir_function c.args.g.now in
     c.valid_operations_have_places.ensures p c.requires.valid.results c.args.f g
     (function_valid p c.requires.valid c.args.f g c.requires.is)
 
-pub wanted-requires : goal.wanted-requires
-wanted-requires c =
+pub wanted-requires-clause-places : goal.wanted-requires-clause-places
+wanted-requires-clause-places c =
     let p = plain_ir_program c.args.ir.now in
     let g = plain_ir_function c.args.g.now in
     c.valid_operations_have_places.ensures p c.requires.valid.results c.args.f g
     (function_valid p c.requires.valid c.args.f g c.requires.is)
 
-pub kept-requires : goal.kept-requires
-kept-requires c =
+pub kept-requires-clause-places : goal.kept-requires-clause-places
+kept-requires-clause-places c =
     let p = plain_ir_program c.args.ir.now in
     let g = plain_ir_function c.args.g.now in
     c.valid_operations_have_places.ensures p c.requires.valid.results c.args.f g
     (function_valid p c.requires.valid c.args.f g c.requires.is)
+
+-- the numbers that second operands are known to hold
+pub right_numbers-requires : goal.right_numbers-requires
+right_numbers-requires c =
+    let p = plain_ir_program c.args.ir.now in
+    let g = plain_ir_function c.args.g.now in
+    results_placed c.args.g.now.slots g.code
+    (c.valid_operations_have_places.ensures p c.requires.valid.results c.args.f g
+    (function_valid p c.requires.valid c.args.f g c.requires.is))
+
+pub live-requires-clause-numbers : goal.live-requires-clause-numbers
+live-requires-clause-numbers c = c.deref-numbers.ensures.value ∙ c.in_ok-known.ensures
+
+pub wanted-requires-clause-numbers : goal.wanted-requires-clause-numbers
+wanted-requires-clause-numbers c = c.deref-numbers.ensures.value ∙ c.in_ok-known.ensures
+
+pub kept-requires-clause-numbers : goal.kept-requires-clause-numbers
+kept-requires-clause-numbers c = c.deref-numbers.ensures.value ∙ c.in_ok-known.ensures
+
+pub function-requires-clause-known : goal.function-requires-clause-known
+function-requires-clause-known c =
+    let code = c.args.g.now.code.items in
+    ap length c.as_slice.ensures
+    ∙ sym (ap length c.deref-numbers.ensures.value ∙ ap length c.in_ok-known.ensures
+    ∙ numbers_length (map plain_ir code) (map plain_ir code) ∙ length-map code plain_ir)
 
 pub function-requires-clause-numbers : goal.function-requires-clause-numbers
 function-requires-clause-numbers c =
     let code = c.args.g.now.code.items in
-    let at = needs_of c.in_ok-table.table in
+    let at = facts_of (needs_of c.in_ok-table.table) (map plain_ir code) in
     let bytes : c.in_ok-bytes.bytes.items ≡ wanted_bytes at (map plain_ir code) = c.in_ok-bytes.ensures in
     ap length c.as_slice.ensures
     ∙ sym (ap length c.deref.ensures.value ∙ ap length bytes ∙ wanted_length at (map plain_ir code) ∙ length-map code plain_ir)
@@ -47,7 +74,7 @@ function-requires-clause-numbers c =
 pub function-requires-clause-rows : goal.function-requires-clause-rows
 function-requires-clause-rows c =
     let code = c.args.g.now.code.items in
-    let at = needs_of c.in_ok-table.table in
+    let at = facts_of (needs_of c.in_ok-table.table) (map plain_ir code) in
     let rows : map (λ row. row.items) c.in_ok-rows.rows.items ≡ kept_rows c.args.g.now.slots at (map plain_ir code) =
     c.in_ok-rows.ensures in
     ap length c.as_slice.ensures
@@ -59,7 +86,7 @@ function-requires-clause-each c =
     let p = plain_ir_program c.args.ir.now in
     let g = plain_ir_function c.args.g.now in
     let k = c.linking-of.result in
-    let at = needs_of c.in_ok-table.table in
+    let at = facts_of (needs_of c.in_ok-table.table) g.code in
     let first : k.first_label ≡ c.args.first = ap (λ (x : Linking). x.first_label) c.linking-of.ensures in
     let entries : k.first_entry ≡ 1 = ap (λ (x : Linking). x.first_entry) c.linking-of.ensures in
     let room : k.first_label + label_count g.code < 2 ^ 64 =
@@ -76,20 +103,23 @@ returns c =
     let p = plain_ir_program c.args.ir.now in
     let g = plain_ir_function c.args.g.now in
     let k = c.linking-of.result in
-    let at = needs_of c.in_ok-table.table in
+    let labels = needs_of c.in_ok-table.table in
+    let at = facts_of labels g.code in
     let bytes : c.deref.result.now ≡ wanted_bytes at g.code = c.deref.ensures.value ∙ c.in_ok-bytes.ensures in
     let kept : map (λ row. row.items) c.in_ok-rows.rows.items ≡ kept_rows g.slots at g.code = c.in_ok-rows.ensures in
     let rows : map (λ row. row.items) c.deref-2.result.now ≡ kept_rows g.slots at g.code =
     subst (λ (x : List (Vec ℕ Global)). map (λ row. row.items) x ≡ kept_rows g.slots at g.code) (sym c.deref-2.ensures.value) kept in
     let code : map plain_ir c.as_slice.result.now ≡ g.code = ap (λ (x : List Ir). map plain_ir x) c.as_slice.ensures in
     let written : c.function.new.out.items ≡ c.args.out.now.items ++ written_function (data_of p) (linkage k) c.args.f
-    c.deref.result.now (map (λ row. row.items) c.deref-2.result.now) (map plain_ir c.as_slice.result.now) = c.in_ok-function.ensures.ok in
+    c.deref.result.now (map (λ row. row.items) c.deref-2.result.now) c.deref-numbers.result.now (map plain_ir c.as_slice.result.now)
+    = c.in_ok-function.ensures.ok in
+    let known : c.deref-numbers.result.now ≡ right_numbers g.code = c.deref-numbers.ensures.value ∙ c.in_ok-known.ensures in
     let here : c.function.new.out.items ≡ c.args.out.now.items ++ written_function (data_of p) (linkage k) c.args.f
-    (wanted_bytes at g.code) (kept_rows g.slots at g.code) g.code = written ∙ rw (bytes, rows, code) refl in
+    (wanted_bytes at g.code) (kept_rows g.slots at g.code) (right_numbers g.code) g.code = written ∙ rw (bytes, rows, known, code) refl in
     record {
-      labels = at;
+      labels = labels;
       live = c.in_ok-table.ensures.live;
       least = c.in_ok-table.ensures.least;
       items_are = here ∙ ap (λ (x : List AsmItem). c.args.out.now.items ++ x)
-          (added p c.args.f c.args.first g k at c.needed_functions_are_written.ensures c.requires.first c.linking-of.ensures);
+          (added p c.args.f c.args.first g k labels c.needed_functions_are_written.ensures c.requires.first c.linking-of.ensures);
     }

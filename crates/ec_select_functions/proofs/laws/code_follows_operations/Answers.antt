@@ -34,4 +34,12 @@ returns c =
         embedded = c.pointers_are_converted.ensures.embedded;
         embeddings_short = c.places_are_short.ensures.conversions;
       };
+      numbers = record {
+        subtracted = c.numbers_are_operands.ensures.subtracted;
+        added = c.numbers_are_operands.ensures.added;
+        bits = c.numbers_are_operands.ensures.bits;
+        compared = c.numbers_are_operands.ensures.compared;
+        straight = c.numbers_are_operands.ensures.straight;
+      };
+      known = c.known_numbers_are_held.ensures;
     })

@@ -1,12 +1,12 @@
 use Rattle.std.proofs.Common.{◌≡◌, ◌-◌, ◌≤◌, ℕ, sym, ◌∙◌, ap, subst, arith, map, length, drop, set}
 use Rattle.std.proofs.lemmas.List.{map-set, length-map}
 use Rattle.ec_ir.specs.Operations.{plain_ir}
-use Rattle.ec_select_operations.specs.Needs.{needs}
+use Rattle.ec_select_operations.specs.Needs.{facts_of, needs}
 use Rattle.ec_select_operations.specs.Written.{kept_rows}
 use Rattle.ec_select_live.specs.Places.{HasPlaces}
 use Rattle.ec_select_live.specs.Tables.{need_of, needs_of, AreSame}
 use Rattle.ec_select_live.proofs.KeptRows.{rows_more}
-use Rattle.ec_select_live.proofs.Passes.{places_at, drop_back, need_more}
+use Rattle.ec_select_live.proofs.Passes.{places_at, drop_back, need_more, number_is}
 use Rattle.ec_select_live.proofs.calls.keep_all.Goals as goal
 use Rattle.ec_select_live.proofs.calls.keep_all.Goals.{After-index-code-k}
 
@@ -27,14 +27,17 @@ loop-k-preserved c =
     let is = drop_back plain_ir c.args.code.now c.loop-k.k c.index-code-k.result c.loop-k-test.true c.loop-k.auto.k c.index-code-k.is in
     let rest = drop c.loop-k.k (map plain_ir c.args.code.now) in
     let code = drop (c.loop-k.k - 1) (map plain_ir c.args.code.now) in
-    let at = needs_of c.args.table.now in
+    let labels = needs_of c.args.table.now in
+    let at = facts_of labels (map plain_ir c.args.code.now) in
+    let number = number_is c.args.numbers.now (map plain_ir c.args.code.now) (c.loop-k.k - 1)
+    (plain_ir c.index-code-k.result) rest c.number_at-number.result c.requires.numbers is c.number_at-number.ensures in
     let k = c.loop-k.k in
     let few : c.loop-k.k ≤ length (map (λ row. row.items) c.loop-k.rows) =
     omega (arith, length-map c.loop-k.rows (λ row. row.items), c.loop-k.auto.rows, c.loop-k.auto.k, c.requires.lengths) in
     record {
       need = subst (λ (s : ℕ). AreSame s (need_of c.before-in-loop-k.new.need) (needs at code)) (sym c.before-in-loop-k.auto.need)
-          (need_more (length c.loop-k.need) at code rest
-          (plain_ir c.index-code-k.result) c.loop-k.need c.before-in-loop-k.new.need p is c.loop-k.invariant.need
+          (need_more (length c.loop-k.need) labels (map plain_ir c.args.code.now) code rest c.number_at-number.result
+          (plain_ir c.index-code-k.result) c.loop-k.need c.before-in-loop-k.new.need number p is c.loop-k.invariant.need
           c.before-in-loop-k.ensures);
       written =
           subst (λ (s : ℕ). drop (k - 1) (map (λ row. row.items) (set c.loop-k.rows (k - 1) c.in_ok-rows.field-0)) ≡ kept_rows s at code)

@@ -2,7 +2,9 @@ use Rattle.std.proofs.Common.{◌≡◌, ◌∙◌, ℕ, List, ap, subst, map, l
 use Rattle.std.proofs.lemmas.List.{length-replicate}
 use Rattle.ec_ir.specs.declared.operations.Ir.{Ir}
 use Rattle.ec_ir.specs.Operations.{plain_ir}
+use Rattle.ec_select_operations.specs.Needs.{IsLive}
 use Rattle.ec_select_live.specs.Least.{HaveLabels}
+use Rattle.ec_select_live.specs.Tables.{needs_of}
 use Rattle.ec_select_live.proofs.Growth.{IsNoMore, least_table}
 use Rattle.ec_select_live.proofs.labels.live.Goals as goal
 
@@ -20,3 +22,7 @@ returns-clause-least c =
     c.settle.ensures.least in
     least_table c.args.slots (map plain_ir c.args.code.now.items) c.in_ok-labels.labels c.in_ok-table.table c.settle.new.table h t
     (subst (λ (s : ℕ). IsNoMore s (map plain_ir c.args.code.now.items) c.in_ok-table.table c.settle.new.table) n q)
+
+pub returns-clause-live : goal.returns-clause-live
+returns-clause-live c =
+    subst (λ (xs : List Ir). IsLive (needs_of c.settle.new.table) (map plain_ir xs)) c.as_slice-2.ensures c.settle.ensures.live

@@ -1,0 +1,304 @@
+-- Operators whose second operand is a known number.
+use Rattle.std.proofs.Common.{◌≡◌, ◌≢◌, ℕ, suc, ◌+◌, ◌-◌, ◌*◌, ◌/◌, ◌%◌, ◌^◌, ◌<◌, ◌≤◌, ⊎_elim, Bool, true, false, ℤ, not}
+use Rattle.std.proofs.Common.{Some, None, Option, ◌++◌, refl, sym, ap, ◌∙◌, subst, arith, bit_and, bit_or, eqb-true}
+use Rattle.std.specs.Prelude.{◌==◌, if◌then◌else◌}
+use Rattle.std.specs.Int.{from_bool}
+use Rattle.std.proofs.lemmas.Bool.{and_parts, eq-eqb, ne_eqb, cases_eq}
+use Rattle.std.proofs.lemmas.Nat.{and_mod, or_mod, div-add-mod'}
+use Rattle.ec_asm.specs.declared.items.AsmItem.{AsmItem}
+use Rattle.ec_asm.specs.declared.pieces.Location.{Location}
+use Rattle.ec_asm.specs.declared.pieces.Operator.{Operator}
+use Rattle.ec_asm.specs.declared.pieces.Operator.TheVariants.{Sum, Difference, BitAnd, BitOr, BitXor}
+use Rattle.ec_asm.specs.View.{View}
+use Rattle.ec_asm.specs.Change.{Env, Own, flag_at}
+use Rattle.ec_asm.specs.Items.{block, all_straight, code_steps}
+use Rattle.ec_asm.specs.Pieces.{StandsFrom, Outside, value, bitwise}
+use Rattle.ec_asm.specs.PieceLaws.{HoldsNumbers}
+use Rattle.ec_asm.proofs.Hoare.{block-append}
+use Rattle.ec_asm.proofs.Numbers.{value_digit, mod_less, mod_beside, pow_pos}
+use Rattle.ec_core.specs.Plain.{PlainProgram}
+use Rattle.ec_core.specs.State.{worked}
+use Rattle.ec_ir.specs.declared.operations.Temp.{Temp}
+use Rattle.ec_ir.specs.Meaning.{Mach, machine}
+use Rattle.ec_ir.specs.Temporaries.{Content, bits, points, Held, Temps, with_content, low_bytes}
+use Rattle.ec_ir_known.specs.declared.known.KnownNumber.{KnownNumber}
+use Rattle.ec_ir_known.specs.Known.{of_bytes}
+use Rattle.ec_ir_known.specs.Laws.{is_held}
+use Rattle.ec_select_bytes.specs.Values.{byte_of, constant_code}
+use Rattle.ec_select_bytes.proofs.Constants.{constants_are_right}
+use Rattle.ec_select_numbers.specs.declared.operators.ByNumber.{ByNumber}
+use Rattle.ec_select_numbers.specs.declared.operators.ByNumber.TheVariants.{Subtract, Mask, Set}
+use Rattle.ec_select_numbers.specs.ByNumber.{as_operator, changed_code}
+use Rattle.ec_select_numbers.specs.Laws.{KeepsOthers, ComparesWith, IsShort}
+use Rattle.ec_select_operations.specs.Code.{move_code, changed_by_code}
+use Rattle.ec_select_operations.specs.Homes.{HasHome}
+use Rattle.ec_select_operations.specs.Needs.{Need, at_least, without, wanted}
+use Rattle.ec_select_order.specs.declared.relations.Relation.{Relation}
+use Rattle.ec_select_order.specs.declared.relations.Relation.TheVariants.{Less, NotLess, Equal, NotEqual}
+use Rattle.ec_select_order.specs.Relations.{stand_so, is_less, flag_of, is_set}
+use Rattle.ec_select_functions.proofs.Computed.{result_of, result_below, results, byte_below, stand, moved_numbers}
+use Rattle.ec_select_functions.proofs.Match.{kept_left, wanted_most, least_here, least_other, without_other, at_width}
+use Rattle.ec_select_functions.proofs.Match.{read_first, written, held_row}
+use Rattle.ec_select_functions.proofs.Moves.{Frame, Quiet, wider_frame, work_outside, narrower, numbers_kept, row_value}
+use Rattle.ec_select_functions.proofs.Moves.{move_holds}
+use Rattle.ec_select_functions.proofs.Setting.{Setting, NumberLaws}
+use Rattle.ec_select_functions.proofs.Taken.{is_changed}
+use Rattle.ec_select_functions.proofs.Wrapped.{low_part, low_below, powers, byte_of_bitwise, value_of_bytes}
+use Rattle.ec_select_functions.specs.Relation.{HoldsContent, Matches}
+
+-- ---- what is held
+
+-- a temporary holds the number that it is known to hold
+pub number_held : (o : Option KnownNumber) (h : Option Held) (bytes low : ℕ) (k : ℤ) → is_held o h ≡ true
+    → of_bytes bytes o ≡ Some k → h ≡ Some (record { bytes = bytes; content = bits low }) → low ≡ low_bytes bytes k
+number_held None h bytes low k q r s = absurd cc
+number_held (Some n) h bytes low k q r s =
+    let t : is_held (Some n) (Some (record { bytes = bytes; content = bits low })) ≡ true =
+    subst (λ (x : Option Held). is_held (Some n) x ≡ true) s q in
+    let parts = and_parts (bytes == n.bytes) (low == low_bytes n.bytes n.number) t in
+    let size : bytes ≡ n.bytes = eqb-true bytes n.bytes parts.0 in
+    let number : low ≡ low_bytes n.bytes n.number = eqb-true low (low_bytes n.bytes n.number) parts.1 in
+    let same : (n.bytes == bytes) ≡ true = eq-eqb n.bytes bytes (sym size) in
+    let some : Some n.number ≡ Some k = sym (ap (λ x. if x then Some n.number else None) same) ∙ r in
+    let is : n.number ≡ k = cc in
+    number ∙ ap (λ b. low_bytes b n.number) (sym size) ∙ ap (low_bytes bytes) is
+
+-- ---- numbers
+
+sum_low : (x z n : ℕ) → (x + z) % 256 ^ n ≡ (x + z % 256 ^ n) % 256 ^ n
+sum_low x z n =
+    let d = div-add-mod' z (256 ^ n) in
+    let e : x + z ≡ z / 256 ^ n * 256 ^ n + (x + z % 256 ^ n) = omega (arith, d) in
+    ap (λ t. t % 256 ^ n) e ∙ mod_beside (z / 256 ^ n) (256 ^ n) (x + z % 256 ^ n) (pow_pos n)
+
+-- of the second operand the low bytes are enough
+bits_low : (f : ℕ → ℕ → ℕ) → ((x z k : ℕ) → f x z % 2 ^ k ≡ f (x % 2 ^ k) (z % 2 ^ k)) → (x z n : ℕ)
+    → f x z % 256 ^ n ≡ f x (z % 256 ^ n) % 256 ^ n
+bits_low f h x z n =
+    let g : (u : ℕ) → f x u % 256 ^ n ≡ f (x % 256 ^ n) (u % 256 ^ n) =
+    λ u. subst (λ (m : ℕ). f x u % m ≡ f (x % m) (u % m)) (powers n) (h x u (8 * n)) in
+    g z ∙ ap (λ t. f (x % 256 ^ n) t) (sym (mod_less z n n (omega arith))) ∙ sym (g (z % 256 ^ n))
+
+-- n bytes from b are the result, of what stood there and the low bytes of a number, and all else is kept
+pub record Changes (op : Operator) (v w : View) (b n number : ℕ) : Type 0 where
+  pub result : value w.at b n ≡ result_of op n (value v.at b n) (number % 256 ^ n)
+  pub numbers : HoldsNumbers w
+  pub frame : Frame v w b n
+  pub quiet : Quiet v w
+
+kept_quiet : (v w : View) (b n : ℕ) → KeepsOthers v w b n → Quiet v w
+kept_quiet v w b n k = record { inputs = k.inputs; safe = k.safe; seen = k.seen }
+
+module _ (laws : NumberLaws) (e : Env) (q : Location) (n b number : ℕ) (v : View) (few : n ≤ 16) (small : number < 256 ^ 16)
+    (stands : StandsFrom e q n b Own) (apart : Outside b n 30) (h : HoldsNumbers v) where
+  digits : (op : ByNumber) → (operator : Operator) → as_operator op ≡ operator → op ≢ Subtract
+      → value (block e (changed_code op q number n) v).at b n ≡ bitwise operator (value v.at b n) number % 256 ^ n
+  digits op operator is other =
+      let w = block e (changed_code op q number n) v in
+      let x = value v.at b n in
+      let k = laws.bits op e q number n b v other stands apart h in
+      value_of_bytes w.at b n (bitwise operator x number)
+      (λ j l. k.1 j l
+      ∙ ap (λ (o : Operator). bitwise o (v.at (b + j)) (byte_of number j)) is
+      ∙ ap (λ (t : ℕ). bitwise operator t (byte_of number j)) (sym (value_digit v.at b n j (held_row v b n stands.clear h) l))
+      ∙ sym (byte_of_bitwise operator x number j))
+
+  pub changes : (op : Operator) → is_changed op ≡ true → Changes op v (block e (changed_by_code op q number n) v) b n number
+  changes Sum is =
+      let k = laws.added e q number n b v few small stands apart h in
+      let w = block e (changed_by_code Sum q number n) v in
+      record {
+        result = k.1 ∙ sum_low (value v.at b n) number n;
+        numbers = k.0.bytes;
+        frame = k.0.same;
+        quiet = kept_quiet v w b n k.0;
+      }
+  changes Difference is =
+      let k = laws.subtracted e q number n b v stands apart h in
+      let w = block e (changed_by_code Difference q number n) v in
+      record { result = k.1; numbers = k.0.bytes; frame = k.0.same; quiet = kept_quiet v w b n k.0 }
+  changes BitAnd is =
+      let k = laws.bits Mask e q number n b v (λ r. cc) stands apart h in
+      let w = block e (changed_by_code BitAnd q number n) v in
+      record {
+        result = digits Mask BitAnd refl (λ r. cc) ∙ bits_low bit_and and_mod (value v.at b n) number n;
+        numbers = k.0.bytes;
+        frame = k.0.same;
+        quiet = kept_quiet v w b n k.0;
+      }
+  changes BitOr is =
+      let k = laws.bits Set e q number n b v (λ r. cc) stands apart h in
+      let w = block e (changed_by_code BitOr q number n) v in
+      record {
+        result = digits Set BitOr refl (λ r. cc) ∙ bits_low bit_or or_mod (value v.at b n) number n;
+        numbers = k.0.bytes;
+        frame = k.0.same;
+        quiet = kept_quiet v w b n k.0;
+      }
+  changes BitXor is = absurd cc
+
+-- the code is straight, and short
+pub changed_form : NumberLaws → (op : Operator) (q : Location) (number n : ℕ)
+    → (all_straight (changed_by_code op q number n) ≡ true) × (code_steps (changed_by_code op q number n) ≤ 3 * n)
+changed_form laws Sum q number n = let k = (laws.straight Subtract q _ n).0 in (k.is_straight, k.few_steps)
+changed_form laws Difference q number n = let k = (laws.straight Subtract q number n).0 in (k.is_straight, k.few_steps)
+changed_form laws BitAnd q number n = let k = (laws.straight Mask q number n).0 in (k.is_straight, k.few_steps)
+changed_form laws BitOr q number n = let k = (laws.straight Set q number n).0 in (k.is_straight, k.few_steps)
+changed_form laws BitXor q number n = (refl, omega arith)
+
+-- ---- what a comparison leaves in a flag
+
+not_back : (b : Bool) → not b ≡ false → b ≡ true
+not_back true q = refl
+not_back false q = absurd cc
+
+not_over : (b : Bool) → not b ≡ true → b ≡ false
+not_over true q = absurd cc
+not_over false q = refl
+
+module _ (e : Env) (q : Location) (number n a : ℕ) (v w : View) (c : ComparesWith e q number n a v w) where
+  abbrev left : ℕ
+  left = value v.at a (suc n)
+
+  abbrev right : ℕ
+  right = number % 256 ^ suc n
+
+  less : (signed : Bool) → flag_at w.flags (flag_of Less signed) ≡ from_bool (is_less signed (suc n) left right)
+  less true = c.less_signed
+  less false = c.less
+
+  -- where the relation does not hold, its flag is the other way
+  pub fails_by_number : (r : Relation) (signed : Bool) → stand_so r signed (suc n) left right ≡ false
+      → flag_at w.flags (flag_of r signed) ≡ from_bool (not (is_set r))
+  fails_by_number Less true k = less true ∙ ap from_bool k
+  fails_by_number Less false k = less false ∙ ap from_bool k
+  fails_by_number NotLess true k = less true ∙ ap from_bool (not_back (is_less true (suc n) left right) k)
+  fails_by_number NotLess false k = less false ∙ ap from_bool (not_back (is_less false (suc n) left right) k)
+  fails_by_number Equal signed k = c.equal ∙ ap from_bool k
+  fails_by_number NotEqual signed k = c.equal ∙ ap from_bool (not_back (left == right) k)
+
+  -- and where it holds, as it is to be
+  pub holds_by_number : (r : Relation) (signed : Bool) → stand_so r signed (suc n) left right ≡ true
+      → flag_at w.flags (flag_of r signed) ≡ from_bool (is_set r)
+  holds_by_number Less true k = less true ∙ ap from_bool k
+  holds_by_number Less false k = less false ∙ ap from_bool k
+  holds_by_number NotLess true k = less true ∙ ap from_bool (not_over (is_less true (suc n) left right) k)
+  holds_by_number NotLess false k = less false ∙ ap from_bool (not_over (is_less false (suc n) left right) k)
+  holds_by_number Equal signed k = c.equal ∙ ap from_bool k
+  holds_by_number NotEqual signed k = c.equal ∙ ap from_bool (not_over (left == right) k)
+
+-- ---- what is matched
+
+-- the low bytes of a number of up to 16 bytes
+pub number_low : (k : ℤ) (n bytes : ℕ) → n ≤ bytes → bytes ≤ 16 → low_bytes 16 k % 256 ^ n ≡ low_bytes bytes k % 256 ^ n
+number_low k n bytes l m = low_part k n 16 (omega arith) ∙ sym (low_part k n bytes l)
+
+module _ (p : PlainProgram) (e : Env) (slots : ℕ) (home : Temp → Location) (base : Temp → ℕ) (place : ℕ → ℕ)
+    (y : Setting p e slots home base place) where
+  abbrev N : Need → Mach → View → Type 0
+  N need m v = Matches p e y.inputs slots base place y.aside y.was y.active y.called need m v
+
+  -- the first operand is brought to the result's place, and changed there
+  pub number_matches : (op : Operator) → is_changed op ≡ true → (t a : Temp) (k : ℤ) (need : Need) (m : Mach) (v : View) (c x : ℕ)
+      → HasHome slots t → HasHome slots a → a.bytes ≡ t.bytes → m.temps a.at ≡ Some (record { bytes = a.bytes; content = bits x })
+      → N (at_least a.at (wanted need t) (without t.at need)) m v
+      → N need (machine (with_content t (bits (result_of op t.bytes x (low_bytes t.bytes k))) m.temps) (worked c m.state))
+      (block e (move_code (home a) (home t) (wanted need t) ++ changed_by_code op (home t) (low_bytes 16 k) (wanted need t)) v)
+  number_matches op is t a k need m v c x it ia sa qa h =
+      let n = wanted need t in
+      let number = low_bytes 16 k in
+      let z = low_bytes t.bytes k in
+      let need0 = at_least a.at n (without t.at need) in
+      let most : n ≤ t.bytes = wanted_most need t in
+      let less_a : n ≤ a.bytes = omega arith in
+      let eight = it.most in
+      let some_a = (y.layout.temps_at a ia).clear in
+      let here_a = least_here a.at n (without t.at need) in
+      let wide_a : n ≤ wanted need0 a = omega (arith, here_a, less_a) in
+      let xa = at_width p e slots home base place y need0 m v a _ n h ia qa refl wide_a in
+      let v1 = block e (move_code (home a) (home t) n) v in
+      let moved =
+      move_holds e (home a) (home t) n (base a) (base t) v (stand p e slots home base place y a n ia less_a)
+      (stand p e slots home base place y t n it most) (read_first p e slots home base place y t a n it ia less_a) h.bytes in
+      let numbers1 = moved_numbers p e slots home base place y v v1 (base a) (base t) n some_a h.bytes moved in
+      let v2 = block e (changed_by_code op (home t) number n) v1 in
+      let o : Changes op v1 v2 (base t) n number =
+      changes y.numbers e (home t) n (base t) number v1 (omega arith) (low_below 16 k)
+      (stand p e slots home base place y t n it most)
+      (narrower (base t) t.bytes n 30 most (work_outside (base t) t.bytes (y.layout.temps_work t it))) numbers1 op is in
+      let left : value v1.at (base t) n ≡ x % 256 ^ n = row_value v1.at v.at (base a) (base t) n moved.there ∙ xa.0 in
+      let below : z < 256 ^ t.bytes = low_below t.bytes k in
+      let result : value v2.at (base t) n ≡ result_of op t.bytes x z % 256 ^ n =
+      o.result ∙ ap (λ i. result_of op n i (number % 256 ^ n)) left
+      ∙ ap (result_of op n (x % 256 ^ n)) (number_low k n t.bytes most (omega arith))
+      ∙ results op n t.bytes x z most (omega (arith, below)) in
+      let frame : Frame v v2 (base t) t.bytes =
+      λ i d f g r. wider_frame v1 v2 (base t) t.bytes n most o.frame i d f g r
+      ∙ wider_frame v v1 (base t) t.bytes n most moved.frame i d f g r in
+      rw (block-append e (move_code (home a) (home t) n) (changed_by_code op (home t) number n) v)
+      (written p e slots home base place y t (bits (result_of op t.bytes x z)) need need0 m (worked c m.state) v v2 it h
+      (λ i r. still i r) frame (result, result_below op t.bytes x z) o.numbers refl (o.quiet.seen ∙ moved.quiet.seen ∙ h.seen)
+      (kept_left y.inputs m.state v v2 (o.quiet.inputs ∙ moved.quiet.inputs) h.left) (o.quiet.safe ∙ moved.quiet.safe ∙ h.safe))
+    where
+      still : (i : ℕ) → i ≢ t.at → need i ≤ at_least a.at (wanted need t) (without t.at need) i
+      still i r =
+          let d = without_other t.at i need r in
+          let f = least_other a.at (wanted need t) i (without t.at need) in
+          omega arith
+
+  -- what holds the number already
+  same_temps : (b : Temp) (low : ℕ) (temps : Temps) → temps b.at ≡ Some (record { bytes = b.bytes; content = bits low }) → (u : ℕ)
+      → with_content b (bits low) temps u ≡ temps u
+  same_temps b low temps q u =
+      ⊎_elim
+      (λ (s : u ≡ b.at). by_place u s)
+      (λ (s : u ≢ b.at). other u s)
+      (cases_eq u b.at)
+    where
+      by_place : (u : ℕ) → u ≡ b.at → with_content b (bits low) temps u ≡ temps u
+      by_place u s =
+          let t = eq-eqb u b.at s in
+          ap (λ (x : Bool). if x then Some (record { bytes = b.bytes; content = bits low }) else temps u) t ∙ sym q ∙ ap temps (sym s)
+
+      other : (u : ℕ) → u ≢ b.at → with_content b (bits low) temps u ≡ temps u
+      other u s =
+          let t : (u == b.at) ≡ false = ne_eqb u b.at s in
+          ap (λ (x : Bool). if x then Some (record { bytes = b.bytes; content = bits low }) else temps u) t
+
+  -- the number is put to the temporary that is known to hold it: more bytes of it are there
+  pub number_put : (b : Temp) (k : ℤ) (low : ℕ) (need need0 : Need) (m : Mach) (v : View) → HasHome slots b
+      → m.temps b.at ≡ Some (record { bytes = b.bytes; content = bits low }) → low ≡ low_bytes b.bytes k
+      → ((u : ℕ) → u ≢ b.at → need u ≤ need0 u) → N need0 m v
+      → N need m (block e (constant_code (home b) (low_bytes 16 k) b.bytes) v)
+  number_put b k low need need0 m v ib q is more h =
+      let n = b.bytes in
+      let number = low_bytes 16 k in
+      let v1 = block e (constant_code (home b) number n) v in
+      let there =
+      constants_are_right e (home b) n (base b) number v (y.layout.temps_at b ib)
+      (work_outside (base b) n (y.layout.temps_work b ib)) in
+      let frame : Frame v v1 (base b) n = λ i x z d o. there.same i d o in
+      let numbers =
+      numbers_kept v v1 (base b) n h.bytes frame (λ j l. rw (there.there j l) (byte_below number j))
+      (there.work (h.bytes 30 (omega arith))) in
+      let w = wanted need b in
+      let most : w ≤ n = wanted_most need b in
+      let eight = ib.most in
+      let here : value v1.at (base b) w ≡ low % 256 ^ w =
+      value_of_bytes v1.at (base b) w number (λ j l. there.there j (omega (arith, l, most)))
+      ∙ number_low k w n most (omega arith) ∙ ap (λ t. t % 256 ^ w) (sym is) in
+      let below : low < 256 ^ n = rw is (low_below n k) in
+      let z =
+      written p e slots home base place y b (bits low) need need0 m m.state v v1 ib h more frame (here, below) numbers refl
+      (there.seen ∙ h.seen) (kept_left y.inputs m.state v v1 there.inputs h.left) (there.safe ∙ h.safe) in
+      record {
+        temps_hold = λ t x it r s. z.temps_hold t x it (same_temps b low m.temps q t.at ∙ r) s;
+        leaves_hold = z.leaves_hold;
+        tables_hold = z.tables_hold;
+        frames = z.frames;
+        kept = z.kept;
+        bytes = z.bytes;
+        left = z.left;
+        seen = z.seen;
+        safe = z.safe;
+      }
