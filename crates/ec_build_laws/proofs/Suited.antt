@@ -1,7 +1,7 @@
 -- The operations of a program have what code asks of their temporaries.
 use Rattle.std.proofs.Common.{◌≢◌, ℕ, ◌+◌, ◌≤◌, Bool, true, false, List, [], ◌∷◌, map, Option, Some, None, refl, inl}
 use Rattle.std.proofs.Common.{inr}
-use Rattle.std.proofs.Common.{arith, pos}
+use Rattle.std.proofs.Common.{arith}
 use Rattle.std.specs.Prelude.{◌||◌, if◌then◌else◌, slice_get}
 use Rattle.std.specs.List.{AllByRecursion}
 use Rattle.ec_fx.specs.declared.formats.FxKind.{FxKind}
@@ -40,8 +40,7 @@ use Rattle.ec_core.specs.Valid.{EachFrom, IsExprType, ValidExpr, ValidParts, Val
 use Rattle.ec_core.specs.Valid.{ValidCondition}
 use Rattle.ec_core.specs.Valid.{ValidOptional, ValidStmt, ValidKind, ValidOptionStmt, ValidStmts, IsFunction, Valid}
 use Rattle.ec_ir.specs.Costs.{temp_bytes}
-use Rattle.ec_ir.specs.Operations.{PlainIr, constant, store_object, binary_op, unary_op, conversion, label, jump}
-use Rattle.ec_ir.specs.Operations.{branch_zero}
+use Rattle.ec_ir.specs.Operations.{PlainIr, store_object, binary_op, unary_op, conversion, label, jump}
 use Rattle.ec_ir.specs.Operations.{call_function, return_from}
 use Rattle.ec_ir.specs.declared.operations.Temp.{Temp}
 use Rattle.ec_lower_code.specs.Code.{temp, result_temp, truth_code, place_labels, Site, named, pointed, further_code}
@@ -56,7 +55,8 @@ use Rattle.ec_lower_code.specs.Code.{optional_labels, option_stmt_labels, stmt_l
 use Rattle.ec_lower_code.specs.Code.{args_code, init_code}
 use Rattle.ec_lower_code.specs.Code.{test_code, last_code, leaves_of_object, stmt_code, kind_code, option_stmt_code}
 use Rattle.ec_lower_code.specs.Code.{stmts_code}
-use Rattle.ec_lower_code.specs.Code.{lowered_function, lowered}
+use Rattle.ec_lower_code.specs.Code.{stepping_code, unread_code, Branch, where_zero, where_not, branch_to, opposite, zero_label}
+use Rattle.ec_lower_code.specs.Code.{other_label, and_end, or_end, branch_code, body_returns, end_of, end_code, lowered_function, lowered}
 use Rattle.ec_lower_code.specs.Correct.{LoweredIsMadeOf, OperationsStayOnPorts}
 use Rattle.ec_select_operations.specs.Needs.{is_fixed}
 use Rattle.ec_select_operations.specs.Pointers.{is_pointer}
@@ -282,6 +282,27 @@ group_suit : (acquire : Bool) (x : Option PlainGroup) (t : ℕ) (rest : List Pla
 group_suit acquire None t rest r = r
 group_suit acquire (Some x) t rest r = pairs_suit (pairs_of acquire x) t rest r
 
+-- ---- parts of conditions, and steps
+
+branch_to_suit : (to : Branch) (t : Temp) (rest : List PlainIr) → t.bytes ≤ 8 → AllSuited rest → AllSuited (branch_to to t rest)
+branch_to_suit (where_zero to) t rest b r = (b, r)
+branch_to_suit (where_not to past) t rest b r = (b, (tt, (tt, r)))
+
+and_end_suit : (to : Branch) (l : ℕ) (rest : List PlainIr) → AllSuited rest → AllSuited (and_end to l rest)
+and_end_suit (where_zero to) l rest r = r
+and_end_suit (where_not to past) l rest r = (tt, r)
+
+or_end_suit : (to : Branch) (l : ℕ) (rest : List PlainIr) → AllSuited rest → AllSuited (or_end to l rest)
+or_end_suit (where_zero to) l rest r = (tt, r)
+or_end_suit (where_not to past) l rest r = r
+
+stepping_suit : (up prefix : Bool) (mode : Mode) (ty : PlainType) (s : Site) (t : ℕ) (rest : List PlainIr) → scalar_size ty ≤ 8
+    → AllSuited rest → AllSuited (stepping_code up prefix mode ty s t rest)
+stepping_suit up prefix mode ty s t rest h r =
+    let u = value_place s t in
+    let e = settled_code s ty t rest in
+    (load_suit (temp u ty) s h, (omega arith, step_suit prefix up mode ty s u e h (settled_suit s ty t rest h r)))
+
 truth_suit : (h : Bool) (ty : PlainType) (l t : ℕ) (rest : List PlainIr) → scalar_size ty ≤ 8 → AllSuited rest
     → AllSuited (truth_code h ty l t rest)
 truth_suit h ty l t rest b r = (b, (tt, (tt, (b, (tt, r)))))
@@ -342,36 +363,27 @@ module _ (program : PlainProgram) (table : IoTable) (f : ℕ) where
         )
     node_suit ty mode (step up prefix q) l t rest h k v r =
         let s = site program q t in
-        let u = value_place s t in
-        let e = settled_code s ty t rest in
-        let c : List PlainIr = constant (temp (u + 1) int) (pos 1) ∷ step_code prefix (step_operator up) mode ty s u e in
-        place_suit q l t (load_from (temp u ty) s ∷ c) v
-        (load_suit (temp u ty) s h, (omega arith, step_suit prefix up mode ty s u e h (settled_suit s ty t rest h r)))
+        place_suit q l t (stepping_code up prefix mode ty s t rest) v (stepping_suit up prefix mode ty s t rest h r)
     node_suit ty mode (logical_not a) l t rest h k v r =
-        expr_suit a (l + 2) t (branch_zero (temp t (type_of_expr a)) l ∷ truth_code false ty l t rest) v
-        (few_of a v, truth_suit false ty l t rest h r)
+        branch_suit a (l + 2) t (where_zero l) (truth_code false ty l t rest) v (truth_suit false ty l t rest h r)
     node_suit ty mode (logical_and a b) l t rest h k v r =
-        let q : List PlainIr = branch_zero (temp t (type_of_expr b)) l ∷ truth_code true ty l t rest in
-        expr_suit a (l + 2) t (branch_zero (temp t (type_of_expr a)) l
-        ∷ expr_code program (plain_table table) b (l + 2 + expr_labels a) t q) v.0
-        (few_of a v.0, expr_suit b (l + 2 + expr_labels a) t q v.1 (few_of b v.1, truth_suit true ty l t rest h r))
+        let q = truth_code true ty l t rest in
+        branch_suit a (l + 2) t (where_zero l) (branch_code program (plain_table table) b (l + 2 + expr_labels a) t (where_zero l) q) v.0
+        (branch_suit b (l + 2 + expr_labels a) t (where_zero l) q v.1 (truth_suit true ty l t rest h r))
     node_suit ty mode (logical_or a b) l t rest h k v r =
-        let q : List PlainIr = branch_zero (temp t (type_of_expr b)) l ∷ label (l + 3) ∷ truth_code true ty l t rest in
-        expr_suit a (l + 4) t (branch_zero (temp t (type_of_expr a)) (l + 2) ∷ jump (l + 3) ∷ label (l + 2)
-        ∷ expr_code program (plain_table table) b (l + 4 + expr_labels a) t q) v.0
-        (few_of a v.0, (tt, (tt, expr_suit b (l + 4 + expr_labels a) t q v.1 (few_of b v.1, (tt, truth_suit true ty l t rest h r)))))
+        let q : List PlainIr = label (l + 3) ∷ truth_code true ty l t rest in
+        branch_suit a (l + 4) t (where_not (l + 3) (l + 2))
+        (branch_code program (plain_table table) b (l + 4 + expr_labels a) t (where_zero l) q) v.0
+        (branch_suit b (l + 4 + expr_labels a) t (where_zero l) q v.1 (tt, truth_suit true ty l t rest h r))
     node_suit ty mode (conditional c a b) l t rest h k v r =
         let u : List PlainIr = label (l + 1) ∷ rest in
         let q : List PlainIr = jump (l + 1) ∷ label l ∷ expr_code program (plain_table table) b (l + 2 + expr_labels c + expr_labels a) t
         u in
-        expr_suit c (l + 2) t (branch_zero (temp t (type_of_expr c)) l
-        ∷ expr_code program (plain_table table) a (l + 2 + expr_labels c) t q) v.0 (
-          few_of c v.0,
-          expr_suit a (l + 2 + expr_labels c) t q v.1
-              (tt, (tt, expr_suit b (l + 2 + expr_labels c + expr_labels a) t u v.2 (tt, r))),
-        )
+        branch_suit c (l + 2) t (where_zero l) (expr_code program (plain_table table) a (l + 2 + expr_labels c) t q) v.0
+        (expr_suit a (l + 2 + expr_labels c) t q v.1
+        (tt, (tt, expr_suit b (l + 2 + expr_labels c + expr_labels a) t u v.2 (tt, r))))
     node_suit ty mode (comma a b) l t rest h k v r =
-        expr_suit a l t (expr_code program (plain_table table) b (l + expr_labels a) t rest) v.0
+        unread_suit a l t (expr_code program (plain_table table) b (l + expr_labels a) t rest) v.0
         (expr_suit b (l + expr_labels a) t rest v.1 r)
     node_suit ty mode (call g args) l t rest h k v r =
         let q : List PlainIr = call_function g (result_temp t ty) ∷ rest in
@@ -384,6 +396,33 @@ module _ (program : PlainProgram) (table : IoTable) (f : ℕ) where
         (access_suit op mode (slice_get (plain_table table).ports port) i t rest r))
     node_suit ty mode (group acquire g) l t rest h k v r =
         group_suit acquire (slice_get (plain_table table).groups g) t rest r
+
+    unread_suit : (e : PlainExpr) (l t : ℕ) (rest : List PlainIr) → ValidExpr program table f e → AllSuited rest
+        → AllSuited (unread_code program (plain_table table) e l t rest)
+    unread_suit (expression ty mode (step up prefix q)) l t rest v r =
+        let s = site program q t in
+        place_suit q l t (stepping_code up true mode ty s t rest) v.2 (stepping_suit up true mode ty s t rest (few program ty v.0) r)
+    unread_suit (expression ty mode (comma a b)) l t rest v r =
+        unread_suit a l t (unread_code program (plain_table table) b (l + expr_labels a) t rest) v.2.0
+        (unread_suit b (l + expr_labels a) t rest v.2.1 r)
+    unread_suit (expression ty mode node) l t rest v r = node_suit ty mode node l t rest (few program ty v.0) v.0 v.2 r
+
+    branch_suit : (e : PlainExpr) (l t : ℕ) (to : Branch) (rest : List PlainIr) → ValidExpr program table f e → AllSuited rest
+        → AllSuited (branch_code program (plain_table table) e l t to rest)
+    branch_suit (expression ty mode (logical_not a)) l t to rest v r = branch_suit a (l + 2) t (opposite to l) rest v.2 r
+    branch_suit (expression ty mode (logical_and a b)) l t to rest v r =
+        let q = and_end to l rest in
+        branch_suit a (l + 2) t (where_zero (zero_label to l))
+        (branch_code program (plain_table table) b (l + 2 + expr_labels a) t to q) v.2.0
+        (branch_suit b (l + 2 + expr_labels a) t to q v.2.1 (and_end_suit to l rest r))
+    branch_suit (expression ty mode (logical_or a b)) l t to rest v r =
+        let q = or_end to l rest in
+        branch_suit a (l + 4) t (where_not (other_label to l) (l + 1))
+        (branch_code program (plain_table table) b (l + 4 + expr_labels a) t to q) v.2.0
+        (branch_suit b (l + 4 + expr_labels a) t to q v.2.1 (or_end_suit to l rest r))
+    branch_suit (expression ty mode node) l t to rest v r =
+        node_suit ty mode node l t (branch_to to (temp t ty) rest) (few program ty v.0) v.0 v.2
+        (branch_to_suit to (temp t ty) rest (few program ty v.0) r)
 
     place_suit : (q : PlainPlace) (l t : ℕ) (rest : List PlainIr) → ValidPlace program table f q → AllSuited rest
         → AllSuited (place_code program (plain_table table) q l t rest)
@@ -420,12 +459,12 @@ module _ (program : PlainProgram) (table : IoTable) (f : ℕ) where
   test_suit : (c : Option PlainExpr) (out l : ℕ) (rest : List PlainIr) → ValidCondition program table f c → AllSuited rest
       → AllSuited (test_code program (plain_table table) c out l rest)
   test_suit None out l rest v r = r
-  test_suit (Some c) out l rest v r = expr_suit c l 0 (branch_zero (temp 0 (type_of_expr c)) out ∷ rest) v.0 (few_of c v.0, r)
+  test_suit (Some c) out l rest v r = branch_suit c l 0 (where_zero out) rest v.0 r
 
   last_suit : (e : Option PlainExpr) (l : ℕ) (rest : List PlainIr) → ValidOptional program table f e → AllSuited rest
       → AllSuited (last_code program (plain_table table) e l rest)
   last_suit None l rest v r = r
-  last_suit (Some e) l rest v r = expr_suit e l 0 rest v r
+  last_suit (Some e) l rest v r = unread_suit e l 0 rest v r
 
   module _ (returns : PlainType) where
     mutual
@@ -437,7 +476,7 @@ module _ (program : PlainProgram) (table : IoTable) (f : ℕ) where
           → ValidKind program table f returns k kind → AllSuited rest
           → AllSuited (kind_code program (plain_table table) kind l out on rest)
       kind_suit empty k l out on rest v r = r
-      kind_suit (evaluate e) k l out on rest v r = expr_suit e l 0 rest v r
+      kind_suit (evaluate e) k l out on rest v r = unread_suit e l 0 rest v r
       kind_suit (block ss) k l out on rest v r = stmts_suit ss k l out on rest v r
       kind_suit (declare o es) k l out on rest v r = init_suit (leaves_of_object program o) o es l rest v.1 r
       kind_suit (branch c a no_stmt) k l out on rest v r =
@@ -499,12 +538,16 @@ module _ (program : PlainProgram) (table : IoTable) (f : ℕ) where
           stmt_suit a k l out on (stmts_code program (plain_table table) ss (l + stmt_labels a) out on rest) v.0
           (stmts_suit ss k (l + stmt_labels a) out on rest v.1 r)
 
+end_suits : (returns : Bool) → AllSuited (end_of returns)
+end_suits true = tt
+end_suits false = (omega arith, tt)
+
 functions_suit : (program : PlainProgram) (table : IoTable) (n : ℕ) (fs : List PlainFunction)
     → EachFrom n (IsFunction program table) fs
     → AllByRecursion (λ g. AllSuited g.code) (map (lowered_function program (plain_table table)) fs)
 functions_suit program table n [] v = tt
 functions_suit program table n (g ∷ fs) v = (
-  stmt_suit program table n g.returns g.body false 1 0 0 (label 0 ∷ return_from None ∷ []) v.0.body (tt, (omega arith, tt)),
+  stmt_suit program table n g.returns g.body false 1 0 0 (label 0 ∷ end_code g.body) v.0.body (tt, end_suits (body_returns g.body)),
   functions_suit program table (n + 1) fs v.1,
 )
 

@@ -1,3 +1,5 @@
 mod Lists
 mod Steps
 mod Members
+mod Parts
+mod Returns

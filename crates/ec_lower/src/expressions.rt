@@ -1,19 +1,20 @@
 //! The operations of expressions.
-ghost use Rattle.std.specs.Prelude.{◌≡◌, ◌+◌, ◌∷◌, pos, slice_get, OnOk, IfOk};
+ghost use Rattle.std.specs.Prelude.{◌≡◌, ◌+◌, slice_get, OnOk, IfOk};
 ghost use Rattle.std.specs.Option.{option_copied};
 ghost use Rattle.ec_core.specs.Plain.{plain_type, plain_expr, plain_exprs, plain_node, plain_place, plain_program};
-ghost use Rattle.ec_core.specs.Operators.{step_operator};
 ghost use Rattle.ec_core.specs.Plain.{logical_or, conditional};
-ghost use Rattle.ec_core.specs.Typing.{int, type_of_expr};
 ghost use Rattle.ec_core.specs.PortTable.{plain_table};
-ghost use Rattle.ec_ir.specs.Operations.{constant, branch_zero};
+ghost use Rattle.ec_lower.specs.Branches.{plain_branch};
 ghost use Rattle.ec_lower.specs.Emits.{Emits, IsLaidOut, plain_operand};
 ghost use Rattle.ec_lower.specs.Sites.{plain_site};
 ghost use Rattle.ec_lower_code.specs.Code.{temp, place_behind, access_code, expr_labels, node_labels, option_labels};
-ghost use Rattle.ec_lower_code.specs.Code.{place_labels, load_from, site, value_place, settled_code, place_code};
+ghost use Rattle.ec_lower_code.specs.Code.{place_labels, site, value_place, place_code};
 ghost use Rattle.ec_lower_code.specs.Code.{exprs_labels, expr_code, node_code, option_code, args_code};
-ghost use Rattle.ec_lower_code.specs.Code.{step_code};
+ghost use Rattle.ec_lower_code.specs.Code.{stepping_code, unread_code, branch_code};
 
+use crate::branches::{
+    Branch, opposite, other_label, put_and_end, put_branch, put_or_end, zero_label,
+};
 use crate::calls::store_call;
 use crate::emit::{
     above, behind, put, put_binary, put_conversion, put_null, put_number, put_turn, put_unary,
@@ -87,10 +88,40 @@ pub fn lower_expr(
             Ok(m)
         }
         Node::Comma(a, b) => {
-            let k = lower_expr(code, alloc, program, io, a, l, t)?;
+            let k = lower_unread(code, alloc, program, io, a, l, t)?;
             lower_expr(code, alloc, program, io, b, k, t)
         }
         node => lower_effect(code, alloc, program, io, &e.ty, e.mode, node, l, t),
+    }
+}
+
+/// Those of an expression whose value nobody reads: a postfix step does what the prefix one does.
+#[cycle(lower)]
+pub fn lower_unread(
+    code: &mut Seq<Ir>,
+    alloc: Global,
+    program: &Program,
+    io: &IoTable,
+    e: &Expr,
+    l: u64,
+    t: u16,
+) -> Result<u64, NoMemory>
+    requires { IsLaidOut (plain_program program.now) }
+    ensures next { IfOk result (λ m. m ≡ l + expr_labels (plain_expr e.now)) }
+    ensures code { OnOk result (Emits code.old.items code.new.items
+        (unread_code (plain_program program.now) (plain_table io.now) (plain_expr e.now) l t)) }
+{
+    match &e.node {
+        Node::Step { up, place, .. } => {
+            let (m, site) = lower_place(code, alloc, program, io, place, l, t)?;
+            put_step(code, alloc, *up, true, &e.ty, e.mode, site, t)?;
+            Ok(m)
+        }
+        Node::Comma(a, b) => {
+            let k = lower_unread(code, alloc, program, io, a, l, t)?;
+            lower_unread(code, alloc, program, io, b, k, t)
+        }
+        _ => lower_expr(code, alloc, program, io, e, l, t),
     }
 }
 
@@ -157,10 +188,8 @@ fn put_step(
     site: Site,
     t: u16,
 ) -> Result<(), NoMemory>
-    ensures { OnOk result (Emits code.old.items code.new.items (λ rest. let s = plain_site site in
-        let v = value_place s t in let ty = plain_type ty.now in
-        load_from (temp v ty) s ∷ constant (temp (v + 1) int) (pos 1)
-        ∷ step_code prefix (step_operator up) mode ty s v (settled_code s ty t rest))) }
+    ensures { OnOk result (Emits code.old.items code.new.items
+        (stepping_code up prefix mode (plain_type ty.now) (plain_site site) t)) }
 {
     let v = value_place(site, t)?;
     put_load(code, ty, site, v)?;
@@ -224,14 +253,15 @@ fn lower_choice(
     match node {
         Node::Not(a) => {
             let k = behind(l, 2)?;
-            let m = lower_branch(code, alloc, program, io, a, k, t, l)?;
+            let m = lower_branch(code, alloc, program, io, a, k, t, Branch::WhereZero(l))?;
             truth(code, false, ty, l, t)?;
             Ok(m)
         }
         Node::And(a, b) => {
             let k = behind(l, 2)?;
-            let k = lower_branch(code, alloc, program, io, a, k, t, l)?;
-            let m = lower_branch(code, alloc, program, io, b, k, t, l)?;
+            let to = Branch::WhereZero(l);
+            let k = lower_branch(code, alloc, program, io, a, k, t, to)?;
+            let m = lower_branch(code, alloc, program, io, b, k, t, to)?;
             truth(code, true, ty, l, t)?;
             Ok(m)
         }
@@ -241,7 +271,7 @@ fn lower_choice(
     }
 }
 
-/// Those of an expression at `t`, and a branch to the label `out` where it is 0.
+/// Those of a condition, which leads somewhere; what is worked out stands at `t`.
 #[cycle(lower)]
 pub fn lower_branch(
     code: &mut Seq<Ir>,
@@ -251,17 +281,40 @@ pub fn lower_branch(
     e: &Expr,
     l: u64,
     t: u16,
-    out: u64,
+    to: Branch,
 ) -> Result<u64, NoMemory>
     requires { IsLaidOut (plain_program program.now) }
     ensures next { IfOk result (λ m. m ≡ l + expr_labels (plain_expr e.now)) }
-    ensures code { OnOk result (Emits code.old.items code.new.items (λ rest.
-        expr_code (plain_program program.now) (plain_table io.now) (plain_expr e.now) l t
-        (branch_zero (temp t (type_of_expr (plain_expr e.now))) out ∷ rest))) }
+    ensures code { OnOk result (Emits code.old.items code.new.items
+        (branch_code (plain_program program.now) (plain_table io.now) (plain_expr e.now) l t (plain_branch to))) }
 {
-    let m = lower_expr(code, alloc, program, io, e, l, t)?;
-    put(code, Ir::BranchZero(temp(t, &e.ty), out))?;
-    Ok(m)
+    match &e.node {
+        Node::Not(a) => {
+            let k = behind(l, 2)?;
+            lower_branch(code, alloc, program, io, a, k, t, opposite(to, l))
+        }
+        Node::And(a, b) => {
+            let k = behind(l, 2)?;
+            let first = Branch::WhereZero(zero_label(to, l));
+            let k = lower_branch(code, alloc, program, io, a, k, t, first)?;
+            let m = lower_branch(code, alloc, program, io, b, k, t, to)?;
+            put_and_end(code, to, l)?;
+            Ok(m)
+        }
+        Node::Or(a, b) => {
+            let k = behind(l, 4)?;
+            let first = Branch::WhereNot(other_label(to, l), l + 1);
+            let k = lower_branch(code, alloc, program, io, a, k, t, first)?;
+            let m = lower_branch(code, alloc, program, io, b, k, t, to)?;
+            put_or_end(code, to, l)?;
+            Ok(m)
+        }
+        _ => {
+            let m = lower_expr(code, alloc, program, io, e, l, t)?;
+            put_branch(code, to, temp(t, &e.ty))?;
+            Ok(m)
+        }
+    }
 }
 
 /// Those of an operation on a port or a group. There is no other form.
@@ -417,9 +470,9 @@ fn lower_or(
         (plain_type ty.now) mode (logical_or (plain_expr a.now) (plain_expr b.now)) l t)) }
 {
     let k = behind(l, 4)?;
-    let k = lower_branch(code, alloc, program, io, a, k, t, l + 2)?;
-    put_turn(code, l + 3, l + 2)?;
-    let m = lower_branch(code, alloc, program, io, b, k, t, l)?;
+    let first = Branch::WhereNot(l + 3, l + 2);
+    let k = lower_branch(code, alloc, program, io, a, k, t, first)?;
+    let m = lower_branch(code, alloc, program, io, b, k, t, Branch::WhereZero(l))?;
     put(code, Ir::Label(l + 3))?;
     truth(code, true, ty, l, t)?;
     Ok(m)
@@ -448,7 +501,7 @@ fn lower_cond(
         (plain_type ty.now) mode (conditional (plain_expr c.now) (plain_expr a.now) (plain_expr b.now)) l t)) }
 {
     let k = behind(l, 2)?;
-    let k = lower_branch(code, alloc, program, io, c, k, t, l)?;
+    let k = lower_branch(code, alloc, program, io, c, k, t, Branch::WhereZero(l))?;
     let k = lower_expr(code, alloc, program, io, a, k, t)?;
     put_turn(code, l + 1, l)?;
     let m = lower_expr(code, alloc, program, io, b, k, t)?;

@@ -5,9 +5,11 @@
 //! `read_groups` tells of a table that the numbers of its pairs are bytes, which laws ask for.
 #![tactic(auto)]
 
+mod branches;
 mod calls;
 mod copies;
 mod emit;
+mod ends;
 mod expressions;
 mod extents;
 mod loops;

@@ -11,6 +11,7 @@ ghost use Rattle.ec_lower_code.specs.Correct.{Follows, IsMadeOf};
 
 use crate::copies::{copied_objects, copied_structs};
 use crate::emit::put;
+use crate::ends::body_returns;
 use crate::extents::stmt_places;
 use crate::ports::read_groups;
 use crate::statements::lower_stmt;
@@ -32,11 +33,15 @@ fn lower_body(
     requires { IsLaidOut (plain_program program.now) }
     ensures { OnOk result (map plain_ir code.new.items ≡ map plain_ir code.old.items
         ++ stmt_code (plain_program program.now) (plain_table io.now) (plain_stmt body.now) 1 0 0
-        (label 0 ∷ end_code)) }
+        (label 0 ∷ end_code (plain_stmt body.now))) }
 {
     lower_stmt(code, alloc, program, io, body, 1, 0, 0)?;
     put(code, Ir::Label(0))?;
-    put(code, Ir::Return(None))
+    if body_returns(body) {
+        Ok(())
+    } else {
+        put(code, Ir::Return(None))
+    }
 }
 
 fn lower_function(

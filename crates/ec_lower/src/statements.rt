@@ -11,9 +11,10 @@ ghost use Rattle.ec_lower_code.specs.Code.{stmts_labels, kind_labels, leaves_of_
 ghost use Rattle.ec_lower_code.specs.Code.{loop_code, stmt_code, kind_code, stmts_code, temp};
 ghost use Rattle.ec_core.specs.Layout.{plain_leaf};
 
+use crate::branches::Branch;
 use crate::calls::put_return;
 use crate::emit::{behind, put, put_object_store, put_turn};
-use crate::expressions::{lower_branch, lower_expr};
+use crate::expressions::{lower_branch, lower_expr, lower_unread};
 use crate::extents::optional_labels;
 use crate::loops::continue_label;
 use ec_core::{Expr, Leaf, Program, Stmt, StmtKind, leaves};
@@ -134,7 +135,7 @@ fn lower_test(
 {
     match c {
         None => Ok(l),
-        Some(c) => lower_branch(code, alloc, program, io, c, l, 0, out),
+        Some(c) => lower_branch(code, alloc, program, io, c, l, 0, Branch::WhereZero(out)),
     }
 }
 
@@ -155,7 +156,7 @@ fn lower_last(
     match last {
         None => Ok(()),
         Some(e) => {
-            lower_expr(code, alloc, program, io, e, l, 0)?;
+            lower_unread(code, alloc, program, io, e, l, 0)?;
             Ok(())
         }
     }
@@ -228,7 +229,7 @@ pub fn lower_stmt(
 {
     match &s.kind {
         StmtKind::Empty => Ok(l),
-        StmtKind::Do1(e) => lower_expr(code, alloc, program, io, e, l, 0),
+        StmtKind::Do1(e) => lower_unread(code, alloc, program, io, e, l, 0),
         StmtKind::Block(ss) => lower_stmts(code, alloc, program, io, ss.as_slice(), l, out, on),
         StmtKind::Local(o, values) => lower_local(
             code,
@@ -317,7 +318,7 @@ fn lower_if(
         (branch (plain_expr c.now) (plain_stmt a.now) no_stmt) l out on)) }
 {
     let k = behind(l, 2)?;
-    let k = lower_branch(code, alloc, program, io, c, k, 0, l)?;
+    let k = lower_branch(code, alloc, program, io, c, k, 0, Branch::WhereZero(l))?;
     let m = lower_stmt(code, alloc, program, io, a, k, out, on)?;
     put(code, Ir::Label(l))?;
     Ok(m)
@@ -345,7 +346,7 @@ fn lower_if_else(
         (branch (plain_expr c.now) (plain_stmt a.now) (a_stmt (plain_stmt b.now))) l out on)) }
 {
     let k = behind(l, 2)?;
-    let k = lower_branch(code, alloc, program, io, c, k, 0, l)?;
+    let k = lower_branch(code, alloc, program, io, c, k, 0, Branch::WhereZero(l))?;
     let k = lower_stmt(code, alloc, program, io, a, k, out, on)?;
     put_turn(code, l + 1, l)?;
     let m = lower_stmt(code, alloc, program, io, b, k, out, on)?;

@@ -26,6 +26,8 @@ use Rattle.ec_lower_code.specs.Code.{operand_temp, access_code, pairs_code, grou
 use Rattle.ec_lower_code.specs.Code.{optional_labels, option_stmt_labels, expr_code, node_code, place_code, args_code}
 use Rattle.ec_lower_code.specs.Code.{init_code, test_code, last_code, leaves_of_object, loop_code, stmt_code, kind_code}
 use Rattle.ec_lower_code.specs.Code.{option_stmt_code, stmts_code}
+use Rattle.ec_lower_code.specs.Code.{stepping_code, unread_code}
+use Rattle.ec_lower_code.specs.Code.{temp, Branch, where_zero, where_not, branch_to, opposite, and_end, or_end, branch_code}
 use Rattle.ec_lower_code.proofs.Steps.{Stands, behind}
 
 module _ (program : PlainProgram) (table : PlainTable) (code : List PlainIr) where
@@ -84,6 +86,23 @@ module _ (program : PlainProgram) (table : PlainTable) (code : List PlainIr) whe
   settled_behind (named o offset) ty t rest s = s
   settled_behind (pointed ptr space) ty t rest s = behind code _ rest s
 
+  branch_to_behind : (to : Branch) (t : Temp) (rest : List PlainIr) → Stands code (branch_to to t rest) → Stands code rest
+  branch_to_behind (where_zero to) t rest s = behind code _ rest s
+  branch_to_behind (where_not to past) t rest s = behind code _ rest (behind code _ _ (behind code _ _ s))
+
+  and_end_behind : (to : Branch) (l : ℕ) (rest : List PlainIr) → Stands code (and_end to l rest) → Stands code rest
+  and_end_behind (where_zero to) l rest s = s
+  and_end_behind (where_not to past) l rest s = behind code _ rest s
+
+  or_end_behind : (to : Branch) (l : ℕ) (rest : List PlainIr) → Stands code (or_end to l rest) → Stands code rest
+  or_end_behind (where_zero to) l rest s = behind code _ rest s
+  or_end_behind (where_not to past) l rest s = s
+
+  stepping_behind : (up prefix : Bool) (mode : Mode) (ty : PlainType) (site : Site) (t : ℕ) (rest : List PlainIr)
+      → Stands code (stepping_code up prefix mode ty site t rest) → Stands code rest
+  stepping_behind up prefix mode ty site t rest s = settled_behind site ty t rest
+      (step_behind prefix (step_operator up) mode ty site (value_place site t) _ (behind code _ _ (behind code _ _ s)))
+
   address_behind : (site : Site) (ty : PlainType) (t : ℕ) (rest : List PlainIr) → Stands code (address_code site ty t rest)
       → Stands code rest
   address_behind (named o offset) ty t rest s = behind code _ rest s
@@ -122,7 +141,7 @@ module _ (program : PlainProgram) (table : PlainTable) (code : List PlainIr) whe
     pub expr_behind : (e : PlainExpr) (l t : ℕ) (rest : List PlainIr) → Stands code (expr_code program table e l t rest) → Stands code rest
     expr_behind (expression ty mode node) l t rest h = node_behind ty mode node l t rest h
 
-    node_behind : (ty : PlainType) (mode : Mode) (node : PlainNode) (l t : ℕ) (rest : List PlainIr)
+    pub node_behind : (ty : PlainType) (mode : Mode) (node : PlainNode) (l t : ℕ) (rest : List PlainIr)
         → Stands code (node_code program table ty mode node l t rest) → Stands code rest
     node_behind ty mode (number n) l t rest h = behind code _ rest h
     node_behind ty mode null l t rest h = behind code _ rest h
@@ -136,23 +155,37 @@ module _ (program : PlainProgram) (table : PlainTable) (code : List PlainIr) whe
     node_behind ty mode (compound op own p a) l t rest h =
         settled_behind (site program p t) ty t rest (change_behind op own mode ty (site program p t) (value_place (site program p t) t)
         (type_of_expr a) _ (expr_behind a _ _ _ (behind code _ _ (place_behind p l t _ h))))
-    node_behind ty mode (step up prefix p) l t rest h =
-        settled_behind (site program p t) ty t rest (step_behind prefix (step_operator up) mode ty (site program p t)
-        (value_place (site program p t) t) _ (behind code _ _ (behind code _ _ (place_behind p l t _ h))))
-    node_behind ty mode (logical_not a) l t rest h = truth_behind false ty l t rest (behind code _ _ (expr_behind a (l + 2) t _ h))
+    node_behind ty mode (step up prefix p) l t rest h = stepping_behind up prefix mode ty (site program p t) t rest
+        (place_behind p l t _ h)
+    node_behind ty mode (logical_not a) l t rest h = truth_behind false ty l t rest (branch_behind a _ t _ _ h)
     node_behind ty mode (logical_and a b) l t rest h = truth_behind true ty l t rest
-        (behind code _ _ (expr_behind b _ t _ (behind code _ _ (expr_behind a (l + 2) t _ h))))
+        (branch_behind b _ t _ _ (branch_behind a _ t _ _ h))
     node_behind ty mode (logical_or a b) l t rest h = truth_behind true ty l t rest
-        (behind code _ _ (behind code _ _ (expr_behind b _ t _ (behind code _ _
-        (behind code _ _ (behind code _ _ (expr_behind a (l + 4) t _ h)))))))
+        (behind code _ _ (branch_behind b _ t _ _ (branch_behind a _ t _ _ h)))
     node_behind ty mode (conditional c a b) l t rest h = behind code _ rest
-        (expr_behind b _ t _ (behind code _ _ (behind code _ _ (expr_behind a _ t _ (behind code _ _ (expr_behind c (l + 2) t _ h))))))
-    node_behind ty mode (comma a b) l t rest h = expr_behind b _ t rest (expr_behind a l t _ h)
+        (expr_behind b _ t _ (behind code _ _ (behind code _ _ (expr_behind a _ t _ (branch_behind c _ t _ _ h)))))
+    node_behind ty mode (comma a b) l t rest h = expr_behind b _ t rest (unread_behind a l t _ h)
     node_behind ty mode (call f args) l t rest h = behind code _ rest (params_behind (params_of program f) args t _
         (args_behind args l t _ h))
     node_behind ty mode (io op port i v) l t rest h = access_behind op mode (slice_get table.ports port) i t rest
         (operand_behind v _ _ _ (operand_behind i l t _ h))
     node_behind ty mode (group acquire g) l t rest h = group_behind acquire (slice_get table.groups g) t rest h
+
+    pub unread_behind : (e : PlainExpr) (l t : ℕ) (rest : List PlainIr) → Stands code (unread_code program table e l t rest)
+        → Stands code rest
+    unread_behind (expression ty mode (step up prefix p)) l t rest h = stepping_behind up true mode ty (site program p t) t rest
+        (place_behind p l t _ h)
+    unread_behind (expression ty mode (comma a b)) l t rest h = unread_behind b _ t rest (unread_behind a l t _ h)
+    unread_behind (expression ty mode node) l t rest h = node_behind ty mode node l t rest h
+
+    pub branch_behind : (e : PlainExpr) (l t : ℕ) (to : Branch) (rest : List PlainIr)
+        → Stands code (branch_code program table e l t to rest) → Stands code rest
+    branch_behind (expression ty mode (logical_not a)) l t to rest h = branch_behind a (l + 2) t (opposite to l) rest h
+    branch_behind (expression ty mode (logical_and a b)) l t to rest h = and_end_behind to l rest
+        (branch_behind b _ t to _ (branch_behind a _ t _ _ h))
+    branch_behind (expression ty mode (logical_or a b)) l t to rest h = or_end_behind to l rest
+        (branch_behind b _ t to _ (branch_behind a _ t _ _ h))
+    branch_behind (expression ty mode node) l t to rest h = branch_to_behind to (temp t ty) rest (node_behind ty mode node l t _ h)
 
     pub place_behind : (p : PlainPlace) (l t : ℕ) (rest : List PlainIr) → Stands code (place_code program table p l t rest)
         → Stands code rest
@@ -180,11 +213,11 @@ module _ (program : PlainProgram) (table : PlainTable) (code : List PlainIr) whe
   pub test_behind : (c : Option PlainExpr) (out l : ℕ) (rest : List PlainIr) → Stands code (test_code program table c out l rest)
       → Stands code rest
   test_behind None out l rest h = h
-  test_behind (Some c) out l rest h = behind code _ rest (expr_behind c l 0 _ h)
+  test_behind (Some c) out l rest h = branch_behind c l 0 _ rest h
 
   pub last_behind : (e : Option PlainExpr) (l : ℕ) (rest : List PlainIr) → Stands code (last_code program table e l rest) → Stands code rest
   last_behind None l rest h = h
-  last_behind (Some e) l rest h = expr_behind e l 0 rest h
+  last_behind (Some e) l rest h = unread_behind e l 0 rest h
 
   loop_behind : (c last : Option PlainExpr) (l : ℕ) (body : List PlainIr → List PlainIr) (rest : List PlainIr)
       → ((q : List PlainIr) → Stands code (body q) → Stands code q) → Stands code (loop_code program table c last l body rest)
@@ -201,14 +234,14 @@ module _ (program : PlainProgram) (table : PlainTable) (code : List PlainIr) whe
     kind_behind : (kind : PlainKind) (l out on : ℕ) (rest : List PlainIr) → Stands code (kind_code program table kind l out on rest)
         → Stands code rest
     kind_behind empty l out on rest h = h
-    kind_behind (evaluate e) l out on rest h = expr_behind e l 0 rest h
+    kind_behind (evaluate e) l out on rest h = unread_behind e l 0 rest h
     kind_behind (block ss) l out on rest h = stmts_behind ss l out on rest h
     kind_behind (declare o es) l out on rest h = init_behind (leaves_of_object program o) o es l rest h
     kind_behind (branch c a no_stmt) l out on rest h = behind code _ rest
-        (stmt_behind a _ out on _ (behind code _ _ (expr_behind c (l + 2) 0 _ h)))
+        (stmt_behind a _ out on _ (branch_behind c (l + 2) 0 _ _ h))
     kind_behind (branch c a (a_stmt b)) l out on rest h = behind code _ rest
         (stmt_behind b _ out on _ (behind code _ _ (behind code _ _
-        (stmt_behind a _ out on _ (behind code _ _ (expr_behind c (l + 2) 0 _ h))))))
+        (stmt_behind a _ out on _ (branch_behind c (l + 2) 0 _ _ h)))))
     kind_behind (while_loop c a) l out on rest h = loop_behind (Some c) None l (λ q. stmt_code program table a (l + 4 + expr_labels c)
         (l + 1) (l + 2) q) rest (λ q g. stmt_behind a (l + 4 + expr_labels c) (l + 1) (l + 2) q g) h
     kind_behind (do_loop a c) l out on rest h = loop_behind (Some c) None l (λ q. stmt_code program table a (l + 4 + expr_labels c) (l + 1)

@@ -1,42 +1,43 @@
 -- The operations of statements do what they do.
-use Rattle.std.proofs.Common.{◌≡◌, ◌≢◌, ◌⊎◌, ℕ, ◌+◌, ◌≤◌, Bool, true, false, List, [], ◌∷◌, Some, None, refl, sym, ap, ◌∙◌}
+use Rattle.std.proofs.Common.{◌≡◌, ◌≢◌, ◌⊎◌, ℕ, ◌+◌, ◌≤◌, Bool, true, List, [], ◌∷◌, Some, None, refl, sym, ap, ◌∙◌}
 use Rattle.std.proofs.Common.{subst, inl, inr, arith}
 use Rattle.std.specs.Prelude.{slice_get}
 use Rattle.ec_core.specs.declared.values.Value.{Value}
 use Rattle.ec_core.specs.Accesses.{begun}
 use Rattle.ec_core.specs.Expressions.{Calls, condition}
-use Rattle.ec_core.specs.Layout.{scalar_size, IsScalar, PlainLeaf, leaves_of_type}
+use Rattle.ec_core.specs.Layout.{scalar_size, PlainLeaf, leaves_of_type}
 use Rattle.ec_core.specs.Plain.{PlainType, void, PlainExpr, PlainExprs, last_expr, PlainStmt, statement, PlainKind, empty}
 use Rattle.ec_core.specs.Plain.{evaluate, block, declare, branch, while_loop, do_loop, for_loop, break_loop, continue_loop}
 use Rattle.ec_core.specs.Plain.{return_value, OptionPlainStmt, no_stmt, a_stmt, PlainStmts, last_stmt, next_stmt, local}
 use Rattle.ec_core.specs.Plain.{PlainObject}
-use Rattle.ec_core.specs.State.{State, worked, Outcome, got, next, choose}
+use Rattle.ec_core.specs.State.{State, worked, Outcome, got, next}
 use Rattle.ec_core.specs.Statements.{Exit, at_end, by_return, in_order, tested, turns, declared, declared_first, test_of}
 use Rattle.ec_core.specs.Statements.{going_on, initialising, effect_of, kind_effect, first_effect, effects_of}
 use Rattle.ec_core.specs.Typing.{type_of_expr}
-use Rattle.ec_core.specs.Valid.{ValidExpr, AreLeafValues, IsDeclared, ValidStmt, ValidKind, ValidOptionStmt, ValidStmts}
+use Rattle.ec_core.specs.Valid.{AreLeafValues, IsDeclared, ValidStmt, ValidKind, ValidOptionStmt, ValidStmts}
 use Rattle.ec_core.specs.ValueTypes.{IsTypedState, IsExitOf}
 use Rattle.ec_core.specs.Words.{branch_words, jump_words, return_of, return_words}
 use Rattle.ec_core.proofs.TypedValues.{some_and}
 use Rattle.ec_ir.specs.Costs.{op_steps, branch_zero_words}
 use Rattle.ec_ir.specs.Meaning.{is_kept, Mach, machine, Place, find}
-use Rattle.ec_ir.specs.Operations.{PlainIr, label, jump, branch_zero, return_from}
+use Rattle.ec_ir.specs.Operations.{PlainIr, label, jump, return_from}
 use Rattle.ec_ir.specs.Temporaries.{Temps}
 use Rattle.ec_lower_code.specs.Code.{temp, expr_labels, optional_labels, option_stmt_labels, stmt_labels, expr_code, init_code}
 use Rattle.ec_lower_code.specs.Code.{test_code, last_code, leaves_of_object, stmt_code, kind_code, option_stmt_code, stmts_code}
-use Rattle.ec_lower_code.proofs.Callees.{IsOther, CallsOfExpr, CallsOfExprs, CallsOfStmt, CallsOfKind, CallsOfOptionStmt, CallsOfStmts}
-use Rattle.ec_lower_code.proofs.Behind.{expr_behind, test_behind, last_behind, stmt_behind, option_behind}
-use Rattle.ec_lower_code.proofs.Expressions.{W, value, Has, Tests, tests}
+use Rattle.ec_lower_code.specs.Code.{where_zero, branch_code}
+use Rattle.ec_lower_code.proofs.Callees.{IsOther, CallsOfExprs, CallsOfStmt, CallsOfKind, CallsOfOptionStmt, CallsOfStmts}
+use Rattle.ec_lower_code.proofs.Behind.{branch_behind, test_behind, last_behind, stmt_behind, option_behind}
+use Rattle.ec_lower_code.proofs.Expressions.{W, value, Has, branch_choose}
 use Rattle.ec_lower_code.proofs.Facts.{local_home, leaves_are}
 use Rattle.ec_lower_code.proofs.Loops.{loop_runs, do_runs}
 use Rattle.ec_lower_code.proofs.Numbers.{scalar_bytes}
-use Rattle.ec_lower_code.proofs.Ops.{to_rest, past_label, jumps, branch_on, branch_off}
+use Rattle.ec_lower_code.proofs.Ops.{to_rest, past_label, jumps}
 use Rattle.ec_lower_code.proofs.Pays.{return_pays}
 use Rattle.ec_lower_code.proofs.Scene.{World, ports, homes, set, calls_to, law, Scene}
 use Rattle.ec_lower_code.proofs.Shown.{Match}
 use Rattle.ec_lower_code.proofs.Statements.{Returns, Left, left_to, Way, Typed, typed_way, at_rest, bind_exit}
-use Rattle.ec_lower_code.proofs.Statements.{joins, begun_match, ending_runs, whole_runs, done_runs, init_runs}
-use Rattle.ec_lower_code.proofs.Steps.{Stands, behind, around, here, Does, stays, after, bind, credited, spent_on, less}
+use Rattle.ec_lower_code.proofs.Statements.{joins, begun_match, ending_runs, whole_runs, branch_whole, done_runs, init_runs}
+use Rattle.ec_lower_code.proofs.Steps.{Stands, behind, around, here, stays, after, bind, credited, spent_on, less}
 
 module _ (wd : World) (sc : Scene wd) (ret : Returns wd sc) where
   abbrev calls : Calls
@@ -50,33 +51,6 @@ module _ (wd : World) (sc : Scene wd) (ret : Returns wd sc) where
 
   abbrev Keeps : List PlainIr → Mach → (rest out on : List PlainIr) → ℕ → Outcome Exit → Type 0
   Keeps p m rest out on d o = Typed wd sc ret wd.n p m rest out on d o
-
-  -- a condition before a branch
-  condition_runs : (c : PlainExpr) (l d : ℕ) (s : State) (m : Mach) (rest : List PlainIr) → CallsOfExpr (IsOther wd.program) c
-      → ValidExpr wd.program wd.io sc.f c → IsScalar (type_of_expr c) → IsTypedState wd.program s
-      → Stands sc.code (expr_code wd.program (ports wd) c l 0 rest) → Match (homes wd) (around (W wd sc)) d s m
-      → Does (W wd sc) wd.n (Spots (expr_code wd.program (ports wd) c l 0 rest)) m (to_rest (W wd sc) rest)
-      (Tests wd sc (type_of_expr c) 0 d m.temps) (condition (set wd) c (value wd sc c s))
-  condition_runs c l d s m rest p v i st stands h = tests wd sc wd.n 0 d m.temps c s (expr_code wd.program (ports wd) c l 0 rest) rest m i
-      (whole_runs wd sc ret wd.n c l d s m rest (omega arith) p v st stands h)
-
-  -- a branch of a statement: to its first part, or to a label
-  branch_runs : (c : PlainExpr) (l d g f : ℕ) (b : Temps) (then_code other rest out on : List PlainIr) (x y : State → Outcome Exit)
-      (h : Bool) (s : State) (u : Mach) → find l sc.code ≡ Some other → branch_zero_words (scalar_size (type_of_expr c)) + f ≤ d
-      → Tests wd sc (type_of_expr c) 0 d b h s u
-      → ((v : Mach) → Match (homes wd) (around (W wd sc)) f s v → Goes then_code v rest out on g (x s)) → ((v : Mach)
-      → Match (homes wd) (around (W wd sc)) f s v
-      → Goes other v rest out on g (y s)) → Goes (branch_zero (temp 0 (type_of_expr c)) l ∷ then_code) u rest out on g (choose h x y s)
-  branch_runs c l d g f b then_code other rest out on x y true s u e le r on_true on_false =
-      let i = branch_zero (temp 0 (type_of_expr c)) l in
-      after (W wd sc) (left_to wd sc ret rest out on) (Left wd sc ret g) wd.n (Spots (i ∷ then_code)) (Spots then_code) u _ (x s)
-      (branch_on (W wd sc) (type_of_expr c) 0 l then_code u r.test.tested r.test.value r.test.zero)
-      (on_true _ (spent_on (homes wd) d f i u.temps s u le r.test.match))
-  branch_runs c l d g f b then_code other rest out on x y false s u e le r on_true on_false =
-      let i = branch_zero (temp 0 (type_of_expr c)) l in
-      after (W wd sc) (left_to wd sc ret rest out on) (Left wd sc ret g) wd.n (Spots (i ∷ then_code)) (Spots other) u _ (y s)
-      (branch_off (W wd sc) (type_of_expr c) 0 l then_code other u r.test.tested e r.test.value r.test.zero)
-      (on_false _ (spent_on (homes wd) d f i u.temps s u le r.test.match))
 
   -- a jump or a label behind a part
   jump_behind : (d l : ℕ) (after_code rest out on : List PlainIr) → find l sc.code ≡ Some rest → (s : State) (u : Mach)
@@ -186,28 +160,26 @@ module _ (wd : World) (sc : Scene wd) (ret : Returns wd sc) where
         declared_runs o es l d rest out on p v stands s m h st
     kind_runs (branch c a no_stmt) in_loop l lo lc d rest out on p v stands fo fc s m h st =
         let then_code = stmt_code wd.program (ports wd) a (l + 2 + expr_labels c) lo lc (label l ∷ rest) in
-        let i = branch_zero (temp 0 (type_of_expr c)) l in
-        let then_at = behind sc.code _ _ (expr_behind wd.program (ports wd) sc.code c (l + 2) 0 (i ∷ then_code) stands) in
+        let then_at = branch_behind wd.program (ports wd) sc.code c (l + 2) 0 (where_zero l) then_code stands in
         let end = stmt_behind wd.program (ports wd) sc.code a (l + 2 + expr_labels c) lo lc (label l ∷ rest) then_at in
         let e = d + branch_words in
         let size = (scalar_bytes (type_of_expr c) v.0.1).1 in
-        bind (W wd sc) wd.n (Spots (expr_code wd.program (ports wd) c (l + 2) 0 (i ∷ then_code))) m (to_rest (W wd sc) (i ∷ then_code))
-        (Tests wd sc (type_of_expr c) 0 e m.temps) (left_to wd sc ret rest out on) (Left wd sc ret d) (Spots (i ∷ then_code))
-        (condition (set wd) c (value wd sc c (worked branch_words s))) _ (λ z. refl)
-        (condition_runs c (l + 2) e (worked branch_words s) m (i ∷ then_code) p.0 v.0.0 v.0.1 st stands
-        (credited (homes wd) branch_words d s m h))
-        (λ x s1 u r. branch_runs c l e d d m.temps then_code rest rest out on (λ s2. effect_of (set wd) calls wd.n a s2)
-        (λ s2. got at_end s2) x s1 u (sc.resolves l rest end) (omega (arith, size)) r
-        (λ u1 k. joins wd sc ret wd.n d d then_code u1 (label l ∷ rest) rest out on (effect_of (set wd) calls wd.n a s1) (omega arith)
-        (stmt_runs a in_loop (l + 2 + expr_labels c) lo lc d (label l ∷ rest) out on p.1 v.1 then_at fo fc s1 u1 k r.state)
+        branch_choose wd sc wd.n (branch_code wd.program (ports wd) c (l + 2) 0 (where_zero l) then_code) m (where_zero l) rest then_code 0
+        e d (branch_zero_words (scalar_size (type_of_expr c))) m.temps (condition (set wd) c (value wd sc c (worked branch_words s)))
+        (left_to wd sc ret rest out on) (Left wd sc ret d) (λ s2. effect_of (set wd) calls wd.n a s2) (λ s2. got at_end s2)
+        (omega (arith, size))
+        (branch_whole wd sc ret wd.n c (l + 2) (where_zero l) e (worked branch_words s) m rest then_code (omega arith) p.0 v.0.0 v.0.1 st
+        stands (sc.resolves l rest end) (credited (homes wd) branch_words d s m h))
+        (λ s1 u1 st1 k below. joins wd sc ret wd.n d d then_code u1 (label l ∷ rest) rest out on (effect_of (set wd) calls wd.n a s1)
+        (omega arith)
+        (stmt_runs a in_loop (l + 2 + expr_labels c) lo lc d (label l ∷ rest) out on p.1 v.1 then_at fo fc s1 u1 k st1)
         (λ s2 u2 h2. label_behind d d l rest out on (omega arith) s2 u2 h2))
-        (λ u1 k. at_rest wd sc ret d rest out on wd.n s1 u1 k))
+        (λ s1 u1 st1 k below. at_rest wd sc ret d rest out on wd.n s1 u1 k)
     kind_runs (branch c a (a_stmt a2)) in_loop l lo lc d rest out on p v stands fo fc s m h st =
         let lb = l + 2 + expr_labels c + stmt_labels a in
         let else_code = stmt_code wd.program (ports wd) a2 lb lo lc (label (l + 1) ∷ rest) in
         let then_code = stmt_code wd.program (ports wd) a (l + 2 + expr_labels c) lo lc (jump (l + 1) ∷ label l ∷ else_code) in
-        let i = branch_zero (temp 0 (type_of_expr c)) l in
-        let then_at = behind sc.code _ _ (expr_behind wd.program (ports wd) sc.code c (l + 2) 0 (i ∷ then_code) stands) in
+        let then_at = branch_behind wd.program (ports wd) sc.code c (l + 2) 0 (where_zero l) then_code stands in
         let then_end = stmt_behind wd.program (ports wd) sc.code a (l + 2 + expr_labels c) lo lc (jump (l + 1) ∷ label l ∷ else_code)
         then_at in
         let label_at = behind sc.code _ _ then_end in
@@ -215,20 +187,20 @@ module _ (wd : World) (sc : Scene wd) (ret : Returns wd sc) where
         let end = stmt_behind wd.program (ports wd) sc.code a2 lb lo lc (label (l + 1) ∷ rest) else_at in
         let e = d + branch_words in
         let size = (scalar_bytes (type_of_expr c) v.0.1).1 in
-        bind (W wd sc) wd.n (Spots (expr_code wd.program (ports wd) c (l + 2) 0 (i ∷ then_code))) m (to_rest (W wd sc) (i ∷ then_code))
-        (Tests wd sc (type_of_expr c) 0 e m.temps) (left_to wd sc ret rest out on) (Left wd sc ret d) (Spots (i ∷ then_code))
-        (condition (set wd) c (value wd sc c (worked branch_words s))) _ (λ z. refl)
-        (condition_runs c (l + 2) e (worked branch_words s) m (i ∷ then_code) p.0 v.0.0 v.0.1 st stands
-        (credited (homes wd) branch_words d s m h))
-        (λ x s1 u r. branch_runs c l e d (d + 5) m.temps then_code else_code rest out on (λ s2. effect_of (set wd) calls wd.n a s2)
-        (λ s2. effect_of (set wd) calls wd.n a2 s2) x s1 u (sc.resolves l else_code label_at) (omega (arith, size)) r
-        (λ u1 k. joins wd sc ret wd.n (d + 5) d then_code u1 (jump (l + 1) ∷ label l ∷ else_code) rest out on
+        branch_choose wd sc wd.n (branch_code wd.program (ports wd) c (l + 2) 0 (where_zero l) then_code) m (where_zero l) else_code
+        then_code 0 e (d + 5) (branch_zero_words (scalar_size (type_of_expr c))) m.temps
+        (condition (set wd) c (value wd sc c (worked branch_words s))) (left_to wd sc ret rest out on) (Left wd sc ret d)
+        (λ s2. effect_of (set wd) calls wd.n a s2) (λ s2. effect_of (set wd) calls wd.n a2 s2) (omega (arith, size))
+        (branch_whole wd sc ret wd.n c (l + 2) (where_zero l) e (worked branch_words s) m else_code then_code (omega arith) p.0 v.0.0 v.0.1
+        st stands (sc.resolves l else_code label_at) (credited (homes wd) branch_words d s m h))
+        (λ s1 u1 st1 k below. joins wd sc ret wd.n (d + 5) d then_code u1 (jump (l + 1) ∷ label l ∷ else_code) rest out on
         (effect_of (set wd) calls wd.n a s1) (omega arith) (stmt_runs a in_loop (l + 2 + expr_labels c) lo lc (d + 5) (jump (l + 1)
-        ∷ label l ∷ else_code) out on p.1 v.1 then_at fo fc s1 u1 k r.state)
+        ∷ label l ∷ else_code) out on p.1 v.1 then_at fo fc s1 u1 k st1)
         (λ s2 u2 h2. jump_behind d (l + 1) (label l ∷ else_code) rest out on (sc.resolves (l + 1) rest end) s2 u2 h2))
-        (λ u1 k. joins wd sc ret wd.n (d + 5) d else_code u1 (label (l + 1) ∷ rest) rest out on (effect_of (set wd) calls wd.n a2 s1)
-        (omega arith) (stmt_runs a2 in_loop lb lo lc (d + 5) (label (l + 1) ∷ rest) out on p.2 v.2 else_at fo fc s1 u1 k r.state)
-        (λ s2 u2 h2. label_behind d (d + 5) (l + 1) rest out on (omega arith) s2 u2 h2)))
+        (λ s1 u1 st1 k below. joins wd sc ret wd.n (d + 5) d else_code u1 (label (l + 1) ∷ rest) rest out on
+        (effect_of (set wd) calls wd.n a2 s1)
+        (omega arith) (stmt_runs a2 in_loop lb lo lc (d + 5) (label (l + 1) ∷ rest) out on p.2 v.2 else_at fo fc s1 u1 k st1)
+        (λ s2 u2 h2. label_behind d (d + 5) (l + 1) rest out on (omega arith) s2 u2 h2))
     kind_runs break_loop in_loop l lo lc d rest out on p v stands fo fc s m h st = (
       machine m.temps (worked (op_steps (jump lo)) m.state),
       record {

@@ -1,5 +1,5 @@
 -- The operations of a call do what it does.
-use Rattle.std.proofs.Common.{◌≡◌, ◌≢◌, ℕ, zero, suc, ◌+◌, ◌*◌, ◌<◌, ◌≤◌, Bool, true, false, List, [], ◌∷◌, Option, Some, None}
+use Rattle.std.proofs.Common.{◌≡◌, ◌≢◌, ℕ, zero, suc, ◌+◌, ◌*◌, ◌<◌, ◌≤◌, Bool, true, false, not, List, [], ◌∷◌, Option, Some, None}
 use Rattle.std.proofs.Common.{refl, sym, ap, ◌∙◌, subst, inr, arith, eqb-true, eq-eqb}
 use Rattle.std.specs.Prelude.{◌==◌, ◌||◌, IsSomeAnd, slice_get, option_map}
 use Rattle.std.specs.List.{AllByRecursion}
@@ -24,10 +24,11 @@ use Rattle.ec_ir.specs.Costs.{op_steps, temp_bytes}
 use Rattle.ec_ir.specs.Meaning.{is_among, is_kept, kept_for, before_store, Mach, machine, Frame, Place, place, enter, resulted, leave}
 use Rattle.ec_ir.specs.Operations.{PlainIr, store_object, label, call_function, return_from}
 use Rattle.ec_ir.specs.Temporaries.{Temps, no_temps, with_held}
-use Rattle.ec_lower_code.specs.Code.{temp, result_temp, params_code, end_code, function_code, lowered_function}
+use Rattle.ec_lower_code.specs.Code.{temp, result_temp, params_code, body_returns, end_code, function_code, lowered_function}
 use Rattle.ec_lower_code.proofs.Callees.{IsOther, run_parts}
 use Rattle.ec_lower_code.proofs.Behind.{stmt_behind}
 use Rattle.ec_lower_code.proofs.Bodies.{stmt_runs}
+use Rattle.ec_lower_code.proofs.Ends.{EndsBy, body_ends, end_is}
 use Rattle.ec_lower_code.proofs.Expressions.{W}
 use Rattle.ec_lower_code.proofs.Facts.{param_home, scalar_leaf, result_scalar}
 use Rattle.ec_lower_code.proofs.Labels.{function_resolves}
@@ -314,7 +315,7 @@ module _ (wd : World) (depth : ℕ) (callee : Callee wd depth) (g : ℕ) (f : Pl
 
   -- the body ends without a return: only where there is no result
   falls : (d : ℕ) (r : PlainType) → f.returns ≡ r → (s : State) (u : Mach) → Match (homes wd) (around w) (d + 40) s u
-      → Finishes d (here w end_code) u
+      → Finishes d (here w (return_from None ∷ [])) u
       (unreturned r false (frame_ended wd.program g s))
   unfolding returns_to
   falls d void e s u h =
@@ -346,21 +347,22 @@ module _ (wd : World) (depth : ℕ) (callee : Callee wd depth) (g : ℕ) (f : Pl
   bare d (array r n) e s q m u h b c = tt
   bare d (struct i) e s q m u h b c = tt
 
-  finishes : (d : ℕ) (q : List PlainIr) (m : Mach) (o : Outcome Exit) → Typed wd inside returns_to wd.n q m (label 0 ∷ end_code) end_code
-      end_code (d + 40) o → Finishes d (here w q) m (next o (λ x s. call_result f.returns false x (frame_ended wd.program g s)))
+  -- the end is come to only where it is a return
+  finishes : (d : ℕ) (q : List PlainIr) (m : Mach) (end : List PlainIr) (may : Bool) → (may ≡ true → end ≡ return_from None ∷ [])
+      → (o : Outcome Exit) → EndsBy may o → Typed wd inside returns_to wd.n q m (label 0 ∷ end) end end (d + 40) o
+      → Finishes d (here w q) m (next o (λ x s. call_result f.returns false x (frame_ended wd.program g s)))
   unfolding returns_to
-  finishes d q m (got at_end s) h =
-      after w (λ v. at (place code stack rest)) (Result d) wd.n (here w q) (here w (label 0 ∷ end_code)) m h.0
+  finishes d q m end may is (got at_end s) by h =
+      after w (λ v. at (place code stack rest)) (Result d) wd.n (here w q) (here w (label 0 ∷ end)) m h.0
       (unreturned f.returns false (frame_ended wd.program g s)) h.2
-      (after w (λ v. at (place code stack rest)) (Result d) wd.n (here w (label 0 ∷ end_code)) (here w end_code) h.0 h.0
-      (unreturned f.returns false (frame_ended wd.program g s)) (label_comes w 0 end_code h.0)
-      (falls d f.returns refl s h.0 h.1.left.match))
-  finishes d q m (got by_break s) h = after w (λ v. at (place code stack rest)) (Result d) wd.n (here w q) (here w end_code) m h.0
-      (unreturned f.returns false (frame_ended wd.program g s)) h.2 (falls d f.returns refl s h.0 h.1.left.match)
-  finishes d q m (got by_continue s) h = after w (λ v. at (place code stack rest)) (Result d) wd.n (here w q) (here w end_code) m h.0
-      (unreturned f.returns false (frame_ended wd.program g s)) h.2 (falls d f.returns refl s h.0 h.1.left.match)
-  finishes d q m (got (by_return None) s) h = bare d f.returns refl s (here w q) m h.0 h.1.left.match h.1.left.back h.2
-  finishes d q m (got (by_return (Some v)) s) h = (
+      (after w (λ v. at (place code stack rest)) (Result d) wd.n (here w (label 0 ∷ end)) (here w end) h.0 h.0
+      (unreturned f.returns false (frame_ended wd.program g s)) (label_comes w 0 end h.0)
+      (subst (λ (z : List PlainIr). Finishes d (here w z) h.0 (unreturned f.returns false (frame_ended wd.program g s))) (sym (is by))
+      (falls d f.returns refl s h.0 h.1.left.match)))
+  finishes d q m end may is (got by_break s) by h = absurd by
+  finishes d q m end may is (got by_continue s) by h = absurd by
+  finishes d q m end may is (got (by_return None) s) by h = bare d f.returns refl s (here w q) m h.0 h.1.left.match h.1.left.back h.2
+  finishes d q m end may is (got (by_return (Some v)) s) by h = (
     h.0,
     record {
       match = less (homes wd) (d + 40) d (frame_ended wd.program g s) h.0 (omega arith) h.1.left.match;
@@ -369,8 +371,8 @@ module _ (wd : World) (depth : ℕ) (callee : Callee wd depth) (g : ℕ) (f : Pl
     },
     h.2,
   )
-  finishes d q m (more s) h = h
-  finishes d q m (undefined point s) h = tt
+  finishes d q m end may is (more s) by h = h
+  finishes d q m end may is (undefined point s) by h = tt
 
   -- the body, from the first operation on
   body_runs : (d : ℕ) (s : State) (m : Mach) → Match (homes wd) (around w) (d + 40) s m → IsTypedState wd.program s
@@ -379,10 +381,13 @@ module _ (wd : World) (depth : ℕ) (callee : Callee wd depth) (g : ℕ) (f : Pl
   unfolding returns_to
   body_runs d s m h st =
       let all : Stands body_code body_code = ([], refl) in
-      let end = function_resolves wd.program (ports wd) f 0 end_code (stmt_behind wd.program (ports wd) body_code f.body 1 0 0
-      (label 0 ∷ end_code) all) in
-      finishes d body_code m (effect_of (set wd) (calls_to wd depth) wd.n f.body s)
-      (stmt_runs wd inside returns_to f.body false 1 0 0 (d + 40) (label 0 ∷ end_code) end_code end_code
+      let q = end_code f.body in
+      let end = function_resolves wd.program (ports wd) f 0 q (stmt_behind wd.program (ports wd) body_code f.body 1 0 0
+      (label 0 ∷ q) all) in
+      finishes d body_code m q (not (body_returns f.body)) (λ e. end_is (body_returns f.body) e)
+      (effect_of (set wd) (calls_to wd depth) wd.n f.body s)
+      (body_ends (set wd) (calls_to wd depth) wd.n wd.program wd.io g f.returns f.body s function_is.body)
+      (stmt_runs wd inside returns_to f.body false 1 0 0 (d + 40) (label 0 ∷ q) q q
       (run_parts wd.program wd.io wd.valid g f is (inr other.1)) function_is.body all end end s m h st)
 
 -- ---- calls

@@ -33,7 +33,7 @@ use Rattle.ec_core.specs.Pointers.{Pointer as PointerValue, moved}
 use Rattle.ec_core.specs.PortAccesses.{group_effect}
 use Rattle.ec_core.specs.PortOperations.{port_operation}
 use Rattle.ec_core.specs.PortTable.{plain_table}
-use Rattle.ec_core.specs.State.{ObjectState, State, worked, Outcome, got, more, undefined, next, given}
+use Rattle.ec_core.specs.State.{ObjectState, State, worked, Outcome, got, more, undefined, next, given, choose}
 use Rattle.ec_core.specs.Typing.{int, port_value, port_result, type_of_expr, pointee, place_type, place_space, IsIntegerType}
 use Rattle.ec_core.specs.Typing.{HaveOffsetTypes, HaveBinaryTypes, HaveCompoundTypes, HaveCompoundArithmetic, AreConvertible}
 use Rattle.ec_core.specs.Typing.{IsAddressType, IsTyped, AreArguments}
@@ -51,18 +51,22 @@ use Rattle.ec_lower_code.specs.Code.{further_code, load_from, store_to, value_pl
 use Rattle.ec_lower_code.specs.Code.{update_code, keeping_code, moving_code, change_code, postfix_code, step_code, offset_of}
 use Rattle.ec_lower_code.specs.Code.{site, params_of, params_code, place_behind as value_behind, access_code, option_labels}
 use Rattle.ec_lower_code.specs.Code.{option_code, expr_labels, expr_code, node_code, place_code, args_code}
+use Rattle.ec_lower_code.specs.Code.{stepping_code, unread_code}
+use Rattle.ec_lower_code.specs.Code.{Branch, where_zero, where_not, branch_to, branch_label, opposite, zero_label}
+use Rattle.ec_lower_code.specs.Code.{other_label, and_end, or_end, branch_code}
 use Rattle.ec_lower_code.proofs.Operations.{number_value, value_number, AreUpdateTypes, update_known, words_of}
 use Rattle.ec_lower_code.proofs.Operations.{step_known, step_arithmetic}
 use Rattle.ec_lower_code.proofs.Updates.{compound_same, updated_value, held_ok, written, kept, then_on, stored_value, update_runs}
 use Rattle.ec_lower_code.proofs.Keeps.{step_back, kept_value, keep_runs}
 use Rattle.ec_lower_code.proofs.Numeric.{IsNumeric}
 use Rattle.ec_lower_code.proofs.Callees.{IsOther, CallsOfExpr, CallsOfExprs, CallsOfNode, CallsOfPlace, CallsOfOption}
-use Rattle.ec_lower_code.proofs.Behind.{expr_behind, place_behind, operand_behind}
+use Rattle.ec_lower_code.proofs.Behind.{expr_behind, node_behind, unread_behind, branch_behind, place_behind, operand_behind}
 use Rattle.ec_lower_code.proofs.Ops.{to_rest, Below, HasValue, HasTest, IsSite, IsSpace, StandsAt, site_kept, field_runs}
 use Rattle.ec_lower_code.proofs.Ops.{copy_runs, null_runs, address_runs, constant_runs, label_comes, jumps, branch_on}
-use Rattle.ec_lower_code.proofs.Ops.{branch_off, unary_runs, conversion_runs, binary_runs, binary_above, test_runs, branches}
+use Rattle.ec_lower_code.proofs.Ops.{branch_off, unary_runs, conversion_runs, binary_runs, binary_above, test_runs}
 use Rattle.ec_lower_code.proofs.Ops.{read_runs, write_runs}
 use Rattle.ec_lower_code.proofs.Pays.{simple_pays, unary_pays, binary_pays, conversion_pays, not_pays, and_pays, choice_pays}
+use Rattle.ec_lower_code.proofs.Pays.{branch_cost, branch_most, not_leads, both_lead}
 use Rattle.ec_lower_code.proofs.Places.{Root, in_object, at_pointer, root, load_paid, store_paid, settle_words, place_words}
 use Rattle.ec_lower_code.proofs.Places.{numbers_paid, step_paid, moving_paid, stepping_paid}
 use Rattle.ec_lower_code.proofs.Values.{moved_offset}
@@ -70,9 +74,9 @@ use Rattle.ec_lower_code.proofs.PortNodes.{access_runs, group_runs}
 use Rattle.ec_lower_code.proofs.PortRuns.{IsHeld, held_kept}
 use Rattle.ec_lower_code.proofs.Tables.{port_operated, group_pairs}
 use Rattle.ec_lower_code.proofs.Scene.{World, ports, homes, set, calls_to, spot, law, apart, AreHeld, Scene}
-use Rattle.ec_lower_code.proofs.Shown.{shown, held_of, Match}
+use Rattle.ec_lower_code.proofs.Shown.{shown, held_of, Match, Stopped}
 use Rattle.ec_lower_code.proofs.Steps.{Target, at, Stands, behind, Spot, around, here, Comes, Runs, stays, after, fewer, strengthened}
-use Rattle.ec_lower_code.proofs.Steps.{bind, onward, credited, spent_on, less}
+use Rattle.ec_lower_code.proofs.Steps.{bind, onward, credited, spent_on, less, execs, comes_on}
 
 -- ---- types
 
@@ -337,6 +341,13 @@ affirmed : (c : Bool) → chosen true c ≡ c
 affirmed true = refl
 affirmed false = refl
 
+-- where a branch goes on to
+abbrev pub led : Branch → Bool → (away rest : List PlainIr) → List PlainIr
+led (where_zero to) true away rest = rest
+led (where_zero to) false away rest = away
+led (where_not to past) true away rest = away
+led (where_not to past) false away rest = rest
+
 module _ (wd : World) (sc : Scene wd) where
   abbrev pub W : Spot
   W = spot wd sc.code sc.stack
@@ -434,26 +445,6 @@ module _ (wd : World) (sc : Scene wd) where
   truth_off n t d e b h ty l s u rest le m same = past_end n (l + 1) (off_code h ty l t rest) rest u (HasValue W ty t d b)
       (got (Number (truth (not h))) s) (constant_runs W n t d e b ty (truth (not h)) s u (label (l + 1) ∷ rest) le m same)
 
-  -- a branch, then the truth value, before which a label may stand
-  settled : (h c : Bool) (n t d f e : ℕ) (b : Temps) (ty aty : PlainType) (l : ℕ) (s : State) (u : Mach) (mid rest : List PlainIr)
-      → ((v : Mach) → Comes W (here W mid) v (at (here W (truth_code h ty l t rest))) v) → Stands sc.code (truth_code h ty l t rest)
-      → find l sc.code ≡ Some (off_code h ty l t rest) → branch_zero_words (scalar_size aty) + f ≤ e → 5 * scalar_size ty + (d + 5) ≤ f
-      → HasTest W aty t e b c s u
-      → Goes n (branch_zero (temp t aty) l ∷ mid) u (on_to rest) (HasValue W ty t d b) (got (Number (truth (chosen h c))) s)
-  settled h true n t d f e b ty aty l s u mid rest leads stands other le lf r =
-      let v : Mach = machine u.temps (worked (op_steps (branch_zero (temp t aty) l)) u.state) in
-      after W (on_to rest) (HasValue W ty t d b) n (here W (branch_zero (temp t aty) l ∷ mid)) (here W mid) u v (got (Number (truth h)) s)
-      (branch_on W aty t l mid u r.tested r.value r.zero)
-      (after W (on_to rest) (HasValue W ty t d b) n (here W mid) (here W (truth_code h ty l t rest)) v v (got (Number (truth h)) s)
-      (leads v)
-      (truth_on n t d f b h ty l s v rest stands lf (spent_on (homes wd) e f (branch_zero (temp t aty) l) u.temps s u le r.match) r.same))
-  settled h false n t d f e b ty aty l s u mid rest leads stands other le lf r =
-      let v : Mach = machine u.temps (worked (op_steps (branch_zero (temp t aty) l)) u.state) in
-      after W (on_to rest) (HasValue W ty t d b) n (here W (branch_zero (temp t aty) l ∷ mid)) (here W (off_code h ty l t rest)) u v
-      (got (Number (truth (not h))) s) (branch_off W aty t l mid (off_code h ty l t rest) u r.tested other r.value r.zero)
-      (truth_off n t d f b h ty l s v rest (omega (arith, lf)) (spent_on (homes wd) e f (branch_zero (temp t aty) l) u.temps s u le r.match)
-      r.same)
-
   -- a condition, from its value
   pub tests : (n t d : ℕ) (b : Temps) (a : PlainExpr) (s : State) (p rest : List PlainIr) (m : Mach) → IsScalar (type_of_expr a)
       → Goes n p m (on_to rest) (Has (type_of_expr a) t d b) (value a s) → Goes n p m (on_to rest) (Tests (type_of_expr a) t d b)
@@ -470,6 +461,325 @@ module _ (wd : World) (sc : Scene wd) where
       told_test x s1 u h (Ok c) f =
           let z = test_runs W n t d b (type_of_expr a) x s1 u rest i h.typed h.has (Ok c) f in
           (z.0, record { test = z.1; state = h.state }, z.2)
+
+  -- ---- branches on conditions
+
+  -- before a branch of w words, which leads to `to`: whoever has these words beside what is here comes there
+  pub record Leads (t d w : ℕ) (b : Temps) (to : List PlainIr) (s : State) (p : List PlainIr) (u : Mach) : Type 0 where
+    pub match : Match (homes wd) (around W) d s u
+    pub same : Below W t b u
+    pub state : IsTypedState wd.program s
+    pub comes : (s1 : State) (e : ℕ) → ((x : ℕ) → Match (homes wd) (around W) (d + x) s u → Match (homes wd) (around W) (e + w + x) s1 u)
+        → (v : Mach) × Match (homes wd) (around W) e s1 v × Below W t b v × Comes W (here W p) u (at (here W to)) v
+
+  -- what the operations of a condition do, up to the branch that decides
+  abbrev pub Branches : ℕ → List PlainIr → Mach → Branch → (away rest : List PlainIr) → (t d w : ℕ) → Temps → Outcome Bool → Type 0
+  Branches n p m to away rest t d w b (got h s) =
+      (q : List PlainIr) × (u : Mach) × Leads t d w b (led to h away rest) s q u × Comes W (here W p) m (at (here W q)) u
+  Branches n p m to away rest t d w b (more s) = (j : ℕ) × (u : Mach) × (n ≤ j) × Stopped s u × (execs W j (here W p) m ≡ more u.state)
+  Branches n p m to away rest t d w b (undefined point s) = ⊤
+
+  -- over the branch, within what is here
+  pub leads_on : (t d e w : ℕ) (b : Temps) (to : List PlainIr) (s : State) (p : List PlainIr) (u : Mach) → e + w ≤ d
+      → Leads t d w b to s p u
+      → (v : Mach) × Match (homes wd) (around W) e s v × Below W t b v × Comes W (here W p) u (at (here W to)) v
+  leads_on t d e w b to s p u le h = h.comes s e (λ x k. less (homes wd) (d + x) (e + w + x) s u (omega (arith, le)) k)
+
+  -- what is here pays for the branch, or for a part of it
+  less_leads : (t d y v w : ℕ) (b : Temps) (to : List PlainIr) (s : State) (p : List PlainIr) (u : Mach) → v ≤ w + y
+      → Leads t (d + y) v b to s p u → Leads t d w b to s p u
+  less_leads t d y v w b to s p u le h = record {
+    match = less (homes wd) (d + y) d s u (omega arith) h.match;
+    same = h.same;
+    state = h.state;
+    comes = λ s1 e k. h.comes s1 e (λ x j. less (homes wd) (e + w + (y + x)) (e + v + x) s1 u (omega (arith, le))
+        (k (y + x) (less (homes wd) (d + y + x) (d + (y + x)) s u (omega arith) j)));
+  }
+
+  -- past a label
+  pub label_leads : (t d w l : ℕ) (b : Temps) (to : List PlainIr) (s : State) (p : List PlainIr) (u : Mach)
+      → Leads t d w b (label l ∷ to) s p u → Leads t d w b to s p u
+  label_leads t d w l b to s p u h = record {
+    match = h.match;
+    same = h.same;
+    state = h.state;
+    comes = λ s1 e k.
+        let g = h.comes s1 e k in
+        (g.0, g.1, g.2, comes_on W (here W p) (here W (label l ∷ to)) u g.0 g.0 (at (here W to)) g.3 (label_comes W l to g.0));
+  }
+
+  opposite_leads : (to : Branch) (l : ℕ) (h : Bool) (t d w : ℕ) (b : Temps) (away rest : List PlainIr) (s : State) (p : List PlainIr)
+      (u : Mach) → Leads t d w b (led (opposite to l) h away rest) s p u → Leads t d w b (led to (not h) away rest) s p u
+  opposite_leads (where_zero to) l true t d w b away rest s p u k = k
+  opposite_leads (where_zero to) l false t d w b away rest s p u k = k
+  opposite_leads (where_not to past) l true t d w b away rest s p u k = k
+  opposite_leads (where_not to past) l false t d w b away rest s p u k = k
+
+  and_end_leads : (to : Branch) (l : ℕ) (h : Bool) (t d w : ℕ) (b : Temps) (away rest : List PlainIr) (s : State) (p : List PlainIr)
+      (u : Mach) → Leads t d w b (led to h away (and_end to l rest)) s p u → Leads t d w b (led to h away rest) s p u
+  and_end_leads (where_zero to) l true t d w b away rest s p u k = k
+  and_end_leads (where_zero to) l false t d w b away rest s p u k = k
+  and_end_leads (where_not to past) l true t d w b away rest s p u k = k
+  and_end_leads (where_not to past) l false t d w b away rest s p u k = label_leads t d w l b rest s p u k
+
+  or_end_leads : (to : Branch) (l : ℕ) (h : Bool) (t d w : ℕ) (b : Temps) (away rest : List PlainIr) (s : State) (p : List PlainIr)
+      (u : Mach) → Leads t d w b (led to h away (or_end to l rest)) s p u → Leads t d w b (led to h away rest) s p u
+  or_end_leads (where_zero to) l true t d w b away rest s p u k = label_leads t d w l b rest s p u k
+  or_end_leads (where_zero to) l false t d w b away rest s p u k = k
+  or_end_leads (where_not to past) l true t d w b away rest s p u k = k
+  or_end_leads (where_not to past) l false t d w b away rest s p u k = k
+
+  -- labels that are found
+  opposite_found : (to : Branch) (l : ℕ) (away : List PlainIr) → find (branch_label to) sc.code ≡ Some away
+      → find (branch_label (opposite to l)) sc.code ≡ Some away
+  opposite_found (where_zero to) l away f = f
+  opposite_found (where_not to past) l away f = f
+
+  zero_found : (to : Branch) (l : ℕ) (away rest : List PlainIr) → find (branch_label to) sc.code ≡ Some away
+      → Stands sc.code (and_end to l rest) → find (zero_label to l) sc.code ≡ Some (led to false away rest)
+  zero_found (where_zero to) l away rest f stands = f
+  zero_found (where_not to past) l away rest f stands = sc.resolves l rest stands
+
+  other_found : (to : Branch) (l : ℕ) (away rest : List PlainIr) → find (branch_label to) sc.code ≡ Some away
+      → Stands sc.code (or_end to l rest) → find (other_label to l) sc.code ≡ Some (led to true away rest)
+  other_found (where_zero to) l away rest f stands = sc.resolves l rest stands
+  other_found (where_not to past) l away rest f stands = f
+
+  -- the branch behind a test
+  tested_leads : (to : Branch) (ty : PlainType) (t d : ℕ) (b : Temps) (h : Bool) (s : State) (u : Mach) (away rest : List PlainIr)
+      → Stands sc.code (branch_to to (temp t ty) rest) → find (branch_label to) sc.code ≡ Some away → Tests ty t d b h s u
+      → Leads t d (branch_cost to (scalar_size ty)) b (led to h away rest) s (branch_to to (temp t ty) rest) u
+  tested_leads (where_zero to) ty t d b true s u away rest stands f r =
+      let i = branch_zero (temp t ty) to in record {
+        match = r.test.match;
+        same = r.test.same;
+        state = r.state;
+        comes = λ s1 e k. (
+          machine u.temps (worked (op_steps i) u.state),
+          spent_on (homes wd) (e + branch_zero_words (scalar_size ty) + 0) e i u.temps s1 u (omega arith)
+              (k 0 (less (homes wd) d (d + 0) s u (omega arith) r.test.match)),
+          r.test.same,
+          branch_on W ty t to rest u r.test.tested r.test.value r.test.zero,
+        );
+      }
+  tested_leads (where_zero to) ty t d b false s u away rest stands f r =
+      let i = branch_zero (temp t ty) to in record {
+        match = r.test.match;
+        same = r.test.same;
+        state = r.state;
+        comes = λ s1 e k. (
+          machine u.temps (worked (op_steps i) u.state),
+          spent_on (homes wd) (e + branch_zero_words (scalar_size ty) + 0) e i u.temps s1 u (omega arith)
+              (k 0 (less (homes wd) d (d + 0) s u (omega arith) r.test.match)),
+          r.test.same,
+          branch_off W ty t to rest away u r.test.tested f r.test.value r.test.zero,
+        );
+      }
+  tested_leads (where_not to past) ty t d b true s u away rest stands f r =
+      let i = branch_zero (temp t ty) past in
+      let u1 : Mach = machine u.temps (worked (op_steps i) u.state) in
+      let u2 : Mach = machine u1.temps (worked (op_steps (jump to)) u1.state) in record {
+        match = r.test.match;
+        same = r.test.same;
+        state = r.state;
+        comes = λ s1 e k. (
+          u2,
+          spent_on (homes wd) (e + 5) e (jump to) u1.temps s1 u1 (omega arith)
+              (spent_on (homes wd) (e + (branch_zero_words (scalar_size ty) + 5) + 0) (e + 5) i u.temps s1 u (omega arith)
+              (k 0 (less (homes wd) d (d + 0) s u (omega arith) r.test.match))),
+          r.test.same,
+          comes_on W (here W (i ∷ jump to ∷ label past ∷ rest)) (here W (jump to ∷ label past ∷ rest)) u u1 u2 (at (here W away))
+              (branch_on W ty t past (jump to ∷ label past ∷ rest) u r.test.tested r.test.value r.test.zero)
+              (jumps W to (label past ∷ rest) away u1 f),
+        );
+      }
+  tested_leads (where_not to past) ty t d b false s u away rest stands f r =
+      let i = branch_zero (temp t ty) past in
+      let other = sc.resolves past rest (behind sc.code _ _ (behind sc.code _ _ stands)) in record {
+        match = r.test.match;
+        same = r.test.same;
+        state = r.state;
+        comes = λ s1 e k. (
+          machine u.temps (worked (op_steps i) u.state),
+          spent_on (homes wd) (e + (branch_zero_words (scalar_size ty) + 5) + 0) e i u.temps s1 u (omega arith)
+              (k 0 (less (homes wd) d (d + 0) s u (omega arith) r.test.match)),
+          r.test.same,
+          branch_off W ty t past (jump to ∷ label past ∷ rest) rest u r.test.tested other r.test.value r.test.zero,
+        );
+      }
+
+  tested_branch : (n : ℕ) (p : List PlainIr) (m : Mach) (to : Branch) (ty : PlainType) (t d : ℕ) (b : Temps) (away rest : List PlainIr)
+      (o : Outcome Bool) → Stands sc.code (branch_to to (temp t ty) rest) → find (branch_label to) sc.code ≡ Some away
+      → Goes n p m (on_to (branch_to to (temp t ty) rest)) (Tests ty t d b) o
+      → Branches n p m to away rest t d (branch_cost to (scalar_size ty)) b o
+  tested_branch n p m to ty t d b away rest (got h s) stands f g =
+      (branch_to to (temp t ty) rest, g.0, tested_leads to ty t d b h s g.0 away rest stands f g.1, g.2)
+  tested_branch n p m to ty t d b away rest (more s) stands f g = g
+  tested_branch n p m to ty t d b away rest (undefined point s) stands f g = tt
+
+  after_branch : (n : ℕ) (p q : List PlainIr) (m u : Mach) (to : Branch) (away rest : List PlainIr) (t d w : ℕ) (b : Temps)
+      (o : Outcome Bool) → Comes W (here W p) m (at (here W q)) u → Branches n q u to away rest t d w b o
+      → Branches n p m to away rest t d w b o
+  after_branch n p q m u to away rest t d w b (got h s) c g =
+      (g.0, g.1, g.2, comes_on W (here W p) (here W q) m u g.1 (at (here W g.0)) c g.3)
+  after_branch n p q m u to away rest t d w b (more s) c g =
+      after W (on_to rest) (λ (h : Bool) (s1 : State) (v : Mach). ⊤) n (here W p) (here W q) m u (more s) c g
+  after_branch n p q m u to away rest t d w b (undefined point s) c g = tt
+
+  -- from a branch on
+  pub branch_then : {B : Type 0} (n : ℕ) (p : List PlainIr) (m : Mach) (to : Branch) (away rest : List PlainIr) (t d w : ℕ) (b : Temps)
+      (o : Outcome Bool) (on : B → Target) (R : B → State → Mach → Type 0) (go : Bool → State → Outcome B)
+      → Branches n p m to away rest t d w b o
+      → ((h : Bool) (s : State) (q : List PlainIr) (u : Mach) → Leads t d w b (led to h away rest) s q u → Goes n q u on R (go h s))
+      → Goes n p m on R (next o go)
+  branch_then n p m to away rest t d w b (got h s) on R go g f =
+      after W on R n (here W p) (here W g.0) m g.1 (go h s) g.3 (f h s g.0 g.1 g.2)
+  branch_then n p m to away rest t d w b (more s) on R go g f = g
+  branch_then n p m to away rest t d w b (undefined point s) on R go g f = tt
+
+  -- on one of two ways
+  pub branch_choose : {B : Type 0} (n : ℕ) (p : List PlainIr) (m : Mach) (to : Branch) (away rest : List PlainIr) (t d e w : ℕ) (b : Temps)
+      (o : Outcome Bool) (on : B → Target) (R : B → State → Mach → Type 0) (x y : State → Outcome B) → e + w ≤ d
+      → Branches n p m to away rest t d w b o
+      → ((s : State) (u : Mach) → IsTypedState wd.program s → Match (homes wd) (around W) e s u → Below W t b u
+      → Goes n (led to true away rest) u on R (x s))
+      → ((s : State) (u : Mach) → IsTypedState wd.program s → Match (homes wd) (around W) e s u → Below W t b u
+      → Goes n (led to false away rest) u on R (y s))
+      → Goes n p m on R (next o (λ h s. choose h x y s))
+  branch_choose n p m to away rest t d e w b o on R x y le g f1 f2 =
+      branch_then n p m to away rest t d w b o on R (λ h s. choose h x y s) g (λ h s q u k. either_way h s q u k)
+    where
+      either_way : (h : Bool) (s : State) (q : List PlainIr) (u : Mach) → Leads t d w b (led to h away rest) s q u
+          → Goes n q u on R (choose h x y s)
+      either_way true s q u k =
+          let c = leads_on t d e w b (led to true away rest) s q u le k in
+          after W on R n (here W q) (here W (led to true away rest)) u c.0 (x s) c.3 (f1 s c.0 k.state c.1 c.2)
+      either_way false s q u k =
+          let c = leads_on t d e w b (led to false away rest) s q u le k in
+          after W on R n (here W q) (here W (led to false away rest)) u c.0 (y s) c.3 (f2 s c.0 k.state c.1 c.2)
+
+  -- a branch seen as another one
+  branch_as : (n : ℕ) (p : List PlainIr) (m : Mach) (to1 to : Branch) (away1 rest1 away rest : List PlainIr) (t d1 w1 d w : ℕ) (b : Temps)
+      (o : Outcome Bool) → Branches n p m to1 away1 rest1 t d1 w1 b o
+      → ((h : Bool) (s : State) (q : List PlainIr) (u : Mach) → Leads t d1 w1 b (led to1 h away1 rest1) s q u
+      → Leads t d w b (led to h away rest) s q u) → Branches n p m to away rest t d w b o
+  branch_as n p m to1 to away1 rest1 away rest t d1 w1 d w b (got h s) g f = (g.0, g.1, f h s g.0 g.1 g.2, g.3)
+  branch_as n p m to1 to away1 rest1 away rest t d1 w1 d w b (more s) g f = g
+  branch_as n p m to1 to away1 rest1 away rest t d1 w1 d w b (undefined point s) g f = tt
+
+  -- `!`
+  not_branch : (n : ℕ) (p : List PlainIr) (m : Mach) (to : Branch) (l : ℕ) (away rest : List PlainIr) (t d row v w : ℕ) (b : Temps)
+      (o : Outcome Bool) → v ≤ w + row → Branches n p m (opposite to l) away rest t (d + row) v b o
+      → Branches n p m to away rest t d w b (next o (λ h s. got (not h) s))
+  not_branch n p m to l away rest t d row v w b (got h s) le g = (
+    g.0,
+    g.1,
+    less_leads t d row v w b (led to (not h) away rest) s g.0 g.1 le
+        (opposite_leads to l h t (d + row) v b away rest s g.0 g.1 g.2),
+    g.3,
+  )
+  not_branch n p m to l away rest t d row v w b (more s) le g = g
+  not_branch n p m to l away rest t d row v w b (undefined point s) le g = tt
+
+  -- `&&`: the second operand, where the first is not 0
+  and_branch : (n : ℕ) (p : List PlainIr) (m : Mach) (to : Branch) (z l : ℕ) (away next_code rest : List PlainIr) (t d row v y x w : ℕ)
+      (b : Temps) (o : Outcome Bool) (f : State → Outcome Bool) → y + v ≤ row → x ≤ w + y
+      → Branches n p m (where_zero z) (led to false away rest) next_code t (d + row) v b o
+      → ((s : State) (u : Mach) → IsTypedState wd.program s → Match (homes wd) (around W) (d + y) s u → Below W t b u
+      → Branches n next_code u to away (and_end to l rest) t (d + y) x b (f s))
+      → Branches n p m to away rest t d w b (next o (λ h s. choose h f (λ s1. got false s1) s))
+  and_branch n p m to z l away next_code rest t d row v y x w b (got true s) f le lx g second =
+      let c = leads_on t (d + row) (d + y) v b next_code s g.0 g.1 (omega (arith, le)) g.2 in
+      after_branch n p g.0 m g.1 to away rest t d w b (f s) g.3 (after_branch n g.0 next_code g.1 c.0 to away rest t d w b (f s) c.3
+      (branch_as n next_code c.0 to to away (and_end to l rest) away rest t (d + y) x d w b (f s)
+      (second s c.0 g.2.state c.1 c.2)
+      (λ h s1 q u k. less_leads t d y x w b (led to h away rest) s1 q u lx (and_end_leads to l h t (d + y) x b away rest s1 q u k))))
+  and_branch n p m to z l away next_code rest t d row v y x w b (got false s) f le lx g second =
+      (g.0, g.1, less_leads t d row v w b (led to false away rest) s g.0 g.1 (omega (arith, le)) g.2, g.3)
+  and_branch n p m to z l away next_code rest t d row v y x w b (more s) f le lx g second = g
+  and_branch n p m to z l away next_code rest t d row v y x w b (undefined point s) f le lx g second = tt
+
+  -- `||`: where the first is 0
+  or_branch : (n : ℕ) (p : List PlainIr) (m : Mach) (to : Branch) (z past l : ℕ) (away next_code rest : List PlainIr) (t d row v y x w : ℕ)
+      (b : Temps) (o : Outcome Bool) (f : State → Outcome Bool) → y + v ≤ row → x ≤ w + y
+      → Branches n p m (where_not z past) (led to true away rest) next_code t (d + row) v b o
+      → ((s : State) (u : Mach) → IsTypedState wd.program s → Match (homes wd) (around W) (d + y) s u → Below W t b u
+      → Branches n next_code u to away (or_end to l rest) t (d + y) x b (f s))
+      → Branches n p m to away rest t d w b (next o (λ h s. choose h (λ s1. got true s1) f s))
+  or_branch n p m to z past l away next_code rest t d row v y x w b (got true s) f le lx g second =
+      (g.0, g.1, less_leads t d row v w b (led to true away rest) s g.0 g.1 (omega (arith, le)) g.2, g.3)
+  or_branch n p m to z past l away next_code rest t d row v y x w b (got false s) f le lx g second =
+      let c = leads_on t (d + row) (d + y) v b next_code s g.0 g.1 (omega (arith, le)) g.2 in
+      after_branch n p g.0 m g.1 to away rest t d w b (f s) g.3 (after_branch n g.0 next_code g.1 c.0 to away rest t d w b (f s) c.3
+      (branch_as n next_code c.0 to to away (or_end to l rest) away rest t (d + y) x d w b (f s)
+      (second s c.0 g.2.state c.1 c.2)
+      (λ h s1 q u k. less_leads t d y x w b (led to h away rest) s1 q u lx (or_end_leads to l h t (d + y) x b away rest s1 q u k))))
+  or_branch n p m to z past l away next_code rest t d row v y x w b (more s) f le lx g second = g
+  or_branch n p m to z past l away next_code rest t d row v y x w b (undefined point s) f le lx g second = tt
+
+  -- the truth values of `!`, `&&` and `||` as conditions
+  not_condition : (e : PlainExpr) (o : Outcome Bool)
+      → condition (set wd) e (next o (λ h s. got (Number (truth (not h))) s)) ≡ next o (λ h s. got (not h) s)
+  not_condition e (got true s) = refl
+  not_condition e (got false s) = refl
+  not_condition e (more s) = refl
+  not_condition e (undefined point s) = refl
+
+  truth_condition : (e : PlainExpr) (o : Outcome Bool) → condition (set wd) e (truth_value o) ≡ o
+  truth_condition e (got true s) = refl
+  truth_condition e (got false s) = refl
+  truth_condition e (more s) = refl
+  truth_condition e (undefined point s) = refl
+
+  and_condition : (e : PlainExpr) (o : Outcome Bool) (f : State → Outcome Bool)
+      → condition (set wd) e (next o (λ h s. choose h (λ s1. truth_value (f s1)) (λ s1. got (Number (truth false)) s1) s))
+      ≡ next o (λ h s. choose h f (λ s1. got false s1) s)
+  and_condition e (got true s) f = truth_condition e (f s)
+  and_condition e (got false s) f = refl
+  and_condition e (more s) f = refl
+  and_condition e (undefined point s) f = refl
+
+  or_condition : (e : PlainExpr) (o : Outcome Bool) (f : State → Outcome Bool)
+      → condition (set wd) e (next o (λ h s. choose h (λ s1. got (Number (truth true)) s1) (λ s1. truth_value (f s1)) s))
+      ≡ next o (λ h s. choose h (λ s1. got true s1) f s)
+  or_condition e (got true s) f = refl
+  or_condition e (got false s) f = truth_condition e (f s)
+  or_condition e (more s) f = refl
+  or_condition e (undefined point s) f = refl
+
+  -- a branch, then the truth value
+  settled : (h c : Bool) (n t d e w : ℕ) (b : Temps) (ty : PlainType) (l : ℕ) (s : State) (p : List PlainIr) (u : Mach)
+      (rest : List PlainIr) → Stands sc.code (truth_code h ty l t rest) → 5 * scalar_size ty + (d + 5) + w ≤ e
+      → Leads t e w b (led (where_zero l) c (off_code h ty l t rest) (truth_code h ty l t rest)) s p u
+      → Goes n p u (on_to rest) (HasValue W ty t d b) (got (Number (truth (chosen h c))) s)
+  settled h true n t d e w b ty l s p u rest stands le k =
+      let f = 5 * scalar_size ty + (d + 5) in
+      let g = leads_on t e f w b (truth_code h ty l t rest) s p u le k in
+      after W (on_to rest) (HasValue W ty t d b) n (here W p) (here W (truth_code h ty l t rest)) u g.0 (got (Number (truth h)) s) g.3
+      (truth_on n t d f b h ty l s g.0 rest stands (omega arith) g.1 g.2)
+  settled h false n t d e w b ty l s p u rest stands le k =
+      let f = 5 * scalar_size ty + (d + 5) in
+      let g = leads_on t e f w b (off_code h ty l t rest) s p u le k in
+      after W (on_to rest) (HasValue W ty t d b) n (here W p) (here W (off_code h ty l t rest)) u g.0 (got (Number (truth (not h))) s) g.3
+      (truth_off n t d f b h ty l s g.0 rest (omega arith) g.1 g.2)
+
+  -- the second operand of `&&` and `||`, and the truth value
+  second_value : (n : ℕ) (p : List PlainIr) (m : Mach) (t d e w : ℕ) (b : Temps) (ty : PlainType) (l : ℕ) (mid rest : List PlainIr)
+      (o : Outcome Bool) → Stands sc.code (truth_code true ty l t rest) → 5 * scalar_size ty + (d + 5) + w ≤ e
+      → ((h : Bool) (s : State) (q : List PlainIr) (u : Mach) → Leads t e w b (led (where_zero l) h (off_code true ty l t rest) mid) s q u
+      → Leads t e w b (led (where_zero l) h (off_code true ty l t rest) (truth_code true ty l t rest)) s q u)
+      → Branches n p m (where_zero l) (off_code true ty l t rest) mid t e w b o
+      → Goes n p m (on_to rest) (HasValue W ty t d b) (truth_value o)
+  second_value n p m t d e w b ty l mid rest o stands le f g =
+      branch_then n p m (where_zero l) (off_code true ty l t rest) mid t e w b o (on_to rest) (HasValue W ty t d b)
+      (λ h s. got (Number (truth h)) s) g
+      (λ h s q u k. subst (λ (z : Bool). Goes n q u (on_to rest) (HasValue W ty t d b) (got (Number (truth z)) s)) (affirmed h)
+      (settled true h n t d e w b ty l s q u rest stands le (f h s q u k)))
+
+  past_mid : (h : Bool) (k l t e w : ℕ) (b : Temps) (away rest : List PlainIr) (s : State) (q : List PlainIr) (u : Mach)
+      → Leads t e w b (led (where_zero l) h away (label k ∷ rest)) s q u → Leads t e w b (led (where_zero l) h away rest) s q u
+  past_mid true k l t e w b away rest s q u g = label_leads t e w k b rest s q u g
+  past_mid false k l t e w b away rest s q u g = g
 
   abbrev Row : PlainType → PlainNode → ℕ
   Row ty node = node_words (plain_table wd.io) ty node
@@ -1056,6 +1366,62 @@ module _ (wd : World) (sc : Scene wd) where
               (z.1.same v (omega arith) ∙ k.has.value tp.0) (z.1.value (inr (inl refl)))
               (λ i lt. z.1.same i (omega (arith, lt)) ∙ k.has.same i lt)))
 
+  -- ---- values that nobody reads
+
+  -- what an expression leaves beside its value
+  pub record Leaves (t d : ℕ) (b : Temps) (v : Value) (s : State) (u : Mach) : Type 0 where
+    pub match : Match (homes wd) (around W) d s u
+    pub same : Below W t b u
+    pub state : IsTypedState wd.program s
+
+  unread : (n : ℕ) (p rest : List PlainIr) (m : Mach) (ty : PlainType) (t d : ℕ) (b : Temps) (o : Outcome Value)
+      → Goes n p m (on_to rest) (Has ty t d b) o → Goes n p m (on_to rest) (Leaves t d b) o
+  unread n p rest m ty t d b o g =
+      strengthened W (on_to rest) (Has ty t d b) (Leaves t d b) n (here W p) m o
+      (λ v s u is h. record { match = h.has.match; same = h.has.same; state = h.state }) g
+
+  -- outcomes with one value in place of all
+  abbrev some_value : Outcome Value → Outcome Value
+  some_value o = next o (λ v s. got (Pointer None) s)
+
+  to_some : (n : ℕ) (p rest : List PlainIr) (m : Mach) (t d : ℕ) (b : Temps) (o : Outcome Value) → Goes n p m (on_to rest) (Leaves t d b) o
+      → Goes n p m (on_to rest) (Leaves t d b) (some_value o)
+  to_some n p rest m t d b (got v s) g = (g.0, record { match = g.1.match; same = g.1.same; state = g.1.state }, g.2)
+  to_some n p rest m t d b (more s) g = g
+  to_some n p rest m t d b (undefined point s) g = tt
+
+  from_some : (n : ℕ) (p rest : List PlainIr) (m : Mach) (t d : ℕ) (b : Temps) (o : Outcome Value)
+      → Goes n p m (on_to rest) (Leaves t d b) (some_value o) → Goes n p m (on_to rest) (Leaves t d b) o
+  from_some n p rest m t d b (got v s) g = (g.0, record { match = g.1.match; same = g.1.same; state = g.1.state }, g.2)
+  from_some n p rest m t d b (more s) g = g
+  from_some n p rest m t d b (undefined point s) g = tt
+
+  go_alike : {A : Type 0} (o : Outcome A) (f g : A → State → Outcome Value)
+      → ((a : A) (s : State) → some_value (f a s) ≡ some_value (g a s)) → some_value (next o f) ≡ some_value (next o g)
+  go_alike (got a s) f g h = h a s
+  go_alike (more s) f g h = refl
+  go_alike (undefined point s) f g h = refl
+
+  -- a prefix step does what the postfix one does
+  steps_alike : (ty : PlainType) (mode : Mode) (up prefix : Bool) (q : PlainPlace) (s : State)
+      → some_value (node_value (set wd) (calls_to wd sc.depth) ty mode (step up true q) s)
+      ≡ some_value (node_value (set wd) (calls_to wd sc.depth) ty mode (step up prefix q) s)
+  steps_alike ty mode up prefix q s =
+      go_alike (place_at q s) _ _ (λ p0 s1. go_alike (read wd.program (accessed (set wd) ty q p0 s1) s1) _ _
+      (λ old s2. go_alike (given (compound_result (step_operator up) mode mode (operand_of wd.program ty old s2)
+      (operand_of wd.program int (Number (pos 1)) s2)) s2) _ _
+      (λ v s3. go_alike (write (accessed (set wd) ty q p0 s3) v s3) _ _ (λ z s4. refl))))
+
+  unread_step : (n : ℕ) (ty : PlainType) (mode : Mode) (up prefix : Bool) (q : PlainPlace) (p rest : List PlainIr) (m : Mach) (t d : ℕ)
+      (b : Temps) (s : State)
+      → Goes n p m (on_to rest) (Has ty t d b) (node_value (set wd) (calls_to wd sc.depth) ty mode (step up true q) s)
+      → Goes n p m (on_to rest) (Leaves t d b) (node_value (set wd) (calls_to wd sc.depth) ty mode (step up prefix q) s)
+  unread_step n ty mode up prefix q p rest m t d b s g =
+      from_some n p rest m t d b (node_value (set wd) (calls_to wd sc.depth) ty mode (step up prefix q) s)
+      (subst (λ (z : Outcome Value). Goes n p m (on_to rest) (Leaves t d b) z) (steps_alike ty mode up prefix q s)
+      (to_some n p rest m t d b (node_value (set wd) (calls_to wd sc.depth) ty mode (step up true q) s)
+      (unread n p rest m ty t d b (node_value (set wd) (calls_to wd sc.depth) ty mode (step up true q) s) g)))
+
   -- ---- operands that may be absent
 
   -- the value of an operand
@@ -1176,123 +1542,98 @@ module _ (wd : World) (sc : Scene wd) where
         stands h same
     node_runs n ty mode (logical_not a) l t d b s m rest le p k tp v st stands h same =
         let e = d + Row ty (logical_not a) in
-        let i = branch_zero (temp t (type_of_expr a)) l in
         let tail = truth_code false ty l t rest in
+        let off = off_code false ty l t rest in
+        let w = branch_zero_words (scalar_size (type_of_expr a)) in
         let pays = not_pays (scalar_size ty) (scalar_size (type_of_expr a)) (ap scalar_size tp.1) in
-        let inner = expr_behind wd.program (ports wd) sc.code a (l + 2) t (i ∷ tail) stands in
-        let other = sc.resolves l (off_code false ty l t rest) (behind sc.code _ _ (behind sc.code _ _ (behind sc.code _ _ inner))) in
-        bind W n (here W (expr_code wd.program (ports wd) a (l + 2) t (i ∷ tail))) m (on_to (i ∷ tail)) (Tests (type_of_expr a) t e b)
-        (on_to rest) (HasValue W ty t d b) (here W (i ∷ tail)) (condition (set wd) a (value a s)) _ (λ z. refl)
-        (tests n t e b a s (expr_code wd.program (ports wd) a (l + 2) t (i ∷ tail)) (i ∷ tail) m tp.0
-        (expr_runs n a (l + 2) t e b s m (i ∷ tail) le p v st stands h same))
-        (λ c s1 u r. subst (λ (z : Bool). Goes n (i ∷ tail) u (on_to rest) (HasValue W ty t d b) (got (Number (truth z)) s1)) (denied c)
-        (settled false c n t d (d + (5 * scalar_size ty + 5)) e b ty (type_of_expr a) l s1 u tail rest (λ z. stays W (here W tail) z)
-        (behind sc.code _ _ inner) other (omega (arith, pays)) (omega arith) r.test))
+        let inner = branch_behind wd.program (ports wd) sc.code a (l + 2) t (where_zero l) tail stands in
+        let other = sc.resolves l off (behind sc.code _ _ (behind sc.code _ _ inner)) in
+        branch_then n (branch_code wd.program (ports wd) a (l + 2) t (where_zero l) tail) m (where_zero l) off tail t e w b
+        (condition (set wd) a (value a s)) (on_to rest) (HasValue W ty t d b) (λ c s1. got (Number (truth (not c))) s1)
+        (branch_runs n a (l + 2) t (where_zero l) e b s m off tail le p v tp.0 st stands other h same)
+        (λ c s1 q u r. subst (λ (z : Bool). Goes n q u (on_to rest) (HasValue W ty t d b) (got (Number (truth z)) s1)) (denied c)
+        (settled false c n t d e w b ty l s1 q u rest inner (omega (arith, pays)) r))
     node_runs n ty mode (logical_and a c) l t d b s m rest le p k tp v st stands h same =
         let e = d + Row ty (logical_and a c) in
-        let i = branch_zero (temp t (type_of_expr a)) l in
-        let j = branch_zero (temp t (type_of_expr c)) l in
         let tail = truth_code true ty l t rest in
-        let next_code = expr_code wd.program (ports wd) c (l + 2 + expr_labels a) t (j ∷ tail) in
+        let off = off_code true ty l t rest in
+        let wa = branch_zero_words (scalar_size (type_of_expr a)) in
+        let wc = branch_zero_words (scalar_size (type_of_expr c)) in
+        let g = 5 * scalar_size ty + (d + 5) + wc in
+        let next_code = branch_code wd.program (ports wd) c (l + 2 + expr_labels a) t (where_zero l) tail in
         let pays = and_pays (scalar_size ty) (scalar_size (type_of_expr a)) (scalar_size (type_of_expr c)) (ap scalar_size tp.2) in
-        let first = behind sc.code _ _ (expr_behind wd.program (ports wd) sc.code a (l + 2) t (i ∷ next_code) stands) in
-        let inner = behind sc.code _ _ (expr_behind wd.program (ports wd) sc.code c (l + 2 + expr_labels a) t (j ∷ tail) first) in
-        let other = sc.resolves l (off_code true ty l t rest) (behind sc.code _ _ (behind sc.code _ _ inner)) in
-        let f = d + (5 * scalar_size ty + 5) in
-        let g = f + branch_zero_words (scalar_size (type_of_expr c)) in
-        bind W n (here W (expr_code wd.program (ports wd) a (l + 2) t (i ∷ next_code))) m (on_to (i ∷ next_code))
-        (Tests (type_of_expr a) t e b) (on_to rest) (HasValue W ty t d b) (here W (i ∷ next_code)) (condition (set wd) a (value a s)) _
-        (λ z. refl)
-        (tests n t e b a s (expr_code wd.program (ports wd) a (l + 2) t (i ∷ next_code)) (i ∷ next_code) m tp.0
-        (expr_runs n a (l + 2) t e b s m (i ∷ next_code) le p.0 v.0 st stands h same))
-        (λ x s1 u r. branches W n t g e b (type_of_expr a) l next_code (off_code true ty l t rest) (on_to rest) (HasValue W ty t d b) x
-        (λ s2. truth_value (condition (set wd) c (value c s2))) (λ s2. got (Number (truth false)) s2) s1 u other
-        (omega (arith, pays)) r.test
-        (λ u1 h1 below. bind W n (here W next_code) u1 (on_to (j ∷ tail)) (Tests (type_of_expr c) t g b) (on_to rest) (HasValue W ty t d b)
-        (here W (j ∷ tail)) (condition (set wd) c (value c s1)) _ (λ z. refl)
-        (tests n t g b c s1 next_code (j ∷ tail) u1 tp.1 (expr_runs n c (l + 2 + expr_labels a) t g b s1 u1 (j ∷ tail) le p.1 v.1 r.state
-        first h1 below))
-        (λ y s2 u2 q. subst (λ (z : Bool). Goes n (j ∷ tail) u2 (on_to rest) (HasValue W ty t d b) (got (Number (truth z)) s2)) (affirmed y)
-        (settled true y n t d f g b ty (type_of_expr c) l s2 u2 tail rest (λ z. stays W (here W tail) z) inner other (omega arith)
-        (omega arith) q.test)))
-        (λ u1 h1 below. truth_off n t d g b true ty l s1 u1 rest (omega arith) h1 below))
+        let first = branch_behind wd.program (ports wd) sc.code a (l + 2) t (where_zero l) next_code stands in
+        let inner = branch_behind wd.program (ports wd) sc.code c (l + 2 + expr_labels a) t (where_zero l) tail first in
+        let other = sc.resolves l off (behind sc.code _ _ (behind sc.code _ _ inner)) in
+        branch_choose n (branch_code wd.program (ports wd) a (l + 2) t (where_zero l) next_code) m (where_zero l) off next_code t e g wa b
+        (condition (set wd) a (value a s)) (on_to rest) (HasValue W ty t d b) (λ s1. truth_value (condition (set wd) c (value c s1)))
+        (λ s1. got (Number (truth false)) s1) (omega (arith, pays))
+        (branch_runs n a (l + 2) t (where_zero l) e b s m off next_code le p.0 v.0 tp.0 st stands other h same)
+        (λ s1 u st1 h1 below. second_value n next_code u t d g wc b ty l tail rest (condition (set wd) c (value c s1)) inner (omega arith)
+        (λ x s2 q u2 r. r)
+        (branch_runs n c (l + 2 + expr_labels a) t (where_zero l) g b s1 u off tail le p.1 v.1 tp.1 st1 first other h1 below))
+        (λ s1 u st1 h1 below. truth_off n t d g b true ty l s1 u rest (omega arith) h1 below)
     node_runs n ty mode (logical_or a c) l t d b s m rest le p k tp v st stands h same =
         let e = d + Row ty (logical_or a c) in
-        let i = branch_zero (temp t (type_of_expr a)) (l + 2) in
-        let j = branch_zero (temp t (type_of_expr c)) l in
         let tail = truth_code true ty l t rest in
-        let next_code = expr_code wd.program (ports wd) c (l + 4 + expr_labels a) t (j ∷ label (l + 3) ∷ tail) in
-        let skip_code : List PlainIr = jump (l + 3) ∷ label (l + 2) ∷ next_code in
+        let off = off_code true ty l t rest in
+        let mid : List PlainIr = label (l + 3) ∷ tail in
+        let wa = branch_zero_words (scalar_size (type_of_expr a)) + 5 in
+        let wc = branch_zero_words (scalar_size (type_of_expr c)) in
+        let g = 5 * scalar_size ty + (d + 5) + wc in
+        let next_code = branch_code wd.program (ports wd) c (l + 4 + expr_labels a) t (where_zero l) mid in
         let pays = and_pays (scalar_size ty) (scalar_size (type_of_expr a)) (scalar_size (type_of_expr c)) (ap scalar_size tp.2) in
-        let first = behind sc.code _ _ (behind sc.code _ _ (expr_behind wd.program (ports wd) sc.code a (l + 4) t
-        (i ∷ skip_code) stands)) in
-        let next_at = behind sc.code _ _ first in
-        let inner = behind sc.code _ _ (expr_behind wd.program (ports wd) sc.code c (l + 4 + expr_labels a) t (j ∷ label (l + 3)
-        ∷ tail) next_at) in
+        let first = branch_behind wd.program (ports wd) sc.code a (l + 4) t (where_not (l + 3) (l + 2)) next_code stands in
+        let inner = branch_behind wd.program (ports wd) sc.code c (l + 4 + expr_labels a) t (where_zero l) mid first in
         let tail_at = behind sc.code _ _ inner in
-        let other = sc.resolves l (off_code true ty l t rest) (behind sc.code _ _ (behind sc.code _ _ tail_at)) in
-        let f = d + (5 * scalar_size ty + 5) in
-        let g = d + (branch_zero_words (scalar_size (type_of_expr c)) + (5 * scalar_size ty + 10)) in
-        bind W n (here W (expr_code wd.program (ports wd) a (l + 4) t (i ∷ skip_code))) m (on_to (i ∷ skip_code))
-        (Tests (type_of_expr a) t e b) (on_to rest) (HasValue W ty t d b) (here W (i ∷ skip_code)) (condition (set wd) a (value a s)) _
-        (λ z. refl)
-        (tests n t e b a s (expr_code wd.program (ports wd) a (l + 4) t (i ∷ skip_code)) (i ∷ skip_code) m tp.0
-        (expr_runs n a (l + 4) t e b s m (i ∷ skip_code) le p.0 v.0 st stands h same))
-        (λ x s1 u r. branches W n t g e b (type_of_expr a) (l + 2) skip_code next_code (on_to rest) (HasValue W ty t d b) x
-        (λ s2. got (Number (truth true)) s2) (λ s2. truth_value (condition (set wd) c (value c s2))) s1 u
-        (sc.resolves (l + 2) next_code first) (omega (arith, pays)) r.test
-        (λ u1 h1 below. after W (on_to rest) (HasValue W ty t d b) n (here W skip_code) (here W tail) u1 _ (got (Number (truth true)) s1)
-        (jumps W (l + 3) (label (l + 2) ∷ next_code) tail u1 (sc.resolves (l + 3) tail inner))
-        (truth_on n t d f b true ty l s1 (machine u1.temps (worked (op_steps (jump (l + 3))) u1.state)) rest tail_at (omega arith)
-        (spent_on (homes wd) g f (jump (l + 3)) u1.temps s1 u1 (omega arith) h1) below))
-        (λ u1 h1 below. bind W n (here W next_code) u1 (on_to (j ∷ label (l + 3) ∷ tail)) (Tests (type_of_expr c) t g b) (on_to rest)
-        (HasValue W ty t d b) (here W (j ∷ label (l + 3) ∷ tail)) (condition (set wd) c (value c s1)) _ (λ z. refl)
-        (tests n t g b c s1 next_code (j ∷ label (l + 3) ∷ tail) u1 tp.1 (expr_runs n c (l + 4 + expr_labels a) t g b s1 u1
-        (j ∷ label (l + 3) ∷ tail) le p.1 v.1 r.state next_at h1 below))
-        (λ y s2 u2 q. subst (λ (z : Bool). Goes n (j ∷ label (l + 3) ∷ tail) u2 (on_to rest) (HasValue W ty t d b)
-        (got (Number (truth z)) s2)) (affirmed y)
-        (settled true y n t d f g b ty (type_of_expr c) l s2 u2 (label (l + 3) ∷ tail) rest (λ z. label_comes W (l + 3) tail z) tail_at
-        other (omega arith) (omega arith) q.test))))
+        let other = sc.resolves l off (behind sc.code _ _ (behind sc.code _ _ tail_at)) in
+        branch_choose n (branch_code wd.program (ports wd) a (l + 4) t (where_not (l + 3) (l + 2)) next_code) m
+        (where_not (l + 3) (l + 2)) tail next_code t e g wa b
+        (condition (set wd) a (value a s)) (on_to rest) (HasValue W ty t d b) (λ s1. got (Number (truth true)) s1)
+        (λ s1. truth_value (condition (set wd) c (value c s1))) (omega (arith, pays))
+        (branch_runs n a (l + 4) t (where_not (l + 3) (l + 2)) e b s m tail next_code le p.0 v.0 tp.0 st stands
+        (sc.resolves (l + 3) tail inner) h same)
+        (λ s1 u st1 h1 below. truth_on n t d g b true ty l s1 u rest tail_at (omega arith) h1 below)
+        (λ s1 u st1 h1 below. second_value n next_code u t d g wc b ty l mid rest (condition (set wd) c (value c s1)) tail_at (omega arith)
+        (λ x s2 q u2 r. past_mid x (l + 3) l t g wc b off tail s2 q u2 r)
+        (branch_runs n c (l + 4 + expr_labels a) t (where_zero l) g b s1 u off mid le p.1 v.1 tp.1 st1 first other h1 below))
     node_runs n ty mode (conditional c a a2) l t d b s m rest le p k tp v st stands h same =
         let e = d + Row ty (conditional c a a2) in
-        let i = branch_zero (temp t (type_of_expr c)) l in
+        let w = branch_zero_words (scalar_size (type_of_expr c)) in
         let other_code = expr_code wd.program (ports wd) a2 (l + 2 + expr_labels c + expr_labels a) t (label (l + 1) ∷ rest) in
         let then_code = expr_code wd.program (ports wd) a (l + 2 + expr_labels c) t (jump (l + 1) ∷ label l ∷ other_code) in
         let pays = choice_pays (scalar_size ty) (scalar_size (type_of_expr c)) (scalar_size (type_of_expr a))
         (scalar_size (type_of_expr a2)) in
-        let then_at = behind sc.code _ _ (expr_behind wd.program (ports wd) sc.code c (l + 2) t (i ∷ then_code) stands) in
+        let then_at = branch_behind wd.program (ports wd) sc.code c (l + 2) t (where_zero l) then_code stands in
         let then_end = expr_behind wd.program (ports wd) sc.code a (l + 2 + expr_labels c) t (jump (l + 1) ∷ label l ∷ other_code)
         then_at in
         let other_at = behind sc.code _ _ (behind sc.code _ _ then_end) in
         let other = sc.resolves l other_code (behind sc.code _ _ then_end) in
         let end = sc.resolves (l + 1) rest (expr_behind wd.program (ports wd) sc.code a2 (l + 2 + expr_labels c + expr_labels a) t
         (label (l + 1) ∷ rest) other_at) in
-        bind W n (here W (expr_code wd.program (ports wd) c (l + 2) t (i ∷ then_code))) m (on_to (i ∷ then_code))
-        (Tests (type_of_expr c) t e b) (on_to rest) (HasValue W ty t d b) (here W (i ∷ then_code)) (condition (set wd) c (value c s)) _
-        (λ z. refl)
-        (tests n t e b c s (expr_code wd.program (ports wd) c (l + 2) t (i ∷ then_code)) (i ∷ then_code) m tp.0
-        (expr_runs n c (l + 2) t e b s m (i ∷ then_code) le p.0 v.0 st stands h same))
-        (λ x s1 u r. branches W n t (d + 5) e b (type_of_expr c) l then_code other_code (on_to rest) (HasValue W ty t d b) x
-        (λ s2. value a s2) (λ s2. value a2 s2) s1 u other (omega (arith, pays)) r.test
-        (λ u1 h1 below. jump_end n t d (l + 1) b ty then_code (label l ∷ other_code) rest u1 (value a s1) end
+        branch_choose n (branch_code wd.program (ports wd) c (l + 2) t (where_zero l) then_code) m (where_zero l) other_code then_code t e
+        (d + 5) w b (condition (set wd) c (value c s)) (on_to rest) (HasValue W ty t d b) (λ s1. value a s1) (λ s1. value a2 s1)
+        (omega (arith, pays))
+        (branch_runs n c (l + 2) t (where_zero l) e b s m other_code then_code le p.0 v.0 tp.0 st stands other h same)
+        (λ s1 u1 st1 h1 below. jump_end n t d (l + 1) b ty then_code (label l ∷ other_code) rest u1 (value a s1) end
         (as_type ty (type_of_expr a) n then_code u1 (on_to (jump (l + 1) ∷ label l ∷ other_code)) t (d + 5) b (value a s1) tp.2
         (untyped n then_code u1 (on_to (jump (l + 1) ∷ label l ∷ other_code)) (type_of_expr a) t (d + 5) b (value a s1)
-        (expr_runs n a (l + 2 + expr_labels c) t (d + 5) b s1 u1 (jump (l + 1) ∷ label l ∷ other_code) le p.1 v.1 r.state then_at h1
+        (expr_runs n a (l + 2 + expr_labels c) t (d + 5) b s1 u1 (jump (l + 1) ∷ label l ∷ other_code) le p.1 v.1 st1 then_at h1
         below))))
-        (λ u1 h1 below. past_end n (l + 1) other_code rest u1 (HasValue W ty t d b) (value a2 s1)
+        (λ s1 u1 st1 h1 below. past_end n (l + 1) other_code rest u1 (HasValue W ty t d b) (value a2 s1)
         (as_type ty (type_of_expr a2) n other_code u1 (on_to (label (l + 1) ∷ rest)) t d b (value a2 s1) tp.3
         (untyped n other_code u1 (on_to (label (l + 1) ∷ rest)) (type_of_expr a2) t d b (value a2 s1)
-        (expr_runs n a2 (l + 2 + expr_labels c + expr_labels a) t d b s1 u1 (label (l + 1) ∷ rest) le p.2 v.2 r.state other_at
-        (less (homes wd) (d + 5) d s1 u1 (omega arith) h1) below)))))
+        (expr_runs n a2 (l + 2 + expr_labels c + expr_labels a) t d b s1 u1 (label (l + 1) ∷ rest) le p.2 v.2 st1 other_at
+        (less (homes wd) (d + 5) d s1 u1 (omega arith) h1) below))))
     node_runs n ty mode (comma a c) l t d b s m rest le p k tp v st stands h same =
         let next_code = expr_code wd.program (ports wd) c (l + expr_labels a) t rest in
-        bind W n (here W (expr_code wd.program (ports wd) a l t next_code)) m (on_to next_code) (Has (type_of_expr a) t d b) (on_to rest)
+        bind W n (here W (unread_code wd.program (ports wd) a l t next_code)) m (on_to next_code) (Leaves t d b) (on_to rest)
         (HasValue W ty t d b) (here W next_code) (value a s) _ (λ z. refl)
-        (expr_runs n a l t d b s m next_code le p.0 v.0 st stands (less (homes wd) (d + 0) d s m (omega arith) h) same)
+        (unread_runs n a l t d b s m next_code le p.0 v.0 st stands (less (homes wd) (d + 0) d s m (omega arith) h) same)
         (λ x s1 u r. as_type ty (type_of_expr c) n next_code u (on_to rest) t d b (value c s1) tp.2
         (untyped n next_code u (on_to rest) (type_of_expr c) t d b (value c s1)
         (expr_runs n c (l + expr_labels a) t d b s1 u rest le p.1 v.1 r.state
-        (expr_behind wd.program (ports wd) sc.code a l t next_code stands) r.has.match r.has.same)))
+        (unread_behind wd.program (ports wd) sc.code a l t next_code stands) r.match r.same)))
     node_runs n ty mode (call f args) l t d b s m rest le p k tp v st stands h same =
         call_runs n ty mode f args l t d b s m rest le p.0 tp (args_run n args l t (d + Row ty (call f args)) b s m
         (params_code (params_of wd.program f) args t (call_function f (result_temp t ty) ∷ rest)) le p.1 v st stands h same)
@@ -1320,6 +1661,110 @@ module _ (wd : World) (sc : Scene wd) where
         as_type ty void n (node_code wd.program (ports wd) ty mode (group acquire g) l t rest) m (on_to rest) t d b
         (group_effect acquire g (slice_get (ports wd).groups g) s) (sym tp.1)
         (group_runs wd sc.code sc.stack n acquire g (slice_get (ports wd).groups g) t d b s m rest (group_pairs wd.io wd.pairs g) h same)
+
+    pub unread_runs : (n : ℕ) (e : PlainExpr) (l t d : ℕ) (b : Temps) (s : State) (m : Mach) (rest : List PlainIr) → n ≤ wd.n
+        → CallsOfExpr (IsOther wd.program) e → ValidExpr wd.program wd.io sc.f e → IsTypedState wd.program s
+        → Stands sc.code (unread_code wd.program (ports wd) e l t rest) → Match (homes wd) (around W) d s m → Below W t b m
+        → Goes n (unread_code wd.program (ports wd) e l t rest) m (on_to rest) (Leaves t d b) (value e s)
+    unread_runs n (expression ty mode (step up prefix q)) l t d b s m rest le p v st stands h same =
+        let row = Row ty (step up prefix q) in
+        let code = place_code wd.program (ports wd) q l t (stepping_code up true mode ty (site wd.program q t) t rest) in
+        unread_step n ty mode up prefix q code rest m t d b (worked row s)
+        (typed_runs n code m (on_to rest) ty t d b (value (expression ty mode (step up true q)) s)
+        ((law wd).expressions wd.n sc.depth sc.f (expression ty mode (step up true q)) s v st)
+        (step_runs n ty mode up true q l t d b (worked row s) m rest v.1 st
+        (λ next_code. place_runs n q l t (d + row) b (worked row s) m next_code ty le p v.2 v.1.1 st)
+        stands (credited (homes wd) row d s m h) same))
+    unread_runs n (expression ty mode (comma a c)) l t d b s m rest le p v st stands h same =
+        let next_code = unread_code wd.program (ports wd) c (l + expr_labels a) t rest in
+        bind W n (here W (unread_code wd.program (ports wd) a l t next_code)) m (on_to next_code) (Leaves t d b) (on_to rest)
+        (Leaves t d b) (here W next_code) (value a (worked 0 s)) _ (λ z. refl)
+        (unread_runs n a l t d b (worked 0 s) m next_code le p.0 v.2.0 st stands
+        (less (homes wd) (d + 0) d (worked 0 s) m (omega arith) (credited (homes wd) 0 d s m h)) same)
+        (λ x s1 u r. unread_runs n c (l + expr_labels a) t d b s1 u rest le p.1 v.2.1 r.state
+        (unread_behind wd.program (ports wd) sc.code a l t next_code stands) r.match r.same)
+    unread_runs n (expression ty mode node) l t d b s m rest le p v st stands h same =
+        let code = node_code wd.program (ports wd) ty mode node l t rest in
+        unread n code rest m ty t d b (value (expression ty mode node) s)
+        (typed_runs n code m (on_to rest) ty t d b (value (expression ty mode node) s)
+        ((law wd).expressions wd.n sc.depth sc.f (expression ty mode node) s v st)
+        (node_runs n ty mode node l t d b (worked (Row ty node) s) m rest le p v.0 v.1 v.2 st stands
+        (credited (homes wd) (Row ty node) d s m h) same))
+
+    pub branch_runs : (n : ℕ) (e : PlainExpr) (l t : ℕ) (to : Branch) (d : ℕ) (b : Temps) (s : State) (m : Mach)
+        (away rest : List PlainIr) → n ≤ wd.n → CallsOfExpr (IsOther wd.program) e → ValidExpr wd.program wd.io sc.f e
+        → IsScalar (type_of_expr e) → IsTypedState wd.program s → Stands sc.code (branch_code wd.program (ports wd) e l t to rest)
+        → find (branch_label to) sc.code ≡ Some away → Match (homes wd) (around W) d s m → Below W t b m
+        → Branches n (branch_code wd.program (ports wd) e l t to rest) m to away rest t d
+        (branch_cost to (scalar_size (type_of_expr e))) b (condition (set wd) e (value e s))
+    branch_runs n (expression ty mode (logical_not a)) l t to d b s m away rest le p v i st stands f h same =
+        let row = Row ty (logical_not a) in
+        let code = branch_code wd.program (ports wd) a (l + 2) t (opposite to l) rest in
+        let o = condition (set wd) a (value a (worked row s)) in
+        let va = branch_cost (opposite to l) (scalar_size (type_of_expr a)) in
+        let w = branch_cost to (scalar_size ty) in
+        let x = branch_most (opposite to l) (scalar_size (type_of_expr a)) in
+        let y = not_leads (scalar_size ty) (scalar_size (type_of_expr a)) in
+        subst (λ (z : Outcome Bool). Branches n code m to away rest t d w b z) (sym (not_condition (expression ty mode (logical_not a)) o))
+        (not_branch n code m to l away rest t d row va w b o (omega (arith, x, y))
+        (branch_runs n a (l + 2) t (opposite to l) (d + row) b (worked row s) m away rest le p v.2 v.1.0 st stands
+        (opposite_found to l away f) (credited (homes wd) row d s m h) same))
+    branch_runs n (expression ty mode (logical_and a c)) l t to d b s m away rest le p v i st stands f h same =
+        let row = Row ty (logical_and a c) in
+        let z = zero_label to l in
+        let end = and_end to l rest in
+        let next_code = branch_code wd.program (ports wd) c (l + 2 + expr_labels a) t to end in
+        let code = branch_code wd.program (ports wd) a (l + 2) t (where_zero z) next_code in
+        let next_at = branch_behind wd.program (ports wd) sc.code a (l + 2) t (where_zero z) next_code stands in
+        let end_at = branch_behind wd.program (ports wd) sc.code c (l + 2 + expr_labels a) t to end next_at in
+        let o = condition (set wd) a (value a (worked row s)) in
+        let va = branch_zero_words (scalar_size (type_of_expr a)) in
+        let y = branch_zero_words (scalar_size (type_of_expr c)) + 5 in
+        let vc = branch_cost to (scalar_size (type_of_expr c)) in
+        let w = branch_cost to (scalar_size ty) in
+        let g = branch_most to (scalar_size (type_of_expr c)) in
+        let j = both_lead (scalar_size ty) (scalar_size (type_of_expr a)) (scalar_size (type_of_expr c)) in
+        subst (λ (z : Outcome Bool). Branches n code m to away rest t d w b z)
+        (sym (and_condition (expression ty mode (logical_and a c)) o (λ s1. condition (set wd) c (value c s1))))
+        (and_branch n code m to z l away next_code rest t d row va y vc w b o (λ s1. condition (set wd) c (value c s1)) (omega (arith, j))
+        (omega (arith, g))
+        (branch_runs n a (l + 2) t (where_zero z) (d + row) b (worked row s) m (led to false away rest) next_code le p.0 v.2.0 v.1.0 st
+        stands (zero_found to l away rest f end_at) (credited (homes wd) row d s m h) same)
+        (λ s1 u st1 h1 below. branch_runs n c (l + 2 + expr_labels a) t to (d + y) b s1 u away end le p.1 v.2.1 v.1.1 st1 next_at f h1
+        below))
+    branch_runs n (expression ty mode (logical_or a c)) l t to d b s m away rest le p v i st stands f h same =
+        let row = Row ty (logical_or a c) in
+        let z = other_label to l in
+        let end = or_end to l rest in
+        let next_code = branch_code wd.program (ports wd) c (l + 4 + expr_labels a) t to end in
+        let code = branch_code wd.program (ports wd) a (l + 4) t (where_not z (l + 1)) next_code in
+        let next_at = branch_behind wd.program (ports wd) sc.code a (l + 4) t (where_not z (l + 1)) next_code stands in
+        let end_at = branch_behind wd.program (ports wd) sc.code c (l + 4 + expr_labels a) t to end next_at in
+        let o = condition (set wd) a (value a (worked row s)) in
+        let va = branch_zero_words (scalar_size (type_of_expr a)) + 5 in
+        let y = branch_zero_words (scalar_size (type_of_expr c)) + 5 in
+        let vc = branch_cost to (scalar_size (type_of_expr c)) in
+        let w = branch_cost to (scalar_size ty) in
+        let g = branch_most to (scalar_size (type_of_expr c)) in
+        let j = both_lead (scalar_size ty) (scalar_size (type_of_expr a)) (scalar_size (type_of_expr c)) in
+        subst (λ (z : Outcome Bool). Branches n code m to away rest t d w b z)
+        (sym (or_condition (expression ty mode (logical_or a c)) o (λ s1. condition (set wd) c (value c s1))))
+        (or_branch n code m to z (l + 1) l away next_code rest t d row va y vc w b o (λ s1. condition (set wd) c (value c s1))
+        (omega (arith, j)) (omega (arith, g))
+        (branch_runs n a (l + 4) t (where_not z (l + 1)) (d + row) b (worked row s) m (led to true away rest) next_code le p.0 v.2.0 v.1.0
+        st stands (other_found to l away rest f end_at) (credited (homes wd) row d s m h) same)
+        (λ s1 u st1 h1 below. branch_runs n c (l + 4 + expr_labels a) t to (d + y) b s1 u away end le p.1 v.2.1 v.1.1 st1 next_at f h1
+        below))
+    branch_runs n (expression ty mode node) l t to d b s m away rest le p v i st stands f h same =
+        let q = branch_to to (temp t ty) rest in
+        let code = node_code wd.program (ports wd) ty mode node l t q in
+        tested_branch n code m to ty t d b away rest (condition (set wd) (expression ty mode node) (value (expression ty mode node) s))
+        (node_behind wd.program (ports wd) sc.code ty mode node l t q stands) f
+        (tests n t d b (expression ty mode node) s code q m i
+        (typed_runs n code m (on_to q) ty t d b (value (expression ty mode node) s)
+        ((law wd).expressions wd.n sc.depth sc.f (expression ty mode node) s v st)
+        (node_runs n ty mode node l t d b (worked (Row ty node) s) m q le p v.0 v.1 v.2 st stands
+        (credited (homes wd) (Row ty node) d s m h) same)))
 
     place_runs : (n : ℕ) (q : PlainPlace) (l t d : ℕ) (b : Temps) (s : State) (m : Mach) (rest : List PlainIr) (ty : PlainType) → n ≤ wd.n
         → CallsOfPlace (IsOther wd.program) q → ValidPlace wd.program wd.io sc.f q → place_type wd.program q ≡ Some ty

@@ -1,9 +1,9 @@
 -- The words of a function's operations are within the rows of its parts.
 use Rattle.std.proofs.Common.{◌≡◌, ℕ, ◌+◌, ◌*◌, ◌≤◌, Bool, true, false, List, [], ◌∷◌, map, Option, Some, None, ap, arith}
-use Rattle.std.specs.Prelude.{pos, max, length, slice_get, option_map, unwrap_or, if◌then◌else◌}
+use Rattle.std.specs.Prelude.{max, length, slice_get, option_map, unwrap_or, if◌then◌else◌}
 use Rattle.ec_iohw.specs.declared.table.IoTable.{IoTable}
 use Rattle.ec_fx.specs.declared.numbers.Mode.{Mode}
-use Rattle.ec_core.specs.Layout.{scalar_size, PlainLeaf}
+use Rattle.ec_core.specs.Layout.{scalar_size, IsScalar, PlainLeaf}
 use Rattle.ec_core.specs.Operators.{step_operator}
 use Rattle.ec_core.specs.declared.expressions.BinOp.{BinOp}
 use Rattle.ec_core.specs.Plain.{PlainType, void, integer, fixed, pointer, array, struct, PlainExpr, expression, PlainNode}
@@ -25,9 +25,10 @@ use Rattle.ec_core.specs.Valid.{Valid}
 use Rattle.ec_core.specs.Weight.{expr_weight, place_weight, option_weight, exprs_weight, optional_weight, leaves_weight}
 use Rattle.ec_core.specs.Weight.{stmt_weight, kind_weight, option_stmt_weight, stmts_weight, function_weight, functions_weight}
 use Rattle.ec_core.specs.Weight.{objects_weight, weight}
-use Rattle.ec_core.specs.Words.{member_words, choice_words, group_words, port_words, program_words, total_size}
+use Rattle.ec_core.specs.Words.{widest, pointer_types, update_words, member_words, choice_words, group_words, port_words}
+use Rattle.ec_core.specs.Words.{program_words, total_size}
 use Rattle.ec_ir.specs.Costs.{op_words, branch_zero_words, code_words, functions_words}
-use Rattle.ec_ir.specs.Operations.{PlainIr, constant, store_object, binary_op, unary_op, conversion, label, jump, branch_zero}
+use Rattle.ec_ir.specs.Operations.{PlainIr, store_object, binary_op, unary_op, conversion, label, jump}
 use Rattle.ec_ir.specs.Operations.{call_function, return_from}
 use Rattle.ec_lower_code.specs.Code.{temp, result_temp, truth_code, place_labels, Site, named, pointed, further_code, load_from}
 use Rattle.ec_lower_code.specs.Code.{store_to, value_place, settled_code, address_code, change_code, postfix_code, step_code}
@@ -35,14 +36,17 @@ use Rattle.ec_lower_code.specs.Code.{offset_of, site, place_code, params_of, par
 use Rattle.ec_lower_code.specs.Code.{place_behind, operand_temp, access_code, pairs_code, group_code, option_labels}
 use Rattle.ec_lower_code.specs.Code.{option_code, expr_labels, optional_labels, option_stmt_labels, stmt_labels, expr_code}
 use Rattle.ec_lower_code.specs.Code.{node_code, args_code, init_code, test_code, last_code, leaves_of_object, stmt_code}
-use Rattle.ec_lower_code.specs.Code.{kind_code, option_stmt_code, stmts_code, function_code, lowered_function, lowered}
+use Rattle.ec_lower_code.specs.Code.{kind_code, option_stmt_code, stmts_code, body_returns, end_of, end_code, function_code, lowered_function, lowered}
+use Rattle.ec_lower_code.specs.Code.{stepping_code, unread_code}
+use Rattle.ec_lower_code.specs.Code.{Branch, where_zero, where_not, branch_to, opposite, zero_label, other_label, and_end}
+use Rattle.ec_lower_code.specs.Code.{or_end, branch_code}
 use Rattle.ec_lower_code.proofs.Expressions.{type_known, change_words, change_paid, postfix_words, stepped_words, stepped_place}
 use Rattle.ec_lower_code.proofs.Expressions.{stepped_paid}
-use Rattle.ec_lower_code.proofs.Places.{root, load_paid, store_paid, settle_words}
+use Rattle.ec_lower_code.proofs.Places.{Root, root, load_paid, store_paid, settle_words}
 use Rattle.ec_lower_code.proofs.Calls.{call_bytes}
 use Rattle.ec_lower_code.proofs.Numbers.{scalar_bytes}
 use Rattle.ec_lower_code.proofs.Pays.{simple_pays, unary_pays, binary_pays, conversion_pays, choice_pays, return_pays}
-use Rattle.ec_lower_code.proofs.Pays.{update_words_are, index_pays, port_bytes}
+use Rattle.ec_lower_code.proofs.Pays.{update_words_are, index_pays, port_bytes, branch_cost, branch_most, not_leads, both_lead}
 
 not_fits : (t a : ℕ) → t ≡ 2 → branch_zero_words a + (10 * t + 5) ≤ choice_words (max t (max a 1))
 not_fits t a e = omega (arith, e)
@@ -124,6 +128,29 @@ module _ (program : PlainProgram) (table : IoTable) (f : ℕ) where
   step_fits true op mode ty s v rest = change_fits op mode mode ty s v int rest
   step_fits false op mode ty s v rest = postfix_fits op mode ty s v rest
 
+  branch_to_fits : (to : Branch) (t : ℕ) (ty : PlainType) (rest : List PlainIr)
+      → code_words (branch_to to (temp t ty) rest) ≤ branch_cost to (scalar_size ty) + code_words rest
+  branch_to_fits (where_zero to) t ty rest = omega arith
+  branch_to_fits (where_not to past) t ty rest = omega arith
+
+  and_end_fits : (to : Branch) (l : ℕ) (rest : List PlainIr) → code_words (and_end to l rest) ≤ code_words rest
+  and_end_fits (where_zero to) l rest = omega arith
+  and_end_fits (where_not to past) l rest = omega arith
+
+  or_end_fits : (to : Branch) (l : ℕ) (rest : List PlainIr) → code_words (or_end to l rest) ≤ code_words rest
+  or_end_fits (where_zero to) l rest = omega arith
+  or_end_fits (where_not to past) l rest = omega arith
+
+  stepping_fits : (up prefix : Bool) (mode : Mode) (ty : PlainType) (q : PlainPlace) (t : ℕ) (rest : List PlainIr) → IsScalar ty
+      → Root program q t → code_words (stepping_code up prefix mode ty (site program q t) t rest)
+      ≤ update_words (widest (ty ∷ pointer_types q [])) + code_words rest
+  stepping_fits up prefix mode ty q t rest i top =
+      let s = site program q t in
+      let u = value_place s t in
+      let w = step_fits prefix (step_operator up) mode ty s u (settled_code s ty t rest) in
+      let g = settled_fits s ty t rest in
+      let z = stepped_paid program q t u up prefix ty i top in omega (arith, w, g, z)
+
   mutual
     pub expr_fits : (e : PlainExpr) (l t : ℕ) (rest : List PlainIr) → ValidExpr program table f e
         → code_words (expr_code program (plain_table table) e l t rest) ≤ expr_weight (plain_table table) e + code_words rest
@@ -173,42 +200,35 @@ module _ (program : PlainProgram) (table : IoTable) (f : ℕ) where
         let z = change_paid program q t u op ty (type_of_expr a) tp.0.0 (type_known program table f a v.1) tp.1
         (root program q t ty tp.0.1) in omega (arith, x, y, w, g, z)
     node_fits ty mode (step up prefix q) l t rest k tp v =
-        let s = site program q t in
-        let u = value_place s t in
-        let r = settled_code s ty t rest in
-        let c = step_code prefix (step_operator up) mode ty s u r in
-        let d : List PlainIr = constant (temp (u + 1) int) (pos 1) ∷ c in
-        let x = place_fits q l t (load_from (temp u ty) s ∷ d) v in
-        let w = step_fits prefix (step_operator up) mode ty s u r in
-        let g = settled_fits s ty t rest in
-        let z = stepped_paid program q t u up prefix ty tp.0 (root program q t ty tp.1) in omega (arith, x, w, g, z)
+        let x = place_fits q l t (stepping_code up prefix mode ty (site program q t) t rest) v in
+        let y = stepping_fits up prefix mode ty q t rest tp.0 (root program q t ty tp.1) in omega (arith, x, y)
     node_fits ty mode (logical_not a) l t rest k tp v =
-        let x = expr_fits a (l + 2) t (branch_zero (temp t (type_of_expr a)) l ∷ truth_code false ty l t rest) v in
+        let x = branch_fits a (l + 2) t (where_zero l) (truth_code false ty l t rest) v in
         let y = not_fits (scalar_size ty) (scalar_size (type_of_expr a)) (ap scalar_size tp.1) in omega (arith, x, y)
     node_fits ty mode (logical_and a b) l t rest k tp v =
-        let q : List PlainIr = branch_zero (temp t (type_of_expr b)) l ∷ truth_code true ty l t rest in
-        let x = expr_fits a (l + 2) t (branch_zero (temp t (type_of_expr a)) l ∷ expr_code program (plain_table table) b
-        (l + 2 + expr_labels a) t q) v.0 in let y = expr_fits b (l + 2 + expr_labels a) t q v.1 in
+        let q = truth_code true ty l t rest in
+        let x = branch_fits a (l + 2) t (where_zero l) (branch_code program (plain_table table) b (l + 2 + expr_labels a) t (where_zero l)
+        q) v.0 in let y = branch_fits b (l + 2 + expr_labels a) t (where_zero l) q v.1 in
         let z = both_fit (scalar_size ty) (scalar_size (type_of_expr a)) (scalar_size (type_of_expr b)) (ap scalar_size tp.2) in
         omega (arith, x, y, z)
     node_fits ty mode (logical_or a b) l t rest k tp v =
-        let q : List PlainIr = branch_zero (temp t (type_of_expr b)) l ∷ label (l + 3) ∷ truth_code true ty l t rest in
-        let x = expr_fits a (l + 4) t (branch_zero (temp t (type_of_expr a)) (l + 2) ∷ jump (l + 3) ∷ label (l + 2)
-        ∷ expr_code program (plain_table table) b (l + 4 + expr_labels a) t q) v.0 in
-        let y = expr_fits b (l + 4 + expr_labels a) t q v.1 in
+        let q : List PlainIr = label (l + 3) ∷ truth_code true ty l t rest in
+        let x = branch_fits a (l + 4) t (where_not (l + 3) (l + 2)) (branch_code program (plain_table table) b (l + 4 + expr_labels a) t
+        (where_zero l) q) v.0 in
+        let y = branch_fits b (l + 4 + expr_labels a) t (where_zero l) q v.1 in
         let z = both_fit (scalar_size ty) (scalar_size (type_of_expr a)) (scalar_size (type_of_expr b)) (ap scalar_size tp.2) in
         omega (arith, x, y, z)
     node_fits ty mode (conditional c a b) l t rest k tp v =
         let r : List PlainIr = label (l + 1) ∷ rest in
         let q : List PlainIr = jump (l + 1) ∷ label l ∷ expr_code program (plain_table table) b (l + 2 + expr_labels c + expr_labels a) t
         r in
-        let x = expr_fits c (l + 2) t (branch_zero (temp t (type_of_expr c)) l ∷ expr_code program (plain_table table) a
-        (l + 2 + expr_labels c) t q) v.0 in let y = expr_fits a (l + 2 + expr_labels c) t q v.1 in
+        let x = branch_fits c (l + 2) t (where_zero l) (expr_code program (plain_table table) a (l + 2 + expr_labels c) t q) v.0 in
+        let y = expr_fits a (l + 2 + expr_labels c) t q v.1 in
         let u = expr_fits b (l + 2 + expr_labels c + expr_labels a) t r v.2 in
         let z = choice_pays (scalar_size ty) (scalar_size (type_of_expr c)) (scalar_size (type_of_expr a)) (scalar_size (type_of_expr b)) in
         omega (arith, x, y, u, z)
     node_fits ty mode (comma a b) l t rest k tp v =
-        let x = expr_fits a l t (expr_code program (plain_table table) b (l + expr_labels a) t rest) v.0 in
+        let x = unread_fits a l t (expr_code program (plain_table table) b (l + expr_labels a) t rest) v.0 in
         let y = expr_fits b (l + expr_labels a) t rest v.1 in omega (arith, x, y)
     node_fits ty mode (call g args) l t rest k tp v =
         let q : List PlainIr = call_function g (result_temp t ty) ∷ rest in
@@ -221,6 +241,39 @@ module _ (program : PlainProgram) (table : IoTable) (f : ℕ) where
         let z = access_fits op mode (slice_get (plain_table table).ports port) i t rest in omega (arith, x, y, z)
     node_fits ty mode (group acquire g) l t rest k tp v = let x = group_fits acquire (slice_get (plain_table table).groups g) t rest in
         omega (arith, x)
+
+    unread_fits : (e : PlainExpr) (l t : ℕ) (rest : List PlainIr) → ValidExpr program table f e
+        → code_words (unread_code program (plain_table table) e l t rest) ≤ expr_weight (plain_table table) e + code_words rest
+    unread_fits (expression ty mode (step up prefix q)) l t rest v =
+        let x = place_fits q l t (stepping_code up true mode ty (site program q t) t rest) v.2 in
+        let y = stepping_fits up true mode ty q t rest v.1.0 (root program q t ty v.1.1) in omega (arith, x, y)
+    unread_fits (expression ty mode (comma a b)) l t rest v =
+        let x = unread_fits a l t (unread_code program (plain_table table) b (l + expr_labels a) t rest) v.2.0 in
+        let y = unread_fits b (l + expr_labels a) t rest v.2.1 in omega (arith, x, y)
+    unread_fits (expression ty mode node) l t rest v = node_fits ty mode node l t rest v.0 v.1 v.2
+
+    branch_fits : (e : PlainExpr) (l t : ℕ) (to : Branch) (rest : List PlainIr) → ValidExpr program table f e
+        → code_words (branch_code program (plain_table table) e l t to rest) ≤ expr_weight (plain_table table) e
+        + (branch_cost to (scalar_size (type_of_expr e)) + code_words rest)
+    branch_fits (expression ty mode (logical_not a)) l t to rest v =
+        let x = branch_fits a (l + 2) t (opposite to l) rest v.2 in
+        let y = branch_most (opposite to l) (scalar_size (type_of_expr a)) in
+        let z = not_leads (scalar_size ty) (scalar_size (type_of_expr a)) in omega (arith, x, y, z)
+    branch_fits (expression ty mode (logical_and a b)) l t to rest v =
+        let q = and_end to l rest in
+        let x = branch_fits a (l + 2) t (where_zero (zero_label to l)) (branch_code program (plain_table table) b (l + 2 + expr_labels a) t
+        to q) v.2.0 in let y = branch_fits b (l + 2 + expr_labels a) t to q v.2.1 in
+        let w = branch_most to (scalar_size (type_of_expr b)) in let u = and_end_fits to l rest in
+        let z = both_lead (scalar_size ty) (scalar_size (type_of_expr a)) (scalar_size (type_of_expr b)) in omega (arith, x, y, w, u, z)
+    branch_fits (expression ty mode (logical_or a b)) l t to rest v =
+        let q = or_end to l rest in
+        let x = branch_fits a (l + 4) t (where_not (other_label to l) (l + 1)) (branch_code program (plain_table table) b
+        (l + 4 + expr_labels a) t to q) v.2.0 in let y = branch_fits b (l + 4 + expr_labels a) t to q v.2.1 in
+        let w = branch_most to (scalar_size (type_of_expr b)) in let u = or_end_fits to l rest in
+        let z = both_lead (scalar_size ty) (scalar_size (type_of_expr a)) (scalar_size (type_of_expr b)) in omega (arith, x, y, w, u, z)
+    branch_fits (expression ty mode node) l t to rest v =
+        let x = node_fits ty mode node l t (branch_to to (temp t ty) rest) v.0 v.1 v.2 in let y = branch_to_fits to t ty rest in
+        omega (arith, x, y)
 
     place_fits : (q : PlainPlace) (l t : ℕ) (rest : List PlainIr) → ValidPlace program table f q
         → code_words (place_code program (plain_table table) q l t rest) ≤ place_weight (plain_table table) q + code_words rest
@@ -255,13 +308,13 @@ module _ (program : PlainProgram) (table : IoTable) (f : ℕ) where
   test_fits : (c : Option PlainExpr) (out l : ℕ) (rest : List PlainIr) → ValidCondition program table f c
       → code_words (test_code program (plain_table table) c out l rest) ≤ 30 + optional_weight (plain_table table) c + code_words rest
   test_fits None out l rest v = omega arith
-  test_fits (Some c) out l rest v = let q : List PlainIr = branch_zero (temp 0 (type_of_expr c)) out ∷ rest in
-      let x = expr_fits c l 0 q v.0 in let y = (scalar_bytes (type_of_expr c) v.1).1 in omega (arith, x, y)
+  test_fits (Some c) out l rest v = let x = branch_fits c l 0 (where_zero out) rest v.0 in
+      let y = (scalar_bytes (type_of_expr c) v.1).1 in omega (arith, x, y)
 
   last_fits : (e : Option PlainExpr) (l : ℕ) (rest : List PlainIr) → ValidOptional program table f e
       → code_words (last_code program (plain_table table) e l rest) ≤ optional_weight (plain_table table) e + code_words rest
   last_fits None l rest v = omega arith
-  last_fits (Some e) l rest v = expr_fits e l 0 rest v
+  last_fits (Some e) l rest v = unread_fits e l 0 rest v
 
   module _ (returns : PlainType) where
     mutual
@@ -272,7 +325,7 @@ module _ (program : PlainProgram) (table : IoTable) (f : ℕ) where
       kind_fits : (kind : PlainKind) (k : Bool) (l out on : ℕ) (rest : List PlainIr) → ValidKind program table f returns k kind
           → code_words (kind_code program (plain_table table) kind l out on rest) ≤ kind_weight (plain_table table) kind + code_words rest
       kind_fits empty k l out on rest v = omega arith
-      kind_fits (evaluate e) k l out on rest v = expr_fits e l 0 rest v
+      kind_fits (evaluate e) k l out on rest v = unread_fits e l 0 rest v
       kind_fits (block ss) k l out on rest v = stmts_fits ss k l out on rest v
       kind_fits (declare o es) k l out on rest v = init_fits (leaves_of_object program o) o es l rest v.1
       kind_fits (branch c a no_stmt) k l out on rest v =
@@ -323,11 +376,16 @@ module _ (program : PlainProgram) (table : IoTable) (f : ℕ) where
       stmts_fits (next_stmt a ss) k l out on rest v = let x = stmt_fits a k l out on (stmts_code program (plain_table table) ss
           (l + stmt_labels a) out on rest) v.0 in let y = stmts_fits ss k (l + stmt_labels a) out on rest v.1 in omega (arith, x, y)
 
+end_fits : (returns : Bool) → code_words (end_of returns) ≤ 40
+end_fits true = omega arith
+end_fits false = omega arith
+
 -- a function's operations are within the rows of its body and its own
 function_fits : (program : PlainProgram) (table : IoTable) (f : ℕ) (g : PlainFunction) → IsFunction program table f g
     → code_words (function_code program (plain_table table) g) ≤ function_weight (plain_table table) g
-function_fits program table f g v = let x = stmt_fits program table f g.returns g.body false 1 0 0 (label 0 ∷ return_from None
-    ∷ []) v.body in omega (arith, x)
+function_fits program table f g v =
+    let x = stmt_fits program table f g.returns g.body false 1 0 0 (label 0 ∷ end_code g.body) v.body in
+    let y = end_fits (body_returns g.body) in omega (arith, x, y)
 
 functions_fit : (program : PlainProgram) (table : IoTable) (n : ℕ) (fs : List PlainFunction) → EachFrom n (IsFunction program table) fs
     → functions_words (map (lowered_function program (plain_table table)) fs) ≤ functions_weight (plain_table table) fs

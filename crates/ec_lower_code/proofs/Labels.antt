@@ -34,7 +34,10 @@ use Rattle.ec_lower_code.specs.Code.{place_behind, operand_temp, access_code, pa
 use Rattle.ec_lower_code.specs.Code.{option_code, expr_labels, node_labels, exprs_labels, optional_labels, stmt_labels}
 use Rattle.ec_lower_code.specs.Code.{kind_labels, option_stmt_labels, stmts_labels, expr_code, node_code, args_code, init_code}
 use Rattle.ec_lower_code.specs.Code.{test_code, last_code, leaves_of_object, stmt_code, kind_code, option_stmt_code, stmts_code}
-use Rattle.ec_lower_code.specs.Code.{function_code}
+use Rattle.ec_lower_code.specs.Code.{body_returns, end_of, end_code, function_code}
+use Rattle.ec_lower_code.specs.Code.{stepping_code, unread_code}
+use Rattle.ec_lower_code.specs.Code.{Branch, where_zero, where_not, branch_to, opposite, zero_label, other_label, and_end}
+use Rattle.ec_lower_code.specs.Code.{or_end, branch_code}
 use Rattle.ec_lower_code.proofs.Steps.{Resolves}
 
 abbrev is_at : (l j : ℕ) → ℕ
@@ -208,6 +211,37 @@ load_counts : (j : ℕ) (s : Site) (to : Temp) (rest : List PlainIr) → count j
 load_counts j (named o offset) to rest = omega arith
 load_counts j (pointed ptr space) to rest = omega arith
 
+-- the label of a branch's own, where it has one
+abbrev at_past : Branch → (j : ℕ) → ℕ
+at_past (where_zero to) j = 0
+at_past (where_not to past) j = is_at past j
+
+branch_to_counts : (j : ℕ) (to : Branch) (t : Temp) (rest : List PlainIr) → count j (branch_to to t rest) ≤ at_past to j + count j rest
+branch_to_counts j (where_zero to) t rest = omega arith
+branch_to_counts j (where_not to past) t rest = omega arith
+
+opposite_counts : (j : ℕ) (to : Branch) (l : ℕ) → at_past (opposite to l) j ≤ is_at l j
+opposite_counts j (where_zero to) l = omega arith
+opposite_counts j (where_not to past) l = omega arith
+
+and_end_counts : (j : ℕ) (to : Branch) (l : ℕ) (rest : List PlainIr) → count j (and_end to l rest) ≤ is_at l j + count j rest
+and_end_counts j (where_zero to) l rest = omega arith
+and_end_counts j (where_not to past) l rest = omega arith
+
+or_end_counts : (j : ℕ) (to : Branch) (l : ℕ) (rest : List PlainIr) → count j (or_end to l rest) ≤ is_at l j + count j rest
+or_end_counts j (where_zero to) l rest = omega arith
+or_end_counts j (where_not to past) l rest = omega arith
+
+stepping_counts : (j : ℕ) (up prefix : Bool) (mode : Mode) (ty : PlainType) (s : Site) (t : ℕ) (rest : List PlainIr)
+    → count j (stepping_code up prefix mode ty s t rest) ≤ count j rest
+stepping_counts j up prefix mode ty s t rest =
+    let v = value_place s t in
+    let r = settled_code s ty t rest in
+    let q = step_code prefix (step_operator up) mode ty s v r in
+    let y = load_counts j s (temp v ty) (constant (temp (v + 1) int) (pos 1) ∷ q) in
+    let w = step_counts j prefix (step_operator up) mode ty s v r in
+    let k = settled_counts j s ty t rest in omega (arith, y, w, k)
+
 params_counts : (j : ℕ) (os : List ℕ) (es : PlainExprs) (t : ℕ) (rest : List PlainIr) → count j (params_code os es t rest) ≤ count j rest
 params_counts j [] es t rest = omega arith
 params_counts j (o ∷ os) last_expr t rest = omega arith
@@ -282,37 +316,30 @@ module _ (program : PlainProgram) (table : PlainTable) where
         let k = settled_counts j s ty t rest in
         let z = among_two (place_labels p) (expr_labels a) l j in omega (arith, x, y, u, w, k, z)
     node_counts j ty mode (step up prefix p) l t rest =
-        let s = site program p t in
-        let v = value_place s t in
-        let r = settled_code s ty t rest in
-        let q = step_code prefix (step_operator up) mode ty s v r in
-        let c : List PlainIr = constant (temp (v + 1) int) (pos 1) ∷ q in
-        let x = place_counts j p l t (load_from (temp v ty) s ∷ c) in
-        let y = load_counts j s (temp v ty) c in
-        let w = step_counts j prefix (step_operator up) mode ty s v r in
-        let k = settled_counts j s ty t rest in omega (arith, x, y, w, k)
+        let x = place_counts j p l t (stepping_code up prefix mode ty (site program p t) t rest) in
+        let y = stepping_counts j up prefix mode ty (site program p t) t rest in omega (arith, x, y)
     node_counts j ty mode (logical_not a) l t rest =
-        let x = expr_counts j a (l + 2) t (branch_zero (temp t (type_of_expr a)) l ∷ truth_code false ty l t rest) in
+        let x = branch_counts j a (l + 2) t (where_zero l) (truth_code false ty l t rest) in
         let z = among_two 2 (expr_labels a) l j in let v = two_labels l j in omega (arith, x, z, v)
     node_counts j ty mode (logical_and a b) l t rest =
-        let q : List PlainIr = branch_zero (temp t (type_of_expr b)) l ∷ truth_code true ty l t rest in
-        let x = expr_counts j a (l + 2) t (branch_zero (temp t (type_of_expr a)) l ∷ expr_code program table b (l + 2 + expr_labels a) t
-        q) in let y = expr_counts j b (l + 2 + expr_labels a) t q in let z = among_three 2 (expr_labels a) (expr_labels b) l j in
-        let v = two_labels l j in omega (arith, x, y, z, v)
+        let q = truth_code true ty l t rest in
+        let x = branch_counts j a (l + 2) t (where_zero l) (branch_code program table b (l + 2 + expr_labels a) t (where_zero l) q) in
+        let y = branch_counts j b (l + 2 + expr_labels a) t (where_zero l) q in
+        let z = among_three 2 (expr_labels a) (expr_labels b) l j in let v = two_labels l j in omega (arith, x, y, z, v)
     node_counts j ty mode (logical_or a b) l t rest =
-        let q : List PlainIr = branch_zero (temp t (type_of_expr b)) l ∷ label (l + 3) ∷ truth_code true ty l t rest in
-        let x = expr_counts j a (l + 4) t (branch_zero (temp t (type_of_expr a)) (l + 2) ∷ jump (l + 3) ∷ label (l + 2)
-        ∷ expr_code program table b (l + 4 + expr_labels a) t q) in let y = expr_counts j b (l + 4 + expr_labels a) t q in
+        let q : List PlainIr = label (l + 3) ∷ truth_code true ty l t rest in
+        let x = branch_counts j a (l + 4) t (where_not (l + 3) (l + 2)) (branch_code program table b (l + 4 + expr_labels a) t
+        (where_zero l) q) in let y = branch_counts j b (l + 4 + expr_labels a) t (where_zero l) q in
         let z = among_three 4 (expr_labels a) (expr_labels b) l j in let v = four_labels l j in omega (arith, x, y, z, v)
     node_counts j ty mode (conditional c a b) l t rest =
         let r : List PlainIr = label (l + 1) ∷ rest in
         let q : List PlainIr = jump (l + 1) ∷ label l ∷ expr_code program table b (l + 2 + expr_labels c + expr_labels a) t r in
-        let x = expr_counts j c (l + 2) t (branch_zero (temp t (type_of_expr c)) l ∷ expr_code program table a (l + 2 + expr_labels c) t
-        q) in let y = expr_counts j a (l + 2 + expr_labels c) t q in let u = expr_counts j b (l + 2 + expr_labels c + expr_labels a) t
+        let x = branch_counts j c (l + 2) t (where_zero l) (expr_code program table a (l + 2 + expr_labels c) t q) in
+        let y = expr_counts j a (l + 2 + expr_labels c) t q in let u = expr_counts j b (l + 2 + expr_labels c + expr_labels a) t
         r in
         let z = among_four 2 (expr_labels c) (expr_labels a) (expr_labels b) l j in let v = two_labels l j in omega (arith, x, y, u, z, v)
     node_counts j ty mode (comma a b) l t rest =
-        let x = expr_counts j a l t (expr_code program table b (l + expr_labels a) t rest) in
+        let x = unread_counts j a l t (expr_code program table b (l + expr_labels a) t rest) in
         let y = expr_counts j b (l + expr_labels a) t rest in let z = among_two (expr_labels a) (expr_labels b) l j in
         omega (arith, x, y, z)
     node_counts j ty mode (call f args) l t rest =
@@ -326,6 +353,39 @@ module _ (program : PlainProgram) (table : PlainTable) where
         let u = access_counts j op mode (slice_get table.ports port) i t rest in
         let z = among_two (option_labels i) (option_labels v) l j in omega (arith, x, y, u, z)
     node_counts j ty mode (group acquire g) l t rest = let x = group_counts j acquire (slice_get table.groups g) t rest in omega (arith, x)
+
+    unread_counts : (j : ℕ) (e : PlainExpr) (l t : ℕ) (rest : List PlainIr) → count j (unread_code program table e l t rest) ≤ among
+        (expr_labels e) l j + count j rest
+    unread_counts j (expression ty mode (step up prefix p)) l t rest =
+        let x = place_counts j p l t (stepping_code up true mode ty (site program p t) t rest) in
+        let y = stepping_counts j up true mode ty (site program p t) t rest in omega (arith, x, y)
+    unread_counts j (expression ty mode (comma a b)) l t rest =
+        let x = unread_counts j a l t (unread_code program table b (l + expr_labels a) t rest) in
+        let y = unread_counts j b (l + expr_labels a) t rest in let z = among_two (expr_labels a) (expr_labels b) l j in
+        omega (arith, x, y, z)
+    unread_counts j (expression ty mode node) l t rest = node_counts j ty mode node l t rest
+
+    branch_counts : (j : ℕ) (e : PlainExpr) (l t : ℕ) (to : Branch) (rest : List PlainIr)
+        → count j (branch_code program table e l t to rest) ≤ among (expr_labels e) l j + (at_past to j + count j rest)
+    branch_counts j (expression ty mode (logical_not a)) l t to rest =
+        let x = branch_counts j a (l + 2) t (opposite to l) rest in
+        let y = opposite_counts j to l in
+        let z = among_two 2 (expr_labels a) l j in let v = two_labels l j in omega (arith, x, y, z, v)
+    branch_counts j (expression ty mode (logical_and a b)) l t to rest =
+        let q = and_end to l rest in
+        let x = branch_counts j a (l + 2) t (where_zero (zero_label to l)) (branch_code program table b (l + 2 + expr_labels a) t to q) in
+        let y = branch_counts j b (l + 2 + expr_labels a) t to q in
+        let w = and_end_counts j to l rest in
+        let z = among_three 2 (expr_labels a) (expr_labels b) l j in let v = two_labels l j in omega (arith, x, y, w, z, v)
+    branch_counts j (expression ty mode (logical_or a b)) l t to rest =
+        let q = or_end to l rest in
+        let x = branch_counts j a (l + 4) t (where_not (other_label to l) (l + 1)) (branch_code program table b (l + 4 + expr_labels a) t
+        to q) in let y = branch_counts j b (l + 4 + expr_labels a) t to q in
+        let w = or_end_counts j to l rest in
+        let z = among_three 4 (expr_labels a) (expr_labels b) l j in let v = four_labels l j in omega (arith, x, y, w, z, v)
+    branch_counts j (expression ty mode node) l t to rest =
+        let x = node_counts j ty mode node l t (branch_to to (temp t ty) rest) in let y = branch_to_counts j to (temp t ty) rest in
+        omega (arith, x, y)
 
     place_counts : (j : ℕ) (p : PlainPlace) (l t : ℕ) (rest : List PlainIr) → count j (place_code program table p l t rest) ≤ among
         (place_labels p) l j + count j rest
@@ -359,12 +419,12 @@ module _ (program : PlainProgram) (table : PlainTable) where
   test_counts : (j : ℕ) (c : Option PlainExpr) (out l : ℕ) (rest : List PlainIr) → count j (test_code program table c out l rest) ≤ among
       (optional_labels c) l j + count j rest
   test_counts j None out l rest = omega arith
-  test_counts j (Some c) out l rest = expr_counts j c l 0 (branch_zero (temp 0 (type_of_expr c)) out ∷ rest)
+  test_counts j (Some c) out l rest = let x = branch_counts j c l 0 (where_zero out) rest in omega (arith, x)
 
   last_counts : (j : ℕ) (e : Option PlainExpr) (l : ℕ) (rest : List PlainIr) → count j (last_code program table e l rest) ≤ among
       (optional_labels e) l j + count j rest
   last_counts j None l rest = omega arith
-  last_counts j (Some e) l rest = expr_counts j e l 0 rest
+  last_counts j (Some e) l rest = unread_counts j e l 0 rest
 
   mutual
     pub stmt_counts : (j : ℕ) (a : PlainStmt) (l out on : ℕ) (rest : List PlainIr)
@@ -374,18 +434,18 @@ module _ (program : PlainProgram) (table : PlainTable) where
     kind_counts : (j : ℕ) (kind : PlainKind) (l out on : ℕ) (rest : List PlainIr)
         → count j (kind_code program table kind l out on rest) ≤ among (kind_labels kind) l j + count j rest
     kind_counts j empty l out on rest = omega arith
-    kind_counts j (evaluate e) l out on rest = expr_counts j e l 0 rest
+    kind_counts j (evaluate e) l out on rest = unread_counts j e l 0 rest
     kind_counts j (block ss) l out on rest = stmts_counts j ss l out on rest
     kind_counts j (declare o es) l out on rest = init_counts j (leaves_of_object program o) o es l rest
     kind_counts j (branch c a no_stmt) l out on rest =
-        let x = expr_counts j c (l + 2) 0 (branch_zero (temp 0 (type_of_expr c)) l ∷ stmt_code program table a (l + 2 + expr_labels c) out
-        on (label l ∷ rest)) in let y = stmt_counts j a (l + 2 + expr_labels c) out on (label l ∷ rest) in
+        let x = branch_counts j c (l + 2) 0 (where_zero l) (stmt_code program table a (l + 2 + expr_labels c) out on (label l ∷ rest)) in
+        let y = stmt_counts j a (l + 2 + expr_labels c) out on (label l ∷ rest) in
         let z = among_four 2 (expr_labels c) (stmt_labels a) 0 l j in let v = two_labels l j in omega (arith, x, y, z, v)
     kind_counts j (branch c a (a_stmt b)) l out on rest =
         let q : List PlainIr = jump (l + 1) ∷ label l ∷ stmt_code program table b (l + 2 + expr_labels c + stmt_labels a) out on
         (label (l + 1) ∷ rest) in
-        let x = expr_counts j c (l + 2) 0 (branch_zero (temp 0 (type_of_expr c)) l ∷ stmt_code program table a (l + 2 + expr_labels c) out
-        on q) in let y = stmt_counts j a (l + 2 + expr_labels c) out on q in
+        let x = branch_counts j c (l + 2) 0 (where_zero l) (stmt_code program table a (l + 2 + expr_labels c) out on q) in
+        let y = stmt_counts j a (l + 2 + expr_labels c) out on q in
         let u = stmt_counts j b (l + 2 + expr_labels c + stmt_labels a) out on (label (l + 1) ∷ rest) in
         let z = among_four 2 (expr_labels c) (stmt_labels a) (stmt_labels b) l j in let v = two_labels l j in omega (arith, x, y, u, z, v)
     kind_counts j (while_loop c a) l out on rest =
@@ -428,12 +488,17 @@ module _ (program : PlainProgram) (table : PlainTable) where
         let x = stmt_counts j a l out on (stmts_code program table ss (l + stmt_labels a) out on rest) in let y = stmts_counts j ss
         (l + stmt_labels a) out on rest in let z = among_two (stmt_labels a) (stmts_labels ss) l j in omega (arith, x, y, z)
 
+  end_counts : (j : ℕ) (returns : Bool) → count j (end_of returns) ≡ 0
+  end_counts j true = refl
+  end_counts j false = refl
+
   -- the label 0 stands behind the body, whose labels are from 1 on
   pub function_counts : (f : PlainFunction) (j : ℕ) → count j (function_code program table f) ≤ 1
   function_counts f j =
-      let x = stmt_counts j f.body 1 0 0 (label 0 ∷ return_from None ∷ []) in
+      let x = stmt_counts j f.body 1 0 0 (label 0 ∷ end_code f.body) in
+      let u = end_counts j (body_returns f.body) in
       let y = among_two 1 (stmt_labels f.body) 0 j in let z = among_one (1 + stmt_labels f.body) 0 j in
-      omega (arith, x, y, z)
+      omega (arith, x, u, y, z)
 
   pub function_resolves : (f : PlainFunction) → Resolves (function_code program table f)
   function_resolves f = counts_resolve (function_code program table f) (function_counts f)

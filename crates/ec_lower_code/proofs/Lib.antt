@@ -21,6 +21,7 @@ mod Scene
 mod PortNodes
 mod Expressions
 mod Facts
+mod Ends
 mod Statements
 mod Loops
 mod Bodies

@@ -2,7 +2,7 @@
 use Rattle.std.proofs.Common.{◌≡◌, ℕ, zero, suc, ◌+◌, ◌≤◌, Bool, true, false, List, ◌∷◌, Option, Some, None, refl, arith}
 use Rattle.ec_core.specs.declared.values.Value.{Value}
 use Rattle.ec_core.specs.Expressions.{Calls, condition}
-use Rattle.ec_core.specs.Layout.{IsScalar}
+use Rattle.ec_core.specs.Layout.{IsScalar, scalar_size}
 use Rattle.ec_core.specs.Plain.{PlainExpr}
 use Rattle.ec_core.specs.State.{State, worked, Outcome, got, more, undefined, next, choose}
 use Rattle.ec_core.specs.Statements.{Exit, at_end, tested, turns, test_of, going_on}
@@ -10,19 +10,19 @@ use Rattle.ec_core.specs.Typing.{type_of_expr}
 use Rattle.ec_core.specs.Valid.{ValidCondition, ValidOptional}
 use Rattle.ec_core.specs.ValueTypes.{IsTypedState}
 use Rattle.ec_core.specs.Words.{loop_words}
-use Rattle.ec_ir.specs.Costs.{op_steps}
+use Rattle.ec_ir.specs.Costs.{op_steps, branch_zero_words}
 use Rattle.ec_ir.specs.Meaning.{Mach, machine, find}
-use Rattle.ec_ir.specs.Operations.{PlainIr, label, jump, branch_zero}
+use Rattle.ec_ir.specs.Operations.{PlainIr, label, jump}
 use Rattle.ec_ir.specs.Temporaries.{Temps}
-use Rattle.ec_lower_code.specs.Code.{temp, optional_labels, expr_code, test_code, last_code}
+use Rattle.ec_lower_code.specs.Code.{optional_labels, unread_code, test_code, last_code, where_zero, branch_code}
 use Rattle.ec_lower_code.proofs.Callees.{IsOther, CallsOfOptional}
-use Rattle.ec_lower_code.proofs.Expressions.{W, value, Has, Tests, tests}
+use Rattle.ec_lower_code.proofs.Expressions.{W, value, Leaves, led, Leads, branch_then}
 use Rattle.ec_lower_code.proofs.Numbers.{scalar_bytes}
-use Rattle.ec_lower_code.proofs.Ops.{to_rest, past_label, label_comes, jumps, jump_steps, branch_on, branch_off}
+use Rattle.ec_lower_code.proofs.Ops.{to_rest, past_label, label_comes, jumps, jump_steps}
 use Rattle.ec_lower_code.proofs.Scene.{World, ports, homes, set, calls_to, Scene}
 use Rattle.ec_lower_code.proofs.Shown.{Match, stopped_at}
-use Rattle.ec_lower_code.proofs.Statements.{Returns, Left, Kept, left_to, Way, Typed, at_rest, bind_exit, whole_runs}
-use Rattle.ec_lower_code.proofs.Steps.{at, Stands, around, here, Comes, Does, comes_on, after, after_step, fewer, bind, credited}
+use Rattle.ec_lower_code.proofs.Statements.{Returns, Left, Kept, left_to, Way, Typed, at_rest, bind_exit, unread_whole, branch_whole}
+use Rattle.ec_lower_code.proofs.Steps.{at, Stands, around, here, Comes, Does, comes_on, after, after_step, fewer, credited}
 use Rattle.ec_lower_code.proofs.Steps.{spent_on, less}
 
 module _ (wd : World) (sc : Scene wd) (ret : Returns wd sc) where
@@ -50,41 +50,38 @@ module _ (wd : World) (sc : Scene wd) (ret : Returns wd sc) where
       test_place = test_code wd.program (ports wd) c (l + 1) (l + 4) (label (l + 3) ∷ inner)
 
       -- the machine goes from here to the body, within the words of a turn
-      pub record Enters (p : List PlainIr) (u : Mach) : Type 0 where
-        pub by : (s : State) → Match (homes wd) (around (W wd sc)) d s u → (v : Mach) × Match (homes wd) (around (W wd sc)) (d + 30)
-            (worked loop_words s) v × Comes (W wd sc)
+      pub record Enters (s : State) (p : List PlainIr) (u : Mach) : Type 0 where
+        pub by : (v : Mach) × Match (homes wd) (around (W wd sc)) (d + 30) (worked loop_words s) v × Comes (W wd sc)
             (here (W wd sc) p) u (at (here (W wd sc) inner)) v
 
       -- the test: the loop ends, or a turn can begin
       module _ (k : ℕ) (le : k ≤ wd.n) (out on : List PlainIr) (go : State → Outcome Exit) (runs : (s : State) (p : List PlainIr) (u : Mach)
-          → Enters p u → Match (homes wd) (around (W wd sc)) d s u → IsTypedState wd.program s
+          → Enters s p u → Match (homes wd) (around (W wd sc)) d s u → IsTypedState wd.program s
           → Way wd sc ret k p u rest out on d (go s)) where
-        selected : (x : PlainExpr) (b : Temps) (h : Bool) (s : State) (u : Mach) → IsScalar (type_of_expr x)
-            → Tests wd sc (type_of_expr x) 0 d b h s u → Way wd sc ret k (branch_zero (temp 0 (type_of_expr x)) (l + 1) ∷ label (l + 3)
-            ∷ inner) u rest out on d (choose h go (λ s1. got at_end (worked loop_words s1)) s)
-        selected x b true s u sc8 r =
-            let i = branch_zero (temp 0 (type_of_expr x)) (l + 1) in
-            let v : Mach = machine u.temps (worked (op_steps i) u.state) in
-            let e = (scalar_bytes (type_of_expr x) sc8).1 in
-            runs s (i ∷ label (l + 3) ∷ inner) u (record {
-              by = λ s1 h. (
-                v,
-                spent_on (homes wd) (d + 60) (d + 30) i u.temps (worked loop_words s1) u (omega (arith, e))
-                    (credited (homes wd) loop_words d s1 u h),
-                comes_on (W wd sc) (here (W wd sc) (i ∷ label (l + 3) ∷ inner)) (here (W wd sc) (label (l + 3) ∷ inner)) u v v
-                    (at (here (W wd sc) inner)) (branch_on (W wd sc) (type_of_expr x) 0 (l + 1) (label (l + 3) ∷ inner) u r.test.tested
-                    r.test.value r.test.zero) (label_comes (W wd sc) (l + 3) inner v),
+        selected : (x : PlainExpr) (b : Temps) (h : Bool) (s : State) (q : List PlainIr) (u : Mach) → IsScalar (type_of_expr x)
+            → Leads wd sc 0 d (branch_zero_words (scalar_size (type_of_expr x))) b
+            (led (where_zero (l + 1)) h rest (label (l + 3) ∷ inner)) s q u
+            → Way wd sc ret k q u rest out on d (choose h go (λ s1. got at_end (worked loop_words s1)) s)
+        selected x b true s q u i r =
+            let w = branch_zero_words (scalar_size (type_of_expr x)) in
+            let size = (scalar_bytes (type_of_expr x) i).1 in
+            let c = r.comes (worked loop_words s) (d + 30) (λ y g. less (homes wd) (d + y + 60) (d + 30 + w + y) (worked loop_words s) u
+            (omega (arith, size)) (credited (homes wd) loop_words (d + y) s u g)) in
+            runs s q u (record {
+              by = (
+                c.0,
+                c.1,
+                comes_on (W wd sc) (here (W wd sc) q) (here (W wd sc) (label (l + 3) ∷ inner)) u c.0 c.0 (at (here (W wd sc) inner)) c.3
+                    (label_comes (W wd sc) (l + 3) inner c.0),
               );
-            }) r.test.match r.state
-        selected x b false s u sc8 r =
-            let i = branch_zero (temp 0 (type_of_expr x)) (l + 1) in
-            let v : Mach = machine u.temps (worked (op_steps i) u.state) in
-            let e = (scalar_bytes (type_of_expr x) sc8).1 in
-            after (W wd sc) (left_to wd sc ret rest out on) (Left wd sc ret d) k (here (W wd sc) (i ∷ label (l + 3) ∷ inner))
-            (here (W wd sc) rest) u v (got at_end (worked loop_words s)) (branch_off (W wd sc) (type_of_expr x) 0 (l + 1) (label (l + 3)
-            ∷ inner) rest u r.test.tested ended_at r.test.value r.test.zero)
-            (at_rest wd sc ret d rest out on k (worked loop_words s) v (spent_on (homes wd) (d + 60) d i u.temps (worked loop_words s) u
-            (omega (arith, e)) (credited (homes wd) loop_words d s u r.test.match)))
+            }) r.match r.state
+        selected x b false s q u i r =
+            let w = branch_zero_words (scalar_size (type_of_expr x)) in
+            let size = (scalar_bytes (type_of_expr x) i).1 in
+            let c = r.comes (worked loop_words s) d (λ y g. less (homes wd) (d + y + 60) (d + w + y) (worked loop_words s) u
+            (omega (arith, size)) (credited (homes wd) loop_words (d + y) s u g)) in
+            after (W wd sc) (left_to wd sc ret rest out on) (Left wd sc ret d) k (here (W wd sc) q) (here (W wd sc) rest) u c.0
+            (got at_end (worked loop_words s)) c.3 (at_rest wd sc ret d rest out on k (worked loop_words s) c.0 c.1)
 
         test_runs : (c1 : Option PlainExpr) → CallsOfOptional (IsOther wd.program) c1 → ValidCondition wd.program wd.io sc.f c1
             → (s : State) (m : Mach) → Stands sc.code (test_code wd.program (ports wd) c1 (l + 1) (l + 4) (label (l + 3) ∷ inner))
@@ -93,26 +90,24 @@ module _ (wd : World) (sc : Scene wd) (ret : Returns wd sc) where
             (label (l + 3) ∷ inner)) m rest out on d (tested (test_of (set wd) calls c1 s) go)
         test_runs None q v s m stands h st =
             runs s (label (l + 3) ∷ inner) m (record {
-              by = λ s1 h1. (
+              by = (
                 m,
-                less (homes wd) (d + 60) (d + 30) (worked loop_words s1) m
-                    (omega arith) (credited (homes wd) loop_words d s1 m h1),
+                less (homes wd) (d + 60) (d + 30) (worked loop_words s) m
+                    (omega arith) (credited (homes wd) loop_words d s m h),
                 label_comes (W wd sc) (l + 3) inner m,
               );
             }) h st
         test_runs (Some x) q v s m stands h st =
-            let i = branch_zero (temp 0 (type_of_expr x)) (l + 1) in
-            let p : List PlainIr = i ∷ label (l + 3) ∷ inner in
-            bind (W wd sc) k (here (W wd sc) (expr_code wd.program (ports wd) x (l + 4) 0 p)) m (to_rest (W wd sc) p)
-            (Tests wd sc (type_of_expr x) 0 d m.temps) (left_to wd sc ret rest out on) (Left wd sc ret d) (here (W wd sc) p)
-            (condition (set wd) x (value wd sc x s)) _ (λ z. refl)
-            (tests wd sc k 0 d m.temps x s (expr_code wd.program (ports wd) x (l + 4) 0 p) p m v.1
-            (whole_runs wd sc ret k x (l + 4) d s m p le q v.0 st stands h))
-            (λ b s1 u r. selected x m.temps b s1 u v.1 r)
+            let p : List PlainIr = label (l + 3) ∷ inner in
+            branch_then wd sc k (branch_code wd.program (ports wd) x (l + 4) 0 (where_zero (l + 1)) p) m (where_zero (l + 1)) rest p 0 d
+            (branch_zero_words (scalar_size (type_of_expr x))) m.temps (condition (set wd) x (value wd sc x s))
+            (left_to wd sc ret rest out on) (Left wd sc ret d) (λ b s1. choose b go (λ s2. got at_end (worked loop_words s2)) s1)
+            (branch_whole wd sc ret k x (l + 4) (where_zero (l + 1)) d s m rest p le q v.0 v.1 st stands ended_at h)
+            (λ b s1 q1 u r. selected x m.temps b s1 q1 u v.1 r)
 
       -- the last part, the jump and the test
       going_runs : (k : ℕ) → suc k ≤ wd.n → (out on : List PlainIr) (go : State → Outcome Exit) → ((s : State) (p : List PlainIr) (u : Mach)
-          → Enters p u → Match (homes wd) (around (W wd sc)) d s u → IsTypedState wd.program s → Way wd sc ret k p u rest out on d (go s))
+          → Enters s p u → Match (homes wd) (around (W wd sc)) d s u → IsTypedState wd.program s → Way wd sc ret k p u rest out on d (go s))
           → (s : State) (m : Mach) → Match (homes wd) (around (W wd sc)) (d + 30) s m → IsTypedState wd.program s
           → Way wd sc ret (suc k) last_place m rest out on d (tested (going_on (set wd) calls last c s) go)
       going_runs k le out on go runs s m h st = by_last last last_part valid_last last_stands
@@ -134,27 +129,28 @@ module _ (wd : World) (sc : Scene wd) (ret : Returns wd sc) where
           by_last None q v stands = jumped s m h st
           by_last (Some e) q v stands =
               let p : List PlainIr = jump l ∷ label (l + 1) ∷ rest in
-              value_then (value wd sc e s) (whole_runs wd sc ret (suc k) e (l + 4 + optional_labels c) (d + 30) s m p le q v st stands h)
+              value_then (value wd sc e s) (unread_whole wd sc ret (suc k) e (l + 4 + optional_labels c) (d + 30) s m p le q v st stands h)
             where
               value_then : (o : Outcome Value) → Does (W wd sc) (suc k)
-                  (here (W wd sc) (expr_code wd.program (ports wd) e (l + 4 + optional_labels c) 0 (jump l ∷ label (l + 1) ∷ rest))) m
-                  (to_rest (W wd sc) (jump l ∷ label (l + 1) ∷ rest)) (Has wd sc (type_of_expr e) 0 (d + 30) m.temps) o
-                  → Way wd sc ret (suc k) (expr_code wd.program (ports wd) e (l + 4 + optional_labels c) 0 (jump l ∷ label (l + 1) ∷ rest))
-                  m rest out on d (tested (next (next o (λ x s1. got at_end s1)) (λ x s1. test_of (set wd) calls c s1)) go)
+                  (here (W wd sc) (unread_code wd.program (ports wd) e (l + 4 + optional_labels c) 0 (jump l ∷ label (l + 1) ∷ rest))) m
+                  (to_rest (W wd sc) (jump l ∷ label (l + 1) ∷ rest)) (Leaves wd sc 0 (d + 30) m.temps) o
+                  → Way wd sc ret (suc k) (unread_code wd.program (ports wd) e (l + 4 + optional_labels c) 0
+                  (jump l ∷ label (l + 1) ∷ rest)) m rest out on d (tested (next (next o (λ x s1. got at_end s1))
+                  (λ x s1. test_of (set wd) calls c s1)) go)
               value_then (got x s1) r = after (W wd sc) (left_to wd sc ret rest out on) (Left wd sc ret d) (suc k)
-                  (here (W wd sc) (expr_code wd.program (ports wd) e (l + 4 + optional_labels c) 0 (jump l ∷ label (l + 1) ∷ rest)))
+                  (here (W wd sc) (unread_code wd.program (ports wd) e (l + 4 + optional_labels c) 0 (jump l ∷ label (l + 1) ∷ rest)))
                   (here (W wd sc) (jump l ∷ label (l + 1) ∷ rest)) m r.0 (tested (test_of (set wd) calls c s1) go) r.2
-                  (jumped s1 r.0 r.1.has.match r.1.state)
+                  (jumped s1 r.0 r.1.match r.1.state)
               value_then (more s1) r = r
               value_then (undefined point s1) r = tt
 
       -- at most k turns
-      pub turns_run : (k : ℕ) → k ≤ wd.n → (out on : List PlainIr) (s : State) (p : List PlainIr) (u : Mach) → Enters p u
+      pub turns_run : (k : ℕ) → k ≤ wd.n → (out on : List PlainIr) (s : State) (p : List PlainIr) (u : Mach) → Enters s p u
           → Match (homes wd) (around (W wd sc)) d s u → IsTypedState wd.program s → Way wd sc ret k p u rest out on d
           (turns k body (λ s1. going_on (set wd) calls last c s1) s)
       turns_run zero le out on s p u enter h st = (0, u, omega arith, stopped_at d s u h, refl)
       turns_run (suc k) le out on s p u enter h st =
-          let v = enter.by s h in
+          let v = enter.by in
           let go_on = λ (s1 : State) (u1 : Mach) (h1 : Match (homes wd) (around (W wd sc)) (d + 30) s1 u1) (st1 : IsTypedState wd.program
           s1). going_runs k le
           out on (λ s2. turns k body (λ s1. going_on (set wd) calls last c s1) s2)
@@ -186,10 +182,10 @@ module _ (wd : World) (sc : Scene wd) (ret : Returns wd sc) where
       do_runs out on skipped s m f h st =
           let v : Mach = machine m.temps (worked (op_steps (jump (l + 3))) m.state) in
           turns_run wd.n (omega arith) out on s (jump (l + 3) ∷ skipped) m (record {
-            by = λ s1 h1. (
+            by = (
               v,
-              spent_on (homes wd) (d + 60) (d + 30) (jump (l + 3)) m.temps (worked loop_words s1) m (omega arith)
-                  (credited (homes wd) loop_words d s1 m h1),
+              spent_on (homes wd) (d + 60) (d + 30) (jump (l + 3)) m.temps (worked loop_words s) m (omega arith)
+                  (credited (homes wd) loop_words d s m h),
               jumps (W wd sc) (l + 3) skipped inner m f,
             );
           }) h st

@@ -1,5 +1,5 @@
 -- The operations of a program that read and write ports stay on these.
-use Rattle.std.proofs.Common.{ℕ, ◌+◌, Bool, true, false, List, [], ◌∷◌, map, Option, Some, None, refl, arith, pos}
+use Rattle.std.proofs.Common.{ℕ, ◌+◌, Bool, true, false, List, [], ◌∷◌, map, Option, Some, None, refl, arith}
 use Rattle.std.specs.Prelude.{slice_get, if◌then◌else◌}
 use Rattle.std.specs.List.{AllByRecursion}
 use Rattle.ec_fx.specs.declared.numbers.Mode.{Mode}
@@ -22,7 +22,7 @@ use Rattle.ec_core.specs.PortTable.{PlainPort, PlainGroup, plain_table}
 use Rattle.ec_core.specs.Typing.{int, unsigned_int, unsigned_long, type_of_expr, IsTyped}
 use Rattle.ec_core.specs.Valid.{EachFrom, ValidExpr, ValidParts, ValidPlace, ValidOption, ValidExprs, ValidCondition, ValidOptional}
 use Rattle.ec_core.specs.Valid.{ValidStmt, ValidKind, ValidOptionStmt, ValidStmts, IsFunction}
-use Rattle.ec_ir.specs.Operations.{PlainIr, constant, store_object, binary_op, unary_op, conversion, label, jump, branch_zero}
+use Rattle.ec_ir.specs.Operations.{PlainIr, store_object, binary_op, unary_op, conversion, label, jump}
 use Rattle.ec_ir.specs.Operations.{call_function}
 use Rattle.ec_ir.specs.Operations.{return_from}
 use Rattle.ec_ir.specs.declared.operations.Temp.{Temp}
@@ -35,7 +35,10 @@ use Rattle.ec_lower_code.specs.Code.{option_code, expr_labels}
 use Rattle.ec_lower_code.specs.Code.{optional_labels, option_stmt_labels, stmt_labels, expr_code, node_code, place_code}
 use Rattle.ec_lower_code.specs.Code.{args_code, init_code}
 use Rattle.ec_lower_code.specs.Code.{test_code, last_code, leaves_of_object, stmt_code, kind_code, option_stmt_code, stmts_code}
-use Rattle.ec_lower_code.specs.Code.{lowered_function}
+use Rattle.ec_lower_code.specs.Code.{lowered_function, body_returns, end_of, end_code}
+use Rattle.ec_lower_code.specs.Code.{stepping_code, unread_code}
+use Rattle.ec_lower_code.specs.Code.{Branch, where_zero, where_not, branch_to, opposite, zero_label, other_label, and_end}
+use Rattle.ec_lower_code.specs.Code.{or_end, branch_code}
 use Rattle.ec_lower_code.specs.Correct.{IsBytePair, GroupsHaveBytes, IsOnPorts, OperationsStayOnPorts}
 use Rattle.ec_lower_code.proofs.Tables.{IsOperated, AreOperated, ArePairs, port_operated, group_pairs, first_within}
 
@@ -143,6 +146,24 @@ group_on : (acquire : Bool) (x : Option PlainGroup) (t : ℕ) (rest : List Plain
 group_on acquire None t rest h r = r
 group_on acquire (Some x) t rest h r = pairs_on (pairs_of acquire x) t rest (h x refl acquire) r
 
+branch_to_on : (to : Branch) (t : Temp) (rest : List PlainIr) → AllOn rest → AllOn (branch_to to t rest)
+branch_to_on (where_zero to) t rest r = (tt, r)
+branch_to_on (where_not to past) t rest r = (tt, (tt, (tt, r)))
+
+and_end_on : (to : Branch) (l : ℕ) (rest : List PlainIr) → AllOn rest → AllOn (and_end to l rest)
+and_end_on (where_zero to) l rest r = r
+and_end_on (where_not to past) l rest r = (tt, r)
+
+or_end_on : (to : Branch) (l : ℕ) (rest : List PlainIr) → AllOn rest → AllOn (or_end to l rest)
+or_end_on (where_zero to) l rest r = (tt, r)
+or_end_on (where_not to past) l rest r = r
+
+stepping_on : (up prefix : Bool) (mode : Mode) (ty : PlainType) (s : Site) (t : ℕ) (rest : List PlainIr) → AllOn rest
+    → AllOn (stepping_code up prefix mode ty s t rest)
+stepping_on up prefix mode ty s t rest r =
+    let u = value_place s t in
+    (load_on (temp u ty) s, (tt, step_on prefix (step_operator up) mode ty s u (settled_code s ty t rest) (settled_on s ty t rest r)))
+
 truth_on : (h : Bool) (ty : PlainType) (l t : ℕ) (rest : List PlainIr) → AllOn rest → AllOn (truth_code h ty l t rest)
 truth_on h ty l t rest r = (tt, (tt, (tt, (tt, (tt, r)))))
 
@@ -188,35 +209,27 @@ module _ (program : PlainProgram) (table : IoTable) (valid : ValidIo table) (byt
         )
     node_on ty mode (step up prefix q) l t rest tp v r =
         let s = site program q t in
-        let u = value_place s t in
-        let e = settled_code s ty t rest in
-        let c : List PlainIr = constant (temp (u + 1) int) (pos 1) ∷ step_code prefix (step_operator up) mode ty s u e in
-        place_on q l t (load_from (temp u ty) s ∷ c) v
-        (load_on (temp u ty) s, (tt, step_on prefix (step_operator up) mode ty s u e (settled_on s ty t rest r)))
+        place_on q l t (stepping_code up prefix mode ty s t rest) v (stepping_on up prefix mode ty s t rest r)
     node_on ty mode (logical_not a) l t rest tp v r =
-        expr_on a (l + 2) t (branch_zero (temp t (type_of_expr a)) l ∷ truth_code false ty l t rest) v (tt, truth_on false ty l t rest r)
+        branches_on a (l + 2) t (where_zero l) (truth_code false ty l t rest) v (truth_on false ty l t rest r)
     node_on ty mode (logical_and a b) l t rest tp v r =
-        let q : List PlainIr = branch_zero (temp t (type_of_expr b)) l ∷ truth_code true ty l t rest in
-        expr_on a (l + 2) t (branch_zero (temp t (type_of_expr a)) l
-        ∷ expr_code program (plain_table table) b (l + 2 + expr_labels a) t q) v.0
-        (tt, expr_on b (l + 2 + expr_labels a) t q v.1 (tt, truth_on true ty l t rest r))
+        let q = truth_code true ty l t rest in
+        branches_on a (l + 2) t (where_zero l) (branch_code program (plain_table table) b (l + 2 + expr_labels a) t (where_zero l) q) v.0
+        (branches_on b (l + 2 + expr_labels a) t (where_zero l) q v.1 (truth_on true ty l t rest r))
     node_on ty mode (logical_or a b) l t rest tp v r =
-        let q : List PlainIr = branch_zero (temp t (type_of_expr b)) l ∷ label (l + 3) ∷ truth_code true ty l t rest in
-        expr_on a (l + 4) t (branch_zero (temp t (type_of_expr a)) (l + 2) ∷ jump (l + 3) ∷ label (l + 2)
-        ∷ expr_code program (plain_table table) b (l + 4 + expr_labels a) t q) v.0
-        (tt, (tt, (tt, expr_on b (l + 4 + expr_labels a) t q v.1 (tt, (tt, truth_on true ty l t rest r)))))
+        let q : List PlainIr = label (l + 3) ∷ truth_code true ty l t rest in
+        branches_on a (l + 4) t (where_not (l + 3) (l + 2))
+        (branch_code program (plain_table table) b (l + 4 + expr_labels a) t (where_zero l) q) v.0
+        (branches_on b (l + 4 + expr_labels a) t (where_zero l) q v.1 (tt, truth_on true ty l t rest r))
     node_on ty mode (conditional c a b) l t rest tp v r =
         let u : List PlainIr = label (l + 1) ∷ rest in
         let q : List PlainIr = jump (l + 1) ∷ label l ∷ expr_code program (plain_table table) b (l + 2 + expr_labels c + expr_labels a) t
         u in
-        expr_on c (l + 2) t (branch_zero (temp t (type_of_expr c)) l
-        ∷ expr_code program (plain_table table) a (l + 2 + expr_labels c) t q) v.0 (
-          tt,
-          expr_on a (l + 2 + expr_labels c) t q v.1
-              (tt, (tt, expr_on b (l + 2 + expr_labels c + expr_labels a) t u v.2 (tt, r))),
-        )
+        branches_on c (l + 2) t (where_zero l) (expr_code program (plain_table table) a (l + 2 + expr_labels c) t q) v.0
+        (expr_on a (l + 2 + expr_labels c) t q v.1 (tt, (tt, expr_on b (l + 2 + expr_labels c + expr_labels a) t u v.2 (tt, r))))
     node_on ty mode (comma a b) l t rest tp v r =
-        expr_on a l t (expr_code program (plain_table table) b (l + expr_labels a) t rest) v.0 (expr_on b (l + expr_labels a) t rest v.1 r)
+        unread_on a l t (expr_code program (plain_table table) b (l + expr_labels a) t rest) v.0
+        (expr_on b (l + expr_labels a) t rest v.1 r)
     node_on ty mode (call g args) l t rest tp v r =
         let q : List PlainIr = call_function g (result_temp t ty) ∷ rest in
         args_on args l t (params_code (params_of program g) args t q) v (params_on (params_of program g) args t q (tt, r))
@@ -228,6 +241,32 @@ module _ (program : PlainProgram) (table : IoTable) (valid : ValidIo table) (byt
         (port_operated table valid port (port_operation op).long tp.port) r))
     node_on ty mode (group acquire g) l t rest tp v r =
         group_on acquire (slice_get (plain_table table).groups g) t rest (group_pairs table bytes g) r
+
+    unread_on : (e : PlainExpr) (l t : ℕ) (rest : List PlainIr) → ValidExpr program table f e → AllOn rest
+        → AllOn (unread_code program (plain_table table) e l t rest)
+    unread_on (expression ty mode (step up prefix q)) l t rest v r =
+        let s = site program q t in
+        place_on q l t (stepping_code up true mode ty s t rest) v.2 (stepping_on up true mode ty s t rest r)
+    unread_on (expression ty mode (comma a b)) l t rest v r =
+        unread_on a l t (unread_code program (plain_table table) b (l + expr_labels a) t rest) v.2.0
+        (unread_on b (l + expr_labels a) t rest v.2.1 r)
+    unread_on (expression ty mode node) l t rest v r = node_on ty mode node l t rest v.1 v.2 r
+
+    branches_on : (e : PlainExpr) (l t : ℕ) (to : Branch) (rest : List PlainIr) → ValidExpr program table f e → AllOn rest
+        → AllOn (branch_code program (plain_table table) e l t to rest)
+    branches_on (expression ty mode (logical_not a)) l t to rest v r = branches_on a (l + 2) t (opposite to l) rest v.2 r
+    branches_on (expression ty mode (logical_and a b)) l t to rest v r =
+        let q = and_end to l rest in
+        branches_on a (l + 2) t (where_zero (zero_label to l))
+        (branch_code program (plain_table table) b (l + 2 + expr_labels a) t to q) v.2.0
+        (branches_on b (l + 2 + expr_labels a) t to q v.2.1 (and_end_on to l rest r))
+    branches_on (expression ty mode (logical_or a b)) l t to rest v r =
+        let q = or_end to l rest in
+        branches_on a (l + 4) t (where_not (other_label to l) (l + 1))
+        (branch_code program (plain_table table) b (l + 4 + expr_labels a) t to q) v.2.0
+        (branches_on b (l + 4 + expr_labels a) t to q v.2.1 (or_end_on to l rest r))
+    branches_on (expression ty mode node) l t to rest v r =
+        node_on ty mode node l t (branch_to to (temp t ty) rest) v.1 v.2 (branch_to_on to (temp t ty) rest r)
 
     place_on : (q : PlainPlace) (l t : ℕ) (rest : List PlainIr) → ValidPlace program table f q → AllOn rest
         → AllOn (place_code program (plain_table table) q l t rest)
@@ -264,12 +303,12 @@ module _ (program : PlainProgram) (table : IoTable) (valid : ValidIo table) (byt
   test_on : (c : Option PlainExpr) (out l : ℕ) (rest : List PlainIr) → ValidCondition program table f c → AllOn rest
       → AllOn (test_code program (plain_table table) c out l rest)
   test_on None out l rest v r = r
-  test_on (Some c) out l rest v r = expr_on c l 0 (branch_zero (temp 0 (type_of_expr c)) out ∷ rest) v.0 (tt, r)
+  test_on (Some c) out l rest v r = branches_on c l 0 (where_zero out) rest v.0 r
 
   last_on : (e : Option PlainExpr) (l : ℕ) (rest : List PlainIr) → ValidOptional program table f e → AllOn rest
       → AllOn (last_code program (plain_table table) e l rest)
   last_on None l rest v r = r
-  last_on (Some e) l rest v r = expr_on e l 0 rest v r
+  last_on (Some e) l rest v r = unread_on e l 0 rest v r
 
   module _ (returns : PlainType) where
     mutual
@@ -280,7 +319,7 @@ module _ (program : PlainProgram) (table : IoTable) (valid : ValidIo table) (byt
       kind_on : (kind : PlainKind) (k : Bool) (l out on : ℕ) (rest : List PlainIr) → ValidKind program table f returns k kind → AllOn rest
           → AllOn (kind_code program (plain_table table) kind l out on rest)
       kind_on empty k l out on rest v r = r
-      kind_on (evaluate e) k l out on rest v r = expr_on e l 0 rest v r
+      kind_on (evaluate e) k l out on rest v r = unread_on e l 0 rest v r
       kind_on (block ss) k l out on rest v r = stmts_on ss k l out on rest v r
       kind_on (declare o es) k l out on rest v r = init_on (leaves_of_object program o) o es l rest v.1 r
       kind_on (branch c a no_stmt) k l out on rest v r =
@@ -341,11 +380,16 @@ module _ (program : PlainProgram) (table : IoTable) (valid : ValidIo table) (byt
           stmt_on a k l out on (stmts_code program (plain_table table) ss (l + stmt_labels a) out on rest) v.0
           (stmts_on ss k (l + stmt_labels a) out on rest v.1 r)
 
+end_on : (returns : Bool) → AllOn (end_of returns)
+end_on true = tt
+end_on false = (tt, tt)
+
 functions_on : (program : PlainProgram) (table : IoTable) → ValidIo table → GroupsHaveBytes table → (n : ℕ) (fs : List PlainFunction)
     → EachFrom n (IsFunction program table) fs → AllByRecursion (λ g. AllOn g.code) (map (lowered_function program (plain_table table)) fs)
 functions_on program table valid bytes n [] v = tt
 functions_on program table valid bytes n (g ∷ fs) v = (
-  stmt_on program table valid bytes n g.returns g.body false 1 0 0 (label 0 ∷ return_from None ∷ []) v.0.body (tt, (tt, tt)),
+  stmt_on program table valid bytes n g.returns g.body false 1 0 0 (label 0 ∷ end_code g.body) v.0.body
+      (tt, end_on (body_returns g.body)),
   functions_on program table valid bytes (n + 1) fs v.1,
 )
 

@@ -9,7 +9,7 @@ use Rattle.ec_core.specs.Typing.{unsigned_int, unsigned_long}
 use Rattle.ec_core.specs.Words.{widest, operation_words, choice_words, return_words}
 use Rattle.ec_ir.specs.Costs.{branch_zero_words, is_bitwise, is_integer, conversion_words, binary_words, index_words}
 use Rattle.ec_iohw.specs.declared.operations.IoOp.{IoOp}
-use Rattle.ec_lower_code.specs.Code.{operand_temp, port_operator}
+use Rattle.ec_lower_code.specs.Code.{operand_temp, port_operator, Branch, where_zero, where_not}
 use Rattle.ec_lower_code.proofs.PortOperators.{operator_bitwise}
 
 pub simple_pays : (a b : ℕ) → 5 * a ≤ 30 + 10 * max a b
@@ -39,6 +39,22 @@ pub conversion_pays : (ty from : PlainType) → conversion_words ty from ≤ ope
 conversion_pays ty from =
     within (same_type ty from || (is_integer ty && is_integer from)) _ _ _ (operation_more (widest (ty ∷ from ∷ [])))
     (conversion_more (widest (ty ∷ from ∷ [])))
+
+-- the words of a branch on so many bytes
+abbrev pub branch_cost : Branch → ℕ → ℕ
+branch_cost (where_zero to) b = branch_zero_words b
+branch_cost (where_not to past) b = branch_zero_words b + 5
+
+pub branch_most : (to : Branch) (b : ℕ) → branch_cost to b ≤ branch_zero_words b + 5
+branch_most (where_zero to) b = omega arith
+branch_most (where_not to past) b = omega arith
+
+-- the row of `!`, and that of `&&` or `||`, beside the branches of their operands
+pub not_leads : (t a : ℕ) → branch_zero_words a + 5 ≤ choice_words (max t (max a 1))
+not_leads t a = omega arith
+
+pub both_lead : (t a b : ℕ) → branch_zero_words a + (branch_zero_words b + 10) ≤ choice_words (max t (max a (max b 1)))
+both_lead t a b = omega arith
 
 pub not_pays : (t a : ℕ) → t ≡ 2 → branch_zero_words a + (5 * t + 5) ≤ choice_words (max t (max a 1))
 not_pays t a e = omega (arith, e)

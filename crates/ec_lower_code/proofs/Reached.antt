@@ -31,7 +31,9 @@ use Rattle.ec_lower_code.specs.Code.{settled_code, address_code, change_code, po
 use Rattle.ec_lower_code.specs.Code.{place_code, params_of, params_code, port_operator, port_code, place_behind, operand_temp}
 use Rattle.ec_lower_code.specs.Code.{access_code, pairs_code, group_code, option_code, expr_code, node_code, args_code}
 use Rattle.ec_lower_code.specs.Code.{init_code, test_code, last_code, leaves_of_object, stmt_code, kind_code, option_stmt_code}
-use Rattle.ec_lower_code.specs.Code.{stmts_code, function_code, lowered_function, lowered}
+use Rattle.ec_lower_code.specs.Code.{stmts_code, body_returns, end_of, function_code, lowered_function, lowered}
+use Rattle.ec_lower_code.specs.Code.{stepping_code, unread_code}
+use Rattle.ec_lower_code.specs.Code.{Branch, where_zero, where_not, branch_to, opposite, and_end, or_end, branch_code}
 
 -- a member of a list
 abbrev pub In : List ℕ → ℕ → Type 0
@@ -91,6 +93,27 @@ settled_calls : (s : Site) (ty : PlainType) (t : ℕ) (rest : List PlainIr) (g :
     → In (called_in rest) g
 settled_calls (named o offset) ty t rest g h = h
 settled_calls (pointed ptr space) ty t rest g h = h
+
+branch_to_calls : (to : Branch) (t : Temp) (rest : List PlainIr) (g : ℕ) → In (called_in (branch_to to t rest)) g
+    → In (called_in rest) g
+branch_to_calls (where_zero to) t rest g h = h
+branch_to_calls (where_not to past) t rest g h = h
+
+and_end_calls : (to : Branch) (l : ℕ) (rest : List PlainIr) (g : ℕ) → In (called_in (and_end to l rest)) g → In (called_in rest) g
+and_end_calls (where_zero to) l rest g h = h
+and_end_calls (where_not to past) l rest g h = h
+
+or_end_calls : (to : Branch) (l : ℕ) (rest : List PlainIr) (g : ℕ) → In (called_in (or_end to l rest)) g → In (called_in rest) g
+or_end_calls (where_zero to) l rest g h = h
+or_end_calls (where_not to past) l rest g h = h
+
+stepping_calls : (up prefix : Bool) (mode : Mode) (ty : PlainType) (s : Site) (t : ℕ) (rest : List PlainIr) (g : ℕ)
+    → In (called_in (stepping_code up prefix mode ty s t rest)) g → In (called_in rest) g
+stepping_calls up prefix mode ty s t rest g h =
+    let r = settled_code s ty t rest in
+    settled_calls s ty t rest g (step_calls prefix (step_operator up) mode ty s (value_place s t) r g
+    (load_calls s _ (constant (temp (value_place s t + 1) int) (pos 1) ∷ step_code prefix (step_operator up) mode ty s
+    (value_place s t) r) g h))
 
 address_calls : (s : Site) (ty : PlainType) (t : ℕ) (rest : List PlainIr) (g : ℕ) → In (called_in (address_code s ty t rest)) g
     → In (called_in rest) g
@@ -238,24 +261,19 @@ module _ (program : PlainProgram) (table : PlainTable) where
         (λ y. either (expr_called a _ _ _ cs g (load_calls s _ (expr_code program table a (l + place_labels p) (value_place s t + 1)
         (change_code op own mode ty s (value_place s t) (type_of_expr a) r)) g y)) (λ z. inl (place_more p (expr_calls a cs) g z))
         (λ z. inr (settled_calls s ty t rest g (change_calls op own mode ty s (value_place s t) (type_of_expr a) r g z))))
-    node_called ty mode (step up prefix p) l t rest cs g h =
-        let s = site program p t in
-        let r = settled_code s ty t rest in
-        either (place_called p l t _ cs g h) (λ x. inl x)
-        (λ y. inr (settled_calls s ty t rest g (step_calls prefix (step_operator up) mode ty s (value_place s t) r g
-        (load_calls s _ (constant (temp (value_place s t + 1) int) (pos 1) ∷ step_code prefix (step_operator up) mode ty s
-        (value_place s t) r) g y))))
-    node_called ty mode (logical_not a) l t rest cs g h = expr_called a _ t _ cs g h
-    node_called ty mode (logical_and a b) l t rest cs g h = behind_two a b cs (called_in rest) g (expr_called a _ _ _ (expr_calls b cs) g h)
-        (λ y. expr_called b _ _ _ cs g y)
-    node_called ty mode (logical_or a b) l t rest cs g h = behind_two a b cs (called_in rest) g (expr_called a _ _ _ (expr_calls b cs) g h)
-        (λ y. expr_called b _ _ _ cs g y)
+    node_called ty mode (step up prefix p) l t rest cs g h = either (place_called p l t _ cs g h) (λ x. inl x)
+        (λ y. inr (stepping_calls up prefix mode ty (site program p t) t rest g y))
+    node_called ty mode (logical_not a) l t rest cs g h = branch_called a _ t _ _ cs g h
+    node_called ty mode (logical_and a b) l t rest cs g h = behind_two a b cs (called_in rest) g
+        (branch_called a _ _ _ _ (expr_calls b cs) g h) (λ y. branch_called b _ _ _ _ cs g y)
+    node_called ty mode (logical_or a b) l t rest cs g h = behind_two a b cs (called_in rest) g
+        (branch_called a _ _ _ _ (expr_calls b cs) g h) (λ y. branch_called b _ _ _ _ cs g y)
     node_called ty mode (conditional c a b) l t rest cs g h =
-        either (expr_called c _ t _ (expr_calls a (expr_calls b cs)) g h) (λ x. inl x)
+        either (branch_called c _ t _ _ (expr_calls a (expr_calls b cs)) g h) (λ x. inl x)
         (λ y. either (behind_two a b cs (called_in rest) g (expr_called a _ _ _ (expr_calls b cs) g y) (λ z. expr_called b _ _ _ cs g z))
         (λ z. inl (expr_more c (expr_calls a (expr_calls b cs)) g z)) (λ z. inr z))
-    node_called ty mode (comma a b) l t rest cs g h = behind_two a b cs (called_in rest) g (expr_called a _ _ _ (expr_calls b cs) g h)
-        (λ y. expr_called b _ _ _ cs g y)
+    node_called ty mode (comma a b) l t rest cs g h = behind_two a b cs (called_in rest) g
+        (unread_called a _ _ _ (expr_calls b cs) g h) (λ y. expr_called b _ _ _ cs g y)
     node_called ty mode (call f args) l t rest cs g h =
         either (args_called args l t _ cs g h) (λ x. inl (inr x))
         (λ y. either (params_calls (params_of program f) args t _ g y) (λ z. inl (inl z)) (λ z. inr z))
@@ -264,6 +282,27 @@ module _ (program : PlainProgram) (table : PlainTable) where
         (λ y. either (operand_called v _ _ _ cs g y) (λ z. inl (option_more i (option_calls v cs) g z))
         (λ z. inr (access_called op mode (slice_get table.ports port) i t rest g z)))
     node_called ty mode (group acquire k) l t rest cs g h = inr (group_called acquire (slice_get table.groups k) t rest g h)
+
+    unread_called : (e : PlainExpr) (l t : ℕ) (rest : List PlainIr) (cs : List ℕ) (g : ℕ)
+        → In (called_in (unread_code program table e l t rest)) g → In (expr_calls e cs) g ⊎ In (called_in rest) g
+    unread_called (expression ty mode (step up prefix p)) l t rest cs g h = either (place_called p l t _ cs g h) (λ x. inl x)
+        (λ y. inr (stepping_calls up true mode ty (site program p t) t rest g y))
+    unread_called (expression ty mode (comma a b)) l t rest cs g h = behind_two a b cs (called_in rest) g
+        (unread_called a _ _ _ (expr_calls b cs) g h) (λ y. unread_called b _ _ _ cs g y)
+    unread_called (expression ty mode node) l t rest cs g h = node_called ty mode node l t rest cs g h
+
+    branch_called : (e : PlainExpr) (l t : ℕ) (to : Branch) (rest : List PlainIr) (cs : List ℕ) (g : ℕ)
+        → In (called_in (branch_code program table e l t to rest)) g → In (expr_calls e cs) g ⊎ In (called_in rest) g
+    branch_called (expression ty mode (logical_not a)) l t to rest cs g h = branch_called a _ t (opposite to l) rest cs g h
+    branch_called (expression ty mode (logical_and a b)) l t to rest cs g h = behind_two a b cs (called_in rest) g
+        (branch_called a _ _ _ _ (expr_calls b cs) g h)
+        (λ y. either (branch_called b _ _ to _ cs g y) (λ z. inl z) (λ z. inr (and_end_calls to l rest g z)))
+    branch_called (expression ty mode (logical_or a b)) l t to rest cs g h = behind_two a b cs (called_in rest) g
+        (branch_called a _ _ _ _ (expr_calls b cs) g h)
+        (λ y. either (branch_called b _ _ to _ cs g y) (λ z. inl z) (λ z. inr (or_end_calls to l rest g z)))
+    branch_called (expression ty mode node) l t to rest cs g h =
+        either (node_called ty mode node l t (branch_to to (temp t ty) rest) cs g h) (λ x. inl x)
+        (λ y. inr (branch_to_calls to (temp t ty) rest g y))
 
     place_called : (p : PlainPlace) (l t : ℕ) (rest : List PlainIr) (cs : List ℕ) (g : ℕ)
         → In (called_in (place_code program table p l t rest)) g → In (place_calls p cs) g ⊎ In (called_in rest) g
@@ -295,12 +334,12 @@ module _ (program : PlainProgram) (table : PlainTable) where
   test_called : (c : Option PlainExpr) (out l : ℕ) (rest : List PlainIr) (cs : List ℕ) (g : ℕ)
       → In (called_in (test_code program table c out l rest)) g → In (optional_calls c cs) g ⊎ In (called_in rest) g
   test_called None out l rest cs g h = inr h
-  test_called (Some c) out l rest cs g h = expr_called c l 0 _ cs g h
+  test_called (Some c) out l rest cs g h = branch_called c l 0 _ rest cs g h
 
   last_called : (e : Option PlainExpr) (l : ℕ) (rest : List PlainIr) (cs : List ℕ) (g : ℕ)
       → In (called_in (last_code program table e l rest)) g → In (optional_calls e cs) g ⊎ In (called_in rest) g
   last_called None l rest cs g h = inr h
-  last_called (Some e) l rest cs g h = expr_called e l 0 rest cs g h
+  last_called (Some e) l rest cs g h = unread_called e l 0 rest cs g h
 
   mutual
     stmt_called : (a : PlainStmt) (l out on : ℕ) (rest : List PlainIr) (cs : List ℕ) (g : ℕ)
@@ -310,14 +349,14 @@ module _ (program : PlainProgram) (table : PlainTable) where
     kind_called : (kind : PlainKind) (l out on : ℕ) (rest : List PlainIr) (cs : List ℕ) (g : ℕ)
         → In (called_in (kind_code program table kind l out on rest)) g → In (kind_calls kind cs) g ⊎ In (called_in rest) g
     kind_called empty l out on rest cs g h = inr h
-    kind_called (evaluate e) l out on rest cs g h = expr_called e l 0 rest cs g h
+    kind_called (evaluate e) l out on rest cs g h = unread_called e l 0 rest cs g h
     kind_called (block ss) l out on rest cs g h = stmts_called ss l out on rest cs g h
     kind_called (declare o es) l out on rest cs g h = init_called (leaves_of_object program o) o es l rest cs g h
     kind_called (branch c a no_stmt) l out on rest cs g h =
-        either (expr_called c (l + 2) 0 _ (stmt_calls a cs) g h) (λ x. inl x)
+        either (branch_called c (l + 2) 0 _ _ (stmt_calls a cs) g h) (λ x. inl x)
         (λ y. either (stmt_called a _ out on _ cs g y) (λ z. inl (expr_more c (stmt_calls a cs) g z)) (λ z. inr z))
     kind_called (branch c a (a_stmt b)) l out on rest cs g h =
-        either (expr_called c (l + 2) 0 _ (stmt_calls a (stmt_calls b cs)) g h) (λ x. inl x)
+        either (branch_called c (l + 2) 0 _ _ (stmt_calls a (stmt_calls b cs)) g h) (λ x. inl x)
         (λ y. either (stmt_called a _ out on _ (stmt_calls b cs) g y) (λ z. inl (expr_more c (stmt_calls a (stmt_calls b cs)) g z))
         (λ z. either (stmt_called b _ out on _ cs g z) (λ u. inl (expr_more c (stmt_calls a (stmt_calls b cs)) g
         (stmt_more a (stmt_calls b cs) g u))) (λ u. inr u)))
@@ -353,11 +392,15 @@ module _ (program : PlainProgram) (table : PlainTable) where
         either (stmt_called a l out on _ (stmts_calls ss cs) g h) (λ x. inl x)
         (λ y. either (stmts_called ss _ out on rest cs g y) (λ z. inl (stmt_more a (stmts_calls ss cs) g z)) (λ z. inr z))
 
+  end_calls : (returns : Bool) (g : ℕ) → In (called_in (end_of returns)) g → ⊥
+  end_calls true g h = absurd h
+  end_calls false g h = absurd h
+
   -- a function's operations call only what its body calls
   pub function_called : (f : PlainFunction) (g : ℕ) → Contains (called_in (function_code program table f)) g
       → Contains (stmt_calls f.body []) g
   function_called f g h = in_contains (stmt_calls f.body []) g (either
-      (stmt_called f.body 1 0 0 _ [] g (contains_in (called_in (function_code program table f)) g h)) (λ x. x) (λ y. absurd y))
+      (stmt_called f.body 1 0 0 _ [] g (contains_in (called_in (function_code program table f)) g h)) (λ x. x) (λ y. absurd (end_calls (body_returns f.body) g y)))
 
   -- so no function reaches itself
   found_function : (f : ℕ) (x : PlainIrFunction) → slice_get (lowered program table).functions f ≡ Some x

@@ -20,18 +20,21 @@ use Rattle.ec_core.specs.Valid.{ValidExprs, ValidCondition, ValidOptional, IsDec
 use Rattle.ec_core.specs.Valid.{ValidStmts, IsFunction, AreLeafValues, Valid}
 use Rattle.ec_core.proofs.Filled.{leaves_fill_their_types}
 use Rattle.ec_core.proofs.TypedValues.{some_and}
-use Rattle.ec_ir.specs.Operations.{PlainIr, store_object, label, jump, branch_zero, return_from, idle_function, data_of}
+use Rattle.ec_ir.specs.Operations.{PlainIr, store_object, label, jump, return_from, idle_function, data_of}
 use Rattle.ec_ir.specs.Valid.{count, called_in, HasLeafOf, IsParameterOf, ValidOperation, ValidIrFunction, ValidIr}
 use Rattle.ec_lower_code.specs.Code.{temp, expr_labels, optional_labels, option_stmt_labels, stmt_labels, expr_code, init_code}
 use Rattle.ec_lower_code.specs.Code.{test_code, last_code, leaves_of_object, loop_code, stmt_code, kind_code, option_stmt_code}
-use Rattle.ec_lower_code.specs.Code.{stmts_code, end_code, function_code, lowered_function, lowered}
+use Rattle.ec_lower_code.specs.Code.{stmts_code, body_returns, end_of, end_code, function_code, lowered_function, lowered}
+use Rattle.ec_lower_code.specs.Code.{unread_code}
+use Rattle.ec_lower_code.specs.Code.{where_zero, branch_code}
 use Rattle.ec_lower_code.specs.Correct.{GroupsHaveBytes}
-use Rattle.ec_lower_code.proofs.Behind.{expr_behind, test_behind, last_behind, stmt_behind, option_behind}
+use Rattle.ec_lower_code.proofs.Behind.{expr_behind, branch_behind, test_behind, last_behind, stmt_behind, option_behind}
 use Rattle.ec_lower_code.proofs.Facts.{result_scalar, leaves_are}
 use Rattle.ec_lower_code.proofs.Labels.{function_counts}
 use Rattle.ec_lower_code.proofs.Reached.{reached_source}
 use Rattle.ec_lower_code.proofs.Steps.{Stands, behind}
-use Rattle.ec_lower_code.proofs.Wellformed.{result_bytes, some_is, some_need, label_once, temp_ok, expr_ok}
+use Rattle.ec_lower_code.proofs.Wellformed.{result_bytes, some_is, some_need, label_once, temp_ok, expr_ok, unread_ok}
+use Rattle.ec_lower_code.proofs.Wellformed.{branch_ok}
 
 module _ (program : PlainProgram) (table : IoTable) (valid : Valid program table) (pairs : GroupsHaveBytes table) (f : ℕ) (slots : ℕ)
     (all : List PlainIr) (once : (j : ℕ) → count j all ≤ 1) where
@@ -44,6 +47,11 @@ module _ (program : PlainProgram) (table : IoTable) (valid : Valid program table
   good : (e : PlainExpr) (l : ℕ) (rest : List PlainIr) → ValidExpr program table f e → expr_need e ≤ slots
       → Stands all (expr_code program (plain_table table) e l 0 rest) → Good rest → Good (expr_code program (plain_table table) e l 0 rest)
   good e l rest v le s r = expr_ok program table valid pairs f slots all once e l 0 rest v (omega (arith, le)) s r
+
+  unread_good : (e : PlainExpr) (l : ℕ) (rest : List PlainIr) → ValidExpr program table f e → expr_need e ≤ slots
+      → Stands all (unread_code program (plain_table table) e l 0 rest) → Good rest
+      → Good (unread_code program (plain_table table) e l 0 rest)
+  unread_good e l rest v le s r = unread_ok program table valid pairs f slots all once e l 0 rest v (omega (arith, le)) s r
 
   -- the leaves from number i on
   init_ok : (ls : List PlainLeaf) (o i : ℕ) (x : PlainObject) (es : PlainExprs) (l : ℕ) (rest : List PlainIr)
@@ -103,12 +111,10 @@ module _ (program : PlainProgram) (table : IoTable) (valid : Valid program table
 
   -- a branch on a condition
   condition_ok : (c : PlainExpr) (l out : ℕ) (rest : List PlainIr) → ValidCondition program table f (Some c) → expr_need c ≤ slots
-      → count out all ≡ 1 → Stands all (expr_code program (plain_table table) c l 0 (branch_zero (temp 0 (type_of_expr c)) out ∷ rest))
-      → Good rest → Good (expr_code program (plain_table table) c l 0 (branch_zero (temp 0 (type_of_expr c)) out ∷ rest))
+      → count out all ≡ 1 → Stands all (branch_code program (plain_table table) c l 0 (where_zero out) rest)
+      → Good rest → Good (branch_code program (plain_table table) c l 0 (where_zero out) rest)
   condition_ok c l out rest v le h s r =
-      let need = some_need c in
-      good c l (branch_zero (temp 0 (type_of_expr c)) out ∷ rest) v.0 le s
-      ((temp_ok program table valid pairs f slots all once 0 (type_of_expr c) (omega (arith, le, need)) v.1, h), r)
+      branch_ok program table valid pairs f slots all once c l 0 (where_zero out) rest v.0 (omega (arith, le)) v.1 h s r
 
   test_ok : (c : Option PlainExpr) (out l : ℕ) (rest : List PlainIr) → ValidCondition program table f c → option_need c ≤ slots
       → count out all ≡ 1 → Stands all (test_code program (plain_table table) c out l rest) → Good rest
@@ -119,7 +125,7 @@ module _ (program : PlainProgram) (table : IoTable) (valid : Valid program table
   last_ok : (e : Option PlainExpr) (l : ℕ) (rest : List PlainIr) → ValidOptional program table f e → option_need e ≤ slots
       → Stands all (last_code program (plain_table table) e l rest) → Good rest → Good (last_code program (plain_table table) e l rest)
   last_ok None l rest v le s r = r
-  last_ok (Some e) l rest v le s r = good e l rest v le s r
+  last_ok (Some e) l rest v le s r = unread_good e l rest v le s r
 
   module _ (returns : PlainType) (scalar : returns ≢ void → IsScalar returns) (bytes : result_bytes program f ≡ scalar_size returns) where
     -- a loop, of whose body this is known
@@ -161,13 +167,12 @@ module _ (program : PlainProgram) (table : IoTable) (valid : Valid program table
           → Stands all (kind_code program (plain_table table) kind l lo lc rest) → Good rest
           → Good (kind_code program (plain_table table) kind l lo lc rest)
       kind_ok empty in_loop l lo lc rest v le go gc s r = r
-      kind_ok (evaluate e) in_loop l lo lc rest v le go gc s r = good e l rest v le s r
+      kind_ok (evaluate e) in_loop l lo lc rest v le go gc s r = unread_good e l rest v le s r
       kind_ok (block ss) in_loop l lo lc rest v le go gc s r = stmts_ok ss in_loop l lo lc rest v le go gc s r
       kind_ok (declare o es) in_loop l lo lc rest v le go gc s r = declared_ok o es l rest v.0 v.1 le s r
       kind_ok (branch c a no_stmt) in_loop l lo lc rest v le go gc s r =
           let ac = stmt_code program (plain_table table) a (l + 2 + expr_labels c) lo lc (label l ∷ rest) in
-          let s1 = behind all (branch_zero (temp 0 (type_of_expr c)) l) ac (expr_behind program (plain_table table) all c (l + 2) 0
-          (branch_zero (temp 0 (type_of_expr c)) l ∷ ac) s) in
+          let s1 = branch_behind program (plain_table table) all c (l + 2) 0 (where_zero l) ac s in
           let s2 = stmt_behind program (plain_table table) all a (l + 2 + expr_labels c) lo lc (label l ∷ rest) s1 in
           condition_ok c (l + 2) l ac v.0 (omega (arith, le)) (one l rest s2) s
           (stmt_ok a in_loop (l + 2 + expr_labels c) lo lc (label l ∷ rest) v.1 (omega (arith, le)) go gc s1 (tt, r))
@@ -176,8 +181,7 @@ module _ (program : PlainProgram) (table : IoTable) (valid : Valid program table
           let bc = stmt_code program (plain_table table) b lb lo lc (label (l + 1) ∷ rest) in
           let q : List PlainIr = jump (l + 1) ∷ label l ∷ bc in
           let ac = stmt_code program (plain_table table) a (l + 2 + expr_labels c) lo lc q in
-          let s1 = behind all (branch_zero (temp 0 (type_of_expr c)) l) ac (expr_behind program (plain_table table) all c (l + 2) 0
-          (branch_zero (temp 0 (type_of_expr c)) l ∷ ac) s) in
+          let s1 = branch_behind program (plain_table table) all c (l + 2) 0 (where_zero l) ac s in
           let s2 = behind all (jump (l + 1)) (label l ∷ bc) (stmt_behind program (plain_table table) all a (l + 2 + expr_labels c) lo lc q
           s1) in
           let s3 = behind all (label l) bc s2 in
@@ -250,16 +254,22 @@ module _ (program : PlainProgram) (table : IoTable) (valid : Valid program table
         slots = g.need;
         code = stmt_ok program table valid pairs f (stmt_need h.body) (function_code program (plain_table table) h)
             (function_counts program (plain_table table) h) h.returns (result_scalar h.returns g.returns) bytes h.body false 1 0 0
-            (label 0 ∷ end_code) g.body (omega arith) last last whole (tt, (tt, tt));
+            (label 0 ∷ end_code h.body) g.body (omega arith) last last whole (tt, end_ok (body_returns h.body));
       }
     where
-      whole : Stands (function_code program (plain_table table) h) (stmt_code program (plain_table table) h.body 1 0 0 (label 0 ∷ end_code))
+      whole : Stands (function_code program (plain_table table) h)
+          (stmt_code program (plain_table table) h.body 1 0 0 (label 0 ∷ end_code h.body))
       whole = ([], refl)
 
       last : count 0 (function_code program (plain_table table) h) ≡ 1
       last = one program table valid pairs f (stmt_need h.body) (function_code program (plain_table table) h)
-          (function_counts program (plain_table table) h) 0 end_code (stmt_behind program (plain_table table)
-          (function_code program (plain_table table) h) h.body 1 0 0 (label 0 ∷ end_code) whole)
+          (function_counts program (plain_table table) h) 0 (end_code h.body) (stmt_behind program (plain_table table)
+          (function_code program (plain_table table) h) h.body 1 0 0 (label 0 ∷ end_code h.body) whole)
+
+      end_ok : (returns : Bool) → AllByRecursion (ValidOperation (lowered program (plain_table table)) (result_bytes program) f
+          (stmt_need h.body) (function_code program (plain_table table) h)) (end_of returns)
+      end_ok true = tt
+      end_ok false = (tt, tt)
 
       bytes : result_bytes program f ≡ scalar_size h.returns
       bytes = ap (λ z. unwrap_or (option_map (λ (h : PlainFunction). scalar_size h.returns) z) 0) e

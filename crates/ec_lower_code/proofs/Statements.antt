@@ -10,6 +10,7 @@ use Rattle.ec_core.specs.Accesses.{frame_ended}
 use Rattle.ec_core.specs.Layout.{scalar_size, IsScalar, PlainLeaf, leaves_of_type}
 use Rattle.ec_core.specs.Plain.{PlainType, void, PlainExpr, PlainExprs, last_expr, next_expr, PlainObject}
 use Rattle.ec_core.specs.State.{State, worked, with_object, Outcome, got, more, undefined, next}
+use Rattle.ec_core.specs.Expressions.{condition}
 use Rattle.ec_core.specs.Statements.{Exit, at_end, by_break, by_continue, by_return, ending, evaluated, initialising}
 use Rattle.ec_core.specs.Typing.{type_of_expr}
 use Rattle.ec_core.specs.Valid.{ValidExpr, ValidExprs, AreLeafValues}
@@ -18,17 +19,17 @@ use Rattle.ec_core.specs.Words.{leaf_words}
 use Rattle.ec_core.proofs.Filled.{leaves_fill_their_types}
 use Rattle.ec_core.proofs.Growth.{some_if, some_then, and_true}
 use Rattle.ec_ir.specs.Costs.{op_steps}
-use Rattle.ec_ir.specs.Meaning.{is_kept, Mach, machine, Frame, access_at}
+use Rattle.ec_ir.specs.Meaning.{is_kept, Mach, machine, Frame, access_at, find}
 use Rattle.ec_ir.specs.Operations.{PlainIr, store_object, return_from}
 use Rattle.ec_ir.specs.Temporaries.{Temps}
-use Rattle.ec_lower_code.specs.Code.{temp, expr_labels, expr_code, init_code}
+use Rattle.ec_lower_code.specs.Code.{temp, expr_labels, expr_code, unread_code, init_code, Branch, branch_label, branch_code}
 use Rattle.ec_lower_code.proofs.Callees.{IsOther, CallsOfExpr, CallsOfExprs}
 use Rattle.ec_lower_code.proofs.Behind.{expr_behind}
-use Rattle.ec_lower_code.proofs.Expressions.{W, value, Has, expr_runs}
+use Rattle.ec_lower_code.proofs.Expressions.{W, value, Has, Leaves, Branches, expr_runs, unread_runs, branch_runs}
 use Rattle.ec_lower_code.proofs.Homes.{HasLeaf}
 use Rattle.ec_lower_code.proofs.Objects.{change_one, renew_one, end_one, frame_change, among_more}
 use Rattle.ec_lower_code.proofs.Ops.{to_rest, storage_of, before_match, stored_in, store_match, store_comes}
-use Rattle.ec_lower_code.proofs.Pays.{simple_pays}
+use Rattle.ec_lower_code.proofs.Pays.{simple_pays, branch_cost}
 use Rattle.ec_lower_code.proofs.Scene.{World, ports, homes, set, calls_to, spot, law, apart, Scene}
 use Rattle.ec_lower_code.proofs.Shown.{held_of, Match}
 use Rattle.ec_lower_code.proofs.Steps.{Target, at, Stands, behind, around, here, Comes, Does, stays, after, bind, ends, credited, less}
@@ -187,14 +188,32 @@ module _ (wd : World) (sc : Scene wd) (ret : Returns wd sc) where
       (Has wd sc (type_of_expr e) 0 d m.temps) (value wd sc e s)
   whole_runs k e l d s m rest le p v st stands h = expr_runs wd sc k e l 0 d m.temps s m rest le p v st stands h (λ i lt. refl)
 
+  -- one that is a condition
+  pub branch_whole : (k : ℕ) (c : PlainExpr) (l : ℕ) (to : Branch) (d : ℕ) (s : State) (m : Mach) (away rest : List PlainIr) → k ≤ wd.n
+      → CallsOfExpr (IsOther wd.program) c → ValidExpr wd.program wd.io sc.f c → IsScalar (type_of_expr c) → IsTypedState wd.program s
+      → Stands sc.code (branch_code wd.program (ports wd) c l 0 to rest) → find (branch_label to) sc.code ≡ Some away
+      → Match (homes wd) (around (W wd sc)) d s m
+      → Branches wd sc k (branch_code wd.program (ports wd) c l 0 to rest) m to away rest 0 d
+      (branch_cost to (scalar_size (type_of_expr c))) m.temps (condition (set wd) c (value wd sc c s))
+  branch_whole k c l to d s m away rest le p v i st stands f h =
+      branch_runs wd sc k c l 0 to d m.temps s m away rest le p v i st stands f h (λ j lt. refl)
+
+  -- and one whose value nobody reads
+  pub unread_whole : (k : ℕ) (e : PlainExpr) (l d : ℕ) (s : State) (m : Mach) (rest : List PlainIr) → k ≤ wd.n
+      → CallsOfExpr (IsOther wd.program) e → ValidExpr wd.program wd.io sc.f e → IsTypedState wd.program s
+      → Stands sc.code (unread_code wd.program (ports wd) e l 0 rest) → Match (homes wd) (around (W wd sc)) d s m
+      → Does (W wd sc) k (here (W wd sc) (unread_code wd.program (ports wd) e l 0 rest)) m (to_rest (W wd sc) rest)
+      (Leaves wd sc 0 d m.temps) (value wd sc e s)
+  unread_whole k e l d s m rest le p v st stands h = unread_runs wd sc k e l 0 d m.temps s m rest le p v st stands h (λ i lt. refl)
+
   pub done_runs : (k : ℕ) (e : PlainExpr) (l d : ℕ) (s : State) (m : Mach) (rest out on : List PlainIr) → k ≤ wd.n
       → CallsOfExpr (IsOther wd.program) e → ValidExpr wd.program wd.io sc.f e → IsTypedState wd.program s
-      → Stands sc.code (expr_code wd.program (ports wd) e l 0 rest) → Match (homes wd) (around (W wd sc)) d s m
-      → Way k (expr_code wd.program (ports wd) e l 0 rest) m rest out on d (evaluated (set wd) (calls_to wd sc.depth) (Some e) s)
+      → Stands sc.code (unread_code wd.program (ports wd) e l 0 rest) → Match (homes wd) (around (W wd sc)) d s m
+      → Way k (unread_code wd.program (ports wd) e l 0 rest) m rest out on d (evaluated (set wd) (calls_to wd sc.depth) (Some e) s)
   done_runs k e l d s m rest out on le p v st stands h =
-      bind (W wd sc) k (here (W wd sc) (expr_code wd.program (ports wd) e l 0 rest)) m (to_rest (W wd sc) rest)
-      (Has wd sc (type_of_expr e) 0 d m.temps) (left_to rest out on) (Left d) (here (W wd sc) rest) (value wd sc e s) _ (λ z. refl)
-      (whole_runs k e l d s m rest le p v st stands h) (λ x s1 u r. at_rest d rest out on k s1 u r.has.match)
+      bind (W wd sc) k (here (W wd sc) (unread_code wd.program (ports wd) e l 0 rest)) m (to_rest (W wd sc) rest)
+      (Leaves wd sc 0 d m.temps) (left_to rest out on) (Left d) (here (W wd sc) rest) (value wd sc e s) _ (λ z. refl)
+      (unread_whole k e l d s m rest le p v st stands h) (λ x s1 u r. at_rest d rest out on k s1 u r.match)
 
 -- an object that is kept begins
 pub begun_match : (wd : World) {fs : List ℕ} (o d : ℕ) (s : State) (u : Mach) → ((x : PlainObject) → slice_get wd.program.objects o ≡ Some x

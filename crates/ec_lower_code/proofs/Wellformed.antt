@@ -61,13 +61,17 @@ use Rattle.ec_lower_code.specs.Code.{change_code, postfix_code, step_code, offse
 use Rattle.ec_lower_code.specs.Code.{port_operator, port_code, place_behind as value_behind, operand_temp, access_code}
 use Rattle.ec_lower_code.specs.Code.{byte_type, pairs_code, group_code, option_labels, option_code, expr_labels, expr_code}
 use Rattle.ec_lower_code.specs.Code.{node_code, args_code, lowered_function, lowered}
+use Rattle.ec_lower_code.specs.Code.{stepping_code, unread_code}
+use Rattle.ec_lower_code.specs.Code.{Branch, where_zero, where_not, branch_to, opposite, zero_label, other_label, and_end}
+use Rattle.ec_lower_code.specs.Code.{or_end, branch_code, branch_label}
 use Rattle.ec_lower_code.specs.Correct.{IsBytePair, GroupsHaveBytes}
 use Rattle.ec_lower_code.proofs.Numeric.{IsNumeric}
-use Rattle.ec_lower_code.proofs.Behind.{expr_behind, place_behind, operand_behind, args_behind, params_behind}
+use Rattle.ec_lower_code.proofs.Behind.{expr_behind, node_behind, unread_behind, branch_behind, place_behind, operand_behind}
+use Rattle.ec_lower_code.proofs.Behind.{args_behind, params_behind}
 use Rattle.ec_lower_code.proofs.Expressions.{arithmetic_scalar, offset_integer, binary_scalars, converted_scalar}
 use Rattle.ec_lower_code.proofs.Expressions.{pointer_scalar, type_known, compound_facts, compound_right, address_typed}
 use Rattle.ec_lower_code.proofs.Expressions.{step_types, stepped_place}
-use Rattle.ec_lower_code.proofs.Insides.{place_need, layout_of, Part, of_object, of_pointer, part, room}
+use Rattle.ec_lower_code.proofs.Insides.{place_need, layout_of, HasRoom, Part, of_object, of_pointer, part, room}
 use Rattle.ec_lower_code.proofs.Facts.{all_at, each_at, param_home, scalar_leaf}
 use Rattle.ec_lower_code.proofs.Labels.{counted}
 use Rattle.ec_lower_code.proofs.Numbers.{scalar_bytes}
@@ -465,6 +469,35 @@ module _ (program : PlainProgram) (table : IoTable) (valid : Valid program table
   address_ok q t ty to rest lt i tp h (of_pointer space const u is needs some home) r = subst (λ z. AllGood (address_code z ty t rest))
       (sym is) r
 
+  -- a branch on a condition
+  branch_to_ok : (to : Branch) (t : ℕ) (ty : PlainType) (rest : List PlainIr) → t < slots → IsScalar ty → count (branch_label to) all ≡ 1
+      → Stands all (branch_to to (temp t ty) rest) → AllGood rest → AllGood (branch_to to (temp t ty) rest)
+  branch_to_ok (where_zero to) t ty rest lt i one s r = ((temp_ok t ty lt i, one), r)
+  branch_to_ok (where_not to past) t ty rest lt i one s r =
+      ((temp_ok t ty lt i, label_once past rest (behind all _ _ (behind all _ _ s))), (one, (tt, r)))
+
+  zero_ok_at : (to : Branch) (l : ℕ) (rest : List PlainIr) → count (branch_label to) all ≡ 1 → Stands all (and_end to l rest)
+      → count (zero_label to l) all ≡ 1
+  zero_ok_at (where_zero to) l rest one s = one
+  zero_ok_at (where_not to past) l rest one s = label_once l rest s
+
+  other_ok_at : (to : Branch) (l : ℕ) (rest : List PlainIr) → count (branch_label to) all ≡ 1 → Stands all (or_end to l rest)
+      → count (other_label to l) all ≡ 1
+  other_ok_at (where_zero to) l rest one s = label_once l rest s
+  other_ok_at (where_not to past) l rest one s = one
+
+  opposite_ok : (to : Branch) (l : ℕ) → count (branch_label to) all ≡ 1 → count (branch_label (opposite to l)) all ≡ 1
+  opposite_ok (where_zero to) l one = one
+  opposite_ok (where_not to past) l one = one
+
+  and_end_ok : (to : Branch) (l : ℕ) (rest : List PlainIr) → AllGood rest → AllGood (and_end to l rest)
+  and_end_ok (where_zero to) l rest r = r
+  and_end_ok (where_not to past) l rest r = (tt, r)
+
+  or_end_ok : (to : Branch) (l : ℕ) (rest : List PlainIr) → AllGood rest → AllGood (or_end to l rest)
+  or_end_ok (where_zero to) l rest r = (tt, r)
+  or_end_ok (where_not to past) l rest r = r
+
   truths_ok : (h : Bool) (ty : PlainType) (l t : ℕ) (rest : List PlainIr) → ty ≡ int → t < slots → Stands all (truth_code h ty l t rest)
       → AllGood rest → AllGood (truth_code h ty l t rest)
   truths_ok h ty l t rest e lt s r =
@@ -607,6 +640,24 @@ module _ (program : PlainProgram) (table : IoTable) (valid : Valid program table
   stepped_within : (prefix : Bool) (v : ℕ) → v + 1 < slots → stepped_place prefix v < slots
   stepped_within true v lt = omega (arith, lt)
   stepped_within false v lt = lt
+
+  -- the step of a place, from its old value on
+  stepping_ok : (up prefix : Bool) (mode : Mode) (ty : PlainType) (q : PlainPlace) (t : ℕ) (rest : List PlainIr) → IsScalar ty
+      → IsExprType program ty → Part program table valid f q t ty → HasRoom program table valid f q t (1 ∷ 1 ∷ []) slots → AllGood rest
+      → AllGood (stepping_code up prefix mode ty (site program q t) t rest)
+  stepping_ok up prefix mode ty q t rest i k pt rm r =
+      let st = site program q t in
+      let u = value_place st t in
+      let others = rm.others in
+      let above : u + 1 < slots = omega (arith, others) in (
+        load_ok q t u ty (omega (arith, above)) rm.one i pt,
+        (
+          (temp_ok (u + 1) int above (inr (inl refl)), truth_ok int true refl),
+          steps_ok prefix up mode ty st u (settled_code st ty t rest) i k above
+              (store_ok q t (stepped_place prefix u) ty (stepped_within prefix u above) rm.one i pt)
+              (settled_ok q t ty ty rest (omega (arith, above)) i pt r),
+        ),
+      )
 
   -- arguments are stored to the parameters of the function that is called
   params_ok : (g : ℕ) (os : List ℕ) (es : PlainExprs) (t k : ℕ) (rest : List PlainIr) → Contains (called_in all) g
@@ -812,96 +863,55 @@ module _ (program : PlainProgram) (table : IoTable) (valid : Valid program table
               (settled_ok q t ty ty rest (omega (arith, others)) tp.0.0 pt r)),
         )
     node_ok ty mode (step up prefix q) l t rest k tp v le s r =
-        let st = site program q t in
-        let u = value_place st t in
         let pt = part program table valid f q t ty tp.1 v in
         let rm = room program table valid f q t ty (1 ∷ 1 ∷ []) slots pt le in
-        let others = rm.others in
-        let above : u + 1 < slots = omega (arith, others) in
-        let e = settled_code st ty t rest in
-        let c = step_code prefix (step_operator up) mode ty st u e in
-        place_ok q l t (load_from (temp u ty) st ∷ constant (temp (u + 1) int) (pos 1) ∷ c) ty tp.1 v rm.pointer s (
-          load_ok q t u ty (omega (arith, above)) rm.one tp.0 pt,
-          (
-            (temp_ok (u + 1) int above (inr (inl refl)), truth_ok int true refl),
-            steps_ok prefix up mode ty st u e tp.0 k above (store_ok q t (stepped_place prefix u) ty (stepped_within prefix u above) rm.one
-                tp.0
-                pt) (settled_ok q t ty ty rest (omega (arith, above)) tp.0 pt r),
-          ),
-        )
+        place_ok q l t (stepping_code up prefix mode ty (site program q t) t rest) ty tp.1 v rm.pointer s
+        (stepping_ok up prefix mode ty q t rest tp.0 k pt rm r)
     node_ok ty mode (logical_not a) l t rest k tp v le s r =
         let q = truth_code false ty l t rest in
-        let s1 = behind all (branch_zero (temp t (type_of_expr a)) l) q (expr_behind program (plain_table table) all a (l + 2) t
-        (branch_zero (temp t (type_of_expr a)) l ∷ q) s) in
-        expr_ok a (l + 2) t (branch_zero (temp t (type_of_expr a)) l ∷ q) v (omega (arith, le)) s (
-          (temp_ok t (type_of_expr a) (omega (arith, le)) tp.0, label_once l _ (behind all _ _ (behind all _ _ s1))),
-          truths_ok false ty l t rest tp.1 (omega (arith, le)) s1 r,
-        )
+        let s1 = branch_behind program (plain_table table) all a (l + 2) t (where_zero l) q s in
+        branch_ok a (l + 2) t (where_zero l) q v (omega (arith, le)) tp.0 (label_once l _ (behind all _ _ (behind all _ _ s1))) s
+        (truths_ok false ty l t rest tp.1 (omega (arith, le)) s1 r)
     node_ok ty mode (logical_and a b) l t rest k tp v le s r =
         let q = truth_code true ty l t rest in
-        let bc = expr_code program (plain_table table) b (l + 2 + expr_labels a) t (branch_zero (temp t (type_of_expr b)) l ∷ q) in
-        let s1 = behind all (branch_zero (temp t (type_of_expr a)) l) bc (expr_behind program (plain_table table) all a (l + 2) t
-        (branch_zero (temp t (type_of_expr a)) l ∷ bc) s) in
-        let s2 = behind all (branch_zero (temp t (type_of_expr b)) l) q (expr_behind program (plain_table table) all b
-        (l + 2 + expr_labels a) t (branch_zero (temp t (type_of_expr b)) l ∷ q) s1) in
+        let bc = branch_code program (plain_table table) b (l + 2 + expr_labels a) t (where_zero l) q in
+        let s1 = branch_behind program (plain_table table) all a (l + 2) t (where_zero l) bc s in
+        let s2 = branch_behind program (plain_table table) all b (l + 2 + expr_labels a) t (where_zero l) q s1 in
         let one = label_once l _ (behind all _ _ (behind all _ _ s2)) in
-        expr_ok a (l + 2) t (branch_zero (temp t (type_of_expr a)) l ∷ bc) v.0 (omega (arith, le)) s (
-          (temp_ok t (type_of_expr a) (omega (arith, le)) tp.0, one),
-          expr_ok b (l + 2 + expr_labels a) t (branch_zero (temp t (type_of_expr b)) l ∷ q) v.1 (omega (arith, le)) s1
-              ((temp_ok t (type_of_expr b) (omega (arith, le)) tp.1, one), truths_ok true ty l t rest tp.2 (omega (arith, le)) s2 r),
-        )
+        branch_ok a (l + 2) t (where_zero l) bc v.0 (omega (arith, le)) tp.0 one s
+        (branch_ok b (l + 2 + expr_labels a) t (where_zero l) q v.1 (omega (arith, le)) tp.1 one s1
+        (truths_ok true ty l t rest tp.2 (omega (arith, le)) s2 r))
     node_ok ty mode (logical_or a b) l t rest k tp v le s r =
         let q = truth_code true ty l t rest in
-        let bc = expr_code program (plain_table table) b (l + 4 + expr_labels a) t (branch_zero (temp t (type_of_expr b)) l ∷ label (l + 3)
-        ∷ q) in
-        let s1 = behind all (branch_zero (temp t (type_of_expr a)) (l + 2)) _ (expr_behind program (plain_table table) all a (l + 4) t
-        (branch_zero (temp t (type_of_expr a)) (l + 2) ∷ jump (l + 3) ∷ label (l + 2) ∷ bc) s) in
-        let s2 = behind all (jump (l + 3)) (label (l + 2) ∷ bc) s1 in
-        let s3 = behind all (label (l + 2)) bc s2 in
-        let s4 = behind all (branch_zero (temp t (type_of_expr b)) l) (label (l + 3) ∷ q) (expr_behind program (plain_table table) all b
-        (l + 4 + expr_labels a) t (branch_zero (temp t (type_of_expr b)) l ∷ label (l + 3) ∷ q) s3) in
-        let s5 = behind all (label (l + 3)) q s4 in
-        let one = label_once l _ (behind all _ _ (behind all _ _ s5)) in
-        expr_ok a (l + 4) t (branch_zero (temp t (type_of_expr a)) (l + 2) ∷ jump (l + 3) ∷ label (l + 2) ∷ bc) v.0 (omega (arith, le)) s (
-          (temp_ok t (type_of_expr a) (omega (arith, le)) tp.0, label_once (l + 2) bc s2),
-          (
-            label_once (l + 3) q s4,
-            (
-              tt,
-              expr_ok b (l + 4 + expr_labels a) t (branch_zero (temp t (type_of_expr b)) l ∷ label (l + 3) ∷ q) v.1 (omega (arith, le)) s3 (
-                (temp_ok t (type_of_expr b) (omega (arith, le)) tp.1, one),
-                (
-                  tt,
-                  truths_ok true ty l t rest tp.2
-                      (omega (arith, le)) s5 r,
-                ),
-              ),
-            ),
-          ),
-        )
+        let end : List PlainIr = label (l + 3) ∷ q in
+        let bc = branch_code program (plain_table table) b (l + 4 + expr_labels a) t (where_zero l) end in
+        let s1 = branch_behind program (plain_table table) all a (l + 4) t (where_not (l + 3) (l + 2)) bc s in
+        let s2 = branch_behind program (plain_table table) all b (l + 4 + expr_labels a) t (where_zero l) end s1 in
+        let s3 = behind all (label (l + 3)) q s2 in
+        let one = label_once l _ (behind all _ _ (behind all _ _ s3)) in
+        branch_ok a (l + 4) t (where_not (l + 3) (l + 2)) bc v.0 (omega (arith, le)) tp.0 (label_once (l + 3) q s2) s
+        (branch_ok b (l + 4 + expr_labels a) t (where_zero l) end v.1 (omega (arith, le)) tp.1 one s1
+        (tt, truths_ok true ty l t rest tp.2 (omega (arith, le)) s3 r))
     node_ok ty mode (conditional c a b) l t rest k tp v le s r =
         let bc = expr_code program (plain_table table) b (l + 2 + expr_labels c + expr_labels a) t (label (l + 1) ∷ rest) in
         let ac = expr_code program (plain_table table) a (l + 2 + expr_labels c) t (jump (l + 1) ∷ label l ∷ bc) in
-        let s1 = behind all (branch_zero (temp t (type_of_expr c)) l) ac (expr_behind program (plain_table table) all c (l + 2) t
-        (branch_zero (temp t (type_of_expr c)) l ∷ ac) s) in
+        let s1 = branch_behind program (plain_table table) all c (l + 2) t (where_zero l) ac s in
         let s2 = behind all (jump (l + 1)) (label l ∷ bc) (expr_behind program (plain_table table) all a (l + 2 + expr_labels c) t
         (jump (l + 1) ∷ label l ∷ bc) s1) in
         let s3 = behind all (label l) bc s2 in
         let s4 = expr_behind program (plain_table table) all b (l + 2 + expr_labels c + expr_labels a) t (label (l + 1) ∷ rest) s3 in
-        expr_ok c (l + 2) t (branch_zero (temp t (type_of_expr c)) l ∷ ac) v.0 (omega (arith, le)) s (
-          (temp_ok t (type_of_expr c) (omega (arith, le)) tp.0, label_once l bc s2),
-          expr_ok a (l + 2 + expr_labels c) t (jump (l + 1) ∷ label l ∷ bc) v.1 (omega (arith, le)) s1 (
-            label_once (l + 1) rest s4,
-            (
-              tt,
-              expr_ok b (l + 2 + expr_labels c + expr_labels a) t (label (l + 1) ∷ rest) v.2 (omega (arith, le)) s3 (tt, r),
-            ),
+        branch_ok c (l + 2) t (where_zero l) ac v.0 (omega (arith, le)) tp.0 (label_once l bc s2) s
+        (expr_ok a (l + 2 + expr_labels c) t (jump (l + 1) ∷ label l ∷ bc) v.1 (omega (arith, le)) s1 (
+          label_once (l + 1) rest s4,
+          (
+            tt,
+            expr_ok b (l + 2 + expr_labels c + expr_labels a) t (label (l + 1) ∷ rest) v.2 (omega (arith, le)) s3 (tt, r),
           ),
-        )
+        ))
     node_ok ty mode (comma a b) l t rest k tp v le s r =
         let bc = expr_code program (plain_table table) b (l + expr_labels a) t rest in
-        expr_ok a l t bc v.0 (omega (arith, le)) s (expr_ok b (l + expr_labels a) t rest v.1 (omega (arith, le))
-        (expr_behind program (plain_table table) all a l t bc s) r)
+        unread_ok a l t bc v.0 (omega (arith, le)) s (expr_ok b (l + expr_labels a) t rest v.1 (omega (arith, le))
+        (unread_behind program (plain_table table) all a l t bc s) r)
     node_ok ty mode (call g args) l t rest k tp v le s r =
         let h = some_and (slice_get program.functions g) (λ h. (ty ≡ h.returns) × AreArguments program h.params args) tp in
         let q : List PlainIr = call_function g (result_temp t ty) ∷ rest in
@@ -929,6 +939,46 @@ module _ (program : PlainProgram) (table : IoTable) (valid : Valid program table
         (port_places (port_operation op).action (port_value (port_operation op)) i w t slots tp.value le) r))
     node_ok ty mode (group acquire g) l t rest k tp v le s r = group_ok acquire (slice_get (plain_table table).groups g) t rest
         (group_pairs table pairs g) (omega (arith, le)) r
+
+    pub unread_ok : (e : PlainExpr) (l t : ℕ) (rest : List PlainIr) → ValidExpr program table f e → t + expr_need e ≤ slots
+        → Stands all (unread_code program (plain_table table) e l t rest) → AllGood rest
+        → AllGood (unread_code program (plain_table table) e l t rest)
+    unread_ok (expression ty mode (step up prefix q)) l t rest v le s r =
+        let pt = part program table valid f q t ty v.1.1 v.2 in
+        let rm = room program table valid f q t ty (1 ∷ 1 ∷ []) slots pt le in
+        place_ok q l t (stepping_code up true mode ty (site program q t) t rest) ty v.1.1 v.2 rm.pointer s
+        (stepping_ok up true mode ty q t rest v.1.0 v.0 pt rm r)
+    unread_ok (expression ty mode (comma a b)) l t rest v le s r =
+        let bc = unread_code program (plain_table table) b (l + expr_labels a) t rest in
+        unread_ok a l t bc v.2.0 (omega (arith, le)) s (unread_ok b (l + expr_labels a) t rest v.2.1 (omega (arith, le))
+        (unread_behind program (plain_table table) all a l t bc s) r)
+    unread_ok (expression ty mode node) l t rest v le s r = node_ok ty mode node l t rest v.0 v.1 v.2 le s r
+
+    pub branch_ok : (e : PlainExpr) (l t : ℕ) (to : Branch) (rest : List PlainIr) → ValidExpr program table f e
+        → t + expr_need e ≤ slots → IsScalar (type_of_expr e) → count (branch_label to) all ≡ 1
+        → Stands all (branch_code program (plain_table table) e l t to rest) → AllGood rest
+        → AllGood (branch_code program (plain_table table) e l t to rest)
+    branch_ok (expression ty mode (logical_not a)) l t to rest v le i one s r =
+        branch_ok a (l + 2) t (opposite to l) rest v.2 (omega (arith, le)) v.1.0 (opposite_ok to l one) s r
+    branch_ok (expression ty mode (logical_and a b)) l t to rest v le i one s r =
+        let q = and_end to l rest in
+        let bc = branch_code program (plain_table table) b (l + 2 + expr_labels a) t to q in
+        let s1 = branch_behind program (plain_table table) all a (l + 2) t (where_zero (zero_label to l)) bc s in
+        let s2 = branch_behind program (plain_table table) all b (l + 2 + expr_labels a) t to q s1 in
+        branch_ok a (l + 2) t (where_zero (zero_label to l)) bc v.2.0 (omega (arith, le)) v.1.0 (zero_ok_at to l rest one s2) s
+        (branch_ok b (l + 2 + expr_labels a) t to q v.2.1 (omega (arith, le)) v.1.1 one s1 (and_end_ok to l rest r))
+    branch_ok (expression ty mode (logical_or a b)) l t to rest v le i one s r =
+        let q = or_end to l rest in
+        let bc = branch_code program (plain_table table) b (l + 4 + expr_labels a) t to q in
+        let s1 = branch_behind program (plain_table table) all a (l + 4) t (where_not (other_label to l) (l + 1)) bc s in
+        let s2 = branch_behind program (plain_table table) all b (l + 4 + expr_labels a) t to q s1 in
+        branch_ok a (l + 4) t (where_not (other_label to l) (l + 1)) bc v.2.0 (omega (arith, le)) v.1.0 (other_ok_at to l rest one s2) s
+        (branch_ok b (l + 4 + expr_labels a) t to q v.2.1 (omega (arith, le)) v.1.1 one s1 (or_end_ok to l rest r))
+    branch_ok (expression ty mode node) l t to rest v le i one s r =
+        let q = branch_to to (temp t ty) rest in
+        let need = some_need (expression ty mode node) in
+        node_ok ty mode node l t q v.0 v.1 v.2 le s (branch_to_ok to t ty rest (omega (arith, le, need)) i one
+        (node_behind program (plain_table table) all ty mode node l t q s) r)
 
     place_ok : (q : PlainPlace) (l t : ℕ) (rest : List PlainIr) (ty : PlainType) → place_type program q ≡ Some ty
         → ValidPlace program table f q → t + place_need q ≤ slots → Stands all (place_code program (plain_table table) q l t rest)

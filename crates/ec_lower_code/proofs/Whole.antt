@@ -1,5 +1,5 @@
 -- Whole programs.
-use Rattle.std.proofs.Common.{◌≡◌, ℕ, zero, suc, ◌+◌, ◌*◌, Bool, true, false, ℤ, pos, List, [], ◌∷◌, length, map, Option, Some}
+use Rattle.std.proofs.Common.{◌≡◌, ℕ, zero, suc, ◌+◌, ◌*◌, Bool, true, false, not, ℤ, pos, List, [], ◌∷◌, length, map, Option, Some}
 use Rattle.std.proofs.Common.{None, refl, sym, ap, ◌∙◌, subst, inl, inr, arith, eq-eqb}
 use Rattle.std.specs.Prelude.{⊤, ◌==◌, ◌||◌, IsTrue, nat_le, slice_get, replicate, option_map, option_and_then}
 use Rattle.std.specs.List.{AllByRecursion}
@@ -30,12 +30,13 @@ use Rattle.ec_ir.specs.Costs.{op_steps}
 use Rattle.ec_ir.specs.Meaning.{Mach, machine, Place, enter, leave, standing, start, run, meaning, start_state}
 use Rattle.ec_ir.specs.Operations.{PlainIr, label, return_from}
 use Rattle.ec_ir.proofs.Runs.{operations_are_runs}
-use Rattle.ec_lower_code.specs.Code.{temp, end_code, function_code, lowered_function, lowered}
+use Rattle.ec_lower_code.specs.Code.{temp, body_returns, end_code, function_code, lowered_function, lowered}
 use Rattle.ec_lower_code.specs.Correct.{is_paid, LoweredFollows}
 use Rattle.ec_lower_code.proofs.Callees.{run_parts}
 use Rattle.ec_lower_code.proofs.Behind.{stmt_behind}
 use Rattle.ec_lower_code.proofs.Bodies.{stmt_runs}
 use Rattle.ec_lower_code.proofs.Calls.{frame_match, callee_runs}
+use Rattle.ec_lower_code.proofs.Ends.{EndsBy, body_ends, end_is}
 use Rattle.ec_lower_code.proofs.Expressions.{W}
 use Rattle.ec_lower_code.proofs.Labels.{function_resolves}
 use Rattle.ec_lower_code.proofs.Numbers.{typed_back}
@@ -188,7 +189,7 @@ module _ (wd : World) (main : PlainFunction) (is : slice_get wd.program.function
     Finishes q m o = Does w wd.n q m (λ v. over (shown v)) (λ v s u. Match (homes wd) [] 0 s u) o
 
     -- a return without a value, where the body is left at its end
-    falls : (s : State) (u : Mach) → Match (homes wd) (around w) 40 s u → Finishes (here w end_code) u
+    falls : (s : State) (u : Mach) → Match (homes wd) (around w) 40 s u → Finishes (here w (return_from None ∷ [])) u
         (got (Number (pos 0)) (frame_ended wd.program wd.program.main s))
     falls s u h =
         let v : Mach = machine u.temps (worked (op_steps (return_from None)) u.state) in (
@@ -198,40 +199,43 @@ module _ (wd : World) (main : PlainFunction) (is : slice_get wd.program.function
           record { by = λ k. (suc k, omega arith, same refl) },
         )
 
-    finishes : (q : List PlainIr) (m : Mach) (o : Outcome Exit) → Typed wd inside returns_to wd.n q m (label 0 ∷ end_code) end_code end_code
-        40 o → Finishes (here w q) m (next o (λ x s. call_result int true x (frame_ended wd.program wd.program.main s)))
+    -- the end is come to only where it is a return
+    finishes : (q : List PlainIr) (m : Mach) (end : List PlainIr) (may : Bool) → (may ≡ true → end ≡ return_from None ∷ [])
+        → (o : Outcome Exit) → EndsBy may o → Typed wd inside returns_to wd.n q m (label 0 ∷ end) end end 40 o
+        → Finishes (here w q) m (next o (λ x s. call_result int true x (frame_ended wd.program wd.program.main s)))
     unfolding returns_to
-    finishes q m (got at_end s) d =
-        after w (λ v. over (shown v)) (λ v s u. Match (homes wd) [] 0 s u) wd.n (here w q) (here w (label 0 ∷ end_code)) m d.0
+    finishes q m end may is (got at_end s) by d =
+        after w (λ v. over (shown v)) (λ v s u. Match (homes wd) [] 0 s u) wd.n (here w q) (here w (label 0 ∷ end)) m d.0
         (got (Number (pos 0)) (frame_ended wd.program wd.program.main s)) d.2
-        (after w (λ v. over (shown v)) (λ v s u. Match (homes wd) [] 0 s u) wd.n (here w (label 0 ∷ end_code)) (here w end_code) d.0 d.0
-        (got (Number (pos 0)) (frame_ended wd.program wd.program.main s)) (label_comes w 0 end_code d.0) (falls s d.0 d.1.left.match))
-    finishes q m (got by_break s) d = after w (λ v. over (shown v)) (λ v s u. Match (homes wd) [] 0 s u) wd.n (here w q)
-        (here w end_code) m d.0 (got (Number (pos 0)) (frame_ended wd.program wd.program.main s)) d.2 (falls s d.0 d.1.left.match)
-    finishes q m (got by_continue s) d = after w (λ v. over (shown v)) (λ v s u. Match (homes wd) [] 0 s u) wd.n (here w q)
-        (here w end_code) m d.0 (got (Number (pos 0)) (frame_ended wd.program wd.program.main s)) d.2 (falls s d.0 d.1.left.match)
-    finishes q m (got (by_return None) s) d = (
+        (after w (λ v. over (shown v)) (λ v s u. Match (homes wd) [] 0 s u) wd.n (here w (label 0 ∷ end)) (here w end) d.0 d.0
+        (got (Number (pos 0)) (frame_ended wd.program wd.program.main s)) (label_comes w 0 end d.0)
+        (subst (λ (z : List PlainIr). Finishes (here w z) d.0 (got (Number (pos 0)) (frame_ended wd.program wd.program.main s))) (sym (is by))
+        (falls s d.0 d.1.left.match)))
+    finishes q m end may is (got by_break s) by d = absurd by
+    finishes q m end may is (got by_continue s) by d = absurd by
+    finishes q m end may is (got (by_return None) s) by d = (
       d.0,
       less (homes wd) 40 0 (frame_ended wd.program wd.program.main s) d.0 (omega arith)
           d.1.left.match,
       d.2,
     )
-    finishes q m (got (by_return (Some v)) s) d = (
+    finishes q m end may is (got (by_return (Some v)) s) by d = (
       d.0,
       less (homes wd) 40 0 (frame_ended wd.program wd.program.main s) d.0 (omega arith)
           d.1.left.match,
       d.2,
     )
-    finishes q m (more s) d = d
-    finishes q m (undefined point s) d = tt
+    finishes q m end may is (more s) by d = d
+    finishes q m end may is (undefined point s) by d = tt
 
     main_runs : (s : State) (m : Mach) → Match (homes wd) (around w) 0 s m → IsTypedState wd.program s
         → Finishes (here w code) m (call_of (set wd) (calls_to wd deep) wd.n wd.program.main (Some main) [] s)
     unfolding returns_to
     main_runs s m h st =
         let all : Stands code code = ([], refl) in
-        let end = function_resolves wd.program (ports wd) main 0 end_code (stmt_behind wd.program (ports wd) code main.body 1 0 0
-        (label 0 ∷ end_code) all) in
+        let q = end_code main.body in
+        let end = function_resolves wd.program (ports wd) main 0 q (stmt_behind wd.program (ports wd) code main.body 1 0 0
+        (label 0 ∷ q) all) in
         let function_is : IsFunction wd.program wd.io wd.program.main main = (law wd).functions wd.program.main main is in
         subst (λ (ps : List ℕ). Finishes (here w code) m (next (parameters_written (set wd) ps [] (worked function_words s))
         (λ y s1. next (effect_of (set wd) (calls_to wd deep) wd.n main.body s1)
@@ -243,8 +247,11 @@ module _ (wd : World) (main : PlainFunction) (is : slice_get wd.program.function
         (subst (λ (b : Bool). Finishes (here w code) m (next (effect_of (set wd) (calls_to wd deep) wd.n main.body (worked function_words
         s))
         (λ x s2. call_result int b x (frame_ended wd.program wd.program.main s2)))) (sym (eq-eqb wd.program.main wd.program.main refl))
-        (finishes code m (effect_of (set wd) (calls_to wd deep) wd.n main.body (worked function_words s))
-        (stmt_runs wd inside returns_to main.body false 1 0 0 40 (label 0 ∷ end_code) end_code end_code
+        (finishes code m q (not (body_returns main.body)) (λ e. end_is (body_returns main.body) e)
+        (effect_of (set wd) (calls_to wd deep) wd.n main.body (worked function_words s))
+        (body_ends (set wd) (calls_to wd deep) wd.n wd.program wd.io wd.program.main main.returns main.body (worked function_words s)
+        function_is.body)
+        (stmt_runs wd inside returns_to main.body false 1 0 0 40 (label 0 ∷ q) q q
         (run_parts wd.program wd.io wd.valid wd.program.main main is (inl refl))
         (subst (λ (ty : PlainType). ValidStmt wd.program wd.io wd.program.main ty false main.body) returns function_is.body) all end end
         (worked function_words s) m (credited (homes wd) 40 0 s m h) st))))

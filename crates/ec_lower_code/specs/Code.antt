@@ -1,7 +1,7 @@
 -- The operations of a program. Each part's are written before what follows them. The value of an expression goes to the
 -- temporary at place t, with what is worked out while it is kept at t + 1 and on; labels are numbers from l on.
 -- A place is an object with an offset in it, or what the pointer at t points to.
-use Rattle.std.specs.Prelude.{ℕ, ◌+◌, Bool, true, false, not, pos, List, [], ◌∷◌, map, Option, Some, None, option_map}
+use Rattle.std.specs.Prelude.{ℕ, ◌+◌, Bool, true, false, not, ◌||◌, pos, List, [], ◌∷◌, map, Option, Some, None, option_map}
 use Rattle.std.specs.Prelude.{unwrap_or, slice_get}
 use Rattle.ec_fx.specs.declared.numbers.Mode.{Mode}
 use Rattle.ec_iohw.specs.declared.operations.IoOp.{IoOp}
@@ -41,6 +41,45 @@ use Rattle.ec_ir.specs.declared.operations.Temp.{Temp}
 
 abbrev pub temp : ℕ → PlainType → Temp
 temp t ty = record { at = t; bytes = scalar_size ty }
+
+-- ---- branches
+
+-- where a condition leads to: to a label where it is 0, or to one where it is not, past a label of its own where it is;
+-- else to what follows
+pub data Branch : Type 0 where
+  where_zero : (to : ℕ) → Branch
+  where_not : (to past : ℕ) → Branch
+
+abbrev pub branch_to : Branch → Temp → List PlainIr → List PlainIr
+branch_to (where_zero to) t rest = branch_zero t to ∷ rest
+branch_to (where_not to past) t rest = branch_zero t past ∷ jump to ∷ label past ∷ rest
+
+abbrev pub branch_label : Branch → ℕ
+branch_label (where_zero to) = to
+branch_label (where_not to past) = to
+
+-- that of `!`, which has a label for it
+abbrev pub opposite : Branch → (l : ℕ) → Branch
+opposite (where_zero to) l = where_not to l
+opposite (where_not to past) l = where_zero to
+
+-- where the first operand of `&&` leads to if it is 0, and that of `||` if it is not: where the whole does, which is
+-- behind the second operand, at the label l, where the whole goes on then
+abbrev pub zero_label : Branch → (l : ℕ) → ℕ
+zero_label (where_zero to) l = to
+zero_label (where_not to past) l = l
+
+abbrev pub other_label : Branch → (l : ℕ) → ℕ
+other_label (where_zero to) l = l
+other_label (where_not to past) l = to
+
+abbrev pub and_end : Branch → (l : ℕ) → List PlainIr → List PlainIr
+and_end (where_zero to) l rest = rest
+and_end (where_not to past) l rest = label l ∷ rest
+
+abbrev pub or_end : Branch → (l : ℕ) → List PlainIr → List PlainIr
+or_end (where_zero to) l rest = label l ∷ rest
+or_end (where_not to past) l rest = rest
 
 -- a void expression has no temporary
 abbrev pub result_temp : ℕ → PlainType → Option Temp
@@ -224,6 +263,12 @@ abbrev pub step_code : Bool → BinOp → Mode → PlainType → Site → (t : �
 step_code true op mode ty site t rest = change_code op mode mode ty site t int rest
 step_code false op mode ty site t rest = postfix_code op mode ty site t rest
 
+-- a step of a place, whose pointer, where there is one, stands at t: the old value, the 1 above it, and the step
+abbrev pub stepping_code : (up prefix : Bool) → Mode → PlainType → Site → (t : ℕ) → List PlainIr → List PlainIr
+stepping_code up prefix mode ty site t rest =
+    load_from (temp (value_place site t) ty) site ∷ constant (temp (value_place site t + 1) int) (pos 1)
+    ∷ step_code prefix (step_operator up) mode ty site (value_place site t) (settled_code site ty t rest)
+
 -- arguments from t on are stored to the parameters
 abbrev pub params_code : List ℕ → PlainExprs → (t : ℕ) → List PlainIr → List PlainIr
 params_code (o ∷ os) (next_expr e es) t rest =
@@ -288,9 +333,29 @@ abbrev pub group_code : Bool → Option PlainGroup → (t : ℕ) → List PlainI
 group_code acquire None t rest = rest
 group_code acquire (Some g) t rest = pairs_code (pairs_of acquire g) t rest
 
--- the end of a body returns without a value. A break and a continue outside loops, of which there are none, go there
-abbrev pub end_code : List PlainIr
-end_code = return_from None ∷ []
+-- a block with a return among its statements, which is not left at its end
+abbrev pub is_return : PlainKind → Bool
+is_return (return_value e) = true
+is_return kind = false
+
+abbrev pub have_return : PlainStmts → Bool
+have_return last_stmt = false
+have_return (next_stmt (statement unit at kind) ss) = is_return kind || have_return ss
+
+abbrev pub has_return : PlainKind → Bool
+has_return (block ss) = have_return ss
+has_return kind = false
+
+abbrev pub body_returns : PlainStmt → Bool
+body_returns (statement unit at kind) = has_return kind
+
+-- the end of a body that may come to it returns without a value
+abbrev pub end_of : (is_left : Bool) → List PlainIr
+end_of true = []
+end_of false = return_from None ∷ []
+
+abbrev pub end_code : PlainStmt → List PlainIr
+end_code body = end_of (body_returns body)
 
 module _ (program : PlainProgram) where
   abbrev pub params_of : ℕ → List ℕ
@@ -340,24 +405,20 @@ module _ (program : PlainProgram) (table : PlainTable) where
         (change_code op own mode ty (site program p t) (value_place (site program p t) t) (type_of_expr a)
         (settled_code (site program p t) ty t rest)))
     node_code ty mode (step up prefix p) l t rest =
-        place_code p l t (load_from (temp (value_place (site program p t) t) ty) (site program p t)
-        ∷ constant (temp (value_place (site program p t) t + 1) int) (pos 1)
-        ∷ step_code prefix (step_operator up) mode ty (site program p t) (value_place (site program p t) t)
-        (settled_code (site program p t) ty t rest))
+        place_code p l t (stepping_code up prefix mode ty (site program p t) t rest)
     node_code ty mode (logical_not a) l t rest =
-        expr_code a (l + 2) t (branch_zero (temp t (type_of_expr a)) l ∷ truth_code false ty l t rest)
+        branch_code a (l + 2) t (where_zero l) (truth_code false ty l t rest)
     node_code ty mode (logical_and a b) l t rest =
-        expr_code a (l + 2) t (branch_zero (temp t (type_of_expr a)) l
-        ∷ expr_code b (l + 2 + expr_labels a) t (branch_zero (temp t (type_of_expr b)) l ∷ truth_code true ty l t rest))
+        branch_code a (l + 2) t (where_zero l)
+        (branch_code b (l + 2 + expr_labels a) t (where_zero l) (truth_code true ty l t rest))
     node_code ty mode (logical_or a b) l t rest =
-        expr_code a (l + 4) t (branch_zero (temp t (type_of_expr a)) (l + 2) ∷ jump (l + 3) ∷ label (l + 2)
-        ∷ expr_code b (l + 4 + expr_labels a) t (branch_zero (temp t (type_of_expr b)) l ∷ label (l + 3)
-        ∷ truth_code true ty l t rest))
+        branch_code a (l + 4) t (where_not (l + 3) (l + 2))
+        (branch_code b (l + 4 + expr_labels a) t (where_zero l) (label (l + 3) ∷ truth_code true ty l t rest))
     node_code ty mode (conditional c a b) l t rest =
-        expr_code c (l + 2) t (branch_zero (temp t (type_of_expr c)) l
-        ∷ expr_code a (l + 2 + expr_labels c) t (jump (l + 1) ∷ label l
+        branch_code c (l + 2) t (where_zero l)
+        (expr_code a (l + 2 + expr_labels c) t (jump (l + 1) ∷ label l
         ∷ expr_code b (l + 2 + expr_labels c + expr_labels a) t (label (l + 1) ∷ rest)))
-    node_code ty mode (comma a b) l t rest = expr_code a l t (expr_code b (l + expr_labels a) t rest)
+    node_code ty mode (comma a b) l t rest = unread_code a l t (expr_code b (l + expr_labels a) t rest)
     -- all arguments, then they are stored to the parameters, then the call
     node_code ty mode (call f args) l t rest =
         args_code args l t (params_code (params_of program f) args t (call_function f (result_temp t ty) ∷ rest))
@@ -366,6 +427,25 @@ module _ (program : PlainProgram) (table : PlainTable) where
         option_code index l t (option_code value (l + option_labels index) (place_behind index t)
         (access_code op mode (slice_get table.ports port) index t rest))
     node_code ty mode (group acquire g) l t rest = group_code acquire (slice_get table.groups g) t rest
+
+    -- an expression whose value nobody reads: a postfix step keeps no old value then
+    pub unread_code : PlainExpr → (l t : ℕ) → List PlainIr → List PlainIr
+    unread_code (expression ty mode (step up prefix p)) l t rest =
+        place_code p l t (stepping_code up true mode ty (site program p t) t rest)
+    unread_code (expression ty mode (comma a b)) l t rest =
+        unread_code a l t (unread_code b (l + expr_labels a) t rest)
+    unread_code (expression ty mode node) l t rest = node_code ty mode node l t rest
+
+    -- an expression as a condition, which leads somewhere: `&&`, `||` and `!` have no value then
+    pub branch_code : PlainExpr → (l t : ℕ) → Branch → List PlainIr → List PlainIr
+    branch_code (expression ty mode (logical_not a)) l t to rest = branch_code a (l + 2) t (opposite to l) rest
+    branch_code (expression ty mode (logical_and a b)) l t to rest =
+        branch_code a (l + 2) t (where_zero (zero_label to l))
+        (branch_code b (l + 2 + expr_labels a) t to (and_end to l rest))
+    branch_code (expression ty mode (logical_or a b)) l t to rest =
+        branch_code a (l + 4) t (where_not (other_label to l) (l + 1))
+        (branch_code b (l + 4 + expr_labels a) t to (or_end to l rest))
+    branch_code (expression ty mode node) l t to rest = node_code ty mode node l t (branch_to to (temp t ty) rest)
 
     -- the pointer to a place, where it is not in an object that is named
     pub place_code : PlainPlace → (l t : ℕ) → List PlainIr → List PlainIr
@@ -393,11 +473,11 @@ module _ (program : PlainProgram) (table : PlainTable) where
 
   abbrev pub test_code : Option PlainExpr → (out l : ℕ) → List PlainIr → List PlainIr
   test_code None out l rest = rest
-  test_code (Some c) out l rest = expr_code c l 0 (branch_zero (temp 0 (type_of_expr c)) out ∷ rest)
+  test_code (Some c) out l rest = branch_code c l 0 (where_zero out) rest
 
   abbrev pub last_code : Option PlainExpr → (l : ℕ) → List PlainIr → List PlainIr
   last_code None l rest = rest
-  last_code (Some e) l rest = expr_code e l 0 rest
+  last_code (Some e) l rest = unread_code e l 0 rest
 
   -- a loop, with the operations of its body: l is the test, l + 1 the end, l + 2 what a continue goes to, and l + 3 the
   -- body
@@ -414,15 +494,14 @@ module _ (program : PlainProgram) (table : PlainTable) where
 
     pub kind_code : PlainKind → (l out on : ℕ) → List PlainIr → List PlainIr
     kind_code empty l out on rest = rest
-    kind_code (evaluate e) l out on rest = expr_code e l 0 rest
+    kind_code (evaluate e) l out on rest = unread_code e l 0 rest
     kind_code (block ss) l out on rest = stmts_code ss l out on rest
     kind_code (declare o values) l out on rest = init_code (leaves_of_object program o) o values l rest
     kind_code (branch c a no_stmt) l out on rest =
-        expr_code c (l + 2) 0 (branch_zero (temp 0 (type_of_expr c)) l
-        ∷ stmt_code a (l + 2 + expr_labels c) out on (label l ∷ rest))
+        branch_code c (l + 2) 0 (where_zero l) (stmt_code a (l + 2 + expr_labels c) out on (label l ∷ rest))
     kind_code (branch c a (a_stmt b)) l out on rest =
-        expr_code c (l + 2) 0 (branch_zero (temp 0 (type_of_expr c)) l
-        ∷ stmt_code a (l + 2 + expr_labels c) out on (jump (l + 1) ∷ label l
+        branch_code c (l + 2) 0 (where_zero l)
+        (stmt_code a (l + 2 + expr_labels c) out on (jump (l + 1) ∷ label l
         ∷ stmt_code b (l + 2 + expr_labels c + stmt_labels a) out on (label (l + 1) ∷ rest)))
     kind_code (while_loop c body) l out on rest =
         loop_code (Some c) None l (λ q. stmt_code body (l + 4 + expr_labels c) (l + 1) (l + 2) q) rest
@@ -450,8 +529,9 @@ module _ (program : PlainProgram) (table : PlainTable) where
 
   -- ---- functions
 
+  -- a break and a continue outside loops, of which there are none, go to the end
   abbrev pub function_code : PlainFunction → List PlainIr
-  function_code f = stmt_code f.body 1 0 0 (label 0 ∷ end_code)
+  function_code f = stmt_code f.body 1 0 0 (label 0 ∷ end_code f.body)
 
   abbrev pub lowered_function : PlainFunction → PlainIrFunction
   lowered_function f = record { code = function_code f; slots = stmt_need f.body }

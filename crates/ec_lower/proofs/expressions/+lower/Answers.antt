@@ -1,12 +1,14 @@
-use Rattle.std.proofs.Common.{◌≡◌, ◌++◌, ◌∙◌, ap, sym, arith, rules, List, map}
+use Rattle.std.proofs.Common.{◌≡◌, ◌+◌, ◌++◌, ◌∙◌, ap, refl, sym, arith, rules, List, map}
 use Rattle.std.proofs.lemmas.Grind.{common_steps}
 use Rattle.ec_core.specs.declared.expressions.Expr.{Expr}
 use Rattle.ec_core.specs.PortTable.{plain_table}
-use Rattle.ec_core.specs.Plain.{PlainNode, call, plain_exprs, plain_node, plain_program, plain_type}
+use Rattle.ec_core.specs.Plain.{PlainNode, call, conditional, logical_or, plain_expr, plain_exprs, plain_node, plain_program, plain_type}
 use Rattle.ec_ir.specs.Operations.{plain_ir}
+use Rattle.ec_lower.specs.Branches.{plain_branch}
 use Rattle.ec_lower.specs.Sizes.{node_size, exprs_size}
-use Rattle.ec_lower_code.specs.Code.{exprs_labels, args_code, node_code, node_labels}
+use Rattle.ec_lower_code.specs.Code.{args_code, exprs_labels, node_code, node_labels, where_not, where_zero}
 use Rattle.ec_lower.proofs.Lists.{plain_call, list_next, smaller_expr}
+use Rattle.ec_lower.proofs.Parts.{behind_part, branch_at, branch_else, expr_at, node_at, unread_at, unread_else}
 use Rattle.ec_lower.proofs.Steps.{list_end, so}
 use Rattle.ec_lower.proofs.expressions.+lower.Goals as goal
 
@@ -54,9 +56,27 @@ lower_expr-returns-in_ok-put_conversion-in-Convert-clause-code t c = λ rest.
     ∙ c.in_ok-m-in-Convert.ensures.code _))
 
 pub lower_expr-returns-in_ok-k-in-Comma-clause-code : goal.lower_expr-returns-in_ok-k-in-Comma-clause-code
-lower_expr-returns-in_ok-k-in-Comma-clause-code t c = so c.lower_expr-in-Comma-2.result c.lower_expr-in-Comma-2.ensures.code (λ h rest.
-    rw (c.in-Comma.is) (rw (c.in_ok-k-in-Comma.ensures.next, c.deref-in-Comma.ensures, c.deref-in-Comma-2.ensures) at (h rest
-    ∙ c.in_ok-k-in-Comma.ensures.code _)))
+lower_expr-returns-in_ok-k-in-Comma-clause-code t c =
+    let a : plain_expr _ ≡ plain_expr _ = ap plain_expr c.deref-in-Comma.ensures in
+    let b : plain_expr _ ≡ plain_expr _ = ap plain_expr c.deref-in-Comma-2.ensures in
+    so c.lower_expr-in-Comma.result c.lower_expr-in-Comma.ensures.code (λ h rest. rw (c.in-Comma.is)
+    (expr_at (plain_program c.args.program.now) (plain_table c.args.io.now) _ _ c.args.t h b
+    (behind_part c.in_ok-k-in-Comma.ensures.next refl a) rest
+    ∙ unread_at (plain_program c.args.program.now) (plain_table c.args.io.now) _ _ c.args.t c.in_ok-k-in-Comma.ensures.code a refl _))
+
+pub lower_unread-returns-in_ok-put_step-in-Step-clause-code : goal.lower_unread-returns-in_ok-put_step-in-Step-clause-code
+lower_unread-returns-in_ok-put_step-in-Step-clause-code t c = λ rest.
+    rw (c.in-Step.is) (rw (c.in_ok-m-in-Step.ensures.site) at (c.in_ok-put_step-in-Step.ensures rest
+    ∙ c.in_ok-m-in-Step.ensures.code _))
+
+pub lower_unread-returns-in_ok-k-in-Comma-clause-code : goal.lower_unread-returns-in_ok-k-in-Comma-clause-code
+lower_unread-returns-in_ok-k-in-Comma-clause-code t c =
+    let a : plain_expr _ ≡ plain_expr _ = ap plain_expr c.deref.ensures in
+    let b : plain_expr _ ≡ plain_expr _ = ap plain_expr c.deref-in-Comma.ensures in
+    so c.lower_unread-in-Comma.result c.lower_unread-in-Comma.ensures.code (λ h rest. rw (c.in-Comma.is)
+    (unread_at (plain_program c.args.program.now) (plain_table c.args.io.now) _ _ c.args.t h b
+    (behind_part c.in_ok-k-in-Comma.ensures.next refl a) rest
+    ∙ unread_at (plain_program c.args.program.now) (plain_table c.args.io.now) _ _ c.args.t c.in_ok-k-in-Comma.ensures.code a refl _))
 
 pub lower_effect-returns-in_ok-put-in-Call-clause-next : goal.lower_effect-returns-in_ok-put-in-Call-clause-next
 lower_effect-returns-in_ok-put-in-Call-clause-next t c =
@@ -74,39 +94,75 @@ lower_effect-returns-in_ok-put-in-Call-clause-code t c = λ rest.
     (plain_table c.args.io.now) (plain_type c.args.ty.now) c.args.mode node c.args.l c.args.t rest) (sym is))
 
 pub lower_choice-returns-in_ok-truth-in-Not-clause-code : goal.lower_choice-returns-in_ok-truth-in-Not-clause-code
-lower_choice-returns-in_ok-truth-in-Not-clause-code t c = λ rest.
-    rw (c.in-Not.is) (rw (c.in_ok-k-in-Not.ensures, c.deref.ensures) at (c.in_ok-truth-in-Not.ensures rest
-    ∙ c.in_ok-m-in-Not.ensures.code _))
+lower_choice-returns-in_ok-truth-in-Not-clause-code t c = λ rest. rw (c.in-Not.is)
+    (c.in_ok-truth-in-Not.ensures rest
+    ∙ branch_at (plain_program c.args.program.now) (plain_table c.args.io.now) _ _ c.args.t c.in_ok-m-in-Not.ensures.code
+    (ap plain_expr c.deref.ensures) c.in_ok-k-in-Not.ensures refl _)
 
 pub lower_choice-returns-in_ok-truth-in-And-clause-code : goal.lower_choice-returns-in_ok-truth-in-And-clause-code
-lower_choice-returns-in_ok-truth-in-And-clause-code t c = λ rest.
-    rw (c.in-And.is) (rw (
-      c.in_ok-k-in-And-2.ensures.next,
-      c.in_ok-k-in-And.ensures,
-      c.deref-in-And.ensures,
-      c.deref-in-And-2.ensures,
-    ) at (c.in_ok-truth-in-And.ensures rest ∙ (c.in_ok-m-in-And.ensures.code _ ∙ c.in_ok-k-in-And-2.ensures.code _)))
+lower_choice-returns-in_ok-truth-in-And-clause-code t c =
+    let a : plain_expr _ ≡ plain_expr _ = ap plain_expr c.deref-in-And.ensures in
+    let b : plain_expr _ ≡ plain_expr _ = ap plain_expr c.deref-in-And-2.ensures in
+    λ rest. rw (c.in-And.is) (c.in_ok-truth-in-And.ensures rest
+    ∙ (branch_at (plain_program c.args.program.now) (plain_table c.args.io.now) _ _ c.args.t c.in_ok-m-in-And.ensures.code b
+    (behind_part c.in_ok-k-in-And-2.ensures.next c.in_ok-k-in-And.ensures a) refl _
+    ∙ branch_at (plain_program c.args.program.now) (plain_table c.args.io.now) _ _ c.args.t c.in_ok-k-in-And-2.ensures.code a
+    c.in_ok-k-in-And.ensures refl _))
 
 pub lower_choice-returns-in-Or-clause-code : goal.lower_choice-returns-in-Or-clause-code
-lower_choice-returns-in-Or-clause-code t c = so c.lower_or.result c.lower_or.ensures.code (λ h rest.
-    rw (c.in-Or.is) (rw (c.deref-in-Or.ensures, c.deref-in-Or-2.ensures) at (h rest)))
+lower_choice-returns-in-Or-clause-code t c =
+    let e = ap (λ (x : Expr). logical_or (plain_expr x) (plain_expr c.deref-in-Or-2.result.now)) c.deref-in-Or.ensures
+    ∙ ap (λ (y : Expr). logical_or (plain_expr c.in-Or.a.value) (plain_expr y)) c.deref-in-Or-2.ensures in
+    so c.lower_or.result c.lower_or.ensures.code (λ h rest. rw (c.in-Or.is)
+    (node_at (plain_program c.args.program.now) (plain_table c.args.io.now) c.args.code.now.items c.lower_or.new.code.items c.args.t
+    (plain_type c.args.ty.now) c.args.mode c.args.l h e rest))
 
 pub lower_choice-returns-in-Cond-clause-code : goal.lower_choice-returns-in-Cond-clause-code
-lower_choice-returns-in-Cond-clause-code t c = so c.lower_cond.result c.lower_cond.ensures.code (λ h rest.
-    rw (c.in-Cond.is) (rw (c.deref-in-Cond.ensures, c.deref-in-Cond-2.ensures, c.deref-in-Cond-3.ensures) at (h rest)))
+lower_choice-returns-in-Cond-clause-code t c =
+    let e = ap (λ (x : Expr). conditional (plain_expr x) (plain_expr c.deref-in-Cond-2.result.now) (plain_expr c.deref-in-Cond-3.result.now))
+    c.deref-in-Cond.ensures
+    ∙ (ap (λ (x : Expr). conditional (plain_expr c.in-Cond.c.value) (plain_expr x) (plain_expr c.deref-in-Cond-3.result.now))
+    c.deref-in-Cond-2.ensures
+    ∙ ap (λ (x : Expr). conditional (plain_expr c.in-Cond.c.value) (plain_expr c.in-Cond.a.value) (plain_expr x)) c.deref-in-Cond-3.ensures) in
+    so c.lower_cond.result c.lower_cond.ensures.code (λ h rest. rw (c.in-Cond.is)
+    (node_at (plain_program c.args.program.now) (plain_table c.args.io.now) c.args.code.now.items c.lower_cond.new.code.items c.args.t
+    (plain_type c.args.ty.now) c.args.mode c.args.l h e rest))
 
 pub lower_or-returns-clause-code : goal.lower_or-returns-clause-code
 lower_or-returns-clause-code t c = λ rest.
     rw (c.in_ok-k-2.ensures.next, c.in_ok-k.ensures) at (c.in_ok-truth.ensures rest
-    ∙ (c.in_ok-put.ensures _ ∙ (c.in_ok-m.ensures.code _ ∙ (c.in_ok-put_turn.ensures _ ∙ c.in_ok-k-2.ensures.code _))))
+    ∙ (c.in_ok-put.ensures _ ∙ (c.in_ok-m.ensures.code _ ∙ c.in_ok-k-2.ensures.code _)))
 
 pub lower_cond-returns-clause-code : goal.lower_cond-returns-clause-code
 lower_cond-returns-clause-code t c = λ rest.
     rw (c.in_ok-k-3.ensures.next, c.in_ok-k-2.ensures.next, c.in_ok-k.ensures) at (c.in_ok-put.ensures rest
     ∙ (c.in_ok-m.ensures.code _ ∙ (c.in_ok-put_turn.ensures _ ∙ (c.in_ok-k-3.ensures.code _ ∙ c.in_ok-k-2.ensures.code _))))
 
-pub lower_branch-returns-clause-code : goal.lower_branch-returns-clause-code
-lower_branch-returns-clause-code t c = λ rest. rw (c.temp.ensures) at (c.in_ok-put.ensures rest ∙ c.in_ok-m.ensures.code _)
+pub lower_branch-returns-in_ok-k-in-Not-clause-code : goal.lower_branch-returns-in_ok-k-in-Not-clause-code
+lower_branch-returns-in_ok-k-in-Not-clause-code t c =
+    so c.lower_branch.result c.lower_branch.ensures.code (λ h rest. rw (c.in-Not.is)
+    (branch_at (plain_program c.args.program.now) (plain_table c.args.io.now) _ _ c.args.t h (ap plain_expr c.deref.ensures)
+    c.in_ok-k-in-Not.ensures c.opposite.ensures rest))
+
+pub lower_branch-returns-in_ok-put_and_end-in-And-clause-code : goal.lower_branch-returns-in_ok-put_and_end-in-And-clause-code
+lower_branch-returns-in_ok-put_and_end-in-And-clause-code t c =
+    let a : plain_expr _ ≡ plain_expr _ = ap plain_expr c.deref-in-And.ensures in
+    let b : plain_expr _ ≡ plain_expr _ = ap plain_expr c.deref-in-And-2.ensures in
+    λ rest. rw (c.in-And.is) (c.in_ok-put_and_end-in-And.ensures rest
+    ∙ (branch_at (plain_program c.args.program.now) (plain_table c.args.io.now) _ _ c.args.t c.in_ok-m-in-And.ensures.code b
+    (behind_part c.in_ok-k-in-And-2.ensures.next c.in_ok-k-in-And.ensures a) refl _
+    ∙ branch_at (plain_program c.args.program.now) (plain_table c.args.io.now) _ _ c.args.t c.in_ok-k-in-And-2.ensures.code a
+    c.in_ok-k-in-And.ensures (ap where_zero c.zero_label.ensures) _))
+
+pub lower_branch-returns-in_ok-put_or_end-in-Or-clause-code : goal.lower_branch-returns-in_ok-put_or_end-in-Or-clause-code
+lower_branch-returns-in_ok-put_or_end-in-Or-clause-code t c =
+    let a : plain_expr _ ≡ plain_expr _ = ap plain_expr c.deref-in-Or.ensures in
+    let b : plain_expr _ ≡ plain_expr _ = ap plain_expr c.deref-in-Or-2.ensures in
+    λ rest. rw (c.in-Or.is) (c.in_ok-put_or_end-in-Or.ensures rest
+    ∙ (branch_at (plain_program c.args.program.now) (plain_table c.args.io.now) _ _ c.args.t c.in_ok-m-in-Or.ensures.code b
+    (behind_part c.in_ok-k-in-Or-2.ensures.next c.in_ok-k-in-Or.ensures a) refl _
+    ∙ branch_at (plain_program c.args.program.now) (plain_table c.args.io.now) _ _ c.args.t c.in_ok-k-in-Or-2.ensures.code a
+    c.in_ok-k-in-Or.ensures (ap (λ to. where_not to (c.args.l + 1)) c.other_label.ensures) _))
 
 pub lower_expr-returns-in_ok-put_number-in-Number-clause-code : goal.lower_expr-returns-in_ok-put_number-in-Number-clause-code
 lower_expr-returns-in_ok-put_number-in-Number-clause-code t c = λ rest. rw (c.in-Number.is) (c.in_ok-put_number-in-Number.ensures rest)
@@ -163,3 +219,15 @@ lower_place-returns-in_ok-site-in-Member-clause-code t c = λ rest.
       c.deref-in-Member.ensures,
       c.deref-in-Member-2.ensures,
     ) at (c.in_ok-site-in-Member.ensures.code rest ∙ c.in_ok-m-in-Member.ensures.code _))
+
+pub lower_unread-returns-in_default-clause-code : goal.lower_unread-returns-in_default-clause-code
+lower_unread-returns-in_default-clause-code t c = so c.lower_expr.result c.lower_expr.ensures.code (λ h rest.
+    h rest ∙ ap (λ code. map plain_ir c.args.code.now.items ++ code) (unread_else (plain_program c.args.program.now) (plain_table c.args.io.now)
+    (plain_type c.args.e.now.ty) c.args.e.now.mode c.args.l c.args.t c.args.e.now.node c.in_default.not-Step c.in_default.not-Comma rest))
+
+pub lower_branch-returns-in_ok-put_branch-in_default-clause-code : goal.lower_branch-returns-in_ok-put_branch-in_default-clause-code
+lower_branch-returns-in_ok-put_branch-in_default-clause-code t c = λ rest.
+    rw (c.temp.ensures) at (c.in_ok-put_branch-in_default.ensures rest ∙ c.in_ok-m-in_default.ensures.code _)
+    ∙ ap (λ code. map plain_ir c.args.code.now.items ++ code) (branch_else (plain_program c.args.program.now) (plain_table c.args.io.now)
+    (plain_type c.args.e.now.ty) c.args.e.now.mode c.args.l c.args.t c.args.e.now.node c.in_default.not-Not c.in_default.not-And
+    c.in_default.not-Or (plain_branch c.args.to) rest)

@@ -11,6 +11,9 @@ use Rattle.ec_lower.proofs.expressions.+lower.Given as goal
 abbrev pub decreases-lower_expr : goal.decreases-lower_expr
 decreases-lower_expr l = 4 * expr_size (plain_expr l.e.now)
 
+abbrev pub decreases-lower_unread : goal.decreases-lower_unread
+decreases-lower_unread l = 4 * expr_size (plain_expr l.e.now) + 1
+
 abbrev pub decreases-lower_effect : goal.decreases-lower_effect
 decreases-lower_effect l = 4 * node_size (plain_node l.node.now) + 2
 

@@ -33,7 +33,7 @@ lower_stmts-loop-s-preserved t c =
     )
 
 pub lower_stmt-returns-in-Do1-clause-code : goal.lower_stmt-returns-in-Do1-clause-code
-lower_stmt-returns-in-Do1-clause-code t c = so c.lower_expr.result c.lower_expr.ensures.code (λ h rest. rw (c.in-Do1.is) (h rest))
+lower_stmt-returns-in-Do1-clause-code t c = so c.lower_unread.result c.lower_unread.ensures.code (λ h rest. rw (c.in-Do1.is) (h rest))
 
 pub lower_stmt-returns-in-Block-clause-next : goal.lower_stmt-returns-in-Block-clause-next
 lower_stmt-returns-in-Block-clause-next t c =
