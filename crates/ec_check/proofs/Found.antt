@@ -1,6 +1,6 @@
 -- The walk over the units finds the least of what they break.
 use Rattle.std.proofs.Common.{◌≡◌, ◌+◌, ◌<◌, ℕ, zero, suc, List, [], ◌∷◌, refl, ap, subst, inl, inr, arith}
-use Rattle.std.specs.Prelude.{◌⊎◌, Option, Some, None, slice_get}
+use Rattle.std.specs.Prelude.{◌⊎◌, ◌↔◌, Option, Some, None}
 use Rattle.ec_check_operands.specs.declared.faults.Fault.{Fault}
 use Rattle.ec_check_operands.specs.Laws.{ComesFirst}
 use Rattle.ec_grammar.specs.Trees as t
@@ -10,7 +10,9 @@ use Rattle.ec_check_declarations.specs.Sites.{Site, told}
 use Rattle.ec_check_file_scope.specs.States.{State, nothing_declared}
 use Rattle.ec_check_least.specs.Told.{IsToldAt, IsLeastToldAt, LeastIsTold}
 use Rattle.ec_check.specs.Units.{is_last, after_unit, unit_sites, setting_of, UnitFault, or_later, first_fault, least_fault}
-use Rattle.ec_check.specs.Broken.{sites_from, sites_of, IsBroken, NothingIsBroken, ComesNoLater, IsLeastBroken, IsLeastOf, LeastIsFound}
+use Rattle.ec_check.specs.Broken.{sites_from, sites_of, IsToldInUnit, IsBroken, NothingIsBroken, ComesNoLater, IsLeastBroken, IsLeastOf}
+use Rattle.ec_check.specs.Broken.{LeastIsFound}
+use Rattle.ec_check.proofs.Judged.{IsToldIn, split, PartLaws, unit_told}
 
 -- ---- lists of places
 
@@ -26,12 +28,6 @@ first_is ds io unit (u ∷ us) s =
     ap (or_later unit (told None (unit_sites (setting_of ds io unit) (is_last us) u s [])))
     (first_is ds io (unit + 1) us (after_unit (setting_of ds io unit) u s))
 
--- the fault is told at one of the places of the list with a number
-record IsToldIn (lists : List (List Site)) (i : ℕ) (f : Fault) : Type 0 where
-  places : List Site
-  stand : slice_get lists i ≡ Some places
-  tells : IsToldAt places f
-
 -- a fault of the list with a number comes no later than one of another
 abbrev IsNoLater : ℕ → Fault → ℕ → Fault → Type 0
 IsNoLater i f j g = (i < j) ⊎ ((i ≡ j) × ComesFirst f g)
@@ -46,18 +42,6 @@ record IsLeastIn (unit : ℕ) (lists : List (List Site)) (f : UnitFault) : Type 
 abbrev IsFirstIn : (unit : ℕ) → List (List Site) → Option UnitFault → Type 0
 IsFirstIn unit lists None = (j : ℕ) (g : Fault) → ¬ IsToldIn lists j g
 IsFirstIn unit lists (Some f) = IsLeastIn unit lists f
-
--- what is told in the first list, or in the others
-abbrev IsSplit : List Site → List (List Site) → ℕ → Fault → Type 0
-IsSplit ss more zero g = IsToldAt ss g
-IsSplit ss more (suc j) g = IsToldIn more j g
-
-split : (ss : List Site) (more : List (List Site)) (j : ℕ) (g : Fault) → IsToldIn (ss ∷ more) j g → IsSplit ss more j g
-split ss more zero g h = subst (λ x. IsToldAt x g) (same h.places h.stand) h.tells
-  where
-    same : (x : List Site) → ◌≡◌ {A = Option (List Site)} (Some ss) (Some x) → x ≡ ss
-    same x e = cc
-split ss more (suc j) g h = record { places = h.places; stand = h.stand; tells = h.tells }
 
 nothing_in : (ss : List Site) (more : List (List Site)) → ((g : Fault) → ¬ IsToldAt ss g) → ((j : ℕ) (g : Fault) → ¬ IsToldIn more j g)
     → (j : ℕ) (g : Fault) → ¬ IsToldIn (ss ∷ more) j g
@@ -110,25 +94,37 @@ all_first law unit (ss ∷ more) =
 
 -- ---- units
 
-broken_in : (us : List t.Tree) (io : IoTable) (unit token rule : ℕ) → IsBroken us io unit token rule
+broken_in : PartLaws → (us : List t.Tree) (io : IoTable) (unit token rule : ℕ) → IsBroken us io unit token rule
     → IsToldIn (sites_of us io) unit (record { at = token; rule = rule })
-broken_in us io unit token rule b = record { places = b.places; stand = b.stand; tells = b.told }
+broken_in laws us io unit token rule b =
+    (unit_told laws us io unit (record { at = token; rule = rule })).1 (b.part, b.stands, b.breaks)
 
-told_broken : (us : List t.Tree) (io : IoTable) (unit : ℕ) (f : Fault) → IsToldIn (sites_of us io) unit f → IsBroken us io unit f.at f.rule
-told_broken us io unit f h = record { places = h.places; stand = h.stand; told = h.tells }
+told_broken : PartLaws → (us : List t.Tree) (io : IoTable) (unit : ℕ) (f : Fault) → IsToldIn (sites_of us io) unit f
+    → IsBroken us io unit f.at f.rule
+told_broken laws us io unit f h =
+    let g = (unit_told laws us io unit f).0 h in record { part = g.0; stands = g.1; breaks = g.2 }
 
-least_of : (us : List t.Tree) (io : IoTable) (o : Option UnitFault) → IsFirstIn 0 (sites_of us io) o → IsLeastOf us io o
-least_of us io None h = λ unit token rule b. h unit (record { at = token; rule = rule }) (broken_in us io unit token rule b)
-least_of us io (Some f) h =
+is_told : PartLaws → (us : List t.Tree) (io : IoTable) (unit token rule : ℕ)
+    → IsToldInUnit us io unit token rule ↔ IsBroken us io unit token rule
+is_told laws us io unit token rule = (
+  λ h. told_broken laws us io unit (record { at = token; rule = rule })
+      (record { places = h.places; stand = h.stand; tells = h.told }),
+  λ b. let h = broken_in laws us io unit token rule b in record { places = h.places; stand = h.stand; told = h.tells },
+)
+
+least_of : PartLaws → (us : List t.Tree) (io : IoTable) (o : Option UnitFault) → IsFirstIn 0 (sites_of us io) o → IsLeastOf us io o
+least_of laws us io None h =
+    λ unit token rule b. h unit (record { at = token; rule = rule }) (broken_in laws us io unit token rule b)
+least_of laws us io (Some f) h =
     let place : h.place ≡ f.unit = (let n = h.numbered in omega (arith, n)) in
     subst (λ (i : ℕ). IsLeastBroken us io i f.fault.at f.fault.rule) place (record {
-      broken = told_broken us io h.place f.fault h.here;
-      first = λ u t r b. h.first u (record { at = t; rule = r }) (broken_in us io u t r b);
+      broken = told_broken laws us io h.place f.fault h.here;
+      first = λ u t r b. h.first u (record { at = t; rule = r }) (broken_in laws us io u t r b);
     })
 
-found : LeastIsTold → (us : List t.Tree) (io : IoTable) → IsLeastOf us io (least_fault us io)
-found law us io =
-    least_of us io (least_fault us io)
+found : LeastIsTold → PartLaws → (us : List t.Tree) (io : IoTable) → IsLeastOf us io (least_fault us io)
+found law laws us io =
+    least_of laws us io (least_fault us io)
     (subst (IsFirstIn 0 (sites_of us io)) (first_is (definitions us) io 0 us nothing_declared) (all_first law 0 (sites_of us io)))
 
 -- ---- only one
@@ -165,9 +161,10 @@ only_found us io unit token rule (Some f) h b =
         subst (λ r. IsThisFault f unit token r) c
         (subst (λ t. IsThisFault f unit t f.fault.rule) b (subst (λ u. IsThisFault f u f.fault.at f.fault.rule) a refl))
 
-pub least_is_found : LeastIsTold → LeastIsFound
-least_is_found law = record {
-  found = found law;
-  nothing = λ us io nothing. nothing_found us io (least_fault us io) (found law us io) nothing;
-  only = λ us io unit token rule b. only_found us io unit token rule (least_fault us io) (found law us io) b;
+pub least_is_found : LeastIsTold → PartLaws → LeastIsFound
+least_is_found law laws = record {
+  told = is_told laws;
+  found = found law laws;
+  nothing = λ us io nothing. nothing_found us io (least_fault us io) (found law laws us io) nothing;
+  only = λ us io unit token rule b. only_found us io unit token rule (least_fault us io) (found law laws us io) b;
 }

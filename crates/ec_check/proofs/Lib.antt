@@ -38,5 +38,6 @@ mod ValidSteps
 mod Walked
 mod ProgramsAreValid
 mod ValidAnswers
+mod Judged
 mod Found
 mod CheckedAnswers

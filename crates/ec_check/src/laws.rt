@@ -10,7 +10,10 @@ use ec_check_expression_laws::{
 use ec_check_forms::kept_forms_have_meanings;
 use ec_check_initialisers::{initial_values_suit, sizes_are_values};
 use ec_check_least::the_least_is_told;
-use ec_check_names::equal_structs_are_one;
+use ec_check_names::{blocks_end, equal_structs_are_one};
+use ec_check_parts::{
+    bodies_are_judged, file_names_are_judged, file_scope_is_judged, functions_are_judged,
+};
 use ec_check_statements::{
     bodies_are_valid, bodies_need_their_tokens, function_types_are_usable,
     inner_objects_keep_suiting, kept_bodies_have_meanings, kept_functions_have_types,
@@ -18,12 +21,18 @@ use ec_check_statements::{
 };
 use ec_core::structs_are_laid_out;
 
-/// What the walk over the units finds is the least constraint that they break, by unit, token and number; it finds none
-/// exactly where they break none.
+/// What the walk over the units tells is exactly what breaks a constraint at one of the parts that stand in them; what it finds
+/// is the least of that, by unit, token and number; and it finds none exactly where they break none.
 pub fn the_least_is_found()
     ensures { LeastIsFound }
 {
     the_least_is_told();
+    functions_are_judged();
+    file_names_are_judged();
+    bodies_are_judged();
+    file_scope_is_judged();
+    scopes_end();
+    blocks_end();
 }
 
 /// Units that keep the limits and break no rule have a program, where they define no more structs than there are numbers

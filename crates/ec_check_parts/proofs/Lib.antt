@@ -1,12 +1,26 @@
--- Lemmas about words, specifiers, lists of qualifiers, what stands before a name, and parts that are made of others.
+-- Lemmas about words, specifiers, lists of qualifiers, what stands before a name, and parts that are made of others; and about
+-- which parts stand where.
+-- For the crates of the family.
+pub mod Joined
+pub mod Standing
+-- For this crate alone.
 mod Tests
 mod Qualifiers
 mod Storages
 mod Specifiers
 mod Voids
 mod Heads
-mod Joined
+mod Nested
+mod Expressions
 mod Functions
 mod Sizes
 mod Structures
 mod Objects
+mod Initialisers
+mod FirstStorages
+mod Blocks
+mod Statements
+mod FileNames
+mod Places
+mod Outside
+mod FileScope

@@ -24,6 +24,7 @@ use Rattle.ec_check_parts.specs.Structures.{role_of, IsFunction}
 use Rattle.ec_check_parts.specs.Laws.{TellAt, ObjectsAreJudged}
 use Rattle.ec_check_parts.proofs.Heads.{heads_are_judged}
 use Rattle.ec_check_parts.proofs.Joined.{at_one, both, like}
+use Rattle.ec_check_parts.proofs.Expressions.{ExpressionLaws}
 use Rattle.ec_check_parts.proofs.Sizes.{shape_judged}
 use Rattle.ec_check_parts.proofs.Structures.{BreakOne, one_judged}
 
@@ -47,7 +48,8 @@ large_told structs (Some u) =
 
 -- ---- in a role
 
-module _ (k : Known) (role : Role) (ss : t.Specs) (stars : List t.Star) (at : Spot) (n : List ℕ) (shape : t.Shape) (start : Option t.Start)
+module _ (laws : ExpressionLaws) (k : Known) (role : Role) (ss : t.Specs) (stars : List t.Star) (at : Spot) (n : List ℕ)
+    (shape : t.Shape) (start : Option t.Start)
     (may : Bool) where
   abbrev declared_type : Option PlainType
   declared_type = type_declared (length k.structs) (specified k.tags ss) stars shape (shape_size k shape start)
@@ -79,7 +81,7 @@ module _ (k : Known) (role : Role) (ss : t.Specs) (stars : List t.Star) (at : Sp
       like (object_sites k may (specified k.tags ss) (t.declarator stars (t.identifier at n) shape) start) Parts
       (BreakObject k role ss stars at.index shape start) of_parts to_parts
       (both (shape_sites k shape start) (λ rest. on heads ∷ on large ∷ rest) (BreakShape k shape start)
-      (λ f. BreakHead k.tags (role_of role shape) ss stars f ⊎ Large f) (shape_judged k shape start)
+      (λ f. BreakHead k.tags (role_of role shape) ss stars f ⊎ Large f) (shape_judged laws k shape start)
       (both (λ rest. on heads ∷ rest) (λ rest. on large ∷ rest) (BreakHead k.tags (role_of role shape) ss stars) Large
       (at_one heads (BreakHead k.tags (role_of role shape) ss stars) head)
       (at_one large Large (one_judged 9 (is_too_large k.structs declared_type) at.index (IsLarge k.structs declared_type)
@@ -99,8 +101,10 @@ file_head tags ss stars t.object o f = heads_are_judged tags file_object ss star
 file_head tags ss stars (t.array l size r) o f = heads_are_judged tags file_object ss stars f
 file_head tags ss stars (t.function_shape l ps r) o f = absurd (o tt)
 
-pub objects_are_judged : ObjectsAreJudged
-objects_are_judged = record {
-  at_file_scope = λ k ss stars at n shape start o. in_role k file_object ss stars at n shape start true (file_head k.tags ss stars shape o);
-  in_blocks = λ k ss stars at n shape start. in_role k block_object ss stars at n shape start false (block_head k.tags ss stars shape);
+pub objects_are_judged : ExpressionLaws → ObjectsAreJudged
+objects_are_judged laws = record {
+  at_file_scope = λ k ss stars at n shape start o.
+      in_role laws k file_object ss stars at n shape start true (file_head k.tags ss stars shape o);
+  in_blocks = λ k ss stars at n shape start.
+      in_role laws k block_object ss stars at n shape start false (block_head k.tags ss stars shape);
 }

@@ -21,62 +21,12 @@ use Rattle.ec_check_initialisers.specs.Locals.{items_count}
 use Rattle.ec_check_initialisers.specs.Sites as initialisers
 use Rattle.ec_check_initialisers.specs.Sizes.{size_of_number, size_of_operand, is_unsized}
 use Rattle.ec_check_declarations.specs.Declarators.{given_size, shape_sites}
-use Rattle.ec_check_declarations.specs.Sites.{Site, initialiser_in}
-use Rattle.ec_check_least.specs.Told.{IsToldAt}
-use Rattle.ec_check_parts.specs.Sizes.{IsToldIn, BreakSize, no_form, no_size, in_size, GivesNoSize, BreakShape}
+use Rattle.ec_check_declarations.specs.Sites.{initialiser_in}
+use Rattle.ec_check_parts.specs.Sizes.{BreakSize, no_form, no_size, in_size, GivesNoSize, BreakShape}
 use Rattle.ec_check_parts.specs.Laws.{TellAt}
 use Rattle.ec_check_parts.proofs.Joined.{nowhere, at_one, like}
-
--- ---- places in places
-
--- told at one of some places of a size or an initialiser
-abbrev pub IsToldInside : List initialisers.Site → Fault → Type 0
-IsToldInside [] f = ⊥
-IsToldInside (s ∷ ss) f = IsTold (initialisers.rules_at s) f ⊎ IsToldInside ss f
-
-pub inside_told : (xs : List initialisers.Site) → TellAt (initialiser_in xs) (IsToldInside xs)
-inside_told [] = nowhere
-inside_told (x ∷ xs) =
-    record { exactly = λ rest f. (there rest f ((inside_told xs).exactly rest f).0, back rest f ((inside_told xs).exactly rest f).1) }
-  where
-    there : (rest : List Site) (f : Fault) → (IsToldAt (initialiser_in xs rest) f → IsToldInside xs f ⊎ IsToldAt rest f)
-        → IsToldAt (initialiser_in (x ∷ xs) rest) f → IsToldInside (x ∷ xs) f ⊎ IsToldAt rest f
-    there rest f go (inl t) = inl (inl t)
-    there rest f go (inr t) = one (go t)
-      where
-        one : IsToldInside xs f ⊎ IsToldAt rest f → IsToldInside (x ∷ xs) f ⊎ IsToldAt rest f
-        one (inl b) = inl (inr b)
-        one (inr t) = inr t
-
-    back : (rest : List Site) (f : Fault) → (IsToldInside xs f ⊎ IsToldAt rest f → IsToldAt (initialiser_in xs rest) f)
-        → IsToldInside (x ∷ xs) f ⊎ IsToldAt rest f → IsToldAt (initialiser_in (x ∷ xs) rest) f
-    back rest f go (inl (inl t)) = inl t
-    back rest f go (inl (inr t)) = inr (go (inl t))
-    back rest f go (inr t) = inr (go (inr t))
-
-in_expressions : (xs : List expressions.Site) (rest : List initialisers.Site) (f : Fault)
-    → IsToldInside (initialisers.sites_in xs rest) f ↔ (IsToldIn xs f ⊎ IsToldInside rest f)
-in_expressions [] rest f = (λ h. inr h, back)
-  where
-    back : ⊥ ⊎ IsToldInside rest f → IsToldInside rest f
-    back (inl h) = absurd h
-    back (inr h) = h
-in_expressions (x ∷ xs) rest f = (there (in_expressions xs rest f).0, back (in_expressions xs rest f).1)
-  where
-    there : (IsToldInside (initialisers.sites_in xs rest) f → IsToldIn xs f ⊎ IsToldInside rest f)
-        → IsToldInside (initialisers.sites_in (x ∷ xs) rest) f → IsToldIn (x ∷ xs) f ⊎ IsToldInside rest f
-    there go (inl t) = inl (inl t)
-    there go (inr t) = one (go t)
-      where
-        one : IsToldIn xs f ⊎ IsToldInside rest f → IsToldIn (x ∷ xs) f ⊎ IsToldInside rest f
-        one (inl b) = inl (inr b)
-        one (inr t) = inr t
-
-    back : (IsToldIn xs f ⊎ IsToldInside rest f → IsToldInside (initialisers.sites_in xs rest) f)
-        → IsToldIn (x ∷ xs) f ⊎ IsToldInside rest f → IsToldInside (initialisers.sites_in (x ∷ xs) rest) f
-    back go (inl (inl t)) = inl t
-    back go (inl (inr t)) = inr (go (inl t))
-    back go (inr t) = inr (go (inr t))
+use Rattle.ec_check_parts.proofs.Nested.{IsToldIn, IsToldInside, inside_told, in_expressions}
+use Rattle.ec_check_parts.proofs.Expressions.{ExpressionLaws, conditional_used, uses_conditional}
 
 -- ---- sizes
 
@@ -98,8 +48,8 @@ unsized_told (Some y) = (λ e. (y, refl, (none_is (size_of_operand y)).0 e), λ 
     moved : (x : Operand) → ◌≡◌ {A = Option Operand} (Some y) (Some x) → size_of_operand x ≡ None → size_of_operand y ≡ None
     moved x e n = let same : x ≡ y = cc in subst (λ z. size_of_operand z ≡ None) same n
 
-module _ (k : Known) (c : t.Conditional) (at : ℕ) (f : Fault) where
-  abbrev places_of : List expressions.Site
+module _ (laws : ExpressionLaws) (k : Known) (c : t.Conditional) (at : ℕ) (f : Fault) where
+  abbrev pub places_of : List expressions.Site
   places_of = conditional_sites k c (expressions.on (a_use (of_conditional k c) (first_conditional c)) ∷ [])
 
   abbrev sites_by : Bool → List initialisers.Site
@@ -114,8 +64,9 @@ module _ (k : Known) (c : t.Conditional) (at : ℕ) (f : Fault) where
   size_there true e h = by ((in_expressions places_of (initialisers.a_size true (used (of_conditional k c)) at ∷ []) f).0 h)
     where
       by : IsToldIn places_of f ⊎ IsToldInside (initialisers.a_size true (used (of_conditional k c)) at ∷ []) f → BreakSize k c at f
-      by (inl t) = in_size e t
-      by (inr (inl (inl (b, a, r)))) = let n = (unsized_told (used (of_conditional k c))).0 b in no_size r a e n.0 n.1 n.2
+      by (inl t) = in_size e ((conditional_used laws k c f).0 t)
+      by (inr (inl (inl (b, a, r)))) =
+          let n = (unsized_told (used (of_conditional k c))).0 b in no_size r a e n.0 ((uses_conditional laws k c n.0).1 n.1) n.2
       by (inr (inl (inr h))) = absurd h
       by (inr (inr h)) = absurd h
 
@@ -125,10 +76,11 @@ module _ (k : Known) (c : t.Conditional) (at : ℕ) (f : Fault) where
   size_back false e (no_size r a q x m n) = absurd (false≢true (let w : false ≡ true = cc in w))
   size_back true e (no_size r a q x m n) =
       (in_expressions places_of (initialisers.a_size true (used (of_conditional k c)) at ∷ []) f).1
-      (inr (inl (inl ((unsized_told (used (of_conditional k c))).1 (x, m, n), a, r))))
+      (inr (inl (inl ((unsized_told (used (of_conditional k c))).1 (x, (uses_conditional laws k c x).0 m, n), a, r))))
   size_back false e (in_size q t) = absurd (false≢true (let w : false ≡ true = cc in w))
   size_back true e (in_size q t) =
-      (in_expressions places_of (initialisers.a_size true (used (of_conditional k c)) at ∷ []) f).1 (inl t)
+      (in_expressions places_of (initialisers.a_size true (used (of_conditional k c)) at ∷ []) f).1
+      (inl ((conditional_used laws k c f).1 t))
 
   pub size_judged : IsToldInside (initialisers.size_sites k c at []) f ↔ BreakSize k c at f
   size_judged = (λ h. size_there (is_constant_conditional k c) refl h, λ h. size_back (is_constant_conditional k c) refl h)
@@ -158,9 +110,10 @@ open_told None = (λ e. tt, λ h. refl)
 open_told (Some (t.start equals (t.initial_value a))) = (λ e. tt, λ h. refl)
 open_told (Some (t.start equals (t.braces l first more c r))) = number_told (items_count more)
 
-pub shape_judged : (k : Known) (shape : t.Shape) (start : Option t.Start) → TellAt (shape_sites k shape start) (BreakShape k shape start)
-shape_judged k t.object start = nowhere
-shape_judged k (t.array l None r) start =
+pub shape_judged : (laws : ExpressionLaws) (k : Known) (shape : t.Shape) (start : Option t.Start)
+    → TellAt (shape_sites k shape start) (BreakShape k shape start)
+shape_judged laws k t.object start = nowhere
+shape_judged laws k (t.array l None r) start =
     at_one (rule 8 (is_none (given_size start)) l.index ∷ []) (BreakShape k (t.array l None r) start) (λ f. (there f, back f))
   where
     there : (f : Fault) → IsTold (rule 8 (is_none (given_size start)) l.index ∷ []) f
@@ -171,8 +124,8 @@ shape_judged k (t.array l None r) start =
     back : (f : Fault) → BreakShape k (t.array l None r) start f
         → IsTold (rule 8 (is_none (given_size start)) l.index ∷ []) f
     back f (q, a, h) = inl ((open_told start).1 h, a, q)
-shape_judged k (t.array l (Some c) r) start =
+shape_judged laws k (t.array l (Some c) r) start =
     like (initialiser_in (initialisers.size_sites k c l.index [])) (IsToldInside (initialisers.size_sites k c l.index []))
-    (BreakShape k (t.array l (Some c) r) start) (λ f. (size_judged k c l.index f).0) (λ f. (size_judged k c l.index f).1)
+    (BreakShape k (t.array l (Some c) r) start) (λ f. (size_judged laws k c l.index f).0) (λ f. (size_judged laws k c l.index f).1)
     (inside_told (initialisers.size_sites k c l.index []))
-shape_judged k (t.function_shape l ps r) start = nowhere
+shape_judged laws k (t.function_shape l ps r) start = nowhere

@@ -45,6 +45,7 @@ use Rattle.ec_check_parts.proofs.Qualifiers.{SaysConst, star_says}
 use Rattle.ec_check_parts.proofs.Specifiers.{says, specifiers_alone}
 use Rattle.ec_check_parts.proofs.Heads.{heads_are_judged}
 use Rattle.ec_check_parts.proofs.Joined.{nowhere, at_one, both, like}
+use Rattle.ec_check_parts.proofs.Expressions.{ExpressionLaws}
 use Rattle.ec_check_parts.proofs.Sizes.{shape_judged}
 
 -- ---- const
@@ -109,7 +110,7 @@ one_before ms before m h n =
 
 -- ---- one member
 
-module _ (k : Known) (ss : t.Specs) where
+module _ (laws : ExpressionLaws) (k : Known) (ss : t.Specs) where
   module _ (before : List (List ℕ)) (ms : List MemberDeclared) (stars : List t.Star) (at : Spot) (n : List ℕ) (shape : t.Shape) where
     abbrev Judged : List Judgement
     Judged = member_rules (is_member n ms) (head_of (specified k.tags ss) stars).qualities.konst (is_function shape) at.index
@@ -161,7 +162,7 @@ module _ (k : Known) (ss : t.Specs) where
         like (member_sites k (specified k.tags ss) (t.declarator stars (t.identifier at n) shape) ms) Parts
         (BreakMember k before ss stars at.index n shape) of_parts to_parts
         (both (shape_sites k shape None) (λ rest. on heads ∷ on Judged ∷ rest) (BreakShape k shape None)
-        (λ f. BreakHead k.tags (role_of member shape) ss stars f ⊎ BreakRules f) (shape_judged k shape None)
+        (λ f. BreakHead k.tags (role_of member shape) ss stars f ⊎ BreakRules f) (shape_judged laws k shape None)
         (both (λ rest. on heads ∷ rest) (λ rest. on Judged ∷ rest) (BreakHead k.tags (role_of member shape) ss stars) BreakRules
         (at_one heads (BreakHead k.tags (role_of member shape) ss stars) (λ f. member_head k.tags ss stars shape f))
         (at_one Judged BreakRules (rules_judged h))))
@@ -189,11 +190,11 @@ module _ (k : Known) (ss : t.Specs) where
 
 -- ---- declarations of members
 
-declared_judged : (k : Known) (before : List (List ℕ)) (ms : List MemberDeclared) (ss : t.Specs) (first : t.Declarator)
-    (more : List t.NextDeclarator) (e : Spot) → AreBefore ms before
+declared_judged : (laws : ExpressionLaws) (k : Known) (before : List (List ℕ)) (ms : List MemberDeclared) (ss : t.Specs)
+    (first : t.Declarator) (more : List t.NextDeclarator) (e : Spot) → AreBefore ms before
     → TellAt (declared_sites k (t.members ss first more e) ms)
     (λ f. BreakSpecifiers k.tags false ss f ⊎ BreakDeclarators k before ss (first ∷ declarators_behind more) f)
-declared_judged k before ms ss (t.declarator stars (t.identifier at n) shape) more e h =
+declared_judged laws k before ms ss (t.declarator stars (t.identifier at n) shape) more e h =
     let d = t.declarator stars (t.identifier at n) shape in
     let s = specified k.tags ss in
     let m : MemberDeclared = record { name = n; ty = (typed_declarator k s d None).ty } in
@@ -202,28 +203,28 @@ declared_judged k before ms ss (t.declarator stars (t.identifier at n) shape) mo
     (BreakSpecifiers k.tags false ss) (BreakDeclarators k before ss (d ∷ declarators_behind more))
     (at_one (specs_rules k.tags false ss []) (BreakSpecifiers k.tags false ss) (specifiers_alone k.tags false ss))
     (both (member_sites k s d ms) (more_member_sites k s more (ms ++ m ∷ [])) (BreakMember k before ss stars at.index n shape)
-    (BreakDeclarators k (n ∷ before) ss (declarators_behind more)) (member_judged k ss before ms stars at n shape h)
-    (more_judged k ss (n ∷ before) (ms ++ m ∷ []) more (one_before ms before m h)))
+    (BreakDeclarators k (n ∷ before) ss (declarators_behind more)) (member_judged laws k ss before ms stars at n shape h)
+    (more_judged laws k ss (n ∷ before) (ms ++ m ∷ []) more (one_before ms before m h)))
 
-declared_before : (k : Known) (before : List (List ℕ)) (ms : List MemberDeclared) (ss : t.Specs) (first : t.Declarator)
-    (more : List t.NextDeclarator) (e : Spot) → AreBefore ms before
+declared_before : (laws : ExpressionLaws) (k : Known) (before : List (List ℕ)) (ms : List MemberDeclared) (ss : t.Specs)
+    (first : t.Declarator) (more : List t.NextDeclarator) (e : Spot) → AreBefore ms before
     → AreBefore (with_declared k (t.members ss first more e) ms) (names_behind before (first ∷ declarators_behind more))
-declared_before k before ms ss (t.declarator stars (t.identifier at n) shape) more e h =
+declared_before laws k before ms ss (t.declarator stars (t.identifier at n) shape) more e h =
     let d = t.declarator stars (t.identifier at n) shape in
     let m : MemberDeclared = record { name = n; ty = (typed_declarator k (specified k.tags ss) d None).ty } in
-    more_before k ss (n ∷ before) (ms ++ m ∷ []) more (one_before ms before m h)
+    more_before laws k ss (n ∷ before) (ms ++ m ∷ []) more (one_before ms before m h)
 
-all_judged : (k : Known) (before : List (List ℕ)) (ms : List MemberDeclared) (ds : List t.Member) → AreBefore ms before
-    → TellAt (all_declared_sites k ds ms) (BreakMembers k before ds)
-all_judged k before ms [] h = nowhere
-all_judged k before ms (t.members ss first more e ∷ ds) h =
+all_judged : (laws : ExpressionLaws) (k : Known) (before : List (List ℕ)) (ms : List MemberDeclared) (ds : List t.Member)
+    → AreBefore ms before → TellAt (all_declared_sites k ds ms) (BreakMembers k before ds)
+all_judged laws k before ms [] h = nowhere
+all_judged laws k before ms (t.members ss first more e ∷ ds) h =
     let here = names_behind before (first ∷ declarators_behind more) in
     let Here = (λ (f : Fault). BreakSpecifiers k.tags false ss f ⊎ BreakDeclarators k before ss (first ∷ declarators_behind more) f) in
     like (all_declared_sites k (t.members ss first more e ∷ ds) ms) (λ f. Here f ⊎ BreakMembers k here ds f)
     (BreakMembers k before (t.members ss first more e ∷ ds)) there back
     (both (declared_sites k (t.members ss first more e) ms) (all_declared_sites k ds (with_declared k (t.members ss first more e) ms)) Here
-    (BreakMembers k here ds) (declared_judged k before ms ss first more e h)
-    (all_judged k here (with_declared k (t.members ss first more e) ms) ds (declared_before k before ms ss first more e h)))
+    (BreakMembers k here ds) (declared_judged laws k before ms ss first more e h)
+    (all_judged laws k here (with_declared k (t.members ss first more e) ms) ds (declared_before laws k before ms ss first more e h)))
   where
     there : (f : Fault)
         → (BreakSpecifiers k.tags false ss f ⊎ BreakDeclarators k before ss (first ∷ declarators_behind more) f)
@@ -243,9 +244,9 @@ all_judged k before ms (t.members ss first more e ∷ ds) h =
 nothing_before : AreBefore [] []
 nothing_before n = (λ e. absurd (false≢true e), λ h. absurd h)
 
-members_judged : (k : Known) (first : t.Member) (more : List t.Member)
+members_judged : (laws : ExpressionLaws) (k : Known) (first : t.Member) (more : List t.Member)
     → TellAt (member_list_sites k first more) (BreakMembers k [] (first ∷ more))
-members_judged k first more = all_judged k [] [] (first ∷ more) nothing_before
+members_judged laws k first more = all_judged laws k [] [] (first ∷ more) nothing_before
 
 -- ---- structs
 
@@ -305,9 +306,10 @@ StructureParts k at tag first more f =
     BreakOne 10 at (at_name tag k.tags ≢ None) f
     ⊎ (BreakMembers k [] (first ∷ more) f ⊎ BreakOne 9 at (IsLarge k.structs (members_of k first more)) f)
 
-structure_judged : (k : Known) (w : Spot) (at : Spot) (tag : List ℕ) (l : Spot) (first : t.Member) (more : List t.Member) (r e : Spot)
+structure_judged : (laws : ExpressionLaws) (k : Known) (w : Spot) (at : Spot) (tag : List ℕ) (l : Spot) (first : t.Member)
+    (more : List t.Member) (r e : Spot)
     → TellAt (structure_sites k (t.structure w (t.identifier at tag) l first more r e)) (BreakStructure k at.index tag first more)
-structure_judged k w at tag l first more r e =
+structure_judged laws k w at tag l first more r e =
     let again = rule 10 (not (is_undefined (tag_state tag k.tags))) at.index ∷ [] in
     let large = rule 9 (is_too_large_together k.structs (members_of k first more)) at.index ∷ [] in
     let Again = BreakOne 10 at.index (at_name tag k.tags ≢ None) in
@@ -318,7 +320,8 @@ structure_judged k w at tag l first more r e =
     (λ f. BreakMembers k [] (first ∷ more) f ⊎ Large f)
     (at_one again Again (one_judged 10 (not (is_undefined (tag_state tag k.tags))) at.index (at_name tag k.tags ≢ None)
     (defined_told (at_name tag k.tags))))
-    (both (member_list_sites k first more) (λ rest. on large ∷ rest) (BreakMembers k [] (first ∷ more)) Large (members_judged k first more)
+    (both (member_list_sites k first more) (λ rest. on large ∷ rest) (BreakMembers k [] (first ∷ more)) Large
+    (members_judged laws k first more)
     (at_one large Large (one_judged 9 (is_too_large_together k.structs (members_of k first more)) at.index
     (IsLarge k.structs (members_of k first more)) (large_told k.structs (members_of k first more))))))
   where
@@ -424,5 +427,5 @@ register_judged k w at register ss name e =
     back f (no_number q a ty m n) = inr (inr (q, a, inl (inr (ty, m, n))))
     back f (passes_last_register q a first m ty n b) = inr (inr (q, a, inr (first, m, ty, n, b)))
 
-pub structures_are_judged : StructuresAreJudged
-structures_are_judged = record { structures = structure_judged; registers = register_judged }
+pub structures_are_judged : ExpressionLaws → StructuresAreJudged
+structures_are_judged laws = record { structures = structure_judged laws; registers = register_judged }

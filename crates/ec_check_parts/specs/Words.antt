@@ -51,6 +51,10 @@ IsStorageWord w.Extern = ⊤
 IsStorageWord w.Static = ⊤
 IsStorageWord word = ⊥
 
+abbrev pub IsExternWord : WordKind → Type 0
+IsExternWord w.Extern = ⊤
+IsExternWord word = ⊥
+
 abbrev pub IsVoidWord : WordKind → Type 0
 IsVoidWord w.Void = ⊤
 IsVoidWord word = ⊥
@@ -81,3 +85,8 @@ HasSecondAt P (w ∷ ws) at = (P w.kind × HasAt P ws at) ⊎ HasSecondAt P ws a
 abbrev pub HasFirstAt : (WordKind → Type 0) → List Word → (at : ℕ) → Type 0
 HasFirstAt P [] at = ⊥
 HasFirstAt P (w ∷ ws) at = (P w.kind × (at ≡ w.at)) ⊎ ((¬ P w.kind) × HasFirstAt P ws at)
+
+-- the first one stands at the token, and is of this kind too
+abbrev pub HasFirstAs : (P Q : WordKind → Type 0) → List Word → (at : ℕ) → Type 0
+HasFirstAs P Q [] at = ⊥
+HasFirstAs P Q (w ∷ ws) at = (P w.kind × Q w.kind × (at ≡ w.at)) ⊎ ((¬ P w.kind) × HasFirstAs P Q ws at)

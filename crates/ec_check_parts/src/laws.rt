@@ -1,6 +1,12 @@
 //! Each function proves a law, and does nothing.
 ghost use Rattle.ec_check_parts.specs.Laws.{SpecifiersAreJudged, HeadsAreJudged, FunctionsAreJudged, ObjectsAreJudged};
-ghost use Rattle.ec_check_parts.specs.Laws.{StructuresAreJudged};
+ghost use Rattle.ec_check_parts.specs.Laws.{StructuresAreJudged, InitialisersAreJudged, BlocksAreJudged};
+ghost use Rattle.ec_check_parts.specs.Laws.{StatementsAreJudged, FileNamesAreJudged, BodiesAreJudged, FileScopeIsJudged};
+
+use ec_check_file_scope::conflicts_are_told;
+use ec_check_meanings::{constraints_are_told, sites_are_judged, walk_gives_meanings};
+use ec_check_names::blocks_end;
+use ec_core::types_are_told;
 
 /// What is told of specifiers and of lists of qualifiers (rules 1, 2, 4 and 10) is exactly what breaks a constraint there.
 pub fn specifiers_are_judged()
@@ -23,10 +29,83 @@ pub fn functions_are_judged()
 /// exactly what breaks a constraint there.
 pub fn structures_are_judged()
     ensures { StructuresAreJudged }
-{}
+{
+    types_are_told();
+    walk_gives_meanings();
+    sites_are_judged();
+    constraints_are_told();
+}
 
 /// What is told of the declarator of an object, at file scope and in blocks (rules 2 to 4 and 7 to 9), is exactly what breaks
 /// a constraint there.
 pub fn objects_are_judged()
     ensures { ObjectsAreJudged }
-{}
+{
+    types_are_told();
+    walk_gives_meanings();
+    sites_are_judged();
+    constraints_are_told();
+}
+
+/// What is told of an initialiser (rules 14, 15, and those of expressions) is exactly what breaks a constraint there, in
+/// blocks and at file scope.
+pub fn initialisers_are_judged()
+    ensures { InitialisersAreJudged }
+{
+    types_are_told();
+    walk_gives_meanings();
+    sites_are_judged();
+    constraints_are_told();
+}
+
+/// What is told of a declaration in a block (rules 1 to 5, 7 to 10 and 16) is exactly what breaks a constraint there.
+pub fn blocks_are_judged()
+    ensures { BlocksAreJudged }
+{
+    types_are_told();
+    walk_gives_meanings();
+    sites_are_judged();
+    constraints_are_told();
+}
+
+/// What is told of conditions, of expressions whose value is not used, of `return`, and of `break` and `continue` (rules 25
+/// and 28 to 30, 38 to 40, and those of expressions) is exactly what breaks a constraint there.
+pub fn statements_are_judged()
+    ensures { StatementsAreJudged }
+{
+    types_are_told();
+    walk_gives_meanings();
+    sites_are_judged();
+    constraints_are_told();
+}
+
+/// What is told of names at file scope (rules 6, 13, 16 and 18) is exactly what breaks a constraint there.
+pub fn file_names_are_judged()
+    ensures { FileNamesAreJudged }
+{
+    types_are_told();
+    conflicts_are_told();
+}
+
+/// What is told of the body of a function is exactly what breaks a constraint at one of the parts that stand in it, each with
+/// the names that are known there.
+pub fn bodies_are_judged()
+    ensures { BodiesAreJudged }
+{
+    initialisers_are_judged();
+    blocks_are_judged();
+    statements_are_judged();
+    blocks_end();
+}
+
+/// What is told of a declaration, a named register or a struct at file scope is exactly what breaks a constraint at one of the
+/// parts that stand in it, and behind it the same is known.
+pub fn file_scope_is_judged()
+    ensures { FileScopeIsJudged }
+{
+    functions_are_judged();
+    structures_are_judged();
+    objects_are_judged();
+    initialisers_are_judged();
+    file_names_are_judged();
+}
