@@ -17,7 +17,7 @@ use Rattle.ec_avr.specs.State.{is_core_register, is_port, is_sram, stack_pointer
 use Rattle.ec_asm.specs.View.{View, put, put_pair}
 use Rattle.ec_asm.specs.Change.{Env, Kind, Own, Object, Port, Stacked, Barred, load_by, store_by, flash_by, push_by, pop_by, set, given}
 use Rattle.ec_asm.specs.Change.{taken, sp, move_to}
-use Rattle.ec_asm.specs.Shows.{Shows, Fits, Does, may_be, in_flash, if_object}
+use Rattle.ec_asm.specs.Shows.{HoldsBase, Shows, Fits, Does, may_be, in_flash, if_object}
 use Rattle.ec_asm.proofs.Shown.{with_data, shows_byte, reads}
 
 or_parts : (a b : Bool) → IsTrue (a || b) → IsTrue a ⊎ IsTrue b
@@ -65,7 +65,27 @@ port_parts a h =
     off true h = cc
     off false h = refl
 
+-- ---- the stack
+
 module _ (e : Env) (size : ℕ) (fit : Fits e size) (s : State) (v : View) (h : Shows e size s.mem v) where
+  pub sp_shown : stack_pointer s ≡ sp v
+  sp_shown =
+      let p = reads e size s.mem v 93 h (omega arith) in
+      let q = reads e size s.mem v 94 h (omega arith) in
+      rw (p, q) refl
+
+  pub stacked_at : (a : ℕ) → e.kind a ≡ Stacked → (256 ≤ a) × (a < size) × (is_sram s a ≡ true)
+  stacked_at a q =
+      let may = subst (λ (z : Kind). IsTrue (may_be z size a)) q (fit.kinds a) in
+      let p = sram_parts a size may in
+      (p.0, p.1, rw h.sized may)
+
+-- ---- where Y is free
+
+module _ (e : Env) (size : ℕ) (free : 65536 ≤ e.base) (fit : Fits e size) (s : State) (v : View) (h : Shows e size s.mem v) where
+  no_base : (w : View) → HoldsBase e w
+  no_base w l = absurd (omega (arith, free, l))
+
   has : (a : ℕ) → a < size → nat_lt a (length s.mem.data) ≡ true
   has a l = let q = h.sized in lt-ltb a (length s.mem.data) (omega arith)
 
@@ -81,7 +101,7 @@ module _ (e : Env) (size : ℕ) (fit : Fits e size) (s : State) (v : View) (h : 
         access = Silent;
         ran = rw (y, q, p.2) refl;
         pc = rw y refl;
-        shows = rw (y, q, sym r) (shows_byte e size s.mem v d (slice_index s.mem.data a) h (omega arith) (omega arith) (h.bytes a));
+        shows = rw (y, q, sym r) (shows_byte e size free s.mem v d (slice_index s.mem.data a) h (omega arith) (omega arith) (h.bytes a));
         seen = sym (append-nil v.seen);
         inputs = rw q refl;
       }
@@ -94,7 +114,7 @@ module _ (e : Env) (size : ℕ) (fit : Fits e size) (s : State) (v : View) (h : 
       let q = sram_no_port a c1 in
       let y = has a c2 in
       let r = reads e size s.mem v a h (omega arith) in
-      let k = shows_byte e size s.mem v d (slice_index s.mem.data a) h (omega arith) (omega arith) (h.bytes a) in
+      let k = shows_byte e size free s.mem v d (slice_index s.mem.data a) h (omega arith) (omega arith) (h.bytes a) in
       record {
         access = Read DataBank a (v.at a);
         ran = rw (y, q, sram_no_core a c1, high a c1, r) refl;
@@ -106,6 +126,7 @@ module _ (e : Env) (size : ℕ) (fit : Fits e size) (s : State) (v : View) (h : 
           at = wa ∙ rw (sym r) k.at;
           flags = wf ∙ k.flags;
           feeds = λ p n. rw wi (h.feeds p n);
+          base = no_base w;
         });
         seen = ws;
         inputs = rw q wi;
@@ -125,13 +146,13 @@ module _ (e : Env) (size : ℕ) (fit : Fits e size) (s : State) (v : View) (h : 
       let p = port_parts a c in
       let y = has a (omega (arith, p.0)) in
       let low = lt-ltb a 256 p.0 in
-      let k = shows_byte e size s.mem v d (given v a) h (omega arith) (omega arith) (h.feeds a 0) in
+      let k = shows_byte e size free s.mem v d (given v a) h (omega arith) (omega arith) (h.feeds a 0) in
       record {
         access = In a (given v a);
         ran = rw (y, p.1, low) refl;
         pc = rw y refl;
         shows = rw (y, p.1, low)
-            (record { flash = k.flash; sized = k.sized; bytes = k.bytes; at = k.at; flags = k.flags; feeds = feeds_later a });
+            (record { flash = k.flash; sized = k.sized; bytes = k.bytes; at = k.at; flags = k.flags; feeds = feeds_later a; base = no_base (load_by Port d a v) });
         seen = refl;
         inputs = rw (p.1, low, y) refl;
       }
@@ -167,7 +188,7 @@ module _ (e : Env) (size : ℕ) (fit : Fits e size) (s : State) (v : View) (h : 
         access = Silent;
         ran = rw (y, p.2) refl;
         pc = rw (y, q) refl;
-        shows = rw (y, q) (shows_byte e size s.mem v a x h (omega (arith, p.0)) p.1 l);
+        shows = rw (y, q) (shows_byte e size free s.mem v a x h (omega (arith, p.0)) p.1 l);
         seen = sym (append-nil v.seen);
         inputs = refl;
       }
@@ -179,7 +200,7 @@ module _ (e : Env) (size : ℕ) (fit : Fits e size) (s : State) (v : View) (h : 
       let big = fit.ports in
       let q = sram_no_port a c1 in
       let y = has a c2 in
-      let k = shows_byte e size s.mem v a x h c2 (omega arith) l in
+      let k = shows_byte e size free s.mem v a x h c2 (omega arith) l in
       record {
         access = Write a x;
         ran = rw (y, sram_no_core a c1, high a c1) refl;
@@ -191,6 +212,7 @@ module _ (e : Env) (size : ℕ) (fit : Fits e size) (s : State) (v : View) (h : 
           at = wa ∙ k.at;
           flags = wf ∙ k.flags;
           feeds = λ p n. rw wi (h.feeds p n);
+          base = no_base w;
         });
         seen = ws;
         inputs = wi;
@@ -208,7 +230,7 @@ module _ (e : Env) (size : ℕ) (fit : Fits e size) (s : State) (v : View) (h : 
         ran = rw (y, p.1, low) refl;
         pc = rw (y, p.1, low) refl;
         shows =
-            rw (y, p.1, low) (record { flash = h.flash; sized = h.sized; bytes = h.bytes; at = h.at; flags = h.flags; feeds = h.feeds });
+            rw (y, p.1, low) (record { flash = h.flash; sized = h.sized; bytes = h.bytes; at = h.at; flags = h.flags; feeds = h.feeds; base = no_base (store_by Port a x v) });
         seen = refl;
         inputs = refl;
       }
@@ -239,7 +261,7 @@ module _ (e : Env) (size : ℕ) (fit : Fits e size) (s : State) (v : View) (h : 
   flash_at d a w l b q wa wf wi ws =
       let big = fit.ports in
       let y = lt-ltb a (length e.flash) b in
-      let k = shows_byte e size s.mem v d (slice_index e.flash a) h (omega arith) (omega arith) (fit.code a) in
+      let k = shows_byte e size free s.mem v d (slice_index e.flash a) h (omega arith) (omega arith) (fit.code a) in
       record {
         access = Read FlashBank a (slice_index e.flash a);
         ran = rw (sym q, h.flash, y) refl;
@@ -251,6 +273,7 @@ module _ (e : Env) (size : ℕ) (fit : Fits e size) (s : State) (v : View) (h : 
           at = wa ∙ k.at;
           flags = wf ∙ k.flags;
           feeds = λ p n. rw wi (h.feeds p n);
+          base = no_base w;
         });
         seen = ws;
         inputs = wi;
@@ -271,36 +294,24 @@ module _ (e : Env) (size : ℕ) (fit : Fits e size) (s : State) (v : View) (h : 
 
   -- ---- the stack
 
-  pub sp_shown : stack_pointer s ≡ sp v
-  sp_shown =
-      let p = reads e size s.mem v 93 h (omega arith) in
-      let q = reads e size s.mem v 94 h (omega arith) in
-      rw (p, q) refl
-
-  pub stacked_at : (a : ℕ) → e.kind a ≡ Stacked → (256 ≤ a) × (a < size) × (is_sram s a ≡ true)
-  stacked_at a q =
-      let may = subst (λ (z : Kind). IsTrue (may_be z size a)) q (fit.kinds a) in
-      let p = sram_parts a size may in
-      (p.0, p.1, rw h.sized may)
-
   pub sp_set : (m : Memory) (w : View) (n : ℕ) → Shows e size m w → n < 65536
       → Shows e size (with_data (with_data m 93 (n % 256)) 94 (n / 256)) (record w { at = put_pair w.at 93 n })
   sp_set m w n k l =
       let big = fit.ports in
-      shows_byte e size _ _ 94 (n / 256) (shows_byte e size m w 93 (n % 256) k (omega arith) (omega arith) (omega arith)) (omega arith)
+      shows_byte e size free _ _ 94 (n / 256) (shows_byte e size free m w 93 (n % 256) k (omega arith) (omega arith) (omega arith)) (omega arith)
       (omega arith) (omega arith)
 
   pub push_does : (x : ℕ) (k : Kind) → e.kind (sp v) ≡ k → x < 256 → (push_by k x v).safe ≡ true
       → Does e size s v (push_by k x v) 1 None (push x s)
   push_does x Stacked q l safe =
-      let a = stacked_at (sp v) q in
-      let p = sp_shown in
+      let a = stacked_at e size fit s v h (sp v) q in
+      let p = sp_shown e size fit s v h in
       record {
         access = Stack;
         ran = rw (p, a.2) refl;
         pc = rw (p, a.2) refl;
         shows = rw (p, a.2)
-            (sp_set _ _ (lowered (sp v)) (shows_byte e size s.mem v (sp v) x h a.1 (let g = a.0 in omega arith) l) (omega arith));
+            (sp_set _ _ (lowered (sp v)) (shows_byte e size free s.mem v (sp v) x h a.1 (let g = a.0 in omega arith) l) (omega arith));
         seen = sym (append-nil v.seen);
         inputs = refl;
       }
@@ -312,8 +323,8 @@ module _ (e : Env) (size : ℕ) (fit : Fits e size) (s : State) (v : View) (h : 
   pub pop_does : (d : ℕ) (k : Kind) → e.kind (raised (sp v)) ≡ k → d < 32 → (pop_by k d v).safe ≡ true
       → Does e size s v (pop_by k d v) 1 None (pop d s)
   pop_does d Stacked q l safe =
-      let a = stacked_at (raised (sp v)) q in
-      let p = sp_shown in
+      let a = stacked_at e size fit s v h (raised (sp v)) q in
+      let p = sp_shown e size fit s v h in
       let big = fit.ports in
       let r = reads e size s.mem v (raised (sp v)) h (let g = a.0 in omega arith) in
       record {
@@ -321,7 +332,7 @@ module _ (e : Env) (size : ℕ) (fit : Fits e size) (s : State) (v : View) (h : 
         ran = rw (p, a.2) refl;
         pc = rw (p, a.2) refl;
         shows = rw (p, a.2, sym r) (sp_set _ _ (raised (sp v))
-            (shows_byte e size s.mem v d (slice_index s.mem.data (raised (sp v))) h (omega arith) (omega arith) (h.bytes _)) (omega arith));
+            (shows_byte e size free s.mem v d (slice_index s.mem.data (raised (sp v))) h (omega arith) (omega arith) (h.bytes _)) (omega arith));
         seen = sym (append-nil v.seen);
         inputs = refl;
       }
@@ -344,8 +355,8 @@ module _ (e : Env) (size : ℕ) (fit : Fits e size) (s : State) (v : View) (h : 
         access = d.access;
         ran = d.ran;
         pc = d.pc;
-        shows = shows_byte e size _ _ (pointer + 1) (at / 256)
-            (shows_byte e size t.mem w pointer (at % 256) d.shows (omega arith) (omega arith) (omega arith)) (omega arith)
+        shows = shows_byte e size free _ _ (pointer + 1) (at / 256)
+            (shows_byte e size free t.mem w pointer (at % 256) d.shows (omega arith) (omega arith) (omega arith)) (omega arith)
             (omega arith) (omega arith);
         seen = d.seen;
         inputs = d.inputs;

@@ -34,7 +34,7 @@ silent_follows e size i s t v a p w o h q r = record {
   inputs = r ∙ rw o refl;
 }
 
-module _ (e : Env) (size : ℕ) (big : 256 ≤ size) (m : Memory) (v : View) (h : Shows e size m v) where
+module _ (e : Env) (size : ℕ) (free : 65536 ≤ e.base) (big : 256 ≤ size) (m : Memory) (v : View) (h : Shows e size m v) where
   abbrev sreg : ℕ
   sreg = slice_index m.data 95
 
@@ -42,7 +42,7 @@ module _ (e : Env) (size : ℕ) (big : 256 ≤ size) (m : Memory) (v : View) (h 
   sreg_byte = h.bytes 95
 
   pub set_shows : (d x : ℕ) → d < 32 → x < 256 → Shows e size (with_data m d x) (set d x v)
-  set_shows d x l b = shows_byte e size m v d x h (omega arith) (omega arith) b
+  set_shows d x l b = shows_byte e size free m v d x h (omega arith) (omega arith) b
 
   -- flags that are put together, alone and with a register
   flags_shown : (c z n o k : ℕ) → c ≤ 1 → z ≤ 1 → n ≤ 1 → o ≤ 1 → k ≤ 1
@@ -54,26 +54,26 @@ module _ (e : Env) (size : ℕ) (big : 256 ≤ size) (m : Memory) (v : View) (h 
       → Shows e size (with_data m 95 (with_flags sreg c z n o k)) (record v { flags = flags_with v.flags c z n o })
   flags_alone c z n o k p q r s t =
       let b = sreg_byte in
-      shows_sreg e size m v _ _ h big (with_flags_below sreg c z n o k b p q r s t) (flags_shown c z n o k p q r s t)
+      shows_sreg e size free m v _ _ h big (with_flags_below sreg c z n o k b p q r s t) (flags_shown c z n o k p q r s t)
 
   pub flags_and_set : (d x c z n o k : ℕ) → d < 32 → x < 256 → c ≤ 1 → z ≤ 1 → n ≤ 1 → o ≤ 1 → k ≤ 1
       → Shows e size (with_data (with_data m d x) 95 (with_flags sreg c z n o k)) (set_both d x (flags_with v.flags c z n o) v)
   flags_and_set d x c z n o k l u p q r s t =
       let b = sreg_byte in
-      shows_sreg e size (with_data m d x) (set d x v) _ _ (set_shows d x l u) big (with_flags_below sreg c z n o k b p q r s t)
+      shows_sreg e size free (with_data m d x) (set d x v) _ _ (set_shows d x l u) big (with_flags_below sreg c z n o k b p q r s t)
       (flags_shown c z n o k p q r s t)
 
   pub pair_shows : (d x : ℕ) → d < 31 → x < 65536
       → Shows e size (with_data (with_data m d (x % 256)) (d + 1) (x / 256)) (record v { at = put_pair v.at d x })
   pair_shows d x l b =
-      shows_byte e size _ _ (d + 1) (x / 256) (set_shows d (x % 256) (omega arith) (omega arith)) (omega arith) (omega arith) (omega arith)
+      shows_byte e size free _ _ (d + 1) (x / 256) (set_shows d (x % 256) (omega arith) (omega arith)) (omega arith) (omega arith) (omega arith)
 
   pub flags_and_pair : (d x c z n o k : ℕ) → d < 31 → x < 65536 → c ≤ 1 → z ≤ 1 → n ≤ 1 → o ≤ 1 → k ≤ 1
       → Shows e size (with_data (with_data (with_data m d (x % 256)) (d + 1) (x / 256)) 95 (with_flags sreg c z n o k))
       (record v { at = put_pair v.at d x; flags = flags_with v.flags c z n o })
   flags_and_pair d x c z n o k l u p q r s t =
       let b = sreg_byte in
-      shows_sreg e size _ _ _ _ (pair_shows d x l u) big (with_flags_below sreg c z n o k b p q r s t) (flags_shown c z n o k p q r s t)
+      shows_sreg e size free _ _ _ _ (pair_shows d x l u) big (with_flags_below sreg c z n o k b p q r s t) (flags_shown c z n o k p q r s t)
 
   pub carry_shown : v.flags.c ≡ bit_at sreg 0
   carry_shown = ap (λ f. f.c) h.flags

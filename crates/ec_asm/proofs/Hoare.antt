@@ -1,15 +1,16 @@
 -- From straight code to runs, and a rule for one piece of code for each byte.
-use Rattle.std.proofs.Common.{◌≡◌, ℕ, zero, suc, ◌+◌, ◌*◌, ◌%◌, ◌<◌, ◌≤◌, true, List, [], ◌∷◌, ◌++◌, refl, sym, ap, ◌∙◌, arith, Some}
-use Rattle.std.proofs.lemmas.Bool.{and_parts, and_from, false≢true}
+use Rattle.std.proofs.Common.{◌≡◌, ℕ, zero, suc, ◌+◌, ◌*◌, ◌%◌, ◌<◌, ◌≤◌, true, List, [], ◌∷◌, ◌++◌, refl, sym, ap, ◌∙◌, subst, arith, Some}
+use Rattle.std.proofs.Common.{⊎_elim}
+use Rattle.std.proofs.lemmas.Bool.{and_parts, and_from, lt-ltb, false≢true}
 use Rattle.ec_isa.specs.declared.instructions.Instr.{Instr}
-use Rattle.ec_isa.specs.declared.instructions.Instr.TheVariants.{Lds, Sts, Ldi, Jmp, Call, Ret, Break, Ijmp, Icall, Rjmp, Rcall, Brbs, Brbc}
+use Rattle.ec_isa.specs.declared.instructions.Instr.TheVariants.{Lds, Sts, LddY, StdY, Ldi, Jmp, Call, Ret, Break, Ijmp, Icall, Rjmp, Rcall, Brbs, Brbc}
 use Rattle.ec_isa.specs.declared.instructions.Instr.TheVariants.{Cpse, Sbrc, Sbrs}
 use Rattle.ec_asm.specs.declared.items.AsmItem.{AsmItem}
 use Rattle.ec_asm.specs.declared.items.AsmItem.TheVariants.{Plain, Label, JumpTo, CallTo, BranchTo, LoadPart, LoadObj, StoreObj}
 use Rattle.ec_asm.specs.View.{View}
 use Rattle.ec_asm.specs.Change.{Env, change, goes_on, words}
 use Rattle.ec_asm.specs.Run.{Status, Running, act, step, run}
-use Rattle.ec_asm.specs.Items.{At, Stands, HasAt, is_straight, all_straight, item_steps, code_steps, item_change, block, chain, part_of}
+use Rattle.ec_asm.specs.Items.{At, IsNear, LoadsAt, StoresAt, Stands, HasAt, is_straight, all_straight, item_steps, code_steps, item_change, block, chain, part_of}
 use Rattle.ec_asm.specs.Takes.{Goes}
 use Rattle.ec_asm.specs.Laws.{ChainsHold}
 
@@ -47,6 +48,23 @@ one_goes e i pc end v h a =
     let m : (pc + words i) % 65536 ≡ end = omega arith in
     record { by = ap (λ o. act e o pc v) a.is ∙ act_goes e i pc v h ∙ ap (λ n. Running n (change e i v)) m }
 
+-- a byte near the base is reached by Y as by its address
+near_loads : (e : Env) (d q a : ℕ) (v : View) → IsNear e q a → change e (LddY d q) v ≡ change e (Lds d a) v
+near_loads e d q a v h = rw (lt-ltb e.base 65536 h.based, h.distance_is) refl
+
+near_stores : (e : Env) (q r a : ℕ) (v : View) → IsNear e q a → change e (StdY q r) v ≡ change e (Sts a r) v
+near_stores e q r a v h = rw (lt-ltb e.base 65536 h.based, h.distance_is) refl
+
+load_goes : (e : Env) (d a pc end : ℕ) (v : View) → LoadsAt e d a pc end → Goes e 1 pc v end (change e (Lds d a) v)
+load_goes e d a pc end v h =
+    ⊎_elim (λ x. one_goes e (Lds d a) pc end v refl x)
+    (λ x. subst (Goes e 1 pc v end) (near_loads e d x.0 a v x.2) (one_goes e (LddY d x.0) pc end v refl x.1)) h
+
+store_goes : (e : Env) (a r pc end : ℕ) (v : View) → StoresAt e a r pc end → Goes e 1 pc v end (change e (Sts a r) v)
+store_goes e a r pc end v h =
+    ⊎_elim (λ x. one_goes e (Sts a r) pc end v refl x)
+    (λ x. subst (Goes e 1 pc v end) (near_stores e x.0 r a v x.2) (one_goes e (StdY x.0 r) pc end v refl x.1)) h
+
 item_goes : (e : Env) (i : AsmItem) (pc end : ℕ) (v : View) → is_straight i ≡ true → Stands e i pc end
     → Goes e (item_steps i) pc v end (item_change e i v)
 item_goes e (Plain i) pc end v h a = one_goes e i pc end v h a
@@ -55,8 +73,8 @@ item_goes e (JumpTo l) pc end v h a = absurd (false≢true h)
 item_goes e (CallTo l) pc end v h a = absurd (false≢true h)
 item_goes e (BranchTo set flag l) pc end v h a = absurd (false≢true h)
 item_goes e (LoadPart d o k part) pc end v h a = one_goes e (Ldi d (part_of (e.address_of o k) part)) pc end v refl a
-item_goes e (LoadObj d o k) pc end v h a = one_goes e (Lds d (e.address_of o k)) pc end v refl a
-item_goes e (StoreObj o k r) pc end v h a = one_goes e (Sts (e.address_of o k) r) pc end v refl a
+item_goes e (LoadObj d o k) pc end v h a = load_goes e d (e.address_of o k) pc end v a
+item_goes e (StoreObj o k r) pc end v h a = store_goes e (e.address_of o k) r pc end v a
 
 -- straight code is one change of the view
 pub block_goes : (e : Env) (is : List AsmItem) (pc end : ℕ) (v : View) → all_straight is ≡ true → HasAt e is pc end

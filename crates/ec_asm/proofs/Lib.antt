@@ -11,9 +11,11 @@ pub mod Signed
 pub mod Halved
 pub mod Operators
 pub mod ItemWords
+pub mod Far
 pub mod Ending
 pub mod Stack
 pub mod Results
+pub mod Fetched
 -- For this crate alone.
 mod MachineLaws
 mod Known
@@ -22,6 +24,7 @@ mod Families
 mod Accesses
 mod Single
 mod Steps
+mod Based
 mod Machine
 mod Placed
 mod Appended

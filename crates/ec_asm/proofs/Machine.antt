@@ -1,5 +1,5 @@
 -- The run of the view is that of the machine.
-use Rattle.std.proofs.Common.{◌≡◌, ℕ, zero, suc, ◌+◌, ◌/◌, ◌%◌, ◌<◌, Bool, true, false, ◌&&◌, [], ◌∷◌, refl, sym, ap, ◌∙◌, subst, arith}
+use Rattle.std.proofs.Common.{◌≡◌, ℕ, zero, suc, ◌+◌, ◌/◌, ◌%◌, ◌<◌, ◌≤◌, Bool, true, false, ◌&&◌, [], ◌∷◌, refl, sym, ap, ◌∙◌, subst, arith}
 use Rattle.std.proofs.Common.{Option, Some, None, append-nil, append_assoc, zero-add, ℤ}
 use Rattle.std.specs.Prelude.{if◌then◌else◌, ◌==◌, IsTrue}
 use Rattle.std.specs.Int.{cast_signed, w16}
@@ -15,17 +15,20 @@ use Rattle.ec_isa.specs.Table.{in_table}
 use Rattle.ec_avr.specs.declared.machine.Access.TheVariants.{Silent, Stack}
 use Rattle.ec_avr.specs.declared.machine.Stepped.TheVariants.{Ended as MEnded}
 use Rattle.ec_avr.specs.Effects.{After, effect, relative, instruction_at, jump, call, skip, has_two_words}
+use Rattle.ec_avr.specs.Laws.{SetsOneBit}
 use Rattle.ec_avr.specs.Machine.{State, EndedWith, machine, step as m_step, needs_port, is_whole, answer_of, machine_result}
 use Rattle.ec_avr.specs.State.{raised, lowered, word_at, sreg, flag, register}
 use Rattle.ec_asm.specs.View.{View, pair}
-use Rattle.ec_asm.specs.Change.{Env, Kind, Own, Object, Port, Stacked, Barred, change, goes_on, words, sp, load_by, store_by, flash_by}
+use Rattle.ec_asm.specs.Change.{Env, Kind, Own, Object, Port, Stacked, Barred, unbased, change, goes_on, words, sp, load_by, store_by, flash_by}
 use Rattle.ec_asm.specs.Change.{push_by, pop_by, flag_at}
-use Rattle.ec_asm.specs.Run.{Status, Running, Ended, Stuck, act, run, fetch, pushed, popped, back_at, on_stack, is_flag, skip_to}
-use Rattle.ec_asm.specs.Shows.{Shows, Fits, Moves, after, port_of, noted, noted_all, RunsAs}
+use Rattle.ec_asm.specs.Run.{Status, Running, Ended, Stuck, act, run, fetch, pushed, popped, back_at, on_stack, is_flag, skip_to, keeps_base}
+use Rattle.ec_asm.specs.Shows.{HoldsBase, Shows, Fits, Moves, Follows, after, port_of, noted, noted_all, RunsAs}
 use Rattle.ec_asm.proofs.Shown.{shows_byte, reads}
 use Rattle.ec_asm.proofs.Accesses.{sp_shown, stacked_at, sp_set}
 use Rattle.ec_asm.proofs.Single.{flag_seen}
 use Rattle.ec_asm.proofs.Steps.{follows, two, bit_place}
+use Rattle.ec_asm.proofs.Based.{IsKept, act_keeps, act_same, change_same, base_changed, free_fits, free_shows, based_moves}
+use Rattle.ec_asm.proofs.Fetched.{fetched, based_leaves}
 use Rattle.ec_asm.proofs.Known.{known}
 use Rattle.ec_asm.proofs.MachineLaws.{StepLaws}
 
@@ -172,7 +175,8 @@ on_stack_is Object h = absurd (false≢true h)
 on_stack_is Port h = absurd (false≢true h)
 on_stack_is Barred h = absurd (false≢true h)
 
-module _ (laws : StepLaws) (e : Env) (size : ℕ) (fit : Fits e size) (s : State) (v : View) (h : Shows e size s.mem v) where
+module _ (laws : StepLaws) (e : Env) (size : ℕ) (free : 65536 ≤ e.base) (fit : Fits e size) (s : State) (v : View)
+    (h : Shows e size s.mem v) where
   jumped : (to : ℕ) (x : After) → x ≡ jump to s → Moves e size v v (to % 65536) None x
   jumped to x p = record {
     access = Silent;
@@ -212,8 +216,8 @@ module _ (laws : StepLaws) (e : Env) (size : ℕ) (fit : Fits e size) (s : State
         access = Stack;
         ran = rw (t, a.2, b.2) refl;
         pc = rw (t, a.2, b.2) refl;
-        shows = rw (t, a.2, b.2) (sp_set e size fit s v h _ _ (lowered (lowered (sp v))) (shows_byte e size _ _ (lowered (sp v))
-            (back / 256 % 256) (shows_byte e size s.mem v (sp v) (back % 256) h a.1 (let g = a.0 in omega arith) (omega arith)) b.1
+        shows = rw (t, a.2, b.2) (sp_set e size free fit s v h _ _ (lowered (lowered (sp v))) (shows_byte e size free _ _ (lowered (sp v))
+            (back / 256 % 256) (shows_byte e size free s.mem v (sp v) (back % 256) h a.1 (let g = a.0 in omega arith) (omega arith)) b.1
             (let g = b.0 in omega arith) (omega arith)) (omega arith));
         seen = sym (append-nil v.seen);
         inputs = refl;
@@ -245,14 +249,14 @@ module _ (laws : StepLaws) (e : Env) (size : ℕ) (fit : Fits e size) (s : State
         access = Stack;
         ran = rw (t, a.2, b.2) refl;
         pc = rw (t, a.2, b.2, ra, rb) refl;
-        shows = rw (t, a.2, b.2) (sp_set e size fit s v h _ _ (raised (raised (sp v))) h (omega arith));
+        shows = rw (t, a.2, b.2) (sp_set e size free fit s v h _ _ (raised (raised (sp v))) h (omega arith));
         seen = sym (append-nil v.seen);
         inputs = refl;
       }
 
   on : (i : Instr) (u : Bool) → IsTrue (in_table i)
       → IsMove e size v (port_of i s) (after i s v) (if u then Running ((s.pc + words i) % 65536) (change e i v) else Stuck)
-  on i true t = λ safe. follows laws.one_bit e size fit s v h i t safe
+  on i true t = λ safe. follows laws.one_bit e size free fit s v h i t safe
   on i false t = tt
 
   act_moves : (i : Instr) → IsTrue (in_table i) → IsMove e size v (port_of i s) (after i s v) (act e (Some i) s.pc v)
@@ -269,6 +273,41 @@ module _ (laws : StepLaws) (e : Env) (size : ℕ) (fit : Fits e size) (s : State
   act_moves Ret t = returned _ refl
   act_moves Break t = (refl, refl, result_shown e size s v h)
   act_moves i t = on i (goes_on i) t
+
+-- the same where Y holds a base
+module _ (laws : StepLaws) (e : Env) (size : ℕ) (fit : Fits e size) (s : State) (v : View) (h : Shows e size s.mem v) where
+  held_after : (i : Instr) (pc : ℕ) (w : View) → keeps_base e.base i ≡ true → act e (Some i) s.pc v ≡ Running pc w → HoldsBase e w
+  held_after i pc w keeps q l =
+      let kept : IsKept e size fit l v (Running pc w) =
+      subst (IsKept e size fit l v) q (act_keeps e size fit l v i s.pc (based_leaves e.base i l keeps)) in
+      kept ∙ h.base l
+
+  based_move : (i : Instr) (st : Status) → keeps_base e.base i ≡ true → act e (Some i) s.pc v ≡ st
+      → IsMove (unbased e) size v (port_of i s) (after i s v) st → IsMove e size v (port_of i s) (after i s v) st
+  based_move i (Running pc w) keeps q m = λ safe.
+      based_moves e size v w pc (port_of i s) (after i s v) (held_after i pc w keeps q) (m safe)
+  based_move i (Ended w) keeps q m = m
+  based_move i Stuck keeps q m = tt
+
+  pub based_act_moves : (i : Instr) → IsTrue (in_table i) → keeps_base e.base i ≡ true
+      → IsMove e size v (port_of i s) (after i s v) (act e (Some i) s.pc v)
+  based_act_moves i t keeps =
+      let free : 65536 ≤ (unbased e).base = omega arith in
+      let m = act_moves laws (unbased e) size free (free_fits e size fit) s v (free_shows e size s.mem v h) i t in
+      based_move i (act e (Some i) s.pc v) keeps refl
+      (subst (IsMove (unbased e) size v (port_of i s) (after i s v)) (sym (act_same e v h.base i s.pc)) m)
+
+-- so an instruction that goes on
+pub based_follows : SetsOneBit → (e : Env) (size : ℕ) → Fits e size → (s : State) (v : View) → Shows e size s.mem v → (i : Instr)
+    → IsTrue (in_table i) → keeps_base e.base i ≡ true → (change e i v).safe ≡ true → Follows e size i s v
+based_follows one_bit e size fit s v h i t keeps safe =
+    let free : 65536 ≤ (unbased e).base = omega arith in
+    let same = change_same e v h.base i in
+    let m = follows one_bit (unbased e) size free (free_fits e size fit) s v (free_shows e size s.mem v h) i t
+    (ap (λ w. w.safe) (sym same) ∙ safe) in
+    based_moves e size v (change e i v) ((s.pc + words i) % 65536) (port_of i s) (after i s v)
+    (base_changed e size fit v i keeps h.base)
+    (subst (λ w. Moves (unbased e) size v w ((s.pc + words i) % 65536) (port_of i s) (after i s v)) (sym same) m)
 
 -- ---- runs
 
@@ -293,7 +332,7 @@ unsafe_runs e size m v s Stuck h = tt
 step_is : StepLaws → (e : Env) (size : ℕ) (s : State) (v : View) (i : Instr) → Shows e size s.mem v → fetch e s.pc ≡ Some i
     → (m_step (answer_of v.inputs (needs_port s)) s ≡ after i s v) × (needs_port s ≡ port_of i s) × IsTrue (in_table i)
 step_is laws e size s v i h f =
-    let g : (if is_whole s then instruction_at s s.pc else None) ≡ Some i = rw h.flash f in
+    let g : (if is_whole s then instruction_at s s.pc else None) ≡ Some i = rw h.flash (fetched e s.pc i f).0 in
     let t = taken_if (is_whole s) (instruction_at s s.pc) i g in
     let d = known (word_at s s.pc) (word_at s (s.pc + 1)) i t.1 in
     let n : needs_port s ≡ port_of i s = laws.needs s i t.0 t.1 in
@@ -354,7 +393,7 @@ module _ (laws : StepLaws) (e : Env) (size : ℕ) (fit : Fits e size) (m : ℕ) 
   by_fetch None f = subst (RunsAs e size (suc m) v s) (sym (run-stuck e m)) tt
   by_fetch (Some i) f =
       let q = step_is laws e size s v i h f in
-      by_status i (act e (Some i) s.pc v) f (act_moves laws e size fit s v h i q.2)
+      by_status i (act e (Some i) s.pc v) f (based_act_moves laws e size fit s v h i q.2 (fetched e s.pc i f).1)
 
 -- the run of the view is that of the machine, as long as it is safe
 pub runs_as : StepLaws → (e : Env) (size : ℕ) → Fits e size → (m : ℕ) (s : State) (v : View) → Shows e size s.mem v

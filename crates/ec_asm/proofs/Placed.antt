@@ -1,5 +1,5 @@
 -- Items whose bytes stand in the flash stand there, and near jumps are jumps to their labels.
-use Rattle.std.proofs.Common.{◌≡◌, ℕ, ◌+◌, ◌-◌, ◌*◌, ◌%◌, ◌<◌, ⊎_elim, inl, inr, Bool, true, false, ◌&&◌, List, [], ◌∷◌, ◌++◌, length, refl}
+use Rattle.std.proofs.Common.{◌≡◌, ℕ, ◌+◌, ◌-◌, ◌*◌, ◌%◌, ◌<◌, ◌≤◌, ⊎_elim, inl, inr, Bool, true, false, ◌&&◌, List, [], ◌∷◌, ◌++◌, length, refl}
 use Rattle.std.proofs.Common.{sym, ap, ◌∙◌, subst, arith, Option, Some, None, ℤ, pos, negsuc}
 use Rattle.std.specs.Prelude.{if◌then◌else◌, nat_lt, IsTrue, slice_index}
 use Rattle.std.specs.List.{list_all}
@@ -18,6 +18,7 @@ use Rattle.ec_asm.specs.declared.items.AsmItem.TheVariants.{Plain, Label, JumpTo
 use Rattle.ec_asm.specs.Change.{Env, words}
 use Rattle.ec_asm.specs.Run.{fetch}
 use Rattle.ec_asm.specs.Items.{At, Stands, HasAt, BranchesAt, branch_if, branch_unless, item_words, code_words, part_of, distance}
+use Rattle.ec_asm.proofs.Fetched.{fetch_kept, free_keeps}
 use Rattle.ec_asm.proofs.ItemWords.{words_cons}
 use Rattle.ec_asm.specs.Placed.{instructions, bytes_of_all, code_image, LabelStands, HoldsFrom, IsPlaced}
 
@@ -28,10 +29,11 @@ where_true true o i h q = q
 where_true false o i h q = cc
 
 -- the instruction whose bytes stand there is fetched there
-pub fetch_stands : FlashLaws → (e : Env) (i : Instr) (pc : ℕ) → StandsAt i e.flash pc → fetch e pc ≡ Some i
-fetch_stands laws e i pc h =
+pub fetch_stands : FlashLaws → (e : Env) (i : Instr) (pc : ℕ) → 65536 ≤ e.base → StandsAt i e.flash pc → fetch e pc ≡ Some i
+fetch_stands laws e i pc free h =
     let s : State = record { mem = record { flash = e.flash; «data» = [] }; pc = pc } in
-    where_true (is_whole s) (instruction_at s pc) i (laws.whole s i h) (laws.is s i pc h)
+    fetch_kept e pc i (where_true (is_whole s) (instruction_at s pc) i (laws.whole s i h) (laws.is s i pc h))
+    (free_keeps e.base i free)
 
 length_code : (i : Instr) → length (code_bytes i) ≡ 2 * words i
 length_code (Lds d k) = refl
@@ -40,10 +42,10 @@ length_code (Jmp k) = refl
 length_code (Call k) = refl
 length_code _ = refl
 
-holds_at : FlashLaws → (e : Env) (i : Instr) (pc : ℕ) → IsTrue (in_table i) → HoldsFrom e.flash (2 * pc) (code_bytes i)
+holds_at : FlashLaws → (e : Env) (i : Instr) (pc : ℕ) → 65536 ≤ e.base → IsTrue (in_table i) → HoldsFrom e.flash (2 * pc) (code_bytes i)
     → pc + words i < 65536 → At e i pc (pc + words i)
-holds_at laws e i pc t h r = record {
-  is = fetch_stands laws e i pc (record { known = t; within = h.within; bytes = h.bytes_there });
+holds_at laws e i pc free t h r = record {
+  is = fetch_stands laws e i pc free (record { known = t; within = h.within; bytes = h.bytes_there });
   ends = refl;
   room = r;
 }
@@ -72,10 +74,10 @@ at_index flash at to bytes q h = subst (λ n. HoldsFrom flash n bytes) q h
 
 -- ---- items
 
-one_stands : FlashLaws → (e : Env) (i : Instr) (pc : ℕ) → IsTrue (in_table i && true)
+one_stands : FlashLaws → (e : Env) (i : Instr) (pc : ℕ) → 65536 ≤ e.base → IsTrue (in_table i && true)
     → HoldsFrom e.flash (2 * pc) (code_bytes i ++ []) → pc + words i < 65536 → At e i pc (pc + words i)
-one_stands laws e i pc t h r =
-    holds_at laws e i pc (and_parts (in_table i) true t).0 (front_holds e.flash (2 * pc) (code_bytes i) [] h) r
+one_stands laws e i pc free t h r =
+    holds_at laws e i pc free (and_parts (in_table i) true t).0 (front_holds e.flash (2 * pc) (code_bytes i) [] h) r
 
 jump_below : (k : ℕ) → IsTrue (in_table (Jmp k)) → k < 65536
 jump_below k t = ltb-true k 65536 t
@@ -91,39 +93,39 @@ branch_words false flag k = refl
 forward : (pc k : ℕ) → pc + 1 + k < 65536 → relative pc (pos k) % 65536 ≡ pc + 1 + k
 forward pc k small = omega arith
 
-branch_stands : FlashLaws → (e : Env) (set : Bool) (flag l pc : ℕ)
+branch_stands : FlashLaws → (e : Env) (set : Bool) (flag l pc : ℕ) → 65536 ≤ e.base
     → IsTrue (list_all in_table (instructions e (BranchTo set flag l)))
     → HoldsFrom e.flash (2 * pc) (bytes_of_all (instructions e (BranchTo set flag l))) → pc + 3 < 65536
     → BranchesAt e set flag l pc (pc + 3)
-branch_stands laws e set flag l pc t h r =
+branch_stands laws e set flag l pc free t h r =
     let i = branch_unless set flag (pos 2) in
     let j = Jmp (e.word_of l) in
     let a = and_parts (in_table i) (in_table j && true) t in
     let b = and_parts (in_table j) true a.1 in
     let w = branch_words set flag (pos 2) in
     let n = length_code i in
-    let first = holds_at laws e i pc a.0 (front_holds e.flash (2 * pc) (code_bytes i) (code_bytes j ++ []) h) (omega arith) in
+    let first = holds_at laws e i pc free a.0 (front_holds e.flash (2 * pc) (code_bytes i) (code_bytes j ++ []) h) (omega arith) in
     let more = rest_holds e.flash (2 * pc) (code_bytes i) (code_bytes j ++ []) h in
-    let second = one_stands laws e j (pc + 1) a.1
+    let second = one_stands laws e j (pc + 1) free a.1
     (at_index e.flash (2 * pc + length (code_bytes i)) (2 * (pc + 1)) (code_bytes j ++ []) (omega arith) more) (omega arith) in
     let first' : At e i pc (pc + 1) = subst (λ x. At e i pc (pc + x)) w first in
     let q : pc + 1 + 2 ≡ pc + 3 = omega arith in
     let second' : At e j (pc + 1) (pc + 3) = subst (λ x. At e j (pc + 1) x) q second in
     inl (pc + 1, pos 2, first', inl (second', jump_below (e.word_of l) b.0), forward pc 2 (omega arith) ∙ q)
 
-item_stands : FlashLaws → (e : Env) (i : AsmItem) (pc : ℕ) → IsTrue (list_all in_table (instructions e i)) → LabelStands e i pc
+item_stands : FlashLaws → (e : Env) (i : AsmItem) (pc : ℕ) → 65536 ≤ e.base → IsTrue (list_all in_table (instructions e i)) → LabelStands e i pc
     → HoldsFrom e.flash (2 * pc) (bytes_of_all (instructions e i)) → pc + item_words i < 65536
     → Stands e i pc (pc + item_words i)
-item_stands laws e (Plain i) pc t q h r = one_stands laws e i pc t h r
-item_stands laws e (Label l) pc t q h r = (q, omega arith)
-item_stands laws e (JumpTo l) pc t q h r =
-    inl (one_stands laws e (Jmp (e.word_of l)) pc t h r, jump_below (e.word_of l) (and_parts (in_table (Jmp (e.word_of l))) true t).0)
-item_stands laws e (CallTo l) pc t q h r =
-    inl (one_stands laws e (Call (e.word_of l)) pc t h r, call_below (e.word_of l) (and_parts (in_table (Call (e.word_of l))) true t).0)
-item_stands laws e (BranchTo set flag l) pc t q h r = branch_stands laws e set flag l pc t h r
-item_stands laws e (LoadPart d o k part) pc t q h r = one_stands laws e (Ldi d (part_of (e.address_of o k) part)) pc t h r
-item_stands laws e (LoadObj d o k) pc t q h r = one_stands laws e (Lds d (e.address_of o k)) pc t h r
-item_stands laws e (StoreObj o k r') pc t q h r = one_stands laws e (Sts (e.address_of o k) r') pc t h r
+item_stands laws e (Plain i) pc free t q h r = one_stands laws e i pc free t h r
+item_stands laws e (Label l) pc free t q h r = (q, omega arith)
+item_stands laws e (JumpTo l) pc free t q h r =
+    inl (one_stands laws e (Jmp (e.word_of l)) pc free t h r, jump_below (e.word_of l) (and_parts (in_table (Jmp (e.word_of l))) true t).0)
+item_stands laws e (CallTo l) pc free t q h r =
+    inl (one_stands laws e (Call (e.word_of l)) pc free t h r, call_below (e.word_of l) (and_parts (in_table (Call (e.word_of l))) true t).0)
+item_stands laws e (BranchTo set flag l) pc free t q h r = branch_stands laws e set flag l pc free t h r
+item_stands laws e (LoadPart d o k part) pc free t q h r = one_stands laws e (Ldi d (part_of (e.address_of o k) part)) pc free t h r
+item_stands laws e (LoadObj d o k) pc free t q h r = inl (one_stands laws e (Lds d (e.address_of o k)) pc free t h r)
+item_stands laws e (StoreObj o k r') pc free t q h r = inl (one_stands laws e (Sts (e.address_of o k) r') pc free t h r)
 
 length_one : (i : Instr) → length (code_bytes i ++ []) ≡ 2 * words i
 length_one i = omega (arith, length-append (code_bytes i) [], length_code i)
@@ -150,10 +152,10 @@ items_stand laws e (i ∷ is) pc h =
     let r = h.room in
     let n = length_item e i in
     let q : pc + code_words (i ∷ is) ≡ pc + item_words i + code_words is = omega arith in
-    let first = item_stands laws e i pc h.known.0 h.labels.0 (front_holds e.flash (2 * pc) a b h.image) (omega arith) in
+    let first = item_stands laws e i pc h.free h.known.0 h.labels.0 (front_holds e.flash (2 * pc) a b h.image) (omega arith) in
     let more = at_index e.flash (2 * pc + length a) (2 * (pc + item_words i)) b (omega arith) (rest_holds e.flash (2 * pc) a b h.image) in
     let rest =
-    items_stand laws e is (pc + item_words i) (record { known = h.known.1; labels = h.labels.1; image = more; room = omega arith }) in
+    items_stand laws e is (pc + item_words i) (record { known = h.known.1; labels = h.labels.1; image = more; room = omega arith; free = h.free }) in
     (pc + item_words i, first, subst (λ x. HasAt e is (pc + item_words i) x) (sym q) rest)
 
 -- ---- near jumps

@@ -64,7 +64,12 @@ are_bytes-set l a x h m b k =
 abbrev pub with_data : Memory → ℕ → ℕ → Memory
 with_data m a x = record m { «data» = slice_set m.data a x }
 
-module _ (e : Env) (size : ℕ) where
+-- a byte that is read
+pub reads : (e : Env) (size : ℕ) (m : Memory) (v : View) (a : ℕ) → Shows e size m v → a ≢ 95 → slice_index m.data a ≡ v.at a
+reads e size m v a h n = let q = ne_eqb a 95 n in sym (ap (λ f. f a) h.at ∙ rw q refl)
+
+-- where Y is free
+module _ (e : Env) (size : ℕ) (free : 65536 ≤ e.base) where
   pub shows_byte : (m : Memory) (v : View) (a x : ℕ) → Shows e size m v → a < size → a ≢ 95 → x < 256
       → Shows e size (with_data m a x) (record v { at = put v.at a x })
   shows_byte m v a x h l n b =
@@ -76,6 +81,7 @@ module _ (e : Env) (size : ℕ) where
         at = ap (λ f. put f a x) h.at ∙ sym (bytes-set m.data a x (omega arith) n);
         flags = h.flags ∙ ap flags_of (sym (get_or-set_other m.data a 95 x 0 (λ q. n (sym q))));
         feeds = h.feeds;
+        base = λ l. absurd (omega (arith, free, l));
       }
 
   pub shows_sreg : (m : Memory) (v : View) (w : ℕ) (f : Flags) → Shows e size m v → 256 ≤ size → w < 256
@@ -89,8 +95,5 @@ module _ (e : Env) (size : ℕ) where
         at = h.at ∙ sym (bytes-set_sreg m.data w);
         flags = sym q ∙ ap flags_of (sym (get_or-set_same m.data 95 w 0 (omega arith)));
         feeds = h.feeds;
+        base = λ l. absurd (omega (arith, free, l));
       }
-
-  -- a byte that is read
-  pub reads : (m : Memory) (v : View) (a : ℕ) → Shows e size m v → a ≢ 95 → slice_index m.data a ≡ v.at a
-  reads m v a h n = let q = ne_eqb a 95 n in sym (ap (λ f. f a) h.at ∙ rw q refl)

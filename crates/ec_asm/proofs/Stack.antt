@@ -15,6 +15,7 @@ use Rattle.ec_asm.specs.Change.{Env, Kind, Own, Object, Port, Stacked, Barred, s
 use Rattle.ec_asm.specs.Run.{Status, Running, Ended, Stuck, act, step, run, fetch, on_stack, is_safe}
 use Rattle.ec_asm.specs.Shows.{Shows, Fits, RunsAs}
 use Rattle.ec_asm.proofs.Accesses.{sp_shown}
+use Rattle.ec_asm.proofs.Fetched.{fetched}
 use Rattle.ec_asm.proofs.Hoare.{run-add}
 use Rattle.ec_asm.proofs.Machine.{IsUnsafe, run_unsafe, on_stack_is, taken_if, runs_as}
 use Rattle.ec_asm.proofs.MachineLaws.{StepLaws}
@@ -83,7 +84,7 @@ module _ (e : Env) (size : ℕ) (fit : Fits e size) (s : State) (v : View) (h : 
   by_fetch : (o : Option Instr) → fetch e s.pc ≡ o → is_safe (act e o s.pc v) ≡ true → AreStacked e (stack_bytes s)
   by_fetch None f safe = absurd (false≢true safe)
   by_fetch (Some i) f safe =
-      let g : (if is_whole s then instruction_at s s.pc else None) ≡ Some i = rw h.flash f in
+      let g : (if is_whole s then instruction_at s s.pc else None) ≡ Some i = rw h.flash (fetched e s.pc i f).0 in
       let t = taken_if (is_whole s) (instruction_at s s.pc) i g in
       rw (t.0, t.1) (bytes_stacked i s.pc safe)
 

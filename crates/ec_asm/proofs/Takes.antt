@@ -13,6 +13,7 @@ use Rattle.ec_asm.specs.Run.{Running, act, is_flag, fetch, word_in, skip_to}
 use Rattle.ec_asm.specs.Items.{At, JumpsAt, CallsAt, BranchesAt, branch_if, branch_unless}
 use Rattle.ec_asm.specs.Takes.{Goes, Takes, if_bit}
 use Rattle.ec_asm.specs.Laws.{LoopsTake}
+use Rattle.ec_asm.proofs.Fetched.{fetched}
 use Rattle.ec_asm.proofs.Hoare.{goes_on_to}
 
 pub takes_none : (e : Env) (pc : ℕ) (v : View) → Takes e 0 0 pc v pc v
@@ -168,9 +169,9 @@ taken_if : (b : Bool) (o : Option Instr) (i : Instr) → (if b then o else None)
 taken_if true o i p = p
 taken_if false o i p = cc
 
-fetched : (e : Env) (pc : ℕ) (i : Instr) → fetch e pc ≡ Some i
+decoded_is : (e : Env) (pc : ℕ) (i : Instr) → fetch e pc ≡ Some i
     → decoded (word_in e.flash pc) (word_in e.flash (pc + 1)) ≡ Some i
-fetched e pc i h = taken_if _ (decoded (word_in e.flash pc) (word_in e.flash (pc + 1))) i h
+decoded_is e pc i h = taken_if _ (decoded (word_in e.flash pc) (word_in e.flash (pc + 1))) i (fetched e pc i h).0
 
 -- the next instruction is passed over, or not
 skip_goes : (e : Env) (i j : Instr) (pc mid end : ℕ) (v : View) (taken : Bool) → words i ≡ 1
@@ -179,7 +180,7 @@ skip_goes : (e : Env) (i j : Instr) (pc mid end : ℕ) (v : View) (taken : Bool)
 skip_goes e i j pc mid end v taken w a at next =
     let m : mid ≡ pc + 1 = at.ends ∙ ap (λ n. pc + n) w in
     let d : decoded (word_in e.flash (pc + 1)) (word_in e.flash (pc + 1 + 1)) ≡ Some j =
-    fetched e (pc + 1) j (subst (λ n. fetch e n ≡ Some j) m next.is) in
+    decoded_is e (pc + 1) j (subst (λ n. fetch e n ≡ Some j) m next.is) in
     let x : (if has_two_words (decoded (word_in e.flash (pc + 1)) (word_in e.flash (pc + 1 + 1))) then 2 else 1) ≡ words j =
     ap (λ o. if has_two_words o then 2 else 1) d ∙ words_of j in
     let t : skip_to e taken pc ≡ (if taken then end else mid) = ap (λ n. (pc + 1 + (if taken then n else 0)) % 65536) x ∙ arrives taken in

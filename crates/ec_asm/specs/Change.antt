@@ -31,13 +31,19 @@ pub data Kind : Type 0 where
   Barred : Kind
 
 -- What is outside the code: the flash, the word of each label (65,536 or more for one that has none), the address of
--- each byte of an object, what stands at each data address, and what at each address of the flash
+-- each byte of an object, the base, which is the address that Y holds all along (65,536 or more where Y is free), what
+-- stands at each data address, and what at each address of the flash
 pub record Env : Type 0 where
   pub flash : List ℕ
   pub word_of : ℕ → ℕ
   pub address_of : ℕ → ℕ → ℕ
+  pub base : ℕ
   pub kind : ℕ → Kind
   pub table : ℕ → Kind
+
+-- the same where Y is free
+abbrev pub unbased : Env → Env
+unbased e = record e { base = 65536 }
 
 -- ---- flags
 
@@ -158,6 +164,10 @@ abbrev pub pop_by : Kind → ℕ → View → View
 pop_by Stacked d v = record v { at = put_pair (put v.at d (v.at (raised (sp v)))) 0x5D (raised (sp v)) }
 pop_by _ d v = bar v
 
+-- the address in Y: the base, where it is held there
+abbrev pub y_of : Env → View → ℕ
+y_of e v = if nat_lt e.base 65536 then e.base else pair v.at 28
+
 -- ---- the instructions. One that is not listed does nothing here, and is not usable
 abbrev pub change : Env → Instr → View → View
 change e Nop v = v
@@ -204,8 +214,8 @@ change e (InInstr d a) v = load_by (e.kind (a + 0x20)) d (a + 0x20) v
 change e (OutInstr a r) v = store_by (e.kind (a + 0x20)) (a + 0x20) (v.at r) v
 change e (LddZ d q) v = let a = (pair v.at 30 + q) % 65536 in load_by (e.kind a) d a v
 change e (StdZ q r) v = let a = (pair v.at 30 + q) % 65536 in store_by (e.kind a) a (v.at r) v
-change e (LddY d q) v = let a = (pair v.at 28 + q) % 65536 in load_by (e.kind a) d a v
-change e (StdY q r) v = let a = (pair v.at 28 + q) % 65536 in store_by (e.kind a) a (v.at r) v
+change e (LddY d q) v = let a = (y_of e v + q) % 65536 in load_by (e.kind a) d a v
+change e (StdY q r) v = let a = (y_of e v + q) % 65536 in store_by (e.kind a) a (v.at r) v
 change e (LdX d) v = let a = pair v.at 26 in load_by (e.kind a) d a v
 change e (StX r) v = let a = pair v.at 26 in store_by (e.kind a) a (v.at r) v
 change e (LpmZ d) v = let a = pair v.at 30 in flash_by (e.table a) d a (slice_index e.flash a) v

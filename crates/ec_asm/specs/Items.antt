@@ -3,12 +3,13 @@ use Rattle.std.specs.Prelude.{◌≡◌, ℕ, zero, suc, ◌+◌, ◌/◌, ◌%�
 use Rattle.std.specs.Prelude.{◌++◌, Some, ℤ, pos, negsuc, sum_by, ◌-◌, nat_lt, if◌then◌else◌}
 use Rattle.ec_isa.specs.declared.instructions.Instr.{Instr}
 use Rattle.ec_isa.specs.declared.instructions.Instr.TheVariants.{Lds, Sts, Jmp, Call, Rjmp, Rcall, Brbs, Brbc, Ldi}
+use Rattle.ec_isa.specs.declared.instructions.Instr.TheVariants.{LddY, StdY}
 use Rattle.ec_avr.specs.Effects.{relative}
 use Rattle.ec_asm.specs.declared.items.AsmItem.{AsmItem}
 use Rattle.ec_asm.specs.declared.items.AsmItem.TheVariants.{Plain, Label, JumpTo, CallTo, BranchTo, LoadPart, LoadObj}
 use Rattle.ec_asm.specs.declared.items.AsmItem.TheVariants.{StoreObj}
 use Rattle.ec_asm.specs.View.{View}
-use Rattle.ec_asm.specs.Change.{Env, change, goes_on, words}
+use Rattle.ec_asm.specs.Change.{Env, Object, change, goes_on, words}
 use Rattle.ec_asm.specs.Run.{fetch}
 
 -- ---- where items stand
@@ -49,6 +50,20 @@ BranchesAt e set flag l pc end =
     ((mid : ℕ) × (k : ℤ) × At e (branch_unless set flag k) pc mid × JumpsAt e l mid end × (relative pc k % 65536 ≡ end))
     ⊎ ((k : ℤ) × At e (branch_if set flag k) pc end × (relative pc k % 65536 ≡ e.word_of l))
 
+-- a byte of an object stands at a distance from the base
+pub record IsNear (e : Env) (q a : ℕ) : Type 0 where
+  pub based : e.base < 65536
+  pub distance_is : (e.base + q) % 65536 ≡ a
+  pub object : e.kind a ≡ Object
+
+-- a load of a byte by its address: LDS, or LDD by Y where it is an object's and near the base
+abbrev pub LoadsAt : Env → (d a pc end : ℕ) → Type 0
+LoadsAt e d a pc end = At e (Lds d a) pc end ⊎ ((q : ℕ) × At e (LddY d q) pc end × IsNear e q a)
+
+-- so a store: STS, or STD by Y
+abbrev pub StoresAt : Env → (a r pc end : ℕ) → Type 0
+StoresAt e a r pc end = At e (Sts a r) pc end ⊎ ((q : ℕ) × At e (StdY q r) pc end × IsNear e q a)
+
 abbrev pub part_of : ℕ → ℕ → ℕ
 part_of n part = n / 256 ^ part % 256
 
@@ -60,8 +75,8 @@ Stands e (JumpTo l) pc end = JumpsAt e l pc end
 Stands e (CallTo l) pc end = CallsAt e l pc end
 Stands e (BranchTo set flag l) pc end = BranchesAt e set flag l pc end
 Stands e (LoadPart d o k part) pc end = At e (Ldi d (part_of (e.address_of o k) part)) pc end
-Stands e (LoadObj d o k) pc end = At e (Lds d (e.address_of o k)) pc end
-Stands e (StoreObj o k r) pc end = At e (Sts (e.address_of o k) r) pc end
+Stands e (LoadObj d o k) pc end = LoadsAt e d (e.address_of o k) pc end
+Stands e (StoreObj o k r) pc end = StoresAt e (e.address_of o k) r pc end
 
 -- the items stand one after another, from one word to another
 abbrev pub HasAt : Env → List AsmItem → (pc end : ℕ) → Type 0
@@ -70,7 +85,7 @@ HasAt e (i ∷ is) pc end = (mid : ℕ) × Stands e i pc mid × HasAt e is mid e
 
 -- ---- words
 
--- the words of an item, which do not depend on where it stands
+-- the words of an item in its long form, which do not depend on where it stands
 abbrev pub item_words : AsmItem → ℕ
 item_words (Plain i) = words i
 item_words (Label l) = 0

@@ -16,7 +16,7 @@ use Rattle.ec_asm.specs.declared.items.AsmItem.{AsmItem}
 use Rattle.ec_asm.specs.declared.items.AsmItem.TheVariants.{JumpTo, CallTo, BranchTo}
 use Rattle.ec_asm.specs.View.{View, put, pair}
 use Rattle.ec_asm.specs.Change.{Env, Port, Stacked, change, sp, flag_at, see, given, taken}
-use Rattle.ec_asm.specs.Run.{Running, Ended, run, fetch, pushed, popped, back_at, is_flag, is_safe}
+use Rattle.ec_asm.specs.Run.{Running, Ended, run, fetch, keeps_base, pushed, popped, back_at, is_flag, is_safe}
 use Rattle.ec_asm.specs.Items.{At, Stands, HasAt, JumpsAt, CallsAt, BranchesAt, branch_if, distance, all_straight, code_steps}
 use Rattle.ec_asm.specs.Items.{code_words, block, chain}
 use Rattle.ec_asm.specs.Takes.{Goes, Takes, if_bit, back_or_past, KeepsReturn}
@@ -26,11 +26,12 @@ use Rattle.ec_asm.specs.Placed.{IsPlaced}
 
 -- ---- the view and the machine
 
--- an instruction that goes on does to the machine what it does to the view, where its accesses are allowed
+-- an instruction that goes on and keeps the base does to the machine what it does to the view, where its accesses are
+-- allowed
 abbrev pub InstructionsFollow : Type 0
 InstructionsFollow =
     (e : Env) (size : ℕ) (s : State) (v : View) (i : Instr) → Fits e size → Shows e size s.mem v → IsTrue (in_table i)
-    → (change e i v).safe ≡ true → Follows e size i s v
+    → keeps_base e.base i ≡ true → (change e i v).safe ≡ true → Follows e size i s v
 
 -- the machine's run is that of the view, where all accesses are allowed
 abbrev pub MachineRunsAsView : Type 0

@@ -1,5 +1,6 @@
 pub mod Bytes
 pub mod View
+pub mod Base
 pub mod Change
 pub mod Run
 pub mod Items

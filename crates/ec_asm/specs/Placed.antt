@@ -52,9 +52,10 @@ pub record HoldsFrom (flash : List ℕ) (at : ℕ) (bytes : List ℕ) : Type 0 w
   pub within : at + length bytes ≤ length flash
   pub bytes_there : (k : ℕ) → k < length bytes → slice_index flash (at + k) ≡ slice_index bytes k
 
--- the bytes of items stand in the flash from a word on, with their labels and objects resolved
+-- the bytes of items stand in the flash from a word on, with their labels and objects resolved, and Y is free
 pub record IsPlaced (e : Env) (items : List AsmItem) (pc : ℕ) : Type 0 where
   pub known : InTable e items
   pub labels : LabelsStand e items pc
   pub image : HoldsFrom e.flash (2 * pc) (code_image e items)
   pub room : pc + code_words items < 65536
+  pub free : 65536 ≤ e.base

@@ -8,6 +8,7 @@ use Rattle.ec_isa.specs.declared.instructions.Instr.TheVariants.{Sbrc, Sbrs}
 use Rattle.ec_isa.specs.Reading.{instruction_at as decoded}
 use Rattle.ec_avr.specs.Effects.{has_two_words, relative}
 use Rattle.ec_avr.specs.State.{raised, lowered}
+use Rattle.ec_asm.specs.Base.{leaves_base}
 use Rattle.ec_asm.specs.View.{View, put, put_pair}
 use Rattle.ec_asm.specs.Change.{Env, Kind, Stacked, change, goes_on, words, sp, flag_at}
 
@@ -21,12 +22,24 @@ abbrev pub word_in : List ℕ → ℕ → ℕ
 word_in flash at = slice_index flash (2 * at) + 256 * slice_index flash (2 * at + 1)
 
 -- the instruction at a word address, if all its words lie in flash
-abbrev pub fetch : Env → ℕ → Option Instr
-fetch e pc =
+abbrev pub stored : Env → ℕ → Option Instr
+stored e pc =
     let i = decoded (word_in e.flash pc) (word_in e.flash (pc + 1)) in
     if nat_lt (2 * pc + 1) (length e.flash) && (not (has_two_words i) || nat_lt (2 * (pc + 1) + 1) (length e.flash))
     then i
     else None
+
+-- where Y holds a base, no instruction changes Y
+abbrev pub keeps_base : (base : ℕ) → Instr → Bool
+keeps_base base i = not (nat_lt base 65536) || leaves_base i
+
+abbrev pub fetch_by : (base : ℕ) → Option Instr → Option Instr
+fetch_by base None = None
+fetch_by base (Some i) = if keeps_base base i then Some i else None
+
+-- the instruction at a word address, where code may have it
+abbrev pub fetch : Env → ℕ → Option Instr
+fetch e pc = fetch_by e.base (stored e pc)
 
 -- the address to return to, low byte first, where the stack pointer stands and below it
 abbrev pub pushed : ℕ → View → View

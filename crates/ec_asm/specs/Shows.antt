@@ -17,6 +17,10 @@ use Rattle.ec_asm.specs.View.{View, bytes_of, flags_of, pair}
 use Rattle.ec_asm.specs.Change.{Env, Kind, Own, Object, Port, Stacked, Barred, change, words}
 use Rattle.ec_asm.specs.Run.{Status, Running, Ended, Stuck}
 
+-- Y holds the base, where there is one
+abbrev pub HoldsBase : Env → View → Type 0
+HoldsBase e v = e.base < 65536 → pair v.at 28 ≡ e.base
+
 -- the banks are those that the view shows
 pub record Shows (e : Env) (size : ℕ) (m : Memory) (v : View) : Type 0 where
   pub flash : m.flash ≡ e.flash
@@ -25,6 +29,7 @@ pub record Shows (e : Env) (size : ℕ) (m : Memory) (v : View) : Type 0 where
   pub at : v.at ≡ bytes_of m.data
   pub flags : v.flags ≡ flags_of (slice_index m.data 0x5F)
   pub feeds : (port k : ℕ) → slice_index (v.inputs port) k < 256
+  pub base : HoldsBase e v
 
 -- what may stand at an address of a data memory of so many bytes
 abbrev pub may_be : Kind → ℕ → ℕ → Bool
@@ -39,11 +44,16 @@ in_flash Own size a = nat_lt a size
 in_flash Object size a = nat_lt a size
 in_flash _ size a = true
 
+-- no code stores to Y's two registers by their addresses, where they hold a base
+abbrev pub BarsBase : Env → Type 0
+BarsBase e = e.base < 65536 → (e.kind 28 ≡ Barred) × (e.kind 29 ≡ Barred)
+
 pub record Fits (e : Env) (size : ℕ) : Type 0 where
   pub ports : 256 ≤ size
   pub kinds : (a : ℕ) → IsTrue (may_be (e.kind a) size a)
   pub table : (a : ℕ) → IsTrue (in_flash (e.table a) (length e.flash) a)
   pub code : (a : ℕ) → slice_index e.flash a < 256
+  pub base : BarsBase e
 
 -- what of an access is noted: that of a port, or of a byte of an object
 abbrev pub if_object : Kind → Access → List Access

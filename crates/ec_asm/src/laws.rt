@@ -6,7 +6,8 @@ use ec_avr::{one_bit_is_set, runs_are_steps, steps_are_of_instructions};
 
 // ---- the view and the machine
 
-/// An instruction that goes on does to the machine what it does to the view, where its accesses are allowed.
+/// An instruction that goes on and keeps the base does to the machine what it does to the view, where its accesses are
+/// allowed.
 pub fn instructions_follow()
     ensures { law.InstructionsFollow }
 {

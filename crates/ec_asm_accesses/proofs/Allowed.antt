@@ -20,6 +20,7 @@ use Rattle.ec_asm.specs.Change.{Env, change, goes_on, words}
 use Rattle.ec_asm.specs.Laws.{MachineRunsAsView}
 use Rattle.ec_asm.specs.Run.{Status, Running, Ended, Stuck, act, step, run, fetch, is_safe}
 use Rattle.ec_asm.specs.Shows.{Shows, Fits, RunsAs}
+use Rattle.ec_asm.proofs.Fetched.{fetched}
 use Rattle.ec_asm_accesses.specs.Allowed.{IsAllowed, AccessesAreAllowed}
 use Rattle.ec_asm_accesses.proofs.OneStep.{IsStepAllowed, call_allowed, return_allowed, change_allowed}
 use Rattle.ec_asm_accesses.proofs.Unsafe.{safe_before, safe_within}
@@ -75,7 +76,7 @@ module _ (laws : GuardLaws) (e : Env) (size : ℕ) (fit : Fits e size) (s : Stat
       → IsStepAllowed e (m_step answer s).stepped
   by_fetch None answer f safe = absurd (false≢true safe)
   by_fetch (Some i) answer f safe =
-      let g : (if is_whole s then instruction_at s s.pc else None) ≡ Some i = rw h.flash f in
+      let g : (if is_whole s then instruction_at s s.pc else None) ≡ Some i = rw h.flash (fetched e s.pc i f).0 in
       let t = taken_if (is_whole s) (instruction_at s s.pc) i g in
       subst (λ x. IsStepAllowed e x.stepped) (sym (laws.steps answer s i t.0 t.1)) (act_allowed i answer safe)
 

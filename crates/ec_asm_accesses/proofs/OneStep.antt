@@ -1,7 +1,7 @@
 -- One step: what it accesses is allowed, where the view allows it.
 use Rattle.std.proofs.Common.{◌≡◌, ⊎_elim, ℕ, ◌+◌, ◌%◌, Bool, true, false, not, ◌&&◌, refl, sym, ap, ◌∙◌, subst, arith, Some, length}
 use Rattle.std.specs.Prelude.{if◌then◌else◌, nat_lt, nat_le, ◌==◌, slice_index, ⊤}
-use Rattle.std.proofs.lemmas.Bool.{and_parts, false≢true, ltb-false, or_cases}
+use Rattle.std.proofs.lemmas.Bool.{and_parts, false≢true, ltb-true, ltb-false, or_cases}
 use Rattle.std.proofs.lemmas.Bool.Decides.{nat_tests}
 use Rattle.ec_space.specs.declared.space.Bank.TheVariants.{Data as DataBank}
 use Rattle.ec_isa.specs.declared.instructions.Instr.{Instr}
@@ -17,7 +17,7 @@ use Rattle.ec_avr.specs.Effects.{load_flash_and_raise, push, pop, call, return_f
 use Rattle.ec_avr.specs.Machine.{State}
 use Rattle.ec_avr.specs.State.{is_core_register, is_sram, raised, lowered, stack_pointer, pair as m_pair}
 use Rattle.ec_asm.specs.View.{View, pair}
-use Rattle.ec_asm.specs.Change.{Env, Kind, Own, Object, Port, Stacked, Barred, change, load_by, store_by, flash_by, push_by, pop_by, sp}
+use Rattle.ec_asm.specs.Change.{Env, Kind, Own, Object, Port, Stacked, Barred, y_of, change, load_by, store_by, flash_by, push_by, pop_by, sp}
 use Rattle.ec_asm.specs.Run.{Status, Running, Stuck, act, call_by, on_stack, pushed, popped, back_at, is_safe}
 use Rattle.ec_asm.specs.Pieces.{is_held}
 use Rattle.ec_asm.specs.Shows.{Shows, Fits, may_be}
@@ -180,8 +180,11 @@ module _ (e : Env) (size : ℕ) (fit : Fits e size) (s : State) (v : View) (h : 
   x_is : pair v.at 26 ≡ m_pair s 26
   x_is = ap (λ f. pair f 26) h.at
 
-  y_is : pair v.at 28 ≡ m_pair s 28
-  y_is = ap (λ f. pair f 28) h.at
+  y_is : y_of e v ≡ m_pair s 28
+  y_is = held (nat_lt e.base 65536) refl ∙ ap (λ f. pair f 28) h.at where
+    held : (b : Bool) → nat_lt e.base 65536 ≡ b → (if b then e.base else pair v.at 28) ≡ pair v.at 28
+    held true q = sym (h.base (ltb-true e.base 65536 q))
+    held false q = refl
 
   z_is : pair v.at 30 ≡ m_pair s 30
   z_is = ap (λ f. pair f 30) h.at
@@ -210,7 +213,7 @@ module _ (e : Env) (size : ℕ) (fit : Fits e size) (s : State) (v : View) (h : 
       (subst (λ n. Used ((n + q) % 65536)) z_is (loads d ((pair v.at 30 + q) % 65536) safe))
   change_allowed (LddY d q) answer safe =
       load_allowed d ((m_pair s 28 + q) % 65536) answer 1
-      (subst (λ n. Used ((n + q) % 65536)) y_is (loads d ((pair v.at 28 + q) % 65536) safe))
+      (subst (λ n. Used ((n + q) % 65536)) y_is (loads d ((y_of e v + q) % 65536) safe))
   change_allowed (LdX d) answer safe = load_allowed d (m_pair s 26) answer 1 (subst Used x_is (loads d (pair v.at 26) safe))
   change_allowed (LdXPlus d) answer safe = load_raised d 26 answer (subst Used x_is (loads d (pair v.at 26) safe))
   change_allowed (LdZPlus d) answer safe = load_raised d 30 answer (subst Used z_is (loads d (pair v.at 30) safe))
@@ -221,7 +224,7 @@ module _ (e : Env) (size : ℕ) (fit : Fits e size) (s : State) (v : View) (h : 
       (subst (λ n. Used ((n + q) % 65536)) z_is (stores ((pair v.at 30 + q) % 65536) (v.at r) safe))
   change_allowed (StdY q r) answer safe =
       store_allowed ((m_pair s 28 + q) % 65536) _ 1
-      (subst (λ n. Used ((n + q) % 65536)) y_is (stores ((pair v.at 28 + q) % 65536) (v.at r) safe))
+      (subst (λ n. Used ((n + q) % 65536)) y_is (stores ((y_of e v + q) % 65536) (v.at r) safe))
   change_allowed (StX r) answer safe = store_allowed (m_pair s 26) _ 1 (subst Used x_is (stores (pair v.at 26) (v.at r) safe))
   change_allowed (StXPlus r) answer safe = store_raised 26 _ (subst Used x_is (stores (pair v.at 26) (v.at r) safe))
   change_allowed (StZPlus r) answer safe = store_raised 30 _ (subst Used z_is (stores (pair v.at 30) (v.at r) safe))

@@ -49,8 +49,10 @@ item_within e (BranchTo set flag l) pc end h =
     omega arith)
     (λ a. let p = branch_word set flag a.0 e pc end a.1 in omega arith) h
 item_within e (LoadPart d o k part) pc end h = let q = h.ends in omega arith
-item_within e (LoadObj d o k) pc end h = let q = h.ends in omega arith
-item_within e (StoreObj o k r) pc end h = let q = h.ends in omega arith
+item_within e (LoadObj d o k) pc end h =
+    ⊎_elim (λ a. let q = a.ends in omega arith) (λ a. let q = a.1.ends in omega arith) h
+item_within e (StoreObj o k r) pc end h =
+    ⊎_elim (λ a. let q = a.ends in omega arith) (λ a. let q = a.1.ends in omega arith) h
 
 has_within : (e : Env) (is : List AsmItem) (pc end : ℕ) → HasAt e is pc end → end ≤ pc + code_words is
 has_within e [] pc end h = omega arith

@@ -1,9 +1,13 @@
 -- The code of a program that was lowered and selected.
-use Rattle.std.proofs.Common.{◌≡◌, ◌+◌, ◌<◌, ◌≤◌, ◌^◌, List, [], ◌∷◌, length, map, refl, ap, ◌∙◌, subst, arith}
+use Rattle.std.proofs.Common.{◌≡◌, ℕ, ◌+◌, ◌<◌, ◌≤◌, ◌^◌, true, List, [], ◌∷◌, length, map, refl, sym, ap, ◌∙◌, subst, arith}
+use Rattle.std.specs.List.{list_all}
+use Rattle.std.proofs.lemmas.Bool.{eq-eqb}
 use Rattle.ec_iohw.specs.declared.table.IoTable.{IoTable}
 use Rattle.ec_asm.specs.Items.{code_words}
-use Rattle.ec_asm.specs.Valid.{ValidAsm}
+use Rattle.ec_asm.specs.Valid.{sizes_of, is_valid_item, used_label, stands_once, is_placed, ValidAsm}
+use Rattle.ec_asm.specs.declared.items.AsmItem.TheVariants.{Label}
 use Rattle.ec_asm.specs.declared.items.AsmProgram.{AsmProgram}
+use Rattle.ec_asm_based.specs.declared.reach.Reach.{Reach}
 use Rattle.ec_core.specs.Needs.{stmt_need}
 use Rattle.ec_core.specs.Plain.{PlainFunction, PlainProgram}
 use Rattle.ec_core.specs.PortTable.{PlainTable, plain_table}
@@ -15,10 +19,12 @@ use Rattle.ec_ir.specs.Operations.{PlainIrProgram}
 use Rattle.ec_lower_code.specs.Code.{lowered, lowered_function}
 use Rattle.ec_lower_code.specs.Correct.{GroupsHaveBytes, IsMadeOf}
 use Rattle.ec_build_laws.specs.Laws.{LoweredProgramsHaveCode}
+use Rattle.ec_build_laws.specs.Shortened.{IsShortened, ShortenedIsValid}
+use Rattle.ec_locate.specs.Placing.{object_sizes as placed_sizes, scratch_needs}
 use Rattle.ec_select.specs.InPlace.{AreInPlace}
 use Rattle.ec_select.specs.Laws.{object_sizes}
 use Rattle.ec_select.specs.Selected.{IsSelection}
-use Rattle.ec_build.specs.Code.{IsCodeOf}
+use Rattle.ec_build.specs.Code.{IsCodeOf, IsShortCodeOf, IsOutlineOf}
 
 -- the places of temporaries are those that the expressions need
 slots_are : (p : PlainProgram) (table : PlainTable) (fs : List PlainFunction)
@@ -26,14 +32,18 @@ slots_are : (p : PlainProgram) (table : PlainTable) (fs : List PlainFunction)
 slots_are p table [] = refl
 slots_are p table (f ∷ fs) = ap (λ slots. stmt_need f.body ∷ slots) (slots_are p table fs)
 
+-- one label stands once
+stands_alone : (l : ℕ) → stands_once (Label l ∷ []) l ≡ true
+stands_alone l = rw (eq-eqb l l refl) refl
+
 -- what a selection of the operations is for the program
 coded : (p : PlainProgram) (io : IoTable) (asm : AsmProgram) → LoweredProgramsHaveCode → Valid p io → GroupsHaveBytes io
     → IsMadeOf p io (lowered p (plain_table io)) → IsSelection (lowered p (plain_table io)) asm
     → ValidAsm (object_sizes (lowered p (plain_table io))) 64 asm
     → (AreInPlace (lowered p (plain_table io)) → code_words asm.items.items
     ≤ program_words + objects_weight (lowered p (plain_table io)).objects + functions_words (lowered p (plain_table io)).functions)
-    → length asm.items.items < 2 ^ 32 → IsCodeOf p io asm
-coded p io asm have valid groups made selection valid_asm words few =
+    → IsCodeOf p io asm
+coded p io asm have valid groups made selection valid_asm words =
     let has = have p io valid groups in
     let counted = words has.in_place in
     let within = made.words in
@@ -44,16 +54,50 @@ coded p io asm have valid groups made selection valid_asm words few =
       frames = selection.frames ∙ slots_are p (plain_table io) p.functions;
       small = omega (arith, counted, within);
       valid = valid_asm;
-      few = few;
     }
 
 pub code_made : (p : PlainProgram) (io : IoTable) (asm : AsmProgram) (ir : PlainIrProgram) → ir ≡ lowered p (plain_table io)
     → LoweredProgramsHaveCode → Valid p io → GroupsHaveBytes io → IsMadeOf p io ir → IsSelection ir asm
     → ValidAsm (object_sizes ir) 64 asm
     → (AreInPlace ir → code_words asm.items.items ≤ program_words + objects_weight ir.objects + functions_words ir.functions)
-    → length asm.items.items < 2 ^ 32 → IsCodeOf p io asm
-code_made p io asm ir is have valid groups made selection valid_asm words few =
+    → IsCodeOf p io asm
+code_made p io asm ir is have valid groups made selection valid_asm words =
     coded p io asm have valid groups (subst (λ x. IsMadeOf p io x) is made) (subst (λ x. IsSelection x asm) is selection)
     (subst (λ x. ValidAsm (object_sizes x) 64 asm) is valid_asm)
     (subst (λ x. AreInPlace x
-    → code_words asm.items.items ≤ program_words + objects_weight x.objects + functions_words x.functions) is words) few
+    → code_words asm.items.items ≤ program_words + objects_weight x.objects + functions_words x.functions) is words)
+
+-- shortened it is code of the program still
+pub short_code : ShortenedIsValid → (p : PlainProgram) (io : IoTable) (reaches : List Reach) (long short : AsmProgram) → IsCodeOf p io long
+    → IsShortened reaches long short → IsShortCodeOf p io reaches short
+short_code laws p io reaches long short code h =
+    let made = laws (placed_sizes p) 64 reaches long short h code.valid in
+    let fewer = made.1 in
+    let within = code.small in
+    record {
+      long = long;
+      code = code;
+      shortened = h;
+      frames = h.frames ∙ code.frames;
+      small = omega (arith, fewer, within);
+      valid = made.0;
+    }
+
+-- so is no more than its label, to be placed
+pub outline_is_valid : (p : PlainProgram) (io : IoTable) (asm outline : AsmProgram) → IsCodeOf p io asm → IsOutlineOf asm outline
+    → ValidAsm (placed_sizes p) 64 outline × (outline.frames.items ≡ scratch_needs p) × (length outline.items.items < 2 ^ 32)
+outline_is_valid p io asm outline code h =
+    let frames : outline.frames.items ≡ scratch_needs p = h.frames ∙ code.frames in
+    let few = code.valid.functions in
+    let as_many = ap length h.frames in
+    let one : length outline.items.items ≡ 1 = ap length h.items in (
+      record {
+        items = subst (λ is. list_all (is_valid_item (sizes_of (placed_sizes p) outline.frames.items 64)) is ≡ true) (sym h.items) refl;
+        labels = subst (λ is. list_all (λ i. is_placed is (used_label i)) is ≡ true) (sym h.items) refl;
+        entry = subst (λ is. stands_once is outline.entry ≡ true) (sym h.items)
+            (subst (λ n. stands_once (Label asm.entry ∷ []) n ≡ true) (sym h.entry) (stands_alone asm.entry));
+        functions = omega (arith, few, as_many);
+      },
+      frames,
+      omega (arith, one),
+    )

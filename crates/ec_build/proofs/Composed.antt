@@ -2,6 +2,7 @@
 use Rattle.std.proofs.Common.{◌≡◌, ℕ, List, refl, sym, subst, inl, inr}
 use Rattle.ec_grammar.specs.Trees as t
 use Rattle.ec_asm.specs.declared.items.AsmProgram.{AsmProgram}
+use Rattle.ec_asm_based.specs.declared.reach.Reach.{Reach}
 use Rattle.ec_core.specs.Plain.{PlainProgram}
 use Rattle.ec_map.specs.declared.map.Map.{Map}
 use Rattle.ec_build.specs.Accepted.{IsAccepted}
@@ -10,7 +11,7 @@ use Rattle.ec_build.specs.MapTexts.{IsMapText, StopsMap}
 use Rattle.ec_build.specs.Places.{StopsPlacing}
 use Rattle.ec_build.specs.Placing.{HasCauseOfPlacing}
 use Rattle.ec_build.specs.Causes.{StopsChecking, HasCause}
-use Rattle.ec_build.specs.Code.{IsCodeOf}
+use Rattle.ec_build.specs.Code.{IsShortCodeOf}
 use Rattle.ec_build.specs.Stops.{StopsReading}
 use Rattle.ec_build.specs.declared.stop.BuildStop.{BuildStop}
 use Rattle.ec_build.specs.declared.stop.BuildStop.TheVariants.{Map as MapFault, Lex, Parse, Check, Place, NoMemory}
@@ -45,27 +46,31 @@ checking_cause sources text m units (Place stop) is h = absurd h
 checking_cause sources text m units NoMemory is h = tt
 
 pub placing_cause : (sources : List (List ℕ)) (text : List ℕ) (m : Map) (p : PlainProgram) (asm : AsmProgram) (stop : BuildStop)
-    → IsChecked sources text m p → IsCodeOf p m.io asm → StopsPlacing p m asm stop → HasCause sources text stop
-placing_cause sources text m p asm (MapFault stop) is code h = absurd h
-placing_cause sources text m p asm (Lex unit stop) is code h = absurd h
-placing_cause sources text m p asm (Parse unit stop) is code h = absurd h
-placing_cause sources text m p asm (Check stop) is code h = absurd h
-placing_cause sources text m p asm (Place stop) is code h = record {
+    → (reaches : List Reach) → IsChecked sources text m p → IsShortCodeOf p m.io reaches asm → StopsPlacing p m asm stop
+    → HasCause sources text stop
+placing_cause sources text m p asm (MapFault stop) reaches is code h = absurd h
+placing_cause sources text m p asm (Lex unit stop) reaches is code h = absurd h
+placing_cause sources text m p asm (Parse unit stop) reaches is code h = absurd h
+placing_cause sources text m p asm (Check stop) reaches is code h = absurd h
+placing_cause sources text m p asm (Place stop) reaches is code h = record {
   map = m;
   program = p;
   checked = is;
   asm = asm;
-  code = code.selection;
+  selected = code.long;
+  code = code.code.selection;
+  reaches = reaches;
+  shortened = code.shortened;
   frames = code.frames;
   small = code.small;
   against = h;
 }
-placing_cause sources text m p asm NoMemory is code h = tt
+placing_cause sources text m p asm NoMemory reaches is code h = tt
 
 pub placing_stops : (sources : List (List ℕ)) (text : List ℕ) (m : Map) (p : PlainProgram) (stop : BuildStop)
     → IsChecked sources text m p → HasCauseOfPlacing p m stop → HasCause sources text stop
 placing_stops sources text m p stop is (inl same) = subst (HasCause sources text) (sym same) tt
-placing_stops sources text m p stop is (inr why) = placing_cause sources text m p why.0 stop is why.1.0 why.1.1
+placing_stops sources text m p stop is (inr why) = placing_cause sources text m p why.1 stop why.0 is why.2.0 why.2.1
 
 -- what is accepted is told no cause
 pub accepted_has_none : (sources : List (List ℕ)) (text : List ℕ) (stop : BuildStop) → IsAccepted sources text

@@ -7,7 +7,6 @@ use Rattle.ec_asm.specs.Items.{chain}
 use Rattle.ec_asm.specs.declared.items.AsmItem.{AsmItem}
 use Rattle.ec_asm.specs.declared.items.AsmItem.TheVariants.{Label}
 use Rattle.ec_asm.specs.declared.items.AsmProgram.{AsmProgram}
-use Rattle.ec_asm_near.specs.Near.{near_items}
 use Rattle.ec_ir.specs.Operations.{PlainIr}
 use Rattle.ec_ir.specs.Operations.{label, jump, branch_zero}
 use Rattle.ec_ir.specs.Operations.{PlainIrFunction, PlainIrProgram, data_of}
@@ -107,6 +106,6 @@ pub items_same : Laws → (p : PlainIrProgram) → ValidIr p → (a b : AsmProgr
     → a.items.items ≡ b.items.items
 items_same laws p valid a b s t =
     s.items
-    ∙ (λ j. near_items (Label entry_label ∷ (startup_code (spans_of p) (function_label p.main)
-    ++ functions_same laws p valid s.tables t.tables s.are_tables t.are_tables j)))
+    ∙ (λ j. Label entry_label ∷ (startup_code (spans_of p) (function_label p.main)
+    ++ functions_same laws p valid s.tables t.tables s.are_tables t.are_tables j))
     ∙ sym t.items

@@ -13,6 +13,9 @@ use Rattle.ec_locate.specs.Image.{flash_of, image}
 use Rattle.ec_locate.specs.Layout.{layout}
 use Rattle.ec_locate.specs.Placing.{entries_by, last_of, scratch_needs}
 use Rattle.ec_select.specs.Selected.{IsSelection}
+use Rattle.ec_asm_based.specs.Based.{based_items}
+use Rattle.ec_asm_near.specs.Near.{near_items}
+use Rattle.ec_build_laws.specs.Shortened.{reaches_of}
 use Rattle.ec_select_operations.specs.Written.{NeededFunctionsAreWritten}
 use Rattle.ec_select_live.specs.Laws.{ValidOperationsHavePlaces}
 use Rattle.ec_build.specs.Builds.{IsChecked, IsImageOf}
@@ -20,7 +23,7 @@ use Rattle.ec_locate.specs.declared.placing.Located.{Located}
 use Rattle.ec_build.specs.Images.{BuildsHaveOneImage}
 use Rattle.ec_build.proofs.OneCode.{items_same}
 use Rattle.ec_build.proofs.OneMap.{SameMaps, maps_same, look_alike, tables_same}
-use Rattle.ec_build.proofs.OnePlace.{image_same}
+use Rattle.ec_build.proofs.OnePlace.{places_same, image_same}
 
 pub record Laws : Type 0 where
   pub programs : ProgramsGoByNames
@@ -47,11 +50,20 @@ programs_same laws sources text m n p q same a b =
 
 module _ (laws : Laws) (m n : Map) (same : SameMaps m n) (p : PlainProgram) (asm bsm : AsmProgram) (k l : Located)
     (a : IsImageOf p m asm k) (b : IsImageOf p n bsm l) where
+  selected_are : a.translated.selected.items.items ≡ b.translated.selected.items.items
+  selected_are =
+      items_same (record { places = laws.places; written = laws.written }) (lowered p (plain_table m.io))
+      (laws.lowered p m.io a.translated.valid a.translated.groups).valid a.translated.selected b.translated.selected a.translated.selection
+      (subst (λ (t : PlainTable). IsSelection (lowered p t) b.translated.selected) (sym (tables_same m n same)) b.translated.selection)
+
+  places_are : k.places.items ≡ l.places.items
+  places_are = a.translated.located.places ∙ places_same m n same p (scratch_needs p) ∙ sym b.translated.located.places
+
   items_are : asm.items.items ≡ bsm.items.items
   items_are =
-      items_same (record { places = laws.places; written = laws.written }) (lowered p (plain_table m.io))
-      (laws.lowered p m.io a.translated.valid a.translated.groups).valid asm bsm a.translated.selection
-      (subst (λ (t : PlainTable). IsSelection (lowered p t) bsm) (sym (tables_same m n same)) b.translated.selection)
+      a.translated.shortened.items
+      ∙ (λ j. near_items (based_items (reaches_of p (places_are j)) (selected_are j)))
+      ∙ sym b.translated.shortened.items
 
   flash_is : flash_of k.image ≡ flash_of l.image
   flash_is =

@@ -83,6 +83,11 @@ module _ (m n : Map) (same : SameMaps m n) where
             + need_of rows (scratch_size frames);
       }
 
+  pub places_same : (p : PlainProgram) (frames : List ℕ)
+      → (layout m (rows_of_program p) (entries m.places.items p) frames).places
+      ≡ (layout n (rows_of_program p) (entries n.places.items p) frames).places
+  places_same p frames = λ j. (layout_same p frames j).places
+
   pub image_same : (p : PlainProgram) (frames : List ℕ) (items : List AsmItem)
       → image p (layout m (rows_of_program p) (entries m.places.items p) frames) (last_of m) items
       ≡ image p (layout n (rows_of_program p) (entries n.places.items p) frames) (last_of n) items

@@ -1,9 +1,10 @@
 -- A program that fits its map has a place.
-use Rattle.std.proofs.Common.{◌≡◌, ℕ, ◌*◌, ◌≤◌, Option, Some, None, sym, subst, ap, arith, IsSomeAnd}
+use Rattle.std.proofs.Common.{◌≡◌, ◌≢◌, ℕ, ◌*◌, ◌≤◌, List, Option, Some, None, refl, sym, subst, ap, ◌∙◌, arith, IsSomeAnd}
 use Rattle.std.specs.Prelude.{option_map}
 use Rattle.std.proofs.lemmas.Bool.{le-ltb}
 use Rattle.ec_asm.specs.Items.{code_words}
 use Rattle.ec_asm.specs.declared.items.AsmProgram.{AsmProgram}
+use Rattle.ec_asm_based.specs.declared.reach.Reach.{Reach}
 use Rattle.ec_check_recursion.specs.Rows.{rows_of_program}
 use Rattle.ec_core.specs.Plain.{PlainProgram}
 use Rattle.ec_core.specs.PortTable.{plain_table}
@@ -11,15 +12,20 @@ use Rattle.ec_core.specs.Weight.{weight}
 use Rattle.ec_map.specs.declared.map.Map.{Map}
 use Rattle.ec_map.specs.declared.region.Region.{Region}
 use Rattle.ec_locate.specs.Entries.{data_need}
-use Rattle.ec_locate.specs.Needs.{shortage_of, first_shortage}
+use Rattle.ec_locate.specs.Needs.{shortage_of, or_else, first_shortage}
 use Rattle.ec_locate.specs.Fixed.{place_name, neighbour_name}
-use Rattle.ec_locate.specs.Placing.{needs, entries_by, scratch_needs, shortage, without_object, clash}
+use Rattle.ec_locate.specs.Placing.{needs, entries_by, scratch_needs, shortage, without_object, clash, IsLocated}
+use Rattle.ec_locate.specs.declared.placing.Located.{Located}
 use Rattle.ec_locate.specs.declared.needs.Needs.{Needs}
+use Rattle.ec_locate.specs.declared.needs.Shortage.{Shortage}
 use Rattle.ec_locate.specs.declared.stop.RegionName.{RegionName}
 use Rattle.ec_locate.specs.declared.stop.RegionName.TheVariants.{Code, Tables, Data, Stack}
 use Rattle.ec_locate.specs.declared.stop.PlaceStop.{PlaceStop}
 use Rattle.ec_locate.specs.declared.stop.PlaceStop.TheVariants.{TooSmall, NoSuchObject, Clash, NoMemory}
-use Rattle.ec_build.specs.Places.{Fits, HasNoPlace}
+use Rattle.ec_build.specs.Code.{AreReaches}
+use Rattle.ec_build.specs.Places.{Fits, HasNoPlace, StopsPlacing}
+use Rattle.ec_build.specs.declared.stop.BuildStop.{BuildStop}
+use Rattle.ec_build.specs.declared.stop.BuildStop.TheVariants.{Map as MapFault, Lex, Parse, Check, Place, NoMemory as NoMemoryToBuild}
 
 -- a region that is large enough is not told
 no_shortage : (name : RegionName) (region : Region) (need : ℕ) → need ≤ region.size → shortage_of name region need ≡ None
@@ -63,3 +69,53 @@ not_unplaced p m asm (Clash name other) fits frames small why =
     (λ found. (name.items ≡ place_name m.places.items found.0) ×
     (other.items ≡ neighbour_name m.places.items found.0 found.1)) fits.free why.against.2
 not_unplaced p m asm NoMemory fits frames small why = why.told tt
+
+-- ---- an outline
+
+both_none : (a b : Option Shortage) → or_else a b ≡ None → (a ≡ None) × (b ≡ None)
+both_none None b h = (refl, h)
+both_none (Some x) b h = absurd cc
+
+-- where code has a place, no more of it than a label lacks no room
+outline_fits : (p : PlainProgram) (m : Map) (asm outline : AsmProgram) → outline.frames.items ≡ asm.frames.items
+    → code_words outline.items.items ≡ 0 → shortage p m asm ≡ None → shortage p m outline ≡ None
+outline_fits p m asm outline frames none room =
+    let n = needs p (entries_by m p) asm.frames.items asm.items.items in
+    let tables = shortage_of Tables m.tables n.tables in
+    let vars = shortage_of Data m.vars n.vars in
+    let stack = shortage_of Stack m.stack n.stack in
+    let a = both_none tables (or_else vars (or_else stack (shortage_of Code m.code n.code))) room in
+    let b = both_none vars (or_else stack (shortage_of Code m.code n.code)) a.1 in
+    let c = both_none stack (shortage_of Code m.code n.code) b.1 in
+    let code : shortage_of Code m.code (2 * code_words outline.items.items) ≡ None =
+    no_shortage Code m.code (2 * code_words outline.items.items) (omega (arith, none)) in
+    rw (a.0, subst (λ f. shortage_of Data m.vars (data_need 64 (rows_of_program p) (entries_by m p) f) ≡ None) (sym frames) b.0, c.0, code)
+    refl
+
+-- so it is refused for nothing but memory
+pub outline_placed : (p : PlainProgram) (m : Map) (asm outline : AsmProgram) (l : Located) (stop : PlaceStop)
+    → outline.frames.items ≡ scratch_needs p → code_words outline.items.items ≡ 0 → IsLocated p m asm l → ¬ HasNoPlace p m outline stop
+outline_placed p m asm outline l (TooSmall region needed available) frames none located why =
+    let room = outline_fits p m asm outline (frames ∙ sym located.scratch) none located.fits in
+    let told = why.against in
+    cc
+outline_placed p m asm outline l (NoSuchObject name) frames none located why =
+    let named = why.against.1 in
+    let e : option_map (λ q. q.name.items) (without_object p m) ≡ None = ap (option_map (λ q. q.name.items)) located.there in
+    cc
+outline_placed p m asm outline l (Clash name other) frames none located why =
+    nothing_there (clash p m)
+    (λ found. (name.items ≡ place_name m.places.items found.0) ×
+    (other.items ≡ neighbour_name m.places.items found.0 found.1)) located.free why.against.2
+outline_placed p m asm outline l NoMemory frames none located why = why.told tt
+
+pub outline_refused : (p : PlainProgram) (m : Map) (reaches : List Reach) (outline : AsmProgram) (stop : BuildStop) → stop ≢ NoMemoryToBuild
+    → StopsPlacing p m outline stop → outline.frames.items ≡ scratch_needs p → code_words outline.items.items ≡ 0
+    → AreReaches p m reaches
+outline_refused p m reaches outline (Place stop) other why frames none asm l located =
+    absurd (outline_placed p m asm outline l stop frames none located why)
+outline_refused p m reaches outline NoMemoryToBuild other why frames none asm l located = absurd (other refl)
+outline_refused p m reaches outline (MapFault stop) other why frames none asm l located = absurd why
+outline_refused p m reaches outline (Lex unit stop) other why frames none asm l located = absurd why
+outline_refused p m reaches outline (Parse unit stop) other why frames none asm l located = absurd why
+outline_refused p m reaches outline (Check stop) other why frames none asm l located = absurd why

@@ -4,6 +4,8 @@ use Rattle.ec_grammar.specs.Trees as t
 use Rattle.ec_iohw.specs.declared.table.IoTable.{IoTable}
 use Rattle.ec_asm.specs.Items.{code_words}
 use Rattle.ec_asm.specs.declared.items.AsmProgram.{AsmProgram}
+use Rattle.ec_asm_based.specs.declared.reach.Reach.{Reach}
+use Rattle.ec_build_laws.specs.Shortened.{IsShortened}
 use Rattle.ec_core.specs.Plain.{PlainProgram}
 use Rattle.ec_core.specs.PortTable.{plain_table}
 use Rattle.ec_core.specs.Weight.{weight}
@@ -41,14 +43,17 @@ pub record HasNoProgram (sources : List (List ℕ)) (text : List ℕ) (stop : Bu
   pub read : IsRead sources text map units
   pub against : StopsChecking units map.io stop
 
--- The program of the sources, whose code `asm` is, has no place by the map. What the regions need follows from the
+-- The program of the sources, whose code, shortened, `asm` is, has no place by the map. What the regions need follows from the
 -- program and the map alone, but for the bytes of the code, which are at most twice the program's weight
 pub record IsUnplaced (sources : List (List ℕ)) (text : List ℕ) (stop : PlaceStop) : Type 0 where
   pub map : Map
   pub program : PlainProgram
   pub checked : IsChecked sources text map program
   pub asm : AsmProgram
-  pub code : IsSelection (lowered program (plain_table map.io)) asm
+  pub selected : AsmProgram
+  pub code : IsSelection (lowered program (plain_table map.io)) selected
+  pub reaches : List Reach
+  pub shortened : IsShortened reaches selected asm
   pub frames : asm.frames.items ≡ scratch_needs program
   pub small : code_words asm.items.items ≤ weight program (plain_table map.io)
   pub against : HasNoPlace program map asm stop

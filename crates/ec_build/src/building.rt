@@ -9,12 +9,14 @@ ghost use Rattle.ec_build.specs.Builds.{IsBuilt, IsImageOf};
 ghost use Rattle.ec_build.specs.Causes.{HasCause};
 ghost use Rattle.ec_build.specs.Placing.{HasCauseOfPlacing};
 
-use crate::codes::code_of;
+use crate::codes::{code_of, shortened};
 use crate::maps::map_of;
 use crate::places::placed;
 use crate::programs::program_of;
+use crate::reaches::reaches_by;
 use crate::stop::BuildStop;
 use crate::units::units_of;
+use ec_build_laws::programs_show_their_sources;
 use ec_core::Program;
 use ec_lex_laws::texts_hold_numbers;
 use ec_locate::Located;
@@ -35,17 +37,18 @@ pub fn discard(built: Built) {
     ec_check::discard(built.program);
 }
 
-/// Where a program stands by a map.
+/// Where a program stands by a map, with its code shortened by the places of its objects.
 fn located_by(alloc: Global, program: &Program, map: &Map) -> Result<Located, BuildStop>
     requires valid { Valid (plain_program program.now) map.now.io }
     requires map { ValidMap map.now }
     ensures image { IfOk result (λ l. (asm : AsmProgram) × IsImageOf (plain_program program.now) map.now asm l) }
     ensures stopped { IfErr result (HasCauseOfPlacing (plain_program program.now) map.now) }
 {
-    let asm = code_of(alloc, program, map)?;
-    let located = placed(alloc, program, &asm, map);
-    drop(asm);
-    located
+    programs_show_their_sources();
+    let long = code_of(alloc, program, map)?;
+    let reaches = reaches_by(alloc, program, &long, map)?;
+    let asm = shortened(alloc, reaches.as_slice(), long)?;
+    placed(alloc, program, &asm, map)
 }
 
 /// What `build` answers.

@@ -11,6 +11,7 @@ mod laws;
 mod maps;
 mod places;
 mod programs;
+mod reaches;
 mod stop;
 mod units;
 

@@ -26,7 +26,7 @@ use Rattle.ec_locate.specs.Fixed.{same_bank}
 use Rattle.ec_locate.specs.Placing.{IsLocated, layout_by}
 use Rattle.ec_locate.specs.declared.placing.Located.{Located}
 use Rattle.ec_build_laws.proofs.Live.{object_last}
-use Rattle.ec_build_laws.specs.Kinds.{is_byte_of, is_of_objects, is_of_initials, is_of_scratch, register_kind}
+use Rattle.ec_build_laws.specs.Kinds.{is_byte_of, is_of_objects, is_of_initials, is_of_scratch, is_hidden, register_kind}
 use Rattle.ec_build_laws.specs.Kinds.{memory_kind, kinds, tables}
 use Rattle.ec_build_laws.specs.Laws.{IsByteOf, IsObjectByte, IsOwnByte, of_register, of_scratch, of_work, AreKinds}
 use Rattle.ec_build_laws.specs.Laws.{KindsAreTold, KindsFit}
@@ -150,6 +150,13 @@ core_is_low a h = grind arith
 pub port_is_none : (a : ℕ) → is_port a ≡ true → (a < 256) × (is_core_register a ≡ false)
 port_is_none a h = let (l, n) = and_parts (nat_lt a 256) (not (is_core_register a)) h in (ltb-true a 256 l, not-true (is_core_register a) n)
 
+-- SREG is hidden
+not_sreg : (a : ℕ) → is_hidden a ≡ false → (a == 0x5F) ≡ false
+not_sreg a h = by_parts (a == 0x5F) (a == 28 || a == 29) h where
+  by_parts : (b c : Bool) → (b || c) ≡ false → b ≡ false
+  by_parts true c q = absurd (true≢false q)
+  by_parts false c q = refl
+
 own_if : (b c : Bool) → b ≡ false → c ≡ true → (if b then Barred else if c then Own else Port) ≡ Own
 own_if b c q r = rw (q, r) refl
 
@@ -239,14 +246,16 @@ module _ (p : PlainProgram) (m : Map) (asm : AsmProgram) (l : Located) (map_vali
         high_kind p m asm l a (omega (arith, low, first)) (omega (arith, high, ends))
         ∙ rw (none, no_scratch, no_work, byte_there m.stack.first m.stack.size a low high) refl
 
-    registers : (a : ℕ) → is_core_register a ≡ true → a ≢ 0x5F → kinds p m asm l a ≡ Own
-    registers a h other = low_kind p m asm l a (core_is_low a h) ∙ own_if (a == 0x5F) (is_core_register a) (ne_eqb a 0x5F other) h
+    registers : (a : ℕ) → is_core_register a ≡ true → is_hidden a ≡ false → kinds p m asm l a ≡ Own
+    registers a h seen = low_kind p m asm l a (core_is_low a h) ∙ own_if (is_hidden a) (is_core_register a) seen h
 
     ports : (a : ℕ) → is_port a ≡ true → kinds p m asm l a ≡ Port
     ports a h =
         let k = port_is_none a h in
-        let other : (a == 0x5F) ≡ false = ne_eqb a 0x5F (λ e. true≢false (subst (λ n. is_core_register n ≡ false) e k.1)) in
-        low_kind p m asm l a k.0 ∙ port_if (a == 0x5F) (is_core_register a) other k.1
+        let sreg : (a == 0x5F) ≡ false = ne_eqb a 0x5F (λ e. true≢false (subst (λ n. is_core_register n ≡ false) e k.1)) in
+        let low : (a == 28) ≡ false = ne_eqb a 28 (λ e. true≢false (subst (λ n. is_core_register n ≡ false) e k.1)) in
+        let high : (a == 29) ≡ false = ne_eqb a 29 (λ e. true≢false (subst (λ n. is_core_register n ≡ false) e k.1)) in
+        low_kind p m asm l a k.0 ∙ port_if (is_hidden a) (is_core_register a) (rw (sreg, low, high) refl) k.1
 
     -- ---- which addresses are told to be of a kind
 
@@ -264,12 +273,12 @@ module _ (p : PlainProgram) (m : Map) (asm : AsmProgram) (l : Located) (map_vali
         (λ u. let w = byte_told l.work 64 a u in of_work a w.0 w.1)
         (or_cases (is_of_scratch asm.frames.items l.frames.items a) (is_byte_of l.work 64 a) h)
 
-    register_tells : (a : ℕ) → a < 256 → (b c : Bool) → (a == 0x5F) ≡ b → is_core_register a ≡ c
+    register_tells : (a : ℕ) → a < 256 → (b c : Bool) → is_hidden a ≡ b → is_core_register a ≡ c
         → Tells a (if b then Barred else if c then Own else Port)
     register_tells a low true c q r =
         record { object = λ h. absurd cc; own = λ h. absurd cc; port = λ h. absurd cc; stacked = λ h. absurd cc }
     register_tells a low false true q r =
-        record { object = λ h. absurd cc; own = λ h. of_register a r (eqb-false a 0x5F q); port = λ h. absurd cc; stacked = λ h. absurd cc }
+        record { object = λ h. absurd cc; own = λ h. of_register a r (eqb-false a 0x5F (not_sreg a q)); port = λ h. absurd cc; stacked = λ h. absurd cc }
     register_tells a low false false q r =
         record {
           object = λ h. absurd cc;
@@ -298,7 +307,7 @@ module _ (p : PlainProgram) (m : Map) (asm : AsmProgram) (l : Located) (map_vali
     tells : (a : ℕ) → Tells a (kinds p m asm l a)
     tells a = by_tests (nat_lt a 256) (nat_lt a 2304) refl where
       by_tests : (b c : Bool) → nat_lt a 256 ≡ b → Tells a (if b then register_kind a else if c then memory_kind p m asm l a else Barred)
-      by_tests true c q = register_tells a (ltb-true a 256 q) (a == 0x5F) (is_core_register a) refl refl
+      by_tests true c q = register_tells a (ltb-true a 256 q) (is_hidden a) (is_core_register a) refl refl
       by_tests false true q =
           memory_tells a (is_of_objects Data p.structs p.objects l.places.items a)
           (is_of_scratch asm.frames.items l.frames.items a || is_byte_of l.work 64 a)
@@ -333,10 +342,10 @@ kinds_are_told apart p m asm l valid map_valid asm_valid located =
 -- ---- that they suit
 
 pub register_may_be : (a : ℕ) → a < 256 → may_be (register_kind a) 2304 a ≡ true
-register_may_be a low = by_tests (a == 0x5F) (is_core_register a) refl refl where
-  by_tests : (b c : Bool) → (a == 0x5F) ≡ b → is_core_register a ≡ c → may_be (if b then Barred else if c then Own else Port) 2304 a ≡ true
+register_may_be a low = by_tests (is_hidden a) (is_core_register a) refl refl where
+  by_tests : (b c : Bool) → is_hidden a ≡ b → is_core_register a ≡ c → may_be (if b then Barred else if c then Own else Port) 2304 a ≡ true
   by_tests true c q r = refl
-  by_tests false true q r = rw (r, q) refl
+  by_tests false true q r = rw (r, not_sreg a q) refl
   by_tests false false q r = rw (r, lt-ltb a 256 low) refl
 
 pub memory_may_be : (k : Kind) (a : ℕ) → (k ≢ Port) → 256 ≤ a → a < 2304 → may_be k 2304 a ≡ true
@@ -408,4 +417,5 @@ kinds_fit p m asm l located bytes = record {
   kinds = kinds_may_be p m asm l;
   table = λ a. tables_in_flash p m asm l (length l.image.bytes.items) a (flash_length p m asm l located);
   code = bytes;
+  base = λ below. (refl, refl);
 }

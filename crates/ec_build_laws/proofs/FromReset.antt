@@ -11,11 +11,11 @@ use Rattle.ec_avr.specs.declared.machine.Access.{Access}
 use Rattle.ec_avr.specs.declared.machine.Access.TheVariants.{Silent, In, Out, Read, Write, Stack}
 use Rattle.ec_avr.specs.Inputs.{trace_of}
 use Rattle.ec_avr.specs.Laws.{MachineIsRun}
-use Rattle.ec_avr.specs.Machine.{State, Inputs, Run, Running, EndedWith, FaultedAt, preceded, machine}
+use Rattle.ec_avr.specs.Machine.{State, Inputs, Run, Running, EndedWith, FaultedAt, machine}
 use Rattle.ec_avr.specs.Runs.{preceded_by, behaviour_of}
 use Rattle.ec_asm.specs.Behaves.{noted_run}
 use Rattle.ec_asm.specs.Change.{Env, Stacked}
-use Rattle.ec_asm.specs.Shows.{Shows, Fits, noted_all}
+use Rattle.ec_asm.specs.Shows.{Fits, noted_all}
 use Rattle.ec_core.specs.Laws.{MoreTurnsOnlyAdd}
 use Rattle.ec_core.specs.Meaning.{source, work}
 use Rattle.ec_core.specs.Plain.{PlainProgram}
@@ -39,9 +39,9 @@ use Rattle.std.proofs.lemmas.List.Elements.{All-weaker}
 use Rattle.ec_build_laws.proofs.Guarded.{GuardLaws, are_kinds}
 use Rattle.ec_build_laws.specs.Kinds.{placed, place_of}
 use Rattle.ec_select_reset.specs.Laws.{all_but_silent}
-use Rattle.ec_build_laws.specs.Runs.{view_of, start_steps, is_within_work, RunsAsSource, ImagesRunAsSources}
+use Rattle.ec_build_laws.specs.Runs.{start_steps, is_within_work, RunsAsSource, ImagesRunAsSources}
 use Rattle.ec_build_laws.specs.Shown.{ports_of, ShowsFirst, StaysInStack, PushesInRegion, Comes, IsWithinSource}
-use Rattle.ec_build_laws.proofs.Ran.{reset_shows}
+use Rattle.ec_build_laws.proofs.Begun.{before_running, before_ended}
 use Rattle.ec_build_laws.specs.Shown.{ImagesShowTheirSources}
 
 -- ---- lists of accesses
@@ -96,16 +96,6 @@ pub quiet : (e : Env) (before start : List Access) (spans : List Span) → start
 quiet e before start spans calls copies =
     ap ports_of calls ∙ ports-append before (Stack ∷ [])
     ∙ ap (λ z. z ++ []) (sym (ports_aloud before) ∙ ap ports_of copies ∙ all_are_none e spans)
-
--- ---- runs behind accesses
-
-before_running : (start trace : List Access) (t : State) → preceded_by start (Running trace t) ≡ Running (start ++ trace) t
-before_running [] trace t = refl
-before_running (a ∷ start) trace t = ap (preceded a) (before_running start trace t)
-
-before_ended : (start trace : List Access) (result : ℤ) → preceded_by start (EndedWith trace result) ≡ EndedWith (start ++ trace) result
-before_ended [] trace result = refl
-before_ended (a ∷ start) trace result = ap (preceded a) (before_ended start trace result)
 
 -- ---- the whole
 
@@ -282,10 +272,9 @@ module _ (p : PlainProgram) (m : Map) (l : Located) (e : Env) (s : State) (input
   told_stays t h = All-weaker (λ at. e.kind at ≡ Stacked) (λ at. (m.stack.first ≤ at) × (at < end_of m.stack)) told (stack_bytes t) h
 
   -- up to the call of main
-  pub start_pushes : Shows e 2304 s.mem (view_of s inputs) → (k : ℕ) (trace : List Access) (t : State) → k < r.steps
-      → machine k inputs s ≡ Running trace t → StaysInStack m t
-  start_pushes shows k trace t less ran =
-      told_stays t (inside e 2304 r.steps k s t (view_of s inputs) trace fit shows r.started less ran)
+  pub start_pushes : (k : ℕ) (trace : List Access) (t : State) → k < r.steps → machine k inputs s ≡ Running trace t
+      → StaysInStack m t
+  start_pushes k trace t less ran = told_stays t (r.stacked k trace t less ran)
 
   -- and from main on
   pub pushes : (k : ℕ) (trace : List Access) (t : State) → machine k inputs r.main ≡ Running trace t
@@ -315,7 +304,7 @@ images_show_their_sources runs is_run turns laws inside p m asm l s inputs h res
       view = r.view;
       shown = r.shown;
       initials = r.initials;
-      start_stack = start_pushes p m l e s inputs r inside fit told (reset_shows p m asm l e s inputs h refl reset give);
+      start_stack = start_pushes p m l e s inputs r inside fit told;
       stack = pushes p m l e s inputs r inside fit told;
       steps = r.steps;
       few = r.few;

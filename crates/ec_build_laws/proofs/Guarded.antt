@@ -13,7 +13,6 @@ use Rattle.ec_asm.specs.declared.items.AsmProgram.{AsmProgram}
 use Rattle.ec_core.specs.Laws.{EventsAreAtHome}
 use Rattle.ec_core.specs.Layout.{PlainLeaf, scalar_size, leaves_of_type}
 use Rattle.ec_core.specs.Plain.{PlainObject, PlainProgram}
-use Rattle.ec_core.specs.PortTable.{plain_table}
 use Rattle.ec_core.specs.State.{Event, In, Out, Read, Write}
 use Rattle.ec_core.specs.declared.programs.LeafInit.{LeafInit}
 use Rattle.ec_ir.specs.Temporaries.{low_bytes}
@@ -24,23 +23,25 @@ use Rattle.ec_select_operations.specs.Pointers.{home_of}
 use Rattle.ec_select_functions.specs.Relation.{byte_accesses, number_told, leaf_accesses, object_accesses}
 use Rattle.ec_select_functions.specs.Relation.{event_accesses}
 use Rattle.ec_select.specs.Laws.{SelectionsAreValid}
-use Rattle.ec_lower_code.specs.Code.{lowered}
 use Rattle.ec_build_laws.specs.Kinds.{kinds, tables, placed, place_of}
 use Rattle.ec_build_laws.specs.Laws.{AreKinds, KindsAreTold, KindsFit}
+use Rattle.ec_build_laws.specs.Shortened.{ShortenedIsValid}
 use Rattle.ec_build_laws.specs.Spaces.{IsOfObjects, NotedAreOfObjects, IsLeafByte, IsOfEvent, EventsStayInSpaces}
 use Rattle.ec_build_laws.specs.Translation.{IsTranslated}
 use Rattle.ec_build_laws.proofs.ByAddress.{flash_object}
+use Rattle.ec_build_laws.proofs.Shorter.{short_is_valid}
 
 pub record GuardLaws : Type 0 where
   pub told : KindsAreTold
   pub fit : KindsFit
   pub made : LoweredIsMadeOf
   pub selections : SelectionsAreValid
+  pub short : ShortenedIsValid
 
 pub are_kinds : GuardLaws → (p : PlainProgram) (m : Map) (asm : AsmProgram) (l : Located) → IsTranslated p m asm l → AreKinds p m asm l
 are_kinds laws p m asm l h =
     laws.told p m asm l h.valid h.map
-    (laws.selections (lowered p (plain_table m.io)) asm (laws.made p m.io h.valid h.groups).valid h.code h.selection) h.located
+    (short_is_valid laws.short laws.selections p m asm l h (laws.made p m.io h.valid h.groups)) h.located
 
 -- ---- what is noted of the machine
 

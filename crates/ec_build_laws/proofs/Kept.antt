@@ -36,7 +36,7 @@ needs_are p m (f ∷ fs) = ap (λ ns. stmt_need f.body ∷ ns) (needs_are p m fs
 
 pub frames_are_needs : (p : PlainProgram) (m : Map) (asm : AsmProgram) (l : Located) → IsTranslated p m asm l → asm.frames.items
     ≡ scratch_needs p
-frames_are_needs p m asm l h = h.selection.frames ∙ needs_are p m p.functions
+frames_are_needs p m asm l h = h.shortened.frames ∙ h.selection.frames ∙ needs_are p m p.functions
 
 module _ (p : PlainProgram) (m : Map) (asm : AsmProgram) (l : Located) (are : AreKinds p m asm l)
     (frames : asm.frames.items ≡ scratch_needs p) where

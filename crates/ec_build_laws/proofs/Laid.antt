@@ -3,10 +3,10 @@ use Rattle.std.proofs.Common.{◌≡◌, ◌≢◌, ◌⊎◌, inl, inr, ⊎_eli
 use Rattle.std.proofs.Common.{◌^◌, false, List, [], ◌∷◌, length, map, replicate, zero-add, add-zero, Option, Some, None}
 use Rattle.std.proofs.Common.{refl}
 use Rattle.std.proofs.Common.{sym, ap, ◌∙◌, subst, arith}
-use Rattle.std.specs.Prelude.{nat_le, ◌==◌, if◌then◌else◌, slice_get, slice_index, option_map, option_and_then}
+use Rattle.std.specs.Prelude.{nat_le, nat_lt, ◌==◌, ◌&&◌, if◌then◌else◌, slice_get, slice_index, option_map, option_and_then}
 use Rattle.std.specs.Prelude.{IsTrue, IsSomeAnd, unwrap_or, Contains}
 use native.Mathlib.Nat.{zero-mod}
-use Rattle.std.proofs.lemmas.Bool.{lt-ltb, le-ltb, false≢true, ne_eqb, eq-eqb}
+use Rattle.std.proofs.lemmas.Bool.{lt-ltb, le-ltb, ltb-true, and_parts, false≢true, ne_eqb, eq-eqb}
 use Rattle.std.specs.List.{AllByRecursion}
 use Rattle.std.proofs.lemmas.List.{length-map}
 use Rattle.std.proofs.lemmas.List.Elements.{Contains-append_cases, Contains-push_cases}
@@ -17,17 +17,19 @@ use Rattle.ec_space.specs.declared.space.Bank.{Bank}
 use Rattle.ec_space.specs.declared.space.Bank.TheVariants.{Flash, Data}
 use Rattle.ec_space.specs.declared.space.Place.{Place}
 use Rattle.ec_avr.specs.State.{is_core_register}
-use Rattle.ec_asm.specs.Change.{Env, Kind, Own, Object, Stacked}
+use Rattle.ec_asm.specs.Change.{Env, Kind, Own, Object, Stacked, unbased}
 use Rattle.ec_asm.specs.Items.{HasAt, code_words}
 use Rattle.ec_asm.specs.Laws.{PlacedItemsStand}
 use Rattle.ec_asm.specs.Pieces.{is_held}
 use Rattle.ec_asm.specs.Placed.{IsPlaced}
-use Rattle.ec_asm.specs.Valid.{ValidAsm}
+use Rattle.ec_asm.specs.Valid.{stands_once, ValidAsm}
 use Rattle.ec_asm.specs.declared.items.AsmItem.{AsmItem}
 use Rattle.ec_asm.specs.declared.items.AsmItem.TheVariants.{Plain, Label, JumpTo, CallTo, BranchTo, LoadPart, LoadObj}
 use Rattle.ec_asm.specs.declared.items.AsmItem.TheVariants.{StoreObj}
 use Rattle.ec_asm.specs.declared.items.AsmProgram.{AsmProgram}
 use Rattle.ec_asm.proofs.ItemWords.{words_cons}
+use Rattle.ec_asm_based.specs.Laws.{StandsAt as ReachStands, AreReached}
+use Rattle.ec_asm_based.specs.declared.reach.Reach.{Reach}
 use Rattle.ec_check_recursion.specs.Rows.{row_at, rows_of_program, LeadsTo, calls as row_calls, calls_through as row_calls_through}
 use Rattle.ec_core.specs.Accesses.{leaf_of, leaf_count}
 use Rattle.ec_core.specs.Layout.{scalar_size, size_of_type, leaves_of_type}
@@ -62,7 +64,7 @@ use Rattle.ec_locate.specs.Image.{value_number, values_at}
 use Rattle.ec_locate.specs.Initial.{values_of, ValuesStand, InitialValues, InitialValuesStand}
 use Rattle.ec_locate.specs.Layout.{LayoutView, local_at, scratch_area}
 use Rattle.ec_locate.specs.Placing.{layout_by, last_of, object_sizes, entries_by}
-use Rattle.ec_locate.specs.Stands.{environment, CodeStands}
+use Rattle.ec_locate.specs.Stands.{CodeStands}
 use Rattle.ec_locate.specs.declared.placing.Located.{Located}
 use Rattle.ec_select_functions.specs.Laws.{CallsOn}
 use Rattle.ec_select_operations.specs.Places.{ObjectLeaf, Apart, owner_of, Chained, CanBeLiveTogether}
@@ -70,12 +72,13 @@ use Rattle.ec_select_functions.specs.Relation.{HoldsLeaf}
 use Rattle.ec_select_functions.specs.Standing.{ScratchStands, WorkStands, StandsInMemory, ObjectStands, ObjectsStand}
 use Rattle.ec_select_functions.specs.Standing.{StandsInFlash, TablesStand}
 use Rattle.ec_select.specs.LaidOut.{CodeStands as CodeIsLaidOut, ScratchIsLaidOut, initial_at, InitialsStand}
-use Rattle.ec_select.specs.LaidOut.{StackStands, WorkIsLaidOut, IsLaidOut}
+use Rattle.ec_select.specs.LaidOut.{StackStands, WorkIsLaidOut}
 use Rattle.ec_select.specs.Labels.{homes_of, widest_temps}
 use Rattle.ec_select.specs.Laws.{SelectionsAreValid}
 use Rattle.ec_select.specs.Program.{has_initial_bytes}
-use Rattle.ec_build_laws.specs.Kinds.{is_of_objects, is_of_initials, kinds, tables, place_of, scratch_of}
-use Rattle.ec_build_laws.specs.Laws.{IsByteOf, AreKinds, PlacedAreLaidOut}
+use Rattle.ec_build_laws.specs.Kinds.{is_of_objects, is_of_initials, is_hidden, kinds, tables, environment_of, place_of, scratch_of}
+use Rattle.ec_build_laws.specs.Laws.{IsByteOf, AreKinds, AreLaidOut, PlacedAreLaidOut}
+use Rattle.ec_build_laws.specs.Shortened.{is_in_memory, nowhere, reach_of, reaches_of, ShortenedIsValid}
 use Rattle.ec_build_laws.specs.Translation.{IsTranslated}
 use Rattle.ec_build_laws.proofs.Live.{object_first, scratch_and_work, scratch_on_chain}
 use Rattle.ec_build_laws.proofs.ByAddress.{object_there, kinds_are_told, flash_length}
@@ -83,6 +86,8 @@ use Rattle.ec_build_laws.proofs.Numbers.{AreBytesOf, bytes_are_low, of_pointer}
 use Rattle.ec_build_laws.proofs.Pointers.{StandsAt, address_held}
 use Rattle.ec_build_laws.proofs.Rows.{all_at, each_at, there_is, place_there, place_bank, initial_there, frame_there}
 use Rattle.ec_build_laws.proofs.Rows.{initial_byte}
+use Rattle.ec_build_laws.proofs.Shorter.{StandLaws, LongStands, long_stands, selected_is_valid, short_is_valid, memory_told}
+use Rattle.ec_build_laws.proofs.Shorter.{reach_found}
 use Rattle.ec_build_laws.proofs.Rows.{value_suits}
 
 -- what this rests on
@@ -95,6 +100,8 @@ pub record PlacedLaws : Type 0 where
   pub initials : InitialValuesStand
   pub made : LoweredIsMadeOf
   pub selections : SelectionsAreValid
+  pub short : ShortenedIsValid
+  pub long : StandLaws
 
 -- ---- labels
 
@@ -193,7 +200,7 @@ called_known p results f slots all (i ∷ code) h b c = called_known p results f
 -- what stands at an address is told so that code can stand: registers, scratch memory and the work bytes are code's own,
 -- and objects in either bank, the stack and initial bytes are told to be such
 pub record HasKinds (p : PlainProgram) (m : Map) (asm : AsmProgram) (l : Located) (kind table : ℕ → Kind) : Type 0 where
-  pub registers : (a : ℕ) → is_core_register a ≡ true → a ≢ 0x5F → kind a ≡ Own
+  pub registers : (a : ℕ) → is_core_register a ≡ true → is_hidden a ≡ false → kind a ≡ Own
   pub objects : (a i : ℕ) (o : PlainObject) (q : Place) → IsByteOf p l Data a i o q → IsAddressable o.storage → kind a ≡ Object
   pub scratch : (f frame at a : ℕ) → slice_get asm.frames.items f ≡ Some frame → slice_get l.frames.items f ≡ Some at
       → at ≤ a → a < at + frame_size frame → kind a ≡ Own
@@ -209,7 +216,7 @@ module _ (laws : PlacedLaws) (p : PlainProgram) (m : Map) (asm : AsmProgram) (l 
   q = lowered p (plain_table m.io)
 
   abbrev e : Env
-  e = environment p m asm l kind table
+  e = environment_of p m asm l kind table
 
   abbrev y : LayoutView
   y = layout_by p m asm
@@ -224,7 +231,7 @@ module _ (laws : PlacedLaws) (p : PlainProgram) (m : Map) (asm : AsmProgram) (l 
   made = laws.made p m.io h.valid h.groups
 
   asm_valid : ValidAsm (object_sizes p) 64 asm
-  asm_valid = laws.selections q asm made.valid h.code h.selection
+  asm_valid = short_is_valid laws.short laws.selections p m asm l h made
 
   stand : DataStands p m asm l
   stand = laws.apart p m asm l h.valid h.map asm_valid h.located
@@ -234,18 +241,19 @@ module _ (laws : PlacedLaws) (p : PlainProgram) (m : Map) (asm : AsmProgram) (l 
 
   -- ---- code
 
-  is_placed : IsPlaced e asm.items.items 0
+  is_placed : IsPlaced (unbased e) asm.items.items 0
   is_placed = laws.code p m asm l kind table h.map asm_valid h.located
 
-  code : CodeIsLaidOut asm e
-  code = record {
-    stands = subst (λ n. HasAt e asm.items.items 0 n) (zero-add (code_words asm.items.items)) (laws.items e asm.items.items 0 is_placed);
-    labels = λ k once.
-        let below = label_below asm.items.items k in
-        let room = is_placed.room in
-        rw once (omega (arith, below, room));
-    flash = let n = flash_length p m asm l h.located in omega (arith, n);
-  }
+  short_stands : HasAt (unbased e) asm.items.items 0 (code_words asm.items.items)
+  short_stands =
+      subst (λ n. HasAt (unbased e) asm.items.items 0 n) (zero-add (code_words asm.items.items))
+      (laws.items (unbased e) asm.items.items 0 is_placed)
+
+  labels : (k : ℕ) → stands_once asm.items.items k ≡ true → e.word_of k < 65536
+  labels k once =
+      let below = label_below asm.items.items k in
+      let room = is_placed.room in
+      rw once (omega (arith, below, room))
 
   -- ---- objects
 
@@ -359,7 +367,7 @@ module _ (laws : PlacedLaws) (p : PlainProgram) (m : Map) (asm : AsmProgram) (l 
 
   frame_is : (f : ℕ) (g : PlainIrFunction) → slice_get q.functions f ≡ Some g → slice_get asm.frames.items f ≡ Some g.slots
   frame_is f g is =
-      ap (λ fs. slice_get fs f) h.selection.frames ∙ slice_get-map (λ (x : PlainIrFunction). x.slots) q.functions f
+      ap (λ fs. slice_get fs f) (h.shortened.frames ∙ h.selection.frames) ∙ slice_get-map (λ (x : PlainIrFunction). x.slots) q.functions f
       ∙ ap (option_map (λ (x : PlainIrFunction). x.slots)) is
 
   -- a function without temporaries has none, and that of any other stands where it was placed
@@ -728,8 +736,8 @@ module _ (laws : PlacedLaws) (p : PlainProgram) (m : Map) (asm : AsmProgram) (l 
   stack : StackStands q e m.stack.first
   stack = record {
     pointer = record {
-      low = are.registers 0x5D refl (λ z. omega (arith, z));
-      high = are.registers 0x5E refl (λ z. omega (arith, z));
+      low = are.registers 0x5D refl refl;
+      high = are.registers 0x5E refl refl;
       room = omega arith;
     };
     high = h.map.regions_valid.stack.from_there;
@@ -767,15 +775,71 @@ module _ (laws : PlacedLaws) (p : PlainProgram) (m : Map) (asm : AsmProgram) (l 
         kinds = stands.kind;
       }
 
-  pub laid_out : IsLaidOut q asm e (place_of l) (scratch_of asm l) m.stack.first
-  laid_out = record { code = code; memory = memory; work = work_laid_out; initials = initials; tables = tables_stand; stack = stack }
+  -- ---- the code of the operations
+
+  in_memory_told : (o n at : ℕ) (storage : PlainStorage) → IsAddressable storage → ObjectStands e o n at storage → StandsInMemory e o n at
+  in_memory_told o n at (static inits) named h = h
+  in_memory_told o n at (local f) named h = h
+  in_memory_told o n at (param f) named h = h
+  in_memory_told o n at (register r) named h = absurd named
+
+  reach_stands : (o : ℕ) (d : PlainObject) (z : Place) (r : Reach) → slice_get p.objects o ≡ Some d → slice_get l.places.items o ≡ Some z
+      → r ≡ reach_of p.structs d (Some z) → ReachStands e o r
+  reach_stands o d z r is place same = by_test (is_in_memory d.storage d.home && nat_lt (z.offset + size d) 65536) refl where
+    by_test : (b : Bool) → (is_in_memory d.storage d.home && nat_lt (z.offset + size d) 65536) ≡ b → ReachStands e o r
+    by_test false q =
+        let none : r ≡ nowhere = same ∙ rw q refl in
+        subst (ReachStands e o) (sym none) (record {
+          address = λ k less. absurd (omega (arith, less));
+          below = λ k less. absurd (omega (arith, less));
+          object = λ k less. absurd (omega (arith, less));
+        })
+    by_test true q =
+        let parts = and_parts (is_in_memory d.storage d.home) (nat_lt (z.offset + size d) 65536) q in
+        let told = memory_told d.storage d.home parts.0 in
+        let stands_there = in_memory_told o (size d) (place_of l o) d.storage told.1 (object_stands o d is told.0) in
+        let at = offset_is o z place in
+        let room = ltb-true (z.offset + size d) 65536 parts.1 in
+        let whole : r ≡ record { first = z.offset; bytes = size d } = same ∙ rw q refl in
+        subst (ReachStands e o) (sym whole) (record {
+          address = λ k less. stands_there.at k (omega (arith, less)) ∙ ap (λ n. n + k) at;
+          below = λ k less. omega (arith, less, room);
+          object = λ k less. subst (λ n. kind (n + k) ≡ Object) at (stands_there.kind k less);
+        })
+
+  reached : AreReached e (reaches_of p l.places.items)
+  reached o r has =
+      let found = reach_found p.structs l.places.items 0 p.objects o r has in
+      let z = place_is o found.0 found.1 in
+      reach_stands o found.0 z.0 r found.1 z.1
+      (found.2 ∙ ap (λ n. reach_of p.structs found.0 (slice_get l.places.items n)) (zero-add o) ∙ ap (reach_of p.structs found.0) z.1)
+
+  long : LongStands e h.selected.items.items
+  long =
+      long_stands laws.long (object_sizes p) 64 (reaches_of p l.places.items) h.selected asm h.shortened
+      (selected_is_valid laws.selections p m asm l h made) (0, _, h.selection.items) e refl reached short_stands labels
+
+  code : CodeIsLaidOut h.selected e
+  code = record {
+    begin = long.begin;
+    end = long.end;
+    stands = long.stands;
+    flash = let n = flash_length p m asm l h.located in omega (arith, n);
+  }
+
+  pub laid_out : AreLaidOut p m h.selected asm l e
+  unfolding code long
+  laid_out = record {
+    laid = record { code = code; memory = memory; work = work_laid_out; initials = initials; tables = tables_stand; stack = stack };
+    sets = long.sets;
+  }
 
 -- ---- the kinds of a placed program are told so
 
 asm_is_valid : PlacedLaws → (p : PlainProgram) (m : Map) (asm : AsmProgram) (l : Located) → IsTranslated p m asm l
     → ValidAsm (object_sizes p) 64 asm
 asm_is_valid laws p m asm l h =
-    laws.selections (lowered p (plain_table m.io)) asm (laws.made p m.io h.valid h.groups).valid h.code h.selection
+    short_is_valid laws.short laws.selections p m asm l h (laws.made p m.io h.valid h.groups)
 
 pub are_kinds_of : PlacedLaws → (p : PlainProgram) (m : Map) (asm : AsmProgram) (l : Located) → IsTranslated p m asm l → AreKinds p m asm l
 are_kinds_of laws p m asm l h =

@@ -3,8 +3,10 @@ mod ByAddress
 mod Numbers
 mod Pointers
 mod Rows
+mod Shorter
 mod Laid
 mod Ports
+mod Begun
 mod Ran
 mod FromReset
 mod Guarded

@@ -1,16 +1,20 @@
 -- What a placed program does.
-use Rattle.std.proofs.Common.{◌≡◌, Bool, subst, ℕ, ◌+◌, ◌≤◌, ℤ, refl, ap, ◌∙◌, arith}
-use Rattle.std.specs.Prelude.{IsTrue}
-use Rattle.std.proofs.lemmas.Bool.{leb-true, le-leb}
+use Rattle.std.proofs.Common.{◌≡◌, ⊎_elim, Bool, true, subst, ℕ, ◌+◌, ◌-◌, ◌<◌, ◌≤◌, ℤ, List, [], ◌∷◌, ◌++◌, refl, sym, ap, ◌∙◌, arith}
+use Rattle.std.proofs.Common.{append_assoc}
+use Rattle.std.specs.Prelude.{IsTrue, All}
+use Rattle.std.proofs.lemmas.Bool.{leb-true, le-leb, cases_lt}
 use Rattle.ec_space.specs.Memory.{data_size}
 use Rattle.ec_runs.specs.Behaviours.{Behaviour, Running as GoesOn, Ended as Ends, Failed, Reaches, IsWithin, seen_as}
 use Rattle.ec_runs.proofs.Runs.{reaches_as_seen, reaches_through}
 use Rattle.ec_avr.specs.declared.machine.Access.{Access}
+use Rattle.ec_avr.specs.declared.machine.Access.TheVariants.{Stack}
 use Rattle.ec_avr.specs.Laws.{MachineIsRun}
-use Rattle.ec_avr.specs.Machine.{State, Inputs, IsReset}
-use Rattle.ec_avr.specs.Runs.{MachineFault}
+use Rattle.ec_avr.specs.Machine.{State, Inputs, Running, machine, IsReset}
+use Rattle.ec_avr.specs.Placed.{stack_bytes}
+use Rattle.ec_avr.specs.Runs.{MachineFault, preceded_by}
 use Rattle.ec_asm.specs.Behaves.{noted_run}
-use Rattle.ec_asm.specs.Change.{Env}
+use Rattle.ec_asm.specs.Change.{Env, Stacked, unbased}
+use Rattle.ec_asm.specs.Laws.{StackStaysInside}
 use Rattle.ec_asm.proofs.Behaves.{stays_within}
 use Rattle.ec_asm.specs.Shows.{Shows, Fits}
 use Rattle.ec_asm.specs.declared.items.AsmProgram.{AsmProgram}
@@ -30,24 +34,26 @@ use Rattle.ec_core_accesses.specs.Ports.{SourcesAccessPorts, PortBytesPass}
 use Rattle.ec_select_functions.specs.Kept.{meaning_on}
 use Rattle.ec_select_functions.specs.Laws.{within_steps, HoldsUnlessFailed}
 use Rattle.ec_select_functions.specs.Relation.{accesses}
-use Rattle.ec_select.specs.LaidOut.{IsLaidOut}
-use Rattle.ec_select.specs.Laws.{RunsAsOperations, SelectionsRun}
+use Rattle.ec_select.specs.Laws.{SelectionsRun}
 use Rattle.ec_build_laws.specs.Kinds.{placed, place_of, scratch_of}
-use Rattle.ec_build_laws.specs.Laws.{KindsFit, PlacedAreLaidOut}
-use Rattle.ec_build_laws.specs.Runs.{view_of, ImagesRun, seen_source, is_within_work, RunsAsSource, ImagesRunAsSources}
+use Rattle.ec_build_laws.specs.Laws.{KindsFit, AreLaidOut, PlacedAreLaidOut}
+use Rattle.ec_build_laws.specs.Runs.{view_of, Begins, RunsFromReset, ImagesRun, seen_source, is_within_work, RunsAsSource}
+use Rattle.ec_build_laws.specs.Runs.{ImagesRunAsSources}
 use Rattle.ec_build_laws.specs.Translation.{IsTranslated}
+use Rattle.ec_build_laws.proofs.Begun.{before_running, preceded_twice, behind, silent_first, BeginLaws, begins}
 use Rattle.ec_build_laws.proofs.Guarded.{GuardLaws, are_kinds}
 use Rattle.ec_build_laws.proofs.Ports.{StandAsPorts, reaches_on, within_on, ports_of_map}
 
 pub record ImageLaws : Type 0 where
+  pub begin : BeginLaws
   pub fit : KindsFit
   pub laid : PlacedAreLaidOut
   pub made : LoweredIsMadeOf
   pub run : SelectionsRun
 
-pub reset_shows : (p : PlainProgram) (m : Map) (asm : AsmProgram) (l : Located) (e : Env) (s : State) (inputs : Inputs)
-    → IsTranslated p m asm l
-    → l.image.bytes.items ≡ e.flash → IsReset l.image.core l.image.bytes.items s → GiveBytes inputs → Shows e 2304 s.mem (view_of s inputs)
+reset_shows : (p : PlainProgram) (m : Map) (asm : AsmProgram) (l : Located) (e : Env) (s : State) (inputs : Inputs)
+    → IsTranslated p m asm l → l.image.bytes.items ≡ e.flash → IsReset l.image.core l.image.bytes.items s → GiveBytes inputs
+    → Shows (unbased e) 2304 s.mem (view_of s inputs)
 reset_shows p m asm l e s inputs h flash reset give = record {
   flash = reset.flash ∙ flash;
   sized = reset.size ∙ ap data_size h.located.core;
@@ -55,24 +61,29 @@ reset_shows p m asm l e s inputs h flash reset give = record {
   at = refl;
   flags = refl;
   feeds = give;
+  base = λ l. absurd (omega (arith, l));
 }
 
 -- wherever code and data stand, in an environment with the flash of the image
-pub runs_as_operations : LoweredIsMadeOf → SelectionsRun
-    → (p : PlainProgram) (m : Map) (asm : AsmProgram) (l : Located) (e : Env) (s : State)
-    (inputs : Inputs) → IsTranslated p m asm l → IsReset l.image.core l.image.bytes.items s → GiveBytes inputs → l.image.bytes.items
-    ≡ e.flash
-    → Fits e 2304 → IsLaidOut (lowered p (plain_table m.io)) asm e (place_of l) (scratch_of asm l) m.stack.first
-    → RunsAsOperations (lowered p (plain_table m.io)) (place_of l) e (view_of s inputs) s inputs
-runs_as_operations made selections p m asm l e s inputs h reset give flash fit laid =
-    selections (lowered p (plain_table m.io)) asm e (place_of l) (scratch_of asm l) 2304 m.stack.first s (view_of s inputs) inputs
-    (made p m.io h.valid h.groups).valid h.code h.selection fit (omega arith)
-    (reset_shows p m asm l e s inputs h flash reset give) (λ port. refl) reset.begin laid
+pub runs_as_operations : LoweredIsMadeOf → SelectionsRun → BeginLaws
+    → (p : PlainProgram) (m : Map) (asm : AsmProgram) (l : Located) (e : Env) (s : State) (inputs : Inputs)
+    → (h : IsTranslated p m asm l) → IsReset l.image.core l.image.bytes.items s → GiveBytes inputs → l.image.bytes.items ≡ e.flash
+    → Fits e 2304 → AreLaidOut p m h.selected asm l e → RunsFromReset p m l e s inputs
+runs_as_operations made selections laws p m asm l e s inputs h reset give flash fit are =
+    let word = are.laid.code.begin in
+    let b = begins laws e word fit s inputs give (reset_shows p m asm l e s inputs h flash reset give) reset.begin are.sets in
+    record {
+      word = word;
+      begins = b;
+      runs = selections (lowered p (plain_table m.io)) h.selected e (place_of l) (scratch_of asm l) 2304 m.stack.first b.first
+          (view_of b.first inputs) inputs (made p m.io h.valid h.groups).valid h.code h.selection fit (omega arith) b.shows (λ port. refl)
+          are.laid b.at;
+    }
 
 pub images_run : ImageLaws → ImagesRun
 images_run laws p m asm l s inputs h reset give =
-    runs_as_operations laws.made laws.run p m asm l (placed p m asm l) s inputs h reset give refl (laws.fit p m asm l h.located h.bytes)
-    (laws.laid p m asm l h)
+    runs_as_operations laws.made laws.run laws.begin p m asm l (placed p m asm l) s inputs h reset give refl
+    (laws.fit p m asm l h.located h.bytes) (laws.laid p m asm l h)
 
 -- the steps that are paid are within the work, with the one of BREAK
 paid_twice : (p : PlainProgram) (m : Map) (inputs : Inputs) (n k j : ℕ) → IsTrue (is_paid p m.io (lowered p (plain_table m.io)) inputs n k)
@@ -94,13 +105,33 @@ holds_within (Ends es result) (GoesOn fs) t w h = h
 holds_within (Ends es result) (Ends fs other) t w h = h
 holds_within (Ends es result) (Failed point) t w h = absurd w
 
+-- what the steps before main push and pop, behind those that set Y
+stacked_behind : StackStaysInside → (e : Env) (word steps : ℕ) (s : State) (inputs : Inputs) → Fits e 2304 → (b : Begins e word s inputs)
+    → is_safe (run e steps (AtWord b.first.pc (view_of b.first inputs))) ≡ true
+    → (k : ℕ) (before : List Access) (t : State) → k < b.steps + steps → machine k inputs s ≡ Running before t
+    → All (λ at. e.kind at ≡ Stacked) (stack_bytes t)
+stacked_behind inside e word steps s inputs fit b safe k before t less ran =
+    ⊎_elim (λ early. b.stacked k before t early ran) in_code (cases_lt k b.steps)
+  where
+    in_code : b.steps ≤ k → All (λ at. e.kind at ≡ Stacked) (stack_bytes t)
+    in_code late =
+        let j = k - b.steps in
+        let sum : k ≡ b.steps + j = omega (arith, late) in
+        let there : preceded_by b.trace (machine j inputs b.first) ≡ Running before t =
+        sym (b.ran j) ∙ ap (λ n. machine n inputs s) (sym sum) ∙ ran in
+        let rest = behind b.trace (machine j inputs b.first) before t there in
+        inside e 2304 steps j b.first t (view_of b.first inputs) rest.0 fit b.shows safe (omega (arith, less, late)) rest.1
+
 -- from what a machine shows of the operations, whatever is noted of it
-pub runs_as_source : LoweredFollows → MachineIsRun → SourcesAccessPorts
+pub runs_as_source : LoweredFollows → MachineIsRun → SourcesAccessPorts → StackStaysInside
     → (p : PlainProgram) (m : Map) (asm : AsmProgram) (l : Located) (e : Env)
-    (s : State) (inputs : Inputs) → IsTranslated p m asm l → IsReset l.image.core l.image.bytes.items s → GiveBytes inputs
-    → StandAsPorts e (plain_table m.io)
-    → RunsAsOperations (lowered p (plain_table m.io)) (place_of l) e (view_of s inputs) s inputs → RunsAsSource p m l e s inputs
-runs_as_source follows is_run on_ports p m asm l e s inputs h reset give stand r =
+    (s : State) (inputs : Inputs) → IsTranslated p m asm l → GiveBytes inputs → Fits e 2304 → StandAsPorts e (plain_table m.io)
+    → RunsFromReset p m l e s inputs → RunsAsSource p m l e s inputs
+runs_as_source follows is_run on_ports inside p m asm l e s inputs h give fit stand from_reset =
+    let b = from_reset.begins in
+    let r = from_reset.runs in
+    let few = b.few in
+    let more = r.few in
     let table = plain_table m.io in
     let ir = lowered p table in
     let f = follows p m.io h.valid h.groups in
@@ -115,19 +146,22 @@ runs_as_source follows is_run on_ports p m asm l e s inputs h reset give stand r
     (paid_twice p m inputs) (seen_source p m.io l inputs) (λ n. seen_as (accesses p (place_of l)) (meaning_on e ir inputs n))
     (noted_run e inputs r.shows.main) source_seen r.shows.reaches in
     record {
-      steps = r.shows.steps;
-      few = r.few;
-      before = r.shows.before;
-      trace = r.shows.trace;
+      steps = b.steps + r.shows.steps;
+      few = omega (arith, few, more);
+      before = b.trace ++ r.shows.before;
+      trace = b.trace ++ r.shows.trace;
       main = r.shows.main;
-      ran = r.shows.ran;
-      on = r.shows.on;
-      started = r.shows.started;
-      calls = r.shows.calls;
-      copies = r.shows.copies;
+      ran = b.ran r.shows.steps ∙ ap (preceded_by b.trace) r.shows.ran ∙ before_running b.trace r.shows.trace r.shows.main;
+      on = λ k.
+          let sum : b.steps + r.shows.steps + k ≡ b.steps + (r.shows.steps + k) = omega arith in
+          ap (λ n. machine n inputs s) sum ∙ b.ran (r.shows.steps + k) ∙ ap (preceded_by b.trace) (r.shows.on k)
+          ∙ preceded_twice b.trace r.shows.trace (machine k inputs r.shows.main);
+      stacked = stacked_behind inside e from_reset.word r.shows.steps s inputs fit b r.shows.started;
+      calls = ap (λ z. b.trace ++ z) r.shows.calls ∙ sym (append_assoc b.trace r.shows.before (Stack ∷ []));
+      copies = silent_first b.trace r.shows.before b.silent ∙ r.shows.copies;
       reaches = reached;
       view = r.shows.view;
-      shown = subst (λ n. Shows e n r.shows.main.mem r.shows.view) (reset.size ∙ ap data_size h.located.core) r.shows.shown;
+      shown = subst (λ n. Shows e n r.shows.main.mem r.shows.view) b.shows.sized r.shows.shown;
       given = r.shows.given;
       initials = r.shows.initials;
       safe =
@@ -143,10 +177,12 @@ pub record SourceLaws : Type 0 where
   pub machine_run : MachineIsRun
   pub on_ports : SourcesAccessPorts
   pub port_bytes : PortBytesPass
+  pub stack : StackStaysInside
   pub guard : GuardLaws
 
 pub images_run_as_sources : SourceLaws → ImagesRunAsSources
 images_run_as_sources laws p m asm l s inputs h reset give =
-    runs_as_source laws.follows laws.machine_run laws.on_ports p m asm l (placed p m asm l) s inputs h reset give
+    runs_as_source laws.follows laws.machine_run laws.on_ports laws.stack p m asm l (placed p m asm l) s inputs h give
+    (laws.guard.fit p m asm l h.located h.bytes)
     (λ a is. (are_kinds laws.guard p m asm l h).ports a (ports_of_map laws.port_bytes m h.map a is))
     (laws.images p m asm l s inputs h reset give)

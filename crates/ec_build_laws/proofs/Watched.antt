@@ -6,18 +6,13 @@ use Rattle.ec_asm.specs.Change.{Env, Kind, Own, Object, Port, Stacked, Barred}
 use Rattle.ec_asm.specs.Shows.{Fits, may_be, in_flash}
 use Rattle.ec_asm.specs.declared.items.AsmProgram.{AsmProgram}
 use Rattle.ec_core.specs.Plain.{PlainProgram}
-use Rattle.ec_core.specs.PortTable.{plain_table}
 use Rattle.ec_map.specs.declared.map.Map.{Map}
 use Rattle.ec_locate.specs.declared.placing.Located.{Located}
-use Rattle.ec_select.specs.LaidOut.{IsLaidOut}
-use Rattle.ec_lower_code.specs.Code.{lowered}
-use Rattle.ec_build_laws.specs.Kinds.{is_byte_of, is_of_objects, is_of_scratch, register_kind, memory_kind, kinds, place_of}
-use Rattle.ec_build_laws.specs.Kinds.{scratch_of}
+use Rattle.ec_build_laws.specs.Kinds.{is_byte_of, is_of_objects, is_of_scratch, register_kind, memory_kind, kinds, environment_of}
 use Rattle.ec_space.specs.declared.space.Bank.TheVariants.{Data}
 use Rattle.ec_space.specs.Bytes.{AreBytes}
 use Rattle.ec_locate.specs.Placing.{IsLocated}
-use Rattle.ec_locate.specs.Stands.{environment}
-use Rattle.ec_build_laws.specs.Laws.{AreKinds}
+use Rattle.ec_build_laws.specs.Laws.{AreKinds, AreLaidOut}
 use Rattle.ec_build_laws.specs.Translation.{IsTranslated}
 use Rattle.ec_build_laws.proofs.ByAddress.{register_may_be, memory_may_be, memory_is_no_port, flash_length}
 use Rattle.ec_build_laws.proofs.Laid.{PlacedLaws, HasKinds, are_kinds_of, laid_out}
@@ -38,7 +33,7 @@ abbrev pub watched_tables : ℕ → Kind
 watched_tables a = if nat_lt a 32768 then Object else Barred
 
 abbrev pub watched : PlainProgram → Map → AsmProgram → Located → Env
-watched p m asm l = environment p m asm l (watched_kinds p m asm l) watched_tables
+watched p m asm l = environment_of p m asm l (watched_kinds p m asm l) watched_tables
 
 stays : (x k : Kind) → x ≡ k → k ≢ Barred → if_barred x ≡ k
 stays Own k q other = q
@@ -119,13 +114,14 @@ module _ (p : PlainProgram) (m : Map) (asm : AsmProgram) (l : Located) where
     kinds = watched_may_be;
     table = λ a. watched_in_flash (length l.image.bytes.items) a (flash_length p m asm l located);
     code = bytes;
+    base = λ below. (refl, refl);
   }
 
   -- ---- that code can stand
 
   pub watched_has_kinds : AreKinds p m asm l → HasKinds p m asm l (watched_kinds p m asm l) watched_tables
   watched_has_kinds are = record {
-    registers = λ a core other. watched_as a Own (are.registers a core other) (λ q. cc);
+    registers = λ a core seen. watched_as a Own (are.registers a core seen) (λ q. cc);
     objects = λ a i o q h named. watched_as a Object (are.objects a i o q h named) (λ q. cc);
     scratch = λ f frame at a is there from below. watched_as a Own (are.scratch f frame at a is there from below) (λ q. cc);
     work = λ a from below. watched_as a Own (are.work a from below) (λ q. cc);
@@ -134,7 +130,7 @@ module _ (p : PlainProgram) (m : Map) (asm : AsmProgram) (l : Located) where
     tables = λ a i o q low b. rw (lt-ltb a 32768 low) refl;
   }
 
-pub watched_are_laid_out : PlacedLaws → (p : PlainProgram) (m : Map) (asm : AsmProgram) (l : Located) → IsTranslated p m asm l
-    → IsLaidOut (lowered p (plain_table m.io)) asm (watched p m asm l) (place_of l) (scratch_of asm l) m.stack.first
+pub watched_are_laid_out : PlacedLaws → (p : PlainProgram) (m : Map) (asm : AsmProgram) (l : Located) → (h : IsTranslated p m asm l)
+    → AreLaidOut p m h.selected asm l (watched p m asm l)
 watched_are_laid_out laws p m asm l h =
     laid_out laws p m asm l h (watched_kinds p m asm l) watched_tables (watched_has_kinds p m asm l (are_kinds_of laws p m asm l h))

@@ -63,7 +63,8 @@ use Rattle.ec_build_laws.proofs.Laid.{PlacedLaws, are_kinds_of, is_copied}
 use Rattle.ec_build_laws.proofs.Copied.{are_copies}
 use Rattle.ec_build_laws.proofs.Pointers.{initial_is_told}
 use Rattle.ec_build_laws.proofs.Ports.{ports_of_map}
-use Rattle.ec_build_laws.proofs.Ran.{reset_shows, runs_as_operations, runs_as_source}
+use Rattle.ec_build_laws.proofs.Begun.{BeginLaws}
+use Rattle.ec_build_laws.proofs.Ran.{runs_as_operations, runs_as_source}
 use Rattle.ec_build_laws.proofs.Watched.{watched_kinds, watched_tables, watched, watched_as, watched_has_kinds, watched_was}
 use Rattle.ec_build_laws.proofs.Watched.{watched_fits, watched_are_laid_out}
 use Rattle.ec_build_laws.proofs.Writes.{IsKeptInData, WritesData, writes_in_data}
@@ -76,6 +77,7 @@ pub record WholeLaws : Type 0 where
   pub machine_run : MachineIsRun
   pub turns : MoreTurnsOnlyAdd
   pub stack : StackStaysInside
+  pub begin : BeginLaws
   pub allowed : AccessesAreAllowed
   pub home : EventsAreAtHome
   pub on_ports : SourcesAccessPorts
@@ -172,9 +174,9 @@ module _ (laws : WholeLaws) (p : PlainProgram) (m : Map) (asm : AsmProgram) (l :
 
   r : RunsAsSource p m l e s inputs
   r =
-      runs_as_source laws.follows laws.machine_run laws.on_ports p m asm l e s inputs h reset give
+      runs_as_source laws.follows laws.machine_run laws.on_ports laws.stack p m asm l e s inputs h give fit
       (λ a is. watched_as p m asm l a Port (are.ports a (ports_of_map laws.port_bytes m h.map a is)) (λ z. cc))
-      (runs_as_operations laws.laid.made laws.selections p m asm l e s inputs h reset give refl fit
+      (runs_as_operations laws.laid.made laws.selections laws.begin p m asm l e s inputs h reset give refl fit
       (watched_are_laid_out laws.laid p m asm l h))
 
   -- ---- accesses
@@ -269,7 +271,7 @@ module _ (laws : WholeLaws) (p : PlainProgram) (m : Map) (asm : AsmProgram) (l :
         (meaning_before laws.turns p m inputs);
     spaces = spaces;
     live = record { accesses = laws.live p; parts = laws.parts p (plain_table m.io) inputs };
-    start_stack = start_pushes p m l e s inputs r laws.stack fit in_region (reset_shows p m asm l e s inputs h refl reset give);
+    start_stack = start_pushes p m l e s inputs r laws.stack fit in_region;
     stack = pushes p m l e s inputs r laws.stack fit in_region;
   }
 

@@ -7,6 +7,7 @@ use Rattle.ec_space.specs.declared.space.Place.{Place}
 use Rattle.ec_avr.specs.State.{is_core_register}
 use Rattle.ec_asm.specs.Change.{Env, Kind, Own, Object, Port, Stacked, Barred}
 use Rattle.ec_asm.specs.declared.items.AsmProgram.{AsmProgram}
+use Rattle.ec_asm_based.specs.Based.{base_set}
 use Rattle.ec_core.specs.Layout.{size_of_type}
 use Rattle.ec_core.specs.Plain.{PlainStruct, PlainObject, PlainProgram}
 use Rattle.ec_map.specs.declared.map.Map.{Map}
@@ -45,10 +46,14 @@ is_of_scratch (frame ∷ frames) (at ∷ ats) a = is_byte_of at (frame_size fram
 
 -- ---- what stands there
 
--- The registers are code's own, also those that a program names, since their accesses are no events. So is the stack
--- pointer, but no code looks at SREG
+-- no code looks at SREG, or at Y's registers by their addresses
+abbrev pub is_hidden : ℕ → Bool
+is_hidden a = a == 0x5F || (a == 28 || a == 29)
+
+-- the other registers are code's own, also those that a program names, since their accesses are no events, and so is the
+-- stack pointer
 abbrev pub register_kind : ℕ → Kind
-register_kind a = if a == 0x5F then Barred else if is_core_register a then Own else Port
+register_kind a = if is_hidden a then Barred else if is_core_register a then Own else Port
 
 abbrev pub memory_kind : PlainProgram → Map → AsmProgram → Located → ℕ → Kind
 memory_kind p m asm l a =
@@ -71,8 +76,12 @@ tables p m asm l a =
 
 -- ---- the whole
 
+-- where its code is placed, with Y as the code sets it
+abbrev pub environment_of : PlainProgram → Map → AsmProgram → Located → (kind table : ℕ → Kind) → Env
+environment_of p m asm l kind table = record (environment p m asm l kind table) { base = base_set asm.items.items }
+
 abbrev pub placed : PlainProgram → Map → AsmProgram → Located → Env
-placed p m asm l = environment p m asm l (kinds p m asm l) (tables p m asm l)
+placed p m asm l = environment_of p m asm l (kinds p m asm l) (tables p m asm l)
 
 -- the address of each object
 abbrev pub place_of : Located → ℕ → ℕ

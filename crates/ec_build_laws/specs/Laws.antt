@@ -1,11 +1,13 @@
 -- The operations of a program have code.
-use Rattle.std.specs.Prelude.{ℕ, ◌≡◌, ◌≢◌, ◌+◌, ◌<◌, ◌≤◌, IsTrue, Some, slice_get}
+use Rattle.std.specs.Prelude.{ℕ, ◌≡◌, ◌≢◌, ◌⊎◌, ◌+◌, ◌/◌, ◌%◌, ◌<◌, ◌≤◌, false, IsTrue, Some, slice_get}
 use Rattle.ec_space.specs.Bytes.{AreBytes}
 use Rattle.ec_space.specs.declared.space.Bank.{Bank}
 use Rattle.ec_space.specs.declared.space.Bank.TheVariants.{Data}
 use Rattle.ec_space.specs.declared.space.Place.{Place}
 use Rattle.ec_avr.specs.State.{is_core_register, is_port}
-use Rattle.ec_asm.specs.Change.{Own, Object, Port, Stacked}
+use Rattle.ec_isa.specs.declared.instructions.Instr.TheVariants.{Ldi}
+use Rattle.ec_asm.specs.Change.{Env, unbased, Own, Object, Port, Stacked}
+use Rattle.ec_asm.specs.Items.{At}
 use Rattle.ec_asm.specs.Shows.{Fits}
 use Rattle.ec_asm.specs.Valid.{ValidAsm}
 use Rattle.ec_asm.specs.declared.items.AsmProgram.{AsmProgram}
@@ -21,7 +23,7 @@ use Rattle.ec_locate.specs.Placing.{IsLocated, object_sizes}
 use Rattle.ec_locate.specs.declared.placing.Located.{Located}
 use Rattle.ec_lower_code.specs.Code.{lowered}
 use Rattle.ec_select.specs.LaidOut.{IsLaidOut}
-use Rattle.ec_build_laws.specs.Kinds.{kinds, placed, place_of, scratch_of}
+use Rattle.ec_build_laws.specs.Kinds.{is_hidden, kinds, placed, place_of, scratch_of}
 use Rattle.ec_build_laws.specs.Translation.{IsTranslated}
 use Rattle.ec_iohw.specs.declared.table.IoTable.{IoTable}
 use Rattle.ec_ir.specs.Operations.{PlainIrProgram}
@@ -56,11 +58,11 @@ pub data IsOwnByte (asm : AsmProgram) (l : Located) : ℕ → Type 0 where
       → at ≤ a → a < at + frame_size frame → IsOwnByte asm l a
   of_work : (a : ℕ) → l.work ≤ a → a < l.work + 64 → IsOwnByte asm l a
 
--- Registers, scratch memory and work bytes are code's own, ports are ports, and the bytes of region `stack` are the
--- stack's. All bytes of objects are told to be such, but those of named registers. No other bytes are told to be any of
+-- Registers but Y's, scratch memory and work bytes are code's own, ports are ports, and the bytes of region `stack` are
+-- the stack's. All bytes of objects are told to be such, but those of named registers. No other bytes are told to be any of
 -- these
 pub record AreKinds (p : PlainProgram) (m : Map) (asm : AsmProgram) (l : Located) : Type 0 where
-  pub registers : (a : ℕ) → IsTrue (is_core_register a) → a ≢ 0x5F → kinds p m asm l a ≡ Own
+  pub registers : (a : ℕ) → IsTrue (is_core_register a) → is_hidden a ≡ false → kinds p m asm l a ≡ Own
   pub ports : (a : ℕ) → IsTrue (is_port a) → kinds p m asm l a ≡ Port
   pub objects : (a i : ℕ) (o : PlainObject) (q : Place) → IsByteOf p l Data a i o q → IsAddressable o.storage
       → kinds p m asm l a ≡ Object
@@ -86,11 +88,23 @@ KindsFit =
 
 -- ---- the whole
 
--- code, objects and stack of a placed program stand as its code asks
+-- Y is free and the code begins at word 0, or the first two words set Y to the base and the code begins behind them
+abbrev pub SetsBase : Env → (begin : ℕ) → Type 0
+SetsBase e begin =
+    ((65536 ≤ e.base) × (begin ≡ 0))
+    ⊎ ((e.base < 65536) × (begin ≡ 2) × At (unbased e) (Ldi 28 (e.base % 256)) 0 1
+    × At (unbased e) (Ldi 29 (e.base / 256)) 1 2)
+
+-- code, objects and stack stand as the code of the operations asks
+pub record AreLaidOut (p : PlainProgram) (m : Map) (selected asm : AsmProgram) (l : Located) (e : Env) : Type 0 where
+  pub laid : IsLaidOut (lowered p (plain_table m.io)) selected e (place_of l) (scratch_of asm l) m.stack.first
+  pub sets : SetsBase e laid.code.begin
+
+-- those of a placed program do
 abbrev pub PlacedAreLaidOut : Type 0
 PlacedAreLaidOut =
-    (p : PlainProgram) (m : Map) (asm : AsmProgram) (l : Located) → IsTranslated p m asm l
-    → IsLaidOut (lowered p (plain_table m.io)) asm (placed p m asm l) (place_of l) (scratch_of asm l) m.stack.first
+    (p : PlainProgram) (m : Map) (asm : AsmProgram) (l : Located) (h : IsTranslated p m asm l)
+    → AreLaidOut p m h.selected asm l (placed p m asm l)
 
 -- all operations have code, and put their results in place
 pub record HasCodeInPlace (ir : PlainIrProgram) : Type 0 where

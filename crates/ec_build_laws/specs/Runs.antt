@@ -1,12 +1,14 @@
 -- What a placed program does, from every reset state on.
-use Rattle.std.specs.Prelude.{ℕ, ◌≡◌, ◌+◌, ◌≤◌, nat_le, Bool, true, ℤ, List, [], ◌∷◌, ◌++◌, sum_by, slice_index}
+use Rattle.std.specs.Prelude.{ℕ, ◌≡◌, ◌+◌, ◌<◌, ◌≤◌, nat_le, Bool, true, ℤ, List, [], ◌∷◌, ◌++◌, sum_by, slice_index, All}
+use Rattle.std.specs.List.{AllByRecursion}
 use Rattle.ec_runs.specs.Behaviours.{Behaviour, Reaches, IsWithin, seen_as}
 use Rattle.ec_avr.specs.declared.machine.Access.{Access}
-use Rattle.ec_avr.specs.declared.machine.Access.TheVariants.{Stack}
+use Rattle.ec_avr.specs.declared.machine.Access.TheVariants.{Silent, Stack}
 use Rattle.ec_avr.specs.Machine.{State, Inputs, Running, machine, IsReset}
+use Rattle.ec_avr.specs.Placed.{stack_bytes}
 use Rattle.ec_avr.specs.Runs.{preceded_by}
 use Rattle.ec_asm.specs.Behaves.{noted_run}
-use Rattle.ec_asm.specs.Change.{Env}
+use Rattle.ec_asm.specs.Change.{Env, Stacked}
 use Rattle.ec_asm.specs.Run.{Running as AtWord, run, is_safe}
 use Rattle.ec_asm.specs.Shows.{Shows}
 use Rattle.ec_asm.specs.View.{View, bytes_of, flags_of}
@@ -43,13 +45,33 @@ view_of s inputs = record {
   safe = true;
 }
 
--- from every reset state a placed program does what its operations do, as long as they access none but ports of the
--- machine
+-- In at most two steps, which are silent, the machine comes to a word where Y is as an environment tells. Up to there
+-- the bytes that a step pushes or pops are the stack's
+pub record Begins (e : Env) (word : ℕ) (s : State) (inputs : Inputs) : Type 0 where
+  pub steps : ℕ
+  pub few : steps ≤ 2
+  pub trace : List Access
+  pub silent : AllByRecursion (λ a. a ≡ Silent) trace
+  pub first : State
+  pub ran : (k : ℕ) → machine (steps + k) inputs s ≡ preceded_by trace (machine k inputs first)
+  pub at : first.pc ≡ word
+  pub shows : Shows e 2304 first.mem (view_of first inputs)
+  pub stacked : (k : ℕ) (before : List Access) (t : State) → k < steps → machine k inputs s ≡ Running before t
+      → All (λ at. e.kind at ≡ Stacked) (stack_bytes t)
+
+-- from there on it does what the operations do, as long as they access none but ports of the machine
+pub record RunsFromReset (p : PlainProgram) (m : Map) (l : Located) (e : Env) (s : State) (inputs : Inputs) : Type 0 where
+  pub word : ℕ
+  pub begins : Begins e word s inputs
+  pub runs : RunsAsOperations (lowered p (plain_table m.io)) (place_of l) e (view_of begins.first inputs) begins.first
+      inputs
+
+-- so does a placed program from every reset state
 abbrev pub ImagesRun : Type 0
 ImagesRun =
     (p : PlainProgram) (m : Map) (asm : AsmProgram) (l : Located) (s : State) (inputs : Inputs)
     → IsTranslated p m asm l → IsReset l.image.core l.image.bytes.items s → GiveBytes inputs
-    → RunsAsOperations (lowered p (plain_table m.io)) (place_of l) (placed p m asm l) (view_of s inputs) s inputs
+    → RunsFromReset p m l (placed p m asm l) s inputs
 
 -- ---- beside the source
 
@@ -65,8 +87,8 @@ seen_source p io l inputs n = seen_as (accesses p (place_of l)) (source p (plain
 abbrev pub is_within_work : PlainProgram → IoTable → Inputs → (n steps : ℕ) → Bool
 is_within_work p io inputs n steps = nat_le steps (work p (plain_table io) inputs n)
 
--- In a number of steps the machine comes to where main begins, with no access that is barred. The last of these steps
--- is the call of main, and all accesses before it, but the silent ones, are those that copy the initial bytes. From main
+-- In a number of steps the machine comes to where main begins, and up to there the bytes that a step pushes or pops are
+-- the stack's. The last of these steps is the call of main, and all accesses before it, but the silent ones, are those that copy the initial bytes. From main
 -- on the machine shows all that the source shows, within its work, and never more. A view shows the state where main
 -- begins, with the initial values of the objects, and its run makes no access that is barred. What is noted and what is
 -- barred is as an environment tells
@@ -79,7 +101,8 @@ pub record RunsAsSource (p : PlainProgram) (m : Map) (l : Located) (e : Env) (s 
   pub main : State
   pub ran : machine steps inputs s ≡ Running trace main
   pub on : (k : ℕ) → machine (steps + k) inputs s ≡ preceded_by trace (machine k inputs main)
-  pub started : is_safe (run e steps (AtWord s.pc (view_of s inputs))) ≡ true
+  pub stacked : (k : ℕ) (before : List Access) (t : State) → k < steps → machine k inputs s ≡ Running before t
+      → All (λ at. e.kind at ≡ Stacked) (stack_bytes t)
   pub calls : trace ≡ before ++ Stack ∷ []
   pub copies : all_but_silent before ≡ all_accesses e (spans_of (lowered p (plain_table m.io)))
   pub reaches : Reaches (is_within_work p m.io inputs) (seen_source p m.io l inputs) (noted_run e inputs main)

@@ -1,14 +1,17 @@
 //! The law of lowered programs: the function proves it, and does nothing.
 ghost use Rattle.ec_build_laws.specs.Laws.{KindsAreTold, KindsFit, PlacedAreLaidOut};
 ghost use Rattle.ec_build_laws.specs.Runs.{ImagesRun, ImagesRunAsSources};
+ghost use Rattle.ec_build_laws.specs.Shortened.{ShortenedIsValid};
 ghost use Rattle.ec_build_laws.specs.Shown.{ImagesShowTheirSources};
 ghost use Rattle.ec_build_laws.specs.Spaces.{NotedAreOfObjects, EventsStayInSpaces};
 ghost use Rattle.ec_build_laws.specs.Whole.{ProgramsShowTheirSources};
 ghost use Rattle.ec_build_laws.specs.Laws.{LoweredProgramsHaveCode};
 
-use ec_asm::laws::{placed_items_stand, stack_stays_inside};
+use ec_asm::laws::{machine_runs_as_view, placed_items_stand, stack_stays_inside};
 use ec_asm_accesses::accesses_are_allowed;
-use ec_avr::runs_are_steps;
+use ec_asm_based::laws::{based_code_stands, based_items_are_short, based_items_are_valid};
+use ec_asm_near::laws::{near_code_stands, near_items_are_short, near_items_are_valid};
+use ec_avr::{runs_are_steps, steps_are_of_instructions};
 use ec_core::{events_are_at_home, more_turns_only_add, parts_only_add};
 use ec_core_accesses::{accesses_are_live, port_bytes_pass, sources_access_ports};
 use ec_locate::{
@@ -17,7 +20,17 @@ use ec_locate::{
 use ec_lower_code::{lowered_follows, lowered_is_made_of_its_program, operations_stay_on_ports};
 use ec_select::{operations_have_code, selections_are_valid, selections_run};
 
-/// What stands at each data address of a placed program: registers, scratch memory and work bytes are code's own, the
+/// Code that can be placed can be placed shortened, and has no more words then.
+pub fn shortened_code_is_valid()
+    ensures { ShortenedIsValid }
+{
+    based_items_are_short();
+    based_items_are_valid();
+    near_items_are_short();
+    near_items_are_valid();
+}
+
+/// What stands at each data address of a placed program: registers but Y's, scratch memory and work bytes are code's own, the
 /// bytes of region `stack` are the stack's, and the bytes of objects are told to be such. No other bytes are told to be
 /// any of these. All of it suits the data addresses and the flash of the core `small`.
 pub fn kinds_are_told()
@@ -27,10 +40,15 @@ pub fn kinds_are_told()
     data_stands_apart();
 }
 
-/// The code of a placed program, its objects and its stack stand as the code asks.
+/// The code of a placed program, its objects and its stack stand as the code asks, behind what sets Y where that holds a
+/// base.
 pub fn placed_are_laid_out()
     ensures { PlacedAreLaidOut }
 {
+    based_code_stands();
+    based_items_are_valid();
+    near_code_stands();
+    shortened_code_is_valid();
     code_stands();
     data_stands_apart();
     flash_stands_apart();
@@ -50,7 +68,10 @@ pub fn images_run()
     kinds_are_told();
     placed_are_laid_out();
     lowered_is_made_of_its_program();
+    machine_runs_as_view();
     selections_run();
+    stack_stays_inside();
+    steps_are_of_instructions();
 }
 
 /// From every reset state a placed program does what its source does: from `main` on the machine shows all that the
@@ -65,7 +86,9 @@ pub fn images_run_as_sources()
     port_bytes_pass();
     runs_are_steps();
     selections_are_valid();
+    shortened_code_is_valid();
     sources_access_ports();
+    stack_stays_inside();
 }
 
 /// From every reset state the machine of a placed program comes to `main` in a few steps. Before the call of `main` it
@@ -81,6 +104,7 @@ pub fn images_show_their_sources()
     more_turns_only_add();
     runs_are_steps();
     selections_are_valid();
+    shortened_code_is_valid();
     stack_stays_inside();
 }
 
@@ -93,6 +117,7 @@ pub fn accesses_stay_in_spaces()
     kinds_are_told();
     lowered_is_made_of_its_program();
     selections_are_valid();
+    shortened_code_is_valid();
     events_are_at_home();
 }
 
@@ -108,6 +133,8 @@ pub fn programs_show_their_sources()
 {
     accesses_are_allowed();
     accesses_are_live();
+    based_code_stands();
+    based_items_are_valid();
     code_stands();
     data_stands_apart();
     events_are_at_home();
@@ -115,7 +142,9 @@ pub fn programs_show_their_sources()
     initial_values_stand();
     lowered_follows();
     lowered_is_made_of_its_program();
+    machine_runs_as_view();
     more_turns_only_add();
+    near_code_stands();
     placed_items_stand();
     placed_stand_apart();
     port_bytes_pass();
@@ -123,8 +152,10 @@ pub fn programs_show_their_sources()
     runs_are_steps();
     selections_are_valid();
     selections_run();
+    shortened_code_is_valid();
     sources_access_ports();
     stack_stays_inside();
+    steps_are_of_instructions();
 }
 
 /// The operations of a valid program have code, and put the result of a bitwise operator to the place of its first

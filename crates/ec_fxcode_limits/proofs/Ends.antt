@@ -7,11 +7,11 @@ use Rattle.ec_asm.specs.declared.pieces.Location.{Location}
 use Rattle.ec_asm.specs.declared.pieces.Location.TheVariants.{InRegisters, InMemory}
 use Rattle.ec_asm.specs.View.{View}
 use Rattle.ec_asm.specs.Change.{Env, Own}
-use Rattle.ec_asm.specs.Items.{HasAt, block, all_straight, code_steps, code_words, item_words}
+use Rattle.ec_asm.specs.Items.{block, all_straight, code_steps, code_words, item_words}
 use Rattle.ec_asm.specs.Pieces.{StandsFrom, Outside, value}
 use Rattle.ec_asm.proofs.Bytes.{put_here, put_other}
-use Rattle.ec_asm.proofs.Hoare.{block-append, has_parts, straight-append, chain_straight, steps-append, steps-chain}
-use Rattle.ec_asm.proofs.ItemWords.{chain_words}
+use Rattle.ec_asm.proofs.Hoare.{block-append, straight-append, chain_straight, steps-append, steps-chain}
+use Rattle.ec_asm.proofs.ItemWords.{chain_words, all_far, far-append, chain_far, own_far}
 use Rattle.ec_fxcode.specs.Clamps.{put_byte, fills_code}
 use Rattle.ec_fxcode.specs.ClampLaws.{IsClearOfEnds}
 use Rattle.ec_fxcode.proofs.Alike.{zeros, ones}
@@ -104,17 +104,28 @@ end_takes minus signed q n =
     let d = put_takes q n in
     omega (arith, steps-append fill (low ++ (top ++ last)), steps-append low (top ++ last), steps-append top last, a, b, c, d)
 
--- it ends below 65,536
-put_room : (e : Env) (q : Location) (i pc end : ℕ) → HasAt e (put_byte 31 q i) pc end → end < 65536
-put_room e (InRegisters r) i pc end h = let room = h.1.room in omega (arith, room, h.2)
-put_room e (InMemory o k) i pc end h = let room = h.1.room in omega (arith, room, h.2)
+-- all its bytes in memory are those of the place
+fill_far : (e : Env) (minus signed : Bool) → all_far e (fill_code minus signed) ≡ true
+fill_far e false true = refl
+fill_far e true true = refl
+fill_far e false false = refl
+fill_far e true false = refl
 
-pub end_room : (e : Env) (minus signed : Bool) (q : Location) (n pc end : ℕ) → HasAt e (end_code minus signed q n) pc end → end < 65536
-end_room e minus signed q n pc end h =
-    let a = has_parts e (fill_code minus signed) (fills_code q 0 n ++ (top_code signed ++ put_byte 31 q n)) pc end h in
-    let b = has_parts e (fills_code q 0 n) (top_code signed ++ put_byte 31 q n) a.0 end a.2 in
-    let c = has_parts e (top_code signed) (put_byte 31 q n) b.0 end b.2 in
-    put_room e q n c.0 end c.2
+top_far : (e : Env) (signed : Bool) → all_far e (top_code signed) ≡ true
+top_far e true = refl
+top_far e false = refl
+
+put_far : (e : Env) (q : Location) (i n b : ℕ) → StandsFrom e q n b Own → i < n → all_far e (put_byte 31 q i) ≡ true
+put_far e (InRegisters r) i n b st l = refl
+put_far e (InMemory o k) i n b st l = rw (own_far e o k i n b st l) refl
+
+pub end_far : (e : Env) (minus signed : Bool) (q : Location) (n b : ℕ) → StandsFrom e q (suc n) b Own
+    → all_far e (end_code minus signed q n) ≡ true
+end_far e minus signed q n b st =
+    far-append e (fill_code minus signed) (fills_code q 0 n ++ (top_code signed ++ put_byte 31 q n)) (fill_far e minus signed)
+    (far-append e (fills_code q 0 n) (top_code signed ++ put_byte 31 q n)
+    (chain_far e (λ i. put_byte 31 q (0 + i)) (n - 0) (λ i l. put_far e q (0 + i) (suc n) b st (omega (arith, l))))
+    (far-append e (top_code signed) (put_byte 31 q n) (top_far e signed) (put_far e q n (suc n) b st (omega arith))))
 
 -- ---- the bytes
 

@@ -22,7 +22,7 @@ use Rattle.ec_asm.specs.Pieces.{StandsFrom, Outside, Keeps, value, operate_code}
 use Rattle.ec_asm.specs.PieceLaws.{HoldsNumbers, IsReadFirst}
 use Rattle.ec_asm.specs.Takes.{Goes}
 use Rattle.ec_asm.proofs.Hoare.{has_parts, block_goes, goes_on_to}
-use Rattle.ec_asm.proofs.ItemWords.{straight_ends, words_cons}
+use Rattle.ec_asm.proofs.ItemWords.{straight_room, words_cons}
 use Rattle.ec_asm.proofs.Numbers.{pow_pos, value_below}
 use Rattle.ec_asm.proofs.Results.{pieces_are_straight, pieces_take, sums_are_right, differences_are_right}
 use Rattle.ec_fxcode.specs.ClampLaws.{HoldsResult, IsClearOfEnds}
@@ -34,7 +34,7 @@ use Rattle.ec_fxcode_limits.specs.Limits.{fill_words, top_words, byte_words}
 use Rattle.ec_fxcode_limits.specs.LimitLaws.{added, LimitedSumsAreRight, LimitsHave}
 use Rattle.ec_fxcode_limits.proofs.Numbers.{ComesOut, sum_out, plain_sum_out, difference_out, plain_difference_out}
 use Rattle.ec_fxcode_limits.proofs.Flags.{sum_is, difference_is}
-use Rattle.ec_fxcode_limits.proofs.Ends.{end_straight, end_has, end_takes, end_room, fill_of, top_of, Ends, ends, signed_top, signed_bottom}
+use Rattle.ec_fxcode_limits.proofs.Ends.{end_straight, end_has, end_takes, end_far, fill_of, top_of, Ends, ends, signed_top, signed_bottom}
 use Rattle.ec_fxcode_limits.proofs.Ends.{plain_top, plain_bottom}
 
 -- ---- a number as a value of a format
@@ -232,8 +232,9 @@ stopped e minus signed q n b pc end w f mode t s clear held bit h stands =
     let a2 = over.room in
     let size = end_has minus signed q n in
     let straight = end_straight minus signed q n in
-    let there = straight_ends e (end_code minus signed q n) mid end straight code in
-    let room = end_room e minus signed q n mid end code in
+    let stood = straight_room e (end_code minus signed q n) mid end straight (end_far e minus signed q n b s) code in
+    let there = stood.0 in
+    let room = stood.1 a2 in
     ⊎_elim
     (λ (clear_flag : flag_at w.flags flag ≡ 0).
     let to : (pc + 1 + words) % 65536 ≡ end = omega (arith, a1, there, size, room) in

@@ -21,7 +21,7 @@ use Rattle.ec_fxcode.proofs.Moves.{clear_byte}
 use Rattle.ec_fxcode_scales.specs.ScaleLaws.{Brings}
 use Rattle.ec_fxcode_placed.specs.Shifts.{half_code, half_words, again_code, rounded_code}
 use Rattle.ec_fxcode_placed.proofs.Toward.{IsToward, not_turned, turned_again, halves}
-use Rattle.ec_fxcode_placed.proofs.Words.{half_straight, half_takes, half_has_words}
+use Rattle.ec_fxcode_placed.proofs.Words.{half_straight, half_far, half_takes, half_has_words}
 
 pub beside_30 : (a n : ℕ) → IsClearOfEnds a n → Outside a n 30
 beside_30 a n c l = let below = c.below in let above = c.above in grind arith
@@ -34,7 +34,7 @@ module _ (e : Env) (p : Location) (n a : ℕ) (st : StandsFrom e p (suc n) a Own
 
   -- where one bit ends
   ends : count ≡ start + code_size
-  ends = straight_ends e (half_code p (suc n)) start count (half_straight p (suc n)) turn
+  ends = straight_ends e (half_code p (suc n)) start count (half_straight p (suc n)) (half_far e p n a st) turn
       ∙ ap (λ k. start + k) (half_has_words p (suc n))
 
   counted : (v : View) → Goes e 1 count v test (change e (Dec 30) v)
@@ -153,7 +153,7 @@ rounds e p n a pc end v st clear h l stands =
     let a1 = first.ends in
     let b1 = dec.1.ends in
     let b2 = dec.1.room in
-    let c1 = straight_ends e turn stands.0 parts.0 (half_straight p (suc n)) parts.1 in
+    let c1 = straight_ends e turn stands.0 parts.0 (half_straight p (suc n)) (half_far e p n a st) parts.1 in
     let c2 = half_has_words p (suc n) in
     let to : (pc + 1 + w) % 65536 ≡ parts.0 = omega (arith, a1, b1, b2, c1, c2) in
     let goes : Goes e 1 pc v parts.0 v = record { by = ap (λ o. act e o pc v) first.is ∙ ap (λ k. Running k v) to } in

@@ -1,13 +1,15 @@
 -- The form of the code: the words and steps of one bit, and the words of the whole.
-use Rattle.std.proofs.Common.{◌≡◌, ℕ, zero, suc, ◌+◌, ◌-◌, ◌*◌, ◌≤◌, true, false, refl, arith, ◌++◌}
+use Rattle.std.proofs.Common.{◌≡◌, ℕ, zero, suc, ◌+◌, ◌-◌, ◌*◌, ◌<◌, ◌≤◌, true, false, refl, arith, ◌++◌}
 use Rattle.std.proofs.lemmas.List.Sums.{sum_by-append}
 use Rattle.ec_asm.specs.declared.pieces.Location.{Location}
 use Rattle.ec_asm.specs.declared.pieces.Location.TheVariants.{InRegisters, InMemory}
 use Rattle.ec_asm.specs.declared.pieces.Operator.TheVariants.{Sum}
 use Rattle.ec_asm.specs.Items.{all_straight, code_steps, code_words, item_words}
-use Rattle.ec_asm.specs.Pieces.{halve_code}
+use Rattle.ec_asm.specs.Change.{Env, Own}
+use Rattle.ec_asm.specs.Pieces.{StandsFrom, halve_code}
 use Rattle.ec_asm.proofs.Hoare.{straight-append, steps-append}
-use Rattle.ec_asm.proofs.ItemWords.{chain_words}
+use Rattle.ec_asm.proofs.Far.{halve_far}
+use Rattle.ec_asm.proofs.ItemWords.{chain_words, all_far, far-append, chain_far, own_far}
 use Rattle.ec_asm.proofs.Results.{pieces_are_straight, pieces_take}
 use Rattle.ec_select_shifts.specs.declared.shifts.Direction.{Direction}
 use Rattle.ec_select_shifts.specs.declared.shifts.Direction.TheVariants.{Left, Right}
@@ -31,6 +33,21 @@ half_straight p n =
     straight-append (sign_code p n) (raise_code p n ++ halve_code true p n) (sign_short p n).straight
     (straight-append (raise_code p n) (halve_code true p n) (chained (raise_byte p) n 3 5 (raise_byte_short p)).straight
     ((pieces_are_straight Sum p p n).3 true))
+
+-- all its bytes in memory are those of the place
+sign_far : (e : Env) (p : Location) (n a : ℕ) → StandsFrom e p (suc n) a Own → all_far e (sign_code p (suc n)) ≡ true
+sign_far e (InRegisters r) n a st = refl
+sign_far e (InMemory o k) n a st = rw (own_far e o k (suc n - 1) (suc n) a st (omega arith)) refl
+
+raised_far : (e : Env) (p : Location) (i n a : ℕ) → StandsFrom e p n a Own → i < n → all_far e (raise_byte p i) ≡ true
+raised_far e (InRegisters r) i n a st l = refl
+raised_far e (InMemory o k) i n a st l = rw (own_far e o k i n a st l) refl
+
+pub half_far : (e : Env) (p : Location) (n a : ℕ) → StandsFrom e p (suc n) a Own → all_far e (half_code p (suc n)) ≡ true
+half_far e p n a st =
+    far-append e (sign_code p (suc n)) (raise_code p (suc n) ++ halve_code true p (suc n)) (sign_far e p n a st)
+    (far-append e (raise_code p (suc n)) (halve_code true p (suc n))
+    (chain_far e (raise_byte p) (suc n) (λ i l. raised_far e p i (suc n) a st l)) (halve_far e true p (suc n) a st))
 
 pub half_takes : (p : Location) (n : ℕ) → code_steps (half_code p n) ≤ 3 + 6 * n
 half_takes p n =

@@ -24,7 +24,7 @@ use Rattle.ec_select_quotients.proofs.Long.{Long, begun, not_taken, taken}
 use Rattle.ec_fxcode_quotients.specs.Quotients.{remainder_at, number_at, bring_code, bring_words, take_code, take_words, skip_code}
 use Rattle.ec_fxcode_quotients.specs.Quotients.{turn_code, turn_words, turns_code}
 use Rattle.ec_fxcode_quotients.proofs.Rows.{AreRows, brings, takes}
-use Rattle.ec_fxcode_quotients.proofs.Words.{bring_straight, bring_steps, bring_has_words, take_straight, take_steps, take_has_words}
+use Rattle.ec_fxcode_quotients.proofs.Words.{bring_straight, bring_far, bring_steps, bring_has_words, take_straight, take_far, take_steps, take_has_words}
 
 no_carry : (r c p x : ℕ) → r + c * p ≡ x → x < p → r ≡ x
 no_carry r zero p x h l = omega (arith, h)
@@ -67,11 +67,13 @@ module _ (e : Env) (w : Location) (b n X D jd jr jx : ℕ) (sd : StandsFrom e w 
 
   skip_ends : skip ≡ start + bring_words w (suc b) (suc n)
   skip_ends = straight_ends e (bring_code w (remainder_at w b) (number_at w b) (suc b) (suc n)) start skip
-      (bring_straight w (remainder_at w b) (number_at w b) (suc b) (suc n)) bring ∙ ap (λ k. start + k) (bring_has_words w b (suc n))
+      (bring_straight w (remainder_at w b) (number_at w b) (suc b) (suc n))
+      (bring_far e w (remainder_at w b) (number_at w b) (suc b) (suc n) jd jr jx sd sr sx) bring ∙ ap (λ k. start + k) (bring_has_words w b (suc n))
 
   take_ends : count ≡ take + take_words w (suc b)
   take_ends = straight_ends e (take_code w (remainder_at w b) (number_at w b) (suc b)) take count
-      (take_straight w (remainder_at w b) (number_at w b) (suc b)) taking ∙ ap (λ k. take + k) (take_has_words w b)
+      (take_straight w (remainder_at w b) (number_at w b) (suc b))
+      (take_far e w (remainder_at w b) (number_at w b) (suc b) n jd jr jx sd sr sx) taking ∙ ap (λ k. take + k) (take_has_words w b)
 
   -- the taking is passed over where the remainder is less
   skips : (v : View) → v.flags.c ≡ 1 → Goes e 2 skip v count v

@@ -1,5 +1,5 @@
 -- The steps and words of a turn.
-use Rattle.std.proofs.Common.{◌≡◌, ℕ, zero, suc, ◌+◌, ◌*◌, ◌≤◌, true, [], ◌∷◌, ◌++◌, refl, arith}
+use Rattle.std.proofs.Common.{◌≡◌, ℕ, zero, suc, ◌+◌, ◌*◌, ◌<◌, ◌≤◌, true, [], ◌∷◌, ◌++◌, refl, arith}
 use Rattle.std.proofs.lemmas.List.Sums.{sum_by-append}
 use Rattle.ec_isa.specs.declared.instructions.Instr.TheVariants.{Adc}
 use Rattle.ec_asm.specs.declared.items.AsmItem.TheVariants.{Plain}
@@ -9,7 +9,10 @@ use Rattle.ec_asm.specs.declared.pieces.Operator.TheVariants.{Sum, Difference}
 use Rattle.ec_asm.specs.Items.{all_straight, code_steps, code_words, item_words}
 use Rattle.ec_asm.specs.Pieces.{operate_byte, operate_code, compare_byte, compare_code}
 use Rattle.ec_asm.proofs.Hoare.{straight-append, steps-append}
-use Rattle.ec_asm.proofs.ItemWords.{chain_words, sum_words, sum_words_far}
+use Rattle.ec_asm.specs.Change.{Env, Own}
+use Rattle.ec_asm.specs.Pieces.{StandsFrom}
+use Rattle.ec_asm.proofs.Far.{operate_far, compare_far as operands_far}
+use Rattle.ec_asm.proofs.ItemWords.{chain_words, sum_words, sum_words_far, all_far, far-append, chain_far, own_far}
 use Rattle.ec_asm.proofs.Results.{pieces_are_straight, pieces_take}
 use Rattle.ec_select_quotients.specs.Quotients.{mark_code as lowest_code}
 use Rattle.ec_select_quotients.proofs.Marks.{mark_straight, mark_steps}
@@ -31,6 +34,27 @@ pub bring_straight : (d r x : Location) (m n : ℕ) → all_straight (bring_code
 bring_straight d r x m n =
     straight-append (operate_code Sum x x n) (rotate_code r m ++ compare_code d r m) (pieces_are_straight Sum x x n).1
     (straight-append (rotate_code r m) (compare_code d r m) (rotate_short r m).straight (pieces_are_straight Sum d r m).2)
+
+-- all bytes in memory are those of the work bytes
+rotated_far : (e : Env) (r : Location) (i m a : ℕ) → StandsFrom e r m a Own → i < m → all_far e (rotate_byte r i) ≡ true
+rotated_far e (InRegisters s) i m a st l = refl
+rotated_far e (InMemory o k) i m a st l = rw (own_far e o k i m a st l) refl
+
+pub bring_far : (e : Env) (d r x : Location) (m n jd jr jx : ℕ) → StandsFrom e d m jd Own → StandsFrom e r m jr Own
+    → StandsFrom e x n jx Own → all_far e (bring_code d r x m n) ≡ true
+bring_far e d r x m n jd jr jx sd sr sx =
+    far-append e (operate_code Sum x x n) (rotate_code r m ++ compare_code d r m) (operate_far e Sum x x n jx jx sx sx)
+    (far-append e (rotate_code r m) (compare_code d r m) (chain_far e (rotate_byte r) m (λ i l. rotated_far e r i m jr sr l))
+    (operands_far e d r m jd jr sd sr))
+
+lowest_far : (e : Env) (x : Location) (n jx : ℕ) → StandsFrom e x (suc n) jx Own → all_far e (lowest_code x) ≡ true
+lowest_far e (InRegisters s) n jx st = refl
+lowest_far e (InMemory o k) n jx st = rw (own_far e o k 0 (suc n) jx st (omega arith)) refl
+
+pub take_far : (e : Env) (d r x : Location) (m n jd jr jx : ℕ) → StandsFrom e d m jd Own → StandsFrom e r m jr Own
+    → StandsFrom e x (suc n) jx Own → all_far e (take_code d r x m) ≡ true
+take_far e d r x m n jd jr jx sd sr sx =
+    far-append e (operate_code Difference d r m) (lowest_code x) (operate_far e Difference d r m jd jr sd sr) (lowest_far e x n jx sx)
 
 pub bring_steps : (d r x : Location) (m n : ℕ) → code_steps (bring_code d r x m n) ≤ 4 * n + 6 * m
 bring_steps d r x m n =

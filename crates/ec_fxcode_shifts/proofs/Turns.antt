@@ -19,7 +19,7 @@ use Rattle.ec_asm.proofs.Sum.{value-same}
 use Rattle.ec_select_shifts.specs.declared.shifts.Direction.{Direction}
 use Rattle.ec_select_shifts.specs.Shifts.{shifted_by, turn_code, turn_words}
 use Rattle.ec_select_shifts.specs.Laws.{Leads}
-use Rattle.ec_select_shifts.proofs.Loops.{turn_straight, turn_takes}
+use Rattle.ec_select_shifts.proofs.Loops.{turn_straight, turn_far, turn_takes}
 use Rattle.ec_select_shifts.proofs.Once.{once, none, first_turn, turned}
 use Rattle.ec_select_shifts.proofs.Words.{turn_has_words}
 use Rattle.ec_fxcode_shifts.specs.Shifts.{again_code, turns_code}
@@ -35,7 +35,7 @@ module _ (s : Direction) (e : Env) (p : Location) (n a : ℕ) (st : StandsFrom e
 
   -- where the turn ends
   ends : count ≡ start + code_size
-  ends = straight_ends e (turn_code s p (suc n)) start count (turn_straight s p (suc n)) turn
+  ends = straight_ends e (turn_code s p (suc n)) start count (turn_straight s p (suc n)) (turn_far e s p (suc n) a st) turn
       ∙ ap (λ k. start + k) (turn_has_words s p (suc n))
 
   -- R30 is counted down
@@ -152,7 +152,7 @@ shifts s e p n a pc end v st far h l stands =
     let a1 = first.ends in
     let b1 = dec.1.ends in
     let b2 = dec.1.room in
-    let c1 = straight_ends e turn stands.0 parts.0 (turn_straight s p (suc n)) parts.1 in
+    let c1 = straight_ends e turn stands.0 parts.0 (turn_straight s p (suc n)) (turn_far e s p (suc n) a st) parts.1 in
     let c2 = turn_has_words s p (suc n) in
     let to : (pc + 1 + w) % 65536 ≡ parts.0 = omega (arith, a1, b1, b2, c1, c2) in
     let goes : Goes e 1 pc v parts.0 v = record { by = ap (λ o. act e o pc v) first.is ∙ ap (λ k. Running k v) to } in

@@ -148,4 +148,5 @@ code-stands p m asm l kind table valid asm_valid located =
             ap (λ f. slice_index f (0 + k)) flash ∙ held ∙ ap (λ c. slice_index c k) same;
       };
       room = omega (arith, small);
+      free = omega arith;
     }

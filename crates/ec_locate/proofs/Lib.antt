@@ -1,5 +1,7 @@
+-- For all crates above.
+pub mod Objects
+-- For this crate alone.
 mod Sums
-mod Objects
 mod Trees
 mod LeafValues
 mod Words

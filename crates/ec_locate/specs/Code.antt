@@ -34,6 +34,7 @@ resolved items y last = record {
   flash = [];
   word_of = label_word items;
   address_of = address_of y last;
+  base = 65536;
   kind = λ a. Barred;
   table = λ a. Barred;
 }

@@ -16,13 +16,14 @@ use Rattle.ec_locate.specs.declared.placing.Located.{Located}
 abbrev pub own_word : List AsmItem → ℕ → ℕ
 own_word items l = if stands_once items l then label_word items l else 65536
 
--- the flash of a placed program, the words of its labels and the addresses of what its code names. What stands at an
--- address is for the reader to say
+-- the flash of a placed program, the words of its labels and the addresses of what its code names, where Y is free.
+-- What stands at an address is for the reader to say
 abbrev pub environment : PlainProgram → Map → AsmProgram → Located → (kind table : ℕ → Kind) → Env
 environment p m asm l kind table = record {
   flash = l.image.bytes.items;
   word_of = own_word asm.items.items;
   address_of = address_of (layout_by p m asm) (last_of m);
+  base = 65536;
   kind = kind;
   table = table;
 }

@@ -2,19 +2,17 @@
 use Rattle.std.proofs.Common.{◌≡◌, ℕ, zero, suc, ◌+◌, ◌-◌, ◌*◌, ◌/◌, ◌%◌, ◌<◌, ◌≤◌, ◌==◌, Bool, true, false, List, []}
 use Rattle.std.proofs.Common.{◌∷◌, ◌++◌, Option, Some, None, refl, arith}
 use Rattle.std.specs.Prelude.{nat_le, if◌then◌else◌}
-use Rattle.std.proofs.lemmas.List.Sums.{sum_by-append, sum_by-drop_more}
-use Rattle.std.proofs.lemmas.Bool.{and_parts, false≢true}
+use Rattle.std.proofs.lemmas.List.Sums.{sum_by-append}
 use Rattle.ec_isa.specs.declared.instructions.Instr.TheVariants.{Ldi, Mov, Movw}
 use Rattle.ec_asm.specs.declared.items.AsmItem.{AsmItem}
-use Rattle.ec_asm.specs.declared.items.AsmItem.TheVariants.{Plain, Label, JumpTo, CallTo, BranchTo, LoadPart, LoadObj}
-use Rattle.ec_asm.specs.declared.items.AsmItem.TheVariants.{StoreObj}
+use Rattle.ec_asm.specs.declared.items.AsmItem.TheVariants.{Plain, LoadPart}
 use Rattle.ec_asm.specs.declared.pieces.Location.{Location}
 use Rattle.ec_asm.specs.declared.pieces.Location.TheVariants.{InRegisters, InMemory}
-use Rattle.ec_asm.specs.Change.{Env}
-use Rattle.ec_asm.specs.Items.{HasAt, Stands, is_straight, all_straight, code_steps, code_words, item_words, chain}
-use Rattle.ec_asm.specs.Pieces.{copy_code}
+use Rattle.ec_asm.specs.Change.{Env, Own}
+use Rattle.ec_asm.specs.Items.{all_straight, code_steps, code_words, item_words, chain}
+use Rattle.ec_asm.specs.Pieces.{StandsFrom, copy_code}
 use Rattle.ec_asm.proofs.Hoare.{straight-append, steps-append}
-use Rattle.ec_asm.proofs.ItemWords.{chain_words}
+use Rattle.ec_asm.proofs.ItemWords.{chain_words, all_far, chain_far, own_far}
 use Rattle.ec_select_pointers.specs.Addresses.{pointer_bytes, part_byte, tag_code, address_code, rest_of}
 use Rattle.ec_select_pointers.specs.Addresses.{subtract_byte, field_code}
 use Rattle.ec_select_pointers.specs.Accesses.{point_code, data_byte, data_bytes, flash_byte, flash_bytes, bytes_words}
@@ -234,24 +232,17 @@ pub flash_has_words : (q : Location) (n : ℕ) → code_words (flash_bytes q n) 
 flash_has_words (InRegisters r) n = chain_words (flash_byte (InRegisters r)) n 1 (λ i. refl)
 flash_has_words (InMemory o k) n = chain_words (flash_byte (InMemory o k)) n 3 (λ i. refl)
 
--- a straight item ends behind its words, at a word address
-item_ends : (e : Env) (i : AsmItem) (pc end : ℕ) → is_straight i ≡ true → Stands e i pc end
-    → (end ≡ pc + item_words i) × (pc < 65536 → end < 65536)
-item_ends e (Plain i) pc end h a = (a.ends, λ l. a.room)
-item_ends e (Label l) pc end h a = let q = a.1 in (omega arith, λ m. omega arith)
-item_ends e (JumpTo l) pc end h a = absurd (false≢true h)
-item_ends e (CallTo l) pc end h a = absurd (false≢true h)
-item_ends e (BranchTo set flag l) pc end h a = absurd (false≢true h)
-item_ends e (LoadPart d o k part) pc end h a = (a.ends, λ l. a.room)
-item_ends e (LoadObj d o k) pc end h a = (a.ends, λ l. a.room)
-item_ends e (StoreObj o k r) pc end h a = (a.ends, λ l. a.room)
+-- all bytes in memory are those of the place
+data_byte_far : (e : Env) (q : Location) (i n b : ℕ) → StandsFrom e q n b Own → i < n → all_far e (data_byte q i) ≡ true
+data_byte_far e (InRegisters r) i n b st l = refl
+data_byte_far e (InMemory o k) i n b st l = rw (own_far e o k i n b st l) refl
 
-pub straight_ends : (e : Env) (is : List AsmItem) (pc end : ℕ) → all_straight is ≡ true → HasAt e is pc end
-    → (end ≡ pc + code_words is) × (pc < 65536 → end < 65536)
-straight_ends e [] pc end h at = (omega (arith, at), λ l. omega (arith, at))
-straight_ends e (i ∷ is) pc end h at =
-    let p = and_parts (is_straight i) (all_straight is) h in
-    let a = item_ends e i pc at.0 p.0 at.1 in
-    let b = straight_ends e is at.0 end p.1 at.2 in
-    let more : code_words (i ∷ is) ≡ item_words i + code_words is = sum_by-drop_more item_words (i ∷ is) 0 i (omega arith) in
-    (omega (arith, a.0, b.0, more), λ l. b.1 (a.1 l))
+flash_byte_far : (e : Env) (q : Location) (i n b : ℕ) → StandsFrom e q n b Own → i < n → all_far e (flash_byte q i) ≡ true
+flash_byte_far e (InRegisters r) i n b st l = refl
+flash_byte_far e (InMemory o k) i n b st l = rw (own_far e o k i n b st l) refl
+
+pub data_far : (e : Env) (q : Location) (n b : ℕ) → StandsFrom e q n b Own → all_far e (data_bytes q n) ≡ true
+data_far e q n b st = chain_far e (data_byte q) n (λ i l. data_byte_far e q i n b st l)
+
+pub flash_far : (e : Env) (q : Location) (n b : ℕ) → StandsFrom e q n b Own → all_far e (flash_bytes q n) ≡ true
+flash_far e q n b st = chain_far e (flash_byte q) n (λ i l. flash_byte_far e q i n b st l)

@@ -23,7 +23,8 @@ use Rattle.ec_select_pointers.specs.AccessLaws.{Brings, HasPointer, data_at, fla
 use Rattle.ec_select_pointers.specs.AccessLaws.{address_in, DataIsLoadedByTag, FlashIsLoadedByTag}
 use Rattle.ec_select_pointers.proofs.Accessed.{pointed, data_brought, flash_follows}
 use Rattle.ec_select_pointers.proofs.Short.{point_short, all_data_short, all_flash_short, data_has_words}
-use Rattle.ec_select_pointers.proofs.Short.{flash_has_words, straight_ends}
+use Rattle.ec_asm.proofs.ItemWords.{straight_ends, straight_room}
+use Rattle.ec_select_pointers.proofs.Short.{flash_has_words, data_far, flash_far}
 
 -- the laws of code that this rests on
 pub record Lower : Type 0 where
@@ -131,31 +132,31 @@ record Stands (e : Env) (p q : Location) (n pc end : ℕ) : Type 0 where
   flash_words : end ≡ from_flash + bytes_words q n
   room : end < 65536
 
-stands : (lower : Lower) (e : Env) (p q : Location) (n pc end : ℕ) → HasAt e (point_code p ++ (tag_test p ++ either_bytes q n)) pc end
+stands : (lower : Lower) (e : Env) (p q : Location) (n b pc end : ℕ) → StandsFrom e q n b Own → HasAt e (point_code p ++ (tag_test p ++ either_bytes q n)) pc end
     → Stands e p q n pc end
-stands lower e p q n pc end at =
+stands lower e p q n b pc end st at =
     let w = bytes_words q n in
     let last = over w ++ flash_bytes q n in
     let a = lower.parts e (point_code p) (tag_test p ++ either_bytes q n) pc end at in
-    let b = lower.parts e (tag_test p) (either_bytes q n) a.0 end a.2 in
-    let c = b.2 in
+    let t = lower.parts e (tag_test p) (either_bytes q n) a.0 end a.2 in
+    let c = t.2 in
     let d = lower.parts e (data_bytes q n) last c.0 end c.2 in
     let f = d.2 in
-    let x = straight_ends e (data_bytes q n) c.0 d.0 (all_data_short q n).straight d.1 in
-    let y = straight_ends e (flash_bytes q n) f.0 end (all_flash_short q n).straight f.2 in
+    let x = straight_ends e (data_bytes q n) c.0 d.0 (all_data_short q n).straight (data_far e q n b st) d.1 in
+    let y = straight_room e (flash_bytes q n) f.0 end (all_flash_short q n).straight (flash_far e q n b st) f.2 in
     record {
       test = a.0;
-      jump = b.0;
+      jump = t.0;
       from_data = c.0;
       skip = d.0;
       from_flash = f.0;
       points = a.1;
-      tests = b.1;
+      tests = t.1;
       jumps = c.1;
       loads_data = d.1;
       skips = f.1;
       loads_flash = f.2;
-      data_words = x.0 ∙ ap (λ k. c.0 + k) (data_has_words q n);
+      data_words = x ∙ ap (λ k. c.0 + k) (data_has_words q n);
       flash_words = y.0 ∙ ap (λ k. f.0 + k) (flash_has_words q n);
       room = y.1 f.1.room;
     }
@@ -223,7 +224,7 @@ chosen lower e p q n a b pc end byte v has at =
 pub data_is_loaded_by_tag : Lower → DataIsLoadedByTag
 data_is_loaded_by_tag lower e p q n a b pc end v has at tag held first =
     let z = address_in v a in
-    let s = stands lower e p q n pc end at in
+    let s = stands lower e p q n b pc end has.number at in
     let c = chosen lower e p q n a b pc end (data_at v z) v has s in
     let u = c.last in
     let code = data_bytes q n in
@@ -251,7 +252,7 @@ data_is_loaded_by_tag lower e p q n a b pc end v has at tag held first =
 pub flash_is_loaded_by_tag : Lower → FlashIsLoadedByTag
 flash_is_loaded_by_tag lower e p q n a b pc end v has at tag flash =
     let z = address_in v a in
-    let s = stands lower e p q n pc end at in
+    let s = stands lower e p q n b pc end has.number at in
     let c = chosen lower e p q n a b pc end (flash_at e z) v has s in
     let u = c.last in
     let code = flash_bytes q n in

@@ -25,7 +25,7 @@ use Rattle.ec_select_quotients.specs.Quotients.{bring_code, bring_words, skip_co
 use Rattle.ec_select_quotients.specs.Laws.{IsReady, Divides, DivisionIsRight}
 use Rattle.ec_select_quotients.proofs.Long.{Long, begun, not_taken, taken, quotient_is, powers}
 use Rattle.ec_select_quotients.proofs.Turns.{IsFar, low_outside, high_outside, Brings, brings, Takes, takes}
-use Rattle.ec_select_quotients.proofs.Words.{bring_straight, bring_steps, bring_has_words, take_straight, take_steps, take_has_words}
+use Rattle.ec_select_quotients.proofs.Words.{bring_straight, bring_far, bring_steps, bring_has_words, take_straight, take_far, take_steps, take_has_words}
 
 module _ (e : Env) (p : Location) (n c x d : ℕ) (st : StandsFrom e p (suc n) c Own) (far : IsFar c (suc n)) (most : suc n ≤ 4)
     (under : d < 256 ^ suc n) (start skip take count back end : ℕ) (bring : HasAt e (bring_code p (suc n)) start skip)
@@ -42,11 +42,11 @@ module _ (e : Env) (p : Location) (n c x d : ℕ) (st : StandsFrom e p (suc n) c
     seen : v.seen ≡ v0.seen
 
   skip_ends : skip ≡ start + bring_words p (suc n)
-  skip_ends = straight_ends e (bring_code p (suc n)) start skip (bring_straight p (suc n)) bring
+  skip_ends = straight_ends e (bring_code p (suc n)) start skip (bring_straight p (suc n)) (bring_far e p (suc n) c st) bring
       ∙ ap (λ k. start + k) (bring_has_words p (suc n))
 
   take_ends : count ≡ take + take_words p (suc n)
-  take_ends = straight_ends e (take_code p (suc n)) take count (take_straight p (suc n)) taking
+  take_ends = straight_ends e (take_code p (suc n)) take count (take_straight p (suc n)) (take_far e p n c st) taking
       ∙ ap (λ k. take + k) (take_has_words p (suc n))
 
   skips : (v : View) → v.flags.c ≡ 1 → Goes e 1 skip v count v

@@ -2,22 +2,21 @@
 use Rattle.std.proofs.Common.{◌≡◌, ◌≢◌, ℕ, ◌+◌, ◌-◌, ◌*◌, ◌/◌, ◌%◌, ◌^◌, ◌<◌, ◌≤◌, ⊎_elim, Bool, true, false, pos, List, [], ◌∷◌, ◌++◌}
 use Rattle.std.proofs.Common.{refl, sym, ap, ◌∙◌, subst, arith, Some}
 use Rattle.std.proofs.lemmas.List.Sums.{sum_by-append}
-use Rattle.std.proofs.lemmas.Bool.{cases_lt, and_parts, false≢true}
+use Rattle.std.proofs.lemmas.Bool.{cases_lt}
 use Rattle.ec_isa.specs.declared.instructions.Instr.TheVariants.{Brbc, Eor, Add}
-use Rattle.ec_asm.specs.declared.items.AsmItem.{AsmItem}
-use Rattle.ec_asm.specs.declared.items.AsmItem.TheVariants.{Plain, Label, JumpTo, CallTo, BranchTo, LoadPart, LoadObj, StoreObj}
+use Rattle.ec_asm.specs.declared.items.AsmItem.TheVariants.{Plain}
 use Rattle.ec_asm.specs.declared.pieces.Location.{Location}
 use Rattle.ec_asm.specs.declared.pieces.Location.TheVariants.{InRegisters, InMemory}
 use Rattle.ec_asm.specs.View.{View}
 use Rattle.ec_asm.specs.Change.{Env, Own, set, change}
 use Rattle.ec_asm.specs.Run.{Running, act}
-use Rattle.ec_asm.specs.Items.{At, HasAt, Stands, block, is_straight, all_straight, code_steps, code_words, item_words}
+use Rattle.ec_asm.specs.Items.{At, HasAt, block, all_straight, code_steps, code_words, item_words}
 use Rattle.ec_asm.specs.Pieces.{StandsFrom, Outside, value}
 use Rattle.ec_asm.specs.PieceLaws.{HoldsNumbers}
 use Rattle.ec_asm.specs.Takes.{Goes}
 use Rattle.ec_asm.proofs.Bytes.{put_other}
 use Rattle.ec_asm.proofs.Hoare.{has_parts, block_goes, goes_on_to}
-use Rattle.ec_asm.proofs.ItemWords.{straight_ends, chain_words}
+use Rattle.ec_asm.proofs.ItemWords.{straight_room, chain_words, all_far, far-append, chain_far, own_far}
 use Rattle.ec_asm.proofs.Sum.{value-same}
 use Rattle.ec_select_bytes.specs.Complements.{complement_byte, complement_code, carry_byte, carry_code, negation_code}
 use Rattle.ec_select_bytes.specs.ComplementLaws.{Leaves}
@@ -49,23 +48,20 @@ negation_has_words (InMemory o k) n =
       b,
     )
 
--- straight items end below 65,536
-item_room : (e : Env) (i : AsmItem) (pc end : ℕ) → is_straight i ≡ true → Stands e i pc end → pc < 65536 → end < 65536
-item_room e (Plain i) pc end h a l = a.room
-item_room e (Label l) pc end h a k = let q = a.1 in omega arith
-item_room e (JumpTo l) pc end h a k = absurd (false≢true h)
-item_room e (CallTo l) pc end h a k = absurd (false≢true h)
-item_room e (BranchTo set flag l) pc end h a k = absurd (false≢true h)
-item_room e (LoadPart d o k part) pc end h a l = a.room
-item_room e (LoadObj d o k) pc end h a l = a.room
-item_room e (StoreObj o k r) pc end h a l = a.room
+-- all its bytes in memory are the number's
+complemented_far : (e : Env) (p : Location) (i n a : ℕ) → StandsFrom e p n a Own → i < n → all_far e (complement_byte p i) ≡ true
+complemented_far e (InRegisters r) i n a st l = refl
+complemented_far e (InMemory o k) i n a st l = rw (own_far e o k i n a st l) refl
 
-straight_room : (e : Env) (is : List AsmItem) (pc end : ℕ) → all_straight is ≡ true → HasAt e is pc end → pc < 65536
-    → end < 65536
-straight_room e [] pc end h at l = omega (arith, at)
-straight_room e (i ∷ is) pc end h at l =
-    let p = and_parts (is_straight i) (all_straight is) h in
-    straight_room e is at.0 end p.1 at.2 (item_room e i pc at.0 p.0 at.1 l)
+carried_far : (e : Env) (p : Location) (i n a : ℕ) → StandsFrom e p n a Own → i < n → all_far e (carry_byte p i) ≡ true
+carried_far e (InRegisters r) i n a st l = refl
+carried_far e (InMemory o k) i n a st l = rw (own_far e o k i n a st l) refl
+
+negation_far : (e : Env) (p : Location) (n a : ℕ) → StandsFrom e p n a Own → all_far e (negation_code p n) ≡ true
+negation_far e p n a st =
+    far-append e (complement_code p n) (Plain (Eor 1 1) ∷ carry_code p n)
+    (chain_far e (complement_byte p) n (λ i l. complemented_far e p i n a st l))
+    (chain_far e (carry_byte p) n (λ i l. carried_far e p i n a st l))
 
 -- ---- runs
 
@@ -102,9 +98,10 @@ negates_if e p r n c pc end v some s h stands =
     let straight = (complements_are_straight p n).1 in
     let a1 = skip.ends in
     let a2 = skip.room in
-    let words = straight_ends e (negation_code p n) mid end straight rest.2 in
+    let stood = straight_room e (negation_code p n) mid end straight (negation_far e p n c s) rest.2 in
+    let words = stood.0 in
     let size = negation_has_words p n in
-    let room = straight_room e (negation_code p n) mid end straight rest.2 a2 in
+    let room = stood.1 a2 in
     ⊎_elim
     (λ (l : y < 128).
     let clear : v1.flags.c ≡ 0 = carry ∙ omega arith in

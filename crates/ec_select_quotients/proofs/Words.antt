@@ -7,7 +7,10 @@ use Rattle.ec_asm.specs.declared.pieces.Operator.TheVariants.{Sum, Difference}
 use Rattle.ec_asm.specs.Items.{all_straight, code_steps, code_words, item_words}
 use Rattle.ec_asm.specs.Pieces.{operate_byte, operate_code, compare_byte, compare_code}
 use Rattle.ec_asm.proofs.Hoare.{straight-append, steps-append}
-use Rattle.ec_asm.proofs.ItemWords.{chain_words, sum_words, sum_words_far}
+use Rattle.ec_asm.specs.Change.{Env, Own}
+use Rattle.ec_asm.specs.Pieces.{StandsFrom}
+use Rattle.ec_asm.proofs.Far.{operate_far, compare_far}
+use Rattle.ec_asm.proofs.ItemWords.{chain_words, sum_words, sum_words_far, all_far, far-append, chain_far, own_far}
 use Rattle.ec_asm.proofs.Results.{pieces_are_straight, pieces_take}
 use Rattle.ec_select_quotients.specs.Quotients.{divisor_row, remainder_row, rotate_byte, rotate_code, bring_code, bring_words, mark_code}
 use Rattle.ec_select_quotients.specs.Quotients.{mark_words, take_code, take_words}
@@ -66,6 +69,31 @@ bring_straight p n =
     (pieces_are_straight Sum p p n).1
     (straight-append (rotate_code (suc n)) (compare_code divisor_row remainder_row (suc n)) (rotate_straight (suc n))
     (pieces_are_straight Sum divisor_row remainder_row (suc n)).2)
+
+-- all bytes in memory are the number's
+row_stands : (e : Env) (r n : ℕ) → 2 ≤ r → StandsFrom e (InRegisters r) n r Own
+row_stands e r n two = record { at = λ i l. refl; kind = λ i l. refl; clear = two }
+
+rotate_far : (e : Env) (m : ℕ) → all_far e (rotate_code m) ≡ true
+rotate_far e m = chain_far e rotate_byte m (λ i l. refl)
+
+pub bring_far : (e : Env) (p : Location) (n a : ℕ) → StandsFrom e p n a Own → all_far e (bring_code p n) ≡ true
+bring_far e p n a st =
+    far-append e (operate_code Sum p p n) (rotate_code (suc n) ++ compare_code divisor_row remainder_row (suc n))
+    (operate_far e Sum p p n a a st st)
+    (far-append e (rotate_code (suc n)) (compare_code divisor_row remainder_row (suc n)) (rotate_far e (suc n))
+    (compare_far e divisor_row remainder_row (suc n) 8 26 (row_stands e 8 (suc n) (omega arith)) (row_stands e 26 (suc n) (omega arith))))
+
+mark_far : (e : Env) (p : Location) (n a : ℕ) → StandsFrom e p (suc n) a Own → all_far e (mark_code p) ≡ true
+mark_far e (InRegisters r) n a st = refl
+mark_far e (InMemory o k) n a st = rw (own_far e o k 0 (suc n) a st (omega arith)) refl
+
+pub take_far : (e : Env) (p : Location) (n a : ℕ) → StandsFrom e p (suc n) a Own → all_far e (take_code p (suc n)) ≡ true
+take_far e p n a st =
+    far-append e (operate_code Difference divisor_row remainder_row (suc (suc n))) (mark_code p)
+    (operate_far e Difference divisor_row remainder_row (suc (suc n)) 8 26 (row_stands e 8 (suc (suc n)) (omega arith))
+    (row_stands e 26 (suc (suc n)) (omega arith)))
+    (mark_far e p n a st)
 
 pub bring_steps : (p : Location) (n : ℕ) → code_steps (bring_code p n) ≤ 4 * n + 4 * suc n
 bring_steps p n =

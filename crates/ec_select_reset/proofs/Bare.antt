@@ -1,10 +1,10 @@
 -- The environment in which all of memory is noted and no byte is the stack's: where the startup code makes no barred
 -- access there, it makes no accesses but those that are noted.
 use Rattle.std.proofs.Common.{◌≡◌, ⊎_elim, inl, inr, ℕ, zero, suc, ◌+◌, ◌<◌, ◌≤◌, Bool, true, false, not, ◌&&◌, List, [], ◌∷◌}
-use Rattle.std.proofs.Common.{◌++◌, All, length, refl, sym, ap, ◌∙◌, arith, append_assoc}
-use Rattle.std.specs.Prelude.{◌==◌, nat_lt, nat_le, if◌then◌else◌, slice_index}
+use Rattle.std.proofs.Common.{◌++◌, All, length, refl, sym, ap, ◌∙◌, subst, arith, append_assoc}
+use Rattle.std.specs.Prelude.{◌==◌, ◌||◌, nat_lt, nat_le, if◌then◌else◌, slice_index}
 use Rattle.std.specs.List.{AllByRecursion}
-use Rattle.std.proofs.lemmas.Bool.{and_parts, or_cases, false≢true, le-ltb, ltb-false, le-leb}
+use Rattle.std.proofs.lemmas.Bool.{and_parts, or_cases, false≢true, le-ltb, ltb-false, leb-true, le-leb}
 use Rattle.std.proofs.lemmas.List.Elements.{All-head, All-tail}
 use Rattle.ec_space.specs.declared.space.Bank.TheVariants.{Flash as FlashBank, Data as DataBank}
 use Rattle.ec_isa.specs.declared.instructions.Instr.{Instr}
@@ -14,7 +14,7 @@ use Rattle.ec_avr.specs.declared.machine.Access.TheVariants.{Silent, In, Out, Re
 use Rattle.ec_asm.specs.declared.items.AsmItem.{AsmItem}
 use Rattle.ec_asm.specs.declared.items.AsmItem.TheVariants.{Plain, Label, JumpTo, CallTo, BranchTo, LoadPart, LoadObj, StoreObj}
 use Rattle.ec_asm.specs.Change.{Env, Kind, Own, Object, Port, Stacked, Barred}
-use Rattle.ec_asm.specs.Items.{At, JumpsAt, CallsAt, BranchesAt, Stands, HasAt}
+use Rattle.ec_asm.specs.Items.{At, IsNear, JumpsAt, CallsAt, BranchesAt, Stands, HasAt}
 use Rattle.ec_asm.specs.Pieces.{is_held}
 use Rattle.ec_asm.specs.Shows.{Fits, may_be, in_flash, noted, noted_all}
 use Rattle.ec_asm_accesses.specs.Allowed.{IsAllowed}
@@ -22,9 +22,13 @@ use Rattle.ec_select_startup.specs.declared.spans.Span.{Span}
 use Rattle.ec_select_startup.specs.Laws.{source, target, CanBeSet, HasStack, accesses, all_accesses}
 use Rattle.ec_select_reset.specs.Laws.{all_but_silent}
 
+-- a register that is looked at by its address: not SREG, and none of Y's
+abbrev pub is_seen : ℕ → Bool
+is_seen a = is_core_register a && not (a == 0x5F) && not (a == 28 || a == 29)
+
 abbrev pub bare_kind : (size a : ℕ) → Kind
 bare_kind size a =
-    if nat_lt a 256 then (if is_core_register a && not (a == 0x5F) then Own else Barred)
+    if nat_lt a 256 then (if is_seen a then Own else Barred)
     else if nat_lt a size then Object else Barred
 
 abbrev pub bare_table : (size a : ℕ) → Kind
@@ -35,6 +39,7 @@ bare e size = record {
   flash = e.flash;
   word_of = e.word_of;
   address_of = e.address_of;
+  base = e.base;
   kind = bare_kind size;
   table = bare_table (length e.flash);
 }
@@ -63,7 +68,7 @@ table_below Stacked size a held may = absurd (false≢true held)
 table_below Barred size a held may = absurd (false≢true held)
 
 never_stacked : (size a : ℕ) → bare_kind size a ≡ Stacked → ⊥
-never_stacked size a h = by_tests (nat_lt a 256) (is_core_register a && not (a == 0x5F)) (nat_lt a size) h where
+never_stacked size a h = by_tests (nat_lt a 256) (is_seen a) (nat_lt a size) h where
   by_tests : (b c d : Bool) → (if b then (if c then Own else Barred) else if d then Object else Barred) ≡ Stacked → ⊥
   by_tests true true d q = cc
   by_tests true false d q = cc
@@ -87,10 +92,11 @@ module _ (e : Env) (size : ℕ) (fit : Fits e size) where
   -- ---- that it suits
 
   may_be_bare : (a : ℕ) → may_be (bare_kind size a) size a ≡ true
-  may_be_bare a = by_tests (nat_lt a 256) (is_core_register a && not (a == 0x5F)) (nat_lt a size) refl refl refl where
-    by_tests : (b c d : Bool) → nat_lt a 256 ≡ b → (is_core_register a && not (a == 0x5F)) ≡ c → nat_lt a size ≡ d
+  may_be_bare a = by_tests (nat_lt a 256) (is_seen a) (nat_lt a size) refl refl refl where
+    by_tests : (b c d : Bool) → nat_lt a 256 ≡ b → is_seen a ≡ c → nat_lt a size ≡ d
         → may_be (if b then (if c then Own else Barred) else if d then Object else Barred) size a ≡ true
-    by_tests true true d low core there = rw core refl
+    by_tests true true d low core there =
+        rw ((and_parts (is_core_register a && not (a == 0x5F)) (not (a == 28 || a == 29)) core).0) refl
     by_tests true false d low core there = refl
     by_tests false c true low core there = rw (le-leb 256 a (ltb-false a 256 low), there) refl
     by_tests false c false low core there = refl
@@ -102,7 +108,7 @@ module _ (e : Env) (size : ℕ) (fit : Fits e size) where
     by_test false q = refl
 
   pub bare_fits : Fits (bare e size) size
-  bare_fits = record { ports = fit.ports; kinds = may_be_bare; table = in_flash_bare; code = fit.code }
+  bare_fits = record { ports = fit.ports; kinds = may_be_bare; table = in_flash_bare; code = fit.code; base = λ l. (refl, refl) }
 
   -- ---- that the startup code stands in it
 
@@ -177,7 +183,7 @@ module _ (e : Env) (size : ℕ) (fit : Fits e size) where
 
 -- ---- items stand where they stood
 
-module _ (e : Env) (size : ℕ) where
+module _ (e : Env) (size : ℕ) (fit : Fits e size) where
   same_at : (i : Instr) (pc end : ℕ) → At e i pc end → At (bare e size) i pc end
   same_at i pc end h = record { is = h.is; ends = h.ends; room = h.room }
 
@@ -191,6 +197,12 @@ module _ (e : Env) (size : ℕ) where
   same_branch set flag l pc end h =
       ⊎_elim (λ t. inl (t.0, t.1, same_at _ pc t.0 t.2, same_jump l t.0 end t.3, t.4)) (λ t. inr (t.0, same_at _ pc end t.1, t.2)) h
 
+  same_near : (q a : ℕ) → IsNear e q a → IsNear (bare e size) q a
+  same_near q a h =
+      let may = subst (λ (z : Kind). may_be z size a ≡ true) h.object (fit.kinds a) in
+      let high = leb-true 256 a (and_parts (nat_le 256 a) (nat_lt a size) may).0 in
+      record { based = h.based; distance_is = h.distance_is; object = noted_there e size fit a high (ap is_held h.object) }
+
   same_item : (item : AsmItem) (pc end : ℕ) → Stands e item pc end → Stands (bare e size) item pc end
   same_item (Plain i) pc end h = same_at i pc end h
   same_item (Label l) pc end h = h
@@ -198,8 +210,8 @@ module _ (e : Env) (size : ℕ) where
   same_item (CallTo l) pc end h = same_call l pc end h
   same_item (BranchTo set flag l) pc end h = same_branch set flag l pc end h
   same_item (LoadPart d o k part) pc end h = same_at _ pc end h
-  same_item (LoadObj d o k) pc end h = same_at _ pc end h
-  same_item (StoreObj o k r) pc end h = same_at _ pc end h
+  same_item (LoadObj d o k) pc end h = ⊎_elim (λ t. inl (same_at _ pc end t)) (λ t. inr (t.0, same_at _ pc end t.1, same_near t.0 _ t.2)) h
+  same_item (StoreObj o k r) pc end h = ⊎_elim (λ t. inl (same_at _ pc end t)) (λ t. inr (t.0, same_at _ pc end t.1, same_near t.0 _ t.2)) h
 
   pub bare_stands : (items : List AsmItem) (pc end : ℕ) → HasAt e items pc end → HasAt (bare e size) items pc end
   bare_stands [] pc end h = h

@@ -23,6 +23,7 @@ use Rattle.ec_asm.specs.Items.{CallsAt, HasAt}
 use Rattle.ec_asm.specs.Laws.{MachineRunsAsView}
 use Rattle.ec_asm.specs.Run.{fetch, is_safe}
 use Rattle.ec_asm.specs.Shows.{Shows, Fits, RunsAs, GoesOn, noted_all}
+use Rattle.ec_asm.proofs.Fetched.{fetched}
 use Rattle.ec_asm_accesses.specs.Allowed.{IsAllowed, AccessesAreAllowed}
 use Rattle.ec_select_startup.specs.declared.spans.Span.{Span}
 use Rattle.ec_select_startup.specs.Laws.{StartupIsRight, Starts, CanBeSet, IsBeside, HasStack, startup_steps, all_accesses}
@@ -53,7 +54,7 @@ called to back t a q =
 module _ (steps : StepsByInstruction) (e : Env) (t : State) (flash : t.mem.flash ≡ e.flash) where
   step_is : (i : Instr) (answer : ℕ) → fetch e t.pc ≡ Some i → step answer t ≡ effect (Some i) answer t
   step_is i answer f =
-      let g : (if is_whole t then instruction_at t t.pc else None) ≡ Some i = rw flash f in
+      let g : (if is_whole t then instruction_at t t.pc else None) ≡ Some i = rw flash (fetched e t.pc i f).0 in
       let h = taken_if (is_whole t) (instruction_at t t.pc) i g in
       steps answer t i h.0 h.1
 
@@ -119,12 +120,13 @@ module _ (laws : BeforeLaws) (e : Env) (spans : List Span) (size main end : ℕ)
     at = shows.at;
     flags = shows.flags;
     feeds = shows.feeds;
+    base = shows.base;
   }
 
   starts : Starts b spans main s.pc v
   starts =
       laws.startup b spans main s.pc end v (bare_stack e size fit stack) (λ k d l. bare_set e size fit _ (can k d l)) beside
-      (bare_stands e size (startup_code spans main) s.pc end stands)
+      (bare_stands e size fit (startup_code spans main) s.pc end stands)
 
   goes : GoesOn b size (startup_steps spans) v s starts.call starts.last
   goes =

@@ -21,6 +21,7 @@ use Rattle.ec_asm.specs.Takes.{Goes}
 use Rattle.ec_asm.specs.Laws.{MachineRunsAsView}
 use Rattle.ec_asm_accesses.specs.Allowed.{AccessesAreAllowed}
 use Rattle.ec_asm.proofs.Calls.{call_goes}
+use Rattle.ec_asm.proofs.Fetched.{fetched}
 use Rattle.ec_asm.proofs.Hoare.{goes_on_to}
 use Rattle.ec_asm.proofs.Takes.{call_has_word}
 use Rattle.ec_core.specs.State.{Inputs}
@@ -47,7 +48,8 @@ pub record StartLaws : Type 0 where
 fetched_below : (e : Env) (pc : ℕ) (i : Instr) → fetch e pc ≡ Some i → 2 * pc + 1 < length e.flash
 fetched_below e pc i q =
     let o = decoded (word_in e.flash pc) (word_in e.flash (pc + 1)) in
-    by_test o (nat_lt (2 * pc + 1) (length e.flash)) (not (has_two_words o) || nat_lt (2 * (pc + 1) + 1) (length e.flash)) refl q
+    by_test o (nat_lt (2 * pc + 1) (length e.flash)) (not (has_two_words o) || nat_lt (2 * (pc + 1) + 1) (length e.flash)) refl
+    (fetched e pc i q).0
   where
     by_test : (o : Option Instr) (a b : Bool) → nat_lt (2 * pc + 1) (length e.flash) ≡ a → (if a && b then o else None) ≡ Some i
         → 2 * pc + 1 < length e.flash
@@ -78,7 +80,15 @@ module _ (laws : StartLaws) (p : PlainIrProgram) (place entry_of : ℕ → ℕ) 
   v0 = record { at = v.at; flags = v.flags; inputs = v.inputs; seen = []; safe = true }
 
   shows0 : Shows e size s.mem v0
-  shows0 = record { flash = shows.flash; sized = shows.sized; bytes = shows.bytes; at = shows.at; flags = shows.flags; feeds = shows.feeds }
+  shows0 = record {
+    flash = shows.flash;
+    sized = shows.sized;
+    bytes = shows.bytes;
+    at = shows.at;
+    flags = shows.flags;
+    feeds = shows.feeds;
+    base = shows.base;
+  }
 
   starts : Starts e spans (entry_of p.main) s.pc v0
   starts = laws.startup e spans (entry_of p.main) s.pc c.end v0 c.pointer c.can_be_set c.beside c.stands
@@ -137,7 +147,7 @@ module _ (laws : StartLaws) (p : PlainIrProgram) (place entry_of : ℕ → ℕ) 
   shows_w : Shows e size goes_on.state.mem w0
   shows_w =
       let h = goes_on.shows in
-      record { flash = h.flash; sized = h.sized; bytes = h.bytes; at = h.at; flags = h.flags; feeds = h.feeds }
+      record { flash = h.flash; sized = h.sized; bytes = h.bytes; at = h.at; flags = h.flags; feeds = h.feeds; base = h.base }
 
   pointer_w : sp w ≡ top - 2
   pointer_w = pushed_pointer starts.back last top starts.pointer deep.0 deep.1

@@ -16,7 +16,8 @@ use Rattle.ec_asm.specs.PieceLaws.{HoldsNumbers}
 use Rattle.ec_asm.specs.Takes.{Goes}
 use Rattle.ec_asm.proofs.Bytes.{put_here, put_other}
 use Rattle.ec_asm.proofs.Hoare.{has_parts, block_goes, goes_on_to, one_goes}
-use Rattle.ec_asm.proofs.ItemWords.{straight_ends}
+use Rattle.ec_asm.proofs.Far.{operate_far, halve_far}
+use Rattle.ec_asm.proofs.ItemWords.{all_far, straight_ends}
 use Rattle.ec_asm.proofs.Numbers.{value_below}
 use Rattle.ec_asm.proofs.Results.{pieces_are_straight, pieces_take}
 use Rattle.ec_asm.proofs.Sum.{value-same}
@@ -35,6 +36,10 @@ pub turn_takes : (s : Direction) (p : Location) (n : ℕ) → code_steps (turn_c
 turn_takes Left p n = (pieces_take Sum p p n).1.1
 turn_takes (Right signed) p n = let x = ((pieces_take Sum p p n).3 signed).1 in omega arith
 
+pub turn_far : (e : Env) (s : Direction) (p : Location) (n a : ℕ) → StandsFrom e p n a Own → all_far e (turn_code s p n) ≡ true
+turn_far e Left p n a st = operate_far e Sum p p n a a st st
+turn_far e (Right signed) p n a st = halve_far e signed p n a st
+
 module _ (s : Direction) (e : Env) (p : Location) (n a : ℕ) (st : StandsFrom e p (suc n) a Own) (far : Outside a (suc n) 30)
     (start count back end : ℕ) (turn : HasAt e (turn_code s p (suc n)) start count) (dec : At e (Dec 30) count back)
     (branch : At e (Brbc 2 (negsuc (turn_words s p (suc n) + 1))) back end) where
@@ -43,7 +48,7 @@ module _ (s : Direction) (e : Env) (p : Location) (n a : ℕ) (st : StandsFrom e
 
   -- where the turn ends
   ends : count ≡ start + code_size
-  ends = straight_ends e (turn_code s p (suc n)) start count (turn_straight s p (suc n)) turn
+  ends = straight_ends e (turn_code s p (suc n)) start count (turn_straight s p (suc n)) (turn_far e s p (suc n) a st) turn
       ∙ ap (λ k. start + k) (turn_has_words s p (suc n))
 
   -- R30 is counted down
@@ -156,7 +161,7 @@ shifts_are_right s e p n a pc end v st far h l stands =
     let a1 = first.ends in
     let b1 = dec.1.ends in
     let b2 = dec.1.room in
-    let c1 = straight_ends e turn jump.0 parts.0 (turn_straight s p (suc n)) parts.1 in
+    let c1 = straight_ends e turn jump.0 parts.0 (turn_straight s p (suc n)) (turn_far e s p (suc n) a st) parts.1 in
     let c2 = turn_has_words s p (suc n) in
     let to : (pc + 1 + w) % 65536 ≡ parts.0 = omega (arith, a1, b1, b2, c1, c2) in
     let goes : Goes e 1 pc v parts.0 v = record { by = ap (λ o. act e o pc v) first.is ∙ ap (λ k. Running k v) to } in

@@ -25,11 +25,12 @@ use Rattle.ec_locate.specs.DataBank.{IsOwnedBy, IsLocalOf, Names, an_object, scr
 use Rattle.ec_locate.specs.DataBank.{IsInMemory, DataStands, DataStandsApart}
 use Rattle.ec_locate.specs.Entries.{flash_size, data_size, frame_size}
 use Rattle.ec_locate.specs.Layout.{places_from}
-use Rattle.ec_locate.specs.Placing.{scratch_needs, entries_by}
+use Rattle.ec_locate.specs.Placing.{object_sizes, scratch_needs, entries_by}
 use Rattle.ec_locate.specs.declared.entries.Entry.{Entry}
 use Rattle.ec_locate.specs.declared.placing.Located.{Located}
 use Rattle.ec_select.specs.Laws.{SelectionsAreValid}
 use Rattle.ec_build_laws.specs.Kinds.{is_byte_of, is_of_scratch, place_of}
+use Rattle.ec_build_laws.specs.Shortened.{ShortenedIsValid}
 use Rattle.ec_build_laws.specs.Translation.{IsTranslated}
 use Rattle.ec_build_laws.specs.Whole.{is_own_byte, IsHomeByte}
 use Rattle.ec_watch_points.specs.Numbers.{is_static, IsPointOf, HavePlaces}
@@ -40,11 +41,13 @@ pub record ApartLaws : Type 0 where
   pub apart : DataStandsApart
   pub made : LoweredIsMadeOf
   pub selections : SelectionsAreValid
+  pub short : ShortenedIsValid
 
 pub stands : ApartLaws → (p : PlainProgram) (m : Map) (asm : AsmProgram) (l : Located) → IsTranslated p m asm l → DataStands p m asm l
 stands laws p m asm l h =
     laws.apart p m asm l h.valid h.map
-    (laws.selections (lowered p (plain_table m.io)) asm (laws.made p m.io h.valid h.groups).valid h.code h.selection) h.located
+    (laws.short (object_sizes p) 64 _ h.selected asm h.shortened
+    (laws.selections (lowered p (plain_table m.io)) h.selected (laws.made p m.io h.valid h.groups).valid h.code h.selection)).0 h.located
 
 -- ---- places
 

@@ -7,7 +7,7 @@ ghost use Rattle.ec_watch_laws.specs.Laws.{PlacedHavePlaces, WatchedRunsKeepSour
 
 use ec_avr::steps_are_of_instructions;
 use ec_avr_accesses::runs_change_as_told;
-use ec_build_laws::programs_show_their_sources;
+use ec_build_laws::{programs_show_their_sources, shortened_code_is_valid};
 use ec_core::leaves_fill_their_types;
 use ec_core_numbers::writes_hold_numbers;
 use ec_locate::data_stands_apart;
@@ -22,6 +22,7 @@ pub fn placed_have_places()
     data_stands_apart();
     lowered_is_made_of_its_program();
     selections_are_valid();
+    shortened_code_is_valid();
 }
 
 /// A run of a placed program that stops at a number has made all that its source does up to the first write of this
@@ -37,6 +38,7 @@ pub fn watched_runs_keep_sources()
     programs_show_their_sources();
     runs_change_as_told();
     selections_are_valid();
+    shortened_code_is_valid();
     steps_are_of_instructions();
     writes_hold_numbers();
 }

@@ -1,4 +1,3 @@
-use Rattle.std.proofs.Common.{◌<◌, ◌^◌, length, arith}
 use Rattle.ec_core.specs.Plain.{plain_program}
 use Rattle.ec_ir.specs.Operations.{plain_ir_program}
 use Rattle.ec_build.proofs.Coded.{code_made}
@@ -6,9 +5,6 @@ use Rattle.ec_build.proofs.codes.code_of.Goals as goal
 
 pub returns-clause-code : goal.returns-clause-code
 returns-clause-code c =
-    let within = c.if-len-gt-MOST_ITEMS.false in
-    let many = c.len.ensures in
-    let few : length c.in_ok-asm.asm.items.items < 2 ^ 32 = omega (arith, within, many) in
     code_made (plain_program c.args.program.now) c.args.map.now.io c.in_ok-asm.asm (plain_ir_program c.in_ok-ir.ir) c.in_ok-ir.ensures.code
     c.lowered_programs_have_code.ensures c.requires.valid c.read_groups.ensures c.in_ok-ir.ensures.made c.in_ok-asm.ensures.code
-    c.in_ok-asm.ensures.valid c.in_ok-asm.ensures.words few
+    c.in_ok-asm.ensures.valid c.in_ok-asm.ensures.words

@@ -7,6 +7,7 @@ returns-clause-noted c = noted_are_of_objects (record {
   fit = c.kinds_are_told.ensures.fit;
   made = c.lowered_is_made_of_its_program.ensures;
   selections = c.selections_are_valid.ensures;
+  short = c.shortened_code_is_valid.ensures;
 })
 
 pub returns-clause-events : goal.returns-clause-events

@@ -8,4 +8,5 @@ returns c =
       fit = c.kinds_are_told.ensures.fit;
       made = c.lowered_is_made_of_its_program.ensures;
       selections = c.selections_are_valid.ensures;
+      short = c.shortened_code_is_valid.ensures;
     }) c.stack_stays_inside.ensures

@@ -11,4 +11,11 @@ returns c = placed_are_laid_out (record {
   initials = c.initial_values_stand.ensures;
   made = c.lowered_is_made_of_its_program.ensures;
   selections = c.selections_are_valid.ensures;
+  short = c.shortened_code_is_valid.ensures;
+  long = record {
+    near = c.near_code_stands.ensures.code;
+    used = c.near_code_stands.ensures.words;
+    based = c.based_code_stands.ensures;
+    valid = c.based_items_are_valid.ensures.program;
+  };
 })

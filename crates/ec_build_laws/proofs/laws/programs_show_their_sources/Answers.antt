@@ -12,12 +12,24 @@ returns c = programs_show_their_sources (record {
     initials = c.initial_values_stand.ensures;
     made = c.lowered_is_made_of_its_program.ensures;
     selections = c.selections_are_valid.ensures;
+    short = c.shortened_code_is_valid.ensures;
+    long = record {
+      near = c.near_code_stands.ensures.code;
+      used = c.near_code_stands.ensures.words;
+      based = c.based_code_stands.ensures;
+      valid = c.based_items_are_valid.ensures.program;
+    };
   };
   selections = c.selections_run.ensures;
   follows = c.lowered_follows.ensures;
   machine_run = c.runs_are_steps.ensures.run;
   turns = c.more_turns_only_add.ensures;
   stack = c.stack_stays_inside.ensures;
+  begin = record {
+    steps = c.steps_are_of_instructions.ensures.step;
+    views = c.machine_runs_as_view.ensures;
+    stack = c.stack_stays_inside.ensures;
+  };
   allowed = c.accesses_are_allowed.ensures;
   home = c.events_are_at_home.ensures;
   on_ports = c.sources_access_ports.ensures;
