@@ -13,7 +13,6 @@ use Rattle.ec_ir.specs.Operations.{PlainIr, constant, copy, address, field, load
 use Rattle.ec_ir.specs.Operations.{store_object, binary_op, unary_op, conversion, label, jump, branch_zero}
 use Rattle.ec_ir.specs.Operations.{call_function, return_from, port_in, port_out}
 use Rattle.ec_select_live.specs.Least.{IsLeast}
-use Rattle.ec_asm_near.specs.Near.{near_items}
 use Rattle.ec_ir_known.specs.Known.{right_numbers, numbers_left, HasResultPlace, HaveResultPlaces}
 use Rattle.ec_select_live.specs.Places.{HasPlaces, HavePlaces}
 use Rattle.ec_select_operations.specs.Needs.{Need, facts_of, IsLive}
@@ -159,15 +158,15 @@ added p f first g k labels written e q =
 
 pub selected : (p : PlainIrProgram) (asm : AsmProgram) (n : ℕ) (start items : List AsmItem) → n ≡ length p.functions
     → start ≡ Label entry_label ∷ startup_code (spans_of p) (function_label p.main)
-    → AreWritten p n start items → asm.items.items ≡ near_items items
+    → AreWritten p n start items → asm.items.items ≡ items
     → asm.frames.items ≡ map (λ g. g.slots) p.functions → asm.entry ≡ entry_label → IsSelection p asm
-selected p asm n start items len begins w short frames entry = record {
+selected p asm n start items len begins w own frames entry = record {
   tables = w.tables;
   are_tables = subst (λ (k : ℕ). AreTables p w.tables k) len w.are_tables;
   items =
       let is : items ≡ start ++ functions_code p w.tables (length p.functions) =
       subst (λ (k : ℕ). items ≡ start ++ functions_code p w.tables k) len w.items_are in
-      short ∙ ap near_items (is ∙ ap (λ (x : List AsmItem). x ++ functions_code p w.tables (length p.functions)) begins);
+      own ∙ is ∙ ap (λ (x : List AsmItem). x ++ functions_code p w.tables (length p.functions)) begins;
   frames = frames;
   entry = entry;
 }

@@ -84,7 +84,7 @@ module _ (signed : Bool) (a b to : Location) (top : ℕ) (moved : code_words (mo
 -- ---- items
 
 module _ (sizes : Sizes) where
-  less_fits : (i d : ℕ) → d < 32 → in_table (instruction Difference i d 31) ≡ true
+  pub less_fits : (i d : ℕ) → d < 32 → in_table (instruction Difference i d 31) ≡ true
   less_fits zero d x = rw (reg d x) refl
   less_fits (suc i) d x = rw (reg d x) refl
 
@@ -92,7 +92,7 @@ module _ (sizes : Sizes) where
   raise_byte_fits (InRegisters r) i x = rw (less_fits i (r + i) x) refl
   raise_byte_fits (InMemory o k) i x = rw (x, less_fits i 0 (omega arith)) refl
 
-  take_fits : (p : Location) (i : ℕ) → ByteFits sizes p i → Fit sizes (take_byte p i)
+  pub take_fits : (p : Location) (i : ℕ) → ByteFits sizes p i → Fit sizes (take_byte p i)
   take_fits (InRegisters r) i x = rw (reg (r + i) x) refl
   take_fits (InMemory o k) i x = rw x refl
 

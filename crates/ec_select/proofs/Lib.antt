@@ -9,6 +9,7 @@ mod PointerTypes
 mod PointerItems
 mod PortItems
 mod InPlace
+mod Carried
 mod OneOperation
 mod Setting
 mod Counted

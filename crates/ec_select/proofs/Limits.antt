@@ -1,23 +1,25 @@
 -- The code that stops a sum or a difference at the ends of its range: its items fit, and its words.
-use Rattle.std.proofs.Common.{ℕ, suc, ◌+◌, ◌-◌, ◌*◌, ◌<◌, ◌≤◌, Bool, true, false, ◌++◌, pos, refl}
+use Rattle.std.proofs.Common.{ℕ, suc, ◌+◌, ◌-◌, ◌*◌, ◌<◌, ◌≤◌, ◌==◌, Bool, true, false, [], ◌++◌, pos, refl}
 use Rattle.std.proofs.Common.{arith}
+use Rattle.std.specs.Prelude.{if◌then◌else◌}
 use Rattle.std.proofs.lemmas.Bool.{lt-ltb}
 use Rattle.ec_isa.specs.declared.instructions.Instr.TheVariants.{Brbc}
 use Rattle.ec_asm.specs.declared.items.AsmItem.TheVariants.{Plain}
 use Rattle.ec_asm.specs.declared.pieces.Location.{Location}
 use Rattle.ec_asm.specs.declared.pieces.Location.TheVariants.{InRegisters, InMemory}
 use Rattle.ec_asm.specs.Items.{code_words}
-use Rattle.ec_asm.specs.Pieces.{operate_code}
+use Rattle.ec_asm.specs.Pieces.{copy_code, operate_code}
 use Rattle.ec_asm.specs.Valid.{Sizes}
 use Rattle.ec_asm.proofs.ItemWords.{words_cons}
 use Rattle.ec_fxcode.specs.Clamps.{put_byte, fills_code}
 use Rattle.ec_fxcode_limits.specs.Limits.{past_flag, fill_code, top_code, end_code, end_words, limit_code, operator_of, limited_code}
 use Rattle.ec_fxcode_limits.proofs.Ends.{end_has}
 use Rattle.ec_fxcode_limits.proofs.Limited.{limits_have}
-use Rattle.ec_select_operations.specs.Code.{move_code, stopped_code}
-use Rattle.ec_select.proofs.Fitting.{fits, Fit, joined, chained, ByteFits, BytesFit, reg}
-use Rattle.ec_select.proofs.Pieces.{operate_fits}
-use Rattle.ec_select.proofs.Words.{joined_words, operate_words_most}
+use Rattle.ec_select_bytes.specs.Values.{constant_code}
+use Rattle.ec_select_operations.specs.Code.{move_code, stopped_code, aside_location, negated_code, negated_unary}
+use Rattle.ec_select.proofs.Fitting.{fits, Fit, joined, chained, ByteFits, BytesFit, registers_fit, fewer_fit, reg}
+use Rattle.ec_select.proofs.Pieces.{copy_fits, constant_fits, operate_fits}
+use Rattle.ec_select.proofs.Words.{joined_words, copy_words_most, operate_words_most}
 
 -- ---- words
 
@@ -29,26 +31,47 @@ passed_few minus signed q n =
     let c = limits_have minus signed q n in
     omega (arith, a, b, c)
 
+pub limited_words : (minus signed : Bool) (b to : Location) (top : ℕ) → code_words (limited_code minus signed b to top) ≤ 9 * suc top + 4
+limited_words minus signed b to top =
+    let x = operate_words_most (operator_of minus) b to (suc top) in
+    let z = limits_have minus signed to top in
+    omega (arith, joined_words (operate_code (operator_of minus) b to (suc top)) (limit_code minus signed to top), x, z)
+
 pub stopped_words : (minus signed : Bool) (a b to : Location) (top : ℕ) → code_words (move_code a to (suc top)) ≤ 4 * suc top
     → code_words (stopped_code minus signed a b to top) ≤ 13 * suc top + 4
 stopped_words minus signed a b to top moved =
-    let x = operate_words_most (operator_of minus) b to (suc top) in
-    let z = limits_have minus signed to top in
-    omega (
-      arith,
-      joined_words (move_code a to (suc top)) (limited_code minus signed b to top),
-      joined_words (operate_code (operator_of minus) b to (suc top)) (limit_code minus signed to top),
-      moved,
-      x,
-      z,
-    )
+    let x = limited_words minus signed b to top in
+    omega (arith, joined_words (move_code a to (suc top)) (limited_code minus signed b to top), moved, x)
+
+-- a negation, where so many bytes are needed
+pub negated_words : (signed : Bool) (a to : Location) (bytes n most : ℕ) → 1 ≤ bytes → code_words (constant_code to 0 bytes) ≤ 3 * bytes
+    → 16 * bytes + 4 ≤ most → code_words (negated_unary signed a to bytes n) ≤ most
+negated_words signed a to bytes n most some zero room = by_count (n == 0)
+  where
+    by_count : (b : Bool) → code_words (if b then [] else negated_code signed a to bytes) ≤ most
+    by_count true = omega arith
+    by_count false =
+        let put = constant_code to 0 bytes in
+        let limited = limited_code true signed aside_location to (bytes - 1) in
+        let x = copy_words_most a aside_location bytes in
+        let z = limited_words true signed aside_location to (bytes - 1) in
+        omega (
+          arith,
+          joined_words (copy_code a aside_location bytes) (put ++ limited),
+          joined_words put limited,
+          x,
+          zero,
+          z,
+          some,
+          room,
+        )
 
 -- ---- items
 
 module _ (sizes : Sizes) where
-  put_byte_fits : (q : Location) (i : ℕ) → ByteFits sizes q i → Fit sizes (put_byte 31 q i)
-  put_byte_fits (InRegisters r) i x = rw (reg (r + i) x) refl
-  put_byte_fits (InMemory o k) i x = rw x refl
+  pub put_byte_fits : (s : ℕ) → s < 32 → (q : Location) (i : ℕ) → ByteFits sizes q i → Fit sizes (put_byte s q i)
+  put_byte_fits s h (InRegisters r) i x = rw (reg (r + i) x, reg s h) refl
+  put_byte_fits s h (InMemory o k) i x = rw (x, reg s h) refl
 
   fill_fits : (minus signed : Bool) → Fit sizes (fill_code minus signed)
   fill_fits false true = refl
@@ -64,8 +87,9 @@ module _ (sizes : Sizes) where
   end_fits minus signed q n x =
       joined (fits sizes) (fill_code minus signed) (fills_code q 0 n ++ (top_code signed ++ put_byte 31 q n)) (fill_fits minus signed)
       (joined (fits sizes) (fills_code q 0 n) (top_code signed ++ put_byte 31 q n)
-      (chained (fits sizes) (λ i. put_byte 31 q (0 + i)) (n - 0) (λ i l. put_byte_fits q (0 + i) (x (0 + i) (omega arith))))
-      (joined (fits sizes) (top_code signed) (put_byte 31 q n) (top_fits signed) (put_byte_fits q n (x n (omega arith)))))
+      (chained (fits sizes) (λ i. put_byte 31 q (0 + i)) (n - 0) (λ i l. put_byte_fits 31 (omega arith) q (0 + i) (x (0 + i)
+      (omega arith))))
+      (joined (fits sizes) (top_code signed) (put_byte 31 q n) (top_fits signed) (put_byte_fits 31 (omega arith) q n (x n (omega arith)))))
 
   limit_fits : (minus signed : Bool) (q : Location) (n : ℕ) → n ≤ 7 → BytesFit sizes q (suc n) → Fit sizes (limit_code minus signed q n)
   limit_fits minus signed q n few x = by_sign signed
@@ -77,9 +101,32 @@ module _ (sizes : Sizes) where
       by_sign true = rw (lt-ltb (end_words minus true q n) 64 (words true), end_fits minus true q n x) refl
       by_sign false = rw (lt-ltb (end_words minus false q n) 64 (words false), end_fits minus false q n x) refl
 
+  pub limited_fits : (minus signed : Bool) (b to : Location) (top : ℕ) → top ≤ 7 → BytesFit sizes b (suc top) → BytesFit sizes to (suc top)
+      → Fit sizes (limited_code minus signed b to top)
+  limited_fits minus signed b to top few y z =
+      joined (fits sizes) (operate_code (operator_of minus) b to (suc top)) (limit_code minus signed to top)
+      (operate_fits sizes (operator_of minus) b to (suc top) y z) (limit_fits minus signed to top few z)
+
   pub stopped_fits : (minus signed : Bool) (a b to : Location) (top : ℕ) → top ≤ 7 → Fit sizes (move_code a to (suc top))
       → BytesFit sizes b (suc top) → BytesFit sizes to (suc top) → Fit sizes (stopped_code minus signed a b to top)
   stopped_fits minus signed a b to top few moved y z =
       joined (fits sizes) (move_code a to (suc top)) (limited_code minus signed b to top) moved
-      (joined (fits sizes) (operate_code (operator_of minus) b to (suc top)) (limit_code minus signed to top)
-      (operate_fits sizes (operator_of minus) b to (suc top) y z) (limit_fits minus signed to top few z))
+      (limited_fits minus signed b to top few y z)
+
+  pub negated_fits : (signed : Bool) (a to : Location) (bytes n : ℕ) → 1 ≤ bytes → bytes ≤ 6 → BytesFit sizes a bytes
+      → BytesFit sizes to bytes → Fit sizes (negated_unary signed a to bytes n)
+  negated_fits signed a to bytes n some few x z = by_count (n == 0)
+    where
+      aside : (i : ℕ) → i ≤ 6 → BytesFit sizes aside_location i
+      aside i l = registers_fit sizes 8 i (omega (arith, l))
+
+      by_count : (b : Bool) → Fit sizes (if b then [] else negated_code signed a to bytes)
+      by_count true = refl
+      by_count false =
+          let put = constant_code to 0 bytes in
+          let limited = limited_code true signed aside_location to (bytes - 1) in
+          joined (fits sizes) (copy_code a aside_location bytes) (put ++ limited)
+          (copy_fits sizes a aside_location bytes x (aside bytes few))
+          (joined (fits sizes) put limited (constant_fits sizes to 0 bytes z)
+          (limited_fits true signed aside_location to (bytes - 1) (omega (arith, few)) (aside (suc (bytes - 1)) (omega (arith, some, few)))
+          (fewer_fit sizes to (suc (bytes - 1)) bytes (omega (arith, some)) z)))

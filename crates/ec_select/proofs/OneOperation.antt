@@ -5,6 +5,7 @@ use Rattle.std.proofs.Common.{refl, sym, ap, ◌∙◌, subst, arith, leb-true, 
 use Rattle.std.specs.Prelude.{⊤, min, nat_le, nat_lt, ◌&&◌, ◌||◌, if◌then◌else◌, Option, Some, None, option_map}
 use Rattle.std.specs.Prelude.{slice_get, ℤ}
 use Rattle.std.specs.List.{list_all}
+use Rattle.std.proofs.lemmas.Bool.{and_parts}
 use Rattle.ec_isa.specs.declared.instructions.Instr.TheVariants.{Ret}
 use Rattle.ec_asm.specs.declared.items.AsmItem.{AsmItem}
 use Rattle.ec_asm.specs.declared.items.AsmItem.TheVariants.{Plain, Label, JumpTo, CallTo, BranchTo}
@@ -50,7 +51,7 @@ use Rattle.ec_select_operations.specs.declared.families.Family.TheVariants.{Comb
 use Rattle.ec_select_operations.specs.declared.families.Family.TheVariants.{Divided}
 use Rattle.ec_select_operations.specs.declared.families.Told.{Told}
 use Rattle.ec_select_operations.specs.declared.homes.Homes.{Homes}
-use Rattle.ec_select_operations.specs.Code.{same_location, move_code, reversed_code, family_of, is_signed}
+use Rattle.ec_select_operations.specs.Code.{same_location, transfer_code, move_code, reversed_code, family_of, is_signed}
 use Rattle.ec_select_operations.specs.Code.{conversion_code, combined_code}
 use Rattle.ec_select_operations.specs.Code.{compared_code, multiplied_code, shift_of, shifted_bytes, turned_code}
 use Rattle.ec_select_operations.specs.Code.{shifted_code, long_code}
@@ -62,7 +63,9 @@ use Rattle.ec_select_operations.specs.Code.{restore_code, taken_code, call_code,
 use Rattle.ec_select_operations.specs.Code.{flag_code, operator_code, tested_code, kept_need, op_code, tells_next}
 use Rattle.ec_select_operations.specs.Code.{ops_code}
 use Rattle.ec_select_operations.specs.Code.{work_location, answer_location, answer_code, by_kind, fixed_binary, fixed_unary}
-use Rattle.ec_select_operations.specs.Code.{is_on_integers, is_placed, placed_whole, placed_binary, keeps_number}
+use Rattle.ec_select_operations.specs.Code.{is_on_integers, is_placed, placed_whole, placed_binary, keeps_number, is_brought, brought_code}
+use Rattle.ec_select_operations.specs.Code.{negated_unary}
+use Rattle.ec_select_fixed.specs.Types.{format_in}
 use Rattle.ec_select_operations.specs.Emitted.{second_bytes}
 use Rattle.ec_select_operations.proofs.OneFormat.{placed_bytes}
 use Rattle.ec_select_operations.specs.Code.{fixed_conversion, addressed_code, load_code, banked_code, offset_code}
@@ -82,11 +85,13 @@ use Rattle.ec_select_operations.specs.Places.{object_location}
 use Rattle.ec_select_operations.specs.Pointers.{is_pointer, is_into_data, home_of, IsPointerSize}
 use Rattle.ec_select_operations.specs.Ports.{in_code, out_code}
 use Rattle.ec_select.proofs.FixedItems.{FixedItemLaws, plain_fits, has_places, answer_fits, own_fits, others_fit}
+use Rattle.ec_select.proofs.Carried.{carried_fits}
 use Rattle.ec_select.proofs.InPlace.{whole_fits}
+use Rattle.ec_select.proofs.Limits.{negated_fits}
 use Rattle.ec_select.proofs.FixedTypes.{type_fixed, either_fixed, no_fixed, no_fixed_operand, none_converted}
 use Rattle.ec_select.proofs.Fitting.{fits, Fit, joined, chained, passing, and_first, and_second, BytesFit}
 use Rattle.ec_select.proofs.Fitting.{registers_fit, fewer_fit}
-use Rattle.ec_select.proofs.Pieces.{copy_fits, operate_fits, compare_fits, relation_fits, constant_fits, test_fits}
+use Rattle.ec_select.proofs.Pieces.{copy_fits, transfer_fits, operate_fits, compare_fits, relation_fits, constant_fits, test_fits}
 use Rattle.ec_select.proofs.Pieces.{extend_fits}
 use Rattle.ec_select.proofs.Pieces.{complement_fits, negation_fits}
 use Rattle.ec_select.proofs.PointerItems.{PointerItemLaws, fewer_places, few_compared, addressed_fits, field_fits}
@@ -155,9 +160,9 @@ module _ (sizes : Sizes) where
 
   pub move_fits : (p q : Location) (n : ℕ) → BytesFit sizes p n → BytesFit sizes q n → Fit sizes (move_code p q n)
   move_fits p q n x y = by_place (same_location p q) where
-    by_place : (same : Bool) → Fit sizes (if same then [] else copy_code p q n)
+    by_place : (same : Bool) → Fit sizes (if same then [] else transfer_code p q n)
     by_place true = refl
-    by_place false = copy_fits sizes p q n x y
+    by_place false = transfer_fits sizes p q n x y
 
   convert_fits : (signed : Bool) (p q : Location) (bytes n : ℕ) → 1 ≤ bytes → BytesFit sizes p bytes
       → BytesFit sizes q n → Fit sizes (conversion_code signed p q bytes n)
@@ -393,15 +398,28 @@ module _ (sizes : Sizes) where
         code : List AsmItem
         code = fixed_unary_code op ty mode (home k.homes a) answer_location work_location
 
-        by_mode : (saturates : Bool)
-            → Fit sizes (if saturates then answer_code code (home k.homes to) n else unary_code op (home k.homes a) (home k.homes to) n)
-        by_mode true =
+        stopped : List AsmItem
+        stopped = negated_unary (is_signed ty) (home k.homes a) (home k.homes to) (scalar_size ty) n
+
+        by_size : (few : Bool) → nat_le (scalar_size ty) 6 ≡ few → Fit sizes (if few then stopped else answer_code code (home k.homes to) n)
+        by_size true q =
+            let some = h.result.some in let e = h.result_bytes in
+            negated_fits sizes (is_signed ty) (home k.homes a) (home k.homes to) (scalar_size ty) n (omega (arith, some, e))
+            (leb-true (scalar_size ty) 6 q)
+            (subst (BytesFit sizes (home k.homes a)) h.operand_bytes (at_home a h.operand))
+            (subst (BytesFit sizes (home k.homes to)) e (at_home to h.result))
+        by_size false q =
             let most = h.result.most in let e = h.result_bytes in
             answer_fits sizes room.work code (home k.homes to) n (omega arith)
             (plain_fits sizes code
             (laws.fixed.unaries sizes op ty mode (home k.homes a) answer_location work_location h.types
             (places a (scalar_size ty) h.operand h.operand_bytes) (answer_places (scalar_size ty) (omega arith)) work_places))
             (low_home to n h.result l)
+
+        by_mode : (saturates : Bool)
+            → Fit sizes (if saturates then (if nat_le (scalar_size ty) 6 then stopped else answer_code code (home k.homes to) n)
+            else unary_code op (home k.homes a) (home k.homes to) n)
+        by_mode true = by_size (nat_le (scalar_size ty) 6) refl
         by_mode false =
             let same : a.bytes ≡ to.bytes = h.operand_bytes ∙ sym h.result_bytes in
             unary_fits op to a (integer false to.bytes) n
@@ -414,19 +432,34 @@ module _ (sizes : Sizes) where
         code : List AsmItem
         code = fixed_conversion_code ty aty mode (home k.homes a) answer_location work_location
 
-        by_number : (keeps : Bool)
-            → Fit sizes (if keeps then conversion_code (is_signed aty) (home k.homes a) (home k.homes to) a.bytes n
-            else answer_code code (home k.homes to) n)
-        by_number true =
-            convert_fits (is_signed aty) (home k.homes a) (home k.homes to) a.bytes n h.from.some (at_home a h.from)
-            (low_home to n h.result l)
-        by_number false =
+        brought : List AsmItem
+        brought =
+            brought_code (is_signed aty) (home k.homes a) (home k.homes to) (scalar_size aty) (scalar_size ty) (format_in aty).frac
+            (format_in ty).frac n
+
+        by_way : (brings : Bool) → is_brought ty aty mode ≡ brings → Fit sizes (if brings then brought else answer_code code
+            (home k.homes to) n)
+        by_way true q =
+            let some = h.from.some in let e = h.from_bytes in
+            carried_fits sizes (is_signed aty) (home k.homes a) (home k.homes to) (scalar_size aty) (scalar_size ty) (format_in aty).frac
+            (format_in ty).frac n (and_parts (not (is_fixed ty && mode.saturate)) _ q).1 (omega (arith, some, e))
+            (subst (BytesFit sizes (home k.homes a)) e (at_home a h.from))
+            (subst (BytesFit sizes (home k.homes to)) h.result_bytes (at_home to h.result))
+        by_way false q =
             let most = h.result.most in let e = h.result_bytes in
             answer_fits sizes room.work code (home k.homes to) n (omega arith)
             (plain_fits sizes code
             (laws.fixed.conversions sizes ty aty mode (home k.homes a) answer_location work_location h.types
             (places a (scalar_size aty) h.from h.from_bytes) (answer_places (scalar_size ty) (omega arith)) work_places))
             (low_home to n h.result l)
+
+        by_number : (keeps : Bool)
+            → Fit sizes (if keeps then conversion_code (is_signed aty) (home k.homes a) (home k.homes to) a.bytes n
+            else (if is_brought ty aty mode then brought else answer_code code (home k.homes to) n))
+        by_number true =
+            convert_fits (is_signed aty) (home k.homes a) (home k.homes to) a.bytes n h.from.some (at_home a h.from)
+            (low_home to n h.result l)
+        by_number false = by_way (is_brought ty aty mode) refl
 
     -- ---- operations on pointers
 

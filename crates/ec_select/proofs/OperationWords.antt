@@ -4,7 +4,7 @@ use Rattle.std.proofs.Common.{◌%◌, refl, sym, ap, ◌∙◌, subst, arith, l
 use Rattle.std.specs.Prelude.{⊤, min, nat_le, ◌&&◌, ◌||◌, if◌then◌else◌, Option, Some, None, option_map, ℤ}
 use Rattle.std.specs.List.{AllByRecursion}
 use Rattle.std.proofs.Math.Nat.{mul-le-mul_left}
-use Rattle.std.proofs.lemmas.Bool.{le-leb, false≢true}
+use Rattle.std.proofs.lemmas.Bool.{le-leb, false≢true, and_parts}
 use Rattle.std.proofs.lemmas.Bool.Decides.{nat_tests}
 use Rattle.ec_isa.specs.declared.instructions.Instr.TheVariants.{Ret}
 use Rattle.ec_asm.specs.declared.items.AsmItem.{AsmItem}
@@ -68,7 +68,7 @@ use Rattle.ec_select_operations.specs.declared.families.Family.TheVariants.{Comb
 use Rattle.ec_select_operations.specs.declared.families.Family.TheVariants.{Divided}
 use Rattle.ec_select_operations.specs.declared.families.Told.{Told}
 use Rattle.ec_select_operations.specs.declared.homes.Homes.{Homes}
-use Rattle.ec_select_operations.specs.Code.{same_location, move_code, reversed_code, family_of, is_signed}
+use Rattle.ec_select_operations.specs.Code.{same_location, transfer_code, move_code, reversed_code, family_of, is_signed}
 use Rattle.ec_select_operations.specs.Code.{conversion_code, combined_code}
 use Rattle.ec_select_operations.specs.Code.{compared_code, multiplied_code, shift_of, shifted_bytes, turned_code}
 use Rattle.ec_select_operations.specs.Code.{shifted_code, long_code}
@@ -80,7 +80,8 @@ use Rattle.ec_select_operations.specs.Code.{flag_code, operator_code, tested_cod
 use Rattle.ec_select_operations.specs.Code.{ops_code}
 use Rattle.ec_select_operations.specs.Code.{work_location, answer_location, answer_code, by_kind, fixed_binary, fixed_unary}
 use Rattle.ec_select_operations.specs.Code.{is_on_integers, has_one_format, takes_place, is_placed, placed_whole, placed_binary}
-use Rattle.ec_select_operations.specs.Code.{keeps_number}
+use Rattle.ec_select_operations.specs.Code.{keeps_number, is_brought, brought_code, negated_unary}
+use Rattle.ec_select_fixed.specs.Types.{format_in}
 use Rattle.ec_select_operations.specs.Code.{fixed_conversion, addressed_code, load_code, banked_code, offset_code}
 use Rattle.ec_select_operations.specs.Code.{pointers_code}
 use Rattle.ec_select_operations.specs.Code.{is_difference, pointer_binary, pointer_conversion}
@@ -102,12 +103,14 @@ use Rattle.ec_select_operations.specs.Places.{object_location}
 use Rattle.ec_select_operations.specs.Pointers.{is_pointer, is_into_data, home_of, tag_in, IsPointerSize}
 use Rattle.ec_select.specs.InPlace.{IsInPlace}
 use Rattle.ec_select.proofs.FixedItems.{answer_words, own_words, others_words}
+use Rattle.ec_select.proofs.Carried.{carried_words}
 use Rattle.ec_select.proofs.InPlace.{placed_words, placed_not_bitwise}
+use Rattle.ec_select.proofs.Limits.{negated_words}
 use Rattle.ec_select.proofs.FixedTypes.{type_fixed, either_fixed, no_fixed, no_fixed_operand, none_converted}
 use Rattle.ec_select.proofs.Fitting.{and_first, and_second}
 use Rattle.ec_select.proofs.PointerItems.{tagged, few_compared}
 use Rattle.ec_select.proofs.PointerTypes.{two_pointers, pointers_only, pointer_converted, no_pointer, none_pointed}
-use Rattle.ec_select.proofs.Words.{joined_words, chained_words, copy_words_most, save_words_most, load_words_most}
+use Rattle.ec_select.proofs.Words.{joined_words, chained_words, copy_words_most, transfer_words_most, save_words_most, load_words_most}
 use Rattle.ec_select.proofs.PortItems.{point_words, in_words_most, out_words_most}
 use Rattle.ec_select.proofs.Words.{operate_words_most, quotient_words}
 
@@ -130,9 +133,9 @@ pub record WordLaws : Type 0 where
 
 move_words : (p q : Location) (n : ℕ) → code_words (move_code p q n) ≤ 4 * n
 move_words p q n = by_place (same_location p q) where
-  by_place : (same : Bool) → code_words (if same then [] else copy_code p q n) ≤ 4 * n
+  by_place : (same : Bool) → code_words (if same then [] else transfer_code p q n) ≤ 4 * n
   by_place true = omega arith
-  by_place false = copy_words_most p q n
+  by_place false = transfer_words_most p q n
 
 same_place : (p : Location) → same_location p p ≡ true
 same_place (InRegisters r) = grind (arith, nat_tests)
@@ -681,12 +684,23 @@ module _ (laws : WordLaws) where
       code : List AsmItem
       code = fixed_unary_code op ty mode (home h a) answer_location work_location
 
-      by_mode : (saturates : Bool)
-          → code_words (if saturates then answer_code code (home h to) n else unary_code op (home h a) (home h to) n) ≤ unary_words ty
-      by_mode true =
+      stopped : List AsmItem
+      stopped = negated_unary (is_signed ty) (home h a) (home h to) (scalar_size ty) n
+
+      by_size : (few : Bool) → code_words (if few then stopped else answer_code code (home h to) n) ≤ unary_words ty
+      by_size true =
+          let some = i.result.some in let e = i.result_bytes in
+          negated_words (is_signed ty) (home h a) (home h to) (scalar_size ty) n (unary_words ty) (omega (arith, some, e))
+          (laws.values (home h to) 0 (scalar_size ty) (scalar_size ty)).0 (omega arith)
+      by_size false =
           let bytes = i.result_bytes in
           let most = laws.fixed_unaries op ty mode (home h a) answer_location work_location i.types in
           answer_words code (home h to) n (scalar_size ty) (unary_words ty) (omega arith) most
+
+      by_mode : (saturates : Bool)
+          → code_words (if saturates then (if nat_le (scalar_size ty) 6 then stopped else answer_code code (home h to) n)
+          else unary_code op (home h a) (home h to) n) ≤ unary_words ty
+      by_mode true = by_size (nat_le (scalar_size ty) 6)
       by_mode false =
           let bytes = i.result_bytes in
           let same : a.bytes ≡ to.bytes = i.operand_bytes ∙ sym i.result_bytes in
@@ -697,22 +711,33 @@ module _ (laws : WordLaws) where
   fixed_conversion_most : (ty aty : PlainType) (mode : Mode) (slots : ℕ) (h : Homes) (to a : Temp) (n : ℕ)
       → IsFixedConversion slots to a ty aty → n ≤ to.bytes
       → code_words (fixed_conversion ty aty mode (home h a) (home h to) a.bytes n) ≤ conversion_words ty aty
-  fixed_conversion_most ty aty mode slots h to a n i l = by_number (keeps_number ty aty mode)
+  fixed_conversion_most ty aty mode slots h to a n i l = by_number (keeps_number ty aty mode) refl
     where
       code : List AsmItem
       code = fixed_conversion_code ty aty mode (home h a) answer_location work_location
 
-      by_number : (keeps : Bool)
-          → code_words (if keeps then conversion_code (is_signed aty) (home h a) (home h to) a.bytes n
-          else answer_code code (home h to) n) ≤ conversion_words ty aty
-      by_number true =
-          let x = conversion_few (is_signed aty) (home h a) (home h to) a.bytes n to.bytes l in
-          let y = conversion_row ty aty in let w = i.result_bytes in
-          omega (arith, x, y, w)
-      by_number false =
+      brought : List AsmItem
+      brought =
+          brought_code (is_signed aty) (home h a) (home h to) (scalar_size aty) (scalar_size ty) (format_in aty).frac (format_in ty).frac n
+
+      by_way : (brings : Bool) → is_brought ty aty mode ≡ brings → keeps_number ty aty mode ≡ false
+          → code_words (if brings then brought else answer_code code (home h to) n) ≤ conversion_words ty aty
+      by_way true q other =
+          carried_words ty aty mode (is_signed aty) (home h a) (home h to) (format_in aty).frac (format_in ty).frac n other i.types
+          (and_parts (not (is_fixed ty && mode.saturate)) _ q).1
+      by_way false q other =
           let bytes = i.result_bytes in
           let few = laws.fixed_conversions ty aty mode (home h a) answer_location work_location i.types in
           answer_words code (home h to) n (scalar_size ty) (conversion_words ty aty) (omega arith) few
+
+      by_number : (keeps : Bool) → keeps_number ty aty mode ≡ keeps
+          → code_words (if keeps then conversion_code (is_signed aty) (home h a) (home h to) a.bytes n
+          else (if is_brought ty aty mode then brought else answer_code code (home h to) n)) ≤ conversion_words ty aty
+      by_number true q =
+          let x = conversion_few (is_signed aty) (home h a) (home h to) a.bytes n to.bytes l in
+          let y = conversion_row ty aty in let w = i.result_bytes in
+          omega (arith, x, y, w)
+      by_number false q = by_way (is_brought ty aty mode) refl q
 
   -- ---- operations on integers, with a fixed-point type, or on pointers
 

@@ -1,8 +1,8 @@
 -- The pieces of code fit.
-use Rattle.std.proofs.Common.{◌≡◌, ℕ, zero, suc, ◌+◌, ◌-◌, ◌<◌, ◌≤◌, Bool, true, false, []}
+use Rattle.std.proofs.Common.{◌≡◌, ℕ, zero, suc, ◌+◌, ◌-◌, ◌*◌, ◌/◌, ◌%◌, ◌<◌, ◌≤◌, Bool, true, false, []}
 use Rattle.std.proofs.Common.{◌∷◌, ◌++◌, refl, arith}
-use Rattle.std.specs.Prelude.{nat_le, if◌then◌else◌}
-use Rattle.std.proofs.lemmas.Bool.{lt-ltb, le-leb}
+use Rattle.std.specs.Prelude.{◌==◌, ◌&&◌, nat_le, if◌then◌else◌}
+use Rattle.std.proofs.lemmas.Bool.{lt-ltb, le-leb, eqb-true, eqb-false, and_parts}
 use Rattle.ec_isa.specs.declared.instructions.Instr.{Instr}
 use Rattle.ec_isa.specs.declared.instructions.Instr.TheVariants.{Eor, Add, Sbc, Mov, Ldi}
 use Rattle.ec_isa.specs.Table.{in_table}
@@ -13,10 +13,12 @@ use Rattle.ec_asm.specs.declared.pieces.Operator.{Operator}
 use Rattle.ec_asm.specs.declared.pieces.Operator.TheVariants.{Sum, Difference, BitAnd, BitOr, BitXor}
 use Rattle.ec_asm.specs.Pieces.{copy_byte, copy_code, binary_byte, instruction, operate_byte, operate_code, compares}
 use Rattle.ec_asm.specs.Pieces.{compare_byte, compare_code}
+use Rattle.ec_asm.specs.Items.{chain}
 use Rattle.ec_asm.specs.Valid.{Sizes}
 use Rattle.ec_select_bytes.specs.Complements.{complement_byte, complement_code, carry_byte, carry_code, negation_code}
 use Rattle.ec_select_bytes.specs.Values.{byte_of, constant_byte, constant_code, test_byte, test_code, put_byte}
 use Rattle.ec_select_bytes.specs.Values.{take_byte, fill_code, puts_code, clear_byte, widen_code, extend_code}
+use Rattle.ec_select_operations.specs.Code.{pair_code, odd_code, pairs_code, transfer_code}
 use Rattle.ec_select_order.specs.declared.relations.Relation.{Relation}
 use Rattle.ec_select_order.specs.declared.relations.Relation.TheVariants.{Less, NotLess, Equal, NotEqual}
 use Rattle.ec_select_order.specs.Relations.{truth_code, relation_code}
@@ -35,6 +37,42 @@ module _ (sizes : Sizes) where
   pub copy_fits : (p q : Location) (n : ℕ) → BytesFit sizes p n → BytesFit sizes q n → Fit sizes (copy_code p q n)
   copy_fits p q n x y =
       chained (fits sizes) (copy_byte p q) n (λ i l. copy_byte_fits p q i (x i l) (y i l))
+
+  -- ---- copies by pairs
+
+  even_more : (a i : ℕ) → (a % 2 == 0) ≡ true → ((a + 2 * i) % 2 == 0) ≡ true
+  even_more a i h = let e : (a + 2 * i) % 2 ≡ 0 = omega (arith, eqb-true (a % 2) 0 h) in rw e refl
+
+  pair_fits : (a b n i : ℕ) → (a % 2 == 0) ≡ true → (b % 2 == 0) ≡ true → BytesFit sizes (InRegisters a) n
+      → BytesFit sizes (InRegisters b) n → i < n / 2 → Fit sizes (pair_code a b i)
+  pair_fits a b n i g h x y l =
+      rw (reg (b + 2 * i) (y (2 * i) (omega arith)), reg (a + 2 * i) (x (2 * i) (omega arith)), even_more b i h, even_more a i g) refl
+
+  pairs_fit : (a b n : ℕ) → (a % 2 == 0 && b % 2 == 0) ≡ true → BytesFit sizes (InRegisters a) n
+      → BytesFit sizes (InRegisters b) n → Fit sizes (pairs_code a b n)
+  pairs_fit a b n h x y =
+      let even = and_parts (a % 2 == 0) (b % 2 == 0) h in
+      joined (fits sizes) (chain (pair_code a b) (n / 2)) (odd_code a b n)
+      (chained (fits sizes) (pair_code a b) (n / 2) (λ i l. pair_fits a b n i even.0 even.1 x y l)) (by_count (n % 2 == 0) refl)
+    where
+      by_count : (none : Bool) → (n % 2 == 0) ≡ none
+          → Fit sizes (if none then [] else copy_byte (InRegisters a) (InRegisters b) (n / 2 * 2))
+      by_count true q = refl
+      by_count false q =
+          let odd = eqb-false (n % 2) 0 q in
+          copy_byte_fits (InRegisters a) (InRegisters b) (n / 2 * 2) (x (n / 2 * 2) (omega (arith, odd)))
+          (y (n / 2 * 2) (omega (arith, odd)))
+
+  pub transfer_fits : (p q : Location) (n : ℕ) → BytesFit sizes p n → BytesFit sizes q n → Fit sizes (transfer_code p q n)
+  transfer_fits (InRegisters a) (InRegisters b) n x y = by_evenness (a % 2 == 0 && b % 2 == 0) refl
+    where
+      by_evenness : (even : Bool) → (a % 2 == 0 && b % 2 == 0) ≡ even
+          → Fit sizes (if even then pairs_code a b n else copy_code (InRegisters a) (InRegisters b) n)
+      by_evenness true h = pairs_fit a b n h x y
+      by_evenness false h = copy_fits (InRegisters a) (InRegisters b) n x y
+  transfer_fits (InRegisters a) (InMemory o k) n x y = copy_fits (InRegisters a) (InMemory o k) n x y
+  transfer_fits (InMemory o k) (InRegisters b) n x y = copy_fits (InMemory o k) (InRegisters b) n x y
+  transfer_fits (InMemory o k) (InMemory o' k') n x y = copy_fits (InMemory o k) (InMemory o' k') n x y
 
   -- ---- operators
 

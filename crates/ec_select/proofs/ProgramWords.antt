@@ -16,7 +16,6 @@ use Rattle.ec_ir.specs.Costs.{functions_words}
 use Rattle.ec_ir.specs.Costs.{code_words as operations_words}
 use Rattle.ec_ir.specs.Operations.{PlainIrFunction, PlainIrProgram, data_of}
 use Rattle.ec_ir.specs.Valid.{ValidIr, called_in}
-use Rattle.ec_asm_near.specs.Laws.{NoMoreWords}
 use Rattle.ec_select_operations.specs.Code.{ops_code}
 use Rattle.ec_select_operations.specs.Homes.{home}
 use Rattle.ec_select_functions.specs.Laws.{linkage_of}
@@ -123,8 +122,6 @@ module _ (laws : WordLaws) (startup : StartupHasWords) (p : PlainIrProgram) (val
         e,
       )
 
-pub selections_have_words : WordLaws → StartupHasWords → NoMoreWords → SelectionsHaveWords
-selections_have_words laws startup near p asm valid has in_place h =
-    let a = program_few laws startup p valid has in_place h.tables in
-    let b = near (program_code p h.tables) in
-    rw h.items (omega (arith, a, b))
+pub selections_have_words : WordLaws → StartupHasWords → SelectionsHaveWords
+selections_have_words laws startup p asm valid has in_place h =
+    rw h.items (program_few laws startup p valid has in_place h.tables)

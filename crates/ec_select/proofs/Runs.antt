@@ -13,11 +13,10 @@ use Rattle.ec_space.specs.declared.space.Bank.TheVariants.{Data as DataBank, Fla
 use Rattle.ec_asm.specs.declared.items.AsmItem.{AsmItem}
 use Rattle.ec_asm.specs.declared.items.AsmProgram.{AsmProgram}
 use Rattle.ec_asm.specs.Change.{Env, Kind, Object}
-use Rattle.ec_asm.specs.Items.{HasAt, chain, code_words}
+use Rattle.ec_asm.specs.Items.{HasAt, chain}
 use Rattle.ec_asm.specs.Laws.{PartsStand}
 use Rattle.ec_asm.specs.Pieces.{value}
 use Rattle.ec_asm.specs.Shows.{Shows, Fits, may_be}
-use Rattle.ec_asm.specs.Valid.{stands_once}
 use Rattle.ec_asm.specs.View.{View}
 use Rattle.ec_avr.specs.Machine.{State}
 use Rattle.ec_core.specs.declared.values.Value.{Value}
@@ -31,8 +30,6 @@ use Rattle.ec_core.specs.Valid.{IsObject}
 use Rattle.ec_ir.specs.Meaning.{start_state, standing}
 use Rattle.ec_ir.specs.Operations.{PlainIrFunction, PlainIrProgram, data_of}
 use Rattle.ec_ir.specs.Valid.{ValidIr}
-use Rattle.ec_asm_near.specs.Laws.{NearCodeStands, UsedLabelsHaveWords}
-use Rattle.ec_asm_near.specs.Near.{near_items}
 use Rattle.ec_select_reset.specs.Laws.{HasInitials, CanStart, ProgramsShowTheirOperations}
 use Rattle.ec_select_functions.specs.Laws.{Made, IsSelected, AreSelected}
 use Rattle.ec_select_operations.specs.Places.{ObjectLeaf, CanBeLiveTogether}
@@ -51,14 +48,12 @@ use Rattle.ec_select.specs.Selected.{HasCode, IsSelection}
 use Rattle.ec_select.proofs.Added.{by_place}
 use Rattle.ec_select.proofs.Setting.{all_at}
 use Rattle.ec_select.proofs.SpanLists.{the_span, IsInitial, each_from, span_holds, pairs_from}
-use Rattle.ec_select.proofs.Whole.{CodeLaws, long_is_valid}
+use Rattle.ec_select.proofs.Whole.{CodeLaws}
 
 -- what this rests on
 pub record RunLaws : Type 0 where
   pub code : CodeLaws
   pub parts : PartsStand
-  pub near_code : NearCodeStands
-  pub used : UsedLabelsHaveWords
   pub follows : ProgramsShowTheirOperations
 
 -- ---- numbers of bytes that are the same
@@ -154,22 +149,14 @@ module _ (laws : RunLaws) (p : PlainIrProgram) (asm : AsmProgram) (e : Env) (pla
   abbrev functions : List AsmItem
   functions = functions_code p h.tables (length p.functions)
 
-  long_stands : HasAt e code 0 (0 + code_words (near_items code))
-  long_stands =
-      let labels = (long_is_valid laws.code p asm valid has h).labels in
-      let words = laws.used e code labels
-      (λ l t. laid.code.labels l (subst (λ (is : List AsmItem). stands_once is l ≡ true) (sym h.items) t)) in
-      let z : code_words (near_items code) ≡ 0 + code_words (near_items code) = omega arith in
-      let near = subst (λ (is : List AsmItem). HasAt e is 0 (code_words is)) h.items laid.code.stands in
-      laws.near_code e code 0 words (subst (λ (n : ℕ). HasAt e (near_items code) 0 n) z near)
+  stands : HasAt e code laid.code.begin laid.code.end
+  stands = subst (λ (is : List AsmItem). HasAt e is laid.code.begin laid.code.end) h.items laid.code.stands
 
-  rest_stands : HasAt e (start ++ functions) 0 (0 + code_words (near_items code))
-  rest_stands =
-      let s = long_stands in
-      subst (λ (n : ℕ). HasAt e (start ++ functions) n (0 + code_words (near_items code))) s.1.1 s.2
+  rest_stands : HasAt e (start ++ functions) laid.code.begin laid.code.end
+  rest_stands = subst (λ (n : ℕ). HasAt e (start ++ functions) n laid.code.end) stands.1.1 stands.2
 
-  both_stand : (mid : ℕ) × HasAt e start 0 mid × HasAt e functions mid (0 + code_words (near_items code))
-  both_stand = laws.parts e start functions 0 (0 + code_words (near_items code)) rest_stands
+  both_stand : (mid : ℕ) × HasAt e start laid.code.begin mid × HasAt e functions mid laid.code.end
+  both_stand = laws.parts e start functions laid.code.begin laid.code.end rest_stands
 
   -- ---- functions
 
@@ -183,7 +170,7 @@ module _ (laws : RunLaws) (p : PlainIrProgram) (asm : AsmProgram) (e : Env) (pla
   is_selected f g q =
       let both = both_stand in
       let piece = piece_at laws.parts e (λ k. code_of p (h.tables k) k (slice_get p.functions k)) (length p.functions) both.0
-      (0 + code_words (near_items code)) f both.2 (slice_get_within p.functions f g q) in
+      laid.code.end f both.2 (slice_get_within p.functions f g q) in
       let here = subst (λ (o : Option PlainIrFunction). HasAt e (code_of p (h.tables f) f o) piece.0 piece.1) q piece.2 in
       subst (λ (o : Option PlainIrFunction). IsSelected p e place function_label has.results f g (made_at f o) (scratch f)) (sym q)
       (record {
@@ -326,7 +313,7 @@ module _ (laws : RunLaws) (p : PlainIrProgram) (asm : AsmProgram) (e : Env) (pla
       ap v.at a ∙ here ∙ ap (slice_index e.flash) c)
       (laid.initials.values l x u q r)
 
-  can_start : CanStart p e place function_label (spans_of p) low 0
+  can_start : CanStart p e place function_label (spans_of p) low laid.code.begin
   can_start =
       let both = both_stand in
       record {
@@ -343,7 +330,7 @@ module _ (laws : RunLaws) (p : PlainIrProgram) (asm : AsmProgram) (e : Env) (pla
       }
 
   pub runs : (s : State) (v : View) (inputs : Inputs) → Shows e size s.mem v → ((port : ℕ) → v.inputs port ≡ inputs port)
-      → s.pc ≡ 0 → RunsAsOperations p place e v s inputs
+      → s.pc ≡ laid.code.begin → RunsAsOperations p place e v s inputs
   runs s v inputs shows feeds pc =
       let begun = subst (λ (n : ℕ). CanStart p e place function_label (spans_of p) low n) (sym pc) can_start in
       let shown = laws.follows p place function_label e (spans_of p) size low s v inputs valid fits shows feeds are_selected begun in
@@ -352,5 +339,5 @@ module _ (laws : RunLaws) (p : PlainIrProgram) (asm : AsmProgram) (e : Env) (pla
       record { shows = shown; few = omega (arith, few, most) }
 
 pub selections_run : RunLaws → SelectionsRun
-selections_run laws p asm e place scratch size low s v inputs valid has h fits small shows feeds pc laid =
+selections_run laws p asm e place scratch size low s v inputs valid has h fits small shows feeds laid pc =
     runs laws p asm e place scratch size low valid has h fits small laid s v inputs shows feeds pc

@@ -15,7 +15,6 @@ use Rattle.ec_ir.specs.Operations.{store_object, binary_op, unary_op, conversion
 use Rattle.ec_ir.specs.Operations.{call_function, return_from, port_in, port_out, PlainIrFunction, PlainIrProgram}
 use Rattle.ec_ir.specs.Operations.{data_of}
 use Rattle.ec_ir.specs.Valid.{ValidIr, ValidOperation, count, called_in}
-use Rattle.ec_asm_near.specs.Laws.{ProgramsStayValid}
 use Rattle.ec_select_operations.specs.Code.{Linkage}
 use Rattle.ec_select_operations.specs.Needs.{Need, facts_of}
 use Rattle.ec_select_startup.specs.Laws.{StartupIsValid, StartupUsesMain, StartupPlacesNoLabel}
@@ -37,7 +36,6 @@ pub record CodeLaws : Type 0 where
   pub items : StartupIsValid
   pub used : StartupUsesMain
   pub placed : StartupPlacesNoLabel
-  pub near : ProgramsStayValid
 
 module _ (laws : CodeLaws) (p : PlainIrProgram) (valid : ValidIr p) (has : HasCode p) (tables : ℕ → ℕ → Need) where
   abbrev code : List AsmItem
@@ -190,15 +188,5 @@ module _ (laws : CodeLaws) (p : PlainIrProgram) (valid : ValidIr p) (has : HasCo
     functions = rw frames (let l = valid.function_count in omega (arith, length-map p.functions (λ (g : PlainIrFunction). g.slots)));
   }
 
--- the program with all items in their long forms
-abbrev pub long_form : PlainIrProgram → (ℕ → ℕ → Need) → AsmProgram → AsmProgram
-long_form p tables asm = record asm { items = record asm.items { items = program_code p tables } }
-
-pub long_is_valid : CodeLaws → (p : PlainIrProgram) (asm : AsmProgram) → ValidIr p → HasCode p → (h : IsSelection p asm)
-    → ValidAsm (object_sizes p) 64 (long_form p h.tables asm)
-long_is_valid laws p asm valid has h =
-    is_valid laws p valid has h.tables (long_form p h.tables asm) refl h.frames h.entry
-
 pub selections_are_valid : CodeLaws → SelectionsAreValid
-selections_are_valid laws p asm valid has h =
-    laws.near (object_sizes p) 64 (long_form p h.tables asm) asm h.items refl refl (long_is_valid laws p asm valid has h)
+selections_are_valid laws p asm valid has h = is_valid laws p valid has h.tables asm h.items h.frames h.entry

@@ -1,6 +1,7 @@
 -- The words of pieces of code.
-use Rattle.std.proofs.Common.{◌≡◌, ℕ, zero, suc, ◌+◌, ◌*◌, ◌≤◌, Bool, true, false, List, [], ◌∷◌, ◌++◌, refl}
+use Rattle.std.proofs.Common.{◌≡◌, ℕ, zero, suc, ◌+◌, ◌*◌, ◌/◌, ◌%◌, ◌≤◌, Bool, true, false, List, [], ◌∷◌, ◌++◌, refl}
 use Rattle.std.proofs.Common.{arith}
+use Rattle.std.specs.Prelude.{◌==◌, ◌&&◌, if◌then◌else◌}
 use Rattle.std.proofs.lemmas.List.Sums.{sum_by-append}
 use Rattle.ec_isa.specs.declared.instructions.Instr.TheVariants.{Eor, Mov, Ldi}
 use Rattle.ec_asm.specs.declared.items.AsmItem.{AsmItem}
@@ -21,6 +22,7 @@ use Rattle.ec_select_quotients.specs.Quotients.{mark_code, take_code, skip_code,
 use Rattle.ec_select_quotients.specs.Signs.{sign_test, sign_skip, negate_if_code, top_code, cross_code, signs_code}
 use Rattle.ec_select_quotients.specs.Signs.{clear_byte, clear_code, start_code, result_code, sign_code, finish_code}
 use Rattle.ec_select_quotients.specs.Signs.{divided_code, quotient_code}
+use Rattle.ec_select_operations.specs.Code.{pair_code, odd_code, pairs_code, transfer_code}
 
 pub joined_words : (a b : List AsmItem) → code_words (a ++ b) ≡ code_words a + code_words b
 joined_words a b = sum_by-append item_words a b
@@ -41,6 +43,35 @@ copy_byte_words (InMemory o k) (InMemory p j) i = omega arith
 
 pub copy_words_most : (p q : Location) (n : ℕ) → code_words (copy_code p q n) ≤ 4 * n
 copy_words_most p q n = chained_words (copy_byte p q) n 4 (copy_byte_words p q)
+
+pairs_words : (r t n : ℕ) → code_words (pairs_code r t n) ≤ 4 * n
+pairs_words r t n =
+    omega (
+      arith,
+      joined_words (chain (pair_code r t) (n / 2)) (odd_code r t n),
+      chained_words (pair_code r t) (n / 2) 1 (λ i. omega arith),
+      by_count (n % 2 == 0) refl,
+    )
+  where
+    some_odd : (n : ℕ) → (n % 2 == 0) ≡ false → 1 ≤ n
+    some_odd zero h = cc
+    some_odd (suc n) h = omega arith
+
+    by_count : (even : Bool) → (n % 2 == 0) ≡ even
+        → code_words (if even then [] else copy_byte (InRegisters r) (InRegisters t) (n / 2 * 2)) ≤ n
+    by_count true h = omega arith
+    by_count false h = some_odd n h
+
+pub transfer_words_most : (p q : Location) (n : ℕ) → code_words (transfer_code p q n) ≤ 4 * n
+transfer_words_most (InRegisters r) (InRegisters t) n = by_evenness (r % 2 == 0 && t % 2 == 0)
+  where
+    by_evenness : (even : Bool)
+        → code_words (if even then pairs_code r t n else copy_code (InRegisters r) (InRegisters t) n) ≤ 4 * n
+    by_evenness true = pairs_words r t n
+    by_evenness false = copy_words_most (InRegisters r) (InRegisters t) n
+transfer_words_most (InRegisters r) (InMemory o k) n = copy_words_most (InRegisters r) (InMemory o k) n
+transfer_words_most (InMemory o k) (InRegisters t) n = copy_words_most (InMemory o k) (InRegisters t) n
+transfer_words_most (InMemory o k) (InMemory o' k') n = copy_words_most (InMemory o k) (InMemory o' k') n
 
 pub save_words_most : (r o k n : ℕ) → code_words (copy_code (InRegisters r) (InMemory o k) n) ≤ 2 * n
 save_words_most r o k n = chained_words (copy_byte (InRegisters r) (InMemory o k)) n 2 (λ i. omega arith)

@@ -1,12 +1,11 @@
 -- Where the code of a program, its objects and its stack stand.
 use Rattle.std.specs.Prelude.{◌≡◌, ℕ, ◌+◌, ◌*◌, ◌<◌, ◌≤◌, true, if◌then◌else◌, List, Some, slice_get, slice_index}
-use Rattle.std.specs.Prelude.{length, sum_by, IsTrue}
+use Rattle.std.specs.Prelude.{length, sum_by}
 use Rattle.ec_space.specs.declared.space.Bank.TheVariants.{Data as DataBank}
 use Rattle.ec_asm.specs.declared.items.AsmProgram.{AsmProgram}
 use Rattle.ec_asm.specs.Change.{Env, Stacked}
-use Rattle.ec_asm.specs.Items.{HasAt, code_words}
+use Rattle.ec_asm.specs.Items.{HasAt}
 use Rattle.ec_asm.specs.Pieces.{is_held}
-use Rattle.ec_asm.specs.Valid.{stands_once}
 use Rattle.ec_core.specs.declared.values.Value.{Value}
 use Rattle.ec_core.specs.Accesses.{leaf_of}
 use Rattle.ec_core.specs.Layout.{size_of_type}
@@ -23,10 +22,11 @@ use Rattle.ec_select_startup.specs.Laws.{HasStack}
 use Rattle.ec_select.specs.Labels.{homes_of}
 use Rattle.ec_select.specs.Program.{has_initial_bytes}
 
--- The items stand from word 0 on, where each label that stands once has a word
+-- The items stand from one word to another
 pub record CodeStands (asm : AsmProgram) (e : Env) : Type 0 where
-  pub stands : HasAt e asm.items.items 0 (code_words asm.items.items)
-  pub labels : (l : ℕ) → IsTrue (stands_once asm.items.items l) → e.word_of l < 65536
+  pub begin : ℕ
+  pub end : ℕ
+  pub stands : HasAt e asm.items.items begin end
   pub flash : length e.flash ≤ 131_072
 
 -- The scratch memory of each function stands at an address, apart from the objects and from that of any other function

@@ -42,18 +42,18 @@ OperationsHaveCode = (p : PlainIrProgram) → ValidIr p → AreOnPorts p → Are
 
 -- ---- what the code does
 
--- From the first word on a machine comes to where main begins, in at most so many steps and with no accesses but those
--- that copy the initial bytes. From there on it shows all that the operations do, within the steps that they may take,
--- and never more, as long as they access none but ports of the machine
+-- From the first word on a machine comes to where main begins, in at most two steps less than so many and with no
+-- accesses but those that copy the initial bytes. From there on it shows all that the operations do, within the steps
+-- that they may take, and never more, as long as they access none but ports of the machine
 pub record RunsAsOperations (p : PlainIrProgram) (place : ℕ → ℕ) (e : Env) (v : View) (s : State)
     (inputs : Inputs) : Type 0 where
   pub shows : ShowsProgram p place e (spans_of p) v s inputs
-  pub few : shows.steps ≤ start_steps p
+  pub few : shows.steps + 2 ≤ start_steps p
 
 -- wherever code, objects and stack stand, and whatever the memory holds
 abbrev pub SelectionsRun : Type 0
 SelectionsRun =
     (p : PlainIrProgram) (asm : AsmProgram) (e : Env) (place scratch : ℕ → ℕ) (size low : ℕ) (s : State) (v : View)
     (inputs : Inputs) → ValidIr p → HasCode p → IsSelection p asm → Fits e size → size < 65536
-    → Shows e size s.mem v → ((port : ℕ) → v.inputs port ≡ inputs port) → s.pc ≡ 0
-    → IsLaidOut p asm e place scratch low → RunsAsOperations p place e v s inputs
+    → Shows e size s.mem v → ((port : ℕ) → v.inputs port ≡ inputs port)
+    → (laid : IsLaidOut p asm e place scratch low) → s.pc ≡ laid.code.begin → RunsAsOperations p place e v s inputs

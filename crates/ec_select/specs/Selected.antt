@@ -5,7 +5,6 @@ use Rattle.ec_asm.specs.declared.items.AsmProgram.{AsmProgram}
 use Rattle.ec_ir.specs.Operations.{PlainIrFunction, PlainIrProgram, data_of}
 use Rattle.ec_ir.specs.Valid.{called_in}
 use Rattle.ec_select_live.specs.Least.{IsLeast}
-use Rattle.ec_asm_near.specs.Near.{near_items}
 use Rattle.ec_select_functions.specs.Covered.{AreCovered}
 use Rattle.ec_select_operations.specs.Needs.{Need, IsLive}
 use Rattle.ec_select.specs.Labels.{entry_label}
@@ -37,11 +36,10 @@ pub record AreWritten (p : PlainIrProgram) (n : ℕ) (before : List AsmItem) (it
   pub are_tables : AreTables p tables n
   pub items_are : items ≡ before ++ functions_code p tables n
 
--- The items are the code of the program, by what is needed at the labels. Jumps, calls and branches to labels that are
--- near are in one word
+-- the items are the code of the program, by what is needed at the labels
 pub record IsSelection (p : PlainIrProgram) (asm : AsmProgram) : Type 0 where
   pub tables : ℕ → ℕ → Need
   pub are_tables : AreTables p tables (length p.functions)
-  pub items : asm.items.items ≡ near_items (program_code p tables)
+  pub items : asm.items.items ≡ program_code p tables
   pub frames : asm.frames.items ≡ map (λ g. g.slots) p.functions
   pub entry : asm.entry ≡ entry_label

@@ -3,7 +3,6 @@ ghost use Rattle.ec_select.specs.Laws.{OperationsHaveCode, SelectionsAreValid, S
 ghost use Rattle.ec_select.specs.Laws.{SelectionsRun};
 
 use ec_asm::laws::parts_stand;
-use ec_asm_near::laws::{near_code_stands, near_items_are_short, near_items_are_valid};
 use ec_core::leaves_fill_their_types;
 use ec_select_bytes::laws::{complements_are_straight, values_are_straight};
 use ec_select_fixed::laws::{
@@ -33,7 +32,6 @@ pub fn selections_are_valid()
     ensures { SelectionsAreValid }
 {
     startup_is_valid();
-    near_items_are_valid();
     leaves_fill_their_types();
     fixed_binaries_are_plain();
     fixed_unaries_are_plain();
@@ -63,7 +61,6 @@ pub fn selections_have_words()
     elements_are_formed();
     numbers_are_operands();
     startup_has_words();
-    near_items_are_short();
 }
 
 /// A machine that begins at the first word of a program's code shows what its operations do, wherever code, objects
@@ -82,8 +79,6 @@ pub fn selections_run()
     tables_are_formed();
     places_are_valid();
     elements_are_formed();
-    near_code_stands();
-    near_items_are_valid();
     parts_stand();
     programs_show_their_operations();
 }

@@ -15,7 +15,6 @@ use crate::functions::add_functions;
 use crate::laws::{selections_are_valid, selections_have_words};
 use crate::spans::spans_of;
 use ec_asm::{AsmItem, AsmProgram};
-use ec_asm_near::near;
 use ec_ir::IrProgram;
 use ec_select_startup::startup;
 use ec_space::{NoMemory, Seq};
@@ -32,8 +31,7 @@ fn frames_of(alloc: Global, ir: &IrProgram) -> Result<Seq<u16>, NoMemory>
     Ok(frames)
 }
 
-/// The code of a program whose operations all have code: what runs before `main`, and behind it each function. Jumps,
-/// calls and branches to labels that are near take one word.
+/// The code of a program whose operations all have code: what runs before `main`, and behind it each function.
 ///
 /// It can be placed, with the sizes of the program's objects and 64 work bytes. Where operators have their results in
 /// place, it has at most the words that the operations may take and those of the rows of the program and its objects.
@@ -54,10 +52,9 @@ pub fn select(alloc: Global, ir: &IrProgram) -> Result<AsmProgram, NoMemory>
     let spans = spans_of(alloc, ir)?;
     startup(&mut items, spans.as_slice(), 1 + u64::from(ir.main))?;
     add_functions(alloc, &mut items, ir)?;
-    let short = near(alloc, &items)?;
     let frames = frames_of(alloc, ir)?;
     Ok(AsmProgram {
-        items: short,
+        items,
         frames,
         entry: 0,
     })

@@ -4,6 +4,7 @@ pub mod Conversions
 pub mod Converted
 pub mod Operators
 pub mod Suits
+pub mod Unaries
 -- For this crate alone.
 mod Emits
 mod Kept
@@ -11,5 +12,4 @@ mod PlainItems
 mod Runs
 mod Sizes
 mod Truths
-mod Unaries
 mod Values

@@ -40,7 +40,7 @@ negation_slots e p q w k i o s h = record {
 }
 
 -- bytes that hold the negation are those of the result
-negated : (t : FixedType) (mode : Mode) (x z : ℕ)
+pub negated : (t : FixedType) (mode : Mode) (x z : ℕ)
     → HoldsResult ((format_of t.kind).bits / 8) (negation_of (fixed_in (format_of t.kind) ((format_of t.kind).bits / 8) x) mode) z
     → IsUnaryResult Minus (fixed t.kind t.sat) mode x z
 negated t mode x z h u r read e =

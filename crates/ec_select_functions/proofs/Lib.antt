@@ -5,6 +5,7 @@ pub mod OnWholes
 pub mod Taken
 -- For this crate alone.
 mod Wrapped
+mod Transfers
 mod Moves
 mod Match
 mod Computed
@@ -12,6 +13,8 @@ mod ByNumber
 mod Accesses
 mod FixedRuns
 mod Limited
+mod Carried
+mod Negated
 mod Stopped
 mod Placed
 mod Follow

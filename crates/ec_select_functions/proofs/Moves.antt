@@ -1,7 +1,7 @@
 -- Copies between homes, and what is kept.
-use Rattle.std.proofs.Common.{◌≡◌, ◌≢◌, ℕ, zero, suc, ◌+◌, ◌-◌, ◌*◌, ◌<◌, ◌≤◌, ⊎_elim, Bool, true, false, [], refl}
+use Rattle.std.proofs.Common.{◌≡◌, ◌≢◌, ℕ, zero, suc, ◌+◌, ◌-◌, ◌*◌, ◌%◌, ◌<◌, ◌≤◌, ⊎_elim, Bool, true, false, [], refl}
 use Rattle.std.proofs.Common.{sym, ap, ◌∙◌, subst, arith, append-nil}
-use Rattle.std.specs.Prelude.{◌==◌, if◌then◌else◌}
+use Rattle.std.specs.Prelude.{◌==◌, ◌&&◌, if◌then◌else◌}
 use Rattle.std.proofs.lemmas.Bool.{cases_eq, cases_lt, eqb-true, and_parts}
 use Rattle.ec_asm.specs.declared.pieces.Location.{Location}
 use Rattle.ec_asm.specs.declared.pieces.Location.TheVariants.{InRegisters, InMemory}
@@ -13,8 +13,9 @@ use Rattle.ec_asm.specs.PieceLaws.{HoldsNumbers, IsReadFirst}
 use Rattle.ec_asm.specs.declared.pieces.Operator.TheVariants.{Sum}
 use Rattle.ec_asm.proofs.Compared.{copy_holds}
 use Rattle.ec_asm.proofs.Results.{pieces_are_straight, pieces_take}
-use Rattle.ec_select_operations.specs.Code.{same_location, move_code}
+use Rattle.ec_select_operations.specs.Code.{same_location, pairs_code, transfer_code, move_code}
 use Rattle.ec_select_operations.specs.Places.{Apart, IsClear}
+use Rattle.ec_select_functions.proofs.Transfers.{Brought, pairs_bring, pairs_straight, pairs_steps}
 
 -- all is kept but n bytes from b, R0, R1 and R30
 abbrev pub Frame : View → View → ℕ → ℕ → Type 0
@@ -146,32 +147,68 @@ same_is (InMemory o k) (InMemory p j) h =
     ap (λ x. InMemory x k) (eqb-true o p r.0) ∙ ap (InMemory p) (eqb-true k j r.1)
 
 stays : (e : Env) (p q : Location) (n a b : ℕ) (v : View) → StandsFrom e p n a Own → StandsFrom e q n b Own → p ≡ q
-    → HoldsNumbers v → Moves v v a b n
-stays e p q n a b v sa sb same h = record {
+    → Brought v a b n v
+stays e p q n a b v sa sb same = record {
   there = λ j l. let x = sa.at j l in let y = sb.at j l in let z = ap (λ r. address e r j) same in ap v.at (sym y ∙ sym z ∙ x);
-  frame = λ k x y z o. refl;
-  work = h 30 (omega arith);
-  quiet = record { inputs = refl; safe = refl; seen = refl };
+  same = λ k z o. refl;
+  inputs = refl;
+  safe = refl;
+  seen = refl;
+}
+
+copy_brings : (e : Env) (p q : Location) (n a b : ℕ) (v : View) → StandsFrom e p n a Own → StandsFrom e q n b Own
+    → IsReadFirst a b n → Brought v a b n (block e (copy_code p q n) v)
+copy_brings e p q n a b v sa sb far =
+    let c = copy_holds e p q n a b Own Own v sa sb refl refl far in
+    record {
+      there = c.there;
+      same = c.same;
+      inputs = c.inputs;
+      safe = c.safe;
+      seen = c.seen ∙ rw (no_log a b v.at n) (append-nil v.seen);
+    }
+
+moves_by : (v v1 : View) (a b n : ℕ) → 2 ≤ a → HoldsNumbers v → Brought v a b n v1 → Moves v v1 a b n
+moves_by v v1 a b n some h c = record {
+  there = c.there;
+  frame = λ k x y z o. c.same k x o;
+  work = work_kept v v1 a b n some h c.there c.same;
+  quiet = record { inputs = c.inputs; safe = c.safe; seen = c.seen };
 }
 
 pub copied : (e : Env) (p q : Location) (n a b : ℕ) (v : View) → StandsFrom e p n a Own → StandsFrom e q n b Own
     → IsReadFirst a b n → HoldsNumbers v → Moves v (block e (copy_code p q n) v) a b n
 copied e p q n a b v sa sb far h =
-    let c = copy_holds e p q n a b Own Own v sa sb refl refl far in
-    record {
-      there = c.there;
-      frame = λ k x y z o. c.same k x o;
-      work = work_kept v (block e (copy_code p q n) v) a b n sa.clear h c.there c.same;
-      quiet = record { inputs = c.inputs; safe = c.safe; seen = c.seen ∙ rw (no_log a b v.at n) (append-nil v.seen) };
-    }
+    moves_by v (block e (copy_code p q n) v) a b n sa.clear h (copy_brings e p q n a b v sa sb far)
+
+transfer_brings : (e : Env) (p q : Location) (n a b : ℕ) (v : View) → StandsFrom e p n a Own → StandsFrom e q n b Own
+    → IsReadFirst a b n → HoldsNumbers v → Brought v a b n (block e (transfer_code p q n) v)
+transfer_brings e (InRegisters r) (InRegisters t) n a b v sa sb far h = by_evenness (r % 2 == 0 && t % 2 == 0)
+  where
+    by_evenness : (even : Bool)
+        → Brought v a b n (block e (if even then pairs_code r t n else copy_code (InRegisters r) (InRegisters t) n) v)
+    by_evenness true = pairs_bring e r t n a b v sa sb far h
+    by_evenness false = copy_brings e (InRegisters r) (InRegisters t) n a b v sa sb far
+transfer_brings e (InRegisters r) (InMemory o k) n a b v sa sb far h =
+    copy_brings e (InRegisters r) (InMemory o k) n a b v sa sb far
+transfer_brings e (InMemory o k) (InRegisters t) n a b v sa sb far h =
+    copy_brings e (InMemory o k) (InRegisters t) n a b v sa sb far
+transfer_brings e (InMemory o k) (InMemory o' k') n a b v sa sb far h =
+    copy_brings e (InMemory o k) (InMemory o' k') n a b v sa sb far
+
+-- what is brought to another place, of which nothing but R0 is touched on the way
+pub move_brings : (e : Env) (p q : Location) (n a b : ℕ) (v : View) → StandsFrom e p n a Own → StandsFrom e q n b Own
+    → IsReadFirst a b n → HoldsNumbers v → Brought v a b n (block e (move_code p q n) v)
+move_brings e p q n a b v sa sb far h = by_same (same_location p q) refl
+  where
+    by_same : (x : Bool) → same_location p q ≡ x → Brought v a b n (block e (if x then [] else transfer_code p q n) v)
+    by_same true s = stays e p q n a b v sa sb (same_is p q s)
+    by_same false s = transfer_brings e p q n a b v sa sb far h
 
 pub move_holds : (e : Env) (p q : Location) (n a b : ℕ) (v : View) → StandsFrom e p n a Own → StandsFrom e q n b Own
     → IsReadFirst a b n → HoldsNumbers v → Moves v (block e (move_code p q n) v) a b n
-move_holds e p q n a b v sa sb far h = by_same (same_location p q) refl
-  where
-    by_same : (x : Bool) → same_location p q ≡ x → Moves v (block e (if x then [] else copy_code p q n) v) a b n
-    by_same true s = stays e p q n a b v sa sb (same_is p q s) h
-    by_same false s = copied e p q n a b v sa sb far h
+move_holds e p q n a b v sa sb far h =
+    moves_by v (block e (move_code p q n) v) a b n sa.clear h (move_brings e p q n a b v sa sb far h)
 
 -- ---- the form of copies
 
@@ -181,16 +218,38 @@ copy_straight p q n = (pieces_are_straight Sum p q n).0
 pub copy_steps : (p q : Location) (n : ℕ) → (n ≤ code_steps (copy_code p q n)) × (code_steps (copy_code p q n) ≤ n * 2)
 copy_steps p q n = (pieces_take Sum p q n).0
 
+transfer_straight : (p q : Location) (n : ℕ) → all_straight (transfer_code p q n) ≡ true
+transfer_straight (InRegisters r) (InRegisters t) n = by_evenness (r % 2 == 0 && t % 2 == 0)
+  where
+    by_evenness : (even : Bool)
+        → all_straight (if even then pairs_code r t n else copy_code (InRegisters r) (InRegisters t) n) ≡ true
+    by_evenness true = pairs_straight r t n
+    by_evenness false = copy_straight (InRegisters r) (InRegisters t) n
+transfer_straight (InRegisters r) (InMemory o k) n = copy_straight (InRegisters r) (InMemory o k) n
+transfer_straight (InMemory o k) (InRegisters t) n = copy_straight (InMemory o k) (InRegisters t) n
+transfer_straight (InMemory o k) (InMemory o' k') n = copy_straight (InMemory o k) (InMemory o' k') n
+
+transfer_steps : (p q : Location) (n : ℕ) → code_steps (transfer_code p q n) ≤ n * 2
+transfer_steps (InRegisters r) (InRegisters t) n = by_evenness (r % 2 == 0 && t % 2 == 0)
+  where
+    by_evenness : (even : Bool)
+        → code_steps (if even then pairs_code r t n else copy_code (InRegisters r) (InRegisters t) n) ≤ n * 2
+    by_evenness true = pairs_steps r t n
+    by_evenness false = (copy_steps (InRegisters r) (InRegisters t) n).1
+transfer_steps (InRegisters r) (InMemory o k) n = (copy_steps (InRegisters r) (InMemory o k) n).1
+transfer_steps (InMemory o k) (InRegisters t) n = (copy_steps (InMemory o k) (InRegisters t) n).1
+transfer_steps (InMemory o k) (InMemory o' k') n = (copy_steps (InMemory o k) (InMemory o' k') n).1
+
 pub move_straight : (p q : Location) (n : ℕ) → all_straight (move_code p q n) ≡ true
 move_straight p q n = by_same (same_location p q)
   where
-    by_same : (x : Bool) → all_straight (if x then [] else copy_code p q n) ≡ true
+    by_same : (x : Bool) → all_straight (if x then [] else transfer_code p q n) ≡ true
     by_same true = refl
-    by_same false = copy_straight p q n
+    by_same false = transfer_straight p q n
 
 pub move_steps : (p q : Location) (n : ℕ) → code_steps (move_code p q n) ≤ n * 2
 move_steps p q n = by_same (same_location p q)
   where
-    by_same : (x : Bool) → code_steps (if x then [] else copy_code p q n) ≤ n * 2
+    by_same : (x : Bool) → code_steps (if x then [] else transfer_code p q n) ≤ n * 2
     by_same true = omega arith
-    by_same false = (copy_steps p q n).1
+    by_same false = transfer_steps p q n

@@ -17,9 +17,8 @@ use Rattle.ec_asm.specs.declared.pieces.Location.TheVariants.{InRegisters}
 use Rattle.ec_asm.specs.View.{View}
 use Rattle.ec_asm.specs.Change.{Env, Own}
 use Rattle.ec_asm.specs.Items.{HasAt, block, code_steps}
-use Rattle.ec_asm.specs.Pieces.{StandsFrom, Outside, value, copy_code}
-use Rattle.ec_asm.specs.PieceLaws.{HoldsNumbers, IsReadFirst}
-use Rattle.ec_asm.proofs.Compared.{copy_holds}
+use Rattle.ec_asm.specs.Pieces.{StandsFrom, Outside, value}
+use Rattle.ec_asm.specs.PieceLaws.{HoldsNumbers}
 use Rattle.ec_asm.proofs.Hoare.{has_parts, block_goes, goes_on_to}
 use Rattle.ec_asm.proofs.Numbers.{value_below, value_mod}
 use Rattle.ec_asm.proofs.Sum.{value-same}
@@ -61,7 +60,7 @@ use Rattle.ec_select_functions.specs.Relation.{Matches}
 use Rattle.ec_select_functions.proofs.FixedRuns.{clear_of_ends}
 use Rattle.ec_select_functions.proofs.Follow.{Follows, after}
 use Rattle.ec_select_functions.proofs.Match.{kept_left, wanted_most, read_first, written_wide}
-use Rattle.ec_select_functions.proofs.Moves.{Wide, move_holds, move_straight, move_steps, row_value, stands_less, work_outside}
+use Rattle.ec_select_functions.proofs.Moves.{Wide, move_brings, move_holds, move_straight, move_steps, row_value, stands_less, work_outside}
 use Rattle.ec_select_functions.proofs.Computed.{moved_numbers}
 use Rattle.ec_select_functions.proofs.Limited.{IsLimited, limited}
 use Rattle.ec_select_functions.proofs.Related.{work_stands}
@@ -169,15 +168,6 @@ shift_result false k s u bty mode x y z suited whole h =
 
 -- ---- the run
 
--- R30 after a copy to another place
-count_kept : (e : Env) (p q : Location) (n a b : ℕ) (v : View) → StandsFrom e p n a Own → StandsFrom e q n b Own → IsReadFirst a b n
-    → Outside b n 30 → (block e (move_code p q n) v).at 30 ≡ v.at 30
-count_kept e p q n a b v sa sb far out = by_same (same_location p q)
-  where
-    by_same : (x : Bool) → (block e (if x then [] else copy_code p q n) v).at 30 ≡ v.at 30
-    by_same true = refl
-    by_same false = (copy_holds e p q n a b Own Own v sa sb refl refl far).same 30 (omega arith) out
-
 module _ (p : PlainProgram) (e : Env) (slots : ℕ) (home : Temp → Location) (base : Temp → ℕ) (place : ℕ → ℕ)
     (y : Setting p e slots home base place) where
   abbrev M : Need → Mach → View → Type 0
@@ -222,8 +212,9 @@ module _ (p : PlainProgram) (e : Env) (slots : ℕ) (home : Temp → Location) (
       let far_a : Outside (base a) k 30 =
       subst (λ (i : ℕ). Outside (base a) i 30) same_a (work_outside (base a) a.bytes (y.layout.temps_work a ia)) in
       let zb : base b + 0 ≡ base b = omega arith in
+      let brought = move_brings e (home a) (home t) k (base a) (base t) v1 sa st first h1 in
       let count_is : v2.at 30 ≡ v.at (base b) =
-      count_kept e (home a) (home t) k (base a) (base t) v1 sa st first far ∙ k1.there 0 (omega arith) ∙ ap v.at zb in
+      brought.same 30 (omega arith) far ∙ k1.there 0 (omega arith) ∙ ap v.at zb in
       let same1 : (j : ℕ) → j < k → v1.at (base a + j) ≡ v.at (base a + j) =
       λ j l. (let two = sa.clear in
       k1.frame (base a + j) (omega arith) (omega arith) (not_work (base a) k j far_a l) (beside (base a) k j far_a l)) in

@@ -15,16 +15,15 @@ use Rattle.ec_space.specs.declared.space.SpaceId.TheVariants.{Flash, Data, Gener
 use Rattle.ec_space.specs.Spaces.{width}
 use Rattle.ec_asm.specs.declared.items.AsmItem.{AsmItem}
 use Rattle.ec_asm.specs.declared.pieces.Location.{Location}
-use Rattle.ec_asm.specs.declared.pieces.Location.TheVariants.{InRegisters, InMemory}
+use Rattle.ec_asm.specs.declared.pieces.Location.TheVariants.{InRegisters}
 use Rattle.ec_asm.specs.View.{View}
 use Rattle.ec_asm.specs.Change.{Env, Own}
 use Rattle.ec_asm.specs.Items.{HasAt, block, all_straight, code_steps}
-use Rattle.ec_asm.specs.Pieces.{StandsFrom, Outside, Keeps, value, address, copy_code}
-use Rattle.ec_asm.specs.PieceLaws.{HoldsNumbers, IsReadFirst}
-use Rattle.ec_asm.proofs.Compared.{copy_holds}
+use Rattle.ec_asm.specs.Pieces.{StandsFrom, Outside, Keeps, value}
+use Rattle.ec_asm.specs.PieceLaws.{HoldsNumbers}
 use Rattle.ec_asm.proofs.Hoare.{has_parts, block_goes, goes_on_to, block-append, straight-append, steps-append}
 use Rattle.ec_asm.proofs.Numbers.{pow_pos}
-use Rattle.std.proofs.Common.{append-nil, min}
+use Rattle.std.proofs.Common.{min}
 use Rattle.ec_core.specs.declared.expressions.BinOp.{BinOp}
 use Rattle.ec_core.specs.declared.expressions.BinOp.TheVariants.{Add, Sub, Lt}
 use Rattle.ec_core.specs.declared.expressions.BinOp.TheVariants.{Gt, Le, Ge, Eq, Ne}
@@ -68,7 +67,7 @@ use Rattle.ec_select_operations.specs.Code.{is_apart}
 use Rattle.ec_select_operations.specs.Code.{Linkage, op_code, ops_code, told_by, tells_next, family_of, is_signed}
 use Rattle.ec_select_operations.specs.Code.{is_only_tested}
 use Rattle.ec_select_operations.specs.Code.{wanted_bytes}
-use Rattle.ec_select_operations.specs.Code.{same_location, move_code, conversion_code, offset_code, is_difference}
+use Rattle.ec_select_operations.specs.Code.{move_code, conversion_code, offset_code, is_difference}
 use Rattle.ec_select_operations.specs.Code.{pointers_code}
 use Rattle.ec_select_functions.specs.Covered.{IsPointerBinary, IsPointerConversion}
 use Rattle.ec_select_operations.specs.Homes.{HasHome}
@@ -85,7 +84,8 @@ use Rattle.ec_select_functions.proofs.Match.{least_other}
 use Rattle.ec_select_functions.proofs.Match.{without_other, held_row}
 use Rattle.ec_select_functions.proofs.Moves.{Frame, Wide, numbers_kept, row_value, narrower, stands_less}
 use Rattle.ec_select_functions.proofs.Moves.{move_straight, move_steps}
-use Rattle.ec_select_functions.proofs.Moves.{no_log}
+use Rattle.ec_select_functions.proofs.Moves.{move_brings}
+use Rattle.ec_select_functions.proofs.Transfers.{Brought}
 use Rattle.ec_select_functions.proofs.Numeric.{from_numeric}
 use Rattle.ec_select_functions.proofs.PointerNumbers.{HavePlaces, AreApartIn, objects_have_places, place_of, tag_byte}
 use Rattle.ec_select_functions.proofs.PointerNumbers.{IsAddressed, IsIntoSpace}
@@ -119,48 +119,6 @@ leaves_z a n m l c = record { low = below 30 (omega arith) (omega arith); high =
     below : (k : ℕ) → 30 ≤ k → k < 32 → Outside a m k
     below k u w q = ⊎_elim (λ (x : a < 26). let z = c.high.left x in omega arith)
         (λ (x : 26 ≤ a). let z = c.high.right x in absurd (omega arith)) (cases_lt a 26)
-
--- ---- copies that leave R30 and R31 alone
-
--- n bytes were brought from a to b, and all else is kept but R0
-record Brings (v w : View) (a b n : ℕ) : Type 0 where
-  there : (j : ℕ) → j < n → w.at (b + j) ≡ v.at (a + j)
-  same : (k : ℕ) → k ≢ 0 → Outside b n k → w.at k ≡ v.at k
-  inputs : w.inputs ≡ v.inputs
-  safe : w.safe ≡ v.safe
-  seen : w.seen ≡ v.seen
-
-same_is : (p q : Location) → same_location p q ≡ true → p ≡ q
-same_is (InRegisters a) (InRegisters b) h = ap InRegisters (eqb-true a b h)
-same_is (InRegisters a) (InMemory o k) h = cc
-same_is (InMemory o k) (InRegisters b) h = cc
-same_is (InMemory o k) (InMemory p j) h =
-    let r = and_parts (o == p) (k == j) h in
-    ap (λ x. InMemory x k) (eqb-true o p r.0) ∙ ap (InMemory p) (eqb-true k j r.1)
-
-brings : (e : Env) (p q : Location) (n a b : ℕ) (v : View) → StandsFrom e p n a Own → StandsFrom e q n b Own
-    → IsReadFirst a b n → Brings v (block e (move_code p q n) v) a b n
-brings e p q n a b v sa sb far = by_same (same_location p q) refl
-  where
-    by_same : (x : Bool) → same_location p q ≡ x → Brings v (block e (if x then [] else copy_code p q n) v) a b n
-    by_same true s = record {
-      there = λ j l. let x = sa.at j l in let y = sb.at j l in let z =
-          ap (λ r. address e r j) (same_is p q s) in ap v.at (sym y ∙ sym z ∙ x);
-      same = λ k x o. refl;
-      inputs = refl;
-      safe = refl;
-      seen = refl;
-    }
-    by_same false s =
-        let c = copy_holds e p q n a b Own Own v sa sb refl refl far in
-        record {
-          there = c.there;
-          same = c.same;
-          inputs = c.inputs;
-          safe = c.safe;
-          seen = c.seen
-              ∙ rw (no_log a b v.at n) (append-nil v.seen);
-        }
 
 -- ---- operands
 
@@ -286,9 +244,9 @@ module _ (p : PlainProgram) (e : Env) (slots : ℕ) (home : Temp → Location) (
       sc = y.pointers.scaled e (home b) signed b.bytes (size % 65536) (base b) v (y.layout.temps_at b ib)
           (leaves_z (base b) b.bytes b.bytes (omega arith) (y.layout.temps_work b ib)) ib.some (mod_below size 65536 (omega arith)) h.bytes
 
-      mv : Brings v1 v2 (base a) (base t) a.bytes
-      mv = brings e (home a) (home t) a.bytes (base a) (base t) v1 (y.layout.temps_at a ia) to_stands
-          (read_first p e slots home base place y t a a.bytes it ia (omega arith))
+      mv : Brought v1 (base a) (base t) a.bytes v2
+      mv = move_brings e (home a) (home t) a.bytes (base a) (base t) v1 (y.layout.temps_at a ia) to_stands
+          (read_first p e slots home base place y t a a.bytes it ia (omega arith)) sc.numbers
 
       -- the pointer is there until it is brought to its place
       pointer_kept : (j : ℕ) → j < a.bytes → v1.at (base a + j) ≡ v.at (base a + j)
@@ -471,11 +429,11 @@ module _ (p : PlainProgram) (e : Env) (slots : ℕ) (home : Temp → Location) (
       v1 : View
       v1 = block e (move_code (home a) (home t) w) v
 
-      mv : Brings v v1 (base a) (base t) w
-      mv = brings e (home a) (home t) w (base a) (base t) v (stands_less e (home a) a.bytes w (base a) Own
+      mv : Brought v (base a) (base t) w v1
+      mv = move_brings e (home a) (home t) w (base a) (base t) v (stands_less e (home a) a.bytes w (base a) Own
           (omega (arith, most, less)) (y.layout.temps_at a ia))
           (stands_less e (home t) t.bytes w (base t) Own most (y.layout.temps_at t it))
-          (read_first p e slots home base place y t a w it ia (omega (arith, most, less)))
+          (read_first p e slots home base place y t a w it ia (omega (arith, most, less))) h.bytes
 
       same_number : number_of (place_of p place a.bytes x) % 256 ^ w ≡ number_of (place_of p place t.bytes x) % 256 ^ w
       same_number =

@@ -98,7 +98,9 @@ use Rattle.ec_select_fixed.specs.Types.{IsFixedType, IsNumberType}
 use Rattle.ec_select_fixed.proofs.Suits.{AreSuited, operands_suit}
 use Rattle.ec_select_operations.specs.Code.{told_by, by_kind as code_by_kind, fixed_binary, answer_code, answer_location}
 use Rattle.ec_select_operations.specs.Code.{fixed_unary, fixed_conversion, keeps_number, is_apart, is_on_integers, operator_code}
-use Rattle.ec_select_operations.specs.Code.{work_location, wanted_bytes, is_placed, placed_whole, placed_binary}
+use Rattle.ec_select_operations.specs.Code.{work_location, wanted_bytes, is_placed, placed_whole, placed_binary, is_brought, brought_code}
+use Rattle.ec_select_operations.specs.Code.{negated_code, negated_unary}
+use Rattle.ec_fxcode_formats.specs.Brought.{bring_code}
 use Rattle.ec_select_fixed.specs.Codes.{fixed_binary_code, fixed_unary_code, fixed_conversion_code}
 use Rattle.ec_select_fixed.specs.FixedLaws.{IsBinaryResult, IsUnaryResult, IsConversionResult, binary_room, unary_room}
 use Rattle.ec_select_fixed.specs.FixedLaws.{conversion_room}
@@ -134,7 +136,9 @@ use Rattle.ec_select_functions.proofs.ByNumber.{changed_form, number_held, numbe
 use Rattle.ec_select_functions.proofs.ByNumber.{fails_by_number, holds_by_number}
 use Rattle.ec_select_functions.proofs.Extended.{conversion_matches}
 use Rattle.ec_select_functions.proofs.FixedRuns.{answer_passes, slots_of, operand_slots_of}
+use Rattle.ec_select_functions.proofs.Carried.{brought_passes}
 use Rattle.ec_select_functions.proofs.Checked.{is_known, checked_on, performed, checked}
+use Rattle.ec_select_functions.proofs.Negated.{negated_passes}
 use Rattle.ec_select_functions.proofs.Placed.{binary_roomy, placed_passes}
 use Rattle.ec_select_functions.proofs.Follow.{with_ports, Follows, after, from_held, from_number}
 use Rattle.ec_select_functions.proofs.Match.{kept_left, wanted_most, read_first, whole, at_width, weaker, written}
@@ -1763,10 +1767,20 @@ module _ (p : PlainProgram) (functions : List PlainIrFunction) (e : Env) (slots 
           code : List AsmItem
           code = fixed_unary_code op ty mode (home a) answer_location work_location
 
-          code_is : code_of i rest ≡ answer_code code (home t) w
+          whole : List AsmItem
+          whole = negated_code (is_signed ty) (home a) (home t) (scalar_size ty)
+
+          stopped : List AsmItem
+          stopped = negated_unary (is_signed ty) (home a) (home t) (scalar_size ty) w
+
+          stops : Bool
+          stops = nat_le (scalar_size ty) 6
+
+          code_is : code_of i rest ≡ (if stops then stopped else answer_code code (home t) w)
           code_is =
               ap (λ z. code_by_kind z (fixed_unary op ty mode (home a) (home t) w) (unary_code op (home a) (home t) w)) fx
-              ∙ ap (λ z. if z then answer_code code (home t) w else unary_code op (home a) (home t) w) saturates
+              ∙ ap (λ z. if z then (if stops then stopped else answer_code code (home t) w) else unary_code op (home a)
+              (home t) w) saturates
 
           more : (u : ℕ) → u ≢ t.at → need u ≤ plain_needs i rest u
           more u d = let x = without_other t.at u need d in let z = least_other a.at ka u (without t.at need) in omega arith
@@ -1777,25 +1791,36 @@ module _ (p : PlainProgram) (functions : List PlainIrFunction) (e : Env) (slots 
           number : IsNumber (unary_value op (number_type ty) mode (number_of_bytes (sign_in ty) (scalar_size ty) low)) r
           number = as_told (unary_value op (number_type ty) mode (number_of_bytes (sign_in ty) (scalar_size ty) low)) r q
 
-          by_need : (x : Bool) → (w == 0) ≡ x → G (suc n) m.state.work pc v (R (suc n) rest m1)
-          by_need true z =
-              let empty : code_of i rest ≡ [] = code_is ∙ ap (λ x. if x then [] else code ++ copy_code answer_location (home t) w) z in
-              let go =
-              nothing_passes i t (low_bytes t.bytes number.number) c rest n pc (plain_needs i rest) m v k.result empty
-              (eqb-true w 0 z) (low_below t.bytes number.number) stands more h f in
-              subst (λ (x : Value). G (suc n) m.state.work pc v (R (suc n) rest (machine (with_temp t x m.temps) st)))
-              (sym number.result) go
-          by_need false z =
-              let parts = has_parts e (code_of i rest) (items rest) pc end stands in
-              let there : HasAt e (answer_code code (home t) w) pc parts.0 = subst (λ x. HasAt e x pc parts.0) code_is parts.1 in
+          cases_of : (x : Bool) {own others : List AsmItem} → own ≡ [] → others ≡ [] → (if x then own else others) ≡ []
+          cases_of true q1 q2 = q1
+          cases_of false q1 q2 = q2
+
+          -- bytes that hold the result of the operand's bytes are those of r
+          reached : (mid result : ℕ) (v2 : View) → HasAt e (items rest) mid end → value v.at (base a) (scalar_size ty) ≡ low
+              → IsUnaryResult op ty mode (value v.at (base a) (scalar_size ty)) result
+              → M need (machine (with_content t (bits result) m.temps) st) v2
+              → G (suc n) (m.state.work + c) mid v2 (R (suc n) rest m1)
+          reached mid result v2 onward x_is g matches =
+              let content : content_of t.bytes r ≡ bits result =
+              ap (λ s. content_of s r) k.result_bytes
+              ∙ g (number_in ty low) r (ap (λ x. value_in ty (bits x)) x_is ∙ value_is ty low (fixed_numeric ty known)) q in
+              f mid m1 v2 onward (subst (λ (x : Content). M need (machine (with_content t x m.temps) st) v2) (sym content) matches)
+
+          by_code : (x : Bool) → stops ≡ x → (w == 0) ≡ false → (mid : ℕ)
+              → HasAt e (if x then stopped else answer_code code (home t) w) pc mid → HasAt e (items rest) mid end
+              → value v.at (base a) (scalar_size ty) ≡ low → G (suc n) m.state.work pc v (R (suc n) rest m1)
+          by_code true s z mid there onward x_is =
+              let code_there : HasAt e whole pc mid = subst (λ (x : Bool). HasAt e (if x then [] else whole) pc mid) z there in
+              let some = k.result.some in
+              let same = k.result_bytes in
+              negated_passes p e slots home base place y op ty mode c (suc n) pc mid t a need (plain_needs i rest) m v (R (suc n) rest m1) k
+              saturates (leb-true (scalar_size ty) 6 s) h more code_there (omega (arith, some, same))
+              (λ result v2 g matches. reached mid result v2 onward x_is g matches)
+          by_code false s z mid there onward x_is =
               let size = scalar_size ty in
               let same : size ≡ t.bytes = sym k.result_bytes in
               let some = k.result.some in
               let most = k.result.most in
-              let need0 = plain_needs i rest in
-              let least_a : all_or_none a.bytes w ≤ need0 a.at = subst (λ (x : Bool). only_wanted x a.bytes w ≤ need0 a.at) wx
-              (least_here a.at ka (without t.at need)) in
-              let x_is : value v.at (base a) size ≡ low = all_there a w low size need0 m v k.operand k.operand_bytes z least_a qa h in
               let slots1 =
               subst
               (λ (x : ℕ). AreOperandSlots e (home a) answer_location work_location x size (base a)
@@ -1803,15 +1828,32 @@ module _ (p : PlainProgram) (functions : List PlainIrFunction) (e : Env) (slots 
               (operand_slots_of p e slots home base place y a size k.operand (omega arith) (omega arith)) in
               let holds = IsUnaryResult op ty mode (value v.at (base a) size) in
               let run =
-              λ (mid : ℕ) (u : HasAt e code pc mid). y.fixed.unaries op ty mode e (home a) answer_location work_location (base a)
-              (y.work + 40) y.work pc mid v k.types slots1 h.bytes u in
-              answer_passes p e slots home base place y code (64 * unary_room ty) size c (suc n) pc parts.0 t need need0 m v
+              λ (end1 : ℕ) (u : HasAt e code pc end1). y.fixed.unaries op ty mode e (home a) answer_location work_location (base a)
+              (y.work + 40) y.work pc end1 v k.types slots1 h.bytes u in
+              answer_passes p e slots home base place y code (64 * unary_room ty) size c (suc n) pc mid t need (plain_needs i rest) m v
               (R (suc n) rest m1) holds k.result same h more z there run (omega (arith, same))
-              (λ result v2 g matches.
-              let content : content_of t.bytes r ≡ bits result =
-              ap (λ s. content_of s r) k.result_bytes
-              ∙ g (number_in ty low) r (ap (λ x. value_in ty (bits x)) x_is ∙ value_is ty low (fixed_numeric ty known)) q in
-              f parts.0 m1 v2 parts.2 (subst (λ (x : Content). M need (machine (with_content t x m.temps) st) v2) (sym content) matches))
+              (λ result v2 g matches. reached mid result v2 onward x_is g matches)
+
+          by_need : (x : Bool) → (w == 0) ≡ x → G (suc n) m.state.work pc v (R (suc n) rest m1)
+          by_need true z =
+              let none = λ (x : List AsmItem). ap (λ (q : Bool). if q then [] else x) z in
+              let empty : code_of i rest ≡ [] = code_is ∙ cases_of stops (none whole) (none (code ++ copy_code answer_location
+              (home t) w)) in
+              let go =
+              nothing_passes i t (low_bytes t.bytes number.number) c rest n pc (plain_needs i rest) m v k.result empty
+              (eqb-true w 0 z) (low_below t.bytes number.number) stands more h f in
+              subst (λ (x : Value). G (suc n) m.state.work pc v (R (suc n) rest (machine (with_temp t x m.temps) st)))
+              (sym number.result) go
+          by_need false z =
+              let parts = has_parts e (code_of i rest) (items rest) pc end stands in
+              let there : HasAt e (if stops then stopped else answer_code code (home t) w) pc parts.0 =
+              subst (λ x. HasAt e x pc parts.0) code_is parts.1 in
+              let size = scalar_size ty in
+              let need0 = plain_needs i rest in
+              let least_a : all_or_none a.bytes w ≤ need0 a.at = subst (λ (x : Bool). only_wanted x a.bytes w ≤ need0 a.at) wx
+              (least_here a.at ka (without t.at need)) in
+              let x_is : value v.at (base a) size ≡ low = all_there a w low size need0 m v k.operand k.operand_bytes z least_a qa h in
+              by_code stops refl z parts.0 there parts.2 x_is
 
   pub fixed_conversion_follows : (t : Temp) (ty : PlainType) (mode : Mode) (a : Temp) (aty : PlainType) (rest : List PlainIr) (n pc : ℕ)
       (m : Mach) (v : View)
@@ -1861,12 +1903,24 @@ module _ (p : PlainProgram) (functions : List PlainIrFunction) (e : Env) (slots 
           code : List AsmItem
           code = fixed_conversion_code ty aty mode (home a) answer_location work_location
 
-          code_is : code_of i rest ≡ answer_code code (home t) w
+          bring : List AsmItem
+          bring = bring_code (is_signed aty) (home a) (home t) (scalar_size aty) (scalar_size ty) (format_in aty).frac (format_in ty).frac
+
+          brought : List AsmItem
+          brought =
+              brought_code (is_signed aty) (home a) (home t) (scalar_size aty) (scalar_size ty) (format_in aty).frac (format_in ty).frac w
+
+          brings : Bool
+          brings = is_brought ty aty mode
+
+          code_is : code_of i rest ≡ (if brings then brought else answer_code code (home t) w)
           code_is =
               ap (λ z. code_by_kind z (fixed_conversion ty aty mode (home a) (home t) a.bytes w) (code_by_kind (is_pointer aty)
               (pointer_conversion aty (home a) (home t) a.bytes t.bytes w)
               (conversion_code (is_signed aty) (home a) (home t) a.bytes w))) fx
-              ∙ ap (λ z. if z then conversion_code (is_signed aty) (home a) (home t) a.bytes w else answer_code code (home t) w) other
+              ∙ ap
+              (λ z. if z then conversion_code (is_signed aty) (home a) (home t) a.bytes w
+              else (if brings then brought else answer_code code (home t) w)) other
 
           more : (u : ℕ) → u ≢ t.at → need u ≤ plain_needs i rest u
           more u d = let x = without_other t.at u need d in let z = least_other a.at ka u (without t.at need) in omega arith
@@ -1880,38 +1934,16 @@ module _ (p : PlainProgram) (functions : List PlainIrFunction) (e : Env) (slots 
           number : IsNumber (conversion_value (number_type ty) mode (fixed_operand_in (format_in aty) (scalar_size aty) low)) r
           number = conversion_told ty aty mode low (operand low) r known.result known.operand is_operand q
 
-          by_need : (x : Bool) → (w == 0) ≡ x → G (suc n) m.state.work pc v (R (suc n) rest m1)
-          by_need true z =
-              let empty : code_of i rest ≡ [] = code_is ∙ ap (λ x. if x then [] else code ++ copy_code answer_location (home t) w) z in
-              let go =
-              nothing_passes i t (low_bytes t.bytes number.number) c rest n pc (plain_needs i rest) m v k.result empty
-              (eqb-true w 0 z) (low_below t.bytes number.number) stands more h f in
-              subst (λ (x : Value). G (suc n) m.state.work pc v (R (suc n) rest (machine (with_temp t x m.temps) st)))
-              (sym number.result) go
-          by_need false z =
-              let parts = has_parts e (code_of i rest) (items rest) pc end stands in
-              let there : HasAt e (answer_code code (home t) w) pc parts.0 = subst (λ x. HasAt e x pc parts.0) code_is parts.1 in
-              let size = scalar_size ty in
-              let same : size ≡ t.bytes = sym k.result_bytes in
-              let some = k.result.some in
-              let most = k.result.most in
-              let need0 = plain_needs i rest in
-              let least_a : all_or_none a.bytes w ≤ need0 a.at = subst (λ (x : Bool). only_wanted x a.bytes w ≤ need0 a.at) wx
-              (least_here a.at ka (without t.at need)) in
-              let x_is : value v.at (base a) (scalar_size aty) ≡ low =
-              all_there a w low (scalar_size aty) need0 m v k.from k.from_bytes z least_a qa h in
-              let slots1 =
-              subst
-              (λ (x : ℕ). AreOperandSlots e (home a) answer_location work_location x size (base a) (y.work + 40) y.work) k.from_bytes
-              (operand_slots_of p e slots home base place y a size k.from (omega arith) (omega arith)) in
-              let holds = IsConversionResult ty mode aty (value v.at (base a) (scalar_size aty)) in
-              let run =
-              λ (mid : ℕ) (u : HasAt e code pc mid). y.fixed.conversions ty aty mode e (home a) answer_location work_location (base a)
-              (y.work + 40) y.work pc mid v k.types slots1 h.bytes u in
-              let room = conversion_roomy ty aty in
-              answer_passes p e slots home base place y code (64 * conversion_room ty aty) size c (suc n) pc parts.0 t need need0 m v
-              (R (suc n) rest m1) holds k.result same h more z there run (omega (arith, room, same))
-              (λ result v2 g matches.
+          cases_of : (x : Bool) {own others : List AsmItem} → own ≡ [] → others ≡ [] → (if x then own else others) ≡ []
+          cases_of true q1 q2 = q1
+          cases_of false q1 q2 = q2
+
+          -- bytes that hold the result of the operand's bytes are those of r
+          reached : (mid result : ℕ) (v2 : View) → HasAt e (items rest) mid end → value v.at (base a) (scalar_size aty) ≡ low
+              → IsConversionResult ty mode aty (value v.at (base a) (scalar_size aty)) result
+              → M need (machine (with_content t (bits result) m.temps) st) v2
+              → G (suc n) (m.state.work + c) mid v2 (R (suc n) rest m1)
+          reached mid result v2 onward x_is g matches =
               let content : content_of t.bytes r ≡ bits result =
               ap (λ s. content_of s r) k.result_bytes
               ∙ g (operand low) r
@@ -1920,7 +1952,56 @@ module _ (p : PlainProgram) (functions : List PlainIrFunction) (e : Env) (slots 
                 value_is = ap (λ x. value_in aty (bits x)) x_is
                     ∙ value_is aty low (fixed_numeric aty known.operand);
               }) q in
-              f parts.0 m1 v2 parts.2 (subst (λ (x : Content). M need (machine (with_content t x m.temps) st) v2) (sym content) matches))
+              f mid m1 v2 onward (subst (λ (x : Content). M need (machine (with_content t x m.temps) st) v2) (sym content) matches)
+
+          by_code : (x : Bool) → brings ≡ x → (w == 0) ≡ false → (mid : ℕ)
+              → HasAt e (if x then brought else answer_code code (home t) w) pc mid → HasAt e (items rest) mid end
+              → value v.at (base a) (scalar_size aty) ≡ low → G (suc n) m.state.work pc v (R (suc n) rest m1)
+          by_code true s z mid there onward x_is =
+              let code_there : HasAt e bring pc mid = subst (λ (x : Bool). HasAt e (if x then [] else bring) pc mid) z there in
+              let some = k.result.some in
+              let same = k.result_bytes in
+              let room = conversion_roomy ty aty in
+              brought_passes p e slots home base place y ty aty mode c (suc n) pc mid t a need (plain_needs i rest) m v (R (suc n) rest m1)
+              k s h more code_there (omega (arith, room, some, same)) (λ result v2 g matches. reached mid result v2 onward x_is g matches)
+          by_code false s z mid there onward x_is =
+              let size = scalar_size ty in
+              let same : size ≡ t.bytes = sym k.result_bytes in
+              let some = k.result.some in
+              let most = k.result.most in
+              let slots1 =
+              subst
+              (λ (x : ℕ). AreOperandSlots e (home a) answer_location work_location x size (base a) (y.work + 40) y.work) k.from_bytes
+              (operand_slots_of p e slots home base place y a size k.from (omega arith) (omega arith)) in
+              let holds = IsConversionResult ty mode aty (value v.at (base a) (scalar_size aty)) in
+              let run =
+              λ (end1 : ℕ) (u : HasAt e code pc end1). y.fixed.conversions ty aty mode e (home a) answer_location work_location (base a)
+              (y.work + 40) y.work pc end1 v k.types slots1 h.bytes u in
+              let room = conversion_roomy ty aty in
+              answer_passes p e slots home base place y code (64 * conversion_room ty aty) size c (suc n) pc mid t need
+              (plain_needs i rest) m v (R (suc n) rest m1) holds k.result same h more z there run (omega (arith, room, same))
+              (λ result v2 g matches. reached mid result v2 onward x_is g matches)
+
+          by_need : (x : Bool) → (w == 0) ≡ x → G (suc n) m.state.work pc v (R (suc n) rest m1)
+          by_need true z =
+              let none = λ (x : List AsmItem). ap (λ (q : Bool). if q then [] else x) z in
+              let empty : code_of i rest ≡ [] = code_is ∙ cases_of brings (none bring) (none (code ++ copy_code answer_location
+              (home t) w)) in
+              let go =
+              nothing_passes i t (low_bytes t.bytes number.number) c rest n pc (plain_needs i rest) m v k.result empty
+              (eqb-true w 0 z) (low_below t.bytes number.number) stands more h f in
+              subst (λ (x : Value). G (suc n) m.state.work pc v (R (suc n) rest (machine (with_temp t x m.temps) st)))
+              (sym number.result) go
+          by_need false z =
+              let parts = has_parts e (code_of i rest) (items rest) pc end stands in
+              let there : HasAt e (if brings then brought else answer_code code (home t) w) pc parts.0 =
+              subst (λ x. HasAt e x pc parts.0) code_is parts.1 in
+              let need0 = plain_needs i rest in
+              let least_a : all_or_none a.bytes w ≤ need0 a.at = subst (λ (x : Bool). only_wanted x a.bytes w ≤ need0 a.at) wx
+              (least_here a.at ka (without t.at need)) in
+              let x_is : value v.at (base a) (scalar_size aty) ≡ low =
+              all_there a w low (scalar_size aty) need0 m v k.from k.from_bytes z least_a qa h in
+              by_code brings refl z parts.0 there parts.2 x_is
 
   -- no more bytes of a temporary are needed than it has
   no_more_needed : (a : Temp) (w low : ℕ) (less : Need) (m : Mach) (v : View)
@@ -1994,7 +2075,10 @@ module _ (p : PlainProgram) (functions : List PlainIrFunction) (e : Env) (slots 
       code_is =
           ap
           (λ z. if z then code
-          else answer_code (fixed_conversion_code (fixed k s1) (fixed j s2) mode (home a) answer_location work_location) (home t) w) keeps
+          else (if is_brought (fixed k s1) (fixed j s2) mode
+          then brought_code sign (home a) (home t) (scalar_size (fixed j s2)) (scalar_size (fixed k s1)) (format_of j).frac
+          (format_of k).frac w
+          else answer_code (fixed_conversion_code (fixed k s1) (fixed j s2) mode (home a) answer_location work_location) (home t) w)) keeps
 
       by_result : (low : ℕ) → m.temps a.at ≡ Some (record { bytes = a.bytes; content = bits low }) → (z : Result Value Undefined)
           → conversion_result (fixed k s1) mode (operand_of p (fixed j s2) (Number (whole_of j low)) st) ≡ z
@@ -2135,8 +2219,11 @@ module _ (p : PlainProgram) (functions : List PlainIrFunction) (e : Env) (slots 
 
       code : items (i ∷ rest) ≡ items (whole ∷ rest)
       code =
-          ap (λ z. (if z then answer_code (fixed_unary_code Minus (fixed k s) mode (home a) answer_location work_location)
-          (home t) (wanted (needs at rest) t) else unary_code Minus (home a) (home t) (wanted (needs at rest) t)) ++ items rest) off
+          ap (λ z. (if z
+          then (if nat_le bytes 6 then negated_unary sign (home a) (home t) bytes (wanted (needs at rest) t)
+          else answer_code (fixed_unary_code Minus (fixed k s) mode (home a) answer_location work_location) (home t)
+          (wanted (needs at rest) t))
+          else unary_code Minus (home a) (home t) (wanted (needs at rest) t)) ++ items rest) off
 
       -- the run of the negation of the integer
       run : G (suc n) m.state.work pc v (P n whole rest m)

@@ -1,12 +1,17 @@
 -- Operators on numbers of one fixed-point format that do what they do to integers.
-use Rattle.std.proofs.Common.{◌≡◌, ℕ, ◌≤◌, Bool, true, ◌&&◌, refl, sym, ap, ◌∙◌, arith}
+use Rattle.std.proofs.Common.{◌≡◌, ℕ, ◌<◌, ◌≤◌, Bool, true, ◌&&◌, refl, sym, ap, ◌∙◌, arith}
 use Rattle.std.specs.Prelude.{not, ⊤}
 use Rattle.std.proofs.lemmas.Bool.{and_parts}
 use Rattle.ec_fx.specs.declared.formats.FxKind.{FxKind}
+use Rattle.ec_fx.specs.declared.formats.FxKind.TheVariants.{ShortFract, Fract, LongFract, ShortAccum, Accum, LongAccum}
+use Rattle.ec_fx.specs.declared.formats.FxKind.TheVariants.{UnsignedShortFract, UnsignedFract, UnsignedLongFract}
+use Rattle.ec_fx.specs.declared.formats.FxKind.TheVariants.{UnsignedShortAccum, UnsignedAccum, UnsignedLongAccum}
+use Rattle.ec_fx.specs.Formats.{format_of}
 use Rattle.ec_fx.specs.declared.numbers.Mode.{Mode}
 use Rattle.ec_core.specs.declared.expressions.BinOp.{BinOp}
 use Rattle.ec_core.specs.declared.expressions.BinOp.TheVariants.{Add, Sub, Mul, Div, Rem, Shl, Shr, And, Or, Xor, Lt}
 use Rattle.ec_core.specs.declared.expressions.BinOp.TheVariants.{Gt, Le, Ge, Eq, Ne}
+use Rattle.ec_core.specs.declared.expressions.UnOp.{UnOp}
 use Rattle.ec_core.specs.Layout.{scalar_size}
 use Rattle.ec_core.specs.Operators.{same_kind, same_type}
 use Rattle.ec_core.specs.Plain.{PlainType, void, integer, fixed, pointer, array, struct}
@@ -15,9 +20,10 @@ use Rattle.ec_ir.specs.declared.operations.Temp.{Temp}
 use Rattle.ec_select_operations.specs.declared.families.Family.{Family}
 use Rattle.ec_select_operations.specs.declared.families.Family.TheVariants.{Combined, Compared, Multiplied, Shifted, Divided}
 use Rattle.ec_select_operations.specs.Code.{family_of, has_one_format, is_as_exact, is_on_integers, takes_place, is_placed}
-use Rattle.ec_select_operations.specs.Emitted.{second_bytes, BinaryHasBytes, FixedHasBytes, FixedConversionHasBytes}
+use Rattle.ec_select_operations.specs.Emitted.{second_bytes, BinaryHasBytes, FixedHasBytes, FixedOperandHasBytes}
+use Rattle.ec_select_operations.specs.Emitted.{FixedConversionHasBytes}
 use Rattle.ec_select_fixed.proofs.Conversions.{converted_types}
-use Rattle.ec_select_fixed.proofs.Formats.{operand_bytes}
+use Rattle.ec_select_fixed.proofs.Formats.{operand_bytes, fixed_bytes}
 use Rattle.ec_select_fixed.proofs.Suits.{operands_suit}
 
 -- two types of one kind
@@ -155,3 +161,22 @@ some_bytes wanted to a ty aty h =
     let some = (operand_bytes aty (converted_types ty aty h.types).operand).0 in
     let bytes = h.from in
     omega (arith, some, bytes)
+
+-- a format has few bits behind the point
+pub few_bits : (k : FxKind) → (format_of k).frac < 64
+few_bits ShortFract = omega arith
+few_bits Fract = omega arith
+few_bits LongFract = omega arith
+few_bits ShortAccum = omega arith
+few_bits Accum = omega arith
+few_bits LongAccum = omega arith
+few_bits UnsignedShortFract = omega arith
+few_bits UnsignedFract = omega arith
+few_bits UnsignedLongFract = omega arith
+few_bits UnsignedShortAccum = omega arith
+few_bits UnsignedAccum = omega arith
+few_bits UnsignedLongAccum = omega arith
+
+-- a number that is negated has a byte
+pub some_negated : (op : UnOp) (wanted : ℕ) (to a : Temp) (ty : PlainType) → FixedOperandHasBytes op wanted to a ty → 1 ≤ scalar_size ty
+some_negated op wanted to a ty h = (fixed_bytes ty h.types.fixed).0

@@ -1,5 +1,5 @@
 -- The code of operations.
-use Rattle.std.specs.Prelude.{◌≤◌, ⊤, ℕ, suc, ◌+◌, ◌-◌, ◌*◌, ◌%◌, ◌==◌, nat_le, Bool, true, false, ◌&&◌, ◌||◌, not}
+use Rattle.std.specs.Prelude.{◌≤◌, ⊤, ℕ, suc, ◌+◌, ◌-◌, ◌*◌, ◌/◌, ◌%◌, ◌==◌, nat_le, Bool, true, false, ◌&&◌, ◌||◌, not}
 use Rattle.std.specs.Prelude.{if◌then◌else◌}
 use Rattle.std.specs.Prelude.{min, List, [], ◌∷◌, ◌++◌, Option, Some, None, option_map, slice_get, slice_index, ℤ}
 use Rattle.ec_fx.specs.declared.numbers.Mode.{Mode}
@@ -8,7 +8,7 @@ use Rattle.ec_space.specs.declared.space.Bank.{Bank}
 use Rattle.ec_space.specs.declared.space.Bank.TheVariants.{Flash as FlashBank, Data as DataBank}
 use Rattle.ec_space.specs.declared.space.SpaceId.{SpaceId}
 use Rattle.ec_space.specs.declared.space.SpaceId.TheVariants.{Flash, Data, Generic}
-use Rattle.ec_isa.specs.declared.instructions.Instr.TheVariants.{Ret}
+use Rattle.ec_isa.specs.declared.instructions.Instr.TheVariants.{Movw, Ret}
 use Rattle.ec_asm.specs.declared.items.AsmItem.{AsmItem}
 use Rattle.ec_asm.specs.declared.items.AsmItem.TheVariants.{Plain, Label, JumpTo, CallTo, BranchTo}
 use Rattle.ec_asm.specs.Items.{chain}
@@ -16,13 +16,14 @@ use Rattle.ec_asm.specs.declared.pieces.Location.{Location}
 use Rattle.ec_asm.specs.declared.pieces.Location.TheVariants.{InRegisters, InMemory}
 use Rattle.ec_asm.specs.declared.pieces.Operator.{Operator}
 use Rattle.ec_asm.specs.declared.pieces.Operator.TheVariants.{Sum, Difference, BitAnd, BitOr, BitXor}
-use Rattle.ec_asm.specs.Pieces.{copy_code, operate_code, compare_code}
+use Rattle.ec_asm.specs.Pieces.{copy_byte, copy_code, operate_code, compare_code}
 use Rattle.ec_core.specs.declared.expressions.BinOp.{BinOp}
 use Rattle.ec_core.specs.declared.expressions.BinOp.TheVariants.{Add, Sub, Mul, Div, Rem, And, Or, Xor, Lt, Gt, Le, Ge}
 use Rattle.ec_core.specs.declared.expressions.BinOp.TheVariants.{Eq, Ne, Shl, Shr}
 use Rattle.ec_core.specs.declared.expressions.UnOp.{UnOp}
 use Rattle.ec_core.specs.declared.expressions.UnOp.TheVariants.{Minus, Invert}
 use Rattle.ec_core.specs.Accesses.{element_size}
+use Rattle.ec_core.specs.Layout.{scalar_size}
 use Rattle.ec_core.specs.Operators.{same_kind}
 use Rattle.ec_core.specs.Plain.{PlainType, integer, fixed, PlainObject, PlainProgram}
 use Rattle.ec_ir.specs.declared.operations.Temp.{Temp}
@@ -55,9 +56,11 @@ use Rattle.ec_select_operations.specs.declared.families.Family.TheVariants.{Divi
 use Rattle.ec_select_operations.specs.declared.families.Told.{Told}
 use Rattle.ec_select_operations.specs.declared.homes.Homes.{Homes}
 use Rattle.ec_select_operations.specs.Homes.{home, result_location}
+use Rattle.ec_fxcode_formats.specs.Brought.{can_bring, bring_code}
 use Rattle.ec_fxcode_limits.specs.Limits.{limited_code}
 use Rattle.ec_fxcode_placed.specs.Shifts.{placed_code}
 use Rattle.ec_select_fixed.specs.Codes.{fixed_binary_code, fixed_unary_code, fixed_conversion_code}
+use Rattle.ec_select_fixed.specs.Types.{format_in}
 use Rattle.ec_select_operations.specs.Needs.{is_fixed, is_whole, number_taken}
 use Rattle.ec_select_operations.specs.Needs.{Need, nothing, wanted, wanted_result, without_result, either}
 use Rattle.ec_select_operations.specs.Needs.{Facts, facts_of, needs}
@@ -71,9 +74,27 @@ same_location (InRegisters a) (InMemory p j) = false
 same_location (InMemory o k) (InRegisters b) = false
 same_location (InMemory o k) (InMemory p j) = o == p && k == j
 
+-- n bytes between registers, two at a time by MOVW, and the last one alone where n is odd
+abbrev pub pair_code : (a b i : ℕ) → List AsmItem
+pair_code a b i = Plain (Movw (b + 2 * i) (a + 2 * i)) ∷ []
+
+abbrev pub odd_code : (a b n : ℕ) → List AsmItem
+odd_code a b n = if n % 2 == 0 then [] else copy_byte (InRegisters a) (InRegisters b) (n / 2 * 2)
+
+abbrev pub pairs_code : (a b n : ℕ) → List AsmItem
+pairs_code a b n = chain (pair_code a b) (n / 2) ++ odd_code a b n
+
+-- a copy: by pairs between registers of even numbers, and else byte by byte
+abbrev pub transfer_code : Location → Location → ℕ → List AsmItem
+transfer_code (InRegisters a) (InRegisters b) n =
+    if a % 2 == 0 && b % 2 == 0 then pairs_code a b n else copy_code (InRegisters a) (InRegisters b) n
+transfer_code (InRegisters a) (InMemory p j) n = copy_code (InRegisters a) (InMemory p j) n
+transfer_code (InMemory o k) (InRegisters b) n = copy_code (InMemory o k) (InRegisters b) n
+transfer_code (InMemory o k) (InMemory p j) n = copy_code (InMemory o k) (InMemory p j) n
+
 -- a copy to where the number stands already is no code
 abbrev pub move_code : Location → Location → ℕ → List AsmItem
-move_code p q n = if same_location p q then [] else copy_code p q n
+move_code p q n = if same_location p q then [] else transfer_code p q n
 
 -- ---- families
 
@@ -387,10 +408,27 @@ fixed_binary telling op ty aty bty mode a b to bytes n =
     then placed_binary op (is_signed aty) a b to bytes n
     else answer_code (fixed_binary_code op ty aty bty mode a b answer_location work_location) to n)
 
--- a negation that does not saturate is that of an integer
+-- where a number of up to 6 bytes waits while its place gets a result
+abbrev pub aside_location : Location
+aside_location = InRegisters 8
+
+-- the operand, of so many bytes, is put aside, and taken from 0 in the result's place; the result is stopped at the ends
+-- of its range
+abbrev pub negated_code : (signed : Bool) → (a to : Location) → (bytes : ℕ) → List AsmItem
+negated_code signed a to bytes =
+    copy_code a aside_location bytes
+    ++ (constant_code to 0 bytes ++ limited_code true signed aside_location to (bytes - 1))
+
+abbrev pub negated_unary : (signed : Bool) → (a to : Location) → (bytes n : ℕ) → List AsmItem
+negated_unary signed a to bytes n = if n == 0 then [] else negated_code signed a to bytes
+
+-- a negation, which is the only such operator: one that does not saturate is that of an integer, and one that does is
+-- made in the place of the result where the number has few bytes
 abbrev pub fixed_unary : UnOp → PlainType → Mode → (a to : Location) → (n : ℕ) → List AsmItem
 fixed_unary op ty mode a to n =
-    if mode.saturate then answer_code (fixed_unary_code op ty mode a answer_location work_location) to n
+    if mode.saturate
+    then (if nat_le (scalar_size ty) 6 then negated_unary (is_signed ty) a to (scalar_size ty) n
+    else answer_code (fixed_unary_code op ty mode a answer_location work_location) to n)
     else unary_code op a to n
 
 -- a conversion that gives the same number: to the same format, and where it does not saturate, to one with as many bits
@@ -398,11 +436,24 @@ fixed_unary op ty mode a to n =
 abbrev pub keeps_number : (ty aty : PlainType) → Mode → Bool
 keeps_number ty aty mode = has_one_format ty aty || (has_one_fraction ty aty && not mode.saturate)
 
+-- one whose numbers are brought to the other number of bits behind the point by registers: to a fixed-point type it does
+-- not saturate
+abbrev pub is_brought : (ty aty : PlainType) → Mode → Bool
+is_brought ty aty mode =
+    not (is_fixed ty && mode.saturate)
+    && can_bring (scalar_size aty) (scalar_size ty) (format_in aty).frac (format_in ty).frac
+
+-- m bytes with f bits behind the point are brought to k bytes with r of them, where n bytes are needed
+abbrev pub brought_code : (signed : Bool) → (a to : Location) → (m k f r n : ℕ) → List AsmItem
+brought_code signed a to m k f r n = if n == 0 then [] else bring_code signed a to m k f r
+
 -- of an operand of so many bytes
 abbrev pub fixed_conversion : (ty aty : PlainType) → Mode → (a to : Location) → (bytes n : ℕ) → List AsmItem
 fixed_conversion ty aty mode a to bytes n =
     if keeps_number ty aty mode then conversion_code (is_signed aty) a to bytes n
-    else answer_code (fixed_conversion_code ty aty mode a answer_location work_location) to n
+    else (if is_brought ty aty mode
+    then brought_code (is_signed aty) a to (scalar_size aty) (scalar_size ty) (format_in aty).frac (format_in ty).frac n
+    else answer_code (fixed_conversion_code ty aty mode a answer_location work_location) to n)
 
 -- ---- pointers
 

@@ -10,7 +10,8 @@ ghost use Rattle.ec_select_operations.specs.Code.{told_by, branch_code, told_of,
 ghost use Rattle.ec_select_operations.specs.Homes.{home};
 
 use crate::homes::{Homes, home};
-use ec_asm::{AsmItem, Location, Operator, compare, copy, operate};
+use crate::transfers::transfer;
+use ec_asm::{AsmItem, Location, Operator, compare, operate};
 use ec_core::{BinOp, UnOp};
 use ec_ir::Temp;
 use ec_select_bytes::{combine_before, complement, extend, negate, test};
@@ -55,7 +56,7 @@ pub fn move_number(
     if is_same(from, to) {
         return Ok(());
     }
-    copy(out, from, to, bytes)
+    transfer(out, from, to, bytes)
 }
 
 /// How the result of a binary operator is computed.

@@ -1,17 +1,22 @@
 //! Operations with a fixed-point type: they are those of integers where both give the same, a sum or a difference that
 //! saturates is one of integers that is stopped at the ends of its range, and most shifts are made in the place of the
 //! result. Else they compute in the work bytes, and their result is brought from there to its place.
-ghost use Rattle.std.specs.Prelude.{◌≡◌, ◌≤◌, ◌<◌, ◌++◌, suc, OnOk, OnErr};
+ghost use Rattle.std.specs.Prelude.{◌≡◌, ◌-◌, ◌≤◌, ◌<◌, ◌++◌, suc, true, not, ◌&&◌, OnOk, OnErr};
 ghost use Rattle.ec_runs.specs.Behaviours.{BeginWith};
-ghost use Rattle.ec_asm.specs.Pieces.{HasBytes, HasByte, operate_code};
+ghost use Rattle.ec_asm.specs.Pieces.{HasBytes, operate_code};
 ghost use Rattle.ec_fxcode_limits.specs.Limits.{operator_of, limited_code};
 ghost use Rattle.ec_fxcode_placed.specs.Shifts.{placed_code};
+ghost use Rattle.ec_core.specs.Layout.{scalar_size};
 ghost use Rattle.ec_core.specs.Plain.{plain_type};
+ghost use Rattle.ec_fxcode_formats.specs.Brought.{can_bring};
+ghost use Rattle.ec_select_fixed.specs.Types.{format_in};
+ghost use Rattle.ec_select_operations.specs.Needs.{is_fixed};
 ghost use Rattle.ec_select_operations.specs.Code.{takes_place, is_placed, stopped_code, placed_shift, placed_whole};
 ghost use Rattle.ec_select_operations.specs.Code.{move_code, placed_binary};
 ghost use Rattle.ec_select_operations.specs.Emitted.{second_bytes};
 ghost use Rattle.ec_select_operations.specs.Code.{work_location, answer_location, fixed_binary, fixed_unary};
 ghost use Rattle.ec_select_operations.specs.Code.{fixed_conversion, keeps_number, family_of, is_as_exact, is_on_integers, is_apart};
+ghost use Rattle.ec_select_operations.specs.Code.{brought_code, aside_location, negated_code, negated_unary};
 ghost use Rattle.ec_select_operations.specs.Emitted.{FixedHasBytes, FixedOperandHasBytes, FixedConversionHasBytes};
 ghost use Rattle.ec_select_operations.specs.Homes.{home};
 
@@ -20,13 +25,15 @@ use crate::families::{
 };
 use crate::homes::{Homes, home};
 use crate::pointers::is_difference;
-use crate::types::{has_one_format, has_one_fraction, is_signed, is_whole};
+use crate::types::{has_one_format, has_one_fraction, is_fixed, is_signed, is_whole};
 use ec_asm::{AsmItem, Location, Operator, copy, operate};
 use ec_core::{BinOp, CType, UnOp};
 use ec_fx::Mode;
+use ec_fxcode_formats::{Digits, bring, can_bring};
 use ec_fxcode_limits::limit;
 use ec_fxcode_placed::shift_in_place;
-use ec_ir::Temp;
+use ec_ir::{Temp, scalar_size};
+use ec_select_bytes::constant;
 use ec_select_fixed::Places;
 use ec_space::{NoMemory, Seq};
 
@@ -306,9 +313,65 @@ pub fn fixed_binary(
     copy(out, answer_location(), place, wanted)
 }
 
+/// Where a number of up to 6 bytes waits while its place gets a result.
+fn aside_location() -> Location
+    ensures { result ≡ aside_location }
+{
+    Location::InRegisters(8)
+}
+
+/// Appends code that puts a number aside, and takes it from 0 at another place, stopped at the ends of its range.
+#[tactic(auto, using(crate::proofs::Emits::fewer_bytes))]
+fn negated(
+    out: &mut Seq<AsmItem>,
+    signed: bool,
+    from: Location,
+    to: Location,
+    bytes: u8,
+) -> Result<(), NoMemory>
+    requires from { HasBytes from bytes }
+    requires to { HasBytes to bytes }
+    requires some { 1 ≤ bytes }
+    requires few { bytes ≤ 6 }
+    ensures ok { OnOk result (out.new.items ≡ out.old.items ++ negated_code signed from to bytes) }
+    ensures err { OnErr result (BeginWith out.old.items out.new.items) }
+{
+    let right = aside_location();
+    copy(out, from, right, bytes)?;
+    constant(out, 0, to, bytes)?;
+    let of = Operands {
+        signed,
+        left: from,
+        right,
+    };
+    limited(out, true, of, to, bytes - 1)
+}
+
+/// The same where so many bytes of the result are wanted.
+fn negated_unary(
+    out: &mut Seq<AsmItem>,
+    signed: bool,
+    from: Location,
+    to: Location,
+    bytes: u8,
+    wanted: u8,
+) -> Result<(), NoMemory>
+    requires from { HasBytes from bytes }
+    requires to { HasBytes to bytes }
+    requires some { 1 ≤ bytes }
+    requires few { bytes ≤ 6 }
+    ensures ok { OnOk result (out.new.items ≡ out.old.items ++ negated_unary signed from to bytes wanted) }
+    ensures err { OnErr result (BeginWith out.old.items out.new.items) }
+{
+    if wanted == 0 {
+        return Ok(());
+    }
+    negated(out, signed, from, to, bytes)
+}
+
 /// Appends the code of a unary operator on an operand of a fixed-point type, of whose result so many bytes are wanted.
 /// Where memory runs out, a part of the code is appended.
-#[tactic(auto, using(crate::proofs::Emits::fewer_bytes))]
+#[tactic(auto, using(crate::proofs::Emits::fewer_bytes, crate::proofs::OneFormat::some_negated))]
 pub fn fixed_unary(
     out: &mut Seq<AsmItem>,
     homes: Homes,
@@ -327,6 +390,11 @@ pub fn fixed_unary(
     if !mode.saturate {
         return unary(out, op, home(homes, a), home(homes, to), wanted);
     }
+    let bytes = scalar_size(ty);
+    if bytes <= 6 {
+        let (from, place) = (home(homes, a), home(homes, to));
+        return negated_unary(out, is_signed(ty), from, place, bytes, wanted);
+    }
     if wanted == 0 {
         return Ok(());
     }
@@ -341,6 +409,73 @@ fn keeps_number(ty: &CType, aty: &CType, mode: Mode) -> bool
     ensures { result ≡ keeps_number (plain_type ty.now) (plain_type aty.now) mode }
 {
     has_one_format(ty, aty) || (has_one_fraction(ty, aty) && !mode.saturate)
+}
+
+/// The bits behind the point of the numbers of a type.
+#[tactic(auto, using(crate::proofs::OneFormat::few_bits))]
+fn fraction(ty: &CType) -> u8
+    ensures value { result ≡ (format_in (plain_type ty.now)).frac }
+    ensures few { result < 64 }
+{
+    match ty {
+        CType::Fx { kind, .. } => kind.format().frac,
+        _ => 0,
+    }
+}
+
+fn digits(ty: &CType) -> Digits
+    ensures bytes { result.bytes ≡ scalar_size (plain_type ty.now) }
+    ensures fraction { result.fraction ≡ (format_in (plain_type ty.now)).frac }
+    ensures few { result.fraction < 64 }
+{
+    Digits {
+        bytes: scalar_size(ty),
+        fraction: fraction(ty),
+    }
+}
+
+/// Whether a conversion brings numbers from the first form to the second one by registers: one to a fixed-point type
+/// does not saturate.
+fn is_brought(ty: &CType, mode: Mode, from: Digits, to: Digits) -> bool
+    requires from { from.fraction < 64 }
+    requires to { to.fraction < 64 }
+    ensures { result ≡ (not (is_fixed (plain_type ty.now) && mode.saturate)
+        && can_bring from.bytes to.bytes from.fraction to.fraction) }
+{
+    !(is_fixed(ty) && mode.saturate) && can_bring(from, to)
+}
+
+/// A number and where it is to stand in another form.
+#[derive(Clone, Copy)]
+struct Conversion {
+    signed: bool,
+    given: Digits,
+    needed: Digits,
+}
+
+/// Appends code that does so, where so many bytes of the result are wanted.
+#[tactic(auto, using(crate::proofs::Emits::byte_there))]
+fn brought(
+    out: &mut Seq<AsmItem>,
+    of: Conversion,
+    from: Location,
+    to: Location,
+    wanted: u8,
+) -> Result<(), NoMemory>
+    requires from { HasBytes from of.given.bytes }
+    requires to { HasBytes to of.needed.bytes }
+    requires some { 1 ≤ of.given.bytes }
+    requires given { of.given.fraction < 64 }
+    requires needed { of.needed.fraction < 64 }
+    requires can { can_bring of.given.bytes of.needed.bytes of.given.fraction of.needed.fraction ≡ true }
+    ensures ok { OnOk result (out.new.items ≡ out.old.items
+        ++ brought_code of.signed from to of.given.bytes of.needed.bytes of.given.fraction of.needed.fraction wanted) }
+    ensures err { OnErr result (BeginWith out.old.items out.new.items) }
+{
+    if wanted == 0 {
+        return Ok(());
+    }
+    bring(out, of.signed, from, to, of.given, of.needed)
 }
 
 /// Appends the code of a conversion from or to a fixed-point type, of whose result so many bytes are wanted. Where
@@ -364,6 +499,15 @@ pub fn fixed_conversion(
     if keeps_number(ty, aty, mode) {
         let (from, to) = (home(homes, a), home(homes, to));
         return convert(out, is_signed(aty), from, to, a.bytes, wanted);
+    }
+    let (given, needed) = (digits(aty), digits(ty));
+    if is_brought(ty, mode, given, needed) {
+        let of = Conversion {
+            signed: is_signed(aty),
+            given,
+            needed,
+        };
+        return brought(out, of, home(homes, a), home(homes, to), wanted);
     }
     if wanted == 0 {
         return Ok(());

@@ -14,6 +14,7 @@ mod laws;
 mod numbers;
 mod operations;
 mod pointers;
+mod transfers;
 mod types;
 
 pub use calls::{Linking, call, finish};

@@ -26,5 +26,4 @@ returns c = selections_are_valid (record {
   items = c.startup_is_valid.ensures.items;
   used = c.startup_is_valid.ensures.used;
   placed = c.startup_is_valid.ensures.placed;
-  near = c.near_items_are_valid.ensures.program;
 })

@@ -17,4 +17,4 @@ returns c = selections_have_words (record {
   conversions = c.places_are_short.ensures.conversions;
   elements = c.elements_are_formed.ensures.short;
   numbers = c.numbers_are_operands.ensures.straight;
-}) c.startup_has_words.ensures c.near_items_are_short.ensures.less
+}) c.startup_has_words.ensures

@@ -27,10 +27,7 @@ returns c = selections_run (record {
     items = c.startup_is_valid.ensures.items;
     used = c.startup_is_valid.ensures.used;
     placed = c.startup_is_valid.ensures.placed;
-    near = c.near_items_are_valid.ensures.program;
   };
   parts = c.parts_stand.ensures;
-  near_code = c.near_code_stands.ensures.code;
-  used = c.near_code_stands.ensures.words;
   follows = c.programs_show_their_operations.ensures;
 })

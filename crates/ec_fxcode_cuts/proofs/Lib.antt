@@ -1,4 +1,0 @@
--- For this crate alone.
-mod Words
-mod Dropped
-mod Windows

@@ -1,5 +1,0 @@
-use Rattle.ec_fxcode_cuts.proofs.Dropped.{cuts_are_right}
-use Rattle.ec_fxcode_cuts.proofs.laws.cuts_are_right.Goals as goal
-
-pub returns : goal.returns
-returns c = cuts_are_right

@@ -1,5 +1,0 @@
-use Rattle.ec_fxcode_cuts.proofs.Words.{cuts_have}
-use Rattle.ec_fxcode_cuts.proofs.laws.cuts_have.Goals as goal
-
-pub returns : goal.returns
-returns c = cuts_have

@@ -1,0 +1,4 @@
+pub mod Cuts
+pub mod Raises
+pub mod Brought
+pub mod FormatLaws
