@@ -1,13 +1,16 @@
 -- The command that a row of words is.
-use Rattle.std.specs.Prelude.{ℕ, ◌≡◌, ◌↔◌, ◌&&◌, ◌==◌, nat_lt, nat_le, Bool, true, if◌then◌else◌, List, length}
+use Rattle.std.specs.Prelude.{ℕ, ℤ, ◌≡◌, ◌↔◌, ◌&&◌, ◌==◌, nat_lt, nat_le, Bool, true, if◌then◌else◌, List, length}
 use Rattle.std.specs.Prelude.{Option, Some, None, bytes_eq, codes}
 use Rattle.std.specs.List.{list_all}
 use Rattle.std.specs.Char.{digit_value}
-use Rattle.std.specs.Str.Parse.{digits_value}
+use Rattle.std.specs.Str.Parse.{digits_value, signed_digits_value}
+use Rattle.ec_emu_watch.specs.declared.compare.CompareOp.{CompareOp}
 use Rattle.ec_space.specs.declared.Core.{Core}
-use Rattle.ec_commands.specs.Words.{Words, word, is_build, is_bound, core_named, IsRun, IsExecRow, IsGen, IsList, IsAssemble}
+use Rattle.ec_commands.specs.Words.{Words, word, is_build, is_bound, core_named, compare_named, without_minus}
+use Rattle.ec_commands.specs.Words.{IsRun, IsExecRow, IsGen, IsList, IsAssemble, IsWatchRow}
 use Rattle.ec_commands.specs.declared.words.Command.{Command}
-use Rattle.ec_commands.specs.declared.words.Command.TheVariants.{Build, Run, Exec, Gen, List as ListImage, Assemble, Bound, NoCommand}
+use Rattle.ec_commands.specs.declared.words.Command.TheVariants.{Build, Run, Exec, Gen, List as ListImage, Assemble, Bound}
+use Rattle.ec_commands.specs.declared.words.Command.TheVariants.{Watch, NoCommand}
 
 -- 1 to 10 decimal digits, which stand for a number that is at most so great
 abbrev pub is_number : List ℕ → ℕ → Bool
@@ -19,6 +22,16 @@ is_number digits most =
 -- the number, where they are such
 abbrev pub number : List ℕ → ℕ → Option ℕ
 number digits most = if is_number digits most then Some (digits_value 10 digits) else None
+
+-- an optional `-` and 1 to 20 decimal digits
+abbrev pub is_value : List ℕ → Bool
+is_value text =
+    nat_lt 0 (length (without_minus text))
+    && (list_all (λ c. nat_lt (digit_value c) 10) (without_minus text) && nat_le (length (without_minus text)) 20)
+
+-- the number, where they are such
+abbrev pub value : List ℕ → Option ℤ
+value text = if is_value text then Some (signed_digits_value 10 text) else None
 
 -- ---- the rows, each by its first word
 
@@ -71,6 +84,18 @@ assemble_row words = if length words == 4 then assemble_by (core_named (word wor
 abbrev pub bound_row : Words → Command
 bound_row words = if nat_le 3 (length words) then Bound else NoCommand
 
+-- watch MAP SCRIPT STEPS NAME LEAF OP VALUE SRC...
+abbrev pub watch_by : Option ℕ → Option ℕ → Option CompareOp → Option ℤ → Command
+watch_by (Some steps) (Some leaf) (Some op) (Some v) = Watch steps leaf (record { op = op; value = v })
+watch_by steps leaf op v = NoCommand
+
+abbrev pub watch_row : Words → Command
+watch_row words =
+    if nat_le 9 (length words)
+    then watch_by (number (word words 3) 4294967295) (number (word words 5) 9999999999) (compare_named (word words 6))
+    (value (word words 7))
+    else NoCommand
+
 abbrev pub row_of : List ℕ → Words → Command
 row_of first words =
     if bytes_eq first (codes "build") then build_row words
@@ -80,6 +105,7 @@ row_of first words =
     else if bytes_eq first (codes "list") then list_row words
     else if bytes_eq first (codes "assemble") then assemble_row words
     else if bytes_eq first (codes "bound") then bound_row words
+    else if bytes_eq first (codes "watch") then watch_row words
     else NoCommand
 
 abbrev pub command_of : Words → Command
@@ -96,6 +122,7 @@ IsRow (Gen n) words = IsGen words n
 IsRow (ListImage core) words = IsList words core
 IsRow (Assemble core) words = IsAssemble words core
 IsRow Bound words = is_bound words ≡ true
+IsRow (Watch steps leaf rule) words = IsWatchRow words steps leaf rule
 IsRow NoCommand words = ⊥
 
 -- the words are no command

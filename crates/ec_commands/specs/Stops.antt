@@ -7,7 +7,7 @@ use Rattle.ec_commands.specs.declared.stop.CommandError.{CommandError}
 use Rattle.ec_commands.specs.declared.stop.CommandError.TheVariants.{Usage, CannotRead, CannotWrite, TooMany}
 use Rattle.ec_commands.specs.declared.stop.CommandError.TheVariants.{NoMemory, BadRecord, BadSum, OutOfFlash, Twice}
 use Rattle.ec_commands.specs.declared.stop.CommandError.TheVariants.{NoEnd}
-use Rattle.ec_commands.specs.declared.stop.CommandError.TheVariants.{ScriptLine, AsmLine, Fault, StepsOut}
+use Rattle.ec_commands.specs.declared.stop.CommandError.TheVariants.{ScriptLine, AsmLine, Fault, StepsOut, NoNumber}
 use Rattle.std.specs.Prelude.{◌<◌, ◌/◌, ◌%◌, ◌∷◌, ◌++◌, length, ⊤}
 use Rattle.std.specs.Fmt.{decimal}
 use Rattle.ec_avr.specs.declared.machine.FaultKind.{FaultKind}
@@ -53,6 +53,7 @@ status_of NoEnd = 12
 status_of (ScriptLine line rule) = 12
 status_of (Fault kind pc) = 13
 status_of StepsOut = 14
+status_of NoNumber = 15
 status_of (AsmLine line rule) = 18
 
 -- the line of a stop that is told without a name or a number, and nothing for any other
@@ -92,8 +93,10 @@ line_of words (ScriptLine line rule) =
 line_of words (AsmLine line rule) = codes "asm line " ++ decimal line ++ codes ": rule " ++ decimal rule ++ codes "\n"
 line_of words (Fault kind pc) = codes "fault " ++ fault_name kind ++ codes " at " ++ four_digits pc ++ codes "\n"
 line_of words StepsOut = codes "steps out\n"
+line_of words NoNumber = codes "no number " ++ word words 4 ++ codes " " ++ word words 5 ++ codes "\n"
 
--- the word whose file a stop names is there
+-- the words that the line of a stop takes over are there: that of a file, or those of a number
 abbrev pub IsNamed : Words → CommandError → Type 0
 IsNamed words (CannotRead i) = i < length words
+IsNamed words NoNumber = 5 < length words
 IsNamed words _ = ⊤

@@ -1,20 +1,25 @@
 -- The words of a command line, without the program's name.
-use Rattle.std.specs.Prelude.{ℕ}
+use Rattle.std.specs.Prelude.{ℕ, ℤ}
 use Rattle.ec_space.specs.declared.Core.{Core}
 use Rattle.ec_space.specs.declared.Core.TheVariants.{Small}
 use Rattle.ec_commands.specs.declared.words.Compiling.{Compiling}
-use Rattle.ec_commands.specs.declared.words.Compiling.TheVariants.{Build, Exec, Bound}
+use Rattle.ec_commands.specs.declared.words.Compiling.TheVariants.{Build, Exec, Bound, Watch}
+use Rattle.ec_emu_watch.specs.declared.compare.Compare.{Compare}
+use Rattle.ec_emu_watch.specs.declared.compare.CompareOp.{CompareOp}
+use Rattle.ec_emu_watch.specs.declared.compare.CompareOp.TheVariants.{Eq, Ne, Lt, Gt, Le, Ge}
 use Rattle.std.specs.Prelude.{◌-◌, ◌≡◌, ◌≤◌, ◌&&◌, nat_le, Bool, true, List, [], length, map, drop, codes}
 use Rattle.std.specs.Prelude.{option_map, Option, Some, None, if◌then◌else◌}
 use Rattle.std.specs.Prelude.{unwrap_or, slice_get, String, string_bytes, bytes_eq}
-use Rattle.std.specs.Str.Parse.{IsNumeral, digits_value}
+use Rattle.std.specs.Str.Parse.{IsNumeral, digits_value, starts_with_minus, signed_digits_value}
 use Rattle.std.specs.declared.alloc.Global.{Global}
 
--- the place of the first source, behind `build MAP OUT`, `exec MAP SCRIPT STEPS` and `bound MAP`
+-- the place of the first source, behind `build MAP OUT`, `exec MAP SCRIPT STEPS`, `bound MAP` and
+-- `watch MAP SCRIPT STEPS NAME LEAF OP VALUE`
 abbrev pub first_source : Compiling → ℕ
 first_source Build = 3
 first_source Exec = 4
 first_source Bound = 2
+first_source Watch = 8
 
 abbrev pub Words : Type 0
 Words = List (String Global)
@@ -111,3 +116,35 @@ assembled_name words = word words 3
 -- bound MAP SRC...
 abbrev pub is_bound : Words → Bool
 is_bound words = nat_le 3 (length words) && bytes_eq (word words 0) (codes "bound")
+
+-- ---- watch MAP SCRIPT STEPS NAME LEAF OP VALUE SRC...
+
+-- what stands behind an optional `-`
+abbrev pub without_minus : List ℕ → List ℕ
+without_minus text = if starts_with_minus text then drop 1 text else text
+
+-- an optional `-` and 1 to 20 decimal digits, leading zeros allowed, which stand for v
+pub record IsValue (text : List ℕ) (v : ℤ) : Type 0 where
+  pub numeral : IsNumeral 10 (without_minus text)
+  pub short : length (without_minus text) ≤ 20
+  pub value : signed_digits_value 10 text ≡ v
+
+-- a comparison by its name
+abbrev pub compare_named : List ℕ → Option CompareOp
+compare_named name =
+    if bytes_eq name (codes "eq") then Some Eq
+    else if bytes_eq name (codes "ne") then Some Ne
+    else if bytes_eq name (codes "lt") then Some Lt
+    else if bytes_eq name (codes "gt") then Some Gt
+    else if bytes_eq name (codes "le") then Some Le
+    else if bytes_eq name (codes "ge") then Some Ge
+    else None
+
+-- LEAF is 1 to 10 digits; OP and VALUE are the rule
+pub record IsWatchRow (words : Words) (steps leaf : ℕ) (rule : Compare) : Type 0 where
+  pub nine : 9 ≤ length words
+  pub row : bytes_eq (word words 0) (codes "watch") ≡ true
+  pub steps_word : IsNumber (word words 3) 4294967295 steps
+  pub leaf_word : IsNumber (word words 5) 9999999999 leaf
+  pub op_word : compare_named (word words 6) ≡ Some rule.op
+  pub value_word : IsValue (word words 7) rule.value

@@ -10,7 +10,7 @@ ghost use Rattle.ec_commands.specs.Lines.{bytes_of, line};
 ghost use Rattle.ec_commands.specs.Tells.{WritesPrefix, Tells};
 ghost use Rattle.ec_commands.specs.Stops.{text_of};
 
-use crate::line::Part::{Hex, Long, Number, Signed, Text};
+use crate::line::Part::{Hex, Long, Number, Signed, Text, Wide};
 use crate::stop::{CommandError, text_of};
 use crate::words::word_at;
 use ec_avr::FaultKind;
@@ -29,6 +29,8 @@ pub enum Part<'a> {
     Long(u64),
     /// A number in decimal digits, with a sign where it is below 0.
     Signed(i16),
+    /// A number of up to 128 bits in decimal digits, with a sign where it is below 0.
+    Wide(i128),
     /// A number in four hexadecimal digits in upper case.
     Hex(u16),
 }
@@ -51,6 +53,10 @@ fn write_part<O: Sink>(out: &mut O, part: &Part<'_>) -> Result<(), Written>
             write_all(out, digits.format(n).as_bytes())
         }
         Signed(n) => {
+            let mut digits = Buffer::new();
+            write_all(out, digits.format(n).as_bytes())
+        }
+        Wide(n) => {
             let mut digits = Buffer::new();
             write_all(out, digits.format(n).as_bytes())
         }
@@ -183,6 +189,29 @@ fn tell_text<E: Sink>(err: &mut E, stop: CommandError)
     write_line(err, &[Text(text)]);
 }
 
+/// Writes the line of words that name no number: the word of the name, and the one of the leaf.
+fn tell_no_number<E: Sink>(err: &mut E, words: &Vec<String>)
+    requires { 5 < length words.now.items }
+    ensures told { Tells (E.written err.old) (E.written err.new) (E.faults err.old) (E.faults err.new)
+        (line_of words.now.items CommandError.NoNumber) }
+    ensures rest { E.rest err.new ≡ E.rest err.old }
+    ensures calm { (room : ℕ) → E.calm err.old room → length (line_of words.now.items CommandError.NoNumber) ≤ room
+        → E.faults err.new ≡ E.faults err.old }
+{
+    let name = word_at(words, 4).as_bytes();
+    let leaf = word_at(words, 5).as_bytes();
+    write_line(
+        err,
+        &[
+            Text(b"no number "),
+            Text(name),
+            Text(b" "),
+            Text(leaf),
+            Text(b"\n"),
+        ],
+    );
+}
+
 /// Writes the line of a stop.
 pub fn tell<E: Sink>(err: &mut E, words: &Vec<String>, stop: CommandError)
     requires { IsNamed words.now.items stop }
@@ -248,5 +277,6 @@ pub fn tell<E: Sink>(err: &mut E, words: &Vec<String>, stop: CommandError)
             )
         }
         CommandError::StepsOut => tell_text(err, stop),
+        CommandError::NoNumber => tell_no_number(err, words),
     }
 }

@@ -98,6 +98,8 @@ pub enum CommandError {
     Fault(FaultKind, u16),
     /// The machine made all its steps and did not end.
     StepsOut,
+    /// The words of a watch name no number that can be watched.
+    NoNumber,
 }
 
 /// The status with which the program ends.
@@ -117,6 +119,7 @@ pub fn status(stop: CommandError) -> u8
         CommandError::NoEnd | CommandError::ScriptLine(_, _) => 12,
         CommandError::Fault(_, _) => 13,
         CommandError::StepsOut => 14,
+        CommandError::NoNumber => 15,
         CommandError::AsmLine(_, _) => 18,
     }
 }

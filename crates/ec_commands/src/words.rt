@@ -1,10 +1,13 @@
 //! The words of a command line.
-ghost use Rattle.std.specs.Prelude.{◌≡◌, ◌<◌, ◌≤◌, ℕ, true, false, length, IfSome, IfNone};
+ghost use Rattle.std.specs.Prelude.{◌≡◌, ◌<◌, ◌≤◌, ℕ, ℤ, true, false, length, IfSome, IfNone};
 ghost use Rattle.ec_commands.specs.Command.{command_of, IsRowOf};
-ghost use Rattle.ec_commands.specs.Words.{first_source, is_build as is_build_row, is_bound as is_bound_row, word, core_named};
-ghost use Rattle.ec_commands.specs.Words.{IsNumber, IsRun, IsExecRow, IsGen, IsList, IsAssemble};
+ghost use Rattle.ec_commands.specs.Words.{first_source, is_build as is_build_row, is_bound as is_bound_row, word};
+ghost use Rattle.ec_commands.specs.Words.{core_named, compare_named};
+ghost use Rattle.ec_commands.specs.Words.{IsNumber, IsValue, IsRun, IsExecRow, IsGen, IsList, IsAssemble, IsWatchRow};
+ghost use Rattle.ec_emu_watch.specs.declared.compare.Compare.{Compare};
 ghost use Rattle.ec_space.specs.declared.Core.{Core};
 
+use ec_emu_watch::{Compare, CompareOp};
 use ec_space::Core;
 
 /// What a row of words is.
@@ -13,17 +16,34 @@ pub enum Command {
     /// `build MAP OUT SRC...`
     Build,
     /// `run HEX SCRIPT STEPS FILL`
-    Run { steps: u32, fill: u8 },
+    Run {
+        steps: u32,
+        fill: u8,
+    },
     /// `exec MAP SCRIPT STEPS SRC...`
-    Exec { steps: u32 },
+    Exec {
+        steps: u32,
+    },
     /// `gen N`
-    Gen { n: u16 },
+    Gen {
+        n: u16,
+    },
     /// `list CORE HEX`
-    List { core: Core },
+    List {
+        core: Core,
+    },
     /// `assemble CORE ASM OUT`
-    Assemble { core: Core },
+    Assemble {
+        core: Core,
+    },
     /// `bound MAP SRC...`
     Bound,
+    /// `watch MAP SCRIPT STEPS NAME LEAF OP VALUE SRC...`: OP and VALUE are the rule. LEAF is at most 9,999,999,999.
+    Watch {
+        steps: u32,
+        leaf: u64,
+        rule: Compare,
+    },
     /// Any other words.
     NoCommand,
 }
@@ -37,6 +57,8 @@ pub enum Compiling {
     Exec,
     /// `bound MAP SRC...`
     Bound,
+    /// `watch MAP SCRIPT STEPS NAME LEAF OP VALUE SRC...`
+    Watch,
 }
 
 /// The place of the first source among the words, from 0.
@@ -47,6 +69,7 @@ pub fn first_source(command: Compiling) -> usize
         Compiling::Build => 3,
         Compiling::Exec => 4,
         Compiling::Bound => 2,
+        Compiling::Watch => 8,
     }
 }
 
@@ -73,16 +96,41 @@ pub fn word_at(words: &Vec<String>, i: usize) -> &str
 }
 
 /// The number that 1 to 10 decimal digits stand for, leading zeros allowed, if it is at most `most`.
-fn number(digits: &str, most: u32) -> Option<u32>
+fn number(digits: &str, most: u64) -> Option<u64>
     ensures some { IfSome result (IsNumber digits.now most) }
     ensures none { IfNone result ((n : ℕ) → ¬ (IsNumber digits.now most n)) }
 {
     if digits.len() > 10 || digits.as_bytes().first() == Some(&b'+') {
         return None;
     }
-    match digits.parse::<u32>() {
+    match digits.parse::<u64>() {
         Ok(n) if n <= most => Some(n),
         _ => None,
+    }
+}
+
+/// STEPS, from 0 to 4,294,967,295.
+fn steps_of(digits: &str) -> Option<u32>
+    ensures some { IfSome result (IsNumber digits.now 4294967295) }
+    ensures none { IfNone result ((n : ℕ) → ¬ (IsNumber digits.now 4294967295 n)) }
+{
+    let steps = number(digits, 4_294_967_295)?;
+    Some(steps as u32)
+}
+
+/// The number that an optional `-` and 1 to 20 decimal digits stand for, leading zeros allowed.
+fn value(word: &str) -> Option<i128>
+    ensures some { IfSome result (IsValue word.now) }
+    ensures none { IfNone result ((v : ℤ) → ¬ (IsValue word.now v)) }
+{
+    let first = word.as_bytes().first();
+    let most = if first == Some(&b'-') { 21 } else { 20 };
+    if word.len() > most || first == Some(&b'+') {
+        return None;
+    }
+    match word.parse::<i128>() {
+        Ok(v) => Some(v),
+        Err(_) => None,
     }
 }
 
@@ -94,7 +142,7 @@ fn run_numbers(words: &Vec<String>) -> Option<(u32, u8)>
     if words.len() != 5 || words[0].as_str() != "run" {
         return None;
     }
-    let steps = number(word_at(words, 3), u32::MAX)?;
+    let steps = steps_of(word_at(words, 3))?;
     let fill = number(word_at(words, 4), 255)?;
     Some((steps, fill as u8))
 }
@@ -107,7 +155,7 @@ fn exec_steps(words: &Vec<String>) -> Option<u32>
     if words.len() < 5 || words[0].as_str() != "exec" {
         return None;
     }
-    number(word_at(words, 3), u32::MAX)
+    steps_of(word_at(words, 3))
 }
 
 /// The number of `gen N`, from 1 to 2,000, if the words are such.
@@ -155,6 +203,42 @@ fn assemble_core(words: &Vec<String>) -> Option<Core>
     core_named(word_at(words, 1))
 }
 
+/// The comparison that is called so.
+fn compare_named(name: &str) -> Option<CompareOp>
+    ensures { result ≡ compare_named name.now }
+{
+    if name == "eq" {
+        Some(CompareOp::Eq)
+    } else if name == "ne" {
+        Some(CompareOp::Ne)
+    } else if name == "lt" {
+        Some(CompareOp::Lt)
+    } else if name == "gt" {
+        Some(CompareOp::Gt)
+    } else if name == "le" {
+        Some(CompareOp::Le)
+    } else if name == "ge" {
+        Some(CompareOp::Ge)
+    } else {
+        None
+    }
+}
+
+/// STEPS, LEAF and the rule of `watch MAP SCRIPT STEPS NAME LEAF OP VALUE SRC...`, if the words are such.
+fn watched(words: &Vec<String>) -> Option<(u32, u64, Compare)>
+    ensures some { IfSome result (λ r. IsWatchRow words.now.items r.0 r.1 r.2) }
+    ensures none { IfNone result ((steps leaf : ℕ) (rule : Compare) → ¬ (IsWatchRow words.now.items steps leaf rule)) }
+{
+    if words.len() < 9 || words[0].as_str() != "watch" {
+        return None;
+    }
+    let steps = steps_of(word_at(words, 3))?;
+    let leaf = number(word_at(words, 5), 9_999_999_999)?;
+    let op = compare_named(word_at(words, 6))?;
+    let value = value(word_at(words, 7))?;
+    Some((steps, leaf, Compare { op, value }))
+}
+
 /// The command that the words are.
 pub fn command_of(words: &Vec<String>) -> Command
     ensures value { result ≡ command_of words.now.items }
@@ -180,6 +264,9 @@ pub fn command_of(words: &Vec<String>) -> Command
     }
     if is_bound(words) {
         return Command::Bound;
+    }
+    if let Some((steps, leaf, rule)) = watched(words) {
+        return Command::Watch { steps, leaf, rule };
     }
     Command::NoCommand
 }

@@ -53,7 +53,7 @@ no_write : (own : Bool) (at byte : ℕ) (rest : List Access) → ports_of (unles
 no_write true at byte rest = refl
 no_write false at byte rest = refl
 
-ports_kept : (p : PlainProgram) (l : Located) (trace : List Access) → ports_of (kept p l trace) ≡ ports_of trace
+pub ports_kept : (p : PlainProgram) (l : Located) (trace : List Access) → ports_of (kept p l trace) ≡ ports_of trace
 ports_kept p l [] = refl
 ports_kept p l (PortIn port byte ∷ trace) = ap (λ (xs : List Access). PortIn port byte ∷ xs) (ports_kept p l trace)
 ports_kept p l (PortOut port byte ∷ trace) = ap (λ (xs : List Access). PortOut port byte ∷ xs) (ports_kept p l trace)

@@ -1,5 +1,5 @@
 -- The map, the script and the sources that were read.
-use Rattle.std.proofs.Common.{◌≡◌, ◌+◌, ◌≤◌, ℕ, List, Some, None, refl, sym, ap, subst, arith, inl, inr, ◌⊎◌, length}
+use Rattle.std.proofs.Common.{◌≡◌, ◌+◌, ◌≤◌, ℕ, List, Some, None, refl, sym, ap, subst, inl, inr, ◌⊎◌, length}
 use Rattle.std.specs.Prelude.{Option, All}
 use Rattle.std.specs.FinMap.{get}
 use Rattle.ec_space.specs.declared.Core.TheVariants.{Small}
@@ -41,13 +41,13 @@ both_told words old mid map lines kept m l =
     (HoldsBoth words map lines) old mid kept m l
     (λ files x y. (x, y))
 
-pub exec_told : (words : Words) (old mid : Option Disk) (map lines : List ℕ) (sources : List (List ℕ)) → KeepsAll old mid
+pub exec_told : (words : Words) (first : ℕ) (old mid : Option Disk) (map lines : List ℕ) (sources : List (List ℕ)) → KeepsAll old mid
     → Told (HoldsBoth words map lines) old → length map ≤ 16384 → length lines ≤ 65536
-    → Told (HoldTexts (names_from words 4) sources) mid → All (λ text. length text ≤ 65536) sources
-    → Told (AreExecInputs words map lines sources) old
-exec_told words old mid map lines sources kept both fits lines_fit held fit =
-    told_both (HoldsBoth words map lines) (HoldTexts (names_from words 4) sources)
-    (AreExecInputs words map lines sources) old mid kept both held
+    → Told (HoldTexts (names_from words first) sources) mid → All (λ text. length text ≤ 65536) sources
+    → Told (AreExecInputs words first map lines sources) old
+exec_told words first old mid map lines sources kept both fits lines_fit held fit =
+    told_both (HoldsBoth words map lines) (HoldTexts (names_from words first) sources)
+    (AreExecInputs words first map lines sources) old mid kept both held
     (λ files b s. record {
       inputs = record { map_there = b.0; map_fits = fits; sources_there = s; sources_fit = fit };
       script_there = b.1;
@@ -86,81 +86,86 @@ script_behind words map old mid new (TooMany limit) kept there fits later came h
 script_behind words map old mid new NoMemory kept there fits later came h = tt
 script_behind words map old mid new _ kept there fits later came h = absurd h
 
-pub reading_stops : (words : Words) (old new : StoreView) (stop : CommandError) → StopsReadingExec words old new stop
-    → StopsLoadingExec words old new (Command stop)
-reading_stops words old new NoMemory h = tt
-reading_stops words old new (ScriptLine line rule) (inl h) = absurd h
-reading_stops words old new (ScriptLine line rule) (inr (inl h)) = absurd h
-reading_stops words old new (ScriptLine line rule) (inr (inr h)) = absurd h
-reading_stops words old new _ h = h
+pub reading_stops : (words : Words) (first : ℕ) (old new : StoreView) (stop : CommandError) → StopsReadingExec words first old new stop
+    → StopsLoadingExec words first old new (Command stop)
+reading_stops words first old new NoMemory h = tt
+reading_stops words first old new (ScriptLine line rule) (inl h) = absurd h
+reading_stops words first old new (ScriptLine line rule) (inr (inl h)) = absurd h
+reading_stops words first old new (ScriptLine line rule) (inr (inr h)) = absurd h
+reading_stops words first old new _ h = h
 
-pub build_stops : (words : Words) (old new : StoreView) (map lines : List ℕ) (sources : List (List ℕ)) (stop : CompileStop)
-    → Told (AreExecInputs words map lines sources) old.disk → RefusesBuild sources map stop → StopsLoadingExec words old new stop
-build_stops words old new map lines sources (Command stop) inputs h = absurd h
-build_stops words old new map lines sources (Build stop) inputs h =
+pub build_stops : (words : Words) (first : ℕ) (old new : StoreView) (map lines : List ℕ) (sources : List (List ℕ)) (stop : CompileStop)
+    → Told (AreExecInputs words first map lines sources) old.disk → RefusesBuild sources map stop
+    → StopsLoadingExec words first old new stop
+build_stops words first old new map lines sources (Command stop) inputs h = absurd h
+build_stops words first old new map lines sources (Build stop) inputs h =
     record { map = map; lines = lines; sources = sources; inputs = inputs; cause = h }
 
-pub script_stops : (words : Words) (old new : StoreView) (lines : List ℕ) (b : Built) (stop : CommandError)
-    → IsExecBuilt words old.disk lines b
-    → (stop ≡ NoMemory) ⊎ HasScriptFault lines stop → StopsLoadingExec words old new (Command stop)
-script_stops words old new lines b stop from (inl e) = subst (λ s. StopsLoadingExec words old new (Command s)) (sym e) tt
-script_stops words old new lines b stop from (inr h) =
-    subst (λ s. StopsLoadingExec words old new (Command s)) (sym h.told)
+pub script_stops : (words : Words) (first : ℕ) (old new : StoreView) (lines : List ℕ) (b : Built) (stop : CommandError)
+    → IsExecBuilt words first old.disk lines b
+    → (stop ≡ NoMemory) ⊎ HasScriptFault lines stop → StopsLoadingExec words first old new (Command stop)
+script_stops words first old new lines b stop from (inl e) = subst (λ s. StopsLoadingExec words first old new (Command s)) (sym e) tt
+script_stops words first old new lines b stop from (inr h) =
+    subst (λ s. StopsLoadingExec words first old new (Command s)) (sym h.told)
     (record { lines = lines; built = b; from = from; fault = subst (λ s. HasScriptFault lines s) h.told h })
 
-pub before_run : (words : Words) (old new : StoreView) (stop : CompileStop) → words_from words 4 ≤ 16 → StopsLoadingExec words old new stop
-    → StopsBeforeRun words old new stop
-before_run words old new (Command (TooMany Sources)) few (inl h) = cc
-before_run words old new (Command (TooMany Sources)) few (inr (inl h)) = absurd h
-before_run words old new (Command (TooMany Sources)) few (inr (inr h)) = absurd h
-before_run words old new _ few h = (few, h)
+pub before_run : (words : Words) (first : ℕ) (old new : StoreView) (stop : CompileStop) → words_from words first ≤ 16
+    → StopsLoadingExec words first old new stop → StopsBeforeRun words first old new stop
+before_run words first old new (Command (TooMany Sources)) few (inl h) = cc
+before_run words first old new (Command (TooMany Sources)) few (inr (inl h)) = absurd h
+before_run words first old new (Command (TooMany Sources)) few (inr (inr h)) = absurd h
+before_run words first old new _ few h = (few, h)
 
 -- ---- no stop where the files are accepted
 
-no_script_stop : (words : Words) (map lines : List ℕ) (sources : List (List ℕ)) (disk : Disk) (read written received : ℕ) (missed : Option (List ℕ)) (new : StoreView)
-    (stop : CommandError)
-    → AreExecInputs words map lines sources disk.files → ¬ (Rose read new.read_faults)
+no_script_stop : (words : Words) (first : ℕ) (map lines : List ℕ) (sources : List (List ℕ)) (disk : Disk)
+    (read written received : ℕ) (missed : Option (List ℕ)) (new : StoreView) (stop : CommandError)
+    → AreExecInputs words first map lines sources disk.files → ¬ (Rose read new.read_faults)
     → StopsReadingScript words (store_view (Some disk) read written received missed) new stop → commands.status_of stop ≡ 11
-no_script_stop words map lines sources disk read written received missed new (CannotRead i) inputs calm h = absurd (calm h.1.rose)
-no_script_stop words map lines sources disk read written received missed new (TooMany ScriptBytes) inputs calm h =
+no_script_stop words first map lines sources disk read written received missed new (CannotRead i) inputs calm h = absurd (calm h.1.rose)
+no_script_stop words first map lines sources disk read written received missed new (TooMany ScriptBytes) inputs calm h =
     absurd
     (not_past disk.files (script_name words) 65536
     (within_here disk.files (script_name words) lines 65536 inputs.script_there inputs.script_fits) h.0.1)
-no_script_stop words map lines sources disk read written received missed new NoMemory inputs calm h = refl
-no_script_stop words map lines sources disk read written received missed new _ inputs calm h = absurd h
+no_script_stop words first map lines sources disk read written received missed new NoMemory inputs calm h = refl
+no_script_stop words first map lines sources disk read written received missed new _ inputs calm h = absurd h
 
-pub no_reading_stop : (words : Words) (disk : Option Disk) (read written received : ℕ) (missed : Option (List ℕ)) (new : StoreView) (stop : CommandError)
-    → AcceptsExec words disk
-    → ¬ (Rose read new.read_faults) → StopsReadingExec words (store_view disk read written received missed) new stop → commands.status_of stop ≡ 11
-no_reading_stop words None read written received missed new stop accepted calm h = absurd accepted
-no_reading_stop words (Some disk) read written received missed new stop accepted calm (inl h) =
-    no_map_stop words 4 accepted.build.map accepted.build.sources disk read written received missed new stop accepted.inputs.inputs calm h
-no_reading_stop words (Some disk) read written received missed new stop accepted calm (inr (inl h)) =
-    no_script_stop words accepted.build.map accepted.lines accepted.build.sources disk read written received missed new stop accepted.inputs calm h
-no_reading_stop words (Some disk) read written received missed new stop accepted calm (inr (inr h)) =
-    no_source_stop words 4
-    (HasScript words) 81920 accepted.build.map accepted.build.sources disk read written received missed new stop accepted.inputs.inputs calm h
+pub no_reading_stop : (words : Words) (first : ℕ) (disk : Option Disk) (read written received : ℕ) (missed : Option (List ℕ))
+    (new : StoreView) (stop : CommandError) → AcceptsExec words first disk → ¬ (Rose read new.read_faults)
+    → StopsReadingExec words first (store_view disk read written received missed) new stop → commands.status_of stop ≡ 11
+no_reading_stop words first None read written received missed new stop accepted calm h = absurd accepted
+no_reading_stop words first (Some disk) read written received missed new stop accepted calm (inl h) =
+    no_map_stop words first accepted.build.map accepted.build.sources disk read written received missed new stop
+    accepted.inputs.inputs calm h
+no_reading_stop words first (Some disk) read written received missed new stop accepted calm (inr (inl h)) =
+    no_script_stop words first accepted.build.map accepted.lines accepted.build.sources disk read written received missed new stop
+    accepted.inputs calm h
+no_reading_stop words first (Some disk) read written received missed new stop accepted calm (inr (inr h)) =
+    no_source_stop words first
+    (HasScript words) 81920 accepted.build.map accepted.build.sources disk read written received missed new stop
+    accepted.inputs.inputs calm h
 
-pub read_accepted : (words : Words) (disk : Option Disk) (map lines : List ℕ) (sources : List (List ℕ)) → AcceptsExec words disk
-    → Told (AreExecInputs words map lines sources) disk → IsAccepted sources map
-read_accepted words None map lines sources accepted inputs = absurd accepted
-read_accepted words (Some disk) map lines sources accepted inputs =
-    let same = inputs_same words 4 accepted.build.map map accepted.build.sources sources disk.files accepted.build.inputs inputs.inputs in
+pub read_accepted : (words : Words) (first : ℕ) (disk : Option Disk) (map lines : List ℕ) (sources : List (List ℕ))
+    → AcceptsExec words first disk → Told (AreExecInputs words first map lines sources) disk → IsAccepted sources map
+read_accepted words first None map lines sources accepted inputs = absurd accepted
+read_accepted words first (Some disk) map lines sources accepted inputs =
+    let same = inputs_same words first accepted.build.map map accepted.build.sources sources disk.files accepted.build.inputs
+    inputs.inputs in
     subst (λ s. IsAccepted s map) same.1 (subst (λ m. IsAccepted accepted.build.sources m) same.0 accepted.build.accepted)
 
 same_text : (found : Option (List ℕ)) (x y : List ℕ) → found ≡ Some x → found ≡ Some y → x ≡ y
 same_text found x y p q = cc
 
-script_kept : (words : Words) (disk : Option Disk) (map lines : List ℕ) (sources : List (List ℕ)) → AcceptsExec words disk
-    → Told (AreExecInputs words map lines sources) disk → AreKept (forms_of Small lines)
-script_kept words None map lines sources accepted inputs = absurd accepted
-script_kept words (Some disk) map lines sources accepted inputs =
+script_kept : (words : Words) (first : ℕ) (disk : Option Disk) (map lines : List ℕ) (sources : List (List ℕ)) → AcceptsExec words first disk
+    → Told (AreExecInputs words first map lines sources) disk → AreKept (forms_of Small lines)
+script_kept words first None map lines sources accepted inputs = absurd accepted
+script_kept words first (Some disk) map lines sources accepted inputs =
     subst (λ (t : List ℕ). AreKept (forms_of Small t))
     (same_text (get disk.files (script_name words)) accepted.lines lines accepted.inputs.script_there inputs.script_there) accepted.kept
 
-pub no_script_fault : (words : Words) (disk : Option Disk) (map lines : List ℕ) (sources : List (List ℕ)) (stop : CommandError)
-    → AcceptsExec words disk
-    → Told (AreExecInputs words map lines sources) disk → (stop ≡ NoMemory) ⊎ HasScriptFault lines stop → commands.status_of stop ≡ 11
-no_script_fault words disk map lines sources stop accepted inputs (inl e) = ap commands.status_of e
-no_script_fault words disk map lines sources stop accepted inputs (inr h) =
-    absurd (not_broken (forms_of Small lines) h.line h.rule (script_kept words disk map lines sources accepted inputs) h.fault)
+pub no_script_fault : (words : Words) (first : ℕ) (disk : Option Disk) (map lines : List ℕ) (sources : List (List ℕ)) (stop : CommandError)
+    → AcceptsExec words first disk
+    → Told (AreExecInputs words first map lines sources) disk → (stop ≡ NoMemory) ⊎ HasScriptFault lines stop → commands.status_of stop ≡ 11
+no_script_fault words first disk map lines sources stop accepted inputs (inl e) = ap commands.status_of e
+no_script_fault words first disk map lines sources stop accepted inputs (inr h) =
+    absurd (not_broken (forms_of Small lines) h.line h.rule (script_kept words first disk map lines sources accepted inputs) h.fault)

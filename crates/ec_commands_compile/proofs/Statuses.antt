@@ -74,6 +74,7 @@ command_not (commands.ScriptLine line rule) e = omega (arith, e)
 command_not (commands.Fault kind pc) e = omega (arith, e)
 command_not commands.StepsOut e = omega (arith, e)
 command_not (commands.AsmLine line rule) e = omega (arith, e)
+command_not commands.NoNumber e = omega (arith, e)
 
 pub never_zero : (stop : CompileStop) → status_of stop ≡ 0 → ⊥
 never_zero (Command stop) e = command_not stop e

@@ -85,4 +85,5 @@ no_usage words steps hooks old new out (Command (commands.ScriptLine line rule))
 no_usage words steps hooks old new out (Command (commands.Fault kind pc)) h e = omega (arith, e)
 no_usage words steps hooks old new out (Command commands.StepsOut) h e = omega (arith, e)
 no_usage words steps hooks old new out (Command (commands.AsmLine line rule)) h e = omega (arith, e)
+no_usage words steps hooks old new out (Command commands.NoNumber) h e = omega (arith, e)
 no_usage words steps hooks old new out (Build stop) h e = build_not stop e

@@ -1,4 +1,5 @@
--- What `exec` does: the run of what was built, what `out` receives of it, and when each stop comes.
+-- What `exec` does: the run of what was built, what `out` receives of it, and when each stop comes. What is read, built and
+-- refused is said of sources that are named from one word on: of those of `watch` too.
 use Rattle.std.specs.Prelude.{ℕ, ◌≤◌, ◌<◌, ◌≡◌, ◌⊎◌, List, map, length, Option, Some, None}
 use Rattle.ec_space.specs.declared.Core.TheVariants.{Small}
 use Rattle.ec_io.specs.Causes.{Rose}
@@ -31,25 +32,26 @@ use Rattle.ec_commands_compile.specs.declared.stop.CompileStop.TheVariants.{Comm
 -- ---- the run
 
 -- what was read, and built of it: the program of the sources, placed by the map
-pub record IsExecBuilt (words : Words) (disk : Option Disk) (lines : List ℕ) (b : Built) : Type 0 where
+pub record IsExecBuilt (words : Words) (first : ℕ) (disk : Option Disk) (lines : List ℕ) (b : Built) : Type 0 where
   pub map : List ℕ
   pub sources : List (List ℕ)
-  pub inputs : Told (AreExecInputs words map lines sources) disk
+  pub inputs : Told (AreExecInputs words first map lines sources) disk
   pub built : IsBuilt sources map b
 
 -- so is the script, which keeps the rules and says these answers
-pub record IsExecRead (words : Words) (disk : Option Disk) (b : Built) (answers : List ScriptLine) : Type 0 where
-  pub lines : List ℕ
-  pub from : IsExecBuilt words disk lines b
-  pub kept : AreKept (forms_of Small lines)
-  pub scripted : map entry_of answers ≡ entries (forms_of Small lines)
+pub record IsExecRead (words : Words) (first : ℕ) (disk : Option Disk) (b : Built) (answers : List ScriptLine) : Type 0
+  where
+    pub lines : List ℕ
+    pub from : IsExecBuilt words first disk lines b
+    pub kept : AreKept (forms_of Small lines)
+    pub scripted : map entry_of answers ≡ entries (forms_of Small lines)
 
 -- its machine is in the reset state with 165 everywhere, and the script says these answers
 pub record IsExecLoaded (words : Words) (disk : Option Disk) (machine : State) (answers : List ScriptLine) : Type 0
   where
     pub lines : List ℕ
     pub built : Built
-    pub from : IsExecBuilt words disk lines built
+    pub from : IsExecBuilt words 4 disk lines built
     pub reset : machine ≡ reset_with built.located.image.core built.located.image.bytes.items 165
     pub is_reset : IsReset built.located.image.core built.located.image.bytes.items machine
     pub kept : AreKept (forms_of Small lines)
@@ -79,32 +81,32 @@ FitsExec words steps hooks disk room =
 -- ---- when each answer other than 0 comes; none but out of memory comes where an earlier one has its cause
 
 -- the map and the sources that were read are refused for this
-pub record IsExecRefused (words : Words) (disk : Option Disk) (stop : BuildStop) : Type 0 where
+pub record IsExecRefused (words : Words) (first : ℕ) (disk : Option Disk) (stop : BuildStop) : Type 0 where
   pub map : List ℕ
   pub lines : List ℕ
   pub sources : List (List ℕ)
-  pub inputs : Told (AreExecInputs words map lines sources) disk
+  pub inputs : Told (AreExecInputs words first map lines sources) disk
   pub cause : HasCause sources map stop
 
 -- there is an image, and a line of the script is the first to break a rule
-pub record HasBadScript (words : Words) (disk : Option Disk) (stop : CommandError) : Type 0 where
+pub record HasBadScript (words : Words) (first : ℕ) (disk : Option Disk) (stop : CommandError) : Type 0 where
   pub lines : List ℕ
   pub built : Built
-  pub from : IsExecBuilt words disk lines built
+  pub from : IsExecBuilt words first disk lines built
   pub fault : HasScriptFault lines stop
 
 -- why nothing runs, where there are at most 16 sources
-abbrev pub StopsLoadingExec : Words → StoreView → StoreView → CompileStop → Type 0
-StopsLoadingExec words old new (Build stop) = IsExecRefused words old.disk stop
-StopsLoadingExec words old new (Command NoMemory) = Unit {0}
-StopsLoadingExec words old new (Command (BadScriptLine line rule)) =
-    HasBadScript words old.disk (BadScriptLine line rule)
-StopsLoadingExec words old new (Command stop) = StopsReadingExec words old new stop
+abbrev pub StopsLoadingExec : Words → ℕ → StoreView → StoreView → CompileStop → Type 0
+StopsLoadingExec words first old new (Build stop) = IsExecRefused words first old.disk stop
+StopsLoadingExec words first old new (Command NoMemory) = Unit {0}
+StopsLoadingExec words first old new (Command (BadScriptLine line rule)) =
+    HasBadScript words first old.disk (BadScriptLine line rule)
+StopsLoadingExec words first old new (Command stop) = StopsReadingExec words first old new stop
 
 -- why nothing runs
-abbrev pub StopsBeforeRun : Words → StoreView → StoreView → CompileStop → Type 0
-StopsBeforeRun words old new (Command (TooMany Sources)) = 16 < words_from words 4
-StopsBeforeRun words old new stop = (words_from words 4 ≤ 16) × StopsLoadingExec words old new stop
+abbrev pub StopsBeforeRun : Words → ℕ → StoreView → StoreView → CompileStop → Type 0
+StopsBeforeRun words first old new (Command (TooMany Sources)) = 16 < words_from words first
+StopsBeforeRun words first old new stop = (words_from words first ≤ 16) × StopsLoadingExec words first old new stop
 
 -- how a run that was made stops
 abbrev pub StopsExecuting : Words → ℕ → Gives → Option Disk → SinkCall → CompileStop → Type 0
@@ -116,18 +118,18 @@ StopsExecuting words steps hooks disk out (Build stop) = ⊥
 -- `out` receives nothing before the run
 abbrev pub ExecStops : Words → ℕ → Gives → StoreView → StoreView → SinkCall → CompileStop → Type 0
 ExecStops words steps hooks old new out stop =
-    (StopsBeforeRun words old new stop × (out.after ≡ out.before)) ⊎ StopsExecuting words steps hooks old.disk out stop
+    (StopsBeforeRun words 4 old new stop × (out.after ≡ out.before)) ⊎ StopsExecuting words steps hooks old.disk out stop
 
 -- ---- what is accepted
 
 -- nothing stands against the named map and sources, and the script is within its limit and keeps the rules
-pub record AreExecAccepted (words : Words) (files : Files) : Type 0 where
-  pub build : AreAccepted words 4 files
+pub record AreExecAccepted (words : Words) (first : ℕ) (files : Files) : Type 0 where
+  pub build : AreAccepted words first files
   pub lines : List ℕ
-  pub inputs : AreExecInputs words build.map lines build.sources files
+  pub inputs : AreExecInputs words first build.map lines build.sources files
   pub kept : AreKept (forms_of Small lines)
 
 -- the store told its files, and they are accepted
-abbrev pub AcceptsExec : Words → Option Disk → Type 0
-AcceptsExec words None = ⊥
-AcceptsExec words (Some disk) = AreExecAccepted words disk.files
+abbrev pub AcceptsExec : Words → ℕ → Option Disk → Type 0
+AcceptsExec words first None = ⊥
+AcceptsExec words first (Some disk) = AreExecAccepted words first disk.files

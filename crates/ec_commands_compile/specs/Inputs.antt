@@ -1,4 +1,4 @@
--- The files that a build, a bound and an exec read, and what reading them does.
+-- The files that a build, a bound, an exec and a watch read, and what reading them does.
 use Rattle.std.specs.Prelude.{ℕ, ◌+◌, ◌≤◌, ◌≡◌, ◌⊎◌, List, ◌∷◌, length, All, Some, ⊤}
 use Rattle.std.specs.FinMap.{get}
 use Rattle.ec_io.specs.Causes.{Counted}
@@ -31,17 +31,19 @@ abbrev pub StopsReadingBuild : Words → ℕ → StoreView → StoreView → Com
 StopsReadingBuild words first old new stop =
     StopsReading words 1 MapBytes old new stop ⊎ StopsReadingSources words first (HasMap words) 16384 old new stop
 
--- ---- exec
+-- ---- exec and watch
 
--- the named files hold this map, this script and these sources, and are within their limits
-pub record AreExecInputs (words : Words) (map lines : List ℕ) (sources : List (List ℕ)) (files : Files) : Type 0 where
-  pub inputs : AreInputs words 4 map sources files
+-- the named files hold this map, this script and these sources, which are named from one word on, and are within their
+-- limits
+pub record AreExecInputs (words : Words) (first : ℕ) (map lines : List ℕ) (sources : List (List ℕ)) (files : Files)
+    : Type 0 where
+  pub inputs : AreInputs words first map sources files
   pub script_there : get files (script_name words) ≡ Some lines
   pub script_fits : length lines ≤ 65536
 
--- the names of the files that an exec reads
-abbrev pub exec_inputs : Words → List (List ℕ)
-exec_inputs words = map_name words ∷ script_name words ∷ names_from words 4
+-- the names of the files that they read
+abbrev pub exec_inputs : Words → ℕ → List (List ℕ)
+exec_inputs words first = map_name words ∷ script_name words ∷ names_from words first
 
 -- the map and the script are within their limits
 pub record HasScript (words : Words) (files : Files) : Type 0 where
@@ -59,7 +61,7 @@ StopsReadingScript words old new NoMemory = ⊤
 StopsReadingScript words old new stop = ⊥
 
 -- why they are not read: the map is not; or it is, and the script is not; or both are, and a source is not
-abbrev pub StopsReadingExec : Words → StoreView → StoreView → CommandError → Type 0
-StopsReadingExec words old new stop =
+abbrev pub StopsReadingExec : Words → ℕ → StoreView → StoreView → CommandError → Type 0
+StopsReadingExec words first old new stop =
     StopsReading words 1 MapBytes old new stop ⊎ (StopsReadingScript words old new stop
-    ⊎ StopsReadingSources words 4 (HasScript words) 81920 old new stop)
+    ⊎ StopsReadingSources words first (HasScript words) 81920 old new stop)

@@ -15,7 +15,7 @@ pub fn conclude<E: Sink>(
     first: usize,
     answer: Result<(), CompileStop>,
 ) -> u8
-    requires first { first ≤ 4 }
+    requires first { first ≤ 8 }
     requires named { IfErr answer (IsNamed words.now.items) }
     ensures done { OnOk answer ((result ≡ 0) × (err.new ≡ err.old)) }
     ensures told { IfErr answer (λ stop. IsTold (status_of stop) (line_of words.now.items first stop)

@@ -35,25 +35,27 @@ struct ExecInputs {
     script: Seq<u8>,
 }
 
-/// Reads the map, the script and the sources of `exec MAP SCRIPT STEPS SRC...`.
+/// Reads the map, the script and the sources, which the words name from the one at `first` on.
 fn read_inputs<S: Store>(
     alloc: Global,
     words: &Vec<String>,
+    first: usize,
     store: &mut S,
 ) -> Result<ExecInputs, CommandError>
-    requires { 5 ≤ length words.now.items }
+    requires script { 2 < length words.now.items }
+    requires first { first ≤ length words.now.items }
     ensures files { KeepsAll (S.disk store.old) (S.disk store.new) }
-    ensures found { IfOk result (λ r. Told (AreExecInputs words.now.items r.inputs.map.items r.script.items
+    ensures found { IfOk result (λ r. Told (AreExecInputs words.now.items first r.inputs.map.items r.script.items
         (texts r.inputs.sources.items)) (S.disk store.old)) }
     ensures short { IfOk result (λ r. (length r.inputs.map.items ≤ 16384) × (length r.script.items ≤ 65536)
         × All (λ text. length text ≤ 65536) (texts r.inputs.sources.items)) }
-    ensures many { IfOk result (λ r. length r.inputs.sources.items ≡ words_from words.now.items 4) }
-    ensures stopped { IfErr result (StopsReadingExec words.now.items
+    ensures many { IfOk result (λ r. length r.inputs.sources.items ≡ words_from words.now.items first) }
+    ensures stopped { IfErr result (StopsReadingExec words.now.items first
         (store_view (S.disk store.old) (S.read_faults store.old) (S.write_faults store.old) (S.received store.old) (S.missed store.old))
         (store_view (S.disk store.new) (S.read_faults store.new) (S.write_faults store.new) (S.received store.new) (S.missed store.new))) }
     ensures later { S.read_faults store.old ≤ S.read_faults store.new }
     ensures write_faults { S.write_faults store.new ≡ S.write_faults store.old }
-    ensures calm { (made : List ℕ) (room : ℕ) → S.calm store.old (exec_inputs words.now.items) made room
+    ensures calm { (made : List ℕ) (room : ℕ) → S.calm store.old (exec_inputs words.now.items first) made room
         → S.read_faults store.new ≡ S.read_faults store.old }
 {
     let map = match read(alloc, store, words, 1, Limit::MapBytes) {
@@ -64,7 +66,7 @@ fn read_inputs<S: Store>(
         Ok(script) => script,
         Err(stop) => return Err(stop),
     };
-    match read_sources(alloc, store, words, 4) {
+    match read_sources(alloc, store, words, first) {
         Ok(sources) => Ok(ExecInputs {
             inputs: Inputs { map, sources },
             script,
@@ -73,36 +75,38 @@ fn read_inputs<S: Store>(
     }
 }
 
-/// What was built of the sources that an exec names, and its script.
+/// What was built of the sources that an exec or a watch names, and its script.
 #[derive(Drop)]
 pub struct ExecRead {
     pub built: Built,
     pub script: Script,
 }
 
-/// Reads what `exec MAP SCRIPT STEPS SRC...` names, and builds the sources.
+/// Reads the map, the script and the sources, which the words name from the one at `first` on, and builds the sources.
 pub fn read_exec<S: Store>(
     alloc: Global,
     words: &Vec<String>,
+    first: usize,
     store: &mut S,
 ) -> Result<ExecRead, CompileStop>
-    requires five { 5 ≤ length words.now.items }
-    requires few { words_from words.now.items 4 ≤ 16 }
+    requires script { 2 < length words.now.items }
+    requires some { first < length words.now.items }
+    requires few { words_from words.now.items first ≤ 16 }
     ensures files { KeepsAll (S.disk store.old) (S.disk store.new) }
-    ensures found { IfOk result (λ r. IsExecRead words.now.items (S.disk store.old) r.built r.script.lines.items) }
-    ensures stopped { IfErr result (StopsLoadingExec words.now.items
+    ensures found { IfOk result (λ r. IsExecRead words.now.items first (S.disk store.old) r.built r.script.lines.items) }
+    ensures stopped { IfErr result (StopsLoadingExec words.now.items first
         (store_view (S.disk store.old) (S.read_faults store.old) (S.write_faults store.old) (S.received store.old) (S.missed store.old))
         (store_view (S.disk store.new) (S.read_faults store.new) (S.write_faults store.new) (S.received store.new) (S.missed store.new))) }
     ensures named { IfErr result (IsNamed words.now.items) }
-    ensures complete { AcceptsExec words.now.items (S.disk store.old)
+    ensures complete { AcceptsExec words.now.items first (S.disk store.old)
         → ¬ (Rose (S.read_faults store.old) (S.read_faults store.new))
         → IfErr result (λ stop. status_of stop ≡ 11) }
     ensures later { S.read_faults store.old ≤ S.read_faults store.new }
     ensures write_faults { S.write_faults store.new ≡ S.write_faults store.old }
-    ensures calm { (made : List ℕ) (room : ℕ) → S.calm store.old (exec_inputs words.now.items) made room
+    ensures calm { (made : List ℕ) (room : ℕ) → S.calm store.old (exec_inputs words.now.items first) made room
         → S.read_faults store.new ≡ S.read_faults store.old }
 {
-    let inputs = match read_inputs(alloc, words, store) {
+    let inputs = match read_inputs(alloc, words, first, store) {
         Ok(inputs) => inputs,
         Err(stop) => return Err(CompileStop::Command(stop)),
     };
@@ -119,8 +123,8 @@ pub fn read_exec<S: Store>(
     }
 }
 
-/// The machine with the image that was built.
-fn booted(alloc: Global, built: &Built) -> Result<Machine, CompileStop>
+/// The machine with the image that was built, whose registers and memory hold 165.
+pub fn booted(alloc: Global, built: &Built) -> Result<Machine, CompileStop>
     ensures reset { IfOk result (λ machine. machine
         ≡ reset_with built.now.located.image.core built.now.located.image.bytes.items 165) }
     ensures is_reset { IfOk result
@@ -139,19 +143,19 @@ fn load<S: Store>(alloc: Global, words: &Vec<String>, store: &mut S) -> Result<L
     requires few { words_from words.now.items 4 ≤ 16 }
     ensures files { KeepsAll (S.disk store.old) (S.disk store.new) }
     ensures found { IfOk result (λ r. IsExecLoaded words.now.items (S.disk store.old) r.machine r.script.lines.items) }
-    ensures stopped { IfErr result (StopsLoadingExec words.now.items
+    ensures stopped { IfErr result (StopsLoadingExec words.now.items 4
         (store_view (S.disk store.old) (S.read_faults store.old) (S.write_faults store.old) (S.received store.old) (S.missed store.old))
         (store_view (S.disk store.new) (S.read_faults store.new) (S.write_faults store.new) (S.received store.new) (S.missed store.new))) }
     ensures named { IfErr result (IsNamed words.now.items) }
-    ensures complete { AcceptsExec words.now.items (S.disk store.old)
+    ensures complete { AcceptsExec words.now.items 4 (S.disk store.old)
         → ¬ (Rose (S.read_faults store.old) (S.read_faults store.new))
         → IfErr result (λ stop. status_of stop ≡ 11) }
     ensures later { S.read_faults store.old ≤ S.read_faults store.new }
     ensures write_faults { S.write_faults store.new ≡ S.write_faults store.old }
-    ensures calm { (made : List ℕ) (room : ℕ) → S.calm store.old (exec_inputs words.now.items) made room
+    ensures calm { (made : List ℕ) (room : ℕ) → S.calm store.old (exec_inputs words.now.items 4) made room
         → S.read_faults store.new ≡ S.read_faults store.old }
 {
-    let ExecRead { built, script } = match read_exec(alloc, words, store) {
+    let ExecRead { built, script } = match read_exec(alloc, words, 4, store) {
         Ok(read) => read,
         Err(stop) => return Err(stop),
     };
@@ -183,13 +187,13 @@ fn exec_few<S: Store, O: Sink, H: Ports>(
         (store_view (S.disk store.new) (S.read_faults store.new) (S.write_faults store.new) (S.received store.new) (S.missed store.new))
         (sink_call (O.written out.old) (O.written out.new) (O.faults out.old) (O.faults out.new))) }
     ensures named { IfErr result (IsNamed words.now.items) }
-    ensures complete { AcceptsExec words.now.items (S.disk store.old)
+    ensures complete { AcceptsExec words.now.items 4 (S.disk store.old)
         → ¬ (Rose (S.read_faults store.old) (S.read_faults store.new))
         → ¬ (Rose (O.faults out.old) (O.faults out.new))
         → IfErr result (λ stop. IsLeft (status_of stop)) }
     ensures later { (S.read_faults store.old ≤ S.read_faults store.new) × (O.faults out.old ≤ O.faults out.new) }
     ensures write_faults { S.write_faults store.new ≡ S.write_faults store.old }
-    ensures calm { (made : List ℕ) (room : ℕ) → S.calm store.old (exec_inputs words.now.items) made room
+    ensures calm { (made : List ℕ) (room : ℕ) → S.calm store.old (exec_inputs words.now.items 4) made room
         → S.read_faults store.new ≡ S.read_faults store.old }
     ensures out_calm { (room : ℕ) → O.calm out.old room
         → FitsExec words.now.items steps (H.gives hooks.old) (S.disk store.old) room
@@ -229,13 +233,13 @@ pub fn exec<S: Store, O: Sink, H: Ports>(
         (store_view (S.disk store.new) (S.read_faults store.new) (S.write_faults store.new) (S.received store.new) (S.missed store.new))
         (sink_call (O.written out.old) (O.written out.new) (O.faults out.old) (O.faults out.new))) }
     ensures named { IfErr result (IsNamed words.now.items) }
-    ensures complete { (words_from words.now.items 4 ≤ 16) → AcceptsExec words.now.items (S.disk store.old)
+    ensures complete { (words_from words.now.items 4 ≤ 16) → AcceptsExec words.now.items 4 (S.disk store.old)
         → ¬ (Rose (S.read_faults store.old) (S.read_faults store.new))
         → ¬ (Rose (O.faults out.old) (O.faults out.new))
         → IfErr result (λ stop. IsLeft (status_of stop)) }
     ensures later { (S.read_faults store.old ≤ S.read_faults store.new) × (O.faults out.old ≤ O.faults out.new) }
     ensures write_faults { S.write_faults store.new ≡ S.write_faults store.old }
-    ensures calm { (made : List ℕ) (room : ℕ) → S.calm store.old (exec_inputs words.now.items) made room
+    ensures calm { (made : List ℕ) (room : ℕ) → S.calm store.old (exec_inputs words.now.items 4) made room
         → S.read_faults store.new ≡ S.read_faults store.old }
     ensures out_calm { (room : ℕ) → O.calm out.old room
         → FitsExec words.now.items steps (H.gives hooks.old) (S.disk store.old) room

@@ -12,7 +12,7 @@ mod stop;
 
 pub use answer::conclude;
 pub use building::{build, read_and_build};
-pub use executing::{ExecRead, exec, read_exec};
+pub use executing::{ExecRead, booted, exec, read_exec};
 pub use generating::run_generated;
 pub use laws::builds_have_one_text;
 pub use line::{name_at, tell_stop};

@@ -121,7 +121,7 @@ fn tell_constraint<E: Sink>(err: &mut E, name: &[u8], token: u32, rule: u32)
 
 /// Writes the line of units that are no program.
 fn tell_check<E: Sink>(err: &mut E, words: &Vec<String>, first: usize, stop: &CheckStop)
-    requires { first ≤ 4 }
+    requires { first ≤ 8 }
     ensures told { Tells (E.written err.old) (E.written err.new) (E.faults err.old) (E.faults err.new)
         (check_line words.now.items first stop.now) }
     ensures rest { E.rest err.new ≡ E.rest err.old }
@@ -203,7 +203,7 @@ fn tell_place<E: Sink>(err: &mut E, words: &Vec<String>, stop: &PlaceStop)
 
 /// Writes the line of a build without a result, whose sources are named from the word at `first` on.
 fn tell_build<E: Sink>(err: &mut E, words: &Vec<String>, first: usize, stop: &BuildStop)
-    requires { first ≤ 4 }
+    requires { first ≤ 8 }
     ensures told { Tells (E.written err.old) (E.written err.new) (E.faults err.old) (E.faults err.new)
         (build_line words.now.items first stop.now) }
     ensures rest { E.rest err.new ≡ E.rest err.old }
@@ -228,7 +228,7 @@ fn tell_build<E: Sink>(err: &mut E, words: &Vec<String>, first: usize, stop: &Bu
 
 /// Writes the line of a stop, where the sources are named from the word at `first` on.
 pub fn tell_stop<E: Sink>(err: &mut E, words: &Vec<String>, first: usize, stop: &CompileStop)
-    requires first { first ≤ 4 }
+    requires first { first ≤ 8 }
     requires named { IsNamed words.now.items stop.now }
     ensures told { Tells (E.written err.old) (E.written err.new) (E.faults err.old) (E.faults err.new)
         (line_of words.now.items first stop.now) }

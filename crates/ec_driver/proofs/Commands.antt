@@ -2,6 +2,7 @@
 use Rattle.std.proofs.Common.{◌≡◌, ◌≤◌, ℕ, List, Result, Ok, Err, refl, sym, ◌∙◌, ap, subst, arith, inl, inr, ◌⊎◌}
 use Rattle.std.specs.Prelude.{true, OnOk, IfErr, IsErrOf}
 use Rattle.ec_io.specs.Views.{StoreView, SinkCall}
+use Rattle.ec_emu_watch.specs.declared.compare.Compare.{Compare}
 use Rattle.ec_commands.specs.Answers.{IsTold, Answers}
 use Rattle.ec_commands.specs.Runs.{Gives}
 use Rattle.ec_commands.specs.Words.{Words, is_build}
@@ -16,6 +17,8 @@ use Rattle.ec_commands_bound.proofs.Usage as bounding_stops
 use Rattle.ec_commands_bound.specs.Stops as bounding
 use Rattle.ec_commands_bound.specs.declared.stop.StepsStop.{StepsStop}
 use Rattle.ec_commands_bound.specs.declared.stop.StepsStop.TheVariants.{Compile}
+use Rattle.ec_commands_watch.proofs.Usage.{watch_no_usage as no_watch_usage}
+use Rattle.ec_commands_watch.specs.Watches.{WatchStops}
 use Rattle.ec_commands_compile.proofs.RunGen.{no_gen_usage}
 use Rattle.ec_commands_compile.proofs.Statuses.{never_zero}
 use Rattle.ec_commands_compile.proofs.Usage.{build_not, no_usage}
@@ -80,6 +83,7 @@ build_no_usage words old new row (stops.Command (commands.ScriptLine line rule))
 build_no_usage words old new row (stops.Command (commands.Fault kind pc)) h e = omega (arith, e)
 build_no_usage words old new row (stops.Command commands.StepsOut) h e = omega (arith, e)
 build_no_usage words old new row (stops.Command (commands.AsmLine line rule)) h e = omega (arith, e)
+build_no_usage words old new row (stops.Command commands.NoNumber) h e = omega (arith, e)
 build_no_usage words old new row (stops.Build stop) h e = build_not stop e
 
 pub exec_no_usage : (words : Words) (steps : ℕ) (hooks : Gives) (old new : StoreView) (out : SinkCall)
@@ -88,6 +92,10 @@ exec_no_usage words steps hooks old new out stop h e = no_usage words steps hook
 
 pub gen_no_usage : (n : ℕ) (hooks : Gives) (out : SinkCall) → NotUsage (GenStops n hooks out)
 gen_no_usage n hooks out stop h e = no_gen_usage n hooks out stop h e
+
+pub watch_no_usage : (words : Words) (steps leaf : ℕ) (rule : Compare) (hooks : Gives) (old new : StoreView) (out : SinkCall)
+    → NotUsage (WatchStops words steps leaf rule hooks old new out)
+watch_no_usage words steps leaf rule hooks old new out stop h e = no_watch_usage words steps leaf rule hooks old new out stop h e
 
 -- the answer of a bound is told
 abbrev pub IsToldBound : Words → ℕ → SinkCall → (ℕ → Type 0) → Result Unit StepsStop → ℕ → Type 0

@@ -10,6 +10,7 @@ use ec_commands::{Command, CommandError, Compiling, command_of, conclude, first_
 use ec_commands_bound::{bound, conclude as conclude_bound};
 use ec_commands_compile::{build, conclude as conclude_compiling, exec, run_generated};
 use ec_commands_list::{assemble, list};
+use ec_commands_watch::watch;
 use ec_emu::Ports;
 use ec_io::{Sink, Store};
 use std::alloc::Global;
@@ -23,8 +24,9 @@ use std::alloc::Global;
 /// image with FILL 165. `gen N` builds and runs the generated program for N so, and prints its result and how often it
 /// wrote ports. `list CORE HEX` prints the listing of the image of a HEX file, and `assemble CORE ASM OUT` writes the
 /// Intel HEX text of the image that a listing lists to OUT. `bound MAP SRC...` builds, and prints a number of steps within
-/// which the machine with that image ends. A stop is told on `err` by one line, and a failed write there does not change the
-/// status.
+/// which the machine with that image ends. `watch MAP SCRIPT STEPS NAME LEAF OP VALUE SRC...` runs as `exec` does up to the
+/// first write that gives the number LEAF of the object NAME a value that stands to VALUE as OP says, and prints that value.
+/// A stop is told on `err` by one line, and a failed write there does not change the status.
 pub fn tool<S: Store, O: Sink, E: Sink, H: Ports>(
     alloc: Global,
     words: &Vec<String>,
@@ -93,6 +95,10 @@ pub fn tool<S: Store, O: Sink, E: Sink, H: Ports>(
         Command::Bound => {
             let bounded = bound(alloc, words, store, out);
             conclude_bound(err, words, first_source(Compiling::Bound), bounded)
+        }
+        Command::Watch { steps, leaf, rule } => {
+            let watched = watch(alloc, words, steps, leaf, rule, store, out, hooks);
+            conclude_compiling(err, words, first_source(Compiling::Watch), watched)
         }
         Command::NoCommand => conclude(err, words, Err(CommandError::Usage)),
     }

@@ -27,9 +27,9 @@ pub record Judges (words : Words) (turns : ℕ) (before after : StoreView) (out 
     (store_calm : List (List ℕ) → List ℕ → ℕ → Type 0) (out_calm err_calm : ℕ → Type 0) (status : ℕ) : Type 0 where
   pub answered : Answers status_of (line_of words) err err_calm (Judged words turns before.disk out None)
       (JudgeStops words turns before after out) status
-  pub complete : words_from words 4 ≤ 16 → AcceptsExec words before.disk → ¬ (Rose before.read_faults after.read_faults)
+  pub complete : words_from words 4 ≤ 16 → AcceptsExec words 4 before.disk → ¬ (Rose before.read_faults after.read_faults)
       → ¬ (Rose out.faults_before out.faults_after) → (status ≡ 0) ⊎ IsJudgedStatus status
-  pub store_unfailing : (made : List ℕ) (room : ℕ) → store_calm (exec_inputs words) made room
+  pub store_unfailing : (made : List ℕ) (room : ℕ) → store_calm (exec_inputs words 4) made room
       → after.read_faults ≡ before.read_faults
   pub out_unfailing : (room : ℕ) → out_calm room → FitsJudged words turns before.disk room
       → out.faults_after ≡ out.faults_before

@@ -24,6 +24,7 @@ fn turns_of(words: &Vec<String>) -> Option<u32>
         | Command::List { .. }
         | Command::Assemble { .. }
         | Command::Bound
+        | Command::Watch { .. }
         | Command::NoCommand => None,
     }
 }

@@ -17,18 +17,18 @@ pub record Judged (words : Words) (turns : ℕ) (disk : Option Disk) (out : Sink
   where
     pub built : Built
     pub answers : List ScriptLine
-    pub read : IsExecRead words disk built answers
+    pub read : IsExecRead words 4 disk built answers
     pub judges : Judges built.program built.map.io (map entry_of answers) turns out stop
 
 -- why nothing is judged, as an exec does not run; or how the run came out. `out` receives nothing before the run
 abbrev pub JudgeStops : Words → ℕ → StoreView → StoreView → SinkCall → JudgeStop → Type 0
-JudgeStops words turns old new out (Compile stop) = StopsBeforeRun words old new stop × (out.after ≡ out.before)
+JudgeStops words turns old new out (Compile stop) = StopsBeforeRun words 4 old new stop × (out.after ≡ out.before)
 JudgeStops words turns old new out (Run stop) = (words_from words 4 ≤ 16) × Judged words turns old.disk out (Some stop)
 
 -- what is printed has at most so many bytes
 abbrev pub FitsJudged : Words → ℕ → Option Disk → ℕ → Type 0
 FitsJudged words turns disk room =
-    (built : Built) (answers : List ScriptLine) → IsExecRead words disk built answers
+    (built : Built) (answers : List ScriptLine) → IsExecRead words 4 disk built answers
     → FitsRun built.program built.map.io (map entry_of answers) turns room
 
 -- out of memory, or what is told of a program that was built: a hooked port, no more turns, an undefined point

@@ -42,19 +42,19 @@ fn judge_few<S: Store, O: Sink>(
         (store_view (S.disk store.new) (S.read_faults store.new) (S.write_faults store.new) (S.received store.new) (S.missed store.new))
         (sink_call (O.written out.old) (O.written out.new) (O.faults out.old) (O.faults out.new))) }
     ensures named { IfErr result (IsNamed words.now.items) }
-    ensures complete { AcceptsExec words.now.items (S.disk store.old)
+    ensures complete { AcceptsExec words.now.items 4 (S.disk store.old)
         → ¬ (Rose (S.read_faults store.old) (S.read_faults store.new))
         → ¬ (Rose (O.faults out.old) (O.faults out.new))
         → IfErr result (λ stop. IsJudgedStatus (status_of stop)) }
     ensures later { (S.read_faults store.old ≤ S.read_faults store.new) × (O.faults out.old ≤ O.faults out.new) }
     ensures write_faults { S.write_faults store.new ≡ S.write_faults store.old }
-    ensures calm { (made : List ℕ) (room : ℕ) → S.calm store.old (exec_inputs words.now.items) made room
+    ensures calm { (made : List ℕ) (room : ℕ) → S.calm store.old (exec_inputs words.now.items 4) made room
         → S.read_faults store.new ≡ S.read_faults store.old }
     ensures out_calm { (room : ℕ) → O.calm out.old room → FitsJudged words.now.items turns (S.disk store.old) room
         → O.faults out.new ≡ O.faults out.old }
     ensures rest { O.rest out.new ≡ O.rest out.old }
 {
-    let ExecRead { built, script } = match read_exec(alloc, words, store) {
+    let ExecRead { built, script } = match read_exec(alloc, words, 4, store) {
         Ok(read) => read,
         Err(stop) => return Err(JudgeStop::Compile(stop)),
     };
@@ -90,13 +90,13 @@ pub fn judge<S: Store, O: Sink>(
         (store_view (S.disk store.new) (S.read_faults store.new) (S.write_faults store.new) (S.received store.new) (S.missed store.new))
         (sink_call (O.written out.old) (O.written out.new) (O.faults out.old) (O.faults out.new))) }
     ensures named { IfErr result (IsNamed words.now.items) }
-    ensures complete { (words_from words.now.items 4 ≤ 16) → AcceptsExec words.now.items (S.disk store.old)
+    ensures complete { (words_from words.now.items 4 ≤ 16) → AcceptsExec words.now.items 4 (S.disk store.old)
         → ¬ (Rose (S.read_faults store.old) (S.read_faults store.new))
         → ¬ (Rose (O.faults out.old) (O.faults out.new))
         → IfErr result (λ stop. IsJudgedStatus (status_of stop)) }
     ensures later { (S.read_faults store.old ≤ S.read_faults store.new) × (O.faults out.old ≤ O.faults out.new) }
     ensures write_faults { S.write_faults store.new ≡ S.write_faults store.old }
-    ensures calm { (made : List ℕ) (room : ℕ) → S.calm store.old (exec_inputs words.now.items) made room
+    ensures calm { (made : List ℕ) (room : ℕ) → S.calm store.old (exec_inputs words.now.items 4) made room
         → S.read_faults store.new ≡ S.read_faults store.old }
     ensures out_calm { (room : ℕ) → O.calm out.old room → FitsJudged words.now.items turns (S.disk store.old) room
         → O.faults out.new ≡ O.faults out.old }

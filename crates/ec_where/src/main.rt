@@ -56,7 +56,7 @@ fn names_of(words: &[String]) -> FileNames<'_> {
             listing: listing.as_str(),
             ..names
         },
-        [command, map, script, ..] if command.as_str() == "exec" => FileNames {
+        [command, map, script, ..] if matches!(command.as_str(), "exec" | "watch") => FileNames {
             map: map.as_str(),
             script: script.as_str(),
             ..names
@@ -71,6 +71,7 @@ fn sources_of(words: &[String]) -> &[String] {
         [command, _, sources @ ..] if command.as_str() == "bound" => sources,
         [command, _, _, sources @ ..] if command.as_str() == "build" => sources,
         [command, _, _, _, sources @ ..] if command.as_str() == "exec" => sources,
+        [command, _, _, _, _, _, _, _, sources @ ..] if command.as_str() == "watch" => sources,
         _ => &[],
     }
 }

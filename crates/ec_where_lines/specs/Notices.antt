@@ -4,8 +4,8 @@ use Rattle.std.specs.Prelude.{ℕ, List, [], ◌∷◌, ◌++◌, map, codes, Op
 use Rattle.std.specs.Option.{option_and_then}
 use Rattle.std.specs.Fmt.{decimal}
 use Rattle.ec_where_lines.specs.declared.notices.Kind.{Kind}
-use Rattle.ec_where_lines.specs.declared.notices.Kind.TheVariants.{CannotRead, Recursion, MapRule, Region, NoObject, Clash}
-use Rattle.ec_where_lines.specs.declared.notices.Kind.TheVariants.{Limit, HexLine, ScriptLine, ScriptPort, ListingLine, Fault}
+use Rattle.ec_where_lines.specs.declared.notices.Kind.TheVariants.{CannotRead, Recursion, MapRule, Region, NoObject, NoNumber}
+use Rattle.ec_where_lines.specs.declared.notices.Kind.TheVariants.{Clash, Limit, HexLine, ScriptLine, ScriptPort, ListingLine, Fault}
 use Rattle.ec_where_lines.specs.declared.notices.FileNames.{FileNames}
 use Rattle.ec_where_lines.specs.declared.rules.TheConstants.{COUNTED, HEADS, HEX_LINES, MACHINE, MAP_LINES, MAP_RULES}
 use Rattle.ec_where_lines.specs.declared.rules.TheConstants.{LISTING_RULES, RECORDS, SCRIPT_RULES, TOOL_LINES}
@@ -116,6 +116,9 @@ headed_text names MapRule rest = option_map (said names.map_name) (rule_of rest)
 headed_text names Region rest = option_map (region_text names.map_name) (region_of rest)
 headed_text names NoObject rest =
     Some (said_of names.map_name (codes "`place` names") rest (codes ", which is no external object of the program"))
+headed_text names NoNumber rest =
+    Some (said_of (codes "napledge") (codes "there is no number") rest (codes
+    " to watch: NAME is an external object in RAM, and LEAF one of its integers and fixed-point numbers, counted from 0 with its pointers"))
 headed_text names Clash rest = clash_of names.map_name rest
 headed_text names Limit rest = option_map limit_text (limit_of rest)
 headed_text names HexLine rest = option_map (λ x. said_at names.hex_name x.0 x.1) (record_of rest)

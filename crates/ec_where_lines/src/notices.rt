@@ -19,6 +19,7 @@ pub enum Kind {
     MapRule,
     Region,
     NoObject,
+    NoNumber,
     Clash,
     Limit,
     HexLine,
@@ -221,6 +222,12 @@ fn headed_notice(
         Kind::NoObject => {
             let after = ", which is no external object of the program";
             said_of(alloc, map, "`place` names", rest, after)
+        }
+        Kind::NoNumber => {
+            let after =
+                " to watch: NAME is an external object in RAM, and LEAF one of its integers and fixed-point numbers, \
+                counted from 0 with its pointers";
+            said_of(alloc, "napledge", "there is no number", rest, after)
         }
         Kind::Clash => clash_notice(alloc, map, rest),
         Kind::Limit => limit_notice(alloc, rest),

@@ -152,7 +152,7 @@ pub static TOOL_LINES: [(&str, &str); 6] = [
     (
         "usage",
         "the words are `build MAP OUT SRC...`, `run HEX SCRIPT STEPS FILL`, `exec MAP SCRIPT STEPS SRC...`, `gen N`, \
-         `bound MAP SRC...`, `list CORE HEX` or `assemble CORE ASM OUT`",
+         `bound MAP SRC...`, `watch MAP SCRIPT STEPS NAME LEAF OP VALUE SRC...`, `list CORE HEX` or `assemble CORE ASM OUT`",
     ),
     (
         "cannot write",
@@ -177,12 +177,13 @@ pub static HEX_LINES: [(&str, &str); 1] = [(
 )];
 
 /// How the other lines begin.
-pub static HEADS: [(&str, Kind); 12] = [
+pub static HEADS: [(&str, Kind); 13] = [
     ("cannot read ", Kind::CannotRead),
     ("recursion ", Kind::Recursion),
     ("map: rule ", Kind::MapRule),
     ("region ", Kind::Region),
     ("no object ", Kind::NoObject),
+    ("no number ", Kind::NoNumber),
     ("clash ", Kind::Clash),
     ("limit ", Kind::Limit),
     ("hex line ", Kind::HexLine),

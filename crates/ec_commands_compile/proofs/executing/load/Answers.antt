@@ -17,7 +17,7 @@ returns-in-Ok-machine-clause-found g c = record {
 
 pub returns-in-Err-machine-clause-stopped : goal.returns-in-Err-machine-clause-stopped
 returns-in-Err-machine-clause-stopped g c =
-    subst (λ stop. StopsLoadingExec c.args.words.now.items
+    subst (λ stop. StopsLoadingExec c.args.words.now.items 4
     (store_view (g.S.Store.disk c.args.store.now) (g.S.Store.read_faults c.args.store.now) (g.S.Store.write_faults c.args.store.now)
     (g.S.Store.received c.args.store.now) (g.S.Store.missed c.args.store.now))
     (store_view (g.S.Store.disk c.read_exec.new.store) (g.S.Store.read_faults c.read_exec.new.store)

@@ -6,7 +6,7 @@ use Rattle.ec_commands_compile.proofs.executing.read_exec.Goals as goal
 
 pub returns-in-Err-clause-stopped : goal.returns-in-Err-clause-stopped
 returns-in-Err-clause-stopped g c =
-    reading_stops c.args.words.now.items
+    reading_stops c.args.words.now.items c.args.first
     (store_view (g.S.Store.disk c.args.store.now) (g.S.Store.read_faults c.args.store.now) (g.S.Store.write_faults c.args.store.now)
     (g.S.Store.received c.args.store.now) (g.S.Store.missed c.args.store.now))
     (store_view (g.S.Store.disk c.read_inputs.new.store) (g.S.Store.read_faults c.read_inputs.new.store)
@@ -15,7 +15,7 @@ returns-in-Err-clause-stopped g c =
 
 pub returns-in-Err-clause-complete : goal.returns-in-Err-clause-complete
 returns-in-Err-clause-complete g c = λ accepted calm.
-    no_reading_stop c.args.words.now.items (g.S.Store.disk c.args.store.now) (g.S.Store.read_faults c.args.store.now)
+    no_reading_stop c.args.words.now.items c.args.first (g.S.Store.disk c.args.store.now) (g.S.Store.read_faults c.args.store.now)
     (g.S.Store.write_faults c.args.store.now)
     (g.S.Store.received c.args.store.now) (g.S.Store.missed c.args.store.now)
     (store_view (g.S.Store.disk c.read_inputs.new.store) (g.S.Store.read_faults c.read_inputs.new.store)
@@ -24,7 +24,7 @@ returns-in-Err-clause-complete g c = λ accepted calm.
 
 pub returns-in-Err-compile-clause-stopped : goal.returns-in-Err-compile-clause-stopped
 returns-in-Err-compile-clause-stopped g c =
-    build_stops c.args.words.now.items
+    build_stops c.args.words.now.items c.args.first
     (store_view (g.S.Store.disk c.args.store.now) (g.S.Store.read_faults c.args.store.now) (g.S.Store.write_faults c.args.store.now)
     (g.S.Store.received c.args.store.now) (g.S.Store.missed c.args.store.now))
     (store_view (g.S.Store.disk c.read_inputs.new.store) (g.S.Store.read_faults c.read_inputs.new.store)
@@ -36,7 +36,8 @@ returns-in-Err-compile-clause-stopped g c =
 pub returns-in-Err-compile-clause-complete : goal.returns-in-Err-compile-clause-complete
 returns-in-Err-compile-clause-complete g c = λ accepted calm.
     c.in-Err-compile.ensures.complete
-    (read_accepted c.args.words.now.items (g.S.Store.disk c.args.store.now) c.in-Ok.inputs.inputs.map.items c.in-Ok.inputs.script.items
+    (read_accepted c.args.words.now.items c.args.first (g.S.Store.disk c.args.store.now) c.in-Ok.inputs.inputs.map.items
+    c.in-Ok.inputs.script.items
     (texts c.in-Ok.inputs.inputs.sources.items) accepted c.in-Ok.ensures.found)
 
 pub returns-in-Ok-load_script-clause-found : goal.returns-in-Ok-load_script-clause-found
@@ -54,7 +55,7 @@ returns-in-Ok-load_script-clause-found g c = record {
 
 pub returns-clause-stopped : goal.returns-clause-stopped
 returns-clause-stopped g c =
-    script_stops c.args.words.now.items
+    script_stops c.args.words.now.items c.args.first
     (store_view (g.S.Store.disk c.args.store.now) (g.S.Store.read_faults c.args.store.now) (g.S.Store.write_faults c.args.store.now)
     (g.S.Store.received c.args.store.now) (g.S.Store.missed c.args.store.now))
     (store_view (g.S.Store.disk c.read_inputs.new.store) (g.S.Store.read_faults c.read_inputs.new.store)
@@ -70,5 +71,6 @@ returns-clause-stopped g c =
 
 pub returns-clause-complete : goal.returns-clause-complete
 returns-clause-complete g c = λ accepted calm.
-    no_script_fault c.args.words.now.items (g.S.Store.disk c.args.store.now) c.in-Ok.inputs.inputs.map.items c.in-Ok.inputs.script.items
+    no_script_fault c.args.words.now.items c.args.first (g.S.Store.disk c.args.store.now) c.in-Ok.inputs.inputs.map.items
+    c.in-Ok.inputs.script.items
     (texts c.in-Ok.inputs.inputs.sources.items) c.in-Err-load_script.stop accepted c.in-Ok.ensures.found c.in-Err-load_script.ensures.stopped

@@ -13,7 +13,8 @@ use Rattle.ec_commands_compile.proofs.executing.read_inputs.Goals as goal
 pub returns-in-Ok-read_sources-clause-found : goal.returns-in-Ok-read_sources-clause-found
 returns-in-Ok-read_sources-clause-found g c =
     let words = c.args.words.now.items in
-    exec_told words _ _ c.in-Ok.map.items c.in-Ok-read.script.items _ (kept_on _ _ _ c.in-Ok.ensures.files c.in-Ok-read.ensures.files)
+    exec_told words c.args.first _ _ c.in-Ok.map.items c.in-Ok-read.script.items _
+    (kept_on _ _ _ c.in-Ok.ensures.files c.in-Ok-read.ensures.files)
     (both_told words _ _ c.in-Ok.map.items c.in-Ok-read.script.items c.in-Ok.ensures.files c.in-Ok.ensures.found.told
     c.in-Ok-read.ensures.found.told)
     c.in-Ok.ensures.found.within c.in-Ok-read.ensures.found.within c.in-Ok-read_sources.ensures.found.told
@@ -25,8 +26,8 @@ returns-in-Ok-read_sources-clause-calm g c = λ made room calm.
     let map = c.in-Ok.ensures.calm _ made room calm (0, omega arith, refl) in
     let script = c.in-Ok-read.ensures.calm _ made room map.1 (1, omega arith, refl) in
     let sources = c.in-Ok-read_sources.ensures.calm _ made room script.1
-    (λ name has. contains_behind (map_name words) (script_name words ∷ names_from words 4) name
-    (contains_behind (script_name words) (names_from words 4) name has)) in
+    (λ name has. contains_behind (map_name words) (script_name words ∷ names_from words c.args.first) name
+    (contains_behind (script_name words) (names_from words c.args.first) name has)) in
     sources.0 ∙ script.0 ∙ map.0
 
 pub returns-in-Err-read_sources-clause-calm : goal.returns-in-Err-read_sources-clause-calm
@@ -35,8 +36,8 @@ returns-in-Err-read_sources-clause-calm g c = λ made room calm.
     let map = c.in-Ok.ensures.calm _ made room calm (0, omega arith, refl) in
     let script = c.in-Ok-read.ensures.calm _ made room map.1 (1, omega arith, refl) in
     let sources = c.in-Err-read_sources.ensures.calm _ made room script.1
-    (λ name has. contains_behind (map_name words) (script_name words ∷ names_from words 4) name
-    (contains_behind (script_name words) (names_from words 4) name has)) in
+    (λ name has. contains_behind (map_name words) (script_name words ∷ names_from words c.args.first) name
+    (contains_behind (script_name words) (names_from words c.args.first) name has)) in
     sources.0 ∙ script.0 ∙ map.0
 
 pub returns-in-Err-read_sources-clause-stopped : goal.returns-in-Err-read_sources-clause-stopped
@@ -44,7 +45,7 @@ returns-in-Err-read_sources-clause-stopped g c =
     let words = c.args.words.now.items in
     let map : List ℕ = c.in-Ok.map.items in
     let lines : List ℕ = c.in-Ok-read.script.items in
-    inr (inr (stops_behind words 4 (HoldsBoth words map lines) (λ _. ⊤) (HasScript words) 81920 0 (length map + length lines)
+    inr (inr (stops_behind words c.args.first (HoldsBoth words map lines) (λ _. ⊤) (HasScript words) 81920 0 (length map + length lines)
     (store_view (g.S.Store.disk c.args.store.now) (g.S.Store.read_faults c.args.store.now) (g.S.Store.write_faults c.args.store.now)
     (g.S.Store.received c.args.store.now) (g.S.Store.missed c.args.store.now))
     (store_view (g.S.Store.disk c.read-2.new.store) (g.S.Store.read_faults c.read-2.new.store) (g.S.Store.write_faults c.read-2.new.store)

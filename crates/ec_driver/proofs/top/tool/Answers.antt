@@ -7,11 +7,13 @@ use Rattle.ec_commands.specs.declared.stop.CommandError.TheVariants.{Usage}
 use Rattle.ec_commands_bound.specs.Bounds.{IsUnbounded}
 use Rattle.ec_commands_bound.specs.Stops as bounding
 use Rattle.ec_commands_bound.proofs.Usage.{bound_no_usage}
+use Rattle.ec_commands_watch.specs.Watches.{IsUnwatched}
 use Rattle.ec_commands_compile.specs.Stops as compiling
 use Rattle.ec_commands.proofs.RunComplete.{by_status, left_of}
 use Rattle.ec_commands_list.proofs.Usage.{list_no_usage, assemble_no_usage}
 use Rattle.ec_driver.specs.Commands.{prints, asks, uses_files, sources_of}
 use Rattle.ec_driver.proofs.Commands.{does_at, answer_of, err_map, no_two_of, no_two, build_no_usage, exec_no_usage, gen_no_usage}
+use Rattle.ec_driver.proofs.Commands.{watch_no_usage}
 use Rattle.ec_driver.proofs.Commands.{told_ten, quiet_of, bound_told_ten, bound_quiet}
 use Rattle.ec_driver.proofs.top.tool.Goals as goal
 
@@ -317,6 +319,55 @@ returns-in-Bound-clause-sources g c = λ several.
     (c.bound-bounded.ensures.sources
     (subst (λ command. 16 < sources_of command c.args.words.now.items) (sym c.in-Bound.ensures.value) several)) (rw
     c.first_source-in-Bound.ensures at c.conclude-in-Bound.ensures.told)
+
+-- ---- watch
+
+pub returns-in-Watch-clause-done : goal.returns-in-Watch-clause-done
+returns-in-Watch-clause-done g c =
+    does_at _ (command_of c.args.words.now.items) c.in-Watch.ensures.value (record {
+      answered = answer_of compiling.status_of (compiling.line_of c.args.words.now.items 8) _ _ _ _ _ c.watch-watched.result
+          c.conclude-in-Watch.result
+          c.conclude-in-Watch.ensures.done (rw c.first_source-in-Watch.ensures at c.conclude-in-Watch.ensures.told)
+          c.watch-watched.ensures.ran c.watch-watched.ensures.stopped;
+      complete = λ few accepts calm out_calm. by_status compiling.status_of (compiling.line_of c.args.words.now.items 8) IsUnwatched _ _ _
+          c.watch-watched.result c.conclude-in-Watch.result c.conclude-in-Watch.ensures.done (rw c.first_source-in-Watch.ensures at
+          c.conclude-in-Watch.ensures.told) (c.watch-watched.ensures.complete few accepts calm out_calm);
+      store_unfailing = λ made room calm. (c.watch-watched.ensures.calm made room calm, c.watch-watched.ensures.write_faults);
+      out_unfailing = λ room calm fits. c.watch-watched.ensures.out_calm room calm fits;
+      kept = (c.watch-watched.ensures.files, c.watch-watched.ensures.write_faults);
+    })
+
+pub returns-in-Watch-clause-unprinted : goal.returns-in-Watch-clause-unprinted
+returns-in-Watch-clause-unprinted g c = λ e. let no = ap prints c.in-Watch.ensures.value ∙ e in cc
+
+pub returns-in-Watch-clause-unasked : goal.returns-in-Watch-clause-unasked
+returns-in-Watch-clause-unasked g c = λ e. let no = ap asks c.in-Watch.ensures.value ∙ e in cc
+
+pub returns-in-Watch-clause-idle : goal.returns-in-Watch-clause-idle
+returns-in-Watch-clause-idle g c = λ e. let no = ap uses_files c.in-Watch.ensures.value ∙ e in cc
+
+pub returns-in-Watch-clause-usage : goal.returns-in-Watch-clause-usage
+returns-in-Watch-clause-usage g c = (
+  λ two. absurd (no_two c.args.words.now.items 8 _ _ _ _ c.watch-watched.result c.conclude-in-Watch.result
+      (watch_no_usage c.args.words.now.items c.in-Watch.steps c.in-Watch.leaf c.in-Watch.rule _
+      (store_view (g.S.Store.disk c.args.store.now) (g.S.Store.read_faults c.args.store.now) (g.S.Store.write_faults c.args.store.now)
+      (g.S.Store.received c.args.store.now) (g.S.Store.missed c.args.store.now))
+      (store_view (g.S.Store.disk c.watch-watched.new.store) (g.S.Store.read_faults c.watch-watched.new.store)
+      (g.S.Store.write_faults c.watch-watched.new.store) (g.S.Store.received c.watch-watched.new.store)
+      (g.S.Store.missed c.watch-watched.new.store))
+      (sink_call (g.O.Sink.written c.args.out.now) (g.O.Sink.written c.watch-watched.new.out) (g.O.Sink.faults c.args.out.now)
+      (g.O.Sink.faults c.watch-watched.new.out)))
+      c.conclude-in-Watch.ensures.done (rw c.first_source-in-Watch.ensures at c.conclude-in-Watch.ensures.told)
+      c.watch-watched.ensures.stopped two),
+  λ none. let no = c.in-Watch.ensures.value ∙ none in cc,
+)
+
+pub returns-in-Watch-clause-sources : goal.returns-in-Watch-clause-sources
+returns-in-Watch-clause-sources g c = λ several.
+    told_ten c.args.words.now.items 8 _ _ c.watch-watched.result c.conclude-in-Watch.result
+    (c.watch-watched.ensures.sources
+    (subst (λ command. 16 < sources_of command c.args.words.now.items) (sym c.in-Watch.ensures.value) several)) (rw
+    c.first_source-in-Watch.ensures at c.conclude-in-Watch.ensures.told)
 
 -- ---- no command
 

@@ -7,7 +7,7 @@ use Rattle.ec_judge_files.proofs.judging.judge_few.Goals as goal
 
 pub returns-in-Err-clause-stopped : goal.returns-in-Err-clause-stopped
 returns-in-Err-clause-stopped g c = (
-  before_run c.args.words.now.items
+  before_run c.args.words.now.items 4
       (store_view (g.S.Store.disk c.args.store.now) (g.S.Store.read_faults c.args.store.now) (g.S.Store.write_faults c.args.store.now)
       (g.S.Store.received c.args.store.now) (g.S.Store.missed c.args.store.now))
       (store_view (g.S.Store.disk c.read_exec.new.store) (g.S.Store.read_faults c.read_exec.new.store)
