@@ -2,9 +2,9 @@
 use Rattle.std.specs.Prelude.{◌≡◌, ◌≢◌, ℕ, ◌+◌, ◌<◌, ◌≤◌, ◌⊎◌, IsTrue, List, ◌++◌, length, take, drop, slice_index}
 use Rattle.std.specs.Prelude.{slice_range, All}
 use Rattle.ec_space.specs.Bytes.{little_endian, number_of}
-use Rattle.ec_space.specs.Spaces.{holds}
+use Rattle.ec_space.specs.Spaces.{reaches}
 use Rattle.ec_space.specs.declared.Core.{Core}
-use Rattle.ec_space.specs.declared.Core.TheVariants.{Small}
+use Rattle.ec_space.specs.declared.Core.TheVariants.{Small, Large}
 use Rattle.ec_space.specs.declared.space.Bank.{Bank}
 use Rattle.ec_space.specs.declared.space.Bank.TheVariants.{Flash, Data}
 use Rattle.ec_space.specs.declared.space.Place.{Place}
@@ -23,9 +23,11 @@ bank_bytes m Data = m.data
 -- the ATmega328P has them)
 abbrev pub flash_size : Core → ℕ
 flash_size Small = 32_768
+flash_size Large = 131_072
 
 abbrev pub data_size : Core → ℕ
 data_size Small = 2_304
+data_size Large = 16_640
 
 -- n bytes, each of them x. It is said by facts and not as one list, since a list of 32,768 numerals would be computed
 pub record IsFilled (n x : ℕ) (bytes : List ℕ) : Type 0 where
@@ -42,7 +44,7 @@ with_bytes m Data from ws = record m { «data» = overwrite m.data from ws }
 
 -- the space holds the place's bank, and a value of `size` bytes at the place lies wholly in the bank
 pub record HasCell (space : SpaceId) (m : Memory) (at : Place) (size : ℕ) : Type 0 where
-  pub in_space : IsTrue (holds space at.bank)
+  pub in_space : IsTrue (reaches space at.bank)
   pub in_bank : at.offset + size ≤ length (bank_bytes m at.bank)
 
 -- the number in the `size` bytes from the place on, the lowest first

@@ -8,14 +8,16 @@ use Rattle.std.proofs.lemmas.Bool.{cases_lt, ne_eqb, lt-ltb, le-ltb}
 use Rattle.std.proofs.lemmas.Bool.Decides.{nat_tests}
 use Rattle.ec_space.specs.ByteLaws.{number_of-little_endian, little_endian-number_of}
 use Rattle.ec_space.specs.Bytes.{little_endian, number_of, AreBytes}
-use Rattle.ec_space.specs.Spaces.{holds, Encloses, encloses, bank_number, pointer_number, IsPointerOf, Denotes, encoded}
+use Rattle.ec_space.specs.Spaces.{holds, end_in, Encloses, encloses, bank_number, pointer_number, IsPointerOf, Denotes, encoded}
 use Rattle.ec_space.specs.Spaces.{pointer_in, pointer_of, denoted, is_pointer_of, converted, embedded, nothing}
 use Rattle.ec_space.specs.declared.space.Bank.{Bank}
 use Rattle.ec_space.specs.declared.space.Bank.TheVariants.{Flash as FlashBank, Data as DataBank}
+use Rattle.ec_space.specs.declared.space.Home.{Home}
+use Rattle.ec_space.specs.declared.space.Home.TheVariants.{Flash as FlashHome, Far as FarHome, Data as DataHome}
 use Rattle.ec_space.specs.declared.space.Pointer.{Pointer}
 use Rattle.ec_space.specs.declared.space.Pointer.TheVariants.{Null, At}
 use Rattle.ec_space.specs.declared.space.SpaceId.{SpaceId}
-use Rattle.ec_space.specs.declared.space.SpaceId.TheVariants.{Flash, Data, Generic}
+use Rattle.ec_space.specs.declared.space.SpaceId.TheVariants.{Flash, FarFlash, Data, Generic}
 
 -- ---- inclusion
 
@@ -36,85 +38,111 @@ right_true true b h = h
 right_true false b h = cc
 
 pub Encloses-from_test : (outer inner : SpaceId) → IsTrue (encloses outer inner) → Encloses outer inner
-Encloses-from_test outer inner test FlashBank =
-    implied (holds inner FlashBank) (holds outer FlashBank) (left_true _ _ test)
-Encloses-from_test outer inner test DataBank =
-    implied (holds inner DataBank) (holds outer DataBank) (right_true _ _ test)
+Encloses-from_test outer inner test FlashHome =
+    implied (holds inner FlashHome) (holds outer FlashHome) (left_true _ _ test)
+Encloses-from_test outer inner test FarHome =
+    implied (holds inner FarHome) (holds outer FarHome) (left_true _ _ (right_true _ _ test))
+Encloses-from_test outer inner test DataHome =
+    implied (holds inner DataHome) (holds outer DataHome) (right_true _ _ (right_true _ _ test))
 
 pub test_from_Encloses : (outer inner : SpaceId) → Encloses outer inner → IsTrue (encloses outer inner)
 test_from_Encloses outer inner h =
-    both_true (implies (holds inner FlashBank) (holds outer FlashBank) (h FlashBank))
-    (implies (holds inner DataBank) (holds outer DataBank) (h DataBank))
+    both_true (implies (holds inner FlashHome) (holds outer FlashHome) (h FlashHome))
+    (both_true (implies (holds inner FarHome) (holds outer FarHome) (h FarHome))
+    (implies (holds inner DataHome) (holds outer DataHome) (h DataHome)))
+
+pub flash_is_far : Encloses FarFlash Flash
+flash_is_far FlashHome h = refl
+flash_is_far FarHome h = refl
+flash_is_far DataHome h = cc
 
 -- ---- pointers and their numbers
 
 -- an offset of a bank that a pointer can have
-pointer_in-offset : (bank : Bank) (offset : ℕ) → 0 < offset → offset < 65_536
-    → pointer_in bank offset ≡ Some (At (record { bank = bank; offset = offset }))
-pointer_in-offset bank offset low high =
+pointer_in-offset : (bank : Bank) (end offset : ℕ) → 0 < offset → offset < end
+    → pointer_in bank end offset ≡ Some (At (record { bank = bank; offset = offset }))
+pointer_in-offset bank end offset low high =
     let nonzero : (offset == 0) ≡ false = ne_eqb offset 0 (λ e. omega arith) in
-    let small : nat_lt offset 65_536 ≡ true = lt-ltb offset 65_536 high in
+    let small : nat_lt offset end ≡ true = lt-ltb offset end high in
     rw (nonzero, small) refl
 
-pointer_of-at : (space : SpaceId) (bank : Bank) (offset : ℕ) → IsTrue (holds space bank) → 0 < offset → offset < 65_536
+pointer_of-at : (space : SpaceId) (bank : Bank) (offset : ℕ) → 0 < offset → offset < end_in space bank
     → pointer_of space (bank_number space bank + offset) ≡ Some (At (record { bank = bank; offset = offset }))
-pointer_of-at Flash FlashBank offset h low high = rw zero-add (pointer_in-offset FlashBank offset low high)
-pointer_of-at Flash DataBank offset h low high = cc
-pointer_of-at Data FlashBank offset h low high = cc
-pointer_of-at Data DataBank offset h low high = rw zero-add (pointer_in-offset DataBank offset low high)
-pointer_of-at Generic FlashBank offset h low high =
+pointer_of-at Flash FlashBank offset low high = rw zero-add (pointer_in-offset FlashBank 65_536 offset low high)
+pointer_of-at Flash DataBank offset low high = absurd (omega (arith, high))
+pointer_of-at FarFlash FlashBank offset low high = rw zero-add (pointer_in-offset FlashBank 131_072 offset low high)
+pointer_of-at FarFlash DataBank offset low high = absurd (omega (arith, high))
+pointer_of-at Data FlashBank offset low high = absurd (omega (arith, high))
+pointer_of-at Data DataBank offset low high = rw zero-add (pointer_in-offset DataBank 65_536 offset low high)
+pointer_of-at Generic FlashBank offset low high =
     let flash : nat_lt 0x80_0000 offset ≡ false = le-ltb 0x80_0000 offset (omega arith) in
-    rw (zero-add, flash) (pointer_in-offset FlashBank offset low high)
-pointer_of-at Generic DataBank offset h low high =
+    rw (zero-add, flash) (pointer_in-offset FlashBank 131_072 offset low high)
+pointer_of-at Generic DataBank offset low high =
     let in_data : nat_lt 0x80_0000 (0x80_0000 + offset) ≡ true = lt-ltb 0x80_0000 (0x80_0000 + offset) (omega arith) in
     let own : 0x80_0000 + offset - 0x80_0000 ≡ offset = omega arith in
-    rw (in_data, own) (pointer_in-offset DataBank offset low high)
+    rw (in_data, own) (pointer_in-offset DataBank 65_536 offset low high)
 
 -- a pointer of the space is the one whose bytes make its number
 pub pointer_of-pointer_number : (space : SpaceId) (p : Pointer) → IsPointerOf space p
     → pointer_of space (pointer_number space p) ≡ Some p
 pointer_of-pointer_number Flash Null h = refl
+pointer_of-pointer_number FarFlash Null h = refl
 pointer_of-pointer_number Data Null h = refl
 pointer_of-pointer_number Generic Null h = refl
-pointer_of-pointer_number space (At place) h = pointer_of-at space place.bank place.offset h.0 h.1 h.2
+pointer_of-pointer_number space (At place) h = pointer_of-at space place.bank place.offset h.0 h.1
 
 -- a pointer's number has three bytes
 bank_number_fits : (space : SpaceId) (bank : Bank) → bank_number space bank ≤ 0x80_0000
 bank_number_fits Flash bank = omega arith
+bank_number_fits FarFlash bank = omega arith
 bank_number_fits Data bank = omega arith
 bank_number_fits Generic FlashBank = omega arith
 bank_number_fits Generic DataBank = omega arith
 
+-- so has an offset
+end_in_fits : (space : SpaceId) (bank : Bank) → end_in space bank ≤ 131_072
+end_in_fits Flash FlashBank = omega arith
+end_in_fits Flash DataBank = omega arith
+end_in_fits FarFlash FlashBank = omega arith
+end_in_fits FarFlash DataBank = omega arith
+end_in_fits Data FlashBank = omega arith
+end_in_fits Data DataBank = omega arith
+end_in_fits Generic FlashBank = omega arith
+end_in_fits Generic DataBank = omega arith
+
 pub pointer_number_fits : (space : SpaceId) (p : Pointer) → IsPointerOf space p → pointer_number space p < 256 ^ 3
 pointer_number_fits space Null h = omega arith
-pointer_number_fits space (At place) h = omega (arith, h.2, bank_number_fits space place.bank)
+pointer_number_fits space (At place) h = omega (arith, h.1, bank_number_fits space place.bank, end_in_fits space place.bank)
 
 -- what `pointer_in` gives is a pointer of the space with the number n
-pointer_in_tells : (space : SpaceId) (bank : Bank) (offset n : ℕ) → IsTrue (holds space bank) → 0 < offset
+pointer_in_tells : (space : SpaceId) (bank : Bank) (end offset n : ℕ) → end ≡ end_in space bank → 0 < offset
     → n ≡ bank_number space bank + offset
-    → MatchOption (pointer_in bank offset) ⊤ (λ p. IsPointerOf space p × (n ≡ pointer_number space p))
-pointer_in_tells space bank offset n h low same =
+    → MatchOption (pointer_in bank end offset) ⊤ (λ p. IsPointerOf space p × (n ≡ pointer_number space p))
+pointer_in_tells space bank end offset n is low same =
     let nonzero : (offset == 0) ≡ false = ne_eqb offset 0 (λ e. omega arith) in
-    elim (cases_lt offset 65_536) [
-      | inl small ↦ let in_range : nat_lt offset 65_536
-          ≡ true = lt-ltb offset 65_536 small in rw (nonzero, in_range) ((h, low, small), same)
-      | inr large ↦ let out : nat_lt offset 65_536 ≡ false = le-ltb offset 65_536 large in rw (nonzero, out) tt
+    elim (cases_lt offset end) [
+      | inl small ↦ let in_range : nat_lt offset end ≡ true = lt-ltb offset end small in
+          rw (nonzero, in_range) ((low, subst (λ (k : ℕ). offset < k) is small), same)
+      | inr large ↦ let out : nat_lt offset end ≡ false = le-ltb offset end large in rw (nonzero, out) tt
     ]
 
 pointer_of_tells : (space : SpaceId) (n : ℕ)
     → MatchOption (pointer_of space n) ⊤ (λ p. IsPointerOf space p × (n ≡ pointer_number space p))
 pointer_of_tells Flash zero = (tt, refl)
-pointer_of_tells Flash (suc n) = pointer_in_tells Flash FlashBank (suc n) (suc n) refl (omega arith) (omega arith)
+pointer_of_tells Flash (suc n) = pointer_in_tells Flash FlashBank 65_536 (suc n) (suc n) refl (omega arith) (omega arith)
+pointer_of_tells FarFlash zero = (tt, refl)
+pointer_of_tells FarFlash (suc n) =
+    pointer_in_tells FarFlash FlashBank 131_072 (suc n) (suc n) refl (omega arith) (omega arith)
 pointer_of_tells Data zero = (tt, refl)
-pointer_of_tells Data (suc n) = pointer_in_tells Data DataBank (suc n) (suc n) refl (omega arith) (omega arith)
+pointer_of_tells Data (suc n) = pointer_in_tells Data DataBank 65_536 (suc n) (suc n) refl (omega arith) (omega arith)
 pointer_of_tells Generic zero = (tt, refl)
 pointer_of_tells Generic (suc n) = elim (cases_lt 0x80_0000 (suc n)) [
   | inl above ↦
       let in_data : nat_lt 0x80_0000 (suc n) ≡ true = lt-ltb 0x80_0000 (suc n) above in
-      rw in_data (pointer_in_tells Generic DataBank (suc n - 0x80_0000) (suc n) refl (omega arith) (omega arith))
+      rw in_data (pointer_in_tells Generic DataBank 65_536 (suc n - 0x80_0000) (suc n) refl (omega arith) (omega arith))
   | inr below ↦
       let in_flash : nat_lt 0x80_0000 (suc n) ≡ false = le-ltb 0x80_0000 (suc n) below in
-      rw in_flash (pointer_in_tells Generic FlashBank (suc n) (suc n) refl (omega arith) (omega arith))
+      rw in_flash (pointer_in_tells Generic FlashBank 131_072 (suc n) (suc n) refl (omega arith) (omega arith))
 ]
 
 -- ---- what bytes denote
@@ -149,15 +177,40 @@ denoted-encoded space p h = denoted_from_Denotes space (encoded space p) p (Deno
 
 -- ---- the same pointer in another space
 
+-- a space that encloses another one tells all offsets that this tells
+end_in-Encloses : (outer inner : SpaceId) (bank : Bank) → Encloses outer inner → end_in inner bank ≤ end_in outer bank
+end_in-Encloses Flash Flash bank h = omega arith
+end_in-Encloses FarFlash FarFlash bank h = omega arith
+end_in-Encloses Data Data bank h = omega arith
+end_in-Encloses Generic Generic bank h = omega arith
+end_in-Encloses FarFlash Flash FlashBank h = omega arith
+end_in-Encloses FarFlash Flash DataBank h = omega arith
+end_in-Encloses Generic Flash FlashBank h = omega arith
+end_in-Encloses Generic Flash DataBank h = omega arith
+end_in-Encloses Generic FarFlash FlashBank h = omega arith
+end_in-Encloses Generic FarFlash DataBank h = omega arith
+end_in-Encloses Generic Data FlashBank h = omega arith
+end_in-Encloses Generic Data DataBank h = omega arith
+end_in-Encloses Flash FarFlash bank h = absurd (let no = h FarHome refl in cc)
+end_in-Encloses Flash Data bank h = absurd (let no = h DataHome refl in cc)
+end_in-Encloses Flash Generic bank h = absurd (let no = h DataHome refl in cc)
+end_in-Encloses FarFlash Data bank h = absurd (let no = h DataHome refl in cc)
+end_in-Encloses FarFlash Generic bank h = absurd (let no = h DataHome refl in cc)
+end_in-Encloses Data Flash bank h = absurd (let no = h FlashHome refl in cc)
+end_in-Encloses Data FarFlash bank h = absurd (let no = h FlashHome refl in cc)
+end_in-Encloses Data Generic bank h = absurd (let no = h FlashHome refl in cc)
+
 pub IsPointerOf-Encloses : (outer inner : SpaceId) (p : Pointer) → Encloses outer inner → IsPointerOf inner p
     → IsPointerOf outer p
 IsPointerOf-Encloses outer inner Null h is = tt
-IsPointerOf-Encloses outer inner (At place) h is = (h place.bank is.0, is.1, is.2)
+IsPointerOf-Encloses outer inner (At place) h is =
+    let further = end_in-Encloses outer inner place.bank h in
+    (is.0, omega (arith, is.1, further))
 
 is_pointer_of-true : (space : SpaceId) (p : Pointer) → IsPointerOf space p → is_pointer_of space p ≡ true
 is_pointer_of-true space Null h = refl
 is_pointer_of-true space (At place) h =
-    rw (h.0, lt-ltb 0 place.offset h.1, lt-ltb place.offset 65_536 h.2) refl
+    rw (lt-ltb 0 place.offset h.0, lt-ltb place.offset (end_in space place.bank) h.1) refl
 
 IsPointerOf-from_test : (space : SpaceId) (p : Pointer) → is_pointer_of space p ≡ true → IsPointerOf space p
 IsPointerOf-from_test space Null h = tt
@@ -199,6 +252,7 @@ converted_tells from to bytes = converted_tells_at from to bytes (denoted from b
 
 denoted-nothing : (space : SpaceId) → denoted space nothing ≡ None
 denoted-nothing Flash = refl
+denoted-nothing FarFlash = refl
 denoted-nothing Data = refl
 denoted-nothing Generic = refl
 

@@ -1,33 +1,57 @@
--- Named address spaces (ISO/IEC TR 18037:2008, chapter 5): the banks of a space, and what the bytes of a pointer denote
+-- Named address spaces (ISO/IEC TR 18037:2008, chapter 5): the homes of a space, and what the bytes of a pointer denote
 -- in it. The report leaves the spaces and the bytes of their pointers to the implementation; these are the project's.
 use Rattle.std.specs.Prelude.{◌≡◌, ℕ, ◌+◌, ◌-◌, ◌<◌, ◌==◌, nat_lt, Bool, true, false, not, ◌&&◌, ◌||◌, if◌then◌else◌}
 use Rattle.std.specs.Prelude.{IsTrue, Option, Some, None, option_and_then, unwrap_or, List, [], ◌∷◌, ◌⊎◌}
 use Rattle.ec_space.specs.Bytes.{little_endian, number_of}
 use Rattle.ec_space.specs.declared.space.Bank.{Bank}
 use Rattle.ec_space.specs.declared.space.Bank.TheVariants.{Flash as FlashBank, Data as DataBank}
+use Rattle.ec_space.specs.declared.space.Home.{Home}
+use Rattle.ec_space.specs.declared.space.Home.TheVariants.{Flash as FlashHome, Far as FarHome, Data as DataHome}
 use Rattle.ec_space.specs.declared.space.Pointer.{Pointer}
 use Rattle.ec_space.specs.declared.space.Pointer.TheVariants.{Null, At}
 use Rattle.ec_space.specs.declared.space.SpaceId.{SpaceId}
-use Rattle.ec_space.specs.declared.space.SpaceId.TheVariants.{Flash, Data, Generic}
+use Rattle.ec_space.specs.declared.space.SpaceId.TheVariants.{Flash, FarFlash, Data, Generic}
 
--- ---- spaces as sets of banks
+-- ---- spaces as sets of homes
 
--- a space by the banks that it holds: `__flash`, `__data`, and the unnamed space with both
-abbrev pub holds : SpaceId → Bank → Bool
-holds Flash FlashBank = true
-holds Flash DataBank = false
-holds Data FlashBank = false
-holds Data DataBank = true
-holds Generic bank = true
+-- the bank that the objects of a home stand in
+abbrev pub bank_of : Home → Bank
+bank_of FlashHome = FlashBank
+bank_of FarHome = FlashBank
+bank_of DataHome = DataBank
 
--- each bank of the inner space is one of the outer
+-- a space by the homes that it holds: `__flash`, `__farflash`, `__data`, and the unnamed space with all
+abbrev pub holds : SpaceId → Home → Bool
+holds Flash FlashHome = true
+holds Flash FarHome = false
+holds Flash DataHome = false
+holds FarFlash FlashHome = true
+holds FarFlash FarHome = true
+holds FarFlash DataHome = false
+holds Data FlashHome = false
+holds Data FarHome = false
+holds Data DataHome = true
+holds Generic home = true
+
+-- each home of the inner space is one of the outer
 abbrev pub Encloses : SpaceId → SpaceId → Type 0
-Encloses outer inner = (bank : Bank) → IsTrue (holds inner bank) → IsTrue (holds outer bank)
+Encloses outer inner = (home : Home) → IsTrue (holds inner home) → IsTrue (holds outer home)
 
--- the same, as a test of every bank
+-- the same, as a test of every home
 abbrev pub encloses : SpaceId → SpaceId → Bool
 encloses outer inner =
-    (not (holds inner FlashBank) || holds outer FlashBank) && (not (holds inner DataBank) || holds outer DataBank)
+    (not (holds inner FlashHome) || holds outer FlashHome)
+    && ((not (holds inner FarHome) || holds outer FarHome) && (not (holds inner DataHome) || holds outer DataHome))
+
+-- objects of the space can stand in the bank
+abbrev pub reaches : SpaceId → Bank → Bool
+reaches Flash FlashBank = true
+reaches Flash DataBank = false
+reaches FarFlash FlashBank = true
+reaches FarFlash DataBank = false
+reaches Data FlashBank = false
+reaches Data DataBank = true
+reaches Generic bank = true
 
 -- the one of two spaces that encloses the other
 abbrev pub join : SpaceId → SpaceId → Option SpaceId
@@ -42,13 +66,15 @@ IsJoin s t u = ((u ≡ s) × Encloses s t) ⊎ ((u ≡ t) × Encloses t s)
 -- how many of the three bytes a space's pointers take
 abbrev pub width : SpaceId → ℕ
 width Flash = 2
+width FarFlash = 3
 width Data = 2
 width Generic = 3
 
--- what a pointer's bank adds to its offset: the third byte of a generic pointer selects the bank, 0x00 for flash and
--- 0x80 for data
+-- what a pointer's bank adds to its offset: the third byte of a generic pointer selects the bank, 0x00 or 0x01 for flash
+-- and 0x80 for data
 abbrev pub bank_number : SpaceId → Bank → ℕ
 bank_number Flash bank = 0
+bank_number FarFlash bank = 0
 bank_number Data bank = 0
 bank_number Generic FlashBank = 0
 bank_number Generic DataBank = 0x80_0000
@@ -58,10 +84,22 @@ abbrev pub pointer_number : SpaceId → Pointer → ℕ
 pointer_number space Null = 0
 pointer_number space (At place) = bank_number space place.bank + place.offset
 
--- the space has bytes for the pointer: it is null, or its place is in the space, at an offset from 1 to 65,535
+-- one past the greatest offset that pointers of a space can tell in a bank, 0 where they tell none: two bytes, and of a
+-- pointer with a third byte one bit more in flash
+abbrev pub end_in : SpaceId → Bank → ℕ
+end_in Flash FlashBank = 65_536
+end_in Flash DataBank = 0
+end_in FarFlash FlashBank = 131_072
+end_in FarFlash DataBank = 0
+end_in Data FlashBank = 0
+end_in Data DataBank = 65_536
+end_in Generic FlashBank = 131_072
+end_in Generic DataBank = 65_536
+
+-- the space has bytes for the pointer: it is null, or its place is at an offset from 1 up to what they can tell
 abbrev pub IsPointerOf : SpaceId → Pointer → Type 0
 IsPointerOf space Null = Unit {0}
-IsPointerOf space (At place) = IsTrue (holds space place.bank) × (0 < place.offset) × (place.offset < 65_536)
+IsPointerOf space (At place) = (0 < place.offset) × (place.offset < end_in space place.bank)
 
 -- three bytes denote the pointer in the space. Bytes that denote no pointer denote nothing
 pub record Denotes (space : SpaceId) (bytes : List ℕ) (p : Pointer) : Type 0 where
@@ -74,18 +112,19 @@ pub record Denotes (space : SpaceId) (bytes : List ℕ) (p : Pointer) : Type 0 w
 abbrev pub encoded : SpaceId → Pointer → List ℕ
 encoded space p = little_endian 3 (pointer_number space p)
 
--- the pointer at an offset of two bytes in a bank, null at 0
-abbrev pub pointer_in : Bank → ℕ → Option Pointer
-pointer_in bank offset =
+-- the pointer at an offset below an end in a bank, null at 0
+abbrev pub pointer_in : Bank → (end offset : ℕ) → Option Pointer
+pointer_in bank end offset =
     if offset == 0 then Some Null else
-    (if nat_lt offset 65_536 then Some (At (record { bank = bank; offset = offset })) else None)
+    (if nat_lt offset end then Some (At (record { bank = bank; offset = offset })) else None)
 
 -- the pointer whose bytes make a number
 abbrev pub pointer_of : SpaceId → ℕ → Option Pointer
-pointer_of Flash n = pointer_in FlashBank n
-pointer_of Data n = pointer_in DataBank n
+pointer_of Flash n = pointer_in FlashBank 65_536 n
+pointer_of FarFlash n = pointer_in FlashBank 131_072 n
+pointer_of Data n = pointer_in DataBank 65_536 n
 pointer_of Generic n =
-    if nat_lt 0x80_0000 n then pointer_in DataBank (n - 0x80_0000) else pointer_in FlashBank n
+    if nat_lt 0x80_0000 n then pointer_in DataBank 65_536 (n - 0x80_0000) else pointer_in FlashBank 131_072 n
 
 -- the pointer that bytes denote, if any
 abbrev pub denoted : SpaceId → List ℕ → Option Pointer
@@ -94,7 +133,7 @@ denoted space bytes = pointer_of space (number_of bytes)
 -- `IsPointerOf` as a test
 abbrev pub is_pointer_of : SpaceId → Pointer → Bool
 is_pointer_of space Null = true
-is_pointer_of space (At place) = holds space place.bank && (nat_lt 0 place.offset && nat_lt place.offset 65_536)
+is_pointer_of space (At place) = nat_lt 0 place.offset && nat_lt place.offset (end_in space place.bank)
 
 -- the bytes in one space of what bytes denote in another, where that is a pointer of both
 abbrev pub converted : SpaceId → SpaceId → List ℕ → Option (List ℕ)

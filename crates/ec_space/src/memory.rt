@@ -39,6 +39,7 @@ impl Core {
     {
         match self {
             Core::Small => 32_768,
+            Core::Large => 131_072,
         }
     }
 
@@ -48,6 +49,7 @@ impl Core {
     {
         match self {
             Core::Small => 2_304,
+            Core::Large => 16_640,
         }
     }
 }
@@ -84,7 +86,7 @@ impl Mem {
             (T.of_bits (number_at self.now at T.SIZE)) }
         ensures fits { IfSome result T.fits }
     {
-        if !S::id().holds(at.bank) {
+        if !S::id().reaches(at.bank) {
             return None;
         }
         let from = at.offset as usize;
@@ -112,7 +114,7 @@ impl Mem {
         let from = at.offset as usize;
         let size = T::SIZE as usize;
         if at.bank == Bank::Flash
-            || !S::id().holds(at.bank)
+            || !S::id().reaches(at.bank)
             || self.data_bytes.len() < from + size
         {
             return false;

@@ -1,9 +1,9 @@
 //! The bytes of pointers in each named address space.
-ghost use Rattle.std.specs.Prelude.{◌≡◌, ℕ, ◌+◌, ◌-◌, ◌*◌, ◌↔◌, List, length, drop, replicate, refl, Some, MatchOption};
+ghost use Rattle.std.specs.Prelude.{◌≡◌, ℕ, ◌+◌, ◌-◌, ◌*◌, ◌<◌, ◌↔◌, List, length, drop, replicate, refl, Some, MatchOption};
 ghost use Rattle.ec_space.specs.Bytes.{AreBytes};
 ghost use Rattle.ec_space.specs.Spaces.{Encloses, IsPointerOf, Denotes, width, encoded, pointer_in, pointer_of};
 ghost use Rattle.ec_space.specs.Spaces.{denoted, converted, embedded};
-ghost use Rattle.ec_space.specs.SpaceLaws.{denoted-encoded, converted-embedded};
+ghost use Rattle.ec_space.specs.SpaceLaws.{denoted-encoded, converted-embedded, IsPointerOf-Encloses, flash_is_far};
 ghost use Rattle.ec_space.specs.declared.space.Pointer.{Pointer};
 ghost use Rattle.ec_space.specs.declared.space.SpaceId.{SpaceId};
 
@@ -15,7 +15,8 @@ const NOTHING: [u8; 3] = [0, 0, 0xFF];
 /// A named address space, with the bytes of its pointers.
 ///
 /// Three bytes denote null, a place, or nothing. All zero bytes denote null. In `__flash` and `__data` the first two
-/// bytes are the offset, the lowest first. A generic pointer has a third byte, 0x00 for flash and 0x80 for data.
+/// bytes are the offset, the lowest first. In `__farflash` a third byte, 0 or 1, is the offset's highest. So it is in
+/// a generic pointer to flash, and one to data has the third byte 0x80.
 pub trait Space {
     /// How many of the three bytes a pointer takes. Those past it are 0.
     const WIDTH: u8;
@@ -28,7 +29,7 @@ pub trait Space {
     fn id() -> SpaceId
         ensures { result ≡ space };
 
-    /// The bytes that denote null or a place of the space, at an offset from 1 to 65,535. `Pointer::is_in` is the test.
+    /// The bytes that denote null or a place that they can tell. `Pointer::is_in` is the test.
     fn encode(p: Pointer) -> [u8; 3]
         requires { IsPointerOf space p }
         ensures value { result ≡ encoded space p }
@@ -78,6 +79,9 @@ pub trait Within<Outer: Space>: Space {
 
     ghost enclosed: { Encloses Outer.space Self.space };
 
+    // A pointer of this space is one of the outer one.
+    ghost points: { (p : Pointer) → IsPointerOf Self.space p → IsPointerOf Outer.space p };
+
     // What `project` makes of what `embed` gives.
     ghost projects_back: { (b : List ℕ) (p : Pointer) → length b ≡ 3 → AreBytes b → Denotes Self.space b p
         → converted Outer.space Self.space (embedded Self.space Outer.space b) ≡ Some b };
@@ -85,6 +89,9 @@ pub trait Within<Outer: Space>: Space {
 
 /// The space `__flash`.
 pub struct Flash;
+
+/// The space `__farflash`.
+pub struct FarFlash;
 
 /// The space `__data`.
 pub struct Data;
@@ -94,29 +101,33 @@ pub struct Generic;
 
 /// The bytes of a pointer's offset, all zero for null.
 fn offset_bytes(p: Pointer) -> [u8; 3]
-    requires { IsPointerOf SpaceId.Generic p }
-    ensures { result ≡ encoded SpaceId.Flash p }
+    ensures { result ≡ encoded SpaceId.FarFlash p }
 {
     match p {
         Pointer::Null => [0; 3],
-        Pointer::At(place) => {
-            let [low, high] = (place.offset as u16).to_le_bytes();
-            [low, high, 0]
-        }
+        Pointer::At(place) => [
+            (place.offset % 256) as u8,
+            (place.offset / 256 % 256) as u8,
+            (place.offset / 256 / 256 % 256) as u8,
+        ],
     }
 }
 
-/// The pointer into a bank at an offset of two bytes, null at 0.
-fn pointer_in(bank: Bank, low: u8, high: u8) -> Pointer
-    ensures { Some result ≡ pointer_in bank (low + 256 * high) }
+/// The pointer into a bank at an offset, null at 0.
+fn pointer_in(bank: Bank, offset: u32) -> Pointer
+    ensures { (end : ℕ) → offset < end → Some result ≡ pointer_in bank end offset }
 {
-    match u16::from_le_bytes([low, high]) {
+    match offset {
         0 => Pointer::Null,
-        offset => Pointer::At(Place {
-            bank,
-            offset: u32::from(offset),
-        }),
+        offset => Pointer::At(Place { bank, offset }),
     }
+}
+
+/// The offset of two bytes, the low one first.
+fn offset_of(low: u8, high: u8) -> u32
+    ensures { result ≡ low + 256 * high }
+{
+    low as u32 + 256 * high as u32
 }
 
 impl Space for Flash {
@@ -140,7 +151,35 @@ impl Space for Flash {
 
     fn denote(b: [u8; 3]) -> Option<Pointer> {
         match b {
-            [low, high, 0] => Some(pointer_in(Bank::Flash, low, high)),
+            [low, high, 0] => Some(pointer_in(Bank::Flash, offset_of(low, high))),
+            _ => None,
+        }
+    }
+}
+
+impl Space for FarFlash {
+    const WIDTH: u8 = 3;
+
+    ghost WIDTH = { 3 };
+
+    ghost space = { SpaceId.FarFlash };
+
+    ghost width_of_space = { refl };
+
+    ghost reads_back = { denoted-encoded SpaceId.FarFlash };
+
+    fn id() -> SpaceId {
+        SpaceId::FarFlash
+    }
+
+    fn encode(p: Pointer) -> [u8; 3] {
+        offset_bytes(p)
+    }
+
+    fn denote(b: [u8; 3]) -> Option<Pointer> {
+        match b {
+            [low, high, 0] => Some(pointer_in(Bank::Flash, offset_of(low, high))),
+            [low, high, 1] => Some(pointer_in(Bank::Flash, 65_536 + offset_of(low, high))),
             _ => None,
         }
     }
@@ -167,7 +206,7 @@ impl Space for Data {
 
     fn denote(b: [u8; 3]) -> Option<Pointer> {
         match b {
-            [low, high, 0] => Some(pointer_in(Bank::Data, low, high)),
+            [low, high, 0] => Some(pointer_in(Bank::Data, offset_of(low, high))),
             _ => None,
         }
     }
@@ -189,37 +228,60 @@ impl Space for Generic {
     }
 
     fn encode(p: Pointer) -> [u8; 3] {
-        let [low, high, _] = offset_bytes(p);
+        let [low, high, page] = offset_bytes(p);
         match p {
             Pointer::At(place) if place.bank == Bank::Data => [low, high, 0x80],
-            _ => [low, high, 0x00],
+            _ => [low, high, page],
         }
     }
 
     fn denote(b: [u8; 3]) -> Option<Pointer> {
         match b {
             [0, 0, 0x80] => None,
-            [low, high, 0x00] => Some(pointer_in(Bank::Flash, low, high)),
-            [low, high, 0x80] => Some(pointer_in(Bank::Data, low, high)),
+            [low, high, 0x00] => Some(pointer_in(Bank::Flash, offset_of(low, high))),
+            [low, high, 0x01] => Some(pointer_in(Bank::Flash, 65_536 + offset_of(low, high))),
+            [low, high, 0x80] => Some(pointer_in(Bank::Data, offset_of(low, high))),
             _ => None,
         }
     }
 }
 
-impl Within<Generic> for Flash {
-    ghost enclosed = { λ bank h. refl };
+impl Within<FarFlash> for Flash {
+    ghost enclosed = { flash_is_far };
 
-    ghost projects_back = { converted-embedded SpaceId.Flash SpaceId.Generic (λ bank h. refl) };
+    ghost points = { λ p. IsPointerOf-Encloses SpaceId.FarFlash SpaceId.Flash p flash_is_far };
+
+    ghost projects_back = { converted-embedded SpaceId.Flash SpaceId.FarFlash flash_is_far };
+}
+
+impl Within<Generic> for Flash {
+    ghost enclosed = { λ home h. refl };
+
+    ghost points = { λ p. IsPointerOf-Encloses SpaceId.Generic SpaceId.Flash p (λ home h. refl) };
+
+    ghost projects_back = { converted-embedded SpaceId.Flash SpaceId.Generic (λ home h. refl) };
+}
+
+impl Within<Generic> for FarFlash {
+    ghost enclosed = { λ home h. refl };
+
+    ghost points = { λ p. IsPointerOf-Encloses SpaceId.Generic SpaceId.FarFlash p (λ home h. refl) };
+
+    ghost projects_back = { converted-embedded SpaceId.FarFlash SpaceId.Generic (λ home h. refl) };
 }
 
 impl Within<Generic> for Data {
     ghost enclosed = { λ bank h. refl };
+
+    ghost points = { λ p. IsPointerOf-Encloses SpaceId.Generic SpaceId.Data p (λ bank h. refl) };
 
     ghost projects_back = { converted-embedded SpaceId.Data SpaceId.Generic (λ bank h. refl) };
 }
 
 impl<S: Space> Within<S> for S {
     ghost enclosed = { λ bank h. h };
+
+    ghost points = { λ p h. h };
 
     ghost projects_back = { converted-embedded S.space S.space (λ bank h. h) };
 }
